@@ -1,0 +1,4 @@
+pub mod Agreement
+pub mod System
+pub mod RunEnd
+pub mod Countdown

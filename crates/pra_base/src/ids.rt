@@ -1,0 +1,44 @@
+// The names of procedures, variables and blocks, places and conditions.
+
+/// A procedure, by its number: 0 is the module's body, the others follow in the order of their headings.
+#[derive(Clone, Copy, Debug, PartialEq, Eq)]
+pub struct ProcId(pub u32);
+
+/// A variable of selected code, by its number in its procedure.
+#[derive(Clone, Copy, Debug, PartialEq, Eq)]
+pub struct VarId(pub u32);
+
+/// A basic block, by its number in its procedure.
+#[derive(Clone, Copy, Debug, PartialEq, Eq)]
+pub struct BlockId(pub u32);
+
+/// Where a value may stand: one of the six registers that are allocated, the variable's own memory, or nowhere,
+/// since it is a constant. They are numbered 0 to 7 in this order.
+#[derive(Clone, Copy, Debug, PartialEq, Eq)]
+pub enum Place {
+    Eax,
+    Ecx,
+    Edx,
+    Ebx,
+    Esi,
+    Edi,
+    Mem,
+    Const,
+}
+
+/// A condition of a jump or of SETcc, by the Intel manual's names (SDM volume 1, appendix B, EFLAGS condition codes).
+#[derive(Clone, Copy, Debug, PartialEq, Eq)]
+pub enum Cond {
+    B,
+    Ae,
+    E,
+    Ne,
+    Be,
+    A,
+    S,
+    Ns,
+    L,
+    Ge,
+    Le,
+    G,
+}
