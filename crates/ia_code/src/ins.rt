@@ -50,6 +50,11 @@ pub enum AluOp {
     Cmp,
 }
 
+/// The first and the last interrupt that `Int` calls: the services of the machine.
+pub const FIRST_SERVICE: u8 = 0x20;
+
+pub const LAST_SERVICE: u8 = 0x24;
+
 /// An instruction. The target stands first. Of `Xchg` and `Test` the first register is the rm field and the second the
 /// reg field; the first of `Movzx` is the reg field.
 #[derive(Clone, Copy, Debug, PartialEq, Eq, Drop)]

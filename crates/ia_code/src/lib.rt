@@ -1,8 +1,15 @@
 //! The IA-32 instructions that the compiler uses, their bytes, and the image.
 #![tactic(auto)]
 
+pub mod decoder;
+pub mod encoder;
 pub mod image;
 pub mod ins;
+mod operands;
+pub mod sound;
 
+pub use decoder::NotInSubset;
+pub use encoder::encode;
 pub use image::Image;
 pub use ins::{AluOp, Ins, MemAddr, Reg, Rm, Width};
+pub use sound::is_sound;
