@@ -1,6 +1,6 @@
 -- The bytes of each instruction, as the opcode tables of the Intel manual (SDM volume 2) have them.
 -- An operand is given by the ModRM byte, and for some by a SIB byte and a displacement after it (SDM volume 2, section 2.1).
-use Rattle.std.specs.Prelude.{◌≡◌, ℕ, ◌+◌, ◌*◌, ◌^◌, ◌≤◌, ◌<◌, ℤ, pos, Bool, true, false, ◌||◌, ◌==◌, nat_lt, if◌then◌else◌, List, [], ◌∷◌, ◌++◌, length, Option, Some, None}
+use Rattle.std.specs.Prelude.{◌≡◌, ℕ, ◌+◌, ◌*◌, ◌^◌, ◌≤◌, ◌<◌, ℤ, pos, Bool, true, false, ◌||◌, ◌==◌, nat_lt, if◌then◌else◌, List, [], ◌∷◌, ◌++◌, length, Option, Some, None, slice_index}
 use Rattle.std.specs.Int.{w8, w16, w32, to_le_bytes, cast_unsigned}
 use Rattle.std.specs.Int.RustNames.{FitsSigned}
 use Rattle.pra_base.specs.declared.ids.Cond.{Cond}
@@ -207,3 +207,7 @@ pub record Row (bytes : List ℕ) (i : Ins) (len : ℕ) : Type 0 where
   pub sound : IsSound i
   pub spelled : bytes ≡ bytes_of i
   pub length_is : len ≡ length bytes
+
+-- each of the numbers is a byte
+abbrev pub IsBytes : List ℕ → Type 0
+IsBytes bytes = (k : ℕ) → slice_index bytes k < 2 ^ 8

@@ -303,3 +303,33 @@ fn instruction(bytes: &[u8]) -> Option<(Ins, &[u8])>
 /// No row of the table begins the bytes.
 #[derive(Debug, Drop, PartialEq, Eq)]
 pub struct NotInSubset {}
+
+/// The instruction that stands in the bytes at a place, and how many bytes it takes.
+///
+/// # Errors
+///
+/// Where no row of the table begins the bytes from there on.
+pub fn decode(bytes: &[u8], at: usize) -> Result<(Ins, usize), NotInSubset>
+    requires { at ≤ length bytes.now }
+    // What is read is a row's.
+    ensures found { IfOk result (λ x. Row (take x.1 (drop at bytes.now)) x.0 x.1) }
+    // What is a row's is read.
+    ensures only { (i : Ins) (n : ℕ) → Row (take n (drop at bytes.now)) i n → result ≡ Ok (i, n) }
+    ensures exact { Finds result (decoded (drop at bytes.now)) }
+{
+    let (_, rest) = bytes.split_at(at);
+    decode_front(rest)
+}
+
+// The same, of the bytes from their front on.
+#[tactic(auto, unfolding(crate::specs::Reading::decoded))]
+fn decode_front(bytes: &[u8]) -> Result<(Ins, usize), NotInSubset>
+    ensures found { IfOk result (λ x. Row (take x.1 bytes.now) x.0 x.1) }
+    ensures only { (i : Ins) (n : ℕ) → Row (take n bytes.now) i n → result ≡ Ok (i, n) }
+    ensures exact { Finds result (decoded bytes.now) }
+{
+    match instruction(bytes) {
+        None => Err(NotInSubset {}),
+        Some((i, after)) => Ok((i, bytes.len() - after.len())),
+    }
+}

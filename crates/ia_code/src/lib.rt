@@ -5,10 +5,11 @@ pub mod decoder;
 pub mod encoder;
 pub mod image;
 pub mod ins;
+pub mod laws;
 mod operands;
 pub mod sound;
 
-pub use decoder::NotInSubset;
+pub use decoder::{NotInSubset, decode};
 pub use encoder::encode;
 pub use image::Image;
 pub use ins::{AluOp, Ins, MemAddr, Reg, Rm, Width};
