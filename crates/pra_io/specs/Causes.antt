@@ -1,11 +1,11 @@
 -- When a fault may be told.
-use Rattle.std.specs.Prelude.{◌≡◌, ◌⊎◌, ◌<◌, ◌≤◌, ◌-◌, ◌^◌, ℕ, List, Result, OnErr, IsErrOf}
+use Rattle.std.specs.Prelude.{◌≢◌, ◌<◌, ◌≤◌, ◌-◌, ◌^◌, ℕ, List, Result, OnErr, IsErrOf}
 use Rattle.pra_io.specs.declared.files.FileFault.{FileFault}
 use Rattle.pra_io.specs.declared.files.FileFault.TheVariants.{Failed}
 
--- a count is greater than before, or stands at the last number of 64 bits
+-- a count is greater than before, unless it stands at the last number of 64 bits
 abbrev pub Rose : ℕ → ℕ → Type 0
-Rose before now = (before < now) ⊎ (now ≡ 2 ^ 64 - 1)
+Rose before now = now ≢ 2 ^ 64 - 1 → before < now
 
 -- the count of a stream never falls, and an error is told only where it rose
 pub record HasCause {T E : Type 0} (before now : ℕ) (result : Result T E) : Type 0 where
