@@ -2,5 +2,6 @@
 #![tactic(auto)]
 
 pub mod token;
+pub mod token_laws;
 
 pub use token::{Kind, Token};
