@@ -1,3 +1,5 @@
+pub mod Calls
 pub mod Causes
 pub mod Contents
 pub mod Entries
+pub mod Memory
