@@ -1,12 +1,12 @@
 -- Bytes of sinks and sources, piece by piece.
-use Rattle.std.proofs.Common.{ℕ, ◌+◌, ◌-◌, ◌≤◌, List, [], ◌++◌, take, drop, length, subst, sym, ap, ◌∙◌, ◌≡◌, arith}
+use Rattle.std.proofs.Common.{None, Some, IsSome, ℕ, ◌+◌, ◌-◌, ◌≤◌, List, [], ◌++◌, take, drop, length, subst, sym, ap, ◌∙◌, ◌≡◌, arith}
 use Rattle.std.proofs.Math.Seq.{take-add}
 use Rattle.std.proofs.lemmas.List.{take_all, length-drop, length-take, length-append, take-append-drop}
 use Rattle.std.proofs.Math.ListN.{drop_of_length-le}
 use Rattle.std.proofs.Math.Seq.{drop-drop}
 use Rattle.std.specs.declared.option.Option.{Option}
-use Rattle.std.specs.Io.KnownBytes.{Appends, Consumes}
-use Rattle.pra_io.specs.Contents.{TakesAtMost}
+use Rattle.std.specs.Io.KnownBytes.{Appends, Consumes, Keeps}
+use Rattle.pra_io.specs.Contents.{Takes, TakesAtMost}
 use Rattle.std.proofs.KnownBytes.{Appends-trans, Consumes-trans}
 
 -- the value of `&bytes[at..]`
@@ -38,3 +38,12 @@ pub took_more : (a b c : Option (List ℕ)) (front piece : List ℕ) (n most : �
     → Consumes a b front → Consumes b c (take n piece) → TakesAtMost a c most
 took_more a b c front piece n most within first second =
     (front ++ take n piece, omega (arith, within, length-append front (take n piece), length-take n piece), Consumes-trans a b c _ _ first second)
+
+-- where it is told what was left, no more bytes were taken than those
+pub Takes-none : (old mid new : Option (List ℕ)) (front : List ℕ) (most : ℕ) → IsSome old → length front ≤ most
+    → Consumes old mid front → Keeps mid new → Takes old new (most + 1) → ⊥
+Takes-none None mid new front most told within first same more = cc
+Takes-none (Some held) None new front most told within first same more = absurd first
+Takes-none (Some held) (Some middle) None front most told within first same more = absurd same
+Takes-none (Some held) (Some middle) (Some rest) front most told within first same more =
+    omega (arith, within, ap length first, length-append front middle, ap length same, more.1, ap length more.2, length-append more.0 rest)

@@ -7,6 +7,7 @@ ghost use Rattle.pra_io.specs.Causes.{FileCause};
 ghost use Rattle.pra_io.specs.Contents.{Holds, IsLonger, Becomes};
 
 use crate::streams;
+use pra_base::OutOfMemory;
 use std::alloc::{AllocError, AllocFailed, Global};
 
 /// Why a file was not read or written.
@@ -25,6 +26,14 @@ impl From<streams::Failed> for FileFault {
 
     fn from(_: streams::Failed) -> Self {
         FileFault::Failed
+    }
+}
+
+impl From<OutOfMemory> for FileFault {
+    ghost from_gives = { λ _ fault. fault ≡ OutOfMemory };
+
+    fn from(_: OutOfMemory) -> Self {
+        FileFault::OutOfMemory
     }
 }
 

@@ -1,5 +1,12 @@
-// The real files and streams: they tell nothing of what they hold.
-ghost use Rattle.std.specs.Prelude.{◌≡◌, ◌≤◌, ℕ, None, IfOk, vec_len};
+// The files and streams of the system, which tell nothing of what they hold.
+//
+// Nothing here is proved of bytes, since no contract can say what a file or a stream gives or takes.
+
+ghost use Rattle.std.specs.Prelude.{◌≡◌, ◌≢◌, ◌≤◌, ℕ, List, [], None, IfOk, OnOk, IsErrOf, vec_len};
+ghost use Rattle.std.specs.Io.{ReadsAtMost, WritesAtMost};
+ghost use Rattle.pra_io.specs.Causes.{HasCause, FileCause};
+ghost use Rattle.pra_io.specs.Contents.{Holds, IsLonger, Becomes};
+ghost use Rattle.pra_io.specs.Host.{untold, CountsFault, CountsFileFault};
 
 use crate::calls::one_more;
 use crate::files::{FileFault, Folder};
@@ -9,6 +16,7 @@ use std::fs;
 use std::io::{Read, Write};
 use std::rt::Files;
 
+/// A source over any reader.
 #[derive(Drop)]
 pub struct HostSource<R> {
     inner: R,
@@ -16,17 +24,31 @@ pub struct HostSource<R> {
 }
 
 impl<R: Read> HostSource<R> {
-    pub fn new(inner: R) -> HostSource<R> {
+    /// A source of what the reader gives.
+    pub fn new(inner: R) -> HostSource<R>
+        ensures { ⟦<HostSource<R> as Source>⟧.faults result ≡ 0 }
+    {
         HostSource { inner, faults: 0 }
+    }
+
+    /// How many calls have failed.
+    pub fn faults(&self) -> u64
+        ensures { ⟦<HostSource<R> as Source>⟧.faults self.now ≡ result }
+    {
+        self.faults
     }
 }
 
 impl<R: Read> Source for HostSource<R> {
     ghost left = { λ _. None };
 
-    ghost faults = { λ s. s.faults };
+    ghost faults = { λ source. source.faults };
 
-    fn take(&mut self, buf: &mut [u8]) -> Result<usize, Failed> {
+    fn take(&mut self, buf: &mut [u8]) -> Result<usize, Failed>
+        ensures bound { ReadsAtMost result buf.new }
+        ensures cause { HasCause self.old.faults self.new.faults result }
+        ensures counted { CountsFault self.old.faults self.new.faults result }
+    {
         match self.inner.read(buf) {
             Ok(count) => Ok(count),
             Err(_) => {
@@ -37,6 +59,7 @@ impl<R: Read> Source for HostSource<R> {
     }
 }
 
+/// A sink over any writer.
 #[derive(Drop)]
 pub struct HostSink<W> {
     inner: W,
@@ -44,17 +67,32 @@ pub struct HostSink<W> {
 }
 
 impl<W: Write> HostSink<W> {
-    pub fn new(inner: W) -> HostSink<W> {
+    /// A sink into the writer.
+    pub fn new(inner: W) -> HostSink<W>
+        ensures { ⟦<HostSink<W> as Sink>⟧.faults result ≡ 0 }
+    {
         HostSink { inner, faults: 0 }
+    }
+
+    /// How many calls have failed.
+    pub fn faults(&self) -> u64
+        ensures { ⟦<HostSink<W> as Sink>⟧.faults self.now ≡ result }
+    {
+        self.faults
     }
 }
 
 impl<W: Write> Sink for HostSink<W> {
     ghost bytes = { λ _. None };
 
-    ghost faults = { λ s. s.faults };
+    ghost faults = { λ sink. sink.faults };
 
-    fn put(&mut self, piece: &[u8]) -> Result<usize, Failed> {
+    fn put(&mut self, piece: &[u8]) -> Result<usize, Failed>
+        ensures bound { WritesAtMost result piece.now }
+        ensures some { IfOk result (λ n. n ≡ 0 → piece.now ≡ []) }
+        ensures cause { HasCause self.old.faults self.new.faults result }
+        ensures counted { CountsFault self.old.faults self.new.faults result }
+    {
         match self.inner.write(piece) {
             Ok(count) if count > 0 || piece.is_empty() => Ok(count),
             _ => {
@@ -65,6 +103,7 @@ impl<W: Write> Sink for HostSink<W> {
     }
 }
 
+/// The folder in which the program runs, with one count of faults for all names, for reading and for writing.
 #[derive(Drop)]
 pub struct HostFolder<'a, R> {
     rt: &'a R,
@@ -72,28 +111,37 @@ pub struct HostFolder<'a, R> {
 }
 
 impl<'a, R: Files> HostFolder<'a, R> {
-    pub fn new(rt: &'a R) -> HostFolder<'a, R> {
+    /// The files that the runtime opens and creates.
+    pub fn new(rt: &'a R) -> HostFolder<'a, R>
+        ensures read_faults { (n : List ℕ) → ⟦<HostFolder<'a, R> as Folder>⟧.read_faults result n ≡ 0 }
+        ensures write_faults { (n : List ℕ) → ⟦<HostFolder<'a, R> as Folder>⟧.write_faults result n ≡ 0 }
+    {
         HostFolder { rt, faults: 0 }
     }
+
+    /// How many calls have failed.
+    pub fn faults(&self) -> u64
+        ensures reading { (n : List ℕ) → ⟦<HostFolder<'a, R> as Folder>⟧.read_faults self.now n ≡ result }
+        ensures writing { (n : List ℕ) → ⟦<HostFolder<'a, R> as Folder>⟧.write_faults self.now n ≡ result }
+    {
+        self.faults
+    }
 }
+
+/// How many bytes of a file are read at a time.
+const PIECE: usize = 4096;
 
 // The bytes of a reader, of which there are at most max.
 fn read_whole<R: Read>(alloc: Global, reader: &mut R, max: usize) -> Result<Vec<u8>, FileFault>
     ensures { IfOk result (λ v. vec_len v ≤ max) }
 {
     let mut all = Vec::new(alloc);
-    let mut piece = [0u8; 4096];
+    let mut piece = [0u8; PIECE];
     for _ in 0..u64::MAX {
         match reader.read(&mut piece) {
             Ok(0) => return Ok(all),
-            Ok(count) => {
-                if count > max - all.len() {
-                    return Err(FileFault::TooLong);
-                }
-                if all.extend_from_slice(&piece[..count]).is_err() {
-                    return Err(FileFault::OutOfMemory);
-                }
-            }
+            Ok(count) if count > max - all.len() => return Err(FileFault::TooLong),
+            Ok(count) => all.extend_from_slice(&piece[..count])?,
             Err(_) => return Err(FileFault::Failed),
         }
     }
@@ -113,13 +161,20 @@ fn write_whole<W: Write>(writer: &mut W, bytes: &[u8]) -> Result<(), Failed> {
 }
 
 impl<'a, R: Files> Folder for HostFolder<'a, R> {
-    ghost file = { λ _ _. None };
+    ghost file = { λ _. untold };
 
-    ghost read_faults = { λ f _. f.faults };
+    ghost read_faults = { λ folder _. folder.faults };
 
-    ghost write_faults = { λ f _. f.faults };
+    ghost write_faults = { λ folder _. folder.faults };
 
-    fn read_file(&mut self, alloc: Global, name: &str, max: usize) -> Result<Vec<u8>, FileFault> {
+    fn read_file(&mut self, alloc: Global, name: &str, max: usize) -> Result<Vec<u8>, FileFault>
+        ensures bytes { IfOk result (λ v. Holds (untold name.now) v.items) }
+        ensures size { IfOk result (λ v. vec_len v ≤ max) }
+        ensures too_long { IsErrOf result FileFault.TooLong → IsLonger (untold name.now) max }
+        ensures same { (n : List ℕ) → untold n ≡ untold n }
+        ensures cause { FileCause name.now (λ _. self.old.faults) (λ _. self.new.faults) (λ _. self.old.faults) (λ _. self.new.faults) result }
+        ensures counted { CountsFileFault self.old.faults self.new.faults result }
+    {
         let result = match fs::open(self.rt, name) {
             Ok(mut file) => read_whole(alloc, &mut file, max),
             Err(_) => Err(FileFault::Failed),
@@ -130,15 +185,21 @@ impl<'a, R: Files> Folder for HostFolder<'a, R> {
         result
     }
 
-    fn write_file(&mut self, _: Global, name: &str, bytes: &[u8]) -> Result<(), FileFault> {
+    fn write_file(&mut self, _: Global, name: &str, bytes: &[u8]) -> Result<(), FileFault>
+        ensures written { OnOk result (Becomes (untold name.now) (untold name.now) bytes.now) }
+        ensures others { (n : List ℕ) → n ≢ name.now → untold n ≡ untold n }
+        ensures never_long { IsErrOf result FileFault.TooLong → ⊥ }
+        ensures memory { IsErrOf result FileFault.OutOfMemory → ⊥ }
+        ensures cause { FileCause name.now (λ _. self.old.faults) (λ _. self.new.faults) (λ _. self.old.faults) (λ _. self.new.faults) result }
+        ensures counted { CountsFileFault self.old.faults self.new.faults result }
+    {
         let result = match fs::create(self.rt, name) {
             Ok(mut file) => write_whole(&mut file, bytes),
             Err(_) => Err(Failed),
         };
         if result.is_err() {
             self.faults = one_more(self.faults);
-            return Err(FileFault::Failed);
         }
-        Ok(())
+        Ok(result?)
     }
 }

@@ -1,7 +1,11 @@
 // A folder, a source and a sink in memory, which fail at listed calls.
 
 ghost use Rattle.std.specs.Option.{option_copied};
-ghost use Rattle.std.specs.Prelude.{◌≡◌, ◌≢◌, List, IfErr, ◌≤◌, ◌<◌, ℕ, [], None, Some, vec_len, vec_capacity, length, take, drop, OnOk, IfOk, IfSome, string_bytes};
+ghost use Rattle.std.specs.Prelude.{◌⊎◌, ◌↔◌, ◌-◌, min, IsErr, IsErrOf, ◌≡◌, ◌≢◌, List, IfErr, ◌≤◌, ◌<◌, ℕ, [], None, Some, vec_len, vec_capacity, length, take, drop, OnOk, IfOk, IfSome, string_bytes};
+ghost use Rattle.std.specs.Io.{ReadsAtMost, WritesAtMost};
+ghost use Rattle.std.specs.Io.KnownBytes.{ReadConsumes, WriteAppends};
+ghost use Rattle.pra_io.specs.Calls.{no_calls, FailsNext, Counts, CountsFile};
+ghost use Rattle.pra_io.specs.Causes.{HasCause, FileCause};
 ghost use Rattle.pra_io.specs.Entries.{held_at, AreDifferent};
 
 use crate::calls::Calls;
@@ -54,12 +58,15 @@ pub struct MemFolder {
 }
 
 impl MemFolder {
+    ghost use Rattle.pra_io.specs.Memory.{folder_file, folder_calls, folder_faults};
+
     /// A folder of these names with what they hold, no two of them equal.
     pub fn new(files: Vec<(String, Vec<u8>)>, failing: Vec<u64>) -> MemFolder
         requires { AreDifferent files.items }
         ensures files { (n : List ℕ) → ⟦<MemFolder as Folder>⟧.file result n ≡ Some (held_at n files.items) }
         ensures read_faults { (n : List ℕ) → ⟦<MemFolder as Folder>⟧.read_faults result n ≡ 0 }
         ensures write_faults { (n : List ℕ) → ⟦<MemFolder as Folder>⟧.write_faults result n ≡ 0 }
+        ensures calls { folder_calls result ≡ no_calls failing }
     {
         MemFolder {
             files,
@@ -84,13 +91,25 @@ impl MemFolder {
 }
 
 impl Folder for MemFolder {
-    ghost file = { λ folder name. Some (held_at name folder.files.items) };
+    ghost use Rattle.pra_io.specs.Memory.{folder_file, folder_calls, folder_faults};
 
-    ghost read_faults = { λ folder _. folder.calls.faults };
+    ghost file = { λ folder name. Some (folder_file folder name) };
 
-    ghost write_faults = { λ folder _. folder.calls.faults };
+    ghost read_faults = { folder_faults };
 
-    fn read_file(&mut self, alloc: Global, name: &str, max: usize) -> Result<Vec<u8>, FileFault> {
+    ghost write_faults = { folder_faults };
+
+    fn read_file(&mut self, alloc: Global, name: &str, max: usize) -> Result<Vec<u8>, FileFault>
+        ensures bytes { IfOk result (λ v. folder_file self.old name.now ≡ Some v.items) }
+        ensures size { IfOk result (λ v. vec_len v ≤ max) }
+        ensures too_long { IsErrOf result FileFault.TooLong → IfSome (folder_file self.old name.now) (λ held. max < length held) }
+        ensures same { (n : List ℕ) → folder_file self.new n ≡ folder_file self.old n }
+        ensures cause { FileCause name.now (folder_faults self.old) (folder_faults self.new) (folder_faults self.old) (folder_faults self.new) result }
+
+        // It fails at the listed calls and where the name is absent, and only there.
+        ensures failed { IsErrOf result FileFault.Failed ↔ (FailsNext (folder_calls self.old) ⊎ (folder_file self.old name.now ≡ None)) }
+        ensures counted { CountsFile (folder_calls self.old) (folder_calls self.new) result }
+    {
         self.calls.begin()?;
         match find(&self.files, name) {
             Some(bytes) if bytes.len() > max => Err(FileFault::TooLong),
@@ -99,7 +118,18 @@ impl Folder for MemFolder {
         }
     }
 
-    fn write_file(&mut self, alloc: Global, name: &str, bytes: &[u8]) -> Result<(), FileFault> {
+    fn write_file(&mut self, alloc: Global, name: &str, bytes: &[u8]) -> Result<(), FileFault>
+        ensures written { OnOk result (folder_file self.new name.now ≡ Some bytes.now) }
+        ensures others { (n : List ℕ) → n ≢ name.now → folder_file self.new n ≡ folder_file self.old n }
+        ensures never_long { IsErrOf result FileFault.TooLong → ⊥ }
+        ensures memory { IsErrOf result FileFault.OutOfMemory → (n : List ℕ) → folder_file self.new n ≡ folder_file self.old n }
+        ensures cause { FileCause name.now (folder_faults self.old) (folder_faults self.new) (folder_faults self.old) (folder_faults self.new) result }
+
+        // It fails at the listed calls, and only there, and changes no file then.
+        ensures failed { IsErrOf result FileFault.Failed ↔ FailsNext (folder_calls self.old) }
+        ensures unchanged { IsErrOf result FileFault.Failed → (n : List ℕ) → folder_file self.new n ≡ folder_file self.old n }
+        ensures counted { CountsFile (folder_calls self.old) (folder_calls self.new) result }
+    {
         self.calls.begin()?;
         put_first(alloc, &mut self.files, name, bytes)
     }
@@ -112,6 +142,7 @@ pub(crate) fn copy_front(rest: &[u8], buf: &mut [u8], piece: usize) -> usize
     ensures short { result ≤ length rest.now }
     ensures front { take result buf.new ≡ take result rest.now }
     ensures end { result ≡ 0 → 0 < length buf.new → length rest.now ≡ 0 }
+    ensures count { result ≡ min (min (length rest.now) (length buf.old)) piece }
 {
     let count = rest.len().min(buf.len()).min(piece);
     buf[..count].copy_from_slice(&rest[..count]);
@@ -130,11 +161,15 @@ pub struct MemSource {
 }
 
 impl MemSource {
+    ghost use Rattle.pra_io.specs.Memory.{source_left, source_piece, source_calls};
+
     /// A source of these bytes.
     pub fn new(bytes: Vec<u8>, piece: usize, failing: Vec<u64>) -> MemSource
         requires { 0 < piece }
         ensures left { ⟦<MemSource as Source>⟧.left result ≡ Some bytes.items }
         ensures faults { ⟦<MemSource as Source>⟧.faults result ≡ 0 }
+        ensures piece { source_piece result ≡ piece }
+        ensures calls { source_calls result ≡ no_calls failing }
     {
         MemSource {
             bytes,
@@ -160,11 +195,23 @@ impl MemSource {
 }
 
 impl Source for MemSource {
-    ghost left = { λ source. Some (drop source.at source.bytes.items) };
+    ghost use Rattle.pra_io.specs.Memory.{source_left, source_piece, source_calls};
 
-    ghost faults = { λ source. source.calls.faults };
+    ghost left = { λ source. Some (source_left source) };
 
-    fn take(&mut self, buf: &mut [u8]) -> Result<usize, Failed> {
+    ghost faults = { λ source. (source_calls source).faults };
+
+    fn take(&mut self, buf: &mut [u8]) -> Result<usize, Failed>
+        ensures bound { ReadsAtMost result buf.new }
+        ensures bytes { ReadConsumes (Some (source_left self.old)) (Some (source_left self.new)) result buf.new }
+        ensures cause { HasCause (source_calls self.old).faults (source_calls self.new).faults result }
+
+        // It fails at the listed calls, and only there, and gives as much as it has, up to a piece.
+        ensures failed { IsErr result ↔ FailsNext (source_calls self.old) }
+        ensures counted { Counts (source_calls self.old) (source_calls self.new) result }
+        ensures count { IfOk result (λ n. n ≡ min (min (length (source_left self.old)) (length buf.old)) (source_piece self.old)) }
+        ensures piece { source_piece self.new ≡ source_piece self.old }
+    {
         self.calls.begin()?;
         let count = copy_front(&self.bytes[self.at..], buf, self.piece);
         self.at += count;
@@ -186,6 +233,8 @@ pub struct MemSink {
 }
 
 impl MemSink {
+    ghost use Rattle.pra_io.specs.Memory.{sink_bytes, sink_piece, sink_capacity, sink_calls};
+
     /// An empty sink. All the memory that it will need is taken here.
     pub fn new(
         alloc: Global,
@@ -196,6 +245,9 @@ impl MemSink {
         requires { 0 < piece }
         ensures bytes { IfOk result (λ sink. ⟦<MemSink as Sink>⟧.bytes sink ≡ Some []) }
         ensures faults { IfOk result (λ sink. ⟦<MemSink as Sink>⟧.faults sink ≡ 0) }
+        ensures capacity { IfOk result (λ sink. sink_capacity sink ≡ capacity) }
+        ensures piece { IfOk result (λ sink. sink_piece sink ≡ piece) }
+        ensures calls { IfOk result (λ sink. sink_calls sink ≡ no_calls failing) }
     {
         Ok(MemSink {
             bytes: Vec::with_capacity(alloc, capacity)?,
@@ -221,11 +273,25 @@ impl MemSink {
 }
 
 impl Sink for MemSink {
-    ghost bytes = { λ sink. Some sink.bytes.items };
+    ghost use Rattle.pra_io.specs.Memory.{sink_bytes, sink_piece, sink_capacity, sink_calls};
 
-    ghost faults = { λ sink. sink.calls.faults };
+    ghost bytes = { λ sink. Some (sink_bytes sink) };
 
-    fn put(&mut self, piece: &[u8]) -> Result<usize, Failed> {
+    ghost faults = { λ sink. (sink_calls sink).faults };
+
+    fn put(&mut self, piece: &[u8]) -> Result<usize, Failed>
+        ensures bound { WritesAtMost result piece.now }
+        ensures some { IfOk result (λ n. n ≡ 0 → piece.now ≡ []) }
+        ensures bytes { WriteAppends (Some (sink_bytes self.old)) (Some (sink_bytes self.new)) result piece.now }
+        ensures cause { HasCause (sink_calls self.old).faults (sink_calls self.new).faults result }
+
+        // It fails at the listed calls and where it is full, and only there, and takes as much as it has room for, up to a piece.
+        ensures failed { IsErr result ↔ (FailsNext (sink_calls self.old) ⊎ ((length (sink_bytes self.old) ≡ sink_capacity self.old) × (0 < length piece.now))) }
+        ensures counted { Counts (sink_calls self.old) (sink_calls self.new) result }
+        ensures count { IfOk result (λ n. n ≡ min (min (length piece.now) (sink_capacity self.old - length (sink_bytes self.old))) (sink_piece self.old)) }
+        ensures piece { sink_piece self.new ≡ sink_piece self.old }
+        ensures capacity { sink_capacity self.new ≡ sink_capacity self.old }
+    {
         self.calls.begin()?;
         let room = self.capacity - self.bytes.len();
         let count = piece.len().min(room).min(self.piece);

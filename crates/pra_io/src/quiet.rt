@@ -1,7 +1,6 @@
 // A folder, a source and a sink that never fail.
 
-ghost use Rattle.std.specs.Prelude.{◌≡◌, ◌≢◌, List, ◌≤◌, ◌<◌, ◌+◌, ℕ, None, Some, vec_len, length, drop, unwrap_or};
-ghost use Rattle.pra_io.specs.Entries.{held_at};
+ghost use Rattle.std.specs.Prelude.{◌≡◌, ◌≤◌, ◌+◌, ◌-◌, ◌^◌, ℕ, List, None, Some, Ok, min, vec_len, length};
 
 use crate::files::{FileFault, Folder};
 use crate::memory::{Entry, copy_front, find, put_first};
@@ -18,7 +17,9 @@ pub struct QuietFolder {
 impl QuietFolder {
     /// A folder in which each name holds these bytes.
     pub fn new(bytes: Vec<u8>) -> QuietFolder
-        ensures { (n : List ℕ) → ⟦<QuietFolder as Folder>⟧.file result n ≡ Some (Some bytes.items) }
+        ensures files { (n : List ℕ) → ⟦<QuietFolder as Folder>⟧.file result n ≡ Some (Some bytes.items) }
+        ensures read_faults { (n : List ℕ) → ⟦<QuietFolder as Folder>⟧.read_faults result n ≡ 0 }
+        ensures write_faults { (n : List ℕ) → ⟦<QuietFolder as Folder>⟧.write_faults result n ≡ 0 }
     {
         let written = Vec::new(*bytes.allocator());
         QuietFolder {
@@ -36,7 +37,9 @@ impl QuietFolder {
 }
 
 impl Folder for QuietFolder {
-    ghost file = { λ folder name. Some (Some (unwrap_or (held_at name folder.written.items) folder.given.items)) };
+    ghost use Rattle.pra_io.specs.Quiet.{quiet_file};
+
+    ghost file = { λ folder name. Some (Some (quiet_file folder name)) };
 
     ghost read_faults = { λ _ _. 0 };
 
@@ -66,7 +69,8 @@ pub struct QuietSource {
 impl QuietSource {
     /// A source of these bytes.
     pub fn new(bytes: Vec<u8>) -> QuietSource
-        ensures { ⟦<QuietSource as Source>⟧.left result ≡ Some bytes.items }
+        ensures left { ⟦<QuietSource as Source>⟧.left result ≡ Some bytes.items }
+        ensures faults { ⟦<QuietSource as Source>⟧.faults result ≡ 0 }
     {
         QuietSource { bytes, at: 0 }
     }
@@ -80,7 +84,9 @@ impl QuietSource {
 }
 
 impl Source for QuietSource {
-    ghost left = { λ source. Some (drop source.at source.bytes.items) };
+    ghost use Rattle.pra_io.specs.Quiet.{quiet_left};
+
+    ghost left = { λ source. Some (quiet_left source) };
 
     ghost faults = { λ _. 0 };
 
@@ -98,23 +104,35 @@ pub struct QuietSink {
 }
 
 impl QuietSink {
+    ghost use Rattle.pra_io.specs.Quiet.{quiet_count};
+
     /// A sink to which nothing was put.
-    pub fn new() -> QuietSink {
+    pub fn new() -> QuietSink
+        ensures count { quiet_count result ≡ 0 }
+        ensures faults { ⟦<QuietSink as Sink>⟧.faults result ≡ 0 }
+    {
         QuietSink { count: 0 }
     }
 
-    /// How many bytes were put.
-    pub fn count(&self) -> u64 {
+    /// How many bytes were put. The count stands still at its last number.
+    pub fn count(&self) -> u64
+        ensures { result ≡ quiet_count self.now }
+    {
         self.count
     }
 }
 
 impl Sink for QuietSink {
+    ghost use Rattle.pra_io.specs.Quiet.{quiet_count};
+
     ghost bytes = { λ _. None };
 
     ghost faults = { λ _. 0 };
 
-    fn put(&mut self, piece: &[u8]) -> Result<usize, Failed> {
+    fn put(&mut self, piece: &[u8]) -> Result<usize, Failed>
+        ensures whole { result ≡ Ok (length piece.now) }
+        ensures count { quiet_count self.new ≡ min (quiet_count self.old + length piece.now) (2 ^ 64 - 1) }
+    {
         self.count = self.count.saturating_add(piece.len() as u64);
         Ok(piece.len())
     }

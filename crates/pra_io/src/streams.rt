@@ -1,6 +1,6 @@
 // Bytes to be taken, and a place for bytes, piece by piece.
 
-ghost use Rattle.std.specs.Prelude.{◌≡◌, ◌≤◌, ◌+◌, ℕ, List, [], vec_len, IfOk, OnOk, OnErr, IsErrOf};
+ghost use Rattle.std.specs.Prelude.{◌≡◌, ◌⊎◌, ◌≤◌, ◌+◌, ℕ, List, [], vec_len, IsSome, IfOk, OnOk, OnErr, IsErrOf};
 ghost use Rattle.std.specs.declared.option.Option.{Option};
 ghost use Rattle.std.specs.Io.{ReadsAtMost, WritesAtMost};
 ghost use Rattle.std.specs.Io.KnownBytes.{ReadConsumes, WriteAppends, Appends, Consumes, IsAtEnd};
@@ -8,6 +8,7 @@ ghost use Rattle.pra_io.specs.declared.streams.ReadAll.TheVariants.{ReadFault, O
 ghost use Rattle.pra_io.specs.Causes.{Rose, HasCause};
 ghost use Rattle.pra_io.specs.Contents.{IsAllOf, Takes, TakesAtMost, AppendsFront};
 
+use pra_base::OutOfMemory;
 use std::alloc::{AllocError, AllocFailed, Global};
 
 /// A source, a sink or a folder failed, and counts that as a fault.
@@ -82,6 +83,14 @@ impl From<Failed> for ReadAll {
     }
 }
 
+impl From<OutOfMemory> for ReadAll {
+    ghost from_gives = { λ _ fault. fault ≡ OutOfMemory };
+
+    fn from(_: OutOfMemory) -> Self {
+        ReadAll::OutOfMemory
+    }
+}
+
 impl From<AllocError> for ReadAll {
     ghost from_gives = { λ _ fault. fault ≡ OutOfMemory };
 
@@ -122,6 +131,8 @@ pub fn read_all<I: Source>(alloc: Global, source: &mut I, max: usize) -> Result<
     ensures too_long { IsErrOf result ReadAll.TooLong → Takes (I.left source.old) (I.left source.new) (max + 1) }
     ensures before_fault { IsErrOf result ReadAll.ReadFault → TakesAtMost (I.left source.old) (I.left source.new) max }
     ensures memory { IsErrOf result ReadAll.OutOfMemory → TakesAtMost (I.left source.old) (I.left source.new) (max + 1) }
+    ensures exact { IsSome (I.left source.old) → Takes (I.left source.old) (I.left source.new) (max + 1) →
+        IsErrOf result ReadAll.TooLong ⊎ IsErrOf result ReadAll.OutOfMemory }
 
     // The count never falls, and a fault is told only where it rose.
     ensures later { I.faults source.old ≤ I.faults source.new }
