@@ -4,3 +4,4 @@ pub mod Again
 pub mod TakesOperands
 pub mod Takes
 pub mod Rows
+pub mod Size

@@ -211,3 +211,9 @@ pub record Row (bytes : List ℕ) (i : Ins) (len : ℕ) : Type 0 where
 -- each of the numbers is a byte
 abbrev pub IsBytes : List ℕ → Type 0
 IsBytes bytes = (k : ℕ) → slice_index bytes k < 2 ^ 8
+
+-- The size of an encoding. The longest has an opcode, a ModRM and a SIB byte, a displacement and a number: 1 + 1 + 1 + 4 + 4 bytes.
+pub record IsCode (bytes : List ℕ) : Type 0 where
+  pub some : 1 ≤ length bytes
+  pub most : length bytes ≤ 11
+  pub all : IsBytes bytes

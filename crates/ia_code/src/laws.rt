@@ -2,7 +2,7 @@
 
 ghost use Rattle.std.specs.Prelude.{◌≡◌, ℕ, ◌≤◌, List, ◌++◌, length, Some};
 ghost use Rattle.ia_code.specs.declared.ins.Ins.{Ins};
-ghost use Rattle.ia_code.specs.Table.{Row, IsSound, IsBytes, bytes_of};
+ghost use Rattle.ia_code.specs.Table.{Row, IsSound, IsCode, bytes_of};
 ghost use Rattle.ia_code.specs.Reading.{decoded};
 
 /// Two rows that begin the same bytes are one: no two rows give one instruction, none begins another, and a row's
@@ -15,3 +15,9 @@ pub fn one_row()
 pub fn round_trip()
     ensures { (i : Ins) → IsSound i → (rest : List ℕ) → decoded (bytes_of i ++ rest) ≡ Some (i, length (bytes_of i)) }
 {}
+
+/// An encoding has 1 to 11 bytes.
+pub fn code_size()
+    ensures { (i : Ins) → IsSound i → IsCode (bytes_of i) }
+{
+}
