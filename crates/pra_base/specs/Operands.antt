@@ -132,13 +132,20 @@ pub record Row : Type 0 where
   pub writes : List Role
   pub clobbers : ℕ
 
+-- what is left of a mask in a role of the variable
+abbrev pub meets : ℕ → ℕ → Role → ℕ
+meets v mask role = if is_role_of v role then meet mask role.mask else mask
+
 -- what the roles of a variable have in common
 abbrev pub common : List Role → ℕ → ℕ
-common roles v = fold (λ mask r. if is_role_of v r then meet mask r.mask else mask) every roles
+common roles v = fold (meets v) every roles
+
+abbrev pub is_star_of : ℕ → Role → Bool
+is_star_of v role = is_role_of v role && role.memory
 
 -- the mask of a variable: what its roles have in common, and a register where two of them are in the memory pair
 abbrev pub mask_of : List Role → ℕ → ℕ
-mask_of roles v = if nat_lt 1 (count_by (λ r. is_role_of v r && r.memory) roles) then meet (common roles v) R else common roles v
+mask_of roles v = if nat_lt 1 (count_by (is_star_of v) roles) then meet (common roles v) R else common roles v
 
 abbrev pub settled : List Role → Role → Role
 settled roles r = record { var = r.var; mask = mask_of roles r.var; memory = r.memory }
@@ -147,9 +154,15 @@ settled roles r = record { var = r.var; mask = mask_of roles r.var; memory = r.m
 abbrev pub rewritten : List Role → ℕ → Role
 rewritten roles v = record { var = v; mask = mask_of roles v; memory = false }
 
+-- the roles with a mask in the table
+abbrev pub all_roles : Line → List Role
+all_roles l = l.reads ++ l.writes
+
+abbrev pub written : Line → List Role
+written l = map (rewritten (all_roles l)) l.in_place ++ map (settled (all_roles l)) l.writes
+
 abbrev pub row_of : Line → Row
-row_of l = let roles = l.reads ++ l.writes in
-    record { reads = map (settled roles) l.reads; writes = map (rewritten roles) l.in_place ++ map (settled roles) l.writes; clobbers = l.clobbers }
+row_of l = record { reads = map (settled (all_roles l)) l.reads; writes = written l; clobbers = l.clobbers }
 
 abbrev pub operands : VInstr → Row
 operands i = row_of (table i)

@@ -23,6 +23,12 @@ pub const CONSTANT: Mask = 0b1000_0000;
 /// Every place.
 pub const EVERY: Mask = 0b1111_1111;
 
+impl Default for Place {
+    fn default() -> Place {
+        Place::Eax
+    }
+}
+
 impl Place {
     /// The place's number, from 0.
     pub fn number(self) -> u8

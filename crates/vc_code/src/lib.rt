@@ -1,0 +1,10 @@
+//! Selected code as it is asked about: the operands of an instruction, and whether a procedure is near.
+#![tactic(auto)]
+
+pub mod near;
+pub mod row;
+#[cfg(test)]
+mod tests;
+
+pub use near::is_near;
+pub use row::{OperandRow, Role, operands};

@@ -1,0 +1,298 @@
+// The operand table: where each operand of an instruction may stand, and what the instruction destroys.
+
+ghost use Rattle.std.specs.Prelude.{◌≡◌, ◌+◌, ◌≤◌, length, map, fold, count_by, ◌++◌, ◌∷◌, [], option_to_list};
+ghost use Rattle.pra_base.specs.Operands as base;
+ghost use Rattle.pra_base.specs.Places.{◌∪◌};
+ghost use Rattle.vc_code.specs.Rows.{role_of, roles_of, row_of, line_of};
+
+use arrayvec::ArrayVec;
+use pra_base::places::{BYTE_REGISTERS, CONSTANT, EVERY, MEMORY, REGISTERS};
+use pra_base::{Addr, Base, Mask, VInstr, VarId};
+
+/// A variable in a role of an instruction.
+#[derive(Clone, Copy, Debug, PartialEq, Eq, Drop)]
+pub struct Role {
+    pub var: VarId,
+    /// The places that may be its place here. A variable in several roles has one mask in all of them.
+    pub mask: Mask,
+    /// The role is in the instruction's memory pair: at most one of the two is in memory.
+    pub memory: bool,
+}
+
+/// The operands of an instruction, and the registers that hold nothing afterwards: bit r of `clobbers` stands for
+/// register r.
+#[derive(Debug, Drop)]
+pub struct OperandRow {
+    pub reads: ArrayVec<Role, 3>,
+    pub writes: ArrayVec<Role, 2>,
+    pub clobbers: u8,
+}
+
+/// A line of the table as it is printed: what is read, what is written where it was read, what is only written, and
+/// the registers that are destroyed.
+#[derive(Drop)]
+struct Printed {
+    reads: ArrayVec<Role, 3>,
+    in_place: Option<VarId>,
+    writes: ArrayVec<Role, 2>,
+    clobbers: u8,
+}
+
+const NOTHING: u8 = 0;
+
+const EAX: Mask = 0b001;
+
+const ECX: Mask = 0b010;
+
+const EDX: Mask = 0b100;
+
+// The registers that a callee may change.
+const CALLER_SAVED: u8 = EAX | ECX | EDX;
+
+// The masks of the table, by its letters: a register, memory, a constant; a register with a low byte.
+const R: Mask = REGISTERS;
+
+const B: Mask = BYTE_REGISTERS;
+
+const RM: Mask = REGISTERS | MEMORY;
+
+const RMK: Mask = RM | CONSTANT;
+
+const RK: Mask = R | CONSTANT;
+
+// A register or memory, but not EAX and EDX, which hold the dividend.
+const DIVISOR: Mask = RM & !(EAX | EDX);
+
+impl Default for Role {
+    fn default() -> Role {
+        Role {
+            var: VarId(0),
+            mask: 0,
+            memory: false,
+        }
+    }
+}
+
+fn at(var: VarId, mask: Mask) -> Role
+    ensures { role_of result ≡ base.role var mask }
+{
+    Role {
+        var,
+        mask,
+        memory: false,
+    }
+}
+
+fn pair(var: VarId, mask: Mask) -> Role
+    ensures { role_of result ≡ base.starred var mask }
+{
+    Role {
+        var,
+        mask,
+        memory: true,
+    }
+}
+
+// A row of at most N roles.
+fn listed<const N: usize>(roles: &[Role]) -> ArrayVec<Role, N>
+    requires { length roles.now ≤ N }
+    ensures { result.items ≡ roles.now }
+{
+    let mut row = ArrayVec::new();
+    for role in roles {
+        row.push(*role);
+    }
+    row
+}
+
+fn line(reads: &[Role], in_place: Option<VarId>, writes: &[Role], clobbers: u8) -> Printed
+    requires reads { length reads.now ≤ 3 }
+    requires writes { length (option_to_list in_place) + length writes.now ≤ 2 }
+    ensures value { line_of result ≡ base.line (roles_of reads.now) (map (λ v. v.0) (option_to_list in_place)) (roles_of writes.now) clobbers }
+    ensures fits { length (option_to_list result.in_place) + length result.writes.items ≤ 2 }
+{
+    Printed {
+        reads: listed(reads),
+        in_place,
+        writes: listed(writes),
+        clobbers,
+    }
+}
+
+fn arithmetic(v: VarId, s: VarId) -> Printed
+    ensures value { line_of result ≡ base.arithmetic v s }
+    ensures fits { length (option_to_list result.in_place) + length result.writes.items ≤ 2 }
+{
+    line(&[pair(v, RM), pair(s, RMK)], Some(v), &[], NOTHING)
+}
+
+fn compares(a: VarId, b: VarId, writes: &[Role]) -> Printed
+    requires { length writes.now ≤ 2 }
+    ensures value { line_of result ≡ base.line (base.compared a b) [] (roles_of writes.now) base.none }
+    ensures fits { length (option_to_list result.in_place) + length result.writes.items ≤ 2 }
+{
+    line(&[pair(a, RM), pair(b, RMK)], None, writes, NOTHING)
+}
+
+fn addressed(addr: &Addr) -> ArrayVec<Role, 2>
+    ensures { roles_of result.items ≡ base.addressed addr.now }
+{
+    let mut roles = ArrayVec::new();
+    if let Base::Via(v) = addr.base {
+        roles.push(at(v, R));
+    }
+    if let Some(v) = addr.index {
+        roles.push(at(v, R));
+    }
+    roles
+}
+
+fn loads(v: VarId, addr: &Addr) -> Printed
+    ensures value { line_of result ≡ base.line (base.addressed addr.now) [] (base.role v base.R ∷ []) base.none }
+    ensures fits { length (option_to_list result.in_place) + length result.writes.items ≤ 2 }
+{
+    let reads = addressed(addr);
+    line(reads.as_slice(), None, &[at(v, R)], NOTHING)
+}
+
+fn stores(addr: &Addr, s: VarId) -> Printed
+    ensures value { line_of result ≡ base.line (base.addressed addr.now ++ base.role s (base.R ∪ base.K) ∷ []) [] [] base.none }
+    ensures fits { length (option_to_list result.in_place) + length result.writes.items ≤ 2 }
+{
+    let variables = addressed(addr);
+    let mut reads = listed::<3>(variables.as_slice());
+    reads.push(at(s, RK));
+    line(reads.as_slice(), None, &[], NOTHING)
+}
+
+// The line of an instruction, as the table prints it.
+fn table(i: &VInstr) -> Printed
+    ensures value { line_of result ≡ base.table i.now }
+    ensures fits { length (option_to_list result.in_place) + length result.writes.items ≤ 2 }
+{
+    match *i {
+        VInstr::Set(v, _) => line(&[], None, &[at(v, RM)], NOTHING),
+        VInstr::Copy(v, s) => line(&[pair(s, RM)], None, &[pair(v, RM)], NOTHING),
+        VInstr::Add(v, s) => arithmetic(v, s),
+        VInstr::Sub(v, s) => arithmetic(v, s),
+        VInstr::And(v, s) => arithmetic(v, s),
+        VInstr::Or(v, s) => arithmetic(v, s),
+        VInstr::Xor(v, s) => arithmetic(v, s),
+        VInstr::Mul(v, s) => line(&[at(v, R), at(s, RMK)], Some(v), &[], NOTHING),
+        VInstr::Neg(v) => line(&[at(v, RM)], Some(v), &[], NOTHING),
+        VInstr::Cmp(a, b) => compares(a, b, &[]),
+        VInstr::CmpSet(_, v, a, b) => compares(a, b, &[at(v, B)]),
+        VInstr::DivMod(q, r, a, d) => line(
+            &[at(a, EAX), at(d, DIVISOR)],
+            None,
+            &[at(q, EAX), at(r, EDX)],
+            NOTHING,
+        ),
+        VInstr::Check(i, _) => line(&[at(i, RM)], None, &[], NOTHING),
+        VInstr::CheckPos(d) => line(&[at(d, RM)], None, &[], NOTHING),
+        VInstr::Load(v, a) => loads(v, &a),
+        VInstr::Store(a, s) => stores(&a, s),
+        VInstr::Addr(v, a) => loads(v, &a),
+        VInstr::Push(s) => line(&[at(s, RMK)], None, &[], NOTHING),
+        VInstr::Call(_) => line(&[], None, &[], CALLER_SAVED),
+        VInstr::Read(v) => line(&[], None, &[at(v, EAX)], NOTHING),
+        VInstr::Write(s) => line(&[at(s, EAX)], None, &[], NOTHING),
+        VInstr::Line => line(&[], None, &[], NOTHING),
+        VInstr::Clear => line(&[], None, &[], ECX),
+    }
+}
+
+// What is left of a mask in the roles of a variable.
+fn meet_roles(start: Mask, roles: &[Role], var: VarId) -> Mask
+    ensures { result ≡ fold (base.meets var.0) start (roles_of roles.now) }
+{
+    let mut mask = start;
+    for role in roles {
+        if role.var == var {
+            mask &= role.mask;
+        }
+    }
+    mask
+}
+
+// In how many of the roles the variable is in the memory pair.
+fn stars(roles: &[Role], var: VarId) -> usize
+    ensures { result ≡ count_by (base.is_star_of var.0) (roles_of roles.now) }
+{
+    roles
+        .iter()
+        .filter(|role| role.var == var && role.memory)
+        .count()
+}
+
+fn mask_of(line: &Printed, var: VarId) -> Mask
+    ensures { result ≡ base.mask_of (base.all_roles (line_of line.now)) var.0 }
+{
+    let common = meet_roles(
+        meet_roles(EVERY, line.reads.as_slice(), var),
+        line.writes.as_slice(),
+        var,
+    );
+    if stars(line.reads.as_slice(), var) + stars(line.writes.as_slice(), var) > 1 {
+        common & R
+    } else {
+        common
+    }
+}
+
+fn settled(line: &Printed, role: Role) -> Role
+    ensures { role_of result ≡ base.settled (base.all_roles (line_of line.now)) (role_of role) }
+{
+    Role {
+        mask: mask_of(line, role.var),
+        ..role
+    }
+}
+
+fn rewritten(line: &Printed, var: VarId) -> Role
+    ensures { role_of result ≡ base.rewritten (base.all_roles (line_of line.now)) var.0 }
+{
+    Role {
+        var,
+        mask: mask_of(line, var),
+        memory: false,
+    }
+}
+
+fn reads(line: &Printed) -> ArrayVec<Role, 3>
+    ensures { roles_of result.items ≡ map (base.settled (base.all_roles (line_of line.now))) (line_of line.now).reads }
+{
+    let mut reads = ArrayVec::new();
+    for role in line.reads.as_slice() {
+        reads.push(settled(line, *role));
+    }
+    reads
+}
+
+fn writes(line: &Printed) -> ArrayVec<Role, 2>
+    requires { length (option_to_list line.now.in_place) + length line.now.writes.items ≤ 2 }
+    ensures { roles_of result.items ≡ base.written (line_of line.now) }
+{
+    let mut writes = ArrayVec::new();
+    if let Some(var) = line.in_place {
+        writes.push(rewritten(line, var));
+    }
+    for role in line.writes.as_slice() {
+        writes.push(settled(line, *role));
+    }
+    writes
+}
+
+/// The operands of an instruction: the roles that are read, then those that are written, a variable that is written in
+/// place among them, each in the order of the table. A variable in several roles has what they have in common, and a
+/// register where two of them are in the memory pair.
+pub fn operands(i: &VInstr) -> OperandRow
+    ensures { row_of result ≡ base.operands i.now }
+{
+    let line = table(i);
+    OperandRow {
+        reads: reads(&line),
+        writes: writes(&line),
+        clobbers: line.clobbers,
+    }
+}
