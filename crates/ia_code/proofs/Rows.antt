@@ -1,5 +1,5 @@
 -- What reading and the table say of each other: at most one row begins some bytes, and reading finds it.
-use Rattle.std.proofs.Common.{◌≡◌, ℕ, ◌-◌, ◌≤◌, List, ◌++◌, length, Option, Some, None, sym, ap, ◌∙◌, arith, take, drop, take-append-drop, length-take, length-append, length-drop}
+use Rattle.std.proofs.Common.{◌≡◌, ℕ, ◌-◌, ◌≤◌, List, ◌++◌, length, Some, None, sym, ap, ◌∙◌, arith, take, drop, take-append-drop, length-take, length-append, length-drop}
 use Rattle.std.proofs.Math.Seq.{take-append_seam}
 use Rattle.ia_code.specs.declared.ins.Ins.{Ins}
 use Rattle.ia_code.specs.Table.{bytes_of, IsSound, Row, IsBytes}

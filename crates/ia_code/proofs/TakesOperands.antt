@@ -1,15 +1,12 @@
 -- Numbers and operands that are read are spelled so by the table.
-use Rattle.std.proofs.Common.{◌≡◌, ◌≢◌, ℕ, zero, suc, ◌+◌, ◌-◌, ◌*◌, ◌/◌, ◌%◌, ◌^◌, ◌≤◌, ◌<◌, Bool, true, false, List, [], ◌∷◌, ◌++◌, length, Option, Some, None, refl, sym, ap, ◌∙◌, subst, ◌⊎◌, inl, inr, ⊎_elim, arith, append_assoc, take, drop, nat_eq, nat_lt, nat_le, cond, get_or, get_or-drop, get_or-take, rules, take-append-drop, length-take, length-append, length-drop}
-use Rattle.std.specs.Prelude.{ℤ, pos, ◌==◌, ◌&&◌, ◌||◌, if◌then◌else◌}
-use Rattle.std.proofs.Math.Seq.{take-append_seam}
+use Rattle.std.proofs.Common.{◌≡◌, ℕ, zero, suc, ◌+◌, ◌/◌, ◌%◌, ◌^◌, ◌≤◌, ◌<◌, Bool, true, false, List, [], ◌∷◌, ◌++◌, length, Option, Some, None, refl, sym, ap, ◌∙◌, subst, arith, append_assoc, take, drop, nat_lt, get_or-drop, rules, take-append-drop, length-take}
+use Rattle.std.specs.Prelude.{ℤ, pos, ◌==◌, ◌&&◌, if◌then◌else◌}
 use Rattle.std.proofs.lemmas.Bool.Decides.{nat_tests}
-use Rattle.std.proofs.lemmas.Bool.{le-ltb, ltb-false}
-use Rattle.std.proofs.lemmas.Int.{to_z-of_z, of_z-to_z, ints}
-use Rattle.std.proofs.lemmas.Nat.{le_bytes_2, le_bytes_4, from_le_bytes-to_le_bytes_2, from_le_bytes-to_le_bytes_4}
-use Rattle.std.specs.Int.{w8, w16, w32, to_le_bytes, from_le_bytes, cast_unsigned, cast_signed}
+use Rattle.std.proofs.lemmas.Bool.{ltb-false}
+use Rattle.std.proofs.lemmas.Int.{of_z-to_z}
+use Rattle.std.proofs.lemmas.Nat.{le_bytes_2, le_bytes_4}
+use Rattle.std.specs.Int.{w8, w16, w32, to_le_bytes, from_le_bytes, cast_signed}
 use Rattle.std.specs.Int.RustNames.{FitsSigned}
-use Rattle.pra_base.specs.declared.ids.Cond.{Cond}
-use Rattle.pra_base.specs.declared.ids.Cond.TheVariants.{B, Ae, E, Ne, Be, A, S, Ns, L, Ge, Le, G}
 use Rattle.ia_code.specs.declared.ins.Reg.{Reg}
 use Rattle.ia_code.specs.declared.ins.Reg.TheVariants.{Eax, Ecx, Edx, Ebx, Esp, Ebp, Esi, Edi}
 use Rattle.ia_code.specs.declared.ins.Width.{Width}
@@ -17,13 +14,8 @@ use Rattle.ia_code.specs.declared.ins.Width.TheVariants.{D0, D8, D32}
 use Rattle.ia_code.specs.declared.ins.MemAddr.{MemAddr}
 use Rattle.ia_code.specs.declared.ins.Rm.{Rm}
 use Rattle.ia_code.specs.declared.ins.Rm.TheVariants as rm
-use Rattle.ia_code.specs.declared.ins.AluOp.{AluOp}
-use Rattle.ia_code.specs.declared.ins.AluOp.TheVariants.{Add, Or, And, Sub, Xor, Cmp}
-use Rattle.ia_code.specs.declared.ins.Ins.{Ins}
-use Rattle.ia_code.specs.declared.ins.Ins.TheVariants.{MovRmR, MovRRm, MovRI, MovRmI, AluRmR, AluRRm, AluRmI, AluRmB, ImulRRm, ImulI, ImulB, Neg, Idiv, Cdq, Lea, PushR, PopR, PushM, PushI, Call, Ret, RetI, Jmp, Jcc, Set, Movzx, Xchg, Test, Int}
-use Rattle.ia_code.specs.declared.ins.TheConstants.{FIRST_SERVICE, LAST_SERVICE}
-use Rattle.ia_code.specs.Table.{reg_number, op_number, cond_number, scale_number, mod_number, fields, short, word, displacement, address, operand, bytes_of, is_register, has_low_byte, is_scale, is_index, is_base, Holds, IsAddress, IsOperand, IsSound, Row}
-use Rattle.ia_code.specs.Reading.{◌>>=◌, reg_of, cond_of, op_of, scale_of, width_of, byte_at, short_at, half_at, word_at, displacement_at, address_at, sib_at, memory_at, fields_at, operand_at, memory_of, register_of, memory_operand_at, register_operand_at, alu_word_at, alu_short_at, mov_word_at, unary_at, set_at, movzx_at, extended_at, alu_at, stack_at, move_at, constant_at, jump_at, opcode_at, instruction_at, counted, decoded}
+use Rattle.ia_code.specs.Table.{reg_number, scale_number, mod_number, fields, short, word, displacement, address, operand, is_scale, is_index, is_base, Holds, IsAddress, IsOperand}
+use Rattle.ia_code.specs.Reading.{◌>>=◌, reg_of, scale_of, width_of, byte_at, short_at, half_at, word_at, displacement_at, address_at, sib_at, memory_at, fields_at, operand_at}
 use Rattle.ia_code.proofs.Numbers.{reg_back, scale_back, scale_stands, mode_back}
 use Rattle.ia_code.specs.Table.{IsBytes}
 

@@ -19,5 +19,4 @@ pub fn round_trip()
 /// An encoding has 1 to 11 bytes.
 pub fn code_size()
     ensures { (i : Ins) → IsSound i → IsCode (bytes_of i) }
-{
-}
+{}

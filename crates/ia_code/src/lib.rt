@@ -8,6 +8,8 @@ pub mod ins;
 pub mod laws;
 mod operands;
 pub mod sound;
+#[cfg(test)]
+mod tests;
 
 pub use decoder::{NotInSubset, decode};
 pub use encoder::encode;
