@@ -3,6 +3,7 @@ pub mod Memory
 pub mod Arithmetic
 pub mod State
 pub mod Effect
+pub mod Later
 pub mod Step
 pub mod Views
 pub mod Run

@@ -1,5 +1,5 @@
 -- Runs of the machine.
-use Rattle.std.specs.Prelude.{ℕ, ℤ, ◌+◌, ◌-◌, List, [], ◌∷◌, ◌++◌, Option, Some, None}
+use Rattle.std.specs.Prelude.{ℕ, ℤ, ◌+◌, ◌-◌, Bool, true, false, List, [], ◌∷◌, ◌++◌, Option, Some, None}
 use Rattle.pra_base.specs.declared.event.OutEvent.{OutEvent}
 use Rattle.pra_base.specs.declared.event.OutEvent.TheVariants as event
 use Rattle.pra_base.specs.Agreement.{Progress}
@@ -31,6 +31,10 @@ begin s = record { state = s; events = []; steps = 0 }
 
 abbrev pub after : Ran → State × StepOut → Ran
 after r x = record { state = x.0; events = noted r.events x.1; steps = r.steps + 1 }
+
+abbrev pub is_going : Ending → Bool
+is_going ending.Going = true
+is_going _ = false
 
 -- one step more, and none of a machine that has ended
 abbrev pub advance_from : Ran → Ending → Ran

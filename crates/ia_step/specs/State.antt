@@ -1,6 +1,6 @@
 -- The state of the machine: registers, flags, EIP and three regions of a flat memory (SDM volume 1, sections 3.3 and 3.4), and beside
 -- them what the services of the host need.
-use Rattle.std.specs.Prelude.{ℕ, ℤ, ◌+◌, ◌*◌, List}
+use Rattle.std.specs.Prelude.{ℕ, ℤ, ◌+◌, ◌*◌, ◌≤◌, List, length}
 use Rattle.ia_code.specs.declared.image.Image.{Image}
 use Rattle.ia_code.specs.declared.ins.Reg.{Reg}
 use Rattle.ia_step.specs.declared.registers.Registers.{Registers}
@@ -24,6 +24,12 @@ pub record State : Type 0 where
   pub place : ℕ
   -- how the machine ended, or Going
   pub ending : Ending
+
+-- an image that can be loaded: it has code, and code and data fit their regions
+pub record IsImage (image : Image) : Type 0 where
+  pub code_some : 1 ≤ length image.code
+  pub code_small : length image.code ≤ 41943040
+  pub data_small : image.data_words ≤ 4194304
 
 -- where the regions begin
 abbrev pub code_base : ℕ

@@ -6,8 +6,10 @@
 mod arithmetic;
 mod divide;
 pub mod flags;
+pub mod machine;
 mod memory;
 pub mod out;
 pub mod registers;
 
+pub use machine::Machine;
 pub use out::{Ending, FaultKind, RunOut, StepOut};
