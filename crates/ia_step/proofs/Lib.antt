@@ -1,3 +1,7 @@
 pub mod Words
 pub mod Later
+pub mod RegisterLemmas
+pub mod Later
+pub mod Here
+pub mod Signed
 pub mod Runs
