@@ -16,3 +16,6 @@ pub use host::{HostFolder, HostSink, HostSource};
 pub use memory::{MemFolder, MemSink, MemSource};
 pub use quiet::{QuietFolder, QuietSink, QuietSource};
 pub use streams::{Failed, ReadAll, Sink, Source, WriteFault, read_all, write_all};
+
+#[cfg(test)]
+mod tests;
