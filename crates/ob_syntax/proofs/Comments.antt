@@ -1,7 +1,7 @@
 -- A text behind a `(*` closes one comment and no other, or none.
 use Rattle.std.proofs.Common.{◌≡◌, ℕ, zero, suc, ◌≤◌, ◌<◌, List, [], ◌∷◌, length, refl, sym, ap, ap₂, subst, ◌⊎◌, inl, inr, ⊎_elim, arith}
 use Rattle.std.proofs.lemmas.Bool.{cases_eq}
-use Rattle.ob_syntax.specs.Tokens.{Begins, Comment, comment_end, byte, inner, comment_text, IsComment}
+use Rattle.ob_syntax.specs.Tokens.{Begins, Comment, comment_end, byte, inner, comment_text, IsComment, NeverCloses}
 use Rattle.ob_syntax.proofs.Words.{heads, tails}
 
 -- `(` is not `*`
@@ -39,9 +39,6 @@ one_comment (inner c g) (inner d f) u v h i e =
 -- the text begins with a comment's inside
 abbrev pub Closes : List ℕ → Type 0
 Closes text = (c : Comment) × (rest : List ℕ) × IsComment c rest × (text ≡ comment_text c rest)
-
-abbrev pub NeverCloses : List ℕ → Type 0
-NeverCloses text = (c : Comment) (rest : List ℕ) → IsComment c rest → text ≡ comment_text c rest → ⊥
 
 pub shorter_rest : (c : Comment) (rest : List ℕ) → length rest < length (comment_text c rest)
 shorter_rest comment_end rest = omega arith

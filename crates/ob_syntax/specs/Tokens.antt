@@ -82,6 +82,10 @@ IsComment comment_end rest = Unit {0}
 IsComment (byte b c) rest = ¬ Begins (codes "(*") (b ∷ comment_text c rest) × ¬ Begins (codes "*)") (b ∷ comment_text c rest) × IsComment c rest
 IsComment (inner c d) rest = IsComment c (comment_text d rest) × IsComment d rest
 
+-- no comment ends in this text, which stands behind a `(*`
+abbrev pub NeverCloses : List ℕ → Type 0
+NeverCloses inside = (c : Comment) (rest : List ℕ) → IsComment c rest → inside ≡ comment_text c rest → ⊥
+
 -- a piece of a source text
 pub data Piece : Type 0 where
   space : ℕ → Piece
@@ -142,7 +146,7 @@ pub data Fault : Type 0 where
 -- the text begins with this fault
 abbrev pub BeginsFault : Fault → List ℕ → Type 0
 BeginsFault number_too_large text = (word rest : List ℕ) × (text ≡ word ++ rest) × IsTrue (is_integer word) × IsLongest word rest × (greatest_integer < integer_value word)
-BeginsFault open_comment text = (inside : List ℕ) × (text ≡ codes "(*" ++ inside) × ((c : Comment) (rest : List ℕ) → IsComment c rest → inside ≡ comment_text c rest → ⊥)
+BeginsFault open_comment text = (inside : List ℕ) × (text ≡ codes "(*" ++ inside) × NeverCloses inside
 BeginsFault bad_byte text = (b : ℕ) × (rest : List ℕ) × (text ≡ b ∷ rest) × ¬ IsTrue (is_space b) × ¬ Begins (codes "(*") text × ((word after : List ℕ) → IsSpelling word → text ≡ word ++ after → ⊥)
 
 -- whole pieces stand before the byte of this number, and the fault begins there

@@ -1,0 +1,5 @@
+pub mod TableScan
+pub mod Nesting
+pub mod Fronts
+pub mod Progress
+pub mod Causes
