@@ -1,0 +1,134 @@
+// Sets of numbers as words of 64 bits: bit v % 64 of word v / 64 stands for v.
+
+ghost use Rattle.std.specs.Prelude.{◌≡◌, ℕ, ◌+◌, ◌*◌, ◌/◌, ◌<◌, ◌≤◌, ◌||◌, ◌&&◌, not, nat_eq, length, IfOk, IsTrue, true, false, List, if◌then◌else◌};
+ghost use Rattle.vc_live.specs.Sets.{contains, room};
+
+use std::alloc::{AllocError, Global};
+use std::marker::Model;
+
+/// How many bits a word has.
+const BITS: usize = 64;
+
+/// A set of numbers below a bound, which contracts see as its words.
+#[derive(Debug, Drop)]
+pub struct BitSet {
+    words: Vec<u64>,
+}
+
+impl Model for BitSet {
+    ghost use Rattle.std.specs.Prelude.{ℕ, List};
+
+    ghost Value = { List ℕ };
+
+    ghost view = { λ set. set.words.items };
+}
+
+impl BitSet {
+    /// No numbers, and room for those below `bound`.
+    pub fn empty(alloc: Global, bound: usize) -> Result<BitSet, AllocError>
+        ensures none { IfOk result (λ set. (v : ℕ) → contains set v ≡ false) }
+        ensures words { IfOk result (λ set. length set ≡ bound / 64 + 1) }
+    {
+        let count = bound / BITS + 1;
+        let mut words = Vec::with_capacity(alloc, count)?;
+        for _ in 0..count {
+            words.push(0)?;
+        }
+        Ok(BitSet { words })
+    }
+
+    pub fn contains(&self, v: usize) -> bool
+        ensures { result ≡ contains self.now v }
+    {
+        if v / BITS >= self.words.len() {
+            return false;
+        }
+        (self.words[v / BITS] >> (v % BITS)) & 1 == 1
+    }
+
+    pub fn insert(&mut self, v: usize)
+        requires { v / 64 < length self.old }
+        ensures words { length self.new ≡ length self.old }
+        ensures members { (u : ℕ) → contains self.new u ≡ (nat_eq v u || contains self.old u) }
+    {
+        let word = self.words[v / BITS];
+        self.words[v / BITS] = word | (1 << (v % BITS));
+    }
+
+    pub fn remove(&mut self, v: usize)
+        requires { v / 64 < length self.old }
+        ensures words { length self.new ≡ length self.old }
+        ensures members { (u : ℕ) → contains self.new u ≡ (not (nat_eq v u) && contains self.old u) }
+    {
+        let word = self.words[v / BITS];
+        self.words[v / BITS] = word & !(1 << (v % BITS));
+    }
+
+    /// Takes all numbers out.
+    pub fn clear(&mut self)
+        ensures words { length self.new ≡ length self.old }
+        ensures none { (u : ℕ) → contains self.new u ≡ false }
+    {
+        for i in 0..self.words.len() {
+            self.words[i] = 0;
+        }
+    }
+
+    /// Takes over the numbers of another set.
+    pub fn copy_from(&mut self, other: &BitSet)
+        requires { length self.old ≡ length other.now }
+        ensures { self.new ≡ other.now }
+    {
+        self.words.copy_from_slice(other.words.as_slice());
+    }
+
+    pub fn unite(&mut self, other: &BitSet)
+        requires { length self.old ≡ length other.now }
+        ensures words { length self.new ≡ length self.old }
+        ensures members { (u : ℕ) → contains self.new u ≡ (contains self.old u || contains other.now u) }
+    {
+        for i in 0..self.words.len() {
+            let word = self.words[i];
+            self.words[i] = word | other.words[i];
+        }
+    }
+
+    pub fn subtract(&mut self, other: &BitSet)
+        requires { length self.old ≡ length other.now }
+        ensures words { length self.new ≡ length self.old }
+        ensures members { (u : ℕ) → contains self.new u ≡ (contains self.old u && not (contains other.now u)) }
+    {
+        for i in 0..self.words.len() {
+            let word = self.words[i];
+            self.words[i] = word & !other.words[i];
+        }
+    }
+
+    /// Takes in the numbers of another set, and says whether one of them is new.
+    pub fn grow(&mut self, other: &BitSet) -> bool
+        requires { length self.old ≡ length other.now }
+        ensures words { length self.new ≡ length self.old }
+        ensures members { (u : ℕ) → contains self.new u ≡ (contains self.old u || contains other.now u) }
+        ensures same { result ≡ false → self.new ≡ self.old }
+        ensures room { room self.new + (if result then 1 else 0) ≤ room self.old }
+    {
+        let mut grown = false;
+        for i in 0..self.words.len() {
+            let old = self.words[i];
+            let more = other.words[i];
+            if old | more != old {
+                self.words[i] = old | more;
+                grown = true;
+            }
+        }
+        grown
+    }
+
+    /// A set with the same numbers.
+    pub fn duplicate(&self, alloc: Global) -> Result<BitSet, AllocError>
+        ensures { IfOk result (λ set. set ≡ self.now) }
+    {
+        let words = Vec::from_slice(alloc, self.words.as_slice())?;
+        Ok(BitSet { words })
+    }
+}
