@@ -1,5 +1,4 @@
 pub mod Words
-pub mod Later
 pub mod RegisterLemmas
 pub mod Later
 pub mod Here
