@@ -46,13 +46,13 @@ byte_takes [] is x e = cc
 byte_takes (b ∷ rest) is x e =
     subst (λ y. Takes (b ∷ rest) (y.0 ∷ []) y.1 × (y.0 < 256)) (some_same (b, rest) x e) (record { all = refl; bytes_left = λ i. is (suc i) }, is 0)
 
-drop_bytes : (n : ℕ) (bytes : List ℕ) → IsBytes bytes → IsBytes (drop n bytes)
+pub drop_bytes : (n : ℕ) (bytes : List ℕ) → IsBytes bytes → IsBytes (drop n bytes)
 drop_bytes n bytes is = λ i. rw get_or-drop (is (n + i))
 
 four_long : (bytes : List ℕ) → 4 ≤ length bytes → length (take 4 bytes) ≡ 4
 four_long bytes h = simp length-take (omega arith)
 
-take_bytes : (n : ℕ) (bytes : List ℕ) → IsBytes bytes → IsBytes (take n bytes)
+pub take_bytes : (n : ℕ) (bytes : List ℕ) → IsBytes bytes → IsBytes (take n bytes)
 take_bytes zero bytes is i = omega arith
 take_bytes (suc n) [] is i = omega arith
 take_bytes (suc n) (b ∷ bytes) is zero = is 0
