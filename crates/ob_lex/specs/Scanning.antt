@@ -37,7 +37,11 @@ pub record TellsFault (text : List ℕ) (at : ℕ) (answer : LexFault) : Type 0 
   pub begins : BeginsFault fault text
   pub answer_is : answer ≡ fault_at fault at
 
--- the most tokens that are kept
+-- the most bytes of a source, 2 ^ 20
+abbrev pub most_bytes : ℕ
+most_bytes = 1048576
+
+-- the most tokens that are kept, 2 ^ 16
 abbrev pub most_tokens : ℕ
 most_tokens = 65536
 

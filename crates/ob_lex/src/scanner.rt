@@ -3,7 +3,7 @@
 ghost use Rattle.std.specs.Prelude.{◌≡◌, ℕ, ◌<◌, ◌≤◌, List, length, vec_len, IfOk, IfErr, IsOkUnless};
 ghost use Rattle.ob_syntax.specs.declared.token.Token.{Token};
 ghost use Rattle.ob_syntax.specs.Tokens.{Tokens, SlicesSource, Fault, FirstFault};
-ghost use Rattle.ob_lex.specs.Scanning.{IsCause, IsErrUnlessMemory, fault_at, most_tokens};
+ghost use Rattle.ob_lex.specs.Scanning.{IsCause, IsErrUnlessMemory, fault_at, most_bytes, most_tokens};
 
 use crate::piece::first_piece;
 use ob_syntax::Token;
@@ -32,9 +32,10 @@ pub enum LexFault {
     OutOfMemory,
 }
 
-/// The tokens of a source of at most 2^20 bytes, in order.
+/// The tokens of a source, in order, in time linear in its length. A first lexical fault is told wherever it stands, also
+/// behind more tokens than are kept.
 pub fn lex(alloc: Global, bytes: &[u8]) -> Result<Vec<Token>, LexFault>
-    requires { length bytes.now ≤ 1048576 }
+    requires { length bytes.now ≤ most_bytes }
 
     ensures tokens { IfOk result (λ list. Tokens bytes.now list.items) }
     ensures within { IfOk result (λ list. vec_len list ≤ most_tokens) }
