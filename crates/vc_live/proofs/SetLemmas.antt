@@ -1,5 +1,5 @@
 -- What the operations on words do to the members of a set.
-use Rattle.std.proofs.Common.{◌≡◌, ◌≢◌, ℕ, ◌+◌, ◌-◌, ◌*◌, ◌/◌, ◌%◌, ◌^◌, ◌<◌, ◌≤◌, ◌⊎◌, inl, inr, Bool, true, false, not, ◌&&◌, ◌||◌, nat_eq, eqb, List, length, get_or, set, bit_and, bit_or, replicate, sum_by, refl, sym, ap, ◌∙◌, arith, if◌then◌else◌, get_or-set_same, get_or-set_other}
+use Rattle.std.proofs.Common.{◌≡◌, ◌≢◌, ℕ, ◌-◌, ◌*◌, ◌/◌, ◌%◌, ◌^◌, ◌<◌, ◌≤◌, inl, inr, Bool, false, not, ◌&&◌, ◌||◌, nat_eq, List, length, get_or, set, bit_and, bit_or, replicate, refl, ap, ◌∙◌, arith, get_or-set_same, get_or-set_other}
 use Rattle.std.specs.Int.{bit_at, bit_not}
 use Rattle.std.proofs.Common.{w64}
 use Rattle.std.proofs.lemmas.Bool.{cases_eq, cases_order}
@@ -152,3 +152,26 @@ none_in xs words v = elim (cases_order (v / 64) (length xs)) [
   | inr (inl below) ↦ rw (words (v / 64) below, bit_at-zero (v % 64)) refl
   | inr (inr above) ↦ rw (get_or_past xs (v / 64) 0 (omega arith), bit_at-zero (v % 64)) refl
 ]
+
+bit-confined : (a s b i : ℕ) → b < 2 ^ 64 → i < 64 → bit (bit_and a (bit_or s (bit_not w64 b))) i ≡ (bit a i && (bit s i || not (bit b i)))
+bit-confined a s b i small within =
+    let la : bit_at a i < 2 = omega arith in
+    let ls : bit_at s i < 2 = omega arith in
+    let lb : bit_at b i < 2 = omega arith in
+    rw (bit_at_and a (bit_or s (bit_not w64 b)) i, bit_at_or s (bit_not w64 b) i, bit_at_not w64 b i small within) (three_bits _ _ _ la ls lb)
+  where
+    three_bits : (x y z : ℕ) → x < 2 → y < 2 → z < 2 → nat_eq (Prim.Native.Nat.min x (Prim.Native.Nat.max y (1 - z))) 1 ≡ (nat_eq x 1 && (nat_eq y 1 || not (nat_eq z 1)))
+    three_bits x y z p q r = grind (arith, nat_tests)
+
+pub confined_all : (xs ss bs zs : List ℕ) → length xs ≡ length ss → length xs ≡ length bs → length zs ≡ length xs →
+    ((k : ℕ) → k < length xs → get_or zs k 0 ≡ bit_and (get_or xs k 0) (bit_or (get_or ss k 0) (2 ^ 64 - 1 - get_or bs k 0))) → ((k : ℕ) → k < length xs → get_or bs k 0 < 2 ^ 64) →
+    (u : ℕ) → contains zs u ≡ (contains xs u && (contains ss u || not (contains bs u)))
+unfolding contains
+confined_all xs ss bs zs same also long words small u = elim (cases_order (u / 64) (length xs)) [
+  | inl at_end ↦ past (omega arith)
+  | inr (inl below) ↦ rw (words (u / 64) below) (bit-confined (get_or xs (u / 64) 0) (get_or ss (u / 64) 0) (get_or bs (u / 64) 0) (u % 64) (small (u / 64) below) (omega arith))
+  | inr (inr above) ↦ past (omega arith)
+]
+  where
+    past : length xs ≤ u / 64 → nat_eq (bit_at (get_or zs (u / 64) 0) (u % 64)) 1 ≡ (nat_eq (bit_at (get_or xs (u / 64) 0) (u % 64)) 1 && (nat_eq (bit_at (get_or ss (u / 64) 0) (u % 64)) 1 || not (nat_eq (bit_at (get_or bs (u / 64) 0) (u % 64)) 1)))
+    past beyond = rw (get_or_past zs (u / 64) 0 (omega arith), get_or_past xs (u / 64) 0 beyond, bit_at-zero (u % 64)) refl

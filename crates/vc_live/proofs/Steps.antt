@@ -1,5 +1,5 @@
 -- What the operands of an instruction say of what it reads and writes, and how the equations go over one instruction.
-use Rattle.std.proofs.Common.{◌≡◌, ℕ, ◌+◌, ◌/◌, ◌<◌, ◌≤◌, inl, inr, Bool, true, false, not, ◌&&◌, ◌||◌, nat_eq, List, [], ◌∷◌, ◌++◌, map, length, get_or, take, drop, slice_get, Some, refl, sym, ap, subst, ◌∙◌, arith, add-one}
+use Rattle.std.proofs.Common.{◌≡◌, ℕ, ◌+◌, ◌<◌, ◌≤◌, Bool, true, false, not, ◌&&◌, ◌||◌, nat_eq, List, [], ◌∷◌, map, length, get_or, take, drop, refl, ap, subst, ◌∙◌, arith}
 use Rattle.std.specs.List.{list_any}
 use Rattle.std.proofs.lemmas.Bool.{eq-eqb, eqb-true}
 use Rattle.std.proofs.lemmas.Bool.Decides.{nat_tests}
@@ -10,7 +10,7 @@ use Rattle.pra_base.specs.declared.code.End.{End}
 use Rattle.pra_base.specs.Operands as table
 use Rattle.vc_code.specs.declared.row.Role.{Role}
 use Rattle.vc_code.specs.declared.row.OperandRow.{OperandRow}
-use Rattle.vc_code.specs.Rows.{role_of, roles_of, row_of}
+use Rattle.vc_code.specs.Rows.{roles_of, row_of}
 use Rattle.vc_live.specs.Equations.{named_in, before, through, at_exit, at_targets}
 
 -- what a reading past the end of a list of roles gives
@@ -73,9 +73,9 @@ or_false false = refl
 -- a role whose variable is no constant: the variable goes
 pub taken_out : (named start constant now eq : Bool) → now ≡ (start && (constant || not named)) → (eq ≡ true → constant ≡ false) → (not eq && now) ≡ (start && (constant || not (named || eq)))
 taken_out named start constant now true is free = rw (free refl) (gone named start)
-    where
-      gone : (named start : Bool) → false ≡ (start && not (named || true))
-      gone named start = grind arith
+  where
+    gone : (named start : Bool) → false ≡ (start && not (named || true))
+    gone named start = grind arith
 taken_out named start constant now false is free = is ∙ rw (or_false named) refl
 
 -- a role whose variable is a constant: it stays
@@ -112,3 +112,9 @@ nothing_out start constant = grind arith
 -- what is known of one variable is known of each variable with its number
 pub at_same : (set : ℕ → Bool) (x v : ℕ) (b : Bool) → set x ≡ b → nat_eq x v ≡ true → set v ≡ b
 at_same set x v b is same = subst (λ z. set z ≡ b) (eqb-true x v same) is
+
+pub or_swapped : (a b : Bool) → (a || b) ≡ (b || a)
+or_swapped true true = refl
+or_swapped true false = refl
+or_swapped false true = refl
+or_swapped false false = refl

@@ -1,13 +1,16 @@
 -- The equations of liveness over blocks (Appel, Modern Compiler Implementation, section 10.1).
-use Rattle.std.specs.Prelude.{◌≡◌, ℕ, ◌/◌, ◌<◌, Bool, true, false, not, ◌||◌, ◌&&◌, nat_eq, List, [], ◌∷◌, length, slice_get, slice_index_or, Some}
+use Rattle.std.specs.Prelude.{◌≡◌, ℕ, ◌+◌, ◌/◌, ◌<◌, ◌≤◌, sum_by, if◌then◌else◌, Bool, true, false, not, ◌||◌, ◌&&◌, nat_eq, List, [], ◌∷◌, drop, length, slice_get, slice_index_or, Some}
 use Rattle.std.specs.List.{list_any}
 use Rattle.pra_base.specs.declared.code.VInstr.{VInstr}
 use Rattle.pra_base.specs.declared.code.End.{End}
 use Rattle.pra_base.specs.declared.code.End.TheVariants.{Jump, Branch, Return}
 use Rattle.pra_base.specs.Operands.{reads, writes}
+use Rattle.pra_base.specs.declared.code.VProc.{VProc}
+use Rattle.pra_base.specs.Code.{code_of, end_of}
+use Rattle.pra_base.specs.Live.{ReadBeforeWritten}
 use Rattle.pra_base.specs.Valid.{Names}
 use Rattle.vc_code.specs.declared.row.Role.{Role}
-use Rattle.vc_live.specs.Sets.{contains}
+use Rattle.vc_live.specs.Sets.{contains, room}
 
 -- the variable stands in one of the roles
 unfoldable pub named_in : List Role → ℕ → Bool
@@ -50,3 +53,42 @@ FitsEnd blocks Return = Unit {0}
 
 abbrev pub HaveWords : ℕ → List (List ℕ) → Type 0
 HaveWords words entries = (b : ℕ) → b < length entries → length (entry entries b) ≡ words
+
+-- ---- entries
+
+-- live before instruction k of block b, from what is live at the entries
+unfoldable pub live_in : VProc → (ℕ → Bool) → List (List ℕ) → ℕ → ℕ → ℕ → Bool
+live_in code constants entries b k v = through constants (drop k (code_of code b)) (at_exit constants entries (end_of code b)) v
+
+-- what the entries have is live there
+abbrev pub IsSound : VProc → (ℕ → Bool) → List (List ℕ) → Type 0
+IsSound code constants entries = (b v : ℕ) → constants v ≡ false → contains (entry entries b) v ≡ true → ReadBeforeWritten code v (record { block = b; index = 0 })
+
+-- the entry of the block has what its equation asks for
+abbrev pub IsClosedAt : VProc → (ℕ → Bool) → List (List ℕ) → ℕ → Type 0
+IsClosedAt code constants entries b = (v : ℕ) → live_in code constants entries b 0 v ≡ true → contains (entry entries b) v ≡ true
+
+abbrev pub IsClosed : VProc → (ℕ → Bool) → List (List ℕ) → Type 0
+IsClosed code constants entries = (b : ℕ) → b < length code.blocks → IsClosedAt code constants entries b
+
+-- the code names variables that the sets have room for, and blocks that there are
+pub record InRange (words : ℕ) (code : VProc) : Type 0 where
+  pub instrs : (b : ℕ) → Fits words (code_of code b)
+  pub ends : (b : ℕ) → b < length code.blocks → FitsEnd (length code.blocks) (end_of code b)
+
+-- one set for each block, each with so many words
+pub record Shape (words : ℕ) (code : VProc) (entries : List (List ℕ)) : Type 0 where
+  pub count : length entries ≡ length code.blocks
+  pub sets : HaveWords words entries
+
+-- how far the entries may still grow
+unfoldable pub total_room : List (List ℕ) → ℕ
+total_room entries = sum_by room entries
+
+-- what has come of the entries after the blocks from b on were asked, where none has grown unless `grown`
+pub record Swept (words : ℕ) (code : VProc) (constants : ℕ → Bool) (start now : List (List ℕ)) (b : ℕ) (grown : Bool) : Type 0 where
+  pub shape : Shape words code now
+  pub sound : IsSound code constants start → IsSound code constants now
+  pub same : grown ≡ false → now ≡ start
+  pub closed : grown ≡ false → (c : ℕ) → b ≤ c → c < length code.blocks → IsClosedAt code constants now c
+  pub room : total_room now + (if grown then 1 else 0) ≤ total_room start

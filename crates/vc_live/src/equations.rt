@@ -54,8 +54,8 @@ pub fn step_back(set: &mut BitSet, instr: &VInstr, constants: &BitSet)
     insert_all(set, row.reads.as_slice());
 }
 
-// From what is live at the end of the code to what is live before it.
-fn go_back(set: &mut BitSet, code: &[VInstr], constants: &BitSet)
+/// From what is live at the end of the code to what is live before it.
+pub fn go_back(set: &mut BitSet, code: &[VInstr], constants: &BitSet)
     requires { Fits (length set.old) code.now }
     ensures words { length set.new ≡ length set.old }
     ensures members { (v : ℕ) → contains set.new v ≡ through (contains constants.now) code.now (contains set.old) v }

@@ -4,5 +4,9 @@
 //! (Appel, Modern Compiler Implementation, section 10.1). From them follow the sets at all points of each block.
 #![tactic(auto)]
 
-pub mod equations;
-pub mod sets;
+mod equations;
+mod liveness;
+mod sets;
+mod solve;
+
+pub use liveness::{Liveness, live};

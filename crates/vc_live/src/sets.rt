@@ -131,4 +131,17 @@ impl BitSet {
         let words = Vec::from_slice(alloc, self.words.as_slice())?;
         Ok(BitSet { words })
     }
+
+    /// Takes out the numbers of a second set that are not in a first.
+    pub fn confine(&mut self, seen: &BitSet, bound: &BitSet)
+        requires seen { length self.old ≡ length seen.now }
+        requires bound { length self.old ≡ length bound.now }
+        ensures words { length self.new ≡ length self.old }
+        ensures members { (u : ℕ) → contains self.new u ≡ (contains self.old u && (contains seen.now u || not (contains bound.now u))) }
+    {
+        for i in 0..self.words.len() {
+            let word = self.words[i];
+            self.words[i] = word & (seen.words[i] | !bound.words[i]);
+        }
+    }
 }

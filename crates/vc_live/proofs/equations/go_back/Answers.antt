@@ -1,4 +1,4 @@
-use Rattle.std.proofs.Common.{refl, sym, ◌∙◌, ◌<◌, ◌≤◌, ◌-◌, length, arith}
+use Rattle.std.proofs.Common.{refl, sym, ◌∙◌, ◌-◌, arith}
 use Rattle.std.proofs.lemmas.Option.{slice_get-get_or}
 use Rattle.vc_live.proofs.Steps.{through_end, through_more, before-same}
 use Rattle.vc_live.proofs.equations.go_back.Goals as goal

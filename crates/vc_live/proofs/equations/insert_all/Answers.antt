@@ -1,4 +1,4 @@
-use Rattle.std.proofs.Common.{◌<◌, ◌/◌, length, get_or, refl, sym, subst, ◌∙◌, arith}
+use Rattle.std.proofs.Common.{get_or, refl, ◌∙◌, arith}
 use Rattle.vc_live.proofs.Steps.{no_role, named_none, named_at, named_more, put_in}
 use Rattle.vc_live.proofs.equations.insert_all.Goals as goal
 

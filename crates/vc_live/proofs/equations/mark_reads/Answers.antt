@@ -1,4 +1,4 @@
-use Rattle.std.proofs.Common.{inl, inr, refl, sym, ◌∙◌}
+use Rattle.std.proofs.Common.{inl, refl, sym, ◌∙◌}
 use Rattle.vc_live.proofs.Steps.{reads_named}
 use Rattle.vc_live.proofs.equations.mark_reads.Goals as goal
 

@@ -1,4 +1,4 @@
-use Rattle.std.proofs.Common.{◌<◌, ◌/◌, length, get_or, refl, sym, subst, ◌∙◌, arith}
+use Rattle.std.proofs.Common.{get_or, refl, sym, ◌∙◌, arith}
 use Rattle.vc_live.specs.Sets.{contains}
 use Rattle.vc_live.proofs.Steps.{no_role, named_none, named_at, named_more, taken_out, left_in, nothing_out, at_same}
 use Rattle.vc_live.proofs.equations.remove_all.Goals as goal

@@ -1,0 +1,195 @@
+// Which variables are live at which layer.
+
+ghost use Rattle.std.specs.Prelude.{◌≡◌, ℕ, ◌+◌, ◌-◌, ◌/◌, ◌<◌, ◌≤◌, ◌&&◌, length, IfOk, Bool, true, false};
+ghost use Rattle.pra_base.specs.Code.{end_of, code_of};
+ghost use Rattle.pra_base.specs.Valid.{IsSized};
+ghost use Rattle.vc_live.specs.Sets.{contains};
+ghost use Rattle.vc_live.specs.Equations.{InRange, Shape, IsSound, IsClosed, Fits, FitsEnd, HaveWords, at_exit};
+ghost use Rattle.vc_live.specs.Rows.{AreConstants, AllRows, RowsBack, RowsOf, Confined, constant_at, live_at, has_at, IsLiveness};
+
+use crate::equations::{mark_reads, start_at_exit, step_back};
+use crate::sets::BitSet;
+use crate::solve::solve;
+use pra_base::{Block, BlockId, OutOfMemory, VProc, VarId, VarKind};
+use pra_list::Seq;
+use std::alloc::{AllocError, Global};
+
+/// Which variables of a procedure are live at which of its layers.
+#[derive(Debug, Drop)]
+pub struct Liveness {
+    constants: BitSet,
+    /// For each block what is live at its points, from its end to its begin.
+    blocks: Seq<Seq<BitSet>>,
+}
+
+impl Liveness {
+    /// Whether the variable is live at this layer of the block; false past the code.
+    pub fn at(&self, var: VarId, block: BlockId, layer: u32) -> bool
+        ensures { result ≡ live_at self.now var.0 block.0 layer }
+    {
+        let v = var.0 as usize;
+        let b = block.0 as usize;
+        if self.constants.contains(v) {
+            self.constant_at(v, b, layer)
+        } else {
+            self.has(b, layer as usize / 2, v)
+        }
+    }
+
+    fn constant_at(&self, v: usize, block: usize, layer: u32) -> bool
+        ensures { result ≡ constant_at self.now.blocks v block layer }
+    {
+        let point = layer as usize / 2;
+        let here = self.has(block, point, v);
+        if layer % 2 == 1 {
+            return here;
+        }
+        if point == 0 {
+            return false;
+        }
+        here && self.has(block, point - 1, v)
+    }
+
+    // Whether the variable is in the set of a point.
+    fn has(&self, block: usize, point: usize, v: usize) -> bool
+        ensures { result ≡ has_at self.now.blocks block point v }
+    {
+        if block >= self.blocks.len() {
+            return false;
+        }
+        let rows = &self.blocks[block];
+        if point >= rows.len() {
+            return false;
+        }
+        rows[rows.len() - 1 - point].contains(v)
+    }
+}
+
+// The variables that are constants.
+fn constants(alloc: Global, code: &VProc) -> Result<BitSet, AllocError>
+    ensures constants { IfOk result (λ set. AreConstants code.now set) }
+    ensures words { IfOk result (λ set. length set ≡ length code.now.vars / 64 + 1) }
+{
+    let mut set = BitSet::empty(alloc, code.vars.len())?;
+    for v in 0..code.vars.len() {
+        if let VarKind::Constant(_) = code.vars[v] {
+            set.insert(v);
+        }
+    }
+    Ok(set)
+}
+
+// An empty set for each block.
+fn no_entries(alloc: Global, code: &VProc) -> Result<Vec<BitSet>, AllocError>
+    ensures shape { IfOk result (λ entries. Shape (length code.now.vars / 64 + 1) code.now entries.items) }
+    ensures sound { IfOk result (λ entries. (constants : ℕ → Bool) → IsSound code.now constants entries.items) }
+{
+    let mut entries = Vec::with_capacity(alloc, code.blocks.len())?;
+    for _ in 0..code.blocks.len() {
+        entries.push(BitSet::empty(alloc, code.vars.len())?)?;
+    }
+    Ok(entries)
+}
+
+// What is live at the points of a block, from its end to its begin; of the constants what is read from there on.
+fn rows_back(
+    alloc: Global,
+    block: &Block,
+    entries: &[BitSet],
+    now: &mut BitSet,
+    constants: &BitSet,
+) -> Result<Vec<BitSet>, AllocError>
+    requires code { Fits (length now.old) block.now.code }
+    requires end { FitsEnd (length entries.now) block.now.end }
+    requires sets { HaveWords (length now.old) entries.now }
+    requires constants { length constants.now ≡ length now.old }
+    ensures words { length now.new ≡ length now.old }
+    ensures rows { IfOk result (λ rows. RowsBack (contains constants.now) block.now.code (at_exit (contains constants.now) entries.now block.now.end) rows.items) }
+    ensures sets { IfOk result (λ rows. HaveWords (length now.old) rows.items) }
+{
+    let mut rows = Vec::with_capacity(alloc, block.code.len())?;
+    start_at_exit(now, &block.end, entries, constants);
+    rows.push(now.duplicate(alloc)?)?;
+    let mut left = block.code.len();
+    while left > 0 {
+        left -= 1;
+        step_back(now, &block.code[left], constants);
+        rows.push(now.duplicate(alloc)?)?;
+    }
+    Ok(rows)
+}
+
+// Leaves in each set only the constants that are read up to its instruction.
+fn confine(rows: &mut Vec<BitSet>, block: &Block, seen: &mut BitSet, constants: &BitSet)
+    requires code { Fits (length seen.old) block.now.code }
+    requires count { length rows.old.items ≡ length block.now.code + 1 }
+    requires sets { HaveWords (length seen.old) rows.old.items }
+    requires constants { length constants.now ≡ length seen.old }
+    ensures words { length seen.new ≡ length seen.old }
+    ensures confined { Confined (contains constants.now) block.now.code rows.old.items rows.new.items (length block.now.code + 1) }
+{
+    seen.clear();
+    let last = block.code.len();
+    for k in 0..last {
+        mark_reads(seen, &block.code[k]);
+        rows[last - k].confine(seen, constants);
+    }
+    rows[0].confine(seen, constants);
+}
+
+// The sets of the points of a block, from its end to its begin.
+fn block_rows(
+    alloc: Global,
+    block: &Block,
+    entries: &[BitSet],
+    now: &mut BitSet,
+    constants: &BitSet,
+) -> Result<Seq<BitSet>, AllocError>
+    requires code { Fits (length now.old) block.now.code }
+    requires end { FitsEnd (length entries.now) block.now.end }
+    requires sets { HaveWords (length now.old) entries.now }
+    requires constants { length constants.now ≡ length now.old }
+    ensures words { length now.new ≡ length now.old }
+    ensures rows { IfOk result (λ rows. RowsOf (contains constants.now) block.now.code (at_exit (contains constants.now) entries.now block.now.end) rows) }
+{
+    let mut rows = rows_back(alloc, block, entries, now, constants)?;
+    confine(&mut rows, block, now, constants);
+    Ok(Seq::from_vec(rows))
+}
+
+// The sets of the points of each block.
+fn all_rows(
+    alloc: Global,
+    code: &VProc,
+    entries: &[BitSet],
+    now: &mut BitSet,
+    constants: &BitSet,
+) -> Result<Seq<Seq<BitSet>>, AllocError>
+    requires range { InRange (length now.old) code.now }
+    requires shape { Shape (length now.old) code.now entries.now }
+    requires constants { length constants.now ≡ length now.old }
+    ensures { IfOk result (λ blocks. AllRows code.now (contains constants.now) entries.now blocks (length code.now.blocks)) }
+{
+    let mut blocks = Vec::with_capacity(alloc, code.blocks.len())?;
+    for block in code.blocks.as_slice() {
+        blocks.push(block_rows(alloc, block, entries, now, constants)?)?;
+    }
+    Ok(Seq::from_vec(blocks))
+}
+
+/// The liveness of all variables of a procedure.
+///
+/// # Errors
+///
+/// Where there is no memory for it.
+pub fn live(alloc: Global, code: &VProc) -> Result<Liveness, OutOfMemory>
+    requires { IsSized code.now }
+    ensures { IfOk result (λ liveness. IsLiveness code.now liveness) }
+{
+    let constants = constants(alloc, code)?;
+    let mut entries = no_entries(alloc, code)?;
+    let mut now = BitSet::empty(alloc, code.vars.len())?;
+    solve(&mut entries, &mut now, code, &constants);
+    let blocks = all_rows(alloc, code, entries.as_slice(), &mut now, &constants)?;
+    Ok(Liveness { constants, blocks })
+}
