@@ -1,6 +1,8 @@
 pub mod Words
 pub mod RegisterLemmas
+pub mod Access
 pub mod Later
 pub mod Here
 pub mod Signed
 pub mod Runs
+pub mod Reaches

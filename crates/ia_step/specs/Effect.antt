@@ -1,5 +1,6 @@
--- What each instruction does, in the order of the table of their bytes, as on the instruction's page in SDM volume 2. When an instruction
--- is executed, EIP is already that of the next one. An instruction that faults leaves nothing behind: the fault alone is its result.
+-- What each instruction does, in the order of the table of their bytes, as on the instruction's page in SDM volume 2. The parts of
+-- their operations come first, the instructions at the end. When one is executed, EIP is already that of the next instruction. One that
+-- faults leaves nothing behind: the fault alone is its result.
 use Rattle.std.specs.Prelude.{ℕ, ℤ, ◌+◌, ◌-◌, ◌*◌, ◌%◌, ◌^◌, ◌==◌, ◌&&◌, nat_le, if◌then◌else◌, Bool, true, false, List, length, Option, Some, None, slice_get, Result, Ok, Err}
 use Rattle.std.specs.Int.{w32, cast_unsigned}
 use Rattle.std.specs.Int.Bits.{bit_and}
@@ -74,11 +75,11 @@ pop s = do
   v ← load s s.regs.esp
   Ok (v, with_register s Esp (sum32 s.regs.esp 4))
 
--- MOV: DEST := SRC. Flags: none changed.
+-- MOV: DEST := SRC
 unfoldable pub mov : State → Rm → ℕ → Done
 mov s dest src = write_rm s dest src >>= goes
 
--- ADD, OR, AND, SUB, XOR: DEST := DEST op SRC. CMP: compares, and DEST stays. Flags: by the result.
+-- ADD, OR, AND, SUB, XOR: DEST := DEST op SRC. CMP: DEST stays. Flags: by the result.
 abbrev pub keep_result : AluOp → State → Rm → ℕ → Result State FaultKind
 keep_result Cmp s dest v = Ok s
 keep_result _ s dest v = write_rm s dest v
@@ -108,7 +109,7 @@ divided s (Some x) = goes (with_flags (with_register (with_register s Eax x.0) E
 unfoldable pub idiv : State → ℕ → Done
 idiv s src = divided s (quotient (s.regs.edx * 2 ^ 32 + s.regs.eax) src)
 
--- CDQ: EDX := the sign bit of EAX in each bit. Flags: none changed.
+-- CDQ: the sign bit in each bit
 abbrev pub sign_word : ℕ → ℕ
 sign_word v = if sign v then 2 ^ 32 - 1 else 0
 
@@ -157,64 +158,83 @@ service s k =
     else if k == 0x24 then trapped s (trap_of s.regs.eax)
     else Err fault.Service
 
--- The instructions. An immediate of 8 bits is sign-extended.
+-- The instructions: opcode, operation, flags changed, faults. An immediate of 8 bits is sign-extended.
 unfoldable pub effect : State → Ins → Done
--- MOV
+-- MOV: 89 /r, 8B /r, B8+r id, C7 /0 id
+-- DEST := SRC. Flags: none. Access.
 effect s (MovRmR dest src) = mov s dest (get s.regs src)
 effect s (MovRRm dest src) = read_rm s src >>= mov s (rm.Reg dest)
 effect s (MovRI dest n) = mov s (rm.Reg dest) (cast_unsigned w32 n)
 effect s (MovRmI dest n) = mov s dest (cast_unsigned w32 n)
--- ADD, OR, AND, SUB, XOR, CMP
+-- ADD, OR, AND, SUB, XOR, CMP: 01+8n /r, 03+8n /r, 81 /n id, 83 /n ib, where n is 0, 1, 4, 5, 6, 7
+-- DEST := DEST op SRC, but DEST stays in CMP. Flags: all four. Access.
 effect s (AluRmR op dest src) = alu op s dest (get s.regs src)
 effect s (AluRRm op dest src) = read_rm s src >>= alu op s (rm.Reg dest)
 effect s (AluRmI op dest n) = alu op s dest (cast_unsigned w32 n)
 effect s (AluRmB op dest n) = alu op s dest (cast_unsigned w32 n)
--- IMUL
+-- IMUL: 0F AF /r, 69 /r id, 6B /r ib
+-- DEST := DEST * SRC, or DEST := SRC1 * SRC2. Flags: CF, OF; ZF, SF unknown. Access.
 effect s (ImulRRm dest src) = read_rm s src >>= imul s dest (get s.regs dest)
 effect s (ImulI dest src n) = read_rm s src >>= imul s dest (cast_unsigned w32 n)
 effect s (ImulB dest src n) = read_rm s src >>= imul s dest (cast_unsigned w32 n)
--- NEG
+-- NEG: F7 /3
+-- DEST := 0 - DEST. Flags: all four. Access.
 effect s (Neg dest) = neg s dest
--- IDIV
+-- IDIV: F7 /7
+-- EAX := EDX:EAX / SRC; EDX := EDX:EAX mod SRC. Flags: all four unknown. Access, Divide.
 effect s (Idiv src) = read_rm s src >>= idiv s
--- CDQ
+-- CDQ: 99
+-- EDX := the sign of EAX. Flags: none.
 effect s Cdq = goes (with_register s Edx (sign_word s.regs.eax))
--- LEA: DEST := the effective address; memory is not read
+-- LEA: 8D /r
+-- DEST := the effective address. Flags: none. Memory is not read.
 effect s (Lea dest a) = goes (with_register s dest (address_of s.regs a))
--- PUSH: Push(SRC), where SRC is computed before ESP is lowered
+-- PUSH: 50+r, FF /6, 68 id
+-- Push(SRC), where SRC is computed before ESP is lowered. Flags: none. Access.
 effect s (PushR src) = push s (get s.regs src) >>= goes
 effect s (PushM src) = do
   v ← load s (address_of s.regs src)
   t ← push s v
   goes t
 effect s (PushI n) = push s (cast_unsigned w32 n) >>= goes
--- POP: DEST := Pop()
+-- POP: 58+r
+-- DEST := Pop(). Flags: none. Access.
 effect s (PopR dest) = do
   x ← pop s
   goes (with_register x.1 dest x.0)
--- CALL: Push(EIP); EIP := EIP + displacement
+-- CALL: E8 rel32
+-- Push(EIP); EIP := EIP + rel32. Flags: none. Access.
 effect s (Call d) = do
   t ← push s s.eip
   goes (jump t d)
--- RET: EIP := Pop()
+-- RET: C3
+-- EIP := Pop(). Flags: none. Access.
 effect s Ret = do
   x ← pop s
   goes (at x.1 x.0)
--- RET imm16: EIP := Pop(); ESP := ESP + imm16
+-- RET imm16: C2 iw
+-- EIP := Pop(); ESP := ESP + imm16. Flags: none. Access.
 effect s (RetI n) = do
   x ← pop s
   goes (with_register (at x.1 x.0) Esp (sum32 x.1.regs.esp n))
--- JMP
+-- JMP: E9 rel32
+-- EIP := EIP + rel32. Flags: none.
 effect s (Jmp d) = goes (jump s d)
--- Jcc
+-- Jcc: 0F 80+cc rel32
+-- IF condition THEN EIP := EIP + rel32. Flags: none. Flag.
 effect s (Jcc c d) = branch s d (holds s.flags c)
--- SETcc
+-- SETcc: 0F 90+cc /0, of AL, CL, DL and BL
+-- DEST := IF condition THEN 1 ELSE 0, of the low byte alone. Flags: none. Flag.
 effect s (Set c dest) = set s dest (holds s.flags c)
--- MOVZX: DEST := the low byte of SRC
+-- MOVZX: 0F B6 /r, from AL, CL, DL and BL
+-- DEST := ZeroExtend(SRC). Flags: none.
 effect s (Movzx dest src) = goes (with_register s dest (get s.regs src % 256))
--- XCHG: temp := DEST; DEST := SRC; SRC := temp
+-- XCHG: 87 /r
+-- temp := DEST; DEST := SRC; SRC := temp. Flags: none.
 effect s (Xchg dest src) = goes (with_register (with_register s dest (get s.regs src)) src (get s.regs dest))
--- TEST: temp := SRC1 AND SRC2, which is not kept. Flags: by temp, as AND.
+-- TEST: 85 /r
+-- temp := SRC1 AND SRC2, which is not kept. Flags: all four, by temp.
 effect s (Test a b) = goes (with_flags s (bit_flags (bit_and (get s.regs a) (get s.regs b))))
--- INT
+-- INT: CD ib
+-- The service of that number. Flags: none. Service.
 effect s (Int k) = service s k

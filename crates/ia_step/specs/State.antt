@@ -25,12 +25,6 @@ pub record State : Type 0 where
   -- how the machine ended, or Going
   pub ending : Ending
 
--- an image that can be loaded: it has code, and code and data fit their regions
-pub record IsImage (image : Image) : Type 0 where
-  pub code_some : 1 ≤ length image.code
-  pub code_small : length image.code ≤ 41943040
-  pub data_small : image.data_words ≤ 4194304
-
 -- where the regions begin
 abbrev pub code_base : ℕ
 code_base = 0x0100_0000
@@ -41,9 +35,22 @@ data_base = 0x0400_0000
 abbrev pub stack_base : ℕ
 stack_base = 0x0800_0000
 
--- one MiB, and a reserve of 1,024 bytes below it
+-- the stack is one MiB, with a reserve of 1,024 bytes below it
 abbrev pub stack_length : ℕ
 stack_length = 0x0010_0400
+
+-- the most bytes of code and of data that an image may have
+abbrev pub most_code : ℕ
+most_code = 41943040
+
+abbrev pub most_data : ℕ
+most_data = 16777216
+
+-- an image that can be loaded: it has code, and code and data fit their regions
+pub record IsImage (image : Image) : Type 0 where
+  pub code_some : 1 ≤ length image.code
+  pub code_small : length image.code ≤ most_code
+  pub data_small : image.data_words * 4 ≤ most_data
 
 -- the state with another value in a register, with other flags, at another instruction
 abbrev pub with_register : State → Reg → ℕ → State

@@ -14,3 +14,6 @@ pub mod registers;
 
 pub use machine::Machine;
 pub use out::{Ending, FaultKind, RunOut, StepOut};
+
+#[cfg(test)]
+mod tests;

@@ -47,7 +47,7 @@ pub struct Machine {
 }
 
 impl Model for Machine {
-    ghost use Rattle.ia_step.specs.State.{State};
+    ghost use Rattle.ia_step.specs.State.{State, most_code, most_data, stack_length};
     ghost use Rattle.std.specs.Prelude.{◌≤◌, ◌≡◌, length};
 
     ghost Value = { State };
@@ -64,9 +64,9 @@ impl Model for Machine {
       ending = m.ending;
     } };
 
-    ghost invariant = { λ m. (length m.code.items ≤ 41943040)
-        × (length m.storage.items ≤ 16777216)
-        × (length m.stack.items ≡ 1049600)
+    ghost invariant = { λ m. (length m.code.items ≤ most_code)
+        × (length m.storage.items ≤ most_data)
+        × (length m.stack.items ≡ stack_length)
         × (m.place ≤ length m.input.items) };
 }
 

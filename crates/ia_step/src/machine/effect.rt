@@ -1,7 +1,7 @@
 // What each instruction does, in the order of `specs/Effect`.
 
 ghost use Rattle.std.specs.Prelude.{◌≡◌, ◌≤◌, length, slice_get};
-ghost use Rattle.ia_step.specs.State.{with_register};
+ghost use Rattle.ia_step.specs.State.{most_data, stack_base, with_register};
 ghost use Rattle.ia_step.specs.Registers.{address_of};
 ghost use Rattle.ia_step.specs.Effect.{lies_in, branch as branch_of, set as set_of, trap_of};
 ghost use Rattle.ia_step.specs.Effect.{load as load_of, store as store_of, read_rm as read_rm_of, write_rm as write_rm_of, push as push_of, pop as pop_of};
@@ -20,8 +20,8 @@ use ia_code::ins::{AluOp, Ins, MemAddr, Reg, Rm};
 use pra_base::TrapKind;
 
 fn lies_within(base: u32, region: &[u8], address: u32) -> bool
-    requires low { base ≤ 0x0800_0000 }
-    requires small { length region.now ≤ 16777216 }
+    requires low { base ≤ stack_base }
+    requires small { length region.now ≤ most_data }
     ensures { result ≡ lies_in address base region.now }
 {
     base <= address && u64::from(address) + 4 <= u64::from(base) + region.len() as u64
