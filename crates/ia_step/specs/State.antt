@@ -46,12 +46,6 @@ most_code = 41943040
 abbrev pub most_data : ℕ
 most_data = 16777216
 
--- an image that can be loaded: it has code, and code and data fit their regions
-pub record IsImage (image : Image) : Type 0 where
-  pub code_some : 1 ≤ length image.code
-  pub code_small : length image.code ≤ most_code
-  pub data_small : image.data_words * 4 ≤ most_data
-
 -- the state with another value in a register, with other flags, at another instruction
 abbrev pub with_register : State → Reg → ℕ → State
 with_register s r v = record s { regs = with_reg s.regs r v }

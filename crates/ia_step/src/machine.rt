@@ -2,7 +2,8 @@
 
 ghost use Rattle.std.specs.Prelude.{◌≡◌, ◌≤◌, ◌+◌, ◌*◌, ℕ, length, IfOk, OnOk, OnErr};
 ghost use Rattle.ia_step.specs.Memory.{zeros as zeros_of};
-ghost use Rattle.ia_step.specs.State.{IsImage, start, over};
+ghost use Rattle.ia_code.specs.Image.{IsImage};
+ghost use Rattle.ia_step.specs.State.{start, over};
 ghost use Rattle.ia_step.specs.Views.{OnDone};
 ghost use Rattle.ia_step.specs.Step.{fetch as fetch_of, execute as execute_of, step as step_of};
 ghost use Rattle.ia_step.specs.Run.{ran, told, noted, is_going as is_going_of};
