@@ -16,7 +16,7 @@ pub(crate) fn one_more(count: u64) -> u64
 }
 
 /// Calls, numbered from 1, some of which are to fail, and the faults so far.
-#[derive(Drop)]
+#[derive(Debug, Drop)]
 pub struct Calls {
     failing: Vec<u64>,
     made: u64,

@@ -15,7 +15,7 @@ pub use files::{FileFault, Folder};
 pub use host::{HostFolder, HostSink, HostSource};
 pub use memory::{MemFolder, MemSink, MemSource};
 pub use quiet::{QuietFolder, QuietSink, QuietSource};
-pub use streams::{Failed, ReadAll, Sink, Source, WriteFault, read_all, write_all};
+pub use streams::{Failed, LONGEST_READ, ReadAll, Sink, Source, WriteFault, read_all, write_all};
 
 #[cfg(test)]
 mod tests;

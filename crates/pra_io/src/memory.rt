@@ -1,7 +1,7 @@
 // A folder, a source and a sink in memory, which fail at listed calls.
 
 ghost use Rattle.std.specs.Option.{option_copied};
-ghost use Rattle.std.specs.Prelude.{◌⊎◌, ◌↔◌, ◌-◌, min, IsErr, IsErrOf, ◌≡◌, ◌≢◌, List, IfErr, ◌≤◌, ◌<◌, ℕ, [], None, Some, vec_len, vec_capacity, length, take, drop, OnOk, IfOk, IfSome, string_bytes};
+ghost use Rattle.std.specs.Prelude.{◌⊎◌, ◌↔◌, ◌-◌, min, IsErr, IsErrOf, ◌≡◌, ◌≢◌, List, IfErr, ◌≤◌, ◌<◌, ℕ, [], None, Some, vec_len, vec_capacity, length, take, drop, OnOk, IfOk, IsSomeAnd, string_bytes};
 ghost use Rattle.std.specs.Io.{ReadsAtMost, WritesAtMost};
 ghost use Rattle.std.specs.Io.KnownBytes.{ReadConsumes, WriteAppends};
 ghost use Rattle.pra_io.specs.Calls.{no_calls, FailsNext, Counts, CountsFile};
@@ -51,7 +51,7 @@ pub(crate) fn put_first(
 ///
 /// Its calls are numbered from 1, reads and writes together, and it fails at the listed ones and where an absent name is
 /// read. It has one count of faults for all names, for reading and for writing.
-#[derive(Drop)]
+#[derive(Debug, Drop)]
 pub struct MemFolder {
     files: Vec<Entry>,
     calls: Calls,
@@ -102,7 +102,7 @@ impl Folder for MemFolder {
     fn read_file(&mut self, alloc: Global, name: &str, max: usize) -> Result<Vec<u8>, FileFault>
         ensures bytes { IfOk result (λ v. folder_file self.old name.now ≡ Some v.items) }
         ensures size { IfOk result (λ v. vec_len v ≤ max) }
-        ensures too_long { IsErrOf result FileFault.TooLong → IfSome (folder_file self.old name.now) (λ held. max < length held) }
+        ensures too_long { IsErrOf result FileFault.TooLong → IsSomeAnd (folder_file self.old name.now) (λ held. max < length held) }
         ensures same { (n : List ℕ) → folder_file self.new n ≡ folder_file self.old n }
         ensures cause { FileCause name.now (folder_faults self.old) (folder_faults self.new) (folder_faults self.old) (folder_faults self.new) result }
 
@@ -150,7 +150,7 @@ pub(crate) fn copy_front(rest: &[u8], buf: &mut [u8], piece: usize) -> usize
 }
 
 /// A source in memory, which gives at most a piece at a time and fails at the listed calls, numbered from 1.
-#[derive(Drop)]
+#[derive(Debug, Drop)]
 pub struct MemSource {
     bytes: Vec<u8>,
     at: usize,
@@ -221,7 +221,7 @@ impl Source for MemSource {
 
 /// A sink in memory, which takes at most a piece at a time, and no more than its capacity in all. It fails at the listed
 /// calls, numbered from 1, and where it is full.
-#[derive(Drop)]
+#[derive(Debug, Drop)]
 pub struct MemSink {
     bytes: Vec<u8>,
     capacity: usize,

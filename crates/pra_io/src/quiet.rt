@@ -8,7 +8,7 @@ use crate::streams::{Failed, Sink, Source};
 use std::alloc::Global;
 
 /// A folder over one file: a name that was never written reads that file, and a written one what was last written to it.
-#[derive(Drop)]
+#[derive(Debug, Drop)]
 pub struct QuietFolder {
     given: Vec<u8>,
     written: Vec<Entry>,
@@ -59,7 +59,7 @@ impl Folder for QuietFolder {
 }
 
 /// A source that never fails.
-#[derive(Drop)]
+#[derive(Debug, Drop)]
 pub struct QuietSource {
     bytes: Vec<u8>,
     at: usize,
@@ -98,7 +98,7 @@ impl Source for QuietSource {
 }
 
 /// A sink that never fails, and tells only how many bytes were put.
-#[derive(Drop)]
+#[derive(Debug, Drop)]
 pub struct QuietSink {
     count: u64,
 }

@@ -48,8 +48,9 @@ fn write_all_pieces(rt: HostRuntime) -> Result<(), Fail> {
 #[test]
 fn a_folder_in_memory_fails_as_told(rt: HostRuntime) -> Result<(), Fail> {
     let alloc = rt.alloc();
-    let name = String::from_str(rt.alloc(), "a")?;
-    let files = vec![in rt.alloc(); (name, b"123".to_vec(rt.alloc())?)]?;
+    let first = (String::from_str(alloc, "a")?, b"123".to_vec(alloc)?);
+    let second = (String::from_str(alloc, "c")?, b"6".to_vec(alloc)?);
+    let files = vec![in alloc; first, second]?;
     let mut folder = MemFolder::new(files, vec![in rt.alloc(); 4, 6]?);
     assert_eq!(rt;
         folder.read_file(alloc, "a", 3)?.as_slice(),
@@ -61,6 +62,7 @@ fn a_folder_in_memory_fails_as_told(rt: HostRuntime) -> Result<(), Fail> {
     folder.write_file(alloc, "b", b"4")?;
     assert_eq!(rt; folder.write_file(alloc, "b", b"5"), Err(FileFault::Failed));
     assert_eq!(rt; folder.file("b"), Some(b"4".as_slice()));
+    assert_eq!(rt; folder.file("c"), Some(b"6".as_slice()));
     assert_eq!(rt; folder.faults(), 3);
     Ok(())
 }
