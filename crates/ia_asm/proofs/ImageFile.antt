@@ -71,7 +71,7 @@ module _ (bytes : List ℕ) (is : IsBytes bytes) (e : broken bytes ≡ None) whe
   is_valid image code words =
       let k = kept bytes e in
       let n : length image.code ≡ number_at 8 bytes = ap length code ∙ code_length in
-      record { code_some = omega (arith, n, k.code_some); code_most = omega (arith, n, k.code_most); data_most = omega (arith, words, k.words) }
+      record { some_code = omega (arith, n, k.code_some); code = omega (arith, n, k.code_most); data_words = omega (arith, words, k.words) }
 
   spelled : (image : Image) → image.code ≡ drop HEADER_BYTES bytes → image.data_words ≡ number_at 12 bytes → bytes ≡ image_bytes_of image
   spelled image code words =
@@ -98,8 +98,8 @@ code_kept n long l h e = rw (at_most_true 1 n l, at_most_true n MAX_CODE_BYTES h
 -- the file of a valid image has no broken field
 pub broken-image_bytes_of : (image : Image) → IsImage image → broken (image_bytes_of image) ≡ None
 broken-image_bytes_of image is =
-    let n : number_at 8 (image_bytes_of image) ≡ length image.code = from_le_bytes-to_le_bytes_4 (length image.code) (omega (arith, is.code_most)) in
-    let words : number_at 12 (image_bytes_of image) ≡ image.data_words = from_le_bytes-to_le_bytes_4 image.data_words (omega (arith, is.data_most)) in
+    let n : number_at 8 (image_bytes_of image) ≡ length image.code = from_le_bytes-to_le_bytes_4 (length image.code) (omega (arith, is.code)) in
+    let words : number_at 12 (image_bytes_of image) ≡ image.data_words = from_le_bytes-to_le_bytes_4 image.data_words (omega (arith, is.data_words)) in
     all_kept (image_bytes_of image) (at_most_true HEADER_BYTES _ (omega arith)) refl refl
-    (code_kept (number_at 8 (image_bytes_of image)) (length (image_bytes_of image)) (omega (arith, n, is.code_some)) (omega (arith, n, is.code_most)) (omega (arith, n)))
-    (at_most_true (number_at 12 (image_bytes_of image)) MAX_DATA_WORDS (omega (arith, words, is.data_most)))
+    (code_kept (number_at 8 (image_bytes_of image)) (length (image_bytes_of image)) (omega (arith, n, is.some_code)) (omega (arith, n, is.code)) (omega (arith, n)))
+    (at_most_true (number_at 12 (image_bytes_of image)) MAX_DATA_WORDS (omega (arith, words, is.data_words)))
