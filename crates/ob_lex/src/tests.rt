@@ -3,7 +3,7 @@ use ob_syntax::Kind;
 use std::test::Fail;
 
 #[test]
-fn kinds_and_spans(rt: HostRuntime) -> Result<(), Fail> {
+fn nested_comment(rt: HostRuntime) -> Result<(), Fail> {
     let source = b"MODULE M; (* a (* b *) c *) BEGIN Write(3) END M.";
     let expected = [
         (Kind::KwModule, 0, 6),
