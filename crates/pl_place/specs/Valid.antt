@@ -1,11 +1,9 @@
 -- When placed code is valid.
-use Rattle.std.specs.Prelude.{◌≡◌, ◌≢◌, ℕ, suc, ◌+◌, ◌<◌, ◌≤◌, ◌⊎◌, Bool, true, false, List, [], ◌∷◌, ◌++◌, length, slice_get, slice_index_or, Option, Some, None}
+use Rattle.std.specs.Prelude.{◌≡◌, ◌≢◌, ℕ, suc, ◌+◌, ◌<◌, ◌≤◌, ◌⊎◌, true, false, List, [], ◌∷◌, ◌++◌, length, slice_get, Some}
 use Rattle.pra_base.specs.declared.ids.Place.{Place}
 use Rattle.pra_base.specs.declared.ids.VarId.{VarId}
-use Rattle.pra_base.specs.declared.code.VarKind.{VarKind}
 use Rattle.pra_base.specs.declared.code.VarKind.TheVariants.{Param, Plain}
 use Rattle.pra_base.specs.declared.code.VInstr.{VInstr}
-use Rattle.pra_base.specs.declared.code.Block.{Block}
 use Rattle.pra_base.specs.Code.{block_in, IsTarget, EachInstr}
 use Rattle.pra_base.specs.Places.{number, allows, meet, has_register, is_mem}
 use Rattle.pra_base.specs.Operands.{Role, operands, own_places}
