@@ -39,8 +39,8 @@ pub fn mark_reads(set: &mut BitSet, instr: &VInstr)
     ensures words { length set.new ≡ length set.old }
     ensures members { (v : ℕ) → contains set.new v ≡ (reads instr.now v || contains set.old v) }
 {
-    let row = operands(instr);
-    insert_all(set, row.reads.as_slice());
+    let marked = operands(instr);
+    insert_all(set, marked.reads.as_slice());
 }
 
 /// From what is live after the instruction to what is live before it.

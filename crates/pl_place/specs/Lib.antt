@@ -1,0 +1,3 @@
+pub mod Placed
+pub mod Valid
+pub mod Machine

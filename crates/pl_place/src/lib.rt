@@ -1,0 +1,6 @@
+//! Placed code: the instructions of selected code with the places of their operands, and moves between them.
+#![tactic(auto)]
+
+mod placed;
+
+pub use placed::{LBlock, LInstr, LProc, frame_bytes};
