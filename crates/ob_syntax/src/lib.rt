@@ -2,5 +2,11 @@
 #![tactic(auto)]
 
 pub mod token;
+pub mod tree;
 
 pub use token::{Kind, Token};
+pub use tree::{
+    Arm, ConstDecl, Decls, Designator, Expr, Factor, FactorForm, Module, NameList, NextFactor,
+    NextTerm, Proc, Relation, Section, Selector, SelectorForm, SimpleExpr, Span, Stmt, StmtForm,
+    Term, TypeDecl, TypeExpr, TypeForm,
+};
