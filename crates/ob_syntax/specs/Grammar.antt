@@ -1,5 +1,5 @@
--- The grammar of Oberon-0, production by production (Wirth, Compiler Construction, appendix A.1; with unequal sides of
--- each option and repetition as productions of their own).
+-- The grammar of Oberon-0, production by production (Wirth, Compiler Construction, appendix A.1). Each
+-- option and each repetition of the book's notation is a nonterminal of its own.
 use Rattle.std.specs.Prelude.{List, [], ◌∷◌, ℤ}
 use Rattle.ob_syntax.specs.declared.token.Kind.{Kind}
 use Rattle.ob_syntax.specs.declared.token.Kind.TheVariants.{Ident, Number, KwArray, KwBegin, KwConst, KwDiv, KwDo, KwElse, KwElsif, KwEnd, KwIf, KwMod, KwModule, KwOf, KwOr, KwProcedure, KwRecord, KwThen, KwType, KwVar, KwWhile, Period, Comma, Semicolon, Colon, Becomes, LeftParen, RightParen, LeftBracket, RightBracket, Tilde, Times, Amp, Plus, Minus, Equal, Unequal, Less, LessEqual, Greater, GreaterEqual}

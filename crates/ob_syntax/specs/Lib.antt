@@ -1,2 +1,4 @@
 pub mod Forms
 pub mod Grammar
+pub mod Predict
+pub mod Tree
