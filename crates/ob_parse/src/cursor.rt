@@ -1,6 +1,6 @@
 //! A place among the tokens.
 
-ghost use Rattle.std.specs.Prelude.{◌≡◌, ◌≢◌, ◌+◌, ◌^◌, ◌<◌, ◌≤◌, ℕ, length, Some, None, MatchResult};
+ghost use Rattle.std.specs.Prelude.{◌≡◌, ◌≢◌, ◌+◌, ◌^◌, ◌<◌, ◌≤◌, ℕ, length, Some, None, MatchResult, MatchBool};
 
 use ob_syntax::{Kind, Span, Token};
 use std::alloc::{AllocError, AllocFailed, Global};
@@ -50,7 +50,8 @@ pub struct Parser<'a> {
 
 impl<'a> Parser<'a> {
     ghost use Rattle.ob_parse.specs.Reading.{left, place, kinds, IsNext};
-    ghost use Rattle.ob_syntax.specs.Predict.{first};
+    ghost use Rattle.ob_syntax.specs.Predict.{first, by_first};
+    ghost use Rattle.ob_syntax.specs.Grammar.{Selectors, next_selector, no_selectors, ArgumentList, arguments, no_arguments};
     ghost use Rattle.ob_syntax.specs.Tree.{span_to};
     ghost use Rattle.ob_syntax.specs.declared.token.Kind.{Kind};
 
@@ -299,6 +300,182 @@ impl<'a> Parser<'a> {
                 Ok(())
             }
             _ => Err(ParseFault::Grammar(self.at)),
+        }
+    }
+
+    /// Goes past a `,`, if it is next.
+    pub fn accept_comma(&mut self) -> bool
+        ensures { MatchBool result (IsNext Kind.Comma self.old self.new) ((self.new ≡ self.old) × (first (left self.old) ≢ Some Kind.Comma)) }
+    {
+        match self.peek() {
+            Some(Kind::Comma) => {
+                self.advance();
+                true
+            }
+            _ => false,
+        }
+    }
+
+    /// Goes past a `;`, if it is next.
+    pub fn accept_semicolon(&mut self) -> bool
+        ensures { MatchBool result (IsNext Kind.Semicolon self.old self.new) ((self.new ≡ self.old) × (first (left self.old) ≢ Some Kind.Semicolon)) }
+    {
+        match self.peek() {
+            Some(Kind::Semicolon) => {
+                self.advance();
+                true
+            }
+            _ => false,
+        }
+    }
+
+    /// Goes past a `(`, if it is next.
+    pub fn accept_left_paren(&mut self) -> bool
+        ensures { MatchBool result (IsNext Kind.LeftParen self.old self.new) ((self.new ≡ self.old) × (first (left self.old) ≢ Some Kind.LeftParen)) }
+    {
+        match self.peek() {
+            Some(Kind::LeftParen) => {
+                self.advance();
+                true
+            }
+            _ => false,
+        }
+    }
+
+    /// Goes past ELSIF, if it is next.
+    pub fn accept_elsif(&mut self) -> bool
+        ensures { MatchBool result (IsNext Kind.KwElsif self.old self.new) ((self.new ≡ self.old) × (first (left self.old) ≢ Some Kind.KwElsif)) }
+    {
+        match self.peek() {
+            Some(Kind::KwElsif) => {
+                self.advance();
+                true
+            }
+            _ => false,
+        }
+    }
+
+    /// Goes past ELSE, if it is next.
+    pub fn accept_else(&mut self) -> bool
+        ensures { MatchBool result (IsNext Kind.KwElse self.old self.new) ((self.new ≡ self.old) × (first (left self.old) ≢ Some Kind.KwElse)) }
+    {
+        match self.peek() {
+            Some(Kind::KwElse) => {
+                self.advance();
+                true
+            }
+            _ => false,
+        }
+    }
+
+    /// Goes past BEGIN, if it is next.
+    pub fn accept_begin(&mut self) -> bool
+        ensures { MatchBool result (IsNext Kind.KwBegin self.old self.new) ((self.new ≡ self.old) × (first (left self.old) ≢ Some Kind.KwBegin)) }
+    {
+        match self.peek() {
+            Some(Kind::KwBegin) => {
+                self.advance();
+                true
+            }
+            _ => false,
+        }
+    }
+
+    /// Goes past CONST, if it is next.
+    pub fn accept_const(&mut self) -> bool
+        ensures { MatchBool result (IsNext Kind.KwConst self.old self.new) ((self.new ≡ self.old) × (first (left self.old) ≢ Some Kind.KwConst)) }
+    {
+        match self.peek() {
+            Some(Kind::KwConst) => {
+                self.advance();
+                true
+            }
+            _ => false,
+        }
+    }
+
+    /// Goes past TYPE, if it is next.
+    pub fn accept_type(&mut self) -> bool
+        ensures { MatchBool result (IsNext Kind.KwType self.old self.new) ((self.new ≡ self.old) × (first (left self.old) ≢ Some Kind.KwType)) }
+    {
+        match self.peek() {
+            Some(Kind::KwType) => {
+                self.advance();
+                true
+            }
+            _ => false,
+        }
+    }
+
+    /// Goes past VAR, if it is next.
+    pub fn accept_var(&mut self) -> bool
+        ensures { MatchBool result (IsNext Kind.KwVar self.old self.new) ((self.new ≡ self.old) × (first (left self.old) ≢ Some Kind.KwVar)) }
+    {
+        match self.peek() {
+            Some(Kind::KwVar) => {
+                self.advance();
+                true
+            }
+            _ => false,
+        }
+    }
+
+    /// Whether a name is next.
+    pub fn is_ident(&self) -> bool
+        ensures { MatchBool result (first (left self.now) ≡ Some Kind.Ident) (first (left self.now) ≢ Some Kind.Ident) }
+    {
+        matches!(self.peek(), Some(Kind::Ident))
+    }
+
+    /// Whether PROCEDURE is next.
+    pub fn is_procedure(&self) -> bool
+        ensures { MatchBool result (first (left self.now) ≡ Some Kind.KwProcedure) (first (left self.now) ≢ Some Kind.KwProcedure) }
+    {
+        matches!(self.peek(), Some(Kind::KwProcedure))
+    }
+
+    /// Whether IF is next.
+    pub fn is_if(&self) -> bool
+        ensures { MatchBool result (first (left self.now) ≡ Some Kind.KwIf) (first (left self.now) ≢ Some Kind.KwIf) }
+    {
+        matches!(self.peek(), Some(Kind::KwIf))
+    }
+
+    /// Whether WHILE is next.
+    pub fn is_while(&self) -> bool
+        ensures { MatchBool result (first (left self.now) ≡ Some Kind.KwWhile) (first (left self.now) ≢ Some Kind.KwWhile) }
+    {
+        matches!(self.peek(), Some(Kind::KwWhile))
+    }
+
+    /// Whether `.` or `[` is next.
+    pub fn begins_selector(&self) -> bool
+        ensures { MatchBool result (by_first Selectors (first (left self.now)) ≡ Some next_selector) (by_first Selectors (first (left self.now)) ≡ Some no_selectors) }
+    {
+        let Some(kind) = self.peek() else {
+            return false;
+        };
+        match kind {
+            Kind::Period | Kind::LeftBracket => true,
+            _ => false,
+        }
+    }
+
+    /// Whether the first token of an expression is next.
+    pub fn begins_expression(&self) -> bool
+        ensures { MatchBool result (by_first ArgumentList (first (left self.now)) ≡ Some arguments) (by_first ArgumentList (first (left self.now)) ≡ Some no_arguments) }
+    {
+        let Some(kind) = self.peek() else {
+            return false;
+        };
+        match kind {
+            Kind::Plus
+            | Kind::Minus
+            | Kind::Ident
+            | Kind::Number(_)
+            | Kind::LeftParen
+            | Kind::Tilde => true,
+            _ => false,
         }
     }
 }

@@ -2,5 +2,6 @@
 #![tactic(auto)]
 
 mod cursor;
+mod expression;
 
 pub use cursor::ParseFault;
