@@ -1,2 +1,5 @@
+pub mod Choices
+pub mod Loops
+pub mod Moves
 pub mod Steps
 pub mod Tokens

@@ -7,7 +7,7 @@ use Rattle.ob_syntax.specs.Forms.{Form, Parts, made, done, taken, part, spell, s
 use Rattle.ob_syntax.specs.Predict.{first, choose, Ends, Follow}
 use Rattle.ob_syntax.specs.Tree.{Tree, Values, tree, values, tree_by}
 use Rattle.ob_syntax.proofs.Unique.{chosen_one, one_form}
-use Rattle.ob_syntax.proofs.Least.{least, least_flat, least_parts, least_deep, floor, floor_least, nest_more, spells_apart, spell_apart}
+use Rattle.ob_syntax.proofs.Least.{least, least_flat, least_parts, least_deep, base, floor, floor_least, nest_more, spells_apart, spell_apart}
 use Rattle.ob_parse.specs.declared.cursor.Parser.{Parser}
 use Rattle.ob_parse.specs.declared.cursor.ParseFault.{ParseFault}
 use Rattle.ob_parse.specs.declared.cursor.ParseFault.TheVariants.{Grammar, TooDeep, OutOfMemory}
@@ -96,6 +96,11 @@ one_deeper within room is = record { fits = omega arith; most = λ e h. omega ar
 pub at_least_one : (room : ℕ) → 1 ≤ room → Inside inner room room
 at_least_one room le = record { fits = omega arith; most = λ e h. omega arith }
 
+pub roomier : {n : Nonterminal} {less : ℕ} {t : Tree n} {old new : Parser} → IsRead n less t old new → (room : ℕ) → less ≤ room → IsRead n room t old new
+roomier r room le = let d = r.deep in record {
+  form = r.form; read = r.read; from = r.from; count = r.count; spelled = r.spelled; tree_is = r.tree_is; place_is = r.place_is; deep = omega arith; follow = r.follow;
+}
+
 part_only : (d : Nesting) (m : Nonterminal) (ss : List Symbol) (form : Form m) (read next after : List Kind) (e : ℕ) → ((ks : List Kind) → spell m form ks ≡ read ++ ks) → Ends m form next
     → (g : Parts (phrase d m ∷ ss)) → Follow (phrase d m ∷ ss) g after → read ++ next ≡ spells (phrase d m ∷ ss) g after → depths (phrase d m ∷ ss) g ≤ e
     → (g : Parts ss) × Follow ss g after × (next ≡ spells ss g after) × (depths ss g ≤ e)
@@ -136,31 +141,34 @@ closed w = record {
 no_rule : (n : Nonterminal) (next : List Kind) → choose n next ≡ None → (f : Form n) (after : List Kind) → Ends n f after → next ≡ spell n f after → ⊥
 no_rule n next c (made _ r ps) after ends eq = let e = sym c ∙ ap (choose n) eq ∙ ends.0 in cc
 
-least_goes : (n : Nonterminal) (room : ℕ) → GoesOn n room []
-least_goes n room = (least n, (let a = least_flat n in omega arith), spell n (least n) [], λ ks. spell_apart n (least n) ks)
+least_goes : (n : Nonterminal) (room : ℕ) → base n ≤ room → GoesOn n room []
+least_goes n room low = (least n, (let a = least_flat n in omega arith), spell n (least n) [], λ ks. spell_apart n (least n) ks)
 
 -- no production begins with the next token
-pub refused : (n : Nonterminal) (room : ℕ) (p : Parser) → Chooses n None p → Fails n room p p (Grammar (place p))
-refused n room p chosen =
+pub refused : (n : Nonterminal) (room : ℕ) (p : Parser) → base n ≤ room → Chooses n None p → Fails n room p p (Grammar (place p))
+refused n room p low chosen =
     (refl, record {
-      read = []; from = refl; count = omega arith; goes = least_goes n room;
+      read = []; from = refl; count = omega arith; goes = least_goes n room low;
       stuck = λ d next same f after deep ends eq. no_rule n next (chosen next same) f after ends eq;
     })
 
 -- the production that begins with the next token nests deeper than there is room
-pub too_deep : {n : Nonterminal} (r : Rule n) (room : ℕ) (p : Parser) (k : Kind) → Chooses n (Some r) p → first (left p) ≡ Some k → room < floor (right r) → (beyond : (d : ℕ) × GoesOn n d (k ∷ []))
+pub too_deep : {n : Nonterminal} (r : Rule n) (room : ℕ) (p : Parser) (k : Kind) → Chooses n (Some r) p → first (left p) ≡ Some k → room ≡ 0 → base n ≤ 0 → 1 ≤ floor (right r) → (beyond : (d : ℕ) × GoesOn n d (k ∷ []))
     → Fails n room p p (TooDeep (place p))
-too_deep {n = n} r room p k chosen at small beyond =
+too_deep {n = n} r room p k chosen at none flat low beyond =
     (refl, record {
-      read = []; from = refl; count = omega arith; goes = least_goes n room; next = k; next_is = at; deeper = beyond;
+      read = []; from = refl; count = omega arith; goes = least_goes n room (omega arith); next = k; next_is = at; deeper = beyond;
       stuck = λ next same f after deep ends eq.
           let g = opened_only n r next (chosen next same) f after ends eq in
           let a = floor_least (right r) g.0 in let b = g.3 in omega arith;
     })
 
 -- a production whose first symbol is the token k
-pub begins_with : (n : Nonterminal) (r : Rule n) (k : Kind) (ps : Parts (right r)) (more : List Kind) → ((ks : List Kind) → spells (right r) ps ks ≡ k ∷ (more ++ ks)) → (d : ℕ) × GoesOn n d (k ∷ [])
-begins_with n r k ps more is = (depths (right r) ps, (made n r ps, omega arith, more, is))
+pub begins_with : (n : Nonterminal) (r : Rule n) (k : Kind) (ss : List Symbol) (put : Parts (token k ∷ ss) → Parts (right r))
+    → ((ps : Parts (token k ∷ ss)) (ks : List Kind) → spells (right r) (put ps) ks ≡ spells (token k ∷ ss) ps ks) → (d : ℕ) × GoesOn n d (k ∷ [])
+begins_with n r k ss put same =
+    let ps = taken k ss (least_parts ss) in
+    (depths (right r) (put ps), (made n r (put ps), omega arith, spells ss (least_parts ss) [], λ ks. same ps ks ∙ ap (λ us. k ∷ us) (spells_apart ss (least_parts ss) ks)))
 
 joined : (a b c d ks : List Kind) → a ++ (b ++ (c ++ (d ++ ks))) ≡ (a ++ b) ++ ((c ++ d) ++ ks)
 joined a b c d ks = ap (λ us. a ++ (b ++ us)) (sym (append_assoc c d ks)) ∙ sym (append_assoc a b ((c ++ d) ++ ks))
@@ -172,6 +180,16 @@ begins_inside n r d m ss put same read (e, (f, le, more, is)) =
     let ps = part d m ss f (least_parts ss) in
     (depths (right r) (put ps), (made n r (put ps), omega arith, more ++ spells ss (least_parts ss) [],
     λ ks. same ps ks ∙ is (spells ss (least_parts ss) ks) ∙ ap (λ us. read ++ (more ++ us)) (spells_apart ss (least_parts ss) ks) ∙ ap (λ us. read ++ us) (sym (append_assoc more (spells ss (least_parts ss) []) ks))))
+
+-- a production whose first symbol may be without tokens, and whose second goes on with the tokens that were read
+pub begins_behind : (n : Nonterminal) (r : Rule n) (m m' : Nonterminal) (ss : List Symbol) (put : Parts (phrase level m ∷ phrase level m' ∷ ss) → Parts (right r))
+    → ((ps : Parts (phrase level m ∷ phrase level m' ∷ ss)) (ks : List Kind) → spells (right r) (put ps) ks ≡ spells (phrase level m ∷ phrase level m' ∷ ss) ps ks)
+    → (none : Form m) → ((ks : List Kind) → spell m none ks ≡ ks) → (read : List Kind) → (d : ℕ) × GoesOn m' d read → (d : ℕ) × GoesOn n d read
+begins_behind n r m m' ss put same none nothing read (e, (f, le, more, is)) =
+    let ps = part level m (phrase level m' ∷ ss) none (part level m' ss f (least_parts ss)) in
+    (depths (right r) (put ps), (made n r (put ps), omega arith, more ++ spells ss (least_parts ss) [],
+    λ ks. same ps ks ∙ nothing (spell m' f (spells ss (least_parts ss) ks)) ∙ is (spells ss (least_parts ss) ks) ∙ ap (λ us. read ++ (more ++ us)) (spells_apart ss (least_parts ss) ks)
+        ∙ ap (λ us. read ++ us) (sym (append_assoc more (spells ss (least_parts ss) []) ks))))
 
 module _ {n : Nonterminal} {ss : List Symbol} {room : ℕ} {wrap : ℕ → Values ss → Tree n} {old now : Parser} (w : Waits n ss room wrap old now) where
   goes_here : floor ss ≤ room → GoesOn n room w.read
@@ -277,19 +295,19 @@ sole_only : {n : Nonterminal} (ss : List Symbol) (next after : List Kind) (e : �
     → (f : Form n) × Ends n f after × (next ≡ spell n f after) × (depth n f ≤ e)
 sole_only ss next after e (part _ _ _ f done) h eq le = (f, h.0, eq, omega arith)
 
--- one more piece of the repetition was read, or its beginning
-pub again : {n : Nonterminal} {ss : List Symbol} {room : ℕ} {wrap : ℕ → Tree n × Unit {0} → Tree n} {wrap' : ℕ → Values ss → Tree n} {old now new : Parser}
-    → Waits n (phrase level n ∷ []) room wrap old now → Waits n ss room wrap' now new → Waits n ss room (λ j v. wrap j (wrap' j v, tt)) old new
-again {n = n} {ss = ss} {room = room} {wrap = wrap} {wrap' = wrap'} {old = old} {now = now} {new = new} a b = record {
-  plug = λ g. a.plug (part level n [] (b.plug g) done);
+-- the last phrase of a production was read up to the symbols ss, as one more piece of a repetition
+pub again : {n m : Nonterminal} {ss : List Symbol} {room : ℕ} {wrap : ℕ → Tree m × Unit {0} → Tree n} {wrap' : ℕ → Values ss → Tree m} {old now new : Parser}
+    → Waits n (phrase level m ∷ []) room wrap old now → Waits m ss room wrap' now new → Waits n ss room (λ j v. wrap j (wrap' j v, tt)) old new
+again {n = n} {m = m} {ss = ss} {room = room} {wrap = wrap} {wrap' = wrap'} {old = old} {now = now} {new = new} a b = record {
+  plug = λ g. a.plug (part level m [] (b.plug g) done);
   read = a.read ++ b.read;
   from = from_both a.read b.read (left old) (left now) (left new) a.from b.from;
   count = counted a.read b.read (place old) (place now) (place new) a.count b.count;
-  spelled = λ g ks. a.spelled (part level n [] (b.plug g) done) ks ∙ ap (λ us. a.read ++ us) (b.spelled g ks) ∙ sym (append_assoc a.read b.read (spells ss g ks));
-  tree_is = λ g. a.tree_is (part level n [] (b.plug g) done) ∙ ap₂ (λ j t. wrap j (t, tt)) (b.end_is g) (b.tree_is g);
-  end_is = λ g. a.end_is (part level n [] (b.plug g) done) ∙ b.end_is g;
-  deep = λ g d le h. a.deep (part level n [] (b.plug g) done) d le (let z = b.deep g d le h in omega arith);
-  follow = λ g ks same h. a.follow (part level n [] (b.plug g) done) ks
+  spelled = λ g ks. a.spelled (part level m [] (b.plug g) done) ks ∙ ap (λ us. a.read ++ us) (b.spelled g ks) ∙ sym (append_assoc a.read b.read (spells ss g ks));
+  tree_is = λ g. a.tree_is (part level m [] (b.plug g) done) ∙ ap₂ (λ j t. wrap j (t, tt)) (b.end_is g) (b.tree_is g);
+  end_is = λ g. a.end_is (part level m [] (b.plug g) done) ∙ b.end_is g;
+  deep = λ g d le h. a.deep (part level m [] (b.plug g) done) d le (let z = b.deep g d le h in omega arith);
+  follow = λ g ks same h. a.follow (part level m [] (b.plug g) done) ks
       (ap first (b.spelled g ks) ∙ first-append b.read (spells ss g ks) (left new) same ∙ ap first (sym b.from)) (b.follow g ks same h, tt);
   only = λ next same f after ends eq.
       let there = first-append b.read next (left new) same ∙ ap first (sym b.from) in

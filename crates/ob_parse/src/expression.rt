@@ -2,11 +2,12 @@
 //!
 //! Parentheses, brackets and `~` may nest `room` deep.
 
-ghost use Rattle.std.specs.Prelude.{◌≡◌, ◌≢◌, Some, None, MatchOption, MatchBool, MatchResult};
+ghost use Rattle.std.specs.Prelude.{◌≡◌, ◌≢◌, Some, None, MatchOption};
 ghost use Rattle.ob_syntax.specs.declared.token.Kind.{Kind};
-ghost use Rattle.ob_syntax.specs.Grammar.{Selectors, Selector, Factor as AFactor, Factors, Term as ATerm, Terms, Sign, SimpleExpression, Comparison, Expression, ArgumentList, Arguments, ActualParameters, MulOp, mul_kind, AddOp, add_kind, RelationOp, relation_kind, arguments, no_arguments};
-ghost use Rattle.ob_syntax.specs.Predict.{first, by_first};
-ghost use Rattle.ob_parse.specs.Reading.{left, place, Reads, Fails, IsRead, IsNext};
+ghost use Rattle.ob_syntax.specs.Grammar as grammar;
+ghost use Rattle.ob_syntax.specs.Grammar.{MulOp, mul_kind, AddOp, add_kind, RelationOp, relation_kind};
+ghost use Rattle.ob_syntax.specs.Predict.{first};
+ghost use Rattle.ob_parse.specs.Reading.{left, Reads, IsRead, IsNext};
 
 use crate::cursor::{ParseFault, Parser};
 use ob_syntax::{Designator, Expr, Factor, FactorForm, Kind, NextFactor, NextTerm, Relation, Selector, SelectorForm, SimpleExpr, Term};
@@ -15,7 +16,7 @@ use pra_list::{Owned, Seq};
 /// `selector = {"." ident | "[" expression "]"}.`
 #[cycle(expression)]
 pub fn selectors(p: &mut Parser, room: u32) -> Result<Seq<Selector>, ParseFault>
-    ensures { Reads Selectors room p.old result p.new }
+    ensures { Reads grammar.Selectors room p.old result p.new }
 {
     let mut all = Seq::new(p.alloc);
     while p.begins_selector() {
@@ -27,7 +28,7 @@ pub fn selectors(p: &mut Parser, room: u32) -> Result<Seq<Selector>, ParseFault>
 
 #[cycle(expression)]
 fn selector(p: &mut Parser, room: u32) -> Result<Selector, ParseFault>
-    ensures { Reads Selector room p.old result p.new }
+    ensures { Reads grammar.Selector room p.old result p.new }
 {
     let start = p.at;
     let Some(kind) = p.peek() else {
@@ -60,7 +61,7 @@ fn selector(p: &mut Parser, room: u32) -> Result<Selector, ParseFault>
 /// `factor = ident selector | integer | "(" expression ")" | "~" factor.`
 #[cycle(expression)]
 fn factor(p: &mut Parser, room: u32) -> Result<Factor, ParseFault>
-    ensures { Reads AFactor room p.old result p.new }
+    ensures { Reads grammar.Factor room p.old result p.new }
 {
     let start = p.at;
     let Some(kind) = p.peek() else {
@@ -112,7 +113,7 @@ fn factor(p: &mut Parser, room: u32) -> Result<Factor, ParseFault>
 /// `term = factor {("*" | "DIV" | "MOD" | "&") factor}.`
 #[cycle(expression)]
 fn term(p: &mut Parser, room: u32) -> Result<Term, ParseFault>
-    ensures { Reads ATerm room p.old result p.new }
+    ensures { Reads grammar.Term room p.old result p.new }
 {
     let start = p.at;
     let first = factor(p, room)?;
@@ -123,7 +124,7 @@ fn term(p: &mut Parser, room: u32) -> Result<Term, ParseFault>
 
 #[cycle(expression)]
 fn factors(p: &mut Parser, room: u32) -> Result<Seq<NextFactor>, ParseFault>
-    ensures { Reads Factors room p.old result p.new }
+    ensures { Reads grammar.Factors room p.old result p.new }
 {
     let mut rest = Seq::new(p.alloc);
     while let Some(op) = mul_operator(p) {
@@ -136,7 +137,7 @@ fn factors(p: &mut Parser, room: u32) -> Result<Seq<NextFactor>, ParseFault>
 /// `SimpleExpression = ["+" | "-"] term {("+" | "-" | "OR") term}.`
 #[cycle(expression)]
 fn simple_expression(p: &mut Parser, room: u32) -> Result<SimpleExpr, ParseFault>
-    ensures { Reads SimpleExpression room p.old result p.new }
+    ensures { Reads grammar.SimpleExpression room p.old result p.new }
 {
     let start = p.at;
     let sign = sign(p);
@@ -153,7 +154,7 @@ fn simple_expression(p: &mut Parser, room: u32) -> Result<SimpleExpr, ParseFault
 
 #[cycle(expression)]
 fn terms(p: &mut Parser, room: u32) -> Result<Seq<NextTerm>, ParseFault>
-    ensures { Reads Terms room p.old result p.new }
+    ensures { Reads grammar.Terms room p.old result p.new }
 {
     let mut rest = Seq::new(p.alloc);
     while let Some(op) = add_operator(p) {
@@ -166,7 +167,7 @@ fn terms(p: &mut Parser, room: u32) -> Result<Seq<NextTerm>, ParseFault>
 /// `expression = SimpleExpression [("=" | "#" | "<" | "<=" | ">" | ">=") SimpleExpression].`
 #[cycle(expression)]
 pub fn expression(p: &mut Parser, room: u32) -> Result<Expr, ParseFault>
-    ensures { Reads Expression room p.old result p.new }
+    ensures { Reads grammar.Expression room p.old result p.new }
 {
     let start = p.at;
     let left = simple_expression(p, room)?;
@@ -181,7 +182,7 @@ pub fn expression(p: &mut Parser, room: u32) -> Result<Expr, ParseFault>
 
 #[cycle(expression)]
 fn comparison(p: &mut Parser, room: u32) -> Result<Option<Relation>, ParseFault>
-    ensures { Reads Comparison room p.old result p.new }
+    ensures { Reads grammar.Comparison room p.old result p.new }
 {
     let Some(op) = relation_operator(p) else {
         return Ok(None);
@@ -192,7 +193,7 @@ fn comparison(p: &mut Parser, room: u32) -> Result<Option<Relation>, ParseFault>
 
 /// `ActualParameters = "(" [expression {"," expression}] ")".`, or none.
 pub fn actual_parameters(p: &mut Parser, room: u32) -> Result<Seq<Expr>, ParseFault>
-    ensures { Reads ActualParameters room p.old result p.new }
+    ensures { Reads grammar.ActualParameters room p.old result p.new }
 {
     if !p.accept_left_paren() {
         return Ok(Seq::new(p.alloc));
@@ -203,7 +204,7 @@ pub fn actual_parameters(p: &mut Parser, room: u32) -> Result<Seq<Expr>, ParseFa
 }
 
 fn argument_list(p: &mut Parser, room: u32) -> Result<Seq<Expr>, ParseFault>
-    ensures { Reads ArgumentList room p.old result p.new }
+    ensures { Reads grammar.ArgumentList room p.old result p.new }
 {
     let mut all = Seq::new(p.alloc);
     if !p.begins_expression() {
@@ -272,7 +273,7 @@ fn relation_operator(p: &mut Parser) -> Option<Kind>
 }
 
 fn sign(p: &mut Parser) -> Option<Kind>
-    ensures { IsRead Sign 0 result p.old p.new }
+    ensures { IsRead grammar.Sign 0 result p.old p.new }
 {
     let kind = p.peek()?;
     match kind {

@@ -2,7 +2,7 @@
 use Rattle.std.proofs.Common.{◌≡◌, ℕ, ◌≤◌, max, List, [], ◌∷◌, ◌++◌, refl, ap, ap₂, ◌∙◌, sym, subst, arith, append_assoc, pos, lit≤}
 use Rattle.ob_syntax.specs.declared.token.Kind.{Kind}
 use Rattle.ob_syntax.specs.Grammar
-use Rattle.ob_syntax.specs.Grammar.{Nonterminal, Symbol, token, phrase, level, deeper, inner, Nesting, Rule, right, Selectors, Selector, Factor, Factors, Term, Terms, Sign, SimpleExpression, Comparison, Expression, ArgumentList, Arguments, ActualParameters, Elsifs, Else, Action, Statement, Statements, StatementSequence, Idents, IdentList, NameList, FieldList, FieldLists, TypeExpression, ByVar, Section, Sections, SectionList, FormalParameters, Procedure, Procedures, Constant, ConstantList, Constants, TypeDeclaration, TypeList, Types, VariableList, Variables, Declarations, Body, Module, no_selectors, field, number, no_factors, term, no_terms, no_sign, simple_expression, no_comparison, expression, no_arguments, last_argument, no_parameters, no_elsif, no_else, call, empty_statement, last_statement, statement_sequence, last_ident, ident_list, name_list, empty_field_list, last_field_list, type_name, by_value, section, last_section, no_sections, no_formals, procedure, no_procedures, constant, last_constant, no_constants, type_declaration, last_type, no_types, last_variables, no_variables, declarations, no_body, a_module}
+use Rattle.ob_syntax.specs.Grammar.{Nonterminal, Symbol, token, phrase, level, deeper, inner, Nesting, Rule, right, Selectors, Selector, Factor, Factors, Term, Terms, Sign, SimpleExpression, Comparison, Expression, ArgumentList, Arguments, ActualParameters, Arm, Elsifs, Arms, Else, Action, Statement, Statements, StatementSequence, Idents, IdentList, NameList, FieldList, FieldLists, FieldSequence, TypeExpression, ByVar, Section, Sections, SectionList, FormalParameters, Procedure, Procedures, Constant, ConstantList, Constants, TypeDeclaration, TypeList, Types, VariableList, Variables, Declarations, Body, Module, no_selectors, field, number, no_factors, term, no_terms, no_sign, simple_expression, no_comparison, expression, no_arguments, last_argument, no_parameters, arm, no_elsif, arms, no_else, call, empty_statement, last_statement, statement_sequence, last_ident, ident_list, name_list, empty_field_list, last_field_list, field_sequence, type_name, by_value, section, last_section, no_sections, no_formals, procedure, no_procedures, constant, last_constant, no_constants, type_declaration, last_type, no_types, last_variables, no_variables, declarations, no_body, a_module}
 use Rattle.ob_syntax.specs.Forms.{Form, Parts, made, done, taken, part, spell, spells, depth, depths, nest}
 
 -- what stands behind a form does not change its own tokens
@@ -36,6 +36,11 @@ least_declarations = made Declarations declarations (part _ _ _ (made Constants 
 abbrev least_body : Form Body
 least_body = made Body no_body done
 
+abbrev least_sequence : Form StatementSequence
+least_sequence = made StatementSequence statement_sequence (part _ _ _ (made Statement empty_statement done) (part _ _ _ (made Statements last_statement done) done))
+abbrev least_arm : Form Arm
+least_arm = made Arm arm (part _ _ _ least_expression (taken _ _ (part _ _ _ least_sequence done)))
+
 abbrev pub least : (n : Nonterminal) → Form n
 least Selectors = made Selectors no_selectors done
 least Selector = made Selector field (taken _ _ (taken _ _ done))
@@ -50,17 +55,20 @@ least Expression = least_expression
 least ArgumentList = made ArgumentList no_arguments done
 least Arguments = made Arguments last_argument done
 least ActualParameters = made ActualParameters no_parameters done
+least Arm = least_arm
+least Arms = made Arms arms (part _ _ _ least_arm (part _ _ _ (made Elsifs no_elsif done) done))
 least Elsifs = made Elsifs no_elsif done
 least Else = made Else no_else done
 least Action = made Action call (taken _ _ (part _ _ _ (made ActualParameters no_parameters done) done))
 least Statement = made Statement empty_statement done
 least Statements = made Statements last_statement done
-least StatementSequence = made StatementSequence statement_sequence (part _ _ _ (made Statement empty_statement done) (part _ _ _ (made Statements last_statement done) done))
+least StatementSequence = least_sequence
 least Idents = made Idents last_ident done
 least IdentList = least_idents
 least NameList = least_names
 least FieldList = made FieldList empty_field_list done
 least FieldLists = made FieldLists last_field_list done
+least FieldSequence = made FieldSequence field_sequence (part _ _ _ (made FieldList empty_field_list done) (part _ _ _ (made FieldLists last_field_list done) done))
 least TypeExpression = least_type
 least ByVar = made ByVar by_value done
 least Section = made Section section (part _ _ _ (made ByVar by_value done) (part _ _ _ least_idents (taken _ _ (part _ _ _ least_type done))))
@@ -81,7 +89,13 @@ least Declarations = least_declarations
 least Body = least_body
 least Module = made Module a_module (taken _ _ (taken _ _ (taken _ _ (part _ _ _ least_declarations (part _ _ _ least_body (taken _ _ (taken _ _ (taken _ _ done))))))))
 
-pub least_flat : (n : Nonterminal) → depth n (least n) ≡ 0
+-- how many levels each form has at least
+abbrev pub base : Nonterminal → ℕ
+base Arm = 1
+base Arms = 1
+base _ = 0
+
+pub least_flat : (n : Nonterminal) → depth n (least n) ≡ base n
 least_flat Selectors = refl
 least_flat _ = refl
 
@@ -94,7 +108,7 @@ least_parts (phrase d m ∷ ss) = part d m ss (least m) (least_parts ss)
 abbrev pub floor : List Symbol → ℕ
 floor [] = 0
 floor (token k ∷ ss) = floor ss
-floor (phrase d m ∷ ss) = max (nest d 0) (floor ss)
+floor (phrase d m ∷ ss) = max (nest d (base m)) (floor ss)
 
 pub nest_more : (d : Nesting) (a b : ℕ) → a ≤ b → nest d a ≤ nest d b
 nest_more level a b h = h
@@ -106,7 +120,15 @@ least_deep [] = refl
 least_deep (token k ∷ ss) = least_deep ss
 least_deep (phrase d m ∷ ss) = ap₂ (λ a b. max (nest d a) b) (least_flat m) (least_deep ss)
 
+arm_base : (f : Form Arm) → 1 ≤ depth Arm f
+arm_base (made _ arm (part _ _ _ e (taken _ _ (part _ m _ ss ps)))) = omega arith
+
+pub base_least : (n : Nonterminal) (f : Form n) → base n ≤ depth n f
+base_least Arm f = arm_base f
+base_least Arms (made _ arms (part _ _ _ a ps)) = let h = arm_base a in omega arith
+base_least _ f = omega arith
+
 pub floor_least : (ss : List Symbol) (ps : Parts ss) → floor ss ≤ depths ss ps
 floor_least _ done = lit≤ tt
 floor_least _ (taken k ss ps) = floor_least ss ps
-floor_least _ (part d m ss f ps) = let a = nest_more d 0 (depth m f) (omega arith) in let b = floor_least ss ps in omega arith
+floor_least _ (part d m ss f ps) = let a = nest_more d (base m) (depth m f) (base_least m f) in let b = floor_least ss ps in omega arith

@@ -18,7 +18,9 @@ pub data Nonterminal : Type 0 where
   ArgumentList : Nonterminal
   Arguments : Nonterminal
   ActualParameters : Nonterminal
+  Arm : Nonterminal
   Elsifs : Nonterminal
+  Arms : Nonterminal
   Else : Nonterminal
   Action : Nonterminal
   Statement : Nonterminal
@@ -29,6 +31,7 @@ pub data Nonterminal : Type 0 where
   NameList : Nonterminal
   FieldList : Nonterminal
   FieldLists : Nonterminal
+  FieldSequence : Nonterminal
   TypeExpression : Nonterminal
   ByVar : Nonterminal
   Section : Nonterminal
@@ -126,8 +129,10 @@ pub data Rule : Nonterminal → Type 0 where
   next_argument : Rule Arguments
   no_parameters : Rule ActualParameters
   parameters : Rule ActualParameters
+  arm : Rule Arm
   no_elsif : Rule Elsifs
   next_elsif : Rule Elsifs
+  arms : Rule Arms
   no_else : Rule Else
   otherwise : Rule Else
   assignment : Rule Action
@@ -147,6 +152,7 @@ pub data Rule : Nonterminal → Type 0 where
   field_list : Rule FieldList
   last_field_list : Rule FieldLists
   next_field_list : Rule FieldLists
+  field_sequence : Rule FieldSequence
   type_name : Rule TypeExpression
   array : Rule TypeExpression
   record_type : Rule TypeExpression
@@ -230,9 +236,11 @@ right call = token Ident ∷ the ActualParameters ∷ []
 right no_parameters = []
 -- IfStatement = "IF" expression "THEN" StatementSequence {"ELSIF" expression "THEN" StatementSequence}
 --   ["ELSE" StatementSequence] "END".
-right if_statement = token KwIf ∷ the Expression ∷ token KwThen ∷ within StatementSequence ∷ the Elsifs ∷ the Else ∷ token KwEnd ∷ []
+right if_statement = token KwIf ∷ the Arms ∷ the Else ∷ token KwEnd ∷ []
+right arms = the Arm ∷ the Elsifs ∷ []
+right arm = the Expression ∷ token KwThen ∷ within StatementSequence ∷ []
 right no_elsif = []
-right next_elsif = token KwElsif ∷ the Expression ∷ token KwThen ∷ within StatementSequence ∷ the Elsifs ∷ []
+right next_elsif = token KwElsif ∷ the Arm ∷ the Elsifs ∷ []
 right no_else = []
 right otherwise = token KwElse ∷ within StatementSequence ∷ []
 -- WhileStatement = "WHILE" expression "DO" StatementSequence "END".
@@ -252,7 +260,8 @@ right next_ident = token Comma ∷ token Ident ∷ the Idents ∷ []
 -- RecordType = "RECORD" FieldList {";" FieldList} "END". FieldList = [IdentList ":" type].
 right type_name = token Ident ∷ []
 right array = token KwArray ∷ the Expression ∷ token KwOf ∷ nested TypeExpression ∷ []
-right record_type = token KwRecord ∷ the FieldList ∷ the FieldLists ∷ token KwEnd ∷ []
+right record_type = token KwRecord ∷ the FieldSequence ∷ token KwEnd ∷ []
+right field_sequence = the FieldList ∷ the FieldLists ∷ []
 right name_list = the IdentList ∷ token Colon ∷ the TypeExpression ∷ []
 right empty_field_list = []
 right field_list = nested NameList ∷ []

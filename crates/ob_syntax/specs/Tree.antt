@@ -1,9 +1,9 @@
 -- The tree that a derivation stands for.
-use Rattle.std.specs.Prelude.{◌≡◌, ℕ, ◌+◌, ◌-◌, List, [], ◌∷◌, Option, Some, None, Bool, true, false}
+use Rattle.std.specs.Prelude.{ℕ, ◌+◌, ◌-◌, List, [], ◌∷◌, Option, Some, None, Bool, true, false, ◌++◌, option_to_list}
 use Rattle.ob_syntax.specs.declared.token.Kind.{Kind}
 use Rattle.ob_syntax.specs.declared.token.Kind.TheVariants.{Plus, Minus}
 use Rattle.ob_syntax.specs.declared.tree.Span.{Span}
-use Rattle.ob_syntax.specs.declared.tree.Arm.{Arm, roll-Arm}
+use Rattle.ob_syntax.specs.declared.tree.Arm.{Arm as ArmTree, roll-Arm}
 use Rattle.ob_syntax.specs.declared.tree.ConstDecl.{ConstDecl}
 use Rattle.ob_syntax.specs.declared.tree.Decls.{Decls, roll-Decls}
 use Rattle.ob_syntax.specs.declared.tree.Designator.{Designator, roll-Designator}
@@ -26,7 +26,7 @@ use Rattle.ob_syntax.specs.declared.tree.Term.{Term as TermTree, roll-Term}
 use Rattle.ob_syntax.specs.declared.tree.TypeDecl.{TypeDecl}
 use Rattle.ob_syntax.specs.declared.tree.TypeExpr.{TypeExpr, roll-TypeExpr}
 use Rattle.ob_syntax.specs.declared.tree.TypeForm.TheVariants as shape
-use Rattle.ob_syntax.specs.Grammar.{Nonterminal, Selectors, Selector, Factor, Factors, Term, Terms, Sign, SimpleExpression, Comparison, Expression, ArgumentList, Arguments, ActualParameters, Elsifs, Else, Action, Statement, Statements, StatementSequence, Idents, IdentList, NameList, FieldList, FieldLists, TypeExpression, ByVar, Section, Sections, SectionList, FormalParameters, Procedure, Procedures, Constant, ConstantList, Constants, TypeDeclaration, TypeList, Types, VariableList, Variables, Declarations, Body, Module, mul_kind, add_kind, relation_kind, Symbol, token, phrase, Rule, no_selectors, next_selector, field, index, name, number, parenthesis, negation, no_factors, next_factor, term, no_terms, next_term, no_sign, plus_sign, minus_sign, simple_expression, no_comparison, comparison, expression, no_arguments, arguments, last_argument, next_argument, no_parameters, parameters, no_elsif, next_elsif, no_else, otherwise, assignment, call, if_statement, while_statement, empty_statement, statement, last_statement, next_statement, statement_sequence, last_ident, next_ident, ident_list, name_list, empty_field_list, field_list, last_field_list, next_field_list, type_name, array, record_type, by_value, by_var, section, last_section, next_section, no_sections, sections, no_formals, formals, procedure, no_procedures, next_procedure, constant, last_constant, next_constant, no_constants, constants, type_declaration, last_type, next_type, no_types, types, last_variables, next_variables, no_variables, variables, declarations, no_body, body, a_module, right}
+use Rattle.ob_syntax.specs.Grammar.{Nonterminal, Selectors, Selector, Factor, Factors, Term, Terms, Sign, SimpleExpression, Comparison, Expression, ArgumentList, Arguments, ActualParameters, Arm, Elsifs, Arms, Else, Action, Statement, Statements, StatementSequence, Idents, IdentList, NameList, FieldList, FieldLists, FieldSequence, TypeExpression, ByVar, Section, Sections, SectionList, FormalParameters, Procedure, Procedures, Constant, ConstantList, Constants, TypeDeclaration, TypeList, Types, VariableList, Variables, Declarations, Body, Module, mul_kind, add_kind, relation_kind, Symbol, token, phrase, Rule, no_selectors, next_selector, field, index, name, number, parenthesis, negation, no_factors, next_factor, term, no_terms, next_term, no_sign, plus_sign, minus_sign, simple_expression, no_comparison, comparison, expression, no_arguments, arguments, last_argument, next_argument, no_parameters, parameters, arm, no_elsif, next_elsif, arms, no_else, otherwise, assignment, call, if_statement, while_statement, empty_statement, statement, last_statement, next_statement, statement_sequence, last_ident, next_ident, ident_list, name_list, empty_field_list, field_list, last_field_list, next_field_list, field_sequence, type_name, array, record_type, by_value, by_var, section, last_section, next_section, no_sections, sections, no_formals, formals, procedure, no_procedures, next_procedure, constant, last_constant, next_constant, no_constants, constants, type_declaration, last_type, next_type, no_types, types, last_variables, next_variables, no_variables, variables, declarations, no_body, body, a_module, right}
 use Rattle.ob_syntax.specs.Forms.{Form, Parts, made, done, taken, part, end, ends}
 
 -- what a phrase of each nonterminal stands for
@@ -44,7 +44,9 @@ Tree Expression = Expr
 Tree ArgumentList = List Expr
 Tree Arguments = List Expr
 Tree ActualParameters = List Expr
-Tree Elsifs = List Arm
+Tree Arm = ArmTree
+Tree Elsifs = List ArmTree
+Tree Arms = List ArmTree
 Tree Else = List Stmt
 Tree Action = Stmt
 Tree Statement = Option Stmt
@@ -55,6 +57,7 @@ Tree IdentList = List ℕ
 Tree NameList = Names
 Tree FieldList = Option Names
 Tree FieldLists = List Names
+Tree FieldSequence = List Names
 Tree TypeExpression = TypeExpr
 Tree ByVar = Bool
 Tree Section = SectionTree
@@ -84,11 +87,6 @@ Values (phrase d m ∷ ss) = Tree m × Values ss
 -- from token i up to token j, which is not in it
 abbrev pub span_to : ℕ → ℕ → Span
 span_to i j = record { first = i; last = j - 1 }
-
--- in front of the others, if it is not empty
-abbrev pub with_some : {A : Type 0} → Option A → List A → List A
-with_some None xs = xs
-with_some (Some x) xs = x ∷ xs
 
 -- the tree of a production from token i up to token j, from what its right side stands for
 abbrev pub tree_by : {n : Nonterminal} (r : Rule n) → ℕ → ℕ → Values (right r) → Tree n
@@ -122,29 +120,31 @@ tree_by assignment i j (n, (ss, (k, (e, _)))) =
     roll-Stmt (record { span = span_to i j; form = form.Assign (roll-Designator (record { span = span_to i k; name = n; selectors = ss })) e })
 tree_by call i j (n, (es, _)) = roll-Stmt (record { span = span_to i j; form = form.Call n es })
 tree_by no_parameters i j v = []
-tree_by if_statement i j (_, (e, (_, (ss, (arms, (others, _)))))) =
-    roll-Stmt (record { span = span_to i j; form = form.If (roll-Arm (record { test = e; body = ss }) ∷ arms) others })
+tree_by if_statement i j (_, (xs, (others, _))) = roll-Stmt (record { span = span_to i j; form = form.If xs others })
+tree_by arms i j (x, (xs, _)) = x ∷ xs
+tree_by arm i j (e, (_, (ss, _))) = roll-Arm (record { test = e; body = ss })
 tree_by no_elsif i j v = []
-tree_by next_elsif i j (_, (e, (_, (ss, (arms, _))))) = roll-Arm (record { test = e; body = ss }) ∷ arms
+tree_by next_elsif i j (_, (x, (xs, _))) = x ∷ xs
 tree_by no_else i j v = []
 tree_by otherwise i j (_, (ss, _)) = ss
 tree_by while_statement i j (_, (e, (_, (ss, _)))) = roll-Stmt (record { span = span_to i j; form = form.While e ss })
 tree_by empty_statement i j v = None
 tree_by statement i j (s, _) = Some s
-tree_by statement_sequence i j (s, (ss, _)) = with_some s ss
+tree_by statement_sequence i j (s, (ss, _)) = option_to_list s ++ ss
 tree_by last_statement i j v = []
-tree_by next_statement i j (_, (s, (ss, _))) = with_some s ss
+tree_by next_statement i j (_, (s, (ss, _))) = option_to_list s ++ ss
 tree_by ident_list i j (n, (ns, _)) = n ∷ ns
 tree_by last_ident i j v = []
 tree_by next_ident i j (_, (n, (ns, _))) = n ∷ ns
 tree_by type_name i j (n, _) = roll-TypeExpr (record { span = span_to i j; form = shape.Name n })
 tree_by array i j (_, (e, (_, (t, _)))) = roll-TypeExpr (record { span = span_to i j; form = shape.Array e t })
-tree_by record_type i j (_, (f, (fs, _))) = roll-TypeExpr (record { span = span_to i j; form = shape.Record (with_some f fs) })
+tree_by record_type i j (_, (fs, _)) = roll-TypeExpr (record { span = span_to i j; form = shape.Record fs })
+tree_by field_sequence i j (f, (fs, _)) = option_to_list f ++ fs
 tree_by name_list i j (ns, (_, (t, _))) = roll-NameList (record { names = ns; shape = t })
 tree_by empty_field_list i j v = None
 tree_by field_list i j (f, _) = Some f
 tree_by last_field_list i j v = []
-tree_by next_field_list i j (_, (f, (fs, _))) = with_some f fs
+tree_by next_field_list i j (_, (f, (fs, _))) = option_to_list f ++ fs
 tree_by section i j (v, (ns, (_, (t, _)))) = record { by_var = v; names = ns; shape = t }
 tree_by by_value i j v = false
 tree_by by_var i j v = true
