@@ -2,8 +2,8 @@
 use Rattle.std.proofs.Common.{◌≡◌, ℕ, ℤ, List, [], ◌∷◌, Option, Some, None, refl, ap, ◌∙◌, sym, subst}
 use Rattle.ob_syntax.specs.declared.token.Kind.{Kind}
 use Rattle.ob_syntax.specs.declared.token.Kind.TheVariants.{Ident, Number, KwArray, KwBegin, KwConst, KwDiv, KwElse, KwElsif, KwIf, KwMod, KwOr, KwProcedure, KwRecord, KwType, KwVar, KwWhile, Period, Comma, Semicolon, Becomes, LeftParen, LeftBracket, Tilde, Times, Amp, Plus, Minus, Equal, Unequal, Less, LessEqual, Greater, GreaterEqual}
-use Rattle.ob_syntax.specs.Grammar.{Nonterminal, Rule, level, Selectors, Selector, Factor, Factors, Term, Terms, Sign, no_sign, plus_sign, minus_sign, SimpleExpression, simple_expression, Comparison, Expression, expression, ArgumentList, arguments, term, MulOp, times, quotient, remainder, both, AddOp, plus, minus, either, RelationOp, equal, unequal, less, less_equal, greater, greater_equal, mul_kind, add_kind, relation_kind, no_selectors, next_selector, field, index, name, number, parenthesis, negation, no_factors, next_factor, no_terms, next_term, no_comparison, comparison, ActualParameters, FormalParameters, Arguments, Idents, Elsifs, Else, Statements, FieldLists, Sections, FieldList, ConstantList, Constants, TypeList, Types, VariableList, Variables, ByVar, Procedures, Body, no_parameters, no_formals, last_argument, last_ident, no_elsif, no_else, last_statement, last_field_list, last_section, empty_field_list, last_constant, no_constants, last_type, no_types, last_variables, no_variables, by_value, no_procedures, no_body}
-use Rattle.ob_syntax.specs.Predict.{first, by_first}
+use Rattle.ob_syntax.specs.Grammar.{Constant, constant, TypeDeclaration, type_declaration, Procedure, procedure, Action, Statement, statement, call, if_statement, while_statement, TypeExpression, NameList, name_list, IdentList, ident_list, Nonterminal, Rule, level, Selectors, Selector, Factor, Factors, Term, Terms, Sign, no_sign, plus_sign, minus_sign, SimpleExpression, simple_expression, Comparison, Expression, expression, ArgumentList, arguments, term, MulOp, times, quotient, remainder, both, AddOp, plus, minus, either, RelationOp, equal, unequal, less, less_equal, greater, greater_equal, mul_kind, add_kind, relation_kind, no_selectors, next_selector, field, index, name, number, parenthesis, negation, no_factors, next_factor, no_terms, next_term, no_comparison, comparison, ActualParameters, FormalParameters, Arguments, Idents, Elsifs, Else, Statements, FieldLists, Sections, FieldList, ConstantList, Constants, TypeList, Types, VariableList, Variables, ByVar, Procedures, Body, no_parameters, no_formals, last_argument, last_ident, no_elsif, no_else, last_statement, last_field_list, last_section, empty_field_list, last_constant, no_constants, last_type, no_types, last_variables, no_variables, by_value, no_procedures, no_body}
+use Rattle.ob_syntax.specs.Predict.{first, by_first, choose}
 use Rattle.ob_parse.specs.declared.cursor.Parser.{Parser}
 use Rattle.ob_syntax.specs.Forms.{made, done}
 use Rattle.ob_parse.specs.Reading.{left, place, IsNext, GoesOn}
@@ -196,3 +196,50 @@ pub not_begin : (o : Option Kind) → (o ≡ Some KwBegin → ⊥) → by_first 
 not_begin None h = refl
 not_begin (Some KwBegin) h = absurd (h refl)
 not_begin _ h = refl
+
+pub no_type_expression_first : (k : Kind) → (k ≡ Ident → ⊥) → (k ≡ KwArray → ⊥) → (k ≡ KwRecord → ⊥) → by_first TypeExpression (Some k) ≡ None
+no_type_expression_first Ident i a r = absurd (i refl)
+no_type_expression_first KwArray i a r = absurd (a refl)
+no_type_expression_first KwRecord i a r = absurd (r refl)
+no_type_expression_first _ i a r = refl
+
+-- names of one type begin with a name
+pub names_begin : (d : ℕ) × GoesOn NameList d (Ident ∷ [])
+names_begin = begins_inside NameList name_list level IdentList _ (λ ps. ps) (λ ps ks. refl) (Ident ∷ []) (begins_with IdentList ident_list Ident _ (λ ps. ps) (λ ps ks. refl))
+
+pub statement_begins : (o : Option Kind) → by_first Statement o ≡ Some statement → (k : Kind) × (o ≡ Some k) × ((d : ℕ) × GoesOn Action d (k ∷ []))
+statement_begins (Some Ident) e = (Ident, refl, begins_with Action call Ident _ (λ ps. ps) (λ ps ks. refl))
+statement_begins (Some KwIf) e = (KwIf, refl, begins_with Action if_statement KwIf _ (λ ps. ps) (λ ps ks. refl))
+statement_begins (Some KwWhile) e = (KwWhile, refl, begins_with Action while_statement KwWhile _ (λ ps. ps) (λ ps ks. refl))
+statement_begins _ e = cc
+
+-- ---- a statement that is not empty
+
+pub at_if : (next : List Kind) → first next ≡ Some KwIf → choose Action next ≡ Some if_statement
+at_if [] e = cc
+at_if (k ∷ ks) e = let i : k ≡ KwIf = cc in subst (λ k. choose Action (k ∷ ks) ≡ Some if_statement) (sym i) refl
+
+pub at_while : (next : List Kind) → first next ≡ Some KwWhile → choose Action next ≡ Some while_statement
+at_while [] e = cc
+at_while (k ∷ ks) e = let i : k ≡ KwWhile = cc in subst (λ k. choose Action (k ∷ ks) ≡ Some while_statement) (sym i) refl
+
+no_action : (k : Kind) (ks : List Kind) → (k ≡ Ident → ⊥) → (k ≡ KwIf → ⊥) → (k ≡ KwWhile → ⊥) → choose Action (k ∷ ks) ≡ None
+no_action Ident ks i f w = absurd (i refl)
+no_action KwIf ks i f w = absurd (f refl)
+no_action KwWhile ks i f w = absurd (w refl)
+no_action _ ks i f w = refl
+
+pub no_action_first : (next : List Kind) → (first next ≡ Some Ident → ⊥) → (first next ≡ Some KwIf → ⊥) → (first next ≡ Some KwWhile → ⊥) → choose Action next ≡ None
+no_action_first [] i f w = refl
+no_action_first (k ∷ ks) i f w = no_action k ks (λ e. i (ap Some e)) (λ e. f (ap Some e)) (λ e. w (ap Some e))
+
+-- ---- what a declaration begins with
+
+pub constant_begins : (d : ℕ) × GoesOn Constant d (Ident ∷ [])
+constant_begins = begins_with Constant constant Ident _ (λ ps. ps) (λ ps ks. refl)
+
+pub type_begins : (d : ℕ) × GoesOn TypeDeclaration d (Ident ∷ [])
+type_begins = begins_with TypeDeclaration type_declaration Ident _ (λ ps. ps) (λ ps ks. refl)
+
+pub procedure_begins : (d : ℕ) × GoesOn Procedure d (KwProcedure ∷ [])
+procedure_begins = begins_with Procedure procedure KwProcedure _ (λ ps. ps) (λ ps ks. refl)

@@ -1,5 +1,6 @@
 pub mod Choices
 pub mod Loops
 pub mod Moves
+pub mod Named
 pub mod Steps
 pub mod Tokens

@@ -44,10 +44,10 @@ pub record Waits (n : Nonterminal) (ss : List Symbol) (room : ℕ) (wrap : ℕ �
 abbrev pub Chooses : (n : Nonterminal) → Option (Rule n) → Parser → Type 0
 Chooses n r p = (next : List Kind) → first next ≡ first (left p) → choose n next ≡ r
 
-abbrev Opened : (n : Nonterminal) (ss : List Symbol) → List Kind → List Kind → ℕ → Type 0
+abbrev pub Opened : (n : Nonterminal) (ss : List Symbol) → List Kind → List Kind → ℕ → Type 0
 Opened n ss next after d = (g : Parts ss) × Follow ss g after × (next ≡ spells ss g after) × (depths ss g ≤ d)
 
-opened_only : (n : Nonterminal) (r : Rule n) (next : List Kind) → choose n next ≡ Some r → (f : Form n) (after : List Kind) → Ends n f after → next ≡ spell n f after → Opened n (right r) next after (depth n f)
+pub opened_only : (n : Nonterminal) (r : Rule n) (next : List Kind) → choose n next ≡ Some r → (f : Form n) (after : List Kind) → Ends n f after → next ≡ spell n f after → Opened n (right r) next after (depth n f)
 opened_only n r next c (made _ r' ps) after ends eq =
     let rules = chosen_one n r' r (spells (right r') ps after) next ends.0 c (sym eq) in
     subst (λ r. Opened n (right r) next after (depths (right r') ps)) rules (ps, ends.1, eq, omega arith)
@@ -61,7 +61,7 @@ opened {n = n} r room p chosen = record {
 
 -- ---- how it goes on
 
-taken_only : (k : Kind) (ss : List Symbol) (next after : List Kind) (d : ℕ) (g : Parts (token k ∷ ss)) → Follow (token k ∷ ss) g after → k ∷ next ≡ spells (token k ∷ ss) g after → depths (token k ∷ ss) g ≤ d
+pub taken_only : (k : Kind) (ss : List Symbol) (next after : List Kind) (d : ℕ) (g : Parts (token k ∷ ss)) → Follow (token k ∷ ss) g after → k ∷ next ≡ spells (token k ∷ ss) g after → depths (token k ∷ ss) g ≤ d
     → (g : Parts ss) × Follow ss g after × (next ≡ spells ss g after) × (depths ss g ≤ d)
 taken_only k ss next after d (taken _ _ ps) h e le = (ps, h, cc, le)
 

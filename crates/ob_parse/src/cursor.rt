@@ -50,8 +50,8 @@ pub struct Parser<'a> {
 
 impl<'a> Parser<'a> {
     ghost use Rattle.ob_parse.specs.Reading.{left, place, kinds, IsNext};
-    ghost use Rattle.ob_syntax.specs.Predict.{first, by_first};
-    ghost use Rattle.ob_syntax.specs.Grammar.{Selectors, next_selector, no_selectors, ArgumentList, arguments, no_arguments};
+    ghost use Rattle.ob_syntax.specs.Predict.{first, by_first, behind_name};
+    ghost use Rattle.ob_syntax.specs.Grammar.{Selectors, next_selector, no_selectors, ArgumentList, arguments, no_arguments, Statement, statement, empty_statement, assignment, call, SectionList, sections, no_sections};
     ghost use Rattle.ob_syntax.specs.Tree.{span_to};
     ghost use Rattle.ob_syntax.specs.declared.token.Kind.{Kind};
 
@@ -434,20 +434,6 @@ impl<'a> Parser<'a> {
         matches!(self.peek(), Some(Kind::KwProcedure))
     }
 
-    /// Whether IF is next.
-    pub fn is_if(&self) -> bool
-        ensures { MatchBool result (first (left self.now) ≡ Some Kind.KwIf) (first (left self.now) ≢ Some Kind.KwIf) }
-    {
-        matches!(self.peek(), Some(Kind::KwIf))
-    }
-
-    /// Whether WHILE is next.
-    pub fn is_while(&self) -> bool
-        ensures { MatchBool result (first (left self.now) ≡ Some Kind.KwWhile) (first (left self.now) ≢ Some Kind.KwWhile) }
-    {
-        matches!(self.peek(), Some(Kind::KwWhile))
-    }
-
     /// Whether `.` or `[` is next.
     pub fn begins_selector(&self) -> bool
         ensures { MatchBool result (by_first Selectors (first (left self.now)) ≡ Some next_selector) (by_first Selectors (first (left self.now)) ≡ Some no_selectors) }
@@ -475,6 +461,45 @@ impl<'a> Parser<'a> {
             | Kind::Number(_)
             | Kind::LeftParen
             | Kind::Tilde => true,
+            _ => false,
+        }
+    }
+
+    /// Whether the first token of a statement that is not empty is next.
+    pub fn begins_statement(&self) -> bool
+        ensures { MatchBool result (by_first Statement (first (left self.now)) ≡ Some statement) (by_first Statement (first (left self.now)) ≡ Some empty_statement) }
+    {
+        let Some(kind) = self.peek() else {
+            return false;
+        };
+        match kind {
+            Kind::Ident | Kind::KwIf | Kind::KwWhile => true,
+            _ => false,
+        }
+    }
+
+    /// Whether, behind the name that begins a statement, an assignment goes on and no call.
+    pub fn continues_assignment(&self) -> bool
+        ensures { MatchBool result (behind_name (first (left self.now)) ≡ Some assignment) (behind_name (first (left self.now)) ≡ Some call) }
+    {
+        let Some(kind) = self.peek() else {
+            return false;
+        };
+        match kind {
+            Kind::Period | Kind::LeftBracket | Kind::Becomes => true,
+            _ => false,
+        }
+    }
+
+    /// Whether the first token of a section of parameters is next.
+    pub fn begins_section(&self) -> bool
+        ensures { MatchBool result (by_first SectionList (first (left self.now)) ≡ Some sections) (by_first SectionList (first (left self.now)) ≡ Some no_sections) }
+    {
+        let Some(kind) = self.peek() else {
+            return false;
+        };
+        match kind {
+            Kind::KwVar | Kind::Ident => true,
             _ => false,
         }
     }

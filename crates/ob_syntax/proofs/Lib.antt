@@ -1,2 +1,5 @@
+pub mod Chosen
 pub mod Least
+pub mod OneTree
+pub mod Settles
 pub mod Unique

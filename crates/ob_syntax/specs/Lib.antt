@@ -1,3 +1,4 @@
+pub mod Derives
 pub mod Forms
 pub mod Grammar
 pub mod Predict
