@@ -4,6 +4,7 @@ use Rattle.ob_syntax.specs.declared.token.Kind.{Kind}
 use Rattle.ob_syntax.specs.declared.token.Kind.TheVariants.{Ident, Number, KwArray, KwBegin, KwConst, KwDiv, KwElse, KwElsif, KwIf, KwMod, KwOr, KwProcedure, KwRecord, KwType, KwVar, KwWhile, Period, Comma, Semicolon, Becomes, LeftParen, LeftBracket, Tilde, Times, Amp, Plus, Minus, Equal, Unequal, Less, LessEqual, Greater, GreaterEqual}
 use Rattle.ob_syntax.specs.Grammar.{Constant, constant, TypeDeclaration, type_declaration, Procedure, procedure, Action, Statement, statement, call, if_statement, while_statement, TypeExpression, NameList, name_list, IdentList, ident_list, Nonterminal, Rule, level, Selectors, Selector, Factor, Factors, Term, Terms, Sign, no_sign, plus_sign, minus_sign, SimpleExpression, simple_expression, Comparison, Expression, expression, ArgumentList, arguments, term, MulOp, times, quotient, remainder, both, AddOp, plus, minus, either, RelationOp, equal, unequal, less, less_equal, greater, greater_equal, mul_kind, add_kind, relation_kind, no_selectors, next_selector, field, index, name, number, parenthesis, negation, no_factors, next_factor, no_terms, next_term, no_comparison, comparison, ActualParameters, FormalParameters, Arguments, Idents, Elsifs, Else, Statements, FieldLists, Sections, FieldList, ConstantList, Constants, TypeList, Types, VariableList, Variables, ByVar, Procedures, Body, no_parameters, no_formals, last_argument, last_ident, no_elsif, no_else, last_statement, last_field_list, last_section, empty_field_list, last_constant, no_constants, last_type, no_types, last_variables, no_variables, by_value, no_procedures, no_body}
 use Rattle.ob_syntax.specs.Predict.{first, by_first, choose}
+pub use Rattle.ob_syntax.proofs.Chosen.{mul_first, no_mul_first, add_first, no_add_first, relation_first, no_relation_first, not_left_paren, no_formals_first, not_comma, no_ident_first, not_elsif, not_else, no_statement_first, no_field_first, no_section_first, no_list_first, no_constant_first, not_const, no_type_first, not_type, no_variable_first, not_var, by_value_first, not_procedure, not_begin}
 use Rattle.ob_parse.specs.declared.cursor.Parser.{Parser}
 use Rattle.ob_syntax.specs.Forms.{made, done}
 use Rattle.ob_parse.specs.Reading.{left, place, IsNext, GoesOn}
@@ -11,52 +12,6 @@ use Rattle.ob_parse.proofs.Steps.{Chooses, begins_with, begins_inside, begins_be
 
 pub kind_at : (o : Option Kind) (ks : List Kind) → o ≡ first ks → (k k' : Kind) → o ≡ Some k → k ≡ k' → first ks ≡ Some k'
 kind_at o ks e k k' f g = sym e ∙ f ∙ ap Some g
-
--- ---- operators
-
-pub mul_first : (op : MulOp) → by_first Factors (Some (mul_kind op)) ≡ Some (next_factor op)
-mul_first times = refl
-mul_first quotient = refl
-mul_first remainder = refl
-mul_first both = refl
-
-pub no_mul_first : (o : Option Kind) → ((op : MulOp) → o ≡ Some (mul_kind op) → ⊥) → by_first Factors o ≡ Some no_factors
-no_mul_first None h = refl
-no_mul_first (Some Times) h = absurd (h times refl)
-no_mul_first (Some KwDiv) h = absurd (h quotient refl)
-no_mul_first (Some KwMod) h = absurd (h remainder refl)
-no_mul_first (Some Amp) h = absurd (h both refl)
-no_mul_first _ h = refl
-
-pub add_first : (op : AddOp) → by_first Terms (Some (add_kind op)) ≡ Some (next_term op)
-add_first plus = refl
-add_first minus = refl
-add_first either = refl
-
-pub no_add_first : (o : Option Kind) → ((op : AddOp) → o ≡ Some (add_kind op) → ⊥) → by_first Terms o ≡ Some no_terms
-no_add_first None h = refl
-no_add_first (Some Plus) h = absurd (h plus refl)
-no_add_first (Some Minus) h = absurd (h minus refl)
-no_add_first (Some KwOr) h = absurd (h either refl)
-no_add_first _ h = refl
-
-pub relation_first : (op : RelationOp) → by_first Comparison (Some (relation_kind op)) ≡ Some (comparison op)
-relation_first equal = refl
-relation_first unequal = refl
-relation_first less = refl
-relation_first less_equal = refl
-relation_first greater = refl
-relation_first greater_equal = refl
-
-pub no_relation_first : (o : Option Kind) → ((op : RelationOp) → o ≡ Some (relation_kind op) → ⊥) → by_first Comparison o ≡ Some no_comparison
-no_relation_first None h = refl
-no_relation_first (Some Equal) h = absurd (h equal refl)
-no_relation_first (Some Unequal) h = absurd (h unequal refl)
-no_relation_first (Some Less) h = absurd (h less refl)
-no_relation_first (Some LessEqual) h = absurd (h less_equal refl)
-no_relation_first (Some Greater) h = absurd (h greater refl)
-no_relation_first (Some GreaterEqual) h = absurd (h greater_equal refl)
-no_relation_first _ h = refl
 
 -- ---- what begins nothing
 
@@ -100,102 +55,7 @@ expression_begins (Some LeftParen) e = (LeftParen, refl, factor_goes LeftParen (
 expression_begins (Some Tilde) e = (Tilde, refl, factor_goes Tilde (begins_with Factor negation Tilde _ (λ ps. ps) (λ ps ks. refl)))
 expression_begins _ e = cc
 
--- ---- an option or a repetition whose token is not next
-
-pub not_left_paren : (o : Option Kind) → (o ≡ Some LeftParen → ⊥) → by_first ActualParameters o ≡ Some no_parameters
-not_left_paren None h = refl
-not_left_paren (Some LeftParen) h = absurd (h refl)
-not_left_paren _ h = refl
-
-pub no_formals_first : (o : Option Kind) → (o ≡ Some LeftParen → ⊥) → by_first FormalParameters o ≡ Some no_formals
-no_formals_first None h = refl
-no_formals_first (Some LeftParen) h = absurd (h refl)
-no_formals_first _ h = refl
-
-pub not_comma : (o : Option Kind) → (o ≡ Some Comma → ⊥) → by_first Arguments o ≡ Some last_argument
-not_comma None h = refl
-not_comma (Some Comma) h = absurd (h refl)
-not_comma _ h = refl
-
-pub no_ident_first : (o : Option Kind) → (o ≡ Some Comma → ⊥) → by_first Idents o ≡ Some last_ident
-no_ident_first None h = refl
-no_ident_first (Some Comma) h = absurd (h refl)
-no_ident_first _ h = refl
-
-pub not_elsif : (o : Option Kind) → (o ≡ Some KwElsif → ⊥) → by_first Elsifs o ≡ Some no_elsif
-not_elsif None h = refl
-not_elsif (Some KwElsif) h = absurd (h refl)
-not_elsif _ h = refl
-
-pub not_else : (o : Option Kind) → (o ≡ Some KwElse → ⊥) → by_first Else o ≡ Some no_else
-not_else None h = refl
-not_else (Some KwElse) h = absurd (h refl)
-not_else _ h = refl
-
-pub no_statement_first : (o : Option Kind) → (o ≡ Some Semicolon → ⊥) → by_first Statements o ≡ Some last_statement
-no_statement_first None h = refl
-no_statement_first (Some Semicolon) h = absurd (h refl)
-no_statement_first _ h = refl
-
-pub no_field_first : (o : Option Kind) → (o ≡ Some Semicolon → ⊥) → by_first FieldLists o ≡ Some last_field_list
-no_field_first None h = refl
-no_field_first (Some Semicolon) h = absurd (h refl)
-no_field_first _ h = refl
-
-pub no_section_first : (o : Option Kind) → (o ≡ Some Semicolon → ⊥) → by_first Sections o ≡ Some last_section
-no_section_first None h = refl
-no_section_first (Some Semicolon) h = absurd (h refl)
-no_section_first _ h = refl
-
-pub no_list_first : (o : Option Kind) → (o ≡ Some Ident → ⊥) → by_first FieldList o ≡ Some empty_field_list
-no_list_first None h = refl
-no_list_first (Some Ident) h = absurd (h refl)
-no_list_first _ h = refl
-
-pub no_constant_first : (o : Option Kind) → (o ≡ Some Ident → ⊥) → by_first ConstantList o ≡ Some last_constant
-no_constant_first None h = refl
-no_constant_first (Some Ident) h = absurd (h refl)
-no_constant_first _ h = refl
-
-pub not_const : (o : Option Kind) → (o ≡ Some KwConst → ⊥) → by_first Constants o ≡ Some no_constants
-not_const None h = refl
-not_const (Some KwConst) h = absurd (h refl)
-not_const _ h = refl
-
-pub no_type_first : (o : Option Kind) → (o ≡ Some Ident → ⊥) → by_first TypeList o ≡ Some last_type
-no_type_first None h = refl
-no_type_first (Some Ident) h = absurd (h refl)
-no_type_first _ h = refl
-
-pub not_type : (o : Option Kind) → (o ≡ Some KwType → ⊥) → by_first Types o ≡ Some no_types
-not_type None h = refl
-not_type (Some KwType) h = absurd (h refl)
-not_type _ h = refl
-
-pub no_variable_first : (o : Option Kind) → (o ≡ Some Ident → ⊥) → by_first VariableList o ≡ Some last_variables
-no_variable_first None h = refl
-no_variable_first (Some Ident) h = absurd (h refl)
-no_variable_first _ h = refl
-
-pub not_var : (o : Option Kind) → (o ≡ Some KwVar → ⊥) → by_first Variables o ≡ Some no_variables
-not_var None h = refl
-not_var (Some KwVar) h = absurd (h refl)
-not_var _ h = refl
-
-pub by_value_first : (o : Option Kind) → (o ≡ Some KwVar → ⊥) → by_first ByVar o ≡ Some by_value
-by_value_first None h = refl
-by_value_first (Some KwVar) h = absurd (h refl)
-by_value_first _ h = refl
-
-pub not_procedure : (o : Option Kind) → (o ≡ Some KwProcedure → ⊥) → by_first Procedures o ≡ Some no_procedures
-not_procedure None h = refl
-not_procedure (Some KwProcedure) h = absurd (h refl)
-not_procedure _ h = refl
-
-pub not_begin : (o : Option Kind) → (o ≡ Some KwBegin → ⊥) → by_first Body o ≡ Some no_body
-not_begin None h = refl
-not_begin (Some KwBegin) h = absurd (h refl)
-not_begin _ h = refl
+-- ---- what begins nothing of a type or a statement
 
 pub no_type_expression_first : (k : Kind) → (k ≡ Ident → ⊥) → (k ≡ KwArray → ⊥) → (k ≡ KwRecord → ⊥) → by_first TypeExpression (Some k) ≡ None
 no_type_expression_first Ident i a r = absurd (i refl)

@@ -1,4 +1,5 @@
 pub mod Choices
+pub mod Front
 pub mod Loops
 pub mod Moves
 pub mod Named

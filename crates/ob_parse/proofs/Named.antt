@@ -17,7 +17,10 @@ pub assigned : (room : ℕ) (p q : Parser) → IsNext Ident p q → behind_name 
     → Waits Action (phrase level Selectors ∷ token Becomes ∷ phrase level Expression ∷ []) room (λ j v. tree_by assignment (place p) j (place p, v)) p q
 assigned room p q n is = record {
   plug = λ g. made Action assignment (taken Ident behind_target g);
-  read = Ident ∷ []; from = n.from; count = n.place_is; spelled = λ g ks. refl;
+  read = Ident ∷ [];
+  from = n.from;
+  count = n.place_is;
+  spelled = λ g ks. refl;
   tree_is = λ g. ap (λ i. tree_by assignment (place p) (ends behind_target i g) (place p, values behind_target i g)) (sym n.place_is);
   end_is = λ g. ap (λ i. ends behind_target i g) (sym n.place_is);
   deep = λ g d le h. h;
@@ -33,7 +36,10 @@ behind_procedure = phrase level ActualParameters ∷ []
 pub called : (room : ℕ) (p q : Parser) → IsNext Ident p q → behind_name (first (left q)) ≡ Some call → Waits Action (phrase level ActualParameters ∷ []) room (λ j v. tree_by call (place p) j (place p, v)) p q
 called room p q n is = record {
   plug = λ g. made Action call (taken Ident behind_procedure g);
-  read = Ident ∷ []; from = n.from; count = n.place_is; spelled = λ g ks. refl;
+  read = Ident ∷ [];
+  from = n.from;
+  count = n.place_is;
+  spelled = λ g ks. refl;
   tree_is = λ g. ap (λ i. tree_by call (place p) (ends behind_procedure i g) (place p, values behind_procedure i g)) (sym n.place_is);
   end_is = λ g. ap (λ i. ends behind_procedure i g) (sym n.place_is);
   deep = λ g d le h. h;

@@ -54,7 +54,14 @@ opened_only n r next c (made _ r' ps) after ends eq =
 
 pub opened : {n : Nonterminal} (r : Rule n) (room : ℕ) (p : Parser) → Chooses n (Some r) p → Waits n (right r) room (tree_by r (place p)) p p
 opened {n = n} r room p chosen = record {
-  plug = made n r; read = []; from = refl; count = omega arith; spelled = λ g ks. refl; tree_is = λ g. refl; end_is = λ g. refl; deep = λ g d le h. h;
+  plug = made n r;
+  read = [];
+  from = refl;
+  count = omega arith;
+  spelled = λ g ks. refl;
+  tree_is = λ g. refl;
+  end_is = λ g. refl;
+  deep = λ g d le h. h;
   follow = λ g ks same h. (chosen (spells (right r) g ks) same, h);
   only = λ next same f after ends eq. opened_only n r next (chosen next same) f after ends eq;
 }
@@ -98,7 +105,15 @@ at_least_one room le = record { fits = omega arith; most = λ e h. omega arith }
 
 pub roomier : {n : Nonterminal} {less : ℕ} {t : Tree n} {old new : Parser} → IsRead n less t old new → (room : ℕ) → less ≤ room → IsRead n room t old new
 roomier r room le = let d = r.deep in record {
-  form = r.form; read = r.read; from = r.from; count = r.count; spelled = r.spelled; tree_is = r.tree_is; place_is = r.place_is; deep = omega arith; follow = r.follow;
+  form = r.form;
+  read = r.read;
+  from = r.from;
+  count = r.count;
+  spelled = r.spelled;
+  tree_is = r.tree_is;
+  place_is = r.place_is;
+  deep = omega arith;
+  follow = r.follow;
 }
 
 part_only : (d : Nesting) (m : Nonterminal) (ss : List Symbol) (form : Form m) (read next after : List Kind) (e : ℕ) → ((ks : List Kind) → spell m form ks ≡ read ++ ks) → Ends m form next
@@ -132,8 +147,15 @@ after_phrase {n = n} {m = m} {d = d} {ss = ss} {room = room} {within = within} {
 
 pub closed : {n : Nonterminal} {room : ℕ} {wrap : ℕ → Unit {0} → Tree n} {old new : Parser} → Waits n [] room wrap old new → IsRead n room (wrap (place new) tt) old new
 closed w = record {
-  form = w.plug done; read = w.read; from = w.from; count = w.count; spelled = w.spelled done; tree_is = sym (w.tree_is done); place_is = sym (w.end_is done);
-  deep = w.deep done _ (omega arith) (omega arith); follow = λ ks same. w.follow done ks same tt;
+  form = w.plug done;
+  read = w.read;
+  from = w.from;
+  count = w.count;
+  spelled = w.spelled done;
+  tree_is = sym (w.tree_is done);
+  place_is = sym (w.end_is done);
+  deep = w.deep done _ (omega arith) (omega arith);
+  follow = λ ks same. w.follow done ks same tt;
 }
 
 -- ---- how it fails
@@ -146,22 +168,35 @@ least_goes n room low = (least n, (let a = least_flat n in omega arith), spell n
 
 -- no production begins with the next token
 pub refused : (n : Nonterminal) (room : ℕ) (p : Parser) → base n ≤ room → Chooses n None p → Fails n room p p (Grammar (place p))
-refused n room p low chosen =
-    (refl, record {
-      read = []; from = refl; count = omega arith; goes = least_goes n room low;
-      stuck = λ d next same f after deep ends eq. no_rule n next (chosen next same) f after ends eq;
-    })
+refused n room p low chosen = (
+  refl,
+  record {
+    read = [];
+    from = refl;
+    count = omega arith;
+    goes = least_goes n room low;
+    stuck = λ d next same f after deep ends eq. no_rule n next (chosen next same) f after ends eq;
+  },
+)
 
 -- the production that begins with the next token nests deeper than there is room
 pub too_deep : {n : Nonterminal} (r : Rule n) (room : ℕ) (p : Parser) (k : Kind) → Chooses n (Some r) p → first (left p) ≡ Some k → room ≡ 0 → base n ≤ 0 → 1 ≤ floor (right r) → (beyond : (d : ℕ) × GoesOn n d (k ∷ []))
     → Fails n room p p (TooDeep (place p))
-too_deep {n = n} r room p k chosen at none flat low beyond =
-    (refl, record {
-      read = []; from = refl; count = omega arith; goes = least_goes n room (omega arith); next = k; next_is = at; deeper = beyond;
-      stuck = λ next same f after deep ends eq.
-          let g = opened_only n r next (chosen next same) f after ends eq in
-          let a = floor_least (right r) g.0 in let b = g.3 in omega arith;
-    })
+too_deep {n = n} r room p k chosen at none flat low beyond = (
+  refl,
+  record {
+    read = [];
+    from = refl;
+    count = omega arith;
+    goes = least_goes n room (omega arith);
+    next = k;
+    next_is = at;
+    deeper = beyond;
+    stuck = λ next same f after deep ends eq.
+        let g = opened_only n r next (chosen next same) f after ends eq in
+        let a = floor_least (right r) g.0 in let b = g.3 in omega arith;
+  },
+)
 
 -- a production whose first symbol is the token k
 pub begins_with : (n : Nonterminal) (r : Rule n) (k : Kind) (ss : List Symbol) (put : Parts (token k ∷ ss) → Parts (right r))
@@ -177,19 +212,31 @@ joined a b c d ks = ap (λ us. a ++ (b ++ us)) (sym (append_assoc c d ks)) ∙ s
 pub begins_inside : (n : Nonterminal) (r : Rule n) (d : Nesting) (m : Nonterminal) (ss : List Symbol) (put : Parts (phrase d m ∷ ss) → Parts (right r))
     → ((ps : Parts (phrase d m ∷ ss)) (ks : List Kind) → spells (right r) (put ps) ks ≡ spells (phrase d m ∷ ss) ps ks) → (read : List Kind) → (d : ℕ) × GoesOn m d read → (d : ℕ) × GoesOn n d read
 begins_inside n r d m ss put same read (e, (f, le, more, is)) =
-    let ps = part d m ss f (least_parts ss) in
-    (depths (right r) (put ps), (made n r (put ps), omega arith, more ++ spells ss (least_parts ss) [],
-    λ ks. same ps ks ∙ is (spells ss (least_parts ss) ks) ∙ ap (λ us. read ++ (more ++ us)) (spells_apart ss (least_parts ss) ks) ∙ ap (λ us. read ++ us) (sym (append_assoc more (spells ss (least_parts ss) []) ks))))
+    let ps = part d m ss f (least_parts ss) in (
+      depths (right r) (put ps),
+      (
+        made n r (put ps),
+        omega arith,
+        more ++ spells ss (least_parts ss) [],
+        λ ks. same ps ks ∙ is (spells ss (least_parts ss) ks) ∙ ap (λ us. read ++ (more ++ us)) (spells_apart ss (least_parts ss) ks) ∙ ap (λ us. read ++ us) (sym (append_assoc more (spells ss (least_parts ss) []) ks)),
+      ),
+    )
 
 -- a production whose first symbol may be without tokens, and whose second goes on with the tokens that were read
 pub begins_behind : (n : Nonterminal) (r : Rule n) (m m' : Nonterminal) (ss : List Symbol) (put : Parts (phrase level m ∷ phrase level m' ∷ ss) → Parts (right r))
     → ((ps : Parts (phrase level m ∷ phrase level m' ∷ ss)) (ks : List Kind) → spells (right r) (put ps) ks ≡ spells (phrase level m ∷ phrase level m' ∷ ss) ps ks)
     → (none : Form m) → ((ks : List Kind) → spell m none ks ≡ ks) → (read : List Kind) → (d : ℕ) × GoesOn m' d read → (d : ℕ) × GoesOn n d read
 begins_behind n r m m' ss put same none nothing read (e, (f, le, more, is)) =
-    let ps = part level m (phrase level m' ∷ ss) none (part level m' ss f (least_parts ss)) in
-    (depths (right r) (put ps), (made n r (put ps), omega arith, more ++ spells ss (least_parts ss) [],
-    λ ks. same ps ks ∙ nothing (spell m' f (spells ss (least_parts ss) ks)) ∙ is (spells ss (least_parts ss) ks) ∙ ap (λ us. read ++ (more ++ us)) (spells_apart ss (least_parts ss) ks)
-        ∙ ap (λ us. read ++ us) (sym (append_assoc more (spells ss (least_parts ss) []) ks))))
+    let ps = part level m (phrase level m' ∷ ss) none (part level m' ss f (least_parts ss)) in (
+      depths (right r) (put ps),
+      (
+        made n r (put ps),
+        omega arith,
+        more ++ spells ss (least_parts ss) [],
+        λ ks. same ps ks ∙ nothing (spell m' f (spells ss (least_parts ss) ks)) ∙ is (spells ss (least_parts ss) ks) ∙ ap (λ us. read ++ (more ++ us)) (spells_apart ss (least_parts ss) ks)
+            ∙ ap (λ us. read ++ us) (sym (append_assoc more (spells ss (least_parts ss) []) ks)),
+      ),
+    )
 
 module _ {n : Nonterminal} {ss : List Symbol} {room : ℕ} {wrap : ℕ → Values ss → Tree n} {old now : Parser} (w : Waits n ss room wrap old now) where
   goes_here : floor ss ≤ room → GoesOn n room w.read
@@ -205,7 +252,10 @@ pub token_missing : {n : Nonterminal} {k : Kind} {ss : List Symbol} {room : ℕ}
     → (e ≡ Grammar (place new)) × (new ≡ mid) × (first (left mid) ≡ Some k → ⊥) → Fails n room old new e
 token_missing {n = n} {k = k} {ss = ss} {room = room} {old = old} {mid = mid} w low new e absent =
     let here : IsRefused n room old mid = record {
-      read = w.read; from = w.from; count = w.count; goes = goes_here w low;
+      read = w.read;
+      from = w.from;
+      count = w.count;
+      goes = goes_here w low;
       stuck = λ d next same f after deep ends eq. let g = w.only next same f after ends eq in absent.2 (sym same ∙ not_taken k ss next after g.0 g.2);
     } in
     subst (λ x. Fails n room old new x) (sym absent.0) (refl, subst (λ p. IsRefused n room old p) (sym absent.1) here)
@@ -225,10 +275,13 @@ module _ {n m : Nonterminal} {d : Nesting} {ss : List Symbol} {room : ℕ} {wrap
   goes_inside : (within e : ℕ) (read : List Kind) → room ≤ e → nest d within ≤ e → floor ss ≤ e → GoesOn m within read → GoesOn n e (w.read ++ read)
   goes_inside within e read le fits low (form, deep, more, is) =
       let g = part d m ss form (least_parts ss) in
-      let a = nest_more d (depth m form) within deep in let b = least_deep ss in
-      (w.plug g, w.deep g e le (omega arith), more ++ spells ss (least_parts ss) [],
-      λ ks. w.spelled g ks ∙ ap (λ us. w.read ++ us) (is (spells ss (least_parts ss) ks)) ∙ ap (λ us. w.read ++ (read ++ (more ++ us))) (spells_apart ss (least_parts ss) ks)
-          ∙ joined w.read read more (spells ss (least_parts ss) []) ks)
+      let a = nest_more d (depth m form) within deep in let b = least_deep ss in (
+        w.plug g,
+        w.deep g e le (omega arith),
+        more ++ spells ss (least_parts ss) [],
+        λ ks. w.spelled g ks ∙ ap (λ us. w.read ++ us) (is (spells ss (least_parts ss) ks)) ∙ ap (λ us. w.read ++ (read ++ (more ++ us))) (spells_apart ss (least_parts ss) ks)
+            ∙ joined w.read read more (spells ss (least_parts ss) []) ks,
+      )
 
 nest_bound : (d : Nesting) (a : ℕ) → nest d a ≤ a + 1
 nest_bound level a = omega arith
@@ -244,23 +297,32 @@ nest_least inner a = omega arith
 pub phrase_fails : {n m : Nonterminal} {d : Nesting} {ss : List Symbol} {room within : ℕ} {wrap : ℕ → Tree m × Values ss → Tree n} {old mid : Parser} → Waits n (phrase d m ∷ ss) room wrap old mid
     → Inside d within room → floor ss ≤ room → (new : Parser) (e : ParseFault) → Fails m within mid new e → Fails n room old new e
 phrase_fails {d = d} {ss = ss} {room = room} {within = within} {old = old} {mid = mid} w i low new (Grammar k) h =
-    let r = h.1 in
-    (h.0, record {
-      read = w.read ++ r.read; from = from_both w.read r.read (left old) (left mid) (left new) w.from r.from; count = counted w.read r.read (place old) (place mid) (place new) w.count r.count;
-      goes = goes_inside w new within room r.read (omega arith) i.fits low r.goes;
-      stuck = λ x. stuck_inside w new r.read x x r.from (λ y le. let a = nest_least d y in omega arith) (r.stuck x);
-    })
+    let r = h.1 in (
+      h.0,
+      record {
+        read = w.read ++ r.read;
+        from = from_both w.read r.read (left old) (left mid) (left new) w.from r.from;
+        count = counted w.read r.read (place old) (place mid) (place new) w.count r.count;
+        goes = goes_inside w new within room r.read (omega arith) i.fits low r.goes;
+        stuck = λ x. stuck_inside w new r.read x x r.from (λ y le. let a = nest_least d y in omega arith) (r.stuck x);
+      },
+    )
 phrase_fails {n = n} {d = d} {ss = ss} {room = room} {within = within} {old = old} {mid = mid} w i low new (TooDeep k) h =
     let r = h.1 in
     let far = r.deeper.0 + 1 + room in
-    let bound = nest_bound d r.deeper.0 in
-    (h.0, record {
-      read = w.read ++ r.read; from = from_both w.read r.read (left old) (left mid) (left new) w.from r.from; count = counted w.read r.read (place old) (place mid) (place new) w.count r.count;
-      goes = goes_inside w new within room r.read (omega arith) i.fits low r.goes;
-      stuck = stuck_inside w new r.read within room r.from i.most r.stuck;
-      next = r.next; next_is = r.next_is;
-      deeper = (far, subst (GoesOn n far) (sym (append_assoc w.read r.read (r.next ∷ []))) (goes_inside w new r.deeper.0 far (r.read ++ r.next ∷ []) (omega arith) (omega arith) (omega arith) r.deeper.1));
-    })
+    let bound = nest_bound d r.deeper.0 in (
+      h.0,
+      record {
+        read = w.read ++ r.read;
+        from = from_both w.read r.read (left old) (left mid) (left new) w.from r.from;
+        count = counted w.read r.read (place old) (place mid) (place new) w.count r.count;
+        goes = goes_inside w new within room r.read (omega arith) i.fits low r.goes;
+        stuck = stuck_inside w new r.read within room r.from i.most r.stuck;
+        next = r.next;
+        next_is = r.next_is;
+        deeper = (far, subst (GoesOn n far) (sym (append_assoc w.read r.read (r.next ∷ []))) (goes_inside w new r.deeper.0 far (r.read ++ r.next ∷ []) (omega arith) (omega arith) (omega arith) r.deeper.1));
+      },
+    )
 phrase_fails w i low new OutOfMemory h = tt
 
 -- ---- repetitions: what is still wanted is a phrase of the same nonterminal
@@ -286,8 +348,15 @@ sole_follow (part _ _ _ f done) ks h = h.0
 -- nothing of the repetition was read
 pub begun : (n : Nonterminal) (room : ℕ) (p : Parser) → Waits n (phrase level n ∷ []) room (λ j v. v.0) p p
 begun n room p = record {
-  plug = sole; read = []; from = refl; count = omega arith; spelled = sole_spelled; tree_is = λ g. sole_value g (place p); end_is = λ g. sole_end g (place p);
-  deep = λ g d le h. let a = sole_depth g in omega arith; follow = λ g ks same h. sole_follow g ks h;
+  plug = sole;
+  read = [];
+  from = refl;
+  count = omega arith;
+  spelled = sole_spelled;
+  tree_is = λ g. sole_value g (place p);
+  end_is = λ g. sole_end g (place p);
+  deep = λ g d le h. let a = sole_depth g in omega arith;
+  follow = λ g ks same h. sole_follow g ks h;
   only = λ next same f after ends eq. (part level n [] f done, (ends, tt), eq, omega arith);
 }
 
@@ -322,7 +391,16 @@ again {n = n} {m = m} {ss = ss} {room = room} {wrap = wrap} {wrap' = wrap'} {old
 pub rewrap : {n : Nonterminal} {ss : List Symbol} {room : ℕ} {wrap : ℕ → Values ss → Tree n} (wrap' : ℕ → Values ss → Tree n) {old now : Parser} → Waits n ss room wrap old now
     → ((j : ℕ) (v : Values ss) → wrap j v ≡ wrap' j v) → Waits n ss room wrap' old now
 rewrap wrap' a same = record {
-  plug = a.plug; read = a.read; from = a.from; count = a.count; spelled = a.spelled; tree_is = λ g. a.tree_is g ∙ same _ _; end_is = a.end_is; deep = a.deep; follow = a.follow; only = a.only;
+  plug = a.plug;
+  read = a.read;
+  from = a.from;
+  count = a.count;
+  spelled = a.spelled;
+  tree_is = λ g. a.tree_is g ∙ same _ _;
+  end_is = a.end_is;
+  deep = a.deep;
+  follow = a.follow;
+  only = a.only;
 }
 
 -- the exit of a `?`

@@ -22,6 +22,7 @@ pub enum ParseFault {
 
 impl From<AllocError> for ParseFault {
     ghost use Rattle.ob_parse.specs.declared.cursor.ParseFault.TheVariants.{OutOfMemory};
+
     ghost from_gives = { λ _ e. e ≡ OutOfMemory };
 
     fn from(_error: AllocError) -> ParseFault {
@@ -31,6 +32,7 @@ impl From<AllocError> for ParseFault {
 
 impl<T: Drop> From<AllocFailed<T>> for ParseFault {
     ghost use Rattle.ob_parse.specs.declared.cursor.ParseFault.TheVariants.{OutOfMemory};
+
     ghost from_gives = { λ _ e. e ≡ OutOfMemory };
 
     fn from(_error: AllocFailed<T>) -> ParseFault {

@@ -10,7 +10,10 @@ ghost use Rattle.ob_syntax.specs.Predict.{first};
 ghost use Rattle.ob_parse.specs.Reading.{left, Reads, IsRead, IsNext};
 
 use crate::cursor::{ParseFault, Parser};
-use ob_syntax::{Designator, Expr, Factor, FactorForm, Kind, NextFactor, NextTerm, Relation, Selector, SelectorForm, SimpleExpr, Term};
+use ob_syntax::{
+    Designator, Expr, Factor, FactorForm, Kind, NextFactor, NextTerm, Relation, Selector,
+    SelectorForm, SimpleExpr, Term,
+};
 use pra_list::{Owned, Seq};
 
 /// `selector = {"." ident | "[" expression "]"}.`

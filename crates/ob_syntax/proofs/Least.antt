@@ -19,25 +19,34 @@ mutual
 
 abbrev least_factor : Form Factor
 least_factor = made Factor (number (pos 0)) (taken _ _ done)
+
 abbrev least_term : Form Term
 least_term = made Term term (part _ _ _ least_factor (part _ _ _ (made Factors no_factors done) done))
+
 abbrev least_simple : Form SimpleExpression
 least_simple = made SimpleExpression simple_expression (part _ _ _ (made Sign no_sign done) (part _ _ _ least_term (part _ _ _ (made Terms no_terms done) done)))
+
 abbrev least_expression : Form Expression
 least_expression = made Expression expression (part _ _ _ least_simple (part _ _ _ (made Comparison no_comparison done) done))
+
 abbrev least_idents : Form IdentList
 least_idents = made IdentList ident_list (taken _ _ (part _ _ _ (made Idents last_ident done) done))
+
 abbrev least_type : Form TypeExpression
 least_type = made TypeExpression type_name (taken _ _ done)
+
 abbrev least_names : Form NameList
 least_names = made NameList name_list (part _ _ _ least_idents (taken _ _ (part _ _ _ least_type done)))
+
 abbrev least_declarations : Form Declarations
 least_declarations = made Declarations declarations (part _ _ _ (made Constants no_constants done) (part _ _ _ (made Types no_types done) (part _ _ _ (made Variables no_variables done) (part _ _ _ (made Procedures no_procedures done) done))))
+
 abbrev least_body : Form Body
 least_body = made Body no_body done
 
 abbrev least_sequence : Form StatementSequence
 least_sequence = made StatementSequence statement_sequence (part _ _ _ (made Statement empty_statement done) (part _ _ _ (made Statements last_statement done) done))
+
 abbrev least_arm : Form Arm
 least_arm = made Arm arm (part _ _ _ least_expression (taken _ _ (part _ _ _ least_sequence done)))
 
