@@ -2,3 +2,8 @@ pub mod Words
 pub mod Comments
 pub mod Pieces
 pub mod Texts
+pub mod Chosen
+pub mod Least
+pub mod OneTree
+pub mod Settles
+pub mod Unique

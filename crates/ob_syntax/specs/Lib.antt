@@ -1,1 +1,6 @@
 pub mod Tokens
+pub mod Derives
+pub mod Forms
+pub mod Grammar
+pub mod Predict
+pub mod Tree

@@ -3,5 +3,11 @@
 
 pub mod token;
 pub mod token_laws;
+pub mod tree;
 
 pub use token::{Kind, Token};
+pub use tree::{
+    Arm, ConstDecl, Decls, Designator, Expr, Factor, FactorForm, Module, NameList, NextFactor,
+    NextTerm, Proc, Relation, Section, Selector, SelectorForm, SimpleExpr, Span, Stmt, StmtForm,
+    Term, TypeDecl, TypeExpr, TypeForm,
+};

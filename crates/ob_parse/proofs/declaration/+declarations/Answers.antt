@@ -1,0 +1,125 @@
+use Rattle.std.proofs.Common.{◌≡◌, ◌≤◌, ◌<◌, ℕ, ◌+◌, ◌-◌, List, [], ◌∷◌, ◌++◌, Option, Some, None, Bool, true, false, refl, ap, ◌∙◌, sym, subst, arith, lit≤, append-nil}
+use Rattle.std.specs.Prelude.{option_to_list, MatchBool}
+use Rattle.ob_syntax.specs.declared.token.Kind.{Kind}
+use Rattle.ob_syntax.specs.declared.token.Kind.TheVariants.{Ident, Number, KwArray, KwBegin, KwConst, KwDo, KwElse, KwElsif, KwEnd, KwIf, KwModule, KwOf, KwProcedure, KwRecord, KwThen, KwType, KwVar, KwWhile, Period, Comma, Semicolon, Colon, Becomes, LeftParen, RightParen, Equal}
+use Rattle.ob_syntax.specs.declared.tree.Proc.{Proc}
+use Rattle.ob_syntax.specs.Grammar.{level, deeper, inner, token, phrase, Declarations, Constants, Types, Variables, Procedures, Procedure, FormalParameters, Body, declarations, procedure, next_procedure, no_procedures}
+use Rattle.ob_syntax.specs.Predict.{first, by_first, behind_name}
+use Rattle.ob_syntax.specs.Tree.{Tree, tree_by}
+use Rattle.ob_parse.specs.declared.cursor.Parser.{Parser}
+use Rattle.ob_parse.specs.Reading.{left, place, IsRead, IsNext}
+use Rattle.ob_parse.proofs.Choices.{kind_at, not_procedure, procedure_begins}
+use Rattle.ob_parse.proofs.Loops.{put_one, put_some}
+use Rattle.ob_parse.proofs.Moves.{later}
+use Rattle.ob_parse.proofs.Steps.{Waits, Chooses, opened, after_token, after_phrase, roomier, as_deep, one_deeper, at_least_one, closed, refused, too_deep, begins_with, begins_inside, token_missing, phrase_fails, begun, again, rewrap, exits}
+use Rattle.ob_parse.specs.declared.cursor.ParseFault.TheVariants.{TooDeep}
+use Rattle.ob_parse.proofs.declaration.+declarations.Goals as goal
+
+pub declarations-returns-in_err-consts : goal.declarations-returns-in_err-consts
+declarations-returns-in_err-consts t c =
+    exits Declarations c.args.room c.args.p.now c.constants.new.p c.from_residual.result c.in_err-consts.field-0.0 c.from_residual.ensures.1
+    (phrase_fails (opened declarations c.args.room c.args.p.now (λ next same. refl)) (as_deep c.args.room) (omega arith) c.constants.new.p c.in_err-consts.field-0.0 c.in_err-consts.ensures)
+
+pub declarations-returns-in_err-types : goal.declarations-returns-in_err-types
+declarations-returns-in_err-types t c =
+    exits Declarations c.args.room c.args.p.now c.types.new.p c.from_residual-in_err-types.result c.in_err-types.field-0.0 c.from_residual-in_err-types.ensures.1
+    (phrase_fails (after_phrase (opened declarations c.args.room c.args.p.now (λ next same. refl)) (as_deep c.args.room) c.in_ok-consts.ensures) (as_deep c.args.room) (omega arith) c.types.new.p c.in_err-types.field-0.0 c.in_err-types.ensures)
+
+pub declarations-returns-in_err-vars : goal.declarations-returns-in_err-vars
+declarations-returns-in_err-vars t c =
+    exits Declarations c.args.room c.args.p.now c.variables.new.p c.from_residual-in_err-vars.result c.in_err-vars.field-0.0 c.from_residual-in_err-vars.ensures.1
+    (phrase_fails (after_phrase (after_phrase (opened declarations c.args.room c.args.p.now (λ next same. refl)) (as_deep c.args.room) c.in_ok-consts.ensures) (as_deep c.args.room) c.in_ok-types.ensures) (as_deep c.args.room) (omega arith) c.variables.new.p c.in_err-vars.field-0.0 c.in_err-vars.ensures)
+
+pub declarations-returns-in_err-procs : goal.declarations-returns-in_err-procs
+declarations-returns-in_err-procs t c =
+    exits Declarations c.args.room c.args.p.now c.procedures.new.p c.from_residual-in_err-procs.result c.in_err-procs.field-0.0 c.from_residual-in_err-procs.ensures.1
+    (phrase_fails (after_phrase (after_phrase (after_phrase (opened declarations c.args.room c.args.p.now (λ next same. refl)) (as_deep c.args.room) c.in_ok-consts.ensures) (as_deep c.args.room) c.in_ok-types.ensures) (as_deep c.args.room) c.in_ok-vars.ensures) (as_deep c.args.room) (omega arith) c.procedures.new.p c.in_err-procs.field-0.0 c.in_err-procs.ensures)
+
+pub declarations-returns : goal.declarations-returns
+declarations-returns t c =
+    closed (after_phrase (after_phrase (after_phrase (after_phrase (opened declarations c.args.room c.args.p.now (λ next same. refl)) (as_deep c.args.room) c.in_ok-consts.ensures) (as_deep c.args.room) c.in_ok-types.ensures) (as_deep c.args.room) c.in_ok-vars.ensures) (as_deep c.args.room) c.in_ok-procs.ensures)
+
+next_procedures : (room : ℕ) (p : Parser) → first (left p) ≡ Some KwProcedure → Waits Procedures (phrase deeper Procedure ∷ token Semicolon ∷ phrase level Procedures ∷ []) room (tree_by next_procedure (place p)) p p
+next_procedures room p at = opened next_procedure room p (λ next same. ap (by_first Procedures) (same ∙ at))
+
+more_procedures : (room less : ℕ) → room ≡ less + 1 → (xs ys : List Proc) (x : Proc) → ys ≡ xs ++ x ∷ [] → (old p q new : Parser) → Waits Procedures (phrase level Procedures ∷ []) room (λ j v. xs ++ v.0) old p → first (left p) ≡ Some KwProcedure → IsRead Procedure less x p q → IsNext Semicolon q new
+    → Waits Procedures (phrase level Procedures ∷ []) room (λ j v. ys ++ v.0) old new
+more_procedures room less is xs ys x push old p q new a at r n =
+    rewrap (λ j v. ys ++ v.0) (again a (after_token (after_phrase (next_procedures room p at) (one_deeper less room is) r) n)) (λ j v. put_one xs ys v.0 x push)
+
+pub procedures-loop-all-init : goal.procedures-loop-all-init
+procedures-loop-all-init t c =
+    rw c.new-all.ensures (begun Procedures c.args.room c.args.p.now)
+
+pub procedures-returns-then-room-eq0 : goal.procedures-returns-then-room-eq0
+procedures-returns-then-room-eq0 t c =
+    let at = c.loop-all-test.ensures in
+    let f = too_deep next_procedure c.args.room c.loop-all.p KwProcedure (λ next same. ap (by_first Procedures) (same ∙ at)) at (omega arith) (lit≤ tt) (lit≤ tt) (begins_inside Procedures next_procedure deeper Procedure _ (λ ps. ps) (λ ps ks. refl) (KwProcedure ∷ []) procedure_begins) in
+    phrase_fails c.loop-all.invariant (as_deep c.args.room) (omega arith) c.loop-all.p (TooDeep (place c.loop-all.p)) f
+
+pub procedures-returns-in_err-next : goal.procedures-returns-in_err-next
+procedures-returns-in_err-next t c =
+    exits Procedures c.args.room c.args.p.now c.procedure.new.p c.from_residual.result c.in_err-next.field-0.0 c.from_residual.ensures.1
+    (phrase_fails (again c.loop-all.invariant (next_procedures c.args.room c.loop-all.p c.loop-all-test.ensures)) (one_deeper (c.args.room - 1) c.args.room (omega arith)) (omega arith) c.procedure.new.p c.in_err-next.field-0.0 c.in_err-next.ensures)
+
+pub procedures-returns-in_err-semicolon : goal.procedures-returns-in_err-semicolon
+procedures-returns-in_err-semicolon t c =
+    exits Procedures c.args.room c.args.p.now c.semicolon.new.self c.from_residual-in_err-semicolon.result c.in_err-semicolon.field-0.0 c.from_residual-in_err-semicolon.ensures.1
+    (token_missing (again c.loop-all.invariant (after_phrase (next_procedures c.args.room c.loop-all.p c.loop-all-test.ensures) (one_deeper (c.args.room - 1) c.args.room (omega arith)) c.in_ok-next.ensures)) (omega arith) c.semicolon.new.self c.in_err-semicolon.field-0.0 c.in_err-semicolon.ensures)
+
+pub procedures-loop-all-preserved : goal.procedures-loop-all-preserved
+procedures-loop-all-preserved t c =
+    more_procedures c.args.room (c.args.room - 1) (omega arith) c.loop-all.all c.push.new.self c.in_ok-next.next c.in_ok-push.ensures.ok c.args.p.now c.loop-all.p c.procedure.new.p c.semicolon.new.self c.loop-all.invariant c.loop-all-test.ensures c.in_ok-next.ensures c.in_ok-semicolon.ensures
+
+pub procedures-returns : goal.procedures-returns
+procedures-returns t c =
+    let r = closed (opened no_procedures c.args.room c.loop-all.p (λ next same. ap (by_first Procedures) same ∙ not_procedure _ c.loop-all-test.ensures)) in
+    subst (λ xs. IsRead Procedures c.args.room xs c.args.p.now c.loop-all.p) (append-nil c.loop-all.all) (closed (after_phrase c.loop-all.invariant (as_deep c.args.room) r))
+
+pub procedure-returns-in_err-procedure : goal.procedure-returns-in_err-procedure
+procedure-returns-in_err-procedure t c =
+    exits Procedure c.args.room c.args.p.now c.procedure.new.self c.from_residual.result c.in_err-procedure.field-0.0 c.from_residual.ensures.1
+    (token_missing (opened procedure c.args.room c.args.p.now (λ next same. refl)) (omega arith) c.procedure.new.self c.in_err-procedure.field-0.0 c.in_err-procedure.ensures)
+
+pub procedure-returns-in_err-ident : goal.procedure-returns-in_err-ident
+procedure-returns-in_err-ident t c =
+    exits Procedure c.args.room c.args.p.now c.ident.new.self c.from_residual-in_err-ident.result c.in_err-ident.field-0.0 c.from_residual-in_err-ident.ensures.1
+    (token_missing (after_token (opened procedure c.args.room c.args.p.now (λ next same. refl)) c.in_ok-procedure.ensures) (omega arith) c.ident.new.self c.in_err-ident.field-0.0 c.in_err-ident.ensures)
+
+pub procedure-returns-in_err-params : goal.procedure-returns-in_err-params
+procedure-returns-in_err-params t c =
+    exits Procedure c.args.room c.args.p.now c.formal_parameters.new.p c.from_residual-in_err-params.result c.in_err-params.field-0.0 c.from_residual-in_err-params.ensures.1
+    (phrase_fails (after_token (after_token (opened procedure c.args.room c.args.p.now (λ next same. refl)) c.in_ok-procedure.ensures) c.in_ok-ident.ensures) (as_deep c.args.room) (omega arith) c.formal_parameters.new.p c.in_err-params.field-0.0 c.in_err-params.ensures)
+
+pub procedure-returns-in_err-semicolon : goal.procedure-returns-in_err-semicolon
+procedure-returns-in_err-semicolon t c =
+    exits Procedure c.args.room c.args.p.now c.semicolon.new.self c.from_residual-in_err-semicolon.result c.in_err-semicolon.field-0.0 c.from_residual-in_err-semicolon.ensures.1
+    (token_missing (after_phrase (after_token (after_token (opened procedure c.args.room c.args.p.now (λ next same. refl)) c.in_ok-procedure.ensures) c.in_ok-ident.ensures) (as_deep c.args.room) c.in_ok-params.ensures) (omega arith) c.semicolon.new.self c.in_err-semicolon.field-0.0 c.in_err-semicolon.ensures)
+
+pub procedure-returns-in_err-decls : goal.procedure-returns-in_err-decls
+procedure-returns-in_err-decls t c =
+    exits Procedure c.args.room c.args.p.now c.declarations.new.p c.from_residual-in_err-decls.result c.in_err-decls.field-0.0 c.from_residual-in_err-decls.ensures.1
+    (phrase_fails (after_token (after_phrase (after_token (after_token (opened procedure c.args.room c.args.p.now (λ next same. refl)) c.in_ok-procedure.ensures) c.in_ok-ident.ensures) (as_deep c.args.room) c.in_ok-params.ensures) c.in_ok-semicolon.ensures) (as_deep c.args.room) (omega arith) c.declarations.new.p c.in_err-decls.field-0.0 c.in_err-decls.ensures)
+
+pub procedure-returns-in_err-body : goal.procedure-returns-in_err-body
+procedure-returns-in_err-body t c =
+    exits Procedure c.args.room c.args.p.now c.body.new.p c.from_residual-in_err-body.result c.in_err-body.field-0.0 c.from_residual-in_err-body.ensures.1
+    (phrase_fails (after_phrase (after_token (after_phrase (after_token (after_token (opened procedure c.args.room c.args.p.now (λ next same. refl)) c.in_ok-procedure.ensures) c.in_ok-ident.ensures) (as_deep c.args.room) c.in_ok-params.ensures) c.in_ok-semicolon.ensures) (as_deep c.args.room) c.in_ok-decls.ensures) (as_deep c.args.room) (omega arith) c.body.new.p c.in_err-body.field-0.0 c.in_err-body.ensures)
+
+pub procedure-returns-in_err-end : goal.procedure-returns-in_err-end
+procedure-returns-in_err-end t c =
+    exits Procedure c.args.room c.args.p.now c.end.new.self c.from_residual-in_err-end.result c.in_err-end.field-0.0 c.from_residual-in_err-end.ensures.1
+    (token_missing (after_phrase (after_phrase (after_token (after_phrase (after_token (after_token (opened procedure c.args.room c.args.p.now (λ next same. refl)) c.in_ok-procedure.ensures) c.in_ok-ident.ensures) (as_deep c.args.room) c.in_ok-params.ensures) c.in_ok-semicolon.ensures) (as_deep c.args.room) c.in_ok-decls.ensures) (as_deep c.args.room) c.in_ok-body.ensures) (omega arith) c.end.new.self c.in_err-end.field-0.0 c.in_err-end.ensures)
+
+pub procedure-returns-in_err-ident-2 : goal.procedure-returns-in_err-ident-2
+procedure-returns-in_err-ident-2 t c =
+    exits Procedure c.args.room c.args.p.now c.ident-2.new.self c.from_residual-in_err-ident-2.result c.in_err-ident-2.field-0.0 c.from_residual-in_err-ident-2.ensures.1
+    (token_missing (after_token (after_phrase (after_phrase (after_token (after_phrase (after_token (after_token (opened procedure c.args.room c.args.p.now (λ next same. refl)) c.in_ok-procedure.ensures) c.in_ok-ident.ensures) (as_deep c.args.room) c.in_ok-params.ensures) c.in_ok-semicolon.ensures) (as_deep c.args.room) c.in_ok-decls.ensures) (as_deep c.args.room) c.in_ok-body.ensures) c.in_ok-end.ensures) (omega arith) c.ident-2.new.self c.in_err-ident-2.field-0.0 c.in_err-ident-2.ensures)
+
+pub procedure-span_from-span-requires : goal.procedure-span_from-span-requires
+procedure-span_from-span-requires t c =
+    omega (arith, c.in_ok-procedure.ensures.place_is, c.in_ok-ident.ensures.place_is, later c.in_ok-params.ensures, c.in_ok-semicolon.ensures.place_is, later c.in_ok-decls.ensures, later c.in_ok-body.ensures, c.in_ok-end.ensures.place_is, c.in_ok-ident-2.ensures.place_is)
+
+pub procedure-returns : goal.procedure-returns
+procedure-returns t c =
+    rw c.span_from-span.ensures (closed (after_token (after_token (after_phrase (after_phrase (after_token (after_phrase (after_token (after_token (opened procedure c.args.room c.args.p.now (λ next same. refl)) c.in_ok-procedure.ensures) c.in_ok-ident.ensures) (as_deep c.args.room) c.in_ok-params.ensures) c.in_ok-semicolon.ensures) (as_deep c.args.room) c.in_ok-decls.ensures) (as_deep c.args.room) c.in_ok-body.ensures) c.in_ok-end.ensures) c.in_ok-ident-2.ensures))

@@ -1,0 +1,33 @@
+use Rattle.std.proofs.Common.{◌≡◌, ◌≤◌, ◌<◌, ℕ, ◌+◌, ◌-◌, List, [], ◌∷◌, ◌++◌, Option, Some, None, Bool, true, false, refl, ap, ◌∙◌, sym, subst, arith, lit≤, append-nil}
+use Rattle.std.specs.Prelude.{option_to_list, MatchBool}
+use Rattle.ob_syntax.specs.declared.token.Kind.{Kind}
+use Rattle.ob_syntax.specs.declared.token.Kind.TheVariants.{Ident, Number, KwArray, KwBegin, KwConst, KwDo, KwElse, KwElsif, KwEnd, KwIf, KwModule, KwOf, KwProcedure, KwRecord, KwThen, KwType, KwVar, KwWhile, Period, Comma, Semicolon, Colon, Becomes, LeftParen, RightParen, Equal}
+use Rattle.ob_syntax.specs.Grammar.{level, deeper, inner, token, phrase, Constant, Expression, constant}
+use Rattle.ob_syntax.specs.Predict.{first, by_first, behind_name}
+use Rattle.ob_syntax.specs.Tree.{Tree, tree_by}
+use Rattle.ob_parse.specs.declared.cursor.Parser.{Parser}
+use Rattle.ob_parse.specs.Reading.{left, place, IsRead, IsNext}
+use Rattle.ob_parse.proofs.Choices.{kind_at}
+use Rattle.ob_parse.proofs.Loops.{put_one, put_some}
+use Rattle.ob_parse.proofs.Moves.{later}
+use Rattle.ob_parse.proofs.Steps.{Waits, Chooses, opened, after_token, after_phrase, roomier, as_deep, one_deeper, at_least_one, closed, refused, too_deep, begins_with, begins_inside, token_missing, phrase_fails, begun, again, rewrap, exits}
+use Rattle.ob_parse.proofs.declaration.constant.Goals as goal
+
+pub returns-in_err-ident : goal.returns-in_err-ident
+returns-in_err-ident c =
+    exits Constant c.args.room c.args.p.now c.ident.new.self c.from_residual.result c.in_err-ident.field-0.0 c.from_residual.ensures.1
+    (token_missing (opened constant c.args.room c.args.p.now (λ next same. refl)) (omega arith) c.ident.new.self c.in_err-ident.field-0.0 c.in_err-ident.ensures)
+
+pub returns-in_err-equal : goal.returns-in_err-equal
+returns-in_err-equal c =
+    exits Constant c.args.room c.args.p.now c.equal.new.self c.from_residual-in_err-equal.result c.in_err-equal.field-0.0 c.from_residual-in_err-equal.ensures.1
+    (token_missing (after_token (opened constant c.args.room c.args.p.now (λ next same. refl)) c.in_ok-ident.ensures) (omega arith) c.equal.new.self c.in_err-equal.field-0.0 c.in_err-equal.ensures)
+
+pub returns-in_err-value : goal.returns-in_err-value
+returns-in_err-value c =
+    exits Constant c.args.room c.args.p.now c.expression.new.p c.from_residual-in_err-value.result c.in_err-value.field-0.0 c.from_residual-in_err-value.ensures.1
+    (phrase_fails (after_token (after_token (opened constant c.args.room c.args.p.now (λ next same. refl)) c.in_ok-ident.ensures) c.in_ok-equal.ensures) (as_deep c.args.room) (omega arith) c.expression.new.p c.in_err-value.field-0.0 c.in_err-value.ensures)
+
+pub returns : goal.returns
+returns c =
+    closed (after_phrase (after_token (after_token (opened constant c.args.room c.args.p.now (λ next same. refl)) c.in_ok-ident.ensures) c.in_ok-equal.ensures) (as_deep c.args.room) c.in_ok-value.ensures)

@@ -1,0 +1,37 @@
+use Rattle.std.proofs.Common.{◌≡◌, ◌≤◌, ◌<◌, ℕ, ◌+◌, ◌-◌, List, [], ◌∷◌, ◌++◌, Option, Some, None, Bool, true, false, refl, ap, ◌∙◌, sym, subst, arith, lit≤, append-nil}
+use Rattle.std.specs.Prelude.{option_to_list, MatchBool}
+use Rattle.ob_syntax.specs.declared.token.Kind.{Kind}
+use Rattle.ob_syntax.specs.declared.token.Kind.TheVariants.{Ident, Number, KwArray, KwBegin, KwConst, KwDo, KwElse, KwElsif, KwEnd, KwIf, KwModule, KwOf, KwProcedure, KwRecord, KwThen, KwType, KwVar, KwWhile, Period, Comma, Semicolon, Colon, Becomes, LeftParen, RightParen, Equal}
+use Rattle.ob_syntax.specs.Grammar.{level, deeper, inner, token, phrase, Section, ByVar, IdentList, TypeExpression, section, by_var, by_value}
+use Rattle.ob_syntax.specs.Predict.{first, by_first, behind_name}
+use Rattle.ob_syntax.specs.Tree.{Tree, tree_by}
+use Rattle.ob_parse.specs.declared.cursor.Parser.{Parser}
+use Rattle.ob_parse.specs.Reading.{left, place, IsRead, IsNext}
+use Rattle.ob_parse.proofs.Choices.{kind_at, by_value_first}
+use Rattle.ob_parse.proofs.Loops.{put_one, put_some}
+use Rattle.ob_parse.proofs.Moves.{later}
+use Rattle.ob_parse.proofs.Steps.{Waits, Chooses, opened, after_token, after_phrase, roomier, as_deep, one_deeper, at_least_one, closed, refused, too_deep, begins_with, begins_inside, token_missing, phrase_fails, begun, again, rewrap, exits}
+use Rattle.ob_parse.proofs.declaration.section.Goals as goal
+
+var_read : (b : Bool) (room : ℕ) (p q : Parser) → MatchBool b (IsNext KwVar p q) ((q ≡ p) × (first (left p) ≡ Some KwVar → ⊥)) → IsRead ByVar room b p q
+var_read true room p q n = closed (after_token (opened by_var room p (λ next same. ap (by_first ByVar) (same ∙ ap first n.from))) n)
+var_read false room p q e = subst (λ q. IsRead ByVar room false p q) (sym e.0) (closed (opened by_value room p (λ next same. ap (by_first ByVar) same ∙ by_value_first _ e.1)))
+
+pub returns-in_err-names : goal.returns-in_err-names
+returns-in_err-names c =
+    exits Section c.args.room c.args.p.now c.ident_list.new.p c.from_residual.result c.in_err-names.field-0.0 c.from_residual.ensures.1
+    (phrase_fails (after_phrase (opened section c.args.room c.args.p.now (λ next same. refl)) (as_deep c.args.room) (var_read c.accept_var-by_var.result c.args.room c.args.p.now c.accept_var-by_var.new.self c.accept_var-by_var.ensures)) (as_deep c.args.room) (omega arith) c.ident_list.new.p c.in_err-names.field-0.0 (c.in_err-names.ensures c.args.room))
+
+pub returns-in_err-colon : goal.returns-in_err-colon
+returns-in_err-colon c =
+    exits Section c.args.room c.args.p.now c.colon.new.self c.from_residual-in_err-colon.result c.in_err-colon.field-0.0 c.from_residual-in_err-colon.ensures.1
+    (token_missing (after_phrase (after_phrase (opened section c.args.room c.args.p.now (λ next same. refl)) (as_deep c.args.room) (var_read c.accept_var-by_var.result c.args.room c.args.p.now c.accept_var-by_var.new.self c.accept_var-by_var.ensures)) (as_deep c.args.room) (c.in_ok-names.ensures c.args.room)) (omega arith) c.colon.new.self c.in_err-colon.field-0.0 c.in_err-colon.ensures)
+
+pub returns-in_err-shape : goal.returns-in_err-shape
+returns-in_err-shape c =
+    exits Section c.args.room c.args.p.now c.type_expression.new.p c.from_residual-in_err-shape.result c.in_err-shape.field-0.0 c.from_residual-in_err-shape.ensures.1
+    (phrase_fails (after_token (after_phrase (after_phrase (opened section c.args.room c.args.p.now (λ next same. refl)) (as_deep c.args.room) (var_read c.accept_var-by_var.result c.args.room c.args.p.now c.accept_var-by_var.new.self c.accept_var-by_var.ensures)) (as_deep c.args.room) (c.in_ok-names.ensures c.args.room)) c.in_ok-colon.ensures) (as_deep c.args.room) (omega arith) c.type_expression.new.p c.in_err-shape.field-0.0 c.in_err-shape.ensures)
+
+pub returns : goal.returns
+returns c =
+    closed (after_phrase (after_token (after_phrase (after_phrase (opened section c.args.room c.args.p.now (λ next same. refl)) (as_deep c.args.room) (var_read c.accept_var-by_var.result c.args.room c.args.p.now c.accept_var-by_var.new.self c.accept_var-by_var.ensures)) (as_deep c.args.room) (c.in_ok-names.ensures c.args.room)) c.in_ok-colon.ensures) (as_deep c.args.room) c.in_ok-shape.ensures)

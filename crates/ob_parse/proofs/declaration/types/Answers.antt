@@ -1,0 +1,31 @@
+use Rattle.std.proofs.Common.{◌≡◌, ◌≤◌, ◌<◌, ℕ, ◌+◌, ◌-◌, List, [], ◌∷◌, ◌++◌, Option, Some, None, Bool, true, false, refl, ap, ◌∙◌, sym, subst, arith, lit≤, append-nil}
+use Rattle.std.specs.Prelude.{option_to_list, MatchBool}
+use Rattle.ob_syntax.specs.declared.token.Kind.{Kind}
+use Rattle.ob_syntax.specs.declared.token.Kind.TheVariants.{Ident, Number, KwArray, KwBegin, KwConst, KwDo, KwElse, KwElsif, KwEnd, KwIf, KwModule, KwOf, KwProcedure, KwRecord, KwThen, KwType, KwVar, KwWhile, Period, Comma, Semicolon, Colon, Becomes, LeftParen, RightParen, Equal}
+use Rattle.ob_syntax.specs.Grammar.{level, deeper, inner, token, phrase, Types, TypeList, types, no_types}
+use Rattle.ob_syntax.specs.Predict.{first, by_first, behind_name}
+use Rattle.ob_syntax.specs.Tree.{Tree, tree_by}
+use Rattle.ob_parse.specs.declared.cursor.Parser.{Parser}
+use Rattle.ob_parse.specs.Reading.{left, place, IsRead, IsNext}
+use Rattle.ob_parse.proofs.Choices.{kind_at, not_type}
+use Rattle.ob_parse.proofs.Loops.{put_one, put_some}
+use Rattle.ob_parse.proofs.Moves.{later}
+use Rattle.ob_parse.proofs.Steps.{Waits, Chooses, opened, after_token, after_phrase, roomier, as_deep, one_deeper, at_least_one, closed, refused, too_deep, begins_with, begins_inside, token_missing, phrase_fails, begun, again, rewrap, exits}
+use Rattle.ob_parse.proofs.declaration.types.Goals as goal
+
+wanted : (room : ℕ) (p q : Parser) → IsNext KwType p q → Waits Types (phrase level TypeList ∷ []) room (λ j v. tree_by types (place p) j (place p, v)) p q
+wanted room p q n = after_token (opened types room p (λ next same. ap (by_first Types) (same ∙ ap first n.from))) n
+
+pub returns-then-not-accept_type : goal.returns-then-not-accept_type
+returns-then-not-accept_type c =
+    let e = c.if-not-accept_type.ensures in
+    rw c.new.ensures (subst (λ q. IsRead Types c.args.room [] c.args.p.now q) (sym e.0) (closed (opened no_types c.args.room c.args.p.now (λ next same. ap (by_first Types) same ∙ not_type _ e.1))))
+
+pub returns-in_err-list : goal.returns-in_err-list
+returns-in_err-list c =
+    exits Types c.args.room c.args.p.now c.type_list.new.p c.from_residual.result c.in_err-list.field-0.0 c.from_residual.ensures.1
+    (phrase_fails (wanted c.args.room c.args.p.now c.accept_type.new.self c.if-not-accept_type.ensures) (as_deep c.args.room) (omega arith) c.type_list.new.p c.in_err-list.field-0.0 c.in_err-list.ensures)
+
+pub returns : goal.returns
+returns c =
+    closed (after_phrase (wanted c.args.room c.args.p.now c.accept_type.new.self c.if-not-accept_type.ensures) (as_deep c.args.room) c.in_ok-list.ensures)

@@ -1,0 +1,44 @@
+use Rattle.std.proofs.Common.{◌≡◌, ◌≤◌, ◌<◌, ℕ, ◌+◌, ◌-◌, List, [], ◌∷◌, ◌++◌, Option, Some, None, Bool, true, false, refl, ap, ◌∙◌, sym, subst, arith, lit≤, append-nil}
+use Rattle.std.specs.Prelude.{option_to_list, MatchBool}
+use Rattle.ob_syntax.specs.declared.token.Kind.{Kind}
+use Rattle.ob_syntax.specs.declared.token.Kind.TheVariants.{Ident, Number, KwArray, KwBegin, KwConst, KwDo, KwElse, KwElsif, KwEnd, KwIf, KwModule, KwOf, KwProcedure, KwRecord, KwThen, KwType, KwVar, KwWhile, Period, Comma, Semicolon, Colon, Becomes, LeftParen, RightParen, Equal}
+use Rattle.ob_syntax.specs.Grammar.{level, deeper, inner, token, phrase, StatementSequence, Statements, Statement, Action, Arms, Arm, Elsifs, Else, Expression, Selectors, ActualParameters, statement_sequence, next_statement, last_statement, empty_statement, statement, assignment, call, if_statement, while_statement, arms, arm, next_elsif, no_elsif, otherwise, no_else}
+use Rattle.ob_syntax.specs.Predict.{first, by_first, behind_name}
+use Rattle.ob_syntax.specs.Tree.{Tree, tree_by}
+use Rattle.ob_parse.specs.declared.cursor.Parser.{Parser}
+use Rattle.ob_parse.specs.Reading.{left, place, IsRead, IsNext}
+use Rattle.ob_parse.proofs.Choices.{kind_at}
+use Rattle.ob_parse.proofs.Loops.{put_one, put_some}
+use Rattle.ob_parse.proofs.Moves.{later}
+use Rattle.ob_parse.proofs.Steps.{Waits, Chooses, opened, after_token, after_phrase, roomier, as_deep, one_deeper, at_least_one, closed, refused, too_deep, begins_with, begins_inside, token_missing, phrase_fails, begun, again, rewrap, exits}
+use Rattle.ob_parse.proofs.Named.{assigned, called}
+use Rattle.ob_parse.proofs.statement.assignment_or_call.Goals as goal
+
+pub returns-in_err-selectors : goal.returns-in_err-selectors
+returns-in_err-selectors c =
+    exits Action c.args.room c.args.p.now c.selectors.new.p c.from_residual.result c.in_err-selectors.field-0.0 c.from_residual.ensures.1
+    (phrase_fails (assigned c.args.room c.args.p.now c.advance.new.self (c.advance.ensures Ident c.requires) c.if-continues_assignment.ensures) (as_deep c.args.room) (omega arith) c.selectors.new.p c.in_err-selectors.field-0.0 c.in_err-selectors.ensures)
+
+pub returns-in_err-becomes : goal.returns-in_err-becomes
+returns-in_err-becomes c =
+    exits Action c.args.room c.args.p.now c.becomes.new.self c.from_residual-in_err-becomes.result c.in_err-becomes.field-0.0 c.from_residual-in_err-becomes.ensures.1
+    (token_missing (after_phrase (assigned c.args.room c.args.p.now c.advance.new.self (c.advance.ensures Ident c.requires) c.if-continues_assignment.ensures) (as_deep c.args.room) c.in_ok-selectors.ensures) (omega arith) c.becomes.new.self c.in_err-becomes.field-0.0 c.in_err-becomes.ensures)
+
+pub returns-in_err-value : goal.returns-in_err-value
+returns-in_err-value c =
+    exits Action c.args.room c.args.p.now c.expression.new.p c.from_residual-in_err-value.result c.in_err-value.field-0.0 c.from_residual-in_err-value.ensures.1
+    (phrase_fails (after_token (after_phrase (assigned c.args.room c.args.p.now c.advance.new.self (c.advance.ensures Ident c.requires) c.if-continues_assignment.ensures) (as_deep c.args.room) c.in_ok-selectors.ensures) c.in_ok-becomes.ensures) (as_deep c.args.room) (omega arith) c.expression.new.p c.in_err-value.field-0.0 c.in_err-value.ensures)
+
+pub returns-then-continues_assignment : goal.returns-then-continues_assignment
+returns-then-continues_assignment c =
+    rw (c.span_from.ensures, c.span_from-span.ensures)
+    (closed (after_phrase (after_token (after_phrase (assigned c.args.room c.args.p.now c.advance.new.self (c.advance.ensures Ident c.requires) c.if-continues_assignment.ensures) (as_deep c.args.room) c.in_ok-selectors.ensures) c.in_ok-becomes.ensures) (as_deep c.args.room) c.in_ok-value.ensures))
+
+pub returns-in_err-arguments : goal.returns-in_err-arguments
+returns-in_err-arguments c =
+    exits Action c.args.room c.args.p.now c.actual_parameters.new.p c.from_residual-in_err-arguments.result c.in_err-arguments.field-0.0 c.from_residual-in_err-arguments.ensures.1
+    (phrase_fails (called c.args.room c.args.p.now c.advance.new.self (c.advance.ensures Ident c.requires) c.if-continues_assignment.ensures) (as_deep c.args.room) (omega arith) c.actual_parameters.new.p c.in_err-arguments.field-0.0 c.in_err-arguments.ensures)
+
+pub returns : goal.returns
+returns c =
+    rw c.span_from-span-2.ensures (closed (after_phrase (called c.args.room c.args.p.now c.advance.new.self (c.advance.ensures Ident c.requires) c.if-continues_assignment.ensures) (as_deep c.args.room) c.in_ok-arguments.ensures))

@@ -1,0 +1,50 @@
+use Rattle.std.proofs.Common.{◌≡◌, ◌≤◌, ◌<◌, ℕ, ◌+◌, ◌-◌, List, [], ◌∷◌, ◌++◌, Option, Some, None, Bool, true, false, refl, ap, ◌∙◌, sym, subst, arith, lit≤, append-nil}
+use Rattle.std.specs.Prelude.{option_to_list, MatchBool}
+use Rattle.ob_syntax.specs.declared.token.Kind.{Kind}
+use Rattle.ob_syntax.specs.declared.token.Kind.TheVariants.{Ident, Number, KwArray, KwBegin, KwConst, KwDo, KwElse, KwElsif, KwEnd, KwIf, KwModule, KwOf, KwProcedure, KwRecord, KwThen, KwType, KwVar, KwWhile, Period, Comma, Semicolon, Colon, Becomes, LeftParen, RightParen, Equal}
+use Rattle.ob_syntax.specs.Grammar.{level, deeper, inner, token, phrase, IdentList, Idents, ident_list, next_ident, last_ident}
+use Rattle.ob_syntax.specs.Predict.{first, by_first, behind_name}
+use Rattle.ob_syntax.specs.Tree.{Tree, tree_by}
+use Rattle.ob_parse.specs.declared.cursor.Parser.{Parser}
+use Rattle.ob_parse.specs.Reading.{left, place, IsRead, IsNext}
+use Rattle.ob_parse.proofs.Choices.{kind_at, no_ident_first}
+use Rattle.ob_parse.proofs.Loops.{put_one, put_some}
+use Rattle.ob_parse.proofs.Moves.{later}
+use Rattle.ob_parse.proofs.Steps.{Waits, Chooses, opened, after_token, after_phrase, roomier, as_deep, one_deeper, at_least_one, closed, refused, too_deep, begins_with, begins_inside, token_missing, phrase_fails, begun, again, rewrap, exits}
+use Rattle.ob_parse.proofs.types.ident_list.Goals as goal
+
+next_wanted : (room : ℕ) (p q : Parser) → IsNext Comma p q → Waits Idents (token Ident ∷ phrase level Idents ∷ []) room (λ j v. tree_by next_ident (place p) j (place p, v)) p q
+next_wanted room p q n = after_token (opened next_ident room p (λ next same. ap (by_first Idents) (same ∙ ap first n.from))) n
+
+first_pushed : (room : ℕ) (xs ys : List ℕ) (p q : Parser) → xs ≡ [] → ys ≡ xs ++ place p ∷ [] → IsNext Ident p q → Waits IdentList (phrase level Idents ∷ []) room (λ j v. ys ++ v.0) p q
+first_pushed room xs ys p q none push n =
+    rewrap (λ j v. ys ++ v.0) (after_token (opened ident_list room p (λ next same. refl)) n) (λ j v. ap (λ us. us ++ place p ∷ v.0) (sym none) ∙ put_one xs ys v.0 (place p) push)
+
+next_pushed : (room : ℕ) (xs ys : List ℕ) (old p q new : Parser) → ys ≡ xs ++ place q ∷ [] → Waits IdentList (phrase level Idents ∷ []) room (λ j v. xs ++ v.0) old p → IsNext Comma p q → IsNext Ident q new
+    → Waits IdentList (phrase level Idents ∷ []) room (λ j v. ys ++ v.0) old new
+next_pushed room xs ys old p q new push a n m = rewrap (λ j v. ys ++ v.0) (again a (after_token (next_wanted room p q n) m)) (λ j v. put_one xs ys v.0 (place q) push)
+
+pub returns-in_err-ident : goal.returns-in_err-ident
+returns-in_err-ident c =
+    λ room. exits IdentList room c.args.p.now c.ident.new.self c.from_residual.result c.in_err-ident.field-0.0 c.from_residual.ensures.1
+    (token_missing (opened ident_list room c.args.p.now (λ next same. refl)) (omega arith) c.ident.new.self c.in_err-ident.field-0.0 c.in_err-ident.ensures)
+
+pub loop-next-init : goal.loop-next-init
+loop-next-init c =
+    λ room. first_pushed room c.new-names.result c.push.new.self c.args.p.now c.ident.new.self c.new-names.ensures c.in_ok-push.ensures.ok c.in_ok-ident.ensures
+
+pub returns-in_err-ident-2 : goal.returns-in_err-ident-2
+returns-in_err-ident-2 c =
+    λ room. exits IdentList room c.args.p.now c.ident-in-loop-next.new.self c.from_residual-in_err-ident-2.result c.in_err-ident-2.field-0.0 c.from_residual-in_err-ident-2.ensures.1
+    (token_missing (again (c.loop-next.invariant room) (next_wanted room c.loop-next.p c.accept_comma.new.self c.loop-next-test.ensures)) (omega arith) c.ident-in-loop-next.new.self c.in_err-ident-2.field-0.0 c.in_err-ident-2.ensures)
+
+pub loop-next-preserved : goal.loop-next-preserved
+loop-next-preserved c =
+    λ room. next_pushed room c.loop-next.names c.push-in-loop-next.new.self c.args.p.now c.loop-next.p c.accept_comma.new.self c.ident-in-loop-next.new.self c.in_ok-push-2.ensures.ok (c.loop-next.invariant room) c.loop-next-test.ensures c.in_ok-ident-2.ensures
+
+pub returns : goal.returns
+returns c =
+    λ room. let e = c.loop-next-test.ensures in
+    let r = closed (opened last_ident room c.loop-next.p (λ next same. ap (by_first Idents) same ∙ no_ident_first _ e.1)) in
+    subst (λ q. IsRead IdentList room c.loop-next.names c.args.p.now q) (sym e.0)
+    (subst (λ xs. IsRead IdentList room xs c.args.p.now c.loop-next.p) (append-nil c.loop-next.names) (closed (after_phrase (c.loop-next.invariant room) (as_deep room) r)))
