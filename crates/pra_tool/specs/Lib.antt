@@ -1,1 +1,3 @@
 pub mod Small
+pub mod Meaning
+pub mod Code
