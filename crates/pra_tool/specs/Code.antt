@@ -10,6 +10,7 @@ use Rattle.ia_code.specs.declared.ins.AluOp.{AluOp}
 use Rattle.ia_code.specs.declared.ins.AluOp.TheVariants.{Add, Sub}
 use Rattle.ia_code.specs.declared.ins.Ins.{Ins}
 use Rattle.ia_code.specs.declared.ins.Ins.TheVariants.{MovRmR, MovRRm, MovRI, AluRRm, AluRmI, Int}
+use Rattle.ia_code.specs.Table.{bytes_of}
 use Rattle.pra_tool.specs.declared.small.SmallModule.{SmallModule}
 use Rattle.pra_tool.specs.declared.small.Statement.{Statement}
 use Rattle.pra_tool.specs.declared.small.Statement.TheVariants.{Assign, Write, WriteLine}
@@ -38,13 +39,16 @@ operation Plus = Add
 operation Minus = Sub
 
 -- EAX := EAX op operand
-abbrev pub combine : AluOp → Operand → Ins
-combine op (Variable x) = AluRRm op Eax (variable x)
-combine op (Number n) = AluRmI op (rm.Reg Eax) n
+abbrev pub combine_with : AluOp → Operand → Ins
+combine_with op (Variable x) = AluRRm op Eax (variable x)
+combine_with op (Number n) = AluRmI op (rm.Reg Eax) n
+
+abbrev pub combine : NextOperand → Ins
+combine next = combine_with (operation next.op) next.operand
 
 -- EAX := sum
 abbrev pub sum_code : Sum → List Ins
-sum_code sum = load sum.first ∷ map (λ next. combine (operation next.op) next.operand) sum.rest
+sum_code sum = load sum.first ∷ map combine sum.rest
 
 -- services 21h and 22h write EAX and a line
 abbrev pub statement_code : Statement → List Ins
@@ -55,3 +59,8 @@ statement_code WriteLine = Int 0x22 ∷ []
 -- the statements in order, and service 20h, which ends the program
 abbrev pub code_of : SmallModule → List Ins
 code_of m = flat_map statement_code m.body ++ Int 0x20 ∷ []
+
+-- the bytes of instructions in a row
+abbrev pub bytes : List Ins → List ℕ
+bytes [] = []
+bytes (i ∷ more) = bytes_of i ++ bytes more

@@ -1,4 +1,5 @@
 //! The whole of what the program does, over a folder, an input and two outputs that are handed in.
 #![tactic(auto)]
 
+pub mod compile;
 pub mod small;
