@@ -1,1 +1,5 @@
 pub mod SmallCode
+pub mod Values
+pub mod Stands
+pub mod DataWords
+pub mod SmallRun

@@ -11,6 +11,7 @@ use Rattle.ia_code.specs.declared.ins.AluOp.TheVariants.{Add, Sub}
 use Rattle.ia_code.specs.declared.ins.Ins.{Ins}
 use Rattle.ia_code.specs.declared.ins.Ins.TheVariants.{MovRmR, MovRRm, MovRI, AluRRm, AluRmI, Int}
 use Rattle.ia_code.specs.Table.{bytes_of}
+use Rattle.ia_step.specs.State.{data_base}
 use Rattle.pra_tool.specs.declared.small.SmallModule.{SmallModule}
 use Rattle.pra_tool.specs.declared.small.Statement.{Statement}
 use Rattle.pra_tool.specs.declared.small.Statement.TheVariants.{Assign, Write, WriteLine}
@@ -21,9 +22,9 @@ use Rattle.pra_tool.specs.declared.small.SumOp.TheVariants.{Plus, Minus}
 use Rattle.pra_tool.specs.declared.small.Operand.{Operand}
 use Rattle.pra_tool.specs.declared.small.Operand.TheVariants.{Variable, Number}
 
--- the address of data word i, a displacement alone
+-- the address of data word i: a displacement alone
 abbrev pub word_address : ℕ → MemAddr
-word_address i = record { base = None; index = None; disp = pos (0x0400_0000 + 4 * i); width = D32 }
+word_address i = record { base = None; index = None; disp = pos (data_base + 4 * i); width = D32 }
 
 -- the variable as an operand in memory
 abbrev pub variable : ℕ → Rm

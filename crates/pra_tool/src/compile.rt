@@ -1,8 +1,12 @@
 // The code of small modules.
 
-ghost use Rattle.std.specs.Prelude.{◌≡◌, ◌≤◌, ◌<◌, ◌+◌, ◌*◌, ◌++◌, [], ◌∷◌, IfOk, OnOk};
+ghost use Rattle.std.specs.Prelude.{◌≡◌, ℤ, List, ◌≤◌, ◌<◌, ◌+◌, ◌*◌, ◌++◌, [], ◌∷◌, IfOk, OnOk};
+ghost use Rattle.pra_base.specs.Agreement.{Agree};
 ghost use Rattle.ia_code.specs.Table.{bytes_of, IsSound, IsOperand};
+ghost use Rattle.ia_step.specs.State.{IsImage};
+ghost use Rattle.ia_step.specs.Run.{progress};
 ghost use Rattle.pra_tool.specs.Small.{Fits, OperandFits, SumFits, StatementFits, size};
+ghost use Rattle.pra_tool.specs.Meaning.{mean};
 ghost use Rattle.pra_tool.specs.Code.{variable as variable_of, load as load_of, operation as operation_of, combine as combine_of, sum_code, statement_code, code_of, bytes};
 
 use crate::small::{NextOperand, Operand, SmallModule, Statement, Sum, SumOp};
@@ -11,8 +15,11 @@ use pra_base::OutOfMemory;
 use pra_list::Seq;
 use std::alloc::Global;
 
-/// How many variables and how many statements and operands a small module has at most.
-pub const MOST: u32 = 1_048_576;
+/// How many variables a small module has at most.
+pub const MAX_VARIABLES: u32 = 1_048_576;
+
+/// How large a small module is at most, by the number of its statements and operands.
+pub const MAX_SIZE: u32 = 1_048_576;
 
 /// Where data begins.
 const DATA_BASE: u32 = 0x0400_0000;
@@ -28,7 +35,7 @@ const WRITE_LINE: u8 = 0x22;
 
 /// A variable as an operand in memory.
 fn variable(x: u32) -> Rm
-    requires { x < MOST }
+    requires { x < MAX_VARIABLES }
     ensures is { result ≡ variable_of x }
     ensures sound { IsOperand result }
 {
@@ -42,7 +49,7 @@ fn variable(x: u32) -> Rm
 
 /// The instruction that sets EAX to an operand.
 fn load(operand: Operand) -> Ins
-    requires { OperandFits MOST operand }
+    requires { OperandFits MAX_VARIABLES operand }
     ensures is { result ≡ load_of operand }
     ensures sound { IsSound result }
 {
@@ -61,9 +68,9 @@ fn operation(op: SumOp) -> AluOp
     }
 }
 
-/// The instruction that adds an operand to EAX or subtracts it.
+/// The instruction that adds an operand to EAX, or subtracts it.
 fn combine(next: NextOperand) -> Ins
-    requires { OperandFits MOST next.operand }
+    requires { OperandFits MAX_VARIABLES next.operand }
     ensures is { result ≡ combine_of next }
     ensures sound { IsSound result }
 {
@@ -74,6 +81,7 @@ fn combine(next: NextOperand) -> Ins
     }
 }
 
+/// Adds the bytes of an instruction.
 fn push(code: &mut Vec<u8>, ins: &Ins) -> Result<(), OutOfMemory>
     requires { IsSound ins.now }
     ensures { OnOk result (code.new.items ≡ code.old.items ++ bytes_of ins.now) }
@@ -84,7 +92,7 @@ fn push(code: &mut Vec<u8>, ins: &Ins) -> Result<(), OutOfMemory>
 
 /// Adds the code that leaves a sum in EAX.
 fn push_sum(code: &mut Vec<u8>, sum: &Sum) -> Result<(), OutOfMemory>
-    requires { SumFits MOST sum.now }
+    requires { SumFits MAX_VARIABLES sum.now }
     ensures { OnOk result (code.new.items ≡ code.old.items ++ bytes (sum_code sum.now)) }
 {
     push(code, &load(sum.first))?;
@@ -94,8 +102,9 @@ fn push_sum(code: &mut Vec<u8>, sum: &Sum) -> Result<(), OutOfMemory>
     Ok(())
 }
 
+/// Adds the code of a statement.
 fn push_statement(code: &mut Vec<u8>, statement: &Statement) -> Result<(), OutOfMemory>
-    requires { StatementFits MOST statement.now }
+    requires { StatementFits MAX_VARIABLES statement.now }
     ensures { OnOk result (code.new.items ≡ code.old.items ++ bytes (statement_code statement.now)) }
 {
     match statement {
@@ -111,17 +120,21 @@ fn push_statement(code: &mut Vec<u8>, statement: &Statement) -> Result<(), OutOf
     }
 }
 
-/// Compiles a small module.
+/// Compiles a small module. Each instruction is encoded once, at the end of the code so far.
 ///
 /// # Errors
 ///
-/// Where there is no memory for its code.
+/// Where there is no memory for the code.
 pub fn compile_small(alloc: Global, module: &SmallModule) -> Result<Image, OutOfMemory>
     requires fits { Fits module.now }
-    requires few { module.now.variables ≤ MOST }
-    requires small { size module.now ≤ MOST }
+    requires few { module.now.variables ≤ MAX_VARIABLES }
+    requires small { size module.now ≤ MAX_SIZE }
     ensures code { IfOk result (λ image. image.code ≡ bytes (code_of module.now)) }
     ensures data { IfOk result (λ image. image.data_words ≡ module.now.variables) }
+    ensures valid { IfOk result (λ image. IsImage image) }
+
+    // Whatever the input is, the image's run does what the module means and ends, and does nothing else.
+    ensures agree { IfOk result (λ image. (input : List ℤ) → Agree (mean module.now) (progress image input)) }
 {
     let mut code = Vec::new(alloc);
     for statement in module.body.as_slice() {
@@ -137,6 +150,8 @@ pub fn compile_small(alloc: Global, module: &SmallModule) -> Result<Image, OutOf
 #[cfg(test)]
 mod tests {
     use super::*;
+    use ia_step::{Ending, Machine};
+    use pra_base::OutEvent;
     use std::test::Fail;
 
     #[test]
@@ -154,6 +169,44 @@ mod tests {
         let code = [0xb8, 7, 0, 0, 0, 0xcd, 0x21, 0xcd, 0x22, 0xcd, 0x20];
         assert_eq!(rt; image.code.as_slice(), code.as_slice());
         assert_eq!(rt; image.data_words, 0);
+        Ok(())
+    }
+
+    // x := 5; y := x + x - 12; Write(y)
+    #[test]
+    fn small_sums(rt: HostRuntime) -> Result<(), Fail> {
+        let five = Sum {
+            first: Operand::Number(5),
+            rest: Seq::new(rt.alloc()),
+        };
+        let plus = NextOperand {
+            op: SumOp::Plus,
+            operand: Operand::Variable(0),
+        };
+        let minus = NextOperand {
+            op: SumOp::Minus,
+            operand: Operand::Number(12),
+        };
+        let sum = Sum {
+            first: Operand::Variable(0),
+            rest: Seq::from_vec(vec![in rt.alloc(); plus, minus]?),
+        };
+        let y = Sum {
+            first: Operand::Variable(1),
+            rest: Seq::new(rt.alloc()),
+        };
+        let mut body = vec![in rt.alloc(); Statement::Assign(0, five), Statement::Assign(1, sum)]?;
+        body.push(Statement::Write(y))?;
+        let module = SmallModule {
+            variables: 2,
+            body: Seq::from_vec(body),
+        };
+        let image = compile_small(rt.alloc(), &module)?;
+        let mut machine = Machine::load(rt.alloc(), &image, Vec::new(rt.alloc()))?;
+        let out = machine.run(rt.alloc(), 100)?;
+        assert_eq!(rt; out.events.as_slice(), [OutEvent::Number(-2)].as_slice());
+        assert_eq!(rt; out.ending, Ending::Ended);
+        assert_eq!(rt; out.steps, 9);
         Ok(())
     }
 }

@@ -1,6 +1,7 @@
-use Rattle.std.proofs.Common.{◌≡◌, ◌++◌, List, ℕ, ap, sym, ◌∙◌, arith, subst, append-nil}
+use Rattle.std.proofs.Common.{ap, arith, length, refl}
 use Rattle.std.proofs.lemmas.Grind.{common_steps}
-use Rattle.pra_tool.proofs.SmallCode.{bytes-append, bytes-last, body_fits_more}
+use Rattle.pra_tool.proofs.SmallCode.{bytes-append, bytes-last, body_fits_more, code_length}
+use Rattle.pra_tool.proofs.SmallRun.{small_agrees}
 use Rattle.pra_tool.proofs.compile.compile_small.Goals as goal
 
 pub loop-statement-init : goal.loop-statement-init
@@ -11,3 +12,12 @@ loop-statement-preserved c = grind (arith, common_steps, bytes-append)
 
 pub returns-clause-code : goal.returns-clause-code
 returns-clause-code c = grind (arith, common_steps, bytes-last)
+
+pub returns-clause-valid : goal.returns-clause-valid
+returns-clause-valid c =
+    let long = code_length c.args.module.now in
+    let same = ap length (returns-clause-code c) in
+    record { code_some = omega (arith, same, long.0); code_small = omega (arith, same, long.1); data_small = omega arith }
+
+pub returns-clause-agree : goal.returns-clause-agree
+returns-clause-agree c = λ input. small_agrees c.args.module.now c.requires.few c.requires.fits _ (returns-clause-code c) refl input
