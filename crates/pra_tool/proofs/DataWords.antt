@@ -1,6 +1,6 @@
 -- Variable i is data word i.
-use Rattle.std.proofs.Common.{◌≡◌, ◌≢◌, ℕ, zero, suc, ◌+◌, ◌-◌, ◌*◌, ◌%◌, ◌^◌, ◌<◌, ◌≤◌, List, [], ◌∷◌, length, Bool, true, false, refl, sym, ap, ◌∙◌, subst, arith, ◌⊎◌, inl, inr, nat_lt, nat_le}
-use Rattle.std.specs.Prelude.{ℤ, pos, ◌==◌, ◌&&◌, if◌then◌else◌, Result, Ok, Err, None, slice_index, replicate}
+use Rattle.std.proofs.Common.{◌≡◌, ◌≢◌, ℕ, ◌+◌, ◌-◌, ◌*◌, ◌<◌, ◌≤◌, List, length, Bool, true, false, refl, sym, ap, ◌∙◌, arith, ◌⊎◌}
+use Rattle.std.specs.Prelude.{ℤ, ◌==◌, Ok, slice_index}
 use Rattle.std.proofs.lemmas.Bool.{eqb-true, eqb-false}
 use Rattle.std.proofs.lemmas.Bool.Decides.{nat_tests}
 use Rattle.std.proofs.lemmas.List.{get_or-replicate, length-replicate}
@@ -50,9 +50,6 @@ stored_assigned n store storage x v was here fits = record {
   words = λ y h. at y h (y == x) refl;
 }
   where
-    after : List ℕ
-    after = with_word storage (4 * x) (cast_unsigned w32 v)
-
     at : (y : ℕ) → y < n → (b : Bool) → (y == x) ≡ b → word_in (with_word storage (4 * x) (cast_unsigned w32 v)) (4 * y) ≡ cast_unsigned w32 (value_of (assigned store x v) y)
     at y h true e =
         let same : y ≡ x = eqb-true y x e in

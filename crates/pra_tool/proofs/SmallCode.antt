@@ -12,7 +12,6 @@ use Rattle.pra_tool.specs.declared.small.Statement.TheVariants.{Assign, Write, W
 use Rattle.pra_tool.specs.declared.small.Sum.{Sum}
 use Rattle.pra_tool.specs.declared.small.NextOperand.{NextOperand}
 use Rattle.pra_tool.specs.declared.small.SumOp.{SumOp}
-use Rattle.pra_tool.specs.declared.small.SumOp.TheVariants.{Plus, Minus}
 use Rattle.pra_tool.specs.declared.small.Operand.{Operand}
 use Rattle.pra_tool.specs.declared.small.Operand.TheVariants.{Variable, Number}
 use Rattle.pra_tool.specs.Small.{OperandFits, RestFits, SumFits, StatementFits, BodyFits, sum_size, statement_size, body_size, size}

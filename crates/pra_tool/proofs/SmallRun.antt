@@ -1,7 +1,7 @@
 -- The code of a small module does what the module means: one lemma for each instruction, sums by induction over the operands that
 -- follow, and the body by induction over its statements.
-use Rattle.std.proofs.Common.{◌≡◌, ◌≢◌, ℕ, zero, suc, ◌+◌, ◌-◌, ◌*◌, ◌%◌, ◌^◌, ◌<◌, ◌≤◌, List, [], ◌∷◌, ◌++◌, length, refl, sym, ap, ◌∙◌, subst, arith, append_assoc, append-nil}
-use Rattle.std.specs.Prelude.{ℤ, pos, Option, Some, None, Result, Ok, Err, map}
+use Rattle.std.proofs.Common.{◌≡◌, ℕ, suc, ◌+◌, ◌*◌, ◌<◌, ◌≤◌, List, [], ◌∷◌, ◌++◌, length, refl, sym, ap, ◌∙◌, subst, arith, append_assoc, append-nil}
+use Rattle.std.specs.Prelude.{ℤ, Option, Some, None, Ok, map}
 use Rattle.std.specs.List.{flat_map}
 use Rattle.std.proofs.lemmas.Int.{to_z-of_z}
 use Rattle.std.specs.Int.{w32, cast_unsigned, cast_signed}
@@ -16,8 +16,6 @@ use Rattle.pra_base.proofs.Carried.{agree}
 use Rattle.pra_base.proofs.Simulation.{run_more}
 use Rattle.ia_code.specs.declared.ins.Reg.TheVariants.{Eax}
 use Rattle.ia_code.specs.declared.ins.Rm.TheVariants as rm
-use Rattle.ia_code.specs.declared.ins.AluOp.{AluOp}
-use Rattle.ia_code.specs.declared.ins.AluOp.TheVariants.{Add, Sub}
 use Rattle.ia_code.specs.declared.ins.Ins.{Ins}
 use Rattle.ia_code.specs.declared.ins.Ins.TheVariants.{MovRmR, MovRRm, MovRI, AluRRm, AluRmI, Int}
 use Rattle.ia_code.specs.Table.{bytes_of, IsSound}
@@ -28,7 +26,7 @@ use Rattle.ia_step.specs.declared.out.Ending.TheVariants as ending
 use Rattle.ia_step.specs.State.{State, start, with_register, with_flags, at, over}
 use Rattle.ia_step.specs.Memory.{word_in, with_word, zeros}
 use Rattle.ia_step.specs.Arithmetic.{result_of, flags_of}
-use Rattle.ia_step.specs.Effect.{◌>>=◌, read_rm, write_rm, mov, alu, keep_result, effect, service}
+use Rattle.ia_step.specs.Effect.{read_rm, write_rm, mov, alu, effect, service}
 use Rattle.ia_step.specs.Step.{settled, step}
 use Rattle.ia_step.specs.Run.{Ran, noted, begin, after, advance_from, advance, view, progress}
 use Rattle.ia_step.proofs.Runs.{progress_keeps}
@@ -43,9 +41,9 @@ use Rattle.pra_tool.specs.declared.small.Operand.{Operand}
 use Rattle.pra_tool.specs.declared.small.Operand.TheVariants.{Variable, Number}
 use Rattle.pra_tool.specs.Small.{OperandFits, RestFits, SumFits, StatementFits, BodyFits, Fits}
 use Rattle.pra_tool.specs.declared.compile.TheConstants.{MAX_VARIABLES}
-use Rattle.pra_tool.specs.Meaning.{Store, value_of, assigned, operand_value, combined, rest_value, sum_value, Effect, exec, written, mean}
+use Rattle.pra_tool.specs.Meaning.{Store, value_of, assigned, operand_value, combined, rest_value, sum_value, exec, written, mean}
 use Rattle.pra_tool.specs.Code.{variable, load, operation, combine, combine_with, sum_code, statement_code, code_of, bytes}
-use Rattle.pra_tool.proofs.Values.{word_small, AllFit, all_fit_empty, all_fit_assigned, combined_fits, operand_fits, combined_word, number_fits, sum_fits, exec_fits}
+use Rattle.pra_tool.proofs.Values.{AllFit, all_fit_empty, combined_fits, operand_fits, combined_word, number_fits, sum_fits, exec_fits}
 use Rattle.pra_tool.proofs.Stands.{Stands, step_here, next}
 use Rattle.pra_tool.proofs.DataWords.{Stored, stored_start, stored_assigned, variable_sound, read_variable, write_variable}
 

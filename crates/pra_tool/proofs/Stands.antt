@@ -1,17 +1,17 @@
 -- The instruction that stands at EIP is done.
-use Rattle.std.proofs.Common.{◌≡◌, ℕ, ◌+◌, ◌-◌, ◌*◌, ◌%◌, ◌^◌, ◌≤◌, ◌<◌, Bool, true, false, List, [], ◌∷◌, ◌++◌, length, drop, take, Option, Some, None, refl, sym, ap, ◌∙◌, subst, arith, length-drop, length-append, drop-drop, nat_lt, nat_le}
+use Rattle.std.proofs.Common.{◌≡◌, ℕ, ◌+◌, ◌-◌, ◌≤◌, ◌<◌, false, List, ◌++◌, length, drop, Some, sym, ap, ◌∙◌, arith, length-drop, length-append, drop-drop, nat_lt, nat_le}
 use Rattle.std.proofs.lemmas.Bool.{le-ltb}
 use Rattle.std.proofs.Math.Seq.{drop-append_seam}
 use Rattle.std.proofs.lemmas.Bool.Decides.{nat_tests}
-use Rattle.std.specs.Prelude.{Result, Ok, Err}
+use Rattle.std.specs.Prelude.{Ok}
 use Rattle.ia_code.specs.declared.ins.Ins.{Ins}
 use Rattle.ia_code.specs.Table.{bytes_of, IsSound}
-use Rattle.ia_code.specs.Reading.{instruction_at, decoded, counted}
+use Rattle.ia_code.specs.Reading.{decoded, counted}
 use Rattle.ia_code.proofs.Again.{one_spelling_of}
 use Rattle.ia_step.specs.declared.out.Ending.TheVariants.{Going}
 use Rattle.ia_step.specs.State.{State, code_base, at}
 use Rattle.ia_step.specs.Effect.{◌>>=◌, effect}
-use Rattle.ia_step.specs.Step.{fetch, next_to, execute, settled, step, step_from}
+use Rattle.ia_step.specs.Step.{fetch, next_to, settled, step, step_from}
 
 not_le : (a b : ℕ) → b < a → nat_le a b ≡ false
 not_le a b h = grind (arith, nat_tests)
