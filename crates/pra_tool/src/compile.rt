@@ -2,8 +2,8 @@
 
 ghost use Rattle.std.specs.Prelude.{◌≡◌, ℤ, List, ◌≤◌, ◌<◌, ◌+◌, ◌*◌, ◌++◌, [], ◌∷◌, IfOk, OnOk};
 ghost use Rattle.pra_base.specs.Agreement.{Agree};
+ghost use Rattle.ia_code.specs.Image.{IsImage};
 ghost use Rattle.ia_code.specs.Table.{bytes_of, IsSound, IsOperand};
-ghost use Rattle.ia_step.specs.State.{IsImage};
 ghost use Rattle.ia_step.specs.Run.{progress};
 ghost use Rattle.pra_tool.specs.Small.{Fits, OperandFits, SumFits, StatementFits, size};
 ghost use Rattle.pra_tool.specs.Meaning.{mean};

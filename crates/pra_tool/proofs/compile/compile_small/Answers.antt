@@ -17,7 +17,7 @@ pub returns-clause-valid : goal.returns-clause-valid
 returns-clause-valid c =
     let long = code_length c.args.module.now in
     let same = ap length (returns-clause-code c) in
-    record { code_some = omega (arith, same, long.0); code_small = omega (arith, same, long.1); data_small = omega arith }
+    record { some_code = omega (arith, same, long.0); code = omega (arith, same, long.1); data_words = omega arith }
 
 pub returns-clause-agree : goal.returns-clause-agree
 returns-clause-agree c = λ input. small_agrees c.args.module.now c.requires.few c.requires.fits _ (returns-clause-code c) refl input
