@@ -90,7 +90,7 @@ fn push(code: &mut Vec<u8>, ins: &Ins) -> Result<(), OutOfMemory>
     Ok(())
 }
 
-/// Adds the code that leaves a sum in EAX.
+/// Adds the code that leaves a sum in EAX. After an error a part of it may be there.
 fn push_sum(code: &mut Vec<u8>, sum: &Sum) -> Result<(), OutOfMemory>
     requires { SumFits MAX_VARIABLES sum.now }
     ensures { OnOk result (code.new.items ≡ code.old.items ++ bytes (sum_code sum.now)) }
@@ -102,7 +102,7 @@ fn push_sum(code: &mut Vec<u8>, sum: &Sum) -> Result<(), OutOfMemory>
     Ok(())
 }
 
-/// Adds the code of a statement.
+/// Adds the code of a statement. After an error a part of it may be there.
 fn push_statement(code: &mut Vec<u8>, statement: &Statement) -> Result<(), OutOfMemory>
     requires { StatementFits MAX_VARIABLES statement.now }
     ensures { OnOk result (code.new.items ≡ code.old.items ++ bytes (statement_code statement.now)) }
@@ -125,25 +125,25 @@ fn push_statement(code: &mut Vec<u8>, statement: &Statement) -> Result<(), OutOf
 /// # Errors
 ///
 /// Where there is no memory for the code.
-pub fn compile_small(alloc: Global, module: &SmallModule) -> Result<Image, OutOfMemory>
-    requires fits { Fits module.now }
-    requires few { module.now.variables ≤ MAX_VARIABLES }
-    requires small { size module.now ≤ MAX_SIZE }
-    ensures code { IfOk result (λ image. image.code ≡ bytes (code_of module.now)) }
-    ensures data { IfOk result (λ image. image.data_words ≡ module.now.variables) }
+pub fn compile_small(alloc: Global, program: &SmallModule) -> Result<Image, OutOfMemory>
+    requires fits { Fits program.now }
+    requires few { program.now.variables ≤ MAX_VARIABLES }
+    requires small { size program.now ≤ MAX_SIZE }
+    ensures code { IfOk result (λ image. image.code ≡ bytes (code_of program.now)) }
+    ensures data { IfOk result (λ image. image.data_words ≡ program.now.variables) }
     ensures valid { IfOk result (λ image. IsImage image) }
 
     // Whatever the input is, the image's run does what the module means and ends, and does nothing else.
-    ensures agree { IfOk result (λ image. (input : List ℤ) → Agree (mean module.now) (progress image input)) }
+    ensures agree { IfOk result (λ image. (input : List ℤ) → Agree (mean program.now) (progress image input)) }
 {
     let mut code = Vec::new(alloc);
-    for statement in module.body.as_slice() {
+    for statement in program.body.as_slice() {
         push_statement(&mut code, statement)?;
     }
     push(&mut code, &Ins::Int(END))?;
     Ok(Image {
         code: Seq::from_vec(code),
-        data_words: module.variables,
+        data_words: program.variables,
     })
 }
 

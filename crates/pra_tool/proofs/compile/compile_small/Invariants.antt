@@ -9,5 +9,5 @@ use Rattle.pra_tool.proofs.compile.compile_small.Given as goal
 abbrev pub invariant-loop-statement : goal.invariant-loop-statement
 invariant-loop-statement l = record {
   fits : BodyFits MAX_VARIABLES (drop l.statement-index l.statement-items);
-  whole : l.code.items ++ bytes (flat_map statement_code (drop l.statement-index l.statement-items)) ≡ bytes (flat_map statement_code l.module.body);
+  whole : l.code.items ++ bytes (flat_map statement_code (drop l.statement-index l.statement-items)) ≡ bytes (flat_map statement_code l.program.body);
 }
