@@ -1,5 +1,5 @@
--- No step changes the code, the input or the size of a region, and none takes more than one input word.
-use Rattle.std.proofs.Common.{◌≡◌, ℕ, zero, suc, ◌+◌, ◌*◌, ◌^◌, ◌-◌, ◌≤◌, ◌<◌, Bool, true, false, List, length, Option, Some, None, refl, sym, ap, ◌∙◌, arith}
+-- No step changes the code, the input or the size of a region, and none takes more than one input word; and its answer tells the ending.
+use Rattle.std.proofs.Common.{◌≡◌, ◌≢◌, ℕ, Bool, true, false, length, Option, Some, None, refl, sym, ap, ◌∙◌, subst, arith}
 use Rattle.std.specs.Prelude.{Result, Ok, Err, ℤ, slice_get, ◌==◌, if◌then◌else◌}
 use Rattle.pra_base.specs.declared.event.TrapKind.{TrapKind}
 use Rattle.ia_code.specs.declared.ins.Reg.{Reg}
@@ -10,14 +10,14 @@ use Rattle.ia_code.specs.declared.ins.Rm.TheVariants as rm
 use Rattle.ia_code.specs.declared.ins.Ins.{Ins}
 use Rattle.ia_code.specs.declared.ins.Ins.TheVariants.{MovRmR, MovRRm, MovRI, MovRmI, AluRmR, AluRRm, AluRmI, AluRmB, ImulRRm, ImulI, ImulB, Neg, Idiv, Cdq, Lea, PushR, PopR, PushM, PushI, Call, Ret, RetI, Jmp, Jcc, Set, Movzx, Xchg, Test, Int}
 use Rattle.ia_step.specs.declared.out.StepOut.{StepOut}
+use Rattle.ia_step.specs.declared.out.StepOut.TheVariants as out
 use Rattle.ia_step.specs.declared.out.FaultKind.{FaultKind}
 use Rattle.ia_step.specs.declared.out.Ending.{Ending}
 use Rattle.ia_step.specs.declared.out.Ending.TheVariants as ending
-use Rattle.ia_step.specs.Registers.{address_of}
-use Rattle.ia_step.specs.Arithmetic.{quotient, holds}
-use Rattle.ia_step.specs.State.{State, data_base, stack_base, at}
-use Rattle.ia_step.specs.Effect.{◌>>=◌, Done, lies_in, load, store, read_rm, write_rm, push, pop, mov, keep_result, alu, imul, neg, divided, idiv, branch, set, take_input, trap_of, trapped, service, effect}
-use Rattle.ia_step.specs.Step.{fetch, execute, settled, step_from, step}
+use Rattle.ia_step.specs.Arithmetic.{holds}
+use Rattle.ia_step.specs.State.{State, data_base, stack_base, at, over}
+use Rattle.ia_step.specs.Effect.{◌>>=◌, Done, goes, lies_in, load, store, read_rm, write_rm, push, pop, mov, keep_result, alu, imul, neg, divided, idiv, branch, set, take_input, trap_of, trapped, service, effect}
+use Rattle.ia_step.specs.Step.{fetch, execute, settled, step_from, step, ending_told}
 use Rattle.ia_step.specs.Later.{IsLater}
 use Rattle.ia_step.proofs.Words.{length_put}
 
@@ -38,165 +38,209 @@ pub any : {A : Type 0} (r : Result A FaultKind) → IfGiven (λ x. Unit {0}) r
 any (Ok x) = given tt
 any (Err e) = failed
 
--- nothing of it changes but the place, by at most one
+-- only registers, flags, EIP and bytes of data and stack change
+record Quiet (s t : State) : Type 0 where
+  code : t.code ≡ s.code
+  input : t.input ≡ s.input
+  data_size : length t.storage ≡ length s.storage
+  stack_size : length t.stack ≡ length s.stack
+  place : t.place ≡ s.place
+  ending : t.ending ≡ s.ending
+
+-- by computation
+plain : (s t : State) → t.code ≡ s.code → t.input ≡ s.input → length t.storage ≡ length s.storage → length t.stack ≡ length s.stack → t.place ≡ s.place → t.ending ≡ s.ending → Quiet s t
+plain s t c i d k p e = record { code = c; input = i; data_size = d; stack_size = k; place = p; ending = e }
+
+quiet_on : (s t u : State) → Quiet s t → u.code ≡ t.code → u.input ≡ t.input → length u.storage ≡ length t.storage → length u.stack ≡ length t.stack → u.place ≡ t.place → u.ending ≡ t.ending → Quiet s u
+quiet_on s t u q c i d k p e = record {
+  code = c ∙ q.code;
+  input = i ∙ q.input;
+  data_size = d ∙ q.data_size;
+  stack_size = k ∙ q.stack_size;
+  place = p ∙ q.place;
+  ending = e ∙ q.ending;
+}
+
 same : (s t : State) → t.code ≡ s.code → t.input ≡ s.input → length t.storage ≡ length s.storage → length t.stack ≡ length s.stack → t.place ≡ s.place → IsLater s t 1
 same s t c i d k p = record { code = c; input = i; data_size = d; stack_size = k; grows = omega arith; bounded = omega arith }
 
+-- an instruction tells its ending, and no fault
+Told : Ending → Ending → StepOut → Type 0
+Told before now out.Going = now ≡ before
+Told before now (out.Wrote n) = now ≡ before
+Told before now out.Line = now ≡ before
+Told before now out.Ended = now ≡ ending.Ended
+Told before now (out.Trap k) = now ≡ ending.Trap k
+Told before now (out.Fault k) = ⊥
+
+record GoesOn (s : State) (x : State × StepOut) : Type 0 where
+  later : IsLater s x.0 1
+  told : Told s.ending x.0.ending x.1
+
+went : (s t : State) → Quiet s t → GoesOn s (t, out.Going)
+unfolding Told
+went s t q = record { later = same s t q.code q.input q.data_size q.stack_size q.place; told = q.ending }
+
 module _ (s : State) where
-  Later : State → Type 0
-  Later t = IsLater s t 1
+  quiet_store : (a v : ℕ) → IfGiven (Quiet s) (store s a v)
+  unfolding store
+  quiet_store a v =
+      either (IfGiven (Quiet s)) (lies_in a data_base s.storage) _ _ (given (plain s _ refl refl (length_put _ _ _) refl refl refl))
+      (either (IfGiven (Quiet s)) (lies_in a stack_base s.stack) _ _ (given (plain s _ refl refl refl (length_put _ _ _) refl refl)) failed)
 
-  GoesOn : State × StepOut → Type 0
-  GoesOn x = IsLater s x.0 1
+  quiet_write : (r : Rm) (v : ℕ) → IfGiven (Quiet s) (write_rm s r v)
+  unfolding write_rm
+  quiet_write (rm.Reg r) v = given (plain s _ refl refl refl refl refl refl)
+  quiet_write (rm.Mem a) v = quiet_store _ v
 
-  later_store : (a v : ℕ) → IfGiven Later (store s a v)
-  unfolding store Later
-  later_store a v =
-      either (IfGiven Later) (lies_in a data_base s.storage) _ _ (given (same s _ refl refl (length_put _ _ _) refl refl))
-      (either (IfGiven Later) (lies_in a stack_base s.stack) _ _ (given (same s _ refl refl refl (length_put _ _ _) refl)) failed)
+  quiet_push : (v : ℕ) → IfGiven (Quiet s) (push s v)
+  unfolding push
+  quiet_push v = bound (Quiet s) (Quiet s) (store s _ v) _ (quiet_store _ v) (λ t q. given (quiet_on s t _ q refl refl refl refl refl refl))
 
-  later_write : (r : Rm) (v : ℕ) → IfGiven Later (write_rm s r v)
-  unfolding write_rm Later
-  later_write (rm.Reg r) v = given (same s _ refl refl refl refl refl)
-  later_write (rm.Mem a) v = later_store _ v
+  quiet_pop : IfGiven (λ x. Quiet s x.1) (pop s)
+  unfolding pop
+  quiet_pop = bound (λ v. Unit {0}) (λ x. Quiet s x.1) (load s _) _ (any (load s _)) (λ v _. given (plain s _ refl refl refl refl refl refl))
 
-  -- registers, flags, EIP and the ending do not count
-  again : (t u : State) → IsLater s t 1 → u.code ≡ t.code → u.input ≡ t.input → length u.storage ≡ length t.storage → length u.stack ≡ length t.stack → u.place ≡ t.place → IsLater s u 1
-  again t u k c i d w p = record {
-    code = c ∙ k.code;
-    input = i ∙ k.input;
-    data_size = d ∙ k.data_size;
-    stack_size = w ∙ k.stack_size;
-    grows = omega (arith, k.grows);
-    bounded = omega (arith, k.bounded);
-  }
+  quiet_keep : (op : AluOp) (dest : Rm) (v : ℕ) → IfGiven (Quiet s) (keep_result op s dest v)
+  quiet_keep Cmp dest v = given (plain s _ refl refl refl refl refl refl)
+  quiet_keep Add dest v = quiet_write dest v
+  quiet_keep Or dest v = quiet_write dest v
+  quiet_keep And dest v = quiet_write dest v
+  quiet_keep Sub dest v = quiet_write dest v
+  quiet_keep Xor dest v = quiet_write dest v
 
-  later_push : (v : ℕ) → IfGiven Later (push s v)
-  unfolding push Later
-  later_push v = bound Later Later (store s _ v) _ (later_store _ v) (λ t k. given (again t _ k refl refl refl refl refl))
+  Goes : Done → Type 0
+  Goes r = IfGiven (GoesOn s) r
 
-  later_pop : IfGiven (λ x. Later x.1) (pop s)
-  unfolding pop Later
-  later_pop = bound (λ v. Unit {0}) (λ x. Later x.1) (load s _) _ (any (load s _)) (λ v _. given (same s _ refl refl refl refl refl))
+  -- a state that is quiet by computation
+  goes_plain : (t : State) → t.code ≡ s.code → t.input ≡ s.input → length t.storage ≡ length s.storage → length t.stack ≡ length s.stack → t.place ≡ s.place → t.ending ≡ s.ending → Goes (goes t)
+  unfolding Goes
+  goes_plain t c i d k p e = given (went s t (plain s t c i d k p e))
 
-  later_mov : (dest : Rm) (v : ℕ) → IfGiven GoesOn (mov s dest v)
-  unfolding mov GoesOn Later
-  later_mov dest v = bound Later GoesOn (write_rm s dest v) _ (later_write dest v) (λ t k. given k)
+  goes_on : (t u : State) → Quiet s t → u.code ≡ t.code → u.input ≡ t.input → length u.storage ≡ length t.storage → length u.stack ≡ length t.stack → u.place ≡ t.place → u.ending ≡ t.ending → Goes (goes u)
+  unfolding Goes
+  goes_on t u q c i d k p e = given (went s u (quiet_on s t u q c i d k p e))
 
-  later_keep : (op : AluOp) (dest : Rm) (v : ℕ) → IfGiven Later (keep_result op s dest v)
-  unfolding Later
-  later_keep Cmp dest v = given (same s _ refl refl refl refl refl)
-  later_keep Add dest v = later_write dest v
-  later_keep Or dest v = later_write dest v
-  later_keep And dest v = later_write dest v
-  later_keep Sub dest v = later_write dest v
-  later_keep Xor dest v = later_write dest v
+  from_state : (r : Result State FaultKind) (f : State → Done) → IfGiven (Quiet s) r → ((t : State) → Quiet s t → Goes (f t)) → Goes (r >>= f)
+  unfolding Goes
+  from_state r f q h = bound (Quiet s) (GoesOn s) r f q h
 
-  later_alu : (op : AluOp) (dest : Rm) (v : ℕ) → IfGiven GoesOn (alu op s dest v)
-  unfolding alu GoesOn Later
-  later_alu op dest v =
-      bound (λ v. Unit {0}) GoesOn (read_rm s dest) _ (any (read_rm s dest)) (λ w _.
-      bound Later GoesOn (keep_result op s dest _) _ (later_keep op dest _) (λ t k. given (again t _ k refl refl refl refl refl)))
+  from_word : (r : Result ℕ FaultKind) (f : ℕ → Done) → ((v : ℕ) → Goes (f v)) → Goes (r >>= f)
+  unfolding Goes
+  from_word r f h = bound (λ v. Unit {0}) (GoesOn s) r f (any r) (λ v _. h v)
 
-  later_imul : (dest : Reg) (a b : ℕ) → IfGiven GoesOn (imul s dest a b)
-  unfolding imul GoesOn
-  later_imul dest a b = given (same s _ refl refl refl refl refl)
+  from_pop : (f : ℕ × State → Done) → ((x : ℕ × State) → Quiet s x.1 → Goes (f x)) → Goes (pop s >>= f)
+  unfolding Goes
+  from_pop f h = bound (λ x. Quiet s x.1) (GoesOn s) (pop s) f quiet_pop h
 
-  later_neg : (dest : Rm) → IfGiven GoesOn (neg s dest)
-  unfolding neg GoesOn Later
-  later_neg dest =
-      bound (λ v. Unit {0}) GoesOn (read_rm s dest) _ (any (read_rm s dest)) (λ w _.
-      bound Later GoesOn (write_rm s dest _) _ (later_write dest _) (λ t k. given (again t _ k refl refl refl refl refl)))
+  after_mov : (dest : Rm) (v : ℕ) → Goes (mov s dest v)
+  unfolding mov
+  after_mov dest v = from_state (write_rm s dest v) _ (quiet_write dest v) (λ t q. goes_on t t q refl refl refl refl refl refl)
 
-  later_divided : (x : Option (ℕ × ℕ)) → IfGiven GoesOn (divided s x)
-  unfolding GoesOn
-  later_divided None = failed
-  later_divided (Some x) = given (same s _ refl refl refl refl refl)
+  after_alu : (op : AluOp) (dest : Rm) (v : ℕ) → Goes (alu op s dest v)
+  unfolding alu
+  after_alu op dest v =
+      from_word (read_rm s dest) _ (λ w.
+      from_state (keep_result op s dest _) _ (quiet_keep op dest _) (λ t q. goes_on t _ q refl refl refl refl refl refl))
 
-  later_idiv : (v : ℕ) → IfGiven GoesOn (idiv s v)
+  after_imul : (dest : Reg) (a b : ℕ) → Goes (imul s dest a b)
+  unfolding imul
+  after_imul dest a b = goes_plain _ refl refl refl refl refl refl
+
+  after_neg : (dest : Rm) → Goes (neg s dest)
+  unfolding neg
+  after_neg dest =
+      from_word (read_rm s dest) _ (λ w.
+      from_state (write_rm s dest _) _ (quiet_write dest _) (λ t q. goes_on t _ q refl refl refl refl refl refl))
+
+  after_divided : (x : Option (ℕ × ℕ)) → Goes (divided s x)
+  unfolding Goes
+  after_divided None = failed
+  after_divided (Some x) = goes_plain _ refl refl refl refl refl refl
+
+  after_idiv : (v : ℕ) → Goes (idiv s v)
   unfolding idiv
-  later_idiv v = later_divided _
+  after_idiv v = after_divided _
 
-  later_branch : (d : ℤ) (b : Option Bool) → IfGiven GoesOn (branch s d b)
-  unfolding GoesOn
-  later_branch d None = failed
-  later_branch d (Some true) = given (same s _ refl refl refl refl refl)
-  later_branch d (Some false) = given (same s _ refl refl refl refl refl)
+  after_branch : (d : ℤ) (b : Option Bool) → Goes (branch s d b)
+  unfolding Goes
+  after_branch d None = failed
+  after_branch d (Some true) = goes_plain _ refl refl refl refl refl refl
+  after_branch d (Some false) = goes_plain _ refl refl refl refl refl refl
 
-  later_set : (dest : Reg) (b : Option Bool) → IfGiven GoesOn (set s dest b)
-  unfolding GoesOn
-  later_set dest None = failed
-  later_set dest (Some b) = given (same s _ refl refl refl refl refl)
+  after_set : (dest : Reg) (b : Option Bool) → Goes (set s dest b)
+  unfolding Goes
+  after_set dest None = failed
+  after_set dest (Some b) = goes_plain _ refl refl refl refl refl refl
 
-  later_input : (o : Option ℤ) → IfGiven GoesOn (take_input s o)
-  unfolding GoesOn
-  later_input None = given (same s _ refl refl refl refl refl)
-  later_input (Some n) = given (record { code = refl; input = refl; data_size = refl; stack_size = refl; grows = omega arith; bounded = omega arith })
+  after_input : (o : Option ℤ) → Goes (take_input s o)
+  unfolding Goes Told
+  after_input None = given (record { later = same s _ refl refl refl refl refl; told = refl })
+  after_input (Some n) = given (record { later = record { code = refl; input = refl; data_size = refl; stack_size = refl; grows = omega arith; bounded = omega arith }; told = refl })
 
-  later_trapped : (k : Option TrapKind) → IfGiven GoesOn (trapped s k)
-  unfolding GoesOn
-  later_trapped None = failed
-  later_trapped (Some k) = given (same s _ refl refl refl refl refl)
+  after_trapped : (k : Option TrapKind) → Goes (trapped s k)
+  unfolding Goes Told
+  after_trapped None = failed
+  after_trapped (Some k) = given (record { later = same s _ refl refl refl refl refl; told = refl })
 
-  later_service : (k : ℕ) → IfGiven GoesOn (service s k)
-  unfolding service GoesOn
-  later_service k =
-      either (IfGiven GoesOn) (k == 0x20) _ _ (given (same s _ refl refl refl refl refl))
-      (either (IfGiven GoesOn) (k == 0x21) _ _ (given (same s _ refl refl refl refl refl))
-      (either (IfGiven GoesOn) (k == 0x22) _ _ (given (same s _ refl refl refl refl refl))
-      (either (IfGiven GoesOn) (k == 0x23) _ _ (later_input (slice_get s.input s.place))
-      (either (IfGiven GoesOn) (k == 0x24) _ _ (later_trapped (trap_of s.regs.eax)) failed))))
+  after_service : (k : ℕ) → Goes (service s k)
+  unfolding service Goes Told
+  after_service k =
+      either (IfGiven (GoesOn s)) (k == 0x20) _ _ (given (record { later = same s _ refl refl refl refl refl; told = refl }))
+      (either (IfGiven (GoesOn s)) (k == 0x21) _ _ (given (record { later = same s _ refl refl refl refl refl; told = refl }))
+      (either (IfGiven (GoesOn s)) (k == 0x22) _ _ (given (record { later = same s _ refl refl refl refl refl; told = refl }))
+      (either (IfGiven (GoesOn s)) (k == 0x23) _ _ (after_input (slice_get s.input s.place))
+      (either (IfGiven (GoesOn s)) (k == 0x24) _ _ (after_trapped (trap_of s.regs.eax)) failed))))
 
-  later_effect : (i : Ins) → IfGiven GoesOn (effect s i)
-  unfolding effect GoesOn Later
-  later_effect (MovRmR dest src) = later_mov dest _
-  later_effect (MovRRm dest src) = bound (λ v. Unit {0}) GoesOn (read_rm s src) _ (any (read_rm s src)) (λ v _. later_mov _ v)
-  later_effect (MovRI dest n) = later_mov _ _
-  later_effect (MovRmI dest n) = later_mov dest _
-  later_effect (AluRmR op dest src) = later_alu op dest _
-  later_effect (AluRRm op dest src) = bound (λ v. Unit {0}) GoesOn (read_rm s src) _ (any (read_rm s src)) (λ v _. later_alu op _ v)
-  later_effect (AluRmI op dest n) = later_alu op dest _
-  later_effect (AluRmB op dest n) = later_alu op dest _
-  later_effect (ImulRRm dest src) = bound (λ v. Unit {0}) GoesOn (read_rm s src) _ (any (read_rm s src)) (λ v _. later_imul dest _ v)
-  later_effect (ImulI dest src n) = bound (λ v. Unit {0}) GoesOn (read_rm s src) _ (any (read_rm s src)) (λ v _. later_imul dest _ v)
-  later_effect (ImulB dest src n) = bound (λ v. Unit {0}) GoesOn (read_rm s src) _ (any (read_rm s src)) (λ v _. later_imul dest _ v)
-  later_effect (Neg dest) = later_neg dest
-  later_effect (Idiv src) = bound (λ v. Unit {0}) GoesOn (read_rm s src) _ (any (read_rm s src)) (λ v _. later_idiv v)
-  later_effect Cdq = given (same s _ refl refl refl refl refl)
-  later_effect (Lea dest a) = given (same s _ refl refl refl refl refl)
-  later_effect (PushR src) = bound Later GoesOn (push s _) _ (later_push _) (λ t k. given k)
-  later_effect (PushM src) = bound (λ v. Unit {0}) GoesOn (load s _) _ (any (load s _)) (λ v _. bound Later GoesOn (push s v) _ (later_push v) (λ t k. given k))
-  later_effect (PushI n) = bound Later GoesOn (push s _) _ (later_push _) (λ t k. given k)
-  later_effect (PopR dest) = bound (λ x. Later x.1) GoesOn (pop s) _ later_pop (λ x k. given (again x.1 _ k refl refl refl refl refl))
-  later_effect (Call d) = bound Later GoesOn (push s _) _ (later_push _) (λ t k. given (again t _ k refl refl refl refl refl))
-  later_effect Ret = bound (λ x. Later x.1) GoesOn (pop s) _ later_pop (λ x k. given (again x.1 _ k refl refl refl refl refl))
-  later_effect (RetI n) = bound (λ x. Later x.1) GoesOn (pop s) _ later_pop (λ x k. given (again x.1 _ k refl refl refl refl refl))
-  later_effect (Jmp d) = given (same s _ refl refl refl refl refl)
-  later_effect (Jcc c d) = later_branch d (holds s.flags c)
-  later_effect (Set c dest) = later_set dest (holds s.flags c)
-  later_effect (Movzx dest src) = given (same s _ refl refl refl refl refl)
-  later_effect (Xchg dest src) = given (same s _ refl refl refl refl refl)
-  later_effect (Test a b) = given (same s _ refl refl refl refl refl)
-  later_effect (Int k) = later_service k
+  after_effect : (i : Ins) → Goes (effect s i)
+  unfolding effect
+  after_effect (MovRmR dest src) = after_mov dest _
+  after_effect (MovRRm dest src) = from_word (read_rm s src) _ (after_mov _)
+  after_effect (MovRI dest n) = after_mov _ _
+  after_effect (MovRmI dest n) = after_mov dest _
+  after_effect (AluRmR op dest src) = after_alu op dest _
+  after_effect (AluRRm op dest src) = from_word (read_rm s src) _ (after_alu op _)
+  after_effect (AluRmI op dest n) = after_alu op dest _
+  after_effect (AluRmB op dest n) = after_alu op dest _
+  after_effect (ImulRRm dest src) = from_word (read_rm s src) _ (after_imul dest _)
+  after_effect (ImulI dest src n) = from_word (read_rm s src) _ (after_imul dest _)
+  after_effect (ImulB dest src n) = from_word (read_rm s src) _ (after_imul dest _)
+  after_effect (Neg dest) = after_neg dest
+  after_effect (Idiv src) = from_word (read_rm s src) _ after_idiv
+  after_effect Cdq = goes_plain _ refl refl refl refl refl refl
+  after_effect (Lea dest a) = goes_plain _ refl refl refl refl refl refl
+  after_effect (PushR src) = from_state (push s _) _ (quiet_push _) (λ t q. goes_on t t q refl refl refl refl refl refl)
+  after_effect (PushM src) = from_word (load s _) _ (λ v. from_state (push s v) _ (quiet_push v) (λ t q. goes_on t t q refl refl refl refl refl refl))
+  after_effect (PushI n) = from_state (push s _) _ (quiet_push _) (λ t q. goes_on t t q refl refl refl refl refl refl)
+  after_effect (PopR dest) = from_pop _ (λ x q. goes_on x.1 _ q refl refl refl refl refl refl)
+  after_effect (Call d) = from_state (push s _) _ (quiet_push _) (λ t q. goes_on t _ q refl refl refl refl refl refl)
+  after_effect Ret = from_pop _ (λ x q. goes_on x.1 _ q refl refl refl refl refl refl)
+  after_effect (RetI n) = from_pop _ (λ x q. goes_on x.1 _ q refl refl refl refl refl refl)
+  after_effect (Jmp d) = goes_plain _ refl refl refl refl refl refl
+  after_effect (Jcc c d) = after_branch d (holds s.flags c)
+  after_effect (Set c dest) = after_set dest (holds s.flags c)
+  after_effect (Movzx dest src) = goes_plain _ refl refl refl refl refl refl
+  after_effect (Xchg dest src) = goes_plain _ refl refl refl refl refl refl
+  after_effect (Test a b) = goes_plain _ refl refl refl refl refl refl
+  after_effect (Int k) = after_service k
 
-  -- EIP does not count either
-  moved : (n : ℕ) (t : State) → IsLater (at s n) t 1 → IsLater s t 1
-  moved n t k = record { code = k.code; input = k.input; data_size = k.data_size; stack_size = k.stack_size; grows = k.grows; bounded = k.bounded }
+-- EIP does not count
+moved : (s : State) (n : ℕ) (r : Done) → IfGiven (GoesOn (at s n)) r → IfGiven (GoesOn s) r
+moved s n (Ok x) (given k) =
+    let l : IsLater (at s n) x.0 1 = k.later in
+    given (record { later = record { code = l.code; input = l.input; data_size = l.data_size; stack_size = l.stack_size; grows = l.grows; bounded = l.bounded }; told = k.told })
+moved s n (Err e) k = failed
 
-moved_done : (s : State) (n : ℕ) (r : Done) → IfGiven (λ x. IsLater (at s n) x.0 1) r → IfGiven (λ x. IsLater s x.0 1) r
-moved_done s n (Ok x) (given k) = given (moved s n x.0 k)
-moved_done s n (Err e) k = failed
+after_execute : (s : State) → IfGiven (GoesOn s) (execute s)
+unfolding Goes
+after_execute s = bound (λ x. Unit {0}) (GoesOn s) (fetch s) _ (any (fetch s)) (λ x _. moved s x.1 _ (after_effect (at s x.1) x.0))
 
-later_execute : (s : State) → IfGiven (λ x. IsLater s x.0 1) (execute s)
-unfolding GoesOn
-later_execute s = bound (λ x. Unit {0}) (λ x. IsLater s x.0 1) (fetch s) _ (any (fetch s)) (λ x _. moved_done s x.1 _ (later_effect (at s x.1) x.0))
-
-later_settled : (s : State) (r : Done) → IfGiven (λ x. IsLater s x.0 1) r → IsLater s (settled s r).0 1
-later_settled s (Ok x) (given k) = k
+later_settled : (s : State) (r : Done) → IfGiven (GoesOn s) r → IsLater s (settled s r).0 1
+later_settled s (Ok x) (given k) = k.later
 later_settled s (Err e) k = same s _ refl refl refl refl refl
 
 later_from : (s : State) (e : Ending) → IsLater s (step_from s e).0 1
-later_from s ending.Going = later_settled s (execute s) (later_execute s)
+later_from s ending.Going = later_settled s (execute s) (after_execute s)
 later_from s ending.Ended = same s _ refl refl refl refl refl
 later_from s (ending.Trap k) = same s _ refl refl refl refl refl
 later_from s (ending.Fault k) = same s _ refl refl refl refl refl
@@ -204,3 +248,58 @@ later_from s (ending.Fault k) = same s _ refl refl refl refl refl
 pub later_step : (s : State) → IsLater s (step s).0 1
 unfolding step
 later_step s = later_from s s.ending
+
+-- the answer of a step tells the ending
+told_is : (now : Ending) (o : StepOut) → Told ending.Going now o → now ≡ ending_told o
+unfolding Told
+told_is now out.Going t = t
+told_is now (out.Wrote n) t = t
+told_is now out.Line t = t
+told_is now out.Ended t = t
+told_is now (out.Trap k) t = t
+told_is now (out.Fault k) t = absurd t
+
+told_settled : (s : State) (r : Done) → s.ending ≡ ending.Going → IfGiven (GoesOn s) r → (settled s r).0.ending ≡ ending_told (settled s r).1
+told_settled s (Ok x) going (given k) = told_is x.0.ending x.1 (subst (λ e. Told e x.0.ending x.1) going k.told)
+told_settled s (Err e) going k = refl
+
+told_from : (s : State) (e : Ending) → s.ending ≡ e → (step_from s e).0.ending ≡ ending_told (step_from s e).1
+told_from s ending.Going is = told_settled s (execute s) is (after_execute s)
+told_from s ending.Ended is = is
+told_from s (ending.Trap k) is = is
+told_from s (ending.Fault k) is = is
+
+pub step_told : (s : State) → (step s).0.ending ≡ ending_told (step s).1
+unfolding step
+step_told s = told_from s s.ending refl
+
+-- a fault changes nothing but the ending
+fault_none : (now : Ending) (o : StepOut) (k : FaultKind) → Told ending.Going now o → o ≡ out.Fault k → ⊥
+unfolding Told
+fault_none now out.Going k t e = cc
+fault_none now (out.Wrote n) k t e = cc
+fault_none now out.Line k t e = cc
+fault_none now out.Ended k t e = cc
+fault_none now (out.Trap j) k t e = cc
+fault_none now (out.Fault j) k t e = t
+
+fault_settled : (s : State) (r : Done) (k : FaultKind) → s.ending ≡ ending.Going → IfGiven (GoesOn s) r → (settled s r).1 ≡ out.Fault k → (settled s r).0 ≡ over s (ending.Fault k)
+fault_settled s (Ok x) k going (given g) e = absurd (fault_none x.0.ending x.1 k (subst (λ e. Told e x.0.ending x.1) going g.told) e)
+fault_settled s (Err j) k going g e = let same_kind : j ≡ k = cc in ap (λ k. over s (ending.Fault k)) same_kind
+
+pub step_fault : (s : State) (k : FaultKind) → s.ending ≡ ending.Going → (step s).1 ≡ out.Fault k → (step s).0 ≡ over s (ending.Fault k)
+unfolding step
+step_fault s k going e =
+    let from : step_from s s.ending ≡ settled s (execute s) = ap (step_from s) going in
+    ap (λ (x : State × StepOut). x.0) from ∙ fault_settled s (execute s) k going (after_execute s) (ap (λ (x : State × StepOut). x.1) (sym from) ∙ e)
+
+-- after an ending a step changes nothing
+over_from : (s : State) (e : Ending) → e ≢ ending.Going → (step_from s e).0 ≡ s
+over_from s ending.Going over = absurd (over refl)
+over_from s ending.Ended over = refl
+over_from s (ending.Trap k) over = refl
+over_from s (ending.Fault k) over = refl
+
+pub step_over : (s : State) → s.ending ≢ ending.Going → (step s).0 ≡ s
+unfolding step
+step_over s over = over_from s s.ending over

@@ -1,10 +1,9 @@
 -- The machine as one of the machines whose runs are compared, and how a run goes on.
-use Rattle.std.proofs.Common.{◌≡◌, ◌≢◌, ℕ, zero, suc, ◌+◌, ◌-◌, ◌≤◌, ◌<◌, Bool, true, false, List, [], ◌∷◌, ◌++◌, Option, Some, None, refl, sym, ap, ◌∙◌, subst, arith, append-nil, ◌⊎◌, ⊎_elim}
+use Rattle.std.proofs.Common.{◌≡◌, ◌≢◌, ℕ, zero, suc, ◌+◌, ◌-◌, ◌≤◌, true, false, List, [], ◌++◌, None, refl, sym, ap, ◌∙◌, subst, arith, append-nil, append_assoc, ◌⊎◌, ⊎_elim}
 use Rattle.std.specs.Prelude.{ℤ, Result, Ok, Err, OnErr}
 use Rattle.pra_base.specs.declared.event.OutEvent.{OutEvent}
-use Rattle.pra_base.specs.Agreement.{Progress, IsPrefix, Keeps}
+use Rattle.pra_base.specs.Agreement.{IsPrefix, Keeps}
 use Rattle.pra_base.specs.System.{run, IsMachine}
-use Rattle.pra_base.specs.RunEnd.{RunEnd}
 use Rattle.pra_base.proofs.Simulation.{run_more, run_over, keeps}
 use Rattle.ia_code.specs.declared.image.Image.{Image}
 use Rattle.ia_step.specs.declared.out.StepOut.{StepOut}
@@ -115,3 +114,98 @@ module _ (s t : State) (k : ℕ) (events : List OutEvent) (same : ran s k ≡ re
 pub on_err : {X E : Type 0} (P : Type 0) (r : Result X E) → P → OnErr r P
 on_err P (Ok x) p = tt
 on_err P (Err e) p = p
+
+-- Longer runs
+
+split_ran : (s : State) (m n : ℕ) → m ≤ n → ran s n ≡ run advance (n - m) (ran s m)
+split_ran s m n le = let e : n ≡ m + (n - m) = omega arith in ap (ran s) e ∙ run_more advance m (n - m) (begin s)
+
+pub events_grow : (s : State) (m n : ℕ) → m ≤ n → (more : List OutEvent) × ((ran s n).events ≡ (ran s m).events ++ more)
+events_grow s m n le = let p = (progress_keeps_from s).grows m n le in (p.0, p.1)
+  where
+    progress_keeps_from : (s : State) → Keeps (λ n. view (ran s n))
+    progress_keeps_from s = keeps advance view is_machine (begin s)
+
+steps_from : (r : Ran) (e : Ending) → (r.steps ≤ (advance_from r e).steps) × ((advance_from r e).steps ≤ r.steps + 1)
+steps_from r ending.Going = (omega arith, omega arith)
+steps_from r ending.Ended = (omega arith, omega arith)
+steps_from r (ending.Trap k) = (omega arith, omega arith)
+steps_from r (ending.Fault k) = (omega arith, omega arith)
+
+steps_run : (m : ℕ) (r : Ran) → (r.steps ≤ (run advance m r).steps) × ((run advance m r).steps ≤ r.steps + m)
+steps_run zero r = (omega arith, omega arith)
+steps_run (suc m) r =
+    let one = steps_from r r.state.ending in
+    let rest = steps_run m (advance r) in
+    (omega (arith, one.0, rest.0), omega (arith, one.1, rest.1))
+
+pub steps_grow : (s : State) (m n : ℕ) → m ≤ n → (ran s m).steps ≤ (ran s n).steps
+steps_grow s m n le = subst (λ (r : Ran). (ran s m).steps ≤ r.steps) (sym (split_ran s m n le)) (steps_run (n - m) (ran s m)).0
+
+pub steps_most : (s : State) (m : ℕ) → (ran s m).steps ≤ m
+steps_most s m = let most = (steps_run m (begin s)).1 in omega (arith, most)
+
+-- a machine that is over stays so
+stopped : (m : ℕ) (r : Ran) (e : Ending) → r.state.ending ≡ e → run_end e ≢ None → (run advance m r).state.ending ≢ ending.Going
+stopped m r e is over =
+    let same : run advance m r ≡ r = run_over advance view is_machine m r (subst (λ e. run_end e ≢ None) (sym is) over) in
+    λ going. over (ap run_end (sym is ∙ ap (λ (r : Ran). r.state.ending) (sym same) ∙ going))
+
+-- one that is still going on has made all its steps
+all_from : (m : ℕ) (r : Ran) (e : Ending) → r.state.ending ≡ e → (run advance (suc m) r).state.ending ≡ ending.Going →
+    (run advance m (advance r)).steps ≡ (advance r).steps + m → (run advance (suc m) r).steps ≡ r.steps + suc m
+all_from m r ending.Going is going rest =
+    let one : (advance r).steps ≡ r.steps + 1 = ap (λ (e : Ending). (advance_from r e).steps) is in
+    omega (arith, one, rest)
+all_from m r ending.Ended is going rest = absurd (stopped (suc m) r ending.Ended is (λ e. cc) going)
+all_from m r (ending.Trap k) is going rest = absurd (stopped (suc m) r (ending.Trap k) is (λ e. cc) going)
+all_from m r (ending.Fault k) is going rest = absurd (stopped (suc m) r (ending.Fault k) is (λ e. cc) going)
+
+all_run : (m : ℕ) (r : Ran) → (run advance m r).state.ending ≡ ending.Going → (run advance m r).steps ≡ r.steps + m
+all_run zero r going = omega arith
+all_run (suc m) r going = all_from m r r.state.ending refl going (all_run m (advance r) going)
+
+pub steps_all : (s : State) (m : ℕ) → (ran s m).state.ending ≡ ending.Going → (ran s m).steps ≡ m
+steps_all s m going = let all = all_run m (begin s) going in omega (arith, all)
+
+-- Two runs in a row: what the second one does, behind what r did
+behind : Ran → Ran → Ran
+behind r q = record { state = q.state; events = r.events ++ q.events; steps = r.steps + q.steps }
+
+noted-append : (a b : List OutEvent) (o : StepOut) → noted (a ++ b) o ≡ a ++ noted b o
+noted-append a b (out.Wrote n) = append_assoc a b _
+noted-append a b out.Line = append_assoc a b _
+noted-append a b out.Going = refl
+noted-append a b out.Ended = refl
+noted-append a b (out.Trap k) = refl
+noted-append a b (out.Fault k) = refl
+
+advance-behind : (r q : Ran) (e : Ending) → advance_from (behind r q) e ≡ behind r (advance_from q e)
+unfolding behind
+advance-behind r q ending.Going =
+    let count : r.steps + q.steps + 1 ≡ r.steps + (q.steps + 1) = omega arith in
+    rw (noted-append r.events q.events (step q.state).1, count) refl
+advance-behind r q ending.Ended = refl
+advance-behind r q (ending.Trap k) = refl
+advance-behind r q (ending.Fault k) = refl
+
+run-behind : (n : ℕ) (r q : Ran) → run advance n (behind r q) ≡ behind r (run advance n q)
+unfolding behind
+run-behind zero r q = refl
+run-behind (suc n) r q = ap (run advance n) (advance-behind r q q.state.ending) ∙ run-behind n r (advance q)
+
+behind-begin : (r : Ran) → behind r (begin r.state) ≡ r
+unfolding behind
+behind-begin r =
+    let count : r.steps + 0 ≡ r.steps = omega arith in
+    rw (append-nil r.events, count) refl
+
+pub joined : (s : State) (m n : ℕ) → ran s (m + n) ≡ record {
+  state = (ran (ran s m).state n).state;
+  events = (ran s m).events ++ (ran (ran s m).state n).events;
+  steps = (ran s m).steps + (ran (ran s m).state n).steps;
+}
+unfolding behind
+joined s m n =
+    let r : Ran = ran s m in
+    run_more advance m n (begin s) ∙ ap (run advance n) (sym (behind-begin r)) ∙ run-behind n r (begin r.state)

@@ -7,7 +7,6 @@ use Rattle.pra_base.specs.declared.event.TrapKind.{TrapKind}
 use Rattle.pra_base.specs.declared.event.TrapKind.TheVariants as trap
 use Rattle.ia_code.specs.declared.ins.Reg.{Reg}
 use Rattle.ia_code.specs.declared.ins.Reg.TheVariants.{Eax, Edx, Esp}
-use Rattle.ia_code.specs.declared.ins.MemAddr.{MemAddr}
 use Rattle.ia_code.specs.declared.ins.Rm.{Rm}
 use Rattle.ia_code.specs.declared.ins.Rm.TheVariants as rm
 use Rattle.ia_code.specs.declared.ins.AluOp.{AluOp}
@@ -19,7 +18,7 @@ use Rattle.ia_step.specs.declared.out.FaultKind.TheVariants as fault
 use Rattle.ia_step.specs.declared.out.StepOut.{StepOut}
 use Rattle.ia_step.specs.declared.out.StepOut.TheVariants.{Going, Wrote, Line, Ended, Trap}
 use Rattle.ia_step.specs.declared.out.Ending.TheVariants as ending
-use Rattle.ia_step.specs.Registers.{get, with_reg, address_of}
+use Rattle.ia_step.specs.Registers.{get, address_of}
 use Rattle.ia_step.specs.Memory.{word_in, with_word}
 use Rattle.ia_step.specs.Arithmetic.{sum32, diff32, prod32, sign, signed, diff_flags, bit_flags, product_flags, no_flags, result_of, flags_of, quotient, with_low_byte, bit_of, holds}
 use Rattle.ia_step.specs.State.{State, data_base, stack_base, with_register, with_flags, at, over}

@@ -5,5 +5,6 @@ pub mod State
 pub mod Effect
 pub mod Later
 pub mod Step
+pub mod Laws
 pub mod Views
 pub mod Run

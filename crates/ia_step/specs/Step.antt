@@ -43,3 +43,10 @@ step_from s (Fault k) = (s, out.Fault k)
 
 unfoldable pub step : State → State × StepOut
 step s = step_from s s.ending
+
+-- the ending of which an answer tells
+abbrev pub ending_told : StepOut → Ending
+ending_told out.Ended = Ended
+ending_told (out.Trap k) = Trap k
+ending_told (out.Fault k) = Fault k
+ending_told _ = Going

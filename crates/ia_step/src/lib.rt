@@ -6,6 +6,7 @@
 mod arithmetic;
 mod divide;
 pub mod flags;
+pub mod laws;
 pub mod machine;
 mod memory;
 pub mod out;

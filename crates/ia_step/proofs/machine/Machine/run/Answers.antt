@@ -1,7 +1,7 @@
-use Rattle.std.proofs.Common.{◌≡◌, ◌+◌, ◌-◌, ◌≤◌, ◌⊎◌, Bool, true, false, arith, sym, ap, ◌∙◌, inl, inr, refl, Fits, w32}
+use Rattle.std.proofs.Common.{◌≡◌, ◌+◌, ◌≤◌, ◌⊎◌, false, arith, sym, ap, ◌∙◌, inl, inr, refl}
 use Rattle.ia_step.specs.State.{State}
 use Rattle.ia_step.specs.Later.{IsLater}
-use Rattle.ia_step.specs.Run.{Ran, is_going, noted, ran, told}
+use Rattle.ia_step.specs.Run.{Ran, is_going, noted}
 use Rattle.ia_step.proofs.Runs.{stepped, finished, later_here, on_err}
 use Rattle.ia_step.proofs.machine.Machine.run.Goals as goal
 use Rattle.ia_step.proofs.machine.Machine.run.Goals.{then-loop-steps-test+else-is_going, else-loop-steps-test}
