@@ -1,6 +1,6 @@
 -- The code of a small module does what the module means: one lemma for each instruction, sums by induction over the operands that
 -- follow, and the body by induction over its statements.
-use Rattle.std.proofs.Common.{◌≡◌, ℕ, suc, ◌+◌, ◌*◌, ◌<◌, ◌≤◌, List, [], ◌∷◌, ◌++◌, length, refl, sym, ap, ◌∙◌, subst, arith, append_assoc, append-nil}
+use Rattle.std.proofs.Common.{◌≡◌, ℕ, suc, ◌+◌, ◌*◌, ◌<◌, ◌≤◌, List, [], ◌∷◌, ◌++◌, length, refl, sym, ap, ◌∙◌, subst, arith, append_assoc, append-nil, drop, ◌-◌}
 use Rattle.std.specs.Prelude.{ℤ, Option, Some, None, Ok, map}
 use Rattle.std.specs.List.{flat_map}
 use Rattle.std.proofs.lemmas.Int.{to_z-of_z}
@@ -23,12 +23,13 @@ use Rattle.ia_code.specs.declared.image.Image.{Image}
 use Rattle.ia_step.specs.declared.out.StepOut.{StepOut}
 use Rattle.ia_step.specs.declared.out.StepOut.TheVariants as out
 use Rattle.ia_step.specs.declared.out.Ending.TheVariants as ending
-use Rattle.ia_step.specs.State.{State, start, with_register, with_flags, at, over}
+use Rattle.ia_step.specs.State.{State, code_base, start, with_register, with_flags, at, over}
 use Rattle.ia_step.specs.Memory.{word_in, with_word, zeros}
 use Rattle.ia_step.specs.Arithmetic.{result_of, flags_of}
 use Rattle.ia_step.specs.Effect.{read_rm, write_rm, mov, alu, effect, service}
 use Rattle.ia_step.specs.Step.{settled, step}
 use Rattle.ia_step.specs.Run.{Ran, noted, begin, after, advance_from, advance, view, progress}
+use Rattle.ia_step.proofs.Here.{Stands, step_here, next}
 use Rattle.ia_step.proofs.Runs.{progress_keeps}
 use Rattle.pra_tool.specs.declared.small.SmallModule.{SmallModule}
 use Rattle.pra_tool.specs.declared.small.Statement.{Statement}
@@ -44,7 +45,6 @@ use Rattle.pra_tool.specs.declared.compile.TheConstants.{MAX_VARIABLES}
 use Rattle.pra_tool.specs.Meaning.{Store, value_of, assigned, operand_value, combined, rest_value, sum_value, exec, written, mean}
 use Rattle.pra_tool.specs.Code.{variable, load, operation, combine, combine_with, sum_code, statement_code, code_of, bytes}
 use Rattle.pra_tool.proofs.Values.{AllFit, all_fit_empty, combined_fits, operand_fits, combined_word, number_fits, sum_fits, exec_fits}
-use Rattle.pra_tool.proofs.Stands.{Stands, step_here, next}
 use Rattle.pra_tool.proofs.DataWords.{Stored, stored_start, stored_assigned, variable_sound, read_variable, write_variable}
 
 -- the register has the number's word, or anything
@@ -55,7 +55,7 @@ Holds (Some v) word = word ≡ cast_unsigned w32 v
 -- The machine stands before these instructions, the variables have the numbers of the store, and so much is written.
 pub record At (n : ℕ) (store : Store) (held : Option ℤ) (events : List OutEvent) (left : List Ins) (r : Ran) : Type 0 where
   pub going : r.state.ending ≡ ending.Going
-  pub stands : Stands r.state (bytes left)
+  pub stands : Stands r.state (bytes left) []
   pub words : Stored n store r.state.storage
   pub eax : Holds held r.state.regs.eax
   pub wrote : r.events ≡ events
@@ -73,15 +73,15 @@ alu_register Minus s v = refl
 module _ (n : ℕ) (few : n ≤ MAX_VARIABLES) (store : Store) (events : List OutEvent) (r : Ran) where
   -- one instruction: from the state before it with EIP behind it, to a state that differs from it in what is named
   goes_on : (held : Option ℤ) (i : Ins) (left : List Ins) (t : State) (o : StepOut) (store' : Store) (held' : Option ℤ) (events' : List OutEvent) →
-      At n store held events (i ∷ left) r → IsSound i → 0 < length (bytes_of i) →
+      At n store held events (i ∷ left) r → IsSound i →
       effect (at r.state (r.state.eip + length (bytes_of i))) i ≡ Ok (t, o) →
       t.code ≡ r.state.code → t.eip ≡ r.state.eip + length (bytes_of i) → t.ending ≡ r.state.ending → t.place ≡ r.state.place → noted events o ≡ events' →
       Stored n store' t.storage → Holds held' t.regs.eax → At n store' held' events' left (advance r)
-  goes_on held i left t o store' held' events' a is long e code eip over place ev words eax =
-      subst (At n store' held' events' left) (sym (advanced r t o a.going (step_here r.state i (bytes left) is long a.stands a.going ∙ ap (settled r.state) e)))
+  goes_on held i left t o store' held' events' a is e code eip over place ev words eax =
+      subst (At n store' held' events' left) (sym (advanced r t o a.going (step_here r.state i (bytes left) [] is a.stands a.going ∙ ap (settled r.state) e)))
       (record {
         going = over ∙ a.going;
-        stands = next r.state i (bytes left) is long a.stands t code eip;
+        stands = record { above = omega (arith, a.stands.above); here = ap (drop (t.eip - code_base)) code ∙ next r.state i (bytes left) [] is a.stands t.eip eip };
         words = words;
         eax = eax;
         wrote = ap (λ l. noted l o) a.wrote ∙ ev;
@@ -94,11 +94,11 @@ module _ (n : ℕ) (few : n ≤ MAX_VARIABLES) (store : Store) (events : List Ou
   loads held (Variable x) left is a =
       let s = at r.state (r.state.eip + length (bytes_of (MovRRm Eax (variable x)))) in
       goes_on held (MovRRm Eax (variable x)) left (with_register s Eax (word_in r.state.storage (4 * x))) out.Going store (Some (value_of store x)) events a
-      (variable_sound x (omega arith)) (omega arith) (rw (read_variable n s a.words.long x is few) refl) refl refl refl refl refl a.words (a.words.words x is)
+      (variable_sound x (omega arith)) (rw (read_variable n s a.words.long x is few) refl) refl refl refl refl refl a.words (a.words.words x is)
   loads held (Number v) left is a =
       let s = at r.state (r.state.eip + length (bytes_of (MovRI Eax v))) in
       goes_on held (MovRI Eax v) left (with_register s Eax (cast_unsigned w32 v)) out.Going store (Some v) events a
-      (number_fits v is.0 is.1) (omega arith) refl refl refl refl refl refl a.words refl
+      (number_fits v is.0 is.1) refl refl refl refl refl refl a.words refl
 
   -- what an operation leaves in EAX
   result : (op : SumOp) (x y : ℤ) (a b : ℕ) → FitsSigned w32 x → FitsSigned w32 y → a ≡ cast_unsigned w32 x → b ≡ cast_unsigned w32 y →
@@ -114,7 +114,7 @@ module _ (n : ℕ) (few : n ≤ MAX_VARIABLES) (store : Store) (events : List Ou
       let eax = r.state.regs.eax in
       goes_on (Some x) (AluRRm (operation op) Eax (variable y)) left
       (with_flags (with_register s Eax (result_of (operation op) eax word)) (flags_of (operation op) eax word)) out.Going store (Some (combined op x (value_of store y))) events a
-      (variable_sound y (omega arith)) (omega arith)
+      (variable_sound y (omega arith))
       (rw (read_variable n s a.words.long y is few) (alu_register op s word)) refl refl refl refl refl a.words
       (result op x (value_of store y) eax word fits (all.fits y) a.eax (a.words.words y is))
   combines all x op (Number v) left fits is a =
@@ -123,7 +123,7 @@ module _ (n : ℕ) (few : n ≤ MAX_VARIABLES) (store : Store) (events : List Ou
       let eax = r.state.regs.eax in
       goes_on (Some x) (AluRmI (operation op) (rm.Reg Eax) v) left
       (with_flags (with_register s Eax (result_of (operation op) eax word)) (flags_of (operation op) eax word)) out.Going store (Some (combined op x v)) events a
-      (tt, number_fits v is.0 is.1) (omega arith)
+      (tt, number_fits v is.0 is.1)
       (alu_register op s word) refl refl refl refl refl a.words
       (result op x v eax word fits (number_fits v is.0 is.1) a.eax refl)
 
@@ -133,7 +133,7 @@ module _ (n : ℕ) (few : n ≤ MAX_VARIABLES) (store : Store) (events : List Ou
   assigns v x left fits is a =
       let s = at r.state (r.state.eip + length (bytes_of (MovRmR (variable x) Eax))) in
       goes_on (Some v) (MovRmR (variable x) Eax) left (record s { storage = with_word r.state.storage (4 * x) r.state.regs.eax }) out.Going (assigned store x v) (Some v) events a
-      (variable_sound x (omega arith)) (omega arith)
+      (variable_sound x (omega arith))
       (rw (write_variable n s a.words.long x is few r.state.regs.eax) refl) refl refl refl refl refl
       (subst (λ word. Stored n (assigned store x v) (with_word r.state.storage (4 * x) word)) (sym a.eax) (stored_assigned n store r.state.storage x v a.words is fits)) a.eax
 
@@ -143,19 +143,19 @@ module _ (n : ℕ) (few : n ≤ MAX_VARIABLES) (store : Store) (events : List Ou
   writes v left fits a =
       let number : cast_signed w32 r.state.regs.eax ≡ v = ap (cast_signed w32) a.eax ∙ to_z-of_z w32 v fits in
       goes_on (Some v) (Int 0x21) left (at r.state (r.state.eip + 2)) (out.Wrote (cast_signed w32 r.state.regs.eax)) store (Some v) (events ++ event.Number v ∷ []) a
-      (omega arith, omega arith) (omega arith) refl refl refl refl refl (ap (λ z. events ++ event.Number z ∷ []) number) a.words a.eax
+      (omega arith, omega arith) refl refl refl refl refl (ap (λ z. events ++ event.Number z ∷ []) number) a.words a.eax
 
   writes_line : (held : Option ℤ) (left : List Ins) → At n store held events (Int 0x22 ∷ left) r → At n store held (events ++ event.Line ∷ []) left (advance r)
   unfolding effect service
   writes_line held left a =
-      goes_on held (Int 0x22) left (at r.state (r.state.eip + 2)) out.Line store held (events ++ event.Line ∷ []) a (omega arith, omega arith) (omega arith) refl refl refl refl refl refl a.words a.eax
+      goes_on held (Int 0x22) left (at r.state (r.state.eip + 2)) out.Line store held (events ++ event.Line ∷ []) a (omega arith, omega arith) refl refl refl refl refl refl a.words a.eax
 
   -- the last instruction
   ends : (held : Option ℤ) → At n store held events (Int 0x20 ∷ []) r → view (advance r) ≡ record { ending = Some Ended; events = events; taken = 0 }
   unfolding effect service
   ends held a =
       let t = over (at r.state (r.state.eip + 2)) ending.Ended in
-      ap view (advanced r t out.Ended a.going (step_here r.state (Int 0x20) [] (omega arith, omega arith) (omega arith) a.stands a.going))
+      ap view (advanced r t out.Ended a.going (step_here r.state (Int 0x20) [] [] (omega arith, omega arith) a.stands a.going))
       ∙ same r.events r.state.place a.wrote a.place
     where
       same : (e : List OutEvent) (p : ℕ) → e ≡ events → p ≡ 0 → ◌≡◌ {A = Progress OutEvent RunEnd} (record { ending = Some Ended; events = e; taken = p }) (record { ending = Some Ended; events = events; taken = 0 })
@@ -235,7 +235,7 @@ module _ (m : SmallModule) (few : m.variables ≤ MAX_VARIABLES) (fits : Fits m)
   unfolding first
   at_start = record {
     going = refl;
-    stands = record { above = omega arith; here = code };
+    stands = record { above = omega arith; here = code ∙ sym (append-nil (bytes (code_of m))) };
     words = subst (λ k. Stored m.variables fin.empty (zeros (k * 4))) (sym data_words) (stored_start m.variables);
     eax = tt;
     wrote = refl;
