@@ -1,0 +1,11 @@
+pub mod Small
+pub mod Tokens
+pub mod Text
+pub mod Scanned
+pub mod Parsing
+pub mod Meaning
+pub mod Code
+pub mod Words
+pub mod Outside
+pub mod Texts
+pub mod Clause
