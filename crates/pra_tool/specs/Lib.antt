@@ -1,1 +1,4 @@
+pub mod Scanned
 pub mod Small
+pub mod Text
+pub mod Tokens

@@ -1,5 +1,6 @@
 -- How large a small module is, and that its numbers fit.
 use Rattle.std.specs.Prelude.{ℕ, ◌+◌, ◌<◌, List, [], ◌∷◌, length, pos, ◌≤ℤ◌}
+use Rattle.std.specs.List.{AllByRecursion as Each}
 use Rattle.pra_tool.specs.declared.small.SmallModule.{SmallModule}
 use Rattle.pra_tool.specs.declared.small.Statement.{Statement}
 use Rattle.pra_tool.specs.declared.small.Statement.TheVariants.{Assign, Write, WriteLine}
@@ -31,9 +32,11 @@ abbrev pub OperandFits : ℕ → Operand → Type 0
 OperandFits variables (Variable x) = x < variables
 OperandFits variables (Number n) = (pos 0 ≤ℤ n) × (n ≤ℤ pos 2147483647)
 
+abbrev pub NextFits : ℕ → NextOperand → Type 0
+NextFits variables next = OperandFits variables next.operand
+
 abbrev pub RestFits : ℕ → List NextOperand → Type 0
-RestFits variables [] = Unit {0}
-RestFits variables (next ∷ rest) = OperandFits variables next.operand × RestFits variables rest
+RestFits variables = Each (NextFits variables)
 
 abbrev pub SumFits : ℕ → Sum → Type 0
 SumFits variables s = OperandFits variables s.first × RestFits variables s.rest
@@ -44,8 +47,7 @@ StatementFits variables (Write s) = SumFits variables s
 StatementFits variables WriteLine = Unit {0}
 
 abbrev pub BodyFits : ℕ → List Statement → Type 0
-BodyFits variables [] = Unit {0}
-BodyFits variables (s ∷ ss) = StatementFits variables s × BodyFits variables ss
+BodyFits variables = Each (StatementFits variables)
 
 -- each variable that is named is declared, and each number is one of 0 to 2147483647
 abbrev pub Fits : SmallModule → Type 0

@@ -1,4 +1,6 @@
 //! The whole of what the program does, over a folder, an input and two outputs that are handed in.
 #![tactic(auto)]
 
+pub mod read_fault;
+pub mod scanner;
 pub mod small;
