@@ -1,2 +1,11 @@
+pub mod Bodies
+pub mod Bounds
+pub mod Declarations
+pub mod Keys
+pub mod Lengths
+pub mod Modules
+pub mod Phrases
+pub mod Repeated
 pub mod Scanning
 pub mod Spellings
+pub mod Unique

@@ -1,3 +1,4 @@
+pub mod Parsing
 pub mod Scanned
 pub mod Small
 pub mod Text

@@ -1,6 +1,10 @@
 //! The whole of what the program does, over a folder, an input and two outputs that are handed in.
 #![tactic(auto)]
 
+pub mod laws;
+mod parser;
 pub mod read_fault;
-pub mod scanner;
+pub mod reader;
+mod scanner;
 pub mod small;
+mod variables;
