@@ -13,6 +13,8 @@ mod declaration;
 mod expression;
 mod list;
 mod statement;
+#[cfg(test)]
+mod tests;
 mod types;
 
 pub use cursor::ParseFault;
