@@ -8,6 +8,12 @@ use Rattle.ia_code.proofs.Again.{one_spelling_of}
 use Rattle.ia_code.proofs.TakesOperands.{some_same, none_some}
 use Rattle.ia_code.proofs.Takes.{instruction_takes}
 
+-- two rows of one instruction are one
+pub one_spelling : (a b : List ℕ) (i : Ins) (m n : ℕ) → Row a i m → Row b i n → (a ≡ b) × (m ≡ n)
+one_spelling a b i m n p q =
+    let bytes : a ≡ b = p.spelled ∙ sym q.spelled in
+    (bytes, p.length_is ∙ ap length bytes ∙ sym q.length_is)
+
 -- two rows that begin the same bytes are one
 pub one_row : (a b x y : List ℕ) (i j : Ins) (m n : ℕ) → Row a i m → Row b j n → a ++ x ≡ b ++ y → (a ≡ b) × (i ≡ j) × (m ≡ n)
 one_row a b x y i j m n p q e =

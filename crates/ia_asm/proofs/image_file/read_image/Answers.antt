@@ -1,4 +1,4 @@
-use Rattle.std.proofs.Common.{arith, ap, ◌∙◌}
+use Rattle.std.proofs.Common.{arith, ◌∙◌}
 use Rattle.ia_asm.proofs.ImageFile.{image_read}
 use Rattle.ia_asm.proofs.image_file.read_image.Goals as goal
 

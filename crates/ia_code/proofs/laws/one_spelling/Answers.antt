@@ -1,0 +1,5 @@
+use Rattle.ia_code.proofs.Rows.{one_spelling}
+use Rattle.ia_code.proofs.laws.one_spelling.Goals as goal
+
+pub returns : goal.returns
+returns c = one_spelling
