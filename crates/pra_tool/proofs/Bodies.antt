@@ -1,12 +1,10 @@
 -- What the parser has read, and what it cannot go on with: the statements of a module.
-use Rattle.std.proofs.Common.{◌≡◌, ℕ, List, [], ◌∷◌, ◌++◌, length, ◌<◌, arith, Option, Some, None, option_to_list, refl, sym, ap, subst, ◌∙◌, codes}
-use Rattle.std.proofs.lemmas.List.{append_assoc, append-nil}
-use Rattle.std.specs.List.{AllByRecursion as Each}
+use Rattle.std.proofs.Common.{◌≡◌, List, [], ◌∷◌, ◌++◌, length, ◌<◌, arith, Option, Some, None, option_to_list, refl, sym, ap, subst, ◌∙◌, codes}
 use Rattle.pra_tool.specs.declared.small.Statement.{Statement}
 use Rattle.pra_tool.specs.declared.scanner.Symbol.TheVariants.{Semicolon}
 use Rattle.pra_tool.specs.Tokens.{Token, word, mark}
-use Rattle.pra_tool.specs.Text.{Name, repeated, statement_text, later_text, body_text, statements, AreVariables}
-use Rattle.pra_tool.specs.Parsing.{Lacks, NoStart, IsRead, IsMissing, StatementEnds, statement_phrase, later_phrase, body_phrase}
+use Rattle.pra_tool.specs.Text.{Name, repeated, statement_text, later_text, statements, AreVariables}
+use Rattle.pra_tool.specs.Parsing.{Lacks, IsRead, IsMissing, StatementEnds, statement_phrase, later_phrase, body_phrase}
 use Rattle.pra_tool.proofs.Lengths.{statement_length}
 use Rattle.pra_tool.proofs.Repeated.{Walk, walk_start, walk_push, walk_stuck}
 use Rattle.pra_tool.proofs.Unique.{one_statement, one_later, later_starts, semicolon_start}

@@ -1,12 +1,12 @@
 -- What follows from the text of a small module: bounds on its variables and on its size, and that it is one.
-use Rattle.std.proofs.Common.{◌≡◌, ℕ, ◌+◌, ◌≤◌, List, [], ◌∷◌, ◌++◌, length, sym, ap, subst, ◌∙◌, arith}
+use Rattle.std.proofs.Common.{◌≡◌, ℕ, ◌+◌, ◌≤◌, List, [], ◌∷◌, length, sym, ap, subst, arith}
 use Rattle.std.proofs.lemmas.List.{length-append}
 use Rattle.pra_tool.specs.declared.small.SmallModule.{SmallModule}
 use Rattle.pra_tool.specs.Small.{Fits, size}
 use Rattle.pra_tool.specs.Tokens.{Token, Begins, Tokens}
 use Rattle.pra_tool.specs.Text.{IsModule, IsSmall}
 use Rattle.pra_tool.proofs.Lengths.{module_length}
-use Rattle.pra_tool.proofs.Spellings.{begun, one_list, opened}
+use Rattle.pra_tool.proofs.Spellings.{one_list, opened}
 use Rattle.pra_tool.proofs.Unique.{one_module}
 
 begins_length : (bytes : List ℕ) (t : Token) (rest : List ℕ) → Begins bytes t rest → 1 + length rest ≤ length bytes

@@ -1,12 +1,12 @@
 -- What the parser has read, and what it cannot go on with: the declarations of variables.
-use Rattle.std.proofs.Common.{◌≡◌, ◌≢◌, ◌⊎◌, inl, inr, ⊎_elim, ℕ, ◌+◌, ◌<◌, ◌≤◌, List, [], ◌∷◌, ◌++◌, length, get_or, Option, Some, None, Contains, refl, sym, ap, ap₂, subst, ◌∙◌, arith, codes}
+use Rattle.std.proofs.Common.{◌≡◌, ◌≢◌, ◌⊎◌, inl, inr, ◌<◌, List, [], ◌∷◌, ◌++◌, length, Option, Some, None, Contains, refl, sym, ap, ap₂, subst, ◌∙◌, arith, codes}
 use Rattle.std.proofs.lemmas.List.{append_assoc, append-nil, length-append, get_or_default, get_or_append_left, get_or_at}
 use Rattle.std.proofs.lemmas.List.Quantifiers.{all_pairs_push}
-use Rattle.std.specs.List.{AllByRecursion as Each, AllPairs, flat_map}
+use Rattle.std.specs.List.{AllByRecursion as Each, flat_map}
 use Rattle.pra_tool.specs.declared.scanner.Symbol.TheVariants.{Comma}
 use Rattle.pra_tool.specs.Tokens.{Token, word, mark}
-use Rattle.pra_tool.specs.Text.{Name, predeclared, IsName, IsVariableName, AreVariables, repeated, comma_text, Group, group_text, group_names, declarations_text, declared}
-use Rattle.pra_tool.specs.Parsing.{Lacks, NoStart, NoName, StartsWithName, EndsEach, IsRead, IsMissing, declarations_phrase, group_end, group_rest}
+use Rattle.pra_tool.specs.Text.{Name, predeclared, IsName, IsVariableName, AreVariables, repeated, comma_text, Group, group_text, group_names, declared}
+use Rattle.pra_tool.specs.Parsing.{Lacks, NoName, StartsWithName, EndsEach, IsRead, IsMissing, declarations_phrase, group_end, group_rest}
 use Rattle.pra_tool.proofs.Lengths.{comma_length}
 use Rattle.pra_tool.proofs.Repeated.{Walk, walk_start, walk_push, walk_only, each_push}
 use Rattle.pra_tool.proofs.Unique.{each_front, each_behind, comma_phrase, StartsWithComma, one_comma, comma_starts, comma_ends, no_comma, group_phrase, one_group, group_starts, group_ends, only_names, groups_named}

@@ -1,5 +1,5 @@
 -- The keys of a set of byte strings, as the bytes that they point to.
-use Rattle.std.proofs.Common.{◌≡◌, ◌⊎◌, ⊎_elim, ℕ, zero, suc, ◌+◌, ◌<◌, Bool, true, false, not, cond, List, [], ◌∷◌, ◌++◌, map, length, get_or, Option, Some, None, is_some, Result, Ok, Err, Contains, refl, sym, ap, subst, ◌∙◌, ◌↔◌, arith, Bor, IfOk, OnErr, MatchOption, MatchResult}
+use Rattle.std.proofs.Common.{◌≡◌, ⊎_elim, ℕ, zero, suc, ◌<◌, Bool, true, false, not, cond, List, [], ◌∷◌, ◌++◌, map, length, get_or, Option, Some, None, is_some, Result, Ok, Err, Contains, refl, sym, ap, ◌∙◌, ◌↔◌, arith, Bor, IfOk, OnErr, MatchOption, MatchResult}
 use Rattle.std.proofs.lemmas.Bool.{or_cases, or_left, or_right, true≢false, both_ways}
 use Rattle.std.proofs.lemmas.List.{map_push, get_or-map, length-map}
 use Rattle.std.proofs.lemmas.List.Quantifiers.{position-Some}

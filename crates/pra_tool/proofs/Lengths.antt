@@ -1,5 +1,5 @@
 -- How long a module's text is at least.
-use Rattle.std.proofs.Common.{◌≡◌, ℕ, ◌+◌, ◌≤◌, List, [], ◌∷◌, ◌++◌, length, Option, Some, None, refl, sym, ap, subst, ◌∙◌, arith, codes}
+use Rattle.std.proofs.Common.{◌≡◌, ℕ, ◌+◌, ◌≤◌, List, [], ◌∷◌, length, Option, Some, None, ap, arith, codes}
 use Rattle.std.proofs.lemmas.List.{length-append}
 use Rattle.std.specs.List.{flat_map}
 use Rattle.pra_tool.specs.declared.small.SmallModule.{SmallModule}
@@ -9,7 +9,7 @@ use Rattle.pra_tool.specs.declared.small.Sum.{Sum}
 use Rattle.pra_tool.specs.declared.small.NextOperand.{NextOperand}
 use Rattle.pra_tool.specs.declared.small.Operand.{Operand}
 use Rattle.pra_tool.specs.declared.small.Operand.TheVariants.{Variable, Number}
-use Rattle.pra_tool.specs.declared.scanner.Symbol.TheVariants.{Semicolon, RightParen, Period}
+use Rattle.pra_tool.specs.declared.scanner.Symbol.TheVariants.{RightParen, Period}
 use Rattle.pra_tool.specs.Small.{sum_size, statement_size, body_size, size}
 use Rattle.pra_tool.specs.Tokens.{Token, word, mark}
 use Rattle.pra_tool.specs.Text.{Name, repeated, operand_text, next_text, sum_text, statement_text, later_text, body_text, comma_text, Group, group_text, group_names, declarations_text, declared, statements, IsModule}

@@ -1,10 +1,8 @@
 -- What the parser has read, and what it cannot go on with: sums and statements.
-use Rattle.std.proofs.Common.{◌≡◌, ◌≢◌, ℕ, ◌+◌, ◌<◌, ◌≤◌, List, [], ◌∷◌, ◌++◌, length, get_or, Option, Some, None, Contains, Result, Ok, Err, IsErrAnd, MatchResult, refl, sym, ap, ap₂, subst, ◌∙◌, arith, codes}
+use Rattle.std.proofs.Common.{◌≡◌, ◌≢◌, ℕ, ◌<◌, List, [], ◌∷◌, length, get_or, Some, None, Contains, Result, Ok, Err, IsErrAnd, MatchResult, refl, sym, ap, ◌∙◌, codes}
 use Rattle.std.proofs.lemmas.List.{get_or_default}
-use Rattle.std.specs.List.{AllByRecursion as Each}
 use Rattle.pra_tool.specs.declared.read_fault.ReadFault.{ReadFault}
 use Rattle.pra_tool.specs.declared.read_fault.ReadFault.TheVariants.{NotSmall}
-use Rattle.pra_tool.specs.declared.small.Statement.{Statement}
 use Rattle.pra_tool.specs.declared.small.Statement.TheVariants.{Assign, Write, WriteLine}
 use Rattle.pra_tool.specs.declared.small.Sum.{Sum}
 use Rattle.pra_tool.specs.declared.small.NextOperand.{NextOperand}
@@ -12,11 +10,11 @@ use Rattle.pra_tool.specs.declared.small.SumOp.{SumOp}
 use Rattle.pra_tool.specs.declared.small.Operand.{Operand}
 use Rattle.pra_tool.specs.declared.scanner.Symbol.TheVariants.{Becomes, LeftParen, RightParen}
 use Rattle.pra_tool.specs.Small.{SumFits}
-use Rattle.pra_tool.specs.Tokens.{Token, word, number, mark}
-use Rattle.pra_tool.specs.Text.{Name, IsName, repeated, operand_text, op_symbol, next_text, sum_text, statement_text, AreVariables}
-use Rattle.pra_tool.specs.Parsing.{Lacks, NoStart, NoName, IsRead, IsMissing, StartsWithOp, operand_phrase, next_phrase, sum_phrase, statement_phrase}
+use Rattle.pra_tool.specs.Tokens.{Token, word, mark}
+use Rattle.pra_tool.specs.Text.{Name, IsName, repeated, operand_text, op_symbol, next_text, sum_text, AreVariables}
+use Rattle.pra_tool.specs.Parsing.{Lacks, NoStart, IsRead, IsMissing, StartsWithOp, operand_phrase, next_phrase, sum_phrase, statement_phrase}
 use Rattle.pra_tool.proofs.Repeated.{Walk, walk_stuck}
-use Rattle.pra_tool.proofs.Unique.{one_operand, one_next, one_sum, next_starts, next_ends, no_op_paren, no_write, no_write_line, write_apart}
+use Rattle.pra_tool.proofs.Unique.{one_operand, one_next, one_sum, next_starts, next_ends, no_op_paren, no_write, write_apart}
 
 -- the exit of a `?`
 pub exits : {X : Type 0} (Q : X → Type 0) (M : Type 0) (r : Result X ReadFault) (e : ReadFault) → IsErrAnd r (λ y. y ≡ e) → (e ≡ NotSmall → M) → MatchResult r Q (λ y. y ≡ NotSmall → M)

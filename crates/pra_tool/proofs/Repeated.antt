@@ -1,10 +1,10 @@
 -- Repetitions: one phrase after the other, as long as one begins.
-use Rattle.std.proofs.Common.{◌≡◌, ℕ, List, [], ◌∷◌, ◌++◌, refl, sym, ap, ap₂, subst, ◌∙◌}
+use Rattle.std.proofs.Common.{◌≡◌, List, [], ◌∷◌, ◌++◌, refl, sym, ap, ap₂, subst, ◌∙◌}
 use Rattle.std.proofs.lemmas.List.{append-nil}
 use Rattle.std.specs.List.{AllByRecursion as Each}
 use Rattle.pra_tool.specs.Tokens.{Token}
 use Rattle.pra_tool.specs.Text.{repeated}
-use Rattle.pra_tool.specs.Parsing.{Phrase, IsRead, IsMissing, Lacks, NoStart, EndsEach, star}
+use Rattle.pra_tool.specs.Parsing.{Phrase, IsRead, IsMissing, NoStart, EndsEach, star}
 
 -- A text is that of one phrase, where the phrase ends there.
 abbrev pub Unique : {X : Type 0} → Phrase X → Type 0

@@ -1,10 +1,10 @@
 -- The steps of the scanner.
-use Rattle.std.proofs.Common.{◌≡◌, ◌⊎◌, inl, inr, ⊎_elim, ℕ, zero, suc, ◌+◌, ◌-◌, ◌*◌, ◌<◌, ◌≤◌, List, [], ◌∷◌, ◌++◌, length, get_or, take, drop, refl, sym, ap, ap₂, subst, ◌∙◌, arith}
+use Rattle.std.proofs.Common.{◌≡◌, inl, ⊎_elim, ℕ, zero, suc, ◌+◌, ◌-◌, ◌*◌, ◌<◌, ◌≤◌, List, [], ◌∷◌, ◌++◌, length, get_or, take, drop, refl, sym, ap, subst, ◌∙◌, arith}
 use Rattle.std.proofs.lemmas.List.{drop_more, append_assoc, append-nil, take-append-drop, length-append, length-take-le, get_or_append_left}
 use Rattle.std.proofs.lemmas.Bool.{cases_lt}
 use Rattle.std.specs.List.{AllByRecursion as Each}
 use Rattle.pra_tool.specs.Tokens.{Token, word, number, mark, IsSpace, IsLetter, IsDigit, IsWordByte, IsWord, IsInteger, decimal, Spells, InRange, Begins, Tokens}
-use Rattle.pra_tool.proofs.Spellings.{Opens, opened, no_space, begun, no_spaces, one_beginning, each_behind, same_front, first_same, letter_no_digit, mark_no_digit, letter_above}
+use Rattle.pra_tool.proofs.Spellings.{Opens, opened, begun, one_beginning, same_front, first_same, letter_no_digit, mark_no_digit, letter_above}
 
 each_take : (P : ℕ → Type 0) (n : ℕ) (bs : List ℕ) → n ≤ length bs → ((k : ℕ) → k < n → P (get_or bs k 0)) → Each P (take n bs)
 each_take P zero bs l h = tt

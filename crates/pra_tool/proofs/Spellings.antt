@@ -1,10 +1,9 @@
 -- A text has at most one list of tokens.
-use Rattle.std.proofs.Common.{◌≡◌, ◌⊎◌, inl, inr, ⊎_elim, ℕ, zero, suc, ◌+◌, ◌-◌, ◌*◌, ◌<◌, ◌≤◌, List, [], ◌∷◌, ◌++◌, length, get_or, take, drop, refl, sym, ap, ap₂, subst, ◌∙◌, arith, cond, eqb, sum}
-use Rattle.std.proofs.lemmas.List.{append_assoc, length-append}
+use Rattle.std.proofs.Common.{◌≡◌, ◌⊎◌, inl, inr, ℕ, ◌<◌, ◌≤◌, List, [], ◌∷◌, ◌++◌, length, refl, sym, ap, ap₂, subst, ◌∙◌, arith, cond, eqb, sum}
 use Rattle.std.specs.List.{AllByRecursion as Each}
 use Rattle.pra_tool.specs.declared.scanner.Symbol.{Symbol}
 use Rattle.pra_tool.specs.declared.scanner.Symbol.TheVariants.{Semicolon, Comma, Colon, Becomes, LeftParen, RightParen, Plus, Minus, Period}
-use Rattle.pra_tool.specs.Tokens.{Token, word, number, mark, IsSpace, IsLetter, IsDigit, IsWordByte, IsWord, IsInteger, decimal, symbol_bytes, Spells, InRange, Begins, Tokens}
+use Rattle.pra_tool.specs.Tokens.{Token, word, number, mark, IsSpace, IsLetter, IsDigit, symbol_bytes, Spells, Begins, Tokens}
 
 -- Of two fronts of one list, the longer goes on with what is behind the other.
 pub longer_front : (s t r u : List ℕ) → s ++ r ≡ t ++ u → length s < length t → (b : ℕ) × (v x : List ℕ) × (r ≡ b ∷ v) × (t ≡ s ++ (b ∷ x))

@@ -1,7 +1,7 @@
 -- Tokens are the text of at most one small module.
-use Rattle.std.proofs.Common.{◌≡◌, ◌≢◌, ◌⊎◌, ⊎_elim, ℕ, zero, suc, ◌+◌, ◌<◌, ◌≤◌, List, [], ◌∷◌, ◌++◌, length, get_or, Option, Some, None, Contains, refl, sym, ap, ap₂, subst, ◌∙◌, arith, codes, ℤ, pos, negsuc, ◌≤ℤ◌}
+use Rattle.std.proofs.Common.{◌≡◌, ◌⊎◌, ⊎_elim, ℕ, zero, suc, ◌<◌, List, [], ◌∷◌, ◌++◌, length, get_or, Option, Some, None, Contains, refl, sym, ap, ap₂, subst, ◌∙◌, arith, codes, ℤ, pos, negsuc, ◌≤ℤ◌}
 use Rattle.std.proofs.lemmas.Bool.{cases_order}
-use Rattle.std.specs.List.{AllByRecursion as Each, AllPairs, flat_map}
+use Rattle.std.specs.List.{AllByRecursion as Each, flat_map}
 use Rattle.std.specs.Prelude.{unsigned_abs}
 use Rattle.pra_tool.specs.declared.small.SmallModule.{SmallModule}
 use Rattle.pra_tool.specs.declared.small.Statement.{Statement}
@@ -13,11 +13,11 @@ use Rattle.pra_tool.specs.declared.small.SumOp.TheVariants as Op
 use Rattle.pra_tool.specs.declared.small.Operand.{Operand}
 use Rattle.pra_tool.specs.declared.small.Operand.TheVariants.{Variable, Number}
 use Rattle.pra_tool.specs.declared.scanner.Symbol.{Symbol}
-use Rattle.pra_tool.specs.declared.scanner.Symbol.TheVariants.{Semicolon, Comma, Colon, Becomes, LeftParen, RightParen, Plus, Minus, Period}
-use Rattle.pra_tool.specs.Small.{OperandFits, NextFits, SumFits, StatementFits}
-use Rattle.pra_tool.specs.Tokens.{Token, word, number, mark}
-use Rattle.pra_tool.specs.Text.{Name, keywords, predeclared, IsName, IsVariableName, repeated, operand_text, op_symbol, next_text, sum_text, statement_text, later_text, body_text, comma_text, Group, group_text, group_names, declarations_text, declared, statements, module_text, AreVariables, IsModule}
-use Rattle.pra_tool.specs.Parsing.{Phrase, Lacks, NoStart, StartsWithOp, StartsWithName, EndsEach, star, operand_phrase, next_phrase, sum_phrase, OptionFits, StatementEnds, statement_phrase, later_phrase, body_phrase, BodyEnds, group_end, group_rest, declarations_phrase, DeclarationsEnd}
+use Rattle.pra_tool.specs.declared.scanner.Symbol.TheVariants.{Semicolon, Comma, RightParen, Plus, Minus, Period}
+use Rattle.pra_tool.specs.Small.{NextFits, StatementFits}
+use Rattle.pra_tool.specs.Tokens.{Token, word, mark}
+use Rattle.pra_tool.specs.Text.{Name, keywords, IsName, IsVariableName, repeated, operand_text, op_symbol, next_text, statement_text, later_text, body_text, comma_text, Group, group_text, group_names, declared, statements, AreVariables, IsModule}
+use Rattle.pra_tool.specs.Parsing.{Phrase, Lacks, NoStart, StartsWithOp, StartsWithName, EndsEach, operand_phrase, next_phrase, sum_phrase, OptionFits, StatementEnds, statement_phrase, later_phrase, body_phrase, BodyEnds, group_end, group_rest, declarations_phrase, DeclarationsEnd}
 use Rattle.pra_tool.proofs.Keys.{not_among}
 use Rattle.pra_tool.proofs.Repeated.{Unique, star_unique}
 

@@ -10,11 +10,11 @@ use Rattle.pra_tool.specs.declared.small.Sum.{Sum}
 use Rattle.pra_tool.specs.declared.small.NextOperand.{NextOperand}
 use Rattle.pra_tool.specs.declared.small.SumOp.{SumOp}
 use Rattle.pra_tool.specs.declared.small.Operand.{Operand}
-use Rattle.pra_tool.specs.declared.scanner.Symbol.TheVariants.{Semicolon, Colon, Comma, Period}
+use Rattle.pra_tool.specs.declared.scanner.Symbol.TheVariants.{Semicolon, Colon}
 use Rattle.pra_tool.specs.Small.{OperandFits, NextFits, SumFits, StatementFits}
-use Rattle.pra_tool.specs.Tokens.{Token, word, number, mark}
+use Rattle.pra_tool.specs.Tokens.{Token, word, mark}
 use Rattle.pra_tool.specs.Scanned.{tokens_of}
-use Rattle.pra_tool.specs.Text.{Name, IsName, repeated, operand_text, op_symbol, next_text, sum_text, statement_text, later_text, body_text, comma_text, Group, group_text, group_names, declarations_text, declared, AreVariables}
+use Rattle.pra_tool.specs.Text.{Name, IsName, repeated, operand_text, op_symbol, next_text, sum_text, statement_text, later_text, body_text, comma_text, Group, declarations_text, declared, AreVariables}
 
 -- the tokens that are still to be read
 abbrev pub left : Parser → List Token

@@ -1,5 +1,5 @@
 -- What the scanner's tokens are tokens of.
-use Rattle.std.specs.Prelude.{ℕ, List, map}
+use Rattle.std.specs.Prelude.{List, map}
 use Rattle.pra_tool.specs.declared.scanner.Token as code
 use Rattle.pra_tool.specs.declared.scanner.Token.TheVariants.{Word, Number, Mark}
 use Rattle.pra_tool.specs.Tokens.{Token, word, number, mark}

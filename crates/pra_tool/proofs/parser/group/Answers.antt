@@ -1,4 +1,4 @@
-use Rattle.std.proofs.Common.{◌≡◌, sym, ap, ◌∙◌}
+use Rattle.std.proofs.Common.{sym, ap, ◌∙◌}
 use Rattle.std.proofs.lemmas.Result.{MatchResult-weaker}
 use Rattle.pra_tool.specs.Parsing.{left}
 use Rattle.pra_tool.proofs.Declarations.{group_start, group_no_first, group_push, group_no_name, group_refused, group_no_kind, group_done}

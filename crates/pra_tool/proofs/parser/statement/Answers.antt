@@ -1,4 +1,4 @@
-use Rattle.std.proofs.Common.{◌≡◌, sym, ◌∙◌}
+use Rattle.std.proofs.Common.{sym, ◌∙◌}
 use Rattle.std.proofs.lemmas.Bool.{true≢false}
 use Rattle.pra_tool.specs.Parsing.{left}
 use Rattle.pra_tool.proofs.Phrases.{exits, write_no_open, write_no_sum, write_no_close, assign_no_sum}

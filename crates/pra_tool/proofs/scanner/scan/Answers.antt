@@ -1,4 +1,4 @@
-use Rattle.std.proofs.Common.{◌≡◌, [], ◌∷◌, ◌++◌, drop, get_or, arith, refl, sym, ◌∙◌, ap}
+use Rattle.std.proofs.Common.{drop, get_or, arith, sym, ◌∙◌}
 use Rattle.std.proofs.lemmas.List.{take_rest, map_push, nil_from_length}
 use Rattle.std.proofs.lemmas.Bool.{true≢false}
 use Rattle.pra_tool.specs.Scanned.{token_of, tokens_of}
