@@ -39,13 +39,6 @@ stack_base = 0x0800_0000
 abbrev pub stack_length : ℕ
 stack_length = 0x0010_0400
 
--- the most bytes of code and of data that an image may have
-abbrev pub most_code : ℕ
-most_code = 41943040
-
-abbrev pub most_data : ℕ
-most_data = 16777216
-
 -- the state with another value in a register, with other flags, at another instruction
 abbrev pub with_register : State → Reg → ℕ → State
 with_register s r v = record s { regs = with_reg s.regs r v }

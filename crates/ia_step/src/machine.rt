@@ -48,8 +48,9 @@ pub struct Machine {
 }
 
 impl Model for Machine {
-    ghost use Rattle.ia_step.specs.State.{State, most_code, most_data, stack_length};
-    ghost use Rattle.std.specs.Prelude.{◌≤◌, ◌≡◌, length};
+    ghost use Rattle.ia_code.specs.declared.image.TheConstants.{MAX_CODE_BYTES, MAX_DATA_WORDS};
+    ghost use Rattle.ia_step.specs.State.{State, stack_length};
+    ghost use Rattle.std.specs.Prelude.{◌≤◌, ◌≡◌, ◌*◌, length};
 
     ghost Value = { State };
 
@@ -65,8 +66,8 @@ impl Model for Machine {
       ending = m.ending;
     } };
 
-    ghost invariant = { λ m. (length m.code.items ≤ most_code)
-        × (length m.storage.items ≤ most_data)
+    ghost invariant = { λ m. (length m.code.items ≤ MAX_CODE_BYTES)
+        × (length m.storage.items ≤ MAX_DATA_WORDS * 4)
         × (length m.stack.items ≡ stack_length)
         × (m.place ≤ length m.input.items) };
 }

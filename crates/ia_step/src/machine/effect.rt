@@ -1,7 +1,8 @@
 // What each instruction does, in the order of `specs/Effect`.
 
-ghost use Rattle.std.specs.Prelude.{◌≡◌, ◌≤◌, length, slice_get};
-ghost use Rattle.ia_step.specs.State.{most_data, stack_base, with_register};
+ghost use Rattle.std.specs.Prelude.{◌≡◌, ◌≤◌, ◌*◌, length, slice_get};
+ghost use Rattle.ia_code.specs.declared.image.TheConstants.{MAX_DATA_WORDS};
+ghost use Rattle.ia_step.specs.State.{stack_base, with_register};
 ghost use Rattle.ia_step.specs.Registers.{address_of};
 ghost use Rattle.ia_step.specs.Effect.{lies_in, branch as branch_of, set as set_of, trap_of};
 ghost use Rattle.ia_step.specs.Effect.{load as load_of, store as store_of, read_rm as read_rm_of, write_rm as write_rm_of, push as push_of, pop as pop_of};
@@ -21,7 +22,7 @@ use pra_base::TrapKind;
 
 fn lies_within(base: u32, region: &[u8], address: u32) -> bool
     requires low { base ≤ stack_base }
-    requires small { length region.now ≤ most_data }
+    requires small { length region.now ≤ MAX_DATA_WORDS * 4 }
     ensures { result ≡ lies_in address base region.now }
 {
     base <= address && u64::from(address) + 4 <= u64::from(base) + region.len() as u64
@@ -261,7 +262,7 @@ impl Machine {
 
     // Executes an instruction, where EIP is already that of the next one.
     #[tactic(auto, unfolding(crate::specs::Effect::effect))]
-    pub fn perform(&mut self, ins: &Ins) -> Result<StepOut, FaultKind>
+    pub(super) fn perform(&mut self, ins: &Ins) -> Result<StepOut, FaultKind>
         ensures { OnDone self.old self.new result (effect_of self.old ins.now) }
     {
         match ins {
