@@ -1,6 +1,7 @@
 //! Selected code as it is asked about: the operands of an instruction, and whether a procedure is near.
 #![tactic(auto)]
 
+pub mod laws;
 pub mod near;
 pub mod row;
 #[cfg(test)]
