@@ -78,7 +78,7 @@ fn call(
     let mut out = MemSink::new(
         alloc,
         setting.room,
-        setting.piece,
+        setting.piece.max(1),
         one(alloc, setting.out_fails)?,
     )?;
     let mut notes = MemSink::new(alloc, 4096, 4096, Vec::new(alloc))?;
