@@ -1,14 +1,13 @@
 -- Which production a token chooses.
 use Rattle.std.proofs.Common.{◌≡◌, ℕ, ℤ, List, [], ◌∷◌, Option, Some, None, refl, ap, ◌∙◌, sym, subst}
 use Rattle.ob_syntax.specs.declared.token.Kind.{Kind}
-use Rattle.ob_syntax.specs.declared.token.Kind.TheVariants.{Ident, Number, KwArray, KwBegin, KwConst, KwDiv, KwElse, KwElsif, KwIf, KwMod, KwOr, KwProcedure, KwRecord, KwType, KwVar, KwWhile, Period, Comma, Semicolon, Becomes, LeftParen, LeftBracket, Tilde, Times, Amp, Plus, Minus, Equal, Unequal, Less, LessEqual, Greater, GreaterEqual}
-use Rattle.ob_syntax.specs.Grammar.{Constant, constant, TypeDeclaration, type_declaration, Procedure, procedure, Action, Statement, statement, call, if_statement, while_statement, TypeExpression, NameList, name_list, IdentList, ident_list, Nonterminal, Rule, level, Selectors, Selector, Factor, Factors, Term, Terms, Sign, no_sign, plus_sign, minus_sign, SimpleExpression, simple_expression, Comparison, Expression, expression, ArgumentList, arguments, term, MulOp, times, quotient, remainder, both, AddOp, plus, minus, either, RelationOp, equal, unequal, less, less_equal, greater, greater_equal, mul_kind, add_kind, relation_kind, no_selectors, next_selector, field, index, name, number, parenthesis, negation, no_factors, next_factor, no_terms, next_term, no_comparison, comparison, ActualParameters, FormalParameters, Arguments, Idents, Elsifs, Else, Statements, FieldLists, Sections, FieldList, ConstantList, Constants, TypeList, Types, VariableList, Variables, ByVar, Procedures, Body, no_parameters, no_formals, last_argument, last_ident, no_elsif, no_else, last_statement, last_field_list, last_section, empty_field_list, last_constant, no_constants, last_type, no_types, last_variables, no_variables, by_value, no_procedures, no_body}
+use Rattle.ob_syntax.specs.declared.token.Kind.TheVariants.{Ident, Number, KwArray, KwIf, KwProcedure, KwRecord, KwWhile, Period, LeftParen, LeftBracket, Tilde, Plus, Minus}
+use Rattle.ob_syntax.specs.Grammar.{Constant, constant, TypeDeclaration, type_declaration, Procedure, procedure, Action, Statement, statement, call, if_statement, while_statement, TypeExpression, NameList, name_list, IdentList, ident_list, Rule, level, Selector, Factor, Term, Sign, no_sign, plus_sign, minus_sign, SimpleExpression, simple_expression, Expression, expression, ArgumentList, arguments, term, name, number, parenthesis, negation}
 use Rattle.ob_syntax.specs.Predict.{first, by_first, choose}
-pub use Rattle.ob_syntax.proofs.Chosen.{mul_first, no_mul_first, add_first, no_add_first, relation_first, no_relation_first, not_left_paren, no_formals_first, not_comma, no_ident_first, not_elsif, not_else, no_statement_first, no_field_first, no_section_first, no_list_first, no_constant_first, not_const, no_type_first, not_type, no_variable_first, not_var, by_value_first, not_procedure, not_begin}
-use Rattle.ob_parse.specs.declared.cursor.Parser.{Parser}
+pub use Rattle.ob_syntax.proofs.Chosen.{mul_first, no_mul_first, add_first, no_add_first, relation_first, no_relation_first, no_sign_at, not_left_paren, no_formals_first, not_comma, no_ident_first, not_elsif, not_else, no_statement_first, no_field_first, no_section_first, no_list_first, no_constant_first, not_const, no_type_first, not_type, no_variable_first, not_var, by_value_first, not_procedure, not_begin}
 use Rattle.ob_syntax.specs.Forms.{made, done}
-use Rattle.ob_parse.specs.Reading.{left, place, IsNext, GoesOn}
-use Rattle.ob_parse.proofs.Steps.{Chooses, begins_with, begins_inside, begins_behind}
+use Rattle.ob_parse.specs.Reading.{GoesOn}
+use Rattle.ob_parse.proofs.Steps.{begins_with, begins_inside, begins_behind}
 
 pub kind_at : (o : Option Kind) (ks : List Kind) → o ≡ first ks → (k k' : Kind) → o ≡ Some k → k ≡ k' → first ks ≡ Some k'
 kind_at o ks e k k' f g = sym e ∙ f ∙ ap Some g
@@ -26,11 +25,6 @@ pub no_selector_first : (k : Kind) → (k ≡ Period → ⊥) → (k ≡ LeftBra
 no_selector_first Period p l = absurd (p refl)
 no_selector_first LeftBracket p l = absurd (l refl)
 no_selector_first _ p l = refl
-
-pub no_sign_first : (k : Kind) → (k ≡ Plus → ⊥) → (k ≡ Minus → ⊥) → by_first Sign (Some k) ≡ Some no_sign
-no_sign_first Plus p m = absurd (p refl)
-no_sign_first Minus p m = absurd (m refl)
-no_sign_first _ p m = refl
 
 -- ---- what an argument or a statement begins with
 

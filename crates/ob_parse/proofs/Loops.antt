@@ -1,11 +1,6 @@
 -- Repetitions whose tree is the list of their items.
-use Rattle.std.proofs.Common.{◌≡◌, ℕ, List, [], ◌∷◌, ◌++◌, Option, Some, None, refl, ap, ◌∙◌, sym, subst, append_assoc, append-nil}
+use Rattle.std.proofs.Common.{◌≡◌, List, [], ◌∷◌, ◌++◌, Option, ap, ◌∙◌, sym, append_assoc}
 use Rattle.std.specs.Prelude.{option_to_list}
-use Rattle.ob_syntax.specs.Grammar.{Nonterminal, level, phrase, Rule, right}
-use Rattle.ob_syntax.specs.Tree.{Tree, Values, tree_by}
-use Rattle.ob_parse.specs.declared.cursor.Parser.{Parser}
-use Rattle.ob_parse.specs.Reading.{left, place, IsRead}
-use Rattle.ob_parse.proofs.Steps.{Waits, rewrap}
 
 pub put_one : {A : Type 0} (xs ys zs : List A) (x : A) → ys ≡ xs ++ x ∷ [] → xs ++ x ∷ zs ≡ ys ++ zs
 put_one xs ys zs x push = sym (ap (λ us. us ++ zs) push ∙ append_assoc xs (x ∷ []) zs)

@@ -1,11 +1,10 @@
 -- How far a phrase goes.
-use Rattle.std.proofs.Common.{◌≡◌, ℕ, ◌+◌, ◌≤◌, ◌<◌, List, [], ◌∷◌, ◌++◌, length, length-append, arith, ap}
-use Rattle.ob_syntax.specs.declared.token.Kind.{Kind}
-use Rattle.ob_syntax.specs.Grammar.{Nonterminal, Symbol, Rule, right, Selector, Factor, Term, SimpleExpression, Expression, field, index, name, number, parenthesis, negation, term, simple_expression, expression}
+use Rattle.std.proofs.Common.{ℕ, ◌+◌, ◌≤◌, ◌<◌, List, length, length-append, arith, ap}
+use Rattle.ob_syntax.specs.Grammar.{Nonterminal, Symbol, right, Selector, Factor, Term, SimpleExpression, field, index, name, number, parenthesis, negation, term, simple_expression}
 use Rattle.ob_syntax.specs.Forms.{Form, Parts, made, done, taken, part, end, ends}
 use Rattle.ob_syntax.specs.Tree.{Tree}
 use Rattle.ob_parse.specs.declared.cursor.Parser.{Parser}
-use Rattle.ob_parse.specs.Reading.{left, place, IsRead, IsNext}
+use Rattle.ob_parse.specs.Reading.{left, place, IsRead}
 
 mutual
   stays : (n : Nonterminal) (i : ℕ) (f : Form n) → i ≤ end n i f

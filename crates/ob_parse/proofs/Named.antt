@@ -1,8 +1,7 @@
 -- A statement that begins with a name: the token behind the name tells an assignment from a call.
-use Rattle.std.proofs.Common.{◌≡◌, ℕ, ◌+◌, List, [], ◌∷◌, Option, Some, refl, ap, ◌∙◌, sym}
-use Rattle.ob_syntax.specs.declared.token.Kind.{Kind}
+use Rattle.std.proofs.Common.{◌≡◌, ℕ, List, [], ◌∷◌, Some, refl, ap, ◌∙◌, sym}
 use Rattle.ob_syntax.specs.declared.token.Kind.TheVariants.{Ident, Becomes}
-use Rattle.ob_syntax.specs.Grammar.{Action, Selectors, Expression, ActualParameters, Symbol, level, token, phrase, assignment, call, right}
+use Rattle.ob_syntax.specs.Grammar.{Action, Selectors, Expression, ActualParameters, Symbol, level, token, phrase, assignment, call}
 use Rattle.ob_syntax.specs.Forms.{made, taken, ends, depth}
 use Rattle.ob_syntax.specs.Predict.{first, behind_name}
 use Rattle.ob_syntax.specs.Tree.{tree_by, values}

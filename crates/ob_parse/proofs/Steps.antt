@@ -1,17 +1,19 @@
 -- A phrase in the middle of its production: how it goes on, how it fails, how it is done.
-use Rattle.std.proofs.Common.{◌≡◌, ℕ, suc, ◌+◌, ◌≤◌, ◌<◌, max, List, [], ◌∷◌, ◌++◌, length, Option, Some, None, Result, Ok, Err, refl, ap, ap₂, ◌∙◌, sym, subst, arith, append_assoc, length-append, append-nil}
+use Rattle.std.proofs.Common.{◌≡◌, ℕ, ◌+◌, ◌≤◌, List, [], ◌∷◌, ◌++◌, length, Option, Some, None, Result, Ok, Err, refl, ap, ap₂, ◌∙◌, sym, subst, arith, append_assoc, length-append}
 use Rattle.std.specs.Prelude.{IsErrAnd}
 use Rattle.ob_syntax.specs.declared.token.Kind.{Kind}
 use Rattle.ob_syntax.specs.Grammar.{Nonterminal, Nesting, level, deeper, inner, Symbol, token, phrase, Rule, right}
 use Rattle.ob_syntax.specs.Forms.{Form, Parts, made, done, taken, part, spell, spells, end, ends, depth, depths, nest}
+use Rattle.ob_syntax.specs.Derives.{text, texts}
 use Rattle.ob_syntax.specs.Predict.{first, choose, Ends, Follow}
 use Rattle.ob_syntax.specs.Tree.{Tree, Values, tree, values, tree_by}
 use Rattle.ob_syntax.proofs.Unique.{chosen_one, one_form}
-use Rattle.ob_syntax.proofs.Least.{least, least_flat, least_parts, least_deep, base, floor, floor_least, nest_more, spells_apart, spell_apart}
+use Rattle.ob_syntax.proofs.Least.{least, least_flat, least_parts, least_deep, base, floor, floor_least, nest_more}
+use Rattle.ob_syntax.proofs.Spelled.{spell_text, spells_texts}
 use Rattle.ob_parse.specs.declared.cursor.Parser.{Parser}
 use Rattle.ob_parse.specs.declared.cursor.ParseFault.{ParseFault}
 use Rattle.ob_parse.specs.declared.cursor.ParseFault.TheVariants.{Grammar, TooDeep, OutOfMemory}
-use Rattle.ob_parse.specs.Reading.{left, place, IsNext, IsRead, IsStuck, GoesOn, IsRefused, IsTooDeep, Fails, Reads}
+use Rattle.ob_parse.specs.Reading.{left, place, IsNext, IsRead, IsStuck, GoesOn, IsRefused, Fails, Reads}
 
 pub first-append : (r a b : List Kind) → first a ≡ first b → first (r ++ a) ≡ first (r ++ b)
 first-append [] a b e = e
@@ -164,7 +166,7 @@ no_rule : (n : Nonterminal) (next : List Kind) → choose n next ≡ None → (f
 no_rule n next c (made _ r ps) after ends eq = let e = sym c ∙ ap (choose n) eq ∙ ends.0 in cc
 
 least_goes : (n : Nonterminal) (room : ℕ) → base n ≤ room → GoesOn n room []
-least_goes n room low = (least n, (let a = least_flat n in omega arith), spell n (least n) [], λ ks. spell_apart n (least n) ks)
+least_goes n room low = (least n, (let a = least_flat n in omega arith), text n (least n), spell_text n (least n))
 
 -- no production begins with the next token
 pub refused : (n : Nonterminal) (room : ℕ) (p : Parser) → base n ≤ room → Chooses n None p → Fails n room p p (Grammar (place p))
@@ -203,7 +205,7 @@ pub begins_with : (n : Nonterminal) (r : Rule n) (k : Kind) (ss : List Symbol) (
     → ((ps : Parts (token k ∷ ss)) (ks : List Kind) → spells (right r) (put ps) ks ≡ spells (token k ∷ ss) ps ks) → (d : ℕ) × GoesOn n d (k ∷ [])
 begins_with n r k ss put same =
     let ps = taken k ss (least_parts ss) in
-    (depths (right r) (put ps), (made n r (put ps), omega arith, spells ss (least_parts ss) [], λ ks. same ps ks ∙ ap (λ us. k ∷ us) (spells_apart ss (least_parts ss) ks)))
+    (depths (right r) (put ps), (made n r (put ps), omega arith, texts ss (least_parts ss), λ ks. same ps ks ∙ ap (λ us. k ∷ us) (spells_texts ss (least_parts ss) ks)))
 
 joined : (a b c d ks : List Kind) → a ++ (b ++ (c ++ (d ++ ks))) ≡ (a ++ b) ++ ((c ++ d) ++ ks)
 joined a b c d ks = ap (λ us. a ++ (b ++ us)) (sym (append_assoc c d ks)) ∙ sym (append_assoc a b ((c ++ d) ++ ks))
@@ -217,8 +219,8 @@ begins_inside n r d m ss put same read (e, (f, le, more, is)) =
       (
         made n r (put ps),
         omega arith,
-        more ++ spells ss (least_parts ss) [],
-        λ ks. same ps ks ∙ is (spells ss (least_parts ss) ks) ∙ ap (λ us. read ++ (more ++ us)) (spells_apart ss (least_parts ss) ks) ∙ ap (λ us. read ++ us) (sym (append_assoc more (spells ss (least_parts ss) []) ks)),
+        more ++ texts ss (least_parts ss),
+        λ ks. same ps ks ∙ is (spells ss (least_parts ss) ks) ∙ ap (λ us. read ++ (more ++ us)) (spells_texts ss (least_parts ss) ks) ∙ ap (λ us. read ++ us) (sym (append_assoc more (texts ss (least_parts ss)) ks)),
       ),
     )
 
@@ -232,9 +234,9 @@ begins_behind n r m m' ss put same none nothing read (e, (f, le, more, is)) =
       (
         made n r (put ps),
         omega arith,
-        more ++ spells ss (least_parts ss) [],
-        λ ks. same ps ks ∙ nothing (spell m' f (spells ss (least_parts ss) ks)) ∙ is (spells ss (least_parts ss) ks) ∙ ap (λ us. read ++ (more ++ us)) (spells_apart ss (least_parts ss) ks)
-            ∙ ap (λ us. read ++ us) (sym (append_assoc more (spells ss (least_parts ss) []) ks)),
+        more ++ texts ss (least_parts ss),
+        λ ks. same ps ks ∙ nothing (spell m' f (spells ss (least_parts ss) ks)) ∙ is (spells ss (least_parts ss) ks) ∙ ap (λ us. read ++ (more ++ us)) (spells_texts ss (least_parts ss) ks)
+            ∙ ap (λ us. read ++ us) (sym (append_assoc more (texts ss (least_parts ss)) ks)),
       ),
     )
 
@@ -242,7 +244,7 @@ module _ {n : Nonterminal} {ss : List Symbol} {room : ℕ} {wrap : ℕ → Value
   goes_here : floor ss ≤ room → GoesOn n room w.read
   goes_here low =
       let g = least_parts ss in
-      (w.plug g, w.deep g room (omega arith) (let a = least_deep ss in omega arith), spells ss g [], λ ks. w.spelled g ks ∙ ap (λ us. w.read ++ us) (spells_apart ss g ks))
+      (w.plug g, w.deep g room (omega arith) (let a = least_deep ss in omega arith), texts ss g, λ ks. w.spelled g ks ∙ ap (λ us. w.read ++ us) (spells_texts ss g ks))
 
 not_taken : (k : Kind) (ss : List Symbol) (next after : List Kind) (g : Parts (token k ∷ ss)) → next ≡ spells (token k ∷ ss) g after → first next ≡ Some k
 not_taken k ss next after (taken _ _ ps) e = ap first e
@@ -278,9 +280,9 @@ module _ {n m : Nonterminal} {d : Nesting} {ss : List Symbol} {room : ℕ} {wrap
       let a = nest_more d (depth m form) within deep in let b = least_deep ss in (
         w.plug g,
         w.deep g e le (omega arith),
-        more ++ spells ss (least_parts ss) [],
-        λ ks. w.spelled g ks ∙ ap (λ us. w.read ++ us) (is (spells ss (least_parts ss) ks)) ∙ ap (λ us. w.read ++ (read ++ (more ++ us))) (spells_apart ss (least_parts ss) ks)
-            ∙ joined w.read read more (spells ss (least_parts ss) []) ks,
+        more ++ texts ss (least_parts ss),
+        λ ks. w.spelled g ks ∙ ap (λ us. w.read ++ us) (is (spells ss (least_parts ss) ks)) ∙ ap (λ us. w.read ++ (read ++ (more ++ us))) (spells_texts ss (least_parts ss) ks)
+            ∙ joined w.read read more (texts ss (least_parts ss)) ks,
       )
 
 nest_bound : (d : Nesting) (a : ℕ) → nest d a ≤ a + 1

@@ -1,21 +1,7 @@
 -- A form of each nonterminal that nests nothing, to finish an incomplete text with.
-use Rattle.std.proofs.Common.{◌≡◌, ℕ, ◌≤◌, max, List, [], ◌∷◌, ◌++◌, refl, ap, ap₂, ◌∙◌, sym, subst, arith, append_assoc, pos, lit≤}
-use Rattle.ob_syntax.specs.declared.token.Kind.{Kind}
-use Rattle.ob_syntax.specs.Grammar
-use Rattle.ob_syntax.specs.Grammar.{Nonterminal, Symbol, token, phrase, level, deeper, inner, Nesting, Rule, right, Selectors, Selector, Factor, Factors, Term, Terms, Sign, SimpleExpression, Comparison, Expression, ArgumentList, Arguments, ActualParameters, Arm, Elsifs, Arms, Else, Action, Statement, Statements, StatementSequence, Idents, IdentList, NameList, FieldList, FieldLists, FieldSequence, TypeExpression, ByVar, Section, Sections, SectionList, FormalParameters, Procedure, Procedures, Constant, ConstantList, Constants, TypeDeclaration, TypeList, Types, VariableList, Variables, Declarations, Body, Module, no_selectors, field, number, no_factors, term, no_terms, no_sign, simple_expression, no_comparison, expression, no_arguments, last_argument, no_parameters, arm, no_elsif, arms, no_else, call, empty_statement, last_statement, statement_sequence, last_ident, ident_list, name_list, empty_field_list, last_field_list, field_sequence, type_name, by_value, section, last_section, no_sections, no_formals, procedure, no_procedures, constant, last_constant, no_constants, type_declaration, last_type, no_types, last_variables, no_variables, declarations, no_body, a_module}
-use Rattle.ob_syntax.specs.Forms.{Form, Parts, made, done, taken, part, spell, spells, depth, depths, nest}
-
--- what stands behind a form does not change its own tokens
-mutual
-  pub spell_apart : (n : Nonterminal) (f : Form n) (ks : List Kind) → spell n f ks ≡ spell n f [] ++ ks
-  spell_apart n (made _ r ps) ks = spells_apart (right r) ps ks
-
-  pub spells_apart : (ss : List Symbol) (ps : Parts ss) (ks : List Kind) → spells ss ps ks ≡ spells ss ps [] ++ ks
-  spells_apart _ done ks = refl
-  spells_apart _ (taken k ss ps) ks = ap (λ us. k ∷ us) (spells_apart ss ps ks)
-  spells_apart _ (part d m ss f ps) ks =
-      spell_apart m f (spells ss ps ks) ∙ ap (λ us. spell m f [] ++ us) (spells_apart ss ps ks) ∙ sym (append_assoc (spell m f []) (spells ss ps []) ks)
-      ∙ ap (λ us. us ++ ks) (sym (spell_apart m f (spells ss ps [])))
+use Rattle.std.proofs.Common.{◌≡◌, ℕ, ◌≤◌, max, List, [], ◌∷◌, refl, ap₂, arith, pos, lit≤}
+use Rattle.ob_syntax.specs.Grammar.{Nonterminal, Symbol, token, phrase, level, deeper, inner, Nesting, Selectors, Selector, Factor, Factors, Term, Terms, Sign, SimpleExpression, Comparison, Expression, ArgumentList, Arguments, ActualParameters, Arm, Elsifs, Arms, Else, Action, Statement, Statements, StatementSequence, Idents, IdentList, NameList, FieldList, FieldLists, FieldSequence, TypeExpression, ByVar, Section, Sections, SectionList, FormalParameters, Procedure, Procedures, Constant, ConstantList, Constants, TypeDeclaration, TypeList, Types, VariableList, Variables, Declarations, Body, Module, no_selectors, field, number, no_factors, term, no_terms, no_sign, simple_expression, no_comparison, expression, no_arguments, last_argument, no_parameters, arm, no_elsif, arms, no_else, call, empty_statement, last_statement, statement_sequence, last_ident, ident_list, name_list, empty_field_list, last_field_list, field_sequence, type_name, by_value, section, last_section, no_sections, no_formals, procedure, no_procedures, constant, last_constant, no_constants, type_declaration, last_type, no_types, last_variables, no_variables, declarations, no_body, a_module}
+use Rattle.ob_syntax.specs.Forms.{Form, Parts, made, done, taken, part, depth, depths, nest}
 
 abbrev least_factor : Form Factor
 least_factor = made Factor (number (pos 0)) (taken _ _ done)

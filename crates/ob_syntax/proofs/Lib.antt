@@ -4,6 +4,7 @@ pub mod Pieces
 pub mod Texts
 pub mod Chosen
 pub mod Least
+pub mod Spelled
 pub mod OneTree
 pub mod Settles
 pub mod Unique

@@ -1,7 +1,7 @@
 -- Tokens have at most one form in front in which each production is the one that they choose.
-use Rattle.std.proofs.Common.{◌≡◌, ℕ, List, [], ◌∷◌, Option, Some, refl, ap, ap₂, ◌∙◌, sym, subst}
+use Rattle.std.proofs.Common.{◌≡◌, List, Some, refl, ap, ap₂, ◌∙◌, sym, subst}
 use Rattle.ob_syntax.specs.declared.token.Kind.{Kind}
-use Rattle.ob_syntax.specs.Grammar.{Nonterminal, Nesting, Symbol, token, phrase, Rule, right}
+use Rattle.ob_syntax.specs.Grammar.{Nonterminal, Symbol, Rule, right}
 use Rattle.ob_syntax.specs.Forms.{Form, Parts, made, done, taken, part, spell, spells}
 use Rattle.ob_syntax.specs.Predict.{choose, Ends, Follow}
 

@@ -1,7 +1,7 @@
 -- Which tokens derive which tree.
-use Rattle.std.specs.Prelude.{◌≡◌, ℕ, List, [], ◌∷◌, ◌++◌}
+use Rattle.std.specs.Prelude.{◌≡◌, List, [], ◌∷◌, ◌++◌}
 use Rattle.ob_syntax.specs.declared.token.Kind.{Kind}
-use Rattle.ob_syntax.specs.Grammar.{Nonterminal, Symbol, token, phrase, right}
+use Rattle.ob_syntax.specs.Grammar.{Nonterminal, Symbol, right}
 use Rattle.ob_syntax.specs.Forms.{Form, Parts, made, done, taken, part}
 use Rattle.ob_syntax.specs.Tree.{Tree, tree}
 

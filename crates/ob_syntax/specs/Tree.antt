@@ -6,7 +6,7 @@ use Rattle.ob_syntax.specs.declared.tree.Span.{Span}
 use Rattle.ob_syntax.specs.declared.tree.Arm.{Arm as ArmTree, roll-Arm}
 use Rattle.ob_syntax.specs.declared.tree.ConstDecl.{ConstDecl}
 use Rattle.ob_syntax.specs.declared.tree.Decls.{Decls, roll-Decls}
-use Rattle.ob_syntax.specs.declared.tree.Designator.{Designator, roll-Designator}
+use Rattle.ob_syntax.specs.declared.tree.Designator.{roll-Designator}
 use Rattle.ob_syntax.specs.declared.tree.Expr.{Expr, roll-Expr}
 use Rattle.ob_syntax.specs.declared.tree.Factor.{Factor as FactorTree, roll-Factor}
 use Rattle.ob_syntax.specs.declared.tree.FactorForm.TheVariants as factor

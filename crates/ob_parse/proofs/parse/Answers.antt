@@ -1,4 +1,4 @@
-use Rattle.std.proofs.Common.{◌≡◌, ◌∙◌, sym, subst, refl, Some, None, [], ◌∷◌, List, Option, ap}
+use Rattle.std.proofs.Common.{◌≡◌, ◌∙◌, sym, subst, refl, None, [], ◌∷◌, List}
 use Rattle.std.proofs.lemmas.Result.{err_from_is_err_and}
 use Rattle.ob_syntax.specs.declared.token.Kind.{Kind}
 use Rattle.ob_syntax.specs.Grammar.{Module}

@@ -1,16 +1,12 @@
-use Rattle.std.proofs.Common.{◌≡◌, ◌≤◌, ◌<◌, ℕ, ◌+◌, ◌-◌, List, [], ◌∷◌, ◌++◌, Option, Some, None, Bool, true, false, refl, ap, ◌∙◌, sym, subst, arith, lit≤, append-nil}
-use Rattle.std.specs.Prelude.{option_to_list, MatchBool}
-use Rattle.ob_syntax.specs.declared.token.Kind.{Kind}
-use Rattle.ob_syntax.specs.declared.token.Kind.TheVariants.{Ident, Number, KwArray, KwBegin, KwConst, KwDo, KwElse, KwElsif, KwEnd, KwIf, KwModule, KwOf, KwProcedure, KwRecord, KwThen, KwType, KwVar, KwWhile, Period, Comma, Semicolon, Colon, Becomes, LeftParen, RightParen, Equal}
-use Rattle.ob_syntax.specs.Grammar.{level, deeper, inner, token, phrase, Body, StatementSequence, body, no_body}
-use Rattle.ob_syntax.specs.Predict.{first, by_first, behind_name}
-use Rattle.ob_syntax.specs.Tree.{Tree, tree_by}
+use Rattle.std.proofs.Common.{ℕ, [], ◌∷◌, ap, ◌∙◌, sym, subst, arith}
+use Rattle.ob_syntax.specs.declared.token.Kind.TheVariants.{KwBegin}
+use Rattle.ob_syntax.specs.Grammar.{level, phrase, Body, StatementSequence, body, no_body}
+use Rattle.ob_syntax.specs.Predict.{first, by_first}
+use Rattle.ob_syntax.specs.Tree.{tree_by}
 use Rattle.ob_parse.specs.declared.cursor.Parser.{Parser}
-use Rattle.ob_parse.specs.Reading.{left, place, IsRead, IsNext}
-use Rattle.ob_parse.proofs.Choices.{kind_at, not_begin}
-use Rattle.ob_parse.proofs.Loops.{put_one, put_some}
-use Rattle.ob_parse.proofs.Moves.{later}
-use Rattle.ob_parse.proofs.Steps.{Waits, Chooses, opened, after_token, after_phrase, roomier, as_deep, one_deeper, at_least_one, closed, refused, too_deep, begins_with, begins_inside, token_missing, phrase_fails, begun, again, rewrap, exits}
+use Rattle.ob_parse.specs.Reading.{place, IsRead, IsNext}
+use Rattle.ob_parse.proofs.Choices.{not_begin}
+use Rattle.ob_parse.proofs.Steps.{Waits, opened, after_token, after_phrase, as_deep, closed, phrase_fails, exits}
 use Rattle.ob_parse.proofs.declaration.body.Goals as goal
 
 wanted : (room : ℕ) (p q : Parser) → IsNext KwBegin p q → Waits Body (phrase level StatementSequence ∷ []) room (λ j v. tree_by body (place p) j (place p, v)) p q

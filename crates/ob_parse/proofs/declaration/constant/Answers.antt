@@ -1,16 +1,6 @@
-use Rattle.std.proofs.Common.{◌≡◌, ◌≤◌, ◌<◌, ℕ, ◌+◌, ◌-◌, List, [], ◌∷◌, ◌++◌, Option, Some, None, Bool, true, false, refl, ap, ◌∙◌, sym, subst, arith, lit≤, append-nil}
-use Rattle.std.specs.Prelude.{option_to_list, MatchBool}
-use Rattle.ob_syntax.specs.declared.token.Kind.{Kind}
-use Rattle.ob_syntax.specs.declared.token.Kind.TheVariants.{Ident, Number, KwArray, KwBegin, KwConst, KwDo, KwElse, KwElsif, KwEnd, KwIf, KwModule, KwOf, KwProcedure, KwRecord, KwThen, KwType, KwVar, KwWhile, Period, Comma, Semicolon, Colon, Becomes, LeftParen, RightParen, Equal}
-use Rattle.ob_syntax.specs.Grammar.{level, deeper, inner, token, phrase, Constant, Expression, constant}
-use Rattle.ob_syntax.specs.Predict.{first, by_first, behind_name}
-use Rattle.ob_syntax.specs.Tree.{Tree, tree_by}
-use Rattle.ob_parse.specs.declared.cursor.Parser.{Parser}
-use Rattle.ob_parse.specs.Reading.{left, place, IsRead, IsNext}
-use Rattle.ob_parse.proofs.Choices.{kind_at}
-use Rattle.ob_parse.proofs.Loops.{put_one, put_some}
-use Rattle.ob_parse.proofs.Moves.{later}
-use Rattle.ob_parse.proofs.Steps.{Waits, Chooses, opened, after_token, after_phrase, roomier, as_deep, one_deeper, at_least_one, closed, refused, too_deep, begins_with, begins_inside, token_missing, phrase_fails, begun, again, rewrap, exits}
+use Rattle.std.proofs.Common.{refl, arith}
+use Rattle.ob_syntax.specs.Grammar.{Constant, constant}
+use Rattle.ob_parse.proofs.Steps.{opened, after_token, after_phrase, as_deep, closed, token_missing, phrase_fails, exits}
 use Rattle.ob_parse.proofs.declaration.constant.Goals as goal
 
 pub returns-in_err-ident : goal.returns-in_err-ident

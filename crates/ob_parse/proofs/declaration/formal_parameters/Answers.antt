@@ -1,16 +1,12 @@
-use Rattle.std.proofs.Common.{◌≡◌, ◌≤◌, ◌<◌, ℕ, ◌+◌, ◌-◌, List, [], ◌∷◌, ◌++◌, Option, Some, None, Bool, true, false, refl, ap, ◌∙◌, sym, subst, arith, lit≤, append-nil}
-use Rattle.std.specs.Prelude.{option_to_list, MatchBool}
-use Rattle.ob_syntax.specs.declared.token.Kind.{Kind}
-use Rattle.ob_syntax.specs.declared.token.Kind.TheVariants.{Ident, Number, KwArray, KwBegin, KwConst, KwDo, KwElse, KwElsif, KwEnd, KwIf, KwModule, KwOf, KwProcedure, KwRecord, KwThen, KwType, KwVar, KwWhile, Period, Comma, Semicolon, Colon, Becomes, LeftParen, RightParen, Equal}
-use Rattle.ob_syntax.specs.Grammar.{level, deeper, inner, token, phrase, FormalParameters, SectionList, formals, no_formals}
-use Rattle.ob_syntax.specs.Predict.{first, by_first, behind_name}
-use Rattle.ob_syntax.specs.Tree.{Tree, tree_by}
+use Rattle.std.proofs.Common.{ℕ, [], ◌∷◌, ap, ◌∙◌, sym, subst, arith}
+use Rattle.ob_syntax.specs.declared.token.Kind.TheVariants.{LeftParen, RightParen}
+use Rattle.ob_syntax.specs.Grammar.{level, token, phrase, FormalParameters, SectionList, formals, no_formals}
+use Rattle.ob_syntax.specs.Predict.{first, by_first}
+use Rattle.ob_syntax.specs.Tree.{tree_by}
 use Rattle.ob_parse.specs.declared.cursor.Parser.{Parser}
-use Rattle.ob_parse.specs.Reading.{left, place, IsRead, IsNext}
-use Rattle.ob_parse.proofs.Choices.{kind_at, no_formals_first}
-use Rattle.ob_parse.proofs.Loops.{put_one, put_some}
-use Rattle.ob_parse.proofs.Moves.{later}
-use Rattle.ob_parse.proofs.Steps.{Waits, Chooses, opened, after_token, after_phrase, roomier, as_deep, one_deeper, at_least_one, closed, refused, too_deep, begins_with, begins_inside, token_missing, phrase_fails, begun, again, rewrap, exits}
+use Rattle.ob_parse.specs.Reading.{place, IsRead, IsNext}
+use Rattle.ob_parse.proofs.Choices.{no_formals_first}
+use Rattle.ob_parse.proofs.Steps.{Waits, opened, after_token, after_phrase, as_deep, closed, token_missing, phrase_fails, exits}
 use Rattle.ob_parse.proofs.declaration.formal_parameters.Goals as goal
 
 wanted : (room : ℕ) (p q : Parser) → IsNext LeftParen p q → Waits FormalParameters (phrase level SectionList ∷ token RightParen ∷ []) room (λ j v. tree_by formals (place p) j (place p, v)) p q

@@ -1,17 +1,14 @@
-use Rattle.std.proofs.Common.{◌≡◌, ◌≤◌, ◌<◌, ℕ, ◌+◌, ◌-◌, List, [], ◌∷◌, ◌++◌, Option, Some, None, Bool, true, false, refl, ap, ◌∙◌, sym, subst, arith, lit≤, append-nil}
-use Rattle.std.specs.Prelude.{option_to_list, MatchBool}
-use Rattle.ob_syntax.specs.declared.token.Kind.{Kind}
-use Rattle.ob_syntax.specs.declared.token.Kind.TheVariants.{Ident, Number, KwArray, KwBegin, KwConst, KwDo, KwElse, KwElsif, KwEnd, KwIf, KwModule, KwOf, KwProcedure, KwRecord, KwThen, KwType, KwVar, KwWhile, Period, Comma, Semicolon, Colon, Becomes, LeftParen, RightParen, Equal}
+use Rattle.std.proofs.Common.{◌≡◌, ℕ, List, [], ◌∷◌, ◌++◌, Some, ap, ◌∙◌, sym, subst, arith, append-nil}
+use Rattle.ob_syntax.specs.declared.token.Kind.TheVariants.{Semicolon}
 use Rattle.ob_syntax.specs.declared.tree.Section.{Section as ASection}
-use Rattle.ob_syntax.specs.Grammar.{level, deeper, inner, token, phrase, SectionList, Sections, Section, sections, no_sections, next_section, last_section}
-use Rattle.ob_syntax.specs.Predict.{first, by_first, behind_name}
-use Rattle.ob_syntax.specs.Tree.{Tree, tree_by}
+use Rattle.ob_syntax.specs.Grammar.{level, phrase, SectionList, Sections, Section, sections, no_sections, next_section, last_section}
+use Rattle.ob_syntax.specs.Predict.{first, by_first}
+use Rattle.ob_syntax.specs.Tree.{tree_by}
 use Rattle.ob_parse.specs.declared.cursor.Parser.{Parser}
 use Rattle.ob_parse.specs.Reading.{left, place, IsRead, IsNext}
-use Rattle.ob_parse.proofs.Choices.{kind_at, no_section_first}
-use Rattle.ob_parse.proofs.Loops.{put_one, put_some}
-use Rattle.ob_parse.proofs.Moves.{later}
-use Rattle.ob_parse.proofs.Steps.{Waits, Chooses, opened, after_token, after_phrase, roomier, as_deep, one_deeper, at_least_one, closed, refused, too_deep, begins_with, begins_inside, token_missing, phrase_fails, begun, again, rewrap, exits}
+use Rattle.ob_parse.proofs.Choices.{no_section_first}
+use Rattle.ob_parse.proofs.Loops.{put_one}
+use Rattle.ob_parse.proofs.Steps.{Waits, opened, after_token, after_phrase, as_deep, closed, phrase_fails, again, rewrap, exits}
 use Rattle.ob_parse.proofs.declaration.section_list.Goals as goal
 
 next_wanted : (room : ℕ) (p q : Parser) → IsNext Semicolon p q → Waits Sections (phrase level Section ∷ phrase level Sections ∷ []) room (λ j v. tree_by next_section (place p) j (place p, v)) p q

@@ -1,4 +1,4 @@
-use Rattle.std.proofs.Common.{ℕ, ◌+◌, ◌*◌, ◌++◌, length, [], ◌∷◌}
+use Rattle.std.proofs.Common.{◌++◌, length, [], ◌∷◌}
 use Rattle.ob_syntax.specs.Grammar.{level, phrase, TypeList}
 use Rattle.ob_parse.specs.Reading.{left}
 use Rattle.ob_parse.proofs.Steps.{Waits}

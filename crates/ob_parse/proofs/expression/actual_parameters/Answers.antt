@@ -1,11 +1,10 @@
-use Rattle.std.proofs.Common.{◌≡◌, ◌≤◌, ℕ, [], ◌∷◌, Some, None, refl, ap, ◌∙◌, sym, subst, arith}
-use Rattle.ob_syntax.specs.declared.token.Kind.{Kind}
+use Rattle.std.proofs.Common.{ℕ, [], ◌∷◌, ap, ◌∙◌, sym, subst, arith}
 use Rattle.ob_syntax.specs.declared.token.Kind.TheVariants.{LeftParen, RightParen}
 use Rattle.ob_syntax.specs.Grammar.{ActualParameters, ArgumentList, level, phrase, token, parameters, no_parameters}
 use Rattle.ob_syntax.specs.Predict.{first, by_first}
 use Rattle.ob_syntax.specs.Tree.{tree_by}
 use Rattle.ob_parse.specs.declared.cursor.Parser.{Parser}
-use Rattle.ob_parse.specs.Reading.{left, place, IsRead, IsNext}
+use Rattle.ob_parse.specs.Reading.{place, IsRead, IsNext}
 use Rattle.ob_parse.proofs.Choices.{not_left_paren}
 use Rattle.ob_parse.proofs.Steps.{Waits, opened, after_token, after_phrase, as_deep, closed, token_missing, phrase_fails, exits}
 use Rattle.ob_parse.proofs.expression.actual_parameters.Goals as goal

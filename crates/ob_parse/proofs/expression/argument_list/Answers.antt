@@ -1,5 +1,4 @@
-use Rattle.std.proofs.Common.{◌≡◌, ◌≤◌, ℕ, ◌+◌, ◌-◌, List, [], ◌∷◌, ◌++◌, Some, None, refl, ap, ◌∙◌, sym, subst, arith, lit≤, append-nil}
-use Rattle.ob_syntax.specs.declared.token.Kind.{Kind}
+use Rattle.std.proofs.Common.{◌≡◌, ℕ, ◌+◌, ◌-◌, List, [], ◌∷◌, ◌++◌, Some, refl, ap, ◌∙◌, sym, subst, arith, lit≤, append-nil}
 use Rattle.ob_syntax.specs.declared.token.Kind.TheVariants.{Comma}
 use Rattle.ob_syntax.specs.declared.tree.Expr.{Expr}
 use Rattle.ob_syntax.specs.Grammar.{ArgumentList, Arguments, Expression, level, deeper, phrase, arguments, no_arguments, next_argument, last_argument}

@@ -1,11 +1,11 @@
-use Rattle.std.proofs.Common.{◌≡◌, Some, None, refl, sym, ap, ◌∙◌, subst, inl, inr}
+use Rattle.std.proofs.Common.{◌≡◌, Some, sym, ap, ◌∙◌, subst, inl, inr}
 use Rattle.ob_syntax.specs.declared.token.Kind.{Kind}
 use Rattle.ob_syntax.specs.declared.token.Kind.TheVariants.{Plus, Minus}
 use Rattle.ob_syntax.specs.Grammar.{Sign, no_sign, plus_sign, minus_sign}
 use Rattle.ob_syntax.specs.Predict.{first, by_first}
 use Rattle.ob_parse.specs.declared.cursor.Parser.{Parser}
-use Rattle.ob_parse.specs.Reading.{IsRead, IsNext, left}
-use Rattle.ob_parse.proofs.Choices.{no_sign_first}
+use Rattle.ob_parse.specs.Reading.{IsRead, IsNext}
+use Rattle.ob_parse.proofs.Choices.{no_sign_at}
 use Rattle.ob_parse.proofs.Steps.{opened, closed, after_token}
 use Rattle.ob_parse.proofs.expression.sign.Goals as goal
 
@@ -30,4 +30,4 @@ returns-in-Plus c =
 
 pub returns-in_default : goal.returns-in_default
 returns-in_default c =
-    closed (opened no_sign 0 c.args.p.now (λ next same. ap (by_first Sign) (same ∙ sym c.in_ok-kind.ensures) ∙ no_sign_first c.in_ok-kind.kind c.in_default.not-Plus c.in_default.not-Minus))
+    closed (opened no_sign 0 c.args.p.now (λ next same. ap (by_first Sign) (same ∙ sym c.in_ok-kind.ensures) ∙ no_sign_at (Some c.in_ok-kind.kind) (λ e. c.in_default.not-Plus cc) (λ e. c.in_default.not-Minus cc)))

@@ -1,4 +1,4 @@
-use Rattle.std.proofs.Common.{◌≡◌, ◌∷◌, ◌<◌, length, arith, rules, refl, sym, ◌∙◌, ap, add-one, drop}
+use Rattle.std.proofs.Common.{◌∷◌, arith, refl, sym, ◌∙◌, ap, add-one, drop}
 use Rattle.ob_parse.specs.Reading.{left, place, kinds}
 use Rattle.ob_parse.proofs.Tokens.{below, gone}
 use Rattle.ob_parse.proofs.cursor.Parser.advance.Goals as goal
