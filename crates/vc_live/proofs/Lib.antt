@@ -5,3 +5,4 @@ pub mod Theory
 pub mod Sweeps
 pub mod RowLemmas
 pub mod Exact
+pub mod SizedLemmas

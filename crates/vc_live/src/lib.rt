@@ -7,6 +7,11 @@
 mod equations;
 mod liveness;
 mod sets;
+mod sized;
 mod solve;
 
 pub use liveness::{Liveness, live};
+pub use sized::is_sized;
+
+#[cfg(test)]
+mod tests;

@@ -1,0 +1,6 @@
+use Rattle.vc_live.specs.Sized.{NamesBelow}
+use Rattle.vc_live.proofs.SizedLemmas.{Holds}
+use Rattle.vc_live.proofs.sized.all_names_below.Given as goal
+
+abbrev pub invariant-loop-instr : goal.invariant-loop-instr
+invariant-loop-instr l = Holds (NamesBelow l.count) l.instrs l.instr-index
