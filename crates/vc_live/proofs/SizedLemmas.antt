@@ -1,5 +1,5 @@
 -- Facts about each element of a list, as far as a loop has come, and what they say of all blocks.
-use Rattle.std.proofs.Common.{◌≡◌, ◌≢◌, ℕ, suc, ◌+◌, ◌<◌, ◌≤◌, ◌↔◌, ◌⊎◌, inl, inr, Bool, true, false, ◌||◌, ◌&&◌, IsTrue, nat_eq, nat_lt, nat_le, List, [], ◌∷◌, ℤ, pos, Option, Some, None, length, get_or, take, refl, sym, ◌∙◌, ap, subst, arith}
+use Rattle.std.proofs.Common.{◌≡◌, ℕ, ◌+◌, ◌<◌, ◌≤◌, ◌↔◌, ◌⊎◌, inl, inr, Bool, true, false, ◌||◌, ◌&&◌, IsTrue, nat_eq, nat_lt, nat_le, List, [], ◌∷◌, pos, Some, length, get_or, take, refl, sym, ◌∙◌, subst, arith}
 use Rattle.std.proofs.lemmas.Bool.{cases_eq, cases_order, eqb-true, ltb-true, lt-ltb, leb-true, le-leb}
 use Rattle.std.proofs.lemmas.List.{get_or_past, get_or_read, get_or_default}
 use Rattle.std.specs.List.{slice_get, list_all}

@@ -1,4 +1,4 @@
-use Rattle.std.proofs.Common.{arith, refl}
+use Rattle.std.proofs.Common.{arith}
 use Rattle.vc_live.specs.Sized.{Each, NamesBelow}
 use Rattle.vc_live.proofs.SizedLemmas.{one_more, of_all, of_one, nothing_in, granted, refused_by}
 use Rattle.vc_live.proofs.sized.are_variables_in_range.Goals as goal

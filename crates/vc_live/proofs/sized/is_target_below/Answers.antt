@@ -1,4 +1,3 @@
-use Rattle.std.proofs.Common.{arith}
 use Rattle.vc_live.proofs.SizedLemmas.{jump_below, branch_below, branch_past}
 use Rattle.vc_live.proofs.sized.is_target_below.Goals as goal
 

@@ -1,6 +1,4 @@
-use Rattle.std.proofs.Common.{◌≡◌, subst, false, IsTrue, ◌↔◌, refl}
-use Rattle.vc_live.specs.Equations.{named_in}
-use Rattle.vc_live.proofs.SizedLemmas.{names_both, names_reads, names_writes, refused_by}
+use Rattle.vc_live.proofs.SizedLemmas.{names_both, names_reads, names_writes}
 use Rattle.vc_live.proofs.sized.names_below.Goals as goal
 
 pub returns-then-roles_below : goal.returns-then-roles_below

@@ -1,4 +1,4 @@
-use Rattle.std.proofs.Common.{get_or, arith, nat_lt}
+use Rattle.std.proofs.Common.{get_or, arith}
 use Rattle.vc_live.proofs.Steps.{no_role, named_none, named_at}
 use Rattle.vc_live.proofs.SizedLemmas.{refused, below_more}
 use Rattle.vc_live.proofs.sized.roles_below.Goals as goal
