@@ -1,19 +1,15 @@
 -- The sets of all points say exactly what is live.
-use Rattle.std.proofs.Common.{◌≡◌, ℕ, zero, suc, ◌+◌, ◌-◌, ◌*◌, ◌/◌, ◌%◌, ◌<◌, ◌≤◌, inl, inr, ◌↔◌, Bool, true, false, ◌&&◌, ◌||◌, List, [], ◌∷◌, ◌++◌, length, get_or, take, drop, slice_get, refl, sym, ap, subst, ◌∙◌, arith, if◌then◌else◌}
+use Rattle.std.proofs.Common.{◌≡◌, ℕ, zero, suc, ◌+◌, ◌-◌, ◌*◌, ◌/◌, ◌%◌, ◌<◌, ◌≤◌, inl, inr, ◌↔◌, Bool, true, false, ◌&&◌, ◌||◌, List, [], ◌∷◌, ◌++◌, length, get_or, take, drop, slice_get, refl, sym, subst, ◌∙◌, arith}
 use Rattle.std.proofs.lemmas.Bool.{cases_eq, eq-eqb, ne_eqb}
 use Rattle.std.proofs.lemmas.List.{get_or_push, get_or_append_left, length_push}
 use Rattle.pra_base.specs.declared.code.VInstr.{VInstr}
-use Rattle.pra_base.specs.declared.code.VarKind.{VarKind}
-use Rattle.pra_base.specs.declared.code.VarKind.TheVariants.{Param, Plain, Constant}
 use Rattle.pra_base.specs.declared.code.Block.{Block}
 use Rattle.pra_base.specs.declared.code.VProc.{VProc}
-use Rattle.pra_base.specs.Code.{kind_of, code_of, end_of, IsTarget}
+use Rattle.pra_base.specs.Code.{code_of, end_of, IsTarget}
 use Rattle.pra_base.specs.Operands.{reads}
-use Rattle.pra_base.specs.Live.{Live, BetweenReads, ReadBeforeWritten, reads_at, passes}
-use Rattle.pra_base.specs.Valid.{IsSized}
-use Rattle.vc_live.specs.Sets.{contains}
+use Rattle.pra_base.specs.Live.{BetweenReads, ReadBeforeWritten, reads_at, passes}
 use Rattle.vc_live.specs.Equations.{before, through, at_exit, at_targets, live_in, IsSound, IsClosed}
-use Rattle.vc_live.specs.Rows.{has_at, live_at, constant_at, is_constant, read_in, AreConstants, RowsOf, AllRows, IsLiveness}
+use Rattle.vc_live.specs.Rows.{has_at, constant_at, read_in, RowsOf, AllRows}
 use Rattle.vc_live.proofs.Sweeps.{block_read}
 use Rattle.vc_live.proofs.Theory.{sound_from, complete_from}
 
@@ -103,7 +99,7 @@ module _ (code : VProc) (constants : ℕ → Bool) (entries : List (List ℕ)) (
 
   -- ---- a layer
 
-  plain_exact : (layer : ℕ) → constants v ≡ false → layer ≤ 2 * length (code_of code b) + 1 → IsSound code constants entries → IsClosed code constants entries →
+  pub plain_exact : (layer : ℕ) → constants v ≡ false → layer ≤ 2 * length (code_of code b) + 1 → IsSound code constants entries → IsClosed code constants entries →
       ((c t : ℕ) → c < length code.blocks → IsTarget (end_of code c) t → t < length code.blocks) →
       (has_at blocks b (layer / 2) v ≡ true) ↔ ReadBeforeWritten code v (record { block = b; index = layer / 2 })
   unfolding live_in
@@ -151,7 +147,7 @@ module _ (code : VProc) (constants : ℕ → Bool) (entries : List (List ℕ)) (
     ) refl,
   )
 
-  constant_exact : (layer : ℕ) → constants v ≡ true → layer ≤ 2 * length (code_of code b) + 1 → (constant_at blocks v b layer ≡ true) ↔ BetweenReads code v b layer
+  pub constant_exact : (layer : ℕ) → constants v ≡ true → layer ≤ 2 * length (code_of code b) + 1 → (constant_at blocks v b layer ≡ true) ↔ BetweenReads code v b layer
   constant_exact layer const within = elim (cases_eq (layer % 2) 1) [
     | inl odd ↦ rw (eq-eqb (layer % 2) 1 odd) (odd_exact layer const within odd)
     | inr even ↦ elim (cases_eq (layer / 2) 0) [
@@ -162,26 +158,6 @@ module _ (code : VProc) (constants : ℕ → Bool) (entries : List (List ℕ)) (
     where
       false_true : false ≡ true → ⊥
       false_true e = cc
-
--- ---- the whole
-
-pub live_exact : (code : VProc) (constants : List ℕ) (entries : List (List ℕ)) (blocks : List (List (List ℕ))) → AreConstants code constants → IsSound code (contains constants) entries → IsClosed code (contains constants) entries → IsSized code →
-    AllRows code (contains constants) entries blocks (length code.blocks) → IsLiveness code (record { constants = constants; blocks = blocks })
-unfolding live_at
-live_exact code constants entries blocks are sound closed sized all = record { exact = λ v b layer named inside within. by_kind v b layer inside within (kind_of code v) refl }
-  where
-    targets : (c t : ℕ) → c < length code.blocks → IsTarget (end_of code c) t → t < length code.blocks
-    targets c t below target = sized.targets_in_range c t below target
-
-    plain : (v b layer : ℕ) → b < length code.blocks → layer ≤ 2 * length (code_of code b) + 1 → contains constants v ≡ false →
-        ((if contains constants v then constant_at blocks v b layer else has_at blocks b (layer / 2) v) ≡ true) ↔ ReadBeforeWritten code v (record { block = b; index = layer / 2 })
-    plain v b layer inside within free = rw free (plain_exact code (contains constants) entries blocks all b v inside layer free within sound closed targets)
-
-    by_kind : (v b layer : ℕ) → b < length code.blocks → layer ≤ 2 * length (code_of code b) + 1 → (kind : VarKind) → kind_of code v ≡ kind →
-        ((if contains constants v then constant_at blocks v b layer else has_at blocks b (layer / 2) v) ≡ true) ↔ Live code v b layer
-    by_kind v b layer inside within (Constant n) is = let const : contains constants v ≡ true = are v ∙ ap is_constant is in rw (is, const) (constant_exact code (contains constants) entries blocks all b v inside layer const within)
-    by_kind v b layer inside within Plain is = rw is (plain v b layer inside within (are v ∙ ap is_constant is))
-    by_kind v b layer inside within (Param i) is = rw is (plain v b layer inside within (are v ∙ ap is_constant is))
 
 -- ---- one more block
 

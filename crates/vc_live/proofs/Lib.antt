@@ -5,4 +5,5 @@ pub mod Theory
 pub mod Sweeps
 pub mod RowLemmas
 pub mod Exact
+pub mod Past
 pub mod SizedLemmas

@@ -1,5 +1,5 @@
 -- What a liveness holds, and that it is exact.
-use Rattle.std.specs.Prelude.{◌≡◌, ℕ, ◌+◌, ◌-◌, ◌*◌, ◌/◌, ◌%◌, ◌<◌, ◌≤◌, ◌↔◌, Bool, true, false, ◌&&◌, ◌||◌, not, nat_eq, nat_lt, if◌then◌else◌, List, [], take, drop, length, slice_index_or, IsTrue}
+use Rattle.std.specs.Prelude.{◌≡◌, ℕ, ◌+◌, ◌-◌, ◌*◌, ◌/◌, ◌%◌, ◌<◌, ◌≤◌, ◌↔◌, ◌⊎◌, Bool, true, false, ◌&&◌, ◌||◌, not, nat_eq, nat_lt, if◌then◌else◌, List, [], take, drop, length, slice_index_or, IsTrue}
 use Rattle.std.specs.List.{list_any}
 use Rattle.pra_base.specs.declared.code.VarKind.{VarKind}
 use Rattle.pra_base.specs.declared.code.VarKind.TheVariants.{Constant}
@@ -28,9 +28,14 @@ constant_at blocks v b layer =
 unfoldable pub live_at : Liveness → ℕ → ℕ → ℕ → Bool
 live_at l v b layer = if contains l.constants v then constant_at l.blocks v b layer else has_at l.blocks b (layer / 2) v
 
--- The answer at each layer of each block of the code is whether the variable is live there.
+-- the variable, the block or the layer is past the end of the code
+abbrev pub IsPast : VProc → ℕ → ℕ → ℕ → Type 0
+IsPast code v b layer = (length code.vars ≤ v) ⊎ ((length code.blocks ≤ b) ⊎ (2 * length (code_of code b) + 1 < layer))
+
+-- The answer at each layer of each block of the code is whether the variable is live there. Past the code it is false.
 pub record IsLiveness (code : VProc) (l : Liveness) : Type 0 where
   pub exact : (v b layer : ℕ) → v < length code.vars → b < length code.blocks → layer ≤ 2 * length (code_of code b) + 1 → IsTrue (live_at l v b layer) ↔ Live code v b layer
+  pub past : (v b layer : ℕ) → IsPast code v b layer → live_at l v b layer ≡ false
 
 abbrev pub is_constant : VarKind → Bool
 is_constant (Constant n) = true

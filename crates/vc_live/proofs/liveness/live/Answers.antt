@@ -1,7 +1,7 @@
 use Rattle.std.proofs.Common.{◌+◌, ◌/◌, ap, ◌∙◌}
 use Rattle.vc_live.specs.Sets.{contains}
 use Rattle.vc_live.proofs.RowLemmas.{sized_range}
-use Rattle.vc_live.proofs.Exact.{live_exact}
+use Rattle.vc_live.proofs.Past.{live_exact}
 use Rattle.vc_live.proofs.liveness.live.Goals as goal
 
 pub solve-requires-clause-range : goal.solve-requires-clause-range
