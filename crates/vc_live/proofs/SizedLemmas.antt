@@ -28,6 +28,7 @@ use Rattle.vc_live.proofs.Steps.{no_role, named_more, reads_named, writes_named}
 pub record Holds {A : Type 0} (P : A → Type 0) (xs : List A) (count : ℕ) : Type 0 where
   pub each : (k : ℕ) (x : A) → k < count → slice_get xs k ≡ Some x → P x
 
+-- one element more
 pub one_more : {A : Type 0} (P : A → Type 0) (xs : List A) (k : ℕ) (x : A) → Holds P xs k → k < length xs → x ≡ get_or xs k x → P x → Holds P xs (k + 1)
 one_more P xs k x so_far within read here = record {
   each = λ j y below at. elim (cases_eq j k) [
@@ -40,9 +41,11 @@ one_more P xs k x so_far within read here = record {
 pub one_more_read : {A : Type 0} (P : A → Type 0) (xs : List A) (k : ℕ) (d : A) → Holds P xs k → k < length xs → P (get_or xs k d) → Holds P xs (k + 1)
 one_more_read P xs k d so_far within here = one_more P xs k (get_or xs k d) so_far within (get_or_default xs k d (get_or xs k d) within) here
 
+-- the fact holds of as many elements as there are
 pub of_each : {A : Type 0} (P : A → Type 0) (xs : List A) (count : ℕ) → Holds P xs count → length xs ≤ count → (k : ℕ) (x : A) → slice_get xs k ≡ Some x → P x
 of_each P xs count held whole k x at = held.each k x (let within = slice_get_within xs k x at in omega arith) at
 
+-- what a reading past the end of instructions gives
 abbrev pub no_instr : VInstr
 no_instr = Set (record { 0 = 0 }) (pos 0)
 
@@ -55,6 +58,7 @@ within_or_past blocks b = elim (cases_order b (length blocks)) [
   | inr (inr after) ↦ inr (get_or_past blocks b no_block (omega arith))
 ]
 
+-- what holds of each block there is
 pub of_within : (P : Block → Type 0) (blocks : List Block) (count : ℕ) → Holds P blocks count → length blocks ≤ count → (b : ℕ) → b < length blocks → P (block_in blocks b)
 of_within P blocks count held whole b within = held.each b (block_in blocks b) (omega arith) (slice_get-get_or blocks b no_block within)
 
@@ -65,6 +69,7 @@ of_all P blocks count held whole past b = elim (within_or_past blocks b) [
   | inr is ↦ subst P (sym is) past
 ]
 
+-- what holds of a block by its number holds of the block that was read
 pub of_one : (P : Block → Type 0) (blocks : List Block) (b : ℕ) (block : Block) → b < length blocks → block ≡ get_or blocks b block → P (block_in blocks b) → P block
 of_one P blocks b block within read here = subst P (sym (get_or_read blocks b block within read no_block)) here
 

@@ -68,13 +68,14 @@ fn line(
     Ok(marks)
 }
 
-/// For each block a line for each variable, and an empty line.
+/// An empty line and a line for each variable, in which the blocks stand beside one another.
 fn drawn(alloc: Global, vars: &[VarKind], blocks: &[Lines]) -> Result<String, Fail> {
     let liveness = of_sized(alloc, &procedure(alloc, vars, blocks)?)?;
     let mut text = String::new(alloc);
-    for (block, (code, _)) in blocks.iter().enumerate() {
-        let layers = u32::try_from(2 * code.len() + 2)?;
-        for v in 0..vars.len() {
+    text.push('\n')?;
+    for v in 0..vars.len() {
+        for (block, (code, _)) in blocks.iter().enumerate() {
+            let layers = u32::try_from(2 * code.len() + 2)?;
             let marks = line(
                 alloc,
                 &liveness,
@@ -83,9 +84,8 @@ fn drawn(alloc: Global, vars: &[VarKind], blocks: &[Lines]) -> Result<String, Fa
                 layers,
             )?;
             text.push_str(marks.as_str())?;
-            text.push('\n')?;
+            text.push(if block + 1 < blocks.len() { ' ' } else { '\n' })?;
         }
-        text.push('\n')?;
     }
     Ok(text)
 }
@@ -99,7 +99,13 @@ fn a_local_that_is_never_read_is_live_nowhere(rt: HostRuntime) -> Result<(), Fai
         &[PLAIN, VarKind::Constant(5)],
         &[(&code, End::Return)],
     )?;
-    assert_eq!(rt; text.as_str(), "....\n....\n\n");
+    assert_eq!(rt;
+        text.as_str(),
+        "
+....
+....
+"
+    );
     Ok(())
 }
 
@@ -111,7 +117,13 @@ fn straight_code(rt: HostRuntime) -> Result<(), Fail> {
         VInstr::Write(var(1)),
     ];
     let text = drawn(rt.alloc(), &[PLAIN, PLAIN], &[(&code, End::Return)])?;
-    assert_eq!(rt; text.as_str(), "..##....\n....##..\n\n");
+    assert_eq!(rt;
+        text.as_str(),
+        "
+..##....
+....##..
+"
+    );
     Ok(())
 }
 
@@ -134,7 +146,11 @@ fn a_diamond(rt: HostRuntime) -> Result<(), Fail> {
     )?;
     assert_eq!(rt;
         text.as_str(),
-        "####\n##..\n....\n\n....\n....\n..##\n\n##..\n....\n..##\n\n....\n....\n##..\n\n"
+        "
+#### .... ##.. ....
+##.. .... .... ....
+.... ..## ..## ##..
+"
     );
     Ok(())
 }
@@ -157,7 +173,12 @@ fn what_a_loop_reads_is_live_around_it(rt: HostRuntime) -> Result<(), Fail> {
     )?;
     assert_eq!(rt;
         text.as_str(),
-        "..####\n....##\n######\n......\n\n####\n####\n####\n....\n\n######\n######\n######\n...#..\n\n..\n..\n..\n..\n\n"
+        "
+..#### #### ###### ..
+....## #### ###### ..
+###### #### ###### ..
+...... .... ...#.. ..
+"
     );
     Ok(())
 }
@@ -181,12 +202,15 @@ fn loops_in_loops(rt: HostRuntime) -> Result<(), Fail> {
     )?;
     assert_eq!(rt;
         text.as_str(),
-        "##\n##\n\n####\n####\n\n####\n####\n\n####\n####\n\n##\n##\n\n..\n..\n\n"
+        "
+## #### #### #### ## ..
+## #### #### #### ## ..
+"
     );
     Ok(())
 }
 
-// The sum is read once more, then written before it would be read; the parameter behind it is written first.
+// The sum is read once more and then set, and what is set is read and written once more, for nothing.
 #[test]
 fn read_and_written_by_one_instruction(rt: HostRuntime) -> Result<(), Fail> {
     let code = [
@@ -200,7 +224,13 @@ fn read_and_written_by_one_instruction(rt: HostRuntime) -> Result<(), Fail> {
         &[VarKind::Param(0), PLAIN],
         &[(&code, End::Return)],
     )?;
-    assert_eq!(rt; text.as_str(), "####..##..\n##........\n\n");
+    assert_eq!(rt;
+        text.as_str(),
+        "
+####..##..
+##........
+"
+    );
     Ok(())
 }
 
@@ -212,7 +242,13 @@ fn a_parameter_that_is_written_first_is_dead_at_the_entry(rt: HostRuntime) -> Re
         &[VarKind::Param(0), VarKind::Param(1)],
         &[(&code, End::Return)],
     )?;
-    assert_eq!(rt; text.as_str(), "..##..\n......\n\n");
+    assert_eq!(rt;
+        text.as_str(),
+        "
+..##..
+......
+"
+    );
     Ok(())
 }
 
@@ -229,7 +265,15 @@ fn a_division(rt: HostRuntime) -> Result<(), Fail> {
         &[PLAIN, PLAIN, VarKind::Param(0), VarKind::Param(1)],
         &[(&code, End::Return)],
     )?;
-    assert_eq!(rt; text.as_str(), "........\n..##....\n##......\n######..\n\n");
+    assert_eq!(rt;
+        text.as_str(),
+        "
+........
+..##....
+##......
+######..
+"
+    );
     Ok(())
 }
 
@@ -246,7 +290,13 @@ fn a_call(rt: HostRuntime) -> Result<(), Fail> {
         &[VarKind::Param(0), VarKind::Param(1)],
         &[(&code, End::Return)],
     )?;
-    assert_eq!(rt; text.as_str(), "##......\n######..\n\n");
+    assert_eq!(rt;
+        text.as_str(),
+        "
+##......
+######..
+"
+    );
     Ok(())
 }
 
@@ -264,7 +314,14 @@ fn an_address(rt: HostRuntime) -> Result<(), Fail> {
         &[VarKind::Param(0), VarKind::Param(1), PLAIN],
         &[(&code, End::Return)],
     )?;
-    assert_eq!(rt; text.as_str(), "####..\n####..\n##....\n\n");
+    assert_eq!(rt;
+        text.as_str(),
+        "
+####..
+####..
+##....
+"
+    );
     Ok(())
 }
 
@@ -290,7 +347,10 @@ fn a_constant_is_live_between_its_reads_in_each_block(rt: HostRuntime) -> Result
     )?;
     assert_eq!(rt;
         text.as_str(),
-        "...#####....\n..########..\n\n....\n....\n\n.#....\n......\n\n"
+        "
+...#####.... .... .#....
+..########.. .... ......
+"
     );
     Ok(())
 }
