@@ -5,9 +5,10 @@
 // and behind the inner loop what follows it. Each nest has a sum and variables of its own; some locals live throughout.
 #![tactic(auto)]
 
-ghost use Rattle.std.specs.Prelude.{◌+◌, ◌*◌, ◌<◌, ◌≤◌};
+ghost use Rattle.std.specs.Prelude.{◌<◌, ◌≤◌};
+ghost use Rattle.bench_live.specs.declared.TheConstants.{NESTS};
 
-use anyhow::{Error, anyhow};
+use anyhow::anyhow;
 use pra_base::{Addr, Base, Block, BlockId, Cond, End, ProcId, VInstr, VProc, VarId, VarKind};
 use pra_list::Seq;
 use std::alloc::{AllocError, Global};
@@ -32,37 +33,37 @@ const LOCALS: u32 = 64;
 #[derive(Drop)]
 struct Nest {
     number: u32,
-    ghost in_range: { number < 273 },
+    ghost in_range: { number < NESTS },
 }
 
 impl Nest {
     fn var(&self, offset: u32) -> VarId
-        requires { offset < 60 }
+        requires { offset < NEST_VARIABLES }
     {
         VarId(self.number * NEST_VARIABLES + offset)
     }
 
     /// What a loop counts with, what it counts to, and what it counts by.
     fn counter(&self, level: u32) -> VarId
-        requires { level < 5 }
+        requires { level < LOOPS }
     {
         self.var(level)
     }
 
     fn bound(&self, level: u32) -> VarId
-        requires { level < 5 }
+        requires { level < LOOPS }
     {
         self.var(5 + level)
     }
 
     fn step(&self, level: u32) -> VarId
-        requires { level < 5 }
+        requires { level < LOOPS }
     {
         self.var(10 + level)
     }
 
     fn constant(&self, level: u32) -> VarId
-        requires { level < 5 }
+        requires { level < LOOPS }
     {
         self.var(15 + level)
     }
@@ -89,26 +90,26 @@ impl Nest {
     }
 
     fn block(&self, offset: u32) -> BlockId
-        requires { offset ≤ 15 }
+        requires { offset ≤ NEST_BLOCKS }
     {
         BlockId(1 + self.number * NEST_BLOCKS + offset)
     }
 
     /// The test of a loop, the begin of its body, and what follows it.
     fn head(&self, level: u32) -> BlockId
-        requires { level < 5 }
+        requires { level < LOOPS }
     {
         self.block(2 * level)
     }
 
     fn body(&self, level: u32) -> BlockId
-        requires { level < 5 }
+        requires { level < LOOPS }
     {
         self.block(2 * level + 1)
     }
 
     fn after(&self, level: u32) -> BlockId
-        requires { level < 5 }
+        requires { level < LOOPS }
     {
         self.block(14 - level)
     }
@@ -173,7 +174,7 @@ fn put_loops(alloc: Global, blocks: &mut Seq<Block>, nest: &Nest) -> Result<(), 
 
 // Sums an array and leaves remainders in it.
 fn innermost(nest: &Nest, level: u32) -> [VInstr; 6]
-    requires { level < 5 }
+    requires { level < LOOPS }
 {
     let counter = nest.counter(level);
     let element = Addr {
