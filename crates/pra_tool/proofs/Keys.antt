@@ -1,11 +1,11 @@
 -- The keys of a set of byte strings, as the bytes that they point to.
-use Rattle.std.proofs.Common.{◌≡◌, ⊎_elim, ℕ, zero, suc, ◌<◌, Bool, true, false, not, cond, List, [], ◌∷◌, ◌++◌, map, length, get_or, Option, Some, None, is_some, Result, Ok, Err, Contains, refl, sym, ap, ◌∙◌, ◌↔◌, arith, Bor, IfOk, OnErr, MatchOption, MatchResult}
+use Rattle.std.proofs.Common.{◌≡◌, ⊎_elim, ℕ, zero, suc, ◌<◌, Bool, true, false, not, cond, List, [], ◌∷◌, ◌++◌, map, length, get_or, Option, Some, None, is_some, Result, Ok, Err, Contains, refl, sym, ap, ap₂, nat_lt, ◌+◌, ◌∙◌, ◌↔◌, arith, Bor, IfOk, OnErr, MatchOption, MatchResult}
 use Rattle.std.proofs.lemmas.Bool.{or_cases, or_left, or_right, true≢false, both_ways}
 use Rattle.std.proofs.lemmas.List.{map_push, get_or-map, length-map}
 use Rattle.std.proofs.lemmas.List.Quantifiers.{position-Some}
 use Rattle.std.proofs.lemmas.Slice.Eq.{bytes_eq-Decides}
 use Rattle.std.specs.Bool.{MatchBool}
-use Rattle.std.specs.List.{list_any, position}
+use Rattle.std.specs.List.{list_any, position, prefix_len}
 use Rattle.std.specs.Str.{bytes_eq}
 
 abbrev pub Key : Type 0
@@ -40,6 +40,15 @@ numbered name (k ∷ ks) (Some x) e f =
     let p = position-Some (is_named name) (k ∷ ks) x k (sym e) in
     let q = get_or-map (λ (y : Key). y.now) (k ∷ ks) x k [] p.0 in
     (simp length-map p.0, q ∙ sym ((bytes_eq-Decides name (get_or (k ∷ ks) x k).now).0 p.1))
+
+first_named : (name : List ℕ) (ks : List Key) → prefix_len (λ k. not (is_named name k)) ks ≡ prefix_len (λ v. not (bytes_eq name v)) (pointed ks)
+first_named name [] = refl
+first_named name (k ∷ ks) = ap (λ n. cond (not (bytes_eq name k.now)) (1 + n) 0) (first_named name ks)
+
+pub placed : (name : List ℕ) (ks : List Key) → position (is_named name) ks ≡ position (bytes_eq name) (pointed ks)
+placed name ks =
+    let long : length (pointed ks) ≡ length ks = simp length-map in
+    ap₂ (λ m n. cond (nat_lt m n) (Some m) None) (first_named name ks) (sym long)
 
 -- one more key
 pub declared : {E : Type 0} (key : Key) (ks new : List Key) (r : Result Bool E) → IfOk r (λ b. b ≡ not (list_any (is_named key.now) ks)) → IfOk r (λ _. new ≡ cond (list_any (is_named key.now) ks) ks (ks ++ key ∷ []))

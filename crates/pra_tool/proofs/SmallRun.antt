@@ -44,7 +44,7 @@ use Rattle.pra_tool.specs.Small.{OperandFits, RestFits, SumFits, StatementFits, 
 use Rattle.pra_tool.specs.declared.compile.TheConstants.{MAX_VARIABLES}
 use Rattle.pra_tool.specs.Meaning.{Store, value_of, assigned, operand_value, combined, rest_value, sum_value, exec, written, mean}
 use Rattle.pra_tool.specs.Code.{variable, load, operation, combine, combine_with, sum_code, statement_code, code_of, bytes}
-use Rattle.pra_tool.proofs.Values.{AllFit, all_fit_empty, combined_fits, operand_fits, combined_word, number_fits, sum_fits, exec_fits}
+use Rattle.pra_tool.proofs.Values.{AllFit, all_fit_empty, combined_fits, operand_fits, combined_word, sum_fits, exec_fits}
 use Rattle.pra_tool.proofs.DataWords.{Stored, stored_start, stored_assigned, variable_sound, read_variable, write_variable}
 
 -- the register has the number's word, or anything
@@ -98,7 +98,7 @@ module _ (n : ℕ) (few : n ≤ MAX_VARIABLES) (store : Store) (events : List Ou
   loads held (Number v) left is a =
       let s = at r.state (r.state.eip + length (bytes_of (MovRI Eax v))) in
       goes_on held (MovRI Eax v) left (with_register s Eax (cast_unsigned w32 v)) out.Going store (Some v) events a
-      (number_fits v is.0 is.1) refl refl refl refl refl refl a.words refl
+      is refl refl refl refl refl refl a.words refl
 
   -- what an operation leaves in EAX
   result : (op : SumOp) (x y : ℤ) (a b : ℕ) → FitsSigned w32 x → FitsSigned w32 y → a ≡ cast_unsigned w32 x → b ≡ cast_unsigned w32 y →
@@ -123,9 +123,9 @@ module _ (n : ℕ) (few : n ≤ MAX_VARIABLES) (store : Store) (events : List Ou
       let eax = r.state.regs.eax in
       goes_on (Some x) (AluRmI (operation op) (rm.Reg Eax) v) left
       (with_flags (with_register s Eax (result_of (operation op) eax word)) (flags_of (operation op) eax word)) out.Going store (Some (combined op x v)) events a
-      (tt, number_fits v is.0 is.1)
+      (tt, is)
       (alu_register op s word) refl refl refl refl refl a.words
-      (result op x v eax word fits (number_fits v is.0 is.1) a.eax refl)
+      (result op x v eax word fits is a.eax refl)
 
   assigns : (v : ℤ) (x : ℕ) (left : List Ins) → FitsSigned w32 v → x < n → At n store (Some v) events (MovRmR (variable x) Eax ∷ left) r →
       At n (assigned store x v) (Some v) events left (advance r)

@@ -60,13 +60,9 @@ pub combined_fits : (op : SumOp) (x y : ℤ) → FitsSigned w32 (combined op x y
 combined_fits Plus x y = SFits-int_wrap w32 _
 combined_fits Minus x y = SFits-int_wrap w32 _
 
-pub number_fits : (n : ℤ) → pos 0 ≤ℤ n → n ≤ℤ pos 2147483647 → FitsSigned w32 n
-number_fits (pos n) low high = record { sfits = omega (arith, ints) }
-number_fits (negsuc n) low high = absurd (omega (arith, ints))
-
 pub operand_fits : (n : ℕ) (store : Store) (o : Operand) → OperandFits n o → AllFit store → FitsSigned w32 (operand_value store o)
 operand_fits n store (Variable x) is all = all.fits x
-operand_fits n store (Number v) is all = number_fits v is.0 is.1
+operand_fits n store (Number v) is all = is
 
 pub rest_fits : (n : ℕ) (store : Store) (rest : List NextOperand) (x : ℤ) → AllFit store → FitsSigned w32 x → FitsSigned w32 (rest_value store x rest)
 rest_fits n store [] x all fits = fits

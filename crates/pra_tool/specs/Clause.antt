@@ -11,15 +11,13 @@ use Rattle.ia_step.specs.declared.out.Ending.TheVariants.{Going, Ended, Trap, Fa
 use Rattle.ia_step.specs.declared.out.RunOut.{RunOut}
 use Rattle.ia_step.specs.Run.{machine_run, progress}
 use Rattle.pra_tool.specs.declared.small.SmallModule.{SmallModule}
-use Rattle.pra_tool.specs.Text.{IsSmall}
+use Rattle.pra_tool.specs.declared.source_fault.ReadFault.{ReadFault}
+use Rattle.pra_tool.specs.declared.source_fault.ReadFault.TheVariants as fault
+use Rattle.pra_tool.specs.Source.{IsSmall, IsCause}
 use Rattle.pra_tool.specs.Meaning.{mean}
 use Rattle.pra_tool.specs.Words.{Asked}
-use Rattle.pra_tool.specs.Texts.{output_text, ending_line}
+use Rattle.pra_tool.specs.Texts.{output_text, ending_line, fault_line}
 use Rattle.pra_tool.specs.Outside.{Seen, IfHeld, Refused, Untouched, AllWritten, FileNotRead, ImageNotWritten, OutNotWritten, NotesNotWritten, NoWriteFault}
-
--- the bytes are the text of no small module
-abbrev pub IsUnbuilt : List ℕ → Type 0
-IsUnbuilt bytes = (small : SmallModule) → IsSmall bytes small → ⊥
 
 -- an image made of a source: the source is a small module, the image is valid, and its run on the machine agrees with the module's meaning, both ways
 pub record MadeOf (source : List ℕ) (image : Image) : Type 0 where
@@ -40,10 +38,14 @@ abbrev pub IsEnding : Ending → Type 0
 IsEnding (Fault k) = ⊥
 IsEnding ending = ⊤
 
--- the lines of the refusals
-abbrev pub unbuilt_line : List ℕ
-unbuilt_line = codes "fault unbuilt\n"
+-- the status of a source that is not compiled: 4 where it goes beyond a limit, else 3
+abbrev pub fault_status : ReadFault → ℕ
+fault_status (fault.Source f) = 3
+fault_status (fault.Limit f) = 4
+fault_status fault.Unbuilt = 3
+fault_status fault.OutOfMemory = 8
 
+-- the lines of the refusals that tell nothing of the source
 abbrev pub words_lines : List ℕ
 words_lines = codes "fault words\nusage: pra run FILE [--steps M]\n"
 
@@ -75,10 +77,12 @@ pub record Performed (asked : Asked) (old new : Seen) (status : ℕ) : Type 0 wh
   pub written : AllWritten (image_bytes_of image) (output_text (run_of image asked.steps).events) (ending_line (run_of image asked.steps)) old new
   pub ended : IsStatusOf (run_of image asked.steps).ending status
 
--- Status 3.
-pub record NotBuilt (asked : Asked) (old new : Seen) : Type 0 where
-  pub cause : IfHeld (old.file asked.file) IsUnbuilt
-  pub left : Refused unbuilt_line old new
+-- Status 3 and 4. Something is wrong with the source, and its line is told.
+pub record SourceRefused (asked : Asked) (old new : Seen) (status : ℕ) : Type 0 where
+  pub fault : ReadFault
+  pub status_is : status ≡ fault_status fault
+  pub cause : IfHeld (old.file asked.file) (λ source. IsCause source fault)
+  pub left : Refused (fault_line fault) old new
 
 -- Status 5 behind the reading of FILE: a write failed, and what stands before it is whole.
 pub record NotWritten (asked : Asked) (old new : Seen) : Type 0 where
@@ -92,16 +96,16 @@ pub record NotWritten (asked : Asked) (old new : Seen) : Type 0 where
 
 -- What `run FILE` leaves, by its status.
 pub record RunMode (asked : Asked) (old new : Seen) (status : ℕ) : Type 0 where
-  pub known : (status ≡ 0) ⊎ (status ≡ 2) ⊎ (status ≡ 3) ⊎ (status ≡ 5) ⊎ (status ≡ 8)
+  pub known : (status ≡ 0) ⊎ (status ≡ 2) ⊎ (status ≡ 3) ⊎ (status ≡ 4) ⊎ (status ≡ 5) ⊎ (status ≡ 8)
   pub performed : (status ≡ 0) ⊎ (status ≡ 2) → Performed asked old new status
-  pub unbuilt : status ≡ 3 → NotBuilt asked old new
+  pub refused : (status ≡ 3) ⊎ (status ≡ 4) → SourceRefused asked old new status
   pub fault : status ≡ 5 → FileNotRead asked.file read_line old new ⊎ NotWritten asked old new
   pub memory : status ≡ 8 → Untouched old new
-  -- what is no small module is refused, where it can be read and memory is there
-  pub unbuilt_exactly : (bytes : List ℕ) → old.file asked.file ≡ Some (Some bytes) → IsUnbuilt bytes →
-      (status ≡ 3) ⊎ (status ≡ 8) ⊎ Rose (old.read_faults asked.file) (new.read_faults asked.file)
+  -- each fault of a source is told by its own line, where the source can be read and memory is there
+  pub refused_exactly : (source : List ℕ) (f : ReadFault) → old.file asked.file ≡ Some (Some source) → IsCause source f →
+      ((status ≡ fault_status f) × Refused (fault_line f) old new) ⊎ (status ≡ 8) ⊎ Rose (old.read_faults asked.file) (new.read_faults asked.file)
   -- and a small module is performed, where no count rises and memory is there
-  pub complete : (bytes : List ℕ) (small : SmallModule) → old.file asked.file ≡ Some (Some bytes) → IsSmall bytes small →
+  pub complete : (source : List ℕ) (small : SmallModule) → old.file asked.file ≡ Some (Some source) → IsSmall source small →
       (Rose (old.read_faults asked.file) (new.read_faults asked.file) → ⊥) → NoWriteFault old new →
       (status ≡ 0) ⊎ (status ≡ 2) ⊎ (status ≡ 8)
 

@@ -1,8 +1,7 @@
 pub mod Small
-pub mod Tokens
-pub mod Text
-pub mod Scanned
-pub mod Parsing
+pub mod SmallTree
+pub mod Lowering
+pub mod Source
 pub mod Meaning
 pub mod Code
 pub mod Words

@@ -1,5 +1,7 @@
 -- How large a small module is, and that its numbers fit.
-use Rattle.std.specs.Prelude.{ℕ, ◌+◌, ◌<◌, List, [], ◌∷◌, length, pos, ◌≤ℤ◌}
+use Rattle.std.specs.Prelude.{ℕ, ◌+◌, ◌<◌, List, [], ◌∷◌, length}
+use Rattle.std.specs.Int.{w32}
+use Rattle.std.specs.Int.RustNames.{FitsSigned}
 use Rattle.std.specs.List.{AllByRecursion as Each}
 use Rattle.pra_tool.specs.declared.small.SmallModule.{SmallModule}
 use Rattle.pra_tool.specs.declared.small.Statement.{Statement}
@@ -27,10 +29,10 @@ body_size (s ∷ ss) = statement_size s + body_size ss
 abbrev pub size : SmallModule → ℕ
 size m = body_size m.body
 
--- Among so many variables: a variable is one of them, and a number is one that the source can write.
+-- Among so many variables: a variable is one of them, and a number fits 32 bits.
 abbrev pub OperandFits : ℕ → Operand → Type 0
 OperandFits variables (Variable x) = x < variables
-OperandFits variables (Number n) = (pos 0 ≤ℤ n) × (n ≤ℤ pos 2147483647)
+OperandFits variables (Number n) = FitsSigned w32 n
 
 abbrev pub NextFits : ℕ → NextOperand → Type 0
 NextFits variables next = OperandFits variables next.operand
@@ -49,6 +51,6 @@ StatementFits variables WriteLine = Unit {0}
 abbrev pub BodyFits : ℕ → List Statement → Type 0
 BodyFits variables = Each (StatementFits variables)
 
--- each variable that is named is declared, and each number is one of 0 to 2147483647
+-- each variable that is named is declared, and each number fits 32 bits
 abbrev pub Fits : SmallModule → Type 0
 Fits m = BodyFits m.variables m.body

@@ -8,6 +8,16 @@ use Rattle.pra_base.specs.declared.event.OutEvent.TheVariants.{Number, Line}
 use Rattle.ia_step.specs.declared.out.Ending.{Ending}
 use Rattle.ia_step.specs.declared.out.Ending.TheVariants.{Going, Ended, Trap, Fault}
 use Rattle.ia_step.specs.declared.out.RunOut.{RunOut}
+use Rattle.pra_base.specs.declared.limit.LimitKind.{LimitKind}
+use Rattle.pra_base.specs.declared.limit.LimitKind.TheVariants as limit
+use Rattle.ob_lex.specs.declared.scanner.LexFault.{LexFault}
+use Rattle.ob_lex.specs.declared.scanner.LexFault.TheVariants as lex
+use Rattle.pra_tool.specs.declared.source_fault.SourceFault.{SourceFault}
+use Rattle.pra_tool.specs.declared.source_fault.SourceFault.TheVariants.{Lex, Grammar}
+use Rattle.pra_tool.specs.declared.source_fault.LimitFault.{LimitFault}
+use Rattle.pra_tool.specs.declared.source_fault.LimitFault.TheVariants.{Count, Depth}
+use Rattle.pra_tool.specs.declared.source_fault.ReadFault.{ReadFault}
+use Rattle.pra_tool.specs.declared.source_fault.ReadFault.TheVariants.{Source, Limit, Unbuilt, OutOfMemory}
 
 -- Write prints one blank and the decimal number, WriteLn one LF
 abbrev pub event_text : OutEvent → List ℕ
@@ -34,3 +44,31 @@ ending_words (Fault kind) = []
 -- how the run ended, the steps that it made, the last one included, and the input words that it took
 abbrev pub ending_line : RunOut → List ℕ
 ending_line run = ending_words run.ending ++ codes " steps " ++ decimal run.steps ++ codes " reads " ++ decimal run.reads ++ codes "\n"
+
+-- ---- what is wrong with a source; what no source is refused for has no line
+
+-- a lexical fault, and the byte at which it begins
+abbrev pub lexical_line : LexFault → List ℕ
+lexical_line (lex.BadByte at) = codes "fault bad-byte at " ++ decimal at ++ codes "\n"
+lexical_line (lex.OpenComment at) = codes "fault open-comment at " ++ decimal at ++ codes "\n"
+lexical_line (lex.NumberTooLarge at) = codes "fault number-too-large at " ++ decimal at ++ codes "\n"
+lexical_line (lex.TokensOver count) = []
+lexical_line lex.OutOfMemory = []
+
+-- a token, and its first byte
+abbrev pub place_text : ℕ → ℕ → List ℕ
+place_text token at = decimal token ++ codes " at " ++ decimal at ++ codes "\n"
+
+-- how much there is, and how much there may be
+abbrev pub count_line : LimitKind → ℕ → List ℕ
+count_line limit.Source count = codes "limit source count " ++ decimal count ++ codes " maximum 1048576\n"
+count_line limit.Tokens count = codes "limit tokens count " ++ decimal count ++ codes " maximum 65536\n"
+count_line _ count = []
+
+abbrev pub fault_line : ReadFault → List ℕ
+fault_line (Source (Lex f)) = lexical_line f
+fault_line (Source (Grammar token at)) = codes "fault grammar token " ++ place_text token at
+fault_line (Limit (Count kind count)) = count_line kind count
+fault_line (Limit (Depth token at)) = codes "limit depth token " ++ place_text token at
+fault_line Unbuilt = codes "fault unbuilt\n"
+fault_line OutOfMemory = []

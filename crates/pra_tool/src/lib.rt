@@ -5,13 +5,13 @@
 
 pub mod compile;
 pub mod laws;
-mod parser;
-pub mod read_fault;
+mod lower;
 pub mod reader;
 #[cfg(test)]
 mod rows;
-mod scanner;
 pub mod small;
+mod source;
+pub mod source_fault;
 pub mod texts;
 pub mod tool;
 mod variables;

@@ -136,21 +136,186 @@ fn sums_wrap(rt: HostRuntime) -> Result<(), OutOfMemory> {
     Ok(())
 }
 
+/// A source that is refused, with the status and the line that tells why.
+#[derive(Drop)]
+struct Refused<'a> {
+    source: &'a [u8],
+    status: u8,
+    line: &'a [u8],
+}
+
+// Whether each source is refused with its line alone, and no image is written.
+fn are_refused(alloc: Global, refusals: &[Refused]) -> Result<bool, OutOfMemory> {
+    for refusal in refusals {
+        let left = call(alloc, &["run", "M.ob"], refusal.source, ALL_WELL)?;
+        let silent = left.out.bytes().is_empty() && left.folder.file("out.pri").is_none();
+        if left.status != refusal.status || left.notes.bytes() != refusal.line || !silent {
+            return Ok(false);
+        }
+    }
+    Ok(true)
+}
+
+const UNBUILT: &[u8] = b"fault unbuilt\n";
+
 #[test]
 fn small_unbuilt(rt: HostRuntime) -> Result<(), OutOfMemory> {
-    let sources: [&[u8]; 4] = [
+    let sources: [&[u8]; 6] = [
         b"MODULE M; BEGIN Write(1 * 2) END M.",
-        b"",
-        b"MODULE M; BEGIN x := 1 END M.",
-        b"\x00\xff",
+        b"MODULE M; CONST c = 1; END M.",
+        b"MODULE M; BEGIN Write(-1) END M.",
+        b"MODULE M; BEGIN Write(x) END M.",
+        b"MODULE M; VAR x: BOOLEAN; END M.",
+        b"MODULE M; END N.",
     ];
     for source in sources {
-        let left = call(rt.alloc(), &["run", "M.ob"], source, ALL_WELL)?;
-        assert_eq!(rt; left.status, 3);
-        assert_eq!(rt; left.out.bytes(), b"".as_slice());
-        assert_eq!(rt; left.notes.bytes(), b"fault unbuilt\n".as_slice());
-        assert_eq!(rt; left.folder.file("out.pri"), None);
+        let refusal = Refused {
+            source,
+            status: 3,
+            line: UNBUILT,
+        };
+        assert!(rt; are_refused(rt.alloc(), &[refusal])?);
     }
+    Ok(())
+}
+
+#[test]
+fn nested_comment(rt: HostRuntime) -> Result<(), OutOfMemory> {
+    let source = b"MODULE M; (* a (* b *) c *) BEGIN Write(3) END M.";
+    let left = call(rt.alloc(), &["run", "M.ob"], source, ALL_WELL)?;
+    assert_eq!(rt; left.status, 0);
+    assert_eq!(rt; left.out.bytes(), b" 3".as_slice());
+    Ok(())
+}
+
+#[test]
+fn lexical_faults(rt: HostRuntime) -> Result<(), OutOfMemory> {
+    let refusals = &[
+        Refused {
+            source: b"MODULE M; !",
+            status: 3,
+            line: b"fault bad-byte at 10\n",
+        },
+        Refused {
+            source: b"(* (* *)",
+            status: 3,
+            line: b"fault open-comment at 0\n",
+        },
+        Refused {
+            source: b"MODULE M; CONST c = 2147483648; END M.",
+            status: 3,
+            line: b"fault number-too-large at 20\n",
+        },
+    ];
+    assert!(rt; are_refused(rt.alloc(), refusals)?);
+    Ok(())
+}
+
+#[test]
+fn grammar_fault_places(rt: HostRuntime) -> Result<(), OutOfMemory> {
+    let refusals = &[
+        Refused {
+            source: b"MODULE M; BEGIN WriteLn",
+            status: 3,
+            line: b"fault grammar token 5 at 23\n",
+        },
+        Refused {
+            source: b"MODULE M; END M. x",
+            status: 3,
+            line: b"fault grammar token 6 at 17\n",
+        },
+        Refused {
+            source: b"",
+            status: 3,
+            line: b"fault grammar token 0 at 0\n",
+        },
+    ];
+    assert!(rt; are_refused(rt.alloc(), refusals)?);
+    Ok(())
+}
+
+#[test]
+fn missing_expression(rt: HostRuntime) -> Result<(), OutOfMemory> {
+    let refusals = &[Refused {
+        source: b"MODULE M; BEGIN x := END M.",
+        status: 3,
+        line: b"fault grammar token 6 at 21\n",
+    }];
+    assert!(rt; are_refused(rt.alloc(), refusals)?);
+    Ok(())
+}
+
+#[test]
+fn missing_parenthesis(rt: HostRuntime) -> Result<(), OutOfMemory> {
+    let refusals = &[Refused {
+        source: b"MODULE M; BEGIN Write(1 END M.",
+        status: 3,
+        line: b"fault grammar token 7 at 24\n",
+    }];
+    assert!(rt; are_refused(rt.alloc(), refusals)?);
+    Ok(())
+}
+
+// A text, with one byte so many times in the middle.
+fn repeated(
+    alloc: Global,
+    before: &[u8],
+    byte: u8,
+    count: usize,
+    after: &[u8],
+) -> Result<Vec<u8>, OutOfMemory> {
+    let mut text = Vec::from_slice(alloc, before)?;
+    for _ in 0..count {
+        text.push(byte)?;
+    }
+    text.extend_from_slice(after)?;
+    Ok(text)
+}
+
+#[test]
+fn tokens_limit(rt: HostRuntime) -> Result<(), OutOfMemory> {
+    let most = repeated(rt.alloc(), b"MODULE M; BEGIN", b';', 65_529, b"END M.")?;
+    let left = call(rt.alloc(), &["run", "M.ob"], &most, ALL_WELL)?;
+    assert_eq!(rt; left.status, 0);
+    let more = repeated(rt.alloc(), b"MODULE M; BEGIN", b';', 65_530, b"END M.")?;
+    let refusal = Refused {
+        source: &more,
+        status: 4,
+        line: b"limit tokens count 65537 maximum 65536\n",
+    };
+    assert!(rt; are_refused(rt.alloc(), &[refusal])?);
+    Ok(())
+}
+
+// The assignment of 1 in so many parentheses.
+fn in_parentheses(alloc: Global, count: usize) -> Result<Vec<u8>, OutOfMemory> {
+    let opened = repeated(
+        alloc,
+        b"MODULE M; VAR x: INTEGER; BEGIN x := ",
+        b'(',
+        count,
+        b"1",
+    )?;
+    repeated(alloc, &opened, b')', count, b" END M.")
+}
+
+#[test]
+fn depth_limit(rt: HostRuntime) -> Result<(), OutOfMemory> {
+    let deep = in_parentheses(rt.alloc(), 63)?;
+    let deeper = in_parentheses(rt.alloc(), 64)?;
+    let refusals = &[
+        Refused {
+            source: &deep,
+            status: 3,
+            line: UNBUILT,
+        },
+        Refused {
+            source: &deeper,
+            status: 4,
+            line: b"limit depth token 74 at 100\n",
+        },
+    ];
+    assert!(rt; are_refused(rt.alloc(), refusals)?);
     Ok(())
 }
 
@@ -164,8 +329,12 @@ fn longest_source(rt: HostRuntime) -> Result<(), OutOfMemory> {
     assert_eq!(rt; left.status, 0);
     source.push(b' ')?;
     let left = call(rt.alloc(), &["run", "M.ob"], &source, ALL_WELL)?;
-    assert_eq!(rt; left.status, 3);
-    assert_eq!(rt; left.notes.bytes(), b"fault unbuilt\n".as_slice());
+    assert_eq!(rt; left.status, 4);
+    assert_eq!(rt;
+        left.notes.bytes(),
+        b"limit source count 1048577 maximum 1048576\n".as_slice()
+    );
+    assert_eq!(rt; left.folder.file("out.pri"), None);
     Ok(())
 }
 

@@ -1,10 +1,12 @@
 // The texts that the program writes.
 
 ghost use Rattle.std.specs.Prelude.{◌≡◌, ◌++◌, IfOk, OnOk, string_bytes};
-ghost use Rattle.pra_tool.specs.Texts.{event_text, output_text, trap_name, ending_words, ending_line};
+ghost use Rattle.pra_tool.specs.Texts.{event_text, output_text, trap_name, ending_words, ending_line, lexical_line, place_text, count_line, fault_line};
 
+use crate::source_fault::{LimitFault, ReadFault, SourceFault};
 use ia_step::{Ending, RunOut};
-use pra_base::{OutEvent, OutOfMemory, TrapKind};
+use ob_lex::LexFault;
+use pra_base::{LimitKind, OutEvent, OutOfMemory, TrapKind};
 use std::alloc::{AllocError, Global};
 use std::fmt::Write;
 
@@ -57,4 +59,54 @@ fn ending_words(ending: Ending) -> &'static str
         Ending::Trap(TrapKind::Stack) => "trap Stack",
         Ending::Fault(_) => "",
     }
+}
+
+/// The line that tells what is wrong with a source.
+///
+/// # Errors
+///
+/// Where there is no memory for the line.
+pub fn fault_line(alloc: Global, fault: ReadFault) -> Result<String, AllocError>
+    ensures { IfOk result (λ line. string_bytes line ≡ fault_line fault) }
+{
+    match fault {
+        ReadFault::Source(SourceFault::Lex(fault)) => lexical_line(alloc, fault),
+        ReadFault::Source(SourceFault::Grammar(token, at)) => {
+            place_line(alloc, "fault grammar token ", token, at)
+        }
+        ReadFault::Limit(LimitFault::Count(kind, count)) => count_line(alloc, kind, count),
+        ReadFault::Limit(LimitFault::Depth(token, at)) => {
+            place_line(alloc, "limit depth token ", token, at)
+        }
+        ReadFault::Unbuilt => String::from_str(alloc, "fault unbuilt\n"),
+        ReadFault::OutOfMemory => Ok(String::new(alloc)),
+    }
+}
+
+fn lexical_line(alloc: Global, fault: LexFault) -> Result<String, AllocError>
+    ensures { IfOk result (λ line. string_bytes line ≡ lexical_line fault) }
+{
+    match fault {
+        LexFault::BadByte(at) => format!(in alloc; "fault bad-byte at {at}\n"),
+        LexFault::OpenComment(at) => format!(in alloc; "fault open-comment at {at}\n"),
+        LexFault::NumberTooLarge(at) => format!(in alloc; "fault number-too-large at {at}\n"),
+        LexFault::TokensOver(_) | LexFault::OutOfMemory => Ok(String::new(alloc)),
+    }
+}
+
+fn count_line(alloc: Global, kind: LimitKind, count: u64) -> Result<String, AllocError>
+    ensures { IfOk result (λ line. string_bytes line ≡ count_line kind count) }
+{
+    match kind {
+        LimitKind::Source => format!(in alloc; "limit source count {count} maximum 1048576\n"),
+        LimitKind::Tokens => format!(in alloc; "limit tokens count {count} maximum 65536\n"),
+        _ => Ok(String::new(alloc)),
+    }
+}
+
+fn place_line(alloc: Global, words: &str, token: u32, at: u32) -> Result<String, AllocError>
+    ensures { IfOk result (λ line. string_bytes line ≡ words.now ++ place_text token at) }
+{
+    let line = format!(in alloc; "{words}{token} at {at}\n")?;
+    Ok(line)
 }

@@ -1,19 +1,21 @@
 // The call that does all that the program does.
 
-ghost use Rattle.std.specs.Prelude.{◌≡◌, ◌≤◌, ℕ, List, codes, IfOk, IsErrOf, length};
-ghost use Rattle.pra_tool.specs.declared.tool.Refusal.TheVariants.{OutOfMemory};
+ghost use Rattle.std.specs.Prelude.{◌≡◌, ◌≢◌, ◌≤◌, ◌⊎◌, ℕ, List, codes, IfOk, IfErr, length};
 ghost use Rattle.pra_tool.specs.Outside.{Seen, Told, Wrote};
-ghost use Rattle.pra_tool.specs.Clause.{IsUnbuilt, IsEnding, IsStatusOf, RunMode, Promise, Reports};
+ghost use Rattle.ob_lex.specs.Scanning.{most_bytes};
+ghost use Rattle.pra_tool.specs.Source.{IsCause};
+ghost use Rattle.pra_tool.specs.Texts.{fault_line};
+ghost use Rattle.pra_tool.specs.Clause.{IsEnding, IsStatusOf, RunMode, Promise, Reports, fault_status};
 ghost use Rattle.pra_tool.specs.Words.{Asked, asked_of, texts};
 
 use crate::compile::compile_small;
-use crate::read_fault::ReadFault;
-use crate::reader::{MAX_SOURCE, read_small};
-use crate::texts::{ending_line, output_text};
+use crate::reader::{MAX_SOURCE, read_source};
+use crate::source_fault::{LimitFault, ReadFault};
+use crate::texts::{ending_line, fault_line, output_text};
 use crate::words::{IMAGE, read_words};
 use ia_asm::image_bytes;
 use ia_step::{Ending, Machine};
-use pra_base::OutOfMemory;
+use pra_base::LimitKind;
 use pra_io::{FileFault, Folder, Sink, Source, write_all};
 use std::alloc::Global;
 
@@ -25,6 +27,8 @@ const TRAPPED: u8 = 1;
 const GOING: u8 = 2;
 
 const BAD_SOURCE: u8 = 3;
+
+const OVER_LIMIT: u8 = 4;
 
 const FAULT: u8 = 5;
 
@@ -41,13 +45,14 @@ const NO_MEMORY: u8 = 8;
 /// |---|---|---|
 /// | 0 | the image ended within the steps | the ending line |
 /// | 2 | the image is still going after the steps | the ending line |
-/// | 3 | FILE is no small module | `fault unbuilt` |
+/// | 3 | FILE is no module, or none that is small | `fault bad-byte at A`, `fault open-comment at A`, `fault number-too-large at A`, `fault grammar token T at A`, `fault unbuilt` |
+/// | 4 | FILE goes beyond a limit | `limit source count 1048577 maximum 1048576`, `limit tokens count C maximum 65536`, `limit depth token T at A` |
 /// | 5 | reading FILE, or writing the image or out, failed | `fault read file`, `fault write file`, `fault write out` |
 /// | 5 | writing notes failed | none |
 /// | 6 | the words are refused | `fault words` and the usage line |
 /// | 8 | want of memory; nothing was written | none |
 ///
-/// Nothing is taken from the input.
+/// A counts bytes and T tokens from 0; behind the last token A is the length of FILE. Nothing is taken from the input.
 pub fn run_tool<D: Folder, I: Source, O: Sink, N: Sink>(
     alloc: Global,
     words: &[String],
@@ -87,22 +92,18 @@ fn run_file<D: Folder, O: Sink, N: Sink>(
     let source = match folder.read_file(alloc, name, MAX_SOURCE) {
         Ok(source) => source,
         Err(FileFault::OutOfMemory) => return NO_MEMORY,
-        Err(FileFault::TooLong) => return refuse(notes, BAD_SOURCE, "fault unbuilt\n"),
+        Err(FileFault::TooLong) => return refuse_source(alloc, notes, SOURCE_OVER),
         Err(FileFault::Failed) => return refuse(notes, FAULT, "fault read file\n"),
     };
     match make_report(alloc, &source, steps) {
         Ok(report) => write_report(alloc, &report, folder, out, notes),
-        Err(Refusal::Unbuilt) => refuse(notes, BAD_SOURCE, "fault unbuilt\n"),
-        Err(Refusal::OutOfMemory) => NO_MEMORY,
+        Err(fault) => refuse_source(alloc, notes, fault),
     }
 }
 
-/// Why there is nothing to write.
-#[derive(Clone, Copy, Debug, PartialEq, Eq)]
-enum Refusal {
-    Unbuilt,
-    OutOfMemory,
-}
+// One byte more than a source may have was read.
+const SOURCE_OVER: ReadFault =
+    ReadFault::Limit(LimitFault::Count(LimitKind::Source, MAX_SOURCE as u64 + 1));
 
 /// All that a run writes, made before the first write.
 #[derive(Drop)]
@@ -113,25 +114,13 @@ struct Report {
     status: u8,
 }
 
-impl From<OutOfMemory> for Refusal {
-    ghost from_gives = { λ _ refusal. refusal ≡ OutOfMemory };
-
-    fn from(_: OutOfMemory) -> Refusal {
-        Refusal::OutOfMemory
-    }
-}
-
 // Compiles the source, runs the image and makes the texts.
-fn make_report(alloc: Global, source: &[u8], steps: u32) -> Result<Report, Refusal>
-    requires { length source.now ≤ 1048576 }
+fn make_report(alloc: Global, source: &[u8], steps: u32) -> Result<Report, ReadFault>
+    requires { length source.now ≤ most_bytes }
     ensures made { IfOk result (λ report. Reports source.now steps report.image.items report.output.items report.ending.items report.status) }
-    ensures unbuilt { IsErrOf result Refusal.Unbuilt → IsUnbuilt source.now }
+    ensures cause { IfErr result (λ fault. fault ≢ ReadFault.OutOfMemory → IsCause source.now fault) }
 {
-    let small = match read_small(alloc, source) {
-        Ok(small) => small,
-        Err(ReadFault::NotSmall) => return Err(Refusal::Unbuilt),
-        Err(ReadFault::OutOfMemory) => return Err(Refusal::OutOfMemory),
-    };
+    let small = read_source(alloc, source)?;
     let image = compile_small(alloc, &small)?;
     let mut machine = Machine::load(alloc, &image, Vec::new(alloc))?;
     let run = machine.run(alloc, steps)?;
@@ -192,4 +181,21 @@ fn refuse<N: Sink>(notes: &mut N, status: u8, lines: &str) -> u8
 {
     let _ = write_all(notes, lines.as_bytes());
     status
+}
+
+// Writes what is wrong with a source.
+fn refuse_source<N: Sink>(alloc: Global, notes: &mut N, fault: ReadFault) -> u8
+    ensures known { (result ≡ fault_status fault) ⊎ (result ≡ 8) }
+    ensures told { result ≢ 8 → Told (fault_line fault) (N.bytes notes.old) (N.bytes notes.new) (N.faults notes.old) (N.faults notes.new) }
+    ensures memory { result ≡ 8 → notes.new ≡ notes.old }
+{
+    let status = match fault {
+        ReadFault::Source(_) | ReadFault::Unbuilt => BAD_SOURCE,
+        ReadFault::Limit(_) => OVER_LIMIT,
+        ReadFault::OutOfMemory => return NO_MEMORY,
+    };
+    match fault_line(alloc, fault) {
+        Ok(line) => refuse(notes, status, line.as_str()),
+        Err(_) => NO_MEMORY,
+    }
 }

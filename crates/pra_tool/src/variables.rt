@@ -1,6 +1,6 @@
 // The variables of a small module, by their names.
 
-ghost use Rattle.std.specs.Prelude.{◌≡◌, ◌<◌, ◌++◌, [], ◌∷◌, length, slice_index_or, Contains, MatchOption, MatchResult, MatchBool};
+ghost use Rattle.std.specs.Prelude.{◌≡◌, ◌<◌, ◌++◌, [], ◌∷◌, length, slice_index_or, position, bytes_eq, Contains, MatchOption, MatchResult, MatchBool};
 
 use indexmap::IndexSet;
 use std::alloc::{AllocFailed, Global};
@@ -39,7 +39,8 @@ impl<'a> Variables<'a> {
 
     /// The number of a variable.
     pub fn number_of(&self, name: &[u8]) -> Option<usize>
-        ensures { MatchOption result (Contains self.now name.now → ⊥) (λ x. (x < length self.now) × (slice_index_or self.now x [] ≡ name.now)) }
+        ensures place { result ≡ position (bytes_eq name.now) self.now }
+        ensures named { MatchOption result (Contains self.now name.now → ⊥) (λ x. (x < length self.now) × (slice_index_or self.now x [] ≡ name.now)) }
     {
         self.names.get_index_of(name)
     }

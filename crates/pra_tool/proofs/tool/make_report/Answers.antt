@@ -7,15 +7,12 @@ use Rattle.pra_tool.specs.Texts.{output_text, ending_line}
 use Rattle.pra_tool.proofs.Endings.{ends, is_ending, status_known}
 use Rattle.pra_tool.proofs.tool.make_report.Goals as goal
 
-pub returns-in-Err-NotSmall-clause-unbuilt : goal.returns-in-Err-NotSmall-clause-unbuilt
-returns-in-Err-NotSmall-clause-unbuilt c = λ e small is. c.in-Err-NotSmall.ensures.none (search rules) small is
-
 pub status-status-requires : goal.status-status-requires
 status-status-requires c =
     let image = c.in_ok-image.image in
     let loaded = c.in_ok-machine.ensures ∙ ap (start image) c.new.ensures.items in
     let run : c.in_ok-run.run' ≡ run_of image c.args.steps = c.in_ok-run.ensures.told ∙ ap (λ s. told s (ran s c.args.steps)) loaded in
-    subst (λ r. IsEnding r.ending) (sym run) (is_ending _ (ends c.in-Ok.small image (c.in_ok-image.ensures.agree []) c.args.steps))
+    subst (λ r. IsEnding r.ending) (sym run) (is_ending _ (ends c.in_ok-small.small image (c.in_ok-image.ensures.agree []) c.args.steps))
 
 pub returns-clause-made : goal.returns-clause-made
 returns-clause-made c =
@@ -25,10 +22,10 @@ returns-clause-made c =
     let ended : IsStatusOf (run_of image c.args.steps).ending c.status-status.result = subst (λ r. IsStatusOf r.ending c.status-status.result) run c.status-status.ensures in
     record {
       image = image;
-      made = record { small = c.in-Ok.small; is_small = c.in-Ok.ensures.found; valid = c.in_ok-image.ensures.valid; agrees = (c.in_ok-image.ensures.agree []) };
+      made = record { small = c.in_ok-small.small; is_small = c.in_ok-small.ensures.found; valid = c.in_ok-image.ensures.valid; agrees = (c.in_ok-image.ensures.agree []) };
       bytes = c.in_ok-image_bytes.ensures;
       output_is = c.in_ok-output_text.ensures ∙ ap output_text c.as_slice.ensures ∙ ap (λ r. output_text r.events) run;
       ending_is = c.in_ok-ending_line.ensures ∙ ap ending_line run;
       ended = ended;
-      known = status_known _ _ (ends c.in-Ok.small image (c.in_ok-image.ensures.agree []) c.args.steps) ended;
+      known = status_known _ _ (ends c.in_ok-small.small image (c.in_ok-image.ensures.agree []) c.args.steps) ended;
     }

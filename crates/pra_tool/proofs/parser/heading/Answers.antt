@@ -1,7 +1,0 @@
-use Rattle.std.proofs.lemmas.Result.{err_from_is_err_and}
-use Rattle.pra_tool.proofs.parser.heading.Goals as goal
-
-pub returns-in_err-word : goal.returns-in_err-word
-returns-in_err-word c =
-    let p = err_from_is_err_and c.from_residual.result c.from_residual.ensures.1 in
-    rw p.1 (λ name rest is_name e. c.in_err-word.ensures _ e)
