@@ -19,7 +19,10 @@ use Rattle.pra_base.specs.declared.code.End.TheVariants.{Jump, Branch, Return}
 use Rattle.pra_base.specs.declared.code.VProc.{VProc}
 use Rattle.pra_base.specs.declared.code.VModule.{VModule}
 use Rattle.pra_base.specs.Code.{instr_at, end_of}
-use Rattle.vc_code.specs.Value.{Object, Value, Num, At, Held, signed, is_positive, is_index, word_at}
+use Rattle.vc_code.specs.declared.value.Object.{Object}
+use Rattle.vc_code.specs.declared.value.Value.{Value}
+use Rattle.vc_code.specs.declared.value.Value.TheVariants.{Num, At}
+use Rattle.vc_code.specs.Value.{Held, signed, is_positive, is_index, word_at}
 use Rattle.vc_code.specs.Selected.{stack_limit, World, Live, State, view, stuck, given, numbered, addressed, based, indexed, placed, loaded, stored, both, computes, reads_input, returned, branched, read, puts, perform, leave, act, act_on, step, vrun, start, world}
 
 record Grows (s t : State) : Type 0 where

@@ -21,7 +21,11 @@ use Rattle.pra_base.specs.declared.code.End.TheVariants.{Jump, Branch, Return}
 use Rattle.pra_base.specs.declared.code.VProc.{VProc}
 use Rattle.pra_base.specs.declared.code.VModule.{VModule}
 use Rattle.pra_base.specs.Code.{kind_of, end_of, instr_at}
-use Rattle.vc_code.specs.Value.{Object, Data, Aggregates, Cell, is_of_call, Value, Num, At, Held, Words, word, signed, sum32, diff32, product32, quotient32, remainder32, is_positive, is_index, decides, truth, word_at, with_word}
+use Rattle.vc_code.specs.declared.value.Object.{Object}
+use Rattle.vc_code.specs.declared.value.Object.TheVariants.{Data, Aggregates, Cell}
+use Rattle.vc_code.specs.declared.value.Value.{Value}
+use Rattle.vc_code.specs.declared.value.Value.TheVariants.{Num, At}
+use Rattle.vc_code.specs.Value.{is_of_call, Held, Words, word, signed, sum32, diff32, product32, quotient32, remainder32, is_positive, is_index, decides, truth, word_at, with_word}
 
 -- how many bytes the frames of live calls may have together
 abbrev pub stack_limit : ℕ

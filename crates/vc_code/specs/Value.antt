@@ -3,14 +3,10 @@ use Rattle.std.specs.Prelude.{ℕ, ◌+◌, ◌-◌, ◌*◌, ◌^◌, ◌%◌, 
 use Rattle.std.specs.Int.{w32, cast_signed, cast_unsigned}
 use Rattle.pra_base.specs.declared.ids.Cond.{Cond}
 use Rattle.pra_base.specs.declared.ids.Cond.TheVariants.{B, Ae, E, Ne, Be, A, S, Ns, L, Ge, Le, G}
-
--- The module's data; the aggregates of a live call, by the number of live calls below it and the sum of its frame and of the frames below; an
--- argument of a live call, by that number, the sum of the frames below it, and the argument. The number keeps live calls apart also where
--- frames are 0.
-pub data Object : Type 0 where
-  Data : Object
-  Aggregates : (calls sum : ℕ) → Object
-  Cell : (calls below argument : ℕ) → Object
+use Rattle.vc_code.specs.declared.value.Object.{Object}
+use Rattle.vc_code.specs.declared.value.Object.TheVariants.{Data, Aggregates, Cell}
+use Rattle.vc_code.specs.declared.value.Value.{Value}
+use Rattle.vc_code.specs.declared.value.Value.TheVariants.{Num}
 
 abbrev pub same_object : Object → Object → Bool
 same_object Data Data = true
@@ -23,11 +19,6 @@ abbrev pub is_of_call : ℕ → Object → Bool
 is_of_call calls Data = false
 is_of_call calls (Aggregates c s) = nat_eq c calls
 is_of_call calls (Cell c s i) = nat_eq c calls
-
--- A number is below 2 ^ 32; an address has a byte offset below 2 ^ 32.
-pub data Value : Type 0 where
-  Num : ℕ → Value
-  At : Object → ℕ → Value
 
 -- what a register, a slot, a variable or a word has; None holds nothing
 abbrev pub Held : Type 0

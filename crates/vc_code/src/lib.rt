@@ -6,6 +6,8 @@ pub mod near;
 pub mod row;
 #[cfg(test)]
 mod tests;
+pub mod value;
 
 pub use near::is_near;
 pub use row::{OperandRow, Role, operands};
+pub use value::{Held, Object, Value};
