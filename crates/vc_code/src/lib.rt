@@ -1,13 +1,18 @@
 //! Selected code as it is asked about: the operands of an instruction, and whether a procedure is near.
 #![tactic(auto)]
 
+mod frame;
 pub mod laws;
+mod live;
 pub mod near;
+pub mod outcome;
 pub mod row;
 #[cfg(test)]
 mod tests;
 pub mod value;
+mod variables;
 
 pub use near::is_near;
+pub use outcome::{Ending, Outcome};
 pub use row::{OperandRow, Role, operands};
 pub use value::{Held, Object, Value};
