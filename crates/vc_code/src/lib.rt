@@ -4,8 +4,10 @@
 mod frame;
 pub mod laws;
 mod live;
+mod machine;
 pub mod near;
 pub mod outcome;
+mod program;
 pub mod row;
 #[cfg(test)]
 mod tests;
