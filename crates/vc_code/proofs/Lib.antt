@@ -1,3 +1,4 @@
 pub mod Holdings
+pub mod Seats
 pub mod SelectedGrows
 pub mod Totals

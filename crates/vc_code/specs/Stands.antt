@@ -1,11 +1,11 @@
 -- What the executable machine's finite parts stand for in the definition.
-use Rattle.std.specs.Prelude.{◌≡◌, List, ◌++◌, ◌∷◌, map, drop, Option, Some, None, Result, Ok, Err, ℕ, nat_eq, if◌then◌else◌, [], reverse, slice_get, bit_and, bit_or, bit_xor}
+use Rattle.std.specs.Prelude.{◌≡◌, ◌≢◌, ◌/◌, slice_set, List, ◌++◌, ◌∷◌, map, drop, Option, Some, None, Result, Ok, Err, ℕ, nat_eq, if◌then◌else◌, [], reverse, slice_get, bit_and, bit_or, bit_xor}
 use Rattle.std.specs.Ordering.{nat_cmp}
 use Rattle.std.specs.BTreeMap.{get}
 use Rattle.vc_code.specs.declared.variables.Variables.{Variables}
 use Rattle.vc_code.specs.declared.frame.Frame.{Frame}
 use Rattle.vc_code.specs.declared.live.LiveCall.{LiveCall}
-use Rattle.vc_code.specs.Value.{Held, Words, sum32, diff32, product32}
+use Rattle.vc_code.specs.Value.{Held, Words, same_object, sum32, diff32, product32}
 use Rattle.vc_code.specs.declared.machine.Halt.{Halt}
 use Rattle.vc_code.specs.declared.machine.Halt.TheVariants.{Over, OutOfMemory}
 use Rattle.vc_code.specs.declared.machine.Machine.{Machine}
@@ -14,6 +14,7 @@ use Rattle.vc_code.specs.declared.machine.instructions.Operation.TheVariants as 
 use Rattle.vc_code.specs.declared.outcome.Ending.TheVariants.{Stuck}
 use Rattle.vc_code.specs.declared.value.Object.{Object}
 use Rattle.vc_code.specs.declared.value.Object.TheVariants.{Data, Aggregates, Cell}
+use Rattle.vc_code.specs.declared.value.Value.TheVariants.{Num}
 use Rattle.vc_code.specs.Outcome.{run_end, run_end_of}
 use Rattle.vc_code.specs.Selected.{State, ended, stuck, Live, cell_words}
 
@@ -37,22 +38,31 @@ pub record Becomes (old new : LiveCall) (l : Live) : Type 0 where
   pub live : live_of new ≡ l
   pub frame : new.frame ≡ old.frame
 
--- the words of the aggregates, and of an argument's cell, under a sum that may not be the call's
-abbrev pub aggregates_of : Frame → ℕ → Words
-aggregates_of f sum = if nat_eq sum f.sum then f.aggregates.items else []
+-- which live call an object is of
+abbrev pub number_of : Object → ℕ
+number_of Data = 0
+number_of (Aggregates calls sum) = calls
+number_of (Cell calls below i) = calls
 
-abbrev pub cell_of : Frame → ℕ → ℕ → Words
-cell_of f below i = if nat_eq below f.below then cell_words (slice_get f.arguments.items i) else []
+-- the words of an object in its call's frame
+abbrev pub own : Frame → Object → Words
+own f Data = []
+own f (Aggregates calls sum) = if nat_eq sum f.sum then f.aggregates.items else []
+own f (Cell calls below i) = if nat_eq below f.below then cell_words (slice_get f.arguments.items i) else []
 
-abbrev pub on_frame : Option Frame → (Frame → Words) → Words
-on_frame None words = []
-on_frame (Some f) words = words f
+abbrev pub on_frame : Option Frame → Object → Words
+on_frame None x = []
+on_frame (Some f) x = own f x
 
 -- the words of an object, in the module's data and the frames of live calls, the first call's first
 unfoldable pub words_in : List Held → List Frame → Object → Words
 words_in storage frames Data = storage
-words_in storage frames (Aggregates n sum) = on_frame (slice_get frames n) (λ f. aggregates_of f sum)
-words_in storage frames (Cell n below i) = on_frame (slice_get frames n) (λ f. cell_of f below i)
+words_in storage frames (Aggregates calls sum) = on_frame (slice_get frames calls) (Aggregates calls sum)
+words_in storage frames (Cell calls below i) = on_frame (slice_get frames calls) (Cell calls below i)
+
+-- of the objects of one live call only x gets a number in its word at the offset
+abbrev pub Writes : Frame → Frame → Object → ℕ → ℕ → Type 0
+Writes old new x offset n = (y : Object) → number_of y ≡ number_of x → y ≢ Data → own new y ≡ (if same_object y x then slice_set (own old y) (offset / 4) (Some (Num n)) else own old y)
 
 abbrev pub frames_of : Machine → List Frame
 frames_of m = map (λ (c : LiveCall). c.frame) m.below.items ++ m.top.frame ∷ []

@@ -1,11 +1,11 @@
 // The objects of live calls: aggregates and argument cells.
 
-ghost use Rattle.std.specs.Prelude.{◌≡◌, ◌/◌, map, replicate, slice_get, slice_set, OnOk, IfOk, Some, None};
+ghost use Rattle.std.specs.Prelude.{◌≡◌, replicate, IfOk, None};
 ghost use Rattle.vc_code.specs.Value.{word_at as word_at_of};
-ghost use Rattle.vc_code.specs.Selected.{zeroed, cell_words};
-ghost use Rattle.vc_code.specs.Stands.{aggregates_of, cell_of};
+ghost use Rattle.vc_code.specs.Selected.{zeroed};
+ghost use Rattle.vc_code.specs.Stands.{own, Writes};
 
-use crate::value::{Held, Value, set_word, word_at};
+use crate::value::{Held, Object, Value, set_word, word_at};
 use std::alloc::{AllocError, Global};
 
 /// What a live call has of the stack.
@@ -46,48 +46,54 @@ impl Frame {
         })
     }
 
-    /// The word of the aggregates that this sum names.
-    pub fn aggregate(&self, sum: u64, offset: u32) -> Option<Held>
-        ensures { result ≡ word_at_of (aggregates_of self.now sum) offset }
+    /// A word of an object of this call; an object that the sum does not name has no word.
+    pub fn word(&self, x: Object, offset: u32) -> Option<Held>
+        ensures { result ≡ word_at_of (own self.now x) offset }
     {
-        if u64::from(self.sum) == sum {
-            word_at(&self.aggregates, offset)
-        } else {
-            None
+        match x {
+            Object::Data => None,
+            Object::Aggregates { sum, .. } => {
+                if sum == u64::from(self.sum) {
+                    word_at(&self.aggregates, offset)
+                } else {
+                    None
+                }
+            }
+            Object::Cell {
+                below, argument, ..
+            } => {
+                if below == u64::from(self.below) && offset == 0 {
+                    let value = self.arguments.get(argument as usize)?;
+                    Some(Some(*value))
+                } else {
+                    None
+                }
+            }
         }
     }
 
-    /// The word of the argument's cell that this sum names.
-    pub fn cell(&self, below: u64, argument: u32, offset: u32) -> Option<Held>
-        ensures { result ≡ word_at_of (cell_of self.now below argument) offset }
-    {
-        if u64::from(self.below) == below && offset == 0 {
-            let value = self.arguments.get(argument as usize)?;
-            Some(Some(*value))
-        } else {
-            None
-        }
-    }
-
-    /// Writes a number into the aggregates.
-    pub fn set_aggregate(&mut self, offset: u32, n: u32)
-        ensures aggregates { self.new.aggregates.items ≡ slice_set self.old.aggregates.items (offset / 4) (Some (Value.Num n)) }
+    /// Writes a number into a word of an object of this call.
+    pub fn write(&mut self, x: Object, offset: u32, n: u32)
+        ensures words { Writes self.old self.new x offset n }
         ensures sum { self.new.sum ≡ self.old.sum }
-        ensures below { self.new.below ≡ self.old.below }
-        ensures arguments { self.new.arguments ≡ self.old.arguments }
     {
-        set_word(&mut self.aggregates, offset, n);
-    }
-
-    /// Writes a number into an argument's cell.
-    pub fn set_cell(&mut self, argument: u32, n: u32)
-        ensures arguments { self.new.arguments.items ≡ slice_set self.old.arguments.items argument (Value.Num n) }
-        ensures sum { self.new.sum ≡ self.old.sum }
-        ensures below { self.new.below ≡ self.old.below }
-        ensures aggregates { self.new.aggregates ≡ self.old.aggregates }
-    {
-        if (argument as usize) < self.arguments.len() {
-            self.arguments[argument as usize] = Value::Num(n);
+        match x {
+            Object::Data => {}
+            Object::Aggregates { sum, .. } => {
+                if sum == u64::from(self.sum) {
+                    set_word(&mut self.aggregates, offset, n);
+                }
+            }
+            Object::Cell {
+                below, argument, ..
+            } => {
+                if below == u64::from(self.below)
+                    && offset / 4 == 0
+                    && (argument as usize) < self.arguments.len()
+                {
+                    self.arguments[argument as usize] = Value::Num(n);
+                }
+            }
         }
     }
 

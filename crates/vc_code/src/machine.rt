@@ -16,7 +16,9 @@ use pra_base::{OutEvent, VProc, VarId, VarKind};
 use pra_list::Seq;
 use std::alloc::AllocError;
 
+mod addresses;
 mod instructions;
+mod objects;
 
 /// Why a step does not go on.
 #[derive(Clone, Copy, Debug, PartialEq, Eq)]
@@ -65,7 +67,7 @@ fn kind(code: &VProc, var: VarId) -> VarKind
 impl Machine {
     // ---- what is read
 
-    fn read(&self, code: &VProc, var: VarId) -> Held
+    pub fn read(&self, code: &VProc, var: VarId) -> Held
         ensures { result ≡ read_of code.now (live_of self.now.top) var }
     {
         match kind(code, var) {
@@ -74,13 +76,13 @@ impl Machine {
         }
     }
 
-    fn value(&self, code: &VProc, var: VarId) -> Result<Value, Halt>
+    pub fn value(&self, code: &VProc, var: VarId) -> Result<Value, Halt>
         ensures { Gives result (state_of self.now) (λ go. given (read_of code.now (live_of self.now.top) var) (stuck (state_of self.now)) go) }
     {
         self.read(code, var).ok_or(STUCK)
     }
 
-    fn number(&self, code: &VProc, var: VarId) -> Result<u32, Halt>
+    pub fn number(&self, code: &VProc, var: VarId) -> Result<u32, Halt>
         ensures { Gives result (state_of self.now) (λ go. numbered (read_of code.now (live_of self.now.top) var) (stuck (state_of self.now)) go) }
     {
         match self.read(code, var) {
@@ -91,7 +93,7 @@ impl Machine {
 
     // ---- what changes
 
-    fn put(&mut self, var: VarId, value: Value) -> Result<(), Halt>
+    pub fn put(&mut self, var: VarId, value: Value) -> Result<(), Halt>
         requires { self.old.top.index < usize.MAX }
         ensures { Performs (state_of self.old) (state_of self.new) result (puts (state_of self.old) var value) }
     {
