@@ -1,3 +1,4 @@
+pub mod Calls
 pub mod Holdings
 pub mod Seats
 pub mod SelectedGrows

@@ -72,7 +72,7 @@ words-push storage frames f (Aggregates n sum) = ap (λ o. on_frame o (Aggregate
 words-push storage frames f (Cell n b i) = ap (λ o. on_frame o (Cell n b i)) (get-push frames f n) ∙ seat (nat_eq n (length frames)) f (slice_get frames n) (Cell n b i)
 
 -- no object is of a call that isn't live
-past : (storage : List Held) (frames : List Frame) (x : Object) → is_of_call (length frames) x ≡ true → words_in storage frames x ≡ []
+pub past : (storage : List Held) (frames : List Frame) (x : Object) → is_of_call (length frames) x ≡ true → words_in storage frames x ≡ []
 unfolding words_in
 past storage frames Data of = cc
 past storage frames (Aggregates n sum) of = let e : n ≡ length frames = grind (arith, nat_tests) in ap (λ o. on_frame o (Aggregates n sum)) (slice_get_past frames n (omega (arith, e)))

@@ -1,6 +1,6 @@
 // A live call.
 
-ghost use Rattle.std.specs.Prelude.{◌≡◌, ◌<◌, IfOk, OnOk, None, replicate, reverse};
+ghost use Rattle.std.specs.Prelude.{◌≡◌, ◌<◌, IfOk, OnOk, None, suc, replicate, reverse};
 ghost use Rattle.vc_code.specs.Selected.{first_of_call, next as next_of, put as put_of, compare as compare_of, push as push_of, jump as jump_of, waits};
 ghost use Rattle.vc_code.specs.Stands.{live_of, Becomes};
 
@@ -77,6 +77,19 @@ impl LiveCall {
         self.variables.set(var.0 as usize, value)?;
         self.next();
         Ok(())
+    }
+
+    /// Writes one variable, then the other.
+    ///
+    /// # Errors
+    ///
+    /// Where there is no memory for the variables.
+    pub fn put_both(&mut self, q: VarId, a: Value, r: VarId, b: Value) -> Result<(), AllocError>
+        requires { self.old.index < usize.MAX }
+        ensures { OnOk result (Becomes self.old self.new (record (put_of (put_of (live_of self.old) q a) r b) { index = suc self.old.index })) }
+    {
+        self.variables.set(q.0 as usize, a)?;
+        self.put(r, b)
     }
 
     pub fn compare(&mut self, a: u32, b: u32)

@@ -14,9 +14,10 @@ use crate::outcome::Ending;
 use crate::value::{Held, Object, Value, set_word, word, word_at};
 use pra_base::{OutEvent, VProc, VarId, VarKind};
 use pra_list::Seq;
-use std::alloc::AllocError;
+use std::alloc::{AllocError, AllocFailed};
 
 mod addresses;
+mod calls;
 mod instructions;
 mod objects;
 
@@ -36,6 +37,17 @@ impl From<AllocError> for Halt {
     ghost from_gives = { λ _ halt. halt ≡ OutOfMemory };
 
     fn from(_: AllocError) -> Self {
+        Halt::OutOfMemory
+    }
+}
+
+impl<T: Drop> From<AllocFailed<T>> for Halt {
+    ghost use Rattle.std.specs.Prelude.{◌≡◌};
+    ghost use Rattle.vc_code.specs.declared.machine.Halt.TheVariants.{OutOfMemory};
+
+    ghost from_gives = { λ _ halt. halt ≡ OutOfMemory };
+
+    fn from(_: AllocFailed<T>) -> Self {
         Halt::OutOfMemory
     }
 }

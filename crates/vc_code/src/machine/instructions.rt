@@ -1,18 +1,19 @@
 // What each instruction does.
 
-ghost use Rattle.std.specs.Prelude.{◌≡◌, ◌<◌};
-ghost use Rattle.vc_code.specs.Selected.{with_top, read as read_of, stuck, given, numbered, computes, both as both_of, divided, next as next_of, push as push_of, compare as compare_of};
+ghost use Rattle.std.specs.Prelude.{◌≡◌, ◌<◌, if◌then◌else◌};
+ghost use Rattle.pra_base.specs.RunEnd.{Trapped};
+ghost use Rattle.vc_code.specs.Selected.{ended, calls_below, cleared, with_top, read as read_of, stuck, given, numbered, computes, both as both_of, divided, next as next_of, push as push_of, compare as compare_of};
 ghost use Rattle.vc_code.specs.Selected.{placed, based, indexed, loaded, stored, puts, entered, returned, reads_input, wrote, perform as perform_of, jump as jump_of, branched, leave as leave_of};
-ghost use Rattle.vc_code.specs.Value.{is_index as is_index_of, is_positive as is_positive_of, decides as decides_of, truth as truth_of, diff32};
+ghost use Rattle.vc_code.specs.Value.{is_index as is_index_of, is_positive as is_positive_of, decides as decides_of, truth as truth_of, diff32, signed as signed_of, word_at as word_at_of};
 ghost use Rattle.vc_code.specs.Stands.{live_of, result_of, state_of, Performs, Gives};
 
 use super::{Halt, Machine, STUCK};
 use crate::outcome::Ending;
 use crate::value::{
-    Value, decides, difference, is_index, is_positive, product, quotient, remainder, signed, sum,
+    Object, Value, decides, difference, is_index, is_positive, product, quotient, remainder, signed, sum,
     truth, word,
 };
-use pra_base::{Cond, OutEvent, TrapKind, VProc, VarId};
+use pra_base::{Addr, Cond, OutEvent, TrapKind, VProc, VarId};
 
 /// An operation of two numbers.
 #[derive(Clone, Copy, Debug, PartialEq, Eq)]
@@ -96,5 +97,163 @@ impl Machine {
         let a = self.number(code, x)?;
         let b = self.number(code, y)?;
         self.put(v, Value::Num(truth(decides(cond, a, b))))
+    }
+
+    fn divide(
+        &mut self,
+        code: &VProc,
+        q: VarId,
+        r: VarId,
+        x: VarId,
+        y: VarId,
+    ) -> Result<(), Halt>
+        requires { self.old.top.index < usize.MAX }
+        ensures { Performs (state_of self.old) (state_of self.new) result (both_of code.now (state_of self.old) x y (λ a d. divided (state_of self.old) q r a d)) }
+    {
+        let a = self.number(code, x)?;
+        let d = self.number(code, y)?;
+        if !is_positive(d) {
+            return Err(STUCK);
+        }
+        self.top.put_both(
+            q,
+            Value::Num(quotient(a, d)),
+            r,
+            Value::Num(remainder(a, d)),
+        )?;
+        Ok(())
+    }
+
+    fn check(&mut self, code: &VProc, i: VarId, n: i32) -> Result<(), Halt>
+        requires { self.old.top.index < usize.MAX }
+        ensures { Performs (state_of self.old) (state_of self.new) result (numbered (read_of code.now (live_of self.old.top) i) (stuck (state_of self.old)) (λ a. if is_index_of a n then with_top (state_of self.old) (next_of (live_of self.old.top)) else ended (state_of self.old) (Trapped TrapKind.Index))) }
+    {
+        let a = self.number(code, i)?;
+        if !is_index(a, n) {
+            return Err(Halt::Over(Ending::Trap(TrapKind::Index)));
+        }
+        self.top.next();
+        Ok(())
+    }
+
+    fn check_positive(&mut self, code: &VProc, d: VarId) -> Result<(), Halt>
+        requires { self.old.top.index < usize.MAX }
+        ensures { Performs (state_of self.old) (state_of self.new) result (numbered (read_of code.now (live_of self.old.top) d) (stuck (state_of self.old)) (λ a. if is_positive_of a then with_top (state_of self.old) (next_of (live_of self.old.top)) else ended (state_of self.old) (Trapped TrapKind.Divide))) }
+    {
+        let a = self.number(code, d)?;
+        if !is_positive(a) {
+            return Err(Halt::Over(Ending::Trap(TrapKind::Divide)));
+        }
+        self.top.next();
+        Ok(())
+    }
+
+    fn load(&mut self, code: &VProc, v: VarId, a: &Addr) -> Result<(), Halt>
+        requires { self.old.top.index < usize.MAX }
+        ensures { Performs (state_of self.old) (state_of self.new) result (placed a.now code.now (state_of self.old) (λ x o. loaded (word_at_of ((state_of self.old).objects x) o) (stuck (state_of self.old)) (λ n. puts (state_of self.old) v (Value.Num n)))) }
+    {
+        let (x, offset) = self.place(code, a)?;
+        self.load_word(v, x, offset)
+    }
+
+    fn number_at(&self, x: Object, offset: u32) -> Result<u32, Halt>
+        ensures { Gives result (state_of self.now) (λ go. loaded (word_at_of ((state_of self.now).objects x) offset) (stuck (state_of self.now)) go) }
+    {
+        match self.word(x, offset) {
+            Some(Some(Value::Num(n))) => Ok(n),
+            _ => Err(STUCK),
+        }
+    }
+
+    fn load_word(&mut self, v: VarId, x: Object, offset: u32) -> Result<(), Halt>
+        requires { self.old.top.index < usize.MAX }
+        ensures { Performs (state_of self.old) (state_of self.new) result (loaded (word_at_of ((state_of self.old).objects x) offset) (stuck (state_of self.old)) (λ n. puts (state_of self.old) v (Value.Num n))) }
+    {
+        let n = self.number_at(x, offset)?;
+        self.put(v, Value::Num(n))
+    }
+
+    fn store(&mut self, code: &VProc, a: &Addr, y: VarId) -> Result<(), Halt>
+        requires { self.old.top.index < usize.MAX }
+        ensures { Performs (state_of self.old) (state_of self.new) result (placed a.now code.now (state_of self.old) (λ x o. numbered (read_of code.now (live_of self.old.top) y) (stuck (state_of self.old)) (λ n. stored (word_at_of ((state_of self.old).objects x) o) (state_of self.old) x o n))) }
+    {
+        let (x, offset) = self.place(code, a)?;
+        self.store_word(code, x, offset, y)
+    }
+
+    fn store_word(
+        &mut self,
+        code: &VProc,
+        x: Object,
+        offset: u32,
+        y: VarId,
+    ) -> Result<(), Halt>
+        requires { self.old.top.index < usize.MAX }
+        ensures { Performs (state_of self.old) (state_of self.new) result (numbered (read_of code.now (live_of self.old.top) y) (stuck (state_of self.old)) (λ n. stored (word_at_of ((state_of self.old).objects x) offset) (state_of self.old) x offset n)) }
+    {
+        let n = self.number(code, y)?;
+        if self.word(x, offset).is_none() {
+            return Err(STUCK);
+        }
+        self.top.next();
+        self.write(x, offset, n);
+        Ok(())
+    }
+
+    fn address(&mut self, code: &VProc, v: VarId, a: &Addr) -> Result<(), Halt>
+        requires { self.old.top.index < usize.MAX }
+        ensures { Performs (state_of self.old) (state_of self.new) result (placed a.now code.now (state_of self.old) (λ x o. puts (state_of self.old) v (Value.At x o))) }
+    {
+        let (x, offset) = self.place(code, a)?;
+        self.put(v, Value::At(x, offset))
+    }
+
+    fn push(&mut self, code: &VProc, x: VarId) -> Result<(), Halt>
+        requires { self.old.top.index < usize.MAX }
+        ensures { Performs (state_of self.old) (state_of self.new) result (given (read_of code.now (live_of self.old.top) x) (stuck (state_of self.old)) (λ a. with_top (state_of self.old) (push_of (live_of self.old.top) a))) }
+    {
+        let value = self.value(code, x)?;
+        self.top.push(value)?;
+        Ok(())
+    }
+
+    fn read_input(&mut self, v: VarId) -> Result<(), Halt>
+        requires { self.old.top.index < usize.MAX }
+        ensures { Performs (state_of self.old) (state_of self.new) result (reads_input (state_of self.old).input (state_of self.old) v) }
+    {
+        match self.input.get(self.taken) {
+            None => Err(Halt::Over(Ending::Trap(TrapKind::Input))),
+            Some(n) => {
+                let value = Value::Num(word(*n));
+                self.top.put(v, value)?;
+                self.taken += 1;
+                Ok(())
+            }
+        }
+    }
+
+    fn write_event(&mut self, event: OutEvent) -> Result<(), Halt>
+        requires { self.old.top.index < usize.MAX }
+        ensures { Performs (state_of self.old) (state_of self.new) result (wrote (state_of self.old) event) }
+    {
+        self.events.push(event)?;
+        self.top.next();
+        Ok(())
+    }
+
+    fn write_number(&mut self, code: &VProc, x: VarId) -> Result<(), Halt>
+        requires { self.old.top.index < usize.MAX }
+        ensures { Performs (state_of self.old) (state_of self.new) result (numbered (read_of code.now (live_of self.old.top) x) (stuck (state_of self.old)) (λ a. wrote (state_of self.old) (OutEvent.Number (signed_of a)))) }
+    {
+        let a = self.number(code, x)?;
+        self.write_event(OutEvent::Number(signed(a)))
+    }
+
+    fn clear_aggregates(&mut self)
+        requires { self.old.top.index < usize.MAX }
+        ensures { state_of self.new ≡ record (state_of self.old) { top = next_of (live_of self.old.top); objects = cleared (state_of self.old).objects (calls_below (state_of self.old)) (state_of self.old).top.sum } }
+    {
+        self.top.next();
+        self.clear();
     }
 }
