@@ -1,5 +1,5 @@
 -- What a call and a return do to the parts of the machine.
-use Rattle.std.proofs.Common.{◌≡◌, ℕ, suc, ◌+◌, Bool, true, false, List, [], ◌∷◌, ◌++◌, length, map, reverse, replicate, None, nat_eq, nat_lt, if◌then◌else◌, refl, sym, ap, ◌∙◌, arith, Vec, Global}
+use Rattle.std.proofs.Common.{◌≡◌, ℕ, suc, ◌+◌, Bool, true, false, List, [], ◌∷◌, ◌++◌, length, map, reverse, replicate, None, nat_lt, if◌then◌else◌, refl, sym, ap, ◌∙◌, arith, Vec, Global}
 use Rattle.std.proofs.Math.Path.{fun_ext}
 use Rattle.std.proofs.lemmas.List.{reverse-append, map-append, length-append, length-map, length-reverse}
 use Rattle.pra_base.specs.declared.code.VProc.{VProc}
@@ -10,7 +10,7 @@ use Rattle.vc_code.specs.declared.value.Object.{Object}
 use Rattle.vc_code.specs.declared.value.Object.TheVariants.{Data, Aggregates, Cell}
 use Rattle.vc_code.specs.declared.value.Value.{Value}
 use Rattle.vc_code.specs.Value.{Held, Words, is_of_call}
-use Rattle.vc_code.specs.Selected.{Live, World, State, stack_limit, first_of_call, waits, with_call, without_call, own_words, is_named, entered, returned, calls_below}
+use Rattle.vc_code.specs.Selected.{World, State, stack_limit, first_of_call, waits, with_call, without_call, own_words, is_named, entered, returned, calls_below}
 use Rattle.vc_code.specs.Stands.{Becomes, live_of, own, words_in, frames_of, state_of}
 use Rattle.vc_code.proofs.Seats.{words-push, past}
 

@@ -1,5 +1,5 @@
 -- The objects of live calls, as a call begins, returns, clears, and as a word is written.
-use Rattle.std.proofs.Common.{◌≡◌, ◌≢◌, ℕ, zero, suc, ◌+◌, ◌/◌, ◌<◌, ◌≤◌, Bool, true, false, List, [], ◌∷◌, ◌++◌, length, map, reverse, Option, Some, None, nat_eq, if◌then◌else◌, refl, sym, ap, ◌∙◌, subst, arith, slice_get, slice_set, slice_index_or}
+use Rattle.std.proofs.Common.{◌≡◌, ◌≢◌, ℕ, zero, suc, ◌/◌, ◌<◌, Bool, true, false, List, [], ◌∷◌, ◌++◌, length, map, reverse, Option, Some, None, nat_eq, if◌then◌else◌, refl, sym, ap, ◌∙◌, arith, slice_get, slice_set}
 use Rattle.std.proofs.lemmas.List.{reverse-append, map-append, length-append, set-append_left}
 use Rattle.std.proofs.Math.Seq.{set-append_seam}
 use Rattle.std.proofs.Math.Path.{fun_ext}
@@ -11,7 +11,7 @@ use Rattle.vc_code.specs.declared.value.Object.{Object}
 use Rattle.vc_code.specs.declared.value.Object.TheVariants.{Data, Aggregates, Cell}
 use Rattle.vc_code.specs.declared.value.Value.TheVariants.{Num}
 use Rattle.vc_code.specs.Value.{Held, Words, same_object, is_of_call, with_word}
-use Rattle.vc_code.specs.Selected.{without_call, with_call, is_named, own_words, cleared, zeroed}
+use Rattle.vc_code.specs.Selected.{cleared, zeroed}
 use Rattle.vc_code.specs.Stands.{live_of, number_of, own, on_frame, words_in, Writes}
 
 -- ---- lists
@@ -156,7 +156,7 @@ words-data storage frames o n = fun_ext (data_at storage frames o n)
 -- ---- a frame whose aggregates are cleared
 
 module _ (storage : List Held) (frames : List Frame) (f g : Frame) (n sum : ℕ) (count : n ≡ length frames) (is_sum : sum ≡ f.sum)
-  (aggregates : g.aggregates.items ≡ zeroed f.aggregates.items) (same_sum : g.sum ≡ f.sum) (same_below : g.below ≡ f.below) (same_arguments : g.arguments.items ≡ f.arguments.items) where
+    (aggregates : g.aggregates.items ≡ zeroed f.aggregates.items) (same_sum : g.sum ≡ f.sum) (same_below : g.below ≡ f.below) (same_arguments : g.arguments.items ≡ f.arguments.items) where
   own-clear : (s : ℕ) (b c : Bool) (words : Words) → nat_eq s sum ≡ c →
       (if b then (if c then g.aggregates.items else []) else words) ≡ (if b then (if c then zeroed (if b then (if c then f.aggregates.items else []) else words) else (if b then (if c then f.aggregates.items else []) else words)) else (if b then (if c then f.aggregates.items else []) else words))
   own-clear s true true words e = aggregates

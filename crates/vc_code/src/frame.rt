@@ -60,7 +60,9 @@ impl Frame {
                 }
             }
             Object::Cell {
-                below, argument, ..
+                below,
+                argument,
+                ..
             } => {
                 if below == u64::from(self.below) && offset == 0 {
                     let value = self.arguments.get(argument as usize)?;
@@ -85,7 +87,9 @@ impl Frame {
                 }
             }
             Object::Cell {
-                below, argument, ..
+                below,
+                argument,
+                ..
             } => {
                 if below == u64::from(self.below)
                     && offset / 4 == 0

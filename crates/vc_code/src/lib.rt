@@ -9,6 +9,7 @@ pub mod near;
 pub mod outcome;
 mod program;
 pub mod row;
+pub mod run;
 #[cfg(test)]
 mod tests;
 pub mod value;
@@ -17,4 +18,5 @@ mod variables;
 pub use near::is_near;
 pub use outcome::{Ending, Outcome};
 pub use row::{OperandRow, Role, operands};
+pub use run::run_selected;
 pub use value::{Held, Object, Value};

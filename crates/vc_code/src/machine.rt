@@ -20,6 +20,7 @@ mod addresses;
 mod calls;
 mod instructions;
 mod objects;
+mod perform;
 
 /// Why a step does not go on.
 #[derive(Clone, Copy, Debug, PartialEq, Eq)]

@@ -10,8 +10,8 @@ ghost use Rattle.vc_code.specs.Stands.{live_of, result_of, state_of, Performs, G
 use super::{Halt, Machine, STUCK};
 use crate::outcome::Ending;
 use crate::value::{
-    Object, Value, decides, difference, is_index, is_positive, product, quotient, remainder, signed, sum,
-    truth, word,
+    Object, Value, decides, difference, is_index, is_positive, product, quotient, remainder,
+    signed, sum, truth, word,
 };
 use pra_base::{Addr, Cond, OutEvent, TrapKind, VProc, VarId};
 
@@ -42,7 +42,7 @@ impl Operation {
 }
 
 impl Machine {
-    fn copy(&mut self, code: &VProc, v: VarId, x: VarId) -> Result<(), Halt>
+    pub fn copy(&mut self, code: &VProc, v: VarId, x: VarId) -> Result<(), Halt>
         requires { self.old.top.index < usize.MAX }
         ensures { Performs (state_of self.old) (state_of self.new) result (given (read_of code.now (live_of self.old.top) x) (stuck (state_of self.old)) (λ a. puts (state_of self.old) v a)) }
     {
@@ -50,7 +50,7 @@ impl Machine {
         self.put(v, value)
     }
 
-    fn compute(
+    pub fn compute(
         &mut self,
         code: &VProc,
         operation: Operation,
@@ -65,7 +65,7 @@ impl Machine {
         self.put(v, Value::Num(operation.result(a, b)))
     }
 
-    fn negate(&mut self, code: &VProc, v: VarId) -> Result<(), Halt>
+    pub fn negate(&mut self, code: &VProc, v: VarId) -> Result<(), Halt>
         requires { self.old.top.index < usize.MAX }
         ensures { Performs (state_of self.old) (state_of self.new) result (numbered (read_of code.now (live_of self.old.top) v) (stuck (state_of self.old)) (λ a. puts (state_of self.old) v (Value.Num (diff32 0 a)))) }
     {
@@ -73,7 +73,7 @@ impl Machine {
         self.put(v, Value::Num(difference(0, a)))
     }
 
-    fn compare(&mut self, code: &VProc, x: VarId, y: VarId) -> Result<(), Halt>
+    pub fn compare(&mut self, code: &VProc, x: VarId, y: VarId) -> Result<(), Halt>
         requires { self.old.top.index < usize.MAX }
         ensures { Performs (state_of self.old) (state_of self.new) result (both_of code.now (state_of self.old) x y (λ a b. with_top (state_of self.old) (compare_of (live_of self.old.top) a b))) }
     {
@@ -83,7 +83,7 @@ impl Machine {
         Ok(())
     }
 
-    fn compare_set(
+    pub fn compare_set(
         &mut self,
         code: &VProc,
         cond: Cond,
@@ -99,7 +99,7 @@ impl Machine {
         self.put(v, Value::Num(truth(decides(cond, a, b))))
     }
 
-    fn divide(
+    pub fn divide(
         &mut self,
         code: &VProc,
         q: VarId,
@@ -124,7 +124,7 @@ impl Machine {
         Ok(())
     }
 
-    fn check(&mut self, code: &VProc, i: VarId, n: i32) -> Result<(), Halt>
+    pub fn check(&mut self, code: &VProc, i: VarId, n: i32) -> Result<(), Halt>
         requires { self.old.top.index < usize.MAX }
         ensures { Performs (state_of self.old) (state_of self.new) result (numbered (read_of code.now (live_of self.old.top) i) (stuck (state_of self.old)) (λ a. if is_index_of a n then with_top (state_of self.old) (next_of (live_of self.old.top)) else ended (state_of self.old) (Trapped TrapKind.Index))) }
     {
@@ -136,7 +136,7 @@ impl Machine {
         Ok(())
     }
 
-    fn check_positive(&mut self, code: &VProc, d: VarId) -> Result<(), Halt>
+    pub fn check_positive(&mut self, code: &VProc, d: VarId) -> Result<(), Halt>
         requires { self.old.top.index < usize.MAX }
         ensures { Performs (state_of self.old) (state_of self.new) result (numbered (read_of code.now (live_of self.old.top) d) (stuck (state_of self.old)) (λ a. if is_positive_of a then with_top (state_of self.old) (next_of (live_of self.old.top)) else ended (state_of self.old) (Trapped TrapKind.Divide))) }
     {
@@ -148,7 +148,7 @@ impl Machine {
         Ok(())
     }
 
-    fn load(&mut self, code: &VProc, v: VarId, a: &Addr) -> Result<(), Halt>
+    pub fn load(&mut self, code: &VProc, v: VarId, a: &Addr) -> Result<(), Halt>
         requires { self.old.top.index < usize.MAX }
         ensures { Performs (state_of self.old) (state_of self.new) result (placed a.now code.now (state_of self.old) (λ x o. loaded (word_at_of ((state_of self.old).objects x) o) (stuck (state_of self.old)) (λ n. puts (state_of self.old) v (Value.Num n)))) }
     {
@@ -173,7 +173,7 @@ impl Machine {
         self.put(v, Value::Num(n))
     }
 
-    fn store(&mut self, code: &VProc, a: &Addr, y: VarId) -> Result<(), Halt>
+    pub fn store(&mut self, code: &VProc, a: &Addr, y: VarId) -> Result<(), Halt>
         requires { self.old.top.index < usize.MAX }
         ensures { Performs (state_of self.old) (state_of self.new) result (placed a.now code.now (state_of self.old) (λ x o. numbered (read_of code.now (live_of self.old.top) y) (stuck (state_of self.old)) (λ n. stored (word_at_of ((state_of self.old).objects x) o) (state_of self.old) x o n))) }
     {
@@ -181,13 +181,7 @@ impl Machine {
         self.store_word(code, x, offset, y)
     }
 
-    fn store_word(
-        &mut self,
-        code: &VProc,
-        x: Object,
-        offset: u32,
-        y: VarId,
-    ) -> Result<(), Halt>
+    fn store_word(&mut self, code: &VProc, x: Object, offset: u32, y: VarId) -> Result<(), Halt>
         requires { self.old.top.index < usize.MAX }
         ensures { Performs (state_of self.old) (state_of self.new) result (numbered (read_of code.now (live_of self.old.top) y) (stuck (state_of self.old)) (λ n. stored (word_at_of ((state_of self.old).objects x) offset) (state_of self.old) x offset n)) }
     {
@@ -200,7 +194,7 @@ impl Machine {
         Ok(())
     }
 
-    fn address(&mut self, code: &VProc, v: VarId, a: &Addr) -> Result<(), Halt>
+    pub fn address(&mut self, code: &VProc, v: VarId, a: &Addr) -> Result<(), Halt>
         requires { self.old.top.index < usize.MAX }
         ensures { Performs (state_of self.old) (state_of self.new) result (placed a.now code.now (state_of self.old) (λ x o. puts (state_of self.old) v (Value.At x o))) }
     {
@@ -208,7 +202,7 @@ impl Machine {
         self.put(v, Value::At(x, offset))
     }
 
-    fn push(&mut self, code: &VProc, x: VarId) -> Result<(), Halt>
+    pub fn push(&mut self, code: &VProc, x: VarId) -> Result<(), Halt>
         requires { self.old.top.index < usize.MAX }
         ensures { Performs (state_of self.old) (state_of self.new) result (given (read_of code.now (live_of self.old.top) x) (stuck (state_of self.old)) (λ a. with_top (state_of self.old) (push_of (live_of self.old.top) a))) }
     {
@@ -217,7 +211,7 @@ impl Machine {
         Ok(())
     }
 
-    fn read_input(&mut self, v: VarId) -> Result<(), Halt>
+    pub fn read_input(&mut self, v: VarId) -> Result<(), Halt>
         requires { self.old.top.index < usize.MAX }
         ensures { Performs (state_of self.old) (state_of self.new) result (reads_input (state_of self.old).input (state_of self.old) v) }
     {
@@ -232,7 +226,7 @@ impl Machine {
         }
     }
 
-    fn write_event(&mut self, event: OutEvent) -> Result<(), Halt>
+    pub fn write_event(&mut self, event: OutEvent) -> Result<(), Halt>
         requires { self.old.top.index < usize.MAX }
         ensures { Performs (state_of self.old) (state_of self.new) result (wrote (state_of self.old) event) }
     {
@@ -241,7 +235,7 @@ impl Machine {
         Ok(())
     }
 
-    fn write_number(&mut self, code: &VProc, x: VarId) -> Result<(), Halt>
+    pub fn write_number(&mut self, code: &VProc, x: VarId) -> Result<(), Halt>
         requires { self.old.top.index < usize.MAX }
         ensures { Performs (state_of self.old) (state_of self.new) result (numbered (read_of code.now (live_of self.old.top) x) (stuck (state_of self.old)) (λ a. wrote (state_of self.old) (OutEvent.Number (signed_of a)))) }
     {
@@ -249,11 +243,12 @@ impl Machine {
         self.write_event(OutEvent::Number(signed(a)))
     }
 
-    fn clear_aggregates(&mut self)
+    pub fn clear_aggregates(&mut self) -> Result<(), Halt>
         requires { self.old.top.index < usize.MAX }
-        ensures { state_of self.new ≡ record (state_of self.old) { top = next_of (live_of self.old.top); objects = cleared (state_of self.old).objects (calls_below (state_of self.old)) (state_of self.old).top.sum } }
+        ensures { Performs (state_of self.old) (state_of self.new) result (record (state_of self.old) { top = next_of (live_of self.old.top); objects = cleared (state_of self.old).objects (calls_below (state_of self.old)) (state_of self.old).top.sum }) }
     {
         self.top.next();
         self.clear();
+        Ok(())
     }
 }

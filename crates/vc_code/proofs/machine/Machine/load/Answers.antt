@@ -1,9 +1,9 @@
-use Rattle.std.proofs.Common.{◌≡◌, refl}
+use Rattle.std.proofs.Common.{refl}
 use Rattle.std.proofs.lemmas.Result.{err_from_is_err_and}
 use Rattle.vc_code.specs.declared.value.Value.TheVariants.{Num}
 use Rattle.vc_code.specs.Value.{word_at}
 use Rattle.vc_code.specs.Selected.{loaded, puts, stuck}
-use Rattle.vc_code.specs.Stands.{live_of, state_of}
+use Rattle.vc_code.specs.Stands.{state_of}
 use Rattle.vc_code.proofs.machine.Machine.load.Goals as goal
 
 pub returns-in_err-x : goal.returns-in_err-x

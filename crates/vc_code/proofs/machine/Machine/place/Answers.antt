@@ -1,4 +1,4 @@
-use Rattle.std.proofs.Common.{rules, w32, FitsSigned, ◌≡◌, ◌+◌, ◌%◌, ◌^◌, ap, refl, sym, ◌∙◌}
+use Rattle.std.proofs.Common.{rules, w32, FitsSigned, ◌+◌, ◌%◌, ◌^◌, ap, sym, ◌∙◌}
 use Rattle.std.proofs.lemmas.Result.{err_from_is_err_and}
 use Rattle.std.proofs.lemmas.Int.{to_z-of_z}
 use Rattle.vc_code.specs.Value.{word}

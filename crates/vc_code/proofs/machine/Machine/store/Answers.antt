@@ -1,6 +1,5 @@
-use Rattle.std.proofs.Common.{◌≡◌, refl}
+use Rattle.std.proofs.Common.{refl}
 use Rattle.std.proofs.lemmas.Result.{err_from_is_err_and}
-use Rattle.vc_code.specs.declared.value.Value.TheVariants.{Num}
 use Rattle.vc_code.specs.Value.{word_at}
 use Rattle.vc_code.specs.Selected.{numbered, read, stored, stuck}
 use Rattle.vc_code.specs.Stands.{live_of, state_of}

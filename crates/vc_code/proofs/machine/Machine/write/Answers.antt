@@ -1,4 +1,4 @@
-use Rattle.std.proofs.Common.{◌≡◌, ◌/◌, Some, ap, refl, sym, ◌∙◌, length, slice_set}
+use Rattle.std.proofs.Common.{◌≡◌, ◌/◌, Some, ap, refl, ◌∙◌, length, slice_set}
 use Rattle.std.specs.Vec.{with_items}
 use Rattle.std.proofs.lemmas.List.{length-set}
 use Rattle.vc_code.specs.declared.value.Value.TheVariants.{Num}
