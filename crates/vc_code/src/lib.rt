@@ -1,4 +1,4 @@
-//! Selected code as it is asked about: the operands of an instruction, and whether a procedure is near.
+//! Selected code: the operands of an instruction, whether a procedure is near, and the machine that runs it.
 #![tactic(auto)]
 
 mod frame;
@@ -10,6 +10,8 @@ pub mod outcome;
 mod program;
 pub mod row;
 pub mod run;
+#[cfg(test)]
+mod run_tests;
 #[cfg(test)]
 mod tests;
 pub mod value;
