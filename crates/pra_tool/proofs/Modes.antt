@@ -11,10 +11,9 @@ use Rattle.pra_tool.specs.declared.source_fault.ReadFault.{ReadFault}
 use Rattle.pra_tool.specs.declared.source_fault.ReadFault.TheVariants as fault
 use Rattle.pra_tool.specs.Source.{IsSmall, IsCause}
 use Rattle.pra_tool.specs.Words.{Asked, image_name}
-use Rattle.pra_tool.specs.Outside.{Seen, SameFiles, OtherFiles, Refused, Untouched, Told, IfHeld, AllWritten, ImageNotWritten, OutNotWritten, NotesNotWritten, NoneFell, NoWriteFault, Wrote, FileNotRead}
-use Rattle.pra_tool.specs.Clause.{MadeOf, Reports, Performed, SourceRefused, NotWritten, RunMode, run_of, IsStatusOf, read_line, fault_status}
-use Rattle.ia_code.specs.Image.{image_bytes_of}
-use Rattle.pra_tool.specs.Texts.{output_text, ending_line, fault_line}
+use Rattle.pra_tool.specs.Outside.{Seen, SameFiles, OtherFiles, Refused, Untouched, Told, IfHeld, AllWritten, ImageNotWritten, OutNotWritten, NotesNotWritten, NoWriteFault, Wrote}
+use Rattle.pra_tool.specs.Clause.{Reports, Performed, SourceRefused, NotWritten, RunMode, run_of, IsStatusOf, fault_status}
+use Rattle.pra_tool.specs.Texts.{fault_line}
 use Rattle.pra_tool.proofs.OneAnswer.{one_fault, never_both}
 
 -- a count that rose from a moment on has risen from an earlier one on

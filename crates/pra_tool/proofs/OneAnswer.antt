@@ -1,5 +1,5 @@
 -- A source is a text of at most one small module, or has at most one fault, and never both.
-use Rattle.std.proofs.Common.{◌≡◌, ℕ, ◌+◌, ◌<◌, ◌≤◌, List, ◌++◌, length, take, drop, inl, inr, ⊎_elim, refl, sym, ap, ◌∙◌, subst, arith, append_assoc}
+use Rattle.std.proofs.Common.{◌≡◌, ℕ, ◌+◌, ◌<◌, ◌≤◌, List, ◌++◌, length, take, drop, ⊎_elim, refl, sym, ap, ◌∙◌, subst, arith, append_assoc}
 use Rattle.std.proofs.lemmas.List.{take-append-drop, take-append-le, length-take-le}
 use Rattle.std.proofs.lemmas.Bool.{cases_order}
 use Rattle.std.proofs.Math.Nat.{eq-or-lt_of_le}
@@ -14,7 +14,7 @@ use Rattle.ob_syntax.proofs.Texts.{no_fault_in_tokens, one_list, one_first_fault
 use Rattle.ob_syntax.proofs.OneTree.{one_tree}
 use Rattle.ob_lex.specs.declared.scanner.LexFault.{LexFault}
 use Rattle.ob_lex.specs.declared.scanner.LexFault.TheVariants as lex
-use Rattle.ob_lex.specs.Scanning.{most_bytes, most_tokens, fault_at}
+use Rattle.ob_lex.specs.Scanning.{most_bytes, fault_at}
 use Rattle.ob_parse.specs.declared.TheConstants.{MAX_DEPTH}
 use Rattle.ob_parse.specs.Reading.{kinds}
 use Rattle.ob_parse.specs.Whole.{IsModule, IsTreeOf, IsFront, IsPlace}
@@ -24,7 +24,7 @@ use Rattle.pra_tool.specs.declared.source_fault.LimitFault.TheVariants.{Count, D
 use Rattle.pra_tool.specs.declared.source_fault.ReadFault.{ReadFault}
 use Rattle.pra_tool.specs.declared.source_fault.ReadFault.TheVariants.{Source, Limit, Unbuilt, OutOfMemory}
 use Rattle.pra_tool.specs.SmallTree.{IsSmallTree, spelling}
-use Rattle.pra_tool.specs.Source.{IsScanned, IsParsed, IsSmall, byte_of, StopsAt, DeepensAt, IsLexical, AreTooMany, IsOver, IsStop, IsUnbuilt, IsCause}
+use Rattle.pra_tool.specs.Source.{IsScanned, IsParsed, IsSmall, byte_of, StopsAt, DeepensAt, IsLexical, AreTooMany, IsOver, IsStop, IsCause}
 
 -- ---- fronts of tokens
 
@@ -34,7 +34,7 @@ front_less room i j ks less within (more, whole) =
     let long : i ≤ length (take j ks) = omega (arith, length-take-le j ks within, less) in
     let same : take i ks ≡ take i (take j ks) = sym (ap (λ us. take i us) (take-append-drop j ks)) ∙ take-append-le i (take j ks) (drop j ks) long in
     let all : take i ks ++ (drop i (take j ks) ++ more) ≡ take j ks ++ more =
-        ap (λ us. us ++ (drop i (take j ks) ++ more)) same ∙ sym (append_assoc (take i (take j ks)) (drop i (take j ks)) more) ∙ ap (λ us. us ++ more) (take-append-drop i (take j ks)) in
+    ap (λ us. us ++ (drop i (take j ks) ++ more)) same ∙ sym (append_assoc (take i (take j ks)) (drop i (take j ks)) more) ∙ ap (λ us. us ++ more) (take-append-drop i (take j ks)) in
     (drop i (take j ks) ++ more, subst (IsModule room) (sym all) whole)
 
 front_whole : (room i : ℕ) (ks : List Kind) → IsModule room ks → IsFront room (take i ks)

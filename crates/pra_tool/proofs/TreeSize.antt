@@ -1,5 +1,5 @@
 -- How large the parts of a tree are that a small module keeps: no larger than its tokens are many.
-use Rattle.std.proofs.Common.{◌≡◌, ℕ, suc, ◌+◌, ◌≤◌, List, [], ◌∷◌, ◌++◌, length, Option, Some, None, refl, sym, ap, subst, ◌∙◌, arith, length-append}
+use Rattle.std.proofs.Common.{◌≡◌, ℕ, ◌+◌, ◌≤◌, List, [], ◌∷◌, ◌++◌, length, Option, Some, None, refl, sym, subst, arith, length-append}
 use Rattle.std.specs.Prelude.{option_to_list}
 use Rattle.ob_syntax.specs.declared.token.Kind.{Kind}
 use Rattle.ob_syntax.specs.declared.tree.Module.{Module as ModuleTree}
@@ -15,7 +15,7 @@ use Rattle.ob_syntax.specs.declared.tree.Expr.{Expr, out-Expr, out-roll-Expr}
 use Rattle.ob_syntax.specs.declared.tree.SimpleExpr.{SimpleExpr, out-SimpleExpr, out-roll-SimpleExpr}
 use Rattle.ob_syntax.specs.Grammar.{Nonterminal, Selectors, Factor, Factors, Term, Terms, Sign, SimpleExpression, Comparison, Expression, ArgumentList, Arguments, ActualParameters, Arms, Else, Action, Statement, Statements, StatementSequence, Idents, IdentList, NameList, TypeExpression, Procedures, Constants, Types, VariableList, Variables, Declarations, Body, Module, Symbol, right, name, number, parenthesis, negation, term, no_terms, next_term, simple_expression, expression, no_arguments, arguments, last_argument, next_argument, no_parameters, parameters, assignment, call, if_statement, while_statement, empty_statement, statement, last_statement, next_statement, statement_sequence, last_ident, next_ident, ident_list, name_list, last_variables, next_variables, no_variables, variables, declarations, no_body, body, a_module}
 use Rattle.ob_syntax.specs.Forms.{Form, Parts, made, done, taken, part, end, ends}
-use Rattle.ob_syntax.specs.Tree.{Tree, tree, span_to}
+use Rattle.ob_syntax.specs.Tree.{tree, span_to}
 use Rattle.ob_syntax.specs.Derives.{text, texts}
 use Rattle.ob_parse.specs.Whole.{IsTreeOf}
 

@@ -1,6 +1,6 @@
 -- The numbers that a store and a sum have fit 32 bits, and the sums of words are the words of sums.
 use Rattle.std.proofs.Common.{◌≡◌, ◌≢◌, ℕ, ◌^◌, ◌<◌, List, [], ◌∷◌, Bool, true, false, refl, sym, ap, ◌∙◌, subst, cond, arith}
-use Rattle.std.specs.Prelude.{ℤ, pos, negsuc, ◌==◌, ◌≤ℤ◌, Some, unwrap_or}
+use Rattle.std.specs.Prelude.{ℤ, pos, ◌==◌, Some, unwrap_or}
 use Rattle.std.specs.Int.{w32, cast_unsigned}
 use Rattle.std.specs.Int.RustNames.{FitsSigned}
 use Rattle.std.specs.Ordering.{nat_cmp}

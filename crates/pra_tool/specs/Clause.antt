@@ -1,5 +1,5 @@
 -- What the call that does all promises.
-use Rattle.std.specs.Prelude.{◌≡◌, ◌⊎◌, ℕ, ◌++◌, List, [], None, Some, codes, ⊤}
+use Rattle.std.specs.Prelude.{◌≡◌, ◌⊎◌, ℕ, List, [], None, Some, codes, ⊤}
 use Rattle.std.specs.declared.option.Option.{Option}
 use Rattle.pra_io.specs.Causes.{Rose}
 use Rattle.pra_io.specs.Contents.{Holds}

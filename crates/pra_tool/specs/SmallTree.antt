@@ -1,6 +1,6 @@
 -- Which trees are those of small modules, and of which. A small module declares INTEGER variables only, and its statements are assignments of
 -- sums, `Write(sum)` and `WriteLn`; a sum adds and subtracts variables and numbers.
-use Rattle.std.specs.Prelude.{◌≡◌, ◌≢◌, ℕ, ◌-◌, ◌&&◌, Bool, true, false, if◌then◌else◌, List, [], ◌∷◌, length, slice_get, take, drop, map, position, Contains, AllPairs, flat_map, codes, bytes_eq, Option, Some, None, option_map, is_none}
+use Rattle.std.specs.Prelude.{◌≡◌, ◌≢◌, ℕ, ◌-◌, ◌&&◌, Bool, true, false, List, [], ◌∷◌, length, slice_get, take, drop, map, position, Contains, AllPairs, flat_map, codes, bytes_eq, Option, Some, None, option_map, is_none}
 use Rattle.std.specs.List.{AllByRecursion as Each}
 use Rattle.ob_syntax.specs.declared.token.Kind.{Kind}
 use Rattle.ob_syntax.specs.declared.token.Kind.TheVariants as kind
@@ -77,13 +77,14 @@ plain_name text d = where_true (is_empty (out-Designator d).selectors) (Some (te
 
 abbrev pub operand : List Name → (ℕ → Name) → Factor → Option Operand
 operand names text f = elim (out-FactorForm f.form) [
-    FactorForm-F.Name d ↦ (do
-      w ← plain_name text d
-      x ← variable names w
-      Some (Variable x))
+  | FactorForm-F.Name d ↦ (do
+    w ← plain_name text d
+    x ← variable names w
+    Some (Variable x))
   | FactorForm-F.Number n ↦ Some (Number n)
   | FactorForm-F.Paren e ↦ None
-  | FactorForm-F.Not g ↦ None ]
+  | FactorForm-F.Not g ↦ None
+]
 
 -- a term that is one factor
 abbrev pub term_operand : List Name → (ℕ → Name) → Term → Option Operand

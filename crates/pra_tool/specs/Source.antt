@@ -15,9 +15,7 @@ use Rattle.ob_parse.specs.declared.TheConstants.{MAX_DEPTH}
 use Rattle.ob_parse.specs.Reading.{kinds}
 use Rattle.ob_parse.specs.Whole.{IsTreeOf, IsFront, IsPlace}
 use Rattle.pra_tool.specs.declared.small.SmallModule.{SmallModule}
-use Rattle.pra_tool.specs.declared.source_fault.SourceFault.{SourceFault}
 use Rattle.pra_tool.specs.declared.source_fault.SourceFault.TheVariants.{Lex, Grammar}
-use Rattle.pra_tool.specs.declared.source_fault.LimitFault.{LimitFault}
 use Rattle.pra_tool.specs.declared.source_fault.LimitFault.TheVariants.{Count, Depth}
 use Rattle.pra_tool.specs.declared.source_fault.ReadFault.{ReadFault}
 use Rattle.pra_tool.specs.declared.source_fault.ReadFault.TheVariants.{Source, Limit, Unbuilt, OutOfMemory}

@@ -12,9 +12,7 @@ use Rattle.pra_base.specs.declared.limit.LimitKind.{LimitKind}
 use Rattle.pra_base.specs.declared.limit.LimitKind.TheVariants as limit
 use Rattle.ob_lex.specs.declared.scanner.LexFault.{LexFault}
 use Rattle.ob_lex.specs.declared.scanner.LexFault.TheVariants as lex
-use Rattle.pra_tool.specs.declared.source_fault.SourceFault.{SourceFault}
 use Rattle.pra_tool.specs.declared.source_fault.SourceFault.TheVariants.{Lex, Grammar}
-use Rattle.pra_tool.specs.declared.source_fault.LimitFault.{LimitFault}
 use Rattle.pra_tool.specs.declared.source_fault.LimitFault.TheVariants.{Count, Depth}
 use Rattle.pra_tool.specs.declared.source_fault.ReadFault.{ReadFault}
 use Rattle.pra_tool.specs.declared.source_fault.ReadFault.TheVariants.{Source, Limit, Unbuilt, OutOfMemory}

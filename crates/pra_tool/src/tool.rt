@@ -102,8 +102,10 @@ fn run_file<D: Folder, O: Sink, N: Sink>(
 }
 
 // One byte more than a source may have was read.
-const SOURCE_OVER: ReadFault =
-    ReadFault::Limit(LimitFault::Count(LimitKind::Source, MAX_SOURCE as u64 + 1));
+const SOURCE_OVER: ReadFault = ReadFault::Limit(LimitFault::Count(
+    LimitKind::Source,
+    MAX_SOURCE as u64 + 1,
+));
 
 /// All that a run writes, made before the first write.
 #[derive(Drop)]

@@ -8,8 +8,9 @@ pub returns-then-is_predeclared : goal.returns-then-is_predeclared
 returns-then-is_predeclared c =
     let none = none_begin c.args.names.now c.args.name.now in
     elim c.then-is_predeclared.branch [
-        then-is_predeclared-via-then-is_predeclared w ↦ (λ other. (refl, none (inl (c.is_predeclared.ensures.0 w.if-is_predeclared.true))))
-      | then-is_predeclared-via-else-is_predeclared+in_ok-declare+then-not-branch w ↦ (λ other. let there = rw w.if-not-branch.true at w.in_ok-declare.ensures in (refl, none (inr there.1))) ]
+      | then-is_predeclared-via-then-is_predeclared w ↦ (λ other. (refl, none (inl (c.is_predeclared.ensures.0 w.if-is_predeclared.true))))
+      | then-is_predeclared-via-else-is_predeclared+in_ok-declare+then-not-branch w ↦ (λ other. let there = rw w.if-not-branch.true at w.in_ok-declare.ensures in (refl, none (inr there.1)))
+    ]
 
 pub returns : goal.returns
 returns c =

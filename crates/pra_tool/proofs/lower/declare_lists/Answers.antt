@@ -1,4 +1,4 @@
-use Rattle.std.proofs.Common.{◌++◌, ◌+◌, map, drop, sym, ap, ◌∙◌}
+use Rattle.std.proofs.Common.{◌++◌, ◌+◌, map, drop, ap, ◌∙◌}
 use Rattle.pra_tool.specs.SmallTree.{declared}
 use Rattle.pra_tool.specs.Lowering.{text_of}
 use Rattle.pra_tool.proofs.Naming.{stopped_within, next_list}

@@ -1,4 +1,4 @@
-use Rattle.std.proofs.Common.{◌≤◌, length, arith}
+use Rattle.std.proofs.Common.{arith}
 use Rattle.std.proofs.lemmas.Result.{err_from_is_err_and}
 use Rattle.ob_parse.specs.declared.TheConstants.{MAX_DEPTH}
 use Rattle.pra_tool.specs.SmallTree.{spelling}

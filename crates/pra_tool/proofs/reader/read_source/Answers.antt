@@ -29,10 +29,10 @@ returns-clause-cause c =
     (λ fault. fault ≢ OutOfMemory → (fault ≡ Unbuilt) × ((m : SmallModule) → IsSmallTree (spelling bytes c.deref-2.result.now) tree m → ⊥))
     (λ fault. fault ≢ OutOfMemory → IsCause bytes fault)
     (λ fault none told.
-        let n = none told in
-        subst (IsCause bytes) (sym n.0) (record {
-          tokens = c.deref.result.now;
-          tree = tree;
-          parsed = c.in_ok-tree.ensures.found;
-          other = λ m small. n.1 m (subst (λ (ts : List Token). IsSmallTree (spelling bytes ts) tree m) same small);
-        })) c.small_module.ensures.none
+    let n = none told in
+    subst (IsCause bytes) (sym n.0) (record {
+      tokens = c.deref.result.now;
+      tree = tree;
+      parsed = c.in_ok-tree.ensures.found;
+      other = λ m small. n.1 m (subst (λ (ts : List Token). IsSmallTree (spelling bytes ts) tree m) same small);
+    })) c.small_module.ensures.none

@@ -1,6 +1,5 @@
-use Rattle.std.proofs.Common.{rules, arith, ◌≡◌, inl, inr, sym, ◌∙◌, ap, subst, [], ℕ}
-use Rattle.ia_step.specs.declared.out.RunOut.{RunOut}
-use Rattle.ia_step.specs.State.{State, start}
+use Rattle.std.proofs.Common.{◌≡◌, sym, ◌∙◌, ap, subst, []}
+use Rattle.ia_step.specs.State.{start}
 use Rattle.ia_step.specs.Run.{told, ran}
 use Rattle.pra_tool.specs.Clause.{run_of, IsStatusOf, IsEnding}
 use Rattle.pra_tool.specs.Texts.{output_text, ending_line}

@@ -1,4 +1,4 @@
-use Rattle.std.proofs.Common.{rules, arith, ◌≡◌, ◌≢◌, ◌∙◌, refl, subst, sym, List, ℕ}
+use Rattle.std.proofs.Common.{rules, ◌≢◌, refl, subst, sym, List, ℕ}
 use Rattle.std.specs.Io.KnownBytes.{Keeps}
 use Rattle.pra_tool.specs.declared.source_fault.ReadFault.TheVariants.{OutOfMemory}
 use Rattle.pra_tool.specs.Clause.{Reports}

@@ -1,4 +1,4 @@
-use Rattle.std.proofs.Common.{rules, arith, ◌≡◌, inl, inr, sym, ◌∙◌}
+use Rattle.std.proofs.Common.{rules, arith, inl, inr}
 use Rattle.pra_tool.proofs.tool.write_report.Goals as goal
 
 pub returns-in-Err : goal.returns-in-Err
