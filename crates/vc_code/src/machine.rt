@@ -1,17 +1,14 @@
 // The machine of selected code: its state, what it reads, and what it changes. What each instruction does is in
 // `machine/instructions.rt`, and runs are in `run.rt`.
 
-ghost use Rattle.std.specs.Prelude.{◌≡◌, ◌<◌, slice_get};
-ghost use Rattle.std.specs.Option.{option_copied};
+ghost use Rattle.std.specs.Prelude.{◌≡◌, ◌<◌};
 ghost use Rattle.pra_base.specs.Code.{kind_of};
-ghost use Rattle.vc_code.specs.Value.{word_at as word_at_of, with_word};
-ghost use Rattle.vc_code.specs.Selected.{with_top, stuck, read as read_of, given, numbered, addressed, puts};
-ghost use Rattle.vc_code.specs.Stands.{live_of, frames_of, state_of, Performs, Gives};
+ghost use Rattle.vc_code.specs.Selected.{stuck, read as read_of, given, numbered, puts};
+ghost use Rattle.vc_code.specs.Stands.{live_of, state_of, Performs, Gives};
 
-use crate::frame::Frame;
 use crate::live::LiveCall;
 use crate::outcome::Ending;
-use crate::value::{Held, Object, Value, set_word, word, word_at};
+use crate::value::{Held, Value, word};
 use pra_base::{OutEvent, VProc, VarId, VarKind};
 use pra_list::Seq;
 use std::alloc::{AllocError, AllocFailed};

@@ -3,7 +3,7 @@
 ghost use Rattle.std.specs.Prelude.{◌≡◌, ◌<◌, if◌then◌else◌};
 ghost use Rattle.pra_base.specs.RunEnd.{Trapped};
 ghost use Rattle.vc_code.specs.Selected.{ended, calls_below, cleared, with_top, read as read_of, stuck, given, numbered, computes, both as both_of, divided, next as next_of, push as push_of, compare as compare_of};
-ghost use Rattle.vc_code.specs.Selected.{placed, based, indexed, loaded, stored, puts, entered, returned, reads_input, wrote, perform as perform_of, jump as jump_of, branched, leave as leave_of};
+ghost use Rattle.vc_code.specs.Selected.{placed, loaded, stored, puts, reads_input, wrote};
 ghost use Rattle.vc_code.specs.Value.{is_index as is_index_of, is_positive as is_positive_of, decides as decides_of, truth as truth_of, diff32, signed as signed_of, word_at as word_at_of};
 ghost use Rattle.vc_code.specs.Stands.{live_of, result_of, state_of, Performs, Gives};
 

@@ -1,9 +1,9 @@
 // Which instruction is executed, and how control leaves a block.
 
-ghost use Rattle.std.specs.Prelude.{◌≡◌, ◌<◌, OnOk, OnSome, if◌then◌else◌};
+ghost use Rattle.std.specs.Prelude.{◌≡◌, ◌<◌, OnOk, OnSome};
 ghost use Rattle.pra_base.specs.Code.{instr_at, end_of};
 ghost use Rattle.vc_code.specs.Selected.{world, perform as perform_of, branched, leave as leave_of, act as act_of, step as step_of};
-ghost use Rattle.vc_code.specs.Stands.{live_of, state_of, Performs};
+ghost use Rattle.vc_code.specs.Stands.{state_of, Performs};
 
 use super::instructions::Operation;
 use super::{Halt, Machine, STUCK};
