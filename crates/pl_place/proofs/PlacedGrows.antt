@@ -19,7 +19,11 @@ use Rattle.pra_base.specs.declared.code.VInstr.TheVariants.{Set, Copy, Add, Sub,
 use Rattle.pra_base.specs.declared.code.VInstr.TheVariants as instr
 use Rattle.pra_base.specs.declared.code.End.{End}
 use Rattle.pra_base.specs.declared.code.End.TheVariants.{Jump, Branch, Return}
-use Rattle.vc_code.specs.Value.{Object, Data, Aggregates, Cell, Value, Num, At, Held, signed, is_positive, is_index, word_at}
+use Rattle.vc_code.specs.declared.value.Object.{Object}
+use Rattle.vc_code.specs.declared.value.Object.TheVariants.{Data, Aggregates, Cell}
+use Rattle.vc_code.specs.declared.value.Value.{Value}
+use Rattle.vc_code.specs.declared.value.Value.TheVariants.{Num, At}
+use Rattle.vc_code.specs.Value.{Held, signed, is_positive, is_index, word_at}
 use Rattle.vc_code.specs.Selected.{stack_limit}
 use Rattle.pl_moves.specs.declared.moves.Move.{Move}
 use Rattle.pl_moves.specs.declared.moves.Move.TheVariants as move
