@@ -1,1 +1,2 @@
 pub mod PlacedGrows
+pub mod Registers

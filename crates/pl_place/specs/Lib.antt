@@ -1,3 +1,4 @@
 pub mod Placed
 pub mod Valid
 pub mod Machine
+pub mod Standing

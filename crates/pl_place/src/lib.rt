@@ -2,6 +2,7 @@
 #![tactic(auto)]
 
 pub mod laws;
+mod machine;
 mod placed;
 
 pub use placed::{LBlock, LInstr, LProc, frame_bytes};

@@ -1,0 +1,4 @@
+// The executable machine of placed code.
+
+mod operand;
+mod state;
