@@ -1,2 +1,4 @@
 pub mod PlacedGrows
 pub mod Registers
+pub mod Calls
+pub mod Reading

@@ -1,7 +1,7 @@
 -- What the state of the executable machine stands for. It keeps registers in an array and the list of calls with the latest at the end, and
 -- stands in a block by a number.
-use Rattle.std.specs.Prelude.{◌≡◌, ℕ, ◌+◌, List, [], ◌∷◌, ◌++◌, map, reverse, drop, slice_index_or, Option, Some, None, Result, Ok, Err}
-use Rattle.vc_code.specs.Value.{Held}
+use Rattle.std.specs.Prelude.{◌≡◌, ℕ, ◌+◌, ◌^◌, ◌≤◌, List, [], ◌∷◌, ◌++◌, map, reverse, drop, slice_index_or, Option, Some, None, Result, Ok, Err, bit_and, bit_or, bit_xor}
+use Rattle.vc_code.specs.Value.{Held, sum32, diff32, product32}
 use Rattle.vc_code.specs.Outcome.{run_end_of}
 use Rattle.pl_place.specs.declared.placed.LInstr.{LInstr}
 use Rattle.pl_place.specs.declared.placed.LBlock.{LBlock}
@@ -13,6 +13,8 @@ use Rattle.pl_place.specs.declared.machine.state.Halt.{Halt}
 use Rattle.pl_place.specs.declared.machine.state.Halt.TheVariants as halt
 use Rattle.pl_place.specs.declared.machine.state.Site.{Site}
 use Rattle.pl_place.specs.declared.machine.state.Site.TheVariants as site
+use Rattle.pl_place.specs.declared.machine.state.Arithmetic.{Arithmetic}
+use Rattle.pl_place.specs.declared.machine.state.Arithmetic.TheVariants as arithmetic
 use Rattle.pl_place.specs.Machine.{Frame, Live, State, Spot, Slot, Argument, Nowhere, stuck, no_block, no_proc}
 
 -- the registers, of which the array has one for each place; any other holds nothing
@@ -73,3 +75,16 @@ abbrev pub Reads : {A : Type 0} → Result A Halt → State → ((A → State) �
 Reads {A} (Ok x) s f = (go : A → State) → f go ≡ go x
 Reads {A} (Err halt.Stuck) s f = (go : A → State) → f go ≡ stuck s
 Reads {A} (Err halt.Memory) s f = Unit {0}
+
+-- a count of 64 bits, or none where it is too large
+abbrev pub Counts : Option ℕ → ℕ → Type 0
+Counts (Some n) m = n ≡ m
+Counts None m = 2 ^ 64 ≤ m
+
+abbrev pub function_of : Arithmetic → ℕ → ℕ → ℕ
+function_of arithmetic.Add = sum32
+function_of arithmetic.Sub = diff32
+function_of arithmetic.And = bit_and
+function_of arithmetic.Or = bit_or
+function_of arithmetic.Xor = bit_xor
+function_of arithmetic.Mul = product32

@@ -1,4 +1,8 @@
 // The executable machine of placed code.
 
+mod address;
+mod frames;
+mod object;
 mod operand;
+mod perform;
 mod state;

@@ -1,6 +1,6 @@
 // Operands: where they stand, what they hold, and how they are written.
 
-ghost use Rattle.std.specs.Prelude.{◌≡◌, ◌<◌, ℕ, List, length, IsSome};
+ghost use Rattle.std.specs.Prelude.{◌≡◌, ◌<◌, ◌^◌, ℕ, List, length, IsSome, IfOk};
 ghost use Rattle.pra_base.specs.Places.{number};
 ghost use Rattle.vc_code.specs.Value.{Held};
 ghost use Rattle.vc_code.specs.Outcome.{run_end};
@@ -51,8 +51,8 @@ fn site_of(p: &LProc, v: VarId) -> Site
     }
 }
 
-// The i-th from the end.
-fn last_get(words: &[Held], i: usize) -> Option<Held>
+/// The i-th from the end.
+pub fn last_get(words: &[Held], i: usize) -> Option<Held>
     ensures { result ≡ last_of words.now i }
 {
     if i < words.len() {
@@ -122,11 +122,12 @@ pub fn value_in(held: Held) -> Result<Value, Halt>
 }
 
 /// The address that is held.
-pub fn address_in(held: Held) -> Result<(Object, u32), Halt>
-    ensures { (s : State) → Reads result s (λ go. addressed held s (λ x o. go (x, o))) }
+pub fn address_in(held: Held) -> Result<(Object, u64), Halt>
+    ensures reads { (s : State) → Reads result s (λ go. addressed held s (λ x o. go (x, o))) }
+    ensures small { IfOk result (λ r. r.1 < 2 ^ 34) }
 {
     match held {
-        Some(Value::At(object, offset)) => Ok((object, offset)),
+        Some(Value::At(object, offset)) => Ok((object, u64::from(offset))),
         Some(Value::Num(_)) | None => Err(Halt::Stuck),
     }
 }
@@ -161,19 +162,38 @@ impl Machine {
         number_in(self.operand(p, v, place))
     }
 
-    /// The numbers of two operands.
+    /// The number of operand k.
+    pub fn number_at(&self, p: &LProc, v: VarId, places: &[Place], k: usize) -> Result<u32, Halt>
+        ensures { (procs : List LProc) → Reads result (state_of procs self.now) (numbered (operand_of p.now (state_of procs self.now) v (place_in places.now k)) (state_of procs self.now)) }
+    {
+        self.number(p, v, place_at(places, k))
+    }
+
+    /// The value of operand k.
+    pub fn value_at(
+        &self,
+        p: &LProc,
+        v: VarId,
+        places: &[Place],
+        k: usize,
+    ) -> Result<Value, Halt>
+        ensures { (procs : List LProc) → Reads result (state_of procs self.now) (given (operand_of p.now (state_of procs self.now) v (place_in places.now k)) (state_of procs self.now)) }
+    {
+        value_in(self.operand(p, v, place_at(places, k)))
+    }
+
+    /// The numbers of the first two operands.
     pub fn both(
         &self,
         p: &LProc,
         x: VarId,
-        one: Place,
         y: VarId,
-        other: Place,
+        places: &[Place],
     ) -> Result<(u32, u32), Halt>
-        ensures { (procs : List LProc) → Reads result (state_of procs self.now) (λ go. both_of p.now (state_of procs self.now) x (number one) y (number other) (λ a b. go (a, b))) }
+        ensures { (procs : List LProc) → Reads result (state_of procs self.now) (λ go. both_of p.now (state_of procs self.now) x (place_in places.now 0) y (place_in places.now 1) (λ a b. go (a, b))) }
     {
-        let a = self.number(p, x, one)?;
-        let b = self.number(p, y, other)?;
+        let a = self.number_at(p, x, places, 0)?;
+        let b = self.number_at(p, y, places, 1)?;
         Ok((a, b))
     }
 
@@ -219,8 +239,7 @@ impl Machine {
         Ok(())
     }
 
-    /// Writes an operand at its place, and goes on to an instruction of the block.
-    pub fn put(
+    fn put_place(
         &mut self,
         p: &LProc,
         v: VarId,
@@ -239,5 +258,21 @@ impl Machine {
         } else {
             Err(Halt::Stuck)
         }
+    }
+
+    /// Writes operand k, and goes on to an instruction of the block.
+    pub fn put(
+        &mut self,
+        p: &LProc,
+        v: VarId,
+        places: &[Place],
+        k: usize,
+        value: Value,
+        next: usize,
+    ) -> Result<(), Halt>
+        ensures done { (procs : List LProc) → Done result (state_of procs self.new) (puts p.now (state_of procs self.old) v (place_in places.now k) value (left procs self.old.top next)) }
+        ensures stays { (procs : List LProc) (n : ℕ) → left procs self.new.top n ≡ left procs self.old.top n }
+    {
+        self.put_place(p, v, place_at(places, k), value, next)
     }
 }

@@ -1,8 +1,11 @@
 // The state of the machine.
 
+ghost use Rattle.std.specs.Prelude.{◌≡◌};
+ghost use Rattle.pl_place.specs.declared.machine.state.Halt.TheVariants.{Memory};
+
 use pra_base::OutEvent;
 use pra_list::Seq;
-use std::alloc::AllocError;
+use std::alloc::{AllocError, AllocFailed};
 use vc_code::{Ending, Held};
 
 /// One register for each place, by the place's number, so that invalid code too has its own.
@@ -16,7 +19,17 @@ pub enum Halt {
 }
 
 impl From<AllocError> for Halt {
+    ghost from_gives = { λ _ e. e ≡ Memory };
+
     fn from(_: AllocError) -> Self {
+        Halt::Memory
+    }
+}
+
+impl<T: Drop> From<AllocFailed<T>> for Halt {
+    ghost from_gives = { λ _ e. e ≡ Memory };
+
+    fn from(_: AllocFailed<T>) -> Self {
         Halt::Memory
     }
 }
@@ -59,4 +72,15 @@ pub struct Machine {
     pub taken: usize,
     pub events: Seq<OutEvent>,
     pub over: Option<Ending>,
+}
+
+/// The operations on two numbers.
+#[derive(Clone, Copy)]
+pub enum Arithmetic {
+    Add,
+    Sub,
+    And,
+    Or,
+    Xor,
+    Mul,
 }
