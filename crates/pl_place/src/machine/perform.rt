@@ -50,7 +50,8 @@ impl Machine {
         ensures { (procs : List LProc) → Done result (state_of procs self.new) (computes_of (function_of f) p.now (state_of procs self.old) v x places.now (left procs self.old.top next)) }
     {
         let (a, b) = self.both(p, v, x, places)?;
-        self.put(p, v, places, 2, Value::Num(f.result(a, b)), next)
+        let n = f.result(a, b);
+        self.put(p, v, places, 2, Value::Num(n), next)
     }
 
     pub fn copy(
@@ -117,7 +118,8 @@ impl Machine {
     {
         let (a, b) = self.both(p, x, y, places)?;
         let holds = decides(cond, a, b);
-        self.put(p, v, places, 2, Value::Num(truth(holds)), next)
+        let n = truth(holds);
+        self.put(p, v, places, 2, Value::Num(n), next)
     }
 
     pub fn check_index(
@@ -220,7 +222,8 @@ impl Machine {
         ensures { (procs : List LProc) → Done result (state_of procs self.new) (perform_of procs p.now (VInstr.Load v a.now) places.now (state_of procs self.old) (left procs self.old.top next)) }
     {
         let n = self.loaded(p, a, places)?;
-        self.put(p, v, places, address_count(a), Value::Num(n), next)
+        let k = address_count(a);
+        self.put(p, v, places, k, Value::Num(n), next)
     }
 
     // The number of the word at an address.
@@ -245,7 +248,8 @@ impl Machine {
         ensures { (procs : List LProc) → Done result (state_of procs self.new) (perform_of procs p.now (VInstr.Store a.now x) places.now (state_of procs self.old) (left procs self.old.top next)) }
     {
         let (object, offset) = self.address(p, a, places)?;
-        let n = self.number_at(p, x, places, address_count(a))?;
+        let k = address_count(a);
+        let n = self.number_at(p, x, places, k)?;
         self.store_at(object, offset, n, next)
     }
 
@@ -272,6 +276,7 @@ impl Machine {
         ensures { (procs : List LProc) → Done result (state_of procs self.new) (perform_of procs p.now (VInstr.Addr v a.now) places.now (state_of procs self.old) (left procs self.old.top next)) }
     {
         let (object, offset) = self.address(p, a, places)?;
-        self.put(p, v, places, address_count(a), Value::At(object, offset), next)
+        let k = address_count(a);
+        self.put(p, v, places, k, Value::At(object, offset), next)
     }
 }
