@@ -5,4 +5,5 @@ pub mod laws;
 mod machine;
 mod placed;
 
+pub use machine::run_placed;
 pub use placed::{LBlock, LInstr, LProc, frame_bytes};

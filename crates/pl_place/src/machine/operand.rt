@@ -38,7 +38,8 @@ fn slot_of(p: &LProc, v: VarId) -> Option<usize>
     p.slots.as_slice().iter().position(|u| u.0 == v.0)
 }
 
-fn site_of(p: &LProc, v: VarId) -> Site
+/// Where a variable's memory is.
+pub fn site_of(p: &LProc, v: VarId) -> Site
     ensures { spot_of result ≡ spot p.now v }
 {
     match kind_of(p, v) {

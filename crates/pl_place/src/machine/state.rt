@@ -3,7 +3,7 @@
 ghost use Rattle.std.specs.Prelude.{◌≡◌};
 ghost use Rattle.pl_place.specs.declared.machine.state.Halt.TheVariants.{Memory};
 
-use pra_base::OutEvent;
+use pra_base::{OutEvent, OutOfMemory};
 use pra_list::Seq;
 use std::alloc::{AllocError, AllocFailed};
 use vc_code::{Ending, Held};
@@ -30,6 +30,14 @@ impl<T: Drop> From<AllocFailed<T>> for Halt {
     ghost from_gives = { λ _ e. e ≡ Memory };
 
     fn from(_: AllocFailed<T>) -> Self {
+        Halt::Memory
+    }
+}
+
+impl From<OutOfMemory> for Halt {
+    ghost from_gives = { λ _ e. e ≡ Memory };
+
+    fn from(_: OutOfMemory) -> Self {
         Halt::Memory
     }
 }
