@@ -1,5 +1,5 @@
 -- Where the running call stands, as the definition has it.
-use Rattle.std.proofs.Common.{◌≡◌, ℕ, ◌+◌, ◌<◌, ◌≤◌, List, [], ◌∷◌, ◌++◌, length, map, take, drop, get_or, Option, Some, None, refl, sym, ap, ◌∙◌, arith}
+use Rattle.std.proofs.Common.{◌≡◌, ℕ, ◌+◌, ◌<◌, ◌≤◌, List, [], ◌∷◌, ◌++◌, length, take, drop, get_or, Some, sym, ap, ◌∙◌, arith}
 use Rattle.std.specs.Prelude.{slice_get, slice_set, slice_index_or}
 use Rattle.std.proofs.lemmas.List.{drop_more, drop_all, take_more, set_at, map-append, length-map, length-take-le, append_assoc}
 use Rattle.std.proofs.lemmas.Option.{get_or_from_slice_get}
@@ -8,7 +8,6 @@ use Rattle.vc_code.specs.declared.value.Value.TheVariants.{Num}
 use Rattle.pl_place.specs.declared.placed.LInstr.{LInstr}
 use Rattle.pl_place.specs.declared.placed.LBlock.{LBlock}
 use Rattle.pl_place.specs.declared.placed.LProc.{LProc}
-use Rattle.pl_place.specs.declared.machine.state.Call.{Call}
 use Rattle.pl_place.specs.declared.machine.state.Machine.{Machine}
 use Rattle.pl_place.specs.Machine.{State, act, leave, zeroed, no_block, no_proc}
 use Rattle.pl_place.specs.Standing.{block_of, left, live_of, state_of}

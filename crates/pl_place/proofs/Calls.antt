@@ -1,12 +1,10 @@
 -- The list of live calls, and the objects that are found in it.
-use Rattle.std.proofs.Common.{◌≡◌, ◌≢◌, ℕ, zero, suc, ◌+◌, ◌-◌, ◌<◌, ◌≤◌, Bool, true, false, ◌&&◌, nat_eq, if◌then◌else◌, List, [], ◌∷◌, ◌++◌, length, map, reverse, take, drop, Option, Some, None, refl, sym, ap, ◌∙◌, subst, get_or, arith}
-use Rattle.std.specs.Prelude.{slice_get, slice_set, sum_by}
+use Rattle.std.proofs.Common.{◌≡◌, ◌≢◌, ℕ, zero, suc, ◌+◌, ◌<◌, ◌≤◌, Bool, true, false, nat_eq, if◌then◌else◌, List, [], ◌∷◌, ◌++◌, length, map, reverse, take, drop, refl, sym, ap, ◌∙◌, subst, get_or, arith}
+use Rattle.std.specs.Prelude.{slice_set}
 use Rattle.std.proofs.lemmas.List.{reverse-append, map-append, length-reverse, length-map, length-append, append_assoc, take-append-drop, drop_more, take_more, set_split, length-take-le}
-use Rattle.std.proofs.lemmas.Bool.{cases_eq}
 use Rattle.std.proofs.lemmas.Bool.Decides.{nat_tests}
-use Rattle.vc_code.specs.Value.{Held, Words}
-use Rattle.vc_code.specs.declared.value.Object.{Object}
-use Rattle.vc_code.specs.declared.value.Object.TheVariants.{Data, Aggregates, Cell}
+use Rattle.vc_code.specs.Value.{Held}
+use Rattle.vc_code.specs.declared.value.Object.TheVariants.{Aggregates, Cell}
 use Rattle.pl_place.specs.declared.placed.LProc.{LProc}
 use Rattle.pl_place.specs.declared.machine.state.Call.{Call}
 use Rattle.pl_place.specs.Machine.{Live, frame_bytes, depth, last_get, last_set, cell_words, words_of, calls_with}

@@ -1,5 +1,5 @@
 -- What a Call comes to, where its procedure is there.
-use Rattle.std.proofs.Common.{◌≡◌, ℕ, zero, suc, ◌+◌, ◌*◌, ◌<◌, Bool, true, false, nat_lt, if◌then◌else◌, List, [], ◌∷◌, length, Option, Some, None, refl, sym, ap, ◌∙◌}
+use Rattle.std.proofs.Common.{◌≡◌, ℕ, zero, suc, ◌+◌, ◌*◌, Bool, nat_lt, if◌then◌else◌, List, [], ◌∷◌, length, Option, Some, None, refl, sym, ap, ◌∙◌}
 use Rattle.std.specs.Prelude.{slice_get, slice_index_or}
 use Rattle.std.proofs.lemmas.List.{length-replicate}
 use Rattle.std.proofs.lemmas.Option.{get_or_from_slice_get}
@@ -12,8 +12,7 @@ use Rattle.pl_place.specs.declared.placed.LInstr.{LInstr}
 use Rattle.pl_place.specs.declared.placed.LBlock.{LBlock}
 use Rattle.pl_place.specs.declared.placed.LProc.{LProc}
 use Rattle.pl_place.specs.declared.machine.state.CallFrame.{CallFrame}
-use Rattle.pl_place.specs.declared.machine.state.Call.{Call}
-use Rattle.pl_place.specs.Machine.{Frame, Live, State, frame_bytes, depth, nothing, found, ended, fresh, waits, called, entered, no_block, no_proc}
+use Rattle.pl_place.specs.Machine.{State, frame_bytes, depth, nothing, found, ended, fresh, waits, called, entered, no_block, no_proc}
 use Rattle.pl_place.specs.Standing.{regs_of, frame_of, block_of, left, live_of}
 
 -- a list that isn't empty has a first element

@@ -1,5 +1,5 @@
 -- Readings, one after another.
-use Rattle.std.proofs.Common.{◌≡◌, ℕ, sym, subst, ◌∙◌}
+use Rattle.std.proofs.Common.{◌≡◌, sym, subst, ◌∙◌}
 use Rattle.std.specs.Prelude.{Result, Ok, Err}
 use Rattle.pl_place.specs.declared.machine.state.Halt.{Halt}
 use Rattle.pl_place.specs.declared.machine.state.Halt.TheVariants as halt

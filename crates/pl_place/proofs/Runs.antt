@@ -1,11 +1,10 @@
 -- Runs of placed code, a step after another.
-use Rattle.std.proofs.Common.{◌≡◌, ◌≢◌, ℕ, ◌+◌, ◌-◌, ◌≤◌, ℤ, true, List, Option, Some, None, sym, ap, ◌∙◌, subst, ◌⊎◌, ⊎_elim, arith}
+use Rattle.std.proofs.Common.{◌≡◌, ◌≢◌, ℕ, ◌+◌, ◌-◌, ◌≤◌, ℤ, true, List, Option, Some, None, sym, ap, ◌∙◌, ◌⊎◌, ⊎_elim, arith}
 use Rattle.std.specs.Prelude.{is_some}
 use Rattle.vc_code.specs.declared.outcome.Ending.{Ending}
 use Rattle.vc_code.specs.Outcome.{run_end_of}
 use Rattle.pl_place.specs.declared.machine.state.Machine.{Machine}
 use Rattle.pl_place.specs.Standing.{state_of}
-use Rattle.pra_base.specs.RunEnd.{RunEnd}
 use Rattle.pra_base.specs.System.{run}
 use Rattle.pra_base.proofs.Simulation.{run_more, run_over}
 use Rattle.pl_place.specs.declared.placed.LProc.{LProc}

@@ -1,6 +1,6 @@
 -- What the state of the executable machine stands for. It keeps registers in an array and the list of calls with the latest at the end, and
 -- stands in a block by a number.
-use Rattle.std.specs.Prelude.{◌≡◌, ℕ, ◌+◌, ◌^◌, ◌≤◌, List, [], ◌∷◌, ◌++◌, map, reverse, drop, slice_index_or, Option, Some, None, Result, Ok, Err, bit_and, bit_or, bit_xor}
+use Rattle.std.specs.Prelude.{◌≡◌, ℕ, ◌^◌, ◌≤◌, List, map, reverse, drop, slice_index_or, Option, Some, None, Result, Ok, Err, bit_and, bit_or, bit_xor}
 use Rattle.vc_code.specs.Value.{Held, sum32, diff32, product32}
 use Rattle.vc_code.specs.Outcome.{run_end_of}
 use Rattle.pl_place.specs.declared.placed.LInstr.{LInstr}

@@ -7,3 +7,6 @@ mod placed;
 
 pub use machine::run_placed;
 pub use placed::{LBlock, LInstr, LProc, frame_bytes};
+
+#[cfg(test)]
+mod tests;

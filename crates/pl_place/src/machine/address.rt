@@ -61,10 +61,7 @@ impl Machine {
         match *base {
             Base::Global(w) => Ok((Object::Data, u64::from(w) * WORD_BYTES)),
             Base::Frame(w) => match self.depth() {
-                Some(sum) => Ok((
-                    Object::Aggregates { calls, sum },
-                    u64::from(w) * WORD_BYTES,
-                )),
+                Some(sum) => Ok((Object::Aggregates { calls, sum }, u64::from(w) * WORD_BYTES)),
                 None => Err(Halt::Memory),
             },
             Base::Cell(argument) => match self.depth_below() {

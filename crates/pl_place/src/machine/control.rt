@@ -122,10 +122,11 @@ impl Machine {
     fn enter(&mut self, alloc: Global, n: ProcId, p: &LProc, next: usize) -> Result<(), Halt>
         ensures { (procs : List LProc) (block : LBlock) → slice_get procs n.0 ≡ Some p.now → slice_get p.now.blocks 0 ≡ Some block →
             Done result (state_of procs self.new) (record (state_of procs self.old) {
-                top = fresh n.0 p.now block (state_of procs self.old).pushed;
-                below = waits (state_of procs self.old).top (VInstr.Call n) (left procs self.old.top next) ∷ (state_of procs self.old).below;
-                pushed = [];
-                compared = None }) }
+              top = fresh n.0 p.now block (state_of procs self.old).pushed;
+              below = waits (state_of procs self.old).top (VInstr.Call n) (left procs self.old.top next) ∷ (state_of procs self.old).below;
+              pushed = [];
+              compared = None;
+            }) }
     {
         let frame = self.frame(alloc, p)?;
         let callee = Call {
@@ -141,9 +142,10 @@ impl Machine {
     // The running call waits, without the registers that the instruction destroys, and another runs.
     fn switch_to(&mut self, callee: Call, i: &VInstr, next: usize) -> Result<(), Halt>
         ensures { (procs : List LProc) → Done result (state_of procs self.new) (record (state_of procs self.old) {
-            top = live_of procs callee;
-            below = waits (state_of procs self.old).top i.now (left procs self.old.top next) ∷ (state_of procs self.old).below;
-            compared = None }) }
+          top = live_of procs callee;
+          below = waits (state_of procs self.old).top i.now (left procs self.old.top next) ∷ (state_of procs self.old).below;
+          compared = None;
+        }) }
     {
         self.top.next = next;
         self.top.regs = clobbered(&self.top.regs, i);

@@ -33,10 +33,7 @@ pub fn frame_bytes(args: usize, aggregates: usize, slots: usize) -> Option<u64>
     ensures { Counts result (4 * (args + 5 + aggregates + slots)) }
 {
     let fixed = add(Some(args as u64), Some(FIXED_WORDS as u64));
-    let words = add(
-        add(fixed, Some(aggregates as u64)),
-        Some(slots as u64),
-    );
+    let words = add(add(fixed, Some(aggregates as u64)), Some(slots as u64));
     in_bytes(words)
 }
 

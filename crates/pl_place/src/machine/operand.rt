@@ -171,26 +171,14 @@ impl Machine {
     }
 
     /// The value of operand k.
-    pub fn value_at(
-        &self,
-        p: &LProc,
-        v: VarId,
-        places: &[Place],
-        k: usize,
-    ) -> Result<Value, Halt>
+    pub fn value_at(&self, p: &LProc, v: VarId, places: &[Place], k: usize) -> Result<Value, Halt>
         ensures { (procs : List LProc) → Reads result (state_of procs self.now) (given (operand_of p.now (state_of procs self.now) v (place_in places.now k)) (state_of procs self.now)) }
     {
         value_in(self.operand(p, v, place_at(places, k)))
     }
 
     /// The numbers of the first two operands.
-    pub fn both(
-        &self,
-        p: &LProc,
-        x: VarId,
-        y: VarId,
-        places: &[Place],
-    ) -> Result<(u32, u32), Halt>
+    pub fn both(&self, p: &LProc, x: VarId, y: VarId, places: &[Place]) -> Result<(u32, u32), Halt>
         ensures { (procs : List LProc) → Reads result (state_of procs self.now) (λ go. both_of p.now (state_of procs self.now) x (place_in places.now 0) y (place_in places.now 1) (λ a b. go (a, b))) }
     {
         let a = self.number_at(p, x, places, 0)?;

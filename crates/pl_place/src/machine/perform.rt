@@ -68,13 +68,7 @@ impl Machine {
         self.put(p, v, places, 1, value, next)
     }
 
-    pub fn negate(
-        &mut self,
-        p: &LProc,
-        v: VarId,
-        places: &[Place],
-        next: usize,
-    ) -> Result<(), Halt>
+    pub fn negate(&mut self, p: &LProc, v: VarId, places: &[Place], next: usize) -> Result<(), Halt>
         ensures { (procs : List LProc) → Done result (state_of procs self.new) (perform_of procs p.now (VInstr.Neg v) places.now (state_of procs self.old) (left procs self.old.top next)) }
     {
         let a = self.number_at(p, v, places, 0)?;
@@ -162,13 +156,7 @@ impl Machine {
         }
     }
 
-    pub fn push(
-        &mut self,
-        p: &LProc,
-        x: VarId,
-        places: &[Place],
-        next: usize,
-    ) -> Result<(), Halt>
+    pub fn push(&mut self, p: &LProc, x: VarId, places: &[Place], next: usize) -> Result<(), Halt>
         ensures { (procs : List LProc) → Done result (state_of procs self.new) (perform_of procs p.now (VInstr.Push x) places.now (state_of procs self.old) (left procs self.old.top next)) }
     {
         let value = self.value_at(p, x, places, 0)?;
@@ -177,13 +165,7 @@ impl Machine {
         Ok(())
     }
 
-    pub fn write(
-        &mut self,
-        p: &LProc,
-        x: VarId,
-        places: &[Place],
-        next: usize,
-    ) -> Result<(), Halt>
+    pub fn write(&mut self, p: &LProc, x: VarId, places: &[Place], next: usize) -> Result<(), Halt>
         ensures { (procs : List LProc) → Done result (state_of procs self.new) (perform_of procs p.now (VInstr.Write x) places.now (state_of procs self.old) (left procs self.old.top next)) }
     {
         let a = self.number_at(p, x, places, 0)?;

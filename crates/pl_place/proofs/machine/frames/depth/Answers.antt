@@ -1,7 +1,7 @@
-use Rattle.std.proofs.Common.{take, length, refl}
+use Rattle.std.proofs.Common.{take, refl}
 use Rattle.std.proofs.lemmas.List.{take_more}
 use Rattle.pl_place.specs.Machine.{frame_bytes, depth}
-use Rattle.pl_place.specs.Standing.{frame_of, lives, Counts}
+use Rattle.pl_place.specs.Standing.{frame_of, lives}
 use Rattle.pl_place.proofs.Calls.{depth-push}
 use Rattle.pl_place.proofs.machine.frames.depth.Goals as goal
 

@@ -1,7 +1,7 @@
-use Rattle.std.proofs.Common.{◌≡◌, ◌∙◌, ◌<◌, ◌≤◌, ◌+◌, List, [], length, take, sym, ap, refl, arith, true, false, nat_eq}
-use Rattle.vc_code.specs.Value.{Held, Words, word_at}
+use Rattle.std.proofs.Common.{◌≡◌, ◌∙◌, ◌≤◌, ◌+◌, length, take, sym, ap, arith, true, false, nat_eq}
+use Rattle.vc_code.specs.Value.{Words, word_at}
 use Rattle.pl_place.specs.declared.machine.state.Call.{Call}
-use Rattle.pl_place.specs.Machine.{words_of, depth}
+use Rattle.pl_place.specs.Machine.{depth}
 use Rattle.pl_place.specs.Standing.{lives}
 use Rattle.pl_place.proofs.Calls.{aggregates_named, aggregates_not_named, aggregates_past, length_lives}
 use Rattle.pl_place.proofs.machine.object.aggregate.Goals as goal

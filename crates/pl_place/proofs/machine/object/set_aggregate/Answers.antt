@@ -1,4 +1,4 @@
-use Rattle.std.proofs.Common.{◌≡◌, ◌∙◌, ◌<◌, ◌≤◌, ◌+◌, length, take, sym, get_or, arith, true, false, nat_eq}
+use Rattle.std.proofs.Common.{◌≡◌, ◌∙◌, ◌≤◌, ◌+◌, length, take, sym, get_or, arith, true, false, nat_eq}
 use Rattle.std.proofs.lemmas.List.{get_or_default}
 use Rattle.pl_place.specs.Machine.{depth}
 use Rattle.pl_place.specs.Standing.{lives}

@@ -1,4 +1,4 @@
-use Rattle.std.proofs.Common.{◌≡◌, ◌≢◌, ◌∙◌, ◌≤◌, ◌⊎◌, None, inl, inr, arith}
+use Rattle.std.proofs.Common.{◌≢◌, ◌∙◌, ◌≤◌, ◌⊎◌, None, inl, inr, arith}
 use Rattle.pl_place.specs.Standing.{state_of}
 use Rattle.pl_place.proofs.Runs.{stepped, finished, over_is}
 use Rattle.pl_place.proofs.machine.run.run_placed.Goals as goal

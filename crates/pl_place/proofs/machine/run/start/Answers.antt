@@ -1,7 +1,6 @@
-use Rattle.std.proofs.Common.{◌≡◌, ◌∙◌, ℕ, List, [], reverse, length, None, refl, sym, ap}
+use Rattle.std.proofs.Common.{◌≡◌, ◌∙◌, [], reverse, length, None, refl, ap}
 use Rattle.std.specs.Prelude.{slice_index_or}
-use Rattle.pl_place.specs.declared.machine.state.Call.{Call}
-use Rattle.pl_place.specs.Machine.{State, Live, nothing, no_proc, no_block}
+use Rattle.pl_place.specs.Machine.{nothing, no_proc, no_block}
 use Rattle.pl_place.specs.Standing.{state_of, live_of, lives, left, block_of, regs_of, frame_of}
 use Rattle.pl_place.proofs.Calls.{lives-none}
 use Rattle.pl_place.proofs.Entering.{begun_regs}

@@ -1,4 +1,4 @@
-use Rattle.std.proofs.Common.{◌≡◌, ◌∙◌, ℕ, Bool, true, false, if◌then◌else◌, Option, Some, None, sym, ap}
+use Rattle.std.proofs.Common.{◌∙◌, ℕ, Bool, if◌then◌else◌, Option, sym, ap}
 use Rattle.pl_place.specs.Machine.{State, branched, to_block}
 use Rattle.pl_place.specs.Standing.{state_of}
 use Rattle.pl_place.proofs.Reading.{done_behind}

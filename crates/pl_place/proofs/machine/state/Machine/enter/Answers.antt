@@ -1,8 +1,8 @@
-use Rattle.std.proofs.Common.{◌≡◌, ◌∙◌, ℕ, List, [], ◌∷◌, None, sym, ap}
+use Rattle.std.proofs.Common.{◌∙◌, [], ◌∷◌, None, sym, ap}
 use Rattle.pra_base.specs.declared.code.VInstr.TheVariants as instr
 use Rattle.pl_place.specs.declared.machine.state.Call.{Call}
-use Rattle.pl_place.specs.Machine.{Live, State, waits, fresh}
-use Rattle.pl_place.specs.Standing.{state_of, live_of, lives, left}
+use Rattle.pl_place.specs.Machine.{Live, State, waits}
+use Rattle.pl_place.specs.Standing.{state_of, live_of, left}
 use Rattle.pl_place.proofs.Entering.{begun}
 use Rattle.pl_place.proofs.Reading.{done_behind}
 use Rattle.pl_place.proofs.machine.state.Machine.enter.Goals as goal

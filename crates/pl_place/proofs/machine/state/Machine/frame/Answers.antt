@@ -1,5 +1,5 @@
-use Rattle.std.proofs.Common.{◌≡◌, ◌∙◌, ℕ, List, [], reverse, length, sym, ap, refl}
-use Rattle.vc_code.specs.Value.{Held, Words}
+use Rattle.std.proofs.Common.{◌≡◌, ◌∙◌, [], reverse, length, ap, refl}
+use Rattle.vc_code.specs.Value.{Words}
 use Rattle.pl_place.specs.Machine.{State, nothing}
 use Rattle.pl_place.specs.Standing.{state_of, frame_of}
 use Rattle.pl_place.proofs.machine.state.Machine.frame.Goals as goal

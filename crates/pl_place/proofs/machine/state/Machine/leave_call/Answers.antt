@@ -1,6 +1,5 @@
 use Rattle.std.proofs.Common.{◌≡◌, ◌∙◌, List, [], sym, ap, arith}
 use Rattle.std.proofs.lemmas.List.{nil_from_length}
-use Rattle.pl_place.specs.declared.machine.state.Call.{Call}
 use Rattle.pra_base.specs.RunEnd.{Ended}
 use Rattle.pl_place.specs.Machine.{Live, State, ended, returned}
 use Rattle.pl_place.specs.Standing.{state_of, lives}

@@ -1,7 +1,7 @@
 use Rattle.std.proofs.Common.{ℕ, subst}
 use Rattle.vc_code.specs.declared.value.Object.{Object}
 use Rattle.vc_code.specs.Value.{Held}
-use Rattle.pl_place.specs.Machine.{State, addressed}
+use Rattle.pl_place.specs.Machine.{addressed}
 use Rattle.pl_place.specs.Standing.{state_of, Reads}
 use Rattle.pl_place.proofs.machine.state.Machine.pointed.Goals as goal
 

@@ -1,7 +1,6 @@
-use Rattle.std.proofs.Common.{◌≡◌, ◌∙◌, Err, ap, subst}
+use Rattle.std.proofs.Common.{◌∙◌, Err, ap, subst}
 use Rattle.std.specs.Prelude.{Result}
 use Rattle.pl_place.specs.declared.machine.state.Halt.{Halt}
-use Rattle.pl_place.specs.Machine.{State}
 use Rattle.pl_place.specs.Standing.{state_of, Done}
 use Rattle.pl_place.proofs.machine.state.Machine.settle.Goals as goal
 

@@ -1,6 +1,5 @@
 use Rattle.std.proofs.Common.{◌≡◌, ◌≢◌, ◌∙◌, ◌∷◌, List, length, sym, ap, arith, true, false, nat_eq}
 use Rattle.std.proofs.lemmas.List.{with_items_is}
-use Rattle.pl_place.specs.declared.machine.state.Call.{Call}
 use Rattle.vc_code.specs.declared.value.Object.TheVariants.{Aggregates}
 use Rattle.pl_place.specs.Machine.{Live, State, depth, calls_with, with_calls}
 use Rattle.pl_place.specs.Standing.{frame_of, left, live_of, lives, state_of}

@@ -1,4 +1,4 @@
-use Rattle.std.proofs.Common.{◌≡◌, ◌∙◌, ℕ, List, ◌∷◌, None, sym, ap}
+use Rattle.std.proofs.Common.{◌≡◌, ◌∙◌, ℕ, ◌∷◌, None, ap}
 use Rattle.vc_code.specs.Value.{Held}
 use Rattle.pl_place.specs.Machine.{Live, State, waits}
 use Rattle.pl_place.specs.Standing.{state_of, live_of, lives, left}

@@ -1,12 +1,11 @@
-use Rattle.std.proofs.Common.{◌≡◌, ◌+◌, ◌∙◌, ℕ, sym, ap, subst, Err, Some, None, Option}
+use Rattle.std.proofs.Common.{◌∙◌, ℕ, sym, ap}
 use Rattle.std.proofs.lemmas.Result.{err_from_is_err_and}
 use Rattle.vc_code.specs.declared.value.Object.{Object}
-use Rattle.vc_code.specs.declared.value.Value.TheVariants.{Num, At}
-use Rattle.vc_code.specs.Value.{Held, decides, truth, word_at}
+use Rattle.vc_code.specs.declared.value.Value.TheVariants.{At}
 use Rattle.pl_place.specs.Placed.{place_in}
-use Rattle.pl_place.specs.Machine.{State, both, puts, operand, numbered, placed_at, found, object, stored, address_count, at}
-use Rattle.pl_place.specs.Standing.{state_of, left, function_of, Reads, Done}
-use Rattle.pl_place.proofs.Reading.{halts, stops, reads_alike, done_behind}
+use Rattle.pl_place.specs.Machine.{State, puts, placed_at, address_count}
+use Rattle.pl_place.specs.Standing.{state_of, left}
+use Rattle.pl_place.proofs.Reading.{halts, done_behind}
 use Rattle.pl_place.proofs.machine.state.Machine.take_address.Goals as goal
 
 pub returns-in_err-object : goal.returns-in_err-object
