@@ -86,6 +86,3 @@ fn byte_of(bytes: &[u8], tokens: &[Token], token: u32) -> u32
         None => bytes.len() as u32,
     }
 }
-
-#[cfg(test)]
-mod tests;
