@@ -1,5 +1,5 @@
 #!/usr/bin/env bash
-# Times the program on a small module of 1 MB: `Write(1);` 116,500 times, compiled, run and written.
+# Times the program on the most statements `Write(1);` that 65,536 tokens have room for, compiled, run and written.
 set -eu
 top=$(cd "$(dirname "$0")/.." && pwd)
 folder=$(mktemp -d)
@@ -7,7 +7,7 @@ trap 'rm -rf "$folder"' EXIT
 
 {
     printf 'MODULE M; BEGIN '
-    for _ in $(seq 116500); do printf 'Write(1);'; done
+    for _ in $(seq 13105); do printf 'Write(1);'; done
     printf ' END M.'
 } >"$folder/large.ob"
 

@@ -12,6 +12,8 @@ mod rows;
 pub mod small;
 mod source;
 pub mod source_fault;
+#[cfg(test)]
+mod table;
 pub mod texts;
 pub mod tool;
 mod variables;

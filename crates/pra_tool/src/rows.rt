@@ -7,17 +7,17 @@ use std::alloc::{Alloc, Global};
 
 /// What a call left.
 #[derive(Drop)]
-struct Left {
-    status: u8,
-    out: MemSink,
-    notes: MemSink,
-    folder: MemFolder,
+pub(crate) struct Left {
+    pub status: u8,
+    pub out: MemSink,
+    pub notes: MemSink,
+    pub folder: MemFolder,
 }
 
 /// How the outside of a call is made: whether FILE is there, which call of the folder fails, how many bytes out has room
 /// for, how many it takes at once, and which of its calls fails.
 #[derive(Clone, Copy)]
-struct Setting {
+pub(crate) struct Setting {
     absent: bool,
     folder_fails: u64,
     room: usize,
@@ -25,7 +25,7 @@ struct Setting {
     out_fails: u64,
 }
 
-const ALL_WELL: Setting = Setting {
+pub(crate) const ALL_WELL: Setting = Setting {
     absent: false,
     folder_fails: 0,
     room: 4096,
@@ -66,7 +66,7 @@ fn folder(alloc: Global, source: &[u8], setting: Setting) -> Result<MemFolder, O
     Ok(MemFolder::new(files, one(alloc, setting.folder_fails)?))
 }
 
-fn call(
+pub(crate) fn call(
     alloc: Global,
     words: &[&str],
     source: &[u8],
