@@ -148,7 +148,7 @@ module _ (old mid new : Seen) (same : SameFiles old mid) (out : mid.out ≡ old.
 
 pub if_held : (file : Option (Option (List ℕ))) (source : List ℕ) (P : List ℕ → Type 0) → Holds file source → P source → IfHeld file P
 if_held None source P held p = tt
-if_held (Some None) source P held p = tt
+if_held (Some None) source P held p = held
 if_held (Some (Some bytes)) source P held p = subst P (sym held) p
 
 held_is : (file : Option (Option (List ℕ))) (bytes : List ℕ) (P : List ℕ → Type 0) → file ≡ Some (Some bytes) → IfHeld file P → P bytes
@@ -183,7 +183,7 @@ module _ (asked : Asked) (old new : Seen) (f : ReadFault) (result : ℕ) (cause 
 
   told_cause : (file : Option (Option (List ℕ))) → f ≢ fault.OutOfMemory → IfHeld file (λ source. f ≢ fault.OutOfMemory → IsCause source f) → IfHeld file (λ source. IsCause source f)
   told_cause None other h = tt
-  told_cause (Some None) other h = tt
+  told_cause (Some None) other h = h
   told_cause (Some (Some bytes)) other h = h other
 
   refused : result ≢ 8 → Refused (fault_line f) old new
@@ -242,7 +242,7 @@ module _ (asked : Asked) (old new : Seen) (f : ReadFault) (result : ℕ) (cause 
 pub over_cause : (file : Option (Option (List ℕ))) → IsLonger file 1048576 →
     IfHeld file (λ source. fault.Limit (Count limit.Source 1048577) ≢ fault.OutOfMemory → IsCause source (fault.Limit (Count limit.Source 1048577)))
 over_cause None longer = tt
-over_cause (Some None) longer = tt
+over_cause (Some None) longer = longer
 over_cause (Some (Some bytes)) longer = λ told. (longer, refl)
 
 pub keeps_same : (o : Option (List ℕ)) → Keeps o o

@@ -17,10 +17,10 @@ pub record Seen : Type 0 where
   pub notes : Option (List ℕ)
   pub notes_faults : ℕ
 
--- where the file is told to be there, it holds bytes with P
+-- where the folder tells of the file, it is there, and its bytes have P
 abbrev pub IfHeld : Option (Option (List ℕ)) → (List ℕ → Type 0) → Type 0
 IfHeld None P = ⊤
-IfHeld (Some None) P = ⊤
+IfHeld (Some None) P = ⊥
 IfHeld (Some (Some bytes)) P = P bytes
 
 -- no file changed
