@@ -1,0 +1,159 @@
+//! A checked module: the tree with every name resolved.
+//!
+//! Numbers of types, variables, parameters and locals count from 0 in the order of their declarations.
+
+use pra_base::ProcId;
+use pra_list::{Owned, Seq};
+
+/// A module that breaks no rule and keeps within the limits.
+#[derive(Drop)]
+pub struct Checked {
+    /// The module's name, as the bytes of the source spell it.
+    pub name: Seq<u8>,
+    /// Type 0 is INTEGER and type 1 is BOOLEAN. The others are those of the ARRAY and RECORD expressions, in the order of
+    /// the last tokens of these, the inner one first. A type names only types of smaller numbers.
+    pub types: Seq<Shape>,
+    pub vars: Seq<ModuleVar>,
+    /// The module's body first, then the procedures in the order of their headings.
+    pub procs: Seq<CheckedProc>,
+    /// Words of the module's variables.
+    pub data_words: u32,
+}
+
+#[derive(Debug, PartialEq, Eq, Drop)]
+pub enum Shape {
+    Integer,
+    Boolean,
+    /// The length, and the number of the elements' type.
+    Array(u32, u32),
+    /// The numbers of the fields' types.
+    Record(Seq<u32>),
+}
+
+/// A variable of the module, and its first data word.
+#[derive(Clone, Copy, Debug, PartialEq, Eq)]
+pub struct ModuleVar {
+    pub type_id: u32,
+    pub word: u32,
+}
+
+/// A procedure, or the module's body, which has neither parameters nor locals.
+#[derive(Drop)]
+pub struct CheckedProc {
+    pub id: ProcId,
+    pub name: Seq<u8>,
+    pub params: Seq<Param>,
+    pub locals: Seq<Local>,
+    /// Words of its arrays, records and addressed scalar locals.
+    pub aggregate_words: u32,
+    /// Identifiers, numbers, operators, `:=`, `[`, `.`, IF, ELSIF, WHILE and REPEAT of its statements.
+    pub nodes: u32,
+    pub body: Seq<RStmt>,
+}
+
+/// A parameter. A value parameter is addressed where it is lent to a VAR parameter.
+#[derive(Clone, Copy, Debug, PartialEq, Eq)]
+pub struct Param {
+    pub by_var: bool,
+    pub type_id: u32,
+    pub addressed: bool,
+}
+
+/// A local variable. A scalar one is addressed where it is lent to a VAR parameter. An aggregate and an addressed scalar
+/// have their first word among the aggregate words of the procedure, any other word 0.
+#[derive(Clone, Copy, Debug, PartialEq, Eq)]
+pub struct Local {
+    pub type_id: u32,
+    pub addressed: bool,
+    pub word: u32,
+}
+
+/// A statement.
+#[cycle(resolved_statements)]
+#[derive(Drop)]
+pub enum RStmt {
+    Assign(RVar, RExpr),
+    /// IF and each ELSIF, and the statements of ELSE.
+    If(Seq<RArm>, Seq<RStmt>),
+    While(RExpr, Seq<RStmt>),
+    Repeat(Seq<RStmt>, RExpr),
+    Call(ProcId, Seq<RArg>),
+    Read(RVar),
+    Write(RExpr),
+    WriteLine,
+}
+
+#[cycle(resolved_statements)]
+#[derive(Drop)]
+pub struct RArm {
+    pub test: RExpr,
+    pub body: Seq<RStmt>,
+}
+
+/// An argument: a value, or a variable for a VAR parameter.
+#[derive(Drop)]
+pub enum RArg {
+    Value(RExpr),
+    Lent(RVar),
+}
+
+#[cycle(resolved_expressions)]
+#[derive(Drop)]
+pub enum RExpr {
+    Number(i32),
+    Truth(bool),
+    Var(RVar),
+    Negate(Owned<RExpr>),
+    Not(Owned<RExpr>),
+    Binary(ROp, Owned<RExpr>, Owned<RExpr>),
+}
+
+/// A variable with its selectors, and the type of the whole.
+#[cycle(resolved_expressions)]
+#[derive(Drop)]
+pub struct RVar {
+    pub root: Root,
+    pub steps: Seq<RStep>,
+    pub type_id: u32,
+}
+
+/// A field by its number in its record, or an index.
+#[cycle(resolved_expressions)]
+#[derive(Drop)]
+pub enum RStep {
+    Field(u32),
+    Index(RExpr),
+}
+
+/// A variable of the module, or a parameter or local of the procedure whose body this is.
+#[derive(Clone, Copy, Debug, PartialEq, Eq)]
+pub enum Root {
+    Module(u32),
+    Param(u32),
+    Local(u32),
+}
+
+/// An operator with two sides: `*`, DIV, MOD, `&`, `+`, `-`, OR, `=`, `#`, `<`, `<=`, `>`, `>=`.
+#[derive(Clone, Copy, Debug, PartialEq, Eq)]
+pub enum ROp {
+    Mul,
+    Div,
+    Mod,
+    Both,
+    Add,
+    Sub,
+    Either,
+    Equal,
+    Unequal,
+    Less,
+    LessEqual,
+    Greater,
+    GreaterEqual,
+}
+
+/// The value of an expression: INTEGER or BOOLEAN.
+#[derive(Clone, Copy, Debug, PartialEq, Eq)]
+pub enum Value {
+    Number(i32),
+    Truth(bool),
+}
