@@ -8,7 +8,7 @@ ghost use Rattle.ob_syntax.specs.declared.token.Kind.{Kind};
 use ob_syntax::Kind;
 
 /// The keywords and symbols, each with its spelling.
-static FIXED: [(Kind, &str); 39] = [
+static FIXED: [(Kind, &str); 41] = [
     (Kind::KwArray, "ARRAY"),
     (Kind::KwBegin, "BEGIN"),
     (Kind::KwConst, "CONST"),
@@ -24,8 +24,10 @@ static FIXED: [(Kind, &str); 39] = [
     (Kind::KwOr, "OR"),
     (Kind::KwProcedure, "PROCEDURE"),
     (Kind::KwRecord, "RECORD"),
+    (Kind::KwRepeat, "REPEAT"),
     (Kind::KwThen, "THEN"),
     (Kind::KwType, "TYPE"),
+    (Kind::KwUntil, "UNTIL"),
     (Kind::KwVar, "VAR"),
     (Kind::KwWhile, "WHILE"),
     (Kind::Period, "."),

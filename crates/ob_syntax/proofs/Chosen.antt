@@ -1,7 +1,7 @@
 -- What the next token chooses.
 use Rattle.std.proofs.Common.{◌≡◌, ℤ, Option, Some, None, refl}
 use Rattle.ob_syntax.specs.declared.token.Kind.{Kind}
-use Rattle.ob_syntax.specs.declared.token.Kind.TheVariants.{Ident, Number, KwBegin, KwConst, KwDiv, KwElse, KwElsif, KwIf, KwMod, KwOr, KwProcedure, KwType, KwVar, KwWhile, Period, Comma, Semicolon, Becomes, LeftParen, LeftBracket, Tilde, Times, Amp, Plus, Minus, Equal, Unequal, Less, LessEqual, Greater, GreaterEqual}
+use Rattle.ob_syntax.specs.declared.token.Kind.TheVariants.{Ident, Number, KwBegin, KwConst, KwDiv, KwElse, KwElsif, KwIf, KwMod, KwOr, KwProcedure, KwRepeat, KwType, KwVar, KwWhile, Period, Comma, Semicolon, Becomes, LeftParen, LeftBracket, Tilde, Times, Amp, Plus, Minus, Equal, Unequal, Less, LessEqual, Greater, GreaterEqual}
 use Rattle.ob_syntax.specs.Grammar.{MulOp, times, quotient, remainder, both, AddOp, plus, minus, either, RelationOp, equal, unequal, less, less_equal, greater, greater_equal, mul_kind, add_kind, relation_kind, ActualParameters, ArgumentList, Arguments, Body, ByVar, Comparison, ConstantList, Constants, Else, Elsifs, Factors, FieldList, FieldLists, FormalParameters, Idents, Procedures, SectionList, Sections, Selectors, Sign, Statement, Statements, Terms, TypeList, Types, VariableList, Variables, no_parameters, no_formals, last_argument, last_ident, no_elsif, no_else, last_statement, last_field_list, last_section, empty_field_list, last_constant, no_constants, last_type, no_types, last_variables, no_variables, by_value, no_procedures, no_body, no_selectors, no_factors, next_factor, no_terms, next_term, no_comparison, comparison, no_sign, no_arguments, empty_statement, no_sections, call}
 use Rattle.ob_syntax.specs.Predict.{by_first, behind_name}
 
@@ -75,12 +75,13 @@ no_argument_at (Some LeftParen) p m i n l t = absurd (l refl)
 no_argument_at (Some Tilde) p m i n l t = absurd (t refl)
 no_argument_at _ p m i n l t = refl
 
-pub no_statement_at : (o : Option Kind) → (o ≡ Some Ident → ⊥) → (o ≡ Some KwIf → ⊥) → (o ≡ Some KwWhile → ⊥) → by_first Statement o ≡ Some empty_statement
-no_statement_at None i f w = refl
-no_statement_at (Some Ident) i f w = absurd (i refl)
-no_statement_at (Some KwIf) i f w = absurd (f refl)
-no_statement_at (Some KwWhile) i f w = absurd (w refl)
-no_statement_at _ i f w = refl
+pub no_statement_at : (o : Option Kind) → (o ≡ Some Ident → ⊥) → (o ≡ Some KwIf → ⊥) → (o ≡ Some KwWhile → ⊥) → (o ≡ Some KwRepeat → ⊥) → by_first Statement o ≡ Some empty_statement
+no_statement_at None i f w r = refl
+no_statement_at (Some Ident) i f w r = absurd (i refl)
+no_statement_at (Some KwIf) i f w r = absurd (f refl)
+no_statement_at (Some KwWhile) i f w r = absurd (w refl)
+no_statement_at (Some KwRepeat) i f w r = absurd (r refl)
+no_statement_at _ i f w r = refl
 
 pub no_section_at : (o : Option Kind) → (o ≡ Some KwVar → ⊥) → (o ≡ Some Ident → ⊥) → by_first SectionList o ≡ Some no_sections
 no_section_at None v i = refl

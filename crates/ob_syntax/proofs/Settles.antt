@@ -4,8 +4,8 @@ use Rattle.std.proofs.Common.{◌≡◌, ℕ, suc, ◌≤◌, ◌<◌, max, List
 use Rattle.std.proofs.lemmas.Bool.{ltb-true}
 use Rattle.std.specs.Prelude.{IsTrue, nat_lt, if◌then◌else◌}
 use Rattle.ob_syntax.specs.declared.token.Kind.{Kind}
-use Rattle.ob_syntax.specs.declared.token.Kind.TheVariants.{Ident, Number, KwBegin, KwConst, KwDiv, KwElse, KwElsif, KwIf, KwMod, KwOr, KwProcedure, KwType, KwVar, KwWhile, Period, Comma, Semicolon, Becomes, LeftParen, LeftBracket, Tilde, Times, Amp, Plus, Minus, Equal, Unequal, Less, LessEqual, Greater, GreaterEqual}
-use Rattle.ob_syntax.specs.Grammar.{MulOp, AddOp, RelationOp, mul_kind, add_kind, relation_kind, Nonterminal, Selectors, Selector, Factor, Factors, Term, Terms, Sign, SimpleExpression, Comparison, Expression, ArgumentList, Arguments, ActualParameters, Arm, Elsifs, Arms, Else, Action, Statement, Statements, StatementSequence, Idents, IdentList, NameList, FieldList, FieldLists, FieldSequence, TypeExpression, ByVar, Section, Sections, SectionList, FormalParameters, Procedure, Procedures, Constant, ConstantList, Constants, TypeDeclaration, TypeList, Types, VariableList, Variables, Declarations, Body, Module, times, quotient, remainder, both, plus, minus, either, equal, unequal, less, less_equal, greater, greater_equal, Symbol, token, phrase, Rule, no_selectors, next_selector, field, index, name, number, parenthesis, negation, no_factors, next_factor, term, no_terms, next_term, no_sign, plus_sign, minus_sign, simple_expression, no_comparison, comparison, expression, no_arguments, arguments, last_argument, next_argument, no_parameters, parameters, arm, no_elsif, next_elsif, arms, no_else, otherwise, assignment, call, if_statement, while_statement, empty_statement, statement, last_statement, next_statement, statement_sequence, last_ident, next_ident, ident_list, name_list, empty_field_list, field_list, last_field_list, next_field_list, field_sequence, type_name, array, record_type, by_value, by_var, section, last_section, next_section, no_sections, sections, no_formals, formals, procedure, no_procedures, next_procedure, constant, last_constant, next_constant, no_constants, constants, type_declaration, last_type, next_type, no_types, types, last_variables, next_variables, no_variables, variables, declarations, no_body, body, a_module, right}
+use Rattle.ob_syntax.specs.declared.token.Kind.TheVariants.{Ident, Number, KwBegin, KwConst, KwDiv, KwElse, KwElsif, KwIf, KwMod, KwOr, KwProcedure, KwRepeat, KwType, KwVar, KwWhile, Period, Comma, Semicolon, Becomes, LeftParen, LeftBracket, Tilde, Times, Amp, Plus, Minus, Equal, Unequal, Less, LessEqual, Greater, GreaterEqual}
+use Rattle.ob_syntax.specs.Grammar.{MulOp, AddOp, RelationOp, mul_kind, add_kind, relation_kind, Nonterminal, Selectors, Selector, Factor, Factors, Term, Terms, Sign, SimpleExpression, Comparison, Expression, ArgumentList, Arguments, ActualParameters, Arm, Elsifs, Arms, Else, Action, Statement, Statements, StatementSequence, Idents, IdentList, NameList, FieldList, FieldLists, FieldSequence, TypeExpression, ByVar, Section, Sections, SectionList, FormalParameters, Procedure, Procedures, Constant, ConstantList, Constants, TypeDeclaration, TypeList, Types, VariableList, Variables, Declarations, Body, Module, times, quotient, remainder, both, plus, minus, either, equal, unequal, less, less_equal, greater, greater_equal, Symbol, token, phrase, Rule, no_selectors, next_selector, field, index, name, number, parenthesis, negation, no_factors, next_factor, term, no_terms, next_term, no_sign, plus_sign, minus_sign, simple_expression, no_comparison, comparison, expression, no_arguments, arguments, last_argument, next_argument, no_parameters, parameters, arm, no_elsif, next_elsif, arms, no_else, otherwise, assignment, call, if_statement, while_statement, repeat_statement, empty_statement, statement, last_statement, next_statement, statement_sequence, last_ident, next_ident, ident_list, name_list, empty_field_list, field_list, last_field_list, next_field_list, field_sequence, type_name, array, record_type, by_value, by_var, section, last_section, next_section, no_sections, sections, no_formals, formals, procedure, no_procedures, next_procedure, constant, last_constant, next_constant, no_constants, constants, type_declaration, last_type, next_type, no_types, types, last_variables, next_variables, no_variables, variables, declarations, no_body, body, a_module, right}
 use Rattle.ob_syntax.specs.Forms.{Form, Parts, made, done, taken, part, spell, spells}
 use Rattle.ob_syntax.specs.Predict.{first, by_first, behind_name, choose, Ends, Follow}
 use Rattle.ob_syntax.proofs.Chosen.{by_value_first, mul_first, no_mul_first, add_first, no_add_first, relation_first, no_relation_first, no_selector, no_sign_at, no_argument_at, not_comma, not_left_paren, not_elsif, not_else, no_statement_at, no_statement_first, no_ident_first, no_list_first, no_field_first, no_section_at, no_section_first, no_formals_first, not_procedure, no_constant_first, not_const, no_type_first, not_type, no_variable_first, not_var, not_begin, no_assignment}
@@ -34,6 +34,7 @@ level (Number n) = 5
 level Tilde = 5
 level KwIf = 5
 level KwWhile = 5
+level KwRepeat = 5
 level KwConst = 5
 level KwType = 4
 level KwVar = 3
@@ -223,6 +224,7 @@ all_fit _ assignment = refl
 all_fit _ call = refl
 all_fit _ if_statement = refl
 all_fit _ while_statement = refl
+all_fit _ repeat_statement = refl
 all_fit _ empty_statement = refl
 all_fit _ statement = refl
 all_fit _ last_statement = refl
@@ -366,6 +368,7 @@ action_first (made _ assignment (taken _ _ ps)) us = refl
 action_first (made _ call (taken _ _ ps)) us = refl
 action_first (made _ if_statement (taken _ _ ps)) us = refl
 action_first (made _ while_statement (taken _ _ ps)) us = refl
+action_first (made _ repeat_statement (taken _ _ ps)) us = refl
 
 idents_first : (f : Form IdentList) (us : List Kind) → first (spell IdentList f us) ≡ Some Ident
 idents_first (made _ ident_list (taken _ _ ps)) us = refl
@@ -446,7 +449,8 @@ chooses _ assignment (taken _ _ (part _ _ _ f (taken _ ss ps))) ks h = target_fi
 chooses _ call (taken _ _ (part _ _ _ f done)) ks h = parameters_first f ks h
 chooses _ if_statement (taken _ _ ps) ks h = refl
 chooses _ while_statement (taken _ _ ps) ks h = refl
-chooses _ empty_statement done ks h = no_statement_at (first ks) (absent h Ident (lit≤ tt)) (absent h KwIf (lit≤ tt)) (absent h KwWhile (lit≤ tt))
+chooses _ repeat_statement (taken _ _ ps) ks h = refl
+chooses _ empty_statement done ks h = no_statement_at (first ks) (absent h Ident (lit≤ tt)) (absent h KwIf (lit≤ tt)) (absent h KwWhile (lit≤ tt)) (absent h KwRepeat (lit≤ tt))
 chooses _ statement (part _ _ ss f ps) ks h = action_first f (spells ss ps ks)
 chooses _ last_statement done ks h = no_statement_first (first ks) (absent h Semicolon (lit≤ tt))
 chooses _ next_statement (taken _ _ ps) ks h = refl

@@ -282,7 +282,7 @@ one_fixed word kind kind' c d = one_entry fixed word kind kind' refl c d
 
 -- `(` is a token, and `(*` is none
 pub paren_fixed : Contains fixed (LeftParen, 40 ∷ [])
-paren_fixed = (24, omega arith, refl)
+paren_fixed = (26, omega arith, refl)
 
 pub no_opening_fixed : (kind : Kind) → Contains fixed (kind, 40 ∷ (42 ∷ [])) → ⊥
 no_opening_fixed kind c = false≢true (list_all-at (λ (e : Kind × List ℕ). not (same e.1 (40 ∷ (42 ∷ [])))) fixed (kind, 40 ∷ (42 ∷ [])) refl c)

@@ -2,7 +2,7 @@
 -- option and each repetition of the book's notation is a nonterminal of its own.
 use Rattle.std.specs.Prelude.{List, [], ◌∷◌, ℤ}
 use Rattle.ob_syntax.specs.declared.token.Kind.{Kind}
-use Rattle.ob_syntax.specs.declared.token.Kind.TheVariants.{Ident, Number, KwArray, KwBegin, KwConst, KwDiv, KwDo, KwElse, KwElsif, KwEnd, KwIf, KwMod, KwModule, KwOf, KwOr, KwProcedure, KwRecord, KwThen, KwType, KwVar, KwWhile, Period, Comma, Semicolon, Colon, Becomes, LeftParen, RightParen, LeftBracket, RightBracket, Tilde, Times, Amp, Plus, Minus, Equal, Unequal, Less, LessEqual, Greater, GreaterEqual}
+use Rattle.ob_syntax.specs.declared.token.Kind.TheVariants.{Ident, Number, KwArray, KwBegin, KwConst, KwDiv, KwDo, KwElse, KwElsif, KwEnd, KwIf, KwMod, KwModule, KwOf, KwOr, KwProcedure, KwRecord, KwRepeat, KwThen, KwType, KwUntil, KwVar, KwWhile, Period, Comma, Semicolon, Colon, Becomes, LeftParen, RightParen, LeftBracket, RightBracket, Tilde, Times, Amp, Plus, Minus, Equal, Unequal, Less, LessEqual, Greater, GreaterEqual}
 
 pub data Nonterminal : Type 0 where
   Selectors : Nonterminal
@@ -139,6 +139,7 @@ pub data Rule : Nonterminal → Type 0 where
   call : Rule Action
   if_statement : Rule Action
   while_statement : Rule Action
+  repeat_statement : Rule Action
   empty_statement : Rule Statement
   statement : Rule Statement
   last_statement : Rule Statements
@@ -245,7 +246,9 @@ right no_else = []
 right otherwise = token KwElse ∷ within StatementSequence ∷ []
 -- WhileStatement = "WHILE" expression "DO" StatementSequence "END".
 right while_statement = token KwWhile ∷ the Expression ∷ token KwDo ∷ within StatementSequence ∷ token KwEnd ∷ []
--- statement = [assignment | ProcedureCall | IfStatement | WhileStatement].
+-- RepeatStatement = "REPEAT" StatementSequence "UNTIL" expression.
+right repeat_statement = token KwRepeat ∷ within StatementSequence ∷ token KwUntil ∷ the Expression ∷ []
+-- statement = [assignment | ProcedureCall | IfStatement | WhileStatement | RepeatStatement].
 right empty_statement = []
 right statement = nested Action ∷ []
 -- StatementSequence = statement {";" statement}.

@@ -1,8 +1,8 @@
 -- Which production the next tokens choose.
 use Rattle.std.specs.Prelude.{◌≡◌, List, [], ◌∷◌, Option, Some, None}
 use Rattle.ob_syntax.specs.declared.token.Kind.{Kind}
-use Rattle.ob_syntax.specs.declared.token.Kind.TheVariants.{Ident, Number, KwArray, KwBegin, KwConst, KwDiv, KwElse, KwElsif, KwIf, KwMod, KwOr, KwProcedure, KwRecord, KwType, KwVar, KwWhile, Period, Comma, Semicolon, Becomes, LeftParen, LeftBracket, Tilde, Times, Amp, Plus, Minus, Equal, Unequal, Less, LessEqual, Greater, GreaterEqual}
-use Rattle.ob_syntax.specs.Grammar.{Nonterminal, Selectors, Selector, Factor, Factors, Term, Terms, Sign, SimpleExpression, Comparison, Expression, ArgumentList, Arguments, ActualParameters, Arm, Elsifs, Arms, Else, Action, Statement, Statements, StatementSequence, Idents, IdentList, NameList, FieldList, FieldLists, FieldSequence, TypeExpression, ByVar, Section, Sections, SectionList, FormalParameters, Procedure, Procedures, Constant, ConstantList, Constants, TypeDeclaration, TypeList, Types, VariableList, Variables, Declarations, Body, Module, times, quotient, remainder, both, plus, minus, either, equal, unequal, less, less_equal, greater, greater_equal, Symbol, Rule, no_selectors, next_selector, field, index, name, number, parenthesis, negation, no_factors, next_factor, term, no_terms, next_term, no_sign, plus_sign, minus_sign, simple_expression, no_comparison, comparison, expression, no_arguments, arguments, last_argument, next_argument, no_parameters, parameters, arm, no_elsif, next_elsif, arms, no_else, otherwise, assignment, call, if_statement, while_statement, empty_statement, statement, last_statement, next_statement, statement_sequence, last_ident, next_ident, ident_list, name_list, empty_field_list, field_list, last_field_list, next_field_list, field_sequence, type_name, array, record_type, by_value, by_var, section, last_section, next_section, no_sections, sections, no_formals, formals, procedure, no_procedures, next_procedure, constant, last_constant, next_constant, no_constants, constants, type_declaration, last_type, next_type, no_types, types, last_variables, next_variables, no_variables, variables, declarations, no_body, body, a_module, right}
+use Rattle.ob_syntax.specs.declared.token.Kind.TheVariants.{Ident, Number, KwArray, KwBegin, KwConst, KwDiv, KwElse, KwElsif, KwIf, KwMod, KwOr, KwProcedure, KwRecord, KwRepeat, KwType, KwVar, KwWhile, Period, Comma, Semicolon, Becomes, LeftParen, LeftBracket, Tilde, Times, Amp, Plus, Minus, Equal, Unequal, Less, LessEqual, Greater, GreaterEqual}
+use Rattle.ob_syntax.specs.Grammar.{Nonterminal, Selectors, Selector, Factor, Factors, Term, Terms, Sign, SimpleExpression, Comparison, Expression, ArgumentList, Arguments, ActualParameters, Arm, Elsifs, Arms, Else, Action, Statement, Statements, StatementSequence, Idents, IdentList, NameList, FieldList, FieldLists, FieldSequence, TypeExpression, ByVar, Section, Sections, SectionList, FormalParameters, Procedure, Procedures, Constant, ConstantList, Constants, TypeDeclaration, TypeList, Types, VariableList, Variables, Declarations, Body, Module, times, quotient, remainder, both, plus, minus, either, equal, unequal, less, less_equal, greater, greater_equal, Symbol, Rule, no_selectors, next_selector, field, index, name, number, parenthesis, negation, no_factors, next_factor, term, no_terms, next_term, no_sign, plus_sign, minus_sign, simple_expression, no_comparison, comparison, expression, no_arguments, arguments, last_argument, next_argument, no_parameters, parameters, arm, no_elsif, next_elsif, arms, no_else, otherwise, assignment, call, if_statement, while_statement, repeat_statement, empty_statement, statement, last_statement, next_statement, statement_sequence, last_ident, next_ident, ident_list, name_list, empty_field_list, field_list, last_field_list, next_field_list, field_sequence, type_name, array, record_type, by_value, by_var, section, last_section, next_section, no_sections, sections, no_formals, formals, procedure, no_procedures, next_procedure, constant, last_constant, next_constant, no_constants, constants, type_declaration, last_type, next_type, no_types, types, last_variables, next_variables, no_variables, variables, declarations, no_body, body, a_module, right}
 use Rattle.ob_syntax.specs.Forms.{Form, Parts, made, done, taken, part, spells}
 
 abbrev pub first : List Kind → Option Kind
@@ -61,9 +61,11 @@ by_first Else (Some KwElse) = Some otherwise
 by_first Else _ = Some no_else
 by_first Action (Some KwIf) = Some if_statement
 by_first Action (Some KwWhile) = Some while_statement
+by_first Action (Some KwRepeat) = Some repeat_statement
 by_first Statement (Some Ident) = Some statement
 by_first Statement (Some KwIf) = Some statement
 by_first Statement (Some KwWhile) = Some statement
+by_first Statement (Some KwRepeat) = Some statement
 by_first Statement _ = Some empty_statement
 by_first Statements (Some Semicolon) = Some next_statement
 by_first Statements _ = Some last_statement

@@ -5,7 +5,7 @@ use Rattle.std.specs.Prelude.{◌≡◌, ℕ, ◌+◌, ◌-◌, ◌*◌, ◌≤�
 use Rattle.std.specs.List.{list_all}
 use Rattle.std.specs.Char.{is_ascii_alphabetic, is_ascii_alphanumeric, is_ascii_digit}
 use Rattle.ob_syntax.specs.declared.token.Kind.{Kind}
-use Rattle.ob_syntax.specs.declared.token.Kind.TheVariants.{Ident, Number, KwArray, KwBegin, KwConst, KwDiv, KwDo, KwElse, KwElsif, KwEnd, KwIf, KwMod, KwModule, KwOf, KwOr, KwProcedure, KwRecord, KwThen, KwType, KwVar, KwWhile, Period, Comma, Semicolon, Colon, Becomes, LeftParen, RightParen, LeftBracket, RightBracket, Tilde, Times, Amp, Plus, Minus, Equal, Unequal, Less, LessEqual, Greater, GreaterEqual}
+use Rattle.ob_syntax.specs.declared.token.Kind.TheVariants.{Ident, Number, KwArray, KwBegin, KwConst, KwDiv, KwDo, KwElse, KwElsif, KwEnd, KwIf, KwMod, KwModule, KwOf, KwOr, KwProcedure, KwRecord, KwRepeat, KwThen, KwType, KwUntil, KwVar, KwWhile, Period, Comma, Semicolon, Colon, Becomes, LeftParen, RightParen, LeftBracket, RightBracket, Tilde, Times, Amp, Plus, Minus, Equal, Unequal, Less, LessEqual, Greater, GreaterEqual}
 use Rattle.ob_syntax.specs.declared.token.Token.{Token}
 
 -- ident = letter {letter | digit}
@@ -36,8 +36,8 @@ fixed =
     (KwArray, codes "ARRAY") ∷ (KwBegin, codes "BEGIN") ∷ (KwConst, codes "CONST") ∷ (KwDiv, codes "DIV") ∷
     (KwDo, codes "DO") ∷ (KwElse, codes "ELSE") ∷ (KwElsif, codes "ELSIF") ∷ (KwEnd, codes "END") ∷
     (KwIf, codes "IF") ∷ (KwMod, codes "MOD") ∷ (KwModule, codes "MODULE") ∷ (KwOf, codes "OF") ∷
-    (KwOr, codes "OR") ∷ (KwProcedure, codes "PROCEDURE") ∷ (KwRecord, codes "RECORD") ∷ (KwThen, codes "THEN") ∷
-    (KwType, codes "TYPE") ∷ (KwVar, codes "VAR") ∷ (KwWhile, codes "WHILE") ∷
+    (KwOr, codes "OR") ∷ (KwProcedure, codes "PROCEDURE") ∷ (KwRecord, codes "RECORD") ∷ (KwRepeat, codes "REPEAT") ∷
+    (KwThen, codes "THEN") ∷ (KwType, codes "TYPE") ∷ (KwUntil, codes "UNTIL") ∷ (KwVar, codes "VAR") ∷ (KwWhile, codes "WHILE") ∷
     (Period, codes ".") ∷ (Comma, codes ",") ∷ (Semicolon, codes ";") ∷ (Colon, codes ":") ∷ (Becomes, codes ":=") ∷
     (LeftParen, codes "(") ∷ (RightParen, codes ")") ∷ (LeftBracket, codes "[") ∷ (RightBracket, codes "]") ∷
     (Tilde, codes "~") ∷ (Times, codes "*") ∷ (Amp, codes "&") ∷ (Plus, codes "+") ∷ (Minus, codes "-") ∷

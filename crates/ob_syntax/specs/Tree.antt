@@ -26,7 +26,7 @@ use Rattle.ob_syntax.specs.declared.tree.Term.{Term as TermTree, roll-Term}
 use Rattle.ob_syntax.specs.declared.tree.TypeDecl.{TypeDecl}
 use Rattle.ob_syntax.specs.declared.tree.TypeExpr.{TypeExpr, roll-TypeExpr}
 use Rattle.ob_syntax.specs.declared.tree.TypeForm.TheVariants as shape
-use Rattle.ob_syntax.specs.Grammar.{Nonterminal, Selectors, Selector, Factor, Factors, Term, Terms, Sign, SimpleExpression, Comparison, Expression, ArgumentList, Arguments, ActualParameters, Arm, Elsifs, Arms, Else, Action, Statement, Statements, StatementSequence, Idents, IdentList, NameList, FieldList, FieldLists, FieldSequence, TypeExpression, ByVar, Section, Sections, SectionList, FormalParameters, Procedure, Procedures, Constant, ConstantList, Constants, TypeDeclaration, TypeList, Types, VariableList, Variables, Declarations, Body, Module, mul_kind, add_kind, relation_kind, Symbol, token, phrase, Rule, no_selectors, next_selector, field, index, name, number, parenthesis, negation, no_factors, next_factor, term, no_terms, next_term, no_sign, plus_sign, minus_sign, simple_expression, no_comparison, comparison, expression, no_arguments, arguments, last_argument, next_argument, no_parameters, parameters, arm, no_elsif, next_elsif, arms, no_else, otherwise, assignment, call, if_statement, while_statement, empty_statement, statement, last_statement, next_statement, statement_sequence, last_ident, next_ident, ident_list, name_list, empty_field_list, field_list, last_field_list, next_field_list, field_sequence, type_name, array, record_type, by_value, by_var, section, last_section, next_section, no_sections, sections, no_formals, formals, procedure, no_procedures, next_procedure, constant, last_constant, next_constant, no_constants, constants, type_declaration, last_type, next_type, no_types, types, last_variables, next_variables, no_variables, variables, declarations, no_body, body, a_module, right}
+use Rattle.ob_syntax.specs.Grammar.{Nonterminal, Selectors, Selector, Factor, Factors, Term, Terms, Sign, SimpleExpression, Comparison, Expression, ArgumentList, Arguments, ActualParameters, Arm, Elsifs, Arms, Else, Action, Statement, Statements, StatementSequence, Idents, IdentList, NameList, FieldList, FieldLists, FieldSequence, TypeExpression, ByVar, Section, Sections, SectionList, FormalParameters, Procedure, Procedures, Constant, ConstantList, Constants, TypeDeclaration, TypeList, Types, VariableList, Variables, Declarations, Body, Module, mul_kind, add_kind, relation_kind, Symbol, token, phrase, Rule, no_selectors, next_selector, field, index, name, number, parenthesis, negation, no_factors, next_factor, term, no_terms, next_term, no_sign, plus_sign, minus_sign, simple_expression, no_comparison, comparison, expression, no_arguments, arguments, last_argument, next_argument, no_parameters, parameters, arm, no_elsif, next_elsif, arms, no_else, otherwise, assignment, call, if_statement, while_statement, repeat_statement, empty_statement, statement, last_statement, next_statement, statement_sequence, last_ident, next_ident, ident_list, name_list, empty_field_list, field_list, last_field_list, next_field_list, field_sequence, type_name, array, record_type, by_value, by_var, section, last_section, next_section, no_sections, sections, no_formals, formals, procedure, no_procedures, next_procedure, constant, last_constant, next_constant, no_constants, constants, type_declaration, last_type, next_type, no_types, types, last_variables, next_variables, no_variables, variables, declarations, no_body, body, a_module, right}
 use Rattle.ob_syntax.specs.Forms.{Form, Parts, made, done, taken, part, end, ends}
 
 -- what a phrase of each nonterminal stands for
@@ -128,6 +128,7 @@ tree_by next_elsif i j (_, (x, (xs, _))) = x ∷ xs
 tree_by no_else i j v = []
 tree_by otherwise i j (_, (ss, _)) = ss
 tree_by while_statement i j (_, (e, (_, (ss, _)))) = roll-Stmt (record { span = span_to i j; form = form.While e ss })
+tree_by repeat_statement i j (_, (ss, (_, (e, _)))) = roll-Stmt (record { span = span_to i j; form = form.Repeat ss e })
 tree_by empty_statement i j v = None
 tree_by statement i j (s, _) = Some s
 tree_by statement_sequence i j (s, (ss, _)) = option_to_list s ++ ss

@@ -104,6 +104,8 @@ pub enum StmtForm {
     /// IF and each ELSIF, and the statements of ELSE.
     If(Seq<Arm>, Seq<Stmt>),
     While(Expr, Seq<Stmt>),
+    /// The statements, and the condition of UNTIL.
+    Repeat(Seq<Stmt>, Expr),
 }
 
 #[cycle(statements)]
