@@ -1,9 +1,9 @@
 -- The places where a value may stand, as numbers, and the readings of a number. All that is said of places goes through these.
-use Rattle.std.specs.Prelude.{ℕ, Bool, nat_eq, nat_lt, not, ◌&&◌, ◌^◌, if◌then◌else◌, List, [], ◌∷◌, Option, find, sum_by, bit_and, bit_or}
+use Rattle.std.specs.Prelude.{ℕ, Bool, nat_eq, nat_lt, nat_le, ◌-◌, not, ◌&&◌, ◌||◌, ◌^◌, if◌then◌else◌, List, [], ◌∷◌, Option, find, sum_by, bit_and, bit_or}
 use Rattle.std.specs.List.{range_with_len}
 use Rattle.std.specs.Int.{bit_at}
 use Rattle.pra_base.specs.declared.ids.Place.{Place}
-use Rattle.pra_base.specs.declared.ids.Place.TheVariants.{Eax, Ecx, Edx, Ebx, Esi, Edi, Mem, Const}
+use Rattle.pra_base.specs.declared.ids.Place.TheVariants.{Eax, Ecx, Edx, Ebx, Esi, Edi, Mem, Const, EaxM, EcxM, EdxM, EbxM, EsiM, EdiM}
 
 abbrev pub number : Place → ℕ
 number Eax = 0
@@ -14,33 +14,56 @@ number Esi = 4
 number Edi = 5
 number Mem = 6
 number Const = 7
+number EaxM = 8
+number EcxM = 9
+number EdxM = 10
+number EbxM = 11
+number EsiM = 12
+number EdiM = 13
+
+abbrev pub all_places : List Place
+all_places =
+    Eax ∷ Ecx ∷ Edx ∷ Ebx ∷ Esi ∷ Edi ∷ Mem ∷ Const ∷ EaxM ∷ EcxM ∷ EdxM ∷ EbxM ∷ EsiM ∷ EdiM ∷ []
 
 -- the place of a number
 abbrev pub numbered : ℕ → Option Place
-numbered p = find (λ place. nat_eq (number place) p) (Eax ∷ Ecx ∷ Edx ∷ Ebx ∷ Esi ∷ Edi ∷ Mem ∷ Const ∷ [])
+numbered p = find (λ place. nat_eq (number place) p) all_places
 
 abbrev pub place_count : ℕ
-place_count = 8
+place_count = 14
+
+abbrev pub register_count : ℕ
+register_count = 6
 
 -- all places, in order of their numbers
 abbrev pub places : List ℕ
 places = range_with_len 0 place_count
 
+-- ---- what a place is
+
+-- the value stands in a register and in the variable's own memory at once
+abbrev pub is_both : ℕ → Bool
+is_both p = nat_le (number EaxM) p
+
 -- the value stands in a register
 abbrev pub has_register : ℕ → Bool
-has_register p = nat_lt p (number Mem)
+has_register p = nat_lt p (number Mem) || is_both p
 
--- which register that is
+-- the value stands in a register and nowhere else
+abbrev pub is_register : ℕ → Bool
+is_register p = nat_lt p (number Mem)
+
+-- which register that is; register r alone is the place r
 abbrev pub register_of : ℕ → ℕ
-register_of p = p
+register_of p = if is_both p then p - number EaxM else p
 
--- the value stands in the variable's own memory
+-- the value stands in the variable's own memory alone
 abbrev pub is_mem : ℕ → Bool
 is_mem p = nat_eq p (number Mem)
 
 -- a local variable that comes here needs a slot in the frame
 abbrev pub needs_slot : ℕ → Bool
-needs_slot p = is_mem p
+needs_slot p = is_mem p || is_both p
 
 -- the value stands nowhere: the variable is a constant
 abbrev pub is_const : ℕ → Bool
@@ -68,6 +91,10 @@ meet a b = bit_and a b
 infixl 6 ◌∪◌
 abbrev pub ◌∪◌ : ℕ → ℕ → ℕ
 a ∪ b = bit_or a b
+
+-- the mask and, for each register that is in it, its both place too
+abbrev pub with_both : ℕ → ℕ
+with_both mask = mask ∪ mask_where (λ p. is_both p && allows mask (register_of p))
 
 -- the place lies in a register of this set, of which bit r stands for register r
 abbrev pub lies_in : ℕ → ℕ → Bool

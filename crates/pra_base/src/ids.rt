@@ -12,8 +12,9 @@ pub struct VarId(pub u32);
 #[derive(Clone, Copy, Debug, PartialEq, Eq)]
 pub struct BlockId(pub u32);
 
-/// Where a value may stand: one of the six registers that are allocated, the variable's own memory, or nowhere,
-/// since it is a constant. They are numbered 0 to 7 in this order.
+/// Where a value may stand (its location): one of the six registers that are allocated, the variable's own memory,
+/// nowhere, since it is a constant, or a *both place*, a register and the variable's memory at once, with one value.
+/// They are numbered 0 to 13 in this order.
 #[derive(Clone, Copy, Debug, PartialEq, Eq)]
 pub enum Place {
     Eax,
@@ -24,6 +25,12 @@ pub enum Place {
     Edi,
     Mem,
     Const,
+    EaxM,
+    EcxM,
+    EdxM,
+    EbxM,
+    EsiM,
+    EdiM,
 }
 
 /// A condition of a jump or of SETcc, by the Intel manual's names (SDM volume 1, appendix B, EFLAGS condition codes).
