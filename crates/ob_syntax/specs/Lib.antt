@@ -2,7 +2,9 @@ pub mod Tokens
 pub mod Derives
 pub mod Forms
 pub mod Grammar
+pub mod Operators
 pub mod Predict
 pub mod Source
+pub mod Storage
 pub mod Tree
 pub mod Whole

@@ -1,0 +1,87 @@
+-- What operators and signs give on values, or the trap (Wirth, Compiler Construction, chapter 7, and The Programming Language Oberon,
+-- section 8.2). Numbers have 32 bits.
+use Rattle.std.specs.Prelude.{ℤ, pos, ◌+ℤ◌, ◌-ℤ◌, ◌*ℤ◌, neg_ℤ, Bool, true, false, not, int_lt, int_le, if◌then◌else◌, Result, Ok, Err}
+use Rattle.std.specs.Ordering.{int_eq}
+use Rattle.pra_base.specs.Words.{word, signed, floored_quotient, floored_remainder}
+use Rattle.pra_base.specs.declared.event.TrapKind.{TrapKind}
+use Rattle.pra_base.specs.declared.event.TrapKind.TheVariants.{Divide}
+use Rattle.ob_syntax.specs.declared.checked.Value.{Value}
+use Rattle.ob_syntax.specs.declared.checked.Value.TheVariants.{Number, Truth}
+use Rattle.ob_syntax.specs.declared.checked.ROp.{ROp}
+use Rattle.ob_syntax.specs.declared.checked.ROp.TheVariants.{Mul, Div, Mod, Both, Add, Sub, Either, Equal, Unequal, Less, LessEqual, Greater, GreaterEqual}
+
+-- a value, or a trap in its place
+abbrev pub Outcome : Type 0
+Outcome = Result Value TrapKind
+
+-- the number of 32 bits that is left of a number
+abbrev pub wrapped : ℤ → ℤ
+wrapped n = signed (word n)
+
+-- the sign `-`
+abbrev pub negated : Value → Value
+negated (Number x) = Number (wrapped (neg_ℤ x))
+negated (Truth b) = Truth b
+
+-- `~`
+abbrev pub inverted : Value → Value
+inverted (Truth b) = Truth (not b)
+inverted (Number x) = Number x
+
+-- a divisor of at most 0 traps
+abbrev pub by_divisor : ℤ → ℤ → Outcome
+by_divisor d result = if int_lt (pos 0) d then Ok (Number result) else Err Divide
+
+abbrev pub on_numbers : ROp → ℤ → ℤ → Outcome
+on_numbers Mul x y = Ok (Number (wrapped (x *ℤ y)))
+on_numbers Div x y = by_divisor y (floored_quotient x y)
+on_numbers Mod x y = by_divisor y (floored_remainder x y)
+on_numbers Add x y = Ok (Number (wrapped (x +ℤ y)))
+on_numbers Sub x y = Ok (Number (wrapped (x -ℤ y)))
+on_numbers Equal x y = Ok (Truth (int_eq x y))
+on_numbers Unequal x y = Ok (Truth (not (int_eq x y)))
+on_numbers Less x y = Ok (Truth (int_lt x y))
+on_numbers LessEqual x y = Ok (Truth (int_le x y))
+on_numbers Greater x y = Ok (Truth (int_lt y x))
+on_numbers GreaterEqual x y = Ok (Truth (int_le y x))
+on_numbers Both x y = Ok (Number x)
+on_numbers Either x y = Ok (Number x)
+
+abbrev pub same_truth : Bool → Bool → Bool
+same_truth true b = b
+same_truth false b = not b
+
+abbrev pub on_truths : ROp → Bool → Bool → Outcome
+on_truths Unequal a b = Ok (Truth (not (same_truth a b)))
+on_truths _ a b = Ok (Truth (same_truth a b))
+
+-- An operator that looks at both sides. In a well-formed module the sides are of the types that the operator wants; elsewhere the
+-- answer is of no use.
+abbrev pub operated : ROp → Value → Value → Outcome
+operated op (Number x) (Number y) = on_numbers op x y
+operated op (Truth a) (Truth b) = on_truths op a b
+operated op (Number x) (Truth b) = Ok (Number x)
+operated op (Truth a) (Number y) = Ok (Truth a)
+
+infixl 10 ◌>>=◌
+abbrev pub ◌>>=◌ : {A B : Type 0} → Result A TrapKind → (A → Result B TrapKind) → Result B TrapKind
+(Ok x) >>= f = f x
+(Err trap) >>= f = Err trap
+
+-- `&` looks at the right side only where the left one is TRUE
+abbrev pub both : Value → Outcome → Outcome
+both (Truth false) right = Ok (Truth false)
+both (Truth true) right = right
+both (Number x) right = Ok (Number x)
+
+-- OR looks at the right side only where the left one is FALSE
+abbrev pub either : Value → Outcome → Outcome
+either (Truth true) right = Ok (Truth true)
+either (Truth false) right = right
+either (Number x) right = Ok (Number x)
+
+-- an operator on what its sides give, the left one first
+abbrev pub combined : ROp → Outcome → Outcome → Outcome
+combined Both left right = left >>= λ x. both x right
+combined Either left right = left >>= λ x. either x right
+combined op left right = left >>= λ x. right >>= λ y. operated op x y
