@@ -1,7 +1,9 @@
 pub mod Tokens
 pub mod Derives
+pub mod Expressions
 pub mod Forms
 pub mod Grammar
+pub mod Names
 pub mod Operators
 pub mod Predict
 pub mod Source

@@ -18,15 +18,22 @@ Outcome = Result Value TrapKind
 abbrev pub wrapped : ℤ → ℤ
 wrapped n = signed (word n)
 
+-- the number that a value is kept as: TRUE is 1, FALSE is 0
+abbrev pub number : Value → ℤ
+number (Number x) = x
+number (Truth true) = pos 1
+number (Truth false) = pos 0
+
+abbrev pub is_true : Value → Bool
+is_true v = not (int_eq (number v) (pos 0))
+
 -- the sign `-`
 abbrev pub negated : Value → Value
-negated (Number x) = Number (wrapped (neg_ℤ x))
-negated (Truth b) = Truth b
+negated v = Number (wrapped (neg_ℤ (number v)))
 
 -- `~`
 abbrev pub inverted : Value → Value
-inverted (Truth b) = Truth (not b)
-inverted (Number x) = Number x
+inverted v = Truth (not (is_true v))
 
 -- a divisor of at most 0 traps
 abbrev pub by_divisor : ℤ → ℤ → Outcome
@@ -44,41 +51,25 @@ on_numbers Less x y = Ok (Truth (int_lt x y))
 on_numbers LessEqual x y = Ok (Truth (int_le x y))
 on_numbers Greater x y = Ok (Truth (int_lt y x))
 on_numbers GreaterEqual x y = Ok (Truth (int_le y x))
-on_numbers Both x y = Ok (Number x)
-on_numbers Either x y = Ok (Number x)
+on_numbers Both x y = Ok (Number y)
+on_numbers Either x y = Ok (Number y)
 
-abbrev pub same_truth : Bool → Bool → Bool
-same_truth true b = b
-same_truth false b = not b
-
-abbrev pub on_truths : ROp → Bool → Bool → Outcome
-on_truths Unequal a b = Ok (Truth (not (same_truth a b)))
-on_truths _ a b = Ok (Truth (same_truth a b))
-
--- An operator that looks at both sides. In a well-formed module the sides are of the types that the operator wants; elsewhere the
--- answer is of no use.
+-- an operator that looks at both sides, so neither `&` nor OR
 abbrev pub operated : ROp → Value → Value → Outcome
-operated op (Number x) (Number y) = on_numbers op x y
-operated op (Truth a) (Truth b) = on_truths op a b
-operated op (Number x) (Truth b) = Ok (Number x)
-operated op (Truth a) (Number y) = Ok (Truth a)
+operated op x y = on_numbers op (number x) (number y)
 
 infixl 10 ◌>>=◌
-abbrev pub ◌>>=◌ : {A B : Type 0} → Result A TrapKind → (A → Result B TrapKind) → Result B TrapKind
+abbrev pub ◌>>=◌ : {A B E : Type 0} → Result A E → (A → Result B E) → Result B E
 (Ok x) >>= f = f x
-(Err trap) >>= f = Err trap
+(Err e) >>= f = Err e
 
 -- `&` looks at the right side only where the left one is TRUE
 abbrev pub both : Value → Outcome → Outcome
-both (Truth false) right = Ok (Truth false)
-both (Truth true) right = right
-both (Number x) right = Ok (Number x)
+both x right = if is_true x then right else Ok (Truth false)
 
 -- OR looks at the right side only where the left one is FALSE
 abbrev pub either : Value → Outcome → Outcome
-either (Truth true) right = Ok (Truth true)
-either (Truth false) right = right
-either (Number x) right = Ok (Number x)
+either x right = if is_true x then Ok (Truth true) else right
 
 -- an operator on what its sides give, the left one first
 abbrev pub combined : ROp → Outcome → Outcome → Outcome

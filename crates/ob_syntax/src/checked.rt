@@ -157,3 +157,29 @@ pub enum Value {
     Number(i32),
     Truth(bool),
 }
+
+/// A procedure that each module has without a declaration.
+#[derive(Clone, Copy, Debug, PartialEq, Eq)]
+pub enum Standard {
+    Read,
+    Write,
+    WriteLine,
+}
+
+/// What a name means at a place.
+#[derive(Clone, Copy, Debug, PartialEq, Eq)]
+pub enum Meaning {
+    Constant(Value),
+    TypeName(u32),
+    /// The procedure that declares it, where 0 is the module; itself; and its type.
+    Variable(u32, Root, u32),
+    Procedure(u32),
+    Standard(Standard),
+}
+
+/// An expression with its type.
+#[derive(Drop)]
+pub struct Typed {
+    pub type_id: u32,
+    pub expr: RExpr,
+}

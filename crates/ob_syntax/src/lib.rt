@@ -7,8 +7,8 @@ pub mod token_laws;
 pub mod tree;
 
 pub use checked::{
-    Checked, CheckedProc, Local, ModuleVar, Param, RArg, RArm, RExpr, ROp, RStep, RStmt, RVar,
-    Root, Shape, Value,
+    Checked, CheckedProc, Local, Meaning, ModuleVar, Param, RArg, RArm, RExpr, ROp, RStep, RStmt,
+    RVar, Root, Shape, Standard, Typed, Value,
 };
 pub use token::{Kind, Token};
 pub use tree::{
