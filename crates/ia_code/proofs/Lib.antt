@@ -1,7 +1,9 @@
-pub mod Numbers
-pub mod AgainOperands
-pub mod Again
-pub mod TakesOperands
-pub mod Takes
-pub mod Rows
-pub mod Size
+pub mod FieldNumbers
+pub mod OperandsSpelledAreRead
+pub mod SpelledIsRead
+pub mod OperandsReadAreSpelled
+pub mod ReadIsSpelled
+pub mod ReadingIsTable
+pub mod EncodingSize
+pub mod Listings
+pub mod OneImage

@@ -1,5 +1,7 @@
--- Reads the front of some bytes by the table: what stands there, and the bytes after it. None where the table has nothing that begins so.
-use Rattle.std.specs.Prelude.{ℕ, ◌-◌, ◌/◌, ◌%◌, ℤ, pos, ◌&&◌, ◌||◌, ◌==◌, nat_lt, nat_le, if◌then◌else◌, List, [], ◌∷◌, length, take, drop, Option, Some, None}
+-- Reads the front of some bytes by the table: what stands there, and the bytes after it. None where
+-- the table has nothing that begins so.
+use Rattle.std.specs.Prelude.{ℕ, ◌-◌, ◌/◌, ◌%◌, ℤ, pos, ◌&&◌, ◌||◌, ◌==◌, nat_lt, nat_le}
+use Rattle.std.specs.Prelude.{if◌then◌else◌, List, [], ◌∷◌, length, take, drop, Option, Some, None}
 use Rattle.std.specs.Int.{w8, w16, w32, from_le_bytes, cast_signed}
 use Rattle.pra_base.specs.declared.ids.Cond.{Cond}
 use Rattle.pra_base.specs.declared.ids.Cond.TheVariants.{B, Ae, E, Ne, Be, A, S, Ns, L, Ge, Le, G}
@@ -13,9 +15,13 @@ use Rattle.ia_code.specs.declared.ins.Rm.TheVariants as rm
 use Rattle.ia_code.specs.declared.ins.AluOp.{AluOp}
 use Rattle.ia_code.specs.declared.ins.AluOp.TheVariants.{Add, Or, And, Sub, Xor, Cmp}
 use Rattle.ia_code.specs.declared.ins.Ins.{Ins}
-use Rattle.ia_code.specs.declared.ins.Ins.TheVariants.{MovRmR, MovRRm, MovRI, MovRmI, AluRmR, AluRRm, AluRmI, AluRmB, ImulRRm, ImulI, ImulB, Neg, Idiv, Cdq, Lea, PushR, PopR, PushM, PushI, Call, Ret, RetI, Jmp, Jcc, Set, Movzx, Xchg, Test, Int}
-use Rattle.ia_code.specs.declared.ins.TheConstants.{FIRST_SERVICE, LAST_SERVICE}
-use Rattle.ia_code.specs.Table.{has_low_byte}
+use Rattle.ia_code.specs.declared.ins.Ins.TheVariants.{MovRmR, MovRRm, MovRI, MovRmI, AluRmR}
+use Rattle.ia_code.specs.declared.ins.Ins.TheVariants.{AluRRm, AluRmI, AluRmB, ImulRRm, ImulI}
+use Rattle.ia_code.specs.declared.ins.Ins.TheVariants.{ImulB, Neg, Idiv, Cdq, Lea, PushR, PopR}
+use Rattle.ia_code.specs.declared.ins.Ins.TheVariants.{PushM, PushI, Call, Ret, RetI, Jmp, Jcc, Set}
+use Rattle.ia_code.specs.declared.ins.Ins.TheVariants.{Movzx, Xchg, Test, Int}
+use Rattle.ia_code.specs.Services.{is_service}
+use Rattle.ia_code.specs.DecodeTable.{has_low_byte}
 
 infixl 10 ◌>>=◌
 abbrev pub ◌>>=◌ : {A B : Type 0} → Option A → (A → Option B) → Option B
@@ -25,19 +31,41 @@ None >>= f = None
 -- What a field's number stands for.
 
 abbrev pub reg_of : ℕ → Reg
-reg_of n = if n == 0 then Eax else if n == 1 then Ecx else if n == 2 then Edx else if n == 3 then Ebx else if n == 4 then Esp else if n == 5 then Ebp else if n == 6 then Esi else Edi
+reg_of n =
+    if n == 0 then Eax
+    else if n == 1 then Ecx
+    else if n == 2 then Edx
+    else if n == 3 then Ebx
+    else if n == 4 then Esp
+    else if n == 5 then Ebp
+    else if n == 6 then Esi
+    else Edi
 
 abbrev pub cond_of : ℕ → Option Cond
 cond_of n =
-    if n == 2 then Some B else if n == 3 then Some Ae else if n == 4 then Some E else if n == 5 then Some Ne
-    else if n == 6 then Some Be else if n == 7 then Some A else if n == 8 then Some S else if n == 9 then Some Ns
-    else if n == 12 then Some L else if n == 13 then Some Ge else if n == 14 then Some Le else if n == 15 then Some G
+    if n == 2 then Some B
+    else if n == 3 then Some Ae
+    else if n == 4 then Some E
+    else if n == 5 then Some Ne
+    else if n == 6 then Some Be
+    else if n == 7 then Some A
+    else if n == 8 then Some S
+    else if n == 9 then Some Ns
+    else if n == 12 then Some L
+    else if n == 13 then Some Ge
+    else if n == 14 then Some Le
+    else if n == 15 then Some G
     else None
 
 abbrev pub op_of : ℕ → Option AluOp
 op_of n =
-    if n == 0 then Some Add else if n == 1 then Some Or else if n == 4 then Some And else if n == 5 then Some Sub
-    else if n == 6 then Some Xor else if n == 7 then Some Cmp else None
+    if n == 0 then Some Add
+    else if n == 1 then Some Or
+    else if n == 4 then Some And
+    else if n == 5 then Some Sub
+    else if n == 6 then Some Xor
+    else if n == 7 then Some Cmp
+    else None
 
 abbrev pub scale_of : ℕ → ℕ
 scale_of n = if n == 0 then 1 else if n == 1 then 2 else if n == 2 then 4 else 8
@@ -57,10 +85,14 @@ short_at bytes = do
   Some (cast_signed w8 b.0, b.1)
 
 unfoldable pub half_at : List ℕ → Option (ℕ × List ℕ)
-half_at bytes = if nat_lt (length bytes) 2 then None else Some (from_le_bytes w16 (take 2 bytes), drop 2 bytes)
+half_at bytes =
+    if nat_lt (length bytes) 2 then None
+    else Some (from_le_bytes w16 (take 2 bytes), drop 2 bytes)
 
 unfoldable pub word_at : List ℕ → Option (ℤ × List ℕ)
-word_at bytes = if nat_lt (length bytes) 4 then None else Some (cast_signed w32 (from_le_bytes w32 (take 4 bytes)), drop 4 bytes)
+word_at bytes =
+    if nat_lt (length bytes) 4 then None
+    else Some (cast_signed w32 (from_le_bytes w32 (take 4 bytes)), drop 4 bytes)
 
 unfoldable pub displacement_at : Width → List ℕ → Option (ℤ × List ℕ)
 displacement_at D0 bytes = Some (pos 0, bytes)
@@ -69,7 +101,8 @@ displacement_at D32 bytes = word_at bytes
 
 -- Operands.
 
-unfoldable pub address_at : Option Reg → Option (Reg × ℕ) → Width → List ℕ → Option (MemAddr × List ℕ)
+unfoldable pub address_at :
+    Option Reg → Option (Reg × ℕ) → Width → List ℕ → Option (MemAddr × List ℕ)
 address_at base index width bytes = do
   d ← displacement_at width bytes
   Some (record { base = base; index = index; disp = d.0; width = width }, d.1)
@@ -77,8 +110,11 @@ address_at base index width bytes = do
 -- after a SIB byte of these fields
 unfoldable pub sib_at : ℕ → ℕ → ℕ → ℕ → List ℕ → Option (MemAddr × List ℕ)
 sib_at mode scale index base bytes =
-    if index == 4 then (if (base == 4) && (scale == 0) then address_at (Some Esp) None (width_of mode) bytes else None)
-    else if (base == 5) && (mode == 0) then address_at None (Some (reg_of index, scale_of scale)) D32 bytes
+    if index == 4 then (
+    if (base == 4) && (scale == 0) then address_at (Some Esp) None (width_of mode) bytes
+    else None)
+    else if (base == 5) && (mode == 0) then
+    address_at None (Some (reg_of index, scale_of scale)) D32 bytes
     else address_at (Some (reg_of base)) (Some (reg_of index, scale_of scale)) (width_of mode) bytes
 
 -- after a ModRM byte with these fields mod and r/m
@@ -248,7 +284,7 @@ constant_at op bytes =
     else if op == 0xc7 then mov_word_at bytes
     else if op == 0xcd then (do
       n ← byte_at bytes
-      if nat_le FIRST_SERVICE n.0 && nat_le n.0 LAST_SERVICE then Some (Int n.0, n.1) else None)
+      if is_service n.0 then Some (Int n.0, n.1) else None)
     else if nat_le 0xb8 op && nat_le op 0xbf then (do
       n ← word_at bytes
       Some (MovRI (reg_of (op - 0xb8)) n.0, n.1))

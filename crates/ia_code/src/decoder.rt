@@ -2,14 +2,18 @@
 
 ghost use Rattle.std.specs.Prelude.{◌≡◌, ℕ, ◌≤◌, length, take, drop, IfOk, Ok};
 ghost use Rattle.ia_code.specs.declared.ins.Ins.{Ins};
-ghost use Rattle.ia_code.specs.Table.{Row};
-ghost use Rattle.ia_code.specs.Reading.{cond_of, op_of, alu_word_at, alu_short_at, mov_word_at, unary_at, set_at, movzx_at, extended_at, alu_at, stack_at, move_at, constant_at, jump_at, opcode_at, instruction_at, decoded};
+ghost use Rattle.ia_code.specs.DecodeTable.{Row};
+ghost use Rattle.ia_code.specs.Reading.{cond_of, op_of, alu_word_at, alu_short_at, mov_word_at};
+ghost use Rattle.ia_code.specs.Reading.{unary_at, set_at, movzx_at, extended_at, alu_at, stack_at};
+ghost use Rattle.ia_code.specs.Reading.{move_at, constant_at, jump_at, opcode_at, instruction_at};
+ghost use Rattle.ia_code.specs.Reading.{decoded};
 ghost use Rattle.ia_code.specs.Views.{Gives, Finds};
 
-use crate::ins::{AluOp, FIRST_SERVICE, Ins, LAST_SERVICE};
+use crate::ins::{AluOp, Ins};
 use crate::operands::{
     byte, half, memory_operand, operand, register, register_operand, short, word,
 };
+use crate::services::is_service;
 use crate::sound::low_byte_stands;
 use pra_base::Cond;
 
@@ -238,7 +242,7 @@ fn constant(op: u8, bytes: &[u8]) -> Option<(Ins, &[u8])>
         0xc7 => mov_word(bytes),
         0xcd => {
             let (n, rest) = byte(bytes)?;
-            if n >= FIRST_SERVICE && n <= LAST_SERVICE {
+            if is_service(n) {
                 Some((Ins::Int(n), rest))
             } else {
                 None

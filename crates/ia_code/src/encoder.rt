@@ -3,13 +3,17 @@
 ghost use Rattle.std.specs.Prelude.{◌≡◌, ◌+◌, ◌≤◌, ◌<◌, ◌++◌, length, IsTrue};
 ghost use Rattle.std.specs.Int.{w16, to_le_bytes};
 ghost use Rattle.arrayvec.specs.ArrayVec.{array_vec_len};
-ghost use Rattle.ia_code.specs.Table.{reg_number, cond_number, op_number, scale_number, mod_number, fields, short, word, displacement, address, operand, bytes_of, IsSound, IsOperand, IsAddress, Holds};
+ghost use Rattle.ia_code.specs.DecodeTable.{reg_number, cond_number, op_number, scale_number};
+ghost use Rattle.ia_code.specs.DecodeTable.{mod_number, fields, imm8, imm32, displacement, address};
+ghost use Rattle.ia_code.specs.DecodeTable.{operand, bytes_of, IsSound, IsOperand, IsAddress};
+ghost use Rattle.ia_code.specs.DecodeTable.{Holds};
 
 use crate::ins::{AluOp, Ins, MemAddr, Reg, Rm, Width};
 use arrayvec::ArrayVec;
 use pra_base::Cond;
 
-/// Room for the bytes of one instruction: the processor allows 15 at most (SDM volume 2, section 2.3.11).
+/// Room for the bytes of one instruction: the processor allows 15 at most (SDM volume 2, section
+/// 2.3.11).
 type Code = ArrayVec<u8, 16>;
 
 fn number(r: Reg) -> u8
@@ -76,7 +80,7 @@ fn mode(w: Width) -> u8
     }
 }
 
-#[tactic(auto, unfolding(crate::specs::Table::fields))]
+#[tactic(auto, unfolding(crate::specs::DecodeTable::fields))]
 fn joined(high: u8, middle: u8, low: u8) -> u8
     requires high { high < 4 }
     requires middle { middle < 8 }
@@ -97,7 +101,7 @@ fn push_half(out: &mut Code, n: u16)
 
 fn push_word(out: &mut Code, n: i32)
     requires { array_vec_len out.old ≤ 12 }
-    ensures { out.new.items ≡ out.old.items ++ word n }
+    ensures { out.new.items ≡ out.old.items ++ imm32 n }
 {
     let [a, b, c, d] = n.to_le_bytes();
     out.push(a);
@@ -122,7 +126,7 @@ fn push_address(out: &mut Code, reg: u8, a: &MemAddr)
     requires room { array_vec_len out.old ≤ 10 }
     requires reg { reg < 8 }
     requires is { IsAddress a.now }
-    ensures { out.new.items ≡ out.old.items ++ address reg a.now.base a.now.index a.now.width a.now.disp }
+    ensures { out.new.items ≡ out.old.items ++ operand reg (Rm.Mem a.now) }
 {
     match (a.base, a.index) {
         (None, None) => {

@@ -1,4 +1,5 @@
-// The instructions, in the order of the table of their bytes. Names and operand order are the Intel manual's.
+// The instructions, in the order of the table of their bytes. Names and operand order are the Intel
+// manual's.
 
 use pra_base::Cond;
 
@@ -50,13 +51,8 @@ pub enum AluOp {
     Cmp,
 }
 
-/// The first and the last interrupt that `Int` calls: the services of the machine.
-pub const FIRST_SERVICE: u8 = 0x20;
-
-pub const LAST_SERVICE: u8 = 0x24;
-
-/// An instruction. The target stands first. Of `Xchg` and `Test` the first register is the rm field and the second the
-/// reg field; the first of `Movzx` is the reg field.
+/// An instruction. The target stands first. Of `Xchg` and `Test` the first register is the rm field
+/// and the second the reg field; the first of `Movzx` is the reg field.
 #[derive(Clone, Copy, Debug, PartialEq, Eq, Drop)]
 pub enum Ins {
     MovRmR(Rm, Reg),

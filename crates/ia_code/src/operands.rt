@@ -1,7 +1,11 @@
-// Reads numbers and operands from the front of some bytes. Each function gives what it read and the bytes after it.
+// Reads numbers and operands from the front of some bytes. Each function gives what it read and the
+// bytes after it.
 
 ghost use Rattle.std.specs.Prelude.{◌≡◌};
-ghost use Rattle.ia_code.specs.Reading.{reg_of, scale_of, width_of, byte_at, short_at, half_at, word_at, displacement_at, address_at, sib_at, memory_at, fields_at, operand_at, memory_operand_at, register_operand_at};
+ghost use Rattle.ia_code.specs.Reading.{reg_of, scale_of, width_of, byte_at, short_at, half_at};
+ghost use Rattle.ia_code.specs.Reading.{word_at, displacement_at, address_at, sib_at, memory_at};
+ghost use Rattle.ia_code.specs.Reading.{fields_at, operand_at, memory_operand_at};
+ghost use Rattle.ia_code.specs.Reading.{register_operand_at};
 ghost use Rattle.ia_code.specs.Views.{Gives};
 
 use crate::ins::{MemAddr, Reg, Rm, Width};

@@ -2,9 +2,11 @@
 
 ghost use Rattle.std.specs.Prelude.{◌≡◌, ◌↔◌, ◌<◌, ◌^◌, IsTrue, FitsSigned};
 ghost use Rattle.std.specs.Int.{w8, w32};
-ghost use Rattle.ia_code.specs.Table.{IsSound, IsOperand, IsAddress, Holds, is_index, is_base, has_low_byte};
+ghost use Rattle.ia_code.specs.DecodeTable.{IsSound, IsOperand, IsAddress, Holds, is_index};
+ghost use Rattle.ia_code.specs.DecodeTable.{is_base, has_low_byte};
 
-use crate::ins::{FIRST_SERVICE, Ins, LAST_SERVICE, MemAddr, Reg, Rm, Width};
+use crate::ins::{Ins, MemAddr, Reg, Rm, Width};
+use crate::services::is_service;
 
 fn index_stands(index: Option<(Reg, u8)>) -> bool
     ensures { result ≡ is_index index }
@@ -113,6 +115,6 @@ pub fn is_sound(i: &Ins) -> bool
         Ins::Movzx(_, from) => low_byte_stands(*from),
         Ins::Xchg(_, _) => true,
         Ins::Test(_, _) => true,
-        Ins::Int(n) => *n >= FIRST_SERVICE && *n <= LAST_SERVICE,
+        Ins::Int(n) => is_service(*n),
     }
 }

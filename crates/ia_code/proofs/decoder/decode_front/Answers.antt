@@ -1,5 +1,5 @@
 use Rattle.std.proofs.Common.{arith}
-use Rattle.ia_code.proofs.Rows.{rest_short, is_row, no_row, only_row}
+use Rattle.ia_code.proofs.ReadingIsTable.{rest_short, is_row, no_row, only_row}
 use Rattle.ia_code.proofs.decoder.decode_front.Goals as goal
 
 pub overflow_sub-result : goal.overflow_sub-result

@@ -1,4 +1,4 @@
-use Rattle.ia_code.proofs.Size.{code_of}
+use Rattle.ia_code.proofs.EncodingSize.{code_of}
 use Rattle.ia_code.proofs.laws.code_size.Goals as goal
 
 pub returns : goal.returns

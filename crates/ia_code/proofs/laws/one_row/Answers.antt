@@ -1,4 +1,4 @@
-use Rattle.ia_code.proofs.Rows.{one_row}
+use Rattle.ia_code.proofs.ReadingIsTable.{one_row}
 use Rattle.ia_code.proofs.laws.one_row.Goals as goal
 
 pub returns : goal.returns

@@ -1,4 +1,4 @@
-use Rattle.ia_code.proofs.Rows.{one_spelling}
+use Rattle.ia_code.proofs.ReadingIsTable.{one_spelling}
 use Rattle.ia_code.proofs.laws.one_spelling.Goals as goal
 
 pub returns : goal.returns

@@ -1,4 +1,4 @@
-use Rattle.ia_code.proofs.Rows.{decoded-bytes_of}
+use Rattle.ia_code.proofs.ReadingIsTable.{decoded-bytes_of}
 use Rattle.ia_code.proofs.laws.round_trip.Goals as goal
 
 pub returns : goal.returns

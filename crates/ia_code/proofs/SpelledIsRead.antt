@@ -1,7 +1,6 @@
 -- An instruction that is spelled by the table is read back.
-use Rattle.std.proofs.Common.{◌≡◌, ℕ, ◌+◌, ◌*◌, ◌≤◌, ◌<◌, true, false, List, ◌∷◌, ◌++◌, Some, refl, ◌∙◌, arith, append_assoc}
+use Rattle.std.proofs.Common.{◌≡◌, ℕ, ◌+◌, ◌*◌, ◌<◌, true, false, List, ◌∷◌, ◌++◌, Some, refl, ◌∙◌, arith, append_assoc}
 use Rattle.std.specs.Prelude.{ℤ}
-use Rattle.std.proofs.lemmas.Bool.Decides.{nat_tests}
 use Rattle.std.specs.Int.{w8, w32}
 use Rattle.std.specs.Int.RustNames.{FitsSigned}
 use Rattle.pra_base.specs.declared.ids.Cond.{Cond}
@@ -15,11 +14,11 @@ use Rattle.ia_code.specs.declared.ins.AluOp.{AluOp}
 use Rattle.ia_code.specs.declared.ins.AluOp.TheVariants.{Add, Or, And, Sub, Xor, Cmp}
 use Rattle.ia_code.specs.declared.ins.Ins.{Ins}
 use Rattle.ia_code.specs.declared.ins.Ins.TheVariants.{MovRmR, MovRRm, MovRI, MovRmI, AluRmR, AluRRm, AluRmI, AluRmB, ImulRRm, ImulI, ImulB, Neg, Idiv, Cdq, Lea, PushR, PopR, PushM, PushI, Call, Ret, RetI, Jmp, Jcc, Set, Movzx, Xchg, Test, Int}
-use Rattle.ia_code.specs.declared.ins.TheConstants.{FIRST_SERVICE, LAST_SERVICE}
-use Rattle.ia_code.specs.Table.{reg_number, op_number, cond_number, short, word, operand, bytes_of, is_register, has_low_byte, IsAddress, IsOperand, IsSound}
+use Rattle.ia_code.specs.Services.{is_service}
+use Rattle.ia_code.specs.DecodeTable.{reg_number, op_number, cond_number, imm8, imm32, operand, bytes_of, is_register, has_low_byte, IsAddress, IsOperand, IsSound}
 use Rattle.ia_code.specs.Reading.{◌>>=◌, reg_of, byte_at, word_at, operand_at, memory_operand_at, register_operand_at, alu_word_at, alu_short_at, mov_word_at, unary_at, set_at, movzx_at, extended_at, alu_at, stack_at, move_at, constant_at, jump_at, opcode_at, instruction_at}
-use Rattle.ia_code.proofs.Numbers.{reg_again, reg_small, op_small, op_again, word_again, short_again, half_again}
-use Rattle.ia_code.proofs.AgainOperands.{operand_again}
+use Rattle.ia_code.proofs.FieldNumbers.{reg_again, reg_small, op_small, op_again, word_again, short_again, half_again}
+use Rattle.ia_code.proofs.OperandsSpelledAreRead.{operand_again}
 
 -- Rows with a number in the opcode: how they are read, by cases on what has the number.
 
@@ -71,31 +70,31 @@ memory_again reg h a rest is = rw (operand_again reg h rest (rm.Mem a) is) refl
 -- Rows with a number behind the operand, and those with a test.
 
 module _ (op : AluOp) (to : Rm) (rest : List ℕ) (is : IsOperand to) where
-  alu_word_again : (n : ℤ) → FitsSigned w32 n → alu_word_at ((operand (op_number op) to ++ word n) ++ rest) ≡ Some (AluRmI op to n, rest)
+  alu_word_again : (n : ℤ) → FitsSigned w32 n → alu_word_at ((operand (op_number op) to ++ imm32 n) ++ rest) ≡ Some (AluRmI op to n, rest)
   unfolding alu_word_at
   alu_word_again n f =
-      rw (append_assoc (operand (op_number op) to) (word n) rest, operand_again (op_number op) (op_small op) (word n ++ rest) to is, op_again op, word_again n rest f) refl
+      rw (append_assoc (operand (op_number op) to) (imm32 n) rest, operand_again (op_number op) (op_small op) (imm32 n ++ rest) to is, op_again op, word_again n rest f) refl
 
-  alu_short_again : (n : ℤ) → FitsSigned w8 n → alu_short_at ((operand (op_number op) to ++ short n) ++ rest) ≡ Some (AluRmB op to n, rest)
+  alu_short_again : (n : ℤ) → FitsSigned w8 n → alu_short_at ((operand (op_number op) to ++ imm8 n) ++ rest) ≡ Some (AluRmB op to n, rest)
   unfolding alu_short_at
   alu_short_again n f =
-      rw (append_assoc (operand (op_number op) to) (short n) rest, operand_again (op_number op) (op_small op) (short n ++ rest) to is, op_again op, short_again n rest f) refl
+      rw (append_assoc (operand (op_number op) to) (imm8 n) rest, operand_again (op_number op) (op_small op) (imm8 n ++ rest) to is, op_again op, short_again n rest f) refl
 
-mov_word_again : (to : Rm) (n : ℤ) (rest : List ℕ) → IsOperand to → FitsSigned w32 n → mov_word_at ((operand 0 to ++ word n) ++ rest) ≡ Some (MovRmI to n, rest)
+mov_word_again : (to : Rm) (n : ℤ) (rest : List ℕ) → IsOperand to → FitsSigned w32 n → mov_word_at ((operand 0 to ++ imm32 n) ++ rest) ≡ Some (MovRmI to n, rest)
 unfolding mov_word_at
 mov_word_again to n rest is f =
-    rw (append_assoc (operand 0 to) (word n) rest, operand_again 0 (omega arith) (word n ++ rest) to is, word_again n rest f) refl
+    rw (append_assoc (operand 0 to) (imm32 n) rest, operand_again 0 (omega arith) (imm32 n ++ rest) to is, word_again n rest f) refl
 
 module _ (to : Reg) (from : Rm) (rest : List ℕ) (is : IsOperand from) where
-  imul_word_again : (n : ℤ) → FitsSigned w32 n → opcode_at 0x69 ((operand (reg_number to) from ++ word n) ++ rest) ≡ Some (ImulI to from n, rest)
+  imul_word_again : (n : ℤ) → FitsSigned w32 n → opcode_at 0x69 ((operand (reg_number to) from ++ imm32 n) ++ rest) ≡ Some (ImulI to from n, rest)
   unfolding opcode_at stack_at
   imul_word_again n f =
-      rw (append_assoc (operand (reg_number to) from) (word n) rest, operand_again (reg_number to) (reg_small to) (word n ++ rest) from is, word_again n rest f, reg_again to) refl
+      rw (append_assoc (operand (reg_number to) from) (imm32 n) rest, operand_again (reg_number to) (reg_small to) (imm32 n ++ rest) from is, word_again n rest f, reg_again to) refl
 
-  imul_short_again : (n : ℤ) → FitsSigned w8 n → opcode_at 0x6b ((operand (reg_number to) from ++ short n) ++ rest) ≡ Some (ImulB to from n, rest)
+  imul_short_again : (n : ℤ) → FitsSigned w8 n → opcode_at 0x6b ((operand (reg_number to) from ++ imm8 n) ++ rest) ≡ Some (ImulB to from n, rest)
   unfolding opcode_at stack_at
   imul_short_again n f =
-      rw (append_assoc (operand (reg_number to) from) (short n) rest, operand_again (reg_number to) (reg_small to) (short n ++ rest) from is, short_again n rest f, reg_again to) refl
+      rw (append_assoc (operand (reg_number to) from) (imm8 n) rest, operand_again (reg_number to) (reg_small to) (imm8 n ++ rest) from is, short_again n rest f, reg_again to) refl
 
 set_again : (c : Cond) (to : Reg) (rest : List ℕ) → has_low_byte to ≡ true → set_at c (operand 0 (rm.Reg to) ++ rest) ≡ Some (Set c to, rest)
 unfolding set_at
@@ -105,16 +104,16 @@ movzx_again : (to from : Reg) (rest : List ℕ) → has_low_byte from ≡ true �
 unfolding movzx_at
 movzx_again to from rest low = rw (register_again to from rest, low, reg_again to) refl
 
-int_again : (n : ℕ) (rest : List ℕ) → FIRST_SERVICE ≤ n → n ≤ LAST_SERVICE → opcode_at 0xcd (n ∷ rest) ≡ Some (Int n, rest)
+int_again : (n : ℕ) (rest : List ℕ) → is_service n ≡ true → opcode_at 0xcd (n ∷ rest) ≡ Some (Int n, rest)
 unfolding opcode_at constant_at byte_at
-int_again n rest l h = grind (arith, nat_tests)
+int_again n rest is = rw is refl
 
 -- what the table spells is read back, whatever follows
 pub one_spelling_of : (i : Ins) → IsSound i → (rest : List ℕ) → instruction_at (bytes_of i ++ rest) ≡ Some (i, rest)
 unfolding instruction_at byte_at opcode_at alu_at stack_at move_at constant_at jump_at extended_at unary_at
 one_spelling_of (MovRmR to from) is rest = rw (operand_again (reg_number from) (reg_small from) rest to is, reg_again from) refl
 one_spelling_of (MovRRm to from) is rest = rw (operand_again (reg_number to) (reg_small to) rest from is, reg_again to) refl
-one_spelling_of (MovRI to n) is rest = mov_row to (word n ++ rest) ∙ rw (word_again n rest is) refl
+one_spelling_of (MovRI to n) is rest = mov_row to (imm32 n ++ rest) ∙ rw (word_again n rest is) refl
 one_spelling_of (MovRmI to n) is rest = mov_word_again to n rest is.0 is.1
 one_spelling_of (AluRmR op to from) is rest =
     alu_left op (operand (reg_number from) to ++ rest) ∙ rw (operand_again (reg_number from) (reg_small from) rest to is, reg_again from) refl
@@ -137,9 +136,9 @@ one_spelling_of (Call to) is rest = rw (word_again to rest is) refl
 one_spelling_of Ret is rest = refl
 one_spelling_of (RetI n) is rest = rw (half_again n rest is) refl
 one_spelling_of (Jmp to) is rest = rw (word_again to rest is) refl
-one_spelling_of (Jcc c to) is rest = jcc_row c (word to ++ rest) ∙ rw (word_again to rest is) refl
+one_spelling_of (Jcc c to) is rest = jcc_row c (imm32 to ++ rest) ∙ rw (word_again to rest is) refl
 one_spelling_of (Set c to) is rest = set_row c (operand 0 (rm.Reg to) ++ rest) ∙ set_again c to rest is
 one_spelling_of (Movzx to from) is rest = movzx_again to from rest is
 one_spelling_of (Xchg to with) is rest = rw (register_again with to rest, reg_again with) refl
 one_spelling_of (Test left right) is rest = rw (register_again right left rest, reg_again right) refl
-one_spelling_of (Int n) is rest = int_again n rest is.0 is.1
+one_spelling_of (Int n) is rest = int_again n rest is

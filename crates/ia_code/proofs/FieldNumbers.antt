@@ -15,7 +15,7 @@ use Rattle.ia_code.specs.declared.ins.Width.{Width}
 use Rattle.ia_code.specs.declared.ins.Width.TheVariants.{D0, D8, D32}
 use Rattle.ia_code.specs.declared.ins.AluOp.{AluOp}
 use Rattle.ia_code.specs.declared.ins.AluOp.TheVariants.{Add, Or, And, Sub, Xor, Cmp}
-use Rattle.ia_code.specs.Table.{reg_number, op_number, cond_number, scale_number, mod_number, short, word, is_scale}
+use Rattle.ia_code.specs.DecodeTable.{reg_number, op_number, cond_number, scale_number, mod_number, imm8, imm32, is_scale}
 use Rattle.ia_code.specs.Reading.{reg_of, cond_of, op_of, scale_of, width_of, byte_at, short_at, half_at, word_at}
 
 pub reg_again : (r : Reg) → reg_of (reg_number r) ≡ r
@@ -50,10 +50,10 @@ four_again u rest h =
     let long : nat_lt (length (to_le_bytes w32 u ++ rest)) 4 ≡ false = le-ltb _ 4 (omega arith) in
     rw long (ap (λ k. Some (cast_signed w32 k, rest)) (from_le_bytes-to_le_bytes_4 u h))
 
-pub word_again : (n : ℤ) (rest : List ℕ) → FitsSigned w32 n → word_at (word n ++ rest) ≡ Some (n, rest)
+pub word_again : (n : ℤ) (rest : List ℕ) → FitsSigned w32 n → word_at (imm32 n ++ rest) ≡ Some (n, rest)
 word_again n rest f = four_again (cast_unsigned w32 n) rest (bits_fit n f) ∙ ap (λ z. Some (z, rest)) (to_z-of_z w32 n f)
 
-pub short_again : (n : ℤ) (rest : List ℕ) → FitsSigned w8 n → short_at (short n ++ rest) ≡ Some (n, rest)
+pub short_again : (n : ℤ) (rest : List ℕ) → FitsSigned w8 n → short_at (imm8 n ++ rest) ≡ Some (n, rest)
 unfolding short_at byte_at
 short_again n rest f = ap (λ z. Some (z, rest)) (to_z-of_z w8 n f)
 

@@ -1,12 +1,13 @@
 -- What reading and the table say of each other: at most one row begins some bytes, and reading finds it.
-use Rattle.std.proofs.Common.{◌≡◌, ℕ, ◌-◌, ◌≤◌, List, ◌++◌, length, Some, None, sym, ap, ◌∙◌, arith, take, drop, take-append-drop, length-take, length-append, length-drop}
+use Rattle.std.specs.Prelude.{◌↔◌}
+use Rattle.std.proofs.Common.{◌≡◌, ℕ, ◌-◌, ◌≤◌, List, ◌++◌, length, Option, Some, None, subst, sym, ap, ◌∙◌, arith, take, drop, take-append-drop, length-take, length-append, length-drop}
 use Rattle.std.proofs.Math.Seq.{take-append_seam}
 use Rattle.ia_code.specs.declared.ins.Ins.{Ins}
-use Rattle.ia_code.specs.Table.{bytes_of, IsSound, Row, IsBytes}
+use Rattle.ia_code.specs.DecodeTable.{bytes_of, IsSound, Row, IsBytes}
 use Rattle.ia_code.specs.Reading.{instruction_at, counted, decoded}
-use Rattle.ia_code.proofs.Again.{one_spelling_of}
-use Rattle.ia_code.proofs.TakesOperands.{some_same, none_some}
-use Rattle.ia_code.proofs.Takes.{instruction_takes}
+use Rattle.ia_code.proofs.SpelledIsRead.{one_spelling_of}
+use Rattle.ia_code.proofs.OperandsReadAreSpelled.{some_same, none_some}
+use Rattle.ia_code.proofs.ReadIsSpelled.{instruction_takes}
 
 -- two rows of one instruction are one
 pub one_spelling : (a b : List ℕ) (i : Ins) (m n : ℕ) → Row a i m → Row b i n → (a ≡ b) × (m ≡ n)
@@ -57,3 +58,27 @@ only_row bytes i after e j n r =
     let l : length after ≡ length bytes - n = ap (λ t. length t.1) same ∙ length-drop n bytes in
     let m : n ≤ length bytes = omega (arith, r.length_is, length-take n bytes) in
     (ap (λ t. t.0) same, omega arith)
+
+-- what is counted of a reading was read
+counted_some : (bytes : List ℕ) (r : Option (Ins × List ℕ)) (i : Ins) (n : ℕ) → counted bytes r ≡ Some (i, n) →
+    (after : List ℕ) × (r ≡ Some (i, after)) × (length bytes - length after ≡ n)
+counted_some bytes None i n e = absurd (none_some e)
+counted_some bytes (Some x) i n e =
+    let same = some_same (x.0, length bytes - length x.1) (i, n) e in
+    (x.1, ap (λ j. let y : Ins × List ℕ = (j, x.1) in Some y) (ap (λ t. t.0) same), ap (λ t. t.1) same)
+
+pub read_is_row : (bytes : List ℕ) → IsBytes bytes → (i : Ins) (n : ℕ) → decoded bytes ≡ Some (i, n) → Row (take n bytes) i n
+unfolding decoded
+read_is_row bytes bb i n e =
+    let c = counted_some bytes (instruction_at bytes) i n e in
+    subst (λ n. Row (take n bytes) i n) c.2 (is_row bytes i c.0 bb c.1)
+
+pub row_is_read : (bytes : List ℕ) (i : Ins) (n : ℕ) → Row (take n bytes) i n → decoded bytes ≡ Some (i, n)
+row_is_read bytes i n r =
+    let whole : bytes ≡ bytes_of i ++ drop n bytes = sym (take-append-drop n bytes) ∙ ap (λ l. l ++ drop n bytes) r.spelled in
+    let long : length (bytes_of i) ≡ n = sym (ap length r.spelled) ∙ sym r.length_is in
+    ap decoded whole ∙ decoded-bytes_of i r.sound (drop n bytes) ∙ ap (λ k. Some (i, k)) long
+
+-- reading is the table, both ways
+pub reading_is_table : (bytes : List ℕ) → IsBytes bytes → (i : Ins) (n : ℕ) → (decoded bytes ≡ Some (i, n)) ↔ Row (take n bytes) i n
+reading_is_table bytes bb i n = (read_is_row bytes bb i n, row_is_read bytes i n)

@@ -14,10 +14,10 @@ use Rattle.ia_code.specs.declared.ins.Width.TheVariants.{D0, D8, D32}
 use Rattle.ia_code.specs.declared.ins.MemAddr.{MemAddr}
 use Rattle.ia_code.specs.declared.ins.Rm.{Rm}
 use Rattle.ia_code.specs.declared.ins.Rm.TheVariants as rm
-use Rattle.ia_code.specs.Table.{reg_number, scale_number, mod_number, fields, short, word, displacement, address, operand, is_scale, is_index, is_base, Holds, IsAddress, IsOperand}
+use Rattle.ia_code.specs.DecodeTable.{reg_number, scale_number, mod_number, fields, imm8, imm32, displacement, address, operand, is_scale, is_index, is_base, Holds, IsAddress, IsOperand}
 use Rattle.ia_code.specs.Reading.{◌>>=◌, reg_of, scale_of, width_of, byte_at, short_at, half_at, word_at, displacement_at, address_at, sib_at, memory_at, fields_at, operand_at}
-use Rattle.ia_code.proofs.Numbers.{reg_back, scale_back, scale_stands, mode_back}
-use Rattle.ia_code.specs.Table.{IsBytes}
+use Rattle.ia_code.proofs.FieldNumbers.{reg_back, scale_back, scale_stands, mode_back}
+use Rattle.ia_code.specs.DecodeTable.{IsBytes}
 
 pub some_same : {A : Type 0} (x y : A) → Some x ≡ Some y → x ≡ y
 some_same x y e = cc
@@ -85,11 +85,11 @@ half_takes bytes is x e =
     ))
     e
 
-four_spelled : (bytes : List ℕ) → IsBytes bytes → length bytes ≡ 4 → word (cast_signed w32 (from_le_bytes w32 bytes)) ≡ bytes
+four_spelled : (bytes : List ℕ) → IsBytes bytes → length bytes ≡ 4 → imm32 (cast_signed w32 (from_le_bytes w32 bytes)) ≡ bytes
 four_spelled bytes is l =
     ap (to_le_bytes w32) (of_z-to_z w32 (from_le_bytes w32 bytes) (four_below bytes is)) ∙ le_bytes_4 bytes (from_le_bytes w32 bytes) l is refl
 
-pub word_takes : (bytes : List ℕ) → IsBytes bytes → (x : ℤ × List ℕ) → word_at bytes ≡ Some x → Takes bytes (word x.0) x.1 × FitsSigned w32 x.0
+pub word_takes : (bytes : List ℕ) → IsBytes bytes → (x : ℤ × List ℕ) → word_at bytes ≡ Some x → Takes bytes (imm32 x.0) x.1 × FitsSigned w32 x.0
 unfolding word_at
 word_takes bytes is x e =
     by_test (nat_lt (length bytes) 4) None (Some (cast_signed w32 (from_le_bytes w32 (take 4 bytes)), drop 4 bytes)) (Some x)
@@ -97,18 +97,18 @@ word_takes bytes is x e =
     (λ h f.
     let front = take_bytes 4 bytes is in
     let spelled = four_spelled (take 4 bytes) front (four_long bytes (ltb-false _ _ h)) in
-    subst (λ y. Takes bytes (word y.0) y.1 × FitsSigned w32 y.0) (some_same (cast_signed w32 (from_le_bytes w32 (take 4 bytes)), drop 4 bytes) x f) (
+    subst (λ y. Takes bytes (imm32 y.0) y.1 × FitsSigned w32 y.0) (some_same (cast_signed w32 (from_le_bytes w32 (take 4 bytes)), drop 4 bytes) x f) (
       record { all = sym (take-append-drop 4 bytes) ∙ ap (λ l. l ++ drop 4 bytes) (sym spelled); bytes_left = drop_bytes 4 bytes is },
       signed_fits (from_le_bytes w32 (take 4 bytes)) (four_below (take 4 bytes) front),
     ))
     e
 
-pub short_takes : (bytes : List ℕ) → IsBytes bytes → (x : ℤ × List ℕ) → short_at bytes ≡ Some x → Takes bytes (short x.0) x.1 × FitsSigned w8 x.0
+pub short_takes : (bytes : List ℕ) → IsBytes bytes → (x : ℤ × List ℕ) → short_at bytes ≡ Some x → Takes bytes (imm8 x.0) x.1 × FitsSigned w8 x.0
 unfolding short_at
 short_takes bytes is x e =
     let b = bind_some (byte_at bytes) (λ b. Some (cast_signed w8 b.0, b.1)) x e in
     let t = byte_takes bytes is b.0 b.1 in
-    subst (λ y. Takes bytes (short y.0) y.1 × FitsSigned w8 y.0) (some_same _ x b.2)
+    subst (λ y. Takes bytes (imm8 y.0) y.1 × FitsSigned w8 y.0) (some_same _ x b.2)
     (record { all = t.0.all ∙ ap (λ n. n ∷ b.0.1) (sym (of_z-to_z w8 b.0.0 t.1)); bytes_left = t.0.bytes_left }, short_fits b.0.0 t.1)
 
 displacement_takes : (w : Width) (bytes : List ℕ) → IsBytes bytes → (x : ℤ × List ℕ) → displacement_at w bytes ≡ Some x → Takes bytes (displacement w x.0) x.1 × Holds w x.0

@@ -11,9 +11,9 @@ use Rattle.ia_code.specs.declared.ins.Width.TheVariants.{D0, D8, D32}
 use Rattle.ia_code.specs.declared.ins.MemAddr.{MemAddr}
 use Rattle.ia_code.specs.declared.ins.Rm.{Rm}
 use Rattle.ia_code.specs.declared.ins.Rm.TheVariants as rm
-use Rattle.ia_code.specs.Table.{reg_number, scale_number, mod_number, fields, word, displacement, address, operand, is_register, is_scale, is_index, is_base, Holds, IsOperand}
+use Rattle.ia_code.specs.DecodeTable.{reg_number, scale_number, mod_number, fields, imm32, displacement, address, operand, is_register, is_scale, is_index, is_base, Holds, IsOperand}
 use Rattle.ia_code.specs.Reading.{reg_of, scale_of, width_of, byte_at, short_at, displacement_at, address_at, sib_at, memory_at, fields_at, operand_at}
-use Rattle.ia_code.proofs.Numbers.{reg_again, reg_small, width_again, mod_small, scale_small, scale_again, word_again}
+use Rattle.ia_code.proofs.FieldNumbers.{reg_again, reg_small, width_again, mod_small, scale_small, scale_again, word_again}
 
 module _ (high middle low : ℕ) (hs : high < 4) (ms : middle < 8) (ls : low < 8) where
   pub high_of : fields high middle low / 64 ≡ high
@@ -105,7 +105,7 @@ in_memory D32 reg low bytes rest a e = rw e refl
 pub index_parts : (x : Reg × ℕ) → is_index (Some x) ≡ true → (is_register x.0 Esp ≡ false) × (is_scale x.1 ≡ true)
 index_parts x h = (grind arith, grind arith)
 
-none_at : (d : ℤ) (rest : List ℕ) → FitsSigned w32 d → memory_at 0 5 (word d ++ rest) ≡ Some (record { base = None; index = None; disp = d; width = D32 }, rest)
+none_at : (d : ℤ) (rest : List ℕ) → FitsSigned w32 d → memory_at 0 5 (imm32 d ++ rest) ≡ Some (record { base = None; index = None; disp = d; width = D32 }, rest)
 unfolding memory_at
 none_at d rest h = address_at_again None None D32 d rest h
 
@@ -115,16 +115,16 @@ module _ (reg : ℕ) (ms : reg < 8) (rest : List ℕ) where
   address_again None None D0 d ix bs h = cc
   address_again None None D8 d ix bs h = cc
   address_again None None D32 d ix bs h =
-      split_operand 0 reg 5 (omega arith) ms (omega arith) (word d ++ rest)
-      ∙ in_memory D0 reg 5 (word d ++ rest) rest _ (none_at d rest h)
+      split_operand 0 reg 5 (omega arith) ms (omega arith) (imm32 d ++ rest)
+      ∙ in_memory D0 reg 5 (imm32 d ++ rest) rest _ (none_at d rest h)
   address_again None (Some x) D0 d ix bs h = cc
   address_again None (Some x) D8 d ix bs h = cc
   address_again None (Some x) D32 d ix bs h =
       let p = index_parts x ix in
       split_operand 0 reg 4 (omega arith) ms (omega arith) _
       ∙ in_memory D0 reg 4 _ rest _
-      (split_sib (scale_number x.1) (reg_number x.0) 5 (scale_small x.1) (reg_small x.0) (omega arith) 0 (word d ++ rest)
-      ∙ sib_none (scale_number x.1) (reg_number x.0) (word d ++ rest) (not_four x.0 p.0)
+      (split_sib (scale_number x.1) (reg_number x.0) 5 (scale_small x.1) (reg_small x.0) (omega arith) 0 (imm32 d ++ rest)
+      ∙ sib_none (scale_number x.1) (reg_number x.0) (imm32 d ++ rest) (not_four x.0 p.0)
       ∙ rw (reg_again x.0, scale_again x.1 p.1) (address_at_again None (Some x) D32 d rest h))
   address_again (Some Esp) None w d ix bs h =
       split_operand (mod_number w) reg 4 (mod_below w) ms (omega arith) _

@@ -12,12 +12,12 @@ use Rattle.ia_code.specs.declared.ins.Rm.{Rm}
 use Rattle.ia_code.specs.declared.ins.Rm.TheVariants as rm
 use Rattle.ia_code.specs.declared.ins.Ins.{Ins}
 use Rattle.ia_code.specs.declared.ins.Ins.TheVariants.{MovRmR, MovRRm, MovRI, MovRmI, AluRmR, AluRRm, AluRmI, AluRmB, ImulRRm, ImulI, ImulB, Neg, Idiv, Cdq, Lea, PushR, PopR, PushM, PushI, Call, Ret, RetI, Jmp, Jcc, Set, Movzx, Xchg, Test, Int}
-use Rattle.ia_code.specs.declared.ins.TheConstants.{FIRST_SERVICE, LAST_SERVICE}
-use Rattle.ia_code.specs.Table.{reg_number, op_number, cond_number, short, word, operand, bytes_of, is_register, has_low_byte, IsAddress, IsOperand, IsSound}
+use Rattle.ia_code.specs.Services.{is_service}
+use Rattle.ia_code.specs.DecodeTable.{reg_number, op_number, cond_number, imm8, imm32, operand, bytes_of, is_register, has_low_byte, IsAddress, IsOperand, IsSound}
 use Rattle.ia_code.specs.Reading.{◌>>=◌, reg_of, cond_of, op_of, byte_at, short_at, half_at, word_at, operand_at, memory_of, register_of, memory_operand_at, register_operand_at, alu_word_at, alu_short_at, mov_word_at, unary_at, set_at, movzx_at, extended_at, alu_at, stack_at, move_at, constant_at, jump_at, opcode_at, instruction_at}
-use Rattle.ia_code.specs.Table.{IsBytes}
-use Rattle.ia_code.proofs.Numbers.{reg_back, op_back, cond_back}
-use Rattle.ia_code.proofs.TakesOperands.{some_same, bind_some, by_test, none_some, Takes, byte_takes, half_takes, word_takes, short_takes, is_same, both, IsRead, operand_takes}
+use Rattle.ia_code.specs.DecodeTable.{IsBytes}
+use Rattle.ia_code.proofs.FieldNumbers.{reg_back, op_back, cond_back}
+use Rattle.ia_code.proofs.OperandsReadAreSpelled.{some_same, bind_some, by_test, none_some, Takes, byte_takes, half_takes, word_takes, short_takes, is_same, both, IsRead, operand_takes}
 
 -- what is read of an instruction
 IsIns : List ℕ → Ins × List ℕ → Type 0
@@ -88,30 +88,30 @@ module _ (opcode bytes : List ℕ) (bb : IsBytes bytes) (x : Ins × List ℕ) wh
       subst (IsIns (opcode ++ bytes)) (some_same (make o.0.0 o.0.1, o.0.2) x o.2)
       (row opcode bytes (operand o.0.0 (rm.Mem o.0.1)) o.0.2 (make o.0.0 o.0.1) r.0 (spell o.0.0 o.0.1 r.2) (sound o.0.0 o.0.1 r.1))
 
-  word_row : (make : ℤ → Ins) → ((n : ℤ) → bytes_of (make n) ≡ opcode ++ word n) → ((n : ℤ) → FitsSigned w32 n → IsSound (make n)) →
+  word_row : (make : ℤ → Ins) → ((n : ℤ) → bytes_of (make n) ≡ opcode ++ imm32 n) → ((n : ℤ) → FitsSigned w32 n → IsSound (make n)) →
       (word_at bytes >>= λ n. let y : Ins × List ℕ = (make n.0, n.1) in Some y) ≡ Some x → IsIns (opcode ++ bytes) x
   word_row make spell sound e =
       let n = bind_some (word_at bytes) _ x e in
       let w = word_takes bytes bb n.0 n.1 in
       subst (IsIns (opcode ++ bytes)) (some_same (make n.0.0, n.0.1) x n.2)
-      (row opcode bytes (word n.0.0) n.0.1 (make n.0.0) w.0 (spell n.0.0) (sound n.0.0 w.1))
+      (row opcode bytes (imm32 n.0.0) n.0.1 (make n.0.0) w.0 (spell n.0.0) (sound n.0.0 w.1))
 
   bare_row : (i : Ins) → bytes_of i ≡ opcode ++ [] → IsSound i → Some (i, bytes) ≡ Some x → IsIns (opcode ++ bytes) x
   bare_row i spell sound e = subst (IsIns (opcode ++ bytes)) (some_same (i, bytes) x e) (row opcode bytes [] bytes i (nothing bytes bb) spell sound)
 
 -- Rows of an opcode, an operand and a number.
 module _ (opcode bytes : List ℕ) (reg : ℕ) (r : Rm) (after : List ℕ) (is : IsRead bytes (reg, r, after)) (i : Ins) where
-  operand_word_row : (n : ℤ × List ℕ) → word_at after ≡ Some n → bytes_of i ≡ opcode ++ (operand reg r ++ word n.0) → (FitsSigned w32 n.0 → IsSound i) → IsIns (opcode ++ bytes) (i, n.1)
+  operand_word_row : (n : ℤ × List ℕ) → word_at after ≡ Some n → bytes_of i ≡ opcode ++ (operand reg r ++ imm32 n.0) → (FitsSigned w32 n.0 → IsSound i) → IsIns (opcode ++ bytes) (i, n.1)
   unfolding IsRead
   operand_word_row n e spell sound =
       let t = word_takes after is.0.bytes_left n e in
-      row opcode bytes (operand reg r ++ word n.0) n.1 i (two is.0 t.0) spell (sound t.1)
+      row opcode bytes (operand reg r ++ imm32 n.0) n.1 i (two is.0 t.0) spell (sound t.1)
 
-  operand_short_row : (n : ℤ × List ℕ) → short_at after ≡ Some n → bytes_of i ≡ opcode ++ (operand reg r ++ short n.0) → (FitsSigned w8 n.0 → IsSound i) → IsIns (opcode ++ bytes) (i, n.1)
+  operand_short_row : (n : ℤ × List ℕ) → short_at after ≡ Some n → bytes_of i ≡ opcode ++ (operand reg r ++ imm8 n.0) → (FitsSigned w8 n.0 → IsSound i) → IsIns (opcode ++ bytes) (i, n.1)
   unfolding IsRead
   operand_short_row n e spell sound =
       let t = short_takes after is.0.bytes_left n e in
-      row opcode bytes (operand reg r ++ short n.0) n.1 i (two is.0 t.0) spell (sound t.1)
+      row opcode bytes (operand reg r ++ imm8 n.0) n.1 i (two is.0 t.0) spell (sound t.1)
 
 sound_operand : (bytes : List ℕ) (o : ℕ × Rm × List ℕ) → IsRead bytes o → IsOperand o.1
 unfolding IsRead
@@ -133,7 +133,7 @@ alu_word_takes bytes bb x e =
     let i : Ins = AluRmI op.0 o.0.1 n.0.0 in
     subst (IsIns (0x81 ∷ bytes)) (some_same (AluRmI op.0 o.0.1 n.0.0, n.0.1) x n.2)
     (operand_word_row (0x81 ∷ []) bytes o.0.0 o.0.1 o.0.2 is i n.0 n.1
-    (ap (λ k. 0x81 ∷ (operand k o.0.1 ++ word n.0.0)) (op_back o.0.0 op.0 op.1)) (λ f. (sound_operand bytes o.0 is, f)))
+    (ap (λ k. 0x81 ∷ (operand k o.0.1 ++ imm32 n.0.0)) (op_back o.0.0 op.0 op.1)) (λ f. (sound_operand bytes o.0 is, f)))
 
 alu_short_takes : (bytes : List ℕ) → IsBytes bytes → (x : Ins × List ℕ) → alu_short_at bytes ≡ Some x → IsIns (0x83 ∷ bytes) x
 unfolding alu_short_at
@@ -145,7 +145,7 @@ alu_short_takes bytes bb x e =
     let i : Ins = AluRmB op.0 o.0.1 n.0.0 in
     subst (IsIns (0x83 ∷ bytes)) (some_same (AluRmB op.0 o.0.1 n.0.0, n.0.1) x n.2)
     (operand_short_row (0x83 ∷ []) bytes o.0.0 o.0.1 o.0.2 is i n.0 n.1
-    (ap (λ k. 0x83 ∷ (operand k o.0.1 ++ short n.0.0)) (op_back o.0.0 op.0 op.1)) (λ f. (sound_operand bytes o.0 is, f)))
+    (ap (λ k. 0x83 ∷ (operand k o.0.1 ++ imm8 n.0.0)) (op_back o.0.0 op.0 op.1)) (λ f. (sound_operand bytes o.0 is, f)))
 
 mov_word_takes : (bytes : List ℕ) → IsBytes bytes → (x : Ins × List ℕ) → mov_word_at bytes ≡ Some x → IsIns (0xc7 ∷ bytes) x
 unfolding mov_word_at
@@ -157,7 +157,7 @@ mov_word_takes bytes bb x e =
     by_test (o.0.0 == 0) _ _ (Some x)
     (λ h f. subst (IsIns (0xc7 ∷ bytes)) (some_same (MovRmI o.0.1 n.0.0, n.0.1) x f)
     (operand_word_row (0xc7 ∷ []) bytes o.0.0 o.0.1 o.0.2 is i n.0 n.1
-    (ap (λ k. 0xc7 ∷ (operand k o.0.1 ++ word n.0.0)) (sym (is_same o.0.0 0 h))) (λ f. (sound_operand bytes o.0 is, f))))
+    (ap (λ k. 0xc7 ∷ (operand k o.0.1 ++ imm32 n.0.0)) (sym (is_same o.0.0 0 h))) (λ f. (sound_operand bytes o.0 is, f))))
     (λ h f. absurd (none_some f))
     n.2
 
@@ -239,7 +239,7 @@ jcc_takes : (op : ℕ) → nat_le 0x80 op && nat_le op 0x8f ≡ true → (bytes 
     (cond_of (op - 0x80) >>= λ c. word_at bytes >>= λ d. let y : Ins × List ℕ = (Jcc c d.0, d.1) in Some y) ≡ Some x → IsIns (0x0f ∷ op ∷ bytes) x
 jcc_takes op h bytes bb x e =
     let c = bind_some (cond_of (op - 0x80)) _ x e in
-    word_row (0x0f ∷ op ∷ []) bytes bb x (Jcc c.0) (λ n. ap (λ k. 0x0f ∷ k ∷ word n) (condition_number 0x80 op c.0 (within 0x80 0x8f op h).0 c.1)) (λ n f. f) c.2
+    word_row (0x0f ∷ op ∷ []) bytes bb x (Jcc c.0) (λ n. ap (λ k. 0x0f ∷ k ∷ imm32 n) (condition_number 0x80 op c.0 (within 0x80 0x8f op h).0 c.1)) (λ n f. f) c.2
 
 at_op : (n op : ℕ) (bytes : List ℕ) (x : Ins × List ℕ) → (op == n) ≡ true → IsIns (n ∷ bytes) x → IsIns (op ∷ bytes) x
 at_op n op bytes x h i = subst (λ k. IsIns (k ∷ bytes) x) (sym (is_same op n h)) i
@@ -293,7 +293,7 @@ module _ (op : ℕ) (bytes : List ℕ) (bb : IsBytes bytes) (x : Ins × List ℕ
       let is = operand_takes bytes bb o.0 o.1 in
       subst (IsIns (0x69 ∷ bytes)) (some_same (ImulI (reg_of o.0.0) o.0.1 n.0.0, n.0.1) x n.2)
       (operand_word_row (0x69 ∷ []) bytes o.0.0 o.0.1 o.0.2 is (ImulI (reg_of o.0.0) o.0.1 n.0.0) n.0 n.1
-      (ap (λ k. 0x69 ∷ (operand k o.0.1 ++ word n.0.0)) (reg_back o.0.0 (small_reg bytes o.0 is))) (λ f. (sound_operand bytes o.0 is, f)))
+      (ap (λ k. 0x69 ∷ (operand k o.0.1 ++ imm32 n.0.0)) (reg_back o.0.0 (small_reg bytes o.0 is))) (λ f. (sound_operand bytes o.0 is, f)))
 
   imul_short_takes : (operand_at bytes >>= λ o. short_at o.2 >>= λ n. let y : Ins × List ℕ = (ImulB (reg_of o.0) o.1 n.0, n.1) in Some y) ≡ Some x → IsIns (0x6b ∷ bytes) x
   imul_short_takes e =
@@ -302,7 +302,7 @@ module _ (op : ℕ) (bytes : List ℕ) (bb : IsBytes bytes) (x : Ins × List ℕ
       let is = operand_takes bytes bb o.0 o.1 in
       subst (IsIns (0x6b ∷ bytes)) (some_same (ImulB (reg_of o.0.0) o.0.1 n.0.0, n.0.1) x n.2)
       (operand_short_row (0x6b ∷ []) bytes o.0.0 o.0.1 o.0.2 is (ImulB (reg_of o.0.0) o.0.1 n.0.0) n.0 n.1
-      (ap (λ k. 0x6b ∷ (operand k o.0.1 ++ short n.0.0)) (reg_back o.0.0 (small_reg bytes o.0 is))) (λ f. (sound_operand bytes o.0 is, f)))
+      (ap (λ k. 0x6b ∷ (operand k o.0.1 ++ imm8 n.0.0)) (reg_back o.0.0 (small_reg bytes o.0 is))) (λ f. (sound_operand bytes o.0 is, f)))
 
   stack_takes : stack_at op bytes ≡ Some x → IsIns (op ∷ bytes) x
   unfolding stack_at
@@ -348,13 +348,13 @@ module _ (op : ℕ) (bytes : List ℕ) (bb : IsBytes bytes) (x : Ins × List ℕ
       subst (IsIns (0xc2 ∷ bytes)) (some_same (RetI n.0.0, n.0.1) x n.2)
       (row (0xc2 ∷ []) bytes (to_le_bytes w16 n.0.0) n.0.1 (RetI n.0.0) t.0 refl t.1)
 
-  int_takes : (byte_at bytes >>= λ n. if nat_le FIRST_SERVICE n.0 && nat_le n.0 LAST_SERVICE then (let y : Ins × List ℕ = (Int n.0, n.1) in Some y) else None) ≡ Some x → IsIns (0xcd ∷ bytes) x
+  int_takes : (byte_at bytes >>= λ n. if is_service n.0 then (let y : Ins × List ℕ = (Int n.0, n.1) in Some y) else None) ≡ Some x → IsIns (0xcd ∷ bytes) x
   int_takes e =
       let n = bind_some (byte_at bytes) _ x e in
       let t = byte_takes bytes bb n.0 n.1 in
-      by_test (nat_le FIRST_SERVICE n.0.0 && nat_le n.0.0 LAST_SERVICE) _ _ (Some x)
+      by_test (is_service n.0.0) _ _ (Some x)
       (λ h f. subst (IsIns (0xcd ∷ bytes)) (some_same (Int n.0.0, n.0.1) x f)
-      (row (0xcd ∷ []) bytes (n.0.0 ∷ []) n.0.1 (Int n.0.0) t.0 refl (within FIRST_SERVICE LAST_SERVICE n.0.0 h)))
+      (row (0xcd ∷ []) bytes (n.0.0 ∷ []) n.0.1 (Int n.0.0) t.0 refl h))
       (λ h f. absurd (none_some f))
       n.2
 
@@ -368,7 +368,7 @@ module _ (op : ℕ) (bytes : List ℕ) (bb : IsBytes bytes) (x : Ins × List ℕ
       by_test (nat_le 0xb8 op && nat_le op 0xbf) _ _ (Some x)
       (λ h f.
       let p = within 0xb8 0xbf op h in
-      word_row (op ∷ []) bytes bb x (MovRI (reg_of (op - 0xb8))) (λ n. ap (λ k. k ∷ word n) (numbered 0xb8 op p.0 p.1)) (λ n f. f) f)
+      word_row (op ∷ []) bytes bb x (MovRI (reg_of (op - 0xb8))) (λ n. ap (λ k. k ∷ imm32 n) (numbered 0xb8 op p.0 p.1)) (λ n f. f) f)
       (λ _ f. absurd (none_some f))
       e) e) e) e) e
 

@@ -1,5 +1,5 @@
 -- The size of what the table spells, and that it is made of bytes.
-use Rattle.std.proofs.Common.{ℕ, zero, suc, ◌+◌, ◌*◌, ◌^◌, ◌≤◌, ◌<◌, List, [], ◌∷◌, ◌++◌, length, Option, Some, None, arith, length-append}
+use Rattle.std.proofs.Common.{◌≡◌, true, ℕ, zero, suc, ◌+◌, ◌*◌, ◌^◌, ◌≤◌, ◌<◌, List, [], ◌∷◌, ◌++◌, length, Option, Some, None, arith, length-append}
 use Rattle.std.specs.Prelude.{ℤ}
 use Rattle.std.proofs.lemmas.Int.{ints}
 use Rattle.std.specs.Int.{w8, w16, to_le_bytes, cast_unsigned}
@@ -12,9 +12,11 @@ use Rattle.ia_code.specs.declared.ins.Rm.{Rm}
 use Rattle.ia_code.specs.declared.ins.Rm.TheVariants as rm
 use Rattle.ia_code.specs.declared.ins.Ins.{Ins}
 use Rattle.ia_code.specs.declared.ins.Ins.TheVariants.{MovRmR, MovRRm, MovRI, MovRmI, AluRmR, AluRRm, AluRmI, AluRmB, ImulRRm, ImulI, ImulB, Neg, Idiv, Cdq, Lea, PushR, PopR, PushM, PushI, Call, Ret, RetI, Jmp, Jcc, Set, Movzx, Xchg, Test, Int}
-use Rattle.ia_code.specs.Table.{reg_number, op_number, cond_number, scale_number, mod_number, fields, short, word, displacement, address, operand, bytes_of, Holds, IsOperand, IsSound}
-use Rattle.ia_code.specs.Table.{IsBytes, IsCode}
-use Rattle.ia_code.proofs.Numbers.{reg_small, mod_small, scale_small, op_small, cond_small}
+use Rattle.ia_code.specs.DecodeTable.{reg_number, op_number, cond_number, scale_number, mod_number, fields, imm8, imm32, displacement, address, operand, bytes_of, Holds, IsOperand, IsSound}
+use Rattle.ia_code.specs.DecodeTable.{IsBytes, IsCode}
+use Rattle.ia_code.specs.Services.{is_service}
+use Rattle.std.proofs.lemmas.Bool.Decides.{nat_tests}
+use Rattle.ia_code.proofs.FieldNumbers.{reg_small, mod_small, scale_small, op_small, cond_small}
 
 -- bytes, at most so many
 record Few (most : ℕ) (bytes : List ℕ) : Type 0 where
@@ -44,13 +46,13 @@ wider m n bytes h f = record { few = omega (arith, f.few); all = f.all }
 short_fits : (n : ℤ) → FitsSigned w8 n → cast_unsigned w8 n < 2 ^ 8
 short_fits n f = omega (arith, ints)
 
-few_short : (n : ℤ) → FitsSigned w8 n → Few 1 (short n)
+few_short : (n : ℤ) → FitsSigned w8 n → Few 1 (imm8 n)
 few_short n f = on 0 (cast_unsigned w8 n) [] (short_fits n f) none
 
 few_half : (n : ℕ) → Few 2 (to_le_bytes w16 n)
 few_half n = on 1 _ _ (omega arith) (on 0 _ _ (omega arith) none)
 
-few_word : (n : ℤ) → Few 4 (word n)
+few_word : (n : ℤ) → Few 4 (imm32 n)
 few_word n = on 3 _ _ (omega arith) (on 2 _ _ (omega arith) (on 1 _ _ (omega arith) (on 0 _ _ (omega arith) none)))
 
 fields_small : (high middle low : ℕ) → high < 4 → middle < 8 → low < 8 → fields high middle low < 2 ^ 8
@@ -59,7 +61,7 @@ fields_small high middle low h m l = omega arith
 
 few_displacement : (w : Width) (d : ℤ) → Holds w d → Few 4 (displacement w d)
 few_displacement D0 d h = wider 0 4 [] (omega arith) none
-few_displacement D8 d h = wider 1 4 (short d) (omega arith) (few_short d h)
+few_displacement D8 d h = wider 1 4 (imm8 d) (omega arith) (few_short d h)
 few_displacement D32 d h = few_word d
 
 mod_below : (w : Width) → mod_number w < 4
@@ -67,10 +69,10 @@ mod_below w = omega (arith, mod_small w)
 
 module _ (reg : ℕ) (rs : reg < 8) where
   few_address : (b : Option Reg) (x : Option (Reg × ℕ)) (w : Width) (d : ℤ) → Holds w d → Few 6 (address reg b x w d)
-  few_address None None w d h = wider 5 6 _ (omega arith) (on 4 (fields 0 reg 5) (word d) (fields_small 0 reg 5 (omega arith) rs (omega arith)) (few_word d))
+  few_address None None w d h = wider 5 6 _ (omega arith) (on 4 (fields 0 reg 5) (imm32 d) (fields_small 0 reg 5 (omega arith) rs (omega arith)) (few_word d))
   few_address None (Some x) w d h =
       on 5 (fields 0 reg 4) _ (fields_small 0 reg 4 (omega arith) rs (omega arith))
-      (on 4 _ (word d) (fields_small (scale_number x.1) (reg_number x.0) 5 (scale_small x.1) (reg_small x.0) (omega arith)) (few_word d))
+      (on 4 _ (imm32 d) (fields_small (scale_number x.1) (reg_number x.0) 5 (scale_small x.1) (reg_small x.0) (omega arith)) (few_word d))
   few_address (Some Esp) None w d h =
       on 5 (fields (mod_number w) reg 4) _ (fields_small (mod_number w) reg 4 (mod_below w) rs (omega arith))
       (on 4 (fields 0 4 4) (displacement w d) (fields_small 0 4 4 (omega arith) (omega arith) (omega arith)) (few_displacement w d h))
@@ -91,20 +93,23 @@ coded most n rest m h f = record { some = omega arith; most = omega (arith, f.fe
 operand_code : (op reg : ℕ) (r : Rm) → op < 2 ^ 8 → reg < 8 → IsOperand r → IsCode (op ∷ operand reg r)
 operand_code op reg r h rs is = coded 6 op (operand reg r) (omega arith) h (few_operand reg rs r is)
 
-operand_word_code : (op reg : ℕ) (r : Rm) (n : ℤ) → op < 2 ^ 8 → reg < 8 → IsOperand r → IsCode (op ∷ (operand reg r ++ word n))
-operand_word_code op reg r n h rs is = coded 10 op (operand reg r ++ word n) (omega arith) h (two 6 4 (operand reg r) (word n) (few_operand reg rs r is) (few_word n))
+operand_word_code : (op reg : ℕ) (r : Rm) (n : ℤ) → op < 2 ^ 8 → reg < 8 → IsOperand r → IsCode (op ∷ (operand reg r ++ imm32 n))
+operand_word_code op reg r n h rs is = coded 10 op (operand reg r ++ imm32 n) (omega arith) h (two 6 4 (operand reg r) (imm32 n) (few_operand reg rs r is) (few_word n))
 
-operand_short_code : (op reg : ℕ) (r : Rm) (n : ℤ) → op < 2 ^ 8 → reg < 8 → IsOperand r → FitsSigned w8 n → IsCode (op ∷ (operand reg r ++ short n))
-operand_short_code op reg r n h rs is f = coded 7 op (operand reg r ++ short n) (omega arith) h (two 6 1 (operand reg r) (short n) (few_operand reg rs r is) (few_short n f))
+operand_short_code : (op reg : ℕ) (r : Rm) (n : ℤ) → op < 2 ^ 8 → reg < 8 → IsOperand r → FitsSigned w8 n → IsCode (op ∷ (operand reg r ++ imm8 n))
+operand_short_code op reg r n h rs is f = coded 7 op (operand reg r ++ imm8 n) (omega arith) h (two 6 1 (operand reg r) (imm8 n) (few_operand reg rs r is) (few_short n f))
 
-word_code : (op : ℕ) (n : ℤ) → op < 2 ^ 8 → IsCode (op ∷ word n)
-word_code op n h = coded 4 op (word n) (omega arith) h (few_word n)
+word_code : (op : ℕ) (n : ℤ) → op < 2 ^ 8 → IsCode (op ∷ imm32 n)
+word_code op n h = coded 4 op (imm32 n) (omega arith) h (few_word n)
 
 bare_code : (op : ℕ) → op < 2 ^ 8 → IsCode (op ∷ [])
 bare_code op h = coded 0 op [] (omega arith) h none
 
 two_byte_code : (op reg : ℕ) (r : Rm) → op < 2 ^ 8 → reg < 8 → IsOperand r → IsCode (0x0f ∷ op ∷ operand reg r)
 two_byte_code op reg r h rs is = coded 7 0x0f (op ∷ operand reg r) (omega arith) (omega arith) (on 6 op (operand reg r) h (few_operand reg rs r is))
+
+service_small : (n : ℕ) → is_service n ≡ true → n < 2 ^ 8
+service_small n is = grind (arith, nat_tests)
 
 -- what the table spells has 1 to 11 bytes
 pub code_of : (i : Ins) → IsSound i → IsCode (bytes_of i)
@@ -131,9 +136,9 @@ code_of (Call to) is = word_code 0xe8 to (omega arith)
 code_of Ret is = bare_code 0xc3 (omega arith)
 code_of (RetI n) is = coded 2 0xc2 (to_le_bytes w16 n) (omega arith) (omega arith) (few_half n)
 code_of (Jmp to) is = word_code 0xe9 to (omega arith)
-code_of (Jcc c to) is = coded 5 0x0f _ (omega arith) (omega arith) (on 4 (0x80 + cond_number c) (word to) (omega (arith, cond_small c)) (few_word to))
+code_of (Jcc c to) is = coded 5 0x0f _ (omega arith) (omega arith) (on 4 (0x80 + cond_number c) (imm32 to) (omega (arith, cond_small c)) (few_word to))
 code_of (Set c to) is = two_byte_code (0x90 + cond_number c) 0 (rm.Reg to) (omega (arith, cond_small c)) (omega arith) tt
 code_of (Movzx to from) is = two_byte_code 0xb6 (reg_number to) (rm.Reg from) (omega arith) (reg_small to) tt
 code_of (Xchg to with) is = operand_code 0x87 (reg_number with) (rm.Reg to) (omega arith) (reg_small with) tt
 code_of (Test left right) is = operand_code 0x85 (reg_number right) (rm.Reg left) (omega arith) (reg_small right) tt
-code_of (Int n) is = coded 1 0xcd (n ∷ []) (omega arith) (omega arith) (on 0 n [] (omega arith) none)
+code_of (Int n) is = coded 1 0xcd (n ∷ []) (omega arith) (omega arith) (on 0 n [] (service_small n is) none)
