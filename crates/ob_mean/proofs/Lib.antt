@@ -1,0 +1,3 @@
+pub mod Equations
+pub mod Budgets
+pub mod Stores
