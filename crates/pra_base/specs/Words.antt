@@ -6,7 +6,7 @@ use Rattle.std.specs.Int.RustNames.{unsigned_abs}
 use Rattle.pra_base.specs.declared.ids.Cond.{Cond}
 use Rattle.pra_base.specs.declared.ids.Cond.TheVariants.{B, Ae, E, Ne, Be, A, S, Ns, L, Ge, Le, G}
 
--- the word of a number, modulo 2^32
+-- the word of a number that fits 32 bits in two's complement (of another it is not the one modulo 2^32: see int_wrap)
 abbrev pub word : ℤ → ℕ
 word n = cast_unsigned w32 n
 

@@ -1,24 +1,19 @@
-//! Selected code: the operands of an instruction, whether a procedure is near, and the machine that runs it.
+//! Selected code: the operands of an instruction, whether a procedure is near, what each instruction does, and the machine
+//! that runs it.
 #![tactic(auto)]
 
-mod frame;
+pub mod action;
+pub mod arithmetic;
 pub mod laws;
-mod live;
-mod machine;
 pub mod near;
+pub mod operating;
 pub mod outcome;
-mod program;
 pub mod row;
-pub mod run;
-#[cfg(test)]
-mod run_tests;
-#[cfg(test)]
-mod tests;
 pub mod value;
-mod variables;
 
+pub use action::{Action, Here};
 pub use near::is_near;
+pub use operating::operate;
 pub use outcome::{Ending, Outcome};
 pub use row::{OperandRow, Role, operands};
-pub use run::run_selected;
 pub use value::{Held, Object, Value};

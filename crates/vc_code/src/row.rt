@@ -1,13 +1,14 @@
 // The operand table: where each operand of an instruction may stand, and what the instruction destroys.
 
-ghost use Rattle.std.specs.Prelude.{◌≡◌, ◌+◌, ◌≤◌, length, map, fold, count_by, ◌++◌, ◌∷◌, [], option_to_list};
+ghost use Rattle.std.specs.Prelude.{◌≡◌, ◌+◌, ◌≤◌, length, map, fold, count_by, nat_eq, ◌++◌, ◌∷◌, [], option_to_list};
+ghost use Rattle.std.specs.List.{list_any};
 ghost use Rattle.pra_base.specs.Operands as base;
 ghost use Rattle.pra_base.specs.Places.{◌∪◌};
 ghost use Rattle.vc_code.specs.Rows.{role_of, roles_of, row_of, line_of};
 
 use arrayvec::ArrayVec;
-use pra_base::places::{BYTE_REGISTERS, CONSTANT, EVERY, MEMORY, REGISTERS};
-use pra_base::{Addr, Base, Mask, VInstr, VarId};
+use pra_base::places::{BYTE_REGISTERS, CONSTANT, EVERY, MEMORY, REGISTERS, with_both};
+use pra_base::{Addr, Base, Mask, Place, VInstr, VarId};
 
 /// A variable in a role of an instruction.
 #[derive(Clone, Copy, Debug, PartialEq, Eq, Drop)]
@@ -28,7 +29,7 @@ pub struct OperandRow {
     pub clobbers: u8,
 }
 
-/// A line of the table as it is printed: what is read, what is written where it was read, what is only written, and
+/// A line of the table as it is printed, with no both place in its masks: what is read, what is written where it was read, what is only written, and
 /// the registers that are destroyed.
 #[derive(Drop)]
 struct Printed {
@@ -38,16 +39,16 @@ struct Printed {
     clobbers: u8,
 }
 
+const EAX: Mask = 1 << (Place::Eax as u16);
+
+const EDX: Mask = 1 << (Place::Edx as u16);
+
+// Sets of registers that are destroyed: none; those that a callee may change; the one that Clear counts in.
 const NOTHING: u8 = 0;
 
-const EAX: Mask = 0b001;
+const COUNTER: u8 = 1 << (Place::Ecx as u8);
 
-const ECX: Mask = 0b010;
-
-const EDX: Mask = 0b100;
-
-// The registers that a callee may change.
-const CALLER_SAVED: u8 = EAX | ECX | EDX;
+const CALLER_SAVED: u8 = 1 << (Place::Eax as u8) | COUNTER | 1 << (Place::Edx as u8);
 
 // The masks of the table, by its letters: a register, memory, a constant; a register with a low byte.
 const R: Mask = REGISTERS;
@@ -198,12 +199,66 @@ fn table(i: &VInstr) -> Printed
         VInstr::Read(v) => line(&[], None, &[at(v, EAX)], NOTHING),
         VInstr::Write(s) => line(&[at(s, EAX)], None, &[], NOTHING),
         VInstr::Line => line(&[], None, &[], NOTHING),
-        VInstr::Clear => line(&[], None, &[], ECX),
+        VInstr::Clear => line(&[], None, &[], COUNTER),
     }
 }
 
-// What is left of a mask in the roles of a variable.
-fn meet_roles(start: Mask, roles: &[Role], var: VarId) -> Mask
+fn is_in_place(line: &Printed, var: VarId) -> bool
+    ensures { result ≡ list_any (nat_eq var.0) (line_of line.now).in_place }
+{
+    match line.in_place {
+        Some(v) => var == v,
+        None => false,
+    }
+}
+
+// How many of the roles are of the variable.
+fn roles_among(roles: &[Role], var: VarId) -> usize
+    ensures { result ≡ count_by (base.is_role_of var.0) (roles_of roles.now) }
+{
+    roles.iter().filter(|role| role.var == var).count()
+}
+
+fn is_among(roles: &[Role], var: VarId) -> bool
+    ensures { result ≡ list_any (base.is_role_of var.0) (roles_of roles.now) }
+{
+    roles_among(roles, var) > 0
+}
+
+// Whether the instruction writes the variable.
+fn is_written(line: &Printed, var: VarId) -> bool
+    ensures { result ≡ base.line_writes (line_of line.now) var.0 }
+{
+    is_in_place(line, var) || is_among(line.writes.as_slice(), var)
+}
+
+// A role that is only read has with each register its both place too.
+fn widened(line: &Printed, role: Role) -> Role
+    ensures { role_of result ≡ base.widened (line_of line.now) (role_of role) }
+{
+    let mask = if is_written(line, role.var) {
+        role.mask
+    } else {
+        with_both(role.mask)
+    };
+    Role { mask, ..role }
+}
+
+// What is left of a mask in the read roles of a variable.
+fn meet_reads(start: Mask, line: &Printed, var: VarId) -> Mask
+    ensures { result ≡ fold (base.meets var.0) start (map (base.widened (line_of line.now)) (line_of line.now).reads) }
+{
+    let mut mask = start;
+    for role in line.reads.as_slice() {
+        if role.var == var {
+            mask &= widened(line, *role).mask;
+        }
+    }
+    mask
+}
+
+// What is left of a mask in the written roles of a variable.
+fn meet_writes(start: Mask, roles: &[Role], var: VarId) -> Mask
     ensures { result ≡ fold (base.meets var.0) start (roles_of roles.now) }
 {
     let mut mask = start;
@@ -225,23 +280,26 @@ fn stars(roles: &[Role], var: VarId) -> usize
         .count()
 }
 
-fn mask_of(line: &Printed, var: VarId) -> Mask
-    ensures { result ≡ base.mask_of (base.all_roles (line_of line.now)) var.0 }
+// The places but for memory alone.
+fn but_memory(mask: Mask) -> Mask
+    ensures { result ≡ base.but_memory mask }
 {
-    let common = meet_roles(
-        meet_roles(EVERY, line.reads.as_slice(), var),
-        line.writes.as_slice(),
-        var,
-    );
+    mask & (EVERY & !MEMORY)
+}
+
+fn mask_of(line: &Printed, var: VarId) -> Mask
+    ensures { result ≡ base.mask_of (line_of line.now) var.0 }
+{
+    let common = meet_writes(meet_reads(EVERY, line, var), line.writes.as_slice(), var);
     if stars(line.reads.as_slice(), var) + stars(line.writes.as_slice(), var) > 1 {
-        common & R
+        but_memory(common)
     } else {
         common
     }
 }
 
 fn settled(line: &Printed, role: Role) -> Role
-    ensures { role_of result ≡ base.settled (base.all_roles (line_of line.now)) (role_of role) }
+    ensures { role_of result ≡ base.settled (line_of line.now) (role_of role) }
 {
     Role {
         mask: mask_of(line, role.var),
@@ -250,7 +308,7 @@ fn settled(line: &Printed, role: Role) -> Role
 }
 
 fn rewritten(line: &Printed, var: VarId) -> Role
-    ensures { role_of result ≡ base.rewritten (base.all_roles (line_of line.now)) var.0 }
+    ensures { role_of result ≡ base.rewritten (line_of line.now) var.0 }
 {
     Role {
         var,
@@ -260,7 +318,7 @@ fn rewritten(line: &Printed, var: VarId) -> Role
 }
 
 fn reads(line: &Printed) -> ArrayVec<Role, 3>
-    ensures { roles_of result.items ≡ map (base.settled (base.all_roles (line_of line.now))) (line_of line.now).reads }
+    ensures { roles_of result.items ≡ (base.row_of (line_of line.now)).reads }
 {
     let mut reads = ArrayVec::new();
     for role in line.reads.as_slice() {
@@ -271,7 +329,7 @@ fn reads(line: &Printed) -> ArrayVec<Role, 3>
 
 fn writes(line: &Printed) -> ArrayVec<Role, 2>
     requires { length (option_to_list line.now.in_place) + length line.now.writes.items ≤ 2 }
-    ensures { roles_of result.items ≡ base.written (line_of line.now) }
+    ensures { roles_of result.items ≡ (base.row_of (line_of line.now)).writes }
 {
     let mut writes = ArrayVec::new();
     if let Some(var) = line.in_place {
@@ -284,8 +342,8 @@ fn writes(line: &Printed) -> ArrayVec<Role, 2>
 }
 
 /// The operands of an instruction: the roles that are read, then those that are written, a variable that is written in
-/// place among them, each in the order of the table. A variable in several roles has what they have in common, and a
-/// register where two of them are in the memory pair.
+/// place among them, each in the order of the table. A variable that is only read may be at a both place; one in several
+/// roles has what they have in common, and that without memory where two of them are in the memory pair.
 pub fn operands(i: &VInstr) -> OperandRow
     ensures { row_of result ≡ base.operands i.now }
 {
