@@ -1,0 +1,61 @@
+-- What flows and routes cost.
+use Rattle.std.specs.Prelude.{ℕ, ◌+◌, ◌-◌, ◌*◌, Bool, nat_le, if◌then◌else◌, List, [], Option, None, Some, sum_by, count_by, slice_index_or, slice_get}
+use Rattle.pra_base.specs.declared.ids.Place.{Place}
+use Rattle.net_cost.specs.declared.event.Event.{Event}
+use Rattle.net_cost.specs.declared.weights.Weights.{Weights}
+use Rattle.net_cost.specs.Weights.{weight_of}
+use Rattle.net_form.specs.declared.net.NetBlock.{NetBlock}
+use Rattle.net_form.specs.declared.net.Extra.{Extra}
+use Rattle.net_form.specs.declared.net.Net.{Net}
+use Rattle.net_form.specs.declared.routes.Routes.{Routes}
+use Rattle.net_form.specs.Flow.{Edge, arrives, same_start, flow}
+use Rattle.net_form.specs.Admitted.{strand_at, is_across}
+use Rattle.net_form.specs.Tables.{PlaceTables, all_tables}
+
+abbrev pub no_block : NetBlock
+no_block = record { depth = 0; layers = 0 }
+
+-- the loop depth of a strand's block
+abbrev pub depth_at : Net → ℕ → ℕ
+depth_at net s = (slice_index_or net.blocks (strand_at net s).block.0 no_block).depth
+
+-- what a strand pays to come to a place; an edge across an instruction is no crossbar's
+abbrev pub events_from : PlaceTables → Net → Edge → Option Place → List Event
+events_from tables net e None = tables.begun (strand_at net e.strand).constant e.to
+events_from tables net e (Some p) = if is_across e then [] else tables.crossbar net.near p e.to
+
+abbrev pub edge_cost : PlaceTables → Net → Weights → Edge → ℕ
+edge_cost tables net w e =
+    sum_by (λ v. weight_of w v (depth_at net e.strand)) (events_from tables net e e.from)
+
+abbrev pub extra_cost : Net → Weights → Extra → ℕ
+extra_cost net w x = weight_of w x.event (depth_at net x.strand)
+
+abbrev pub meets : Extra → Edge → Bool
+meets x e = arrives x.strand x.layer x.place e
+
+-- the cost of a flow: its edges, and each extra as often as it is met
+abbrev pub cost_by : PlaceTables → Net → Weights → List Edge → ℕ
+cost_by tables net w f =
+    sum_by (edge_cost tables net w) f +
+    sum_by (λ x. extra_cost net w x * count_by (meets x) f) net.extras
+
+abbrev pub cost_of : Net → Weights → List Edge → ℕ
+cost_of net w f = cost_by all_tables net w f
+
+-- ---- the cost of routes: the ways of their paths, and each extra whose place is met
+
+-- the place of strand s at layer l, if the strand is there
+abbrev pub place_of : List Place → ℕ → ℕ → Option Place
+place_of path first l = if nat_le first l then slice_get path (l - first) else None
+
+abbrev pub place_at : Net → Routes → ℕ → ℕ → Option Place
+place_at net routes s l = place_of (slice_index_or routes.places s []) (strand_at net s).first l
+
+abbrev pub is_met : Net → Routes → Extra → Bool
+is_met net routes x = same_start (place_at net routes x.strand x.layer) (Some x.place)
+
+abbrev pub routes_cost : PlaceTables → Net → Weights → Routes → ℕ
+routes_cost tables net w routes =
+    sum_by (edge_cost tables net w) (flow net routes) +
+    sum_by (λ x. if is_met net routes x then extra_cost net w x else 0) net.extras

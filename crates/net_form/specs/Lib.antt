@@ -1,0 +1,10 @@
+pub mod Admitted
+pub mod Cost
+pub mod Crossbar
+pub mod Flow
+pub mod Groups
+pub mod Index
+pub mod Network
+pub mod Rooms
+pub mod Strands
+pub mod Tables

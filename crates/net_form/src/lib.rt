@@ -1,0 +1,10 @@
+//! The network of a procedure.
+#![tactic(auto)]
+
+mod net;
+mod prices;
+mod routes;
+
+pub use net::{Extra, MemPair, Net, NetBlock, NetIndex, PairEnd, Strand, Tie};
+pub use prices::{Line, Prices};
+pub use routes::{Ends, Plan, Routes};

@@ -1,0 +1,103 @@
+// The network of a procedure.
+
+use net_cost::Event;
+use pra_base::{BlockId, Mask, Place, VarId};
+use pra_list::Seq;
+
+/// A block, as the network sees it.
+#[derive(Clone, Copy, Debug, PartialEq, Eq, Drop)]
+pub struct NetBlock {
+    /// How many loops the block stands in, at most 5.
+    pub depth: u32,
+    /// How many layers it has: two for each instruction, its entry and its exit.
+    pub layers: u32,
+}
+
+/// A variable at consecutive layers of one block, at each of which it is present.
+#[derive(Debug, PartialEq, Eq, Drop)]
+pub struct Strand {
+    pub var: VarId,
+    pub block: BlockId,
+    /// Its first and its last layer, within the block.
+    pub first: u32,
+    pub last: u32,
+    /// Whether the variable is a constant.
+    pub constant: bool,
+    /// Where it may be, for each of its layers from the first on.
+    pub masks: Seq<Mask>,
+    /// The tie group of its end at the block's entry.
+    pub entry_group: Option<u32>,
+    /// The tie group of its end at the block's exit.
+    pub exit_group: Option<u32>,
+}
+
+/// What the code costs more where a strand is at this place at this layer.
+#[derive(Clone, Copy, Debug, PartialEq, Eq, Drop)]
+pub struct Extra {
+    pub strand: u32,
+    pub layer: u32,
+    pub place: Place,
+    pub event: Event,
+}
+
+/// Two operands of one instruction, of which one at most is in memory.
+#[derive(Clone, Copy, Debug, PartialEq, Eq, Drop)]
+pub struct MemPair {
+    pub left: u32,
+    pub left_layer: u32,
+    pub right: u32,
+    pub right_layer: u32,
+}
+
+/// A strand that reaches its block's exit, and the strand that goes on at the entry of a block that follows.
+#[derive(Clone, Copy, Debug, PartialEq, Eq, Drop)]
+pub struct Tie {
+    pub from: u32,
+    pub to: u32,
+}
+
+/// An end of a memory pair: the layer, and the number of the pair.
+#[derive(Clone, Copy, Debug, PartialEq, Eq, Drop)]
+pub struct PairEnd {
+    pub layer: u32,
+    pub pair: u32,
+}
+
+/// Where the lists of a network begin for each block and each strand. Each list of beginnings has one entry more, the
+/// length of what it leads into, so what belongs to number k lies between entries k and k + 1.
+#[derive(Debug, PartialEq, Eq, Drop)]
+pub struct NetIndex {
+    /// For each block the number of its layer 0, where the layers of all blocks are counted together.
+    pub layers: Seq<u32>,
+    /// For each strand its first extra.
+    pub extras: Seq<u32>,
+    /// For each strand its first end of a memory pair, in `ends`.
+    pub pairs: Seq<u32>,
+    /// The ends of memory pairs, by strand, then layer.
+    pub ends: Seq<PairEnd>,
+    /// For each strand the first tie that goes from it.
+    pub exits: Seq<u32>,
+    /// For each strand the first tie that goes to it, in `arrivals`.
+    pub entries: Seq<u32>,
+    /// The numbers of the ties, by the strand that they go to.
+    pub arrivals: Seq<u32>,
+}
+
+/// The network: strands are the commodities, places at layers the nodes.
+#[derive(Debug, PartialEq, Eq, Drop)]
+pub struct Net {
+    /// Whether memory is reached by displacements of 8 bits.
+    pub near: bool,
+    pub blocks: Seq<NetBlock>,
+    /// By block, then first layer, then variable.
+    pub strands: Seq<Strand>,
+    /// By strand, then layer, then place.
+    pub extras: Seq<Extra>,
+    /// By block, then instruction.
+    pub pairs: Seq<MemPair>,
+    /// By the strand that they go from, then the one that they go to.
+    pub ties: Seq<Tie>,
+    /// How many tie groups there are.
+    pub groups: u32,
+    pub index: NetIndex,
+}
