@@ -1,7 +1,9 @@
 pub mod Chain
 pub mod Counts
 pub mod FlowIsRoutes
+pub mod OneNetwork
 pub mod OneStrand
 pub mod Paths
 pub mod PlaceEquality
 pub mod RoutesConserve
+pub mod RoutesCost

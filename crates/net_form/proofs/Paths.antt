@@ -31,14 +31,14 @@ of_path s l p (q ∷ qs) = All-cons (OfPath s l p (suc (length qs))) _ _
     later_of e o (inr other) = o.later (let a = o.after in omega (arith, a, other))
 
 -- a test of an earlier layer counts none
-none_earlier : (s l : ℕ) (p : Option Place) (ps : List Place) (k : ℕ) (c : Edge → Bool) → k < l → count_by (λ e. is_at s k e && c e) (edges s l p ps) ≡ 0
+pub none_earlier : (s l : ℕ) (p : Option Place) (ps : List Place) (k : ℕ) (c : Edge → Bool) → k < l → count_by (λ e. is_at s k e && c e) (edges s l p ps) ≡ 0
 none_earlier s l p ps k c lt = count-none (λ e. is_at s k e && c e) (edges s l p ps) (λ j d in_.
     let x : Edge = get_or (edges s l p ps) j d in
     let a = (of_path s l p ps j d in_).after in
     and_left (is_at s k x) (c x) (and_right (eqb x.strand s) (eqb x.layer k) (ne_eqb x.layer k (λ same. omega (arith, same, a, lt)))))
 
 -- at the first layer of a path the first edge alone is counted
-first_only : (s l : ℕ) (p : Option Place) (q : Place) (qs : List Place) (c : Edge → Bool)
+pub first_only : (s l : ℕ) (p : Option Place) (q : Place) (qs : List Place) (c : Edge → Bool)
     → count_by (λ e. is_at s l e && c e) (edges s l p (q ∷ qs)) ≡ bit (c (record { strand = s; layer = l; from = p; to = q }))
 first_only s l p q qs c =
     let e : Edge = record { strand = s; layer = l; from = p; to = q } in
@@ -52,7 +52,7 @@ pub path_starts : (s l : ℕ) (ps : List Place) → 0 < length ps → count_by (
 path_starts s l [] lt = absurd (omega (arith, lt))
 path_starts s l (q ∷ qs) lt = first_only s l None q qs (λ e. same_start e.from None)
 
-later_layer : (s l k : ℕ) (p : Option Place) (q : Place) (qs : List Place) (c : Edge → Bool) → l < k
+pub later_layer : (s l k : ℕ) (p : Option Place) (q : Place) (qs : List Place) (c : Edge → Bool) → l < k
     → count_by (λ e. is_at s k e && c e) (edges s l p (q ∷ qs)) ≡ count_by (λ e. is_at s k e && c e) (edges s (suc l) (Some q) qs)
 later_layer s l k p q qs c lt = count-no (λ e. is_at s k e && c e) _ (edges s (suc l) (Some q) qs)
     (and_left (eqb s s && eqb l k) (c (record { strand = s; layer = l; from = p; to = q })) (and_right (eqb s s) (eqb l k) (ne_eqb l k (λ same. omega (arith, same, lt)))))

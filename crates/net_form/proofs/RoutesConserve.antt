@@ -69,7 +69,7 @@ at_most_once c s l p (q ∷ qs) one = elim (cases_Bool (c (record { strand = s; 
     false_if true h = absurd (h refl)
     false_if false h = refl
 
-edges_are : (ts us : List Strand) (k : ℕ) (rs : List (List Place)) → ((i : ℕ) (t : Strand) → slice_get ts i ≡ Some t → slice_get us (k + i) ≡ Some t)
+pub edges_are : (ts us : List Strand) (k : ℕ) (rs : List (List Place)) → ((i : ℕ) (t : Strand) → slice_get ts i ≡ Some t → slice_get us (k + i) ≡ Some t)
     → HasPlaces ts rs → All (IsEdge us) (flow_from k ts rs)
 edges_are [] us k [] same has = All-nil _
 edges_are [] us k (r ∷ rs) same has = absurd has
@@ -109,3 +109,10 @@ flow_conserves us rs order has = record {
   where
     ordered : (ts : List Strand) (s : ℕ) (t : Strand) → All (λ t. t.first ≤ t.last) ts → slice_get ts s ≡ Some t → t.first ≤ t.last
     ordered ts s t all is = subst (λ u. u.first ≤ u.last) (get_or_from_slice_get ts s t t is) (all s t (slice_get_within ts s t is))
+
+-- as many paths as strands
+pub as_many : (ts : List Strand) (rs : List (List Place)) → HasPlaces ts rs → length rs ≡ length ts
+as_many [] [] h = refl
+as_many [] (r ∷ rs) h = absurd h
+as_many (t ∷ ts) [] h = absurd h
+as_many (t ∷ ts) (r ∷ rs) h = ap suc (as_many ts rs h.1)
