@@ -1,6 +1,9 @@
 pub mod Chain
+pub mod Comprehensions
 pub mod Counts
 pub mod FlowIsRoutes
+pub mod InAnyOrder
+pub mod NetworkFormed
 pub mod OneNetwork
 pub mod OneStrand
 pub mod Paths

@@ -4,16 +4,13 @@ use Rattle.pra_base.specs.declared.ids.Place.{Place}
 use Rattle.net_cost.specs.declared.event.Event.{Event}
 use Rattle.net_cost.specs.declared.weights.Weights.{Weights}
 use Rattle.net_cost.specs.Weights.{weight_of}
-use Rattle.net_form.specs.declared.net.NetBlock.{NetBlock}
 use Rattle.net_form.specs.declared.net.Extra.{Extra}
 use Rattle.net_form.specs.declared.net.Net.{Net}
 use Rattle.net_form.specs.declared.routes.Routes.{Routes}
 use Rattle.net_form.specs.Flow.{Edge, arrives, same_start, flow}
 use Rattle.net_form.specs.Admitted.{strand_at, is_across}
 use Rattle.net_form.specs.Tables.{PlaceTables, all_tables}
-
-abbrev pub no_block : NetBlock
-no_block = record { depth = 0; layers = 0 }
+use Rattle.net_form.specs.Formed.{no_block}
 
 -- the loop depth of a strand's block
 abbrev pub depth_at : Net → ℕ → ℕ

@@ -2,6 +2,7 @@ pub mod Admitted
 pub mod Cost
 pub mod Crossbar
 pub mod Flow
+pub mod Formed
 pub mod Groups
 pub mod Index
 pub mod Network

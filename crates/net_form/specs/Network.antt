@@ -23,7 +23,7 @@ use Rattle.net_form.specs.declared.net.MemPair.{MemPair}
 use Rattle.net_form.specs.declared.net.Tie.{Tie}
 use Rattle.net_form.specs.declared.net.Net.{Net}
 use Rattle.net_form.specs.Tables.{PlaceTables, all_tables, memory_event, constant_event}
-use Rattle.net_form.specs.Strands.{Lives, IsLive, layer_count, exit_layer, is_before, beside, strands}
+use Rattle.net_form.specs.Strands.{Lives, IsLive, layers_of, exit_layer, is_before, beside, strands}
 use Rattle.net_form.specs.Groups.{IsLeastEnd, leads, group_of, entry_end, exit_end}
 use Rattle.net_form.specs.Index.{index_of}
 
@@ -133,14 +133,14 @@ grouped ts least s = record s.1 {
   exit_group = group_of ts least (exit_end s.0);
 }
 
-abbrev pub net_block : VProc → (ℕ × Block) → NetBlock
-net_block code b = record { depth = b.1.depth; layers = layer_count code b.0 }
+abbrev pub net_block : Block → NetBlock
+net_block b = record { depth = b.depth; layers = layers_of b }
 
 abbrev pub net_of : PlaceTables → VProc → Lives → (ℕ → ℕ) → Net
 net_of tables code live least =
     let ss = strands tables code live in
     let ts = ties code ss in
-    let blocks = map (net_block code) (enumerate_from 0 code.blocks) in
+    let blocks = map net_block code.blocks in
     let found = map (grouped ts least) (enumerate_from 0 ss) in
     let es = extras tables code ss in
     let ps = pairs tables code ss in record {

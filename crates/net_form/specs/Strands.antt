@@ -7,16 +7,20 @@ use Rattle.pra_base.specs.declared.ids.Place.TheVariants.{Mem}
 use Rattle.pra_base.specs.declared.code.VarKind.{VarKind}
 use Rattle.pra_base.specs.declared.code.VarKind.TheVariants.{Param, Constant}
 use Rattle.pra_base.specs.declared.code.VInstr.{VInstr}
+use Rattle.pra_base.specs.declared.code.Block.{Block}
 use Rattle.pra_base.specs.declared.code.VProc.{VProc}
-use Rattle.pra_base.specs.Code.{kind_of, code_of, instr_at}
+use Rattle.pra_base.specs.Code.{kind_of, block_of, code_of, instr_at}
 use Rattle.pra_base.specs.Live.{Live}
 use Rattle.pra_base.specs.Operands.{Role, Row, is_role_of, meets}
 use Rattle.pra_base.specs.Places.{only, without}
 use Rattle.net_form.specs.Tables.{PlaceTables}
 use Rattle.net_form.specs.declared.net.Strand.{Strand}
 
+abbrev pub layers_of : Block → ℕ
+layers_of b = 2 * length b.code + 2
+
 abbrev pub layer_count : VProc → ℕ → ℕ
-layer_count code b = 2 * length (code_of code b) + 2
+layer_count code b = layers_of (block_of code b)
 
 abbrev pub exit_layer : VProc → ℕ → ℕ
 exit_layer code b = 2 * length (code_of code b) + 1

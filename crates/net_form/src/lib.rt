@@ -1,6 +1,7 @@
 //! The network of a procedure.
 #![tactic(auto)]
 
+pub mod laws;
 mod net;
 mod prices;
 mod routes;

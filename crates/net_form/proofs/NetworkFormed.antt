@@ -1,0 +1,91 @@
+-- The network of sized code is formed.
+use Rattle.std.proofs.Common.{ℕ, zero, suc, ◌≡◌, ◌+◌, ◌-◌, ◌*◌, ◌<◌, ◌≤◌, Bool, true, cond, List, [], ◌∷◌, length, All, map, refl, sym, ap, subst, arith}
+use Rattle.std.specs.Prelude.{slice_index_or}
+use Rattle.std.specs.List.{range_with_len, prefix_len, enumerate_from}
+use Rattle.std.proofs.lemmas.Bool.{and_parts}
+use Rattle.std.proofs.lemmas.List.{get_or-map, length-map}
+use Rattle.std.proofs.lemmas.List.Elements.{All-map, All-from_get_or, All-weaker}
+use Rattle.std.proofs.lemmas.List.FromFn.{length-map-range_with_len, length-range_with_len}
+use Rattle.std.proofs.lemmas.List.Sums.{prefix_len-le-length, sum_by-cons}
+use Rattle.pra_base.specs.declared.code.Block.{Block}
+use Rattle.pra_base.specs.declared.code.VProc.{VProc}
+use Rattle.pra_base.specs.Code.{no_block as no_code}
+use Rattle.pra_base.specs.Valid.{IsSized, instruction_count}
+use Rattle.net_form.specs.declared.net.NetBlock.{NetBlock}
+use Rattle.net_form.specs.declared.net.Strand.{Strand}
+use Rattle.net_form.specs.declared.net.Tie.{Tie}
+use Rattle.net_form.specs.declared.net.Net.{Net}
+use Rattle.net_form.specs.Tables.{PlaceTables}
+use Rattle.net_form.specs.Strands.{Lives, layer_count, is_present, begins, run_from, mask_at, strand, begun_strand, layer_strands, block_strands, strands}
+use Rattle.net_form.specs.Network.{net_block, ties, grouped, IsNetBy}
+use Rattle.net_form.specs.Formed.{IsStrandOf, IsFormed, no_block}
+use Rattle.net_form.specs.Rooms.{layer_total}
+use Rattle.net_form.proofs.Comprehensions.{All-filter_map, All-flat_map, All-range, All-enumerate, IfSome-test}
+
+-- a run that begins where the test holds is not empty
+prefix_len-yes : (p : ℕ → Bool) → (l n : ℕ) → 0 < n → p l ≡ true → 0 < prefix_len p (range_with_len l n)
+prefix_len-yes p l zero lt is = absurd (omega (arith, lt))
+prefix_len-yes p l (suc n) lt is =
+    subst (λ b. 0 < cond b (1 + prefix_len p (range_with_len (l + 1) n)) 0) (sym is) (omega arith)
+
+module _ (tables : PlaceTables) (code : VProc) (live : Lives) where
+  blocks : List NetBlock
+  blocks = map net_block code.blocks
+
+  block_layers : (b : ℕ) → b < length code.blocks → layer_count code b ≡ (slice_index_or blocks b no_block).layers
+  unfolding blocks
+  block_layers b lt = sym (ap (λ k. k.layers) (get_or-map net_block code.blocks b no_code no_block lt))
+
+  formed_at : (b l v : ℕ) → b < length code.blocks → l < layer_count code b → begins tables code live v b l ≡ true
+      → IsStrandOf blocks (strand tables code live v b l)
+  unfolding blocks
+  formed_at b l v in_code in_block begun =
+      let n = layer_count code b - l in
+      let present = (and_parts (is_present tables code live v b l) _ begun).0 in
+      let some = prefix_len-yes (is_present tables code live v b) l n (omega (arith, in_block)) present in
+      let most = prefix_len-le-length (is_present tables code live v b) (range_with_len l n) in
+      let long = length-range_with_len l n in
+      let masks = length-map-range_with_len (mask_at tables code live v b) l (run_from tables code live v b l) in
+      let same = length-map code.blocks net_block in
+      let layers = block_layers b in_code in record {
+        block = omega (arith, same, in_code);
+        order = omega (arith, some);
+        masks = omega (arith, some, masks);
+        within = omega (arith, some, most, long, layers, in_block);
+      }
+
+  formed_strands : All (IsStrandOf blocks) (strands tables code live)
+  formed_strands = All-flat_map (IsStrandOf blocks) (block_strands tables code live) (range_with_len 0 (length code.blocks))
+      (All-range (λ b. All (IsStrandOf blocks) (block_strands tables code live b)) 0 (length code.blocks) (λ b _ b_lt.
+      All-flat_map (IsStrandOf blocks) (layer_strands tables code live b) (range_with_len 0 (layer_count code b))
+      (All-range (λ l. All (IsStrandOf blocks) (layer_strands tables code live b l)) 0 (layer_count code b) (λ l _ l_lt.
+      All-filter_map (IsStrandOf blocks) (begun_strand tables code live b l) (range_with_len 0 (length code.vars))
+      (All-range _ 0 (length code.vars) (λ v _ _.
+      IfSome-test (IsStrandOf blocks) (begins tables code live v b l) (strand tables code live v b l)
+      (formed_at b l v (omega (arith, b_lt)) (omega (arith, l_lt)))))))))
+
+  formed_groups : (ts : List Tie) (least : ℕ → ℕ)
+      → All (IsStrandOf blocks) (map (grouped ts least) (enumerate_from 0 (strands tables code live)))
+  formed_groups ts least = All-map (IsStrandOf blocks) (grouped ts least) (enumerate_from 0 (strands tables code live))
+      (All-weaker (λ (s : ℕ × Strand). IsStrandOf blocks s.1) (λ s. IsStrandOf blocks (grouped ts least s))
+      (λ s is. record { block = is.block; order = is.order; masks = is.masks; within = is.within })
+      (enumerate_from 0 (strands tables code live))
+      (All-enumerate (IsStrandOf blocks) 0 (strands tables code live) formed_strands))
+
+total_layers : (bs : List Block) → layer_total (map net_block bs) ≡ 2 * instruction_count bs + 2 * length bs
+total_layers [] = refl
+total_layers (b ∷ bs) =
+    let more = total_layers bs in
+    let one = sum_by-cons (λ (k : NetBlock). k.layers) (net_block b) (map net_block bs) in
+    let two = sum_by-cons (λ (k : Block). length k.code) b bs in
+    omega (arith, more, one, two)
+
+pub formed : (tables : PlaceTables) (code : VProc) (net : Net) → IsNetBy tables code net → IsSized code → IsFormed net
+unfolding blocks
+formed tables code net is sized = subst IsFormed (sym is.is) (record {
+  strands = formed_groups tables code is.live (ties code (strands tables code is.live)) is.least;
+  layers = let total = total_layers code.blocks in let a = sized.instructions in let b = sized.blocks in omega (arith, total, a, b);
+  depths = All-map (λ (k : NetBlock). k.depth ≤ 5) net_block code.blocks
+      (All-from_get_or (λ (k : Block). k.depth ≤ 5) code.blocks no_code (λ i _. sized.depths i));
+  first_layers = refl;
+})

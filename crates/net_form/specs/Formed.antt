@@ -1,0 +1,32 @@
+-- What every network of sized code is, as far as numbers go.
+use Rattle.std.specs.Prelude.{◌≡◌, ℕ, ◌+◌, ◌<◌, ◌≤◌, List, map, length, slice_index_or, All}
+use Rattle.std.specs.List.{range_with_len}
+use Rattle.net_form.specs.declared.net.NetBlock.{NetBlock}
+use Rattle.net_form.specs.declared.net.Strand.{Strand}
+use Rattle.net_form.specs.declared.net.Net.{Net}
+use Rattle.net_form.specs.Index.{first_layer}
+use Rattle.net_form.specs.Rooms.{layer_total}
+
+-- where there is no block
+abbrev pub no_block : NetBlock
+no_block = record { depth = 0; layers = 0 }
+
+-- a strand of one of the blocks, with a mask for each of its layers
+pub record IsStrandOf (blocks : List NetBlock) (t : Strand) : Type 0 where
+  pub block : t.block.0 < length blocks
+  pub order : t.first ≤ t.last
+  pub masks : t.first + length t.masks ≡ t.last + 1
+  pub within : t.last < (slice_index_or blocks t.block.0 no_block).layers
+
+-- the layers of the greatest procedure, and how many loops a block stands in at most
+abbrev pub most_layers : ℕ
+most_layers = 24838
+
+abbrev pub most_depth : ℕ
+most_depth = 5
+
+pub record IsFormed (net : Net) : Type 0 where
+  pub strands : All (IsStrandOf net.blocks) net.strands
+  pub layers : layer_total net.blocks ≤ most_layers
+  pub depths : All (λ b. b.depth ≤ most_depth) net.blocks
+  pub first_layers : net.index.layers ≡ map (first_layer net.blocks) (range_with_len 0 (length net.blocks + 1))
