@@ -13,7 +13,7 @@ use Rattle.pra_base.specs.declared.code.End.TheVariants.{Jump, Branch}
 use Rattle.pra_base.specs.declared.code.Block.{Block}
 use Rattle.pra_base.specs.declared.code.VarKind.TheVariants.{Param}
 use Rattle.pra_base.specs.declared.code.VProc.{VProc}
-use Rattle.pra_base.specs.declared.code.TheConstants.{MAX_DEPTH, MAX_INSTRUCTIONS, MAX_BLOCKS, MAX_VARIABLES, MAX_ARGUMENTS, MAX_AGGREGATES}
+use Rattle.pra_base.specs.Valid.{most_loops, most_instructions, most_blocks, most_variables, most_arguments, most_aggregates}
 use Rattle.pra_base.specs.Operands as table
 use Rattle.pra_base.specs.Code.{no_block, block_in, IsTarget, EachInstr}
 use Rattle.pra_base.specs.Valid.{IsSized, instruction_count}
@@ -136,9 +136,9 @@ pub all_tests : (code : VProc) (names targets cells params depths few : Bool) �
     (IsTrue targets ↔ ((b t : ℕ) → b < length code.blocks → IsTarget (block_in code.blocks b).end t → t < length code.blocks)) →
     (IsTrue cells ↔ EachInstr code.blocks (CellsBelow code.args)) →
     (IsTrue params ↔ ((v i : ℕ) → slice_get code.vars v ≡ Some (Param i) → i < code.args)) →
-    (IsTrue depths ↔ ((b : ℕ) → (block_in code.blocks b).depth ≤ MAX_DEPTH)) →
-    (IsTrue few ↔ (instruction_count code.blocks ≤ MAX_INSTRUCTIONS)) →
-    (IsTrue (list_all (λ test. test) (names ∷ targets ∷ cells ∷ params ∷ depths ∷ few ∷ nat_le (length code.blocks) MAX_BLOCKS ∷ nat_le (length code.vars) MAX_VARIABLES ∷ nat_le code.args MAX_ARGUMENTS ∷ nat_le code.aggregates MAX_AGGREGATES ∷ [])) ↔ IsSized code)
+    (IsTrue depths ↔ ((b : ℕ) → (block_in code.blocks b).depth ≤ most_loops)) →
+    (IsTrue few ↔ (instruction_count code.blocks ≤ most_instructions)) →
+    (IsTrue (list_all (λ test. test) (names ∷ targets ∷ cells ∷ params ∷ depths ∷ few ∷ nat_le (length code.blocks) most_blocks ∷ nat_le (length code.vars) most_variables ∷ nat_le code.args most_arguments ∷ nat_le code.aggregates most_aggregates ∷ [])) ↔ IsSized code)
 all_tests code names targets cells params depths few of_names of_targets of_cells of_params of_depths of_few = (
   λ yes.
       let t1 = both names _ yes in
@@ -147,10 +147,10 @@ all_tests code names targets cells params depths few of_names of_targets of_cell
       let t4 = both params _ t3.1 in
       let t5 = both depths _ t4.1 in
       let t6 = both few _ t5.1 in
-      let t7 = both (nat_le (length code.blocks) MAX_BLOCKS) _ t6.1 in
-      let t8 = both (nat_le (length code.vars) MAX_VARIABLES) _ t7.1 in
-      let t9 = both (nat_le code.args MAX_ARGUMENTS) _ t8.1 in
-      let t10 = both (nat_le code.aggregates MAX_AGGREGATES) _ t9.1 in
+      let t7 = both (nat_le (length code.blocks) most_blocks) _ t6.1 in
+      let t8 = both (nat_le (length code.vars) most_variables) _ t7.1 in
+      let t9 = both (nat_le code.args most_arguments) _ t8.1 in
+      let t10 = both (nat_le code.aggregates most_aggregates) _ t9.1 in
       record {
         variables_in_range = of_names.0 t1.0;
         targets_in_range = of_targets.0 t2.0;
@@ -170,8 +170,8 @@ all_tests code names targets cells params depths few of_names of_targets of_cell
       (made params _ (of_params.1 sized.params_in_range)
       (made depths _ (of_depths.1 sized.depths)
       (made few _ (of_few.1 sized.instructions)
-      (made _ _ (le-leb (length code.blocks) MAX_BLOCKS sized.blocks)
-      (made _ _ (le-leb (length code.vars) MAX_VARIABLES sized.variables)
-      (made _ _ (le-leb code.args MAX_ARGUMENTS sized.args)
-      (made _ _ (le-leb code.aggregates MAX_AGGREGATES sized.aggregates) refl))))))))),
+      (made _ _ (le-leb (length code.blocks) most_blocks sized.blocks)
+      (made _ _ (le-leb (length code.vars) most_variables sized.variables)
+      (made _ _ (le-leb code.args most_arguments sized.args)
+      (made _ _ (le-leb code.aggregates most_aggregates sized.aggregates) refl))))))))),
 )

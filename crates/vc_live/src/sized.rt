@@ -3,12 +3,12 @@
 ghost use Rattle.std.specs.Prelude.{◌≡◌, ℕ, ◌<◌, ◌≤◌, ◌↔◌, IsTrue, true, length, Some, slice_get};
 ghost use Rattle.std.specs.List.{list_all};
 ghost use Rattle.pra_base.specs.Code.{IsTarget, block_in, EachInstr};
-ghost use Rattle.pra_base.specs.Valid.{IsSized, instruction_count};
+ghost use Rattle.pra_base.specs.Valid.{IsSized, instruction_count, most_loops, most_instructions};
 ghost use Rattle.vc_live.specs.Equations.{named_in};
 ghost use Rattle.vc_live.specs.Sized.{Each, named_cell, NamesBelow, CellsBelow, TargetsBelow};
 
 use pra_base::code::{
-    MAX_AGGREGATES, MAX_ARGUMENTS, MAX_BLOCKS, MAX_DEPTH, MAX_INSTRUCTIONS, MAX_VARIABLES,
+    MAX_AGGREGATES, MAX_ARGUMENTS, MAX_BLOCKS, MAX_INSTRUCTIONS, MAX_LOOP_DEPTH, MAX_VARIABLES,
 };
 use pra_base::{Base, Block, End, VInstr, VProc, VarKind};
 use vc_code::{Role, operands};
@@ -134,10 +134,10 @@ fn are_params_in_range(vars: &[VarKind], args: u32) -> bool
 }
 
 fn are_depths_in_range(blocks: &[Block]) -> bool
-    ensures { IsTrue result ↔ ((b : ℕ) → (block_in blocks.now b).depth ≤ MAX_DEPTH) }
+    ensures { IsTrue result ↔ ((b : ℕ) → (block_in blocks.now b).depth ≤ most_loops) }
 {
     for block in blocks {
-        if block.depth > MAX_DEPTH {
+        if block.depth > MAX_LOOP_DEPTH {
             return false;
         }
     }
@@ -146,7 +146,7 @@ fn are_depths_in_range(blocks: &[Block]) -> bool
 
 // Whether the blocks together have at most `MAX_INSTRUCTIONS` instructions.
 fn are_instructions_few(blocks: &[Block]) -> bool
-    ensures { IsTrue result ↔ (instruction_count blocks.now ≤ MAX_INSTRUCTIONS) }
+    ensures { IsTrue result ↔ (instruction_count blocks.now ≤ most_instructions) }
 {
     let mut room = MAX_INSTRUCTIONS;
     for block in blocks {
