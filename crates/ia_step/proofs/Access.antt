@@ -3,9 +3,10 @@ use Rattle.std.proofs.Common.{◌≡◌, ℕ, ◌+◌, ◌-◌, ◌^◌, ◌≤�
 use Rattle.std.specs.Prelude.{Ok}
 use Rattle.std.proofs.lemmas.Bool.Decides.{nat_tests}
 use Rattle.ia_code.specs.declared.ins.Reg.TheVariants.{Esp}
-use Rattle.ia_step.specs.Arithmetic.{sum32, diff32}
+use Rattle.pra_base.specs.Words.{sum32, diff32}
+use Rattle.ia_code.specs.Regions.{data_base, stack_base}
 use Rattle.ia_step.specs.Memory.{word_in, with_word}
-use Rattle.ia_step.specs.State.{State, data_base, stack_base, with_register}
+use Rattle.ia_step.specs.State.{State, with_register}
 use Rattle.ia_step.specs.Effect.{lies_in, load, store, push, pop}
 
 pub lies : (a base : ℕ) (region : List ℕ) → base ≤ a → a + 4 ≤ base + length region → lies_in a base region ≡ true

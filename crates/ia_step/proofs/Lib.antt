@@ -1,8 +1,9 @@
-pub mod Words
+pub mod MemoryWords
 pub mod RegisterLemmas
 pub mod Access
-pub mod Later
-pub mod Here
-pub mod Signed
+pub mod StepsKeep
+pub mod AtEip
+pub mod Conditions
+pub mod Division
 pub mod Runs
 pub mod Reaches

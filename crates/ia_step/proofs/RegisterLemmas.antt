@@ -3,7 +3,7 @@ use Rattle.std.proofs.Common.{◌≡◌, ℕ, false, refl, arith}
 use Rattle.std.specs.Prelude.{◌==◌}
 use Rattle.ia_code.specs.declared.ins.Reg.{Reg}
 use Rattle.ia_code.specs.declared.ins.Reg.TheVariants.{Eax, Ecx, Edx, Ebx, Esp, Ebp, Esi, Edi}
-use Rattle.ia_code.specs.Table.{reg_number}
+use Rattle.ia_code.specs.DecodeTable.{reg_number}
 use Rattle.ia_step.specs.declared.registers.Registers.{Registers}
 use Rattle.ia_step.specs.Registers.{get, with_reg}
 

@@ -1,5 +1,5 @@
 -- The machine as one of the machines whose runs are compared, and how a run goes on.
-use Rattle.std.proofs.Common.{◌≡◌, ◌≢◌, ℕ, zero, suc, ◌+◌, ◌-◌, ◌≤◌, true, false, List, [], ◌++◌, None, refl, sym, ap, ◌∙◌, subst, arith, append-nil, append_assoc, ◌⊎◌, ⊎_elim}
+use Rattle.std.proofs.Common.{◌≡◌, ◌≢◌, ℕ, zero, suc, ◌+◌, ◌-◌, ◌≤◌, true, false, List, [], ◌++◌, None, refl, sym, ap, ◌∙◌, subst, arith, append-nil, append_assoc, length-append, ◌⊎◌, ⊎_elim}
 use Rattle.std.specs.Prelude.{ℤ, Result, Ok, Err, OnErr}
 use Rattle.pra_base.specs.declared.event.OutEvent.{OutEvent}
 use Rattle.pra_base.specs.Agreement.{IsPrefix, Keeps}
@@ -12,9 +12,9 @@ use Rattle.ia_step.specs.declared.out.Ending.{Ending}
 use Rattle.ia_step.specs.declared.out.Ending.TheVariants as ending
 use Rattle.ia_step.specs.State.{State, start}
 use Rattle.ia_step.specs.Step.{step}
-use Rattle.ia_step.specs.Later.{IsLater}
+use Rattle.ia_step.specs.Kept.{Kept}
 use Rattle.ia_step.specs.Run.{Ran, noted, begin, after, advance_from, advance, is_going, ran, run_end, view, progress}
-use Rattle.ia_step.proofs.Later.{later_step}
+use Rattle.ia_step.proofs.StepsKeep.{kept_step}
 
 -- a step only adds to the events
 pub noted_more : (events : List OutEvent) (o : StepOut) → (more : List OutEvent) × (noted events o ≡ events ++ more)
@@ -29,7 +29,7 @@ here : (r : Ran) → IsPrefix (view r) (view r)
 here r = ([], sym (append-nil r.events), omega arith)
 
 grows_from : (r : Ran) (e : Ending) → IsPrefix (view r) (view (advance_from r e))
-grows_from r ending.Going = let more = noted_more r.events (step r.state).1 in (more.0, more.1, (later_step r.state).grows)
+grows_from r ending.Going = let more = noted_more r.events (step r.state).1 in (more.0, more.1, omega (arith, (kept_step r.state).taken))
 grows_from r ending.Ended = here r
 grows_from r (ending.Trap k) = here r
 grows_from r (ending.Fault k) = here r
@@ -62,31 +62,32 @@ over_is ending.Ended h = λ e. cc
 over_is (ending.Trap k) h = λ e. cc
 over_is (ending.Fault k) h = λ e. cc
 
-later_on : (s t u : State) (m n : ℕ) → IsLater s t m → IsLater t u n → IsLater s u (m + n)
-later_on s t u m n p q = record {
+kept_twice : (s t u : State) (m n : ℕ) → Kept s t m → Kept t u n → Kept s u (m + n)
+kept_twice s t u m n p q = record {
   code = q.code ∙ p.code;
-  input = q.input ∙ p.input;
   data_size = q.data_size ∙ p.data_size;
   stack_size = q.stack_size ∙ p.stack_size;
-  grows = omega (arith, p.grows, q.grows);
-  bounded = omega (arith, p.bounded, q.bounded);
+  front = p.front ++ q.front;
+  input = p.input ∙ ap (λ l. p.front ++ l) q.input ∙ sym (append_assoc p.front q.front u.input);
+  taken = omega (arith, p.taken, q.taken, length-append p.front q.front);
+  few = omega (arith, p.few, q.few, length-append p.front q.front);
 }
 
-later_here_from : (r : Ran) (n : ℕ) → IsLater r.state r.state n
-later_here_from r n = record { code = refl; input = refl; data_size = refl; stack_size = refl; grows = omega arith; bounded = omega arith }
+kept_at_once : (r : Ran) (n : ℕ) → Kept r.state r.state n
+kept_at_once r n = record { code = refl; data_size = refl; stack_size = refl; front = []; input = refl; taken = omega arith; few = omega arith }
 
-later_advance : (r : Ran) (e : Ending) → IsLater r.state (advance_from r e).state 1
-later_advance r ending.Going = later_step r.state
-later_advance r ending.Ended = later_here_from r 1
-later_advance r (ending.Trap k) = later_here_from r 1
-later_advance r (ending.Fault k) = later_here_from r 1
+kept_advance : (r : Ran) (e : Ending) → Kept r.state (advance_from r e).state 1
+kept_advance r ending.Going = kept_step r.state
+kept_advance r ending.Ended = kept_at_once r 1
+kept_advance r (ending.Trap k) = kept_at_once r 1
+kept_advance r (ending.Fault k) = kept_at_once r 1
 
-pub later_run : (m : ℕ) (r : Ran) → IsLater r.state (run advance m r).state m
-later_run zero r = later_here_from r 0
-later_run (suc m) r =
+pub kept_run : (m : ℕ) (r : Ran) → Kept r.state (run advance m r).state m
+kept_run zero r = kept_at_once r 0
+kept_run (suc m) r =
     let e : 1 + m ≡ suc m = omega arith in
-    subst (λ n. IsLater r.state (run advance m (advance r)).state n) e
-    (later_on r.state (advance r).state (run advance m (advance r)).state 1 m (later_advance r r.state.ending) (later_run m (advance r)))
+    subst (λ n. Kept r.state (run advance m (advance r)).state n) e
+    (kept_twice r.state (advance r).state (run advance m (advance r)).state 1 m (kept_advance r r.state.ending) (kept_run m (advance r)))
 
 -- A run of k steps from s has come to t.
 module _ (s t : State) (k : ℕ) (events : List OutEvent) (same : ran s k ≡ record { state = t; events = events; steps = k }) where
@@ -108,8 +109,8 @@ module _ (s t : State) (k : ℕ) (events : List OutEvent) (same : ran s k ≡ re
       ap (ran s) z ∙ run_more advance k (m - k) (begin s) ∙ run_over advance view is_machine (m - k) (ran s k) over ∙ same)
       c
 
-  pub later_here : IsLater s t k
-  later_here = subst (λ (r : Ran). IsLater s r.state k) same (later_run k (begin s))
+  pub kept_here : Kept s t k
+  kept_here = subst (λ (r : Ran). Kept s r.state k) same (kept_run k (begin s))
 
 pub on_err : {X E : Type 0} (P : Type 0) (r : Result X E) → P → OnErr r P
 on_err P (Ok x) p = tt

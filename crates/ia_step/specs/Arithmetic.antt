@@ -1,6 +1,10 @@
--- Arithmetic on 32 bits, the status flags, and the conditions on them (SDM volume 1, section 3.4.3.1, and appendix B).
-use Rattle.std.specs.Prelude.{ℕ, ◌+◌, ◌-◌, ◌*◌, ◌/◌, ◌%◌, ◌^◌, ℤ, pos, negsuc, ◌+ℤ◌, ◌-ℤ◌, ◌*ℤ◌, Bool, true, false, not, ◌||◌, ◌==◌, nat_lt, nat_le, if◌then◌else◌, Option, Some, None}
-use Rattle.std.specs.Int.{w32, w64, cast_unsigned, cast_signed}
+-- Arithmetic on 32 bits, the status flags, and the conditions on them (SDM volume 1, section
+-- 3.4.3.1, and appendix B).
+use Rattle.std.specs.Prelude.{ℕ, ◌+◌, ◌*◌, ◌/◌, ◌^◌, ℤ, ◌+ℤ◌, ◌-ℤ◌, ◌*ℤ◌}
+use Rattle.std.specs.Prelude.{Bool, true, false, not, ◌||◌, ◌&&◌, ◌==◌, nat_lt, nat_le}
+use Rattle.std.specs.Prelude.{if◌then◌else◌, Option, Some, None}
+use Rattle.std.specs.Int.{w64, cast_signed}
+use Rattle.pra_base.specs.Words.{word, signed, sign, fits_word, sum32, diff32}
 use Rattle.std.specs.Int.RustNames.{int_div, int_rem}
 use Rattle.std.specs.Int.Bits.{bit_and, bit_or, bit_xor}
 use Rattle.pra_base.specs.declared.ids.Cond.{Cond}
@@ -9,31 +13,9 @@ use Rattle.ia_code.specs.declared.ins.AluOp.{AluOp}
 use Rattle.ia_code.specs.declared.ins.AluOp.TheVariants.{Add, Or, And, Sub, Xor, Cmp}
 use Rattle.ia_step.specs.declared.flags.Flags.{Flags}
 
--- sum, difference and product, modulo 2^32
-abbrev pub sum32 : ℕ → ℕ → ℕ
-sum32 a b = (a + b) % 2 ^ 32
-
-abbrev pub diff32 : ℕ → ℕ → ℕ
-diff32 a b = (a + (2 ^ 32 - b)) % 2 ^ 32
-
-abbrev pub prod32 : ℕ → ℕ → ℕ
-prod32 a b = a * b % 2 ^ 32
-
--- the number that 32 bits are in two's complement
-abbrev pub signed : ℕ → ℤ
-signed a = cast_signed w32 a
-
--- the sign bit
-abbrev pub sign : ℕ → Bool
-sign a = nat_le (2 ^ 31) a
-
--- whether a number is one of 32 bits in two's complement
-abbrev pub fits_word : ℤ → Bool
-fits_word (pos n) = nat_lt n (2 ^ 31)
-fits_word (negsuc n) = nat_lt n (2 ^ 31)
-
--- The status flags after an addition: CF is the carry out of the most significant bit, ZF tells a result of 0, SF is the result's sign bit,
--- and OF tells that the signed result does not fit the destination.
+-- The status flags after an addition: CF is the carry out of the most significant bit, ZF tells a
+-- result of 0, SF is the result's sign bit, and OF tells that the signed result does not fit the
+-- destination.
 unfoldable pub sum_flags : ℕ → ℕ → Flags
 sum_flags a b = record {
   cf = Some (nat_le (2 ^ 32) (a + b));
@@ -55,8 +37,8 @@ diff_flags a b = record {
 unfoldable pub bit_flags : ℕ → Flags
 bit_flags r = record { cf = Some false; zf = Some (r == 0); sf = Some (sign r); «of» = Some false }
 
--- After IMUL: CF and OF tell that the signed product does not fit the destination. The manual leaves ZF undefined; SF is taken as
--- unknown here too.
+-- After IMUL: CF and OF tell that the signed product does not fit the destination. The manual
+-- leaves ZF undefined; SF is taken as unknown here too.
 unfoldable pub product_flags : ℕ → ℕ → Flags
 product_flags a b =
     let unfit = not (fits_word (signed a *ℤ signed b)) in
@@ -84,23 +66,21 @@ flags_of Sub a b = diff_flags a b
 flags_of Xor a b = bit_flags (bit_xor a b)
 flags_of Cmp a b = diff_flags a b
 
--- IDIV: quotient and remainder of a 64-bit number by a 32-bit one, both signed, rounded toward zero; None (#DE) where the divisor is 0
--- or the quotient does not fit 32 bits
+-- whether IDIV has a quotient of x by d: d is not 0, and the quotient fits 32 bits
+abbrev pub has_quotient : ℤ → ℕ → Bool
+has_quotient x d = not (d == 0) && fits_word (int_div x (signed d))
+
+-- IDIV: quotient and remainder of the 64-bit number a by the 32-bit number d, both signed, rounded
+-- toward zero; None (#DE) where there is no quotient
 unfoldable pub quotient : ℕ → ℕ → Option (ℕ × ℕ)
-quotient a b =
+quotient a d =
     let x = cast_signed w64 a in
-    let d = signed b in
-    if b == 0 then None
-    else if fits_word (int_div x d) then Some (cast_unsigned w32 (int_div x d), cast_unsigned w32 (int_rem x d))
+    if has_quotient x d then Some (word (int_div x (signed d)), word (int_rem x (signed d)))
     else None
 
 -- a number with another low byte
 abbrev pub with_low_byte : ℕ → ℕ → ℕ
 with_low_byte v b = v / 256 * 256 + b
-
-abbrev pub bit_of : Bool → ℕ
-bit_of true = 1
-bit_of false = 0
 
 abbrev pub differ : Bool → Bool → Bool
 differ true b = not b
@@ -116,7 +96,8 @@ negated None = None
 negated (Some b) = Some (not b)
 
 -- What a condition says of the flags, or None where a flag that its formula names is not known:
--- B is CF, E is ZF, BE is CF or ZF, S is SF, L is SF different from OF, LE is ZF or L; the others are their negations.
+-- B is CF, E is ZF, BE is CF or ZF, S is SF, L is SF different from OF, LE is ZF or L; the others
+-- are their negations.
 abbrev pub holds : Flags → Cond → Option Bool
 holds f B = f.cf
 holds f Ae = negated f.cf

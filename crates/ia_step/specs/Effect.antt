@@ -1,8 +1,10 @@
--- What each instruction does, in the order of the table of their bytes, as on the instruction's page in SDM volume 2. The parts of
--- their operations come first, the instructions at the end. When one is executed, EIP is already that of the next instruction. One that
--- faults leaves nothing behind: the fault alone is its result.
-use Rattle.std.specs.Prelude.{ℕ, ℤ, ◌+◌, ◌-◌, ◌*◌, ◌%◌, ◌^◌, ◌==◌, ◌&&◌, nat_le, if◌then◌else◌, Bool, true, false, List, length, Option, Some, None, slice_get, Result, Ok, Err}
-use Rattle.std.specs.Int.{w32, cast_unsigned}
+-- What each instruction does, in the order of the table of their bytes, as on the instruction's
+-- page in SDM volume 2. The parts of their operations come first, the instructions at the end. When
+-- one is executed, EIP is already that of the next instruction. One that faults leaves nothing
+-- behind: the fault alone is its result.
+use Rattle.std.specs.Prelude.{ℕ, ℤ, ◌+◌, ◌-◌, ◌*◌, ◌%◌, ◌^◌, ◌&&◌, nat_le, if◌then◌else◌}
+use Rattle.std.specs.Prelude.{Bool, true, false, List, [], ◌∷◌, length, Option, Some, None, Result}
+use Rattle.std.specs.Prelude.{Ok, Err}
 use Rattle.std.specs.Int.Bits.{bit_and}
 use Rattle.pra_base.specs.declared.event.TrapKind.{TrapKind}
 use Rattle.pra_base.specs.declared.event.TrapKind.TheVariants as trap
@@ -13,19 +15,30 @@ use Rattle.ia_code.specs.declared.ins.Rm.TheVariants as rm
 use Rattle.ia_code.specs.declared.ins.AluOp.{AluOp}
 use Rattle.ia_code.specs.declared.ins.AluOp.TheVariants.{Cmp}
 use Rattle.ia_code.specs.declared.ins.Ins.{Ins}
-use Rattle.ia_code.specs.declared.ins.Ins.TheVariants.{MovRmR, MovRRm, MovRI, MovRmI, AluRmR, AluRRm, AluRmI, AluRmB, ImulRRm, ImulI, ImulB, Neg, Idiv, Cdq, Lea, PushR, PopR, PushM, PushI, Call, Ret, RetI, Jmp, Jcc, Set, Movzx, Xchg, Test, Int}
+use Rattle.ia_code.specs.declared.ins.Ins.TheVariants.{MovRmR, MovRRm, MovRI, MovRmI, AluRmR}
+use Rattle.ia_code.specs.declared.ins.Ins.TheVariants.{AluRRm, AluRmI, AluRmB, ImulRRm, ImulI}
+use Rattle.ia_code.specs.declared.ins.Ins.TheVariants.{ImulB, Neg, Idiv, Cdq, Lea, PushR, PopR}
+use Rattle.ia_code.specs.declared.ins.Ins.TheVariants.{PushM, PushI, Call, Ret, RetI, Jmp, Jcc, Set}
+use Rattle.ia_code.specs.declared.ins.Ins.TheVariants.{Movzx, Xchg, Test, Int}
 use Rattle.ia_step.specs.declared.out.FaultKind.{FaultKind}
 use Rattle.ia_step.specs.declared.out.FaultKind.TheVariants as fault
 use Rattle.ia_step.specs.declared.out.StepOut.{StepOut}
-use Rattle.ia_step.specs.declared.out.StepOut.TheVariants.{Going, Wrote, Line, Ended, Trap}
+use Rattle.ia_step.specs.declared.out.StepOut.TheVariants as out
+use Rattle.ia_code.specs.declared.services.Service.{Service}
+use Rattle.ia_code.specs.declared.services.Service.TheVariants as services
+use Rattle.ia_code.specs.Services.{service_of, trap_of}
+use Rattle.ia_code.specs.Regions.{data_base, stack_base}
+use Rattle.pra_base.specs.Words.{word, signed, sign, sum32, diff32, product32, truth}
 use Rattle.ia_step.specs.declared.out.Ending.TheVariants as ending
 use Rattle.ia_step.specs.Registers.{get, address_of}
 use Rattle.ia_step.specs.Memory.{word_in, with_word}
-use Rattle.ia_step.specs.Arithmetic.{sum32, diff32, prod32, sign, signed, diff_flags, bit_flags, product_flags, no_flags, result_of, flags_of, quotient, with_low_byte, bit_of, holds}
-use Rattle.ia_step.specs.State.{State, data_base, stack_base, with_register, with_flags, at, over}
+use Rattle.ia_step.specs.Arithmetic.{diff_flags, bit_flags, product_flags, no_flags, result_of}
+use Rattle.ia_step.specs.Arithmetic.{flags_of, quotient, with_low_byte, holds}
+use Rattle.ia_step.specs.State.{State, with_register, with_flags, at, over}
 
 infixl 10 ◌>>=◌
-abbrev pub ◌>>=◌ : {A B : Type 0} → Result A FaultKind → (A → Result B FaultKind) → Result B FaultKind
+abbrev pub ◌>>=◌ : {A B : Type 0} →
+    Result A FaultKind → (A → Result B FaultKind) → Result B FaultKind
 (Ok x) >>= f = f x
 (Err k) >>= f = Err k
 
@@ -34,7 +47,7 @@ abbrev pub Done : Type 0
 Done = Result (State × StepOut) FaultKind
 
 abbrev pub goes : State → Done
-goes s = Ok (s, Going)
+goes s = Ok (s, out.Going)
 
 -- Memory: a doubleword lies wholly in data or stack, at any alignment, else Access
 
@@ -49,8 +62,10 @@ load s a =
 
 unfoldable pub store : State → ℕ → ℕ → Result State FaultKind
 store s a v =
-    if lies_in a data_base s.storage then Ok (record s { storage = with_word s.storage (a - data_base) v })
-    else if lies_in a stack_base s.stack then Ok (record s { stack = with_word s.stack (a - stack_base) v })
+    if lies_in a data_base s.storage then
+    Ok (record s { storage = with_word s.storage (a - data_base) v })
+    else if lies_in a stack_base s.stack then
+    Ok (record s { stack = with_word s.stack (a - stack_base) v })
     else Err fault.Access
 
 -- The operand of ModRM's rm field: a register, or a doubleword in memory
@@ -90,9 +105,10 @@ alu op s dest src = do
   t ← keep_result op s dest (result_of op v src)
   goes (with_flags t (flags_of op v src))
 
--- IMUL: DEST := SRC1 * SRC2, truncated. Flags: CF and OF set where the signed product does not fit, ZF and SF unknown.
+-- IMUL: DEST := SRC1 * SRC2, truncated. Flags: CF and OF set where the signed product does not fit,
+-- ZF and SF unknown.
 unfoldable pub imul : State → Reg → ℕ → ℕ → Done
-imul s dest a b = goes (with_flags (with_register s dest (prod32 a b)) (product_flags a b))
+imul s dest a b = goes (with_flags (with_register s dest (product32 a b)) (product_flags a b))
 
 -- NEG: DEST := 0 - DEST. Flags: by that difference, so CF is clear only where DEST is 0.
 unfoldable pub neg : State → Rm → Done
@@ -101,7 +117,8 @@ neg s dest = do
   t ← write_rm s dest (diff32 0 v)
   goes (with_flags t (diff_flags 0 v))
 
--- IDIV: EAX := EDX:EAX / SRC; EDX := the remainder; both signed, truncated. Flags: all unknown. Divide: SRC is 0, or the quotient does not fit.
+-- IDIV: EAX := EDX:EAX / SRC; EDX := the remainder; both signed, truncated. Flags: all unknown.
+-- Divide: SRC is 0, or the quotient does not fit.
 abbrev pub divided : State → Option (ℕ × ℕ) → Done
 divided s None = Err fault.Divide
 divided s (Some x) = goes (with_flags (with_register (with_register s Eax x.0) Edx x.1) no_flags)
@@ -115,7 +132,7 @@ sign_word v = if sign v then 2 ^ 32 - 1 else 0
 
 -- CALL, JMP, Jcc: EIP := EIP + displacement, modulo 2^32
 abbrev pub jump : State → ℤ → State
-jump s d = at s (sum32 s.eip (cast_unsigned w32 d))
+jump s d = at s (sum32 s.eip (word d))
 
 -- Jcc: jumps where the condition is met. Flag: a flag that the condition names is unknown.
 abbrev pub branch : State → ℤ → Option Bool → Done
@@ -123,60 +140,58 @@ branch s d None = Err fault.Flag
 branch s d (Some true) = goes (jump s d)
 branch s d (Some false) = goes s
 
--- SETcc: the low byte of DEST is 1 where the condition is met, and else 0; its other bytes stay. Flag: as Jcc.
+-- SETcc: the low byte of DEST is 1 where the condition is met, and else 0; its other bytes stay.
+-- Flag: as Jcc.
 abbrev pub set : State → Reg → Option Bool → Done
 set s dest None = Err fault.Flag
-set s dest (Some b) = goes (with_register s dest (with_low_byte (get s.regs dest) (bit_of b)))
+set s dest (Some b) = goes (with_register s dest (with_low_byte (get s.regs dest) (truth b)))
 
 -- INT: the services of the host. They change nothing else but EIP.
 
--- 23h: EAX := the next input word, or the trap Input
-abbrev pub take_input : State → Option ℤ → Done
-take_input s None = Ok (over s (ending.Trap trap.Input), Trap trap.Input)
-take_input s (Some n) = goes (record (with_register s Eax (cast_unsigned w32 n)) { place = s.place + 1 })
+-- 23h: EAX := the next input word, or the trap Input where none is left
+abbrev pub take_input : State → List ℤ → Done
+take_input s [] = Ok (over s (ending.Trap trap.Input), out.Trap trap.Input)
+take_input s (n ∷ rest) =
+    goes (record (with_register s Eax (word n)) { input = rest; taken = s.taken + 1 })
 
 -- 24h: the trap whose number EAX holds. Service: there is none of this number.
-abbrev pub trap_of : ℕ → Option TrapKind
-trap_of n =
-    if n == 1 then Some trap.Index
-    else if n == 2 then Some trap.Divide
-    else if n == 3 then Some trap.Input
-    else if n == 4 then Some trap.Stack
-    else None
-
 abbrev pub trapped : State → Option TrapKind → Done
 trapped s None = Err fault.Service
-trapped s (Some k) = Ok (over s (ending.Trap k), Trap k)
+trapped s (Some k) = Ok (over s (ending.Trap k), out.Trap k)
 
--- 20h ends the program, 21h writes EAX as a signed number, 22h writes the end of a line. Service: no other number has a service.
+-- 20h ends the program, 21h writes EAX as a signed number, 22h writes the end of a line. Service:
+-- no service has this number.
+abbrev pub serve : State → Option Service → Done
+serve s None = Err fault.Service
+serve s (Some services.End) = Ok (over s ending.Ended, out.Ended)
+serve s (Some services.WriteNumber) = Ok (s, out.Wrote (signed s.regs.eax))
+serve s (Some services.WriteLine) = Ok (s, out.Line)
+serve s (Some services.ReadNumber) = take_input s s.input
+serve s (Some services.Trap) = trapped s (trap_of s.regs.eax)
+
 unfoldable pub service : State → ℕ → Done
-service s k =
-    if k == 0x20 then Ok (over s ending.Ended, Ended)
-    else if k == 0x21 then Ok (s, Wrote (signed s.regs.eax))
-    else if k == 0x22 then Ok (s, Line)
-    else if k == 0x23 then take_input s (slice_get s.input s.place)
-    else if k == 0x24 then trapped s (trap_of s.regs.eax)
-    else Err fault.Service
+service s k = serve s (service_of k)
 
--- The instructions: opcode, operation, flags changed, faults. An immediate of 8 bits is sign-extended.
+-- The instructions: opcode, operation, flags changed, faults. An immediate of 8 bits is
+-- sign-extended.
 unfoldable pub effect : State → Ins → Done
 -- MOV: 89 /r, 8B /r, B8+r id, C7 /0 id
 -- DEST := SRC. Flags: none. Access.
 effect s (MovRmR dest src) = mov s dest (get s.regs src)
 effect s (MovRRm dest src) = read_rm s src >>= mov s (rm.Reg dest)
-effect s (MovRI dest n) = mov s (rm.Reg dest) (cast_unsigned w32 n)
-effect s (MovRmI dest n) = mov s dest (cast_unsigned w32 n)
+effect s (MovRI dest n) = mov s (rm.Reg dest) (word n)
+effect s (MovRmI dest n) = mov s dest (word n)
 -- ADD, OR, AND, SUB, XOR, CMP: 01+8n /r, 03+8n /r, 81 /n id, 83 /n ib, where n is 0, 1, 4, 5, 6, 7
 -- DEST := DEST op SRC, but DEST stays in CMP. Flags: all four. Access.
 effect s (AluRmR op dest src) = alu op s dest (get s.regs src)
 effect s (AluRRm op dest src) = read_rm s src >>= alu op s (rm.Reg dest)
-effect s (AluRmI op dest n) = alu op s dest (cast_unsigned w32 n)
-effect s (AluRmB op dest n) = alu op s dest (cast_unsigned w32 n)
+effect s (AluRmI op dest n) = alu op s dest (word n)
+effect s (AluRmB op dest n) = alu op s dest (word n)
 -- IMUL: 0F AF /r, 69 /r id, 6B /r ib
 -- DEST := DEST * SRC, or DEST := SRC1 * SRC2. Flags: CF, OF; ZF, SF unknown. Access.
 effect s (ImulRRm dest src) = read_rm s src >>= imul s dest (get s.regs dest)
-effect s (ImulI dest src n) = read_rm s src >>= imul s dest (cast_unsigned w32 n)
-effect s (ImulB dest src n) = read_rm s src >>= imul s dest (cast_unsigned w32 n)
+effect s (ImulI dest src n) = read_rm s src >>= imul s dest (word n)
+effect s (ImulB dest src n) = read_rm s src >>= imul s dest (word n)
 -- NEG: F7 /3
 -- DEST := 0 - DEST. Flags: all four. Access.
 effect s (Neg dest) = neg s dest
@@ -196,7 +211,7 @@ effect s (PushM src) = do
   v ← load s (address_of s.regs src)
   t ← push s v
   goes t
-effect s (PushI n) = push s (cast_unsigned w32 n) >>= goes
+effect s (PushI n) = push s (word n) >>= goes
 -- POP: 58+r
 -- DEST := Pop(). Flags: none. Access.
 effect s (PopR dest) = do
@@ -231,7 +246,8 @@ effect s (Set c dest) = set s dest (holds s.flags c)
 effect s (Movzx dest src) = goes (with_register s dest (get s.regs src % 256))
 -- XCHG: 87 /r
 -- temp := DEST; DEST := SRC; SRC := temp. Flags: none.
-effect s (Xchg dest src) = goes (with_register (with_register s dest (get s.regs src)) src (get s.regs dest))
+effect s (Xchg dest src) =
+    goes (with_register (with_register s dest (get s.regs src)) src (get s.regs dest))
 -- TEST: 85 /r
 -- temp := SRC1 AND SRC2, which is not kept. Flags: all four, by temp.
 effect s (Test a b) = goes (with_flags s (bit_flags (bit_and (get s.regs a) (get s.regs b))))

@@ -3,8 +3,7 @@ pub mod Memory
 pub mod Arithmetic
 pub mod State
 pub mod Effect
-pub mod Later
+pub mod Kept
 pub mod Step
-pub mod Laws
 pub mod Views
 pub mod Run

@@ -1,6 +1,6 @@
 -- The eight general registers, and the address that an instruction names.
 use Rattle.std.specs.Prelude.{ℕ, ◌+◌, ◌*◌, ◌%◌, ◌^◌, Option, Some, None}
-use Rattle.std.specs.Int.{w32, cast_unsigned}
+use Rattle.pra_base.specs.Words.{word}
 use Rattle.ia_code.specs.declared.ins.Reg.{Reg}
 use Rattle.ia_code.specs.declared.ins.Reg.TheVariants.{Eax, Ecx, Edx, Ebx, Esp, Ebp, Esi, Edi}
 use Rattle.ia_code.specs.declared.ins.MemAddr.{MemAddr}
@@ -36,6 +36,7 @@ abbrev pub scaled_index_of : Registers → Option (Reg × ℕ) → ℕ
 scaled_index_of regs None = 0
 scaled_index_of regs (Some x) = get regs x.0 * x.1
 
--- the effective address, base + index * scale + displacement, modulo 2^32 (SDM volume 1, section 3.7.5)
+-- the effective address, base + index * scale + displacement, modulo 2^32 (SDM volume 1, section
+-- 3.7.5)
 abbrev pub address_of : Registers → MemAddr → ℕ
-address_of regs a = (base_of regs a.base + scaled_index_of regs a.index + cast_unsigned w32 a.disp) % 2 ^ 32
+address_of regs a = (base_of regs a.base + scaled_index_of regs a.index + word a.disp) % 2 ^ 32

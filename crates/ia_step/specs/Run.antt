@@ -1,5 +1,6 @@
 -- Runs of the machine.
-use Rattle.std.specs.Prelude.{ℕ, ℤ, ◌+◌, ◌-◌, Bool, true, false, List, [], ◌∷◌, ◌++◌, Option, Some, None}
+use Rattle.std.specs.Prelude.{ℕ, ℤ, ◌+◌, ◌-◌, Bool, true, false, List, [], ◌∷◌, ◌++◌, Option, Some}
+use Rattle.std.specs.Prelude.{None}
 use Rattle.pra_base.specs.declared.event.OutEvent.{OutEvent}
 use Rattle.pra_base.specs.declared.event.OutEvent.TheVariants as event
 use Rattle.pra_base.specs.Agreement.{Progress}
@@ -50,13 +51,19 @@ ran s m = run advance m (begin s)
 
 -- what is told of a run that began at old
 abbrev pub told : State → Ran → RunOut
-told old r = record { events = r.events; ending = r.state.ending; steps = r.steps; reads = r.state.place - old.place }
+told old r = record {
+  events = r.events;
+  ending = r.state.ending;
+  steps = r.steps;
+  reads = r.state.taken - old.taken;
+}
 
 -- Machine run: the result of at most m steps of an image on an input
 abbrev pub machine_run : Image → List ℤ → ℕ → RunOut
 machine_run image input m = told (start image input) (ran (start image input) m)
 
--- The same as one of the runs that are compared across the layers: a fault is no ending of a program.
+-- The same as one of the runs that are compared across the layers: a fault is no ending of a
+-- program.
 abbrev pub run_end : Ending → Option RunEnd
 run_end ending.Going = None
 run_end ending.Ended = Some Ended
@@ -64,7 +71,7 @@ run_end (ending.Trap k) = Some (Trapped k)
 run_end (ending.Fault k) = Some Wrong
 
 abbrev pub view : Ran → Progress OutEvent RunEnd
-view r = record { ending = run_end r.state.ending; events = r.events; taken = r.state.place }
+view r = record { ending = run_end r.state.ending; events = r.events; taken = r.state.taken }
 
 abbrev pub progress : Image → List ℤ → ℕ → Progress OutEvent RunEnd
 progress image input m = view (ran (start image input) m)

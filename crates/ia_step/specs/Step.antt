@@ -1,5 +1,6 @@
 -- One step: fetch, decode, execute.
-use Rattle.std.specs.Prelude.{ℕ, ◌+◌, ◌-◌, nat_lt, nat_le, if◌then◌else◌, length, drop, Option, Some, None, Result, Ok, Err}
+use Rattle.std.specs.Prelude.{ℕ, ◌+◌, ◌-◌, nat_lt, nat_le, if◌then◌else◌, length, drop, Option}
+use Rattle.std.specs.Prelude.{Some, None, Result, Ok, Err}
 use Rattle.ia_code.specs.declared.ins.Ins.{Ins}
 use Rattle.ia_code.specs.Reading.{decoded}
 use Rattle.ia_step.specs.declared.out.FaultKind.{FaultKind}
@@ -8,10 +9,12 @@ use Rattle.ia_step.specs.declared.out.StepOut.{StepOut}
 use Rattle.ia_step.specs.declared.out.StepOut.TheVariants as out
 use Rattle.ia_step.specs.declared.out.Ending.{Ending}
 use Rattle.ia_step.specs.declared.out.Ending.TheVariants.{Going, Ended, Trap, Fault}
-use Rattle.ia_step.specs.State.{State, code_base, at, over}
+use Rattle.ia_step.specs.State.{State, at, over}
+use Rattle.ia_code.specs.Regions.{code_base}
 use Rattle.ia_step.specs.Effect.{◌>>=◌, Done, effect}
 
--- the instruction that was decoded, and where the next one stands; Decode: the bytes are in no row, or pass the region's end
+-- the instruction that was decoded, and where the next one stands; Decode: the bytes are in no row,
+-- or pass the region's end
 abbrev pub next_to : ℕ → Option (Ins × ℕ) → Result (Ins × ℕ) FaultKind
 next_to eip None = Err fault.Decode
 next_to eip (Some x) = Ok (x.0, eip + x.1)

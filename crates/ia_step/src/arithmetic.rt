@@ -1,8 +1,10 @@
 // Results and flags of arithmetic on 32 bits.
 
 ghost use Rattle.std.specs.Prelude.{◌≡◌, ◌^◌, ◌<◌, not, ◌+ℤ◌, ◌-ℤ◌, ◌*ℤ◌, ℤ};
-ghost use Rattle.ia_step.specs.Arithmetic.{sign, sum32, diff32, prod32, sum_flags, diff_flags, bit_flags, product_flags, result_of, flags_of, no_flags, signed, fits_word};
-ghost use Rattle.ia_step.specs.Arithmetic.{bit_of, with_low_byte as with_low_byte_of};
+ghost use Rattle.pra_base.specs.Words.{sign, signed, fits_word, truth, sum32, diff32, product32};
+ghost use Rattle.ia_step.specs.Arithmetic.{sum_flags, diff_flags, bit_flags, product_flags};
+ghost use Rattle.ia_step.specs.Arithmetic.{result_of, flags_of, no_flags};
+ghost use Rattle.ia_step.specs.Arithmetic.{with_low_byte as with_low_byte_of};
 ghost use Rattle.ia_step.specs.Effect.{sign_word as sign_word_of};
 
 use crate::flags::Flags;
@@ -29,7 +31,7 @@ pub fn difference(a: u32, b: u32) -> u32
 }
 
 pub fn product(a: u32, b: u32) -> u32
-    ensures { result ≡ prod32 a b }
+    ensures { result ≡ product32 a b }
 {
     a.wrapping_mul(b)
 }
@@ -148,7 +150,7 @@ pub fn sign_word(a: u32) -> u32
 
 /// The number with its low byte replaced by 1 or 0.
 pub fn with_low_byte(a: u32, bit: bool) -> u32
-    ensures { result ≡ with_low_byte_of a (bit_of bit) }
+    ensures { result ≡ with_low_byte_of a (truth bit) }
 {
     a / 256 * 256 + u32::from(bit)
 }

@@ -3,7 +3,8 @@
 ghost use Rattle.std.specs.Prelude.{◌≡◌, ◌≢◌, ◌≤◌, ◌^◌, pos, if◌then◌else◌};
 ghost use Rattle.std.specs.Int.{CanDivide, w64};
 ghost use Rattle.std.specs.Int.RustNames.{int_div, int_rem, unsigned_abs};
-ghost use Rattle.ia_step.specs.Arithmetic.{quotient, fits_word};
+ghost use Rattle.pra_base.specs.Words.{fits_word};
+ghost use Rattle.ia_step.specs.Arithmetic.{quotient};
 
 fn fits(q: i64) -> Option<i32>
     ensures { result ≡ (if fits_word q then Some q else None) }

@@ -1,6 +1,16 @@
-//! The IA-32 machine of the instruction subset: its state, what each instruction does, its faults, traps and services, and runs.
+//! The IA-32 machine of the instruction subset: its state, what each instruction does, its faults,
+//! traps and services, and runs.
 //!
-//! `specs/State`, `specs/Effect`, `specs/Step` and `specs/Run` are the machine; the code is proved equal to them.
+//! Promised: `Machine::load` gives the start of an image, `step` is the step of the definition for
+//! every state and every instruction, `run` exactly what at most m steps come to. The laws say it
+//! in the words of arithmetic (conditions compare, OF tells what does not fit, IDIV divides as all
+//! layers do) and of runs (they keep the code, join, and agree with pra_base's machines).
+//!
+//! Read first `specs/State`, `specs/Effect`, `specs/Step` and `specs/Run`: they are the machine, in
+//! the manual's words, and the code is proved equal to them. `specs/Kept` is what no run changes.
+//!
+//! The layers above use `Machine`, and of the proofs `AtEip` (what stands at EIP is executed),
+//! `Access` and `MemoryWords` (doublewords), `Reaches` and `Runs` (steps in a row).
 #![tactic(auto)]
 
 mod arithmetic;
@@ -14,6 +24,3 @@ pub mod registers;
 
 pub use machine::Machine;
 pub use out::{Ending, FaultKind, RunOut, StepOut};
-
-#[cfg(test)]
-mod tests;

@@ -1,4 +1,5 @@
-// The machine: its state, loading, one step, and runs. What each instruction does is in `machine/effect.rt`.
+// The machine: its state, loading, one step, and runs. What each instruction does is in
+// `machine/effect.rt`.
 
 ghost use Rattle.std.specs.Prelude.{◌≡◌, ◌≤◌, ◌+◌, ◌*◌, ℕ, length, IfOk, OnOk, OnErr};
 ghost use Rattle.ia_step.specs.Memory.{zeros as zeros_of};
@@ -15,21 +16,13 @@ use crate::registers::Registers;
 use ia_code::decoder::decode;
 use ia_code::image::Image;
 use ia_code::ins::Ins;
+use ia_code::regions::{CODE_BASE, STACK_LENGTH, STACK_TOP};
 use pra_base::{OutEvent, OutOfMemory};
 use pra_list::Seq;
 use std::alloc::{AllocError, Global};
 use std::marker::Model;
 
 mod effect;
-
-const CODE_BASE: u32 = 0x0100_0000;
-
-const DATA_BASE: u32 = 0x0400_0000;
-
-const STACK_BASE: u32 = 0x0800_0000;
-
-/// One MiB, and a reserve of 1,024 bytes below it.
-const STACK_LENGTH: u32 = 0x0010_0400;
 
 const WORD_BYTES: usize = 4;
 
@@ -43,14 +36,15 @@ pub struct Machine {
     storage: Vec<u8>,
     stack: Vec<u8>,
     input: Vec<i32>,
-    place: usize,
+    taken: usize,
     ending: Ending,
 }
 
 impl Model for Machine {
-    ghost use Rattle.ia_code.specs.declared.image.TheConstants.{MAX_CODE_BYTES, MAX_DATA_WORDS};
-    ghost use Rattle.ia_step.specs.State.{State, stack_length};
-    ghost use Rattle.std.specs.Prelude.{◌≤◌, ◌≡◌, ◌*◌, length};
+    ghost use Rattle.ia_code.specs.Image.{max_code_bytes, max_data_words};
+    ghost use Rattle.ia_code.specs.Regions.{stack_length};
+    ghost use Rattle.ia_step.specs.State.{State};
+    ghost use Rattle.std.specs.Prelude.{◌≤◌, ◌≡◌, ◌*◌, length, drop};
 
     ghost Value = { State };
 
@@ -61,15 +55,15 @@ impl Model for Machine {
       code = m.code.items;
       storage = m.storage.items;
       stack = m.stack.items;
-      input = m.input.items;
-      place = m.place;
+      input = drop m.taken m.input.items;
+      taken = m.taken;
       ending = m.ending;
     } };
 
-    ghost invariant = { λ m. (length m.code.items ≤ MAX_CODE_BYTES)
-        × (length m.storage.items ≤ MAX_DATA_WORDS * 4)
+    ghost invariant = { λ m. (length m.code.items ≤ max_code_bytes)
+        × (length m.storage.items ≤ max_data_words * 4)
         × (length m.stack.items ≡ stack_length)
-        × (m.place ≤ length m.input.items) };
+        × (m.taken ≤ length m.input.items) };
 }
 
 impl Machine {
@@ -85,14 +79,13 @@ impl Machine {
         let code = Vec::from_slice(alloc, image.code.as_slice())?;
         let storage = zeros(alloc, image.data_words as usize * WORD_BYTES)?;
         let stack = zeros(alloc, STACK_LENGTH as usize)?;
-        let esp = STACK_BASE + STACK_LENGTH;
         Ok(Machine {
             regs: Registers {
                 eax: 0,
                 ecx: 0,
                 edx: 0,
                 ebx: 0,
-                esp,
+                esp: STACK_TOP,
                 ebp: 0,
                 esi: 0,
                 edi: 0,
@@ -103,7 +96,7 @@ impl Machine {
             storage,
             stack,
             input,
-            place: 0,
+            taken: 0,
             ending: Ending::Going,
         })
     }
@@ -128,7 +121,8 @@ impl Machine {
         }
     }
 
-    /// Makes at most `m` steps, fewer where the machine ends before. The answer tells of this call alone.
+    /// Makes at most `m` steps, fewer where the machine ends before. The answer tells of this call
+    /// alone.
     ///
     /// # Errors
     ///
@@ -136,11 +130,11 @@ impl Machine {
     pub fn run(&mut self, alloc: Global, m: u32) -> Result<RunOut, OutOfMemory>
         ensures told { IfOk result (λ out. out ≡ told self.old (ran self.old m)) }
         ensures state { OnOk result (self.new ≡ (ran self.old m).state) }
-        ensures out_of_memory { OnErr result ((k : ℕ) × (k ≤ m) × (self.new ≡ (ran self.old k).state)) }
+        ensures memory { OnErr result ((k : ℕ) × (k ≤ m) × (self.new ≡ (ran self.old k).state)) }
     {
         let mut events = Seq::new(alloc);
         let mut steps = 0u32;
-        let place = self.place;
+        let taken = self.taken;
         while steps < m && self.is_going() {
             let out = self.step();
             steps += 1;
@@ -150,7 +144,7 @@ impl Machine {
             events,
             ending: self.ending,
             steps,
-            reads: (self.place - place) as u32,
+            reads: (self.taken - taken) as u32,
         })
     }
 

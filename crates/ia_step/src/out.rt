@@ -42,8 +42,8 @@ pub enum Ending {
     Fault(FaultKind),
 }
 
-/// What a run did: the events that it made, the ending that the machine has come to, how many steps it made, the one that
-/// ended included, and how many input words it took.
+/// What a run did: the events that it made, the ending that the machine has come to, how many steps
+/// it made, the one that ended included, and how many input words it took.
 #[derive(Debug, PartialEq, Eq, Drop)]
 pub struct RunOut {
     pub events: Seq<OutEvent>,

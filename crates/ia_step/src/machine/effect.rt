@@ -1,15 +1,22 @@
 // What each instruction does, in the order of `specs/Effect`.
 
-ghost use Rattle.std.specs.Prelude.{◌≡◌, ◌≤◌, ◌*◌, length, slice_get};
-ghost use Rattle.ia_code.specs.declared.image.TheConstants.{MAX_DATA_WORDS};
-ghost use Rattle.ia_step.specs.State.{stack_base, with_register};
+ghost use Rattle.std.specs.Prelude.{◌≡◌, ◌≤◌, ◌*◌, length};
+ghost use Rattle.ia_code.specs.Image.{max_data_words};
+ghost use Rattle.ia_code.specs.Regions.{stack_base};
+ghost use Rattle.ia_step.specs.State.{with_register};
 ghost use Rattle.ia_step.specs.Registers.{address_of};
-ghost use Rattle.ia_step.specs.Effect.{lies_in, branch as branch_of, set as set_of, trap_of};
-ghost use Rattle.ia_step.specs.Effect.{load as load_of, store as store_of, read_rm as read_rm_of, write_rm as write_rm_of, push as push_of, pop as pop_of};
-ghost use Rattle.ia_step.specs.Effect.{mov as mov_of, alu as alu_of, imul as imul_of, neg as neg_of, idiv as idiv_of, service as service_of, effect as effect_of, keep_result as keep_result_of, take_input as take_input_of, jump as jump_of};
+ghost use Rattle.ia_step.specs.Effect.{lies_in, branch as branch_of, set as set_of};
+ghost use Rattle.ia_step.specs.Effect.{load as load_of, store as store_of, read_rm as read_rm_of};
+ghost use Rattle.ia_step.specs.Effect.{write_rm as write_rm_of, push as push_of, pop as pop_of};
+ghost use Rattle.ia_step.specs.Effect.{mov as mov_of, alu as alu_of, imul as imul_of};
+ghost use Rattle.ia_step.specs.Effect.{neg as neg_of, idiv as idiv_of, service as service_of};
+ghost use Rattle.ia_step.specs.Effect.{effect as effect_of, keep_result as keep_result_of};
+ghost use Rattle.ia_step.specs.Effect.{take_input as take_input_of, jump as jump_of};
+ghost use Rattle.ia_step.specs.Effect.{serve as serve_of, trapped};
+ghost use Rattle.ia_code.specs.Services.{trap_of};
 ghost use Rattle.ia_step.specs.Views.{OnResult, OnResultWith, OnDone};
 
-use super::{DATA_BASE, Machine, STACK_BASE};
+use super::Machine;
 use crate::arithmetic::{
     compute, difference, flags, flags_of_bits, flags_of_difference, flags_of_product, product,
     sign_word, sum, unknown_flags, with_low_byte,
@@ -18,26 +25,16 @@ use crate::divide::divide;
 use crate::memory::{put_word, word};
 use crate::out::{Ending, FaultKind, StepOut};
 use ia_code::ins::{AluOp, Ins, MemAddr, Reg, Rm};
+use ia_code::regions::{DATA_BASE, STACK_BASE};
+use ia_code::services::{Service, trap_kind};
 use pra_base::TrapKind;
 
 fn lies_within(base: u32, region: &[u8], address: u32) -> bool
     requires low { base ≤ stack_base }
-    requires small { length region.now ≤ MAX_DATA_WORDS * 4 }
+    requires small { length region.now ≤ max_data_words * 4 }
     ensures { result ≡ lies_in address base region.now }
 {
     base <= address && u64::from(address) + 4 <= u64::from(base) + region.len() as u64
-}
-
-fn trap_kind(number: u32) -> Option<TrapKind>
-    ensures { result ≡ trap_of number }
-{
-    match number {
-        1 => Some(TrapKind::Index),
-        2 => Some(TrapKind::Divide),
-        3 => Some(TrapKind::Input),
-        4 => Some(TrapKind::Stack),
-        _ => None,
-    }
 }
 
 impl Machine {
@@ -222,16 +219,16 @@ impl Machine {
     }
 
     fn take_input(&mut self) -> StepOut
-        ensures { take_input_of self.old (slice_get self.old.input self.old.place) ≡ Ok (self.new, result) }
+        ensures { take_input_of self.old self.old.input ≡ Ok (self.new, result) }
     {
-        match self.input.get(self.place) {
+        match self.input.get(self.taken) {
             None => {
                 self.end(Ending::Trap(TrapKind::Input));
                 StepOut::Trap(TrapKind::Input)
             }
             Some(word) => {
                 self.regs.eax = word.cast_unsigned();
-                self.place += 1;
+                self.taken += 1;
                 StepOut::Going
             }
         }
@@ -241,22 +238,36 @@ impl Machine {
     fn service(&mut self, number: u8) -> Result<StepOut, FaultKind>
         ensures { OnDone self.old self.new result (service_of self.old number) }
     {
-        match number {
-            0x20 => {
+        match Service::from_number(number) {
+            None => Err(FaultKind::Service),
+            Some(called) => self.serve(called),
+        }
+    }
+
+    fn serve(&mut self, called: Service) -> Result<StepOut, FaultKind>
+        ensures { OnDone self.old self.new result (serve_of self.old (Some called)) }
+    {
+        match called {
+            Service::End => {
                 self.end(Ending::Ended);
                 Ok(StepOut::Ended)
             }
-            0x21 => Ok(StepOut::Wrote(self.regs.eax.cast_signed())),
-            0x22 => Ok(StepOut::Line),
-            0x23 => Ok(self.take_input()),
-            0x24 => match trap_kind(self.regs.eax) {
-                None => Err(FaultKind::Service),
-                Some(kind) => {
-                    self.end(Ending::Trap(kind));
-                    Ok(StepOut::Trap(kind))
-                }
-            },
-            _ => Err(FaultKind::Service),
+            Service::WriteNumber => Ok(StepOut::Wrote(self.regs.eax.cast_signed())),
+            Service::WriteLine => Ok(StepOut::Line),
+            Service::ReadNumber => Ok(self.take_input()),
+            Service::Trap => self.trap(),
+        }
+    }
+
+    fn trap(&mut self) -> Result<StepOut, FaultKind>
+        ensures { OnDone self.old self.new result (trapped self.old (trap_of self.old.regs.eax)) }
+    {
+        match trap_kind(self.regs.eax) {
+            None => Err(FaultKind::Service),
+            Some(kind) => {
+                self.end(Ending::Trap(kind));
+                Ok(StepOut::Trap(kind))
+            }
         }
     }
 

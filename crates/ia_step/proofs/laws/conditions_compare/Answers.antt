@@ -1,4 +1,4 @@
-use Rattle.ia_step.proofs.Signed.{holds-diff_flags}
+use Rattle.ia_step.proofs.Conditions.{holds-diff_flags}
 use Rattle.ia_step.proofs.laws.conditions_compare.Goals as goal
 
 pub returns : goal.returns

@@ -1,4 +1,4 @@
-use Rattle.ia_step.proofs.Later.{step_fault, step_over}
+use Rattle.ia_step.proofs.StepsKeep.{step_fault, step_over}
 use Rattle.ia_step.proofs.laws.faults_and_endings_change_nothing.Goals as goal
 
 pub returns-clause-fault : goal.returns-clause-fault

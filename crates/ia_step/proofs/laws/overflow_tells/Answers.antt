@@ -1,4 +1,4 @@
-use Rattle.ia_step.proofs.Signed.{sum_right, difference_right, product_right}
+use Rattle.ia_step.proofs.Conditions.{sum_right, difference_right, product_right}
 use Rattle.ia_step.proofs.laws.overflow_tells.Goals as goal
 
 pub returns-clause-sum : goal.returns-clause-sum

@@ -1,4 +1,4 @@
-use Rattle.ia_step.proofs.Later.{step_told}
+use Rattle.ia_step.proofs.StepsKeep.{step_told}
 use Rattle.ia_step.proofs.laws.step_tells_ending.Goals as goal
 
 pub returns : goal.returns

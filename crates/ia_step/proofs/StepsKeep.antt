@@ -1,6 +1,10 @@
 -- No step changes the code, the input or the size of a region, and none takes more than one input word; and its answer tells the ending.
 use Rattle.std.proofs.Common.{◌≡◌, ◌≢◌, ℕ, Bool, true, false, length, Option, Some, None, refl, sym, ap, ◌∙◌, subst, arith}
-use Rattle.std.specs.Prelude.{Result, Ok, Err, ℤ, slice_get, ◌==◌, if◌then◌else◌}
+use Rattle.std.specs.Prelude.{Result, Ok, Err, ℤ, if◌then◌else◌, List, [], ◌∷◌}
+use Rattle.ia_code.specs.declared.services.Service.{Service}
+use Rattle.ia_code.specs.declared.services.Service.TheVariants as services
+use Rattle.ia_code.specs.Services.{service_of, trap_of}
+use Rattle.ia_code.specs.Regions.{data_base, stack_base}
 use Rattle.pra_base.specs.declared.event.TrapKind.{TrapKind}
 use Rattle.ia_code.specs.declared.ins.Reg.{Reg}
 use Rattle.ia_code.specs.declared.ins.AluOp.{AluOp}
@@ -15,11 +19,11 @@ use Rattle.ia_step.specs.declared.out.FaultKind.{FaultKind}
 use Rattle.ia_step.specs.declared.out.Ending.{Ending}
 use Rattle.ia_step.specs.declared.out.Ending.TheVariants as ending
 use Rattle.ia_step.specs.Arithmetic.{holds}
-use Rattle.ia_step.specs.State.{State, data_base, stack_base, at, over}
-use Rattle.ia_step.specs.Effect.{◌>>=◌, Done, goes, lies_in, load, store, read_rm, write_rm, push, pop, mov, keep_result, alu, imul, neg, divided, idiv, branch, set, take_input, trap_of, trapped, service, effect}
+use Rattle.ia_step.specs.State.{State, at, over}
+use Rattle.ia_step.specs.Effect.{◌>>=◌, Done, goes, lies_in, load, store, read_rm, write_rm, push, pop, mov, keep_result, alu, imul, neg, divided, idiv, branch, set, take_input, trapped, serve, service, effect}
 use Rattle.ia_step.specs.Step.{fetch, execute, settled, step_from, step, ending_told}
-use Rattle.ia_step.specs.Later.{IsLater}
-use Rattle.ia_step.proofs.Words.{length_put}
+use Rattle.ia_step.specs.Kept.{Kept}
+use Rattle.ia_step.proofs.MemoryWords.{length_put}
 
 -- P of what an Ok has
 pub data IfGiven {A : Type 0} (P : A → Type 0) : Result A FaultKind → Type 0 where
@@ -44,25 +48,25 @@ record Quiet (s t : State) : Type 0 where
   input : t.input ≡ s.input
   data_size : length t.storage ≡ length s.storage
   stack_size : length t.stack ≡ length s.stack
-  place : t.place ≡ s.place
+  taken : t.taken ≡ s.taken
   ending : t.ending ≡ s.ending
 
 -- by computation
-plain : (s t : State) → t.code ≡ s.code → t.input ≡ s.input → length t.storage ≡ length s.storage → length t.stack ≡ length s.stack → t.place ≡ s.place → t.ending ≡ s.ending → Quiet s t
-plain s t c i d k p e = record { code = c; input = i; data_size = d; stack_size = k; place = p; ending = e }
+plain : (s t : State) → t.code ≡ s.code → t.input ≡ s.input → length t.storage ≡ length s.storage → length t.stack ≡ length s.stack → t.taken ≡ s.taken → t.ending ≡ s.ending → Quiet s t
+plain s t c i d k p e = record { code = c; input = i; data_size = d; stack_size = k; taken = p; ending = e }
 
-quiet_on : (s t u : State) → Quiet s t → u.code ≡ t.code → u.input ≡ t.input → length u.storage ≡ length t.storage → length u.stack ≡ length t.stack → u.place ≡ t.place → u.ending ≡ t.ending → Quiet s u
+quiet_on : (s t u : State) → Quiet s t → u.code ≡ t.code → u.input ≡ t.input → length u.storage ≡ length t.storage → length u.stack ≡ length t.stack → u.taken ≡ t.taken → u.ending ≡ t.ending → Quiet s u
 quiet_on s t u q c i d k p e = record {
   code = c ∙ q.code;
   input = i ∙ q.input;
   data_size = d ∙ q.data_size;
   stack_size = k ∙ q.stack_size;
-  place = p ∙ q.place;
+  taken = p ∙ q.taken;
   ending = e ∙ q.ending;
 }
 
-same : (s t : State) → t.code ≡ s.code → t.input ≡ s.input → length t.storage ≡ length s.storage → length t.stack ≡ length s.stack → t.place ≡ s.place → IsLater s t 1
-same s t c i d k p = record { code = c; input = i; data_size = d; stack_size = k; grows = omega arith; bounded = omega arith }
+same : (s t : State) → t.code ≡ s.code → t.input ≡ s.input → length t.storage ≡ length s.storage → length t.stack ≡ length s.stack → t.taken ≡ s.taken → Kept s t 1
+same s t c i d k p = record { code = c; data_size = d; stack_size = k; front = []; input = sym i; taken = omega (arith, p); few = omega arith }
 
 -- an instruction tells its ending, and no fault
 Told : Ending → Ending → StepOut → Type 0
@@ -74,12 +78,12 @@ Told before now (out.Trap k) = now ≡ ending.Trap k
 Told before now (out.Fault k) = ⊥
 
 record GoesOn (s : State) (x : State × StepOut) : Type 0 where
-  later : IsLater s x.0 1
+  later : Kept s x.0 1
   told : Told s.ending x.0.ending x.1
 
 went : (s t : State) → Quiet s t → GoesOn s (t, out.Going)
 unfolding Told
-went s t q = record { later = same s t q.code q.input q.data_size q.stack_size q.place; told = q.ending }
+went s t q = record { later = same s t q.code q.input q.data_size q.stack_size q.taken; told = q.ending }
 
 module _ (s : State) where
   quiet_store : (a v : ℕ) → IfGiven (Quiet s) (store s a v)
@@ -113,11 +117,11 @@ module _ (s : State) where
   Goes r = IfGiven (GoesOn s) r
 
   -- a state that is quiet by computation
-  goes_plain : (t : State) → t.code ≡ s.code → t.input ≡ s.input → length t.storage ≡ length s.storage → length t.stack ≡ length s.stack → t.place ≡ s.place → t.ending ≡ s.ending → Goes (goes t)
+  goes_plain : (t : State) → t.code ≡ s.code → t.input ≡ s.input → length t.storage ≡ length s.storage → length t.stack ≡ length s.stack → t.taken ≡ s.taken → t.ending ≡ s.ending → Goes (goes t)
   unfolding Goes
   goes_plain t c i d k p e = given (went s t (plain s t c i d k p e))
 
-  goes_on : (t u : State) → Quiet s t → u.code ≡ t.code → u.input ≡ t.input → length u.storage ≡ length t.storage → length u.stack ≡ length t.stack → u.place ≡ t.place → u.ending ≡ t.ending → Goes (goes u)
+  goes_on : (t u : State) → Quiet s t → u.code ≡ t.code → u.input ≡ t.input → length u.storage ≡ length t.storage → length u.stack ≡ length t.stack → u.taken ≡ t.taken → u.ending ≡ t.ending → Goes (goes u)
   unfolding Goes
   goes_on t u q c i d k p e = given (went s u (quiet_on s t u q c i d k p e))
 
@@ -173,24 +177,31 @@ module _ (s : State) where
   after_set dest None = failed
   after_set dest (Some b) = goes_plain _ refl refl refl refl refl refl
 
-  after_input : (o : Option ℤ) → Goes (take_input s o)
+  after_input : (words : List ℤ) → s.input ≡ words → Goes (take_input s words)
   unfolding Goes Told
-  after_input None = given (record { later = same s _ refl refl refl refl refl; told = refl })
-  after_input (Some n) = given (record { later = record { code = refl; input = refl; data_size = refl; stack_size = refl; grows = omega arith; bounded = omega arith }; told = refl })
+  after_input [] e = given (record { later = same s _ refl refl refl refl refl; told = refl })
+  after_input (n ∷ rest) e = given (record {
+    later = record { code = refl; data_size = refl; stack_size = refl; front = n ∷ []; input = e; taken = refl; few = omega arith };
+    told = refl;
+  })
 
   after_trapped : (k : Option TrapKind) → Goes (trapped s k)
   unfolding Goes Told
   after_trapped None = failed
   after_trapped (Some k) = given (record { later = same s _ refl refl refl refl refl; told = refl })
 
+  after_serve : (k : Option Service) → Goes (serve s k)
+  unfolding Goes Told
+  after_serve None = failed
+  after_serve (Some services.End) = given (record { later = same s _ refl refl refl refl refl; told = refl })
+  after_serve (Some services.WriteNumber) = given (record { later = same s _ refl refl refl refl refl; told = refl })
+  after_serve (Some services.WriteLine) = given (record { later = same s _ refl refl refl refl refl; told = refl })
+  after_serve (Some services.ReadNumber) = after_input s.input refl
+  after_serve (Some services.Trap) = after_trapped (trap_of s.regs.eax)
+
   after_service : (k : ℕ) → Goes (service s k)
-  unfolding service Goes Told
-  after_service k =
-      either (IfGiven (GoesOn s)) (k == 0x20) _ _ (given (record { later = same s _ refl refl refl refl refl; told = refl }))
-      (either (IfGiven (GoesOn s)) (k == 0x21) _ _ (given (record { later = same s _ refl refl refl refl refl; told = refl }))
-      (either (IfGiven (GoesOn s)) (k == 0x22) _ _ (given (record { later = same s _ refl refl refl refl refl; told = refl }))
-      (either (IfGiven (GoesOn s)) (k == 0x23) _ _ (after_input (slice_get s.input s.place))
-      (either (IfGiven (GoesOn s)) (k == 0x24) _ _ (after_trapped (trap_of s.regs.eax)) failed))))
+  unfolding service
+  after_service k = after_serve (service_of k)
 
   after_effect : (i : Ins) → Goes (effect s i)
   unfolding effect
@@ -227,27 +238,30 @@ module _ (s : State) where
 -- EIP does not count
 moved : (s : State) (n : ℕ) (r : Done) → IfGiven (GoesOn (at s n)) r → IfGiven (GoesOn s) r
 moved s n (Ok x) (given k) =
-    let l : IsLater (at s n) x.0 1 = k.later in
-    given (record { later = record { code = l.code; input = l.input; data_size = l.data_size; stack_size = l.stack_size; grows = l.grows; bounded = l.bounded }; told = k.told })
+    let l : Kept (at s n) x.0 1 = k.later in
+    given (record {
+      later = record { code = l.code; data_size = l.data_size; stack_size = l.stack_size; front = l.front; input = l.input; taken = l.taken; few = l.few };
+      told = k.told;
+    })
 moved s n (Err e) k = failed
 
 after_execute : (s : State) → IfGiven (GoesOn s) (execute s)
 unfolding Goes
 after_execute s = bound (λ x. Unit {0}) (GoesOn s) (fetch s) _ (any (fetch s)) (λ x _. moved s x.1 _ (after_effect (at s x.1) x.0))
 
-later_settled : (s : State) (r : Done) → IfGiven (GoesOn s) r → IsLater s (settled s r).0 1
-later_settled s (Ok x) (given k) = k.later
-later_settled s (Err e) k = same s _ refl refl refl refl refl
+kept_settled : (s : State) (r : Done) → IfGiven (GoesOn s) r → Kept s (settled s r).0 1
+kept_settled s (Ok x) (given k) = k.later
+kept_settled s (Err e) k = same s _ refl refl refl refl refl
 
-later_from : (s : State) (e : Ending) → IsLater s (step_from s e).0 1
-later_from s ending.Going = later_settled s (execute s) (after_execute s)
-later_from s ending.Ended = same s _ refl refl refl refl refl
-later_from s (ending.Trap k) = same s _ refl refl refl refl refl
-later_from s (ending.Fault k) = same s _ refl refl refl refl refl
+kept_from : (s : State) (e : Ending) → Kept s (step_from s e).0 1
+kept_from s ending.Going = kept_settled s (execute s) (after_execute s)
+kept_from s ending.Ended = same s _ refl refl refl refl refl
+kept_from s (ending.Trap k) = same s _ refl refl refl refl refl
+kept_from s (ending.Fault k) = same s _ refl refl refl refl refl
 
-pub later_step : (s : State) → IsLater s (step s).0 1
+pub kept_step : (s : State) → Kept s (step s).0 1
 unfolding step
-later_step s = later_from s s.ending
+kept_step s = kept_from s s.ending
 
 -- the answer of a step tells the ending
 told_is : (now : Ending) (o : StepOut) → Told ending.Going now o → now ≡ ending_told o
