@@ -1,9 +1,12 @@
 // The bytes of an image file, and the image that they hold.
 
-ghost use Rattle.std.specs.Prelude.{◌≡◌, ◌+◌, ◌≤◌, ℕ, List, length, IfOk, IfErr, MatchOption, MatchResult, Some, None, Err};
+ghost use Rattle.std.specs.Prelude.{◌≡◌, ◌+◌, ◌≤◌, ℕ, List, length, IfOk, IfErr, MatchOption, Some};
+ghost use Rattle.std.specs.Prelude.{None};
+ghost use Rattle.std.specs.Prelude.{Err};
 ghost use Rattle.ia_code.specs.declared.image.Image.{Image};
 ghost use Rattle.ia_code.specs.Image.{IsImage, image_bytes_of};
-ghost use Rattle.ia_asm.specs.Rules.{place_of, number_at, broken, IsFault};
+ghost use Rattle.ia_asm.specs.Rules.{place_of, number_at, broken, IsFault, IsFileOf};
+ghost use Rattle.ia_asm.specs.Rules.{IsReadOrNoMemory};
 ghost use Rattle.ia_asm.specs.declared.image_file.Field.{Field};
 ghost use Rattle.ia_asm.specs.declared.image_file.ImageFault.TheVariants as fault_kind;
 
@@ -11,7 +14,7 @@ use ia_code::Image;
 use ia_code::image::{HEADER_BYTES, MAGIC, MAX_CODE_BYTES, MAX_DATA_WORDS, VERSION};
 use pra_base::OutOfMemory;
 use pra_list::Seq;
-use std::alloc::{AllocError, Global};
+use std::alloc::Global;
 use thiserror::Error;
 
 /// The parts of an image file that have a rule, in the order in which the rules are tested.
@@ -36,10 +39,10 @@ pub enum ImageFault {
     OutOfMemory,
 }
 
-impl From<AllocError> for ImageFault {
+impl From<OutOfMemory> for ImageFault {
     ghost from_gives = { λ _ fault. fault ≡ fault_kind.OutOfMemory };
 
-    fn from(_: AllocError) -> Self {
+    fn from(_: OutOfMemory) -> Self {
         ImageFault::OutOfMemory
     }
 }
@@ -71,12 +74,13 @@ pub fn image_bytes(alloc: Global, image: &Image) -> Result<Vec<u8>, OutOfMemory>
 /// The first field that breaks its rule; else want of memory for the code.
 pub fn image_of(alloc: Global, bytes: &[u8]) -> Result<Image, ImageFault>
     // What is read is a valid image, whose file's bytes these are.
-    ensures found { IfOk result (λ image. IsImage image × (bytes.now ≡ image_bytes_of image)) }
+    ensures found { IfOk result (IsFileOf bytes.now) }
     // The bytes of a valid image's file give it, unless there is no memory.
-    ensures only { (image : Image) → IsImage image → bytes.now ≡ image_bytes_of image → MatchResult result (λ x. x ≡ image) (λ e. e ≡ ImageFault.OutOfMemory) }
+    ensures only { (image : Image) → IsFileOf bytes.now image → IsReadOrNoMemory image result }
     // A fault names the first broken field, and where one is broken it is named.
     ensures fault { IfErr result (IsFault bytes.now) }
-    ensures broken { (field : Field) → broken bytes.now ≡ Some field → result ≡ Err (ImageFault.BadImage field (place_of field)) }
+    ensures broken { (field : Field) → broken bytes.now ≡ Some field →
+        result ≡ Err (ImageFault.BadImage field (place_of field)) }
 {
     match broken_field(bytes) {
         Some((field, place)) => Err(ImageFault::BadImage(field, place)),
@@ -96,7 +100,8 @@ fn number(bytes: &[u8], place: usize) -> u32
 
 // The first field that breaks its rule, and its place.
 fn broken_field(bytes: &[u8]) -> Option<(Field, u32)>
-    ensures { MatchOption result (broken bytes.now ≡ None) (λ x. (broken bytes.now ≡ Some x.0) × (x.1 ≡ place_of x.0)) }
+    ensures { MatchOption result (broken bytes.now ≡ None) (λ x.
+        (broken bytes.now ≡ Some x.0) × (x.1 ≡ place_of x.0)) }
 {
     if bytes.len() < HEADER_BYTES {
         return Some((Field::Length, 0));
@@ -123,14 +128,20 @@ fn broken_field(bytes: &[u8]) -> Option<(Field, u32)>
 // The image that a file without a broken field holds.
 fn read_image(alloc: Global, bytes: &[u8]) -> Result<Image, ImageFault>
     requires { broken bytes.now ≡ None }
-    ensures found { IfOk result (λ image. IsImage image × (bytes.now ≡ image_bytes_of image)) }
-    ensures only { (image : Image) → IsImage image → bytes.now ≡ image_bytes_of image → MatchResult result (λ x. x ≡ image) (λ e. e ≡ ImageFault.OutOfMemory) }
+    ensures found { IfOk result (IsFileOf bytes.now) }
+    ensures only { (image : Image) → IsFileOf bytes.now image → IsReadOrNoMemory image result }
     ensures fault { IfErr result (λ e. e ≡ ImageFault.OutOfMemory) }
 {
     let (_, code) = bytes.split_at(HEADER_BYTES);
-    let code = Seq::from_slice(alloc, code)?;
+    let code = copied(alloc, code)?;
     Ok(Image {
         code,
         data_words: number(bytes, 12),
     })
+}
+
+fn copied(alloc: Global, bytes: &[u8]) -> Result<Seq<u8>, OutOfMemory>
+    ensures { IfOk result (λ copy. copy ≡ bytes.now) }
+{
+    Ok(Seq::from_slice(alloc, bytes)?)
 }
