@@ -1,8 +1,8 @@
 -- What the scanner answers, by the pieces and faults of a text.
-use Rattle.std.specs.Prelude.{◌≡◌, ℕ, ◌<◌, List, length, Option, Some, None, Result, IsErrOf, ◌⊎◌}
+use Rattle.std.specs.Prelude.{◌≡◌, ℕ, List, Option, Some, None, Result, IsErrOf, ◌⊎◌}
 use Rattle.ob_syntax.specs.declared.token.Kind.{Kind}
-use Rattle.ob_syntax.specs.declared.token.Token.{Token}
-use Rattle.ob_syntax.specs.Tokens.{Piece, space, comment, token, IsPiece, piece_text, Comment, IsComment, comment_text, Tokens, Fault, number_too_large, open_comment, bad_byte, BeginsFault, FirstFault}
+use Rattle.ob_syntax.specs.Tokens.{Piece, space, comment, token, IsPiece, piece_text, Comment, IsComment, comment_text, Fault, number_too_large, open_comment, bad_byte, BeginsFault, FirstFault}
+use Rattle.ob_syntax.specs.Source.{AreTooMany}
 use Rattle.ob_lex.specs.declared.scanner.LexFault.{LexFault}
 use Rattle.ob_lex.specs.declared.scanner.LexFault.TheVariants.{BadByte, OpenComment, NumberTooLarge, TokensOver, OutOfMemory}
 
@@ -37,20 +37,12 @@ pub record TellsFault (text : List ℕ) (at : ℕ) (answer : LexFault) : Type 0 
   pub begins : BeginsFault fault text
   pub answer_is : answer ≡ fault_at fault at
 
--- the most bytes of a source, 2 ^ 20
-abbrev pub most_bytes : ℕ
-most_bytes = 1048576
-
--- the most tokens that are kept, 2 ^ 16
-abbrev pub most_tokens : ℕ
-most_tokens = 65536
-
 -- why a source has no token list that is kept
 abbrev pub IsCause : List ℕ → LexFault → Type 0
 IsCause bytes (BadByte at) = FirstFault bytes bad_byte at
 IsCause bytes (OpenComment at) = FirstFault bytes open_comment at
 IsCause bytes (NumberTooLarge at) = FirstFault bytes number_too_large at
-IsCause bytes (TokensOver count) = (list : List Token) × Tokens bytes list × (length list ≡ count) × (most_tokens < count)
+IsCause bytes (TokensOver count) = AreTooMany bytes count
 IsCause bytes OutOfMemory = Unit {0}
 
 -- the answer is this refusal, unless memory is wanting

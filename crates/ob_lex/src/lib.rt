@@ -4,7 +4,5 @@
 mod piece;
 mod scanner;
 mod table;
-#[cfg(test)]
-mod tests;
 
 pub use scanner::{LexFault, MAX_TOKENS, lex};

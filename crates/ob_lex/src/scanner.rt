@@ -3,7 +3,8 @@
 ghost use Rattle.std.specs.Prelude.{◌≡◌, ℕ, ◌<◌, ◌≤◌, List, length, vec_len, IfOk, IfErr, IsOkUnless};
 ghost use Rattle.ob_syntax.specs.declared.token.Token.{Token};
 ghost use Rattle.ob_syntax.specs.Tokens.{Tokens, SlicesSource, Fault, FirstFault};
-ghost use Rattle.ob_lex.specs.Scanning.{IsCause, IsErrUnlessMemory, fault_at, most_bytes, most_tokens};
+ghost use Rattle.ob_syntax.specs.Source.{most_bytes, most_tokens};
+ghost use Rattle.ob_lex.specs.Scanning.{IsCause, IsErrUnlessMemory, fault_at};
 
 use crate::piece::first_piece;
 use ob_syntax::Token;

@@ -1,8 +1,8 @@
 -- Which production a token chooses.
 use Rattle.std.proofs.Common.{◌≡◌, ℕ, ℤ, List, [], ◌∷◌, Option, Some, None, refl, ap, ◌∙◌, sym, subst}
 use Rattle.ob_syntax.specs.declared.token.Kind.{Kind}
-use Rattle.ob_syntax.specs.declared.token.Kind.TheVariants.{Ident, Number, KwArray, KwIf, KwProcedure, KwRecord, KwWhile, Period, LeftParen, LeftBracket, Tilde, Plus, Minus}
-use Rattle.ob_syntax.specs.Grammar.{Constant, constant, TypeDeclaration, type_declaration, Procedure, procedure, Action, Statement, statement, call, if_statement, while_statement, TypeExpression, NameList, name_list, IdentList, ident_list, Rule, level, Selector, Factor, Term, Sign, no_sign, plus_sign, minus_sign, SimpleExpression, simple_expression, Expression, expression, ArgumentList, arguments, term, name, number, parenthesis, negation}
+use Rattle.ob_syntax.specs.declared.token.Kind.TheVariants.{Ident, Number, KwArray, KwIf, KwProcedure, KwRecord, KwRepeat, KwWhile, Period, LeftParen, LeftBracket, Tilde, Plus, Minus}
+use Rattle.ob_syntax.specs.Grammar.{Constant, constant, TypeDeclaration, type_declaration, Procedure, procedure, Action, Statement, statement, call, if_statement, while_statement, repeat_statement, TypeExpression, NameList, name_list, IdentList, ident_list, Rule, level, Selector, Factor, Term, Sign, no_sign, plus_sign, minus_sign, SimpleExpression, simple_expression, Expression, expression, ArgumentList, arguments, term, name, number, parenthesis, negation}
 use Rattle.ob_syntax.specs.Predict.{first, by_first, choose}
 pub use Rattle.ob_syntax.proofs.Chosen.{mul_first, no_mul_first, add_first, no_add_first, relation_first, no_relation_first, no_sign_at, not_left_paren, no_formals_first, not_comma, no_ident_first, not_elsif, not_else, no_statement_first, no_field_first, no_section_first, no_list_first, no_constant_first, not_const, no_type_first, not_type, no_variable_first, not_var, by_value_first, not_procedure, not_begin}
 use Rattle.ob_syntax.specs.Forms.{made, done}
@@ -65,6 +65,7 @@ pub statement_begins : (o : Option Kind) → by_first Statement o ≡ Some state
 statement_begins (Some Ident) e = (Ident, refl, begins_with Action call Ident _ (λ ps. ps) (λ ps ks. refl))
 statement_begins (Some KwIf) e = (KwIf, refl, begins_with Action if_statement KwIf _ (λ ps. ps) (λ ps ks. refl))
 statement_begins (Some KwWhile) e = (KwWhile, refl, begins_with Action while_statement KwWhile _ (λ ps. ps) (λ ps ks. refl))
+statement_begins (Some KwRepeat) e = (KwRepeat, refl, begins_with Action repeat_statement KwRepeat _ (λ ps. ps) (λ ps ks. refl))
 statement_begins _ e = cc
 
 -- ---- a statement that is not empty
@@ -77,15 +78,20 @@ pub at_while : (next : List Kind) → first next ≡ Some KwWhile → choose Act
 at_while [] e = cc
 at_while (k ∷ ks) e = let i : k ≡ KwWhile = cc in subst (λ k. choose Action (k ∷ ks) ≡ Some while_statement) (sym i) refl
 
-no_action : (k : Kind) (ks : List Kind) → (k ≡ Ident → ⊥) → (k ≡ KwIf → ⊥) → (k ≡ KwWhile → ⊥) → choose Action (k ∷ ks) ≡ None
-no_action Ident ks i f w = absurd (i refl)
-no_action KwIf ks i f w = absurd (f refl)
-no_action KwWhile ks i f w = absurd (w refl)
-no_action _ ks i f w = refl
+pub at_repeat : (next : List Kind) → first next ≡ Some KwRepeat → choose Action next ≡ Some repeat_statement
+at_repeat [] e = cc
+at_repeat (k ∷ ks) e = let i : k ≡ KwRepeat = cc in subst (λ k. choose Action (k ∷ ks) ≡ Some repeat_statement) (sym i) refl
 
-pub no_action_first : (next : List Kind) → (first next ≡ Some Ident → ⊥) → (first next ≡ Some KwIf → ⊥) → (first next ≡ Some KwWhile → ⊥) → choose Action next ≡ None
-no_action_first [] i f w = refl
-no_action_first (k ∷ ks) i f w = no_action k ks (λ e. i (ap Some e)) (λ e. f (ap Some e)) (λ e. w (ap Some e))
+no_action : (k : Kind) (ks : List Kind) → (k ≡ Ident → ⊥) → (k ≡ KwIf → ⊥) → (k ≡ KwWhile → ⊥) → (k ≡ KwRepeat → ⊥) → choose Action (k ∷ ks) ≡ None
+no_action Ident ks i f w r = absurd (i refl)
+no_action KwIf ks i f w r = absurd (f refl)
+no_action KwWhile ks i f w r = absurd (w refl)
+no_action KwRepeat ks i f w r = absurd (r refl)
+no_action _ ks i f w r = refl
+
+pub no_action_first : (next : List Kind) → (first next ≡ Some Ident → ⊥) → (first next ≡ Some KwIf → ⊥) → (first next ≡ Some KwWhile → ⊥) → (first next ≡ Some KwRepeat → ⊥) → choose Action next ≡ None
+no_action_first [] i f w r = refl
+no_action_first (k ∷ ks) i f w r = no_action k ks (λ e. i (ap Some e)) (λ e. f (ap Some e)) (λ e. w (ap Some e)) (λ e. r (ap Some e))
 
 -- ---- what a declaration begins with
 

@@ -11,7 +11,7 @@ use Rattle.ob_parse.specs.declared.cursor.Parser.{Parser}
 use Rattle.ob_parse.specs.declared.cursor.ParseFault.{ParseFault}
 use Rattle.ob_parse.specs.declared.cursor.ParseFault.TheVariants.{Grammar, TooDeep, OutOfMemory}
 use Rattle.ob_parse.specs.Reading.{left, place, IsRead, IsStuck, GoesOn, Fails}
-use Rattle.ob_parse.specs.Whole.{IsModule, IsTreeOf, IsFront, IsPlace}
+use Rattle.ob_syntax.specs.Whole.{IsModule, IsTreeOf, IsFront, IsPlace}
 
 take_all : (a b : List Kind) → take (length a) (a ++ b) ≡ a
 take_all [] b = refl

@@ -1,7 +1,6 @@
 -- What a function of the parser promises of its phrase.
-use Rattle.std.specs.Prelude.{◌≡◌, ℕ, ◌+◌, ◌≤◌, List, [], ◌∷◌, ◌++◌, length, map, drop, Some, Result, MatchResult}
+use Rattle.std.specs.Prelude.{◌≡◌, ℕ, ◌+◌, ◌≤◌, List, [], ◌∷◌, ◌++◌, length, drop, Some, Result, MatchResult}
 use Rattle.ob_syntax.specs.declared.token.Kind.{Kind}
-use Rattle.ob_syntax.specs.declared.token.Token.{Token}
 use Rattle.ob_parse.specs.declared.cursor.Parser.{Parser}
 use Rattle.ob_parse.specs.declared.cursor.ParseFault.{ParseFault}
 use Rattle.ob_parse.specs.declared.cursor.ParseFault.TheVariants.{Grammar, TooDeep, OutOfMemory}
@@ -9,9 +8,7 @@ use Rattle.ob_syntax.specs.Grammar.{Nonterminal}
 use Rattle.ob_syntax.specs.Forms.{Form, spell, end, depth}
 use Rattle.ob_syntax.specs.Predict.{first, Ends}
 use Rattle.ob_syntax.specs.Tree.{Tree, tree}
-
-abbrev pub kinds : List Token → List Kind
-kinds = map (λ x. x.kind)
+use Rattle.ob_syntax.specs.Whole.{kinds}
 
 -- the tokens that are still to read, and the number of the first of them
 unfoldable pub left : Parser → List Kind

@@ -51,7 +51,8 @@ pub struct Parser<'a> {
 }
 
 impl<'a> Parser<'a> {
-    ghost use Rattle.ob_parse.specs.Reading.{left, place, kinds, IsNext};
+    ghost use Rattle.ob_parse.specs.Reading.{left, place, IsNext};
+    ghost use Rattle.ob_syntax.specs.Whole.{kinds};
     ghost use Rattle.ob_syntax.specs.Predict.{first, by_first, behind_name};
     ghost use Rattle.ob_syntax.specs.Grammar.{Selectors, next_selector, no_selectors, ArgumentList, arguments, no_arguments, Statement, statement, empty_statement, assignment, call, SectionList, sections, no_sections};
     ghost use Rattle.ob_syntax.specs.Tree.{span_to};
@@ -95,345 +96,42 @@ impl<'a> Parser<'a> {
         }
     }
 
-    /// Goes past a name.
-    pub fn ident(&mut self) -> Result<(), ParseFault>
+    /// Whether the next token is of this kind.
+    pub fn is_next(&self, wanted: Kind) -> bool
+        ensures { MatchBool result
+            (first (left self.now) ≡ Some wanted)
+            (first (left self.now) ≢ Some wanted) }
+    {
+        match self.peek() {
+            Some(kind) => kind.is(wanted),
+            None => false,
+        }
+    }
+
+    /// Goes past the next token, if it is of this kind.
+    pub fn accept(&mut self, wanted: Kind) -> bool
+        ensures { MatchBool result (IsNext wanted self.old self.new)
+            ((self.new ≡ self.old) × (first (left self.old) ≢ Some wanted)) }
+    {
+        if !self.is_next(wanted) {
+            return false;
+        }
+        self.advance();
+        true
+    }
+
+    /// Goes past a token that must be of this kind.
+    pub fn expect(&mut self, wanted: Kind) -> Result<(), ParseFault>
         ensures { MatchResult result
-            (λ _. IsNext Kind.Ident self.old self.new)
-            (λ e. (e ≡ ParseFault.Grammar (place self.new)) × (self.new ≡ self.old) × (first (left self.old) ≢ Some Kind.Ident)) }
+            (λ _. IsNext wanted self.old self.new)
+            (λ e. (e ≡ ParseFault.Grammar (place self.new)) × (self.new ≡ self.old)
+            × (first (left self.old) ≢ Some wanted)) }
     {
-        match self.peek() {
-            Some(Kind::Ident) => {
-                self.advance();
-                Ok(())
-            }
-            _ => Err(ParseFault::Grammar(self.at)),
+        if self.accept(wanted) {
+            Ok(())
+        } else {
+            Err(ParseFault::Grammar(self.at))
         }
-    }
-
-    /// Goes past THEN.
-    pub fn then(&mut self) -> Result<(), ParseFault>
-        ensures { MatchResult result
-            (λ _. IsNext Kind.KwThen self.old self.new)
-            (λ e. (e ≡ ParseFault.Grammar (place self.new)) × (self.new ≡ self.old) × (first (left self.old) ≢ Some Kind.KwThen)) }
-    {
-        match self.peek() {
-            Some(Kind::KwThen) => {
-                self.advance();
-                Ok(())
-            }
-            _ => Err(ParseFault::Grammar(self.at)),
-        }
-    }
-
-    /// Goes past DO.
-    pub fn do_(&mut self) -> Result<(), ParseFault>
-        ensures { MatchResult result
-            (λ _. IsNext Kind.KwDo self.old self.new)
-            (λ e. (e ≡ ParseFault.Grammar (place self.new)) × (self.new ≡ self.old) × (first (left self.old) ≢ Some Kind.KwDo)) }
-    {
-        match self.peek() {
-            Some(Kind::KwDo) => {
-                self.advance();
-                Ok(())
-            }
-            _ => Err(ParseFault::Grammar(self.at)),
-        }
-    }
-
-    /// Goes past END.
-    pub fn end(&mut self) -> Result<(), ParseFault>
-        ensures { MatchResult result
-            (λ _. IsNext Kind.KwEnd self.old self.new)
-            (λ e. (e ≡ ParseFault.Grammar (place self.new)) × (self.new ≡ self.old) × (first (left self.old) ≢ Some Kind.KwEnd)) }
-    {
-        match self.peek() {
-            Some(Kind::KwEnd) => {
-                self.advance();
-                Ok(())
-            }
-            _ => Err(ParseFault::Grammar(self.at)),
-        }
-    }
-
-    /// Goes past OF.
-    pub fn of(&mut self) -> Result<(), ParseFault>
-        ensures { MatchResult result
-            (λ _. IsNext Kind.KwOf self.old self.new)
-            (λ e. (e ≡ ParseFault.Grammar (place self.new)) × (self.new ≡ self.old) × (first (left self.old) ≢ Some Kind.KwOf)) }
-    {
-        match self.peek() {
-            Some(Kind::KwOf) => {
-                self.advance();
-                Ok(())
-            }
-            _ => Err(ParseFault::Grammar(self.at)),
-        }
-    }
-
-    /// Goes past MODULE.
-    pub fn module(&mut self) -> Result<(), ParseFault>
-        ensures { MatchResult result
-            (λ _. IsNext Kind.KwModule self.old self.new)
-            (λ e. (e ≡ ParseFault.Grammar (place self.new)) × (self.new ≡ self.old) × (first (left self.old) ≢ Some Kind.KwModule)) }
-    {
-        match self.peek() {
-            Some(Kind::KwModule) => {
-                self.advance();
-                Ok(())
-            }
-            _ => Err(ParseFault::Grammar(self.at)),
-        }
-    }
-
-    /// Goes past PROCEDURE.
-    pub fn procedure(&mut self) -> Result<(), ParseFault>
-        ensures { MatchResult result
-            (λ _. IsNext Kind.KwProcedure self.old self.new)
-            (λ e. (e ≡ ParseFault.Grammar (place self.new)) × (self.new ≡ self.old) × (first (left self.old) ≢ Some Kind.KwProcedure)) }
-    {
-        match self.peek() {
-            Some(Kind::KwProcedure) => {
-                self.advance();
-                Ok(())
-            }
-            _ => Err(ParseFault::Grammar(self.at)),
-        }
-    }
-
-    /// Goes past `=`.
-    pub fn equal(&mut self) -> Result<(), ParseFault>
-        ensures { MatchResult result
-            (λ _. IsNext Kind.Equal self.old self.new)
-            (λ e. (e ≡ ParseFault.Grammar (place self.new)) × (self.new ≡ self.old) × (first (left self.old) ≢ Some Kind.Equal)) }
-    {
-        match self.peek() {
-            Some(Kind::Equal) => {
-                self.advance();
-                Ok(())
-            }
-            _ => Err(ParseFault::Grammar(self.at)),
-        }
-    }
-
-    /// Goes past `:=`.
-    pub fn becomes(&mut self) -> Result<(), ParseFault>
-        ensures { MatchResult result
-            (λ _. IsNext Kind.Becomes self.old self.new)
-            (λ e. (e ≡ ParseFault.Grammar (place self.new)) × (self.new ≡ self.old) × (first (left self.old) ≢ Some Kind.Becomes)) }
-    {
-        match self.peek() {
-            Some(Kind::Becomes) => {
-                self.advance();
-                Ok(())
-            }
-            _ => Err(ParseFault::Grammar(self.at)),
-        }
-    }
-
-    /// Goes past `:`.
-    pub fn colon(&mut self) -> Result<(), ParseFault>
-        ensures { MatchResult result
-            (λ _. IsNext Kind.Colon self.old self.new)
-            (λ e. (e ≡ ParseFault.Grammar (place self.new)) × (self.new ≡ self.old) × (first (left self.old) ≢ Some Kind.Colon)) }
-    {
-        match self.peek() {
-            Some(Kind::Colon) => {
-                self.advance();
-                Ok(())
-            }
-            _ => Err(ParseFault::Grammar(self.at)),
-        }
-    }
-
-    /// Goes past `;`.
-    pub fn semicolon(&mut self) -> Result<(), ParseFault>
-        ensures { MatchResult result
-            (λ _. IsNext Kind.Semicolon self.old self.new)
-            (λ e. (e ≡ ParseFault.Grammar (place self.new)) × (self.new ≡ self.old) × (first (left self.old) ≢ Some Kind.Semicolon)) }
-    {
-        match self.peek() {
-            Some(Kind::Semicolon) => {
-                self.advance();
-                Ok(())
-            }
-            _ => Err(ParseFault::Grammar(self.at)),
-        }
-    }
-
-    /// Goes past `.`.
-    pub fn period(&mut self) -> Result<(), ParseFault>
-        ensures { MatchResult result
-            (λ _. IsNext Kind.Period self.old self.new)
-            (λ e. (e ≡ ParseFault.Grammar (place self.new)) × (self.new ≡ self.old) × (first (left self.old) ≢ Some Kind.Period)) }
-    {
-        match self.peek() {
-            Some(Kind::Period) => {
-                self.advance();
-                Ok(())
-            }
-            _ => Err(ParseFault::Grammar(self.at)),
-        }
-    }
-
-    /// Goes past `)`.
-    pub fn right_paren(&mut self) -> Result<(), ParseFault>
-        ensures { MatchResult result
-            (λ _. IsNext Kind.RightParen self.old self.new)
-            (λ e. (e ≡ ParseFault.Grammar (place self.new)) × (self.new ≡ self.old) × (first (left self.old) ≢ Some Kind.RightParen)) }
-    {
-        match self.peek() {
-            Some(Kind::RightParen) => {
-                self.advance();
-                Ok(())
-            }
-            _ => Err(ParseFault::Grammar(self.at)),
-        }
-    }
-
-    /// Goes past `]`.
-    pub fn right_bracket(&mut self) -> Result<(), ParseFault>
-        ensures { MatchResult result
-            (λ _. IsNext Kind.RightBracket self.old self.new)
-            (λ e. (e ≡ ParseFault.Grammar (place self.new)) × (self.new ≡ self.old) × (first (left self.old) ≢ Some Kind.RightBracket)) }
-    {
-        match self.peek() {
-            Some(Kind::RightBracket) => {
-                self.advance();
-                Ok(())
-            }
-            _ => Err(ParseFault::Grammar(self.at)),
-        }
-    }
-
-    /// Goes past a `,`, if it is next.
-    pub fn accept_comma(&mut self) -> bool
-        ensures { MatchBool result (IsNext Kind.Comma self.old self.new) ((self.new ≡ self.old) × (first (left self.old) ≢ Some Kind.Comma)) }
-    {
-        match self.peek() {
-            Some(Kind::Comma) => {
-                self.advance();
-                true
-            }
-            _ => false,
-        }
-    }
-
-    /// Goes past a `;`, if it is next.
-    pub fn accept_semicolon(&mut self) -> bool
-        ensures { MatchBool result (IsNext Kind.Semicolon self.old self.new) ((self.new ≡ self.old) × (first (left self.old) ≢ Some Kind.Semicolon)) }
-    {
-        match self.peek() {
-            Some(Kind::Semicolon) => {
-                self.advance();
-                true
-            }
-            _ => false,
-        }
-    }
-
-    /// Goes past a `(`, if it is next.
-    pub fn accept_left_paren(&mut self) -> bool
-        ensures { MatchBool result (IsNext Kind.LeftParen self.old self.new) ((self.new ≡ self.old) × (first (left self.old) ≢ Some Kind.LeftParen)) }
-    {
-        match self.peek() {
-            Some(Kind::LeftParen) => {
-                self.advance();
-                true
-            }
-            _ => false,
-        }
-    }
-
-    /// Goes past ELSIF, if it is next.
-    pub fn accept_elsif(&mut self) -> bool
-        ensures { MatchBool result (IsNext Kind.KwElsif self.old self.new) ((self.new ≡ self.old) × (first (left self.old) ≢ Some Kind.KwElsif)) }
-    {
-        match self.peek() {
-            Some(Kind::KwElsif) => {
-                self.advance();
-                true
-            }
-            _ => false,
-        }
-    }
-
-    /// Goes past ELSE, if it is next.
-    pub fn accept_else(&mut self) -> bool
-        ensures { MatchBool result (IsNext Kind.KwElse self.old self.new) ((self.new ≡ self.old) × (first (left self.old) ≢ Some Kind.KwElse)) }
-    {
-        match self.peek() {
-            Some(Kind::KwElse) => {
-                self.advance();
-                true
-            }
-            _ => false,
-        }
-    }
-
-    /// Goes past BEGIN, if it is next.
-    pub fn accept_begin(&mut self) -> bool
-        ensures { MatchBool result (IsNext Kind.KwBegin self.old self.new) ((self.new ≡ self.old) × (first (left self.old) ≢ Some Kind.KwBegin)) }
-    {
-        match self.peek() {
-            Some(Kind::KwBegin) => {
-                self.advance();
-                true
-            }
-            _ => false,
-        }
-    }
-
-    /// Goes past CONST, if it is next.
-    pub fn accept_const(&mut self) -> bool
-        ensures { MatchBool result (IsNext Kind.KwConst self.old self.new) ((self.new ≡ self.old) × (first (left self.old) ≢ Some Kind.KwConst)) }
-    {
-        match self.peek() {
-            Some(Kind::KwConst) => {
-                self.advance();
-                true
-            }
-            _ => false,
-        }
-    }
-
-    /// Goes past TYPE, if it is next.
-    pub fn accept_type(&mut self) -> bool
-        ensures { MatchBool result (IsNext Kind.KwType self.old self.new) ((self.new ≡ self.old) × (first (left self.old) ≢ Some Kind.KwType)) }
-    {
-        match self.peek() {
-            Some(Kind::KwType) => {
-                self.advance();
-                true
-            }
-            _ => false,
-        }
-    }
-
-    /// Goes past VAR, if it is next.
-    pub fn accept_var(&mut self) -> bool
-        ensures { MatchBool result (IsNext Kind.KwVar self.old self.new) ((self.new ≡ self.old) × (first (left self.old) ≢ Some Kind.KwVar)) }
-    {
-        match self.peek() {
-            Some(Kind::KwVar) => {
-                self.advance();
-                true
-            }
-            _ => false,
-        }
-    }
-
-    /// Whether a name is next.
-    pub fn is_ident(&self) -> bool
-        ensures { MatchBool result (first (left self.now) ≡ Some Kind.Ident) (first (left self.now) ≢ Some Kind.Ident) }
-    {
-        matches!(self.peek(), Some(Kind::Ident))
-    }
-
-    /// Whether PROCEDURE is next.
-    pub fn is_procedure(&self) -> bool
-        ensures { MatchBool result (first (left self.now) ≡ Some Kind.KwProcedure) (first (left self.now) ≢ Some Kind.KwProcedure) }
-    {
-        matches!(self.peek(), Some(Kind::KwProcedure))
     }
 
     /// Whether `.` or `[` is next.
@@ -475,7 +173,7 @@ impl<'a> Parser<'a> {
             return false;
         };
         match kind {
-            Kind::Ident | Kind::KwIf | Kind::KwWhile => true,
+            Kind::Ident | Kind::KwIf | Kind::KwWhile | Kind::KwRepeat => true,
             _ => false,
         }
     }

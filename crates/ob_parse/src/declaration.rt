@@ -10,7 +10,7 @@ use crate::cursor::{ParseFault, Parser};
 use crate::expression::expression;
 use crate::statement::statement_sequence;
 use crate::types::{ident_list, name_list, type_expression};
-use ob_syntax::{ConstDecl, Decls, Module, NameList, Proc, Section, Stmt, TypeDecl};
+use ob_syntax::{ConstDecl, Decls, Kind, Module, NameList, Proc, Section, Stmt, TypeDecl};
 use pra_list::Seq;
 
 /// `module = "MODULE" ident ";" declarations ["BEGIN" StatementSequence] "END" ident ".".`
@@ -18,16 +18,16 @@ pub fn whole_module(p: &mut Parser, room: u32) -> Result<Module, ParseFault>
     ensures { Reads grammar.Module room p.old result p.new }
 {
     let start = p.at;
-    p.module()?;
+    p.expect(Kind::KwModule)?;
     let name = p.at;
-    p.ident()?;
-    p.semicolon()?;
+    p.expect(Kind::Ident)?;
+    p.expect(Kind::Semicolon)?;
     let decls = declarations(p, room)?;
     let body = body(p, room)?;
-    p.end()?;
+    p.expect(Kind::KwEnd)?;
     let close = p.at;
-    p.ident()?;
-    p.period()?;
+    p.expect(Kind::Ident)?;
+    p.expect(Kind::Period)?;
     let span = p.span_from(start);
     Ok(Module {
         span,
@@ -42,7 +42,7 @@ pub fn whole_module(p: &mut Parser, room: u32) -> Result<Module, ParseFault>
 fn body(p: &mut Parser, room: u32) -> Result<Seq<Stmt>, ParseFault>
     ensures { Reads grammar.Body room p.old result p.new }
 {
-    if !p.accept_begin() {
+    if !p.accept(Kind::KwBegin) {
         return Ok(Seq::new(p.alloc));
     }
     let body = statement_sequence(p, room)?;
@@ -71,7 +71,7 @@ fn declarations(p: &mut Parser, room: u32) -> Result<Decls, ParseFault>
 fn constants(p: &mut Parser, room: u32) -> Result<Seq<ConstDecl>, ParseFault>
     ensures { Reads grammar.Constants room p.old result p.new }
 {
-    if !p.accept_const() {
+    if !p.accept(Kind::KwConst) {
         return Ok(Seq::new(p.alloc));
     }
     let list = constant_list(p, room)?;
@@ -82,12 +82,12 @@ fn constant_list(p: &mut Parser, room: u32) -> Result<Seq<ConstDecl>, ParseFault
     ensures { Reads grammar.ConstantList room p.old result p.new }
 {
     let mut all = Seq::new(p.alloc);
-    while p.is_ident() {
+    while p.is_next(Kind::Ident) {
         if room == 0 {
             return Err(ParseFault::TooDeep(p.at));
         }
         let next = constant(p, room - 1)?;
-        p.semicolon()?;
+        p.expect(Kind::Semicolon)?;
         all.push(next)?;
     }
     Ok(all)
@@ -97,8 +97,8 @@ fn constant(p: &mut Parser, room: u32) -> Result<ConstDecl, ParseFault>
     ensures { Reads grammar.Constant room p.old result p.new }
 {
     let name = p.at;
-    p.ident()?;
-    p.equal()?;
+    p.expect(Kind::Ident)?;
+    p.expect(Kind::Equal)?;
     let value = expression(p, room)?;
     Ok(ConstDecl { name, value })
 }
@@ -107,7 +107,7 @@ fn constant(p: &mut Parser, room: u32) -> Result<ConstDecl, ParseFault>
 fn types(p: &mut Parser, room: u32) -> Result<Seq<TypeDecl>, ParseFault>
     ensures { Reads grammar.Types room p.old result p.new }
 {
-    if !p.accept_type() {
+    if !p.accept(Kind::KwType) {
         return Ok(Seq::new(p.alloc));
     }
     let list = type_list(p, room)?;
@@ -118,12 +118,12 @@ fn type_list(p: &mut Parser, room: u32) -> Result<Seq<TypeDecl>, ParseFault>
     ensures { Reads grammar.TypeList room p.old result p.new }
 {
     let mut all = Seq::new(p.alloc);
-    while p.is_ident() {
+    while p.is_next(Kind::Ident) {
         if room == 0 {
             return Err(ParseFault::TooDeep(p.at));
         }
         let next = type_declaration(p, room - 1)?;
-        p.semicolon()?;
+        p.expect(Kind::Semicolon)?;
         all.push(next)?;
     }
     Ok(all)
@@ -133,8 +133,8 @@ fn type_declaration(p: &mut Parser, room: u32) -> Result<TypeDecl, ParseFault>
     ensures { Reads grammar.TypeDeclaration room p.old result p.new }
 {
     let name = p.at;
-    p.ident()?;
-    p.equal()?;
+    p.expect(Kind::Ident)?;
+    p.expect(Kind::Equal)?;
     let shape = type_expression(p, room)?;
     Ok(TypeDecl { name, shape })
 }
@@ -143,7 +143,7 @@ fn type_declaration(p: &mut Parser, room: u32) -> Result<TypeDecl, ParseFault>
 fn variables(p: &mut Parser, room: u32) -> Result<Seq<NameList>, ParseFault>
     ensures { Reads grammar.Variables room p.old result p.new }
 {
-    if !p.accept_var() {
+    if !p.accept(Kind::KwVar) {
         return Ok(Seq::new(p.alloc));
     }
     let list = variable_list(p, room)?;
@@ -154,12 +154,12 @@ fn variable_list(p: &mut Parser, room: u32) -> Result<Seq<NameList>, ParseFault>
     ensures { Reads grammar.VariableList room p.old result p.new }
 {
     let mut all = Seq::new(p.alloc);
-    while p.is_ident() {
+    while p.is_next(Kind::Ident) {
         if room == 0 {
             return Err(ParseFault::TooDeep(p.at));
         }
         let next = name_list(p, room - 1)?;
-        p.semicolon()?;
+        p.expect(Kind::Semicolon)?;
         all.push(next)?;
     }
     Ok(all)
@@ -171,12 +171,12 @@ fn procedures(p: &mut Parser, room: u32) -> Result<Seq<Proc>, ParseFault>
     ensures { Reads grammar.Procedures room p.old result p.new }
 {
     let mut all = Seq::new(p.alloc);
-    while p.is_procedure() {
+    while p.is_next(Kind::KwProcedure) {
         if room == 0 {
             return Err(ParseFault::TooDeep(p.at));
         }
         let next = procedure(p, room - 1)?;
-        p.semicolon()?;
+        p.expect(Kind::Semicolon)?;
         all.push(next)?;
     }
     Ok(all)
@@ -189,16 +189,16 @@ fn procedure(p: &mut Parser, room: u32) -> Result<Proc, ParseFault>
     ensures { Reads grammar.Procedure room p.old result p.new }
 {
     let start = p.at;
-    p.procedure()?;
+    p.expect(Kind::KwProcedure)?;
     let name = p.at;
-    p.ident()?;
+    p.expect(Kind::Ident)?;
     let params = formal_parameters(p, room)?;
-    p.semicolon()?;
+    p.expect(Kind::Semicolon)?;
     let decls = declarations(p, room)?;
     let body = body(p, room)?;
-    p.end()?;
+    p.expect(Kind::KwEnd)?;
     let close = p.at;
-    p.ident()?;
+    p.expect(Kind::Ident)?;
     let span = p.span_from(start);
     Ok(Proc {
         span,
@@ -214,11 +214,11 @@ fn procedure(p: &mut Parser, room: u32) -> Result<Proc, ParseFault>
 fn formal_parameters(p: &mut Parser, room: u32) -> Result<Seq<Section>, ParseFault>
     ensures { Reads grammar.FormalParameters room p.old result p.new }
 {
-    if !p.accept_left_paren() {
+    if !p.accept(Kind::LeftParen) {
         return Ok(Seq::new(p.alloc));
     }
     let list = section_list(p, room)?;
-    p.right_paren()?;
+    p.expect(Kind::RightParen)?;
     Ok(list)
 }
 
@@ -231,7 +231,7 @@ fn section_list(p: &mut Parser, room: u32) -> Result<Seq<Section>, ParseFault>
     }
     let first = section(p, room)?;
     all.push(first)?;
-    while p.accept_semicolon() {
+    while p.accept(Kind::Semicolon) {
         let next = section(p, room)?;
         all.push(next)?;
     }
@@ -242,9 +242,9 @@ fn section_list(p: &mut Parser, room: u32) -> Result<Seq<Section>, ParseFault>
 fn section(p: &mut Parser, room: u32) -> Result<Section, ParseFault>
     ensures { Reads grammar.Section room p.old result p.new }
 {
-    let by_var = p.accept_var();
+    let by_var = p.accept(Kind::KwVar);
     let names = ident_list(p)?;
-    p.colon()?;
+    p.expect(Kind::Colon)?;
     let shape = type_expression(p, room)?;
     Ok(Section {
         by_var,

@@ -41,7 +41,7 @@ fn selector(p: &mut Parser, room: u32) -> Result<Selector, ParseFault>
         Kind::Period => {
             p.advance();
             let name = p.at;
-            p.ident()?;
+            p.expect(Kind::Ident)?;
             let span = p.span_from(start);
             let form = SelectorForm::Field(name);
             Ok(Selector { span, form })
@@ -52,7 +52,7 @@ fn selector(p: &mut Parser, room: u32) -> Result<Selector, ParseFault>
             }
             p.advance();
             let index = expression(p, room - 1)?;
-            p.right_bracket()?;
+            p.expect(Kind::RightBracket)?;
             let span = p.span_from(start);
             let form = SelectorForm::Index(index);
             Ok(Selector { span, form })
@@ -94,7 +94,7 @@ fn factor(p: &mut Parser, room: u32) -> Result<Factor, ParseFault>
             }
             p.advance();
             let inner = expression(p, room - 1)?;
-            p.right_paren()?;
+            p.expect(Kind::RightParen)?;
             let span = p.span_from(start);
             let form = FactorForm::Paren(Owned::new(p.alloc, inner)?);
             Ok(Factor { span, form })
@@ -198,11 +198,11 @@ fn comparison(p: &mut Parser, room: u32) -> Result<Option<Relation>, ParseFault>
 pub fn actual_parameters(p: &mut Parser, room: u32) -> Result<Seq<Expr>, ParseFault>
     ensures { Reads grammar.ActualParameters room p.old result p.new }
 {
-    if !p.accept_left_paren() {
+    if !p.accept(Kind::LeftParen) {
         return Ok(Seq::new(p.alloc));
     }
     let list = argument_list(p, room)?;
-    p.right_paren()?;
+    p.expect(Kind::RightParen)?;
     Ok(list)
 }
 
@@ -218,7 +218,7 @@ fn argument_list(p: &mut Parser, room: u32) -> Result<Seq<Expr>, ParseFault>
     }
     let first = expression(p, room - 1)?;
     all.push(first)?;
-    while p.accept_comma() {
+    while p.accept(Kind::Comma) {
         let next = expression(p, room - 1)?;
         all.push(next)?;
     }

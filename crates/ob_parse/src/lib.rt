@@ -4,17 +4,14 @@
 //! name. It recurs only where phrases nest, and `room` says how much deeper they may.
 #![tactic(auto)]
 
-ghost use Rattle.std.specs.Prelude.{◌≡◌, ◌≢◌, ◌+◌, ◌<◌, ◌^◌, ℕ, length, take, IfOk, IfErr};
-ghost use Rattle.ob_parse.specs.Reading.{kinds};
-ghost use Rattle.ob_parse.specs.Whole.{IsModule, IsTreeOf, IsFront, IsPlace};
+ghost use Rattle.std.specs.Prelude.{◌≡◌, ◌≢◌, ◌<◌, ◌^◌, ℕ, length, IfOk, IfErr};
+ghost use Rattle.ob_syntax.specs.Whole.{kinds, most_nesting, IsModule, IsTreeOf, StopsAt, DeepensAt};
 
 mod cursor;
 mod declaration;
 mod expression;
 mod list;
 mod statement;
-#[cfg(test)]
-mod tests;
 mod types;
 
 pub use cursor::ParseFault;
@@ -23,30 +20,31 @@ use declaration::whole_module;
 use ob_syntax::{Module, Token};
 use std::alloc::Global;
 
-/// How deep declarations, statements, types and expressions of a module may nest.
-pub const MAX_DEPTH: u32 = 64;
+/// How deep declarations, statements, types and expressions of a module nest at most.
+pub const MAX_NESTING: u32 = 64;
 
-/// The tree of the tokens, where they are a module of depth at most [`MAX_DEPTH`] (Wirth, Compiler Construction,
+/// The tree of the tokens, where they are a module of depth at most 64 (Wirth, Compiler Construction,
 /// appendix A.1).
 ///
 /// # Errors
 ///
-/// Otherwise the length `k` of the longest prefix of the tokens that some continuation makes such a module:
-/// [`ParseFault::TooDeep`] where the first `k + 1` tokens begin a module of a greater depth, else
-/// [`ParseFault::Grammar`].
+/// Otherwise the length `k` of the longest prefix of the tokens that some continuation makes such a
+/// module: [`ParseFault::TooDeep`] where the first `k + 1` tokens begin a module of a greater depth,
+/// else [`ParseFault::Grammar`].
 pub fn parse(alloc: Global, tokens: &[Token]) -> Result<Module, ParseFault>
     requires { length tokens.now < 2 ^ 32 }
+
     // The tree is the one that the tokens derive.
-    ensures found { IfOk result (λ tree. IsTreeOf MAX_DEPTH (kinds tokens.now) tree) }
+    ensures found { IfOk result (IsTreeOf most_nesting (kinds tokens.now)) }
     // Where the tokens derive a tree, it is found, unless memory runs out.
-    ensures only { IfErr result (λ e. e ≢ ParseFault.OutOfMemory → IsModule MAX_DEPTH (kinds tokens.now) → ⊥) }
-    ensures grammar { (k : ℕ) → result ≡ Err (ParseFault.Grammar k) → IsPlace MAX_DEPTH (kinds tokens.now) k
-        × ((d : ℕ) → k < length (kinds tokens.now) → IsFront d (take (k + 1) (kinds tokens.now)) → ⊥) }
-    ensures deep { (k : ℕ) → result ≡ Err (ParseFault.TooDeep k) → IsPlace MAX_DEPTH (kinds tokens.now) k
-        × (k < length (kinds tokens.now)) × ((d : ℕ) × IsFront d (take (k + 1) (kinds tokens.now))) }
+    ensures only { IfErr result (λ e. e ≢ ParseFault.OutOfMemory →
+        IsModule most_nesting (kinds tokens.now) → ⊥) }
+
+    ensures grammar { (k : ℕ) → result ≡ Err (ParseFault.Grammar k) → StopsAt (kinds tokens.now) k }
+    ensures deep { (k : ℕ) → result ≡ Err (ParseFault.TooDeep k) → DeepensAt (kinds tokens.now) k }
 {
     let mut p = Parser::new(alloc, tokens);
-    let tree = whole_module(&mut p, MAX_DEPTH)?;
+    let tree = whole_module(&mut p, MAX_NESTING)?;
     match p.peek() {
         None => Ok(tree),
         Some(_) => Err(ParseFault::Grammar(p.at)),

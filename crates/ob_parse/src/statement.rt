@@ -1,6 +1,6 @@
 //! Statements.
 //!
-//! Statement sequences inside IF and WHILE, parentheses, brackets, arguments and `~` may nest `room` deep.
+//! Statement sequences inside IF, WHILE and REPEAT, parentheses, brackets, arguments and `~` may nest `room` deep.
 
 ghost use Rattle.std.specs.Prelude.{◌≡◌, ◌≤◌, Some};
 ghost use Rattle.ob_syntax.specs.declared.token.Kind.{Kind};
@@ -22,14 +22,14 @@ pub fn statement_sequence(p: &mut Parser, room: u32) -> Result<Seq<Stmt>, ParseF
     let mut all = Seq::new(p.alloc);
     let first = statement(p, room)?;
     push_some(&mut all, first)?;
-    while p.accept_semicolon() {
+    while p.accept(Kind::Semicolon) {
         let next = statement(p, room)?;
         push_some(&mut all, next)?;
     }
     Ok(all)
 }
 
-/// `statement = [assignment | ProcedureCall | IfStatement | WhileStatement].`
+/// `statement = [assignment | ProcedureCall | IfStatement | WhileStatement | RepeatStatement].`
 #[cycle(statements)]
 fn statement(p: &mut Parser, room: u32) -> Result<Option<Stmt>, ParseFault>
     ensures { Reads grammar.Statement room p.old result p.new }
@@ -55,6 +55,7 @@ fn some_statement(p: &mut Parser, room: u32) -> Result<Stmt, ParseFault>
         Kind::Ident => assignment_or_call(p, room),
         Kind::KwIf => if_statement(p, room),
         Kind::KwWhile => while_statement(p, room),
+        Kind::KwRepeat => repeat_statement(p, room),
         _ => Err(ParseFault::Grammar(p.at)),
     }
 }
@@ -73,7 +74,7 @@ fn assignment_or_call(p: &mut Parser, room: u32) -> Result<Stmt, ParseFault>
             name: start,
             selectors,
         };
-        p.becomes()?;
+        p.expect(Kind::Becomes)?;
         let value = expression(p, room)?;
         let span = p.span_from(start);
         let form = StmtForm::Assign(target, value);
@@ -99,7 +100,7 @@ fn if_statement(p: &mut Parser, room: u32) -> Result<Stmt, ParseFault>
     p.advance();
     let arms = arms(p, room)?;
     let others = otherwise(p, room)?;
-    p.end()?;
+    p.expect(Kind::KwEnd)?;
     let span = p.span_from(start);
     let form = StmtForm::If(arms, others);
     Ok(Stmt { span, form })
@@ -113,7 +114,7 @@ fn arms(p: &mut Parser, room: u32) -> Result<Seq<Arm>, ParseFault>
     let mut all = Seq::new(p.alloc);
     let first = arm(p, room)?;
     all.push(first)?;
-    while p.accept_elsif() {
+    while p.accept(Kind::KwElsif) {
         let next = arm(p, room)?;
         all.push(next)?;
     }
@@ -126,7 +127,7 @@ fn arm(p: &mut Parser, room: u32) -> Result<Arm, ParseFault>
     ensures { Reads grammar.Arm room p.old result p.new }
 {
     let test = expression(p, room)?;
-    p.then()?;
+    p.expect(Kind::KwThen)?;
     let body = statement_sequence(p, room)?;
     Ok(Arm { test, body })
 }
@@ -136,7 +137,7 @@ fn otherwise(p: &mut Parser, room: u32) -> Result<Seq<Stmt>, ParseFault>
     requires { 1 ≤ room }
     ensures { Reads grammar.Else room p.old result p.new }
 {
-    if !p.accept_else() {
+    if !p.accept(Kind::KwElse) {
         return Ok(Seq::new(p.alloc));
     }
     let body = statement_sequence(p, room)?;
@@ -155,10 +156,29 @@ fn while_statement(p: &mut Parser, room: u32) -> Result<Stmt, ParseFault>
     }
     p.advance();
     let test = expression(p, room)?;
-    p.do_()?;
+    p.expect(Kind::KwDo)?;
     let body = statement_sequence(p, room)?;
-    p.end()?;
+    p.expect(Kind::KwEnd)?;
     let span = p.span_from(start);
     let form = StmtForm::While(test, body);
+    Ok(Stmt { span, form })
+}
+
+/// `RepeatStatement = "REPEAT" StatementSequence "UNTIL" expression.`
+#[cycle(statements)]
+fn repeat_statement(p: &mut Parser, room: u32) -> Result<Stmt, ParseFault>
+    requires { first (left p.old) ≡ Some Kind.KwRepeat }
+    ensures { Reads grammar.Action room p.old result p.new }
+{
+    let start = p.at;
+    if room == 0 {
+        return Err(ParseFault::TooDeep(start));
+    }
+    p.advance();
+    let body = statement_sequence(p, room)?;
+    p.expect(Kind::KwUntil)?;
+    let test = expression(p, room)?;
+    let span = p.span_from(start);
+    let form = StmtForm::Repeat(body, test);
     Ok(Stmt { span, form })
 }

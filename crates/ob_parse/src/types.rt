@@ -18,11 +18,11 @@ pub fn ident_list(p: &mut Parser) -> Result<Seq<u32>, ParseFault>
 {
     let mut names = Seq::new(p.alloc);
     let first = p.at;
-    p.ident()?;
+    p.expect(Kind::Ident)?;
     names.push(first)?;
-    while p.accept_comma() {
+    while p.accept(Kind::Comma) {
         let next = p.at;
-        p.ident()?;
+        p.expect(Kind::Ident)?;
         names.push(next)?;
     }
     Ok(names)
@@ -34,7 +34,7 @@ pub fn name_list(p: &mut Parser, room: u32) -> Result<NameList, ParseFault>
     ensures { Reads grammar.NameList room p.old result p.new }
 {
     let names = ident_list(p)?;
-    p.colon()?;
+    p.expect(Kind::Colon)?;
     let shape = type_expression(p, room)?;
     Ok(NameList { names, shape })
 }
@@ -62,7 +62,7 @@ pub fn type_expression(p: &mut Parser, room: u32) -> Result<TypeExpr, ParseFault
             }
             p.advance();
             let length = expression(p, room)?;
-            p.of()?;
+            p.expect(Kind::KwOf)?;
             let element = type_expression(p, room - 1)?;
             let span = p.span_from(start);
             let owned_length = Owned::new(p.alloc, length)?;
@@ -73,7 +73,7 @@ pub fn type_expression(p: &mut Parser, room: u32) -> Result<TypeExpr, ParseFault
         Kind::KwRecord => {
             p.advance();
             let fields = field_sequence(p, room)?;
-            p.end()?;
+            p.expect(Kind::KwEnd)?;
             let span = p.span_from(start);
             let form = TypeForm::Record(fields);
             Ok(TypeExpr { span, form })
@@ -89,7 +89,7 @@ fn field_sequence(p: &mut Parser, room: u32) -> Result<Seq<NameList>, ParseFault
     let mut all = Seq::new(p.alloc);
     let first = field_list(p, room)?;
     push_some(&mut all, first)?;
-    while p.accept_semicolon() {
+    while p.accept(Kind::Semicolon) {
         let next = field_list(p, room)?;
         push_some(&mut all, next)?;
     }
@@ -101,7 +101,7 @@ fn field_sequence(p: &mut Parser, room: u32) -> Result<Seq<NameList>, ParseFault
 fn field_list(p: &mut Parser, room: u32) -> Result<Option<NameList>, ParseFault>
     ensures { Reads grammar.FieldList room p.old result p.new }
 {
-    if !p.is_ident() {
+    if !p.is_next(Kind::Ident) {
         return Ok(None);
     }
     if room == 0 {

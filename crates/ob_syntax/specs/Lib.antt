@@ -10,3 +10,4 @@ pub mod Source
 pub mod Storage
 pub mod Tree
 pub mod Whole
+pub mod Kinds

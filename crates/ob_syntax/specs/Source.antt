@@ -1,18 +1,20 @@
 -- A source with its tokens and its tree, and what may be wrong with it.
 use Rattle.std.specs.Prelude.{◌≡◌, ℕ, ◌-◌, ◌<◌, ◌≤◌, List, [], ◌∷◌, length, take, drop, slice_get, Option, Some, None, codes}
+use Rattle.pra_base.specs.declared.limit.LimitKind.TheVariants as limit
+use Rattle.pra_base.specs.Limits.{limit_maximum}
 use Rattle.ob_syntax.specs.declared.token.Kind.{Kind}
 use Rattle.ob_syntax.specs.declared.token.Token.{Token}
 use Rattle.ob_syntax.specs.declared.tree.Module.{Module}
 use Rattle.ob_syntax.specs.Tokens.{Tokens}
 use Rattle.ob_syntax.specs.Whole.{kinds, most_nesting, IsTreeOf}
 
--- the most bytes of a source, 2 ^ 20
+-- the most bytes of a source
 abbrev pub most_bytes : ℕ
-most_bytes = 1048576
+most_bytes = limit_maximum limit.Source
 
--- the most tokens of a source, 2 ^ 16
+-- the most tokens of a source
 abbrev pub most_tokens : ℕ
-most_tokens = 65536
+most_tokens = limit_maximum limit.Tokens
 
 -- a text as the list of its bytes
 abbrev pub Name : Type 0

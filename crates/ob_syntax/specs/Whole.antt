@@ -1,5 +1,7 @@
 -- Which lists of tokens are modules, which begin one, and where tokens stop beginning one.
 use Rattle.std.specs.Prelude.{◌≡◌, ℕ, ◌+◌, ◌<◌, ◌≤◌, List, ◌++◌, take, length, map}
+use Rattle.pra_base.specs.declared.limit.LimitKind.TheVariants.{Depth}
+use Rattle.pra_base.specs.Limits.{limit_maximum}
 use Rattle.ob_syntax.specs.declared.token.Kind.{Kind}
 use Rattle.ob_syntax.specs.declared.token.Token.{Token}
 use Rattle.ob_syntax.specs.declared.tree.Module.{Module as ModuleTree}
@@ -13,7 +15,7 @@ kinds = map (λ x. x.kind)
 
 -- how deep declarations, statements, types and expressions of a module nest at most
 abbrev pub most_nesting : ℕ
-most_nesting = 64
+most_nesting = limit_maximum Depth
 
 -- The tokens are a module of at most this depth: some productions split them.
 abbrev pub IsModule : ℕ → List Kind → Type 0

@@ -4,7 +4,8 @@ use Rattle.ob_syntax.specs.declared.token.Kind.{Kind}
 use Rattle.ob_syntax.specs.Grammar.{Module}
 use Rattle.ob_syntax.specs.Predict.{first}
 use Rattle.ob_parse.specs.declared.cursor.ParseFault.TheVariants.{Grammar, TooDeep}
-use Rattle.ob_parse.specs.Reading.{kinds, Fails, left}
+use Rattle.ob_parse.specs.Reading.{Fails, left}
+use Rattle.ob_syntax.specs.Whole.{kinds}
 use Rattle.ob_parse.proofs.Front.{found_tree, refused_only, refused_place, deep_place, behind_only, behind_place}
 use Rattle.ob_parse.proofs.parse.Goals as goal
 
@@ -22,14 +23,16 @@ returns-in_err-tree-clause-grammar c k is =
     let p = err_from_is_err_and c.from_residual.result c.from_residual.ensures.1 in
     let q = p.1 in let r = p.2 in
     let e : c.in_err-tree.field-0.0 ≡ Grammar k = cc in
-    refused_place 64 (kinds c.args.tokens.now) c.new-p.result c.whole_module.new.p c.new-p.ensures.left c.new-p.ensures.place k (subst (Fails Module 64 c.new-p.result c.whole_module.new.p) e c.in_err-tree.ensures)
+    let at = refused_place 64 (kinds c.args.tokens.now) c.new-p.result c.whole_module.new.p c.new-p.ensures.left c.new-p.ensures.place k (subst (Fails Module 64 c.new-p.result c.whole_module.new.p) e c.in_err-tree.ensures) in
+    record { place = at.0; none = at.1 }
 
 pub returns-in_err-tree-clause-deep : goal.returns-in_err-tree-clause-deep
 returns-in_err-tree-clause-deep c k is =
     let p = err_from_is_err_and c.from_residual.result c.from_residual.ensures.1 in
     let q = p.1 in let r = p.2 in
     let e : c.in_err-tree.field-0.0 ≡ TooDeep k = cc in
-    deep_place 64 (kinds c.args.tokens.now) c.new-p.result c.whole_module.new.p c.new-p.ensures.left c.new-p.ensures.place k (subst (Fails Module 64 c.new-p.result c.whole_module.new.p) e c.in_err-tree.ensures)
+    let at = deep_place 64 (kinds c.args.tokens.now) c.new-p.result c.whole_module.new.p c.new-p.ensures.left c.new-p.ensures.place k (subst (Fails Module 64 c.new-p.result c.whole_module.new.p) e c.in_err-tree.ensures) in
+    record { place = at.0; within = at.1; deeper = at.2 }
 
 pub returns-in-None-clause-found : goal.returns-in-None-clause-found
 returns-in-None-clause-found c =
@@ -42,4 +45,5 @@ returns-in-Some-clause-only c not_memory =
 pub returns-in-Some-clause-grammar : goal.returns-in-Some-clause-grammar
 returns-in-Some-clause-grammar c k is =
     let e : c.whole_module.new.p.at ≡ k = cc in
-    rw (← e) (behind_place 64 (kinds c.args.tokens.now) c.new-p.result c.whole_module.new.p c.new-p.ensures.left c.new-p.ensures.place c.in_ok-tree.tree c.in-Some.field-0 c.in_ok-tree.ensures (sym c.peek.ensures ∙ c.in-Some.is))
+    let at = behind_place 64 (kinds c.args.tokens.now) c.new-p.result c.whole_module.new.p c.new-p.ensures.left c.new-p.ensures.place c.in_ok-tree.tree c.in-Some.field-0 c.in_ok-tree.ensures (sym c.peek.ensures ∙ c.in-Some.is) in
+    rw (← e) (record { place = at.0; none = at.1 })

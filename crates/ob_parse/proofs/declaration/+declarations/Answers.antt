@@ -60,64 +60,64 @@ procedures-returns-in_err-next t c =
     exits Procedures c.args.room c.args.p.now c.procedure.new.p c.from_residual.result c.in_err-next.field-0.0 c.from_residual.ensures.1
     (phrase_fails (again c.loop-all.invariant (next_procedures c.args.room c.loop-all.p c.loop-all-test.ensures)) (one_deeper (c.args.room - 1) c.args.room (omega arith)) (omega arith) c.procedure.new.p c.in_err-next.field-0.0 c.in_err-next.ensures)
 
-pub procedures-returns-in_err-semicolon : goal.procedures-returns-in_err-semicolon
-procedures-returns-in_err-semicolon t c =
-    exits Procedures c.args.room c.args.p.now c.semicolon.new.self c.from_residual-in_err-semicolon.result c.in_err-semicolon.field-0.0 c.from_residual-in_err-semicolon.ensures.1
-    (token_missing (again c.loop-all.invariant (after_phrase (next_procedures c.args.room c.loop-all.p c.loop-all-test.ensures) (one_deeper (c.args.room - 1) c.args.room (omega arith)) c.in_ok-next.ensures)) (omega arith) c.semicolon.new.self c.in_err-semicolon.field-0.0 c.in_err-semicolon.ensures)
+pub procedures-returns-in_err-expect : goal.procedures-returns-in_err-expect
+procedures-returns-in_err-expect t c =
+    exits Procedures c.args.room c.args.p.now c.expect.new.self c.from_residual-in_err-expect.result c.in_err-expect.field-0.0 c.from_residual-in_err-expect.ensures.1
+    (token_missing (again c.loop-all.invariant (after_phrase (next_procedures c.args.room c.loop-all.p c.loop-all-test.ensures) (one_deeper (c.args.room - 1) c.args.room (omega arith)) c.in_ok-next.ensures)) (omega arith) c.expect.new.self c.in_err-expect.field-0.0 c.in_err-expect.ensures)
 
 pub procedures-loop-all-preserved : goal.procedures-loop-all-preserved
 procedures-loop-all-preserved t c =
-    more_procedures c.args.room (c.args.room - 1) (omega arith) c.loop-all.all c.push.new.self c.in_ok-next.next c.in_ok-push.ensures.ok c.args.p.now c.loop-all.p c.procedure.new.p c.semicolon.new.self c.loop-all.invariant c.loop-all-test.ensures c.in_ok-next.ensures c.in_ok-semicolon.ensures
+    more_procedures c.args.room (c.args.room - 1) (omega arith) c.loop-all.all c.push.new.self c.in_ok-next.next c.in_ok-push.ensures.ok c.args.p.now c.loop-all.p c.procedure.new.p c.expect.new.self c.loop-all.invariant c.loop-all-test.ensures c.in_ok-next.ensures c.in_ok-expect.ensures
 
 pub procedures-returns : goal.procedures-returns
 procedures-returns t c =
     let r = closed (opened no_procedures c.args.room c.loop-all.p (λ next same. ap (by_first Procedures) same ∙ not_procedure _ c.loop-all-test.ensures)) in
     subst (λ xs. IsRead Procedures c.args.room xs c.args.p.now c.loop-all.p) (append-nil c.loop-all.all) (closed (after_phrase c.loop-all.invariant (as_deep c.args.room) r))
 
-pub procedure-returns-in_err-procedure : goal.procedure-returns-in_err-procedure
-procedure-returns-in_err-procedure t c =
-    exits Procedure c.args.room c.args.p.now c.procedure.new.self c.from_residual.result c.in_err-procedure.field-0.0 c.from_residual.ensures.1
-    (token_missing (opened procedure c.args.room c.args.p.now (λ next same. refl)) (omega arith) c.procedure.new.self c.in_err-procedure.field-0.0 c.in_err-procedure.ensures)
+pub procedure-returns-in_err-expect : goal.procedure-returns-in_err-expect
+procedure-returns-in_err-expect t c =
+    exits Procedure c.args.room c.args.p.now c.expect.new.self c.from_residual.result c.in_err-expect.field-0.0 c.from_residual.ensures.1
+    (token_missing (opened procedure c.args.room c.args.p.now (λ next same. refl)) (omega arith) c.expect.new.self c.in_err-expect.field-0.0 c.in_err-expect.ensures)
 
-pub procedure-returns-in_err-ident : goal.procedure-returns-in_err-ident
-procedure-returns-in_err-ident t c =
-    exits Procedure c.args.room c.args.p.now c.ident.new.self c.from_residual-in_err-ident.result c.in_err-ident.field-0.0 c.from_residual-in_err-ident.ensures.1
-    (token_missing (after_token (opened procedure c.args.room c.args.p.now (λ next same. refl)) c.in_ok-procedure.ensures) (omega arith) c.ident.new.self c.in_err-ident.field-0.0 c.in_err-ident.ensures)
+pub procedure-returns-in_err-expect-2 : goal.procedure-returns-in_err-expect-2
+procedure-returns-in_err-expect-2 t c =
+    exits Procedure c.args.room c.args.p.now c.expect-2.new.self c.from_residual-in_err-expect-2.result c.in_err-expect-2.field-0.0 c.from_residual-in_err-expect-2.ensures.1
+    (token_missing (after_token (opened procedure c.args.room c.args.p.now (λ next same. refl)) c.in_ok-expect.ensures) (omega arith) c.expect-2.new.self c.in_err-expect-2.field-0.0 c.in_err-expect-2.ensures)
 
 pub procedure-returns-in_err-params : goal.procedure-returns-in_err-params
 procedure-returns-in_err-params t c =
     exits Procedure c.args.room c.args.p.now c.formal_parameters.new.p c.from_residual-in_err-params.result c.in_err-params.field-0.0 c.from_residual-in_err-params.ensures.1
-    (phrase_fails (after_token (after_token (opened procedure c.args.room c.args.p.now (λ next same. refl)) c.in_ok-procedure.ensures) c.in_ok-ident.ensures) (as_deep c.args.room) (omega arith) c.formal_parameters.new.p c.in_err-params.field-0.0 c.in_err-params.ensures)
+    (phrase_fails (after_token (after_token (opened procedure c.args.room c.args.p.now (λ next same. refl)) c.in_ok-expect.ensures) c.in_ok-expect-2.ensures) (as_deep c.args.room) (omega arith) c.formal_parameters.new.p c.in_err-params.field-0.0 c.in_err-params.ensures)
 
-pub procedure-returns-in_err-semicolon : goal.procedure-returns-in_err-semicolon
-procedure-returns-in_err-semicolon t c =
-    exits Procedure c.args.room c.args.p.now c.semicolon.new.self c.from_residual-in_err-semicolon.result c.in_err-semicolon.field-0.0 c.from_residual-in_err-semicolon.ensures.1
-    (token_missing (after_phrase (after_token (after_token (opened procedure c.args.room c.args.p.now (λ next same. refl)) c.in_ok-procedure.ensures) c.in_ok-ident.ensures) (as_deep c.args.room) c.in_ok-params.ensures) (omega arith) c.semicolon.new.self c.in_err-semicolon.field-0.0 c.in_err-semicolon.ensures)
+pub procedure-returns-in_err-expect-3 : goal.procedure-returns-in_err-expect-3
+procedure-returns-in_err-expect-3 t c =
+    exits Procedure c.args.room c.args.p.now c.expect-3.new.self c.from_residual-in_err-expect-3.result c.in_err-expect-3.field-0.0 c.from_residual-in_err-expect-3.ensures.1
+    (token_missing (after_phrase (after_token (after_token (opened procedure c.args.room c.args.p.now (λ next same. refl)) c.in_ok-expect.ensures) c.in_ok-expect-2.ensures) (as_deep c.args.room) c.in_ok-params.ensures) (omega arith) c.expect-3.new.self c.in_err-expect-3.field-0.0 c.in_err-expect-3.ensures)
 
 pub procedure-returns-in_err-decls : goal.procedure-returns-in_err-decls
 procedure-returns-in_err-decls t c =
     exits Procedure c.args.room c.args.p.now c.declarations.new.p c.from_residual-in_err-decls.result c.in_err-decls.field-0.0 c.from_residual-in_err-decls.ensures.1
-    (phrase_fails (after_token (after_phrase (after_token (after_token (opened procedure c.args.room c.args.p.now (λ next same. refl)) c.in_ok-procedure.ensures) c.in_ok-ident.ensures) (as_deep c.args.room) c.in_ok-params.ensures) c.in_ok-semicolon.ensures) (as_deep c.args.room) (omega arith) c.declarations.new.p c.in_err-decls.field-0.0 c.in_err-decls.ensures)
+    (phrase_fails (after_token (after_phrase (after_token (after_token (opened procedure c.args.room c.args.p.now (λ next same. refl)) c.in_ok-expect.ensures) c.in_ok-expect-2.ensures) (as_deep c.args.room) c.in_ok-params.ensures) c.in_ok-expect-3.ensures) (as_deep c.args.room) (omega arith) c.declarations.new.p c.in_err-decls.field-0.0 c.in_err-decls.ensures)
 
 pub procedure-returns-in_err-body : goal.procedure-returns-in_err-body
 procedure-returns-in_err-body t c =
     exits Procedure c.args.room c.args.p.now c.body.new.p c.from_residual-in_err-body.result c.in_err-body.field-0.0 c.from_residual-in_err-body.ensures.1
-    (phrase_fails (after_phrase (after_token (after_phrase (after_token (after_token (opened procedure c.args.room c.args.p.now (λ next same. refl)) c.in_ok-procedure.ensures) c.in_ok-ident.ensures) (as_deep c.args.room) c.in_ok-params.ensures) c.in_ok-semicolon.ensures) (as_deep c.args.room) c.in_ok-decls.ensures) (as_deep c.args.room) (omega arith) c.body.new.p c.in_err-body.field-0.0 c.in_err-body.ensures)
+    (phrase_fails (after_phrase (after_token (after_phrase (after_token (after_token (opened procedure c.args.room c.args.p.now (λ next same. refl)) c.in_ok-expect.ensures) c.in_ok-expect-2.ensures) (as_deep c.args.room) c.in_ok-params.ensures) c.in_ok-expect-3.ensures) (as_deep c.args.room) c.in_ok-decls.ensures) (as_deep c.args.room) (omega arith) c.body.new.p c.in_err-body.field-0.0 c.in_err-body.ensures)
 
-pub procedure-returns-in_err-end : goal.procedure-returns-in_err-end
-procedure-returns-in_err-end t c =
-    exits Procedure c.args.room c.args.p.now c.end.new.self c.from_residual-in_err-end.result c.in_err-end.field-0.0 c.from_residual-in_err-end.ensures.1
-    (token_missing (after_phrase (after_phrase (after_token (after_phrase (after_token (after_token (opened procedure c.args.room c.args.p.now (λ next same. refl)) c.in_ok-procedure.ensures) c.in_ok-ident.ensures) (as_deep c.args.room) c.in_ok-params.ensures) c.in_ok-semicolon.ensures) (as_deep c.args.room) c.in_ok-decls.ensures) (as_deep c.args.room) c.in_ok-body.ensures) (omega arith) c.end.new.self c.in_err-end.field-0.0 c.in_err-end.ensures)
+pub procedure-returns-in_err-expect-4 : goal.procedure-returns-in_err-expect-4
+procedure-returns-in_err-expect-4 t c =
+    exits Procedure c.args.room c.args.p.now c.expect-4.new.self c.from_residual-in_err-expect-4.result c.in_err-expect-4.field-0.0 c.from_residual-in_err-expect-4.ensures.1
+    (token_missing (after_phrase (after_phrase (after_token (after_phrase (after_token (after_token (opened procedure c.args.room c.args.p.now (λ next same. refl)) c.in_ok-expect.ensures) c.in_ok-expect-2.ensures) (as_deep c.args.room) c.in_ok-params.ensures) c.in_ok-expect-3.ensures) (as_deep c.args.room) c.in_ok-decls.ensures) (as_deep c.args.room) c.in_ok-body.ensures) (omega arith) c.expect-4.new.self c.in_err-expect-4.field-0.0 c.in_err-expect-4.ensures)
 
-pub procedure-returns-in_err-ident-2 : goal.procedure-returns-in_err-ident-2
-procedure-returns-in_err-ident-2 t c =
-    exits Procedure c.args.room c.args.p.now c.ident-2.new.self c.from_residual-in_err-ident-2.result c.in_err-ident-2.field-0.0 c.from_residual-in_err-ident-2.ensures.1
-    (token_missing (after_token (after_phrase (after_phrase (after_token (after_phrase (after_token (after_token (opened procedure c.args.room c.args.p.now (λ next same. refl)) c.in_ok-procedure.ensures) c.in_ok-ident.ensures) (as_deep c.args.room) c.in_ok-params.ensures) c.in_ok-semicolon.ensures) (as_deep c.args.room) c.in_ok-decls.ensures) (as_deep c.args.room) c.in_ok-body.ensures) c.in_ok-end.ensures) (omega arith) c.ident-2.new.self c.in_err-ident-2.field-0.0 c.in_err-ident-2.ensures)
+pub procedure-returns-in_err-expect-5 : goal.procedure-returns-in_err-expect-5
+procedure-returns-in_err-expect-5 t c =
+    exits Procedure c.args.room c.args.p.now c.expect-5.new.self c.from_residual-in_err-expect-5.result c.in_err-expect-5.field-0.0 c.from_residual-in_err-expect-5.ensures.1
+    (token_missing (after_token (after_phrase (after_phrase (after_token (after_phrase (after_token (after_token (opened procedure c.args.room c.args.p.now (λ next same. refl)) c.in_ok-expect.ensures) c.in_ok-expect-2.ensures) (as_deep c.args.room) c.in_ok-params.ensures) c.in_ok-expect-3.ensures) (as_deep c.args.room) c.in_ok-decls.ensures) (as_deep c.args.room) c.in_ok-body.ensures) c.in_ok-expect-4.ensures) (omega arith) c.expect-5.new.self c.in_err-expect-5.field-0.0 c.in_err-expect-5.ensures)
 
 pub procedure-span_from-span-requires : goal.procedure-span_from-span-requires
 procedure-span_from-span-requires t c =
-    omega (arith, c.in_ok-procedure.ensures.place_is, c.in_ok-ident.ensures.place_is, later c.in_ok-params.ensures, c.in_ok-semicolon.ensures.place_is, later c.in_ok-decls.ensures, later c.in_ok-body.ensures, c.in_ok-end.ensures.place_is, c.in_ok-ident-2.ensures.place_is)
+    omega (arith, c.in_ok-expect.ensures.place_is, c.in_ok-expect-2.ensures.place_is, later c.in_ok-params.ensures, c.in_ok-expect-3.ensures.place_is, later c.in_ok-decls.ensures, later c.in_ok-body.ensures, c.in_ok-expect-4.ensures.place_is, c.in_ok-expect-5.ensures.place_is)
 
 pub procedure-returns : goal.procedure-returns
 procedure-returns t c =
-    rw c.span_from-span.ensures (closed (after_token (after_token (after_phrase (after_phrase (after_token (after_phrase (after_token (after_token (opened procedure c.args.room c.args.p.now (λ next same. refl)) c.in_ok-procedure.ensures) c.in_ok-ident.ensures) (as_deep c.args.room) c.in_ok-params.ensures) c.in_ok-semicolon.ensures) (as_deep c.args.room) c.in_ok-decls.ensures) (as_deep c.args.room) c.in_ok-body.ensures) c.in_ok-end.ensures) c.in_ok-ident-2.ensures))
+    rw c.span_from-span.ensures (closed (after_token (after_token (after_phrase (after_phrase (after_token (after_phrase (after_token (after_token (opened procedure c.args.room c.args.p.now (λ next same. refl)) c.in_ok-expect.ensures) c.in_ok-expect-2.ensures) (as_deep c.args.room) c.in_ok-params.ensures) c.in_ok-expect-3.ensures) (as_deep c.args.room) c.in_ok-decls.ensures) (as_deep c.args.room) c.in_ok-body.ensures) c.in_ok-expect-4.ensures) c.in_ok-expect-5.ensures))

@@ -42,11 +42,11 @@ loop-p-init c =
 pub returns-in_err-next : goal.returns-in_err-next
 returns-in_err-next c =
     exits SectionList c.args.room c.args.p.now c.section-in-loop-p.new.p c.from_residual-in_err-next.result c.in_err-next.field-0.0 c.from_residual-in_err-next.ensures.1
-    (phrase_fails (again c.loop-p.invariant (next_wanted c.args.room c.loop-p.p c.accept_semicolon.new.self c.loop-p-test.ensures)) (as_deep c.args.room) (omega arith) c.section-in-loop-p.new.p c.in_err-next.field-0.0 c.in_err-next.ensures)
+    (phrase_fails (again c.loop-p.invariant (next_wanted c.args.room c.loop-p.p c.accept.new.self c.loop-p-test.ensures)) (as_deep c.args.room) (omega arith) c.section-in-loop-p.new.p c.in_err-next.field-0.0 c.in_err-next.ensures)
 
 pub loop-p-preserved : goal.loop-p-preserved
 loop-p-preserved c =
-    next_pushed c.args.room c.loop-p.all c.push-in-loop-p.new.self c.in_ok-next.next c.in_ok-push-2.ensures.ok c.args.p.now c.loop-p.p c.accept_semicolon.new.self c.section-in-loop-p.new.p c.loop-p.invariant c.loop-p-test.ensures c.in_ok-next.ensures
+    next_pushed c.args.room c.loop-p.all c.push-in-loop-p.new.self c.in_ok-next.next c.in_ok-push-2.ensures.ok c.args.p.now c.loop-p.p c.accept.new.self c.section-in-loop-p.new.p c.loop-p.invariant c.loop-p-test.ensures c.in_ok-next.ensures
 
 pub returns : goal.returns
 returns c =

@@ -35,14 +35,14 @@ returns-in_err-next c =
     exits TypeList c.args.room c.args.p.now c.type_declaration.new.p c.from_residual.result c.in_err-next.field-0.0 c.from_residual.ensures.1
     (phrase_fails (again c.loop-all.invariant (next_type_list c.args.room c.loop-all.p c.loop-all-test.ensures)) (one_deeper (c.args.room - 1) c.args.room (omega arith)) (omega arith) c.type_declaration.new.p c.in_err-next.field-0.0 c.in_err-next.ensures)
 
-pub returns-in_err-semicolon : goal.returns-in_err-semicolon
-returns-in_err-semicolon c =
-    exits TypeList c.args.room c.args.p.now c.semicolon.new.self c.from_residual-in_err-semicolon.result c.in_err-semicolon.field-0.0 c.from_residual-in_err-semicolon.ensures.1
-    (token_missing (again c.loop-all.invariant (after_phrase (next_type_list c.args.room c.loop-all.p c.loop-all-test.ensures) (one_deeper (c.args.room - 1) c.args.room (omega arith)) c.in_ok-next.ensures)) (omega arith) c.semicolon.new.self c.in_err-semicolon.field-0.0 c.in_err-semicolon.ensures)
+pub returns-in_err-expect : goal.returns-in_err-expect
+returns-in_err-expect c =
+    exits TypeList c.args.room c.args.p.now c.expect.new.self c.from_residual-in_err-expect.result c.in_err-expect.field-0.0 c.from_residual-in_err-expect.ensures.1
+    (token_missing (again c.loop-all.invariant (after_phrase (next_type_list c.args.room c.loop-all.p c.loop-all-test.ensures) (one_deeper (c.args.room - 1) c.args.room (omega arith)) c.in_ok-next.ensures)) (omega arith) c.expect.new.self c.in_err-expect.field-0.0 c.in_err-expect.ensures)
 
 pub loop-all-preserved : goal.loop-all-preserved
 loop-all-preserved c =
-    more_type_list c.args.room (c.args.room - 1) (omega arith) c.loop-all.all c.push.new.self c.in_ok-next.next c.in_ok-push.ensures.ok c.args.p.now c.loop-all.p c.type_declaration.new.p c.semicolon.new.self c.loop-all.invariant c.loop-all-test.ensures c.in_ok-next.ensures c.in_ok-semicolon.ensures
+    more_type_list c.args.room (c.args.room - 1) (omega arith) c.loop-all.all c.push.new.self c.in_ok-next.next c.in_ok-push.ensures.ok c.args.p.now c.loop-all.p c.type_declaration.new.p c.expect.new.self c.loop-all.invariant c.loop-all-test.ensures c.in_ok-next.ensures c.in_ok-expect.ensures
 
 pub returns : goal.returns
 returns c =

@@ -12,16 +12,16 @@ use Rattle.ob_parse.proofs.declaration.variables.Goals as goal
 wanted : (room : ℕ) (p q : Parser) → IsNext KwVar p q → Waits Variables (phrase level VariableList ∷ []) room (λ j v. tree_by variables (place p) j (place p, v)) p q
 wanted room p q n = after_token (opened variables room p (λ next same. ap (by_first Variables) (same ∙ ap first n.from))) n
 
-pub returns-then-not-accept_var : goal.returns-then-not-accept_var
-returns-then-not-accept_var c =
-    let e = c.if-not-accept_var.ensures in
+pub returns-then-not-accept : goal.returns-then-not-accept
+returns-then-not-accept c =
+    let e = c.if-not-accept.ensures in
     rw c.new.ensures (subst (λ q. IsRead Variables c.args.room [] c.args.p.now q) (sym e.0) (closed (opened no_variables c.args.room c.args.p.now (λ next same. ap (by_first Variables) same ∙ not_var _ e.1))))
 
 pub returns-in_err-list : goal.returns-in_err-list
 returns-in_err-list c =
     exits Variables c.args.room c.args.p.now c.variable_list.new.p c.from_residual.result c.in_err-list.field-0.0 c.from_residual.ensures.1
-    (phrase_fails (wanted c.args.room c.args.p.now c.accept_var.new.self c.if-not-accept_var.ensures) (as_deep c.args.room) (omega arith) c.variable_list.new.p c.in_err-list.field-0.0 c.in_err-list.ensures)
+    (phrase_fails (wanted c.args.room c.args.p.now c.accept.new.self c.if-not-accept.ensures) (as_deep c.args.room) (omega arith) c.variable_list.new.p c.in_err-list.field-0.0 c.in_err-list.ensures)
 
 pub returns : goal.returns
 returns c =
-    closed (after_phrase (wanted c.args.room c.args.p.now c.accept_var.new.self c.if-not-accept_var.ensures) (as_deep c.args.room) c.in_ok-list.ensures)
+    closed (after_phrase (wanted c.args.room c.args.p.now c.accept.new.self c.if-not-accept.ensures) (as_deep c.args.room) c.in_ok-list.ensures)

@@ -114,18 +114,18 @@ factor-returns-in_err-inner-in-LeftParen t c =
     exits Factor c.args.room p c.expression.new.p f.result x.field-0.0 f.ensures.1
     (phrase_fails (in_parentheses c.args.room p c.advance-in-LeftParen.new.self n) (one_deeper (c.args.room - 1) c.args.room (omega arith)) (omega arith) c.expression.new.p x.field-0.0 x.ensures)
 
-pub factor-returns-in_err-right_paren-in-LeftParen : goal.factor-returns-in_err-right_paren-in-LeftParen
-factor-returns-in_err-right_paren-in-LeftParen t c =
+pub factor-returns-in_err-expect-in-LeftParen : goal.factor-returns-in_err-expect-in-LeftParen
+factor-returns-in_err-expect-in-LeftParen t c =
     let p = c.args.p.now in let n = c.advance-in-LeftParen.ensures LeftParen (kind_at _ _ c.peek.ensures c.in-Some.kind LeftParen c.in-Some.is c.in-LeftParen.is) in
-    let x = c.in_err-right_paren-in-LeftParen in let f = c.from_residual-in_err-right_paren-in-LeftParen in
+    let x = c.in_err-expect-in-LeftParen in let f = c.from_residual-in_err-expect-in-LeftParen in
     let w = after_phrase (in_parentheses c.args.room p c.advance-in-LeftParen.new.self n) (one_deeper (c.args.room - 1) c.args.room (omega arith)) c.in_ok-inner-in-LeftParen.ensures in
-    exits Factor c.args.room p c.right_paren.new.self f.result x.field-0.0 f.ensures.1 (token_missing w (omega arith) c.right_paren.new.self x.field-0.0 x.ensures)
+    exits Factor c.args.room p c.expect.new.self f.result x.field-0.0 f.ensures.1 (token_missing w (omega arith) c.expect.new.self x.field-0.0 x.ensures)
 
 pub factor-returns-in_ok-new-in-LeftParen : goal.factor-returns-in_ok-new-in-LeftParen
 factor-returns-in_ok-new-in-LeftParen t c =
     let p = c.args.p.now in let n = c.advance-in-LeftParen.ensures LeftParen (kind_at _ _ c.peek.ensures c.in-Some.kind LeftParen c.in-Some.is c.in-LeftParen.is) in
     let w = after_phrase (in_parentheses c.args.room p c.advance-in-LeftParen.new.self n) (one_deeper (c.args.room - 1) c.args.room (omega arith)) c.in_ok-inner-in-LeftParen.ensures in
-    rw (c.span_from-span-in-LeftParen.ensures, c.in_ok-new-in-LeftParen.ensures) (closed (after_token w c.in_ok-right_paren-in-LeftParen.ensures))
+    rw (c.span_from-span-in-LeftParen.ensures, c.in_ok-new-in-LeftParen.ensures) (closed (after_token w c.in_ok-expect-in-LeftParen.ensures))
 
 pub factor-returns-then-room-eq0-2 : goal.factor-returns-then-room-eq0-2
 factor-returns-then-room-eq0-2 t c =
@@ -195,16 +195,16 @@ pub selector-returns-in_default-kind : goal.selector-returns-in_default-kind
 selector-returns-in_default-kind t c =
     refused Selector c.args.room c.args.p.now (omega arith) (λ next same. ap (by_first Selector) (same ∙ sym c.peek.ensures ∙ c.in-Some.is) ∙ no_selector_first c.in-Some.kind c.in_default-kind.not-Period c.in_default-kind.not-LeftBracket)
 
-pub selector-returns-in_err-ident-in-Period : goal.selector-returns-in_err-ident-in-Period
-selector-returns-in_err-ident-in-Period t c =
+pub selector-returns-in_err-expect-in-Period : goal.selector-returns-in_err-expect-in-Period
+selector-returns-in_err-expect-in-Period t c =
     let p = c.args.p.now in let n = c.advance.ensures Period (kind_at _ _ c.peek.ensures c.in-Some.kind Period c.in-Some.is c.in-Period.is) in
-    let x = c.in_err-ident-in-Period in
-    exits Selector c.args.room p c.ident.new.self c.from_residual.result x.field-0.0 c.from_residual.ensures.1 (token_missing (by_field c.args.room p c.advance.new.self n) (omega arith) c.ident.new.self x.field-0.0 x.ensures)
+    let x = c.in_err-expect-in-Period in
+    exits Selector c.args.room p c.expect.new.self c.from_residual.result x.field-0.0 c.from_residual.ensures.1 (token_missing (by_field c.args.room p c.advance.new.self n) (omega arith) c.expect.new.self x.field-0.0 x.ensures)
 
-pub selector-returns-in_ok-ident-in-Period : goal.selector-returns-in_ok-ident-in-Period
-selector-returns-in_ok-ident-in-Period t c =
+pub selector-returns-in_ok-expect-in-Period : goal.selector-returns-in_ok-expect-in-Period
+selector-returns-in_ok-expect-in-Period t c =
     let p = c.args.p.now in let n = c.advance.ensures Period (kind_at _ _ c.peek.ensures c.in-Some.kind Period c.in-Some.is c.in-Period.is) in
-    rw c.span_from-span.ensures (closed (after_token (by_field c.args.room p c.advance.new.self n) c.in_ok-ident-in-Period.ensures))
+    rw c.span_from-span.ensures (closed (after_token (by_field c.args.room p c.advance.new.self n) c.in_ok-expect-in-Period.ensures))
 
 pub selector-returns-then-room-eq0 : goal.selector-returns-then-room-eq0
 selector-returns-then-room-eq0 t c =
@@ -218,18 +218,18 @@ selector-returns-in_err-index-in-LeftBracket t c =
     exits Selector c.args.room p c.expression.new.p f.result x.field-0.0 f.ensures.1
     (phrase_fails (by_index c.args.room p c.advance-in-LeftBracket.new.self n) (one_deeper (c.args.room - 1) c.args.room (omega arith)) (omega arith) c.expression.new.p x.field-0.0 x.ensures)
 
-pub selector-returns-in_err-right_bracket-in-LeftBracket : goal.selector-returns-in_err-right_bracket-in-LeftBracket
-selector-returns-in_err-right_bracket-in-LeftBracket t c =
+pub selector-returns-in_err-expect-in-LeftBracket : goal.selector-returns-in_err-expect-in-LeftBracket
+selector-returns-in_err-expect-in-LeftBracket t c =
     let p = c.args.p.now in let n = c.advance-in-LeftBracket.ensures LeftBracket (kind_at _ _ c.peek.ensures c.in-Some.kind LeftBracket c.in-Some.is c.in-LeftBracket.is) in
-    let x = c.in_err-right_bracket-in-LeftBracket in let f = c.from_residual-in_err-right_bracket-in-LeftBracket in
+    let x = c.in_err-expect-in-LeftBracket in let f = c.from_residual-in_err-expect-in-LeftBracket in
     let w = after_phrase (by_index c.args.room p c.advance-in-LeftBracket.new.self n) (one_deeper (c.args.room - 1) c.args.room (omega arith)) c.in_ok-index-in-LeftBracket.ensures in
-    exits Selector c.args.room p c.right_bracket.new.self f.result x.field-0.0 f.ensures.1 (token_missing w (omega arith) c.right_bracket.new.self x.field-0.0 x.ensures)
+    exits Selector c.args.room p c.expect-in-LeftBracket.new.self f.result x.field-0.0 f.ensures.1 (token_missing w (omega arith) c.expect-in-LeftBracket.new.self x.field-0.0 x.ensures)
 
-pub selector-returns-in_ok-right_bracket-in-LeftBracket : goal.selector-returns-in_ok-right_bracket-in-LeftBracket
-selector-returns-in_ok-right_bracket-in-LeftBracket t c =
+pub selector-returns-in_ok-expect-in-LeftBracket : goal.selector-returns-in_ok-expect-in-LeftBracket
+selector-returns-in_ok-expect-in-LeftBracket t c =
     let p = c.args.p.now in let n = c.advance-in-LeftBracket.ensures LeftBracket (kind_at _ _ c.peek.ensures c.in-Some.kind LeftBracket c.in-Some.is c.in-LeftBracket.is) in
     let w = after_phrase (by_index c.args.room p c.advance-in-LeftBracket.new.self n) (one_deeper (c.args.room - 1) c.args.room (omega arith)) c.in_ok-index-in-LeftBracket.ensures in
-    rw c.span_from-span-in-LeftBracket.ensures (closed (after_token w c.in_ok-right_bracket-in-LeftBracket.ensures))
+    rw c.span_from-span-in-LeftBracket.ensures (closed (after_token w c.in_ok-expect-in-LeftBracket.ensures))
 
 -- ---- selectors
 

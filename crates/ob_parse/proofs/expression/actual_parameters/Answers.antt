@@ -12,24 +12,24 @@ use Rattle.ob_parse.proofs.expression.actual_parameters.Goals as goal
 parenthesized : (room : ℕ) (p q : Parser) → IsNext LeftParen p q → Waits ActualParameters (phrase level ArgumentList ∷ token RightParen ∷ []) room (λ j v. tree_by parameters (place p) j (place p, v)) p q
 parenthesized room p q n = after_token (opened parameters room p (λ next same. ap (by_first ActualParameters) (same ∙ ap first n.from))) n
 
-pub returns-then-not-accept_left_paren : goal.returns-then-not-accept_left_paren
-returns-then-not-accept_left_paren c =
-    let e = c.if-not-accept_left_paren.ensures in
+pub returns-then-not-accept : goal.returns-then-not-accept
+returns-then-not-accept c =
+    let e = c.if-not-accept.ensures in
     rw c.new.ensures (subst (λ q. IsRead ActualParameters c.args.room [] c.args.p.now q) (sym e.0)
     (closed (opened no_parameters c.args.room c.args.p.now (λ next same. ap (by_first ActualParameters) same ∙ not_left_paren _ e.1))))
 
 pub returns-in_err-list : goal.returns-in_err-list
 returns-in_err-list c =
     exits ActualParameters c.args.room c.args.p.now c.argument_list.new.p c.from_residual.result c.in_err-list.field-0.0 c.from_residual.ensures.1
-    (phrase_fails (parenthesized c.args.room c.args.p.now c.accept_left_paren.new.self c.if-not-accept_left_paren.ensures) (as_deep c.args.room) (omega arith) c.argument_list.new.p c.in_err-list.field-0.0 c.in_err-list.ensures)
+    (phrase_fails (parenthesized c.args.room c.args.p.now c.accept.new.self c.if-not-accept.ensures) (as_deep c.args.room) (omega arith) c.argument_list.new.p c.in_err-list.field-0.0 c.in_err-list.ensures)
 
-pub returns-in_err-right_paren : goal.returns-in_err-right_paren
-returns-in_err-right_paren c =
-    let w = after_phrase (parenthesized c.args.room c.args.p.now c.accept_left_paren.new.self c.if-not-accept_left_paren.ensures) (as_deep c.args.room) c.in_ok-list.ensures in
-    exits ActualParameters c.args.room c.args.p.now c.right_paren.new.self c.from_residual-in_err-right_paren.result c.in_err-right_paren.field-0.0 c.from_residual-in_err-right_paren.ensures.1
-    (token_missing w (omega arith) c.right_paren.new.self c.in_err-right_paren.field-0.0 c.in_err-right_paren.ensures)
+pub returns-in_err-expect : goal.returns-in_err-expect
+returns-in_err-expect c =
+    let w = after_phrase (parenthesized c.args.room c.args.p.now c.accept.new.self c.if-not-accept.ensures) (as_deep c.args.room) c.in_ok-list.ensures in
+    exits ActualParameters c.args.room c.args.p.now c.expect.new.self c.from_residual-in_err-expect.result c.in_err-expect.field-0.0 c.from_residual-in_err-expect.ensures.1
+    (token_missing w (omega arith) c.expect.new.self c.in_err-expect.field-0.0 c.in_err-expect.ensures)
 
 pub returns : goal.returns
 returns c =
-    let w = after_phrase (parenthesized c.args.room c.args.p.now c.accept_left_paren.new.self c.if-not-accept_left_paren.ensures) (as_deep c.args.room) c.in_ok-list.ensures in
-    closed (after_token w c.in_ok-right_paren.ensures)
+    let w = after_phrase (parenthesized c.args.room c.args.p.now c.accept.new.self c.if-not-accept.ensures) (as_deep c.args.room) c.in_ok-list.ensures in
+    closed (after_token w c.in_ok-expect.ensures)

@@ -43,7 +43,7 @@ loop-p-init c =
 pub returns-in_err-next : goal.returns-in_err-next
 returns-in_err-next c =
     exits ArgumentList c.args.room c.args.p.now c.expression-in-loop-p.new.p c.from_residual-in_err-next.result c.in_err-next.field-0.0 c.from_residual-in_err-next.ensures.1
-    (phrase_fails (again c.loop-p.invariant (next_wanted c.args.room c.loop-p.p c.accept_comma.new.self c.loop-p-test.ensures)) (one_deeper (c.args.room - 1) c.args.room (omega arith)) (omega arith) c.expression-in-loop-p.new.p c.in_err-next.field-0.0 c.in_err-next.ensures)
+    (phrase_fails (again c.loop-p.invariant (next_wanted c.args.room c.loop-p.p c.accept.new.self c.loop-p-test.ensures)) (one_deeper (c.args.room - 1) c.args.room (omega arith)) (omega arith) c.expression-in-loop-p.new.p c.in_err-next.field-0.0 c.in_err-next.ensures)
 
 next_pushed : (room less : ℕ) → room ≡ less + 1 → (xs ys : List Expr) (x : Expr) → ys ≡ xs ++ x ∷ [] → (old p q new : Parser) → Waits ArgumentList (phrase level Arguments ∷ []) room (λ j v. xs ++ v.0) old p → IsNext Comma p q → IsRead Expression less x q new
     → Waits ArgumentList (phrase level Arguments ∷ []) room (λ j v. ys ++ v.0) old new
@@ -52,7 +52,7 @@ next_pushed room less is xs ys x push old p q new a n r =
 
 pub loop-p-preserved : goal.loop-p-preserved
 loop-p-preserved c =
-    next_pushed c.args.room (c.args.room - 1) (omega arith) c.loop-p.all c.push-in-loop-p.new.self c.in_ok-next.next c.in_ok-push-2.ensures.ok c.args.p.now c.loop-p.p c.accept_comma.new.self c.expression-in-loop-p.new.p c.loop-p.invariant c.loop-p-test.ensures c.in_ok-next.ensures
+    next_pushed c.args.room (c.args.room - 1) (omega arith) c.loop-p.all c.push-in-loop-p.new.self c.in_ok-next.next c.in_ok-push-2.ensures.ok c.args.p.now c.loop-p.p c.accept.new.self c.expression-in-loop-p.new.p c.loop-p.invariant c.loop-p-test.ensures c.in_ok-next.ensures
 
 pub returns : goal.returns
 returns c =

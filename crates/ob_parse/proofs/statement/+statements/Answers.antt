@@ -1,15 +1,16 @@
 use Rattle.std.proofs.Common.{◌≡◌, ℕ, ◌-◌, List, [], ◌∷◌, ◌++◌, Option, Some, None, refl, ap, ◌∙◌, sym, subst, arith, lit≤, append-nil}
 use Rattle.std.specs.Prelude.{option_to_list}
-use Rattle.ob_syntax.specs.declared.token.Kind.TheVariants.{KwDo, KwElse, KwElsif, KwEnd, KwIf, KwWhile, Semicolon}
+use Rattle.ob_syntax.specs.declared.token.Kind.TheVariants.{KwDo, KwElse, KwElsif, KwEnd, KwIf, KwRepeat, KwUntil, KwWhile, Semicolon}
 use Rattle.ob_syntax.specs.declared.tree.Stmt.{Stmt}
 use Rattle.ob_syntax.specs.declared.tree.Arm.{Arm as ArmTree}
-use Rattle.ob_syntax.specs.Grammar.{level, deeper, inner, token, phrase, StatementSequence, Statements, Statement, Action, Arms, Arm, Elsifs, Else, Expression, statement_sequence, next_statement, last_statement, empty_statement, statement, if_statement, while_statement, arms, arm, next_elsif, no_elsif, otherwise, no_else}
+use Rattle.ob_syntax.specs.Grammar.{level, deeper, inner, token, phrase, StatementSequence, Statements, Statement, Action, Arms, Arm, Elsifs, Else, Expression, statement_sequence, next_statement, last_statement, empty_statement, statement, if_statement, while_statement, repeat_statement, arms, arm, next_elsif, no_elsif, otherwise, no_else}
 use Rattle.ob_syntax.specs.Predict.{first, by_first}
 use Rattle.ob_syntax.specs.Tree.{tree_by}
 use Rattle.ob_parse.specs.declared.cursor.Parser.{Parser}
 use Rattle.ob_parse.specs.Reading.{left, place, IsRead, IsNext}
-use Rattle.ob_parse.proofs.Choices.{no_statement_first, statement_begins, no_action_first, at_if, at_while, not_elsif, not_else}
+use Rattle.ob_parse.proofs.Choices.{no_statement_first, statement_begins, no_action_first, at_if, at_while, at_repeat, not_elsif, not_else}
 use Rattle.ob_parse.proofs.Loops.{put_one, put_some}
+use Rattle.ob_parse.proofs.Moves.{later}
 use Rattle.ob_parse.proofs.Steps.{Waits, opened, after_token, after_phrase, as_deep, one_deeper, at_least_one, closed, refused, too_deep, begins_with, begins_inside, token_missing, phrase_fails, again, rewrap, exits}
 use Rattle.ob_parse.proofs.statement.+statements.Goals as goal
 
@@ -38,11 +39,11 @@ statement_sequence-loop-p-init t c =
 pub statement_sequence-returns-in_err-next : goal.statement_sequence-returns-in_err-next
 statement_sequence-returns-in_err-next t c =
     exits StatementSequence c.args.room c.args.p.now c.statement-in-loop-p.new.p c.from_residual-in_err-next.result c.in_err-next.field-0.0 c.from_residual-in_err-next.ensures.1
-    (phrase_fails (again c.loop-p.invariant (next_statement_sequence c.args.room c.loop-p.p c.accept_semicolon.new.self c.loop-p-test.ensures)) (as_deep c.args.room) (omega arith) c.statement-in-loop-p.new.p c.in_err-next.field-0.0 c.in_err-next.ensures)
+    (phrase_fails (again c.loop-p.invariant (next_statement_sequence c.args.room c.loop-p.p c.accept.new.self c.loop-p-test.ensures)) (as_deep c.args.room) (omega arith) c.statement-in-loop-p.new.p c.in_err-next.field-0.0 c.in_err-next.ensures)
 
 pub statement_sequence-loop-p-preserved : goal.statement_sequence-loop-p-preserved
 statement_sequence-loop-p-preserved t c =
-    more_statement_sequence c.args.room c.loop-p.all c.push_some-in-loop-p.new.all c.in_ok-next.next c.in_ok-push_some-2.ensures c.args.p.now c.loop-p.p c.accept_semicolon.new.self c.statement-in-loop-p.new.p c.loop-p.invariant c.loop-p-test.ensures c.in_ok-next.ensures
+    more_statement_sequence c.args.room c.loop-p.all c.push_some-in-loop-p.new.all c.in_ok-next.next c.in_ok-push_some-2.ensures c.args.p.now c.loop-p.p c.accept.new.self c.statement-in-loop-p.new.p c.loop-p.invariant c.loop-p-test.ensures c.in_ok-next.ensures
 
 pub statement_sequence-returns : goal.statement_sequence-returns
 statement_sequence-returns t c =
@@ -80,14 +81,16 @@ statement-returns t c =
 pub some_statement-returns-in_default : goal.some_statement-returns-in_default
 some_statement-returns-in_default t c =
     let at : first (left c.args.p.now) ≡ None = sym c.peek.ensures ∙ c.in_default.is in
-    refused Action c.args.room c.args.p.now (omega arith) (λ next same. no_action_first next (λ e. let z = sym e ∙ same ∙ at in cc) (λ e. let z = sym e ∙ same ∙ at in cc) (λ e. let z = sym e ∙ same ∙ at in cc))
+    refused Action c.args.room c.args.p.now (omega arith) (λ next same. no_action_first next (λ e. let z = sym e ∙ same ∙ at in cc) (λ e. let z = sym e ∙ same ∙ at in cc) (λ e. let z = sym e ∙ same ∙ at in cc)
+    (λ e. let z = sym e ∙ same ∙ at in cc))
 
 pub some_statement-returns-in_default-kind : goal.some_statement-returns-in_default-kind
 some_statement-returns-in_default-kind t c =
     let at = sym c.peek.ensures ∙ c.in-Some.is in
     let no = c.in_default-kind in
     refused Action c.args.room c.args.p.now (omega arith)
-    (λ next same. no_action_first next (λ e. let z = sym at ∙ sym same ∙ e in no.not-Ident cc) (λ e. let z = sym at ∙ sym same ∙ e in no.not-KwIf cc) (λ e. let z = sym at ∙ sym same ∙ e in no.not-KwWhile cc))
+    (λ next same. no_action_first next (λ e. let z = sym at ∙ sym same ∙ e in no.not-Ident cc) (λ e. let z = sym at ∙ sym same ∙ e in no.not-KwIf cc) (λ e. let z = sym at ∙ sym same ∙ e in no.not-KwWhile cc)
+    (λ e. let z = sym at ∙ sym same ∙ e in no.not-KwRepeat cc))
 
 -- ---- IF
 
@@ -108,14 +111,14 @@ if_statement-returns-in_err-others t c =
     exits Action c.args.room c.args.p.now c.otherwise.new.p c.from_residual-in_err-others.result c.in_err-others.field-0.0 c.from_residual-in_err-others.ensures.1
     (phrase_fails (after_phrase (if_of c.args.room c.args.p.now c.advance.new.self (c.advance.ensures KwIf c.requires)) (as_deep c.args.room) c.in_ok-arms.ensures) (as_deep c.args.room) (omega arith) c.otherwise.new.p c.in_err-others.field-0.0 c.in_err-others.ensures)
 
-pub if_statement-returns-in_err-end : goal.if_statement-returns-in_err-end
-if_statement-returns-in_err-end t c =
-    exits Action c.args.room c.args.p.now c.end.new.self c.from_residual-in_err-end.result c.in_err-end.field-0.0 c.from_residual-in_err-end.ensures.1
-    (token_missing (after_phrase (after_phrase (if_of c.args.room c.args.p.now c.advance.new.self (c.advance.ensures KwIf c.requires)) (as_deep c.args.room) c.in_ok-arms.ensures) (as_deep c.args.room) c.in_ok-others.ensures) (omega arith) c.end.new.self c.in_err-end.field-0.0 c.in_err-end.ensures)
+pub if_statement-returns-in_err-expect : goal.if_statement-returns-in_err-expect
+if_statement-returns-in_err-expect t c =
+    exits Action c.args.room c.args.p.now c.expect.new.self c.from_residual-in_err-expect.result c.in_err-expect.field-0.0 c.from_residual-in_err-expect.ensures.1
+    (token_missing (after_phrase (after_phrase (if_of c.args.room c.args.p.now c.advance.new.self (c.advance.ensures KwIf c.requires)) (as_deep c.args.room) c.in_ok-arms.ensures) (as_deep c.args.room) c.in_ok-others.ensures) (omega arith) c.expect.new.self c.in_err-expect.field-0.0 c.in_err-expect.ensures)
 
 pub if_statement-returns : goal.if_statement-returns
 if_statement-returns t c =
-    rw c.span_from-span.ensures (closed (after_token (after_phrase (after_phrase (if_of c.args.room c.args.p.now c.advance.new.self (c.advance.ensures KwIf c.requires)) (as_deep c.args.room) c.in_ok-arms.ensures) (as_deep c.args.room) c.in_ok-others.ensures) c.in_ok-end.ensures))
+    rw c.span_from-span.ensures (closed (after_token (after_phrase (after_phrase (if_of c.args.room c.args.p.now c.advance.new.self (c.advance.ensures KwIf c.requires)) (as_deep c.args.room) c.in_ok-arms.ensures) (as_deep c.args.room) c.in_ok-others.ensures) c.in_ok-expect.ensures))
 
 next_arm : (room : ℕ) (p q : Parser) → IsNext KwElsif p q → Waits Elsifs (phrase level Arm ∷ phrase level Elsifs ∷ []) room (λ j v. tree_by next_elsif (place p) j (place p, v)) p q
 next_arm room p q n = after_token (opened next_elsif room p (λ next same. ap (by_first Elsifs) (same ∙ ap first n.from))) n
@@ -140,11 +143,11 @@ arms-loop-p-init t c =
 pub arms-returns-in_err-next : goal.arms-returns-in_err-next
 arms-returns-in_err-next t c =
     exits Arms c.args.room c.args.p.now c.arm-in-loop-p.new.p c.from_residual-in_err-next.result c.in_err-next.field-0.0 c.from_residual-in_err-next.ensures.1
-    (phrase_fails (again c.loop-p.invariant (next_arm c.args.room c.loop-p.p c.accept_elsif.new.self c.loop-p-test.ensures)) (as_deep c.args.room) (omega arith) c.arm-in-loop-p.new.p c.in_err-next.field-0.0 c.in_err-next.ensures)
+    (phrase_fails (again c.loop-p.invariant (next_arm c.args.room c.loop-p.p c.accept.new.self c.loop-p-test.ensures)) (as_deep c.args.room) (omega arith) c.arm-in-loop-p.new.p c.in_err-next.field-0.0 c.in_err-next.ensures)
 
 pub arms-loop-p-preserved : goal.arms-loop-p-preserved
 arms-loop-p-preserved t c =
-    more_arms c.args.room c.loop-p.all c.push-in-loop-p.new.self c.in_ok-next.next c.in_ok-push-2.ensures.ok c.args.p.now c.loop-p.p c.accept_elsif.new.self c.arm-in-loop-p.new.p c.loop-p.invariant c.loop-p-test.ensures c.in_ok-next.ensures
+    more_arms c.args.room c.loop-p.all c.push-in-loop-p.new.self c.in_ok-next.next c.in_ok-push-2.ensures.ok c.args.p.now c.loop-p.p c.accept.new.self c.arm-in-loop-p.new.p c.loop-p.invariant c.loop-p-test.ensures c.in_ok-next.ensures
 
 pub arms-returns : goal.arms-returns
 arms-returns t c =
@@ -158,36 +161,36 @@ arm-returns-in_err-test t c =
     exits Arm c.args.room c.args.p.now c.expression.new.p c.from_residual.result c.in_err-test.field-0.0 c.from_residual.ensures.1
     (phrase_fails (opened arm c.args.room c.args.p.now (λ next same. refl)) (as_deep c.args.room) (omega arith) c.expression.new.p c.in_err-test.field-0.0 c.in_err-test.ensures)
 
-pub arm-returns-in_err-then : goal.arm-returns-in_err-then
-arm-returns-in_err-then t c =
-    exits Arm c.args.room c.args.p.now c.then.new.self c.from_residual-in_err-then.result c.in_err-then.field-0.0 c.from_residual-in_err-then.ensures.1
-    (token_missing (after_phrase (opened arm c.args.room c.args.p.now (λ next same. refl)) (as_deep c.args.room) c.in_ok-test.ensures) (omega arith) c.then.new.self c.in_err-then.field-0.0 c.in_err-then.ensures)
+pub arm-returns-in_err-expect : goal.arm-returns-in_err-expect
+arm-returns-in_err-expect t c =
+    exits Arm c.args.room c.args.p.now c.expect.new.self c.from_residual-in_err-expect.result c.in_err-expect.field-0.0 c.from_residual-in_err-expect.ensures.1
+    (token_missing (after_phrase (opened arm c.args.room c.args.p.now (λ next same. refl)) (as_deep c.args.room) c.in_ok-test.ensures) (omega arith) c.expect.new.self c.in_err-expect.field-0.0 c.in_err-expect.ensures)
 
 pub arm-returns-in_err-body : goal.arm-returns-in_err-body
 arm-returns-in_err-body t c =
     exits Arm c.args.room c.args.p.now c.statement_sequence.new.p c.from_residual-in_err-body.result c.in_err-body.field-0.0 c.from_residual-in_err-body.ensures.1
-    (phrase_fails (after_token (after_phrase (opened arm c.args.room c.args.p.now (λ next same. refl)) (as_deep c.args.room) c.in_ok-test.ensures) c.in_ok-then.ensures) (at_least_one c.args.room c.requires) (omega arith) c.statement_sequence.new.p c.in_err-body.field-0.0 c.in_err-body.ensures)
+    (phrase_fails (after_token (after_phrase (opened arm c.args.room c.args.p.now (λ next same. refl)) (as_deep c.args.room) c.in_ok-test.ensures) c.in_ok-expect.ensures) (at_least_one c.args.room c.requires) (omega arith) c.statement_sequence.new.p c.in_err-body.field-0.0 c.in_err-body.ensures)
 
 pub arm-returns : goal.arm-returns
 arm-returns t c =
-    closed (after_phrase (after_token (after_phrase (opened arm c.args.room c.args.p.now (λ next same. refl)) (as_deep c.args.room) c.in_ok-test.ensures) c.in_ok-then.ensures) (at_least_one c.args.room c.requires) c.in_ok-body.ensures)
+    closed (after_phrase (after_token (after_phrase (opened arm c.args.room c.args.p.now (λ next same. refl)) (as_deep c.args.room) c.in_ok-test.ensures) c.in_ok-expect.ensures) (at_least_one c.args.room c.requires) c.in_ok-body.ensures)
 
 else_of : (room : ℕ) (p q : Parser) → IsNext KwElse p q → Waits Else (phrase inner StatementSequence ∷ []) room (λ j v. tree_by otherwise (place p) j (place p, v)) p q
 else_of room p q n = after_token (opened otherwise room p (λ next same. ap (by_first Else) (same ∙ ap first n.from))) n
 
-pub otherwise-returns-then-not-accept_else : goal.otherwise-returns-then-not-accept_else
-otherwise-returns-then-not-accept_else t c =
-    let e = c.if-not-accept_else.ensures in
+pub otherwise-returns-then-not-accept : goal.otherwise-returns-then-not-accept
+otherwise-returns-then-not-accept t c =
+    let e = c.if-not-accept.ensures in
     rw c.new.ensures (subst (λ q. IsRead Else c.args.room [] c.args.p.now q) (sym e.0) (closed (opened no_else c.args.room c.args.p.now (λ next same. ap (by_first Else) same ∙ not_else _ e.1))))
 
 pub otherwise-returns-in_err-body : goal.otherwise-returns-in_err-body
 otherwise-returns-in_err-body t c =
     exits Else c.args.room c.args.p.now c.statement_sequence.new.p c.from_residual.result c.in_err-body.field-0.0 c.from_residual.ensures.1
-    (phrase_fails (else_of c.args.room c.args.p.now c.accept_else.new.self c.if-not-accept_else.ensures) (at_least_one c.args.room c.requires) (omega arith) c.statement_sequence.new.p c.in_err-body.field-0.0 c.in_err-body.ensures)
+    (phrase_fails (else_of c.args.room c.args.p.now c.accept.new.self c.if-not-accept.ensures) (at_least_one c.args.room c.requires) (omega arith) c.statement_sequence.new.p c.in_err-body.field-0.0 c.in_err-body.ensures)
 
 pub otherwise-returns : goal.otherwise-returns
 otherwise-returns t c =
-    closed (after_phrase (else_of c.args.room c.args.p.now c.accept_else.new.self c.if-not-accept_else.ensures) (at_least_one c.args.room c.requires) c.in_ok-body.ensures)
+    closed (after_phrase (else_of c.args.room c.args.p.now c.accept.new.self c.if-not-accept.ensures) (at_least_one c.args.room c.requires) c.in_ok-body.ensures)
 
 -- ---- WHILE
 
@@ -203,21 +206,53 @@ while_statement-returns-in_err-test t c =
     exits Action c.args.room c.args.p.now c.expression.new.p c.from_residual.result c.in_err-test.field-0.0 c.from_residual.ensures.1
     (phrase_fails (while_of c.args.room c.args.p.now c.advance.new.self (c.advance.ensures KwWhile c.requires)) (as_deep c.args.room) (omega arith) c.expression.new.p c.in_err-test.field-0.0 c.in_err-test.ensures)
 
-pub while_statement-returns-in_err-do_ : goal.while_statement-returns-in_err-do_
-while_statement-returns-in_err-do_ t c =
-    exits Action c.args.room c.args.p.now c.do_.new.self c.from_residual-in_err-do_.result c.in_err-do_.field-0.0 c.from_residual-in_err-do_.ensures.1
-    (token_missing (after_phrase (while_of c.args.room c.args.p.now c.advance.new.self (c.advance.ensures KwWhile c.requires)) (as_deep c.args.room) c.in_ok-test.ensures) (omega arith) c.do_.new.self c.in_err-do_.field-0.0 c.in_err-do_.ensures)
+pub while_statement-returns-in_err-expect : goal.while_statement-returns-in_err-expect
+while_statement-returns-in_err-expect t c =
+    exits Action c.args.room c.args.p.now c.expect.new.self c.from_residual-in_err-expect.result c.in_err-expect.field-0.0 c.from_residual-in_err-expect.ensures.1
+    (token_missing (after_phrase (while_of c.args.room c.args.p.now c.advance.new.self (c.advance.ensures KwWhile c.requires)) (as_deep c.args.room) c.in_ok-test.ensures) (omega arith) c.expect.new.self c.in_err-expect.field-0.0 c.in_err-expect.ensures)
 
 pub while_statement-returns-in_err-body : goal.while_statement-returns-in_err-body
 while_statement-returns-in_err-body t c =
     exits Action c.args.room c.args.p.now c.statement_sequence.new.p c.from_residual-in_err-body.result c.in_err-body.field-0.0 c.from_residual-in_err-body.ensures.1
-    (phrase_fails (after_token (after_phrase (while_of c.args.room c.args.p.now c.advance.new.self (c.advance.ensures KwWhile c.requires)) (as_deep c.args.room) c.in_ok-test.ensures) c.in_ok-do_.ensures) (at_least_one c.args.room (omega arith)) (omega arith) c.statement_sequence.new.p c.in_err-body.field-0.0 c.in_err-body.ensures)
+    (phrase_fails (after_token (after_phrase (while_of c.args.room c.args.p.now c.advance.new.self (c.advance.ensures KwWhile c.requires)) (as_deep c.args.room) c.in_ok-test.ensures) c.in_ok-expect.ensures) (at_least_one c.args.room (omega arith)) (omega arith) c.statement_sequence.new.p c.in_err-body.field-0.0 c.in_err-body.ensures)
 
-pub while_statement-returns-in_err-end : goal.while_statement-returns-in_err-end
-while_statement-returns-in_err-end t c =
-    exits Action c.args.room c.args.p.now c.end.new.self c.from_residual-in_err-end.result c.in_err-end.field-0.0 c.from_residual-in_err-end.ensures.1
-    (token_missing (after_phrase (after_token (after_phrase (while_of c.args.room c.args.p.now c.advance.new.self (c.advance.ensures KwWhile c.requires)) (as_deep c.args.room) c.in_ok-test.ensures) c.in_ok-do_.ensures) (at_least_one c.args.room (omega arith)) c.in_ok-body.ensures) (omega arith) c.end.new.self c.in_err-end.field-0.0 c.in_err-end.ensures)
+pub while_statement-returns-in_err-expect-2 : goal.while_statement-returns-in_err-expect-2
+while_statement-returns-in_err-expect-2 t c =
+    exits Action c.args.room c.args.p.now c.expect-2.new.self c.from_residual-in_err-expect-2.result c.in_err-expect-2.field-0.0 c.from_residual-in_err-expect-2.ensures.1
+    (token_missing (after_phrase (after_token (after_phrase (while_of c.args.room c.args.p.now c.advance.new.self (c.advance.ensures KwWhile c.requires)) (as_deep c.args.room) c.in_ok-test.ensures) c.in_ok-expect.ensures) (at_least_one c.args.room (omega arith)) c.in_ok-body.ensures) (omega arith) c.expect-2.new.self c.in_err-expect-2.field-0.0 c.in_err-expect-2.ensures)
 
 pub while_statement-returns : goal.while_statement-returns
 while_statement-returns t c =
-    rw c.span_from-span.ensures (closed (after_token (after_phrase (after_token (after_phrase (while_of c.args.room c.args.p.now c.advance.new.self (c.advance.ensures KwWhile c.requires)) (as_deep c.args.room) c.in_ok-test.ensures) c.in_ok-do_.ensures) (at_least_one c.args.room (omega arith)) c.in_ok-body.ensures) c.in_ok-end.ensures))
+    rw c.span_from-span.ensures (closed (after_token (after_phrase (after_token (after_phrase (while_of c.args.room c.args.p.now c.advance.new.self (c.advance.ensures KwWhile c.requires)) (as_deep c.args.room) c.in_ok-test.ensures) c.in_ok-expect.ensures) (at_least_one c.args.room (omega arith)) c.in_ok-body.ensures) c.in_ok-expect-2.ensures))
+
+-- ---- REPEAT
+
+repeat_of : (room : ℕ) (p q : Parser) → IsNext KwRepeat p q → Waits Action (phrase inner StatementSequence ∷ token KwUntil ∷ phrase level Expression ∷ []) room (λ j v. tree_by repeat_statement (place p) j (place p, v)) p q
+repeat_of room p q n = after_token (opened repeat_statement room p (λ next same. at_repeat next (same ∙ ap first n.from))) n
+
+pub repeat_statement-returns-then-room-eq0 : goal.repeat_statement-returns-then-room-eq0
+repeat_statement-returns-then-room-eq0 t c =
+    too_deep repeat_statement c.args.room c.args.p.now KwRepeat (λ next same. at_repeat next (same ∙ c.requires)) c.requires (omega arith) (lit≤ tt) (lit≤ tt) (begins_with Action repeat_statement KwRepeat _ (λ ps. ps) (λ ps ks. refl))
+
+pub repeat_statement-returns-in_err-body : goal.repeat_statement-returns-in_err-body
+repeat_statement-returns-in_err-body t c =
+    exits Action c.args.room c.args.p.now c.statement_sequence.new.p c.from_residual.result c.in_err-body.field-0.0 c.from_residual.ensures.1
+    (phrase_fails (repeat_of c.args.room c.args.p.now c.advance.new.self (c.advance.ensures KwRepeat c.requires)) (at_least_one c.args.room (omega arith)) (omega arith) c.statement_sequence.new.p c.in_err-body.field-0.0 c.in_err-body.ensures)
+
+pub repeat_statement-returns-in_err-expect : goal.repeat_statement-returns-in_err-expect
+repeat_statement-returns-in_err-expect t c =
+    exits Action c.args.room c.args.p.now c.expect.new.self c.from_residual-in_err-expect.result c.in_err-expect.field-0.0 c.from_residual-in_err-expect.ensures.1
+    (token_missing (after_phrase (repeat_of c.args.room c.args.p.now c.advance.new.self (c.advance.ensures KwRepeat c.requires)) (at_least_one c.args.room (omega arith)) c.in_ok-body.ensures) (omega arith) c.expect.new.self c.in_err-expect.field-0.0 c.in_err-expect.ensures)
+
+pub repeat_statement-returns-in_err-test : goal.repeat_statement-returns-in_err-test
+repeat_statement-returns-in_err-test t c =
+    exits Action c.args.room c.args.p.now c.expression.new.p c.from_residual-in_err-test.result c.in_err-test.field-0.0 c.from_residual-in_err-test.ensures.1
+    (phrase_fails (after_token (after_phrase (repeat_of c.args.room c.args.p.now c.advance.new.self (c.advance.ensures KwRepeat c.requires)) (at_least_one c.args.room (omega arith)) c.in_ok-body.ensures) c.in_ok-expect.ensures) (as_deep c.args.room) (omega arith) c.expression.new.p c.in_err-test.field-0.0 c.in_err-test.ensures)
+
+pub repeat_statement-span_from-span-requires : goal.repeat_statement-span_from-span-requires
+repeat_statement-span_from-span-requires t c =
+    omega (arith, (c.advance.ensures KwRepeat c.requires).place_is, later c.in_ok-body.ensures, c.in_ok-expect.ensures.place_is, later c.in_ok-test.ensures)
+
+pub repeat_statement-returns : goal.repeat_statement-returns
+repeat_statement-returns t c =
+    rw c.span_from-span.ensures (closed (after_phrase (after_token (after_phrase (repeat_of c.args.room c.args.p.now c.advance.new.self (c.advance.ensures KwRepeat c.requires)) (at_least_one c.args.room (omega arith)) c.in_ok-body.ensures) c.in_ok-expect.ensures) (as_deep c.args.room) c.in_ok-test.ensures))

@@ -28,6 +28,9 @@ decreases-otherwise l = 6 * l.room + 2
 abbrev pub decreases-while_statement : goal.decreases-while_statement
 decreases-while_statement l = 6 * l.room + 4
 
+abbrev pub decreases-repeat_statement : goal.decreases-repeat_statement
+decreases-repeat_statement l = 6 * l.room + 4
+
 abbrev pub invariant-statement_sequence-loop-p : goal.invariant-statement_sequence-loop-p
 invariant-statement_sequence-loop-p l = Waits StatementSequence (phrase level Statements ∷ []) l.room (λ j v. l.all ++ v.0) l.fn.p l.p
 

@@ -19,19 +19,19 @@ name_list-returns-in_err-names t c =
     exits NameList c.args.room c.args.p.now c.ident_list.new.p c.from_residual.result c.in_err-names.field-0.0 c.from_residual.ensures.1
     (phrase_fails (opened name_list c.args.room c.args.p.now (λ next same. refl)) (as_deep c.args.room) (omega arith) c.ident_list.new.p c.in_err-names.field-0.0 (c.in_err-names.ensures c.args.room))
 
-pub name_list-returns-in_err-colon : goal.name_list-returns-in_err-colon
-name_list-returns-in_err-colon t c =
-    exits NameList c.args.room c.args.p.now c.colon.new.self c.from_residual-in_err-colon.result c.in_err-colon.field-0.0 c.from_residual-in_err-colon.ensures.1
-    (token_missing (after_phrase (opened name_list c.args.room c.args.p.now (λ next same. refl)) (as_deep c.args.room) (c.in_ok-names.ensures c.args.room)) (omega arith) c.colon.new.self c.in_err-colon.field-0.0 c.in_err-colon.ensures)
+pub name_list-returns-in_err-expect : goal.name_list-returns-in_err-expect
+name_list-returns-in_err-expect t c =
+    exits NameList c.args.room c.args.p.now c.expect.new.self c.from_residual-in_err-expect.result c.in_err-expect.field-0.0 c.from_residual-in_err-expect.ensures.1
+    (token_missing (after_phrase (opened name_list c.args.room c.args.p.now (λ next same. refl)) (as_deep c.args.room) (c.in_ok-names.ensures c.args.room)) (omega arith) c.expect.new.self c.in_err-expect.field-0.0 c.in_err-expect.ensures)
 
 pub name_list-returns-in_err-shape : goal.name_list-returns-in_err-shape
 name_list-returns-in_err-shape t c =
     exits NameList c.args.room c.args.p.now c.type_expression.new.p c.from_residual-in_err-shape.result c.in_err-shape.field-0.0 c.from_residual-in_err-shape.ensures.1
-    (phrase_fails (after_token (after_phrase (opened name_list c.args.room c.args.p.now (λ next same. refl)) (as_deep c.args.room) (c.in_ok-names.ensures c.args.room)) c.in_ok-colon.ensures) (as_deep c.args.room) (omega arith) c.type_expression.new.p c.in_err-shape.field-0.0 c.in_err-shape.ensures)
+    (phrase_fails (after_token (after_phrase (opened name_list c.args.room c.args.p.now (λ next same. refl)) (as_deep c.args.room) (c.in_ok-names.ensures c.args.room)) c.in_ok-expect.ensures) (as_deep c.args.room) (omega arith) c.type_expression.new.p c.in_err-shape.field-0.0 c.in_err-shape.ensures)
 
 pub name_list-returns : goal.name_list-returns
 name_list-returns t c =
-    closed (after_phrase (after_token (after_phrase (opened name_list c.args.room c.args.p.now (λ next same. refl)) (as_deep c.args.room) (c.in_ok-names.ensures c.args.room)) c.in_ok-colon.ensures) (as_deep c.args.room) c.in_ok-shape.ensures)
+    closed (after_phrase (after_token (after_phrase (opened name_list c.args.room c.args.p.now (λ next same. refl)) (as_deep c.args.room) (c.in_ok-names.ensures c.args.room)) c.in_ok-expect.ensures) (as_deep c.args.room) c.in_ok-shape.ensures)
 
 -- ---- type
 
@@ -64,58 +64,58 @@ type_expression-returns-in_err-length-in-KwArray t c =
     exits TypeExpression c.args.room c.args.p.now c.expression.new.p c.from_residual.result c.in_err-length-in-KwArray.field-0.0 c.from_residual.ensures.1
     (phrase_fails (array_of c.args.room c.args.p.now c.advance-in-KwArray.new.self (c.advance-in-KwArray.ensures KwArray (kind_at _ _ c.peek.ensures c.in-Some.kind KwArray c.in-Some.is c.in-KwArray.is))) (as_deep c.args.room) (omega arith) c.expression.new.p c.in_err-length-in-KwArray.field-0.0 c.in_err-length-in-KwArray.ensures)
 
-pub type_expression-returns-in_err-of-in-KwArray : goal.type_expression-returns-in_err-of-in-KwArray
-type_expression-returns-in_err-of-in-KwArray t c =
-    exits TypeExpression c.args.room c.args.p.now c.of.new.self c.from_residual-in_err-of-in-KwArray.result c.in_err-of-in-KwArray.field-0.0 c.from_residual-in_err-of-in-KwArray.ensures.1
-    (token_missing (after_phrase (array_of c.args.room c.args.p.now c.advance-in-KwArray.new.self (c.advance-in-KwArray.ensures KwArray (kind_at _ _ c.peek.ensures c.in-Some.kind KwArray c.in-Some.is c.in-KwArray.is))) (as_deep c.args.room) c.in_ok-length-in-KwArray.ensures) (omega arith) c.of.new.self c.in_err-of-in-KwArray.field-0.0 c.in_err-of-in-KwArray.ensures)
+pub type_expression-returns-in_err-expect-in-KwArray : goal.type_expression-returns-in_err-expect-in-KwArray
+type_expression-returns-in_err-expect-in-KwArray t c =
+    exits TypeExpression c.args.room c.args.p.now c.expect.new.self c.from_residual-in_err-expect-in-KwArray.result c.in_err-expect-in-KwArray.field-0.0 c.from_residual-in_err-expect-in-KwArray.ensures.1
+    (token_missing (after_phrase (array_of c.args.room c.args.p.now c.advance-in-KwArray.new.self (c.advance-in-KwArray.ensures KwArray (kind_at _ _ c.peek.ensures c.in-Some.kind KwArray c.in-Some.is c.in-KwArray.is))) (as_deep c.args.room) c.in_ok-length-in-KwArray.ensures) (omega arith) c.expect.new.self c.in_err-expect-in-KwArray.field-0.0 c.in_err-expect-in-KwArray.ensures)
 
 pub type_expression-returns-in_err-element-in-KwArray : goal.type_expression-returns-in_err-element-in-KwArray
 type_expression-returns-in_err-element-in-KwArray t c =
     exits TypeExpression c.args.room c.args.p.now c.type_expression.new.p c.from_residual-in_err-element-in-KwArray.result c.in_err-element-in-KwArray.field-0.0 c.from_residual-in_err-element-in-KwArray.ensures.1
-    (phrase_fails (after_token (after_phrase (array_of c.args.room c.args.p.now c.advance-in-KwArray.new.self (c.advance-in-KwArray.ensures KwArray (kind_at _ _ c.peek.ensures c.in-Some.kind KwArray c.in-Some.is c.in-KwArray.is))) (as_deep c.args.room) c.in_ok-length-in-KwArray.ensures) c.in_ok-of-in-KwArray.ensures) (one_deeper (c.args.room - 1) c.args.room (omega arith)) (omega arith) c.type_expression.new.p c.in_err-element-in-KwArray.field-0.0 c.in_err-element-in-KwArray.ensures)
+    (phrase_fails (after_token (after_phrase (array_of c.args.room c.args.p.now c.advance-in-KwArray.new.self (c.advance-in-KwArray.ensures KwArray (kind_at _ _ c.peek.ensures c.in-Some.kind KwArray c.in-Some.is c.in-KwArray.is))) (as_deep c.args.room) c.in_ok-length-in-KwArray.ensures) c.in_ok-expect-in-KwArray.ensures) (one_deeper (c.args.room - 1) c.args.room (omega arith)) (omega arith) c.type_expression.new.p c.in_err-element-in-KwArray.field-0.0 c.in_err-element-in-KwArray.ensures)
 
 pub type_expression-returns-in_ok-owned_element-in-KwArray : goal.type_expression-returns-in_ok-owned_element-in-KwArray
 type_expression-returns-in_ok-owned_element-in-KwArray t c =
     rw (c.span_from-span-in-KwArray.ensures, c.in_ok-owned_length-in-KwArray.ensures, c.in_ok-owned_element-in-KwArray.ensures)
-    (closed (after_phrase (after_token (after_phrase (array_of c.args.room c.args.p.now c.advance-in-KwArray.new.self (c.advance-in-KwArray.ensures KwArray (kind_at _ _ c.peek.ensures c.in-Some.kind KwArray c.in-Some.is c.in-KwArray.is))) (as_deep c.args.room) c.in_ok-length-in-KwArray.ensures) c.in_ok-of-in-KwArray.ensures) (one_deeper (c.args.room - 1) c.args.room (omega arith)) c.in_ok-element-in-KwArray.ensures))
+    (closed (after_phrase (after_token (after_phrase (array_of c.args.room c.args.p.now c.advance-in-KwArray.new.self (c.advance-in-KwArray.ensures KwArray (kind_at _ _ c.peek.ensures c.in-Some.kind KwArray c.in-Some.is c.in-KwArray.is))) (as_deep c.args.room) c.in_ok-length-in-KwArray.ensures) c.in_ok-expect-in-KwArray.ensures) (one_deeper (c.args.room - 1) c.args.room (omega arith)) c.in_ok-element-in-KwArray.ensures))
 
 pub type_expression-returns-in_err-fields-in-KwRecord : goal.type_expression-returns-in_err-fields-in-KwRecord
 type_expression-returns-in_err-fields-in-KwRecord t c =
     exits TypeExpression c.args.room c.args.p.now c.field_sequence.new.p c.from_residual-in_err-fields-in-KwRecord.result c.in_err-fields-in-KwRecord.field-0.0 c.from_residual-in_err-fields-in-KwRecord.ensures.1
     (phrase_fails (record_of c.args.room c.args.p.now c.advance-in-KwRecord.new.self (c.advance-in-KwRecord.ensures KwRecord (kind_at _ _ c.peek.ensures c.in-Some.kind KwRecord c.in-Some.is c.in-KwRecord.is))) (as_deep c.args.room) (omega arith) c.field_sequence.new.p c.in_err-fields-in-KwRecord.field-0.0 c.in_err-fields-in-KwRecord.ensures)
 
-pub type_expression-returns-in_err-end-in-KwRecord : goal.type_expression-returns-in_err-end-in-KwRecord
-type_expression-returns-in_err-end-in-KwRecord t c =
-    exits TypeExpression c.args.room c.args.p.now c.end.new.self c.from_residual-in_err-end-in-KwRecord.result c.in_err-end-in-KwRecord.field-0.0 c.from_residual-in_err-end-in-KwRecord.ensures.1
-    (token_missing (after_phrase (record_of c.args.room c.args.p.now c.advance-in-KwRecord.new.self (c.advance-in-KwRecord.ensures KwRecord (kind_at _ _ c.peek.ensures c.in-Some.kind KwRecord c.in-Some.is c.in-KwRecord.is))) (as_deep c.args.room) c.in_ok-fields-in-KwRecord.ensures) (omega arith) c.end.new.self c.in_err-end-in-KwRecord.field-0.0 c.in_err-end-in-KwRecord.ensures)
+pub type_expression-returns-in_err-expect-in-KwRecord : goal.type_expression-returns-in_err-expect-in-KwRecord
+type_expression-returns-in_err-expect-in-KwRecord t c =
+    exits TypeExpression c.args.room c.args.p.now c.expect-in-KwRecord.new.self c.from_residual-in_err-expect-in-KwRecord.result c.in_err-expect-in-KwRecord.field-0.0 c.from_residual-in_err-expect-in-KwRecord.ensures.1
+    (token_missing (after_phrase (record_of c.args.room c.args.p.now c.advance-in-KwRecord.new.self (c.advance-in-KwRecord.ensures KwRecord (kind_at _ _ c.peek.ensures c.in-Some.kind KwRecord c.in-Some.is c.in-KwRecord.is))) (as_deep c.args.room) c.in_ok-fields-in-KwRecord.ensures) (omega arith) c.expect-in-KwRecord.new.self c.in_err-expect-in-KwRecord.field-0.0 c.in_err-expect-in-KwRecord.ensures)
 
-pub type_expression-returns-in_ok-end-in-KwRecord : goal.type_expression-returns-in_ok-end-in-KwRecord
-type_expression-returns-in_ok-end-in-KwRecord t c =
+pub type_expression-returns-in_ok-expect-in-KwRecord : goal.type_expression-returns-in_ok-expect-in-KwRecord
+type_expression-returns-in_ok-expect-in-KwRecord t c =
     rw c.span_from-span-in-KwRecord.ensures
-    (closed (after_token (after_phrase (record_of c.args.room c.args.p.now c.advance-in-KwRecord.new.self (c.advance-in-KwRecord.ensures KwRecord (kind_at _ _ c.peek.ensures c.in-Some.kind KwRecord c.in-Some.is c.in-KwRecord.is))) (as_deep c.args.room) c.in_ok-fields-in-KwRecord.ensures) c.in_ok-end-in-KwRecord.ensures))
+    (closed (after_token (after_phrase (record_of c.args.room c.args.p.now c.advance-in-KwRecord.new.self (c.advance-in-KwRecord.ensures KwRecord (kind_at _ _ c.peek.ensures c.in-Some.kind KwRecord c.in-Some.is c.in-KwRecord.is))) (as_deep c.args.room) c.in_ok-fields-in-KwRecord.ensures) c.in_ok-expect-in-KwRecord.ensures))
 
 -- ---- field lists
 
 fields_wanted : (room : ℕ) (p : Parser) → first (left p) ≡ Some Ident → Waits FieldList (phrase deeper NameList ∷ []) room (tree_by field_list (place p)) p p
 fields_wanted room p at = opened field_list room p (λ next same. ap (by_first FieldList) (same ∙ at))
 
-pub field_list-returns-then-not-is_ident : goal.field_list-returns-then-not-is_ident
-field_list-returns-then-not-is_ident t c =
-    closed (opened empty_field_list c.args.room c.args.p.now (λ next same. ap (by_first FieldList) same ∙ no_list_first _ c.if-not-is_ident.ensures))
+pub field_list-returns-then-not-is_next : goal.field_list-returns-then-not-is_next
+field_list-returns-then-not-is_next t c =
+    closed (opened empty_field_list c.args.room c.args.p.now (λ next same. ap (by_first FieldList) same ∙ no_list_first _ c.if-not-is_next.ensures))
 
 pub field_list-returns-then-room-eq0 : goal.field_list-returns-then-room-eq0
 field_list-returns-then-room-eq0 t c =
-    let at = c.if-not-is_ident.ensures in
+    let at = c.if-not-is_next.ensures in
     too_deep field_list c.args.room c.args.p.now Ident (λ next same. ap (by_first FieldList) (same ∙ at)) at (omega arith) (lit≤ tt) (lit≤ tt) (begins_inside FieldList field_list deeper NameList _ (λ ps. ps) (λ ps ks. refl) (Ident ∷ []) names_begin)
 
 pub field_list-returns-in_err-list : goal.field_list-returns-in_err-list
 field_list-returns-in_err-list t c =
     exits FieldList c.args.room c.args.p.now c.name_list.new.p c.from_residual.result c.in_err-list.field-0.0 c.from_residual.ensures.1
-    (phrase_fails (fields_wanted c.args.room c.args.p.now c.if-not-is_ident.ensures) (one_deeper (c.args.room - 1) c.args.room (omega arith)) (omega arith) c.name_list.new.p c.in_err-list.field-0.0 c.in_err-list.ensures)
+    (phrase_fails (fields_wanted c.args.room c.args.p.now c.if-not-is_next.ensures) (one_deeper (c.args.room - 1) c.args.room (omega arith)) (omega arith) c.name_list.new.p c.in_err-list.field-0.0 c.in_err-list.ensures)
 
 pub field_list-returns : goal.field_list-returns
 field_list-returns t c =
-    closed (after_phrase (fields_wanted c.args.room c.args.p.now c.if-not-is_ident.ensures) (one_deeper (c.args.room - 1) c.args.room (omega arith)) c.in_ok-list.ensures)
+    closed (after_phrase (fields_wanted c.args.room c.args.p.now c.if-not-is_next.ensures) (one_deeper (c.args.room - 1) c.args.room (omega arith)) c.in_ok-list.ensures)
 
 -- ---- a sequence of field lists
 
@@ -142,11 +142,11 @@ field_sequence-loop-p-init t c =
 pub field_sequence-returns-in_err-next : goal.field_sequence-returns-in_err-next
 field_sequence-returns-in_err-next t c =
     exits FieldSequence c.args.room c.args.p.now c.field_list-in-loop-p.new.p c.from_residual-in_err-next.result c.in_err-next.field-0.0 c.from_residual-in_err-next.ensures.1
-    (phrase_fails (again c.loop-p.invariant (next_field_sequence c.args.room c.loop-p.p c.accept_semicolon.new.self c.loop-p-test.ensures)) (as_deep c.args.room) (omega arith) c.field_list-in-loop-p.new.p c.in_err-next.field-0.0 c.in_err-next.ensures)
+    (phrase_fails (again c.loop-p.invariant (next_field_sequence c.args.room c.loop-p.p c.accept.new.self c.loop-p-test.ensures)) (as_deep c.args.room) (omega arith) c.field_list-in-loop-p.new.p c.in_err-next.field-0.0 c.in_err-next.ensures)
 
 pub field_sequence-loop-p-preserved : goal.field_sequence-loop-p-preserved
 field_sequence-loop-p-preserved t c =
-    more_field_sequence c.args.room c.loop-p.all c.push_some-in-loop-p.new.all c.in_ok-next.next c.in_ok-push_some-2.ensures c.args.p.now c.loop-p.p c.accept_semicolon.new.self c.field_list-in-loop-p.new.p c.loop-p.invariant c.loop-p-test.ensures c.in_ok-next.ensures
+    more_field_sequence c.args.room c.loop-p.all c.push_some-in-loop-p.new.all c.in_ok-next.next c.in_ok-push_some-2.ensures c.args.p.now c.loop-p.p c.accept.new.self c.field_list-in-loop-p.new.p c.loop-p.invariant c.loop-p-test.ensures c.in_ok-next.ensures
 
 pub field_sequence-returns : goal.field_sequence-returns
 field_sequence-returns t c =

@@ -21,23 +21,23 @@ next_pushed : (room : ℕ) (xs ys : List ℕ) (old p q new : Parser) → ys ≡ 
     → Waits IdentList (phrase level Idents ∷ []) room (λ j v. ys ++ v.0) old new
 next_pushed room xs ys old p q new push a n m = rewrap (λ j v. ys ++ v.0) (again a (after_token (next_wanted room p q n) m)) (λ j v. put_one xs ys v.0 (place q) push)
 
-pub returns-in_err-ident : goal.returns-in_err-ident
-returns-in_err-ident c =
-    λ room. exits IdentList room c.args.p.now c.ident.new.self c.from_residual.result c.in_err-ident.field-0.0 c.from_residual.ensures.1
-    (token_missing (opened ident_list room c.args.p.now (λ next same. refl)) (omega arith) c.ident.new.self c.in_err-ident.field-0.0 c.in_err-ident.ensures)
+pub returns-in_err-expect : goal.returns-in_err-expect
+returns-in_err-expect c =
+    λ room. exits IdentList room c.args.p.now c.expect.new.self c.from_residual.result c.in_err-expect.field-0.0 c.from_residual.ensures.1
+    (token_missing (opened ident_list room c.args.p.now (λ next same. refl)) (omega arith) c.expect.new.self c.in_err-expect.field-0.0 c.in_err-expect.ensures)
 
 pub loop-next-init : goal.loop-next-init
 loop-next-init c =
-    λ room. first_pushed room c.new-names.result c.push.new.self c.args.p.now c.ident.new.self c.new-names.ensures c.in_ok-push.ensures.ok c.in_ok-ident.ensures
+    λ room. first_pushed room c.new-names.result c.push.new.self c.args.p.now c.expect.new.self c.new-names.ensures c.in_ok-push.ensures.ok c.in_ok-expect.ensures
 
-pub returns-in_err-ident-2 : goal.returns-in_err-ident-2
-returns-in_err-ident-2 c =
-    λ room. exits IdentList room c.args.p.now c.ident-in-loop-next.new.self c.from_residual-in_err-ident-2.result c.in_err-ident-2.field-0.0 c.from_residual-in_err-ident-2.ensures.1
-    (token_missing (again (c.loop-next.invariant room) (next_wanted room c.loop-next.p c.accept_comma.new.self c.loop-next-test.ensures)) (omega arith) c.ident-in-loop-next.new.self c.in_err-ident-2.field-0.0 c.in_err-ident-2.ensures)
+pub returns-in_err-expect-2 : goal.returns-in_err-expect-2
+returns-in_err-expect-2 c =
+    λ room. exits IdentList room c.args.p.now c.expect-in-loop-next.new.self c.from_residual-in_err-expect-2.result c.in_err-expect-2.field-0.0 c.from_residual-in_err-expect-2.ensures.1
+    (token_missing (again (c.loop-next.invariant room) (next_wanted room c.loop-next.p c.accept.new.self c.loop-next-test.ensures)) (omega arith) c.expect-in-loop-next.new.self c.in_err-expect-2.field-0.0 c.in_err-expect-2.ensures)
 
 pub loop-next-preserved : goal.loop-next-preserved
 loop-next-preserved c =
-    λ room. next_pushed room c.loop-next.names c.push-in-loop-next.new.self c.args.p.now c.loop-next.p c.accept_comma.new.self c.ident-in-loop-next.new.self c.in_ok-push-2.ensures.ok (c.loop-next.invariant room) c.loop-next-test.ensures c.in_ok-ident-2.ensures
+    λ room. next_pushed room c.loop-next.names c.push-in-loop-next.new.self c.args.p.now c.loop-next.p c.accept.new.self c.expect-in-loop-next.new.self c.in_ok-push-2.ensures.ok (c.loop-next.invariant room) c.loop-next-test.ensures c.in_ok-expect-2.ensures
 
 pub returns : goal.returns
 returns c =

@@ -7,5 +7,4 @@ unfolding left
 returns-clause-left c = refl
 
 pub returns-clause-place : goal.returns-clause-place
-unfolding place
 returns-clause-place c = refl

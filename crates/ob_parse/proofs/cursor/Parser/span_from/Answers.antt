@@ -3,9 +3,7 @@ use Rattle.ob_parse.specs.Reading.{place}
 use Rattle.ob_parse.proofs.cursor.Parser.span_from.Goals as goal
 
 pub overflow_sub-result : goal.overflow_sub-result
-unfolding place
 overflow_sub-result c = omega (arith, c.requires)
 
 pub returns : goal.returns
-unfolding place
 returns c = refl

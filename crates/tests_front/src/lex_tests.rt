@@ -1,4 +1,4 @@
-use crate::{LexFault, MAX_TOKENS, lex};
+use ob_lex::{LexFault, MAX_TOKENS, lex};
 use ob_syntax::Kind;
 use std::test::Fail;
 

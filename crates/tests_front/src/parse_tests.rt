@@ -1,7 +1,8 @@
-use crate::ParseFault::{Grammar, TooDeep};
-use crate::{ParseFault, parse};
+use ob_lex::lex;
+use ob_parse::ParseFault::{Grammar, TooDeep};
+use ob_parse::{ParseFault, parse};
 use ob_syntax::Kind::*;
-use ob_syntax::{Kind, Module, Span, Token};
+use ob_syntax::{Kind, Module, Span, Stmt, StmtForm, Token};
 use std::alloc::Global;
 use std::process::Abort;
 use std::test::Fail;
@@ -31,7 +32,7 @@ fn answer(
 
 #[test]
 fn places_of_grammar_faults(rt: HostRuntime) -> Result<(), Fail> {
-    let modules: [(&[Kind], u32); 9] = [
+    let modules: [(&[Kind], u32); 12] = [
         // the empty file
         (&[], 0),
         // MODULE M; BEGIN WriteLn
@@ -63,6 +64,27 @@ fn places_of_grammar_faults(rt: HostRuntime) -> Result<(), Fail> {
                 Period,
             ],
             7,
+        ),
+        // MODULE M; BEGIN REPEAT x END M.
+        (
+            &[
+                KwModule, Ident, Semicolon, KwBegin, KwRepeat, Ident, KwEnd, Ident, Period,
+            ],
+            6,
+        ),
+        // MODULE M; BEGIN REPEAT UNTIL END M.
+        (
+            &[
+                KwModule, Ident, Semicolon, KwBegin, KwRepeat, KwUntil, KwEnd, Ident, Period,
+            ],
+            6,
+        ),
+        // MODULE M; BEGIN x UNTIL x END M.
+        (
+            &[
+                KwModule, Ident, Semicolon, KwBegin, Ident, KwUntil, Ident, KwEnd, Ident, Period,
+            ],
+            5,
         ),
         // MODULE M; VAR x: INTEGER; TYPE ..
         (
@@ -210,6 +232,24 @@ fn nests_sixty_four_deep(rt: HostRuntime) -> Result<(), Fail> {
             told: 195,
         },
         Nest {
+            before: BODY,
+            open: &[KwRepeat],
+            inside: &[],
+            close: &[KwUntil, LeftParen, Ident, RightParen],
+            after: END,
+            most: 63,
+            told: 67,
+        },
+        Nest {
+            before: BODY,
+            open: &[KwRepeat],
+            inside: &[Ident, LeftParen, Ident, RightParen],
+            close: &[KwUntil, Ident],
+            after: END,
+            most: 62,
+            told: 69,
+        },
+        Nest {
             before: HEAD,
             open: &[KwProcedure, Ident, Semicolon],
             inside: &[],
@@ -327,5 +367,56 @@ fn tree_of_a_module(rt: HostRuntime) -> Result<(), Fail> {
         },
     ];
     assert_eq!(rt; spans.as_slice(), &expected[..]);
+    Ok(())
+}
+
+/// The numbers of tokens in a statement: those of its names, and the first and the last of its expressions.
+fn numbers(alloc: Global, statement: &Stmt) -> Result<Vec<u32>, Fail> {
+    let mut all = Vec::new(alloc);
+    all.push(statement.span.first)?;
+    match &statement.form {
+        StmtForm::Assign(target, value) => {
+            all.push(target.name)?;
+            all.push(value.span.first)?;
+            all.push(value.span.last)?;
+        }
+        StmtForm::Call(name, arguments) => {
+            all.push(*name)?;
+            for argument in arguments.as_slice() {
+                all.push(argument.span.first)?;
+                all.push(argument.span.last)?;
+            }
+        }
+        StmtForm::Repeat(_, test) => {
+            all.push(test.span.first)?;
+            all.push(test.span.last)?;
+        }
+        _ => {}
+    }
+    all.push(statement.span.last)?;
+    Ok(all)
+}
+
+#[test]
+fn repeat_counts(rt: HostRuntime) -> Result<(), Fail> {
+    let source = b"MODULE M; VAR i: INTEGER; BEGIN REPEAT i := i + 1; Write(i) UNTIL i = 3 END M.";
+    let tokens = lex(rt.alloc(), source)?;
+    let tree = parse(rt.alloc(), &tokens)?;
+    assert_eq!(rt; tree.span, Span { first: 0, last: 26 });
+    assert_eq!(rt; (tree.name, tree.close), (1, 25));
+    assert_eq!(rt; tree.body.len(), 1);
+    for statement in tree.body.as_slice() {
+        let outer = numbers(rt.alloc(), statement)?;
+        assert_eq!(rt; outer.as_slice(), &[9, 21, 23, 23][..]);
+        let StmtForm::Repeat(body, _) = &statement.form else {
+            assert!(rt; false, "no REPEAT");
+            return Ok(());
+        };
+        let mut inner = Vec::new(rt.alloc());
+        for part in body.as_slice() {
+            inner.extend_from_slice(&numbers(rt.alloc(), part)?)?;
+        }
+        assert_eq!(rt; inner.as_slice(), &[10, 10, 12, 14, 14, 16, 16, 18, 18, 19][..]);
+    }
     Ok(())
 }
