@@ -5,14 +5,15 @@ use Rattle.ob_syntax.specs.Tokens.{Tokens, Fault, FirstFault, number_too_large, 
 use Rattle.ob_syntax.proofs.Texts.{one_list, one_first_fault, no_fault_in_tokens}
 use Rattle.ob_lex.specs.declared.scanner.LexFault.{LexFault}
 use Rattle.ob_lex.specs.declared.scanner.LexFault.TheVariants.{BadByte, OpenComment, NumberTooLarge, TokensOver, OutOfMemory}
-use Rattle.ob_lex.specs.Scanning.{IsCause, IsErrUnlessMemory, fault_at, most_tokens}
+use Rattle.ob_lex.specs.Scanning.{IsCause, IsErrUnlessMemory, fault_at}
+use Rattle.ob_syntax.specs.Source.{most_tokens}
 
 -- a source with a token list that is kept is not refused
 pub kept_not_refused : (bytes : List ℕ) (e : LexFault) → IsCause bytes e → (list : List Token) → Tokens bytes list → length list ≤ most_tokens → e ≡ OutOfMemory
 kept_not_refused bytes (BadByte at) f list t few = absurd (no_fault_in_tokens bytes list bad_byte at t f)
 kept_not_refused bytes (OpenComment at) f list t few = absurd (no_fault_in_tokens bytes list open_comment at t f)
 kept_not_refused bytes (NumberTooLarge at) f list t few = absurd (no_fault_in_tokens bytes list number_too_large at t f)
-kept_not_refused bytes (TokensOver count) (other, o, size, over) list t few = let same = ap length (one_list bytes list other t o) in absurd (omega arith)
+kept_not_refused bytes (TokensOver count) many list t few = let same = ap length (one_list bytes list many.tokens t many.scanned) in absurd (omega (arith, many.count_is, many.over))
 kept_not_refused bytes OutOfMemory f list t few = refl
 
 -- one with a longer token list is refused for that
@@ -20,7 +21,7 @@ pub longer_refused : {T : Type 0} (bytes : List ℕ) (e : LexFault) → IsCause 
 longer_refused bytes (BadByte at) f list t over = absurd (no_fault_in_tokens bytes list bad_byte at t f)
 longer_refused bytes (OpenComment at) f list t over = absurd (no_fault_in_tokens bytes list open_comment at t f)
 longer_refused bytes (NumberTooLarge at) f list t over = absurd (no_fault_in_tokens bytes list number_too_large at t f)
-longer_refused bytes (TokensOver count) (other, o, size, _) list t over = inl (ap (λ n. Err (TokensOver n)) (sym size ∙ ap length (one_list bytes other list o t)))
+longer_refused bytes (TokensOver count) many list t over = inl (ap (λ n. Err (TokensOver n)) (many.count_is ∙ ap length (one_list bytes many.tokens list many.scanned t)))
 longer_refused bytes OutOfMemory f list t over = inr refl
 
 told_place : {T : Type 0} (bytes : List ℕ) (told fault : Fault) (at place : ℕ) → FirstFault bytes told at → FirstFault bytes fault place → IsErrUnlessMemory {T = T} (Err (fault_at told at)) (fault_at fault place)
@@ -31,5 +32,5 @@ pub fault_refused : {T : Type 0} (bytes : List ℕ) (e : LexFault) → IsCause b
 fault_refused bytes (BadByte place) f fault at g = told_place bytes bad_byte fault place at f g
 fault_refused bytes (OpenComment place) f fault at g = told_place bytes open_comment fault place at f g
 fault_refused bytes (NumberTooLarge place) f fault at g = told_place bytes number_too_large fault place at f g
-fault_refused bytes (TokensOver count) (list, t, _, _) fault at g = absurd (no_fault_in_tokens bytes list fault at t g)
+fault_refused bytes (TokensOver count) many fault at g = absurd (no_fault_in_tokens bytes many.tokens fault at many.scanned g)
 fault_refused bytes OutOfMemory f fault at g = inr refl

@@ -1,4 +1,4 @@
-pub mod TableScan
+pub mod FirstSpelling
 pub mod Nesting
 pub mod Fronts
 pub mod Progress

@@ -3,6 +3,6 @@
 
 mod piece;
 mod scanner;
-mod table;
+mod spelling;
 
 pub use scanner::{LexFault, MAX_TOKENS, lex};

@@ -8,7 +8,7 @@ ghost use Rattle.ob_syntax.specs.declared.token.Kind.{Kind};
 ghost use Rattle.ob_lex.specs.Scanning.{BeginsPiece, ClosesBefore, TellsFault};
 
 use crate::scanner::LexFault;
-use crate::table::fixed_kind;
+use crate::spelling::fixed_kind;
 use ob_syntax::Kind;
 
 /// The greatest integer of a source.

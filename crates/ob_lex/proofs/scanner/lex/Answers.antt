@@ -3,7 +3,8 @@ use Rattle.std.proofs.ResultArms.{chosen}
 use Rattle.std.proofs.lemmas.Result.{err_from_is_err_and}
 use Rattle.ob_syntax.specs.Tokens.{Tokens}
 use Rattle.ob_syntax.proofs.Texts.{spans_slice, one_list, no_fault_in_tokens}
-use Rattle.ob_lex.specs.Scanning.{IsCause, most_tokens}
+use Rattle.ob_syntax.specs.Source.{most_tokens}
+use Rattle.ob_lex.specs.Scanning.{IsCause}
 use Rattle.ob_lex.proofs.Progress.{behind_shorter, behind_gap, behind_token, over_cause, kept_whole, fault_told}
 use Rattle.ob_lex.proofs.Causes.{kept_not_refused, longer_refused, fault_refused}
 use Rattle.ob_lex.proofs.scanner.lex.Goals as goal
@@ -62,19 +63,19 @@ loop-rest-preserved-in-Some c =
     }
 
 pub returns-then-count-gt-MAX_TOKENS-clause-cause : goal.returns-then-count-gt-MAX_TOKENS-clause-cause
-returns-then-count-gt-MAX_TOKENS-clause-cause c = over_cause c.args.bytes.now c.loop-rest.rest.now c.loop-rest.tokens.items c.loop-rest.count c.loop-rest.invariant.scanned c.loop-rest-test.ensures c.if-count-gt-MAX_TOKENS.true
+returns-then-count-gt-MAX_TOKENS-clause-cause c = over_cause c.args.bytes.now c.loop-rest.rest.now c.loop-rest.tokens.items c.loop-rest.count c.loop-rest.invariant.scanned c.loop-rest-test.ensures c.requires c.if-count-gt-MAX_TOKENS.true
 
 pub returns-then-count-gt-MAX_TOKENS-clause-ok_where : goal.returns-then-count-gt-MAX_TOKENS-clause-ok_where
 returns-then-count-gt-MAX_TOKENS-clause-ok_where c =
-    kept_not_refused c.args.bytes.now _ (over_cause c.args.bytes.now c.loop-rest.rest.now c.loop-rest.tokens.items c.loop-rest.count c.loop-rest.invariant.scanned c.loop-rest-test.ensures c.if-count-gt-MAX_TOKENS.true)
+    kept_not_refused c.args.bytes.now _ (over_cause c.args.bytes.now c.loop-rest.rest.now c.loop-rest.tokens.items c.loop-rest.count c.loop-rest.invariant.scanned c.loop-rest-test.ensures c.requires c.if-count-gt-MAX_TOKENS.true)
 
 pub returns-then-count-gt-MAX_TOKENS-clause-over_where : goal.returns-then-count-gt-MAX_TOKENS-clause-over_where
 returns-then-count-gt-MAX_TOKENS-clause-over_where c =
-    longer_refused c.args.bytes.now _ (over_cause c.args.bytes.now c.loop-rest.rest.now c.loop-rest.tokens.items c.loop-rest.count c.loop-rest.invariant.scanned c.loop-rest-test.ensures c.if-count-gt-MAX_TOKENS.true)
+    longer_refused c.args.bytes.now _ (over_cause c.args.bytes.now c.loop-rest.rest.now c.loop-rest.tokens.items c.loop-rest.count c.loop-rest.invariant.scanned c.loop-rest-test.ensures c.requires c.if-count-gt-MAX_TOKENS.true)
 
 pub returns-then-count-gt-MAX_TOKENS-clause-fault_where : goal.returns-then-count-gt-MAX_TOKENS-clause-fault_where
 returns-then-count-gt-MAX_TOKENS-clause-fault_where c =
-    fault_refused c.args.bytes.now _ (over_cause c.args.bytes.now c.loop-rest.rest.now c.loop-rest.tokens.items c.loop-rest.count c.loop-rest.invariant.scanned c.loop-rest-test.ensures c.if-count-gt-MAX_TOKENS.true)
+    fault_refused c.args.bytes.now _ (over_cause c.args.bytes.now c.loop-rest.rest.now c.loop-rest.tokens.items c.loop-rest.count c.loop-rest.invariant.scanned c.loop-rest-test.ensures c.requires c.if-count-gt-MAX_TOKENS.true)
 
 -- the list that is kept is that of the source
 kept_here : (c : Else-count-gt-MAX_TOKENS) → Tokens c.args.bytes.now c.loop-rest.tokens.items × (length c.loop-rest.tokens.items ≤ most_tokens)

@@ -61,13 +61,13 @@ pub fn fixed_kind(word: &[u8]) -> Option<Kind>
     kind_in(&FIXED, word)
 }
 
-/// The first kind in a table with this spelling.
-fn kind_in(table: &[(Kind, &str)], word: &[u8]) -> Option<Kind>
+/// The first kind among these entries with this spelling.
+fn kind_in(entries: &[(Kind, &str)], word: &[u8]) -> Option<Kind>
     ensures { MatchOption result
-        ((kind : Kind) → ¬ Contains (spellings table.now) (kind, word.now))
-        (λ kind. Contains (spellings table.now) (kind, word.now)) }
+        ((kind : Kind) → ¬ Contains (spellings entries.now) (kind, word.now))
+        (λ kind. Contains (spellings entries.now) (kind, word.now)) }
 {
-    for (kind, spelling) in table {
+    for (kind, spelling) in entries {
         if spelling.as_bytes() == word {
             return Some(*kind);
         }
