@@ -8,3 +8,5 @@ pub mod Spelled
 pub mod OneTree
 pub mod Settles
 pub mod Unique
+pub mod Stays
+pub mod Numbered

@@ -11,3 +11,4 @@ pub mod Storage
 pub mod Tree
 pub mod Whole
 pub mod Kinds
+pub mod Numbers

@@ -1,0 +1,5 @@
+use Rattle.ob_syntax.proofs.Numbered.{numbered}
+use Rattle.ob_syntax.proofs.tree_laws.numbers_are_of_tokens.Goals as goal
+
+pub returns : goal.returns
+returns c = numbered
