@@ -416,7 +416,10 @@ fn repeat_counts(rt: HostRuntime) -> Result<(), Fail> {
         for part in body.as_slice() {
             inner.extend_from_slice(&numbers(rt.alloc(), part)?)?;
         }
-        assert_eq!(rt; inner.as_slice(), &[10, 10, 12, 14, 14, 16, 16, 18, 18, 19][..]);
+        assert_eq!(rt;
+            inner.as_slice(),
+            &[10, 10, 12, 14, 14, 16, 16, 18, 18, 19][..]
+        );
     }
     Ok(())
 }
