@@ -1,4 +1,3 @@
+pub mod Machine
 pub mod Placed
 pub mod Valid
-pub mod Machine
-pub mod Standing

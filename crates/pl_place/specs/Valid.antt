@@ -1,15 +1,16 @@
 -- When placed code is valid.
-use Rattle.std.specs.Prelude.{◌≡◌, ◌≢◌, ℕ, suc, ◌+◌, ◌<◌, ◌≤◌, ◌⊎◌, true, false, List, [], ◌∷◌, ◌++◌, length, slice_get, Some}
+use Rattle.std.specs.Prelude.{◌≡◌, ◌≢◌, ℕ, suc, ◌+◌, ◌<◌, ◌≤◌, ◌⊎◌, true, false, List, [], ◌∷◌, ◌++◌, length, map, slice_get, Some}
 use Rattle.pra_base.specs.declared.ids.Place.{Place}
 use Rattle.pra_base.specs.declared.ids.VarId.{VarId}
 use Rattle.pra_base.specs.declared.code.VarKind.TheVariants.{Param, Plain}
 use Rattle.pra_base.specs.declared.code.VInstr.{VInstr}
 use Rattle.pra_base.specs.Code.{block_in, IsTarget, EachInstr}
-use Rattle.pra_base.specs.Places.{number, allows, meet, has_register, is_mem}
+use Rattle.pra_base.specs.Places.{allows, meet, is_mem}
 use Rattle.pra_base.specs.Operands.{Role, operands, own_places}
-use Rattle.pra_base.specs.Valid.{LastReturn, CmpBeforeBranch, PushesBeforeCalls, ClearFirst, CheckRange, ArgumentsApart, TakesAny, Names, NamesCell, near}
-use Rattle.pl_moves.specs.declared.moves.Move.{Move}
-use Rattle.pl_moves.specs.declared.moves.Move.TheVariants.{Copy, Swap, Load, Store, Set}
+use Rattle.pra_base.specs.Valid.{KeepsBlockRules, PushesBeforeCalls, TakesArgs, ArgumentsApart, Names, NamesCell, near}
+use Rattle.pl_moves.specs.declared.transfer.Move.{Move}
+use Rattle.pl_moves.specs.declared.transfer.Move.TheVariants.{Load, Store}
+use Rattle.pl_moves.specs.Crossbar.{InRegisters}
 use Rattle.pl_place.specs.declared.placed.LInstr.{LInstr}
 use Rattle.pl_place.specs.declared.placed.LInstr.TheVariants as placed
 use Rattle.pl_place.specs.declared.placed.LBlock.{LBlock}
@@ -30,7 +31,7 @@ EachMove p P = (b k : ℕ) (m : Move) → linstr_at p b k (placed.Move m) → P 
 abbrev pub roles : VInstr → List Role
 roles i = (operands i).reads ++ (operands i).writes
 
--- 1. Each operand's place lies in the mask of its role, a variable that is written in place has one place as read and as written, and no two
+-- Each operand's place lies in the mask of its role, a variable that is written in place has one place as read and as written, and no two
 -- roles of the memory pair are in memory.
 pub record OperandsPlaced (p : LProc) (i : VInstr) (places : List Place) : Type 0 where
   pub count : length places ≡ length (roles i)
@@ -47,35 +48,27 @@ MoveHasMemory p (Load r v) = HasMemory p v.0
 MoveHasMemory p (Store v r) = HasMemory p v.0
 MoveHasMemory p _ = Unit {0}
 
--- 2. A variable that a Load or Store of the moves names, or that an operand has in memory, is a Param or has a slot, and no variable has two.
+-- A variable that a Load or Store of the moves names, or that an operand has in memory, is a Param or has a slot, and no variable has two.
 pub record MemoryThere (p : LProc) : Type 0 where
   pub moves : EachMove p (MoveHasMemory p)
   pub operands_there : EachOp p (λ i places. (k : ℕ) (role : Role) → slice_get (roles i) k ≡ Some role → is_mem (place_in places k) ≡ true → HasMemory p role.var)
   pub distinct : (k j : ℕ) (u : VarId) → slice_get p.slots k ≡ Some u → slice_get p.slots j ≡ Some u → k ≡ j
 
--- 4. Every place in a move is a register.
-abbrev pub InRegisters : Move → Type 0
-InRegisters (Copy r q) = (has_register (number r) ≡ true) × (has_register (number q) ≡ true)
-InRegisters (Swap r q) = (has_register (number r) ≡ true) × (has_register (number q) ≡ true)
-InRegisters (Load r v) = has_register (number r) ≡ true
-InRegisters (Store v r) = has_register (number r) ≡ true
-InRegisters (Set r n) = has_register (number r) ≡ true
+abbrev pub most_moves_before : ℕ
+most_moves_before = 12
 
-abbrev pub most_moves : ℕ
-most_moves = 12
-
--- 5. With n moves directly before this list: at most 12 moves stand before each instruction and before the end.
+-- With n moves directly before this list: at most 12 moves stand before each instruction and before the end.
 abbrev pub FewMoves : ℕ → List LInstr → Type 0
-FewMoves n [] = n ≤ most_moves
+FewMoves n [] = n ≤ most_moves_before
 FewMoves n (placed.Move m ∷ rest) = FewMoves (suc n) rest
-FewMoves n (placed.Op i places ∷ rest) = (n ≤ most_moves) × FewMoves 0 rest
+FewMoves n (placed.Op i places ∷ rest) = (n ≤ most_moves_before) × FewMoves 0 rest
 
 abbrev pub MoveNames : Move → ℕ → Type 0
 MoveNames (Load r u) v = u.0 ≡ v
 MoveNames (Store u r) v = u.0 ≡ v
 MoveNames _ v = ⊥
 
--- 6. `near` is what the variables and arguments say, slots are of local variables, and every number is in range.
+-- `near` is what the variables and arguments say, slots are of local variables, and every number is in range.
 pub record NumbersInRange (p : LProc) : Type 0 where
   pub near_is : p.near ≡ near p.vars p.args
   pub slots_plain : (k : ℕ) (u : VarId) → slice_get p.slots k ≡ Some u → slice_get p.vars u.0 ≡ Some Plain
@@ -86,22 +79,21 @@ pub record NumbersInRange (p : LProc) : Type 0 where
   pub params : (v i : ℕ) → slice_get p.vars v ≡ Some (Param i) → i < p.args
   pub arguments_apart : ArgumentsApart p.vars (bare p)
 
+-- Each rule by its name; the blocks, with moves left out, keep those of selected code. The places are those of the flow: an operand at a
+-- both place is its register, so it is not in memory.
 pub record IsPlaced (p : LProc) : Type 0 where
   pub operands_placed : EachOp p (OperandsPlaced p)
   pub memory_there : MemoryThere p
-  pub last_return : LastReturn (bare p)
-  pub cmp_before_branch : CmpBeforeBranch (bare p)
-  pub pushes_before_calls : PushesBeforeCalls TakesAny (bare p)
-  pub clear_first : ClearFirst p.aggregates (bare p)
-  pub check_range : CheckRange (bare p)
+  pub block_rules : KeepsBlockRules p.aggregates (bare p)
   pub in_registers : EachMove p InRegisters
   pub few_moves : (b : ℕ) (block : LBlock) → slice_get p.blocks b ≡ Some block → FewMoves 0 block.code
   pub numbers_in_range : NumbersInRange p
 
--- of code in a list of procedures: one Push for each parameter
-abbrev pub TakesArgs : List LProc → ℕ → ℕ → Type 0
-TakesArgs procs p n = (callee : LProc) × (slice_get procs p ≡ Some callee) × (n ≡ callee.args)
+abbrev pub counts_of : List LProc → List ℕ
+counts_of procs = map (λ (p : LProc). p.args) procs
 
+-- The procedures of a module together. Procedure 0, the body, is called with no arguments.
 pub record ArePlaced (procs : List LProc) : Type 0 where
   pub each : (p : ℕ) (code : LProc) → slice_get procs p ≡ Some code → IsPlaced code
-  pub pushes_before_calls : (p : ℕ) (code : LProc) → slice_get procs p ≡ Some code → PushesBeforeCalls (TakesArgs procs) (bare code)
+  pub pushes_before_calls : (p : ℕ) (code : LProc) → slice_get procs p ≡ Some code → PushesBeforeCalls (TakesArgs (counts_of procs)) (bare code)
+  pub body : TakesArgs (counts_of procs) 0 0

@@ -2,11 +2,6 @@
 #![tactic(auto)]
 
 pub mod laws;
-mod machine;
 mod placed;
 
-pub use machine::run_placed;
 pub use placed::{LBlock, LInstr, LProc, frame_bytes};
-
-#[cfg(test)]
-mod tests;
