@@ -30,6 +30,7 @@ impl<F: Fn(Event, u32) -> u32> CostModel<F> {
         requires kept { Keeps F.Fn self.now }
         requires depth { depth ≤ deepest }
         ensures value { result ≡ weight_of (weights_of self.now) event depth }
+        ensures small { result ≤ most_weight }
     {
         (self.function)(event, depth)
     }

@@ -37,7 +37,7 @@ place_of-later x ps k l lt =
     ∙ ap (λ n. slice_get (x ∷ ps) n) (let e : l - k ≡ suc (l - suc k) = omega (arith, lt) in e)
     ∙ sym (ap (λ b. cond b (slice_get ps (l - suc k)) None) (le-leb (suc k) l (omega (arith, lt))))
 
-place_of-nil : (k l : ℕ) → place_of [] k l ≡ None
+pub place_of-nil : (k l : ℕ) → place_of [] k l ≡ None
 place_of-nil k l = elim (cases_lt l k) as (λ _. place_of [] k l ≡ None) [
   | inl lt ↦ place_of-early [] k l lt
   | inr le ↦ ap (λ b. cond b (slice_get [] (l - k)) None) (le-leb k l le) ∙ slice_get_past [] (l - k) (omega arith)

@@ -21,9 +21,13 @@ abbrev pub events_from : PlaceTables → Net → Edge → Option Place → List 
 events_from tables net e None = tables.begun (strand_at net e.strand).constant e.to
 events_from tables net e (Some p) = if is_across e then [] else tables.crossbar net.near p e.to
 
+-- what events weigh in a block of this loop depth
+abbrev pub events_weight : Weights → ℕ → List Event → ℕ
+events_weight w depth events = sum_by (λ v. weight_of w v depth) events
+
 abbrev pub edge_cost : PlaceTables → Net → Weights → Edge → ℕ
 edge_cost tables net w e =
-    sum_by (λ v. weight_of w v (depth_at net e.strand)) (events_from tables net e e.from)
+    events_weight w (depth_at net e.strand) (events_from tables net e e.from)
 
 abbrev pub extra_cost : Net → Weights → Extra → ℕ
 extra_cost net w x = weight_of w x.event (depth_at net x.strand)
@@ -52,7 +56,9 @@ place_at net routes s l = place_of (slice_index_or routes.places s []) (strand_a
 abbrev pub is_met : Net → Routes → Extra → Bool
 is_met net routes x = same_start (place_at net routes x.strand x.layer) (Some x.place)
 
+abbrev pub met_cost : Net → Weights → Routes → Extra → ℕ
+met_cost net w routes x = if is_met net routes x then extra_cost net w x else 0
+
 abbrev pub routes_cost : PlaceTables → Net → Weights → Routes → ℕ
 routes_cost tables net w routes =
-    sum_by (edge_cost tables net w) (flow net routes) +
-    sum_by (λ x. if is_met net routes x then extra_cost net w x else 0) net.extras
+    sum_by (edge_cost tables net w) (flow net routes) + sum_by (met_cost net w routes) net.extras
