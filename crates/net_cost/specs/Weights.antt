@@ -43,9 +43,12 @@ number e = (table e).number
 abbrev pub deepest : ℕ
 deepest = 5
 
--- the weight of an event in a block of loop depth d
+-- the weight of the event of a number in a block of loop depth d, and of an event
+abbrev pub weight_at : Weights → ℕ → ℕ → ℕ
+weight_at w n d = slice_index w.list n * w.factor ^ d
+
 abbrev pub weight_of : Weights → Event → ℕ → ℕ
-weight_of w e d = slice_index w.list (number e) * w.factor ^ d
+weight_of w e d = weight_at w (number e) d
 
 -- each weight fits 16 bits, and the factor is 1 or 8
 pub record IsValid (w : Weights) : Type 0 where

@@ -1,9 +1,8 @@
 -- What flows and routes cost.
 use Rattle.std.specs.Prelude.{ℕ, ◌+◌, ◌-◌, ◌*◌, Bool, nat_le, if◌then◌else◌, List, [], Option, None, Some, sum_by, count_by, slice_index_or, slice_get}
 use Rattle.pra_base.specs.declared.ids.Place.{Place}
-use Rattle.net_cost.specs.declared.event.Event.{Event}
 use Rattle.net_cost.specs.declared.weights.Weights.{Weights}
-use Rattle.net_cost.specs.Weights.{weight_of}
+use Rattle.net_cost.specs.Weights.{weight_at, weight_of}
 use Rattle.net_form.specs.declared.net.Extra.{Extra}
 use Rattle.net_form.specs.declared.net.Net.{Net}
 use Rattle.net_form.specs.declared.routes.Routes.{Routes}
@@ -17,13 +16,13 @@ abbrev pub depth_at : Net → ℕ → ℕ
 depth_at net s = (slice_index_or net.blocks (strand_at net s).block.0 no_block).depth
 
 -- what a strand pays to come to a place; an edge across an instruction is no crossbar's
-abbrev pub events_from : PlaceTables → Net → Edge → Option Place → List Event
+abbrev pub events_from : PlaceTables → Net → Edge → Option Place → List ℕ
 events_from tables net e None = tables.begun (strand_at net e.strand).constant e.to
 events_from tables net e (Some p) = if is_across e then [] else tables.crossbar net.near p e.to
 
--- what events weigh in a block of this loop depth
-abbrev pub events_weight : Weights → ℕ → List Event → ℕ
-events_weight w depth events = sum_by (λ v. weight_of w v depth) events
+-- what events, by their numbers, weigh in a block of this loop depth
+abbrev pub events_weight : Weights → ℕ → List ℕ → ℕ
+events_weight w depth events = sum_by (λ n. weight_at w n depth) events
 
 abbrev pub edge_cost : PlaceTables → Net → Weights → Edge → ℕ
 edge_cost tables net w e =

@@ -1,6 +1,5 @@
 pub mod Admitted
 pub mod Cost
-pub mod Crossbar
 pub mod Flow
 pub mod Formed
 pub mod Groups

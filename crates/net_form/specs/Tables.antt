@@ -1,6 +1,6 @@
 -- What depends on which places there are: the masks of operands, the places of a variable, what an operand in memory or
 -- an immediate costs, and what a way between two places costs. Networks and costs are made from one such record.
-use Rattle.std.specs.Prelude.{ℕ, ℤ, pos, negsuc, Bool, nat_le, if◌then◌else◌, List, Option, Some, None}
+use Rattle.std.specs.Prelude.{ℕ, ℤ, pos, negsuc, Bool, nat_le, if◌then◌else◌, List, Option, Some, None, ◌&&◌}
 use Rattle.pra_base.specs.declared.ids.Place.{Place}
 use Rattle.pra_base.specs.declared.code.VarKind.{VarKind}
 use Rattle.pra_base.specs.declared.code.VarKind.TheVariants.{Constant}
@@ -9,7 +9,8 @@ use Rattle.pra_base.specs.declared.code.VInstr.TheVariants.{Set, Copy, Add, Sub,
 use Rattle.pra_base.specs.Operands.{Row, operands, own_places}
 use Rattle.net_cost.specs.declared.event.Event.{Event}
 use Rattle.net_cost.specs.declared.event.Event.TheVariants.{E6, E7, E8, E9, E10, E11, E12}
-use Rattle.net_form.specs.Crossbar.{crossbar, begun}
+use Rattle.pl_moves.specs.Crossbar.{crossbar, only_if, constant_event as constant_move}
+use Rattle.pra_base.specs.Places.{number, has_register}
 
 -- what an operand of an instruction costs more than a register: in memory, near and far, and as an immediate of 8 and of
 -- 32 bits
@@ -66,16 +67,24 @@ abbrev pub constant_event : VarKind → Columns → Option Event
 constant_event (Constant n) c = if is_short n then c.short else c.long
 constant_event _ c = None
 
+-- the way between two places
+abbrev pub way : Bool → Place → Place → List ℕ
+way near p q = crossbar near (number p) (number q)
+
+-- where a strand begins, a constant is made; any other value is there
+abbrev pub begun : Bool → Place → List ℕ
+begun constant q = only_if (constant && has_register (number q)) constant_move
+
 pub record PlaceTables : Type 0 where
   -- the masks of an instruction's roles, and the registers that it destroys
   pub row : VInstr → Row
   -- a variable's own places
   pub own : VarKind → ℕ
   pub extras : VInstr → Columns
-  -- in near code or not, from a place to a place
-  pub crossbar : Bool → Place → Place → List Event
-  -- of a constant or not, at its first place
-  pub begun : Bool → Place → List Event
+  -- the events, by their numbers, of going from a place to a place, in near code or not
+  pub crossbar : Bool → Place → Place → List ℕ
+  -- and of beginning at a place, for a constant or not
+  pub begun : Bool → Place → List ℕ
 
 -- the tables of the fourteen places
 abbrev pub all_tables : PlaceTables
@@ -83,6 +92,6 @@ all_tables = record {
   row = operands;
   own = own_places;
   extras = extra_columns;
-  crossbar = crossbar;
+  crossbar = way;
   begun = begun;
 }

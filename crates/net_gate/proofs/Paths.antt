@@ -1,6 +1,5 @@
 -- One path more, by the number of its strand.
-use Rattle.std.proofs.Common.{ℕ, zero, suc, ◌≡◌, ◌+◌, ◌<◌, ◌≤◌, List, [], ◌∷◌, ◌++◌, length, get_or, drop, sum_by, None, refl, sym, ap, ◌∙◌, subst, arith, add-one, drop-cons}
-use Rattle.std.proofs.lemmas.List.{get_or_default}
+use Rattle.std.proofs.Common.{ℕ, zero, suc, ◌≡◌, ◌+◌, ◌<◌, ◌≤◌, List, [], ◌∷◌, ◌++◌, length, get_or, drop, sum_by, false, Some, None, refl, ap, ◌∙◌, arith, add-one, drop-cons}
 use Rattle.std.proofs.lemmas.List.Sums.{sum_by-append, get_or-le-sum_by}
 use Rattle.pra_base.specs.declared.ids.Place.{Place}
 use Rattle.net_form.specs.declared.net.NetBlock.{NetBlock}
@@ -8,8 +7,12 @@ use Rattle.net_form.specs.declared.net.Strand.{Strand}
 use Rattle.net_form.specs.declared.net.Net.{Net}
 use Rattle.net_form.specs.declared.routes.Routes.{Routes}
 use Rattle.net_form.specs.Admitted.{strand_at, no_strand}
-use Rattle.net_form.specs.Flow.{Edge, edges, flow_from, HasPlaces, AreRoutes}
-use Rattle.net_form.specs.Formed.{IsFormed, IsStrandOf, no_block, most_layers}
+use Rattle.net_form.specs.declared.net.Extra.{Extra}
+use Rattle.net_form.specs.Cost.{place_of, is_met}
+use Rattle.net_form.specs.Flow.{Edge, edges, flow_from, HasPlaces, AreRoutes, same_start}
+use Rattle.net_form.proofs.RoutesConserve.{as_many}
+use Rattle.net_form.proofs.RoutesCost.{place_of-nil}
+use Rattle.net_form.specs.Formed.{IsFormed, no_block, most_layers}
 
 pub flow_drop : (ts : List Strand) (rs : List (List Place)) (i : ℕ) (d : Strand) (e : List Place) → i < length ts → i < length rs
     → flow_from i (drop i ts) (drop i rs) ≡ edges i (get_or ts i d).first None (get_or rs i e) ++ flow_from (i + 1) (drop (i + 1) ts) (drop (i + 1) rs)
@@ -43,3 +46,15 @@ path_few net routes s e formed has lt =
     let long = places_at net.strands routes.places s no_strand e has lt in
     let last = last_below net s formed lt in
     omega (arith, long, last)
+
+-- an extra of no strand is not met
+pub unmet : (net : Net) (routes : Routes) (x : Extra) → AreRoutes net routes → length net.strands ≤ x.strand → is_met net routes x ≡ false
+unmet net routes x has le =
+    let n = as_many net.strands routes.places has in
+    ap (λ r. same_start (place_of r (strand_at net x.strand).first x.layer) (Some x.place)) (past routes.places x.strand (omega (arith, n, le)))
+    ∙ ap (λ o. same_start o (Some x.place)) (place_of-nil (strand_at net x.strand).first x.layer)
+  where
+    past : (rs : List (List Place)) (s : ℕ) → length rs ≤ s → get_or rs s [] ≡ []
+    past [] s le = refl
+    past (r ∷ rs) zero le = absurd (omega (arith, le))
+    past (r ∷ rs) (suc s) le = past rs s (omega (arith, le))

@@ -1,11 +1,14 @@
 // What routes cost.
 
-ghost use Rattle.std.specs.Prelude.{◌≡◌, ◌≤◌, ◌<◌, ◌+◌, ◌*◌, length, sum_by, None, Some};
+ghost use Rattle.std.specs.Prelude.{not, ◌&&◌, [], if◌then◌else◌, ◌≡◌, ◌≤◌, ◌<◌, ◌+◌, ◌*◌, length, sum_by, None, Some, IsTrue};
 ghost use Rattle.net_cost.specs.Models.{Keeps, weights_of};
 ghost use Rattle.net_cost.specs.Weights.{deepest, most_weight};
 ghost use Rattle.net_form.specs.Admitted.{strand_at};
 ghost use Rattle.net_form.specs.Cost.{events_weight, edge_cost, met_cost, cost_of, depth_at, place_at};
-ghost use Rattle.net_form.specs.Crossbar.{register, to_register, to_memory, crossbar, begun};
+ghost use Rattle.net_cost.specs.Weights.{number as event_number};
+ghost use Rattle.pl_moves.specs.Crossbar.{load_event, store_event, brings, only_if};
+ghost use Rattle.pra_base.specs.Places.{number, has_register, needs_slot};
+ghost use Rattle.net_form.specs.Tables.{way, begun};
 ghost use Rattle.net_form.specs.Flow.{edges, flow, AreRoutes, same_start};
 ghost use Rattle.net_form.specs.Formed.{IsFormed, most_layers};
 ghost use Rattle.net_form.specs.Tables.{all_tables};
@@ -14,7 +17,21 @@ use net_cost::{CostModel, Event};
 use net_form::{Extra, Net, Routes};
 use pra_base::Place;
 
-// What it weighs to bring a value from a place into the register of another, if that has one.
+// A move from memory to a register.
+fn load(near: bool) -> Event
+    ensures { event_number result ≡ load_event near }
+{
+    if near { Event::E1 } else { Event::E3 }
+}
+
+// A move from a register to memory.
+fn store(near: bool) -> Event
+    ensures { event_number result ≡ store_event near }
+{
+    if near { Event::E2 } else { Event::E4 }
+}
+
+// What it weighs to bring a value from a place into the register of another.
 fn register_cost<F: Fn(Event, u32) -> u32>(
     model: &CostModel<F>,
     near: bool,
@@ -24,13 +41,11 @@ fn register_cost<F: Fn(Event, u32) -> u32>(
 ) -> u64
     requires kept { Keeps F.Fn model.now }
     requires depth { depth ≤ deepest }
+    requires register { IsTrue (has_register (number to)) }
     ensures value { result ≡
-        events_weight (weights_of model.now) depth (to_register near from (register to)) }
+        events_weight (weights_of model.now) depth (brings near (number from) (number to)) }
     ensures small { result ≤ most_weight }
 {
-    if !to.has_register() {
-        return 0;
-    }
     if from.has_register() {
         if from.register() == to.register() {
             return 0;
@@ -38,34 +53,9 @@ fn register_cost<F: Fn(Event, u32) -> u32>(
         return model.ask(Event::E0, depth) as u64;
     }
     if from.needs_slot() {
-        let load = if near { Event::E1 } else { Event::E3 };
-        return model.ask(load, depth) as u64;
+        return model.ask(load(near), depth) as u64;
     }
-    if from.is_const() {
-        return model.ask(Event::E5, depth) as u64;
-    }
-    0
-}
-
-// What it weighs to bring a value from a place into memory, if the other place is there.
-fn memory_cost<F: Fn(Event, u32) -> u32>(
-    model: &CostModel<F>,
-    near: bool,
-    depth: u32,
-    from: Place,
-    to: Place,
-) -> u64
-    requires kept { Keeps F.Fn model.now }
-    requires depth { depth ≤ deepest }
-    ensures value { result ≡
-        events_weight (weights_of model.now) depth (to_memory near from to) }
-    ensures small { result ≤ most_weight }
-{
-    if to.needs_slot() && !from.needs_slot() && !from.is_const() {
-        let store = if near { Event::E2 } else { Event::E4 };
-        return model.ask(store, depth) as u64;
-    }
-    0
+    model.ask(Event::E5, depth) as u64
 }
 
 // What it weighs to go from a place to another.
@@ -79,10 +69,17 @@ fn crossbar_cost<F: Fn(Event, u32) -> u32>(
     requires kept { Keeps F.Fn model.now }
     requires depth { depth ≤ deepest }
     ensures value { result ≡
-        events_weight (weights_of model.now) depth (crossbar near from to) }
+        events_weight (weights_of model.now) depth (way near from to) }
     ensures small { result ≤ 2 * most_weight }
 {
-    register_cost(model, near, depth, from, to) + memory_cost(model, near, depth, from, to)
+    let mut total = 0;
+    if to.has_register() {
+        total += register_cost(model, near, depth, from, to);
+    }
+    if to.needs_slot() && !from.needs_slot() {
+        total += model.ask(store(near), depth) as u64;
+    }
+    total
 }
 
 // What it weighs that a strand begins at a place.
@@ -171,17 +168,13 @@ fn path_cost<F: Fn(Event, u32) -> u32>(
 }
 
 // What all paths weigh.
-fn paths_cost<F: Fn(Event, u32) -> u32>(
-    net: &Net,
-    model: &CostModel<F>,
-    routes: &Routes,
-) -> u128
+fn paths_cost<F: Fn(Event, u32) -> u32>(net: &Net, model: &CostModel<F>, routes: &Routes) -> u128
     requires kept { Keeps F.Fn model.now }
     requires net { IsFormed net.now }
     requires routes { AreRoutes net.now routes.now }
     ensures value { result ≡
         sum_by (edge_cost all_tables net.now (weights_of model.now)) (flow net.now routes.now) }
-    ensures small { result ≤ 2 * most_weight * most_layers * length net.now.strands }
+    ensures small { result ≤ 2 * most_weight * most_layers * usize.MAX }
 {
     let mut total = 0u128;
     for at in 0..net.strands.len() {
@@ -239,16 +232,12 @@ fn met_cost<F: Fn(Event, u32) -> u32>(
 }
 
 // What all extras weigh whose places are met.
-fn extras_cost<F: Fn(Event, u32) -> u32>(
-    net: &Net,
-    model: &CostModel<F>,
-    routes: &Routes,
-) -> u128
+fn extras_cost<F: Fn(Event, u32) -> u32>(net: &Net, model: &CostModel<F>, routes: &Routes) -> u128
     requires kept { Keeps F.Fn model.now }
     requires net { IsFormed net.now }
     requires routes { AreRoutes net.now routes.now }
     ensures value { result ≡ sum_by (met_cost net.now (weights_of model.now) routes.now) net.now.extras }
-    ensures small { result ≤ most_weight * length net.now.extras }
+    ensures small { result ≤ most_weight * usize.MAX }
 {
     let mut total = 0u128;
     let mut rest = net.extras.as_slice();
