@@ -1,26 +1,27 @@
 -- The network of sized code is formed.
-use Rattle.std.proofs.Common.{ℕ, zero, suc, ◌≡◌, ◌+◌, ◌-◌, ◌*◌, ◌<◌, ◌≤◌, Bool, true, cond, List, [], ◌∷◌, length, All, map, refl, sym, ap, subst, arith}
+use Rattle.std.proofs.Common.{ℕ, zero, suc, ◌≡◌, ◌+◌, ◌-◌, ◌*◌, ◌^◌, ◌<◌, ◌≤◌, Bool, true, cond, List, [], ◌∷◌, length, All, map, sum_by, refl, sym, ap, ◌∙◌, subst, arith}
 use Rattle.std.specs.Prelude.{slice_index_or}
 use Rattle.std.specs.List.{range_with_len, prefix_len, enumerate_from}
 use Rattle.std.proofs.lemmas.Bool.{and_parts}
 use Rattle.std.proofs.lemmas.List.{get_or-map, length-map}
 use Rattle.std.proofs.lemmas.List.Elements.{All-map, All-from_get_or, All-weaker}
-use Rattle.std.proofs.lemmas.List.FromFn.{length-map-range_with_len, length-range_with_len}
+use Rattle.std.proofs.lemmas.List.FromFn.{length-map-range_with_len, length-range_with_len, fill_by_all, length-enumerate_from}
+use Rattle.std.proofs.lemmas.Nat.{mul-le}
 use Rattle.std.proofs.lemmas.List.Sums.{prefix_len-le-length, sum_by-cons}
 use Rattle.pra_base.specs.declared.code.Block.{Block}
 use Rattle.pra_base.specs.declared.code.VProc.{VProc}
-use Rattle.pra_base.specs.Code.{no_block as no_code}
+use Rattle.pra_base.specs.Code.{block_of, no_block as no_code}
 use Rattle.pra_base.specs.Valid.{IsSized, instruction_count}
 use Rattle.net_form.specs.declared.net.NetBlock.{NetBlock}
 use Rattle.net_form.specs.declared.net.Strand.{Strand}
 use Rattle.net_form.specs.declared.net.Tie.{Tie}
 use Rattle.net_form.specs.declared.net.Net.{Net}
 use Rattle.net_form.specs.Tables.{PlaceTables}
-use Rattle.net_form.specs.Strands.{Lives, layer_count, is_present, begins, run_from, mask_at, strand, begun_strand, layer_strands, block_strands, strands}
+use Rattle.net_form.specs.Strands.{Lives, layer_count, is_present, begins, run_from, mask_at, strand, begun_strand, layer_strands, block_strands, strands, layers_of}
 use Rattle.net_form.specs.Network.{net_block, ties, grouped, IsNetBy}
 use Rattle.net_form.specs.Formed.{IsStrandOf, IsFormed, no_block}
 use Rattle.net_form.specs.Rooms.{layer_total}
-use Rattle.net_form.proofs.Comprehensions.{All-filter_map, All-flat_map, All-range, All-enumerate, IfSome-test}
+use Rattle.net_form.proofs.Comprehensions.{All-filter_map, All-flat_map, All-range, All-enumerate, IfSome-test, length-filter_map, length-flat_map, sum_by-map, ones}
 
 -- a run that begins where the test holds is not empty
 prefix_len-yes : (p : ℕ → Bool) → (l n : ℕ) → 0 < n → p l ≡ true → 0 < prefix_len p (range_with_len l n)
@@ -80,10 +81,42 @@ total_layers (b ∷ bs) =
     let two = sum_by-cons (λ (k : Block). length k.code) b bs in
     omega (arith, more, one, two)
 
+module _ (tables : PlaceTables) (code : VProc) (live : Lives) where
+  layer_few : (b l : ℕ) → length (layer_strands tables code live b l) ≤ length code.vars * 1
+  layer_few b l =
+      let most = length-filter_map (begun_strand tables code live b l) (range_with_len 0 (length code.vars)) in
+      let long = length-range_with_len 0 (length code.vars) in
+      omega (arith, most, long)
+
+  block_few : (b : ℕ) → length (block_strands tables code live b) ≤ length code.vars * layer_count code b
+  block_few b =
+      let most = length-flat_map (layer_strands tables code live b) (λ _. 1) (length code.vars) (range_with_len 0 (layer_count code b)) (layer_few b) in
+      let layers = ones (range_with_len 0 (layer_count code b)) ∙ length-range_with_len 0 (layer_count code b) in
+      subst (λ n. length (block_strands tables code live b) ≤ length code.vars * n) layers most
+
+  all_layers : sum_by (layer_count code) (range_with_len 0 (length code.blocks)) ≡ layer_total (map net_block code.blocks)
+  all_layers =
+      sym (sum_by-map layers_of (block_of code) (range_with_len 0 (length code.blocks)))
+      ∙ sym (ap (sum_by layers_of) (fill_by_all (block_of code) code.blocks (length code.blocks) no_code refl (λ k _. refl)))
+      ∙ sym (sum_by-map (λ (k : NetBlock). k.layers) net_block code.blocks)
+
+  few_strands : IsSized code → length (strands tables code live) < 2 ^ 32
+  few_strands sized =
+      let most = length-flat_map (block_strands tables code live) (layer_count code) (length code.vars) (range_with_len 0 (length code.blocks)) block_few in
+      let total = all_layers ∙ total_layers code.blocks in
+      let a = sized.instructions in
+      let b = sized.blocks in
+      let few = mul-le (length code.vars) (sum_by (layer_count code) (range_with_len 0 (length code.blocks))) 16383 24838 sized.variables (omega (arith, total, a, b)) in
+      omega (arith, most, few)
+
 pub formed : (tables : PlaceTables) (code : VProc) (net : Net) → IsNetBy tables code net → IsSized code → IsFormed net
 unfolding blocks
 formed tables code net is sized = subst IsFormed (sym is.is) (record {
   strands = formed_groups tables code is.live (ties code (strands tables code is.live)) is.least;
+  few = let same = length-map (enumerate_from 0 (strands tables code is.live)) (grouped (ties code (strands tables code is.live)) is.least) in
+      let long = length-enumerate_from 0 (strands tables code is.live) in
+      let few = few_strands tables code is.live sized in
+      omega (arith, same, long, few);
   layers = let total = total_layers code.blocks in let a = sized.instructions in let b = sized.blocks in omega (arith, total, a, b);
   depths = All-map (λ (k : NetBlock). k.depth ≤ 5) net_block code.blocks
       (All-from_get_or (λ (k : Block). k.depth ≤ 5) code.blocks no_code (λ i _. sized.depths i));

@@ -1,5 +1,5 @@
 -- What every network of sized code is, as far as numbers go.
-use Rattle.std.specs.Prelude.{◌≡◌, ℕ, ◌+◌, ◌<◌, ◌≤◌, List, map, length, slice_index_or, All}
+use Rattle.std.specs.Prelude.{◌≡◌, ℕ, ◌+◌, ◌<◌, ◌≤◌, List, map, length, slice_index_or, All, ◌^◌}
 use Rattle.std.specs.List.{range_with_len}
 use Rattle.net_form.specs.declared.net.NetBlock.{NetBlock}
 use Rattle.net_form.specs.declared.net.Strand.{Strand}
@@ -27,6 +27,7 @@ most_depth = 5
 
 pub record IsFormed (net : Net) : Type 0 where
   pub strands : All (IsStrandOf net.blocks) net.strands
+  pub few : length net.strands < 2 ^ 32
   pub layers : layer_total net.blocks ≤ most_layers
   pub depths : All (λ b. b.depth ≤ most_depth) net.blocks
   pub first_layers : net.index.layers ≡ map (first_layer net.blocks) (range_with_len 0 (length net.blocks + 1))

@@ -6,12 +6,14 @@ ghost use Rattle.pra_base.specs.Valid.{IsSized};
 ghost use Rattle.net_cost.specs.declared.weights.Weights.{Weights};
 ghost use Rattle.net_form.specs.declared.net.Net.{Net};
 ghost use Rattle.net_form.specs.declared.routes.Routes.{Routes};
-ghost use Rattle.net_form.specs.Tables.{PlaceTables};
-ghost use Rattle.net_form.specs.Network.{IsNetBy};
+ghost use Rattle.net_form.specs.Tables.{PlaceTables, all_tables};
+ghost use Rattle.net_form.specs.Examples.{write_constant, write_constant_live, write_constant_net, set_add_write, set_add_write_live, set_add_write_net, in_register_routes, in_memory_routes};
+ghost use Rattle.net_cost.specs.Weights.{size_weights, speed_weights};
+ghost use Rattle.net_form.specs.Network.{IsNetBy, net_of};
 ghost use Rattle.net_form.specs.Formed.{IsFormed};
 ghost use Rattle.net_form.specs.Flow.{Edge, Conserves, flow, AreRoutes};
 ghost use Rattle.net_form.specs.Admitted.{IsAdmitted};
-ghost use Rattle.net_form.specs.Cost.{cost_by, routes_cost};
+ghost use Rattle.net_form.specs.Cost.{cost_by, cost_of, routes_cost};
 
 /// Code has one network.
 pub fn code_has_one_network()
@@ -45,4 +47,17 @@ pub fn routes_cost_their_flow()
         routes_cost tables net w routes ≡ cost_by tables net w (flow net routes) }
     ensures order { (tables : PlaceTables) (net : Net) (w : Weights) (f g : List Edge) →
         IsPermutation f g → cost_by tables net w g ≡ cost_by tables net w f }
+{}
+
+/// The network of a Write of a constant and an end of line.
+pub fn network_write_constant()
+    ensures { net_of all_tables write_constant write_constant_live (λ e. e) ≡ write_constant_net }
+{}
+
+/// The network of a Set, an Add of a constant and a Write, and what routes cost in it.
+pub fn network_set_add_write()
+    ensures network { net_of all_tables set_add_write set_add_write_live (λ e. e) ≡ set_add_write_net }
+    ensures register_size { cost_of set_add_write_net size_weights (flow set_add_write_net in_register_routes) ≡ 1 }
+    ensures memory_size { cost_of set_add_write_net size_weights (flow set_add_write_net in_memory_routes) ≡ 7 }
+    ensures memory_speed { cost_of set_add_write_net speed_weights (flow set_add_write_net in_memory_routes) ≡ 7 }
 {}
