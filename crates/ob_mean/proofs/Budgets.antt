@@ -12,13 +12,15 @@ use Rattle.ob_syntax.specs.declared.checked.Checked.{Checked}
 use Rattle.ob_syntax.specs.declared.checked.Value.{Value}
 use Rattle.ob_syntax.specs.declared.checked.RStmt.{RStmt, RStmt-F, roll-RStmt, map-RStmt, ind-RStmt}
 use Rattle.ob_syntax.specs.declared.checked.RArm.{RArm, roll-RArm}
+use Rattle.ob_mean.specs.declared.store.Argument.{Argument}
+use Rattle.ob_mean.specs.declared.store.Argument.TheVariants.{Passed, Lent}
 use Rattle.ob_mean.specs.declared.store.Location.{Location}
 use Rattle.ob_mean.specs.declared.store.LiveCall.{LiveCall}
 use Rattle.ob_mean.specs.Designators.{depth}
 use Rattle.ob_mean.specs.Expressions.{Evaluation, value, location}
-use Rattle.ob_mean.specs.Statements.{State, Completion, Normal, Trapped, Going, Run, then_do, with, store_at, written, read_to, while_turns, repeat_turns, Argument, Around, Execution, Arm, in_turn, on_state, chosen, arguments, stmt_step, exec, exec_all}
+use Rattle.ob_mean.specs.Statements.{State, Completion, Normal, Trapped, Going, Run, then_do, with, store_at, written, read_to, while_turns, repeat_turns, Around, Execution, Arm, in_turn, on_state, chosen, arguments, stmt_step, arm_of, exec, exec_all}
 use Rattle.ob_mean.specs.Program.{on_stack, live_frames, frame_of, call_with, entered, body, around, only_body, start, progress_of, completion, mean}
-use Rattle.ob_mean.proofs.Equations.{arm_of, exec_roll, arm_of_roll}
+use Rattle.ob_mean.proofs.Equations.{exec_roll, arm_of_roll}
 
 -- what was done before a state
 abbrev pub done : State → Progress OutEvent RunEnd

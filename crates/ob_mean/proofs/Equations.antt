@@ -19,7 +19,7 @@ use Rattle.ob_mean.specs.declared.store.LiveCall.{LiveCall}
 use Rattle.ob_mean.specs.Store.{Store, read}
 use Rattle.ob_mean.specs.Designators.{shape_of, start_of, Field, Element, designated}
 use Rattle.ob_mean.specs.Expressions.{Evaluation, Selecting, Designation, at_store, expr_step, selector_step, variable_step, value, selector, designation, location}
-use Rattle.ob_mean.specs.Statements.{State, Normal, Run, then_do, with, store_at, written, read_to, while_turns, repeat_turns, Around, Execution, Arm, in_turn, on_state, chosen, arguments, stmt_step, arm_step, exec, exec_all}
+use Rattle.ob_mean.specs.Statements.{State, Normal, Run, then_do, with, store_at, written, read_to, while_turns, repeat_turns, Around, Execution, Arm, in_turn, on_state, chosen, arguments, stmt_step, arm_step, arm_of, exec, exec_all}
 
 module _ (program : Checked) where
   value_roll : (e : RExpr-F RExpr RStep RVar) → value program (roll-RExpr e) ≡ expr_step (map-RExpr RExpr RStep RVar Evaluation Selecting Designation (value program) (selector program) (designation program) e)
@@ -43,13 +43,10 @@ module _ (program : Checked) where
   })
   designation-is v = fold_out-RVar Evaluation Selecting Designation expr_step selector_step (variable_step program) v
 
-  abbrev pub arm_of : RArm → Arm
-  arm_of = fold-RArm Execution Arm (stmt_step program) (arm_step program)
-
-  pub exec_roll : (y : RStmt-F RStmt RArm) → exec program (roll-RStmt y) ≡ stmt_step program (map-RStmt RStmt RArm Execution Arm (exec program) arm_of y)
+  pub exec_roll : (y : RStmt-F RStmt RArm) → exec program (roll-RStmt y) ≡ stmt_step program (map-RStmt RStmt RArm Execution Arm (exec program) (arm_of program) y)
   exec_roll = fold-roll-RStmt Execution Arm (stmt_step program) (arm_step program)
 
-  pub arm_of_roll : (y : RArm-F RStmt RArm) → arm_of (roll-RArm y) ≡ (value program y.test, map (exec program) y.body)
+  pub arm_of_roll : (y : RArm-F RStmt RArm) → arm_of program (roll-RArm y) ≡ (value program y.test, map (exec program) y.body)
   arm_of_roll = fold-roll-RArm Execution Arm (stmt_step program) (arm_step program)
 
   pub value-Number : (n : ℤ) (calls : List LiveCall) (s : Store) → value program (x.Number n) calls s ≡ Ok (Number n)
@@ -72,13 +69,13 @@ module _ (program : Checked) where
   in_turn-all [] a = refl
   in_turn-all (first ∷ ts) a = ap {B = Run} (λ (k : Run) s. then_do (exec program first a s) k) (in_turn-all ts a)
 
-  pub arm-is : (test : RExpr) (body : List RStmt) → arm_of (roll-RArm (record { test = test; body = body })) ≡ (value program test, map (exec program) body)
+  pub arm-is : (test : RExpr) (body : List RStmt) → arm_of program (roll-RArm (record { test = test; body = body })) ≡ (value program test, map (exec program) body)
   arm-is test body = arm_of_roll (record { test = test; body = body })
 
   pub exec-Assign : (v : RVar) (e : RExpr) (a : Around) (s : State) → exec program (t.Assign v e) a s ≡ with (location program v a.calls s.store) s (λ l. with (value program e a.calls s.store) s (λ y. Normal (store_at s l y)))
   exec-Assign v e a s = ap (λ z. exec program z a s) (sym (t.rolls-Assign v e)) ∙ ap (λ f. f a s) (exec_roll (RStmt-F.Assign v e))
 
-  pub exec-If : (arms : List RArm) (other : List RStmt) (a : Around) (s : State) → exec program (t.If arms other) a s ≡ chosen (map arm_of arms) (map (exec program) other) a s
+  pub exec-If : (arms : List RArm) (other : List RStmt) (a : Around) (s : State) → exec program (t.If arms other) a s ≡ chosen (map (arm_of program) arms) (map (exec program) other) a s
   exec-If arms other a s = ap (λ z. exec program z a s) (sym (t.rolls-If arms other)) ∙ ap (λ f. f a s) (exec_roll (RStmt-F.If arms other))
 
   pub exec-While : (test : RExpr) (body : List RStmt) (a : Around) (s : State) → exec program (t.While test body) a s ≡ while_turns a.turns (on_state (value program test) a) (exec_all program body a) s

@@ -11,8 +11,9 @@ use Rattle.std.specs.FinMap as map
 use Rattle.ob_syntax.specs.declared.checked.Value.{Value}
 use Rattle.ob_mean.specs.declared.store.Object.{Object}
 use Rattle.ob_mean.specs.declared.store.Object.TheVariants.{Module, Param, Local}
+use Rattle.ob_mean.specs.declared.store.Argument.{Argument}
+use Rattle.ob_mean.specs.declared.store.Argument.TheVariants.{Passed, Lent}
 use Rattle.ob_mean.specs.declared.store.Location.{Location}
-use Rattle.ob_mean.specs.Statements.{Argument, Passed, Lent}
 use Rattle.ob_mean.specs.Program.{passed, entered}
 use Rattle.ob_mean.specs.Store.{Store, whole, within, key_in, key, location_cmp, read, assigned, is_at_depth, begun}
 

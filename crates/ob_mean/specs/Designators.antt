@@ -31,9 +31,12 @@ abbrev pub element_type : Shape → ℕ
 element_type (shape.Array count element) = element
 element_type _ = 0
 
+abbrev pub field_types : Shape → List ℕ
+field_types (shape.Record fields) = fields
+field_types _ = []
+
 abbrev pub field_type : Shape → ℕ → ℕ
-field_type (shape.Record fields) k = slice_index fields k
-field_type _ k = 0
+field_type shape k = slice_index (field_types shape) k
 
 -- Every variable starts at 0 or FALSE.
 abbrev pub start_of : Shape → Value

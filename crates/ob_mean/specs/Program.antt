@@ -10,11 +10,13 @@ use Rattle.ob_syntax.specs.declared.checked.Checked.{Checked}
 use Rattle.ob_syntax.specs.declared.checked.CheckedProc.{CheckedProc}
 use Rattle.ob_syntax.specs.declared.checked.RStmt.{RStmt}
 use Rattle.ob_mean.specs.declared.store.Object.TheVariants.{Param}
+use Rattle.ob_mean.specs.declared.store.Argument.{Argument}
+use Rattle.ob_mean.specs.declared.store.Argument.TheVariants.{Passed, Lent}
 use Rattle.ob_mean.specs.declared.store.Location.{Location}
 use Rattle.ob_mean.specs.declared.store.LiveCall.{LiveCall}
 use Rattle.ob_mean.specs.Store.{Store, new_store, whole, assigned, begun}
 use Rattle.ob_mean.specs.Designators.{depth}
-use Rattle.ob_mean.specs.Statements.{State, Completion, Normal, Trapped, Going, Argument, Passed, Lent, Around, exec_all}
+use Rattle.ob_mean.specs.Statements.{State, Completion, Normal, Trapped, Going, Run, Around, exec_all}
 
 -- ---- the stack
 
@@ -64,23 +66,22 @@ body_of (Some proc) = proc.body
 abbrev pub body : Checked → ℕ → List RStmt
 body program proc = body_of (slice_get program.procs proc)
 
--- Under these live calls loops take so many turns, and calls stand so much deeper. A call does the
--- body of its procedure.
-abbrev pub around : Checked → List ℕ → (turns deeper : ℕ) → List LiveCall → Around
-around program frames turns zero calls = record {
-  turns = turns;
-  calls = calls;
-  call = λ proc args s. on_stack frames calls proc s (Going s);
-}
-around program frames turns (suc deeper) calls = record {
-  turns = turns;
-  calls = calls;
-  call = λ proc args s.
-      on_stack frames calls proc s
+-- What a call does under these live calls, where each loop takes so many turns, and calls stand so
+-- much deeper: the body of its procedure.
+abbrev pub called :
+    Checked → List ℕ → (turns deeper : ℕ) → List LiveCall → ℕ → List Argument → Run
+called program frames turns zero calls proc args s = on_stack frames calls proc s (Going s)
+called program frames turns (suc deeper) calls proc args s =
+    let calls' = call_with proc args ∷ calls in
+    on_stack frames calls proc s
       (exec_all program (body program proc)
-      (around program frames turns deeper (call_with proc args ∷ calls))
-      (record s { store = entered (suc (depth calls)) args s.store }));
-}
+        (record { turns = turns; calls = calls'; call = called program frames turns deeper calls' })
+        (record s { store = entered (suc (depth calls)) args s.store }))
+
+-- what is around the statements of the running call
+abbrev pub around : Checked → List ℕ → (turns deeper : ℕ) → List LiveCall → Around
+around program frames turns deeper calls =
+    record { turns = turns; calls = calls; call = called program frames turns deeper calls }
 
 -- ---- the whole
 

@@ -13,7 +13,9 @@ use Rattle.ob_syntax.specs.declared.checked.Value.TheVariants.{Number}
 use Rattle.ob_syntax.specs.declared.checked.RArg.{RArg}
 use Rattle.ob_syntax.specs.declared.checked.RArg.TheVariants as arg
 use Rattle.ob_syntax.specs.declared.checked.RStmt.{RStmt, RStmt-F, fold-RStmt}
-use Rattle.ob_syntax.specs.declared.checked.RArm.{RArm-F}
+use Rattle.ob_syntax.specs.declared.checked.RArm.{RArm, RArm-F, fold-RArm}
+use Rattle.ob_mean.specs.declared.store.Argument.{Argument}
+use Rattle.ob_mean.specs.declared.store.Argument.TheVariants.{Passed, Lent}
 use Rattle.ob_mean.specs.declared.store.Location.{Location}
 use Rattle.ob_mean.specs.declared.store.LiveCall.{LiveCall}
 use Rattle.ob_mean.specs.Store.{Store, assigned}
@@ -83,12 +85,6 @@ repeat_turns (suc n) body test s =
 
 -- ---- what is around a statement
 
--- an argument: the value that a parameter starts with, or the location that is lent to a VAR
--- parameter
-pub data Argument : Type 0 where
-  Passed : Value → Argument
-  Lent : Location → Argument
-
 -- how many turns each loop may take, the live calls, and what a call of a procedure does
 pub record Around : Type 0 where
   pub turns : ℕ
@@ -152,6 +148,9 @@ stmt_step program RStmt-F.WriteLine a s = Normal (written s event.Line)
 
 abbrev pub arm_step : Checked → RArm-F Execution Arm → Arm
 arm_step program arm = (value program arm.test, arm.body)
+
+abbrev pub arm_of : Checked → RArm → Arm
+arm_of program = fold-RArm Execution Arm (stmt_step program) (arm_step program)
 
 -- What a statement does.
 abbrev pub exec : Checked → RStmt → Execution

@@ -13,7 +13,8 @@ ghost use Rattle.ob_mean.specs.declared.store.Location.{Location};
 ghost use Rattle.ob_mean.specs.declared.store.Object.TheVariants.{Param, Local};
 ghost use Rattle.ob_mean.specs.Designators.{root_location, start_of};
 ghost use Rattle.ob_mean.specs.Program.{call_with, entered, mean};
-ghost use Rattle.ob_mean.specs.Statements.{Argument, Passed, Lent};
+ghost use Rattle.ob_mean.specs.declared.store.Argument.{Argument};
+ghost use Rattle.ob_mean.specs.declared.store.Argument.TheVariants.{Passed, Lent};
 ghost use Rattle.ob_mean.specs.Store.{Store, whole, part, within, read, assigned, is_at_depth};
 
 /// A greater budget keeps an ending, and where there is none it prolongs what is written and the

@@ -68,4 +68,4 @@
 pub mod laws;
 pub mod store;
 
-pub use store::{LiveCall, Location, Object};
+pub use store::{Argument, LiveCall, Location, Object};

@@ -1,5 +1,6 @@
 // Where values are kept while a module runs: no addresses and no words.
 
+use ob_syntax::Value;
 use pra_base::ProcId;
 use pra_list::Seq;
 
@@ -28,4 +29,12 @@ pub struct Location {
 pub struct LiveCall {
     pub proc: ProcId,
     pub lent: Seq<Option<Location>>,
+}
+
+/// What a call gives a parameter: the value that it starts with, or the location that is lent to a
+/// VAR parameter.
+#[derive(Drop)]
+pub enum Argument {
+    Passed(Value),
+    Lent(Location),
 }
