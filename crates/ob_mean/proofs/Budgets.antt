@@ -13,7 +13,6 @@ use Rattle.ob_syntax.specs.declared.checked.Value.{Value}
 use Rattle.ob_syntax.specs.declared.checked.RStmt.{RStmt, RStmt-F, roll-RStmt, map-RStmt, ind-RStmt}
 use Rattle.ob_syntax.specs.declared.checked.RArm.{RArm, roll-RArm}
 use Rattle.ob_mean.specs.declared.store.Argument.{Argument}
-use Rattle.ob_mean.specs.declared.store.Argument.TheVariants.{Passed, Lent}
 use Rattle.ob_mean.specs.declared.store.Location.{Location}
 use Rattle.ob_mean.specs.declared.store.LiveCall.{LiveCall}
 use Rattle.ob_mean.specs.Designators.{depth}

@@ -14,7 +14,7 @@ use Rattle.ob_syntax.specs.declared.checked.RExpr.TheVariants as x
 use Rattle.ob_syntax.specs.declared.checked.RStep.{RStep, RStep-F, roll-RStep, map-RStep, fold-roll-RStep}
 use Rattle.ob_syntax.specs.declared.checked.RVar.{RVar, fold_out-RVar}
 use Rattle.ob_syntax.specs.declared.checked.RStmt.{RStmt, RStmt-F, roll-RStmt, fold-roll-RStmt, map-RStmt}
-use Rattle.ob_syntax.specs.declared.checked.RArm.{RArm, RArm-F, roll-RArm, fold-RArm, fold-roll-RArm}
+use Rattle.ob_syntax.specs.declared.checked.RArm.{RArm, RArm-F, roll-RArm, fold-roll-RArm}
 use Rattle.ob_mean.specs.declared.store.LiveCall.{LiveCall}
 use Rattle.ob_mean.specs.Store.{Store, read}
 use Rattle.ob_mean.specs.Designators.{shape_of, start_of, Field, Element, designated}

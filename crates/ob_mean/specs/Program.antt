@@ -74,9 +74,9 @@ called program frames turns zero calls proc args s = on_stack frames calls proc 
 called program frames turns (suc deeper) calls proc args s =
     let calls' = call_with proc args ∷ calls in
     on_stack frames calls proc s
-      (exec_all program (body program proc)
-        (record { turns = turns; calls = calls'; call = called program frames turns deeper calls' })
-        (record s { store = entered (suc (depth calls)) args s.store }))
+    (exec_all program (body program proc)
+    (record { turns = turns; calls = calls'; call = called program frames turns deeper calls' })
+    (record s { store = entered (suc (depth calls)) args s.store }))
 
 -- what is around the statements of the running call
 abbrev pub around : Checked → List ℕ → (turns deeper : ℕ) → List LiveCall → Around
