@@ -3,17 +3,9 @@ use Rattle.std.proofs.Common.{ℕ, ◌+◌, ◌≤◌, ◌<◌, List, length, le
 use Rattle.ob_syntax.specs.Grammar.{Nonterminal, Symbol, right, Selector, Factor, Term, SimpleExpression, field, index, name, number, parenthesis, negation, term, simple_expression}
 use Rattle.ob_syntax.specs.Forms.{Form, Parts, made, done, taken, part, end, ends}
 use Rattle.ob_syntax.specs.Tree.{Tree}
+use Rattle.ob_syntax.proofs.Stays.{stays, all_stay}
 use Rattle.ob_parse.specs.declared.cursor.Parser.{Parser}
 use Rattle.ob_parse.specs.Reading.{left, place, IsRead}
-
-mutual
-  stays : (n : Nonterminal) (i : ℕ) (f : Form n) → i ≤ end n i f
-  stays n i (made _ r ps) = all_stay (right r) i ps
-
-  all_stay : (ss : List Symbol) (i : ℕ) (ps : Parts ss) → i ≤ ends ss i ps
-  all_stay _ i done = omega arith
-  all_stay _ i (taken k ss ps) = let a = all_stay ss (i + 1) ps in omega arith
-  all_stay _ i (part d m ss f ps) = let a = stays m i f in let b = all_stay ss (end m i f) ps in omega arith
 
 selector_moves : (i : ℕ) (f : Form Selector) → i < end Selector i f
 selector_moves i (made _ field (taken _ ss ps)) = let a = all_stay ss (i + 1) ps in omega arith

@@ -1,7 +1,12 @@
-//! The parser of Oberon-0: the tree of a list of tokens, or where they stop being the beginning of a module.
+//! The parser of Oberon-0: the tree of a list of tokens, or where they stop beginning a module.
 //!
-//! A predictive parser, production by production in the order of the grammar: each function reads the phrase of its
-//! name. It recurs only where phrases nest, and `room` says how much deeper they may.
+//! [`parse`] gives the tree exactly where the tokens are a module of depth at most 64, and else the
+//! first token that no such module has there. Read first `Grammar`, `Tree` and `Whole` in the specs of
+//! ob_syntax, then `Reading`, which says what each function here promises of its phrase. The layer above
+//! may use the laws of trees in ob_syntax: there is one tree, and its numbers are those of tokens.
+//!
+//! A predictive parser, production by production in the order of the grammar: each function reads the
+//! phrase of its name. It recurs only where phrases nest, and `room` says how much deeper they may.
 #![tactic(auto)]
 
 ghost use Rattle.std.specs.Prelude.{◌≡◌, ◌≢◌, ◌<◌, ◌^◌, ℕ, length, IfOk, IfErr};

@@ -177,8 +177,8 @@ fn repeat_statement(p: &mut Parser, room: u32) -> Result<Stmt, ParseFault>
     p.advance();
     let body = statement_sequence(p, room)?;
     p.expect(Kind::KwUntil)?;
-    let test = expression(p, room)?;
+    let condition = expression(p, room)?;
     let span = p.span_from(start);
-    let form = StmtForm::Repeat(body, test);
+    let form = StmtForm::Repeat(body, condition);
     Ok(Stmt { span, form })
 }

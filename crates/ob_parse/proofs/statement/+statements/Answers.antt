@@ -244,15 +244,15 @@ repeat_statement-returns-in_err-expect t c =
     exits Action c.args.room c.args.p.now c.expect.new.self c.from_residual-in_err-expect.result c.in_err-expect.field-0.0 c.from_residual-in_err-expect.ensures.1
     (token_missing (after_phrase (repeat_of c.args.room c.args.p.now c.advance.new.self (c.advance.ensures KwRepeat c.requires)) (at_least_one c.args.room (omega arith)) c.in_ok-body.ensures) (omega arith) c.expect.new.self c.in_err-expect.field-0.0 c.in_err-expect.ensures)
 
-pub repeat_statement-returns-in_err-test : goal.repeat_statement-returns-in_err-test
-repeat_statement-returns-in_err-test t c =
-    exits Action c.args.room c.args.p.now c.expression.new.p c.from_residual-in_err-test.result c.in_err-test.field-0.0 c.from_residual-in_err-test.ensures.1
-    (phrase_fails (after_token (after_phrase (repeat_of c.args.room c.args.p.now c.advance.new.self (c.advance.ensures KwRepeat c.requires)) (at_least_one c.args.room (omega arith)) c.in_ok-body.ensures) c.in_ok-expect.ensures) (as_deep c.args.room) (omega arith) c.expression.new.p c.in_err-test.field-0.0 c.in_err-test.ensures)
+pub repeat_statement-returns-in_err-condition : goal.repeat_statement-returns-in_err-condition
+repeat_statement-returns-in_err-condition t c =
+    exits Action c.args.room c.args.p.now c.expression.new.p c.from_residual-in_err-condition.result c.in_err-condition.field-0.0 c.from_residual-in_err-condition.ensures.1
+    (phrase_fails (after_token (after_phrase (repeat_of c.args.room c.args.p.now c.advance.new.self (c.advance.ensures KwRepeat c.requires)) (at_least_one c.args.room (omega arith)) c.in_ok-body.ensures) c.in_ok-expect.ensures) (as_deep c.args.room) (omega arith) c.expression.new.p c.in_err-condition.field-0.0 c.in_err-condition.ensures)
 
 pub repeat_statement-span_from-span-requires : goal.repeat_statement-span_from-span-requires
 repeat_statement-span_from-span-requires t c =
-    omega (arith, (c.advance.ensures KwRepeat c.requires).place_is, later c.in_ok-body.ensures, c.in_ok-expect.ensures.place_is, later c.in_ok-test.ensures)
+    omega (arith, (c.advance.ensures KwRepeat c.requires).place_is, later c.in_ok-body.ensures, c.in_ok-expect.ensures.place_is, later c.in_ok-condition.ensures)
 
 pub repeat_statement-returns : goal.repeat_statement-returns
 repeat_statement-returns t c =
-    rw c.span_from-span.ensures (closed (after_phrase (after_token (after_phrase (repeat_of c.args.room c.args.p.now c.advance.new.self (c.advance.ensures KwRepeat c.requires)) (at_least_one c.args.room (omega arith)) c.in_ok-body.ensures) c.in_ok-expect.ensures) (as_deep c.args.room) c.in_ok-test.ensures))
+    rw c.span_from-span.ensures (closed (after_phrase (after_token (after_phrase (repeat_of c.args.room c.args.p.now c.advance.new.self (c.advance.ensures KwRepeat c.requires)) (at_least_one c.args.room (omega arith)) c.in_ok-body.ensures) c.in_ok-expect.ensures) (as_deep c.args.room) c.in_ok-condition.ensures))
