@@ -1,5 +1,5 @@
 pub mod FirstSpelling
-pub mod Nesting
-pub mod Fronts
-pub mod Progress
-pub mod Causes
+pub mod OpenComments
+pub mod FirstPiece
+pub mod ScannedSoFar
+pub mod OneCause

@@ -52,7 +52,9 @@ pub fn first_piece(text: &[u8], at: u32) -> Result<Scanned<'_>, LexFault>
 
 /// The text behind a comment, of which this is the text behind its `(*`.
 fn behind_comment(inside: &[u8]) -> Option<&[u8]>
-    ensures { MatchOption result (NeverCloses inside.now) (λ rest. ClosesBefore inside.now rest.now) }
+    ensures { MatchOption result
+        (NeverCloses inside.now)
+        (λ rest. ClosesBefore inside.now rest.now) }
 {
     let mut rest = inside;
     let mut depth: usize = 1;
@@ -121,7 +123,8 @@ fn integer(digits: &[u8]) -> Option<i32>
     requires { IsTrue (list_all is_ascii_digit digits.now) }
     ensures { MatchOption result
         (greatest_integer < integer_value digits.now)
-        (λ n. (n ≡ pos (integer_value digits.now)) × (integer_value digits.now ≤ greatest_integer)) }
+        (λ n. (n ≡ pos (integer_value digits.now))
+        × (integer_value digits.now ≤ greatest_integer)) }
 {
     let mut value: u64 = 0;
     for digit in digits {

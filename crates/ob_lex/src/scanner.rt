@@ -14,7 +14,8 @@ use thiserror::Error;
 /// The most tokens that are kept of a source.
 pub const MAX_TOKENS: u32 = 65_536;
 
-/// Why a source has no token list, or none that is kept. Places count the bytes of the source from 0.
+/// Why a source has no token list, or none that is kept. Places count the bytes of the source from
+/// 0.
 #[derive(Clone, Copy, Debug, PartialEq, Eq, Error)]
 pub enum LexFault {
     /// The byte there begins no space, comment or token.
@@ -33,8 +34,8 @@ pub enum LexFault {
     OutOfMemory,
 }
 
-/// The tokens of a source, in order, in time linear in its length. A first lexical fault is told wherever it stands, also
-/// behind more tokens than are kept.
+/// The tokens of a source, in order, in time linear in its length. A first lexical fault is told
+/// wherever it stands, also behind more tokens than are kept.
 pub fn lex(alloc: Global, bytes: &[u8]) -> Result<Vec<Token>, LexFault>
     requires { length bytes.now ≤ most_bytes }
 

@@ -3,11 +3,11 @@ use Rattle.std.proofs.Common.{◌≡◌, ℕ, ℤ, List, [], ◌∷◌, Option, 
 use Rattle.ob_syntax.specs.declared.token.Kind.{Kind}
 use Rattle.ob_syntax.specs.declared.token.Kind.TheVariants.{Ident, Number, KwArray, KwIf, KwProcedure, KwRecord, KwRepeat, KwWhile, Period, LeftParen, LeftBracket, Tilde, Plus, Minus}
 use Rattle.ob_syntax.specs.Grammar.{Constant, constant, TypeDeclaration, type_declaration, Procedure, procedure, Action, Statement, statement, call, if_statement, while_statement, repeat_statement, TypeExpression, NameList, name_list, IdentList, ident_list, Rule, level, Selector, Factor, Term, Sign, no_sign, plus_sign, minus_sign, SimpleExpression, simple_expression, Expression, expression, ArgumentList, arguments, term, name, number, parenthesis, negation}
-use Rattle.ob_syntax.specs.Predict.{first, by_first, choose}
-pub use Rattle.ob_syntax.proofs.Chosen.{mul_first, no_mul_first, add_first, no_add_first, relation_first, no_relation_first, no_sign_at, not_left_paren, no_formals_first, not_comma, no_ident_first, not_elsif, not_else, no_statement_first, no_field_first, no_section_first, no_list_first, no_constant_first, not_const, no_type_first, not_type, no_variable_first, not_var, by_value_first, not_procedure, not_begin}
+use Rattle.ob_syntax.specs.ChosenRule.{first, by_first, choose}
+pub use Rattle.ob_syntax.proofs.TokensChoose.{mul_first, no_mul_first, add_first, no_add_first, relation_first, no_relation_first, no_sign_at, not_left_paren, no_formals_first, not_comma, no_ident_first, not_elsif, not_else, no_statement_first, no_field_first, no_section_first, no_list_first, no_constant_first, not_const, no_type_first, not_type, no_variable_first, not_var, by_value_first, not_procedure, not_begin}
 use Rattle.ob_syntax.specs.Forms.{made, done}
 use Rattle.ob_parse.specs.Reading.{GoesOn}
-use Rattle.ob_parse.proofs.Steps.{begins_with, begins_inside, begins_behind}
+use Rattle.ob_parse.proofs.PhraseUnderway.{begins_with, begins_inside, begins_behind}
 
 pub kind_at : (o : Option Kind) (ks : List Kind) → o ≡ first ks → (k k' : Kind) → o ≡ Some k → k ≡ k' → first ks ≡ Some k'
 kind_at o ks e k k' f g = sym e ∙ f ∙ ap Some g

@@ -1,7 +1,7 @@
 pub mod Choices
-pub mod Front
-pub mod Loops
-pub mod Moves
-pub mod Named
-pub mod Steps
-pub mod Tokens
+pub mod RefusalPlace
+pub mod ItemsAsLists
+pub mod PhrasesAdvance
+pub mod AssignmentOrCall
+pub mod PhraseUnderway
+pub mod KindsLeft

@@ -6,7 +6,7 @@ use Rattle.ob_parse.specs.declared.cursor.ParseFault.{ParseFault}
 use Rattle.ob_parse.specs.declared.cursor.ParseFault.TheVariants.{Grammar, TooDeep, OutOfMemory}
 use Rattle.ob_syntax.specs.Grammar.{Nonterminal}
 use Rattle.ob_syntax.specs.Forms.{Form, spell, end, depth}
-use Rattle.ob_syntax.specs.Predict.{first, Ends}
+use Rattle.ob_syntax.specs.ChosenRule.{first, Ends}
 use Rattle.ob_syntax.specs.Tree.{Tree, tree}
 use Rattle.ob_syntax.specs.Whole.{kinds}
 
@@ -35,17 +35,22 @@ pub record IsRead (n : Nonterminal) (room : ℕ) (found : Tree n) (old new : Par
   -- of whatever begins like the rest
   pub follow : (ks : List Kind) → first ks ≡ first (left new) → Ends n form ks
 
--- Whatever stands after the tokens that were read, if it begins like the rest: no form of at most this depth is in front.
+-- Whatever stands after the tokens that were read, if it begins like the rest: no form of at most
+-- this depth is in front.
 abbrev pub IsStuck : Nonterminal → ℕ → List Kind → List Kind → Type 0
 IsStuck n room read rest =
-    (next : List Kind) → first next ≡ first rest → (form : Form n) (after : List Kind) → depth n form ≤ room → Ends n form after
+    (next : List Kind) → first next ≡ first rest → (form : Form n) (after : List Kind)
+    → depth n form ≤ room → Ends n form after
     → read ++ next ≡ spell n form after → ⊥
 
 -- Some tokens after those that were read make a form, of at most this depth.
 abbrev pub GoesOn : Nonterminal → ℕ → List Kind → Type 0
-GoesOn n room read = (form : Form n) × (depth n form ≤ room) × (more : List Kind) × ((ks : List Kind) → spell n form ks ≡ read ++ (more ++ ks))
+GoesOn n room read =
+    (form : Form n) × (depth n form ≤ room) × (more : List Kind)
+    × ((ks : List Kind) → spell n form ks ≡ read ++ (more ++ ks))
 
--- The tokens up to the new place were read. Some form goes on from there, and none with the next token, of any depth.
+-- The tokens up to the new place were read. Some form goes on from there, and none with the next
+-- token, of any depth.
 pub record IsRefused (n : Nonterminal) (room : ℕ) (old new : Parser) : Type 0 where
   pub read : List Kind
   pub from : left old ≡ read ++ left new
@@ -53,8 +58,8 @@ pub record IsRefused (n : Nonterminal) (room : ℕ) (old new : Parser) : Type 0 
   pub goes : GoesOn n room read
   pub stuck : (d : ℕ) → IsStuck n d read (left new)
 
--- The tokens up to the new place were read. Some form goes on from there, and with the next token only forms that are
--- too deep.
+-- The tokens up to the new place were read. Some form goes on from there, and with the next token
+-- only forms that are too deep.
 pub record IsTooDeep (n : Nonterminal) (room : ℕ) (old new : Parser) : Type 0 where
   pub read : List Kind
   pub from : left old ≡ read ++ left new
@@ -71,4 +76,5 @@ Fails n room old new (TooDeep k) = (k ≡ place new) × IsTooDeep n room old new
 Fails n room old new OutOfMemory = Unit {0}
 
 abbrev pub Reads : (n : Nonterminal) → ℕ → Parser → Result (Tree n) ParseFault → Parser → Type 0
-Reads n room old result new = MatchResult result (λ x. IsRead n room x old new) (Fails n room old new)
+Reads n room old result new =
+    MatchResult result (λ x. IsRead n room x old new) (Fails n room old new)

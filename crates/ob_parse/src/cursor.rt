@@ -7,7 +7,8 @@ use std::alloc::{AllocError, AllocFailed, Global};
 
 /// Why tokens have no tree.
 ///
-/// Let `k` be the length of the longest prefix of the tokens that some continuation makes a module of depth at most 64.
+/// Let `k` be the length of the longest prefix of the tokens that some continuation makes a module
+/// of depth at most 64.
 #[derive(Clone, Copy, Debug, PartialEq, Eq, thiserror::Error)]
 pub enum ParseFault {
     /// No module of any depth begins with the first `k + 1` tokens, or the tokens end at `k`.
@@ -53,7 +54,7 @@ pub struct Parser<'a> {
 impl<'a> Parser<'a> {
     ghost use Rattle.ob_parse.specs.Reading.{left, place, IsNext};
     ghost use Rattle.ob_syntax.specs.Whole.{kinds};
-    ghost use Rattle.ob_syntax.specs.Predict.{first, by_first, behind_name};
+    ghost use Rattle.ob_syntax.specs.ChosenRule.{first, by_first, behind_name};
     ghost use Rattle.ob_syntax.specs.Grammar.{Selectors, next_selector, no_selectors, ArgumentList, arguments, no_arguments, Statement, statement, empty_statement, assignment, call, SectionList, sections, no_sections};
     ghost use Rattle.ob_syntax.specs.Tree.{span_to};
     ghost use Rattle.ob_syntax.specs.declared.token.Kind.{Kind};
@@ -136,7 +137,9 @@ impl<'a> Parser<'a> {
 
     /// Whether `.` or `[` is next.
     pub fn begins_selector(&self) -> bool
-        ensures { MatchBool result (by_first Selectors (first (left self.now)) ≡ Some next_selector) (by_first Selectors (first (left self.now)) ≡ Some no_selectors) }
+        ensures { MatchBool result
+            (by_first Selectors (first (left self.now)) ≡ Some next_selector)
+            (by_first Selectors (first (left self.now)) ≡ Some no_selectors) }
     {
         let Some(kind) = self.peek() else {
             return false;
@@ -149,7 +152,9 @@ impl<'a> Parser<'a> {
 
     /// Whether the first token of an expression is next.
     pub fn begins_expression(&self) -> bool
-        ensures { MatchBool result (by_first ArgumentList (first (left self.now)) ≡ Some arguments) (by_first ArgumentList (first (left self.now)) ≡ Some no_arguments) }
+        ensures { MatchBool result
+            (by_first ArgumentList (first (left self.now)) ≡ Some arguments)
+            (by_first ArgumentList (first (left self.now)) ≡ Some no_arguments) }
     {
         let Some(kind) = self.peek() else {
             return false;
@@ -167,7 +172,9 @@ impl<'a> Parser<'a> {
 
     /// Whether the first token of a statement that is not empty is next.
     pub fn begins_statement(&self) -> bool
-        ensures { MatchBool result (by_first Statement (first (left self.now)) ≡ Some statement) (by_first Statement (first (left self.now)) ≡ Some empty_statement) }
+        ensures { MatchBool result
+            (by_first Statement (first (left self.now)) ≡ Some statement)
+            (by_first Statement (first (left self.now)) ≡ Some empty_statement) }
     {
         let Some(kind) = self.peek() else {
             return false;
@@ -180,7 +187,9 @@ impl<'a> Parser<'a> {
 
     /// Whether, behind the name that begins a statement, an assignment goes on and no call.
     pub fn continues_assignment(&self) -> bool
-        ensures { MatchBool result (behind_name (first (left self.now)) ≡ Some assignment) (behind_name (first (left self.now)) ≡ Some call) }
+        ensures { MatchBool result
+            (behind_name (first (left self.now)) ≡ Some assignment)
+            (behind_name (first (left self.now)) ≡ Some call) }
     {
         let Some(kind) = self.peek() else {
             return false;
@@ -193,7 +202,9 @@ impl<'a> Parser<'a> {
 
     /// Whether the first token of a section of parameters is next.
     pub fn begins_section(&self) -> bool
-        ensures { MatchBool result (by_first SectionList (first (left self.now)) ≡ Some sections) (by_first SectionList (first (left self.now)) ≡ Some no_sections) }
+        ensures { MatchBool result
+            (by_first SectionList (first (left self.now)) ≡ Some sections)
+            (by_first SectionList (first (left self.now)) ≡ Some no_sections) }
     {
         let Some(kind) = self.peek() else {
             return false;

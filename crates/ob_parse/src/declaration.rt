@@ -182,8 +182,8 @@ fn procedures(p: &mut Parser, room: u32) -> Result<Seq<Proc>, ParseFault>
     Ok(all)
 }
 
-/// `ProcedureDeclaration = ProcedureHeading ";" declarations ["BEGIN" StatementSequence] "END" ident.`
-/// `ProcedureHeading = "PROCEDURE" ident [FormalParameters].`
+/// `ProcedureDeclaration = ProcedureHeading ";" declarations ["BEGIN" StatementSequence] "END"
+/// ident.` `ProcedureHeading = "PROCEDURE" ident [FormalParameters].`
 #[cycle(declarations)]
 fn procedure(p: &mut Parser, room: u32) -> Result<Proc, ParseFault>
     ensures { Reads grammar.Procedure room p.old result p.new }

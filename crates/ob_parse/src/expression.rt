@@ -6,7 +6,7 @@ ghost use Rattle.std.specs.Prelude.{◌≡◌, ◌≢◌, Some, None, MatchOptio
 ghost use Rattle.ob_syntax.specs.declared.token.Kind.{Kind};
 ghost use Rattle.ob_syntax.specs.Grammar as grammar;
 ghost use Rattle.ob_syntax.specs.Grammar.{MulOp, mul_kind, AddOp, add_kind, RelationOp, relation_kind};
-ghost use Rattle.ob_syntax.specs.Predict.{first};
+ghost use Rattle.ob_syntax.specs.ChosenRule.{first};
 ghost use Rattle.ob_parse.specs.Reading.{left, Reads, IsRead, IsNext};
 
 use crate::cursor::{ParseFault, Parser};

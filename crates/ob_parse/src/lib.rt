@@ -1,12 +1,14 @@
 //! The parser of Oberon-0: the tree of a list of tokens, or where they stop beginning a module.
 //!
 //! [`parse`] gives the tree exactly where the tokens are a module of depth at most 64, and else the
-//! first token that no such module has there. Read first `Grammar`, `Tree` and `Whole` in the specs of
-//! ob_syntax, then `Reading`, which says what each function here promises of its phrase. The layer above
-//! may use the laws of trees in ob_syntax: there is one tree, and its numbers are those of tokens.
+//! first token that no such module has there. Read first `Grammar`, `Tree` and `Whole` in the specs
+//! of ob_syntax, then `Reading`, which says what each function here promises of its phrase. The
+//! layer above may use the laws of trees in ob_syntax: there is one tree, and its numbers are those
+//! of tokens.
 //!
-//! A predictive parser, production by production in the order of the grammar: each function reads the
-//! phrase of its name. It recurs only where phrases nest, and `room` says how much deeper they may.
+//! A predictive parser, production by production in the order of the grammar: each function reads
+//! the phrase of its name. It recurs only where phrases nest, and `room` says how much deeper they
+//! may.
 #![tactic(auto)]
 
 ghost use Rattle.std.specs.Prelude.{◌≡◌, ◌≢◌, ◌<◌, ◌^◌, ℕ, length, IfOk, IfErr};
@@ -28,14 +30,14 @@ use std::alloc::Global;
 /// How deep declarations, statements, types and expressions of a module nest at most.
 pub const MAX_NESTING: u32 = 64;
 
-/// The tree of the tokens, where they are a module of depth at most 64 (Wirth, Compiler Construction,
-/// appendix A.1).
+/// The tree of the tokens, where they are a module of depth at most 64 (Wirth, Compiler
+/// Construction, appendix A.1).
 ///
 /// # Errors
 ///
 /// Otherwise the length `k` of the longest prefix of the tokens that some continuation makes such a
-/// module: [`ParseFault::TooDeep`] where the first `k + 1` tokens begin a module of a greater depth,
-/// else [`ParseFault::Grammar`].
+/// module: [`ParseFault::TooDeep`] where the first `k + 1` tokens begin a module of a greater
+/// depth, else [`ParseFault::Grammar`].
 pub fn parse(alloc: Global, tokens: &[Token]) -> Result<Module, ParseFault>
     requires { length tokens.now < 2 ^ 32 }
 

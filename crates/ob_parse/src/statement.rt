@@ -1,11 +1,12 @@
 //! Statements.
 //!
-//! Statement sequences inside IF, WHILE and REPEAT, parentheses, brackets, arguments and `~` may nest `room` deep.
+//! Statement sequences inside IF, WHILE and REPEAT, parentheses, brackets, arguments and `~` may
+//! nest `room` deep.
 
 ghost use Rattle.std.specs.Prelude.{◌≡◌, ◌≤◌, Some};
 ghost use Rattle.ob_syntax.specs.declared.token.Kind.{Kind};
 ghost use Rattle.ob_syntax.specs.Grammar as grammar;
-ghost use Rattle.ob_syntax.specs.Predict.{first};
+ghost use Rattle.ob_syntax.specs.ChosenRule.{first};
 ghost use Rattle.ob_parse.specs.Reading.{left, Reads};
 
 use crate::cursor::{ParseFault, Parser};
@@ -86,8 +87,8 @@ fn assignment_or_call(p: &mut Parser, room: u32) -> Result<Stmt, ParseFault>
     Ok(Stmt { span, form })
 }
 
-/// `IfStatement = "IF" expression "THEN" StatementSequence {"ELSIF" expression "THEN" StatementSequence}
-/// ["ELSE" StatementSequence] "END".`
+/// `IfStatement = "IF" expression "THEN" StatementSequence {"ELSIF" expression "THEN"
+/// StatementSequence} ["ELSE" StatementSequence] "END".`
 #[cycle(statements)]
 fn if_statement(p: &mut Parser, room: u32) -> Result<Stmt, ParseFault>
     requires { first (left p.old) ≡ Some Kind.KwIf }

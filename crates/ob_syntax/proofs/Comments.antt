@@ -2,7 +2,7 @@
 use Rattle.std.proofs.Common.{◌≡◌, ℕ, zero, suc, ◌≤◌, ◌<◌, List, [], ◌∷◌, length, refl, sym, ap, ap₂, subst, ◌⊎◌, inl, inr, ⊎_elim, arith}
 use Rattle.std.proofs.lemmas.Bool.{cases_eq}
 use Rattle.ob_syntax.specs.Tokens.{Begins, Comment, comment_end, byte, inner, comment_text, IsComment, NeverCloses}
-use Rattle.ob_syntax.proofs.Words.{heads, tails}
+use Rattle.ob_syntax.proofs.LongestSpellings.{heads, tails}
 
 -- `(` is not `*`
 pub differ : (us vs : List ℕ) → 40 ∷ us ≡ 42 ∷ vs → ⊥

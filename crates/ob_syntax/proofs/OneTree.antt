@@ -10,9 +10,9 @@ use Rattle.ob_syntax.specs.Derives.{text, Derives}
 use Rattle.ob_syntax.specs.Source.{IsParsed}
 use Rattle.ob_syntax.specs.Whole.{kinds, IsTreeOf}
 use Rattle.ob_syntax.proofs.Texts.{one_list}
-use Rattle.ob_syntax.proofs.Spelled.{spell_whole}
-use Rattle.ob_syntax.proofs.Unique.{one_form}
-use Rattle.ob_syntax.proofs.Settles.{settled}
+use Rattle.ob_syntax.proofs.FormTokens.{spell_whole}
+use Rattle.ob_syntax.proofs.OneForm.{one_form}
+use Rattle.ob_syntax.proofs.FormsAreChosen.{settled}
 
 -- tokens have at most one form
 pub one_derivation : (n : Nonterminal) (f g : Form n) → text n f ≡ text n g → f ≡ g

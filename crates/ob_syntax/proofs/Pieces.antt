@@ -6,7 +6,7 @@ use Rattle.std.proofs.lemmas.Bool.{cases_Bool, cases_lt, both_ways, and_from, fa
 use Rattle.ob_syntax.specs.declared.token.Kind.{Kind}
 use Rattle.ob_syntax.specs.declared.token.Kind.TheVariants.{Ident, Number, LeftParen}
 use Rattle.ob_syntax.specs.Tokens.{is_name, is_integer, is_space, fixed, greatest_integer, integer_value, IsSpelling, a_name, an_integer, a_fixed_one, Spells, identifier, number, fixed_token, IsLongest, Begins, comment_text, Piece, space, comment, token, piece_text, IsPiece, Fault, number_too_large, open_comment, bad_byte, BeginsFault, NeverCloses}
-use Rattle.ob_syntax.proofs.Words.{heads, tails, front, spelling_no_space, mark_from, mark_no_space, paren_fixed, no_opening_fixed, front_name, front_integer, front_symbol, is_mark, is_symbol, letter_no_digit, mark_no_digit, cases_fixed, cases_in_fixed, one_fixed, longest_name, longest_integer, longest_pair, longest_single, no_spelling, NoPair}
+use Rattle.ob_syntax.proofs.LongestSpellings.{heads, tails, front, spelling_no_space, mark_from, mark_no_space, paren_fixed, no_opening_fixed, front_name, front_integer, front_symbol, is_mark, is_symbol, letter_no_digit, mark_no_digit, cases_fixed, cases_in_fixed, one_fixed, longest_name, longest_integer, longest_pair, longest_single, no_spelling, NoPair}
 use Rattle.ob_syntax.proofs.Comments.{one_comment, cases_begins, cases_closes, Closes}
 
 -- a word spells one kind of token

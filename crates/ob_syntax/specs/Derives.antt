@@ -15,6 +15,7 @@ abbrev mutual
   texts _ (taken k ss ps) = k ∷ texts ss ps
   texts _ (part d m ss f ps) = text m f ++ texts ss ps
 
--- The tokens derive the tree as a phrase of n: some productions split them, part by part, and stand for the tree.
+-- The tokens derive the tree as a phrase of n: some productions split them, part by part, and stand
+-- for the tree.
 abbrev pub Derives : (n : Nonterminal) → List Kind → Tree n → Type 0
 Derives n ks t = (f : Form n) × (ks ≡ text n f) × (t ≡ tree n 0 f)

@@ -1,4 +1,5 @@
--- Derivations: which production stands at each node, the tokens that they spell, and how deep they nest.
+-- Derivations: which production stands at each node, the tokens that they spell, and how deep they
+-- nest.
 use Rattle.std.specs.Prelude.{ℕ, suc, ◌+◌, max, List, [], ◌∷◌}
 use Rattle.ob_syntax.specs.declared.token.Kind.{Kind}
 use Rattle.ob_syntax.specs.Grammar.{Nonterminal, Nesting, level, deeper, inner, Symbol, token, phrase, Rule, right}
@@ -11,7 +12,8 @@ mutual
   pub data Parts : List Symbol → Type 0 where
     done : Parts []
     taken : (k : Kind) (ss : List Symbol) → Parts ss → Parts (token k ∷ ss)
-    part : (d : Nesting) (m : Nonterminal) (ss : List Symbol) → Form m → Parts ss → Parts (phrase d m ∷ ss)
+    part : (d : Nesting) (m : Nonterminal) (ss : List Symbol) → Form m → Parts ss
+        → Parts (phrase d m ∷ ss)
 
 -- the tokens of the form, and then ks
 abbrev mutual

@@ -1,5 +1,5 @@
--- The grammar of Oberon-0, production by production (Wirth, Compiler Construction, appendix A.1). Each
--- option and each repetition of the book's notation is a nonterminal of its own.
+-- The grammar of Oberon-0, production by production (Wirth, Compiler Construction, appendix A.1).
+-- Each option and each repetition of the book's notation is a nonterminal of its own.
 use Rattle.std.specs.Prelude.{List, [], ◌∷◌, ℤ}
 use Rattle.ob_syntax.specs.declared.token.Kind.{Kind}
 use Rattle.ob_syntax.specs.declared.token.Kind.TheVariants.{Ident, Number, KwArray, KwBegin, KwConst, KwDiv, KwDo, KwElse, KwElsif, KwEnd, KwIf, KwMod, KwModule, KwOf, KwOr, KwProcedure, KwRecord, KwRepeat, KwThen, KwType, KwUntil, KwVar, KwWhile, Period, Comma, Semicolon, Colon, Becomes, LeftParen, RightParen, LeftBracket, RightBracket, Tilde, Times, Amp, Plus, Minus, Equal, Unequal, Less, LessEqual, Greater, GreaterEqual}
@@ -90,8 +90,8 @@ relation_kind less_equal = LessEqual
 relation_kind greater = Greater
 relation_kind greater_equal = GreaterEqual
 
--- how much deeper than the phrase around it a phrase nests: as deep, one deeper, or at least one deeper even where it
--- holds nothing that counts
+-- how much deeper than the phrase around it a phrase nests: as deep, one deeper, or at least one
+-- deeper even where it holds nothing that counts
 pub data Nesting : Type 0 where
   level : Nesting
   deeper : Nesting
@@ -235,8 +235,8 @@ right assignment = token Ident ∷ the Selectors ∷ token Becomes ∷ the Expre
 -- ProcedureCall = ident [ActualParameters].
 right call = token Ident ∷ the ActualParameters ∷ []
 right no_parameters = []
--- IfStatement = "IF" expression "THEN" StatementSequence {"ELSIF" expression "THEN" StatementSequence}
---   ["ELSE" StatementSequence] "END".
+-- IfStatement = "IF" expression "THEN" StatementSequence
+--   {"ELSIF" expression "THEN" StatementSequence} ["ELSE" StatementSequence] "END".
 right if_statement = token KwIf ∷ the Arms ∷ the Else ∷ token KwEnd ∷ []
 right arms = the Arm ∷ the Elsifs ∷ []
 right arm = the Expression ∷ token KwThen ∷ within StatementSequence ∷ []
@@ -245,9 +245,11 @@ right next_elsif = token KwElsif ∷ the Arm ∷ the Elsifs ∷ []
 right no_else = []
 right otherwise = token KwElse ∷ within StatementSequence ∷ []
 -- WhileStatement = "WHILE" expression "DO" StatementSequence "END".
-right while_statement = token KwWhile ∷ the Expression ∷ token KwDo ∷ within StatementSequence ∷ token KwEnd ∷ []
+right while_statement =
+    token KwWhile ∷ the Expression ∷ token KwDo ∷ within StatementSequence ∷ token KwEnd ∷ []
 -- RepeatStatement = "REPEAT" StatementSequence "UNTIL" expression.
-right repeat_statement = token KwRepeat ∷ within StatementSequence ∷ token KwUntil ∷ the Expression ∷ []
+right repeat_statement =
+    token KwRepeat ∷ within StatementSequence ∷ token KwUntil ∷ the Expression ∷ []
 -- statement = [assignment | ProcedureCall | IfStatement | WhileStatement | RepeatStatement].
 right empty_statement = []
 right statement = nested Action ∷ []
@@ -281,12 +283,14 @@ right last_section = []
 right next_section = token Semicolon ∷ the Section ∷ the Sections ∷ []
 -- ProcedureHeading = "PROCEDURE" ident [FormalParameters].
 -- ProcedureDeclaration = ProcedureHeading ";" declarations ["BEGIN" StatementSequence] "END" ident.
-right procedure = token KwProcedure ∷ token Ident ∷ the FormalParameters ∷ token Semicolon ∷ the Declarations ∷ the Body ∷ token KwEnd ∷ token Ident ∷ []
+right procedure =
+    token KwProcedure ∷ token Ident ∷ the FormalParameters ∷ token Semicolon ∷
+    the Declarations ∷ the Body ∷ token KwEnd ∷ token Ident ∷ []
 right no_formals = []
 right no_body = []
 right body = token KwBegin ∷ the StatementSequence ∷ []
--- declarations = ["CONST" {ident "=" expression ";"}] ["TYPE" {ident "=" type ";"}] ["VAR" {IdentList ":" type ";"}]
---   {ProcedureDeclaration ";"}.
+-- declarations = ["CONST" {ident "=" expression ";"}] ["TYPE" {ident "=" type ";"}]
+--   ["VAR" {IdentList ":" type ";"}] {ProcedureDeclaration ";"}.
 right declarations = the Constants ∷ the Types ∷ the Variables ∷ the Procedures ∷ []
 right no_constants = []
 right constants = token KwConst ∷ the ConstantList ∷ []
@@ -305,4 +309,6 @@ right next_variables = nested NameList ∷ token Semicolon ∷ the VariableList 
 right no_procedures = []
 right next_procedure = nested Procedure ∷ token Semicolon ∷ the Procedures ∷ []
 -- module = "MODULE" ident ";" declarations ["BEGIN" StatementSequence] "END" ident ".".
-right a_module = token KwModule ∷ token Ident ∷ token Semicolon ∷ the Declarations ∷ the Body ∷ token KwEnd ∷ token Ident ∷ token Period ∷ []
+right a_module =
+    token KwModule ∷ token Ident ∷ token Semicolon ∷ the Declarations ∷ the Body ∷
+    token KwEnd ∷ token Ident ∷ token Period ∷ []

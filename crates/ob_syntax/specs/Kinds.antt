@@ -1,4 +1,5 @@
--- The kinds of tokens told apart: by their place in the list of all kinds, and numbers by their value.
+-- The kinds of tokens told apart: by their place in the list of all kinds, and numbers by their
+-- value.
 use Rattle.std.specs.Prelude.{ℕ, ℤ, pos}
 use Rattle.ob_syntax.specs.declared.token.Kind.{Kind}
 use Rattle.ob_syntax.specs.declared.token.Kind.TheVariants.{Ident, Number, KwArray, KwBegin, KwConst, KwDiv, KwDo, KwElse, KwElsif, KwEnd, KwIf, KwMod, KwModule, KwOf, KwOr, KwProcedure, KwRecord, KwRepeat, KwThen, KwType, KwUntil, KwVar, KwWhile, Period, Comma, Semicolon, Colon, Becomes, LeftParen, RightParen, LeftBracket, RightBracket, Tilde, Times, Amp, Plus, Minus, Equal, Unequal, Less, LessEqual, Greater, GreaterEqual}

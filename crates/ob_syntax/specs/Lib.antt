@@ -5,7 +5,7 @@ pub mod Forms
 pub mod Grammar
 pub mod Names
 pub mod Operators
-pub mod Predict
+pub mod ChosenRule
 pub mod Source
 pub mod Storage
 pub mod Tree

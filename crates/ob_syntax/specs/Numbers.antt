@@ -1,5 +1,5 @@
--- The numbers of tokens in a tree: the spans of its phrases, each with that of the phrase around it, and
--- the tokens of its names.
+-- The numbers of tokens in a tree: the spans of its phrases, each with that of the phrase around
+-- it, and the tokens of its names.
 use Rattle.std.specs.Prelude.{◌≡◌, ℕ, ◌+◌, ◌≤◌, List, [], ◌∷◌, ◌++◌, length, map, slice_get, Option, Some, None}
 use Rattle.std.specs.List.{AllByRecursion as Each}
 use Rattle.ob_syntax.specs.declared.token.Kind.{Kind}
@@ -61,75 +61,127 @@ spanned own inside s = phrase own s ∷ inside own
 
 -- ---- expressions: of each phrase, from what its parts hold
 
-abbrev pub factor_form_marks : FactorForm-F Marks Marks Marks Marks Marks Marks Marks Marks Marks Marks Marks → Marks
+abbrev pub factor_form_marks :
+    FactorForm-F Marks Marks Marks Marks Marks Marks Marks Marks Marks Marks Marks → Marks
 factor_form_marks (FactorForm-F.Name d) = d
 factor_form_marks (FactorForm-F.Number n) = none
 factor_form_marks (FactorForm-F.Paren e) = e
 factor_form_marks (FactorForm-F.Not f) = f
 
-abbrev pub selector_form_marks : SelectorForm-F Marks Marks Marks Marks Marks Marks Marks Marks Marks Marks Marks → Marks
+abbrev pub selector_form_marks :
+    SelectorForm-F Marks Marks Marks Marks Marks Marks Marks Marks Marks Marks Marks → Marks
 selector_form_marks (SelectorForm-F.Field k) = named k
 selector_form_marks (SelectorForm-F.Index e) = e
 
-abbrev pub designator_marks : Designator-F Marks Marks Marks Marks Marks Marks Marks Marks Marks Marks Marks → Marks
+abbrev pub designator_marks :
+    Designator-F Marks Marks Marks Marks Marks Marks Marks Marks Marks Marks Marks → Marks
 designator_marks d = spanned d.span (both (named d.name) (all d.selectors))
 
-abbrev pub expression_marks : Expr-F Marks Marks Marks Marks Marks Marks Marks Marks Marks Marks Marks → Marks
+abbrev pub expression_marks :
+    Expr-F Marks Marks Marks Marks Marks Marks Marks Marks Marks Marks Marks → Marks
 expression_marks e = spanned e.span (both e.left (maybe e.relation))
 
-abbrev pub factor_marks : Factor-F Marks Marks Marks Marks Marks Marks Marks Marks Marks Marks Marks → Marks
+abbrev pub factor_marks :
+    Factor-F Marks Marks Marks Marks Marks Marks Marks Marks Marks Marks Marks → Marks
 factor_marks f = spanned f.span f.form
 
-abbrev pub next_factor_marks : NextFactor-F Marks Marks Marks Marks Marks Marks Marks Marks Marks Marks Marks → Marks
+abbrev pub next_factor_marks :
+    NextFactor-F Marks Marks Marks Marks Marks Marks Marks Marks Marks Marks Marks → Marks
 next_factor_marks n = n.factor
 
-abbrev pub next_term_marks : NextTerm-F Marks Marks Marks Marks Marks Marks Marks Marks Marks Marks Marks → Marks
+abbrev pub next_term_marks :
+    NextTerm-F Marks Marks Marks Marks Marks Marks Marks Marks Marks Marks Marks → Marks
 next_term_marks n = n.term
 
-abbrev pub relation_marks : Relation-F Marks Marks Marks Marks Marks Marks Marks Marks Marks Marks Marks → Marks
+abbrev pub relation_marks :
+    Relation-F Marks Marks Marks Marks Marks Marks Marks Marks Marks Marks Marks → Marks
 relation_marks r = r.right
 
-abbrev pub selector_marks : Selector-F Marks Marks Marks Marks Marks Marks Marks Marks Marks Marks Marks → Marks
+abbrev pub selector_marks :
+    Selector-F Marks Marks Marks Marks Marks Marks Marks Marks Marks Marks Marks → Marks
 selector_marks s = spanned s.span s.form
 
-abbrev pub simple_expression_marks : SimpleExpr-F Marks Marks Marks Marks Marks Marks Marks Marks Marks Marks Marks → Marks
+abbrev pub simple_expression_marks :
+    SimpleExpr-F Marks Marks Marks Marks Marks Marks Marks Marks Marks Marks Marks → Marks
 simple_expression_marks e = spanned e.span (both e.first (all e.rest))
 
-abbrev pub term_marks : Term-F Marks Marks Marks Marks Marks Marks Marks Marks Marks Marks Marks → Marks
+abbrev pub term_marks :
+    Term-F Marks Marks Marks Marks Marks Marks Marks Marks Marks Marks Marks → Marks
 term_marks t = spanned t.span (both t.first (all t.rest))
 
 abbrev pub in_factor_form : FactorForm → Marks
-in_factor_form = fold-FactorForm Marks Marks Marks Marks Marks Marks Marks Marks Marks Marks Marks factor_form_marks selector_form_marks designator_marks expression_marks factor_marks next_factor_marks next_term_marks relation_marks selector_marks simple_expression_marks term_marks
+in_factor_form =
+    fold-FactorForm Marks Marks Marks Marks Marks Marks Marks Marks Marks Marks Marks
+    factor_form_marks selector_form_marks designator_marks expression_marks factor_marks
+    next_factor_marks next_term_marks relation_marks selector_marks simple_expression_marks
+    term_marks
 
 abbrev pub in_selector_form : SelectorForm → Marks
-in_selector_form = fold-SelectorForm Marks Marks Marks Marks Marks Marks Marks Marks Marks Marks Marks factor_form_marks selector_form_marks designator_marks expression_marks factor_marks next_factor_marks next_term_marks relation_marks selector_marks simple_expression_marks term_marks
+in_selector_form =
+    fold-SelectorForm Marks Marks Marks Marks Marks Marks Marks Marks Marks Marks Marks
+    factor_form_marks selector_form_marks designator_marks expression_marks factor_marks
+    next_factor_marks next_term_marks relation_marks selector_marks simple_expression_marks
+    term_marks
 
 abbrev pub in_designator : Designator → Marks
-in_designator = fold-Designator Marks Marks Marks Marks Marks Marks Marks Marks Marks Marks Marks factor_form_marks selector_form_marks designator_marks expression_marks factor_marks next_factor_marks next_term_marks relation_marks selector_marks simple_expression_marks term_marks
+in_designator =
+    fold-Designator Marks Marks Marks Marks Marks Marks Marks Marks Marks Marks Marks
+    factor_form_marks selector_form_marks designator_marks expression_marks factor_marks
+    next_factor_marks next_term_marks relation_marks selector_marks simple_expression_marks
+    term_marks
 
 abbrev pub in_expression : Expr → Marks
-in_expression = fold-Expr Marks Marks Marks Marks Marks Marks Marks Marks Marks Marks Marks factor_form_marks selector_form_marks designator_marks expression_marks factor_marks next_factor_marks next_term_marks relation_marks selector_marks simple_expression_marks term_marks
+in_expression =
+    fold-Expr Marks Marks Marks Marks Marks Marks Marks Marks Marks Marks Marks factor_form_marks
+    selector_form_marks designator_marks expression_marks factor_marks next_factor_marks
+    next_term_marks relation_marks selector_marks simple_expression_marks term_marks
 
 abbrev pub in_factor : Factor → Marks
-in_factor = fold-Factor Marks Marks Marks Marks Marks Marks Marks Marks Marks Marks Marks factor_form_marks selector_form_marks designator_marks expression_marks factor_marks next_factor_marks next_term_marks relation_marks selector_marks simple_expression_marks term_marks
+in_factor =
+    fold-Factor Marks Marks Marks Marks Marks Marks Marks Marks Marks Marks Marks factor_form_marks
+    selector_form_marks designator_marks expression_marks factor_marks next_factor_marks
+    next_term_marks relation_marks selector_marks simple_expression_marks term_marks
 
 abbrev pub in_next_factor : NextFactor → Marks
-in_next_factor = fold-NextFactor Marks Marks Marks Marks Marks Marks Marks Marks Marks Marks Marks factor_form_marks selector_form_marks designator_marks expression_marks factor_marks next_factor_marks next_term_marks relation_marks selector_marks simple_expression_marks term_marks
+in_next_factor =
+    fold-NextFactor Marks Marks Marks Marks Marks Marks Marks Marks Marks Marks Marks
+    factor_form_marks selector_form_marks designator_marks expression_marks factor_marks
+    next_factor_marks next_term_marks relation_marks selector_marks simple_expression_marks
+    term_marks
 
 abbrev pub in_next_term : NextTerm → Marks
-in_next_term = fold-NextTerm Marks Marks Marks Marks Marks Marks Marks Marks Marks Marks Marks factor_form_marks selector_form_marks designator_marks expression_marks factor_marks next_factor_marks next_term_marks relation_marks selector_marks simple_expression_marks term_marks
+in_next_term =
+    fold-NextTerm Marks Marks Marks Marks Marks Marks Marks Marks Marks Marks Marks
+    factor_form_marks selector_form_marks designator_marks expression_marks factor_marks
+    next_factor_marks next_term_marks relation_marks selector_marks simple_expression_marks
+    term_marks
 
 abbrev pub in_relation : Relation → Marks
-in_relation = fold-Relation Marks Marks Marks Marks Marks Marks Marks Marks Marks Marks Marks factor_form_marks selector_form_marks designator_marks expression_marks factor_marks next_factor_marks next_term_marks relation_marks selector_marks simple_expression_marks term_marks
+in_relation =
+    fold-Relation Marks Marks Marks Marks Marks Marks Marks Marks Marks Marks Marks
+    factor_form_marks selector_form_marks designator_marks expression_marks factor_marks
+    next_factor_marks next_term_marks relation_marks selector_marks simple_expression_marks
+    term_marks
 
 abbrev pub in_selector : Selector → Marks
-in_selector = fold-Selector Marks Marks Marks Marks Marks Marks Marks Marks Marks Marks Marks factor_form_marks selector_form_marks designator_marks expression_marks factor_marks next_factor_marks next_term_marks relation_marks selector_marks simple_expression_marks term_marks
+in_selector =
+    fold-Selector Marks Marks Marks Marks Marks Marks Marks Marks Marks Marks Marks
+    factor_form_marks selector_form_marks designator_marks expression_marks factor_marks
+    next_factor_marks next_term_marks relation_marks selector_marks simple_expression_marks
+    term_marks
 
 abbrev pub in_simple_expression : SimpleExpr → Marks
-in_simple_expression = fold-SimpleExpr Marks Marks Marks Marks Marks Marks Marks Marks Marks Marks Marks factor_form_marks selector_form_marks designator_marks expression_marks factor_marks next_factor_marks next_term_marks relation_marks selector_marks simple_expression_marks term_marks
+in_simple_expression =
+    fold-SimpleExpr Marks Marks Marks Marks Marks Marks Marks Marks Marks Marks Marks
+    factor_form_marks selector_form_marks designator_marks expression_marks factor_marks
+    next_factor_marks next_term_marks relation_marks selector_marks simple_expression_marks
+    term_marks
 
 abbrev pub in_term : Term → Marks
-in_term = fold-Term Marks Marks Marks Marks Marks Marks Marks Marks Marks Marks Marks factor_form_marks selector_form_marks designator_marks expression_marks factor_marks next_factor_marks next_term_marks relation_marks selector_marks simple_expression_marks term_marks
+in_term =
+    fold-Term Marks Marks Marks Marks Marks Marks Marks Marks Marks Marks Marks factor_form_marks
+    selector_form_marks designator_marks expression_marks factor_marks next_factor_marks
+    next_term_marks relation_marks selector_marks simple_expression_marks term_marks
 
 -- ---- types
 
@@ -145,13 +197,16 @@ abbrev pub type_expression_marks : TypeExpr-F Marks Marks Marks → Marks
 type_expression_marks t = spanned t.span t.form
 
 abbrev pub in_type_form : TypeForm → Marks
-in_type_form = fold-TypeForm Marks Marks Marks type_form_marks name_list_marks type_expression_marks
+in_type_form =
+    fold-TypeForm Marks Marks Marks type_form_marks name_list_marks type_expression_marks
 
 abbrev pub in_name_list : NameList → Marks
-in_name_list = fold-NameList Marks Marks Marks type_form_marks name_list_marks type_expression_marks
+in_name_list =
+    fold-NameList Marks Marks Marks type_form_marks name_list_marks type_expression_marks
 
 abbrev pub in_type_expression : TypeExpr → Marks
-in_type_expression = fold-TypeExpr Marks Marks Marks type_form_marks name_list_marks type_expression_marks
+in_type_expression =
+    fold-TypeExpr Marks Marks Marks type_form_marks name_list_marks type_expression_marks
 
 -- ---- statements
 
@@ -169,13 +224,16 @@ abbrev pub statement_marks : Stmt-F Marks Marks Marks → Marks
 statement_marks s = spanned s.span s.form
 
 abbrev pub in_statement_form : StmtForm → Marks
-in_statement_form = fold-StmtForm Marks Marks Marks statement_form_marks arm_marks statement_marks
+in_statement_form =
+    fold-StmtForm Marks Marks Marks statement_form_marks arm_marks statement_marks
 
 abbrev pub in_arm : Arm → Marks
-in_arm = fold-Arm Marks Marks Marks statement_form_marks arm_marks statement_marks
+in_arm =
+    fold-Arm Marks Marks Marks statement_form_marks arm_marks statement_marks
 
 abbrev pub in_statement : Stmt → Marks
-in_statement = fold-Stmt Marks Marks Marks statement_form_marks arm_marks statement_marks
+in_statement =
+    fold-Stmt Marks Marks Marks statement_form_marks arm_marks statement_marks
 
 -- ---- declarations
 
@@ -197,10 +255,12 @@ procedure_marks p = spanned p.span (both (named p.name) (both (all (map in_secti
     (both p.decls (both (all (map in_statement p.body)) (named p.close)))))
 
 abbrev pub in_declarations : Decls → Marks
-in_declarations = fold-Decls Marks Marks declarations_marks procedure_marks
+in_declarations =
+    fold-Decls Marks Marks declarations_marks procedure_marks
 
 abbrev pub in_procedure : Proc → Marks
-in_procedure = fold-Proc Marks Marks declarations_marks procedure_marks
+in_procedure =
+    fold-Proc Marks Marks declarations_marks procedure_marks
 
 abbrev pub in_module : Module → Marks
 in_module m = both (named m.name) (both (in_declarations m.decls)
@@ -208,7 +268,8 @@ in_module m = both (named m.name) (both (in_declarations m.decls)
 
 -- ---- the law
 
--- A phrase's tokens are in order and lie in the phrase around it; a name is the number of an identifier in it.
+-- A phrase's tokens are in order and lie in the phrase around it; a name is the number of an
+-- identifier in it.
 abbrev pub IsMark : List Kind → Mark → Type 0
 IsMark ks (phrase own around) =
     (own.first ≤ own.last) × (around.first ≤ own.first) × (own.last ≤ around.last)

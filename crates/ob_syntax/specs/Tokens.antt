@@ -1,6 +1,7 @@
--- The tokens of a source text and its first lexical fault, by the lexical rules of Oberon-0 (Wirth, Compiler
--- Construction, chapter 6 and appendix A.1): ident = letter {letter | digit}, integer = digit {digit}, keywords and
--- symbols, and comments, which nest. At each place the longest spelling is taken. A text is the list of its bytes.
+-- The tokens of a source text and its first lexical fault, by the lexical rules of Oberon-0 (Wirth,
+-- Compiler Construction, chapter 6 and appendix A.1): ident = letter {letter | digit}, integer =
+-- digit {digit}, keywords and symbols, and comments, which nest. At each place the longest spelling
+-- is taken. A text is the list of its bytes.
 use Rattle.std.specs.Prelude.{◌≡◌, ℕ, ◌+◌, ◌-◌, ◌*◌, ◌≤◌, ◌<◌, pos, Bool, false, IsTrue, ◌&&◌, ◌||◌, ◌==◌, List, [], ◌∷◌, ◌++◌, length, fold, Contains, codes, All, AllPairs, slice_range}
 use Rattle.std.specs.List.{list_all}
 use Rattle.std.specs.Char.{is_ascii_alphabetic, is_ascii_alphanumeric, is_ascii_digit}
@@ -33,16 +34,18 @@ is_space b = ((b == 32) || (b == 9)) || ((b == 10) || (b == 13))
 -- the tokens that have one spelling each
 abbrev pub fixed : List (Kind × List ℕ)
 fixed =
-    (KwArray, codes "ARRAY") ∷ (KwBegin, codes "BEGIN") ∷ (KwConst, codes "CONST") ∷ (KwDiv, codes "DIV") ∷
-    (KwDo, codes "DO") ∷ (KwElse, codes "ELSE") ∷ (KwElsif, codes "ELSIF") ∷ (KwEnd, codes "END") ∷
-    (KwIf, codes "IF") ∷ (KwMod, codes "MOD") ∷ (KwModule, codes "MODULE") ∷ (KwOf, codes "OF") ∷
-    (KwOr, codes "OR") ∷ (KwProcedure, codes "PROCEDURE") ∷ (KwRecord, codes "RECORD") ∷ (KwRepeat, codes "REPEAT") ∷
-    (KwThen, codes "THEN") ∷ (KwType, codes "TYPE") ∷ (KwUntil, codes "UNTIL") ∷ (KwVar, codes "VAR") ∷ (KwWhile, codes "WHILE") ∷
-    (Period, codes ".") ∷ (Comma, codes ",") ∷ (Semicolon, codes ";") ∷ (Colon, codes ":") ∷ (Becomes, codes ":=") ∷
-    (LeftParen, codes "(") ∷ (RightParen, codes ")") ∷ (LeftBracket, codes "[") ∷ (RightBracket, codes "]") ∷
-    (Tilde, codes "~") ∷ (Times, codes "*") ∷ (Amp, codes "&") ∷ (Plus, codes "+") ∷ (Minus, codes "-") ∷
-    (Equal, codes "=") ∷ (Unequal, codes "#") ∷ (Less, codes "<") ∷ (LessEqual, codes "<=") ∷
-    (Greater, codes ">") ∷ (GreaterEqual, codes ">=") ∷ []
+    (KwArray, codes "ARRAY") ∷ (KwBegin, codes "BEGIN") ∷ (KwConst, codes "CONST") ∷
+    (KwDiv, codes "DIV") ∷ (KwDo, codes "DO") ∷ (KwElse, codes "ELSE") ∷
+    (KwElsif, codes "ELSIF") ∷ (KwEnd, codes "END") ∷ (KwIf, codes "IF") ∷ (KwMod, codes "MOD") ∷
+    (KwModule, codes "MODULE") ∷ (KwOf, codes "OF") ∷ (KwOr, codes "OR") ∷
+    (KwProcedure, codes "PROCEDURE") ∷ (KwRecord, codes "RECORD") ∷ (KwRepeat, codes "REPEAT") ∷
+    (KwThen, codes "THEN") ∷ (KwType, codes "TYPE") ∷ (KwUntil, codes "UNTIL") ∷
+    (KwVar, codes "VAR") ∷ (KwWhile, codes "WHILE") ∷ (Period, codes ".") ∷ (Comma, codes ",") ∷
+    (Semicolon, codes ";") ∷ (Colon, codes ":") ∷ (Becomes, codes ":=") ∷ (LeftParen, codes "(") ∷
+    (RightParen, codes ")") ∷ (LeftBracket, codes "[") ∷ (RightBracket, codes "]") ∷
+    (Tilde, codes "~") ∷ (Times, codes "*") ∷ (Amp, codes "&") ∷ (Plus, codes "+") ∷
+    (Minus, codes "-") ∷ (Equal, codes "=") ∷ (Unequal, codes "#") ∷ (Less, codes "<") ∷
+    (LessEqual, codes "<=") ∷ (Greater, codes ">") ∷ (GreaterEqual, codes ">=") ∷ []
 
 -- what can be a token's spelling. An integer is one however great it is
 pub data IsSpelling (word : List ℕ) : Type 0 where
@@ -52,19 +55,24 @@ pub data IsSpelling (word : List ℕ) : Type 0 where
 
 -- the kind of token that a word spells: a name that is a keyword is no identifier
 pub data Spells (kind : Kind) (word : List ℕ) : Type 0 where
-  identifier : IsTrue (is_name word) → ((keyword : Kind) → Contains fixed (keyword, word) → ⊥) → kind ≡ Ident → Spells kind word
-  number : IsTrue (is_integer word) → integer_value word ≤ greatest_integer → kind ≡ Number (pos (integer_value word)) → Spells kind word
+  identifier : IsTrue (is_name word) → ((keyword : Kind) → Contains fixed (keyword, word) → ⊥)
+      → kind ≡ Ident → Spells kind word
+  number : IsTrue (is_integer word) → integer_value word ≤ greatest_integer
+      → kind ≡ Number (pos (integer_value word)) → Spells kind word
   fixed_token : Contains fixed (kind, word) → Spells kind word
 
 -- no spelling of a token is longer than this word at its place, before rest
 abbrev pub IsLongest : List ℕ → List ℕ → Type 0
-IsLongest word rest = (other after : List ℕ) → IsSpelling other → word ++ rest ≡ other ++ after → length other ≤ length word
+IsLongest word rest =
+    (other after : List ℕ) → IsSpelling other → word ++ rest ≡ other ++ after
+    → length other ≤ length word
 
 -- the text begins with these bytes
 abbrev pub Begins : List ℕ → List ℕ → Type 0
 Begins mark text = (after : List ℕ) × (text ≡ mark ++ after)
 
--- What a comment holds behind its `(*`: its end `*)`, or a byte or a comment inside and what it holds behind that.
+-- What a comment holds behind its `(*`: its end `*)`, or a byte or a comment inside and what it
+-- holds behind that.
 pub data Comment : Type 0 where
   comment_end : Comment
   byte : ℕ → Comment → Comment
@@ -79,12 +87,16 @@ comment_text (inner c d) rest = codes "(*" ++ comment_text c (comment_text d res
 -- before rest, no byte that stands for itself begins a `(*` or a `*)`
 abbrev pub IsComment : Comment → List ℕ → Type 0
 IsComment comment_end rest = Unit {0}
-IsComment (byte b c) rest = ¬ Begins (codes "(*") (b ∷ comment_text c rest) × ¬ Begins (codes "*)") (b ∷ comment_text c rest) × IsComment c rest
+IsComment (byte b c) rest =
+    ¬ Begins (codes "(*") (b ∷ comment_text c rest)
+    × ¬ Begins (codes "*)") (b ∷ comment_text c rest)
+    × IsComment c rest
 IsComment (inner c d) rest = IsComment c (comment_text d rest) × IsComment d rest
 
 -- no comment ends in this text, which stands behind a `(*`
 abbrev pub NeverCloses : List ℕ → Type 0
-NeverCloses inside = (c : Comment) (rest : List ℕ) → IsComment c rest → inside ≡ comment_text c rest → ⊥
+NeverCloses inside =
+    (c : Comment) (rest : List ℕ) → IsComment c rest → inside ≡ comment_text c rest → ⊥
 
 -- a piece of a source text
 pub data Piece : Type 0 where
@@ -102,7 +114,8 @@ piece_text (token kind word) rest = word ++ rest
 abbrev pub IsPiece : Piece → List ℕ → Type 0
 IsPiece (space b) rest = IsTrue (is_space b)
 IsPiece (comment c) rest = IsComment c rest
-IsPiece (token kind word) rest = Spells kind word × IsLongest word rest × ¬ Begins (codes "(*") (word ++ rest)
+IsPiece (token kind word) rest =
+    Spells kind word × IsLongest word rest × ¬ Begins (codes "(*") (word ++ rest)
 
 -- the texts of pieces one after another, and then rest
 abbrev pub pieces_text : List Piece → List ℕ → List ℕ
@@ -122,9 +135,11 @@ abbrev pub tokens_from : ℕ → List Piece → List Token
 tokens_from at [] = []
 tokens_from at (space b ∷ ps) = tokens_from (at + 1) ps
 tokens_from at (comment c ∷ ps) = tokens_from (at + piece_width (comment c)) ps
-tokens_from at (token kind word ∷ ps) = record { kind = kind; from = at; to = at + length word } ∷ tokens_from (at + length word) ps
+tokens_from at (token kind word ∷ ps) =
+    record { kind = kind; from = at; to = at + length word } ∷ tokens_from (at + length word) ps
 
--- the bytes are spaces, comments and, in this order, the spellings of the list's tokens, each the longest at its place
+-- the bytes are spaces, comments and, in this order, the spellings of the list's tokens, each the
+-- longest at its place
 pub record Tokens (bytes : List ℕ) (list : List Token) : Type 0 where
   pub pieces : List Piece
   pub are_pieces : ArePieces pieces []
@@ -137,7 +152,8 @@ pub record SlicesSource (bytes : List ℕ) (list : List Token) : Type 0 where
   pub spelled : All (λ t. Spells t.kind (slice_range bytes t.from t.to)) list
   pub in_order : AllPairs (λ t u. t.to ≤ u.from) list
 
--- an integer above the greatest, a `(*` whose comment never ends, a byte that begins no space, comment or token
+-- an integer above the greatest, a `(*` whose comment never ends, a byte that begins no space,
+-- comment or token
 pub data Fault : Type 0 where
   number_too_large : Fault
   open_comment : Fault
@@ -145,9 +161,15 @@ pub data Fault : Type 0 where
 
 -- the text begins with this fault
 abbrev pub BeginsFault : Fault → List ℕ → Type 0
-BeginsFault number_too_large text = (word rest : List ℕ) × (text ≡ word ++ rest) × IsTrue (is_integer word) × IsLongest word rest × (greatest_integer < integer_value word)
-BeginsFault open_comment text = (inside : List ℕ) × (text ≡ codes "(*" ++ inside) × NeverCloses inside
-BeginsFault bad_byte text = (b : ℕ) × (rest : List ℕ) × (text ≡ b ∷ rest) × ¬ IsTrue (is_space b) × ¬ Begins (codes "(*") text × ((word after : List ℕ) → IsSpelling word → text ≡ word ++ after → ⊥)
+BeginsFault number_too_large text =
+    (word rest : List ℕ) × (text ≡ word ++ rest) × IsTrue (is_integer word) × IsLongest word rest
+    × (greatest_integer < integer_value word)
+BeginsFault open_comment text =
+    (inside : List ℕ) × (text ≡ codes "(*" ++ inside) × NeverCloses inside
+BeginsFault bad_byte text =
+    (b : ℕ) × (rest : List ℕ) × (text ≡ b ∷ rest) × ¬ IsTrue (is_space b)
+    × ¬ Begins (codes "(*") text
+    × ((word after : List ℕ) → IsSpelling word → text ≡ word ++ after → ⊥)
 
 -- whole pieces stand before the byte of this number, and the fault begins there
 pub record FirstFault (bytes : List ℕ) (fault : Fault) (at : ℕ) : Type 0 where

@@ -92,43 +92,56 @@ span_to i j = record { first = i; last = j - 1 }
 abbrev pub tree_by : {n : Nonterminal} (r : Rule n) → ℕ → ℕ → Values (right r) → Tree n
 tree_by no_selectors i j v = []
 tree_by next_selector i j (s, (ss, _)) = s ∷ ss
-tree_by field i j (_, (n, _)) = roll-Selector (record { span = span_to i j; form = selector.Field n })
-tree_by index i j (_, (e, _)) = roll-Selector (record { span = span_to i j; form = selector.Index e })
+tree_by field i j (_, (n, _)) =
+    roll-Selector (record { span = span_to i j; form = selector.Field n })
+tree_by index i j (_, (e, _)) =
+    roll-Selector (record { span = span_to i j; form = selector.Index e })
 tree_by name i j (n, (ss, _)) =
-    roll-Factor (record { span = span_to i j; form = factor.Name (roll-Designator (record { span = span_to i j; name = n; selectors = ss })) })
+    let target = roll-Designator (record { span = span_to i j; name = n; selectors = ss }) in
+    roll-Factor (record { span = span_to i j; form = factor.Name target })
 tree_by (number n) i j v = roll-Factor (record { span = span_to i j; form = factor.Number n })
-tree_by parenthesis i j (_, (e, _)) = roll-Factor (record { span = span_to i j; form = factor.Paren e })
+tree_by parenthesis i j (_, (e, _)) =
+    roll-Factor (record { span = span_to i j; form = factor.Paren e })
 tree_by negation i j (_, (f, _)) = roll-Factor (record { span = span_to i j; form = factor.Not f })
 tree_by term i j (f, (fs, _)) = roll-Term (record { span = span_to i j; first = f; rest = fs })
 tree_by no_factors i j v = []
-tree_by (next_factor op) i j (_, (f, (fs, _))) = roll-NextFactor (record { op = mul_kind op; factor = f }) ∷ fs
-tree_by simple_expression i j (s, (t, (ts, _))) = roll-SimpleExpr (record { span = span_to i j; sign = s; first = t; rest = ts })
+tree_by (next_factor op) i j (_, (f, (fs, _))) =
+    roll-NextFactor (record { op = mul_kind op; factor = f }) ∷ fs
+tree_by simple_expression i j (s, (t, (ts, _))) =
+    roll-SimpleExpr (record { span = span_to i j; sign = s; first = t; rest = ts })
 tree_by no_sign i j v = None
 tree_by plus_sign i j v = Some Plus
 tree_by minus_sign i j v = Some Minus
 tree_by no_terms i j v = []
-tree_by (next_term op) i j (_, (t, (ts, _))) = roll-NextTerm (record { op = add_kind op; term = t }) ∷ ts
-tree_by expression i j (e, (r, _)) = roll-Expr (record { span = span_to i j; left = e; relation = r })
+tree_by (next_term op) i j (_, (t, (ts, _))) =
+    roll-NextTerm (record { op = add_kind op; term = t }) ∷ ts
+tree_by expression i j (e, (r, _)) =
+    roll-Expr (record { span = span_to i j; left = e; relation = r })
 tree_by no_comparison i j v = None
-tree_by (comparison op) i j (_, (e, _)) = Some (roll-Relation (record { op = relation_kind op; right = e }))
+tree_by (comparison op) i j (_, (e, _)) =
+    Some (roll-Relation (record { op = relation_kind op; right = e }))
 tree_by parameters i j (_, (es, _)) = es
 tree_by no_arguments i j v = []
 tree_by arguments i j (e, (es, _)) = e ∷ es
 tree_by last_argument i j v = []
 tree_by next_argument i j (_, (e, (es, _))) = e ∷ es
 tree_by assignment i j (n, (ss, (k, (e, _)))) =
-    roll-Stmt (record { span = span_to i j; form = form.Assign (roll-Designator (record { span = span_to i k; name = n; selectors = ss })) e })
+    let target = roll-Designator (record { span = span_to i k; name = n; selectors = ss }) in
+    roll-Stmt (record { span = span_to i j; form = form.Assign target e })
 tree_by call i j (n, (es, _)) = roll-Stmt (record { span = span_to i j; form = form.Call n es })
 tree_by no_parameters i j v = []
-tree_by if_statement i j (_, (xs, (others, _))) = roll-Stmt (record { span = span_to i j; form = form.If xs others })
+tree_by if_statement i j (_, (xs, (others, _))) =
+    roll-Stmt (record { span = span_to i j; form = form.If xs others })
 tree_by arms i j (x, (xs, _)) = x ∷ xs
 tree_by arm i j (e, (_, (ss, _))) = roll-Arm (record { test = e; body = ss })
 tree_by no_elsif i j v = []
 tree_by next_elsif i j (_, (x, (xs, _))) = x ∷ xs
 tree_by no_else i j v = []
 tree_by otherwise i j (_, (ss, _)) = ss
-tree_by while_statement i j (_, (e, (_, (ss, _)))) = roll-Stmt (record { span = span_to i j; form = form.While e ss })
-tree_by repeat_statement i j (_, (ss, (_, (e, _)))) = roll-Stmt (record { span = span_to i j; form = form.Repeat ss e })
+tree_by while_statement i j (_, (e, (_, (ss, _)))) =
+    roll-Stmt (record { span = span_to i j; form = form.While e ss })
+tree_by repeat_statement i j (_, (ss, (_, (e, _)))) =
+    roll-Stmt (record { span = span_to i j; form = form.Repeat ss e })
 tree_by empty_statement i j v = None
 tree_by statement i j (s, _) = Some s
 tree_by statement_sequence i j (s, (ss, _)) = option_to_list s ++ ss
@@ -138,8 +151,10 @@ tree_by ident_list i j (n, (ns, _)) = n ∷ ns
 tree_by last_ident i j v = []
 tree_by next_ident i j (_, (n, (ns, _))) = n ∷ ns
 tree_by type_name i j (n, _) = roll-TypeExpr (record { span = span_to i j; form = shape.Name n })
-tree_by array i j (_, (e, (_, (t, _)))) = roll-TypeExpr (record { span = span_to i j; form = shape.Array e t })
-tree_by record_type i j (_, (fs, _)) = roll-TypeExpr (record { span = span_to i j; form = shape.Record fs })
+tree_by array i j (_, (e, (_, (t, _)))) =
+    roll-TypeExpr (record { span = span_to i j; form = shape.Array e t })
+tree_by record_type i j (_, (fs, _)) =
+    roll-TypeExpr (record { span = span_to i j; form = shape.Record fs })
 tree_by field_sequence i j (f, (fs, _)) = option_to_list f ++ fs
 tree_by name_list i j (ns, (_, (t, _))) = roll-NameList (record { names = ns; shape = t })
 tree_by empty_field_list i j v = None
@@ -155,11 +170,19 @@ tree_by sections i j (s, (ss, _)) = s ∷ ss
 tree_by last_section i j v = []
 tree_by next_section i j (_, (s, (ss, _))) = s ∷ ss
 tree_by procedure i j (_, (n, (ps, (_, (ds, (ss, (_, (close, _)))))))) =
-    roll-Proc (record { span = span_to i j; name = n; params = ps; decls = ds; body = ss; close = close })
+    roll-Proc (record {
+      span = span_to i j;
+      name = n;
+      params = ps;
+      decls = ds;
+      body = ss;
+      close = close;
+    })
 tree_by no_formals i j v = []
 tree_by no_body i j v = []
 tree_by body i j (_, (ss, _)) = ss
-tree_by declarations i j (cs, (ts, (vs, (ps, _)))) = roll-Decls (record { consts = cs; types = ts; vars = vs; procs = ps })
+tree_by declarations i j (cs, (ts, (vs, (ps, _)))) =
+    roll-Decls (record { consts = cs; types = ts; vars = vs; procs = ps })
 tree_by no_constants i j v = []
 tree_by constants i j (_, (cs, _)) = cs
 tree_by last_constant i j v = []
@@ -176,7 +199,8 @@ tree_by last_variables i j v = []
 tree_by next_variables i j (v, (_, (vs, _))) = v ∷ vs
 tree_by no_procedures i j v = []
 tree_by next_procedure i j (p, (_, (ps, _))) = p ∷ ps
-tree_by a_module i j (_, (n, (_, (ds, (ss, (_, (close, _))))))) = record { span = span_to i j; name = n; decls = ds; body = ss; close = close }
+tree_by a_module i j (_, (n, (_, (ds, (ss, (_, (close, _))))))) =
+    record { span = span_to i j; name = n; decls = ds; body = ss; close = close }
 
 -- the tree of a form whose first token has number i
 abbrev mutual

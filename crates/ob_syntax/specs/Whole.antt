@@ -38,8 +38,8 @@ pub record IsPlace (room : ℕ) (ks : List Kind) (k : ℕ) : Type 0 where
   pub longest : k < length ks → IsFront room (take (k + 1) ks) → ⊥
   pub no_module : k ≡ length ks → IsModule room ks → ⊥
 
--- The first k tokens begin a module of depth at most 64, and with the next one they begin none of any
--- depth, or there is no next one.
+-- The first k tokens begin a module of depth at most 64, and with the next one they begin none of
+-- any depth, or there is no next one.
 pub record StopsAt (ks : List Kind) (k : ℕ) : Type 0 where
   pub place : IsPlace most_nesting ks k
   pub none : (d : ℕ) → k < length ks → IsFront d (take (k + 1) ks) → ⊥

@@ -1,6 +1,7 @@
 // The tokens of Oberon-0 (Wirth, Compiler Construction, chapter 6).
 
-/// What a token is. A number has its value; the name of an identifier is the text that its token spans.
+/// What a token is. A number has its value; the name of an identifier is the text that its token
+/// spans.
 #[derive(Clone, Copy, Debug, PartialEq, Eq)]
 pub enum Kind {
     Ident,
@@ -125,8 +126,8 @@ impl Kind {
     }
 }
 
-/// A token: its kind, and its place in the source as the number of its first byte and of the byte behind its last,
-/// both from 0.
+/// A token: its kind, and its place in the source as the number of its first byte and of the byte
+/// behind its last, both from 0.
 #[derive(Clone, Copy, Debug, PartialEq, Eq)]
 pub struct Token {
     pub kind: Kind,

@@ -18,7 +18,8 @@ pub fn tokens_or_first_fault()
         (fault ≡ other) × (at ≡ place) }
 {}
 
-/// The span of each token of a text slices its spelling from the text, and spans follow one another.
+/// The span of each token of a text slices its spelling from the text, and spans follow one
+/// another.
 pub fn spans_slice_source()
     ensures { (bytes : List ℕ) (list : List Token) → Tokens bytes list → SlicesSource bytes list }
 {}

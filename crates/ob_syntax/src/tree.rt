@@ -1,7 +1,7 @@
 //! The tree of a module.
 //!
-//! A name is the number of its token. A list has one entry for each phrase of its repetition that is not empty, and
-//! an absent part is an empty list. Numbers of tokens count from 0.
+//! A name is the number of its token. A list has one entry for each phrase of its repetition that
+//! is not empty, and an absent part is an empty list. Numbers of tokens count from 0.
 
 use crate::token::Kind;
 use pra_list::{Owned, Seq};

@@ -19,8 +19,8 @@ pub fn at_most_one_tree()
         IsParsed bytes list t → IsParsed bytes other u → (list ≡ other) × (t ≡ u) }
 {}
 
-/// In the tree that tokens derive, a name is the number of an identifier's token, and the tokens of a
-/// phrase are in order, among those of the phrase around it.
+/// In the tree that tokens derive, a name is the number of an identifier's token, and the tokens of
+/// a phrase are in order, among those of the phrase around it.
 pub fn numbers_are_of_tokens()
     ensures { (ks : List Kind) (t : Module) → Derives grammar.Module ks t → IsNumbered ks t }
 {}

@@ -2,11 +2,11 @@ use Rattle.std.proofs.Common.{◌≡◌, ◌∙◌, sym, subst, refl, None, [], 
 use Rattle.std.proofs.lemmas.Result.{err_from_is_err_and}
 use Rattle.ob_syntax.specs.declared.token.Kind.{Kind}
 use Rattle.ob_syntax.specs.Grammar.{Module}
-use Rattle.ob_syntax.specs.Predict.{first}
+use Rattle.ob_syntax.specs.ChosenRule.{first}
 use Rattle.ob_parse.specs.declared.cursor.ParseFault.TheVariants.{Grammar, TooDeep}
 use Rattle.ob_parse.specs.Reading.{Fails, left}
 use Rattle.ob_syntax.specs.Whole.{kinds}
-use Rattle.ob_parse.proofs.Front.{found_tree, refused_only, refused_place, deep_place, behind_only, behind_place}
+use Rattle.ob_parse.proofs.RefusalPlace.{found_tree, refused_only, refused_place, deep_place, behind_only, behind_place}
 use Rattle.ob_parse.proofs.parse.Goals as goal
 
 no_token : (ks : List Kind) → first ks ≡ None → ks ≡ []

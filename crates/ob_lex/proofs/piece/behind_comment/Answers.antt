@@ -2,7 +2,7 @@ use Rattle.std.proofs.Common.{◌≡◌, [], ◌∷◌, length, get_or, ap, arit
 use Rattle.std.proofs.lemmas.Bool.Decides.{Decides-eqb}
 use Rattle.std.proofs.lemmas.Slice.Eq.{strip_prefix_is}
 use Rattle.std.proofs.lemmas.List.{nil_from_length}
-use Rattle.ob_lex.proofs.Nesting.{opens, closes, passes, all_closed, never_closed, first_and_rest}
+use Rattle.ob_lex.proofs.OpenComments.{opens, closes, passes, all_closed, never_closed, first_and_rest}
 use Rattle.ob_lex.proofs.piece.behind_comment.Goals as goal
 
 pub loop-depth-preserved-in-Some : goal.loop-depth-preserved-in-Some

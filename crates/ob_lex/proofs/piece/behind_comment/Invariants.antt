@@ -1,5 +1,5 @@
 use Rattle.std.proofs.Common.{◌+◌, ◌≤◌, length}
-use Rattle.ob_lex.proofs.Nesting.{Leads}
+use Rattle.ob_lex.proofs.OpenComments.{Leads}
 use Rattle.ob_lex.proofs.piece.behind_comment.Given as goal
 
 abbrev pub invariant-loop-depth : goal.invariant-loop-depth

@@ -3,7 +3,7 @@ use Rattle.std.proofs.lemmas.List.{take_rest}
 use Rattle.std.proofs.lemmas.Bool.Decides.{Decides-eqb}
 use Rattle.std.proofs.lemmas.Slice.Eq.{strip_prefix_is}
 use Rattle.ob_syntax.specs.Tokens.{bad_byte}
-use Rattle.ob_lex.proofs.Fronts.{comment_begins, space_begins, told}
+use Rattle.ob_lex.proofs.FirstPiece.{comment_begins, space_begins, told}
 use Rattle.ob_lex.proofs.piece.first_piece.Goals as goal
 
 pub returns-in-Some-behind_comment : goal.returns-in-Some-behind_comment

@@ -1,6 +1,6 @@
 use Rattle.std.proofs.Common.{◌+◌, ◌-◌, ◌*◌, ℕ, arith}
 use Rattle.std.proofs.lemmas.List.Sums.{fold_more}
-use Rattle.ob_lex.proofs.Fronts.{large_front}
+use Rattle.ob_lex.proofs.FirstPiece.{large_front}
 use Rattle.ob_lex.proofs.piece.integer.Goals as goal
 
 pub returns-then-value-gt-GREATEST : goal.returns-then-value-gt-GREATEST

@@ -1,7 +1,7 @@
 use Rattle.std.proofs.Common.{take, drop, ap, ◌∙◌, arith}
 use Rattle.std.specs.Char.{is_ascii_alphanumeric}
 use Rattle.std.proofs.lemmas.List.Sums.{prefix_len-le-length}
-use Rattle.ob_lex.proofs.Fronts.{IsCut, name_begins}
+use Rattle.ob_lex.proofs.FirstPiece.{IsCut, name_begins}
 use Rattle.ob_lex.proofs.piece.name.Goals as goal
 
 pub split_at-requires : goal.split_at-requires

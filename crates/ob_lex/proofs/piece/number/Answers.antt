@@ -1,7 +1,7 @@
 use Rattle.std.proofs.Common.{take, drop, ap, ◌∙◌, arith}
 use Rattle.std.specs.Char.{is_ascii_digit}
 use Rattle.std.proofs.lemmas.List.Sums.{prefix_len-le-length}
-use Rattle.ob_lex.proofs.Fronts.{IsCut, digits_cut, number_begins, number_too_large_begins}
+use Rattle.ob_lex.proofs.FirstPiece.{IsCut, digits_cut, number_begins, number_too_large_begins}
 use Rattle.ob_lex.proofs.piece.number.Goals as goal
 use Rattle.ob_lex.proofs.piece.number.Goals.{After-split_at}
 

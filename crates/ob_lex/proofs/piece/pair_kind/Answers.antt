@@ -1,4 +1,4 @@
-use Rattle.ob_lex.proofs.Fronts.{known_pair}
+use Rattle.ob_lex.proofs.FirstPiece.{known_pair}
 use Rattle.ob_lex.proofs.piece.pair_kind.Goals as goal
 
 pub returns-else-text-lt2 : goal.returns-else-text-lt2

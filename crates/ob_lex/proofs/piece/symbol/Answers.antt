@@ -1,5 +1,5 @@
 use Rattle.std.proofs.lemmas.List.{take_rest}
-use Rattle.ob_lex.proofs.Fronts.{pair_begins, single_begins, bad_byte_begins}
+use Rattle.ob_lex.proofs.FirstPiece.{pair_begins, single_begins, bad_byte_begins}
 use Rattle.ob_lex.proofs.piece.symbol.Goals as goal
 
 pub returns-in-Some : goal.returns-in-Some

@@ -5,8 +5,8 @@ use Rattle.ob_syntax.specs.Tokens.{Tokens}
 use Rattle.ob_syntax.proofs.Texts.{spans_slice, one_list, no_fault_in_tokens}
 use Rattle.ob_syntax.specs.Source.{most_tokens}
 use Rattle.ob_lex.specs.Scanning.{IsCause}
-use Rattle.ob_lex.proofs.Progress.{behind_shorter, behind_gap, behind_token, over_cause, kept_whole, fault_told}
-use Rattle.ob_lex.proofs.Causes.{kept_not_refused, longer_refused, fault_refused}
+use Rattle.ob_lex.proofs.ScannedSoFar.{behind_shorter, behind_gap, behind_token, over_cause, kept_whole, fault_told}
+use Rattle.ob_lex.proofs.OneCause.{kept_not_refused, longer_refused, fault_refused}
 use Rattle.ob_lex.proofs.scanner.lex.Goals as goal
 use Rattle.ob_lex.proofs.scanner.lex.Goals.{then-count-lt-MAX_TOKENS+in_ok-map_err, else-count-lt-MAX_TOKENS, In_err-front, Else-count-gt-MAX_TOKENS}
 

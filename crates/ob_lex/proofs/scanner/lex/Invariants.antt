@@ -1,5 +1,5 @@
 use Rattle.std.proofs.Common.{◌+◌, ◌≤◌, length}
-use Rattle.ob_lex.proofs.Progress.{IsScannedTo}
+use Rattle.ob_lex.proofs.ScannedSoFar.{IsScannedTo}
 use Rattle.ob_lex.proofs.scanner.lex.Given as goal
 
 abbrev pub invariant-loop-rest : goal.invariant-loop-rest

@@ -1,12 +1,12 @@
 use Rattle.std.proofs.Common.{ℕ, [], ◌∷◌, ap, ◌∙◌, sym, subst, arith}
 use Rattle.ob_syntax.specs.declared.token.Kind.TheVariants.{KwBegin}
 use Rattle.ob_syntax.specs.Grammar.{level, phrase, Body, StatementSequence, body, no_body}
-use Rattle.ob_syntax.specs.Predict.{first, by_first}
+use Rattle.ob_syntax.specs.ChosenRule.{first, by_first}
 use Rattle.ob_syntax.specs.Tree.{tree_by}
 use Rattle.ob_parse.specs.declared.cursor.Parser.{Parser}
 use Rattle.ob_parse.specs.Reading.{place, IsRead, IsNext}
 use Rattle.ob_parse.proofs.Choices.{not_begin}
-use Rattle.ob_parse.proofs.Steps.{Waits, opened, after_token, after_phrase, as_deep, closed, phrase_fails, exits}
+use Rattle.ob_parse.proofs.PhraseUnderway.{Waits, opened, after_token, after_phrase, as_deep, closed, phrase_fails, exits}
 use Rattle.ob_parse.proofs.declaration.body.Goals as goal
 
 wanted : (room : ℕ) (p q : Parser) → IsNext KwBegin p q → Waits Body (phrase level StatementSequence ∷ []) room (λ j v. tree_by body (place p) j (place p, v)) p q

@@ -1,6 +1,6 @@
 use Rattle.std.proofs.Common.{refl, arith}
 use Rattle.ob_syntax.specs.Grammar.{Constant, constant}
-use Rattle.ob_parse.proofs.Steps.{opened, after_token, after_phrase, as_deep, closed, token_missing, phrase_fails, exits}
+use Rattle.ob_parse.proofs.PhraseUnderway.{opened, after_token, after_phrase, as_deep, closed, token_missing, phrase_fails, exits}
 use Rattle.ob_parse.proofs.declaration.constant.Goals as goal
 
 pub returns-in_err-expect : goal.returns-in_err-expect

@@ -1,12 +1,12 @@
 use Rattle.std.proofs.Common.{ℕ, [], ◌∷◌, ap, ◌∙◌, sym, subst, arith}
 use Rattle.ob_syntax.specs.declared.token.Kind.TheVariants.{KwConst}
 use Rattle.ob_syntax.specs.Grammar.{level, phrase, Constants, ConstantList, constants, no_constants}
-use Rattle.ob_syntax.specs.Predict.{first, by_first}
+use Rattle.ob_syntax.specs.ChosenRule.{first, by_first}
 use Rattle.ob_syntax.specs.Tree.{tree_by}
 use Rattle.ob_parse.specs.declared.cursor.Parser.{Parser}
 use Rattle.ob_parse.specs.Reading.{place, IsRead, IsNext}
 use Rattle.ob_parse.proofs.Choices.{not_const}
-use Rattle.ob_parse.proofs.Steps.{Waits, opened, after_token, after_phrase, as_deep, closed, phrase_fails, exits}
+use Rattle.ob_parse.proofs.PhraseUnderway.{Waits, opened, after_token, after_phrase, as_deep, closed, phrase_fails, exits}
 use Rattle.ob_parse.proofs.declaration.constants.Goals as goal
 
 wanted : (room : ℕ) (p q : Parser) → IsNext KwConst p q → Waits Constants (phrase level ConstantList ∷ []) room (λ j v. tree_by constants (place p) j (place p, v)) p q

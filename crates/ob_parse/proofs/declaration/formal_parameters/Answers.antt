@@ -1,12 +1,12 @@
 use Rattle.std.proofs.Common.{ℕ, [], ◌∷◌, ap, ◌∙◌, sym, subst, arith}
 use Rattle.ob_syntax.specs.declared.token.Kind.TheVariants.{LeftParen, RightParen}
 use Rattle.ob_syntax.specs.Grammar.{level, token, phrase, FormalParameters, SectionList, formals, no_formals}
-use Rattle.ob_syntax.specs.Predict.{first, by_first}
+use Rattle.ob_syntax.specs.ChosenRule.{first, by_first}
 use Rattle.ob_syntax.specs.Tree.{tree_by}
 use Rattle.ob_parse.specs.declared.cursor.Parser.{Parser}
 use Rattle.ob_parse.specs.Reading.{place, IsRead, IsNext}
 use Rattle.ob_parse.proofs.Choices.{no_formals_first}
-use Rattle.ob_parse.proofs.Steps.{Waits, opened, after_token, after_phrase, as_deep, closed, token_missing, phrase_fails, exits}
+use Rattle.ob_parse.proofs.PhraseUnderway.{Waits, opened, after_token, after_phrase, as_deep, closed, token_missing, phrase_fails, exits}
 use Rattle.ob_parse.proofs.declaration.formal_parameters.Goals as goal
 
 wanted : (room : ℕ) (p q : Parser) → IsNext LeftParen p q → Waits FormalParameters (phrase level SectionList ∷ token RightParen ∷ []) room (λ j v. tree_by formals (place p) j (place p, v)) p q

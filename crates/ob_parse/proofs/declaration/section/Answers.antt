@@ -2,11 +2,11 @@ use Rattle.std.proofs.Common.{◌≡◌, ℕ, Some, Bool, true, false, refl, ap,
 use Rattle.std.specs.Prelude.{MatchBool}
 use Rattle.ob_syntax.specs.declared.token.Kind.TheVariants.{KwVar}
 use Rattle.ob_syntax.specs.Grammar.{Section, ByVar, section, by_var, by_value}
-use Rattle.ob_syntax.specs.Predict.{first, by_first}
+use Rattle.ob_syntax.specs.ChosenRule.{first, by_first}
 use Rattle.ob_parse.specs.declared.cursor.Parser.{Parser}
 use Rattle.ob_parse.specs.Reading.{left, IsRead, IsNext}
 use Rattle.ob_parse.proofs.Choices.{by_value_first}
-use Rattle.ob_parse.proofs.Steps.{opened, after_token, after_phrase, as_deep, closed, token_missing, phrase_fails, exits}
+use Rattle.ob_parse.proofs.PhraseUnderway.{opened, after_token, after_phrase, as_deep, closed, token_missing, phrase_fails, exits}
 use Rattle.ob_parse.proofs.declaration.section.Goals as goal
 
 var_read : (b : Bool) (room : ℕ) (p q : Parser) → MatchBool b (IsNext KwVar p q) ((q ≡ p) × (first (left p) ≡ Some KwVar → ⊥)) → IsRead ByVar room b p q

@@ -2,13 +2,13 @@ use Rattle.std.proofs.Common.{◌≡◌, ℕ, List, [], ◌∷◌, ◌++◌, Som
 use Rattle.ob_syntax.specs.declared.token.Kind.TheVariants.{Semicolon}
 use Rattle.ob_syntax.specs.declared.tree.Section.{Section as ASection}
 use Rattle.ob_syntax.specs.Grammar.{level, phrase, SectionList, Sections, Section, sections, no_sections, next_section, last_section}
-use Rattle.ob_syntax.specs.Predict.{first, by_first}
+use Rattle.ob_syntax.specs.ChosenRule.{first, by_first}
 use Rattle.ob_syntax.specs.Tree.{tree_by}
 use Rattle.ob_parse.specs.declared.cursor.Parser.{Parser}
 use Rattle.ob_parse.specs.Reading.{left, place, IsRead, IsNext}
 use Rattle.ob_parse.proofs.Choices.{no_section_first}
-use Rattle.ob_parse.proofs.Loops.{put_one}
-use Rattle.ob_parse.proofs.Steps.{Waits, opened, after_token, after_phrase, as_deep, closed, phrase_fails, again, rewrap, exits}
+use Rattle.ob_parse.proofs.ItemsAsLists.{put_one}
+use Rattle.ob_parse.proofs.PhraseUnderway.{Waits, opened, after_token, after_phrase, as_deep, closed, phrase_fails, again, rewrap, exits}
 use Rattle.ob_parse.proofs.declaration.section_list.Goals as goal
 
 next_wanted : (room : ℕ) (p q : Parser) → IsNext Semicolon p q → Waits Sections (phrase level Section ∷ phrase level Sections ∷ []) room (λ j v. tree_by next_section (place p) j (place p, v)) p q

@@ -2,13 +2,13 @@ use Rattle.std.proofs.Common.{◌≡◌, ℕ, ◌+◌, ◌-◌, List, [], ◌∷
 use Rattle.ob_syntax.specs.declared.token.Kind.TheVariants.{Ident, Semicolon}
 use Rattle.ob_syntax.specs.declared.tree.NameList.{NameList as Names}
 use Rattle.ob_syntax.specs.Grammar.{level, deeper, token, phrase, VariableList, NameList, next_variables, last_variables}
-use Rattle.ob_syntax.specs.Predict.{first, by_first}
+use Rattle.ob_syntax.specs.ChosenRule.{first, by_first}
 use Rattle.ob_syntax.specs.Tree.{tree_by}
 use Rattle.ob_parse.specs.declared.cursor.Parser.{Parser}
 use Rattle.ob_parse.specs.Reading.{left, place, IsRead, IsNext}
 use Rattle.ob_parse.proofs.Choices.{no_variable_first, names_begin}
-use Rattle.ob_parse.proofs.Loops.{put_one}
-use Rattle.ob_parse.proofs.Steps.{Waits, opened, after_token, after_phrase, as_deep, one_deeper, closed, too_deep, begins_inside, token_missing, phrase_fails, begun, again, rewrap, exits}
+use Rattle.ob_parse.proofs.ItemsAsLists.{put_one}
+use Rattle.ob_parse.proofs.PhraseUnderway.{Waits, opened, after_token, after_phrase, as_deep, one_deeper, closed, too_deep, begins_inside, token_missing, phrase_fails, begun, again, rewrap, exits}
 use Rattle.ob_parse.specs.declared.cursor.ParseFault.TheVariants.{TooDeep}
 use Rattle.ob_parse.proofs.declaration.variable_list.Goals as goal
 

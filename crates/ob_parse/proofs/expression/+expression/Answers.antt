@@ -10,13 +10,13 @@ use Rattle.ob_syntax.specs.declared.tree.Selector.{Selector as ASelector}
 use Rattle.ob_syntax.specs.declared.tree.Factor.{Factor as AFactor}
 use Rattle.ob_syntax.specs.declared.tree.Term.{Term as ATerm}
 use Rattle.ob_syntax.specs.Grammar.{Selectors, Selector, Factor, Factors, Term, Terms, Sign, SimpleExpression, Comparison, Expression, mul_kind, add_kind, relation_kind, MulOp, AddOp, RelationOp, level, deeper, token, phrase, no_selectors, next_selector, field, index, name, number, parenthesis, negation, no_factors, next_factor, term, no_terms, next_term, simple_expression, no_comparison, comparison, expression}
-use Rattle.ob_syntax.specs.Predict.{first, by_first}
+use Rattle.ob_syntax.specs.ChosenRule.{first, by_first}
 use Rattle.ob_syntax.specs.Tree.{tree_by}
 use Rattle.ob_parse.specs.declared.cursor.Parser.{Parser}
 use Rattle.ob_parse.specs.Reading.{left, place, IsRead, IsNext}
 use Rattle.ob_parse.proofs.Choices.{kind_at, mul_first, no_mul_first, add_first, no_add_first, relation_first, no_relation_first, no_factor_first, no_selector_first}
-use Rattle.ob_parse.proofs.Moves.{later, factor_later, term_later, simple_later, selector_shorter}
-use Rattle.ob_parse.proofs.Steps.{Waits, opened, after_token, after_phrase, roomier, as_deep, one_deeper, closed, refused, too_deep, begins_with, token_missing, phrase_fails, begun, again, rewrap, exits}
+use Rattle.ob_parse.proofs.PhrasesAdvance.{later, factor_later, term_later, simple_later, selector_shorter}
+use Rattle.ob_parse.proofs.PhraseUnderway.{Waits, opened, after_token, after_phrase, roomier, as_deep, one_deeper, closed, refused, too_deep, begins_with, token_missing, phrase_fails, begun, again, rewrap, exits}
 use Rattle.ob_parse.proofs.expression.+expression.Goals as goal
 
 -- ---- comparison

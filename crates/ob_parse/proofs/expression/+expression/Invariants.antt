@@ -1,7 +1,7 @@
 use Rattle.std.proofs.Common.{◌+◌, ◌*◌, ◌++◌, length, [], ◌∷◌}
 use Rattle.ob_syntax.specs.Grammar.{level, phrase, Selectors, Factors, Terms}
 use Rattle.ob_parse.specs.Reading.{left}
-use Rattle.ob_parse.proofs.Steps.{Waits}
+use Rattle.ob_parse.proofs.PhraseUnderway.{Waits}
 use Rattle.ob_parse.proofs.expression.+expression.Given as goal
 
 abbrev pub decreases-expression : goal.decreases-expression

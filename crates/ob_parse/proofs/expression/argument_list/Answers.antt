@@ -2,13 +2,13 @@ use Rattle.std.proofs.Common.{◌≡◌, ℕ, ◌+◌, ◌-◌, List, [], ◌∷
 use Rattle.ob_syntax.specs.declared.token.Kind.TheVariants.{Comma}
 use Rattle.ob_syntax.specs.declared.tree.Expr.{Expr}
 use Rattle.ob_syntax.specs.Grammar.{ArgumentList, Arguments, Expression, level, deeper, phrase, arguments, no_arguments, next_argument, last_argument}
-use Rattle.ob_syntax.specs.Predict.{first, by_first}
+use Rattle.ob_syntax.specs.ChosenRule.{first, by_first}
 use Rattle.ob_syntax.specs.Tree.{tree_by}
 use Rattle.ob_parse.specs.declared.cursor.Parser.{Parser}
 use Rattle.ob_parse.specs.Reading.{left, place, IsRead, IsNext}
 use Rattle.ob_parse.proofs.Choices.{expression_begins, not_comma}
-use Rattle.ob_parse.proofs.Loops.{put_one}
-use Rattle.ob_parse.proofs.Steps.{Waits, opened, after_token, after_phrase, as_deep, one_deeper, closed, too_deep, begins_inside, phrase_fails, again, rewrap, exits}
+use Rattle.ob_parse.proofs.ItemsAsLists.{put_one}
+use Rattle.ob_parse.proofs.PhraseUnderway.{Waits, opened, after_token, after_phrase, as_deep, one_deeper, closed, too_deep, begins_inside, phrase_fails, again, rewrap, exits}
 use Rattle.ob_parse.proofs.expression.argument_list.Goals as goal
 
 first_wanted : (room : ℕ) (p : Parser) → by_first ArgumentList (first (left p)) ≡ Some arguments → Waits ArgumentList (phrase deeper Expression ∷ phrase level Arguments ∷ []) room (tree_by arguments (place p)) p p

@@ -1,7 +1,7 @@
 use Rattle.std.proofs.Common.{◌++◌, length, [], ◌∷◌}
 use Rattle.ob_syntax.specs.Grammar.{level, phrase, Arguments, ArgumentList}
 use Rattle.ob_parse.specs.Reading.{left}
-use Rattle.ob_parse.proofs.Steps.{Waits}
+use Rattle.ob_parse.proofs.PhraseUnderway.{Waits}
 use Rattle.ob_parse.proofs.expression.argument_list.Given as goal
 
 abbrev pub invariant-loop-p : goal.invariant-loop-p

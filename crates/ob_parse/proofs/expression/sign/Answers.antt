@@ -2,11 +2,11 @@ use Rattle.std.proofs.Common.{◌≡◌, Some, sym, ap, ◌∙◌, subst, inl, i
 use Rattle.ob_syntax.specs.declared.token.Kind.{Kind}
 use Rattle.ob_syntax.specs.declared.token.Kind.TheVariants.{Plus, Minus}
 use Rattle.ob_syntax.specs.Grammar.{Sign, no_sign, plus_sign, minus_sign}
-use Rattle.ob_syntax.specs.Predict.{first, by_first}
+use Rattle.ob_syntax.specs.ChosenRule.{first, by_first}
 use Rattle.ob_parse.specs.declared.cursor.Parser.{Parser}
 use Rattle.ob_parse.specs.Reading.{IsRead, IsNext}
 use Rattle.ob_parse.proofs.Choices.{no_sign_at}
-use Rattle.ob_parse.proofs.Steps.{opened, closed, after_token}
+use Rattle.ob_parse.proofs.PhraseUnderway.{opened, closed, after_token}
 use Rattle.ob_parse.proofs.expression.sign.Goals as goal
 
 plus_read : (p q : Parser) (k : Kind) → k ≡ Plus → IsNext k p q → IsRead Sign 0 (Some k) p q

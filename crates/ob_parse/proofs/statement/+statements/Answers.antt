@@ -4,14 +4,14 @@ use Rattle.ob_syntax.specs.declared.token.Kind.TheVariants.{KwDo, KwElse, KwElsi
 use Rattle.ob_syntax.specs.declared.tree.Stmt.{Stmt}
 use Rattle.ob_syntax.specs.declared.tree.Arm.{Arm as ArmTree}
 use Rattle.ob_syntax.specs.Grammar.{level, deeper, inner, token, phrase, StatementSequence, Statements, Statement, Action, Arms, Arm, Elsifs, Else, Expression, statement_sequence, next_statement, last_statement, empty_statement, statement, if_statement, while_statement, repeat_statement, arms, arm, next_elsif, no_elsif, otherwise, no_else}
-use Rattle.ob_syntax.specs.Predict.{first, by_first}
+use Rattle.ob_syntax.specs.ChosenRule.{first, by_first}
 use Rattle.ob_syntax.specs.Tree.{tree_by}
 use Rattle.ob_parse.specs.declared.cursor.Parser.{Parser}
 use Rattle.ob_parse.specs.Reading.{left, place, IsRead, IsNext}
 use Rattle.ob_parse.proofs.Choices.{no_statement_first, statement_begins, no_action_first, at_if, at_while, at_repeat, not_elsif, not_else}
-use Rattle.ob_parse.proofs.Loops.{put_one, put_some}
-use Rattle.ob_parse.proofs.Moves.{later}
-use Rattle.ob_parse.proofs.Steps.{Waits, opened, after_token, after_phrase, as_deep, one_deeper, at_least_one, closed, refused, too_deep, begins_with, begins_inside, token_missing, phrase_fails, again, rewrap, exits}
+use Rattle.ob_parse.proofs.ItemsAsLists.{put_one, put_some}
+use Rattle.ob_parse.proofs.PhrasesAdvance.{later}
+use Rattle.ob_parse.proofs.PhraseUnderway.{Waits, opened, after_token, after_phrase, as_deep, one_deeper, at_least_one, closed, refused, too_deep, begins_with, begins_inside, token_missing, phrase_fails, again, rewrap, exits}
 use Rattle.ob_parse.proofs.statement.+statements.Goals as goal
 
 -- ---- statement sequence

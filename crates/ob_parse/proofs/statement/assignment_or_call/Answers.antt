@@ -1,8 +1,8 @@
 use Rattle.std.proofs.Common.{arith}
 use Rattle.ob_syntax.specs.declared.token.Kind.TheVariants.{Ident}
 use Rattle.ob_syntax.specs.Grammar.{Action}
-use Rattle.ob_parse.proofs.Steps.{after_token, after_phrase, as_deep, closed, token_missing, phrase_fails, exits}
-use Rattle.ob_parse.proofs.Named.{assigned, called}
+use Rattle.ob_parse.proofs.PhraseUnderway.{after_token, after_phrase, as_deep, closed, token_missing, phrase_fails, exits}
+use Rattle.ob_parse.proofs.AssignmentOrCall.{assigned, called}
 use Rattle.ob_parse.proofs.statement.assignment_or_call.Goals as goal
 
 pub returns-in_err-selectors : goal.returns-in_err-selectors

@@ -3,13 +3,13 @@ use Rattle.std.specs.Prelude.{option_to_list}
 use Rattle.ob_syntax.specs.declared.token.Kind.TheVariants.{Ident, KwArray, KwEnd, KwOf, KwRecord, Semicolon}
 use Rattle.ob_syntax.specs.declared.tree.NameList.{NameList as Names}
 use Rattle.ob_syntax.specs.Grammar.{level, deeper, token, phrase, NameList, TypeExpression, Expression, FieldList, FieldLists, FieldSequence, name_list, type_name, array, record_type, empty_field_list, field_list, next_field_list, last_field_list, field_sequence}
-use Rattle.ob_syntax.specs.Predict.{first, by_first}
+use Rattle.ob_syntax.specs.ChosenRule.{first, by_first}
 use Rattle.ob_syntax.specs.Tree.{tree_by}
 use Rattle.ob_parse.specs.declared.cursor.Parser.{Parser}
 use Rattle.ob_parse.specs.Reading.{left, place, IsRead, IsNext}
 use Rattle.ob_parse.proofs.Choices.{kind_at, no_list_first, no_field_first, no_type_expression_first, names_begin}
-use Rattle.ob_parse.proofs.Loops.{put_some}
-use Rattle.ob_parse.proofs.Steps.{Waits, opened, after_token, after_phrase, as_deep, one_deeper, closed, refused, too_deep, begins_with, begins_inside, token_missing, phrase_fails, again, rewrap, exits}
+use Rattle.ob_parse.proofs.ItemsAsLists.{put_some}
+use Rattle.ob_parse.proofs.PhraseUnderway.{Waits, opened, after_token, after_phrase, as_deep, one_deeper, closed, refused, too_deep, begins_with, begins_inside, token_missing, phrase_fails, again, rewrap, exits}
 use Rattle.ob_parse.proofs.types.+types.Goals as goal
 
 -- ---- names of one type

@@ -1,7 +1,7 @@
 use Rattle.std.proofs.Common.{◌+◌, ◌*◌, ◌++◌, length, [], ◌∷◌}
 use Rattle.ob_syntax.specs.Grammar.{level, phrase, FieldSequence, FieldLists}
 use Rattle.ob_parse.specs.Reading.{left}
-use Rattle.ob_parse.proofs.Steps.{Waits}
+use Rattle.ob_parse.proofs.PhraseUnderway.{Waits}
 use Rattle.ob_parse.proofs.types.+types.Given as goal
 
 abbrev pub decreases-field_sequence : goal.decreases-field_sequence

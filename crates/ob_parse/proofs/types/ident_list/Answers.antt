@@ -1,13 +1,13 @@
 use Rattle.std.proofs.Common.{◌≡◌, ℕ, List, [], ◌∷◌, ◌++◌, refl, ap, ◌∙◌, sym, subst, arith, append-nil}
 use Rattle.ob_syntax.specs.declared.token.Kind.TheVariants.{Ident, Comma}
 use Rattle.ob_syntax.specs.Grammar.{level, token, phrase, IdentList, Idents, ident_list, next_ident, last_ident}
-use Rattle.ob_syntax.specs.Predict.{first, by_first}
+use Rattle.ob_syntax.specs.ChosenRule.{first, by_first}
 use Rattle.ob_syntax.specs.Tree.{tree_by}
 use Rattle.ob_parse.specs.declared.cursor.Parser.{Parser}
 use Rattle.ob_parse.specs.Reading.{place, IsRead, IsNext}
 use Rattle.ob_parse.proofs.Choices.{no_ident_first}
-use Rattle.ob_parse.proofs.Loops.{put_one}
-use Rattle.ob_parse.proofs.Steps.{Waits, opened, after_token, after_phrase, as_deep, closed, token_missing, again, rewrap, exits}
+use Rattle.ob_parse.proofs.ItemsAsLists.{put_one}
+use Rattle.ob_parse.proofs.PhraseUnderway.{Waits, opened, after_token, after_phrase, as_deep, closed, token_missing, again, rewrap, exits}
 use Rattle.ob_parse.proofs.types.ident_list.Goals as goal
 
 next_wanted : (room : ℕ) (p q : Parser) → IsNext Comma p q → Waits Idents (token Ident ∷ phrase level Idents ∷ []) room (λ j v. tree_by next_ident (place p) j (place p, v)) p q

@@ -1,7 +1,7 @@
 use Rattle.std.proofs.Common.{ℕ, ◌++◌, length, [], ◌∷◌}
 use Rattle.ob_syntax.specs.Grammar.{level, phrase, IdentList, Idents}
 use Rattle.ob_parse.specs.Reading.{left}
-use Rattle.ob_parse.proofs.Steps.{Waits}
+use Rattle.ob_parse.proofs.PhraseUnderway.{Waits}
 use Rattle.ob_parse.proofs.types.ident_list.Given as goal
 
 abbrev pub invariant-loop-next : goal.invariant-loop-next

@@ -1,4 +1,4 @@
-use Rattle.ob_syntax.proofs.Numbered.{numbered}
+use Rattle.ob_syntax.proofs.NumbersInTrees.{numbered}
 use Rattle.ob_syntax.proofs.tree_laws.numbers_are_of_tokens.Goals as goal
 
 pub returns : goal.returns

@@ -1,7 +1,7 @@
 use Rattle.std.proofs.Common.{◌∷◌, arith, refl, sym, ◌∙◌, ap, add-one, drop}
 use Rattle.ob_parse.specs.Reading.{left, place}
 use Rattle.ob_syntax.specs.Whole.{kinds}
-use Rattle.ob_parse.proofs.Tokens.{below, gone}
+use Rattle.ob_parse.proofs.KindsLeft.{below, gone}
 use Rattle.ob_parse.proofs.cursor.Parser.advance.Goals as goal
 
 pub overflow_add-self : goal.overflow_add-self

@@ -1,7 +1,7 @@
 use Rattle.std.proofs.Common.{arith}
 use Rattle.std.proofs.lemmas.Grind.{common_steps}
 use Rattle.ob_parse.specs.Reading.{left}
-use Rattle.ob_parse.proofs.Tokens.{first_is}
+use Rattle.ob_parse.proofs.KindsLeft.{first_is}
 use Rattle.ob_parse.proofs.cursor.Parser.peek.Goals as goal
 
 pub returns : goal.returns

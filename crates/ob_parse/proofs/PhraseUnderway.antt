@@ -5,11 +5,11 @@ use Rattle.ob_syntax.specs.declared.token.Kind.{Kind}
 use Rattle.ob_syntax.specs.Grammar.{Nonterminal, Nesting, level, deeper, inner, Symbol, token, phrase, Rule, right}
 use Rattle.ob_syntax.specs.Forms.{Form, Parts, made, done, taken, part, spell, spells, end, ends, depth, depths, nest}
 use Rattle.ob_syntax.specs.Derives.{text, texts}
-use Rattle.ob_syntax.specs.Predict.{first, choose, Ends, Follow}
+use Rattle.ob_syntax.specs.ChosenRule.{first, choose, Ends, Follow}
 use Rattle.ob_syntax.specs.Tree.{Tree, Values, tree, values, tree_by}
-use Rattle.ob_syntax.proofs.Unique.{chosen_one, one_form}
-use Rattle.ob_syntax.proofs.Least.{least, least_flat, least_parts, least_deep, base, floor, floor_least, nest_more}
-use Rattle.ob_syntax.proofs.Spelled.{spell_text, spells_texts}
+use Rattle.ob_syntax.proofs.OneForm.{chosen_one, one_form}
+use Rattle.ob_syntax.proofs.LeastForms.{least, least_flat, least_parts, least_deep, base, floor, floor_least, nest_more}
+use Rattle.ob_syntax.proofs.FormTokens.{spell_text, spells_texts}
 use Rattle.ob_parse.specs.declared.cursor.Parser.{Parser}
 use Rattle.ob_parse.specs.declared.cursor.ParseFault.{ParseFault}
 use Rattle.ob_parse.specs.declared.cursor.ParseFault.TheVariants.{Grammar, TooDeep, OutOfMemory}

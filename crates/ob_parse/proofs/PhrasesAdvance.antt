@@ -3,7 +3,7 @@ use Rattle.std.proofs.Common.{ℕ, ◌+◌, ◌≤◌, ◌<◌, List, length, le
 use Rattle.ob_syntax.specs.Grammar.{Nonterminal, Symbol, right, Selector, Factor, Term, SimpleExpression, field, index, name, number, parenthesis, negation, term, simple_expression}
 use Rattle.ob_syntax.specs.Forms.{Form, Parts, made, done, taken, part, end, ends}
 use Rattle.ob_syntax.specs.Tree.{Tree}
-use Rattle.ob_syntax.proofs.Stays.{stays, all_stay}
+use Rattle.ob_syntax.proofs.FormsAdvance.{stays, all_stay}
 use Rattle.ob_parse.specs.declared.cursor.Parser.{Parser}
 use Rattle.ob_parse.specs.Reading.{left, place, IsRead}
 

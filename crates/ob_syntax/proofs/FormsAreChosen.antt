@@ -7,8 +7,8 @@ use Rattle.ob_syntax.specs.declared.token.Kind.{Kind}
 use Rattle.ob_syntax.specs.declared.token.Kind.TheVariants.{Ident, Number, KwBegin, KwConst, KwDiv, KwElse, KwElsif, KwIf, KwMod, KwOr, KwProcedure, KwRepeat, KwType, KwVar, KwWhile, Period, Comma, Semicolon, Becomes, LeftParen, LeftBracket, Tilde, Times, Amp, Plus, Minus, Equal, Unequal, Less, LessEqual, Greater, GreaterEqual}
 use Rattle.ob_syntax.specs.Grammar.{MulOp, AddOp, RelationOp, mul_kind, add_kind, relation_kind, Nonterminal, Selectors, Selector, Factor, Factors, Term, Terms, Sign, SimpleExpression, Comparison, Expression, ArgumentList, Arguments, ActualParameters, Arm, Elsifs, Arms, Else, Action, Statement, Statements, StatementSequence, Idents, IdentList, NameList, FieldList, FieldLists, FieldSequence, TypeExpression, ByVar, Section, Sections, SectionList, FormalParameters, Procedure, Procedures, Constant, ConstantList, Constants, TypeDeclaration, TypeList, Types, VariableList, Variables, Declarations, Body, Module, times, quotient, remainder, both, plus, minus, either, equal, unequal, less, less_equal, greater, greater_equal, Symbol, token, phrase, Rule, no_selectors, next_selector, field, index, name, number, parenthesis, negation, no_factors, next_factor, term, no_terms, next_term, no_sign, plus_sign, minus_sign, simple_expression, no_comparison, comparison, expression, no_arguments, arguments, last_argument, next_argument, no_parameters, parameters, arm, no_elsif, next_elsif, arms, no_else, otherwise, assignment, call, if_statement, while_statement, repeat_statement, empty_statement, statement, last_statement, next_statement, statement_sequence, last_ident, next_ident, ident_list, name_list, empty_field_list, field_list, last_field_list, next_field_list, field_sequence, type_name, array, record_type, by_value, by_var, section, last_section, next_section, no_sections, sections, no_formals, formals, procedure, no_procedures, next_procedure, constant, last_constant, next_constant, no_constants, constants, type_declaration, last_type, next_type, no_types, types, last_variables, next_variables, no_variables, variables, declarations, no_body, body, a_module, right}
 use Rattle.ob_syntax.specs.Forms.{Form, Parts, made, done, taken, part, spell, spells}
-use Rattle.ob_syntax.specs.Predict.{first, by_first, behind_name, choose, Ends, Follow}
-use Rattle.ob_syntax.proofs.Chosen.{by_value_first, mul_first, no_mul_first, add_first, no_add_first, relation_first, no_relation_first, no_selector, no_sign_at, no_argument_at, not_comma, not_left_paren, not_elsif, not_else, no_statement_at, no_statement_first, no_ident_first, no_list_first, no_field_first, no_section_at, no_section_first, no_formals_first, not_procedure, no_constant_first, not_const, no_type_first, not_type, no_variable_first, not_var, not_begin, no_assignment}
+use Rattle.ob_syntax.specs.ChosenRule.{first, by_first, behind_name, choose, Ends, Follow}
+use Rattle.ob_syntax.proofs.TokensChoose.{by_value_first, mul_first, no_mul_first, add_first, no_add_first, relation_first, no_relation_first, no_selector, no_sign_at, no_argument_at, not_comma, not_left_paren, not_elsif, not_else, no_statement_at, no_statement_first, no_ident_first, no_list_first, no_field_first, no_section_at, no_section_first, no_formals_first, not_procedure, no_constant_first, not_const, no_type_first, not_type, no_variable_first, not_var, not_begin, no_assignment}
 
 -- How far out a token goes on with what stands before it: a token goes on only with phrases of at most its level.
 abbrev level : Kind → ℕ

@@ -4,7 +4,7 @@ use Rattle.std.specs.Prelude.{slice_get, option_map}
 use Rattle.ob_syntax.specs.declared.token.Kind.{Kind}
 use Rattle.ob_syntax.specs.declared.token.Token.{Token}
 use Rattle.ob_syntax.specs.Whole.{kinds}
-use Rattle.ob_syntax.specs.Predict.{first}
+use Rattle.ob_syntax.specs.ChosenRule.{first}
 
 pub first_is : (xs : List Token) (n : ℕ) → first (kinds (drop n xs)) ≡ option_map (λ x. x.kind) (slice_get xs n)
 first_is [] zero = refl

@@ -1,7 +1,7 @@
 -- Counting the comments that are open, in place of a recursion into them.
 use Rattle.std.proofs.Common.{◌≡◌, ◌≢◌, ℕ, zero, suc, ◌+◌, ◌-◌, ◌<◌, ◌≤◌, List, [], ◌∷◌, length, refl, sym, ap, subst, ◌∙◌, arith, add-one, take, drop, get_or, take_all}
 use Rattle.ob_syntax.specs.Tokens.{Comment, comment_end, byte, inner, comment_text, IsComment, NeverCloses}
-use Rattle.ob_syntax.proofs.Words.{tails}
+use Rattle.ob_syntax.proofs.LongestSpellings.{tails}
 use Rattle.ob_syntax.proofs.Comments.{differ}
 use Rattle.ob_lex.specs.Scanning.{ClosesBefore}
 

@@ -3,7 +3,7 @@ use Rattle.std.proofs.Common.{◌≡◌, ℤ, Option, Some, None, refl}
 use Rattle.ob_syntax.specs.declared.token.Kind.{Kind}
 use Rattle.ob_syntax.specs.declared.token.Kind.TheVariants.{Ident, Number, KwBegin, KwConst, KwDiv, KwElse, KwElsif, KwIf, KwMod, KwOr, KwProcedure, KwRepeat, KwType, KwVar, KwWhile, Period, Comma, Semicolon, Becomes, LeftParen, LeftBracket, Tilde, Times, Amp, Plus, Minus, Equal, Unequal, Less, LessEqual, Greater, GreaterEqual}
 use Rattle.ob_syntax.specs.Grammar.{MulOp, times, quotient, remainder, both, AddOp, plus, minus, either, RelationOp, equal, unequal, less, less_equal, greater, greater_equal, mul_kind, add_kind, relation_kind, ActualParameters, ArgumentList, Arguments, Body, ByVar, Comparison, ConstantList, Constants, Else, Elsifs, Factors, FieldList, FieldLists, FormalParameters, Idents, Procedures, SectionList, Sections, Selectors, Sign, Statement, Statements, Terms, TypeList, Types, VariableList, Variables, no_parameters, no_formals, last_argument, last_ident, no_elsif, no_else, last_statement, last_field_list, last_section, empty_field_list, last_constant, no_constants, last_type, no_types, last_variables, no_variables, by_value, no_procedures, no_body, no_selectors, no_factors, next_factor, no_terms, next_term, no_comparison, comparison, no_sign, no_arguments, empty_statement, no_sections, call}
-use Rattle.ob_syntax.specs.Predict.{by_first, behind_name}
+use Rattle.ob_syntax.specs.ChosenRule.{by_first, behind_name}
 
 -- ---- operators
 

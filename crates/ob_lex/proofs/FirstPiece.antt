@@ -7,7 +7,7 @@ use Rattle.std.proofs.lemmas.Int.{to_z_pos}
 use Rattle.ob_syntax.specs.declared.token.Kind.{Kind}
 use Rattle.ob_syntax.specs.declared.token.Kind.TheVariants.{Ident, Number}
 use Rattle.ob_syntax.specs.Tokens.{is_name, is_integer, is_space, fixed, integer_value, greatest_integer, space, comment, token, Fault, BeginsFault, number_too_large, bad_byte, Begins}
-use Rattle.ob_syntax.proofs.Words.{front, mark_from, NoPair, alphanumeric_from_alphabetic}
+use Rattle.ob_syntax.proofs.LongestSpellings.{front, mark_from, NoPair, alphanumeric_from_alphabetic}
 use Rattle.ob_syntax.proofs.Pieces.{keyword_piece, identifier_piece, number_piece, number_fault, pair_piece, single_piece, byte_fault}
 use Rattle.ob_lex.specs.Scanning.{BeginsPiece, ClosesBefore, TellsFault, fault_at}
 use Rattle.ob_lex.specs.declared.piece.Scanned.{Scanned}

@@ -2,11 +2,11 @@
 use Rattle.std.proofs.Common.{◌≡◌, ℕ, suc, ◌+◌, ◌<◌, List, [], ◌∷◌, ◌++◌, length, take, Some, refl, ap, ◌∙◌, sym, subst, arith, append_assoc, length-append, add-one}
 use Rattle.ob_syntax.specs.declared.token.Kind.{Kind}
 use Rattle.ob_syntax.specs.Grammar.{Module}
-use Rattle.ob_syntax.specs.Predict.{first}
+use Rattle.ob_syntax.specs.ChosenRule.{first}
 use Rattle.ob_syntax.specs.Tree.{Tree, tree}
-use Rattle.ob_syntax.proofs.Unique.{one_form}
-use Rattle.ob_syntax.proofs.Settles.{settled}
-use Rattle.ob_syntax.proofs.Spelled.{spell_whole}
+use Rattle.ob_syntax.proofs.OneForm.{one_form}
+use Rattle.ob_syntax.proofs.FormsAreChosen.{settled}
+use Rattle.ob_syntax.proofs.FormTokens.{spell_whole}
 use Rattle.ob_parse.specs.declared.cursor.Parser.{Parser}
 use Rattle.ob_parse.specs.declared.cursor.ParseFault.{ParseFault}
 use Rattle.ob_parse.specs.declared.cursor.ParseFault.TheVariants.{Grammar, TooDeep, OutOfMemory}

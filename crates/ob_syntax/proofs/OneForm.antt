@@ -3,7 +3,7 @@ use Rattle.std.proofs.Common.{◌≡◌, List, Some, refl, ap, ap₂, ◌∙◌,
 use Rattle.ob_syntax.specs.declared.token.Kind.{Kind}
 use Rattle.ob_syntax.specs.Grammar.{Nonterminal, Symbol, Rule, right}
 use Rattle.ob_syntax.specs.Forms.{Form, Parts, made, done, taken, part, spell, spells}
-use Rattle.ob_syntax.specs.Predict.{choose, Ends, Follow}
+use Rattle.ob_syntax.specs.ChosenRule.{choose, Ends, Follow}
 
 some_one : {A : Type 0} (a b : A) → Some a ≡ Some b → a ≡ b
 some_one a b e = cc

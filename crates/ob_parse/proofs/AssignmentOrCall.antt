@@ -3,11 +3,11 @@ use Rattle.std.proofs.Common.{◌≡◌, ℕ, List, [], ◌∷◌, Some, refl, a
 use Rattle.ob_syntax.specs.declared.token.Kind.TheVariants.{Ident, Becomes}
 use Rattle.ob_syntax.specs.Grammar.{Action, Selectors, Expression, ActualParameters, Symbol, level, token, phrase, assignment, call}
 use Rattle.ob_syntax.specs.Forms.{made, taken, ends, depth}
-use Rattle.ob_syntax.specs.Predict.{first, behind_name}
+use Rattle.ob_syntax.specs.ChosenRule.{first, behind_name}
 use Rattle.ob_syntax.specs.Tree.{tree_by, values}
 use Rattle.ob_parse.specs.declared.cursor.Parser.{Parser}
 use Rattle.ob_parse.specs.Reading.{left, place, IsNext}
-use Rattle.ob_parse.proofs.Steps.{Waits, opened_only, taken_only}
+use Rattle.ob_parse.proofs.PhraseUnderway.{Waits, opened_only, taken_only}
 
 abbrev behind_target : List Symbol
 behind_target = phrase level Selectors ∷ token Becomes ∷ phrase level Expression ∷ []

@@ -36,8 +36,8 @@ use Rattle.ob_syntax.specs.Grammar.{Nonterminal, Selectors, Selector, Factor, Fa
 use Rattle.ob_syntax.specs.Forms.{Form, Parts, made, done, taken, part, spell, spells, end, ends}
 use Rattle.ob_syntax.specs.Tree.{Tree, Values, tree, values, tree_by, span_to}
 use Rattle.ob_syntax.specs.Derives.{text, texts, Derives}
-use Rattle.ob_syntax.proofs.Spelled.{spell_whole}
-use Rattle.ob_syntax.proofs.Stays.{stays, all_stay}
+use Rattle.ob_syntax.proofs.FormTokens.{spell_whole}
+use Rattle.ob_syntax.proofs.FormsAdvance.{stays, all_stay}
 use Rattle.ob_syntax.specs.Numbers.{Mark, Marks, none, both, all, maybe, named, spanned, factor_form_marks, in_factor_form, selector_form_marks, in_selector_form, designator_marks, in_designator, expression_marks, in_expression, factor_marks, in_factor, next_factor_marks, in_next_factor, next_term_marks, in_next_term, relation_marks, in_relation, selector_marks, in_selector, simple_expression_marks, in_simple_expression, term_marks, in_term, type_form_marks, in_type_form, name_list_marks, in_name_list, type_expression_marks, in_type_expression, statement_form_marks, in_statement_form, arm_marks, in_arm, statement_marks, in_statement, declarations_marks, in_declarations, procedure_marks, in_procedure, in_constant, in_type, in_section, in_module, IsMark, IsNumbered}
 
 -- ---- the marks of a tree, by its parts
