@@ -5,3 +5,5 @@
 
 #[cfg(test)]
 mod ia_asm_tests;
+#[cfg(test)]
+mod ia_code_tests;
