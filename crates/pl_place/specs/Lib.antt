@@ -1,3 +1,4 @@
 pub mod Machine
 pub mod Placed
+pub mod Sample
 pub mod Valid

@@ -1,16 +1,282 @@
-// Moves as a list runs.
+// `moves` on worked pairs, and on many others beside the simultaneous assignment.
 
-use pl_moves::Move;
-use pra_base::Place;
+use pl_moves::{Move, Pair, can_move, moves};
+use pra_base::{Place, VarId};
+use std::alloc::Global;
+use std::process::Abort;
+use std::test::Fail;
+
+const REGISTERS: [Place; 6] = [
+    Place::Eax,
+    Place::Ecx,
+    Place::Edx,
+    Place::Ebx,
+    Place::Esi,
+    Place::Edi,
+];
+
+const BOTH: [Place; 6] = [
+    Place::EaxM,
+    Place::EcxM,
+    Place::EdxM,
+    Place::EbxM,
+    Place::EsiM,
+    Place::EdiM,
+];
+
+fn pair(var: u32, from: Place, to: Place) -> Pair {
+    Pair {
+        var: VarId(var),
+        from,
+        to,
+        constant: None,
+    }
+}
+
+fn constant(var: u32, number: i32, from: Place, to: Place) -> Pair {
+    Pair {
+        var: VarId(var),
+        from,
+        to,
+        constant: Some(number),
+    }
+}
+
+// Six registers, and behind them the memory of twelve variables.
+type Cells = [i32; 18];
+
+fn register(place: Place) -> usize {
+    usize::from(place.number() % 8)
+}
+
+fn memory(var: VarId) -> usize {
+    6 + (var.0 % 12) as usize
+}
+
+fn held(cells: &Cells, at: usize) -> i32 {
+    cells.get(at).copied().unwrap_or(0)
+}
+
+fn put(cells: &mut Cells, at: usize, number: i32) {
+    if let Some(cell) = cells.get_mut(at) {
+        *cell = number;
+    }
+}
+
+fn numbered() -> Cells {
+    [
+        0, 1, 2, 3, 4, 5, 106, 107, 108, 109, 110, 111, 112, 113, 114, 115, 116, 117,
+    ]
+}
+
+fn run(cells: &mut Cells, list: &[Move]) {
+    for step in list {
+        match *step {
+            Move::Copy(to, from) => {
+                let number = held(cells, register(from));
+                put(cells, register(to), number);
+            }
+            Move::Swap(one, other) => {
+                let number = held(cells, register(one));
+                let second = held(cells, register(other));
+                put(cells, register(one), second);
+                put(cells, register(other), number);
+            }
+            Move::Load(to, var) => {
+                let number = held(cells, memory(var));
+                put(cells, register(to), number);
+            }
+            Move::Store(var, from) => {
+                let number = held(cells, register(from));
+                put(cells, memory(var), number);
+            }
+            Move::Set(to, number) => put(cells, register(to), number),
+        }
+    }
+}
+
+// What the cells hold once every pair has taken place at once.
+fn assigned(before: &Cells, pairs: &[Pair]) -> Cells {
+    let mut after = *before;
+    for p in pairs {
+        let number = match p.constant {
+            Some(number) if p.from.is_const() => number,
+            _ if p.from.has_register() => held(before, register(p.from)),
+            _ => held(before, memory(p.var)),
+        };
+        if p.to.has_register() {
+            put(&mut after, register(p.to), number);
+        }
+        if p.to.needs_slot() && !p.from.needs_slot() {
+            put(&mut after, memory(p.var), number);
+        }
+    }
+    after
+}
+
+// The moves of pairs of which the condition is tested first.
+fn done(rt: &impl Abort, alloc: Global, pairs: &[Pair]) -> Result<Vec<Move>, Fail> {
+    assert!(rt; can_move(pairs));
+    Ok(moves(alloc, pairs)?)
+}
+
+fn bytes(list: &[Move], near: bool) -> u32 {
+    let mut sum = 0u32;
+    for step in list {
+        sum = sum.saturating_add(step.bytes(near));
+    }
+    sum
+}
+
+fn count_swaps(list: &[Move]) -> usize {
+    list.iter()
+        .filter(|step| matches!(step, Move::Swap(..)))
+        .count()
+}
 
 #[test]
-fn a_move_is_compared_by_its_places(rt: HostRuntime) {
+fn moves_cycle(rt: HostRuntime) -> Result<(), Fail> {
+    let pairs = [
+        pair(0, Place::Eax, Place::Ecx),
+        pair(1, Place::Ecx, Place::Edx),
+        pair(2, Place::Edx, Place::Eax),
+    ];
+    let list = done(&rt, rt.alloc(), &pairs)?;
+    assert_eq!(rt; list.len(), 2);
+    assert_eq!(rt; count_swaps(&list), 2);
+    assert_eq!(rt; bytes(&list, true), 4);
+    let none = done(&rt, rt.alloc(), &[])?;
+    assert_eq!(rt; none.len(), 0);
+    Ok(())
+}
+
+#[test]
+fn moves_to_slot_and_constant(rt: HostRuntime) -> Result<(), Fail> {
+    let pairs = [
+        pair(0, Place::Eax, Place::Mem),
+        pair(1, Place::Ecx, Place::Eax),
+        constant(2, 9, Place::Const, Place::Ecx),
+    ];
+    let list = done(&rt, rt.alloc(), &pairs)?;
+    assert_eq!(rt; list.len(), 3);
+    assert!(rt; bytes(&list, true) <= 10);
+    assert_eq!(rt; bytes(&list, false), 13);
+    let mut cells = numbered();
+    put(&mut cells, 0, 1);
+    put(&mut cells, 1, 2);
+    run(&mut cells, &list);
+    assert_eq!(rt; held(&cells, memory(VarId(0))), 1);
+    assert_eq!(rt; held(&cells, 0), 2);
+    assert_eq!(rt; held(&cells, 1), 9);
+    Ok(())
+}
+
+#[test]
+fn both_places_take_two_moves_at_most(rt: HostRuntime) -> Result<(), Fail> {
+    let into = done(&rt, rt.alloc(), &[pair(0, Place::Eax, Place::EcxM)])?;
     assert_eq!(rt;
-        Move::Copy(Place::Eax, Place::Ecx),
-        Move::Copy(Place::Eax, Place::Ecx)
+        into.as_slice(),
+        [
+            Move::Store(VarId(0), Place::Eax),
+            Move::Copy(Place::Ecx, Place::Eax)
+        ]
+        .as_slice()
     );
-    assert_ne!(rt;
-        Move::Copy(Place::Eax, Place::Ecx),
-        Move::Swap(Place::Eax, Place::Ecx)
+    let copy = done(&rt, rt.alloc(), &[pair(0, Place::Eax, Place::EaxM)])?;
+    assert_eq!(rt;
+        copy.as_slice(),
+        [Move::Store(VarId(0), Place::Eax)].as_slice()
     );
+    let between = done(&rt, rt.alloc(), &[pair(0, Place::EaxM, Place::EcxM)])?;
+    assert_eq!(rt;
+        between.as_slice(),
+        [Move::Copy(Place::Ecx, Place::Eax)].as_slice()
+    );
+    let out = moves(
+        rt.alloc(),
+        &[
+            pair(0, Place::EaxM, Place::Mem),
+            pair(1, Place::EcxM, Place::Ecx),
+        ],
+    )?;
+    assert_eq!(rt; out.len(), 0);
+    let from = done(&rt, rt.alloc(), &[pair(0, Place::Mem, Place::EaxM)])?;
+    assert_eq!(rt;
+        from.as_slice(),
+        [Move::Load(Place::Eax, VarId(0))].as_slice()
+    );
+    Ok(())
+}
+
+fn picked(places: &[Place; 6], at: u8) -> Place {
+    places[usize::from(at % 6)]
+}
+
+fn exchange(numbers: &mut [u8; 6], i: usize, j: usize) {
+    if i < 6 && j < 6 {
+        let kept = numbers[i];
+        numbers[i] = numbers[j];
+        numbers[j] = kept;
+    }
+}
+
+// Permutation n of the six registers: each goes to another place, by turns alone, to its both place, or from there;
+// five more variables come into memory or stay, and a constant stays a constant.
+fn permuted(alloc: Global, n: u32) -> Result<Vec<Pair>, Fail> {
+    let mut to: [u8; 6] = [0, 1, 2, 3, 4, 5];
+    let mut left = n;
+    for i in 0..6u32 {
+        let size = 6 - i;
+        let j = i + left % size;
+        left /= size;
+        exchange(&mut to, i as usize, j as usize);
+    }
+    let mut pairs = Vec::new(alloc);
+    let mut var = 0u8;
+    for target in to {
+        let way = n.wrapping_add(u32::from(var)) % 6;
+        let one = picked(
+            if way == 1 || way == 2 {
+                &BOTH
+            } else {
+                &REGISTERS
+            },
+            var,
+        );
+        let other = picked(
+            if way == 2 || way == 3 {
+                &BOTH
+            } else {
+                &REGISTERS
+            },
+            target,
+        );
+        let number = u32::from(var);
+        match way {
+            4 if n % 2 == 0 => pairs.push(pair(number, Place::Mem, other))?,
+            5 if n % 4 < 2 => pairs.push(pair(number, one, Place::Mem))?,
+            5 if n % 4 == 2 => pairs.push(constant(number, i32::from(var), Place::Const, other))?,
+            _ => pairs.push(pair(number, one, other))?,
+        }
+        var = var.saturating_add(1);
+    }
+    pairs.push(pair(7, Place::Mem, Place::Mem))?;
+    pairs.push(constant(8, 5, Place::Const, Place::Const))?;
+    Ok(pairs)
+}
+
+#[test]
+fn every_permutation_is_done_at_once(rt: HostRuntime) -> Result<(), Fail> {
+    for n in 0..1440u32 {
+        let pairs = permuted(rt.alloc(), n)?;
+        let list = done(&rt, rt.alloc(), &pairs)?;
+        let mut cells = numbered();
+        run(&mut cells, &list);
+        assert_eq!(rt;
+            cells.as_slice(),
+            assigned(&numbered(), &pairs).as_slice(),
+            "{pairs:?}"
+        );
+    }
+    Ok(())
 }

@@ -1,0 +1,360 @@
+-- The sample is valid placed code, rule by rule.
+use Rattle.std.proofs.Common.{◌≡◌, ◌≢◌, ℕ, zero, suc, ◌+◌, ◌<◌, ◌≤◌, ◌⊎◌, inl, inr, ⊎_elim, Bool, true, false, nat_eq, ◌||◌, List, [], ◌∷◌, length, slice_get, Some, None, refl, sym, ap, subst, arith, lit≤, lit<}
+use Rattle.std.specs.Prelude.{ℤ, ◌↔◌, pos, ◌≤ℤ◌}
+use Rattle.std.proofs.lemmas.Bool.Decides.{nat_tests}
+use Rattle.pra_base.specs.declared.ids.Place.{Place}
+use Rattle.pra_base.specs.declared.ids.Place.TheVariants.{Eax, Ecx, Mem, EaxM}
+use Rattle.pra_base.specs.declared.ids.Cond.{Cond}
+use Rattle.pra_base.specs.declared.ids.VarId.{VarId}
+use Rattle.pra_base.specs.declared.ids.BlockId.{BlockId}
+use Rattle.pra_base.specs.declared.code.VarKind.TheVariants.{Param, Plain}
+use Rattle.pra_base.specs.declared.code.VInstr.{VInstr}
+use Rattle.pra_base.specs.declared.code.VInstr.TheVariants.{Set, Push, Call, Load, Cmp, Clear, Check}
+use Rattle.pra_base.specs.declared.code.End.TheVariants.{Branch, Return}
+use Rattle.pra_base.specs.declared.code.Block.{Block}
+use Rattle.pra_base.specs.Code.{block_in, EachInstr, IsTarget}
+use Rattle.pra_base.specs.Places.{allows, meet, is_mem}
+use Rattle.pra_base.specs.Operands.{Role, operands, own_places}
+use Rattle.pra_base.specs.Valid.{LastReturn, EndsWithCmp, CmpBeforeBranch, PushesBeforeCalls, TakesAny, TakesArgs, ClearFirst, CheckRange, KeepsBlockRules, ArgumentsApart, Names, NamesCell}
+use Rattle.pl_moves.specs.declared.transfer.Move.{Move}
+use Rattle.pl_moves.specs.Crossbar.{InRegisters}
+use Rattle.pl_place.specs.declared.placed.LInstr.{LInstr}
+use Rattle.pl_place.specs.declared.placed.LInstr.TheVariants as placed
+use Rattle.pl_place.specs.declared.placed.LBlock.{LBlock}
+use Rattle.pl_place.specs.declared.placed.LProc.{LProc}
+use Rattle.pl_place.specs.Placed.{kind_of, place_in, bare}
+use Rattle.pl_place.specs.Valid.{linstr_at, EachOp, EachMove, roles, OperandsPlaced, HasMemory, MoveHasMemory, MemoryThere, FewMoves, MoveNames, NumbersInRange, IsPlaced, counts_of, ArePlaced}
+use Rattle.pl_place.specs.Sample.{v0, v1, block_1, callee, word_0, op, calling, returning, caller, called, sample}
+
+-- ---- facts about each element of a list
+
+abbrev EachAt : {X : Type 0} → (ℕ → X → Type 0) → List X → Type 0
+EachAt P [] = Unit {0}
+EachAt P (x ∷ xs) = P 0 x × EachAt (λ k. P (suc k)) xs
+
+at : {X : Type 0} (P : ℕ → X → Type 0) (xs : List X) → EachAt P xs → (k : ℕ) (x : X) → slice_get xs k ≡ Some x → P k x
+at P [] e k x h = cc
+at P (y ∷ ys) e zero x h = let same : y ≡ x = cc in subst (λ z. P 0 z) same e.0
+at P (y ∷ ys) e (suc k) x h = at (λ k. P (suc k)) ys e.1 k x h
+
+abbrev InBlocks : (LInstr → Type 0) → List LBlock → Type 0
+InBlocks P blocks = EachAt (λ b block. EachAt (λ k i. P i) block.code) blocks
+
+in_blocks : (P : LInstr → Type 0) (p : LProc) → InBlocks P p.blocks → (b k : ℕ) (i : LInstr) → linstr_at p b k i → P i
+in_blocks P p each b k i h =
+    at (λ k i. P i) h.0.code (at (λ b block. EachAt (λ k i. P i) block.code) p.blocks each b h.0 h.1) k i h.2
+
+abbrev OfOp : (VInstr → List Place → Type 0) → LInstr → Type 0
+OfOp P (placed.Op i places) = P i places.items
+OfOp P (placed.Move m) = Unit {0}
+
+abbrev OfMove : (Move → Type 0) → LInstr → Type 0
+OfMove P (placed.Op i places) = Unit {0}
+OfMove P (placed.Move m) = P m
+
+each_op : (P : VInstr → List Place → Type 0) (p : LProc) → InBlocks (OfOp P) p.blocks → EachOp p P
+each_op P p each b k i places h = in_blocks (OfOp P) p each b k (placed.Op i places) h
+
+each_move : (P : Move → Type 0) (p : LProc) → InBlocks (OfMove P) p.blocks → EachMove p P
+each_move P p each b k m h = in_blocks (OfMove P) p each b k (placed.Move m) h
+
+abbrev InCode : (VInstr → Type 0) → List Block → Type 0
+InCode P blocks = EachAt (λ b block. EachAt (λ k i. P i) block.code) blocks
+
+-- ---- operands
+
+abbrev Allowed : LProc → List Place → ℕ → Role → Type 0
+Allowed p places k role = allows (meet role.mask (own_places (kind_of p role.var))) (place_in places k) ≡ true
+
+abbrev Paired : List Place → List Role → ℕ → Role → Type 0
+Paired places all k one = EachAt (λ j other. one.memory ≡ true → other.memory ≡ true → k ≢ j → is_mem (place_in places k) ≡ true → is_mem (place_in places j) ≡ false) all
+
+-- where nothing is written in place
+placed_at : (p : LProc) (i : VInstr) (places : List Place) → length places ≡ length (roles i) → EachAt (Allowed p places) (roles i) →
+  ((k j : ℕ) (read write : Role) → slice_get (operands i).reads k ≡ Some read → slice_get (operands i).writes j ≡ Some write → ⊥) →
+  EachAt (Paired places (roles i)) (roles i) → OperandsPlaced p i places
+placed_at p i places count allowed none pairs = record {
+  count = count;
+  allowed = λ k role h. at (Allowed p places) (roles i) allowed k role h;
+  in_place = λ k j read write r w same. absurd (none k j read write r w);
+  pair = λ k j one other a b m n ne mem.
+      at (λ j other. one.memory ≡ true → other.memory ≡ true → k ≢ j → is_mem (place_in places k) ≡ true → is_mem (place_in places j) ≡ false) (roles i)
+        (at (Paired places (roles i)) (roles i) pairs k one a) j other b m n ne mem;
+}
+
+caller_operands : EachOp caller (OperandsPlaced caller)
+caller_operands = each_op (OperandsPlaced caller) caller (
+    (
+      placed_at caller Clear [] refl tt (λ k j read write r w. cc) tt,
+      (placed_at caller (Set v0 (pos 5)) (Eax ∷ []) refl (refl, tt) (λ k j read write r w. cc) (((λ m n ne mem. cc), tt), tt),
+      (tt,
+      (placed_at caller (Push v0) (EaxM ∷ []) refl (refl, tt) (λ k j read write r w. cc) (((λ m n ne mem. cc), tt), tt),
+      (placed_at caller (Call callee) [] refl tt (λ k j read write r w. cc) tt,
+      (placed_at caller (Load v1 word_0) (Ecx ∷ []) refl (refl, tt) (λ k j read write r w. cc) (((λ m n ne mem. cc), tt), tt),
+      (placed_at caller (Cmp v1 v0) (Ecx ∷ Mem ∷ []) refl (refl, (refl, tt)) (λ k j read write r w. cc)
+        (((λ m n ne mem. cc), ((λ m n ne mem. cc), tt)), (((λ m n ne mem. refl), ((λ m n ne mem. absurd (ne refl)), tt)), tt)),
+      tt)))))),
+    ),
+    (tt, tt),
+  )
+
+abbrev InMemory : LProc → List Place → ℕ → Role → Type 0
+InMemory p places k role = is_mem (place_in places k) ≡ true → HasMemory p role.var
+
+slot_0 : HasMemory caller 0
+slot_0 = inr (0, v0, refl, refl)
+
+caller_memory : MemoryThere caller
+caller_memory = record {
+  moves = each_move (MoveHasMemory caller) caller ((tt, (tt, (slot_0, (tt, (tt, (tt, (tt, tt))))))), (tt, tt));
+  operands_there = each_op (λ i places. (k : ℕ) (role : Role) → slice_get (roles i) k ≡ Some role → is_mem (place_in places k) ≡ true → HasMemory caller role.var) caller (
+      (
+        (λ k role h mem. cc),
+        ((λ k role h. at (InMemory caller (Eax ∷ [])) (roles (Set v0 (pos 5))) ((λ mem. cc), tt) k role h),
+        (tt,
+        ((λ k role h. at (InMemory caller (EaxM ∷ [])) (roles (Push v0)) ((λ mem. cc), tt) k role h),
+        ((λ k role h mem. cc),
+        ((λ k role h. at (InMemory caller (Ecx ∷ [])) (roles (Load v1 word_0)) ((λ mem. cc), tt) k role h),
+        ((λ k role h. at (InMemory caller (Ecx ∷ Mem ∷ [])) (roles (Cmp v1 v0)) ((λ mem. cc), ((λ mem. slot_0), tt)) k role h),
+        tt)))))),
+      ),
+      (tt, tt),
+    );
+  distinct = λ k j u a b.
+      at (λ k u. slice_get caller.slots j ≡ Some u → k ≡ j) caller.slots
+        ((λ c. at (λ j u. 0 ≡ j) caller.slots (refl, tt) j v0 c), tt) k u a b;
+}
+
+-- ---- blocks
+
+out_of_two : (b : ℕ) → suc (suc b) < 2 → ⊥
+out_of_two b h = omega arith
+
+caller_last : LastReturn (bare caller)
+caller_last = record { there = omega arith; exactly = exactly }
+  where
+    exactly : (b : ℕ) → b < 2 → ((block_in (bare caller) b).end ≡ Return) ↔ (suc b ≡ 2)
+    exactly zero lt = ((λ e. cc), (λ e. absurd (omega arith)))
+    exactly (suc zero) lt = ((λ e. refl), (λ e. refl))
+    exactly (suc (suc b)) lt = absurd (out_of_two b lt)
+
+called_last : LastReturn (bare called)
+called_last = record { there = omega arith; exactly = exactly }
+  where
+    exactly : (b : ℕ) → b < 1 → ((block_in (bare called) b).end ≡ Return) ↔ (suc b ≡ 1)
+    exactly zero lt = ((λ e. refl), (λ e. refl))
+    exactly (suc b) lt = absurd (omega arith)
+
+caller_branches : CmpBeforeBranch (bare caller)
+caller_branches zero condition one other e = (v1, v0, refl)
+caller_branches (suc zero) condition one other e = cc
+caller_branches (suc (suc b)) condition one other e = cc
+
+called_branches : CmpBeforeBranch (bare called)
+called_branches zero condition one other e = cc
+called_branches (suc b) condition one other e = cc
+
+caller_pushes : PushesBeforeCalls TakesAny (bare caller)
+caller_pushes zero = (refl, (refl, (tt, (refl, (refl, refl)))))
+caller_pushes (suc zero) = refl
+caller_pushes (suc (suc b)) = refl
+
+called_pushes : (Takes : ℕ → ℕ → Type 0) → PushesBeforeCalls Takes (bare called)
+called_pushes Takes zero = refl
+called_pushes Takes (suc b) = refl
+
+no_suc : (k : ℕ) → suc k ≡ 0 → ⊥
+no_suc k h = omega arith
+
+caller_clear : ClearFirst 1 (bare caller)
+caller_clear zero zero = ((λ e. ((λ one. absurd (no_suc 0 one)), refl, refl)), (λ w. refl))
+caller_clear zero (suc k) = (
+    (λ e. absurd (at (λ j i. i ≢ Clear) (Set v0 (pos 5) ∷ Push v0 ∷ Call callee ∷ Load v1 word_0 ∷ Cmp v1 v0 ∷ []) ((λ c. cc), ((λ c. cc), ((λ c. cc), ((λ c. cc), ((λ c. cc), tt))))) k Clear e refl)),
+    (λ w. absurd (no_suc k w.2)),
+  )
+caller_clear (suc zero) k = ((λ e. cc), (λ w. absurd (no_suc 0 w.1)))
+caller_clear (suc (suc b)) k = ((λ e. cc), (λ w. absurd (no_suc (suc b) w.1)))
+
+called_clear : ClearFirst 0 (bare called)
+called_clear zero k = ((λ e. cc), (λ w. absurd (w.0 refl)))
+called_clear (suc b) k = ((λ e. cc), (λ w. absurd (w.0 refl)))
+
+abbrev InRange : VInstr → Type 0
+InRange i = (v : VarId) (n : ℤ) → i ≡ Check v n → (pos 0 ≤ℤ n) × (n ≤ℤ pos 2147483647)
+
+abbrev caller_code : List VInstr
+caller_code = Clear ∷ Set v0 (pos 5) ∷ Push v0 ∷ Call callee ∷ Load v1 word_0 ∷ Cmp v1 v0 ∷ []
+
+of_caller : (P : VInstr → Type 0) → EachAt (λ k i. P i) caller_code → EachInstr (bare caller) P
+of_caller P each zero k i h = at (λ k i. P i) caller_code each k i h
+of_caller P each (suc zero) k i h = cc
+of_caller P each (suc (suc b)) k i h = cc
+
+of_called : (P : VInstr → Type 0) → EachInstr (bare called) P
+of_called P zero k i h = cc
+of_called P (suc b) k i h = cc
+
+caller_checks : CheckRange (bare caller)
+caller_checks = of_caller InRange ((λ v n e. cc), ((λ v n e. cc), ((λ v n e. cc), ((λ v n e. cc), ((λ v n e. cc), ((λ v n e. cc), tt))))))
+
+-- ---- numbers
+
+names_one : (v w : ℕ) → (nat_eq w v ≡ true) → v ≡ w
+names_one v w h = grind (arith, nat_tests)
+
+below_two : (v w : ℕ) → w < 2 → nat_eq w v ≡ true → v < 2
+below_two v w lt h = let e : v ≡ w = names_one v w h in omega arith
+
+or_none : (a : Bool) → (a || false) ≡ true → a ≡ true
+or_none true h = refl
+or_none false h = cc
+
+or_either : (a b : Bool) → (a || b) ≡ true → (a ≡ true) ⊎ (b ≡ true)
+or_either true b h = inl refl
+or_either false b h = inr h
+
+no_names : (v : ℕ) → (false ≡ true) ⊎ (false ≡ true) → v < 2
+no_names v h = ⊎_elim (λ (e : false ≡ true). cc) (λ (e : false ≡ true). cc) h
+
+one_name : (v w : ℕ) → w < 2 → (nat_eq w v || false) ≡ true → v < 2
+one_name v w lt h = below_two v w lt (or_none (nat_eq w v) h)
+
+two_names : (v : ℕ) → (nat_eq 1 v || (nat_eq 0 v || false)) ≡ true → v < 2
+two_names v h =
+    ⊎_elim (λ (e : nat_eq 1 v ≡ true). below_two v 1 (lit< tt) e) (λ (e : (nat_eq 0 v || false) ≡ true). one_name v 0 (lit< tt) e)
+    (or_either (nat_eq 1 v) (nat_eq 0 v || false) h)
+
+none_true : {A : Type 0} → false ≡ true → A
+none_true e = cc
+
+abbrev NamesWithin : VInstr → List Place → Type 0
+NamesWithin i places = (v : ℕ) → Names i v → v < 2
+
+caller_names : EachOp caller NamesWithin
+caller_names = each_op NamesWithin caller (
+    (
+      (λ v h. no_names v h),
+      ((λ v h. ⊎_elim (λ (e : false ≡ true). none_true e) (λ (e : (nat_eq 0 v || false) ≡ true). one_name v 0 (lit< tt) e) h),
+      (tt,
+      ((λ v h. ⊎_elim (λ (e : (nat_eq 0 v || false) ≡ true). one_name v 0 (lit< tt) e) (λ (e : false ≡ true). none_true e) h),
+      ((λ v h. no_names v h),
+      ((λ v h. ⊎_elim (λ (e : false ≡ true). none_true e) (λ (e : (nat_eq 1 v || false) ≡ true). one_name v 1 (lit< tt) e) h),
+      ((λ v h. ⊎_elim (λ (e : (nat_eq 1 v || (nat_eq 0 v || false)) ≡ true). two_names v e) (λ (e : false ≡ true). none_true e) h),
+      tt)))))),
+    ),
+    (tt, tt),
+  )
+
+abbrev MoveWithin : Move → Type 0
+MoveWithin m = (v : ℕ) → MoveNames m v → v < 2
+
+zero_below : (v : ℕ) → 0 ≡ v → v < 2
+zero_below v e = omega arith
+
+one_below : (t : ℕ) → (1 ≡ t) ⊎ (1 ≡ t) → t < 2
+one_below t h = ⊎_elim (λ (e : 1 ≡ t). omega arith) (λ (e : 1 ≡ t). omega arith) h
+
+caller_targets : (b t : ℕ) → b < 2 → IsTarget (block_in (bare caller) b).end t → t < 2
+caller_targets zero t lt h = one_below t h
+caller_targets (suc zero) t lt h = absurd h
+caller_targets (suc (suc b)) t lt h = absurd (out_of_two b lt)
+
+called_targets : (b t : ℕ) → b < 1 → IsTarget (block_in (bare called) b).end t → t < 1
+called_targets zero t lt h = absurd h
+called_targets (suc b) t lt h = absurd (omega arith)
+
+caller_arguments : ArgumentsApart caller.vars (bare caller)
+caller_arguments = record {
+  params = λ v w i h g. at (λ v kind. kind ≡ Param i → v ≡ w) caller.vars ((λ e. cc), ((λ e. cc), tt)) v (Param i) h refl;
+  cells = of_caller (λ j. (v i : ℕ) → NamesCell j i → slice_get caller.vars v ≢ Some (Param i))
+      ((λ v i c. cc), ((λ v i c. cc), ((λ v i c. cc), ((λ v i c. cc), ((λ v i c. cc), ((λ v i c. cc), tt))))));
+}
+
+called_arguments : ArgumentsApart called.vars (bare called)
+called_arguments = record {
+  params = λ v w i h g. at (λ v kind. slice_get called.vars w ≡ Some kind → v ≡ w) called.vars ((λ e. first w e), tt) v (Param i) h g;
+  cells = of_called (λ j. (v i : ℕ) → NamesCell j i → slice_get called.vars v ≢ Some (Param i));
+}
+  where
+    first : (w : ℕ) → slice_get called.vars w ≡ Some (Param 0) → 0 ≡ w
+    first zero e = refl
+    first (suc w) e = cc
+
+caller_numbers : NumbersInRange caller
+caller_numbers = record {
+  near_is = refl;
+  slots_plain = λ k u h. at (λ k u. slice_get caller.vars u.0 ≡ Some Plain) caller.slots (refl, tt) k u h;
+  ops = caller_names;
+  moves = each_move MoveWithin caller ((tt, (tt, ((λ v h. zero_below v h), (tt, (tt, (tt, (tt, tt))))))), (tt, tt));
+  targets = caller_targets;
+  cells = of_caller (λ j. (i : ℕ) → NamesCell j i → i < 0) ((λ i c. cc), ((λ i c. cc), ((λ i c. cc), ((λ i c. cc), ((λ i c. cc), ((λ i c. cc), tt))))));
+  params = λ v i h. at (λ v kind. kind ≡ Param i → i < 0) caller.vars ((λ e. cc), ((λ e. cc), tt)) v (Param i) h refl;
+  arguments_apart = caller_arguments;
+}
+
+called_numbers : NumbersInRange called
+called_numbers = record {
+  near_is = refl;
+  slots_plain = λ k u h. cc;
+  ops = each_op (λ i places. (v : ℕ) → Names i v → v < 1) called (tt, tt);
+  moves = each_move (λ m. (v : ℕ) → MoveNames m v → v < 1) called (tt, tt);
+  targets = called_targets;
+  cells = of_called (λ j. (i : ℕ) → NamesCell j i → i < 1);
+  params = λ v i h. at (λ v kind. kind ≡ Param i → i < 1) called.vars ((λ e. within i e), tt) v (Param i) h refl;
+  arguments_apart = called_arguments;
+}
+  where
+    within : (i : ℕ) → Param 0 ≡ Param i → i < 1
+    within i e = let same : 0 ≡ i = cc in omega arith
+
+-- ---- the whole
+
+caller_is : IsPlaced caller
+caller_is = record {
+  operands_placed = caller_operands;
+  memory_there = caller_memory;
+  block_rules = record {
+    last_return = caller_last;
+    cmp_before_branch = caller_branches;
+    pushes_before_calls = caller_pushes;
+    clear_first = caller_clear;
+    check_range = caller_checks;
+  };
+  in_registers = each_move InRegisters caller ((tt, (tt, (refl, (tt, (tt, (tt, (tt, tt))))))), (tt, tt));
+  few_moves = λ b block h. at (λ b block. FewMoves 0 block.code) caller.blocks
+      ((lit≤ tt, (lit≤ tt, (lit≤ tt, (lit≤ tt, (lit≤ tt, (lit≤ tt, lit≤ tt)))))), (lit≤ tt, tt)) b block h;
+  numbers_in_range = caller_numbers;
+}
+
+called_is : IsPlaced called
+called_is = record {
+  operands_placed = each_op (OperandsPlaced called) called (tt, tt);
+  memory_there = record {
+    moves = each_move (MoveHasMemory called) called (tt, tt);
+    operands_there = each_op (λ i places. (k : ℕ) (role : Role) → slice_get (roles i) k ≡ Some role → is_mem (place_in places k) ≡ true → HasMemory called role.var) called (tt, tt);
+    distinct = λ k j u a b. cc;
+  };
+  block_rules = record {
+    last_return = called_last;
+    cmp_before_branch = called_branches;
+    pushes_before_calls = called_pushes TakesAny;
+    clear_first = called_clear;
+    check_range = of_called InRange;
+  };
+  in_registers = each_move InRegisters called (tt, tt);
+  few_moves = λ b block h. at (λ b block. FewMoves 0 block.code) called.blocks (lit≤ tt, tt) b block h;
+  numbers_in_range = called_numbers;
+}
+
+caller_takes : PushesBeforeCalls (TakesArgs (counts_of sample)) (bare caller)
+caller_takes zero = (refl, (refl, (refl, (refl, (refl, refl)))))
+caller_takes (suc zero) = refl
+caller_takes (suc (suc b)) = refl
+
+pub sample_is : ArePlaced sample
+sample_is = record {
+  each = λ p code h. at (λ p code. IsPlaced code) sample (caller_is, (called_is, tt)) p code h;
+  pushes_before_calls = λ p code h. at (λ p code. PushesBeforeCalls (TakesArgs (counts_of sample)) (bare code)) sample
+      (caller_takes, (called_pushes (TakesArgs (counts_of sample)), tt)) p code h;
+  body = refl;
+}
