@@ -13,11 +13,12 @@ use Rattle.pl_moves.specs.declared.transfer.Pair.{Pair}
 use Rattle.pl_moves.specs.declared.bring.Origin.{Origin}
 use Rattle.pl_moves.specs.declared.bring.Origin.TheVariants as origin
 use Rattle.pl_moves.specs.declared.bring.Bring.{Bring}
+use Rattle.pl_moves.specs.Assignment.{into_memory}
 use Rattle.pl_moves.specs.Crossbar.{register_event, load_event, store_event, constant_event, only_if, crossbar, events, is_between, is_load, is_store, is_set, Counted}
 use Rattle.pl_moves.specs.Crossbar as crossbar
 use Rattle.pl_moves.specs.Sequence.{alone, same_register, store_of, bring_of, comes_from, reads, writes, redirected, bring_move, swap_move, sequence, ordered, moves_of}
 use Rattle.pl_moves.proofs.Ordered.{either, length_red}
-use Rattle.pl_moves.proofs.Pairs.{into_memory, by_store, by_bring}
+use Rattle.pl_moves.proofs.Pairs.{by_store, by_bring}
 use Rattle.pl_moves.proofs.Whole.{stores, brings, turned, if_true, if_false}
 
 -- ---- how many pass a test

@@ -14,11 +14,12 @@ use Rattle.pl_moves.specs.declared.transfer.Pair.{Pair}
 use Rattle.pl_moves.specs.declared.bring.Origin.{Origin}
 use Rattle.pl_moves.specs.declared.bring.Origin.TheVariants as origin
 use Rattle.pl_moves.specs.declared.bring.Bring.{Bring}
+use Rattle.pl_moves.specs.Assignment.{into_memory}
 use Rattle.pl_moves.specs.Crossbar.{InRegisters, InMemory, NamesMemory, most_moves}
 use Rattle.pl_moves.specs.Sequence.{alone, same_register, store_of, bring_of, comes_from, reads, writes, redirected, bring_move, swap_move, sequence, ordered, moves_of}
 use Rattle.pl_moves.proofs.Alone.{is_register-alone}
 use Rattle.pl_moves.proofs.Ordered.{either, length_red}
-use Rattle.pl_moves.proofs.Pairs.{Each, Suits, each_of_all, all_of_each, Fit, into_memory, by_store, by_bring, not_true, and_true, has_register-stored}
+use Rattle.pl_moves.proofs.Pairs.{Each, Suits, each_of_all, all_of_each, Fit, by_store, by_bring, not_true, and_true, has_register-stored}
 use Rattle.pl_moves.proofs.Counts.{Agrees, tally, tally-append, from_test, sequence_at_most}
 use Rattle.pl_moves.proofs.Whole.{stores, brings, turned, self, if_true, if_false}
 

@@ -13,7 +13,7 @@ use Rattle.pl_moves.specs.declared.transfer.Pair.{Pair}
 use Rattle.pl_moves.specs.declared.bring.Origin.{Origin}
 use Rattle.pl_moves.specs.declared.bring.Origin.TheVariants as origin
 use Rattle.pl_moves.specs.declared.bring.Bring.{Bring}
-use Rattle.pl_moves.specs.Assignment.{suits, suits_pair, share_register, are_apart, can_move, number_of}
+use Rattle.pl_moves.specs.Assignment.{suits, suits_pair, share_register, are_apart, can_move, into_memory, number_of}
 use Rattle.pl_moves.specs.Sequence.{alone, same_register, store_of, outside, bring_between, bring_of}
 use Rattle.pl_moves.proofs.Ordered.{either}
 
@@ -83,9 +83,6 @@ fit (p ∷ ps) h =
     (record { from = s.0; to = s.1 }, a.0, a.1, a.2, fit ps three.2)
 
 -- ---- what a pair asks for, by its places
-
-abbrev pub into_memory : Pair → Bool
-into_memory p = needs_slot (number p.to) && not (needs_slot (number p.from))
 
 pub by_store : (P : Option Move → Type 0) (p : Pair) → (into_memory p ≡ true → P (Some (Store p.var (alone p.from)))) → (into_memory p ≡ false → P None) → P (store_of p)
 by_store P p stores keeps = either P (into_memory p) _ _ stores keeps

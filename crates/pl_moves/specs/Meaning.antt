@@ -1,5 +1,6 @@
 -- What a move does, to whatever the registers and the memory of variables hold.
-use Rattle.std.specs.Prelude.{ℕ, ℤ, Bool, false, nat_eq, if◌then◌else◌, List, [], ◌∷◌, Option, Some, None}
+use Rattle.std.specs.Prelude.{ℕ, ℤ, Bool, false, nat_eq, if◌then◌else◌, List, [], ◌∷◌, Option, Some}
+use Rattle.std.specs.Prelude.{None}
 use Rattle.pra_base.specs.declared.ids.Place.{Place}
 use Rattle.pra_base.specs.Places.{number, register_of}
 use Rattle.pl_moves.specs.declared.transfer.Move.{Move}
@@ -12,7 +13,8 @@ None >>= f = None
 
 -- ---- cells
 
--- Where a value stands: in a register, in the memory of a variable, or nowhere, since it is a number that never changes.
+-- Where a value stands: in a register, in the memory of a variable, or nowhere, since it is a
+-- number that never changes.
 pub data Cell : Type 0 where
   Register : ℕ → Cell
   Memory : ℕ → Cell
@@ -30,7 +32,8 @@ reg place = Register (register_of (number place))
 
 -- ---- what holds values
 
--- How a state S holds values of kind A: what a cell holds, and the state once a value is put into a cell. None where there is no such cell.
+-- How a state S holds values of kind A: what a cell holds, and the state once a value is put into a
+-- cell. None where there is no such cell.
 pub record Holding (S A : Type 0) : Type 0 where
   pub at : S → Cell → Option A
   pub put : S → Cell → A → Option S
@@ -70,4 +73,7 @@ abbrev pub with_cell : {A : Type 0} → (Cell → A) → Cell → A → Cell →
 with_cell held cell x other = if same_cell other cell then x else held other
 
 abbrev pub everywhere : {A : Type 0} → Holding (Cell → A) A
-everywhere = record { at = λ held cell. Some (held cell); put = λ held cell x. Some (with_cell held cell x) }
+everywhere = record {
+  at = λ held cell. Some (held cell);
+  put = λ held cell x. Some (with_cell held cell x);
+}

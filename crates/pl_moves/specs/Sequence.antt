@@ -1,9 +1,11 @@
--- How `moves` goes about it: memory is filled first, while all registers hold what they held; then registers, in an order in which each is
--- read before it is written over.
-use Rattle.std.specs.Prelude.{ℕ, zero, suc, Bool, true, false, nat_eq, not, ◌&&◌, ◌||◌, if◌then◌else◌, List, [], ◌∷◌, ◌++◌, length, map, Option, Some, None}
+-- How `moves` goes about it: memory is filled first, while all registers hold what they held; then
+-- registers, in an order in which each is read before it is written over.
+use Rattle.std.specs.Prelude.{ℕ, zero, suc, Bool, true, false, nat_eq, not, ◌&&◌, ◌||◌}
+use Rattle.std.specs.Prelude.{if◌then◌else◌, List, [], ◌∷◌, ◌++◌, length, map, Option, Some, None}
 use Rattle.std.specs.List.{filter_map}
 use Rattle.pra_base.specs.declared.ids.Place.{Place}
-use Rattle.pra_base.specs.declared.ids.Place.TheVariants.{Eax, Ecx, Edx, Ebx, Esi, Edi, EaxM, EcxM, EdxM, EbxM, EsiM, EdiM}
+use Rattle.pra_base.specs.declared.ids.Place.TheVariants.{Eax, Ecx, Edx, Ebx, Esi, Edi, EaxM, EcxM}
+use Rattle.pra_base.specs.declared.ids.Place.TheVariants.{EdxM, EbxM, EsiM, EdiM}
 use Rattle.pra_base.specs.Places.{number, has_register, register_of, needs_slot}
 use Rattle.pl_moves.specs.declared.transfer.Pair.{Pair}
 use Rattle.pl_moves.specs.declared.transfer.Move.{Move}
@@ -11,7 +13,7 @@ use Rattle.pl_moves.specs.declared.transfer.Move.TheVariants.{Copy, Swap, Load, 
 use Rattle.pl_moves.specs.declared.bring.Origin.{Origin}
 use Rattle.pl_moves.specs.declared.bring.Origin.TheVariants as origin
 use Rattle.pl_moves.specs.declared.bring.Bring.{Bring}
-use Rattle.pl_moves.specs.Assignment.{number_of}
+use Rattle.pl_moves.specs.Assignment.{into_memory, number_of}
 
 -- the register of a place, alone
 abbrev pub alone : Place → Place
@@ -29,19 +31,22 @@ same_register a b = nat_eq (register_of (number a)) (register_of (number b))
 -- ---- what a pair asks for
 
 abbrev pub store_of : Pair → Option Move
-store_of p = if needs_slot (number p.to) && not (needs_slot (number p.from)) then Some (Store p.var (alone p.from)) else None
+store_of p = if into_memory p then Some (Store p.var (alone p.from)) else None
 
 abbrev pub outside : Pair → Origin
-outside p = if needs_slot (number p.from) then origin.Memory p.var else origin.Number (number_of p.constant)
+outside p =
+    if needs_slot (number p.from) then origin.Memory p.var else origin.Number (number_of p.constant)
 
 abbrev pub bring_between : Pair → Option Bring
 bring_between p =
-    if same_register p.to p.from then None else Some (record { to = alone p.to; from = origin.Register (alone p.from) })
+    if same_register p.to p.from then None
+    else Some (record { to = alone p.to; from = origin.Register (alone p.from) })
 
 abbrev pub bring_of : Pair → Option Bring
 bring_of p =
     if has_register (number p.to) then
-    (if has_register (number p.from) then bring_between p else Some (record { to = alone p.to; from = outside p }))
+    (if has_register (number p.from) then bring_between p
+    else Some (record { to = alone p.to; from = outside p }))
     else None
 
 -- ---- the order
@@ -73,8 +78,9 @@ abbrev pub swap_move : Place → Origin → Move
 swap_move r (origin.Register q) = Swap r q
 swap_move r from = bring_move r from
 
--- The first is done at once where nothing else reads its register, else last where nothing writes what it reads. Where both stand against
--- it, it is in a cycle, and a swap leaves the cycle shorter by one. n is a bound of the length.
+-- The first is done at once where nothing else reads its register, else last where nothing writes
+-- what it reads. Where both stand against it, it is in a cycle, and a swap leaves the cycle shorter
+-- by one. n is a bound of the length.
 unfoldable pub sequence : ℕ → List Bring → List Move
 sequence zero bs = []
 sequence (suc n) [] = []

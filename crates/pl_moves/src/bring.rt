@@ -1,7 +1,8 @@
 // What pairs ask for, of memory and of registers.
 
 ghost use Rattle.std.specs.Prelude.{◌≡◌};
-ghost use Rattle.pl_moves.specs.Sequence.{alone, same_register, store_of, outside, bring_between, bring_of, comes_from, bring_move, swap_move};
+ghost use Rattle.pl_moves.specs.Sequence.{alone, same_register, store_of, outside, bring_between};
+ghost use Rattle.pl_moves.specs.Sequence.{bring_of, comes_from, bring_move, swap_move};
 
 use crate::transfer::{Move, Pair};
 use pra_base::{Place, VarId};
@@ -42,7 +43,8 @@ fn is_same_register(one: Place, other: Place) -> bool
     alone(one).number() == alone(other).number()
 }
 
-/// The store of a pair that comes into memory, or None where memory has the value or is not to have it.
+/// The store of a pair that comes into memory, or None where memory has the value or is not to have
+/// it.
 pub fn store_of(pair: &Pair) -> Option<Move>
     ensures { result ≡ store_of pair.now }
 {

@@ -4,7 +4,8 @@ ghost use Rattle.std.specs.Prelude.{◌≡◌, ◌≤◌, ◌++◌, Bool, IsTrue
 ghost use Rattle.std.specs.List.{filter_map};
 ghost use Rattle.pl_moves.specs.Assignment.{can_move, Assigns};
 ghost use Rattle.pl_moves.specs.Crossbar.{InRegisters, NamesMemory, Counted, most_moves};
-ghost use Rattle.pl_moves.specs.Sequence.{reads, writes, redirected, sequence, store_of, bring_of, moves_of};
+ghost use Rattle.pl_moves.specs.Sequence.{reads, writes, redirected, sequence, store_of, bring_of};
+ghost use Rattle.pl_moves.specs.Sequence.{moves_of};
 
 use crate::bring::{Bring, Origin, bring_move, bring_of, comes_from, store_of, swap_move};
 use crate::transfer::{Move, Pair};
@@ -40,10 +41,12 @@ fn redirect(brings: &mut [Bring], register: Place, from: Origin)
     }
 }
 
-// There are at most six, one for each register, so that it costs no more than a pass over the pairs.
+// There are at most six, one for each register, so that it costs no more than a pass over the
+// pairs.
 #[tactic(auto, unfolding(crate::specs::Sequence::sequence))]
 fn order_into(brings: &mut [Bring], out: &mut Vec<Move>) -> Result<(), AllocError>
-    ensures { IfOk result (λ x. out.new.items ≡ out.old.items ++ sequence (length brings.old) brings.old) }
+    ensures { IfOk result
+        (λ x. out.new.items ≡ out.old.items ++ sequence (length brings.old) brings.old) }
 {
     if let Some((first, rest)) = brings.split_first_mut() {
         let Bring { to, from } = *first;
@@ -87,8 +90,9 @@ fn in_order(alloc: Global, pairs: &[Pair]) -> Result<Vec<Move>, AllocError>
 
 /// The moves that do all pairs at once.
 ///
-/// A pair to a both place fills the register and the memory; from a both place the register gives the value, and the
-/// memory keeps its own. Cycles are undone by swaps, and no register but those of targets changes.
+/// A pair to a both place fills the register and the memory; from a both place the register gives
+/// the value, and the memory keeps its own. Cycles are undone by swaps, and no register but those
+/// of targets changes.
 ///
 /// # Errors
 ///

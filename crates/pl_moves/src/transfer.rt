@@ -30,7 +30,8 @@ pub enum Move {
 }
 
 impl Move {
-    /// How many bytes of code the move is, where slots and argument cells have displacements of 8 bits (near) or 32.
+    /// How many bytes of code the move is, where slots and argument cells have displacements of 8
+    /// bits (near) or 32.
     pub fn bytes(self, near: bool) -> u32
         ensures { result ≡ move_bytes near self }
     {
@@ -81,8 +82,9 @@ fn is_apart(one: &Pair, others: &[Pair]) -> bool
     }
 }
 
-/// Whether pairs can be moved at once: each pair's places suit its variable, and no two pairs have one variable, or one
-/// register among their sources or among their targets. Tests any two pairs, so it is for few pairs or for tests.
+/// Whether pairs can be moved at once: each pair's places suit its variable, and no two pairs have
+/// one variable, or one register among their sources or among their targets. Tests any two pairs,
+/// so it is for few pairs or for tests.
 pub fn can_move(pairs: &[Pair]) -> bool
     ensures { result ≡ can_move pairs.now }
 {

@@ -71,32 +71,44 @@ Paired places all k one = EachAt (λ j other. one.memory ≡ true → other.memo
 
 -- where nothing is written in place
 placed_at : (p : LProc) (i : VInstr) (places : List Place) → length places ≡ length (roles i) → EachAt (Allowed p places) (roles i) →
-  ((k j : ℕ) (read write : Role) → slice_get (operands i).reads k ≡ Some read → slice_get (operands i).writes j ≡ Some write → ⊥) →
-  EachAt (Paired places (roles i)) (roles i) → OperandsPlaced p i places
+    ((k j : ℕ) (read write : Role) → slice_get (operands i).reads k ≡ Some read → slice_get (operands i).writes j ≡ Some write → ⊥) →
+    EachAt (Paired places (roles i)) (roles i) → OperandsPlaced p i places
 placed_at p i places count allowed none pairs = record {
   count = count;
   allowed = λ k role h. at (Allowed p places) (roles i) allowed k role h;
   in_place = λ k j read write r w same. absurd (none k j read write r w);
   pair = λ k j one other a b m n ne mem.
       at (λ j other. one.memory ≡ true → other.memory ≡ true → k ≢ j → is_mem (place_in places k) ≡ true → is_mem (place_in places j) ≡ false) (roles i)
-        (at (Paired places (roles i)) (roles i) pairs k one a) j other b m n ne mem;
+      (at (Paired places (roles i)) (roles i) pairs k one a) j other b m n ne mem;
 }
 
 caller_operands : EachOp caller (OperandsPlaced caller)
 caller_operands = each_op (OperandsPlaced caller) caller (
+  (
+    placed_at caller Clear [] refl tt (λ k j read write r w. cc) tt,
     (
-      placed_at caller Clear [] refl tt (λ k j read write r w. cc) tt,
-      (placed_at caller (Set v0 (pos 5)) (Eax ∷ []) refl (refl, tt) (λ k j read write r w. cc) (((λ m n ne mem. cc), tt), tt),
-      (tt,
-      (placed_at caller (Push v0) (EaxM ∷ []) refl (refl, tt) (λ k j read write r w. cc) (((λ m n ne mem. cc), tt), tt),
-      (placed_at caller (Call callee) [] refl tt (λ k j read write r w. cc) tt,
-      (placed_at caller (Load v1 word_0) (Ecx ∷ []) refl (refl, tt) (λ k j read write r w. cc) (((λ m n ne mem. cc), tt), tt),
-      (placed_at caller (Cmp v1 v0) (Ecx ∷ Mem ∷ []) refl (refl, (refl, tt)) (λ k j read write r w. cc)
-        (((λ m n ne mem. cc), ((λ m n ne mem. cc), tt)), (((λ m n ne mem. refl), ((λ m n ne mem. absurd (ne refl)), tt)), tt)),
-      tt)))))),
+      placed_at caller (Set v0 (pos 5)) (Eax ∷ []) refl (refl, tt) (λ k j read write r w. cc) (((λ m n ne mem. cc), tt), tt),
+      (
+        tt,
+        (
+          placed_at caller (Push v0) (EaxM ∷ []) refl (refl, tt) (λ k j read write r w. cc) (((λ m n ne mem. cc), tt), tt),
+          (
+            placed_at caller (Call callee) [] refl tt (λ k j read write r w. cc) tt,
+            (
+              placed_at caller (Load v1 word_0) (Ecx ∷ []) refl (refl, tt) (λ k j read write r w. cc) (((λ m n ne mem. cc), tt), tt),
+              (
+                placed_at caller (Cmp v1 v0) (Ecx ∷ Mem ∷ []) refl (refl, (refl, tt)) (λ k j read write r w. cc)
+                    (((λ m n ne mem. cc), ((λ m n ne mem. cc), tt)), (((λ m n ne mem. refl), ((λ m n ne mem. absurd (ne refl)), tt)), tt)),
+                tt,
+              ),
+            ),
+          ),
+        ),
+      ),
     ),
-    (tt, tt),
-  )
+  ),
+  (tt, tt),
+)
 
 abbrev InMemory : LProc → List Place → ℕ → Role → Type 0
 InMemory p places k role = is_mem (place_in places k) ≡ true → HasMemory p role.var
@@ -108,21 +120,33 @@ caller_memory : MemoryThere caller
 caller_memory = record {
   moves = each_move (MoveHasMemory caller) caller ((tt, (tt, (slot_0, (tt, (tt, (tt, (tt, tt))))))), (tt, tt));
   operands_there = each_op (λ i places. (k : ℕ) (role : Role) → slice_get (roles i) k ≡ Some role → is_mem (place_in places k) ≡ true → HasMemory caller role.var) caller (
+    (
+      (λ k role h mem. cc),
       (
-        (λ k role h mem. cc),
-        ((λ k role h. at (InMemory caller (Eax ∷ [])) (roles (Set v0 (pos 5))) ((λ mem. cc), tt) k role h),
-        (tt,
-        ((λ k role h. at (InMemory caller (EaxM ∷ [])) (roles (Push v0)) ((λ mem. cc), tt) k role h),
-        ((λ k role h mem. cc),
-        ((λ k role h. at (InMemory caller (Ecx ∷ [])) (roles (Load v1 word_0)) ((λ mem. cc), tt) k role h),
-        ((λ k role h. at (InMemory caller (Ecx ∷ Mem ∷ [])) (roles (Cmp v1 v0)) ((λ mem. cc), ((λ mem. slot_0), tt)) k role h),
-        tt)))))),
+        (λ k role h. at (InMemory caller (Eax ∷ [])) (roles (Set v0 (pos 5))) ((λ mem. cc), tt) k role h),
+        (
+          tt,
+          (
+            (λ k role h. at (InMemory caller (EaxM ∷ [])) (roles (Push v0)) ((λ mem. cc), tt) k role h),
+            (
+              (λ k role h mem. cc),
+              (
+                (λ k role h. at (InMemory caller (Ecx ∷ [])) (roles (Load v1 word_0)) ((λ mem. cc), tt) k role h),
+                (
+                  (λ k role h. at (InMemory caller (Ecx ∷ Mem ∷ [])) (roles (Cmp v1 v0)) ((λ mem. cc), ((λ mem. slot_0), tt)) k role h),
+                  tt,
+                ),
+              ),
+            ),
+          ),
+        ),
       ),
-      (tt, tt),
-    );
+    ),
+    (tt, tt),
+  );
   distinct = λ k j u a b.
       at (λ k u. slice_get caller.slots j ≡ Some u → k ≡ j) caller.slots
-        ((λ c. at (λ j u. 0 ≡ j) caller.slots (refl, tt) j v0 c), tt) k u a b;
+      ((λ c. at (λ j u. 0 ≡ j) caller.slots (refl, tt) j v0 c), tt) k u a b;
 }
 
 -- ---- blocks
@@ -169,9 +193,9 @@ no_suc k h = omega arith
 caller_clear : ClearFirst 1 (bare caller)
 caller_clear zero zero = ((λ e. ((λ one. absurd (no_suc 0 one)), refl, refl)), (λ w. refl))
 caller_clear zero (suc k) = (
-    (λ e. absurd (at (λ j i. i ≢ Clear) (Set v0 (pos 5) ∷ Push v0 ∷ Call callee ∷ Load v1 word_0 ∷ Cmp v1 v0 ∷ []) ((λ c. cc), ((λ c. cc), ((λ c. cc), ((λ c. cc), ((λ c. cc), tt))))) k Clear e refl)),
-    (λ w. absurd (no_suc k w.2)),
-  )
+  (λ e. absurd (at (λ j i. i ≢ Clear) (Set v0 (pos 5) ∷ Push v0 ∷ Call callee ∷ Load v1 word_0 ∷ Cmp v1 v0 ∷ []) ((λ c. cc), ((λ c. cc), ((λ c. cc), ((λ c. cc), ((λ c. cc), tt))))) k Clear e refl)),
+  (λ w. absurd (no_suc k w.2)),
+)
 caller_clear (suc zero) k = ((λ e. cc), (λ w. absurd (no_suc 0 w.1)))
 caller_clear (suc (suc b)) k = ((λ e. cc), (λ w. absurd (no_suc (suc b) w.1)))
 
@@ -232,18 +256,30 @@ NamesWithin i places = (v : ℕ) → Names i v → v < 2
 
 caller_names : EachOp caller NamesWithin
 caller_names = each_op NamesWithin caller (
+  (
+    (λ v h. no_names v h),
     (
-      (λ v h. no_names v h),
-      ((λ v h. ⊎_elim (λ (e : false ≡ true). none_true e) (λ (e : (nat_eq 0 v || false) ≡ true). one_name v 0 (lit< tt) e) h),
-      (tt,
-      ((λ v h. ⊎_elim (λ (e : (nat_eq 0 v || false) ≡ true). one_name v 0 (lit< tt) e) (λ (e : false ≡ true). none_true e) h),
-      ((λ v h. no_names v h),
-      ((λ v h. ⊎_elim (λ (e : false ≡ true). none_true e) (λ (e : (nat_eq 1 v || false) ≡ true). one_name v 1 (lit< tt) e) h),
-      ((λ v h. ⊎_elim (λ (e : (nat_eq 1 v || (nat_eq 0 v || false)) ≡ true). two_names v e) (λ (e : false ≡ true). none_true e) h),
-      tt)))))),
+      (λ v h. ⊎_elim (λ (e : false ≡ true). none_true e) (λ (e : (nat_eq 0 v || false) ≡ true). one_name v 0 (lit< tt) e) h),
+      (
+        tt,
+        (
+          (λ v h. ⊎_elim (λ (e : (nat_eq 0 v || false) ≡ true). one_name v 0 (lit< tt) e) (λ (e : false ≡ true). none_true e) h),
+          (
+            (λ v h. no_names v h),
+            (
+              (λ v h. ⊎_elim (λ (e : false ≡ true). none_true e) (λ (e : (nat_eq 1 v || false) ≡ true). one_name v 1 (lit< tt) e) h),
+              (
+                (λ v h. ⊎_elim (λ (e : (nat_eq 1 v || (nat_eq 0 v || false)) ≡ true). two_names v e) (λ (e : false ≡ true). none_true e) h),
+                tt,
+              ),
+            ),
+          ),
+        ),
+      ),
     ),
-    (tt, tt),
-  )
+  ),
+  (tt, tt),
+)
 
 abbrev MoveWithin : Move → Type 0
 MoveWithin m = (v : ℕ) → MoveNames m v → v < 2

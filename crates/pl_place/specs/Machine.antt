@@ -1,10 +1,13 @@
--- The machine of placed code: a live call has registers and slots, and stands before what is left of its block.
-use Rattle.std.specs.Prelude.{ℕ, ◌+◌, ℤ, Bool, true, nat_eq, if◌then◌else◌, List, [], ◌∷◌, ◌++◌, length, map, drop, replicate}
+-- The machine of placed code: a live call has registers and slots, and stands before what is left
+-- of its block.
+use Rattle.std.specs.Prelude.{ℕ, ◌+◌, ℤ, Bool, true, nat_eq, if◌then◌else◌, List, [], ◌∷◌, ◌++◌}
+use Rattle.std.specs.Prelude.{length, map, drop, replicate}
 use Rattle.std.specs.Prelude.{slice_get, slice_set, slice_index_or, Option, Some, None}
 use Rattle.std.specs.Int.{bit_at}
 use Rattle.pra_base.specs.Agreement.{Progress}
 use Rattle.pra_base.specs.RunEnd.{RunEnd}
-use Rattle.pra_base.specs.Places.{number, register_count, has_register, register_of, needs_slot, is_const}
+use Rattle.pra_base.specs.Places.{number, register_count, has_register, register_of, needs_slot}
+use Rattle.pra_base.specs.Places.{is_const}
 use Rattle.pra_base.specs.Operands.{table, read_by, written_by}
 use Rattle.pra_base.specs.Words.{word}
 use Rattle.pra_base.specs.declared.event.OutEvent.{OutEvent}
@@ -16,7 +19,8 @@ use Rattle.pra_base.specs.declared.code.End.TheVariants.{Return}
 use Rattle.vc_code.specs.declared.value.Value.{Value}
 use Rattle.vc_code.specs.declared.value.Value.TheVariants.{Num}
 use Rattle.vc_code.specs.Value.{Held, Words}
-use Rattle.vc_code.specs.Machine.{Shape, Activation, State, Next, Instr, Moves, Ends, Machine, last_get, last_set, joined, first, progress}
+use Rattle.vc_code.specs.Machine.{Shape, Activation, State, Next, Instr, Moves, Ends, Machine}
+use Rattle.vc_code.specs.Machine.{last_get, last_set, joined, first, progress}
 use Rattle.pl_moves.specs.Meaning.{Cell, Register, Memory, Fixed, Holding, moved}
 use Rattle.pl_place.specs.declared.placed.LInstr.{LInstr}
 use Rattle.pl_place.specs.declared.placed.LInstr.TheVariants as placed
@@ -24,8 +28,9 @@ use Rattle.pl_place.specs.declared.placed.LBlock.{LBlock}
 use Rattle.pl_place.specs.declared.placed.LProc.{LProc}
 use Rattle.pl_place.specs.Placed.{kind_of, slot_of, frame_size}
 
--- What a call has beside aggregates and arguments: its block, what is left of it and its end, the registers, and the slots with the last
--- one first. The registers are each call's own, also while it waits.
+-- What a call has beside aggregates and arguments: its block, what is left of it and its end, the
+-- registers, and the slots with the last one first. The registers are each call's own, also while
+-- it waits.
 pub record Cells : Type 0 where
   pub block : ℕ
   pub rest : List LInstr
@@ -78,7 +83,8 @@ at_cell p c (Memory v) = in_spot c (spot p v)
 at_cell p c (Fixed n) = Some (Some (Num (word n)))
 
 abbrev pub put_cell : LProc → Activation Cells → Cell → Held → Option (Activation Cells)
-put_cell p c (Register r) h = if_there (slice_get c.home.regs r) (with_regs c (slice_set c.home.regs r h))
+put_cell p c (Register r) h =
+    if_there (slice_get c.home.regs r) (with_regs c (slice_set c.home.regs r h))
 put_cell p c (Memory v) h = if_there (in_spot c (spot p v)) (with_spot c (spot p v) h)
 put_cell p c (Fixed n) h = None
 
@@ -95,11 +101,13 @@ abbrev pub fixed : VarKind → List Cell
 fixed (Constant n) = Fixed n ∷ []
 fixed _ = []
 
--- where the value of a variable stands that has this place; a both place is two cells, the register first
+-- where the value of a variable stands that has this place; a both place is two cells, the register
+-- first
 abbrev pub cells : LProc → ℕ → ℕ → List Cell
 cells p v place =
     only_if (has_register place) (Register (register_of place) ∷ [])
-    ++ (only_if (needs_slot place) (Memory v ∷ []) ++ only_if (is_const place) (fixed (kind_of p v)))
+    ++ (only_if (needs_slot place) (Memory v ∷ [])
+    ++ only_if (is_const place) (fixed (kind_of p v)))
 
 abbrev pub first_held : LProc → Activation Cells → List Cell → Held
 first_held p c [] = None
@@ -123,7 +131,8 @@ abbrev pub put : LProc → Activation Cells → ℕ → ℕ → Held → Option 
 put p c v place h = put_first p c (cells p v place) h
 
 -- the values go into the written operands one after the other
-abbrev pub put_all : LProc → Option (Activation Cells) → List ℕ → List ℕ → List Value → Option (Activation Cells)
+abbrev pub put_all : LProc → Option (Activation Cells) → List ℕ → List ℕ → List Value →
+    Option (Activation Cells)
 put_all p None vs places xs = None
 put_all p (Some c) [] places xs = Some c
 put_all p (Some c) (v ∷ vs) (q ∷ places) (x ∷ xs) = put_all p (put p c v q (Some x)) vs places xs
@@ -134,7 +143,8 @@ put_all p (Some c) (v ∷ vs) _ _ = None
 -- the registers of the set hold nothing; r is the number of the first of them
 abbrev pub cleared : ℕ → ℕ → Words → Words
 cleared mask r [] = []
-cleared mask r (h ∷ regs) = (if nat_eq (bit_at mask r) 1 then None else h) ∷ cleared mask (r + 1) regs
+cleared mask r (h ∷ regs) =
+    (if nat_eq (bit_at mask r) 1 then None else h) ∷ cleared mask (r + 1) regs
 
 abbrev pub passed : List LInstr → Activation Cells → Activation Cells
 passed rest c = record c { home = record c.home { rest = rest } }
@@ -144,8 +154,10 @@ abbrev pub clobbered : VInstr → List LInstr → Activation Cells → Activatio
 clobbered i rest c = with_regs (passed rest c) (cleared (table i).clobbers 0 c.home.regs)
 
 -- the call behind an instruction: places are those of what it reads, then of what it writes
-abbrev pub behind : LProc → VInstr → List ℕ → List LInstr → Activation Cells → List Value → Option (Activation Cells)
-behind p i places rest c xs = put_all p (Some (clobbered i rest c)) (written_by i) (drop (length (read_by i)) places) xs
+abbrev pub behind : LProc → VInstr → List ℕ → List LInstr → Activation Cells → List Value →
+    Option (Activation Cells)
+behind p i places rest c xs =
+    put_all p (Some (clobbered i rest c)) (written_by i) (drop (length (read_by i)) places) xs
 
 abbrev pub next_of : LProc → Activation Cells → List LInstr → Next Cells
 next_of p c [] = Ends c.home.end
@@ -162,7 +174,13 @@ begun n p args block = record {
   proc = n;
   aggregates = nothing p.aggregates;
   args = args;
-  home = record { block = 0; rest = block.code; end = block.end; regs = nothing register_count; slots = nothing (length p.slots) };
+  home = record {
+    block = 0;
+    rest = block.code;
+    end = block.end;
+    regs = nothing register_count;
+    slots = nothing (length p.slots);
+  };
 }
 
 abbrev pub started : ℕ → LProc → Words → Option LBlock → Option (Activation Cells)
@@ -175,14 +193,23 @@ begin n (Some p) args = started n p args (slice_get p.blocks 0)
 
 abbrev pub at_block : Activation Cells → ℕ → Option LBlock → Option (Activation Cells)
 at_block c b None = None
-at_block c b (Some block) = Some (record c { home = record c.home { block = b; rest = block.code; end = block.end } })
+at_block c b (Some block) =
+    Some (record c { home = record c.home { block = b; rest = block.code; end = block.end } })
 
 -- what stands for a block and a procedure past the end
 abbrev pub no_block : LBlock
 no_block = record { code = []; end = Return }
 
 abbrev pub no_proc : LProc
-no_proc = record { id = record { 0 = 0 }; args = 0; aggregates = 0; vars = []; slots = []; near = true; blocks = [] }
+no_proc = record {
+  id = record { 0 = 0 };
+  args = 0;
+  aggregates = 0;
+  vars = [];
+  slots = [];
+  near = true;
+  blocks = [];
+}
 
 abbrev pub proc_of : List LProc → ℕ → LProc
 proc_of procs n = slice_index_or procs n no_proc
@@ -203,7 +230,9 @@ placed_machine procs = record {
 -- the module's body is live, all data holds 0, and no call is tested
 abbrev pub start : List LProc → ℕ → List ℤ → State Cells
 start procs data_words input =
-    let p = proc_of procs 0 in first (begun 0 p [] (slice_index_or p.blocks 0 no_block)) (replicate data_words (Some (Num 0))) input
+    let p = proc_of procs 0 in
+    let body = begun 0 p [] (slice_index_or p.blocks 0 no_block) in
+    first body (replicate data_words (Some (Num 0))) input
 
 -- LRun: what so many steps have come to
 abbrev pub lrun : List LProc → ℕ → List ℤ → ℕ → Progress OutEvent RunEnd

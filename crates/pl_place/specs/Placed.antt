@@ -1,5 +1,6 @@
 -- How placed code is read.
-use Rattle.std.specs.Prelude.{ℕ, ◌+◌, ◌*◌, nat_eq, List, length, map, position, slice_index_or, Option, Some, None}
+use Rattle.std.specs.Prelude.{ℕ, ◌+◌, ◌*◌, nat_eq, List, length, map, position, slice_index_or}
+use Rattle.std.specs.Prelude.{Option, Some, None}
 use Rattle.std.specs.List.{filter_map}
 use Rattle.pra_base.specs.declared.ids.Place.{Place}
 use Rattle.pra_base.specs.declared.ids.Place.TheVariants.{Eax}
@@ -13,7 +14,8 @@ use Rattle.pl_place.specs.declared.placed.LInstr.TheVariants.{Move, Op}
 use Rattle.pl_place.specs.declared.placed.LBlock.{LBlock}
 use Rattle.pl_place.specs.declared.placed.LProc.{LProc}
 
--- bytes: the arguments, the return address and the four saved registers, the aggregates and the slots
+-- bytes: the arguments, the return address and the four saved registers, the aggregates and the
+-- slots
 abbrev pub frame_size : LProc → ℕ
 frame_size p = 4 * (p.args + 5 + p.aggregates + length p.slots)
 

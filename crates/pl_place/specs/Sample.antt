@@ -1,5 +1,6 @@
--- A module of placed code that has each kind of thing that a rule of valid placed code speaks of: aggregates that are cleared, a slot, a both
--- place, an argument that is pushed, a call, a word that is loaded, and a branch behind its comparison.
+-- A module of placed code that has each kind of thing that a rule of valid placed code speaks of:
+-- aggregates that are cleared, a slot, a both place, an argument that is pushed, a call, a word
+-- that is loaded, and a branch behind its comparison.
 use Rattle.std.specs.Prelude.{ℤ, pos, true, List, [], ◌∷◌, None}
 use Rattle.pra_base.specs.declared.ids.Place.{Place}
 use Rattle.pra_base.specs.declared.ids.Place.TheVariants.{Eax, Ecx, Mem, EaxM}
@@ -41,14 +42,14 @@ op i places = Op i (record { items = places })
 abbrev pub calling : LBlock
 calling = record {
   code =
-    op Clear []
-    ∷ op (Set v0 (pos 5)) (Eax ∷ [])
-    ∷ Move (Store v0 Eax)
-    ∷ op (Push v0) (EaxM ∷ [])
-    ∷ op (Call callee) []
-    ∷ op (Load v1 word_0) (Ecx ∷ [])
-    ∷ op (Cmp v1 v0) (Ecx ∷ Mem ∷ [])
-    ∷ [];
+      op Clear []
+      ∷ op (Set v0 (pos 5)) (Eax ∷ [])
+      ∷ Move (Store v0 Eax)
+      ∷ op (Push v0) (EaxM ∷ [])
+      ∷ op (Call callee) []
+      ∷ op (Load v1 word_0) (Ecx ∷ [])
+      ∷ op (Cmp v1 v0) (Ecx ∷ Mem ∷ [])
+      ∷ [];
   end = Branch E block_1 block_1;
 }
 
@@ -67,7 +68,15 @@ caller = record {
 }
 
 abbrev pub called : LProc
-called = record { id = record { 0 = 1 }; args = 1; aggregates = 0; vars = Param 0 ∷ []; slots = []; near = true; blocks = returning ∷ [] }
+called = record {
+  id = record { 0 = 1 };
+  args = 1;
+  aggregates = 0;
+  vars = Param 0 ∷ [];
+  slots = [];
+  near = true;
+  blocks = returning ∷ [];
+}
 
 abbrev pub sample : List LProc
 sample = caller ∷ called ∷ []

@@ -1,4 +1,5 @@
-//! Placed code: the instructions of selected code with the places of their operands, and moves between them.
+//! Placed code: the instructions of selected code with the places of their operands, and moves
+//! between them.
 #![tactic(auto)]
 
 pub mod laws;

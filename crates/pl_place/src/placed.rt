@@ -8,8 +8,8 @@ use pl_moves::Move;
 use pra_base::{End, Place, ProcId, VInstr, VarId, VarKind};
 use pra_list::Seq;
 
-/// A move, or an instruction with the places of its operands: of those that it reads, then of those that it writes, in
-/// the order of the operand table.
+/// A move, or an instruction with the places of its operands: of those that it reads, then of those
+/// that it writes, in the order of the operand table.
 #[derive(Debug, PartialEq, Eq, Drop)]
 pub enum LInstr {
     Move(Move),
@@ -38,8 +38,8 @@ pub struct LProc {
     pub blocks: Seq<LBlock>,
 }
 
-/// How many bytes a call of the procedure takes on the stack: its arguments, the return address, the saved EBP, EBX,
-/// ESI and EDI, its aggregates and its slots.
+/// How many bytes a call of the procedure takes on the stack: its arguments, the return address,
+/// the saved EBP, EBX, ESI and EDI, its aggregates and its slots.
 pub fn frame_bytes(p: &LProc) -> u32
     requires args { p.now.args ≤ 32 }
     requires aggregates { p.now.aggregates ≤ 65536 }
