@@ -6,10 +6,10 @@ ghost use Rattle.pra_base.specs.Valid.{IsSized};
 ghost use Rattle.net_cost.specs.declared.weights.Weights.{Weights};
 ghost use Rattle.net_form.specs.declared.net.Net.{Net};
 ghost use Rattle.net_form.specs.declared.routes.Routes.{Routes};
-ghost use Rattle.net_form.specs.Tables.{PlaceTables, all_tables};
-ghost use Rattle.net_form.specs.Examples.{write_constant, write_constant_live, write_constant_net, set_add_write, set_add_write_live, set_add_write_net, in_register_routes, in_memory_routes};
+ghost use Rattle.net_form.specs.Tables.{PlaceTables};
+ghost use Rattle.net_form.specs.Examples.{write_constant, write_constant_net, set_add_write, set_add_write_net, in_register_routes, in_memory_routes};
 ghost use Rattle.net_cost.specs.Weights.{size_weights, speed_weights};
-ghost use Rattle.net_form.specs.Network.{IsNetBy, net_of};
+ghost use Rattle.net_form.specs.Network.{IsNetBy, IsNet};
 ghost use Rattle.net_form.specs.Formed.{IsFormed};
 ghost use Rattle.net_form.specs.Flow.{Edge, Conserves, flow, AreRoutes};
 ghost use Rattle.net_form.specs.Admitted.{IsAdmitted};
@@ -51,12 +51,12 @@ pub fn routes_cost_their_flow()
 
 /// The network of a Write of a constant and an end of line.
 pub fn network_write_constant()
-    ensures { net_of all_tables write_constant write_constant_live (λ e. e) ≡ write_constant_net }
+    ensures { IsNet write_constant_net write_constant }
 {}
 
 /// The network of a Set, an Add of a constant and a Write, and what routes cost in it.
 pub fn network_set_add_write()
-    ensures network { net_of all_tables set_add_write set_add_write_live (λ e. e) ≡ set_add_write_net }
+    ensures network { IsNet set_add_write_net set_add_write }
     ensures register_size { cost_of set_add_write_net size_weights (flow set_add_write_net in_register_routes) ≡ 1 }
     ensures memory_size { cost_of set_add_write_net size_weights (flow set_add_write_net in_memory_routes) ≡ 7 }
     ensures memory_speed { cost_of set_add_write_net speed_weights (flow set_add_write_net in_memory_routes) ≡ 7 }

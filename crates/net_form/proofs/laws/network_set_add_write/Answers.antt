@@ -1,8 +1,9 @@
 use Rattle.std.proofs.Common.{refl}
+use Rattle.net_form.proofs.ExampleLiveness.{set_add_write-is_net}
 use Rattle.net_form.proofs.laws.network_set_add_write.Goals as goal
 
 pub returns-clause-network : goal.returns-clause-network
-returns-clause-network c = refl
+returns-clause-network c = set_add_write-is_net
 
 pub returns-clause-register_size : goal.returns-clause-register_size
 returns-clause-register_size c = refl
