@@ -112,13 +112,18 @@ abbrev pub the_field : ℕ → List ℕ → Option ℕ → Judged (RStep × ℕ)
 the_field token types None = Err (12, token)
 the_field token types (Some k) = Ok (step.Field k, slice_index types k)
 
+-- the names of the fields of a type; none where it is no record
+abbrev pub field_names : Option (List Name) → List Name
+field_names (Some names) = names
+field_names None = []
+
+-- the number of the field whose name stands at the token
+abbrev pub field_number : Place → ℕ → ℕ → Option ℕ
+field_number p token type_id = position (bytes_eq (name_at p token)) (field_names (slice_get p.fields type_id))
+
 -- rule 11: `.f` follows what is not a record
 abbrev pub field : Place → ℕ → ℕ → Option Shape → Judged (RStep × ℕ)
-field p token type_id (Some (Record types)) = the_field token types (position (bytes_eq (name_at p token)) (names_of (slice_get p.fields type_id)))
-  where
-    names_of : Option (List Name) → List Name
-    names_of (Some names) = names
-    names_of None = []
+field p token type_id (Some (Record types)) = the_field token types (field_number p token type_id)
 field p token type_id _ = Err (11, token)
 
 -- rule 13: `[e]` follows what is not an array
@@ -191,6 +196,7 @@ related p last left (op, right) = do
 
 abbrev pub FactorResult : Type 0
 FactorResult = ℕ → Place → Judged Typed
+
 abbrev pub SelectorResult : Type 0
 SelectorResult = ℕ → Selection
 
@@ -239,15 +245,21 @@ abbrev pub selector : Selector-F FactorResult SelectorResult Selected Phrase Phr
 selector s = s.form s.span.last
 
 abbrev pub simple_expr : SimpleExpr-F FactorResult SelectorResult Selected Phrase Phrase Next Next Next Selection Phrase Phrase → Phrase
-simple_expr e = record { last = e.span.last; judge = λ p. do
-  first ← e.first.judge p
-  left ← signed_term e.sign e.first.last first
-  chained p e.first.last left e.rest }
+simple_expr e = record {
+  last = e.span.last;
+  judge = λ p. do
+    first ← e.first.judge p
+    left ← signed_term e.sign e.first.last first
+    chained p e.first.last left e.rest;
+}
 
 abbrev pub term : Term-F FactorResult SelectorResult Selected Phrase Phrase Next Next Next Selection Phrase Phrase → Phrase
-term t = record { last = t.span.last; judge = λ p. do
-  first ← t.first.judge p
-  chained p t.first.last first t.rest }
+term t = record {
+  last = t.span.last;
+  judge = λ p. do
+    first ← t.first.judge p
+    chained p t.first.last first t.rest;
+}
 
 -- ---- what each phrase of the source gives
 

@@ -1,4 +1,5 @@
 pub mod Tokens
+pub mod Declarations
 pub mod Derives
 pub mod Expressions
 pub mod Forms
@@ -7,8 +8,10 @@ pub mod Names
 pub mod Operators
 pub mod ChosenRule
 pub mod Source
+pub mod Statements
 pub mod Storage
 pub mod Tree
+pub mod Types
 pub mod Whole
 pub mod Kinds
 pub mod Numbers

@@ -36,13 +36,16 @@ pub record Place : Type 0 where
   pub tokens : List Token
   -- the procedure in whose block the place lies; 0 is the module
   pub here : ℕ
-  -- the scopes around the place, the module's first
-  pub scopes : List Scope
+  -- the scope in which the place lies, and those around it, the module's first
+  pub scope : Scope
+  pub outer : List Scope
   -- the types so far, and the names of the fields of each
   pub types : List Shape
   pub fields : List (List Name)
   -- the lengths of arrays so far, in the order of the text
   pub lengths : List ℕ
+  -- the nodes of the statement parts so far, in the order of the text
+  pub nodes : List ℕ
   -- the parameters of each procedure so far, by its number; the module has none
   pub headings : List (List Param)
 
@@ -90,7 +93,7 @@ innermost name found [] = found
 innermost name found (s ∷ inner) = innermost name (or_else (visible name s) found) inner
 
 abbrev pub meaning : Place → Name → Option Meaning
-meaning p name = innermost name (standard name) p.scopes
+meaning p name = or_else (visible name p.scope) (innermost name (standard name) p.outer)
 
 -- a variable of the module, or of the procedure that the place is in
 abbrev pub is_within_reach : Place → ℕ → Root → Bool

@@ -2,7 +2,8 @@
 -- section 8.2). Numbers have 32 bits.
 use Rattle.std.specs.Prelude.{ℤ, pos, ◌+ℤ◌, ◌-ℤ◌, ◌*ℤ◌, neg_ℤ, Bool, true, false, not, int_lt, int_le, if◌then◌else◌, Result, Ok, Err}
 use Rattle.std.specs.Ordering.{int_eq}
-use Rattle.pra_base.specs.Words.{word, signed, floored_quotient, floored_remainder}
+use Rattle.std.specs.Int.{w32, int_wrap}
+use Rattle.pra_base.specs.Words.{floored_quotient, floored_remainder}
 use Rattle.pra_base.specs.declared.event.TrapKind.{TrapKind}
 use Rattle.pra_base.specs.declared.event.TrapKind.TheVariants.{Divide}
 use Rattle.ob_syntax.specs.declared.checked.Value.{Value}
@@ -14,9 +15,9 @@ use Rattle.ob_syntax.specs.declared.checked.ROp.TheVariants.{Mul, Div, Mod, Both
 abbrev pub Outcome : Type 0
 Outcome = Result Value TrapKind
 
--- the number of 32 bits that is left of a number
+-- the number of 32 bits that is left of a number, modulo 2^32
 abbrev pub wrapped : ℤ → ℤ
-wrapped n = signed (word n)
+wrapped n = int_wrap w32 n
 
 -- the number that a value is kept as: TRUE is 1, FALSE is 0
 abbrev pub number : Value → ℤ

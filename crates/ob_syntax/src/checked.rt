@@ -183,3 +183,16 @@ pub struct Typed {
     pub type_id: u32,
     pub expr: RExpr,
 }
+
+/// A procedure, or the module's body, whose names are resolved but whose storage is not laid out.
+#[derive(Drop)]
+pub struct Draft {
+    pub id: u32,
+    /// The token of its name.
+    pub name: u32,
+    pub params: Seq<Param>,
+    /// The types of its variables.
+    pub vars: Seq<u32>,
+    pub nodes: u32,
+    pub body: Seq<RStmt>,
+}

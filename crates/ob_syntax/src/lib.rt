@@ -16,8 +16,8 @@ pub mod tree;
 pub mod tree_laws;
 
 pub use checked::{
-    Checked, CheckedProc, Local, Meaning, ModuleVar, Param, RArg, RArm, RExpr, ROp, RStep, RStmt,
-    RVar, Root, Shape, Standard, Typed, Value,
+    Checked, CheckedProc, Draft, Local, Meaning, ModuleVar, Param, RArg, RArm, RExpr, ROp, RStep,
+    RStmt, RVar, Root, Shape, Standard, Typed, Value,
 };
 pub use token::{Kind, Token};
 pub use tree::{
