@@ -12,6 +12,7 @@ pub mod Statements
 pub mod Storage
 pub mod Tree
 pub mod Types
+pub mod WellFormed
 pub mod Whole
 pub mod Kinds
 pub mod Numbers
