@@ -1,12 +1,10 @@
 -- How many moves there are, kind by kind, and what they name.
-use Rattle.std.proofs.Common.{◌≡◌, ◌≢◌, ℕ, zero, suc, ◌+◌, ◌≤◌, ◌<◌, ◌⊎◌, inl, inr, Bool, true, false, nat_eq, not, ◌&&◌, if◌then◌else◌, cond, List, [], ◌∷◌, ◌++◌, length, map, Option, Some, None, refl, sym, ap, ap₂, ◌∙◌, subst, arith, sum_by, count_by}
-use Rattle.std.specs.List.{filter_map, cons_option, flat_map}
-use Rattle.std.proofs.lemmas.Bool.{eqb-true}
-use Rattle.std.proofs.lemmas.Bool.Decides.{nat_tests}
+use Rattle.std.proofs.Common.{◌≡◌, ℕ, zero, suc, ◌+◌, ◌≤◌, Bool, true, false, nat_eq, not, if◌then◌else◌, cond, List, [], ◌∷◌, ◌++◌, length, map, Option, Some, None, refl, sym, ap, ap₂, ◌∙◌, subst, arith, count_by}
+use Rattle.std.specs.List.{cons_option}
 use Rattle.std.proofs.lemmas.List.Sums.{sum_by-cons}
 use Rattle.pra_base.specs.declared.ids.Place.{Place}
 use Rattle.pra_base.specs.declared.ids.VarId.{VarId}
-use Rattle.pra_base.specs.Places.{number, has_register, is_register, register_of, is_both, needs_slot}
+use Rattle.pra_base.specs.Places.{number, has_register, register_of, needs_slot}
 use Rattle.pl_moves.specs.declared.transfer.Move.{Move}
 use Rattle.pl_moves.specs.declared.transfer.Move.TheVariants.{Copy, Swap, Load, Store, Set}
 use Rattle.pl_moves.specs.declared.transfer.Pair.{Pair}
@@ -16,7 +14,7 @@ use Rattle.pl_moves.specs.declared.bring.Bring.{Bring}
 use Rattle.pl_moves.specs.Assignment.{into_memory}
 use Rattle.pl_moves.specs.Crossbar.{register_event, load_event, store_event, constant_event, only_if, crossbar, events, is_between, is_load, is_store, is_set, Counted}
 use Rattle.pl_moves.specs.Crossbar as crossbar
-use Rattle.pl_moves.specs.Sequence.{alone, same_register, store_of, bring_of, comes_from, reads, writes, redirected, bring_move, swap_move, sequence, ordered, moves_of}
+use Rattle.pl_moves.specs.Sequence.{alone, store_of, bring_of, comes_from, reads, writes, redirected, bring_move, swap_move, sequence, ordered, moves_of}
 use Rattle.pl_moves.proofs.Ordered.{either, length_red}
 use Rattle.pl_moves.proofs.Pairs.{by_store, by_bring}
 use Rattle.pl_moves.proofs.Whole.{stores, brings, turned, if_true, if_false}

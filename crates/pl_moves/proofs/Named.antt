@@ -1,13 +1,12 @@
 -- What the moves of pairs name, and that they are few.
-use Rattle.std.proofs.Common.{◌≡◌, ◌≢◌, ℕ, zero, suc, ◌+◌, ◌≤◌, ◌<◌, ◌⊎◌, inl, inr, ⊎_elim, Bool, true, false, nat_eq, not, ◌&&◌, if◌then◌else◌, List, [], ◌∷◌, ◌++◌, length, map, Option, Some, None, refl, sym, ap, ap₂, ◌∙◌, subst, arith, sum_by}
-use Rattle.std.specs.Prelude.{All, Any, slice_index_or}
+use Rattle.std.proofs.Common.{◌≡◌, ℕ, zero, suc, ◌+◌, ◌≤◌, ◌⊎◌, inl, inr, ⊎_elim, Bool, true, false, nat_eq, not, ◌&&◌, if◌then◌else◌, List, [], ◌∷◌, ◌++◌, length, map, Option, Some, None, refl, sym, ap, ◌∙◌, subst, arith, sum_by}
+use Rattle.std.specs.Prelude.{All, slice_index_or}
 use Rattle.std.specs.List.{cons_option}
-use Rattle.std.proofs.lemmas.Bool.{eqb-true, cases_eq}
+use Rattle.std.proofs.lemmas.Bool.{eqb-true}
 use Rattle.std.proofs.lemmas.List.{get_or_default}
 use Rattle.std.proofs.lemmas.List.Sums.{sum_by-cons}
 use Rattle.pra_base.specs.declared.ids.Place.{Place}
 use Rattle.pra_base.specs.declared.ids.Place.TheVariants.{Eax, Ecx, Edx, Ebx, Esi, Edi, Mem, Const, EaxM, EcxM, EdxM, EbxM, EsiM, EdiM}
-use Rattle.pra_base.specs.declared.ids.VarId.{VarId}
 use Rattle.pra_base.specs.Places.{number, has_register, is_register, register_of, is_both, needs_slot}
 use Rattle.pl_moves.specs.declared.transfer.Move.{Move}
 use Rattle.pl_moves.specs.declared.transfer.Pair.{Pair}
@@ -16,11 +15,11 @@ use Rattle.pl_moves.specs.declared.bring.Origin.TheVariants as origin
 use Rattle.pl_moves.specs.declared.bring.Bring.{Bring}
 use Rattle.pl_moves.specs.Assignment.{into_memory}
 use Rattle.pl_moves.specs.Crossbar.{InRegisters, InMemory, NamesMemory, most_moves}
-use Rattle.pl_moves.specs.Sequence.{alone, same_register, store_of, bring_of, comes_from, reads, writes, redirected, bring_move, swap_move, sequence, ordered, moves_of}
+use Rattle.pl_moves.specs.Sequence.{same_register, store_of, bring_of, comes_from, reads, writes, redirected, bring_move, swap_move, sequence, ordered, moves_of}
 use Rattle.pl_moves.proofs.Alone.{is_register-alone}
-use Rattle.pl_moves.proofs.Ordered.{either, length_red}
+use Rattle.pl_moves.proofs.Ordered.{either}
 use Rattle.pl_moves.proofs.Pairs.{Each, Suits, each_of_all, all_of_each, Fit, by_store, by_bring, not_true, and_true, has_register-stored}
-use Rattle.pl_moves.proofs.Counts.{Agrees, tally, tally-append, from_test, sequence_at_most}
+use Rattle.pl_moves.proofs.Counts.{Agrees, tally, sequence_at_most}
 use Rattle.pl_moves.proofs.Whole.{stores, brings, turned, self, if_true, if_false}
 
 -- ---- what moves name

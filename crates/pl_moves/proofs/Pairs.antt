@@ -1,5 +1,5 @@
 -- Pairs one by one: what is said of all of them, and what each of them asks for.
-use Rattle.std.proofs.Common.{◌≡◌, ◌≢◌, ℕ, suc, ◌+◌, ◌<◌, ◌≤◌, Bool, true, false, nat_eq, not, ◌&&◌, if◌then◌else◌, List, [], ◌∷◌, length, Option, Some, None, refl, sym, ap, ◌∙◌, arith}
+use Rattle.std.proofs.Common.{◌≡◌, ◌≢◌, ℕ, Bool, true, false, nat_eq, not, ◌&&◌, List, [], ◌∷◌, Option, Some, None, refl, arith}
 use Rattle.std.specs.Prelude.{All}
 use Rattle.std.specs.List.{list_all}
 use Rattle.std.proofs.lemmas.Bool.Decides.{nat_tests}
@@ -10,11 +10,10 @@ use Rattle.pra_base.specs.Places.{number, has_register, needs_slot, is_const}
 use Rattle.pl_moves.specs.declared.transfer.Move.{Move}
 use Rattle.pl_moves.specs.declared.transfer.Move.TheVariants.{Store}
 use Rattle.pl_moves.specs.declared.transfer.Pair.{Pair}
-use Rattle.pl_moves.specs.declared.bring.Origin.{Origin}
 use Rattle.pl_moves.specs.declared.bring.Origin.TheVariants as origin
 use Rattle.pl_moves.specs.declared.bring.Bring.{Bring}
 use Rattle.pl_moves.specs.Assignment.{suits, suits_pair, share_register, are_apart, can_move, into_memory, number_of}
-use Rattle.pl_moves.specs.Sequence.{alone, same_register, store_of, outside, bring_between, bring_of}
+use Rattle.pl_moves.specs.Sequence.{alone, same_register, store_of, bring_of}
 use Rattle.pl_moves.proofs.Ordered.{either}
 
 abbrev pub Each : {X : Type 0} → (X → Type 0) → List X → Type 0

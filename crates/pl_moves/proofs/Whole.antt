@@ -1,21 +1,20 @@
 -- The moves of pairs are the simultaneous assignment.
-use Rattle.std.proofs.Common.{◌≡◌, ◌≢◌, ℕ, ℤ, Bool, true, false, nat_eq, not, ◌&&◌, ◌||◌, if◌then◌else◌, List, [], ◌∷◌, ◌++◌, length, Option, Some, None, refl, sym, ap, ◌∙◌, subst, arith}
+use Rattle.std.proofs.Common.{◌≡◌, ◌≢◌, ℕ, ℤ, Bool, true, false, nat_eq, not, ◌&&◌, ◌||◌, if◌then◌else◌, List, [], ◌∷◌, length, refl, sym, ap, ◌∙◌, subst, arith}
 use Rattle.std.specs.List.{filter_map, cons_option}
 use Rattle.std.proofs.lemmas.Bool.{eqb-true}
 use Rattle.std.proofs.lemmas.Bool.Decides.{nat_tests}
 use Rattle.pra_base.specs.declared.ids.Place.{Place}
 use Rattle.pra_base.specs.Places.{number, has_register, register_of, needs_slot}
 use Rattle.pl_moves.specs.declared.transfer.Move.{Move}
-use Rattle.pl_moves.specs.declared.transfer.Move.TheVariants.{Copy, Swap, Load, Store, Set}
 use Rattle.pl_moves.specs.declared.transfer.Pair.{Pair}
 use Rattle.pl_moves.specs.declared.bring.Bring.{Bring}
-use Rattle.pl_moves.specs.Meaning.{Cell, Register, Memory, Fixed, same_cell, reg, with_cell, everywhere}
-use Rattle.pl_moves.specs.Assignment.{share_register, into_memory, fills, number_of, origin, source, Assigns}
-use Rattle.pl_moves.specs.Sequence.{alone, same_register, store_of, bring_of, comes_from, reads, ordered, moves_of}
+use Rattle.pl_moves.specs.Meaning.{Cell, Register, Memory, Fixed, same_cell, reg, with_cell}
+use Rattle.pl_moves.specs.Assignment.{into_memory, fills, number_of, origin, source, Assigns}
+use Rattle.pl_moves.specs.Sequence.{alone, same_register, store_of, bring_of, reads, ordered, moves_of}
 use Rattle.pl_moves.proofs.Alone.{register_of-alone, reg-alone}
-use Rattle.pl_moves.proofs.Shifts.{shifted, all_shifted, all_shifted-append, all_moved-everywhere}
-use Rattle.pl_moves.proofs.Ordered.{cell_of, assigned, written, AreApart, kept, either, reads_same, ordered_is}
-use Rattle.pl_moves.proofs.Pairs.{Each, Suits, VariablesApart, SourcesApart, TargetsApart, Fit, by_store, by_bring, not_true, and_true, has_register-stored}
+use Rattle.pl_moves.proofs.Shifts.{all_shifted, all_shifted-append, all_moved-everywhere}
+use Rattle.pl_moves.proofs.Ordered.{assigned, written, AreApart, kept, either, reads_same, ordered_is}
+use Rattle.pl_moves.proofs.Pairs.{Each, VariablesApart, SourcesApart, TargetsApart, Fit, by_store, by_bring, not_true, and_true, has_register-stored}
 
 abbrev pub stores : List Pair → List Move
 stores ps = filter_map store_of ps

@@ -1,6 +1,6 @@
 -- How `moves` goes about it: memory is filled first, while all registers hold what they held; then
 -- registers, in an order in which each is read before it is written over.
-use Rattle.std.specs.Prelude.{ℕ, zero, suc, Bool, true, false, nat_eq, not, ◌&&◌, ◌||◌}
+use Rattle.std.specs.Prelude.{ℕ, zero, suc, Bool, false, nat_eq, ◌||◌}
 use Rattle.std.specs.Prelude.{if◌then◌else◌, List, [], ◌∷◌, ◌++◌, length, map, Option, Some, None}
 use Rattle.std.specs.List.{filter_map}
 use Rattle.pra_base.specs.declared.ids.Place.{Place}

@@ -15,7 +15,7 @@ use Rattle.pra_base.specs.declared.code.VarKind.{VarKind}
 use Rattle.pra_base.specs.declared.code.VarKind.TheVariants.{Param, Plain, Constant}
 use Rattle.pra_base.specs.declared.code.VInstr.{VInstr}
 use Rattle.pra_base.specs.declared.code.End.{End}
-use Rattle.pra_base.specs.declared.code.End.TheVariants.{Return}
+use Rattle.pra_base.specs.declared.code.End.TheVariants.{Jump}
 use Rattle.vc_code.specs.declared.value.Value.{Value}
 use Rattle.vc_code.specs.declared.value.Value.TheVariants.{Num}
 use Rattle.vc_code.specs.Value.{Held, Words}
@@ -196,9 +196,9 @@ at_block c b None = None
 at_block c b (Some block) =
     Some (record c { home = record c.home { block = b; rest = block.code; end = block.end } })
 
--- what stands for a block and a procedure past the end
+-- what stands for a block and a procedure past the end: no block of it is there to go to
 abbrev pub no_block : LBlock
-no_block = record { code = []; end = Return }
+no_block = record { code = []; end = Jump (record { 0 = 0 }) }
 
 abbrev pub no_proc : LProc
 no_proc = record {

@@ -1,6 +1,5 @@
-use Rattle.std.proofs.Common.{◌≡◌, ◌∙◌, ap₂, nat_eq}
+use Rattle.std.proofs.Common.{◌≡◌, ap₂, nat_eq}
 use Rattle.pra_base.specs.Places.{number, register_of}
-use Rattle.pl_moves.specs.Sequence.{alone}
 use Rattle.pl_moves.proofs.Alone.{number-alone}
 use Rattle.pl_moves.proofs.bring.is_same_register.Goals as goal
 

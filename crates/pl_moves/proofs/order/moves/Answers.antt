@@ -1,10 +1,8 @@
-use Rattle.std.proofs.Common.{◌≡◌, ◌≤◌, Bool, List, length, sum_by, sym, subst}
+use Rattle.std.proofs.Common.{◌≤◌, Bool, List, length, sum_by, sym, subst}
 use Rattle.std.specs.Prelude.{All}
 use Rattle.pl_moves.specs.declared.transfer.Move.{Move}
-use Rattle.pl_moves.specs.declared.transfer.Pair.{Pair}
 use Rattle.pl_moves.specs.Assignment.{Assigns}
 use Rattle.pl_moves.specs.Crossbar.{InRegisters, NamesMemory, Counted, most_moves}
-use Rattle.pl_moves.specs.Sequence.{moves_of}
 use Rattle.pl_moves.proofs.Pairs.{Fit, fit}
 use Rattle.pl_moves.proofs.Whole.{assigns}
 use Rattle.pl_moves.proofs.Counts.{counted}
