@@ -1,7 +1,9 @@
 -- Which object and which part of it a designator names (Wirth, The Programming Language Oberon,
 -- section 8.1; Compiler Construction, chapter 6): the root of a variable, and its fields and
 -- indexes from left to right.
-use Rattle.std.specs.Prelude.{ℕ, false, nat_lt, ℤ, pos, negsuc, List, [], ◌∷◌, length, Option, Some, None, unwrap_or, option_map, slice_get, slice_index, Result, Ok, Err, if◌then◌else◌}
+use Rattle.std.specs.Prelude.{ℕ, false, nat_lt, ℤ, pos, negsuc, List, [], ◌∷◌, length, Option, Some}
+use Rattle.std.specs.Prelude.{None, unwrap_or, option_map, slice_get, slice_index, Result, Ok, Err}
+use Rattle.std.specs.Prelude.{if◌then◌else◌}
 use Rattle.pra_base.specs.declared.event.TrapKind.{TrapKind}
 use Rattle.pra_base.specs.declared.event.TrapKind.TheVariants as trap
 use Rattle.ob_syntax.specs.Operators.{Outcome, number, ◌>>=◌}

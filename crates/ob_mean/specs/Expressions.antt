@@ -11,7 +11,8 @@ use Rattle.ob_syntax.specs.declared.checked.RStep.{RStep, RStep-F, fold-RStep}
 use Rattle.ob_syntax.specs.declared.checked.RVar.{RVar, RVar-F, fold-RVar}
 use Rattle.ob_mean.specs.declared.store.LiveCall.{LiveCall}
 use Rattle.ob_mean.specs.Store.{Store, read}
-use Rattle.ob_mean.specs.Designators.{shape_of, start_of, Selector, Field, Element, Located, designated}
+use Rattle.ob_mean.specs.Designators.{shape_of, start_of, Selector, Field, Element, Located}
+use Rattle.ob_mean.specs.Designators.{designated}
 
 -- The meaning of an expression, by the live calls and the store.
 abbrev pub Evaluation : Type 0

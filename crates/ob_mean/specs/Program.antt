@@ -1,6 +1,7 @@
 -- What a module does (Wirth, The Programming Language Oberon, sections 10 and 11; Compiler
 -- Construction, chapter 6): calls of its procedures, and the run of its body.
-use Rattle.std.specs.Prelude.{ℕ, zero, suc, ◌+◌, ℤ, List, [], ◌∷◌, map, nat_lt, sum_by, slice_get, slice_index, Option, Some, None, if◌then◌else◌}
+use Rattle.std.specs.Prelude.{ℕ, zero, suc, ◌+◌, ℤ, List, [], ◌∷◌, map, nat_lt, sum_by, slice_get}
+use Rattle.std.specs.Prelude.{slice_index, Option, Some, None, if◌then◌else◌}
 use Rattle.pra_base.specs.Agreement.{Progress}
 use Rattle.pra_base.specs.RunEnd as run
 use Rattle.pra_base.specs.Words.{stack_limit}
@@ -16,7 +17,8 @@ use Rattle.ob_mean.specs.declared.store.Location.{Location}
 use Rattle.ob_mean.specs.declared.store.LiveCall.{LiveCall}
 use Rattle.ob_mean.specs.Store.{Store, new_store, whole, assigned, begun}
 use Rattle.ob_mean.specs.Designators.{depth}
-use Rattle.ob_mean.specs.Statements.{State, Completion, Normal, Trapped, Going, Run, Around, exec_all}
+use Rattle.ob_mean.specs.Statements.{State, Completion, Normal, Trapped, Going, Run, Around}
+use Rattle.ob_mean.specs.Statements.{exec_all}
 
 -- ---- the stack
 

@@ -1,7 +1,8 @@
 -- What statements mean (Wirth, The Programming Language Oberon, section 9; Compiler Construction,
 -- chapter 6), one equation a form. A loop may go on for ever, so each execution of a loop has a
 -- budget of turns, and calls have one of their depth.
-use Rattle.std.specs.Prelude.{ℕ, zero, suc, ◌+◌, ℤ, List, [], ◌∷◌, ◌++◌, Result, Ok, Err, if◌then◌else◌}
+use Rattle.std.specs.Prelude.{ℕ, zero, suc, ◌+◌, ℤ, List, [], ◌∷◌, ◌++◌, Result, Ok, Err}
+use Rattle.std.specs.Prelude.{if◌then◌else◌}
 use Rattle.pra_base.specs.declared.event.TrapKind.{TrapKind}
 use Rattle.pra_base.specs.declared.event.TrapKind.TheVariants.{Input}
 use Rattle.pra_base.specs.declared.event.OutEvent.{OutEvent}
