@@ -7,3 +7,5 @@
 mod ia_asm_tests;
 #[cfg(test)]
 mod ia_code_tests;
+#[cfg(test)]
+mod ia_step_tests;
