@@ -1,0 +1,14 @@
+//! The rules of Oberon-0: whether a module is well formed, and what its names mean.
+//!
+//! Each function reads a phrase at a place, and answers exactly what ob_syntax's definition of that phrase gives there:
+//! what the phrase stands for, or the first rule that is broken in it with its token. So far statements and what they
+//! are made of are read; declarations are not, so nothing here is public yet. Read `Place` first, then `expression`.
+#![tactic(auto)]
+
+mod constant;
+mod expression;
+mod operators;
+mod place;
+mod refusal;
+mod scope;
+mod statement;
