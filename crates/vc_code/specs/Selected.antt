@@ -54,9 +54,13 @@ abbrev pub behind : Activation Vars → Option Words → Option (Activation Vars
 behind c None = None
 behind c (Some held) = Some (at_point c c.home.block (suc c.home.index) held)
 
+-- the same, with values in variables
+abbrev pub written : Activation Vars → List ℕ → List Value → Option (Activation Vars)
+written c vs xs = behind c (put_all (Some c.home.held) vs xs)
+
 abbrev pub next_of : VProc → Activation Vars → Option VInstr → Next Vars
 next_of code c (Some i) =
-    Instr i (map (read (kind_of code) c.home.held) (read_by i)) (λ xs. behind c (put_all (Some c.home.held) (written_by i) xs))
+    Instr i (map (read (kind_of code) c.home.held) (read_by i)) (λ xs. written c (written_by i) xs)
 next_of code c None = Ends (end_of code c.home.block)
 
 -- a parameter's variable begins with its argument
@@ -73,13 +77,9 @@ begun p code args = record {
 }
 
 -- a call begins in block 0
-abbrev pub started : ℕ → VProc → Words → Option Block → Option (Activation Vars)
-started p code args None = None
-started p code args (Some block) = Some (begun p code args)
-
 abbrev pub begin : ℕ → Option VProc → Words → Option (Activation Vars)
 begin p None args = None
-begin p (Some code) args = started p code args (slice_get code.blocks 0)
+begin p (Some code) args = if nat_lt 0 (length code.blocks) then Some (begun p code args) else None
 
 abbrev pub at_block : Activation Vars → ℕ → Option Block → Option (Activation Vars)
 at_block c b None = None

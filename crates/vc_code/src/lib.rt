@@ -5,10 +5,14 @@
 pub mod action;
 pub mod arithmetic;
 pub mod laws;
+mod live;
+mod machine;
 pub mod near;
 pub mod operating;
 pub mod outcome;
+mod program;
 pub mod row;
+pub mod run;
 pub mod value;
 
 pub use action::{Action, Here};
@@ -16,4 +20,5 @@ pub use near::is_near;
 pub use operating::operate;
 pub use outcome::{Ending, Outcome};
 pub use row::{OperandRow, Role, operands};
+pub use run::run_selected;
 pub use value::{Held, Object, Value};

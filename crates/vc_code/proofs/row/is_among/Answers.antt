@@ -1,4 +1,4 @@
-use Rattle.std.proofs.Common.{◌≡◌, ◌∙◌, ap, nat_lt}
+use Rattle.std.proofs.Common.{◌∙◌, ap, nat_lt}
 use Rattle.pra_list.proofs.Mapped.{any-count}
 use Rattle.pra_base.specs.Operands.{is_role_of}
 use Rattle.vc_code.specs.Rows.{roles_of}

@@ -1,0 +1,220 @@
+// The words of objects.
+
+ghost use Rattle.std.specs.Prelude.{◌≡◌, ◌/◌, ◌≤◌, [], IfOk, OnOk, OnSome, Some, count_by, length, reverse, take, slice_get, slice_set, if◌then◌else◌};
+ghost use Rattle.std.specs.List.{list_any};
+ghost use Rattle.std.specs.Option.{option_copied, option_map};
+ghost use Rattle.vc_code.specs.Machine.{depth, object, word_at as word_at_of, with_object, with_calls, with_aggregates, with_args, last_set, cell, is_param, is_home};
+ghost use Rattle.vc_code.specs.Numbered.{on_call, holds_at, has_sum, has_below};
+ghost use Rattle.vc_code.specs.Selected.{shape};
+ghost use Rattle.vc_code.specs.Stands.{call_of, calls_in, state_of};
+
+use super::Execution;
+use super::addresses::{bytes_of, sum_of};
+use crate::live::{LiveCall, set_word};
+use crate::program::Program;
+use crate::value::{Held, Object, Value};
+use pra_base::{OutOfMemory, VProc, VarKind};
+
+const WORD_BYTES: u32 = 4;
+
+/// What the word at an offset in bytes holds, or `None` where the offset is not that of one whole word of the object.
+fn word_at(words: &[Held], offset: u32) -> Option<Held>
+    ensures { result ≡ word_at_of words.now offset }
+{
+    if offset % WORD_BYTES == 0 {
+        words.get((offset / WORD_BYTES) as usize).copied()
+    } else {
+        None
+    }
+}
+
+// How many variables have the argument.
+fn params_of(code: &VProc, argument: u32) -> usize
+    ensures { result ≡ count_by (is_param argument) code.now.vars }
+{
+    code.vars
+        .as_slice()
+        .iter()
+        .filter(|kind| matches!(kind, VarKind::Param(i) if *i == argument))
+        .count()
+}
+
+// Whether a variable's value stands in the cell of the argument.
+fn is_named(code: &VProc, argument: u32) -> bool
+    ensures { result ≡ list_any (is_param argument) code.now.vars }
+{
+    params_of(code, argument) > 0
+}
+
+impl Execution {
+    // The live call with so many calls below it.
+    fn call_at(&self, n: usize) -> Option<&LiveCall>
+        ensures value { option_map call_of (option_copied result) ≡ slice_get (calls_in self.now) n }
+        ensures within { OnSome result (n ≤ length self.now.below.items) }
+    {
+        if n == self.below.len() {
+            return Some(&self.top);
+        }
+        self.below.get(n)
+    }
+
+    // The bytes of the frames below a live call.
+    fn bytes_under(&self, program: &Program, n: usize) -> Result<u64, OutOfMemory>
+        requires { n ≤ length self.now.below.items }
+        ensures { IfOk result (λ bytes. bytes ≡ depth (shape program.now.code.now.procs program.now.frames.now) (reverse (take n (calls_in self.now)))) }
+    {
+        bytes_of(program, &self.below[..n])
+    }
+
+    // Whether the call is live, and its frame and those below have so many bytes.
+    fn has_sum(&self, program: &Program, n: usize, sum: u64) -> Result<bool, OutOfMemory>
+        ensures { IfOk result (λ has. has ≡ holds_at (calls_in self.now) n (has_sum (shape program.now.code.now.procs program.now.frames.now) sum)) }
+    {
+        match self.call_at(n) {
+            None => Ok(false),
+            Some(call) => {
+                let below = self.bytes_under(program, n)?;
+                let bytes = sum_of(below, program.frame(call.proc))?;
+                Ok(sum == bytes)
+            }
+        }
+    }
+
+    // Whether the call is live, and the frames below it have so many bytes.
+    fn has_below(&self, program: &Program, n: usize, below: u64) -> Result<bool, OutOfMemory>
+        ensures { IfOk result (λ has. has ≡ holds_at (calls_in self.now) n (has_below (shape program.now.code.now.procs program.now.frames.now) below)) }
+    {
+        match self.call_at(n) {
+            None => Ok(false),
+            Some(_) => {
+                let bytes = self.bytes_under(program, n)?;
+                Ok(below == bytes)
+            }
+        }
+    }
+}
+
+impl Execution {
+    // A word of a call's aggregates, which are looked at where `has` says so.
+    fn aggregate(&self, has: bool, n: usize, offset: u32) -> Option<Held>
+        ensures { result ≡ word_at_of (if has then on_call [] (slice_get (calls_in self.now) n) (λ c. c.aggregates) else []) offset }
+    {
+        match self.call_at(n) {
+            Some(call) => {
+                if has {
+                    word_at(&call.aggregates, offset)
+                } else {
+                    word_at(&[], offset)
+                }
+            }
+            None => word_at(&[], offset),
+        }
+    }
+
+    // The word of an argument cell, which is looked at where `has` says so.
+    fn argument(&self, program: &Program, has: bool, n: usize, i: u32, offset: u32) -> Option<Held>
+        ensures { result ≡ word_at_of (if has then on_call [] (slice_get (calls_in self.now) n) (λ c. cell (shape program.now.code.now.procs program.now.frames.now) c i) else []) offset }
+    {
+        match self.call_at(n) {
+            Some(call) => {
+                if has && !is_named(program.procedure(call.proc), i) {
+                    match call.argument(i) {
+                        Some(held) => word_at(&[held], offset),
+                        None => word_at(&[], offset),
+                    }
+                } else {
+                    word_at(&[], offset)
+                }
+            }
+            None => word_at(&[], offset),
+        }
+    }
+
+    /// A word of an object.
+    ///
+    /// # Errors
+    ///
+    /// Where the bytes of frames do not fit 64 bits.
+    pub fn word(
+        &self,
+        program: &Program,
+        x: Object,
+        offset: u32,
+    ) -> Result<Option<Held>, OutOfMemory>
+        ensures { IfOk result (λ word. word ≡ word_at_of (object (shape program.now.code.now.procs program.now.frames.now) (state_of self.now) x) offset) }
+    {
+        match x {
+            Object::Data => Ok(word_at(&self.globals, offset)),
+            Object::Aggregates { calls, sum } => {
+                let has = self.has_sum(program, calls, sum)?;
+                Ok(self.aggregate(has, calls, offset))
+            }
+            Object::Cell {
+                calls,
+                below,
+                argument,
+            } => {
+                let has = self.has_below(program, calls, below)?;
+                Ok(self.argument(program, has, calls, argument, offset))
+            }
+        }
+    }
+
+    fn set_aggregate(&mut self, n: usize, at: usize, h: Held)
+        ensures calls { calls_in self.new ≡ on_call (calls_in self.old) (slice_get (calls_in self.old) n) (λ c. slice_set (calls_in self.old) n (with_aggregates c (slice_set c.aggregates at h))) }
+        ensures rest { state_of self.new ≡ with_calls (state_of self.old) (reverse (calls_in self.new)) }
+    {
+        if n == self.below.len() {
+            self.top.set_aggregate(at, h);
+        } else if n < self.below.len() {
+            self.below[n].set_aggregate(at, h);
+        }
+    }
+
+    fn set_argument(&mut self, n: usize, i: u32, h: Held)
+        ensures calls { calls_in self.new ≡ on_call (calls_in self.old) (slice_get (calls_in self.old) n) (λ c. slice_set (calls_in self.old) n (with_args c (last_set c.args i h))) }
+        ensures rest { state_of self.new ≡ with_calls (state_of self.old) (reverse (calls_in self.new)) }
+    {
+        if n == self.below.len() {
+            self.top.set_argument(i, h);
+        } else if n < self.below.len() {
+            self.below[n].set_argument(i, h);
+        }
+    }
+
+    /// Writes a number into a word of an object.
+    ///
+    /// # Errors
+    ///
+    /// Where the bytes of frames do not fit 64 bits.
+    pub fn write(
+        &mut self,
+        program: &Program,
+        x: Object,
+        offset: u32,
+        n: u32,
+    ) -> Result<(), OutOfMemory>
+        ensures { OnOk result (state_of self.new ≡ with_object (shape program.now.code.now.procs program.now.frames.now) (state_of self.old) x (offset / 4) (Some (Value.Num n))) }
+    {
+        let at = (offset / WORD_BYTES) as usize;
+        let held = Some(Value::Num(n));
+        match x {
+            Object::Data => set_word(&mut self.globals, at, held),
+            Object::Aggregates { calls, sum } => {
+                if self.has_sum(program, calls, sum)? {
+                    self.set_aggregate(calls, at, held);
+                }
+            }
+            Object::Cell {
+                calls,
+                below,
+                argument,
+            } => {
+                if self.has_below(program, calls, below)? {
+                    self.set_argument(calls, argument, held);
+                }
+            }
+        }
+        Ok(())
+    }
+}

@@ -1,0 +1,133 @@
+// Which instruction is executed, and how control leaves a block.
+
+ghost use Rattle.std.specs.Prelude.{◌≡◌, ◌<◌, OnOk, OnSome, Some, slice_get};
+ghost use Rattle.pra_base.specs.Code.{instr_at, end_of};
+ghost use Rattle.vc_code.specs.Machine.{found, with_top, branched, leave as leave_of, act as act_of, step as step_of};
+ghost use Rattle.vc_code.specs.Selected.{selected, next_of, at_block, code_of};
+ghost use Rattle.vc_code.specs.Stands.{call_of, state_of, Performs};
+
+use super::operands::targets;
+use super::{Execution, Halt, STUCK};
+use crate::arithmetic::compares;
+use crate::program::Program;
+use pra_base::{BlockId, Cond, End, OutOfMemory, VInstr, VProc};
+use std::alloc::Global;
+
+fn instruction(code: &VProc, block: BlockId, index: usize) -> Option<VInstr>
+    ensures value { result ≡ instr_at code.now block.0 index }
+    ensures room { OnSome result (index < usize.MAX) }
+{
+    match code.blocks.get(block.0 as usize) {
+        None => None,
+        Some(block) => {
+            if index < block.code.len() {
+                Some(block.code[index])
+            } else {
+                None
+            }
+        }
+    }
+}
+
+// Where control goes at a block's end; a block that is not there jumps to block 0.
+fn end(code: &VProc, block: BlockId) -> End
+    ensures { result ≡ end_of code.now block.0 }
+{
+    match code.blocks.get(block.0 as usize) {
+        Some(block) => block.end,
+        None => End::Jump(BlockId(0)),
+    }
+}
+
+impl Execution {
+    fn perform(
+        &mut self,
+        alloc: Global,
+        program: &Program,
+        code: &VProc,
+        i: VInstr,
+    ) -> Result<(), Halt>
+        requires { self.old.top.index < usize.MAX }
+        ensures { Performs (state_of self.old) (state_of self.new) result (act_of (selected program.now.code.now.procs program.now.frames.now) (next_of code.now (call_of self.old.top) (Some i)) (state_of self.old)) }
+    {
+        let here = self.here(program)?;
+        match self.operation(&here, code, &i) {
+            None => Err(STUCK),
+            Some(action) => self.apply(alloc, program, targets(&i), action),
+        }
+    }
+
+    fn jump(&mut self, code: &VProc, block: BlockId) -> Result<(), Halt>
+        ensures { Performs (state_of self.old) (state_of self.new) result (found (state_of self.old) (at_block (call_of self.old.top) block.0 (slice_get code.now.blocks block.0)) (λ c. with_top (state_of self.old) c)) }
+    {
+        match code.blocks.get(block.0 as usize) {
+            None => Err(STUCK),
+            Some(_) => {
+                self.top.jump(block);
+                self.compared = None;
+                Ok(())
+            }
+        }
+    }
+
+    fn branch(
+        &mut self,
+        program: &Program,
+        cond: Cond,
+        one: BlockId,
+        other: BlockId,
+    ) -> Result<(), Halt>
+        ensures { Performs (state_of self.old) (state_of self.new) result (branched (selected program.now.code.now.procs program.now.frames.now) cond one.0 other.0 self.old.compared (state_of self.old)) }
+    {
+        let code = program.procedure(self.top.proc);
+        match self.compared {
+            None => Err(STUCK),
+            Some((a, b)) => {
+                let target = if compares(cond, a, b) { one } else { other };
+                self.jump(code, target)
+            }
+        }
+    }
+
+    fn leave(&mut self, program: &Program, end: End) -> Result<(), Halt>
+        ensures { Performs (state_of self.old) (state_of self.new) result (leave_of (selected program.now.code.now.procs program.now.frames.now) end (state_of self.old)) }
+    {
+        match end {
+            End::Jump(block) => self.jump(program.procedure(self.top.proc), block),
+            End::Branch(cond, one, other) => self.branch(program, cond, one, other),
+            End::Return => self.leave_call(),
+        }
+    }
+
+    fn act(&mut self, alloc: Global, program: &Program, code: &VProc) -> Result<(), Halt>
+        requires { code.now ≡ code_of program.now.code.now.procs self.old.top.proc.0 }
+        ensures { Performs (state_of self.old) (state_of self.new) result (act_of (selected program.now.code.now.procs program.now.frames.now) ((selected program.now.code.now.procs program.now.frames.now).next (call_of self.old.top)) (state_of self.old)) }
+    {
+        match instruction(code, self.top.block, self.top.index) {
+            Some(i) => self.perform(alloc, program, code, i),
+            None => self.leave(program, end(code, self.top.block)),
+        }
+    }
+
+    /// Makes one step; a run that is over stays as it is.
+    ///
+    /// # Errors
+    ///
+    /// Where there is no memory for what the step makes; then the machine means nothing more.
+    pub fn step(&mut self, alloc: Global, program: &Program) -> Result<(), OutOfMemory>
+        ensures { OnOk result (state_of self.new ≡ step_of (selected program.now.code.now.procs program.now.frames.now) (state_of self.old)) }
+    {
+        if self.ending.is_some() {
+            return Ok(());
+        }
+        let code = program.procedure(self.top.proc);
+        match self.act(alloc, program, code) {
+            Ok(()) => Ok(()),
+            Err(Halt::Over(ending)) => {
+                self.ending = Some(ending);
+                Ok(())
+            }
+            Err(Halt::OutOfMemory) => Err(OutOfMemory),
+        }
+    }
+}
