@@ -1,11 +1,10 @@
 -- The rules of declarations and of the module: which scopes they make, and what they are read as.
-use Rattle.std.specs.Prelude.{◌≡◌, ℕ, ◌+◌, ◌-◌, Bool, true, false, ◌||◌, List, [], ◌∷◌, ◌++◌, length, take, drop, sum, map, count_by, Option, Some, None, Result, Ok, Err, bytes_eq, nat_eq, if◌then◌else◌}
+use Rattle.std.specs.Prelude.{ℕ, ◌+◌, ◌-◌, Bool, true, false, ◌||◌, List, [], ◌∷◌, ◌++◌, length, take, drop, map, count_by, Some, None, Ok, Err, bytes_eq, nat_eq, if◌then◌else◌}
 use Rattle.ob_syntax.specs.declared.token.Kind.{Kind}
 use Rattle.ob_syntax.specs.declared.token.Kind.TheVariants as kind
 use Rattle.ob_syntax.specs.declared.token.Token.{Token}
 use Rattle.ob_syntax.specs.declared.tree.ConstDecl.{ConstDecl}
 use Rattle.ob_syntax.specs.declared.tree.Decls.{Decls, Decls-F, fold-Decls}
-use Rattle.ob_syntax.specs.declared.tree.Expr.{out-Expr}
 use Rattle.ob_syntax.specs.declared.tree.Module.{Module}
 use Rattle.ob_syntax.specs.declared.tree.NameList.{NameList, out-NameList}
 use Rattle.ob_syntax.specs.declared.tree.Proc.{Proc, Proc-F, fold-Proc}
@@ -21,12 +20,11 @@ use Rattle.ob_syntax.specs.declared.checked.Param.{Param}
 use Rattle.ob_syntax.specs.declared.checked.RStmt.{RStmt}
 use Rattle.ob_syntax.specs.declared.checked.Root.{Root}
 use Rattle.ob_syntax.specs.declared.checked.Root.TheVariants as root
-use Rattle.ob_syntax.specs.declared.checked.Shape.{Shape}
 use Rattle.ob_syntax.specs.declared.checked.Shape.TheVariants.{Integer, Boolean}
 use Rattle.ob_syntax.specs.Expressions.{integer, boolean}
 use Rattle.ob_syntax.specs.Names.{Judged, Place, Scope, name_at, is_declared, with_name}
 use Rattle.ob_syntax.specs.Operators.{◌>>=◌}
-use Rattle.ob_syntax.specs.Statements.{Judge, each, statement}
+use Rattle.ob_syntax.specs.Statements.{each, statement}
 use Rattle.ob_syntax.specs.Types.{constant, type_expression}
 
 -- ---- a name is declared at its token, and visible from the end of its declaration on
@@ -34,7 +32,8 @@ use Rattle.ob_syntax.specs.Types.{constant, type_expression}
 -- rule 3: a name is declared twice in one scope; parameters and locals are one scope
 abbrev pub announced : Place → ℕ → Judged Place
 announced p k =
-    if is_declared (name_at p k) p.scope then Err (3, k) else Ok (record p { scope = with_name (name_at p k) None p.scope })
+    if is_declared (name_at p k) p.scope then Err (3, k)
+    else Ok (record p { scope = with_name (name_at p k) None p.scope })
 
 abbrev pub all_announced : Place → List ℕ → Judged Place
 all_announced p [] = Ok p
@@ -79,7 +78,8 @@ own_root here number = if nat_eq here 0 then root.Module number else root.Local 
 abbrev pub with_variables : Place → List ℕ → ℕ → List ℕ → Place × List ℕ
 with_variables p vars type_id [] = (p, vars)
 with_variables p vars type_id (k ∷ ks) =
-    with_variables (shown p k (Variable p.here (own_root p.here (length vars)) type_id)) (vars ++ type_id ∷ []) type_id ks
+    with_variables (shown p k (Variable p.here (own_root p.here (length vars)) type_id))
+    (vars ++ type_id ∷ []) type_id ks
 
 abbrev pub variable_list : Place → List ℕ → NameList → Judged (Place × List ℕ)
 variable_list p vars list = do
@@ -98,13 +98,15 @@ all_variables p vars (list ∷ lists) = do
 -- rule 21: a value parameter's type is not INTEGER or BOOLEAN
 abbrev pub parameter_type : Bool → ℕ → ℕ → Judged ℕ
 parameter_type by_var token type_id =
-    if by_var || (nat_eq type_id integer || nat_eq type_id boolean) then Ok type_id else Err (21, token)
+    if by_var || (nat_eq type_id integer || nat_eq type_id boolean) then Ok type_id
+    else Err (21, token)
 
 abbrev pub with_parameters : Place → List Param → Bool → ℕ → List ℕ → Place × List Param
 with_parameters p params by_var type_id [] = (p, params)
 with_parameters p params by_var type_id (k ∷ ks) =
     with_parameters (shown p k (Variable p.here (root.Param (length params)) type_id))
-    (params ++ record { by_var = by_var; type_id = type_id; addressed = false } ∷ []) by_var type_id ks
+    (params ++ record { by_var = by_var; type_id = type_id; addressed = false } ∷ [])
+    by_var type_id ks
 
 abbrev pub section : Place → List Param → Section → Judged (Place × List Param)
 section p params s = do
@@ -133,12 +135,14 @@ last_scope (s ∷ t ∷ ss) = let r = last_scope (t ∷ ss) in (r.0, s ∷ r.1)
 
 -- the place around, in the procedure of this number
 abbrev pub left : Place → ℕ → Place
-left p here = record p { here = here; scope = (last_scope p.outer).0; outer = (last_scope p.outer).1 }
+left p here =
+    let r = last_scope p.outer in record p { here = here; scope = r.0; outer = r.1 }
 
 -- the place with one more procedure, whose name is visible behind its heading
 abbrev pub with_heading : Place → ℕ → List Param → Place
 with_heading p name params =
-    let q = shown p name (Procedure (length p.headings)) in record q { headings = q.headings ++ params ∷ [] }
+    let q = shown p name (Procedure (length p.headings)) in
+    record q { headings = q.headings ++ params ∷ [] }
 
 -- ---- nodes
 
@@ -170,7 +174,8 @@ is_node kind.GreaterEqual = true
 is_node _ = false
 
 abbrev pub span_nodes : List Token → Span → ℕ
-span_nodes tokens s = count_by (λ t. is_node t.kind) (take (s.last + 1 - s.first) (drop s.first tokens))
+span_nodes tokens s =
+    count_by (λ t. is_node t.kind) (take (s.last + 1 - s.first) (drop s.first tokens))
 
 -- the nodes of a statement part, which has no nodes between its statements
 abbrev pub nodes_of : List Token → List Stmt → ℕ
@@ -210,7 +215,8 @@ decls_step d p = do
 
 -- rules 1 and 2: the name after END is not the name of the module or procedure
 abbrev pub closed : ℕ → Place → ℕ → ℕ → Judged Place
-closed rule p name close = if bytes_eq (name_at p close) (name_at p name) then Ok p else Err (rule, close)
+closed rule p name close =
+    if bytes_eq (name_at p close) (name_at p name) then Ok p else Err (rule, close)
 
 abbrev pub drafted : ℕ → ℕ → List Param → List ℕ → ℕ → List RStmt → Draft
 drafted id name params vars nodes body =
@@ -231,7 +237,10 @@ proc_step proc p = do
   body ← each d.place [] (map statement proc.body)
   end ← closed 2 d.place proc.name proc.close
   let n = nodes_of end.tokens proc.body in
-      Ok (with_nodes (left end p.here) n, drafted end.here proc.name inside.1 d.vars n body ∷ d.procs)
+      Ok (
+        with_nodes (left end p.here) n,
+        drafted end.here proc.name inside.1 d.vars n body ∷ d.procs,
+      )
 
 abbrev pub declarations : Decls → DeclsResult
 declarations = fold-Decls DeclsResult ProcResult decls_step proc_step
@@ -254,7 +263,8 @@ beginning bytes tokens = record {
   nodes = [];
 }
 
--- a module whose names are resolved: the place behind it, the types of its variables, its body and then its procedures
+-- a module whose names are resolved: the place behind it, the types of its variables, its body and
+-- then its procedures
 pub record Reading : Type 0 where
   pub place : Place
   pub vars : List ℕ
@@ -266,4 +276,8 @@ reading bytes tokens m = do
   body ← each d.place [] (map statement m.body)
   end ← closed 1 d.place m.name m.close
   let n = nodes_of tokens m.body in
-      Ok (record { place = with_nodes end n; vars = d.vars; procs = drafted 0 m.name [] [] n body ∷ d.procs })
+      Ok (record {
+        place = with_nodes end n;
+        vars = d.vars;
+        procs = drafted 0 m.name [] [] n body ∷ d.procs;
+      })

@@ -1,21 +1,22 @@
--- The rules of expressions: what an expression of the source is read as at a place, with its type, or the first rule that is broken in
--- it. A rule is told at the last token of the phrase that breaks it.
-use Rattle.std.specs.Prelude.{ℕ, ℤ, Bool, true, false, ◌&&◌, ◌||◌, List, [], ◌∷◌, ◌++◌, Option, Some, None, Result, Ok, Err, position, slice_get, slice_index, bytes_eq, nat_eq, if◌then◌else◌}
+-- The rules of expressions: what an expression of the source is read as at a place, with its type,
+-- or the first rule that is broken in it. A rule is told at the last token of the phrase that
+-- breaks it.
+use Rattle.std.specs.Prelude.{ℕ, Bool, ◌&&◌, ◌||◌, List, [], ◌∷◌, ◌++◌, Option, Some, None, Ok, Err, position, slice_get, slice_index, bytes_eq, nat_eq, if◌then◌else◌}
 use Rattle.ob_syntax.specs.declared.token.Kind.{Kind}
 use Rattle.ob_syntax.specs.declared.token.Kind.TheVariants as kind
 use Rattle.ob_syntax.specs.declared.tree.Designator.{Designator, Designator-F, fold-Designator}
 use Rattle.ob_syntax.specs.declared.tree.Expr.{Expr, Expr-F, fold-Expr}
 use Rattle.ob_syntax.specs.declared.tree.Factor.{Factor, Factor-F, fold-Factor}
-use Rattle.ob_syntax.specs.declared.tree.FactorForm.{FactorForm, FactorForm-F, fold-FactorForm}
+use Rattle.ob_syntax.specs.declared.tree.FactorForm.{FactorForm-F}
 use Rattle.ob_syntax.specs.declared.tree.NextFactor.{NextFactor, NextFactor-F, fold-NextFactor}
 use Rattle.ob_syntax.specs.declared.tree.NextTerm.{NextTerm, NextTerm-F, fold-NextTerm}
 use Rattle.ob_syntax.specs.declared.tree.Relation.{Relation, Relation-F, fold-Relation}
 use Rattle.ob_syntax.specs.declared.tree.Selector.{Selector, Selector-F, fold-Selector}
-use Rattle.ob_syntax.specs.declared.tree.SelectorForm.{SelectorForm, SelectorForm-F, fold-SelectorForm}
+use Rattle.ob_syntax.specs.declared.tree.SelectorForm.{SelectorForm-F}
 use Rattle.ob_syntax.specs.declared.tree.SimpleExpr.{SimpleExpr, SimpleExpr-F, fold-SimpleExpr}
 use Rattle.ob_syntax.specs.declared.tree.Term.{Term, Term-F, fold-Term}
 use Rattle.ob_syntax.specs.declared.checked.Meaning.{Meaning}
-use Rattle.ob_syntax.specs.declared.checked.Meaning.TheVariants.{Constant, TypeName, Variable, Procedure, Standard}
+use Rattle.ob_syntax.specs.declared.checked.Meaning.TheVariants.{Constant, Variable}
 use Rattle.ob_syntax.specs.declared.checked.ROp.{ROp}
 use Rattle.ob_syntax.specs.declared.checked.ROp.TheVariants as op
 use Rattle.ob_syntax.specs.declared.checked.RExpr.{RExpr}
@@ -25,7 +26,7 @@ use Rattle.ob_syntax.specs.declared.checked.RStep.{RStep}
 use Rattle.ob_syntax.specs.declared.checked.RStep.TheVariants as step
 use Rattle.ob_syntax.specs.declared.checked.RVar.{RVar, roll-RVar}
 use Rattle.ob_syntax.specs.declared.checked.Shape.{Shape}
-use Rattle.ob_syntax.specs.declared.checked.Shape.TheVariants.{Integer, Boolean, Array, Record}
+use Rattle.ob_syntax.specs.declared.checked.Shape.TheVariants.{Array, Record}
 use Rattle.ob_syntax.specs.declared.checked.Typed.{Typed}
 use Rattle.ob_syntax.specs.declared.checked.Value.{Value}
 use Rattle.ob_syntax.specs.declared.checked.Value.TheVariants.{Number, Truth}
@@ -64,7 +65,8 @@ operator kind.Greater = op.Greater
 operator kind.GreaterEqual = op.GreaterEqual
 operator _ = op.Equal
 
--- rule 16: an operand of `&`, OR or `~` is not BOOLEAN; rule 15: an operand of another operator or of a sign is not INTEGER
+-- rule 16: an operand of `&`, OR or `~` is not BOOLEAN; rule 15: an operand of another operator or
+-- of a sign is not INTEGER
 abbrev pub operand : ROp → ℕ → Typed → Judged RExpr
 operand op.Both token e = of_type 16 boolean token e
 operand op.Either token e = of_type 16 boolean token e
@@ -119,7 +121,8 @@ field_names None = []
 
 -- the number of the field whose name stands at the token
 abbrev pub field_number : Place → ℕ → ℕ → Option ℕ
-field_number p token type_id = position (bytes_eq (name_at p token)) (field_names (slice_get p.fields type_id))
+field_number p token type_id =
+    position (bytes_eq (name_at p token)) (field_names (slice_get p.fields type_id))
 
 -- rule 11: `.f` follows what is not a record
 abbrev pub field : Place → ℕ → ℕ → Option Shape → Judged (RStep × ℕ)
@@ -177,7 +180,8 @@ signed_term (Some _) token e = do
 -- rule 17: the sides of `=` or `#` are not both INTEGER or both BOOLEAN
 abbrev pub compared_alike : ROp → ℕ → Typed → Typed → Judged Typed
 compared_alike op token left right =
-    if are_alike left.type_id right.type_id then Ok (binary op left.expr right.expr) else Err (17, token)
+    if are_alike left.type_id right.type_id then Ok (binary op left.expr right.expr)
+    else Err (17, token)
 
 abbrev pub related : Place → ℕ → Typed → Next → Judged Typed
 related p last left (op.Equal, right) = do
@@ -200,7 +204,9 @@ FactorResult = ℕ → Place → Judged Typed
 abbrev pub SelectorResult : Type 0
 SelectorResult = ℕ → Selection
 
-abbrev pub factor_form : FactorForm-F FactorResult SelectorResult Selected Phrase Phrase Next Next Next Selection Phrase Phrase → FactorResult
+abbrev pub factor_form :
+    FactorForm-F FactorResult SelectorResult Selected Phrase Phrase Next Next Next
+    Selection Phrase Phrase → FactorResult
 factor_form (FactorForm-F.Name d) last p = do
   m ← used p d.name
   designated p d m
@@ -212,39 +218,61 @@ factor_form (FactorForm-F.Not f) last p = do
   Ok (typed boolean (x.Not truth))
 
 -- rule 14: an index is not INTEGER
-abbrev pub selector_form : SelectorForm-F FactorResult SelectorResult Selected Phrase Phrase Next Next Next Selection Phrase Phrase → SelectorResult
-selector_form (SelectorForm-F.Field k) last p type_id = field p k type_id (slice_get p.types type_id)
+abbrev pub selector_form :
+    SelectorForm-F FactorResult SelectorResult Selected Phrase Phrase Next Next Next
+    Selection Phrase Phrase → SelectorResult
+selector_form (SelectorForm-F.Field k) last p type_id =
+    field p k type_id (slice_get p.types type_id)
 selector_form (SelectorForm-F.Index e) last p type_id = do
   index ← e.judge p
   number ← of_type 14 integer e.last index
   element last number (slice_get p.types type_id)
 
-abbrev pub designator : Designator-F FactorResult SelectorResult Selected Phrase Phrase Next Next Next Selection Phrase Phrase → Selected
+abbrev pub designator :
+    Designator-F FactorResult SelectorResult Selected Phrase Phrase Next Next Next
+    Selection Phrase Phrase → Selected
 designator d = record { name = d.name; selectors = d.selectors }
 
-abbrev pub expr : Expr-F FactorResult SelectorResult Selected Phrase Phrase Next Next Next Selection Phrase Phrase → Phrase
-expr e = record { last = e.span.last; judge = λ p. e.left.judge p >>= λ left. compared p left e.relation }
+abbrev pub expr :
+    Expr-F FactorResult SelectorResult Selected Phrase Phrase Next Next Next
+    Selection Phrase Phrase → Phrase
+expr e = record {
+  last = e.span.last;
+  judge = λ p. e.left.judge p >>= λ left. compared p left e.relation;
+}
   where
     compared : Place → Typed → Option Next → Judged Typed
     compared p left None = Ok left
     compared p left (Some next) = related p e.left.last left next
 
-abbrev pub factor : Factor-F FactorResult SelectorResult Selected Phrase Phrase Next Next Next Selection Phrase Phrase → Phrase
+abbrev pub factor :
+    Factor-F FactorResult SelectorResult Selected Phrase Phrase Next Next Next
+    Selection Phrase Phrase → Phrase
 factor f = record { last = f.span.last; judge = f.form f.span.last }
 
-abbrev pub next_factor : NextFactor-F FactorResult SelectorResult Selected Phrase Phrase Next Next Next Selection Phrase Phrase → Next
+abbrev pub next_factor :
+    NextFactor-F FactorResult SelectorResult Selected Phrase Phrase Next Next Next
+    Selection Phrase Phrase → Next
 next_factor n = (operator n.op, n.factor)
 
-abbrev pub next_term : NextTerm-F FactorResult SelectorResult Selected Phrase Phrase Next Next Next Selection Phrase Phrase → Next
+abbrev pub next_term :
+    NextTerm-F FactorResult SelectorResult Selected Phrase Phrase Next Next Next
+    Selection Phrase Phrase → Next
 next_term n = (operator n.op, n.term)
 
-abbrev pub relation : Relation-F FactorResult SelectorResult Selected Phrase Phrase Next Next Next Selection Phrase Phrase → Next
+abbrev pub relation :
+    Relation-F FactorResult SelectorResult Selected Phrase Phrase Next Next Next
+    Selection Phrase Phrase → Next
 relation r = (operator r.op, r.right)
 
-abbrev pub selector : Selector-F FactorResult SelectorResult Selected Phrase Phrase Next Next Next Selection Phrase Phrase → Selection
+abbrev pub selector :
+    Selector-F FactorResult SelectorResult Selected Phrase Phrase Next Next Next
+    Selection Phrase Phrase → Selection
 selector s = s.form s.span.last
 
-abbrev pub simple_expr : SimpleExpr-F FactorResult SelectorResult Selected Phrase Phrase Next Next Next Selection Phrase Phrase → Phrase
+abbrev pub simple_expr :
+    SimpleExpr-F FactorResult SelectorResult Selected Phrase Phrase Next Next Next
+    Selection Phrase Phrase → Phrase
 simple_expr e = record {
   last = e.span.last;
   judge = λ p. do
@@ -253,7 +281,9 @@ simple_expr e = record {
     chained p e.first.last left e.rest;
 }
 
-abbrev pub term : Term-F FactorResult SelectorResult Selected Phrase Phrase Next Next Next Selection Phrase Phrase → Phrase
+abbrev pub term :
+    Term-F FactorResult SelectorResult Selected Phrase Phrase Next Next Next
+    Selection Phrase Phrase → Phrase
 term t = record {
   last = t.span.last;
   judge = λ p. do
@@ -264,28 +294,55 @@ term t = record {
 -- ---- what each phrase of the source gives
 
 abbrev pub expression : Expr → Phrase
-expression = fold-Expr FactorResult SelectorResult Selected Phrase Phrase Next Next Next Selection Phrase Phrase factor_form selector_form designator expr factor next_factor next_term relation selector simple_expr term
+expression =
+    fold-Expr FactorResult SelectorResult Selected Phrase Phrase Next Next Next
+    Selection Phrase Phrase factor_form selector_form designator expr factor next_factor next_term relation selector
+    simple_expr term
 
 abbrev pub simple_expression : SimpleExpr → Phrase
-simple_expression = fold-SimpleExpr FactorResult SelectorResult Selected Phrase Phrase Next Next Next Selection Phrase Phrase factor_form selector_form designator expr factor next_factor next_term relation selector simple_expr term
+simple_expression =
+    fold-SimpleExpr FactorResult SelectorResult Selected Phrase Phrase Next Next Next
+    Selection Phrase Phrase factor_form selector_form designator expr factor next_factor next_term relation selector
+    simple_expr term
 
 abbrev pub whole_term : Term → Phrase
-whole_term = fold-Term FactorResult SelectorResult Selected Phrase Phrase Next Next Next Selection Phrase Phrase factor_form selector_form designator expr factor next_factor next_term relation selector simple_expr term
+whole_term =
+    fold-Term FactorResult SelectorResult Selected Phrase Phrase Next Next Next
+    Selection Phrase Phrase factor_form selector_form designator expr factor next_factor next_term relation selector
+    simple_expr term
 
 abbrev pub whole_factor : Factor → Phrase
-whole_factor = fold-Factor FactorResult SelectorResult Selected Phrase Phrase Next Next Next Selection Phrase Phrase factor_form selector_form designator expr factor next_factor next_term relation selector simple_expr term
+whole_factor =
+    fold-Factor FactorResult SelectorResult Selected Phrase Phrase Next Next Next
+    Selection Phrase Phrase factor_form selector_form designator expr factor next_factor next_term relation selector
+    simple_expr term
 
 abbrev pub following_factor : NextFactor → Next
-following_factor = fold-NextFactor FactorResult SelectorResult Selected Phrase Phrase Next Next Next Selection Phrase Phrase factor_form selector_form designator expr factor next_factor next_term relation selector simple_expr term
+following_factor =
+    fold-NextFactor FactorResult SelectorResult Selected Phrase Phrase Next Next Next
+    Selection Phrase Phrase factor_form selector_form designator expr factor next_factor next_term relation selector
+    simple_expr term
 
 abbrev pub following_term : NextTerm → Next
-following_term = fold-NextTerm FactorResult SelectorResult Selected Phrase Phrase Next Next Next Selection Phrase Phrase factor_form selector_form designator expr factor next_factor next_term relation selector simple_expr term
+following_term =
+    fold-NextTerm FactorResult SelectorResult Selected Phrase Phrase Next Next Next
+    Selection Phrase Phrase factor_form selector_form designator expr factor next_factor next_term relation selector
+    simple_expr term
 
 abbrev pub comparison : Relation → Next
-comparison = fold-Relation FactorResult SelectorResult Selected Phrase Phrase Next Next Next Selection Phrase Phrase factor_form selector_form designator expr factor next_factor next_term relation selector simple_expr term
+comparison =
+    fold-Relation FactorResult SelectorResult Selected Phrase Phrase Next Next Next
+    Selection Phrase Phrase factor_form selector_form designator expr factor next_factor next_term relation selector
+    simple_expr term
 
 abbrev pub one_selector : Selector → Selection
-one_selector = fold-Selector FactorResult SelectorResult Selected Phrase Phrase Next Next Next Selection Phrase Phrase factor_form selector_form designator expr factor next_factor next_term relation selector simple_expr term
+one_selector =
+    fold-Selector FactorResult SelectorResult Selected Phrase Phrase Next Next Next
+    Selection Phrase Phrase factor_form selector_form designator expr factor next_factor next_term relation selector
+    simple_expr term
 
 abbrev pub name_with_selectors : Designator → Selected
-name_with_selectors = fold-Designator FactorResult SelectorResult Selected Phrase Phrase Next Next Next Selection Phrase Phrase factor_form selector_form designator expr factor next_factor next_term relation selector simple_expr term
+name_with_selectors =
+    fold-Designator FactorResult SelectorResult Selected Phrase Phrase Next Next Next
+    Selection Phrase Phrase factor_form selector_form designator expr factor next_factor next_term relation selector
+    simple_expr term

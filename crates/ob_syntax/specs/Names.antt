@@ -1,12 +1,14 @@
 -- What a name means at a place.
 --
--- A name is declared in the scope where its declaration stands: from its own token on no other declaration of that scope may have it,
--- and from the end of its declaration on it is visible there and in the scopes inside. A scope is the list of its declarations, in the
--- order of the text. A name that is declared but not visible yet hides no outer one (Wirth, The Programming Language Oberon, section 4).
+-- A name is declared in the scope where its declaration stands: from its own token on no other
+-- declaration of that scope may have it, and from the end of its declaration on it is visible there
+-- and in the scopes inside. A scope is the list of its declarations, in the order of the text. A
+-- name that is declared but not visible yet hides no outer one (Wirth, The Programming Language
+-- Oberon, section 4).
 use Rattle.std.specs.Prelude.{ℕ, Bool, true, false, ◌||◌, List, [], ◌∷◌, Option, Some, None, Result, Ok, Err, codes, bytes_eq, nat_eq, if◌then◌else◌}
 use Rattle.ob_syntax.specs.declared.token.Token.{Token}
 use Rattle.ob_syntax.specs.declared.checked.Meaning.{Meaning}
-use Rattle.ob_syntax.specs.declared.checked.Meaning.TheVariants.{Constant, TypeName, Variable, Procedure, Standard as StandardProcedure}
+use Rattle.ob_syntax.specs.declared.checked.Meaning.TheVariants.{Constant, TypeName, Variable, Standard as StandardProcedure}
 use Rattle.ob_syntax.specs.declared.checked.Param.{Param}
 use Rattle.ob_syntax.specs.declared.checked.Root.{Root}
 use Rattle.ob_syntax.specs.declared.checked.Root.TheVariants as root
@@ -67,7 +69,8 @@ visible name (d ∷ ds) = if bytes_eq name d.0 then d.1 else visible name ds
 -- the scope with a new name, or with a new meaning of a name that it has
 abbrev pub with_name : Name → Option Meaning → Scope → Scope
 with_name name meaning [] = (name, meaning) ∷ []
-with_name name meaning (d ∷ ds) = if bytes_eq name d.0 then (d.0, meaning) ∷ ds else d ∷ with_name name meaning ds
+with_name name meaning (d ∷ ds) =
+    if bytes_eq name d.0 then (d.0, meaning) ∷ ds else d ∷ with_name name meaning ds
 
 -- ---- all scopes
 

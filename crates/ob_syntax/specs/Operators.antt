@@ -1,5 +1,5 @@
--- What operators and signs give on values, or the trap (Wirth, Compiler Construction, chapter 7, and The Programming Language Oberon,
--- section 8.2). Numbers have 32 bits.
+-- What operators and signs give on values, or the trap (Wirth, Compiler Construction, chapter 7,
+-- and The Programming Language Oberon, section 8.2). Numbers have 32 bits.
 use Rattle.std.specs.Prelude.{ℤ, pos, ◌+ℤ◌, ◌-ℤ◌, ◌*ℤ◌, neg_ℤ, Bool, true, false, not, int_lt, int_le, if◌then◌else◌, Result, Ok, Err}
 use Rattle.std.specs.Ordering.{int_eq}
 use Rattle.std.specs.Int.{w32, int_wrap}

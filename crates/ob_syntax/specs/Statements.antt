@@ -1,8 +1,6 @@
 -- The rules of statements: what a statement of the source is read as at a place.
-use Rattle.std.specs.Prelude.{ℕ, Bool, true, false, List, [], ◌∷◌, ◌++◌, length, Option, Some, None, Result, Ok, Err, slice_get, nat_eq, if◌then◌else◌}
-use Rattle.pra_base.specs.declared.ids.ProcId.{ProcId}
+use Rattle.std.specs.Prelude.{ℕ, Bool, true, false, List, [], ◌∷◌, ◌++◌, length, Option, Some, None, Ok, Err, slice_get, nat_eq, if◌then◌else◌}
 use Rattle.ob_syntax.specs.declared.tree.Arm.{Arm, Arm-F, fold-Arm}
-use Rattle.ob_syntax.specs.declared.tree.Designator.{Designator}
 use Rattle.ob_syntax.specs.declared.tree.Expr.{Expr, out-Expr}
 use Rattle.ob_syntax.specs.declared.tree.Factor.{out-Factor}
 use Rattle.ob_syntax.specs.declared.tree.FactorForm.{FactorForm, FactorForm-F, out-FactorForm}
@@ -11,7 +9,7 @@ use Rattle.ob_syntax.specs.declared.tree.NextTerm.{NextTerm}
 use Rattle.ob_syntax.specs.declared.tree.Relation.{Relation}
 use Rattle.ob_syntax.specs.declared.tree.SimpleExpr.{SimpleExpr, out-SimpleExpr}
 use Rattle.ob_syntax.specs.declared.tree.Stmt.{Stmt, Stmt-F, fold-Stmt}
-use Rattle.ob_syntax.specs.declared.tree.StmtForm.{StmtForm, StmtForm-F, fold-StmtForm}
+use Rattle.ob_syntax.specs.declared.tree.StmtForm.{StmtForm-F}
 use Rattle.ob_syntax.specs.declared.tree.Term.{Term, out-Term}
 use Rattle.ob_syntax.specs.declared.token.Kind.{Kind}
 use Rattle.ob_syntax.specs.declared.checked.Meaning.{Meaning}
@@ -40,7 +38,8 @@ target p d m = Err (10, d.name)
 
 -- rule 18: the sides of `:=` are not both INTEGER or both BOOLEAN
 abbrev pub assigned : ℕ → RVar → Typed → Judged RStmt
-assigned token v e = if are_alike (out-RVar v).type_id e.type_id then Ok (s.Assign v e.expr) else Err (18, token)
+assigned token v e =
+    if are_alike (out-RVar v).type_id e.type_id then Ok (s.Assign v e.expr) else Err (18, token)
 
 -- rule 19: the condition of IF, ELSIF, WHILE or UNTIL is not BOOLEAN
 abbrev pub condition : Place → Expr → Judged RExpr
@@ -55,14 +54,20 @@ abbrev pub is_designator : Expr → Bool
 is_designator e = no_relation (out-Expr e).relation (out-Expr e).left
   where
     is_name : FactorForm → Bool
-    is_name f = elim (out-FactorForm f) [ FactorForm-F.Name d ↦ true | FactorForm-F.Number n ↦ false | FactorForm-F.Paren inner ↦ false | FactorForm-F.Not inner ↦ false ]
+    is_name f = elim (out-FactorForm f) [
+      | FactorForm-F.Name d ↦ true
+      | FactorForm-F.Number n ↦ false
+      | FactorForm-F.Paren inner ↦ false
+      | FactorForm-F.Not inner ↦ false
+    ]
 
     one_factor : List NextFactor → Term → Bool
     one_factor [] t = is_name (out-Factor (out-Term t).first).form
     one_factor (f ∷ fs) t = false
 
     one_term : List NextTerm → SimpleExpr → Bool
-    one_term [] left = one_factor (out-Term (out-SimpleExpr left).first).rest (out-SimpleExpr left).first
+    one_term [] left =
+        one_factor (out-Term (out-SimpleExpr left).first).rest (out-SimpleExpr left).first
     one_term (t ∷ ts) left = false
 
     no_sign : Option Kind → SimpleExpr → Bool
@@ -84,11 +89,13 @@ lent_variable type_id token e = elim (out-RExpr e.expr) [
   | RExpr-F.Binary op left right ↦ Err (23, token)
 ]
 
--- rule 23: an argument for a VAR parameter is not a variable or parameter, with its selectors, of the identical type
+-- rule 23: an argument for a VAR parameter is not a variable or parameter, with its selectors, of
+-- the identical type
 abbrev pub lent : Place → ℕ → Expr → Judged RVar
 lent p type_id e = do
   typed ← (expression e).judge p
-  if is_designator e then lent_variable type_id (out-Expr e).span.last typed else Err (23, (out-Expr e).span.last)
+  if is_designator e then lent_variable type_id (out-Expr e).span.last typed
+      else Err (23, (out-Expr e).span.last)
 
 -- rule 22: an argument for a value parameter has another type
 abbrev pub passed : Place → ℕ → Expr → Judged RExpr
@@ -98,7 +105,8 @@ passed p type_id e = do
 
 abbrev pub argument : Place → Param → Expr → Judged RArg
 argument p param e =
-    if param.by_var then lent p param.type_id e >>= (λ v. Ok (Lent v)) else passed p param.type_id e >>= (λ x. Ok (Value x))
+    if param.by_var then lent p param.type_id e >>= (λ v. Ok (Lent v))
+    else passed p param.type_id e >>= (λ x. Ok (Value x))
 
 -- arguments beyond the last parameter are tested as expressions only
 abbrev pub beyond : Place → List Expr → Judged (Unit {0})

@@ -1,5 +1,6 @@
--- How many words values have, and where the parts of an array or a record lie. A word has 4 bytes. INTEGER and BOOLEAN have one word;
--- the elements of an array and the fields of a record follow one another in order, without gaps.
+-- How many words values have, and where the parts of an array or a record lie. A word has 4 bytes.
+-- INTEGER and BOOLEAN have one word; the elements of an array and the fields of a record follow one
+-- another in order, without gaps.
 use Rattle.std.specs.Prelude.{ℕ, ◌*◌, List, [], ◌∷◌, ◌++◌, map, sum, take, slice_index}
 use Rattle.ob_syntax.specs.declared.checked.Shape.{Shape}
 use Rattle.ob_syntax.specs.declared.checked.Shape.TheVariants.{Integer, Boolean, Array, Record}

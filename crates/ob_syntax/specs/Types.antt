@@ -1,19 +1,16 @@
 -- The rules of declared constants and of types: what a type expression of the source is at a place.
-use Rattle.std.specs.Prelude.{ℕ, ℤ, pos, Bool, ◌+◌, List, [], ◌∷◌, ◌++◌, length, Option, Some, None, Result, Ok, Err, nat_abs, int_lt, bytes_eq, if◌then◌else◌}
+use Rattle.std.specs.Prelude.{ℕ, pos, ◌+◌, List, [], ◌∷◌, ◌++◌, length, Option, Some, None, Ok, Err, nat_abs, int_lt, bytes_eq, if◌then◌else◌}
 use Rattle.std.specs.List.{list_any}
 use Rattle.ob_syntax.specs.declared.tree.Expr.{Expr, out-Expr}
 use Rattle.ob_syntax.specs.declared.tree.NameList.{NameList, NameList-F, fold-NameList}
 use Rattle.ob_syntax.specs.declared.tree.TypeExpr.{TypeExpr, TypeExpr-F, fold-TypeExpr}
-use Rattle.ob_syntax.specs.declared.tree.TypeForm.{TypeForm, TypeForm-F, fold-TypeForm}
+use Rattle.ob_syntax.specs.declared.tree.TypeForm.{TypeForm-F}
 use Rattle.ob_syntax.specs.declared.checked.Meaning.{Meaning}
 use Rattle.ob_syntax.specs.declared.checked.Meaning.TheVariants.{TypeName}
 use Rattle.ob_syntax.specs.declared.checked.ROp.{ROp}
 use Rattle.ob_syntax.specs.declared.checked.RExpr.{RExpr, RExpr-F, fold-RExpr}
-use Rattle.ob_syntax.specs.declared.checked.RStep.{RStep-F}
-use Rattle.ob_syntax.specs.declared.checked.RVar.{RVar-F}
 use Rattle.ob_syntax.specs.declared.checked.Shape.{Shape}
 use Rattle.ob_syntax.specs.declared.checked.Shape.TheVariants.{Array, Record}
-use Rattle.ob_syntax.specs.declared.checked.Typed.{Typed}
 use Rattle.ob_syntax.specs.declared.checked.Value.{Value}
 use Rattle.ob_syntax.specs.declared.checked.Value.TheVariants.{Number, Truth}
 use Rattle.ob_syntax.specs.Expressions.{expression}
@@ -45,8 +42,8 @@ worth_step (RExpr-F.Binary op left right) = worth_of_both op left right
 abbrev pub worth : RExpr → Worth
 worth = fold-RExpr Worth (Unit {0}) (Unit {0}) worth_step (λ _. tt) (λ _. tt)
 
--- rule 24: a constant's or a length's expression names a variable or parameter, traps, or has no scalar type; what is not scalar is a
--- variable
+-- rule 24: a constant's or a length's expression names a variable or parameter, traps, or has no
+-- scalar type; what is not scalar is a variable
 abbrev pub constant_of : ℕ → Worth → Judged Value
 constant_of token (Some (Ok v)) = Ok v
 constant_of token _ = Err (24, token)
@@ -74,7 +71,8 @@ Shaped = Place → Judged (Place × ℕ)
 
 -- the place with one more type
 abbrev pub with_type : Place → Shape → List Name → Place × ℕ
-with_type p shape names = (record p { types = p.types ++ shape ∷ []; fields = p.fields ++ names ∷ [] }, length p.types)
+with_type p shape names =
+    (record p { types = p.types ++ shape ∷ []; fields = p.fields ++ names ∷ [] }, length p.types)
 
 abbrev pub with_length : Place → ℕ → Place
 with_length p n = record p { lengths = p.lengths ++ n ∷ [] }
@@ -88,7 +86,8 @@ named_type token m = Err (8, token)
 abbrev pub with_fields : Place → List Name → List ℕ → Judged (List Name)
 with_fields p names [] = Ok names
 with_fields p names (k ∷ ks) =
-    if list_any (bytes_eq (name_at p k)) names then Err (4, k) else with_fields p (names ++ name_at p k ∷ []) ks
+    if list_any (bytes_eq (name_at p k)) names then Err (4, k)
+    else with_fields p (names ++ name_at p k ∷ []) ks
 
 -- one type for each of the names
 abbrev pub with_types : List ℕ → ℕ → List ℕ → List ℕ

@@ -1,8 +1,7 @@
 -- Well-formed modules, the limits on them, and the checked module that each stands for.
-use Rattle.std.specs.Prelude.{◌≡◌, ℕ, ◌+◌, ◌-◌, Bool, true, false, not, ◌&&◌, ◌||◌, List, [], ◌∷◌, ◌++◌, length, map, sum, Option, Some, None, Result, Ok, Err, nat_eq, nat_lt, if◌then◌else◌}
+use Rattle.std.specs.Prelude.{◌≡◌, ℕ, ◌+◌, ◌-◌, Bool, false, not, ◌&&◌, ◌||◌, List, [], ◌∷◌, ◌++◌, length, map, sum, Option, Some, None, Ok, Err, nat_eq, nat_lt, if◌then◌else◌}
 use Rattle.std.specs.List.{list_any}
 use Rattle.pra_base.specs.Limits.{limit_maximum}
-use Rattle.pra_base.specs.declared.ids.ProcId.{ProcId}
 use Rattle.pra_base.specs.declared.limit.LimitKind.{LimitKind}
 use Rattle.pra_base.specs.declared.limit.LimitKind.TheVariants.{ArrayLength, TypeWords, Procedures, Parameters, Scalars, AggregateWords, ModuleWords, Nodes}
 use Rattle.ob_syntax.specs.declared.token.Token.{Token}
@@ -67,7 +66,8 @@ lent_step RStmt-F.WriteLine = []
 abbrev pub lent_in_arm : RArm-F (List Root) (List Root) → List Root
 lent_in_arm arm = joined arm.body
 
--- the variables and parameters that a statement lends whole to VAR parameters of declared procedures
+-- the variables and parameters that a statement lends whole to VAR parameters of declared
+-- procedures
 abbrev pub lent_in : RStmt → List Root
 lent_in = fold-RStmt (List Root) (List Root) lent_step lent_in_arm
 
@@ -92,14 +92,18 @@ is_addressed lent r type_id = is_scalar type_id && list_any (same_root r) lent
 abbrev pub marked_params : List Root → ℕ → List Param → List Param
 marked_params lent number [] = []
 marked_params lent number (param ∷ params) =
-    record param { addressed = not param.by_var && is_addressed lent (root.Param number) param.type_id } ∷ marked_params lent (number + 1) params
+    record param {
+      addressed = not param.by_var && is_addressed lent (root.Param number) param.type_id;
+    } ∷ marked_params lent (number + 1) params
 
 -- arrays, records and addressed scalar locals
 abbrev pub is_aggregate : List Root → ℕ → ℕ → Bool
-is_aggregate lent number type_id = not (is_scalar type_id) || is_addressed lent (root.Local number) type_id
+is_aggregate lent number type_id =
+    not (is_scalar type_id) || is_addressed lent (root.Local number) type_id
 
 abbrev pub local_words : List Shape → List Root → ℕ → ℕ → ℕ
-local_words shapes lent number type_id = if is_aggregate lent number type_id then type_words shapes type_id else 0
+local_words shapes lent number type_id =
+    if is_aggregate lent number type_id then type_words shapes type_id else 0
 
 -- the locals from this number on, the first aggregate of them at this aggregate word
 abbrev pub locals_from : List Shape → List Root → ℕ → ℕ → List ℕ → List Local
@@ -123,7 +127,8 @@ aggregate_words shapes d = aggregate_words_from shapes (lent_in_body d) 0 d.vars
 abbrev pub module_vars_from : List Shape → ℕ → List ℕ → List ModuleVar
 module_vars_from shapes word [] = []
 module_vars_from shapes word (type_id ∷ vars) =
-    record { type_id = type_id; word = word } ∷ module_vars_from shapes (word + type_words shapes type_id) vars
+    record { type_id = type_id; word = word }
+    ∷ module_vars_from shapes (word + type_words shapes type_id) vars
 
 abbrev pub data_words : List Shape → List ℕ → ℕ
 data_words shapes vars = sum (map (type_words shapes) vars)
@@ -137,7 +142,8 @@ Excess = LimitKind × ℕ
 -- the first of these numbers that is above the maximum
 abbrev pub first_above : LimitKind → List ℕ → Option Excess
 first_above kind [] = None
-first_above kind (n ∷ ns) = if nat_lt (limit_maximum kind) n then Some (kind, n) else first_above kind ns
+first_above kind (n ∷ ns) =
+    if nat_lt (limit_maximum kind) n then Some (kind, n) else first_above kind ns
 
 abbrev pub or_then : Option Excess → Option Excess → Option Excess
 or_then (Some e) other = Some e

@@ -1,6 +1,7 @@
 //! A checked module: the tree with every name resolved.
 //!
-//! Numbers of types, variables, parameters and locals count from 0 in the order of their declarations.
+//! Numbers of types, variables, parameters and locals count from 0, in the order of their
+//! declarations.
 
 use pra_base::ProcId;
 use pra_list::{Owned, Seq};
