@@ -16,7 +16,7 @@ fn main(rt: HostRuntime) -> ExitCode {
     let Ok(words) = words(&rt) else {
         return ExitCode::from(NO_MEMORY);
     };
-    let mut folder = HostFolder::new(&rt);
+    let mut folder = HostFolder::new(rt.alloc(), &rt);
     let mut input = HostSource::new(rt.stdin());
     let mut out = HostSink::new(rt.stdout());
     let mut notes = HostSink::new(rt.stderr());

@@ -1,4 +1,5 @@
--- What a call finds and leaves, where contents are told. What is not told is None, and of that nothing is claimed.
+-- What a call finds and leaves, where contents are told. What is not told is None, and of that
+-- nothing is claimed.
 use Rattle.std.specs.Prelude.{◌≡◌, ◌<◌, ◌≤◌, ℕ, List, length, take, ⊤, None, Some}
 use Rattle.std.specs.declared.option.Option.{Option}
 use Rattle.std.specs.Io.KnownBytes.{Appends, Consumes}
@@ -24,6 +25,10 @@ Becomes (Some held) new bytes = new ≡ Some (Some bytes)
 
 -- ---- streams
 
+-- the most bytes that may be read at once, 64 MiB
+abbrev pub most_read : ℕ
+most_read = 67108864
+
 -- the bytes are all that was left
 abbrev pub IsAllOf : Option (List ℕ) → List ℕ → Type 0
 IsAllOf None bytes = ⊤
@@ -39,4 +44,5 @@ TakesAtMost old new most = (bytes : List ℕ) × (length bytes ≤ most) × Cons
 
 -- a front of the bytes was appended
 abbrev pub AppendsFront : Option (List ℕ) → Option (List ℕ) → List ℕ → Type 0
-AppendsFront old new bytes = (count : ℕ) × (count ≤ length bytes) × Appends old new (take count bytes)
+AppendsFront old new bytes = (count : ℕ) × (count ≤ length bytes) × Appends old new
+    (take count bytes)

@@ -1,4 +1,5 @@
--- What the objects over the files and streams of the system tell: their counts of faults, and no bytes.
+-- What the objects over the files and streams of the system tell: their counts of faults, and no
+-- bytes.
 use Rattle.std.specs.Prelude.{◌≡◌, ℕ, List, None, Result, Ok, Err}
 use Rattle.std.specs.declared.option.Option.{Option}
 use Rattle.pra_io.specs.Calls.{one_more}

@@ -57,7 +57,10 @@ impl Calls {
 
     /// Counts a fault of the call that has begun.
     pub(crate) fn fail(&mut self) -> Failed
-        ensures counted { self.new ≡ record self.old { faults = min (self.old.faults + 1) (2 ^ 64 - 1) } }
+        ensures counted { self.new ≡ record self.old {
+          faults = min (self.old.faults + 1)
+              (2 ^ 64 - 1);
+        } }
         ensures rose { Rose self.old.faults self.new.faults }
         ensures later { self.old.faults ≤ self.new.faults }
     {

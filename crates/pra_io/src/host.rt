@@ -1,6 +1,7 @@
 // The files and streams of the system, which tell nothing of what they hold.
 //
-// Nothing here is proved of bytes, since no contract can say what a file or a stream gives or takes.
+// Nothing here is proved of bytes, since no contract can say what a file or a stream gives or
+// takes.
 
 ghost use Rattle.std.specs.Prelude.{◌≡◌, ◌≢◌, ◌≤◌, ℕ, List, [], None, IfOk, OnOk, IsErrOf, vec_len};
 ghost use Rattle.std.specs.Io.{ReadsAtMost, WritesAtMost};
@@ -13,8 +14,40 @@ use crate::files::{FileFault, Folder};
 use crate::streams::{Failed, Sink, Source};
 use std::alloc::Global;
 use std::fs;
-use std::io::{Read, Write};
+use std::fs::OpenFile;
+use std::io::{ErrorKind, Read, Write};
+use std::os::unix::fs::MetadataExt;
 use std::rt::Files;
+
+// Reads once, and again where the call was interrupted.
+fn read_some<R: Read>(reader: &mut R, buf: &mut [u8]) -> Result<usize, Failed>
+    ensures { ReadsAtMost result buf.new }
+{
+    for _ in 0..u64::MAX {
+        match reader.read(buf) {
+            Ok(count) => return Ok(count),
+            Err(error) if error.kind() == ErrorKind::Interrupted => {}
+            Err(_) => return Err(Failed),
+        }
+    }
+    Err(Failed)
+}
+
+// Writes once, and again where the call was interrupted. That no byte of a piece was taken is a
+// fault.
+fn write_some<W: Write>(writer: &mut W, piece: &[u8]) -> Result<usize, Failed>
+    ensures bound { WritesAtMost result piece.now }
+    ensures some { IfOk result (λ n. n ≡ 0 → piece.now ≡ []) }
+{
+    for _ in 0..u64::MAX {
+        match writer.write(piece) {
+            Ok(count) if count > 0 || piece.is_empty() => return Ok(count),
+            Err(error) if error.kind() == ErrorKind::Interrupted => {}
+            _ => return Err(Failed),
+        }
+    }
+    Err(Failed)
+}
 
 /// A source over any reader.
 #[derive(Drop)]
@@ -49,13 +82,11 @@ impl<R: Read> Source for HostSource<R> {
         ensures cause { HasCause self.old.faults self.new.faults result }
         ensures counted { CountsFault self.old.faults self.new.faults result }
     {
-        match self.inner.read(buf) {
-            Ok(count) => Ok(count),
-            Err(_) => {
-                self.faults = one_more(self.faults);
-                Err(Failed)
-            }
+        let result = read_some(&mut self.inner, buf);
+        if result.is_err() {
+            self.faults = one_more(self.faults);
         }
+        result
     }
 }
 
@@ -93,36 +124,51 @@ impl<W: Write> Sink for HostSink<W> {
         ensures cause { HasCause self.old.faults self.new.faults result }
         ensures counted { CountsFault self.old.faults self.new.faults result }
     {
-        match self.inner.write(piece) {
-            Ok(count) if count > 0 || piece.is_empty() => Ok(count),
-            _ => {
-                self.faults = one_more(self.faults);
-                Err(Failed)
-            }
+        let result = write_some(&mut self.inner, piece);
+        if result.is_err() {
+            self.faults = one_more(self.faults);
         }
+        result
     }
 }
 
-/// The folder in which the program runs, with one count of faults for all names, for reading and for writing.
+/// Which file of the system a name stands for, whatever its path is and through all links.
+#[derive(Clone, Copy, PartialEq, Eq, Drop)]
+struct FileId {
+    device: u64,
+    inode: u64,
+}
+
+/// The folder in which the program runs, with one count of faults for all names, for reading and
+/// for writing. A file that was read is never written over, under whatever name: that is a fault.
 #[derive(Drop)]
 pub struct HostFolder<'a, R> {
     rt: &'a R,
+    read: Vec<FileId>,
     faults: u64,
 }
 
 impl<'a, R: Files> HostFolder<'a, R> {
     /// The files that the runtime opens and creates.
-    pub fn new(rt: &'a R) -> HostFolder<'a, R>
-        ensures read_faults { (n : List ℕ) → ⟦<HostFolder<'a, R> as Folder>⟧.read_faults result n ≡ 0 }
-        ensures write_faults { (n : List ℕ) → ⟦<HostFolder<'a, R> as Folder>⟧.write_faults result n ≡ 0 }
+    pub fn new(alloc: Global, rt: &'a R) -> HostFolder<'a, R>
+        ensures read_faults { (n : List ℕ) →
+            ⟦<HostFolder<'a, R> as Folder>⟧.read_faults result n ≡ 0 }
+        ensures write_faults { (n : List ℕ) →
+            ⟦<HostFolder<'a, R> as Folder>⟧.write_faults result n ≡ 0 }
     {
-        HostFolder { rt, faults: 0 }
+        HostFolder {
+            rt,
+            read: Vec::new(alloc),
+            faults: 0,
+        }
     }
 
     /// How many calls have failed.
     pub fn faults(&self) -> u64
-        ensures reading { (n : List ℕ) → ⟦<HostFolder<'a, R> as Folder>⟧.read_faults self.now n ≡ result }
-        ensures writing { (n : List ℕ) → ⟦<HostFolder<'a, R> as Folder>⟧.write_faults self.now n ≡ result }
+        ensures reading { (n : List ℕ) →
+            ⟦<HostFolder<'a, R> as Folder>⟧.read_faults self.now n ≡ result }
+        ensures writing { (n : List ℕ) →
+            ⟦<HostFolder<'a, R> as Folder>⟧.write_faults self.now n ≡ result }
     {
         self.faults
     }
@@ -138,11 +184,10 @@ fn read_whole<R: Read>(alloc: Global, reader: &mut R, max: usize) -> Result<Vec<
     let mut all = Vec::new(alloc);
     let mut piece = [0u8; PIECE];
     for _ in 0..u64::MAX {
-        match reader.read(&mut piece) {
-            Ok(0) => return Ok(all),
-            Ok(count) if count > max - all.len() => return Err(FileFault::TooLong),
-            Ok(count) => all.extend_from_slice(&piece[..count])?,
-            Err(_) => return Err(FileFault::Failed),
+        match read_some(reader, &mut piece)? {
+            0 => return Ok(all),
+            count if count > max - all.len() => return Err(FileFault::TooLong),
+            count => all.extend_from_slice(&piece[..count])?,
         }
     }
     Err(FileFault::Failed)
@@ -152,12 +197,61 @@ fn read_whole<R: Read>(alloc: Global, reader: &mut R, max: usize) -> Result<Vec<
 fn write_whole<W: Write>(writer: &mut W, bytes: &[u8]) -> Result<(), Failed> {
     let mut at = 0;
     while at < bytes.len() {
-        match writer.write(&bytes[at..]) {
-            Ok(count) if count > 0 => at += count,
-            _ => return Err(Failed),
-        }
+        at += write_some(writer, &bytes[at..])?;
     }
     Ok(())
+}
+
+// Which file an opened one is.
+fn id_of<F: OpenFile>(file: &F) -> Result<FileId, Failed> {
+    match file.metadata() {
+        Ok(found) => Ok(FileId {
+            device: found.dev(),
+            inode: found.ino(),
+        }),
+        Err(_) => Err(Failed),
+    }
+}
+
+// The bytes of the named file, of which there are at most max, and which file that is.
+fn read_named<R: Files>(
+    rt: &R,
+    alloc: Global,
+    name: &str,
+    max: usize,
+) -> Result<(FileId, Vec<u8>), FileFault>
+    ensures { IfOk result (λ found. vec_len found.1 ≤ max) }
+{
+    match fs::open(rt, name) {
+        Ok(mut file) => {
+            let id = id_of(&file)?;
+            let bytes = read_whole(alloc, &mut file, max)?;
+            Ok((id, bytes))
+        }
+        Err(_) => Err(FileFault::Failed),
+    }
+}
+
+// Whether the name stands for a file that was read.
+fn was_read<R: Files>(rt: &R, read: &[FileId], name: &str) -> bool {
+    match fs::metadata(rt, name) {
+        Ok(found) => read.contains(&FileId {
+            device: found.dev(),
+            inode: found.ino(),
+        }),
+        Err(_) => false,
+    }
+}
+
+// Makes the named file hold the bytes, where it is none of those that were read.
+fn write_named<R: Files>(rt: &R, read: &[FileId], name: &str, bytes: &[u8]) -> Result<(), Failed> {
+    if was_read(rt, read, name) {
+        return Err(Failed);
+    }
+    match fs::create(rt, name) {
+        Ok(mut file) => write_whole(&mut file, bytes),
+        Err(_) => Err(Failed),
+    }
 }
 
 impl<'a, R: Files> Folder for HostFolder<'a, R> {
@@ -172,17 +266,21 @@ impl<'a, R: Files> Folder for HostFolder<'a, R> {
         ensures size { IfOk result (λ v. vec_len v ≤ max) }
         ensures too_long { IsErrOf result FileFault.TooLong → IsLonger (untold name.now) max }
         ensures same { (n : List ℕ) → untold n ≡ untold n }
-        ensures cause { FileCause name.now (λ _. self.old.faults) (λ _. self.new.faults) (λ _. self.old.faults) (λ _. self.new.faults) result }
+        ensures cause { FileCause name.now (λ _. self.old.faults) (λ _. self.new.faults)
+            (λ _. self.old.faults) (λ _. self.new.faults) result }
         ensures counted { CountsFileFault self.old.faults self.new.faults result }
     {
-        let result = match fs::open(self.rt, name) {
-            Ok(mut file) => read_whole(alloc, &mut file, max),
-            Err(_) => Err(FileFault::Failed),
-        };
-        if let Err(FileFault::Failed) = result {
-            self.faults = one_more(self.faults);
+        match read_named(self.rt, alloc, name, max) {
+            Ok((id, bytes)) => {
+                self.read.push(id)?;
+                Ok(bytes)
+            }
+            Err(FileFault::Failed) => {
+                self.faults = one_more(self.faults);
+                Err(FileFault::Failed)
+            }
+            Err(fault) => Err(fault),
         }
-        result
     }
 
     fn write_file(&mut self, _: Global, name: &str, bytes: &[u8]) -> Result<(), FileFault>
@@ -190,13 +288,11 @@ impl<'a, R: Files> Folder for HostFolder<'a, R> {
         ensures others { (n : List ℕ) → n ≢ name.now → untold n ≡ untold n }
         ensures never_long { IsErrOf result FileFault.TooLong → ⊥ }
         ensures memory { IsErrOf result FileFault.OutOfMemory → ⊥ }
-        ensures cause { FileCause name.now (λ _. self.old.faults) (λ _. self.new.faults) (λ _. self.old.faults) (λ _. self.new.faults) result }
+        ensures cause { FileCause name.now (λ _. self.old.faults) (λ _. self.new.faults)
+            (λ _. self.old.faults) (λ _. self.new.faults) result }
         ensures counted { CountsFileFault self.old.faults self.new.faults result }
     {
-        let result = match fs::create(self.rt, name) {
-            Ok(mut file) => write_whole(&mut file, bytes),
-            Err(_) => Err(Failed),
-        };
+        let result = write_named(self.rt, &self.read, name, bytes);
         if result.is_err() {
             self.faults = one_more(self.faults);
         }

@@ -39,8 +39,10 @@ pub(crate) fn put_first(
     bytes: &[u8],
 ) -> Result<(), FileFault>
     ensures ok { OnOk result (held_at name.now files.new.items ≡ Some bytes.now) }
-    ensures others { (n : List ℕ) → n ≢ name.now → held_at n files.new.items ≡ held_at n files.old.items }
-    ensures err { IfErr result (λ e. (e ≡ FileFault.OutOfMemory) × (files.new.items ≡ files.old.items)) }
+    ensures others { (n : List ℕ) → n ≢ name.now →
+        held_at n files.new.items ≡ held_at n files.old.items }
+    ensures err { IfErr result (λ e. (e ≡ FileFault.OutOfMemory) ×
+        (files.new.items ≡ files.old.items)) }
 {
     let entry = (String::from_str(alloc, name)?, bytes.to_vec(alloc)?);
     files.insert(0, entry)?;
@@ -49,8 +51,9 @@ pub(crate) fn put_first(
 
 /// A folder in memory.
 ///
-/// Its calls are numbered from 1, reads and writes together, and it fails at the listed ones and where an absent name is
-/// read. It has one count of faults for all names, for reading and for writing.
+/// Its calls are numbered from 1, reads and writes together, and it fails at the listed ones and
+/// where an absent name is read. It has one count of faults for all names, for reading and for
+/// writing.
 #[derive(Debug, Drop)]
 pub struct MemFolder {
     files: Vec<Entry>,
@@ -63,7 +66,8 @@ impl MemFolder {
     /// A folder of these names with what they hold, no two of them equal.
     pub fn new(files: Vec<(String, Vec<u8>)>, failing: Vec<u64>) -> MemFolder
         requires { AreDifferent files.items }
-        ensures files { (n : List ℕ) → ⟦<MemFolder as Folder>⟧.file result n ≡ Some (held_at n files.items) }
+        ensures files { (n : List ℕ) → ⟦<MemFolder as Folder>⟧.file result n ≡ Some
+            (held_at n files.items) }
         ensures read_faults { (n : List ℕ) → ⟦<MemFolder as Folder>⟧.read_faults result n ≡ 0 }
         ensures write_faults { (n : List ℕ) → ⟦<MemFolder as Folder>⟧.write_faults result n ≡ 0 }
         ensures calls { folder_calls result ≡ no_calls failing }
@@ -102,12 +106,15 @@ impl Folder for MemFolder {
     fn read_file(&mut self, alloc: Global, name: &str, max: usize) -> Result<Vec<u8>, FileFault>
         ensures bytes { IfOk result (λ v. folder_file self.old name.now ≡ Some v.items) }
         ensures size { IfOk result (λ v. vec_len v ≤ max) }
-        ensures too_long { IsErrOf result FileFault.TooLong → IsSomeAnd (folder_file self.old name.now) (λ held. max < length held) }
+        ensures too_long { IsErrOf result FileFault.TooLong → IsSomeAnd
+            (folder_file self.old name.now) (λ held. max < length held) }
         ensures same { (n : List ℕ) → folder_file self.new n ≡ folder_file self.old n }
-        ensures cause { FileCause name.now (folder_faults self.old) (folder_faults self.new) (folder_faults self.old) (folder_faults self.new) result }
+        ensures cause { FileCause name.now (folder_faults self.old) (folder_faults self.new)
+            (folder_faults self.old) (folder_faults self.new) result }
 
         // It fails at the listed calls and where the name is absent, and only there.
-        ensures failed { IsErrOf result FileFault.Failed ↔ (FailsNext (folder_calls self.old) ⊎ (folder_file self.old name.now ≡ None)) }
+        ensures failed { IsErrOf result FileFault.Failed ↔ (FailsNext (folder_calls self.old) ⊎
+            (folder_file self.old name.now ≡ None)) }
         ensures counted { CountsFile (folder_calls self.old) (folder_calls self.new) result }
     {
         self.calls.begin()?;
@@ -120,14 +127,18 @@ impl Folder for MemFolder {
 
     fn write_file(&mut self, alloc: Global, name: &str, bytes: &[u8]) -> Result<(), FileFault>
         ensures written { OnOk result (folder_file self.new name.now ≡ Some bytes.now) }
-        ensures others { (n : List ℕ) → n ≢ name.now → folder_file self.new n ≡ folder_file self.old n }
+        ensures others { (n : List ℕ) → n ≢ name.now →
+            folder_file self.new n ≡ folder_file self.old n }
         ensures never_long { IsErrOf result FileFault.TooLong → ⊥ }
-        ensures memory { IsErrOf result FileFault.OutOfMemory → (n : List ℕ) → folder_file self.new n ≡ folder_file self.old n }
-        ensures cause { FileCause name.now (folder_faults self.old) (folder_faults self.new) (folder_faults self.old) (folder_faults self.new) result }
+        ensures memory { IsErrOf result FileFault.OutOfMemory → (n : List ℕ) →
+            folder_file self.new n ≡ folder_file self.old n }
+        ensures cause { FileCause name.now (folder_faults self.old) (folder_faults self.new)
+            (folder_faults self.old) (folder_faults self.new) result }
 
         // It fails at the listed calls, and only there, and changes no file then.
         ensures failed { IsErrOf result FileFault.Failed ↔ FailsNext (folder_calls self.old) }
-        ensures unchanged { IsErrOf result FileFault.Failed → (n : List ℕ) → folder_file self.new n ≡ folder_file self.old n }
+        ensures unchanged { IsErrOf result FileFault.Failed → (n : List ℕ) →
+            folder_file self.new n ≡ folder_file self.old n }
         ensures counted { CountsFile (folder_calls self.old) (folder_calls self.new) result }
     {
         self.calls.begin()?;
@@ -135,7 +146,8 @@ impl Folder for MemFolder {
     }
 }
 
-/// Copies the front of the bytes to the front of the buffer, at most a piece of them, and answers how many.
+/// Copies the front of the bytes to the front of the buffer, at most a piece of them, and answers
+/// how many.
 pub(crate) fn copy_front(rest: &[u8], buf: &mut [u8], piece: usize) -> usize
     requires { 0 < piece }
     ensures bound { result ≤ length buf.new }
@@ -149,7 +161,8 @@ pub(crate) fn copy_front(rest: &[u8], buf: &mut [u8], piece: usize) -> usize
     count
 }
 
-/// A source in memory, which gives at most a piece at a time and fails at the listed calls, numbered from 1.
+/// A source in memory, which gives at most a piece at a time and fails at the listed calls,
+/// numbered from 1.
 #[derive(Debug, Drop)]
 pub struct MemSource {
     bytes: Vec<u8>,
@@ -203,13 +216,16 @@ impl Source for MemSource {
 
     fn take(&mut self, buf: &mut [u8]) -> Result<usize, Failed>
         ensures bound { ReadsAtMost result buf.new }
-        ensures bytes { ReadConsumes (Some (source_left self.old)) (Some (source_left self.new)) result buf.new }
-        ensures cause { HasCause (source_calls self.old).faults (source_calls self.new).faults result }
+        ensures bytes { ReadConsumes (Some (source_left self.old)) (Some
+            (source_left self.new)) result buf.new }
+        ensures cause { HasCause (source_calls self.old).faults
+            (source_calls self.new).faults result }
 
         // It fails at the listed calls, and only there, and gives as much as it has, up to a piece.
         ensures failed { IsErr result ↔ FailsNext (source_calls self.old) }
         ensures counted { Counts (source_calls self.old) (source_calls self.new) result }
-        ensures count { IfOk result (λ n. n ≡ min (min (length (source_left self.old)) (length buf.old)) (source_piece self.old)) }
+        ensures count { IfOk result (λ n. n ≡ min (min (length (source_left self.old))
+            (length buf.old)) (source_piece self.old)) }
         ensures piece { source_piece self.new ≡ source_piece self.old }
     {
         self.calls.begin()?;
@@ -219,8 +235,8 @@ impl Source for MemSource {
     }
 }
 
-/// A sink in memory, which takes at most a piece at a time, and no more than its capacity in all. It fails at the listed
-/// calls, numbered from 1, and where it is full.
+/// A sink in memory, which takes at most a piece at a time, and no more than its capacity in all.
+/// It fails at the listed calls, numbered from 1, and where it is full.
 #[derive(Debug, Drop)]
 pub struct MemSink {
     bytes: Vec<u8>,
@@ -282,13 +298,17 @@ impl Sink for MemSink {
     fn put(&mut self, piece: &[u8]) -> Result<usize, Failed>
         ensures bound { WritesAtMost result piece.now }
         ensures some { IfOk result (λ n. n ≡ 0 → piece.now ≡ []) }
-        ensures bytes { WriteAppends (Some (sink_bytes self.old)) (Some (sink_bytes self.new)) result piece.now }
+        ensures bytes { WriteAppends (Some (sink_bytes self.old)) (Some
+            (sink_bytes self.new)) result piece.now }
         ensures cause { HasCause (sink_calls self.old).faults (sink_calls self.new).faults result }
 
-        // It fails at the listed calls and where it is full, and only there, and takes as much as it has room for, up to a piece.
-        ensures failed { IsErr result ↔ (FailsNext (sink_calls self.old) ⊎ ((length (sink_bytes self.old) ≡ sink_capacity self.old) × (0 < length piece.now))) }
+        // It fails at the listed calls and where it is full, and only there, and takes as much as
+        // it has room for, up to a piece.
+        ensures failed { IsErr result ↔ (FailsNext (sink_calls self.old) ⊎ ((length
+            (sink_bytes self.old) ≡ sink_capacity self.old) × (0 < length piece.now))) }
         ensures counted { Counts (sink_calls self.old) (sink_calls self.new) result }
-        ensures count { IfOk result (λ n. n ≡ min (min (length piece.now) (sink_capacity self.old - length (sink_bytes self.old))) (sink_piece self.old)) }
+        ensures count { IfOk result (λ n. n ≡ min (min (length piece.now)
+            (sink_capacity self.old - length (sink_bytes self.old))) (sink_piece self.old)) }
         ensures piece { sink_piece self.new ≡ sink_piece self.old }
         ensures capacity { sink_capacity self.new ≡ sink_capacity self.old }
     {

@@ -7,7 +7,8 @@ use crate::memory::{Entry, copy_front, find, put_first};
 use crate::streams::{Failed, Sink, Source};
 use std::alloc::Global;
 
-/// A folder over one file: a name that was never written reads that file, and a written one what was last written to it.
+/// A folder over one file: a name that was never written reads that file, and a written one what
+/// was last written to it.
 #[derive(Debug, Drop)]
 pub struct QuietFolder {
     given: Vec<u8>,
@@ -17,7 +18,8 @@ pub struct QuietFolder {
 impl QuietFolder {
     /// A folder in which each name holds these bytes.
     pub fn new(bytes: Vec<u8>) -> QuietFolder
-        ensures files { (n : List ℕ) → ⟦<QuietFolder as Folder>⟧.file result n ≡ Some (Some bytes.items) }
+        ensures files { (n : List ℕ) → ⟦<QuietFolder as Folder>⟧.file result n ≡ Some
+            (Some bytes.items) }
         ensures read_faults { (n : List ℕ) → ⟦<QuietFolder as Folder>⟧.read_faults result n ≡ 0 }
         ensures write_faults { (n : List ℕ) → ⟦<QuietFolder as Folder>⟧.write_faults result n ≡ 0 }
     {
@@ -131,7 +133,8 @@ impl Sink for QuietSink {
 
     fn put(&mut self, piece: &[u8]) -> Result<usize, Failed>
         ensures whole { result ≡ Ok (length piece.now) }
-        ensures count { quiet_count self.new ≡ min (quiet_count self.old + length piece.now) (2 ^ 64 - 1) }
+        ensures count { quiet_count self.new ≡ min (quiet_count self.old + length piece.now)
+            (2 ^ 64 - 1) }
     {
         self.count = self.count.saturating_add(piece.len() as u64);
         Ok(piece.len())

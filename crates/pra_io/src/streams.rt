@@ -6,7 +6,7 @@ ghost use Rattle.std.specs.Io.{ReadsAtMost, WritesAtMost};
 ghost use Rattle.std.specs.Io.KnownBytes.{ReadConsumes, WriteAppends, Appends, Consumes, IsAtEnd};
 ghost use Rattle.pra_io.specs.declared.streams.ReadAll.TheVariants.{ReadFault, OutOfMemory};
 ghost use Rattle.pra_io.specs.Causes.{Rose, HasCause};
-ghost use Rattle.pra_io.specs.Contents.{IsAllOf, Takes, TakesAtMost, AppendsFront};
+ghost use Rattle.pra_io.specs.Contents.{IsAllOf, Takes, TakesAtMost, AppendsFront, most_read};
 
 use pra_base::OutOfMemory;
 use std::alloc::{AllocError, AllocFailed, Global};
@@ -23,7 +23,8 @@ pub trait Source {
     /// How often a take has failed.
     ghost faults: { Self → ℕ };
 
-    /// Puts bytes at the front of the buffer and answers how many: 0 of a buffer with room is the end of the input.
+    /// Puts bytes at the front of the buffer and answers how many: 0 of a buffer with room is the
+    /// end of the input.
     ///
     /// # Errors
     ///
@@ -42,7 +43,8 @@ pub trait Sink {
     /// How often a put has failed.
     ghost faults: { Self → ℕ };
 
-    /// Takes bytes from the front of the piece and answers how many: at least one of a piece that is not empty.
+    /// Takes bytes from the front of the piece and answers how many: at least one of a piece that
+    /// is not empty.
     ///
     /// # Errors
     ///
@@ -110,6 +112,11 @@ impl<T: Drop> From<AllocFailed<T>> for ReadAll {
 /// The most that one call of `read_all` may be asked for: 64 MiB.
 pub const LONGEST_READ: usize = 67_108_864;
 
+/// [`LONGEST_READ`] is the number of the definition.
+pub fn longest_read()
+    ensures { LONGEST_READ ≡ most_read }
+{}
+
 /// How many bytes `read_all` asks for at a time.
 const PIECE: usize = 4096;
 
@@ -117,9 +124,10 @@ const PIECE: usize = 4096;
 ///
 /// # Errors
 ///
-/// `TooLong` where `max + 1` bytes were taken. `ReadFault` where the source failed; what was taken before is lost.
+/// `TooLong` where `max + 1` bytes were taken. `ReadFault` where the source failed; what was taken
+/// before is lost.
 pub fn read_all<I: Source>(alloc: Global, source: &mut I, max: usize) -> Result<Vec<u8>, ReadAll>
-    requires { max ≤ LONGEST_READ }
+    requires { max ≤ most_read }
 
     // The answer is all that was left, and nothing is left afterwards.
     ensures all { IfOk result (λ v. IsAllOf (I.left source.old) v.items) }
@@ -128,15 +136,20 @@ pub fn read_all<I: Source>(alloc: Global, source: &mut I, max: usize) -> Result<
 
     // How many bytes were taken, by the answer.
     ensures taken { IfOk result (λ v. Consumes (I.left source.old) (I.left source.new) v.items) }
-    ensures too_long { IsErrOf result ReadAll.TooLong → Takes (I.left source.old) (I.left source.new) (max + 1) }
-    ensures before_fault { IsErrOf result ReadAll.ReadFault → TakesAtMost (I.left source.old) (I.left source.new) max }
-    ensures memory { IsErrOf result ReadAll.OutOfMemory → TakesAtMost (I.left source.old) (I.left source.new) (max + 1) }
-    ensures exact { IsSome (I.left source.old) → Takes (I.left source.old) (I.left source.new) (max + 1) →
+    ensures too_long { IsErrOf result ReadAll.TooLong → Takes (I.left source.old)
+        (I.left source.new) (max + 1) }
+    ensures before_fault { IsErrOf result ReadAll.ReadFault → TakesAtMost (I.left source.old)
+        (I.left source.new) max }
+    ensures memory { IsErrOf result ReadAll.OutOfMemory → TakesAtMost (I.left source.old)
+        (I.left source.new) (max + 1) }
+    ensures exact { IsSome (I.left source.old) → Takes (I.left source.old) (I.left source.new)
+        (max + 1) →
         IsErrOf result ReadAll.TooLong ⊎ IsErrOf result ReadAll.OutOfMemory }
 
     // The count never falls, and a fault is told only where it rose.
     ensures later { I.faults source.old ≤ I.faults source.new }
-    ensures fault { IsErrOf result ReadAll.ReadFault → Rose (I.faults source.old) (I.faults source.new) }
+    ensures fault { IsErrOf result ReadAll.ReadFault → Rose (I.faults source.old)
+        (I.faults source.new) }
 {
     let mut all = Vec::new(alloc);
     let mut piece = [0u8; PIECE];

@@ -1,0 +1,4 @@
+pub mod Rungs
+mod Fronts
+mod Causes
+pub mod Reading
