@@ -1,12 +1,5 @@
 mod Numbers
-mod Endings
-mod Modes
-mod SmallCode
-mod Values
-mod DataWords
-mod SmallRun
-mod Keys
-mod Naming
-mod TreeSize
-mod SmallSize
-mod OneAnswer
+mod Files
+mod WriteEnds
+mod ModeAnswers
+mod RunMode

@@ -1,10 +1,9 @@
-pub mod Small
-pub mod SmallTree
-pub mod Lowering
-pub mod Source
-pub mod Meaning
-pub mod Code
+pub mod Language
+pub mod Status
 pub mod Words
 pub mod Outside
+pub mod Writes
+pub mod Modes
 pub mod Texts
 pub mod Clause
+pub mod Reports

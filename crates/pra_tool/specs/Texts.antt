@@ -9,13 +9,17 @@ use Rattle.ia_step.specs.declared.out.Ending.{Ending}
 use Rattle.ia_step.specs.declared.out.Ending.TheVariants.{Going, Ended, Trap, Fault}
 use Rattle.ia_step.specs.declared.out.RunOut.{RunOut}
 use Rattle.pra_base.specs.declared.limit.LimitKind.{LimitKind}
-use Rattle.pra_base.specs.declared.limit.LimitKind.TheVariants as limit
+use Rattle.pra_base.specs.Limits.{limit_name, limit_maximum}
+use Rattle.pra_tool.specs.declared.words.WordsFault.{WordsFault}
+use Rattle.pra_tool.specs.declared.words.WordsFault.TheVariants.{Words, Value}
+use Rattle.pra_tool.specs.declared.words.Word.{Word}
+use Rattle.pra_tool.specs.declared.words.Word.TheVariants as word
 use Rattle.ob_lex.specs.declared.scanner.LexFault.{LexFault}
 use Rattle.ob_lex.specs.declared.scanner.LexFault.TheVariants as lex
-use Rattle.pra_tool.specs.declared.source_fault.SourceFault.TheVariants.{Lex, Grammar}
-use Rattle.pra_tool.specs.declared.source_fault.LimitFault.TheVariants.{Count, Depth}
-use Rattle.pra_tool.specs.declared.source_fault.ReadFault.{ReadFault}
-use Rattle.pra_tool.specs.declared.source_fault.ReadFault.TheVariants.{Source, Limit, Unbuilt, OutOfMemory}
+use Rattle.ob_read.specs.declared.fault.SourceFault.TheVariants.{Lex, Grammar}
+use Rattle.ob_read.specs.declared.fault.LimitFault.TheVariants.{Count, Depth}
+use Rattle.pra_small.specs.declared.fault.CompileFault.{CompileFault}
+use Rattle.pra_small.specs.declared.fault.CompileFault.TheVariants.{Source, Limit, Unbuilt, OutOfMemory}
 
 -- Write prints one blank and the decimal number, WriteLn one LF
 abbrev pub event_text : OutEvent → List ℕ
@@ -39,9 +43,11 @@ ending_words Ended = codes "ended"
 ending_words (Trap kind) = codes "trap " ++ trap_name kind
 ending_words (Fault kind) = []
 
--- how the run ended, the steps that it made, the last one included, and the input words that it took
+-- how the run ended, the steps that it made, the last one included, and the input words that it
+-- took
 abbrev pub ending_line : RunOut → List ℕ
-ending_line run = ending_words run.ending ++ codes " steps " ++ decimal run.steps ++ codes " reads " ++ decimal run.reads ++ codes "\n"
+ending_line run = ending_words run.ending ++ codes " steps " ++ decimal run.steps ++
+    codes " reads " ++ decimal run.reads ++ codes "\n"
 
 -- ---- what is wrong with a source; what no source is refused for has no line
 
@@ -49,7 +55,8 @@ ending_line run = ending_words run.ending ++ codes " steps " ++ decimal run.step
 abbrev pub lexical_line : LexFault → List ℕ
 lexical_line (lex.BadByte at) = codes "fault bad-byte at " ++ decimal at ++ codes "\n"
 lexical_line (lex.OpenComment at) = codes "fault open-comment at " ++ decimal at ++ codes "\n"
-lexical_line (lex.NumberTooLarge at) = codes "fault number-too-large at " ++ decimal at ++ codes "\n"
+lexical_line (lex.NumberTooLarge at) =
+    codes "fault number-too-large at " ++ decimal at ++ codes "\n"
 lexical_line (lex.TokensOver count) = []
 lexical_line lex.OutOfMemory = []
 
@@ -59,14 +66,29 @@ place_text token at = decimal token ++ codes " at " ++ decimal at ++ codes "\n"
 
 -- how much there is, and how much there may be
 abbrev pub count_line : LimitKind → ℕ → List ℕ
-count_line limit.Source count = codes "limit source count " ++ decimal count ++ codes " maximum 1048576\n"
-count_line limit.Tokens count = codes "limit tokens count " ++ decimal count ++ codes " maximum 65536\n"
-count_line _ count = []
+count_line kind count = codes "limit " ++ limit_name kind ++ codes " count " ++ decimal count ++
+    codes " maximum " ++ decimal (limit_maximum kind) ++ codes "\n"
 
-abbrev pub fault_line : ReadFault → List ℕ
+abbrev pub fault_line : CompileFault → List ℕ
 fault_line (Source (Lex f)) = lexical_line f
 fault_line (Source (Grammar token at)) = codes "fault grammar token " ++ place_text token at
 fault_line (Limit (Count kind count)) = count_line kind count
 fault_line (Limit (Depth token at)) = codes "limit depth token " ++ place_text token at
 fault_line Unbuilt = codes "fault unbuilt\n"
 fault_line OutOfMemory = []
+
+-- ---- what is wrong with the words
+
+-- a word of the command line, as it is told
+abbrev pub word_name : Word → List ℕ
+word_name word.Mode = codes "MODE"
+word_name word.File = codes "FILE"
+word_name word.Steps = codes "--steps"
+
+abbrev pub words_line : WordsFault → List ℕ
+words_line Words = codes "fault words\n"
+words_line (Value w) = codes "fault value " ++ word_name w ++ codes "\n"
+
+-- and the usage line
+abbrev pub words_lines : WordsFault → List ℕ
+words_lines fault = words_line fault ++ codes "usage: pra run FILE [--steps M]\n"

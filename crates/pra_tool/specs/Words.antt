@@ -1,9 +1,11 @@
 -- What the words of a command line ask for.
-use Rattle.std.specs.Prelude.{ℕ, List, [], ◌∷◌, length, map, if◌then◌else◌, nat_le, ◌&&◌, ◌==◌, not, Bool, true, false, None, Some, String, codes, string_bytes}
+use Rattle.std.specs.Prelude.{ℕ, List, [], ◌∷◌, length, map, if◌then◌else◌, nat_le, ◌&&◌, ◌==◌, not, Bool, true, false, None, Some, Result, Ok, Err, String, codes, string_bytes}
 use Rattle.std.specs.declared.option.Option.{Option}
 use Rattle.std.specs.declared.alloc.Global.{Global}
 use Rattle.std.specs.Str.{bytes_eq, all_ascii_digits}
 use Rattle.std.specs.Str.Parse.{digits_value}
+use Rattle.pra_tool.specs.declared.words.WordsFault.{WordsFault}
+use Rattle.pra_tool.specs.declared.words.WordsFault.TheVariants.{Words}
 
 -- the file that the image is written to
 abbrev pub image_name : List ℕ
@@ -38,19 +40,29 @@ is_number word = all_ascii_digits word && nat_le 1 (length word) && nat_le (leng
 
 -- a count of steps: a number of at most 200000000
 abbrev pub steps_of : List ℕ → Option ℕ
-steps_of word = if is_number word && nat_le (digits_value 10 word) most_steps then Some (digits_value 10 word) else None
+steps_of word =
+    if is_number word && nat_le (digits_value 10 word) most_steps
+    then Some (digits_value 10 word) else None
 
--- FILE and the granted steps
+-- FILE, the granted steps, and the name of the file that the image is written to
 pub record Asked : Type 0 where
   pub file : List ℕ
   pub steps : ℕ
+  pub image : List ℕ
 
-abbrev pub with_steps : List ℕ → Option ℕ → Option Asked
-with_steps file None = None
-with_steps file (Some steps) = Some (record { file = file; steps = steps })
+-- `run`, a FILE that may be read, and so many steps, where they are a number
+abbrev pub run_of : List ℕ → List ℕ → Option ℕ → Result Asked WordsFault
+run_of mode file None = Err Words
+run_of mode file (Some steps) =
+    if bytes_eq mode (codes "run") && is_file file
+    then Ok (record { file = file; steps = steps; image = image_name }) else Err Words
 
--- `run FILE` or `run FILE --steps M`; all other words ask for nothing
-abbrev pub asked_of : List (List ℕ) → Option Asked
-asked_of (mode ∷ file ∷ []) = if bytes_eq mode (codes "run") && is_file file then with_steps file (Some default_steps) else None
-asked_of (mode ∷ file ∷ option ∷ number ∷ []) = if bytes_eq mode (codes "run") && is_file file && bytes_eq option (codes "--steps") then with_steps file (steps_of number) else None
-asked_of words = None
+-- the steps that an option grants: `--steps` and their number
+abbrev pub granted : List ℕ → List ℕ → Option ℕ
+granted option number = if bytes_eq option (codes "--steps") then steps_of number else None
+
+-- What `run FILE` or `run FILE --steps M` ask for; all other words are refused.
+abbrev pub asked_of : List (List ℕ) → Result Asked WordsFault
+asked_of (mode ∷ file ∷ []) = run_of mode file (Some default_steps)
+asked_of (mode ∷ file ∷ option ∷ number ∷ []) = run_of mode file (granted option number)
+asked_of words = Err Words

@@ -1,13 +1,20 @@
-// The laws of what sources are.
+// The laws of what is promised.
 
-ghost use Rattle.std.specs.Prelude.{◌≡◌, ℕ, List};
-ghost use Rattle.pra_tool.specs.declared.small.SmallModule.{SmallModule};
-ghost use Rattle.pra_tool.specs.declared.source_fault.ReadFault.{ReadFault};
-ghost use Rattle.pra_tool.specs.Source.{IsSmall, IsCause};
+ghost use Rattle.std.specs.Prelude.{◌≢◌, ℕ, List};
+ghost use Rattle.pra_tool.specs.declared.status.Status.TheVariants.{Trapped};
+ghost use Rattle.pra_tool.specs.declared.status.Status.{Status};
+ghost use Rattle.pra_tool.specs.Words.{Asked};
+ghost use Rattle.pra_tool.specs.Writes.{Writes};
+ghost use Rattle.pra_tool.specs.Modes.{IsMode};
+ghost use Rattle.pra_tool.specs.Clause.{RunMakes, run_mode};
 
-/// Bytes are the text of at most one small module, or have at most one fault, never both.
-pub fn one_answer()
-    ensures one_module { (bytes : List ℕ) (m n : SmallModule) → IsSmall bytes m → IsSmall bytes n → m ≡ n }
-    ensures one_fault { (bytes : List ℕ) (f g : ReadFault) → IsCause bytes f → IsCause bytes g → f ≡ g }
-    ensures never_both { (bytes : List ℕ) (m : SmallModule) (f : ReadFault) → IsSmall bytes m → IsCause bytes f → ⊥ }
+/// What the answers of a mode rest on holds of `run`.
+pub fn run_is_a_mode()
+    ensures { (asked : Asked) → IsMode (run_mode asked) }
+{}
+
+/// No small module traps.
+pub fn never_trapped()
+    ensures { (asked : Asked) (source : List ℕ) (w : Writes) (s : Status) →
+        RunMakes asked source w s → s ≢ Trapped }
 {}

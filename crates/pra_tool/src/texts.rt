@@ -1,12 +1,14 @@
 // The texts that the program writes.
 
 ghost use Rattle.std.specs.Prelude.{◌≡◌, ◌++◌, IfOk, OnOk, string_bytes};
-ghost use Rattle.pra_tool.specs.Texts.{event_text, output_text, trap_name, ending_words, ending_line, lexical_line, place_text, count_line, fault_line};
+ghost use Rattle.pra_tool.specs.Texts.{event_text, output_text, trap_name, ending_words, ending_line, lexical_line, place_text, count_line, fault_line, words_lines};
 
-use crate::source_fault::{LimitFault, ReadFault, SourceFault};
+use crate::words::{Word, WordsFault};
 use ia_step::{Ending, RunOut};
 use ob_lex::LexFault;
+use ob_read::{LimitFault, SourceFault};
 use pra_base::{LimitKind, OutEvent, OutOfMemory, TrapKind};
+use pra_small::CompileFault;
 use std::alloc::{AllocError, Global};
 use std::fmt::Write;
 
@@ -66,20 +68,20 @@ fn ending_words(ending: Ending) -> &'static str
 /// # Errors
 ///
 /// Where there is no memory for the line.
-pub fn fault_line(alloc: Global, fault: ReadFault) -> Result<String, AllocError>
+pub fn fault_line(alloc: Global, fault: CompileFault) -> Result<String, AllocError>
     ensures { IfOk result (λ line. string_bytes line ≡ fault_line fault) }
 {
     match fault {
-        ReadFault::Source(SourceFault::Lex(fault)) => lexical_line(alloc, fault),
-        ReadFault::Source(SourceFault::Grammar(token, at)) => {
+        CompileFault::Source(SourceFault::Lex(fault)) => lexical_line(alloc, fault),
+        CompileFault::Source(SourceFault::Grammar(token, at)) => {
             place_line(alloc, "fault grammar token ", token, at)
         }
-        ReadFault::Limit(LimitFault::Count(kind, count)) => count_line(alloc, kind, count),
-        ReadFault::Limit(LimitFault::Depth(token, at)) => {
+        CompileFault::Limit(LimitFault::Count(kind, count)) => count_line(alloc, kind, count),
+        CompileFault::Limit(LimitFault::Depth(token, at)) => {
             place_line(alloc, "limit depth token ", token, at)
         }
-        ReadFault::Unbuilt => String::from_str(alloc, "fault unbuilt\n"),
-        ReadFault::OutOfMemory => Ok(String::new(alloc)),
+        CompileFault::Unbuilt => String::from_str(alloc, "fault unbuilt\n"),
+        CompileFault::OutOfMemory => Ok(String::new(alloc)),
     }
 }
 
@@ -97,11 +99,10 @@ fn lexical_line(alloc: Global, fault: LexFault) -> Result<String, AllocError>
 fn count_line(alloc: Global, kind: LimitKind, count: u64) -> Result<String, AllocError>
     ensures { IfOk result (λ line. string_bytes line ≡ count_line kind count) }
 {
-    match kind {
-        LimitKind::Source => format!(in alloc; "limit source count {count} maximum 1048576\n"),
-        LimitKind::Tokens => format!(in alloc; "limit tokens count {count} maximum 65536\n"),
-        _ => Ok(String::new(alloc)),
-    }
+    let name = kind.name();
+    let maximum = kind.maximum();
+    let line = format!(in alloc; "limit {name} count {count} maximum {maximum}\n")?;
+    Ok(line)
 }
 
 fn place_line(alloc: Global, words: &str, token: u32, at: u32) -> Result<String, AllocError>
@@ -109,4 +110,18 @@ fn place_line(alloc: Global, words: &str, token: u32, at: u32) -> Result<String,
 {
     let line = format!(in alloc; "{words}{token} at {at}\n")?;
     Ok(line)
+}
+
+/// The lines that tell why the words are refused, the usage line at the end.
+pub fn words_lines(fault: WordsFault) -> &'static str
+    ensures { result.now ≡ words_lines fault }
+{
+    match fault {
+        WordsFault::Words => "fault words\nusage: pra run FILE [--steps M]\n",
+        WordsFault::Value(Word::Mode) => { "fault value MODE\nusage: pra run FILE [--steps M]\n" }
+        WordsFault::Value(Word::File) => { "fault value FILE\nusage: pra run FILE [--steps M]\n" }
+        WordsFault::Value(Word::Steps) => {
+            "fault value --steps\nusage: pra run FILE [--steps M]\n"
+        }
+    }
 }

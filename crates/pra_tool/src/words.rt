@@ -1,9 +1,10 @@
 // The words of a command line.
 
-ghost use Rattle.std.specs.Prelude.{◌≡◌, ℕ, Some, None, codes, MatchOption};
+ghost use Rattle.std.specs.Prelude.{◌≡◌, ℕ, Some, None, Ok, Err, codes, MatchResult};
 ghost use Rattle.std.specs.Option.{option_copied};
 ghost use Rattle.std.specs.Str.{all_ascii_digits};
-ghost use Rattle.pra_tool.specs.Words.{Asked, image_name, default_steps, most_steps, texts, begins_with_dash, is_file, is_number, steps_of, with_steps, asked_of};
+ghost use Rattle.pra_tool.specs.Words.{Asked, image_name, default_steps, most_steps, texts, begins_with_dash, is_file, is_number, steps_of, run_of, granted, asked_of};
+ghost use Rattle.pra_tool.specs.Reports.{asked_by};
 
 /// The file that the image is written to.
 pub const IMAGE: &str = "out.pri";
@@ -14,31 +15,74 @@ const DEFAULT_STEPS: u32 = 10_000_000;
 /// The most steps that the words may grant.
 const MOST_STEPS: u32 = 200_000_000;
 
-/// What the words ask for: FILE, and the steps that its run is granted.
-#[derive(Clone, Copy)]
+/// A word of the command line that has a value.
+#[derive(Clone, Copy, Debug, PartialEq, Eq)]
+pub enum Word {
+    Mode,
+    File,
+    Steps,
+}
+
+/// Why the words are refused.
+#[derive(Clone, Copy, Debug, PartialEq, Eq)]
+pub enum WordsFault {
+    /// They are no command line.
+    Words,
+    /// The value of this word is none that it may have.
+    Value(Word),
+}
+
+/// What the words ask for: FILE, the steps that its run is granted, and the name of the file that the image
+/// is written to.
+#[derive(Clone, Copy, Drop)]
 pub struct Request<'a> {
     pub file: &'a str,
     pub steps: u32,
+    pub image: &'a str,
 }
 
-/// Reads `run FILE` or `run FILE --steps M`. All other words ask for nothing.
-pub fn read_words(words: &[String]) -> Option<Request<'_>>
-    ensures { MatchOption result (asked_of (texts words.now) ≡ None) (λ c. asked_of (texts words.now) ≡ Some (record { file = c.file.now; steps = c.steps })) }
+/// Reads `run FILE` or `run FILE --steps M`.
+///
+/// # Errors
+///
+/// All other words are refused as `WordsFault::Words`.
+pub fn read_words(words: &[String]) -> Result<Request<'_>, WordsFault>
+    ensures { MatchResult result (λ r. asked_of (texts words.now) ≡ Ok (asked_by r))
+        (λ fault. asked_of (texts words.now) ≡ Err fault) }
 {
     match words {
-        [mode, file] if mode.as_str() == "run" && is_file(file.as_str()) => Some(Request {
-            file: file.as_str(),
-            steps: DEFAULT_STEPS,
-        }),
-        [mode, file, option, number]
-            if mode.as_str() == "run" && is_file(file.as_str()) && option.as_str() == "--steps" => {
-            let steps = steps(number.as_str())?;
-            Some(Request {
-                file: file.as_str(),
-                steps,
-            })
+        [mode, file] => run(mode.as_str(), file.as_str(), Some(DEFAULT_STEPS)),
+        [mode, file, option, number] => {
+            let steps = granted(option.as_str(), number.as_str());
+            run(mode.as_str(), file.as_str(), steps)
         }
-        _ => None,
+        _ => Err(WordsFault::Words),
+    }
+}
+
+// What `run FILE` asks for, with so many steps, where they are a number.
+fn run<'a>(mode: &str, file: &'a str, steps: Option<u32>) -> Result<Request<'a>, WordsFault>
+    ensures { MatchResult result (λ r. run_of mode.now file.entry.now steps ≡ Ok (asked_by r))
+        (λ fault. run_of mode.now file.entry.now steps ≡ Err fault) }
+{
+    match steps {
+        Some(steps) if mode == "run" && is_file(file) => Ok(Request {
+            file,
+            steps,
+            image: IMAGE,
+        }),
+        _ => Err(WordsFault::Words),
+    }
+}
+
+// The steps that an option grants.
+fn granted(option: &str, number: &str) -> Option<u32>
+    ensures { result ≡ granted option.now number.now }
+{
+    if option == "--steps" {
+        steps(number)
+    } else {
+        None
     }
 }
 

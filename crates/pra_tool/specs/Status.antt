@@ -1,0 +1,42 @@
+-- Exit statuses.
+use Rattle.std.specs.Prelude.{ℕ, ⊤}
+use Rattle.ia_step.specs.declared.out.Ending.{Ending}
+use Rattle.ia_step.specs.declared.out.Ending.TheVariants as ending
+use Rattle.pra_tool.specs.declared.status.Status.{Status}
+use Rattle.pra_tool.specs.declared.status.Status.TheVariants.{Ended, Trapped, Going, BadSource, OverLimit, Fault, BadWords, NoMemory}
+
+-- the number with which the program exits
+abbrev pub exit_code : Status → ℕ
+exit_code Ended = 0
+exit_code Trapped = 1
+exit_code Going = 2
+exit_code BadSource = 3
+exit_code OverLimit = 4
+exit_code Fault = 5
+exit_code BadWords = 6
+exit_code NoMemory = 8
+
+-- all was done and written
+abbrev pub IsDone : Status → Type 0
+IsDone Ended = ⊤
+IsDone Trapped = ⊤
+IsDone Going = ⊤
+IsDone status = ⊥
+
+-- the source is refused
+abbrev pub IsRefusal : Status → Type 0
+IsRefusal BadSource = ⊤
+IsRefusal OverLimit = ⊤
+IsRefusal status = ⊥
+
+-- an ending that is no fault of the machine
+abbrev pub IsEnding : Ending → Type 0
+IsEnding (ending.Fault k) = ⊥
+IsEnding e = ⊤
+
+-- the status of a run, by its ending; of a fault there is none
+abbrev pub IsStatusOf : Ending → Status → Type 0
+IsStatusOf ending.Ended Ended = ⊤
+IsStatusOf (ending.Trap k) Trapped = ⊤
+IsStatusOf ending.Going Going = ⊤
+IsStatusOf e status = ⊥

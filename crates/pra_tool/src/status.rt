@@ -1,0 +1,59 @@
+// How a call ends.
+
+ghost use Rattle.std.specs.Prelude.{◌≡◌};
+ghost use Rattle.pra_tool.specs.Status.{exit_code, IsEnding, IsDone, IsStatusOf};
+
+use ia_step::Ending;
+
+/// How a call ends.
+#[derive(Clone, Copy, Debug, PartialEq, Eq, Drop)]
+pub enum Status {
+    /// The image ended within the steps.
+    Ended,
+    /// The image trapped.
+    Trapped,
+    /// The image is still going after the steps.
+    Going,
+    /// The source is no module, or none that is compiled.
+    BadSource,
+    /// The source goes beyond a limit.
+    OverLimit,
+    /// Something was not read or not written.
+    Fault,
+    /// The words are refused.
+    BadWords,
+    /// Memory was wanting.
+    NoMemory,
+}
+
+impl Status {
+    /// The number with which the program exits.
+    pub fn exit_code(self) -> u8
+        ensures { result ≡ exit_code self }
+    {
+        match self {
+            Status::Ended => 0,
+            Status::Trapped => 1,
+            Status::Going => 2,
+            Status::BadSource => 3,
+            Status::OverLimit => 4,
+            Status::Fault => 5,
+            Status::BadWords => 6,
+            Status::NoMemory => 8,
+        }
+    }
+
+    /// The status of a run by its ending, which is no fault of the machine.
+    pub(crate) fn of_run(ending: Ending) -> Status
+        requires { IsEnding ending }
+        ensures is { IsStatusOf ending result }
+        ensures done { IsDone result }
+    {
+        match ending {
+            Ending::Ended => Status::Ended,
+            Ending::Trap(_) => Status::Trapped,
+            Ending::Going => Status::Going,
+            Ending::Fault(_) => unreachable!(),
+        }
+    }
+}
