@@ -192,7 +192,8 @@ fn both_places_take_two_moves_at_most(rt: HostRuntime) -> Result<(), Fail> {
         between.as_slice(),
         [Move::Copy(Place::Ecx, Place::Eax)].as_slice()
     );
-    let out = moves(
+    let out = done(
+        &rt,
         rt.alloc(),
         &[
             pair(0, Place::EaxM, Place::Mem),
