@@ -36,27 +36,26 @@ unfolding named_in
 named-roles_of [] v = refl
 named-roles_of (r ∷ rs) v = ap (λ b. nat_eq r.var.0 v || b) (named-roles_of rs v)
 
-any-settled : (all roles : List table.Role) (v : ℕ) → list_any (table.is_role_of v) (map (table.settled all) roles) ≡ list_any (table.is_role_of v) roles
-any-settled all [] v = refl
-any-settled all (r ∷ rs) v = ap (λ b. nat_eq r.var v || b) (any-settled all rs v)
+any-settled : (line : table.Line) (roles : List table.Role) (v : ℕ) → list_any (table.is_role_of v) (map (table.settled line) roles) ≡ list_any (table.is_role_of v) roles
+any-settled line [] v = refl
+any-settled line (r ∷ rs) v = ap (λ b. nat_eq r.var v || b) (any-settled line rs v)
 
 eqb_swapped : (a b : ℕ) → nat_eq a b ≡ nat_eq b a
 eqb_swapped a b = grind (arith, nat_tests)
 
-any-rewritten : (all : List table.Role) (vars : List ℕ) (v : ℕ) → list_any (table.is_role_of v) (map (table.rewritten all) vars) ≡ list_any (nat_eq v) vars
-any-rewritten all [] v = refl
-any-rewritten all (x ∷ xs) v = rw (eqb_swapped x v, any-rewritten all xs v) refl
+any-rewritten : (line : table.Line) (vars : List ℕ) (v : ℕ) → list_any (table.is_role_of v) (map (table.rewritten line) vars) ≡ list_any (nat_eq v) vars
+any-rewritten line [] v = refl
+any-rewritten line (x ∷ xs) v = rw (eqb_swapped x v, any-rewritten line xs v) refl
 
 pub reads_named : (row : OperandRow) (i : VInstr) → row_of row ≡ table.operands i → (v : ℕ) → named_in row.reads.items v ≡ table.reads i v
-reads_named row i is v = named-roles_of row.reads.items v ∙ ap (λ r. list_any (table.is_role_of v) r.reads) is ∙ any-settled (table.all_roles (table.table i)) (table.table i).reads v
+reads_named row i is v = named-roles_of row.reads.items v ∙ ap (λ r. list_any (table.is_role_of v) r.reads) is ∙ any-settled (table.table i) (table.table i).reads v
 
 pub writes_named : (row : OperandRow) (i : VInstr) → row_of row ≡ table.operands i → (v : ℕ) → named_in row.writes.items v ≡ table.writes i v
 writes_named row i is v =
     let line = table.table i in
-    let all = table.all_roles line in
     named-roles_of row.writes.items v ∙ ap (λ r. list_any (table.is_role_of v) r.writes) is
-    ∙ list_any-append (table.is_role_of v) (map (table.rewritten all) line.in_place) (map (table.settled all) line.writes)
-    ∙ rw (any-rewritten all line.in_place v, any-settled all line.writes v) refl
+    ∙ list_any-append (table.is_role_of v) (map (table.rewritten line) line.in_place) (map (table.settled line) line.writes)
+    ∙ rw (any-rewritten line line.in_place v, any-settled line line.writes v) refl
 
 -- ---- one more role
 
