@@ -1,0 +1,20 @@
+//! Tests of the public calls at the top: the outside, the compiler of small modules, and whole
+//! calls of the tool.
+//!
+//! Each module tests one thing, and nothing here is used by another crate.
+#![tactic(auto)]
+
+#[cfg(test)]
+mod compiler_tests;
+#[cfg(test)]
+mod fake_files;
+#[cfg(test)]
+mod fake_streams;
+#[cfg(test)]
+mod host_tests;
+#[cfg(test)]
+mod memory_tests;
+#[cfg(test)]
+mod rows;
+#[cfg(test)]
+mod table;

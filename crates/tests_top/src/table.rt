@@ -1,0 +1,123 @@
+// Whole calls over modules of every kind, each compared with its row of a table.
+
+mod long;
+mod modules;
+
+use crate::rows::{ALL_WELL, call};
+use pra_base::OutOfMemory;
+use std::alloc::{Alloc, Global};
+use std::process::Abort;
+use std::str::Split;
+
+/// A source, and what a call over it must leave: the status in decimal, the output, and the line
+/// of notes without its end.
+#[derive(Clone, Copy)]
+struct Row<'a> {
+    name: &'a str,
+    source: &'a [u8],
+    status: &'a str,
+    out: &'a [u8],
+    notes: &'a [u8],
+}
+
+fn check(rt: &impl Abort, alloc: Global, row: Row) -> Result<(), OutOfMemory> {
+    let left = call(alloc, &["run", "M.ob"], row.source, ALL_WELL)?;
+    let name = row.name;
+    assert_eq!(rt;
+        left.notes.bytes().strip_suffix(b"\n"),
+        Some(row.notes),
+        "{name}"
+    );
+    assert_eq!(rt; Some(left.status), row.status.parse::<u8>().ok(), "{name}");
+    assert_eq!(rt; left.out.bytes(), row.out, "{name}");
+    assert_eq!(rt;
+        left.folder.file("out.pri").is_some(),
+        left.status == 0,
+        "{name}"
+    );
+    Ok(())
+}
+
+// The next field of a line, which is empty past its end.
+fn field<'a>(fields: &mut Split<'a, char>) -> &'a str {
+    fields.next().unwrap_or("")
+}
+
+fn check_lines(rt: &impl Abort, alloc: Global, table: &str) -> Result<(), OutOfMemory> {
+    for line in table.lines() {
+        let mut fields = line.split('|');
+        let row = Row {
+            name: field(&mut fields),
+            source: field(&mut fields).as_bytes(),
+            status: field(&mut fields),
+            out: field(&mut fields).as_bytes(),
+            notes: field(&mut fields).as_bytes(),
+        };
+        check(rt, alloc, row)?;
+    }
+    Ok(())
+}
+
+fn push_times(source: &mut Vec<u8>, part: &[u8], times: u32) -> Result<(), OutOfMemory> {
+    for _ in 0..times {
+        source.extend_from_slice(part)?;
+    }
+    Ok(())
+}
+
+fn check_long(rt: &impl Abort, alloc: Global, table: &str) -> Result<(), OutOfMemory> {
+    for line in table.lines() {
+        let mut fields = line.split('|');
+        let name = field(&mut fields);
+        let mut source = Vec::from_slice(alloc, field(&mut fields).as_bytes())?;
+        let open = field(&mut fields).as_bytes();
+        let inside = field(&mut fields).as_bytes();
+        let close = field(&mut fields).as_bytes();
+        let after = field(&mut fields).as_bytes();
+        let times = field(&mut fields).parse::<u32>().unwrap_or(0);
+        push_times(&mut source, open, times)?;
+        source.extend_from_slice(inside)?;
+        push_times(&mut source, close, times)?;
+        source.extend_from_slice(after)?;
+        let row = Row {
+            name,
+            source: &source,
+            status: field(&mut fields),
+            out: field(&mut fields).as_bytes(),
+            notes: field(&mut fields).as_bytes(),
+        };
+        check(rt, alloc, row)?;
+    }
+    Ok(())
+}
+
+#[test]
+fn answers_of_modules(rt: HostRuntime) -> Result<(), OutOfMemory> {
+    for row in modules::BYTES {
+        check(&rt, rt.alloc(), *row)?;
+    }
+    check_lines(&rt, rt.alloc(), modules::SMALL)?;
+    check_lines(&rt, rt.alloc(), modules::WELL_FORMED)?;
+    check_lines(&rt, rt.alloc(), modules::LEXICAL)?;
+    check_lines(&rt, rt.alloc(), modules::GRAMMAR)
+}
+
+#[test]
+fn answers_at_the_depth_limit(rt: HostRuntime) -> Result<(), OutOfMemory> {
+    check_long(&rt, rt.alloc(), long::DEPTH)
+}
+
+#[test]
+fn answers_at_the_tokens_limit(rt: HostRuntime) -> Result<(), OutOfMemory> {
+    check_long(&rt, rt.alloc(), long::TOKENS)
+}
+
+#[test]
+fn answers_at_the_source_limit(rt: HostRuntime) -> Result<(), OutOfMemory> {
+    check_long(&rt, rt.alloc(), long::SOURCE)
+}
+
+#[test]
+fn answers_of_long_pieces(rt: HostRuntime) -> Result<(), OutOfMemory> {
+    check_long(&rt, rt.alloc(), long::PIECES)
+}
