@@ -1,7 +1,9 @@
 -- The names of a scope and of a record's fields, as the bytes that their keys point to.
-use Rattle.std.proofs.Common.{◌≡◌, ℕ, ◌+◌, Bool, true, false, not, cond, List, [], ◌∷◌, map, length, Option, Some, None, is_some, refl, sym, ap, ap₂, nat_lt, ◌∙◌, Bor, ◌||◌}
+use Rattle.std.proofs.Common.{◌≡◌, ℕ, ◌+◌, Bool, true, false, not, cond, List, [], ◌∷◌, map, length, Option, Some, None, is_some, refl, ◌++◌, Result, Ok, Err, IfOk, sym, ap, ap₂, nat_lt, ◌∙◌, Bor, ◌||◌}
 use Rattle.std.proofs.lemmas.List.{length-map}
-use Rattle.std.specs.List.{position, prefix_len}
+use Rattle.std.proofs.lemmas.List.{map_push}
+use Rattle.std.proofs.lemmas.Bool.{true≢false}
+use Rattle.std.specs.List.{position, prefix_len, list_any}
 use Rattle.std.specs.Str.{bytes_eq}
 use Rattle.std.specs.Bool.{if◌then◌else◌}
 use Rattle.std.specs.Map.{lookup}
@@ -66,3 +68,31 @@ pub placed : (name : List ℕ) (ks : List Key) → position (is_named name) ks �
 placed name ks =
     let long : length (pointed ks) ≡ length ks = simp length-map in
     ap₂ (λ m n. cond (nat_lt m n) (Some m) None) (first_named name ks) (sym long)
+
+any_named : (name : List ℕ) (ks : List Key) → list_any (is_named name) ks ≡ list_any (bytes_eq name) (pointed ks)
+any_named name [] = refl
+any_named name (k ∷ ks) = ap (λ b. is_named name k || b) (any_named name ks)
+
+-- whether one more key is new
+pub new_key : (key : Key) (ks : List Key) (b : Bool) → b ≡ not (list_any (is_named key.now) ks) → b ≡ not (list_any (bytes_eq key.now) (pointed ks))
+new_key key ks b h = h ∙ ap not (any_named key.now ks)
+
+-- the keys with one more
+pub with_key : (key : Key) (ks new : List Key) (b : Bool) → b ≡ not (list_any (is_named key.now) ks) → new ≡ cond (list_any (is_named key.now) ks) ks (ks ++ key ∷ [])
+    → pointed new ≡ cond b (pointed ks ++ key.now ∷ []) (pointed ks)
+with_key key ks new b h e = by b (list_any (is_named key.now) ks) h e
+  where
+    by : (b has : Bool) → b ≡ not has → new ≡ cond has ks (ks ++ key ∷ []) → pointed new ≡ cond b (pointed ks ++ key.now ∷ []) (pointed ks)
+    by true false h e = ap pointed e ∙ map_push (λ (y : Key). y.now) ks key
+    by false true h e = ap pointed e
+    by true true h e = absurd (true≢false h)
+    by false false h e = absurd (true≢false (sym h))
+
+pub is_new_key : {E : Type 0} (key : Key) (ks : List Key) (r : Result Bool E) → IfOk r (λ b. b ≡ not (list_any (is_named key.now) ks)) → IfOk r (λ b. b ≡ not (list_any (bytes_eq key.now) (pointed ks)))
+is_new_key key ks (Ok b) h = new_key key ks b h
+is_new_key key ks (Err e) h = h
+
+pub keys_after : {E : Type 0} (key : Key) (ks new : List Key) (r : Result Bool E) → IfOk r (λ b. b ≡ not (list_any (is_named key.now) ks)) → IfOk r (λ b. new ≡ cond (list_any (is_named key.now) ks) ks (ks ++ key ∷ []))
+    → IfOk r (λ b. pointed new ≡ cond b (pointed ks ++ key.now ∷ []) (pointed ks))
+keys_after key ks new (Ok b) h e = with_key key ks new b h e
+keys_after key ks new (Err x) h e = h

@@ -1,6 +1,9 @@
 -- What the functions of the checker promise.
-use Rattle.std.specs.Prelude.{◌≡◌, ◌≢◌, Result, Ok, Err, MatchResult}
+use Rattle.std.specs.Prelude.{◌≡◌, ◌≢◌, ℕ, List, Vec, Result, Ok, Err, MatchResult}
+use Rattle.std.specs.declared.alloc.Global.{Global}
 use Rattle.ob_syntax.specs.Names.{Fault, Judged, Place as Known}
+use Rattle.ob_syntax.specs.Source.{Name}
+use Rattle.ob_syntax.specs.Types.{Fields}
 use Rattle.ob_check.specs.declared.place.Place.{Place}
 use Rattle.ob_check.specs.declared.refusal.Refusal.{Refusal}
 use Rattle.ob_check.specs.declared.refusal.Refusal.TheVariants.{Broken, OutOfMemory}
@@ -28,3 +31,22 @@ told OutOfMemory = (0, 0)
 -- The answer is what a phrase is read as, or the first rule that is broken in it, unless memory is wanting.
 abbrev pub Answers : {A : Type 0} → Judged A → Result A Refusal → Type 0
 Answers judged answer = MatchResult answer (λ x. judged ≡ Ok x) (λ r. r ≢ OutOfMemory → judged ≡ Err (told r))
+
+-- the same, for what changes the place
+abbrev pub Gives : {A : Type 0} → Judged (Known × A) → Result A Refusal → Place → Type 0
+Gives judged answer new =
+    MatchResult answer (λ x. judged ≡ Ok (known_at new, x)) (λ r. r ≢ OutOfMemory → judged ≡ Err (told r))
+
+-- the same, for what gives nothing but a change of what is known
+abbrev pub Widens : {A B : Type 0} → Judged A → Result B Refusal → A → Type 0
+Widens judged answer new = MatchResult answer (λ _. judged ≡ Ok new) (λ r. r ≢ OutOfMemory → judged ≡ Err (told r))
+
+abbrev pub fields_at : Place → List Name → List ℕ → Fields
+fields_at p names types = record { place = known_at p; names = names; types = types }
+
+abbrev pub Moves : {B : Type 0} → Judged Known → Result B Refusal → Place → Type 0
+Moves judged answer new = Widens judged answer (known_at new)
+
+abbrev pub GivesItems : {A : Type 0} → Judged (Known × List A) → Result (Vec A Global) Refusal → Place → Type 0
+GivesItems judged answer new =
+    MatchResult answer (λ xs. judged ≡ Ok (known_at new, xs.items)) (λ r. r ≢ OutOfMemory → judged ≡ Err (told r))

@@ -8,8 +8,9 @@ use crate::scope::Scope;
 use indexmap::IndexSet;
 use ob_syntax::{Meaning, Param, Root, Shape, Standard, Token, Value};
 use pra_list::Seq;
-use std::alloc::Global;
+use std::alloc::{AllocFailed, Global};
 use std::marker::Model;
+use std::mem;
 
 /// The names of the fields of a record, in order.
 #[derive(Drop)]
@@ -26,7 +27,8 @@ impl<'a> Model for FieldNames<'a> {
 }
 
 impl<'a> FieldNames<'a> {
-    ghost use Rattle.std.specs.Prelude.{[], position, bytes_eq};
+    ghost use Rattle.std.specs.Prelude.{[], ◌∷◌, ◌++◌, position, bytes_eq, not, if◌then◌else◌, IfOk};
+    ghost use Rattle.std.specs.List.{list_any};
 
     /// No fields.
     pub fn new(alloc: Global) -> FieldNames<'a>
@@ -35,6 +37,14 @@ impl<'a> FieldNames<'a> {
         FieldNames {
             names: IndexSet::new(alloc),
         }
+    }
+
+    /// Adds a field, and says whether its name is new; else the names stay.
+    pub fn declare(&mut self, name: &'a [u8]) -> Result<bool, AllocFailed<&'a [u8]>>
+        ensures is_new { IfOk result (λ is_new. is_new ≡ not (list_any (bytes_eq name.entry.now) self.old)) }
+        ensures names { IfOk result (λ is_new. self.new ≡ (if is_new then self.old ++ name.entry.now ∷ [] else self.old)) }
+    {
+        self.names.insert(name)
     }
 
     /// The number of a field.
@@ -65,8 +75,10 @@ pub struct Place<'a> {
 impl<'a> Place<'a> {
     ghost use Rattle.ob_syntax.specs.Names.{name_at, is_within_reach as reaches, meaning as meaning_of, used as used_at};
     ghost use Rattle.ob_syntax.specs.Expressions.{field_number as field_number_of};
+    ghost use Rattle.ob_syntax.specs.Types.{with_type};
     ghost use Rattle.ob_syntax.specs.Statements.{parameters as parameters_of};
-    ghost use Rattle.ob_check.specs.Judging.{known_at, Answers};
+    ghost use Rattle.ob_check.specs.Judging.{known_at, Answers, Gives, Moves};
+    ghost use Rattle.ob_syntax.specs.Declarations.{announced, shown, entered, left as left_for, last_scope, with_heading};
 
     /// The text of the name at a token.
     pub fn name(&self, token: u32) -> &'a [u8]
@@ -111,6 +123,27 @@ impl<'a> Place<'a> {
         }
     }
 
+    /// Declares the name at a token, which is not visible yet.
+    pub fn announce(&mut self, token: u32) -> Result<(), Refusal>
+        ensures { Moves (announced (known_at self.old) token) result self.new }
+    {
+        let name = self.name(token);
+        if self.scope.is_declared(name) {
+            return Err(Refusal::Broken(3, token));
+        }
+        self.scope.set(name, None)?;
+        Ok(())
+    }
+
+    /// Makes the name at a token visible.
+    pub fn show(&mut self, token: u32, meaning: Meaning) -> Result<(), Refusal>
+        ensures { Moves (Ok (shown (known_at self.old) token meaning)) result self.new }
+    {
+        let name = self.name(token);
+        self.scope.set(name, Some(meaning))?;
+        Ok(())
+    }
+
     /// The parameters of a procedure.
     pub fn parameters(&self, id: u32) -> &[Param]
         ensures { result.now ≡ parameters_of (known_at self.now) id }
@@ -121,6 +154,16 @@ impl<'a> Place<'a> {
         }
     }
 
+    /// Adds a type, and gives its number.
+    pub fn add_type(&mut self, shape: Shape, names: FieldNames<'a>) -> Result<u32, Refusal>
+        ensures { Gives (Ok (with_type (known_at self.old) shape names.entry)) result self.new }
+    {
+        let number = u32::try_from(self.types.len()).map_err(|_| Refusal::OutOfMemory)?;
+        self.types.push(shape)?;
+        self.fields.push(names)?;
+        Ok(number)
+    }
+
     /// The number of the field whose name stands at a token.
     pub fn field_number(&self, type_id: u32, token: u32) -> Option<usize>
         ensures { result ≡ field_number_of (known_at self.now) token type_id }
@@ -128,6 +171,54 @@ impl<'a> Place<'a> {
         match self.fields.get(type_id as usize) {
             Some(names) => names.number_of(self.name(token)),
             None => None,
+        }
+    }
+
+    /// The number of the next procedure.
+    pub fn next_procedure(&self) -> Result<u32, Refusal>
+        ensures { Answers (Ok (length self.now.headings.items)) result }
+    {
+        u32::try_from(self.headings.len()).map_err(|_| Refusal::OutOfMemory)
+    }
+
+    /// Adds a procedure with its parameters, and makes its name visible.
+    pub fn add_heading(&mut self, name: u32, params: Seq<Param>) -> Result<(), Refusal>
+        ensures { Moves (Ok (with_heading (known_at self.old) name params)) result self.new }
+    {
+        let id = self.next_procedure()?;
+        self.show(name, Meaning::Procedure(id))?;
+        self.headings.push(params)?;
+        Ok(())
+    }
+
+    /// Enters a procedure, with this scope of its own.
+    pub fn enter(&mut self, id: u32, scope: Scope<'a>) -> Result<(), Refusal>
+        ensures { Moves (Ok (entered (known_at self.old) id scope.entry)) result self.new }
+    {
+        let around = mem::replace(&mut self.scope, scope);
+        self.outer.push(around)?;
+        self.here = id;
+        Ok(())
+    }
+
+    /// Leaves a procedure for the block around it, and gives the procedure's scope.
+    pub fn leave(&mut self, around: u32) -> Scope<'a>
+        ensures scope { result ≡ self.old.scope }
+        ensures place { known_at self.new ≡ left_for (known_at self.old) around }
+    {
+        let outside = Place::last_of(self.alloc, &mut self.outer);
+        self.here = around;
+        mem::replace(&mut self.scope, outside)
+    }
+
+    /// Takes the last of the scopes away; where there is none, it is empty.
+    #[tactic(auto, using(crate::proofs::Scopes::last_of))]
+    fn last_of(alloc: Global, scopes: &mut Vec<Scope<'a>>) -> Scope<'a>
+        ensures { (result, scopes.new.items) ≡ last_scope scopes.old.items }
+    {
+        match scopes.pop() {
+            Some(scope) => scope,
+            None => Scope::new(alloc),
         }
     }
 
