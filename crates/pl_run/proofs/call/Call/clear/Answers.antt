@@ -1,0 +1,14 @@
+use Rattle.std.proofs.Common.{◌∙◌, ap, replicate, Some, rules}
+use Rattle.vc_code.specs.declared.value.Value.TheVariants.{Num}
+use Rattle.vc_code.specs.Value.{Held}
+use Rattle.vc_code.specs.Machine.{with_aggregates}
+use Rattle.pl_run.specs.Standing.{call_of}
+use Rattle.pl_run.proofs.WrittenWords.{zeroed-replicate}
+use Rattle.pl_run.proofs.call.Call.clear.Goals as goal
+
+pub returns : goal.returns
+returns c =
+    let zero : Held = Some (Num 0) in
+    let old = c.args.self.now in
+    let words = c.fill.ensures.items (λ y same. search rules) ∙ ap (λ n. replicate n zero) old.aggregates.ok.0 ∙ zeroed-replicate zero old.aggregates.items in
+    ap (λ ws. with_aggregates (call_of c.args.code.now.procs.now old) ws) words

@@ -1,0 +1,125 @@
+-- What the state of the executable machine stands for in the definition, and what a part of a step leaves.
+use Rattle.std.specs.Prelude.{◌≡◌, ℕ, ◌+◌, Bool, true, false, List, [], ◌∷◌, ◌++◌, map, drop, reverse}
+use Rattle.std.specs.Prelude.{Option, Some, None, Result, Ok, Err}
+use Rattle.pra_base.specs.Agreement.{Progress}
+use Rattle.pra_base.specs.RunEnd.{RunEnd}
+use Rattle.pra_base.specs.Places.{number}
+use Rattle.pra_base.specs.declared.event.OutEvent.{OutEvent}
+use Rattle.pra_base.specs.declared.ids.Place.{Place}
+use Rattle.pra_base.specs.declared.code.VInstr.{VInstr}
+use Rattle.vc_code.specs.declared.outcome.Ending.{Ending}
+use Rattle.vc_code.specs.declared.value.Value.{Value}
+use Rattle.vc_code.specs.Value.{Held}
+use Rattle.vc_code.specs.Outcome.{run_end}
+use Rattle.vc_code.specs.Machine.{Activation, State, view, joined}
+use Rattle.pl_moves.specs.Meaning as meaning
+use Rattle.pl_place.specs.declared.placed.LInstr.{LInstr}
+use Rattle.pl_place.specs.declared.placed.LProc.{LProc}
+use Rattle.pl_place.specs.Machine as placed
+use Rattle.pl_place.specs.Machine.{Cells, proc_of, at_cell, operand, behind}
+use Rattle.pl_run.specs.declared.cell.Site.{Site}
+use Rattle.pl_run.specs.declared.cell.Site.TheVariants as site
+use Rattle.pl_run.specs.declared.cell.Cell.{Cell}
+use Rattle.pl_run.specs.declared.cell.Cell.TheVariants as cell
+use Rattle.pl_run.specs.declared.frame.Frame.{Frame}
+use Rattle.pl_run.specs.declared.call.Call.{Call}
+use Rattle.pl_run.specs.declared.machine.Execution.{Execution}
+use Rattle.pl_run.specs.declared.halt.Halt.{Halt}
+use Rattle.pl_run.specs.declared.halt.Halt.TheVariants.{Over, Memory}
+use Rattle.pl_run.specs.Code.{block_in}
+
+-- ---- cells
+
+abbrev pub spot_of : Site → placed.Spot
+spot_of (site.Slot k) = placed.Slot k
+spot_of (site.Argument i) = placed.Argument i
+spot_of site.Nowhere = placed.Nowhere
+
+abbrev pub cell_of : Cell → meaning.Cell
+cell_of (cell.Register r) = meaning.Register r
+cell_of (cell.Memory v) = meaning.Memory v.0
+cell_of (cell.Fixed n) = meaning.Fixed n
+
+-- what was asked for, where it could be done
+abbrev pub where_done : {A : Type 0} → Bool → A → Option A
+where_done true x = Some x
+where_done false x = None
+
+-- a live call with these registers, slots and arguments
+abbrev pub with_frame : Activation Cells → Frame → Activation Cells
+with_frame c f = record c {
+  args = f.args.items;
+  home = record c.home { regs = f.regs; slots = f.slots.items };
+}
+
+-- what the cell holds, if there is one
+abbrev pub in_first : LProc → Activation Cells → Option meaning.Cell → Held
+in_first p c None = None
+in_first p c (Some cell) = joined (at_cell p c cell)
+
+-- what a variable holds at a place, if there is one
+abbrev pub at_place : LProc → Activation Cells → ℕ → Option ℕ → Held
+at_place p c v None = None
+at_place p c v (Some place) = operand p c v place
+
+-- ---- calls
+
+-- what is left of the call's block from an instruction on
+abbrev pub rest_from : List LProc → Call → ℕ → List LInstr
+rest_from procs c at = drop at (block_in (proc_of procs c.proc) c.block).code
+
+-- where a call stands, and its aggregates
+abbrev pub standing : List LProc → Call → Activation Cells
+standing procs c = record {
+  proc = c.proc;
+  aggregates = c.aggregates.items;
+  args = [];
+  home = record {
+    block = c.block;
+    rest = rest_from procs c c.next;
+    end = (block_in (proc_of procs c.proc) c.block).end;
+    regs = [];
+    slots = [];
+  };
+}
+
+abbrev pub call_of : List LProc → Call → Activation Cells
+call_of procs c = with_frame (standing procs c) c.frame
+
+-- the calls that wait, the latest first
+abbrev pub calls_of : List LProc → List Call → List (Activation Cells)
+calls_of procs calls = reverse (map (call_of procs) calls)
+
+-- the call behind an instruction, with values in its written operands
+abbrev pub passed : List LProc → Call → LProc → VInstr → List Place → List Value → Option (Activation Cells)
+passed procs c p i places xs = behind p i (map number places) (rest_from procs c (c.next + 1)) (call_of procs c) xs
+
+-- ---- the machine
+
+-- all live calls, the module's body first
+abbrev pub calls_in : List LProc → Execution → List (Activation Cells)
+calls_in procs m = map (call_of procs) m.below.items ++ call_of procs m.top ∷ []
+
+abbrev pub state_of : List LProc → Execution → State Cells
+state_of procs m = record {
+  top = call_of procs m.top;
+  below = calls_of procs m.below.items;
+  pushed = reverse m.pushed.items;
+  globals = m.globals.items;
+  compared = m.compared;
+  input = drop m.taken m.input.items;
+  events = m.events;
+  taken = m.taken;
+  over = None;
+}
+
+-- what a run has come to that ends here
+abbrev pub told : Execution → Ending → Progress OutEvent RunEnd
+told m e = record { ending = Some (run_end e); events = m.events; taken = m.taken }
+
+-- A part of a step leaves the state that is wanted, or ends a run of which the same was told; nothing is said where memory
+-- is wanting.
+abbrev pub Leaves : {X : Type 0} → List LProc → Result X Halt → Execution → State Cells → Type 0
+Leaves procs (Ok x) m wanted = state_of procs m ≡ wanted
+Leaves procs (Err (Over e)) m wanted = told m e ≡ view wanted
+Leaves procs (Err Memory) m wanted = Unit {0}

@@ -1,0 +1,110 @@
+// A step: an instruction, a move, or the end of a block.
+
+ghost use Rattle.std.specs.Prelude.{◌≡◌, ◌<◌, ◌+◌, ◌∷◌};
+ghost use Rattle.vc_code.specs.Machine.{found, goes_to, branched, leave as leave_of, act as act_of, step as step_of};
+ghost use Rattle.pl_place.specs.Machine.{placed_machine, next_of, proc_of};
+ghost use Rattle.pl_place.specs.declared.placed.LInstr.TheVariants as LInstr;
+ghost use Rattle.pl_run.specs.Standing.{call_of, state_of, rest_from, Leaves};
+
+use super::Execution;
+use crate::code::{Code, next_in};
+use crate::halt::{Halt, STUCK};
+use arrayvec::ArrayVec;
+use pl_moves::Move;
+use pl_place::{LInstr, LProc};
+use pra_base::{BlockId, Cond, End, Place, VInstr};
+use std::alloc::Global;
+use vc_code::arithmetic::compares;
+use vc_code::operate;
+
+impl Execution {
+    fn perform(
+        &mut self,
+        alloc: Global,
+        code: &Code,
+        p: &LProc,
+        i: &VInstr,
+        places: &ArrayVec<Place, 5>,
+    ) -> Result<(), Halt>
+        requires { self.old.top.next < usize.MAX }
+        ensures { Leaves code.now.procs.now result self.new (act_of (placed_machine code.now.procs.now) (next_of p.now (call_of code.now.procs.now self.old.top) (LInstr.Op i.now places.now ∷ rest_from code.now.procs.now self.old.top (self.old.top.next + 1))) (state_of code.now.procs.now self.old)) }
+    {
+        let here = self.here(code)?;
+        let places = places.as_slice();
+        let held = self.top.frame.operands(p, i, places);
+        match operate(&here, i, held.as_slice()) {
+            None => Err(STUCK),
+            Some(action) => self.apply(alloc, code, p, i, places, action),
+        }
+    }
+
+    fn make(&mut self, code: &Code, p: &LProc, m: &Move) -> Result<(), Halt>
+        requires { self.old.top.next < usize.MAX }
+        ensures { Leaves code.now.procs.now result self.new (act_of (placed_machine code.now.procs.now) (next_of p.now (call_of code.now.procs.now self.old.top) (LInstr.Move m.now ∷ rest_from code.now.procs.now self.old.top (self.old.top.next + 1))) (state_of code.now.procs.now self.old)) }
+    {
+        if self.top.make(code, p, m) {
+            Ok(())
+        } else {
+            Err(STUCK)
+        }
+    }
+
+    fn execute(&mut self, alloc: Global, code: &Code, p: &LProc, i: &LInstr) -> Result<(), Halt>
+        requires { self.old.top.next < usize.MAX }
+        ensures { Leaves code.now.procs.now result self.new (act_of (placed_machine code.now.procs.now) (next_of p.now (call_of code.now.procs.now self.old.top) (i.now ∷ rest_from code.now.procs.now self.old.top (self.old.top.next + 1))) (state_of code.now.procs.now self.old)) }
+    {
+        match i {
+            LInstr::Move(m) => self.make(code, p, m),
+            LInstr::Op(i, places) => self.perform(alloc, code, p, i, places),
+        }
+    }
+
+    fn jump(&mut self, code: &Code, block: BlockId) -> Result<(), Halt>
+        ensures { Leaves code.now.procs.now result self.new (goes_to (placed_machine code.now.procs.now) (state_of code.now.procs.now self.old) block.0) }
+    {
+        if self.top.jump(code, block.0) {
+            self.compared = None;
+            Ok(())
+        } else {
+            Err(STUCK)
+        }
+    }
+
+    fn branch(&mut self, code: &Code, cond: Cond, one: BlockId, other: BlockId) -> Result<(), Halt>
+        ensures { Leaves code.now.procs.now result self.new (branched (placed_machine code.now.procs.now) cond one.0 other.0 self.old.compared (state_of code.now.procs.now self.old)) }
+    {
+        match self.compared {
+            None => Err(STUCK),
+            Some((a, b)) => {
+                let target = if compares(cond, a, b) { one } else { other };
+                self.jump(code, target)
+            }
+        }
+    }
+
+    fn leave(&mut self, code: &Code, end: End) -> Result<(), Halt>
+        ensures { Leaves code.now.procs.now result self.new (leave_of (placed_machine code.now.procs.now) end (state_of code.now.procs.now self.old)) }
+    {
+        match end {
+            End::Jump(block) => self.jump(code, block),
+            End::Branch(cond, one, other) => self.branch(code, cond, one, other),
+            End::Return => self.leave_call(code),
+        }
+    }
+
+    /// Makes one step of a run that is going on.
+    ///
+    /// # Errors
+    ///
+    /// Where the run is over by it, and where there is no memory for it; then the machine means nothing more.
+    pub fn step(&mut self, alloc: Global, code: &Code) -> Result<(), Halt>
+        ensures { Leaves code.now.procs.now result self.new (step_of (placed_machine code.now.procs.now) (state_of code.now.procs.now self.old)) }
+    {
+        let p = code.procedure(self.top.proc);
+        let block = code.block(p, self.top.block);
+        match next_in(block, self.top.next) {
+            None => self.leave(code, block.end),
+            Some(i) => self.execute(alloc, code, p, i),
+        }
+    }
+}
