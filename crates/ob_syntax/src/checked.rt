@@ -11,8 +11,9 @@ use pra_list::{Owned, Seq};
 pub struct Checked {
     /// The module's name, as the bytes of the source spell it.
     pub name: Seq<u8>,
-    /// Type 0 is INTEGER and type 1 is BOOLEAN. The others are those of the ARRAY and RECORD expressions, in the order of
-    /// the last tokens of these, the inner one first. A type names only types of smaller numbers.
+    /// Type 0 is INTEGER and type 1 is BOOLEAN. The others are those of the ARRAY and RECORD
+    /// expressions, in the order of the last tokens of these, the inner one first. A type names
+    /// only types of smaller numbers.
     pub types: Seq<Shape>,
     pub vars: Seq<ModuleVar>,
     /// The module's body first, then the procedures in the order of their headings.
@@ -47,7 +48,8 @@ pub struct CheckedProc {
     pub locals: Seq<Local>,
     /// Words of its arrays, records and addressed scalar locals.
     pub aggregate_words: u32,
-    /// Identifiers, numbers, operators, `:=`, `[`, `.`, IF, ELSIF, WHILE and REPEAT of its statements.
+    /// Identifiers, numbers, operators, `:=`, `[`, `.`, IF, ELSIF, WHILE and REPEAT of its
+    /// statements.
     pub nodes: u32,
     pub body: Seq<RStmt>,
 }
@@ -60,8 +62,9 @@ pub struct Param {
     pub addressed: bool,
 }
 
-/// A local variable. A scalar one is addressed where it is lent to a VAR parameter. An aggregate and an addressed scalar
-/// have their first word among the aggregate words of the procedure, any other word 0.
+/// A local variable. A scalar one is addressed where it is lent to a VAR parameter. An aggregate
+/// and an addressed scalar have their first word among the aggregate words of the procedure, any
+/// other word 0.
 #[derive(Clone, Copy, Debug, PartialEq, Eq)]
 pub struct Local {
     pub type_id: u32,

@@ -1,4 +1,5 @@
--- The places where a value may stand, as numbers, and the readings of a number. All that is said of places goes through these.
+-- The places where a value may stand, as numbers, and the readings of a number. All that is said of
+-- places goes through these.
 use Rattle.std.specs.Prelude.{ℕ, Bool, nat_eq, nat_lt, nat_le, ◌-◌, not, ◌&&◌, ◌||◌, ◌^◌, if◌then◌else◌, List, [], ◌∷◌, Option, find, sum_by, bit_and, bit_or}
 use Rattle.std.specs.List.{range_with_len}
 use Rattle.std.specs.Int.{bit_at}

@@ -1,12 +1,14 @@
--- Words of 32 bits, as naturals below 2^32: their arithmetic with wrapping, the signed number that a word is in two's complement
--- (Intel SDM volume 1, section 4.2.1.2), comparison, and division. All layers compute with these.
+-- Words of 32 bits, as naturals below 2^32: their arithmetic with wrapping, the signed number that
+-- a word is in two's complement (Intel SDM volume 1, section 4.2.1.2), comparison, and division.
+-- All layers compute with these.
 use Rattle.std.specs.Prelude.{◌≡◌, ℕ, ◌+◌, ◌-◌, ◌*◌, ◌%◌, ◌^◌, ◌<◌, ℤ, pos, negsuc, ◌+ℤ◌, ◌-ℤ◌, ◌*ℤ◌, ◌≤ℤ◌, ◌<ℤ◌, Bool, true, false, not, ◌==◌, nat_lt, nat_le, int_lt, int_le, int_div, int_rem, if◌then◌else◌}
 use Rattle.std.specs.Int.{w32, cast_signed, cast_unsigned}
 use Rattle.std.specs.Int.RustNames.{unsigned_abs}
 use Rattle.pra_base.specs.declared.ids.Cond.{Cond}
 use Rattle.pra_base.specs.declared.ids.Cond.TheVariants.{B, Ae, E, Ne, Be, A, S, Ns, L, Ge, Le, G}
 
--- the word of a number that fits 32 bits in two's complement (of another it is not the one modulo 2^32: see int_wrap)
+-- the word of a number that fits 32 bits in two's complement (of another it is not the one modulo
+-- 2^32: see int_wrap)
 abbrev pub word : ℤ → ℕ
 word n = cast_unsigned w32 n
 
@@ -48,8 +50,9 @@ abbrev pub truth : Bool → ℕ
 truth true = 1
 truth false = 0
 
--- What a condition says of two words that were compared by CMP: below and above are of numbers without a sign, less and greater of
--- signed numbers, S and NS of the difference's sign bit (SDM volume 2, Jcc).
+-- What a condition says of two words that were compared by CMP: below and above are of numbers
+-- without a sign, less and greater of signed numbers, S and NS of the difference's sign bit (SDM
+-- volume 2, Jcc).
 abbrev pub compares : Cond → ℕ → ℕ → Bool
 compares B a b = nat_lt a b
 compares Ae a b = nat_le b a
@@ -66,20 +69,23 @@ compares G a b = int_lt (signed b) (signed a)
 
 -- ---- division
 
--- q and r are quotient and remainder of x by d, rounded toward zero: the remainder has the sign of x
+-- q and r are quotient and remainder of x by d, rounded toward zero: the remainder has the sign of
+-- x
 pub record IsTruncated (x d q r : ℤ) : Type 0 where
   pub whole : q *ℤ d +ℤ r ≡ x
   pub small : unsigned_abs r < unsigned_abs d
   pub above : pos 0 ≤ℤ x → pos 0 ≤ℤ r
   pub below : x ≤ℤ pos 0 → r ≤ℤ pos 0
 
--- the same, rounded down, as DIV and MOD by a positive number are in Oberon (Wirth, The Programming Language Oberon, section 8.2.2)
+-- the same, rounded down, as DIV and MOD by a positive number are in Oberon (Wirth, The Programming
+-- Language Oberon, section 8.2.2)
 pub record IsFloored (x d q r : ℤ) : Type 0 where
   pub whole : q *ℤ d +ℤ r ≡ x
   pub low : pos 0 ≤ℤ r
   pub high : r <ℤ d
 
--- DIV and MOD by a positive number: one less than the truncated quotient, and the divisor more than its remainder, where that is negative
+-- DIV and MOD by a positive number: one less than the truncated quotient, and the divisor more than
+-- its remainder, where that is negative
 abbrev pub floored_quotient : ℤ → ℤ → ℤ
 floored_quotient x d = if int_lt (int_rem x d) (pos 0) then int_div x d -ℤ pos 1 else int_div x d
 

@@ -1,6 +1,7 @@
 // The names of procedures, variables and blocks, places and conditions.
 
-/// A procedure, by its number: 0 is the module's body, the others follow in the order of their headings.
+/// A procedure, by its number: 0 is the module's body, the others follow in the order of their
+/// headings.
 #[derive(Clone, Copy, Debug, PartialEq, Eq)]
 pub struct ProcId(pub u32);
 
@@ -12,9 +13,9 @@ pub struct VarId(pub u32);
 #[derive(Clone, Copy, Debug, PartialEq, Eq)]
 pub struct BlockId(pub u32);
 
-/// Where a value may stand (its location): one of the six registers that are allocated, the variable's own memory,
-/// nowhere, since it is a constant, or a *both place*, a register and the variable's memory at once, with one value.
-/// They are numbered 0 to 13 in this order.
+/// Where a value may stand (its location): one of the six registers that are allocated, the
+/// variable's own memory, nowhere, since it is a constant, or a *both place*, a register and the
+/// variable's memory at once, with one value. They are numbered 0 to 13 in this order.
 #[derive(Clone, Copy, Debug, PartialEq, Eq)]
 pub enum Place {
     Eax,
@@ -33,7 +34,8 @@ pub enum Place {
     EdiM,
 }
 
-/// A condition of a jump or of SETcc, by the Intel manual's names (SDM volume 1, appendix B, EFLAGS condition codes).
+/// A condition of a jump or of SETcc, by the Intel manual's names (SDM volume 1, appendix B, EFLAGS
+/// condition codes).
 #[derive(Clone, Copy, Debug, PartialEq, Eq)]
 pub enum Cond {
     B,
