@@ -1,1 +1,2 @@
 pub mod SampleIsPlaced
+pub mod SampleIsBehind

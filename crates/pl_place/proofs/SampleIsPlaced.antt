@@ -1,21 +1,19 @@
 -- The sample is valid placed code, rule by rule.
-use Rattle.std.proofs.Common.{◌≡◌, ◌≢◌, ℕ, zero, suc, ◌+◌, ◌<◌, ◌≤◌, ◌⊎◌, inl, inr, ⊎_elim, Bool, true, false, nat_eq, ◌||◌, List, [], ◌∷◌, length, slice_get, Some, None, refl, sym, ap, subst, arith, lit≤, lit<}
+use Rattle.std.proofs.Common.{◌≡◌, ◌≢◌, ℕ, zero, suc, ◌<◌, ◌⊎◌, inl, inr, ⊎_elim, Bool, true, false, nat_eq, ◌||◌, List, [], ◌∷◌, length, slice_get, Some, refl, subst, arith, lit≤, lit<}
 use Rattle.std.specs.Prelude.{ℤ, ◌↔◌, pos, ◌≤ℤ◌}
 use Rattle.std.proofs.lemmas.Bool.Decides.{nat_tests}
 use Rattle.pra_base.specs.declared.ids.Place.{Place}
 use Rattle.pra_base.specs.declared.ids.Place.TheVariants.{Eax, Ecx, Mem, EaxM}
-use Rattle.pra_base.specs.declared.ids.Cond.{Cond}
 use Rattle.pra_base.specs.declared.ids.VarId.{VarId}
-use Rattle.pra_base.specs.declared.ids.BlockId.{BlockId}
 use Rattle.pra_base.specs.declared.code.VarKind.TheVariants.{Param, Plain}
 use Rattle.pra_base.specs.declared.code.VInstr.{VInstr}
 use Rattle.pra_base.specs.declared.code.VInstr.TheVariants.{Set, Push, Call, Load, Cmp, Clear, Check}
-use Rattle.pra_base.specs.declared.code.End.TheVariants.{Branch, Return}
+use Rattle.pra_base.specs.declared.code.End.TheVariants.{Return}
 use Rattle.pra_base.specs.declared.code.Block.{Block}
 use Rattle.pra_base.specs.Code.{block_in, EachInstr, IsTarget}
 use Rattle.pra_base.specs.Places.{allows, meet, is_mem}
 use Rattle.pra_base.specs.Operands.{Role, operands, own_places}
-use Rattle.pra_base.specs.Valid.{LastReturn, EndsWithCmp, CmpBeforeBranch, PushesBeforeCalls, TakesAny, TakesArgs, ClearFirst, CheckRange, KeepsBlockRules, ArgumentsApart, Names, NamesCell}
+use Rattle.pra_base.specs.Valid.{LastReturn, CmpBeforeBranch, PushesBeforeCalls, TakesAny, TakesArgs, ClearFirst, CheckRange, ArgumentsApart, Names, NamesCell}
 use Rattle.pl_moves.specs.declared.transfer.Move.{Move}
 use Rattle.pl_moves.specs.Crossbar.{InRegisters}
 use Rattle.pl_place.specs.declared.placed.LInstr.{LInstr}
@@ -24,7 +22,7 @@ use Rattle.pl_place.specs.declared.placed.LBlock.{LBlock}
 use Rattle.pl_place.specs.declared.placed.LProc.{LProc}
 use Rattle.pl_place.specs.Placed.{kind_of, place_in, bare}
 use Rattle.pl_place.specs.Valid.{linstr_at, EachOp, EachMove, roles, OperandsPlaced, HasMemory, MoveHasMemory, MemoryThere, FewMoves, MoveNames, NumbersInRange, IsPlaced, counts_of, ArePlaced}
-use Rattle.pl_place.specs.Sample.{v0, v1, block_1, callee, word_0, op, calling, returning, caller, called, sample}
+use Rattle.pl_place.specs.Sample.{v0, v1, callee, word_0, caller, called, sample}
 
 -- ---- facts about each element of a list
 

@@ -1,4 +1,6 @@
+pub mod Behind
 pub mod Machine
 pub mod Placed
 pub mod Sample
+pub mod SampleRoutes
 pub mod Valid

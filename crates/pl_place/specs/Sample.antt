@@ -1,7 +1,7 @@
 -- A module of placed code that has each kind of thing that a rule of valid placed code speaks of:
 -- aggregates that are cleared, a slot, a both place, an argument that is pushed, a call, a word
 -- that is loaded, and a branch behind its comparison.
-use Rattle.std.specs.Prelude.{ℤ, pos, true, List, [], ◌∷◌, None}
+use Rattle.std.specs.Prelude.{pos, true, List, [], ◌∷◌, None}
 use Rattle.pra_base.specs.declared.ids.Place.{Place}
 use Rattle.pra_base.specs.declared.ids.Place.TheVariants.{Eax, Ecx, Mem, EaxM}
 use Rattle.pra_base.specs.declared.ids.Cond.TheVariants.{E}

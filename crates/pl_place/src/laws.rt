@@ -1,11 +1,15 @@
 // What holds of placed code and its machine. Each function is a law: its contract is the statement,
 // and it does nothing.
 
-ghost use Rattle.std.specs.Prelude.{ℕ, ℤ, List};
+ghost use Rattle.std.specs.Prelude.{◌≡◌, ℕ, ℤ, List};
 ghost use Rattle.pra_base.specs.Agreement.{Keeps};
 ghost use Rattle.pl_place.specs.declared.placed.LProc.{LProc};
+ghost use Rattle.net_form.specs.Examples.{in_register_routes};
+ghost use Rattle.pl_place.specs.Behind.{Routed, IsBehind, frame_of};
 ghost use Rattle.pl_place.specs.Machine.{lrun};
+ghost use Rattle.pl_place.specs.Placed.{frame_size};
 ghost use Rattle.pl_place.specs.Sample.{sample};
+ghost use Rattle.pl_place.specs.SampleRoutes.{routed, both_places_routes, in_register, in_memory};
 ghost use Rattle.pl_place.specs.Valid.{ArePlaced};
 
 /// A longer run keeps an ending, and prolongs the events and the words taken of a run that goes on.
@@ -18,4 +22,17 @@ pub fn longer_runs_keep()
 /// them is empty.
 pub fn some_code_is_placed()
     ensures { ArePlaced sample }
+{}
+
+/// The frame of placed code has the bytes that the code and the flow behind it say.
+pub fn frames_are_of_the_flow()
+    ensures { (r : Routed) (p : LProc) → IsBehind r p → frame_size p ≡ frame_of r }
+{}
+
+/// Two routes of one code, each behind the code that they place.
+pub fn some_code_is_behind()
+    ensures in_register { IsBehind (routed in_register_routes) in_register }
+    ensures in_memory { IsBehind (routed both_places_routes) in_memory }
+    ensures small { frame_of (routed in_register_routes) ≡ 20 }
+    ensures with_slot { frame_of (routed both_places_routes) ≡ 24 }
 {}
