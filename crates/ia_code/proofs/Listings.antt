@@ -7,7 +7,7 @@ use Rattle.ia_code.specs.DecodeTable.{bytes_of, IsSound}
 use Rattle.ia_code.specs.Reading.{instruction_at, decoded}
 use Rattle.ia_code.specs.Listing.{bytes_of_all, AreSound, IsListing}
 use Rattle.ia_code.proofs.SpelledIsRead.{one_spelling_of}
-use Rattle.ia_code.proofs.OperandsReadAreSpelled.{some_same}
+use Rattle.pra_list.proofs.Options.{some_same}
 use Rattle.ia_code.proofs.ReadingIsTable.{decoded-bytes_of}
 use Rattle.ia_code.proofs.EncodingSize.{code_of}
 

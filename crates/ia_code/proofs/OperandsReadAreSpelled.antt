@@ -15,25 +15,12 @@ use Rattle.ia_code.specs.declared.ins.MemAddr.{MemAddr}
 use Rattle.ia_code.specs.declared.ins.Rm.{Rm}
 use Rattle.ia_code.specs.declared.ins.Rm.TheVariants as rm
 use Rattle.ia_code.specs.DecodeTable.{reg_number, scale_number, mod_number, fields, imm8, imm32, displacement, address, operand, is_scale, is_index, is_base, Holds, IsAddress, IsOperand}
-use Rattle.ia_code.specs.Reading.{◌>>=◌, reg_of, scale_of, width_of, byte_at, short_at, half_at, word_at, displacement_at, address_at, sib_at, memory_at, fields_at, operand_at}
+use Rattle.ia_code.specs.Reading.{reg_of, scale_of, width_of, byte_at, short_at, half_at, word_at, displacement_at, address_at, sib_at, memory_at, fields_at, operand_at}
+use Rattle.pra_list.specs.Options.{◌>>=◌}
 use Rattle.ia_code.proofs.FieldNumbers.{reg_back, scale_back, scale_stands, mode_back}
 use Rattle.ia_code.specs.DecodeTable.{IsBytes}
-
-pub some_same : {A : Type 0} (x y : A) → Some x ≡ Some y → x ≡ y
-some_same x y e = cc
-
--- a step that gave something read something
-pub bind_some : {X Y : Type 0} (r : Option X) (f : X → Option Y) (y : Y) → (r >>= f) ≡ Some y → (x : X) × (r ≡ Some x) × (f x ≡ Some y)
-bind_some (Some x) f y e = (x, refl, e)
-bind_some None f y e = cc
-
--- by cases on a test
-pub by_test : {X Q : Type 0} (b : Bool) (x y z : X) → (b ≡ true → x ≡ z → Q) → (b ≡ false → y ≡ z → Q) → (if b then x else y) ≡ z → Q
-by_test true x y z f g e = f refl e
-by_test false x y z f g e = g refl e
-
-pub none_some : {X : Type 0} {x : X} → None ≡ Some x → ⊥
-none_some e = cc
+use Rattle.pra_list.proofs.Choices.{by_test}
+use Rattle.pra_list.proofs.Options.{some_same, bind_some, none_some}
 
 -- the bytes begin with this text, and the rest follows
 pub record Takes (bytes text rest : List ℕ) : Type 0 where

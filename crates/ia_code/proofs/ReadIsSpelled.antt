@@ -14,10 +14,13 @@ use Rattle.ia_code.specs.declared.ins.Ins.{Ins}
 use Rattle.ia_code.specs.declared.ins.Ins.TheVariants.{MovRmR, MovRRm, MovRI, MovRmI, AluRmR, AluRRm, AluRmI, AluRmB, ImulRRm, ImulI, ImulB, Neg, Idiv, Cdq, Lea, PushR, PopR, PushM, PushI, Call, Ret, RetI, Jmp, Jcc, Set, Movzx, Xchg, Test, Int}
 use Rattle.ia_code.specs.Services.{is_service}
 use Rattle.ia_code.specs.DecodeTable.{reg_number, op_number, cond_number, imm8, imm32, operand, bytes_of, is_register, has_low_byte, IsAddress, IsOperand, IsSound}
-use Rattle.ia_code.specs.Reading.{◌>>=◌, reg_of, cond_of, op_of, byte_at, short_at, half_at, word_at, operand_at, memory_of, register_of, memory_operand_at, register_operand_at, alu_word_at, alu_short_at, mov_word_at, unary_at, set_at, movzx_at, extended_at, alu_at, stack_at, move_at, constant_at, jump_at, opcode_at, instruction_at}
+use Rattle.ia_code.specs.Reading.{reg_of, cond_of, op_of, byte_at, short_at, half_at, word_at, operand_at, memory_of, register_of, memory_operand_at, register_operand_at, alu_word_at, alu_short_at, mov_word_at, unary_at, set_at, movzx_at, extended_at, alu_at, stack_at, move_at, constant_at, jump_at, opcode_at, instruction_at}
+use Rattle.pra_list.specs.Options.{◌>>=◌}
 use Rattle.ia_code.specs.DecodeTable.{IsBytes}
 use Rattle.ia_code.proofs.FieldNumbers.{reg_back, op_back, cond_back}
-use Rattle.ia_code.proofs.OperandsReadAreSpelled.{some_same, bind_some, by_test, none_some, Takes, byte_takes, half_takes, word_takes, short_takes, is_same, both, IsRead, operand_takes}
+use Rattle.ia_code.proofs.OperandsReadAreSpelled.{Takes, byte_takes, half_takes, word_takes, short_takes, is_same, both, IsRead, operand_takes}
+use Rattle.pra_list.proofs.Options.{some_same, bind_some, none_some}
+use Rattle.pra_list.proofs.Choices.{by_test}
 
 -- what is read of an instruction
 IsIns : List ℕ → Ins × List ℕ → Type 0

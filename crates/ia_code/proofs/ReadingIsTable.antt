@@ -6,7 +6,7 @@ use Rattle.ia_code.specs.declared.ins.Ins.{Ins}
 use Rattle.ia_code.specs.DecodeTable.{bytes_of, IsSound, Row, IsBytes}
 use Rattle.ia_code.specs.Reading.{instruction_at, counted, decoded}
 use Rattle.ia_code.proofs.SpelledIsRead.{one_spelling_of}
-use Rattle.ia_code.proofs.OperandsReadAreSpelled.{some_same, none_some}
+use Rattle.pra_list.proofs.Options.{some_same, none_some}
 use Rattle.ia_code.proofs.ReadIsSpelled.{instruction_takes}
 
 -- two rows of one instruction are one

@@ -16,7 +16,8 @@ use Rattle.ia_code.specs.declared.ins.Ins.{Ins}
 use Rattle.ia_code.specs.declared.ins.Ins.TheVariants.{MovRmR, MovRRm, MovRI, MovRmI, AluRmR, AluRRm, AluRmI, AluRmB, ImulRRm, ImulI, ImulB, Neg, Idiv, Cdq, Lea, PushR, PopR, PushM, PushI, Call, Ret, RetI, Jmp, Jcc, Set, Movzx, Xchg, Test, Int}
 use Rattle.ia_code.specs.Services.{is_service}
 use Rattle.ia_code.specs.DecodeTable.{reg_number, op_number, cond_number, imm8, imm32, operand, bytes_of, is_register, has_low_byte, IsAddress, IsOperand, IsSound}
-use Rattle.ia_code.specs.Reading.{◌>>=◌, reg_of, byte_at, word_at, operand_at, memory_operand_at, register_operand_at, alu_word_at, alu_short_at, mov_word_at, unary_at, set_at, movzx_at, extended_at, alu_at, stack_at, move_at, constant_at, jump_at, opcode_at, instruction_at}
+use Rattle.ia_code.specs.Reading.{reg_of, byte_at, word_at, operand_at, memory_operand_at, register_operand_at, alu_word_at, alu_short_at, mov_word_at, unary_at, set_at, movzx_at, extended_at, alu_at, stack_at, move_at, constant_at, jump_at, opcode_at, instruction_at}
+use Rattle.pra_list.specs.Options.{◌>>=◌}
 use Rattle.ia_code.proofs.FieldNumbers.{reg_again, reg_small, op_small, op_again, word_again, short_again, half_again}
 use Rattle.ia_code.proofs.OperandsSpelledAreRead.{operand_again}
 

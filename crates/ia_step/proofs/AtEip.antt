@@ -18,7 +18,8 @@ use Rattle.ia_code.proofs.Listings.{bytes_of_all-append}
 use Rattle.ia_code.proofs.EncodingSize.{code_of}
 use Rattle.ia_step.specs.declared.out.Ending.TheVariants.{Going}
 use Rattle.ia_step.specs.State.{State, at}
-use Rattle.ia_step.specs.Effect.{◌>>=◌, effect}
+use Rattle.ia_step.specs.Effect.{effect}
+use Rattle.pra_list.specs.Results.{◌>>=◌}
 use Rattle.ia_step.specs.Step.{next_to, fetch, settled, step_from, step}
 
 -- These bytes stand at a place of the code, with others before them and behind them.

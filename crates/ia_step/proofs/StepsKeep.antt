@@ -20,7 +20,8 @@ use Rattle.ia_step.specs.declared.out.Ending.{Ending}
 use Rattle.ia_step.specs.declared.out.Ending.TheVariants as ending
 use Rattle.ia_step.specs.Arithmetic.{holds}
 use Rattle.ia_step.specs.State.{State, at, over}
-use Rattle.ia_step.specs.Effect.{◌>>=◌, Done, goes, lies_in, load, store, read_rm, write_rm, push, pop, mov, keep_result, alu, imul, neg, divided, idiv, branch, set, take_input, trapped, serve, service, effect}
+use Rattle.ia_step.specs.Effect.{Done, goes, lies_in, load, store, read_rm, write_rm, push, pop, mov, keep_result, alu, imul, neg, divided, idiv, branch, set, take_input, trapped, serve, service, effect}
+use Rattle.pra_list.specs.Results.{◌>>=◌}
 use Rattle.ia_step.specs.Step.{fetch, execute, settled, step_from, step, ending_told}
 use Rattle.ia_step.specs.Kept.{Kept}
 use Rattle.ia_step.proofs.MemoryWords.{length_put}

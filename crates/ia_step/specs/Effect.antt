@@ -35,12 +35,7 @@ use Rattle.ia_step.specs.Memory.{word_in, with_word}
 use Rattle.ia_step.specs.Arithmetic.{diff_flags, bit_flags, product_flags, no_flags, result_of}
 use Rattle.ia_step.specs.Arithmetic.{flags_of, quotient, with_low_byte, holds}
 use Rattle.ia_step.specs.State.{State, with_register, with_flags, at, over}
-
-infixl 10 ◌>>=◌
-abbrev pub ◌>>=◌ : {A B : Type 0} →
-    Result A FaultKind → (A → Result B FaultKind) → Result B FaultKind
-(Ok x) >>= f = f x
-(Err k) >>= f = Err k
+use Rattle.pra_list.specs.Results.{◌>>=◌}
 
 -- the state that an instruction leaves and what it tells, or the fault that it meets
 abbrev pub Done : Type 0

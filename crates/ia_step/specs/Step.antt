@@ -11,7 +11,8 @@ use Rattle.ia_step.specs.declared.out.Ending.{Ending}
 use Rattle.ia_step.specs.declared.out.Ending.TheVariants.{Going, Ended, Trap, Fault}
 use Rattle.ia_step.specs.State.{State, at, over}
 use Rattle.ia_code.specs.Regions.{code_base}
-use Rattle.ia_step.specs.Effect.{◌>>=◌, Done, effect}
+use Rattle.ia_step.specs.Effect.{Done, effect}
+use Rattle.pra_list.specs.Results.{◌>>=◌}
 
 -- the instruction that was decoded, and where the next one stands; Decode: the bytes are in no row,
 -- or pass the region's end

@@ -6,7 +6,7 @@ use Rattle.std.proofs.lemmas.List.Sorted.{All-permutation, IsPermutation-cons, I
 use Rattle.pra_base.specs.declared.ids.Place.{Place}
 use Rattle.net_form.specs.Flow.{Edge, is_at, same_place, same_start, arrives, leaves, edges}
 use Rattle.net_form.proofs.PlaceEquality.{place_cases, same_place-refl, same_start-refl}
-use Rattle.net_form.proofs.Counts.{count-cons, count-no, count-none, none-count, peel, count-same, bit}
+use Rattle.pra_list.proofs.Counts.{count-cons, count-no, count-none, none-count, peel, count-same, bit}
 
 -- what is left of a strand's edges, from the layer l on, which it comes to from p, for n layers more
 pub record Chain (s l : ℕ) (p : Option Place) (n : ℕ) (g : List Edge) : Type 0 where

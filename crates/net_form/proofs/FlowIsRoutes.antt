@@ -6,7 +6,7 @@ use Rattle.std.proofs.lemmas.List.Sorted.{IsPermutation-filter_both, IsPermutati
 use Rattle.pra_base.specs.declared.ids.Place.{Place}
 use Rattle.net_form.specs.declared.net.Strand.{Strand}
 use Rattle.net_form.specs.Flow.{Edge, same_place, is_at, same_start, arrives, leaves, edges, Conserves, flow_from, flow_of, HasPlaces}
-use Rattle.net_form.proofs.Counts.{count-cons, count-no}
+use Rattle.pra_list.proofs.Counts.{count-cons, count-no}
 use Rattle.net_form.proofs.Chain.{Chain, chain_path}
 
 -- a test that only elements of a filter pass counts the same in it

@@ -12,7 +12,7 @@ use Rattle.net_form.specs.Admitted.{IsAdmitted, in_mask, stays_across, uses_bund
 use Rattle.net_form.specs.Cost.{cost_by, edge_cost, extra_cost, meets}
 use Rattle.net_form.specs.Formed.{IsFormed}
 use Rattle.net_form.specs.Tables.{PlaceTables}
-use Rattle.net_form.proofs.Counts.{count-same}
+use Rattle.pra_list.proofs.Counts.{count-same}
 use Rattle.net_form.proofs.FlowIsRoutes.{flow_is_routes}
 
 conserves-permutation : (ts : List Strand) (f g : List Edge) → IsPermutation f g → Conserves ts f → Conserves ts g

@@ -1,6 +1,4 @@
 pub mod Chain
-pub mod Comprehensions
-pub mod Counts
 pub mod ExampleLiveness
 pub mod FlowIsRoutes
 pub mod InAnyOrder

@@ -21,7 +21,7 @@ use Rattle.net_form.specs.Strands.{Lives, layer_count, is_present, begins, run_f
 use Rattle.net_form.specs.Network.{net_block, ties, grouped, IsNetBy}
 use Rattle.net_form.specs.Formed.{IsStrandOf, IsFormed, no_block}
 use Rattle.net_form.specs.Rooms.{layer_total}
-use Rattle.net_form.proofs.Comprehensions.{All-filter_map, All-flat_map, All-range, All-enumerate, IfSome-test, length-filter_map, length-flat_map, sum_by-map, ones}
+use Rattle.pra_list.proofs.Comprehensions.{All-filter_map, All-flat_map, All-range, All-enumerate, IfSome-test, length-filter_map, length-flat_map, sum_by-map, ones}
 
 -- a run that begins where the test holds is not empty
 prefix_len-yes : (p : ℕ → Bool) → (l n : ℕ) → 0 < n → p l ≡ true → 0 < prefix_len p (range_with_len l n)

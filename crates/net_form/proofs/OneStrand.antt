@@ -6,18 +6,16 @@ use Rattle.std.proofs.lemmas.List.Sorted.{IsPermutation-append_comm, IsPermutati
 use Rattle.pra_base.specs.declared.ids.Place.{Place}
 use Rattle.net_form.specs.declared.net.Strand.{Strand}
 use Rattle.net_form.specs.Flow.{Edge, edges, flow_from, flow_of, HasPlaces}
+use Rattle.pra_list.proofs.Options.{none_some}
 
 -- the edges of the routes without strand s
 abbrev pub others : List Strand → List (List Place) → ℕ → List Edge
 others us rs s = flow_of us (set rs s [])
 
-pub none_some : {X : Type 0} (x : X) → None ≡ Some x → ⊥
-none_some x h = false≢true (ap is_some h)
-
 -- a strand's edges, and those of the others
 pub flow_split : (s : ℕ) (ts : List Strand) (rs : List (List Place)) (i : ℕ) (t : Strand) (ps : List Place) → HasPlaces ts rs → slice_get ts i ≡ Some t
     → IsPermutation (flow_from s ts (set rs i ps)) (edges (s + i) t.first None ps ++ flow_from s ts (set rs i []))
-flow_split s [] rs i t ps has is = absurd (none_some t is)
+flow_split s [] rs i t ps has is = absurd (none_some is)
 flow_split s (u ∷ ts) [] i t ps has is = absurd has
 flow_split s (u ∷ ts) (r ∷ rs) zero t ps has is =
     let same : u ≡ t = ap (λ o. unwrap_or o u) is in

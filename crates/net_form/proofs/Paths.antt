@@ -4,7 +4,7 @@ use Rattle.std.proofs.lemmas.Bool.{and_left, and_right, eq-eqb, ne_eqb, cases_eq
 use Rattle.std.proofs.lemmas.List.Elements.{All-cons, All-nil, All-weaker}
 use Rattle.pra_base.specs.declared.ids.Place.{Place}
 use Rattle.net_form.specs.Flow.{Edge, same_place, is_at, same_start, arrives, leaves, edges}
-use Rattle.net_form.proofs.Counts.{bit, count-cons, count-none, count-no}
+use Rattle.pra_list.proofs.Counts.{bit, count-cons, count-none, count-no}
 
 -- what the edges of a path are
 pub record OfPath (s l : ℕ) (p : Option Place) (n : ℕ) (e : Edge) : Type 0 where

@@ -7,9 +7,10 @@ use Rattle.std.proofs.lemmas.List.{set-get_or}
 use Rattle.pra_base.specs.declared.ids.Place.{Place}
 use Rattle.net_form.specs.declared.net.Strand.{Strand}
 use Rattle.net_form.specs.Flow.{Edge, is_at, same_place, same_start, arrives, leaves, edges, flow_from, flow_of, HasPlaces, IsEdge, Conserves}
-use Rattle.net_form.proofs.Counts.{bit, count-cons, count-none}
+use Rattle.pra_list.proofs.Counts.{bit, count-cons, count-none}
 use Rattle.net_form.proofs.Paths.{OfPath, of_path, path_starts, path_keeps}
-use Rattle.net_form.proofs.OneStrand.{none_some, sum_split, others}
+use Rattle.net_form.proofs.OneStrand.{sum_split, others}
+use Rattle.pra_list.proofs.Options.{none_some}
 
 others_apart : (k : ℕ) (ts : List Strand) (rs : List (List Place)) (i : ℕ) → All (λ e. e.strand ≡ k + i → ⊥) (flow_from k ts (set rs i []))
 others_apart k [] rs i = All-nil _
@@ -86,10 +87,10 @@ edges_are (t ∷ ts) us k (r ∷ rs) same has = All-append (IsEdge us) (edges k 
   where
     start_of : (e : Edge) → OfPath k t.first None (length r) e → e.from ≡ None → (e.layer ≡ t.first) ⊎ (e.layer ≡ t.first → ⊥) → e.layer ≡ t.first
     start_of e o none (inl same) = same
-    start_of e o none (inr other) = let l = o.later (let a = o.after in omega (arith, a, other)) in absurd (none_some l.0 (sym none ∙ l.1))
+    start_of e o none (inr other) = let l = o.later (let a = o.after in omega (arith, a, other)) in absurd (none_some (sym none ∙ l.1))
 
 row_long : (ts : List Strand) (rs : List (List Place)) (s : ℕ) (t : Strand) → HasPlaces ts rs → slice_get ts s ≡ Some t → t.first + length (get_or rs s []) ≡ t.last + 1
-row_long [] rs s t has is = absurd (none_some t is)
+row_long [] rs s t has is = absurd (none_some is)
 row_long (u ∷ ts) [] s t has is = absurd has
 row_long (u ∷ ts) (r ∷ rs) zero t has is = subst (λ t. t.first + length r ≡ t.last + 1) (ap (λ o. unwrap_or o u) is) has.0
 row_long (u ∷ ts) (r ∷ rs) (suc s) t has is = row_long ts rs s t has.1 is

@@ -15,9 +15,9 @@ use Rattle.net_form.specs.Flow.{Edge, is_at, same_place, same_start, arrives, ed
 use Rattle.net_form.specs.Admitted.{no_strand}
 use Rattle.net_form.specs.Cost.{cost_by, routes_cost, edge_cost, extra_cost, meets, place_of, is_met}
 use Rattle.net_form.specs.Tables.{PlaceTables}
-use Rattle.net_form.proofs.Counts.{bit, count-none}
+use Rattle.pra_list.proofs.Counts.{bit, count-none}
 use Rattle.net_form.proofs.Paths.{none_earlier, first_only, later_layer}
-use Rattle.net_form.proofs.OneStrand.{none_some}
+use Rattle.pra_list.proofs.Options.{none_some}
 use Rattle.net_form.proofs.RoutesConserve.{own_count, edges_are, as_many}
 
 -- ---- the place of a path at a layer
@@ -85,7 +85,7 @@ module _ (us : List Strand) (rs : List (List Place)) (has : HasPlaces us rs) (s 
       let e : Edge = get_or (flow_of us rs) k x in
       let m = edges_are us us 0 rs (λ i t is. subst (λ n. slice_get us n ≡ Some t) (let w : i ≡ 0 + i = omega arith in w) is) has k x lt in
       and_left (is_at s l e) (same_place e.to q) (and_left (eqb e.strand s) (eqb e.layer l) (ne_eqb e.strand s (λ same.
-      none_some m.strand (sym (slice_get_past us e.strand (omega (arith, same, le))) ∙ m.is)))))
+      none_some (sym (slice_get_past us e.strand (omega (arith, same, le))) ∙ m.is)))))
       ∙ sym (ap (λ r. bit (same_start (place_of r (slice_index_or us s d).first l) (Some q))) (past rs s (let n = as_many us rs has in omega (arith, n, le)))
       ∙ ap (λ o. bit (same_start o (Some q))) (place_of-nil (slice_index_or us s d).first l))
     where

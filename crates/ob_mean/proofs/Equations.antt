@@ -6,7 +6,8 @@ use Rattle.ob_syntax.specs.declared.checked.Value.TheVariants.{Number, Truth}
 use Rattle.ob_syntax.specs.declared.checked.RArg.{RArg}
 use Rattle.ob_syntax.specs.declared.checked.RStep.TheVariants as step
 use Rattle.ob_syntax.specs.declared.checked.RStmt.TheVariants as t
-use Rattle.ob_syntax.specs.Operators.{number, negated, inverted, combined, ◌>>=◌}
+use Rattle.ob_syntax.specs.Operators.{number, negated, inverted, combined}
+use Rattle.pra_list.specs.Results.{◌>>=◌}
 use Rattle.ob_syntax.specs.declared.checked.Checked.{Checked}
 use Rattle.ob_syntax.specs.declared.checked.ROp.{ROp}
 use Rattle.ob_syntax.specs.declared.checked.RExpr.{RExpr, RExpr-F, roll-RExpr, map-RExpr, fold-roll-RExpr}

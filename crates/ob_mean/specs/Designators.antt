@@ -6,7 +6,8 @@ use Rattle.std.specs.Prelude.{None, unwrap_or, option_map, slice_get, slice_inde
 use Rattle.std.specs.Prelude.{if◌then◌else◌}
 use Rattle.pra_base.specs.declared.event.TrapKind.{TrapKind}
 use Rattle.pra_base.specs.declared.event.TrapKind.TheVariants as trap
-use Rattle.ob_syntax.specs.Operators.{Outcome, number, ◌>>=◌}
+use Rattle.ob_syntax.specs.Operators.{Outcome, number}
+use Rattle.pra_list.specs.Results.{◌>>=◌}
 use Rattle.ob_syntax.specs.declared.checked.Checked.{Checked}
 use Rattle.ob_syntax.specs.declared.checked.CheckedProc.{CheckedProc}
 use Rattle.ob_syntax.specs.declared.checked.Shape.{Shape}

@@ -2,7 +2,8 @@
 -- chapter 6): a value, or a trap. The meaning of an expression is made of those of its parts, one
 -- equation a form, and is evaluated from left to right.
 use Rattle.std.specs.Prelude.{List, [], ◌∷◌, Ok}
-use Rattle.ob_syntax.specs.Operators.{Outcome, negated, inverted, combined, ◌>>=◌}
+use Rattle.ob_syntax.specs.Operators.{Outcome, negated, inverted, combined}
+use Rattle.pra_list.specs.Results.{◌>>=◌}
 use Rattle.ob_syntax.specs.declared.checked.Checked.{Checked}
 use Rattle.ob_syntax.specs.declared.checked.Value.{Value}
 use Rattle.ob_syntax.specs.declared.checked.Value.TheVariants.{Number, Truth}

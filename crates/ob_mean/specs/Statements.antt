@@ -7,7 +7,8 @@ use Rattle.pra_base.specs.declared.event.TrapKind.{TrapKind}
 use Rattle.pra_base.specs.declared.event.TrapKind.TheVariants.{Input}
 use Rattle.pra_base.specs.declared.event.OutEvent.{OutEvent}
 use Rattle.pra_base.specs.declared.event.OutEvent.TheVariants as event
-use Rattle.ob_syntax.specs.Operators.{Outcome, number, is_true, ◌>>=◌}
+use Rattle.ob_syntax.specs.Operators.{Outcome, number, is_true}
+use Rattle.pra_list.specs.Results.{◌>>=◌}
 use Rattle.ob_syntax.specs.declared.checked.Checked.{Checked}
 use Rattle.ob_syntax.specs.declared.checked.Value.{Value}
 use Rattle.ob_syntax.specs.declared.checked.Value.TheVariants.{Number}

@@ -3,7 +3,8 @@ use Rattle.std.specs.Prelude.{ℕ, ℤ, List, Vec, Result, Ok, Err, map, drop}
 use Rattle.std.specs.declared.alloc.Global.{Global}
 use Rattle.ob_mean.specs.declared.store.Argument.{Argument}
 use Rattle.pra_base.specs.declared.event.TrapKind.{TrapKind}
-use Rattle.ob_syntax.specs.Operators.{number, ◌>>=◌}
+use Rattle.ob_syntax.specs.Operators.{number}
+use Rattle.pra_list.specs.Results.{◌>>=◌}
 use Rattle.ob_syntax.specs.declared.checked.Shape.{Shape}
 use Rattle.ob_mean.specs.Store.{Store, new_store}
 use Rattle.ob_mean.specs.Designators.{shape_of, array_length, element_type, field_type, Selector}

@@ -23,7 +23,7 @@ use Rattle.ob_syntax.specs.declared.checked.Root.TheVariants as root
 use Rattle.ob_syntax.specs.declared.checked.Shape.TheVariants.{Integer, Boolean}
 use Rattle.ob_syntax.specs.Expressions.{integer, boolean}
 use Rattle.ob_syntax.specs.Names.{Judged, Place, Scope, name_at, is_declared, with_name}
-use Rattle.ob_syntax.specs.Operators.{◌>>=◌}
+use Rattle.pra_list.specs.Results.{◌>>=◌}
 use Rattle.ob_syntax.specs.Statements.{each, statement}
 use Rattle.ob_syntax.specs.Types.{constant, type_expression}
 

@@ -32,7 +32,7 @@ use Rattle.ob_syntax.specs.declared.checked.Value.{Value}
 use Rattle.ob_syntax.specs.declared.checked.Value.TheVariants.{Number, Truth}
 use Rattle.ob_syntax.specs.Names.{Judged, Place, name_at, used}
 use Rattle.ob_syntax.specs.Source.{Name}
-use Rattle.ob_syntax.specs.Operators.{◌>>=◌}
+use Rattle.pra_list.specs.Results.{◌>>=◌}
 
 -- the numbers of INTEGER and BOOLEAN
 abbrev pub integer : ℕ

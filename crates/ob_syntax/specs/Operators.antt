@@ -10,6 +10,7 @@ use Rattle.ob_syntax.specs.declared.checked.Value.{Value}
 use Rattle.ob_syntax.specs.declared.checked.Value.TheVariants.{Number, Truth}
 use Rattle.ob_syntax.specs.declared.checked.ROp.{ROp}
 use Rattle.ob_syntax.specs.declared.checked.ROp.TheVariants.{Mul, Div, Mod, Both, Add, Sub, Either, Equal, Unequal, Less, LessEqual, Greater, GreaterEqual}
+use Rattle.pra_list.specs.Results.{◌>>=◌}
 
 -- a value, or a trap in its place
 abbrev pub Outcome : Type 0
@@ -58,11 +59,6 @@ on_numbers Either x y = Ok (Number y)
 -- an operator that looks at both sides, so neither `&` nor OR
 abbrev pub operated : ROp → Value → Value → Outcome
 operated op x y = on_numbers op (number x) (number y)
-
-infixl 10 ◌>>=◌
-abbrev pub ◌>>=◌ : {A B E : Type 0} → Result A E → (A → Result B E) → Result B E
-(Ok x) >>= f = f x
-(Err e) >>= f = Err e
 
 -- `&` looks at the right side only where the left one is TRUE
 abbrev pub both : Value → Outcome → Outcome

@@ -27,7 +27,7 @@ use Rattle.ob_syntax.specs.declared.checked.RVar.{RVar, out-RVar}
 use Rattle.ob_syntax.specs.declared.checked.Typed.{Typed}
 use Rattle.ob_syntax.specs.Expressions.{expression, name_with_selectors, selected, variable, of_type, are_alike, integer, boolean, Selected}
 use Rattle.ob_syntax.specs.Names.{Judged, Place, used}
-use Rattle.ob_syntax.specs.Operators.{◌>>=◌}
+use Rattle.pra_list.specs.Results.{◌>>=◌}
 
 -- rule 10: the name of an assignment's target is not a variable or parameter
 abbrev pub target : Place → Selected → Meaning → Judged RVar

@@ -15,7 +15,8 @@ use Rattle.ob_syntax.specs.declared.checked.Value.{Value}
 use Rattle.ob_syntax.specs.declared.checked.Value.TheVariants.{Number, Truth}
 use Rattle.ob_syntax.specs.Expressions.{expression}
 use Rattle.ob_syntax.specs.Names.{Judged, Place, name_at, used}
-use Rattle.ob_syntax.specs.Operators.{Outcome, negated, inverted, combined, ◌>>=◌}
+use Rattle.ob_syntax.specs.Operators.{Outcome, negated, inverted, combined}
+use Rattle.pra_list.specs.Results.{◌>>=◌}
 use Rattle.ob_syntax.specs.Source.{Name}
 
 -- ---- constants: what an expression is worth that names no variable; None, where it names one

@@ -15,7 +15,8 @@ use Rattle.pl_moves.specs.Assignment.{into_memory}
 use Rattle.pl_moves.specs.Crossbar.{register_event, load_event, store_event, constant_event, only_if, crossbar, events, is_between, is_load, is_store, is_set, Counted}
 use Rattle.pl_moves.specs.Crossbar as crossbar
 use Rattle.pl_moves.specs.Sequence.{alone, store_of, bring_of, comes_from, reads, writes, redirected, bring_move, swap_move, sequence, ordered, moves_of}
-use Rattle.pl_moves.proofs.Ordered.{either, length_red}
+use Rattle.pl_moves.proofs.Ordered.{length_red}
+use Rattle.pra_list.proofs.Choices.{either}
 use Rattle.pl_moves.proofs.Pairs.{by_store, by_bring}
 use Rattle.pl_moves.proofs.Whole.{stores, brings, turned, if_true, if_false}
 

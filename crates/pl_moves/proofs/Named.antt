@@ -17,8 +17,10 @@ use Rattle.pl_moves.specs.Assignment.{into_memory}
 use Rattle.pl_moves.specs.Crossbar.{InRegisters, InMemory, NamesMemory, most_moves}
 use Rattle.pl_moves.specs.Sequence.{same_register, store_of, bring_of, comes_from, reads, writes, redirected, bring_move, swap_move, sequence, ordered, moves_of}
 use Rattle.pl_moves.proofs.Alone.{is_register-alone}
-use Rattle.pl_moves.proofs.Ordered.{either}
-use Rattle.pl_moves.proofs.Pairs.{Each, Suits, each_of_all, all_of_each, Fit, by_store, by_bring, not_true, and_true, has_register-stored}
+use Rattle.pra_list.proofs.Choices.{either}
+use Rattle.pl_moves.proofs.Pairs.{Suits, Fit, by_store, by_bring, has_register-stored}
+use Rattle.pra_list.proofs.Each.{Each, each_of_all, all_of_each}
+use Rattle.pra_list.proofs.Choices.{not_true, and_true}
 use Rattle.pl_moves.proofs.Counts.{Agrees, tally, sequence_at_most}
 use Rattle.pl_moves.proofs.Whole.{stores, brings, turned, self, if_true, if_false}
 

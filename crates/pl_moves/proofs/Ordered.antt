@@ -12,6 +12,7 @@ use Rattle.pl_moves.specs.declared.bring.Bring.{Bring}
 use Rattle.pl_moves.specs.Meaning.{Cell, Register, Memory, Fixed, same_cell, reg, with_cell}
 use Rattle.pl_moves.specs.Sequence.{same_register, comes_from, reads, writes, redirected, bring_move, swap_move, sequence}
 use Rattle.pl_moves.proofs.Shifts.{shifted, all_shifted, all_shifted-append}
+use Rattle.pra_list.proofs.Choices.{or_false, either}
 
 abbrev pub cell_of : Origin → Cell
 cell_of (origin.Register q) = reg q
@@ -38,15 +39,6 @@ AreApart [] = Unit {0}
 AreApart (b ∷ bs) = (written bs (reg b.to) ≡ false) × Unread b.from bs × AreApart bs
 
 -- ---- tests
-
-pub or_false : (a b : Bool) → (a || b) ≡ false → (a ≡ false) × (b ≡ false)
-or_false true b h = cc
-or_false false b h = (refl, h)
-
--- an `if` by its test
-pub either : {A : Type 0} (P : A → Type 0) (b : Bool) (x y : A) → (b ≡ true → P x) → (b ≡ false → P y) → P (if b then x else y)
-either P true x y f g = f refl
-either P false x y f g = g refl
 
 differ : (a b : Bool) → a ≡ true → b ≡ false → a ≡ b → ⊥
 differ a b e f g = cc

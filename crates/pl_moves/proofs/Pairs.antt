@@ -14,19 +14,8 @@ use Rattle.pl_moves.specs.declared.bring.Origin.TheVariants as origin
 use Rattle.pl_moves.specs.declared.bring.Bring.{Bring}
 use Rattle.pl_moves.specs.Assignment.{suits, suits_pair, share_register, are_apart, can_move, into_memory, number_of}
 use Rattle.pl_moves.specs.Sequence.{alone, same_register, store_of, bring_of}
-use Rattle.pl_moves.proofs.Ordered.{either}
-
-abbrev pub Each : {X : Type 0} → (X → Type 0) → List X → Type 0
-Each P [] = Unit {0}
-Each P (x ∷ xs) = P x × Each P xs
-
-pub each_of_all : {X : Type 0} (P : X → Type 0) (xs : List X) → All P xs → Each P xs
-each_of_all P [] h = tt
-each_of_all P (x ∷ xs) h = (All-head P x xs h, each_of_all P xs (All-tail P x xs h))
-
-pub all_of_each : {X : Type 0} (P : X → Type 0) (xs : List X) → Each P xs → All P xs
-all_of_each P [] h = λ k d lt. absurd (omega arith)
-all_of_each P (x ∷ xs) h = All-cons P x xs h.0 (all_of_each P xs h.1)
+use Rattle.pra_list.proofs.Choices.{either, not_true, and_true}
+use Rattle.pra_list.proofs.Each.{Each}
 
 pub record Suits (p : Pair) : Type 0 where
   pub from : suits p.constant (number p.from) ≡ true
@@ -45,14 +34,6 @@ TargetsApart p q = share_register p.to q.to ≡ false
 abbrev pub Fit : List Pair → Type 0
 Fit [] = Unit {0}
 Fit (p ∷ ps) = Suits p × Each (VariablesApart p) ps × Each (SourcesApart p) ps × Each (TargetsApart p) ps × Fit ps
-
-pub not_true : (b : Bool) → not b ≡ true → b ≡ false
-not_true true h = cc
-not_true false h = refl
-
-pub and_true : (a b : Bool) → (a && b) ≡ true → (a ≡ true) × (b ≡ true)
-and_true true b h = (refl, h)
-and_true false b h = cc
 
 all_three : (a b c : Bool) → (a && b && c) ≡ true → (a ≡ true) × (b ≡ true) × (c ≡ true)
 all_three true true c h = (refl, refl, h)

@@ -2,7 +2,8 @@
 use Rattle.std.proofs.Common.{◌≡◌, List, [], ◌∷◌, ◌++◌, Some, refl, ap, ◌∙◌}
 use Rattle.pl_moves.specs.declared.transfer.Move.{Move}
 use Rattle.pl_moves.specs.declared.transfer.Move.TheVariants.{Copy, Swap, Load, Store, Set}
-use Rattle.pl_moves.specs.Meaning.{◌>>=◌, Cell, Memory, Fixed, reg, with_cell, everywhere, moved, all_moved}
+use Rattle.pl_moves.specs.Meaning.{Cell, Memory, Fixed, reg, with_cell, everywhere, moved, all_moved}
+use Rattle.pra_list.specs.Options.{◌>>=◌}
 
 abbrev pub shifted : {A : Type 0} → Move → (Cell → A) → Cell → A
 shifted (Copy r q) m = with_cell m (reg r) (m (reg q))

@@ -13,8 +13,11 @@ use Rattle.pl_moves.specs.Assignment.{into_memory, fills, number_of, origin, sou
 use Rattle.pl_moves.specs.Sequence.{alone, same_register, store_of, bring_of, reads, ordered, moves_of}
 use Rattle.pl_moves.proofs.Alone.{register_of-alone, reg-alone}
 use Rattle.pl_moves.proofs.Shifts.{all_shifted, all_shifted-append, all_moved-everywhere}
-use Rattle.pl_moves.proofs.Ordered.{assigned, written, AreApart, kept, either, reads_same, ordered_is}
-use Rattle.pl_moves.proofs.Pairs.{Each, VariablesApart, SourcesApart, TargetsApart, Fit, by_store, by_bring, not_true, and_true, has_register-stored}
+use Rattle.pl_moves.proofs.Ordered.{assigned, written, AreApart, kept, reads_same, ordered_is}
+use Rattle.pra_list.proofs.Choices.{either}
+use Rattle.pl_moves.proofs.Pairs.{VariablesApart, SourcesApart, TargetsApart, Fit, by_store, by_bring, has_register-stored}
+use Rattle.pra_list.proofs.Each.{Each}
+use Rattle.pra_list.proofs.Choices.{not_true, and_true}
 
 abbrev pub stores : List Pair → List Move
 stores ps = filter_map store_of ps

@@ -5,11 +5,7 @@ use Rattle.pra_base.specs.declared.ids.Place.{Place}
 use Rattle.pra_base.specs.Places.{number, register_of}
 use Rattle.pl_moves.specs.declared.transfer.Move.{Move}
 use Rattle.pl_moves.specs.declared.transfer.Move.TheVariants.{Copy, Swap, Load, Store, Set}
-
-infixl 10 ◌>>=◌
-abbrev pub ◌>>=◌ : {A B : Type 0} → Option A → (A → Option B) → Option B
-(Some x) >>= f = f x
-None >>= f = None
+use Rattle.pra_list.specs.Options.{◌>>=◌}
 
 -- ---- cells
 

@@ -23,24 +23,16 @@ use Rattle.pl_place.specs.declared.placed.LProc.{LProc}
 use Rattle.pl_place.specs.Placed.{kind_of, place_in, bare}
 use Rattle.pl_place.specs.Valid.{linstr_at, EachOp, EachMove, roles, OperandsPlaced, HasMemory, MoveHasMemory, MemoryThere, FewMoves, MoveNames, NumbersInRange, IsPlaced, counts_of, ArePlaced}
 use Rattle.pl_place.specs.Sample.{v0, v1, callee, word_0, caller, called, sample}
+use Rattle.pra_list.proofs.Each.{EachAt, each_at}
 
 -- ---- facts about each element of a list
-
-abbrev EachAt : {X : Type 0} → (ℕ → X → Type 0) → List X → Type 0
-EachAt P [] = Unit {0}
-EachAt P (x ∷ xs) = P 0 x × EachAt (λ k. P (suc k)) xs
-
-at : {X : Type 0} (P : ℕ → X → Type 0) (xs : List X) → EachAt P xs → (k : ℕ) (x : X) → slice_get xs k ≡ Some x → P k x
-at P [] e k x h = cc
-at P (y ∷ ys) e zero x h = let same : y ≡ x = cc in subst (λ z. P 0 z) same e.0
-at P (y ∷ ys) e (suc k) x h = at (λ k. P (suc k)) ys e.1 k x h
 
 abbrev InBlocks : (LInstr → Type 0) → List LBlock → Type 0
 InBlocks P blocks = EachAt (λ b block. EachAt (λ k i. P i) block.code) blocks
 
 in_blocks : (P : LInstr → Type 0) (p : LProc) → InBlocks P p.blocks → (b k : ℕ) (i : LInstr) → linstr_at p b k i → P i
 in_blocks P p each b k i h =
-    at (λ k i. P i) h.0.code (at (λ b block. EachAt (λ k i. P i) block.code) p.blocks each b h.0 h.1) k i h.2
+    each_at (λ k i. P i) h.0.code (each_at (λ b block. EachAt (λ k i. P i) block.code) p.blocks each b h.0 h.1) k i h.2
 
 abbrev OfOp : (VInstr → List Place → Type 0) → LInstr → Type 0
 OfOp P (placed.Op i places) = P i places.items
@@ -73,11 +65,11 @@ placed_at : (p : LProc) (i : VInstr) (places : List Place) → length places ≡
     EachAt (Paired places (roles i)) (roles i) → OperandsPlaced p i places
 placed_at p i places count allowed none pairs = record {
   count = count;
-  allowed = λ k role h. at (Allowed p places) (roles i) allowed k role h;
+  allowed = λ k role h. each_at (Allowed p places) (roles i) allowed k role h;
   in_place = λ k j read write r w same. absurd (none k j read write r w);
   pair = λ k j one other a b m n ne mem.
-      at (λ j other. one.memory ≡ true → other.memory ≡ true → k ≢ j → is_mem (place_in places k) ≡ true → is_mem (place_in places j) ≡ false) (roles i)
-      (at (Paired places (roles i)) (roles i) pairs k one a) j other b m n ne mem;
+      each_at (λ j other. one.memory ≡ true → other.memory ≡ true → k ≢ j → is_mem (place_in places k) ≡ true → is_mem (place_in places j) ≡ false) (roles i)
+      (each_at (Paired places (roles i)) (roles i) pairs k one a) j other b m n ne mem;
 }
 
 caller_operands : EachOp caller (OperandsPlaced caller)
@@ -121,17 +113,17 @@ caller_memory = record {
     (
       (λ k role h mem. cc),
       (
-        (λ k role h. at (InMemory caller (Eax ∷ [])) (roles (Set v0 (pos 5))) ((λ mem. cc), tt) k role h),
+        (λ k role h. each_at (InMemory caller (Eax ∷ [])) (roles (Set v0 (pos 5))) ((λ mem. cc), tt) k role h),
         (
           tt,
           (
-            (λ k role h. at (InMemory caller (EaxM ∷ [])) (roles (Push v0)) ((λ mem. cc), tt) k role h),
+            (λ k role h. each_at (InMemory caller (EaxM ∷ [])) (roles (Push v0)) ((λ mem. cc), tt) k role h),
             (
               (λ k role h mem. cc),
               (
-                (λ k role h. at (InMemory caller (Ecx ∷ [])) (roles (Load v1 word_0)) ((λ mem. cc), tt) k role h),
+                (λ k role h. each_at (InMemory caller (Ecx ∷ [])) (roles (Load v1 word_0)) ((λ mem. cc), tt) k role h),
                 (
-                  (λ k role h. at (InMemory caller (Ecx ∷ Mem ∷ [])) (roles (Cmp v1 v0)) ((λ mem. cc), ((λ mem. slot_0), tt)) k role h),
+                  (λ k role h. each_at (InMemory caller (Ecx ∷ Mem ∷ [])) (roles (Cmp v1 v0)) ((λ mem. cc), ((λ mem. slot_0), tt)) k role h),
                   tt,
                 ),
               ),
@@ -143,8 +135,8 @@ caller_memory = record {
     (tt, tt),
   );
   distinct = λ k j u a b.
-      at (λ k u. slice_get caller.slots j ≡ Some u → k ≡ j) caller.slots
-      ((λ c. at (λ j u. 0 ≡ j) caller.slots (refl, tt) j v0 c), tt) k u a b;
+      each_at (λ k u. slice_get caller.slots j ≡ Some u → k ≡ j) caller.slots
+      ((λ c. each_at (λ j u. 0 ≡ j) caller.slots (refl, tt) j v0 c), tt) k u a b;
 }
 
 -- ---- blocks
@@ -191,7 +183,7 @@ no_suc k h = omega arith
 caller_clear : ClearFirst 1 (bare caller)
 caller_clear zero zero = ((λ e. ((λ one. absurd (no_suc 0 one)), refl, refl)), (λ w. refl))
 caller_clear zero (suc k) = (
-  (λ e. absurd (at (λ j i. i ≢ Clear) (Set v0 (pos 5) ∷ Push v0 ∷ Call callee ∷ Load v1 word_0 ∷ Cmp v1 v0 ∷ []) ((λ c. cc), ((λ c. cc), ((λ c. cc), ((λ c. cc), ((λ c. cc), tt))))) k Clear e refl)),
+  (λ e. absurd (each_at (λ j i. i ≢ Clear) (Set v0 (pos 5) ∷ Push v0 ∷ Call callee ∷ Load v1 word_0 ∷ Cmp v1 v0 ∷ []) ((λ c. cc), ((λ c. cc), ((λ c. cc), ((λ c. cc), ((λ c. cc), tt))))) k Clear e refl)),
   (λ w. absurd (no_suc k w.2)),
 )
 caller_clear (suc zero) k = ((λ e. cc), (λ w. absurd (no_suc 0 w.1)))
@@ -208,7 +200,7 @@ abbrev caller_code : List VInstr
 caller_code = Clear ∷ Set v0 (pos 5) ∷ Push v0 ∷ Call callee ∷ Load v1 word_0 ∷ Cmp v1 v0 ∷ []
 
 of_caller : (P : VInstr → Type 0) → EachAt (λ k i. P i) caller_code → EachInstr (bare caller) P
-of_caller P each zero k i h = at (λ k i. P i) caller_code each k i h
+of_caller P each zero k i h = each_at (λ k i. P i) caller_code each k i h
 of_caller P each (suc zero) k i h = cc
 of_caller P each (suc (suc b)) k i h = cc
 
@@ -299,14 +291,14 @@ called_targets (suc b) t lt h = absurd (omega arith)
 
 caller_arguments : ArgumentsApart caller.vars (bare caller)
 caller_arguments = record {
-  params = λ v w i h g. at (λ v kind. kind ≡ Param i → v ≡ w) caller.vars ((λ e. cc), ((λ e. cc), tt)) v (Param i) h refl;
+  params = λ v w i h g. each_at (λ v kind. kind ≡ Param i → v ≡ w) caller.vars ((λ e. cc), ((λ e. cc), tt)) v (Param i) h refl;
   cells = of_caller (λ j. (v i : ℕ) → NamesCell j i → slice_get caller.vars v ≢ Some (Param i))
       ((λ v i c. cc), ((λ v i c. cc), ((λ v i c. cc), ((λ v i c. cc), ((λ v i c. cc), ((λ v i c. cc), tt))))));
 }
 
 called_arguments : ArgumentsApart called.vars (bare called)
 called_arguments = record {
-  params = λ v w i h g. at (λ v kind. slice_get called.vars w ≡ Some kind → v ≡ w) called.vars ((λ e. first w e), tt) v (Param i) h g;
+  params = λ v w i h g. each_at (λ v kind. slice_get called.vars w ≡ Some kind → v ≡ w) called.vars ((λ e. first w e), tt) v (Param i) h g;
   cells = of_called (λ j. (v i : ℕ) → NamesCell j i → slice_get called.vars v ≢ Some (Param i));
 }
   where
@@ -317,12 +309,12 @@ called_arguments = record {
 caller_numbers : NumbersInRange caller
 caller_numbers = record {
   near_is = refl;
-  slots_plain = λ k u h. at (λ k u. slice_get caller.vars u.0 ≡ Some Plain) caller.slots (refl, tt) k u h;
+  slots_plain = λ k u h. each_at (λ k u. slice_get caller.vars u.0 ≡ Some Plain) caller.slots (refl, tt) k u h;
   ops = caller_names;
   moves = each_move MoveWithin caller ((tt, (tt, ((λ v h. zero_below v h), (tt, (tt, (tt, (tt, tt))))))), (tt, tt));
   targets = caller_targets;
   cells = of_caller (λ j. (i : ℕ) → NamesCell j i → i < 0) ((λ i c. cc), ((λ i c. cc), ((λ i c. cc), ((λ i c. cc), ((λ i c. cc), ((λ i c. cc), tt))))));
-  params = λ v i h. at (λ v kind. kind ≡ Param i → i < 0) caller.vars ((λ e. cc), ((λ e. cc), tt)) v (Param i) h refl;
+  params = λ v i h. each_at (λ v kind. kind ≡ Param i → i < 0) caller.vars ((λ e. cc), ((λ e. cc), tt)) v (Param i) h refl;
   arguments_apart = caller_arguments;
 }
 
@@ -334,7 +326,7 @@ called_numbers = record {
   moves = each_move (λ m. (v : ℕ) → MoveNames m v → v < 1) called (tt, tt);
   targets = called_targets;
   cells = of_called (λ j. (i : ℕ) → NamesCell j i → i < 1);
-  params = λ v i h. at (λ v kind. kind ≡ Param i → i < 1) called.vars ((λ e. within i e), tt) v (Param i) h refl;
+  params = λ v i h. each_at (λ v kind. kind ≡ Param i → i < 1) called.vars ((λ e. within i e), tt) v (Param i) h refl;
   arguments_apart = called_arguments;
 }
   where
@@ -355,7 +347,7 @@ caller_is = record {
     check_range = caller_checks;
   };
   in_registers = each_move InRegisters caller ((tt, (tt, (refl, (tt, (tt, (tt, (tt, tt))))))), (tt, tt));
-  few_moves = λ b block h. at (λ b block. FewMoves 0 block.code) caller.blocks
+  few_moves = λ b block h. each_at (λ b block. FewMoves 0 block.code) caller.blocks
       ((lit≤ tt, (lit≤ tt, (lit≤ tt, (lit≤ tt, (lit≤ tt, (lit≤ tt, lit≤ tt)))))), (lit≤ tt, tt)) b block h;
   numbers_in_range = caller_numbers;
 }
@@ -376,7 +368,7 @@ called_is = record {
     check_range = of_called InRange;
   };
   in_registers = each_move InRegisters called (tt, tt);
-  few_moves = λ b block h. at (λ b block. FewMoves 0 block.code) called.blocks (lit≤ tt, tt) b block h;
+  few_moves = λ b block h. each_at (λ b block. FewMoves 0 block.code) called.blocks (lit≤ tt, tt) b block h;
   numbers_in_range = called_numbers;
 }
 
@@ -387,8 +379,8 @@ caller_takes (suc (suc b)) = refl
 
 pub sample_is : ArePlaced sample
 sample_is = record {
-  each = λ p code h. at (λ p code. IsPlaced code) sample (caller_is, (called_is, tt)) p code h;
-  pushes_before_calls = λ p code h. at (λ p code. PushesBeforeCalls (TakesArgs (counts_of sample)) (bare code)) sample
+  each = λ p code h. each_at (λ p code. IsPlaced code) sample (caller_is, (called_is, tt)) p code h;
+  pushes_before_calls = λ p code h. each_at (λ p code. PushesBeforeCalls (TakesArgs (counts_of sample)) (bare code)) sample
       (caller_takes, (called_pushes (TakesArgs (counts_of sample)), tt)) p code h;
   body = refl;
 }

@@ -20,8 +20,10 @@ use Rattle.pra_small.specs.declared.small.NextOperand.{NextOperand}
 use Rattle.pra_small.specs.declared.small.Operand.{Operand}
 use Rattle.pra_small.specs.Small.{sum_size, statement_size, body_size}
 use Rattle.ob_syntax.specs.Source.{Name}
-use Rattle.pra_small.specs.SmallTree.{declared, ◌>>=◌, where_true, of_each, variable, plain_name, sum, next_operand, term_operand, call, assignment, of_form, statement}
+use Rattle.pra_small.specs.SmallTree.{declared, where_true, of_each, variable, plain_name, sum, next_operand, term_operand, call, assignment, of_form, statement}
+use Rattle.pra_list.specs.Options.{◌>>=◌}
 use Rattle.pra_small.proofs.TreeSize.{expr_size, exprs_size, form_size, stmt_size, stmts_size, names_count, tree_within}
+use Rattle.pra_list.proofs.Options.{bind_some}
 
 -- ---- variables
 
@@ -44,10 +46,6 @@ names_within text room tokens t old new lists parsed empty same is =
     omega (arith, within.names)
 
 -- ---- statements
-
-bind_some : {A B : Type 0} (o : Option A) (f : A → Option B) (y : B) → (o >>= f) ≡ Some y → (x : A) × (o ≡ Some x) × (f x ≡ Some y)
-bind_some None f y is = cc
-bind_some (Some x) f y is = (x, refl, is)
 
 map_some : {A B : Type 0} (f : A → B) (o : Option A) (y : B) → option_map f o ≡ Some y → (x : A) × (o ≡ Some x) × (f x ≡ y)
 map_some f None y is = cc

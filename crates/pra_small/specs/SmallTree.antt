@@ -29,13 +29,9 @@ use Rattle.pra_small.specs.declared.small.SumOp.{SumOp}
 use Rattle.pra_small.specs.declared.small.SumOp.TheVariants.{Plus, Minus}
 use Rattle.pra_small.specs.declared.small.Operand.{Operand}
 use Rattle.pra_small.specs.declared.small.Operand.TheVariants.{Variable, Number}
+use Rattle.pra_list.specs.Options.{◌>>=◌}
 
 -- ---- what may be absent
-
-infixl 10 ◌>>=◌
-abbrev pub ◌>>=◌ : {A B : Type 0} → Option A → (A → Option B) → Option B
-(Some x) >>= f = f x
-None >>= f = None
 
 -- f of each, where it has a value for all of them
 abbrev pub of_each : {A B : Type 0} → (A → Option B) → List A → Option (List B)

@@ -24,11 +24,7 @@ use Rattle.vc_code.specs.declared.action.Action.{Action}
 use Rattle.vc_code.specs.declared.action.Action.TheVariants.{Nothing, Give, GiveBoth, Compare, Tell, Input, Trap}
 use Rattle.vc_code.specs.declared.action.Action.TheVariants as action
 use Rattle.vc_code.specs.Value.{Held, is_index}
-
-infixl 10 ◌>>=◌
-abbrev pub ◌>>=◌ : {A B : Type 0} → Option A → (A → Option B) → Option B
-(Some x) >>= f = f x
-None >>= f = None
+use Rattle.pra_list.specs.Options.{◌>>=◌}
 
 -- ---- what is read: None where there is nothing, or the wrong kind of value
 

@@ -1,5 +1,5 @@
 use Rattle.std.proofs.Common.{ap, sym, ◌∙◌}
-use Rattle.ia_code.proofs.OperandsReadAreSpelled.{none_some}
+use Rattle.pra_list.proofs.Options.{none_some}
 use Rattle.ia_asm.specs.Rules.{broken}
 use Rattle.ia_asm.proofs.ImageFile.{broken-image_bytes_of}
 use Rattle.ia_asm.proofs.image_file.image_of.Goals as goal

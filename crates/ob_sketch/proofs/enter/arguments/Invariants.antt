@@ -1,5 +1,5 @@
 use Rattle.std.proofs.Common.{◌≡◌, ◌++◌, drop, Ok}
-use Rattle.ob_syntax.specs.Operators.{◌>>=◌}
+use Rattle.pra_list.specs.Results.{◌>>=◌}
 use Rattle.ob_mean.specs.Statements.{arguments}
 use Rattle.ob_sketch.specs.Running.{store_of}
 use Rattle.ob_sketch.proofs.enter.arguments.Given as goal
