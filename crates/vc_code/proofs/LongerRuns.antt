@@ -1,4 +1,5 @@
--- Every machine of live calls is a machine: what is over stays, and a step only adds to the events and to the words taken.
+-- Every machine of live calls is a machine: what is over stays, and a step only adds to the events
+-- and to the words taken.
 use Rattle.std.proofs.Common.{◌≡◌, ◌≢◌, ℕ, suc, ◌≤◌, ◌/◌, ℤ, Bool, true, false, nat_lt, if◌then◌else◌, List, [], ◌∷◌, ◌++◌, Option, Some, None, refl, sym, ◌∙◌, arith, append-nil}
 use Rattle.pra_base.specs.Agreement.{Keeps}
 use Rattle.pra_base.specs.System.{IsMachine}

@@ -1,5 +1,5 @@
--- Live calls by number, the body's 0: what objects hold, and what a written word leaves, where the calls stand in a list with
--- the body first.
+-- Live calls by number, the body's 0: what objects hold, and what a written word leaves, where the
+-- calls stand in a list with the body first.
 use Rattle.std.proofs.Common.{◌≡◌, ℕ, zero, suc, ◌<◌, Bool, true, false, List, [], ◌∷◌, ◌++◌, length, reverse, take, Option, Some, None, nat_eq, if◌then◌else◌, refl, sym, ap, ◌∙◌, subst, arith, slice_get, slice_set}
 use Rattle.std.specs.Prelude.{◌&&◌}
 use Rattle.std.proofs.lemmas.List.{reverse-append, reverse-reverse, length-reverse, take_all, take-append-le, set-append_left}

@@ -1,7 +1,9 @@
--- A machine of live calls (activation records), and how an action changes its state. What a live call has beside its
--- aggregates and arguments, its home, is each machine's own: here nothing is known of it.
-use Rattle.std.specs.Prelude.{ℕ, suc, ◌+◌, ◌-◌, ◌/◌, ◌%◌, ℤ, Bool, false, ◌&&◌, nat_eq, nat_lt, if◌then◌else◌}
-use Rattle.std.specs.Prelude.{List, [], ◌∷◌, ◌++◌, length, map, slice_get, slice_set, Option, Some, None}
+-- A machine of live calls (activation records), and how an action changes its state. What a live
+-- call has beside its aggregates and arguments, its home, is each machine's own: here nothing is
+-- known of it.
+use Rattle.std.specs.Prelude.{ℕ, suc, ◌+◌, ◌-◌, ◌/◌, ◌%◌, ℤ, Bool, false, ◌&&◌, nat_eq, nat_lt}
+use Rattle.std.specs.Prelude.{if◌then◌else◌, List, [], ◌∷◌, ◌++◌, length, map, slice_get, slice_set}
+use Rattle.std.specs.Prelude.{Option, Some, None}
 use Rattle.std.specs.List.{list_any}
 use Rattle.pra_base.specs.Agreement.{Progress}
 use Rattle.pra_base.specs.RunEnd.{RunEnd, Ended, Trapped, Wrong}
@@ -21,12 +23,14 @@ use Rattle.vc_code.specs.declared.value.Value.{Value}
 use Rattle.vc_code.specs.declared.value.Value.TheVariants.{Num}
 use Rattle.vc_code.specs.declared.action.Here.{Here}
 use Rattle.vc_code.specs.declared.action.Action.{Action}
-use Rattle.vc_code.specs.declared.action.Action.TheVariants.{Nothing, Give, GiveBoth, Compare, Push, Call}
-use Rattle.vc_code.specs.declared.action.Action.TheVariants.{Load, Store, Tell, Input, Clear, Trap}
+use Rattle.vc_code.specs.declared.action.Action.TheVariants.{Nothing, Give, GiveBoth, Compare, Push}
+use Rattle.vc_code.specs.declared.action.Action.TheVariants.{Call, Load, Store, Tell, Input, Clear}
+use Rattle.vc_code.specs.declared.action.Action.TheVariants.{Trap}
 use Rattle.vc_code.specs.Value.{Held, Words}
 use Rattle.vc_code.specs.Operation.{operate, number}
 
--- what addresses and the stack need to know of a procedure: its variables, and the bytes of its frame
+-- what addresses and the stack need to know of a procedure: its variables, and the bytes of its
+-- frame
 pub record Shape : Type 0 where
   pub kinds : List VarKind
   pub frame_size : ℕ
@@ -38,8 +42,9 @@ pub record Activation (H : Type 0) : Type 0 where
   pub args : Words
   pub home : H
 
--- The running call, those that wait (the latest first), the pushes that wait for a Call (the latest first), the module's data,
--- what the last instruction compared, the input that is left, what was done, and how the run ended.
+-- The running call, those that wait (the latest first), the pushes that wait for a Call (the latest
+-- first), the module's data, what the last instruction compared, the input that is left, what was
+-- done, and how the run ended.
 pub record State (H : Type 0) : Type 0 where
   pub top : Activation H
   pub below : List (Activation H)
@@ -51,15 +56,17 @@ pub record State (H : Type 0) : Type 0 where
   pub taken : ℕ
   pub over : Option RunEnd
 
--- What comes next at a live call: an instruction, with what its operands hold and the call behind it once values are in its
--- written roles; a move, with the call behind it; or the end of the block. None where there is no such call.
+-- What comes next at a live call: an instruction, with what its operands hold and the call behind
+-- it once values are in its written roles; a move, with the call behind it; or the end of the
+-- block. None where there is no such call.
 pub data Next (H : Type 0) : Type 0 where
   Instr : VInstr → List Held → (List Value → Option (Activation H)) → Next H
   Moves : Option (Activation H) → Next H
   Ends : End → Next H
 
--- What makes a machine: the shape of each procedure, what comes next, a call's begin from its arguments, and the call at the
--- begin of a block. A procedure or a block that is not there has neither.
+-- What makes a machine: the shape of each procedure, what comes next, a call's begin from its
+-- arguments, and the call at the begin of a block. A procedure or a block that is not there has
+-- neither.
 pub record Machine (H : Type 0) : Type 0 where
   pub shape : ℕ → Shape
   pub next : Activation H → Next H
@@ -80,6 +87,10 @@ last_set words i h = slice_set words (length words - 1 - i) h
 abbrev pub depth : {H : Type 0} → (ℕ → Shape) → List (Activation H) → ℕ
 depth shape [] = 0
 depth shape (c ∷ calls) = (shape c.proc).frame_size + depth shape calls
+
+-- the running call above those that wait
+abbrev pub live_in : {H : Type 0} → State H → List (Activation H)
+live_in s = s.top ∷ s.below
 
 -- how addresses name the running call
 abbrev pub here : {H : Type 0} → (ℕ → Shape) → State H → Here
@@ -131,17 +142,25 @@ with_aggregates c words = record c { aggregates = words }
 abbrev pub with_args : {H : Type 0} → Activation H → Words → Activation H
 with_args c words = record c { args = words }
 
+-- a call with another word in its aggregates, or in an argument
+abbrev pub with_aggregate : {H : Type 0} → Activation H → ℕ → Held → Activation H
+with_aggregate c w h = with_aggregates c (slice_set c.aggregates w h)
+
+abbrev pub with_argument : {H : Type 0} → Activation H → ℕ → Held → Activation H
+with_argument c i h = with_args c (last_set c.args i h)
+
 -- the calls, with another word w in an object of one of them
-abbrev pub calls_with : {H : Type 0} → (ℕ → Shape) → List (Activation H) → Object → ℕ → Held → List (Activation H)
+abbrev pub calls_with :
+    {H : Type 0} → (ℕ → Shape) → List (Activation H) → Object → ℕ → Held → List (Activation H)
 calls_with shape [] x w h = []
 calls_with shape (c ∷ calls) Data w h = c ∷ calls
 calls_with shape (c ∷ calls) (Aggregates n sum) w h =
     if nat_eq n (length calls) && nat_eq sum (depth shape (c ∷ calls))
-    then with_aggregates c (slice_set c.aggregates w h) ∷ calls
+    then with_aggregate c w h ∷ calls
     else c ∷ calls_with shape calls (Aggregates n sum) w h
 calls_with shape (c ∷ calls) (Cell n below i) w h =
     if nat_eq n (length calls) && nat_eq below (depth shape calls)
-    then with_args c (last_set c.args i h) ∷ calls
+    then with_argument c i h ∷ calls
     else c ∷ calls_with shape calls (Cell n below i) w h
 
 abbrev pub with_calls : {H : Type 0} → State H → List (Activation H) → State H
@@ -150,8 +169,10 @@ with_calls s (c ∷ calls) = record s { top = c; below = calls }
 
 abbrev pub with_object : {H : Type 0} → (ℕ → Shape) → State H → Object → ℕ → Held → State H
 with_object shape s Data w h = record s { globals = slice_set s.globals w h }
-with_object shape s (Aggregates n sum) w h = with_calls s (calls_with shape (s.top ∷ s.below) (Aggregates n sum) w h)
-with_object shape s (Cell n below i) w h = with_calls s (calls_with shape (s.top ∷ s.below) (Cell n below i) w h)
+with_object shape s (Aggregates n sum) w h =
+    with_calls s (calls_with shape (s.top ∷ s.below) (Aggregates n sum) w h)
+with_object shape s (Cell n below i) w h =
+    with_calls s (calls_with shape (s.top ∷ s.below) (Cell n below i) w h)
 
 -- ---- what changes
 
@@ -170,15 +191,29 @@ found s (Some x) go = go x
 abbrev pub with_top : {H : Type 0} → State H → Activation H → State H
 with_top s c = record s { top = c; compared = None }
 
+abbrev pub with_compared : {H : Type 0} → ℕ → ℕ → State H → Activation H → State H
+with_compared a b s c = record s { top = c; compared = Some (a, b) }
+
+abbrev pub with_pushed : {H : Type 0} → Value → State H → Activation H → State H
+with_pushed x s c = record s { top = c; compared = None; pushed = Some x ∷ s.pushed }
+
+abbrev pub with_event : {H : Type 0} → OutEvent → State H → Activation H → State H
+with_event e s c = record s { top = c; compared = None; events = s.events ++ e ∷ [] }
+
 abbrev pub joined : Option Held → Held
 joined None = None
 joined (Some h) = h
 
+-- a call that begins takes the pushes
+abbrev pub with_call : {H : Type 0} → State H → Activation H → List (Activation H) → State H
+with_call s c below = record s { top = c; below = below; pushed = []; compared = None }
+
 -- The stack rule: a call whose frame would take the sum of all frames above the limit traps.
-abbrev pub entered : {H : Type 0} → (ℕ → Shape) → State H → Activation H → List (Activation H) → State H
+abbrev pub entered :
+    {H : Type 0} → (ℕ → Shape) → State H → Activation H → List (Activation H) → State H
 entered shape s c below =
     if nat_lt stack_limit (depth shape (c ∷ below)) then ended s (Trapped trap.Stack)
-    else record s { top = c; below = below; pushed = []; compared = None }
+    else with_call s c below
 
 abbrev pub returned : {H : Type 0} → State H → List (Activation H) → State H
 returned s [] = ended s Ended
@@ -187,32 +222,61 @@ returned s (c ∷ calls) = record s { top = c; below = calls; compared = None }
 abbrev pub zeroed : Words → Words
 zeroed words = map (λ h. Some (Num 0)) words
 
-abbrev pub takes : {H : Type 0} → State H → List ℤ → (List Value → Option (Activation H)) → State H
+abbrev pub with_cleared : {H : Type 0} → State H → Activation H → State H
+with_cleared s c = with_top s (with_aggregates c (zeroed c.aggregates))
+
+-- a word of the input was taken, of which this is the rest
+abbrev pub with_rest : {H : Type 0} → List ℤ → State H → Activation H → State H
+with_rest rest s c = record s { top = c; compared = None; input = rest; taken = suc s.taken }
+
+-- ---- how an action changes the state
+
+-- the call behind an instruction, with values in its written roles
+abbrev pub After : Type 0 → Type 0
+After H = List Value → Option (Activation H)
+
+-- on to the call behind the instruction, by a change of the state
+abbrev pub goes_on :
+    {H : Type 0} → After H → List Value → (State H → Activation H → State H) → State H → State H
+goes_on after xs change s = found s (after xs) (change s)
+
+abbrev pub takes : {H : Type 0} → State H → List ℤ → After H → State H
 takes s [] after = ended s (Trapped trap.Input)
-takes s (n ∷ rest) after =
-    found s (after (Num (word n) ∷ [])) (λ c. record s { top = c; compared = None; input = rest; taken = suc s.taken })
+takes s (n ∷ rest) after = goes_on after (Num (word n) ∷ []) (with_rest rest) s
 
--- ---- how an action changes the state; `after` is the call behind the instruction, with values in its written roles
+abbrev pub enters : {H : Type 0} → Machine H → After H → ℕ → State H → State H
+enters m after p s =
+    found s (after []) (λ c. found s (m.begin p s.pushed)
+    (λ callee. entered m.shape s callee (c ∷ s.below)))
 
-abbrev pub apply : {H : Type 0} → Machine H → (List Value → Option (Activation H)) → Option Action → State H → State H
+-- the number in the word at a byte offset of an object
+abbrev pub number_in : {H : Type 0} → (ℕ → Shape) → State H → Object → ℕ → Option ℕ
+number_in shape s x o = number (joined (word_at (object shape s x) o))
+
+abbrev pub loads : {H : Type 0} → (ℕ → Shape) → After H → Object → ℕ → State H → State H
+loads shape after x o s =
+    found s (number_in shape s x o) (λ n. goes_on after (Num n ∷ []) with_top s)
+
+-- a number in that word, where there is one
+abbrev pub with_number :
+    {H : Type 0} → (ℕ → Shape) → Object → ℕ → ℕ → State H → Activation H → State H
+with_number shape x o n s c =
+    found s (word_at (object shape (with_top s c) x) o)
+    (λ old. with_object shape (with_top s c) x (o / 4) (Some (Num n)))
+
+abbrev pub apply : {H : Type 0} → Machine H → After H → Option Action → State H → State H
 apply m after None s = stuck s
-apply m after (Some Nothing) s = found s (after []) (λ c. with_top s c)
-apply m after (Some (Give x)) s = found s (after (x ∷ [])) (λ c. with_top s c)
-apply m after (Some (GiveBoth x y)) s = found s (after (x ∷ y ∷ [])) (λ c. with_top s c)
-apply m after (Some (Compare a b)) s = found s (after []) (λ c. record s { top = c; compared = Some (a, b) })
-apply m after (Some (Push x)) s =
-    found s (after []) (λ c. record s { top = c; compared = None; pushed = Some x ∷ s.pushed })
-apply m after (Some (Call p)) s =
-    found s (after []) (λ c. found s (m.begin p.0 s.pushed) (λ callee. entered m.shape s callee (c ∷ s.below)))
-apply m after (Some (Load x o)) s =
-    found s (number (joined (word_at (object m.shape s x) o))) (λ n. found s (after (Num n ∷ [])) (λ c. with_top s c))
-apply m after (Some (Store x o n)) s =
-    found s (after []) (λ c. found s (word_at (object m.shape (with_top s c) x) o)
-    (λ old. with_object m.shape (with_top s c) x (o / 4) (Some (Num n))))
-apply m after (Some (Tell e)) s =
-    found s (after []) (λ c. record s { top = c; compared = None; events = s.events ++ e ∷ [] })
+apply m after (Some Nothing) s = goes_on after [] with_top s
+apply m after (Some (Give x)) s = goes_on after (x ∷ []) with_top s
+apply m after (Some (GiveBoth x y)) s = goes_on after (x ∷ y ∷ []) with_top s
+apply m after (Some (Compare a b)) s = goes_on after [] (with_compared a b) s
+apply m after (Some (Push x)) s = goes_on after [] (with_pushed x) s
+apply m after (Some (Call p)) s = enters m after p.0 s
+apply m after (Some (Load x o)) s = loads m.shape after x o s
+apply m after (Some (Store x o n)) s = goes_on after [] (with_number m.shape x o n) s
+apply m after (Some (Tell e)) s = goes_on after [] (with_event e) s
 apply m after (Some Input) s = takes s s.input after
-apply m after (Some Clear) s = found s (after []) (λ c. with_top s (with_aggregates c (zeroed c.aggregates)))
+apply m after (Some Clear) s = goes_on after [] with_cleared s
 apply m after (Some (Trap k)) s = ended s (Trapped k)
 
 -- ---- a step

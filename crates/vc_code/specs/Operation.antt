@@ -1,7 +1,7 @@
--- What an instruction does, stated once for all machines: on what its read operands hold, in the order of the operand table,
--- it is an action, or stuck.
-use Rattle.std.specs.Prelude.{ℕ, ◌+◌, ◌*◌, ◌^◌, ◌%◌, if◌then◌else◌, List, slice_index_or, Option, Some, None}
-use Rattle.std.specs.Prelude.{bit_and, bit_or, bit_xor}
+-- What an instruction does, stated once for all machines: on what its read operands hold, in the
+-- order of the operand table, it is an action, or stuck.
+use Rattle.std.specs.Prelude.{ℕ, ◌+◌, ◌*◌, ◌^◌, ◌%◌, if◌then◌else◌, List, slice_index_or, Option}
+use Rattle.std.specs.Prelude.{Some, None, bit_and, bit_or, bit_xor}
 use Rattle.pra_base.specs.declared.event.TrapKind.TheVariants.{Index, Divide}
 use Rattle.pra_base.specs.declared.event.OutEvent.TheVariants as event
 use Rattle.pra_base.specs.declared.ids.VarId.{VarId}
@@ -9,9 +9,10 @@ use Rattle.pra_base.specs.declared.code.Base.{Base}
 use Rattle.pra_base.specs.declared.code.Base.TheVariants as base
 use Rattle.pra_base.specs.declared.code.Addr.{Addr}
 use Rattle.pra_base.specs.declared.code.VInstr.{VInstr}
-use Rattle.pra_base.specs.declared.code.VInstr.TheVariants.{Set, Copy, Add, Sub, And, Or, Xor, Mul, Neg}
-use Rattle.pra_base.specs.declared.code.VInstr.TheVariants.{Cmp, CmpSet, DivMod, Check, CheckPos}
-use Rattle.pra_base.specs.declared.code.VInstr.TheVariants.{Load, Store, Push, Call, Read, Write, Line, Clear}
+use Rattle.pra_base.specs.declared.code.VInstr.TheVariants.{Set, Copy, Add, Sub, And, Or, Xor, Mul}
+use Rattle.pra_base.specs.declared.code.VInstr.TheVariants.{Neg, Cmp, CmpSet, DivMod, Check}
+use Rattle.pra_base.specs.declared.code.VInstr.TheVariants.{CheckPos, Load, Store, Push, Call, Read}
+use Rattle.pra_base.specs.declared.code.VInstr.TheVariants.{Write, Line, Clear}
 use Rattle.pra_base.specs.declared.code.VInstr.TheVariants as instr
 use Rattle.pra_base.specs.Words.{word, signed, sum32, diff32, product32, quotient32, remainder32}
 use Rattle.pra_base.specs.Words.{is_positive, compares, truth}
@@ -21,7 +22,8 @@ use Rattle.vc_code.specs.declared.value.Value.{Value}
 use Rattle.vc_code.specs.declared.value.Value.TheVariants.{Num, At}
 use Rattle.vc_code.specs.declared.action.Here.{Here}
 use Rattle.vc_code.specs.declared.action.Action.{Action}
-use Rattle.vc_code.specs.declared.action.Action.TheVariants.{Nothing, Give, GiveBoth, Compare, Tell, Input, Trap}
+use Rattle.vc_code.specs.declared.action.Action.TheVariants.{Nothing, Give, GiveBoth, Compare, Tell}
+use Rattle.vc_code.specs.declared.action.Action.TheVariants.{Input, Trap}
 use Rattle.vc_code.specs.declared.action.Action.TheVariants as action
 use Rattle.vc_code.specs.Value.{Held, is_index}
 use Rattle.pra_list.specs.Options.{◌>>=◌}
@@ -92,7 +94,8 @@ computes f held = do
 
 -- quotient and remainder; stuck unless the divisor is positive
 abbrev pub divided : ℕ → ℕ → Option Action
-divided a d = if is_positive d then Some (GiveBoth (Num (quotient32 a d)) (Num (remainder32 a d))) else None
+divided a d =
+    if is_positive d then Some (GiveBoth (Num (quotient32 a d)) (Num (remainder32 a d))) else None
 
 abbrev pub operate : Here → VInstr → List Held → Option Action
 operate here (Set v n) held = gives (word n)

@@ -1,6 +1,7 @@
--- The machine of selected code: a live call has its variables, and stands before an instruction of its block.
-use Rattle.std.specs.Prelude.{ℕ, suc, ℤ, nat_lt, if◌then◌else◌, List, [], ◌∷◌, length, map, replicate}
-use Rattle.std.specs.Prelude.{slice_get, slice_set, slice_index_or, Option, Some, None}
+-- The machine of selected code: a live call has its variables, and stands before an instruction of
+-- its block.
+use Rattle.std.specs.Prelude.{ℕ, suc, ℤ, nat_lt, if◌then◌else◌, List, [], ◌∷◌, length, map}
+use Rattle.std.specs.Prelude.{replicate, slice_get, slice_set, slice_index_or, Option, Some, None}
 use Rattle.pra_base.specs.Agreement.{Progress}
 use Rattle.pra_base.specs.RunEnd.{RunEnd}
 use Rattle.pra_base.specs.Code.{kind_of, instr_at, end_of}
@@ -16,7 +17,8 @@ use Rattle.pra_base.specs.declared.code.VModule.{VModule}
 use Rattle.vc_code.specs.declared.value.Value.{Value}
 use Rattle.vc_code.specs.declared.value.Value.TheVariants.{Num}
 use Rattle.vc_code.specs.Value.{Held, Words}
-use Rattle.vc_code.specs.Machine.{Shape, Activation, State, Next, Instr, Ends, Machine, last_get, joined, first, progress}
+use Rattle.vc_code.specs.Machine.{Shape, Activation, State, Next, Instr, Ends, Machine, last_get}
+use Rattle.vc_code.specs.Machine.{joined, found, with_top, first, progress}
 
 -- what a call has beside aggregates and arguments: where it stands, and what each variable holds
 pub record Vars : Type 0 where
@@ -47,7 +49,8 @@ put_all (Some held) (v ∷ vs) (x ∷ xs) = put_all (put held v (Some x)) vs xs
 -- ---- the machine
 
 abbrev pub at_point : Activation Vars → ℕ → ℕ → Words → Activation Vars
-at_point c block index held = record c { home = record { block = block; index = index; held = held } }
+at_point c block index held =
+    record c { home = record { block = block; index = index; held = held } }
 
 -- the call behind an instruction
 abbrev pub behind : Activation Vars → Option Words → Option (Activation Vars)
@@ -58,9 +61,12 @@ behind c (Some held) = Some (at_point c c.home.block (suc c.home.index) held)
 abbrev pub written : Activation Vars → List ℕ → List Value → Option (Activation Vars)
 written c vs xs = behind c (put_all (Some c.home.held) vs xs)
 
+-- what variables of a call hold
+abbrev pub held_by : VProc → Activation Vars → List ℕ → List Held
+held_by code c vs = map (read (kind_of code) c.home.held) vs
+
 abbrev pub next_of : VProc → Activation Vars → Option VInstr → Next Vars
-next_of code c (Some i) =
-    Instr i (map (read (kind_of code) c.home.held) (read_by i)) (λ xs. written c (written_by i) xs)
+next_of code c (Some i) = Instr i (held_by code c (read_by i)) (λ xs. written c (written_by i) xs)
 next_of code c None = Ends (end_of code c.home.block)
 
 -- a parameter's variable begins with its argument
@@ -85,6 +91,10 @@ abbrev pub at_block : Activation Vars → ℕ → Option Block → Option (Activ
 at_block c b None = None
 at_block c b (Some block) = Some (at_point c b 0 c.home.held)
 
+-- on at the begin of a block of this code
+abbrev pub jumps : VProc → ℕ → State Vars → State Vars
+jumps code b s = found s (at_block s.top b (slice_get code.blocks b)) (λ c. with_top s c)
+
 -- what stands for a procedure past the end
 abbrev pub no_proc : VProc
 no_proc = record { id = record { 0 = 0 }; args = 0; aggregates = 0; vars = []; blocks = [] }
@@ -94,12 +104,14 @@ code_of procs p = slice_index_or procs p no_proc
 
 -- a procedure's frame is given
 abbrev pub shape : List VProc → List ℕ → ℕ → Shape
-shape procs frames p = record { kinds = (code_of procs p).vars; frame_size = slice_index_or frames p 0 }
+shape procs frames p =
+    record { kinds = (code_of procs p).vars; frame_size = slice_index_or frames p 0 }
 
 abbrev pub selected : List VProc → List ℕ → Machine Vars
 selected procs frames = record {
   shape = shape procs frames;
-  next = λ c. let code = code_of procs c.proc in next_of code c (instr_at code c.home.block c.home.index);
+  next = λ c.
+      let code = code_of procs c.proc in next_of code c (instr_at code c.home.block c.home.index);
   begin = λ p args. begin p (slice_get procs p) args;
   jump = λ b c. at_block c b (slice_get (code_of procs c.proc).blocks b);
 }
@@ -108,7 +120,8 @@ selected procs frames = record {
 
 -- the body is live, all data holds 0, and no call is tested
 abbrev pub start : VModule → List ℤ → State Vars
-start module_ input = first (begun 0 (code_of module_.procs 0) []) (replicate module_.data_words (Some (Num 0))) input
+start module_ input =
+    first (begun 0 (code_of module_.procs 0) []) (replicate module_.data_words (Some (Num 0))) input
 
 -- VRun: what so many steps have come to
 abbrev pub vrun : VModule → List ℕ → List ℤ → ℕ → Progress OutEvent RunEnd

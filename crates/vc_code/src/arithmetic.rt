@@ -1,4 +1,5 @@
-// Words of 32 bits: numbers with wrapping, which are signed in two's complement where an operation says so.
+// Words of 32 bits: numbers with wrapping, which are signed in two's complement where an operation
+// says so.
 
 ghost use Rattle.std.specs.Prelude.{◌≡◌, IsTrue};
 ghost use Rattle.pra_base.specs.Words as words;

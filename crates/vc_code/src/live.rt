@@ -2,9 +2,10 @@
 
 ghost use Rattle.std.specs.Prelude.{◌≡◌, ◌<◌, ◌∷◌, [], IfOk, None, Some, slice_set};
 ghost use Rattle.std.specs.Bool.{OnTrue, OnFalse};
-ghost use Rattle.vc_code.specs.Machine.{last_get as last_get_of, last_set, with_aggregates, with_args, zeroed};
-ghost use Rattle.vc_code.specs.Selected.{begun, argument as argument_of, written, at_point};
-ghost use Rattle.vc_code.specs.Stands.{call_of, listed};
+ghost use Rattle.vc_code.specs.Machine.{last_get as last_get_of, with_aggregate, with_argument};
+ghost use Rattle.vc_code.specs.Machine.{with_aggregates, zeroed};
+ghost use Rattle.vc_code.specs.Selected.{begun, argument as argument_of, at_point};
+ghost use Rattle.vc_code.specs.Stands.{call_of, after};
 
 use crate::value::{Held, Value};
 use pra_base::{BlockId, ProcId, VProc, VarId, VarKind};
@@ -18,7 +19,8 @@ pub type Targets = (Option<VarId>, Option<VarId>);
 pub struct LiveCall {
     pub proc: ProcId,
     pub aggregates: Vec<Held>,
-    /// What the argument cells hold, in the order in which they stand in memory: the last argument first.
+    /// What the argument cells hold, in the order in which they stand in memory: the last argument
+    /// first.
     pub arguments: Vec<Held>,
     pub block: BlockId,
     /// How many instructions of the block are behind it.
@@ -89,8 +91,8 @@ impl LiveCall {
     /// On to the next instruction, unless there is a variable that wants a value.
     pub fn pass(&mut self, to: Targets) -> bool
         requires { self.old.index < usize.MAX }
-        ensures passed { OnTrue result (written (call_of self.old) (listed to) [] ≡ Some (call_of self.new)) }
-        ensures stuck { OnFalse result (written (call_of self.old) (listed to) [] ≡ None) }
+        ensures passed { OnTrue result (after self.old to [] ≡ Some (call_of self.new)) }
+        ensures stuck { OnFalse result (after self.old to [] ≡ None) }
         ensures kept { OnFalse result (self.new ≡ self.old) }
     {
         if to.0.is_some() {
@@ -103,8 +105,8 @@ impl LiveCall {
     /// On, with the value in the first target, unless a target is missing or wants another value.
     pub fn give(&mut self, to: Targets, x: Value) -> bool
         requires { self.old.index < usize.MAX }
-        ensures passed { OnTrue result (written (call_of self.old) (listed to) (x ∷ []) ≡ Some (call_of self.new)) }
-        ensures stuck { OnFalse result (written (call_of self.old) (listed to) (x ∷ []) ≡ None) }
+        ensures passed { OnTrue result (after self.old to (x ∷ []) ≡ Some (call_of self.new)) }
+        ensures stuck { OnFalse result (after self.old to (x ∷ []) ≡ None) }
         ensures kept { OnFalse result (self.new ≡ self.old) }
     {
         match to {
@@ -129,8 +131,8 @@ impl LiveCall {
     /// On, with the values in the two targets in their order, unless a target is missing.
     pub fn give_both(&mut self, to: Targets, x: Value, y: Value) -> bool
         requires { self.old.index < usize.MAX }
-        ensures passed { OnTrue result (written (call_of self.old) (listed to) (x ∷ y ∷ []) ≡ Some (call_of self.new)) }
-        ensures stuck { OnFalse result (written (call_of self.old) (listed to) (x ∷ y ∷ []) ≡ None) }
+        ensures passed { OnTrue result (after self.old to (x ∷ y ∷ []) ≡ Some (call_of self.new)) }
+        ensures stuck { OnFalse result (after self.old to (x ∷ y ∷ []) ≡ None) }
         ensures kept { OnFalse result (self.new ≡ self.old) }
     {
         match to {
@@ -152,14 +154,14 @@ impl LiveCall {
 
     /// Writes a word of the aggregates.
     pub fn set_aggregate(&mut self, at: usize, h: Held)
-        ensures { call_of self.new ≡ with_aggregates (call_of self.old) (slice_set (call_of self.old).aggregates at h) }
+        ensures { call_of self.new ≡ with_aggregate (call_of self.old) at h }
     {
         set_word(&mut self.aggregates, at, h);
     }
 
     /// Writes an argument cell.
     pub fn set_argument(&mut self, i: u32, h: Held)
-        ensures { call_of self.new ≡ with_args (call_of self.old) (last_set (call_of self.old).args i h) }
+        ensures { call_of self.new ≡ with_argument (call_of self.old) i h }
     {
         let last = self.arguments.len().saturating_sub(1);
         set_word(&mut self.arguments, last.saturating_sub(i as usize), h);
@@ -174,14 +176,15 @@ impl LiveCall {
 
     /// All aggregates hold 0.
     pub fn clear(&mut self)
-        ensures { call_of self.new ≡ with_aggregates (call_of self.old) (zeroed (call_of self.old).aggregates) }
+        ensures { let c = call_of self.old in
+            call_of self.new ≡ with_aggregates c (zeroed c.aggregates) }
     {
         self.aggregates.fill(Some(Value::Num(0)));
     }
 
     /// To the begin of a block.
     pub fn jump(&mut self, block: BlockId)
-        ensures { call_of self.new ≡ at_point (call_of self.old) block.0 0 (call_of self.old).home.held }
+        ensures { let c = call_of self.old in call_of self.new ≡ at_point c block.0 0 c.home.held }
     {
         self.block = block;
         self.index = 0;

@@ -1,5 +1,5 @@
-// The executable machine of selected code: its state, what it reads, and what it changes. What an action changes is in
-// `machine/actions.rt`, and runs are in `run.rt`.
+// The executable machine of selected code: its state, what it reads, and what it changes. What an
+// action changes is in `machine/actions.rt`, and runs are in `run.rt`.
 
 ghost use Rattle.std.specs.Prelude.{◌≡◌};
 ghost use Rattle.pra_base.specs.Code.{kind_of};

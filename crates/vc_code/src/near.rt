@@ -6,8 +6,8 @@ ghost use Rattle.pra_base.specs.Valid.{near};
 use pra_base::code::{NEAR_ARGUMENTS, NEAR_VARIABLES};
 use pra_base::{VProc, VarKind};
 
-/// Whether every slot and argument cell of the procedure is reached by a displacement of 8 bits, however many of its
-/// local variables need one.
+/// Whether every slot and argument cell of the procedure is reached by a displacement of 8 bits,
+/// however many of its local variables need one.
 pub fn is_near(code: &VProc) -> bool
     ensures { result ≡ near code.now.vars code.now.args }
 {

@@ -27,7 +27,8 @@ fn number_at(held: &[Held], k: usize) -> Option<u32>
     }
 }
 
-// The object and the byte offset modulo 2 ^ 32, of a start, an offset and an index that counts words.
+// The object and the byte offset modulo 2 ^ 32, of a start, an offset and an index that counts
+// words.
 fn byte(start: u64, offset: i32, index: u32) -> u32
     requires { start < 2 ^ 34 }
     ensures { result ≡ (start + word_of offset + 4 * index) % 2 ^ 32 }
@@ -113,8 +114,8 @@ fn both(held: &[Held]) -> Option<(u32, u32)>
     Some((a, b))
 }
 
-/// The action of an instruction on what its read operands hold, in the order of the operand table, or None where it is
-/// stuck.
+/// The action of an instruction on what its read operands hold, in the order of the operand table,
+/// or None where it is stuck.
 pub fn operate(here: &Here, i: &VInstr, held: &[Held]) -> Option<Action>
     ensures { result ≡ operation.operate here.now i.now held.now }
 {

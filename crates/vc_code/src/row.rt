@@ -1,10 +1,12 @@
-// The operand table: where each operand of an instruction may stand, and what the instruction destroys.
+// The operand table: where each operand of an instruction may stand, and what the instruction
+// destroys.
 
-ghost use Rattle.std.specs.Prelude.{◌≡◌, ◌+◌, ◌≤◌, length, map, fold, count_by, nat_eq, ◌++◌, ◌∷◌, [], option_to_list};
+ghost use Rattle.std.specs.Prelude.{◌≡◌, ◌+◌, ◌≤◌, length, map, fold, count_by, nat_eq, ◌++◌, ◌∷◌};
+ghost use Rattle.std.specs.Prelude.{[], option_to_list};
 ghost use Rattle.std.specs.List.{list_any};
 ghost use Rattle.pra_base.specs.Operands as base;
 ghost use Rattle.pra_base.specs.Places.{◌∪◌};
-ghost use Rattle.vc_code.specs.Rows.{role_of, roles_of, row_of, line_of};
+ghost use Rattle.vc_code.specs.Rows.{role_of, roles_of, row_of, line_of, printed, Fits};
 
 use arrayvec::ArrayVec;
 use pra_base::places::{BYTE_REGISTERS, CONSTANT, EVERY, MEMORY, REGISTERS, with_both};
@@ -14,14 +16,15 @@ use pra_base::{Addr, Base, Mask, Place, VInstr, VarId};
 #[derive(Clone, Copy, Debug, PartialEq, Eq, Drop)]
 pub struct Role {
     pub var: VarId,
-    /// The places that may be its place here. A variable in several roles has one mask in all of them.
+    /// The places that may be its place here. A variable in several roles has one mask in all of
+    /// them.
     pub mask: Mask,
     /// The role is in the instruction's memory pair: at most one of the two is in memory.
     pub memory: bool,
 }
 
-/// The operands of an instruction, and the registers that hold nothing afterwards: bit r of `clobbers` stands for
-/// register r.
+/// The operands of an instruction, and the registers that hold nothing afterwards: bit r of
+/// `clobbers` stands for register r.
 #[derive(Debug, Drop)]
 pub struct OperandRow {
     pub reads: ArrayVec<Role, 3>,
@@ -29,8 +32,8 @@ pub struct OperandRow {
     pub clobbers: u8,
 }
 
-/// A line of the table as it is printed, with no both place in its masks: what is read, what is written where it was read, what is only written, and
-/// the registers that are destroyed.
+/// A line of the table as it is printed, with no both place in its masks: what is read, what is
+/// written where it was read, what is only written, and the registers that are destroyed.
 #[derive(Drop)]
 struct Printed {
     reads: ArrayVec<Role, 3>,
@@ -43,14 +46,16 @@ const EAX: Mask = 1 << (Place::Eax as u16);
 
 const EDX: Mask = 1 << (Place::Edx as u16);
 
-// Sets of registers that are destroyed: none; those that a callee may change; the one that Clear counts in.
+// Sets of registers that are destroyed: none; those that a callee may change; the one that Clear
+// counts in.
 const NOTHING: u8 = 0;
 
 const COUNTER: u8 = 1 << (Place::Ecx as u8);
 
 const CALLER_SAVED: u8 = 1 << (Place::Eax as u8) | COUNTER | 1 << (Place::Edx as u8);
 
-// The masks of the table, by its letters: a register, memory, a constant; a register with a low byte.
+// The masks of the table, by its letters: a register, memory, a constant; a register with a low
+// byte.
 const R: Mask = REGISTERS;
 
 const B: Mask = BYTE_REGISTERS;
@@ -108,9 +113,9 @@ fn listed<const N: usize>(roles: &[Role]) -> ArrayVec<Role, N>
 
 fn line(reads: &[Role], in_place: Option<VarId>, writes: &[Role], clobbers: u8) -> Printed
     requires reads { length reads.now ≤ 3 }
-    requires writes { length (option_to_list in_place) + length writes.now ≤ 2 }
-    ensures value { line_of result ≡ base.line (roles_of reads.now) (map (λ v. v.0) (option_to_list in_place)) (roles_of writes.now) clobbers }
-    ensures fits { length (option_to_list result.in_place) + length result.writes.items ≤ 2 }
+    requires writes { Fits in_place writes.now }
+    ensures value { line_of result ≡ printed reads.now in_place writes.now clobbers }
+    ensures fits { Fits result.in_place result.writes.items }
 {
     Printed {
         reads: listed(reads),
@@ -122,15 +127,16 @@ fn line(reads: &[Role], in_place: Option<VarId>, writes: &[Role], clobbers: u8) 
 
 fn arithmetic(v: VarId, s: VarId) -> Printed
     ensures value { line_of result ≡ base.arithmetic v s }
-    ensures fits { length (option_to_list result.in_place) + length result.writes.items ≤ 2 }
+    ensures fits { Fits result.in_place result.writes.items }
 {
     line(&[pair(v, RM), pair(s, RMK)], Some(v), &[], NOTHING)
 }
 
 fn compares(a: VarId, b: VarId, writes: &[Role]) -> Printed
     requires { length writes.now ≤ 2 }
-    ensures value { line_of result ≡ base.line (base.compared a b) [] (roles_of writes.now) base.none }
-    ensures fits { length (option_to_list result.in_place) + length result.writes.items ≤ 2 }
+    ensures value { let reads = base.compared a b in
+        line_of result ≡ base.line reads [] (roles_of writes.now) base.none }
+    ensures fits { Fits result.in_place result.writes.items }
 {
     line(&[pair(a, RM), pair(b, RMK)], None, writes, NOTHING)
 }
@@ -149,16 +155,18 @@ fn addressed(addr: &Addr) -> ArrayVec<Role, 2>
 }
 
 fn loads(v: VarId, addr: &Addr) -> Printed
-    ensures value { line_of result ≡ base.line (base.addressed addr.now) [] (base.role v base.R ∷ []) base.none }
-    ensures fits { length (option_to_list result.in_place) + length result.writes.items ≤ 2 }
+    ensures value { let writes = base.role v base.R ∷ [] in
+        line_of result ≡ base.line (base.addressed addr.now) [] writes base.none }
+    ensures fits { Fits result.in_place result.writes.items }
 {
     let reads = addressed(addr);
     line(reads.as_slice(), None, &[at(v, R)], NOTHING)
 }
 
 fn stores(addr: &Addr, s: VarId) -> Printed
-    ensures value { line_of result ≡ base.line (base.addressed addr.now ++ base.role s (base.R ∪ base.K) ∷ []) [] [] base.none }
-    ensures fits { length (option_to_list result.in_place) + length result.writes.items ≤ 2 }
+    ensures value { let stored = base.role s (base.R ∪ base.K) in
+        line_of result ≡ base.line (base.addressed addr.now ++ stored ∷ []) [] [] base.none }
+    ensures fits { Fits result.in_place result.writes.items }
 {
     let variables = addressed(addr);
     let mut reads = listed::<3>(variables.as_slice());
@@ -169,7 +177,7 @@ fn stores(addr: &Addr, s: VarId) -> Printed
 // The line of an instruction, as the table prints it.
 fn table(i: &VInstr) -> Printed
     ensures value { line_of result ≡ base.table i.now }
-    ensures fits { length (option_to_list result.in_place) + length result.writes.items ≤ 2 }
+    ensures fits { Fits result.in_place result.writes.items }
 {
     match *i {
         VInstr::Set(v, _) => line(&[], None, &[at(v, RM)], NOTHING),
@@ -246,7 +254,8 @@ fn widened(line: &Printed, role: Role) -> Role
 
 // What is left of a mask in the read roles of a variable.
 fn meet_reads(start: Mask, line: &Printed, var: VarId) -> Mask
-    ensures { result ≡ fold (base.meets var.0) start (map (base.widened (line_of line.now)) (line_of line.now).reads) }
+    ensures { let l = line_of line.now in
+        result ≡ fold (base.meets var.0) start (map (base.widened l) l.reads) }
 {
     let mut mask = start;
     for role in line.reads.as_slice() {
@@ -328,7 +337,7 @@ fn reads(line: &Printed) -> ArrayVec<Role, 3>
 }
 
 fn writes(line: &Printed) -> ArrayVec<Role, 2>
-    requires { length (option_to_list line.now.in_place) + length line.now.writes.items ≤ 2 }
+    requires { Fits line.now.in_place line.now.writes.items }
     ensures { roles_of result.items ≡ (base.row_of (line_of line.now)).writes }
 {
     let mut writes = ArrayVec::new();
@@ -341,9 +350,10 @@ fn writes(line: &Printed) -> ArrayVec<Role, 2>
     writes
 }
 
-/// The operands of an instruction: the roles that are read, then those that are written, a variable that is written in
-/// place among them, each in the order of the table. A variable that is only read may be at a both place; one in several
-/// roles has what they have in common, and that without memory where two of them are in the memory pair.
+/// The operands of an instruction: the roles that are read, then those that are written, a variable
+/// that is written in place among them, each in the order of the table. A variable that is only
+/// read may be at a both place; one in several roles has what they have in common, and that without
+/// memory where two of them are in the memory pair.
 pub fn operands(i: &VInstr) -> OperandRow
     ensures { row_of result ≡ base.operands i.now }
 {

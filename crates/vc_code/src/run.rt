@@ -25,7 +25,8 @@ fn zeros(alloc: Global, words: u32) -> Result<Vec<Held>, AllocError>
 }
 
 impl Execution {
-    /// The module's body before its first instruction, with the words that it may read. All data holds 0.
+    /// The module's body before its first instruction, with the words that it may read. All data
+    /// holds 0.
     ///
     /// # Errors
     ///
@@ -73,9 +74,10 @@ impl Execution {
     }
 }
 
-/// What selected code has come to after so many steps, fewer where it ends before: of a module, with the bytes of the
-/// frame of each of its procedures, and the words that it may read. A frame past the end has no bytes. Nothing is asked of
-/// the code: what is not there is stuck where it is called, jumped to, read or written.
+/// What selected code has come to after so many steps, fewer where it ends before: of a module,
+/// with the bytes of the frame of each of its procedures, and the words that it may read. A frame
+/// past the end has no bytes. Nothing is asked of the code: what is not there is stuck where it is
+/// called, jumped to, read or written.
 ///
 /// # Errors
 ///

@@ -1,10 +1,10 @@
 // How an action changes the machine.
 
-ghost use Rattle.std.specs.Prelude.{◌≡◌, ◌<◌, ◌∷◌, ◌/◌, [], ◌++◌, Some, None};
-ghost use Rattle.vc_code.specs.Machine.{State, with_top, with_aggregates, zeroed, takes, found, object, word_at as word_at_of, joined, with_object, apply as apply_of};
-ghost use Rattle.vc_code.specs.Operation.{number};
-ghost use Rattle.vc_code.specs.Selected.{shape, selected, written};
-ghost use Rattle.vc_code.specs.Stands.{call_of, state_of, listed, Performs};
+ghost use Rattle.std.specs.Prelude.{◌<◌, ◌∷◌, [], Some};
+ghost use Rattle.vc_code.specs.Machine.{goes_on, with_top, with_compared, with_pushed, with_event};
+ghost use Rattle.vc_code.specs.Machine.{with_cleared, with_number, takes, loads};
+ghost use Rattle.vc_code.specs.Machine.{apply as apply_of};
+ghost use Rattle.vc_code.specs.Stands.{sizes_of, machine_of, after, Makes};
 
 use super::{Execution, Halt, STUCK};
 use crate::action::Action;
@@ -20,7 +20,7 @@ impl Execution {
     // On, where no variable wants a value.
     fn pass(&mut self, to: Targets) -> Result<(), Halt>
         requires { self.old.top.index < usize.MAX }
-        ensures { Performs (state_of self.old) (state_of self.new) result (found (state_of self.old) (written (call_of self.old.top) (listed to) []) (λ c. with_top (state_of self.old) c)) }
+        ensures { Makes self.old self.new result (goes_on (after self.old.top to) [] with_top) }
     {
         if self.top.pass(to) {
             self.compared = None;
@@ -33,7 +33,8 @@ impl Execution {
     // On, with the value in the first target.
     fn give(&mut self, to: Targets, x: Value) -> Result<(), Halt>
         requires { self.old.top.index < usize.MAX }
-        ensures { Performs (state_of self.old) (state_of self.new) result (found (state_of self.old) (written (call_of self.old.top) (listed to) (x ∷ [])) (λ c. with_top (state_of self.old) c)) }
+        ensures { Makes self.old self.new result
+            (goes_on (after self.old.top to) (x ∷ []) with_top) }
     {
         if self.top.give(to, x) {
             self.compared = None;
@@ -45,7 +46,8 @@ impl Execution {
 
     fn give_both(&mut self, to: Targets, x: Value, y: Value) -> Result<(), Halt>
         requires { self.old.top.index < usize.MAX }
-        ensures { Performs (state_of self.old) (state_of self.new) result (found (state_of self.old) (written (call_of self.old.top) (listed to) (x ∷ y ∷ [])) (λ c. with_top (state_of self.old) c)) }
+        ensures { Makes self.old self.new result
+            (goes_on (after self.old.top to) (x ∷ y ∷ []) with_top) }
     {
         if self.top.give_both(to, x, y) {
             self.compared = None;
@@ -57,7 +59,8 @@ impl Execution {
 
     fn compare(&mut self, to: Targets, a: u32, b: u32) -> Result<(), Halt>
         requires { self.old.top.index < usize.MAX }
-        ensures { Performs (state_of self.old) (state_of self.new) result (found (state_of self.old) (written (call_of self.old.top) (listed to) []) (λ c. record (state_of self.old) { top = c; compared = Some (a, b) })) }
+        ensures { Makes self.old self.new result
+            (goes_on (after self.old.top to) [] (with_compared a b)) }
     {
         if self.top.pass(to) {
             self.compared = Some((a, b));
@@ -69,7 +72,8 @@ impl Execution {
 
     fn push(&mut self, to: Targets, x: Value) -> Result<(), Halt>
         requires { self.old.top.index < usize.MAX }
-        ensures { Performs (state_of self.old) (state_of self.new) result (found (state_of self.old) (written (call_of self.old.top) (listed to) []) (λ c. record (state_of self.old) { top = c; compared = None; pushed = Some x ∷ (state_of self.old).pushed })) }
+        ensures { Makes self.old self.new result
+            (goes_on (after self.old.top to) [] (with_pushed x)) }
     {
         if self.top.pass(to) {
             self.compared = None;
@@ -82,7 +86,8 @@ impl Execution {
 
     fn tell(&mut self, to: Targets, event: OutEvent) -> Result<(), Halt>
         requires { self.old.top.index < usize.MAX }
-        ensures { Performs (state_of self.old) (state_of self.new) result (found (state_of self.old) (written (call_of self.old.top) (listed to) []) (λ c. record (state_of self.old) { top = c; compared = None; events = (state_of self.old).events ++ event ∷ [] })) }
+        ensures { Makes self.old self.new result
+            (goes_on (after self.old.top to) [] (with_event event)) }
     {
         if self.top.pass(to) {
             self.compared = None;
@@ -95,7 +100,7 @@ impl Execution {
 
     fn clear(&mut self, to: Targets) -> Result<(), Halt>
         requires { self.old.top.index < usize.MAX }
-        ensures { Performs (state_of self.old) (state_of self.new) result (found (state_of self.old) (written (call_of self.old.top) (listed to) []) (λ c. with_top (state_of self.old) (with_aggregates c (zeroed c.aggregates)))) }
+        ensures { Makes self.old self.new result (goes_on (after self.old.top to) [] with_cleared) }
     {
         if self.top.pass(to) {
             self.compared = None;
@@ -108,7 +113,7 @@ impl Execution {
 
     fn take(&mut self, to: Targets) -> Result<(), Halt>
         requires { self.old.top.index < usize.MAX }
-        ensures { Performs (state_of self.old) (state_of self.new) result (takes (state_of self.old) (state_of self.old).input (λ xs. written (call_of self.old.top) (listed to) xs)) }
+        ensures { Makes self.old self.new result (λ s. takes s s.input (after self.old.top to)) }
     {
         match self.input.get(self.taken) {
             None => Err(Halt::Over(Ending::Trap(TrapKind::Input))),
@@ -127,7 +132,8 @@ impl Execution {
 
     fn load(&mut self, program: &Program, to: Targets, x: Object, offset: u32) -> Result<(), Halt>
         requires { self.old.top.index < usize.MAX }
-        ensures { Performs (state_of self.old) (state_of self.new) result (found (state_of self.old) (number (joined (word_at_of (object (shape program.now.code.now.procs program.now.frames.now) (state_of self.old) x) offset))) (λ n. found (state_of self.old) (written (call_of self.old.top) (listed to) (Value.Num n ∷ [])) (λ c. with_top (state_of self.old) c))) }
+        ensures { Makes self.old self.new result
+            (loads (sizes_of program.now) (after self.old.top to) x offset) }
     {
         match self.word(program, x, offset)? {
             Some(Some(Value::Num(n))) => self.give(to, Value::Num(n)),
@@ -146,7 +152,8 @@ impl Execution {
         n: u32,
     ) -> Result<(), Halt>
         requires { self.old.top.index < usize.MAX }
-        ensures { Performs (state_of self.old) (state_of self.new) result (found (state_of self.old) (written (call_of self.old.top) (listed to) []) (λ c. found (state_of self.old) (word_at_of (object (shape program.now.code.now.procs program.now.frames.now) (with_top (state_of self.old) c) x) offset) (λ old. with_object (shape program.now.code.now.procs program.now.frames.now) (with_top (state_of self.old) c) x (offset / 4) (Some (Value.Num n))))) }
+        ensures { Makes self.old self.new result
+            (goes_on (after self.old.top to) [] (with_number (sizes_of program.now) x offset n)) }
     {
         if to.0.is_some() {
             return Err(STUCK);
@@ -173,7 +180,8 @@ impl Execution {
         action: Action,
     ) -> Result<(), Halt>
         requires { self.old.top.index < usize.MAX }
-        ensures { Performs (state_of self.old) (state_of self.new) result (apply_of (selected program.now.code.now.procs program.now.frames.now) (λ xs. written (call_of self.old.top) (listed to) xs) (Some action) (state_of self.old)) }
+        ensures { Makes self.old self.new result
+            (apply_of (machine_of program.now) (after self.old.top to) (Some action)) }
     {
         match action {
             Action::Nothing => self.pass(to),

@@ -2,8 +2,7 @@
 
 ghost use Rattle.std.specs.Prelude.{◌≡◌, ◌+◌, IfOk};
 ghost use Rattle.vc_code.specs.Machine.{depth, here as here_of};
-ghost use Rattle.vc_code.specs.Selected.{shape};
-ghost use Rattle.vc_code.specs.Stands.{calls_of, state_of};
+ghost use Rattle.vc_code.specs.Stands.{calls_of, state_of, sizes_of};
 
 use super::Execution;
 use crate::action::Here;
@@ -28,7 +27,7 @@ pub fn sum_of(bytes: u64, more: u32) -> Result<u64, OutOfMemory>
 ///
 /// Where they do not fit 64 bits.
 pub fn bytes_of(program: &Program, calls: &[LiveCall]) -> Result<u64, OutOfMemory>
-    ensures { IfOk result (λ bytes. bytes ≡ depth (shape program.now.code.now.procs program.now.frames.now) (calls_of calls.now)) }
+    ensures { IfOk result (λ bytes. bytes ≡ depth (sizes_of program.now) (calls_of calls.now)) }
 {
     let mut bytes = 0;
     for call in calls {
@@ -42,7 +41,7 @@ impl Execution {
     ///
     /// Where the bytes of all frames do not fit 64 bits.
     pub fn here(&self, program: &Program) -> Result<Here, OutOfMemory>
-        ensures { IfOk result (λ here. here ≡ here_of (shape program.now.code.now.procs program.now.frames.now) (state_of self.now)) }
+        ensures { IfOk result (λ here. here ≡ here_of (sizes_of program.now) (state_of self.now)) }
     {
         let below = bytes_of(program, &self.below)?;
         let sum = sum_of(below, program.frame(self.top.proc))?;

@@ -1,12 +1,14 @@
 // The words of objects.
 
-ghost use Rattle.std.specs.Prelude.{◌≡◌, ◌/◌, ◌≤◌, [], IfOk, OnOk, OnSome, Some, count_by, length, reverse, take, slice_get, slice_set, if◌then◌else◌};
+ghost use Rattle.std.specs.Prelude.{◌≡◌, ◌/◌, ◌≤◌, IfOk, OnOk, OnSome, Some, count_by, length};
+ghost use Rattle.std.specs.Prelude.{reverse, slice_get};
 ghost use Rattle.std.specs.List.{list_any};
 ghost use Rattle.std.specs.Option.{option_copied, option_map};
-ghost use Rattle.vc_code.specs.Machine.{depth, object, word_at as word_at_of, with_object, with_calls, with_aggregates, with_args, last_set, cell, is_param, is_home};
-ghost use Rattle.vc_code.specs.Numbered.{on_call, holds_at, has_sum, has_below};
-ghost use Rattle.vc_code.specs.Selected.{shape};
-ghost use Rattle.vc_code.specs.Stands.{call_of, calls_in, state_of};
+ghost use Rattle.vc_code.specs.Machine.{depth, object, word_at as word_at_of, cell};
+ghost use Rattle.vc_code.specs.Machine.{with_object, with_calls, with_aggregate, with_argument};
+ghost use Rattle.vc_code.specs.Machine.{is_param};
+ghost use Rattle.vc_code.specs.Numbered.{holds_at, has_sum, has_below, words_at, changed_at};
+ghost use Rattle.vc_code.specs.Stands.{call_of, calls_in, calls_under, state_of, sizes_of};
 
 use super::Execution;
 use super::addresses::{bytes_of, sum_of};
@@ -17,7 +19,8 @@ use pra_base::{OutOfMemory, VProc, VarKind};
 
 const WORD_BYTES: u32 = 4;
 
-/// What the word at an offset in bytes holds, or `None` where the offset is not that of one whole word of the object.
+/// What the word at an offset in bytes holds, or `None` where the offset is not that of one whole
+/// word of the object.
 fn word_at(words: &[Held], offset: u32) -> Option<Held>
     ensures { result ≡ word_at_of words.now offset }
 {
@@ -49,7 +52,8 @@ fn is_named(code: &VProc, argument: u32) -> bool
 impl Execution {
     // The live call with so many calls below it.
     fn call_at(&self, n: usize) -> Option<&LiveCall>
-        ensures value { option_map call_of (option_copied result) ≡ slice_get (calls_in self.now) n }
+        ensures value { let call = option_map call_of (option_copied result) in
+            call ≡ slice_get (calls_in self.now) n }
         ensures within { OnSome result (n ≤ length self.now.below.items) }
     {
         if n == self.below.len() {
@@ -61,14 +65,16 @@ impl Execution {
     // The bytes of the frames below a live call.
     fn bytes_under(&self, program: &Program, n: usize) -> Result<u64, OutOfMemory>
         requires { n ≤ length self.now.below.items }
-        ensures { IfOk result (λ bytes. bytes ≡ depth (shape program.now.code.now.procs program.now.frames.now) (reverse (take n (calls_in self.now)))) }
+        ensures { IfOk result
+            (λ bytes. bytes ≡ depth (sizes_of program.now) (calls_under self.now n)) }
     {
         bytes_of(program, &self.below[..n])
     }
 
     // Whether the call is live, and its frame and those below have so many bytes.
     fn has_sum(&self, program: &Program, n: usize, sum: u64) -> Result<bool, OutOfMemory>
-        ensures { IfOk result (λ has. has ≡ holds_at (calls_in self.now) n (has_sum (shape program.now.code.now.procs program.now.frames.now) sum)) }
+        ensures { IfOk result
+            (λ has. has ≡ holds_at (calls_in self.now) n (has_sum (sizes_of program.now) sum)) }
     {
         match self.call_at(n) {
             None => Ok(false),
@@ -82,7 +88,8 @@ impl Execution {
 
     // Whether the call is live, and the frames below it have so many bytes.
     fn has_below(&self, program: &Program, n: usize, below: u64) -> Result<bool, OutOfMemory>
-        ensures { IfOk result (λ has. has ≡ holds_at (calls_in self.now) n (has_below (shape program.now.code.now.procs program.now.frames.now) below)) }
+        ensures { IfOk result
+            (λ has. has ≡ holds_at (calls_in self.now) n (has_below (sizes_of program.now) below)) }
     {
         match self.call_at(n) {
             None => Ok(false),
@@ -97,7 +104,8 @@ impl Execution {
 impl Execution {
     // A word of a call's aggregates, which are looked at where `has` says so.
     fn aggregate(&self, has: bool, n: usize, offset: u32) -> Option<Held>
-        ensures { result ≡ word_at_of (if has then on_call [] (slice_get (calls_in self.now) n) (λ c. c.aggregates) else []) offset }
+        ensures { let words = words_at has (calls_in self.now) n (λ c. c.aggregates) in
+            result ≡ word_at_of words offset }
     {
         match self.call_at(n) {
             Some(call) => {
@@ -113,7 +121,9 @@ impl Execution {
 
     // The word of an argument cell, which is looked at where `has` says so.
     fn argument(&self, program: &Program, has: bool, n: usize, i: u32, offset: u32) -> Option<Held>
-        ensures { result ≡ word_at_of (if has then on_call [] (slice_get (calls_in self.now) n) (λ c. cell (shape program.now.code.now.procs program.now.frames.now) c i) else []) offset }
+        ensures { let sizes = sizes_of program.now in
+            let words = words_at has (calls_in self.now) n (λ c. cell sizes c i) in
+            result ≡ word_at_of words offset }
     {
         match self.call_at(n) {
             Some(call) => {
@@ -141,7 +151,9 @@ impl Execution {
         x: Object,
         offset: u32,
     ) -> Result<Option<Held>, OutOfMemory>
-        ensures { IfOk result (λ word. word ≡ word_at_of (object (shape program.now.code.now.procs program.now.frames.now) (state_of self.now) x) offset) }
+        ensures { IfOk result (λ word.
+            let words = object (sizes_of program.now) (state_of self.now) x in
+            word ≡ word_at_of words offset) }
     {
         match x {
             Object::Data => Ok(word_at(&self.globals, offset)),
@@ -161,8 +173,10 @@ impl Execution {
     }
 
     fn set_aggregate(&mut self, n: usize, at: usize, h: Held)
-        ensures calls { calls_in self.new ≡ on_call (calls_in self.old) (slice_get (calls_in self.old) n) (λ c. slice_set (calls_in self.old) n (with_aggregates c (slice_set c.aggregates at h))) }
-        ensures rest { state_of self.new ≡ with_calls (state_of self.old) (reverse (calls_in self.new)) }
+        ensures calls { let calls = calls_in self.old in
+            calls_in self.new ≡ changed_at calls n (λ c. with_aggregate c at h) }
+        ensures rest { let calls = reverse (calls_in self.new) in
+            state_of self.new ≡ with_calls (state_of self.old) calls }
     {
         if n == self.below.len() {
             self.top.set_aggregate(at, h);
@@ -172,8 +186,10 @@ impl Execution {
     }
 
     fn set_argument(&mut self, n: usize, i: u32, h: Held)
-        ensures calls { calls_in self.new ≡ on_call (calls_in self.old) (slice_get (calls_in self.old) n) (λ c. slice_set (calls_in self.old) n (with_args c (last_set c.args i h))) }
-        ensures rest { state_of self.new ≡ with_calls (state_of self.old) (reverse (calls_in self.new)) }
+        ensures calls { let calls = calls_in self.old in
+            calls_in self.new ≡ changed_at calls n (λ c. with_argument c i h) }
+        ensures rest { let calls = reverse (calls_in self.new) in
+            state_of self.new ≡ with_calls (state_of self.old) calls }
     {
         if n == self.below.len() {
             self.top.set_argument(i, h);
@@ -194,7 +210,9 @@ impl Execution {
         offset: u32,
         n: u32,
     ) -> Result<(), OutOfMemory>
-        ensures { OnOk result (state_of self.new ≡ with_object (shape program.now.code.now.procs program.now.frames.now) (state_of self.old) x (offset / 4) (Some (Value.Num n))) }
+        ensures { OnOk result (let s = state_of self.old in
+            let held = Some (Value.Num n) in
+            state_of self.new ≡ with_object (sizes_of program.now) s x (offset / 4) held) }
     {
         let at = (offset / WORD_BYTES) as usize;
         let held = Some(Value::Num(n));

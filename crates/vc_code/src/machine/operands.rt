@@ -1,11 +1,9 @@
 // What an instruction reads and writes.
 
-ghost use Rattle.std.specs.Prelude.{◌≡◌, map};
-ghost use Rattle.pra_base.specs.Code.{kind_of};
+ghost use Rattle.std.specs.Prelude.{◌≡◌};
 ghost use Rattle.pra_base.specs.Operands.{read_by, written_by};
 ghost use Rattle.vc_code.specs.Operation as operation;
-ghost use Rattle.vc_code.specs.Selected.{read as read_of};
-ghost use Rattle.vc_code.specs.Stands.{call_of, listed, address_vars};
+ghost use Rattle.vc_code.specs.Stands.{listed, address_vars, held_in};
 
 use super::Execution;
 use crate::action::{Action, Here};
@@ -47,7 +45,8 @@ pub fn targets(i: &VInstr) -> Targets
 impl Execution {
     /// What an instruction does, or None where it is stuck.
     pub fn operation(&self, here: &Here, code: &VProc, i: &VInstr) -> Option<Action>
-        ensures { result ≡ operation.operate here.now i.now (map (read_of (kind_of code.now) (call_of self.now.top).home.held) (read_by i.now)) }
+        ensures { let held = held_in self.now code.now (read_by i.now) in
+            result ≡ operation.operate here.now i.now held }
     {
         match *i {
             VInstr::Set(_, _) => operate(here, i, &[]),
@@ -86,7 +85,8 @@ impl Execution {
 
     // The operation of an instruction that reads an address alone.
     fn at_address(&self, here: &Here, code: &VProc, i: &VInstr, a: &Addr) -> Option<Action>
-        ensures { result ≡ operation.operate here.now i.now (map (read_of (kind_of code.now) (call_of self.now.top).home.held) (address_vars a.now)) }
+        ensures { let held = held_in self.now code.now (address_vars a.now) in
+            result ≡ operation.operate here.now i.now held }
     {
         match (a.base, a.index) {
             (Base::Via(v), Some(x)) => operate(here, i, &[self.read(code, v), self.read(code, x)]),
@@ -97,7 +97,8 @@ impl Execution {
     }
 
     fn at_store(&self, here: &Here, code: &VProc, a: &Addr, s: VarId) -> Option<Action>
-        ensures { result ≡ operation.operate here.now (VInstr.Store a.now s) (map (read_of (kind_of code.now) (call_of self.now.top).home.held) (read_by (VInstr.Store a.now s))) }
+        ensures { let i = VInstr.Store a.now s in
+            result ≡ operation.operate here.now i (held_in self.now code.now (read_by i)) }
     {
         let i = VInstr::Store(*a, s);
         let last = self.read(code, s);

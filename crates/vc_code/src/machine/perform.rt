@@ -1,10 +1,11 @@
 // Which instruction is executed, and how control leaves a block.
 
-ghost use Rattle.std.specs.Prelude.{◌≡◌, ◌<◌, OnOk, OnSome, Some, slice_get};
+ghost use Rattle.std.specs.Prelude.{◌≡◌, ◌<◌, OnOk, OnSome, Some};
 ghost use Rattle.pra_base.specs.Code.{instr_at, end_of};
-ghost use Rattle.vc_code.specs.Machine.{found, with_top, branched, leave as leave_of, act as act_of, step as step_of};
-ghost use Rattle.vc_code.specs.Selected.{selected, next_of, at_block, code_of};
-ghost use Rattle.vc_code.specs.Stands.{call_of, state_of, Performs};
+ghost use Rattle.vc_code.specs.Machine.{branched, leave as leave_of, act as act_of};
+ghost use Rattle.vc_code.specs.Machine.{step as step_of};
+ghost use Rattle.vc_code.specs.Selected.{next_of, jumps, code_of};
+ghost use Rattle.vc_code.specs.Stands.{state_of, machine_of, Makes};
 
 use super::operands::targets;
 use super::{Execution, Halt, STUCK};
@@ -48,7 +49,8 @@ impl Execution {
         i: VInstr,
     ) -> Result<(), Halt>
         requires { self.old.top.index < usize.MAX }
-        ensures { Performs (state_of self.old) (state_of self.new) result (act_of (selected program.now.code.now.procs program.now.frames.now) (next_of code.now (call_of self.old.top) (Some i)) (state_of self.old)) }
+        ensures { Makes self.old self.new result
+            (λ s. act_of (machine_of program.now) (next_of code.now s.top (Some i)) s) }
     {
         let here = self.here(program)?;
         match self.operation(&here, code, &i) {
@@ -58,7 +60,7 @@ impl Execution {
     }
 
     fn jump(&mut self, code: &VProc, block: BlockId) -> Result<(), Halt>
-        ensures { Performs (state_of self.old) (state_of self.new) result (found (state_of self.old) (at_block (call_of self.old.top) block.0 (slice_get code.now.blocks block.0)) (λ c. with_top (state_of self.old) c)) }
+        ensures { Makes self.old self.new result (jumps code.now block.0) }
     {
         match code.blocks.get(block.0 as usize) {
             None => Err(STUCK),
@@ -77,7 +79,8 @@ impl Execution {
         one: BlockId,
         other: BlockId,
     ) -> Result<(), Halt>
-        ensures { Performs (state_of self.old) (state_of self.new) result (branched (selected program.now.code.now.procs program.now.frames.now) cond one.0 other.0 self.old.compared (state_of self.old)) }
+        ensures { Makes self.old self.new result
+            (λ s. branched (machine_of program.now) cond one.0 other.0 s.compared s) }
     {
         let code = program.procedure(self.top.proc);
         match self.compared {
@@ -90,7 +93,7 @@ impl Execution {
     }
 
     fn leave(&mut self, program: &Program, end: End) -> Result<(), Halt>
-        ensures { Performs (state_of self.old) (state_of self.new) result (leave_of (selected program.now.code.now.procs program.now.frames.now) end (state_of self.old)) }
+        ensures { Makes self.old self.new result (leave_of (machine_of program.now) end) }
     {
         match end {
             End::Jump(block) => self.jump(program.procedure(self.top.proc), block),
@@ -101,7 +104,8 @@ impl Execution {
 
     fn act(&mut self, alloc: Global, program: &Program, code: &VProc) -> Result<(), Halt>
         requires { code.now ≡ code_of program.now.code.now.procs self.old.top.proc.0 }
-        ensures { Performs (state_of self.old) (state_of self.new) result (act_of (selected program.now.code.now.procs program.now.frames.now) ((selected program.now.code.now.procs program.now.frames.now).next (call_of self.old.top)) (state_of self.old)) }
+        ensures { Makes self.old self.new result
+            (λ s. act_of (machine_of program.now) ((machine_of program.now).next s.top) s) }
     {
         match instruction(code, self.top.block, self.top.index) {
             Some(i) => self.perform(alloc, program, code, i),
@@ -115,7 +119,8 @@ impl Execution {
     ///
     /// Where there is no memory for what the step makes; then the machine means nothing more.
     pub fn step(&mut self, alloc: Global, program: &Program) -> Result<(), OutOfMemory>
-        ensures { OnOk result (state_of self.new ≡ step_of (selected program.now.code.now.procs program.now.frames.now) (state_of self.old)) }
+        ensures { OnOk result
+            (state_of self.new ≡ step_of (machine_of program.now) (state_of self.old)) }
     {
         if self.ending.is_some() {
             return Ok(());
