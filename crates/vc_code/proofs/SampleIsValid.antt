@@ -1,36 +1,26 @@
 -- The sample is valid selected code, rule by rule.
-use Rattle.std.proofs.Common.{◌≡◌, ◌≢◌, ℕ, zero, suc, ◌+◌, ◌*◌, ◌<◌, ◌≤◌, ◌⊎◌, inl, inr, ⊎_elim, Bool, true, false, nat_eq, ◌||◌, List, [], ◌∷◌, length, slice_get, Some, None, refl, sym, ap, ◌∙◌, subst, arith, rules, lit<}
+use Rattle.std.proofs.Common.{◌≡◌, ◌≢◌, ℕ, zero, suc, ◌+◌, ◌*◌, ◌<◌, ◌≤◌, ⊎_elim, Bool, true, false, nat_eq, ◌||◌, slice_get, Some, None, refl, ap, subst, arith, rules, lit<}
 use Rattle.std.specs.Prelude.{ℤ, ◌↔◌, pos, ◌≤ℤ◌}
 use Rattle.std.proofs.lemmas.Bool.Decides.{nat_tests}
+use Rattle.pra_list.proofs.Each.{EachAt, each_at}
 use Rattle.pra_base.specs.declared.ids.VarId.{VarId}
-use Rattle.pra_base.specs.declared.ids.Cond.{Cond}
-use Rattle.pra_base.specs.declared.ids.BlockId.{BlockId}
-use Rattle.pra_base.specs.declared.code.VarKind.TheVariants.{Param, Constant}
+use Rattle.pra_base.specs.declared.code.VarKind.TheVariants.{Param}
 use Rattle.pra_base.specs.declared.code.VInstr.{VInstr}
 use Rattle.pra_base.specs.declared.code.VInstr.TheVariants.{Clear, Load, DivMod, Check, Push, Call, Cmp, Copy}
-use Rattle.pra_base.specs.declared.code.End.TheVariants.{Branch, Return}
+use Rattle.pra_base.specs.declared.code.End.TheVariants.{Return}
 use Rattle.pra_base.specs.declared.code.VProc.{VProc}
-use Rattle.pra_base.specs.Code.{kind_of, block_in, end_of, instr_at, EachInstr, IsTarget}
+use Rattle.pra_base.specs.Code.{block_in, end_of, instr_at, EachInstr, IsTarget}
 use Rattle.pra_base.specs.Operands.{reads, writes, only_writes}
-use Rattle.pra_base.specs.Live.{Point, Path, Live, ReadBeforeWritten, instr, reads_at, writes_at}
+use Rattle.pra_base.specs.Live.{Point, Path, ReadBeforeWritten, reads_at, writes_at}
 use Rattle.pra_base.specs.Live.Goes.{over, leaves}
 use Rattle.pra_base.specs.Live.Path.{stays, then}
-use Rattle.pra_base.specs.Valid.{EntryBlock, LastReturn, EndsWithCmp, CmpBeforeBranch, RolesApart, DividesApart, DivisionApart, KeepsConstant, ConstantsKept, LiveAtEntry, PushesBeforeCalls, TakesAny, TakesArgs, ClearFirst, CheckRange, KeepsBlockRules, ArgumentsApart, NamesCell, IsValid, counts_of, AreValid}
+use Rattle.pra_base.specs.Valid.{EntryBlock, LastReturn, CmpBeforeBranch, RolesApart, DividesApart, DivisionApart, KeepsConstant, ConstantsKept, LiveAtEntry, PushesBeforeCalls, TakesAny, TakesArgs, ClearFirst, CheckRange, ArgumentsApart, NamesCell, IsValid, counts_of, AreValid}
 use Rattle.vc_code.specs.Sample.{word, quotient, rest, two, word_0, callee, caller_code, caller, called, sample}
 
--- ---- facts about each element of a list
-
-abbrev EachAt : {X : Type 0} → (ℕ → X → Type 0) → List X → Type 0
-EachAt P [] = Unit {0}
-EachAt P (x ∷ xs) = P 0 x × EachAt (λ k. P (suc k)) xs
-
-at : {X : Type 0} (P : ℕ → X → Type 0) (xs : List X) → EachAt P xs → (k : ℕ) (x : X) → slice_get xs k ≡ Some x → P k x
-at P [] e k x h = cc
-at P (y ∷ ys) e zero x h = let same : y ≡ x = cc in subst (λ z. P 0 z) same e.0
-at P (y ∷ ys) e (suc k) x h = at (λ k. P (suc k)) ys e.1 k x h
+-- ---- facts about each instruction
 
 of_caller_at : (P : ℕ → VInstr → Type 0) → EachAt P caller_code → (b k : ℕ) (i : VInstr) → slice_get (block_in caller.blocks b).code k ≡ Some i → P k i
-of_caller_at P each zero k i h = at P caller_code each k i h
+of_caller_at P each zero k i h = each_at P caller_code each k i h
 of_caller_at P each (suc zero) k i h = cc
 of_caller_at P each (suc (suc b)) k i h = cc
 
@@ -330,7 +320,7 @@ divides q r a d e =
 
 caller_division : DivisionApart caller
 caller_division zero k q r a d h =
-    at Divides caller_code ((λ q r a d e. cc), ((λ q r a d e. cc), (divides, ((λ q r a d e. cc), ((λ q r a d e. cc), ((λ q r a d e. cc), ((λ q r a d e. cc), tt))))))) k (DivMod q r a d) h q r a d refl
+    each_at Divides caller_code ((λ q r a d e. cc), ((λ q r a d e. cc), (divides, ((λ q r a d e. cc), ((λ q r a d e. cc), ((λ q r a d e. cc), ((λ q r a d e. cc), tt))))))) k (DivMod q r a d) h q r a d refl
 caller_division (suc zero) k q r a d h = cc
 caller_division (suc (suc b)) k q r a d h = cc
 
@@ -370,13 +360,13 @@ NoCell j = (v i : ℕ) → NamesCell j i → slice_get caller.vars v ≢ Some (P
 
 caller_arguments : ArgumentsApart caller.vars caller.blocks
 caller_arguments = record {
-  params = λ v w i h g. absurd (at (λ v kind. kind ≡ Param i → ⊥) caller.vars ((λ e. cc), ((λ e. cc), ((λ e. cc), ((λ e. cc), tt)))) v (Param i) h refl);
+  params = λ v w i h g. absurd (each_at (λ v kind. kind ≡ Param i → ⊥) caller.vars ((λ e. cc), ((λ e. cc), ((λ e. cc), ((λ e. cc), tt)))) v (Param i) h refl);
   cells = of_caller NoCell ((λ v i c. cc), ((λ v i c. cc), ((λ v i c. cc), ((λ v i c. cc), ((λ v i c. cc), ((λ v i c. cc), ((λ v i c. cc), tt)))))));
 }
 
 called_arguments : ArgumentsApart called.vars called.blocks
 called_arguments = record {
-  params = λ v w i h g. at (λ v kind. slice_get called.vars w ≡ Some kind → v ≡ w) called.vars ((λ e. first w e), tt) v (Param i) h g;
+  params = λ v w i h g. each_at (λ v kind. slice_get called.vars w ≡ Some kind → v ≡ w) called.vars ((λ e. first w e), tt) v (Param i) h g;
   cells = of_called (λ j. (v i : ℕ) → NamesCell j i → slice_get called.vars v ≢ Some (Param i));
 }
   where
@@ -422,8 +412,8 @@ called_is = record {
 
 pub sample_is : AreValid sample
 sample_is = record {
-  each = λ p code h. at (λ p code. IsValid code) sample (caller_is, (called_is, tt)) p code h;
-  pushes_before_calls = λ p code h. at (λ p (code : VProc). PushesBeforeCalls (TakesArgs (counts_of sample)) code.blocks) sample
+  each = λ p code h. each_at (λ p code. IsValid code) sample (caller_is, (called_is, tt)) p code h;
+  pushes_before_calls = λ p code h. each_at (λ p (code : VProc). PushesBeforeCalls (TakesArgs (counts_of sample)) code.blocks) sample
       (caller_pushes (TakesArgs (counts_of sample)) refl, (called_pushes (TakesArgs (counts_of sample)), tt)) p code h;
   body = refl;
 }

@@ -2,6 +2,7 @@
 -- order of the operand table, it is an action, or stuck.
 use Rattle.std.specs.Prelude.{ℕ, ◌+◌, ◌*◌, ◌^◌, ◌%◌, if◌then◌else◌, List, slice_index_or, Option}
 use Rattle.std.specs.Prelude.{Some, None, bit_and, bit_or, bit_xor}
+use Rattle.pra_list.specs.Options.{◌>>=◌}
 use Rattle.pra_base.specs.declared.event.TrapKind.TheVariants.{Index, Divide}
 use Rattle.pra_base.specs.declared.event.OutEvent.TheVariants as event
 use Rattle.pra_base.specs.declared.ids.VarId.{VarId}
@@ -26,7 +27,6 @@ use Rattle.vc_code.specs.declared.action.Action.TheVariants.{Nothing, Give, Give
 use Rattle.vc_code.specs.declared.action.Action.TheVariants.{Input, Trap}
 use Rattle.vc_code.specs.declared.action.Action.TheVariants as action
 use Rattle.vc_code.specs.Value.{Held, is_index}
-use Rattle.pra_list.specs.Options.{◌>>=◌}
 
 -- ---- what is read: None where there is nothing, or the wrong kind of value
 
