@@ -5,11 +5,11 @@ ghost use Rattle.ob_mean.specs.Expressions.{value, selector, location};
 ghost use Rattle.ob_sketch.specs.Running.{store_of, followed};
 
 use crate::memory::content;
-use crate::operators::{invert, is_true, negate, number, operate};
 use crate::place::{element, field_type, root_location, root_type, running_proc, start_of};
 use crate::running::{Followed, Running};
 use ob_mean::Location;
 use ob_syntax::{Checked, RExpr, ROp, RStep, RVar, Value};
+use ob_values::{invert, is_true, negate, number, operate};
 use pra_base::TrapKind;
 use std::alloc::{AllocError, Global};
 

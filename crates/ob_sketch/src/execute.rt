@@ -9,11 +9,11 @@ ghost use Rattle.ob_sketch.specs.Running.{whiling, repeating, calling};
 
 use crate::enter::{arguments, begin, passes};
 use crate::evaluate::evaluate;
-use crate::operators::is_true;
 use crate::running::{Finish, Running, Setting};
 use crate::simple::{assign, read, write, write_line};
 use ob_mean::Argument;
 use ob_syntax::{Checked, RArg, RArm, RExpr, RStmt};
+use ob_values::is_true;
 use pra_base::TrapKind;
 use std::alloc::AllocError;
 

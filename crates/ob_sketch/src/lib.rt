@@ -15,7 +15,6 @@ pub mod evaluate;
 pub mod execute;
 pub mod memory;
 pub mod module;
-pub mod operators;
 pub mod place;
 pub mod running;
 pub mod simple;

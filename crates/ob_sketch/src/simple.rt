@@ -8,9 +8,9 @@ ghost use Rattle.ob_sketch.specs.Running.{assigning, reading, writing, ending_li
 
 use crate::evaluate::{evaluate, locate};
 use crate::memory::Change;
-use crate::operators::number;
 use crate::running::{Finish, Running, Setting};
 use ob_syntax::{RExpr, RVar, Value};
+use ob_values::number;
 use pra_base::{OutEvent, TrapKind};
 use pra_list::Seq;
 use std::alloc::AllocError;

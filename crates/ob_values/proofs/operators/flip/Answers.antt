@@ -5,7 +5,7 @@ use Rattle.std.specs.Int.RustNames.{FitsSigned}
 use Rattle.std.proofs.lemmas.Int.{ints, wrapping_sub_is}
 use Rattle.std.proofs.Math.IntN.{+ℤ_idl}
 use Rattle.ob_syntax.specs.Operators.{wrapped}
-use Rattle.ob_sketch.proofs.operators.flip.Goals as goal
+use Rattle.ob_values.proofs.operators.flip.Goals as goal
 
 zero_fits : FitsSigned w32 (pos 0)
 zero_fits = omega (arith, ints)

@@ -1,5 +1,3 @@
-// What operators give on values.
-
 ghost use Rattle.std.specs.Prelude.{◌≡◌, pos, ◌+ℤ◌, ◌-ℤ◌, neg_ℤ, ◌<ℤ◌};
 ghost use Rattle.pra_base.specs.Words.{floored_quotient, floored_remainder};
 ghost use Rattle.ob_syntax.specs.Operators.{number as number_of, is_true as is_true_value};
@@ -8,6 +6,7 @@ ghost use Rattle.ob_syntax.specs.Operators.{wrapped, negated, inverted, on_numbe
 use ob_syntax::{ROp, Value};
 use pra_base::TrapKind;
 
+/// The number of a value: 1 for TRUE, 0 for FALSE.
 pub fn number(value: Value) -> i32
     ensures { result ≡ number_of value }
 {
@@ -18,6 +17,7 @@ pub fn number(value: Value) -> i32
     }
 }
 
+/// Whether a value is not 0.
 pub fn is_true(value: Value) -> bool
     ensures { result ≡ is_true_value value }
 {
@@ -42,12 +42,14 @@ fn flip(x: i32) -> i32
     0i32.wrapping_sub(x)
 }
 
+/// The sign `-`: the number of 32 bits that equals the negative modulo 2^32.
 pub fn negate(value: Value) -> Value
     ensures { result ≡ negated value }
 {
     Value::Number(flip(number(value)))
 }
 
+/// `~`.
 pub fn invert(value: Value) -> Value
     ensures { result ≡ inverted value }
 {
@@ -76,7 +78,7 @@ fn remainder(x: i32, y: i32) -> i32
     }
 }
 
-/// The operator on two numbers.
+/// The operator on two numbers. DIV and MOD by what is not positive trap.
 pub fn operate(op: ROp, x: i32, y: i32) -> Result<Value, TrapKind>
     ensures { result ≡ on_numbers op x y }
 {
