@@ -1,0 +1,3 @@
+pub mod Excesses
+pub mod Marks
+pub mod Readings

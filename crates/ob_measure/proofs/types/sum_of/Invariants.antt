@@ -1,0 +1,9 @@
+-- What is counted and the words of what is left are the words of all.
+use Rattle.std.proofs.Common.{◌≡◌, ◌+◌, drop, map}
+use Rattle.std.specs.Prelude.{sum, slice_index}
+use Rattle.ob_measure.proofs.types.sum_of.Given as goal
+
+abbrev pub invariant-loop-type_id : goal.invariant-loop-type_id
+invariant-loop-type_id l =
+    l.total + sum (map (slice_index l.words) (drop l.type_id-index l.type_ids))
+    ≡ sum (map (slice_index l.words) l.type_ids)
