@@ -1,5 +1,6 @@
 -- The calls of an object in memory, numbered from 1, some of which are to fail.
-use Rattle.std.specs.Prelude.{◌≡◌, ◌+◌, ◌-◌, ◌^◌, ℕ, min, Contains, Result, Ok, Err, Vec, MatchResult}
+use Rattle.std.specs.Prelude.{◌≡◌, ◌+◌, ◌-◌, ◌^◌, ℕ, min, Contains, Result, Ok, Err, Vec}
+use Rattle.std.specs.Prelude.{MatchResult}
 use Rattle.std.specs.declared.alloc.Global.{Global}
 use Rattle.pra_io.specs.declared.calls.Calls.{Calls}
 use Rattle.pra_io.specs.declared.files.FileFault.{FileFault}

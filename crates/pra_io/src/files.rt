@@ -8,7 +8,7 @@ ghost use Rattle.pra_io.specs.Contents.{Holds, IsLonger, Becomes};
 
 use crate::streams;
 use pra_base::OutOfMemory;
-use std::alloc::{AllocError, AllocFailed, Global};
+use std::alloc::Global;
 
 /// Why a file was not read or written.
 #[derive(Clone, Copy, Debug, PartialEq, Eq)]
@@ -33,22 +33,6 @@ impl From<OutOfMemory> for FileFault {
     ghost from_gives = { λ _ fault. fault ≡ OutOfMemory };
 
     fn from(_: OutOfMemory) -> Self {
-        FileFault::OutOfMemory
-    }
-}
-
-impl From<AllocError> for FileFault {
-    ghost from_gives = { λ _ fault. fault ≡ OutOfMemory };
-
-    fn from(_: AllocError) -> Self {
-        FileFault::OutOfMemory
-    }
-}
-
-impl<T: Drop> From<AllocFailed<T>> for FileFault {
-    ghost from_gives = { λ _ fault. fault ≡ OutOfMemory };
-
-    fn from(_: AllocFailed<T>) -> Self {
         FileFault::OutOfMemory
     }
 }

@@ -11,7 +11,8 @@ ghost use Rattle.pra_io.specs.Host.{untold, CountsFault, CountsFileFault};
 
 use crate::calls::one_more;
 use crate::files::{FileFault, Folder};
-use crate::streams::{Failed, Sink, Source};
+use crate::streams::{Failed, Sink, Source, append};
+use pra_base::OutOfMemory;
 use std::alloc::Global;
 use std::fs;
 use std::fs::OpenFile;
@@ -187,7 +188,7 @@ fn read_whole<R: Read>(alloc: Global, reader: &mut R, max: usize) -> Result<Vec<
         match read_some(reader, &mut piece)? {
             0 => return Ok(all),
             count if count > max - all.len() => return Err(FileFault::TooLong),
-            count => all.extend_from_slice(&piece[..count])?,
+            count => append(&mut all, &piece[..count])?,
         }
     }
     Err(FileFault::Failed)
@@ -232,6 +233,12 @@ fn read_named<R: Files>(
     }
 }
 
+// One file more was read.
+fn remember(read: &mut Vec<FileId>, id: FileId) -> Result<(), OutOfMemory> {
+    read.push(id)?;
+    Ok(())
+}
+
 // Whether the name stands for a file that was read.
 fn was_read<R: Files>(rt: &R, read: &[FileId], name: &str) -> bool {
     match fs::metadata(rt, name) {
@@ -272,7 +279,7 @@ impl<'a, R: Files> Folder for HostFolder<'a, R> {
     {
         match read_named(self.rt, alloc, name, max) {
             Ok((id, bytes)) => {
-                self.read.push(id)?;
+                remember(&mut self.read, id)?;
                 Ok(bytes)
             }
             Err(FileFault::Failed) => {

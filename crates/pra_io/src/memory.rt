@@ -1,7 +1,9 @@
 // A folder, a source and a sink in memory, which fail at listed calls.
 
 ghost use Rattle.std.specs.Option.{option_copied};
-ghost use Rattle.std.specs.Prelude.{◌⊎◌, ◌↔◌, ◌-◌, min, IsErr, IsErrOf, ◌≡◌, ◌≢◌, List, IfErr, ◌≤◌, ◌<◌, ℕ, [], None, Some, vec_len, vec_capacity, length, take, drop, OnOk, IfOk, IsSomeAnd, string_bytes};
+ghost use Rattle.std.specs.Prelude.{◌⊎◌, ◌↔◌, ◌-◌, min, IsErr, IsErrOf, ◌≡◌, ◌≢◌, List, OnErr, ◌≤◌};
+ghost use Rattle.std.specs.Prelude.{◌<◌, ℕ, [], None, Some, vec_len, vec_capacity, length, take};
+ghost use Rattle.std.specs.Prelude.{drop, OnOk, IfOk, IsSomeAnd, string_bytes};
 ghost use Rattle.std.specs.Io.{ReadsAtMost, WritesAtMost};
 ghost use Rattle.std.specs.Io.KnownBytes.{ReadConsumes, WriteAppends};
 ghost use Rattle.pra_io.specs.Calls.{no_calls, FailsNext, Counts, CountsFile};
@@ -37,16 +39,22 @@ pub(crate) fn put_first(
     files: &mut Vec<Entry>,
     name: &str,
     bytes: &[u8],
-) -> Result<(), FileFault>
+) -> Result<(), OutOfMemory>
     ensures ok { OnOk result (held_at name.now files.new.items ≡ Some bytes.now) }
     ensures others { (n : List ℕ) → n ≢ name.now →
         held_at n files.new.items ≡ held_at n files.old.items }
-    ensures err { IfErr result (λ e. (e ≡ FileFault.OutOfMemory) ×
-        (files.new.items ≡ files.old.items)) }
+    ensures err { OnErr result (files.new.items ≡ files.old.items) }
 {
     let entry = (String::from_str(alloc, name)?, bytes.to_vec(alloc)?);
     files.insert(0, entry)?;
     Ok(())
+}
+
+/// A copy of the bytes.
+pub(crate) fn copied(alloc: Global, bytes: &[u8]) -> Result<Vec<u8>, OutOfMemory>
+    ensures { IfOk result (λ v. v.items ≡ bytes.now) }
+{
+    Ok(bytes.to_vec(alloc)?)
 }
 
 /// A folder in memory.
@@ -120,7 +128,7 @@ impl Folder for MemFolder {
         self.calls.begin()?;
         match find(&self.files, name) {
             Some(bytes) if bytes.len() > max => Err(FileFault::TooLong),
-            Some(bytes) => Ok(bytes.to_vec(alloc)?),
+            Some(bytes) => Ok(copied(alloc, bytes)?),
             None => Err(self.calls.fail().into()),
         }
     }
@@ -142,7 +150,7 @@ impl Folder for MemFolder {
         ensures counted { CountsFile (folder_calls self.old) (folder_calls self.new) result }
     {
         self.calls.begin()?;
-        put_first(alloc, &mut self.files, name, bytes)
+        Ok(put_first(alloc, &mut self.files, name, bytes)?)
     }
 }
 

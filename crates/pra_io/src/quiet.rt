@@ -1,9 +1,10 @@
 // A folder, a source and a sink that never fail.
 
-ghost use Rattle.std.specs.Prelude.{◌≡◌, ◌≤◌, ◌+◌, ◌-◌, ◌^◌, ℕ, List, None, Some, Ok, min, vec_len, length};
+ghost use Rattle.std.specs.Prelude.{◌≡◌, ◌≤◌, ◌+◌, ◌-◌, ◌^◌, ℕ, List, None, Some, Ok, min, vec_len};
+ghost use Rattle.std.specs.Prelude.{length};
 
 use crate::files::{FileFault, Folder};
-use crate::memory::{Entry, copy_front, find, put_first};
+use crate::memory::{Entry, copied, copy_front, find, put_first};
 use crate::streams::{Failed, Sink, Source};
 use std::alloc::Global;
 
@@ -52,11 +53,11 @@ impl Folder for QuietFolder {
         if bytes.len() > max {
             return Err(FileFault::TooLong);
         }
-        Ok(bytes.to_vec(alloc)?)
+        Ok(copied(alloc, bytes)?)
     }
 
     fn write_file(&mut self, alloc: Global, name: &str, bytes: &[u8]) -> Result<(), FileFault> {
-        put_first(alloc, &mut self.written, name, bytes)
+        Ok(put_first(alloc, &mut self.written, name, bytes)?)
     }
 }
 

@@ -1,6 +1,7 @@
 // Bytes to be taken, and a place for bytes, piece by piece.
 
-ghost use Rattle.std.specs.Prelude.{◌≡◌, ◌⊎◌, ◌≤◌, ◌+◌, ℕ, List, [], vec_len, IsSome, IfOk, OnOk, OnErr, IsErrOf};
+ghost use Rattle.std.specs.Prelude.{◌≡◌, ◌⊎◌, ◌≤◌, ◌+◌, ◌++◌, ℕ, List, [], vec_len, IsSome, IfOk};
+ghost use Rattle.std.specs.Prelude.{OnOk, OnErr, IsErrOf};
 ghost use Rattle.std.specs.declared.option.Option.{Option};
 ghost use Rattle.std.specs.Io.{ReadsAtMost, WritesAtMost};
 ghost use Rattle.std.specs.Io.KnownBytes.{ReadConsumes, WriteAppends, Appends, Consumes, IsAtEnd};
@@ -9,7 +10,7 @@ ghost use Rattle.pra_io.specs.Causes.{Rose, HasCause};
 ghost use Rattle.pra_io.specs.Contents.{IsAllOf, Takes, TakesAtMost, AppendsFront, most_read};
 
 use pra_base::OutOfMemory;
-use std::alloc::{AllocError, AllocFailed, Global};
+use std::alloc::Global;
 
 /// A source, a sink or a folder failed, and counts that as a fault.
 #[derive(Clone, Copy, Debug, PartialEq, Eq)]
@@ -93,22 +94,6 @@ impl From<OutOfMemory> for ReadAll {
     }
 }
 
-impl From<AllocError> for ReadAll {
-    ghost from_gives = { λ _ fault. fault ≡ OutOfMemory };
-
-    fn from(_: AllocError) -> Self {
-        ReadAll::OutOfMemory
-    }
-}
-
-impl<T: Drop> From<AllocFailed<T>> for ReadAll {
-    ghost from_gives = { λ _ fault. fault ≡ OutOfMemory };
-
-    fn from(_: AllocFailed<T>) -> Self {
-        ReadAll::OutOfMemory
-    }
-}
-
 /// The most that one call of `read_all` may be asked for: 64 MiB.
 pub const LONGEST_READ: usize = 67_108_864;
 
@@ -119,6 +104,14 @@ pub fn longest_read()
 
 /// How many bytes `read_all` asks for at a time.
 const PIECE: usize = 4096;
+
+/// Puts a piece behind the bytes.
+pub(crate) fn append(all: &mut Vec<u8>, piece: &[u8]) -> Result<(), OutOfMemory>
+    ensures { OnOk result (all.new.items ≡ all.old.items ++ piece.now) }
+{
+    all.extend_from_slice(piece)?;
+    Ok(())
+}
 
 /// All the bytes that are left, of which there are at most `max`.
 ///
@@ -157,7 +150,7 @@ pub fn read_all<I: Source>(alloc: Global, source: &mut I, max: usize) -> Result<
         let room = (max + 1 - all.len()).min(PIECE);
         match source.take(&mut piece[..room])? {
             0 => return Ok(all),
-            count => all.extend_from_slice(&piece[..count])?,
+            count => append(&mut all, &piece[..count])?,
         }
     }
     Err(ReadAll::TooLong)
