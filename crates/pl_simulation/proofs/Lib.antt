@@ -1,0 +1,11 @@
+pub mod Applied
+pub mod Carried
+pub mod Cells
+pub mod Coupled
+pub mod Located
+pub mod Moved
+pub mod Pushed
+pub mod SampleCorresponds
+pub mod Simulated
+pub mod Tracked
+pub mod Words
