@@ -1,6 +1,7 @@
 -- A list of moves brings the values from their places in one allocation to those in another.
 use Rattle.std.proofs.Common.{◌≡◌, ℕ, ⊎_elim, Bool, true, false, if◌then◌else◌, List, [], ◌∷◌, ◌++◌, length, map, slice_index_or, Option, Some, None, refl, sym, ap, subst, ◌∙◌}
 use Rattle.pra_list.proofs.Options.{some_same}
+use Rattle.pra_list.specs.Options.{◌>>=◌}
 use Rattle.pra_base.specs.System.{run}
 use Rattle.pra_base.specs.Places.{number}
 use Rattle.pra_base.specs.declared.ids.Place.TheVariants.{Const}
@@ -12,7 +13,7 @@ use Rattle.vc_code.specs.Selected.{Vars, read, valued}
 use Rattle.pl_moves.specs.declared.transfer.Move.{Move}
 use Rattle.pl_moves.specs.declared.transfer.Move.TheVariants.{Copy, Swap, Load, Store, Set}
 use Rattle.pl_moves.specs.declared.transfer.Pair.{Pair}
-use Rattle.pl_moves.specs.Meaning.{◌>>=◌, Cell, Register, Memory, Fixed, same_cell, reg, with_cell, copied, exchanged, moved}
+use Rattle.pl_moves.specs.Meaning.{Cell, Register, Memory, Fixed, same_cell, reg, with_cell, copied, exchanged, moved}
 use Rattle.pl_moves.specs.Assignment.{source}
 use Rattle.pl_moves.proofs.Shifts.{shifted, all_shifted, all_moved-everywhere}
 use Rattle.pl_place.specs.declared.placed.LInstr.{LInstr}

@@ -1,6 +1,7 @@
 -- At a Call of valid code so many pushes stand as the procedure has parameters.
 use Rattle.std.proofs.Common.{◌≡◌, ℕ, zero, suc, ◌/◌, ℤ, Bool, true, false, ◌&&◌, nat_eq, nat_lt, if◌then◌else◌, List, [], ◌∷◌, length, map, drop, slice_get, slice_set, Option, Some, None, refl, sym, ap, subst}
 use Rattle.pra_list.proofs.Options.{some_same}
+use Rattle.pra_list.specs.Options.{◌>>=◌}
 use Rattle.pra_base.specs.RunEnd.{RunEnd}
 use Rattle.pra_base.specs.Words.{stack_limit, word, compares, is_positive}
 use Rattle.pra_base.specs.declared.ids.Cond.{Cond}
@@ -21,7 +22,7 @@ use Rattle.vc_code.specs.declared.action.Here.{Here}
 use Rattle.vc_code.specs.declared.action.Action.{Action}
 use Rattle.vc_code.specs.declared.action.Action.TheVariants as action
 use Rattle.vc_code.specs.Value.{Held, Words, is_index}
-use Rattle.vc_code.specs.Operation.{◌>>=◌, operate, both, number_at, value_at, placed, address_count, number}
+use Rattle.vc_code.specs.Operation.{operate, both, number_at, value_at, placed, address_count, number}
 use Rattle.vc_code.specs.Machine.{Shape, Activation, State, Machine, here, depth, word_at, object, joined, with_aggregates, with_args, calls_with, with_calls, with_object, found, with_top, returned, takes, apply, goes_to, branched, leave, act, act_on, step, last_set}
 use Rattle.vc_code.specs.Selected.{Vars, read, at_point, behind, written, selected, next_of, put_all}
 use Rattle.vc_code.specs.Selected as high
