@@ -1,10 +1,13 @@
 -- What the functions of the checker promise.
-use Rattle.std.specs.Prelude.{◌≡◌, ◌≢◌, ℕ, List, Vec, Result, Ok, Err, MatchResult}
+use Rattle.std.specs.Prelude.{◌≡◌, ◌≢◌, ◌++◌, ℕ, List, Vec, Result, Ok, Err, MatchResult}
 use Rattle.std.specs.declared.alloc.Global.{Global}
+use Rattle.ob_syntax.specs.declared.checked.Draft.{Draft}
+use Rattle.ob_syntax.specs.Declarations.{Declared, Reading as KnownModule}
 use Rattle.ob_syntax.specs.Names.{Fault, Judged, Place as Known}
 use Rattle.ob_syntax.specs.Source.{Name}
 use Rattle.ob_syntax.specs.Types.{Fields}
 use Rattle.ob_check.specs.declared.place.Place.{Place}
+use Rattle.ob_check.specs.declared.reading.Reading.{Reading}
 use Rattle.ob_check.specs.declared.refusal.Refusal.{Refusal}
 use Rattle.ob_check.specs.declared.refusal.Refusal.TheVariants.{Broken, OutOfMemory}
 
@@ -50,3 +53,24 @@ Moves judged answer new = Widens judged answer (known_at new)
 abbrev pub GivesItems : {A : Type 0} → Judged (Known × List A) → Result (Vec A Global) Refusal → Place → Type 0
 GivesItems judged answer new =
     MatchResult answer (λ xs. judged ≡ Ok (known_at new, xs.items)) (λ r. r ≢ OutOfMemory → judged ≡ Err (told r))
+
+-- the same, for declarations, whose procedures come behind those before
+abbrev pub Declares : Judged Declared → List Draft → Result (List ℕ) Refusal → Known → List Draft → Type 0
+Declares judged before answer place procs =
+    MatchResult answer
+    (λ vars. (more : List Draft) × (judged ≡ Ok (record { place = place; vars = vars; procs = more })) × (procs ≡ before ++ more))
+    (λ r. r ≢ OutOfMemory → judged ≡ Err (told r))
+
+-- the same, for a procedure, which comes with those that it declares behind those before
+abbrev pub Drafts : {B : Type 0} → Judged (Known × List Draft) → List Draft → Result B Refusal → Known → List Draft → Type 0
+Drafts judged before answer place procs =
+    MatchResult answer
+    (λ _. (more : List Draft) × (judged ≡ Ok (place, more)) × (procs ≡ before ++ more))
+    (λ r. r ≢ OutOfMemory → judged ≡ Err (told r))
+
+-- the same, for a whole module
+abbrev pub Reads : Judged KnownModule → Result Reading Refusal → Type 0
+Reads judged answer =
+    MatchResult answer
+    (λ r. judged ≡ Ok (record { place = known_at r.place; vars = r.vars; procs = r.procs.items }))
+    (λ r. r ≢ OutOfMemory → judged ≡ Err (told r))

@@ -1,4 +1,4 @@
-use Rattle.std.proofs.Common.{◌≡◌, [], drop}
+use Rattle.std.proofs.Common.{◌≡◌, drop}
 use Rattle.ob_syntax.specs.Declarations.{all_constants}
 use Rattle.ob_check.specs.Judging.{known_at}
 use Rattle.ob_check.proofs.declaration.constants.Given as goal

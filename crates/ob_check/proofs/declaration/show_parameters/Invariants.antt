@@ -1,4 +1,4 @@
-use Rattle.std.proofs.Common.{◌≡◌, [], drop}
+use Rattle.std.proofs.Common.{◌≡◌, drop}
 use Rattle.ob_syntax.specs.Declarations.{with_parameters}
 use Rattle.ob_check.specs.Judging.{known_at}
 use Rattle.ob_check.proofs.declaration.show_parameters.Given as goal
