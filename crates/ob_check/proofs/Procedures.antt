@@ -9,7 +9,7 @@ use Rattle.ob_syntax.specs.declared.tree.Decls.{Decls, out-Decls, fold_out-Decls
 use Rattle.ob_syntax.specs.declared.tree.Proc.{Proc, out-Proc, fold_out-Proc}
 use Rattle.ob_syntax.specs.Declarations.{DeclsResult, ProcResult, all_constants, all_type_declarations, all_variables, all_procedures, closed, decls_step, declarations, drafted, heading, left, nodes_of, proc_step, procedure, with_nodes}
 use Rattle.ob_syntax.specs.Names.{Fault, Place}
-use Rattle.ob_syntax.specs.Operators.{◌>>=◌}
+use Rattle.pra_list.specs.Results.{◌>>=◌}
 use Rattle.ob_syntax.specs.Statements.{each, statement}
 
 -- the constants, types and variables of declarations are read, and these are the procedures

@@ -6,10 +6,10 @@ ghost use Rattle.ob_syntax.specs.Types.{worth as worth_of, worth_of_one, worth_o
 ghost use Rattle.ob_check.specs.Judging.{known_at, Answers};
 
 use crate::expression::expression;
-use crate::operators::{invert, is_true, negate, number, operate};
 use crate::place::Place;
 use crate::refusal::Refusal;
 use ob_syntax::{Expr, RExpr, ROp, Value};
+use ob_values::{invert, is_true, negate, number, operate};
 use pra_base::TrapKind;
 
 /// An operator on what its sides give, the left one first.

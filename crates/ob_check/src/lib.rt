@@ -10,7 +10,6 @@ mod constant;
 mod declaration;
 mod expression;
 mod node;
-mod operators;
 mod place;
 mod procedure;
 mod reading;
