@@ -1,24 +1,27 @@
 -- The network of sized code is formed.
-use Rattle.std.proofs.Common.{ℕ, zero, suc, ◌≡◌, ◌+◌, ◌-◌, ◌*◌, ◌^◌, ◌<◌, ◌≤◌, Bool, true, cond, List, [], ◌∷◌, length, All, map, sum_by, refl, sym, ap, ◌∙◌, subst, arith}
-use Rattle.std.specs.Prelude.{slice_index_or}
-use Rattle.std.specs.List.{range_with_len, prefix_len, enumerate_from}
+use Rattle.std.proofs.Common.{ℕ, zero, suc, ◌≡◌, ◌+◌, ◌-◌, ◌*◌, ◌^◌, ◌<◌, ◌≤◌, Bool, true, cond, List, [], ◌∷◌, length, get_or, All, map, sum_by, refl, sym, ap, ◌∙◌, subst, arith}
+use Rattle.std.specs.Prelude.{slice_index_or, if◌then◌else◌, Option, Some, None, IfSome}
+use Rattle.std.specs.List.{range_with_len, prefix_len, filter_map, enumerate_from}
 use Rattle.std.proofs.lemmas.Bool.{and_parts}
 use Rattle.std.proofs.lemmas.List.{get_or-map, length-map}
-use Rattle.std.proofs.lemmas.List.Elements.{All-map, All-from_get_or, All-weaker}
+use Rattle.std.proofs.lemmas.List.Elements.{All-nil, All-cons, All-map, All-from_get_or, All-weaker}
 use Rattle.std.proofs.lemmas.List.FromFn.{length-map-range_with_len, length-range_with_len, fill_by_all, length-enumerate_from}
 use Rattle.std.proofs.lemmas.Nat.{mul-le}
 use Rattle.std.proofs.lemmas.List.Sums.{prefix_len-le-length, sum_by-cons}
+use Rattle.pra_base.specs.declared.code.VInstr.{VInstr}
 use Rattle.pra_base.specs.declared.code.Block.{Block}
 use Rattle.pra_base.specs.declared.code.VProc.{VProc}
-use Rattle.pra_base.specs.Code.{block_of, no_block as no_code}
+use Rattle.pra_base.specs.Code.{block_of, code_of, no_block as no_code}
 use Rattle.pra_base.specs.Valid.{IsSized, instruction_count}
 use Rattle.net_form.specs.declared.net.NetBlock.{NetBlock}
 use Rattle.net_form.specs.declared.net.Strand.{Strand}
+use Rattle.net_form.specs.declared.net.MemPair.{MemPair}
 use Rattle.net_form.specs.declared.net.Tie.{Tie}
 use Rattle.net_form.specs.declared.net.Net.{Net}
 use Rattle.net_form.specs.Tables.{PlaceTables}
 use Rattle.net_form.specs.Strands.{Lives, layer_count, is_present, begins, run_from, mask_at, strand, begun_strand, layer_strands, block_strands, strands, layers_of}
-use Rattle.net_form.specs.Network.{net_block, ties, grouped, IsNetBy}
+use Rattle.net_form.specs.Network.{net_block, ties, ties_from, is_joined, pairs, pair_of, marked, grouped, IsNetBy}
+use Rattle.net_form.specs.Admitted.{no_strand}
 use Rattle.net_form.specs.Formed.{IsStrandOf, IsFormed, no_block}
 use Rattle.net_form.specs.Rooms.{layer_total}
 use Rattle.pra_list.proofs.Comprehensions.{All-filter_map, All-flat_map, All-range, All-enumerate, IfSome-test, length-filter_map, length-flat_map, sum_by-map, ones}
@@ -109,6 +112,39 @@ module _ (tables : PlaceTables) (code : VProc) (live : Lives) where
       let few = mul-le (length code.vars) (sum_by (layer_count code) (range_with_len 0 (length code.blocks))) 16383 24838 sized.variables (omega (arith, total, a, b)) in
       omega (arith, most, few)
 
+-- an instruction has one memory pair at most
+few_pairs : (tables : PlaceTables) (code : VProc) (ss : List Strand) → length (pairs tables code ss) ≤ instruction_count code.blocks
+few_pairs tables code ss =
+    let of_block : ℕ → List MemPair = λ b. filter_map (λ i. pair_of ss b (marked i.0 (tables.row i.1))) (enumerate_from 0 (code_of code b)) in
+    let few = length-flat_map of_block (λ b. length (code_of code b)) 1 (range_with_len 0 (length code.blocks)) (λ b.
+    let most = length-filter_map (λ (i : ℕ × VInstr). pair_of ss b (marked i.0 (tables.row i.1))) (enumerate_from 0 (code_of code b)) in
+    let long = length-enumerate_from 0 (code_of code b) in
+    omega (arith, most, long)) in
+    let same = sym (sum_by-map (λ (k : Block). length k.code) (block_of code) (range_with_len 0 (length code.blocks)))
+    ∙ sym (ap (sum_by (λ (k : Block). length k.code)) (fill_by_all (block_of code) code.blocks (length code.blocks) no_code refl (λ k _. refl))) in
+    omega (arith, few, same)
+
+abbrev tie_between : VProc → (ℕ × Strand) → (ℕ × Strand) → Option Tie
+tie_between code s t = if is_joined code s.1 t.1 then Some (record { from = s.0; to = t.0 }) else None
+
+-- the numbers of an enumeration
+All-numbers : {X : Type 0} → (n : ℕ) (xs : List X) → All (λ (x : ℕ × X). x.0 < n + length xs) (enumerate_from n xs)
+All-numbers n [] = All-nil _
+All-numbers {X} n (x ∷ xs) =
+    All-cons (λ (y : ℕ × X). y.0 < n + suc (length xs)) (n, x) (enumerate_from (n + 1) xs) (omega arith)
+    (All-weaker (λ (y : ℕ × X). y.0 < (n + 1) + length xs) (λ (y : ℕ × X). y.0 < n + suc (length xs)) (λ y lt. omega (arith, lt)) _
+    (All-numbers (n + 1) xs))
+
+-- a tie goes from a strand
+ties_within : (code : VProc) (ss : List Strand) → All (λ t. t.from < length ss) (ties code ss)
+ties_within code ss = All-flat_map (λ (t : Tie). t.from < length ss) (ties_from code ss) (enumerate_from 0 ss)
+    (All-weaker (λ (s : ℕ × Strand). s.0 < 0 + length ss) (λ (s : ℕ × Strand). All (λ (t : Tie). t.from < length ss) (ties_from code ss s))
+    (λ s lt. All-filter_map (λ (t : Tie). t.from < length ss) (tie_between code s) (enumerate_from 0 ss)
+    (All-from_get_or (λ x. IfSome (tie_between code s x) (λ (t : Tie). t.from < length ss)) (enumerate_from 0 ss) (0, no_strand) (λ i _.
+    let x = get_or (enumerate_from 0 ss) i (0, no_strand) in
+    IfSome-test (λ (t : Tie). t.from < length ss) (is_joined code s.1 x.1) (record { from = s.0; to = x.0 }) (λ _. omega (arith, lt)))))
+    (enumerate_from 0 ss) (All-numbers 0 ss))
+
 pub formed : (tables : PlaceTables) (code : VProc) (net : Net) → IsNetBy tables code net → IsSized code → IsFormed net
 unfolding blocks
 formed tables code net is sized = subst IsFormed (sym is.is) (record {
@@ -120,5 +156,15 @@ formed tables code net is sized = subst IsFormed (sym is.is) (record {
   layers = let total = total_layers code.blocks in let a = sized.instructions in let b = sized.blocks in omega (arith, total, a, b);
   depths = All-map (λ (k : NetBlock). k.depth ≤ 5) net_block code.blocks
       (All-from_get_or (λ (k : Block). k.depth ≤ 5) code.blocks no_code (λ i _. sized.depths i));
-  first_layers = refl;
+  pairs =
+      let few = few_pairs tables code (strands tables code is.live) in
+      let a = sized.instructions in
+      omega (arith, few, a);
+  ties =
+      let same = length-map (enumerate_from 0 (strands tables code is.live)) (grouped (ties code (strands tables code is.live)) is.least) in
+      let long = length-enumerate_from 0 (strands tables code is.live) in
+      All-weaker (λ (t : Tie). t.from < length (strands tables code is.live))
+      (λ (t : Tie). t.from < length (map (grouped (ties code (strands tables code is.live)) is.least) (enumerate_from 0 (strands tables code is.live))))
+      (λ t lt. omega (arith, same, long, lt)) _ (ties_within code (strands tables code is.live));
+  index = refl;
 })

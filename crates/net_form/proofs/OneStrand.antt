@@ -1,6 +1,5 @@
 -- One strand's edges, and those of the others.
-use Rattle.std.proofs.Common.{ℕ, zero, suc, ◌≡◌, ◌+◌, List, [], ◌∷◌, ◌++◌, slice_get, set, sum_by, IsPermutation, sym, ap, ◌∙◌, subst, arith, Some, None, append_assoc, is_some, unwrap_or}
-use Rattle.std.proofs.lemmas.Bool.{false≢true}
+use Rattle.std.proofs.Common.{ℕ, zero, suc, ◌≡◌, ◌+◌, List, [], ◌∷◌, ◌++◌, slice_get, set, sum_by, IsPermutation, sym, ap, ◌∙◌, subst, arith, Some, None, append_assoc, unwrap_or}
 use Rattle.std.proofs.lemmas.List.Sums.{sum_by-append}
 use Rattle.std.proofs.lemmas.List.Sorted.{IsPermutation-append_comm, IsPermutation-trans, IsPermutation-refl, IsPermutation-append_left, IsPermutation-append_right, sum_by-IsPermutation}
 use Rattle.pra_base.specs.declared.ids.Place.{Place}

@@ -1,10 +1,9 @@
 -- What every network of sized code is, as far as numbers go.
-use Rattle.std.specs.Prelude.{◌≡◌, ℕ, ◌+◌, ◌<◌, ◌≤◌, List, map, length, slice_index_or, All, ◌^◌}
-use Rattle.std.specs.List.{range_with_len}
+use Rattle.std.specs.Prelude.{◌≡◌, ℕ, ◌+◌, ◌<◌, ◌≤◌, List, length, slice_index_or, All, ◌^◌}
 use Rattle.net_form.specs.declared.net.NetBlock.{NetBlock}
 use Rattle.net_form.specs.declared.net.Strand.{Strand}
 use Rattle.net_form.specs.declared.net.Net.{Net}
-use Rattle.net_form.specs.Index.{first_layer}
+use Rattle.net_form.specs.Index.{index_of}
 use Rattle.net_form.specs.Rooms.{layer_total}
 
 -- where there is no block
@@ -30,4 +29,7 @@ pub record IsFormed (net : Net) : Type 0 where
   pub few : length net.strands < 2 ^ 32
   pub layers : layer_total net.blocks ≤ most_layers
   pub depths : All (λ b. b.depth ≤ most_depth) net.blocks
-  pub first_layers : net.index.layers ≡ map (first_layer net.blocks) (range_with_len 0 (length net.blocks + 1))
+  -- an instruction has one memory pair at most, and its layers are more
+  pub pairs : length net.pairs ≤ most_layers
+  pub ties : All (λ t. t.from < length net.strands) net.ties
+  pub index : net.index ≡ index_of net.blocks net.strands net.extras net.pairs net.ties

@@ -1,5 +1,5 @@
 -- What is empty: nothing in use, prices of nothing, and how large they are.
-use Rattle.std.specs.Prelude.{ℕ, ◌*◌, pos, false, List, map, length, replicate, sum_by}
+use Rattle.std.specs.Prelude.{◌≡◌, ℕ, ◌*◌, pos, false, List, map, length, replicate, sum_by}
 use Rattle.pra_base.specs.declared.ids.Place.TheVariants.{Eax}
 use Rattle.net_form.specs.declared.net.NetBlock.{NetBlock}
 use Rattle.net_form.specs.declared.net.Net.{Net}
@@ -21,6 +21,11 @@ empty_taken net = record {
   regs = replicate (layer_total net.blocks) 0;
   mems = replicate (length net.pairs) false;
 }
+
+-- it has an entry for each layer and for each memory pair
+pub record IsRoomOf (net : Net) (taken : Taken) : Type 0 where
+  pub regs : length taken.regs ≡ layer_total net.blocks
+  pub mems : length taken.mems ≡ length net.pairs
 
 abbrev pub zero_prices : Net → Prices
 zero_prices net = record {

@@ -1,1 +1,7 @@
+pub mod EdgeRules
+pub mod Ends
+pub mod Firsts
+pub mod Layers
+pub mod Occupied
 pub mod Paths
+pub mod WhatBreaks

@@ -8,7 +8,7 @@ use Rattle.net_form.specs.declared.net.Net.{Net}
 use Rattle.net_form.specs.declared.routes.Routes.{Routes}
 use Rattle.net_form.specs.Admitted.{strand_at, no_strand}
 use Rattle.net_form.specs.declared.net.Extra.{Extra}
-use Rattle.net_form.specs.Cost.{place_of, is_met}
+use Rattle.net_form.specs.Cost.{place_of, place_at, is_met}
 use Rattle.net_form.specs.Flow.{Edge, edges, flow_from, HasPlaces, AreRoutes, same_start}
 use Rattle.net_form.proofs.RoutesConserve.{as_many}
 use Rattle.net_form.proofs.RoutesCost.{place_of-nil}
@@ -47,14 +47,18 @@ path_few net routes s e formed has lt =
     let last = last_below net s formed lt in
     omega (arith, long, last)
 
--- an extra of no strand is not met
-pub unmet : (net : Net) (routes : Routes) (x : Extra) → AreRoutes net routes → length net.strands ≤ x.strand → is_met net routes x ≡ false
-unmet net routes x has le =
+-- where there is no strand, there is no place
+pub no_place : (net : Net) (routes : Routes) (s l : ℕ) → AreRoutes net routes → length net.strands ≤ s → place_at net routes s l ≡ None
+no_place net routes s l has le =
     let n = as_many net.strands routes.places has in
-    ap (λ r. same_start (place_of r (strand_at net x.strand).first x.layer) (Some x.place)) (past routes.places x.strand (omega (arith, n, le)))
-    ∙ ap (λ o. same_start o (Some x.place)) (place_of-nil (strand_at net x.strand).first x.layer)
+    ap (λ r. place_of r (strand_at net s).first l) (past routes.places s (omega (arith, n, le)))
+    ∙ place_of-nil (strand_at net s).first l
   where
     past : (rs : List (List Place)) (s : ℕ) → length rs ≤ s → get_or rs s [] ≡ []
     past [] s le = refl
     past (r ∷ rs) zero le = absurd (omega (arith, le))
     past (r ∷ rs) (suc s) le = past rs s (omega (arith, le))
+
+-- an extra of no strand is not met
+pub unmet : (net : Net) (routes : Routes) (x : Extra) → AreRoutes net routes → length net.strands ≤ x.strand → is_met net routes x ≡ false
+unmet net routes x has le = ap (λ o. same_start o (Some x.place)) (no_place net routes x.strand x.layer has le)

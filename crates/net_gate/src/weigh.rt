@@ -4,15 +4,16 @@ ghost use Rattle.std.specs.Prelude.{not, ◌&&◌, [], if◌then◌else◌, ◌�
 ghost use Rattle.net_cost.specs.Models.{Keeps, weights_of};
 ghost use Rattle.net_cost.specs.Weights.{deepest, most_weight};
 ghost use Rattle.net_form.specs.Admitted.{strand_at};
-ghost use Rattle.net_form.specs.Cost.{events_weight, edge_cost, met_cost, cost_of, depth_at, place_at};
+ghost use Rattle.net_form.specs.Cost.{events_weight, edge_cost, met_cost, cost_of, depth_at};
 ghost use Rattle.net_cost.specs.Weights.{number as event_number};
 ghost use Rattle.pl_moves.specs.Crossbar.{load_event, store_event, brings, only_if};
 ghost use Rattle.pra_base.specs.Places.{number, has_register, needs_slot};
 ghost use Rattle.net_form.specs.Tables.{way, begun};
-ghost use Rattle.net_form.specs.Flow.{edges, flow, AreRoutes, same_start};
+ghost use Rattle.net_form.specs.Flow.{edges, flow, AreRoutes};
 ghost use Rattle.net_form.specs.Formed.{IsFormed, most_layers};
 ghost use Rattle.net_form.specs.Tables.{all_tables};
 
+use crate::places::{is_place, place_at};
 use net_cost::{CostModel, Event};
 use net_form::{Extra, Net, Routes};
 use pra_base::Place;
@@ -181,30 +182,6 @@ fn paths_cost<F: Fn(Event, u32) -> u32>(net: &Net, model: &CostModel<F>, routes:
         total += path_cost(net, model, at, routes.places[at].as_slice()) as u128;
     }
     total
-}
-
-// Where a strand is at a layer, if it is there.
-fn place_at(net: &Net, routes: &Routes, strand: usize, layer: u32) -> Option<Place>
-    requires strand { strand < length net.now.strands }
-    requires path { strand < length routes.now.places }
-    ensures { result ≡ place_at net.now routes.now strand layer }
-{
-    let first = net.strands[strand].first;
-    if layer < first {
-        return None;
-    }
-    let path = routes.places[strand].as_slice();
-    path.get((layer - first) as usize).copied()
-}
-
-// Whether a place that was found is this one.
-fn is_place(found: Option<Place>, place: Place) -> bool
-    ensures { result ≡ same_start found (Some place) }
-{
-    match found {
-        None => false,
-        Some(other) => other.number() == place.number(),
-    }
 }
 
 // What an extra weighs, if its place is met.

@@ -1,0 +1,64 @@
+-- Layers, counted over all blocks, and the registers that paths are in at them.
+use Rattle.std.proofs.Common.{ℕ, suc, ◌≡◌, ◌+◌, ◌-◌, ◌<◌, ◌≤◌, List, [], ◌∷◌, length, get_or, take, drop, count_by, Some, None, Option, refl, sym, ap, ◌∙◌, arith, add-one}
+use Rattle.std.proofs.lemmas.List.{take_all}
+use Rattle.std.proofs.lemmas.List.FromFn.{length-map-range_with_len, get_or-map-range_with_len}
+use Rattle.std.proofs.lemmas.List.Sums.{sum_by_more_le}
+use Rattle.pra_base.specs.declared.ids.Place.{Place}
+use Rattle.net_form.specs.declared.net.NetBlock.{NetBlock}
+use Rattle.net_form.specs.declared.net.NetIndex.{NetIndex}
+use Rattle.net_form.specs.declared.net.Net.{Net}
+use Rattle.net_form.specs.Admitted.{strand_at, no_strand, uses_bundle}
+use Rattle.net_form.specs.Flow.{edges}
+use Rattle.net_form.specs.Formed.{IsFormed, no_block}
+use Rattle.net_form.specs.Index.{first_layer}
+use Rattle.net_form.specs.Rooms.{layer_total}
+use Rattle.pra_list.proofs.Counts.{count-cons}
+use Rattle.net_gate.specs.InUse.{comes_to}
+
+module _ (net : Net) (formed : IsFormed net) where
+  pub layers_long : length net.index.layers ≡ length net.blocks + 1
+  layers_long = ap (λ (i : NetIndex). length i.layers) formed.index
+      ∙ length-map-range_with_len (first_layer net.blocks) 0 (length net.blocks + 1)
+
+  pub layers_at : (b : ℕ) → b < length net.blocks → get_or net.index.layers b 0 ≡ first_layer net.blocks b
+  layers_at b lt = ap (λ (i : NetIndex). get_or i.layers b 0) formed.index
+      ∙ get_or-map-range_with_len (first_layer net.blocks) 0 (length net.blocks + 1) b b 0 (omega (arith, lt)) (omega arith)
+
+  -- the number of the layer 0 of the strand's block
+  abbrev pub base : ℕ → ℕ
+  base s = first_layer net.blocks (strand_at net s).block.0
+
+  pub in_layers : (s : ℕ) → s < length net.strands → base s + (strand_at net s).last < layer_total net.blocks
+  in_layers s lt =
+      let t = formed.strands s no_strand lt in
+      let most = sum_by_more_le (λ (b : NetBlock). b.layers) net.blocks (strand_at net s).block.0 no_block t.block in
+      let within = t.within in
+      omega (arith, most, within)
+
+-- where a path comes from is all the same to the registers that it is in
+module _ (net : Net) (n r : ℕ) where
+  abbrev pub uses : ℕ → ℕ → Option Place → List Place → ℕ
+  uses s k p xs = count_by (uses_bundle net n r) (edges s k p xs)
+
+  pub uses_from : (s k : ℕ) (p q : Option Place) (xs : List Place) → uses s k p xs ≡ uses s k q xs
+  uses_from s k p q [] = refl
+  uses_from s k p q (x ∷ xs) =
+      let a = count-cons (uses_bundle net n r) (record { strand = s; layer = k; from = p; to = x }) (edges s (suc k) (Some x) xs) in
+      let b = count-cons (uses_bundle net n r) (record { strand = s; layer = k; from = q; to = x }) (edges s (suc k) (Some x) xs) in
+      omega (arith, a, b)
+
+  -- the first place of a path, and the others
+  pub uses_step : (s k layer : ℕ) (xs : List Place) (d : Place) → 1 ≤ length xs → first_layer net.blocks (strand_at net s).block.0 + k ≡ layer
+      → uses s k None xs ≡ comes_to layer (get_or xs 0 d) n r + uses s (k + 1) None (take (length xs - 1) (drop 1 xs))
+  uses_step s k layer [] d some at = absurd (omega (arith, some))
+  uses_step s k layer (x ∷ xs) d some at =
+      let a = count-cons (uses_bundle net n r) (record { strand = s; layer = k; from = None; to = x }) (edges s (suc k) (Some x) xs) in
+      let here = ap (λ l. comes_to l x n r) at in
+      let more = uses_from s (suc k) (Some x) None xs
+      ∙ sym (ap (λ l. uses s l None xs) (add-one k))
+      ∙ sym (ap (uses s (k + 1) None) (take_all (suc (length xs) - 1) xs (omega arith))) in
+      omega (arith, a, here, more)
+
+  pub uses_none : (s k : ℕ) (xs : List Place) → length xs < 1 → uses s k None xs ≡ 0
+  uses_none s k [] none = refl
+  uses_none s k (x ∷ xs) none = absurd (omega (arith, none))
