@@ -1,2 +1,3 @@
-pub mod SampleIsPlaced
+pub mod MovesArePaid
 pub mod SampleIsBehind
+pub mod SampleIsPlaced

@@ -1,10 +1,16 @@
 // What holds of placed code and its machine. Each function is a law: its contract is the statement,
 // and it does nothing.
 
-ghost use Rattle.std.specs.Prelude.{◌≡◌, ℕ, ℤ, List};
+ghost use Rattle.std.specs.Prelude.{◌≡◌, ◌≤◌, ℕ, ℤ, Bool, List, sum_by};
 ghost use Rattle.pra_base.specs.Agreement.{Keeps};
 ghost use Rattle.pl_place.specs.declared.placed.LProc.{LProc};
+ghost use Rattle.net_cost.specs.Weights.{size_weights};
+ghost use Rattle.net_form.specs.Cost.{events_weight};
 ghost use Rattle.net_form.specs.Examples.{in_register_routes};
+ghost use Rattle.pl_moves.specs.Crossbar.{events, Counted};
+ghost use Rattle.pl_moves.specs.Lengths.{move_bytes};
+ghost use Rattle.pl_moves.specs.declared.transfer.Move.{Move};
+ghost use Rattle.pl_moves.specs.declared.transfer.Pair.{Pair};
 ghost use Rattle.pl_place.specs.Behind.{Routed, IsBehind, frame_of};
 ghost use Rattle.pl_place.specs.Machine.{lrun};
 ghost use Rattle.pl_place.specs.Placed.{frame_size};
@@ -35,4 +41,11 @@ pub fn some_code_is_behind()
     ensures in_memory { IsBehind (routed both_places_routes) in_memory }
     ensures small { frame_of (routed in_register_routes) ≡ 20 }
     ensures with_slot { frame_of (routed both_places_routes) ≡ 24 }
+{}
+
+/// Moves that are counted by the events of pairs have at most so many bytes as these events weigh by
+/// size.
+pub fn moves_are_paid()
+    ensures { (near : Bool) (ms : List Move) (pairs : List Pair) → Counted near ms pairs →
+        sum_by (move_bytes near) ms ≤ events_weight size_weights 0 (events near pairs) }
 {}
