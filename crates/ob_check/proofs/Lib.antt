@@ -1,3 +1,4 @@
 mod Keys
+mod OneAnswer
 mod Procedures
 mod Scopes

@@ -68,9 +68,11 @@ Drafts judged before answer place procs =
     (λ _. (more : List Draft) × (judged ≡ Ok (place, more)) × (procs ≡ before ++ more))
     (λ r. r ≢ OutOfMemory → judged ≡ Err (told r))
 
+-- what is known of a module that is read
+abbrev pub read_as : Reading → KnownModule
+read_as r = record { place = known_at r.place; vars = r.vars; procs = r.procs.items }
+
 -- the same, for a whole module
 abbrev pub Reads : Judged KnownModule → Result Reading Refusal → Type 0
 Reads judged answer =
-    MatchResult answer
-    (λ r. judged ≡ Ok (record { place = known_at r.place; vars = r.vars; procs = r.procs.items }))
-    (λ r. r ≢ OutOfMemory → judged ≡ Err (told r))
+    MatchResult answer (λ r. judged ≡ Ok (read_as r)) (λ r. r ≢ OutOfMemory → judged ≡ Err (told r))
