@@ -1,6 +1,7 @@
--- What the state of the executable machine stands for in the definition, and what a part of a step leaves.
-use Rattle.std.specs.Prelude.{◌≡◌, ℕ, ◌+◌, Bool, true, false, List, [], ◌∷◌, ◌++◌, map, drop, reverse}
-use Rattle.std.specs.Prelude.{Option, Some, None, Result, Ok, Err}
+-- What the state of the executable machine stands for in the definition, and what a part of a step
+-- leaves.
+use Rattle.std.specs.Prelude.{◌≡◌, ℕ, ◌+◌, Bool, true, false, List, [], ◌∷◌, ◌++◌, map, take, drop}
+use Rattle.std.specs.Prelude.{reverse, Option, Some, None, Result, Ok, Err}
 use Rattle.pra_base.specs.Agreement.{Progress}
 use Rattle.pra_base.specs.RunEnd.{RunEnd}
 use Rattle.pra_base.specs.Places.{number}
@@ -8,15 +9,16 @@ use Rattle.pra_base.specs.declared.event.OutEvent.{OutEvent}
 use Rattle.pra_base.specs.declared.ids.Place.{Place}
 use Rattle.pra_base.specs.declared.code.VInstr.{VInstr}
 use Rattle.vc_code.specs.declared.outcome.Ending.{Ending}
-use Rattle.vc_code.specs.declared.value.Value.{Value}
-use Rattle.vc_code.specs.Value.{Held}
+use Rattle.vc_code.specs.Value.{Held, Words}
 use Rattle.vc_code.specs.Outcome.{run_end}
-use Rattle.vc_code.specs.Machine.{Activation, State, view, joined}
+use Rattle.vc_code.specs.Machine.{Shape, Activation, State, Next, Machine, After, view, joined}
 use Rattle.pl_moves.specs.Meaning as meaning
 use Rattle.pl_place.specs.declared.placed.LInstr.{LInstr}
 use Rattle.pl_place.specs.declared.placed.LProc.{LProc}
 use Rattle.pl_place.specs.Machine as placed
-use Rattle.pl_place.specs.Machine.{Cells, proc_of, at_cell, operand, behind}
+use Rattle.pl_place.specs.Machine.{Cells, proc_of, at_cell, operand, behind, next_of}
+use Rattle.pl_place.specs.Machine.{shape, placed_machine, begun}
+use Rattle.pl_run.specs.declared.code.Code.{Code}
 use Rattle.pl_run.specs.declared.cell.Site.{Site}
 use Rattle.pl_run.specs.declared.cell.Site.TheVariants as site
 use Rattle.pl_run.specs.declared.cell.Cell.{Cell}
@@ -91,8 +93,9 @@ abbrev pub calls_of : List LProc → List Call → List (Activation Cells)
 calls_of procs calls = reverse (map (call_of procs) calls)
 
 -- the call behind an instruction, with values in its written operands
-abbrev pub passed : List LProc → Call → LProc → VInstr → List Place → List Value → Option (Activation Cells)
-passed procs c p i places xs = behind p i (map number places) (rest_from procs c (c.next + 1)) (call_of procs c) xs
+abbrev pub passed : List LProc → Call → LProc → VInstr → List Place → After Cells
+passed procs c p i places xs =
+    behind p i (map number places) (rest_from procs c (c.next + 1)) (call_of procs c) xs
 
 -- ---- the machine
 
@@ -117,9 +120,42 @@ state_of procs m = record {
 abbrev pub told : Execution → Ending → Progress OutEvent RunEnd
 told m e = record { ending = Some (run_end e); events = m.events; taken = m.taken }
 
--- A part of a step leaves the state that is wanted, or ends a run of which the same was told; nothing is said where memory
--- is wanting.
+-- A part of a step leaves the state that is wanted, or ends a run of which the same was told;
+-- nothing is said where memory is wanting.
 abbrev pub Leaves : {X : Type 0} → List LProc → Result X Halt → Execution → State Cells → Type 0
 Leaves procs (Ok x) m wanted = state_of procs m ≡ wanted
 Leaves procs (Err (Over e)) m wanted = told m e ≡ view wanted
 Leaves procs (Err Memory) m wanted = Unit {0}
+
+-- ---- the code that runs
+
+abbrev pub sizes_of : Code → ℕ → Shape
+sizes_of code = shape code.procs.now
+
+abbrev pub machine_of : Code → Machine Cells
+machine_of code = placed_machine code.procs.now
+
+abbrev pub after : Code → Call → LProc → VInstr → List Place → After Cells
+after code c p i places = λ xs. passed code.procs.now c p i places xs
+
+-- a call at the begin of its procedure
+abbrev pub begun_in : Code → ℕ → Words → Activation Cells
+begun_in code proc args =
+    let p = proc_of code.procs.now proc in begun proc p args (block_in p 0)
+
+-- what stands next, in front of what is left behind it
+abbrev pub next_in : Code → Execution → LProc → LInstr → Next Cells
+next_in code m p i =
+    let procs = code.procs.now in
+    next_of p (call_of procs m.top) (i ∷ rest_from procs m.top (m.top.next + 1))
+
+-- what a part of a step makes of the machine, by how the state changes in the definition
+abbrev pub Makes :
+    {X : Type 0} → Code → Execution → Execution → Result X Halt → (State Cells → State Cells) →
+    Type 0
+Makes code old new result change =
+    Leaves code.procs.now result new (change (state_of code.procs.now old))
+
+-- the live calls below one of them, the latest first
+abbrev pub calls_under : Code → Execution → ℕ → List (Activation Cells)
+calls_under code m n = reverse (take n (calls_in code.procs.now m))

@@ -1,11 +1,12 @@
 // A live call.
 
-ghost use Rattle.std.specs.Prelude.{◌≡◌, ◌<◌, ◌+◌, IfOk, map, drop, length, slice_set, slice_get};
-ghost use Rattle.vc_code.specs.Machine.{last_get as last_get_of, last_set, with_aggregates, with_args, zeroed};
+ghost use Rattle.std.specs.Prelude.{◌≡◌, ◌<◌, ◌+◌, IfOk, drop, slice_get};
+ghost use Rattle.vc_code.specs.Machine.{last_get as last_get_of, with_aggregate, with_aggregates};
+ghost use Rattle.vc_code.specs.Machine.{with_argument, zeroed};
 ghost use Rattle.pl_moves.specs.Meaning.{moved};
-ghost use Rattle.pl_place.specs.Machine.{nothing as nothing_of, begun, holding, at_block, passed as moved_on, proc_of};
-ghost use Rattle.pl_run.specs.Code.{block_in};
-ghost use Rattle.pl_run.specs.Standing.{call_of, passed, rest_from, where_done};
+ghost use Rattle.pl_place.specs.Machine.{nothing as nothing_of, holding, at_block, proc_of};
+ghost use Rattle.pl_place.specs.Machine.{passed as moved_on};
+ghost use Rattle.pl_run.specs.Standing.{call_of, begun_in, after, rest_from, where_done};
 
 use crate::code::Code;
 use crate::frame::{Frame, REGISTERS, last_get, set_last, set_word};
@@ -51,7 +52,8 @@ impl Call {
     ///
     /// Where there is no memory for its aggregates and its slots.
     pub fn begin(alloc: Global, code: &Code, proc: u32, args: Vec<Held>) -> Result<Call, AllocError>
-        ensures { IfOk result (λ call. call_of code.now.procs.now call ≡ begun proc (proc_of code.now.procs.now proc) args.items (block_in (proc_of code.now.procs.now proc) 0)) }
+        ensures { IfOk result (λ call.
+            call_of code.now.procs.now call ≡ begun_in code.now proc args.items) }
     {
         let p = code.procedure(proc);
         let aggregates = nothing(alloc, p.aggregates as usize)?;
@@ -69,7 +71,8 @@ impl Call {
         })
     }
 
-    /// Behind an instruction, with values in its written operands, unless one of them is not there or wants another value.
+    /// Behind an instruction, with values in its written operands, unless one of them is not there
+    /// or wants another value.
     pub fn pass(
         &mut self,
         code: &Code,
@@ -79,7 +82,8 @@ impl Call {
         xs: &[Value],
     ) -> bool
         requires { self.old.next < usize.MAX }
-        ensures { passed code.now.procs.now self.old p.now i.now places.now xs.now ≡ where_done result (call_of code.now.procs.now self.new) }
+        ensures { after code.now self.old p.now i.now places.now xs.now
+            ≡ where_done result (call_of code.now.procs.now self.new) }
     {
         let row = operands(i);
         self.next += 1;
@@ -91,7 +95,9 @@ impl Call {
     /// Behind a move, unless a cell of it is not there.
     pub fn make(&mut self, code: &Code, p: &LProc, m: &Move) -> bool
         requires { self.old.next < usize.MAX }
-        ensures { moved (holding p.now) m.now (moved_on (rest_from code.now.procs.now self.old (self.old.next + 1)) (call_of code.now.procs.now self.old)) ≡ where_done result (call_of code.now.procs.now self.new) }
+        ensures { let rest = rest_from code.now.procs.now self.old (self.old.next + 1) in
+            moved (holding p.now) m.now (moved_on rest (call_of code.now.procs.now self.old))
+            ≡ where_done result (call_of code.now.procs.now self.new) }
     {
         self.next += 1;
         self.frame.make(p, m)
@@ -99,7 +105,9 @@ impl Call {
 
     /// To the begin of a block, if it is there.
     pub fn jump(&mut self, code: &Code, block: u32) -> bool
-        ensures { at_block (call_of code.now.procs.now self.old) block (slice_get (proc_of code.now.procs.now self.old.proc).blocks block) ≡ where_done result (call_of code.now.procs.now self.new) }
+        ensures { let blocks = (proc_of code.now.procs.now self.old.proc).blocks in
+            at_block (call_of code.now.procs.now self.old) block (slice_get blocks block)
+            ≡ where_done result (call_of code.now.procs.now self.new) }
     {
         match code.procedure(self.proc).blocks.get(block as usize) {
             None => false,
@@ -113,14 +121,16 @@ impl Call {
 
     /// All aggregates hold 0.
     pub fn clear(&mut self, code: &Code)
-        ensures { call_of code.now.procs.now self.new ≡ with_aggregates (call_of code.now.procs.now self.old) (zeroed (call_of code.now.procs.now self.old).aggregates) }
+        ensures { let c = call_of code.now.procs.now self.old in
+            call_of code.now.procs.now self.new ≡ with_aggregates c (zeroed c.aggregates) }
     {
         self.aggregates.fill(Some(Value::Num(0)));
     }
 
     /// Writes a word of the aggregates.
     pub fn set_aggregate(&mut self, code: &Code, at: usize, h: Held)
-        ensures { call_of code.now.procs.now self.new ≡ with_aggregates (call_of code.now.procs.now self.old) (slice_set (call_of code.now.procs.now self.old).aggregates at h) }
+        ensures { let c = call_of code.now.procs.now self.old in
+            call_of code.now.procs.now self.new ≡ with_aggregate c at h }
     {
         set_word(&mut self.aggregates, at, h);
     }
@@ -134,7 +144,8 @@ impl Call {
 
     /// Writes an argument cell.
     pub fn set_argument(&mut self, code: &Code, i: u32, h: Held)
-        ensures { call_of code.now.procs.now self.new ≡ with_args (call_of code.now.procs.now self.old) (last_set (call_of code.now.procs.now self.old).args i h) }
+        ensures { let c = call_of code.now.procs.now self.old in
+            call_of code.now.procs.now self.new ≡ with_argument c i h }
     {
         set_last(&mut self.frame.args, i as usize, h);
     }

@@ -11,7 +11,8 @@ use pra_base::{BlockId, End, OutOfMemory, ProcId};
 use pra_list::Seq;
 use std::alloc::Global;
 
-/// The words of a frame beside arguments, aggregates and slots: the return address and four saved registers.
+/// The words of a frame beside arguments, aggregates and slots: the return address and four saved
+/// registers.
 const FIXED_WORDS: u64 = 5;
 
 const WORD_BYTES: u64 = 4;

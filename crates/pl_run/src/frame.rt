@@ -1,14 +1,18 @@
 // Registers, slots and arguments of a live call: what they hold, moves, and written operands.
 
-ghost use Rattle.std.specs.Prelude.{◌≡◌, ◌<◌, ◌≤◌, ◌+◌, ◌++◌, [], ◌∷◌, Some, None, map, drop, length, OnSome, slice_get, slice_set, nat_eq, if◌then◌else◌};
+ghost use Rattle.std.specs.Prelude.{◌≡◌, ◌<◌, ◌≤◌, ◌+◌, ◌++◌, [], ◌∷◌, Some, None, map, drop};
+ghost use Rattle.std.specs.Prelude.{length, OnSome, slice_get, slice_set, nat_eq, if◌then◌else◌};
 ghost use Rattle.std.specs.Int.{bit_at};
 ghost use Rattle.arrayvec.specs.ArrayVec.{array_vec_len};
 ghost use Rattle.pra_base.specs.Places.{number};
 ghost use Rattle.pra_base.specs.Operands.{read_by};
-ghost use Rattle.vc_code.specs.Machine.{Activation, last_get as last_of, last_set, joined as joined_of};
+ghost use Rattle.vc_code.specs.Machine.{Activation, last_get as last_of, last_set};
+ghost use Rattle.vc_code.specs.Machine.{joined as joined_of};
 ghost use Rattle.pl_moves.specs.Meaning.{Register, copied, exchanged, moved};
 ghost use Rattle.pl_place.specs.declared.placed.LProc.{LProc};
-ghost use Rattle.pl_place.specs.Machine.{Cells, in_spot, with_spot, if_there, at_cell, put_cell, holding, operand as operand_of, operands as operands_of, put as put_of, put_all as put_all_of, cleared};
+ghost use Rattle.pl_place.specs.Machine.{Cells, in_spot, with_spot, if_there, at_cell, put_cell};
+ghost use Rattle.pl_place.specs.Machine.{holding, operand as operand_of, operands as operands_of};
+ghost use Rattle.pl_place.specs.Machine.{put as put_of, put_all as put_all_of, cleared};
 ghost use Rattle.pl_run.specs.Code.{role_var};
 ghost use Rattle.pl_run.specs.Standing.{spot_of, cell_of, where_done, with_frame};
 
@@ -93,7 +97,10 @@ impl Frame {
     }
 
     fn put_site(&mut self, site: Site, h: Held) -> bool
-        ensures { (c : Activation Cells) → if_there (in_spot (with_frame c self.old) (spot_of site)) (with_spot (with_frame c self.old) (spot_of site) h) ≡ where_done result (with_frame c self.new) }
+        ensures { (c : Activation Cells) →
+            if_there (in_spot (with_frame c self.old) (spot_of site))
+            (with_spot (with_frame c self.old) (spot_of site) h)
+            ≡ where_done result (with_frame c self.new) }
     {
         match site {
             Site::Slot(k) => match last_get(&self.slots, k) {
@@ -122,7 +129,9 @@ impl Frame {
     }
 
     fn put_register(&mut self, r: usize, h: Held) -> bool
-        ensures { (p : LProc) (c : Activation Cells) → put_cell p (with_frame c self.old) (Register r) h ≡ where_done result (with_frame c self.new) }
+        ensures { (p : LProc) (c : Activation Cells) →
+            put_cell p (with_frame c self.old) (Register r) h
+            ≡ where_done result (with_frame c self.new) }
     {
         match self.in_register(r) {
             None => false,
@@ -135,7 +144,8 @@ impl Frame {
 
     /// What a cell holds, if there is one.
     fn at(&self, p: &LProc, cell: Cell) -> Option<Held>
-        ensures { (c : Activation Cells) → result ≡ at_cell p.now (with_frame c self.now) (cell_of cell) }
+        ensures { (c : Activation Cells) →
+            result ≡ at_cell p.now (with_frame c self.now) (cell_of cell) }
     {
         match cell {
             Cell::Register(r) => self.in_register(r),
@@ -146,7 +156,9 @@ impl Frame {
 
     /// Writes a cell, if there is one.
     fn put_at(&mut self, p: &LProc, cell: Cell, h: Held) -> bool
-        ensures { (c : Activation Cells) → put_cell p.now (with_frame c self.old) (cell_of cell) h ≡ where_done result (with_frame c self.new) }
+        ensures { (c : Activation Cells) →
+            put_cell p.now (with_frame c self.old) (cell_of cell) h
+            ≡ where_done result (with_frame c self.new) }
     {
         match cell {
             Cell::Register(r) => self.put_register(r, h),
@@ -156,7 +168,9 @@ impl Frame {
     }
 
     fn copy(&mut self, p: &LProc, to: Cell, from: Cell) -> bool
-        ensures { (c : Activation Cells) → copied (holding p.now) (cell_of to) (cell_of from) (with_frame c self.old) ≡ where_done result (with_frame c self.new) }
+        ensures { (c : Activation Cells) →
+            copied (holding p.now) (cell_of to) (cell_of from) (with_frame c self.old)
+            ≡ where_done result (with_frame c self.new) }
     {
         match self.at(p, from) {
             None => false,
@@ -165,7 +179,9 @@ impl Frame {
     }
 
     fn exchange(&mut self, p: &LProc, one: Cell, other: Cell) -> bool
-        ensures { (c : Activation Cells) → exchanged (holding p.now) (cell_of one) (cell_of other) (with_frame c self.old) ≡ where_done result (with_frame c self.new) }
+        ensures { (c : Activation Cells) →
+            exchanged (holding p.now) (cell_of one) (cell_of other) (with_frame c self.old)
+            ≡ where_done result (with_frame c self.new) }
     {
         match self.at(p, one) {
             None => false,
@@ -184,7 +200,9 @@ impl Frame {
 
     /// Makes a move, unless a cell of it is not there.
     pub fn make(&mut self, p: &LProc, m: &Move) -> bool
-        ensures { (c : Activation Cells) → moved (holding p.now) m.now (with_frame c self.old) ≡ where_done result (with_frame c self.new) }
+        ensures { (c : Activation Cells) →
+            moved (holding p.now) m.now (with_frame c self.old)
+            ≡ where_done result (with_frame c self.new) }
     {
         match *m {
             Move::Copy(to, from) => self.copy(p, register(to), register(from)),
@@ -196,7 +214,8 @@ impl Frame {
     }
 
     fn operand(&self, p: &LProc, v: VarId, place: Place) -> Held
-        ensures { (c : Activation Cells) → result ≡ operand_of p.now (with_frame c self.now) v.0 (number place) }
+        ensures { (c : Activation Cells) →
+            result ≡ operand_of p.now (with_frame c self.now) v.0 (number place) }
     {
         match first_cell(p, v, place) {
             None => None,
@@ -205,7 +224,9 @@ impl Frame {
     }
 
     fn put(&mut self, p: &LProc, v: VarId, place: Place, h: Held) -> bool
-        ensures { (c : Activation Cells) → put_of p.now (with_frame c self.old) v.0 (number place) h ≡ where_done result (with_frame c self.new) }
+        ensures { (c : Activation Cells) →
+            put_of p.now (with_frame c self.old) v.0 (number place) h
+            ≡ where_done result (with_frame c self.new) }
     {
         match first_cell(p, v, place) {
             None => false,
@@ -216,7 +237,9 @@ impl Frame {
     // What these operands hold, behind those that are there.
     fn read_all(&self, p: &LProc, roles: &[Role], places: &[Place], held: &mut ArrayVec<Held, 3>)
         requires { array_vec_len held.old + length roles.now ≤ 3 }
-        ensures { (c : Activation Cells) → held.new.items ≡ held.old.items ++ operands_of p.now (with_frame c self.now) (map role_var roles.now) (map number places.now) }
+        ensures { (c : Activation Cells) →
+            held.new.items ≡ held.old.items ++ operands_of p.now (with_frame c self.now)
+            (map role_var roles.now) (map number places.now) }
     {
         if let Some((role, roles)) = roles.split_first() {
             match places.split_first() {
@@ -234,7 +257,9 @@ impl Frame {
 
     /// What the operands hold that an instruction reads.
     pub fn operands(&self, p: &LProc, i: &VInstr, places: &[Place]) -> ArrayVec<Held, 3>
-        ensures { (c : Activation Cells) → result.items ≡ operands_of p.now (with_frame c self.now) (read_by i.now) (map number places.now) }
+        ensures { (c : Activation Cells) →
+            result.items
+            ≡ operands_of p.now (with_frame c self.now) (read_by i.now) (map number places.now) }
     {
         let row = operands(i);
         let mut held = ArrayVec::new();
@@ -242,9 +267,13 @@ impl Frame {
         held
     }
 
-    /// Writes values into operands one after the other, unless there are fewer values or places, or a cell is not there.
+    /// Writes values into operands one after the other, unless there are fewer values or places, or
+    /// a cell is not there.
     pub fn put_all(&mut self, p: &LProc, roles: &[Role], places: &[Place], xs: &[Value]) -> bool
-        ensures { (c : Activation Cells) → put_all_of p.now (Some (with_frame c self.old)) (map role_var roles.now) (map number places.now) xs.now ≡ where_done result (with_frame c self.new) }
+        ensures { (c : Activation Cells) →
+            put_all_of p.now (Some (with_frame c self.old)) (map role_var roles.now)
+            (map number places.now) xs.now
+            ≡ where_done result (with_frame c self.new) }
     {
         match roles.split_first() {
             None => true,

@@ -24,14 +24,16 @@ fn zeros(alloc: Global, words: u32) -> Result<Vec<Held>, AllocError>
     vec![in alloc; Some(Value::Num(0)); words as usize]
 }
 
-// The module's body before its first instruction, with the words that it may read. All data holds 0.
+// The module's body before its first instruction, with the words that it may read. All data holds
+// 0.
 fn start(
     alloc: Global,
     code: &Code,
     data_words: u32,
     input: &[i32],
 ) -> Result<Execution, OutOfMemory>
-    ensures { IfOk result (λ machine. state_of code.now.procs.now machine ≡ start_of code.now.procs.now data_words input.now) }
+    ensures { IfOk result (λ machine.
+        state_of code.now.procs.now machine ≡ start_of code.now.procs.now data_words input.now) }
 {
     let top = Call::begin(alloc, code, BODY, Vec::new(alloc))?;
     let globals = zeros(alloc, data_words)?;
@@ -49,7 +51,11 @@ fn start(
 
 // What the machine has come to.
 fn outcome(machine: Execution, ending: Option<Ending>) -> Outcome
-    ensures { progress result ≡ record { ending = run_end_of ending; events = machine.events; taken = machine.taken } }
+    ensures { progress result ≡ record {
+      ending = run_end_of ending;
+      events = machine.events;
+      taken = machine.taken;
+    } }
 {
     let Execution { events, taken, .. } = machine;
     Outcome {
@@ -59,13 +65,15 @@ fn outcome(machine: Execution, ending: Option<Ending>) -> Outcome
     }
 }
 
-/// What placed code has come to after so many steps, fewer where it ends before: of the procedures of a module, the first
-/// of which is its body, with so many words of module data and the words that it may read. Nothing is asked of the code:
-/// what is not there is stuck where it is called, jumped to, read or written.
+/// What placed code has come to after so many steps, fewer where it ends before: of the procedures
+/// of a module, the first of which is its body, with so many words of module data and the words
+/// that it may read. Nothing is asked of the code: what is not there is stuck where it is called,
+/// jumped to, read or written.
 ///
 /// # Errors
 ///
-/// Where there is no memory for what it makes, or where the frames that live together have more bytes than 64 bits count.
+/// Where there is no memory for what it makes, or where the frames that live together have more
+/// bytes than 64 bits count.
 pub fn run_placed(
     alloc: Global,
     procs: &[LProc],
@@ -73,7 +81,8 @@ pub fn run_placed(
     input: &[i32],
     steps: u32,
 ) -> Result<Outcome, OutOfMemory>
-    ensures { IfOk result (λ outcome. progress outcome ≡ lrun procs.now data_words input.now steps) }
+    ensures { IfOk result (λ outcome.
+        progress outcome ≡ lrun procs.now data_words input.now steps) }
 {
     let code = Code::new(alloc, procs);
     let mut machine = start(alloc, &code, data_words, input)?;

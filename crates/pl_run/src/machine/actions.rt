@@ -1,12 +1,12 @@
 // How an action changes the machine.
 
-ghost use Rattle.std.specs.Prelude.{◌≡◌, ◌<◌, ◌∷◌, ◌/◌, [], ◌++◌, Some, None};
+ghost use Rattle.std.specs.Prelude.{◌<◌, ◌/◌, [], Some};
 ghost use Rattle.std.specs.Option.{option_copied};
-ghost use Rattle.vc_code.specs.Machine.{with_top, with_aggregates, zeroed, takes, found, object, word_at as word_at_of, joined, with_object, apply as apply_of};
-ghost use Rattle.vc_code.specs.Operation.{number};
-ghost use Rattle.pl_place.specs.Machine.{shape, placed_machine};
+ghost use Rattle.vc_code.specs.Machine.{goes_on, with_top, with_compared, with_pushed, with_event};
+ghost use Rattle.vc_code.specs.Machine.{with_cleared, with_number, takes, loads, found, object};
+ghost use Rattle.vc_code.specs.Machine.{word_at as word_at_of, with_object, apply as apply_of};
 ghost use Rattle.pl_run.specs.Code.{IsNext};
-ghost use Rattle.pl_run.specs.Standing.{state_of, passed, Leaves};
+ghost use Rattle.pl_run.specs.Standing.{sizes_of, machine_of, after, Makes};
 
 use super::Execution;
 use crate::code::Code;
@@ -39,7 +39,8 @@ impl Execution {
         xs: &[Value],
     ) -> Result<(), Halt>
         requires { self.old.top.next < usize.MAX }
-        ensures { Leaves code.now.procs.now result self.new (found (state_of code.now.procs.now self.old) (passed code.now.procs.now self.old.top p.now i.now places.now xs.now) (λ c. with_top (state_of code.now.procs.now self.old) c)) }
+        ensures { Makes code.now self.old self.new result
+            (goes_on (after code.now self.old.top p.now i.now places.now) xs.now with_top) }
     {
         if self.top.pass(code, p, i, places, xs) {
             self.compared = None;
@@ -59,7 +60,8 @@ impl Execution {
         b: u32,
     ) -> Result<(), Halt>
         requires { self.old.top.next < usize.MAX }
-        ensures { Leaves code.now.procs.now result self.new (found (state_of code.now.procs.now self.old) (passed code.now.procs.now self.old.top p.now i.now places.now []) (λ c. record (state_of code.now.procs.now self.old) { top = c; compared = Some (a, b) })) }
+        ensures { Makes code.now self.old self.new result
+            (goes_on (after code.now self.old.top p.now i.now places.now) [] (with_compared a b)) }
     {
         if self.top.pass(code, p, i, places, &[]) {
             self.compared = Some((a, b));
@@ -78,7 +80,8 @@ impl Execution {
         x: Value,
     ) -> Result<(), Halt>
         requires { self.old.top.next < usize.MAX }
-        ensures { Leaves code.now.procs.now result self.new (found (state_of code.now.procs.now self.old) (passed code.now.procs.now self.old.top p.now i.now places.now []) (λ c. record (state_of code.now.procs.now self.old) { top = c; compared = None; pushed = Some x ∷ (state_of code.now.procs.now self.old).pushed })) }
+        ensures { Makes code.now self.old self.new result
+            (goes_on (after code.now self.old.top p.now i.now places.now) [] (with_pushed x)) }
     {
         if self.top.pass(code, p, i, places, &[]) {
             self.compared = None;
@@ -98,7 +101,8 @@ impl Execution {
         event: OutEvent,
     ) -> Result<(), Halt>
         requires { self.old.top.next < usize.MAX }
-        ensures { Leaves code.now.procs.now result self.new (found (state_of code.now.procs.now self.old) (passed code.now.procs.now self.old.top p.now i.now places.now []) (λ c. record (state_of code.now.procs.now self.old) { top = c; compared = None; events = (state_of code.now.procs.now self.old).events ++ event ∷ [] })) }
+        ensures { Makes code.now self.old self.new result
+            (goes_on (after code.now self.old.top p.now i.now places.now) [] (with_event event)) }
     {
         if self.top.pass(code, p, i, places, &[]) {
             self.compared = None;
@@ -111,7 +115,8 @@ impl Execution {
 
     fn clear(&mut self, code: &Code, p: &LProc, i: &VInstr, places: &[Place]) -> Result<(), Halt>
         requires { self.old.top.next < usize.MAX }
-        ensures { Leaves code.now.procs.now result self.new (found (state_of code.now.procs.now self.old) (passed code.now.procs.now self.old.top p.now i.now places.now []) (λ c. with_top (state_of code.now.procs.now self.old) (with_aggregates c (zeroed c.aggregates)))) }
+        ensures { Makes code.now self.old self.new result
+            (goes_on (after code.now self.old.top p.now i.now places.now) [] with_cleared) }
     {
         if self.top.pass(code, p, i, places, &[]) {
             self.compared = None;
@@ -124,7 +129,8 @@ impl Execution {
 
     fn take(&mut self, code: &Code, p: &LProc, i: &VInstr, places: &[Place]) -> Result<(), Halt>
         requires { self.old.top.next < usize.MAX }
-        ensures { Leaves code.now.procs.now result self.new (takes (state_of code.now.procs.now self.old) (state_of code.now.procs.now self.old).input (λ xs. passed code.now.procs.now self.old.top p.now i.now places.now xs)) }
+        ensures { Makes code.now self.old self.new result
+            (λ s. takes s s.input (after code.now self.old.top p.now i.now places.now)) }
     {
         match next_word(&self.input, self.taken) {
             None => Err(Halt::Over(Ending::Trap(TrapKind::Input))),
@@ -151,7 +157,9 @@ impl Execution {
         offset: u32,
     ) -> Result<(), Halt>
         requires { self.old.top.next < usize.MAX }
-        ensures { Leaves code.now.procs.now result self.new (found (state_of code.now.procs.now self.old) (number (joined (word_at_of (object (shape code.now.procs.now) (state_of code.now.procs.now self.old) x) offset))) (λ n. found (state_of code.now.procs.now self.old) (passed code.now.procs.now self.old.top p.now i.now places.now (Value.Num n ∷ [])) (λ c. with_top (state_of code.now.procs.now self.old) c))) }
+        ensures { Makes code.now self.old self.new result
+            (loads (sizes_of code.now)
+            (after code.now self.old.top p.now i.now places.now) x offset) }
     {
         match self.word(code, x, offset)? {
             Some(Some(Value::Num(n))) => self.give(code, p, i, places, &[Value::Num(n)]),
@@ -162,7 +170,9 @@ impl Execution {
     }
 
     fn store_there(&mut self, code: &Code, x: Object, offset: u32, n: u32) -> Result<(), Halt>
-        ensures { Leaves code.now.procs.now result self.new (found (state_of code.now.procs.now self.old) (word_at_of (object (shape code.now.procs.now) (state_of code.now.procs.now self.old) x) offset) (λ old. with_object (shape code.now.procs.now) (state_of code.now.procs.now self.old) x (offset / 4) (Some (Value.Num n)))) }
+        ensures { Makes code.now self.old self.new result
+            (λ s. found s (word_at_of (object (sizes_of code.now) s x) offset)
+            (λ old. with_object (sizes_of code.now) s x (offset / 4) (Some (Value.Num n)))) }
     {
         match self.word(code, x, offset)? {
             None => Err(STUCK),
@@ -184,7 +194,9 @@ impl Execution {
         n: u32,
     ) -> Result<(), Halt>
         requires { self.old.top.next < usize.MAX }
-        ensures { Leaves code.now.procs.now result self.new (found (state_of code.now.procs.now self.old) (passed code.now.procs.now self.old.top p.now i.now places.now []) (λ c. found (state_of code.now.procs.now self.old) (word_at_of (object (shape code.now.procs.now) (with_top (state_of code.now.procs.now self.old) c) x) offset) (λ old. with_object (shape code.now.procs.now) (with_top (state_of code.now.procs.now self.old) c) x (offset / 4) (Some (Value.Num n))))) }
+        ensures { Makes code.now self.old self.new result
+            (goes_on (after code.now self.old.top p.now i.now places.now) []
+            (with_number (sizes_of code.now) x offset n)) }
     {
         if self.top.pass(code, p, i, places, &[]) {
             self.compared = None;
@@ -209,7 +221,9 @@ impl Execution {
         action: Action,
     ) -> Result<(), Halt>
         requires { self.old.top.next < usize.MAX }
-        ensures { Leaves code.now.procs.now result self.new (apply_of (placed_machine code.now.procs.now) (λ xs. passed code.now.procs.now self.old.top p.now i.now places.now xs) (Some action) (state_of code.now.procs.now self.old)) }
+        ensures { Makes code.now self.old self.new result
+            (apply_of (machine_of code.now)
+            (after code.now self.old.top p.now i.now places.now) (Some action)) }
     {
         match action {
             Action::Nothing => self.give(code, p, i, places, &[]),

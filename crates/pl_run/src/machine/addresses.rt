@@ -2,8 +2,7 @@
 
 ghost use Rattle.std.specs.Prelude.{◌≡◌, IfOk};
 ghost use Rattle.vc_code.specs.Machine.{depth, here as here_of};
-ghost use Rattle.pl_place.specs.Machine.{shape};
-ghost use Rattle.pl_run.specs.Standing.{calls_of, state_of};
+ghost use Rattle.pl_run.specs.Standing.{calls_of, state_of, sizes_of};
 
 use super::Execution;
 use crate::call::Call;
@@ -17,7 +16,8 @@ use vc_code::Here;
 ///
 /// Where they do not fit 64 bits.
 pub fn bytes_of(code: &Code, calls: &[Call]) -> Result<u64, OutOfMemory>
-    ensures { IfOk result (λ bytes. bytes ≡ depth (shape code.now.procs.now) (calls_of code.now.procs.now calls.now)) }
+    ensures { IfOk result (λ bytes.
+        bytes ≡ depth (sizes_of code.now) (calls_of code.now.procs.now calls.now)) }
 {
     let mut bytes = 0;
     for call in calls {
@@ -31,7 +31,8 @@ impl Execution {
     ///
     /// Where the bytes of all frames do not fit 64 bits.
     pub fn here(&self, code: &Code) -> Result<Here, OutOfMemory>
-        ensures { IfOk result (λ here. here ≡ here_of (shape code.now.procs.now) (state_of code.now.procs.now self.now)) }
+        ensures { IfOk result (λ here.
+            here ≡ here_of (sizes_of code.now) (state_of code.now.procs.now self.now)) }
     {
         let below = bytes_of(code, &self.below)?;
         let sum = sum_of(below, code.frame(self.top.proc)?)?;

@@ -1,10 +1,8 @@
 // Calls and returns.
 
-ghost use Rattle.std.specs.Prelude.{◌≡◌, ◌+◌, ◌<◌, ◌∷◌, [], IfOk, OnOk, None};
-ghost use Rattle.vc_code.specs.Machine.{depth, entered, returned, found};
-ghost use Rattle.pl_place.specs.Machine.{shape, placed_machine, begun, proc_of};
-ghost use Rattle.pl_run.specs.Code.{block_in};
-ghost use Rattle.pl_run.specs.Standing.{call_of, state_of, passed, Leaves};
+ghost use Rattle.std.specs.Prelude.{◌≡◌, ◌+◌, ◌<◌, IfOk, OnOk};
+ghost use Rattle.vc_code.specs.Machine.{depth, live_in, entered, enters, returned, found, with_call};
+ghost use Rattle.pl_run.specs.Standing.{state_of, begun_in, after, sizes_of, machine_of, Makes};
 
 use super::Execution;
 use super::addresses::bytes_of;
@@ -21,7 +19,9 @@ use vc_code::Ending;
 impl Execution {
     // The bytes of all frames with one of the procedure on top.
     fn depth_with(&self, code: &Code, proc: ProcId) -> Result<u64, OutOfMemory>
-        ensures { IfOk result (λ bytes. bytes ≡ (shape code.now.procs.now proc.0).frame_size + depth (shape code.now.procs.now) ((state_of code.now.procs.now self.now).top ∷ (state_of code.now.procs.now self.now).below)) }
+        ensures { IfOk result (λ bytes. let sizes = sizes_of code.now in
+            let calls = live_in (state_of code.now.procs.now self.now) in
+            bytes ≡ (sizes proc.0).frame_size + depth sizes calls) }
     {
         let below = bytes_of(code, &self.below)?;
         let caller = sum_of(below, code.frame(self.top.proc)?)?;
@@ -30,12 +30,9 @@ impl Execution {
 
     // The running call waits, and the callee begins with the pushes as its arguments.
     fn enter(&mut self, alloc: Global, code: &Code, proc: ProcId) -> Result<(), OutOfMemory>
-        ensures { OnOk result (state_of code.now.procs.now self.new ≡ record (state_of code.now.procs.now self.old) {
-          top = begun proc.0 (proc_of code.now.procs.now proc.0) (state_of code.now.procs.now self.old).pushed (block_in (proc_of code.now.procs.now proc.0) 0);
-          below = (state_of code.now.procs.now self.old).top ∷ (state_of code.now.procs.now self.old).below;
-          pushed = [];
-          compared = None;
-        }) }
+        ensures { OnOk result (let s = state_of code.now.procs.now self.old in
+            let callee = begun_in code.now proc.0 s.pushed in
+            state_of code.now.procs.now self.new ≡ with_call s callee (live_in s)) }
     {
         let mut args = mem::replace(&mut self.pushed, Vec::new(alloc));
         args.reverse();
@@ -48,9 +45,9 @@ impl Execution {
 
     // The running call stands behind its Call.
     fn call_there(&mut self, alloc: Global, code: &Code, proc: ProcId) -> Result<(), Halt>
-        ensures { Leaves code.now.procs.now result self.new (entered (shape code.now.procs.now) (state_of code.now.procs.now self.old)
-            (begun proc.0 (proc_of code.now.procs.now proc.0) (state_of code.now.procs.now self.old).pushed (block_in (proc_of code.now.procs.now proc.0) 0))
-            ((state_of code.now.procs.now self.old).top ∷ (state_of code.now.procs.now self.old).below)) }
+        ensures { Makes code.now self.old self.new result (λ s.
+            let callee = begun_in code.now proc.0 s.pushed in
+            entered (sizes_of code.now) s callee (live_in s)) }
     {
         if self.depth_with(code, proc)? > STACK_LIMIT {
             return Err(Halt::Over(Ending::Trap(TrapKind::Stack)));
@@ -60,8 +57,9 @@ impl Execution {
     }
 
     fn call_if_there(&mut self, alloc: Global, code: &Code, proc: ProcId) -> Result<(), Halt>
-        ensures { Leaves code.now.procs.now result self.new (found (state_of code.now.procs.now self.old) ((placed_machine code.now.procs.now).begin proc.0 (state_of code.now.procs.now self.old).pushed)
-            (λ callee. entered (shape code.now.procs.now) (state_of code.now.procs.now self.old) callee ((state_of code.now.procs.now self.old).top ∷ (state_of code.now.procs.now self.old).below))) }
+        ensures { Makes code.now self.old self.new result (λ s.
+            found s ((machine_of code.now).begin proc.0 s.pushed)
+            (λ callee. entered (sizes_of code.now) s callee (live_in s))) }
     {
         match code.find(proc.0) {
             None => Err(STUCK),
@@ -87,7 +85,9 @@ impl Execution {
         proc: ProcId,
     ) -> Result<(), Halt>
         requires { self.old.top.next < usize.MAX }
-        ensures { Leaves code.now.procs.now result self.new (found (state_of code.now.procs.now self.old) (passed code.now.procs.now self.old.top p.now i.now places.now []) (λ c. found (state_of code.now.procs.now self.old) ((placed_machine code.now.procs.now).begin proc.0 (state_of code.now.procs.now self.old).pushed) (λ callee. entered (shape code.now.procs.now) (state_of code.now.procs.now self.old) callee (c ∷ (state_of code.now.procs.now self.old).below)))) }
+        ensures { Makes code.now self.old self.new result
+            (enters (machine_of code.now)
+            (after code.now self.old.top p.now i.now places.now) proc.0) }
     {
         if self.top.pass(code, p, i, places, &[]) {
             self.call_if_there(alloc, code, proc)
@@ -102,7 +102,7 @@ impl Execution {
     ///
     /// Where it is the module's body, which ends the run.
     pub fn leave_call(&mut self, code: &Code) -> Result<(), Halt>
-        ensures { Leaves code.now.procs.now result self.new (returned (state_of code.now.procs.now self.old) (state_of code.now.procs.now self.old).below) }
+        ensures { Makes code.now self.old self.new result (λ s. returned s s.below) }
     {
         match self.below.pop() {
             None => Err(Halt::Over(Ending::Ended)),

@@ -1,12 +1,13 @@
 // The words of objects.
 
-ghost use Rattle.std.specs.Prelude.{◌≡◌, ◌/◌, ◌≤◌, [], IfOk, OnOk, OnSome, Some, length, reverse, take, slice_get, slice_set, if◌then◌else◌};
+ghost use Rattle.std.specs.Prelude.{◌≡◌, ◌/◌, ◌≤◌, IfOk, OnOk, OnSome, Some, length, reverse};
+ghost use Rattle.std.specs.Prelude.{slice_get};
 ghost use Rattle.std.specs.List.{list_any};
 ghost use Rattle.std.specs.Option.{option_copied, option_map};
-ghost use Rattle.vc_code.specs.Machine.{depth, object, word_at as word_at_of, with_object, with_calls, with_aggregates, with_args, last_set, cell, is_param};
-ghost use Rattle.vc_code.specs.Numbered.{on_call, holds_at, has_sum, has_below};
-ghost use Rattle.pl_place.specs.Machine.{shape};
-ghost use Rattle.pl_run.specs.Standing.{call_of, calls_in, state_of};
+ghost use Rattle.vc_code.specs.Machine.{depth, object, word_at as word_at_of, cell, is_param};
+ghost use Rattle.vc_code.specs.Machine.{with_object, with_calls, with_aggregate, with_argument};
+ghost use Rattle.vc_code.specs.Numbered.{holds_at, has_sum, has_below, words_at, changed_at};
+ghost use Rattle.pl_run.specs.Standing.{call_of, calls_in, calls_under, state_of, sizes_of};
 
 use super::Execution;
 use super::addresses::bytes_of;
@@ -18,7 +19,8 @@ use vc_code::{Held, Object, Value};
 
 const WORD_BYTES: u32 = 4;
 
-/// What the word at an offset in bytes holds, or `None` where the offset is not that of one whole word of the object.
+/// What the word at an offset in bytes holds, or `None` where the offset is not that of one whole
+/// word of the object.
 fn word_at(words: &[Held], offset: u32) -> Option<Held>
     ensures { result ≡ word_at_of words.now offset }
 {
@@ -51,7 +53,8 @@ fn is_home(kinds: &[VarKind], argument: u32) -> bool
 impl Execution {
     // The live call with so many calls below it.
     fn call_at(&self, code: &Code, n: usize) -> Option<&Call>
-        ensures value { option_map (call_of code.now.procs.now) (option_copied result) ≡ slice_get (calls_in code.now.procs.now self.now) n }
+        ensures value { let call = option_map (call_of code.now.procs.now) (option_copied result) in
+            call ≡ slice_get (calls_in code.now.procs.now self.now) n }
         ensures within { OnSome result (n ≤ length self.now.below.items) }
     {
         if n == self.below.len() {
@@ -63,14 +66,16 @@ impl Execution {
     // The bytes of the frames below a live call.
     fn bytes_under(&self, code: &Code, n: usize) -> Result<u64, OutOfMemory>
         requires { n ≤ length self.now.below.items }
-        ensures { IfOk result (λ bytes. bytes ≡ depth (shape code.now.procs.now) (reverse (take n (calls_in code.now.procs.now self.now)))) }
+        ensures { IfOk result (λ bytes.
+            bytes ≡ depth (sizes_of code.now) (calls_under code.now self.now n)) }
     {
         bytes_of(code, &self.below[..n])
     }
 
     // Whether the call is live, and its frame and those below have so many bytes.
     fn has_sum(&self, code: &Code, n: usize, sum: u64) -> Result<bool, OutOfMemory>
-        ensures { IfOk result (λ has. has ≡ holds_at (calls_in code.now.procs.now self.now) n (has_sum (shape code.now.procs.now) sum)) }
+        ensures { IfOk result (λ has. let calls = calls_in code.now.procs.now self.now in
+            has ≡ holds_at calls n (has_sum (sizes_of code.now) sum)) }
     {
         match self.call_at(code, n) {
             None => Ok(false),
@@ -84,7 +89,8 @@ impl Execution {
 
     // Whether the call is live, and the frames below it have so many bytes.
     fn has_below(&self, code: &Code, n: usize, below: u64) -> Result<bool, OutOfMemory>
-        ensures { IfOk result (λ has. has ≡ holds_at (calls_in code.now.procs.now self.now) n (has_below (shape code.now.procs.now) below)) }
+        ensures { IfOk result (λ has. let calls = calls_in code.now.procs.now self.now in
+            has ≡ holds_at calls n (has_below (sizes_of code.now) below)) }
     {
         match self.call_at(code, n) {
             None => Ok(false),
@@ -97,7 +103,9 @@ impl Execution {
 
     // A word of a call's aggregates, which are looked at where `has` says so.
     fn aggregate(&self, code: &Code, has: bool, n: usize, offset: u32) -> Option<Held>
-        ensures { result ≡ word_at_of (if has then on_call [] (slice_get (calls_in code.now.procs.now self.now) n) (λ c. c.aggregates) else []) offset }
+        ensures { let calls = calls_in code.now.procs.now self.now in
+            let words = words_at has calls n (λ c. c.aggregates) in
+            result ≡ word_at_of words offset }
     {
         match self.call_at(code, n) {
             Some(call) => {
@@ -113,7 +121,9 @@ impl Execution {
 
     // The word of an argument cell, which is looked at where `has` says so.
     fn argument(&self, code: &Code, has: bool, n: usize, i: u32, offset: u32) -> Option<Held>
-        ensures { result ≡ word_at_of (if has then on_call [] (slice_get (calls_in code.now.procs.now self.now) n) (λ c. cell (shape code.now.procs.now) c i) else []) offset }
+        ensures { let calls = calls_in code.now.procs.now self.now in
+            let words = words_at has calls n (λ c. cell (sizes_of code.now) c i) in
+            result ≡ word_at_of words offset }
     {
         match self.call_at(code, n) {
             Some(call) => {
@@ -136,7 +146,9 @@ impl Execution {
     ///
     /// Where the bytes of frames do not fit 64 bits.
     pub fn word(&self, code: &Code, x: Object, offset: u32) -> Result<Option<Held>, OutOfMemory>
-        ensures { IfOk result (λ word. word ≡ word_at_of (object (shape code.now.procs.now) (state_of code.now.procs.now self.now) x) offset) }
+        ensures { IfOk result (λ word.
+            let words = object (sizes_of code.now) (state_of code.now.procs.now self.now) x in
+            word ≡ word_at_of words offset) }
     {
         match x {
             Object::Data => Ok(word_at(&self.globals, offset)),
@@ -156,8 +168,11 @@ impl Execution {
     }
 
     fn set_aggregate(&mut self, code: &Code, n: usize, at: usize, h: Held)
-        ensures calls { calls_in code.now.procs.now self.new ≡ on_call (calls_in code.now.procs.now self.old) (slice_get (calls_in code.now.procs.now self.old) n) (λ c. slice_set (calls_in code.now.procs.now self.old) n (with_aggregates c (slice_set c.aggregates at h))) }
-        ensures rest { state_of code.now.procs.now self.new ≡ with_calls (state_of code.now.procs.now self.old) (reverse (calls_in code.now.procs.now self.new)) }
+        ensures calls { let calls = calls_in code.now.procs.now self.old in
+            calls_in code.now.procs.now self.new ≡ changed_at calls n (λ c. with_aggregate c at h) }
+        ensures rest { let calls = reverse (calls_in code.now.procs.now self.new) in
+            state_of code.now.procs.now self.new
+            ≡ with_calls (state_of code.now.procs.now self.old) calls }
     {
         if n == self.below.len() {
             self.top.set_aggregate(code, at, h);
@@ -167,8 +182,11 @@ impl Execution {
     }
 
     fn set_argument(&mut self, code: &Code, n: usize, i: u32, h: Held)
-        ensures calls { calls_in code.now.procs.now self.new ≡ on_call (calls_in code.now.procs.now self.old) (slice_get (calls_in code.now.procs.now self.old) n) (λ c. slice_set (calls_in code.now.procs.now self.old) n (with_args c (last_set c.args i h))) }
-        ensures rest { state_of code.now.procs.now self.new ≡ with_calls (state_of code.now.procs.now self.old) (reverse (calls_in code.now.procs.now self.new)) }
+        ensures calls { let calls = calls_in code.now.procs.now self.old in
+            calls_in code.now.procs.now self.new ≡ changed_at calls n (λ c. with_argument c i h) }
+        ensures rest { let calls = reverse (calls_in code.now.procs.now self.new) in
+            state_of code.now.procs.now self.new
+            ≡ with_calls (state_of code.now.procs.now self.old) calls }
     {
         if n == self.below.len() {
             self.top.set_argument(code, i, h);
@@ -183,7 +201,10 @@ impl Execution {
     ///
     /// Where the bytes of frames do not fit 64 bits.
     pub fn write(&mut self, code: &Code, x: Object, offset: u32, n: u32) -> Result<(), OutOfMemory>
-        ensures { OnOk result (state_of code.now.procs.now self.new ≡ with_object (shape code.now.procs.now) (state_of code.now.procs.now self.old) x (offset / 4) (Some (Value.Num n))) }
+        ensures { OnOk result (let s = state_of code.now.procs.now self.old in
+            let held = Some (Value.Num n) in
+            state_of code.now.procs.now self.new
+            ≡ with_object (sizes_of code.now) s x (offset / 4) held) }
     {
         let at = (offset / WORD_BYTES) as usize;
         let held = Some(Value::Num(n));

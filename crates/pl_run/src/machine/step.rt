@@ -1,10 +1,10 @@
 // A step: an instruction, a move, or the end of a block.
 
-ghost use Rattle.std.specs.Prelude.{◌≡◌, ◌<◌, ◌+◌, ◌∷◌};
-ghost use Rattle.vc_code.specs.Machine.{found, goes_to, branched, leave as leave_of, act as act_of, step as step_of};
-ghost use Rattle.pl_place.specs.Machine.{placed_machine, next_of, proc_of};
+ghost use Rattle.std.specs.Prelude.{◌<◌};
+ghost use Rattle.vc_code.specs.Machine.{goes_to, branched, leave as leave_of, act as act_of};
+ghost use Rattle.vc_code.specs.Machine.{step as step_of};
 ghost use Rattle.pl_place.specs.declared.placed.LInstr.TheVariants as LInstr;
-ghost use Rattle.pl_run.specs.Standing.{call_of, state_of, rest_from, Leaves};
+ghost use Rattle.pl_run.specs.Standing.{machine_of, next_in as next_in_of, Makes};
 
 use super::Execution;
 use crate::code::{Code, next_in};
@@ -27,7 +27,9 @@ impl Execution {
         places: &ArrayVec<Place, 5>,
     ) -> Result<(), Halt>
         requires { self.old.top.next < usize.MAX }
-        ensures { Leaves code.now.procs.now result self.new (act_of (placed_machine code.now.procs.now) (next_of p.now (call_of code.now.procs.now self.old.top) (LInstr.Op i.now places.now ∷ rest_from code.now.procs.now self.old.top (self.old.top.next + 1))) (state_of code.now.procs.now self.old)) }
+        ensures { Makes code.now self.old self.new result
+            (act_of (machine_of code.now)
+            (next_in_of code.now self.old p.now (LInstr.Op i.now places.now))) }
     {
         let here = self.here(code)?;
         let places = places.as_slice();
@@ -40,7 +42,9 @@ impl Execution {
 
     fn make(&mut self, code: &Code, p: &LProc, m: &Move) -> Result<(), Halt>
         requires { self.old.top.next < usize.MAX }
-        ensures { Leaves code.now.procs.now result self.new (act_of (placed_machine code.now.procs.now) (next_of p.now (call_of code.now.procs.now self.old.top) (LInstr.Move m.now ∷ rest_from code.now.procs.now self.old.top (self.old.top.next + 1))) (state_of code.now.procs.now self.old)) }
+        ensures { Makes code.now self.old self.new result
+            (act_of (machine_of code.now)
+            (next_in_of code.now self.old p.now (LInstr.Move m.now))) }
     {
         if self.top.make(code, p, m) {
             Ok(())
@@ -51,7 +55,8 @@ impl Execution {
 
     fn execute(&mut self, alloc: Global, code: &Code, p: &LProc, i: &LInstr) -> Result<(), Halt>
         requires { self.old.top.next < usize.MAX }
-        ensures { Leaves code.now.procs.now result self.new (act_of (placed_machine code.now.procs.now) (next_of p.now (call_of code.now.procs.now self.old.top) (i.now ∷ rest_from code.now.procs.now self.old.top (self.old.top.next + 1))) (state_of code.now.procs.now self.old)) }
+        ensures { Makes code.now self.old self.new result
+            (act_of (machine_of code.now) (next_in_of code.now self.old p.now i.now)) }
     {
         match i {
             LInstr::Move(m) => self.make(code, p, m),
@@ -60,7 +65,8 @@ impl Execution {
     }
 
     fn jump(&mut self, code: &Code, block: BlockId) -> Result<(), Halt>
-        ensures { Leaves code.now.procs.now result self.new (goes_to (placed_machine code.now.procs.now) (state_of code.now.procs.now self.old) block.0) }
+        ensures { Makes code.now self.old self.new result
+            (λ s. goes_to (machine_of code.now) s block.0) }
     {
         if self.top.jump(code, block.0) {
             self.compared = None;
@@ -71,7 +77,8 @@ impl Execution {
     }
 
     fn branch(&mut self, code: &Code, cond: Cond, one: BlockId, other: BlockId) -> Result<(), Halt>
-        ensures { Leaves code.now.procs.now result self.new (branched (placed_machine code.now.procs.now) cond one.0 other.0 self.old.compared (state_of code.now.procs.now self.old)) }
+        ensures { Makes code.now self.old self.new result
+            (λ s. branched (machine_of code.now) cond one.0 other.0 s.compared s) }
     {
         match self.compared {
             None => Err(STUCK),
@@ -83,7 +90,8 @@ impl Execution {
     }
 
     fn leave(&mut self, code: &Code, end: End) -> Result<(), Halt>
-        ensures { Leaves code.now.procs.now result self.new (leave_of (placed_machine code.now.procs.now) end (state_of code.now.procs.now self.old)) }
+        ensures { Makes code.now self.old self.new result
+            (leave_of (machine_of code.now) end) }
     {
         match end {
             End::Jump(block) => self.jump(code, block),
@@ -96,9 +104,11 @@ impl Execution {
     ///
     /// # Errors
     ///
-    /// Where the run is over by it, and where there is no memory for it; then the machine means nothing more.
+    /// Where the run is over by it, and where there is no memory for it; then the machine means
+    /// nothing more.
     pub fn step(&mut self, alloc: Global, code: &Code) -> Result<(), Halt>
-        ensures { Leaves code.now.procs.now result self.new (step_of (placed_machine code.now.procs.now) (state_of code.now.procs.now self.old)) }
+        ensures { Makes code.now self.old self.new result
+            (step_of (machine_of code.now)) }
     {
         let p = code.procedure(self.top.proc);
         let block = code.block(p, self.top.block);
