@@ -1,0 +1,4 @@
+pub mod Begun
+pub mod Ranges
+pub mod Roles
+pub mod Sizes

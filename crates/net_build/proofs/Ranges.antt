@@ -1,0 +1,98 @@
+-- Runs and ranges, one more.
+use Rattle.std.proofs.Common.{ℕ, zero, suc, ◌≡◌, ◌+◌, ◌-◌, ◌<◌, ◌≤◌, Bool, true, false, cond, List, [], ◌∷◌, ◌++◌, map, length, refl, sym, ap, ◌∙◌, arith, add-one, append-nil, Some, None, Option, option_to_list, append_assoc}
+use Rattle.std.specs.List.{range_with_len, flat_map, filter_map, prefix_len, cons_option}
+use Rattle.std.proofs.lemmas.Grind.{flat_map-append}
+use Rattle.std.proofs.lemmas.List.Elements.{filter_map-append}
+use Rattle.std.proofs.lemmas.List.FromFn.{length-map-range_with_len, length-range_with_len}
+use Rattle.std.proofs.lemmas.List.Sums.{prefix_len-le-length}
+
+-- ---- the run from l on of what passes, below n, each mapped
+module _ (p : ℕ → Bool) (m : ℕ → ℕ) (n : ℕ) where
+  abbrev pub count : ℕ → ℕ
+  count l = prefix_len p (range_with_len l (n - l))
+
+  abbrev pub run : ℕ → List ℕ
+  run l = map m (range_with_len l (count l))
+
+  count_more : (l : ℕ) → l < n → p l ≡ true → count l ≡ suc (count (l + 1))
+  count_more l lt is =
+      let left : n - l ≡ suc (n - (l + 1)) = omega (arith, lt) in
+      ap (λ k. prefix_len p (range_with_len l k)) left ∙ ap (λ b. cond b (1 + count (l + 1)) 0) is ∙ one_more (count (l + 1))
+    where
+      one_more : (k : ℕ) → 1 + k ≡ suc k
+      one_more k = omega arith
+
+  pub run_more : (l : ℕ) → l < n → p l ≡ true → run l ≡ m l ∷ run (l + 1)
+  run_more l lt is = ap (λ k. map m (range_with_len l k)) (count_more l lt is)
+
+  pub run_past : (l : ℕ) → n ≤ l → run l ≡ []
+  run_past l le =
+      let left : n - l ≡ 0 = omega (arith, le) in
+      ap (λ k. map m (range_with_len l (prefix_len p (range_with_len l k)))) left
+
+  pub run_none : (l : ℕ) → l < n → p l ≡ false → run l ≡ []
+  run_none l lt is =
+      let left : n - l ≡ suc (n - (l + 1)) = omega (arith, lt) in
+      let none : count l ≡ 0 = ap (λ k. prefix_len p (range_with_len l k)) left ∙ ap (λ b. cond b (1 + count (l + 1)) 0) is in
+      ap (λ k. map m (range_with_len l k)) none
+
+  pub run_pushed : (l : ℕ) (row new whole : List ℕ) → l < n → p l ≡ true → row ++ run l ≡ whole → new ≡ row ++ m l ∷ [] → new ++ run (l + 1) ≡ whole
+  run_pushed l row new whole lt is before step =
+      ap (λ r. r ++ run (l + 1)) step ∙ append_assoc row (m l ∷ []) (run (l + 1)) ∙ ap (λ r. row ++ r) (sym (run_more l lt is)) ∙ before
+
+  pub length-run : (l : ℕ) → length (run l) ≡ count l
+  length-run l = length-map-range_with_len m l (count l)
+
+  pub count_short : (l : ℕ) → count l ≤ n - l
+  count_short l =
+      let h = prefix_len-le-length p (range_with_len l (n - l)) in
+      let e = length-range_with_len l (n - l) in
+      omega (arith, h, e)
+
+  pub count_some : (l : ℕ) → l < n → p l ≡ true → 0 < count l
+  count_some l lt is = let one = count_more l lt is in omega (arith, one)
+
+-- ---- comprehensions over the numbers below n, one more
+
+range_more : (a n : ℕ) → range_with_len a (n + 1) ≡ range_with_len a n ++ (a + n) ∷ []
+range_more a zero = ap (λ k. k ∷ []) (let e : a ≡ a + 0 = omega arith in e)
+range_more a (suc n) =
+    let more = rw (add-one n) at (range_more (a + 1) n) in
+    let e : a + 1 + n ≡ a + suc n = omega arith in
+    rw (add-one (suc n)) (ap (λ l. a ∷ l) (more ∙ ap (λ k. range_with_len (a + 1) n ++ k ∷ []) e))
+
+pub flat_map_more : {A : Type 0} (f : ℕ → List A) → (n : ℕ) → flat_map f (range_with_len 0 (n + 1)) ≡ flat_map f (range_with_len 0 n) ++ f n
+flat_map_more f n =
+    let e : 0 + n ≡ n = omega arith in
+    ap (flat_map f) (range_more 0 n) ∙ flat_map-append f (range_with_len 0 n) ((0 + n) ∷ []) ∙ ap (λ l. flat_map f (range_with_len 0 n) ++ l) (append-nil (f (0 + n)) ∙ ap f e)
+
+pub filter_map_more : {A : Type 0} (f : ℕ → Option A) → (n : ℕ) → filter_map f (range_with_len 0 (n + 1)) ≡ filter_map f (range_with_len 0 n) ++ option_to_list (f n)
+filter_map_more f n =
+    let e : 0 + n ≡ n = omega arith in
+    ap (filter_map f) (range_more 0 n) ∙ filter_map-append f (range_with_len 0 n) ((0 + n) ∷ [])
+    ∙ ap (λ l. filter_map f (range_with_len 0 n) ++ l) (ap (λ k. filter_map f (k ∷ [])) e ∙ one (f n))
+  where
+    one : {A : Type 0} (o : Option A) → cons_option o [] ≡ option_to_list o
+    one None = refl
+    one (Some x) = refl
+
+-- one more turn of a loop that adds what is made of each number
+pub added_all : {A : Type 0} (f : ℕ → List A) → (n : ℕ) (start out new : List A) → out ≡ start ++ flat_map f (range_with_len 0 n) → new ≡ out ++ f n
+    → new ≡ start ++ flat_map f (range_with_len 0 (n + 1))
+added_all f n start out new before step =
+    step ∙ ap (λ l. l ++ f n) before ∙ append_assoc start (flat_map f (range_with_len 0 n)) (f n) ∙ ap (λ l. start ++ l) (sym (flat_map_more f n))
+
+pub added_some : {A : Type 0} (f : ℕ → Option A) → (n : ℕ) (start out new : List A) → out ≡ start ++ filter_map f (range_with_len 0 n) → new ≡ out ++ option_to_list (f n)
+    → new ≡ start ++ filter_map f (range_with_len 0 (n + 1))
+added_some f n start out new before step =
+    step ∙ ap (λ l. l ++ option_to_list (f n)) before ∙ append_assoc start (filter_map f (range_with_len 0 n)) (option_to_list (f n)) ∙ ap (λ l. start ++ l) (sym (filter_map_more f n))
+
+-- where nothing is made of the numbers between, they add nothing
+pub added_none : {A : Type 0} (f : ℕ → Option A) → (n k : ℕ) → ((x : ℕ) → n ≤ x → x < n + k → f x ≡ None) → filter_map f (range_with_len 0 (n + k)) ≡ filter_map f (range_with_len 0 n)
+added_none f n zero none = ap (λ m. filter_map f (range_with_len 0 m)) (let e : n + 0 ≡ n = omega arith in e)
+added_none {A} f n (suc k) none =
+    ap (λ m. filter_map f (range_with_len 0 m)) (let e : n + suc k ≡ n + k + 1 = omega arith in e)
+    ∙ filter_map_more f (n + k)
+    ∙ ap (λ o. filter_map f (range_with_len 0 (n + k)) ++ option_to_list o) (none (n + k) (omega arith) (omega arith))
+    ∙ append-nil (filter_map f (range_with_len 0 (n + k)))
+    ∙ added_none f n k (λ x le lt. none x le (omega (arith, lt)))

@@ -1,0 +1,164 @@
+// Instructions beside layers: the roles there, what is present, and where it may be.
+
+ghost use Rattle.std.specs.Prelude.{◌≡◌, ◌<◌, ◌&&◌, length, fold, nat_eq, Some, if◌then◌else◌};
+ghost use Rattle.std.specs.List.{list_any};
+ghost use Rattle.pra_base.specs.Code.{kind_of};
+ghost use Rattle.pra_base.specs.Operands.{is_role_of, meets, own_places};
+ghost use Rattle.net_form.specs.Strands.{beside, across, is_before, is_present, roles_at, mask_at, is_param, met_mask, clobbered};
+ghost use Rattle.pra_base.specs.Places.{without};
+ghost use Rattle.net_form.specs.Tables.{all_tables};
+ghost use Rattle.vc_code.specs.Rows.{roles_of, row_of};
+ghost use Rattle.vc_live.specs.Rows.{live_at};
+
+use pra_base::places::{BOTH_PLACES, CONSTANT, MEMORY, REGISTERS, meet, without};
+use pra_base::{BlockId, Mask, VInstr, VProc, VarId, VarKind};
+use vc_code::{OperandRow, Role, operands};
+use vc_live::Liveness;
+
+// The instruction beside a layer; the entry and the exit have none.
+pub(crate) fn beside(code: &VProc, block: u32, layer: u32) -> Option<VInstr>
+    requires { block < length code.now.blocks }
+    ensures { result ≡ beside code.now block layer }
+{
+    if layer == 0 {
+        return None;
+    }
+    code.blocks[block as usize]
+        .code
+        .get(((layer - 1) / 2) as usize)
+        .copied()
+}
+
+// The layer on the other side of the instruction.
+fn across(layer: u32) -> u32
+    requires { layer < 100000 }
+    ensures { result ≡ across layer }
+{
+    if layer % 2 == 1 {
+        layer + 1
+    } else {
+        layer.saturating_sub(1)
+    }
+}
+
+// Whether one of the roles is the variable's.
+pub(crate) fn has_role(roles: &[Role], var: u32) -> bool
+    ensures { result ≡ list_any (λ role. nat_eq role.var.0 var) roles.now }
+{
+    roles.iter().any(|role| role.var.0 == var)
+}
+
+// The roles of a row at a layer: what is read before the instruction, what is written after it.
+pub(crate) fn side(row: &OperandRow, layer: u32) -> &[Role]
+    ensures { roles_of result.now ≡
+        (if is_before layer then (row_of row.now).reads else (row_of row.now).writes) }
+{
+    if layer % 2 == 1 {
+        row.reads.as_slice()
+    } else {
+        row.writes.as_slice()
+    }
+}
+
+// Whether the variable has a role at a layer.
+pub(crate) fn is_role(code: &VProc, block: u32, layer: u32, var: u32) -> bool
+    requires { block < length code.now.blocks }
+    ensures { result ≡ list_any (is_role_of var) (roles_at all_tables code.now block layer) }
+{
+    match beside(code, block, layer) {
+        None => false,
+        Some(instr) => {
+            let row = operands(&instr);
+            has_role(side(&row, layer), var)
+        }
+    }
+}
+
+// Whether the variable is live at a layer, or has just been written.
+pub(crate) fn is_present(code: &VProc, live: &Liveness, block: u32, layer: u32, var: u32) -> bool
+    requires { block < length code.now.blocks }
+    ensures { result ≡ is_present all_tables code.now (live_at live.now) var block layer }
+{
+    if live.at(VarId(var), BlockId(block), layer) {
+        return true;
+    }
+    layer % 2 == 0 && is_role(code, block, layer, var)
+}
+
+// A variable's own places.
+fn own_places(kind: VarKind) -> Mask
+    ensures { result ≡ own_places kind }
+{
+    match kind {
+        VarKind::Constant(_) => REGISTERS | CONSTANT,
+        VarKind::Plain => REGISTERS | BOTH_PLACES | MEMORY,
+        VarKind::Param(_) => REGISTERS | BOTH_PLACES | MEMORY,
+    }
+}
+
+// A mask, met with the masks of the variable's roles.
+fn met_mask(roles: &[Role], var: u32, own: Mask) -> Mask
+    ensures { result ≡ fold (meets var) own (roles_of roles.now) }
+{
+    let mut mask = own;
+    let mut rest = roles;
+    while let [role, others @ ..] = rest {
+        if role.var.0 == var {
+            mask = meet(mask, role.mask);
+        }
+        rest = others;
+    }
+    mask
+}
+
+// Whether the variable is a parameter at the procedure's entry.
+fn comes_in_memory(kind: VarKind, block: u32, layer: u32) -> bool
+    ensures { result ≡ (is_param kind && nat_eq block 0 && nat_eq layer 0) }
+{
+    match kind {
+        VarKind::Param(_) => block == 0 && layer == 0,
+        _ => false,
+    }
+}
+
+// The mask beside an instruction.
+fn mask_beside(
+    code: &VProc,
+    live: &Liveness,
+    block: u32,
+    layer: u32,
+    var: u32,
+    instr: &VInstr,
+) -> Mask
+    requires block { block < length code.now.blocks }
+    requires var { var < length code.now.vars }
+    requires layer { layer < 100000 }
+    requires instr { beside code.now block layer ≡ Some instr.now }
+    ensures { result ≡ without (met_mask all_tables code.now var block layer)
+        (clobbered all_tables code.now (live_at live.now) var block layer) }
+{
+    let row = operands(instr);
+    let met = met_mask(side(&row, layer), var, own_places(code.vars[var as usize]));
+    if is_present(code, live, block, across(layer), var) {
+        without(met, row.clobbers)
+    } else {
+        without(met, 0)
+    }
+}
+
+// Where the variable may be at a layer.
+pub(crate) fn mask_at(code: &VProc, live: &Liveness, block: u32, layer: u32, var: u32) -> Mask
+    requires block { block < length code.now.blocks }
+    requires var { var < length code.now.vars }
+    requires layer { layer < 100000 }
+    ensures { result ≡ mask_at all_tables code.now (live_at live.now) var block layer }
+{
+    let kind = code.vars[var as usize];
+    if comes_in_memory(kind, block, layer) {
+        return MEMORY;
+    }
+    match beside(code, block, layer) {
+        None => without(own_places(kind), 0),
+        Some(instr) => mask_beside(code, live, block, layer, var, &instr),
+    }
+}
