@@ -1,7 +1,7 @@
 -- The code of a module: the instructions of its procedures one behind the other, behind the start
 -- and the stubs of the traps. Places are counted in bytes from the first one of the code. A jump or
 -- a call has the distance from the instruction behind it (SDM volume 2, JMP, Jcc and CALL).
-use Rattle.std.specs.Prelude.{ℕ, ◌+◌, ℤ, pos, ◌-ℤ◌, List, [], ◌∷◌, ◌++◌, length, take}
+use Rattle.std.specs.Prelude.{◌≡◌, ℕ, ◌+◌, ℤ, pos, ◌-ℤ◌, List, [], ◌∷◌, ◌++◌, length, take}
 use Rattle.std.specs.List.{sum_by}
 use Rattle.std.specs.Int.{w32, int_wrap}
 use Rattle.ia_code.specs.declared.ins.Ins.{Ins}
@@ -29,6 +29,13 @@ size_of (Call q) = 5
 
 abbrev pub size : List Item → ℕ
 size items = sum_by size_of items
+
+-- these items stand in the list, behind so many bytes
+pub record StandsAt (all : List Item) (at : ℕ) (items : List Item) : Type 0 where
+  pub before : List Item
+  pub behind : List Item
+  pub parts : all ≡ before ++ items ++ behind
+  pub place : size before ≡ at
 
 -- ---- distances
 

@@ -1,3 +1,4 @@
 pub mod Code
 pub mod Emission
 pub mod Operands
+pub mod Sound

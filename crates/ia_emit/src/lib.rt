@@ -7,12 +7,15 @@
 //! jumps and calls their distances.
 //!
 //! The functions here answer exactly these definitions for one instruction, one end, and the
-//! beginning of a procedure; where the variables are is asked once a procedure (`Frame`).
+//! beginning of a procedure; where the variables are is asked once a procedure (`Frame`). The laws
+//! say that what valid placed code becomes is in the table of bytes (`specs/Sound`), and where the
+//! code of the traps stands.
 #![tactic(auto)]
 
 mod emission;
 mod frame;
 mod item;
+pub mod laws;
 mod operation;
 
 pub use emission::{Items, emit, emit_end, prologue};

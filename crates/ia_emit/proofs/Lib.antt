@@ -1,0 +1,2 @@
+pub mod NearCells
+pub mod Soundness

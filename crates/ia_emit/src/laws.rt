@@ -1,0 +1,35 @@
+// Laws of emission. Each function is a law: its contract is the statement, and it does nothing.
+
+ghost use Rattle.std.specs.Prelude.{◌≡◌, ◌≢◌, pos, neg_ℤ, drop, slice_get, Some};
+ghost use Rattle.ia_code.specs.declared.ins.Ins.TheVariants.{Jcc};
+ghost use Rattle.pra_base.specs.declared.event.TrapKind.{TrapKind};
+ghost use Rattle.pra_base.specs.declared.event.TrapKind.TheVariants.{Input};
+ghost use Rattle.pra_base.specs.declared.ids.Cond.TheVariants.{Ne};
+ghost use Rattle.pl_place.specs.declared.placed.LProc.{LProc};
+ghost use Rattle.pl_place.specs.Valid.{IsPlaced};
+ghost use Rattle.ia_emit.specs.declared.item.Item.TheVariants.{Plain};
+ghost use Rattle.ia_emit.specs.Operands.{IsSmall};
+ghost use Rattle.ia_emit.specs.Emission.{clear, emit_proc};
+ghost use Rattle.ia_emit.specs.Code.{size, front, stub, stub_start, first_entry, StandsAt};
+ghost use Rattle.ia_emit.specs.Sound.{EachSound};
+
+/// The jump of the loop that clears aggregate words goes back over all that stands behind the first
+/// instruction: 20 bytes.
+pub fn clearing_repeats()
+    ensures back { (p : LProc) → slice_get (clear p) 3 ≡ Some
+        (Plain (Jcc Ne (neg_ℤ (pos (size (drop 1 (clear p))))))) }
+    ensures bytes { (p : LProc) → size (drop 1 (clear p)) ≡ 20 }
+{}
+
+/// The first procedure begins where the front ends, and the code of each trap stands in it where
+/// jumps to it go.
+pub fn front_has_its_places()
+    ensures entry { size front ≡ first_entry }
+    ensures stubs { (trap : TrapKind) → trap ≢ Input → StandsAt front (stub_start trap)
+        (stub trap) }
+{}
+
+/// What valid placed code becomes is in the table of bytes.
+pub fn placed_code_is_sound()
+    ensures { (p : LProc) → IsSmall p → IsPlaced p → EachSound (emit_proc p) }
+{}
