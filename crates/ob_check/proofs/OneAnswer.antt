@@ -114,8 +114,8 @@ this_or_memory bytes tokens m f (Limit kind n) a h =
     inl (ap (λ x. Err x) (one_cause bytes tokens m (Limit kind n) f (h (λ same. cc same)) a))
 this_or_memory bytes tokens m f OutOfMemory a h = inr refl
 
-pub fault_where : (bytes : List ℕ) (tokens : List Token) (m : Module) (r : Result Checked CheckFault)
-    → IsAnswer bytes tokens m r → (f : CheckFault) → IsCause bytes tokens m f
+pub fault_where : (bytes : List ℕ) (tokens : List Token) (m : Module)
+    (r : Result Checked CheckFault) → IsAnswer bytes tokens m r → (f : CheckFault) → IsCause bytes tokens m f
     → IsErrUnlessMemory r f
 fault_where bytes tokens m (Ok c) h f a = absurd (never_both bytes tokens m c f h a)
 fault_where bytes tokens m (Err g) h f a = this_or_memory bytes tokens m f g a h

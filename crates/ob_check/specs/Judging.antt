@@ -31,18 +31,22 @@ abbrev pub told : Refusal → Fault
 told (Broken rule token) = (rule, token)
 told OutOfMemory = (0, 0)
 
--- The answer is what a phrase is read as, or the first rule that is broken in it, unless memory is wanting.
+-- The answer is what a phrase is read as, or the first rule that is broken in it, unless memory is
+-- wanting.
 abbrev pub Answers : {A : Type 0} → Judged A → Result A Refusal → Type 0
-Answers judged answer = MatchResult answer (λ x. judged ≡ Ok x) (λ r. r ≢ OutOfMemory → judged ≡ Err (told r))
+Answers judged answer =
+    MatchResult answer (λ x. judged ≡ Ok x) (λ r. r ≢ OutOfMemory → judged ≡ Err (told r))
 
 -- the same, for what changes the place
 abbrev pub Gives : {A : Type 0} → Judged (Known × A) → Result A Refusal → Place → Type 0
 Gives judged answer new =
-    MatchResult answer (λ x. judged ≡ Ok (known_at new, x)) (λ r. r ≢ OutOfMemory → judged ≡ Err (told r))
+    MatchResult answer (λ x. judged ≡ Ok (known_at new, x))
+    (λ r. r ≢ OutOfMemory → judged ≡ Err (told r))
 
 -- the same, for what gives nothing but a change of what is known
 abbrev pub Widens : {A B : Type 0} → Judged A → Result B Refusal → A → Type 0
-Widens judged answer new = MatchResult answer (λ _. judged ≡ Ok new) (λ r. r ≢ OutOfMemory → judged ≡ Err (told r))
+Widens judged answer new =
+    MatchResult answer (λ _. judged ≡ Ok new) (λ r. r ≢ OutOfMemory → judged ≡ Err (told r))
 
 abbrev pub fields_at : Place → List Name → List ℕ → Fields
 fields_at p names types = record { place = known_at p; names = names; types = types }
@@ -50,19 +54,26 @@ fields_at p names types = record { place = known_at p; names = names; types = ty
 abbrev pub Moves : {B : Type 0} → Judged Known → Result B Refusal → Place → Type 0
 Moves judged answer new = Widens judged answer (known_at new)
 
-abbrev pub GivesItems : {A : Type 0} → Judged (Known × List A) → Result (Vec A Global) Refusal → Place → Type 0
+abbrev pub GivesItems :
+    {A : Type 0} → Judged (Known × List A) → Result (Vec A Global) Refusal → Place → Type 0
 GivesItems judged answer new =
-    MatchResult answer (λ xs. judged ≡ Ok (known_at new, xs.items)) (λ r. r ≢ OutOfMemory → judged ≡ Err (told r))
+    MatchResult answer (λ xs. judged ≡ Ok (known_at new, xs.items))
+    (λ r. r ≢ OutOfMemory → judged ≡ Err (told r))
 
 -- the same, for declarations, whose procedures come behind those before
-abbrev pub Declares : Judged Declared → List Draft → Result (List ℕ) Refusal → Known → List Draft → Type 0
+abbrev pub Declares :
+    Judged Declared → List Draft → Result (List ℕ) Refusal → Known → List Draft → Type 0
 Declares judged before answer place procs =
     MatchResult answer
-    (λ vars. (more : List Draft) × (judged ≡ Ok (record { place = place; vars = vars; procs = more })) × (procs ≡ before ++ more))
+    (λ vars. (more : List Draft)
+    × (judged ≡ Ok (record { place = place; vars = vars; procs = more }))
+    × (procs ≡ before ++ more))
     (λ r. r ≢ OutOfMemory → judged ≡ Err (told r))
 
 -- the same, for a procedure, which comes with those that it declares behind those before
-abbrev pub Drafts : {B : Type 0} → Judged (Known × List Draft) → List Draft → Result B Refusal → Known → List Draft → Type 0
+abbrev pub Drafts :
+    {B : Type 0} → Judged (Known × List Draft) → List Draft → Result B Refusal → Known
+    → List Draft → Type 0
 Drafts judged before answer place procs =
     MatchResult answer
     (λ _. (more : List Draft) × (judged ≡ Ok (place, more)) × (procs ≡ before ++ more))
@@ -75,4 +86,5 @@ read_as r = record { place = known_at r.place; vars = r.vars; procs = r.procs.it
 -- the same, for a whole module
 abbrev pub Reads : Judged KnownModule → Result Reading Refusal → Type 0
 Reads judged answer =
-    MatchResult answer (λ r. judged ≡ Ok (read_as r)) (λ r. r ≢ OutOfMemory → judged ≡ Err (told r))
+    MatchResult answer (λ r. judged ≡ Ok (read_as r))
+    (λ r. r ≢ OutOfMemory → judged ≡ Err (told r))

@@ -73,7 +73,8 @@ fn variable_list<'a>(
     vars: &mut Vec<u32>,
     list: &NameList,
 ) -> Result<(), Refusal>
-    ensures { Widens (variable_list_at (known_at place.old) vars.old.items list.now) result (known_at place.new, vars.new.items) }
+    ensures { Widens (variable_list_at (known_at place.old) vars.old.items list.now) result
+        (known_at place.new, vars.new.items) }
 {
     announce_all(place, list.names.as_slice())?;
     let type_id = type_expression(place, &list.shape)?;
@@ -86,7 +87,8 @@ fn show_variables<'a>(
     type_id: u32,
     names: &[u32],
 ) -> Result<(), Refusal>
-    ensures { Widens (Ok (with_variables (known_at place.old) vars.old.items type_id names.now)) result (known_at place.new, vars.new.items) }
+    ensures { Widens (Ok (with_variables (known_at place.old) vars.old.items type_id names.now))
+        result (known_at place.new, vars.new.items) }
 {
     for token in names {
         let number = u32::try_from(vars.len()).map_err(|_| Refusal::OutOfMemory)?;
@@ -124,7 +126,8 @@ fn section<'a>(
     params: &mut Vec<Param>,
     section: &Section,
 ) -> Result<(), Refusal>
-    ensures { Widens (section_at (known_at place.old) params.old.items section.now) result (known_at place.new, params.new.items) }
+    ensures { Widens (section_at (known_at place.old) params.old.items section.now) result
+        (known_at place.new, params.new.items) }
 {
     announce_all(place, section.names.as_slice())?;
     let type_id = type_expression(place, &section.shape)?;
@@ -145,7 +148,9 @@ fn show_parameters<'a>(
     type_id: u32,
     names: &[u32],
 ) -> Result<(), Refusal>
-    ensures { Widens (Ok (with_parameters (known_at place.old) params.old.items by_var type_id names.now)) result (known_at place.new, params.new.items) }
+    ensures { Widens
+        (Ok (with_parameters (known_at place.old) params.old.items by_var type_id names.now)) result
+        (known_at place.new, params.new.items) }
 {
     for token in names {
         let number = u32::try_from(params.len()).map_err(|_| Refusal::OutOfMemory)?;

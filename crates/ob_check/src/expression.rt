@@ -116,7 +116,8 @@ pub fn expression(place: &Place, expr: &Expr) -> Result<Typed, Refusal>
 /// A left side and a relation behind it.
 #[cycle(expression)]
 fn related(place: &Place, last: u32, left: Typed, relation: &Relation) -> Result<Typed, Refusal>
-    ensures { Answers (related_of (known_at place.now) last left (comparison_of relation.now)) result }
+    ensures { Answers (related_of (known_at place.now) last left (comparison_of relation.now))
+        result }
 {
     let op = operator(relation.op);
     match op {
@@ -227,7 +228,8 @@ fn factor(place: &Place, factor: &Factor) -> Result<Typed, Refusal>
 /// What a name with its selectors stands for in an expression.
 #[cycle(expression)]
 fn designated(place: &Place, name: &Designator, meaning: Meaning) -> Result<Typed, Refusal>
-    ensures { Answers (designated_of (known_at place.now) (name_with_selectors name.now) meaning) result }
+    ensures { Answers (designated_of (known_at place.now) (name_with_selectors name.now) meaning)
+        result }
 {
     match meaning {
         Meaning::Constant(value) => {
@@ -257,7 +259,9 @@ pub fn selected(
     type_id: u32,
     name: &Designator,
 ) -> Result<(Seq<RStep>, u32), Refusal>
-    ensures { Answers (selected_of (known_at place.now) [] type_id (name_with_selectors name.now).selectors) result }
+    ensures { Answers
+        (selected_of (known_at place.now) [] type_id (name_with_selectors name.now).selectors)
+        result }
 {
     let mut steps = Vec::new(place.alloc);
     let mut type_id = type_id;
@@ -285,7 +289,9 @@ fn selector(place: &Place, type_id: u32, selector: &Selector) -> Result<(RStep, 
 }
 
 fn field(place: &Place, token: u32, type_id: u32) -> Result<(RStep, u32), Refusal>
-    ensures { Answers (field_of (known_at place.now) token type_id (slice_get (known_at place.now).types type_id)) result }
+    ensures { Answers
+        (field_of (known_at place.now) token type_id (slice_get (known_at place.now).types type_id))
+        result }
 {
     match place.types.get(type_id as usize) {
         Some(Shape::Record(types)) => {
@@ -316,7 +322,8 @@ fn numbered_field(token: u32, types: &[u32], number: Option<usize>) -> Result<(R
 }
 
 fn element(place: &Place, token: u32, index: RExpr, type_id: u32) -> Result<(RStep, u32), Refusal>
-    ensures { Answers (element_of token index (slice_get (known_at place.now).types type_id)) result }
+    ensures { Answers (element_of token index (slice_get (known_at place.now).types type_id))
+        result }
 {
     match place.types.get(type_id as usize) {
         Some(Shape::Array(_, item)) => Ok((RStep::Index(index), *item)),

@@ -41,8 +41,10 @@ impl<'a> FieldNames<'a> {
 
     /// Adds a field, and says whether its name is new; else the names stay.
     pub fn declare(&mut self, name: &'a [u8]) -> Result<bool, AllocFailed<&'a [u8]>>
-        ensures is_new { IfOk result (λ is_new. is_new ≡ not (list_any (bytes_eq name.entry.now) self.old)) }
-        ensures names { IfOk result (λ is_new. self.new ≡ (if is_new then self.old ++ name.entry.now ∷ [] else self.old)) }
+        ensures is_new { IfOk result (λ is_new.
+            is_new ≡ not (list_any (bytes_eq name.entry.now) self.old)) }
+        ensures names { IfOk result (λ is_new.
+            self.new ≡ (if is_new then self.old ++ name.entry.now ∷ [] else self.old)) }
     {
         self.names.insert(name)
     }

@@ -14,8 +14,8 @@ use ob_syntax::{Decls, Draft, Param, Proc, Section};
 use pra_list::Seq;
 use std::alloc::Global;
 
-/// Reads a procedure's heading, and gives its parameters. The place moves behind it, into the procedure; from there on
-/// the procedure's name is visible.
+/// Reads a procedure's heading, and gives its parameters. The place moves behind it, into the
+/// procedure; from there on the procedure's name is visible.
 fn heading<'a>(place: &mut Place<'a>, name: u32, list: &[Section]) -> Result<Seq<Param>, Refusal>
     ensures { Gives (heading_at (known_at place.old) name list.now) result place.new }
 {
@@ -64,7 +64,8 @@ pub fn declarations<'a>(
     procs: &mut Vec<Draft>,
     decls: &Decls,
 ) -> Result<Seq<u32>, Refusal>
-    ensures { Declares (declarations_of decls.now (known_at place.old)) procs.old.items result (known_at place.new) procs.new.items }
+    ensures { Declares (declarations_of decls.now (known_at place.old)) procs.old.items result
+        (known_at place.new) procs.new.items }
 {
     constants(place, decls.consts.as_slice())?;
     types(place, decls.types.as_slice())?;
@@ -78,7 +79,8 @@ pub fn declarations<'a>(
 /// Reads a procedure, which comes in front of those that it declares.
 #[cycle(declarations)]
 fn procedure<'a>(place: &mut Place<'a>, procs: &mut Vec<Draft>, proc: &Proc) -> Result<(), Refusal>
-    ensures { Drafts (procedure_of proc.now (known_at place.old)) procs.old.items result (known_at place.new) procs.new.items }
+    ensures { Drafts (procedure_of proc.now (known_at place.old)) procs.old.items result
+        (known_at place.new) procs.new.items }
 {
     let around = place.here;
     let number = procs.len();

@@ -14,7 +14,8 @@ use ob_syntax::{Draft, Module, Shape, Token};
 use pra_list::Seq;
 use std::alloc::{AllocError, Global};
 
-/// A module whose names are resolved: the place behind it, the types of its variables, its body and then its procedures.
+/// A module whose names are resolved: the place behind it, the types of its variables, its body and
+/// then its procedures.
 #[derive(Drop)]
 pub struct Reading<'a> {
     pub place: Place<'a>,

@@ -8,8 +8,8 @@ use ob_syntax::Meaning;
 use std::alloc::{AllocFailed, Global};
 use std::marker::Model;
 
-/// A scope, as the list of its names in the order of their declarations; a name has no meaning up to the end of its
-/// declaration.
+/// A scope, as the list of its names in the order of their declarations; a name has no meaning up
+/// to the end of its declaration.
 #[derive(Drop)]
 pub struct Scope<'a> {
     names: IndexMap<&'a [u8], Option<Meaning>>,

@@ -17,7 +17,8 @@ use pra_list::Seq;
 
 /// The variable that is assigned to.
 fn target(place: &Place, name: &Designator, meaning: Meaning) -> Result<RVar, Refusal>
-    ensures { Answers (target_of (known_at place.now) (name_with_selectors name.now) meaning) result }
+    ensures { Answers (target_of (known_at place.now) (name_with_selectors name.now) meaning)
+        result }
 {
     match meaning {
         Meaning::Variable(_, root, type_id) => {

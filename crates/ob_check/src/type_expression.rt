@@ -51,7 +51,9 @@ fn field_lists<'a>(
     types: &mut Vec<u32>,
     lists: &[NameList],
 ) -> Result<(), Refusal>
-    ensures { Widens (all_fields (fields_at place.old names.old types.old.items) (map fields_of lists.now)) result (fields_at place.new names.new types.new.items) }
+    ensures { Widens
+        (all_fields (fields_at place.old names.old types.old.items) (map fields_of lists.now))
+        result (fields_at place.new names.new types.new.items) }
 {
     for list in lists {
         field_list(place, names, types, list)?;
@@ -67,7 +69,8 @@ fn field_list<'a>(
     types: &mut Vec<u32>,
     list: &NameList,
 ) -> Result<(), Refusal>
-    ensures { Widens (fields_of list.now (fields_at place.old names.old types.old.items)) result (fields_at place.new names.new types.new.items) }
+    ensures { Widens (fields_of list.now (fields_at place.old names.old types.old.items)) result
+        (fields_at place.new names.new types.new.items) }
 {
     for token in list.names.as_slice() {
         let name = place.name(*token);

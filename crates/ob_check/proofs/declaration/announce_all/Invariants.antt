@@ -5,4 +5,5 @@ use Rattle.ob_check.proofs.declaration.announce_all.Given as goal
 
 abbrev pub invariant-loop-token : goal.invariant-loop-token
 invariant-loop-token l =
-    all_announced (known_at l.place) (drop l.token-index l.names) ≡ all_announced (known_at l.initial.place) l.names
+    all_announced (known_at l.place) (drop l.token-index l.names) ≡
+    all_announced (known_at l.initial.place) l.names

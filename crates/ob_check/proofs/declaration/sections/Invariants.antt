@@ -5,4 +5,5 @@ use Rattle.ob_check.proofs.declaration.sections.Given as goal
 
 abbrev pub invariant-loop-one : goal.invariant-loop-one
 invariant-loop-one l =
-    all_sections (known_at l.place) l.params.items (drop l.one-index l.list) ≡ all_sections (known_at l.initial.place) [] l.list
+    all_sections (known_at l.place) l.params.items (drop l.one-index l.list) ≡
+    all_sections (known_at l.initial.place) [] l.list

@@ -5,4 +5,5 @@ use Rattle.ob_check.proofs.declaration.show_variables.Given as goal
 
 abbrev pub invariant-loop-token : goal.invariant-loop-token
 invariant-loop-token l =
-    with_variables (known_at l.place) l.vars.items l.type_id (drop l.token-index l.names) ≡ with_variables (known_at l.initial.place) l.initial.vars.items l.type_id l.names
+    with_variables (known_at l.place) l.vars.items l.type_id (drop l.token-index l.names) ≡
+    with_variables (known_at l.initial.place) l.initial.vars.items l.type_id l.names

@@ -5,4 +5,5 @@ use Rattle.ob_check.proofs.declaration.types.Given as goal
 
 abbrev pub invariant-loop-decl : goal.invariant-loop-decl
 invariant-loop-decl l =
-    all_type_declarations (known_at l.place) (drop l.decl-index l.decls) ≡ all_type_declarations (known_at l.initial.place) l.decls
+    all_type_declarations (known_at l.place) (drop l.decl-index l.decls) ≡
+    all_type_declarations (known_at l.initial.place) l.decls

@@ -7,5 +7,6 @@ returns c =
     let keys = c.self.inside.names.keys in
     rw (← c.self.view_is) (record {
       is_new = is_new_key c.args.name keys call.result call.ensures.added;
-      names = keys_after c.args.name keys call.new.self.keys call.result call.ensures.added call.ensures.keys;
+      names = keys_after c.args.name keys call.new.self.keys call.result call.ensures.added
+          call.ensures.keys;
     })
