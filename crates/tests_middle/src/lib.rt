@@ -1,7 +1,15 @@
-//! Tests of the public calls on selected and placed code: operands, runs, liveness, moves.
+//! Tests of the public calls on selected code and of moves: the operand table, near procedures,
+//! runs, moves.
 //!
-//! Each module tests one crate, and nothing here is used by another crate.
+//! Each module of tests is of one crate, and nothing here is used by another crate. `code` makes
+//! selected code of text.
 #![tactic(auto)]
 
 #[cfg(test)]
+mod code;
+#[cfg(test)]
 mod moves_tests;
+#[cfg(test)]
+mod operands_tests;
+#[cfg(test)]
+mod run_tests;

@@ -42,7 +42,13 @@ pub fn procedure(
     vars: &[VarKind],
     blocks: Vec<Block>,
 ) -> Result<VProc, AllocError>
-    ensures { IfOk result (λ code. code ≡ record { id = record { 0 = id }; args = args; aggregates = aggregates; vars = vars.now; blocks = blocks.items }) }
+    ensures { IfOk result (λ code. code ≡ record {
+      id = record { 0 = id };
+      args = args;
+      aggregates = aggregates;
+      vars = vars.now;
+      blocks = blocks.items;
+    }) }
 {
     Ok(VProc {
         id: ProcId(id),
@@ -59,7 +65,13 @@ pub fn procedure(
 ///
 /// Where there is no memory for it.
 pub fn straight(alloc: Global, vars: &[VarKind], code: &[VInstr]) -> Result<VProc, AllocError>
-    ensures { IfOk result (λ body. body ≡ record { id = record { 0 = 0 }; args = 0; aggregates = 0; vars = vars.now; blocks = record { depth = 0; code = code.now; end = end.Return } ∷ [] }) }
+    ensures { IfOk result (λ body. body ≡ record {
+      id = record { 0 = 0 };
+      args = 0;
+      aggregates = 0;
+      vars = vars.now;
+      blocks = record { depth = 0; code = code.now; end = end.Return } ∷ [];
+    }) }
 {
     let mut blocks = Vec::new(alloc);
     blocks.push(block(alloc, code, End::Return)?)?;
