@@ -1,7 +1,8 @@
 //! Placed code for tests: instructions by short calls, and code printed one instruction a line.
 //!
-//! A test writes `block(alloc, &[Op(Set(X, 5), &[Eax]), Shift(Move::Store(X, Eax))], End::Return)`, and
-//! reads a failure in what `print` makes of the procedure. Nothing of the compiler stands on this crate.
+//! A test writes `block(alloc, &[Op(Set(X, 5), &[Eax]), Shift(Move::Store(X, Eax))], End::Return)`,
+//! and reads a failure in what `print` makes of the procedure. Nothing of the compiler stands on
+//! this crate.
 #![tactic(auto)]
 
 mod build;

@@ -16,7 +16,8 @@ fn print_block(alloc: Global, text: &mut String, block: &LBlock) -> Result<(), A
     text.push_str(&line)
 }
 
-/// The procedure's blocks, an instruction or a move a line, an instruction with the places of its operands behind it.
+/// The procedure's blocks, an instruction or a move a line, an instruction with the places of its
+/// operands behind it.
 ///
 /// # Errors
 ///
