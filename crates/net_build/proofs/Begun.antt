@@ -29,7 +29,7 @@ any-rewritten : (line : Line) (vars : List ℕ) (v : ℕ) → list_any (is_role_
 any-rewritten line [] v = refl
 any-rewritten line (x ∷ xs) v = ap (λ b. b || list_any (is_role_of v) (map (rewritten line) xs)) (swapped x v) ∙ ap (λ b. eqb v x || b) (any-rewritten line xs v)
 
-read_roles : (v : ℕ) (o : Option VInstr) → list_any (is_role_of v) (roles_beside true operands o) ≡ passes (λ i. reads i v) o
+pub read_roles : (v : ℕ) (o : Option VInstr) → list_any (is_role_of v) (roles_beside true operands o) ≡ passes (λ i. reads i v) o
 read_roles v None = refl
 read_roles v (Some i) = list_any-map (is_role_of v) (settled (table i)) (table i).reads
 

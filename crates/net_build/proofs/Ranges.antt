@@ -1,6 +1,7 @@
 -- Runs and ranges, one more.
-use Rattle.std.proofs.Common.{ℕ, zero, suc, ◌≡◌, ◌+◌, ◌-◌, ◌<◌, ◌≤◌, Bool, true, false, cond, List, [], ◌∷◌, ◌++◌, map, length, refl, sym, ap, ◌∙◌, arith, add-one, append-nil, Some, None, Option, option_to_list, append_assoc}
-use Rattle.std.specs.List.{range_with_len, flat_map, filter_map, prefix_len, cons_option}
+use Rattle.std.proofs.Common.{ℕ, zero, suc, ◌≡◌, ◌+◌, ◌-◌, ◌<◌, ◌≤◌, Bool, true, false, cond, List, [], ◌∷◌, ◌++◌, map, length, get_or, take, drop, refl, sym, ap, ◌∙◌, arith, add-one, append-nil, Some, None, Option, option_to_list, append_assoc}
+use Rattle.std.specs.List.{range_with_len, flat_map, filter_map, prefix_len, cons_option, enumerate_from}
+use Rattle.std.proofs.lemmas.List.{take_all}
 use Rattle.std.proofs.lemmas.Grind.{flat_map-append}
 use Rattle.std.proofs.lemmas.List.Elements.{filter_map-append}
 use Rattle.std.proofs.lemmas.List.FromFn.{length-map-range_with_len, length-range_with_len}
@@ -96,3 +97,20 @@ added_none {A} f n (suc k) none =
     ∙ ap (λ o. filter_map f (range_with_len 0 (n + k)) ++ option_to_list o) (none (n + k) (omega arith) (omega arith))
     ∙ append-nil (filter_map f (range_with_len 0 (n + k)))
     ∙ added_none f n k (λ x le lt. none x le (omega (arith, lt)))
+
+-- ---- comprehensions over what is left of a list
+
+pub filtered : {X Y : Type 0} (g : ℕ × X → Option Y) → (n : ℕ) (xs : List X) (d : X) (out new whole : List Y) → 1 ≤ length xs
+    → new ≡ out ++ option_to_list (g (n, get_or xs 0 d)) → out ++ filter_map g (enumerate_from n xs) ≡ whole
+    → new ++ filter_map g (enumerate_from (n + 1) (take (length xs - 1) (drop 1 xs))) ≡ whole
+filtered g n [] d out new whole some step before = absurd (omega (arith, some))
+filtered {X} {Y} g n (x ∷ xs) d out new whole some step before =
+    ap (λ r. new ++ filter_map g (enumerate_from (n + 1) r)) (take_all (suc (length xs) - 1) xs (omega arith))
+    ∙ ap (λ l. l ++ filter_map g (enumerate_from (n + 1) xs)) step
+    ∙ append_assoc out (option_to_list (g (n, x))) (filter_map g (enumerate_from (n + 1) xs))
+    ∙ ap (λ l. out ++ l) (one (g (n, x)) (filter_map g (enumerate_from (n + 1) xs)))
+    ∙ before
+  where
+    one : (o : Option Y) (ys : List Y) → option_to_list o ++ ys ≡ cons_option o ys
+    one None ys = refl
+    one (Some y) ys = refl

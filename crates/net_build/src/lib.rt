@@ -1,14 +1,23 @@
 //! The lists of a procedure's network, made from its selected code and its liveness.
 //!
-//! `strands_of` makes the strands with their masks, exactly those of the definition (specs/Strands of
-//! the crate of networks). A strand begins at a block's entry or where its variable has a role, a
-//! law on what is live (proofs/Begun), so only variables with roles are looked at after the entry.
+//! Each call makes one list, exactly that of the definition (specs/Strands and specs/Network of the
+//! crate of networks): `strands_of` the strands with their masks, `extras_of` what operands cost
+//! more at a place than in a register, `pairs_of` the memory pairs.
+//!
+//! A strand begins at a block's entry or where its variable has a role, a law on what is live
+//! (proofs/Begun), so only variables with roles are looked at after the entry. The strand of an
+//! operand is looked for among the strands of its block.
 //!
 //! A layer above hands in sized code and what is live in it, and gets each list as an equation with
 //! the definition's.
 #![tactic(auto)]
 
 mod beside;
+mod extras;
+mod pairs;
 mod strands;
+mod surcharge;
 
+pub use extras::extras_of;
+pub use pairs::pairs_of;
 pub use strands::strands_of;

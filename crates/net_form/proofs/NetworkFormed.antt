@@ -76,6 +76,12 @@ module _ (tables : PlaceTables) (code : VProc) (live : Lives) where
       (enumerate_from 0 (strands tables code live))
       (All-enumerate (IsStrandOf blocks) 0 (strands tables code live) formed_strands))
 
+-- each strand is one of a block of the code
+pub strands_are_formed : (tables : PlaceTables) (code : VProc) (live : Lives)
+    → All (IsStrandOf (map net_block code.blocks)) (strands tables code live)
+unfolding blocks
+strands_are_formed tables code live = formed_strands tables code live
+
 total_layers : (bs : List Block) → layer_total (map net_block bs) ≡ 2 * instruction_count bs + 2 * length bs
 total_layers [] = refl
 total_layers (b ∷ bs) =
