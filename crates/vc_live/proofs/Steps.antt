@@ -1,4 +1,5 @@
--- What the operands of an instruction say of what it reads and writes, and how the equations go over one instruction.
+-- What the operands of an instruction say of what it reads and writes, and how the equations go
+-- over one instruction.
 use Rattle.std.proofs.Common.{◌≡◌, ℕ, ◌+◌, ◌<◌, ◌≤◌, Bool, true, false, not, ◌&&◌, ◌||◌, nat_eq, List, [], ◌∷◌, map, length, get_or, take, drop, refl, ap, subst, ◌∙◌, arith}
 use Rattle.std.specs.List.{list_any}
 use Rattle.std.proofs.lemmas.Bool.{eq-eqb, eqb-true}

@@ -1,5 +1,7 @@
 -- The equations of liveness over blocks (Appel, Modern Compiler Implementation, section 10.1).
-use Rattle.std.specs.Prelude.{◌≡◌, ℕ, ◌+◌, ◌/◌, ◌<◌, ◌≤◌, sum_by, if◌then◌else◌, Bool, true, false, not, ◌||◌, ◌&&◌, nat_eq, List, [], ◌∷◌, drop, length, slice_get, slice_index_or, Some}
+use Rattle.std.specs.Prelude.{◌≡◌, ℕ, ◌+◌, ◌/◌, ◌<◌, ◌≤◌, sum_by, if◌then◌else◌, Bool, true, false}
+use Rattle.std.specs.Prelude.{not, ◌||◌, ◌&&◌, nat_eq, List, [], ◌∷◌, drop, length, slice_get}
+use Rattle.std.specs.Prelude.{slice_index_or, Some}
 use Rattle.std.specs.List.{list_any}
 use Rattle.pra_base.specs.declared.code.VInstr.{VInstr}
 use Rattle.pra_base.specs.declared.code.End.{End}
@@ -16,7 +18,8 @@ use Rattle.vc_live.specs.Sets.{contains, room}
 unfoldable pub named_in : List Role → ℕ → Bool
 named_in roles v = list_any (λ role. nat_eq role.var.0 v) roles
 
--- live before an instruction, from what is live after it: what is read, and what is not written. No constant is written.
+-- live before an instruction, from what is live after it: what is read, and what is not written. No
+-- constant is written.
 unfoldable pub before : (ℕ → Bool) → VInstr → (ℕ → Bool) → ℕ → Bool
 before constants i after v = reads i v || (after v && (constants v || not (writes i v)))
 
@@ -31,7 +34,8 @@ entry entries b = slice_index_or entries b []
 -- live at the entry of a target
 abbrev pub at_targets : List (List ℕ) → End → ℕ → Bool
 at_targets entries (Jump b) v = contains (entry entries b.0) v
-at_targets entries (Branch condition one other) v = contains (entry entries one.0) v || contains (entry entries other.0) v
+at_targets entries (Branch condition one other) v =
+    contains (entry entries one.0) v || contains (entry entries other.0) v
 at_targets entries Return v = false
 
 -- live at an end, from what is live at the entries
@@ -44,7 +48,8 @@ abbrev pub HasRoom : List ℕ → VInstr → Type 0
 HasRoom set i = (v : ℕ) → Names i v → v / 64 < length set
 
 abbrev pub Fits : ℕ → List VInstr → Type 0
-Fits words code = (k : ℕ) (i : VInstr) → slice_get code k ≡ Some i → (v : ℕ) → Names i v → v / 64 < words
+Fits words code = (k : ℕ) (i : VInstr) → slice_get code k ≡ Some i → (v : ℕ) → Names i v →
+    v / 64 < words
 
 abbrev pub FitsEnd : ℕ → End → Type 0
 FitsEnd blocks (Jump b) = b.0 < blocks
@@ -58,18 +63,22 @@ HaveWords words entries = (b : ℕ) → b < length entries → length (entry ent
 
 -- live before instruction k of block b, from what is live at the entries
 unfoldable pub live_in : VProc → (ℕ → Bool) → List (List ℕ) → ℕ → ℕ → ℕ → Bool
-live_in code constants entries b k v = through constants (drop k (code_of code b)) (at_exit constants entries (end_of code b)) v
+live_in code constants entries b k v =
+    through constants (drop k (code_of code b)) (at_exit constants entries (end_of code b)) v
 
 -- what the entries have is live there
 abbrev pub IsSound : VProc → (ℕ → Bool) → List (List ℕ) → Type 0
-IsSound code constants entries = (b v : ℕ) → constants v ≡ false → contains (entry entries b) v ≡ true → ReadBeforeWritten code v (record { block = b; index = 0 })
+IsSound code constants entries = (b v : ℕ) → constants v ≡ false →
+    contains (entry entries b) v ≡ true → ReadBeforeWritten code v (record { block = b; index = 0 })
 
 -- the entry of the block has what its equation asks for
 abbrev pub IsClosedAt : VProc → (ℕ → Bool) → List (List ℕ) → ℕ → Type 0
-IsClosedAt code constants entries b = (v : ℕ) → live_in code constants entries b 0 v ≡ true → contains (entry entries b) v ≡ true
+IsClosedAt code constants entries b = (v : ℕ) → live_in code constants entries b 0 v ≡ true →
+    contains (entry entries b) v ≡ true
 
 abbrev pub IsClosed : VProc → (ℕ → Bool) → List (List ℕ) → Type 0
-IsClosed code constants entries = (b : ℕ) → b < length code.blocks → IsClosedAt code constants entries b
+IsClosed code constants entries = (b : ℕ) → b < length code.blocks →
+    IsClosedAt code constants entries b
 
 -- the code names variables that the sets have room for, and blocks that there are
 pub record InRange (words : ℕ) (code : VProc) : Type 0 where
@@ -85,10 +94,13 @@ pub record Shape (words : ℕ) (code : VProc) (entries : List (List ℕ)) : Type
 unfoldable pub total_room : List (List ℕ) → ℕ
 total_room entries = sum_by room entries
 
--- what has come of the entries after the blocks from b on were asked, where none has grown unless `grown`
-pub record Swept (words : ℕ) (code : VProc) (constants : ℕ → Bool) (start now : List (List ℕ)) (b : ℕ) (grown : Bool) : Type 0 where
+-- what has come of the entries after the blocks from b on were asked, where none has grown unless
+-- `grown`
+pub record Swept (words : ℕ) (code : VProc) (constants : ℕ → Bool)
+    (start now : List (List ℕ)) (b : ℕ) (grown : Bool) : Type 0 where
   pub shape : Shape words code now
   pub sound : IsSound code constants start → IsSound code constants now
   pub same : grown ≡ false → now ≡ start
-  pub closed : grown ≡ false → (c : ℕ) → b ≤ c → c < length code.blocks → IsClosedAt code constants now c
+  pub closed : grown ≡ false → (c : ℕ) → b ≤ c → c < length code.blocks →
+      IsClosedAt code constants now c
   pub room : total_room now + (if grown then 1 else 0) ≤ total_room start

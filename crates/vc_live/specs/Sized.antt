@@ -1,4 +1,5 @@
--- The parts of what sized code is: facts of one instruction, of one end, and of a list of instructions.
+-- The parts of what sized code is: facts of one instruction, of one end, and of a list of
+-- instructions.
 use Rattle.std.specs.Prelude.{◌≡◌, ℕ, ◌<◌, List, Option, Some, slice_get, option_and_then}
 use Rattle.pra_base.specs.declared.code.VInstr.{VInstr}
 use Rattle.pra_base.specs.declared.code.End.{End}

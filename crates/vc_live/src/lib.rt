@@ -1,7 +1,8 @@
 //! Liveness: which variables of selected code are live at which layer.
 //!
-//! The sets of variables that are live at the entries of blocks are the least solution of the equations over blocks
-//! (Appel, Modern Compiler Implementation, section 10.1). From them follow the sets at all points of each block.
+//! The sets of variables that are live at the entries of blocks are the least solution of the
+//! equations over blocks (Appel, Modern Compiler Implementation, section 10.1). From them follow
+//! the sets at all points of each block.
 #![tactic(auto)]
 
 mod equations;

@@ -1,11 +1,14 @@
 // Which variables are live at which layer.
 
-ghost use Rattle.std.specs.Prelude.{◌≡◌, ℕ, ◌+◌, ◌-◌, ◌/◌, ◌<◌, ◌≤◌, ◌&&◌, length, IfOk, Bool, true, false};
+ghost use Rattle.std.specs.Prelude.{◌≡◌, ℕ, ◌+◌, ◌-◌, ◌/◌, ◌<◌, ◌≤◌, ◌&&◌, length, IfOk, Bool};
+ghost use Rattle.std.specs.Prelude.{true, false};
 ghost use Rattle.pra_base.specs.Code.{end_of, code_of};
 ghost use Rattle.pra_base.specs.Valid.{IsSized};
 ghost use Rattle.vc_live.specs.Sets.{contains};
-ghost use Rattle.vc_live.specs.Equations.{InRange, Shape, IsSound, IsClosed, Fits, FitsEnd, HaveWords, at_exit};
-ghost use Rattle.vc_live.specs.Rows.{AreConstants, AllRows, RowsBack, RowsOf, Confined, constant_at, live_at, has_at, IsLiveness};
+ghost use Rattle.vc_live.specs.Equations.{InRange, Shape, IsSound, IsClosed, Fits, FitsEnd};
+ghost use Rattle.vc_live.specs.Equations.{HaveWords, at_exit};
+ghost use Rattle.vc_live.specs.Rows.{AreConstants, AllRows, RowsBack, RowsOf, Confined};
+ghost use Rattle.vc_live.specs.Rows.{constant_at, live_at, has_at, IsLiveness};
 
 use crate::equations::{mark_reads, start_at_exit, step_back};
 use crate::sets::BitSet;
@@ -81,8 +84,10 @@ fn constants(alloc: Global, code: &VProc) -> Result<BitSet, AllocError>
 
 // An empty set for each block.
 fn no_entries(alloc: Global, code: &VProc) -> Result<Vec<BitSet>, AllocError>
-    ensures shape { IfOk result (λ entries. Shape (length code.now.vars / 64 + 1) code.now entries.items) }
-    ensures sound { IfOk result (λ entries. (constants : ℕ → Bool) → IsSound code.now constants entries.items) }
+    ensures shape { IfOk result (λ entries.
+        Shape (length code.now.vars / 64 + 1) code.now entries.items) }
+    ensures sound { IfOk result (λ entries. (constants : ℕ → Bool) →
+        IsSound code.now constants entries.items) }
 {
     let mut entries = Vec::with_capacity(alloc, code.blocks.len())?;
     for _ in 0..code.blocks.len() {
@@ -91,7 +96,8 @@ fn no_entries(alloc: Global, code: &VProc) -> Result<Vec<BitSet>, AllocError>
     Ok(entries)
 }
 
-// What is live at the points of a block, from its end to its begin; of the constants what is read from there on.
+// What is live at the points of a block, from its end to its begin; of the constants what is read
+// from there on.
 fn rows_back(
     alloc: Global,
     block: &Block,
@@ -104,7 +110,8 @@ fn rows_back(
     requires sets { HaveWords (length now.old) entries.now }
     requires constants { length constants.now ≡ length now.old }
     ensures words { length now.new ≡ length now.old }
-    ensures rows { IfOk result (λ rows. RowsBack (contains constants.now) block.now.code (at_exit (contains constants.now) entries.now block.now.end) rows.items) }
+    ensures rows { IfOk result (λ rows. RowsBack (contains constants.now) block.now.code
+        (at_exit (contains constants.now) entries.now block.now.end) rows.items) }
     ensures sets { IfOk result (λ rows. HaveWords (length now.old) rows.items) }
 {
     let mut rows = Vec::with_capacity(alloc, block.code.len())?;
@@ -126,7 +133,8 @@ fn confine(rows: &mut Vec<BitSet>, block: &Block, seen: &mut BitSet, constants: 
     requires sets { HaveWords (length seen.old) rows.old.items }
     requires constants { length constants.now ≡ length seen.old }
     ensures words { length seen.new ≡ length seen.old }
-    ensures confined { Confined (contains constants.now) block.now.code rows.old.items rows.new.items (length block.now.code + 1) }
+    ensures confined { Confined (contains constants.now) block.now.code rows.old.items
+        rows.new.items (length block.now.code + 1) }
 {
     seen.clear();
     let last = block.code.len();
@@ -150,7 +158,8 @@ fn block_rows(
     requires sets { HaveWords (length now.old) entries.now }
     requires constants { length constants.now ≡ length now.old }
     ensures words { length now.new ≡ length now.old }
-    ensures rows { IfOk result (λ rows. RowsOf (contains constants.now) block.now.code (at_exit (contains constants.now) entries.now block.now.end) rows) }
+    ensures rows { IfOk result (λ rows. RowsOf (contains constants.now) block.now.code
+        (at_exit (contains constants.now) entries.now block.now.end) rows) }
 {
     let mut rows = rows_back(alloc, block, entries, now, constants)?;
     confine(&mut rows, block, now, constants);
@@ -168,7 +177,8 @@ fn all_rows(
     requires range { InRange (length now.old) code.now }
     requires shape { Shape (length now.old) code.now entries.now }
     requires constants { length constants.now ≡ length now.old }
-    ensures { IfOk result (λ blocks. AllRows code.now (contains constants.now) entries.now blocks (length code.now.blocks)) }
+    ensures { IfOk result (λ blocks. AllRows code.now (contains constants.now) entries.now blocks
+        (length code.now.blocks)) }
 {
     let mut blocks = Vec::with_capacity(alloc, code.blocks.len())?;
     for block in code.blocks.as_slice() {

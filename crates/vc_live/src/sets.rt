@@ -1,6 +1,7 @@
 // Sets of numbers as words of 64 bits: bit v % 64 of word v / 64 stands for v.
 
-ghost use Rattle.std.specs.Prelude.{◌≡◌, ℕ, ◌+◌, ◌*◌, ◌/◌, ◌<◌, ◌≤◌, ◌||◌, ◌&&◌, not, nat_eq, length, IfOk, IsTrue, true, false, List, if◌then◌else◌};
+ghost use Rattle.std.specs.Prelude.{◌≡◌, ℕ, ◌+◌, ◌*◌, ◌/◌, ◌<◌, ◌≤◌, ◌||◌, ◌&&◌, not, nat_eq};
+ghost use Rattle.std.specs.Prelude.{length, IfOk, IsTrue, true, false, List, if◌then◌else◌};
 ghost use Rattle.vc_live.specs.Sets.{contains, room};
 
 use std::alloc::{AllocError, Global};
@@ -58,7 +59,8 @@ impl BitSet {
     pub fn remove(&mut self, v: usize)
         requires { v / 64 < length self.old }
         ensures words { length self.new ≡ length self.old }
-        ensures members { (u : ℕ) → contains self.new u ≡ (not (nat_eq v u) && contains self.old u) }
+        ensures members { (u : ℕ) →
+            contains self.new u ≡ (not (nat_eq v u) && contains self.old u) }
     {
         let word = self.words[v / BITS];
         self.words[v / BITS] = word & !(1 << (v % BITS));
@@ -85,7 +87,8 @@ impl BitSet {
     pub fn unite(&mut self, other: &BitSet)
         requires { length self.old ≡ length other.now }
         ensures words { length self.new ≡ length self.old }
-        ensures members { (u : ℕ) → contains self.new u ≡ (contains self.old u || contains other.now u) }
+        ensures members { (u : ℕ) →
+            contains self.new u ≡ (contains self.old u || contains other.now u) }
     {
         for i in 0..self.words.len() {
             let word = self.words[i];
@@ -96,7 +99,8 @@ impl BitSet {
     pub fn subtract(&mut self, other: &BitSet)
         requires { length self.old ≡ length other.now }
         ensures words { length self.new ≡ length self.old }
-        ensures members { (u : ℕ) → contains self.new u ≡ (contains self.old u && not (contains other.now u)) }
+        ensures members { (u : ℕ) →
+            contains self.new u ≡ (contains self.old u && not (contains other.now u)) }
     {
         for i in 0..self.words.len() {
             let word = self.words[i];
@@ -108,7 +112,8 @@ impl BitSet {
     pub fn grow(&mut self, other: &BitSet) -> bool
         requires { length self.old ≡ length other.now }
         ensures words { length self.new ≡ length self.old }
-        ensures members { (u : ℕ) → contains self.new u ≡ (contains self.old u || contains other.now u) }
+        ensures members { (u : ℕ) →
+            contains self.new u ≡ (contains self.old u || contains other.now u) }
         ensures same { result ≡ false → self.new ≡ self.old }
         ensures room { room self.new + (if result then 1 else 0) ≤ room self.old }
     {
@@ -137,7 +142,8 @@ impl BitSet {
         requires seen { length self.old ≡ length seen.now }
         requires bound { length self.old ≡ length bound.now }
         ensures words { length self.new ≡ length self.old }
-        ensures members { (u : ℕ) → contains self.new u ≡ (contains self.old u && (contains seen.now u || not (contains bound.now u))) }
+        ensures members { (u : ℕ) → contains self.new u ≡ (contains self.old u
+            && (contains seen.now u || not (contains bound.now u))) }
     {
         for i in 0..self.words.len() {
             let word = self.words[i];

@@ -68,7 +68,8 @@ fn is_target_below(end: &End, count: usize) -> bool
 
 // Whether every block that an end names is there.
 fn are_targets_in_range(blocks: &[Block]) -> bool
-    ensures { IsTrue result ↔ ((b t : ℕ) → b < length blocks.now → IsTarget (block_in blocks.now b).end t → t < length blocks.now) }
+    ensures { IsTrue result ↔ ((b t : ℕ) → b < length blocks.now →
+        IsTarget (block_in blocks.now b).end t → t < length blocks.now) }
 {
     for block in blocks {
         if !is_target_below(&block.end, blocks.len()) {
@@ -121,7 +122,8 @@ fn are_cells_in_range(blocks: &[Block], args: u32) -> bool
 
 // Whether every argument that a parameter variable stands for is there, of so many.
 fn are_params_in_range(vars: &[VarKind], args: u32) -> bool
-    ensures { IsTrue result ↔ ((v i : ℕ) → slice_get vars.now v ≡ Some (VarKind.Param i) → i < args) }
+    ensures { IsTrue result ↔ ((v i : ℕ) → slice_get vars.now v ≡ Some (VarKind.Param i) →
+        i < args) }
 {
     for kind in vars {
         if let VarKind::Param(argument) = *kind {
@@ -164,8 +166,8 @@ fn all_hold(tests: &[bool]) -> bool
     tests.iter().all(|test| *test)
 }
 
-/// Whether code is sized: it names variables, blocks and arguments that it has, and has no more of anything than a
-/// procedure may.
+/// Whether code is sized: it names variables, blocks and arguments that it has, and has no more of
+/// anything than a procedure may.
 pub fn is_sized(code: &VProc) -> bool
     ensures { IsTrue result ↔ IsSized code.now }
 {

@@ -155,7 +155,8 @@ fn a_diamond(rt: HostRuntime) -> Result<(), Fail> {
     Ok(())
 }
 
-// A counter, a value that the loop reads, the parameter that bounds the counter, and the constant that is added.
+// A counter, a value that the loop reads, the parameter that bounds the counter, and the constant
+// that is added.
 #[test]
 fn what_a_loop_reads_is_live_around_it(rt: HostRuntime) -> Result<(), Fail> {
     let entry = [VInstr::Set(var(0), 0), VInstr::Set(var(1), 7)];
@@ -210,7 +211,8 @@ fn loops_in_loops(rt: HostRuntime) -> Result<(), Fail> {
     Ok(())
 }
 
-// The sum is read once more and then set, and what is set is read and written once more, for nothing.
+// The sum is read once more and then set, and what is set is read and written once more, for
+// nothing.
 #[test]
 fn read_and_written_by_one_instruction(rt: HostRuntime) -> Result<(), Fail> {
     let code = [
@@ -252,7 +254,8 @@ fn a_parameter_that_is_written_first_is_dead_at_the_entry(rt: HostRuntime) -> Re
     Ok(())
 }
 
-// The dividend is read last by the division, the divisor is written later on, and of the results the remainder alone.
+// The dividend is read last by the division, the divisor is written later on, and of the results
+// the remainder alone.
 #[test]
 fn a_division(rt: HostRuntime) -> Result<(), Fail> {
     let code = [
@@ -277,7 +280,8 @@ fn a_division(rt: HostRuntime) -> Result<(), Fail> {
     Ok(())
 }
 
-// A call neither reads nor writes a variable: its argument ends with the push, the other lives on across it.
+// A call neither reads nor writes a variable: its argument ends with the push, the other lives on
+// across it.
 #[test]
 fn a_call(rt: HostRuntime) -> Result<(), Fail> {
     let code = [
@@ -355,7 +359,8 @@ fn a_constant_is_live_between_its_reads_in_each_block(rt: HostRuntime) -> Result
     Ok(())
 }
 
-// Variables whose bits stand at the ends of the words of a set, live at the block's exit, and what is behind them.
+// Variables whose bits stand at the ends of the words of a set, live at the block's exit, and what
+// is behind them.
 #[test]
 fn nothing_is_live_past_the_end(rt: HostRuntime) -> Result<(), Fail> {
     let mut vars = Vec::new(rt.alloc());
