@@ -30,7 +30,7 @@ use Rattle.pl_place.specs.Placed.{frame_size}
 use Rattle.pl_simulation.specs.Correspondence.{Corresponds, AllCorrespond}
 use Rattle.pl_simulation.proofs.Coupled.{Same}
 use Rattle.pl_simulation.proofs.Words.{if_true}
-use Rattle.pl_simulation.proofs.Simulated.{Steps, TakesCall, instr_step, end_step, begins, no_moves}
+use Rattle.pl_simulation.proofs.Simulated.{Steps, TakesCall, instr_step, end_step, begins}
 use Rattle.pl_simulation.proofs.Pushed.{Pending, step_led, call_takes}
 use Rattle.pl_simulation.proofs.Tracked.{Tracks}
 
@@ -45,7 +45,7 @@ nothing_corresponds = record {
   args = refl;
   params_apart = λ v w i e f. cc;
   instrs = λ b k i e. cc;
-  ends = λ b k e. record { moves = []; parts = refl; transfers = no_moves low.no_proc (λ v. None) (λ v q f. cc) };
+  ends = λ b lt. absurd (omega arith);
   entry = λ v q e. cc;
   targets = λ b t lt. absurd (omega arith);
   blocks = λ t lt. absurd (omega arith);

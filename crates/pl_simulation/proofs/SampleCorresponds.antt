@@ -8,7 +8,7 @@ use Rattle.pra_base.specs.declared.code.VarKind.TheVariants.{Param}
 use Rattle.pra_base.specs.declared.code.VInstr.{VInstr}
 use Rattle.pra_base.specs.declared.code.VInstr.TheVariants.{Set, Add, Write}
 use Rattle.pra_base.specs.declared.code.VProc.{VProc}
-use Rattle.pra_base.specs.Code.{block_in, instr_at, end_of, IsTarget}
+use Rattle.pra_base.specs.Code.{code_of, block_in, instr_at, end_of, IsTarget}
 use Rattle.pra_base.specs.Valid.{PushesLead, PushesBeforeCalls, TakesArgs}
 use Rattle.net_form.specs.Examples.{set_add_write}
 use Rattle.pl_moves.specs.declared.transfer.Move.TheVariants.{Load}
@@ -139,15 +139,12 @@ instrs zero (suc (suc zero)) i e = subst (λ j. InstrCorresponds p j (rest 0 2) 
 instrs zero (suc (suc (suc k))) i e = cc
 instrs (suc b) k i e = cc
 
-no_end : (code : List VInstr) → EndCorresponds p [] none none
-no_end code = record { moves = []; parts = refl; transfers = no_moves p none (λ v q f. cc) }
+no_end : EndCorresponds p [] none none
+no_end = record { moves = []; parts = refl; transfers = no_moves p none (λ v q f. cc) }
 
-ends : (b k : ℕ) → instr_at set_add_write b k ≡ None → EndCorresponds p (rest b k) (before b k) none
-ends zero zero e = cc
-ends zero (suc zero) e = cc
-ends zero (suc (suc zero)) e = cc
-ends zero (suc (suc (suc k))) e = no_end []
-ends (suc b) k e = no_end []
+ends : (b : ℕ) → b < 1 → let n = length (code_of set_add_write b) in EndCorresponds p (rest b n) (before b n) none
+ends zero lt = no_end
+ends (suc b) lt = absurd (omega arith)
 
 no_target : (b t : ℕ) → b < 1 → IsTarget (end_of set_add_write b) t → ⊥
 no_target zero t lt target = target

@@ -15,7 +15,7 @@ use Rattle.pra_base.specs.declared.code.End.{End}
 use Rattle.pra_base.specs.declared.code.End.TheVariants.{Jump, Branch, Return}
 use Rattle.pra_base.specs.declared.code.Block.{Block}
 use Rattle.pra_base.specs.declared.code.VProc.{VProc}
-use Rattle.pra_base.specs.Code.{instr_at, end_of, IsTarget}
+use Rattle.pra_base.specs.Code.{code_of, instr_at, end_of, IsTarget}
 use Rattle.pra_base.specs.Code as code
 use Rattle.pra_base.specs.Operands.{read_by, written_by}
 use Rattle.pra_base.specs.Places.{register_count}
@@ -77,6 +77,21 @@ pub record TakesCall (codes : List VProc) (procs : List LProc) (count n : ℕ) (
   pub proc : slice_get procs n ≡ Some (low.proc_of procs n)
   pub entry : 0 < length (selected.code_of codes n).blocks
   pub many : length args ≡ (low.proc_of procs n).args
+
+-- ---- where a block ends
+
+end_after : (xs : List VInstr) (k : ℕ) (i : VInstr) → slice_get xs k ≡ Some i → slice_get xs (suc k) ≡ None → length xs ≡ suc k
+end_after [] k i e f = cc
+end_after (x ∷ []) zero i e f = refl
+end_after (x ∷ y ∷ xs) zero i e f = cc
+end_after (x ∷ xs) (suc k) i e f = ap suc (end_after xs k i e f)
+
+end_first : (xs : List VInstr) → slice_get xs 0 ≡ None → length xs ≡ 0
+end_first [] e = refl
+end_first (x ∷ xs) e = cc
+
+pub ends_at : (code : VProc) (p : LProc) (l : Corresponds code p) (b k : ℕ) → b < length code.blocks → length (code_of code b) ≡ k → EndCorresponds p (l.rest b k) (l.before b k) (l.exit b)
+ends_at code p l b k lt e = subst (λ n. EndCorresponds p (l.rest b n) (l.before b n) (l.exit b)) e (l.ends b lt)
 
 -- ---- calls with the same words
 
@@ -156,11 +171,11 @@ module _ (codes_list : List VProc) (frames : List ℕ) (list : List LProc) (coun
         }
 
     -- what follows when the values are written
-    go_on : (c : Activation Vars) (u : Activation Cells) (i : VInstr) (places : List ℕ) (at : Allocation) → u.proc ≡ c.proc → u.home.end ≡ end_of (codes c.proc) c.home.block → c.proc < count → c.home.block < length (codes c.proc).blocks →
+    go_on : (c : Activation Vars) (u : Activation Cells) (i : VInstr) (places : List ℕ) (at : Allocation) → u.proc ≡ c.proc → u.home.end ≡ end_of (codes c.proc) c.home.block → c.proc < count → c.home.block < length (codes c.proc).blocks → instr_at (codes c.proc) c.home.block c.home.index ≡ Some i →
         let p = procs c.proc in let rest = (all c.proc).rest c.home.block (suc c.home.index) in
         Fits p i places at ((all c.proc).before c.home.block (suc c.home.index)) → Matches p at c u → (xs : List Value) →
         Leads R (behind c (selected.put_all (Some c.home.held) (written_by i) xs)) (put_all p (Some (clobbered i rest u)) (written_by i) (drop (length (read_by i)) places) xs)
-    go_on c u i places at proc end inside in_block fits matches xs x e =
+    go_on c u i places at proc end inside in_block here fits matches xs x e =
         let p = procs c.proc in
         let next = (all c.proc).before c.home.block (suc c.home.index) in
         let rest = (all c.proc).rest c.home.block (suc c.home.index) in
@@ -176,7 +191,7 @@ module _ (codes_list : List VProc) (frames : List ℕ) (list : List LProc) (coun
             at = next;
             matches = subst (λ z. Matches p next z w.0) b.2 w.2;
             instr = λ j f. subst (λ left. InstrCorresponds p j left ((all c.proc).rest c.home.block (suc (suc c.home.index))) next ((all c.proc).before c.home.block (suc (suc c.home.index)))) (sym w.3.rest) ((all c.proc).instrs c.home.block (suc c.home.index) j f);
-            ends = λ f. subst (λ left. EndCorresponds p left next ((all c.proc).exit c.home.block)) (sym w.3.rest) ((all c.proc).ends c.home.block (suc c.home.index) f);
+            ends = λ f. subst (λ left. EndCorresponds p left next ((all c.proc).exit c.home.block)) (sym w.3.rest) (ends_at (codes c.proc) p (all c.proc) c.home.block (suc c.home.index) in_block (end_after (code_of (codes c.proc) c.home.block) c.home.index i here f));
           }),
         )
 
@@ -221,7 +236,7 @@ module _ (codes_list : List VProc) (frames : List ℕ) (list : List LProc) (coun
         let done = performed high lower R coupled s (record t { top = u }) same
         (λ xs. behind s.top (selected.put_all (Some s.top.home.held) (written_by i) xs))
         (λ xs. put_all p (Some (clobbered i rest u)) (written_by i) (drop (length (read_by i)) l.places) xs)
-        (go_on s.top u i l.places l.at proc end top.inside top.in_block l.fits mid)
+        (go_on s.top u i l.places l.at proc end top.inside top.in_block is l.fits mid)
         i _ _ reads begins (λ e. ok (ap (λ z. z.over) up ∙ e)) in
         after_moves (step high s) _ t (record t { top = u }) (length l.moves) _ up m.1 down done
 
@@ -265,7 +280,7 @@ module _ (codes_list : List VProc) (frames : List ℕ) (list : List LProc) (coun
               located = λ v q f. m.1 v q (l.ties c.home.block b in_block target v q f);
             };
             instr = λ j f. subst (λ left. InstrCorresponds p j left (l.rest b 1) (l.before b 0) (l.before b 1)) (sym block.2) (l.instrs b 0 j f);
-            ends = λ f. subst (λ left. EndCorresponds p left (l.before b 0) (l.exit b)) (sym block.2) (l.ends b 0 f);
+            ends = λ f. subst (λ left. EndCorresponds p left (l.before b 0) (l.exit b)) (sym block.2) (ends_at (codes c.proc) p l b 0 inside_target (end_first (code_of (codes c.proc) b) f));
           }),
         )
 
@@ -377,6 +392,6 @@ module _ (codes_list : List VProc) (frames : List ℕ) (list : List LProc) (coun
               located = λ v q f. begun_in n args block.0 v q (l.entry v q f) enters.many;
             };
             instr = λ j f. subst (λ left. InstrCorresponds p j left (l.rest 0 1) (l.before 0 0) (l.before 0 1)) (sym block.2) (l.instrs 0 0 j f);
-            ends = λ f. subst (λ left. EndCorresponds p left (l.before 0 0) (l.exit 0)) (sym block.2) (l.ends 0 0 f);
+            ends = λ f. subst (λ left. EndCorresponds p left (l.before 0 0) (l.exit 0)) (sym block.2) (ends_at (codes n) p l 0 0 enters.entry (end_first (code_of (codes n) 0) f));
           }),
         )

@@ -1,7 +1,7 @@
 -- When placed code corresponds to selected code: what a placement has to give of each procedure, so
 -- that the machine of placed code does what that of selected code does. Nothing here speaks of runs.
 use Rattle.std.specs.Prelude.{◌≡◌, ◌≢◌, ℕ, suc, ◌<◌, ◌⊎◌, ℤ, Bool, false, nat_eq, List, [], ◌∷◌, ◌++◌}
-use Rattle.std.specs.Prelude.{length, map, drop, slice_get, Option, Some, None}
+use Rattle.std.specs.Prelude.{length, map, drop, slice_get, Option, Some}
 use Rattle.std.specs.Int.{bit_at}
 use Rattle.pra_base.specs.declared.ids.Place.TheVariants.{Mem, Const}
 use Rattle.pra_base.specs.declared.code.VarKind.TheVariants.{Param}
@@ -9,7 +9,7 @@ use Rattle.pra_base.specs.declared.code.VInstr.{VInstr}
 use Rattle.pra_base.specs.RunEnd.{Wrong}
 use Rattle.pra_base.specs.declared.code.VProc.{VProc}
 use Rattle.pra_base.specs.declared.code.VModule.{VModule}
-use Rattle.pra_base.specs.Code.{instr_at, end_of, IsTarget}
+use Rattle.pra_base.specs.Code.{code_of, instr_at, end_of, IsTarget}
 use Rattle.pra_base.specs.Operands.{table, read_by, written_by}
 use Rattle.pra_base.specs.Places.{number, register_count}
 use Rattle.pra_base.specs.Valid.{PushesBeforeCalls, TakesArgs, counts_of}
@@ -163,8 +163,8 @@ pub record Corresponds (code : VProc) (p : LProc) : Type 0 where
   pub params_apart : (v w i : ℕ) → kind_of p v ≡ Param i → kind_of p w ≡ Param i → v ≡ w
   pub instrs : (b k : ℕ) (i : VInstr) → instr_at code b k ≡ Some i →
       InstrCorresponds p i (rest b k) (rest b (suc k)) (before b k) (before b (suc k))
-  pub ends : (b k : ℕ) → instr_at code b k ≡ None →
-      EndCorresponds p (rest b k) (before b k) (exit b)
+  pub ends : (b : ℕ) → b < length code.blocks → let n = length (code_of code b) in
+      EndCorresponds p (rest b n) (before b n) (exit b)
   pub entry : (v place : ℕ) → before 0 0 v ≡ Some place → Comes p v place
   pub targets : (b t : ℕ) → b < length code.blocks → IsTarget (end_of code b) t →
       t < length code.blocks

@@ -1,0 +1,13 @@
+pub mod Corresponding
+pub mod Edges
+pub mod Fitted
+pub mod Followed
+pub mod Listed
+pub mod Lives
+pub mod Masks
+pub mod Present
+pub mod Roles
+pub mod Slots
+pub mod Sources
+pub mod Strands
+pub mod Transferred

@@ -1,0 +1,154 @@
+-- The roles that an instruction writes, at the layer behind it.
+use Rattle.std.proofs.Common.{◌≡◌, ℕ, ◌+◌, ◌-◌, ◌*◌, ◌/◌, ◌⊎◌, inl, inr, ⊎_elim, Bool, true, false, ◌&&◌, ◌||◌, nat_eq, if◌then◌else◌, List, [], ◌∷◌, ◌++◌, map, Some, None, refl, sym, ap, ap₂, ◌∙◌, arith}
+use Rattle.std.specs.List.{list_any}
+use Rattle.std.proofs.lemmas.Bool.Decides.{nat_tests}
+use Rattle.std.proofs.lemmas.List.Folds.{list_any-append}
+use Rattle.pra_base.specs.declared.code.VInstr.{VInstr}
+use Rattle.pra_base.specs.declared.code.VProc.{VProc}
+use Rattle.pra_base.specs.Code.{kind_of, instr_at}
+use Rattle.pra_base.specs.Operands.{Role, Line, table, is_role_of, mask_of, settled, rewritten, operands, written_by, var_of, writes}
+use Rattle.net_form.specs.Tables.{all_tables}
+use Rattle.net_form.specs.Strands.{Lives, beside, across, roles_beside, roles_at, clobbers_beside, is_present, is_param, comes_in_memory, clobbered}
+use Rattle.pl_simulation.specs.Correspondence.{Among}
+use Rattle.pl_routed.proofs.Listed.{In, in_left, in_right}
+use Rattle.pl_routed.proofs.Lives.{after_even}
+
+turned : (a b : ℕ) → nat_eq a b ≡ nat_eq b a
+turned a b = grind (arith, nat_tests)
+
+itself : (v : ℕ) → nat_eq v v ≡ true
+itself v = grind (arith, nat_tests)
+
+nat_is : (a b : ℕ) → nat_eq a b ≡ true → a ≡ b
+nat_is a b e = grind (arith, nat_tests)
+
+-- ---- the written variables
+
+among_either : (xs ys : List ℕ) (v : ℕ) → Among v (xs ++ ys) → Among v xs ⊎ Among v ys
+among_either [] ys v i = inr i
+among_either (x ∷ xs) ys v i =
+    ⊎_elim (λ (e : v ≡ x). inl (inl e)) (λ (more : Among v (xs ++ ys)). ⊎_elim (λ (a : Among v xs). inl (inr a)) (λ (b : Among v ys). inr b) (among_either xs ys v more)) i
+
+among_left : (xs ys : List ℕ) (v : ℕ) → Among v xs → Among v (xs ++ ys)
+among_left [] ys v i = absurd i
+among_left (x ∷ xs) ys v i = ⊎_elim (λ (e : v ≡ x). inl e) (λ (more : Among v xs). inr (among_left xs ys v more)) i
+
+among_right : (xs ys : List ℕ) (v : ℕ) → Among v ys → Among v (xs ++ ys)
+among_right [] ys v i = i
+among_right (x ∷ xs) ys v i = inr (among_right xs ys v i)
+
+or_cases : (a b : Bool) → (a || b) ≡ true → (a ≡ true) ⊎ (b ≡ true)
+or_cases true b e = inl refl
+or_cases false b e = inr e
+
+or_left : (a b : Bool) → a ≡ true → (a || b) ≡ true
+or_left true b e = refl
+or_left false b e = cc
+
+or_right : (a b : Bool) → b ≡ true → (a || b) ≡ true
+or_right true b e = refl
+or_right false b e = e
+
+among_any : (xs : List ℕ) (v : ℕ) → list_any (nat_eq v) xs ≡ true → Among v xs
+among_any [] v e = cc
+among_any (x ∷ xs) v e = ⊎_elim (λ (a : nat_eq v x ≡ true). inl (nat_is v x a)) (λ (b : list_any (nat_eq v) xs ≡ true). inr (among_any xs v b)) (or_cases (nat_eq v x) _ e)
+
+any_among : (xs : List ℕ) (v : ℕ) → Among v xs → list_any (nat_eq v) xs ≡ true
+any_among [] v i = absurd i
+any_among (x ∷ xs) v i =
+    ⊎_elim (λ (e : v ≡ x). or_left (nat_eq v x) _ (ap (nat_eq v) (sym e) ∙ itself v)) (λ (more : Among v xs). or_right (nat_eq v x) _ (any_among xs v more)) i
+
+roles_any : (roles : List Role) (v : ℕ) → list_any (is_role_of v) roles ≡ list_any (nat_eq v) (map var_of roles)
+roles_any [] v = refl
+roles_any (x ∷ roles) v = ap₂ (λ a b. a || b) (turned x.var v) (roles_any roles v)
+
+pub writes_among : (i : VInstr) (v : ℕ) → writes i v ≡ true → Among v (written_by i)
+writes_among i v e =
+    ⊎_elim
+    (λ (a : list_any (nat_eq v) (table i).in_place ≡ true). among_left (table i).in_place _ v (among_any (table i).in_place v a))
+    (λ (b : list_any (is_role_of v) (table i).writes ≡ true). among_right (table i).in_place _ v (among_any (map var_of (table i).writes) v (sym (roles_any (table i).writes v) ∙ b)))
+    (or_cases (list_any (nat_eq v) (table i).in_place) _ e)
+
+pub among_writes : (i : VInstr) (v : ℕ) → Among v (written_by i) → writes i v ≡ true
+among_writes i v k =
+    ⊎_elim
+    (λ (a : Among v (table i).in_place). or_left (list_any (nat_eq v) (table i).in_place) _ (any_among (table i).in_place v a))
+    (λ (b : Among v (map var_of (table i).writes)). or_right (list_any (nat_eq v) (table i).in_place) _ (roles_any (table i).writes v ∙ any_among (map var_of (table i).writes) v b))
+    (among_either (table i).in_place (map var_of (table i).writes) v k)
+
+-- ---- the roles of its row
+
+any_rewritten : (l : Line) (ws : List ℕ) (v : ℕ) → list_any (is_role_of v) (map (rewritten l) ws) ≡ list_any (nat_eq v) ws
+any_rewritten l [] v = refl
+any_rewritten l (w ∷ ws) v = ap₂ (λ a b. a || b) (turned w v) (any_rewritten l ws v)
+
+any_settled : (l : Line) (roles : List Role) (v : ℕ) → list_any (is_role_of v) (map (settled l) roles) ≡ list_any (is_role_of v) roles
+any_settled l [] v = refl
+any_settled l (x ∷ roles) v = ap (λ b. is_role_of v x || b) (any_settled l roles v)
+
+pub row_writes : (i : VInstr) (v : ℕ) → list_any (is_role_of v) (operands i).writes ≡ writes i v
+row_writes i v =
+    let l = table i in
+    list_any-append (is_role_of v) (map (rewritten l) l.in_place) (map (settled l) l.writes) ∙ ap₂ (λ a b. a || b) (any_rewritten l l.in_place v) (any_settled l l.writes v)
+
+-- a role of a written variable
+pub record WrittenRole (i : VInstr) (w : ℕ) : Type 0 where
+  pub role : Role
+  pub in_row : In role (operands i).writes
+  pub var : role.var ≡ w
+  pub mask : role.mask ≡ mask_of (table i) w
+
+in_place_role : (l : Line) (ws : List ℕ) (w : ℕ) → Among w ws → (role : Role) × In role (map (rewritten l) ws) × (role.var ≡ w) × (role.mask ≡ mask_of l w)
+in_place_role l [] w k = absurd k
+in_place_role l (x ∷ ws) w k =
+    ⊎_elim
+    (λ (e : w ≡ x). (rewritten l x, inl refl, sym e, ap (mask_of l) (sym e)))
+    (λ (more : Among w ws). let a = in_place_role l ws w more in (a.0, inr a.1, a.2, a.3))
+    k
+
+settled_role : (l : Line) (roles : List Role) (w : ℕ) → Among w (map var_of roles) → (role : Role) × In role (map (settled l) roles) × (role.var ≡ w) × (role.mask ≡ mask_of l w)
+settled_role l [] w k = absurd k
+settled_role l (x ∷ roles) w k =
+    ⊎_elim
+    (λ (e : w ≡ x.var). (settled l x, inl refl, sym e, ap (mask_of l) (sym e)))
+    (λ (more : Among w (map var_of roles)). let a = settled_role l roles w more in (a.0, inr a.1, a.2, a.3))
+    k
+
+pub written_role : (i : VInstr) (w : ℕ) → Among w (written_by i) → WrittenRole i w
+written_role i w k =
+    let l = table i in
+    ⊎_elim
+    (λ (a : Among w l.in_place). let r = in_place_role l l.in_place w a in record { role = r.0; in_row = in_left (map (rewritten l) l.in_place) (map (settled l) l.writes) r.0 r.1; var = r.2; mask = r.3 })
+    (λ (b : Among w (map var_of l.writes)). let r = settled_role l l.writes w b in record { role = r.0; in_row = in_right (map (rewritten l) l.in_place) (map (settled l) l.writes) r.0 r.1; var = r.2; mask = r.3 })
+    (among_either l.in_place (map var_of l.writes) w k)
+
+-- ---- the layer behind an instruction
+
+module _ (code : VProc) (live : Lives) (b k : ℕ) (i : VInstr) (here : instr_at code b k ≡ Some i) where
+  abbrev l : ℕ
+  l = 2 * k + 2
+
+  not_entry : nat_eq l 0 ≡ false
+  not_entry = grind (arith, nat_tests)
+
+  beside_is : beside code b l ≡ Some i
+  beside_is =
+      let half : (l - 1) / 2 ≡ k = omega arith in
+      ap (λ t. if t then None else instr_at code b ((l - 1) / 2)) not_entry ∙ ap (instr_at code b) half ∙ here
+
+  pub roles_are : roles_at all_tables code b l ≡ (operands i).writes
+  roles_are = ap₂ (λ t o. roles_beside t operands o) (after_even k) beside_is
+
+  pub not_coming : (v : ℕ) → comes_in_memory code v b l ≡ false
+  not_coming v = last_false (is_param (kind_of code v) && nat_eq b 0) (nat_eq l 0) not_entry
+    where
+      last_false : (a c : Bool) → c ≡ false → (a && c) ≡ false
+      last_false true c e = e
+      last_false false c e = refl
+
+  pub clobbered_is : (v : ℕ) → is_present all_tables code live v b (2 * k + 1) ≡ true → clobbered all_tables code live v b l ≡ (table i).clobbers
+  clobbered_is v e =
+      let other : across l ≡ 2 * k + 1 = ap (λ t. if t then l + 1 else l - 1) (after_even k) ∙ (let a : l - 1 ≡ 2 * k + 1 = omega arith in a) in
+      ap (λ m. if is_present all_tables code live v b m then clobbers_beside operands (beside code b l) else 0) other
+      ∙ ap (λ t. if t then clobbers_beside operands (beside code b l) else 0) e
+      ∙ ap (clobbers_beside operands) beside_is
