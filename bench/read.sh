@@ -1,31 +1,41 @@
 #!/usr/bin/env bash
-# Times the program on two sources of 1 MB and 65,536 tokens: one that is well formed but no small module, which is read
-# and refused, and one that is small, which is also compiled and run. Each time is the best of five.
+# Times the program on three sources of some 65,000 tokens. Two break no rule and keep within the limits, and are no
+# small module, so they are read, checked and refused: one has 1 MB and 256 procedures, one has 10,000 names in one
+# scope. The third is small, and is also compiled and run. Each time is the best of five.
 set -eu
 top=$(cd "$(dirname "$0")/.." && pwd)
 folder=$(mktemp -d)
 trap 'rm -rf "$folder"' EXIT
 cd "$folder"
 
-# 6 tokens around 1,040 procedures of 63, and 10 of the body
+# 6 tokens around 256 procedures of 254
 awk 'BEGIN {
     comment = "(*"
-    while (length(comment) < 740) comment = comment " what stands here is skipped (* and this in it *)"
+    while (length(comment) < 3200) comment = comment " what stands here is skipped (* and this in it *)"
     print "MODULE Wide;"
-    for (i = 1; i <= 1040; i++) {
-        print "PROCEDURE P" i "(VAR total: INTEGER; count: INTEGER); VAR i: INTEGER;"
+    for (i = 1; i <= 256; i++) {
+        print "PROCEDURE P" i "(VAR total: INTEGER; count: INTEGER); VAR i"
+        for (k = 1; k <= 19; k++) print ", v" k
         print comment " *)"
-        print "BEGIN i := 0; WHILE i < count DO IF i MOD 2 = 0 THEN total := total + i * 3"
-        print "ELSE total := total - (i DIV 4) END; i := i + 1 END END P" i ";"
+        print ": INTEGER; BEGIN i := 0; WHILE i < count DO"
+        for (k = 1; k <= 19; k++) print "v" k " := total + i * " k ";"
+        print "i := i + 1 END END P" i ";"
     }
-    print "BEGIN ;;;;;;;;; END Wide."
+    print "BEGIN END Wide."
 }' >wide.ob
+
+# 6 tokens a constant, each of which names the one before
+awk 'BEGIN {
+    print "MODULE Names; CONST c1 = 1;"
+    for (i = 2; i <= 10000; i++) print "c" i " = c" (i - 1) " + 1;"
+    print "VAR b: BOOLEAN; BEGIN b := c10000 = 10000 END Names."
+}' >names.ob
 
 # 16 tokens around 8,189 statements of 8 and 8 empty statements
 awk 'BEGIN {
     total = "TheSumOfAllNumbersThatWereAddedSoFar"
     print "MODULE Small; VAR " total ": INTEGER; BEGIN"
-    for (i = 1; i <= 8189; i++) print total " := " total " + " i " - " total ";"
+    for (i = 1; i <= 8189; i++) print total " := " total + " i " - " total ";"
     print ";;;;;;;; Write(" total ") END Small."
 }' >small.ob
 
@@ -43,4 +53,5 @@ best_of_five() {
 
 "$top/pra" run "$top/examples/first.ob" >/dev/null 2>&1 # builds, where needed
 best_of_five wide.ob
+best_of_five names.ob
 best_of_five small.ob
