@@ -1,0 +1,13 @@
+pub mod Bits
+pub mod Choices
+pub mod Division
+pub mod Few
+pub mod Found
+pub mod Homes
+pub mod Needs
+pub mod Pairs
+pub mod Present
+pub mod Room
+pub mod Rows
+pub mod Runs
+pub mod Sides

@@ -1,0 +1,22 @@
+//! What the networks of valid code have room for.
+//!
+//! A network made from any masks may admit no flow at all. That of valid code always does: each
+//! strand can be at home (in memory, or nowhere for a constant) at all layers but those beside an
+//! instruction that wants it elsewhere, and there are registers for all that are wanted elsewhere
+//! at once. `networks_have_room` is that law, with `HasRoom` as its words:
+//!
+//! - at an instruction a strand that can't be at home has fewer rivals than registers that it may
+//!   be in, so whoever gives registers to strands in any order finds one for each;
+//! - of a memory pair the left end may stay in memory and the right end then gives way, and no
+//!   strand would have to do both;
+//! - where blocks begin and end, all strands can be at home, so ties hold.
+//!
+//! Read specs/Homes. A layer above that makes routes may ask for `HasRoom` of its network, since it
+//! has that of every valid code by the law. Of proofs/ it may use the lemmas too: `Runs` (a strand
+//! is a run of layers at which its variable is present, and a variable has one strand at most at
+//! two layers side by side), `Found` (where a variable is present, `strand_of` is its strand),
+//! `Pairs` (the ends of memory pairs are operands of one instruction), `Rows` (the shapes of the
+//! operand table's rows).
+#![tactic(auto)]
+
+pub mod laws;
