@@ -1,4 +1,7 @@
 pub mod Begun
+pub mod GoesOn
+pub mod InOrder
+pub mod Places
 pub mod Ranges
 pub mod Roles
 pub mod Sizes

@@ -2,11 +2,12 @@
 //!
 //! Each call makes one list, exactly that of the definition (specs/Strands and specs/Network of the
 //! crate of networks): `strands_of` the strands with their masks, `extras_of` what operands cost
-//! more at a place than in a register, `pairs_of` the memory pairs.
+//! more at a place than in a register, `pairs_of` the memory pairs, `ties_of` the ties.
 //!
 //! A strand begins at a block's entry or where its variable has a role, a law on what is live
 //! (proofs/Begun), so only variables with roles are looked at after the entry. The strand of an
-//! operand is looked for among the strands of its block.
+//! operand is looked for among the strands of its block. Strands are in order (proofs/InOrder), so
+//! the strand that a tie goes to is found by bisection.
 //!
 //! A layer above hands in sized code and what is live in it, and gets each list as an equation with
 //! the definition's.
@@ -14,10 +15,13 @@
 
 mod beside;
 mod extras;
+mod order;
 mod pairs;
 mod strands;
 mod surcharge;
+mod ties;
 
 pub use extras::extras_of;
 pub use pairs::pairs_of;
 pub use strands::strands_of;
+pub use ties::ties_of;

@@ -133,7 +133,7 @@ fn add_begun(
 }
 
 // The nearer of two variables from this one on and below the end.
-fn nearer(least: Option<u32>, var: u32, from: u32, end: u32) -> Option<u32>
+pub(crate) fn nearer(least: Option<u32>, var: u32, from: u32, end: u32) -> Option<u32>
     requires { IfSome least (λ l. (from ≤ l) × (l < end)) }
     ensures within { IfSome result (λ l. (from ≤ l) × (l < end)) }
     ensures below { (v : ℕ) → from ≤ v → v < end → IsBelow v result → IsBelow v least × (var ≢ v) }

@@ -1,0 +1,166 @@
+// Ties: a strand that reaches its block's exit, and the variable's strand at the entry of a block
+// that follows.
+
+ghost use Rattle.std.specs.Prelude.{◌≡◌, ℕ, ◌++◌, ◌<◌, ◌≤◌, ◌^◌, length, All, map, IfOk, OnOk, option_to_list, slice_index_or};
+ghost use Rattle.std.specs.List.{filter_map, range_with_len};
+ghost use Rattle.pra_base.specs.Code.{end_of};
+ghost use Rattle.pra_base.specs.Valid.{IsSized};
+ghost use Rattle.net_form.specs.Admitted.{no_strand};
+ghost use Rattle.net_form.specs.declared.net.Strand.{Strand as NetStrand};
+ghost use Rattle.net_form.specs.Formed.{IsStrandOf};
+ghost use Rattle.net_form.specs.Network.{leads_to, ties, ties_from, net_block};
+ghost use Rattle.net_form.specs.Strands.{exit_layer};
+ghost use Rattle.net_build.specs.Order.{AreInOrder, goes_on, key_of, tie_to};
+ghost use Rattle.net_build.specs.Runs.{IsLeastFrom};
+
+use crate::order::place_of;
+use crate::strands::nearer;
+use net_form::{Strand, Tie};
+use pra_base::{End, VProc};
+use pra_list::Seq;
+use std::alloc::{AllocError, Global};
+
+fn leads_to(end: &End, block: u32) -> bool
+    ensures { result ≡ leads_to end.now block }
+{
+    match end {
+        End::Jump(target) => target.0 == block,
+        End::Branch(_, one, other) => one.0 == block || other.0 == block,
+        End::Return => false,
+    }
+}
+
+// Whether the strand is the variable's at the entry of a block that follows the end.
+fn goes_on(end: &End, var: u32, strand: &Strand) -> bool
+    ensures { result ≡ goes_on end.now var strand.now }
+{
+    if strand.first != 0 || var != strand.var.0 {
+        return false;
+    }
+    leads_to(end, strand.block.0)
+}
+
+// The number of the variable's strand at the entry of a block, if there is one.
+fn entry_of(strands: &Seq<Strand>, block: u32, var: u32) -> u32
+    requires few { length strands.now < 2 ^ 32 }
+    requires order { AreInOrder strands.now }
+    ensures { (k : ℕ) (d : NetStrand) → k < length strands.now →
+        key_of (slice_index_or strands.now k d) ≡ (block, 0, var) → result ≡ k }
+{
+    place_of(strands, 0, strands.len() as u32, block, 0, var)
+}
+
+// The number of the next strand, from this one on, that goes on the variable.
+fn next_from(strands: &Seq<Strand>, end: &End, var: u32, from: u32) -> Option<u32>
+    requires few { length strands.now < 2 ^ 32 }
+    requires order { AreInOrder strands.now }
+    ensures { IsLeastFrom (λ k. goes_on end.now var (slice_index_or strands.now k no_strand))
+        from (length strands.now) result }
+{
+    let count = strands.len() as u32;
+    match end {
+        End::Jump(target) => nearer(None, entry_of(strands, target.0, var), from, count),
+        End::Branch(_, one, other) => {
+            let least = nearer(None, entry_of(strands, one.0, var), from, count);
+            nearer(least, entry_of(strands, other.0, var), from, count)
+        }
+        End::Return => None,
+    }
+}
+
+// Adds the tie to a strand, if that goes on the variable.
+fn add_tie(
+    strands: &Seq<Strand>,
+    number: u32,
+    end: &End,
+    var: u32,
+    to: u32,
+    out: &mut Seq<Tie>,
+) -> Result<(), AllocError>
+    requires { to < length strands.now }
+    ensures { OnOk result (out.new ≡ out.old ++
+        option_to_list (tie_to strands.now end.now var number to)) }
+{
+    if goes_on(end, var, &strands[to as usize]) {
+        out.push(Tie { from: number, to })?;
+    }
+    Ok(())
+}
+
+// Adds the ties from a strand that reaches its block's exit.
+fn add_exit(
+    strands: &Seq<Strand>,
+    number: u32,
+    end: &End,
+    var: u32,
+    out: &mut Seq<Tie>,
+) -> Result<(), AllocError>
+    requires few { length strands.now < 2 ^ 32 }
+    requires order { AreInOrder strands.now }
+    ensures { OnOk result (out.new ≡ out.old ++ filter_map
+        (tie_to strands.now end.now var number) (range_with_len 0 (length strands.now))) }
+{
+    let mut from = 0;
+    while let Some(to) = next_from(strands, end, var, from) {
+        add_tie(strands, number, end, var, to, out)?;
+        from = to + 1;
+    }
+    Ok(())
+}
+
+// The exit layer of a block.
+fn exit_layer(code: &VProc, block: u32) -> u32
+    requires sized { IsSized code.now }
+    requires block { block < length code.now.blocks }
+    ensures { result ≡ exit_layer code.now block }
+{
+    2 * code.blocks[block as usize].code.len() as u32 + 1
+}
+
+// Adds the ties from a strand.
+fn add_strand(
+    code: &VProc,
+    strands: &Seq<Strand>,
+    number: u32,
+    strand: &Strand,
+    out: &mut Seq<Tie>,
+) -> Result<(), AllocError>
+    requires sized { IsSized code.now }
+    requires few { length strands.now < 2 ^ 32 }
+    requires order { AreInOrder strands.now }
+    requires block { strand.now.block.0 < length code.now.blocks }
+    ensures { OnOk result
+        (out.new ≡ out.old ++ ties_from code.now strands.now (number, strand.now)) }
+{
+    let block = strand.block.0;
+    if strand.last != exit_layer(code, block) {
+        return Ok(());
+    }
+    add_exit(
+        strands,
+        number,
+        &code.blocks[block as usize].end,
+        strand.var.0,
+        out,
+    )?;
+    Ok(())
+}
+
+/// The ties between the strands of a code, which stand in order.
+///
+/// # Errors
+///
+/// Where there is no memory for them.
+pub fn ties_of(alloc: Global, code: &VProc, strands: &Seq<Strand>) -> Result<Seq<Tie>, AllocError>
+    requires sized { IsSized code.now }
+    requires few { length strands.now < 2 ^ 32 }
+    requires order { AreInOrder strands.now }
+    requires strands { All (IsStrandOf (map net_block code.now.blocks)) strands.now }
+    ensures { IfOk result (λ made. made ≡ ties code.now strands.now) }
+{
+    let mut out = Seq::new(alloc);
+    for number in 0..strands.len() as u32 {
+        add_strand(code, strands, number, &strands[number as usize], &mut out)?;
+    }
+    Ok(out)
+}
