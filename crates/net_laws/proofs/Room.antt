@@ -80,6 +80,8 @@ module _ (code : VProc) (live : Lives) (is_live : IsLive code live) (valid : IsV
 
   free_pairs : All (IsFreePair n) n.pairs
   free_pairs = All-weaker (IsPair code live is_live valid sized tied least) (IsFreePair n) (λ m is. record {
+    left_strand = is.left_strand.within;
+    right_strand = is.right_strand.within;
     left = is.left_strand.there;
     right = is.right_strand.there;
     stays = λ stays. false_from_ne_true (needs_register n m.left m.left_layer) (λ need. kept m is stays need);
@@ -116,7 +118,7 @@ module _ (code : VProc) (live : Lives) (is_live : IsLive code live) (valid : IsV
       }
 
   abbrev AtHome : Tie → Type 0
-  AtHome t = (needs_register n t.from (strand_of t.from).last ≡ false) × (needs_register n t.to (strand_of t.to).first ≡ false) × ((strand_of t.from).constant ≡ (strand_of t.to).constant)
+  AtHome t = (needs_register n t.from (strand_of t.from).last ≡ false) × (needs_register n t.to (strand_of t.to).first ≡ false) × ((strand_of t.from).constant ≡ (strand_of t.to).constant) × (t.to < length n.strands)
 
   joined_home : (s t : ℕ × Strand) → IsNumbered s → IsNumbered t → is_joined code s.1 t.1 ≡ true → AtHome (record { from = s.0; to = t.0 })
   joined_home s t x y joined =
@@ -141,6 +143,7 @@ module _ (code : VProc) (live : Lives) (is_live : IsLive code live) (valid : IsV
             let e = o.at in
             omega (arith, some, e, first)),
         ra.constant ∙ ap (λ v. is_constant (kind_of code v)) var ∙ sym rb.constant,
+        y.within,
       )
 
   tie_facts : All AtHome n.ties
@@ -158,6 +161,7 @@ module _ (code : VProc) (live : Lives) (is_live : IsLive code live) (valid : IsV
   has_room = record {
     registers = registers;
     pairs = free_pairs;
+    targets = All-weaker AtHome (λ t. t.to < length n.strands) (λ t h. h.3) n.ties tie_facts;
     exits = All-weaker AtHome (λ t. needs_register n t.from (strand_of t.from).last ≡ false) (λ t h. h.0) n.ties tie_facts;
     entries = All-weaker AtHome (λ t. needs_register n t.to (strand_of t.to).first ≡ false) (λ t h. h.1) n.ties tie_facts;
     alike = All-weaker AtHome (λ t. (strand_of t.from).constant ≡ (strand_of t.to).constant) (λ t h. h.2) n.ties tie_facts;

@@ -87,6 +87,8 @@ rivals net s l = count_by (is_rival net s l) (range_with_len 0 (length net.stran
 
 -- both ends are there, and the left one is in memory where it may be
 pub record IsFreePair (net : Net) (m : MemPair) : Type 0 where
+  pub left_strand : m.left < length net.strands
+  pub right_strand : m.right < length net.strands
   pub left : is_there (strand_at net m.left) m.left_layer ≡ true
   pub right : is_there (strand_at net m.right) m.right_layer ≡ true
   pub stays : left_stays net m ≡ true → needs_register net m.left m.left_layer ≡ false
@@ -99,6 +101,7 @@ pub record HasRoom (net : Net) : Type 0 where
   pub registers : (s l : ℕ) → s < length net.strands → is_there (strand_at net s) l ≡ true →
       needs_register net s l ≡ true → rivals net s l < choices (allowed (strand_at net s) l)
   pub pairs : All (IsFreePair net) net.pairs
+  pub targets : All (λ t. t.to < length net.strands) net.ties
   pub exits : All (λ t. needs_register net t.from (strand_at net t.from).last ≡ false) net.ties
   pub entries : All (λ t. needs_register net t.to (strand_at net t.to).first ≡ false) net.ties
   pub alike : All
