@@ -1,14 +1,19 @@
--- What stops at each rung, by what the scanner and the parser tell.
-use Rattle.std.proofs.Common.{◌≡◌, inl, inr, refl, sym, ap, subst, ◌<◌, ◌≤◌, ◌∙◌, ℕ, List, length}
+-- What stops at each rung, by what the scanner, the parser and the checker tell.
+use Rattle.std.proofs.Common.{◌≡◌, inl, inr, refl, ap, subst, ◌<◌, ℕ, List}
+use Rattle.pra_base.specs.declared.limit.LimitKind.{LimitKind}
 use Rattle.pra_base.specs.declared.limit.LimitKind.TheVariants as limit
 use Rattle.ob_syntax.specs.declared.token.Token.{Token}
+use Rattle.ob_syntax.specs.declared.tree.Module.{Module}
 use Rattle.ob_syntax.specs.Whole.{kinds, StopsAt, DeepensAt}
-use Rattle.ob_syntax.specs.Source.{most_tokens, byte_of, IsScanned, AreTooMany}
-use Rattle.ob_read.specs.declared.fault.SourceFault.TheVariants.{Grammar}
+use Rattle.ob_syntax.specs.Source.{most_tokens, byte_of, IsScanned, IsParsed, AreTooMany}
+use Rattle.ob_syntax.specs.WellFormed.{IsBroken}
+use Rattle.ob_check.specs.Checking.{IsBeyond}
+use Rattle.ob_read.specs.declared.fault.SourceFault.TheVariants.{Grammar, Rule}
 use Rattle.ob_read.specs.declared.fault.LimitFault.TheVariants.{Count, Depth}
 use Rattle.ob_read.specs.declared.fault.ReadFault.{ReadFault}
 use Rattle.ob_read.specs.declared.fault.ReadFault.TheVariants.{Source, Limit}
-use Rattle.ob_read.specs.Source.{HasNoTree, IsUnreadable}
+use Rattle.ob_read.specs.Ladder.{Stops}
+use Rattle.ob_read.specs.Source.{HasNoTree, HasReading, BreaksRule, HasTooMuch, IsUnreadable}
 
 -- a source with too many tokens is unreadable
 pub too_many : (bytes : List ℕ) (count : ℕ) → AreTooMany bytes count →
@@ -37,7 +42,7 @@ behind_tokens bytes tokens f s none = inr (record {
     above = inr (record {
       between = record { bytes = bytes; tokens = tokens };
       below = (s.few, refl);
-      above = none;
+      above = inl none;
     });
   });
 })
@@ -55,3 +60,47 @@ pub deepened : (bytes : List ℕ) (tokens : List Token) (k at : ℕ) → IsScann
     IsUnreadable bytes (Limit (Depth k at))
 deepened bytes tokens k at s deepens is = behind_tokens bytes tokens (Limit (Depth k at)) s
     (inr (record { token = k; deepens = deepens; told = ap (λ a. Limit (Depth k a)) is }))
+
+behind_tree : (bytes : List ℕ) (tokens : List Token) (tree : Module) (f : ReadFault) →
+    IsParsed bytes tokens tree →
+    Stops BreaksRule HasReading HasTooMuch (record { bytes = bytes; tokens = tokens; tree = tree }) f →
+    IsUnreadable bytes f
+behind_tree bytes tokens tree f p stops = inr (record {
+  between = bytes;
+  below = (p.scanned.short, refl);
+  above = inr (record {
+    between = record { bytes = bytes; tokens = tokens };
+    below = (p.scanned.scanned, refl);
+    above = inr (record {
+      between = record { bytes = bytes; tokens = tokens };
+      below = (p.scanned.few, refl);
+      above = inr (record {
+        between = record { bytes = bytes; tokens = tokens; tree = tree };
+        below = (p.parsed, refl, refl);
+        above = stops;
+      });
+    });
+  });
+})
+
+-- a module that breaks a rule is unreadable
+pub broken : (bytes : List ℕ) (tokens : List Token) (tree : Module) (rule token at : ℕ) →
+    IsParsed bytes tokens tree → IsBroken bytes tokens tree rule token →
+    at ≡ byte_of bytes tokens token → IsUnreadable bytes (Source (Rule rule token at))
+broken bytes tokens tree rule token at p b is =
+    behind_tree bytes tokens tree (Source (Rule rule token at)) p
+    (inl (record { rule = rule; token = token; broken = b; told = ap (λ a. Source (Rule rule token a)) is }))
+
+-- and so is one that has too much of something
+pub beyond : (bytes : List ℕ) (tokens : List Token) (tree : Module) (kind : LimitKind) (n : ℕ) →
+    IsParsed bytes tokens tree → IsBeyond bytes tokens tree kind n →
+    IsUnreadable bytes (Limit (Count kind n))
+beyond bytes tokens tree kind n p b =
+    behind_tree bytes tokens tree (Limit (Count kind n)) p (inr (record {
+      between = record {
+        text = record { bytes = bytes; tokens = tokens; tree = tree };
+        reading = b.reading;
+      };
+      below = (b.well_formed, refl);
+      above = record { kind = kind; count = n; excess = b.excess; told = refl };
+    }))

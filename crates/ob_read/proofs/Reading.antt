@@ -1,20 +1,21 @@
 -- Each rung of a source is one, and so is the whole ladder.
-use Rattle.std.proofs.Common.{◌≡◌, ◌≢◌, ◌⊎◌, inl, inr, ℕ, ◌<◌, ◌≤◌, List, length, refl, sym, ap, ◌∙◌, subst, arith}
-use Rattle.ob_syntax.specs.declared.token.Token.{Token}
-use Rattle.ob_syntax.specs.declared.tree.Module.{Module as Tree}
+use Rattle.std.proofs.Common.{◌≡◌, ◌≢◌, inl, inr, ℕ, List, Ok, Err, Some, None, refl, sym, ap, ◌∙◌, subst, arith}
+use Rattle.std.specs.declared.option.Option.{Option}
 use Rattle.ob_syntax.specs.Grammar.{Module}
-use Rattle.ob_syntax.specs.Tokens.{Tokens}
-use Rattle.ob_syntax.specs.Whole.{kinds, most_nesting, IsModule, StopsAt, DeepensAt}
-use Rattle.ob_syntax.specs.Source.{byte_of, IsParsed}
+use Rattle.ob_syntax.specs.Whole.{kinds, most_nesting}
+use Rattle.ob_syntax.specs.Source.{byte_of}
+use Rattle.ob_syntax.specs.Names.{Judged, Fault as Broken}
+use Rattle.ob_syntax.specs.Declarations.{reading}
+use Rattle.ob_syntax.specs.WellFormed.{IsWellFormed, Excess, first_excess}
 use Rattle.ob_syntax.proofs.Texts.{no_fault_in_tokens, one_list, one_first_fault}
 use Rattle.ob_syntax.proofs.OneTree.{one_tree}
 use Rattle.ob_lex.specs.Scanning.{fault_at}
-use Rattle.ob_read.specs.declared.fault.SourceFault.TheVariants.{Lex, Grammar}
-use Rattle.ob_read.specs.declared.fault.LimitFault.TheVariants.{Depth}
+use Rattle.ob_read.specs.declared.fault.SourceFault.TheVariants.{Lex, Grammar, Rule}
+use Rattle.ob_read.specs.declared.fault.LimitFault.TheVariants.{Count, Depth}
 use Rattle.ob_read.specs.declared.fault.ReadFault.{ReadFault}
 use Rattle.ob_read.specs.declared.fault.ReadFault.TheVariants.{Source, Limit, OutOfMemory}
 use Rattle.ob_read.specs.Ladder.{Then, Stops, IsRung}
-use Rattle.ob_read.specs.Source.{IsShort, IsTooLong, Scanned, HasTokens, HasNoTokens, AreFew, AreOver, ReadText, HasTree, HasNoModule, IsTooDeep, HasNoTree, IsRead, IsUnreadable}
+use Rattle.ob_read.specs.Source.{IsShort, IsTooLong, Scanned, HasTokens, HasNoTokens, AreFew, AreOver, ParsedText, HasTree, HasNoModule, IsTooDeep, HasNoTree, WellFormedText, HasReading, BreaksRule, ReadText, StandsFor, HasTooMuch, IsRead, IsUnreadable}
 use Rattle.ob_read.proofs.Rungs.{over, narrowed}
 use Rattle.ob_read.proofs.Fronts.{one_place, no_place, stops_or_deepens}
 
@@ -50,13 +51,13 @@ count = record {
   never_both = λ a b f s t. omega (arith, s.0, t.0);
 }
 
-same_text : (s t : ReadText) → s.bytes ≡ t.bytes → s.tokens ≡ t.tokens → s.tree ≡ t.tree → s ≡ t
+same_text : (s t : ParsedText) → s.bytes ≡ t.bytes → s.tokens ≡ t.tokens → s.tree ≡ t.tree → s ≡ t
 same_text s t bytes tokens tree =
     ap (λ b. record { bytes = b; tokens = s.tokens; tree = s.tree }) bytes ∙
     ap (λ l. record { bytes = t.bytes; tokens = l; tree = s.tree }) tokens ∙
     ap (λ u. record { bytes = t.bytes; tokens = t.tokens; tree = u }) tree
 
-one_text : (a : Scanned) (b c : ReadText) → HasTree a b → HasTree a c → b ≡ c
+one_text : (a : Scanned) (b c : ParsedText) → HasTree a b → HasTree a c → b ≡ c
 one_text a b c s t =
     let p = s.0 in
     let q = t.0 in
@@ -84,7 +85,7 @@ no_tree a f g (inr s) (inl t) =
     absurd (stops_or_deepens (kinds a.tokens) t.token s.token t.stops s.deepens)
 no_tree a f g (inr s) (inr t) = too_deep a f g s t
 
-tree_or_none : (a : Scanned) (b : ReadText) (f : ReadFault) → HasTree a b → HasNoTree a f → ⊥
+tree_or_none : (a : Scanned) (b : ParsedText) (f : ReadFault) → HasTree a b → HasNoTree a f → ⊥
 tree_or_none a b f s (inl t) =
     no_place most_nesting t.token (kinds a.tokens) (s.0.0, s.0.1, s.0.2) t.stops.place
 tree_or_none a b f s (inr t) =
@@ -93,29 +94,99 @@ tree_or_none a b f s (inr t) =
 tree : IsRung HasTree HasNoTree
 tree = record { one_way = one_text; one_fault = no_tree; never_both = tree_or_none }
 
+same_well_formed : (s t : WellFormedText) → s.text ≡ t.text → s.reading ≡ t.reading → s ≡ t
+same_well_formed s t text reading =
+    ap (λ u. record { text = u; reading = s.reading }) text ∙
+    ap (λ r. record { text = t.text; reading = r }) reading
+
+-- what a phrase is read as is one thing, or its first broken rule is one
+same_right : {A : Type 0} (x : Judged A) (a b : A) → x ≡ Ok a → x ≡ Ok b → a ≡ b
+same_right x a b s t = let e = sym s ∙ t in cc
+
+same_wrong : {A : Type 0} (x : Judged A) (a b : Broken) → x ≡ Err a → x ≡ Err b → a ≡ b
+same_wrong x a b s t = let e = sym s ∙ t in cc
+
+right_or_wrong : {A : Type 0} (x : Judged A) (a : A) (b : Broken) → x ≡ Ok a → x ≡ Err b → ⊥
+right_or_wrong x a b s t = let e = sym s ∙ t in cc
+
+one_rule : (t : ParsedText) (f g : ReadFault) → BreaksRule t f → BreaksRule t g → f ≡ g
+one_rule t f g s u =
+    let same = same_wrong (reading t.bytes t.tokens t.tree) (s.rule, s.token) (u.rule, u.token)
+    s.broken u.broken in
+    s.told ∙
+    ap (λ (b : Broken). Source (Rule b.0 b.1 (byte_of t.bytes t.tokens b.1))) same ∙ sym u.told
+
+rules : IsRung HasReading BreaksRule
+rules = record {
+  one_way = λ a b c s t. same_well_formed b c (s.1 ∙ sym t.1)
+      (same_right (reading a.bytes a.tokens a.tree) b.reading c.reading s.0 t.0);
+  one_fault = one_rule;
+  never_both = λ a b f s t.
+      right_or_wrong (reading a.bytes a.tokens a.tree) b.reading (t.rule, t.token) s.0 t.broken;
+}
+
+same_read : (s t : ReadText) → s.text ≡ t.text → s.checked ≡ t.checked → s ≡ t
+same_read s t text checked =
+    ap (λ u. record { text = u; checked = s.checked }) text ∙
+    ap (λ x. record { text = t.text; checked = x }) checked
+
+same_some : {A : Type 0} (x : Option A) (a b : A) → x ≡ Some a → x ≡ Some b → a ≡ b
+same_some x a b s t = let e = sym s ∙ t in cc
+
+none_or_some : {A : Type 0} (x : Option A) (a : A) → x ≡ None → x ≡ Some a → ⊥
+none_or_some x a s t = let e = sym s ∙ t in cc
+
+one_excess : (w : WellFormedText) (f g : ReadFault) → HasTooMuch w f → HasTooMuch w g → f ≡ g
+one_excess w f g s u =
+    let same = same_some (first_excess w.reading) (s.kind, s.count) (u.kind, u.count)
+    s.excess u.excess in
+    s.told ∙ ap (λ (e : Excess). Limit (Count e.0 e.1)) same ∙ sym u.told
+
+limits : IsRung StandsFor HasTooMuch
+limits = record {
+  one_way = λ a b c s t. same_read b c (s.1 ∙ sym t.1) (s.2 ∙ sym t.2);
+  one_fault = one_excess;
+  never_both = λ a b f s t.
+      none_or_some (first_excess a.reading) (t.kind, t.count) s.0 t.excess;
+}
+
 Climbed : List ℕ → ReadText → Type 0
-Climbed = Then IsShort (Then HasTokens (Then AreFew HasTree))
+Climbed =
+    Then IsShort (Then HasTokens (Then AreFew (Then HasTree (Then HasReading StandsFor))))
 
 -- what was read has climbed the whole ladder
 climbed : (bytes : List ℕ) (t : ReadText) → IsRead bytes t → Climbed bytes t
 unfolding Climbed
-climbed bytes t (same, p) = record {
+climbed bytes t (same, p, c) = record {
   between = bytes;
   below = (p.scanned.short, refl);
   above = record {
-    between = record { bytes = bytes; tokens = t.tokens };
+    between = record { bytes = bytes; tokens = t.text.tokens };
     below = (p.scanned.scanned, refl);
     above = record {
-      between = record { bytes = bytes; tokens = t.tokens };
+      between = record { bytes = bytes; tokens = t.text.tokens };
       below = (p.scanned.few, refl);
-      above = (p.parsed, same, refl);
+      above = record {
+        between = t.text;
+        below = (p.parsed, same, refl);
+        above = record {
+          between = record { text = t.text; reading = c.reading };
+          below = (
+            subst (λ bs. IsWellFormed bs t.text.tokens t.text.tree c.reading) (sym same)
+                c.well_formed,
+            refl,
+          );
+          above = (c.within, refl, c.checked_is);
+        };
+      };
     };
   };
 }
 
 ladder : IsRung Climbed IsUnreadable
 unfolding Climbed
-ladder = over _ _ _ _ size (over _ _ _ _ tokens (over _ _ _ _ count tree))
+ladder = over _ _ _ _ size (over _ _ _ _ tokens (over _ _ _ _ count (over _ _ _ _ tree
+    (over _ _ _ _ rules limits))))
 
 pub one_reading : IsRung IsRead IsUnreadable
 one_reading = narrowed Climbed IsRead IsUnreadable climbed ladder
@@ -125,14 +196,24 @@ pub never_memory : (bytes : List ℕ) (f : ReadFault) → IsUnreadable bytes f �
 never_memory bytes f (inl s) is = let e = sym is ∙ s.1 in cc
 never_memory bytes f (inr s) is = behind s.above
   where
-    behind_tree : (t : Scanned) → HasNoTree t f → ⊥
-    behind_tree t (inl u) = let e = sym is ∙ u.told in cc
-    behind_tree t (inr u) = let e = sym is ∙ u.told in cc
+    no_tree_told : (t : Scanned) → HasNoTree t f → ⊥
+    no_tree_told t (inl u) = let e = sym is ∙ u.told in cc
+    no_tree_told t (inr u) = let e = sym is ∙ u.told in cc
 
-    behind : {a : List ℕ} → Stops HasNoTokens HasTokens (Stops AreOver AreFew HasNoTree) a f → ⊥
+    behind_tree : {t : ParsedText} → Stops BreaksRule HasReading HasTooMuch t f → ⊥
+    behind_tree (inl u) = let e = sym is ∙ u.told in cc
+    behind_tree (inr u) = let e = sym is ∙ u.above.told in cc
+
+    behind_count : {t : Scanned} → Stops HasNoTree HasTree (Stops BreaksRule HasReading HasTooMuch) t f → ⊥
+    behind_count (inl u) = no_tree_told _ u
+    behind_count (inr u) = behind_tree u.above
+
+    behind_tokens : {t : Scanned} →
+        Stops AreOver AreFew (Stops HasNoTree HasTree (Stops BreaksRule HasReading HasTooMuch)) t f → ⊥
+    behind_tokens (inl u) = let e = sym is ∙ u.1 in cc
+    behind_tokens (inr u) = behind_count u.above
+
+    behind : {a : List ℕ} →
+        Stops HasNoTokens HasTokens (Stops AreOver AreFew (Stops HasNoTree HasTree (Stops BreaksRule HasReading HasTooMuch))) a f → ⊥
     behind (inl u) = let e = sym is ∙ u.told in cc
-    behind (inr u) = behind_count u.above
-      where
-        behind_count : {b : Scanned} → Stops AreOver AreFew HasNoTree b f → ⊥
-        behind_count (inl v) = let e = sym is ∙ v.1 in cc
-        behind_count (inr v) = behind_tree v.between v.above
+    behind (inr u) = behind_tokens u.above

@@ -1,6 +1,6 @@
 -- Rungs make rungs: two of them one after the other, with faults told as another type's, and with less
 -- to climb.
-use Rattle.std.proofs.Common.{◌≡◌, ◌⊎◌, inl, inr, subst, sym, ◌∙◌, ap}
+use Rattle.std.proofs.Common.{◌≡◌, inl, inr, subst, sym, ◌∙◌, ap}
 use Rattle.ob_read.specs.Ladder.{Then, Stops, ToldAs, IsRung}
 
 module _ {A B C F : Type 0} (First : A → B → Type 0) (Stop : A → F → Type 0)

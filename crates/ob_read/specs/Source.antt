@@ -1,19 +1,24 @@
 -- What a source is, by how far it gets: it has at most so many bytes, it has a token list, of at
--- most so many tokens, and they are a module of at most so much depth. What is told of a source is
--- where it stops.
-use Rattle.std.specs.Prelude.{◌≡◌, ◌⊎◌, ℕ, ◌+◌, ◌<◌, ◌≤◌, List, length}
+-- most so many tokens, they are a module of at most so much depth, which breaks no rule, and of
+-- nothing it has too much. What is told of a source is where it stops.
+use Rattle.std.specs.Prelude.{◌≡◌, ◌⊎◌, ℕ, ◌+◌, ◌<◌, ◌≤◌, List, Some, length}
+use Rattle.pra_base.specs.declared.limit.LimitKind.{LimitKind}
 use Rattle.pra_base.specs.declared.limit.LimitKind.TheVariants as limit
 use Rattle.ob_syntax.specs.declared.token.Token.{Token}
 use Rattle.ob_syntax.specs.declared.tree.Module.{Module}
+use Rattle.ob_syntax.specs.declared.checked.Checked.{Checked}
+use Rattle.ob_syntax.specs.Declarations.{Reading}
 use Rattle.ob_syntax.specs.Tokens.{Tokens, Fault, FirstFault}
+use Rattle.ob_syntax.specs.WellFormed.{IsBroken, IsWellFormed, IsWithin, first_excess, resolved}
 use Rattle.ob_syntax.specs.Whole.{kinds, most_nesting, IsTreeOf, StopsAt, DeepensAt}
 use Rattle.ob_syntax.specs.Source.{most_bytes, most_tokens, byte_of, IsParsed}
 use Rattle.ob_lex.specs.Scanning.{fault_at}
-use Rattle.ob_read.specs.declared.fault.SourceFault.TheVariants.{Lex, Grammar}
+use Rattle.ob_check.specs.Checking.{IsChecked}
+use Rattle.ob_read.specs.declared.fault.SourceFault.TheVariants.{Lex, Grammar, Rule}
 use Rattle.ob_read.specs.declared.fault.LimitFault.TheVariants.{Count, Depth}
 use Rattle.ob_read.specs.declared.fault.ReadFault.{ReadFault}
 use Rattle.ob_read.specs.declared.fault.ReadFault.TheVariants.{Source, Limit}
-use Rattle.ob_read.specs.Ladder.{Then, Stops}
+use Rattle.ob_read.specs.Ladder.{Stops}
 
 -- ---- the first rung: at most 1,048,576 bytes
 
@@ -54,12 +59,12 @@ AreOver s f =
 -- ---- the fourth: a tree of depth at most 64
 
 -- a source with its tokens and its tree
-pub record ReadText : Type 0 where
+pub record ParsedText : Type 0 where
   pub bytes : List ℕ
   pub tokens : List Token
   pub tree : Module
 
-abbrev pub HasTree : Scanned → ReadText → Type 0
+abbrev pub HasTree : Scanned → ParsedText → Type 0
 HasTree s t =
     IsTreeOf most_nesting (kinds s.tokens) t.tree × (t.bytes ≡ s.bytes) × (t.tokens ≡ s.tokens)
 
@@ -78,13 +83,51 @@ pub record IsTooDeep (s : Scanned) (f : ReadFault) : Type 0 where
 abbrev pub HasNoTree : Scanned → ReadFault → Type 0
 HasNoTree s f = HasNoModule s f ⊎ IsTooDeep s f
 
+-- ---- the fifth: no rule is broken
+
+-- a source with its tree, and what that is read as
+pub record WellFormedText : Type 0 where
+  pub text : ParsedText
+  pub reading : Reading
+
+abbrev pub HasReading : ParsedText → WellFormedText → Type 0
+HasReading t w = IsWellFormed t.bytes t.tokens t.tree w.reading × (w.text ≡ t)
+
+-- the first rule that is broken, its token, and the byte of that
+pub record BreaksRule (t : ParsedText) (f : ReadFault) : Type 0 where
+  pub rule : ℕ
+  pub token : ℕ
+  pub broken : IsBroken t.bytes t.tokens t.tree rule token
+  pub told : f ≡ Source (Rule rule token (byte_of t.bytes t.tokens token))
+
+-- ---- the sixth: nothing above its maximum
+
+-- a source with its tree, and the module that it stands for
+pub record ReadText : Type 0 where
+  pub text : ParsedText
+  pub checked : Checked
+
+abbrev pub StandsFor : WellFormedText → ReadText → Type 0
+StandsFor w t =
+    IsWithin w.reading × (t.text ≡ w.text) × (t.checked ≡ resolved w.text.tree w.reading)
+
+-- the first quantity above its maximum, and how much there is of it
+pub record HasTooMuch (w : WellFormedText) (f : ReadFault) : Type 0 where
+  pub kind : LimitKind
+  pub count : ℕ
+  pub excess : first_excess w.reading ≡ Some (kind, count)
+  pub told : f ≡ Limit (Count kind count)
+
 -- ---- the whole ladder
 
--- These are the tokens and the tree of the bytes.
+-- These are the tokens and the tree of the bytes, and the module that they stand for.
 abbrev pub IsRead : List ℕ → ReadText → Type 0
-IsRead bytes t = (t.bytes ≡ bytes) × IsParsed bytes t.tokens t.tree
+IsRead bytes t =
+    (t.text.bytes ≡ bytes) × IsParsed bytes t.text.tokens t.text.tree
+    × IsChecked bytes t.text.tokens t.text.tree t.checked
 
 -- The bytes stop at a rung, with this fault.
 abbrev pub IsUnreadable : List ℕ → ReadFault → Type 0
 IsUnreadable =
-    Stops IsTooLong IsShort (Stops HasNoTokens HasTokens (Stops AreOver AreFew HasNoTree))
+    Stops IsTooLong IsShort (Stops HasNoTokens HasTokens (Stops AreOver AreFew
+    (Stops HasNoTree HasTree (Stops BreaksRule HasReading HasTooMuch))))

@@ -3,14 +3,16 @@
 use ob_lex::LexFault;
 use pra_base::{LimitKind, OutOfMemory};
 
-/// A source that is no text of the language. Tokens and bytes are counted from 0; where the token
-/// is the number of all tokens, the byte is the number of all bytes.
+/// A source that is no text of a well-formed module. Tokens and bytes are counted from 0; where
+/// the token is the number of all tokens, the byte is the number of all bytes.
 #[derive(Clone, Copy, Debug, PartialEq, Eq)]
 pub enum SourceFault {
     /// Its first lexical fault.
     Lex(LexFault),
     /// The token that no module goes on with, and its first byte.
     Grammar(u32, u32),
+    /// The number of the rule that is broken first, its token, and the first byte of that.
+    Rule(u8, u32, u32),
 }
 
 /// A source that goes beyond a limit.
@@ -22,7 +24,7 @@ pub enum LimitFault {
     Depth(u32, u32),
 }
 
-/// Why a source has no tree.
+/// Why a source stands for no module.
 #[derive(Clone, Copy, Debug, PartialEq, Eq)]
 pub enum ReadFault {
     Source(SourceFault),

@@ -1,14 +1,16 @@
-// Tokens and tree of a source, by the scanner and the parser.
+// Tokens, tree and checked module of a source, by the scanner, the parser and the checker.
 
 ghost use Rattle.std.specs.Prelude.{◌≡◌, ◌≢◌, ◌≤◌, length, IfOk, IfErr};
 ghost use Rattle.ob_syntax.specs.Tokens.{SlicesSource};
 ghost use Rattle.ob_syntax.specs.Source.{most_bytes, byte_of, IsScanned, IsParsed};
+ghost use Rattle.ob_check.specs.Checking.{IsChecked};
 ghost use Rattle.ob_read.specs.Source.{IsUnreadable};
 
 use crate::fault::{LimitFault, ReadFault, SourceFault};
+use ob_check::{CheckFault, check};
 use ob_lex::{LexFault, lex};
 use ob_parse::{ParseFault, parse};
-use ob_syntax::{Module, Token};
+use ob_syntax::{Checked, Module, Token};
 use pra_base::LimitKind;
 use std::alloc::Global;
 
@@ -72,6 +74,36 @@ fn tree_of(alloc: Global, bytes: &[u8], tokens: &[Token]) -> Result<Module, Read
         Err(ParseFault::TooDeep(token)) => {
             let at = byte_of(bytes, tokens, token);
             Err(ReadFault::Limit(LimitFault::Depth(token, at)))
+        }
+    }
+}
+
+/// Resolves the tree of a source that was read.
+///
+/// # Errors
+///
+/// The first rule that is broken, or else the first quantity above its maximum. And `OutOfMemory`.
+pub fn resolve(
+    alloc: Global,
+    bytes: &[u8],
+    tokens: &[Token],
+    tree: Module,
+) -> Result<Checked, ReadFault>
+    requires parsed { IsParsed bytes.now tokens.now tree }
+    requires spans { SlicesSource bytes.now tokens.now }
+    // The checked module is that of the bytes, and a fault is the one that they have.
+    ensures found { IfOk result (IsChecked bytes.now tokens.now tree) }
+    ensures cause { IfErr result (λ f. f ≢ ReadFault.OutOfMemory → IsUnreadable bytes.now f) }
+{
+    match check(alloc, bytes, tokens, tree) {
+        Ok(checked) => Ok(checked),
+        Err(CheckFault::OutOfMemory) => Err(ReadFault::OutOfMemory),
+        Err(CheckFault::Rule(rule, token)) => {
+            let at = byte_of(bytes, tokens, token);
+            Err(ReadFault::Source(SourceFault::Rule(rule, token, at)))
+        }
+        Err(CheckFault::Limit(kind, count)) => {
+            Err(ReadFault::Limit(LimitFault::Count(kind, count)))
         }
     }
 }

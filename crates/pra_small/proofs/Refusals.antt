@@ -1,11 +1,13 @@
 -- What is refused, by the rung at which it stops.
-use Rattle.std.proofs.Common.{◌≡◌, ◌≢◌, ◌⊎◌, inl, inr, ap, ◌∙◌, sym, refl, subst, List, ℕ}
+use Rattle.std.proofs.Common.{◌≡◌, ◌≢◌, inl, inr, ap, ◌∙◌, refl, List, ℕ}
 use Rattle.ob_syntax.specs.declared.token.Token.{Token}
 use Rattle.ob_syntax.specs.declared.tree.Module.{Module}
+use Rattle.ob_syntax.specs.declared.checked.Checked.{Checked}
 use Rattle.ob_syntax.specs.Source.{IsParsed, spelling}
+use Rattle.ob_check.specs.Checking.{IsChecked}
 use Rattle.ob_read.specs.declared.fault.ReadFault.{ReadFault}
 use Rattle.ob_read.specs.declared.fault.ReadFault.TheVariants as read
-use Rattle.ob_read.specs.Source.{ReadText, IsRead, IsUnreadable}
+use Rattle.ob_read.specs.Source.{IsUnreadable}
 use Rattle.pra_small.specs.declared.fault.CompileFault.{CompileFault}
 use Rattle.pra_small.specs.declared.fault.CompileFault.TheVariants.{Unbuilt, OutOfMemory}
 use Rattle.pra_small.specs.declared.small.SmallModule.{SmallModule}
@@ -23,20 +25,28 @@ unread bytes f g cause is other = inl (record {
 })
 
 -- a text of a small module is one
-pub small : (bytes : List ℕ) (tokens : List Token) (tree : Module) (m : SmallModule) →
-    IsParsed bytes tokens tree → IsSmallTree (spelling bytes tokens) tree m → IsSmall bytes m
-small bytes tokens tree m parsed is = record {
-  between = record { bytes = bytes; tokens = tokens; tree = tree };
-  below = (refl, parsed);
+pub small : (bytes : List ℕ) (tokens : List Token) (tree : Module) (checked : Checked)
+    (m : SmallModule) → IsParsed bytes tokens tree → IsChecked bytes tokens tree checked →
+    IsSmallTree (spelling bytes tokens) tree m → IsSmall bytes m
+small bytes tokens tree checked m parsed resolved is = record {
+  between = record {
+    text = record { bytes = bytes; tokens = tokens; tree = tree };
+    checked = checked;
+  };
+  below = (refl, parsed, resolved);
   above = is;
 }
 
 -- and a text of no small module is refused
-pub not_small : (bytes : List ℕ) (tokens : List Token) (tree : Module) (f : CompileFault) →
-    IsParsed bytes tokens tree → f ≡ Unbuilt →
-    ((m : SmallModule) → IsSmallTree (spelling bytes tokens) tree m → ⊥) → IsRefused bytes f
-not_small bytes tokens tree f parsed is none = inr (record {
-  between = record { bytes = bytes; tokens = tokens; tree = tree };
-  below = (refl, parsed);
+pub not_small : (bytes : List ℕ) (tokens : List Token) (tree : Module) (checked : Checked)
+    (f : CompileFault) → IsParsed bytes tokens tree → IsChecked bytes tokens tree checked →
+    f ≡ Unbuilt → ((m : SmallModule) → IsSmallTree (spelling bytes tokens) tree m → ⊥) →
+    IsRefused bytes f
+not_small bytes tokens tree checked f parsed resolved is none = inr (record {
+  between = record {
+    text = record { bytes = bytes; tokens = tokens; tree = tree };
+    checked = checked;
+  };
+  below = (refl, parsed, resolved);
   above = (none, is);
 })

@@ -2,11 +2,13 @@
 use Rattle.std.specs.Prelude.{◌≡◌, ◌≢◌, ℕ, List, [], ◌++◌, Option, Some, None, Result, MatchResult}
 use Rattle.std.specs.List.{AllByRecursion as Each}
 use Rattle.ob_syntax.specs.declared.tree.Decls.{Decls, out-Decls}
+use Rattle.ob_syntax.specs.declared.tree.Module.{Module}
 use Rattle.pra_small.specs.declared.source.Source.{Source}
 use Rattle.pra_small.specs.declared.fault.CompileFault.{CompileFault}
 use Rattle.pra_small.specs.declared.fault.CompileFault.TheVariants.{Unbuilt, OutOfMemory}
 use Rattle.ob_syntax.specs.Source.{Name, spelling}
-use Rattle.pra_small.specs.SmallTree.{AreIntegers, AreVariables}
+use Rattle.pra_small.specs.declared.small.SmallModule.{SmallModule}
+use Rattle.pra_small.specs.SmallTree.{AreIntegers, AreVariables, IsSmallTree}
 
 -- the texts of a source's tokens
 abbrev pub text_of : Source → ℕ → Name
@@ -32,3 +34,8 @@ pub record AreOnlyIntegers (text : ℕ → Name) (d : Decls) : Type 0 where
   pub no_types : (out-Decls d).types ≡ []
   pub no_procedures : (out-Decls d).procs ≡ []
   pub integers : Each (AreIntegers text) (out-Decls d).vars
+
+-- the tree is that of the small module, or of none
+abbrev pub IsSmallOr : (ℕ → Name) → Module → Option SmallModule → Type 0
+IsSmallOr text t (Some m) = IsSmallTree text t m
+IsSmallOr text t None = (m : SmallModule) → IsSmallTree text t m → ⊥

@@ -1,6 +1,7 @@
 -- What a source is to the compiler of small modules: a text of a small module, or refused. Behind
--- the rungs of reading stands one more: the tree is that of a small module.
-use Rattle.std.specs.Prelude.{◌≡◌, ◌≢◌, ℕ, ℤ, List, Some}
+-- the rungs of reading, rules and limits included, stands one more: the tree is that of a small
+-- module.
+use Rattle.std.specs.Prelude.{◌≡◌, ℕ, ℤ, List}
 use Rattle.pra_base.specs.Agreement.{Agree}
 use Rattle.ia_code.specs.declared.image.Image.{Image}
 use Rattle.ia_code.specs.Image.{IsImage}
@@ -18,7 +19,7 @@ use Rattle.pra_small.specs.Meaning.{mean}
 
 -- the tree is that of the small module
 abbrev pub IsTextOf : ReadText → SmallModule → Type 0
-IsTextOf t m = IsSmallTree (spelling t.bytes t.tokens) t.tree m
+IsTextOf t m = IsSmallTree (spelling t.text.bytes t.text.tokens) t.text.tree m
 
 -- the tree is that of no small module
 abbrev pub IsNotSmall : ReadText → CompileFault → Type 0

@@ -16,7 +16,7 @@ use Rattle.pra_tool.specs.declared.words.Word.{Word}
 use Rattle.pra_tool.specs.declared.words.Word.TheVariants as word
 use Rattle.ob_lex.specs.declared.scanner.LexFault.{LexFault}
 use Rattle.ob_lex.specs.declared.scanner.LexFault.TheVariants as lex
-use Rattle.ob_read.specs.declared.fault.SourceFault.TheVariants.{Lex, Grammar}
+use Rattle.ob_read.specs.declared.fault.SourceFault.TheVariants.{Lex, Grammar, Rule}
 use Rattle.ob_read.specs.declared.fault.LimitFault.TheVariants.{Count, Depth}
 use Rattle.pra_small.specs.declared.fault.CompileFault.{CompileFault}
 use Rattle.pra_small.specs.declared.fault.CompileFault.TheVariants.{Source, Limit, Unbuilt, OutOfMemory}
@@ -72,6 +72,8 @@ count_line kind count = codes "limit " ++ limit_name kind ++ codes " count " ++ 
 abbrev pub fault_line : CompileFault → List ℕ
 fault_line (Source (Lex f)) = lexical_line f
 fault_line (Source (Grammar token at)) = codes "fault grammar token " ++ place_text token at
+fault_line (Source (Rule rule token at)) =
+    codes "fault rule " ++ decimal rule ++ codes " token " ++ place_text token at
 fault_line (Limit (Count kind count)) = count_line kind count
 fault_line (Limit (Depth token at)) = codes "limit depth token " ++ place_text token at
 fault_line Unbuilt = codes "fault unbuilt\n"

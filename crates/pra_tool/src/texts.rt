@@ -1,6 +1,7 @@
 // The texts that the program writes.
 
-ghost use Rattle.std.specs.Prelude.{◌≡◌, ◌++◌, IfOk, OnOk, string_bytes};
+ghost use Rattle.std.specs.Prelude.{◌≡◌, ◌++◌, codes, IfOk, OnOk, string_bytes};
+ghost use Rattle.std.specs.Fmt.{decimal};
 ghost use Rattle.pra_tool.specs.Texts.{event_text, output_text, trap_name, ending_words, ending_line, lexical_line, place_text, count_line, fault_line, words_lines};
 
 use crate::words::{Word, WordsFault};
@@ -76,6 +77,9 @@ pub fn fault_line(alloc: Global, fault: CompileFault) -> Result<String, AllocErr
         CompileFault::Source(SourceFault::Grammar(token, at)) => {
             place_line(alloc, "fault grammar token ", token, at)
         }
+        CompileFault::Source(SourceFault::Rule(rule, token, at)) => {
+            rule_line(alloc, rule, token, at)
+        }
         CompileFault::Limit(LimitFault::Count(kind, count)) => count_line(alloc, kind, count),
         CompileFault::Limit(LimitFault::Depth(token, at)) => {
             place_line(alloc, "limit depth token ", token, at)
@@ -110,6 +114,14 @@ fn place_line(alloc: Global, words: &str, token: u32, at: u32) -> Result<String,
 {
     let line = format!(in alloc; "{words}{token} at {at}\n")?;
     Ok(line)
+}
+
+fn rule_line(alloc: Global, rule: u8, token: u32, at: u32) -> Result<String, AllocError>
+    ensures { IfOk result (λ line. string_bytes line
+        ≡ codes "fault rule " ++ decimal rule ++ codes " token " ++ place_text token at) }
+{
+    let words = format!(in alloc; "fault rule {rule} token ")?;
+    place_line(alloc, words.as_str(), token, at)
 }
 
 /// The lines that tell why the words are refused, the usage line at the end.

@@ -30,8 +30,9 @@ use std::alloc::Global;
 /// | 0 | the image ended within the steps | the ending line |
 /// | 1 | the image trapped | the ending line |
 /// | 2 | the image is still going after the steps | the ending line |
-/// | 3 | FILE is no module, or none that is compiled | `fault bad-byte at A`, `fault open-comment at A`, `fault number-too-large at A`, `fault grammar token T at A`, `fault unbuilt` |
-/// | 4 | FILE goes beyond a limit | `limit source count 1048577 maximum 1048576`, `limit tokens count C maximum 65536`, `limit depth token T at A` |
+/// | 3 | FILE is no module | `fault bad-byte at A`, `fault open-comment at A`, `fault number-too-large at A`, `fault grammar token T at A` |
+/// | 3 | FILE breaks rule K of the language, or is a module that is not compiled | `fault rule K token T at A`, `fault unbuilt` |
+/// | 4 | FILE goes beyond a limit | `limit source count 1048577 maximum 1048576`, `limit depth token T at A`, `limit NAME count C maximum L` |
 /// | 5 | reading FILE, or writing the image or out, failed | `fault read file`, `fault write file`, `fault write out` |
 /// | 5 | writing notes failed | none |
 /// | 6 | the words are refused | `fault words` and the usage line |

@@ -164,9 +164,9 @@ fn small_unbuilt(rt: HostRuntime) -> Result<(), OutOfMemory> {
         b"MODULE M; BEGIN Write(1 * 2) END M.",
         b"MODULE M; CONST c = 1; END M.",
         b"MODULE M; BEGIN Write(-1) END M.",
-        b"MODULE M; BEGIN Write(x) END M.",
+        b"MODULE M; PROCEDURE P; END P; END M.",
         b"MODULE M; VAR x: BOOLEAN; END M.",
-        b"MODULE M; END N.",
+        b"MODULE M; VAR x: INTEGER; BEGIN Read(x) END M.",
     ];
     for source in sources {
         let refusal = Refused {

@@ -2,6 +2,7 @@
 
 mod long;
 mod modules;
+mod rules;
 
 use crate::rows::{ALL_WELL, call};
 use pra_base::OutOfMemory;
@@ -97,9 +98,16 @@ fn answers_of_modules(rt: HostRuntime) -> Result<(), OutOfMemory> {
         check(&rt, rt.alloc(), *row)?;
     }
     check_lines(&rt, rt.alloc(), modules::SMALL)?;
-    check_lines(&rt, rt.alloc(), modules::WELL_FORMED)?;
+    check_lines(&rt, rt.alloc(), modules::NOT_SMALL)?;
     check_lines(&rt, rt.alloc(), modules::LEXICAL)?;
     check_lines(&rt, rt.alloc(), modules::GRAMMAR)
+}
+
+#[test]
+fn answers_by_the_rules(rt: HostRuntime) -> Result<(), OutOfMemory> {
+    check_lines(&rt, rt.alloc(), rules::RULES)?;
+    check_lines(&rt, rt.alloc(), rules::LIMITS)?;
+    check_long(&rt, rt.alloc(), long::COUNTS)
 }
 
 #[test]

@@ -75,63 +75,64 @@ variables used in more than one list|MODULE M; VAR a: INTEGER; b, c: INTEGER; BE
 a sum that wraps|MODULE M; VAR x: INTEGER; BEGIN x := 2147483647 + 1; Write(x) END M.|0| -2147483648|ended steps 6 reads 0
 ";
 
-/// Well formed modules that are not small.
-pub(super) const WELL_FORMED: &str = "\
-all operators|MODULE M; BEGIN x := +1 * 2 DIV 3 MOD 4 & 5 - 6 OR 7 + 8 = -9 END M.|3||fault unbuilt
-all relations|MODULE M; BEGIN p := 1 # 2; p := 1 < 2; p := 1 <= 2; p := 1 > 2; p := 1 >= +2 END M.|3||fault unbuilt
-relations in parentheses|MODULE M; BEGIN p := (a = b) # ~(a <= ((b))) & ~~p END M.|3||fault unbuilt
+/// Texts of modules that are not small: those that are well formed are not built, and the others
+/// break a rule.
+pub(super) const NOT_SMALL: &str = "\
+all operators|MODULE M; BEGIN x := +1 * 2 DIV 3 MOD 4 & 5 - 6 OR 7 + 8 = -9 END M.|3||fault rule 5 token 4 at 16
+all relations|MODULE M; BEGIN p := 1 # 2; p := 1 < 2; p := 1 <= 2; p := 1 > 2; p := 1 >= +2 END M.|3||fault rule 5 token 4 at 16
+relations in parentheses|MODULE M; BEGIN p := (a = b) # ~(a <= ((b))) & ~~p END M.|3||fault rule 5 token 4 at 16
 a keyword right behind a number|MODULE M; BEGIN Write(7DIV 2) END M.|3||fault unbuilt
-selectors|MODULE M; BEGIN r.f[1].g[i + 1][2] := a[a[0]].h END M.|3||fault unbuilt
-calls|MODULE M; BEGIN P; P(); P(1); P(a, b[1], ~c, -1 < +2); Q END M.|3||fault unbuilt
-IF with two ELSIF and an ELSE|MODULE M; BEGIN IF a THEN x := 1; ELSIF ~b THEN ; ELSIF c = 1 THEN ELSE P END END M.|3||fault unbuilt
-IF and WHILE inside one another|MODULE M; BEGIN WHILE i < 3 DO IF a THEN END; WHILE p DO ;; END END; IF p THEN WHILE p DO END END END M.|3||fault unbuilt
+selectors|MODULE M; BEGIN r.f[1].g[i + 1][2] := a[a[0]].h END M.|3||fault rule 5 token 4 at 16
+calls|MODULE M; BEGIN P; P(); P(1); P(a, b[1], ~c, -1 < +2); Q END M.|3||fault rule 5 token 4 at 16
+IF with two ELSIF and an ELSE|MODULE M; BEGIN IF a THEN x := 1; ELSIF ~b THEN ; ELSIF c = 1 THEN ELSE P END END M.|3||fault rule 5 token 5 at 19
+IF and WHILE inside one another|MODULE M; BEGIN WHILE i < 3 DO IF a THEN END; WHILE p DO ;; END END; IF p THEN WHILE p DO END END END M.|3||fault rule 5 token 5 at 22
 constants|MODULE M; CONST a = 1; b = a * 2 - 1; c = TRUE; END M.|3||fault unbuilt
 types|MODULE M; TYPE T = INTEGER; A = ARRAY 3 + 1 OF T; B = ARRAY 2 OF ARRAY 2 OF A; END M.|3||fault unbuilt
-records, with semicolons too many|MODULE M; VAR q: RECORD END; r: RECORD ; a, b: INTEGER; ; c: RECORD d: A; END; END; END M.|3||fault unbuilt
+records, with semicolons too many|MODULE M; VAR q: RECORD END; r: RECORD ; a, b: INTEGER; ; c: RECORD d: A; END; END; END M.|3||fault rule 5 token 25 at 71
 all declarations in their order|MODULE M; CONST c = 1; TYPE T = INTEGER; VAR x: T; PROCEDURE P; END P; BEGIN P END M.|3||fault unbuilt
-headings|MODULE M; PROCEDURE P(); END P; PROCEDURE Q(a, b: INTEGER; VAR c: ARRAY 2 OF T; VAR d, e: T); BEGIN END Q; END M.|3||fault unbuilt
-a procedure in a procedure|MODULE M; PROCEDURE P; CONST c = 1; TYPE VAR x: T; PROCEDURE Q; BEGIN x := c END Q; BEGIN Q END P; END M.|3||fault unbuilt
-comments between all tokens of a procedure|MODULE M;(**)PROCEDURE(**)P(**)((**)VAR(**)a(**):(**)T(**))(**);(**)END(**)P(**);(**)END M.|3||fault unbuilt
-another name at the end of a procedure|MODULE M; PROCEDURE P; END Q; END M.|3||fault unbuilt
-another name at END|MODULE M; END N.|3||fault unbuilt
-the name at END in lower case|MODULE M; BEGIN WriteLn END m.|3||fault unbuilt
-the name at END cut short|MODULE MM; END M.|3||fault unbuilt
-an undeclared variable is assigned|MODULE M; BEGIN x := 1 END M.|3||fault unbuilt
-an undeclared variable is written|MODULE M; VAR y: INTEGER; BEGIN Write(y + x) END M.|3||fault unbuilt
-a variable in upper case is not declared|MODULE M; VAR x: INTEGER; BEGIN Write(X) END M.|3||fault unbuilt
+headings|MODULE M; PROCEDURE P(); END P; PROCEDURE Q(a, b: INTEGER; VAR c: ARRAY 2 OF T; VAR d, e: T); BEGIN END Q; END M.|3||fault rule 5 token 26 at 77
+a procedure in a procedure|MODULE M; PROCEDURE P; CONST c = 1; TYPE VAR x: T; PROCEDURE Q; BEGIN x := c END Q; BEGIN Q END P; END M.|3||fault rule 5 token 15 at 48
+comments between all tokens of a procedure|MODULE M;(**)PROCEDURE(**)P(**)((**)VAR(**)a(**):(**)T(**))(**);(**)END(**)P(**);(**)END M.|3||fault rule 5 token 9 at 53
+another name at the end of a procedure|MODULE M; PROCEDURE P; END Q; END M.|3||fault rule 2 token 7 at 27
+another name at END|MODULE M; END N.|3||fault rule 1 token 4 at 14
+the name at END in lower case|MODULE M; BEGIN WriteLn END m.|3||fault rule 1 token 6 at 28
+the name at END cut short|MODULE MM; END M.|3||fault rule 1 token 4 at 15
+an undeclared variable is assigned|MODULE M; BEGIN x := 1 END M.|3||fault rule 5 token 4 at 16
+an undeclared variable is written|MODULE M; VAR y: INTEGER; BEGIN Write(y + x) END M.|3||fault rule 5 token 13 at 42
+a variable in upper case is not declared|MODULE M; VAR x: INTEGER; BEGIN Write(X) END M.|3||fault rule 5 token 11 at 38
 Write as a variable|MODULE M; VAR Write: INTEGER; END M.|3||fault unbuilt
 INTEGER as a variable|MODULE M; VAR INTEGER: INTEGER; END M.|3||fault unbuilt
 FALSE as a variable|MODULE M; VAR a, FALSE: INTEGER; END M.|3||fault unbuilt
 Read as a variable|MODULE M; VAR a: INTEGER; Read: INTEGER; BEGIN END M.|3||fault unbuilt
-a variable twice in a list|MODULE M; VAR x, y, x: INTEGER; END M.|3||fault unbuilt
-a variable in two lists|MODULE M; VAR x: INTEGER; y, x: INTEGER; END M.|3||fault unbuilt
+a variable twice in a list|MODULE M; VAR x, y, x: INTEGER; END M.|3||fault rule 3 token 8 at 20
+a variable in two lists|MODULE M; VAR x: INTEGER; y, x: INTEGER; END M.|3||fault rule 3 token 10 at 29
 a variable of another type|MODULE M; VAR x: BOOLEAN; END M.|3||fault unbuilt
-INTEGER in lower case|MODULE M; VAR x: Integer; END M.|3||fault unbuilt
+INTEGER in lower case|MODULE M; VAR x: Integer; END M.|3||fault rule 5 token 6 at 17
 an array|MODULE M; VAR x: ARRAY 1 OF INTEGER; BEGIN WriteLn END M.|3||fault unbuilt
 a plus sign in front|MODULE M; BEGIN Write(+1) END M.|3||fault unbuilt
 a minus sign in front|MODULE M; VAR x: INTEGER; BEGIN x := -1 END M.|3||fault unbuilt
 a number in parentheses|MODULE M; BEGIN Write((1)) END M.|3||fault unbuilt
 a sum in a sum|MODULE M; BEGIN Write(1 - (2 + 3)) END M.|3||fault unbuilt
 a product|MODULE M; VAR x: INTEGER; BEGIN x := x + 2 * 3 END M.|3||fault unbuilt
-OR among operands|MODULE M; VAR x: INTEGER; BEGIN x := x OR x END M.|3||fault unbuilt
-a relation as an argument|MODULE M; BEGIN Write(1 = 1) END M.|3||fault unbuilt
-a truth value|MODULE M; VAR x: INTEGER; BEGIN x := TRUE END M.|3||fault unbuilt
-Write without an argument|MODULE M; BEGIN Write() END M.|3||fault unbuilt
-Write without parentheses|MODULE M; BEGIN Write END M.|3||fault unbuilt
-Write of two numbers|MODULE M; BEGIN Write(1, 2) END M.|3||fault unbuilt
-WriteLn of a number|MODULE M; BEGIN WriteLn(1) END M.|3||fault unbuilt
-WriteLn in lower case|MODULE M; BEGIN Writeln END M.|3||fault unbuilt
+OR among operands|MODULE M; VAR x: INTEGER; BEGIN x := x OR x END M.|3||fault rule 16 token 11 at 37
+a relation as an argument|MODULE M; BEGIN Write(1 = 1) END M.|3||fault rule 22 token 8 at 26
+a truth value|MODULE M; VAR x: INTEGER; BEGIN x := TRUE END M.|3||fault rule 18 token 11 at 37
+Write without an argument|MODULE M; BEGIN Write() END M.|3||fault rule 20 token 6 at 22
+Write without parentheses|MODULE M; BEGIN Write END M.|3||fault rule 20 token 4 at 16
+Write of two numbers|MODULE M; BEGIN Write(1, 2) END M.|3||fault rule 20 token 9 at 26
+WriteLn of a number|MODULE M; BEGIN WriteLn(1) END M.|3||fault rule 20 token 7 at 25
+WriteLn in lower case|MODULE M; BEGIN Writeln END M.|3||fault rule 5 token 4 at 16
 a call of Read|MODULE M; VAR x: INTEGER; BEGIN Read(x) END M.|3||fault unbuilt
-an assignment to Write|MODULE M; BEGIN Write := 1 END M.|3||fault unbuilt
-a variable as a statement|MODULE M; VAR x: INTEGER; BEGIN x END M.|3||fault unbuilt
-a variable with an index|MODULE M; VAR x: INTEGER; BEGIN x[0] := 1 END M.|3||fault unbuilt
-a variable with a field|MODULE M; VAR x: INTEGER; BEGIN Write(x.f) END M.|3||fault unbuilt
+an assignment to Write|MODULE M; BEGIN Write := 1 END M.|3||fault rule 10 token 4 at 16
+a variable as a statement|MODULE M; VAR x: INTEGER; BEGIN x END M.|3||fault rule 9 token 9 at 32
+a variable with an index|MODULE M; VAR x: INTEGER; BEGIN x[0] := 1 END M.|3||fault rule 13 token 12 at 35
+a variable with a field|MODULE M; VAR x: INTEGER; BEGIN Write(x.f) END M.|3||fault rule 11 token 13 at 40
 a loop in a small body|MODULE M; BEGIN WriteLn; WHILE TRUE DO END END M.|3||fault unbuilt
 a choice in a small body|MODULE M; BEGIN IF TRUE THEN WriteLn END END M.|3||fault unbuilt
 a constant in a small module|MODULE M; CONST c = 1; BEGIN WriteLn END M.|3||fault unbuilt
 a type in a small module|MODULE M; TYPE T = INTEGER; BEGIN WriteLn END M.|3||fault unbuilt
 a procedure in a small module|MODULE M; PROCEDURE P; END P; BEGIN WriteLn END M.|3||fault unbuilt
-REPEAT|MODULE M; BEGIN REPEAT i := i + 1 UNTIL i = 3 END M.|3||fault unbuilt
+REPEAT|MODULE M; BEGIN REPEAT i := i + 1 UNTIL i = 3 END M.|3||fault rule 5 token 5 at 23
 ";
 
 /// The first lexical fault is told, wherever it stands.
