@@ -109,7 +109,7 @@ module _ (tables : PlaceTables) (code : VProc) (live : Lives) where
       ∙ sym (ap (sum_by layers_of) (fill_by_all (block_of code) code.blocks (length code.blocks) no_code refl (λ k _. refl)))
       ∙ sym (sum_by-map (λ (k : NetBlock). k.layers) net_block code.blocks)
 
-  few_strands : IsSized code → length (strands tables code live) < 2 ^ 32
+  pub few_strands : IsSized code → length (strands tables code live) < 2 ^ 32
   few_strands sized =
       let most = length-flat_map (block_strands tables code live) (layer_count code) (length code.vars) (range_with_len 0 (length code.blocks)) block_few in
       let total = all_layers ∙ total_layers code.blocks in
