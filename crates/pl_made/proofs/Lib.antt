@@ -1,0 +1,6 @@
+pub mod Marked
+pub mod Pairs
+pub mod Parts
+pub mod Placed
+pub mod Rules
+pub mod Whole
