@@ -1,9 +1,9 @@
 //! The lists of a procedure's network, made from its selected code and its liveness.
 //!
-//! `lists_of` makes all lists but the groups of ends, exactly those of the definition (specs/Strands
-//! and specs/Network of net_form). `strands_of` makes the strands with their masks,
-//! `extras_of` what operands cost more at a place than in a register, `pairs_of` the memory pairs,
-//! `ties_of` the ties.
+//! `lists_of` makes all lists but the groups of ends, exactly those of the definition (net_form,
+//! specs/Strands and specs/Network). `strands_of` makes the strands with their masks, `extras_of`
+//! what operands cost more at a place than in a register, `pairs_of` the memory pairs, `ties_of`
+//! the ties.
 //!
 //! A strand begins at a block's entry or where its variable has a role, a law on what is live
 //! (proofs/Begun), so only variables with roles are looked at after the entry. The strand of an
