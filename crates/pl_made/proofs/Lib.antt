@@ -4,3 +4,4 @@ pub mod Parts
 pub mod Placed
 pub mod Rules
 pub mod Whole
+pub mod SampleIsMade

@@ -10,6 +10,8 @@ ghost use Rattle.net_form.specs.Flow.{flow, AreRoutes};
 ghost use Rattle.net_form.specs.Network.{IsNet};
 ghost use Rattle.pl_place.specs.declared.placed.LProc.{LProc};
 ghost use Rattle.pl_place.specs.Behind.{Routed, IsBehind};
+ghost use Rattle.pl_place.specs.SampleRoutes.{both_places_routes, in_memory};
+ghost use Rattle.pl_place.specs.SampleRoutes.{routed as sample};
 ghost use Rattle.pl_place.specs.Valid.{IsPlaced};
 ghost use Rattle.pl_made.specs.Made.{IsMade};
 ghost use Rattle.pl_routed.specs.Routed.{routed};
@@ -24,4 +26,9 @@ pub fn made_code_is_placed()
     ensures { (code : VProc) (net : Net) (routes : Routes) (p : LProc) → IsNet net code →
         AreRoutes net routes → IsAdmitted net (flow net routes) → IsValid code → IsSized code →
         IsMade (routed code net routes) p → IsPlaced p }
+{}
+
+/// Some code is made: with a variable in memory, a constant as an immediate, and a both place.
+pub fn some_code_is_made()
+    ensures { IsMade (sample both_places_routes) in_memory }
 {}
