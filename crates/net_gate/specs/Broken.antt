@@ -75,4 +75,5 @@ IsFirstFailing P xs (Some k) = FailsAt P xs k × ((j : ℕ) → j < k → ¬ Fai
 -- the first pair of numbers at which more than so many are counted
 abbrev pub IsFirstAbove : ℕ → (ℕ → ℕ → ℕ) → Option (ℕ × ℕ) → Type 0
 IsFirstAbove most count None = (a b : ℕ) → count a b ≤ most
-IsFirstAbove most count (Some at) = (most < count at.0 at.1) × ((a b : ℕ) → IsBefore (a, b) at → count a b ≤ most)
+IsFirstAbove most count (Some at) =
+    (most < count at.0 at.1) × ((a b : ℕ) → IsBefore (a, b) at → count a b ≤ most)

@@ -23,7 +23,8 @@ abbrev pub IsEarlier : Option (ℕ × ℕ) → ℕ × ℕ → ℕ × ℕ → Typ
 IsEarlier None b c = c ≡ b
 IsEarlier (Some a) b c = (IsBefore b a × (c ≡ b)) ⊎ (¬ IsBefore b a × (c ≡ a))
 
--- Where each register is used so many times, what is used is marked, and clash is the first that is used twice.
+-- Where each register is used so many times, what is used is marked, and clash is the first that is
+-- used twice.
 pub record Stands (uses : ℕ → ℕ → ℕ) (regs : List ℕ) (clash : Option Bundle) : Type 0 where
   pub marks : (n r : ℕ) → mark regs n r ≡ min 1 (uses n r)
   pub first : IsFirstAbove 1 uses (option_map numbers clash)

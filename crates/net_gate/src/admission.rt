@@ -17,8 +17,8 @@ use net_form::{Net, Routes, Taken};
 ///
 /// # Errors
 ///
-/// Where it does not, with the first rule that they break: masks come first, then edges across instructions, registers,
-/// memory pairs and ties, each in the order of their numbers.
+/// Where it does not, with the first rule that they break: masks come first, then edges across
+/// instructions, registers, memory pairs and ties, each in the order of their numbers.
 pub fn admitted(taken: &mut Taken, net: &Net, routes: &Routes) -> Result<(), Broken>
     requires room { IsRoomOf net.now taken.old }
     requires net { IsFormed net.now }

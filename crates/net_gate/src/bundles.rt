@@ -1,4 +1,5 @@
-// Registers: at a layer one strand at most is in each, whether in the register alone or in its both place.
+// Registers: at a layer one strand at most is in each, whether in the register alone or in its both
+// place.
 
 ghost use Rattle.std.specs.Prelude.{◌≡◌, ◌↔◌, ℕ, ◌+◌, ◌<◌, ◌≤◌, nat_eq, length, count_by, slice_index, IsTrue, None, Some, option_map, sum_by};
 ghost use Rattle.pra_base.specs.Places.{number, has_register, register_of};
@@ -50,7 +51,8 @@ fn set_mark(regs: &mut Seq<u8>, layer: usize, register: u8)
     requires register { register < 8 }
     ensures long { length regs.new ≡ length regs.old }
     ensures same { mark regs.new layer register ≡ 1 }
-    ensures other { (n r : ℕ) → ¬ ((n ≡ layer) × (r ≡ register)) → mark regs.new n r ≡ mark regs.old n r }
+    ensures other { (n r : ℕ) → ¬ ((n ≡ layer) × (r ≡ register)) →
+        mark regs.new n r ≡ mark regs.old n r }
 {
     regs.set(layer, regs[layer] | 1u8 << register);
 }
@@ -100,7 +102,8 @@ fn occupy(regs: &mut Seq<u8>, clash: Option<Bundle>, layer: u32, to: Place) -> O
     clash
 }
 
-// The number of the layer 0 of a strand's block, where the layers of all blocks are counted together.
+// The number of the layer 0 of a strand's block, where the layers of all blocks are counted
+// together.
 fn base_of(net: &Net, strand: usize) -> u32
     requires net { IsFormed net.now }
     requires strand { strand < length net.now.strands }
@@ -122,10 +125,12 @@ fn occupy_path(
     requires regs { length regs.old ≡ layer_total net.now.blocks }
     requires net { IsFormed net.now }
     requires strand { strand < length net.now.strands }
-    requires path { (strand_at net.now strand).first + length path.now ≡ (strand_at net.now strand).last + 1 }
+    requires path { (strand_at net.now strand).first + length path.now ≡
+        (strand_at net.now strand).last + 1 }
     ensures long { length regs.new ≡ length regs.old }
     ensures stands { (uses : ℕ → ℕ → ℕ) → Stands uses regs.old clash → Stands
-        (λ n r. uses n r + count_by (uses_bundle net.now n r) (edges strand (strand_at net.now strand).first None path.now))
+        (λ n r. uses n r + count_by (uses_bundle net.now n r)
+        (edges strand (strand_at net.now strand).first None path.now))
         regs.new result }
 {
     let mut clash = clash;
@@ -154,7 +159,8 @@ pub(crate) fn first_bundle(regs: &mut Seq<u8>, net: &Net, routes: &Routes) -> Op
     requires net { IsFormed net.now }
     requires routes { AreRoutes net.now routes.now }
     ensures long { length regs.new ≡ length regs.old }
-    ensures first { IsFirstAbove 1 (λ n r. count_by (uses_bundle net.now n r) (flow net.now routes.now))
+    ensures first { IsFirstAbove 1
+        (λ n r. count_by (uses_bundle net.now n r) (flow net.now routes.now))
         (option_map numbers result) }
 {
     clear(regs);

@@ -1,4 +1,5 @@
-// The rules that each edge keeps by itself: it comes to a place of the mask, and stays across an instruction.
+// The rules that each edge keeps by itself: it comes to a place of the mask, and stays across an
+// instruction.
 
 ghost use Rattle.std.specs.Prelude.{◌≡◌, ◌≤◌, ◌<◌, ◌+◌, length, count_by, None};
 ghost use Rattle.net_form.specs.Admitted.{strand_at, stays_from};
@@ -15,7 +16,8 @@ use pra_base::places::allows;
 fn is_in_mask(net: &Net, strand: usize, layer: u32, to: Place) -> bool
     requires strand { strand < length net.now.strands }
     requires first { (strand_at net.now strand).first ≤ layer }
-    requires last { layer < (strand_at net.now strand).first + length (strand_at net.now strand).masks }
+    requires last { layer <
+        (strand_at net.now strand).first + length (strand_at net.now strand).masks }
     ensures { result ≡ keeps_rule net.now EdgeRule.InMask
         (record { strand = strand; layer = layer; from = None; to = to }) }
 {
@@ -45,7 +47,8 @@ fn keeps_rule(
 ) -> bool
     requires strand { strand < length net.now.strands }
     requires first { (strand_at net.now strand).first ≤ layer }
-    requires last { layer < (strand_at net.now strand).first + length (strand_at net.now strand).masks }
+    requires last { layer <
+        (strand_at net.now strand).first + length (strand_at net.now strand).masks }
     ensures { result ≡ keeps_rule net.now rule
         (record { strand = strand; layer = layer; from = from; to = to }) }
 {
@@ -59,9 +62,11 @@ fn keeps_rule(
 fn first_layer(rule: EdgeRule, net: &Net, strand: usize, path: &[Place]) -> Option<u32>
     requires net { IsFormed net.now }
     requires strand { strand < length net.now.strands }
-    requires path { (strand_at net.now strand).first + length path.now ≡ (strand_at net.now strand).last + 1 }
+    requires path { (strand_at net.now strand).first + length path.now ≡
+        (strand_at net.now strand).last + 1 }
     ensures { IsFirstLayer
-        (λ l. count_by (breaks net.now rule strand l) (edges strand (strand_at net.now strand).first None path.now)) result }
+        (λ l. count_by (breaks net.now rule strand l)
+        (edges strand (strand_at net.now strand).first None path.now)) result }
 {
     let mut from = None;
     let mut layer = net.strands[strand].first;

@@ -1,16 +1,18 @@
 //! What a network admits and what routes cost, both exact and without memory.
 //!
-//! `admitted` is Ok exactly where the flow of the routes is admitted by the network, and else tells the first rule that
-//! they break: rules come by kind (masks, edges across instructions, registers, memory pairs, ties) and within a kind
-//! by their numbers. `cost` is what the flow of the routes costs. Both walk the routes place by place and never make
-//! the list of edges that the definitions speak of.
+//! `admitted` is Ok exactly where the flow of the routes is admitted by the network, and else tells
+//! the first rule that they break: rules come by kind (masks, edges across instructions, registers,
+//! memory pairs, ties) and within a kind by their numbers. `cost` is what the flow of the routes
+//! costs. Both walk the routes place by place and never make the list of edges that the definitions
+//! speak of.
 //!
-//! Read specs/Broken: what is broken, and which of it comes first. What is admitted and what a flow costs are
-//! definitions of the crate of networks. specs/InUse says how registers that are in use are marked, a bit for each
-//! register of each layer; that is inner.
+//! Read specs/Broken: what is broken, and which of it comes first. What is admitted and what a flow
+//! costs are definitions of the crate of networks. specs/InUse says how registers that are in use
+//! are marked, a bit for each register of each layer; that is inner.
 //!
-//! A layer above may use both calls on the network of sized code and on routes with a place for each layer of each
-//! strand, and may use the room again after `admitted`, which says nothing of what it left there.
+//! A layer above may use both calls on the network of sized code and on routes with a place for
+//! each layer of each strand, and may use the room again after `admitted`, which says nothing of
+//! what it left there.
 #![tactic(auto)]
 
 mod admission;

@@ -1,4 +1,5 @@
-// Memory pairs and ties: of a pair one end at most is in memory, and the ends of a tie are at one place.
+// Memory pairs and ties: of a pair one end at most is in memory, and the ends of a tie are at one
+// place.
 
 ghost use Rattle.std.specs.Prelude.{◌≡◌, ◌↔◌, IsTrue, length, count_by, nat_eq, ◌&&◌, if◌then◌else◌};
 ghost use Rattle.net_form.specs.Admitted.{KeepsTie};
@@ -24,7 +25,8 @@ fn is_in_memory(net: &Net, routes: &Routes, strand: usize, layer: u32) -> bool
 
 // Whether the pair has one end alone, which it names twice.
 fn is_one_end(pair: &MemPair) -> bool
-    ensures { result ≡ (nat_eq pair.now.left pair.now.right && nat_eq pair.now.left_layer pair.now.right_layer) }
+    ensures { result ≡ (nat_eq pair.now.left pair.now.right &&
+        nat_eq pair.now.left_layer pair.now.right_layer) }
 {
     pair.left == pair.right && pair.left_layer == pair.right_layer
 }

@@ -213,7 +213,8 @@ fn extras_cost<F: Fn(Event, u32) -> u32>(net: &Net, model: &CostModel<F>, routes
     requires kept { Keeps F.Fn model.now }
     requires net { IsFormed net.now }
     requires routes { AreRoutes net.now routes.now }
-    ensures value { result ≡ sum_by (met_cost net.now (weights_of model.now) routes.now) net.now.extras }
+    ensures value { result ≡
+        sum_by (met_cost net.now (weights_of model.now) routes.now) net.now.extras }
     ensures small { result ≤ most_weight * usize.MAX }
 {
     let mut total = 0u128;
