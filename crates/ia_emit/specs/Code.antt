@@ -97,6 +97,9 @@ code_from entry at (p ∷ ps) =
     all_aimed (target_in p at) entry at (emit_proc p)
     ++ code_from entry (at + size (emit_proc p)) ps
 
+-- all instructions, where procedures begin at these places
+abbrev pub code_with : (ℕ → ℕ) → List LProc → List Ins
+code_with entry procs = all_aimed (λ t. 0) entry 0 front ++ code_from entry first_entry procs
+
 abbrev pub code_of : List LProc → List Ins
-code_of procs =
-    all_aimed (λ t. 0) (entry procs) 0 front ++ code_from (entry procs) first_entry procs
+code_of procs = code_with (entry procs) procs

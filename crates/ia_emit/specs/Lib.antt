@@ -1,4 +1,6 @@
 pub mod Code
 pub mod Emission
+pub mod Layout
+pub mod Open
 pub mod Operands
 pub mod Sound

@@ -62,7 +62,7 @@ fn low_word(n: i64) -> u32
 }
 
 /// The number of 32 bits that is left of a number.
-fn wrapped(n: i64) -> i32
+pub fn wrapped(n: i64) -> i32
     ensures { result ≡ wrapped_of n }
 {
     low_word(n).cast_signed()

@@ -10,14 +10,26 @@
 //! beginning of a procedure; where the variables are is asked once a procedure (`Frame`). The laws
 //! say that what valid placed code becomes is in the table of bytes (`specs/Sound`), and where the
 //! code of the traps stands.
+//!
+//! `piece_of` gives the bytes of a whole procedure from a place on, in linear time: its
+//! instructions, then the places of its blocks, then its bytes with each jump aimed. Where a callee
+//! begins need not be known: the distances of calls are noted, and whatever they are, filling them
+//! in gives the bytes of the procedure's instructions (`specs/Open`).
 #![tactic(auto)]
 
+mod body;
+mod bytes;
 mod emission;
 mod frame;
 mod item;
 pub mod laws;
+mod layout;
 mod operation;
+mod piece;
+mod table;
 
+pub use bytes::{CallSite, Piece};
 pub use emission::{Items, emit, emit_end, prologue};
 pub use frame::{Frame, memory_of};
 pub use item::{Item, Operand, Target};
+pub use piece::piece_of;
