@@ -1,0 +1,5 @@
+pub mod Starts
+pub mod Operations
+pub mod Sums
+pub mod Relations
+pub mod Signs
