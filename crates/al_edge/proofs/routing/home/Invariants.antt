@@ -1,0 +1,5 @@
+use Rattle.al_edge.specs.Placed.{IsSoFar}
+use Rattle.al_edge.proofs.routing.home.Given as goal
+
+abbrev pub invariant-loop-strand : goal.invariant-loop-strand
+invariant-loop-strand l = IsSoFar l.net l.taken.regs l.paths l.strand

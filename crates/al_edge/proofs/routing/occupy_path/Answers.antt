@@ -1,0 +1,42 @@
+use Rattle.std.proofs.Common.{ℕ, ◌≡◌, ◌+◌, ◌-◌, ◌∙◌, min, length, get_or, take, drop, None, arith, ap}
+use Rattle.pra_base.specs.declared.ids.Place.TheVariants.{Eax}
+use Rattle.net_form.specs.Admitted.{strand_at}
+use Rattle.net_form.specs.Index.{first_layer}
+use Rattle.net_gate.specs.InUse.{mark, comes_to}
+use Rattle.net_gate.proofs.Layers.{uses, uses_step, uses_none}
+use Rattle.al_edge.proofs.routing.occupy_path.Goals as goal
+
+pub loop-rest-preserved : goal.loop-rest-preserved
+loop-rest-preserved c =
+    let net = c.args.net.now in
+    let s = c.args.strand in
+    let first = (strand_at net s).first in
+    let base = first_layer net.blocks (strand_at net s).block.0 in
+    let layer = c.loop-rest.layer in
+    let rest = c.loop-rest.rest.now in
+    let others = take (length rest - 1) (drop 1 rest) in
+    let step : (n r : ℕ) → uses net n r s (layer - base) None rest ≡ comes_to layer (get_or rest 0 Eax) n r + uses net n r s (layer + 1 - base) None others =
+    λ n r. uses_step net n r s (layer - base) layer rest Eax c.in-len1-up.len_at_least (omega (arith, c.loop-rest.invariant.after))
+    ∙ ap (λ (k : ℕ). comes_to layer (get_or rest 0 Eax) n r + uses net n r s k None others)
+    (let e : layer - base + 1 ≡ layer + 1 - base = omega (arith, c.loop-rest.invariant.after) in e) in
+    record {
+      long = c.occupy.ensures.long ∙ c.loop-rest.invariant.long;
+      after = omega (arith, c.loop-rest.invariant.after);
+      layer = omega arith;
+      bound = λ n r. let now = step n r in let was = c.loop-rest.invariant.bound n r in omega (arith, now, was);
+      marks = λ n r.
+          let now = step n r in
+          let was = c.loop-rest.invariant.bound n r in
+          let old = c.loop-rest.invariant.marks n r in
+          let new = c.occupy.ensures.marks n r in
+          omega (arith, now, was, old, new);
+    }
+
+pub returns-clause-marks : goal.returns-clause-marks
+returns-clause-marks c = λ n r.
+    let net = c.args.net.now in
+    let s = c.args.strand in
+    let base = first_layer net.blocks (strand_at net s).block.0 in
+    let none = uses_none net n r s (c.loop-rest.layer - base) c.loop-rest.rest.now c.in_default.len_below in
+    let old = c.loop-rest.invariant.marks n r in
+    omega (arith, none, old)

@@ -1,0 +1,4 @@
+pub mod Choice
+pub mod HomeRoutes
+pub mod Placed
+pub mod Yielding

@@ -1,0 +1,168 @@
+// Home routes, a strand after the other.
+
+ghost use Rattle.std.specs.Prelude.{◌≡◌, ◌<◌, ◌≤◌, ◌+◌, ℕ, true, length, min, count_by, None, IfOk, OnOk};
+ghost use Rattle.net_form.specs.Admitted.{strand_at, uses_bundle, IsAdmitted};
+ghost use Rattle.net_form.specs.Flow.{edges, flow, AreRoutes};
+ghost use Rattle.net_form.specs.Formed.{IsFormed};
+ghost use Rattle.net_form.specs.Index.{first_layer};
+ghost use Rattle.net_form.specs.Rooms.{layer_total};
+ghost use Rattle.net_gate.specs.InUse.{mark, comes_to};
+ghost use Rattle.net_laws.specs.Homes.{HasRoom, is_there};
+ghost use Rattle.al_edge.specs.Choice.{busy_at, place_for, path_for};
+ghost use Rattle.al_edge.specs.HomeRoutes.{AreHome};
+ghost use Rattle.al_edge.specs.Placed.{IsSoFar};
+ghost use Rattle.al_edge.specs.Yielding.{IsTable};
+
+use crate::choice::pick;
+use crate::side::{across, allowed, home_of, passes};
+use crate::yielding::{needs_register, yielding};
+use net_form::{Net, Routes, Taken};
+use pra_base::{OutOfMemory, Place};
+use pra_list::Seq;
+use std::alloc::Global;
+
+// The number of the layer 0 of a strand's block, where the layers of all blocks are counted
+// together.
+fn base_of(net: &Net, strand: usize) -> u32
+    requires net { IsFormed net.now }
+    requires strand { strand < length net.now.strands }
+    ensures value { result ≡ first_layer net.now.blocks (strand_at net.now strand).block.0 }
+    ensures within { result + (strand_at net.now strand).last < layer_total net.now.blocks }
+{
+    let block = net.strands[strand].block;
+    net.index.layers[block.0 as usize]
+}
+
+// The registers in use where the strand would be.
+fn busy_at(net: &Net, regs: &Seq<u8>, strand: usize, layer: u32) -> u8
+    requires net { IsFormed net.now }
+    requires regs { length regs.now ≡ layer_total net.now.blocks }
+    requires strand { strand < length net.now.strands }
+    requires there { is_there (strand_at net.now strand) layer ≡ true }
+    ensures { result ≡ busy_at net.now regs.now strand layer }
+{
+    let base = base_of(net, strand);
+    let here = regs[(base + layer) as usize];
+    if passes(&net.strands[strand], layer) {
+        here | regs[(base + across(layer)) as usize]
+    } else {
+        here
+    }
+}
+
+// The place that the strand is given at a layer.
+fn place_for(net: &Net, regs: &Seq<u8>, table: &[Seq<bool>], strand: usize, layer: u32) -> Place
+    requires net { IsFormed net.now }
+    requires regs { length regs.now ≡ layer_total net.now.blocks }
+    requires table { IsTable net.now (length net.now.pairs) table.now }
+    requires strand { strand < length net.now.strands }
+    requires there { is_there (strand_at net.now strand) layer ≡ true }
+    ensures { result ≡ place_for net.now regs.now strand layer }
+{
+    let t = &net.strands[strand];
+    if needs_register(net, table, strand, layer) {
+        pick(allowed(t, layer), busy_at(net, regs, strand, layer))
+    } else {
+        home_of(t)
+    }
+}
+
+// Its places, layer by layer.
+fn path_for(
+    alloc: Global,
+    net: &Net,
+    regs: &Seq<u8>,
+    table: &[Seq<bool>],
+    strand: usize,
+) -> Result<Seq<Place>, OutOfMemory>
+    requires net { IsFormed net.now }
+    requires regs { length regs.now ≡ layer_total net.now.blocks }
+    requires table { IsTable net.now (length net.now.pairs) table.now }
+    requires strand { strand < length net.now.strands }
+    ensures { IfOk result (λ path. path ≡ path_for net.now regs.now strand) }
+{
+    let first = net.strands[strand].first;
+    let count = net.strands[strand].masks.len() as u32;
+    let mut path = Seq::from_vec(Vec::with_capacity(alloc, count as usize)?);
+    for j in 0..count {
+        path.push(place_for(net, regs, table, strand, first + j))?;
+    }
+    Ok(path)
+}
+
+// A strand comes to a place at a layer, counted over all blocks.
+fn occupy(regs: &mut Seq<u8>, layer: usize, to: Place)
+    requires { layer < length regs.old }
+    ensures long { length regs.new ≡ length regs.old }
+    ensures marks { (n r : ℕ) →
+        mark regs.new n r ≡ min 1 (mark regs.old n r + comes_to layer to n r) }
+{
+    if !to.has_register() {
+        return;
+    }
+    regs.set(layer, regs[layer] | 1u8 << to.register());
+}
+
+// The registers that the path of a strand is in.
+fn occupy_path(regs: &mut Seq<u8>, net: &Net, strand: usize, path: &[Place])
+    requires regs { length regs.old ≡ layer_total net.now.blocks }
+    requires net { IsFormed net.now }
+    requires strand { strand < length net.now.strands }
+    requires path { let t = strand_at net.now strand in t.first + length path.now ≡ t.last + 1 }
+    ensures long { length regs.new ≡ length regs.old }
+    ensures marks { let first = (strand_at net.now strand).first in (n r : ℕ) →
+        mark regs.new n r ≡ min 1 (mark regs.old n r +
+        count_by (uses_bundle net.now n r) (edges strand first None path.now)) }
+{
+    let mut layer = base_of(net, strand) + net.strands[strand].first;
+    let mut rest = path;
+    while let [to, others @ ..] = rest {
+        occupy(regs, layer as usize, *to);
+        layer += 1;
+        rest = others;
+    }
+}
+
+// The path of one strand more.
+fn add_path(
+    alloc: Global,
+    net: &Net,
+    table: &[Seq<bool>],
+    regs: &mut Seq<u8>,
+    paths: &mut Seq<Seq<Place>>,
+    strand: usize,
+) -> Result<(), OutOfMemory>
+    requires net { IsFormed net.now }
+    requires room { HasRoom net.now }
+    requires table { IsTable net.now (length net.now.pairs) table.now }
+    requires strand { strand < length net.now.strands }
+    requires paths { IsSoFar net.now regs.old paths.old strand }
+    ensures { OnOk result (IsSoFar net.now regs.new paths.new (strand + 1)) }
+{
+    let path = path_for(alloc, net, regs, table, strand)?;
+    occupy_path(regs, net, strand, path.as_slice());
+    paths.push(path)?;
+    Ok(())
+}
+
+/// Routes that put each strand at home wherever it may be there: in memory, or nowhere for a
+/// constant. Elsewhere it is in a register.
+///
+/// # Errors
+///
+/// Where there is no memory for them.
+pub fn home(alloc: Global, net: &Net) -> Result<Routes, OutOfMemory>
+    requires net { IsFormed net.now }
+    requires room { HasRoom net.now }
+    ensures routes { IfOk result (λ routes. AreRoutes net.now routes) }
+    ensures admitted { IfOk result (λ routes. IsAdmitted net.now (flow net.now routes)) }
+    ensures home { IfOk result (λ routes. AreHome net.now routes) }
+{
+    let table = yielding(alloc, net)?;
+    let mut taken = Taken::empty(alloc, net)?;
+    let mut paths = Seq::from_vec(Vec::with_capacity(alloc, net.strands.len())?);
+    for strand in 0..net.strands.len() {
+        add_path(alloc, net, table.as_slice(), &mut taken.regs, &mut paths, strand)?;
+    }
+    Ok(Routes { places: paths })
+}
