@@ -3,3 +3,5 @@ pub mod Operations
 pub mod Sums
 pub mod Relations
 pub mod Signs
+pub mod Truths
+pub mod Inversions

@@ -1,5 +1,6 @@
 -- What the code of operators and signs does, from variables that have the values of the operands.
-use Rattle.std.specs.Prelude.{◌≡◌, ℕ, ◌<◌, ◌≤◌, Bool, true, false, nat_le, length, Some}
+use Rattle.std.specs.Prelude.{◌≡◌, ℕ, ◌<◌, ◌≤◌, ◌⊎◌, Bool, true, false, nat_le, pos}
+use Rattle.std.specs.Prelude.{length, Some, Ok}
 use Rattle.std.specs.Int.{w32}
 use Rattle.std.specs.Int.RustNames.{FitsSigned}
 use Rattle.pra_base.specs.Code.{kind_of}
@@ -13,10 +14,11 @@ use Rattle.pra_base.specs.declared.code.VInstr.{VInstr}
 use Rattle.pra_base.specs.declared.code.VInstr.TheVariants.{Set, Copy}
 use Rattle.pra_base.specs.declared.code.VInstr.TheVariants as instr
 use Rattle.pra_base.specs.declared.code.VProc.{VProc}
-use Rattle.ob_syntax.specs.Operators.{Outcome, number}
+use Rattle.ob_syntax.specs.Operators.{Outcome, number, combined}
 use Rattle.ob_syntax.specs.declared.checked.ROp.{ROp}
 use Rattle.ob_syntax.specs.declared.checked.ROp.TheVariants.{Mul, Add, Sub, Equal, Unequal, Less}
-use Rattle.ob_syntax.specs.declared.checked.ROp.TheVariants.{LessEqual, Greater, GreaterEqual}
+use Rattle.ob_syntax.specs.declared.checked.ROp.TheVariants.{LessEqual, Greater, GreaterEqual, Both}
+use Rattle.ob_syntax.specs.declared.checked.ROp.TheVariants.{Either}
 use Rattle.ob_syntax.specs.declared.checked.Value.{Value}
 use Rattle.vc_code.specs.declared.value.Value.{Value as Word}
 use Rattle.vc_code.specs.declared.value.Value.TheVariants.{Num}
@@ -119,4 +121,39 @@ pub record Converts (f : Value → Value) (first at : ℕ) (old new : VProc) (op
   pub adds : Adds first at old new v
   pub means : (w : Codes) (id : ℕ) (s : State Vars) (x : Value) → RunsIn w id new s →
       Stands old at s.top → HasValue w id operand s.top x →
+      Reaches w s (Gives w id new at v first s.top (f x))
+
+-- ---- operators on truth values
+
+abbrev pub IsBit : Value → Type 0
+IsBit x = (number x ≡ pos 0) ⊎ (number x ≡ pos 1)
+
+-- The same where the values of both sides are 0 or 1, as those of BOOLEAN are.
+pub record OperatesOnBits
+    (f : Value → Value → Outcome) (first at : ℕ) (old new : VProc) (left right v : ℕ)
+    : Type 0 where
+  pub adds : Adds first at old new v
+  pub means : (w : Codes) (id : ℕ) (s : State Vars) (x y : Value) → RunsIn w id new s →
+      Stands old at s.top → HasValue w id left s.top x → HasValue w id right s.top y →
+      IsBit x → IsBit y → Yields w s (Gives w id new at v first s.top) (f x y)
+
+abbrev pub is_bitwise : ROp → Bool
+is_bitwise Both = true
+is_bitwise Either = true
+is_bitwise _ = false
+
+abbrev pub bitwise_of : ROp → (target right : VarId) → VInstr
+bitwise_of Both target right = instr.And target right
+bitwise_of _ target right = instr.Or target right
+
+-- `&` and OR of sides that have been evaluated both
+abbrev pub of_values : ROp → Value → Value → Outcome
+of_values op x y = combined op (Ok x) (Ok y)
+
+-- A sign on a value that is 0 or 1.
+pub record ConvertsBit (f : Value → Value) (first at : ℕ) (old new : VProc) (operand v : ℕ)
+    : Type 0 where
+  pub adds : Adds first at old new v
+  pub means : (w : Codes) (id : ℕ) (s : State Vars) (x : Value) → RunsIn w id new s →
+      Stands old at s.top → HasValue w id operand s.top x → IsBit x →
       Reaches w s (Gives w id new at v first s.top (f x))

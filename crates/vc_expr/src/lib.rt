@@ -10,7 +10,10 @@
 //! - `select_arithmetic` for `+`, `-` and `*`, and `select_relation` for the six relations:
 //!   `Operates`, which says that running on from the end of what the block had comes to the
 //!   operator's value in that variable, or to its trap (these have none);
-//! - `select_negation` for the sign `-`: `Converts`, the same for one operand.
+//! - `select_bitwise` for `&` and OR of sides that have both been evaluated: `OperatesOnBits`, the
+//!   same where both are 0 or 1;
+//! - `select_negation` for the sign `-`: `Converts`, the same for one operand; `select_inversion`
+//!   for `~`, where it is 0 or 1: `ConvertsBit`.
 //!
 //! It holds over all code that is made later, and for every state. The value is that of the meaning
 //! of expressions (ob_syntax, `specs/Operators`), and has 32 bits. Nothing but the running call
@@ -32,10 +35,12 @@
 #![tactic(auto)]
 
 pub mod arithmetic;
+pub mod bits;
 pub mod relation;
 pub mod sign;
 pub mod start;
 
 pub use arithmetic::select_arithmetic;
+pub use bits::select_bitwise;
 pub use relation::select_relation;
-pub use sign::select_negation;
+pub use sign::{select_inversion, select_negation};
