@@ -1,9 +1,9 @@
 -- While strands are given places one after the other, there is a free register for each that needs one.
-use Rattle.std.proofs.Common.{ℕ, zero, suc, ◌≡◌, ◌≢◌, ◌+◌, ◌-◌, ◌<◌, ◌≤◌, Bool, true, false, not, ◌&&◌, ◌||◌, cond, eqb, ltb, leb, max, List, [], ◌∷◌, length, get_or, All, count_by, filter, bit_or, refl, sym, ap, ◌∙◌, subst, arith, inl, inr, ◌⊎◌, Option, Some, None, slice_index}
+use Rattle.std.proofs.Common.{ℕ, zero, suc, ◌≡◌, ◌+◌, ◌-◌, ◌<◌, ◌≤◌, Bool, true, false, not, ◌&&◌, ◌||◌, cond, eqb, ltb, leb, List, [], ◌∷◌, length, get_or, count_by, filter, bit_or, refl, sym, ap, ◌∙◌, subst, arith, inl, inr, ◌⊎◌, None, slice_index}
 use Rattle.std.specs.Prelude.{nat_lt}
 use Rattle.std.specs.Int.{bit_at}
 use Rattle.std.specs.List.{list_any, range_with_len, prefix_len}
-use Rattle.std.proofs.lemmas.Bool.{cases_Bool, cases_eq, cases_lt, and_parts, and_from, and_left, or_cases, or_left, or_right, eqb-true, eq-eqb, ne_eqb, ltb-true, lt-ltb, leb-true, le-leb, both_ways, false_from_ne_true}
+use Rattle.std.proofs.lemmas.Bool.{cases_Bool, cases_eq, cases_lt, and_parts, and_from, or_cases, or_left, or_right, eqb-true, eq-eqb, ne_eqb, ltb-true, lt-ltb, leb-true, le-leb, both_ways, false_from_ne_true}
 use Rattle.std.proofs.lemmas.List.FromFn.{length-range_with_len, get_or-range_with_len}
 use Rattle.std.proofs.lemmas.List.Folds.{list_any_at}
 use Rattle.std.proofs.lemmas.List.Sums.{length-filter}
@@ -20,12 +20,12 @@ use Rattle.net_form.specs.Formed.{IsFormed, no_block}
 use Rattle.net_form.specs.Index.{first_layer}
 use Rattle.net_gate.specs.InUse.{mark}
 use Rattle.net_gate.proofs.Layers.{uses}
-use Rattle.net_laws.specs.Homes.{HasRoom, is_there, passes, allowed, home_of, needs_register, registers, choices, shares, contends, is_rival, rivals}
+use Rattle.net_laws.specs.Homes.{HasRoom, is_there, passes, allowed, home_of, needs_register, registers, shares, contends, is_rival}
 use Rattle.net_laws.proofs.Few.{few}
 use Rattle.net_laws.proofs.Found.{first_that}
 use Rattle.al_edge.specs.Choice.{layer_in, busy_at}
-use Rattle.al_edge.specs.Placed.{IsGood, IsPlaced}
-use Rattle.al_edge.proofs.Uses.{held, IsHeld, held_is, uses_at, uses_below, counted, one_layer}
+use Rattle.al_edge.specs.Placed.{IsPlaced}
+use Rattle.al_edge.proofs.Uses.{held_is, uses_at, uses_below, counted, one_layer}
 
 in_filter : (p : ℕ → Bool) (a n x : ℕ) → a ≤ x → x < a + n → p x ≡ true → list_any (eqb x) (filter p (range_with_len a n)) ≡ true
 in_filter p a zero x le lt is = absurd (omega (arith, le, lt))
@@ -144,7 +144,7 @@ module _ (net : Net) (formed : IsFormed net) (room : HasRoom net) (rs : List (Li
       let mine = subst (λ n. allows (allowed (t x) m) n ≡ true) at_r g.inside in
       let range_at : get_or registers r 0 ≡ r = get_or-range_with_len 0 6 r 0 small ∙ (let e : 0 + r ≡ r = omega arith in e) in
       let shared : shares (allowed (t s) l) (allowed (t x) m) ≡ true = list_any_at (λ r. allows (allowed (t s) l) r && allows (allowed (t x) m) r) registers r 0 small
-          (ap (λ n. allows (allowed (t s) l) n && allows (allowed (t x) m) n) range_at ∙ and_from (allows (allowed (t s) l) r) (allows (allowed (t x) m) r) has mine) in
+      (ap (λ n. allows (allowed (t s) l) n && allows (allowed (t x) m) n) range_at ∙ and_from (allows (allowed (t s) l) r) (allows (allowed (t x) m) r) has mine) in
       and_from (eqb (t x).block.0 (t s).block.0 && is_there (t x) m && needs_register net x m) (shares (allowed (t s) l) (allowed (t x) m))
       (and_from (eqb (t x).block.0 (t s).block.0 && is_there (t x) m) (needs_register net x m)
       (and_from (eqb (t x).block.0 (t s).block.0) (is_there (t x) m) (eq-eqb (t x).block.0 (t s).block.0 h.block) h.is_at) needs) shared
@@ -213,16 +213,16 @@ module _ (net : Net) (formed : IsFormed net) (room : HasRoom net) (rs : List (Li
   not_full full =
       let n = length net.strands in
       let most = few key (allows (allowed (t s) l)) 0 6 (filter (is_rival net s l) (range_with_len 0 n))
-          (λ r _ lt has.
-          let h = holder_is r (full r (omega (arith, lt)) has) in
-          let small = h.0 in
-          in_filter (is_rival net s l) 0 n (key r) (omega arith) (omega (arith, small, later, s_lt)) (rival r (key r) (omega (arith, lt)) small has (it_is r (key r) small h.1)))
-          (λ r q _ less lt a b same.
-          let h = holder_is r (full r (omega (arith, less, lt)) a) in
-          let k = holder_is q (full q (omega (arith, lt)) b) in
-          let small = h.0 in
-          let e = same_register (key r) r q small (it_is r (key r) small h.1) (it_is q (key r) small (ap (holder q) same ∙ k.1)) in
-          omega (arith, e, less)) in
+      (λ r _ lt has.
+      let h = holder_is r (full r (omega (arith, lt)) has) in
+      let small = h.0 in
+      in_filter (is_rival net s l) 0 n (key r) (omega arith) (omega (arith, small, later, s_lt)) (rival r (key r) (omega (arith, lt)) small has (it_is r (key r) small h.1)))
+      (λ r q _ less lt a b same.
+      let h = holder_is r (full r (omega (arith, less, lt)) a) in
+      let k = holder_is q (full q (omega (arith, lt)) b) in
+      let small = h.0 in
+      let e = same_register (key r) r q small (it_is r (key r) small h.1) (it_is q (key r) small (ap (holder q) same ∙ k.1)) in
+      omega (arith, e, less)) in
       let long = length-filter (is_rival net s l) (range_with_len 0 n) in
       let roomy = room.registers s l s_lt there need in
       omega (arith, most, long, roomy)

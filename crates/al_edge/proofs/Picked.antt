@@ -1,5 +1,5 @@
 -- The register that is picked.
-use Rattle.std.proofs.Common.{ℕ, zero, suc, ◌≡◌, subst, ◌+◌, ◌<◌, ◌≤◌, Bool, true, false, not, ◌&&◌, ◌||◌, cond, eqb, List, [], ◌∷◌, All, refl, sym, ap, ◌∙◌, arith, inl, inr, ◌⊎◌, Option, Some, None}
+use Rattle.std.proofs.Common.{ℕ, zero, suc, ◌≡◌, subst, ◌<◌, Bool, true, false, not, cond, eqb, List, [], ◌∷◌, All, refl, sym, arith, inl, inr, ◌⊎◌, Some}
 use Rattle.std.specs.Prelude.{unwrap_or, find}
 use Rattle.std.specs.Int.{bit_at}
 use Rattle.std.proofs.lemmas.Bool.{cases_Bool, and_parts, and_cases, both_ways, eqb-true, eqb-false, not-true, not-false}

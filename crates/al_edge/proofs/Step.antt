@@ -1,20 +1,19 @@
 -- One strand more is given its path.
-use Rattle.std.proofs.Common.{ℕ, zero, suc, ◌≡◌, ◌≢◌, ◌+◌, ◌-◌, ◌%◌, ◌<◌, ◌≤◌, min, max, Bool, true, false, not, ◌&&◌, ◌||◌, cond, eqb, ltb, leb, List, [], ◌∷◌, ◌++◌, length, get_or, map, All, count_by, bit_or, refl, sym, ap, ◌∙◌, subst, arith, inl, inr, ◌⊎◌, Option, Some, None, slice_index}
+use Rattle.std.proofs.Common.{ℕ, ◌≡◌, ◌+◌, ◌-◌, ◌%◌, ◌<◌, ◌≤◌, min, max, Bool, true, false, not, ◌&&◌, ◌||◌, cond, eqb, leb, List, [], ◌∷◌, ◌++◌, length, get_or, count_by, bit_or, refl, sym, ap, ◌∙◌, subst, arith, inl, inr, None, slice_index}
 use Rattle.std.specs.Prelude.{nat_lt}
 use Rattle.std.specs.Int.{bit_at}
-use Rattle.std.specs.List.{list_any, range_with_len}
-use Rattle.std.proofs.lemmas.Bool.{cases_Bool, cases_eq, cases_lt, and_parts, and_from, or_parts, eqb-true, eqb-false, eq-eqb, ne_eqb, lt-ltb, ltb-true, leb-true, le-leb, both_ways, not-false}
+use Rattle.std.proofs.lemmas.Bool.{cases_Bool, cases_eq, cases_lt, and_parts, and_from, or_parts, eqb-true, eq-eqb, ne_eqb, lt-ltb, ltb-true, leb-true, le-leb, both_ways, not-false}
 use Rattle.std.proofs.lemmas.List.{get_or_push, get_or_append_left, length_push}
 use Rattle.std.proofs.lemmas.List.FromFn.{length-map-range_with_len, get_or-map-range_with_len}
 use Rattle.std.proofs.lemmas.Nat.{and_comm, or_comm}
 use Rattle.std.proofs.lemmas.Nat.Bits.{bit_at_or, bit_at-lt}
 use Rattle.pra_base.specs.declared.ids.Place.{Place}
 use Rattle.pra_base.specs.declared.ids.Place.TheVariants.{Mem}
-use Rattle.pra_base.specs.Places.{number, allows, meet, has_register, register_of, is_register}
+use Rattle.pra_base.specs.Places.{number, allows, meet, has_register, register_of}
 use Rattle.net_form.specs.declared.net.Strand.{Strand}
 use Rattle.net_form.specs.declared.net.Net.{Net}
-use Rattle.net_form.specs.Flow.{edges, flow_from}
-use Rattle.net_form.specs.Strands.{across, is_before}
+use Rattle.net_form.specs.Flow.{flow_from}
+use Rattle.net_form.specs.Strands.{across}
 use Rattle.net_form.specs.Admitted.{strand_at, no_strand, in_register, uses_bundle}
 use Rattle.net_form.specs.Formed.{IsFormed}
 use Rattle.net_form.specs.Index.{first_layer}
@@ -22,7 +21,7 @@ use Rattle.net_gate.specs.InUse.{mark}
 use Rattle.net_gate.proofs.Layers.{uses}
 use Rattle.net_laws.specs.Homes.{HasRoom, is_there, passes, mask_in, allowed, has_home, home_of, yields_at, yields, needs_register}
 use Rattle.al_edge.specs.Choice.{layer_in, busy_at, pick, place_for, path_for}
-use Rattle.al_edge.proofs.Uses.{held, held_is, held_once, uses_at, uses_below, count_push}
+use Rattle.al_edge.proofs.Uses.{held_is, held_once, uses_at, uses_below, count_push}
 use Rattle.al_edge.proofs.Picked.{picked, IsPicked}
 use Rattle.al_edge.proofs.Free.{home_apart, register_number, not_full}
 use Rattle.al_edge.specs.Placed.{IsGood, IsPlaced, IsSoFar}

@@ -1,5 +1,5 @@
 -- The table of who gives way.
-use Rattle.std.proofs.Common.{ℕ, zero, suc, ◌≡◌, ◌≢◌, ◌+◌, ◌-◌, ◌<◌, ◌≤◌, Bool, true, false, not, ◌&&◌, ◌||◌, eqb, leb, List, [], ◌∷◌, ◌++◌, length, get_or, set, take, replicate, map, refl, sym, ap, ◌∙◌, subst, arith, inl, inr, ◌⊎◌, get_or-set_same, get_or-set_other, length-set}
+use Rattle.std.proofs.Common.{ℕ, zero, suc, ◌≡◌, ◌+◌, ◌-◌, ◌<◌, ◌≤◌, Bool, true, false, ◌&&◌, ◌||◌, eqb, leb, List, [], length, get_or, set, take, replicate, map, refl, sym, ap, ◌∙◌, subst, arith, inl, inr, get_or-set_same, get_or-set_other, length-set}
 use Rattle.std.specs.List.{list_any}
 use Rattle.std.proofs.lemmas.Bool.{cases_eq, and_parts, and_left, and_right, or_right, leb-true, eq-eqb, ne_eqb, and_from}
 use Rattle.std.proofs.lemmas.List.{get_or-map, length-map, take_all, length-replicate}
@@ -136,4 +136,3 @@ module _ (net : Net) (formed : IsFormed net) (k : ℕ) (table : List (List Bool)
               → (list_any (test s ((strand_at net s).first + i)) (take k net.pairs) || test s ((strand_at net s).first + i) m) ≡ list_any (test s ((strand_at net s).first + i)) (take k net.pairs)
           fails s i no_ = ap (λ t. list_any (test s ((strand_at net s).first + i)) (take k net.pairs) || t) (and_left (is_right s ((strand_at net s).first + i) m) (left_stays net m) no_)
               ∙ or_nothing (list_any (test s ((strand_at net s).first + i)) (take k net.pairs))
-

@@ -1,9 +1,8 @@
 -- Where the paths of strands use registers, layers counted over all blocks.
-use Rattle.std.proofs.Common.{ℕ, zero, suc, ◌≡◌, ◌≢◌, ◌+◌, ◌-◌, ◌<◌, ◌≤◌, Bool, true, false, not, ◌&&◌, ◌||◌, cond, eqb, leb, List, [], ◌∷◌, ◌++◌, length, get_or, take, All, count_by, sum_by, refl, sym, ap, ◌∙◌, subst, arith, inl, inr, ◌⊎◌, Option, Some, None, slice_get, append-nil, append_assoc}
-use Rattle.std.proofs.lemmas.Bool.{cases_Bool, cases_eq, cases_lt, cases_order, and_parts, and_from, and_left, and_right, eqb-true, eq-eqb, ne_eqb, le-leb, lt-leb}
+use Rattle.std.proofs.Common.{ℕ, zero, suc, ◌≡◌, ◌+◌, ◌-◌, ◌<◌, ◌≤◌, Bool, true, false, ◌&&◌, cond, eqb, leb, List, [], ◌∷◌, ◌++◌, length, get_or, take, count_by, sum_by, refl, sym, ap, ◌∙◌, subst, arith, inl, inr, ◌⊎◌, Option, Some, None, append-nil, append_assoc}
+use Rattle.std.proofs.lemmas.Bool.{cases_Bool, cases_eq, cases_lt, cases_order, and_left, eq-eqb, ne_eqb, le-leb, lt-leb}
 use Rattle.std.proofs.lemmas.List.Sums.{sum_by-cons, sum_by-append}
-use Rattle.std.proofs.lemmas.Option.{slice_get_past, slice_get-get_or}
-use Rattle.pra_list.proofs.Counts.{bit, count-cons, count-agree, count-none}
+use Rattle.pra_list.proofs.Counts.{bit, count-agree, count-none}
 use Rattle.pra_base.specs.declared.ids.Place.{Place}
 use Rattle.pra_base.specs.declared.ids.Place.TheVariants.{Mem}
 use Rattle.net_form.specs.declared.net.NetBlock.{NetBlock}
@@ -13,7 +12,7 @@ use Rattle.net_form.specs.Flow.{Edge, is_at, edges, flow_from}
 use Rattle.net_form.specs.Admitted.{strand_at, no_strand, in_register, uses_bundle}
 use Rattle.net_form.specs.Index.{first_layer}
 use Rattle.net_form.proofs.Paths.{none_earlier, first_only, later_layer, of_path}
-use Rattle.net_gate.proofs.Layers.{uses, base}
+use Rattle.net_gate.proofs.Layers.{uses}
 
 -- ---- a path
 
@@ -61,9 +60,9 @@ module _ (net : Net) (s r : ℕ) (p : Option Place) (ps : List Place) where
 
       agree : (e : Edge) → e.strand ≡ s → uses_bundle net (b + l) r e ≡ (is_at s l e && in_register r e.to)
       agree e is = ap (λ t. t && in_register r e.to) (
-        ap (λ x. eqb (first_layer net.blocks (strand_at net x).block.0 + e.layer) (b + l)) is
-            ∙ shifted b e.layer l
-            ∙ sym (ap (λ t. t && eqb e.layer l) (eq-eqb e.strand s is)))
+          ap (λ x. eqb (first_layer net.blocks (strand_at net x).block.0 + e.layer) (b + l)) is
+          ∙ shifted b e.layer l
+          ∙ sym (ap (λ t. t && eqb e.layer l) (eq-eqb e.strand s is)))
         where
           shifted : (b x y : ℕ) → eqb (b + x) (b + y) ≡ eqb x y
           shifted b x y = elim (cases_eq x y) as (λ _. eqb (b + x) (b + y) ≡ eqb x y) [

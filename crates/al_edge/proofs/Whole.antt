@@ -1,8 +1,8 @@
 -- When every strand has its path, the routes are admitted, and home routes.
-use Rattle.std.proofs.Common.{ℕ, zero, suc, ◌≡◌, ◌≢◌, ◌+◌, ◌-◌, ◌%◌, ◌<◌, ◌≤◌, Bool, true, false, not, ◌&&◌, ◌||◌, cond, eqb, leb, List, [], ◌∷◌, ◌++◌, length, get_or, All, count_by, slice_get, refl, sym, ap, ◌∙◌, subst, arith, inl, inr, ◌⊎◌, Option, Some, None, slice_index}
-use Rattle.std.specs.Prelude.{nat_lt, Contains}
-use Rattle.std.specs.List.{list_any, prefix_len}
-use Rattle.std.proofs.lemmas.Bool.{cases_Bool, cases_eq, cases_lt, and_cases, and_parts, and_from, or_cases, or_parts, or_left, or_right, or_from, eqb-true, eq-eqb, ne_eqb, lt-ltb, leb-true, le-leb, both_ways, not-true, not-false, not_from_true, false_from_ne_true, true_from_ne_false}
+use Rattle.std.proofs.Common.{ℕ, zero, suc, ◌≡◌, ◌+◌, ◌-◌, ◌%◌, ◌<◌, ◌≤◌, Bool, true, false, not, ◌&&◌, cond, eqb, leb, List, [], ◌∷◌, length, get_or, All, count_by, slice_get, refl, sym, ap, ◌∙◌, subst, arith, inl, inr, ◌⊎◌, Option, Some, None, slice_index}
+use Rattle.std.specs.Prelude.{nat_lt}
+use Rattle.std.specs.List.{prefix_len}
+use Rattle.std.proofs.lemmas.Bool.{cases_Bool, cases_eq, cases_lt, and_cases, and_parts, and_from, or_cases, or_parts, or_left, or_right, or_from, eqb-true, eq-eqb, ne_eqb, lt-ltb, leb-true, le-leb, both_ways, not-true, not-false, false_from_ne_true, true_from_ne_false}
 use Rattle.std.proofs.lemmas.List.Elements.{All-nil, All-cons, All-append, All-weaker, Contains-get_or}
 use Rattle.std.proofs.lemmas.List.Folds.{list_any_at}
 use Rattle.std.proofs.lemmas.Nat.Bits.{bit_at-lt}
@@ -11,7 +11,7 @@ use Rattle.pra_list.proofs.Options.{some_same, none_some}
 use Rattle.pra_list.proofs.Counts.{bit}
 use Rattle.pra_base.specs.declared.ids.Place.{Place}
 use Rattle.pra_base.specs.declared.ids.Place.TheVariants.{Mem, Const}
-use Rattle.pra_base.specs.Places.{number, allows, meet, is_register, is_mem}
+use Rattle.pra_base.specs.Places.{number, allows, meet, is_register}
 use Rattle.net_form.specs.declared.net.Strand.{Strand}
 use Rattle.net_form.specs.declared.net.MemPair.{MemPair}
 use Rattle.net_form.specs.declared.net.Tie.{Tie}
@@ -19,20 +19,20 @@ use Rattle.net_form.specs.declared.net.Net.{Net}
 use Rattle.net_form.specs.declared.routes.Routes.{Routes}
 use Rattle.net_form.specs.Flow.{Edge, edges, flow_from, flow, HasPlaces, AreRoutes, same_place, same_start}
 use Rattle.net_form.specs.Strands.{across}
-use Rattle.net_form.specs.Admitted.{strand_at, no_strand, in_mask, stays_across, stays_from, is_across, uses_bundle, uses_memory, KeepsTie, IsAdmitted}
-use Rattle.net_form.specs.Cost.{place_at, place_of}
+use Rattle.net_form.specs.Admitted.{strand_at, no_strand, in_mask, stays_across, is_across, uses_bundle, uses_memory, KeepsTie, IsAdmitted}
+use Rattle.net_form.specs.Cost.{place_at}
 use Rattle.net_form.specs.Formed.{IsFormed, IsStrandOf}
 use Rattle.net_form.proofs.PlaceEquality.{same_place-refl, same_place-true, same_start-refl}
 use Rattle.net_form.proofs.RoutesConserve.{flow_conserves}
 use Rattle.net_gate.specs.InUse.{mark}
 use Rattle.net_gate.proofs.Ends.{arrivals, tie_kept, two_ends, one_end, arrivals_small}
-use Rattle.net_laws.specs.Homes.{HasRoom, IsFreePair, is_there, passes, mask_in, allowed, home_of, has_home, left_stays, is_right, yields_at, yields, needs_register}
+use Rattle.net_laws.specs.Homes.{HasRoom, is_there, passes, mask_in, allowed, has_home, left_stays, is_right, yields_at, yields, needs_register}
 use Rattle.net_laws.proofs.Bits.{met_allows, allows_meet}
 use Rattle.net_laws.proofs.Found.{first_that}
 use Rattle.net_laws.proofs.Needs.{no_pair}
 use Rattle.al_edge.specs.HomeRoutes.{IsAway, unfit, unfit_across, AreHome}
 use Rattle.al_edge.specs.HomeRoutes as why
-use Rattle.al_edge.specs.Placed.{IsGood, IsPlaced}
+use Rattle.al_edge.specs.Placed.{IsPlaced}
 
 has_places : (ts : List Strand) (rs : List (List Place)) → length rs ≡ length ts
     → ((x : ℕ) → x < length rs → (get_or ts x no_strand).first + length (get_or rs x []) ≡ (get_or ts x no_strand).last + 1) → HasPlaces ts rs
@@ -166,7 +166,7 @@ module _ (net : Net) (formed : IsFormed net) (room : HasRoom net) (rs : List (Li
       let home = not-false (has_home (t m.left) m.left_layer) (or_parts (not (has_home (t m.left) m.left_layer)) (not (t m.left).constant && yields net m.left m.left_layer) left.0).0 in
       let stays : left_stays net m ≡ true = and_from (not (t m.left).constant) (has_home (t m.left) m.left_layer) (ap not left.1) home in
       let here : (is_right m.right m.right_layer m && left_stays net m) ≡ true = and_from (is_right m.right m.right_layer m) (left_stays net m)
-          (and_from (eqb m.right m.right) (eqb m.right_layer m.right_layer) (eq-eqb m.right m.right refl) (eq-eqb m.right_layer m.right_layer refl)) stays in
+      (and_from (eqb m.right m.right) (eqb m.right_layer m.right_layer) (eq-eqb m.right m.right refl) (eq-eqb m.right_layer m.right_layer refl)) stays in
       let gives : yields_at net m.right m.right_layer ≡ true = list_any_at (λ p. is_right m.right m.right_layer p && left_stays net p) net.pairs i d i_lt here in
       both_ways (needs_register net m.right m.right_layer) right.0
       (or_right (not (has_home (t m.right) m.right_layer)) (not (t m.right).constant && yields net m.right m.right_layer)

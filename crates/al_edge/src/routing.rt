@@ -162,7 +162,14 @@ pub fn home(alloc: Global, net: &Net) -> Result<Routes, OutOfMemory>
     let mut taken = Taken::empty(alloc, net)?;
     let mut paths = Seq::from_vec(Vec::with_capacity(alloc, net.strands.len())?);
     for strand in 0..net.strands.len() {
-        add_path(alloc, net, table.as_slice(), &mut taken.regs, &mut paths, strand)?;
+        add_path(
+            alloc,
+            net,
+            table.as_slice(),
+            &mut taken.regs,
+            &mut paths,
+            strand,
+        )?;
     }
     Ok(Routes { places: paths })
 }

@@ -1,11 +1,9 @@
-use Rattle.std.proofs.Common.{ℕ, List, ◌≡◌, ◌+◌, ◌∷◌, ◌++◌, [], min, length, None, count_by, subst, sym, ap, ◌∙◌, arith}
+use Rattle.std.proofs.Common.{List, ◌+◌, min, length, None, subst, sym, ap, ◌∙◌, arith}
 use Rattle.pra_base.specs.declared.ids.Place.{Place}
-use Rattle.net_form.specs.Admitted.{strand_at, uses_bundle}
-use Rattle.net_form.specs.Flow.{edges}
+use Rattle.net_form.specs.Admitted.{strand_at}
 use Rattle.net_gate.specs.InUse.{mark}
 use Rattle.net_gate.proofs.Layers.{uses}
 use Rattle.al_edge.specs.Placed.{IsSoFar}
-use Rattle.al_edge.specs.Choice.{path_for}
 use Rattle.al_edge.proofs.Step.{path_placed, so_far_more}
 use Rattle.al_edge.proofs.routing.add_path.Goals as goal
 

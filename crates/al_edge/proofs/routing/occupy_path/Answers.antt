@@ -1,8 +1,8 @@
-use Rattle.std.proofs.Common.{ℕ, ◌≡◌, ◌+◌, ◌-◌, ◌∙◌, min, length, get_or, take, drop, None, arith, ap}
+use Rattle.std.proofs.Common.{ℕ, ◌≡◌, ◌+◌, ◌-◌, ◌∙◌, length, get_or, take, drop, None, arith, ap}
 use Rattle.pra_base.specs.declared.ids.Place.TheVariants.{Eax}
 use Rattle.net_form.specs.Admitted.{strand_at}
 use Rattle.net_form.specs.Index.{first_layer}
-use Rattle.net_gate.specs.InUse.{mark, comes_to}
+use Rattle.net_gate.specs.InUse.{comes_to}
 use Rattle.net_gate.proofs.Layers.{uses, uses_step, uses_none}
 use Rattle.al_edge.proofs.routing.occupy_path.Goals as goal
 

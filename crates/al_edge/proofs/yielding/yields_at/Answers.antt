@@ -1,6 +1,6 @@
-use Rattle.std.proofs.Common.{ℕ, List, [], Bool, false, get_or, length, ap, sym, ◌∙◌, ◌-◌, arith}
+use Rattle.std.proofs.Common.{ℕ, List, [], Bool, false, get_or, length, ap, ◌∙◌, ◌-◌, arith}
 use Rattle.net_form.specs.declared.net.Strand.{Strand}
-use Rattle.net_form.specs.Admitted.{no_strand, strand_at}
+use Rattle.net_form.specs.Admitted.{no_strand}
 use Rattle.std.proofs.lemmas.List.{get_or_read}
 use Rattle.al_edge.proofs.Tables.{inside, entry}
 use Rattle.al_edge.proofs.yielding.yields_at.Goals as goal
