@@ -1,9 +1,9 @@
 //! Emission: the instructions of the machine that placed code becomes.
 //!
 //! Read first `specs/Emission`, which says for each instruction, move, end and procedure of placed
-//! code what it becomes; a jump or a call there names what it goes to. `specs/Operands` says what an
-//! operand at a place is for the machine, and where the frame of a call keeps arguments, slots and
-//! aggregates. `specs/Code` lays the procedures of a module out one behind the other, and gives
+//! code what it becomes; a jump or a call there names what it goes to. `specs/Operands` says what
+//! an operand at a place is for the machine, and where the frame of a call keeps arguments, slots
+//! and aggregates. `specs/Code` lays the procedures of a module out one behind the other, and gives
 //! jumps and calls their distances.
 //!
 //! The functions here answer exactly these definitions for one instruction, one end, and the

@@ -1,5 +1,5 @@
--- The events and what they weigh.
--- Sizes are bytes of the Intel manual's encodings (SDM volume 2): a displacement of 8 bits is one byte, one of 32 bits four.
+-- The events and what they weigh. Sizes are bytes of the Intel manual's encodings (SDM volume 2): a
+-- displacement of 8 bits is one byte, one of 32 bits four.
 use Rattle.std.specs.Prelude.{◌≡◌, ◌⊎◌, ℕ, ◌*◌, ◌^◌, ◌≤◌, List, [], ◌∷◌, map, slice_index, All}
 use Rattle.net_cost.specs.declared.event.Event.{Event}
 use Rattle.net_cost.specs.declared.event.Event.TheVariants.{E0, E1, E2, E3, E4, E5, E6, E7, E8, E9, E10, E11, E12}

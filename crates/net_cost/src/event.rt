@@ -3,8 +3,8 @@
 ghost use Rattle.std.specs.Prelude.{◌≡◌, ◌<◌};
 ghost use Rattle.net_cost.specs.Weights.{number, event_count};
 
-/// A move, a memory operand or an immediate. An address is near where its displacement has 8 bits, and far where it
-/// has 32.
+/// A move, a memory operand or an immediate. An address is near where its displacement has 8 bits,
+/// and far where it has 32.
 #[derive(Clone, Copy, Debug, PartialEq, Eq)]
 pub enum Event {
     /// A move from a register to another register.

@@ -5,7 +5,8 @@ ghost use Rattle.net_cost.specs.Weights.{weight_of, IsValid, deepest, size_weigh
 
 use crate::event::Event;
 
-/// A weight for each event, by its number, and the factor by which all weights grow with each loop around.
+/// A weight for each event, by its number, and the factor by which all weights grow with each loop
+/// around.
 #[derive(Clone, Copy, Debug, PartialEq, Eq)]
 pub struct Weights {
     pub list: [u32; 13],

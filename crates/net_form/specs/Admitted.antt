@@ -38,7 +38,8 @@ mask_of net e =
 abbrev pub in_mask : Net → Edge → Bool
 in_mask net e = allows (mask_of net e) (number e.to)
 
--- 2. an edge across an instruction, which is one to an even layer that does not come from Start, stays in its place
+-- 2. an edge across an instruction, which is one to an even layer that does not come from Start,
+-- stays in its place
 abbrev pub is_across : Edge → Bool
 is_across e = nat_eq (e.layer % 2) 0
 

@@ -66,13 +66,15 @@ write_constant_net = record {
 abbrev pub set_add_write : VProc
 set_add_write =
     one_block (Plain ∷ Constant (pos 4) ∷ [])
-    (Set (record { 0 = 0 }) (pos 3) ∷ Add (record { 0 = 0 }) (record { 0 = 1 }) ∷ Write (record { 0 = 0 }) ∷ [])
+    (Set (record { 0 = 0 }) (pos 3) ∷ Add (record { 0 = 0 }) (record { 0 = 1 }) ∷
+    Write (record { 0 = 0 }) ∷ [])
 
 abbrev pub set_add_write_live : Lives
 set_add_write_live v b l =
     nat_eq b 0 && ((nat_eq v 0 && nat_le 2 l && nat_le l 5) || (nat_eq v 1 && nat_eq l 3))
 
--- v in a register or memory, then in EAX, with memory or without; k in a register or as an immediate
+-- v in a register or memory, then in EAX, with memory or without; k in a register or as an
+-- immediate
 abbrev pub set_add_write_net : Net
 set_add_write_net = record {
   near = true;

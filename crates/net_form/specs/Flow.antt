@@ -40,7 +40,8 @@ pub record IsEdge (strands : List Strand) (e : Edge) : Type 0 where
   pub before : e.layer ≤ strand.last
   pub start : (e.from ≡ None) ↔ (e.layer ≡ strand.first)
 
--- Each strand has one edge from Start, and as many of its edges come to a place as go on from there.
+-- Each strand has one edge from Start, and as many of its edges come to a place as go on from
+-- there.
 pub record Conserves (strands : List Strand) (f : List Edge) : Type 0 where
   pub edges : All (IsEdge strands) f
   pub starts : (s : ℕ) (t : Strand) → slice_get strands s ≡ Some t →

@@ -12,7 +12,8 @@ exit_end s = 2 * s + 1
 
 -- the tie joins the two ends
 abbrev pub Ties : Tie → ℕ → ℕ → Type 0
-Ties t e f = ((e ≡ exit_end t.from) × (f ≡ entry_end t.to)) ⊎ ((f ≡ exit_end t.from) × (e ≡ entry_end t.to))
+Ties t e f =
+    ((e ≡ exit_end t.from) × (f ≡ entry_end t.to)) ⊎ ((f ≡ exit_end t.from) × (e ≡ entry_end t.to))
 
 -- ties join the two ends, directly or through others
 pub data Joined (ties : List Tie) (e : ℕ) : ℕ → Type 0 where

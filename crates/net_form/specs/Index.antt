@@ -23,12 +23,15 @@ pub record OwnedEnd : Type 0 where
   pub at : PairEnd
 
 abbrev pub is_end : ℕ → ℕ → MemPair → Bool
-is_end s l m = (nat_eq m.left s && nat_eq m.left_layer l) || (nat_eq m.right s && nat_eq m.right_layer l)
+is_end s l m =
+    (nat_eq m.left s && nat_eq m.left_layer l) || (nat_eq m.right s && nat_eq m.right_layer l)
 
 abbrev pub ends_at : List MemPair → ℕ → ℕ → List OwnedEnd
 ends_at pairs s l =
     filter_map
-    (λ m. if is_end s l m.1 then Some (record { strand = s; at = record { layer = l; pair = m.0 } }) else None)
+    (λ m.
+    if is_end s l m.1 then Some (record { strand = s; at = record { layer = l; pair = m.0 } })
+    else None)
     (enumerate_from 0 pairs)
 
 -- by strand, then layer

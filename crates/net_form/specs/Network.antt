@@ -1,7 +1,7 @@
--- The network of selected code (Koes and Goldstein, A Global Progressive Register Allocator, PLDI 2006): a commodity for
--- each strand of a variable, a node for each place at each layer.
--- It is a function of the code, of what is live where, and of which end is the least of its group. The latter two are
--- what relations say of the code, so code has one network.
+-- The network of selected code (Koes and Goldstein, A Global Progressive Register Allocator, PLDI
+-- 2006): a commodity for each strand of a variable, a node for each place at each layer. It is a
+-- function of the code, of what is live where, and of which end is the least of its group. The
+-- latter two are what relations say of the code, so code has one network.
 use Rattle.std.specs.Prelude.{◌≡◌, ℕ, ◌+◌, ◌*◌, Bool, false, not, ◌&&◌, nat_eq, nat_le, if◌then◌else◌, List, [], ◌∷◌, ◌++◌, map, length, filter, count_by, Option, Some, None, ◌||◌}
 use Rattle.std.specs.List.{range_with_len, prefix_len, flat_map, filter_map, enumerate_from}
 use Rattle.pra_base.specs.declared.ids.Place.{Place}
@@ -109,7 +109,8 @@ leads_to (Jump b) t = nat_eq b.0 t
 leads_to (Branch condition one other) t = nat_eq one.0 t || nat_eq other.0 t
 leads_to Return t = false
 
--- strand s reaches its block's exit, and t is the same variable's at the entry of a block that follows
+-- strand s reaches its block's exit, and t is the same variable's at the entry of a block that
+-- follows
 abbrev pub is_joined : VProc → Strand → Strand → Bool
 is_joined code s t =
     nat_eq s.last (exit_layer code s.block.0) && nat_eq t.first 0 && nat_eq s.var.0 t.var.0 &&

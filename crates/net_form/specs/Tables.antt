@@ -1,5 +1,6 @@
--- What depends on which places there are: the masks of operands, the places of a variable, what an operand in memory or
--- an immediate costs, and what a way between two places costs. Networks and costs are made from one such record.
+-- What depends on which places there are: the masks of operands, the places of a variable, what an
+-- operand in memory or an immediate costs, and what a way between two places costs. Networks and
+-- costs are made from one such record.
 use Rattle.std.specs.Prelude.{ℕ, ℤ, pos, negsuc, Bool, nat_le, if◌then◌else◌, List, Option, Some, None, ◌&&◌}
 use Rattle.pra_base.specs.declared.ids.Place.{Place}
 use Rattle.pra_base.specs.declared.code.VarKind.{VarKind}
@@ -12,8 +13,8 @@ use Rattle.net_cost.specs.declared.event.Event.TheVariants.{E6, E7, E8, E9, E10,
 use Rattle.pl_moves.specs.Crossbar.{crossbar, only_if, constant_event as constant_move}
 use Rattle.pra_base.specs.Places.{number, has_register}
 
--- what an operand of an instruction costs more than a register: in memory, near and far, and as an immediate of 8 and of
--- 32 bits
+-- what an operand of an instruction costs more than a register: in memory, near and far, and as an
+-- immediate of 8 and of 32 bits
 pub record Columns : Type 0 where
   pub near : Option Event
   pub far : Option Event

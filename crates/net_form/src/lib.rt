@@ -1,16 +1,19 @@
-//! The network of a procedure: which places its variables may be at, what going from place to place costs, and what
-//! two variables may not do at once. To choose places for all variables is to find a flow in it of least cost
-//! (Koes and Goldstein, A Global Progressive Register Allocator, PLDI 2006).
+//! The network of a procedure: which places its variables may be at, what going from place to place
+//! costs, and what two variables may not do at once. To choose places for all variables is to find
+//! a flow in it of least cost (Koes and Goldstein, A Global Progressive Register Allocator, PLDI
+//! 2006).
 //!
 //! # Layers, strands, places
 //!
-//! A block of n instructions has 2 n + 2 layers: its entry, one before and one after each instruction, and its exit.
-//! A variable is present at a layer where it is live, or has just been written. A strand is a run of layers of one
-//! block at which one variable is present; strands are the commodities of the network. At each of its layers a strand
-//! is at one place: a register, its own memory, both at once, or, for a constant, nowhere. Its mask says which places
-//! it may be at there: those that the instruction beside the layer can use, without registers that it destroys.
+//! A block of n instructions has 2 n + 2 layers: its entry, one before and one after each
+//! instruction, and its exit. A variable is present at a layer where it is live, or has just been
+//! written. A strand is a run of layers of one block at which one variable is present; strands are
+//! the commodities of the network. At each of its layers a strand is at one place: a register, its
+//! own memory, both at once, or, for a constant, nowhere. Its mask says which places it may be at
+//! there: those that the instruction beside the layer can use, without registers that it destroys.
 //!
-//! Here is the block `v := 3; v := v + k; Write v`, where k is the constant 4. R are the six registers.
+//! Here is the block `v := 3; v := v + k; Write v`, where k is the constant 4. R are the six
+//! registers.
 //!
 //! ```text
 //!  layer                      strand 0, of v        strand 1, of k
@@ -31,45 +34,51 @@
 //!    7   exit
 //! ```
 //!
-//! Between instructions moves may stand: such an edge is a crossbar's, and goes from any place to any place. Across an
-//! instruction nothing moves. Both operands of Add are in its memory pair, since an instruction has one memory operand
-//! at most. An extra stands where an operand costs more than a register would: here for v in memory at layers 2 and 3,
-//! and for k as an immediate at layer 3. Where a strand reaches the exit of its block and the variable is live at the
-//! entry of a block that follows, a tie demands that both are at one place there; ends that ties join are a tie group.
+//! Between instructions moves may stand: such an edge is a crossbar's, and goes from any place to
+//! any place. Across an instruction nothing moves. Both operands of Add are in its memory pair,
+//! since an instruction has one memory operand at most. An extra stands where an operand costs more
+//! than a register would: here for v in memory at layers 2 and 3, and for k as an immediate at
+//! layer 3. Where a strand reaches the exit of its block and the variable is live at the entry of a
+//! block that follows, a tie demands that both are at one place there; ends that ties join are a
+//! tie group.
 //!
 //! # Flows
 //!
-//! A flow is a list of edges (strand, place before, layer, place there). It conserves where each strand has one edge
-//! from Start, and as many of its edges come to a place as go on from there. So its edges are, in some order, those of
-//! one path for each strand: its routes. It is admitted where besides each edge comes to a place of the mask, and stays
-//! across an instruction, no register at a layer is used twice, of a memory pair one end at most is in memory, and the
-//! ends of each tie agree. For the block above these routes are admitted:
+//! A flow is a list of edges (strand, place before, layer, place there). It conserves where each
+//! strand has one edge from Start, and as many of its edges come to a place as go on from there. So
+//! its edges are, in some order, those of one path for each strand: its routes. It is admitted
+//! where besides each edge comes to a place of the mask, and stays across an instruction, no
+//! register at a layer is used twice, of a memory pair one end at most is in memory, and the ends
+//! of each tie agree. For the block above these routes are admitted:
 //!
 //! ```text
 //!  strand 0    (Start, 2, Eax) (Eax, 3, Eax) (Eax, 4, Eax) (Eax, 5, Eax)
 //!  strand 1    (Start, 3, Const)
 //! ```
 //!
-//! By size they cost 1: no way costs anything, and of the extras that of k is met, an immediate of 8 bits. With v in
-//! memory at layers 2, 3 and 4 they cost 7: 2 for the store of an immediate, 1 for Add to memory, 1 for the immediate,
-//! and 3 for the load on the way to layer 5.
+//! By size they cost 1: no way costs anything, and of the extras that of k is met, an immediate of
+//! 8 bits. With v in memory at layers 2, 3 and 4 they cost 7: 2 for the store of an immediate, 1
+//! for Add to memory, 1 for the immediate, and 3 for the load on the way to layer 5.
 //!
 //! # What is promised
 //!
-//! `specs/Network` has the network as a function of the code, of what is live where, and of which end is the least of
-//! its tie group; the latter two are what relations say of the code, so code has one network. `laws` has what is
-//! proved: that, that the network of sized code is in bounds (`IsFormed`, which calls above require), that an admitted
-//! flow is the flow of admitted routes, that the flow of routes conserves, and that routes cost what their flow costs.
-//! `Taken::empty` and `Spare::empty` make rooms with nothing in use.
+//! `specs/Network` has the network as a function of the code, of what is live where, and of which
+//! end is the least of its tie group; the latter two are what relations say of the code, so code
+//! has one network. `laws` has what is proved: that, that the network of sized code is in bounds
+//! (`IsFormed`, which calls above require), that an admitted flow is the flow of admitted routes,
+//! that the flow of routes conserves, and that routes cost what their flow costs. `Taken::empty`
+//! and `Spare::empty` make rooms with nothing in use.
 //!
-//! What depends on which places there are stands in one record, `PlaceTables`: masks of operands, places of a variable,
-//! extras, and the crossbar's events. Networks and costs are made from it; nothing else knows the number of a place.
+//! What depends on which places there are stands in one record, `PlaceTables`: masks of operands,
+//! places of a variable, extras, and the crossbar's events. Networks and costs are made from it;
+//! nothing else knows the number of a place.
 //!
 //! # What lies where
 //!
-//! Least paths ask for the mask and the extras of one strand layer by layer, for every strand, round after round. So the
-//! masks of a strand lie together, and `NetIndex` leads from a strand to its extras, its ends of memory pairs and its
-//! ties, and from a block to its first layer, without a search.
+//! Least paths ask for the mask and the extras of one strand layer by layer, for every strand,
+//! round after round. So the masks of a strand lie together, and `NetIndex` leads from a strand to
+//! its extras, its ends of memory pairs and its ties, and from a block to its first layer, without
+//! a search.
 //!
 //! Read specs/Strands, Network, Flow, Admitted and Cost, in this order.
 #![tactic(auto)]

@@ -49,7 +49,8 @@ pub struct MemPair {
     pub right_layer: u32,
 }
 
-/// A strand that reaches its block's exit, and the strand that goes on at the entry of a block that follows.
+/// A strand that reaches its block's exit, and the strand that goes on at the entry of a block that
+/// follows.
 #[derive(Clone, Copy, Debug, PartialEq, Eq, Drop)]
 pub struct Tie {
     pub from: u32,
@@ -63,11 +64,13 @@ pub struct PairEnd {
     pub pair: u32,
 }
 
-/// Where the lists of a network begin for each block and each strand. Each list of beginnings has one entry more, the
-/// length of what it leads into, so what belongs to number k lies between entries k and k + 1.
+/// Where the lists of a network begin for each block and each strand. Each list of beginnings has
+/// one entry more, the length of what it leads into, so what belongs to number k lies between
+/// entries k and k + 1.
 #[derive(Debug, PartialEq, Eq, Drop)]
 pub struct NetIndex {
-    /// For each block the number of its layer 0, where the layers of all blocks are counted together.
+    /// For each block the number of its layer 0, where the layers of all blocks are counted
+    /// together.
     pub layers: Seq<u32>,
     /// For each strand its first extra.
     pub extras: Seq<u32>,

@@ -78,7 +78,8 @@ is_rival net s l r =
     let t = strand_at net s in
     let mask = allowed t l in
     let b = t.block.0 in
-    not (nat_eq r s) && (contends net b l mask r || (passes t l && contends net b (across l) mask r))
+    not (nat_eq r s) &&
+    (contends net b l mask r || (passes t l && contends net b (across l) mask r))
 
 abbrev pub rivals : Net → ℕ → ℕ → ℕ
 rivals net s l = count_by (is_rival net s l) (range_with_len 0 (length net.strands))
@@ -95,8 +96,8 @@ pub record IsFreePair (net : Net) (m : MemPair) : Type 0 where
 
 -- Who needs a register has fewer rivals than registers to choose from, so that in any order there
 -- is one left for each (a vertex of fewer neighbours than colours can be coloured last: Chaitin,
--- Register allocation and spilling via graph coloring, 1982). Where blocks begin and end each strand
--- is at home.
+-- Register allocation and spilling via graph coloring, 1982). Where blocks begin and end each
+-- strand is at home.
 pub record HasRoom (net : Net) : Type 0 where
   pub registers : (s l : ℕ) → s < length net.strands → is_there (strand_at net s) l ≡ true →
       needs_register net s l ≡ true → rivals net s l < choices (allowed (strand_at net s) l)

@@ -1,5 +1,5 @@
-// Placed code as a placement makes it. Each function is a law: its contract is the statement, and it
-// does nothing.
+// Placed code as a placement makes it. Each function is a law: its contract is the statement, and
+// it does nothing.
 
 ghost use Rattle.pra_base.specs.declared.code.VProc.{VProc};
 ghost use Rattle.pra_base.specs.Valid.{IsSized, IsValid};

@@ -1,5 +1,6 @@
--- The placed code of `v := 3; v := v + k; Write v`, where k is the constant 4, under two routes: with
--- v in EAX throughout, and with v in memory until it is written out, where it comes into EAX too.
+-- The placed code of `v := 3; v := v + k; Write v`, where k is the constant 4, under two routes:
+-- with v in EAX throughout, and with v in memory until it is written out, where it comes into EAX
+-- too.
 use Rattle.std.specs.Prelude.{pos, true, List, [], ◌∷◌}
 use Rattle.pra_base.specs.declared.ids.Place.{Place}
 use Rattle.pra_base.specs.declared.ids.Place.TheVariants.{Eax, Mem, Const, EaxM}

@@ -43,8 +43,8 @@ pub fn some_code_is_behind()
     ensures with_slot { frame_of (routed both_places_routes) ≡ 24 }
 {}
 
-/// Moves that are counted by the events of pairs have at most so many bytes as these events weigh by
-/// size.
+/// Moves that are counted by the events of pairs have at most so many bytes as these events weigh
+/// by size.
 pub fn moves_are_paid()
     ensures { (near : Bool) (ms : List Move) (pairs : List Pair) → Counted near ms pairs →
         sum_by (move_bytes near) ms ≤ events_weight size_weights 0 (events near pairs) }

@@ -19,8 +19,9 @@ pub fn routed_code_corresponds()
         AllCorrespond codes procs }
 {}
 
-/// So it carries the steps of the selected code with the frames that it has, for any admitted routes
-/// and every input, where the selected code is never stuck; and then it is never stuck either.
+/// So it carries the steps of the selected code with the frames that it has, for any admitted
+/// routes and every input, where the selected code is never stuck; and then it is never stuck
+/// either.
 pub fn placement_follows()
     ensures carried { (module_ : VModule) (procs : List LProc) (input : List ℤ) →
         AreRouted module_.procs procs → RunsWell module_ procs input →

@@ -1,5 +1,6 @@
 -- When placed code corresponds to selected code: what a placement has to give of each procedure, so
--- that the machine of placed code does what that of selected code does. Nothing here speaks of runs.
+-- that the machine of placed code does what that of selected code does. Nothing here speaks of
+-- runs.
 use Rattle.std.specs.Prelude.{◌≡◌, ◌≢◌, ℕ, suc, ◌<◌, ◌⊎◌, ℤ, Bool, false, nat_eq, List, [], ◌∷◌, ◌++◌}
 use Rattle.std.specs.Prelude.{length, map, drop, slice_get, Option, Some}
 use Rattle.std.specs.Int.{bit_at}
@@ -88,8 +89,8 @@ AllRead at [] places = Unit {0}
 AllRead at (v ∷ vs) [] = ⊥
 AllRead at (v ∷ vs) (q ∷ places) = (at v ≡ Some q) × AllRead at vs places
 
--- A variable is written at its place in the allocation, which is one cell; no other present variable
--- has it, and the variable is no Constant.
+-- A variable is written at its place in the allocation, which is one cell; no other present
+-- variable has it, and the variable is no Constant.
 pub record Written (p : LProc) (at : Allocation) (w place : ℕ) : Type 0 where
   pub at_place : at w ≡ Some place
   pub cell : Cell
@@ -113,8 +114,8 @@ pub record Stays (p : LProc) (i : VInstr) (before : Allocation) (v place : ℕ) 
   pub same : before v ≡ Some place
   pub kept : Each (λ cell. is_destroyed (table i).clobbers cell ≡ false) (cells p v place)
 
--- The operands are where the allocations before and after the instruction have them, and what else is
--- present after it stays.
+-- The operands are where the allocations before and after the instruction have them, and what else
+-- is present after it stays.
 pub record Fits (p : LProc) (i : VInstr) (places : List ℕ) (before after : Allocation) : Type 0 where
   pub reads : AllRead before (read_by i) places
   pub writes : AllWritten p after (written_by i) (drop (length (read_by i)) places)
@@ -126,7 +127,8 @@ abbrev pub IsOpAt : LInstr → VInstr → List ℕ → Type 0
 IsOpAt (placed.Op j ps) i places = (j ≡ i) × (map number ps.items ≡ places)
 IsOpAt (placed.Move m) i places = ⊥
 
--- What is left of a block before an instruction: moves, the instruction with its places, and the rest.
+-- What is left of a block before an instruction: moves, the instruction with its places, and the
+-- rest.
 pub record InstrCorresponds (p : LProc) (i : VInstr) (left rest : List LInstr)
     (from to : Allocation) : Type 0 where
   pub moves : List Move
@@ -151,8 +153,9 @@ pub record Comes (p : LProc) (v place : ℕ) : Type 0 where
   pub in_memory : place ≡ number Mem
   pub in_range : argument < p.args
 
--- The procedure of placed code corresponds to the selected code: allocations before the moves in front
--- of each instruction and each end, what is left of the block there, and the allocation at each exit.
+-- The procedure of placed code corresponds to the selected code: allocations before the moves in
+-- front of each instruction and each end, what is left of the block there, and the allocation at
+-- each exit.
 pub record Corresponds (code : VProc) (p : LProc) : Type 0 where
   pub before : ℕ → ℕ → Allocation
   pub exit : ℕ → Allocation

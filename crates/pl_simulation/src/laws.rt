@@ -13,8 +13,8 @@ ghost use Rattle.pl_place.specs.Placed.{frame_size};
 ghost use Rattle.pl_place.specs.SampleRoutes.{in_memory};
 ghost use Rattle.pl_simulation.specs.Correspondence.{AllCorrespond, RunsWell};
 
-/// Placed code carries the steps of the selected code that it corresponds to, with the frames that it
-/// has, where the selected code is never stuck; and then it is never stuck either.
+/// Placed code carries the steps of the selected code that it corresponds to, with the frames that
+/// it has, where the selected code is never stuck; and then it is never stuck either.
 pub fn placed_code_carries()
     ensures carried { (module_ : VModule) (procs : List LProc) (input : List ℤ) →
         AllCorrespond module_.procs procs → RunsWell module_ procs input →
