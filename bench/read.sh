@@ -1,7 +1,7 @@
 #!/usr/bin/env bash
-# Times the program on three sources of some 65,000 tokens. Two break no rule and keep within the limits, and are no
-# small module, so they are read, checked and refused: one has 1 MB and 256 procedures, one has 10,000 names in one
-# scope. The third is small, and is also compiled and run. Each time is the best of five.
+# Times the program on two sources of some 60,000 tokens that break no rule and keep within the limits, and are no small
+# module, so they are read, checked and refused: one has 1 MB and 256 procedures, one has 10,000 names in one scope. Each
+# time is the best of five.
 set -eu
 top=$(cd "$(dirname "$0")/.." && pwd)
 folder=$(mktemp -d)
@@ -31,14 +31,6 @@ awk 'BEGIN {
     print "VAR b: BOOLEAN; BEGIN b := c10000 = 10000 END Names."
 }' >names.ob
 
-# 16 tokens around 8,189 statements of 8 and 8 empty statements
-awk 'BEGIN {
-    total = "TheSumOfAllNumbersThatWereAddedSoFar"
-    print "MODULE Small; VAR " total ": INTEGER; BEGIN"
-    for (i = 1; i <= 8189; i++) print total " := " total + " i " - " total ";"
-    print ";;;;;;;; Write(" total ") END Small."
-}' >small.ob
-
 best_of_five() {
     best=
     for _ in 1 2 3 4 5; do
@@ -54,4 +46,3 @@ best_of_five() {
 "$top/pra" run "$top/examples/first.ob" >/dev/null 2>&1 # builds, where needed
 best_of_five wide.ob
 best_of_five names.ob
-best_of_five small.ob

@@ -1,5 +1,6 @@
 #!/usr/bin/env bash
-# Times the program on the most statements `Write(1);` that 65,536 tokens have room for, compiled, run and written.
+# Times the program on the most statements `Write(1);` that the 2,048 nodes of a procedure have room for, compiled, run
+# and written.
 set -eu
 top=$(cd "$(dirname "$0")/.." && pwd)
 folder=$(mktemp -d)
@@ -7,7 +8,7 @@ trap 'rm -rf "$folder"' EXIT
 
 {
     printf 'MODULE M; BEGIN '
-    for _ in $(seq 13105); do printf 'Write(1);'; done
+    for _ in $(seq 1024); do printf 'Write(1);'; done
     printf ' END M.'
 } >"$folder/large.ob"
 
