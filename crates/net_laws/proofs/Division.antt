@@ -4,7 +4,8 @@ use Rattle.std.specs.Prelude.{nat_lt}
 use Rattle.std.specs.List.{list_any, range_with_len}
 use Rattle.std.proofs.lemmas.Bool.{and_parts, and_from, eqb-true, eq-eqb, ne_eqb, leb-true, le-leb, lt-ltb, or_cases, or_from, false≢true, true≢false, both_ways, false_from_ne_true, agree_below_at}
 use Rattle.std.proofs.lemmas.List.Elements.{All-head, All-tail}
-use Rattle.pra_list.proofs.Each.{Each, all_of_each}
+use Rattle.pra_list.specs.Each.{Each}
+use Rattle.pra_list.proofs.Each.{all_of_each}
 use Rattle.pra_base.specs.declared.ids.VarId.{VarId}
 use Rattle.pra_base.specs.declared.code.VInstr.{VInstr}
 use Rattle.pra_base.specs.declared.code.VInstr.TheVariants.{DivMod}

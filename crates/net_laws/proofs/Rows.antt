@@ -7,7 +7,8 @@ use Rattle.std.proofs.lemmas.List.{length-map}
 use Rattle.std.proofs.lemmas.List.Elements.{All-nil, All-head, All-tail, All-append, All-map, All-weaker}
 use Rattle.std.proofs.lemmas.List.Folds.{list_any-append}
 use Rattle.std.proofs.lemmas.Nat.Bits.{bit_at_or, bit_at-lt}
-use Rattle.pra_list.proofs.Each.{Each, all_of_each}
+use Rattle.pra_list.specs.Each.{Each}
+use Rattle.pra_list.proofs.Each.{all_of_each}
 use Rattle.pra_list.proofs.Mapped.{list_any-map}
 use Rattle.pra_base.specs.declared.ids.VarId.{VarId}
 use Rattle.pra_base.specs.declared.code.Base.{Base}

@@ -19,7 +19,8 @@ use Rattle.pl_moves.specs.Sequence.{same_register, store_of, bring_of, comes_fro
 use Rattle.pl_moves.proofs.Alone.{is_register-alone}
 use Rattle.pra_list.proofs.Choices.{either}
 use Rattle.pl_moves.proofs.Pairs.{Suits, Fit, by_store, by_bring, has_register-stored}
-use Rattle.pra_list.proofs.Each.{Each, each_of_all, all_of_each}
+use Rattle.pra_list.specs.Each.{Each}
+use Rattle.pra_list.proofs.Each.{each_of_all, all_of_each}
 use Rattle.pra_list.proofs.Choices.{not_true, and_true}
 use Rattle.pl_moves.proofs.Counts.{Agrees, tally, sequence_at_most}
 use Rattle.pl_moves.proofs.Whole.{stores, brings, turned, self, if_true, if_false}

@@ -15,7 +15,7 @@ use Rattle.pl_moves.specs.declared.bring.Bring.{Bring}
 use Rattle.pl_moves.specs.Assignment.{suits, suits_pair, share_register, are_apart, can_move, into_memory, number_of}
 use Rattle.pl_moves.specs.Sequence.{alone, same_register, store_of, bring_of}
 use Rattle.pra_list.proofs.Choices.{either, not_true, and_true}
-use Rattle.pra_list.proofs.Each.{Each}
+use Rattle.pra_list.specs.Each.{Each}
 
 pub record Suits (p : Pair) : Type 0 where
   pub from : suits p.constant (number p.from) ≡ true

@@ -16,7 +16,7 @@ use Rattle.pl_moves.proofs.Shifts.{all_shifted, all_shifted-append, all_moved-ev
 use Rattle.pl_moves.proofs.Ordered.{assigned, written, AreApart, kept, reads_same, ordered_is}
 use Rattle.pra_list.proofs.Choices.{either}
 use Rattle.pl_moves.proofs.Pairs.{VariablesApart, SourcesApart, TargetsApart, Fit, by_store, by_bring, has_register-stored}
-use Rattle.pra_list.proofs.Each.{Each}
+use Rattle.pra_list.specs.Each.{Each}
 use Rattle.pra_list.proofs.Choices.{not_true, and_true}
 
 abbrev pub stores : List Pair → List Move

@@ -23,7 +23,8 @@ use Rattle.pl_place.specs.declared.placed.LProc.{LProc}
 use Rattle.pl_place.specs.Placed.{kind_of, place_in, bare}
 use Rattle.pl_place.specs.Valid.{linstr_at, EachOp, EachMove, roles, OperandsPlaced, HasMemory, MoveHasMemory, MemoryThere, FewMoves, MoveNames, NumbersInRange, IsPlaced, counts_of, ArePlaced}
 use Rattle.pl_place.specs.Sample.{v0, v1, callee, word_0, caller, called, sample}
-use Rattle.pra_list.proofs.Each.{EachAt, each_at}
+use Rattle.pra_list.specs.Each.{EachAt}
+use Rattle.pra_list.proofs.Each.{each_at}
 
 -- ---- facts about each element of a list
 

@@ -38,7 +38,8 @@ use Rattle.pl_place.specs.Placed.{kind_of, slot_of}
 use Rattle.pl_place.specs.Machine.{spot, spot_as, slotted, Slot, Argument, no_block}
 use Rattle.pl_place.specs.Behind.{Routed, strand_of, constant, pairs_at, operand_places, in_memory, has_slot, IsOp, Lays, IsBehind}
 use Rattle.pl_place.specs.Valid.{linstr_at, HasMemory, MoveHasMemory, MoveNames, IsPlaced}
-use Rattle.pl_simulation.specs.Correspondence.{Allocation, Each, InFrame, IsCell, InCells, Fits, IsOpAt, InstrCorresponds, EndCorresponds, Comes, Corresponds}
+use Rattle.pra_list.specs.Each.{Each}
+use Rattle.pl_simulation.specs.Correspondence.{Allocation, InFrame, IsCell, InCells, Fits, IsOpAt, InstrCorresponds, EndCorresponds, Comes, Corresponds}
 use Rattle.pl_routed.specs.Routed.{routed}
 use Rattle.pl_routed.proofs.Listed.{In, in_at, at_in, in_left, in_right, in_map, in_filter, in_range}
 use Rattle.pl_routed.proofs.Present.{live as live_of, edge_inside, edge_mask, edge_there, edge_tied, in_the_flow, its_strand}

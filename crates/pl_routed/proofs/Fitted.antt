@@ -28,7 +28,8 @@ use Rattle.pl_place.specs.declared.placed.LProc.{LProc}
 use Rattle.pl_place.specs.Placed.{kind_of}
 use Rattle.pl_place.specs.Machine.{cells, fixed}
 use Rattle.pl_place.specs.Behind.{Routed, place_at}
-use Rattle.pl_simulation.specs.Correspondence.{Allocation, Each, Among, IsCell, AllRead, Written, AllWritten, is_destroyed, Stays, Fits}
+use Rattle.pra_list.specs.Each.{Each}
+use Rattle.pl_simulation.specs.Correspondence.{Allocation, Among, IsCell, AllRead, Written, AllWritten, is_destroyed, Stays, Fits}
 use Rattle.pl_routed.proofs.Present.{r as routed, live as live_of, edge_of_place, edge_inside, edge_mask, edge_from, From, edge_stays, edge_apart, is_nat}
 use Rattle.pl_routed.proofs.Present.From.{Begins, Goes}
 use Rattle.pl_routed.proofs.Masks.{is_single, one_cell, kept_out, place_of_role, place_kept}

@@ -12,7 +12,8 @@ use Rattle.pl_place.specs.declared.placed.LProc.{LProc}
 use Rattle.pl_place.specs.Placed.{kind_of}
 use Rattle.pl_place.specs.Machine.{cells, fixed}
 use Rattle.pl_place.specs.Behind.{constant}
-use Rattle.pl_simulation.specs.Correspondence.{Each, Among}
+use Rattle.pra_list.specs.Each.{Each}
+use Rattle.pl_simulation.specs.Correspondence.{Among}
 use Rattle.pl_routed.proofs.Listed.{In}
 use Rattle.pl_routed.proofs.Lives.{changes}
 

@@ -24,7 +24,8 @@ use Rattle.pl_place.specs.declared.placed.LProc.{LProc}
 use Rattle.pl_place.specs.Placed.{kind_of}
 use Rattle.pl_place.specs.Machine.{cells}
 use Rattle.pl_place.specs.Behind.{Routed, strand_of, comes_to, place_at, constant, from_place, pair_of, pairs_at}
-use Rattle.pl_simulation.specs.Correspondence.{Allocation, Each, Among, InCells, ComesFrom, Brings, Transfers}
+use Rattle.pra_list.specs.Each.{Each}
+use Rattle.pl_simulation.specs.Correspondence.{Allocation, Among, InCells, ComesFrom, Brings, Transfers}
 use Rattle.pl_routed.proofs.Listed.{In, in_filter, of_filter, in_map, of_map}
 use Rattle.pl_routed.proofs.Present.{EdgeAt, r as routed, live as live_of, edge_of_place, place_of_edge, brings_edge, one_edge, edge_inside, edge_mask, edge_from, From, edge_apart, its_strand, nat_is, is_nat, in_the_flow}
 use Rattle.pl_routed.proofs.Present.From.{Begins, Goes}

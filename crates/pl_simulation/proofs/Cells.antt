@@ -13,7 +13,8 @@ use Rattle.pl_moves.specs.Meaning.{Cell, Register, Memory, Fixed, same_cell}
 use Rattle.pl_place.specs.declared.placed.LProc.{LProc}
 use Rattle.pl_place.specs.Placed.{kind_of, slot_of}
 use Rattle.pl_place.specs.Machine.{Cells, Spot, Slot, Argument, Nowhere, spot, spot_as, in_spot, with_regs, with_spot, if_there, at_cell, put_cell}
-use Rattle.pl_simulation.specs.Correspondence.{InFrame, IsCell, Each}
+use Rattle.pra_list.specs.Each.{Each}
+use Rattle.pl_simulation.specs.Correspondence.{InFrame, IsCell}
 use Rattle.pl_simulation.proofs.Words.{if_false, differ, itself, set_get, last_set_get}
 
 -- an argument in whose cell a variable's value is

@@ -18,7 +18,8 @@ use Rattle.pl_place.specs.declared.placed.LInstr.{LInstr}
 use Rattle.pl_place.specs.declared.placed.LProc.{LProc}
 use Rattle.pl_place.specs.Placed.{kind_of}
 use Rattle.pl_place.specs.Machine.{Cells, spot, at_cell, cells, operands, put, put_all, put_first, first_held, cleared, clobbered, in_spot, Spot, Slot, Argument, Nowhere}
-use Rattle.pl_simulation.specs.Correspondence.{Allocation, Each, Among, AllRead, Written, AllWritten, is_destroyed, Stays, Fits}
+use Rattle.pra_list.specs.Each.{Each}
+use Rattle.pl_simulation.specs.Correspondence.{Allocation, Among, AllRead, Written, AllWritten, is_destroyed, Stays, Fits}
 use Rattle.pl_simulation.proofs.Words.{if_true, if_false}
 use Rattle.pl_simulation.proofs.Cells.{is_own, ParamsApart, HasCells, write, written_cell, same_is, put_is, still_there, stay, Alike, alike_itself, alike_then, alike}
 

@@ -21,7 +21,8 @@ use Rattle.pl_place.specs.declared.placed.LInstr.TheVariants as placed
 use Rattle.pl_place.specs.declared.placed.LProc.{LProc}
 use Rattle.pl_place.specs.Placed.{kind_of}
 use Rattle.pl_place.specs.Machine.{Cells, Spot, Slot, Argument, Nowhere, spot, in_spot, at_cell, put_cell, holding, cells, fixed, passed, proc_of, next_of, placed_machine}
-use Rattle.pl_simulation.specs.Correspondence.{Allocation, Each, Among, IsCell, InCells, ComesFrom, Transfers}
+use Rattle.pra_list.specs.Each.{Each}
+use Rattle.pl_simulation.specs.Correspondence.{Allocation, Among, IsCell, InCells, ComesFrom, Transfers}
 use Rattle.pl_simulation.proofs.Cells.{is_own, ParamsApart, HasCells, write, written_cell, put_is, still_there, Alike, alike_then, alike}
 use Rattle.pl_simulation.proofs.Located.{Matches}
 

@@ -23,7 +23,8 @@ use Rattle.pl_place.specs.Placed.{kind_of}
 use Rattle.pl_place.specs.Machine.{cells}
 use Rattle.pl_place.specs.Sample.{v0, v1, op}
 use Rattle.pl_place.specs.SampleRoutes.{in_memory}
-use Rattle.pl_simulation.specs.Correspondence.{Allocation, Each, Among, Transfers, Brings, Written, Stays, Fits, InstrCorresponds, EndCorresponds, Corresponds, AllCorrespond}
+use Rattle.pra_list.specs.Each.{Each}
+use Rattle.pl_simulation.specs.Correspondence.{Allocation, Among, Transfers, Brings, Written, Stays, Fits, InstrCorresponds, EndCorresponds, Corresponds, AllCorrespond}
 use Rattle.pl_simulation.proofs.Simulated.{no_moves}
 
 -- the layers: nothing; v in memory; k beside it; v in EAX too

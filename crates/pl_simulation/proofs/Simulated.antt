@@ -34,7 +34,8 @@ use Rattle.pl_place.specs.declared.placed.LProc.{LProc}
 use Rattle.pl_place.specs.Placed.{kind_of, slot_of, frame_size}
 use Rattle.pl_place.specs.Machine.{Cells, Spot, Slot, Argument, Nowhere, spot, in_spot, at_cell, cells, clobbered, operands, put_all, nothing}
 use Rattle.pl_place.specs.Machine as low
-use Rattle.pl_simulation.specs.Correspondence.{Allocation, Each, Among, InFrame, Transfers, Fits, IsOpAt, InstrCorresponds, EndCorresponds, Comes, Corresponds}
+use Rattle.pra_list.specs.Each.{Each}
+use Rattle.pl_simulation.specs.Correspondence.{Allocation, Among, InFrame, Transfers, Fits, IsOpAt, InstrCorresponds, EndCorresponds, Comes, Corresponds}
 use Rattle.pl_simulation.proofs.Coupled.{AllBeside, Couples, Same, Leads}
 use Rattle.pl_simulation.proofs.Applied.{found_same, with_top_same, ended_same, performed}
 use Rattle.pl_simulation.proofs.Words.{if_true}

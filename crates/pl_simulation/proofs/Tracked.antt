@@ -13,7 +13,8 @@ use Rattle.pl_moves.specs.Meaning.{Cell, Register, Memory, Fixed}
 use Rattle.pl_place.specs.declared.placed.LProc.{LProc}
 use Rattle.pl_place.specs.Placed.{kind_of, slot_of}
 use Rattle.pl_place.specs.Machine.{Cells, Spot, Slot, Argument, Nowhere, spot, spot_as, in_spot, at_cell, cells}
-use Rattle.pl_simulation.specs.Correspondence.{Allocation, Each, InstrCorresponds, EndCorresponds, Corresponds}
+use Rattle.pra_list.specs.Each.{Each}
+use Rattle.pl_simulation.specs.Correspondence.{Allocation, InstrCorresponds, EndCorresponds, Corresponds}
 use Rattle.pl_simulation.proofs.Coupled.{Couples}
 use Rattle.pl_simulation.proofs.Words.{if_false, differ, last_set_get}
 use Rattle.pl_simulation.proofs.Cells.{is_own, HasCells, param_is}

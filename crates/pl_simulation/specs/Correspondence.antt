@@ -4,6 +4,7 @@
 use Rattle.std.specs.Prelude.{◌≡◌, ◌≢◌, ℕ, suc, ◌<◌, ◌⊎◌, ℤ, Bool, false, nat_eq, List, [], ◌∷◌, ◌++◌}
 use Rattle.std.specs.Prelude.{length, map, drop, slice_get, Option, Some}
 use Rattle.std.specs.Int.{bit_at}
+use Rattle.pra_list.specs.Each.{Each}
 use Rattle.pra_base.specs.declared.ids.Place.TheVariants.{Mem, Const}
 use Rattle.pra_base.specs.declared.code.VarKind.TheVariants.{Param}
 use Rattle.pra_base.specs.declared.code.VInstr.{VInstr}
@@ -31,10 +32,6 @@ use Rattle.pl_place.specs.Machine.{Spot, Slot, Argument, Nowhere, spot, cells}
 -- the place of each variable that is present, by numbers
 abbrev pub Allocation : Type 0
 Allocation = ℕ → Option ℕ
-
-abbrev pub Each : {X : Type 0} → (X → Type 0) → List X → Type 0
-Each P [] = Unit {0}
-Each P (x ∷ xs) = P x × Each P xs
 
 abbrev pub Among : {X : Type 0} → X → List X → Type 0
 Among x [] = ⊥

@@ -1,11 +1,8 @@
 -- What holds of each element of a list that is written out, as pairs within pairs.
 use Rattle.std.proofs.Common.{◌≡◌, ℕ, zero, suc, List, [], ◌∷◌, All, Some, subst, arith}
 use Rattle.std.specs.Prelude.{slice_get}
+use Rattle.pra_list.specs.Each.{Each, EachAt}
 use Rattle.std.proofs.lemmas.List.Elements.{All-head, All-tail, All-cons}
-
-abbrev pub Each : {X : Type 0} → (X → Type 0) → List X → Type 0
-Each P [] = Unit {0}
-Each P (x ∷ xs) = P x × Each P xs
 
 pub each_of_all : {X : Type 0} (P : X → Type 0) (xs : List X) → All P xs → Each P xs
 each_of_all P [] h = tt
@@ -14,11 +11,6 @@ each_of_all P (x ∷ xs) h = (All-head P x xs h, each_of_all P xs (All-tail P x 
 pub all_of_each : {X : Type 0} (P : X → Type 0) (xs : List X) → Each P xs → All P xs
 all_of_each P [] h = λ k d lt. absurd (omega arith)
 all_of_each P (x ∷ xs) h = All-cons P x xs h.0 (all_of_each P xs h.1)
-
--- the same, of each element with its number
-abbrev pub EachAt : {X : Type 0} → (ℕ → X → Type 0) → List X → Type 0
-EachAt P [] = Unit {0}
-EachAt P (x ∷ xs) = P 0 x × EachAt (λ k. P (suc k)) xs
 
 pub each_at : {X : Type 0} (P : ℕ → X → Type 0) (xs : List X) → EachAt P xs →
     (k : ℕ) (x : X) → slice_get xs k ≡ Some x → P k x

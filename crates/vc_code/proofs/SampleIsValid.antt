@@ -2,7 +2,8 @@
 use Rattle.std.proofs.Common.{◌≡◌, ◌≢◌, ℕ, zero, suc, ◌+◌, ◌*◌, ◌<◌, ◌≤◌, ⊎_elim, Bool, true, false, nat_eq, ◌||◌, slice_get, Some, None, refl, ap, subst, arith, rules, lit<}
 use Rattle.std.specs.Prelude.{ℤ, ◌↔◌, pos, ◌≤ℤ◌}
 use Rattle.std.proofs.lemmas.Bool.Decides.{nat_tests}
-use Rattle.pra_list.proofs.Each.{EachAt, each_at}
+use Rattle.pra_list.specs.Each.{EachAt}
+use Rattle.pra_list.proofs.Each.{each_at}
 use Rattle.pra_base.specs.declared.ids.VarId.{VarId}
 use Rattle.pra_base.specs.declared.code.VarKind.TheVariants.{Param}
 use Rattle.pra_base.specs.declared.code.VInstr.{VInstr}
