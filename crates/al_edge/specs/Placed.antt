@@ -1,5 +1,6 @@
 -- What holds while strands are given their paths one after the other.
-use Rattle.std.specs.Prelude.{◌≡◌, ℕ, ◌+◌, ◌-◌, ◌<◌, true, false, List, [], length, count_by, slice_index_or}
+use Rattle.std.specs.Prelude.{◌≡◌, ℕ, ◌+◌, ◌-◌, ◌<◌, true, false, List, [], length, count_by}
+use Rattle.std.specs.Prelude.{slice_index_or}
 use Rattle.pra_base.specs.declared.ids.Place.{Place}
 use Rattle.pra_base.specs.declared.ids.Place.TheVariants.{Mem}
 use Rattle.pra_base.specs.Places.{number, allows, is_register}

@@ -1,5 +1,6 @@
 -- The table of who gives way.
-use Rattle.std.specs.Prelude.{◌≡◌, ℕ, ◌<◌, ◌+◌, Bool, false, ◌&&◌, List, [], length, take, slice_index_or}
+use Rattle.std.specs.Prelude.{◌≡◌, ℕ, ◌<◌, ◌+◌, Bool, false, ◌&&◌, List, [], length, take}
+use Rattle.std.specs.Prelude.{slice_index_or}
 use Rattle.std.specs.List.{list_any}
 use Rattle.net_form.specs.declared.net.Net.{Net}
 use Rattle.net_form.specs.Admitted.{strand_at}

@@ -1,6 +1,7 @@
 // Home routes, a strand after the other.
 
-ghost use Rattle.std.specs.Prelude.{◌≡◌, ◌<◌, ◌≤◌, ◌+◌, ℕ, true, length, min, count_by, None, IfOk, OnOk};
+ghost use Rattle.std.specs.Prelude.{◌≡◌, ◌<◌, ◌≤◌, ◌+◌, ℕ, true, length, min, count_by, None, IfOk};
+ghost use Rattle.std.specs.Prelude.{OnOk};
 ghost use Rattle.net_form.specs.Admitted.{strand_at, uses_bundle, IsAdmitted};
 ghost use Rattle.net_form.specs.Flow.{edges, flow, AreRoutes};
 ghost use Rattle.net_form.specs.Formed.{IsFormed};

@@ -1,10 +1,12 @@
 // Which right ends of memory pairs give way to the left ones.
 
-ghost use Rattle.std.specs.Prelude.{◌≡◌, ◌<◌, ◌≤◌, ◌+◌, ◌&&◌, ◌||◌, ℕ, [], true, false, length, take, slice_set, slice_index, slice_index_or, IfOk, OnOk};
+ghost use Rattle.std.specs.Prelude.{◌≡◌, ◌<◌, ◌≤◌, ◌+◌, ◌&&◌, ◌||◌, ℕ, [], true, false, length};
+ghost use Rattle.std.specs.Prelude.{take, slice_set, slice_index, slice_index_or, IfOk, OnOk};
 ghost use Rattle.net_form.specs.Admitted.{strand_at};
 ghost use Rattle.net_form.specs.Formed.{IsFormed};
 ghost use Rattle.net_form.specs.Strands.{across};
-ghost use Rattle.net_laws.specs.Homes.{HasRoom, IsFreePair, is_there, passes, left_stays, is_right, yields_at, yields, needs_register};
+ghost use Rattle.net_laws.specs.Homes.{HasRoom, IsFreePair, is_there, passes, left_stays, is_right};
+ghost use Rattle.net_laws.specs.Homes.{yields_at, yields, needs_register};
 ghost use Rattle.al_edge.specs.Yielding.{row_of, IsTable};
 
 use crate::side::{across, has_home, passes};

@@ -1,8 +1,9 @@
-// Asks for the liveness of the largest procedure that is sized and prints how much is live at some of its layers: the
-// work behind bench/live.sh.
+// Asks for the liveness of the largest procedure that is sized and prints how much is live at some
+// of its layers: the work behind bench/live.sh.
 //
-// The procedure is a row of nests of five loops, each laid out as the text would have it: the test of a loop, its body,
-// and behind the inner loop what follows it. Each nest has a sum and variables of its own; some locals live throughout.
+// The procedure is a row of nests of five loops, each laid out as the text would have it: the test
+// of a loop, its body, and behind the inner loop what follows it. Each nest has a sum and variables
+// of its own; some locals live throughout.
 #![tactic(auto)]
 
 ghost use Rattle.std.specs.Prelude.{◌<◌, ◌≤◌};
@@ -286,7 +287,7 @@ fn main(rt: HostRuntime) -> anyhow::Result<()> {
     let liveness = live(rt.alloc(), &code).map_err(|_| anyhow!("no memory"))?;
     let middle = Nest { number: 136 };
     println!(rt;
-        "live: {} at the entry, {} at the first loop, {} at an innermost body, {} at its division, {} at the end",
+        "live: {} at the entry, {} at the first loop, {} at a body, {} at its division, {} at the end",
         live_count(&liveness, BlockId(0), 0),
         live_count(&liveness, BlockId(1), 0),
         live_count(&liveness, middle.body(4), 0),

@@ -1,4 +1,5 @@
-// Runs a loop of ten million steps on the machine and prints what came of it: the work behind bench/step.sh.
+// Runs a loop of ten million steps on the machine and prints what came of it: the work behind
+// bench/step.sh.
 #![tactic(auto)]
 
 use anyhow::anyhow;
@@ -6,8 +7,8 @@ use ia_code::Image;
 use ia_step::Machine;
 use pra_list::Seq;
 
-/// A loop of ten instructions that goes round a million times. It keeps a sum in the first doubleword of data, which is
-/// written at the end.
+/// A loop of ten instructions that goes round a million times. It keeps a sum in the first
+/// doubleword of data, which is written at the end.
 const CODE: [u8; 50] = [
     0xb9, 0x40, 0x42, 0x0f, 0x00, // MOV ECX, 1000000
     0x8b, 0x05, 0x00, 0x00, 0x00, 0x04, // MOV EAX, [04000000h]

@@ -4,8 +4,10 @@
 -- From EBP on, in bytes: argument i of n at 8 + 4 * (n - 1 - i), the return address at 4, the saved
 -- EBP at 0, the saved EBX, ESI and EDI below it, slot k at -16 - 4 * k, and below all slots the
 -- aggregate words, the last one next to them. The stack is addressed as in SDM volume 1, section 6.
-use Rattle.std.specs.Prelude.{◌≡◌, ◌≤◌, ℕ, ◌+◌, ◌-◌, ◌*◌, ℤ, pos, neg_ℤ, ◌+ℤ◌, ◌-ℤ◌, Bool, ◌&&◌, if◌then◌else◌}
-use Rattle.std.specs.Prelude.{List, [], ◌∷◌, length, slice_get, slice_index_or, Option, Some, None, int_le}
+use Rattle.std.specs.Prelude.{◌≡◌, ◌≤◌, ℕ, ◌+◌, ◌-◌, ◌*◌, ℤ, pos, neg_ℤ, ◌+ℤ◌, ◌-ℤ◌, Bool, ◌&&◌}
+use Rattle.std.specs.Prelude.{if◌then◌else◌}
+use Rattle.std.specs.Prelude.{List, [], ◌∷◌, length, slice_get, slice_index_or, Option, Some, None}
+use Rattle.std.specs.Prelude.{int_le}
 use Rattle.std.specs.Int.{w32, int_wrap}
 use Rattle.ia_code.specs.declared.ins.Reg.{Reg}
 use Rattle.ia_code.specs.declared.ins.Reg.TheVariants.{Eax, Ecx, Edx, Ebx, Ebp, Esi, Edi}

@@ -9,8 +9,11 @@ ghost use Rattle.ia_code.specs.declared.ins.Ins.TheVariants.{Cdq, Idiv, Set, Mov
 ghost use Rattle.ia_emit.specs.declared.item.Item.TheVariants.{Plain, Branch};
 ghost use Rattle.ia_emit.specs.declared.item.Target.TheVariants.{Stub};
 ghost use Rattle.ia_emit.specs.Emission.{rm_of as rm, reg_of as reg, bound};
-ghost use Rattle.ia_emit.specs.Emission.{address as address_of, address_count as count_of, via_count as via_count_of, at as at_place, operation as operation_of, clear as clear_of};
-ghost use Rattle.ia_emit.specs.Emission.{emit_op as op_of, emit as emitted, leave as leave_of, return, emit_end as end_of, prologue as prologue_of};
+ghost use Rattle.ia_emit.specs.Emission.{address as address_of, address_count as count_of};
+ghost use Rattle.ia_emit.specs.Emission.{via_count as via_count_of, at as at_place};
+ghost use Rattle.ia_emit.specs.Emission.{operation as operation_of, clear as clear_of};
+ghost use Rattle.ia_emit.specs.Emission.{emit_op as op_of, emit as emitted, leave as leave_of};
+ghost use Rattle.ia_emit.specs.Emission.{return, emit_end as end_of, prologue as prologue_of};
 
 use crate::frame::{Frame, register};
 use crate::item::{Item, Operand, Target};

@@ -3,9 +3,12 @@
 ghost use Rattle.std.specs.Prelude.{◌≡◌, ◌≤◌, ◌+◌, ◌*◌, pos, unsigned_abs};
 ghost use Rattle.std.specs.Int.{int_rem_euclid};
 ghost use Rattle.pra_base.specs.Places.{number};
-ghost use Rattle.ia_emit.specs.Operands.{register_at, argument_at as argument_of, slot_at as slot_in_frame, locals as locals_of};
-ghost use Rattle.ia_emit.specs.Operands.{memory_at, cell as cell_of, operand as operand_of, number_of as number_in};
-ghost use Rattle.ia_emit.specs.Operands.{wrapped as wrapped_of, via_width as via_width_of, object_word as object_word_of, IsSmall, IsTable};
+ghost use Rattle.ia_emit.specs.Operands.{register_at, argument_at as argument_of};
+ghost use Rattle.ia_emit.specs.Operands.{slot_at as slot_in_frame, locals as locals_of};
+ghost use Rattle.ia_emit.specs.Operands.{memory_at, cell as cell_of, operand as operand_of};
+ghost use Rattle.ia_emit.specs.Operands.{number_of as number_in};
+ghost use Rattle.ia_emit.specs.Operands.{wrapped as wrapped_of, via_width as via_width_of};
+ghost use Rattle.ia_emit.specs.Operands.{object_word as object_word_of, IsSmall, IsTable};
 ghost use Rattle.net_form.specs.Tables.{is_short as short};
 ghost use Rattle.pl_place.specs.Placed.{kind_of as kind_in, slot_of as slot_in};
 
@@ -119,7 +122,8 @@ impl<'a> Frame<'a> {
 
     /// The address of an object's word, with the registers of its variables.
     pub fn object_word(&self, from: &Addr, via: Reg, index: Option<(Reg, u8)>) -> MemAddr
-        ensures { result ≡ object_word_of self.now.proc.now from.now.base via from.now.offset index }
+        ensures { result ≡
+            object_word_of self.now.proc.now from.now.base via from.now.offset index }
     {
         let offset = i64::from(from.offset);
         match from.base {

@@ -2,7 +2,8 @@
 
 ghost use Rattle.std.specs.Prelude.{◌≡◌, ◌+◌, ◌≤◌, length, take, IfOk};
 ghost use Rattle.ia_code.specs.Image.{max_code_bytes};
-ghost use Rattle.ia_emit.specs.Code.{size, size_of as size_of_item, distance as distance_of, stub_start as start_of_stub, block_start, target_in};
+ghost use Rattle.ia_emit.specs.Code.{size, size_of as size_of_item, distance as distance_of};
+ghost use Rattle.ia_emit.specs.Code.{stub_start as start_of_stub, block_start, target_in};
 ghost use Rattle.ia_emit.specs.Emission.{emit_proc};
 ghost use Rattle.ia_emit.specs.Layout.{AreFirst, ArePlaces};
 ghost use Rattle.ia_emit.specs.Sound.{SoundWhereFits, EachSound};

@@ -2,8 +2,11 @@
 
 ghost use Rattle.std.specs.Prelude.{◌≡◌};
 ghost use Rattle.pra_base.specs.Places.{number};
-ghost use Rattle.ia_emit.specs.Emission.{rm_of as rm, reg_of as reg, set as set_to, copy as copied, alu_number as number_combined, combine as combined};
-ghost use Rattle.ia_emit.specs.Emission.{multiply_number as number_multiplied, multiply as multiplied, push as pushed, store as stored, call_service as service_called};
+ghost use Rattle.ia_emit.specs.Emission.{rm_of as rm, reg_of as reg, set as set_to, copy as copied};
+ghost use Rattle.ia_emit.specs.Emission.{alu_number as number_combined, combine as combined};
+ghost use Rattle.ia_emit.specs.Emission.{multiply_number as number_multiplied};
+ghost use Rattle.ia_emit.specs.Emission.{multiply as multiplied, push as pushed, store as stored};
+ghost use Rattle.ia_emit.specs.Emission.{call_service as service_called};
 ghost use Rattle.ia_emit.specs.Emission.{place_reg, emit_move as move_of};
 
 use crate::frame::{Frame, is_short, register};

@@ -1,5 +1,6 @@
 -- The order of strands: by block, then first layer, then variable.
-use Rattle.std.specs.Prelude.{◌≡◌, ℕ, ◌<◌, ◌≤◌, Bool, ◌&&◌, nat_eq, if◌then◌else◌, List, length, slice_index_or, Option, Some, None}
+use Rattle.std.specs.Prelude.{◌≡◌, ℕ, ◌<◌, ◌≤◌, Bool, ◌&&◌, nat_eq, if◌then◌else◌, List, length}
+use Rattle.std.specs.Prelude.{slice_index_or, Option, Some, None}
 use Rattle.std.specs.List.{AllPairs}
 use Rattle.pra_base.specs.declared.code.End.{End}
 use Rattle.net_form.specs.declared.net.Strand.{Strand}

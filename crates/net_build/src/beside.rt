@@ -4,7 +4,8 @@ ghost use Rattle.std.specs.Prelude.{◌≡◌, ◌<◌, ◌&&◌, length, fold, 
 ghost use Rattle.std.specs.List.{list_any};
 ghost use Rattle.pra_base.specs.Code.{kind_of};
 ghost use Rattle.pra_base.specs.Operands.{is_role_of, meets, own_places};
-ghost use Rattle.net_form.specs.Strands.{beside, across, is_before, is_present, roles_at, mask_at, is_param, met_mask, clobbered};
+ghost use Rattle.net_form.specs.Strands.{beside, across, is_before, is_present, roles_at, mask_at};
+ghost use Rattle.net_form.specs.Strands.{is_param, met_mask, clobbered};
 ghost use Rattle.pra_base.specs.Places.{without};
 ghost use Rattle.net_form.specs.Tables.{all_tables};
 ghost use Rattle.vc_code.specs.Rows.{roles_of, row_of};

@@ -1,12 +1,14 @@
 // Extras: what an operand costs more at a place than in a register.
 
-ghost use Rattle.std.specs.Prelude.{◌≡◌, ◌++◌, ◌<◌, ◌+◌, ◌^◌, length, All, map, IfOk, OnOk, option_to_list, None, Some};
+ghost use Rattle.std.specs.Prelude.{◌≡◌, ◌++◌, ◌<◌, ◌+◌, ◌^◌, length, All, map, IfOk, OnOk};
+ghost use Rattle.std.specs.Prelude.{option_to_list, None, Some};
 ghost use Rattle.std.specs.List.{filter_map, flat_map, enumerate_from};
 ghost use Rattle.pra_base.specs.Code.{kind_of};
 ghost use Rattle.pra_base.specs.Valid.{IsSized, near as near_code};
 ghost use Rattle.net_form.specs.Formed.{IsStrandOf};
 ghost use Rattle.net_form.specs.Strands.{beside};
-ghost use Rattle.net_form.specs.Network.{event_at, event_beside, extra_at, priced_places, extras, net_block};
+ghost use Rattle.net_form.specs.Network.{event_at, event_beside, extra_at, priced_places, extras};
+ghost use Rattle.net_form.specs.Network.{net_block};
 ghost use Rattle.net_form.specs.Tables.{all_tables};
 ghost use Rattle.net_build.specs.Extras.{layer_extras, strand_extras};
 

@@ -1,6 +1,7 @@
 // Memory pairs: two operands of one instruction, of which one at most is in memory.
 
-ghost use Rattle.std.specs.Prelude.{◌≡◌, ℕ, ◌++◌, ◌<◌, ◌≤◌, ◌+◌, ◌*◌, ◌^◌, ◌&&◌, nat_eq, nat_le, length, false, IfOk, OnOk, option_to_list};
+ghost use Rattle.std.specs.Prelude.{◌≡◌, ℕ, ◌++◌, ◌<◌, ◌≤◌, ◌+◌, ◌*◌, ◌^◌, ◌&&◌, nat_eq, nat_le};
+ghost use Rattle.std.specs.Prelude.{length, false, IfOk, OnOk, option_to_list};
 ghost use Rattle.pra_base.specs.Operands.{operands};
 ghost use Rattle.pra_base.specs.Valid.{IsSized};
 ghost use Rattle.net_form.specs.Network.{stands_for, strand_of, marked, pair_of, pairs};

@@ -1,10 +1,13 @@
 // The strands: for each variable the runs of layers of a block at which it is present.
 
-ghost use Rattle.std.specs.Prelude.{◌≡◌, ◌≢◌, ℕ, ◌++◌, ◌<◌, ◌≤◌, ◌+◌, ◌-◌, ◌&&◌, not, nat_eq, nat_lt, length, map, true, IfOk, IfSome, OnOk, option_to_list};
+ghost use Rattle.std.specs.Prelude.{◌≡◌, ◌≢◌, ℕ, ◌++◌, ◌<◌, ◌≤◌, ◌+◌, ◌-◌, ◌&&◌, not, nat_eq};
+ghost use Rattle.std.specs.Prelude.{nat_lt, length, map, true, IfOk, IfSome, OnOk, option_to_list};
 ghost use Rattle.std.specs.List.{range_with_len, list_any};
 ghost use Rattle.pra_base.specs.Code.{kind_of};
 ghost use Rattle.pra_base.specs.Valid.{IsSized};
-ghost use Rattle.net_form.specs.Strands.{IsLive, roles_at, layer_count, begins, begun_strand, strand, run_from, mask_at, layer_strands, block_strands, strands, is_constant};
+ghost use Rattle.net_form.specs.Strands.{IsLive, roles_at, layer_count, begins, begun_strand};
+ghost use Rattle.net_form.specs.Strands.{strand, run_from, mask_at, layer_strands, block_strands};
+ghost use Rattle.net_form.specs.Strands.{strands, is_constant};
 ghost use Rattle.net_form.specs.Tables.{all_tables};
 ghost use Rattle.vc_code.specs.Rows.{roles_of};
 ghost use Rattle.vc_live.specs.Rows.{live_at};

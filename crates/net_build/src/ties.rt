@@ -1,7 +1,8 @@
 // Ties: a strand that reaches its block's exit, and the variable's strand at the entry of a block
 // that follows.
 
-ghost use Rattle.std.specs.Prelude.{◌≡◌, ℕ, ◌++◌, ◌<◌, ◌≤◌, ◌^◌, length, All, map, IfOk, OnOk, option_to_list, slice_index_or};
+ghost use Rattle.std.specs.Prelude.{◌≡◌, ℕ, ◌++◌, ◌<◌, ◌≤◌, ◌^◌, length, All, map, IfOk, OnOk};
+ghost use Rattle.std.specs.Prelude.{option_to_list, slice_index_or};
 ghost use Rattle.std.specs.List.{filter_map, range_with_len};
 ghost use Rattle.pra_base.specs.Code.{end_of};
 ghost use Rattle.pra_base.specs.Valid.{IsSized};

@@ -2,7 +2,8 @@
 -- displacement of 8 bits is one byte, one of 32 bits four.
 use Rattle.std.specs.Prelude.{◌≡◌, ◌⊎◌, ℕ, ◌*◌, ◌^◌, ◌≤◌, List, [], ◌∷◌, map, slice_index, All}
 use Rattle.net_cost.specs.declared.event.Event.{Event}
-use Rattle.net_cost.specs.declared.event.Event.TheVariants.{E0, E1, E2, E3, E4, E5, E6, E7, E8, E9, E10, E11, E12}
+use Rattle.net_cost.specs.declared.event.Event.TheVariants.{E0, E1, E2, E3, E4, E5, E6, E7, E8, E9}
+use Rattle.net_cost.specs.declared.event.Event.TheVariants.{E10, E11, E12}
 use Rattle.net_cost.specs.declared.weights.Weights.{Weights}
 
 pub record Row : Type 0 where

@@ -1,7 +1,8 @@
 // Lists of weights.
 
 ghost use Rattle.std.specs.Prelude.{◌≡◌, ◌⊎◌, ◌≤◌, ◌*◌, ◌^◌};
-ghost use Rattle.net_cost.specs.Weights.{weight_of, IsValid, deepest, size_weights, speed_weights, most_weight, most_power};
+ghost use Rattle.net_cost.specs.Weights.{weight_of, IsValid, deepest, size_weights, speed_weights};
+ghost use Rattle.net_cost.specs.Weights.{most_weight, most_power};
 
 use crate::event::Event;
 

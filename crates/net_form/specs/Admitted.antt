@@ -1,5 +1,6 @@
 -- Which flows the network admits.
-use Rattle.std.specs.Prelude.{◌≡◌, ℕ, ◌+◌, ◌-◌, ◌%◌, ◌≤◌, Bool, true, ◌&&◌, ◌||◌, not, nat_eq, List, [], Option, None, Some, All, count_by, slice_index_or, IsTrue}
+use Rattle.std.specs.Prelude.{◌≡◌, ℕ, ◌+◌, ◌-◌, ◌%◌, ◌≤◌, Bool, true, ◌&&◌, ◌||◌, not, nat_eq, List}
+use Rattle.std.specs.Prelude.{[], Option, None, Some, All, count_by, slice_index_or, IsTrue}
 use Rattle.pra_base.specs.declared.ids.Place.{Place}
 use Rattle.pra_base.specs.Places.{number, allows, has_register, register_of, is_mem}
 use Rattle.net_form.specs.declared.net.Strand.{Strand}

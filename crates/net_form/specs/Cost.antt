@@ -1,5 +1,6 @@
 -- What flows and routes cost.
-use Rattle.std.specs.Prelude.{ℕ, ◌+◌, ◌-◌, ◌*◌, Bool, nat_le, if◌then◌else◌, List, [], Option, None, Some, sum_by, count_by, slice_index_or, slice_get}
+use Rattle.std.specs.Prelude.{ℕ, ◌+◌, ◌-◌, ◌*◌, Bool, nat_le, if◌then◌else◌, List, [], Option, None}
+use Rattle.std.specs.Prelude.{Some, sum_by, count_by, slice_index_or, slice_get}
 use Rattle.pra_base.specs.declared.ids.Place.{Place}
 use Rattle.net_cost.specs.declared.weights.Weights.{Weights}
 use Rattle.net_cost.specs.Weights.{weight_at, weight_of}

@@ -1,5 +1,5 @@
 -- Two small codes, what is live in them, and their networks written out.
-use Rattle.std.specs.Prelude.{pos, true, false, ◌&&◌, ◌||◌, nat_eq, nat_le, List, [], ◌∷◌, None}
+use Rattle.std.specs.Prelude.{ℕ, pos, true, false, ◌&&◌, ◌||◌, nat_eq, nat_le, List, [], ◌∷◌, None}
 use Rattle.pra_base.specs.declared.ids.Place.TheVariants.{Eax, Mem, Const}
 use Rattle.pra_base.specs.declared.code.VarKind.{VarKind}
 use Rattle.pra_base.specs.declared.code.VarKind.TheVariants.{Plain, Constant}
@@ -10,6 +10,9 @@ use Rattle.pra_base.specs.declared.code.VProc.{VProc}
 use Rattle.net_cost.specs.declared.event.Event.TheVariants.{E6, E8, E10}
 use Rattle.net_form.specs.declared.net.Net.{Net}
 use Rattle.net_form.specs.declared.routes.Routes.{Routes}
+use Rattle.net_cost.specs.declared.weights.Weights.{Weights}
+use Rattle.net_form.specs.Cost.{cost_of}
+use Rattle.net_form.specs.Flow.{flow}
 use Rattle.net_form.specs.Strands.{Lives}
 
 -- a procedure of one block that ends with Return
@@ -124,3 +127,8 @@ in_register_routes = record { places = (Eax ∷ Eax ∷ Eax ∷ Eax ∷ []) ∷ 
 
 abbrev pub in_memory_routes : Routes
 in_memory_routes = record { places = (Mem ∷ Mem ∷ Mem ∷ Eax ∷ []) ∷ (Const ∷ []) ∷ [] }
+
+-- what routes cost in it
+abbrev pub set_add_write_cost : Weights → Routes → ℕ
+set_add_write_cost weights routes =
+    cost_of set_add_write_net weights (flow set_add_write_net routes)

@@ -1,5 +1,7 @@
 -- Flows of a network, as lists of edges.
-use Rattle.std.specs.Prelude.{◌≡◌, ℕ, suc, ◌+◌, ◌<◌, ◌≤◌, Bool, true, false, ◌&&◌, nat_eq, List, [], ◌∷◌, ◌++◌, Option, None, Some, ◌↔◌, All, count_by, length, slice_get, ⊤}
+use Rattle.std.specs.Prelude.{◌≡◌, ℕ, suc, ◌+◌, ◌<◌, ◌≤◌, Bool, true, false, ◌&&◌, nat_eq, List, []}
+use Rattle.std.specs.Prelude.{◌∷◌, ◌++◌, Option, None, Some, ◌↔◌, All, count_by, length, slice_get}
+use Rattle.std.specs.Prelude.{⊤}
 use Rattle.pra_base.specs.declared.ids.Place.{Place}
 use Rattle.pra_base.specs.Places.{number}
 use Rattle.net_form.specs.declared.net.Strand.{Strand}

@@ -1,5 +1,6 @@
 -- Ends of strands that ties join, and their groups.
-use Rattle.std.specs.Prelude.{◌≡◌, ◌⊎◌, ℕ, ◌+◌, ◌*◌, ◌≤◌, Bool, ◌&&◌, ◌||◌, nat_eq, if◌then◌else◌, List, Option, Some, None, Contains, count_by}
+use Rattle.std.specs.Prelude.{◌≡◌, ◌⊎◌, ℕ, ◌+◌, ◌*◌, ◌≤◌, Bool, ◌&&◌, ◌||◌, nat_eq, if◌then◌else◌}
+use Rattle.std.specs.Prelude.{List, Option, Some, None, Contains, count_by}
 use Rattle.std.specs.List.{range_with_len, list_any}
 use Rattle.net_form.specs.declared.net.Tie.{Tie}
 

@@ -1,5 +1,6 @@
 -- Where the lists of a network begin for each block and each strand.
-use Rattle.std.specs.Prelude.{ℕ, Bool, ◌+◌, nat_lt, nat_eq, ◌&&◌, ◌||◌, if◌then◌else◌, List, map, length, take, sum_by, count_by, Some, None}
+use Rattle.std.specs.Prelude.{ℕ, Bool, ◌+◌, nat_lt, nat_eq, ◌&&◌, ◌||◌, if◌then◌else◌, List, map}
+use Rattle.std.specs.Prelude.{length, take, sum_by, count_by, Some, None}
 use Rattle.std.specs.List.{range_with_len, flat_map, filter_map, enumerate_from}
 use Rattle.net_form.specs.declared.net.NetBlock.{NetBlock}
 use Rattle.net_form.specs.declared.net.Strand.{Strand}

@@ -2,7 +2,9 @@
 -- 2006): a commodity for each strand of a variable, a node for each place at each layer. It is a
 -- function of the code, of what is live where, and of which end is the least of its group. The
 -- latter two are what relations say of the code, so code has one network.
-use Rattle.std.specs.Prelude.{◌≡◌, ℕ, ◌+◌, ◌*◌, Bool, false, not, ◌&&◌, nat_eq, nat_le, if◌then◌else◌, List, [], ◌∷◌, ◌++◌, map, length, filter, count_by, Option, Some, None, ◌||◌}
+use Rattle.std.specs.Prelude.{◌≡◌, ℕ, ◌+◌, ◌*◌, Bool, false, not, ◌&&◌, nat_eq, nat_le}
+use Rattle.std.specs.Prelude.{if◌then◌else◌, List, [], ◌∷◌, ◌++◌, map, length, filter, count_by}
+use Rattle.std.specs.Prelude.{Option, Some, None, ◌||◌}
 use Rattle.std.specs.List.{range_with_len, prefix_len, flat_map, filter_map, enumerate_from}
 use Rattle.pra_base.specs.declared.ids.Place.{Place}
 use Rattle.pra_base.specs.declared.ids.Place.TheVariants.{Mem, Const}
@@ -27,7 +29,8 @@ use Rattle.net_form.specs.Strands.{Lives, IsLive, layers_of, exit_layer, is_befo
 use Rattle.net_form.specs.Groups.{IsLeastEnd, leads, group_of, entry_end, exit_end}
 use Rattle.net_form.specs.Index.{index_of}
 
--- ---- extras: what a read operand costs before the instruction, and one that is only written after it
+-- ---- extras: what a read operand costs before the instruction, and one that is only written
+-- after it
 
 abbrev pub plays : Bool → VInstr → ℕ → Bool
 plays before i v = if before then reads i v else only_writes i v
@@ -53,7 +56,8 @@ extra_of s l place (Some e) = Some (record { strand = s; layer = l; place = plac
 abbrev pub extra_at : PlaceTables → VProc → ℕ → Strand → (ℕ × ℕ) → Place → Option Extra
 extra_at tables code s t at place =
     if allows at.1 (number place)
-    then extra_of s at.0 place (event_beside tables code t.var.0 at.0 place (beside code t.block.0 at.0))
+    then extra_of s at.0 place
+    (event_beside tables code t.var.0 at.0 place (beside code t.block.0 at.0))
     else None
 
 -- by strand, layer, place

@@ -2,7 +2,9 @@
 --
 -- A block with n instructions has the layers 0 (its entry), 2 * i + 1 (before instruction i),
 -- 2 * i + 2 (after it) and 2 * n + 1 (its exit).
-use Rattle.std.specs.Prelude.{◌↔◌, ℕ, ◌+◌, ◌-◌, ◌*◌, ◌/◌, ◌%◌, Bool, true, false, not, ◌&&◌, ◌||◌, nat_eq, nat_lt, if◌then◌else◌, List, [], map, length, fold, Option, Some, None, IsTrue}
+use Rattle.std.specs.Prelude.{◌↔◌, ℕ, ◌+◌, ◌-◌, ◌*◌, ◌/◌, ◌%◌, Bool, true, false, not, ◌&&◌, ◌||◌}
+use Rattle.std.specs.Prelude.{nat_eq, nat_lt, if◌then◌else◌, List, [], map, length, fold, Option}
+use Rattle.std.specs.Prelude.{Some, None, IsTrue}
 use Rattle.std.specs.List.{range_with_len, prefix_len, list_any, flat_map, filter_map}
 use Rattle.pra_base.specs.declared.ids.Place.TheVariants.{Mem}
 use Rattle.pra_base.specs.declared.code.VarKind.{VarKind}

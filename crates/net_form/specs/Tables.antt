@@ -1,12 +1,15 @@
 -- What depends on which places there are: the masks of operands, the places of a variable, what an
 -- operand in memory or an immediate costs, and what a way between two places costs. Networks and
 -- costs are made from one such record.
-use Rattle.std.specs.Prelude.{ℕ, ℤ, pos, negsuc, Bool, nat_le, if◌then◌else◌, List, Option, Some, None, ◌&&◌}
+use Rattle.std.specs.Prelude.{ℕ, ℤ, pos, negsuc, Bool, nat_le, if◌then◌else◌, List, Option, Some}
+use Rattle.std.specs.Prelude.{None, ◌&&◌}
 use Rattle.pra_base.specs.declared.ids.Place.{Place}
 use Rattle.pra_base.specs.declared.code.VarKind.{VarKind}
 use Rattle.pra_base.specs.declared.code.VarKind.TheVariants.{Constant}
 use Rattle.pra_base.specs.declared.code.VInstr.{VInstr}
-use Rattle.pra_base.specs.declared.code.VInstr.TheVariants.{Set, Copy, Add, Sub, And, Or, Xor, Mul, Neg, Cmp, CmpSet, DivMod, Check, CheckPos, Store, Push}
+use Rattle.pra_base.specs.declared.code.VInstr.TheVariants.{Set, Copy, Add, Sub, And, Or, Xor, Mul}
+use Rattle.pra_base.specs.declared.code.VInstr.TheVariants.{Neg, Cmp, CmpSet, DivMod, Check}
+use Rattle.pra_base.specs.declared.code.VInstr.TheVariants.{CheckPos, Store, Push}
 use Rattle.pra_base.specs.Operands.{Row, operands, own_places}
 use Rattle.net_cost.specs.declared.event.Event.{Event}
 use Rattle.net_cost.specs.declared.event.Event.TheVariants.{E6, E7, E8, E9, E10, E11, E12}

@@ -7,7 +7,9 @@ ghost use Rattle.net_cost.specs.declared.weights.Weights.{Weights};
 ghost use Rattle.net_form.specs.declared.net.Net.{Net};
 ghost use Rattle.net_form.specs.declared.routes.Routes.{Routes};
 ghost use Rattle.net_form.specs.Tables.{PlaceTables};
-ghost use Rattle.net_form.specs.Examples.{write_constant, write_constant_net, set_add_write, set_add_write_net, in_register_routes, in_memory_routes};
+ghost use Rattle.net_form.specs.Examples.{write_constant, write_constant_net, set_add_write};
+ghost use Rattle.net_form.specs.Examples.{set_add_write_net, set_add_write_cost};
+ghost use Rattle.net_form.specs.Examples.{in_register_routes, in_memory_routes};
 ghost use Rattle.net_cost.specs.Weights.{size_weights, speed_weights};
 ghost use Rattle.net_form.specs.Network.{IsNetBy, IsNet};
 ghost use Rattle.net_form.specs.Formed.{IsFormed};
@@ -57,7 +59,7 @@ pub fn network_write_constant()
 /// The network of a Set, an Add of a constant and a Write, and what routes cost in it.
 pub fn network_set_add_write()
     ensures network { IsNet set_add_write_net set_add_write }
-    ensures register_size { cost_of set_add_write_net size_weights (flow set_add_write_net in_register_routes) ≡ 1 }
-    ensures memory_size { cost_of set_add_write_net size_weights (flow set_add_write_net in_memory_routes) ≡ 7 }
-    ensures memory_speed { cost_of set_add_write_net speed_weights (flow set_add_write_net in_memory_routes) ≡ 7 }
+    ensures register_size { set_add_write_cost size_weights in_register_routes ≡ 1 }
+    ensures memory_size { set_add_write_cost size_weights in_memory_routes ≡ 7 }
+    ensures memory_speed { set_add_write_cost speed_weights in_memory_routes ≡ 7 }
 {}

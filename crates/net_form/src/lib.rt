@@ -18,16 +18,16 @@
 //! ```text
 //!  layer                      strand 0, of v        strand 1, of k
 //!    0   entry
-//!    |                                                                 crossbar: places may change
+//!    |                                                         crossbar: places may change
 //!    1   before  Set v, 3
-//!    |                                                                 across: each stays in its place
+//!    |                                                         across: each stays in its place
 //!    2   after   Set v, 3     R Mem
-//!    |                        \ | /                                    crossbar
+//!    |                        \ | /                            crossbar
 //!    3   before  Add v, k     R Mem  ---- pair ----  R Const
-//!    |                        | |                                      across
+//!    |                        | |                              across
 //!    4   after   Add v, k     R Mem
-//!    |                        \ | /                                    crossbar
-//!    5   before  Write v      EAX EaxM                                 EaxM is EAX and memory at once
+//!    |                        \ | /                            crossbar
+//!    5   before  Write v      EAX EaxM                         EaxM is EAX and memory at once
 //!    |
 //!    6   after   Write v
 //!    |

@@ -1,7 +1,8 @@
 // What is in use, and room to work in.
 
 ghost use Rattle.std.specs.Prelude.{◌≡◌, ◌≤◌, IfOk, IfSome};
-ghost use Rattle.net_form.specs.Rooms.{layer_total, empty_taken, zero_prices, some_routes, empty_spare};
+ghost use Rattle.net_form.specs.Rooms.{layer_total, empty_taken, zero_prices, some_routes};
+ghost use Rattle.net_form.specs.Rooms.{empty_spare};
 
 use crate::net::Net;
 use crate::prices::Prices;

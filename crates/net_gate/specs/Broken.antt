@@ -1,12 +1,14 @@
 -- What routes may break, and which of it comes first.
-use Rattle.std.specs.Prelude.{◌≡◌, ◌⊎◌, ℕ, ◌<◌, ◌≤◌, Bool, ◌&&◌, not, List, Option, Some, None, MatchOption, All, count_by, slice_get}
+use Rattle.std.specs.Prelude.{◌≡◌, ◌⊎◌, ℕ, ◌<◌, ◌≤◌, Bool, ◌&&◌, not, List, Option, Some, None}
+use Rattle.std.specs.Prelude.{MatchOption, All, count_by, slice_get}
 use Rattle.pra_base.specs.Places.{number}
 use Rattle.net_form.specs.declared.net.MemPair.{MemPair}
 use Rattle.net_form.specs.declared.net.Net.{Net}
 use Rattle.net_form.specs.Flow.{Edge, is_at}
 use Rattle.net_form.specs.Admitted.{in_mask, stays_across, uses_bundle, uses_memory, KeepsTie}
 use Rattle.net_gate.specs.declared.broken.Broken.{Broken}
-use Rattle.net_gate.specs.declared.broken.Broken.TheVariants.{Mask, Edge as Across, Bundle, Memory, Tie}
+use Rattle.net_gate.specs.declared.broken.Broken.TheVariants.{Mask, Edge as Across, Bundle, Memory}
+use Rattle.net_gate.specs.declared.broken.Broken.TheVariants.{Tie}
 use Rattle.net_gate.specs.declared.broken.EdgeRule.{EdgeRule}
 use Rattle.net_gate.specs.declared.broken.EdgeRule.TheVariants.{InMask, StaysAcross}
 

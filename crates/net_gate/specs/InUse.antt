@@ -1,5 +1,6 @@
 -- Registers in use, and the first one that is in use twice.
-use Rattle.std.specs.Prelude.{◌≡◌, ◌⊎◌, ℕ, ◌&&◌, nat_eq, min, if◌then◌else◌, List, Option, Some, None, slice_index, option_map}
+use Rattle.std.specs.Prelude.{◌≡◌, ◌⊎◌, ℕ, ◌&&◌, nat_eq, min, if◌then◌else◌, List, Option, Some}
+use Rattle.std.specs.Prelude.{None, slice_index, option_map}
 use Rattle.std.specs.Int.{bit_at}
 use Rattle.pra_base.specs.declared.ids.Place.{Place}
 use Rattle.pra_base.specs.Places.{number}

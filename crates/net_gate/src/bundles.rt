@@ -1,7 +1,8 @@
 // Registers: at a layer one strand at most is in each, whether in the register alone or in its both
 // place.
 
-ghost use Rattle.std.specs.Prelude.{◌≡◌, ◌↔◌, ℕ, ◌+◌, ◌<◌, ◌≤◌, nat_eq, length, count_by, slice_index, IsTrue, None, Some, option_map, sum_by};
+ghost use Rattle.std.specs.Prelude.{◌≡◌, ◌↔◌, ℕ, ◌+◌, ◌<◌, ◌≤◌, nat_eq, length, count_by};
+ghost use Rattle.std.specs.Prelude.{slice_index, IsTrue, None, Some, option_map, sum_by};
 ghost use Rattle.pra_base.specs.Places.{number, has_register, register_of};
 ghost use Rattle.net_form.specs.Admitted.{strand_at, uses_bundle};
 ghost use Rattle.net_form.specs.Flow.{edges, flow, AreRoutes};

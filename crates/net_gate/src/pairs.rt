@@ -1,7 +1,8 @@
 // Memory pairs and ties: of a pair one end at most is in memory, and the ends of a tie are at one
 // place.
 
-ghost use Rattle.std.specs.Prelude.{◌≡◌, ◌↔◌, IsTrue, length, count_by, nat_eq, ◌&&◌, if◌then◌else◌};
+ghost use Rattle.std.specs.Prelude.{◌≡◌, ◌↔◌, IsTrue, length, count_by, nat_eq, ◌&&◌};
+ghost use Rattle.std.specs.Prelude.{if◌then◌else◌};
 ghost use Rattle.net_form.specs.Admitted.{KeepsTie};
 ghost use Rattle.net_form.specs.Flow.{arrives, flow, AreRoutes, same_start};
 ghost use Rattle.net_form.specs.Formed.{IsFormed};

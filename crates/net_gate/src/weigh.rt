@@ -1,6 +1,7 @@
 // What routes cost.
 
-ghost use Rattle.std.specs.Prelude.{not, ◌&&◌, [], if◌then◌else◌, ◌≡◌, ◌≤◌, ◌<◌, ◌+◌, ◌*◌, length, sum_by, None, Some, IsTrue};
+ghost use Rattle.std.specs.Prelude.{not, ◌&&◌, [], if◌then◌else◌, ◌≡◌, ◌≤◌, ◌<◌, ◌+◌, ◌*◌, length};
+ghost use Rattle.std.specs.Prelude.{sum_by, None, Some, IsTrue};
 ghost use Rattle.net_cost.specs.Models.{Keeps, weights_of};
 ghost use Rattle.net_cost.specs.Weights.{deepest, most_weight};
 ghost use Rattle.net_form.specs.Admitted.{strand_at};

@@ -2,7 +2,9 @@
 
 ghost use Rattle.std.specs.Prelude.{◌≡◌};
 ghost use Rattle.ob_syntax.specs.Operators.{combined, negated, inverted};
-ghost use Rattle.ob_syntax.specs.Types.{worth as worth_of, worth_of_one, worth_of_both, constant_of as constant_of_worth, constant as constant_at, length_of, array_length as array_length_at};
+ghost use Rattle.ob_syntax.specs.Types.{worth as worth_of, worth_of_one, worth_of_both};
+ghost use Rattle.ob_syntax.specs.Types.{constant_of as constant_of_worth, constant as constant_at};
+ghost use Rattle.ob_syntax.specs.Types.{length_of, array_length as array_length_at};
 ghost use Rattle.ob_check.specs.Judging.{known_at, Answers};
 
 use crate::expression::expression;

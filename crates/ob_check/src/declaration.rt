@@ -1,7 +1,15 @@
 //! Declared constants, types, variables and parameters, in the order of the grammar.
 
 ghost use Rattle.std.specs.Prelude.{◌≡◌, [], Ok};
-ghost use Rattle.ob_syntax.specs.Declarations.{all_announced, constant_declaration as constant_declaration_at, all_constants, type_declaration as type_declaration_at, all_type_declarations, own_root as own_root_of, with_variables, variable_list as variable_list_at, all_variables, parameter_type as parameter_type_of, with_parameters, section as section_at, all_sections};
+ghost use Rattle.ob_syntax.specs.Declarations.{all_announced};
+ghost use Rattle.ob_syntax.specs.Declarations.{constant_declaration as constant_declaration_at};
+ghost use Rattle.ob_syntax.specs.Declarations.{all_constants};
+ghost use Rattle.ob_syntax.specs.Declarations.{type_declaration as type_declaration_at};
+ghost use Rattle.ob_syntax.specs.Declarations.{all_type_declarations, own_root as own_root_of};
+ghost use Rattle.ob_syntax.specs.Declarations.{with_variables, variable_list as variable_list_at};
+ghost use Rattle.ob_syntax.specs.Declarations.{all_variables, parameter_type as parameter_type_of};
+ghost use Rattle.ob_syntax.specs.Declarations.{with_parameters, section as section_at};
+ghost use Rattle.ob_syntax.specs.Declarations.{all_sections};
 ghost use Rattle.ob_check.specs.Judging.{known_at, Answers, Gives, GivesItems, Moves, Widens};
 
 use crate::constant::constant;

@@ -1,7 +1,18 @@
 //! Expressions and designators, in the order of the grammar.
 
 ghost use Rattle.std.specs.Prelude.{◌≡◌, ◌∷◌, [], slice_get};
-ghost use Rattle.ob_syntax.specs.Expressions.{expression as expression_of, simple_expression as simple_expression_of, whole_term, whole_factor, following_factor, following_term, comparison as comparison_of, one_selector, name_with_selectors, operator as operator_of, operand as operand_of, of_type as is_of_type, result_type as result_type_of, binary as binary_of, are_alike as alike, literal as literal_of, signed_term as signed_of, related as related_of, chained, selected as selected_of, designated as designated_of, field as field_of, the_field, element as element_of};
+ghost use Rattle.ob_syntax.specs.Expressions.{expression as expression_of};
+ghost use Rattle.ob_syntax.specs.Expressions.{simple_expression as simple_expression_of};
+ghost use Rattle.ob_syntax.specs.Expressions.{whole_term, whole_factor, following_factor};
+ghost use Rattle.ob_syntax.specs.Expressions.{following_term, comparison as comparison_of};
+ghost use Rattle.ob_syntax.specs.Expressions.{one_selector, name_with_selectors};
+ghost use Rattle.ob_syntax.specs.Expressions.{operator as operator_of, operand as operand_of};
+ghost use Rattle.ob_syntax.specs.Expressions.{of_type as is_of_type, result_type as result_type_of};
+ghost use Rattle.ob_syntax.specs.Expressions.{binary as binary_of, are_alike as alike};
+ghost use Rattle.ob_syntax.specs.Expressions.{literal as literal_of, signed_term as signed_of};
+ghost use Rattle.ob_syntax.specs.Expressions.{related as related_of, chained};
+ghost use Rattle.ob_syntax.specs.Expressions.{selected as selected_of, designated as designated_of};
+ghost use Rattle.ob_syntax.specs.Expressions.{field as field_of, the_field, element as element_of};
 ghost use Rattle.ob_check.specs.Judging.{known_at, Answers};
 
 use crate::place::Place;

@@ -1,7 +1,8 @@
 //! How much a statement part has in it: what the limit on nodes counts.
 
 ghost use Rattle.std.specs.Prelude.{◌≡◌, ◌+◌, ◌-◌, Ok, drop, take};
-ghost use Rattle.ob_syntax.specs.Declarations.{is_node as is_a_node, span_nodes as nodes_of_span, nodes_of as nodes_of_all};
+ghost use Rattle.ob_syntax.specs.Declarations.{is_node as is_a_node, span_nodes as nodes_of_span};
+ghost use Rattle.ob_syntax.specs.Declarations.{nodes_of as nodes_of_all};
 ghost use Rattle.ob_check.specs.Judging.{Answers};
 
 use crate::refusal::Refusal;

@@ -27,7 +27,8 @@ impl<'a> Model for FieldNames<'a> {
 }
 
 impl<'a> FieldNames<'a> {
-    ghost use Rattle.std.specs.Prelude.{[], ◌∷◌, ◌++◌, position, bytes_eq, not, if◌then◌else◌, IfOk};
+    ghost use Rattle.std.specs.Prelude.{[], ◌∷◌, ◌++◌, position, bytes_eq, not, if◌then◌else◌};
+    ghost use Rattle.std.specs.Prelude.{IfOk};
     ghost use Rattle.std.specs.List.{list_any};
 
     /// No fields.
@@ -75,12 +76,14 @@ pub struct Place<'a> {
 }
 
 impl<'a> Place<'a> {
-    ghost use Rattle.ob_syntax.specs.Names.{name_at, is_within_reach as reaches, meaning as meaning_of, used as used_at};
+    ghost use Rattle.ob_syntax.specs.Names.{name_at, is_within_reach as reaches};
+    ghost use Rattle.ob_syntax.specs.Names.{meaning as meaning_of, used as used_at};
     ghost use Rattle.ob_syntax.specs.Expressions.{field_number as field_number_of};
     ghost use Rattle.ob_syntax.specs.Types.{with_type};
     ghost use Rattle.ob_syntax.specs.Statements.{parameters as parameters_of};
     ghost use Rattle.ob_check.specs.Judging.{known_at, Answers, Gives, Moves};
-    ghost use Rattle.ob_syntax.specs.Declarations.{announced, shown, entered, left as left_for, last_scope, with_heading};
+    ghost use Rattle.ob_syntax.specs.Declarations.{announced, shown, entered, left as left_for};
+    ghost use Rattle.ob_syntax.specs.Declarations.{last_scope, with_heading};
 
     /// The text of the name at a token.
     pub fn name(&self, token: u32) -> &'a [u8]

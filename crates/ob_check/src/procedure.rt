@@ -1,7 +1,9 @@
 //! Declarations with the procedures in them, in the order of the grammar.
 
 ghost use Rattle.std.specs.Prelude.{◌≡◌, []};
-ghost use Rattle.ob_syntax.specs.Declarations.{drafted, heading as heading_at, closed as closed_at, declarations as declarations_of, procedure as procedure_of};
+ghost use Rattle.ob_syntax.specs.Declarations.{drafted, heading as heading_at, closed as closed_at};
+ghost use Rattle.ob_syntax.specs.Declarations.{declarations as declarations_of};
+ghost use Rattle.ob_syntax.specs.Declarations.{procedure as procedure_of};
 ghost use Rattle.ob_check.specs.Judging.{known_at, Gives, Widens, Declares, Drafts};
 
 use crate::declaration::{constants, sections, types, variables};

@@ -2,6 +2,7 @@
 
 ghost use Rattle.std.specs.Prelude.{◌≡◌};
 
+use pra_base::OutOfMemory;
 use std::alloc::{AllocError, AllocFailed};
 
 /// A rule that is broken at a token, or want of memory.
@@ -11,13 +12,23 @@ pub enum Refusal {
     OutOfMemory,
 }
 
+impl From<OutOfMemory> for Refusal {
+    ghost use Rattle.ob_check.specs.declared.refusal.Refusal.TheVariants.{OutOfMemory};
+
+    ghost from_gives = { λ _ e. e ≡ OutOfMemory };
+
+    fn from(_: OutOfMemory) -> Self {
+        Refusal::OutOfMemory
+    }
+}
+
 impl From<AllocError> for Refusal {
     ghost use Rattle.ob_check.specs.declared.refusal.Refusal.TheVariants.{OutOfMemory};
 
     ghost from_gives = { λ _ e. e ≡ OutOfMemory };
 
-    fn from(_error: AllocError) -> Refusal {
-        Refusal::OutOfMemory
+    fn from(error: AllocError) -> Self {
+        OutOfMemory::from(error).into()
     }
 }
 
@@ -26,7 +37,7 @@ impl<T: Drop> From<AllocFailed<T>> for Refusal {
 
     ghost from_gives = { λ _ e. e ≡ OutOfMemory };
 
-    fn from(_error: AllocFailed<T>) -> Refusal {
-        Refusal::OutOfMemory
+    fn from(failed: AllocFailed<T>) -> Self {
+        OutOfMemory::from(failed).into()
     }
 }

@@ -1,7 +1,8 @@
 //! The declarations of one scope, by their names.
 
 ghost use Rattle.std.specs.Prelude.{◌≡◌, [], OnOk, option_copied};
-ghost use Rattle.ob_syntax.specs.Names.{is_declared as is_declared_in, visible as visible_in, with_name};
+ghost use Rattle.ob_syntax.specs.Names.{is_declared as is_declared_in, visible as visible_in};
+ghost use Rattle.ob_syntax.specs.Names.{with_name};
 
 use indexmap::IndexMap;
 use ob_syntax::Meaning;

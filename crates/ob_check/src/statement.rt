@@ -2,7 +2,17 @@
 
 ghost use Rattle.std.specs.Prelude.{◌≡◌, [], map};
 ghost use Rattle.ob_syntax.specs.Expressions.{name_with_selectors};
-ghost use Rattle.ob_syntax.specs.Statements.{target as target_of, assigned as assigned_of, condition as condition_at, is_designator as is_designator_of, lent_variable as lent_variable_of, lent as lent_at, passed as passed_at, argument as argument_at, beyond as beyond_at, counted as counted_of, arguments as arguments_at, standard_call as standard_call_at, procedure_call as procedure_call_at, called as called_at, each, statement as statement_of, arm as arm_of};
+ghost use Rattle.ob_syntax.specs.Statements.{target as target_of, assigned as assigned_of};
+ghost use Rattle.ob_syntax.specs.Statements.{condition as condition_at};
+ghost use Rattle.ob_syntax.specs.Statements.{is_designator as is_designator_of};
+ghost use Rattle.ob_syntax.specs.Statements.{lent_variable as lent_variable_of, lent as lent_at};
+ghost use Rattle.ob_syntax.specs.Statements.{passed as passed_at, argument as argument_at};
+ghost use Rattle.ob_syntax.specs.Statements.{beyond as beyond_at, counted as counted_of};
+ghost use Rattle.ob_syntax.specs.Statements.{arguments as arguments_at};
+ghost use Rattle.ob_syntax.specs.Statements.{standard_call as standard_call_at};
+ghost use Rattle.ob_syntax.specs.Statements.{procedure_call as procedure_call_at};
+ghost use Rattle.ob_syntax.specs.Statements.{called as called_at, each, statement as statement_of};
+ghost use Rattle.ob_syntax.specs.Statements.{arm as arm_of};
 ghost use Rattle.ob_check.specs.Judging.{known_at, Answers};
 
 use crate::expression::{BOOLEAN, INTEGER, are_alike, expression, of_type, selected};

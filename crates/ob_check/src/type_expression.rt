@@ -1,7 +1,8 @@
 //! Type expressions.
 
 ghost use Rattle.std.specs.Prelude.{◌≡◌, Ok, map};
-ghost use Rattle.ob_syntax.specs.Types.{type_expression as type_expression_of, all_fields, fields_of, with_types};
+ghost use Rattle.ob_syntax.specs.Types.{type_expression as type_expression_of, all_fields};
+ghost use Rattle.ob_syntax.specs.Types.{fields_of, with_types};
 ghost use Rattle.ob_check.specs.Fields.{record_at};
 ghost use Rattle.ob_check.specs.Judging.{known_at, fields_at, Gives, Widens};
 

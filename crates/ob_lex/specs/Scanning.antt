@@ -1,10 +1,13 @@
 -- What the scanner answers, by the pieces and faults of a text.
 use Rattle.std.specs.Prelude.{◌≡◌, ℕ, List, Option, Some, None, Result, IsErrOf, ◌⊎◌}
 use Rattle.ob_syntax.specs.declared.token.Kind.{Kind}
-use Rattle.ob_syntax.specs.Tokens.{Piece, space, comment, token, IsPiece, piece_text, Comment, IsComment, comment_text, Fault, number_too_large, open_comment, bad_byte, BeginsFault, FirstFault}
+use Rattle.ob_syntax.specs.Tokens.{Piece, space, comment, token, IsPiece, piece_text, Comment}
+use Rattle.ob_syntax.specs.Tokens.{IsComment, comment_text, Fault, number_too_large, open_comment}
+use Rattle.ob_syntax.specs.Tokens.{bad_byte, BeginsFault, FirstFault}
 use Rattle.ob_syntax.specs.Source.{AreTooMany}
 use Rattle.ob_lex.specs.declared.scanner.LexFault.{LexFault}
-use Rattle.ob_lex.specs.declared.scanner.LexFault.TheVariants.{BadByte, OpenComment, NumberTooLarge, TokensOver, OutOfMemory}
+use Rattle.ob_lex.specs.declared.scanner.LexFault.TheVariants.{BadByte, OpenComment, NumberTooLarge}
+use Rattle.ob_lex.specs.declared.scanner.LexFault.TheVariants.{TokensOver, OutOfMemory}
 
 -- the kind of a token; a space and a comment have none
 abbrev pub kind_of : Piece → Option Kind

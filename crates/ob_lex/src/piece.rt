@@ -1,9 +1,12 @@
 // What stands in front of a text: a space, a comment, a token or a fault.
 
-ghost use Rattle.std.specs.Prelude.{◌≡◌, ℕ, ◌<◌, ◌≤◌, pos, IsTrue, IsFalse, ◌||◌, codes, Contains, take, MatchOption, MatchResult, length, slice_index};
+ghost use Rattle.std.specs.Prelude.{◌≡◌, ℕ, ◌<◌, ◌≤◌, pos, IsTrue, IsFalse, ◌||◌, codes, Contains};
+ghost use Rattle.std.specs.Prelude.{take, MatchOption, MatchResult, length, slice_index};
 ghost use Rattle.std.specs.List.{list_all, prefix_len};
 ghost use Rattle.std.specs.Char.{is_ascii_alphabetic, is_ascii_alphanumeric, is_ascii_digit};
-ghost use Rattle.ob_syntax.specs.Tokens.{NeverCloses, Begins, is_space, integer_value, greatest_integer, number_too_large, bad_byte, BeginsFault, fixed};
+ghost use Rattle.ob_syntax.specs.Tokens.{NeverCloses, Begins, is_space, integer_value};
+ghost use Rattle.ob_syntax.specs.Tokens.{greatest_integer, number_too_large, bad_byte, BeginsFault};
+ghost use Rattle.ob_syntax.specs.Tokens.{fixed};
 ghost use Rattle.ob_syntax.specs.declared.token.Kind.{Kind};
 ghost use Rattle.ob_lex.specs.Scanning.{BeginsPiece, ClosesBefore, TellsFault};
 

@@ -1,6 +1,7 @@
 // The token list of a source.
 
-ghost use Rattle.std.specs.Prelude.{◌≡◌, ℕ, ◌<◌, ◌≤◌, List, length, vec_len, IfOk, IfErr, IsOkUnless};
+ghost use Rattle.std.specs.Prelude.{◌≡◌, ℕ, ◌<◌, ◌≤◌, List, length, vec_len, IfOk, IfErr};
+ghost use Rattle.std.specs.Prelude.{IsOkUnless};
 ghost use Rattle.ob_syntax.specs.declared.token.Token.{Token};
 ghost use Rattle.ob_syntax.specs.Tokens.{Tokens, SlicesSource, Fault, FirstFault};
 ghost use Rattle.ob_syntax.specs.Source.{most_bytes, most_tokens};

@@ -20,12 +20,14 @@ ghost use Rattle.ob_mean.specs.Store.{Store, whole, part, within, read, assigned
 /// A greater budget keeps an ending, and where there is none it prolongs what is written and the
 /// words that are taken.
 pub fn greater_budget_keeps()
-    ensures { (program : Checked) (frames : List ℕ) (input : List ℤ) → Keeps (mean program frames input) }
+    ensures { (program : Checked) (frames : List ℕ) (input : List ℤ) →
+        Keeps (mean program frames input) }
 {}
 
 /// What was assigned to a location is read there, and every other location stays as it was.
 pub fn assignment_changes_one()
-    ensures there { (s : Store) (l : Location) (x start : Value) → read (assigned s l x) start l ≡ x }
+    ensures there { (s : Store) (l : Location) (x start : Value) →
+        read (assigned s l x) start l ≡ x }
     ensures others { (s : Store) (l m : Location) (x start : Value) → m ≢ l →
         read (assigned s l x) start m ≡ read s start m }
 {}
@@ -42,7 +44,8 @@ pub fn calls_begin_anew()
     ensures params { (s : Store) (depth k : ℕ) (args : List Argument) (x start : Value) →
         slice_get args k ≡ Some (Passed x) →
         read (entered depth args s) start (whole (Param depth k)) ≡ x }
-    ensures locals { (s : Store) (depth k : ℕ) (args : List Argument) (path : List ℕ) (start : Value) →
+    ensures locals { (s : Store) (depth k : ℕ) (args : List Argument) (path : List ℕ)
+        (start : Value) →
         read (entered depth args s) start (within (whole (Local depth k)) path) ≡ start }
     ensures others { (s : Store) (depth : ℕ) (args : List Argument) (l : Location) (start : Value) →
         is_at_depth depth l.object ≡ false →

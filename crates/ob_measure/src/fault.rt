@@ -3,7 +3,7 @@
 ghost use Rattle.std.specs.Prelude.{◌≡◌, true, false, nat_lt, MatchResult};
 ghost use Rattle.pra_base.specs.Limits.{limit_maximum};
 
-use pra_base::LimitKind;
+use pra_base::{LimitKind, OutOfMemory};
 use std::alloc::{AllocError, AllocFailed};
 use thiserror::Error;
 
@@ -17,13 +17,23 @@ pub enum MeasureFault {
     OutOfMemory,
 }
 
+impl From<OutOfMemory> for MeasureFault {
+    ghost use Rattle.ob_measure.specs.declared.fault.MeasureFault.TheVariants.{OutOfMemory};
+
+    ghost from_gives = { λ _ e. e ≡ OutOfMemory };
+
+    fn from(_: OutOfMemory) -> Self {
+        MeasureFault::OutOfMemory
+    }
+}
+
 impl From<AllocError> for MeasureFault {
     ghost use Rattle.ob_measure.specs.declared.fault.MeasureFault.TheVariants.{OutOfMemory};
 
     ghost from_gives = { λ _ e. e ≡ OutOfMemory };
 
-    fn from(_error: AllocError) -> MeasureFault {
-        MeasureFault::OutOfMemory
+    fn from(error: AllocError) -> Self {
+        OutOfMemory::from(error).into()
     }
 }
 
@@ -32,8 +42,8 @@ impl<T: Drop> From<AllocFailed<T>> for MeasureFault {
 
     ghost from_gives = { λ _ e. e ≡ OutOfMemory };
 
-    fn from(_error: AllocFailed<T>) -> MeasureFault {
-        MeasureFault::OutOfMemory
+    fn from(failed: AllocFailed<T>) -> Self {
+        OutOfMemory::from(failed).into()
     }
 }
 

@@ -1,7 +1,9 @@
 //! Which parameters and locals a procedure lends whole to VAR parameters.
 
-ghost use Rattle.std.specs.Prelude.{◌≡◌, ℕ, ◌<◌, ◌++◌, false, ◌||◌, length, map, nat_eq, slice_index_or, OnOk, IfOk};
-ghost use Rattle.ob_syntax.specs.WellFormed.{joined, lent_in as lent_in_statement, lent_by, lent_root};
+ghost use Rattle.std.specs.Prelude.{◌≡◌, ℕ, ◌<◌, ◌++◌, false, ◌||◌, length, map, nat_eq};
+ghost use Rattle.std.specs.Prelude.{slice_index_or, OnOk, IfOk};
+ghost use Rattle.ob_syntax.specs.WellFormed.{joined, lent_in as lent_in_statement, lent_by};
+ghost use Rattle.ob_syntax.specs.WellFormed.{lent_root};
 ghost use Rattle.ob_measure.specs.Lending.{AreLent};
 
 use ob_syntax::{Draft, RArg, RStmt, RVar, Root};

@@ -3,7 +3,8 @@
 ghost use Rattle.std.specs.Prelude.{◌≡◌, ◌<◌, ◌≤◌, [], ◌∷◌, length, map, All, IfOk};
 ghost use Rattle.pra_base.specs.declared.limit.LimitKind.TheVariants.{AggregateWords};
 ghost use Rattle.ob_syntax.specs.Source.{spelling};
-ghost use Rattle.ob_syntax.specs.WellFormed.{first_above, aggregate_words as aggregate_words_of, checked_proc as checked_proc_of};
+ghost use Rattle.ob_syntax.specs.WellFormed.{first_above, aggregate_words as aggregate_words_of};
+ghost use Rattle.ob_syntax.specs.WellFormed.{checked_proc as checked_proc_of};
 ghost use Rattle.ob_measure.specs.Measuring.{Tests, place_of};
 
 use crate::fault::{MeasureFault, within};

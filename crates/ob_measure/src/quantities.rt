@@ -1,8 +1,10 @@
 //! Quantities that are at most their maximum.
 
 ghost use Rattle.std.specs.Prelude.{◌≡◌, ◌-◌, [], ◌∷◌, length, map};
-ghost use Rattle.pra_base.specs.declared.limit.LimitKind.TheVariants.{Procedures, Parameters, Scalars, ModuleWords};
-ghost use Rattle.ob_syntax.specs.WellFormed.{first_above, or_then, scalars as scalars_of, data_words};
+ghost use Rattle.pra_base.specs.declared.limit.LimitKind.TheVariants.{Procedures, Parameters};
+ghost use Rattle.pra_base.specs.declared.limit.LimitKind.TheVariants.{Scalars, ModuleWords};
+ghost use Rattle.ob_syntax.specs.WellFormed.{first_above, or_then, scalars as scalars_of};
+ghost use Rattle.ob_syntax.specs.WellFormed.{data_words};
 ghost use Rattle.ob_measure.specs.Measuring.{Tests, Counts};
 
 use crate::fault::{MeasureFault, within};

@@ -1,7 +1,11 @@
 //! Where parameters, locals and the module's variables stand.
 
 ghost use Rattle.std.specs.Prelude.{◌≡◌, ◌<◌, ◌^◌, length, IfOk};
-ghost use Rattle.ob_syntax.specs.WellFormed.{is_scalar as is_scalar_type, is_addressed, is_aggregate as is_aggregate_type, lent_in_body, local_words as local_words_of, locals_from, marked_params, aggregate_words as aggregate_words_of, module_vars_from, data_words};
+ghost use Rattle.ob_syntax.specs.WellFormed.{is_scalar as is_scalar_type, is_addressed};
+ghost use Rattle.ob_syntax.specs.WellFormed.{is_aggregate as is_aggregate_type, lent_in_body};
+ghost use Rattle.ob_syntax.specs.WellFormed.{local_words as local_words_of, locals_from};
+ghost use Rattle.ob_syntax.specs.WellFormed.{marked_params, aggregate_words as aggregate_words_of};
+ghost use Rattle.ob_syntax.specs.WellFormed.{module_vars_from, data_words};
 ghost use Rattle.ob_syntax.specs.declared.checked.Root.TheVariants as root;
 ghost use Rattle.ob_measure.specs.Lending.{AreLent};
 ghost use Rattle.ob_measure.specs.Measuring.{Counts};

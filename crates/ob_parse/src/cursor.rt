@@ -1,8 +1,10 @@
 //! A place among the tokens.
 
-ghost use Rattle.std.specs.Prelude.{◌≡◌, ◌≢◌, ◌+◌, ◌^◌, ◌<◌, ◌≤◌, ℕ, length, Some, None, MatchResult, MatchBool};
+ghost use Rattle.std.specs.Prelude.{◌≡◌, ◌≢◌, ◌+◌, ◌^◌, ◌<◌, ◌≤◌, ℕ, length, Some, None};
+ghost use Rattle.std.specs.Prelude.{MatchResult, MatchBool};
 
 use ob_syntax::{Kind, Span, Token};
+use pra_base::OutOfMemory;
 use std::alloc::{AllocError, AllocFailed, Global};
 
 /// Why tokens have no tree.
@@ -21,13 +23,23 @@ pub enum ParseFault {
     OutOfMemory,
 }
 
+impl From<OutOfMemory> for ParseFault {
+    ghost use Rattle.ob_parse.specs.declared.cursor.ParseFault.TheVariants.{OutOfMemory};
+
+    ghost from_gives = { λ _ e. e ≡ OutOfMemory };
+
+    fn from(_: OutOfMemory) -> Self {
+        ParseFault::OutOfMemory
+    }
+}
+
 impl From<AllocError> for ParseFault {
     ghost use Rattle.ob_parse.specs.declared.cursor.ParseFault.TheVariants.{OutOfMemory};
 
     ghost from_gives = { λ _ e. e ≡ OutOfMemory };
 
-    fn from(_error: AllocError) -> ParseFault {
-        ParseFault::OutOfMemory
+    fn from(error: AllocError) -> Self {
+        OutOfMemory::from(error).into()
     }
 }
 
@@ -36,8 +48,8 @@ impl<T: Drop> From<AllocFailed<T>> for ParseFault {
 
     ghost from_gives = { λ _ e. e ≡ OutOfMemory };
 
-    fn from(_error: AllocFailed<T>) -> ParseFault {
-        ParseFault::OutOfMemory
+    fn from(failed: AllocFailed<T>) -> Self {
+        OutOfMemory::from(failed).into()
     }
 }
 
@@ -55,7 +67,10 @@ impl<'a> Parser<'a> {
     ghost use Rattle.ob_parse.specs.Reading.{left, place, IsNext};
     ghost use Rattle.ob_syntax.specs.Whole.{kinds};
     ghost use Rattle.ob_syntax.specs.ChosenRule.{first, by_first, behind_name};
-    ghost use Rattle.ob_syntax.specs.Grammar.{Selectors, next_selector, no_selectors, ArgumentList, arguments, no_arguments, Statement, statement, empty_statement, assignment, call, SectionList, sections, no_sections};
+    ghost use Rattle.ob_syntax.specs.Grammar.{Selectors, next_selector, no_selectors, ArgumentList};
+    ghost use Rattle.ob_syntax.specs.Grammar.{arguments, no_arguments, Statement, statement};
+    ghost use Rattle.ob_syntax.specs.Grammar.{empty_statement, assignment, call, SectionList};
+    ghost use Rattle.ob_syntax.specs.Grammar.{sections, no_sections};
     ghost use Rattle.ob_syntax.specs.Tree.{span_to};
     ghost use Rattle.ob_syntax.specs.declared.token.Kind.{Kind};
 

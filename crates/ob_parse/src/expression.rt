@@ -5,7 +5,8 @@
 ghost use Rattle.std.specs.Prelude.{◌≡◌, ◌≢◌, Some, None, MatchOption};
 ghost use Rattle.ob_syntax.specs.declared.token.Kind.{Kind};
 ghost use Rattle.ob_syntax.specs.Grammar as grammar;
-ghost use Rattle.ob_syntax.specs.Grammar.{MulOp, mul_kind, AddOp, add_kind, RelationOp, relation_kind};
+ghost use Rattle.ob_syntax.specs.Grammar.{MulOp, mul_kind, AddOp, add_kind, RelationOp};
+ghost use Rattle.ob_syntax.specs.Grammar.{relation_kind};
 ghost use Rattle.ob_syntax.specs.ChosenRule.{first};
 ghost use Rattle.ob_parse.specs.Reading.{left, Reads, IsRead, IsNext};
 

@@ -12,7 +12,8 @@
 #![tactic(auto)]
 
 ghost use Rattle.std.specs.Prelude.{◌≡◌, ◌≢◌, ◌<◌, ◌^◌, ℕ, length, IfOk, IfErr};
-ghost use Rattle.ob_syntax.specs.Whole.{kinds, most_nesting, IsModule, IsTreeOf, StopsAt, DeepensAt};
+ghost use Rattle.ob_syntax.specs.Whole.{kinds, most_nesting, IsModule, IsTreeOf, StopsAt};
+ghost use Rattle.ob_syntax.specs.Whole.{DeepensAt};
 
 mod cursor;
 mod declaration;

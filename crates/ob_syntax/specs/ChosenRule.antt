@@ -1,8 +1,43 @@
 -- Which production the next tokens choose.
 use Rattle.std.specs.Prelude.{◌≡◌, List, [], ◌∷◌, Option, Some, None}
 use Rattle.ob_syntax.specs.declared.token.Kind.{Kind}
-use Rattle.ob_syntax.specs.declared.token.Kind.TheVariants.{Ident, Number, KwArray, KwBegin, KwConst, KwDiv, KwElse, KwElsif, KwIf, KwMod, KwOr, KwProcedure, KwRecord, KwRepeat, KwType, KwVar, KwWhile, Period, Comma, Semicolon, Becomes, LeftParen, LeftBracket, Tilde, Times, Amp, Plus, Minus, Equal, Unequal, Less, LessEqual, Greater, GreaterEqual}
-use Rattle.ob_syntax.specs.Grammar.{Nonterminal, Selectors, Selector, Factor, Factors, Term, Terms, Sign, SimpleExpression, Comparison, Expression, ArgumentList, Arguments, ActualParameters, Arm, Elsifs, Arms, Else, Action, Statement, Statements, StatementSequence, Idents, IdentList, NameList, FieldList, FieldLists, FieldSequence, TypeExpression, ByVar, Section, Sections, SectionList, FormalParameters, Procedure, Procedures, Constant, ConstantList, Constants, TypeDeclaration, TypeList, Types, VariableList, Variables, Declarations, Body, Module, times, quotient, remainder, both, plus, minus, either, equal, unequal, less, less_equal, greater, greater_equal, Symbol, Rule, no_selectors, next_selector, field, index, name, number, parenthesis, negation, no_factors, next_factor, term, no_terms, next_term, no_sign, plus_sign, minus_sign, simple_expression, no_comparison, comparison, expression, no_arguments, arguments, last_argument, next_argument, no_parameters, parameters, arm, no_elsif, next_elsif, arms, no_else, otherwise, assignment, call, if_statement, while_statement, repeat_statement, empty_statement, statement, last_statement, next_statement, statement_sequence, last_ident, next_ident, ident_list, name_list, empty_field_list, field_list, last_field_list, next_field_list, field_sequence, type_name, array, record_type, by_value, by_var, section, last_section, next_section, no_sections, sections, no_formals, formals, procedure, no_procedures, next_procedure, constant, last_constant, next_constant, no_constants, constants, type_declaration, last_type, next_type, no_types, types, last_variables, next_variables, no_variables, variables, declarations, no_body, body, a_module, right}
+use Rattle.ob_syntax.specs.declared.token.Kind.TheVariants.{Ident, Number, KwArray, KwBegin}
+use Rattle.ob_syntax.specs.declared.token.Kind.TheVariants.{KwConst, KwDiv, KwElse, KwElsif, KwIf}
+use Rattle.ob_syntax.specs.declared.token.Kind.TheVariants.{KwMod, KwOr, KwProcedure, KwRecord}
+use Rattle.ob_syntax.specs.declared.token.Kind.TheVariants.{KwRepeat, KwType, KwVar, KwWhile}
+use Rattle.ob_syntax.specs.declared.token.Kind.TheVariants.{Period, Comma, Semicolon, Becomes}
+use Rattle.ob_syntax.specs.declared.token.Kind.TheVariants.{LeftParen, LeftBracket, Tilde, Times}
+use Rattle.ob_syntax.specs.declared.token.Kind.TheVariants.{Amp, Plus, Minus, Equal, Unequal, Less}
+use Rattle.ob_syntax.specs.declared.token.Kind.TheVariants.{LessEqual, Greater, GreaterEqual}
+use Rattle.ob_syntax.specs.Grammar.{Nonterminal, Selectors, Selector, Factor, Factors, Term, Terms}
+use Rattle.ob_syntax.specs.Grammar.{Sign, SimpleExpression, Comparison, Expression, ArgumentList}
+use Rattle.ob_syntax.specs.Grammar.{Arguments, ActualParameters, Arm, Elsifs, Arms, Else, Action}
+use Rattle.ob_syntax.specs.Grammar.{Statement, Statements, StatementSequence, Idents, IdentList}
+use Rattle.ob_syntax.specs.Grammar.{NameList, FieldList, FieldLists, FieldSequence, TypeExpression}
+use Rattle.ob_syntax.specs.Grammar.{ByVar, Section, Sections, SectionList, FormalParameters}
+use Rattle.ob_syntax.specs.Grammar.{Procedure, Procedures, Constant, ConstantList, Constants}
+use Rattle.ob_syntax.specs.Grammar.{TypeDeclaration, TypeList, Types, VariableList, Variables}
+use Rattle.ob_syntax.specs.Grammar.{Declarations, Body, Module, times, quotient, remainder, both}
+use Rattle.ob_syntax.specs.Grammar.{plus, minus, either, equal, unequal, less, less_equal, greater}
+use Rattle.ob_syntax.specs.Grammar.{greater_equal, Symbol, Rule, no_selectors, next_selector, field}
+use Rattle.ob_syntax.specs.Grammar.{index, name, number, parenthesis, negation, no_factors}
+use Rattle.ob_syntax.specs.Grammar.{next_factor, term, no_terms, next_term, no_sign, plus_sign}
+use Rattle.ob_syntax.specs.Grammar.{minus_sign, simple_expression, no_comparison, comparison}
+use Rattle.ob_syntax.specs.Grammar.{expression, no_arguments, arguments, last_argument}
+use Rattle.ob_syntax.specs.Grammar.{next_argument, no_parameters, parameters, arm, no_elsif}
+use Rattle.ob_syntax.specs.Grammar.{next_elsif, arms, no_else, otherwise, assignment, call}
+use Rattle.ob_syntax.specs.Grammar.{if_statement, while_statement, repeat_statement}
+use Rattle.ob_syntax.specs.Grammar.{empty_statement, statement, last_statement, next_statement}
+use Rattle.ob_syntax.specs.Grammar.{statement_sequence, last_ident, next_ident, ident_list}
+use Rattle.ob_syntax.specs.Grammar.{name_list, empty_field_list, field_list, last_field_list}
+use Rattle.ob_syntax.specs.Grammar.{next_field_list, field_sequence, type_name, array, record_type}
+use Rattle.ob_syntax.specs.Grammar.{by_value, by_var, section, last_section, next_section}
+use Rattle.ob_syntax.specs.Grammar.{no_sections, sections, no_formals, formals, procedure}
+use Rattle.ob_syntax.specs.Grammar.{no_procedures, next_procedure, constant, last_constant}
+use Rattle.ob_syntax.specs.Grammar.{next_constant, no_constants, constants, type_declaration}
+use Rattle.ob_syntax.specs.Grammar.{last_type, next_type, no_types, types, last_variables}
+use Rattle.ob_syntax.specs.Grammar.{next_variables, no_variables, variables, declarations, no_body}
+use Rattle.ob_syntax.specs.Grammar.{body, a_module, right}
 use Rattle.ob_syntax.specs.Forms.{Form, Parts, made, done, taken, part, spells}
 
 abbrev pub first : List Kind → Option Kind

@@ -1,5 +1,7 @@
 -- The rules of declarations and of the module: which scopes they make, and what they are read as.
-use Rattle.std.specs.Prelude.{ℕ, ◌+◌, ◌-◌, Bool, true, false, ◌||◌, List, [], ◌∷◌, ◌++◌, length, take, drop, map, count_by, Some, None, Ok, Err, bytes_eq, nat_eq, if◌then◌else◌}
+use Rattle.std.specs.Prelude.{ℕ, ◌+◌, ◌-◌, Bool, true, false, ◌||◌, List, [], ◌∷◌, ◌++◌, length}
+use Rattle.std.specs.Prelude.{take, drop, map, count_by, Some, None, Ok, Err, bytes_eq, nat_eq}
+use Rattle.std.specs.Prelude.{if◌then◌else◌}
 use Rattle.ob_syntax.specs.declared.token.Kind.{Kind}
 use Rattle.ob_syntax.specs.declared.token.Kind.TheVariants as kind
 use Rattle.ob_syntax.specs.declared.token.Token.{Token}
@@ -15,7 +17,8 @@ use Rattle.ob_syntax.specs.declared.tree.TypeDecl.{TypeDecl}
 use Rattle.ob_syntax.specs.declared.tree.TypeExpr.{out-TypeExpr}
 use Rattle.ob_syntax.specs.declared.checked.Draft.{Draft}
 use Rattle.ob_syntax.specs.declared.checked.Meaning.{Meaning}
-use Rattle.ob_syntax.specs.declared.checked.Meaning.TheVariants.{Constant, TypeName, Variable, Procedure}
+use Rattle.ob_syntax.specs.declared.checked.Meaning.TheVariants.{Constant, TypeName, Variable}
+use Rattle.ob_syntax.specs.declared.checked.Meaning.TheVariants.{Procedure}
 use Rattle.ob_syntax.specs.declared.checked.Param.{Param}
 use Rattle.ob_syntax.specs.declared.checked.RStmt.{RStmt}
 use Rattle.ob_syntax.specs.declared.checked.Root.{Root}

@@ -1,7 +1,8 @@
 -- The rules of expressions: what an expression of the source is read as at a place, with its type,
 -- or the first rule that is broken in it. A rule is told at the last token of the phrase that
 -- breaks it.
-use Rattle.std.specs.Prelude.{ℕ, Bool, ◌&&◌, ◌||◌, List, [], ◌∷◌, ◌++◌, Option, Some, None, Ok, Err, position, slice_get, slice_index, bytes_eq, nat_eq, if◌then◌else◌}
+use Rattle.std.specs.Prelude.{ℕ, Bool, ◌&&◌, ◌||◌, List, [], ◌∷◌, ◌++◌, Option, Some, None, Ok, Err}
+use Rattle.std.specs.Prelude.{position, slice_get, slice_index, bytes_eq, nat_eq, if◌then◌else◌}
 use Rattle.ob_syntax.specs.declared.token.Kind.{Kind}
 use Rattle.ob_syntax.specs.declared.token.Kind.TheVariants as kind
 use Rattle.ob_syntax.specs.declared.tree.Designator.{Designator, Designator-F, fold-Designator}
@@ -296,53 +297,53 @@ term t = record {
 abbrev pub expression : Expr → Phrase
 expression =
     fold-Expr FactorResult SelectorResult Selected Phrase Phrase Next Next Next
-    Selection Phrase Phrase factor_form selector_form designator expr factor next_factor next_term relation selector
-    simple_expr term
+    Selection Phrase Phrase factor_form selector_form designator expr factor next_factor next_term
+    relation selector simple_expr term
 
 abbrev pub simple_expression : SimpleExpr → Phrase
 simple_expression =
     fold-SimpleExpr FactorResult SelectorResult Selected Phrase Phrase Next Next Next
-    Selection Phrase Phrase factor_form selector_form designator expr factor next_factor next_term relation selector
-    simple_expr term
+    Selection Phrase Phrase factor_form selector_form designator expr factor next_factor next_term
+    relation selector simple_expr term
 
 abbrev pub whole_term : Term → Phrase
 whole_term =
     fold-Term FactorResult SelectorResult Selected Phrase Phrase Next Next Next
-    Selection Phrase Phrase factor_form selector_form designator expr factor next_factor next_term relation selector
-    simple_expr term
+    Selection Phrase Phrase factor_form selector_form designator expr factor next_factor next_term
+    relation selector simple_expr term
 
 abbrev pub whole_factor : Factor → Phrase
 whole_factor =
     fold-Factor FactorResult SelectorResult Selected Phrase Phrase Next Next Next
-    Selection Phrase Phrase factor_form selector_form designator expr factor next_factor next_term relation selector
-    simple_expr term
+    Selection Phrase Phrase factor_form selector_form designator expr factor next_factor next_term
+    relation selector simple_expr term
 
 abbrev pub following_factor : NextFactor → Next
 following_factor =
     fold-NextFactor FactorResult SelectorResult Selected Phrase Phrase Next Next Next
-    Selection Phrase Phrase factor_form selector_form designator expr factor next_factor next_term relation selector
-    simple_expr term
+    Selection Phrase Phrase factor_form selector_form designator expr factor next_factor next_term
+    relation selector simple_expr term
 
 abbrev pub following_term : NextTerm → Next
 following_term =
     fold-NextTerm FactorResult SelectorResult Selected Phrase Phrase Next Next Next
-    Selection Phrase Phrase factor_form selector_form designator expr factor next_factor next_term relation selector
-    simple_expr term
+    Selection Phrase Phrase factor_form selector_form designator expr factor next_factor next_term
+    relation selector simple_expr term
 
 abbrev pub comparison : Relation → Next
 comparison =
     fold-Relation FactorResult SelectorResult Selected Phrase Phrase Next Next Next
-    Selection Phrase Phrase factor_form selector_form designator expr factor next_factor next_term relation selector
-    simple_expr term
+    Selection Phrase Phrase factor_form selector_form designator expr factor next_factor next_term
+    relation selector simple_expr term
 
 abbrev pub one_selector : Selector → Selection
 one_selector =
     fold-Selector FactorResult SelectorResult Selected Phrase Phrase Next Next Next
-    Selection Phrase Phrase factor_form selector_form designator expr factor next_factor next_term relation selector
-    simple_expr term
+    Selection Phrase Phrase factor_form selector_form designator expr factor next_factor next_term
+    relation selector simple_expr term
 
 abbrev pub name_with_selectors : Designator → Selected
 name_with_selectors =
     fold-Designator FactorResult SelectorResult Selected Phrase Phrase Next Next Next
-    Selection Phrase Phrase factor_form selector_form designator expr factor next_factor next_term relation selector
-    simple_expr term
+    Selection Phrase Phrase factor_form selector_form designator expr factor next_factor next_term
+    relation selector simple_expr term

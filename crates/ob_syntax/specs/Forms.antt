@@ -2,7 +2,8 @@
 -- nest.
 use Rattle.std.specs.Prelude.{ℕ, suc, ◌+◌, max, List, [], ◌∷◌}
 use Rattle.ob_syntax.specs.declared.token.Kind.{Kind}
-use Rattle.ob_syntax.specs.Grammar.{Nonterminal, Nesting, level, deeper, inner, Symbol, token, phrase, Rule, right}
+use Rattle.ob_syntax.specs.Grammar.{Nonterminal, Nesting, level, deeper, inner, Symbol, token}
+use Rattle.ob_syntax.specs.Grammar.{phrase, Rule, right}
 
 -- A form of a nonterminal is one of its productions with a form for each symbol on its right.
 mutual

@@ -5,10 +5,12 @@
 -- and in the scopes inside. A scope is the list of its declarations, in the order of the text. A
 -- name that is declared but not visible yet hides no outer one (Wirth, The Programming Language
 -- Oberon, section 4).
-use Rattle.std.specs.Prelude.{ℕ, Bool, true, false, ◌||◌, List, [], ◌∷◌, Option, Some, None, Result, Ok, Err, codes, bytes_eq, nat_eq, if◌then◌else◌}
+use Rattle.std.specs.Prelude.{ℕ, Bool, true, false, ◌||◌, List, [], ◌∷◌, Option, Some, None, Result}
+use Rattle.std.specs.Prelude.{Ok, Err, codes, bytes_eq, nat_eq, if◌then◌else◌}
 use Rattle.ob_syntax.specs.declared.token.Token.{Token}
 use Rattle.ob_syntax.specs.declared.checked.Meaning.{Meaning}
-use Rattle.ob_syntax.specs.declared.checked.Meaning.TheVariants.{Constant, TypeName, Variable, Standard as StandardProcedure}
+use Rattle.ob_syntax.specs.declared.checked.Meaning.TheVariants.{Constant, TypeName, Variable}
+use Rattle.ob_syntax.specs.declared.checked.Meaning.TheVariants.{Standard as StandardProcedure}
 use Rattle.ob_syntax.specs.declared.checked.Param.{Param}
 use Rattle.ob_syntax.specs.declared.checked.Root.{Root}
 use Rattle.ob_syntax.specs.declared.checked.Root.TheVariants as root

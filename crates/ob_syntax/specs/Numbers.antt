@@ -1,6 +1,7 @@
 -- The numbers of tokens in a tree: the spans of its phrases, each with that of the phrase around
 -- it, and the tokens of its names.
-use Rattle.std.specs.Prelude.{◌≡◌, ℕ, ◌+◌, ◌≤◌, List, [], ◌∷◌, ◌++◌, length, map, slice_get, Option, Some, None}
+use Rattle.std.specs.Prelude.{◌≡◌, ℕ, ◌+◌, ◌≤◌, List, [], ◌∷◌, ◌++◌, length, map, slice_get, Option}
+use Rattle.std.specs.Prelude.{Some, None}
 use Rattle.std.specs.List.{AllByRecursion as Each}
 use Rattle.ob_syntax.specs.declared.token.Kind.{Kind}
 use Rattle.ob_syntax.specs.declared.token.Kind.TheVariants.{Ident}
@@ -19,7 +20,8 @@ use Rattle.ob_syntax.specs.declared.tree.Proc.{Proc, Proc-F, fold-Proc}
 use Rattle.ob_syntax.specs.declared.tree.Relation.{Relation, Relation-F, fold-Relation}
 use Rattle.ob_syntax.specs.declared.tree.Section.{Section}
 use Rattle.ob_syntax.specs.declared.tree.Selector.{Selector, Selector-F, fold-Selector}
-use Rattle.ob_syntax.specs.declared.tree.SelectorForm.{SelectorForm, SelectorForm-F, fold-SelectorForm}
+use Rattle.ob_syntax.specs.declared.tree.SelectorForm.{SelectorForm, SelectorForm-F}
+use Rattle.ob_syntax.specs.declared.tree.SelectorForm.{fold-SelectorForm}
 use Rattle.ob_syntax.specs.declared.tree.SimpleExpr.{SimpleExpr, SimpleExpr-F, fold-SimpleExpr}
 use Rattle.ob_syntax.specs.declared.tree.Span.{Span}
 use Rattle.ob_syntax.specs.declared.tree.Stmt.{Stmt, Stmt-F, fold-Stmt}

@@ -1,6 +1,7 @@
 -- What operators and signs give on values, or the trap (Wirth, Compiler Construction, chapter 7,
 -- and The Programming Language Oberon, section 8.2). Numbers have 32 bits.
-use Rattle.std.specs.Prelude.{ℤ, pos, ◌+ℤ◌, ◌-ℤ◌, ◌*ℤ◌, neg_ℤ, Bool, true, false, not, int_lt, int_le, if◌then◌else◌, Result, Ok, Err}
+use Rattle.std.specs.Prelude.{ℤ, pos, ◌+ℤ◌, ◌-ℤ◌, ◌*ℤ◌, neg_ℤ, Bool, true, false, not, int_lt}
+use Rattle.std.specs.Prelude.{int_le, if◌then◌else◌, Result, Ok, Err}
 use Rattle.std.specs.Ordering.{int_eq}
 use Rattle.std.specs.Int.{w32, int_wrap}
 use Rattle.pra_base.specs.Words.{floored_quotient, floored_remainder}
@@ -9,7 +10,9 @@ use Rattle.pra_base.specs.declared.event.TrapKind.TheVariants.{Divide}
 use Rattle.ob_syntax.specs.declared.checked.Value.{Value}
 use Rattle.ob_syntax.specs.declared.checked.Value.TheVariants.{Number, Truth}
 use Rattle.ob_syntax.specs.declared.checked.ROp.{ROp}
-use Rattle.ob_syntax.specs.declared.checked.ROp.TheVariants.{Mul, Div, Mod, Both, Add, Sub, Either, Equal, Unequal, Less, LessEqual, Greater, GreaterEqual}
+use Rattle.ob_syntax.specs.declared.checked.ROp.TheVariants.{Mul, Div, Mod, Both, Add, Sub, Either}
+use Rattle.ob_syntax.specs.declared.checked.ROp.TheVariants.{Equal, Unequal, Less, LessEqual}
+use Rattle.ob_syntax.specs.declared.checked.ROp.TheVariants.{Greater, GreaterEqual}
 use Rattle.pra_list.specs.Results.{◌>>=◌}
 
 -- a value, or a trap in its place

@@ -1,5 +1,6 @@
 -- A source with its tokens and its tree, and what may be wrong with it.
-use Rattle.std.specs.Prelude.{◌≡◌, ℕ, ◌-◌, ◌<◌, ◌≤◌, List, [], ◌∷◌, length, take, drop, slice_get, Option, Some, None, codes}
+use Rattle.std.specs.Prelude.{◌≡◌, ℕ, ◌-◌, ◌<◌, ◌≤◌, List, [], ◌∷◌, length, take, drop, slice_get}
+use Rattle.std.specs.Prelude.{Option, Some, None, codes}
 use Rattle.pra_base.specs.declared.limit.LimitKind.TheVariants as limit
 use Rattle.pra_base.specs.Limits.{limit_maximum}
 use Rattle.ob_syntax.specs.declared.token.Kind.{Kind}

@@ -1,5 +1,6 @@
 -- The rules of statements: what a statement of the source is read as at a place.
-use Rattle.std.specs.Prelude.{ℕ, Bool, true, false, List, [], ◌∷◌, ◌++◌, length, Option, Some, None, Ok, Err, slice_get, nat_eq, if◌then◌else◌}
+use Rattle.std.specs.Prelude.{ℕ, Bool, true, false, List, [], ◌∷◌, ◌++◌, length, Option, Some, None}
+use Rattle.std.specs.Prelude.{Ok, Err, slice_get, nat_eq, if◌then◌else◌}
 use Rattle.ob_syntax.specs.declared.tree.Arm.{Arm, Arm-F, fold-Arm}
 use Rattle.ob_syntax.specs.declared.tree.Expr.{Expr, out-Expr}
 use Rattle.ob_syntax.specs.declared.tree.Factor.{out-Factor}
@@ -25,7 +26,8 @@ use Rattle.ob_syntax.specs.declared.checked.RStmt.{RStmt}
 use Rattle.ob_syntax.specs.declared.checked.RStmt.TheVariants as s
 use Rattle.ob_syntax.specs.declared.checked.RVar.{RVar, out-RVar}
 use Rattle.ob_syntax.specs.declared.checked.Typed.{Typed}
-use Rattle.ob_syntax.specs.Expressions.{expression, name_with_selectors, selected, variable, of_type, are_alike, integer, boolean, Selected}
+use Rattle.ob_syntax.specs.Expressions.{expression, name_with_selectors, selected, variable}
+use Rattle.ob_syntax.specs.Expressions.{of_type, are_alike, integer, boolean, Selected}
 use Rattle.ob_syntax.specs.Names.{Judged, Place, used}
 use Rattle.pra_list.specs.Results.{◌>>=◌}
 

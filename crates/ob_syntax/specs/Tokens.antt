@@ -2,11 +2,22 @@
 -- Compiler Construction, chapter 6 and appendix A.1): ident = letter {letter | digit}, integer =
 -- digit {digit}, keywords and symbols, and comments, which nest. At each place the longest spelling
 -- is taken. A text is the list of its bytes.
-use Rattle.std.specs.Prelude.{◌≡◌, ℕ, ◌+◌, ◌-◌, ◌*◌, ◌≤◌, ◌<◌, pos, Bool, false, IsTrue, ◌&&◌, ◌||◌, ◌==◌, List, [], ◌∷◌, ◌++◌, length, fold, Contains, codes, All, AllPairs, slice_range}
+use Rattle.std.specs.Prelude.{◌≡◌, ℕ, ◌+◌, ◌-◌, ◌*◌, ◌≤◌, ◌<◌, pos, Bool, false, IsTrue, ◌&&◌, ◌||◌}
+use Rattle.std.specs.Prelude.{◌==◌, List, [], ◌∷◌, ◌++◌, length, fold, Contains, codes, All}
+use Rattle.std.specs.Prelude.{AllPairs, slice_range}
 use Rattle.std.specs.List.{list_all}
 use Rattle.std.specs.Char.{is_ascii_alphabetic, is_ascii_alphanumeric, is_ascii_digit}
 use Rattle.ob_syntax.specs.declared.token.Kind.{Kind}
-use Rattle.ob_syntax.specs.declared.token.Kind.TheVariants.{Ident, Number, KwArray, KwBegin, KwConst, KwDiv, KwDo, KwElse, KwElsif, KwEnd, KwIf, KwMod, KwModule, KwOf, KwOr, KwProcedure, KwRecord, KwRepeat, KwThen, KwType, KwUntil, KwVar, KwWhile, Period, Comma, Semicolon, Colon, Becomes, LeftParen, RightParen, LeftBracket, RightBracket, Tilde, Times, Amp, Plus, Minus, Equal, Unequal, Less, LessEqual, Greater, GreaterEqual}
+use Rattle.ob_syntax.specs.declared.token.Kind.TheVariants.{Ident, Number, KwArray, KwBegin}
+use Rattle.ob_syntax.specs.declared.token.Kind.TheVariants.{KwConst, KwDiv, KwDo, KwElse, KwElsif}
+use Rattle.ob_syntax.specs.declared.token.Kind.TheVariants.{KwEnd, KwIf, KwMod, KwModule, KwOf}
+use Rattle.ob_syntax.specs.declared.token.Kind.TheVariants.{KwOr, KwProcedure, KwRecord, KwRepeat}
+use Rattle.ob_syntax.specs.declared.token.Kind.TheVariants.{KwThen, KwType, KwUntil, KwVar, KwWhile}
+use Rattle.ob_syntax.specs.declared.token.Kind.TheVariants.{Period, Comma, Semicolon, Colon}
+use Rattle.ob_syntax.specs.declared.token.Kind.TheVariants.{Becomes, LeftParen, RightParen}
+use Rattle.ob_syntax.specs.declared.token.Kind.TheVariants.{LeftBracket, RightBracket, Tilde, Times}
+use Rattle.ob_syntax.specs.declared.token.Kind.TheVariants.{Amp, Plus, Minus, Equal, Unequal, Less}
+use Rattle.ob_syntax.specs.declared.token.Kind.TheVariants.{LessEqual, Greater, GreaterEqual}
 use Rattle.ob_syntax.specs.declared.token.Token.{Token}
 
 -- ident = letter {letter | digit}

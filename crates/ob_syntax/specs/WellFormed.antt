@@ -1,9 +1,13 @@
 -- Well-formed modules, the limits on them, and the checked module that each stands for.
-use Rattle.std.specs.Prelude.{◌≡◌, ℕ, ◌+◌, ◌-◌, Bool, false, not, ◌&&◌, ◌||◌, List, [], ◌∷◌, ◌++◌, length, map, sum, Option, Some, None, Ok, Err, nat_eq, nat_lt, if◌then◌else◌}
+use Rattle.std.specs.Prelude.{◌≡◌, ℕ, ◌+◌, ◌-◌, Bool, false, not, ◌&&◌, ◌||◌, List, [], ◌∷◌, ◌++◌}
+use Rattle.std.specs.Prelude.{length, map, sum, Option, Some, None, Ok, Err, nat_eq, nat_lt}
+use Rattle.std.specs.Prelude.{if◌then◌else◌}
 use Rattle.std.specs.List.{list_any}
 use Rattle.pra_base.specs.Limits.{limit_maximum}
 use Rattle.pra_base.specs.declared.limit.LimitKind.{LimitKind}
-use Rattle.pra_base.specs.declared.limit.LimitKind.TheVariants.{ArrayLength, TypeWords, Procedures, Parameters, Scalars, AggregateWords, ModuleWords, Nodes}
+use Rattle.pra_base.specs.declared.limit.LimitKind.TheVariants.{ArrayLength, TypeWords, Procedures}
+use Rattle.pra_base.specs.declared.limit.LimitKind.TheVariants.{Parameters, Scalars, AggregateWords}
+use Rattle.pra_base.specs.declared.limit.LimitKind.TheVariants.{ModuleWords, Nodes}
 use Rattle.ob_syntax.specs.declared.token.Token.{Token}
 use Rattle.ob_syntax.specs.declared.tree.Module.{Module}
 use Rattle.ob_syntax.specs.declared.checked.Checked.{Checked}

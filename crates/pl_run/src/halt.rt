@@ -19,8 +19,8 @@ impl From<AllocError> for Halt {
 
     ghost from_gives = { λ _ h. h ≡ halt.Memory };
 
-    fn from(_: AllocError) -> Self {
-        Halt::Memory
+    fn from(error: AllocError) -> Self {
+        OutOfMemory::from(error).into()
     }
 }
 
@@ -30,8 +30,8 @@ impl<T: Drop> From<AllocFailed<T>> for Halt {
 
     ghost from_gives = { λ _ h. h ≡ halt.Memory };
 
-    fn from(_: AllocFailed<T>) -> Self {
-        Halt::Memory
+    fn from(failed: AllocFailed<T>) -> Self {
+        OutOfMemory::from(failed).into()
     }
 }
 

@@ -1,7 +1,8 @@
 -- When placed code corresponds to selected code: what a placement has to give of each procedure, so
 -- that the machine of placed code does what that of selected code does. Nothing here speaks of
 -- runs.
-use Rattle.std.specs.Prelude.{◌≡◌, ◌≢◌, ℕ, suc, ◌<◌, ◌⊎◌, ℤ, Bool, false, nat_eq, List, [], ◌∷◌, ◌++◌}
+use Rattle.std.specs.Prelude.{◌≡◌, ◌≢◌, ℕ, suc, ◌<◌, ◌⊎◌, ℤ, Bool, false, nat_eq, List, [], ◌∷◌}
+use Rattle.std.specs.Prelude.{◌++◌}
 use Rattle.std.specs.Prelude.{length, map, drop, slice_get, Option, Some}
 use Rattle.std.specs.Int.{bit_at}
 use Rattle.pra_list.specs.Each.{Each}
@@ -113,10 +114,12 @@ pub record Stays (p : LProc) (i : VInstr) (before : Allocation) (v place : ℕ) 
 
 -- The operands are where the allocations before and after the instruction have them, and what else
 -- is present after it stays.
-pub record Fits (p : LProc) (i : VInstr) (places : List ℕ) (before after : Allocation) : Type 0 where
+pub record Fits (p : LProc) (i : VInstr) (places : List ℕ) (before after : Allocation) :
+    Type 0 where
   pub reads : AllRead before (read_by i) places
   pub writes : AllWritten p after (written_by i) (drop (length (read_by i)) places)
-  pub stays : (v q : ℕ) → after v ≡ Some q → Among v (written_by i) ⊎ Stays p i before v q
+  pub stays : (v q : ℕ) → after v ≡ Some q →
+      Among v (written_by i) ⊎ Stays p i before v q
 
 -- ---- a procedure
 

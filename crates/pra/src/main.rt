@@ -1,4 +1,5 @@
-//! The program `pra`: the command line over files, standard input, standard output and standard error.
+//! The program `pra`: the command line over files, standard input, standard output and standard
+//! error.
 #![tactic(auto)]
 
 use pra_base::OutOfMemory;
@@ -30,8 +31,8 @@ fn main(rt: HostRuntime) -> ExitCode {
     ))
 }
 
-// The words behind the program's name. Where one of them is no UTF-8 text they are all left out: the tool refuses that list
-// as it refuses every faulty command line.
+// The words behind the program's name. Where one of them is no UTF-8 text they are all left out:
+// the tool refuses that list as it refuses every faulty command line.
 fn words(rt: &HostRuntime) -> Result<Vec<String>, OutOfMemory> {
     let mut words = Vec::new(rt.alloc());
     match env::args(rt) {

@@ -1,7 +1,10 @@
 -- The limits on a source: each one's name, and how much there may be.
 use Rattle.std.specs.Prelude.{ℕ, List, codes}
 use Rattle.pra_base.specs.declared.limit.LimitKind.{LimitKind}
-use Rattle.pra_base.specs.declared.limit.LimitKind.TheVariants.{Source, Tokens, Depth, ArrayLength, TypeWords, Procedures, Parameters, Scalars, AggregateWords, ModuleWords, Nodes, Input}
+use Rattle.pra_base.specs.declared.limit.LimitKind.TheVariants.{Source, Tokens, Depth, ArrayLength}
+use Rattle.pra_base.specs.declared.limit.LimitKind.TheVariants.{TypeWords, Procedures, Parameters}
+use Rattle.pra_base.specs.declared.limit.LimitKind.TheVariants.{Scalars, AggregateWords}
+use Rattle.pra_base.specs.declared.limit.LimitKind.TheVariants.{ModuleWords, Nodes, Input}
 
 -- the name, as the bytes of a text
 abbrev pub limit_name : LimitKind → List ℕ

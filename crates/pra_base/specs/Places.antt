@@ -1,10 +1,12 @@
 -- The places where a value may stand, as numbers, and the readings of a number. All that is said of
 -- places goes through these.
-use Rattle.std.specs.Prelude.{ℕ, Bool, nat_eq, nat_lt, nat_le, ◌-◌, not, ◌&&◌, ◌||◌, ◌^◌, if◌then◌else◌, List, [], ◌∷◌, Option, find, sum_by, bit_and, bit_or}
+use Rattle.std.specs.Prelude.{ℕ, Bool, nat_eq, nat_lt, nat_le, ◌-◌, not, ◌&&◌, ◌||◌, ◌^◌}
+use Rattle.std.specs.Prelude.{if◌then◌else◌, List, [], ◌∷◌, Option, find, sum_by, bit_and, bit_or}
 use Rattle.std.specs.List.{range_with_len}
 use Rattle.std.specs.Int.{bit_at}
 use Rattle.pra_base.specs.declared.ids.Place.{Place}
-use Rattle.pra_base.specs.declared.ids.Place.TheVariants.{Eax, Ecx, Edx, Ebx, Esi, Edi, Mem, Const, EaxM, EcxM, EdxM, EbxM, EsiM, EdiM}
+use Rattle.pra_base.specs.declared.ids.Place.TheVariants.{Eax, Ecx, Edx, Ebx, Esi, Edi, Mem, Const}
+use Rattle.pra_base.specs.declared.ids.Place.TheVariants.{EaxM, EcxM, EdxM, EbxM, EsiM, EdiM}
 
 abbrev pub number : Place → ℕ
 number Eax = 0

@@ -1,7 +1,9 @@
 // Sets of places, and what a place is.
 
 ghost use Rattle.std.specs.Prelude.{◌≡◌, ◌<◌, IsTrue, Some, None};
-ghost use Rattle.pra_base.specs.Places.{number, has_register, is_both, register_of, is_mem, needs_slot, is_const, allows, meet, only, with_both, without, place_count, register_count, numbered};
+ghost use Rattle.pra_base.specs.Places.{number, has_register, is_both, register_of, is_mem};
+ghost use Rattle.pra_base.specs.Places.{needs_slot, is_const, allows, meet, only, with_both};
+ghost use Rattle.pra_base.specs.Places.{without, place_count, register_count, numbered};
 
 use crate::ids::Place;
 

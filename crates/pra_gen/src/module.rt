@@ -2,7 +2,9 @@
 
 ghost use Rattle.std.specs.Prelude.{◌≡◌, ◌≤◌, ◌<◌, ◌++◌, ◌^◌, IfOk, OnOk, string_bytes};
 ghost use Rattle.pra_gen.specs.Draws.{state_after};
-ghost use Rattle.pra_gen.specs.Module.{in_a_row, assignments, before_assignments, behind_assignments, procedure_text, procedures, call_line, module_text};
+ghost use Rattle.pra_gen.specs.Module.{in_a_row, assignments, before_assignments};
+ghost use Rattle.pra_gen.specs.Module.{behind_assignments, procedure_text, procedures, call_line};
+ghost use Rattle.pra_gen.specs.Module.{module_text};
 
 use crate::draws::Draws;
 use crate::statement::Statement;

@@ -1,6 +1,7 @@
 // The numbers in a program's input.
 
-ghost use Rattle.std.specs.Prelude.{◌≡◌, ℕ, ◌≤◌, ◌<◌, ◌^◌, ℤ, List, Ok, Err, length, position, IfOk, IfErr, IsOkUnless};
+ghost use Rattle.std.specs.Prelude.{◌≡◌, ℕ, ◌≤◌, ◌<◌, ◌^◌, ℤ, List, Ok, Err, length, position};
+ghost use Rattle.std.specs.Prelude.{IfOk, IfErr, IsOkUnless};
 ghost use Rattle.pra_report.specs.Input.{is_separator, numeral, word_of, input_words, IsCause};
 ghost use Rattle.pra_report.specs.Parts.{IsFirstPart};
 

@@ -1,7 +1,9 @@
 -- Which trees are those of small modules, and of which. A small module declares INTEGER variables
 -- only, and its statements are assignments of sums, `Write(sum)` and `WriteLn`; a sum adds and
 -- subtracts variables and numbers.
-use Rattle.std.specs.Prelude.{◌≡◌, ◌≢◌, ℕ, ◌&&◌, Bool, true, false, List, [], ◌∷◌, length, map, position, Contains, AllPairs, flat_map, codes, bytes_eq, Option, Some, None, option_map, is_none}
+use Rattle.std.specs.Prelude.{◌≡◌, ◌≢◌, ℕ, ◌&&◌, Bool, true, false, List, [], ◌∷◌, length, map}
+use Rattle.std.specs.Prelude.{position, Contains, AllPairs, flat_map, codes, bytes_eq, Option, Some}
+use Rattle.std.specs.Prelude.{None, option_map, is_none}
 use Rattle.std.specs.List.{AllByRecursion as Each}
 use Rattle.ob_syntax.specs.declared.token.Kind.{Kind}
 use Rattle.ob_syntax.specs.declared.token.Kind.TheVariants as kind

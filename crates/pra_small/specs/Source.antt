@@ -12,7 +12,8 @@ use Rattle.ob_read.specs.declared.fault.ReadFault.TheVariants as read
 use Rattle.ob_read.specs.Ladder.{Then, Stops, ToldAs}
 use Rattle.ob_read.specs.Source.{ReadText, IsRead, IsUnreadable}
 use Rattle.pra_small.specs.declared.fault.CompileFault.{CompileFault}
-use Rattle.pra_small.specs.declared.fault.CompileFault.TheVariants.{Source, Limit, Unbuilt, OutOfMemory}
+use Rattle.pra_small.specs.declared.fault.CompileFault.TheVariants.{Source, Limit, Unbuilt}
+use Rattle.pra_small.specs.declared.fault.CompileFault.TheVariants.{OutOfMemory}
 use Rattle.pra_small.specs.declared.small.SmallModule.{SmallModule}
 use Rattle.pra_small.specs.SmallTree.{IsSmallTree}
 use Rattle.pra_small.specs.Meaning.{mean}

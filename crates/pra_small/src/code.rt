@@ -7,7 +7,9 @@ ghost use Rattle.ia_code.specs.DecodeTable.{bytes_of, IsSound, IsOperand};
 ghost use Rattle.ia_step.specs.Run.{progress};
 ghost use Rattle.pra_small.specs.Small.{Fits, OperandFits, SumFits, StatementFits, size};
 ghost use Rattle.pra_small.specs.Meaning.{mean};
-ghost use Rattle.pra_small.specs.Code.{variable as variable_of, load as load_of, operation as operation_of, combine as combine_of, sum_code, statement_code, code_of};
+ghost use Rattle.pra_small.specs.Code.{variable as variable_of, load as load_of};
+ghost use Rattle.pra_small.specs.Code.{operation as operation_of, combine as combine_of, sum_code};
+ghost use Rattle.pra_small.specs.Code.{statement_code, code_of};
 ghost use Rattle.ia_code.specs.Listing.{bytes_of_all};
 
 use crate::small::{NextOperand, Operand, SmallModule, Statement, Sum, SumOp};

@@ -1,12 +1,21 @@
 // The small module of a tree.
 
-ghost use Rattle.std.specs.Prelude.{◌≡◌, ◌≢◌, ◌<◌, ◌≤◌, ◌^◌, ◌↔◌, ◌++◌, List, [], ◌∷◌, Some, None, length, map, option_copied, Contains, IsTrue, IfSome, IfOk, IfErr, MatchResult};
+ghost use Rattle.std.specs.Prelude.{◌≡◌, ◌≢◌, ◌<◌, ◌≤◌, ◌^◌, ◌↔◌, ◌++◌, List, [], ◌∷◌, Some, None};
+ghost use Rattle.std.specs.Prelude.{length, map, option_copied, Contains, IsTrue, IfSome, IfOk};
+ghost use Rattle.std.specs.Prelude.{IfErr, MatchResult};
 ghost use Rattle.std.specs.List.{AllByRecursion as Each};
 ghost use Rattle.ob_syntax.specs.Tokens.{SlicesSource};
 ghost use Rattle.ob_syntax.specs.Source.{Name, most_tokens, predeclared, spelling};
 ghost use Rattle.ob_syntax.specs.Whole.{kinds, most_nesting, IsTreeOf};
-ghost use Rattle.pra_small.specs.Small.{OperandFits, NextFits, SumFits, StatementFits, BodyFits, Fits, size};
-ghost use Rattle.pra_small.specs.SmallTree.{of_each, variable as variable_of, plain_name as plain_name_of, operand as operand_of, term_operand as term_operand_of, sum_op as sum_op_of, next_operand as next_operand_of, sum as sum_of, call as call_of, assignment as assignment_of, statement as statement_of, declared, AreIntegers, AreVariables, IsSmallTree};
+ghost use Rattle.pra_small.specs.Small.{OperandFits, NextFits, SumFits, StatementFits, BodyFits};
+ghost use Rattle.pra_small.specs.Small.{Fits, size};
+ghost use Rattle.pra_small.specs.SmallTree.{of_each, variable as variable_of};
+ghost use Rattle.pra_small.specs.SmallTree.{plain_name as plain_name_of, operand as operand_of};
+ghost use Rattle.pra_small.specs.SmallTree.{term_operand as term_operand_of, sum_op as sum_op_of};
+ghost use Rattle.pra_small.specs.SmallTree.{next_operand as next_operand_of, sum as sum_of};
+ghost use Rattle.pra_small.specs.SmallTree.{call as call_of, assignment as assignment_of};
+ghost use Rattle.pra_small.specs.SmallTree.{statement as statement_of, declared, AreIntegers};
+ghost use Rattle.pra_small.specs.SmallTree.{AreVariables, IsSmallTree};
 ghost use Rattle.pra_small.specs.Lowering.{text_of, Answers, Declares, AreOnlyIntegers};
 
 use crate::fault::CompileFault;

@@ -1,6 +1,7 @@
 // The variables of a small module, by their names.
 
-ghost use Rattle.std.specs.Prelude.{◌≡◌, ◌<◌, ◌++◌, [], ◌∷◌, length, slice_index_or, position, bytes_eq, Contains, MatchOption, MatchResult, MatchBool};
+ghost use Rattle.std.specs.Prelude.{◌≡◌, ◌<◌, ◌++◌, [], ◌∷◌, length, slice_index_or, position};
+ghost use Rattle.std.specs.Prelude.{bytes_eq, Contains, MatchOption, MatchResult, MatchBool};
 
 use indexmap::IndexSet;
 use std::alloc::{AllocFailed, Global};

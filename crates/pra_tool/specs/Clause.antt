@@ -10,7 +10,8 @@ use Rattle.pra_small.specs.declared.fault.CompileFault.{CompileFault}
 use Rattle.pra_small.specs.declared.fault.CompileFault.TheVariants as compile
 use Rattle.pra_small.specs.Source.{IsRefused}
 use Rattle.pra_tool.specs.declared.status.Status.{Status}
-use Rattle.pra_tool.specs.declared.status.Status.TheVariants.{BadSource, OverLimit, BadWords, NoMemory}
+use Rattle.pra_tool.specs.declared.status.Status.TheVariants.{BadSource, OverLimit, BadWords}
+use Rattle.pra_tool.specs.declared.status.Status.TheVariants.{NoMemory}
 use Rattle.pra_tool.specs.declared.words.WordsFault.{WordsFault}
 use Rattle.pra_tool.specs.Language.{Program, IsAccepted, meaning}
 use Rattle.pra_tool.specs.Status.{IsStatusOf}

@@ -3,7 +3,8 @@ use Rattle.std.specs.Prelude.{ℕ, ⊤}
 use Rattle.ia_step.specs.declared.out.Ending.{Ending}
 use Rattle.ia_step.specs.declared.out.Ending.TheVariants as ending
 use Rattle.pra_tool.specs.declared.status.Status.{Status}
-use Rattle.pra_tool.specs.declared.status.Status.TheVariants.{Ended, Trapped, Going, BadSource, OverLimit, Fault, BadWords, NoMemory}
+use Rattle.pra_tool.specs.declared.status.Status.TheVariants.{Ended, Trapped, Going, BadSource}
+use Rattle.pra_tool.specs.declared.status.Status.TheVariants.{OverLimit, Fault, BadWords, NoMemory}
 
 -- the number with which the program exits
 abbrev pub exit_code : Status → ℕ

@@ -19,7 +19,8 @@ use Rattle.ob_lex.specs.declared.scanner.LexFault.TheVariants as lex
 use Rattle.ob_read.specs.declared.fault.SourceFault.TheVariants.{Lex, Grammar, Rule}
 use Rattle.ob_read.specs.declared.fault.LimitFault.TheVariants.{Count, Depth}
 use Rattle.pra_small.specs.declared.fault.CompileFault.{CompileFault}
-use Rattle.pra_small.specs.declared.fault.CompileFault.TheVariants.{Source, Limit, Unbuilt, OutOfMemory}
+use Rattle.pra_small.specs.declared.fault.CompileFault.TheVariants.{Source, Limit, Unbuilt}
+use Rattle.pra_small.specs.declared.fault.CompileFault.TheVariants.{OutOfMemory}
 
 -- Write prints one blank and the decimal number, WriteLn one LF
 abbrev pub event_text : OutEvent → List ℕ

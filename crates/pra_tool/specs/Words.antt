@@ -1,5 +1,7 @@
 -- What the words of a command line ask for.
-use Rattle.std.specs.Prelude.{ℕ, List, [], ◌∷◌, length, map, if◌then◌else◌, nat_le, ◌&&◌, ◌==◌, not, Bool, true, false, None, Some, Result, Ok, Err, String, codes, string_bytes}
+use Rattle.std.specs.Prelude.{ℕ, List, [], ◌∷◌, length, map, if◌then◌else◌, nat_le, ◌&&◌, ◌==◌, not}
+use Rattle.std.specs.Prelude.{Bool, true, false, None, Some, Result, Ok, Err, String, codes}
+use Rattle.std.specs.Prelude.{string_bytes}
 use Rattle.std.specs.declared.option.Option.{Option}
 use Rattle.std.specs.declared.alloc.Global.{Global}
 use Rattle.std.specs.Str.{bytes_eq, all_ascii_digits}

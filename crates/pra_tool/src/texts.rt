@@ -2,7 +2,9 @@
 
 ghost use Rattle.std.specs.Prelude.{◌≡◌, ◌++◌, codes, IfOk, OnOk, string_bytes};
 ghost use Rattle.std.specs.Fmt.{decimal};
-ghost use Rattle.pra_tool.specs.Texts.{event_text, output_text, trap_name, ending_words, ending_line, lexical_line, place_text, count_line, fault_line, words_lines};
+ghost use Rattle.pra_tool.specs.Texts.{event_text, output_text, trap_name, ending_words};
+ghost use Rattle.pra_tool.specs.Texts.{ending_line, lexical_line, place_text, count_line};
+ghost use Rattle.pra_tool.specs.Texts.{fault_line, words_lines};
 
 use crate::words::{Word, WordsFault};
 use ia_step::{Ending, RunOut};
@@ -13,7 +15,8 @@ use pra_small::CompileFault;
 use std::alloc::{AllocError, Global};
 use std::fmt::Write;
 
-/// The text of a program's output: for each number one blank and its decimal digits, for each end of a line one LF.
+/// The text of a program's output: for each number one blank and its decimal digits, for each end
+/// of a line one LF.
 ///
 /// # Errors
 ///

@@ -19,27 +19,34 @@ use pra_io::{FileFault, Folder, Sink, Source};
 use pra_small::CompileFault;
 use std::alloc::Global;
 
-/// All that the program does: it reads the words, reads FILE, compiles it, runs the image, and writes the
-/// image file, the output and the ending line, in this order.
+/// All that the program does: it reads the words, reads FILE, compiles it, runs the image, and
+/// writes the image file, the output and the ending line, in this order.
 ///
-/// `words` are those behind the program's name: `run FILE` or `run FILE --steps M`. The answer is the exit
-/// status:
+/// `words` are those behind the program's name: `run FILE` or `run FILE --steps M`. The answer is
+/// the exit status:
 ///
 /// | Status | When | Line in notes |
 /// |---|---|---|
 /// | 0 | the image ended within the steps | the ending line |
 /// | 1 | the image trapped | the ending line |
 /// | 2 | the image is still going after the steps | the ending line |
-/// | 3 | FILE is no module | `fault bad-byte at A`, `fault open-comment at A`, `fault number-too-large at A`, `fault grammar token T at A` |
-/// | 3 | FILE breaks rule K of the language, or is a module that is not compiled | `fault rule K token T at A`, `fault unbuilt` |
-/// | 4 | FILE goes beyond a limit | `limit source count 1048577 maximum 1048576`, `limit depth token T at A`, `limit NAME count C maximum L` |
-/// | 5 | reading FILE, or writing the image or out, failed | `fault read file`, `fault write file`, `fault write out` |
+/// | 3 | FILE has a byte that begins no token | `fault bad-byte at A` |
+/// | 3 | FILE has a comment that is not closed | `fault open-comment at A` |
+/// | 3 | FILE has a number above the greatest | `fault number-too-large at A` |
+/// | 3 | no module goes on with token T | `fault grammar token T at A` |
+/// | 3 | FILE breaks rule K of the language | `fault rule K token T at A` |
+/// | 3 | FILE is a module that is not compiled | `fault unbuilt` |
+/// | 4 | FILE is too long | `limit source count 1048577 maximum 1048576` |
+/// | 4 | FILE nests too deep | `limit depth token T at A` |
+/// | 4 | FILE has too much of one thing | `limit NAME count C maximum L` |
+/// | 5 | reading FILE failed | `fault read file` |
+/// | 5 | writing the image or out failed | `fault write file`, `fault write out` |
 /// | 5 | writing notes failed | none |
 /// | 6 | the words are refused | `fault words` and the usage line |
 /// | 8 | want of memory; nothing was written | none |
 ///
-/// A counts bytes and T tokens from 0; behind the last token A is the length of FILE. Nothing is taken from
-/// the input.
+/// A counts bytes and T tokens from 0; behind the last token A is the length of FILE. Nothing is
+/// taken from the input.
 pub fn run_tool<D: Folder, I: Source, O: Sink, N: Sink>(
     alloc: Global,
     words: &[String],
@@ -48,14 +55,16 @@ pub fn run_tool<D: Folder, I: Source, O: Sink, N: Sink>(
     out: &mut O,
     notes: &mut N,
 ) -> u8
-    ensures promise { let old : Seen = seen (folder_seen D.file D.read_faults D.write_faults folder.old)
+    ensures promise { let old : Seen =
+        seen (folder_seen D.file D.read_faults D.write_faults folder.old)
         (stream_seen O.bytes O.faults out.old) (stream_seen N.bytes N.faults notes.old) in
         let new : Seen = seen (folder_seen D.file D.read_faults D.write_faults folder.new)
         (stream_seen O.bytes O.faults out.new) (stream_seen N.bytes N.faults notes.new) in
         (status : Status) × (result ≡ exit_code status) ×
         Promise (asked_of (texts words.now)) old new status }
 
-    // Nothing is taken from the input; and after refused words nothing was read or written but the lines.
+    // Nothing is taken from the input; and after refused words nothing was read or written but the
+    // lines.
     ensures input { input.new ≡ input.old }
     ensures words { IsErr (asked_of (texts words.now)) →
         (folder.new ≡ folder.old) × (input.new ≡ input.old) × (out.new ≡ out.old) }
@@ -73,7 +82,8 @@ fn answer<D: Folder, O: Sink, N: Sink>(
     out: &mut O,
     notes: &mut N,
 ) -> Status
-    ensures promise { let old : Seen = seen (folder_seen D.file D.read_faults D.write_faults folder.old)
+    ensures promise { let old : Seen =
+        seen (folder_seen D.file D.read_faults D.write_faults folder.old)
         (stream_seen O.bytes O.faults out.old) (stream_seen N.bytes N.faults notes.old) in
         let new : Seen = seen (folder_seen D.file D.read_faults D.write_faults folder.new)
         (stream_seen O.bytes O.faults out.new) (stream_seen N.bytes N.faults notes.new) in

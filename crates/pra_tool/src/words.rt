@@ -3,7 +3,9 @@
 ghost use Rattle.std.specs.Prelude.{◌≡◌, ℕ, Some, None, Ok, Err, codes, MatchResult};
 ghost use Rattle.std.specs.Option.{option_copied};
 ghost use Rattle.std.specs.Str.{all_ascii_digits};
-ghost use Rattle.pra_tool.specs.Words.{Asked, image_name, default_steps, most_steps, texts, begins_with_dash, is_file, is_number, steps_of, run_of, granted, asked_of};
+ghost use Rattle.pra_tool.specs.Words.{Asked, image_name, default_steps, most_steps, texts};
+ghost use Rattle.pra_tool.specs.Words.{begins_with_dash, is_file, is_number, steps_of, run_of};
+ghost use Rattle.pra_tool.specs.Words.{granted, asked_of};
 ghost use Rattle.pra_tool.specs.Reports.{asked_by};
 
 /// The file that the image is written to.
@@ -32,8 +34,8 @@ pub enum WordsFault {
     Value(Word),
 }
 
-/// What the words ask for: FILE, the steps that its run is granted, and the name of the file that the image
-/// is written to.
+/// What the words ask for: FILE, the steps that its run is granted, and the name of the file that
+/// the image is written to.
 #[derive(Clone, Copy, Drop)]
 pub struct Request<'a> {
     pub file: &'a str,

@@ -140,7 +140,8 @@ fn places_of_grammar_faults(rt: HostRuntime) -> Result<(), Fail> {
     Ok(())
 }
 
-/// A construct that nests: what stands around it, its beginning, what is inside the innermost, and its end.
+/// A construct that nests: what stands around it, its beginning, what is inside the innermost, and
+/// its end.
 #[derive(Clone, Copy)]
 struct Nest {
     before: &'static [Kind],
@@ -370,7 +371,8 @@ fn tree_of_a_module(rt: HostRuntime) -> Result<(), Fail> {
     Ok(())
 }
 
-/// The numbers of tokens in a statement: those of its names, and the first and the last of its expressions.
+/// The numbers of tokens in a statement: those of its names, and the first and the last of its
+/// expressions.
 fn numbers(alloc: Global, statement: &Stmt) -> Result<Vec<u32>, Fail> {
     let mut all = Vec::new(alloc);
     all.push(statement.span.first)?;

@@ -24,8 +24,8 @@ const READ: Ins = Ins::Int(0x23);
 
 const TRAP: Ins = Ins::Int(0x24);
 
-/// Which conditions are met after an operation on two numbers, in the order of CONDITIONS from the highest bit down, and its
-/// result, as an Intel Xeon gave them.
+/// Which conditions are met after an operation on two numbers, in the order of CONDITIONS from the
+/// highest bit down, and its result, as an Intel Xeon gave them.
 const OPERATIONS: [(AluOp, i32, i32, i32, i32); 22] = [
     (AluOp::Add, 7, -8, -1, 0x56a),
     (AluOp::Add, 0, 1, 1, 0x555),
@@ -149,7 +149,8 @@ fn bare_code_faults(rt: HostRuntime) -> Result<(), Fail> {
     Ok(())
 }
 
-// The operation on EAX and ECX, then each condition shifted into EBX, by instructions that leave the flags.
+// The operation on EAX and ECX, then each condition shifted into EBX, by instructions that leave
+// the flags.
 #[test]
 fn operations_as_a_processor(rt: HostRuntime) -> Result<(), Fail> {
     for (op, a, b, result, met) in OPERATIONS {
@@ -184,7 +185,8 @@ fn operations_as_a_processor(rt: HostRuntime) -> Result<(), Fail> {
     Ok(())
 }
 
-// IMUL tells by CF whether the product fits; ZF and SF are unknown after it, and all flags after IDIV. The numbers are a processor's.
+// IMUL tells by CF whether the product fits; ZF and SF are unknown after it, and all flags after
+// IDIV. The numbers are a processor's.
 #[test]
 fn products_and_quotients(rt: HostRuntime) -> Result<(), Fail> {
     for (a, b, product, unfit) in [
@@ -317,7 +319,8 @@ fn memory_ends(rt: HostRuntime) -> Result<(), Fail> {
     Ok(())
 }
 
-// The factorial of an input word, by a procedure that calls itself with its argument on the stack, and the word after it.
+// The factorial of an input word, by a procedure that calls itself with its argument on the stack,
+// and the word after it.
 #[test]
 fn calls_and_services(rt: HostRuntime) -> Result<(), Fail> {
     let instructions = [

@@ -221,8 +221,9 @@ fn exchange(numbers: &mut [u8; 6], i: usize, j: usize) {
     }
 }
 
-// Permutation n of the six registers: each goes to another place, by turns alone, to its both place, or from there;
-// five more variables come into memory or stay, and a constant stays a constant.
+// Permutation n of the six registers: each goes to another place, by turns alone, to its both
+// place, or from there; five more variables come into memory or stay, and a constant stays a
+// constant.
 fn permuted(alloc: Global, n: u32) -> Result<Vec<Pair>, Fail> {
     let mut to: [u8; 6] = [0, 1, 2, 3, 4, 5];
     let mut left = n;

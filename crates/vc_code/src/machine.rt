@@ -36,8 +36,8 @@ impl From<AllocError> for Halt {
 
     ghost from_gives = { λ _ halt. halt ≡ OutOfMemory };
 
-    fn from(_: AllocError) -> Self {
-        Halt::OutOfMemory
+    fn from(error: AllocError) -> Self {
+        OutOfMemory::from(error).into()
     }
 }
 
@@ -47,8 +47,8 @@ impl<T: Drop> From<AllocFailed<T>> for Halt {
 
     ghost from_gives = { λ _ halt. halt ≡ OutOfMemory };
 
-    fn from(_: AllocFailed<T>) -> Self {
-        Halt::OutOfMemory
+    fn from(failed: AllocFailed<T>) -> Self {
+        OutOfMemory::from(failed).into()
     }
 }
 
