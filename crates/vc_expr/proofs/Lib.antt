@@ -5,3 +5,13 @@ pub mod Relations
 pub mod Signs
 pub mod Truths
 pub mod Inversions
+pub mod Effects
+pub mod Divisions
+pub mod Reaching
+pub mod Splitting
+pub mod Rounding
+pub mod Dividing
+pub mod Branching
+pub mod Choosing
+pub mod Rules
+pub mod Obeys

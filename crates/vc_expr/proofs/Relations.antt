@@ -14,7 +14,7 @@ use Rattle.pra_base.specs.declared.code.VarKind.TheVariants.{Plain}
 use Rattle.pra_base.specs.declared.code.VInstr.{VInstr}
 use Rattle.pra_base.specs.declared.code.VInstr.TheVariants.{CmpSet}
 use Rattle.pra_base.specs.declared.code.VProc.{VProc}
-use Rattle.ob_syntax.specs.Operators.{number, operated}
+use Rattle.ob_syntax.specs.Operators.{number}
 use Rattle.ob_syntax.specs.declared.checked.ROp.{ROp}
 use Rattle.ob_syntax.specs.declared.checked.ROp.TheVariants.{Mul, Div, Mod, Both, Add, Sub, Either, Equal, Unequal, Less, LessEqual, Greater, GreaterEqual}
 use Rattle.ob_syntax.specs.declared.checked.Value.{Value}
@@ -28,13 +28,13 @@ use Rattle.vc_build.specs.Grow.{IsOpen, with_instr, with_variable}
 use Rattle.vc_build.specs.Runs.{acted, Yields}
 use Rattle.vc_build.proofs.Growth.{grows_at_again, put_open, put_grows, declared_kind, declared_count, declared_grows}
 use Rattle.vc_build.proofs.Steps.{same_self, gives}
-use Rattle.vc_expr.specs.Operators.{is_relation, condition_of, Gives, Operates}
+use Rattle.vc_expr.specs.Operators.{is_relation, condition_of, Gives, of_values, Operates}
 use Rattle.vc_expr.proofs.Starts.{reads_are}
 use Rattle.vc_expr.proofs.Operations.{gives_since}
 
 -- ---- relations of words are those of numbers
 
-back : (a : ℤ) → FitsSigned w32 a → signed (word a) ≡ a
+pub back : (a : ℤ) → FitsSigned w32 a → signed (word a) ≡ a
 back a f = to_z-of_z w32 a f
 
 equal_words : (a b : ℤ) → FitsSigned w32 a → FitsSigned w32 b → (word a == word b) ≡ int_eq a b
@@ -56,7 +56,7 @@ truth_fits true = omega (arith, ints)
 truth_fits false = omega (arith, ints)
 
 module _ (first at : ℕ) (old : VProc) (target left right : VarId) (o : IsOpen old at) (is_new : target.0 ≡ length old.vars) (low : first ≤ length old.vars) (k : Cond) (op : ROp) (related : ℤ → ℤ → Bool)
-    (is : (x y : Value) → operated op x y ≡ Ok (Truth (related (number x) (number y))))
+    (is : (x y : Value) → of_values op x y ≡ Ok (Truth (related (number x) (number y))))
     (holds : (a b : ℤ) → FitsSigned w32 a → FitsSigned w32 b → compares k (word a) (word b) ≡ related a b) where
   abbrev mid : VProc
   mid = with_variable Plain old
@@ -79,7 +79,7 @@ module _ (first at : ℕ) (old : VProc) (target left right : VarId) (o : IsOpen 
   abbrev answer : Value → Value → Value
   answer x y = Truth (related (number x) (number y))
 
-  relation_operates : Operates (operated op) first at old new left.0 right.0 target.0
+  relation_operates : Operates op first at old new left.0 right.0 target.0
   relation_operates = record {
     adds = record {
       grows = grows_at_again old mid new at (declared_grows Plain old at) (put_grows at i mid mid_open);
@@ -88,7 +88,7 @@ module _ (first at : ℕ) (old : VProc) (target left right : VarId) (o : IsOpen 
       above = omega (arith, is_new, low);
       plain = plain;
     };
-    means = λ w id s x y r stands hx hy.
+    means = λ w id s x y r stands hx hy p.
         let held : held_by (code_of w.procs s.top.proc) s.top (left.0 ∷ right.0 ∷ []) ≡ Some (Num (word (number x))) ∷ Some (Num (word (number y))) ∷ [] =
         reads_are w id s r.proc (left.0 ∷ right.0 ∷ []) ∙ ap (λ h. h ∷ read (kind_of (code_of w.procs id)) s.top.home.held right.0 ∷ []) hx.held ∙ ap (λ h. Some (Num (word (number x))) ∷ h ∷ []) hy.held in
         let does : acted w i s ≡ Some (Give (Num (word (number (answer x y))))) =
@@ -101,7 +101,7 @@ module _ (first at : ℕ) (old : VProc) (target left right : VarId) (o : IsOpen 
   }
 
 pub operates_relation : (op : ROp) → is_relation op ≡ true → (first at : ℕ) (old : VProc) (target left right : VarId) → IsOpen old at → target.0 ≡ length old.vars → first ≤ length old.vars →
-    Operates (operated op) first at old (with_instr at (CmpSet (condition_of op) target left right) (with_variable Plain old)) left.0 right.0 target.0
+    Operates op first at old (with_instr at (CmpSet (condition_of op) target left right) (with_variable Plain old)) left.0 right.0 target.0
 operates_relation Equal e first at old target left right o n low = relation_operates first at old target left right o n low (condition_of Equal) Equal int_eq (λ x y. refl) equal_words
 operates_relation Unequal e first at old target left right o n low =
     relation_operates first at old target left right o n low (condition_of Unequal) Unequal (λ a b. not (int_eq a b)) (λ x y. refl) (λ a b f g. ap not (equal_words a b f g))
@@ -118,3 +118,24 @@ operates_relation Both e first at old target left right o n low = absurd (cc)
 operates_relation Add e first at old target left right o n low = absurd (cc)
 operates_relation Sub e first at old target left right o n low = absurd (cc)
 operates_relation Either e first at old target left right o n low = absurd (cc)
+
+-- what a relation gives, and what its condition says of the words
+pub record Related (op : ROp) (x y : Value) : Type 0 where
+  pub answer : Bool
+  pub value : of_values op x y ≡ Ok (Truth answer)
+  pub words : compares (condition_of op) (word (number x)) (word (number y)) ≡ answer
+
+pub related_words : (op : ROp) → is_relation op ≡ true → (x y : Value) → FitsSigned w32 (number x) → FitsSigned w32 (number y) → Related op x y
+related_words Equal e x y f g = record { answer = int_eq (number x) (number y); value = refl; words = equal_words (number x) (number y) f g }
+related_words Unequal e x y f g = record { answer = not (int_eq (number x) (number y)); value = refl; words = ap not (equal_words (number x) (number y) f g) }
+related_words Less e x y f g = record { answer = int_lt (number x) (number y); value = refl; words = by_numbers int_lt (number x) (number y) f g }
+related_words LessEqual e x y f g = record { answer = int_le (number x) (number y); value = refl; words = by_numbers int_le (number x) (number y) f g }
+related_words Greater e x y f g = record { answer = int_lt (number y) (number x); value = refl; words = by_numbers (λ a b. int_lt b a) (number x) (number y) f g }
+related_words GreaterEqual e x y f g = record { answer = int_le (number y) (number x); value = refl; words = by_numbers (λ a b. int_le b a) (number x) (number y) f g }
+related_words Mul e x y f g = absurd (cc)
+related_words Div e x y f g = absurd (cc)
+related_words Mod e x y f g = absurd (cc)
+related_words Both e x y f g = absurd (cc)
+related_words Add e x y f g = absurd (cc)
+related_words Sub e x y f g = absurd (cc)
+related_words Either e x y f g = absurd (cc)

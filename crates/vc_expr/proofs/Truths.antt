@@ -16,7 +16,7 @@ use Rattle.ob_syntax.specs.declared.checked.ROp.TheVariants.{Mul, Div, Mod, Both
 use Rattle.ob_syntax.specs.declared.checked.Value.{Value}
 use Rattle.ob_syntax.specs.declared.checked.Value.TheVariants.{Truth}
 use Rattle.vc_build.specs.Grow.{with_instr}
-use Rattle.vc_expr.specs.Operators.{Begins, IsBit, is_bitwise, bitwise_of, of_values, OperatesOnBits}
+use Rattle.vc_expr.specs.Operators.{Begins, IsBit, is_bitwise, bitwise_of, Suits, of_values, Operates}
 use Rattle.vc_expr.proofs.Operations.{operates_adds, operates_where}
 
 abbrev bits : Value → Value → Type 0
@@ -68,28 +68,28 @@ truth_fits true = omega (arith, ints)
 truth_fits false = omega (arith, ints)
 
 module _ (first at : ℕ) (old mid : VProc) (left : ℕ) (target right : VarId) (b : Begins first at old mid left target.0) (named : right.0 < length old.vars) (low : first ≤ length old.vars) where
-  both_operates : OperatesOnBits (of_values Both) first at old (with_instr at (instr.And target right) mid) left right.0 target.0
+  both_operates : Operates Both first at old (with_instr at (instr.And target right) mid) left right.0 target.0
   both_operates = record {
-    adds = operates_adds first at old mid left target right b named low (instr.And target right) refl refl bits (of_values Both) conjunction bit_and
+    adds = operates_adds first at old mid left target right b named low (instr.And target right) refl refl (Suits Both) (of_values Both) conjunction bit_and
         (λ x y. chosen (is_true x) y (Truth false)) (λ x y p f g. choice_fits (is_true x) y (Truth false) g (truth_fits false)) (λ x y p f g. conjunctions x y p) (λ h a c. refl);
-    means = λ w id s x y r stands hx hy p q.
-        operates_where first at old mid left target right b named low (instr.And target right) refl refl bits (of_values Both) conjunction bit_and
+    means = λ w id s x y r stands hx hy p.
+        operates_where first at old mid left target right b named low (instr.And target right) refl refl (Suits Both) (of_values Both) conjunction bit_and
         (λ x y. chosen (is_true x) y (Truth false)) (λ x y p f g. choice_fits (is_true x) y (Truth false) g (truth_fits false)) (λ x y p f g. conjunctions x y p) (λ h a c. refl)
-        w id s x y r stands hx hy (p, q);
+        w id s x y r stands hx hy p;
   }
 
-  either_operates : OperatesOnBits (of_values Either) first at old (with_instr at (instr.Or target right) mid) left right.0 target.0
+  either_operates : Operates Either first at old (with_instr at (instr.Or target right) mid) left right.0 target.0
   either_operates = record {
-    adds = operates_adds first at old mid left target right b named low (instr.Or target right) refl refl bits (of_values Either) disjunction bit_or
+    adds = operates_adds first at old mid left target right b named low (instr.Or target right) refl refl (Suits Either) (of_values Either) disjunction bit_or
         (λ x y. chosen (is_true x) (Truth true) y) (λ x y p f g. choice_fits (is_true x) (Truth true) y (truth_fits true) g) (λ x y p f g. disjunctions x y p) (λ h a c. refl);
-    means = λ w id s x y r stands hx hy p q.
-        operates_where first at old mid left target right b named low (instr.Or target right) refl refl bits (of_values Either) disjunction bit_or
+    means = λ w id s x y r stands hx hy p.
+        operates_where first at old mid left target right b named low (instr.Or target right) refl refl (Suits Either) (of_values Either) disjunction bit_or
         (λ x y. chosen (is_true x) (Truth true) y) (λ x y p f g. choice_fits (is_true x) (Truth true) y (truth_fits true) g) (λ x y p f g. disjunctions x y p) (λ h a c. refl)
-        w id s x y r stands hx hy (p, q);
+        w id s x y r stands hx hy p;
   }
 
 pub operates_bitwise : (op : ROp) → is_bitwise op ≡ true → (first at : ℕ) (old mid : VProc) (left : ℕ) (target right : VarId) → Begins first at old mid left target.0 → right.0 < length old.vars → first ≤ length old.vars →
-    OperatesOnBits (of_values op) first at old (with_instr at (bitwise_of op target right) mid) left right.0 target.0
+    Operates op first at old (with_instr at (bitwise_of op target right) mid) left right.0 target.0
 operates_bitwise Both e first at old mid left target right b named low = both_operates first at old mid left target right b named low
 operates_bitwise Either e first at old mid left target right b named low = either_operates first at old mid left target right b named low
 operates_bitwise Mul e first at old mid left target right b named low = absurd (cc)

@@ -1,1 +1,5 @@
 pub mod Operators
+pub mod Division
+pub mod Branches
+pub mod Choices
+pub mod Rules

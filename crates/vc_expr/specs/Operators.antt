@@ -72,15 +72,35 @@ pub record Gives (w : Codes) (id : ℕ) (made : VProc) (b v first : ℕ) (old : 
   pub fits : FitsSigned w32 (number x)
   pub holds : Holds w id made b v first old (Num (word (number x))) new
 
--- From variables with the values of the sides the added code gives the operator's value, or comes
--- to its trap.
-pub record Operates
-    (f : Value → Value → Outcome) (first at : ℕ) (old new : VProc) (left right v : ℕ)
-    : Type 0 where
+-- From variables with values of the sides, of which P holds, the added code gives what f gives, or
+-- comes to its trap.
+pub record Combines
+    (P : Value → Value → Type 0) (f : Value → Value → Outcome)
+    (first at : ℕ) (old new : VProc) (left right v : ℕ) : Type 0 where
   pub adds : Adds first at old new v
   pub means : (w : Codes) (id : ℕ) (s : State Vars) (x y : Value) → RunsIn w id new s →
-      Stands old at s.top → HasValue w id left s.top x → HasValue w id right s.top y →
+      Stands old at s.top → HasValue w id left s.top x → HasValue w id right s.top y → P x y →
       Yields w s (Gives w id new at v first s.top) (f x y)
+
+-- a truth value
+abbrev pub IsBit : Value → Type 0
+IsBit x = (number x ≡ pos 0) ⊎ (number x ≡ pos 1)
+
+-- what is asked of the sides: those of `&` and OR are 0 or 1, as values of type BOOLEAN are
+abbrev pub Suits : ROp → Value → Value → Type 0
+Suits Both x y = IsBit x × IsBit y
+Suits Either x y = IsBit x × IsBit y
+Suits _ x y = Unit {0}
+
+-- an operator on sides that have both been evaluated
+abbrev pub of_values : ROp → Value → Value → Outcome
+of_values op x y = combined op (Ok x) (Ok y)
+
+-- The added code gives what the operator gives, or comes to its trap.
+abbrev pub Operates :
+    ROp → (first at : ℕ) (old new : VProc) (left right v : ℕ) → Type 0
+Operates op first at old new left right v =
+    Combines (Suits op) (of_values op) first at old new left right v
 
 -- `+`, `-` and `*`
 abbrev pub is_arithmetic : ROp → Bool
@@ -125,18 +145,6 @@ pub record Converts (f : Value → Value) (first at : ℕ) (old new : VProc) (op
 
 -- ---- operators on truth values
 
-abbrev pub IsBit : Value → Type 0
-IsBit x = (number x ≡ pos 0) ⊎ (number x ≡ pos 1)
-
--- The same where the values of both sides are 0 or 1, as those of BOOLEAN are.
-pub record OperatesOnBits
-    (f : Value → Value → Outcome) (first at : ℕ) (old new : VProc) (left right v : ℕ)
-    : Type 0 where
-  pub adds : Adds first at old new v
-  pub means : (w : Codes) (id : ℕ) (s : State Vars) (x y : Value) → RunsIn w id new s →
-      Stands old at s.top → HasValue w id left s.top x → HasValue w id right s.top y →
-      IsBit x → IsBit y → Yields w s (Gives w id new at v first s.top) (f x y)
-
 abbrev pub is_bitwise : ROp → Bool
 is_bitwise Both = true
 is_bitwise Either = true
@@ -145,10 +153,6 @@ is_bitwise _ = false
 abbrev pub bitwise_of : ROp → (target right : VarId) → VInstr
 bitwise_of Both target right = instr.And target right
 bitwise_of _ target right = instr.Or target right
-
--- `&` and OR of sides that have been evaluated both
-abbrev pub of_values : ROp → Value → Value → Outcome
-of_values op x y = combined op (Ok x) (Ok y)
 
 -- A sign on a value that is 0 or 1.
 pub record ConvertsBit (f : Value → Value) (first at : ℕ) (old new : VProc) (operand v : ℕ)

@@ -1,7 +1,6 @@
 // Sums, differences and products.
 
 ghost use Rattle.std.specs.Prelude.{◌≡◌, ◌<◌, ◌≤◌, length, true, IfOk, OnOk};
-ghost use Rattle.ob_syntax.specs.Operators.{operated};
 ghost use Rattle.vc_build.specs.Grow.{IsOpen};
 ghost use Rattle.vc_expr.specs.Operators.{is_arithmetic, arithmetic_of, Operates};
 
@@ -44,7 +43,7 @@ pub fn select_arithmetic(
     ensures is_open { OnOk result (IsOpen code.new at.0) }
     ensures vars { OnOk result (length code.old.vars ≤ length code.new.vars) }
     ensures operates { IfOk result (λ v.
-        Operates (operated op) first at.0 code.old code.new left.0 right.0 v.0) }
+        Operates op first at.0 code.old code.new left.0 right.0 v.0) }
 {
     let target = start(alloc, code, at, first, left)?;
     put(alloc, code, at, arithmetic_of(op, target, right))?;

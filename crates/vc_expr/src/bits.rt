@@ -3,7 +3,7 @@
 
 ghost use Rattle.std.specs.Prelude.{◌≡◌, ◌<◌, ◌≤◌, length, true, IfOk, OnOk};
 ghost use Rattle.vc_build.specs.Grow.{IsOpen};
-ghost use Rattle.vc_expr.specs.Operators.{is_bitwise, bitwise_of, of_values, OperatesOnBits};
+ghost use Rattle.vc_expr.specs.Operators.{is_bitwise, bitwise_of, Operates};
 
 use crate::start::start;
 use ob_syntax::checked::ROp;
@@ -42,7 +42,7 @@ pub fn select_bitwise(
     ensures is_open { OnOk result (IsOpen code.new at.0) }
     ensures vars { OnOk result (length code.old.vars ≤ length code.new.vars) }
     ensures operates { IfOk result (λ v.
-        OperatesOnBits (of_values op) first at.0 code.old code.new left.0 right.0 v.0) }
+        Operates op first at.0 code.old code.new left.0 right.0 v.0) }
 {
     let target = start(alloc, code, at, first, left)?;
     put(alloc, code, at, bitwise_of(op, target, right))?;

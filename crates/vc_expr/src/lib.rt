@@ -1,24 +1,44 @@
-//! Expressions to selected code. What stands today are operators and signs whose operands are in
-//! variables already; the trees of expressions, variables with selectors and conditions are not
-//! selected yet.
+//! Expressions to selected code: operators, signs and conditions whose operands are in variables
+//! already. The walk over the trees of expressions is the layer above.
 //!
 //! # What is promised
 //!
 //! An operand is in a variable that has its value's word (`HasValue` of `specs/Operators`). Each
 //! call adds code at the end of the open block `at`, which stays open, and answers a variable:
 //!
-//! - `select_arithmetic` for `+`, `-` and `*`, and `select_relation` for the six relations:
-//!   `Operates`, which says that running on from the end of what the block had comes to the
-//!   operator's value in that variable, or to its trap (these have none);
-//! - `select_bitwise` for `&` and OR of sides that have both been evaluated: `OperatesOnBits`, the
-//!   same where both are 0 or 1;
+//! - `select_operator` for each binary operator: `Operates`, which says that running on from the
+//!   end of what the block had comes to the operator's value in that variable, or to its trap. `&`
+//!   and OR are asked for truth values (`Suits`), and evaluate both sides. It is made of
+//!   `select_arithmetic`, `select_division`, `select_relation` and `select_bitwise`.
 //! - `select_negation` for the sign `-`: `Converts`, the same for one operand; `select_inversion`
 //!   for `~`, where it is 0 or 1: `ConvertsBit`.
 //!
-//! It holds over all code that is made later, and for every state. The value is that of the meaning
-//! of expressions (ob_syntax, `specs/Operators`), and has 32 bits. Nothing but the running call
-//! changes: no object, no event, no word of the input; and of its variables those below `first` are
-//! as they were.
+//! A condition closes its block: `branch_by` a relation (`BranchesBy` of `specs/Branches`),
+//! `branch_on` a truth value (`BranchesOn`). Control comes to the begin of the block that the test
+//! chooses.
+//!
+//! `&` and OR with a right side that can trap take blocks. `open_choice` (`OpensChoice` of
+//! `specs/Choices`) gives a new variable what stands where the left side decides, and opens two
+//! blocks; the caller selects the test of the left side from `at`, with `test_of` as its targets,
+//! and then the right side from the block `right`; `close_choice` (`ClosesChoice`) gives its value
+//! to the variable, and the caller goes on at the block `behind`. The law `choices_give_operators`
+//! puts their runs together.
+//!
+//! All this holds over all code that is made later, and for every state. The value is that of the
+//! meaning of expressions (ob_syntax, `specs/Operators`), and has 32 bits. Nothing but the running
+//! call changes: no object, no event, no word of the input; and of its variables those below
+//! `first` are as they were.
+//!
+//! # Division
+//!
+//! The machine divides by a positive number, rounding toward zero. A divisor is tested (trap
+//! Divide) unless it is a positive constant. Whether the remainder is negative is 0 or 1: DIV takes
+//! it from the quotient; MOD makes all bits or none of it, which leaves the divisor or 0 to add.
+//!
+//! ```text
+//! x DIV y    copy v4, x  checkpos y  divmod v5, v6, v4, y  cmpset.l v8, v6, k7 = 0  sub v5, v8
+//! x MOD y    the same up to cmpset   neg v8  and v8, y  add v6, v8
+//! ```
 //!
 //! # The start of an operation
 //!
@@ -36,11 +56,20 @@
 
 pub mod arithmetic;
 pub mod bits;
+pub mod branch;
+pub mod choice;
+pub mod division;
+pub mod laws;
+pub mod operator;
 pub mod relation;
 pub mod sign;
 pub mod start;
 
 pub use arithmetic::select_arithmetic;
 pub use bits::select_bitwise;
+pub use branch::{Targets, branch_by, branch_on};
+pub use choice::{Choice, close_choice, open_choice, test_of};
+pub use division::select_division;
+pub use operator::select_operator;
 pub use relation::select_relation;
 pub use sign::{select_inversion, select_negation};

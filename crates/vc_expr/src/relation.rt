@@ -1,7 +1,6 @@
 // Relations as values.
 
 ghost use Rattle.std.specs.Prelude.{◌≡◌, ◌<◌, ◌≤◌, length, true, IfOk, OnOk};
-ghost use Rattle.ob_syntax.specs.Operators.{operated};
 ghost use Rattle.vc_build.specs.Grow.{IsOpen};
 ghost use Rattle.vc_expr.specs.Operators.{is_relation, condition_of, Operates};
 
@@ -45,7 +44,7 @@ pub fn select_relation(
     ensures is_open { OnOk result (IsOpen code.new at.0) }
     ensures vars { OnOk result (length code.old.vars ≤ length code.new.vars) }
     ensures operates { IfOk result (λ v.
-        Operates (operated op) first at.0 code.old code.new left.0 right.0 v.0) }
+        Operates op first at.0 code.old code.new left.0 right.0 v.0) }
 {
     let target = declare(code, VarKind::Plain)?;
     put(

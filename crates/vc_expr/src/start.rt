@@ -18,7 +18,7 @@ fn is_temporary(kind: VarKind, first: u32, v: VarId) -> bool
     }
 }
 
-fn first_of(kind: VarKind, target: VarId, v: VarId) -> VInstr
+pub fn first_of(kind: VarKind, target: VarId, v: VarId) -> VInstr
     ensures { result ≡ first_of kind target v }
 {
     match kind {

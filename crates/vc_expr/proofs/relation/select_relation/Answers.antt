@@ -1,5 +1,4 @@
 use Rattle.std.proofs.Common.{◌≡◌, ap, sym, ◌∙◌, subst}
-use Rattle.ob_syntax.specs.Operators.{operated}
 use Rattle.pra_base.specs.declared.code.VInstr.TheVariants.{CmpSet}
 use Rattle.pra_base.specs.declared.code.VarKind.TheVariants.{Plain}
 use Rattle.pra_base.specs.declared.code.VProc.{VProc}
@@ -15,5 +14,5 @@ returns-clause-operates c =
     let made : c.put.new.code ≡ with_instr c.args.at.0 (CmpSet (condition_of c.args.op) target c.args.left c.args.right) (with_variable Plain old) =
     c.in_ok-put.ensures ∙ ap (λ k. with_instr c.args.at.0 (CmpSet k target c.args.left c.args.right) c.declare.new.code) c.condition_of.ensures
     ∙ ap (with_instr c.args.at.0 (CmpSet (condition_of c.args.op) target c.args.left c.args.right)) c.in_ok-target.ensures.made in
-    subst (λ (z : VProc). Operates (operated c.args.op) c.args.first c.args.at.0 old z c.args.left.0 c.args.right.0 target.0) (sym made)
+    subst (λ (z : VProc). Operates c.args.op c.args.first c.args.at.0 old z c.args.left.0 c.args.right.0 target.0) (sym made)
     (operates_relation c.args.op c.requires.op c.args.first c.args.at.0 old target c.args.left c.args.right c.requires.is_open c.in_ok-target.ensures.number c.requires.first)

@@ -1,0 +1,19 @@
+use Rattle.std.proofs.Common.{◌≡◌, ap, sym, ◌∙◌, subst}
+use Rattle.pra_base.specs.declared.code.VInstr.TheVariants.{Cmp}
+use Rattle.pra_base.specs.declared.code.End.TheVariants.{Branch}
+use Rattle.pra_base.specs.declared.code.VProc.{VProc}
+use Rattle.vc_build.specs.Grow.{with_instr, with_end}
+use Rattle.vc_expr.specs.Branches.{BranchesBy}
+use Rattle.vc_expr.proofs.Branching.{branches_by}
+use Rattle.vc_expr.proofs.branch.branch_by.Goals as goal
+
+pub returns-clause-branches : goal.returns-clause-branches
+returns-clause-branches c =
+    let at = c.args.at.0 in
+    let old = c.args.code.now in
+    let targets = c.args.targets in
+    let k = c.condition_of.result in
+    let made : c.close.new.code ≡ with_end at (Branch k targets.holds targets.fails) (with_instr at (Cmp c.args.left c.args.right) old) =
+    c.close.ensures ∙ ap (with_end at (Branch k targets.holds targets.fails)) c.in_ok-put.ensures in
+    subst (λ (z : VProc). BranchesBy c.args.op at old z c.args.left.0 c.args.right.0 targets) (sym made)
+    (branches_by at old k c.args.left c.args.right targets c.requires.is_open c.requires.holds c.requires.fails c.args.op c.requires.op c.condition_of.ensures)

@@ -1,0 +1,12 @@
+use Rattle.std.proofs.Common.{subst}
+use Rattle.pra_base.specs.declared.code.VProc.{VProc}
+use Rattle.ob_syntax.specs.declared.checked.ROp.TheVariants.{Unequal}
+use Rattle.vc_expr.specs.Branches.{BranchesBy}
+use Rattle.vc_expr.proofs.Branching.{branches_on}
+use Rattle.vc_expr.proofs.branch.branch_on.Goals as goal
+
+pub returns-clause-branches : goal.returns-clause-branches
+returns-clause-branches c =
+    let zero = c.in_ok-zero.zero in
+    branches_on c.args.at.0 c.args.code.now c.branch_by.new.code c.args.v.0 c.args.targets zero c.in_ok-zero.ensures.number
+    (subst (λ (z : VProc). BranchesBy Unequal c.args.at.0 z c.branch_by.new.code c.args.v.0 zero.0 c.args.targets) c.in_ok-zero.ensures.made c.in_ok-branch_by.ensures.branches)

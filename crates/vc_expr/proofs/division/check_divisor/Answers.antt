@@ -1,0 +1,20 @@
+use Rattle.std.proofs.Common.{◌≡◌, ap, sym, ◌∙◌, subst}
+use Rattle.std.proofs.lemmas.List.{get_or_read}
+use Rattle.pra_base.specs.Code.{kind_of}
+use Rattle.pra_base.specs.declared.code.VarKind.TheVariants.{Plain}
+use Rattle.pra_base.specs.declared.code.VProc.{VProc}
+use Rattle.vc_expr.specs.Division.{is_tested, Checks}
+use Rattle.vc_expr.proofs.Divisions.{check_checks, known_checks}
+use Rattle.vc_expr.proofs.division.check_divisor.Goals as goal
+
+pub returns-in_ok-put-clause-checks : goal.returns-in_ok-put-clause-checks
+returns-in_ok-put-clause-checks c =
+    subst (λ (z : VProc). Checks c.args.at.0 c.args.code.now z c.args.divisor.0) (sym c.in_ok-put.ensures)
+    (check_checks c.args.at.0 c.args.code.now c.args.divisor c.requires.is_open)
+
+pub returns-else-is_tested-clause-checks : goal.returns-else-is_tested-clause-checks
+returns-else-is_tested-clause-checks c =
+    let old = c.args.code.now in
+    let kind = c.index.result.now in
+    let is : kind ≡ kind_of old c.args.divisor.0 = get_or_read old.vars c.args.divisor.0 kind c.requires.divisor c.index.ensures Plain in
+    known_checks c.args.at.0 old c.args.divisor.0 c.requires.is_open c.requires.divisor (λ n e. c.is_tested.ensures.fits n (is ∙ e)) (ap is_tested (sym is) ∙ sym c.is_tested.ensures.tested ∙ c.if-is_tested.false)

@@ -1,0 +1,34 @@
+use Rattle.std.proofs.Common.{◌≡◌, ◌≢◌, true, refl, sym, subst}
+use Rattle.ob_syntax.specs.declared.checked.ROp.{ROp}
+use Rattle.ob_syntax.specs.declared.checked.ROp.TheVariants.{Mul, Div, Mod, Both, Add, Sub, Either, Equal, Unequal, Less, LessEqual, Greater, GreaterEqual}
+use Rattle.vc_expr.specs.Operators.{Operates}
+use Rattle.vc_expr.specs.Division.{is_division}
+use Rattle.vc_expr.proofs.Dividing.{quotient_operates, remainder_operates}
+use Rattle.vc_expr.proofs.division.select_division.Goals as goal
+
+other : (op : ROp) → is_division op ≡ true → op ≢ Mod → Div ≡ op
+other Div e n = refl
+other Mod e n = absurd (n refl)
+other Mul e n = absurd (cc)
+other Both e n = absurd (cc)
+other Add e n = absurd (cc)
+other Sub e n = absurd (cc)
+other Either e n = absurd (cc)
+other Equal e n = absurd (cc)
+other Unequal e n = absurd (cc)
+other Less e n = absurd (cc)
+other LessEqual e n = absurd (cc)
+other Greater e n = absurd (cc)
+other GreaterEqual e n = absurd (cc)
+
+pub returns-in_ok-rounded-in-Mod-clause-operates : goal.returns-in_ok-rounded-in-Mod-clause-operates
+returns-in_ok-rounded-in-Mod-clause-operates c =
+    subst (λ op. Operates op c.args.first c.args.at.0 c.args.code.now c.round_remainder.new.code c.args.left.0 c.args.right.0 c.in_ok-rounded-in-Mod.rounded.0) (sym c.in-Mod.is)
+    (remainder_operates c.args.first c.args.at.0 c.args.code.now c.start.new.code c.split.new.code c.args.left.0 c.in_ok-dividend.dividend.0 c.args.right.0 c.in_ok-parts.parts
+    c.in_ok-dividend.ensures.begins c.in_ok-parts.ensures.splits c.requires.right c.requires.first c.round_remainder.new.code c.in_ok-rounded-in-Mod.rounded.0 c.in_ok-rounded-in-Mod.ensures.rounds)
+
+pub returns-in_ok-rounded-in_default-clause-operates : goal.returns-in_ok-rounded-in_default-clause-operates
+returns-in_ok-rounded-in_default-clause-operates c =
+    subst (λ op. Operates op c.args.first c.args.at.0 c.args.code.now c.select_arithmetic.new.code c.args.left.0 c.args.right.0 c.in_ok-rounded-in_default.rounded.0) (other c.args.op c.requires.op c.in_default.not-Mod)
+    (quotient_operates c.args.first c.args.at.0 c.args.code.now c.start.new.code c.split.new.code c.args.left.0 c.in_ok-dividend.dividend.0 c.args.right.0 c.in_ok-parts.parts
+    c.in_ok-dividend.ensures.begins c.in_ok-parts.ensures.splits c.requires.right c.requires.first c.select_arithmetic.new.code c.in_ok-rounded-in_default.rounded.0 c.in_ok-rounded-in_default.ensures.operates)

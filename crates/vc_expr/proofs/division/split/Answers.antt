@@ -1,0 +1,21 @@
+use Rattle.std.proofs.Common.{pos, subst}
+use Rattle.pra_base.specs.declared.code.VarKind.TheVariants.{Constant}
+use Rattle.pra_base.specs.declared.code.VProc.{VProc}
+use Rattle.ob_syntax.specs.declared.checked.ROp.TheVariants.{Less}
+use Rattle.vc_build.specs.Grow.{with_variable}
+use Rattle.vc_expr.specs.Operators.{Operates}
+use Rattle.vc_expr.proofs.Splitting.{splits}
+use Rattle.vc_expr.proofs.division.split.Goals as goal
+
+pub returns-clause-splits : goal.returns-clause-splits
+returns-clause-splits c =
+    let at = c.args.at.0 in
+    let m2 = c.divide.new.code in
+    let zero = c.in_ok-zero.zero in
+    let q = c.in_ok-quotient.quotient in
+    let r = c.in_ok-quotient.remainder in
+    let less : Operates Less zero.0 at (with_variable (Constant (pos 0)) m2) c.select_relation.new.code r.0 zero.0 c.in_ok-negative.negative.0 =
+    subst (λ (z : VProc). Operates Less zero.0 at z c.select_relation.new.code r.0 zero.0 c.in_ok-negative.negative.0) c.in_ok-zero.ensures.made c.in_ok-negative.ensures.operates in
+    splits at c.args.code.now c.check_divisor.new.code m2 c.select_relation.new.code c.args.dividend.0 c.args.divisor.0 zero
+    (record { quotient = q; remainder = r; negative = c.in_ok-negative.negative })
+    c.in_ok-check_divisor.ensures.checks c.in_ok-quotient.ensures.divides c.in_ok-zero.ensures.number less c.requires.dividend c.requires.divisor

@@ -1,0 +1,101 @@
+-- What the code of DIV and MOD does, part by part. The machine divides by a positive number,
+-- rounding toward zero.
+use Rattle.std.specs.Prelude.{◌≡◌, ℕ, ◌<◌, ◌⊎◌, ℤ, pos, negsuc, ◌+ℤ◌, ◌<ℤ◌}
+use Rattle.std.specs.Prelude.{int_lt, int_le, int_div, int_rem, Bool, true, false, if◌then◌else◌}
+use Rattle.std.specs.Prelude.{Result, Ok, Err, length}
+use Rattle.pra_base.specs.declared.event.TrapKind.{TrapKind}
+use Rattle.pra_base.specs.declared.event.TrapKind.TheVariants.{Divide}
+use Rattle.pra_base.specs.declared.code.VarKind.{VarKind}
+use Rattle.pra_base.specs.declared.code.VarKind.TheVariants.{Constant}
+use Rattle.pra_base.specs.declared.code.VProc.{VProc}
+use Rattle.ob_syntax.specs.Operators.{Outcome, number, wrapped}
+use Rattle.ob_syntax.specs.declared.checked.ROp.{ROp}
+use Rattle.ob_syntax.specs.declared.checked.ROp.TheVariants.{Div, Mod}
+use Rattle.ob_syntax.specs.declared.checked.Value.{Value}
+use Rattle.ob_syntax.specs.declared.checked.Value.TheVariants.{Number, Truth}
+use Rattle.vc_code.specs.Machine.{Activation, State}
+use Rattle.vc_code.specs.Selected.{Vars}
+use Rattle.vc_build.specs.Grow.{IsOpen, GrowsAt}
+use Rattle.vc_build.specs.Runs.{Codes, Stands, RunsIn, SameBelow, Reaches, Yields}
+use Rattle.vc_expr.specs.declared.division.Parts.{Parts}
+use Rattle.vc_expr.specs.Operators.{Adds, HasValue, Gives}
+
+abbrev pub is_division : ROp → Bool
+is_division Div = true
+is_division Mod = true
+is_division _ = false
+
+-- a divisor is tested unless it is known to be positive
+abbrev pub is_tested : VarKind → Bool
+is_tested (Constant n) = int_le n (pos 0)
+is_tested _ = true
+
+-- the trap of a divisor that is not positive
+abbrev pub positive : ℤ → Result (Unit {0}) TrapKind
+positive d = if int_lt (pos 0) d then Ok tt else Err Divide
+
+-- The call stands behind what was made, and its variables below a number are as they were.
+pub record Stays (made : VProc) (b n : ℕ) (old new : Activation Vars) : Type 0 where
+  pub stands : Stands made b new
+  pub same : SameBelow n old new
+
+-- The added code goes on where the divisor is positive, and else traps.
+pub record Checks (at : ℕ) (old new : VProc) (divisor : ℕ) : Type 0 where
+  pub grows : GrowsAt at old new
+  pub is_open : IsOpen new at
+  pub vars : new.vars ≡ old.vars
+  pub means : (w : Codes) (id : ℕ) (s : State Vars) (d : Value) → RunsIn w id new s →
+      Stands old at s.top → HasValue w id divisor s.top d →
+      Yields w s (λ ok c. Stays new at (length old.vars) s.top c) (positive (number d))
+
+-- quotient and remainder, rounded toward zero
+pub record HoldsParts (w : Codes) (id q r : ℕ) (x d : ℤ) (c : Activation Vars) : Type 0 where
+  pub quotient : HasValue w id q c (Number (int_div x d))
+  pub remainder : HasValue w id r c (Number (int_rem x d))
+
+-- The added code divides by a positive number.
+pub record Divides (at : ℕ) (old new : VProc) (dividend divisor quotient remainder : ℕ)
+    : Type 0 where
+  pub left : Adds (length old.vars) at old new quotient
+  pub right : Adds (length old.vars) at old new remainder
+  pub below : quotient < remainder
+  pub means : (w : Codes) (id : ℕ) (s : State Vars) (x d : Value) → RunsIn w id new s →
+      Stands old at s.top → HasValue w id dividend s.top x → HasValue w id divisor s.top d →
+      pos 0 <ℤ number d →
+      Reaches w s (λ c. Stays new at (length old.vars) s.top c ×
+      HoldsParts w id quotient remainder (number x) (number d) c)
+
+-- The same, of any divisor, and whether the remainder is negative. A divisor that is not positive
+-- traps.
+pub record Splits (at : ℕ) (old new : VProc) (dividend divisor : ℕ) (parts : Parts) : Type 0 where
+  pub quotient : Adds (length old.vars) at old new parts.quotient.0
+  pub remainder : Adds (length old.vars) at old new parts.remainder.0
+  pub negative : Adds (length old.vars) at old new parts.negative.0
+  pub apart : parts.quotient.0 < parts.remainder.0
+  pub last : parts.remainder.0 < parts.negative.0
+  pub means : (w : Codes) (id : ℕ) (s : State Vars) (x d : Value) → RunsIn w id new s →
+      Stands old at s.top → HasValue w id dividend s.top x → HasValue w id divisor s.top d →
+      Yields w s
+      (λ ok c. Stays new at (length old.vars) s.top c ×
+      HoldsParts w id parts.quotient.0 parts.remainder.0 (number x) (number d) c ×
+      HasValue w id parts.negative.0 c (Truth (int_lt (int_rem (number x) (number d)) (pos 0))))
+      (positive (number d))
+
+-- ---- the remainder that is rounded down
+
+-- all bits are set, or none
+abbrev pub IsMask : Value → Value → Type 0
+IsMask x y = (number x ≡ negsuc 0) ⊎ (number x ≡ pos 0)
+
+-- what a mask leaves of a number
+abbrev pub masked : Value → Value → Outcome
+masked x y = Ok (Number (if int_lt (number x) (pos 0) then number y else pos 0))
+
+-- The added code gives the remainder, and the divisor more where it is negative.
+pub record Rounds (first at : ℕ) (old new : VProc) (remainder negative divisor v : ℕ) : Type 0 where
+  pub adds : Adds first at old new v
+  pub means : (w : Codes) (id : ℕ) (s : State Vars) (r d : Value) (b : Bool) → RunsIn w id new s →
+      Stands old at s.top → HasValue w id remainder s.top r →
+      HasValue w id negative s.top (Truth b) → HasValue w id divisor s.top d →
+      Reaches w s (Gives w id new at v first s.top
+      (Number (wrapped (number r +ℤ (if b then number d else pos 0)))))

@@ -1,0 +1,29 @@
+// What the code of several blocks comes to. Each function is a law: its contract is the statement,
+// and it does nothing.
+
+ghost use Rattle.std.specs.Prelude.{◌≡◌, ◌≤◌, ℕ, suc, true};
+ghost use Rattle.ob_syntax.specs.Operators.{Outcome, combined, is_true};
+ghost use Rattle.ob_syntax.specs.declared.checked.ROp.{ROp};
+ghost use Rattle.ob_syntax.specs.declared.checked.Value.TheVariants.{Truth};
+ghost use Rattle.vc_code.specs.Machine.{Activation, State, with_top};
+ghost use Rattle.vc_code.specs.Selected.{Vars};
+ghost use Rattle.vc_build.specs.Runs.{Codes, Yields};
+ghost use Rattle.vc_expr.specs.Operators.{is_bitwise, HasValue};
+ghost use Rattle.vc_expr.specs.Branches.{Enters, chosen};
+ghost use Rattle.vc_expr.specs.Choices.{decided, test_of, Arrives};
+ghost use Rattle.vc_expr.specs.declared.choice.Choice.{Choice};
+
+/// `&` and OR over blocks: where the test of the left side leads to the block of the right side or
+/// to the block behind both ways, and the former gives the right side's value to the variable and
+/// leads there too, the variable has what the operator gives. So the right side is evaluated only
+/// where the left side does not decide.
+pub fn choices_give_operators()
+    ensures { (w : Codes) (id first : ℕ) (choice : Choice) (s : State Vars) (op : ROp)
+        (left right : Outcome) → is_bitwise op ≡ true →
+        HasValue w id choice.target.0 s.top (Truth (decided op)) → first ≤ choice.target.0 →
+        Yields w s (λ x c.
+        Enters (chosen (test_of op choice) (is_true x)) (suc choice.target.0) s.top c) left →
+        ((c : Activation Vars) → Enters choice.right.0 (suc choice.target.0) s.top c →
+        Yields w (with_top s c) (Arrives w id choice choice.target.0 c) right) →
+        Yields w s (Arrives w id choice first s.top) (combined op left right) }
+{}
