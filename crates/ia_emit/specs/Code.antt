@@ -88,6 +88,10 @@ first_entry = 28
 abbrev pub entry : List LProc → ℕ → ℕ
 entry procs k = first_entry + sum_by (λ p. size (emit_proc p)) (take k procs)
 
+-- how many bytes the code of procedures has
+abbrev pub code_size : List LProc → ℕ
+code_size procs = first_entry + sum_by (λ p. size (emit_proc p)) procs
+
 -- ---- the whole
 
 -- the instructions of procedures, the first of which begins at this place

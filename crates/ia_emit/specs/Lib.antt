@@ -1,4 +1,5 @@
 pub mod Code
+pub mod Counts
 pub mod Emission
 pub mod Layout
 pub mod Open

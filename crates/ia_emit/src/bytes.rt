@@ -21,16 +21,6 @@ pub struct CallSite {
     pub callee: ProcId,
 }
 
-// What stands in the rest of a vector.
-impl Default for CallSite {
-    fn default() -> CallSite {
-        CallSite {
-            place: 0,
-            callee: ProcId(0),
-        }
-    }
-}
-
 /// The bytes of a part of the code, and its calls.
 #[derive(Drop)]
 pub struct Piece {
@@ -38,7 +28,8 @@ pub struct Piece {
     pub calls: Vec<CallSite>,
 }
 
-fn push(bytes: &mut Vec<u8>, instruction: Ins) -> Result<(), OutOfMemory>
+/// Adds the bytes of an instruction.
+pub fn push(bytes: &mut Vec<u8>, instruction: Ins) -> Result<(), OutOfMemory>
     requires { IsSound instruction }
     ensures { OnOk result (bytes.new.items ≡ bytes.old.items ++ bytes_of instruction) }
 {

@@ -1,6 +1,7 @@
 // Laws of emission. Each function is a law: its contract is the statement, and it does nothing.
 
-ghost use Rattle.std.specs.Prelude.{◌≡◌, ◌≢◌, pos, neg_ℤ, drop, slice_get, Some};
+ghost use Rattle.std.specs.Prelude.{◌≡◌, ◌≢◌, ℕ, ◌≤◌, List, pos, neg_ℤ, drop, slice_get, Some};
+ghost use Rattle.ia_code.specs.Image.{max_code_bytes};
 ghost use Rattle.ia_code.specs.declared.ins.Ins.TheVariants.{Jcc};
 ghost use Rattle.pra_base.specs.declared.event.TrapKind.{TrapKind};
 ghost use Rattle.pra_base.specs.declared.event.TrapKind.TheVariants.{Input};
@@ -11,6 +12,8 @@ ghost use Rattle.ia_emit.specs.declared.item.Item.TheVariants.{Plain};
 ghost use Rattle.ia_emit.specs.Operands.{IsSmall};
 ghost use Rattle.ia_emit.specs.Emission.{clear, emit_proc};
 ghost use Rattle.ia_emit.specs.Code.{size, front, stub, stub_start, first_entry, StandsAt};
+ghost use Rattle.ia_emit.specs.Code.{code_size};
+ghost use Rattle.ia_emit.specs.Counts.{AreFew};
 ghost use Rattle.ia_emit.specs.Sound.{EachSound};
 
 /// The jump of the loop that clears aggregate words goes back over all that stands behind the first
@@ -32,4 +35,12 @@ pub fn front_has_its_places()
 /// What valid placed code becomes is in the table of bytes.
 pub fn placed_code_is_sound()
     ensures { (p : LProc) → IsSmall p → IsPlaced p → EachSound (emit_proc p) }
+{}
+
+/// Of valid placed code, as many instructions and blocks as a module has at most are code that an
+/// image holds.
+pub fn code_fits()
+    ensures { (procs : List LProc) → AreFew procs →
+        ((k : ℕ) (p : LProc) → slice_get procs k ≡ Some p → IsPlaced p) →
+        code_size procs ≤ max_code_bytes }
 {}
