@@ -1,0 +1,11 @@
+pub mod Applied
+pub mod Carried
+pub mod Coupled
+pub mod Forms
+pub mod Kept
+pub mod Paths
+pub mod Put
+pub mod Renamed
+pub mod Stepped
+pub mod Tracked
+pub mod Valid

@@ -1,0 +1,4 @@
+pub mod Pure
+pub mod Reduction
+pub mod Renaming
+pub mod SameRuns

@@ -1,0 +1,78 @@
+-- When code is other code reduced: instructions without effect are left out, and variables have
+-- other names, some of them one name. Nothing here speaks of runs.
+use Rattle.std.specs.Prelude.{◌≡◌, ℕ, suc, ◌<◌, ◌≤◌, ◌⊎◌, ℤ, true, List, [], ◌∷◌, length, slice_get, Some}
+use Rattle.std.specs.List.{list_any}
+use Rattle.pra_base.specs.declared.ids.VarId.{VarId}
+use Rattle.pra_base.specs.declared.code.VInstr.{VInstr}
+use Rattle.pra_base.specs.declared.code.VInstr.TheVariants.{Copy}
+use Rattle.pra_base.specs.declared.code.VarKind.TheVariants.{Param, Constant}
+use Rattle.pra_base.specs.declared.code.VProc.{VProc}
+use Rattle.pra_base.specs.Code.{kind_of, block_of, code_of, end_of, instr_at}
+use Rattle.pra_base.specs.Operands.{writes}
+use Rattle.pra_base.specs.Live.{ReadBeforeWritten}
+use Rattle.pra_base.specs.Valid as valid
+use Rattle.vc_code.specs.Machine.{is_param}
+use Rattle.vc_same.specs.Pure.{is_pure}
+use Rattle.vc_same.specs.Renaming.{Names, renamed}
+
+-- before instruction k of block b the variable holds a value that is still read
+abbrev pub Needed : VProc → ℕ → ℕ → ℕ → Type 0
+Needed code b k v = ReadBeforeWritten code v (record { block = b; index = k })
+
+-- An instruction that stays, under the new names, at place k of the old block. Its variables are of
+-- the same kind under their new names. None of them shares its new name with another variable that
+-- the instruction has too, or that is needed behind it.
+pub record Stays (to : Names) (old new : VProc) (b k : ℕ) (i j : VInstr) : Type 0 where
+  pub is : j ≡ renamed to i
+  pub kinds : (v : ℕ) → valid.Names i v → kind_of new (to v) ≡ kind_of old v
+  pub in_range : (v : ℕ) → valid.Names i v → v < length old.vars → to v < length new.vars
+  pub apart : (v w : ℕ) → valid.Names i v → to w ≡ to v →
+      valid.Names i w ⊎ Needed old b (suc k) w → w ≡ v
+
+-- An instruction that may be left out at place j of the new block: it gives only results that are
+-- not needed there, or it copies between two variables that have one name.
+pub data LeftOut (to : Names) (old new : VProc) (b j : ℕ) (i : VInstr) : Type 0 where
+  dead : is_pure i ≡ true → ((v : ℕ) → writes i v ≡ true → Needed new b j (to v) → ⊥) →
+      LeftOut to old new b j i
+  copied : {t s : VarId} → i ≡ Copy t s → to t.0 ≡ to s.0 → kind_of old t.0 ≡ kind_of old s.0 →
+      LeftOut to old new b j i
+
+-- what is left of an old block from place k on, reduced to what is left of the new block from place
+-- j on
+pub data Part (to : Names) (old new : VProc) (b : ℕ) :
+    ℕ → ℕ → List VInstr → List VInstr → Type 0 where
+  ends : {k j : ℕ} → Part to old new b k j [] []
+  stays : {k j : ℕ} {x y : VInstr} {xs ys : List VInstr} → Stays to old new b k x y →
+      Part to old new b (suc k) (suc j) xs ys → Part to old new b k j (x ∷ xs) (y ∷ ys)
+  left_out : {k j : ℕ} {x : VInstr} {xs ys : List VInstr} → LeftOut to old new b j x →
+      Part to old new b (suc k) j xs ys → Part to old new b k j (x ∷ xs) ys
+
+-- some instruction of the code has the variable
+abbrev pub IsNamed : VProc → ℕ → Type 0
+IsNamed code v = (b k : ℕ) × (i : VInstr) × (instr_at code b k ≡ Some i) × valid.Names i v
+
+-- The code is the old code reduced. An argument has a variable where it had one, and constants that
+-- are used keep names of their own.
+pub record Reduced (to : Names) (old new : VProc) : Type 0 where
+  pub id : new.id ≡ old.id
+  pub args : new.args ≡ old.args
+  pub aggregates : new.aggregates ≡ old.aggregates
+  pub homes : (i : ℕ) → list_any (is_param i) new.vars ≡ list_any (is_param i) old.vars
+  pub fewer : length new.vars ≤ length old.vars
+  pub constants : (v w : ℕ) (n : ℤ) → kind_of old v ≡ Constant n → IsNamed old v → IsNamed old w →
+      to w ≡ to v → w ≡ v
+  pub count : length new.blocks ≡ length old.blocks
+  pub depths : (b : ℕ) → (block_of new b).depth ≡ (block_of old b).depth
+  pub ends : (b : ℕ) → end_of new b ≡ end_of old b
+  pub code : (b : ℕ) → Part to old new b 0 0 (code_of old b) (code_of new b)
+
+-- The procedures of a module together, each with its names.
+pub record AllReduced (to : ℕ → Names) (olds news : List VProc) : Type 0 where
+  pub count : length news ≡ length olds
+  pub each : (p : ℕ) (old new : VProc) → slice_get olds p ≡ Some old →
+      slice_get news p ≡ Some new → Reduced (to p) old new
+
+-- no two variables stand for one argument
+abbrev pub ParamsApart : VProc → Type 0
+ParamsApart code = (v w i : ℕ) → slice_get code.vars v ≡ Some (Param i) →
+    slice_get code.vars w ≡ Some (Param i) → v ≡ w
