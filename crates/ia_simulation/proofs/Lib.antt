@@ -1,0 +1,16 @@
+pub mod Here
+pub mod Places
+pub mod Cells
+pub mod Standing
+pub mod Sizes
+pub mod Spots
+pub mod Effects
+pub mod Steps
+pub mod Moves
+pub mod Masks
+pub mod Ops
+pub mod Rows
+pub mod Walks
+pub mod Enter
+pub mod Computes
+pub mod Whole
