@@ -1,0 +1,12 @@
+pub mod Leads
+pub mod Chains
+pub mod UsedNames
+pub mod Selections
+pub mod ExpressionRules
+pub mod Calls
+pub mod StatementRules
+pub mod TypeRules
+pub mod DeclarationRules
+pub mod ProcedureRules
+pub mod TreesStand
+pub mod OneIsTold
