@@ -1,1 +1,3 @@
+pub mod Assembling
 pub mod ImageFile
+pub mod Overwriting
