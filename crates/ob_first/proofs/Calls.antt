@@ -17,10 +17,10 @@ use Rattle.ob_syntax.specs.declared.tree.Expr.{Expr, out-Expr, fold_out-Expr}
 use Rattle.ob_syntax.specs.Expressions.{Phrase, Next, Selected, Selection, FactorResult, SelectorResult, factor_form, selector_form, designator, expr, factor, next_factor, next_term, relation, selector, simple_expr, term, integer, of_type, expression}
 use Rattle.ob_syntax.specs.Names.{Fault, Judged, Place, used}
 use Rattle.ob_syntax.specs.Statements.{is_designator, lent_variable, lent, passed, argument, beyond, arguments, counted, parameters, called}
-use Rattle.ob_first.specs.Tests.{told, Fails, AnyOf, NameFails}
+use Rattle.ob_first.specs.Faults.{Fails, AnyOf, NameFails}
 use Rattle.ob_first.specs.InExpressions.{InExpression}
 use Rattle.ob_first.specs.InStatements.{wanted, ArgumentsFail, CallFails, InCall}
-use Rattle.ob_first.proofs.Leads.{Leads, InOrder, alike, wide, after, behind, tested, nothing, same_value, came_of, ok_err, err_told, as_told}
+use Rattle.ob_first.proofs.Leads.{told, Leads, InOrder, alike, wide, after, behind, tested, nothing, same_value, came_of, ok_err, err_told, as_told}
 use Rattle.ob_first.proofs.Chains.{Stands, of_type_at}
 use Rattle.ob_first.proofs.UsedNames.{named}
 use Rattle.ob_first.proofs.ExpressionRules.{value_or_err}

@@ -6,9 +6,9 @@ use Rattle.ob_syntax.specs.declared.checked.ROp.TheVariants as op
 use Rattle.ob_syntax.specs.declared.checked.Typed.{Typed}
 use Rattle.ob_syntax.specs.Expressions.{Phrase, Next, of_type, operand, binary, chained}
 use Rattle.ob_syntax.specs.Names.{Fault, Judged, Place}
-use Rattle.ob_first.specs.Tests.{told, Fails, AnyOf}
+use Rattle.ob_first.specs.Faults.{Fails, AnyOf}
 use Rattle.ob_first.specs.InExpressions.{ChainFails}
-use Rattle.ob_first.proofs.Leads.{Leads, InOrder, alike, wide, tested, joined}
+use Rattle.ob_first.proofs.Leads.{told, Leads, InOrder, alike, wide, tested, joined}
 use Rattle.pra_list.proofs.Choices.{by_test}
 use Rattle.pra_list.specs.Results.{◌>>=◌}
 

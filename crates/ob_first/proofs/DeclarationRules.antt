@@ -12,10 +12,10 @@ use Rattle.ob_syntax.specs.Declarations.{announced, all_announced, shown, consta
 use Rattle.ob_syntax.specs.Expressions.{integer, boolean}
 use Rattle.ob_syntax.specs.Names.{Fault, Judged, Place, name_at, is_declared}
 use Rattle.ob_syntax.specs.Types.{constant, type_expression}
-use Rattle.ob_first.specs.Tests.{told, Behind, value_or}
+use Rattle.ob_first.specs.Faults.{Behind, value_or}
 use Rattle.ob_first.specs.InTypes.{InConstant, InType}
 use Rattle.ob_first.specs.InDeclarations.{NamesFail, InConstants, InTypeDeclarations, InVariables, InParameterType, InSections, InHeading}
-use Rattle.ob_first.proofs.Leads.{Leads, InOrder, alike, wide, after, after_behind, tested, nothing, told_joined}
+use Rattle.ob_first.proofs.Leads.{told, Leads, InOrder, alike, wide, after, after_behind, tested, nothing, told_joined}
 use Rattle.ob_first.proofs.Selections.{alone}
 use Rattle.ob_first.proofs.Calls.{ExpressionAt}
 use Rattle.ob_first.proofs.TypeRules.{constant_leads, NameAt, names_in_order, TypeAt, NamesOfType, NameListAt, of_type_in_order, lists_in_order}

@@ -24,10 +24,10 @@ use Rattle.ob_syntax.specs.declared.tree.Span.{Span}
 use Rattle.ob_syntax.specs.declared.tree.Term.{Term, out-Term, roll-Term, out-roll-Term, fold-roll-Term}
 use Rattle.ob_syntax.specs.Expressions.{Phrase, Next, Selected, Selection, FactorResult, SelectorResult, factor_form, selector_form, designator, expr, factor, next_factor, next_term, relation, selector, simple_expr, term, integer, boolean, of_type, operand, binary, are_alike, compared_alike, related, chained, signed_term, designated, typed, expression, simple_expression, whole_term, whole_factor, following_term, following_factor, comparison, one_selector}
 use Rattle.ob_syntax.specs.Names.{Fault, Judged, Place, used}
-use Rattle.ob_first.specs.Tests.{told, Fails, BothFail, AnyOf, NameFails}
+use Rattle.ob_first.specs.Faults.{Fails, BothFail, AnyOf, NameFails}
 use Rattle.ob_first.specs.InExpressions as which
 use Rattle.ob_first.specs.InExpressions.{OperandFails, ChainFails, RelationFails, signed, bare, SelectorsFail, InExpression, InSimple, InTerm, InFactor, InSelector}
-use Rattle.ob_first.proofs.Leads.{Leads, InOrder, alike, wide, tested, both_tested, joined, told_joined, nothing, one_some, not_both}
+use Rattle.ob_first.proofs.Leads.{told, Leads, InOrder, alike, wide, tested, both_tested, joined, told_joined, nothing, one_some, not_both}
 use Rattle.ob_first.proofs.Chains.{Stands, of_type_at, operand_at, in_two, told_unit, chain}
 use Rattle.ob_first.proofs.Selections.{SelectorAt, ordered, regrouped, field_selector, index_selector, designated_leads}
 use Rattle.pra_list.proofs.Choices.{by_test}

@@ -2,8 +2,17 @@
 use Rattle.std.proofs.Common.{◌≡◌, ℕ, ◌<◌, ◌≤◌, ◌⊎◌, inl, inr, List, [], ◌∷◌, Option, Some, None, refl, ap, sym, ◌∙◌, subst, arith}
 use Rattle.std.specs.Prelude.{Ok, Err}
 use Rattle.ob_syntax.specs.Names.{Fault, Judged}
-use Rattle.ob_first.specs.Tests.{told, Fails, BothFail, Precedes, Behind}
+use Rattle.ob_first.specs.Faults.{Fails, BothFail, Behind}
 use Rattle.pra_list.specs.Results.{◌>>=◌}
+
+-- the broken rule that a reading tells
+abbrev pub told : {A : Type 0} → Judged A → Option Fault
+told (Ok x) = None
+told (Err f) = Some f
+
+-- g stands at an earlier token than f, or at the same with a smaller number or the same
+abbrev pub Precedes : Fault → Fault → Type 0
+Precedes g f = (g.1 < f.1) ⊎ ((g.1 ≡ f.1) × (g.0 ≤ f.0))
 
 -- what is told comes before f; where nothing is told, there is no f
 abbrev pub First : Option Fault → Fault → Type 0

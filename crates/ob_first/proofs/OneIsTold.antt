@@ -12,9 +12,8 @@ use Rattle.ob_syntax.specs.Names.{Fault, Judged}
 use Rattle.ob_syntax.specs.Tree.{tree}
 use Rattle.ob_syntax.specs.WellFormed.{IsBroken, IsWellFormed}
 use Rattle.ob_syntax.proofs.NumbersInTrees.{numbered}
-use Rattle.ob_first.specs.Tests.{told, Precedes}
 use Rattle.ob_first.specs.Breaks.{InModule, Breaks, IsFirst}
-use Rattle.ob_first.proofs.Leads.{Leads, First, err_told}
+use Rattle.ob_first.proofs.Leads.{told, Precedes, Leads, First, err_told}
 use Rattle.ob_first.proofs.TreesStand.{module_stands}
 
 -- the module tells the first of what is broken in it, at one of its tokens

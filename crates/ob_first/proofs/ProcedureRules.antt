@@ -15,11 +15,11 @@ use Rattle.ob_syntax.specs.declared.tree.TypeDecl.{TypeDecl}
 use Rattle.ob_syntax.specs.Declarations.{all_constants, all_type_declarations, all_variables, left, nodes_of, with_nodes, Declared, ProcResult, DeclsResult, all_procedures, decls_step, closed, drafted, heading, proc_step, declarations, procedure}
 use Rattle.ob_syntax.specs.Names.{Fault, Judged, Place, name_at}
 use Rattle.ob_syntax.specs.Statements.{each, statement}
-use Rattle.ob_first.specs.Tests.{told, AnyOf, Behind}
+use Rattle.ob_first.specs.Faults.{AnyOf, Behind}
 use Rattle.ob_first.specs.InStatements.{InStatement}
 use Rattle.ob_first.specs.InDeclarations as which
 use Rattle.ob_first.specs.InDeclarations.{InConstants, InTypeDeclarations, InVariables, InHeading, PlaceBehind, all_behind, variables_behind, behind_step, behind_proc_step, behind_declarations, behind_procedure, InDeclarations, InProcedures, InProcedure}
-use Rattle.ob_first.proofs.Leads.{Leads, InOrder, alike, wide, after, after_behind, joined, nothing, told_joined, same_value, came_of}
+use Rattle.ob_first.proofs.Leads.{told, Leads, InOrder, alike, wide, after, after_behind, joined, nothing, told_joined, same_value, came_of}
 use Rattle.ob_first.proofs.Selections.{alone, regrouped}
 use Rattle.ob_first.proofs.Calls.{ExpressionAt}
 use Rattle.ob_first.proofs.StatementRules.{StatementAt, each_leads, items_in_order}
@@ -232,6 +232,31 @@ told_behind {X} {Y} {Z} {W} {U} {V} a d e c h g = first a
     first (Ok x) = second x (d x)
     first (Err f) = refl
 
+steps_of : {X Y Z W V : Type 0} (a : Judged X) (d : X → Judged Y) (e : Y → Judged Z) (c : Y → Judged W) (h : X → Y → Z → W → V) (r : V)
+    → (a >>= λ x. d x >>= λ y. e y >>= λ z. c y >>= λ w. Ok (h x y z w)) ≡ Ok r → (x : X) × (y : Y) × (z : Z) × (w : W) × (a ≡ Ok x) × (d x ≡ Ok y) × (c y ≡ Ok w) × (h x y z w ≡ r)
+steps_of {X} {Y} {Z} {W} {V} a d e c h r is = first (came_of a (λ x. d x >>= λ y. e y >>= λ z. c y >>= λ w. Ok (h x y z w)) r is)
+  where
+    Steps : Type 0
+    Steps = (x : X) × (y : Y) × (z : Z) × (w : W) × (a ≡ Ok x) × (d x ≡ Ok y) × (c y ≡ Ok w) × (h x y z w ≡ r)
+
+    value : V → Judged V
+    value v = Ok v
+
+    value_is : (v : V) → value v ≡ Ok r → v ≡ r
+    value_is v is = same_value (value v) v r refl is
+
+    fourth : (x : X) (y : Y) (z : Z) → a ≡ Ok x → d x ≡ Ok y → ((w : W) × (c y ≡ Ok w) × (value (h x y z w) ≡ Ok r)) → Steps
+    fourth x y z ax dx (w, cy, is) = (x, y, z, w, ax, dx, cy, value_is (h x y z w) is)
+
+    third : (x : X) (y : Y) → a ≡ Ok x → d x ≡ Ok y → ((z : Z) × (e y ≡ Ok z) × ((c y >>= λ w. Ok (h x y z w)) ≡ Ok r)) → Steps
+    third x y ax dx (z, ey, is) = fourth x y z ax dx (came_of (c y) (λ w. Ok (h x y z w)) r is)
+
+    second : (x : X) → a ≡ Ok x → ((y : Y) × (d x ≡ Ok y) × ((e y >>= λ z. c y >>= λ w. Ok (h x y z w)) ≡ Ok r)) → Steps
+    second x ax (y, dx, is) = third x y ax dx (came_of (e y) (λ z. c y >>= λ w. Ok (h x y z w)) r is)
+
+    first : ((x : X) × (a ≡ Ok x) × ((d x >>= λ y. e y >>= λ z. c y >>= λ w. Ok (h x y z w)) ≡ Ok r)) → Steps
+    first (x, ax, is) = second x ax (came_of (d x) (λ y. e y >>= λ z. c y >>= λ w. Ok (h x y z w)) r is)
+
 module _ (s : Span) (name : ℕ) (params : List Section) (ds : Decls) (ss : List Stmt) (close : ℕ) where
   abbrev proc : Proc
   proc = roll-Proc (record { span = s; name = name; params = params; decls = ds; body = ss; close = close })
@@ -259,16 +284,32 @@ module _ (s : Span) (name : ℕ) (params : List Section) (ds : Decls) (ss : List
   proc_inside x p f (which.body _ _ _ b) = inr (inl b)
   proc_inside x p f (which.close _ _ _ b) = inr (inr b)
 
+  -- what a procedure is read as
+  abbrev made_of : Place → Place × List Param → Declared → List RStmt → Place → Place × List Draft
+  made_of p inside x body end = (
+    with_nodes (left end p.here) (nodes_of end.tokens ss),
+    drafted end.here name inside.1 x.vars (nodes_of end.tokens ss) body ∷ x.procs,
+  )
+
+  place_behind : (p : Place) (q : Place × List Param) (e end : Place) (r : Place × List Draft) → heading p name params ≡ Ok q → behind_declarations ds q.0 ≡ Ok e → e ≡ end
+      → with_nodes (left end p.here) (nodes_of end.tokens ss) ≡ r.0 → behind_procedure proc p ≡ Ok r.0
+  place_behind p q e end r headed declared same is =
+      ap (λ (r : PlaceBehind). r p) (fold-roll-Proc PlaceBehind PlaceBehind behind_step behind_proc_step _)
+      ∙ ap (λ (r : Judged (Place × List Param)). r >>= λ q. behind_declarations ds q.0 >>= result) headed
+      ∙ ap (λ (r : Judged Place). r >>= result) declared
+      ∙ ap result same
+      ∙ ap (λ (x : Place). Ok x) is
+    where
+      result : Place → Judged Place
+      result e = Ok (with_nodes (left e p.here) (nodes_of e.tokens ss))
+
   pub procedure_stands : (i a b c d e g h j : ℕ) → NameAt name i a → a ≤ b → InOrder SectionAt b params c → c ≤ d → DeclarationsAt ds d e → e ≤ g → InOrder StatementAt g ss h → h ≤ close → close < j → ProcedureAt proc i j
   unfolding ProcParts
   procedure_stands i a b c d e g h j at low sections mid decls next statements high some = record {
     some = omega (arith, at.0, at.1, second, third, fourth);
     leads = λ p. alike i j _ _ (ProcParts p name params ds ss close) _
         (told_behind (heading p name params) (λ q. declarations ds q.0) (λ x. each x.place [] (map statement ss)) (λ x. closed 2 x.place name close)
-        (λ inside x body end. (
-          with_nodes (left end p.here) (nodes_of end.tokens ss),
-          drafted end.here name inside.1 x.vars (nodes_of end.tokens ss) body ∷ x.procs,
-        )) (λ x body end. end)
+        (made_of p) (λ x body end. end)
         ∙ ap (λ (r : ProcResult). told (r p)) (sym (fold-roll-Proc DeclsResult ProcResult decls_step proc_step _)))
         (λ f b. proc_outside proc p f (subst (λ z. ProcParts p z.name z.params z.decls z.body z.close f) (sym proc_opens) b))
         (λ f b. subst (λ z. ProcParts p z.name z.params z.decls z.body z.close f) proc_opens (proc_inside proc p f b))
@@ -282,18 +323,16 @@ module _ (s : Span) (name : ℕ) (params : List Section) (ds : Decls) (ss : List
         ap (λ (r : Judged (Place × List Param)). r >>= λ q. behind_declarations ds q.0) of.1 ∙ decls.behind of.0.0 x of.2)
         (omega (arith, at.0, at.1, second, third)) next statements high some (λ x body end. end));
     behind = λ p r is.
-        let read = ap (λ (r : ProcResult). r p) (sym (fold-roll-Proc DeclsResult ProcResult decls_step proc_step (record { span = s; name = name; params = params; decls = ds; body = ss; close = close }))) ∙ is in
-        let one = came_of (heading p name params) _ r read in
-        let two = came_of (declarations ds one.0.0) _ r one.2 in
-        let three = came_of (each two.0.place [] (map statement ss)) _ r two.2 in
-        let four = came_of (closed 2 two.0.place name close) _ r three.2 in
-        ap (λ (r : PlaceBehind). r p) (fold-roll-Proc PlaceBehind PlaceBehind behind_step behind_proc_step _)
-        ∙ ap (λ (r : Judged (Place × List Param)). r >>= λ q. behind_declarations ds q.0 >>= λ e. Ok (with_nodes (left e p.here) (nodes_of e.tokens ss))) one.1
-        ∙ ap (λ (r : Judged Place). r >>= λ e. Ok (with_nodes (left e p.here) (nodes_of e.tokens ss))) (decls.behind one.0.0 two.0 two.1)
-        ∙ ap (λ (e : Place). Ok (with_nodes (left e p.here) (nodes_of e.tokens ss))) (closed_is 2 two.0.place name close four.0 four.1)
-        ∙ ap (λ (x : Place × List Draft). Ok x.0) (same_value _ _ r refl four.2);
+        let of = steps_of (heading p name params) (λ q. declarations ds q.0) (λ x. each x.place [] (map statement ss)) (λ x. closed 2 x.place name close) (made_of p) r
+        (ap (λ (r : ProcResult). r p) (sym (fold-roll-Proc DeclsResult ProcResult decls_step proc_step _)) ∙ is) in
+        known p r of.0 of.1 of.2 of.3 of.4 of.5 of.6 of.7;
   }
     where
+      known : (p : Place) (r : Place × List Draft) (q : Place × List Param) (x : Declared) (body : List RStmt) (end : Place) → heading p name params ≡ Ok q → declarations ds q.0 ≡ Ok x
+          → closed 2 x.place name close ≡ Ok end → made_of p q x body end ≡ r → behind_procedure proc p ≡ Ok r.0
+      known p r q x body end headed declared named made =
+          place_behind p q x.place end r headed (decls.behind q.0 x declared) (closed_is 2 x.place name close end named) (ap (λ (y : Place × List Draft). y.0) made)
+
       second : b ≤ c
       second = sections_in_order params b c sections
 

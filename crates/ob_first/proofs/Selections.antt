@@ -14,9 +14,9 @@ use Rattle.ob_syntax.specs.declared.tree.Selector.{Selector, out-Selector}
 use Rattle.ob_syntax.specs.declared.tree.SelectorForm.{SelectorForm-F, out-SelectorForm}
 use Rattle.ob_syntax.specs.Expressions.{Selected, integer, of_type, the_field, field_number, field, element, selected, literal, designated, expression, one_selector, variable, typed}
 use Rattle.ob_syntax.specs.Names.{Fault, Judged, Place, used}
-use Rattle.ob_first.specs.Tests.{told, Fails, AnyOf, NameFails}
+use Rattle.ob_first.specs.Faults.{Fails, AnyOf, NameFails}
 use Rattle.ob_first.specs.InExpressions.{bare, SelectorFails, SelectorsFail, InExpression, InSelector, in_index, no_number}
-use Rattle.ob_first.proofs.Leads.{Leads, Lies, InOrder, alike, wide, after, tested, told_err, err_first, same_value, told_joined, nothing}
+use Rattle.ob_first.proofs.Leads.{told, Leads, Lies, InOrder, alike, wide, after, tested, told_err, err_first, same_value, told_joined, nothing}
 use Rattle.ob_first.proofs.Chains.{Stands, of_type_at}
 use Rattle.ob_first.proofs.UsedNames.{named}
 use Rattle.pra_list.specs.Results.{◌>>=◌}

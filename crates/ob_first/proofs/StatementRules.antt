@@ -19,11 +19,11 @@ use Rattle.ob_syntax.specs.declared.tree.StmtForm.TheVariants as form_is
 use Rattle.ob_syntax.specs.Expressions.{Phrase, Next, Selected, Selection, FactorResult, SelectorResult, factor_form, selector_form, designator, expr, factor, next_factor, next_term, relation, selector, simple_expr, term, boolean, of_type, are_alike, selected, variable, expression, one_selector, name_with_selectors}
 use Rattle.ob_syntax.specs.Names.{Fault, Judged, Place, used}
 use Rattle.ob_syntax.specs.Statements.{Judge, StmtResult, stmt_form, arm_step, stmt_step, target, assigned, condition, each, statement, arm}
-use Rattle.ob_first.specs.Tests.{told, IsIn, BothFail, AnyOf, NameFails}
+use Rattle.ob_first.specs.Faults.{IsIn, BothFail, AnyOf, NameFails}
 use Rattle.ob_first.specs.InExpressions.{bare, SelectorsFail, InExpression, InSelector}
 use Rattle.ob_first.specs.InStatements as which
 use Rattle.ob_first.specs.InStatements.{TargetFails, AssignmentFails, InCondition, InCall, Layer, StatementFails, arms_in, statements_in, layer, InStatement, InArm}
-use Rattle.ob_first.proofs.Leads.{Leads, InOrder, alike, wide, after, tested, both_tested, joined, nothing, told_joined}
+use Rattle.ob_first.proofs.Leads.{told, Leads, InOrder, alike, wide, after, tested, both_tested, joined, nothing, told_joined}
 use Rattle.ob_first.proofs.Chains.{of_type_at}
 use Rattle.ob_first.proofs.Selections.{SelectorAt, regrouped, ordered, named_selected}
 use Rattle.ob_first.proofs.Calls.{ExpressionAt, last_of, call_leads}

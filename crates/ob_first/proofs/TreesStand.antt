@@ -10,11 +10,10 @@ use Rattle.ob_syntax.specs.Expressions.{whole_factor, whole_term, simple_express
 use Rattle.ob_syntax.specs.Forms.{Form, Parts, made, done, taken, part, end, ends}
 use Rattle.ob_syntax.specs.Tree.{Tree, Values, tree, values, tree_by, span_to}
 use Rattle.ob_syntax.proofs.FormsAdvance.{stays}
-use Rattle.ob_first.specs.Tests.{told}
 use Rattle.ob_first.specs.InExpressions.{InFactor, InTerm, InSimple}
 use Rattle.ob_first.specs.InDeclarations.{behind_declarations, InDeclarations}
 use Rattle.ob_first.specs.Breaks.{InModule}
-use Rattle.ob_first.proofs.Leads.{Leads, InOrder, wide}
+use Rattle.ob_first.proofs.Leads.{told, Leads, InOrder, wide}
 use Rattle.ob_syntax.specs.declared.token.Token.{Token}
 use Rattle.ob_first.proofs.Chains.{Stands}
 use Rattle.ob_first.proofs.Selections.{SelectorAt}

@@ -17,11 +17,11 @@ use Rattle.ob_syntax.specs.Expressions.{expression}
 use Rattle.ob_syntax.specs.Names.{Fault, Place, used, name_at}
 use Rattle.ob_syntax.specs.Source.{Name}
 use Rattle.ob_syntax.specs.Types.{Worth, worth, constant_of, constant, length_of, array_length, Shaped, with_type, with_length, named_type, with_fields, with_types, Fields, FieldsAfter, all_fields, type_form, field_list, type_step, type_expression, fields_of}
-use Rattle.ob_first.specs.Tests.{told, NameFails, value_or}
+use Rattle.ob_first.specs.Faults.{NameFails, value_or}
 use Rattle.ob_first.specs.InExpressions.{InExpression}
 use Rattle.ob_first.specs.InTypes as which
 use Rattle.ob_first.specs.InTypes.{InConstant, InLength, FieldNamesFail, Layer, layer, TypeFails, in_array, behind_list, InType, InFields}
-use Rattle.ob_first.proofs.Leads.{Leads, InOrder, alike, wide, after, tested, joined, nothing, told_joined}
+use Rattle.ob_first.proofs.Leads.{told, Leads, InOrder, alike, wide, after, tested, joined, nothing, told_joined}
 use Rattle.ob_first.proofs.UsedNames.{named}
 use Rattle.ob_first.proofs.Selections.{alone, regrouped}
 use Rattle.ob_first.proofs.Calls.{ExpressionAt, last_of}

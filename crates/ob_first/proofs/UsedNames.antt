@@ -4,8 +4,8 @@ use Rattle.std.specs.Prelude.{Ok, Err}
 use Rattle.ob_syntax.specs.declared.checked.Meaning.{Meaning}
 use Rattle.ob_syntax.specs.declared.checked.Meaning.TheVariants.{Variable}
 use Rattle.ob_syntax.specs.Names.{Fault, Judged, Place, meaning, name_at, used, known, reached, is_within_reach}
-use Rattle.ob_first.specs.Tests.{told, NameFails}
-use Rattle.ob_first.proofs.Leads.{Leads, told_err, err_first}
+use Rattle.ob_first.specs.Faults.{NameFails}
+use Rattle.ob_first.proofs.Leads.{told, Leads, told_err, err_first}
 use Rattle.pra_list.proofs.Choices.{by_test}
 use Rattle.pra_list.specs.Results.{◌>>=◌}
 

@@ -10,7 +10,7 @@ use Rattle.ob_syntax.specs.declared.token.Token.{Token}
 use Rattle.ob_syntax.specs.declared.tree.Module.{Module}
 use Rattle.ob_syntax.specs.Declarations.{beginning, closed}
 use Rattle.ob_syntax.specs.Names.{Fault}
-use Rattle.ob_first.specs.Tests.{AnyOf, Behind}
+use Rattle.ob_first.specs.Faults.{AnyOf, Behind}
 use Rattle.ob_first.specs.InStatements.{InStatement}
 use Rattle.ob_first.specs.InDeclarations.{behind_declarations, InDeclarations}
 

@@ -18,7 +18,7 @@ use Rattle.ob_syntax.specs.Declarations.{variable_list, all_variables, parameter
 use Rattle.ob_syntax.specs.Declarations.{entered, left, heading, closed, nodes_of, with_nodes}
 use Rattle.ob_syntax.specs.Names.{Fault, Judged, Place}
 use Rattle.ob_syntax.specs.Types.{type_expression}
-use Rattle.ob_first.specs.Tests.{Fails, AnyOf, Behind, value_or}
+use Rattle.ob_first.specs.Faults.{Fails, AnyOf, Behind, value_or}
 use Rattle.ob_first.specs.InStatements.{InStatement}
 use Rattle.ob_first.specs.InTypes.{InConstant, InType}
 use Rattle.pra_list.specs.Results.{◌>>=◌}

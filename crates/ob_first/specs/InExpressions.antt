@@ -22,7 +22,7 @@ use Rattle.ob_syntax.specs.Expressions.{designated, expression, simple_expressio
 use Rattle.ob_syntax.specs.Expressions.{whole_factor, following_term, following_factor, comparison}
 use Rattle.ob_syntax.specs.Expressions.{one_selector}
 use Rattle.ob_syntax.specs.Names.{Fault, Judged, Place, used}
-use Rattle.ob_first.specs.Tests.{IsIn, Fails, BothFail, NameFails}
+use Rattle.ob_first.specs.Faults.{IsIn, Fails, BothFail, NameFails}
 use Rattle.pra_list.specs.Results.{◌>>=◌}
 
 -- ---- operators

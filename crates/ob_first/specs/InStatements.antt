@@ -15,7 +15,7 @@ use Rattle.ob_syntax.specs.Expressions.{integer, boolean, of_type, expression, n
 use Rattle.ob_syntax.specs.Names.{Fault, Place, meaning, name_at, used}
 use Rattle.ob_syntax.specs.Statements.{target, assigned, argument, arguments, counted, parameters}
 use Rattle.ob_syntax.specs.Statements.{called}
-use Rattle.ob_first.specs.Tests.{IsIn, Fails, BothFail, AnyOf, NameFails}
+use Rattle.ob_first.specs.Faults.{IsIn, Fails, BothFail, AnyOf, NameFails}
 use Rattle.ob_first.specs.InExpressions.{bare, SelectorsFail, InExpression, InSelector}
 use Rattle.pra_list.specs.Results.{◌>>=◌}
 

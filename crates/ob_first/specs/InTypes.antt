@@ -9,7 +9,7 @@ use Rattle.ob_syntax.specs.Names.{Fault, Place, name_at}
 use Rattle.ob_syntax.specs.Source.{Name}
 use Rattle.ob_syntax.specs.Types.{worth, constant_of, constant, length_of, array_length, named_type}
 use Rattle.ob_syntax.specs.Types.{with_length, with_fields, Fields, fields_of}
-use Rattle.ob_first.specs.Tests.{Fails, NameFails, value_or}
+use Rattle.ob_first.specs.Faults.{Fails, NameFails, value_or}
 use Rattle.ob_first.specs.InExpressions.{InExpression}
 
 -- ---- constants and lengths

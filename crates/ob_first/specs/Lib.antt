@@ -1,4 +1,4 @@
-pub mod Tests
+pub mod Faults
 pub mod InExpressions
 pub mod InStatements
 pub mod InTypes

@@ -1,12 +1,7 @@
--- Which broken rule a reading tells, and which rule a single test finds broken.
-use Rattle.std.specs.Prelude.{◌≡◌, ℕ, ◌≤◌, ◌<◌, ◌⊎◌, List, [], ◌∷◌, Option, Some, None, Ok, Err}
+-- What breaks a rule by itself: a phrase that is tested, a name, one of several parts.
+use Rattle.std.specs.Prelude.{◌≡◌, ℕ, ◌⊎◌, List, [], ◌∷◌, Some, Ok, Err}
 use Rattle.ob_syntax.specs.declared.checked.Meaning.{Meaning}
 use Rattle.ob_syntax.specs.Names.{Fault, Judged, Place, meaning, name_at, used}
-
--- the broken rule that a reading tells
-abbrev pub told : {A : Type 0} → Judged A → Option Fault
-told (Ok x) = None
-told (Err f) = Some f
 
 abbrev pub IsIn : {A : Type 0} → A → List A → Type 0
 IsIn x [] = ⊥
@@ -28,10 +23,6 @@ abbrev pub NameFails : {A : Type 0} → Place → ℕ → (Meaning → Judged A)
 NameFails p k kind f =
     (used p k ≡ Err f) ⊎
     ((m : Meaning) × (meaning p (name_at p k) ≡ Some m) × (kind m ≡ Err f))
-
--- g stands at an earlier token than f, or at the same with a smaller number or the same
-abbrev pub Precedes : Fault → Fault → Type 0
-Precedes g f = (g.1 < f.1) ⊎ ((g.1 ≡ f.1) × (g.0 ≤ f.0))
 
 -- one of the elements breaks a rule
 abbrev pub AnyOf : {A : Type 0} → (A → Fault → Type 0) → List A → Fault → Type 0
