@@ -15,3 +15,8 @@ pub mod Branching
 pub mod Choosing
 pub mod Rules
 pub mod Obeys
+pub mod Certificates
+pub mod Added
+pub mod Published
+pub mod Whole
+pub mod Unread

@@ -9,13 +9,13 @@ use Rattle.pra_base.specs.declared.code.VarKind.{VarKind}
 use Rattle.pra_base.specs.declared.code.VarKind.TheVariants.{Plain, Constant}
 use Rattle.pra_base.specs.declared.code.VInstr.{VInstr}
 use Rattle.pra_base.specs.declared.code.VInstr.TheVariants.{Set, Copy, Add, Sub, And, Or, Xor, Mul, Neg, Cmp, CmpSet, DivMod, CheckPos}
-use Rattle.vc_expr.specs.Rules.{FourApart, Obeys}
+use Rattle.vc_expr.specs.Rules.{DividesWell, Obeys}
 
 -- a variable that is one of these
-is_first : (a v : ℕ) → (nat_eq a v || false) ≡ true → v ≡ a
+pub is_first : (a v : ℕ) → (nat_eq a v || false) ≡ true → v ≡ a
 is_first a v e = grind (arith, nat_tests)
 
-is_either : (a b v : ℕ) → (nat_eq a v || (nat_eq b v || false)) ≡ true → (v ≡ a) ⊎ (v ≡ b)
+pub is_either : (a b v : ℕ) → (nat_eq a v || (nat_eq b v || false)) ≡ true → (v ≡ a) ⊎ (v ≡ b)
 is_either a b v e = grind (arith, nat_tests)
 
 is_written : (a v : ℕ) → ((nat_eq v a || false) || false) ≡ true → v ≡ a
@@ -172,8 +172,8 @@ module _ (args : ℕ) (vars : List VarKind) where
     cells = λ n e. absurd (cc);
   }
 
-  pub obeys_divide : (q r a d : VarId) → kind q.0 ≡ Plain → kind r.0 ≡ Plain → q.0 < length vars → r.0 < length vars → a.0 < q.0 → d.0 < q.0 → q.0 < r.0 → a.0 ≢ d.0 → Obeys args vars (DivMod q r a d)
-  obeys_divide q r a d q_plain r_plain q_there r_there a_low d_low low apart = record {
+  pub obeys_divide : (q r a d : VarId) → kind q.0 ≡ Plain → kind r.0 ≡ Plain → kind a.0 ≡ Plain → q.0 < length vars → r.0 < length vars → a.0 < q.0 → d.0 < q.0 → q.0 < r.0 → a.0 ≢ d.0 → Obeys args vars (DivMod q r a d)
+  obeys_divide q r a d q_plain r_plain a_plain q_there r_there a_low d_low low apart = record {
     named = λ v n. ⊎_elim
         (λ x. ⊎_elim (λ (e : v ≡ a.0). omega (arith, e, a_low, q_there)) (λ (e : v ≡ d.0). omega (arith, e, d_low, q_there)) (is_either a.0 d.0 v x))
         (λ x. ⊎_elim (λ (e : v ≡ q.0). omega (arith, e, q_there)) (λ (e : v ≡ r.0). omega (arith, e, r_there)) (is_either q.0 r.0 v x))
@@ -182,7 +182,7 @@ module _ (args : ℕ) (vars : List VarKind) where
         (λ (s : v ≡ a.0). ⊎_elim (λ (z : v ≡ q.0). omega (arith, s, z, a_low)) (λ (z : v ≡ r.0). omega (arith, s, z, a_low, low)) (is_either q.0 r.0 v e))
         (λ (s : v ≡ d.0). ⊎_elim (λ (z : v ≡ q.0). omega (arith, s, z, d_low)) (λ (z : v ≡ r.0). omega (arith, s, z, d_low, low)) (is_either q.0 r.0 v e))
         (is_either a.0 d.0 v x));
-    division_apart = λ x y z u e. four q r a d x y z u e a_low d_low low apart;
+    division_apart = λ x y z u e. four q r a d x y z u e a_low d_low low apart a_plain (omega (arith, a_low, q_there));
     constants_kept = λ v n e. record {
       unwritten = no_other (writes (DivMod q r a d) v) (λ w. ⊎_elim
           (λ (s : v ≡ q.0). plain_constant n (sym q_plain ∙ ap kind (sym s) ∙ e))
@@ -206,8 +206,8 @@ module _ (args : ℕ) (vars : List VarKind) where
       same_d : (q r a d x y z u : VarId) → DivMod q r a d ≡ DivMod x y z u → d ≡ u
       same_d q r a d x y z u e = cc
 
-      four : (q r a d x y z u : VarId) → DivMod q r a d ≡ DivMod x y z u → a.0 < q.0 → d.0 < q.0 → q.0 < r.0 → a.0 ≢ d.0 → FourApart x y z u
-      four q r a d x y z u e a_low d_low low apart =
+      four : (q r a d x y z u : VarId) → DivMod q r a d ≡ DivMod x y z u → a.0 < q.0 → d.0 < q.0 → q.0 < r.0 → a.0 ≢ d.0 → kind a.0 ≡ Plain → a.0 < length vars → DividesWell vars x y z u
+      four q r a d x y z u e a_low d_low low apart plain there =
           let eq : x.0 ≡ q.0 = ap (λ v. v.0) (sym (same_q q r a d x y z u e)) in
           let er : y.0 ≡ r.0 = ap (λ v. v.0) (sym (same_r q r a d x y z u e)) in
           let ea : z.0 ≡ a.0 = ap (λ v. v.0) (sym (same_a q r a d x y z u e)) in
@@ -219,4 +219,6 @@ module _ (args : ℕ) (vars : List VarKind) where
             r_a = λ s. let n : y.0 ≡ z.0 = ap (λ v. v.0) s in omega (arith, n, er, ea, a_low, low);
             r_d = λ s. let n : y.0 ≡ u.0 = ap (λ v. v.0) s in omega (arith, n, er, ed, d_low, low);
             a_d = λ s. let n : z.0 ≡ u.0 = ap (λ v. v.0) s in apart (sym ea ∙ n ∙ ed);
+            plain = ap kind ea ∙ plain;
+            there = omega (arith, ea, there);
           }

@@ -88,10 +88,10 @@ get_more [] ys k y e = absurd (cc)
 get_more (z ∷ xs) ys zero y e = e
 get_more (z ∷ xs) ys (suc k) y e = get_more xs ys k y e
 
-nothing_there : {A : Type 0} (k : ℕ) (y : A) → slice_get [] k ≡ Some y → ⊥
+pub nothing_there : {A : Type 0} (k : ℕ) (y : A) → slice_get [] k ≡ Some y → ⊥
 nothing_there k y e = cc
 
-code_past : (code : VProc) (b : ℕ) → count code ≤ b → code_of code b ≡ []
+pub code_past : (code : VProc) (b : ℕ) → count code ≤ b → code_of code b ≡ []
 code_past code b le = ap (λ x. x.code) (get_or_past code.blocks b no_block le)
 
 closes_more : (n m : ℕ) (x : Block) → n ≤ m → ClosesWell n x → ClosesWell m x
@@ -194,7 +194,7 @@ module _ (counts : List ℕ) (at : ℕ) (end : End) (old : VProc) (o : IsOpen ol
 
 -- ---- one more block
 
-module _ (counts : List ℕ) (depth : ℕ) (old : VProc) (k : KeepsRules counts old) where
+module _ (depth : ℕ) (old : VProc) where
   abbrev opened : VProc
   opened = with_open_block depth old
 
@@ -205,25 +205,29 @@ module _ (counts : List ℕ) (depth : ℕ) (old : VProc) (k : KeepsRules counts 
       (cases_eq b (count old))
 
   -- no code of a new block
-  same_opened : (b : ℕ) → code_of opened b ≡ code_of old b
+  pub same_opened : (b : ℕ) → code_of opened b ≡ code_of old b
   same_opened b = ⊎_elim
       (λ (lt : b < count old). ap (λ x. x.code) (opened_kept depth old b lt))
       (λ (le : count old ≤ b). code_opened b le ∙ sym (code_past old b le))
       (cases_lt b (count old))
 
-  ends_opened : (b : ℕ) → b < count opened → Ends (count opened) (block_of opened b)
+module _ (counts : List ℕ) (depth : ℕ) (old : VProc) (k : KeepsRules counts old) where
+  abbrev later : VProc
+  later = with_open_block depth old
+
+  ends_opened : (b : ℕ) → b < count later → Ends (count later) (block_of later b)
   ends_opened b lt = ⊎_elim
-      (λ (e : b ≡ count old). inl (ap (λ c. (block_of opened c).end) e ∙ ap (λ x. x.end) (opened_block depth old)))
+      (λ (e : b ≡ count old). inl (ap (λ c. (block_of later c).end) e ∙ ap (λ x. x.end) (opened_block depth old)))
       (λ (d : b ≢ count old).
       let before : b < count old = omega (arith, lt, d, opened_count depth old) in
-      subst (Ends (count opened)) (sym (opened_kept depth old b before)) (ends_more (count old) (count opened) (block_of old b) (omega (arith, opened_count depth old)) (k.ends b before)))
+      subst (Ends (count later)) (sym (opened_kept depth old b before)) (ends_more (count old) (count later) (block_of old b) (omega (arith, opened_count depth old)) (k.ends b before)))
       (cases_eq b (count old))
 
-  pub open_rules : KeepsRules counts opened
+  pub open_rules : KeepsRules counts later
   open_rules = record {
-    obeys = λ b n j is. k.obeys b n j (ap (λ l. slice_get l n) (sym (same_opened b)) ∙ is);
-    pushes_before_calls = λ b. subst (PushesLead (TakesArgs counts) 0) (sym (same_opened b)) (k.pushes_before_calls b);
-    clear_first = λ b n. (λ is. (k.clear_first b n).0 (ap (λ l. slice_get l n) (sym (same_opened b)) ∙ is), λ p. ap (λ l. slice_get l n) (same_opened b) ∙ (k.clear_first b n).1 p);
+    obeys = λ b n j is. k.obeys b n j (ap (λ l. slice_get l n) (sym (same_opened depth old b)) ∙ is);
+    pushes_before_calls = λ b. subst (PushesLead (TakesArgs counts) 0) (sym (same_opened depth old b)) (k.pushes_before_calls b);
+    clear_first = λ b n. (λ is. (k.clear_first b n).0 (ap (λ l. slice_get l n) (sym (same_opened depth old b)) ∙ is), λ p. ap (λ l. slice_get l n) (same_opened depth old b) ∙ (k.clear_first b n).1 p);
     ends = ends_opened;
   }
 
@@ -253,7 +257,16 @@ module _ (args : ℕ) (vars : List VarKind) (kind : VarKind) (local : (n : ℕ) 
   obeys_more = record {
     named = λ v n. omega (arith, o.named v n, length-append vars (kind ∷ []));
     roles_apart = o.roles_apart;
-    division_apart = o.division_apart;
+    division_apart = λ q r a d is. let w = o.division_apart q r a d is in record {
+      q_r = w.q_r;
+      q_a = w.q_a;
+      q_d = w.q_d;
+      r_a = w.r_a;
+      r_d = w.r_d;
+      a_d = w.a_d;
+      plain = get_or-append vars (kind ∷ []) Plain a.0 w.there ∙ w.plain;
+      there = omega (arith, w.there, length-append vars (kind ∷ []));
+    };
     constants_kept = constants;
     check_range = o.check_range;
     cells = λ n names. let c = o.cells n names in (

@@ -35,6 +35,7 @@ begins_itself first at old v o named e =
     let t = temporary (kind_of old v) first v e in
     record {
       adds = record { grows = grows_at_same old at; is_open = o; named = named; above = t.1; plain = t.0 };
+      itself = λ lt. refl;
       means = λ w id s x r stands is. rests w s (Holds w id old at v (length old.vars) s.top x) r.compared (record { stands = stands; same = same_self (length old.vars) s.top; value = is });
     }
 
@@ -72,6 +73,7 @@ module _ (first at : ℕ) (old : VProc) (v target : VarId) (o : IsOpen old at) (
         above = omega (arith, number, low);
         plain = plain;
       };
+      itself = λ lt. absurd (omega (arith, lt, number));
       means = λ w id s x r stands is.
           gives w id at mid s mid_open (record { block = stands.block; index = stands.index }) i r target.0 (length old.vars) x writes (acts w id s x r is) (omega (arith, number))
           (r.holds.kinds target.0 declared ∙ plain) (omega (arith, declared, r.holds.vars));

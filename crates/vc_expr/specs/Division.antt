@@ -1,6 +1,6 @@
 -- What the code of DIV and MOD does, part by part. The machine divides by a positive number,
 -- rounding toward zero.
-use Rattle.std.specs.Prelude.{◌≡◌, ℕ, ◌<◌, ◌⊎◌, ℤ, pos, negsuc, ◌+ℤ◌, ◌<ℤ◌}
+use Rattle.std.specs.Prelude.{◌≡◌, ◌≢◌, ℕ, ◌<◌, ◌⊎◌, ℤ, pos, negsuc, ◌+ℤ◌, ◌<ℤ◌}
 use Rattle.std.specs.Prelude.{int_lt, int_le, int_div, int_rem, Bool, true, false, if◌then◌else◌}
 use Rattle.std.specs.Prelude.{Result, Ok, Err, length}
 use Rattle.pra_base.specs.declared.event.TrapKind.{TrapKind}
@@ -19,6 +19,7 @@ use Rattle.vc_build.specs.Grow.{IsOpen, GrowsAt}
 use Rattle.vc_build.specs.Runs.{Codes, Stands, RunsIn, SameBelow, Reaches, Yields}
 use Rattle.vc_expr.specs.declared.division.Parts.{Parts}
 use Rattle.vc_expr.specs.Operators.{Adds, HasValue, Gives}
+use Rattle.vc_expr.specs.Readable.{Entries, usable, Certifies, Publishes}
 
 abbrev pub is_division : ROp → Bool
 is_division Div = true
@@ -99,3 +100,28 @@ pub record Rounds (first at : ℕ) (old new : VProc) (remainder negative divisor
       HasValue w id negative s.top (Truth b) → HasValue w id divisor s.top d →
       Reaches w s (Gives w id new at v first s.top
       (Number (wrapped (number r +ℤ (if b then number d else pos 0)))))
+
+-- ---- what is read
+
+-- What a division and the test of its remainder read, and what may be read behind them.
+pub record PublishesSplit
+    (known : Entries) (at : ℕ) (old new : VProc) (dividend : ℕ) (parts : Parts) : Type 0 where
+  pub certifies : Certifies known new
+  pub quotient : usable known new at parts.quotient.0 ≡ true
+  pub remainder : usable known new at parts.remainder.0 ≡ true
+  pub negative : usable known new at parts.negative.0 ≡ true
+  pub others : (u : ℕ) → u < length old.vars → u ≢ dividend → usable known old at u ≡ true →
+      usable known new at u ≡ true
+
+pub record ReadsSplit (at : ℕ) (old new : VProc) (dividend divisor : ℕ) (parts : Parts)
+    : Type 0 where
+  pub reads : (known : Entries) → Certifies known old → usable known old at dividend ≡ true →
+      usable known old at divisor ≡ true → PublishesSplit known at old new dividend parts
+
+-- the same of what makes up for a negative remainder
+pub record ReadsRounding (at : ℕ) (old new : VProc) (parts : Parts) (divisor v : ℕ)
+    : Type 0 where
+  pub reads : (known : Entries) → Certifies known old →
+      usable known old at parts.remainder.0 ≡ true →
+      usable known old at parts.negative.0 ≡ true → usable known old at divisor ≡ true →
+      Publishes known parts.remainder.0 at old new v

@@ -3,3 +3,4 @@ pub mod Division
 pub mod Branches
 pub mod Choices
 pub mod Rules
+pub mod Readable

@@ -52,8 +52,10 @@ pub record Adds (first at : ℕ) (old new : VProc) (v : ℕ) : Type 0 where
   pub plain : kind_of new v ≡ Plain
 
 -- The target has the value of the variable v, and all variables of the old code are as they were.
+-- It is a new variable, or v itself.
 pub record Begins (first at : ℕ) (old new : VProc) (v target : ℕ) : Type 0 where
   pub adds : Adds first at old new target
+  pub itself : target < length old.vars → target ≡ v
   pub means : (w : Codes) (id : ℕ) (s : State Vars) (x : Word) → RunsIn w id new s →
       Stands old at s.top → read (kind_of (code_of w.procs id)) s.top.home.held v ≡ Some x →
       Reaches w s (Holds w id new at target (length old.vars) s.top x)

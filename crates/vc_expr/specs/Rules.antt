@@ -20,20 +20,23 @@ use Rattle.vc_build.specs.Grow.{count, stand_in}
 
 -- ---- rules of an instruction
 
--- quotient, remainder, dividend and divisor are four variables
-pub record FourApart (q r a d : VarId) : Type 0 where
+-- Quotient, remainder, dividend and divisor are four variables, and the dividend is a local one.
+pub record DividesWell (vars : List VarKind) (q r a d : VarId) : Type 0 where
   pub q_r : q ≢ r
   pub q_a : q ≢ a
   pub q_d : q ≢ d
   pub r_a : r ≢ a
   pub r_d : r ≢ d
   pub a_d : a ≢ d
+  pub plain : slice_index_or vars a.0 Plain ≡ Plain
+  pub there : a.0 < length vars
 
 -- What an instruction keeps in code with these variables and so many arguments.
 pub record Obeys (args : ℕ) (vars : List VarKind) (i : VInstr) : Type 0 where
   pub named : (v : ℕ) → Names i v → v < length vars
   pub roles_apart : (v : ℕ) → only_writes i v ≡ true → reads i v ≡ false
-  pub division_apart : (q r a d : VarId) → i ≡ DivMod q r a d → FourApart q r a d
+  pub division_apart : (q r a d : VarId) → i ≡ DivMod q r a d →
+      DividesWell vars q r a d
   pub constants_kept : (v : ℕ) (n : ℤ) → slice_index_or vars v Plain ≡ Constant n →
       KeepsConstant v i
   pub check_range : (v : VarId) (n : ℤ) → i ≡ Check v n → (pos 0 ≤ℤ n) × (n ≤ℤ pos 2147483647)
@@ -67,6 +70,10 @@ pub record KeepsRules (counts : List ℕ) (code : VProc) : Type 0 where
   pub ends : (b : ℕ) → b < count code →
       ((block_of code b).end ≡ stand_in) ⊎ ClosesWell (count code) (block_of code b)
 
+-- In an operation a temporary is not both operands.
+abbrev pub OperandsApart : (first left right : ℕ) → Type 0
+OperandsApart first left right = left ≡ right → left < first
+
 -- What is added keeps the rules, if they were kept before.
-abbrev pub StaysValid : VProc → VProc → Type 0
-StaysValid old new = (counts : List ℕ) → KeepsRules counts old → KeepsRules counts new
+pub record StaysValid (old new : VProc) : Type 0 where
+  pub stays : (counts : List ℕ) → KeepsRules counts old → KeepsRules counts new

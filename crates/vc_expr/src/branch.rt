@@ -4,6 +4,8 @@ ghost use Rattle.std.specs.Prelude.{◌≡◌, ◌<◌, ◌≤◌, length, true,
 ghost use Rattle.vc_build.specs.Grow.{count, IsOpen};
 ghost use Rattle.vc_expr.specs.Operators.{is_relation};
 ghost use Rattle.vc_expr.specs.Branches.{BranchesBy, BranchesOn};
+ghost use Rattle.vc_expr.specs.Rules.{StaysValid};
+ghost use Rattle.vc_expr.specs.Readable.{ReadsSides};
 
 use crate::relation::condition_of;
 use ob_syntax::checked::ROp;
@@ -41,6 +43,10 @@ pub fn branch_by(
     ensures vars { OnOk result (code.new.vars ≡ code.old.vars) }
     ensures branches { OnOk result
         (BranchesBy op at.0 code.old code.new left.0 right.0 targets) }
+    ensures valid { OnOk result (0 < targets.holds.0 → 0 < targets.fails.0 →
+        StaysValid code.old code.new) }
+    ensures reads { OnOk result
+        (ReadsSides at.0 code.old code.new left.0 right.0 targets) }
 {
     put(alloc, code, at, VInstr::Cmp(left, right))?;
     close(
@@ -70,6 +76,9 @@ pub fn branch_on(
     requires fails { targets.fails.0 < count code.old }
     ensures vars { OnOk result (length code.old.vars ≤ length code.new.vars) }
     ensures branches { OnOk result (BranchesOn at.0 code.old code.new v.0 targets) }
+    ensures valid { OnOk result (0 < targets.holds.0 → 0 < targets.fails.0 →
+        StaysValid code.old code.new) }
+    ensures reads { OnOk result (ReadsSides at.0 code.old code.new v.0 v.0 targets) }
 {
     let zero = declare(code, VarKind::Constant(0))?;
     branch_by(alloc, code, at, ROp::Unequal, v, zero, targets)?;

@@ -1,7 +1,7 @@
 // `&` and OR as values with a right side that can trap: what stands before the test of the left
 // side, and what stands behind the right side.
 
-ghost use Rattle.std.specs.Prelude.{◌≡◌, ◌<◌, ◌≤◌, length, IfOk, OnOk, Ok};
+ghost use Rattle.std.specs.Prelude.{◌≡◌, ◌≢◌, ◌<◌, ◌≤◌, length, IfOk, OnOk};
 ghost use Rattle.pra_base.specs.Code.{kind_of};
 ghost use Rattle.pra_base.specs.declared.code.VarKind.TheVariants.{Plain};
 ghost use Rattle.pra_base.specs.declared.code.VInstr.TheVariants.{Set};
@@ -9,6 +9,8 @@ ghost use Rattle.ob_syntax.specs.Operators.{number};
 ghost use Rattle.ob_syntax.specs.declared.checked.Value.TheVariants.{Truth};
 ghost use Rattle.vc_build.specs.Grow.{count, IsOpen};
 ghost use Rattle.vc_expr.specs.Choices.{decided, test_of, OpensChoice, ClosesChoice};
+ghost use Rattle.vc_expr.specs.Rules.{StaysValid};
+ghost use Rattle.vc_expr.specs.Readable.{PublishesNew, PublishesTo};
 
 use crate::branch::Targets;
 use crate::start::first_of;
@@ -50,6 +52,9 @@ pub fn open_choice(
     ensures is_open { OnOk result (IsOpen code.new at.0) }
     ensures vars { OnOk result (length code.old.vars ≤ length code.new.vars) }
     ensures opens { IfOk result (λ choice. OpensChoice op at.0 code.old code.new choice) }
+    ensures valid { OnOk result (StaysValid code.old code.new) }
+    ensures reads { IfOk result (λ choice.
+        PublishesNew at.0 code.old code.new choice.target.0) }
 {
     let depth = code.blocks[at.0 as usize].depth;
     let target = declare(code, VarKind::Plain)?;
@@ -99,6 +104,9 @@ pub fn close_choice(
     requires no_entry { 0 < choice.behind.0 }
     ensures vars { OnOk result (code.new.vars ≡ code.old.vars) }
     ensures closes { OnOk result (ClosesChoice at.0 code.old code.new v.0 choice) }
+    ensures valid { OnOk result (choice.target.0 ≢ v.0 → StaysValid code.old code.new) }
+    ensures reads { OnOk result
+        (PublishesTo at.0 code.old code.new v.0 choice.target.0 choice.behind.0) }
 {
     let kind = code.vars[v.0 as usize];
     put(alloc, code, at, first_of(kind, choice.target, v))?;

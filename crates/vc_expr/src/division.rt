@@ -1,6 +1,6 @@
 // DIV and MOD, rounded down. The machine rounds toward zero, and divides by a positive number.
 
-ghost use Rattle.std.specs.Prelude.{◌≡◌, ◌<◌, ◌≤◌, ℤ, length, true, IfOk, OnOk};
+ghost use Rattle.std.specs.Prelude.{◌≡◌, ◌≢◌, ◌<◌, ◌≤◌, ℤ, length, true, IfOk, OnOk};
 ghost use Rattle.std.specs.Int.{w32};
 ghost use Rattle.std.specs.Int.RustNames.{FitsSigned};
 ghost use Rattle.pra_base.specs.declared.code.VarKind.TheVariants.{Constant};
@@ -8,6 +8,11 @@ ghost use Rattle.vc_build.specs.Grow.{IsOpen};
 ghost use Rattle.vc_expr.specs.Operators.{Combines, Operates};
 ghost use Rattle.vc_expr.specs.Division.{is_division, is_tested, Checks, Divides, Splits};
 ghost use Rattle.vc_expr.specs.Division.{IsMask, masked, Rounds};
+ghost use Rattle.pra_base.specs.Code.{kind_of};
+ghost use Rattle.pra_base.specs.declared.code.VarKind.TheVariants.{Plain};
+ghost use Rattle.vc_expr.specs.Rules.{OperandsApart, StaysValid};
+ghost use Rattle.vc_expr.specs.Readable.{ReadsDivision, ReadsOperands};
+ghost use Rattle.vc_expr.specs.Division.{ReadsSplit, ReadsRounding};
 
 use crate::arithmetic::select_arithmetic;
 use crate::relation::select_relation;
@@ -48,6 +53,9 @@ fn check_divisor(
     ensures is_open { OnOk result (IsOpen code.new at.0) }
     ensures vars { OnOk result (code.new.vars ≡ code.old.vars) }
     ensures checks { OnOk result (Checks at.0 code.old code.new divisor.0) }
+    ensures valid { OnOk result (StaysValid code.old code.new) }
+    ensures reads { OnOk result (ReadsOperands (length code.old.vars) at.0 code.old code.new
+        divisor.0 divisor.0 divisor.0) }
 {
     if is_tested(code.vars[divisor.0 as usize]) {
         put(alloc, code, at, VInstr::CheckPos(divisor))?;
@@ -64,9 +72,15 @@ fn divide(
     divisor: VarId,
 ) -> Result<(VarId, VarId), OutOfMemory>
     requires is_open { IsOpen code.old at.0 }
+    requires dividend { dividend.0 < length code.old.vars }
+    requires divisor { divisor.0 < length code.old.vars }
     ensures is_open { OnOk result (IsOpen code.new at.0) }
     ensures divides { IfOk result (λ v.
         Divides at.0 code.old code.new dividend.0 divisor.0 v.0.0 v.1.0) }
+    ensures valid { OnOk result (kind_of code.old dividend.0 ≡ Plain →
+        dividend.0 ≢ divisor.0 → StaysValid code.old code.new) }
+    ensures reads { IfOk result (λ v.
+        ReadsDivision at.0 code.old code.new dividend.0 divisor.0 v.0.0 v.1.0) }
 {
     let quotient = declare(code, VarKind::Plain)?;
     let remainder = declare(code, VarKind::Plain)?;
@@ -98,6 +112,10 @@ fn split(
     ensures vars { OnOk result (length code.old.vars ≤ length code.new.vars) }
     ensures splits { IfOk result (λ parts.
         Splits at.0 code.old code.new dividend.0 divisor.0 parts) }
+    ensures valid { OnOk result (kind_of code.old dividend.0 ≡ Plain →
+        dividend.0 ≢ divisor.0 → StaysValid code.old code.new) }
+    ensures reads { IfOk result (λ parts.
+        ReadsSplit at.0 code.old code.new dividend.0 divisor.0 parts) }
 {
     check_divisor(alloc, code, at, divisor)?;
     let (quotient, remainder) = divide(alloc, code, at, dividend, divisor)?;
@@ -127,6 +145,9 @@ fn select_mask(
     ensures vars { OnOk result (length code.old.vars ≤ length code.new.vars) }
     ensures combines { IfOk result (λ v.
         Combines IsMask masked first at.0 code.old code.new mask.0 number.0 v.0) }
+    ensures valid { OnOk result (StaysValid code.old code.new) }
+    ensures reads { IfOk result (λ v.
+        ReadsOperands first at.0 code.old code.new mask.0 number.0 v.0) }
 {
     let target = start(alloc, code, at, first, mask)?;
     put(alloc, code, at, VInstr::And(target, number))?;
@@ -151,6 +172,9 @@ fn round_remainder(
     ensures rounds { IfOk result (λ v.
         Rounds parts.remainder.0 at.0 code.old code.new parts.remainder.0 parts.negative.0
         divisor.0 v.0) }
+    ensures valid { OnOk result (StaysValid code.old code.new) }
+    ensures reads { IfOk result (λ v.
+        ReadsRounding at.0 code.old code.new parts divisor.0 v.0) }
 {
     let mask = select_negation(alloc, code, at, parts.negative.0, parts.negative)?;
     let added = select_mask(alloc, code, at, parts.negative.0, mask, divisor)?;
@@ -190,6 +214,10 @@ pub fn select_division(
     ensures vars { OnOk result (length code.old.vars ≤ length code.new.vars) }
     ensures operates { IfOk result (λ v.
         Operates op first at.0 code.old code.new left.0 right.0 v.0) }
+    ensures valid { OnOk result
+        (OperandsApart first left.0 right.0 → StaysValid code.old code.new) }
+    ensures reads { IfOk result (λ v. OperandsApart first left.0 right.0 →
+        ReadsOperands first at.0 code.old code.new left.0 right.0 v.0) }
 {
     let dividend = start(alloc, code, at, first, left)?;
     let parts = split(alloc, code, at, dividend, right)?;

@@ -29,6 +29,25 @@
 //! call changes: no object, no event, no word of the input; and of its variables those below
 //! `first` are as they were.
 //!
+//! # Valid code
+//!
+//! Beside its meaning each function says two static facts of what it adds:
+//!
+//! - `valid`, `StaysValid` of `specs/Rules`: code that keeps the rules of valid and sized code as
+//!   far as it has come (`KeepsRules`) still keeps them. No Push, Call, Clear or Return is added,
+//!   no constant is written, every number is in range.
+//! - `reads`, of `specs/Readable`: a certificate that what is read has been written is kept on
+//!   (`Certifies`), where the operands may be read at the end of `at`; the result may be read then,
+//!   and what might be read of the first variables still may (`Publishes`). A dividend may not.
+//!
+//! A certificate names for each block what it may read at its begin; of a new block anything may be
+//! named until a block leads to it (law `certificates_name_blocks`). At the end it gives that no
+//! local variable is live at the entry, and no dividend after its division (law
+//! `certified_code_reads_what_is_written`). That each change of code keeps rules and certificates
+//! stands in `proofs/Rules` and `proofs/Certificates`.
+//!
+//! Both ask of an operation that no temporary is both its operands (`OperandsApart`).
+//!
 //! # Division
 //!
 //! The machine divides by a positive number, rounding toward zero. A divisor is tested (trap

@@ -4,6 +4,8 @@ ghost use Rattle.std.specs.Prelude.{◌≡◌, ◌<◌, ◌≤◌, length, IfOk,
 ghost use Rattle.vc_build.specs.Grow.{IsOpen};
 ghost use Rattle.vc_expr.specs.Operators.{is_arithmetic, is_bitwise, Operates};
 ghost use Rattle.vc_expr.specs.Division.{is_division};
+ghost use Rattle.vc_expr.specs.Rules.{OperandsApart, StaysValid};
+ghost use Rattle.vc_expr.specs.Readable.{ReadsOperands};
 
 use crate::arithmetic::select_arithmetic;
 use crate::bits::select_bitwise;
@@ -54,6 +56,10 @@ pub fn select_operator(
     ensures vars { OnOk result (length code.old.vars ≤ length code.new.vars) }
     ensures operates { IfOk result (λ v.
         Operates op first at.0 code.old code.new left.0 right.0 v.0) }
+    ensures valid { OnOk result
+        (OperandsApart first left.0 right.0 → StaysValid code.old code.new) }
+    ensures reads { IfOk result (λ v. OperandsApart first left.0 right.0 →
+        ReadsOperands first at.0 code.old code.new left.0 right.0 v.0) }
 {
     if is_arithmetic(op) {
         let v = select_arithmetic(alloc, code, at, first, op, left, right)?;

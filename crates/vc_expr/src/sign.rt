@@ -4,6 +4,8 @@ ghost use Rattle.std.specs.Prelude.{◌≡◌, ◌<◌, ◌≤◌, length, IfOk,
 ghost use Rattle.ob_syntax.specs.Operators.{negated, inverted};
 ghost use Rattle.vc_build.specs.Grow.{IsOpen};
 ghost use Rattle.vc_expr.specs.Operators.{Converts, ConvertsBit};
+ghost use Rattle.vc_expr.specs.Rules.{StaysValid};
+ghost use Rattle.vc_expr.specs.Readable.{ReadsOperands};
 
 use crate::start::start;
 use pra_base::{BlockId, OutOfMemory, VInstr, VProc, VarId, VarKind};
@@ -29,6 +31,9 @@ pub fn select_negation(
     ensures vars { OnOk result (length code.old.vars ≤ length code.new.vars) }
     ensures converts { IfOk result (λ v.
         Converts negated first at.0 code.old code.new operand.0 v.0) }
+    ensures valid { OnOk result (StaysValid code.old code.new) }
+    ensures reads { IfOk result (λ v.
+        ReadsOperands first at.0 code.old code.new operand.0 operand.0 v.0) }
 {
     let target = start(alloc, code, at, first, operand)?;
     put(alloc, code, at, VInstr::Neg(target))?;
@@ -55,6 +60,9 @@ pub fn select_inversion(
     ensures vars { OnOk result (length code.old.vars ≤ length code.new.vars) }
     ensures converts { IfOk result (λ v.
         ConvertsBit inverted first at.0 code.old code.new operand.0 v.0) }
+    ensures valid { OnOk result (StaysValid code.old code.new) }
+    ensures reads { IfOk result (λ v.
+        ReadsOperands first at.0 code.old code.new operand.0 operand.0 v.0) }
 {
     let one = declare(code, VarKind::Constant(1))?;
     let target = start(alloc, code, at, first, operand)?;

@@ -5,6 +5,10 @@ use Rattle.pra_base.specs.declared.code.VProc.{VProc}
 use Rattle.vc_build.specs.Grow.{with_instr, with_end}
 use Rattle.vc_expr.specs.Branches.{BranchesBy}
 use Rattle.vc_expr.proofs.Branching.{branches_by}
+use Rattle.vc_expr.specs.Rules.{StaysValid}
+use Rattle.vc_expr.specs.Readable.{ReadsSides}
+use Rattle.vc_expr.proofs.Added.{branch_valid}
+use Rattle.vc_expr.proofs.Published.{branch_publishes}
 use Rattle.vc_expr.proofs.branch.branch_by.Goals as goal
 
 pub returns-clause-branches : goal.returns-clause-branches
@@ -17,3 +21,25 @@ returns-clause-branches c =
     c.close.ensures ∙ ap (with_end at (Branch k targets.holds targets.fails)) c.in_ok-put.ensures in
     subst (λ (z : VProc). BranchesBy c.args.op at old z c.args.left.0 c.args.right.0 targets) (sym made)
     (branches_by at old k c.args.left c.args.right targets c.requires.is_open c.requires.holds c.requires.fails c.args.op c.requires.op c.condition_of.ensures)
+
+pub returns-clause-valid : goal.returns-clause-valid
+returns-clause-valid c = λ holds_some fails_some.
+    let at = c.args.at.0 in
+    let old = c.args.code.now in
+    let targets = c.args.targets in
+    let k = c.condition_of.result in
+    let made : c.close.new.code ≡ with_end at (Branch k targets.holds targets.fails) (with_instr at (Cmp c.args.left c.args.right) old) =
+    c.close.ensures ∙ ap (with_end at (Branch k targets.holds targets.fails)) c.in_ok-put.ensures in
+    subst (λ (z : VProc). StaysValid old z) (sym made)
+    (branch_valid at old k c.args.left c.args.right targets.holds targets.fails c.requires.is_open c.requires.left c.requires.right c.requires.holds c.requires.fails holds_some fails_some)
+
+pub returns-clause-reads : goal.returns-clause-reads
+returns-clause-reads c =
+    let at = c.args.at.0 in
+    let old = c.args.code.now in
+    let targets = c.args.targets in
+    let k = c.condition_of.result in
+    let made : c.close.new.code ≡ with_end at (Branch k targets.holds targets.fails) (with_instr at (Cmp c.args.left c.args.right) old) =
+    c.close.ensures ∙ ap (with_end at (Branch k targets.holds targets.fails)) c.in_ok-put.ensures in
+    subst (λ (z : VProc). ReadsSides at old z c.args.left.0 c.args.right.0 targets) (sym made)
+    (branch_publishes at old k c.args.left c.args.right targets c.requires.is_open)

@@ -8,6 +8,10 @@ use Rattle.vc_build.specs.Grow.{with_instr, with_end}
 use Rattle.vc_expr.specs.Operators.{first_of}
 use Rattle.vc_expr.specs.Choices.{ClosesChoice}
 use Rattle.vc_expr.proofs.Choosing.{closes}
+use Rattle.vc_expr.specs.Rules.{StaysValid}
+use Rattle.vc_expr.specs.Readable.{PublishesTo}
+use Rattle.vc_expr.proofs.Added.{close_valid}
+use Rattle.vc_expr.proofs.Published.{close_publishes}
 use Rattle.vc_expr.proofs.choice.close_choice.Goals as goal
 
 pub returns-clause-closes : goal.returns-clause-closes
@@ -21,3 +25,26 @@ returns-clause-closes c =
     c.close.ensures ∙ ap (with_end at (Jump choice.behind)) (c.in_ok-put.ensures ∙ ap (λ i. with_instr at i old) c.first_of.ensures) in
     subst (λ (z : VProc). ClosesChoice at old z c.args.v.0 choice) (sym made)
     (closes at old c.args.v choice kind (sym is) c.requires.is_open c.requires.named c.requires.target c.requires.plain c.requires.behind c.requires.no_entry)
+
+pub returns-clause-valid : goal.returns-clause-valid
+returns-clause-valid c = λ apart.
+    let at = c.args.at.0 in
+    let old = c.args.code.now in
+    let kind = c.index-kind.result.now in
+    let choice = c.args.choice in
+    let is : kind ≡ kind_of old c.args.v.0 = get_or_read old.vars c.args.v.0 kind c.requires.named c.index-kind.ensures Plain in
+    let made : c.close.new.code ≡ with_end at (Jump choice.behind) (with_instr at (first_of kind choice.target c.args.v) old) =
+    c.close.ensures ∙ ap (with_end at (Jump choice.behind)) (c.in_ok-put.ensures ∙ ap (λ i. with_instr at i old) c.first_of.ensures) in
+    subst (λ (z : VProc). StaysValid old z) (sym made)
+    (close_valid at old c.args.v choice.target choice.behind kind (sym is) c.requires.is_open c.requires.named c.requires.target c.requires.plain c.requires.behind c.requires.no_entry apart)
+
+pub returns-clause-reads : goal.returns-clause-reads
+returns-clause-reads c =
+    let at = c.args.at.0 in
+    let old = c.args.code.now in
+    let kind = c.index-kind.result.now in
+    let choice = c.args.choice in
+    let made : c.close.new.code ≡ with_end at (Jump choice.behind) (with_instr at (first_of kind choice.target c.args.v) old) =
+    c.close.ensures ∙ ap (with_end at (Jump choice.behind)) (c.in_ok-put.ensures ∙ ap (λ i. with_instr at i old) c.first_of.ensures) in
+    subst (λ (z : VProc). PublishesTo at old z c.args.v.0 choice.target.0 choice.behind.0) (sym made)
+    (close_publishes at old c.args.v choice.target choice.behind kind c.requires.is_open)

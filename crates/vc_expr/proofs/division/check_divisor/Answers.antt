@@ -1,10 +1,14 @@
-use Rattle.std.proofs.Common.{◌≡◌, ap, sym, ◌∙◌, subst}
+use Rattle.std.proofs.Common.{◌≡◌, length, ap, sym, ◌∙◌, subst}
 use Rattle.std.proofs.lemmas.List.{get_or_read}
 use Rattle.pra_base.specs.Code.{kind_of}
 use Rattle.pra_base.specs.declared.code.VarKind.TheVariants.{Plain}
 use Rattle.pra_base.specs.declared.code.VProc.{VProc}
 use Rattle.vc_expr.specs.Division.{is_tested, Checks}
 use Rattle.vc_expr.proofs.Divisions.{check_checks, known_checks}
+use Rattle.vc_expr.specs.Rules.{StaysValid}
+use Rattle.vc_expr.specs.Readable.{ReadsOperands}
+use Rattle.vc_expr.proofs.Added.{check_valid}
+use Rattle.vc_expr.proofs.Published.{check_publishes, same_publishes}
 use Rattle.vc_expr.proofs.division.check_divisor.Goals as goal
 
 pub returns-in_ok-put-clause-checks : goal.returns-in_ok-put-clause-checks
@@ -18,3 +22,15 @@ returns-else-is_tested-clause-checks c =
     let kind = c.index.result.now in
     let is : kind ≡ kind_of old c.args.divisor.0 = get_or_read old.vars c.args.divisor.0 kind c.requires.divisor c.index.ensures Plain in
     known_checks c.args.at.0 old c.args.divisor.0 c.requires.is_open c.requires.divisor (λ n e. c.is_tested.ensures.fits n (is ∙ e)) (ap is_tested (sym is) ∙ sym c.is_tested.ensures.tested ∙ c.if-is_tested.false)
+
+pub returns-in_ok-put-clause-valid : goal.returns-in_ok-put-clause-valid
+returns-in_ok-put-clause-valid c =
+    subst (λ (z : VProc). StaysValid c.args.code.now z) (sym c.in_ok-put.ensures) (check_valid c.args.at.0 c.args.code.now c.args.divisor c.requires.is_open c.requires.divisor)
+
+pub returns-in_ok-put-clause-reads : goal.returns-in_ok-put-clause-reads
+returns-in_ok-put-clause-reads c =
+    let old = c.args.code.now in
+    subst (λ (z : VProc). ReadsOperands (length old.vars) c.args.at.0 old z c.args.divisor.0 c.args.divisor.0 c.args.divisor.0) (sym c.in_ok-put.ensures) (check_publishes c.args.at.0 old c.args.divisor c.requires.is_open)
+
+pub returns-else-is_tested-clause-reads : goal.returns-else-is_tested-clause-reads
+returns-else-is_tested-clause-reads c = same_publishes c.args.at.0 c.args.code.now (length c.args.code.now.vars) c.args.divisor.0
