@@ -1,0 +1,10 @@
+pub mod Blocks
+pub mod Brought
+pub mod Followed
+pub mod Gathered
+pub mod Laid
+pub mod Layered
+pub mod Marked
+pub mod Paid
+pub mod SampleIsPlacement
+pub mod Spread
