@@ -10,3 +10,4 @@ pub mod DeclarationRules
 pub mod ProcedureRules
 pub mod TreesStand
 pub mod OneIsTold
+pub mod SampleBreaks

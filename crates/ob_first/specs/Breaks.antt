@@ -1,10 +1,12 @@
 -- Which rules a module breaks, and at which tokens.
 --
 -- A part of a phrase breaks a rule wherever the phrase stands, and a phrase whose parts have a
--- reading breaks one by itself, where a test of it fails. Parts in one scope are looked at each by
--- itself; so an expression, a statement, an argument or the body of a procedure that breaks a rule
--- hides no other. A phrase with a broken part is not tested itself. A test is that of the rule in
--- ob_syntax: what is `Err` there, is a broken rule with its token.
+-- reading breaks one by itself, where a test of it fails. A phrase with a broken part is not tested
+-- itself. Parts in one scope are looked at each by itself; so an expression, a statement, an
+-- argument or the body of a procedure that breaks a rule hides no other. Behind a broken
+-- declaration there is no scope in which anything could be looked at; as it stands behind, it makes
+-- no difference for which rule is the first. The tests are those of ob_syntax: what is `Err` there,
+-- is a broken rule with its token.
 use Rattle.std.specs.Prelude.{◌≡◌, ℕ, ◌<◌, ◌≤◌, ◌⊎◌, List, Err}
 use Rattle.ob_syntax.specs.declared.token.Token.{Token}
 use Rattle.ob_syntax.specs.declared.tree.Module.{Module}

@@ -4,3 +4,4 @@ pub mod InStatements
 pub mod InTypes
 pub mod InDeclarations
 pub mod Breaks
+pub mod Sample
