@@ -1,5 +1,5 @@
 -- Declarations, production by production.
-use Rattle.std.proofs.Common.{◌≡◌, ℕ, ◌≤◌, ◌⊎◌, inl, inr, Bool, ◌||◌, List, [], ◌∷◌, length, refl, ap, sym, subst, arith}
+use Rattle.std.proofs.Common.{◌∙◌, ◌≡◌, ℕ, ◌≤◌, ◌⊎◌, inl, inr, Bool, ◌||◌, List, [], ◌∷◌, length, refl, ap, sym, subst, arith}
 use Rattle.std.specs.Prelude.{Ok, Err, nat_eq}
 use Rattle.ob_syntax.specs.declared.checked.Meaning.TheVariants as meaning
 use Rattle.ob_syntax.specs.declared.checked.Param.{Param}
@@ -14,8 +14,8 @@ use Rattle.ob_syntax.specs.Names.{Fault, Judged, Place, name_at, is_declared}
 use Rattle.ob_syntax.specs.Types.{constant, type_expression}
 use Rattle.ob_first.specs.Faults.{Behind, value_or}
 use Rattle.ob_first.specs.InTypes.{InConstant, InType}
-use Rattle.ob_first.specs.InDeclarations.{NamesFail, InConstants, InTypeDeclarations, InVariables, InParameterType, InSections, InHeading}
-use Rattle.ob_first.proofs.Leads.{told, Leads, InOrder, alike, wide, after, after_behind, tested, nothing, told_joined}
+use Rattle.ob_first.specs.InDeclarations.{behind_name, behind_names, NamesFail, InConstants, InTypeDeclarations, InVariables, InParameterType, InSections, InHeading}
+use Rattle.ob_first.proofs.Leads.{told, Leads, InOrder, alike, wide, after, after_behind, after_place, tested, nothing, told_joined, same_value, came_of}
 use Rattle.ob_first.proofs.Selections.{alone}
 use Rattle.ob_first.proofs.Calls.{ExpressionAt}
 use Rattle.ob_first.proofs.TypeRules.{constant_leads, NameAt, names_in_order, TypeAt, NamesOfType, NameListAt, of_type_in_order, lists_in_order}
@@ -33,11 +33,20 @@ announced_leads p k i j at = alone i j (announced p k) (λ f h. let there = anno
 names_lead : (ks : List ℕ) (p : Place) (i j : ℕ) → InOrder NameAt i ks j → Leads i j (told (all_announced p ks)) (λ f. NamesFail p ks f)
 names_lead [] p i j order = nothing i j
 names_lead (k ∷ ks) p i j (a, b, low, one, order) =
-    let rest = names_lead ks (value_or p (announced p k)) b j order in
-    after i b j (announced p k) (λ q. all_announced q ks) (λ f. announced p k ≡ Err f) (λ f. NamesFail (value_or p (announced p k)) ks f)
+    let rest = names_lead ks (behind_name p k) b j order in
+    after i b j (announced p k) (λ q. all_announced q ks) (λ f. announced p k ≡ Err f) (λ f. NamesFail (behind_name p k) ks f)
     (announced_leads p k i b (omega (arith, one.0), one.1))
-    (λ q is. subst (λ (z : Place). Leads b j (told (all_announced z ks)) (λ f. NamesFail (value_or p (announced p k)) ks f)) (ap (value_or p) is) rest)
+    (λ q is. subst (λ (z : Place). Leads b j (told (all_announced z ks)) (λ f. NamesFail (behind_name p k) ks f)) (ap (value_or p) is) rest)
     rest.lies (omega (arith, one.0, one.1)) (names_in_order ks b j order)
+
+name_behind : (p : Place) (k : ℕ) (q : Place) → announced p k ≡ Ok q → q ≡ behind_name p k
+name_behind p k q is = ap (value_or p) (sym is)
+
+names_behind : (ks : List ℕ) (p q : Place) → all_announced p ks ≡ Ok q → q ≡ behind_names p ks
+names_behind [] p q is = same_value (Ok p) q p is refl
+names_behind (k ∷ ks) p q is =
+    let of = came_of (announced p k) (λ r. all_announced r ks) q is in
+    names_behind ks of.0 q of.2 ∙ ap (λ r. behind_names r ks) (name_behind p k of.0 of.1)
 
 -- ---- CONST, TYPE, VAR
 
@@ -57,34 +66,34 @@ abbrev pub TypeDeclarationAt : TypeDecl → ℕ → ℕ → Type 0
 TypeDeclarationAt t i j = Defines t.name (TypeAt t.shape) i j
 
 constant_declared : (p : Place) (c : ConstDecl) (i j : ℕ) → ConstantAt c i j
-    → Leads i j (told (constant_declaration p c)) (λ f. (announced p c.name ≡ Err f) ⊎ Behind (announced p c.name) (λ q g. InConstant q c.value g) f)
+    → Leads i j (told (constant_declaration p c)) (λ f. (announced p c.name ≡ Err f) ⊎ InConstant (behind_name p c.name) c.value f)
 constant_declared p c i j at =
     let name = at.name_at in
-    after_behind i at.k j (announced p c.name) (λ q. constant q c.value >>= λ v. Ok (shown q c.name (meaning.Constant v))) (λ f. announced p c.name ≡ Err f) (λ q g. InConstant q c.value g)
-    (announced_leads p c.name i at.k name)
+    after_place i at.k j (announced p c.name) (λ q. constant q c.value >>= λ v. Ok (shown q c.name (meaning.Constant v))) (λ f. announced p c.name ≡ Err f) (λ q g. InConstant q c.value g)
+    (behind_name p c.name) (announced_leads p c.name i at.k name) (name_behind p c.name)
     (λ q. alike at.k j _ _ (λ f. InConstant q c.value f) _ (sym (told_joined (constant q c.value) (λ v. shown q c.name (meaning.Constant v)))) (λ f b. b) (λ f b. b)
     (wide at.l j at.k j _ (λ f. InConstant q c.value f) at.low (omega arith) (constant_leads q c.value at.l j at.value_at)))
     (omega (arith, name.0, name.1)) (let low = at.low in let some = at.some in omega arith)
 
 type_declared : (p : Place) (t : TypeDecl) (i j : ℕ) → TypeDeclarationAt t i j
-    → Leads i j (told (type_declaration p t)) (λ f. (announced p t.name ≡ Err f) ⊎ Behind (announced p t.name) (λ q g. InType q t.shape g) f)
+    → Leads i j (told (type_declaration p t)) (λ f. (announced p t.name ≡ Err f) ⊎ InType (behind_name p t.name) t.shape f)
 type_declared p t i j at =
     let name = at.name_at in
     let value = at.value_at in
-    after_behind i at.k j (announced p t.name) (λ q. type_expression t.shape q >>= λ shape. Ok (shown shape.0 t.name (meaning.TypeName shape.1))) (λ f. announced p t.name ≡ Err f) (λ q g. InType q t.shape g)
-    (announced_leads p t.name i at.k name)
+    after_place i at.k j (announced p t.name) (λ q. type_expression t.shape q >>= λ shape. Ok (shown shape.0 t.name (meaning.TypeName shape.1))) (λ f. announced p t.name ≡ Err f) (λ q g. InType q t.shape g)
+    (behind_name p t.name) (announced_leads p t.name i at.k name) (name_behind p t.name)
     (λ q. alike at.k j _ _ (λ f. InType q t.shape f) _ (sym (told_joined (type_expression t.shape q) (λ shape. shown shape.0 t.name (meaning.TypeName shape.1)))) (λ f b. b) (λ f b. b)
     (wide at.l j at.k j _ (λ f. InType q t.shape f) at.low (omega arith) (value.leads q)))
     (omega (arith, name.0, name.1)) (let low = at.low in let some = at.some in omega arith)
 
 variables_declared : (p : Place) (vars : List ℕ) (l : NameList) (i j : ℕ) → NameListAt l i j
-    → Leads i j (told (variable_list p vars l)) (λ f. NamesFail p (out-NameList l).names f ⊎ Behind (all_announced p (out-NameList l).names) (λ q g. InType q (out-NameList l).shape g) f)
+    → Leads i j (told (variable_list p vars l)) (λ f. NamesFail p (out-NameList l).names f ⊎ InType (behind_names p (out-NameList l).names) (out-NameList l).shape f)
 variables_declared p vars l i j at =
     let names = (out-NameList l).names in
     let t = (out-NameList l).shape in
     let value = at.type_at in
-    after_behind i at.k j (all_announced p names) (λ q. type_expression t q >>= λ shape. Ok (with_variables shape.0 vars shape.1 names)) (λ f. NamesFail p names f) (λ q g. InType q t g)
-    (names_lead names p i at.k at.in_order)
+    after_place i at.k j (all_announced p names) (λ q. type_expression t q >>= λ shape. Ok (with_variables shape.0 vars shape.1 names)) (λ f. NamesFail p names f) (λ q g. InType q t g)
+    (behind_names p names) (names_lead names p i at.k at.in_order) (names_behind names p)
     (λ q. alike at.k j _ _ (λ f. InType q t f) _ (sym (told_joined (type_expression t q) (λ shape. with_variables shape.0 vars shape.1 names))) (λ f b. b) (λ f b. b)
     (wide at.l j at.k j _ (λ f. InType q t f) at.low (omega arith) (value.leads q)))
     (names_in_order names i at.k at.in_order) (let low = at.low in let some = value.some in omega arith)
@@ -109,7 +118,7 @@ pub constants_lead : (cs : List ConstDecl) (p : Place) (i j : ℕ) → InOrder C
 constants_lead [] p i j order = nothing i j
 constants_lead (c ∷ cs) p i j (a, b, low, one, order) =
     let A = λ (f : Fault). announced p c.name ≡ Err f in
-    let B = λ (f : Fault). Behind (announced p c.name) (λ q g. InConstant q c.value g) f in
+    let B = λ (f : Fault). InConstant (behind_name p c.name) c.value f in
     let C = λ (f : Fault). Behind (constant_declaration p c) (λ q g. InConstants q cs g) f in
     alike i j _ _ (λ f. (A f ⊎ B f) ⊎ C f) _ refl (shift A B C) (shift_back A B C)
     (after_behind i b j (constant_declaration p c) (λ q. all_constants q cs) (λ f. A f ⊎ B f) (λ q g. InConstants q cs g)
@@ -120,7 +129,7 @@ pub types_lead : (ts : List TypeDecl) (p : Place) (i j : ℕ) → InOrder TypeDe
 types_lead [] p i j order = nothing i j
 types_lead (t ∷ ts) p i j (a, b, low, one, order) =
     let A = λ (f : Fault). announced p t.name ≡ Err f in
-    let B = λ (f : Fault). Behind (announced p t.name) (λ q g. InType q t.shape g) f in
+    let B = λ (f : Fault). InType (behind_name p t.name) t.shape f in
     let C = λ (f : Fault). Behind (type_declaration p t) (λ q g. InTypeDeclarations q ts g) f in
     alike i j _ _ (λ f. (A f ⊎ B f) ⊎ C f) _ refl (shift A B C) (shift_back A B C)
     (after_behind i b j (type_declaration p t) (λ q. all_type_declarations q ts) (λ f. A f ⊎ B f) (λ q g. InTypeDeclarations q ts g)
@@ -131,7 +140,7 @@ pub variables_lead : (ls : List NameList) (p : Place) (vars : List ℕ) (i j : �
 variables_lead [] p vars i j order = nothing i j
 variables_lead (l ∷ ls) p vars i j (a, b, low, one, order) =
     let A = λ (f : Fault). NamesFail p (out-NameList l).names f in
-    let B = λ (f : Fault). Behind (all_announced p (out-NameList l).names) (λ q g. InType q (out-NameList l).shape g) f in
+    let B = λ (f : Fault). InType (behind_names p (out-NameList l).names) (out-NameList l).shape f in
     let C = λ (f : Fault). Behind (variable_list p vars l) (λ more g. InVariables more.0 more.1 ls g) f in
     alike i j _ _ (λ f. (A f ⊎ B f) ⊎ C f) _ refl (shift A B C) (shift_back A B C)
     (after_behind i b j (variable_list p vars l) (λ more. all_variables more.0 more.1 ls) (λ f. A f ⊎ B f) (λ more g. InVariables more.0 more.1 ls g)
@@ -157,12 +166,12 @@ section_told (Ok x) g h = sym (told_joined (g x) (h x))
 section_told (Err f) g h = refl
 
 section_declared : (p : Place) (params : List Param) (s : Section) (i j : ℕ) → SectionAt s i j
-    → Leads i j (told (section p params s)) (λ f. NamesFail p s.names f ⊎ Behind (all_announced p s.names) (λ q g. InParameterType q s g) f)
+    → Leads i j (told (section p params s)) (λ f. NamesFail p s.names f ⊎ InParameterType (behind_names p s.names) s f)
 section_declared p params s i j at =
     let value = at.type_at in
     let kind = λ (t : Place × ℕ). parameter_type s.by_var (out-TypeExpr s.shape).span.last t.1 in
-    after_behind i at.k j (all_announced p s.names) (λ q. type_expression s.shape q >>= λ t. kind t >>= λ type_id. Ok (with_parameters t.0 params s.by_var type_id s.names)) (λ f. NamesFail p s.names f) (λ q g. InParameterType q s g)
-    (names_lead s.names p i at.k at.in_order)
+    after_place i at.k j (all_announced p s.names) (λ q. type_expression s.shape q >>= λ t. kind t >>= λ type_id. Ok (with_parameters t.0 params s.by_var type_id s.names)) (λ f. NamesFail p s.names f) (λ q g. InParameterType q s g)
+    (behind_names p s.names) (names_lead s.names p i at.k at.in_order) (names_behind s.names p)
     (λ q. alike at.k j _ _ (λ f. InParameterType q s f) _ (section_told (type_expression s.shape q) kind (λ t type_id. with_parameters t.0 params s.by_var type_id s.names)) (λ f b. b) (λ f b. b)
     (wide at.l j at.k j _ (λ f. InParameterType q s f) at.low (omega arith) (parameter_leads q s at.l j value)))
     (names_in_order s.names i at.k at.in_order) (let low = at.low in let some = value.some in omega arith)
@@ -175,7 +184,7 @@ sections_lead : (ss : List Section) (p : Place) (params : List Param) (i j : ℕ
 sections_lead [] p params i j order = nothing i j
 sections_lead (s ∷ ss) p params i j (a, b, low, one, order) =
     let A = λ (f : Fault). NamesFail p s.names f in
-    let B = λ (f : Fault). Behind (all_announced p s.names) (λ q g. InParameterType q s g) f in
+    let B = λ (f : Fault). InParameterType (behind_names p s.names) s f in
     let C = λ (f : Fault). Behind (section p params s) (λ more g. InSections more.0 more.1 ss g) f in
     alike i j _ _ (λ f. (A f ⊎ B f) ⊎ C f) _ refl (shift A B C) (shift_back A B C)
     (after_behind i b j (section p params s) (λ more. all_sections more.0 more.1 ss) (λ f. A f ⊎ B f) (λ more g. InSections more.0 more.1 ss g)
@@ -184,10 +193,10 @@ sections_lead (s ∷ ss) p params i j (a, b, low, one, order) =
 
 pub heading_leads : (p : Place) (name : ℕ) (ss : List Section) (i k l j : ℕ) → NameAt name i k → k ≤ l → InOrder SectionAt l ss j → Leads i j (told (heading p name ss)) (λ f. InHeading p name ss f)
 heading_leads p name ss i k l j at low order =
-    after_behind i k j (announced p name)
+    after_place i k j (announced p name)
     (λ q. all_sections (entered q (length q.headings) []) [] ss >>= λ inside. Ok (entered (with_heading (left inside.0 q.here) name inside.1) (length q.headings) inside.0.scope, inside.1))
     (λ f. announced p name ≡ Err f) (λ q g. InSections (entered q (length q.headings) []) [] ss g)
-    (announced_leads p name i k at)
+    (behind_name p name) (announced_leads p name i k at) (name_behind p name)
     (λ q. alike k j _ _ (λ f. InSections (entered q (length q.headings) []) [] ss f) _
     (sym (told_joined (all_sections (entered q (length q.headings) []) [] ss) (λ inside. (entered (with_heading (left inside.0 q.here) name inside.1) (length q.headings) inside.0.scope, inside.1)))) (λ f b. b) (λ f b. b)
     (wide l j k j _ (λ f. InSections (entered q (length q.headings) []) [] ss f) low (omega arith) (sections_lead ss (entered q (length q.headings) []) [] l j order)))

@@ -173,3 +173,9 @@ after_behind {A} i k j a g P C front back low high =
     after i k j a g P (λ f. Behind a C f) front
     (λ x is. alike k j _ _ (C x) (λ f. Behind a C f) refl (λ f b. (x, is, b)) (λ f (y, is', b). subst (λ (z : A). C z f) (same_value a y x is' is) b) (back x))
     (λ f (x, is, b). (back x).lies f b) low high
+
+-- what follows in a place that is known also where what makes it has no reading
+pub after_place : {A B : Type 0} (i k j : ℕ) (a : Judged A) (g : A → Judged B) (P : Fault → Type 0) (C : A → Fault → Type 0) (place : A) → Leads i k (told a) P → ((x : A) → a ≡ Ok x → x ≡ place)
+    → ((x : A) → Leads k j (told (g x)) (C x)) → i ≤ k → k ≤ j → Leads i j (told (a >>= g)) (λ f. P f ⊎ C place f)
+after_place {A} i k j a g P C place front same back low high =
+    after i k j a g P (C place) front (λ x is. subst (λ (z : A). Leads k j (told (g x)) (C z)) (same x is) (back x)) (back place).lies low high

@@ -1,8 +1,8 @@
 -- Where declarations break a rule at a place, whatever else is broken in them.
 --
 -- A declaration makes the scope of what stands behind it. So where one has no reading, nothing
--- behind it is looked at, and of procedures nothing inside; but a procedure's statements take no
--- part in the scope behind it.
+-- behind it is looked at, and where a heading has none, nothing in the procedure; but a procedure's
+-- statements take no part in the scope behind it.
 use Rattle.std.specs.Prelude.{◌≡◌, ℕ, ◌⊎◌, List, [], ◌∷◌, length, Ok, Err}
 use Rattle.ob_syntax.specs.declared.checked.Param.{Param}
 use Rattle.ob_syntax.specs.declared.tree.ConstDecl.{ConstDecl}
@@ -12,7 +12,7 @@ use Rattle.ob_syntax.specs.declared.tree.Proc.{Proc, Proc-F, out-Proc, fold-Proc
 use Rattle.ob_syntax.specs.declared.tree.Section.{Section}
 use Rattle.ob_syntax.specs.declared.tree.TypeDecl.{TypeDecl}
 use Rattle.ob_syntax.specs.declared.tree.TypeExpr.{out-TypeExpr}
-use Rattle.ob_syntax.specs.Declarations.{announced, all_announced, constant_declaration}
+use Rattle.ob_syntax.specs.Declarations.{announced, constant_declaration}
 use Rattle.ob_syntax.specs.Declarations.{all_constants, type_declaration, all_type_declarations}
 use Rattle.ob_syntax.specs.Declarations.{variable_list, all_variables, parameter_type, section}
 use Rattle.ob_syntax.specs.Declarations.{entered, left, heading, closed, nodes_of, with_nodes}
@@ -25,11 +25,18 @@ use Rattle.pra_list.specs.Results.{◌>>=◌}
 
 -- ---- names that are declared
 
--- each name is tested in the scope with those before it; one that stands twice leaves the scope as
--- it is
+-- the place behind a name that is declared; one that stands twice leaves the scope as it is
+abbrev pub behind_name : Place → ℕ → Place
+behind_name p k = value_or p (announced p k)
+
+abbrev pub behind_names : Place → List ℕ → Place
+behind_names p [] = p
+behind_names p (k ∷ ks) = behind_names (behind_name p k) ks
+
+-- each name is tested in the scope with those before it
 abbrev pub NamesFail : Place → List ℕ → Fault → Type 0
 NamesFail p [] f = ⊥
-NamesFail p (k ∷ ks) f = (announced p k ≡ Err f) ⊎ NamesFail (value_or p (announced p k)) ks f
+NamesFail p (k ∷ ks) f = (announced p k ≡ Err f) ⊎ NamesFail (behind_name p k) ks f
 
 -- ---- CONST, TYPE, VAR
 
@@ -37,21 +44,21 @@ abbrev pub InConstants : Place → List ConstDecl → Fault → Type 0
 InConstants p [] f = ⊥
 InConstants p (c ∷ cs) f =
     (announced p c.name ≡ Err f) ⊎
-    (Behind (announced p c.name) (λ q g. InConstant q c.value g) f ⊎
+    (InConstant (behind_name p c.name) c.value f ⊎
     Behind (constant_declaration p c) (λ q g. InConstants q cs g) f)
 
 abbrev pub InTypeDeclarations : Place → List TypeDecl → Fault → Type 0
 InTypeDeclarations p [] f = ⊥
 InTypeDeclarations p (t ∷ ts) f =
     (announced p t.name ≡ Err f) ⊎
-    (Behind (announced p t.name) (λ q g. InType q t.shape g) f ⊎
+    (InType (behind_name p t.name) t.shape f ⊎
     Behind (type_declaration p t) (λ q g. InTypeDeclarations q ts g) f)
 
 abbrev pub InVariables : Place → List ℕ → List NameList → Fault → Type 0
 InVariables p vars [] f = ⊥
 InVariables p vars (l ∷ ls) f =
     NamesFail p (out-NameList l).names f ⊎
-    (Behind (all_announced p (out-NameList l).names) (λ q g. InType q (out-NameList l).shape g) f ⊎
+    (InType (behind_names p (out-NameList l).names) (out-NameList l).shape f ⊎
     Behind (variable_list p vars l) (λ more g. InVariables more.0 more.1 ls g) f)
 
 -- ---- parameters
@@ -66,14 +73,14 @@ abbrev pub InSections : Place → List Param → List Section → Fault → Type
 InSections p params [] f = ⊥
 InSections p params (s ∷ ss) f =
     NamesFail p s.names f ⊎
-    (Behind (all_announced p s.names) (λ q g. InParameterType q s g) f ⊎
+    (InParameterType (behind_names p s.names) s f ⊎
     Behind (section p params s) (λ more g. InSections more.0 more.1 ss g) f)
 
 abbrev pub InHeading : Place → ℕ → List Section → Fault → Type 0
 InHeading p name sections f =
+    let q = behind_name p name in
     (announced p name ≡ Err f) ⊎
-    Behind (announced p name)
-    (λ q g. InSections (entered q (length q.headings) []) [] sections g) f
+    InSections (entered q (length q.headings) []) [] sections f
 
 -- ---- the place behind declarations and behind a procedure, whatever its statements are
 
