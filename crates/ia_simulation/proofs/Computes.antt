@@ -42,7 +42,7 @@ use Rattle.ia_simulation.proofs.Rows.{itself, Led, plain_lead}
 -- ---- operands
 
 -- the operand of a place with a register
-register_operand : (p : LProc) (v q : ℕ) → has_register q ≡ true → emitted.operand p v q ≡ at.Register (emitted.register_at q)
+pub register_operand : (p : LProc) (v q : ℕ) → has_register q ≡ true → emitted.operand p v q ≡ at.Register (emitted.register_at q)
 register_operand p v q e = ap (λ b. if b then at.Register (emitted.register_at q) else if is_mem q then at.Memory (emitted.cell p v) else at.Number (emitted.number_of (kind_of p v))) e
 
 set_fits : (to : Operand) (n : ℤ) → IsPlace to → IsSound (set to n) → FitsSigned w32 n
@@ -50,7 +50,7 @@ set_fits (at.Register r) n is sound = sound
 set_fits (at.Memory a) n is sound = sound.1
 set_fits (at.Number k) n is sound = absurd is
 
-word_fits : (n : ℤ) → FitsSigned w32 n → word n < 2 ^ 32
+pub word_fits : (n : ℤ) → FitsSigned w32 n → word n < 2 ^ 32
 word_fits n f = omega (arith, ints)
 
 module _ (procs : List LProc) (data_words : ℕ) (ok : IsLoadable procs data_words) (s : State Cells) (r : Ran) (y : Represents procs s r) (o : s.over ≡ None) where
@@ -65,13 +65,13 @@ module _ (procs : List LProc) (data_words : ℕ) (ok : IsLoadable procs data_wor
 
   module _ (i : VInstr) (places : _) (more : List LInstr) (e : s.top.home.rest ≡ placed.Op i places ∷ more) where
     -- the call behind it, before values are in its written roles
-    abbrev after_it : Activation Cells
+    abbrev pub after_it : Activation Cells
     after_it = ops.passed_by procs data_words ok s r y o i places more e
 
-    placed_so : OperandsPlaced p i places.items
+    pub placed_so : OperandsPlaced p i places.items
     placed_so = ops.operands_placed procs data_words ok s r y o i places more e
 
-    lead_on : (length s.pushed ≡ 0) × PushesLead T 0 (filter_map op_of more) → PushesLead T (length s.pushed) (filter_map op_of more)
+    pub lead_on : (length s.pushed ≡ 0) × PushesLead T 0 (filter_map op_of more) → PushesLead T (length s.pushed) (filter_map op_of more)
     lead_on = plain_lead procs data_words ok s r y o (filter_map op_of more) (length s.pushed)
 
   module _ (v w : VarId) (places : _) (more : List LInstr) where

@@ -14,3 +14,10 @@ pub mod Walks
 pub mod Enter
 pub mod Computes
 pub mod Whole
+pub mod Numbers
+pub mod Tells
+pub mod Leave
+pub mod Begin
+pub mod Start
+pub mod Control
+pub mod Returns

@@ -25,11 +25,12 @@ use Rattle.pl_place.specs.Machine.{Cells, proc_of, cleared, passed, clobbered, n
 use Rattle.pl_place.specs.Placed.{op_of}
 use Rattle.pl_place.specs.Valid.{counts_of}
 use Rattle.pra_base.specs.Operands.{table}
+use Rattle.pra_base.specs.declared.code.End.{End}
 use Rattle.pra_base.specs.declared.code.VInstr.{VInstr}
 use Rattle.pra_base.specs.RunEnd.{Wrong}
 use Rattle.pra_base.specs.Valid.{PushesLead, TakesArgs}
 use Rattle.vc_code.specs.Value.{Words}
-use Rattle.vc_code.specs.Machine.{Activation, State, found, act, act_on, step}
+use Rattle.vc_code.specs.Machine.{Activation, State, found, act, act_on, leave, step}
 use Rattle.ia_simulation.specs.Frames.{Holds, register_held}
 use Rattle.ia_simulation.specs.Represents.{IsLoadable, StandsBefore, FlagsTell, Lies, Runs, Represents, Leads, StepLeads}
 use Rattle.ia_simulation.proofs.Here.{AreAt}
@@ -116,6 +117,15 @@ stepped procs s r i more o e leads =
     let m = placed_machine procs in
     let p = proc_of procs s.top.proc in
     let same : step m s ≡ act m (next_of p s.top (i ∷ more)) s = ap (λ over. act_on m over s) o ∙ ap (λ rest. act m (next_of p s.top rest) s) e in
+    subst (λ t. t.over ≢ Some Wrong → Leads procs s r t) (sym same) leads
+
+-- and at a block's end
+pub ended : (procs : List LProc) (s : State Cells) (r : Ran) (e : End) → s.over ≡ None → s.top.home.rest ≡ [] → s.top.home.end ≡ e →
+    ((leave (placed_machine procs) e s).over ≢ Some Wrong → Leads procs s r (leave (placed_machine procs) e s)) → StepLeads procs s r
+ended procs s r e o done is leads =
+    let m = placed_machine procs in
+    let p = proc_of procs s.top.proc in
+    let same : step m s ≡ leave m e s = ap (λ over. act_on m over s) o ∙ ap (λ rest. act m (next_of p s.top rest) s) done ∙ ap (λ e. leave m e s) is in
     subst (λ t. t.over ≢ Some Wrong → Leads procs s r t) (sym same) leads
 
 going_is : (e : Ending) → run_end e ≡ None → e ≡ ending.Going

@@ -1,5 +1,5 @@
 -- A walk through instructions that write nothing, while words stand in the stack.
-use Rattle.std.proofs.Common.{◌≡◌, ℕ, ◌+◌, ◌-◌, ◌*◌, ◌≤◌, List, ◌∷◌, ◌++◌, length, sym, ap, ◌∙◌, subst, arith}
+use Rattle.std.proofs.Common.{◌≡◌, ℕ, ◌+◌, ◌-◌, ◌*◌, ◌≤◌, List, ◌∷◌, ◌++◌, length, sym, ap, ◌∙◌, subst, arith, []}
 use Rattle.std.specs.Prelude.{pos, ◌-ℤ◌, Ok}
 use Rattle.std.specs.Int.{w32}
 use Rattle.std.proofs.lemmas.Int.{ints, int_wrap_fits}
@@ -19,11 +19,11 @@ use Rattle.ia_step.specs.declared.out.StepOut.{StepOut}
 use Rattle.ia_step.specs.declared.out.StepOut.TheVariants as out
 use Rattle.ia_step.specs.declared.registers.Registers.{Registers}
 use Rattle.ia_step.specs.Effect.{effect, goes}
-use Rattle.ia_step.specs.Memory.{with_word}
+use Rattle.ia_step.specs.Memory.{word_in, with_word}
 use Rattle.ia_step.specs.Registers.{get}
-use Rattle.ia_step.specs.State.{State, at}
+use Rattle.ia_step.specs.State.{State, at, with_register}
 use Rattle.ia_step.specs.Step.{step, settled}
-use Rattle.ia_step.proofs.Access.{push_here, pushed}
+use Rattle.ia_step.proofs.Access.{push_here, pop_here, pushed, popped}
 use Rattle.ia_step.proofs.AtEip.{jump_fits}
 use Rattle.ia_step.proofs.MemoryWords.{length_put}
 use Rattle.ia_step.proofs.Reaches.{Reaches, reach_one}
@@ -121,4 +121,34 @@ module _ (procs : List LProc) (sound : AreSound (code_of procs)) (m : State) (wo
     small = w.small;
     place = omega (arith, w.place);
     items_at = here.next procs target from (Plain (ins.PushR q)) more w.items_at;
+  }
+
+-- a word is popped into a register
+module _ (procs : List LProc) (sound : AreSound (code_of procs)) (m : State) (h : Held) (words : Words) (target : Target → ℕ) (from : ℕ) (q : Reg) (more : List Item)
+    (w : Walks procs m (h ∷ words) target from (Plain (ins.PopR q) ∷ more)) (room : 4 * length words + 4 ≤ stack_length) where
+  abbrev pub top_word : ℕ
+  top_word = word_in m.stack (m.regs.esp - stack_base)
+
+  abbrev pub behind_pop : State
+  behind_pop = at (with_register (popped m) q top_word) (m.eip + size_of (Plain (ins.PopR q)))
+
+  pub popped_holds : Holds h top_word
+  popped_holds = w.stack.held.0
+
+  pub pops : Reaches 1 m behind_pop
+  unfolding effect
+  pops =
+      let s = at m (m.eip + size_of (Plain (ins.PopR q))) in
+      let k = w.stack in
+      reaches procs sound m (h ∷ words) target from (Plain (ins.PopR q)) more w behind_pop
+      (ap (λ x. x >>= λ x. goes (with_register x.1 q x.0)) (pop_here s w.small (omega (arith, k.top)) (omega (arith, k.top, room)) (omega (arith, k.top, k.long)) (omega (arith, k.top))))
+
+  pub pops_on : behind_pop.regs.esp ≡ m.regs.esp + 4 → Walks procs behind_pop words target (from + size_of (Plain (ins.PopR q))) more
+  pops_on up = record {
+    code = w.code;
+    going = w.going;
+    stack = drop_stacked (h ∷ []) words m.regs.esp behind_pop.regs.esp m.stack (omega (arith, up)) (omega arith) (omega (arith, room)) w.stack;
+    small = w.small;
+    place = omega (arith, w.place);
+    items_at = here.next procs target from (Plain (ins.PopR q)) more w.items_at;
   }

@@ -2,12 +2,20 @@
 use Rattle.pl_moves.specs.declared.transfer.Move.{Move}
 use Rattle.pl_place.specs.declared.placed.LInstr.TheVariants as placed
 use Rattle.pra_base.specs.declared.code.VInstr.TheVariants as instr
+use Rattle.pra_base.specs.declared.code.End.TheVariants as end
+use Rattle.pra_base.specs.declared.ids.BlockId.{BlockId}
+use Rattle.pra_base.specs.declared.ids.Cond.{Cond}
 use Rattle.pra_base.specs.declared.ids.VarId.{VarId}
-use Rattle.ia_simulation.specs.Represents.{IsCarried}
+use Rattle.ia_simulation.specs.Represents.{IsCarried, EndIsCarried}
 use Rattle.ia_simulation.proofs.Computes as computes
+use Rattle.ia_simulation.proofs.Control as control
 use Rattle.ia_simulation.proofs.Moves.{move_leads}
+use Rattle.ia_simulation.proofs.Numbers as numbers
+use Rattle.ia_simulation.proofs.Returns.{returning}
 use Rattle.ia_simulation.proofs.Rows as rows
+use Rattle.ia_simulation.proofs.Steps as steps
 use Rattle.ia_simulation.proofs.Steps.{stepped}
+use Rattle.ia_simulation.proofs.Tells as tells
 
 pub moves : (move : Move) → IsCarried (placed.Move move)
 moves move procs data_words ok s r y o more e = stepped procs s r (placed.Move move) more o e (move_leads procs data_words ok s r y o move more e)
@@ -35,3 +43,29 @@ copies v w places procs data_words ok s r y o more e = stepped procs s r (placed
 
 pub negates : (v : VarId) (places : _) → IsCarried (placed.Op (instr.Neg v) places)
 negates v places procs data_words ok s r y o more e = stepped procs s r (placed.Op (instr.Neg v) places) more o e (computes.negates_it procs data_words ok s r y o v v places more e)
+
+pub multiplies : (v w : VarId) (places : _) → IsCarried (placed.Op (instr.Mul v w) places)
+multiplies v w places procs data_words ok s r y o more e = stepped procs s r (placed.Op (instr.Mul v w) places) more o e (numbers.multiplies_it procs data_words ok s r y o v w places more e)
+
+pub compares : (v w : VarId) (places : _) → IsCarried (placed.Op (instr.Cmp v w) places)
+compares v w places procs data_words ok s r y o more e = stepped procs s r (placed.Op (instr.Cmp v w) places) more o e (numbers.compares_it procs data_words ok s r y o v w places more e)
+
+pub writes : (v : VarId) (places : _) → IsCarried (placed.Op (instr.Write v) places)
+writes v places procs data_words ok s r y o more e = stepped procs s r (placed.Op (instr.Write v) places) more o e (tells.writes_it procs data_words ok s r y o v places more e)
+
+pub lines : (places : _) → IsCarried (placed.Op instr.Line places)
+lines places procs data_words ok s r y o more e = stepped procs s r (placed.Op instr.Line places) more o e (tells.lines_it procs data_words ok s r y o (record { 0 = 0 }) places more e)
+
+pub reads : (v : VarId) (places : _) → IsCarried (placed.Op (instr.Read v) places)
+reads v places procs data_words ok s r y o more e = stepped procs s r (placed.Op (instr.Read v) places) more o e (tells.reads_it procs data_words ok s r y o v places more e)
+
+-- ---- ends
+
+pub jumps : (b : BlockId) → EndIsCarried (end.Jump b)
+jumps b procs data_words ok s r y o done e = steps.ended procs s r (end.Jump b) o done e (control.jumps procs data_words ok s r y o done b e)
+
+pub branches : (c : Cond) (one other : BlockId) → EndIsCarried (end.Branch c one other)
+branches c one other procs data_words ok s r y o done e = steps.ended procs s r (end.Branch c one other) o done e (control.branching procs data_words ok s r y o done c one other e s.compared (steps.x procs data_words ok s r y o).flags)
+
+pub returns : EndIsCarried end.Return
+returns procs data_words ok s r y o done e = steps.ended procs s r end.Return o done e (λ _. returning procs data_words ok s r y o done e)

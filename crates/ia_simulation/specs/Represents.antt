@@ -169,3 +169,10 @@ IsCarried i =
     (procs : List LProc) (data_words : ℕ) → IsLoadable procs data_words →
     (s : State Cells) (r : Ran) → Represents procs s r → s.over ≡ None →
     (more : List LInstr) → s.top.home.rest ≡ i ∷ more → StepLeads procs s r
+
+-- the same of a block's end, where nothing stands before it
+abbrev pub EndIsCarried : End → Type 0
+EndIsCarried e =
+    (procs : List LProc) (data_words : ℕ) → IsLoadable procs data_words →
+    (s : State Cells) (r : Ran) → Represents procs s r → s.over ≡ None →
+    s.top.home.rest ≡ [] → s.top.home.end ≡ e → StepLeads procs s r

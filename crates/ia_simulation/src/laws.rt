@@ -1,12 +1,23 @@
 // What the simulation gives. Each function is a law: its contract is the statement, and it does
 // nothing.
 
-ghost use Rattle.std.specs.Prelude.{ℤ};
+ghost use Rattle.std.specs.Prelude.{◌≡◌, ℕ, ℤ, List};
+ghost use Rattle.ia_code.specs.declared.image.Image.{Image};
+ghost use Rattle.ia_code.specs.Listing.{bytes_of_all};
+ghost use Rattle.ia_emit.specs.Code.{code_of};
+ghost use Rattle.ia_step.specs.Run.{ran};
+ghost use Rattle.ia_step.specs.State as machine;
+ghost use Rattle.pl_place.specs.declared.placed.LProc.{LProc};
+ghost use Rattle.pl_place.specs.Machine.{start};
 ghost use Rattle.pl_moves.specs.declared.transfer.Move.{Move};
 ghost use Rattle.pl_place.specs.declared.placed.LInstr.TheVariants.{Move as Moves, Op};
 ghost use Rattle.pra_base.specs.declared.code.VInstr.TheVariants as instr;
+ghost use Rattle.pra_base.specs.declared.code.End.TheVariants as end;
+ghost use Rattle.pra_base.specs.declared.ids.BlockId.{BlockId};
+ghost use Rattle.pra_base.specs.declared.ids.Cond.{Cond};
 ghost use Rattle.pra_base.specs.declared.ids.VarId.{VarId};
-ghost use Rattle.ia_simulation.specs.Represents.{IsCarried};
+ghost use Rattle.ia_simulation.specs.Represents.{IsLoadable, AreWords, Represents};
+ghost use Rattle.ia_simulation.specs.Represents.{IsCarried, EndIsCarried};
 
 /// Wherever the machine stands for placed code that stands before a move, the move is one
 /// instruction of the machine, behind which it stands for placed code again.
@@ -23,5 +34,31 @@ pub fn computing_is_carried()
     ensures and { (v w : VarId) (places : _) → IsCarried (Op (instr.And v w) places) }
     ensures or { (v w : VarId) (places : _) → IsCarried (Op (instr.Or v w) places) }
     ensures xor { (v w : VarId) (places : _) → IsCarried (Op (instr.Xor v w) places) }
+    ensures multiply { (v w : VarId) (places : _) → IsCarried (Op (instr.Mul v w) places) }
+    ensures compare { (v w : VarId) (places : _) → IsCarried (Op (instr.Cmp v w) places) }
     ensures negate { (v : VarId) (places : _) → IsCarried (Op (instr.Neg v) places) }
+{}
+
+/// The same of what is written and read. Where no input is left, both trap.
+pub fn telling_is_carried()
+    ensures write { (v : VarId) (places : _) → IsCarried (Op (instr.Write v) places) }
+    ensures line { (places : _) → IsCarried (Op instr.Line places) }
+    ensures read { (v : VarId) (places : _) → IsCarried (Op (instr.Read v) places) }
+{}
+
+/// The same of each end of a block. A return of the module's body is the end of the program.
+pub fn ends_are_carried()
+    ensures jump { (b : BlockId) → EndIsCarried (end.Jump b) }
+    ensures branch { (c : Cond) (one other : BlockId) → EndIsCarried (end.Branch c one other) }
+    ensures return_ { EndIsCarried end.Return }
+{}
+
+/// An image with the code's bytes begins with the call of the body. Its first steps lead to where
+/// placed code starts.
+pub fn start_is_represented()
+    ensures { (procs : List LProc) (data_words : ℕ) → IsLoadable procs data_words →
+        (image : Image) → image.code ≡ bytes_of_all (code_of procs) →
+        image.data_words ≡ data_words → (input : List ℤ) → AreWords input →
+        (k : ℕ) × Represents procs (start procs data_words input)
+        (ran (machine.start image input) k) }
 {}

@@ -22,5 +22,11 @@ returns-clause-or c = whole.ors
 pub returns-clause-xor : goal.returns-clause-xor
 returns-clause-xor c = whole.xors
 
+pub returns-clause-multiply : goal.returns-clause-multiply
+returns-clause-multiply c = whole.multiplies
+
+pub returns-clause-compare : goal.returns-clause-compare
+returns-clause-compare c = whole.compares
+
 pub returns-clause-negate : goal.returns-clause-negate
 returns-clause-negate c = whole.negates
