@@ -1,12 +1,12 @@
 -- A call begins: the frame of the machine is the one of placed code, or both trap.
-use Rattle.std.proofs.Common.{◌≡◌, ◌≢◌, ℕ, zero, suc, ◌+◌, ◌-◌, ◌*◌, ◌≤◌, ◌<◌, true, false, List, [], ◌∷◌, ◌++◌, length, Some, None, refl, sym, ap, ◌∙◌, subst, arith, length-append, nat_lt, replicate}
+use Rattle.std.proofs.Common.{◌≡◌, ℕ, zero, suc, ◌+◌, ◌-◌, ◌*◌, ◌≤◌, true, false, List, [], ◌∷◌, ◌++◌, length, Some, None, refl, sym, ap, ◌∙◌, subst, arith, length-append, nat_lt, replicate}
 use Rattle.std.specs.Prelude.{slice_get}
 use Rattle.std.proofs.lemmas.Bool.Decides.{nat_tests}
 use Rattle.std.proofs.lemmas.List.{length-replicate}
 use Rattle.ia_code.specs.Image.{max_data_words}
 use Rattle.ia_code.specs.Listing.{bytes_of_all}
-use Rattle.ia_code.specs.Regions.{code_base, stack_base, stack_top, stack_length, reserve}
-use Rattle.ia_emit.specs.Code.{size, block_start, stub, stub_start, target_in, entry, code_of}
+use Rattle.ia_code.specs.Regions.{code_base, stack_length}
+use Rattle.ia_emit.specs.Code.{block_start, stub, stub_start, target_in, entry, code_of}
 use Rattle.ia_emit.specs.Emission.{prologue, lowest_frame}
 use Rattle.ia_emit.specs.Operands.{IsSmall, locals, free_register}
 use Rattle.ia_step.specs.declared.out.Ending.TheVariants.{Going}
@@ -45,11 +45,11 @@ fits_is : (d : ℕ) → nat_lt stack_limit d ≡ false → d ≤ stack_limit
 fits_is d e = grind (arith, nat_tests)
 
 module _ (procs : List LProc) (data_words : ℕ) (ok : IsLoadable procs data_words) (q : ℕ) (there : slice_get procs q ≡ Some (proc_of procs q)) (block : LBlock) (args : Words) (below : List (Activation Cells)) (backs : List ℕ) (globals : Words)
-  (di si bx bp ret : Held) (saves : saved procs backs below ≡ di ∷ si ∷ bx ∷ bp ∷ ret ∷ []) (m : State)
-  (w : Walks procs m (ret ∷ (args ++ frames procs (rest_of backs) below)) (target_in (proc_of procs q) (entry procs q)) (entry procs q) (prologue (proc_of procs q)))
-  (args_long : length args ≡ (proc_of procs q).args) (waits : AllWait procs below backs) (deep : depth (shape procs) below ≤ stack_limit)
-  (hbx : Holds bx m.regs.ebx) (hsi : Holds si m.regs.esi) (hdi : Holds di m.regs.edi) (hbp : Holds bp m.regs.ebp)
-  (globals_hold : WordsHold globals m.storage 0) (data_long : length m.storage ≡ 4 * length globals) (data_few : length globals ≤ max_data_words) where
+    (di si bx bp ret : Held) (saves : saved procs backs below ≡ di ∷ si ∷ bx ∷ bp ∷ ret ∷ []) (m : State)
+    (w : Walks procs m (ret ∷ (args ++ frames procs (rest_of backs) below)) (target_in (proc_of procs q) (entry procs q)) (entry procs q) (prologue (proc_of procs q)))
+    (args_long : length args ≡ (proc_of procs q).args) (waits : AllWait procs below backs) (deep : depth (shape procs) below ≤ stack_limit)
+    (hbx : Holds bx m.regs.ebx) (hsi : Holds si m.regs.esi) (hdi : Holds di m.regs.edi) (hbp : Holds bp m.regs.ebp)
+    (globals_hold : WordsHold globals m.storage 0) (data_long : length m.storage ≡ 4 * length globals) (data_few : length globals ≤ max_data_words) where
   abbrev p : LProc
   p = proc_of procs q
 
@@ -103,26 +103,30 @@ module _ (procs : List LProc) (data_words : ℕ) (ok : IsLoadable procs data_wor
       let l = length-append args outer in
       let words : replicate (locals p) none ++ (di ∷ si ∷ bx ∷ bp ∷ cs) ≡ frames procs backs (callee ∷ below) =
       nothing_sum p.aggregates (length p.slots) (di ∷ si ∷ bx ∷ bp ∷ cs)
-      ∙ ap (λ k. nothing p.aggregates ++ (nothing (length p.slots) ++ (k ++ (args ++ outer)))) (sym saves) in
-      (f.0, t, f.2, record {
-        code = z.walks.code;
-        going = z.walks.going;
-        place = omega (arith, z.walks.place);
-        lies = record {
-          sizes = record {
-            aggregates_long = length-replicate p.aggregates none;
-            args_long = args_long;
-            slots_long = length-replicate (length p.slots) none;
-            regs_long = refl;
+      ∙ ap (λ k. nothing p.aggregates ++ (nothing (length p.slots) ++ (k ++ (args ++ outer)))) (sym saves) in (
+        f.0,
+        t,
+        f.2,
+        record {
+          code = z.walks.code;
+          going = z.walks.going;
+          place = omega (arith, z.walks.place);
+          lies = record {
+            sizes = record {
+              aggregates_long = length-replicate p.aggregates none;
+              args_long = args_long;
+              slots_long = length-replicate (length p.slots) none;
+              regs_long = refl;
+            };
+            registers = below_6 (λ r. Holds (register_held (nothing 6) r) (get t.regs (free_register r))) tt tt tt tt tt tt;
+            words = subst (λ l. Stacked l t.regs.esp t.stack) words z.walks.stack;
+            ebp = omega (arith, z.ebp, w.stack.top, l, outer_long);
+            deep = fits_is _ high;
+            globals_hold = subst (λ l. WordsHold globals l 0) (sym z.storage) globals_hold;
+            data_long = ap length z.storage ∙ data_long;
+            data_few = data_few;
           };
-          registers = below_6 (λ r. Holds (register_held (nothing 6) r) (get t.regs (free_register r))) tt tt tt tt tt tt;
-          words = subst (λ l. Stacked l t.regs.esp t.stack) words z.walks.stack;
-          ebp = omega (arith, z.ebp, w.stack.top, l, outer_long);
-          deep = fits_is _ high;
-          globals_hold = subst (λ l. WordsHold globals l 0) (sym z.storage) globals_hold;
-          data_long = ap length z.storage ∙ data_long;
-          data_few = data_few;
-        };
-        input = z.input;
-        taken = z.taken;
-      })
+          input = z.input;
+          taken = z.taken;
+        },
+      )

@@ -1,13 +1,13 @@
 -- Jumps and branches at a block's end.
-use Rattle.std.proofs.Common.{◌≡◌, ◌≢◌, ℕ, zero, suc, ◌+◌, ◌-◌, ◌*◌, ◌^◌, ◌≤◌, ◌<◌, Bool, true, false, List, [], ◌∷◌, ◌++◌, length, Option, Some, None, refl, sym, ap, ◌∙◌, subst, arith, ◌⊎◌, inl, inr}
-use Rattle.std.specs.Prelude.{Ok, nat_eq, if◌then◌else◌, slice_get, flat_map, sum_by}
+use Rattle.std.proofs.Common.{◌≡◌, ◌≢◌, ℕ, zero, suc, ◌+◌, ◌-◌, ◌^◌, ◌≤◌, ◌<◌, Bool, true, false, List, [], ◌∷◌, ◌++◌, length, Option, Some, None, refl, sym, ap, ◌∙◌, subst, arith, ◌⊎◌, inl, inr}
+use Rattle.std.specs.Prelude.{nat_eq, if◌then◌else◌, slice_get, flat_map}
 use Rattle.std.specs.List.{filter_map}
 use Rattle.std.proofs.lemmas.Bool.Decides.{nat_tests}
 use Rattle.std.proofs.lemmas.List.Sums.{sum_by-cons}
 use Rattle.pra_list.proofs.Options.{some_same}
 use Rattle.ia_code.specs.Image.{max_code_bytes}
 use Rattle.ia_code.specs.Listing.{bytes_of_all, AreSound}
-use Rattle.ia_code.specs.Regions.{code_base, data_base, stack_base}
+use Rattle.ia_code.specs.Regions.{code_base}
 use Rattle.ia_emit.specs.declared.item.Item.{Item}
 use Rattle.ia_emit.specs.declared.item.Item.TheVariants.{Jump, Branch}
 use Rattle.ia_emit.specs.declared.item.Target.{Target}
@@ -17,28 +17,25 @@ use Rattle.ia_emit.specs.Emission.{emit, emit_end, emit_block, jump_to}
 use Rattle.ia_emit.proofs.Sizes.{size-cons}
 use Rattle.ia_step.specs.Arithmetic.{diff_flags, holds}
 use Rattle.ia_step.specs.Effect.{effect, goes, branch}
-use Rattle.ia_step.specs.Run.{Ran, run_end, advance}
+use Rattle.ia_step.specs.Run.{Ran}
 use Rattle.ia_step.specs.State as machine
 use Rattle.ia_step.proofs.Conditions.{holds-diff_flags}
 use Rattle.ia_step.proofs.Reaches.{Reaches, reach_none, reach_on}
 use Rattle.pl_place.specs.declared.placed.LBlock.{LBlock}
-use Rattle.pl_place.specs.declared.placed.LInstr.{LInstr}
 use Rattle.pl_place.specs.declared.placed.LProc.{LProc}
 use Rattle.pl_place.specs.Machine.{Cells, at_block, proc_of, placed_machine}
 use Rattle.pl_place.specs.Placed.{op_of}
 use Rattle.pl_place.specs.Valid.{counts_of}
-use Rattle.pra_base.specs.declared.code.End.{End}
 use Rattle.pra_base.specs.declared.code.End.TheVariants as end
 use Rattle.pra_base.specs.declared.ids.BlockId.{BlockId}
 use Rattle.pra_base.specs.declared.ids.Cond.{Cond}
 use Rattle.pra_base.specs.RunEnd.{Wrong}
-use Rattle.pra_base.specs.System.{run}
 use Rattle.pra_base.specs.Valid.{PushesLead, TakesArgs}
 use Rattle.pra_base.specs.Words.{word, sum32, compares}
-use Rattle.vc_code.specs.Value.{Held, Words}
-use Rattle.vc_code.specs.Machine.{Activation, State, found, with_top, goes_to, branched}
+use Rattle.vc_code.specs.Value.{Words}
+use Rattle.vc_code.specs.Machine.{Activation, State, with_top, goes_to, branched}
 use Rattle.ia_simulation.specs.Frames.{frames}
-use Rattle.ia_simulation.specs.Represents.{IsLoadable, StandsBefore, FlagsTell, Lies, Runs, Represents, most, measure, Leads}
+use Rattle.ia_simulation.specs.Represents.{IsLoadable, StandsBefore, FlagsTell, Runs, Represents, most, Leads}
 use Rattle.ia_simulation.proofs.Here.{AreAt}
 use Rattle.ia_simulation.proofs.Here as here
 use Rattle.ia_simulation.proofs.Places.{block_at}

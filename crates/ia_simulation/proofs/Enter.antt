@@ -288,11 +288,15 @@ module _ (procs : List LProc) (sound : AreSound (code_of procs)) (short : length
       let s3 = size-cons x3 rest4 in
       let s4 = size-cons x4 (x5 ∷ x6 ∷ lowered (locals p)) in
       let s5 = size-cons x5 (x6 ∷ lowered (locals p)) in
-      let s6 = size-cons x6 (lowered (locals p)) in
-      (7 + x.steps, x.to, reach_on 7 x.steps m t8 x.to (to_t8 high) x.by, record {
-        walks = subst (λ n. Walks procs x.to (replicate (locals p) None ++ (di ∷ si ∷ bx ∷ bp ∷ cs)) target n []) (omega (arith, s0, s1, s2, s3, s4, s5, s6)) x.walks;
-        ebp = x.ebp;
-        storage = x.storage;
-        input = x.input;
-        taken = x.taken;
-      })
+      let s6 = size-cons x6 (lowered (locals p)) in (
+        7 + x.steps,
+        x.to,
+        reach_on 7 x.steps m t8 x.to (to_t8 high) x.by,
+        record {
+          walks = subst (λ n. Walks procs x.to (replicate (locals p) None ++ (di ∷ si ∷ bx ∷ bp ∷ cs)) target n []) (omega (arith, s0, s1, s2, s3, s4, s5, s6)) x.walks;
+          ebp = x.ebp;
+          storage = x.storage;
+          input = x.input;
+          taken = x.taken;
+        },
+      )

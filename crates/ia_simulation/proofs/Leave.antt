@@ -1,5 +1,5 @@
 -- A procedure ends: its frame goes, and the registers that it kept come back.
-use Rattle.std.proofs.Common.{◌≡◌, ℕ, zero, suc, ◌+◌, ◌-◌, ◌*◌, ◌≤◌, List, [], ◌∷◌, ◌++◌, length, refl, ap, ◌∙◌, subst, arith, length-append}
+use Rattle.std.proofs.Common.{◌≡◌, ℕ, zero, suc, ◌+◌, ◌-◌, ◌*◌, ◌≤◌, List, [], ◌∷◌, ◌++◌, length, refl, ap, ◌∙◌, arith, length-append}
 use Rattle.std.specs.Prelude.{pos, neg_ℤ, Ok}
 use Rattle.std.proofs.lemmas.Int.{ints}
 use Rattle.pra_list.specs.Results.{◌>>=◌}
@@ -20,7 +20,7 @@ use Rattle.ia_step.specs.Effect.{effect, goes}
 use Rattle.ia_step.specs.Memory.{word_in}
 use Rattle.ia_step.specs.Registers.{with_reg}
 use Rattle.ia_step.specs.State.{State, at, with_register}
-use Rattle.ia_step.proofs.Access.{pop_here, popped}
+use Rattle.ia_step.proofs.Access.{pop_here}
 use Rattle.ia_step.proofs.Reaches.{Reaches, reach_on}
 use Rattle.pl_place.specs.declared.placed.LProc.{LProc}
 use Rattle.pra_base.specs.Words.{sum32}
@@ -166,22 +166,25 @@ module _ (procs : List LProc) (sound : AreSound (code_of procs)) (p : LProc) (ta
 
   pub leaves : (t : State) × Reaches 6 m t × Left procs m t cs bx si di bp ret
   leaves =
-      let la = length-append args cs in
-      (s6, reach_on 1 5 m s1 s6 to_s1
-      (reach_on 1 4 s1 s2 s6 (pops procs sound s1 di (si ∷ bx ∷ bp ∷ ret ∷ (args ++ cs)) target _ Edi more1 w1 few1)
-      (reach_on 1 3 s2 s3 s6 (pops procs sound s2 si (bx ∷ bp ∷ ret ∷ (args ++ cs)) target _ Esi more2 w2 few2)
-      (reach_on 1 2 s3 s4 s6 (pops procs sound s3 bx (bp ∷ ret ∷ (args ++ cs)) target _ Ebx more3 w3 few3)
-      (reach_on 1 1 s4 s5 s6 (pops procs sound s4 bp (ret ∷ (args ++ cs)) target _ Ebp (last ∷ []) w4 few4)
-      (reaches procs sound s5 (ret ∷ (args ++ cs)) target _ last [] w5 s6 (returns p.args refl)))))), record {
-        code = w.code;
-        going = w.going;
-        stack = drop_stacked (ret ∷ args) cs s5.regs.esp esp6 m.stack (omega (arith, args_are)) (omega (arith, la)) (omega (arith, few4)) w5.stack;
-        ebx = popped_holds procs sound s3 bx (bp ∷ ret ∷ (args ++ cs)) target _ Ebx more3 w3 few3;
-        esi = popped_holds procs sound s2 si (bx ∷ bp ∷ ret ∷ (args ++ cs)) target _ Esi more2 w2 few2;
-        edi = popped_holds procs sound s1 di (si ∷ bx ∷ bp ∷ ret ∷ (args ++ cs)) target _ Edi more1 w1 few1;
-        ebp = popped_holds procs sound s4 bp (ret ∷ (args ++ cs)) target _ Ebp (last ∷ []) w4 few4;
-        eip = w5.stack.held.0;
-        storage = refl;
-        input = refl;
-        taken = refl;
-      })
+      let la = length-append args cs in (
+        s6,
+        reach_on 1 5 m s1 s6 to_s1
+            (reach_on 1 4 s1 s2 s6 (pops procs sound s1 di (si ∷ bx ∷ bp ∷ ret ∷ (args ++ cs)) target _ Edi more1 w1 few1)
+            (reach_on 1 3 s2 s3 s6 (pops procs sound s2 si (bx ∷ bp ∷ ret ∷ (args ++ cs)) target _ Esi more2 w2 few2)
+            (reach_on 1 2 s3 s4 s6 (pops procs sound s3 bx (bp ∷ ret ∷ (args ++ cs)) target _ Ebx more3 w3 few3)
+            (reach_on 1 1 s4 s5 s6 (pops procs sound s4 bp (ret ∷ (args ++ cs)) target _ Ebp (last ∷ []) w4 few4)
+            (reaches procs sound s5 (ret ∷ (args ++ cs)) target _ last [] w5 s6 (returns p.args refl)))))),
+        record {
+          code = w.code;
+          going = w.going;
+          stack = drop_stacked (ret ∷ args) cs s5.regs.esp esp6 m.stack (omega (arith, args_are)) (omega (arith, la)) (omega (arith, few4)) w5.stack;
+          ebx = popped_holds procs sound s3 bx (bp ∷ ret ∷ (args ++ cs)) target _ Ebx more3 w3 few3;
+          esi = popped_holds procs sound s2 si (bx ∷ bp ∷ ret ∷ (args ++ cs)) target _ Esi more2 w2 few2;
+          edi = popped_holds procs sound s1 di (si ∷ bx ∷ bp ∷ ret ∷ (args ++ cs)) target _ Edi more1 w1 few1;
+          ebp = popped_holds procs sound s4 bp (ret ∷ (args ++ cs)) target _ Ebp (last ∷ []) w4 few4;
+          eip = w5.stack.held.0;
+          storage = refl;
+          input = refl;
+          taken = refl;
+        },
+      )

@@ -1,6 +1,6 @@
 -- IMUL and CMP.
-use Rattle.std.proofs.Common.{◌≡◌, ℕ, ◌^◌, ◌<◌, true, List, [], ◌∷◌, length, map, Some, None, refl, sym, ap, ◌∙◌, subst, arith}
-use Rattle.std.specs.Prelude.{ℤ, Ok, if◌then◌else◌}
+use Rattle.std.proofs.Common.{◌≡◌, ℕ, List, [], ◌∷◌, length, map, Some, None, refl, sym, ap, ◌∙◌, subst, arith}
+use Rattle.std.specs.Prelude.{ℤ, Ok}
 use Rattle.std.specs.List.{filter_map}
 use Rattle.std.specs.Int.{w8, w32}
 use Rattle.std.specs.Int.RustNames.{FitsSigned}
@@ -25,18 +25,18 @@ use Rattle.pl_place.specs.declared.placed.LInstr.{LInstr}
 use Rattle.pl_place.specs.declared.placed.LInstr.TheVariants as placed
 use Rattle.pl_place.specs.declared.placed.LProc.{LProc}
 use Rattle.pl_place.specs.Machine.{Cells, proc_of, operand, put, behind}
-use Rattle.pl_place.specs.Placed.{op_of, kind_of}
+use Rattle.pl_place.specs.Placed.{op_of}
 use Rattle.pl_place.specs.Valid.{OperandsPlaced, counts_of}
 use Rattle.pra_base.specs.declared.code.VInstr.{VInstr}
 use Rattle.pra_base.specs.declared.code.VInstr.TheVariants as instr
 use Rattle.pra_base.specs.declared.ids.VarId.{VarId}
 use Rattle.pra_base.specs.Operands.{table, line_writes}
-use Rattle.pra_base.specs.Places.{number as number_of, has_register, is_mem}
+use Rattle.pra_base.specs.Places.{number as number_of}
 use Rattle.pra_base.specs.Valid.{PushesLead, TakesArgs}
-use Rattle.pra_base.specs.Words.{word, product32}
+use Rattle.pra_base.specs.Words.{product32}
 use Rattle.vc_code.specs.declared.value.Value.TheVariants.{Num}
 use Rattle.vc_code.specs.declared.action.Action.TheVariants as action
-use Rattle.vc_code.specs.Operation.{gives, number}
+use Rattle.vc_code.specs.Operation.{gives}
 use Rattle.vc_code.specs.Machine.{Activation, State, After}
 use Rattle.ia_simulation.specs.Represents.{IsLoadable, Represents, Leads}
 use Rattle.ia_simulation.proofs.Effects.{IsPlace, OneInMemory, ok_same, multiplies, combines, operates}
@@ -45,8 +45,7 @@ use Rattle.ia_simulation.proofs.Spots.{read}
 use Rattle.ia_simulation.proofs.Ops as ops
 use Rattle.ia_simulation.proofs.Ops.{one_is, two_are, three_are, number_is, combined_fits, no_number, put_done}
 use Rattle.ia_simulation.proofs.Steps as steps
-use Rattle.ia_simulation.proofs.Rows.{itself, Led, plain_lead}
-
+use Rattle.ia_simulation.proofs.Rows.{itself, Led}
 use Rattle.ia_simulation.proofs.Computes as computes
 use Rattle.ia_simulation.proofs.Computes.{register_operand}
 

@@ -1,11 +1,9 @@
 -- A procedure returns: to the call below, or the program ends.
-use Rattle.std.proofs.Common.{◌≡◌, ◌≢◌, ℕ, zero, suc, ◌+◌, ◌-◌, ◌*◌, ◌^◌, ◌≤◌, ◌<◌, List, [], ◌∷◌, ◌++◌, length, Some, None, refl, sym, ap, ◌∙◌, subst, arith, inl, append_assoc, length-append}
-use Rattle.std.specs.Prelude.{Ok}
-use Rattle.ia_code.specs.declared.ins.Ins.TheVariants as ins
+use Rattle.std.proofs.Common.{◌≡◌, ℕ, ◌+◌, ◌*◌, ◌≤◌, List, [], ◌∷◌, ◌++◌, length, Some, None, refl, sym, ap, ◌∙◌, subst, arith, inl, append_assoc, length-append}
 use Rattle.ia_code.specs.declared.services.Service.TheVariants as service
-use Rattle.ia_code.specs.Regions.{code_base, data_base, stack_base, stack_top, stack_length}
+use Rattle.ia_code.specs.Regions.{data_base, stack_base}
 use Rattle.ia_emit.specs.declared.item.Item.TheVariants as item
-use Rattle.ia_emit.specs.Code.{size_of, front, entry}
+use Rattle.ia_emit.specs.Code.{size_of}
 use Rattle.ia_emit.specs.Emission.{call_service, leave, emit_end}
 use Rattle.ia_emit.specs.Operands.{free_register}
 use Rattle.ia_step.specs.declared.out.Ending.TheVariants as ending
@@ -14,15 +12,13 @@ use Rattle.ia_step.specs.Effect.{effect, service as served}
 use Rattle.ia_step.specs.Registers.{get}
 use Rattle.ia_step.specs.Run.{Ran, run_end, advance}
 use Rattle.ia_step.specs.State as machine
-use Rattle.ia_step.specs.Step.{step}
 use Rattle.ia_step.proofs.Reaches.{Reaches, advance_step}
 use Rattle.pl_place.specs.declared.placed.LProc.{LProc}
 use Rattle.pl_place.specs.Machine.{Cells, proc_of, shape}
 use Rattle.pra_base.specs.declared.code.End.TheVariants as end
-use Rattle.pra_base.specs.RunEnd.{Wrong, Ended}
+use Rattle.pra_base.specs.RunEnd.{Ended}
 use Rattle.pra_base.specs.System.{run}
 use Rattle.pra_base.proofs.Simulation.{run_more}
-use Rattle.pra_base.specs.Words.{stack_limit}
 use Rattle.vc_code.specs.declared.value.Value.TheVariants.{Num}
 use Rattle.vc_code.specs.Value.{Held, Words}
 use Rattle.vc_code.specs.Machine.{Activation, State, depth, ended, returned}
@@ -115,13 +111,16 @@ module _ (procs : List LProc) (data_words : ℕ) (ok : IsLoadable procs data_wor
       let z = l.2 in
       let at_exit = here.behind procs no_target 0 (item.Call (record { 0 = 0 }) ∷ []) _ (front_at procs) in
       let w : Walks procs t (frames procs (rest_of x.backs) []) no_target 5 (call_service service.End ∷ _) = record { code = z.code; going = z.going; stack = z.stack; small = subst (λ (l : List ℕ). data_base + length l ≤ stack_base) (sym z.storage) (control.walks procs data_words ok s r y o done).small; place = z.eip.0; items_at = at_exit } in
-      let last = does procs ok.sound t _ no_target 5 (call_service service.End) _ w (machine.over (machine.at t (t.eip + size_of (call_service service.End))) ending.Ended) out.Ended refl in
-      (7, inl (omega arith), subst (Represents procs (ended s Ended)) (sym (run_more advance 6 1 r ∙ ap (run advance 1) (l.1.by r.events r.steps) ∙ advance_step t _ out.Ended z.going last r.events (r.steps + 6))) (record {
-        ending = refl;
-        events = y.events;
-        taken = z.taken ∙ y.taken;
-        going = λ e. cc;
-      }))
+      let last = does procs ok.sound t _ no_target 5 (call_service service.End) _ w (machine.over (machine.at t (t.eip + size_of (call_service service.End))) ending.Ended) out.Ended refl in (
+        7,
+        inl (omega arith),
+        subst (Represents procs (ended s Ended)) (sym (run_more advance 6 1 r ∙ ap (run advance 1) (l.1.by r.events r.steps) ∙ advance_step t _ out.Ended z.going last r.events (r.steps + 6))) (record {
+          ending = refl;
+          events = y.events;
+          taken = z.taken ∙ y.taken;
+          going = λ e. cc;
+        }),
+      )
 
   -- ---- the call below goes on
 
@@ -132,36 +131,39 @@ module _ (procs : List LProc) (data_words : ℕ) (ok : IsLoadable procs data_wor
       let regs = c.home.regs in
       let l = left (c ∷ calls) (back ∷ backs) waits lies (register_held regs 5) (register_held regs 4) (register_held regs 3) (Some (Num (ebp_of procs c calls))) (Some (Num back)) refl in
       let t = l.0 in
-      let z = l.2 in
-      (6, inl (omega arith), subst (Represents procs (returned s (c ∷ calls))) (sym (l.1.by r.events r.steps)) (record {
-        ending = ap run_end z.going ∙ sym o;
-        events = y.events;
-        taken = z.taken ∙ y.taken;
-        going = λ _. record {
-          backs = backs;
-          code = z.code;
-          stands =
-              subst (λ n. StandsBefore procs c.proc c.home.block c.home.rest c.home.end n t.eip) (sym (control.none_pushed procs data_words ok s r y o done))
-              (subst (StandsBefore procs c.proc c.home.block c.home.rest c.home.end 0) (sym z.eip.0) wait.stands);
-          waiting = waits.1;
-          lies = record {
-            sizes = wait.sizes;
-            registers =
-                below_6 (λ r. Holds (register_held regs r) (get t.regs (free_register r)))
-                (subst (λ h. Holds h t.regs.eax) (sym wait.given_up.eax) tt) (subst (λ h. Holds h t.regs.ecx) (sym wait.given_up.ecx) tt) (subst (λ h. Holds h t.regs.edx) (sym wait.given_up.edx) tt)
-                z.ebx z.esi z.edi;
-            words = subst (λ l. Stacked (l ++ frames procs backs (c ∷ calls)) t.regs.esp t.stack) (sym no_pushes) z.stack;
-            ebp = z.ebp.0;
-            deep = omega (arith, lies.deep);
-            globals_hold = subst (λ l. WordsHold s.globals l 0) (sym z.storage) lies.globals_hold;
-            data_long = ap length z.storage ∙ lies.data_long;
-            data_few = lies.data_few;
+      let z = l.2 in (
+        6,
+        inl (omega arith),
+        subst (Represents procs (returned s (c ∷ calls))) (sym (l.1.by r.events r.steps)) (record {
+          ending = ap run_end z.going ∙ sym o;
+          events = y.events;
+          taken = z.taken ∙ y.taken;
+          going = λ _. record {
+            backs = backs;
+            code = z.code;
+            stands =
+                subst (λ n. StandsBefore procs c.proc c.home.block c.home.rest c.home.end n t.eip) (sym (control.none_pushed procs data_words ok s r y o done))
+                (subst (StandsBefore procs c.proc c.home.block c.home.rest c.home.end 0) (sym z.eip.0) wait.stands);
+            waiting = waits.1;
+            lies = record {
+              sizes = wait.sizes;
+              registers =
+                  below_6 (λ r. Holds (register_held regs r) (get t.regs (free_register r)))
+                  (subst (λ h. Holds h t.regs.eax) (sym wait.given_up.eax) tt) (subst (λ h. Holds h t.regs.ecx) (sym wait.given_up.ecx) tt) (subst (λ h. Holds h t.regs.edx) (sym wait.given_up.edx) tt)
+                  z.ebx z.esi z.edi;
+              words = subst (λ l. Stacked (l ++ frames procs backs (c ∷ calls)) t.regs.esp t.stack) (sym no_pushes) z.stack;
+              ebp = z.ebp.0;
+              deep = omega (arith, lies.deep);
+              globals_hold = subst (λ l. WordsHold s.globals l 0) (sym z.storage) lies.globals_hold;
+              data_long = ap length z.storage ∙ lies.data_long;
+              data_few = lies.data_few;
+            };
+            flags = tt;
+            input = z.input ∙ x.input;
+            input_fits = x.input_fits;
           };
-          flags = tt;
-          input = z.input ∙ x.input;
-          input_fits = x.input_fits;
-        };
-      }))
+        }),
+      )
 
   -- ---- either
 

@@ -1,38 +1,34 @@
 -- The start: the first call of the code and the body's first instructions lead to where the body of
 -- placed code begins.
-use Rattle.std.proofs.Common.{◌≡◌, ◌≢◌, ℕ, zero, suc, ◌+◌, ◌-◌, ◌*◌, ◌≤◌, ◌<◌, Bool, true, false, List, [], ◌∷◌, ◌++◌, length, map, Option, Some, None, refl, sym, ap, ◌∙◌, subst, arith, nat_lt, replicate}
-use Rattle.std.specs.Prelude.{ℤ, pos, Ok, slice_get, slice_index, slice_index_or}
+use Rattle.std.proofs.Common.{◌≡◌, ℕ, zero, suc, ◌+◌, ◌*◌, ◌≤◌, ◌<◌, false, List, [], ◌∷◌, length, map, Some, None, refl, sym, ap, ◌∙◌, subst, arith, nat_lt, replicate}
+use Rattle.std.specs.Prelude.{ℤ, slice_get, slice_index, slice_index_or}
 use Rattle.std.specs.List.{filter_map}
 use Rattle.std.proofs.lemmas.Bool.Decides.{nat_tests}
 use Rattle.std.proofs.lemmas.List.{length-replicate}
 use Rattle.pra_list.specs.Results.{◌>>=◌}
 use Rattle.ia_code.specs.declared.image.Image.{Image}
-use Rattle.ia_code.specs.Image.{max_code_bytes, max_data_words}
 use Rattle.ia_code.specs.Listing.{bytes_of_all}
-use Rattle.ia_code.specs.Regions.{code_base, data_base, stack_base, stack_top, stack_length}
+use Rattle.ia_code.specs.Regions.{code_base, stack_top, stack_length}
 use Rattle.ia_emit.specs.declared.item.Item.{Item}
 use Rattle.ia_emit.specs.declared.item.Item.TheVariants as item
-use Rattle.ia_emit.specs.Code.{size_of, size, block_start, distance, front, target_in, entry, code_of}
+use Rattle.ia_emit.specs.Code.{size_of, block_start, distance, front, target_in, entry, code_of}
 use Rattle.ia_emit.specs.Emission.{prologue}
-use Rattle.ia_step.specs.declared.out.Ending.TheVariants as ending
-use Rattle.ia_step.specs.declared.out.StepOut.TheVariants as out
 use Rattle.ia_step.specs.Effect.{effect, goes, jump}
 use Rattle.ia_step.specs.Memory.{word_in, zeros}
-use Rattle.ia_step.specs.Run.{Ran, begin, ran, advance, run_end}
+use Rattle.ia_step.specs.Run.{ran, run_end}
 use Rattle.ia_step.specs.State as machine
 use Rattle.ia_step.proofs.Access.{push_here, pushed}
 use Rattle.ia_step.proofs.Reaches.{Reaches, reach_on}
 use Rattle.pl_place.specs.declared.placed.LBlock.{LBlock}
 use Rattle.pl_place.specs.declared.placed.LProc.{LProc}
-use Rattle.pl_place.specs.Machine.{Cells, begun, no_block, proc_of, shape, start}
+use Rattle.pl_place.specs.Machine.{begun, no_block, proc_of, shape, start}
 use Rattle.pl_place.specs.Placed.{bare_block, op_of}
 use Rattle.pl_place.specs.Valid.{counts_of}
 use Rattle.pra_base.specs.Code as base
 use Rattle.pra_base.specs.Valid.{PushesLead, TakesArgs}
 use Rattle.pra_base.specs.Words.{word, sum32, stack_limit}
 use Rattle.vc_code.specs.declared.value.Value.TheVariants.{Num}
-use Rattle.vc_code.specs.Value.{Held, Words}
-use Rattle.vc_code.specs.Machine.{Activation, depth}
+use Rattle.vc_code.specs.Machine.{depth}
 use Rattle.ia_simulation.specs.Frames.{WordsHold, Stacked, exit}
 use Rattle.ia_simulation.specs.Represents.{IsLoadable, AreWords, StandsBefore, Represents}
 use Rattle.ia_simulation.proofs.Begin as begin_call
@@ -174,19 +170,21 @@ module _ (procs : List LProc) (data_words : ℕ) (ok : IsLoadable procs data_wor
       (zeros_hold data_words (image.data_words * 4) 0) (omega (arith, data_long, long)) (omega (arith, long, ok.few_data)) few_words in
       let t = b.1 in
       let z = b.3 in
-      let all : Reaches (1 + b.0) m t = reach_on 1 b.0 m m1 t calls b.2 in
-      (1 + b.0, subst (Represents procs (start procs data_words input)) (sym (all.by [] 0)) (record {
-        ending = ap run_end z.going;
-        events = refl;
-        taken = z.taken;
-        going = λ _. record {
-          backs = [];
-          code = z.code;
-          stands = stands_at procs data_words ok 0 0 block t.eip body_there block_there z.place;
-          waiting = tt;
-          lies = z.lies;
-          flags = tt;
-          input = z.input;
-          input_fits = fits;
-        };
-      }))
+      let all : Reaches (1 + b.0) m t = reach_on 1 b.0 m m1 t calls b.2 in (
+        1 + b.0,
+        subst (Represents procs (start procs data_words input)) (sym (all.by [] 0)) (record {
+          ending = ap run_end z.going;
+          events = refl;
+          taken = z.taken;
+          going = λ _. record {
+            backs = [];
+            code = z.code;
+            stands = stands_at procs data_words ok 0 0 block t.eip body_there block_there z.place;
+            waiting = tt;
+            lies = z.lies;
+            flags = tt;
+            input = z.input;
+            input_fits = fits;
+          };
+        }),
+      )

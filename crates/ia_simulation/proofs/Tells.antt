@@ -1,20 +1,14 @@
 -- The instructions that call the host: a number or a line is written, a number is read.
-use Rattle.std.proofs.Common.{◌≡◌, ◌≢◌, ℕ, ◌+◌, ◌++◌, ◌^◌, ◌<◌, true, List, [], ◌∷◌, length, map, Some, None, refl, sym, ap, ◌∙◌, subst, arith}
-use Rattle.std.specs.Prelude.{ℤ, Ok, if◌then◌else◌}
+use Rattle.std.proofs.Common.{◌≡◌, ◌≢◌, ℕ, ◌+◌, ◌++◌, true, List, [], ◌∷◌, length, map, Some, None, refl, sym, ap, ◌∙◌, subst, arith}
+use Rattle.std.specs.Prelude.{ℤ, Ok}
 use Rattle.std.specs.List.{filter_map}
-use Rattle.std.specs.Int.{w32}
-use Rattle.std.specs.Int.RustNames.{FitsSigned}
-use Rattle.std.proofs.lemmas.Int.{ints}
 use Rattle.ia_code.specs.declared.ins.Ins.{Ins}
 use Rattle.ia_code.specs.declared.ins.Reg.TheVariants.{Eax}
 use Rattle.ia_code.specs.declared.ins.Ins.TheVariants as ins
-use Rattle.ia_code.specs.DecodeTable.{IsSound}
 use Rattle.ia_emit.specs.declared.item.Item.TheVariants.{Plain}
-use Rattle.ia_emit.specs.declared.item.Operand.{Operand}
 use Rattle.ia_emit.specs.declared.item.Operand.TheVariants as at
-use Rattle.ia_emit.specs.Emission.{emit, emit_op, rm_of, copy, set}
+use Rattle.ia_emit.specs.Emission.{emit}
 use Rattle.ia_emit.specs.Operands as emitted
-use Rattle.ia_step.specs.Arithmetic.{diff_flags}
 use Rattle.ia_step.specs.declared.out.Ending.TheVariants as ending
 use Rattle.ia_step.specs.declared.out.StepOut.{StepOut}
 use Rattle.ia_step.specs.declared.out.StepOut.TheVariants as out
@@ -25,13 +19,13 @@ use Rattle.pl_place.specs.declared.placed.LInstr.{LInstr}
 use Rattle.pl_place.specs.declared.placed.LInstr.TheVariants as placed
 use Rattle.pl_place.specs.declared.placed.LProc.{LProc}
 use Rattle.pl_place.specs.Machine.{Cells, proc_of, passed, operand, put, behind}
-use Rattle.pl_place.specs.Placed.{op_of, kind_of}
+use Rattle.pl_place.specs.Placed.{op_of}
 use Rattle.pl_place.specs.Valid.{OperandsPlaced, counts_of}
 use Rattle.pra_base.specs.declared.code.VInstr.{VInstr}
 use Rattle.pra_base.specs.declared.code.VInstr.TheVariants as instr
 use Rattle.pra_base.specs.declared.ids.VarId.{VarId}
 use Rattle.pra_base.specs.Operands.{table, line_writes}
-use Rattle.pra_base.specs.Places.{number as number_of, has_register, is_mem}
+use Rattle.pra_base.specs.Places.{number as number_of}
 use Rattle.pra_base.specs.Valid.{PushesLead, TakesArgs}
 use Rattle.pra_base.specs.Words.{word, signed}
 use Rattle.pra_base.specs.RunEnd.{Wrong, Trapped}
@@ -41,7 +35,7 @@ use Rattle.pra_base.specs.declared.event.TrapKind.TheVariants as trap
 use Rattle.pra_base.specs.declared.ids.Place.{Place}
 use Rattle.vc_code.specs.declared.value.Value.TheVariants.{Num}
 use Rattle.vc_code.specs.declared.action.Action.TheVariants as action
-use Rattle.vc_code.specs.Operation.{gives, number}
+use Rattle.vc_code.specs.Operation.{number}
 use Rattle.vc_code.specs.Machine.{Activation, State, After, ended, takes, with_event, with_rest}
 use Rattle.ia_simulation.specs.Represents.{IsLoadable, AreWords, Runs, Represents, Leads}
 use Rattle.ia_simulation.proofs.Effects.{IsPlace, ok_same}
@@ -51,8 +45,7 @@ use Rattle.ia_simulation.proofs.Ops as ops
 use Rattle.ia_simulation.proofs.Ops.{one_is, two_are, three_are, number_is, combined_fits, no_number, put_done}
 use Rattle.ia_simulation.proofs.Steps as steps
 use Rattle.ia_simulation.proofs.Steps.{found_ok}
-use Rattle.ia_simulation.proofs.Rows.{itself, Led, plain_lead}
-
+use Rattle.ia_simulation.proofs.Rows.{itself, Led}
 use Rattle.ia_simulation.proofs.Computes as computes
 
 module _ (procs : List LProc) (data_words : ℕ) (ok : IsLoadable procs data_words) (s : State Cells) (r : Ran) (y : Represents procs s r) (o : s.over ≡ None) where
@@ -89,7 +82,7 @@ module _ (procs : List LProc) (data_words : ℕ) (ok : IsLoadable procs data_wor
   }
 
   module _ (i : VInstr) (places : _) (more : List LInstr) (e : s.top.home.rest ≡ placed.Op i places ∷ more) (j : Ins) (em : emit p (placed.Op i places) ≡ Plain j ∷ [])
-    (lead : PushesLead T (length s.pushed) (filter_map op_of more)) where
+      (lead : PushesLead T (length s.pushed) (filter_map op_of more)) where
     abbrev now : machine.State
     now = ops.now procs data_words ok s r y o i places more e j em
 
