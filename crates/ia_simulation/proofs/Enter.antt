@@ -74,11 +74,11 @@ module _ (procs : List LProc) (sound : AreSound (code_of procs)) (m : State) (wo
   abbrev pub stopped : State
   stopped = over (at numbered (numbered.eip + size_of (call_service service.Trap))) (ending.Trap trap)
 
-  numbers : Reaches 1 m numbered
+  pub numbers : Reaches 1 m numbered
   unfolding effect mov write_rm
   numbers = reaches procs sound m words no_target (stub_start trap) set_eax (call_service service.Trap ∷ []) w numbered refl
 
-  stops : ◌≡◌ {A = State × _} (step numbered) (stopped, out.Trap trap)
+  pub stops : ◌≡◌ {A = State × _} (step numbered) (stopped, out.Trap trap)
   unfolding effect served
   stops =
       does procs sound numbered words no_target _ (call_service service.Trap) []

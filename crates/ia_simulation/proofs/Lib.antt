@@ -21,3 +21,6 @@ pub mod Begin
 pub mod Start
 pub mod Control
 pub mod Returns
+pub mod Traps
+pub mod Pushes
+pub mod Calls

@@ -13,12 +13,13 @@ use Rattle.ia_step.specs.declared.flags.Flags.{Flags}
 use Rattle.ia_step.specs.declared.out.Ending.{Ending}
 use Rattle.ia_step.specs.declared.out.Ending.TheVariants as ending
 use Rattle.ia_step.specs.declared.out.StepOut.{StepOut}
+use Rattle.ia_step.specs.declared.out.StepOut.TheVariants as out
 use Rattle.ia_step.specs.declared.registers.Registers.{Registers}
 use Rattle.ia_step.specs.Effect.{effect}
 use Rattle.ia_step.specs.Run.{Ran, noted, advance, run_end}
 use Rattle.ia_step.specs.State as machine
 use Rattle.ia_step.specs.Step.{settled}
-use Rattle.ia_step.proofs.Reaches.{advance_step}
+use Rattle.ia_step.proofs.Reaches.{Reaches, advance_step, reach_one}
 use Rattle.pl_place.specs.declared.placed.LInstr.{LInstr}
 use Rattle.pl_place.specs.declared.placed.LProc.{LProc}
 use Rattle.pl_place.specs.Machine.{Cells, proc_of, cleared, passed, clobbered, next_of, placed_machine}
@@ -154,10 +155,10 @@ module _ (procs : List LProc) (data_words : ℕ) (ok : IsLoadable procs data_wor
   few = few_pushes procs data_words ok (length s.pushed) (filter_map op_of s.top.home.rest) x.stands.pushes_lead
 
   module _ (i : LInstr) (more : List LInstr) (e : s.top.home.rest ≡ i ∷ more) where
-    abbrev here : ℕ
+    abbrev pub here : ℕ
     here = standing.here procs s.top.proc s.top.home.block s.top.home.rest s.top.home.end (length s.pushed) m.eip x.stands
 
-    abbrev behind : List Item
+    abbrev pub behind : List Item
     behind = standing.behind_it procs s.top.proc s.top.home.block s.top.home.rest s.top.home.end (length s.pushed) m.eip x.stands i more e
 
     -- the pushes that stand lead to a call
@@ -196,7 +197,7 @@ module _ (procs : List LProc) (data_words : ℕ) (ok : IsLoadable procs data_wor
       abbrev pub fetched : machine.State
       fetched = machine.at m (m.eip + size_of first)
 
-      first_at : AreAt procs (standing.target procs s.top.proc s.top.home.block s.top.home.rest s.top.home.end (length s.pushed) m.eip x.stands) here (first ∷ (others ++ behind))
+      pub first_at : AreAt procs (standing.target procs s.top.proc s.top.home.block s.top.home.rest s.top.home.end (length s.pushed) m.eip x.stands) here (first ∷ (others ++ behind))
       first_at =
           subst (λ l. AreAt procs (standing.target procs s.top.proc s.top.home.block s.top.home.rest s.top.home.end (length s.pushed) m.eip x.stands) here (l ++ behind)) em
           (standing.instr_at procs s.top.proc s.top.home.block s.top.home.rest s.top.home.end (length s.pushed) m.eip x.stands i more e)
@@ -210,6 +211,11 @@ module _ (procs : List LProc) (data_words : ℕ) (ok : IsLoadable procs data_wor
           advance_step m t told going
           (at.step_here procs _ here m first (others ++ behind) first_at x.code ok.sound x.stands.place_is going ∙ ap (settled m) f)
           r.events r.steps
+
+      pub reaches : (t : machine.State) → effect fetched ins ≡ Ok (t, out.Going) → Reaches 1 m t
+      reaches t f =
+          reach_one m t going
+          (at.step_here procs _ here m first (others ++ behind) first_at x.code ok.sound x.stands.place_is going ∙ ap (settled m) f)
 
       -- it is all of it
       pub alone : others ≡ [] → m.eip + size_of first ≡ m.eip + size (emit p i)

@@ -5,12 +5,15 @@ use Rattle.pra_base.specs.declared.code.VInstr.TheVariants as instr
 use Rattle.pra_base.specs.declared.code.End.TheVariants as end
 use Rattle.pra_base.specs.declared.ids.BlockId.{BlockId}
 use Rattle.pra_base.specs.declared.ids.Cond.{Cond}
+use Rattle.pra_base.specs.declared.ids.ProcId.{ProcId}
 use Rattle.pra_base.specs.declared.ids.VarId.{VarId}
 use Rattle.ia_simulation.specs.Represents.{IsCarried, EndIsCarried}
+use Rattle.ia_simulation.proofs.Calls.{calls_it}
 use Rattle.ia_simulation.proofs.Computes as computes
 use Rattle.ia_simulation.proofs.Control as control
 use Rattle.ia_simulation.proofs.Moves.{move_leads}
 use Rattle.ia_simulation.proofs.Numbers as numbers
+use Rattle.ia_simulation.proofs.Pushes.{pushes_it}
 use Rattle.ia_simulation.proofs.Returns.{returning}
 use Rattle.ia_simulation.proofs.Rows as rows
 use Rattle.ia_simulation.proofs.Steps as steps
@@ -58,6 +61,12 @@ lines places procs data_words ok s r y o more e = stepped procs s r (placed.Op i
 
 pub reads : (v : VarId) (places : _) → IsCarried (placed.Op (instr.Read v) places)
 reads v places procs data_words ok s r y o more e = stepped procs s r (placed.Op (instr.Read v) places) more o e (tells.reads_it procs data_words ok s r y o v places more e)
+
+pub pushes : (v : VarId) (places : _) → IsCarried (placed.Op (instr.Push v) places)
+pushes v places procs data_words ok s r y o more e = stepped procs s r (placed.Op (instr.Push v) places) more o e (pushes_it procs data_words ok s r y o v places more e)
+
+pub calls : (q : ProcId) (places : _) → IsCarried (placed.Op (instr.Call q) places)
+calls q places procs data_words ok s r y o more e = stepped procs s r (placed.Op (instr.Call q) places) more o e (calls_it procs data_words ok s r y o q places more e)
 
 -- ---- ends
 

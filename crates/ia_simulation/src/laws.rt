@@ -15,6 +15,7 @@ ghost use Rattle.pra_base.specs.declared.code.VInstr.TheVariants as instr;
 ghost use Rattle.pra_base.specs.declared.code.End.TheVariants as end;
 ghost use Rattle.pra_base.specs.declared.ids.BlockId.{BlockId};
 ghost use Rattle.pra_base.specs.declared.ids.Cond.{Cond};
+ghost use Rattle.pra_base.specs.declared.ids.ProcId.{ProcId};
 ghost use Rattle.pra_base.specs.declared.ids.VarId.{VarId};
 ghost use Rattle.ia_simulation.specs.Represents.{IsLoadable, AreWords, Represents};
 ghost use Rattle.ia_simulation.specs.Represents.{IsCarried, EndIsCarried};
@@ -44,6 +45,13 @@ pub fn telling_is_carried()
     ensures write { (v : VarId) (places : _) → IsCarried (Op (instr.Write v) places) }
     ensures line { (places : _) → IsCarried (Op instr.Line places) }
     ensures read { (v : VarId) (places : _) → IsCarried (Op (instr.Read v) places) }
+{}
+
+/// The same of pushes and calls. A call leads behind the first instructions of its callee, or both
+/// trap, since the frame does not fit.
+pub fn calls_are_carried()
+    ensures push { (v : VarId) (places : _) → IsCarried (Op (instr.Push v) places) }
+    ensures call { (q : ProcId) (places : _) → IsCarried (Op (instr.Call q) places) }
 {}
 
 /// The same of each end of a block. A return of the module's body is the end of the program.
