@@ -20,3 +20,4 @@ pub mod Added
 pub mod Published
 pub mod Whole
 pub mod Unread
+pub mod Counting

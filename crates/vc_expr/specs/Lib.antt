@@ -4,3 +4,4 @@ pub mod Branches
 pub mod Choices
 pub mod Rules
 pub mod Readable
+pub mod Counts

@@ -5,6 +5,7 @@ ghost use Rattle.vc_build.specs.Grow.{IsOpen};
 ghost use Rattle.vc_expr.specs.Operators.{is_arithmetic, arithmetic_of, Operates};
 ghost use Rattle.vc_expr.specs.Rules.{StaysValid};
 ghost use Rattle.vc_expr.specs.Readable.{ReadsOperands};
+ghost use Rattle.vc_expr.specs.Counts.{OperationAdds};
 
 use crate::start::start;
 use ob_syntax::checked::ROp;
@@ -46,6 +47,7 @@ pub fn select_arithmetic(
     ensures vars { OnOk result (length code.old.vars ≤ length code.new.vars) }
     ensures operates { IfOk result (λ v.
         Operates op first at.0 code.old code.new left.0 right.0 v.0) }
+    ensures counts { OnOk result (OperationAdds 1 0 0 first left.0 code.old code.new) }
     ensures valid { OnOk result (StaysValid code.old code.new) }
     ensures reads { IfOk result (λ v.
         ReadsOperands first at.0 code.old code.new left.0 right.0 v.0) }

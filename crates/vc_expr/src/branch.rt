@@ -6,6 +6,7 @@ ghost use Rattle.vc_expr.specs.Operators.{is_relation};
 ghost use Rattle.vc_expr.specs.Branches.{BranchesBy, BranchesOn};
 ghost use Rattle.vc_expr.specs.Rules.{StaysValid};
 ghost use Rattle.vc_expr.specs.Readable.{ReadsSides};
+ghost use Rattle.vc_expr.specs.Counts.{AddsAtMost};
 
 use crate::relation::condition_of;
 use ob_syntax::checked::ROp;
@@ -43,6 +44,7 @@ pub fn branch_by(
     ensures vars { OnOk result (code.new.vars ≡ code.old.vars) }
     ensures branches { OnOk result
         (BranchesBy op at.0 code.old code.new left.0 right.0 targets) }
+    ensures counts { OnOk result (AddsAtMost 1 0 0 0 code.old code.new) }
     ensures valid { OnOk result (0 < targets.holds.0 → 0 < targets.fails.0 →
         StaysValid code.old code.new) }
     ensures reads { OnOk result
@@ -76,6 +78,7 @@ pub fn branch_on(
     requires fails { targets.fails.0 < count code.old }
     ensures vars { OnOk result (length code.old.vars ≤ length code.new.vars) }
     ensures branches { OnOk result (BranchesOn at.0 code.old code.new v.0 targets) }
+    ensures counts { OnOk result (AddsAtMost 1 0 1 0 code.old code.new) }
     ensures valid { OnOk result (0 < targets.holds.0 → 0 < targets.fails.0 →
         StaysValid code.old code.new) }
     ensures reads { OnOk result (ReadsSides at.0 code.old code.new v.0 v.0 targets) }

@@ -11,6 +11,7 @@ ghost use Rattle.vc_build.specs.Grow.{count, IsOpen};
 ghost use Rattle.vc_expr.specs.Choices.{decided, test_of, OpensChoice, ClosesChoice};
 ghost use Rattle.vc_expr.specs.Rules.{StaysValid};
 ghost use Rattle.vc_expr.specs.Readable.{PublishesNew, PublishesTo};
+ghost use Rattle.vc_expr.specs.Counts.{AddsAtMost};
 
 use crate::branch::Targets;
 use crate::start::first_of;
@@ -52,6 +53,7 @@ pub fn open_choice(
     ensures is_open { OnOk result (IsOpen code.new at.0) }
     ensures vars { OnOk result (length code.old.vars ≤ length code.new.vars) }
     ensures opens { IfOk result (λ choice. OpensChoice op at.0 code.old code.new choice) }
+    ensures counts { OnOk result (AddsAtMost 1 1 0 2 code.old code.new) }
     ensures valid { OnOk result (StaysValid code.old code.new) }
     ensures reads { IfOk result (λ choice.
         PublishesNew at.0 code.old code.new choice.target.0) }
@@ -104,6 +106,7 @@ pub fn close_choice(
     requires no_entry { 0 < choice.behind.0 }
     ensures vars { OnOk result (code.new.vars ≡ code.old.vars) }
     ensures closes { OnOk result (ClosesChoice at.0 code.old code.new v.0 choice) }
+    ensures counts { OnOk result (AddsAtMost 1 0 0 0 code.old code.new) }
     ensures valid { OnOk result (choice.target.0 ≢ v.0 → StaysValid code.old code.new) }
     ensures reads { OnOk result
         (PublishesTo at.0 code.old code.new v.0 choice.target.0 choice.behind.0) }

@@ -13,6 +13,7 @@ ghost use Rattle.pra_base.specs.declared.code.VarKind.TheVariants.{Plain};
 ghost use Rattle.vc_expr.specs.Rules.{OperandsApart, StaysValid};
 ghost use Rattle.vc_expr.specs.Readable.{ReadsDivision, ReadsOperands};
 ghost use Rattle.vc_expr.specs.Division.{ReadsSplit, ReadsRounding};
+ghost use Rattle.vc_expr.specs.Counts.{AddsAtMost, OperationAdds};
 
 use crate::arithmetic::select_arithmetic;
 use crate::relation::select_relation;
@@ -53,6 +54,7 @@ fn check_divisor(
     ensures is_open { OnOk result (IsOpen code.new at.0) }
     ensures vars { OnOk result (code.new.vars ≡ code.old.vars) }
     ensures checks { OnOk result (Checks at.0 code.old code.new divisor.0) }
+    ensures counts { OnOk result (AddsAtMost 1 0 0 0 code.old code.new) }
     ensures valid { OnOk result (StaysValid code.old code.new) }
     ensures reads { OnOk result (ReadsOperands (length code.old.vars) at.0 code.old code.new
         divisor.0 divisor.0 divisor.0) }
@@ -77,6 +79,7 @@ fn divide(
     ensures is_open { OnOk result (IsOpen code.new at.0) }
     ensures divides { IfOk result (λ v.
         Divides at.0 code.old code.new dividend.0 divisor.0 v.0.0 v.1.0) }
+    ensures counts { OnOk result (AddsAtMost 1 2 0 0 code.old code.new) }
     ensures valid { OnOk result (kind_of code.old dividend.0 ≡ Plain →
         dividend.0 ≢ divisor.0 → StaysValid code.old code.new) }
     ensures reads { IfOk result (λ v.
@@ -112,6 +115,7 @@ fn split(
     ensures vars { OnOk result (length code.old.vars ≤ length code.new.vars) }
     ensures splits { IfOk result (λ parts.
         Splits at.0 code.old code.new dividend.0 divisor.0 parts) }
+    ensures counts { OnOk result (AddsAtMost 3 3 1 0 code.old code.new) }
     ensures valid { OnOk result (kind_of code.old dividend.0 ≡ Plain →
         dividend.0 ≢ divisor.0 → StaysValid code.old code.new) }
     ensures reads { IfOk result (λ parts.
@@ -145,6 +149,7 @@ fn select_mask(
     ensures vars { OnOk result (length code.old.vars ≤ length code.new.vars) }
     ensures combines { IfOk result (λ v.
         Combines IsMask masked first at.0 code.old code.new mask.0 number.0 v.0) }
+    ensures counts { OnOk result (OperationAdds 1 0 0 first mask.0 code.old code.new) }
     ensures valid { OnOk result (StaysValid code.old code.new) }
     ensures reads { IfOk result (λ v.
         ReadsOperands first at.0 code.old code.new mask.0 number.0 v.0) }
@@ -172,6 +177,8 @@ fn round_remainder(
     ensures rounds { IfOk result (λ v.
         Rounds parts.remainder.0 at.0 code.old code.new parts.remainder.0 parts.negative.0
         divisor.0 v.0) }
+    ensures counts { OnOk result (kind_of code.old parts.negative.0 ≡ Plain →
+        kind_of code.old parts.remainder.0 ≡ Plain → AddsAtMost 3 0 0 0 code.old code.new) }
     ensures valid { OnOk result (StaysValid code.old code.new) }
     ensures reads { IfOk result (λ v.
         ReadsRounding at.0 code.old code.new parts divisor.0 v.0) }
@@ -214,6 +221,7 @@ pub fn select_division(
     ensures vars { OnOk result (length code.old.vars ≤ length code.new.vars) }
     ensures operates { IfOk result (λ v.
         Operates op first at.0 code.old code.new left.0 right.0 v.0) }
+    ensures counts { OnOk result (OperationAdds 6 3 1 first left.0 code.old code.new) }
     ensures valid { OnOk result
         (OperandsApart first left.0 right.0 → StaysValid code.old code.new) }
     ensures reads { IfOk result (λ v. OperandsApart first left.0 right.0 →

@@ -31,8 +31,10 @@
 //!
 //! # Valid code
 //!
-//! Beside its meaning each function says two static facts of what it adds:
+//! Beside its meaning each function says three static facts of what it adds:
 //!
+//! - `counts`, of `specs/Counts`: at most so many instructions, local variables, constants and
+//!   blocks. An operation adds its start besides, which is nothing at a temporary.
 //! - `valid`, `StaysValid` of `specs/Rules`: code that keeps the rules of valid and sized code as
 //!   far as it has come (`KeepsRules`) still keeps them. No Push, Call, Clear or Return is added,
 //!   no constant is written, every number is in range.
@@ -46,7 +48,7 @@
 //! `certified_code_reads_what_is_written`). That each change of code keeps rules and certificates
 //! stands in `proofs/Rules` and `proofs/Certificates`.
 //!
-//! Both ask of an operation that no temporary is both its operands (`OperandsApart`).
+//! The latter two ask of an operation that no temporary is both its operands (`OperandsApart`).
 //!
 //! # Division
 //!

@@ -6,6 +6,7 @@ ghost use Rattle.vc_expr.specs.Operators.{is_arithmetic, is_bitwise, Operates};
 ghost use Rattle.vc_expr.specs.Division.{is_division};
 ghost use Rattle.vc_expr.specs.Rules.{OperandsApart, StaysValid};
 ghost use Rattle.vc_expr.specs.Readable.{ReadsOperands};
+ghost use Rattle.vc_expr.specs.Counts.{OperationAdds};
 
 use crate::arithmetic::select_arithmetic;
 use crate::bits::select_bitwise;
@@ -56,6 +57,7 @@ pub fn select_operator(
     ensures vars { OnOk result (length code.old.vars ≤ length code.new.vars) }
     ensures operates { IfOk result (λ v.
         Operates op first at.0 code.old code.new left.0 right.0 v.0) }
+    ensures counts { OnOk result (OperationAdds 6 3 1 first left.0 code.old code.new) }
     ensures valid { OnOk result
         (OperandsApart first left.0 right.0 → StaysValid code.old code.new) }
     ensures reads { IfOk result (λ v. OperandsApart first left.0 right.0 →

@@ -6,6 +6,7 @@ ghost use Rattle.vc_build.specs.Grow.{IsOpen};
 ghost use Rattle.vc_expr.specs.Operators.{Converts, ConvertsBit};
 ghost use Rattle.vc_expr.specs.Rules.{StaysValid};
 ghost use Rattle.vc_expr.specs.Readable.{ReadsOperands};
+ghost use Rattle.vc_expr.specs.Counts.{OperationAdds};
 
 use crate::start::start;
 use pra_base::{BlockId, OutOfMemory, VInstr, VProc, VarId, VarKind};
@@ -31,6 +32,7 @@ pub fn select_negation(
     ensures vars { OnOk result (length code.old.vars ≤ length code.new.vars) }
     ensures converts { IfOk result (λ v.
         Converts negated first at.0 code.old code.new operand.0 v.0) }
+    ensures counts { OnOk result (OperationAdds 1 0 0 first operand.0 code.old code.new) }
     ensures valid { OnOk result (StaysValid code.old code.new) }
     ensures reads { IfOk result (λ v.
         ReadsOperands first at.0 code.old code.new operand.0 operand.0 v.0) }
@@ -60,6 +62,7 @@ pub fn select_inversion(
     ensures vars { OnOk result (length code.old.vars ≤ length code.new.vars) }
     ensures converts { IfOk result (λ v.
         ConvertsBit inverted first at.0 code.old code.new operand.0 v.0) }
+    ensures counts { OnOk result (OperationAdds 1 0 1 first operand.0 code.old code.new) }
     ensures valid { OnOk result (StaysValid code.old code.new) }
     ensures reads { IfOk result (λ v.
         ReadsOperands first at.0 code.old code.new operand.0 operand.0 v.0) }

@@ -6,6 +6,7 @@ ghost use Rattle.vc_build.specs.Grow.{IsOpen};
 ghost use Rattle.vc_expr.specs.Operators.{is_temporary, first_of, Begins};
 ghost use Rattle.vc_expr.specs.Rules.{StaysValid};
 ghost use Rattle.vc_expr.specs.Readable.{ReadsOperands};
+ghost use Rattle.vc_expr.specs.Counts.{OperationAdds};
 
 use pra_base::{BlockId, OutOfMemory, VInstr, VProc, VarId, VarKind};
 use std::alloc::Global;
@@ -48,6 +49,7 @@ pub fn start(
     ensures is_open { OnOk result (IsOpen code.new at.0) }
     ensures vars { OnOk result (length code.old.vars ≤ length code.new.vars) }
     ensures begins { IfOk result (λ target. Begins first at.0 code.old code.new v.0 target.0) }
+    ensures counts { OnOk result (OperationAdds 0 0 0 first v.0 code.old code.new) }
     ensures valid { OnOk result (StaysValid code.old code.new) }
     ensures reads { IfOk result (λ target.
         ReadsOperands (length code.old.vars) at.0 code.old code.new v.0 v.0 target.0) }

@@ -7,6 +7,8 @@ use Rattle.vc_expr.specs.Rules.{StaysValid}
 use Rattle.vc_expr.specs.Readable.{ReadsOperands}
 use Rattle.vc_expr.proofs.Added.{bitwise_valid}
 use Rattle.vc_expr.proofs.Published.{bitwise_publishes}
+use Rattle.vc_expr.specs.Counts.{OperationAdds}
+use Rattle.vc_expr.proofs.Counting.{operation_adds}
 use Rattle.vc_expr.proofs.bits.select_bitwise.Goals as goal
 
 pub returns-clause-operates : goal.returns-clause-operates
@@ -33,3 +35,8 @@ returns-clause-reads c =
     c.in_ok-put.ensures ∙ ap (λ i. with_instr c.args.at.0 i c.start.new.code) c.bitwise_of.ensures in
     subst (λ (z : VProc). ReadsOperands c.args.first c.args.at.0 c.args.code.now z c.args.left.0 c.args.right.0 target.0) (sym made)
     (bitwise_publishes c.args.first c.args.at.0 c.args.code.now c.start.new.code c.args.left.0 target c.args.right c.in_ok-target.ensures.begins.adds.is_open c.in_ok-target.ensures.reads c.requires.right c.requires.first c.args.op)
+
+pub returns-clause-counts : goal.returns-clause-counts
+returns-clause-counts c =
+    subst (λ (z : VProc). OperationAdds 1 0 0 c.args.first c.args.left.0 c.args.code.now z) (sym c.in_ok-put.ensures)
+    (operation_adds c.args.first c.args.left.0 c.args.at.0 c.bitwise_of.result c.args.code.now c.start.new.code c.in_ok-target.ensures.counts c.in_ok-target.ensures.begins.adds.is_open)

@@ -9,6 +9,8 @@ use Rattle.vc_expr.specs.Rules.{StaysValid}
 use Rattle.vc_expr.specs.Readable.{ReadsSides}
 use Rattle.vc_expr.proofs.Added.{branch_valid}
 use Rattle.vc_expr.proofs.Published.{branch_publishes}
+use Rattle.vc_expr.specs.Counts.{AddsAtMost}
+use Rattle.vc_expr.proofs.Counting.{put_close_adds}
 use Rattle.vc_expr.proofs.branch.branch_by.Goals as goal
 
 pub returns-clause-branches : goal.returns-clause-branches
@@ -43,3 +45,12 @@ returns-clause-reads c =
     c.close.ensures ∙ ap (with_end at (Branch k targets.holds targets.fails)) c.in_ok-put.ensures in
     subst (λ (z : VProc). ReadsSides at old z c.args.left.0 c.args.right.0 targets) (sym made)
     (branch_publishes at old k c.args.left c.args.right targets c.requires.is_open)
+
+pub returns-clause-counts : goal.returns-clause-counts
+returns-clause-counts c =
+    let at = c.args.at.0 in
+    let old = c.args.code.now in
+    let end = Branch c.condition_of.result c.args.targets.holds c.args.targets.fails in
+    let i = Cmp c.args.left c.args.right in
+    let made : c.close.new.code ≡ with_end at end (with_instr at i old) = c.close.ensures ∙ ap (with_end at end) c.in_ok-put.ensures in
+    subst (λ (z : VProc). AddsAtMost 1 0 0 0 old z) (sym made) (put_close_adds at i end old c.requires.is_open)

@@ -1,4 +1,4 @@
-use Rattle.std.proofs.Common.{subst}
+use Rattle.std.proofs.Common.{subst, pos}
 use Rattle.pra_base.specs.declared.code.VProc.{VProc}
 use Rattle.ob_syntax.specs.declared.checked.ROp.TheVariants.{Unequal}
 use Rattle.vc_expr.specs.Branches.{BranchesBy}
@@ -6,6 +6,8 @@ use Rattle.vc_expr.proofs.Branching.{branches_on}
 use Rattle.vc_expr.specs.Rules.{StaysValid}
 use Rattle.vc_expr.specs.Readable.{ReadsSides}
 use Rattle.vc_expr.proofs.Whole.{sides_valid, sides_read}
+use Rattle.vc_expr.specs.Counts.{AddsAtMost}
+use Rattle.vc_expr.proofs.Counting.{branch_adds}
 use Rattle.vc_expr.proofs.branch.branch_on.Goals as goal
 
 pub returns-clause-branches : goal.returns-clause-branches
@@ -24,3 +26,7 @@ returns-clause-reads c =
     let zero = c.in_ok-zero.zero in
     sides_read c.args.at.0 c.args.code.now c.branch_by.new.code c.args.v.0 zero c.args.targets c.in_ok-zero.ensures.number
     (subst (λ (z : VProc). ReadsSides c.args.at.0 z c.branch_by.new.code c.args.v.0 zero.0 c.args.targets) c.in_ok-zero.ensures.made c.in_ok-branch_by.ensures.reads)
+
+pub returns-clause-counts : goal.returns-clause-counts
+returns-clause-counts c =
+    branch_adds (pos 0) c.args.code.now c.branch_by.new.code (subst (λ (z : VProc). AddsAtMost 1 0 0 0 z c.branch_by.new.code) c.in_ok-zero.ensures.made c.in_ok-branch_by.ensures.counts)

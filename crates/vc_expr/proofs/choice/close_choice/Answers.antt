@@ -12,6 +12,8 @@ use Rattle.vc_expr.specs.Rules.{StaysValid}
 use Rattle.vc_expr.specs.Readable.{PublishesTo}
 use Rattle.vc_expr.proofs.Added.{close_valid}
 use Rattle.vc_expr.proofs.Published.{close_publishes}
+use Rattle.vc_expr.specs.Counts.{AddsAtMost}
+use Rattle.vc_expr.proofs.Counting.{put_close_adds}
 use Rattle.vc_expr.proofs.choice.close_choice.Goals as goal
 
 pub returns-clause-closes : goal.returns-clause-closes
@@ -48,3 +50,12 @@ returns-clause-reads c =
     c.close.ensures ∙ ap (with_end at (Jump choice.behind)) (c.in_ok-put.ensures ∙ ap (λ i. with_instr at i old) c.first_of.ensures) in
     subst (λ (z : VProc). PublishesTo at old z c.args.v.0 choice.target.0 choice.behind.0) (sym made)
     (close_publishes at old c.args.v choice.target choice.behind kind c.requires.is_open)
+
+pub returns-clause-counts : goal.returns-clause-counts
+returns-clause-counts c =
+    let at = c.args.at.0 in
+    let old = c.args.code.now in
+    let end = Jump c.args.choice.behind in
+    let i = c.first_of.result in
+    let made : c.close.new.code ≡ with_end at end (with_instr at i old) = c.close.ensures ∙ ap (with_end at end) c.in_ok-put.ensures in
+    subst (λ (z : VProc). AddsAtMost 1 0 0 0 old z) (sym made) (put_close_adds at i end old c.requires.is_open)

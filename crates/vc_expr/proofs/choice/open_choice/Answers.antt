@@ -14,6 +14,8 @@ use Rattle.vc_expr.specs.Rules.{StaysValid}
 use Rattle.vc_expr.specs.Readable.{PublishesNew}
 use Rattle.vc_expr.proofs.Added.{open_valid}
 use Rattle.vc_expr.proofs.Published.{open_reads}
+use Rattle.vc_expr.specs.Counts.{AddsAtMost}
+use Rattle.vc_expr.proofs.Counting.{choice_adds}
 use Rattle.vc_expr.proofs.choice.open_choice.Goals as goal
 
 pub returns-clause-opens : goal.returns-clause-opens
@@ -58,3 +60,14 @@ returns-clause-reads c =
     let m4 : c.open_block-2.new.code ≡ with_open_block depth (with_open_block depth (with_instr at (Set target n) (with_variable Plain old))) =
     c.in_ok-behind.ensures.made ∙ ap (with_open_block depth) (c.in_ok-right.ensures.made ∙ ap (with_open_block depth) m2) in
     subst (λ (z : VProc). PublishesNew at old z target.0) (sym m4) (open_reads at old target n depth c.requires.is_open)
+
+pub returns-clause-counts : goal.returns-clause-counts
+returns-clause-counts c =
+    let at = c.args.at.0 in
+    let old = c.args.code.now in
+    let i = c.decides.result in
+    let depth = c.index.result.now.depth in
+    let m2 : c.put.new.code ≡ with_instr at i (with_variable Plain old) = c.in_ok-put.ensures ∙ ap (with_instr at i) c.in_ok-target.ensures.made in
+    let m4 : c.open_block-2.new.code ≡ with_open_block depth (with_open_block depth (with_instr at i (with_variable Plain old))) =
+    c.in_ok-behind.ensures.made ∙ ap (with_open_block depth) (c.in_ok-right.ensures.made ∙ ap (with_open_block depth) m2) in
+    subst (λ (z : VProc). AddsAtMost 1 1 0 2 old z) (sym m4) (choice_adds at i depth old c.requires.is_open)

@@ -1,4 +1,4 @@
-use Rattle.std.proofs.Common.{◌≡◌, length, ap, sym, ◌∙◌, subst}
+use Rattle.std.proofs.Common.{◌≡◌, length, ap, sym, ◌∙◌, subst, arith}
 use Rattle.std.proofs.lemmas.List.{get_or_read}
 use Rattle.pra_base.specs.Code.{kind_of}
 use Rattle.pra_base.specs.declared.code.VarKind.TheVariants.{Plain}
@@ -9,6 +9,9 @@ use Rattle.vc_expr.specs.Rules.{StaysValid}
 use Rattle.vc_expr.specs.Readable.{ReadsOperands}
 use Rattle.vc_expr.proofs.Added.{check_valid}
 use Rattle.vc_expr.proofs.Published.{check_publishes, same_publishes}
+use Rattle.vc_expr.specs.Counts.{AddsAtMost}
+use Rattle.vc_expr.proofs.Counting.{adds_none, adds_more, put_adds}
+use Rattle.pra_base.specs.declared.code.VInstr.TheVariants.{CheckPos}
 use Rattle.vc_expr.proofs.division.check_divisor.Goals as goal
 
 pub returns-in_ok-put-clause-checks : goal.returns-in_ok-put-clause-checks
@@ -34,3 +37,10 @@ returns-in_ok-put-clause-reads c =
 
 pub returns-else-is_tested-clause-reads : goal.returns-else-is_tested-clause-reads
 returns-else-is_tested-clause-reads c = same_publishes c.args.at.0 c.args.code.now (length c.args.code.now.vars) c.args.divisor.0
+
+pub returns-in_ok-put-clause-counts : goal.returns-in_ok-put-clause-counts
+returns-in_ok-put-clause-counts c =
+    subst (λ (z : VProc). AddsAtMost 1 0 0 0 c.args.code.now z) (sym c.in_ok-put.ensures) (put_adds c.args.at.0 (CheckPos c.args.divisor) c.args.code.now c.requires.is_open)
+
+pub returns-else-is_tested-clause-counts : goal.returns-else-is_tested-clause-counts
+returns-else-is_tested-clause-counts c = adds_more 0 0 0 0 1 0 0 0 c.args.code.now c.args.code.now (omega arith) (omega arith) (omega arith) (omega arith) (adds_none c.args.code.now)

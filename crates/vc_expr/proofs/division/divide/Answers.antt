@@ -9,6 +9,8 @@ use Rattle.vc_expr.specs.Rules.{StaysValid}
 use Rattle.vc_expr.specs.Readable.{ReadsDivision}
 use Rattle.vc_expr.proofs.Added.{divide_valid}
 use Rattle.vc_expr.proofs.Published.{divide_reads}
+use Rattle.vc_expr.specs.Counts.{AddsAtMost}
+use Rattle.vc_expr.proofs.Counting.{divide_adds}
 use Rattle.vc_expr.proofs.division.divide.Goals as goal
 
 pub returns-clause-divides : goal.returns-clause-divides
@@ -51,3 +53,12 @@ returns-clause-reads c =
     c.in_ok-put.ensures ∙ ap (with_instr at i) (c.in_ok-remainder.ensures.made ∙ ap (with_variable Plain) one) in
     subst (λ (z : VProc). ReadsDivision at old z c.args.dividend.0 c.args.divisor.0 q.0 r.0) (sym made)
     (divide_reads at old q r c.args.dividend c.args.divisor c.requires.is_open)
+
+pub returns-clause-counts : goal.returns-clause-counts
+returns-clause-counts c =
+    let old = c.args.code.now in
+    let i = DivMod c.in_ok-quotient.quotient c.in_ok-remainder.remainder c.args.dividend c.args.divisor in
+    let one : c.declare.new.code ≡ with_variable Plain old = c.in_ok-quotient.ensures.made in
+    let made : c.put.new.code ≡ with_instr c.args.at.0 i (with_variable Plain (with_variable Plain old)) =
+    c.in_ok-put.ensures ∙ ap (with_instr c.args.at.0 i) (c.in_ok-remainder.ensures.made ∙ ap (with_variable Plain) one) in
+    subst (λ (z : VProc). AddsAtMost 1 2 0 0 old z) (sym made) (divide_adds c.args.at.0 i old c.requires.is_open)

@@ -1,4 +1,4 @@
-use Rattle.std.proofs.Common.{◌≡◌, ◌≢◌, true, refl, sym, subst}
+use Rattle.std.proofs.Common.{◌≡◌, ◌≢◌, true, refl, sym, subst, arith}
 use Rattle.ob_syntax.specs.declared.checked.ROp.{ROp}
 use Rattle.ob_syntax.specs.declared.checked.ROp.TheVariants.{Mul, Div, Mod, Both, Add, Sub, Either, Equal, Unequal, Less, LessEqual, Greater, GreaterEqual}
 use Rattle.vc_expr.specs.Operators.{Operates}
@@ -6,6 +6,7 @@ use Rattle.vc_expr.specs.Division.{is_division}
 use Rattle.vc_expr.proofs.Dividing.{quotient_operates, remainder_operates}
 use Rattle.vc_expr.proofs.Added.{valid_on}
 use Rattle.vc_expr.proofs.Whole.{operands_apart, mod_reads, div_reads}
+use Rattle.vc_expr.proofs.Counting.{division_adds, on_temporary}
 use Rattle.vc_expr.proofs.division.select_division.Goals as goal
 
 other : (op : ROp) → is_division op ≡ true → op ≢ Mod → Div ≡ op
@@ -64,3 +65,17 @@ returns-in_ok-rounded-in_default-clause-reads c = λ apart.
     div_reads c.args.first c.args.at.0 c.args.code.now c.start.new.code c.split.new.code c.select_arithmetic.new.code c.args.left.0 c.in_ok-dividend.dividend.0 c.args.right.0 c.in_ok-parts.parts c.in_ok-rounded-in_default.rounded.0
     begins c.in_ok-dividend.ensures.reads c.in_ok-parts.ensures.splits c.in_ok-parts.ensures.reads c.in_ok-rounded-in_default.ensures.reads
     (operands_apart c.args.first c.args.at.0 c.args.code.now c.start.new.code c.args.left.0 c.in_ok-dividend.dividend.0 c.args.right.0 begins apart c.requires.right) c.requires.right c.requires.first
+
+pub returns-in_ok-rounded-in-Mod-clause-counts : goal.returns-in_ok-rounded-in-Mod-clause-counts
+returns-in_ok-rounded-in-Mod-clause-counts c =
+    let splits = c.in_ok-parts.ensures.splits in
+    division_adds c.args.first c.args.left.0 c.args.code.now c.start.new.code c.split.new.code c.round_remainder.new.code 3 (omega arith)
+    c.in_ok-dividend.ensures.counts c.in_ok-parts.ensures.counts (c.in_ok-rounded-in-Mod.ensures.counts splits.negative.plain splits.remainder.plain)
+
+pub returns-in_ok-rounded-in_default-clause-counts : goal.returns-in_ok-rounded-in_default-clause-counts
+returns-in_ok-rounded-in_default-clause-counts c =
+    let splits = c.in_ok-parts.ensures.splits in
+    let q = c.in_ok-parts.parts.quotient.0 in
+    division_adds c.args.first c.args.left.0 c.args.code.now c.start.new.code c.split.new.code c.select_arithmetic.new.code 1 (omega arith)
+    c.in_ok-dividend.ensures.counts c.in_ok-parts.ensures.counts
+    (on_temporary 1 0 0 q q c.split.new.code c.select_arithmetic.new.code splits.quotient.plain (omega arith) c.in_ok-rounded-in_default.ensures.counts)

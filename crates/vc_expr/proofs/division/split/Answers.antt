@@ -10,6 +10,8 @@ use Rattle.vc_expr.proofs.Splitting.{splits}
 use Rattle.vc_expr.specs.Rules.{StaysValid}
 use Rattle.vc_expr.specs.Readable.{ReadsOperands}
 use Rattle.vc_expr.proofs.Whole.{split_valid, split_reads}
+use Rattle.vc_expr.specs.Counts.{AddsAtMost}
+use Rattle.vc_expr.proofs.Counting.{split_adds}
 use Rattle.vc_expr.proofs.division.split.Goals as goal
 
 pub returns-clause-splits : goal.returns-clause-splits
@@ -44,3 +46,8 @@ returns-clause-reads c =
     split_reads at c.args.code.now c.check_divisor.new.code m2 c.select_relation.new.code c.args.dividend.0 c.args.divisor.0 zero
     (record { quotient = q; remainder = r; negative = c.in_ok-negative.negative })
     c.in_ok-check_divisor.ensures.vars c.in_ok-check_divisor.ensures.reads c.in_ok-quotient.ensures.reads c.in_ok-quotient.ensures.divides c.in_ok-zero.ensures.number reads c.requires.dividend c.requires.divisor
+
+pub returns-clause-counts : goal.returns-clause-counts
+returns-clause-counts c =
+    split_adds c.args.code.now c.check_divisor.new.code c.divide.new.code c.select_relation.new.code c.in_ok-check_divisor.ensures.counts c.in_ok-quotient.ensures.counts
+    (subst (λ (z : VProc). AddsAtMost 1 1 0 0 z c.select_relation.new.code) c.in_ok-zero.ensures.made c.in_ok-negative.ensures.counts)

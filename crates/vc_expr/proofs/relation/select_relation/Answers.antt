@@ -9,6 +9,8 @@ use Rattle.vc_expr.specs.Rules.{StaysValid}
 use Rattle.vc_expr.specs.Readable.{ReadsOperands}
 use Rattle.vc_expr.proofs.Added.{relation_valid}
 use Rattle.vc_expr.proofs.Published.{relation_publishes}
+use Rattle.vc_expr.specs.Counts.{AddsAtMost}
+use Rattle.vc_expr.proofs.Counting.{set_adds}
 use Rattle.vc_expr.proofs.relation.select_relation.Goals as goal
 
 pub returns-clause-operates : goal.returns-clause-operates
@@ -38,3 +40,11 @@ returns-clause-reads c =
     c.in_ok-put.ensures ∙ ap (with_instr c.args.at.0 (CmpSet c.condition_of.result target c.args.left c.args.right)) c.in_ok-target.ensures.made in
     subst (λ (z : VProc). ReadsOperands c.args.first c.args.at.0 old z c.args.left.0 c.args.right.0 target.0) (sym made)
     (relation_publishes c.args.first c.args.at.0 old c.requires.is_open c.condition_of.result target c.args.left c.args.right)
+
+pub returns-clause-counts : goal.returns-clause-counts
+returns-clause-counts c =
+    let old = c.args.code.now in
+    let target = c.in_ok-target.target in
+    let i = CmpSet c.condition_of.result target c.args.left c.args.right in
+    let made : c.put.new.code ≡ with_instr c.args.at.0 i (with_variable Plain old) = c.in_ok-put.ensures ∙ ap (with_instr c.args.at.0 i) c.in_ok-target.ensures.made in
+    subst (λ (z : VProc). AddsAtMost 1 1 0 0 old z) (sym made) (set_adds c.args.at.0 i old c.requires.is_open)

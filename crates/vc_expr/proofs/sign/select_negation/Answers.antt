@@ -7,6 +7,9 @@ use Rattle.vc_expr.specs.Rules.{StaysValid}
 use Rattle.vc_expr.specs.Readable.{ReadsOperands}
 use Rattle.vc_expr.proofs.Added.{neg_valid}
 use Rattle.vc_expr.proofs.Published.{neg_publishes}
+use Rattle.vc_expr.specs.Counts.{OperationAdds}
+use Rattle.vc_expr.proofs.Counting.{operation_adds}
+use Rattle.pra_base.specs.declared.code.VInstr.TheVariants.{Neg}
 use Rattle.vc_expr.proofs.sign.select_negation.Goals as goal
 
 pub returns-clause-converts : goal.returns-clause-converts
@@ -26,3 +29,8 @@ returns-clause-reads c =
     let target = c.in_ok-target.target in
     subst (λ (z : VProc). ReadsOperands c.args.first c.args.at.0 c.args.code.now z c.args.operand.0 c.args.operand.0 target.0) (sym c.in_ok-put.ensures)
     (neg_publishes c.args.first c.args.at.0 c.args.code.now c.start.new.code c.args.operand.0 target c.in_ok-target.ensures.begins.adds.is_open c.in_ok-target.ensures.reads c.requires.first)
+
+pub returns-clause-counts : goal.returns-clause-counts
+returns-clause-counts c =
+    subst (λ (z : VProc). OperationAdds 1 0 0 c.args.first c.args.operand.0 c.args.code.now z) (sym c.in_ok-put.ensures)
+    (operation_adds c.args.first c.args.operand.0 c.args.at.0 (Neg c.in_ok-target.target) c.args.code.now c.start.new.code c.in_ok-target.ensures.counts c.in_ok-target.ensures.begins.adds.is_open)
