@@ -138,7 +138,7 @@ module _ (to : Names) (old new : VProc) (b : ℕ) where
   clear_stays k j x xs (y ∷ ys) e (stays st rest) = ap Some (st.is ∙ ap (renamed to) e)
   clear_stays k j x xs (y ∷ ys) e (left_out out rest) = absurd (true_false (is_pure x) (out_pure j x out) (ap is_pure e))
 
-fewer_in : (xs ys : List Block) → length ys ≡ length xs → ((b : ℕ) → length (block_in ys b).code ≤ length (block_in xs b).code) → instruction_count ys ≤ instruction_count xs
+pub fewer_in : (xs ys : List Block) → length ys ≡ length xs → ((b : ℕ) → length (block_in ys b).code ≤ length (block_in xs b).code) → instruction_count ys ≤ instruction_count xs
 fewer_in [] [] l f = omega arith
 fewer_in [] (y ∷ ys) l f = absurd (omega (arith, l))
 fewer_in (x ∷ xs) [] l f = absurd (omega (arith, l))

@@ -1,0 +1,159 @@
+// Leaving out dead code.
+
+ghost use Rattle.std.specs.Prelude.{◌≡◌, ℕ, ◌≤◌, length, reverse, IfOk, IfErr};
+ghost use Rattle.pra_base.specs.Valid.{IsValid, IsSized, instruction_count, most_instructions};
+ghost use Rattle.vc_same.specs.SameRuns.{Preserves};
+ghost use Rattle.vc_tidy.specs.Tidy.{NoDead};
+ghost use Rattle.vc_tidy.specs.Thinned.{HasNoDead, IsThinned};
+ghost use Rattle.vc_tidy.specs.Thinned.{HasMarks, Thins, exit_of, ThinsBlock, ThinsAll};
+
+use crate::marks::{is_needed, mark_exit, step_back};
+use pra_base::{Block, BlockId, VInstr, VProc};
+use pra_list::Seq;
+use std::alloc::{AllocError, Global};
+use vc_live::{Liveness, live};
+
+// The instructions of a block's code that are not dead, the last one first.
+fn kept_back(
+    alloc: Global,
+    code: &[VInstr],
+    id: BlockId,
+    liveness: &Liveness,
+    marks: &mut Vec<bool>,
+) -> Result<Vec<VInstr>, AllocError>
+    requires names { HasMarks marks.old.items code.now }
+    requires short { length code.now ≤ most_instructions }
+    ensures count { length marks.new.items ≡ length marks.old.items }
+    ensures thins { IfOk result (λ kept.
+        Thins (exit_of liveness.now id.0 code.now) code.now (reverse kept.items)) }
+{
+    let mut kept = Vec::with_capacity(alloc, code.len())?;
+    mark_exit(marks, code, liveness, id);
+    let mut left = code.len();
+    while left > 0 {
+        left -= 1;
+        let instr = code[left];
+        if is_needed(marks.as_slice(), &instr) {
+            step_back(marks, &instr);
+            kept.push(instr)?;
+        }
+    }
+    Ok(kept)
+}
+
+fn thin_block(
+    alloc: Global,
+    old: &Block,
+    id: BlockId,
+    liveness: &Liveness,
+    marks: &mut Vec<bool>,
+) -> Result<Block, AllocError>
+    requires names { HasMarks marks.old.items old.now.code }
+    requires short { length old.now.code ≤ most_instructions }
+    ensures count { length marks.new.items ≡ length marks.old.items }
+    ensures thins { IfOk result (λ new. ThinsBlock liveness.now id.0 old.now new) }
+{
+    let mut code = kept_back(alloc, old.code.as_slice(), id, liveness, marks)?;
+    code.reverse();
+    Ok(Block {
+        depth: old.depth,
+        code: Seq::from_vec(code),
+        end: old.end,
+    })
+}
+
+// The blocks without their dead code.
+fn thin_blocks(alloc: Global, code: &VProc, liveness: &Liveness) -> Result<Vec<Block>, AllocError>
+    requires { IsSized code.now }
+    ensures { IfOk result (λ blocks.
+        ThinsAll liveness.now code.now.blocks blocks.items (length code.now.blocks)) }
+{
+    let mut marks = Vec::with_capacity(alloc, code.vars.len())?;
+    for _ in 0..code.vars.len() {
+        marks.push(false)?;
+    }
+    let mut blocks = Vec::with_capacity(alloc, code.blocks.len())?;
+    for b in 0..code.blocks.len() {
+        let id = BlockId(b as u32);
+        blocks.push(thin_block(alloc, &code.blocks[b], id, liveness, &mut marks)?)?;
+    }
+    Ok(blocks)
+}
+
+fn total(blocks: &[Block]) -> usize
+    requires { instruction_count blocks.now ≤ most_instructions }
+    ensures { result ≡ instruction_count blocks.now }
+{
+    let mut total = 0;
+    for block in blocks {
+        total += block.code.len();
+    }
+    total
+}
+
+fn with_blocks(alloc: Global, code: &VProc, blocks: Vec<Block>) -> Result<VProc, AllocError>
+    ensures { IfOk result (λ new. new ≡ record code.now { blocks = blocks.items }) }
+{
+    let vars = Seq::from_slice(alloc, code.vars.as_slice())?;
+    Ok(VProc {
+        id: code.id,
+        args: code.args,
+        aggregates: code.aggregates,
+        vars,
+        blocks: Seq::from_vec(blocks),
+    })
+}
+
+// The code without what is dead by its liveness, or nothing where nothing is dead. The blocks are
+// read backwards, and what is left out there keeps nothing live in front of it, so that all dead
+// code of a block goes at once.
+fn thin(alloc: Global, code: &VProc) -> Result<Option<VProc>, AllocError>
+    requires valid { IsValid code.now }
+    requires sized { IsSized code.now }
+    ensures { IfOk result (λ new. IsThinned code.now new) }
+{
+    let Ok(liveness) = live(alloc, code) else {
+        return Err(AllocError);
+    };
+    let blocks = thin_blocks(alloc, code, &liveness)?;
+    if total(blocks.as_slice()) == total(code.blocks.as_slice()) {
+        return Ok(None);
+    }
+    let new = with_blocks(alloc, code, blocks)?;
+    Ok(Some(new))
+}
+
+// The code without dead code, or nothing where it has none. What goes in one block may have kept
+// something live in another, so this asks again until nothing is dead.
+fn without_dead(alloc: Global, code: &VProc) -> Result<Option<VProc>, AllocError>
+    requires valid { IsValid code.now }
+    requires sized { IsSized code.now }
+    ensures { IfOk result (λ new. HasNoDead code.now new) }
+{
+    let Some(mut now) = thin(alloc, code)? else {
+        return Ok(None);
+    };
+    while let Some(next) = thin(alloc, &now)? {
+        now = next;
+    }
+    Ok(Some(now))
+}
+
+/// Code without dead code that may stand in the place of the code.
+///
+/// # Errors
+///
+/// The unchanged code, where there is no memory.
+pub fn drop_dead(alloc: Global, code: VProc) -> Result<VProc, VProc>
+    requires valid { IsValid code }
+    requires sized { IsSized code }
+    ensures preserves { IfOk result (λ new. Preserves code new) }
+    ensures no_dead { IfOk result (λ new. NoDead new) }
+    ensures unchanged { IfErr result (λ old. old ≡ code) }
+{
+    match without_dead(alloc, &code) {
+        Ok(Some(new)) => Ok(new),
+        Ok(None) => Ok(code),
+        Err(_) => Err(code),
+    }
+}
