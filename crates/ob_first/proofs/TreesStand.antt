@@ -1,5 +1,5 @@
 -- Every phrase of a tree that tokens derive tells the first of what is broken in it, within its tokens.
-use Rattle.std.proofs.Common.{◌≡◌, ℕ, ◌+◌, ◌≤◌, List, [], ◌∷◌, ◌++◌, Option, Some, None, refl, sym, subst, arith}
+use Rattle.std.proofs.Common.{◌<◌, ◌≡◌, ℕ, ◌+◌, ◌≤◌, List, [], ◌∷◌, ◌++◌, Option, Some, None, refl, sym, subst, arith}
 use Rattle.std.specs.Prelude.{option_to_list}
 use Rattle.ob_syntax.specs.declared.tree.Designator.{roll-Designator}
 use Rattle.ob_syntax.specs.declared.tree.Stmt.{roll-Stmt}
@@ -10,9 +10,12 @@ use Rattle.ob_syntax.specs.Expressions.{whole_factor, whole_term, simple_express
 use Rattle.ob_syntax.specs.Forms.{Form, Parts, made, done, taken, part, end, ends}
 use Rattle.ob_syntax.specs.Tree.{Tree, Values, tree, values, tree_by, span_to}
 use Rattle.ob_syntax.proofs.FormsAdvance.{stays}
-use Rattle.ob_first.specs.InExpressions.{InFactor, InTerm, InSimple}
-use Rattle.ob_first.specs.InDeclarations.{behind_declarations, InDeclarations}
+use Rattle.ob_first.specs.InExpressions.{InExpression, InFactor, InTerm, InSimple}
+use Rattle.ob_first.specs.InDeclarations.{behind_declarations, InDeclarations, InProcedure}
 use Rattle.ob_first.specs.Breaks.{InModule}
+use Rattle.ob_first.specs.InStatements.{InStatement}
+use Rattle.ob_first.specs.InTypes.{InType}
+use Rattle.ob_syntax.specs.Names.{Fault, Place}
 use Rattle.ob_first.proofs.Leads.{told, Leads, InOrder, wide}
 use Rattle.ob_syntax.specs.declared.token.Token.{Token}
 use Rattle.ob_first.proofs.Chains.{Stands}
@@ -246,3 +249,16 @@ mutual
 -- what is told of a module is the first of what is broken in it
 pub module_stands : (f : Form Module) (bytes : List ℕ) (tokens : List Token) → Leads 0 (end Module 0 f) (told (reading bytes tokens (tree Module 0 f))) (λ g. InModule bytes tokens (tree Module 0 f) g)
 module_stands f bytes tokens = form_stands Module f 0 bytes tokens
+
+-- what breaks a rule in a phrase lies among its tokens
+pub in_expression : (f : Form Expression) (i : ℕ) (p : Place) (g : Fault) → InExpression p (tree Expression i f) g → (i ≤ g.1) × (g.1 < end Expression i f)
+in_expression f i p g b = let at = form_stands Expression f i in (at.leads p).lies g b
+
+pub in_statement : (f : Form Action) (i : ℕ) (p : Place) (g : Fault) → InStatement p (tree Action i f) g → (i ≤ g.1) × (g.1 < end Action i f)
+in_statement f i p g b = let at = form_stands Action f i in (at.leads p).lies g b
+
+pub in_type : (f : Form TypeExpression) (i : ℕ) (p : Place) (g : Fault) → InType p (tree TypeExpression i f) g → (i ≤ g.1) × (g.1 < end TypeExpression i f)
+in_type f i p g b = let at = form_stands TypeExpression f i in (at.leads p).lies g b
+
+pub in_procedure : (f : Form Procedure) (i : ℕ) (p : Place) (g : Fault) → InProcedure p (tree Procedure i f) g → (i ≤ g.1) × (g.1 < end Procedure i f)
+in_procedure f i p g b = let at = form_stands Procedure f i in (at.leads p).lies g b
