@@ -21,3 +21,4 @@ pub mod Published
 pub mod Whole
 pub mod Unread
 pub mod Counting
+pub mod Finished

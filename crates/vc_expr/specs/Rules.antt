@@ -1,6 +1,6 @@
 -- Code under construction that keeps the rules of valid and of sized code as far as it has come,
 -- and how much is added to it.
-use Rattle.std.specs.Prelude.{◌≡◌, ◌≢◌, ℕ, ◌<◌, ◌⊎◌, Bool, true, false, ℤ, pos, ◌≤ℤ◌}
+use Rattle.std.specs.Prelude.{◌≡◌, ◌≢◌, ℕ, suc, ◌<◌, ◌⊎◌, Bool, true, false, ℤ, pos, ◌≤ℤ◌}
 use Rattle.std.specs.Prelude.{List, length, Some, slice_get, slice_index_or}
 use Rattle.pra_base.specs.declared.ids.BlockId.{BlockId}
 use Rattle.pra_base.specs.declared.ids.Cond.{Cond}
@@ -12,11 +12,11 @@ use Rattle.pra_base.specs.declared.code.VInstr.TheVariants.{DivMod, Check, Push,
 use Rattle.pra_base.specs.declared.code.End.TheVariants.{Branch, Return}
 use Rattle.pra_base.specs.declared.code.Block.{Block}
 use Rattle.pra_base.specs.declared.code.VProc.{VProc}
-use Rattle.pra_base.specs.Code.{block_of, IsTarget, EachInstr}
+use Rattle.pra_base.specs.Code.{block_of, end_of, IsTarget, EachInstr}
 use Rattle.pra_base.specs.Operands.{reads, only_writes}
 use Rattle.pra_base.specs.Valid.{EndsWithCmp, KeepsConstant, Names, NamesCell, PushesBeforeCalls}
 use Rattle.pra_base.specs.Valid.{TakesArgs, ClearFirst}
-use Rattle.vc_build.specs.Grow.{count, stand_in}
+use Rattle.vc_build.specs.Grow.{count, stand_in, IsOpen}
 
 -- ---- rules of an instruction
 
@@ -77,3 +77,11 @@ OperandsApart first left right = left ≡ right → left < first
 -- What is added keeps the rules, if they were kept before.
 pub record StaysValid (old new : VProc) : Type 0 where
   pub stays : (counts : List ℕ) → KeepsRules counts old → KeepsRules counts new
+
+-- Only the last block is open, and no two variables are one parameter.
+pub record IsComplete (code : VProc) (last : ℕ) : Type 0 where
+  pub count : suc last ≡ count code
+  pub is_open : IsOpen code last
+  pub closed : (b : ℕ) → b < last → end_of code b ≢ stand_in
+  pub params : (v w i : ℕ) → slice_get code.vars v ≡ Some (Param i) →
+      slice_get code.vars w ≡ Some (Param i) → v ≡ w

@@ -5,7 +5,9 @@ ghost use Rattle.std.specs.Prelude.{◌≡◌, ◌≢◌, ◌<◌, ◌≤◌, �
 ghost use Rattle.pra_base.specs.Code.{instr_at, kind_of};
 ghost use Rattle.pra_base.specs.Live.{Live};
 ghost use Rattle.pra_base.specs.declared.ids.VarId.{VarId};
-ghost use Rattle.pra_base.specs.declared.code.VarKind.TheVariants.{Plain};
+ghost use Rattle.pra_base.specs.declared.code.VarKind.TheVariants.{Param, Plain};
+ghost use Rattle.pra_base.specs.declared.code.End.TheVariants.{Return};
+ghost use Rattle.pra_base.specs.Valid.{IsValid};
 ghost use Rattle.pra_base.specs.declared.code.VInstr.TheVariants.{DivMod};
 ghost use Rattle.pra_base.specs.declared.code.VProc.{VProc};
 ghost use Rattle.ob_syntax.specs.Operators.{Outcome, combined, is_true};
@@ -13,11 +15,11 @@ ghost use Rattle.ob_syntax.specs.declared.checked.ROp.{ROp};
 ghost use Rattle.ob_syntax.specs.declared.checked.Value.TheVariants.{Truth};
 ghost use Rattle.vc_code.specs.Machine.{Activation, State, with_top};
 ghost use Rattle.vc_code.specs.Selected.{Vars};
-ghost use Rattle.vc_build.specs.Grow.{count};
+ghost use Rattle.vc_build.specs.Grow.{count, with_end};
 ghost use Rattle.vc_build.specs.Runs.{Codes, Yields};
 ghost use Rattle.vc_expr.specs.Operators.{is_bitwise, HasValue};
 ghost use Rattle.vc_expr.specs.Branches.{Enters, chosen};
-ghost use Rattle.vc_expr.specs.Rules.{KeepsRules};
+ghost use Rattle.vc_expr.specs.Rules.{IsComplete, KeepsRules};
 ghost use Rattle.vc_expr.specs.Readable.{Entries, Certifies, IsClosed};
 ghost use Rattle.vc_expr.specs.Choices.{decided, test_of, Arrives};
 ghost use Rattle.vc_expr.specs.declared.choice.Choice.{Choice};
@@ -54,4 +56,13 @@ pub fn certificates_name_blocks()
     ensures { (counts : List ℕ) (known other : Entries) (code : VProc) →
         KeepsRules counts code → ((b v : ℕ) → b < count code → other b v ≡ known b v) →
         Certifies known code → Certifies other code }
+{}
+
+/// Code that keeps the rules, with a certificate by which only parameters may be read at the entry,
+/// is valid once its last block, the only open one, is left by Return.
+pub fn finished_code_is_valid()
+    ensures { (counts : List ℕ) (known : Entries) (code : VProc) (last : ℕ) →
+        KeepsRules counts code → Certifies known code → IsComplete code last →
+        ((v : ℕ) → known 0 v ≡ true → (i : ℕ) × (kind_of code v ≡ Param i)) →
+        IsValid (with_end last Return code) }
 {}

@@ -45,8 +45,9 @@
 //! A certificate names for each block what it may read at its begin; of a new block anything may be
 //! named until a block leads to it (law `certificates_name_blocks`). At the end it gives that no
 //! local variable is live at the entry, and no dividend after its division (law
-//! `certified_code_reads_what_is_written`). That each change of code keeps rules and certificates
-//! stands in `proofs/Rules` and `proofs/Certificates`.
+//! `certified_code_reads_what_is_written`); with the rules it makes the finished code valid (law
+//! `finished_code_is_valid`). That each change of code keeps rules and certificates, and what it
+//! adds, stands in `proofs/Rules`, `proofs/Certificates` and `proofs/Counting`.
 //!
 //! The latter two ask of an operation that no temporary is both its operands (`OperandsApart`).
 //!
