@@ -24,3 +24,5 @@ pub mod Returns
 pub mod Traps
 pub mod Pushes
 pub mod Calls
+pub mod Simulated
+pub mod Checks

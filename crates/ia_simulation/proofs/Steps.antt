@@ -32,13 +32,14 @@ use Rattle.pra_base.specs.RunEnd.{Wrong}
 use Rattle.pra_base.specs.Valid.{PushesLead, TakesArgs}
 use Rattle.vc_code.specs.Value.{Words}
 use Rattle.vc_code.specs.Machine.{Activation, State, found, act, act_on, leave, step}
-use Rattle.ia_simulation.specs.Frames.{Holds, register_held}
+use Rattle.ia_simulation.specs.Frames.{Holds, register_held, frames}
 use Rattle.ia_simulation.specs.Represents.{IsLoadable, StandsBefore, FlagsTell, Lies, Runs, Represents, Leads, StepLeads}
 use Rattle.ia_simulation.proofs.Here.{AreAt}
 use Rattle.ia_simulation.proofs.Here as at
 use Rattle.ia_simulation.proofs.Sizes.{few_pushes}
 use Rattle.ia_simulation.proofs.Spots.{Same}
 use Rattle.ia_simulation.proofs.Standing as standing
+use Rattle.ia_simulation.proofs.Walks.{Walks}
 
 -- ---- what is not stuck
 
@@ -216,6 +217,17 @@ module _ (procs : List LProc) (data_words : ℕ) (ok : IsLoadable procs data_wor
       reaches t f =
           reach_one m t going
           (at.step_here procs _ here m first (others ++ behind) first_at x.code ok.sound x.stands.place_is going ∙ ap (settled m) f)
+
+      -- a walk through its items begins
+      pub walks_here : Walks procs m (s.pushed ++ frames procs x.backs (s.top ∷ s.below)) (standing.target procs s.top.proc s.top.home.block s.top.home.rest s.top.home.end (length s.pushed) m.eip x.stands) here (first ∷ (others ++ behind))
+      walks_here = record {
+        code = x.code;
+        going = going;
+        stack = x.lies.words;
+        small = omega (arith, x.lies.data_long, x.lies.data_few);
+        place = x.stands.place_is;
+        items_at = first_at;
+      }
 
       -- it is all of it
       pub alone : others ≡ [] → m.eip + size_of first ≡ m.eip + size (emit p i)

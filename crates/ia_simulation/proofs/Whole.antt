@@ -9,6 +9,7 @@ use Rattle.pra_base.specs.declared.ids.ProcId.{ProcId}
 use Rattle.pra_base.specs.declared.ids.VarId.{VarId}
 use Rattle.ia_simulation.specs.Represents.{IsCarried, EndIsCarried}
 use Rattle.ia_simulation.proofs.Calls.{calls_it}
+use Rattle.ia_simulation.proofs.Checks as bounds
 use Rattle.ia_simulation.proofs.Computes as computes
 use Rattle.ia_simulation.proofs.Control as control
 use Rattle.ia_simulation.proofs.Moves.{move_leads}
@@ -67,6 +68,12 @@ pushes v places procs data_words ok s r y o more e = stepped procs s r (placed.O
 
 pub calls : (q : ProcId) (places : _) → IsCarried (placed.Op (instr.Call q) places)
 calls q places procs data_words ok s r y o more e = stepped procs s r (placed.Op (instr.Call q) places) more o e (calls_it procs data_words ok s r y o q places more e)
+
+pub checks : (v : VarId) (n : _) (places : _) → IsCarried (placed.Op (instr.Check v n) places)
+checks v n places procs data_words ok s r y o more e = stepped procs s r (placed.Op (instr.Check v n) places) more o e (bounds.checks_it procs data_words ok s r y o v places more n e)
+
+pub checks_positive : (v : VarId) (places : _) → IsCarried (placed.Op (instr.CheckPos v) places)
+checks_positive v places procs data_words ok s r y o more e = stepped procs s r (placed.Op (instr.CheckPos v) places) more o e (bounds.checks_positive procs data_words ok s r y o v places more e)
 
 -- ---- ends
 

@@ -24,7 +24,7 @@ use Rattle.pl_place.specs.declared.placed.LInstr.{LInstr}
 use Rattle.pl_place.specs.declared.placed.LProc.{LProc}
 use Rattle.pl_place.specs.Machine.{Cells, shape, proc_of, placed_machine}
 use Rattle.pl_place.specs.Placed.{op_of}
-use Rattle.pl_place.specs.Valid.{ArePlaced, counts_of}
+use Rattle.pl_place.specs.Valid.{ArePlaced, counts_of, linstr_at}
 use Rattle.pra_base.specs.declared.code.End.{End}
 use Rattle.pra_base.specs.Places.{register_count}
 use Rattle.pra_base.specs.RunEnd.{Wrong}
@@ -176,3 +176,9 @@ EndIsCarried e =
     (procs : List LProc) (data_words : ℕ) → IsLoadable procs data_words →
     (s : State Cells) (r : Ran) → Represents procs s r → s.over ≡ None →
     s.top.home.rest ≡ [] → s.top.home.end ≡ e → StepLeads procs s r
+
+-- each instruction of the procedures is carried
+abbrev pub EachIsCarried : List LProc → Type 0
+EachIsCarried procs =
+    (q : ℕ) (p : LProc) → slice_get procs q ≡ Some p →
+    (b k : ℕ) (i : LInstr) → linstr_at p b k i → IsCarried i

@@ -1,24 +1,26 @@
 // What the simulation gives. Each function is a law: its contract is the statement, and it does
 // nothing.
 
-ghost use Rattle.std.specs.Prelude.{◌≡◌, ℕ, ℤ, List};
+ghost use Rattle.std.specs.Prelude.{◌≡◌, ◌≢◌, ℕ, ℤ, List, Some};
 ghost use Rattle.ia_code.specs.declared.image.Image.{Image};
 ghost use Rattle.ia_code.specs.Listing.{bytes_of_all};
 ghost use Rattle.ia_emit.specs.Code.{code_of};
-ghost use Rattle.ia_step.specs.Run.{ran};
+ghost use Rattle.ia_step.specs.Run.{ran, progress};
 ghost use Rattle.ia_step.specs.State as machine;
 ghost use Rattle.pl_place.specs.declared.placed.LProc.{LProc};
-ghost use Rattle.pl_place.specs.Machine.{start};
+ghost use Rattle.pl_place.specs.Machine.{lrun, start};
 ghost use Rattle.pl_moves.specs.declared.transfer.Move.{Move};
 ghost use Rattle.pl_place.specs.declared.placed.LInstr.TheVariants.{Move as Moves, Op};
 ghost use Rattle.pra_base.specs.declared.code.VInstr.TheVariants as instr;
+ghost use Rattle.pra_base.specs.Agreement.{Carried};
+ghost use Rattle.pra_base.specs.RunEnd.{Wrong};
 ghost use Rattle.pra_base.specs.declared.code.End.TheVariants as end;
 ghost use Rattle.pra_base.specs.declared.ids.BlockId.{BlockId};
 ghost use Rattle.pra_base.specs.declared.ids.Cond.{Cond};
 ghost use Rattle.pra_base.specs.declared.ids.ProcId.{ProcId};
 ghost use Rattle.pra_base.specs.declared.ids.VarId.{VarId};
 ghost use Rattle.ia_simulation.specs.Represents.{IsLoadable, AreWords, Represents};
-ghost use Rattle.ia_simulation.specs.Represents.{IsCarried, EndIsCarried};
+ghost use Rattle.ia_simulation.specs.Represents.{IsCarried, EndIsCarried, EachIsCarried};
 
 /// Wherever the machine stands for placed code that stands before a move, the move is one
 /// instruction of the machine, behind which it stands for placed code again.
@@ -54,6 +56,12 @@ pub fn calls_are_carried()
     ensures call { (q : ProcId) (places : _) → IsCarried (Op (instr.Call q) places) }
 {}
 
+/// The same of checks. Where one fails, both trap.
+pub fn checks_are_carried()
+    ensures index { (v : VarId) (n : ℤ) (places : _) → IsCarried (Op (instr.Check v n) places) }
+    ensures positive { (v : VarId) (places : _) → IsCarried (Op (instr.CheckPos v) places) }
+{}
+
 /// The same of each end of a block. A return of the module's body is the end of the program.
 pub fn ends_are_carried()
     ensures jump { (b : BlockId) → EndIsCarried (end.Jump b) }
@@ -69,4 +77,19 @@ pub fn start_is_represented()
         image.data_words ≡ data_words → (input : List ℤ) → AreWords input →
         (k : ℕ) × Represents procs (start procs data_words input)
         (ran (machine.start image input) k) }
+{}
+
+/// If each instruction of placed code is carried, and placed code is never stuck, then the machine
+/// carries its steps from the loaded image on, and never meets a fault.
+pub fn carried_instructions_follow()
+    ensures carried { (procs : List LProc) (data_words : ℕ) → IsLoadable procs data_words →
+        EachIsCarried procs → (image : Image) → image.code ≡ bytes_of_all (code_of procs) →
+        image.data_words ≡ data_words → (input : List ℤ) → AreWords input →
+        ((k : ℕ) → (lrun procs data_words input k).ending ≢ Some Wrong) →
+        Carried (lrun procs data_words input) (progress image input) }
+    ensures never_wrong { (procs : List LProc) (data_words : ℕ) → IsLoadable procs data_words →
+        EachIsCarried procs → (image : Image) → image.code ≡ bytes_of_all (code_of procs) →
+        image.data_words ≡ data_words → (input : List ℤ) → AreWords input →
+        ((k : ℕ) → (lrun procs data_words input k).ending ≢ Some Wrong) →
+        (m : ℕ) → (progress image input m).ending ≢ Some Wrong }
 {}
