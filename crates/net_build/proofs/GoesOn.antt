@@ -1,8 +1,7 @@
 -- Which strands go on a variable behind a block's end.
-use Rattle.std.proofs.Common.{ℕ, ◌≡◌, ◌+◌, ◌<◌, ◌⊎◌, inl, inr, Bool, true, false, ◌&&◌, ◌||◌, eqb, cond, List, [], ◌∷◌, map, length, get_or, Some, None, Option, refl, sym, ap, ◌∙◌, arith, true≢false}
+use Rattle.std.proofs.Common.{ℕ, ◌≡◌, ◌<◌, ◌⊎◌, inl, inr, Bool, true, false, ◌&&◌, ◌||◌, eqb, cond, List, [], ◌∷◌, length, get_or, Some, None, Option, refl, sym, ap, ◌∙◌, true≢false}
 use Rattle.std.specs.List.{filter_map, cons_option, enumerate_from, range_with_len}
 use Rattle.std.proofs.lemmas.Bool.{and_parts, eqb-true, eq-eqb, ne_eqb, cases_Bool, false_from_ne_true}
-use Rattle.std.proofs.lemmas.List.FromFn.{fill_by_all, length-enumerate_from, get_or-enumerate_from}
 use Rattle.pra_base.specs.declared.code.VProc.{VProc}
 use Rattle.pra_base.specs.Code.{end_of}
 use Rattle.net_form.specs.Strands.{exit_layer}
@@ -14,6 +13,7 @@ use Rattle.net_form.specs.declared.net.Strand.{Strand}
 use Rattle.net_form.specs.declared.net.Tie.{Tie}
 use Rattle.net_form.specs.Admitted.{no_strand}
 use Rattle.net_form.specs.Network.{leads_to, ties_from}
+use Rattle.net_build.proofs.Comprehended.{filter_map-map, by_number}
 use Rattle.net_build.specs.Order.{key_of, goes_on, tie_to}
 
 leads_jump : (end : End) (b : BlockId) (x : ℕ) → end ≡ Jump b → leads_to end x ≡ true → x ≡ b.0
@@ -75,17 +75,9 @@ no_tie ss end v from k is = ap (λ b. cond b (Some (record { from = from; to = k
 
 -- ---- the ties from a strand
 
-filter_map-map : {X Y Z : Type 0} (h : Y → Option Z) (g : X → Y) (xs : List X) → filter_map h (map g xs) ≡ filter_map (λ x. h (g x)) xs
-filter_map-map h g [] = refl
-filter_map-map h g (x ∷ xs) = ap (cons_option (h (g x))) (filter_map-map h g xs)
-
 filter_map-none : {X Y : Type 0} (h : X → Option Y) → ((x : X) → h x ≡ None) → (xs : List X) → filter_map h xs ≡ []
 filter_map-none h none [] = refl
 filter_map-none h none (x ∷ xs) = ap (λ o. cons_option o (filter_map h xs)) (none x) ∙ filter_map-none h none xs
-
-numbered : (ss : List Strand) → enumerate_from 0 ss ≡ map (λ k. (k, get_or ss k no_strand)) (range_with_len 0 (length ss))
-numbered ss = fill_by_all (λ k. (k, get_or ss k no_strand)) (enumerate_from 0 ss) (length ss) (0, no_strand) (length-enumerate_from 0 ss)
-    (λ k lt. get_or-enumerate_from 0 ss k (0, no_strand) lt ∙ ap (λ n. (n, get_or ss k no_strand)) (let e : 0 + k ≡ k = omega arith in e))
 
 module _ (code : VProc) (ss : List Strand) (n : ℕ) (s : Strand) where
   abbrev tie_if : Bool → ℕ × Strand → Option Tie
@@ -94,7 +86,7 @@ module _ (code : VProc) (ss : List Strand) (n : ℕ) (s : Strand) where
   pub at_exit : s.last ≡ exit_layer code s.block.0 → ties_from code ss (n, s) ≡ filter_map (tie_to ss (end_of code s.block.0) s.var.0 n) (range_with_len 0 (length ss))
   at_exit is =
       ap (λ a. filter_map (tie_if a) (enumerate_from 0 ss)) (eq-eqb s.last (exit_layer code s.block.0) is)
-      ∙ ap (filter_map (tie_if true)) (numbered ss)
+      ∙ ap (filter_map (tie_if true)) (by_number no_strand ss)
       ∙ filter_map-map (tie_if true) (λ k. (k, get_or ss k no_strand)) (range_with_len 0 (length ss))
 
   pub elsewhere : (s.last ≡ exit_layer code s.block.0 → ⊥) → ties_from code ss (n, s) ≡ []

@@ -23,18 +23,18 @@ module _ {X : Type 0} (R : X → X → Type 0) where
   pairs-nil : AllPairs R []
   pairs-nil i j d lt in_ = absurd (omega (arith, in_))
 
-  pairs-flat_map : (f : ℕ → List X) → ((i : ℕ) → AllPairs R (f i)) → ((i j : ℕ) → i < j → All (λ x. All (R x) (f j)) (f i)) → (a n : ℕ) → AllPairs R (flat_map f (range_with_len a n))
+  pub pairs-flat_map : (f : ℕ → List X) → ((i : ℕ) → AllPairs R (f i)) → ((i j : ℕ) → i < j → All (λ x. All (R x) (f j)) (f i)) → (a n : ℕ) → AllPairs R (flat_map f (range_with_len a n))
   pairs-flat_map f each cross a zero = pairs-nil
   pairs-flat_map f each cross a (suc n) =
       pairs-append (f a) (flat_map f (range_with_len (a + 1) n)) (each a) (pairs-flat_map f each cross (a + 1) n)
       (λ k d lt. All-flat_map (R (get_or (f a) k d)) f (range_with_len (a + 1) n)
       (All-range (λ i. All (R (get_or (f a) k d)) (f i)) (a + 1) n (λ i le _. cross a i (omega (arith, le)) k d lt)))
 
-  from_some : (P : X → Type 0) (o : Option X) → ((y : X) → o ≡ Some y → P y) → IfSome o P
+  pub from_some : (P : X → Type 0) (o : Option X) → ((y : X) → o ≡ Some y → P y) → IfSome o P
   from_some P None h = tt
   from_some P (Some y) h = h y refl
 
-  pairs-filter_map : (g : ℕ → Option X) → ((i j : ℕ) (x y : X) → i < j → g i ≡ Some x → g j ≡ Some y → R x y) → (a n : ℕ) → AllPairs R (filter_map g (range_with_len a n))
+  pub pairs-filter_map : (g : ℕ → Option X) → ((i j : ℕ) (x y : X) → i < j → g i ≡ Some x → g j ≡ Some y → R x y) → (a n : ℕ) → AllPairs R (filter_map g (range_with_len a n))
   pairs-filter_map g apart a zero = pairs-nil
   pairs-filter_map g apart a (suc n) = by (g a) refl (pairs-filter_map g apart (a + 1) n)
     where

@@ -1,8 +1,15 @@
 pub mod Begun
+pub mod Comprehended
 pub mod GoesOn
 pub mod InOrder
+pub mod Indexing
+pub mod Joining
+pub mod Linking
 pub mod LiveAt
+pub mod PairEnds
+pub mod PairsInOrder
 pub mod Places
 pub mod Ranges
 pub mod Roles
 pub mod Sizes
+pub mod Whole

@@ -1,11 +1,12 @@
 -- Runs and ranges, one more.
 use Rattle.std.proofs.Common.{ℕ, zero, suc, ◌≡◌, ◌+◌, ◌-◌, ◌<◌, ◌≤◌, Bool, true, false, cond, List, [], ◌∷◌, ◌++◌, map, length, get_or, take, drop, refl, sym, ap, ◌∙◌, arith, add-one, append-nil, Some, None, Option, option_to_list, append_assoc}
+use Rattle.std.specs.Prelude.{count_by}
 use Rattle.std.specs.List.{range_with_len, flat_map, filter_map, prefix_len, cons_option, enumerate_from}
-use Rattle.std.proofs.lemmas.List.{take_all}
+use Rattle.std.proofs.lemmas.List.{take_all, map-append}
 use Rattle.std.proofs.lemmas.Grind.{flat_map-append}
 use Rattle.std.proofs.lemmas.List.Elements.{filter_map-append}
 use Rattle.std.proofs.lemmas.List.FromFn.{length-map-range_with_len, length-range_with_len}
-use Rattle.std.proofs.lemmas.List.Sums.{prefix_len-le-length}
+use Rattle.std.proofs.lemmas.List.Sums.{prefix_len-le-length, sum_by_push, count_by-le-length}
 
 -- ---- the run from l on of what passes, below n, each mapped
 module _ (p : ℕ → Bool) (m : ℕ → ℕ) (n : ℕ) where
@@ -61,6 +62,24 @@ range_more a (suc n) =
     let more = rw (add-one n) at (range_more (a + 1) n) in
     let e : a + 1 + n ≡ a + suc n = omega arith in
     rw (add-one (suc n)) (ap (λ l. a ∷ l) (more ∙ ap (λ k. range_with_len (a + 1) n ++ k ∷ []) e))
+
+pub range_next : (n : ℕ) → range_with_len 0 (n + 1) ≡ range_with_len 0 n ++ n ∷ []
+range_next n = range_more 0 n ∙ ap (λ k. range_with_len 0 n ++ k ∷ []) (let e : 0 + n ≡ n = omega arith in e)
+
+pub map_more : {A : Type 0} (f : ℕ → A) → (n : ℕ) → map f (range_with_len 0 (n + 1)) ≡ map f (range_with_len 0 n) ++ f n ∷ []
+map_more f n =
+    let e : 0 + n ≡ n = omega arith in
+    ap (map f) (range_more 0 n) ∙ map-append f (range_with_len 0 n) ((0 + n) ∷ []) ∙ ap (λ k. map f (range_with_len 0 n) ++ f k ∷ []) e
+
+-- how many numbers below n pass
+pub counted_more : (p : ℕ → Bool) → (n : ℕ) → count_by p (range_with_len 0 (n + 1)) ≡ count_by p (range_with_len 0 n) + cond (p n) 1 0
+counted_more p n = ap (count_by p) (range_next n) ∙ sum_by_push (λ k. cond (p k) 1 0) (range_with_len 0 n) n
+
+pub counted_few : (p : ℕ → Bool) → (n : ℕ) → count_by p (range_with_len 0 n) ≤ n
+counted_few p n =
+    let most = count_by-le-length p (range_with_len 0 n) in
+    let long = length-range_with_len 0 n in
+    omega (arith, most, long)
 
 pub flat_map_more : {A : Type 0} (f : ℕ → List A) → (n : ℕ) → flat_map f (range_with_len 0 (n + 1)) ≡ flat_map f (range_with_len 0 n) ++ f n
 flat_map_more f n =

@@ -1,23 +1,38 @@
-//! The lists of a procedure's network, made from its selected code and its liveness.
+//! The network of a procedure, made from its selected code and its liveness.
 //!
-//! `lists_of` makes all lists but the groups of ends, exactly those of the definition (net_form,
-//! specs/Strands and specs/Network). `strands_of` makes the strands with their masks, `extras_of`
-//! what operands cost more at a place than in a register, `pairs_of` the memory pairs, `ties_of`
-//! the ties.
+//! `build` makes it, exactly as the definition has it (net_form, specs/Network), in three steps.
 //!
-//! A strand begins at a block's entry or where its variable has a role, a law on what is live
-//! (proofs/Begun), so only variables with roles are looked at after the entry. The strand of an
-//! operand is looked for among the strands of its block. Strands are in order (proofs/InOrder), so
-//! the strand that a tie goes to is found by bisection.
+//! `lists_of` makes the lists: blocks, strands with their masks, extras (what operands cost more at
+//! a place than in a register), memory pairs and ties. A strand begins at a block's entry or where
+//! its variable has a role, a law on what is live (proofs/Begun), so only variables with roles are
+//! looked at after the entry. The strand of an operand is looked for among the strands of its
+//! block. Strands are in order (proofs/InOrder), so the strand that a tie goes to is found by
+//! bisection.
 //!
-//! Read specs/Lists first. A layer above hands in sized code with its liveness, and gets each list
-//! as an equation with the definition's.
+//! Then the index, in time linear in the lists. Where each strand's items begin is counted. Ties by
+//! the strands that they go to, and ends of memory pairs by their strands, are taken in one pass
+//! over links from each item to the next one of its owner. Memory pairs are in the order of their
+//! instructions (proofs/PairsInOrder), so the ends of one strand come by their layers.
+//!
+//! Last the tie groups. Ends that ties join are put under each other, always the greater under the
+//! lesser, and each end that is looked up is put under its grandparent; so the top of a group is
+//! its least end (Tarjan, Efficiency of a good but not linear set union algorithm, JACM 1975). What
+//! an end stands under never changes its label, the least end of its group, and that is all that
+//! the proofs need (specs/Labels). Groups are numbered in one pass by their least ends.
+//!
+//! Read specs/Lists first, then specs/Labels, Grouped and Owners. A layer above hands in sized code
+//! with its liveness, and gets the network of the code.
 #![tactic(auto)]
 
 mod beside;
 mod extras;
+mod groups;
+mod index;
+mod labels;
 mod lists;
+mod network;
 mod order;
+mod owners;
 mod pairs;
 mod strands;
 mod surcharge;
@@ -25,6 +40,7 @@ mod ties;
 
 pub use extras::extras_of;
 pub use lists::{Lists, lists_of};
+pub use network::build;
 pub use pairs::pairs_of;
 pub use strands::strands_of;
 pub use ties::ties_of;
