@@ -26,3 +26,4 @@ pub mod Pushes
 pub mod Calls
 pub mod Simulated
 pub mod Checks
+pub mod Chains

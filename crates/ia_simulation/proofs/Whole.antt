@@ -9,6 +9,7 @@ use Rattle.pra_base.specs.declared.ids.ProcId.{ProcId}
 use Rattle.pra_base.specs.declared.ids.VarId.{VarId}
 use Rattle.ia_simulation.specs.Represents.{IsCarried, EndIsCarried}
 use Rattle.ia_simulation.proofs.Calls.{calls_it}
+use Rattle.ia_simulation.proofs.Chains as chains
 use Rattle.ia_simulation.proofs.Checks as bounds
 use Rattle.ia_simulation.proofs.Computes as computes
 use Rattle.ia_simulation.proofs.Control as control
@@ -74,6 +75,12 @@ checks v n places procs data_words ok s r y o more e = stepped procs s r (placed
 
 pub checks_positive : (v : VarId) (places : _) → IsCarried (placed.Op (instr.CheckPos v) places)
 checks_positive v places procs data_words ok s r y o more e = stepped procs s r (placed.Op (instr.CheckPos v) places) more o e (bounds.checks_positive procs data_words ok s r y o v places more e)
+
+pub sets_condition : (k : Cond) (v a b : VarId) (places : _) → IsCarried (placed.Op (instr.CmpSet k v a b) places)
+sets_condition k v a b places procs data_words ok s r y o more e = stepped procs s r (placed.Op (instr.CmpSet k v a b) places) more o e (chains.sets_condition procs data_words ok s r y o k v a b places more e)
+
+pub divides : (q r1 a d : VarId) (places : _) → IsCarried (placed.Op (instr.DivMod q r1 a d) places)
+divides q r1 a d places procs data_words ok s r y o more e = stepped procs s r (placed.Op (instr.DivMod q r1 a d) places) more o e (chains.divides procs data_words ok s r y o q r1 a d places more e)
 
 -- ---- ends
 

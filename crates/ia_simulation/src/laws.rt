@@ -39,6 +39,10 @@ pub fn computing_is_carried()
     ensures xor { (v w : VarId) (places : _) → IsCarried (Op (instr.Xor v w) places) }
     ensures multiply { (v w : VarId) (places : _) → IsCarried (Op (instr.Mul v w) places) }
     ensures compare { (v w : VarId) (places : _) → IsCarried (Op (instr.Cmp v w) places) }
+    ensures condition { (k : Cond) (v a b : VarId) (places : _) →
+        IsCarried (Op (instr.CmpSet k v a b) places) }
+    ensures divide { (q r a d : VarId) (places : _) →
+        IsCarried (Op (instr.DivMod q r a d) places) }
     ensures negate { (v : VarId) (places : _) → IsCarried (Op (instr.Neg v) places) }
 {}
 

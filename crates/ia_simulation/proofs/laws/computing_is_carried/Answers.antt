@@ -30,3 +30,9 @@ returns-clause-compare c = whole.compares
 
 pub returns-clause-negate : goal.returns-clause-negate
 returns-clause-negate c = whole.negates
+
+pub returns-clause-condition : goal.returns-clause-condition
+returns-clause-condition c = whole.sets_condition
+
+pub returns-clause-divide : goal.returns-clause-divide
+returns-clause-divide c = whole.divides
