@@ -81,7 +81,7 @@ above_0 : (a : ℕ) → a < 2 ^ 32 → compares cond.Le a (word (pos 0)) ≡ not
 above_0 a l = grind (arith, nat_tests, ints)
 
 -- an instruction is there without the moves too
-bare_has : (code : List LInstr) (k : ℕ) (i : VInstr) (places : _) → slice_get code k ≡ Some (placed.Op i places) → (j : ℕ) × (slice_get (filter_map op_of code) j ≡ Some i)
+pub bare_has : (code : List LInstr) (k : ℕ) (i : VInstr) (places : _) → slice_get code k ≡ Some (placed.Op i places) → (j : ℕ) × (slice_get (filter_map op_of code) j ≡ Some i)
 bare_has [] k i places e = cc
 bare_has (x ∷ code) zero i places e =
     let same : x ≡ placed.Op i places = some_same x (placed.Op i places) e in

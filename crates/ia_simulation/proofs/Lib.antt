@@ -27,3 +27,5 @@ pub mod Calls
 pub mod Simulated
 pub mod Checks
 pub mod Chains
+pub mod Addresses
+pub mod Locates
