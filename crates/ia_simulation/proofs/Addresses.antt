@@ -110,7 +110,7 @@ held_address (Some (Num n)) x o e = cc
 held_address (Some (At z k)) x o e = ap (λ t. Some (At t.0 t.1)) (some_same (z, k) (x, o) e)
 
 module _ (procs : List LProc) (backs : List ℕ) (pushed : Words) (top : Activation Cells) (below : List (Activation Cells)) (globals : Words) (m : State)
-  (y : Lies procs backs pushed top below globals m.regs m.stack m.storage) where
+    (y : Lies procs backs pushed top below globals m.regs m.stack m.storage) where
   abbrev p : LProc
   p = proc_of procs top.proc
 

@@ -29,3 +29,5 @@ pub mod Checks
 pub mod Chains
 pub mod Addresses
 pub mod Locates
+pub mod Objects
+pub mod Loads

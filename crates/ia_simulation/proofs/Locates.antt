@@ -59,25 +59,25 @@ use Rattle.ia_simulation.proofs.Steps as steps
 
 -- ---- operands by their numbers
 
-operand_at : (p : LProc) (c : Activation Cells) (vs : List ℕ) (l : List Place) (k v : ℕ) (d : Value) → slice_get vs k ≡ Some v → k < length l → slice_index_or (operands p c vs (map number_of l)) k None ≡ Some d → operand p c v (place_in l k) ≡ Some d
+pub operand_at : (p : LProc) (c : Activation Cells) (vs : List ℕ) (l : List Place) (k v : ℕ) (d : Value) → slice_get vs k ≡ Some v → k < length l → slice_index_or (operands p c vs (map number_of l)) k None ≡ Some d → operand p c v (place_in l k) ≡ Some d
 operand_at p c [] l k v d e lt h = cc
 operand_at p c (w ∷ vs) [] k v d e lt h = absurd (omega (arith, lt))
 operand_at p c (w ∷ vs) (a ∷ l) zero v d e lt h = let same : w ≡ v = cc in subst (λ v. operand p c v (number_of a) ≡ Some d) same h
 operand_at p c (w ∷ vs) (a ∷ l) (suc k) v d e lt h = operand_at p c vs l k v d e (omega (arith, lt)) h
 
-last_of : (l : List Place) (n : ℕ) → length l ≡ suc n → drop n (map number_of l) ≡ place_in l n ∷ []
+pub last_of : (l : List Place) (n : ℕ) → length l ≡ suc n → drop n (map number_of l) ≡ place_in l n ∷ []
 last_of [] n e = absurd (omega (arith, e))
 last_of (a ∷ []) zero e = refl
 last_of (a ∷ b ∷ l) zero e = absurd (omega (arith, e))
 last_of (a ∷ l) (suc n) e = last_of l n (omega (arith, e))
 
-index_at : (b : Base) (x : Option VarId) (v : VarId) → x ≡ Some v → slice_get (map var_of (via b ++ index x)) (base_count b) ≡ Some v.0
+pub index_at : (b : Base) (x : Option VarId) (v : VarId) → x ≡ Some v → slice_get (map var_of (via b ++ index x)) (base_count b) ≡ Some v.0
 index_at (base.Global g) x v e = ap (λ x. slice_get (map var_of (via (base.Global g) ++ index x)) 0) e
 index_at (base.Frame g) x v e = ap (λ x. slice_get (map var_of (via (base.Frame g) ++ index x)) 0) e
 index_at (base.Cell g) x v e = ap (λ x. slice_get (map var_of (via (base.Cell g) ++ index x)) 0) e
 index_at (base.Via u) x v e = ap (λ x. slice_get (map var_of (via (base.Via u) ++ index x)) 1) e
 
-counts : (b : Base) → base_count b ≡ via_count b
+pub counts : (b : Base) → base_count b ≡ via_count b
 counts (base.Global g) = refl
 counts (base.Frame g) = refl
 counts (base.Cell g) = refl

@@ -86,7 +86,7 @@ registers_set held regs r h n long l m all q k = one (cases_eq q r)
 
 -- ---- what is there
 
-last_there : (ws : Words) (i : ℕ) (h : Held) → last_get ws i ≡ Some h → (i < length ws) × (slice_get ws (length ws - 1 - i) ≡ Some h)
+pub last_there : (ws : Words) (i : ℕ) (h : Held) → last_get ws i ≡ Some h → (i < length ws) × (slice_get ws (length ws - 1 - i) ≡ Some h)
 last_there ws i h e = one (nat_lt i (length ws)) refl e
   where
     one : (b : Bool) → nat_lt i (length ws) ≡ b → (if b then slice_get ws (length ws - 1 - i) else None) ≡ Some h → (i < length ws) × (slice_get ws (length ws - 1 - i) ≡ Some h)

@@ -1,5 +1,8 @@
 -- The steps of placed code, one law after the other.
+use Rattle.std.specs.Int.{w32}
+use Rattle.std.specs.Int.RustNames.{FitsSigned}
 use Rattle.pl_moves.specs.declared.transfer.Move.{Move}
+use Rattle.pra_base.specs.declared.code.Addr.{Addr}
 use Rattle.pl_place.specs.declared.placed.LInstr.TheVariants as placed
 use Rattle.pra_base.specs.declared.code.VInstr.TheVariants as instr
 use Rattle.pra_base.specs.declared.code.End.TheVariants as end
@@ -13,6 +16,8 @@ use Rattle.ia_simulation.proofs.Chains as chains
 use Rattle.ia_simulation.proofs.Checks as bounds
 use Rattle.ia_simulation.proofs.Computes as computes
 use Rattle.ia_simulation.proofs.Control as control
+use Rattle.ia_simulation.proofs.Loads.{loads_it}
+use Rattle.ia_simulation.proofs.Locates.{locates_it}
 use Rattle.ia_simulation.proofs.Moves.{move_leads}
 use Rattle.ia_simulation.proofs.Numbers as numbers
 use Rattle.ia_simulation.proofs.Pushes.{pushes_it}
@@ -81,6 +86,12 @@ sets_condition k v a b places procs data_words ok s r y o more e = stepped procs
 
 pub divides : (q r1 a d : VarId) (places : _) → IsCarried (placed.Op (instr.DivMod q r1 a d) places)
 divides q r1 a d places procs data_words ok s r y o more e = stepped procs s r (placed.Op (instr.DivMod q r1 a d) places) more o e (chains.divides procs data_words ok s r y o q r1 a d places more e)
+
+pub locates : (v : VarId) (a : Addr) (places : _) → FitsSigned w32 a.offset → IsCarried (placed.Op (instr.Addr v a) places)
+locates v a places fits procs data_words ok s r y o more e = stepped procs s r (placed.Op (instr.Addr v a) places) more o e (locates_it procs data_words ok s r y o v a.base a.offset a.index fits places more e)
+
+pub loads : (v : VarId) (a : Addr) (places : _) → FitsSigned w32 a.offset → IsCarried (placed.Op (instr.Load v a) places)
+loads v a places fits procs data_words ok s r y o more e = stepped procs s r (placed.Op (instr.Load v a) places) more o e (loads_it procs data_words ok s r y o v a.base a.offset a.index fits places more e)
 
 -- ---- ends
 

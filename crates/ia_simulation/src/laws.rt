@@ -1,7 +1,8 @@
 // What the simulation gives. Each function is a law: its contract is the statement, and it does
 // nothing.
 
-ghost use Rattle.std.specs.Prelude.{◌≡◌, ◌≢◌, ℕ, ℤ, List, Some};
+ghost use Rattle.std.specs.Prelude.{◌≡◌, ◌≢◌, ℕ, ℤ, FitsSigned, List, Some};
+ghost use Rattle.std.specs.Int.{w32};
 ghost use Rattle.ia_code.specs.declared.image.Image.{Image};
 ghost use Rattle.ia_code.specs.Listing.{bytes_of_all};
 ghost use Rattle.ia_emit.specs.Code.{code_of};
@@ -14,6 +15,7 @@ ghost use Rattle.pl_place.specs.declared.placed.LInstr.TheVariants.{Move as Move
 ghost use Rattle.pra_base.specs.declared.code.VInstr.TheVariants as instr;
 ghost use Rattle.pra_base.specs.Agreement.{Carried};
 ghost use Rattle.pra_base.specs.RunEnd.{Wrong};
+ghost use Rattle.pra_base.specs.declared.code.Addr.{Addr};
 ghost use Rattle.pra_base.specs.declared.code.End.TheVariants as end;
 ghost use Rattle.pra_base.specs.declared.ids.BlockId.{BlockId};
 ghost use Rattle.pra_base.specs.declared.ids.Cond.{Cond};
@@ -64,6 +66,15 @@ pub fn calls_are_carried()
 pub fn checks_are_carried()
     ensures index { (v : VarId) (n : ℤ) (places : _) → IsCarried (Op (instr.Check v n) places) }
     ensures positive { (v : VarId) (places : _) → IsCarried (Op (instr.CheckPos v) places) }
+{}
+
+/// The same of addresses of objects' words, and of loads from there, where the offset is a number
+/// of 32 bits.
+pub fn addresses_are_carried()
+    ensures locate { (v : VarId) (a : Addr) (places : _) → FitsSigned w32 a.offset →
+        IsCarried (Op (instr.Addr v a) places) }
+    ensures load { (v : VarId) (a : Addr) (places : _) → FitsSigned w32 a.offset →
+        IsCarried (Op (instr.Load v a) places) }
 {}
 
 /// The same of each end of a block. A return of the module's body is the end of the program.
