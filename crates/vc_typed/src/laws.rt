@@ -1,0 +1,37 @@
+// What selection of code takes of a resolved tree. Each function is a law: its contract is the
+// statement, and it does nothing.
+
+ghost use Rattle.std.specs.Prelude.{◌≡◌, true, ℕ, List, [], map, Ok};
+ghost use Rattle.ob_syntax.specs.Expressions.{expression};
+ghost use Rattle.ob_syntax.specs.Names.{Place};
+ghost use Rattle.ob_syntax.specs.Statements.{each, statement};
+ghost use Rattle.ob_syntax.specs.WellFormed.{is_scalar};
+ghost use Rattle.ob_syntax.specs.declared.checked.Checked.{Checked};
+ghost use Rattle.ob_syntax.specs.declared.checked.RExpr.{RExpr-F, out-RExpr};
+ghost use Rattle.ob_syntax.specs.declared.checked.RStmt.{RStmt};
+ghost use Rattle.ob_syntax.specs.declared.checked.RVar.{RVar};
+ghost use Rattle.ob_syntax.specs.declared.checked.Typed.{Typed};
+ghost use Rattle.ob_syntax.specs.declared.tree.Expr.{Expr};
+ghost use Rattle.ob_syntax.specs.declared.tree.Stmt.{Stmt};
+ghost use Rattle.vc_typed.specs.Fitting.{Fits};
+ghost use Rattle.vc_typed.specs.TypedStatements.{are_typed};
+ghost use Rattle.vc_typed.specs.Typing.{typed, typing, variable_typing};
+
+/// In a place that fits a checked module, an expression that breaks no rule is read as one of a
+/// good typing: a scalar as an expression, and a variable as a variable, of whatever type.
+pub fn expressions_are_typed()
+    ensures scalar { (program : Checked) (p : Place) → Fits program p →
+        (e : Expr) (x : Typed) → (expression e).judge p ≡ Ok x → is_scalar x.type_id ≡ true →
+        typing program p.here x.expr ≡ typed true x.type_id }
+    ensures variable { (program : Checked) (p : Place) → Fits program p →
+        (e : Expr) (x : Typed) → (expression e).judge p ≡ Ok x →
+        (v : RVar) → out-RExpr x.expr ≡ RExpr-F.Var v →
+        variable_typing program p.here v ≡ typed true x.type_id }
+{}
+
+/// In a place that fits a checked module, statements that break no rule are read as typed ones.
+pub fn statements_are_typed()
+    ensures { (program : Checked) (p : Place) → Fits program p →
+        (body : List Stmt) (done : List RStmt) → each p [] (map statement body) ≡ Ok done →
+        are_typed program p.here done ≡ true }
+{}
