@@ -31,3 +31,6 @@ pub mod Addresses
 pub mod Locates
 pub mod Objects
 pub mod Loads
+pub mod Changed
+pub mod Stores
+pub mod Clears

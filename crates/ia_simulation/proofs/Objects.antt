@@ -24,18 +24,18 @@ use Rattle.ia_simulation.proofs.Spots.{data_below, few_words, last_there}
 
 -- ---- the word at an offset
 
-word_is : (ws : Words) (o : ℕ) (h : Held) → word_at ws o ≡ Some h → (o % 4 ≡ 0) × (slice_get ws (o / 4) ≡ Some h)
+pub word_is : (ws : Words) (o : ℕ) (h : Held) → word_at ws o ≡ Some h → (o % 4 ≡ 0) × (slice_get ws (o / 4) ≡ Some h)
 word_is ws o h e = one (nat_eq (o % 4) 0) refl e
   where
     one : (b : Bool) → nat_eq (o % 4) 0 ≡ b → (if b then slice_get ws (o / 4) else None) ≡ Some h → (o % 4 ≡ 0) × (slice_get ws (o / 4) ≡ Some h)
     one true t e = (grind (arith, nat_tests), e)
     one false t e = cc
 
-same_is : (a b : ℕ) → nat_eq a b ≡ true → a ≡ b
+pub same_is : (a b : ℕ) → nat_eq a b ≡ true → a ≡ b
 same_is a b e = grind (arith, nat_tests)
 
 -- the one word of an argument's cell
-one_word : (home : Bool) (o : Option Held) (k : ℕ) (h : Held) → slice_get (if home then [] else cell_words o) k ≡ Some h → (k ≡ 0) × (o ≡ Some h)
+pub one_word : (home : Bool) (o : Option Held) (k : ℕ) (h : Held) → slice_get (if home then [] else cell_words o) k ≡ Some h → (k ≡ 0) × (o ≡ Some h)
 one_word true o k h e = cc
 one_word false None k h e = cc
 one_word false (Some x) zero h e = (refl, e)

@@ -24,6 +24,7 @@ use Rattle.ia_simulation.proofs.Pushes.{pushes_it}
 use Rattle.ia_simulation.proofs.Returns.{returning}
 use Rattle.ia_simulation.proofs.Rows as rows
 use Rattle.ia_simulation.proofs.Steps as steps
+use Rattle.ia_simulation.proofs.Stores.{stores_it}
 use Rattle.ia_simulation.proofs.Steps.{stepped}
 use Rattle.ia_simulation.proofs.Tells as tells
 
@@ -92,6 +93,9 @@ locates v a places fits procs data_words ok s r y o more e = stepped procs s r (
 
 pub loads : (v : VarId) (a : Addr) (places : _) → FitsSigned w32 a.offset → IsCarried (placed.Op (instr.Load v a) places)
 loads v a places fits procs data_words ok s r y o more e = stepped procs s r (placed.Op (instr.Load v a) places) more o e (loads_it procs data_words ok s r y o v a.base a.offset a.index fits places more e)
+
+pub stores : (a : Addr) (v : VarId) (places : _) → FitsSigned w32 a.offset → IsCarried (placed.Op (instr.Store a v) places)
+stores a v places fits procs data_words ok s r y o more e = stepped procs s r (placed.Op (instr.Store a v) places) more o e (stores_it procs data_words ok s r y o v a.base a.offset a.index fits places more e)
 
 -- ---- ends
 

@@ -68,13 +68,15 @@ pub fn checks_are_carried()
     ensures positive { (v : VarId) (places : _) → IsCarried (Op (instr.CheckPos v) places) }
 {}
 
-/// The same of addresses of objects' words, and of loads from there, where the offset is a number
-/// of 32 bits.
+/// The same of addresses of objects' words, of loads from there and of stores to there, where the
+/// offset is a number of 32 bits.
 pub fn addresses_are_carried()
     ensures locate { (v : VarId) (a : Addr) (places : _) → FitsSigned w32 a.offset →
         IsCarried (Op (instr.Addr v a) places) }
     ensures load { (v : VarId) (a : Addr) (places : _) → FitsSigned w32 a.offset →
         IsCarried (Op (instr.Load v a) places) }
+    ensures store { (a : Addr) (v : VarId) (places : _) → FitsSigned w32 a.offset →
+        IsCarried (Op (instr.Store a v) places) }
 {}
 
 /// The same of each end of a block. A return of the module's body is the end of the program.

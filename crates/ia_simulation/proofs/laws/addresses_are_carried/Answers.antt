@@ -6,3 +6,6 @@ returns-clause-locate c = whole.locates
 
 pub returns-clause-load : goal.returns-clause-load
 returns-clause-load c = whole.loads
+
+pub returns-clause-store : goal.returns-clause-store
+returns-clause-store c = whole.stores
