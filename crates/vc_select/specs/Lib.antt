@@ -1,0 +1,4 @@
+pub mod Typing
+pub mod Targets
+pub mod Indexes
+pub mod Selects
