@@ -18,7 +18,7 @@ use Rattle.pra_base.specs.declared.code.VInstr.{VInstr}
 use Rattle.pra_base.specs.declared.code.VInstr.TheVariants.{Check}
 use Rattle.pra_base.specs.declared.code.VarKind.TheVariants.{Constant}
 use Rattle.pra_base.specs.declared.code.VProc.{VProc}
-use Rattle.ob_syntax.specs.Operators.{number, wrapped, operated}
+use Rattle.ob_syntax.specs.Operators.{number, wrapped}
 use Rattle.ob_syntax.specs.declared.checked.ROp.TheVariants.{Mul, Add}
 use Rattle.ob_syntax.specs.declared.checked.Value.{Value}
 use Rattle.ob_syntax.specs.declared.checked.Value.TheVariants.{Number}
@@ -149,7 +149,7 @@ module _ (first at : ℕ) (old : VProc) (index : ℕ) (o : IsOpen old at) (named
   }
 
 module _ (first at : ℕ) (old new : VProc) (index factor : ℕ) (m v : ℕ) (small : m < 2 ^ 31) (is_new : factor ≡ length old.vars) (low : first ≤ length old.vars)
-    (p : Operates (operated Mul) first at (with_variable (Constant (pos m)) old) new index factor v) where
+    (p : Operates Mul first at (with_variable (Constant (pos m)) old) new index factor v) where
   abbrev mid : VProc
   mid = with_variable (Constant (pos m)) old
 
@@ -170,7 +170,7 @@ module _ (first at : ℕ) (old new : VProc) (index factor : ℕ) (m v : ℕ) (sm
     named = p.adds.named;
     means = λ w id s k r stands has lt.
         counted w id new at v first s (wrapped (pos k *ℤ pos m)) (k * m) (int_wrap_fits w32 (pos (k * m)) (fits_count (k * m) lt))
-        (p.means w id s (Number (pos k)) (Number (pos m)) r (record { block = stands.block; index = stands.index }) has (has_factor w id s r));
+        (p.means w id s (Number (pos k)) (Number (pos m)) r (record { block = stands.block; index = stands.index }) has (has_factor w id s r) tt);
   }
 
 -- ---- the sum
@@ -188,14 +188,14 @@ module _ (first at : ℕ) (old : VProc) (index : ℕ) (o : IsOpen old at) (named
         (record { fits = has.fits; holds = record { stands = stands; same = same_self first s.top; value = has.held } }));
   }
 
-pub sums_on : (first at : ℕ) (old new : VProc) (so_far : VarId) (index v : ℕ) → Operates (operated Add) first at old new so_far.0 index v → Sums first at old new (Some so_far) index v
+pub sums_on : (first at : ℕ) (old new : VProc) (so_far : VarId) (index v : ℕ) → Operates Add first at old new so_far.0 index v → Sums first at old new (Some so_far) index v
 sums_on first at old new so_far index v p = record {
   grows = p.adds.grows;
   is_open = p.adds.is_open;
   named = p.adds.named;
   means = λ w id s n k r stands before has lt.
       counted w id new at v first s (wrapped (pos n +ℤ pos k)) (n + k) (int_wrap_fits w32 (pos (n + k)) (fits_count (n + k) lt))
-      (p.means w id s (Number (pos n)) (Number (pos k)) r stands before has);
+      (p.means w id s (Number (pos n)) (Number (pos k)) r stands before has tt);
 }
 
 -- ---- all of it

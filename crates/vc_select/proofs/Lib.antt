@@ -5,3 +5,12 @@ pub mod Elements
 pub mod Counting
 pub mod Strides
 pub mod Walks
+pub mod Loading
+pub mod Equations
+pub mod Forms
+pub mod Sides
+pub mod Conditions
+pub mod Chosen
+pub mod Arms
+pub mod Safety
+pub mod Walking

@@ -66,7 +66,7 @@ module _ (g : Setting) (first : ℕ) (old : VProc) (at : ℕ) (target : Target) 
       Leads g first old old at at target next type_id (step ∷ []) (selector ∷ [])
   free next step selector f = record {
     extends = extends_at at old old (grows_at_same old at) o;
-    means = λ w calls store s l starts named good well.
+    means = λ w calls store s l starts low named good well.
         let x = f w calls store s l starts.set named good well in
         let t = (into types (typed good type_id) step).type_id in
         subst (Yields w s (Finds g w old at calls s first next t)) (sym x.selects)
@@ -139,7 +139,7 @@ pub leads_no_index : (g : Setting) (first : ℕ) (old mid : VProc) (from between
     Leads g first old mid from between (Var u) (Var u) type_id (ToElement typing ∷ []) (selector ∷ [])
 leads_no_index g first old mid from between v u type_id typing e selector p = record {
   extends = p.extends;
-  means = λ w calls store s l starts named good well.
+  means = λ w calls store s l starts low named good well.
       let array = and_true (is_of integer typing) (is_array (shape_of g.program.now.types type_id)) (and_true good _ well).1 in
       absurd (differ (sym array.1 ∙ (scalar_shape g.program.now.types starts.set.laid.types type_id named.scalar).1));
 }
@@ -149,7 +149,7 @@ leads_no_index g first old mid from between v u type_id typing e selector p = re
 
 module _ (g : Setting) (first : ℕ) (old mid new : VProc) (from between v : ℕ) (a : Addr) (u : VarId) (type_id : ℕ) (typing : Typing) (e : Evaluation) (selector : Selecting)
     (is : (calls : List LiveCall) (store : Store) → selector calls store ≡ Element (e calls store))
-    (homes : home_variables g ≤ first) (low : first ≤ length old.vars) (base_low : above_base a.base ≤ first) (named_low : above_target (Memory a) ≤ length old.vars)
+    (low : first ≤ length old.vars) (base_low : above_base a.base ≤ first) (named_low : above_target (Memory a) ≤ length old.vars)
     (p : Selects g old mid from between v typing e)
     (q : Indexes first between mid new a.index v (array_length (shape_of g.program.now.types type_id)) (slice_index g.words.now (element_type (shape_of g.program.now.types type_id))) u.0) where
   abbrev shapes : List Shape
@@ -167,7 +167,7 @@ module _ (g : Setting) (first : ℕ) (old mid new : VProc) (from between v : ℕ
   abbrev next : Addr
   next = record a { index = Some u }
 
-  module _ (w : Codes) (calls : List LiveCall) (store : Store) (s : State Vars) (l : Location) (starts : Starts g w old new from calls store s) (x : IsWord g.program.now w calls s a l type_id)
+  module _ (w : Codes) (calls : List LiveCall) (store : Store) (s : State Vars) (l : Location) (starts : Starts g w old new from calls store s) (homes : home_variables g ≤ first) (x : IsWord g.program.now w calls s a l type_id)
       (good : Bool) (well : (into shapes (typed good type_id) (ToElement typing)).good ≡ true) where
     abbrev R : Location → Activation Vars → Type 0
     R m d = Finds g w new between calls s first (Memory next) (element_type array) m d

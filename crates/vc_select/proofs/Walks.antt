@@ -9,7 +9,7 @@ use Rattle.pra_base.specs.declared.code.VProc.{VProc}
 use Rattle.ob_syntax.specs.Operators.{Outcome, number}
 use Rattle.ob_syntax.specs.declared.checked.Root.{Root}
 use Rattle.ob_syntax.specs.declared.checked.Shape.{Shape}
-use Rattle.ob_mean.specs.Designators.{shape_of, array_length, element_type, field_types, field_type, root_type, root_location, running, Selector, Field, Element, Located, picked, selected, designated}
+use Rattle.ob_mean.specs.Designators.{shape_of, array_length, element_type, field_types, field_type, root_type, root_location, running, Selector, Element, Located, picked, selected, designated}
 use Rattle.ob_mean.specs.Expressions.{Selecting, at_store}
 use Rattle.ob_mean.specs.Store.{Store, part}
 use Rattle.ob_mean.specs.declared.store.LiveCall.{LiveCall}
@@ -23,8 +23,8 @@ use Rattle.vc_build.proofs.Steps.{same_self, same_on, rests, yields_on}
 use Rattle.vc_select.specs.declared.target.Setting.{Setting}
 use Rattle.vc_select.specs.declared.target.Target.{Target}
 use Rattle.vc_select.specs.Targets.{above_target, root_target, IsNamed}
-use Rattle.vc_select.specs.Typing.{Typing, typed, is_of, Leading, ToField, ToElement, into, along, root_typing, designated_typing, is_declared}
-use Rattle.vc_select.specs.Selects.{home_variables, Starts, Finds, Locates, Leads}
+use Rattle.vc_select.specs.Typing.{type_after, Typing, typed, is_of, Leading, ToField, ToElement, into, along, root_typing, designated_typing, is_declared}
+use Rattle.vc_select.specs.Selects.{IsFor, home_variables, Starts, Finds, Locates, Leads}
 use Rattle.vc_select.proofs.Keeping.{named_on, starts_earlier, starts_on, extends_on, extends_at}
 use Rattle.vc_select.proofs.Roots.{running_is, root_named}
 
@@ -35,15 +35,6 @@ pub good_before : (shapes : List Shape) (x : Typing) (steps : List Leading) → 
 good_before shapes x [] e = e
 good_before shapes x (ToField k ∷ steps) e = (and_true x.good (nat_lt k (length (field_types (shape_of shapes x.type_id)))) (good_before shapes (into shapes x (ToField k)) steps e)).0
 good_before shapes x (ToElement y ∷ steps) e = (and_true x.good _ (good_before shapes (into shapes x (ToElement y)) steps e)).0
-
--- a selector of the meaning is that of the tree
-abbrev pub IsFor : Leading → Selector → Type 0
-IsFor (ToField k) selector = selector ≡ Field k
-IsFor (ToElement x) selector = (value : Outcome) × (selector ≡ Element value)
-
-abbrev pub type_after : List Shape → ℕ → Leading → ℕ
-type_after shapes type_id (ToField k) = field_type (shape_of shapes type_id) k
-type_after shapes type_id (ToElement x) = element_type (shape_of shapes type_id)
 
 -- ---- one selector, and then the others
 
@@ -72,7 +63,7 @@ module _ (shapes : List Shape) (type_id : ℕ) (l : Location) (rest : List Selec
       one_value (Err trap) = refl
 
 module _ (g : Setting) (first : ℕ) (old mid new : VProc) (from between to : ℕ) (begin middle end : Target) (type_id : ℕ) (step : Leading) (steps : List Leading) (selector : Selecting) (selectors : List Selecting)
-    (low : home_variables g ≤ first) (is_for : (calls : List LiveCall) (store : Store) → IsFor step (selector calls store))
+    (is_for : (calls : List LiveCall) (store : Store) → IsFor step (selector calls store))
     (p : Leads g first old mid from between begin middle type_id (step ∷ []) (selector ∷ []))
     (q : Leads g first mid new between to middle end (type_after g.program.now.types type_id step) steps selectors) where
   abbrev types : List Shape
@@ -86,7 +77,7 @@ module _ (g : Setting) (first : ℕ) (old mid new : VProc) (from between to : �
       by_step (ToField k) = ((into types (typed good type_id) (ToField k)).good, refl)
       by_step (ToElement x) = ((into types (typed good type_id) (ToElement x)).good, refl)
 
-  module _ (w : Codes) (calls : List LiveCall) (store : Store) (s : State Vars) (l : Location) (starts : Starts g w old new from calls store s) (named : IsNamed g.program.now w calls s begin l type_id)
+  module _ (w : Codes) (calls : List LiveCall) (store : Store) (s : State Vars) (l : Location) (starts : Starts g w old new from calls store s) (low : home_variables g ≤ first) (named : IsNamed g.program.now w calls s begin l type_id)
       (good : Bool) (well : (along types (typed good type_id) (step ∷ steps)).good ≡ true) where
     abbrev after : Bool
     after = (behind good).0
@@ -120,7 +111,7 @@ module _ (g : Setting) (first : ℕ) (old mid new : VProc) (from between to : �
     goes m c found =
         since c found.same (selected types (type_after types type_id step) m (at_store calls store selectors))
         (q.means w calls store (with_top s c) m
-        (starts_on g w old new from calls store s starts first c low found.same mid new between found.stands p.extends.grows.grows.vars (grows_same_self new))
+        (starts_on g w old new from calls store s starts first c low found.same mid new between found.stands p.extends.grows.grows.vars (grows_same_self new)) low
         (subst (IsNamed g.program.now w calls (with_top s c) middle m) (ap (λ z. z.type_id) after_is) found.named) after well_after)
       where
         grows_same_self : (x : VProc) → Grows x x
@@ -130,7 +121,7 @@ module _ (g : Setting) (first : ℕ) (old mid new : VProc) (from between to : �
     all =
         subst (Yields w s R) (selected_on types type_id l (at_store calls store selectors) step (selector calls store) (is_for calls store))
         (yields_on w s Q R (selected types type_id l (selector calls store ∷ [])) (λ m. selected types (type_after types type_id step) m (at_store calls store selectors))
-        (p.means w calls store s l (starts_earlier g w old new from calls store s starts mid q.extends.grows.grows) named good (good_before types (into types (typed good type_id) step) steps well)) goes)
+        (p.means w calls store s l (starts_earlier g w old new from calls store s starts mid q.extends.grows.grows) low named good (good_before types (into types (typed good type_id) step) steps well)) goes)
 
   pub leads_on : Leads g first old new from to begin end type_id (step ∷ steps) (selector ∷ selectors)
   leads_on = record { extends = extends_on from between to old mid new p.extends q.extends; means = all }
@@ -139,7 +130,7 @@ module _ (g : Setting) (first : ℕ) (old mid new : VProc) (from between to : �
 pub leads_nowhere : (g : Setting) (first : ℕ) (old : VProc) (at : ℕ) (target : Target) (type_id : ℕ) → IsOpen old at → Leads g first old old at at target target type_id [] []
 leads_nowhere g first old at target type_id o = record {
   extends = extends_at at old old (grows_at_same old at) o;
-  means = λ w calls store s l starts named good well.
+  means = λ w calls store s l starts low named good well.
       rests w s (Finds g w old at calls s first target type_id l) starts.runs.compared (record {
         stands = starts.stands;
         same = same_self first s.top;
@@ -171,7 +162,7 @@ module _ (g : Setting) (old new : VProc) (from to : ℕ) (target : Target) (root
     finds =
         subst (Yields w s (Finds g w new to calls s (length old.vars) target type_id)) (ap (λ n. selected all_types (root_type g.program.now n root) (root_location calls root) (at_store calls store selectors)) (sym runs))
         (subst (λ t. Yields w s (Finds g w new to calls s (length old.vars) target t) (selected all_types (root_type g.program.now g.id.0 root) (root_location calls root) (at_store calls store selectors))) (eqb-true reached.type_id type_id parts.1)
-        (p.means w calls store s (root_location calls root) starts
+        (p.means w calls store s (root_location calls root) starts starts.homes
         (root_named g starts.set w calls store s starts.represents starts.runs.proc starts.variables root declared)
         (is_declared g.program.now g.id.0 root) parts.0))
 

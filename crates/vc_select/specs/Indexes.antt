@@ -12,6 +12,8 @@ use Rattle.vc_code.specs.Selected.{Vars}
 use Rattle.vc_build.specs.Grow.{IsOpen, GrowsAt}
 use Rattle.vc_build.specs.Runs.{Codes, Stands, RunsIn, SameBelow, Reaches, Yields}
 use Rattle.vc_expr.specs.Operators.{HasValue, Gives}
+use Rattle.vc_select.specs.declared.target.Target.{Target}
+use Rattle.vc_select.specs.declared.target.Target.TheVariants.{Var, Memory}
 
 -- a variable has this natural number
 abbrev pub HasCount : Codes → ℕ → ℕ → Activation Vars → ℕ → Type 0
@@ -68,3 +70,11 @@ pub record Indexes
       Yields w s
       (λ k c. (k < count) × Gives w id new at v first s.top (Number (pos (n + k * factor))) c)
       (picked count (number x))
+
+-- the target of an element by an index; a variable of the code has no elements
+abbrev pub IndexedBy :
+    (first at : ℕ) → (old new : VProc) → Target → (index count factor : ℕ) → Target → Type 0
+IndexedBy first at old new (Var v) index count factor t = (t ≡ Var v) × (new ≡ old)
+IndexedBy first at old new (Memory a) index count factor t =
+    (u : VarId) × (t ≡ Memory (record a { index = Some u }))
+    × Indexes first at old new a.index index count factor u.0

@@ -1,22 +1,30 @@
 -- What code that was added for a tree does, where it begins in a state that has the store of the
 -- meaning.
-use Rattle.std.specs.Prelude.{◌≡◌, ◌≢◌, ℕ, ◌<◌, ◌≤◌, Bool, true, false, List, length}
-use Rattle.std.specs.Prelude.{Some, slice_get}
+use Rattle.std.specs.Prelude.{◌≡◌, ◌≢◌, ℕ, ◌<◌, ◌≤◌, Bool, true, false, List, [], ◌∷◌}
+use Rattle.std.specs.Prelude.{length, map, pos, Some, Ok, slice_get}
 use Rattle.pra_base.specs.Code.{kind_of}
 use Rattle.pra_base.specs.declared.code.VarKind.{VarKind}
 use Rattle.pra_base.specs.declared.code.VarKind.TheVariants.{Constant}
 use Rattle.pra_base.specs.declared.code.VProc.{VProc}
 use Rattle.ob_syntax.specs.Expressions.{boolean}
-use Rattle.ob_syntax.specs.Operators.{number}
+use Rattle.pra_base.specs.declared.ids.BlockId.{BlockId}
+use Rattle.pra_list.specs.Results.{◌>>=◌}
+use Rattle.ob_syntax.specs.Operators.{Outcome, number, is_true, combined}
+use Rattle.ob_syntax.specs.declared.checked.ROp.{ROp}
+use Rattle.ob_syntax.specs.declared.checked.ROp.TheVariants.{Either}
 use Rattle.ob_syntax.specs.Storage.{all_words}
 use Rattle.ob_syntax.specs.WellFormed.{is_scalar}
 use Rattle.ob_syntax.specs.declared.checked.Checked.{Checked}
 use Rattle.ob_syntax.specs.declared.checked.CheckedProc.{CheckedProc}
 use Rattle.ob_syntax.specs.declared.checked.Local.{Local}
 use Rattle.ob_syntax.specs.declared.checked.Param.{Param}
+use Rattle.ob_syntax.specs.declared.checked.RExpr.{RExpr}
+use Rattle.ob_syntax.specs.declared.checked.RStep.{RStep}
+use Rattle.ob_syntax.specs.declared.checked.Shape.{Shape}
 use Rattle.ob_syntax.specs.declared.checked.Value.{Value}
-use Rattle.ob_mean.specs.Designators.{Located, selected}
-use Rattle.ob_mean.specs.Expressions.{Evaluation, Selecting, at_store}
+use Rattle.ob_syntax.specs.declared.checked.Value.TheVariants.{Number}
+use Rattle.ob_mean.specs.Designators.{Located, Selector, Field, Element, selected}
+use Rattle.ob_mean.specs.Expressions.{Evaluation, Selecting, at_store, value, selector}
 use Rattle.ob_mean.specs.Store.{Store}
 use Rattle.ob_mean.specs.declared.store.LiveCall.{LiveCall}
 use Rattle.ob_mean.specs.declared.store.Location.{Location}
@@ -27,11 +35,13 @@ use Rattle.vc_build.specs.Runs.{Codes, Stands, RunsIn, SameBelow, Reaches, Yield
 use Rattle.vc_relation.specs.Homes.{param_home, local_home}
 use Rattle.vc_relation.specs.Layout.{IsLaidOut}
 use Rattle.vc_relation.specs.Relation.{Translation, Represents, homes_in, number_at}
-use Rattle.vc_expr.specs.Operators.{Gives, IsBit}
+use Rattle.vc_expr.specs.Operators.{Gives, IsBit, of_values}
+use Rattle.vc_expr.specs.Branches.{Enters, chosen}
+use Rattle.vc_expr.specs.declared.branch.Targets.{Targets}
 use Rattle.vc_select.specs.declared.target.Setting.{Setting}
 use Rattle.vc_select.specs.declared.target.Target.{Target}
 use Rattle.vc_select.specs.Targets.{IsNamed}
-use Rattle.vc_select.specs.Typing.{Typing, typed, Leading, along}
+use Rattle.vc_select.specs.Typing.{Typing, typed, Leading, ToField, ToElement, along}
 
 -- ---- what selection begins with
 
@@ -125,7 +135,8 @@ pub record Leads
     (steps : List Leading) (selectors : List Selecting) : Type 0 where
   pub extends : Extends from to old new
   pub means : (w : Codes) (calls : List LiveCall) (store : Store) (s : State Vars) (l : Location) →
-      Starts g w old new from calls store s → IsNamed g.program.now w calls s begin l type_id →
+      Starts g w old new from calls store s → home_variables g ≤ first →
+      IsNamed g.program.now w calls s begin l type_id →
       (good : Bool) → (along g.program.now.types (typed good type_id) steps).good ≡ true →
       Yields w s
       (Finds g w new to calls s first end
@@ -142,3 +153,81 @@ pub record Loads (g : Setting) (at : ℕ) (old new : VProc) (target : Target) (v
       IsNamed g.program.now w calls s target l type_id → is_scalar type_id ≡ true →
       number x ≡ number_at store l →
       Reaches w s (Results w g.id.0 new at v (length old.vars) s.top type_id x)
+
+-- ---- operators
+
+-- both sides are evaluated, the left one first
+abbrev pub sided : ROp → Evaluation → Evaluation → Evaluation
+sided op e f calls store = e calls store >>= λ x. f calls store >>= λ y. of_values op x y
+
+-- the meaning: the right side of `&` and OR only where the left one does not decide
+abbrev pub joined : ROp → Evaluation → Evaluation → Evaluation
+joined op e f calls store = combined op (e calls store) (f calls store)
+
+abbrev pub NeverTraps : Evaluation → Type 0
+NeverTraps e = (calls : List LiveCall) (store : Store) → (x : Value) × (e calls store ≡ Ok x)
+
+-- ---- conditions
+
+-- The added code closes its block. It comes to the begin of the block that the condition's value
+-- chooses, or to its trap.
+pub record Tests
+    (g : Setting) (old new : VProc) (from : ℕ) (targets : Targets) (typing : Typing)
+    (e : Evaluation) : Type 0 where
+  pub grows : GrowsAt from old new
+  pub means : (w : Codes) (calls : List LiveCall) (store : Store) (s : State Vars) →
+      Starts g w old new from calls store s → typing.good ≡ true →
+      Yields w s (λ x c. Enters (chosen targets (is_true x)) (length old.vars) s.top c)
+      (e calls store)
+
+-- where the left side of `&` and of OR leads, with a block for the right side
+abbrev pub inner_targets : ROp → BlockId → Targets → Targets
+inner_targets Either right targets = record { holds = targets.holds; fails = right }
+inner_targets _ right targets = record { holds = right; fails = targets.fails }
+
+abbrev pub exchanged : Targets → Targets
+exchanged targets = record { holds = targets.fails; fails = targets.holds }
+
+-- ---- one selector, and what is known of trees
+
+abbrev pub LeadsFrom :
+    Setting → ℕ → (old new : VProc) → (from to : ℕ) → (begin end : Target) → ℕ → Leading →
+    Selecting → Type 0
+LeadsFrom g first old new from to begin end type_id step selector =
+    Leads g first old new from to begin end type_id (step ∷ []) (selector ∷ [])
+
+-- to the element by an index that has this typing and this meaning
+abbrev pub LeadsBy :
+    Setting → ℕ → (old new : VProc) → (from to : ℕ) → (begin end : Target) → ℕ → Typing →
+    Evaluation → Type 0
+LeadsBy g first old new from to begin end type_id typing e =
+    (selector : Selecting) →
+    ((calls : List LiveCall) (store : Store) → selector calls store ≡ Element (e calls store)) →
+    LeadsFrom g first old new from to begin end type_id (ToElement typing) selector
+
+-- an expression is always this number
+abbrev pub Always : RExpr → ℕ → Type 0
+Always e k = (program : Checked) (calls : List LiveCall) (store : Store) →
+    value program e calls store ≡ Ok (Number (pos k))
+
+abbrev pub IsSafe : RExpr → Type 0
+IsSafe e = (program : Checked) → NeverTraps (value program e)
+
+-- selectors that lead on in any module
+abbrev pub AreFields : List RStep → Type 0
+AreFields steps =
+    (program : Checked) (calls : List LiveCall) (store : Store) (shapes : List Shape)
+    (type_id : ℕ) (l : Location) →
+    (m : Location) ×
+    (selected shapes type_id l (at_store calls store (map (selector program) steps)) ≡ Ok m)
+
+-- a selector of the meaning is that of the tree
+abbrev pub IsFor : Leading → Selector → Type 0
+IsFor (ToField k) selector = selector ≡ Field k
+IsFor (ToElement x) selector = (value : Outcome) × (selector ≡ Element value)
+
+-- the operator gives the same where both sides are evaluated
+abbrev pub IsSided : ROp → RExpr → Type 0
+IsSided op y =
+    (program : Checked) (e : Evaluation) (calls : List LiveCall) (store : Store) →
+    joined op e (value program y) calls store ≡ sided op e (value program y) calls store

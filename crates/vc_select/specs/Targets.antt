@@ -26,6 +26,7 @@ use Rattle.vc_build.specs.Runs.{Codes}
 use Rattle.vc_relation.specs.declared.home.Home.{Home}
 use Rattle.vc_relation.specs.declared.home.Home.TheVariants as home
 use Rattle.vc_relation.specs.Spots.{InVariable, InWord, placed_at, placed}
+use Rattle.vc_select.specs.declared.target.Setting.{Setting}
 use Rattle.vc_select.specs.declared.target.Target.{Target}
 use Rattle.vc_select.specs.declared.target.Target.TheVariants.{Var, Memory}
 
@@ -81,6 +82,9 @@ above_home _ = 0
 abbrev pub above_homes : List Home → ℕ
 above_homes [] = 0
 above_homes (h ∷ hs) = max (above_home h) (above_homes hs)
+
+abbrev pub above_setting : Setting → ℕ
+above_setting g = max (above_homes g.params.now) (above_homes g.locals.now)
 
 abbrev pub above_base : Base → ℕ
 above_base (base.Via v) = v.0 + 1

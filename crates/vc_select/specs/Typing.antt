@@ -50,6 +50,11 @@ into shapes x (ToElement index) =
     typed (x.good && (is_of integer index && is_array (shape_of shapes x.type_id)))
     (element_type (shape_of shapes x.type_id))
 
+-- the type behind a selector
+abbrev pub type_after : List Shape → ℕ → Leading → ℕ
+type_after shapes type_id (ToField k) = field_type (shape_of shapes type_id) k
+type_after shapes type_id (ToElement x) = element_type (shape_of shapes type_id)
+
 abbrev pub along : List Shape → Typing → List Leading → Typing
 along shapes x [] = x
 along shapes x (step ∷ steps) = along shapes (into shapes x step) steps

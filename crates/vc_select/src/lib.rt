@@ -1,20 +1,62 @@
-//! The walk over resolved trees that selects code for them. What stands today are variables without
-//! selectors, their fields and elements, and the code of an index.
+//! The walk over resolved trees that selects code for them: expressions, variables with their
+//! selectors, and conditions.
 //!
-//! A variable of the source has a target: a variable of the code, or an address (`Target`).
-//! `root_target` is the target of a variable of the module, of a parameter or of a local; `shifted`
-//! that of a field or of an element by a constant; and `select_index` adds the code of an index
-//! that is computed. A target names a location of the meaning in a state of selected code
-//! (`IsNamed` of `specs/Targets`).
+//! # What is promised
+//!
+//! A run stands at the end of what the open block `at` has so far, in a state that has the store of
+//! the meaning (`Starts` of `specs/Selects`, over the relation of vc_relation). Running on through
+//! the code that a call adds, and over all code that is made later,
+//!
+//! - `select_expr` gives its variable the value that the meaning gives the expression, or comes to
+//!   the expression's trap (`Selects`);
+//! - `select_var` makes its target name the location that the meaning gives the variable, or comes
+//!   to the trap of an index (`Locates`);
+//! - `select_test` closes the block, and comes to the begin of the block that the condition's value
+//!   chooses, or to its trap (`Tests`).
+//!
+//! Nothing but the running call changes: no object, no event, no word of the input; and the
+//! variables that the code had before are as they were. A premise is that the tree is typed, as
+//! `Typing` has it. It is of the meaning of the code alone: for any tree the functions answer code
+//! in which the open block stays open and earlier blocks stay as they are.
+//!
+//! # Targets
+//!
+//! A variable of the source is in a variable of the code, or at an address (`Target`). A target
+//! names a location in a state (`IsNamed` of `specs/Targets`): the relation has the location in
+//! that variable, or in the word to which the address leads. The law `targets_name_locations` has
+//! it of variables without selectors; a field, or an element by a constant, is so many words
+//! further on; an index that is computed is tested, multiplied by the words of an element, and
+//! added to the index so far (`specs/Indexes`).
+//!
+//! ```text
+//! a[i].f, a from data word 6, elements of 3 words, f the second field
+//!     check i, 20    copy v7, i    mul v7, k8 = 3    load v9, [global 6 + 4 + 4 * v7]
+//! ```
+//!
+//! # `&` and OR
+//!
+//! As values they evaluate both sides where the right one has no index, DIV or MOD, since it never
+//! traps then (`is_safe`); else the right side has a block of its own. As conditions they are
+//! control: the left side leads to the block of the right side where it does not decide, and `~`
+//! exchanges the targets.
 //!
 //! Read `specs/` in this order: `Typing` (what a resolved tree is before code is selected for it),
-//! `Targets`, `Indexes`, and `Selects` (what code for a tree does).
+//! `Targets`, `Indexes`, and `Selects` (what code for a tree does). The files of `proofs/` have a
+//! lemma for each form; `Arms` and `Walking` join them to the functions of `select`.
 #![tactic(auto)]
 
 pub mod constant;
+pub mod element;
 pub mod index;
+pub mod laws;
+pub mod load;
+pub mod number;
+pub mod operator;
 pub mod parts;
 pub mod root;
+pub mod select;
+pub mod split;
 pub mod target;
 
+pub use select::{select_expr, select_test, select_var};
 pub use target::{Ctx, Setting, Target};

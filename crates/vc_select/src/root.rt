@@ -1,6 +1,7 @@
 // Variables without selectors.
 
-ghost use Rattle.std.specs.Prelude.{◌≡◌, slice_get};
+ghost use Rattle.std.specs.Prelude.{◌≡◌, Some, slice_get};
+ghost use Rattle.ob_mean.specs.Designators.{type_in as type_in_proc, root_type as root_type_of};
 ghost use Rattle.vc_select.specs.Targets.{at_base as base_target, home_in as home_of};
 ghost use Rattle.vc_select.specs.Targets.{home_target as target_of_home, by_var_of};
 ghost use Rattle.vc_select.specs.Targets.{root_target as target_of_root};
@@ -72,5 +73,37 @@ pub fn root_target(setting: &Setting<'_>, root: Root) -> Target
             home_target(by_var, home_in(setting.params, k))
         }
         Root::Local(k) => home_target(false, home_in(setting.locals, k)),
+    }
+}
+
+fn type_in(proc: &CheckedProc, root: Root) -> u32
+    ensures { result ≡ type_in_proc (Some proc.now) root }
+{
+    match root {
+        Root::Module(_) => 0,
+        Root::Param(k) => match proc.params.get(k as usize) {
+            Some(param) => param.type_id,
+            None => 0,
+        },
+        Root::Local(k) => match proc.locals.get(k as usize) {
+            Some(local) => local.type_id,
+            None => 0,
+        },
+    }
+}
+
+/// The type of a variable, or 0.
+pub fn root_type(setting: &Setting<'_>, root: Root) -> u32
+    ensures { result ≡ root_type_of setting.now.program.now setting.now.id.0 root }
+{
+    match root {
+        Root::Module(n) => match setting.program.vars.get(n as usize) {
+            Some(var) => var.type_id,
+            None => 0,
+        },
+        _ => match setting.program.procs.get(setting.id.0 as usize) {
+            Some(found) => type_in(found, root),
+            None => 0,
+        },
     }
 }

@@ -3,7 +3,6 @@ use Rattle.std.specs.Prelude.{pos}
 use Rattle.std.specs.Int.{w32}
 use Rattle.std.proofs.lemmas.Int.{to_z-of_z}
 use Rattle.pra_base.specs.Words.{word, signed}
-use Rattle.ob_syntax.specs.Operators.{operated}
 use Rattle.ob_syntax.specs.declared.checked.ROp.TheVariants.{Mul}
 use Rattle.pra_base.specs.declared.code.VarKind.TheVariants.{Constant}
 use Rattle.pra_base.specs.declared.code.VProc.{VProc}
@@ -26,4 +25,4 @@ returns-clause-scales c =
     ∙ ap (λ n. with_variable (Constant (signed (word n))) old) c.in_ok-number.ensures.is
     ∙ ap (λ n. with_variable (Constant n) old) (to_z-of_z w32 (pos c.args.words) (fits_count c.args.words c.in_ok-number.ensures.small)) in
     scales_by c.args.first c.args.at.0 old c.select_arithmetic.new.code c.args.index.0 c.in_ok-factor.factor.0 c.args.words c.in_ok-v.v.0 c.in_ok-number.ensures.small c.in_ok-factor.ensures.number c.requires.first
-    (subst (λ (z : VProc). Operates (operated Mul) c.args.first c.args.at.0 z c.select_arithmetic.new.code c.args.index.0 c.in_ok-factor.factor.0 c.in_ok-v.v.0) made c.in_ok-v.ensures.operates)
+    (subst (λ (z : VProc). Operates Mul c.args.first c.args.at.0 z c.select_arithmetic.new.code c.args.index.0 c.in_ok-factor.factor.0 c.in_ok-v.v.0) made c.in_ok-v.ensures.operates)

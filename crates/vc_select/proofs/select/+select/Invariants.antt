@@ -1,0 +1,19 @@
+use Rattle.std.proofs.Common.{◌≤◌, ℕ, length, drop, map}
+use Rattle.pra_base.specs.declared.code.VProc.{VProc}
+use Rattle.ob_mean.specs.Designators.{root_type}
+use Rattle.ob_mean.specs.Expressions.{selector}
+use Rattle.vc_build.specs.Grow.{IsOpen}
+use Rattle.vc_select.specs.declared.target.Target.{Target}
+use Rattle.vc_select.specs.Selects.{Leads}
+use Rattle.vc_select.specs.Targets.{above_target, above_target_base, root_target}
+use Rattle.vc_select.specs.Typing.{leading}
+use Rattle.vc_select.proofs.select.+select.Given as goal
+
+-- what leads from here along the selectors that are left leads from the root along all of them
+abbrev pub invariant-select_var-loop-step : goal.invariant-select_var-loop-step
+invariant-select_var-loop-step l =
+    IsOpen l.ctx.code l.ctx.at.0 × (length l.fn.ctx.code.vars ≤ length l.ctx.code.vars) × (above_target l.target ≤ length l.ctx.code.vars) × (above_target_base l.target ≤ l.first)
+    × ((new : VProc) (to : ℕ) (end : Target) →
+    Leads l.setting l.first l.ctx.code new l.ctx.at.0 to l.target end l.type_id (map (leading l.setting.program.now l.setting.id.0) (drop l.step-index l.step-items)) (map (selector l.setting.program.now) (drop l.step-index l.step-items)) →
+    Leads l.setting l.first l.fn.ctx.code new l.fn.ctx.at.0 to (root_target l.setting.program.now l.setting.params.now l.setting.locals.now l.setting.id.0 l.v.root) end (root_type l.setting.program.now l.setting.id.0 l.v.root)
+    (map (leading l.setting.program.now l.setting.id.0) l.v.steps) (map (selector l.setting.program.now) l.v.steps))
