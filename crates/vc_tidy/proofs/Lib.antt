@@ -1,2 +1,4 @@
+pub mod Joining
 pub mod Marking
+pub mod Pairs
 pub mod Thin

@@ -170,7 +170,7 @@ module _ (code : VProc) (l : Liveness) (valid_ : IsValid code) (sized : IsSized 
   abbrev Varies : ℕ → Type 0
   Varies v = (n : ℤ) → kind_of code v ≡ Constant n → ⊥
 
-  live_as : (v b layer : ℕ) → Varies v → ReadBeforeWritten code v (record { block = b; index = layer / 2 }) → Live code v b layer
+  pub live_as : (v b layer : ℕ) → Varies v → ReadBeforeWritten code v (record { block = b; index = layer / 2 }) → Live code v b layer
   live_as v b layer varies needed = by (kind_of code v) refl
     where
       by : (k : VarKind) → kind_of code v ≡ k → LiveAs k code v b layer

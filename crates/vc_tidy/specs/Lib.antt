@@ -1,2 +1,3 @@
+pub mod Joined
 pub mod Thinned
 pub mod Tidy

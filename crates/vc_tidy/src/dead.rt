@@ -80,7 +80,8 @@ fn thin_blocks(alloc: Global, code: &VProc, liveness: &Liveness) -> Result<Vec<B
     Ok(blocks)
 }
 
-fn total(blocks: &[Block]) -> usize
+/// How many instructions there are.
+pub fn total(blocks: &[Block]) -> usize
     requires { instruction_count blocks.now ≤ most_instructions }
     ensures { result ≡ instruction_count blocks.now }
 {
@@ -91,7 +92,8 @@ fn total(blocks: &[Block]) -> usize
     total
 }
 
-fn with_blocks(alloc: Global, code: &VProc, blocks: Vec<Block>) -> Result<VProc, AllocError>
+/// The code with other blocks.
+pub fn with_blocks(alloc: Global, code: &VProc, blocks: Vec<Block>) -> Result<VProc, AllocError>
     ensures { IfOk result (λ new. new ≡ record code.now { blocks = blocks.items }) }
 {
     let vars = Seq::from_slice(alloc, code.vars.as_slice())?;
