@@ -1,5 +1,4 @@
--- Code under construction that keeps the rules of valid and of sized code as far as it has come,
--- and how much is added to it.
+-- Code under construction that keeps the rules of valid and of sized code as far as it has come.
 use Rattle.std.specs.Prelude.{◌≡◌, ◌≢◌, ℕ, suc, ◌<◌, ◌⊎◌, Bool, true, false, ℤ, pos, ◌≤ℤ◌}
 use Rattle.std.specs.Prelude.{List, length, Some, slice_get, slice_index_or}
 use Rattle.pra_base.specs.declared.ids.BlockId.{BlockId}
