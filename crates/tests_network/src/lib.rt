@@ -1,7 +1,7 @@
-//! Tests of the public calls on networks: the lists of worked networks.
+//! Tests of the public calls on networks: worked networks written out.
 //!
 //! Nothing here is used by another crate.
 #![tactic(auto)]
 
 #[cfg(test)]
-mod lists_tests;
+mod build_tests;

@@ -1,0 +1,442 @@
+// Networks written out: the two worked ones, a call with a parameter over it, a loop whose strands
+// are tied, and blocks that are empty, that nothing reaches, or that lead to themselves.
+
+use net_build::build;
+use net_form::{Net, Strand};
+use pra_base::{
+    Addr, Base, Block, BlockId, Cond, End, OutOfMemory, ProcId, VInstr, VProc, VarId, VarKind,
+};
+use pra_list::Seq;
+use std::alloc::{AllocError, Global};
+use std::test::Fail;
+use vc_live::{is_sized, live};
+
+// A strand on a line: variable, block, first and last layer, whether it is a constant, the groups
+// of its ends, and its masks.
+fn put_strand(alloc: Global, text: &mut String, strand: &Strand) -> Result<(), AllocError> {
+    let run = format!(in alloc;
+        "strand {} {} {} {} {}",
+        strand.var.0, strand.block.0, strand.first, strand.last, strand.constant
+    )?;
+    text.push_str(&run)?;
+    put_group(alloc, text, strand.entry_group)?;
+    put_group(alloc, text, strand.exit_group)?;
+    for mask in strand.masks.as_slice() {
+        text.push_str(&format!(in alloc; " {mask:x}")?)?;
+    }
+    text.push_str("\n")
+}
+
+fn put_group(alloc: Global, text: &mut String, group: Option<u32>) -> Result<(), AllocError> {
+    match group {
+        None => text.push_str(" -"),
+        Some(number) => text.push_str(&format!(in alloc; " {number}")?),
+    }
+}
+
+fn put_lists(alloc: Global, text: &mut String, net: &Net) -> Result<(), AllocError> {
+    for extra in net.extras.as_slice() {
+        let line = format!(in alloc;
+            "extra {} {} {} {:?}\n",
+            extra.strand,
+            extra.layer,
+            extra.place.number(),
+            extra.event
+        )?;
+        text.push_str(&line)?;
+    }
+    for pair in net.pairs.as_slice() {
+        let line = format!(in alloc;
+            "pair {} {} {} {}\n",
+            pair.left, pair.left_layer, pair.right, pair.right_layer
+        )?;
+        text.push_str(&line)?;
+    }
+    for tie in net.ties.as_slice() {
+        text.push_str(&format!(in alloc; "tie {} {}\n", tie.from, tie.to)?)?;
+    }
+    Ok(())
+}
+
+// Numbers behind a word.
+fn put_numbers(
+    alloc: Global,
+    text: &mut String,
+    word: &str,
+    numbers: &Seq<u32>,
+) -> Result<(), AllocError> {
+    text.push_str(word)?;
+    for number in numbers.as_slice() {
+        text.push_str(&format!(in alloc; " {number}")?)?;
+    }
+    text.push_str("\n")
+}
+
+fn put_index(alloc: Global, text: &mut String, net: &Net) -> Result<(), AllocError> {
+    let index = &net.index;
+    put_numbers(alloc, text, "layers", &index.layers)?;
+    put_numbers(alloc, text, "extras", &index.extras)?;
+    put_numbers(alloc, text, "pairs", &index.pairs)?;
+    text.push_str("ends")?;
+    for end in index.ends.as_slice() {
+        text.push_str(&format!(in alloc; " {}:{}", end.layer, end.pair)?)?;
+    }
+    text.push_str("\n")?;
+    put_numbers(alloc, text, "exits", &index.exits)?;
+    put_numbers(alloc, text, "entries", &index.entries)?;
+    put_numbers(alloc, text, "arrivals", &index.arrivals)
+}
+
+fn text_of(alloc: Global, net: &Net) -> Result<String, AllocError> {
+    let mut text = format!(in alloc; "near {}\n", net.near)?;
+    for block in net.blocks.as_slice() {
+        text.push_str(&format!(in alloc; "block {} {}\n", block.depth, block.layers)?)?;
+    }
+    for strand in net.strands.as_slice() {
+        put_strand(alloc, &mut text, strand)?;
+    }
+    put_lists(alloc, &mut text, net)?;
+    text.push_str(&format!(in alloc; "groups {}\n", net.groups)?)?;
+    put_index(alloc, &mut text, net)?;
+    Ok(text)
+}
+
+fn network(alloc: Global, code: &VProc) -> Result<String, OutOfMemory> {
+    if !is_sized(code) {
+        return Ok(String::new(alloc));
+    }
+    let live = live(alloc, code)?;
+    let net = build(alloc, code, &live)?;
+    Ok(text_of(alloc, &net)?)
+}
+
+fn block(alloc: Global, depth: u32, code: &[VInstr], end: End) -> Result<Block, AllocError> {
+    Ok(Block {
+        depth,
+        code: Seq::from_slice(alloc, code)?,
+        end,
+    })
+}
+
+// A procedure of one block, with no arguments.
+fn one_block(alloc: Global, vars: &[VarKind], code: &[VInstr]) -> Result<VProc, AllocError> {
+    let mut blocks = Seq::new(alloc);
+    blocks.push(block(alloc, 0, code, End::Return)?)?;
+    Ok(VProc {
+        id: ProcId(0),
+        args: 0,
+        aggregates: 0,
+        vars: Seq::from_slice(alloc, vars)?,
+        blocks,
+    })
+}
+
+fn write_code(alloc: Global) -> Result<VProc, AllocError> {
+    let code = [VInstr::Write(VarId(0)), VInstr::Line];
+    one_block(alloc, &[VarKind::Constant(7)], &code)
+}
+
+const WRITE: &str = "near true
+block 0 6
+strand 0 0 1 1 true - - 1
+groups 0
+layers 0 6
+extras 0 0
+pairs 0 0
+ends
+exits 0 0
+entries 0 0
+arrivals
+";
+
+fn sum_code(alloc: Global) -> Result<VProc, AllocError> {
+    let code = [
+        VInstr::Set(VarId(0), 3),
+        VInstr::Add(VarId(0), VarId(1)),
+        VInstr::Write(VarId(0)),
+    ];
+    one_block(alloc, &[VarKind::Plain, VarKind::Constant(4)], &code)
+}
+
+const SUM: &str = "near true
+block 0 8
+strand 0 0 2 5 false - - 7f 7f 7f 101
+strand 1 0 3 3 true - - bf
+extra 0 2 6 E8
+extra 0 3 6 E6
+extra 1 3 7 E10
+pair 0 3 1 3
+groups 0
+layers 0 8
+extras 0 2 3
+pairs 0 1 2
+ends 3:0 3:0
+exits 0 0 0
+entries 0 0 0
+arrivals
+";
+
+// A block that leads to itself, an empty one behind it, and one that nothing reaches.
+fn around_code(alloc: Global) -> Result<VProc, AllocError> {
+    let mut blocks = Seq::new(alloc);
+    let set = [VInstr::Set(VarId(0), 5)];
+    blocks.push(block(alloc, 0, &set, End::Jump(BlockId(1)))?)?;
+    let count = [
+        VInstr::Sub(VarId(0), VarId(1)),
+        VInstr::Cmp(VarId(0), VarId(1)),
+    ];
+    let again = End::Branch(Cond::G, BlockId(1), BlockId(2));
+    blocks.push(block(alloc, 1, &count, again)?)?;
+    blocks.push(block(alloc, 0, &[], End::Jump(BlockId(4)))?)?;
+    blocks.push(block(alloc, 0, &set, End::Jump(BlockId(4)))?)?;
+    blocks.push(block(alloc, 0, &[VInstr::Write(VarId(0))], End::Return)?)?;
+    Ok(VProc {
+        id: ProcId(0),
+        args: 0,
+        aggregates: 0,
+        vars: Seq::from_slice(alloc, &[VarKind::Plain, VarKind::Constant(1)])?,
+        blocks,
+    })
+}
+
+const AROUND: &str = "near true
+block 0 4
+block 1 6
+block 0 2
+block 0 4
+block 0 4
+strand 0 0 2 3 false - 0 7f 3f7f
+strand 0 1 0 5 false 0 0 3f7f 7f 7f 3f7f 3f7f 3f7f
+strand 1 1 1 3 true - - bf bf bf
+strand 0 2 0 1 false 0 1 3f7f 3f7f
+strand 0 3 2 3 false - 1 7f 3f7f
+strand 0 4 0 1 false 1 - 3f7f 101
+extra 0 2 6 E8
+extra 1 1 6 E6
+extra 1 3 6 E6
+extra 2 1 7 E10
+extra 2 3 7 E10
+extra 4 2 6 E8
+pair 1 1 2 1
+pair 1 3 2 3
+tie 0 1
+tie 1 1
+tie 1 3
+tie 3 5
+tie 4 5
+groups 2
+layers 0 4 10 12 16 20
+extras 0 1 3 5 5 6 6
+pairs 0 0 2 4 4 4 4
+ends 1:0 3:1 1:0 3:1
+exits 0 1 3 3 4 5 5
+entries 0 0 2 2 3 3 5
+arrivals 0 1 2 3 4
+";
+
+fn call_code(alloc: Global) -> Result<VProc, AllocError> {
+    let mut blocks = Seq::new(alloc);
+    let code = Seq::from_slice(
+        alloc,
+        &[
+            VInstr::Read(VarId(1)),
+            VInstr::Read(VarId(1)),
+            VInstr::Push(VarId(1)),
+            VInstr::Push(VarId(1)),
+            VInstr::Call(ProcId(2)),
+            VInstr::Cmp(VarId(0), VarId(0)),
+            VInstr::Neg(VarId(0)),
+            VInstr::Store(
+                Addr {
+                    base: Base::Global(0),
+                    offset: 0,
+                    index: Some(VarId(1)),
+                },
+                VarId(7),
+            ),
+        ],
+    )?;
+    blocks.push(Block {
+        depth: 1,
+        code,
+        end: End::Return,
+    })?;
+    let vars = Seq::from_slice(
+        alloc,
+        &[
+            VarKind::Param(0),
+            VarKind::Plain,
+            VarKind::Plain,
+            VarKind::Plain,
+            VarKind::Plain,
+            VarKind::Constant(-128),
+            VarKind::Constant(127),
+            VarKind::Constant(-128),
+        ],
+    )?;
+    Ok(VProc {
+        id: ProcId(0),
+        args: 3,
+        aggregates: 0,
+        vars,
+        blocks,
+    })
+}
+
+const CALL: &str = "near true
+block 1 18
+strand 0 0 0 14 false - - 40 3f7f 3f7f 3f7f 3f7f 3f7f 3f7f 3f7f 3f7f 3878 3878 3f3f 3f7f 7f 7f
+strand 1 0 2 2 false - - 1
+strand 1 0 4 15 false - - 1 3f7f 3f7f 3f7f 3f7f 3878 3878 3f7f 3f7f 3f7f 3f7f 3f3f
+strand 7 0 15 15 true - - bf
+extra 0 13 6 E6
+extra 2 5 6 E8
+extra 2 7 6 E8
+extra 3 15 7 E11
+groups 0
+layers 0 18
+extras 0 1 1 3 4
+pairs 0 0 0 0 0
+ends
+exits 0 0 0 0 0
+entries 0 0 0 0 0
+arrivals
+";
+
+fn repeat_code(alloc: Global) -> Result<VProc, AllocError> {
+    let mut blocks = Seq::new(alloc);
+    let code = Seq::from_slice(
+        alloc,
+        &[
+            VInstr::Set(VarId(2), 1),
+            VInstr::Set(VarId(4), 1),
+            VInstr::Copy(VarId(3), VarId(2)),
+        ],
+    )?;
+    blocks.push(Block {
+        depth: 0,
+        code,
+        end: End::Jump(BlockId(1)),
+    })?;
+    let code = Seq::from_slice(alloc, &[VInstr::CheckPos(VarId(3))])?;
+    blocks.push(Block {
+        depth: 1,
+        code,
+        end: End::Jump(BlockId(2)),
+    })?;
+    let code = Seq::from_slice(
+        alloc,
+        &[
+            VInstr::Sub(VarId(1), VarId(4)),
+            VInstr::Addr(
+                VarId(4),
+                Addr {
+                    base: Base::Global(0),
+                    offset: 4,
+                    index: None,
+                },
+            ),
+            VInstr::Cmp(VarId(3), VarId(1)),
+        ],
+    )?;
+    blocks.push(Block {
+        depth: 1,
+        code,
+        end: End::Branch(Cond::B, BlockId(3), BlockId(1)),
+    })?;
+    let code = Seq::from_slice(
+        alloc,
+        &[
+            VInstr::Push(VarId(6)),
+            VInstr::Call(ProcId(2)),
+            VInstr::Write(VarId(1)),
+        ],
+    )?;
+    blocks.push(Block {
+        depth: 0,
+        code,
+        end: End::Return,
+    })?;
+    let vars = Seq::from_slice(
+        alloc,
+        &[
+            VarKind::Param(0),
+            VarKind::Param(1),
+            VarKind::Plain,
+            VarKind::Plain,
+            VarKind::Plain,
+            VarKind::Constant(-129),
+            VarKind::Constant(-129),
+            VarKind::Constant(1),
+        ],
+    )?;
+    Ok(VProc {
+        id: ProcId(0),
+        args: 2,
+        aggregates: 0,
+        vars,
+        blocks,
+    })
+}
+
+const REPEAT: &str = "near true
+block 0 8
+block 1 4
+block 1 8
+block 0 8
+strand 1 0 0 7 false - 0 40 3f7f 3f7f 3f7f 3f7f 3f7f 3f7f 3f7f
+strand 2 0 2 5 false - - 7f 3f7f 3f7f 3f7f
+strand 4 0 4 7 false - 1 7f 3f7f 3f7f 3f7f
+strand 3 0 6 7 false - 2 7f 3f7f
+strand 1 1 0 3 false 0 3 3f7f 3f7f 3f7f 3f7f
+strand 3 1 0 3 false 2 4 3f7f 3f7f 3f7f 3f7f
+strand 4 1 0 3 false 1 5 3f7f 3f7f 3f7f 3f7f
+strand 1 2 0 7 false 3 0 3f7f 7f 7f 3f7f 3f7f 3f7f 3f7f 3f7f
+strand 3 2 0 7 false 4 2 3f7f 3f7f 3f7f 3f7f 3f7f 3f7f 3f7f 3f7f
+strand 4 2 0 1 false 5 - 3f7f 3f7f
+strand 4 2 4 7 false - 1 3f 3f7f 3f7f 3f7f
+strand 1 3 0 5 false 0 - 3f7f 3f7f 3f7f 3878 3878 101
+strand 6 3 1 1 true - - bf
+extra 1 2 6 E8
+extra 1 5 6 E6
+extra 2 4 6 E8
+extra 3 6 6 E6
+extra 5 1 6 E6
+extra 7 1 6 E6
+extra 7 5 6 E6
+extra 8 5 6 E6
+extra 9 1 6 E6
+extra 12 1 7 E11
+pair 1 5 3 6
+pair 7 1 9 1
+pair 8 5 7 5
+tie 0 4
+tie 2 6
+tie 3 5
+tie 4 7
+tie 5 8
+tie 6 9
+tie 7 4
+tie 7 11
+tie 8 5
+tie 10 6
+groups 6
+layers 0 8 12 20 28
+extras 0 0 2 3 4 4 5 5 7 8 9 9 9 10
+pairs 0 0 1 1 2 2 2 2 4 5 6 6 6 6
+ends 5:0 6:0 1:1 5:2 5:2 1:1
+exits 0 1 1 2 3 4 5 6 8 9 9 10 10 10
+entries 0 0 0 0 0 2 4 6 7 8 9 9 10 10
+arrivals 0 6 2 8 1 9 3 4 5 7
+";
+
+#[test]
+fn networks_written_out(rt: HostRuntime) -> Result<(), Fail> {
+    let alloc = rt.alloc();
+    assert_eq!(rt; network(alloc, &write_code(alloc)?)?.as_str(), WRITE);
+    assert_eq!(rt; network(alloc, &sum_code(alloc)?)?.as_str(), SUM);
+    assert_eq!(rt; network(alloc, &around_code(alloc)?)?.as_str(), AROUND);
+    assert_eq!(rt; network(alloc, &call_code(alloc)?)?.as_str(), CALL);
+    assert_eq!(rt; network(alloc, &repeat_code(alloc)?)?.as_str(), REPEAT);
+    Ok(())
+}
