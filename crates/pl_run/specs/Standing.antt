@@ -19,8 +19,8 @@ use Rattle.pl_place.specs.Machine as placed
 use Rattle.pl_place.specs.Machine.{Cells, proc_of, at_cell, operand, behind, next_of}
 use Rattle.pl_place.specs.Machine.{shape, placed_machine, begun}
 use Rattle.pl_run.specs.declared.code.Code.{Code}
-use Rattle.pl_run.specs.declared.cell.Site.{Site}
-use Rattle.pl_run.specs.declared.cell.Site.TheVariants as site
+use Rattle.pl_run.specs.declared.cell.Spot.{Spot}
+use Rattle.pl_run.specs.declared.cell.Spot.TheVariants as spot
 use Rattle.pl_run.specs.declared.cell.Cell.{Cell}
 use Rattle.pl_run.specs.declared.cell.Cell.TheVariants as cell
 use Rattle.pl_run.specs.declared.frame.Frame.{Frame}
@@ -32,10 +32,10 @@ use Rattle.pl_run.specs.Code.{block_in}
 
 -- ---- cells
 
-abbrev pub spot_of : Site → placed.Spot
-spot_of (site.Slot k) = placed.Slot k
-spot_of (site.Argument i) = placed.Argument i
-spot_of site.Nowhere = placed.Nowhere
+abbrev pub spot_of : Spot → placed.Spot
+spot_of (spot.Slot k) = placed.Slot k
+spot_of (spot.Argument i) = placed.Argument i
+spot_of spot.Nowhere = placed.Nowhere
 
 abbrev pub cell_of : Cell → meaning.Cell
 cell_of (cell.Register r) = meaning.Register r

@@ -16,7 +16,7 @@ const FIRST_BOTH: u8 = 8;
 
 /// The memory of a variable.
 #[derive(Clone, Copy)]
-pub enum Site {
+pub enum Spot {
     Slot(usize),
     Argument(u32),
     Nowhere,
@@ -47,16 +47,16 @@ fn slot_of(p: &LProc, v: VarId) -> Option<usize>
 }
 
 /// Where the variable's memory is.
-pub fn site_of(p: &LProc, v: VarId) -> Site
+pub fn memory_of(p: &LProc, v: VarId) -> Spot
     ensures { spot_of result ≡ spot p.now v.0 }
 {
     match kind_of(p, v) {
-        VarKind::Param(i) => Site::Argument(i),
+        VarKind::Param(i) => Spot::Argument(i),
         VarKind::Plain => match slot_of(p, v) {
-            Some(k) => Site::Slot(k),
-            None => Site::Nowhere,
+            Some(k) => Spot::Slot(k),
+            None => Spot::Nowhere,
         },
-        VarKind::Constant(_) => Site::Nowhere,
+        VarKind::Constant(_) => Spot::Nowhere,
     }
 }
 

@@ -16,7 +16,7 @@ ghost use Rattle.pl_place.specs.Machine.{put as put_of, put_all as put_all_of, c
 ghost use Rattle.pl_run.specs.Code.{role_var};
 ghost use Rattle.pl_run.specs.Standing.{spot_of, cell_of, where_done, with_frame};
 
-use crate::cell::{Cell, Site, first_cell, register, site_of};
+use crate::cell::{Cell, Spot, first_cell, register, memory_of};
 use arrayvec::ArrayVec;
 use pl_moves::Move;
 use pl_place::LProc;
@@ -86,38 +86,38 @@ fn kept(clobbers: u8, place: Place, held: Held) -> Held
 }
 
 impl Frame {
-    fn in_site(&self, site: Site) -> Option<Held>
-        ensures { (c : Activation Cells) → result ≡ in_spot (with_frame c self.now) (spot_of site) }
+    fn in_memory(&self, spot: Spot) -> Option<Held>
+        ensures { (c : Activation Cells) → result ≡ in_spot (with_frame c self.now) (spot_of spot) }
     {
-        match site {
-            Site::Slot(k) => last_get(&self.slots, k),
-            Site::Argument(i) => last_get(&self.args, i as usize),
-            Site::Nowhere => None,
+        match spot {
+            Spot::Slot(k) => last_get(&self.slots, k),
+            Spot::Argument(i) => last_get(&self.args, i as usize),
+            Spot::Nowhere => None,
         }
     }
 
-    fn put_site(&mut self, site: Site, h: Held) -> bool
+    fn put_memory(&mut self, spot: Spot, h: Held) -> bool
         ensures { (c : Activation Cells) →
-            if_there (in_spot (with_frame c self.old) (spot_of site))
-            (with_spot (with_frame c self.old) (spot_of site) h)
+            if_there (in_spot (with_frame c self.old) (spot_of spot))
+            (with_spot (with_frame c self.old) (spot_of spot) h)
             ≡ where_done result (with_frame c self.new) }
     {
-        match site {
-            Site::Slot(k) => match last_get(&self.slots, k) {
+        match spot {
+            Spot::Slot(k) => match last_get(&self.slots, k) {
                 None => false,
                 Some(_) => {
                     set_last(&mut self.slots, k, h);
                     true
                 }
             },
-            Site::Argument(i) => match last_get(&self.args, i as usize) {
+            Spot::Argument(i) => match last_get(&self.args, i as usize) {
                 None => false,
                 Some(_) => {
                     set_last(&mut self.args, i as usize, h);
                     true
                 }
             },
-            Site::Nowhere => false,
+            Spot::Nowhere => false,
         }
     }
 
@@ -149,7 +149,7 @@ impl Frame {
     {
         match cell {
             Cell::Register(r) => self.in_register(r),
-            Cell::Memory(v) => self.in_site(site_of(p, v)),
+            Cell::Memory(v) => self.in_memory(memory_of(p, v)),
             Cell::Fixed(n) => Some(Some(Value::Num(word(n)))),
         }
     }
@@ -162,7 +162,7 @@ impl Frame {
     {
         match cell {
             Cell::Register(r) => self.put_register(r, h),
-            Cell::Memory(v) => self.put_site(site_of(p, v), h),
+            Cell::Memory(v) => self.put_memory(memory_of(p, v), h),
             Cell::Fixed(_) => false,
         }
     }

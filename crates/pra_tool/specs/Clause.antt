@@ -16,7 +16,8 @@ use Rattle.pra_tool.specs.declared.words.WordsFault.{WordsFault}
 use Rattle.pra_tool.specs.Language.{Program, IsAccepted, meaning}
 use Rattle.pra_tool.specs.Status.{IsStatusOf}
 use Rattle.pra_tool.specs.Words.{Asked}
-use Rattle.pra_tool.specs.Texts.{output_text, ending_line, fault_line, words_lines}
+use Rattle.pra_report.specs.Texts.{output_text}
+use Rattle.pra_tool.specs.Texts.{ending_line, fault_line, words_lines}
 use Rattle.pra_tool.specs.Outside.{Seen, Refused, Untouched}
 use Rattle.pra_tool.specs.Writes.{FileText, Writes}
 use Rattle.pra_tool.specs.Modes.{Mode, Answers}

@@ -1,10 +1,8 @@
 -- The texts that the program writes.
 use Rattle.std.specs.Prelude.{ℕ, List, [], ◌∷◌, ◌++◌, codes}
-use Rattle.std.specs.Fmt.{decimal, signed_decimal}
+use Rattle.std.specs.Fmt.{decimal}
 use Rattle.pra_base.specs.declared.event.TrapKind.{TrapKind}
 use Rattle.pra_base.specs.declared.event.TrapKind.TheVariants as trap
-use Rattle.pra_base.specs.declared.event.OutEvent.{OutEvent}
-use Rattle.pra_base.specs.declared.event.OutEvent.TheVariants.{Number, Line}
 use Rattle.ia_step.specs.declared.out.Ending.{Ending}
 use Rattle.ia_step.specs.declared.out.Ending.TheVariants.{Going, Ended, Trap, Fault}
 use Rattle.ia_step.specs.declared.out.RunOut.{RunOut}
@@ -21,15 +19,6 @@ use Rattle.ob_read.specs.declared.fault.LimitFault.TheVariants.{Count, Depth}
 use Rattle.pra_small.specs.declared.fault.CompileFault.{CompileFault}
 use Rattle.pra_small.specs.declared.fault.CompileFault.TheVariants.{Source, Limit, Unbuilt}
 use Rattle.pra_small.specs.declared.fault.CompileFault.TheVariants.{OutOfMemory}
-
--- Write prints one blank and the decimal number, WriteLn one LF
-abbrev pub event_text : OutEvent → List ℕ
-event_text (Number n) = codes " " ++ signed_decimal n
-event_text Line = codes "\n"
-
-abbrev pub output_text : List OutEvent → List ℕ
-output_text [] = []
-output_text (event ∷ events) = event_text event ++ output_text events
 
 abbrev pub trap_name : TrapKind → List ℕ
 trap_name trap.Index = codes "Index"

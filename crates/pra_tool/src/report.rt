@@ -11,13 +11,14 @@ ghost use Rattle.pra_tool.specs.Reports.{asked_by, file_text, writes_of};
 ghost use Rattle.pra_tool.specs.Clause.{run_of, RunMakes};
 
 use crate::status::Status;
-use crate::texts::{ending_line, output_text};
+use crate::texts::ending_line;
 use crate::words::Request;
 use ia_asm::image_bytes;
 use ia_code::Image;
 use ia_step::{Machine, RunOut};
 use pra_base::OutOfMemory;
 use pra_io::{FileFault, Folder, Sink, write_all};
+use pra_report::output_text;
 use pra_small::{CompileFault, compile};
 use std::alloc::Global;
 

@@ -2,7 +2,7 @@
 
 ghost use Rattle.std.specs.Prelude.{◌≡◌, ◌++◌, codes, IfOk, OnOk, string_bytes};
 ghost use Rattle.std.specs.Fmt.{decimal};
-ghost use Rattle.pra_tool.specs.Texts.{event_text, output_text, trap_name, ending_words};
+ghost use Rattle.pra_tool.specs.Texts.{trap_name, ending_words};
 ghost use Rattle.pra_tool.specs.Texts.{ending_line, lexical_line, place_text, count_line};
 ghost use Rattle.pra_tool.specs.Texts.{fault_line, words_lines};
 
@@ -10,35 +10,10 @@ use crate::words::{Word, WordsFault};
 use ia_step::{Ending, RunOut};
 use ob_lex::LexFault;
 use ob_read::{LimitFault, SourceFault};
-use pra_base::{LimitKind, OutEvent, OutOfMemory, TrapKind};
+use pra_base::{LimitKind, OutOfMemory, TrapKind};
 use pra_small::CompileFault;
 use std::alloc::{AllocError, Global};
 use std::fmt::Write;
-
-/// The text of a program's output: for each number one blank and its decimal digits, for each end
-/// of a line one LF.
-///
-/// # Errors
-///
-/// Where there is no memory for the text.
-pub fn output_text(alloc: Global, events: &[OutEvent]) -> Result<Vec<u8>, OutOfMemory>
-    ensures { IfOk result (λ text. text.items ≡ output_text events.now) }
-{
-    let mut text = String::new(alloc);
-    for event in events {
-        push_event(&mut text, *event)?;
-    }
-    Ok(text.into_bytes())
-}
-
-fn push_event(text: &mut String, event: OutEvent) -> Result<(), AllocError>
-    ensures { OnOk result (string_bytes text.new ≡ string_bytes text.old ++ event_text event) }
-{
-    match event {
-        OutEvent::Number(n) => write!(text, " {n}"),
-        OutEvent::Line => text.push('\n'),
-    }
-}
 
 /// The line that tells how a run ended, how many steps it made and how many input words it took.
 ///

@@ -1,6 +1,0 @@
-use Rattle.std.proofs.Common.{◌≡◌, ◌++◌, drop, string_bytes}
-use Rattle.pra_tool.specs.Texts.{output_text}
-use Rattle.pra_tool.proofs.texts.output_text.Given as goal
-
-abbrev pub invariant-loop-event : goal.invariant-loop-event
-invariant-loop-event l = string_bytes l.text ++ output_text (drop l.event-index l.events) ≡ output_text l.events
