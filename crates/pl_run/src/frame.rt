@@ -16,7 +16,7 @@ ghost use Rattle.pl_place.specs.Machine.{put as put_of, put_all as put_all_of, c
 ghost use Rattle.pl_run.specs.Code.{role_var};
 ghost use Rattle.pl_run.specs.Standing.{spot_of, cell_of, where_done, with_frame};
 
-use crate::cell::{Cell, Spot, first_cell, register, memory_of};
+use crate::cell::{Cell, Spot, first_cell, memory_of, register};
 use arrayvec::ArrayVec;
 use pl_moves::Move;
 use pl_place::LProc;
