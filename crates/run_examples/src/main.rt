@@ -6,7 +6,7 @@
 #![tactic(auto)]
 
 use anyhow::anyhow;
-use ob_read::{MAX_SOURCE, read, resolve};
+use ob_read::{MAX_SOURCE, Parsed, read, resolve};
 use ob_sketch::module::{Reached, run};
 use ob_sketch::running::{Finish, Setting};
 use ob_syntax::Checked;
@@ -64,7 +64,8 @@ fn checked<D: Folder>(alloc: Global, folder: &mut D, name: &str) -> anyhow::Resu
     let bytes = folder.read_file(alloc, &name, MAX_SOURCE);
     let bytes = bytes.map_err(|_| anyhow!("a module can't be read"))?;
     let parsed = read(alloc, &bytes).map_err(|_| anyhow!("no module"))?;
-    let checked = resolve(alloc, &bytes, &parsed.tokens, parsed.tree);
+    let Parsed { tokens, tree } = parsed;
+    let checked = resolve(alloc, &bytes, &tokens, tree);
     checked.map_err(|_| anyhow!("a rule is broken"))
 }
 
