@@ -10,7 +10,7 @@ use Rattle.vc_code.specs.Machine.{State, Machine, step, view}
 use Rattle.vc_code.proofs.LongerRuns.{is_machine}
 use Rattle.pl_place.specs.Machine.{Cells}
 use Rattle.pl_run.specs.declared.machine.Execution.{Execution}
-use Rattle.pl_run.specs.Standing.{told}
+use Rattle.pl_run.specs.Stands.{told}
 
 some_none : {A : Type 0} (x : A) → Some x ≡ None → ⊥
 some_none x e = cc

@@ -5,7 +5,7 @@ use Rattle.vc_code.specs.Machine.{Activation}
 use Rattle.pl_moves.specs.Meaning.{Cell}
 use Rattle.pl_place.specs.declared.placed.LProc.{LProc}
 use Rattle.pl_place.specs.Machine.{Cells, first_held, put_first, put_cell}
-use Rattle.pl_run.specs.Standing.{in_first}
+use Rattle.pl_run.specs.Stands.{in_first}
 
 pub first_held_is : (p : LProc) (c : Activation Cells) (cells : List Cell) (o : Option Cell) → o ≡ slice_get cells 0 → in_first p c o ≡ first_held p c cells
 first_held_is p c [] o is = ap (in_first p c) is

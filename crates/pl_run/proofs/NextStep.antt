@@ -8,7 +8,7 @@ use Rattle.pl_place.specs.declared.placed.LProc.{LProc}
 use Rattle.pl_place.specs.Machine.{Cells, placed_machine, next_of, proc_of}
 use Rattle.pl_run.specs.declared.machine.Execution.{Execution}
 use Rattle.pl_run.specs.Code.{block_in, IsNext}
-use Rattle.pl_run.specs.Standing.{call_of, state_of, rest_from}
+use Rattle.pl_run.specs.Stands.{call_of, state_of, rest_from}
 
 module _ (procs : List LProc) (m : Execution) (p : LProc) (b : LBlock) (P : State Cells → Type 0) (is_p : p ≡ proc_of procs m.top.proc) (is_b : b ≡ block_in p m.top.block) where
   here : b ≡ block_in (proc_of procs m.top.proc) m.top.block

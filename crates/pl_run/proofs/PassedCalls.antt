@@ -16,7 +16,7 @@ use Rattle.pl_place.specs.Machine as placed
 use Rattle.pl_run.specs.declared.call.Call.{Call}
 use Rattle.pl_run.specs.Code.{role_var}
 use Rattle.pl_run.specs.declared.frame.Frame.{Frame}
-use Rattle.pl_run.specs.Standing.{call_of, passed, rest_from, standing, with_frame}
+use Rattle.pl_run.specs.Stands.{call_of, passed, rest_from, standing, with_frame}
 use Rattle.pl_run.proofs.Rows.{reads_are, writes_are, clobbers_are}
 
 -- the call without the registers that a mask destroys, before what is left

@@ -14,7 +14,7 @@ use Rattle.pl_place.specs.declared.placed.LProc.{LProc}
 use Rattle.pl_place.specs.Machine.{Cells}
 use Rattle.pl_run.specs.declared.call.Call.{Call}
 use Rattle.pl_run.specs.declared.machine.Execution.{Execution}
-use Rattle.pl_run.specs.Standing.{call_of, calls_of, calls_in, state_of}
+use Rattle.pl_run.specs.Stands.{call_of, calls_of, calls_in, state_of}
 
 -- ---- lists of calls
 

@@ -6,7 +6,7 @@ ghost use Rattle.vc_code.specs.Machine.{with_argument, zeroed};
 ghost use Rattle.pl_moves.specs.Meaning.{moved};
 ghost use Rattle.pl_place.specs.Machine.{nothing as nothing_of, holding, at_block, proc_of};
 ghost use Rattle.pl_place.specs.Machine.{passed as moved_on};
-ghost use Rattle.pl_run.specs.Standing.{call_of, begun_in, after, rest_from, where_done};
+ghost use Rattle.pl_run.specs.Stands.{call_of, begun_in, after, rest_from, where_done};
 
 use crate::code::Code;
 use crate::frame::{Frame, REGISTERS, last_get, set_last, set_word};

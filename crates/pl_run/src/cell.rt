@@ -6,7 +6,7 @@ ghost use Rattle.pra_base.specs.Places.{number, register_of as register_number};
 ghost use Rattle.pl_moves.specs.Meaning.{reg};
 ghost use Rattle.pl_place.specs.Placed.{kind_of as kind_in, slot_of as slot_in};
 ghost use Rattle.pl_place.specs.Machine.{spot, cells, fixed as fixed_of};
-ghost use Rattle.pl_run.specs.Standing.{spot_of, cell_of};
+ghost use Rattle.pl_run.specs.Stands.{spot_of, cell_of};
 
 use pl_place::LProc;
 use pra_base::{Place, VarId, VarKind};

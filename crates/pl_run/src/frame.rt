@@ -14,7 +14,7 @@ ghost use Rattle.pl_place.specs.Machine.{Cells, in_spot, with_spot, if_there, at
 ghost use Rattle.pl_place.specs.Machine.{holding, operand as operand_of, operands as operands_of};
 ghost use Rattle.pl_place.specs.Machine.{put as put_of, put_all as put_all_of, cleared};
 ghost use Rattle.pl_run.specs.Code.{role_var};
-ghost use Rattle.pl_run.specs.Standing.{spot_of, cell_of, where_done, with_frame};
+ghost use Rattle.pl_run.specs.Stands.{spot_of, cell_of, where_done, with_frame};
 
 use crate::cell::{Cell, Spot, first_cell, memory_of, register};
 use arrayvec::ArrayVec;

@@ -3,7 +3,7 @@
 ghost use Rattle.std.specs.Prelude.{◌≡◌, IfOk, Some, replicate};
 ghost use Rattle.vc_code.specs.Outcome.{progress, run_end_of};
 ghost use Rattle.pl_place.specs.Machine.{start as start_of, lrun};
-ghost use Rattle.pl_run.specs.Standing.{state_of};
+ghost use Rattle.pl_run.specs.Stands.{state_of};
 
 use crate::call::Call;
 use crate::code::Code;

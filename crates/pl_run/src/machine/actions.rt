@@ -6,7 +6,7 @@ ghost use Rattle.vc_code.specs.Machine.{goes_on, with_top, with_compared, with_p
 ghost use Rattle.vc_code.specs.Machine.{with_cleared, with_number, takes, loads, found, object};
 ghost use Rattle.vc_code.specs.Machine.{word_at as word_at_of, with_object, apply as apply_of};
 ghost use Rattle.pl_run.specs.Code.{IsNext};
-ghost use Rattle.pl_run.specs.Standing.{sizes_of, machine_of, after, Makes};
+ghost use Rattle.pl_run.specs.Stands.{sizes_of, machine_of, after, Makes};
 
 use super::Execution;
 use crate::code::Code;

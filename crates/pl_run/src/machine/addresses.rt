@@ -2,7 +2,7 @@
 
 ghost use Rattle.std.specs.Prelude.{◌≡◌, IfOk};
 ghost use Rattle.vc_code.specs.Machine.{depth, here as here_of};
-ghost use Rattle.pl_run.specs.Standing.{calls_of, state_of, sizes_of};
+ghost use Rattle.pl_run.specs.Stands.{calls_of, state_of, sizes_of};
 
 use super::Execution;
 use crate::call::Call;

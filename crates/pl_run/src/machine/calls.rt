@@ -3,7 +3,7 @@
 ghost use Rattle.std.specs.Prelude.{◌≡◌, ◌+◌, ◌<◌, IfOk, OnOk};
 ghost use Rattle.vc_code.specs.Machine.{depth, live_in, entered, enters, returned, found};
 ghost use Rattle.vc_code.specs.Machine.{with_call};
-ghost use Rattle.pl_run.specs.Standing.{state_of, begun_in, after, sizes_of, machine_of, Makes};
+ghost use Rattle.pl_run.specs.Stands.{state_of, begun_in, after, sizes_of, machine_of, Makes};
 
 use super::Execution;
 use super::addresses::bytes_of;

@@ -7,7 +7,7 @@ ghost use Rattle.std.specs.Option.{option_copied, option_map};
 ghost use Rattle.vc_code.specs.Machine.{depth, object, word_at as word_at_of, cell, is_param};
 ghost use Rattle.vc_code.specs.Machine.{with_object, with_calls, with_aggregate, with_argument};
 ghost use Rattle.vc_code.specs.Numbered.{holds_at, has_sum, has_below, words_at, changed_at};
-ghost use Rattle.pl_run.specs.Standing.{call_of, calls_in, calls_under, state_of, sizes_of};
+ghost use Rattle.pl_run.specs.Stands.{call_of, calls_in, calls_under, state_of, sizes_of};
 
 use super::Execution;
 use super::addresses::bytes_of;

@@ -4,7 +4,7 @@ ghost use Rattle.std.specs.Prelude.{◌<◌};
 ghost use Rattle.vc_code.specs.Machine.{goes_to, branched, leave as leave_of, act as act_of};
 ghost use Rattle.vc_code.specs.Machine.{step as step_of};
 ghost use Rattle.pl_place.specs.declared.placed.LInstr.TheVariants as LInstr;
-ghost use Rattle.pl_run.specs.Standing.{machine_of, next_in as next_in_of, Makes};
+ghost use Rattle.pl_run.specs.Stands.{machine_of, next_in as next_in_of, Makes};
 
 use super::Execution;
 use crate::code::{Code, next_in};

@@ -3,7 +3,7 @@ use Rattle.pra_base.specs.System.{run}
 use Rattle.vc_code.specs.Outcome.{progress}
 use Rattle.vc_code.specs.Machine.{Machine, step, view}
 use Rattle.pl_place.specs.Machine.{Cells, placed_machine, start}
-use Rattle.pl_run.specs.Standing.{state_of, told, Leaves}
+use Rattle.pl_run.specs.Stands.{state_of, told, Leaves}
 use Rattle.pl_run.proofs.EndedRuns.{next_run, ended_run}
 use Rattle.pl_run.proofs.run.run_placed.Goals as goal
 

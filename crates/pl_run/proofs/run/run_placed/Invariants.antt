@@ -2,7 +2,7 @@ use Rattle.std.proofs.Common.{◌≡◌}
 use Rattle.pra_base.specs.System.{run}
 use Rattle.vc_code.specs.Machine.{step}
 use Rattle.pl_place.specs.Machine.{placed_machine, start}
-use Rattle.pl_run.specs.Standing.{state_of}
+use Rattle.pl_run.specs.Stands.{state_of}
 use Rattle.pl_run.proofs.run.run_placed.Given as goal
 
 -- the steps that are left, from where the machine stands, are all steps from the start

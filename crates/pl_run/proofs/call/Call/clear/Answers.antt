@@ -2,7 +2,7 @@ use Rattle.std.proofs.Common.{◌∙◌, ap, replicate, Some, rules}
 use Rattle.vc_code.specs.declared.value.Value.TheVariants.{Num}
 use Rattle.vc_code.specs.Value.{Held}
 use Rattle.vc_code.specs.Machine.{with_aggregates}
-use Rattle.pl_run.specs.Standing.{call_of}
+use Rattle.pl_run.specs.Stands.{call_of}
 use Rattle.pl_run.proofs.WrittenWords.{zeroed-replicate}
 use Rattle.pl_run.proofs.call.Call.clear.Goals as goal
 

@@ -1,5 +1,5 @@
 use Rattle.std.proofs.Common.{◌+◌}
-use Rattle.pl_run.specs.Standing.{standing}
+use Rattle.pl_run.specs.Stands.{standing}
 use Rattle.pl_run.proofs.call.Call.make.Goals as goal
 
 pub returns : goal.returns

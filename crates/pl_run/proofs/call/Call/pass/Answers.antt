@@ -2,7 +2,7 @@ use Rattle.std.proofs.Common.{◌+◌, ◌∙◌, ap, sym, map, Some}
 use Rattle.pra_base.specs.Places.{number}
 use Rattle.pl_place.specs.Machine.{put_all}
 use Rattle.pl_run.specs.Code.{role_var}
-use Rattle.pl_run.specs.Standing.{standing, with_frame}
+use Rattle.pl_run.specs.Stands.{standing, with_frame}
 use Rattle.pl_run.proofs.PassedCalls.{passed_is, destroyed_is}
 use Rattle.pl_run.proofs.call.Call.pass.Goals as goal
 

@@ -2,7 +2,7 @@ use Rattle.std.proofs.Common.{◌∙◌, ap}
 use Rattle.pra_base.specs.Places.{number}
 use Rattle.vc_code.specs.Machine.{joined}
 use Rattle.pl_place.specs.Machine.{cells}
-use Rattle.pl_run.specs.Standing.{cell_of, with_frame}
+use Rattle.pl_run.specs.Stands.{cell_of, with_frame}
 use Rattle.std.proofs.Common.{Some, None}
 use Rattle.pl_run.proofs.FirstCell.{first_held_is}
 use Rattle.pl_run.proofs.frame.Frame.operand.Goals as goal

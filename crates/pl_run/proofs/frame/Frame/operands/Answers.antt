@@ -2,7 +2,7 @@ use Rattle.std.proofs.Common.{◌++◌, ◌∙◌, ap, map}
 use Rattle.pra_base.specs.Places.{number}
 use Rattle.pl_place.specs.Machine.{operands}
 use Rattle.pl_run.specs.Code.{role_var}
-use Rattle.pl_run.specs.Standing.{with_frame}
+use Rattle.pl_run.specs.Stands.{with_frame}
 use Rattle.pl_run.proofs.Rows.{reads_are}
 use Rattle.pl_run.proofs.frame.Frame.operands.Goals as goal
 

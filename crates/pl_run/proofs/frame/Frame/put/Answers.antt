@@ -1,7 +1,7 @@
 use Rattle.std.proofs.Common.{◌∙◌}
 use Rattle.pra_base.specs.Places.{number}
 use Rattle.pl_place.specs.Machine.{cells}
-use Rattle.pl_run.specs.Standing.{cell_of, with_frame}
+use Rattle.pl_run.specs.Stands.{cell_of, with_frame}
 use Rattle.pl_run.proofs.FirstCell.{none_put, some_put}
 use Rattle.pl_run.proofs.frame.Frame.put.Goals as goal
 

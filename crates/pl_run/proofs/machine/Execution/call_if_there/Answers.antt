@@ -1,7 +1,7 @@
 use Rattle.std.proofs.Common.{◌∷◌}
 use Rattle.vc_code.specs.Machine.{entered}
 use Rattle.pl_place.specs.Machine.{shape}
-use Rattle.pl_run.specs.Standing.{state_of, Leaves}
+use Rattle.pl_run.specs.Stands.{state_of, Leaves}
 use Rattle.pl_run.proofs.BegunCalls.{begins_there}
 use Rattle.pl_run.proofs.machine.Execution.call_if_there.Goals as goal
 

@@ -6,7 +6,7 @@ use Rattle.vc_code.specs.Value.{Held}
 use Rattle.vc_code.specs.Operation.{operate}
 use Rattle.vc_code.specs.Machine.{here, apply, view}
 use Rattle.pl_place.specs.Machine.{shape, placed_machine, operands}
-use Rattle.pl_run.specs.Standing.{call_of, state_of, standing, passed, told, Leaves}
+use Rattle.pl_run.specs.Stands.{call_of, state_of, standing, passed, told, Leaves}
 use Rattle.pl_run.proofs.machine.Execution.perform.Goals as goal
 
 pub returns-in-None : goal.returns-in-None

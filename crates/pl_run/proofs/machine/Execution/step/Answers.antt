@@ -1,4 +1,4 @@
-use Rattle.pl_run.specs.Standing.{Leaves}
+use Rattle.pl_run.specs.Stands.{Leaves}
 use Rattle.pl_run.proofs.NextStep.{at_end, at_instruction}
 use Rattle.pl_run.proofs.machine.Execution.step.Goals as goal
 

@@ -3,7 +3,7 @@ use Rattle.pra_base.specs.declared.event.TrapKind.TheVariants.{Input}
 use Rattle.vc_code.specs.declared.outcome.Ending.TheVariants.{Trap, Stuck}
 use Rattle.pra_base.specs.Words.{word}
 use Rattle.vc_code.specs.Machine.{view}
-use Rattle.pl_run.specs.Standing.{call_of, state_of, passed, told, where_done}
+use Rattle.pl_run.specs.Stands.{call_of, state_of, passed, told, where_done}
 use Rattle.pl_run.proofs.TakenWords.{no_word, one_word}
 use Rattle.pl_run.proofs.machine.Execution.take.Goals as goal
 

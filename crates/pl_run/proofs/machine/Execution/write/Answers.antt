@@ -2,7 +2,7 @@ use Rattle.std.proofs.Common.{◌/◌, ◌∙◌, ap, sym, reverse, Some}
 use Rattle.vc_code.specs.declared.value.Value.TheVariants.{Num}
 use Rattle.vc_code.specs.Machine.{with_calls}
 use Rattle.pl_place.specs.Machine.{shape}
-use Rattle.pl_run.specs.Standing.{state_of}
+use Rattle.pl_run.specs.Stands.{state_of}
 use Rattle.pl_run.proofs.WrittenWords.{aggregate_written, cell_written, unchanged}
 use Rattle.pl_run.proofs.machine.Execution.write.Goals as goal
 
