@@ -5,3 +5,5 @@ pub mod ExpressionTrees
 pub mod StatementTypes
 pub mod StatementTrees
 pub mod TypeTrees
+pub mod DeclarationTrees
+pub mod LaidOut

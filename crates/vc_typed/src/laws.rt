@@ -2,17 +2,21 @@
 // statement, and it does nothing.
 
 ghost use Rattle.std.specs.Prelude.{◌≡◌, true, ℕ, List, [], map, Ok};
+ghost use Rattle.ob_syntax.specs.Declarations.{Reading};
 ghost use Rattle.ob_syntax.specs.Expressions.{expression};
 ghost use Rattle.ob_syntax.specs.Names.{Place};
 ghost use Rattle.ob_syntax.specs.Statements.{each, statement};
-ghost use Rattle.ob_syntax.specs.WellFormed.{is_scalar};
+ghost use Rattle.ob_syntax.specs.WellFormed.{IsWellFormed, IsWithin, is_scalar, resolved};
 ghost use Rattle.ob_syntax.specs.declared.checked.Checked.{Checked};
 ghost use Rattle.ob_syntax.specs.declared.checked.RExpr.{RExpr-F, out-RExpr};
 ghost use Rattle.ob_syntax.specs.declared.checked.RStmt.{RStmt};
 ghost use Rattle.ob_syntax.specs.declared.checked.RVar.{RVar};
 ghost use Rattle.ob_syntax.specs.declared.checked.Typed.{Typed};
+ghost use Rattle.ob_syntax.specs.declared.token.Token.{Token};
 ghost use Rattle.ob_syntax.specs.declared.tree.Expr.{Expr};
+ghost use Rattle.ob_syntax.specs.declared.tree.Module.{Module};
 ghost use Rattle.ob_syntax.specs.declared.tree.Stmt.{Stmt};
+ghost use Rattle.vc_relation.specs.Layout.{IsLaidOut};
 ghost use Rattle.vc_typed.specs.Fitting.{Fits};
 ghost use Rattle.vc_typed.specs.TypedStatements.{are_typed};
 ghost use Rattle.vc_typed.specs.Typing.{typed, typing, variable_typing};
@@ -34,4 +38,12 @@ pub fn statements_are_typed()
     ensures { (program : Checked) (p : Place) → Fits program p →
         (body : List Stmt) (done : List RStmt) → each p [] (map statement body) ≡ Ok done →
         are_typed program p.here done ≡ true }
+{}
+
+/// What a well-formed module within the limits stands for is laid out: its types are formed, its
+/// variables and the aggregates of each procedure follow on without gaps and within their limits,
+/// and its value parameters are scalars.
+pub fn checked_modules_are_laid_out()
+    ensures { (bytes : List ℕ) (tokens : List Token) (m : Module) (r : Reading) →
+        IsWellFormed bytes tokens m r → IsWithin r → IsLaidOut (resolved m r) }
 {}
