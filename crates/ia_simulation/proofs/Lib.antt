@@ -34,3 +34,5 @@ pub mod Loads
 pub mod Changed
 pub mod Stores
 pub mod Clears
+pub mod Cleared
+pub mod Each

@@ -33,7 +33,7 @@ use Rattle.ia_simulation.proofs.Spots.{below_6}
 use Rattle.ia_simulation.proofs.Steps as steps
 use Rattle.ia_simulation.proofs.Walks.{Walks, does}
 
-none_there : {A : Type 0} (xs : List A) → length xs ≡ 0 → xs ≡ []
+pub none_there : {A : Type 0} (xs : List A) → length xs ≡ 0 → xs ≡ []
 none_there [] e = refl
 none_there (x ∷ xs) e = absurd (omega (arith, e))
 

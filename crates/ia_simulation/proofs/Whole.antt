@@ -14,6 +14,7 @@ use Rattle.ia_simulation.specs.Represents.{IsCarried, EndIsCarried}
 use Rattle.ia_simulation.proofs.Calls.{calls_it}
 use Rattle.ia_simulation.proofs.Chains as chains
 use Rattle.ia_simulation.proofs.Checks as bounds
+use Rattle.ia_simulation.proofs.Cleared.{clears_it}
 use Rattle.ia_simulation.proofs.Computes as computes
 use Rattle.ia_simulation.proofs.Control as control
 use Rattle.ia_simulation.proofs.Loads.{loads_it}
@@ -96,6 +97,9 @@ loads v a places fits procs data_words ok s r y o more e = stepped procs s r (pl
 
 pub stores : (a : Addr) (v : VarId) (places : _) → FitsSigned w32 a.offset → IsCarried (placed.Op (instr.Store a v) places)
 stores a v places fits procs data_words ok s r y o more e = stepped procs s r (placed.Op (instr.Store a v) places) more o e (stores_it procs data_words ok s r y o v a.base a.offset a.index fits places more e)
+
+pub clears : (places : _) → IsCarried (placed.Op instr.Clear places)
+clears places procs data_words ok s r y o more e = stepped procs s r (placed.Op instr.Clear places) more o e (clears_it procs data_words ok s r y o places more e)
 
 -- ---- ends
 

@@ -24,7 +24,9 @@ use Rattle.pl_place.specs.declared.placed.LInstr.{LInstr}
 use Rattle.pl_place.specs.declared.placed.LProc.{LProc}
 use Rattle.pl_place.specs.Machine.{Cells, shape, proc_of, placed_machine}
 use Rattle.pl_place.specs.Placed.{op_of}
-use Rattle.pl_place.specs.Valid.{ArePlaced, counts_of, linstr_at}
+use Rattle.pl_place.specs.Valid.{ArePlaced, EachOp, counts_of, linstr_at}
+use Rattle.pra_base.specs.Code.{address_of}
+use Rattle.pra_base.specs.declared.code.Addr.{Addr}
 use Rattle.pra_base.specs.declared.code.End.{End}
 use Rattle.pra_base.specs.Places.{register_count}
 use Rattle.pra_base.specs.RunEnd.{Wrong}
@@ -182,3 +184,9 @@ abbrev pub EachIsCarried : List LProc → Type 0
 EachIsCarried procs =
     (q : ℕ) (p : LProc) → slice_get procs q ≡ Some p →
     (b k : ℕ) (i : LInstr) → linstr_at p b k i → IsCarried i
+
+-- each address of the code has an offset of 32 bits
+abbrev pub OffsetsFit : List LProc → Type 0
+OffsetsFit procs =
+    (q : ℕ) (p : LProc) → slice_get procs q ≡ Some p →
+    EachOp p (λ i places. (a : Addr) → address_of i ≡ Some a → FitsSigned w32 a.offset)

@@ -22,7 +22,7 @@ ghost use Rattle.pra_base.specs.declared.ids.Cond.{Cond};
 ghost use Rattle.pra_base.specs.declared.ids.ProcId.{ProcId};
 ghost use Rattle.pra_base.specs.declared.ids.VarId.{VarId};
 ghost use Rattle.ia_simulation.specs.Represents.{IsLoadable, AreWords, Represents};
-ghost use Rattle.ia_simulation.specs.Represents.{IsCarried, EndIsCarried, EachIsCarried};
+ghost use Rattle.ia_simulation.specs.Represents.{IsCarried, EndIsCarried, OffsetsFit};
 
 /// Wherever the machine stands for placed code that stands before a move, the move is one
 /// instruction of the machine, behind which it stands for placed code again.
@@ -96,16 +96,21 @@ pub fn start_is_represented()
         (ran (machine.start image input) k) }
 {}
 
-/// If each instruction of placed code is carried, and placed code is never stuck, then the machine
-/// carries its steps from the loaded image on, and never meets a fault.
-pub fn carried_instructions_follow()
+/// The loop of the machine clears the aggregates.
+pub fn clearing_is_carried()
+    ensures { (places : _) → IsCarried (Op instr.Clear places) }
+{}
+
+/// The machine carries the steps of valid placed code that is never stuck, from the loaded image
+/// on, and never meets a fault.
+pub fn image_follows()
     ensures carried { (procs : List LProc) (data_words : ℕ) → IsLoadable procs data_words →
-        EachIsCarried procs → (image : Image) → image.code ≡ bytes_of_all (code_of procs) →
+        OffsetsFit procs → (image : Image) → image.code ≡ bytes_of_all (code_of procs) →
         image.data_words ≡ data_words → (input : List ℤ) → AreWords input →
         ((k : ℕ) → (lrun procs data_words input k).ending ≢ Some Wrong) →
         Carried (lrun procs data_words input) (progress image input) }
     ensures never_wrong { (procs : List LProc) (data_words : ℕ) → IsLoadable procs data_words →
-        EachIsCarried procs → (image : Image) → image.code ≡ bytes_of_all (code_of procs) →
+        OffsetsFit procs → (image : Image) → image.code ≡ bytes_of_all (code_of procs) →
         image.data_words ≡ data_words → (input : List ℤ) → AreWords input →
         ((k : ℕ) → (lrun procs data_words input k).ending ≢ Some Wrong) →
         (m : ℕ) → (progress image input m).ending ≢ Some Wrong }

@@ -1,8 +1,16 @@
 //! The machine does what placed code does.
 //!
 //! `specs/Frames` says where the words of live calls stand in the stack, and which number a value
-//! is. `specs/Represents` relates a state of placed code's machine to one of the IA-32 machine over
-//! the bytes of its code. `laws` has what follows.
+//! is for the machine: an address follows from the bytes of the frames alone. `specs/Represents`
+//! relates a state of placed code's machine to one of the IA-32 machine over the bytes of its code:
+//! registers, slots, argument cells, aggregates and data, EIP at the first byte of the instruction
+//! that the running call stands before, and flags between CMP and their use.
+//!
+//! `laws` has what follows. Each instruction, move and end is carried: wherever the machine stands
+//! for placed code, some steps of it lead to where it stands for the next state, or both trap. So
+//! `image_follows`: the machine over a loaded image carries every step of valid placed code that is
+//! never stuck, and never meets a fault. `proofs/Steps` and `proofs/Ops` have what the instructions
+//! have in common; `proofs/Walks` is for those that are several instructions of the machine.
 #![tactic(auto)]
 
 pub mod laws;
