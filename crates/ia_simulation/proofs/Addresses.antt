@@ -1,16 +1,15 @@
 -- The machine's address of an object's word is the one that placed code computes.
-use Rattle.std.proofs.Common.{◌≡◌, ℕ, zero, suc, ◌+◌, ◌-◌, ◌*◌, ◌%◌, ◌^◌, ◌≤◌, ◌<◌, Bool, true, false, List, [], ◌∷◌, ◌++◌, length, map, Option, Some, None, refl, sym, ap, ◌∙◌, subst, arith, ⊎_elim, length-append}
-use Rattle.std.specs.Prelude.{ℤ, pos, negsuc, ◌+ℤ◌, ◌-ℤ◌, slice_get, slice_index_or, option_map}
+use Rattle.std.proofs.Common.{◌≡◌, ℕ, suc, ◌+◌, ◌-◌, ◌*◌, ◌%◌, ◌^◌, ◌≤◌, ◌<◌, List, ◌∷◌, length, Option, Some, None, refl, ap, ◌∙◌, arith, ⊎_elim}
+use Rattle.std.specs.Prelude.{ℤ, pos, negsuc, ◌+ℤ◌, ◌-ℤ◌, slice_index_or, option_map}
 use Rattle.std.specs.Int.{w32, int_wrap}
 use Rattle.std.specs.Int.RustNames.{FitsSigned}
 use Rattle.std.proofs.lemmas.Bool.{cases_lt}
 use Rattle.std.proofs.lemmas.Bool.Decides.{nat_tests}
 use Rattle.std.proofs.lemmas.Int.{ints}
 use Rattle.pra_list.proofs.Options.{bind_some, some_same}
-use Rattle.ia_code.specs.declared.ins.Reg.{Reg}
 use Rattle.ia_code.specs.Regions.{data_base, stack_top}
 use Rattle.ia_emit.specs.Emission.{address, via_count}
-use Rattle.ia_emit.specs.Operands.{register_at, object_word, aggregate_at, argument_at, locals}
+use Rattle.ia_emit.specs.Operands.{register_at, object_word, locals}
 use Rattle.ia_step.specs.Registers.{get, address_of, scaled_index_of}
 use Rattle.ia_step.specs.State.{State}
 use Rattle.pl_place.specs.declared.placed.LProc.{LProc}
@@ -21,16 +20,16 @@ use Rattle.pra_base.specs.declared.code.Base.{Base}
 use Rattle.pra_base.specs.declared.code.Base.TheVariants as base
 use Rattle.pra_base.specs.declared.ids.Place.{Place}
 use Rattle.pra_base.specs.declared.ids.VarId.{VarId}
-use Rattle.pra_base.specs.Words.{word, stack_limit}
+use Rattle.pra_base.specs.Words.{word}
 use Rattle.vc_code.specs.declared.action.Here.{Here}
 use Rattle.vc_code.specs.declared.value.Object.{Object}
 use Rattle.vc_code.specs.declared.value.Value.{Value}
 use Rattle.vc_code.specs.declared.value.Value.TheVariants.{Num, At}
-use Rattle.vc_code.specs.Operation.{base_count, based, indexed, placed, number, number_at, address as address_held}
+use Rattle.vc_code.specs.Operation.{base_count, based, indexed, placed, address as address_held}
 use Rattle.vc_code.specs.Value.{Held, Words}
 use Rattle.vc_code.specs.Machine.{Activation, depth}
-use Rattle.ia_simulation.specs.Frames.{Means, base_of, frames}
-use Rattle.ia_simulation.specs.Represents.{AllWait, Lies}
+use Rattle.ia_simulation.specs.Frames.{Means, base_of}
+use Rattle.ia_simulation.specs.Represents.{Lies}
 use Rattle.ia_simulation.proofs.Ops.{number_is}
 
 -- ---- displacements of 32 bits

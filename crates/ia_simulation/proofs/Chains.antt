@@ -11,12 +11,10 @@ use Rattle.ia_code.specs.declared.ins.AluOp.TheVariants as alu
 use Rattle.ia_code.specs.declared.ins.Ins.{Ins}
 use Rattle.ia_code.specs.declared.ins.Reg.{Reg}
 use Rattle.ia_code.specs.declared.ins.Reg.TheVariants.{Eax, Ecx, Edx, Ebx, Esp, Ebp, Esi, Edi}
-use Rattle.ia_code.specs.declared.ins.Rm.TheVariants as rm
 use Rattle.ia_code.specs.declared.ins.Ins.TheVariants as ins
 use Rattle.ia_emit.specs.declared.item.Item.{Item}
 use Rattle.ia_emit.specs.declared.item.Item.TheVariants.{Plain}
 use Rattle.ia_emit.specs.declared.item.Target.{Target}
-use Rattle.ia_emit.specs.declared.item.Operand.{Operand}
 use Rattle.ia_emit.specs.declared.item.Operand.TheVariants as at
 use Rattle.ia_emit.specs.Code.{size_of, size}
 use Rattle.ia_emit.specs.Emission.{emit, emit_op, reg_of, rm_of, combine}
@@ -25,7 +23,7 @@ use Rattle.ia_emit.proofs.Sizes.{size-cons}
 use Rattle.ia_step.specs.declared.flags.Flags.{Flags}
 use Rattle.ia_step.specs.declared.registers.Registers.{Registers}
 use Rattle.ia_step.specs.Arithmetic.{diff_flags, no_flags, quotient, with_low_byte}
-use Rattle.ia_step.specs.Effect.{effect, goes, load, set, sign_word, idiv, divided, write_rm}
+use Rattle.ia_step.specs.Effect.{effect, load, set, sign_word, idiv, divided, write_rm}
 use Rattle.ia_step.specs.Registers.{get, with_reg}
 use Rattle.ia_step.specs.Run.{Ran}
 use Rattle.ia_step.specs.State as machine
@@ -48,15 +46,13 @@ use Rattle.pra_base.specs.declared.ids.VarId.{VarId}
 use Rattle.pra_base.specs.Operands.{R, M, B, but, table, line_writes}
 use Rattle.pra_base.specs.Places.{number as number_of, allows, only, with_both, ◌∪◌}
 use Rattle.pra_base.specs.RunEnd.{Wrong}
-use Rattle.pra_base.specs.System.{run}
 use Rattle.pra_base.specs.Valid.{PushesLead, TakesArgs}
-use Rattle.pra_base.specs.Words.{word, signed, is_positive, quotient32, remainder32, compares, truth}
+use Rattle.pra_base.specs.Words.{signed, is_positive, quotient32, remainder32, compares, truth}
 use Rattle.vc_code.specs.declared.value.Value.{Value}
 use Rattle.vc_code.specs.declared.value.Value.TheVariants.{Num}
-use Rattle.vc_code.specs.declared.action.Action.{Action}
 use Rattle.vc_code.specs.declared.action.Action.TheVariants as action
 use Rattle.vc_code.specs.Operation.{gives, divided as divided_by}
-use Rattle.vc_code.specs.Value.{Held, Words}
+use Rattle.vc_code.specs.Value.{Words}
 use Rattle.vc_code.specs.Machine.{Activation, State, After, apply, with_top}
 use Rattle.ia_simulation.specs.Frames.{Means, frames}
 use Rattle.ia_simulation.specs.Represents.{IsLoadable, Lies, Runs, Represents, Leads}

@@ -4,8 +4,6 @@ use Rattle.std.specs.Prelude.{ℤ, pos, negsuc, ◌≤ℤ◌, not, Ok, if◌then
 use Rattle.std.proofs.lemmas.Bool.Decides.{nat_tests}
 use Rattle.pra_list.proofs.Options.{some_same}
 use Rattle.std.specs.List.{filter_map}
-use Rattle.std.specs.Int.{w32}
-use Rattle.std.specs.Int.RustNames.{FitsSigned}
 use Rattle.std.proofs.lemmas.Int.{ints}
 use Rattle.ia_code.specs.declared.ins.AluOp.TheVariants as alu
 use Rattle.ia_code.specs.declared.ins.Ins.{Ins}
@@ -31,13 +29,13 @@ use Rattle.pl_place.specs.declared.placed.LInstr.{LInstr}
 use Rattle.pl_place.specs.declared.placed.LInstr.TheVariants as placed
 use Rattle.pl_place.specs.declared.placed.LProc.{LProc}
 use Rattle.pl_place.specs.Machine.{Cells, proc_of, operand, behind, placed_machine}
-use Rattle.pl_place.specs.Placed.{op_of, kind_of}
+use Rattle.pl_place.specs.Placed.{op_of}
 use Rattle.pl_place.specs.Valid.{OperandsPlaced, counts_of}
 use Rattle.pra_base.specs.declared.code.VInstr.{VInstr}
 use Rattle.pra_base.specs.declared.code.VInstr.TheVariants as instr
 use Rattle.pra_base.specs.declared.ids.VarId.{VarId}
 use Rattle.pra_base.specs.Operands.{table, line_writes}
-use Rattle.pra_base.specs.Places.{number as number_of, has_register, is_mem}
+use Rattle.pra_base.specs.Places.{number as number_of}
 use Rattle.pra_base.specs.Valid.{PushesLead, TakesArgs}
 use Rattle.pra_base.specs.Words.{word, sum32, is_positive, compares}
 use Rattle.pra_base.specs.RunEnd.{Trapped}
@@ -48,10 +46,9 @@ use Rattle.pra_base.specs.declared.ids.Cond.{Cond}
 use Rattle.pra_base.specs.declared.ids.Cond.TheVariants as cond
 use Rattle.vc_code.specs.declared.value.Value.TheVariants.{Num}
 use Rattle.vc_code.specs.declared.action.Action.TheVariants as action
-use Rattle.vc_code.specs.Operation.{gives, number}
+use Rattle.vc_code.specs.Operation.{number}
 use Rattle.vc_code.specs.Machine.{Activation, State, After, apply, ended, with_top}
 use Rattle.vc_code.specs.Value.{Words, is_index}
-use Rattle.vc_code.specs.declared.action.Action.{Action}
 use Rattle.ia_simulation.specs.Represents.{IsLoadable, Runs, Represents, Leads}
 use Rattle.ia_simulation.proofs.Effects.{IsPlace, number_op, operates}
 use Rattle.ia_simulation.proofs.Masks.{in_mask, allowed_at, is_place}
@@ -68,7 +65,7 @@ use Rattle.ia_simulation.proofs.Walks.{Walks, aimed_at, goes_on, reaches}
 use Rattle.ia_simulation.proofs.Ops as ops
 use Rattle.ia_simulation.proofs.Ops.{one_is, number_is, no_number, alu_fits}
 use Rattle.ia_simulation.proofs.Steps as steps
-use Rattle.ia_simulation.proofs.Rows.{itself, Led, plain_lead}
+use Rattle.ia_simulation.proofs.Rows.{itself, Led}
 use Rattle.ia_simulation.proofs.Computes as computes
 
 -- ---- the tests are the same

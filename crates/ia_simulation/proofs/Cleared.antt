@@ -1,11 +1,10 @@
 -- CLEAR of placed code is the loop of the machine.
-use Rattle.std.proofs.Common.{◌≡◌, ◌≢◌, ℕ, zero, suc, ◌+◌, ◌-◌, ◌*◌, ◌≤◌, ◌<◌, List, [], ◌∷◌, ◌++◌, length, map, Option, Some, None, refl, sym, ap, ◌∙◌, subst, arith, inl, length-append}
-use Rattle.std.specs.Prelude.{pos, Ok, slice_get, drop}
+use Rattle.std.proofs.Common.{◌≡◌, ◌≢◌, ℕ, zero, suc, ◌+◌, ◌*◌, ◌≤◌, ◌<◌, List, [], ◌∷◌, ◌++◌, length, None, refl, sym, ap, ◌∙◌, subst, arith, inl, length-append}
+use Rattle.std.specs.Prelude.{pos, slice_get, drop}
 use Rattle.std.specs.List.{filter_map}
 use Rattle.std.proofs.lemmas.Int.{ints}
 use Rattle.ia_code.specs.declared.ins.Reg.TheVariants.{Ecx}
 use Rattle.ia_code.specs.declared.ins.Ins.TheVariants as ins
-use Rattle.ia_code.specs.Regions.{stack_length}
 use Rattle.ia_emit.specs.declared.item.Item.{Item}
 use Rattle.ia_emit.specs.declared.item.Item.TheVariants.{Plain}
 use Rattle.ia_emit.specs.declared.item.Target.{Target}
@@ -22,25 +21,24 @@ use Rattle.ia_step.proofs.Reaches.{Reaches, reach_on}
 use Rattle.pl_place.specs.declared.placed.LInstr.{LInstr}
 use Rattle.pl_place.specs.declared.placed.LInstr.TheVariants as placed
 use Rattle.pl_place.specs.declared.placed.LProc.{LProc}
-use Rattle.pl_place.specs.Machine.{Cells, cleared, passed, proc_of, shape}
+use Rattle.pl_place.specs.Machine.{Cells, cleared, proc_of, shape}
 use Rattle.pl_place.specs.Placed.{op_of}
 use Rattle.pl_place.specs.Valid.{counts_of}
 use Rattle.pra_base.specs.declared.code.VInstr.TheVariants as instr
 use Rattle.pra_base.specs.Operands.{table}
 use Rattle.pra_base.specs.Valid.{PushesLead, TakesArgs}
 use Rattle.pra_base.specs.Words.{word}
-use Rattle.vc_code.specs.Value.{Held, Words}
+use Rattle.vc_code.specs.Value.{Words}
 use Rattle.vc_code.specs.Machine.{Activation, State, depth, with_aggregates, with_cleared, zeroed}
 use Rattle.ia_simulation.specs.Frames.{Holds, WordsHold, Stacked, register_held, saved, rest_of, frames}
-use Rattle.ia_simulation.specs.Represents.{IsLoadable, StandsBefore, RegistersHold, Lies, Runs, Represents, Leads}
-use Rattle.ia_simulation.proofs.Cells.{length_set}
+use Rattle.ia_simulation.specs.Represents.{IsLoadable, StandsBefore, RegistersHold, Runs, Represents}
 use Rattle.ia_simulation.proofs.Checks.{bare_has}
 use Rattle.ia_simulation.proofs.Clears as clears
 use Rattle.ia_simulation.proofs.Ops as ops
 use Rattle.ia_simulation.proofs.Returns.{none_there}
 use Rattle.ia_simulation.proofs.Rows.{Led, plain_lead}
 use Rattle.ia_simulation.proofs.Sizes.{live_long}
-use Rattle.ia_simulation.proofs.Spots.{Same, below_6}
+use Rattle.ia_simulation.proofs.Spots.{below_6}
 use Rattle.ia_simulation.proofs.Standing as standing
 use Rattle.ia_simulation.proofs.Start.{bare_there}
 use Rattle.ia_simulation.proofs.Steps as steps

@@ -1,7 +1,6 @@
 -- The loop that clears the aggregate words of a call.
-use Rattle.std.proofs.Common.{◌≡◌, ◌≢◌, ℕ, zero, suc, ◌+◌, ◌-◌, ◌*◌, ◌%◌, ◌^◌, ◌≤◌, ◌<◌, Bool, true, false, List, [], ◌∷◌, ◌++◌, length, map, Option, Some, None, refl, sym, ap, ◌∙◌, subst, arith, inl, length-append, append_assoc}
-use Rattle.std.specs.Prelude.{ℤ, pos, neg_ℤ, Ok, not, ◌==◌, slice_get, slice_set}
-use Rattle.std.specs.List.{filter_map}
+use Rattle.std.proofs.Common.{◌≡◌, ℕ, zero, suc, ◌+◌, ◌-◌, ◌*◌, ◌≤◌, ◌<◌, true, List, [], ◌∷◌, ◌++◌, length, Some, refl, sym, ap, ◌∙◌, subst, arith, length-append}
+use Rattle.std.specs.Prelude.{pos, neg_ℤ, not, ◌==◌, slice_set}
 use Rattle.std.proofs.lemmas.Bool.Decides.{nat_tests}
 use Rattle.std.proofs.lemmas.Int.{ints}
 use Rattle.pra_list.specs.Results.{◌>>=◌}
@@ -13,16 +12,14 @@ use Rattle.ia_code.specs.declared.ins.Rm.TheVariants as rm
 use Rattle.ia_code.specs.declared.ins.Width.TheVariants.{D32}
 use Rattle.ia_code.specs.Image.{max_code_bytes}
 use Rattle.ia_code.specs.Listing.{bytes_of_all, AreSound}
-use Rattle.ia_code.specs.Regions.{code_base, stack_base, stack_length}
+use Rattle.ia_code.specs.Regions.{stack_base, stack_length}
 use Rattle.ia_emit.specs.declared.item.Item.{Item}
 use Rattle.ia_emit.specs.declared.item.Item.TheVariants.{Plain}
 use Rattle.ia_emit.specs.declared.item.Target.{Target}
-use Rattle.ia_emit.specs.Code.{size_of, size, code_of}
-use Rattle.ia_emit.specs.Operands.{locals}
-use Rattle.ia_emit.proofs.Sizes.{size-cons}
+use Rattle.ia_emit.specs.Code.{size_of, code_of}
 use Rattle.ia_step.specs.declared.registers.Registers.{Registers}
 use Rattle.ia_step.specs.Arithmetic.{diff_flags, holds}
-use Rattle.ia_step.specs.Effect.{effect, goes, store, mov, alu as operation, read_rm, write_rm, branch}
+use Rattle.ia_step.specs.Effect.{effect, goes, mov, alu as operation, read_rm, write_rm, branch}
 use Rattle.ia_step.specs.Memory.{with_word}
 use Rattle.ia_step.specs.Registers.{with_reg, address_of}
 use Rattle.ia_step.specs.State.{State, at}
@@ -34,7 +31,7 @@ use Rattle.pra_base.specs.Words.{word, sum32, diff32}
 use Rattle.vc_code.specs.declared.value.Value.TheVariants.{Num}
 use Rattle.vc_code.specs.Value.{Held, Words}
 use Rattle.vc_code.specs.Machine.{zeroed}
-use Rattle.ia_simulation.specs.Frames.{Holds, Stacked}
+use Rattle.ia_simulation.specs.Frames.{Stacked}
 use Rattle.ia_simulation.proofs.Cells.{length_set, set_front, store_cell}
 use Rattle.ia_simulation.proofs.Here as here
 use Rattle.ia_simulation.proofs.Walks.{Walks, reaches, goes_on}

@@ -1,16 +1,13 @@
 -- LEA.
-use Rattle.std.proofs.Common.{◌≡◌, ◌≢◌, ℕ, zero, suc, ◌+◌, ◌^◌, ◌%◌, ◌<◌, ◌≤◌, Bool, true, false, List, [], ◌∷◌, ◌++◌, length, map, drop, Option, Some, None, refl, sym, ap, ◌∙◌, subst, arith}
-use Rattle.std.specs.Prelude.{ℤ, Ok, slice_get, slice_index_or}
-use Rattle.std.specs.List.{filter_map}
+use Rattle.std.proofs.Common.{◌≡◌, ℕ, zero, suc, ◌+◌, ◌<◌, true, List, [], ◌∷◌, ◌++◌, length, map, drop, Option, Some, None, refl, sym, ap, ◌∙◌, subst, arith}
+use Rattle.std.specs.Prelude.{ℤ, slice_get, slice_index_or}
 use Rattle.std.specs.Int.{w32}
 use Rattle.std.specs.Int.RustNames.{FitsSigned}
-use Rattle.pra_list.specs.Options.{◌>>=◌}
 use Rattle.ia_code.specs.declared.ins.Ins.{Ins}
 use Rattle.ia_code.specs.declared.ins.Ins.TheVariants as ins
-use Rattle.ia_emit.specs.declared.item.Item.TheVariants.{Plain}
 use Rattle.ia_emit.specs.declared.item.Operand.{Operand}
 use Rattle.ia_emit.specs.declared.item.Operand.TheVariants as at
-use Rattle.ia_emit.specs.Emission.{emit, reg_of, address, via_count, index_count}
+use Rattle.ia_emit.specs.Emission.{reg_of, address, via_count, index_count}
 use Rattle.ia_emit.specs.Operands as emitted
 use Rattle.ia_step.specs.Effect.{effect, goes, write_rm}
 use Rattle.ia_step.specs.Registers.{get, address_of}
@@ -20,7 +17,7 @@ use Rattle.pl_place.specs.declared.placed.LInstr.{LInstr}
 use Rattle.pl_place.specs.declared.placed.LInstr.TheVariants as placed_
 use Rattle.pl_place.specs.declared.placed.LProc.{LProc}
 use Rattle.pl_place.specs.Machine.{Cells, proc_of, operand, operands, put, put_all, behind}
-use Rattle.pl_place.specs.Placed.{op_of, place_in}
+use Rattle.pl_place.specs.Placed.{place_in}
 use Rattle.pl_place.specs.Valid.{OperandsPlaced, counts_of}
 use Rattle.pra_base.specs.Code.{cell_of}
 use Rattle.pra_base.specs.declared.code.Addr.{Addr}
@@ -33,13 +30,12 @@ use Rattle.pra_base.specs.declared.ids.Place.TheVariants as place
 use Rattle.pra_base.specs.declared.ids.VarId.{VarId}
 use Rattle.pra_base.specs.Operands.{read_by, table, line_writes, via, index, var_of}
 use Rattle.pra_base.specs.Places.{number as number_of, has_register}
-use Rattle.pra_base.specs.Valid.{PushesLead, TakesArgs}
+use Rattle.pra_base.specs.Valid.{TakesArgs}
 use Rattle.vc_code.specs.declared.action.Action.TheVariants as action
-use Rattle.vc_code.specs.declared.value.Object.{Object}
 use Rattle.vc_code.specs.declared.value.Value.{Value}
 use Rattle.vc_code.specs.declared.value.Value.TheVariants.{At}
 use Rattle.vc_code.specs.Operation.{base_count, placed}
-use Rattle.vc_code.specs.Value.{Held, Words}
+use Rattle.vc_code.specs.Value.{Held}
 use Rattle.vc_code.specs.Machine.{Activation, State, After}
 use Rattle.ia_simulation.specs.Frames.{Means}
 use Rattle.ia_simulation.specs.Represents.{IsLoadable, Represents, Leads}

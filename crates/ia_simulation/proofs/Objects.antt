@@ -1,5 +1,5 @@
 -- A word of an object of live calls is a word of the stack.
-use Rattle.std.proofs.Common.{◌≡◌, ℕ, zero, suc, ◌+◌, ◌-◌, ◌*◌, ◌/◌, ◌%◌, ◌^◌, ◌≤◌, ◌<◌, Bool, true, false, ◌&&◌, List, [], ◌∷◌, ◌++◌, length, Option, Some, None, refl, sym, ap, ◌∙◌, subst, arith, length-append, nat_lt, nat_eq}
+use Rattle.std.proofs.Common.{◌≡◌, ℕ, zero, suc, ◌+◌, ◌-◌, ◌*◌, ◌/◌, ◌%◌, ◌^◌, ◌≤◌, Bool, true, false, ◌&&◌, List, [], ◌∷◌, ◌++◌, length, Option, Some, None, refl, ap, ◌∙◌, arith, length-append, nat_eq}
 use Rattle.std.specs.Prelude.{if◌then◌else◌, Ok, slice_get}
 use Rattle.std.proofs.lemmas.Bool.Decides.{nat_tests}
 use Rattle.pra_list.proofs.Choices.{and_true}
@@ -14,7 +14,7 @@ use Rattle.vc_code.specs.declared.value.Object.TheVariants.{Data, Aggregates, Ce
 use Rattle.vc_code.specs.declared.value.Value.TheVariants.{Num}
 use Rattle.vc_code.specs.Operation.{number}
 use Rattle.vc_code.specs.Value.{Held, Words}
-use Rattle.vc_code.specs.Machine.{Activation, State, depth, cell_words, is_home, joined, last_get, number_in, object, word_at, words_of}
+use Rattle.vc_code.specs.Machine.{Activation, State, depth, cell_words, is_home, joined, last_get, number_in, word_at, words_of}
 use Rattle.ia_simulation.specs.Frames.{Means, base_of, saved, rest_of, frames}
 use Rattle.ia_simulation.specs.Represents.{HasSizes, AllWait, Lies}
 use Rattle.ia_simulation.proofs.Cells.{get_back, get_front, get_inside, load_cell, load_word}

@@ -1,33 +1,31 @@
 -- MOV to an object's word.
-use Rattle.std.proofs.Common.{◌≡◌, ◌≢◌, ℕ, zero, suc, ◌+◌, ◌^◌, ◌%◌, ◌<◌, ◌≤◌, Bool, true, false, List, [], ◌∷◌, ◌++◌, length, map, drop, Option, Some, None, refl, sym, ap, ◌∙◌, subst, arith, ◌-◌, ◌/◌, ◌*◌, length-append}
+use Rattle.std.proofs.Common.{◌≡◌, ℕ, suc, ◌+◌, ◌^◌, ◌%◌, ◌<◌, ◌≤◌, Bool, true, false, List, [], ◌∷◌, ◌++◌, length, map, Option, Some, None, refl, sym, ap, ◌∙◌, subst, arith, ◌-◌, ◌/◌, length-append}
 use Rattle.std.specs.Prelude.{ℤ, Ok, slice_get, slice_index_or, if◌then◌else◌, slice_set}
-use Rattle.std.specs.List.{filter_map}
 use Rattle.std.specs.Int.{w32}
 use Rattle.std.specs.Int.RustNames.{FitsSigned}
 use Rattle.pra_list.specs.Results.{◌>>=◌}
 use Rattle.ia_code.specs.declared.ins.Rm.TheVariants as rm
 use Rattle.ia_code.specs.declared.ins.Ins.{Ins}
-use Rattle.ia_code.specs.declared.ins.Ins.TheVariants as ins
 use Rattle.ia_emit.specs.declared.item.Item.TheVariants.{Plain}
 use Rattle.ia_emit.specs.declared.item.Operand.{Operand}
 use Rattle.ia_emit.specs.declared.item.Operand.TheVariants as at
 use Rattle.ia_code.specs.declared.ins.MemAddr.{MemAddr}
 use Rattle.ia_code.specs.DecodeTable.{IsSound}
 use Rattle.ia_code.specs.Regions.{data_base, stack_base}
-use Rattle.ia_emit.specs.Emission.{emit, address, via_count, index_count, store as store_it}
+use Rattle.ia_emit.specs.Emission.{address, via_count, index_count, store as store_it}
 use Rattle.ia_emit.specs.Operands as emitted
 use Rattle.ia_step.specs.Effect.{effect, goes, mov, store, write_rm}
 use Rattle.ia_step.specs.declared.out.StepOut.TheVariants as out
 use Rattle.ia_step.specs.Memory.{with_word}
 use Rattle.ia_step.proofs.MemoryWords.{length_put}
-use Rattle.ia_step.specs.Registers.{get, address_of}
+use Rattle.ia_step.specs.Registers.{get}
 use Rattle.ia_step.specs.Run.{Ran, run_end}
 use Rattle.ia_step.specs.State as machine
 use Rattle.pl_place.specs.declared.placed.LInstr.{LInstr}
 use Rattle.pl_place.specs.declared.placed.LInstr.TheVariants as placed_
 use Rattle.pl_place.specs.declared.placed.LProc.{LProc}
-use Rattle.pl_place.specs.Machine.{Cells, proc_of, shape, operand, operands, put, put_all, behind}
-use Rattle.pl_place.specs.Placed.{op_of, place_in}
+use Rattle.pl_place.specs.Machine.{Cells, proc_of, shape, operands, behind}
+use Rattle.pl_place.specs.Placed.{place_in}
 use Rattle.pl_place.specs.Valid.{OperandsPlaced, counts_of}
 use Rattle.pra_base.specs.Code.{cell_of}
 use Rattle.pra_base.specs.declared.code.Addr.{Addr}
@@ -40,14 +38,14 @@ use Rattle.pra_base.specs.declared.ids.Place.TheVariants as place
 use Rattle.pra_base.specs.declared.ids.VarId.{VarId}
 use Rattle.pra_base.specs.Operands.{R, K, read_by, table, line_writes}
 use Rattle.pra_base.specs.Places.{number as number_of, allows, has_register, with_both, ◌∪◌}
-use Rattle.pra_base.specs.Valid.{PushesLead, TakesArgs}
+use Rattle.pra_base.specs.Valid.{TakesArgs}
 use Rattle.vc_code.specs.declared.action.Action.TheVariants as action
 use Rattle.vc_code.specs.declared.value.Object.{Object}
 use Rattle.vc_code.specs.declared.value.Object.TheVariants.{Data, Aggregates, Cell}
 use Rattle.vc_code.specs.declared.value.Value.{Value}
 use Rattle.vc_code.specs.declared.value.Value.TheVariants.{Num}
 use Rattle.vc_code.specs.Operation.{base_count, number_at, placed}
-use Rattle.vc_code.specs.Value.{Held, Words}
+use Rattle.vc_code.specs.Value.{Held}
 use Rattle.vc_code.specs.Machine.{Activation, State, After, object, with_calls, with_object, with_top, word_at}
 use Rattle.vc_code.specs.Operation as low
 use Rattle.pra_base.specs.Words.{word}
