@@ -35,7 +35,7 @@ use Rattle.vc_select.specs.declared.target.Target.{Target}
 use Rattle.vc_select.specs.declared.target.Target.TheVariants.{Var, Memory}
 use Rattle.vc_select.specs.Indexes.{IndexedBy}
 use Rattle.vc_select.specs.Targets.{above_target, above_target_base, shifted, words_to_field, root_target}
-use Rattle.vc_select.specs.Typing.{Typing, typed, is_of, Leading, ToField, ToElement, type_after, binary_typing, typing, leading, variable_typing}
+use Rattle.vc_typed.specs.Typing.{Typing, typed, is_of, Leading, ToField, ToElement, type_after, binary_typing, typing, leading, variable_typing}
 use Rattle.vc_select.specs.Selects.{Finds, Selects, Locates, Loads, Leads, LeadsFrom, LeadsBy, Tests, IsFor, Always, joined, exchanged}
 use Rattle.vc_select.proofs.Equations.{typing-Number, typing-Truth, typing-Var, typing-Negate, typing-Not, typing-Binary, leading-Field, leading-Index, variable_typing-is}
 use Rattle.vc_select.proofs.Forms.{selects_as, selects_constant, selects_variable, selects_one}

@@ -25,7 +25,7 @@ use Rattle.vc_expr.specs.declared.choice.Choice.{Choice}
 use Rattle.vc_expr.proofs.Choosing.{choice_arrives}
 use Rattle.vc_expr.proofs.Operations.{same_fewer}
 use Rattle.vc_select.specs.declared.target.Setting.{Setting}
-use Rattle.vc_select.specs.Typing.{Typing, is_of, binary_typing}
+use Rattle.vc_typed.specs.Typing.{Typing, is_of, binary_typing}
 use Rattle.vc_select.specs.Selects.{Starts, Results, Selects, Tests, joined}
 use Rattle.vc_select.proofs.Counting.{yields_at}
 use Rattle.vc_select.proofs.Keeping.{starts_earlier, starts_on}

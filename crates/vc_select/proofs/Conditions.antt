@@ -27,7 +27,7 @@ use Rattle.vc_expr.specs.Branches.{Enters, chosen, BranchesBy, BranchesOn}
 use Rattle.vc_expr.specs.declared.branch.Targets.{Targets}
 use Rattle.vc_expr.proofs.Operations.{read_on}
 use Rattle.vc_select.specs.declared.target.Setting.{Setting}
-use Rattle.vc_select.specs.Typing.{Typing, typed, is_of, binary_typing}
+use Rattle.vc_typed.specs.Typing.{Typing, typed, is_of, binary_typing}
 use Rattle.vc_select.specs.Selects.{Starts, Results, Selects, Tests, sided, joined, inner_targets, exchanged}
 use Rattle.vc_select.proofs.Counting.{yields_at}
 use Rattle.vc_select.proofs.Keeping.{starts_earlier, starts_on}

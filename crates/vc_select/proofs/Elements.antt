@@ -21,7 +21,7 @@ use Rattle.vc_relation.specs.Layout.{part_in, words_before, TypesInOrder, IsLaid
 use Rattle.vc_select.specs.declared.target.Target.{Target}
 use Rattle.vc_select.specs.declared.target.Target.TheVariants.{Var, Memory}
 use Rattle.vc_select.specs.Targets.{shifted, words_to_field, IsWord, IsNamed}
-use Rattle.vc_select.specs.Typing.{is_array}
+use Rattle.vc_typed.specs.Typing.{is_array}
 use Rattle.vc_select.proofs.Placing.{part_is}
 
 -- a scalar is no record and no array

@@ -10,7 +10,7 @@ use Rattle.ob_syntax.specs.declared.checked.RExpr.TheVariants as x
 use Rattle.ob_syntax.specs.declared.checked.RStep.{RStep, RStep-F, roll-RStep, map-RStep, fold-roll-RStep}
 use Rattle.ob_syntax.specs.declared.checked.RStep.TheVariants as step
 use Rattle.ob_syntax.specs.declared.checked.RVar.{RVar, fold_out-RVar}
-use Rattle.vc_select.specs.Typing.{Typing, typed, is_of, Leading, ToField, ToElement, binary_typing, expr_typing, step_typing, designated_typing, var_typing, typing, leading, variable_typing}
+use Rattle.vc_typed.specs.Typing.{Typing, typed, is_of, Leading, ToField, ToElement, binary_typing, expr_typing, step_typing, designated_typing, var_typing, typing, leading, variable_typing}
 
 module _ (program : Checked) (proc : ℕ) where
   typing_roll : (e : RExpr-F RExpr RStep RVar) → typing program proc (roll-RExpr e) ≡ expr_typing (map-RExpr RExpr RStep RVar Typing Leading Typing (typing program proc) (leading program proc) (variable_typing program proc) e)

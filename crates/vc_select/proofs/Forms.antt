@@ -30,7 +30,7 @@ use Rattle.vc_expr.specs.Operators.{HasValue, Gives, IsBit}
 use Rattle.vc_expr.proofs.Operations.{read_on}
 use Rattle.vc_select.specs.declared.target.Setting.{Setting}
 use Rattle.vc_select.specs.declared.target.Target.{Target}
-use Rattle.vc_select.specs.Typing.{Typing, typed}
+use Rattle.vc_typed.specs.Typing.{Typing, typed}
 use Rattle.vc_select.specs.Selects.{Starts, Results, Selects, Finds, Locates, Loads}
 use Rattle.vc_select.proofs.Counting.{yields_at}
 use Rattle.vc_select.proofs.Keeping.{starts_earlier, starts_on, extends_on, extends_at}

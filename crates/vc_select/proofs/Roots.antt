@@ -41,7 +41,7 @@ use Rattle.vc_relation.proofs.Apart.{count_below}
 use Rattle.vc_relation.proofs.Returned.{names_address}
 use Rattle.vc_select.specs.declared.target.Setting.{Setting}
 use Rattle.vc_select.specs.Targets.{at_base, home_target, home_in, by_var_of, param_target, root_target, IsNamed}
-use Rattle.vc_select.specs.Typing.{is_declared, is_declared_in}
+use Rattle.vc_typed.specs.Typing.{is_declared, is_declared_in}
 use Rattle.vc_select.specs.Selects.{IsSet, is_constant, home_variables, translation}
 use Rattle.vc_select.proofs.Placing.{same_frames}
 

@@ -17,7 +17,7 @@ use Rattle.ob_mean.specs.Store.{Store}
 use Rattle.ob_mean.specs.declared.store.LiveCall.{LiveCall}
 use Rattle.vc_expr.specs.Operators.{IsBit, Suits, of_values, Operates, is_bitwise}
 use Rattle.vc_select.specs.declared.target.Setting.{Setting}
-use Rattle.vc_select.specs.Typing.{Typing, is_of, binary_typing}
+use Rattle.vc_typed.specs.Typing.{Typing, is_of, binary_typing}
 use Rattle.vc_select.specs.Selects.{Selects, sided, joined, NeverTraps}
 use Rattle.vc_select.proofs.Forms.{selects_two}
 

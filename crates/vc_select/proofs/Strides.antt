@@ -43,7 +43,7 @@ use Rattle.vc_select.specs.declared.target.Target.{Target}
 use Rattle.vc_select.specs.declared.target.Target.TheVariants.{Var, Memory}
 use Rattle.vc_select.specs.Indexes.{HasIndex, Indexes}
 use Rattle.vc_select.specs.Targets.{above_base, above_target, held_for, shifted, words_to_field, IsWord, IsNamed}
-use Rattle.vc_select.specs.Typing.{Typing, typed, is_of, Leading, ToField, ToElement, is_array, into}
+use Rattle.vc_typed.specs.Typing.{Typing, typed, is_of, Leading, ToField, ToElement, is_array, into}
 use Rattle.vc_select.specs.Selects.{home_variables, IsSet, Starts, Results, Selects, Finds, Leads}
 use Rattle.vc_select.proofs.Keeping.{read_same, held_same, here_same, named_on, starts_earlier, extends_on, extends_at}
 use Rattle.vc_select.proofs.Placing.{part_is, word_bound}

@@ -25,7 +25,7 @@ use Rattle.vc_select.specs.declared.target.Setting.{Setting}
 use Rattle.vc_select.specs.declared.target.Target.{Target}
 use Rattle.vc_select.specs.declared.target.Target.TheVariants.{Var, Memory}
 use Rattle.vc_select.specs.Targets.{home_target, home_in, by_var_of, param_target, root_target, above_home, above_homes, above_target, above_target_base}
-use Rattle.vc_select.specs.Typing.{Typing, binary_typing}
+use Rattle.vc_typed.specs.Typing.{Typing, binary_typing}
 use Rattle.vc_select.specs.Selects.{Selects, Tests, sided, joined, inner_targets}
 use Rattle.vc_select.proofs.Sides.{selects_sides}
 use Rattle.vc_select.proofs.Chosen.{selects_choice}

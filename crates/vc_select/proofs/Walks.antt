@@ -23,7 +23,7 @@ use Rattle.vc_build.proofs.Steps.{same_self, same_on, rests, yields_on}
 use Rattle.vc_select.specs.declared.target.Setting.{Setting}
 use Rattle.vc_select.specs.declared.target.Target.{Target}
 use Rattle.vc_select.specs.Targets.{above_target, root_target, IsNamed}
-use Rattle.vc_select.specs.Typing.{type_after, Typing, typed, is_of, Leading, ToField, ToElement, into, along, root_typing, designated_typing, is_declared}
+use Rattle.vc_typed.specs.Typing.{type_after, Typing, typed, is_of, Leading, ToField, ToElement, into, along, root_typing, designated_typing, is_declared}
 use Rattle.vc_select.specs.Selects.{IsFor, home_variables, Starts, Finds, Locates, Leads}
 use Rattle.vc_select.proofs.Keeping.{named_on, starts_earlier, starts_on, extends_on, extends_at}
 use Rattle.vc_select.proofs.Roots.{running_is, root_named}

@@ -1,4 +1,3 @@
-pub mod Typing
 pub mod Targets
 pub mod Indexes
 pub mod Selects

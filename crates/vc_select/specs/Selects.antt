@@ -41,7 +41,7 @@ use Rattle.vc_expr.specs.declared.branch.Targets.{Targets}
 use Rattle.vc_select.specs.declared.target.Setting.{Setting}
 use Rattle.vc_select.specs.declared.target.Target.{Target}
 use Rattle.vc_select.specs.Targets.{IsNamed}
-use Rattle.vc_select.specs.Typing.{Typing, typed, Leading, ToField, ToElement, along}
+use Rattle.vc_typed.specs.Typing.{Typing, typed, Leading, ToField, ToElement, along}
 
 -- ---- what selection begins with
 

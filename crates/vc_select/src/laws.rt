@@ -13,7 +13,7 @@ ghost use Rattle.vc_relation.specs.Relation.{Represents};
 ghost use Rattle.vc_select.specs.declared.target.Setting.{Setting};
 ghost use Rattle.vc_select.specs.Selects.{IsSet, home_variables, is_constant, translation};
 ghost use Rattle.vc_select.specs.Targets.{root_target, IsNamed};
-ghost use Rattle.vc_select.specs.Typing.{is_declared};
+ghost use Rattle.vc_typed.specs.Typing.{is_declared};
 
 /// The target of a declared variable of the module, parameter or local names its location, in each
 /// state that has the store: a VAR parameter's the location that was lent to it.

@@ -15,9 +15,10 @@
 //!   chooses, or to its trap (`Tests`).
 //!
 //! Nothing but the running call changes: no object, no event, no word of the input; and the
-//! variables that the code had before are as they were. A premise is that the tree is typed, as
-//! `Typing` has it. It is of the meaning of the code alone: for any tree the functions answer code
-//! in which the open block stays open and earlier blocks stay as they are.
+//! variables that the code had before are as they were. A premise is that the tree is typed
+//! (`specs/Typing` of vc_typed, which trees that break no rule are). It is of the meaning of the
+//! code alone: for any tree the functions answer code in which the open block stays open and
+//! earlier blocks stay as they are.
 //!
 //! # Targets
 //!
@@ -40,9 +41,9 @@
 //! control: the left side leads to the block of the right side where it does not decide, and `~`
 //! exchanges the targets.
 //!
-//! Read `specs/` in this order: `Typing` (what a resolved tree is before code is selected for it),
-//! `Targets`, `Indexes`, and `Selects` (what code for a tree does). The files of `proofs/` have a
-//! lemma for each form; `Arms` and `Walking` join them to the functions of `select`.
+//! Read `specs/` in this order: `Targets`, `Indexes`, and `Selects` (what code for a tree does). The
+//! files of `proofs/` have a lemma for each form; `Arms` and `Walking` join them to the functions of
+//! `select`.
 #![tactic(auto)]
 
 pub mod constant;

@@ -11,8 +11,8 @@ ghost use Rattle.vc_expr.specs.Operators.{is_relation as is_relation_operator};
 ghost use Rattle.vc_select.specs.Selects.{Selects, Locates, LeadsFrom, LeadsBy, Tests, IsFor};
 ghost use Rattle.vc_select.specs.Selects.{sided, joined};
 ghost use Rattle.vc_select.specs.Targets.{above_setting, above_target, above_target_base};
-ghost use Rattle.vc_select.specs.Typing.{typing, binary_typing, leading, variable_typing};
-ghost use Rattle.vc_select.specs.Typing.{type_after};
+ghost use Rattle.vc_typed.specs.Typing.{typing, binary_typing, leading, variable_typing};
+ghost use Rattle.vc_typed.specs.Typing.{type_after};
 
 use crate::constant::constant;
 use crate::element::{

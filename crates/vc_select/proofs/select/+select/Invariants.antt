@@ -6,7 +6,7 @@ use Rattle.vc_build.specs.Grow.{IsOpen}
 use Rattle.vc_select.specs.declared.target.Target.{Target}
 use Rattle.vc_select.specs.Selects.{Leads}
 use Rattle.vc_select.specs.Targets.{above_target, above_target_base, root_target}
-use Rattle.vc_select.specs.Typing.{leading}
+use Rattle.vc_typed.specs.Typing.{leading}
 use Rattle.vc_select.proofs.select.+select.Given as goal
 
 -- what leads from here along the selectors that are left leads from the root along all of them
