@@ -52,8 +52,8 @@ EachMean n [] = Unit {0}
 EachMean n (s ∷ ss) = AllMean n s × EachMean n ss
 
 -- A place whose types are formed, and all whose names of types mean one of them.
-record Sound (p : Place) : Type 0 where
-  formed : Formed p.types p.fields
+pub record Sound (p : Place) : Type 0 where
+  pub formed : Formed p.types p.fields
   scope : AllMean (length p.types) p.scope
   outer : EachMean (length p.types) p.outer
 
@@ -435,7 +435,7 @@ declarations_good = ind-Decls OfDecls OfProc
     (λ x y is. subst (λ z. OfDecls (roll-Decls z)) is (decls_case y.consts y.types y.vars y.procs))
     (λ x y is. subst (λ z. OfProc (roll-Proc z)) is (proc_case y.span y.name y.close y.params y.decls y.body))
 
-beginning_sound : (bytes : List ℕ) (tokens : List Token) → Sound (beginning bytes tokens)
+pub beginning_sound : (bytes : List ℕ) (tokens : List Token) → Sound (beginning bytes tokens)
 beginning_sound bytes tokens = record {
   formed = record {
     ordered = record { first = refl; second = refl; below = λ k shape at. plain k shape at };
@@ -462,6 +462,11 @@ pub record ReadingSound (r : Reading) : Type 0 where
   pub ordered : TypesInOrder r.place.types
   pub vars : AllBelow (length r.place.types) r.vars
   pub drafts : AllDrafts (length r.place.types) r.procs
+  -- the body of the module comes first, and has no parameters
+  pub body : Draft
+  pub procs : List Draft
+  pub first : r.procs ≡ body ∷ procs
+  pub none : body.params ≡ []
 
 abbrev module_read : List Token → Module → Declared → List RStmt → Place → Reading
 module_read tokens m d done end = record { place = with_nodes end (nodes_of tokens m.body); vars = d.vars; procs = drafted 0 m.name [] [] (nodes_of tokens m.body) done ∷ d.procs }
@@ -478,4 +483,8 @@ reading_sound bytes tokens m r is =
       ordered = decls.onward.sound.formed.ordered;
       vars = decls.vars;
       drafts = ((no_vars (length one.0.place.types), tt), decls.drafts);
+      body = drafted 0 m.name [] [] (nodes_of tokens m.body) two.0;
+      procs = one.0.procs;
+      first = refl;
+      none = refl;
     })

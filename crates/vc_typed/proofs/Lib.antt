@@ -7,3 +7,4 @@ pub mod StatementTrees
 pub mod TypeTrees
 pub mod DeclarationTrees
 pub mod LaidOut
+pub mod Beginning

@@ -2,7 +2,7 @@
 // statement, and it does nothing.
 
 ghost use Rattle.std.specs.Prelude.{◌≡◌, true, ℕ, List, [], map, Ok};
-ghost use Rattle.ob_syntax.specs.Declarations.{Reading};
+ghost use Rattle.ob_syntax.specs.Declarations.{Reading, beginning};
 ghost use Rattle.ob_syntax.specs.Expressions.{expression};
 ghost use Rattle.ob_syntax.specs.Names.{Place};
 ghost use Rattle.ob_syntax.specs.Statements.{each, statement};
@@ -46,4 +46,10 @@ pub fn statements_are_typed()
 pub fn checked_modules_are_laid_out()
     ensures { (bytes : List ℕ) (tokens : List Token) (m : Module) (r : Reading) →
         IsWellFormed bytes tokens m r → IsWithin r → IsLaidOut (resolved m r) }
+{}
+
+/// The place where a well-formed module begins fits what the module stands for.
+pub fn modules_begin_fitting()
+    ensures { (bytes : List ℕ) (tokens : List Token) (m : Module) (r : Reading) →
+        IsWellFormed bytes tokens m r → Fits (resolved m r) (beginning bytes tokens) }
 {}
