@@ -1,0 +1,3 @@
+pub mod CountdownIsPlaced
+pub mod EmptyIsPlaced
+pub mod PlacedCode
