@@ -36,3 +36,4 @@ pub mod Stores
 pub mod Clears
 pub mod Cleared
 pub mod Each
+pub mod Listed

@@ -7,8 +7,9 @@ use Rattle.std.specs.Prelude.{slice_get, flat_map, sum_by, Option, Some, None}
 use Rattle.std.specs.List.{filter_map}
 use Rattle.std.specs.Int.{w32}
 use Rattle.std.specs.Int.RustNames.{FitsSigned}
-use Rattle.ia_code.specs.Image.{max_code_bytes, max_data_words}
-use Rattle.ia_code.specs.Listing.{bytes_of_all, AreSound}
+use Rattle.ia_code.specs.declared.image.Image.{Image}
+use Rattle.ia_code.specs.Image.{IsImage, max_code_bytes, max_data_words}
+use Rattle.ia_code.specs.Listing.{bytes_of_all, AreSound, IsListing}
 use Rattle.ia_code.specs.Regions.{code_base}
 use Rattle.ia_emit.specs.Code.{size, block_start, entry, code_of}
 use Rattle.ia_emit.specs.Emission.{emit}
@@ -190,3 +191,15 @@ abbrev pub OffsetsFit : List LProc → Type 0
 OffsetsFit procs =
     (q : ℕ) (p : LProc) → slice_get procs q ≡ Some p →
     EachOp p (λ i places. (a : Addr) → address_of i ≡ Some a → FitsSigned w32 a.offset)
+
+-- ---- images
+
+-- The image is what the assembler makes of valid placed code: it is valid, and its bytes are those
+-- of the code's instructions. The module has so many words of data, and offsets have 32 bits.
+pub record IsLoaded (procs : List LProc) (data_words : ℕ) (image : Image) : Type 0 where
+  pub placed : ArePlaced procs
+  pub small : (p : ℕ) (code : LProc) → slice_get procs p ≡ Some code → IsSmall code
+  pub offsets : OffsetsFit procs
+  pub valid : IsImage image
+  pub listing : IsListing image.code (code_of procs)
+  pub words_are : image.data_words ≡ data_words

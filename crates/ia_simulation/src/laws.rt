@@ -13,7 +13,7 @@ ghost use Rattle.pl_place.specs.Machine.{lrun, start};
 ghost use Rattle.pl_moves.specs.declared.transfer.Move.{Move};
 ghost use Rattle.pl_place.specs.declared.placed.LInstr.TheVariants.{Move as Moves, Op};
 ghost use Rattle.pra_base.specs.declared.code.VInstr.TheVariants as instr;
-ghost use Rattle.pra_base.specs.Agreement.{Carried};
+ghost use Rattle.pra_base.specs.Agreement.{Agree, Carried};
 ghost use Rattle.pra_base.specs.RunEnd.{Wrong};
 ghost use Rattle.pra_base.specs.declared.code.Addr.{Addr};
 ghost use Rattle.pra_base.specs.declared.code.End.TheVariants as end;
@@ -21,7 +21,7 @@ ghost use Rattle.pra_base.specs.declared.ids.BlockId.{BlockId};
 ghost use Rattle.pra_base.specs.declared.ids.Cond.{Cond};
 ghost use Rattle.pra_base.specs.declared.ids.ProcId.{ProcId};
 ghost use Rattle.pra_base.specs.declared.ids.VarId.{VarId};
-ghost use Rattle.ia_simulation.specs.Represents.{IsLoadable, AreWords, Represents};
+ghost use Rattle.ia_simulation.specs.Represents.{IsLoadable, IsLoaded, AreWords, Represents};
 ghost use Rattle.ia_simulation.specs.Represents.{IsCarried, EndIsCarried, OffsetsFit};
 
 /// Wherever the machine stands for placed code that stands before a move, the move is one
@@ -114,4 +114,22 @@ pub fn image_follows()
         image.data_words ≡ data_words → (input : List ℤ) → AreWords input →
         ((k : ℕ) → (lrun procs data_words input k).ending ≢ Some Wrong) →
         (m : ℕ) → (progress image input m).ending ≢ Some Wrong }
+{}
+
+/// The image that the assembler makes of valid placed code does what the code does, on each input
+/// on which the code is never stuck: it carries each step, never meets a fault, ends as the code
+/// ends, and goes on for ever where the code does.
+pub fn listed_code_follows()
+    ensures carried { (procs : List LProc) (data_words : ℕ) (image : Image) →
+        IsLoaded procs data_words image → (input : List ℤ) → AreWords input →
+        ((k : ℕ) → (lrun procs data_words input k).ending ≢ Some Wrong) →
+        Carried (lrun procs data_words input) (progress image input) }
+    ensures never_wrong { (procs : List LProc) (data_words : ℕ) (image : Image) →
+        IsLoaded procs data_words image → (input : List ℤ) → AreWords input →
+        ((k : ℕ) → (lrun procs data_words input k).ending ≢ Some Wrong) →
+        (m : ℕ) → (progress image input m).ending ≢ Some Wrong }
+    ensures agrees { (procs : List LProc) (data_words : ℕ) (image : Image) →
+        IsLoaded procs data_words image → (input : List ℤ) → AreWords input →
+        ((k : ℕ) → (lrun procs data_words input k).ending ≢ Some Wrong) →
+        Agree (lrun procs data_words input) (progress image input) }
 {}

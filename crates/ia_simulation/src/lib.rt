@@ -9,8 +9,10 @@
 //! `laws` has what follows. Each instruction, move and end is carried: wherever the machine stands
 //! for placed code, some steps of it lead to where it stands for the next state, or both trap. So
 //! `image_follows`: the machine over a loaded image carries every step of valid placed code that is
-//! never stuck, and never meets a fault. `proofs/Steps` and `proofs/Ops` have what the instructions
-//! have in common; `proofs/Walks` is for those that are several instructions of the machine.
+//! never stuck, and never meets a fault. `listed_code_follows` says the same of an image as the
+//! assembler gives it (`IsLoaded`), and that both agree: each ends as the other does, with the same
+//! events, or both go on. `proofs/Steps` and `proofs/Ops` have what the instructions have in
+//! common; `proofs/Walks` is for those that are several instructions of the machine.
 #![tactic(auto)]
 
 pub mod laws;
