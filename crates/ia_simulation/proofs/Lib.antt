@@ -37,3 +37,4 @@ pub mod Clears
 pub mod Cleared
 pub mod Each
 pub mod Listed
+pub mod SampleIsLoadable

@@ -1,15 +1,17 @@
 // What the simulation gives. Each function is a law: its contract is the statement, and it does
 // nothing.
 
-ghost use Rattle.std.specs.Prelude.{◌≡◌, ◌≢◌, ℕ, ℤ, FitsSigned, List, Some};
+ghost use Rattle.std.specs.Prelude.{◌≡◌, ◌≢◌, ◌≤◌, ℕ, ℤ, FitsSigned, List, Some};
 ghost use Rattle.std.specs.Int.{w32};
 ghost use Rattle.ia_code.specs.declared.image.Image.{Image};
+ghost use Rattle.ia_code.specs.Image.{max_data_words};
 ghost use Rattle.ia_code.specs.Listing.{bytes_of_all};
 ghost use Rattle.ia_emit.specs.Code.{code_of};
 ghost use Rattle.ia_step.specs.Run.{ran, progress};
 ghost use Rattle.ia_step.specs.State as machine;
 ghost use Rattle.pl_place.specs.declared.placed.LProc.{LProc};
 ghost use Rattle.pl_place.specs.Machine.{lrun, start};
+ghost use Rattle.pl_place.specs.Sample.{sample};
 ghost use Rattle.pl_moves.specs.declared.transfer.Move.{Move};
 ghost use Rattle.pl_place.specs.declared.placed.LInstr.TheVariants.{Move as Moves, Op};
 ghost use Rattle.pra_base.specs.declared.code.VInstr.TheVariants as instr;
@@ -132,4 +134,10 @@ pub fn listed_code_follows()
         IsLoaded procs data_words image → (input : List ℤ) → AreWords input →
         ((k : ℕ) → (lrun procs data_words input k).ending ≢ Some Wrong) →
         Agree (lrun procs data_words input) (progress image input) }
+{}
+
+/// Code with each kind of thing that the rules of valid placed code speak of can be loaded, so the
+/// premises of what is said here are not empty.
+pub fn some_code_is_loadable()
+    ensures { (data_words : ℕ) → data_words ≤ max_data_words → IsLoadable sample data_words }
 {}
