@@ -1,17 +1,25 @@
--- The sample of placed code can be loaded, and its image runs.
-use Rattle.std.proofs.Common.{◌≤◌, ◌<◌, ◌^◌, ℕ, length, refl, arith, lit≤, lit<}
+-- The sample of placed code can be loaded, and has an image.
+use Rattle.std.proofs.Common.{◌≤◌, ◌<◌, ◌^◌, ℕ, length, refl, arith, lit≤, lit<, subst, slice_get, ◌≡◌, Some}
 use Rattle.std.specs.Prelude.{pos, neg_ℤ}
 use Rattle.std.specs.Int.{w8, w32}
 use Rattle.std.specs.Int.RustNames.{FitsSigned}
 use Rattle.std.proofs.lemmas.Int.{ints, SFits-int_wrap}
+use Rattle.ia_code.specs.declared.image.Image.{Image}
 use Rattle.ia_code.specs.Image.{max_code_bytes, max_data_words}
 use Rattle.ia_code.specs.Listing.{bytes_of_all, AreSound}
 use Rattle.ia_emit.specs.Code.{code_of}
 use Rattle.ia_emit.specs.Operands.{IsSmall}
-use Rattle.pl_place.specs.Sample.{caller, called, sample}
+use Rattle.pl_place.specs.declared.placed.LBlock.{LBlock}
+use Rattle.pl_place.specs.declared.placed.LProc.{LProc}
+use Rattle.pl_place.specs.declared.placed.LInstr.{LInstr}
+use Rattle.pl_place.specs.declared.placed.LInstr.TheVariants as placed
+use Rattle.pl_place.specs.Sample.{word_0, caller, called, sample}
 use Rattle.pl_place.proofs.SampleIsPlaced.{sample_is}
+use Rattle.pra_base.specs.declared.code.Addr.{Addr}
+use Rattle.pra_base.specs.Code.{address_of}
+use Rattle.pra_list.specs.Each.{EachAt}
 use Rattle.pra_list.proofs.Each.{each_at}
-use Rattle.ia_simulation.specs.Represents.{IsLoadable}
+use Rattle.ia_simulation.specs.Represents.{IsLoadable, IsLoaded, OffsetsFit}
 
 fits : (n : ℕ) → n < 2 ^ 31 → FitsSigned w32 (pos n)
 fits n lt = omega (arith, ints, lt)
@@ -53,3 +61,45 @@ sample_is_loadable data_words few = record {
   short = short;
   few_data = few;
 }
+
+-- ---- its image
+
+abbrev HasFittingOffset : LInstr → Type 0
+HasFittingOffset (placed.Op i places) = (a : Addr) → address_of i ≡ Some a → FitsSigned w32 a.offset
+HasFittingOffset (placed.Move m) = Unit {0}
+
+in_block : (block : LBlock) → EachAt (λ k i. HasFittingOffset i) block.code → (k : ℕ) (i : LInstr) → slice_get block.code k ≡ Some i → HasFittingOffset i
+in_block block each k i h = each_at (λ k i. HasFittingOffset i) block.code each k i h
+
+same_offset : (a : Addr) → Some word_0 ≡ Some a → FitsSigned w32 a.offset
+same_offset a e = let same : word_0 ≡ a = cc in subst (λ (a : Addr). FitsSigned w32 a.offset) same (fits 0 (lit< tt))
+
+caller_offsets : (b : ℕ) (block : LBlock) → slice_get caller.blocks b ≡ Some block → EachAt (λ k i. HasFittingOffset i) block.code
+caller_offsets b block h =
+    each_at (λ b block. EachAt (λ k i. HasFittingOffset i) block.code) caller.blocks (
+      ((λ a e. cc), ((λ a e. cc), (tt, ((λ a e. cc), ((λ a e. cc), (same_offset, ((λ a e. cc), tt))))))),
+      (tt, tt),
+    ) b block h
+
+called_offsets : (b : ℕ) (block : LBlock) → slice_get called.blocks b ≡ Some block → EachAt (λ k i. HasFittingOffset i) block.code
+called_offsets b block h = each_at (λ b block. EachAt (λ k i. HasFittingOffset i) block.code) called.blocks (tt, tt) b block h
+
+abbrev Fitting : LProc → Type 0
+Fitting p = (b : ℕ) (block : LBlock) → slice_get p.blocks b ≡ Some block → EachAt (λ k i. HasFittingOffset i) block.code
+
+offsets : OffsetsFit sample
+offsets q p there b k i places at =
+    in_block at.0 (each_at (λ q p. Fitting p) sample (caller_offsets, (called_offsets, tt)) q p there b at.0 at.1) k (placed.Op i places) at.2
+
+pub sample_is_loaded : (data_words : ℕ) → data_words ≤ max_data_words → (image : Image) × IsLoaded sample data_words image
+sample_is_loaded data_words few = (
+  record { code = bytes_of_all (code_of sample); data_words = data_words },
+  record {
+    placed = sample_is;
+    small = (sample_is_loadable data_words few).small;
+    offsets = offsets;
+    valid = record { some_code = lit≤ tt; code = short; data_words = few };
+    listing = record { sound = sound; spelled = refl };
+    words_are = refl;
+  },
+)

@@ -136,8 +136,11 @@ pub fn listed_code_follows()
         Agree (lrun procs data_words input) (progress image input) }
 {}
 
-/// Code with each kind of thing that the rules of valid placed code speak of can be loaded, so the
-/// premises of what is said here are not empty.
+/// Code with each kind of thing that the rules of valid placed code speak of can be loaded, and has
+/// an image, so the premises of what is said here are not empty.
 pub fn some_code_is_loadable()
-    ensures { (data_words : ℕ) → data_words ≤ max_data_words → IsLoadable sample data_words }
+    ensures loadable { (data_words : ℕ) → data_words ≤ max_data_words →
+        IsLoadable sample data_words }
+    ensures loaded { (data_words : ℕ) → data_words ≤ max_data_words →
+        (image : Image) × IsLoaded sample data_words image }
 {}
