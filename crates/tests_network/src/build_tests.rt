@@ -1,6 +1,7 @@
 // Networks written out: the two worked ones, a call with a parameter over it, a loop whose strands
 // are tied, and blocks that are empty, that nothing reaches, or that lead to themselves.
 
+use crate::samples::{around_code, block, one_block};
 use net_build::build;
 use net_form::{Net, Strand};
 use pra_base::{
@@ -110,27 +111,6 @@ fn network(alloc: Global, code: &VProc) -> Result<String, OutOfMemory> {
     Ok(text_of(alloc, &net)?)
 }
 
-fn block(alloc: Global, depth: u32, code: &[VInstr], end: End) -> Result<Block, AllocError> {
-    Ok(Block {
-        depth,
-        code: Seq::from_slice(alloc, code)?,
-        end,
-    })
-}
-
-// A procedure of one block, with no arguments.
-fn one_block(alloc: Global, vars: &[VarKind], code: &[VInstr]) -> Result<VProc, AllocError> {
-    let mut blocks = Seq::new(alloc);
-    blocks.push(block(alloc, 0, code, End::Return)?)?;
-    Ok(VProc {
-        id: ProcId(0),
-        args: 0,
-        aggregates: 0,
-        vars: Seq::from_slice(alloc, vars)?,
-        blocks,
-    })
-}
-
 fn write_code(alloc: Global) -> Result<VProc, AllocError> {
     let code = [VInstr::Write(VarId(0)), VInstr::Line];
     one_block(alloc, &[VarKind::Constant(7)], &code)
@@ -175,29 +155,6 @@ exits 0 0 0
 entries 0 0 0
 arrivals
 ";
-
-// A block that leads to itself, an empty one behind it, and one that nothing reaches.
-fn around_code(alloc: Global) -> Result<VProc, AllocError> {
-    let mut blocks = Seq::new(alloc);
-    let set = [VInstr::Set(VarId(0), 5)];
-    blocks.push(block(alloc, 0, &set, End::Jump(BlockId(1)))?)?;
-    let count = [
-        VInstr::Sub(VarId(0), VarId(1)),
-        VInstr::Cmp(VarId(0), VarId(1)),
-    ];
-    let again = End::Branch(Cond::G, BlockId(1), BlockId(2));
-    blocks.push(block(alloc, 1, &count, again)?)?;
-    blocks.push(block(alloc, 0, &[], End::Jump(BlockId(4)))?)?;
-    blocks.push(block(alloc, 0, &set, End::Jump(BlockId(4)))?)?;
-    blocks.push(block(alloc, 0, &[VInstr::Write(VarId(0))], End::Return)?)?;
-    Ok(VProc {
-        id: ProcId(0),
-        args: 0,
-        aggregates: 0,
-        vars: Seq::from_slice(alloc, &[VarKind::Plain, VarKind::Constant(1)])?,
-        blocks,
-    })
-}
 
 const AROUND: &str = "near true
 block 0 4
