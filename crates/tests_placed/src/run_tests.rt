@@ -29,7 +29,7 @@ fn module(alloc: Global, case: &Case) -> Result<Vec<LProc>, OutOfMemory> {
     Ok(procs)
 }
 
-fn printed(alloc: Global, outcome: &Outcome) -> Result<String, OutOfMemory> {
+pub fn printed(alloc: Global, outcome: &Outcome) -> Result<String, OutOfMemory> {
     let mut text = String::new(alloc);
     for event in outcome.events.as_slice() {
         match event {
