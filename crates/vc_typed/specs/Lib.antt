@@ -1,3 +1,4 @@
 pub mod Typing
 pub mod TypedStatements
+pub mod TypedModules
 pub mod Fitting
