@@ -24,7 +24,7 @@ use Rattle.vc_relation.specs.Layout as layout
 use Rattle.vc_relation.specs.Layout.{FollowOn, var_words, IsLaidIn, IsLaidOut}
 use Rattle.vc_typed.specs.Fitting.{ValuesAreScalars}
 use Rattle.vc_typed.proofs.TypeTrees.{AllBelow}
-use Rattle.vc_typed.proofs.DeclarationTrees.{AllDrafts, ReadingSound}
+use Rattle.vc_typed.proofs.ProcedureTrees.{AllDrafts, ReadingSound}
 
 -- ---- limits
 

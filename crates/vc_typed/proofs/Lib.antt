@@ -5,6 +5,10 @@ pub mod ExpressionTrees
 pub mod StatementTypes
 pub mod StatementTrees
 pub mod TypeTrees
+pub mod Scopes
 pub mod DeclarationTrees
+pub mod ProcedureTrees
 pub mod LaidOut
 pub mod Beginning
+pub mod LentRoots
+pub mod Bodies

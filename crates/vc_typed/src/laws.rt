@@ -18,6 +18,7 @@ ghost use Rattle.ob_syntax.specs.declared.tree.Module.{Module};
 ghost use Rattle.ob_syntax.specs.declared.tree.Stmt.{Stmt};
 ghost use Rattle.vc_relation.specs.Layout.{IsLaidOut};
 ghost use Rattle.vc_typed.specs.Fitting.{Fits};
+ghost use Rattle.vc_typed.specs.TypedModules.{IsTyped};
 ghost use Rattle.vc_typed.specs.TypedStatements.{are_typed};
 ghost use Rattle.vc_typed.specs.Typing.{typed, typing, variable_typing};
 
@@ -52,4 +53,10 @@ pub fn checked_modules_are_laid_out()
 pub fn modules_begin_fitting()
     ensures { (bytes : List ℕ) (tokens : List Token) (m : Module) (r : Reading) →
         IsWellFormed bytes tokens m r → Fits (resolved m r) (beginning bytes tokens) }
+{}
+
+/// Each body of a well-formed module is typed, and what its statements lend has an address.
+pub fn checked_modules_are_typed()
+    ensures { (bytes : List ℕ) (tokens : List Token) (m : Module) (r : Reading) →
+        IsWellFormed bytes tokens m r → IsTyped (resolved m r) }
 {}

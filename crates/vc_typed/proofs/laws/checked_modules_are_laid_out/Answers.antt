@@ -1,4 +1,4 @@
-use Rattle.vc_typed.proofs.DeclarationTrees.{reading_sound}
+use Rattle.vc_typed.proofs.ProcedureTrees.{reading_sound}
 use Rattle.vc_typed.proofs.LaidOut.{laid_out}
 use Rattle.vc_typed.proofs.laws.checked_modules_are_laid_out.Goals as goal
 

@@ -1,5 +1,5 @@
 use Rattle.vc_typed.proofs.Beginning.{begins}
-use Rattle.vc_typed.proofs.DeclarationTrees.{reading_sound}
+use Rattle.vc_typed.proofs.ProcedureTrees.{reading_sound}
 use Rattle.vc_typed.proofs.laws.modules_begin_fitting.Goals as goal
 
 pub returns : goal.returns
