@@ -2,6 +2,7 @@ pub mod Chain
 pub mod ExampleLiveness
 pub mod FlowIsRoutes
 pub mod InAnyOrder
+pub mod Layers
 pub mod NetworkFormed
 pub mod OneNetwork
 pub mod OneStrand

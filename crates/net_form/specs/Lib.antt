@@ -1,5 +1,6 @@
 pub mod Admitted
 pub mod Cost
+pub mod EightTables
 pub mod Examples
 pub mod Flow
 pub mod Formed

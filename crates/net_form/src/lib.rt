@@ -49,16 +49,24 @@
 //! its edges are, in some order, those of one path for each strand: its routes. It is admitted
 //! where besides each edge comes to a place of the mask, and stays across an instruction, no
 //! register at a layer is used twice, of a memory pair one end at most is in memory, and the ends
-//! of each tie agree. For the block above these routes are admitted:
+//! of each tie agree. Two flows of the block above that are admitted, and what they cost by size,
+//! edge by edge:
 //!
 //! ```text
-//!  strand 0    (Start, 2, Eax) (Eax, 3, Eax) (Eax, 4, Eax) (Eax, 5, Eax)
-//!  strand 1    (Start, 3, Const)
+//!  v in a register               v in memory for as long as it may be
+//!   strand 0
+//!    (Start, 2, Eax)     0        (Start, 2, Mem)     2   Set to memory, an extra
+//!    (Eax, 3, Eax)       0        (Mem, 3, Mem)       1   Add to memory, an extra
+//!    (Eax, 4, Eax)       0        (Mem, 4, Mem)       0   across Add
+//!    (Eax, 5, Eax)       0        (Mem, 5, Eax)       3   a load, in the crossbar before Write
+//!   strand 1
+//!    (Start, 3, Const)   1        (Start, 3, Const)   1   an immediate of 8 bits, an extra
+//!                       ---                          ---
+//!                        1                            7
 //! ```
 //!
-//! By size they cost 1: no way costs anything, and of the extras that of k is met, an immediate of
-//! 8 bits. With v in memory at layers 2, 3 and 4 they cost 7: 2 for the store of an immediate, 1
-//! for Add to memory, 1 for the immediate, and 3 for the load on the way to layer 5.
+//! An edge pays the events of the way that it goes, and an extra is paid by the edge that comes to
+//! its place. Each event weighs what the cost model says at the loop depth of the block.
 //!
 //! # What is promised
 //!
@@ -67,11 +75,13 @@
 //! has one network. `laws` has what is proved: that, that the network of sized code is in bounds
 //! (`IsFormed`, which calls above require), that an admitted flow is the flow of admitted routes,
 //! that the flow of routes conserves, and that routes cost what their flow costs. `Taken::empty`
-//! and `Spare::empty` make rooms with nothing in use.
+//! and `Spare::empty` make rooms with nothing in use, and `Net::entry_layer` counts the layers of
+//! all blocks together.
 //!
 //! What depends on which places there are stands in one record, `PlaceTables`: masks of operands,
 //! places of a variable, extras, and the crossbar's events. Networks and costs are made from it;
-//! nothing else knows the number of a place.
+//! nothing else knows the number of a place. `all_tables` are those of the fourteen places, and
+//! specs/EightTables has those without the both places.
 //!
 //! # What lies where
 //!

@@ -1,5 +1,11 @@
 // The network of a procedure.
 
+ghost use Rattle.std.specs.Prelude.{◌≡◌, ◌+◌, ◌<◌, length};
+ghost use Rattle.net_form.specs.Admitted.{strand_at};
+ghost use Rattle.net_form.specs.Formed.{IsFormed};
+ghost use Rattle.net_form.specs.Index.{first_layer};
+ghost use Rattle.net_form.specs.Rooms.{layer_total};
+
 use net_cost::Event;
 use pra_base::{BlockId, Mask, Place, VarId};
 use pra_list::Seq;
@@ -103,4 +109,17 @@ pub struct Net {
     /// How many tie groups there are.
     pub groups: u32,
     pub index: NetIndex,
+}
+
+impl Net {
+    /// The entry of a strand's block, among the layers of all blocks.
+    pub fn entry_layer(&self, strand: usize) -> u32
+        requires net { IsFormed self.now }
+        requires strand { strand < length self.now.strands }
+        ensures value { result ≡ first_layer self.now.blocks (strand_at self.now strand).block.0 }
+        ensures within { result + (strand_at self.now strand).last < layer_total self.now.blocks }
+    {
+        let block = self.strands[strand].block;
+        self.index.layers[block.0 as usize]
+    }
 }
