@@ -1,7 +1,7 @@
 -- What declarations give: types that are formed, variables of types that are there, and value
 -- parameters that are scalars. In a checked module that has these variables and parameters, what is
 -- behind the declarations shows what is there.
-use Rattle.std.proofs.Common.{◌≡◌, ℕ, zero, suc, ◌+◌, ◌<◌, ◌≤◌, Bool, true, false, List, [], ◌∷◌, ◌++◌, length, Some, None, refl, ap, sym, ◌∙◌, subst, arith, length-append, lt-ltb}
+use Rattle.std.proofs.Common.{◌≡◌, ℕ, zero, suc, ◌+◌, ◌<◌, ◌≤◌, Bool, true, false, List, [], ◌∷◌, ◌++◌, length, Some, None, ap, sym, ◌∙◌, subst, arith, length-append, lt-ltb}
 use Rattle.std.specs.Prelude.{Ok, Err, slice_get}
 use Rattle.std.proofs.lemmas.List.{append-nil, append_assoc}
 use Rattle.pra_list.proofs.Choices.{by_test}
@@ -25,19 +25,9 @@ use Rattle.ob_mean.specs.Designators.{type_at, type_in}
 use Rattle.vc_typed.specs.Typing.{typed, root_typing, is_declared_in}
 use Rattle.vc_typed.specs.Fitting.{AreAlike, AllThere, ValuesAreScalars, HasProcedure}
 use Rattle.vc_typed.proofs.Bindings.{came_of, ok_same, ok_err}
+use Rattle.vc_typed.proofs.Lists.{get_more, get_behind, got}
 use Rattle.vc_typed.proofs.Scopes.{Sound, ready, mean_with_name, Onward, few_types, onward_stays, onward_on, onward_scope, onward_shown, onward_type, left_sound, entered_sound, Shows, announced_there, all_there_more, each_there_more, named_there, shows_scope, shows_shown, shows_type, left_shows, entered_shows}
-use Rattle.vc_typed.proofs.TypeTrees.{AllBelow, got, type_good}
-
--- ---- lists
-
-pub get_more : {A : Type 0} (xs ys : List A) (k : ℕ) (z : A) → slice_get xs k ≡ Some z → slice_get (xs ++ ys) k ≡ Some z
-get_more [] ys k z at = absurd (none_some at)
-get_more (x ∷ xs) ys zero z at = at
-get_more (x ∷ xs) ys (suc k) z at = get_more xs ys k z at
-
-get_behind : {A : Type 0} (xs : List A) (y : A) (ys : List A) → slice_get (xs ++ y ∷ ys) (length xs) ≡ Some y
-get_behind [] y ys = refl
-get_behind (x ∷ xs) y ys = get_behind xs y ys
+use Rattle.vc_typed.proofs.TypeTrees.{AllBelow, type_good}
 
 -- ---- names, constants and types
 

@@ -1,12 +1,10 @@
 -- A checked module is laid out.
-use Rattle.std.proofs.Common.{◌≡◌, ℕ, zero, suc, ◌+◌, ◌<◌, ◌≤◌, Bool, true, false, not, ◌&&◌, List, [], ◌∷◌, length, map, Option, Some, None, refl, ap, sym, ◌∙◌, subst, arith, ltb-false}
-use Rattle.std.specs.Prelude.{slice_get, nat_lt, ◌-◌, if◌then◌else◌}
+use Rattle.std.proofs.Common.{◌≡◌, ℕ, zero, suc, ◌+◌, ◌<◌, ◌≤◌, Bool, true, false, not, ◌&&◌, List, [], ◌∷◌, length, map, Some, refl, ap, sym, ◌∙◌, subst, arith}
+use Rattle.std.specs.Prelude.{slice_get, if◌then◌else◌}
 use Rattle.std.proofs.lemmas.List.Sums.{sum_by-cons}
-use Rattle.pra_list.proofs.Choices.{by_test}
 use Rattle.pra_list.proofs.Options.{some_same, none_some}
 use Rattle.pra_base.specs.Limits.{limit_maximum}
-use Rattle.pra_base.specs.declared.limit.LimitKind.{LimitKind}
-use Rattle.pra_base.specs.declared.limit.LimitKind.TheVariants.{ArrayLength, TypeWords, Procedures, Parameters, Scalars, AggregateWords, ModuleWords}
+use Rattle.pra_base.specs.declared.limit.LimitKind.TheVariants.{AggregateWords}
 use Rattle.ob_syntax.specs.declared.checked.CheckedProc.{CheckedProc}
 use Rattle.ob_syntax.specs.declared.checked.Draft.{Draft}
 use Rattle.ob_syntax.specs.declared.checked.Local.{Local}
@@ -18,45 +16,14 @@ use Rattle.ob_syntax.specs.declared.checked.Shape.{Shape}
 use Rattle.ob_syntax.specs.declared.tree.Module.{Module}
 use Rattle.ob_syntax.specs.Declarations.{Reading}
 use Rattle.ob_syntax.specs.Names.{Place}
-use Rattle.ob_syntax.specs.Storage.{all_words, type_words}
-use Rattle.ob_syntax.specs.WellFormed.{is_scalar, is_addressed, is_aggregate, local_words, lent_in_body, marked_params, locals_from, aggregate_words_from, aggregate_words, module_vars_from, data_words, Excess, first_above, or_then, scalars, IsWithin, checked_proc, resolved}
+use Rattle.ob_syntax.specs.Storage.{type_words}
+use Rattle.ob_syntax.specs.WellFormed.{is_scalar, is_addressed, is_aggregate, local_words, lent_in_body, marked_params, locals_from, aggregate_words_from, aggregate_words, module_vars_from, data_words, IsWithin, checked_proc, resolved}
 use Rattle.vc_relation.specs.Layout as layout
 use Rattle.vc_relation.specs.Layout.{FollowOn, var_words, IsLaidIn, IsLaidOut}
 use Rattle.vc_typed.specs.Fitting.{ValuesAreScalars}
+use Rattle.vc_typed.proofs.Limits.{few}
 use Rattle.vc_typed.proofs.TypeTrees.{AllBelow}
 use Rattle.vc_typed.proofs.ProcedureTrees.{AllDrafts, ReadingSound}
-
--- ---- limits
-
-first_of : (a b : Option Excess) → or_then a b ≡ None → (a ≡ None) × (b ≡ None)
-first_of (Some e) b is = absurd (cc)
-first_of None b is = (refl, is)
-
-none_above : (kind : LimitKind) (ns : List ℕ) → first_above kind ns ≡ None → (k n : ℕ) → slice_get ns k ≡ Some n → n ≤ limit_maximum kind
-none_above kind [] is k n at = absurd (none_some at)
-none_above kind (x ∷ ns) is zero n at =
-    by_test (nat_lt (limit_maximum kind) x) (Some (kind, x)) (first_above kind ns) None (λ b same. absurd (cc)) (λ b same. let le = ltb-false (limit_maximum kind) x b in let there = some_same x n at in omega (arith, le, there)) is
-none_above kind (x ∷ ns) is (suc k) n at =
-    by_test (nat_lt (limit_maximum kind) x) (Some (kind, x)) (first_above kind ns) None (λ b same. absurd (cc)) (λ b same. none_above kind ns same k n at) is
-
-aggregates_few : (r : Reading) → IsWithin r → (k n : ℕ) → slice_get (map (aggregate_words r.place.types) r.procs) k ≡ Some n → n ≤ limit_maximum AggregateWords
-aggregates_few r within =
-    let a = (first_of (first_above ArrayLength r.place.lengths) _ within).1 in
-    let b = (first_of (first_above TypeWords (all_words r.place.types)) _ a).1 in
-    let c = (first_of (first_above Procedures ((length r.procs - 1) ∷ [])) _ b).1 in
-    let d = (first_of (first_above Parameters (map (λ d. length d.params) r.procs)) _ c).1 in
-    let e = (first_of (first_above Scalars (map scalars r.procs)) _ d).1 in
-    none_above AggregateWords (map (aggregate_words r.place.types) r.procs) (first_of (first_above AggregateWords (map (aggregate_words r.place.types) r.procs)) _ e).0
-
-data_few : (r : Reading) → IsWithin r → data_words r.place.types r.vars ≤ limit_maximum ModuleWords
-data_few r within =
-    let a = (first_of (first_above ArrayLength r.place.lengths) _ within).1 in
-    let b = (first_of (first_above TypeWords (all_words r.place.types)) _ a).1 in
-    let c = (first_of (first_above Procedures ((length r.procs - 1) ∷ [])) _ b).1 in
-    let d = (first_of (first_above Parameters (map (λ d. length d.params) r.procs)) _ c).1 in
-    let e = (first_of (first_above Scalars (map scalars r.procs)) _ d).1 in
-    let f = (first_of (first_above AggregateWords (map (aggregate_words r.place.types) r.procs)) _ e).1 in
-    none_above ModuleWords (data_words r.place.types r.vars ∷ []) (first_of (first_above ModuleWords (data_words r.place.types r.vars ∷ [])) _ f).0 0 (data_words r.place.types r.vars) refl
 
 -- ---- the variables of the module
 
@@ -137,8 +104,8 @@ laid_out m r sound within = record {
   types = sound.ordered;
   var_types = λ n v at. vars_below r.place.types r.vars 0 (length r.place.types) sound.vars n v at;
   vars = subst (λ to. FollowOn (λ v. true) (λ v. v.word) (var_words r.place.types) 0 to (module_vars_from r.place.types 0 r.vars)) (from_zero (data_words r.place.types r.vars)) (vars_follow r.place.types r.vars 0);
-  few = data_few r within;
+  few = (few r within).vars;
   procs = λ k proc at.
       let of = draft_of r.place (length r.place.types) r.procs sound.drafts k proc at in
-      subst (IsLaidIn r.place.types) of.same (laid_in r.place of.draft of.vars of.values (aggregates_few r within k (aggregate_words r.place.types of.draft) of.words));
+      subst (IsLaidIn r.place.types) of.same (laid_in r.place of.draft of.vars of.values ((few r within).aggregates k (aggregate_words r.place.types of.draft) of.words));
 }

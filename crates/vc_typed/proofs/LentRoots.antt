@@ -7,7 +7,7 @@ use Rattle.ob_syntax.specs.declared.checked.CheckedProc.{CheckedProc}
 use Rattle.ob_syntax.specs.declared.checked.Param.{Param}
 use Rattle.ob_syntax.specs.declared.checked.RArg.{RArg}
 use Rattle.ob_syntax.specs.declared.checked.RArg.TheVariants.{Value, Lent}
-use Rattle.ob_syntax.specs.declared.checked.RArm.{RArm, roll-RArm, fold-RArm, fold-roll-RArm}
+use Rattle.ob_syntax.specs.declared.checked.RArm.{RArm, roll-RArm, fold-roll-RArm}
 use Rattle.ob_syntax.specs.declared.checked.RExpr.{RExpr}
 use Rattle.ob_syntax.specs.declared.checked.RStep.{RStep}
 use Rattle.ob_syntax.specs.declared.checked.RStmt.{RStmt, RStmt-F, roll-RStmt, map-RStmt, fold-roll-RStmt, ind-RStmt}
@@ -19,6 +19,7 @@ use Rattle.vc_typed.specs.TypedStatements.{all_true, are_passed, is_call, is_typ
 use Rattle.vc_typed.specs.Typing.{is_of, is_declared, leading, variable_typing}
 use Rattle.vc_typed.specs.Typing as t
 use Rattle.vc_typed.proofs.Equations.{variable_typing-is}
+use Rattle.vc_typed.proofs.StatementEquations.{lent_behind}
 
 module _ (program : Checked) (here : ℕ) where
   abbrev pub AllDeclared : List Root → Type 0
@@ -57,9 +58,6 @@ module _ (program : Checked) (here : ℕ) where
 
   abbrev OfStmt : RStmt → Type 0
   OfStmt x = is_typed program here x ≡ true → AllDeclared (lent_in x)
-
-  abbrev lent_behind : RArm → List Root
-  lent_behind = fold-RArm (List Root) (List Root) lent_step lent_in_arm
 
   abbrev OfArm : RArm → Type 0
   OfArm x = is_typed_arm program here x ≡ true → AllDeclared (lent_behind x)

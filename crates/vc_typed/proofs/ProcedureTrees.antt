@@ -15,7 +15,7 @@ use Rattle.ob_syntax.specs.declared.checked.Param.{Param}
 use Rattle.ob_syntax.specs.declared.checked.RStmt.{RStmt}
 use Rattle.ob_syntax.specs.declared.checked.Root.TheVariants as root
 use Rattle.ob_syntax.specs.declared.checked.Shape.{Shape}
-use Rattle.ob_syntax.specs.declared.checked.Shape.TheVariants.{Integer, Boolean, Record}
+use Rattle.ob_syntax.specs.declared.checked.Shape.TheVariants.{Integer, Boolean, Array, Record}
 use Rattle.ob_syntax.specs.declared.token.Token.{Token}
 use Rattle.ob_syntax.specs.declared.tree.ConstDecl.{ConstDecl}
 use Rattle.ob_syntax.specs.declared.tree.Decls.{Decls, roll-Decls, fold-roll-Decls, ind-Decls}
@@ -36,7 +36,8 @@ use Rattle.vc_typed.specs.TypedStatements.{are_typed}
 use Rattle.vc_typed.specs.Typing.{root_typing, is_declared_in}
 use Rattle.vc_typed.specs.Typing as typing
 use Rattle.vc_typed.proofs.Bindings.{came_of, ok_same, ok_err}
-use Rattle.vc_typed.proofs.DeclarationTrees.{get_more, constants_behind, types_behind, Behind, all_more, VarsIn, VarsBehind, variables_behind, HeadingBehind, heading_behind}
+use Rattle.vc_typed.proofs.DeclarationTrees.{constants_behind, types_behind, Behind, all_more, VarsIn, VarsBehind, variables_behind, HeadingBehind, heading_behind}
+use Rattle.vc_typed.proofs.Lists.{get_more, IsAmong, among_last, among_longer}
 use Rattle.vc_typed.proofs.Scopes.{Sound, longer, Shows, TypesIn, left_sound, left_shows, fitting}
 use Rattle.vc_typed.proofs.StatementTrees.{body_typed}
 use Rattle.vc_typed.proofs.TypeTrees.{AllBelow}
@@ -88,6 +89,19 @@ typed_append : (program : Checked) (xs ys : List Draft) → AllTyped program xs 
 typed_append program [] ys all more = more
 typed_append program (x ∷ xs) ys (one, rest) more = (one, typed_append program xs ys rest more)
 
+-- the nodes of each are among these
+abbrev pub AllCounted : List ℕ → List Draft → Type 0
+AllCounted nodes [] = Unit {0}
+AllCounted nodes (d ∷ ds) = IsAmong d.nodes nodes × AllCounted nodes ds
+
+counted_more : (old more new : List ℕ) (ds : List Draft) → new ≡ old ++ more → AllCounted old ds → AllCounted new ds
+counted_more old more new [] is all = tt
+counted_more old more new (d ∷ ds) is (one, rest) = (among_longer d.nodes old more new is one, counted_more old more new ds is rest)
+
+counted_append : (nodes : List ℕ) (xs ys : List Draft) → AllCounted nodes xs → AllCounted nodes ys → AllCounted nodes (xs ++ ys)
+counted_append nodes [] ys all more = more
+counted_append nodes (x ∷ xs) ys (one, rest) more = (one, counted_append nodes xs ys rest more)
+
 types_before : (program : Checked) (xs ys more : List Shape) → ys ≡ xs ++ more → TypesIn program ys → TypesIn program xs
 types_before program xs ys more grown inside k shape at = inside k shape (ap (λ z. slice_get z k) grown ∙ get_more xs more k shape at)
 
@@ -100,6 +114,9 @@ pub record ProcsBehind (p q : Place) (ds : List Draft) (Given : Checked → Type
   pub grown : q.types ≡ p.types ++ more
   pub here : q.here ≡ p.here
   pub count : length q.headings ≡ length p.headings + length ds
+  pub more_nodes : List ℕ
+  pub nodes : q.nodes ≡ p.nodes ++ more_nodes
+  pub counted : AllCounted q.nodes ds
   pub sound : Sound q
   pub drafts : AllDrafts (length q.types) ds
   pub numbered : Numbered (length p.headings) ds
@@ -114,6 +131,9 @@ none_behind p sound = record {
   grown = sym (append-nil p.types);
   here = refl;
   count = omega arith;
+  more_nodes = [];
+  nodes = sym (append-nil p.nodes);
+  counted = tt;
   sound = sound;
   drafts = tt;
   numbered = tt;
@@ -129,6 +149,9 @@ procs_on p q r xs ys Given a b =
       grown = b.grown ∙ ap (λ ts. ts ++ b.more) a.grown ∙ append_assoc p.types a.more b.more;
       here = b.here ∙ a.here;
       count = omega (arith, first, second, length-append xs ys);
+      more_nodes = a.more_nodes ++ b.more_nodes;
+      nodes = b.nodes ∙ ap (λ ns. ns ++ b.more_nodes) a.nodes ∙ append_assoc p.nodes a.more_nodes b.more_nodes;
+      counted = counted_append r.nodes xs ys (counted_more q.nodes b.more_nodes r.nodes xs b.nodes a.counted) b.counted;
       sound = b.sound;
       drafts = drafts_append (length r.types) xs ys (drafts_more (length q.types) (length r.types) (longer q.types r.types b.more b.grown) xs a.drafts) b.drafts;
       numbered = numbered_append (length p.headings) xs ys a.numbered (subst (λ n. Numbered n ys) first b.numbered);
@@ -184,6 +207,9 @@ opened p q r vs a b c = record {
       ∙ append_assoc (p.types ++ a.onward.more) b.onward.more c.onward.more ∙ append_assoc p.types a.onward.more (b.onward.more ++ c.onward.more);
   here = c.onward.here ∙ b.onward.here ∙ a.onward.here;
   count = let same = ap length (c.onward.headings ∙ b.onward.headings ∙ a.onward.headings) in omega (arith, same);
+  more_nodes = [];
+  nodes = c.onward.nodes ∙ b.onward.nodes ∙ a.onward.nodes ∙ sym (append-nil p.nodes);
+  counted = tt;
   sound = c.onward.sound;
   drafts = tt;
   numbered = tt;
@@ -249,7 +275,8 @@ proc_good : (p : Place) (name : ℕ) (body : List Stmt) (inside : Place × List 
 proc_good p name body inside d done sound of =
     let head = of.head in
     let behind = of.decls.behind in
-    let draft = drafted d.place.here name inside.1 d.vars (nodes_of d.place.tokens body) done in
+    let n = nodes_of d.place.tokens body in
+    let draft = drafted d.place.here name inside.1 d.vars n done in
     let end = left_sound d.place p.here behind.sound in
     let id : d.place.here ≡ length p.headings = behind.here ∙ head.here in
     let one = ap length head.headings in
@@ -262,6 +289,9 @@ proc_good p name body inside d done sound of =
       grown = behind.grown ∙ ap (λ ts. ts ++ behind.more) head.grown ∙ append_assoc p.types head.more behind.more;
       here = refl;
       count = omega (arith, headings, more);
+      more_nodes = behind.more_nodes ++ n ∷ [];
+      nodes = ap (λ ns. ns ++ n ∷ []) (behind.nodes ∙ ap (λ ns. ns ++ behind.more_nodes) head.nodes) ∙ append_assoc p.nodes behind.more_nodes (n ∷ []);
+      counted = (among_last d.place.nodes n, counted_more d.place.nodes (n ∷ []) (d.place.nodes ++ n ∷ []) d.procs refl behind.counted);
       sound = record { formed = end.formed; scope = end.scope; outer = end.outer; begun = end.begun };
       drafts = ((of.decls.vars, head.scalars), behind.drafts);
       numbered = (id, subst (λ n. Numbered n d.procs) headings behind.numbered);
@@ -322,6 +352,7 @@ beginning_sound bytes tokens = record {
     ordered = record { first = refl; second = refl; below = λ k shape at. plain k shape at };
     parallel = refl;
     named = λ k fs at. absurd (no_record k fs at);
+    counted = λ k count element at. absurd (no_array k count element at);
   };
   scope = tt;
   outer = tt;
@@ -337,6 +368,11 @@ beginning_sound bytes tokens = record {
     no_record zero fs at = cc
     no_record (suc zero) fs at = cc
     no_record (suc (suc k)) fs at = none_some at
+
+    no_array : (k count element : ℕ) → slice_get (Integer ∷ Boolean ∷ []) k ≡ Some (Array count element) → ⊥
+    no_array zero count element at = cc
+    no_array (suc zero) count element at = cc
+    no_array (suc (suc k)) count element at = none_some at
 
 pub beginning_shows : (program : Checked) (bytes : List ℕ) (tokens : List Token) → HasProcedure program 0 [] → Shows program (beginning bytes tokens)
 beginning_shows program bytes tokens body = record { headings = headings; scope = tt; outer = tt }
@@ -359,6 +395,9 @@ pub record ReadingSound (r : Reading) : Type 0 where
   pub no_params : body.params ≡ []
   pub no_locals : body.vars ≡ []
   pub numbered : Numbered 1 procs
+  -- what the limits are tested on has the arrays and the procedures
+  pub arrays : (k count element : ℕ) → slice_get r.place.types k ≡ Some (Array count element) → IsAmong count r.place.lengths
+  pub counted : AllCounted r.place.nodes r.procs
   pub typed : (program : Checked) → TypesIn program r.place.types → AllIn program procs → VarsIn program 0 r.vars → HasProcedure program 0 [] → AllTyped program (body ∷ procs)
 
 abbrev module_read : List Token → Module → Declared → List RStmt → Place → Reading
@@ -371,6 +410,7 @@ reading_sound bytes tokens m r is =
     let one = came_of (declarations m.decls begin) (λ d. each d.place [] (map statement m.body) >>= λ done. closed 1 d.place m.name m.close >>= λ end. Ok (result d done end)) r is in
     let two = came_of (each one.0.place [] (map statement m.body)) (λ done. closed 1 one.0.place m.name m.close >>= λ end. Ok (result one.0 done end)) r one.2 in
     let three = came_of (closed 1 one.0.place m.name m.close) (λ end. Ok (result one.0 two.0 end)) r two.2 in
+    let n = nodes_of tokens m.body in
     let decls = (declarations_good m.decls).gives begin (beginning_sound bytes tokens) one.0 one.1 in
     let behind = decls.behind in
     let same = closed_is 1 one.0.place m.name m.close three.0 three.1 in
@@ -385,6 +425,8 @@ reading_sound bytes tokens m r is =
       no_params = refl;
       no_locals = refl;
       numbered = behind.numbered;
+      arrays = behind.sound.formed.counted;
+      counted = (among_last one.0.place.nodes n, counted_more one.0.place.nodes (n ∷ []) (one.0.place.nodes ++ n ∷ []) one.0.procs refl behind.counted);
       typed = λ program types all vars body.
           let both = behind.typed program types all vars (beginning_shows program bytes tokens body) in
           let fits = fitting program one.0.place behind.sound types both.0 in

@@ -36,7 +36,7 @@ EachMean n (s ∷ ss) = AllMean n s × EachMean n ss
 -- A place whose types are formed, all whose names of types mean one of them, and where the module
 -- has its heading.
 pub record Sound (p : Place) : Type 0 where
-  pub formed : Formed p.types p.fields
+  pub formed : Formed p.types p.fields p.lengths
   pub scope : AllMean (length p.types) p.scope
   pub outer : EachMean (length p.types) p.outer
   pub begun : 0 < length p.headings

@@ -13,7 +13,7 @@ use Rattle.ob_syntax.specs.declared.checked.RArg.{RArg}
 use Rattle.ob_syntax.specs.declared.checked.RArg.TheVariants.{Value, Lent}
 use Rattle.ob_syntax.specs.declared.checked.RArm.{RArm, roll-RArm, fold-roll-RArm}
 use Rattle.ob_syntax.specs.declared.checked.RExpr.{RExpr, RExpr-F, out-RExpr}
-use Rattle.ob_syntax.specs.declared.checked.RStmt.{RStmt, RStmt-F, roll-RStmt, map-RStmt, fold-roll-RStmt}
+use Rattle.ob_syntax.specs.declared.checked.RStmt.{RStmt}
 use Rattle.ob_syntax.specs.declared.checked.RStmt.TheVariants as s
 use Rattle.ob_syntax.specs.declared.checked.RVar.{RVar, RVar-F, out-RVar, out-roll-RVar}
 use Rattle.ob_syntax.specs.declared.checked.RStep.{RStep}
@@ -33,13 +33,11 @@ use Rattle.vc_typed.specs.TypedStatements.{all_true, is_assignable, is_passed, a
 use Rattle.vc_typed.specs.Fitting.{Fits, AreAlike, ValuesAreScalars, IsThere}
 use Rattle.vc_typed.proofs.Bindings.{came_of, ok_same, ok_err, eq_self}
 use Rattle.vc_typed.proofs.ExpressionTypes.{Holds, AllGood, of_type_typed, alike_types, selected_along, variable_good, used_there, at_here}
+use Rattle.vc_typed.proofs.StatementEquations.{typed-Assign, typed-If, typed-While, typed-Repeat, typed-Call, typed-Read, typed-Write, typed-WriteLine}
 use Rattle.vc_typed.proofs.ExpressionTrees.{expression_good, selections_hold}
 
 module _ (program : Checked) where
   -- ---- each form of statement
-
-  typed_roll : (here : ℕ) (y : RStmt-F RStmt RArm) → is_typed program here (roll-RStmt y) ≡ is_typed_step program here (map-RStmt RStmt RArm Bool Bool (is_typed program here) (is_typed_arm program here) y)
-  typed_roll here = fold-roll-RStmt Bool Bool (is_typed_step program here) (is_typed_arm_step program here)
 
   both_true : (a b : Bool) → a ≡ true → b ≡ true → (a && b) ≡ true
   both_true a b x y = ap (λ z. z && b) x ∙ y
@@ -49,20 +47,20 @@ module _ (program : Checked) where
 
   assign_typed : (here : ℕ) (v : RVar) (y : RExpr) (type_id : ℕ) → variable_typing program here v ≡ t.typed true type_id → typing program here y ≡ t.typed true type_id → is_scalar type_id ≡ true → is_typed program here (s.Assign v y) ≡ true
   assign_typed here v y type_id left right scalar =
-      ap (is_typed program here) (sym (s.rolls-Assign v y)) ∙ typed_roll here (RStmt-F.Assign v y)
+      typed-Assign program here v y
       ∙ ap (λ z. is_assignable z (typing program here y)) left ∙ ap (is_assignable (t.typed true type_id)) right ∙ both_true (is_scalar type_id) (nat_eq type_id type_id) scalar (eq_self type_id)
 
   pub if_typed : (here : ℕ) (arms : List RArm) (other : List RStmt) → all_true (map (is_typed_arm program here) arms) ≡ true → are_typed program here other ≡ true → is_typed program here (s.If arms other) ≡ true
   if_typed here arms other left right =
-      ap (is_typed program here) (sym (s.rolls-If arms other)) ∙ typed_roll here (RStmt-F.If arms other) ∙ both_true _ _ left right
+      typed-If program here arms other ∙ both_true _ _ left right
 
   pub while_typed : (here : ℕ) (test : RExpr) (body : List RStmt) → typing program here test ≡ t.typed true boolean → are_typed program here body ≡ true → is_typed program here (s.While test body) ≡ true
   while_typed here test body good all =
-      ap (is_typed program here) (sym (s.rolls-While test body)) ∙ typed_roll here (RStmt-F.While test body) ∙ both_true _ _ (of_itself boolean _ good) all
+      typed-While program here test body ∙ both_true _ _ (of_itself boolean _ good) all
 
   pub repeat_typed : (here : ℕ) (body : List RStmt) (test : RExpr) → typing program here test ≡ t.typed true boolean → are_typed program here body ≡ true → is_typed program here (s.Repeat body test) ≡ true
   repeat_typed here body test good all =
-      ap (is_typed program here) (sym (s.rolls-Repeat body test)) ∙ typed_roll here (RStmt-F.Repeat body test) ∙ both_true _ _ all (of_itself boolean _ good)
+      typed-Repeat program here body test ∙ both_true _ _ all (of_itself boolean _ good)
 
   pub arm_typed : (here : ℕ) (test : RExpr) (body : List RStmt) → typing program here test ≡ t.typed true boolean → are_typed program here body ≡ true → is_typed_arm program here (roll-RArm (record { test = test; body = body })) ≡ true
   arm_typed here test body good all =
@@ -70,17 +68,17 @@ module _ (program : Checked) where
 
   call_typed : (here id : ℕ) (args : List RArg) (proc : CheckedProc) → slice_get program.procs id ≡ Some proc → are_passed program here proc.params args ≡ true → is_typed program here (s.Call (record { 0 = id }) args) ≡ true
   call_typed here id args proc there all =
-      ap (is_typed program here) (sym (s.rolls-Call (record { 0 = id }) args)) ∙ typed_roll here (RStmt-F.Call (record { 0 = id }) args)
+      typed-Call program here (record { 0 = id }) args
       ∙ ap (λ found. is_call program here found args) there ∙ all
 
   read_typed : (here : ℕ) (v : RVar) → variable_typing program here v ≡ t.typed true integer → is_typed program here (s.Read v) ≡ true
-  read_typed here v good = ap (is_typed program here) (sym (s.rolls-Read v)) ∙ typed_roll here (RStmt-F.Read v) ∙ of_itself integer _ good
+  read_typed here v good = typed-Read program here v ∙ of_itself integer _ good
 
   write_typed : (here : ℕ) (y : RExpr) → typing program here y ≡ t.typed true integer → is_typed program here (s.Write y) ≡ true
-  write_typed here y good = ap (is_typed program here) (sym (s.rolls-Write y)) ∙ typed_roll here (RStmt-F.Write y) ∙ of_itself integer _ good
+  write_typed here y good = typed-Write program here y ∙ of_itself integer _ good
 
   line_typed : (here : ℕ) → is_typed program here s.WriteLine ≡ true
-  line_typed here = ap (is_typed program here) (sym s.rolls-WriteLine) ∙ typed_roll here RStmt-F.WriteLine
+  line_typed here = typed-WriteLine program here
 
   -- ---- assignments and conditions
 

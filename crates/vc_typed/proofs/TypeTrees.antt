@@ -1,11 +1,11 @@
 -- The types that a type expression adds are formed of those before them.
-use Rattle.std.proofs.Common.{◌≡◌, ℕ, zero, suc, ◌+◌, ◌<◌, ◌≤◌, List, [], ◌∷◌, ◌++◌, length, map, Option, Some, None, refl, ap, sym, ◌∙◌, subst, arith, length-append}
+use Rattle.std.proofs.Common.{◌≡◌, ℕ, ◌+◌, ◌<◌, ◌≤◌, List, [], ◌∷◌, ◌++◌, length, map, Option, Some, None, refl, ap, sym, ◌∙◌, subst, arith, length-append}
 use Rattle.std.specs.Prelude.{Ok, Err, slice_get, bytes_eq}
 use Rattle.std.specs.List.{list_any}
 use Rattle.std.proofs.lemmas.List.{append-nil, append_assoc}
 use Rattle.std.proofs.lemmas.Option.{slice_get_within}
 use Rattle.pra_list.proofs.Choices.{by_test}
-use Rattle.pra_list.proofs.Options.{some_same, none_some}
+use Rattle.pra_list.proofs.Options.{none_some}
 use Rattle.pra_list.specs.Results.{◌>>=◌}
 use Rattle.ob_syntax.specs.declared.checked.Meaning.{Meaning}
 use Rattle.ob_syntax.specs.declared.checked.Meaning.TheVariants as meaning
@@ -22,12 +22,14 @@ use Rattle.ob_syntax.specs.Source.{Name}
 use Rattle.ob_syntax.specs.Types.{array_length, Shaped, with_type, with_length, named_type, with_fields, with_types, Fields, FieldsAfter, all_fields, type_form, field_list, type_step, type_expression, fields_of}
 use Rattle.vc_relation.specs.Layout.{NamesBelow, TypesInOrder}
 use Rattle.vc_typed.proofs.Bindings.{came_of, ok_same, ok_err}
+use Rattle.vc_typed.proofs.Lists.{get_before, get_behind, got, IsAmong, among_last, among_longer}
 
--- types that name only types before them, and the names of the fields of each
-pub record Formed (types : List Shape) (fields : List (List Name)) : Type 0 where
+-- types that name only types before them, the names of the fields of each, and lengths of arrays
+pub record Formed (types : List Shape) (fields : List (List Name)) (lengths : List ℕ) : Type 0 where
   pub ordered : TypesInOrder types
   pub parallel : length fields ≡ length types
   pub named : (k : ℕ) (fs : List ℕ) → slice_get types k ≡ Some (Record fs) → length (field_names (slice_get fields k)) ≡ length fs
+  pub counted : (k count element : ℕ) → slice_get types k ≡ Some (Array count element) → IsAmong count lengths
 
 -- The place behind types: nothing but types is added.
 pub record Extends (p q : Place) : Type 0 where
@@ -37,34 +39,25 @@ pub record Extends (p q : Place) : Type 0 where
   pub is : q ≡ record p { types = types; fields = fields; lengths = lengths }
   pub more : List Shape
   pub grown : types ≡ p.types ++ more
-  pub formed : Formed types fields
+  pub more_lengths : List ℕ
+  pub longer : lengths ≡ p.lengths ++ more_lengths
+  pub formed : Formed types fields lengths
 
 -- A place whose types are formed, and where each name of a type means one of them.
 pub record Ready (p : Place) : Type 0 where
-  pub formed : Formed p.types p.fields
+  pub formed : Formed p.types p.fields p.lengths
   pub names : (name : Name) (t : ℕ) → meaning_of p name ≡ Some (meaning.TypeName t) → t < length p.types
 
 -- ---- one more element
 
-pub get_before : {A : Type 0} (xs : List A) (y : A) (k : ℕ) → k < length xs → slice_get (xs ++ y ∷ []) k ≡ slice_get xs k
-get_before [] y k lt = absurd (omega (arith, lt))
-get_before (x ∷ xs) y zero lt = refl
-get_before (x ∷ xs) y (suc k) lt = get_before xs y k (omega (arith, lt))
+-- the length of an array is among these
+abbrev IsCounted : List ℕ → Shape → Type 0
+IsCounted lengths (Array count element) = IsAmong count lengths
+IsCounted lengths _ = Unit {0}
 
-pub get_last : {A : Type 0} (xs : List A) (y : A) → slice_get (xs ++ y ∷ []) (length xs) ≡ Some y
-get_last [] y = refl
-get_last (x ∷ xs) y = get_last xs y
-
--- what stands in the longer list: one of those before, or the last
-pub got : {A : Type 0} (xs : List A) (y z : A) (k : ℕ) {Q : Type 0} → slice_get (xs ++ y ∷ []) k ≡ Some z → (k < length xs → slice_get xs k ≡ Some z → Q) → (k ≡ length xs → y ≡ z → Q) → Q
-got [] y z zero is before last = last refl (some_same y z is)
-got [] y z (suc k) is before last = absurd (none_some is)
-got (x ∷ xs) y z zero is before last = before (omega arith) is
-got (x ∷ xs) y z (suc k) is before last = got xs y z k is (λ lt at. before (omega (arith, lt)) at) (λ same at. last (ap suc same) at)
-
-pub formed_push : (types : List Shape) (fields : List (List Name)) (shape : Shape) (names : List Name) → Formed types fields → NamesBelow (length types) shape → ((fs : List ℕ) → shape ≡ Record fs → length names ≡ length fs)
-    → Formed (types ++ shape ∷ []) (fields ++ names ∷ [])
-formed_push types fields shape names formed below same = record {
+pub formed_push : (types : List Shape) (fields : List (List Name)) (lengths : List ℕ) (shape : Shape) (names : List Name) → Formed types fields lengths → NamesBelow (length types) shape → ((fs : List ℕ) → shape ≡ Record fs → length names ≡ length fs)
+    → IsCounted lengths shape → Formed (types ++ shape ∷ []) (fields ++ names ∷ []) lengths
+formed_push types fields lengths shape names formed below same counted = record {
   ordered = record {
     first = get_before types shape 0 (slice_get_within types 0 Integer formed.ordered.first) ∙ formed.ordered.first;
     second = get_before types shape 1 (slice_get_within types 1 Boolean formed.ordered.second) ∙ formed.ordered.second;
@@ -73,13 +66,14 @@ formed_push types fields shape names formed below same = record {
   parallel = let count = formed.parallel in omega (arith, count, length-append types (shape ∷ []), length-append fields (names ∷ []));
   named = λ k fs at. got types shape (Record fs) k at
       (λ lt is. ap (λ o. length (field_names o)) (get_before fields names k (let count = formed.parallel in omega (arith, count, lt))) ∙ formed.named k fs is)
-      (λ end is. ap (λ n. length (field_names (slice_get (fields ++ names ∷ []) n))) (end ∙ sym formed.parallel) ∙ ap (λ o. length (field_names o)) (get_last fields names) ∙ same fs is);
+      (λ end is. ap (λ n. length (field_names (slice_get (fields ++ names ∷ []) n))) (end ∙ sym formed.parallel) ∙ ap (λ o. length (field_names o)) (get_behind fields names []) ∙ same fs is);
+  counted = λ k count element at. got types shape (Array count element) k at (λ lt is. formed.counted k count element is) (λ end is. subst (IsCounted lengths) is counted);
 }
 
 -- ---- places
 
-pub stays : (p : Place) → Formed p.types p.fields → Extends p p
-stays p formed = record { types = p.types; fields = p.fields; lengths = p.lengths; is = refl; more = []; grown = sym (append-nil p.types); formed = formed }
+pub stays : (p : Place) → Formed p.types p.fields p.lengths → Extends p p
+stays p formed = record { types = p.types; fields = p.fields; lengths = p.lengths; is = refl; more = []; grown = sym (append-nil p.types); more_lengths = []; longer = sym (append-nil p.lengths); formed = formed }
 
 pub extends_on : (p q r : Place) → Extends p q → Extends q r → Extends p r
 extends_on p q r a b = record {
@@ -89,11 +83,13 @@ extends_on p q r a b = record {
   is = b.is ∙ ap (λ (z : Place). record z { types = b.types; fields = b.fields; lengths = b.lengths }) a.is;
   more = a.more ++ b.more;
   grown = b.grown ∙ ap (λ (z : Place). z.types ++ b.more) a.is ∙ ap (λ ts. ts ++ b.more) a.grown ∙ append_assoc p.types a.more b.more;
+  more_lengths = a.more_lengths ++ b.more_lengths;
+  longer = b.longer ∙ ap (λ (z : Place). z.lengths ++ b.more_lengths) a.is ∙ ap (λ ns. ns ++ b.more_lengths) a.longer ∙ append_assoc p.lengths a.more_lengths b.more_lengths;
   formed = b.formed;
 }
 
-pub formed_behind : (p q : Place) → Extends p q → Formed q.types q.fields
-formed_behind p q a = subst (λ (z : Place). Formed z.types z.fields) (sym a.is) a.formed
+pub formed_behind : (p q : Place) → Extends p q → Formed q.types q.fields q.lengths
+formed_behind p q a = subst (λ (z : Place). Formed z.types z.fields z.lengths) (sym a.is) a.formed
 
 pub types_behind : (p q : Place) (a : Extends p q) → q.types ≡ a.types
 types_behind p q a = ap (λ (z : Place). z.types) a.is
@@ -161,8 +157,8 @@ name_added k p ready r is =
     subst (TypeAdded p) (ok_same (p, two.0) r two.2)
     (record { extends = stays p ready.formed; within = ready.names (name_at p k) two.0 (found_type p k two.0 (meaning_of p (name_at p k)) name) })
 
-type_pushed : (p : Place) (shape : Shape) (names : List Name) → Formed p.types p.fields → NamesBelow (length p.types) shape → ((fs : List ℕ) → shape ≡ Record fs → length names ≡ length fs) → TypeAdded p (with_type p shape names)
-type_pushed p shape names formed below same = record {
+type_pushed : (p : Place) (shape : Shape) (names : List Name) → Formed p.types p.fields p.lengths → NamesBelow (length p.types) shape → ((fs : List ℕ) → shape ≡ Record fs → length names ≡ length fs) → IsCounted p.lengths shape → TypeAdded p (with_type p shape names)
+type_pushed p shape names formed below same counted = record {
   extends = record {
     types = p.types ++ shape ∷ [];
     fields = p.fields ++ names ∷ [];
@@ -170,7 +166,9 @@ type_pushed p shape names formed below same = record {
     is = refl;
     more = shape ∷ [];
     grown = refl;
-    formed = formed_push p.types p.fields shape names formed below same;
+    more_lengths = [];
+    longer = sym (append-nil p.lengths);
+    formed = formed_push p.types p.fields p.lengths shape names formed below same counted;
   };
   within = omega (arith, length-append p.types (shape ∷ []));
 }
@@ -178,8 +176,18 @@ type_pushed p shape names formed below same = record {
 added_on : (p q : Place) (r : Place × ℕ) → Extends p q → TypeAdded q r → TypeAdded p r
 added_on p q r a b = record { extends = extends_on p q r.0 a b.extends; within = b.within }
 
-with_length_extends : (p : Place) (n : ℕ) → Formed p.types p.fields → Extends p (with_length p n)
-with_length_extends p n formed = record { types = p.types; fields = p.fields; lengths = p.lengths ++ n ∷ []; is = refl; more = []; grown = sym (append-nil p.types); formed = formed }
+with_length_extends : (p : Place) (n : ℕ) → Formed p.types p.fields p.lengths → Extends p (with_length p n)
+with_length_extends p n formed = record {
+  types = p.types;
+  fields = p.fields;
+  lengths = p.lengths ++ n ∷ [];
+  is = refl;
+  more = [];
+  grown = sym (append-nil p.types);
+  more_lengths = n ∷ [];
+  longer = refl;
+  formed = record { ordered = formed.ordered; parallel = formed.parallel; named = formed.named; counted = λ k count element at. among_longer count p.lengths (n ∷ []) (p.lengths ++ n ∷ []) refl (formed.counted k count element at) };
+}
 
 array_added : (item : Shaped) → GoodShaped item → (p : Place) → Ready p → (n : ℕ) (r : Place × ℕ) → (item (with_length p n) >>= λ inner. Ok (with_type inner.0 (Array n inner.1) [])) ≡ Ok r → TypeAdded p r
 array_added item good p ready n r is =
@@ -187,9 +195,10 @@ array_added item good p ready n r is =
     let q = with_length p n in
     let longer = with_length_extends p n ready.formed in
     let inner = good.adds q (ready_behind p q longer ready) of.0 of.1 in
+    let lengths : of.0.0.lengths ≡ q.lengths ++ inner.extends.more_lengths = ap (λ (z : Place). z.lengths) inner.extends.is ∙ inner.extends.longer in
     subst (TypeAdded p) (ok_same (with_type of.0.0 (Array n of.0.1) []) r of.2)
     (added_on p of.0.0 (with_type of.0.0 (Array n of.0.1) []) (extends_on p q of.0.0 longer inner.extends)
-    (type_pushed of.0.0 (Array n of.0.1) [] (formed_behind q of.0.0 inner.extends) inner.within (λ fs same. absurd (cc))))
+    (type_pushed of.0.0 (Array n of.0.1) [] (formed_behind q of.0.0 inner.extends) inner.within (λ fs same. absurd (cc)) (among_longer n q.lengths inner.extends.more_lengths of.0.0.lengths lengths (among_last p.lengths n))))
 
 all_fields_added : (ls : List FieldsAfter) → AllAfter ls → (f g : Fields) → FieldsGood f → all_fields f ls ≡ Ok g → Extends f.place g.place × FieldsGood g
 all_fields_added [] good f g fine is = subst (λ (z : Fields). Extends f.place z.place × FieldsGood z) (ok_same f g is) (stays f.place fine.ready.formed, fine)
@@ -210,7 +219,7 @@ record_added ls good p ready r is =
     let all = all_fields_added ls good start of.0 (record { ready = ready; below = none_below (length p.types); named = refl }) of.1 in
     subst (TypeAdded p) (ok_same (with_type of.0.place (Record of.0.types) of.0.names) r of.2)
     (added_on p of.0.place (with_type of.0.place (Record of.0.types) of.0.names) all.0
-    (type_pushed of.0.place (Record of.0.types) of.0.names all.1.ready.formed all.1.below (λ fs same. all.1.named ∙ ap length (record_same of.0.types fs same))))
+    (type_pushed of.0.place (Record of.0.types) of.0.names all.1.ready.formed all.1.below (λ fs same. all.1.named ∙ ap length (record_same of.0.types fs same)) tt))
   where
     record_same : (xs ys : List ℕ) → ◌≡◌ {A = Shape} (Record xs) (Record ys) → xs ≡ ys
     record_same xs ys h = cc

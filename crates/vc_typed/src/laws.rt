@@ -18,7 +18,7 @@ ghost use Rattle.ob_syntax.specs.declared.tree.Module.{Module};
 ghost use Rattle.ob_syntax.specs.declared.tree.Stmt.{Stmt};
 ghost use Rattle.vc_relation.specs.Layout.{IsLaidOut};
 ghost use Rattle.vc_typed.specs.Fitting.{Fits};
-ghost use Rattle.vc_typed.specs.TypedModules.{IsTyped};
+ghost use Rattle.vc_typed.specs.TypedModules.{IsTyped, IsLimited};
 ghost use Rattle.vc_typed.specs.TypedStatements.{are_typed};
 ghost use Rattle.vc_typed.specs.Typing.{typed, typing, variable_typing};
 
@@ -59,4 +59,10 @@ pub fn modules_begin_fitting()
 pub fn checked_modules_are_typed()
     ensures { (bytes : List ℕ) (tokens : List Token) (m : Module) (r : Reading) →
         IsWellFormed bytes tokens m r → IsTyped (resolved m r) }
+{}
+
+/// Nothing of a well-formed module within the limits is above its maximum.
+pub fn checked_modules_are_limited()
+    ensures { (bytes : List ℕ) (tokens : List Token) (m : Module) (r : Reading) →
+        IsWellFormed bytes tokens m r → IsWithin r → IsLimited (resolved m r) }
 {}
