@@ -1,5 +1,6 @@
 -- An assembly with one procedure more, its start, and its calls filled in.
-use Rattle.std.proofs.Common.{◌≡◌, ℕ, ◌+◌, ◌-◌, ◌≤◌, ◌<◌, List, [], ◌∷◌, ◌++◌, length, refl, sym, ap, ◌∙◌, arith, append_assoc, append-nil, length-append, subst, ◌⊎◌, inl, inr}
+use Rattle.std.proofs.Common.{◌≡◌, ℕ, zero, suc, Some, ◌+◌, ◌-◌, ◌≤◌, ◌<◌, List, [], ◌∷◌, ◌++◌, length, refl, sym, ap, ◌∙◌, arith, append_assoc, append-nil, length-append, subst, ◌⊎◌, inl, inr}
+use Rattle.std.specs.Prelude.{slice_get}
 use Rattle.std.specs.List.{sum_by}
 use Rattle.std.proofs.lemmas.List.{take_all, take_at, take-append-le, get_or_append_left, get_or_default, get_or_past, get_or_push, length_push}
 use Rattle.std.proofs.lemmas.List.Sums.{sum_by-cons, sum_by_push}
@@ -12,11 +13,14 @@ use Rattle.ia_code.proofs.Listings.{bytes_of_all-append, sound_append}
 use Rattle.ia_emit.specs.declared.bytes.CallSite.{CallSite}
 use Rattle.ia_emit.specs.Code.{size, all_aimed, front, target_in, first_entry, entry, code_size, code_from, code_with, code_of, distance}
 use Rattle.ia_emit.specs.Emission.{emit_proc}
+use Rattle.ia_emit.specs.Sound.{HasOffset}
 use Rattle.ia_emit.specs.Open.{Within, filled, overwritten, IsOpen}
 use Rattle.ia_emit.proofs.Open.{length_filled, filled_front, filled_more, filled_behind, within_more, within_from, within_both, length_all, length_open}
 use Rattle.ia_asm.specs.declared.assembly.Assembly.{Assembly}
 use Rattle.ia_asm.specs.Assembly.{entry_in, IsAssembly}
 use Rattle.pl_place.specs.declared.placed.LProc.{LProc}
+use Rattle.pl_place.specs.Valid.{EachOp}
+use Rattle.pra_list.proofs.Options.{some_same}
 
 abbrev proc_size : LProc → ℕ
 proc_size p = size (emit_proc p)
@@ -66,6 +70,15 @@ filled_same one other same from (c ∷ calls) bytes =
     ap (λ n. filled one from calls (overwritten (c.place - from) (imm32 (distance (c.place + 4) n)) bytes)) (same c.callee.0)
     ∙ filled_same one other same from calls (overwritten (c.place - from) (imm32 (distance (c.place + 4) (other c.callee.0))) bytes)
 
+-- ---- lists
+
+-- what holds of each holds with one more
+each_more : {X : Type 0} (P : X → Type 0) (xs : List X) (x : X) → ((k : ℕ) (y : X) → slice_get xs k ≡ Some y → P y) → P x → (k : ℕ) (y : X) → slice_get (xs ++ x ∷ []) k ≡ Some y → P y
+each_more P [] x all it zero y there = subst P (some_same x y there) it
+each_more P [] x all it (suc k) y there = cc
+each_more P (z ∷ xs) x all it zero y there = all zero y there
+each_more P (z ∷ xs) x all it (suc k) y there = each_more P xs x (λ k. all (suc k)) it k y there
+
 -- ---- an assembly
 
 abbrev nowhere : ℕ → ℕ
@@ -96,6 +109,7 @@ begun words bytes calls opened few a e f g h =
           ∙ sym (ap (λ l. first_entry + sum_by proc_size l) (take_all k [] (omega arith)));
       words_are = h;
       few_words = few;
+      offsets = λ q p there. cc;
     }
 
 module _ (procs : List LProc) (words : ℕ) (old : Assembly) (is : IsAssembly procs words old) where
@@ -166,8 +180,8 @@ module _ (procs : List LProc) (words : ℕ) (old : Assembly) (is : IsAssembly pr
           three k n = grind arith
 
     pub added : (new : Assembly) → new.code.items ≡ old.code.items ++ bytes → new.calls.items ≡ old.calls.items ++ calls → new.entries.items ≡ old.entries.items ++ at ∷ [] →
-        new.data_words ≡ old.data_words → at + proc_size p ≤ max_code_bytes → IsAssembly (procs ++ p ∷ []) words new
-    added new e f g h room =
+        new.data_words ≡ old.data_words → at + proc_size p ≤ max_code_bytes → EachOp p (λ i places. HasOffset i) → IsAssembly (procs ++ p ∷ []) words new
+    added new e f g h room fit =
         let long : length new.code.items ≡ at + length bytes = ap length e ∙ length-append old.code.items bytes in
         let end : length new.code.items ≡ at + proc_size p = omega (arith, long, size_is) in
         record {
@@ -182,6 +196,7 @@ module _ (procs : List LProc) (words : ℕ) (old : Assembly) (is : IsAssembly pr
           entries = λ k. ap (λ l. entry_in l (length new.code.items) k) g ∙ starts_more (length new.code.items) end k;
           words_are = h ∙ is.words_are;
           few_words = is.few_words;
+          offsets = each_more (λ p. EachOp p (λ i places. HasOffset i)) procs p is.offsets fit;
         }
 
   -- with its calls filled in

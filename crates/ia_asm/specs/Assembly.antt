@@ -1,11 +1,13 @@
--- The code of procedures that are added one after the other. Calls are filled in at the end, when it
--- is known where each procedure begins.
+-- The code of procedures that are added one after the other. Calls are filled in at the end, when
+-- it is known where each procedure begins.
 use Rattle.std.specs.Prelude.{◌≡◌, ℕ, ◌≤◌, List, length, slice_get, slice_index_or, Some}
-use Rattle.ia_code.specs.Image.{max_code_bytes, max_data_words}
-use Rattle.ia_code.specs.Listing.{bytes_of_all, AreSound}
-use Rattle.ia_emit.specs.Code.{entry, code_with, code_size}
+use Rattle.ia_code.specs.declared.image.Image.{Image}
+use Rattle.ia_code.specs.Image.{IsImage, max_code_bytes, max_data_words}
+use Rattle.ia_code.specs.Listing.{bytes_of_all, AreSound, IsListing}
+use Rattle.ia_emit.specs.Code.{entry, code_with, code_of, code_size}
 use Rattle.ia_emit.specs.Open.{Within, filled}
 use Rattle.ia_emit.specs.Operands.{IsSmall}
+use Rattle.ia_emit.specs.Sound.{OffsetsFit}
 use Rattle.ia_asm.specs.declared.assembly.Assembly.{Assembly}
 use Rattle.pl_place.specs.declared.placed.LProc.{LProc}
 use Rattle.pl_place.specs.Valid.{IsPlaced}
@@ -15,7 +17,8 @@ abbrev pub entry_in : List ℕ → ℕ → ℕ → ℕ
 entry_in entries end k = slice_index_or entries k end
 
 -- The assembly of these procedures, with so many words of data: wherever procedures begin, filling
--- the calls gives the bytes of the procedures' instructions.
+-- the calls gives the bytes of the procedures' instructions. The offsets that were read have 32
+-- bits.
 pub record IsAssembly (procs : List LProc) (data_words : ℕ) (a : Assembly) : Type 0 where
   pub short : length a.code.items ≤ max_code_bytes
   pub within : Within 0 (length a.code.items) a.calls.items
@@ -27,6 +30,7 @@ pub record IsAssembly (procs : List LProc) (data_words : ℕ) (a : Assembly) : T
       entry_in a.entries.items (length a.code.items) k ≡ entry procs k
   pub words_are : a.data_words ≡ data_words
   pub few_words : data_words ≤ max_data_words
+  pub offsets : OffsetsFit procs
 
 -- nothing of an assembly has changed but the room that it has
 pub record IsUnchanged (old new : Assembly) : Type 0 where
@@ -35,8 +39,17 @@ pub record IsUnchanged (old new : Assembly) : Type 0 where
   pub entries : new.entries.items ≡ old.entries.items
   pub data_words : new.data_words ≡ old.data_words
 
--- Procedures whose code an image holds: each is valid and small, and together they are not too long.
+-- Procedures whose code an image holds: each is valid and small, and together they are not too
+-- long.
 pub record CanAssemble (procs : List LProc) : Type 0 where
   pub placed : (k : ℕ) (p : LProc) → slice_get procs k ≡ Some p → IsPlaced p
   pub small : (k : ℕ) (p : LProc) → slice_get procs k ≡ Some p → IsSmall p
   pub room : code_size procs ≤ max_code_bytes
+
+-- The image of these procedures, with so many words of data: it is valid, and its code decodes to
+-- the instructions of the procedures, from the first byte to the last.
+pub record IsImageOf (procs : List LProc) (data_words : ℕ) (image : Image) : Type 0 where
+  pub valid : IsImage image
+  pub listing : IsListing image.code (code_of procs)
+  pub words_are : image.data_words ≡ data_words
+  pub offsets : OffsetsFit procs

@@ -3,11 +3,10 @@
 ghost use Rattle.std.specs.Prelude.{◌≡◌, ℕ, ◌+◌, ◌≤◌, List, [], ◌∷◌, ◌++◌, length};
 ghost use Rattle.std.specs.Prelude.{IfOk, OnOk, OnErr};
 ghost use Rattle.ia_code.specs.Image.{IsImage, max_code_bytes, max_data_words};
-ghost use Rattle.ia_code.specs.Listing.{IsListing};
-ghost use Rattle.ia_emit.specs.Code.{size, code_of};
+ghost use Rattle.ia_emit.specs.Code.{size};
 ghost use Rattle.ia_emit.specs.Emission.{emit_proc};
 ghost use Rattle.ia_emit.specs.Operands.{IsSmall};
-ghost use Rattle.ia_asm.specs.Assembly.{IsAssembly, IsUnchanged, CanAssemble};
+ghost use Rattle.ia_asm.specs.Assembly.{IsAssembly, IsImageOf, IsUnchanged, CanAssemble};
 ghost use Rattle.pl_place.specs.declared.placed.LProc.{LProc};
 ghost use Rattle.pl_place.specs.Valid.{IsPlaced};
 
@@ -75,8 +74,8 @@ impl Assembly {
     pub fn finish(self) -> Image
         requires { (procs : List LProc) × (words : ℕ) × IsAssembly procs words self }
         ensures valid { IsImage result }
-        ensures listing { (procs : List LProc) (words : ℕ) → IsAssembly procs words self →
-            IsListing result.code (code_of procs) × (result.data_words ≡ words) }
+        ensures image { (procs : List LProc) (words : ℕ) → IsAssembly procs words self →
+            IsImageOf procs words result }
     {
         let Assembly {
             mut code,
@@ -100,10 +99,7 @@ impl Assembly {
 pub fn assemble(alloc: Global, procs: &[LProc], data_words: u32) -> Result<Image, OutOfMemory>
     requires procs { CanAssemble procs.now }
     requires data_words { data_words ≤ max_data_words }
-    ensures valid { IfOk result IsImage }
-    // Its code decodes to the instructions of the procedures, from the first byte to the last.
-    ensures listing { IfOk result (λ image. IsListing image.code (code_of procs.now)) }
-    ensures data_words { IfOk result (λ image. image.data_words ≡ data_words) }
+    ensures { IfOk result (IsImageOf procs.now data_words) }
 {
     let mut assembly = Assembly::begin(alloc, data_words)?;
     for proc in procs {

@@ -1,4 +1,5 @@
 pub mod Blocks
+pub mod Each
 pub mod FewBytes
 pub mod NearCells
 pub mod Open

@@ -1,5 +1,5 @@
 -- Which items are instructions that the table of bytes has.
-use Rattle.std.specs.Prelude.{◌<◌, ◌^◌, List, [], ◌∷◌}
+use Rattle.std.specs.Prelude.{◌≡◌, ℕ, ◌<◌, ◌^◌, List, [], ◌∷◌, slice_get, Some}
 use Rattle.std.specs.Int.{w8, w32}
 use Rattle.std.specs.Int.RustNames.{FitsSigned}
 use Rattle.ia_code.specs.declared.ins.Ins.{Ins}
@@ -9,6 +9,13 @@ use Rattle.ia_code.specs.declared.ins.Rm.TheVariants as rm
 use Rattle.ia_code.specs.DecodeTable.{IsSound}
 use Rattle.ia_emit.specs.declared.item.Item.{Item}
 use Rattle.ia_emit.specs.declared.item.Item.TheVariants.{Plain}
+use Rattle.pl_place.specs.declared.placed.LInstr.{LInstr}
+use Rattle.pl_place.specs.declared.placed.LInstr.TheVariants as placed
+use Rattle.pl_place.specs.declared.placed.LProc.{LProc}
+use Rattle.pl_place.specs.Valid.{EachOp}
+use Rattle.pra_base.specs.Code.{address_of}
+use Rattle.pra_base.specs.declared.code.Addr.{Addr}
+use Rattle.pra_base.specs.declared.code.VInstr.{VInstr}
 
 abbrev pub DisplacementFits : Rm → Type 0
 DisplacementFits (rm.Reg r) = Unit {0}
@@ -46,3 +53,22 @@ SoundWhereFits _ = Unit {0}
 abbrev pub EachSound : List Item → Type 0
 EachSound [] = Unit {0}
 EachSound (i ∷ is) = SoundWhereFits i × EachSound is
+
+-- ---- offsets
+
+-- The address that an instruction has is off by a number of 32 bits. The type of the field says so,
+-- and so whoever has read the code knows it; no rule of placed code does.
+abbrev pub HasOffset : VInstr → Type 0
+HasOffset i = (a : Addr) → address_of i ≡ Some a → FitsSigned w32 a.offset
+
+abbrev pub OffsetFits : LInstr → Type 0
+OffsetFits (placed.Op i places) = HasOffset i
+OffsetFits (placed.Move m) = Unit {0}
+
+abbrev pub EachOffsetFits : List LInstr → Type 0
+EachOffsetFits code = (k : ℕ) (i : LInstr) → slice_get code k ≡ Some i → OffsetFits i
+
+-- each address of the code has such an offset
+abbrev pub OffsetsFit : List LProc → Type 0
+OffsetsFit procs =
+    (q : ℕ) (p : LProc) → slice_get procs q ≡ Some p → EachOp p (λ i places. HasOffset i)

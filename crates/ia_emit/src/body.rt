@@ -3,6 +3,8 @@
 ghost use Rattle.std.specs.Prelude.{◌≡◌, ◌<◌, ◌++◌, flat_map, IfOk, OnOk};
 ghost use Rattle.ia_emit.specs.Emission.{emit as emitted, emit_block, emit_proc};
 ghost use Rattle.ia_emit.specs.Layout.{AreFirst};
+ghost use Rattle.ia_emit.specs.Sound.{EachOffsetFits, HasOffset};
+ghost use Rattle.pl_place.specs.Valid.{EachOp};
 
 use crate::emission::{Items, emit, emit_end, prologue};
 use crate::frame::Frame;
@@ -26,8 +28,9 @@ fn append(items: &mut Vec<Item>, more: &Items) -> Result<(), OutOfMemory>
 }
 
 fn append_code(items: &mut Vec<Item>, frame: &Frame<'_>, code: &[LInstr]) -> Result<(), OutOfMemory>
-    ensures { let f = emitted frame.now.proc.now in
+    ensures items { let f = emitted frame.now.proc.now in
         OnOk result (items.new.items ≡ items.old.items ++ flat_map f code.now) }
+    ensures offsets { OnOk result (EachOffsetFits code.now) }
 {
     for instruction in code {
         append(items, &emit(frame, instruction))?;
@@ -42,8 +45,9 @@ fn append_block(
     block: &LBlock,
 ) -> Result<(), OutOfMemory>
     requires { k < usize.MAX }
-    ensures { let more = emit_block frame.now.proc.now k block.now in
+    ensures items { let more = emit_block frame.now.proc.now k block.now in
         OnOk result (items.new.items ≡ items.old.items ++ more) }
+    ensures offsets { OnOk result (EachOffsetFits block.now.code) }
 {
     append_code(items, frame, block.code.as_slice())?;
     append(items, &emit_end(frame, k + 1, &block.end))
@@ -57,6 +61,7 @@ fn append_block(
 pub fn list_body(alloc: Global, frame: &Frame<'_>) -> Result<Body, OutOfMemory>
     ensures items { IfOk result (λ body. body.items.items ≡ emit_proc frame.now.proc.now) }
     ensures first { IfOk result (λ body. AreFirst frame.now.proc.now body.first.items) }
+    ensures offsets { OnOk result (EachOp frame.now.proc.now (λ i places. HasOffset i)) }
 {
     let mut items = Vec::new(alloc);
     let mut first = Vec::new(alloc);

@@ -14,6 +14,7 @@ ghost use Rattle.ia_emit.specs.Emission.{via_count as via_count_of, at as at_pla
 ghost use Rattle.ia_emit.specs.Emission.{operation as operation_of, clear as clear_of};
 ghost use Rattle.ia_emit.specs.Emission.{emit_op as op_of, emit as emitted, leave as leave_of};
 ghost use Rattle.ia_emit.specs.Emission.{return, emit_end as end_of, prologue as prologue_of};
+ghost use Rattle.ia_emit.specs.Sound.{HasOffset, OffsetFits};
 
 use crate::frame::{Frame, register};
 use crate::item::{Item, Operand, Target};
@@ -123,49 +124,50 @@ fn checked(i: Operand, n: i32, when: Cond, trap: TrapKind) -> Items
 
 /// What an instruction becomes, with the places of its operands: of those that it reads, then of
 /// those that it writes.
-fn emit_op(frame: &Frame<'_>, of: &VInstr, places: &[Place]) -> Items
-    ensures { result.items ≡ op_of frame.now.proc.now of.now places.now }
+fn emit_op(frame: &Frame<'_>, of: VInstr, places: &[Place]) -> Items
+    ensures items { result.items ≡ op_of frame.now.proc.now of places.now }
+    ensures offset { HasOffset of }
 {
     let item = match of {
-        VInstr::Set(v, n) => Item::Plain(set(at(frame, places, *v, 0), *n)),
+        VInstr::Set(v, n) => Item::Plain(set(at(frame, places, v, 0), n)),
         VInstr::Copy(v, s) => {
-            Item::Plain(copy(at(frame, places, *v, 1), at(frame, places, *s, 0)))
+            Item::Plain(copy(at(frame, places, v, 1), at(frame, places, s, 0)))
         }
-        VInstr::Add(v, s) => operation(frame, places, AluOp::Add, *v, *s),
-        VInstr::Sub(v, s) => operation(frame, places, AluOp::Sub, *v, *s),
-        VInstr::And(v, s) => operation(frame, places, AluOp::And, *v, *s),
-        VInstr::Or(v, s) => operation(frame, places, AluOp::Or, *v, *s),
-        VInstr::Xor(v, s) => operation(frame, places, AluOp::Xor, *v, *s),
+        VInstr::Add(v, s) => operation(frame, places, AluOp::Add, v, s),
+        VInstr::Sub(v, s) => operation(frame, places, AluOp::Sub, v, s),
+        VInstr::And(v, s) => operation(frame, places, AluOp::And, v, s),
+        VInstr::Or(v, s) => operation(frame, places, AluOp::Or, v, s),
+        VInstr::Xor(v, s) => operation(frame, places, AluOp::Xor, v, s),
         VInstr::Mul(v, s) => Item::Plain(multiply(
-            reg_of(at(frame, places, *v, 0)),
-            at(frame, places, *s, 1),
+            reg_of(at(frame, places, v, 0)),
+            at(frame, places, s, 1),
         )),
-        VInstr::Neg(v) => Item::Plain(Ins::Neg(rm_of(at(frame, places, *v, 0)))),
-        VInstr::Cmp(a, b) => operation(frame, places, AluOp::Cmp, *a, *b),
-        VInstr::Push(s) => Item::Plain(push(at(frame, places, *s, 0))),
-        VInstr::Call(callee) => Item::Call(*callee),
+        VInstr::Neg(v) => Item::Plain(Ins::Neg(rm_of(at(frame, places, v, 0)))),
+        VInstr::Cmp(a, b) => operation(frame, places, AluOp::Cmp, a, b),
+        VInstr::Push(s) => Item::Plain(push(at(frame, places, s, 0))),
+        VInstr::Call(callee) => Item::Call(callee),
         VInstr::Read(_) => call_service(Service::ReadNumber),
         VInstr::Write(_) => call_service(Service::WriteNumber),
         VInstr::Line => call_service(Service::WriteLine),
         VInstr::Load(v, from) => Item::Plain(Ins::MovRRm(
-            reg_of(at(frame, places, *v, address_count(from))),
-            Rm::Mem(address(frame, from, places)),
+            reg_of(at(frame, places, v, address_count(&from))),
+            Rm::Mem(address(frame, &from, places)),
         )),
         VInstr::Store(to, s) => Item::Plain(store(
-            address(frame, to, places),
-            at(frame, places, *s, address_count(to)),
+            address(frame, &to, places),
+            at(frame, places, s, address_count(&to)),
         )),
-        VInstr::Addr(v, of) => Item::Plain(Ins::Lea(
-            reg_of(at(frame, places, *v, address_count(of))),
-            address(frame, of, places),
+        VInstr::Addr(v, from) => Item::Plain(Ins::Lea(
+            reg_of(at(frame, places, v, address_count(&from))),
+            address(frame, &from, places),
         )),
-        VInstr::CmpSet(c, v, a, b) => return set_if(frame, places, *c, *v, *a, *b),
-        VInstr::DivMod(_, _, _, d) => return divide(at(frame, places, *d, 1)),
+        VInstr::CmpSet(c, v, a, b) => return set_if(frame, places, c, v, a, b),
+        VInstr::DivMod(_, _, _, d) => return divide(at(frame, places, d, 1)),
         VInstr::Check(i, n) => {
-            return checked(at(frame, places, *i, 0), *n, Cond::Ae, TrapKind::Index);
+            return checked(at(frame, places, i, 0), n, Cond::Ae, TrapKind::Index);
         }
         VInstr::CheckPos(d) => {
-            return checked(at(frame, places, *d, 0), 0, Cond::Le, TrapKind::Divide);
+            return checked(at(frame, places, d, 0), 0, Cond::Le, TrapKind::Divide);
         }
         VInstr::Clear => return clear(frame),
     };
@@ -195,10 +197,11 @@ fn divide(by: Operand) -> Items
 
 /// What an instruction or a move of placed code becomes.
 pub fn emit(frame: &Frame<'_>, of: &LInstr) -> Items
-    ensures { result.items ≡ emitted frame.now.proc.now of.now }
+    ensures items { result.items ≡ emitted frame.now.proc.now of.now }
+    ensures offset { OffsetFits of.now }
 {
     match of {
-        LInstr::Op(i, places) => emit_op(frame, i, places.as_slice()),
+        LInstr::Op(i, places) => emit_op(frame, *i, places.as_slice()),
         LInstr::Move(m) => listed(&[Item::Plain(emit_move(frame, *m))]),
     }
 }

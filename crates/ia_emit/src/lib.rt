@@ -17,6 +17,8 @@
 //! begins need not be known: the distances of calls are noted, and whatever they are, filling them
 //! in gives the bytes of the procedure's instructions (`specs/Open`). `front_piece` gives what
 //! stands before the procedures.
+//!
+//! `specs/Carries` says of an image's bytes alone which selected code and which flows they carry.
 #![tactic(auto)]
 
 mod body;

@@ -1,12 +1,13 @@
 // A procedure of placed code as bytes.
 
-ghost use Rattle.std.specs.Prelude.{◌+◌, ◌≤◌, IfOk};
+ghost use Rattle.std.specs.Prelude.{◌+◌, ◌≤◌, IfOk, OnOk};
 ghost use Rattle.ia_code.specs.Image.{max_code_bytes};
 ghost use Rattle.ia_emit.specs.Open.{IsOpen};
 ghost use Rattle.ia_emit.specs.Code.{size, target_in};
 ghost use Rattle.ia_emit.specs.Emission.{emit_proc};
 ghost use Rattle.ia_emit.specs.Operands.{IsSmall};
-ghost use Rattle.pl_place.specs.Valid.{IsPlaced};
+ghost use Rattle.ia_emit.specs.Sound.{HasOffset};
+ghost use Rattle.pl_place.specs.Valid.{IsPlaced, EachOp};
 
 use crate::body::list_body;
 use crate::bytes::{Piece, put_all};
@@ -26,8 +27,10 @@ pub fn piece_of(alloc: Global, proc: &LProc, at: u32) -> Result<Piece, OutOfMemo
     requires placed { IsPlaced proc.now }
     requires small { IsSmall proc.now }
     requires room { at + size (emit_proc proc.now) ≤ max_code_bytes }
-    ensures { let target = target_in proc.now at in
+    ensures open { let target = target_in proc.now at in
         IfOk result (λ p. IsOpen target at (emit_proc proc.now) p.bytes.items p.calls.items) }
+    // Its offsets were read, so each of them is a number of 32 bits.
+    ensures offsets { OnOk result (EachOp proc.now (λ i places. HasOffset i)) }
 {
     let memory = table(alloc, proc)?;
     let frame = Frame {

@@ -14,6 +14,7 @@ use Rattle.ia_code.specs.Regions.{code_base}
 use Rattle.ia_emit.specs.Code.{size, block_start, entry, code_of}
 use Rattle.ia_emit.specs.Emission.{emit}
 use Rattle.ia_emit.specs.Operands.{IsSmall, free_register}
+use Rattle.ia_emit.specs.Sound.{OffsetsFit}
 use Rattle.ia_step.specs.declared.flags.Flags.{Flags}
 use Rattle.ia_step.specs.declared.registers.Registers.{Registers}
 use Rattle.ia_step.specs.Arithmetic.{diff_flags}
@@ -25,9 +26,7 @@ use Rattle.pl_place.specs.declared.placed.LInstr.{LInstr}
 use Rattle.pl_place.specs.declared.placed.LProc.{LProc}
 use Rattle.pl_place.specs.Machine.{Cells, shape, proc_of, placed_machine}
 use Rattle.pl_place.specs.Placed.{op_of}
-use Rattle.pl_place.specs.Valid.{ArePlaced, EachOp, counts_of, linstr_at}
-use Rattle.pra_base.specs.Code.{address_of}
-use Rattle.pra_base.specs.declared.code.Addr.{Addr}
+use Rattle.pl_place.specs.Valid.{ArePlaced, counts_of, linstr_at}
 use Rattle.pra_base.specs.declared.code.End.{End}
 use Rattle.pra_base.specs.Places.{register_count}
 use Rattle.pra_base.specs.RunEnd.{Wrong}
@@ -42,7 +41,7 @@ use Rattle.ia_simulation.specs.Frames.{frames}
 -- ---- what is loaded
 
 -- Valid placed code within the limits, of which each instruction is in the table of bytes, and
--- which is q longer than an image's code may be. The module has so many words of data.
+-- which is no longer than an image's code may be. The module has so many words of data.
 pub record IsLoadable (procs : List LProc) (data_words : ℕ) : Type 0 where
   pub placed : ArePlaced procs
   pub small : (p : ℕ) (code : LProc) → slice_get procs p ≡ Some code → IsSmall code
@@ -185,12 +184,6 @@ abbrev pub EachIsCarried : List LProc → Type 0
 EachIsCarried procs =
     (q : ℕ) (p : LProc) → slice_get procs q ≡ Some p →
     (b k : ℕ) (i : LInstr) → linstr_at p b k i → IsCarried i
-
--- each address of the code has an offset of 32 bits
-abbrev pub OffsetsFit : List LProc → Type 0
-OffsetsFit procs =
-    (q : ℕ) (p : LProc) → slice_get procs q ≡ Some p →
-    EachOp p (λ i places. (a : Addr) → address_of i ≡ Some a → FitsSigned w32 a.offset)
 
 -- ---- images
 

@@ -24,7 +24,8 @@ ghost use Rattle.pra_base.specs.declared.ids.Cond.{Cond};
 ghost use Rattle.pra_base.specs.declared.ids.ProcId.{ProcId};
 ghost use Rattle.pra_base.specs.declared.ids.VarId.{VarId};
 ghost use Rattle.ia_simulation.specs.Represents.{IsLoadable, IsLoaded, AreWords, Represents};
-ghost use Rattle.ia_simulation.specs.Represents.{IsCarried, EndIsCarried, OffsetsFit};
+ghost use Rattle.ia_simulation.specs.Represents.{IsCarried, EndIsCarried};
+ghost use Rattle.ia_emit.specs.Sound.{OffsetsFit};
 
 /// Wherever the machine stands for placed code that stands before a move, the move is one
 /// instruction of the machine, behind which it stands for placed code again.

@@ -2,10 +2,9 @@ use Rattle.std.proofs.Common.{refl, ◌≡◌, take, Some, slice_get, subst, sym
 use Rattle.std.proofs.lemmas.List.{take_more, take_all}
 use Rattle.std.proofs.lemmas.List.Sums.{sum_by_more_le}
 use Rattle.std.proofs.lemmas.Option.{slice_get_read}
-use Rattle.ia_code.specs.Listing.{IsListing}
-use Rattle.ia_emit.specs.Code.{size, code_of}
+use Rattle.ia_emit.specs.Code.{size}
 use Rattle.ia_emit.specs.Emission.{emit_proc}
-use Rattle.ia_asm.specs.Assembly.{IsAssembly}
+use Rattle.ia_asm.specs.Assembly.{IsAssembly, IsImageOf}
 use Rattle.ia_asm.proofs.Assembling.{length_assembly}
 use Rattle.ia_asm.proofs.assembly.assemble.Goals as goal
 
@@ -38,11 +37,8 @@ loop-proc-preserved c =
 pub finish-requires : goal.finish-requires
 finish-requires c = (take c.loop-proc.proc-index c.args.procs.now, c.args.data_words, c.loop-proc.invariant)
 
-pub returns-clause-listing : goal.returns-clause-listing
-returns-clause-listing c =
+pub returns : goal.returns
+returns c =
     let procs = c.args.procs.now in
     let k = c.loop-proc.proc-index in
-    subst (λ l. IsListing c.finish.result.code (code_of l)) (take_all k procs c.loop-proc-test.false) (c.finish.ensures.listing (take k procs) c.args.data_words c.loop-proc.invariant).0
-
-pub returns-clause-data_words : goal.returns-clause-data_words
-returns-clause-data_words c = (c.finish.ensures.listing (take c.loop-proc.proc-index c.args.procs.now) c.args.data_words c.loop-proc.invariant).1
+    subst (λ l. IsImageOf l c.args.data_words c.finish.result) (take_all k procs c.loop-proc-test.false) (c.finish.ensures.image (take k procs) c.args.data_words c.loop-proc.invariant)

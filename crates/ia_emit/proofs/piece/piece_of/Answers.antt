@@ -22,8 +22,8 @@ put_all-requires-clause-sound c =
     subst EachSound (sym (c.as_slice-items.ensures.value ∙ c.in_ok-body.ensures.items))
     (proc_sound p (cells_hold p c.requires.small is) (λ j b m i places e f. is.operands_placed j m i places (b, e, f)))
 
-pub returns : goal.returns
-returns c =
+pub returns-clause-open : goal.returns-clause-open
+returns-clause-open c =
     let p = c.args.proc.now in
     let at = c.args.at in
     subst (λ items. IfOk c.put_all.result (λ (q : Piece). IsOpen (target_in p at) at items q.bytes.items q.calls.items)) (c.as_slice-items.ensures.value ∙ c.in_ok-body.ensures.items) c.put_all.ensures

@@ -33,9 +33,14 @@ returns-clause-valid c =
     let code : c.from_vec.result ≡ c.fill.new.code = c.from_vec.ensures ∙ take_at c.fill.new.code _ self.code.len (c.fill.auto.code ∙ c.deref_mut.ensures.len) in
     finished_is_image c.requires.0 c.requires.1 self c.requires.2 c.fill.new.code filled_in _ code refl
 
-pub returns-clause-listing : goal.returns-clause-listing
-returns-clause-listing c = λ procs words is.
+pub returns-clause-image : goal.returns-clause-image
+returns-clause-image c = λ procs words is.
     let self = c.args.self in
     let filled_in = c.fill.ensures ∙ same_filled _ self.code.items _ self.calls.items _ self.entries.items c.deref_mut.ensures.value c.deref.ensures.value c.deref-2.ensures.value in
     let code : c.from_vec.result ≡ c.fill.new.code = c.from_vec.ensures ∙ take_at c.fill.new.code _ self.code.len (c.fill.auto.code ∙ c.deref_mut.ensures.len) in
-    (subst (λ l. IsListing l (code_of procs)) (sym code) (finished procs words self is c.fill.new.code filled_in), is.words_are)
+    record {
+      valid = finished_is_image procs words self is c.fill.new.code filled_in _ code refl;
+      listing = subst (λ l. IsListing l (code_of procs)) (sym code) (finished procs words self is c.fill.new.code filled_in);
+      words_are = is.words_are;
+      offsets = is.offsets;
+    }
