@@ -1,3 +1,4 @@
+pub mod Carries
 pub mod Code
 pub mod Counts
 pub mod Emission
