@@ -6,8 +6,7 @@ ghost use Rattle.std.specs.Prelude.{slice_index, IsTrue, None, Some, option_map,
 ghost use Rattle.pra_base.specs.Places.{number, has_register, register_of};
 ghost use Rattle.net_form.specs.Admitted.{strand_at, uses_bundle};
 ghost use Rattle.net_form.specs.Flow.{edges, flow, AreRoutes};
-ghost use Rattle.net_form.specs.Formed.{IsFormed, most_layers};
-ghost use Rattle.net_form.specs.Index.{first_layer};
+ghost use Rattle.net_form.specs.Formed.{IsFormed};
 ghost use Rattle.net_form.specs.Rooms.{layer_total};
 ghost use Rattle.net_gate.specs.Broken.{IsFirstAbove, IsBefore};
 ghost use Rattle.net_gate.specs.InUse.{mark, Stands, comes_to, numbers, IsEarlier};
@@ -103,18 +102,6 @@ fn occupy(regs: &mut Seq<u8>, clash: Option<Bundle>, layer: u32, to: Place) -> O
     clash
 }
 
-// The number of the layer 0 of a strand's block, where the layers of all blocks are counted
-// together.
-fn base_of(net: &Net, strand: usize) -> u32
-    requires net { IsFormed net.now }
-    requires strand { strand < length net.now.strands }
-    ensures value { result ≡ first_layer net.now.blocks (strand_at net.now strand).block.0 }
-    ensures within { result + (strand_at net.now strand).last < layer_total net.now.blocks }
-{
-    let block = net.strands[strand].block;
-    net.index.layers[block.0 as usize]
-}
-
 // The registers that the path of a strand is in.
 fn occupy_path(
     regs: &mut Seq<u8>,
@@ -135,7 +122,7 @@ fn occupy_path(
         regs.new result }
 {
     let mut clash = clash;
-    let mut layer = base_of(net, strand) + net.strands[strand].first;
+    let mut layer = net.entry_layer(strand) + net.strands[strand].first;
     let mut rest = path;
     while let [to, others @ ..] = rest {
         clash = occupy(regs, clash, layer, *to);
