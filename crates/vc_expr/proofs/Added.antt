@@ -27,10 +27,10 @@ use Rattle.vc_expr.proofs.Obeys.{obeys_add, obeys_sub, obeys_mul, obeys_and, obe
 pub put_valid : (at : ℕ) (i : VInstr) (old mid : VProc) → IsOpen mid at → StaysValid old mid → Obeys mid.args mid.vars i → is_simple i ≡ true → StaysValid old (with_instr at i mid)
 put_valid at i old mid o valid obeys simple = record { stays = λ counts k. put_rules counts at i mid o (valid.stays counts k) obeys simple }
 
-no_param : (n : ℕ) → Plain ≢ Param n
+pub no_param : (n : ℕ) → Plain ≢ Param n
 no_param n e = cc
 
-no_param_constant : (c : ℤ) (n : ℕ) → Constant c ≢ Param n
+pub no_param_constant : (c : ℤ) (n : ℕ) → Constant c ≢ Param n
 no_param_constant c n e = cc
 
 pub plain_valid : (old mid : VProc) → StaysValid old mid → StaysValid old (with_variable Plain mid)

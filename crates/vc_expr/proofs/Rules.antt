@@ -77,7 +77,7 @@ lead_more T (Clear ∷ xs) n i e p = (p.0, lead_more T xs 0 i e p.1)
 
 -- ---- lists
 
-get_last : {A : Type 0} (xs : List A) (x : A) (k : ℕ) (y : A) → slice_get (xs ++ x ∷ []) k ≡ Some y → (slice_get xs k ≡ Some y) ⊎ (y ≡ x)
+pub get_last : {A : Type 0} (xs : List A) (x : A) (k : ℕ) (y : A) → slice_get (xs ++ x ∷ []) k ≡ Some y → (slice_get xs k ≡ Some y) ⊎ (y ≡ x)
 get_last [] x zero y e = inr (cc)
 get_last [] x (suc k) y e = absurd (cc)
 get_last (z ∷ xs) x zero y e = inl e
