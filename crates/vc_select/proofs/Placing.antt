@@ -76,7 +76,7 @@ module _ {A : Type 0} (test : A → Bool) (first words : A → ℕ) where
   follow_below from to [] f = omega (arith, f)
   follow_below from to (x ∷ xs) f = omega (arith, follow_below (from + (if test x then words x else 0)) to xs f.1)
 
-  follow_within : (from to : ℕ) (xs : List A) (k : ℕ) (x : A) → FollowOn test first words from to xs → slice_get xs k ≡ Some x → test x ≡ true → first x + words x ≤ to
+  pub follow_within : (from to : ℕ) (xs : List A) (k : ℕ) (x : A) → FollowOn test first words from to xs → slice_get xs k ≡ Some x → test x ≡ true → first x + words x ≤ to
   follow_within from to [] k x f e t = absurd (none_some e)
   follow_within from to (y ∷ ys) zero x f e t =
       let is = some_same y x e in
