@@ -28,7 +28,7 @@ use Rattle.pl_place.specs.Machine.{Cells, proc_of, placed_machine, lrun}
 use Rattle.pl_place.specs.Machine as low
 use Rattle.pl_place.specs.Placed.{frame_size}
 use Rattle.pl_simulation.specs.Correspondence.{Corresponds, AllCorrespond}
-use Rattle.pl_simulation.proofs.Coupled.{Same}
+use Rattle.vc_coupling.specs.Coupled.{Same}
 use Rattle.pl_simulation.proofs.Words.{if_true}
 use Rattle.pl_simulation.proofs.Simulated.{Steps, TakesCall, instr_step, end_step, begins}
 use Rattle.pl_simulation.proofs.Pushed.{Pending, step_led, call_takes}
@@ -160,7 +160,7 @@ module _ (codes : List VProc) (procs : List LProc) (is : AllCorrespond codes pro
 
   begin_same : (globals : Words) (input : List ℤ) → B (first body globals input) (first low_body globals input)
   begin_same globals input = (
-    record { top = started; below = tt; pushed = refl; globals = refl; compared = refl; input = refl; events = refl; taken = refl; over = refl },
+    record { top = started; below = tt; pushed = refl; globals = refl; compared = λ ab e. e; input = refl; events = refl; taken = refl; over = refl },
     (starts 0 0, tt),
   )
 

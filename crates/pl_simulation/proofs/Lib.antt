@@ -1,7 +1,5 @@
-pub mod Applied
 pub mod Carried
 pub mod Cells
-pub mod Coupled
 pub mod Located
 pub mod Moved
 pub mod Pushed

@@ -36,8 +36,8 @@ use Rattle.pl_place.specs.Machine.{Cells, Spot, Slot, Argument, Nowhere, spot, i
 use Rattle.pl_place.specs.Machine as low
 use Rattle.pra_list.specs.Each.{Each}
 use Rattle.pl_simulation.specs.Correspondence.{Allocation, Among, InFrame, Transfers, Fits, IsOpAt, InstrCorresponds, EndCorresponds, Comes, Corresponds}
-use Rattle.pl_simulation.proofs.Coupled.{AllBeside, Couples, Same, Leads}
-use Rattle.pl_simulation.proofs.Applied.{found_same, with_top_same, ended_same, performed}
+use Rattle.vc_coupling.specs.Coupled.{AllBeside, Couples, Same, Leads}
+use Rattle.vc_coupling.proofs.Applied.{found_same, with_top_same, ended_same, performed}
 use Rattle.pl_simulation.proofs.Words.{if_true}
 use Rattle.pl_simulation.proofs.Cells.{ParamsApart, HasCells}
 use Rattle.pl_simulation.proofs.Located.{IsIn, Matches, reads_same, matches_behind, behind_is}
@@ -289,7 +289,7 @@ module _ (codes_list : List VProc) (frames : List ℕ) (list : List LProc) (coun
     returns s t r [] [] k = ended_same high lower R coupled s t Ended r
     returns s t r [] (d ∷ ds) k = elim k [ ]
     returns s t r (c ∷ cs) [] k = elim k [ ]
-    returns s t r (c ∷ cs) (d ∷ ds) k = record { top = k.0; below = k.1; pushed = r.pushed; globals = r.globals; compared = refl; input = r.input; events = r.events; taken = r.taken; over = r.over }
+    returns s t r (c ∷ cs) (d ∷ ds) k = record { top = k.0; below = k.1; pushed = r.pushed; globals = r.globals; compared = λ ab e. cc; input = r.input; events = r.events; taken = r.taken; over = r.over }
 
     goes : (s : State Vars) (t : State Cells) → Same R s t → (b : ℕ) → Leads R (high.jump b s.top) (lower.jump b t.top) → (goes_to high s b).over ≢ Some Wrong → Same R (goes_to high s b) (goes_to lower t b)
     goes s t r b f ok = found_same high lower R coupled R s t (high.jump b s.top) (lower.jump b t.top) _ _ f (λ x y _ k _. with_top_same high lower R coupled s t r x y k) ok
@@ -300,7 +300,7 @@ module _ (codes_list : List VProc) (frames : List ℕ) (list : List LProc) (coun
     leaves s t r (Branch k one other) f None is ok = absurd (ok (ap (λ o. (branched high k one.0 other.0 o s).over) is))
     leaves s t r (Branch k one other) f (Some (a, b)) is ok =
         let up : branched high k one.0 other.0 s.compared s ≡ goes_to high s (if compares k a b then one.0 else other.0) = ap (λ o. branched high k one.0 other.0 o s) is in
-        let down : branched lower k one.0 other.0 t.compared t ≡ goes_to lower t (if compares k a b then one.0 else other.0) = ap (λ o. branched lower k one.0 other.0 o t) (r.compared ∙ is) in
+        let down : branched lower k one.0 other.0 t.compared t ≡ goes_to lower t (if compares k a b then one.0 else other.0) = ap (λ o. branched lower k one.0 other.0 o t) (r.compared (a, b) is) in
         rw (up, down) (goes s t r (if compares k a b then one.0 else other.0) (f _ (target (compares k a b))) (λ e. ok (ap (λ z. z.over) up ∙ e)))
       where
         target : (c : Bool) → IsTarget (Branch k one other) (if c then one.0 else other.0)

@@ -15,7 +15,7 @@ use Rattle.pl_place.specs.Placed.{kind_of, slot_of}
 use Rattle.pl_place.specs.Machine.{Cells, Spot, Slot, Argument, Nowhere, spot, spot_as, in_spot, at_cell, cells}
 use Rattle.pra_list.specs.Each.{Each}
 use Rattle.pl_simulation.specs.Correspondence.{Allocation, InstrCorresponds, EndCorresponds, Corresponds}
-use Rattle.pl_simulation.proofs.Coupled.{Couples}
+use Rattle.vc_coupling.specs.Coupled.{Couples}
 use Rattle.pl_simulation.proofs.Words.{if_false, differ, last_set_get}
 use Rattle.pl_simulation.proofs.Cells.{is_own, HasCells, param_is}
 use Rattle.pl_simulation.proofs.Located.{IsIn, Matches}

@@ -31,7 +31,7 @@ use Rattle.vc_same.specs.Reduction.Part.{ends, stays}
 use Rattle.vc_same.specs.SameRuns.{RunsWell, SameRuns, with_proc}
 use Rattle.vc_same.proofs.Put.{if_true, if_false}
 use Rattle.vc_same.proofs.Renamed.{same_names}
-use Rattle.vc_same.proofs.Coupled.{Same}
+use Rattle.vc_coupling.specs.Coupled.{Same}
 use Rattle.vc_same.proofs.Tracked.{Tracks, begun_tracks}
 use Rattle.vc_same.proofs.Stepped.{measure, moves}
 

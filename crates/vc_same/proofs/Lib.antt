@@ -1,6 +1,4 @@
-pub mod Applied
 pub mod Carried
-pub mod Coupled
 pub mod Forms
 pub mod Kept
 pub mod Paths

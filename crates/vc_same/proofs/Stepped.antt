@@ -34,8 +34,8 @@ use Rattle.vc_same.specs.Renaming.{Names, renamed}
 use Rattle.vc_same.specs.Reduction.{Needed, Stays, LeftOut, Part, Reduced}
 use Rattle.vc_same.specs.Reduction.LeftOut.{dead, copied}
 use Rattle.vc_same.specs.Reduction.Part.{ends, stays, left_out}
-use Rattle.vc_same.proofs.Coupled.{AllBeside, Same, Leads}
-use Rattle.vc_same.proofs.Applied.{found_same, with_top_same, ended_same, performed}
+use Rattle.vc_coupling.specs.Coupled.{AllBeside, Same, Leads}
+use Rattle.vc_coupling.proofs.Applied.{found_same, with_top_same, ended_same, performed}
 use Rattle.vc_same.proofs.Renamed.{Among, among_reads, writes_among, among_writes, read_by_renamed, written_by_renamed, reads_renamed, writes_from, operate_renamed}
 use Rattle.vc_same.proofs.Put.{if_true, if_false, put_rest, put_one, put_both}
 use Rattle.vc_same.proofs.Paths.{nothing_left, left_begins, needed_read, needed_over, needed_leave}

@@ -11,7 +11,7 @@ use Rattle.vc_code.specs.Selected.{Vars, read, valued, argument, begun, shape}
 use Rattle.vc_code.specs.Selected as selected
 use Rattle.vc_same.specs.Renaming.{Names}
 use Rattle.vc_same.specs.Reduction.{Needed, Part, Reduced}
-use Rattle.vc_same.proofs.Coupled.{Couples}
+use Rattle.vc_coupling.specs.Coupled.{Couples}
 
 -- a variable that has to hold the same in both, before place k of the old block and place j of the new one
 pub record Counts (to : Names) (old new : VProc) (b k j v : ℕ) : Type 0 where

@@ -14,7 +14,7 @@ use Rattle.vc_code.specs.Value.{Held, Words}
 use Rattle.pra_base.specs.Words.{word, stack_limit}
 use Rattle.vc_code.specs.Operation.{number, operate}
 use Rattle.vc_code.specs.Machine.{Shape, Activation, State, Machine, Instr, depth, here, cell, words_of, object, word_at, with_aggregates, calls_with, with_calls, with_object, ended, found, with_top, joined, entered, takes, zeroed, apply, act}
-use Rattle.vc_same.proofs.Coupled.{AllBeside, Couples, Same, Leads}
+use Rattle.vc_coupling.specs.Coupled.{AllBeside, Couples, Same, Leads}
 
 abbrev nil : (X : Type 0) → List X
 nil X = []
