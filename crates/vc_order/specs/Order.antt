@@ -1,0 +1,40 @@
+-- When code is other code with its blocks in another order. Nothing here speaks of runs.
+use Rattle.std.specs.Prelude.{◌≡◌, ℕ, ◌<◌, length, slice_get, Some}
+use Rattle.pra_base.specs.declared.ids.BlockId.{BlockId}
+use Rattle.pra_base.specs.declared.code.End.{End}
+use Rattle.pra_base.specs.declared.code.End.TheVariants.{Jump, Branch, Return}
+use Rattle.pra_base.specs.declared.code.Block.{Block}
+use Rattle.pra_base.specs.declared.code.VProc.{VProc}
+use Rattle.pra_base.specs.Valid.{instruction_count}
+
+-- the new number of each block
+abbrev pub Places : Type 0
+Places = ℕ → ℕ
+
+abbrev pub block_at : Places → BlockId → BlockId
+block_at to b = record { 0 = to b.0 }
+
+abbrev pub end_with : Places → End → End
+end_with to (Jump b) = Jump (block_at to b)
+end_with to (Branch condition one other) = Branch condition (block_at to one) (block_at to other)
+end_with to Return = Return
+
+-- the block with its targets under their new numbers
+abbrev pub block_with : Places → Block → Block
+block_with to block = record block { end = end_with to block.end }
+
+-- The code is the old code with its blocks in another order, which keeps the entry. Each block has
+-- a new place, and each place a block.
+pub record Reordered (to from : Places) (old new : VProc) : Type 0 where
+  pub id : new.id ≡ old.id
+  pub args : new.args ≡ old.args
+  pub aggregates : new.aggregates ≡ old.aggregates
+  pub vars : new.vars ≡ old.vars
+  pub count : length new.blocks ≡ length old.blocks
+  pub entry : to 0 ≡ 0
+  pub blocks : (b : ℕ) (block : Block) → slice_get old.blocks b ≡ Some block →
+      slice_get new.blocks (to b) ≡ Some (block_with to block)
+  pub back : (b : ℕ) → b < length old.blocks → from (to b) ≡ b
+  pub forth : (c : ℕ) → c < length old.blocks → to (from c) ≡ c
+  pub within : (c : ℕ) → c < length old.blocks → from c < length old.blocks
+  pub instructions : instruction_count new.blocks ≡ instruction_count old.blocks
