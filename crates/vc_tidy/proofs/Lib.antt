@@ -1,4 +1,8 @@
+pub mod Grouped
 pub mod Joining
 pub mod Marking
-pub mod Pairs
+pub mod Meeting
+pub mod Noted
+pub mod Numbered
+pub mod Stepping
 pub mod Thin

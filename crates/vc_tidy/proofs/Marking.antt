@@ -60,6 +60,25 @@ live_marks_by old new mid false false m e f (inr (inr g)) = cc
 pub live_marks : (old new mid r w m r' w' : Bool) → mid ≡ (if r' then m else old) → r' ≡ r → new ≡ (if w' then m else mid) → w' ≡ w → (old ≡ m) ⊎ ((r ≡ true) ⊎ (w ≡ true)) → new ≡ m
 live_marks old new mid r w m r' w' e re f we c = live_marks_by old new mid r w m (e ∙ ap (λ b. if b then m else old) re) (f ∙ ap (λ b. if b then m else mid) we) c
 
+-- both roles are marked
+pub both_marked : (old new mid r w r' w' : Bool) → mid ≡ (if r' then true else old) → r' ≡ r → new ≡ (if w' then true else mid) → w' ≡ w → (old ≡ true) ⊎ ((r ≡ true) ⊎ (w ≡ true)) → new ≡ true
+both_marked old new mid r w r' w' e re f we c = by old new mid r w (e ∙ ap (λ b. if b then true else old) re) (f ∙ ap (λ b. if b then true else mid) we) c
+  where
+    by : (old new mid r w : Bool) → mid ≡ (if r then true else old) → new ≡ (if w then true else mid) → (old ≡ true) ⊎ ((r ≡ true) ⊎ (w ≡ true)) → new ≡ true
+    by old new mid r true e f c = f
+    by old new mid true false e f c = f ∙ e
+    by old new mid false false e f (inl g) = f ∙ e ∙ g
+    by old new mid false false e f (inr (inl g)) = cc
+    by old new mid false false e f (inr (inr g)) = cc
+
+pub marked_by : (old new mid r w r' w' : Bool) → mid ≡ (if r' then true else old) → r' ≡ r → new ≡ (if w' then true else mid) → w' ≡ w → new ≡ true → (old ≡ true) ⊎ ((r ≡ true) ⊎ (w ≡ true))
+marked_by old new mid r w r' w' e re f we m = by old new mid r w (e ∙ ap (λ b. if b then true else old) re) (f ∙ ap (λ b. if b then true else mid) we) m
+  where
+    by : (old new mid r w : Bool) → mid ≡ (if r then true else old) → new ≡ (if w then true else mid) → new ≡ true → (old ≡ true) ⊎ ((r ≡ true) ⊎ (w ≡ true))
+    by old new mid r true e f m = inr (inr refl)
+    by old new mid true false e f m = inr (inl refl)
+    by old new mid false false e f m = inl (sym (f ∙ e) ∙ m)
+
 -- ---- variables of a list of instructions
 
 get_take : (xs : List VInstr) (n k : ℕ) (i : VInstr) → slice_get (take n xs) k ≡ Some i → (k < n) × (slice_get xs k ≡ Some i)

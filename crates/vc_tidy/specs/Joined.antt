@@ -1,89 +1,166 @@
--- Variables that are joined in pairs, and what becomes of code.
-use Rattle.std.specs.Prelude.{◌≡◌, ◌≢◌, ℕ, ◌+◌, ◌*◌, ◌<◌, min, Bool, true, false, not, ◌||◌, ◌&&◌}
+-- Variables that are joined under one name, and what becomes of code.
+use Rattle.std.specs.Prelude.{◌≡◌, ◌≢◌, ℕ, suc, ◌+◌, ◌*◌, ◌<◌, ◌⊎◌, Bool, true, false, not, ◌||◌, ◌&&◌}
 use Rattle.std.specs.Prelude.{nat_eq, if◌then◌else◌, List, [], ◌∷◌, length, map, slice_index_or}
-use Rattle.std.specs.Prelude.{Option, Some, None}
+use Rattle.std.specs.Prelude.{All, Contains, Option, Some, None}
+use Rattle.pra_base.specs.declared.ids.VarId.{VarId}
 use Rattle.pra_base.specs.declared.code.Block.{Block}
+use Rattle.pra_base.specs.declared.code.VarKind.{VarKind}
 use Rattle.pra_base.specs.declared.code.VarKind.TheVariants.{Plain}
 use Rattle.pra_base.specs.declared.code.VInstr.{VInstr}
 use Rattle.pra_base.specs.declared.code.VInstr.TheVariants.{Copy}
 use Rattle.pra_base.specs.declared.code.VProc.{VProc}
 use Rattle.pra_base.specs.Code.{kind_of, instr_at}
-use Rattle.pra_base.specs.Operands.{reads, writes}
-use Rattle.pra_base.specs.Valid.{Names, instruction_count}
-use Rattle.vc_same.specs.SameRuns.{Preserves}
-use Rattle.vc_live.specs.declared.liveness.Liveness.{Liveness}
-use Rattle.vc_code.specs.declared.row.OperandRow.{OperandRow}
-use Rattle.vc_live.specs.Equations.{named_in}
-use Rattle.vc_live.specs.Rows.{live_at}
+use Rattle.pra_base.specs.Valid.{Names, IsValid, IsSized, instruction_count}
+use Rattle.vc_same.specs.Reduction.{Needed}
 use Rattle.vc_same.specs.Renaming.{renamed}
+use Rattle.vc_same.specs.SameRuns.{Preserves}
+use Rattle.vc_code.specs.declared.row.OperandRow.{OperandRow}
+use Rattle.vc_live.specs.declared.liveness.Liveness.{Liveness}
+use Rattle.vc_live.specs.Equations.{named_in}
+use Rattle.vc_live.specs.Rows.{live_at, IsLiveness}
+use Rattle.vc_tidy.specs.Tidy.{is_between, CanBeOne, NoCopy}
+use Rattle.vc_tidy.specs.declared.places.Place.{Place}
+use Rattle.vc_tidy.specs.declared.classes.Classes.{Classes}
 
--- the variable that a variable is joined with; itself, where it is joined with none
-abbrev pub mate : List ℕ → ℕ → ℕ
-mate mates v = slice_index_or mates v v
+-- valid and sized code, and its liveness
+pub record IsKnown (code : VProc) (l : Liveness) : Type 0 where
+  pub is_valid : IsValid code
+  pub is_sized : IsSized code
+  pub exact : IsLiveness code l
 
--- the name of both
+-- ---- names
+
+-- the name of a variable; past the list its own number
 abbrev pub name : List ℕ → ℕ → ℕ
-name mates v = min v (mate mates v)
+name names v = slice_index_or names v v
 
--- The mate of a mate is the variable itself, and only Plain variables are joined.
-pub record AreMates (code : VProc) (mates : List ℕ) : Type 0 where
-  pub count : length mates ≡ length code.vars
-  pub back : (v : ℕ) → mate mates (mate mates v) ≡ v
-  pub within : (v : ℕ) → v < length code.vars → mate mates v < length code.vars
-  pub plain : (v : ℕ) → mate mates v ≢ v → kind_of code v ≡ Plain
+-- Only Plain variables have another name than their own, which is that of a Plain variable.
+pub record AreNames (code : VProc) (names : List ℕ) : Type 0 where
+  pub count : length names ≡ length code.vars
+  pub within : (v : ℕ) → v < length code.vars → name names v < length code.vars
+  pub plain : (v : ℕ) → name names v ≢ v →
+      (kind_of code v ≡ Plain) × (kind_of code (name names v) ≡ Plain)
 
--- a copy between two variables that are joined
+-- a copy between two variables of one name
 abbrev pub is_joined : List ℕ → VInstr → Bool
-is_joined mates (Copy t s) = nat_eq (mate mates t.0) s.0
-is_joined mates _ = false
+is_joined names (Copy t s) = nat_eq (name names t.0) (name names s.0)
+is_joined names _ = false
 
-abbrev pub has : VInstr → ℕ → Bool
-has i v = reads i v || writes i v
-
--- An instruction has a variable whose mate it has too, or whose mate is live behind it.
-abbrev pub Clash : List ℕ → (ℕ → Bool) → VInstr → ℕ → Type 0
-Clash mates live i v = Names i v × (mate mates v ≢ v)
-    × ((has i (mate mates v) || live (mate mates v)) ≡ true)
-
--- The instruction has no such variable, or is a copy between variables that are joined.
-abbrev pub IsFree : List ℕ → (ℕ → Bool) → VInstr → Type 0
-IsFree mates live i = is_joined mates i ≡ false → (v : ℕ) → Clash mates live i v → ⊥
-
--- what is live behind instruction k
-abbrev pub live_behind : Liveness → ℕ → ℕ → ℕ → Bool
-live_behind l b k v = live_at l v b (2 * k + 2)
-
-abbrev pub AllFree : VProc → Liveness → List ℕ → Type 0
-AllFree code l mates = (b k : ℕ) (i : VInstr) → instr_at code b k ≡ Some i →
-    IsFree mates (live_behind l b k) i
-
--- the code without copies between joined variables, with one name for both
+-- the code without copies between variables of one name, under the names
 unfoldable pub joined : List ℕ → List VInstr → List VInstr
-joined mates [] = []
-joined mates (i ∷ rest) =
-    if is_joined mates i then joined mates rest
-    else renamed (name mates) i ∷ joined mates rest
+joined names [] = []
+joined names (i ∷ rest) =
+    if is_joined names i then joined names rest
+    else renamed (name names) i ∷ joined names rest
 
 abbrev pub joined_block : List ℕ → Block → Block
-joined_block mates block = record block { code = joined mates block.code }
+joined_block names block = record block { code = joined names block.code }
 
-abbrev pub joined_code : List ℕ → VProc → VProc
-joined_code mates code = record code { blocks = map (joined_block mates) code.blocks }
+-- the same with other variables
+abbrev pub joined_code : List ℕ → List VarKind → VProc → VProc
+joined_code names vars code = record code {
+  vars = vars;
+  blocks = map (joined_block names) code.blocks;
+}
 
--- a variable of an instruction with these operands clashes with its mate
-abbrev pub clashes : List ℕ → OperandRow → (ℕ → Bool) → ℕ → Bool
-clashes mates row live v =
-    let other = mate mates v in
-    not (nat_eq other v) && (named_in row.reads.items other || named_in row.writes.items other
-    || live other)
+-- some copy is between variables of one name
+abbrev pub HasJoined : VProc → List ℕ → Type 0
+HasJoined code names =
+    (b k : ℕ) × (i : VInstr) × (instr_at code b k ≡ Some i) × (is_joined names i ≡ true)
 
--- code in which copies were joined, and that is shorter, or nothing
-abbrev pub IsShorter : VProc → Option VProc → Type 0
-IsShorter old (Some new) =
+-- ---- interference
+
+-- Instruction k of block b, which is no copy between the two, has the first variable, while it has
+-- the second one too, or that is needed behind it.
+pub record MeetsAt (code : VProc) (b k v w : ℕ) : Type 0 where
+  pub instr : VInstr
+  pub is : instr_at code b k ≡ Some instr
+  pub other : is_between v w instr ≡ false
+  pub first : Names instr v
+  pub second : Names instr w ⊎ Needed code b (suc k) w
+
+abbrev pub Meets : VProc → ℕ → ℕ → Type 0
+Meets code v w = (b k : ℕ) × MeetsAt code b k v w
+
+-- no two variables of one name meet
+abbrev pub AllApart : VProc → List ℕ → Type 0
+AllApart code names =
+    (v w : ℕ) → v ≢ w → name names v ≡ name names w → Meets code v w → ⊥
+
+-- the same of an instruction with these operands, by a liveness
+abbrev pub is_met : Liveness → VInstr → OperandRow → ℕ → ℕ → ℕ → ℕ → Bool
+is_met l i row b k v w =
+    not (is_between v w i) && (named_in row.reads.items w || named_in row.writes.items w
+    || live_at l w b (2 * k + 2))
+
+-- a Plain variable of the code
+abbrev pub IsPlain : VProc → ℕ → Type 0
+IsPlain code v = (v < length code.vars) × (kind_of code v ≡ Plain)
+
+-- the instruction is no copy between two Plain variables that can be one
+abbrev pub IsNoCopy : VProc → VInstr → Type 0
+IsNoCopy code i =
+    (t s : VarId) → i ≡ Copy t s → t.0 ≢ s.0 → IsPlain code t.0 → IsPlain code s.0 →
+    CanBeOne code t.0 s.0 → ⊥
+
+-- some variable of one list meets one of another
+abbrev pub SomeMeet : VProc → List ℕ → List ℕ → Type 0
+SomeMeet code one other =
+    (v w : ℕ) × Contains one v × Contains other w × Meets code v w
+
+abbrev pub NoneMeet : VProc → List ℕ → List ℕ → Type 0
+NoneMeet code one other = All (λ v. All (λ w. Meets code v w → ⊥) other) one
+
+-- ---- where variables stand
+
+abbrev pub places_of : List (List Place) → ℕ → List Place
+places_of places v = slice_index_or places v []
+
+-- each variable's list has the places of all instructions that have it
+abbrev pub HasPlaces : VProc → List (List Place) → Type 0
+HasPlaces code places =
+    (b k : ℕ) (i : VInstr) → instr_at code b k ≡ Some i → (v : ℕ) → Names i v →
+    Contains (places_of places v) (record { block = b; index = k })
+
+-- ---- classes
+
+abbrev pub group_of : List (List ℕ) → ℕ → List ℕ
+group_of groups c = slice_index_or groups c []
+
+-- a variable of the code that is of the kind of another
+abbrev pub IsLike : VProc → ℕ → ℕ → Type 0
+IsLike code c v = (v < length code.vars) × (kind_of code v ≡ kind_of code c)
+
+-- The variables of one name stand in its group, are of one kind and do not meet.
+pub record AreClasses (code : VProc) (classes : Classes) : Type 0 where
+  pub names : AreNames code classes.names.items
+  pub count : length classes.groups.items ≡ length code.vars
+  pub members : (v : ℕ) → v < length code.vars →
+      Contains (group_of classes.groups.items (name classes.names.items v)) v
+  pub kinds : (c : ℕ) → All (IsLike code c) (group_of classes.groups.items c)
+  pub apart : AllApart code classes.names.items
+
+-- each variable has its own name and is alone in its group
+pub record AreAlone (code : VProc) (classes : Classes) : Type 0 where
+  pub count : length classes.names.items ≡ length code.vars
+  pub groups_count : length classes.groups.items ≡ length code.vars
+  pub names : (v : ℕ) → name classes.names.items v ≡ v
+  pub groups : (v : ℕ) → v < length code.vars → group_of classes.groups.items v ≡ v ∷ []
+
+-- what is known of classes: some copy is joined, or all variables are alone
+pub record AreTried (code : VProc) (now : Classes) (joined : Bool) : Type 0 where
+  pub classes : AreClasses code now
+  pub some : joined ≡ true → HasJoined code now.names.items
+  pub alone : joined ≡ false → AreAlone code now
+
+-- names under which variables that are copied into each other are one, so that a copy goes
+pub record IsFound (code : VProc) (names : List ℕ) : Type 0 where
+  pub names_are : AreNames code names
+  pub apart : AllApart code names
+  pub some : HasJoined code names
+
+-- code in which copies were joined, and that is shorter, or nothing where none can be
+abbrev pub IsJoined : VProc → Option VProc → Type 0
+IsJoined old (Some new) =
     Preserves old new × (instruction_count new.blocks < instruction_count old.blocks)
-IsShorter old None = Unit {0}
-
--- code that may stand in the place of other code, or nothing
-abbrev pub MayStand : VProc → Option VProc → Type 0
-MayStand old (Some new) = Preserves old new
-MayStand old None = Unit {0}
+IsJoined old None = NoCopy old

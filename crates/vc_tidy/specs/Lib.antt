@@ -1,3 +1,6 @@
 pub mod Joined
+pub mod Places
+pub mod Steps
 pub mod Thinned
 pub mod Tidy
+pub mod Unused

@@ -66,8 +66,3 @@ abbrev pub IsThinned : VProc → Option VProc → Type 0
 IsThinned old (Some new) =
     Preserves old new × (instruction_count new.blocks < instruction_count old.blocks)
 IsThinned old None = NoDead old
-
--- code that may stand in its place and has no dead instruction, or nothing where it has none itself
-abbrev pub HasNoDead : VProc → Option VProc → Type 0
-HasNoDead old (Some new) = Preserves old new × NoDead new
-HasNoDead old None = NoDead old

@@ -1,68 +1,165 @@
-// Leaving out copies.
+// Joining variables that are copied into each other.
 
-ghost use Rattle.std.specs.Prelude.{◌≡◌, IfOk, IfErr};
-ghost use Rattle.pra_base.specs.Valid.{IsSized, IsValid};
-ghost use Rattle.vc_same.specs.SameRuns.{Preserves};
-ghost use Rattle.vc_tidy.specs.Joined.{IsShorter, MayStand};
+ghost use Rattle.std.specs.Prelude.{◌≡◌, ◌≢◌, ℕ, ◌<◌, length, IfOk, MatchOption, true, false};
+ghost use Rattle.vc_tidy.specs.Joined.{AreAlone, AreClasses, AreTried, HasPlaces, IsFound};
+ghost use Rattle.vc_tidy.specs.Joined.{IsJoined, IsKnown, IsNoCopy, IsPlain, is_joined, name};
+ghost use Rattle.vc_tidy.specs.Tidy.{CanBeOne, NoCopy, NoCopyAt};
 
-use crate::dead::total;
+use crate::classes::{Classes, all_alone};
 use crate::join::joined_code;
-use crate::mates::choose;
-use pra_base::VProc;
+use crate::meets::either_meets;
+use crate::places::{Place, all_places};
+use pra_base::{VInstr, VProc, VarKind};
+use pra_list::Seq;
 use std::alloc::{AllocError, Global};
-use vc_live::live;
+use vc_live::Liveness;
 
-// The code with pairs of variables joined that are copied into each other and never clash, or
-// nothing where there is none.
-fn join(alloc: Global, code: &VProc) -> Result<Option<VProc>, AllocError>
-    requires valid { IsValid code.now }
-    requires sized { IsSized code.now }
-    ensures { IfOk result (λ new. IsShorter code.now new) }
+fn is_plain(code: &VProc, v: u32) -> bool
+    ensures plain { result ≡ true → IsPlain code.now v }
+    ensures other { result ≡ false → IsPlain code.now v → ⊥ }
 {
-    let Ok(liveness) = live(alloc, code) else {
-        return Err(AllocError);
-    };
-    let Some(mates) = choose(alloc, code, &liveness)? else {
-        return Ok(None);
-    };
-    let new = joined_code(alloc, mates.as_slice(), code)?;
-    if total(new.blocks.as_slice()) == total(code.blocks.as_slice()) {
-        return Ok(None);
+    let at = v as usize;
+    if at >= code.vars.len() {
+        return false;
     }
+    match code.vars[at] {
+        VarKind::Plain => true,
+        _ => false,
+    }
+}
+
+// Joins the classes of two Plain variables that never meet, and says whether it has.
+fn join_pair(
+    alloc: Global,
+    classes: &mut Classes,
+    code: &VProc,
+    liveness: &Liveness,
+    places: &[Seq<Place>],
+    t: u32,
+    s: u32,
+) -> Result<bool, AllocError>
+    requires known { IsKnown code.now liveness.now }
+    requires places { HasPlaces code.now places.now }
+    requires classes { AreClasses code.now classes.old }
+    ensures classes { IfOk result (λ joined. AreClasses code.now classes.new) }
+    ensures joined { IfOk result (λ joined. joined ≡ true →
+        name classes.new.names.items t ≡ name classes.new.names.items s) }
+    ensures same { IfOk result (λ joined. joined ≡ false → classes.new ≡ classes.old) }
+    ensures apart { IfOk result (λ joined. joined ≡ false → AreAlone code.now classes.old → t ≢ s →
+        IsPlain code.now t → IsPlain code.now s → CanBeOne code.now t s → ⊥) }
+{
+    if !is_plain(code, t) {
+        return Ok(false);
+    }
+    if !is_plain(code, s) {
+        return Ok(false);
+    }
+    let one = classes.names[t as usize];
+    let other = classes.names[s as usize];
+    if one == other {
+        return Ok(false);
+    }
+    let first = classes.groups[one as usize].as_slice();
+    let second = classes.groups[other as usize].as_slice();
+    if either_meets(code, liveness, places, first, second) {
+        return Ok(false);
+    }
+    classes.join(alloc, one, other)?;
+    Ok(true)
+}
+
+fn try_instr(
+    alloc: Global,
+    classes: &mut Classes,
+    code: &VProc,
+    liveness: &Liveness,
+    places: &[Seq<Place>],
+    instr: VInstr,
+) -> Result<bool, AllocError>
+    requires known { IsKnown code.now liveness.now }
+    requires places { HasPlaces code.now places.now }
+    requires classes { AreClasses code.now classes.old }
+    ensures classes { IfOk result (λ joined. AreClasses code.now classes.new) }
+    ensures joined { IfOk result (λ joined. joined ≡ true →
+        is_joined classes.new.names.items instr ≡ true) }
+    ensures same { IfOk result (λ joined. joined ≡ false → classes.new ≡ classes.old) }
+    ensures apart { IfOk result (λ joined. joined ≡ false → AreAlone code.now classes.old →
+        IsNoCopy code.now instr) }
+{
+    match instr {
+        VInstr::Copy(t, s) => join_pair(alloc, classes, code, liveness, places, t.0, s.0),
+        _ => Ok(false),
+    }
+}
+
+// Tries the copies of a block, and says whether any copy has been joined.
+fn try_block(
+    alloc: Global,
+    classes: &mut Classes,
+    code: &VProc,
+    liveness: &Liveness,
+    places: &[Seq<Place>],
+    block: usize,
+    joined: bool,
+) -> Result<bool, AllocError>
+    requires block { block < length code.now.blocks }
+    requires known { IsKnown code.now liveness.now }
+    requires places { HasPlaces code.now places.now }
+    requires tried { AreTried code.now classes.old joined }
+    ensures tried { IfOk result (λ now. AreTried code.now classes.new now) }
+    ensures before { IfOk result (λ now. now ≡ false → joined ≡ false) }
+    ensures none { IfOk result (λ now. now ≡ false → (k : ℕ) → NoCopyAt code.now block k) }
+{
+    let mut now = joined;
+    for instr in code.blocks[block].code.as_slice() {
+        let tried = try_instr(alloc, classes, code, liveness, places, *instr)?;
+        if tried {
+            now = true;
+            continue;
+        }
+    }
+    Ok(now)
+}
+
+// Names under which variables that are copied into each other are one, or nothing where no two can
+// be one.
+fn choose(alloc: Global, code: &VProc, liveness: &Liveness) -> Result<Option<Vec<u32>>, AllocError>
+    requires { IsKnown code.now liveness.now }
+    ensures { IfOk result (λ found.
+        MatchOption found (NoCopy code.now) (λ names. IsFound code.now names.items)) }
+{
+    let places = all_places(alloc, code)?;
+    let mut classes = all_alone(alloc, code)?;
+    let mut joined = false;
+    for b in 0..code.blocks.len() {
+        let now = try_block(
+            alloc,
+            &mut classes,
+            code,
+            liveness,
+            places.as_slice(),
+            b,
+            joined,
+        )?;
+        joined = now;
+    }
+    if joined {
+        let Classes { names, .. } = classes;
+        return Ok(Some(names));
+    }
+    Ok(None)
+}
+
+/// The code with variables joined that are copied into each other, or nothing where no two can be
+/// one.
+pub fn join(alloc: Global, code: &VProc, liveness: &Liveness) -> Result<Option<VProc>, AllocError>
+    requires { IsKnown code.now liveness.now }
+    ensures { IfOk result (λ new. IsJoined code.now new) }
+{
+    let Some(names) = choose(alloc, code, liveness)? else {
+        return Ok(None);
+    };
+    let vars = Seq::from_slice(alloc, code.vars.as_slice())?;
+    let new = joined_code(alloc, names.as_slice(), vars, code)?;
     Ok(Some(new))
-}
-
-// One variable may be joined with one other at a time, so this asks again while copies go.
-fn without_copies(alloc: Global, code: &VProc) -> Result<Option<VProc>, AllocError>
-    requires valid { IsValid code.now }
-    requires sized { IsSized code.now }
-    ensures { IfOk result (λ new. MayStand code.now new) }
-{
-    let Some(mut now) = join(alloc, code)? else {
-        return Ok(None);
-    };
-    while let Some(next) = join(alloc, &now)? {
-        now = next;
-    }
-    Ok(Some(now))
-}
-
-/// Code with fewer copies that may stand in the place of the code: two Plain variables that are
-/// copied into each other become one where neither is live behind an instruction that has the
-/// other.
-///
-/// # Errors
-///
-/// The unchanged code, where there is no memory.
-pub fn join_copies(alloc: Global, code: VProc) -> Result<VProc, VProc>
-    requires valid { IsValid code }
-    requires sized { IsSized code }
-    ensures preserves { IfOk result (λ new. Preserves code new) }
-    ensures unchanged { IfErr result (λ old. old ≡ code) }
-{
-    match without_copies(alloc, &code) {
-        Ok(Some(new)) => Ok(new),
-        Ok(None) => Ok(code),
-        Err(_) => Err(code),
-    }
 }

@@ -1,17 +1,16 @@
 // Leaving out dead code.
 
-ghost use Rattle.std.specs.Prelude.{◌≡◌, ℕ, ◌≤◌, length, reverse, IfOk, IfErr};
-ghost use Rattle.pra_base.specs.Valid.{IsValid, IsSized, instruction_count, most_instructions};
-ghost use Rattle.vc_same.specs.SameRuns.{Preserves};
-ghost use Rattle.vc_tidy.specs.Tidy.{NoDead};
-ghost use Rattle.vc_tidy.specs.Thinned.{HasNoDead, IsThinned};
+ghost use Rattle.std.specs.Prelude.{◌≡◌, ℕ, ◌≤◌, length, reverse, IfOk};
+ghost use Rattle.pra_base.specs.Valid.{IsSized, instruction_count, most_instructions};
+ghost use Rattle.vc_tidy.specs.Joined.{IsKnown};
+ghost use Rattle.vc_tidy.specs.Thinned.{IsThinned};
 ghost use Rattle.vc_tidy.specs.Thinned.{HasMarks, Thins, exit_of, ThinsBlock, ThinsAll};
 
 use crate::marks::{is_needed, mark_exit, step_back};
 use pra_base::{Block, BlockId, VInstr, VProc};
 use pra_list::Seq;
 use std::alloc::{AllocError, Global};
-use vc_live::{Liveness, live};
+use vc_live::Liveness;
 
 // The instructions of a block's code that are not dead, the last one first.
 fn kept_back(
@@ -106,56 +105,17 @@ pub fn with_blocks(alloc: Global, code: &VProc, blocks: Vec<Block>) -> Result<VP
     })
 }
 
-// The code without what is dead by its liveness, or nothing where nothing is dead. The blocks are
-// read backwards, and what is left out there keeps nothing live in front of it, so that all dead
-// code of a block goes at once.
-fn thin(alloc: Global, code: &VProc) -> Result<Option<VProc>, AllocError>
-    requires valid { IsValid code.now }
-    requires sized { IsSized code.now }
+/// The code without what is dead by its liveness, or nothing where nothing is dead. The blocks are
+/// read backwards, and what is left out there keeps nothing live in front of it, so that all dead
+/// code of a block goes at once.
+pub fn thin(alloc: Global, code: &VProc, liveness: &Liveness) -> Result<Option<VProc>, AllocError>
+    requires { IsKnown code.now liveness.now }
     ensures { IfOk result (λ new. IsThinned code.now new) }
 {
-    let Ok(liveness) = live(alloc, code) else {
-        return Err(AllocError);
-    };
-    let blocks = thin_blocks(alloc, code, &liveness)?;
+    let blocks = thin_blocks(alloc, code, liveness)?;
     if total(blocks.as_slice()) == total(code.blocks.as_slice()) {
         return Ok(None);
     }
     let new = with_blocks(alloc, code, blocks)?;
     Ok(Some(new))
-}
-
-// The code without dead code, or nothing where it has none. What goes in one block may have kept
-// something live in another, so this asks again until nothing is dead.
-fn without_dead(alloc: Global, code: &VProc) -> Result<Option<VProc>, AllocError>
-    requires valid { IsValid code.now }
-    requires sized { IsSized code.now }
-    ensures { IfOk result (λ new. HasNoDead code.now new) }
-{
-    let Some(mut now) = thin(alloc, code)? else {
-        return Ok(None);
-    };
-    while let Some(next) = thin(alloc, &now)? {
-        now = next;
-    }
-    Ok(Some(now))
-}
-
-/// Code without dead code that may stand in the place of the code.
-///
-/// # Errors
-///
-/// The unchanged code, where there is no memory.
-pub fn drop_dead(alloc: Global, code: VProc) -> Result<VProc, VProc>
-    requires valid { IsValid code }
-    requires sized { IsSized code }
-    ensures preserves { IfOk result (λ new. Preserves code new) }
-    ensures no_dead { IfOk result (λ new. NoDead new) }
-    ensures unchanged { IfErr result (λ old. old ≡ code) }
-{
-    match without_dead(alloc, &code) {
-        Ok(Some(new)) => Ok(new),
-        Ok(None) => Ok(code),
-        Err(_) => Err(code),
-    }
 }

@@ -1,25 +1,30 @@
 //! Selected code without what it does for nothing.
 //!
-//! - `drop_dead` leaves out pure instructions all of whose results are dead: none is left
-//!   (`specs/Tidy`, `NoDead`).
-//! - `join_copies` makes one of two Plain variables that are copied into each other, where neither
-//!   is live behind an instruction that has the other, and leaves out the copies between them. That
-//!   no such pair is left is not claimed.
+//! `tidy` gives tidy code (`specs/Tidy`, `IsTidy`) that may stand in the place of the code
+//! (`Preserves` of vc_same): it is valid and sized, no larger, and does the same in every run that
+//! is never stuck. Tidy code has
 //!
-//! What they give may stand in the place of the code (`Preserves` of vc_same): it is valid and
-//! sized, and does the same in every run that is never stuck.
+//! - no pure instruction all of whose results are dead;
+//! - no copy between two Plain variables that can be one: their live ranges do not interfere, and
+//!   one in the place of the other keeps the rules on operands;
+//! - no variable that no instruction has, but those of arguments.
 //!
-//! Each block is read backwards with marks of what is live (`specs/Thinned`). What is left out
-//! keeps nothing live in front of it, so the dead code of a block goes at once, however long its
-//! chains. Copies are joined in disjoint pairs by one liveness (`specs/Joined`), then again by the
-//! liveness of what came of it.
+//! It goes step by step until none of the three is left. Each block is read backwards with marks of
+//! what is live (`specs/Thinned`): what is left out keeps nothing live in front of it, so the dead
+//! code of a block goes at once, however long its chains. Variables that are copied into each other
+//! are joined in classes, as many as never meet by one liveness (`specs/Joined`). While no class has
+//! been joined each has one variable, and then the test is exact: what it keeps apart can't be one.
+//! The variables that are left get new numbers in their order (`specs/Unused`).
 #![tactic(auto)]
 
+mod classes;
 mod copies;
 mod dead;
 mod join;
 mod marks;
-mod mates;
+mod meets;
+mod places;
+mod steps;
+mod unused;
 
-pub use copies::join_copies;
-pub use dead::drop_dead;
+pub use steps::tidy;

@@ -64,7 +64,8 @@ pub fn is_needed(marks: &[bool], instr: &VInstr) -> bool
     any_marked(marks, row.writes.as_slice())
 }
 
-fn mark_all(marks: &mut Vec<bool>, roles: &[Role], mark: bool)
+/// Marks the variables of the roles, or takes their marks away.
+pub fn mark_all(marks: &mut Vec<bool>, roles: &[Role], mark: bool)
     requires { (v : ℕ) → named_in roles.now v ≡ true → v < length marks.old.items }
     ensures count { length marks.new.items ≡ length marks.old.items }
     ensures marks { (v : ℕ) → is_marked marks.new.items v

@@ -1,0 +1,5 @@
+use Rattle.vc_same.proofs.Valid.{preserves_itself}
+use Rattle.vc_tidy.proofs.steps.tidy.Goals as goal
+
+pub returns-in-Ok-None-clause-preserves : goal.returns-in-Ok-None-clause-preserves
+returns-in-Ok-None-clause-preserves c = preserves_itself c.args.code c.requires.valid c.requires.sized
