@@ -12,9 +12,9 @@
 //! It goes step by step until none of the three is left. Each block is read backwards with marks of
 //! what is live (`specs/Thinned`): what is left out keeps nothing live in front of it, so the dead
 //! code of a block goes at once, however long its chains. Variables that are copied into each other
-//! are joined in classes, as many as never meet by one liveness (`specs/Joined`). While no class has
-//! been joined each has one variable, and then the test is exact: what it keeps apart can't be one.
-//! The variables that are left get new numbers in their order (`specs/Unused`).
+//! are joined in classes, as many as never meet by one liveness (`specs/Joined`). While none has
+//! been joined each class has one variable, and then the test is exact: what it keeps apart can't
+//! be one. The variables that are left get new numbers in their order (`specs/Unused`).
 #![tactic(auto)]
 
 mod classes;

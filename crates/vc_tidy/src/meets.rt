@@ -41,8 +41,8 @@ fn is_between(v: u32, w: u32, instr: VInstr) -> bool
     }
 }
 
-// Whether the second variable is had by the instruction at the place or live behind it, and it is no
-// copy between the two.
+// Whether the second variable is had by the instruction at the place or live behind it, where that
+// is no copy between the two.
 fn is_met(
     liveness: &Liveness,
     instr: VInstr,
