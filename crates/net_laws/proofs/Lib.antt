@@ -5,6 +5,7 @@ pub mod Few
 pub mod Found
 pub mod Homes
 pub mod Needs
+pub mod Ordered
 pub mod Pairs
 pub mod Present
 pub mod Room

@@ -11,12 +11,16 @@
 //!   strand would have to do both;
 //! - where blocks begin and end, all strands can be at home, so ties hold.
 //!
-//! Read specs/Homes. A layer above that makes routes may ask for `HasRoom` of its network, since it
-//! has that of every valid code by the law. Of proofs/ it may use the lemmas too: `Runs` (a strand
-//! is a run of layers at which its variable is present, and a variable has one strand at most at
-//! two layers side by side), `Found` (where a variable is present, `strand_of` is its strand),
-//! `Pairs` (the ends of memory pairs are operands of one instruction), `Rows` (the shapes of the
-//! operand table's rows).
+//! `networks_are_in_order` is the law that the lists of a network stand in order: extras by strand,
+//! layer and place, ties by the strands that they join, each of a strand that is there. With the
+//! beginnings in the network's index it gives a path's extras, layer by layer, without a search.
+//!
+//! Read specs/Homes, and specs/Ordered for the order. A layer above that makes routes may ask for
+//! `HasRoom` of its network, since it has that of every valid code by the law. Of proofs/ it may
+//! use the lemmas too: `Runs` (a strand is a run of layers at which its variable is present, and a
+//! variable has one strand at most at two layers side by side), `Found` (where a variable is
+//! present, `strand_of` is its strand), `Pairs` (the ends of memory pairs are operands of one
+//! instruction), `Rows` (the shapes of the operand table's rows).
 #![tactic(auto)]
 
 pub mod laws;
