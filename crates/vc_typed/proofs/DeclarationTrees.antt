@@ -275,6 +275,7 @@ pub record HeadingBehind (p : Place) (r : Place × List Param) : Type 0 where
   pub more : List Shape
   pub grown : r.0.types ≡ p.types ++ more
   pub here : r.0.here ≡ length p.headings
+  pub tokens : r.0.tokens ≡ p.tokens
   pub headings : r.0.headings ≡ p.headings ++ r.1 ∷ []
   pub nodes : r.0.nodes ≡ p.nodes
   pub sound : Sound r.0
@@ -321,6 +322,7 @@ heading_behind p name ss r sound is =
       more = named.onward.more ++ inside.onward.more;
       grown = inside.onward.grown ∙ ap (λ ts. ts ++ inside.onward.more) named.onward.grown ∙ append_assoc p.types named.onward.more inside.onward.more;
       here = ap length count;
+      tokens = inside.onward.tokens ∙ named.onward.tokens;
       headings = ap (λ hs. hs ++ params ∷ []) old;
       nodes = inside.onward.nodes ∙ named.onward.nodes;
       sound = entered_sound h (length q.headings) place.scope (with_heading_sound outside name params (left_sound place q.here inside.onward.sound)) inside.onward.sound.scope;

@@ -9,6 +9,7 @@ pub mod Lists
 pub mod TypeTrees
 pub mod Scopes
 pub mod DeclarationTrees
+pub mod TreeBodies
 pub mod ProcedureTrees
 pub mod Limits
 pub mod LaidOut
@@ -16,3 +17,9 @@ pub mod Beginning
 pub mod LentRoots
 pub mod Bodies
 pub mod Limited
+pub mod NodeEquations
+pub mod ExpressionNodes
+pub mod StatementNodes
+pub mod PhraseNodes
+pub mod TreeNodes
+pub mod BodyNodes

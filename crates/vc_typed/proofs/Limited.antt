@@ -42,7 +42,7 @@ locals_count shapes lent number word (x ∷ vars) =
     let first = sum_by-cons (λ (l : Local). if is_scalar l.type_id then 1 else 0) l more in
     let rest = locals_count shapes lent (number + 1) next vars in omega (arith, first, rest)
 
-draft_of : (p : Place) (ds : List Draft) (k : ℕ) (proc : CheckedProc) → slice_get (map (checked_proc p) ds) k ≡ Some proc → (d : Draft) × (slice_get ds k ≡ Some d) × (checked_proc p d ≡ proc)
+pub draft_of : (p : Place) (ds : List Draft) (k : ℕ) (proc : CheckedProc) → slice_get (map (checked_proc p) ds) k ≡ Some proc → (d : Draft) × (slice_get ds k ≡ Some d) × (checked_proc p d ≡ proc)
 draft_of p [] k proc at = absurd (none_some at)
 draft_of p (d ∷ ds) zero proc at = (d, refl, some_same (checked_proc p d) proc at)
 draft_of p (d ∷ ds) (suc k) proc at = draft_of p ds k proc at

@@ -18,10 +18,10 @@ use Rattle.ob_syntax.specs.declared.checked.Shape.{Shape}
 use Rattle.ob_syntax.specs.declared.checked.Shape.TheVariants.{Integer, Boolean, Array, Record}
 use Rattle.ob_syntax.specs.declared.token.Token.{Token}
 use Rattle.ob_syntax.specs.declared.tree.ConstDecl.{ConstDecl}
-use Rattle.ob_syntax.specs.declared.tree.Decls.{Decls, roll-Decls, fold-roll-Decls, ind-Decls}
+use Rattle.ob_syntax.specs.declared.tree.Decls.{Decls, Decls-F, roll-Decls, fold-roll-Decls, ind-Decls}
 use Rattle.ob_syntax.specs.declared.tree.Module.{Module}
 use Rattle.ob_syntax.specs.declared.tree.NameList.{NameList}
-use Rattle.ob_syntax.specs.declared.tree.Proc.{Proc, roll-Proc, fold-roll-Proc}
+use Rattle.ob_syntax.specs.declared.tree.Proc.{Proc, Proc-F, roll-Proc, fold-roll-Proc}
 use Rattle.ob_syntax.specs.declared.tree.Section.{Section}
 use Rattle.ob_syntax.specs.declared.tree.Span.{Span}
 use Rattle.ob_syntax.specs.declared.tree.Stmt.{Stmt}
@@ -29,6 +29,7 @@ use Rattle.ob_syntax.specs.declared.tree.TypeDecl.{TypeDecl}
 use Rattle.ob_syntax.specs.Declarations.{own_root, all_constants, all_type_declarations, all_variables, left, nodes_of, with_nodes, Declared, ProcResult, DeclsResult, all_procedures, decls_step, closed, drafted, heading, proc_step, declarations, procedure, beginning, Reading, reading}
 use Rattle.ob_syntax.specs.Names.{Place, name_at}
 use Rattle.ob_syntax.specs.Statements.{each, statement}
+use Rattle.ob_syntax.specs.WellFormed.{joined}
 use Rattle.ob_mean.specs.Designators.{type_at, type_in}
 use Rattle.vc_relation.specs.Layout.{NamesBelow, TypesInOrder}
 use Rattle.vc_typed.specs.Fitting.{AreAlike, ValuesAreScalars, HasProcedure}
@@ -40,6 +41,7 @@ use Rattle.vc_typed.proofs.DeclarationTrees.{constants_behind, types_behind, Beh
 use Rattle.vc_typed.proofs.Lists.{get_more, IsAmong, among_last, among_longer}
 use Rattle.vc_typed.proofs.Scopes.{Sound, longer, Shows, TypesIn, left_sound, left_shows, fitting}
 use Rattle.vc_typed.proofs.StatementTrees.{body_typed}
+use Rattle.vc_typed.proofs.TreeBodies.{decls_bodies, proc_bodies, bodies_in, bodies_of, ReadFrom, read_append}
 use Rattle.vc_typed.proofs.TypeTrees.{AllBelow}
 
 -- ---- drafts
@@ -107,12 +109,14 @@ types_before program xs ys more grown inside k shape at = inside k shape (ap (λ
 
 -- ---- procedures behind a place
 
--- A place behind procedures, which come in the order of their headings. In a module that has them,
--- and all that is given besides, they are typed.
-pub record ProcsBehind (p q : Place) (ds : List Draft) (Given : Checked → Type 0) : Type 0 where
+-- A place behind procedures, which come in the order of their headings and are read from these
+-- bodies. In a module that has them, and all that is given besides, they are typed.
+pub record ProcsBehind (p q : Place) (bs : List (List Stmt)) (ds : List Draft) (Given : Checked → Type 0) : Type 0 where
   pub more : List Shape
   pub grown : q.types ≡ p.types ++ more
   pub here : q.here ≡ p.here
+  pub tokens : q.tokens ≡ p.tokens
+  pub read : ReadFrom p.tokens bs ds
   pub count : length q.headings ≡ length p.headings + length ds
   pub more_nodes : List ℕ
   pub nodes : q.nodes ≡ p.nodes ++ more_nodes
@@ -125,11 +129,13 @@ pub record ProcsBehind (p q : Place) (ds : List Draft) (Given : Checked → Type
 abbrev Nothing : Checked → Type 0
 Nothing program = Unit {0}
 
-none_behind : (p : Place) → Sound p → ProcsBehind p p [] Nothing
+none_behind : (p : Place) → Sound p → ProcsBehind p p [] [] Nothing
 none_behind p sound = record {
   more = [];
   grown = sym (append-nil p.types);
   here = refl;
+  tokens = refl;
+  read = tt;
   count = omega arith;
   more_nodes = [];
   nodes = sym (append-nil p.nodes);
@@ -140,14 +146,16 @@ none_behind p sound = record {
   typed = λ program types all given shows. (shows, tt);
 }
 
-procs_on : (p q r : Place) (xs ys : List Draft) (Given : Checked → Type 0) → ProcsBehind p q xs Given → ProcsBehind q r ys Nothing → ProcsBehind p r (xs ++ ys) Given
-procs_on p q r xs ys Given a b =
+procs_on : (p q r : Place) (bs cs : List (List Stmt)) (xs ys : List Draft) (Given : Checked → Type 0) → ProcsBehind p q bs xs Given → ProcsBehind q r cs ys Nothing → ProcsBehind p r (bs ++ cs) (xs ++ ys) Given
+procs_on p q r bs cs xs ys Given a b =
     let first = a.count in
     let second = b.count in
     record {
       more = a.more ++ b.more;
       grown = b.grown ∙ ap (λ ts. ts ++ b.more) a.grown ∙ append_assoc p.types a.more b.more;
       here = b.here ∙ a.here;
+      tokens = b.tokens ∙ a.tokens;
+      read = read_append p.tokens bs cs xs ys a.read (subst (λ ts. ReadFrom ts cs ys) a.tokens b.read);
       count = omega (arith, first, second, length-append xs ys);
       more_nodes = a.more_nodes ++ b.more_nodes;
       nodes = b.nodes ∙ ap (λ ns. ns ++ b.more_nodes) a.nodes ∙ append_assoc p.nodes a.more_nodes b.more_nodes;
@@ -162,34 +170,37 @@ procs_on p q r xs ys Given a b =
           (two.0, typed_append program xs ys one.1 two.1);
     }
 
-pub record DeclsBehind (p : Place) (d : Declared) : Type 0 where
-  pub behind : ProcsBehind p d.place d.procs (λ program. VarsIn program p.here d.vars)
+pub record DeclsBehind (p : Place) (bs : List (List Stmt)) (d : Declared) : Type 0 where
+  pub behind : ProcsBehind p d.place bs d.procs (λ program. VarsIn program p.here d.vars)
   pub vars : AllBelow (length d.place.types) d.vars
 
-record GoodProc (f : ProcResult) : Type 0 where
-  gives : (p : Place) → Sound p → (r : Place × List Draft) → f p ≡ Ok r → ProcsBehind p r.0 r.1 Nothing
+record GoodProc (bs : List (List Stmt)) (f : ProcResult) : Type 0 where
+  gives : (p : Place) → Sound p → (r : Place × List Draft) → f p ≡ Ok r → ProcsBehind p r.0 bs r.1 Nothing
 
-record GoodDecls (f : DeclsResult) : Type 0 where
-  gives : (p : Place) → Sound p → (d : Declared) → f p ≡ Ok d → DeclsBehind p d
+record GoodDecls (bs : List (List Stmt)) (f : DeclsResult) : Type 0 where
+  gives : (p : Place) → Sound p → (d : Declared) → f p ≡ Ok d → DeclsBehind p bs d
 
-abbrev AllProcs : List ProcResult → Type 0
-AllProcs [] = Unit {0}
-AllProcs (f ∷ fs) = GoodProc f × AllProcs fs
+abbrev AllProcs : List (List (List Stmt)) → List ProcResult → Type 0
+AllProcs [] [] = Unit {0}
+AllProcs (b ∷ bs) (f ∷ fs) = GoodProc b f × AllProcs bs fs
+AllProcs _ _ = ⊥
 
 -- procedures that come behind those that are done
-record Appended (p q : Place) (done out : List Draft) : Type 0 where
+record Appended (p q : Place) (bs : List (List Stmt)) (done out : List Draft) : Type 0 where
   later : List Draft
   is : out ≡ done ++ later
-  behind : ProcsBehind p q later Nothing
+  behind : ProcsBehind p q bs later Nothing
 
-procedures_behind : (fs : List ProcResult) → AllProcs fs → (p : Place) (done : List Draft) (r : Place × List Draft) → Sound p → all_procedures p done fs ≡ Ok r → Appended p r.0 done r.1
-procedures_behind [] good p done r sound is =
-    subst (λ (z : Place × List Draft). Appended p z.0 done z.1) (ok_same (p, done) r is) (record { later = []; is = sym (append-nil done); behind = none_behind p sound })
-procedures_behind (f ∷ fs) (good, rest) p done r sound is =
+procedures_behind : (bs : List (List (List Stmt))) (fs : List ProcResult) → AllProcs bs fs → (p : Place) (done : List Draft) (r : Place × List Draft) → Sound p → all_procedures p done fs ≡ Ok r → Appended p r.0 (joined bs) done r.1
+procedures_behind [] [] good p done r sound is =
+    subst (λ (z : Place × List Draft). Appended p z.0 [] done z.1) (ok_same (p, done) r is) (record { later = []; is = sym (append-nil done); behind = none_behind p sound })
+procedures_behind [] (f ∷ fs) good p done r sound is = absurd good
+procedures_behind (b ∷ bs) [] good p done r sound is = absurd good
+procedures_behind (b ∷ bs) (f ∷ fs) (good, rest) p done r sound is =
     let of = came_of (f p) (λ more. all_procedures more.0 (done ++ more.1) fs) r is in
     let one = good.gives p sound of.0 of.1 in
-    let more = procedures_behind fs rest of.0.0 (done ++ of.0.1) r one.sound of.2 in
-    record { later = of.0.1 ++ more.later; is = more.is ∙ append_assoc done of.0.1 more.later; behind = procs_on p of.0.0 r.0 of.0.1 more.later Nothing one more.behind }
+    let more = procedures_behind bs fs rest of.0.0 (done ++ of.0.1) r one.sound of.2 in
+    record { later = of.0.1 ++ more.later; is = more.is ∙ append_assoc done of.0.1 more.later; behind = procs_on p of.0.0 r.0 b (joined bs) of.0.1 more.later Nothing one more.behind }
 
 -- ---- declarations
 
@@ -200,12 +211,14 @@ abbrev declared : List ℕ → Place × List Draft → Declared
 declared vars procs = record { place = procs.0; vars = vars; procs = procs.1 }
 
 -- constants, types and variables
-opened : (p q r : Place) (vs : Place × List ℕ) → Behind p q → Behind q r → VarsBehind r [] vs → ProcsBehind p vs.0 [] (λ program. VarsIn program p.here vs.1)
+opened : (p q r : Place) (vs : Place × List ℕ) → Behind p q → Behind q r → VarsBehind r [] vs → ProcsBehind p vs.0 [] [] (λ program. VarsIn program p.here vs.1)
 opened p q r vs a b c = record {
   more = a.onward.more ++ (b.onward.more ++ c.onward.more);
   grown = c.onward.grown ∙ ap (λ ts. ts ++ c.onward.more) (b.onward.grown ∙ ap (λ ts. ts ++ b.onward.more) a.onward.grown)
       ∙ append_assoc (p.types ++ a.onward.more) b.onward.more c.onward.more ∙ append_assoc p.types a.onward.more (b.onward.more ++ c.onward.more);
   here = c.onward.here ∙ b.onward.here ∙ a.onward.here;
+  tokens = c.onward.tokens ∙ b.onward.tokens ∙ a.onward.tokens;
+  read = tt;
   count = let same = ap length (c.onward.headings ∙ b.onward.headings ∙ a.onward.headings) in omega (arith, same);
   more_nodes = [];
   nodes = c.onward.nodes ∙ b.onward.nodes ∙ a.onward.nodes ∙ sym (append-nil p.nodes);
@@ -216,10 +229,10 @@ opened p q r vs a b c = record {
   typed = λ program types all given shows. (c.shows program (subst (λ h. VarsIn program h vs.1) (sym (b.onward.here ∙ a.onward.here)) given) (b.shows program (a.shows program shows)), tt);
 }
 
-decls_behind : (cs : List ConstDecl) (ts : List TypeDecl) (vs : List NameList) (fs : List ProcResult) → AllProcs fs → (p : Place) → Sound p → (d : Declared)
+decls_behind : (cs : List ConstDecl) (ts : List TypeDecl) (vs : List NameList) (bs : List (List (List Stmt))) (fs : List ProcResult) → AllProcs bs fs → (p : Place) → Sound p → (d : Declared)
     → (all_constants p cs >>= λ constants. all_type_declarations constants ts >>= λ types. all_variables types [] vs >>= λ vars. all_procedures vars.0 [] fs >>= λ procs. Ok (declared vars.1 procs)) ≡ Ok d
-    → DeclsBehind p d
-decls_behind cs ts vs fs good p sound d is =
+    → DeclsBehind p (joined bs) d
+decls_behind cs ts vs bs fs good p sound d is =
     let one = came_of (all_constants p cs) (λ constants. all_type_declarations constants ts >>= λ types. all_variables types [] vs >>= λ vars. all_procedures vars.0 [] fs >>= λ procs. Ok (declared vars.1 procs)) d is in
     let two = came_of (all_type_declarations one.0 ts) (λ types. all_variables types [] vs >>= λ vars. all_procedures vars.0 [] fs >>= λ procs. Ok (declared vars.1 procs)) d one.2 in
     let three = came_of (all_variables two.0 [] vs) (λ vars. all_procedures vars.0 [] fs >>= λ procs. Ok (declared vars.1 procs)) d two.2 in
@@ -227,10 +240,10 @@ decls_behind cs ts vs fs good p sound d is =
     let a = constants_behind p one.0 cs sound one.1 in
     let b = types_behind one.0 two.0 ts a.onward.sound two.1 in
     let c = variables_behind two.0 [] vs three.0 b.onward.sound (no_vars (length two.0.types)) three.1 in
-    let e = procedures_behind fs good three.0.0 [] four.0 c.onward.sound four.1 in
-    let procs : ProcsBehind three.0.0 four.0.0 four.0.1 Nothing = subst (λ ds. ProcsBehind three.0.0 four.0.0 ds Nothing) (sym e.is) e.behind in
-    subst (DeclsBehind p) (ok_same (declared three.0.1 four.0) d four.2) (record {
-      behind = procs_on p three.0.0 four.0.0 [] four.0.1 (λ program. VarsIn program p.here three.0.1) (opened p one.0 two.0 three.0 a b c) procs;
+    let e = procedures_behind bs fs good three.0.0 [] four.0 c.onward.sound four.1 in
+    let procs : ProcsBehind three.0.0 four.0.0 (joined bs) four.0.1 Nothing = subst (λ ds. ProcsBehind three.0.0 four.0.0 (joined bs) ds Nothing) (sym e.is) e.behind in
+    subst (DeclsBehind p (joined bs)) (ok_same (declared three.0.1 four.0) d four.2) (record {
+      behind = procs_on p three.0.0 four.0.0 [] (joined bs) [] four.0.1 (λ program. VarsIn program p.here three.0.1) (opened p one.0 two.0 three.0 a b c) procs;
       vars = all_more (length three.0.0.types) (length four.0.0.types) (longer three.0.0.types four.0.0.types procs.more procs.grown) three.0.1 c.below;
     })
 
@@ -265,20 +278,21 @@ vars_in program d lt has k type_id at =
 procedure_there : (program : Checked) (d : Draft) → ValuesAreScalars d.params → DraftIn program d → HasProcedure program d.id d.params
 procedure_there program d scalars has = record { proc = has.proc; there = has.there; alike = has.params; scalars = scalars }
 
-record ProcRead (p : Place) (name : ℕ) (body : List Stmt) (inside : Place × List Param) (d : Declared) (done : List RStmt) : Type 0 where
+record ProcRead (p : Place) (name : ℕ) (body : List Stmt) (bs : List (List Stmt)) (inside : Place × List Param) (d : Declared) (done : List RStmt) : Type 0 where
   head : HeadingBehind p inside
-  decls : DeclsBehind inside.0 d
+  decls : DeclsBehind inside.0 bs d
   read : each d.place [] (map statement body) ≡ Ok done
 
-proc_good : (p : Place) (name : ℕ) (body : List Stmt) (inside : Place × List Param) (d : Declared) (done : List RStmt) → Sound p → ProcRead p name body inside d done
-    → ProcsBehind p (proc_read name body p.here inside d done d.place).0 (proc_read name body p.here inside d done d.place).1 Nothing
-proc_good p name body inside d done sound of =
+proc_good : (p : Place) (name : ℕ) (body : List Stmt) (bs : List (List Stmt)) (inside : Place × List Param) (d : Declared) (done : List RStmt) → Sound p → ProcRead p name body bs inside d done
+    → ProcsBehind p (proc_read name body p.here inside d done d.place).0 (body ∷ bs) (proc_read name body p.here inside d done d.place).1 Nothing
+proc_good p name body bs inside d done sound of =
     let head = of.head in
     let behind = of.decls.behind in
     let n = nodes_of d.place.tokens body in
     let draft = drafted d.place.here name inside.1 d.vars n done in
     let end = left_sound d.place p.here behind.sound in
     let id : d.place.here ≡ length p.headings = behind.here ∙ head.here in
+    let tokens = behind.tokens ∙ head.tokens in
     let one = ap length head.headings in
     let more = behind.count in
     let some = sound.begun in
@@ -288,6 +302,8 @@ proc_good p name body inside d done sound of =
       more = head.more ++ behind.more;
       grown = behind.grown ∙ ap (λ ts. ts ++ behind.more) head.grown ∙ append_assoc p.types head.more behind.more;
       here = refl;
+      tokens = tokens;
+      read = (record { place = d.place; read = of.read; nodes = ap (λ ts. nodes_of ts body) tokens }, subst (λ ts. ReadFrom ts bs d.procs) head.tokens behind.read);
       count = omega (arith, headings, more);
       more_nodes = behind.more_nodes ++ n ∷ [];
       nodes = ap (λ ns. ns ++ n ∷ []) (behind.nodes ∙ ap (λ ns. ns ++ behind.more_nodes) head.nodes) ∙ append_assoc p.nodes behind.more_nodes (n ∷ []);
@@ -304,10 +320,10 @@ proc_good p name body inside d done sound of =
           (record { headings = around.headings; scope = around.scope; outer = around.outer }, (body_typed program d.place fits body done of.read, both.1));
     }
 
-proc_behind : (name close : ℕ) (ss : List Section) (f : DeclsResult) → GoodDecls f → (body : List Stmt) → (p : Place) → Sound p → (r : Place × List Draft)
+proc_behind : (name close : ℕ) (ss : List Section) (bs : List (List Stmt)) (f : DeclsResult) → GoodDecls bs f → (body : List Stmt) → (p : Place) → Sound p → (r : Place × List Draft)
     → (heading p name ss >>= λ inside. f inside.0 >>= λ d. each d.place [] (map statement body) >>= λ done. closed 2 d.place name close >>= λ end.
-    Ok (proc_read name body p.here inside d done end)) ≡ Ok r → ProcsBehind p r.0 r.1 Nothing
-proc_behind name close ss f good body p sound r is =
+    Ok (proc_read name body p.here inside d done end)) ≡ Ok r → ProcsBehind p r.0 (body ∷ bs) r.1 Nothing
+proc_behind name close ss bs f good body p sound r is =
     let result = proc_read name body p.here in
     let one = came_of (heading p name ss) (λ inside. f inside.0 >>= λ d. each d.place [] (map statement body) >>= λ done. closed 2 d.place name close >>= λ end. Ok (result inside d done end)) r is in
     let two = came_of (f one.0.0) (λ d. each d.place [] (map statement body) >>= λ done. closed 2 d.place name close >>= λ end. Ok (result one.0 d done end)) r one.2 in
@@ -316,30 +332,41 @@ proc_behind name close ss f good body p sound r is =
     let head = heading_behind p name ss one.0 sound one.1 in
     let decls = good.gives one.0.0 head.sound two.0 two.1 in
     let same = closed_is 2 two.0.place name close four.0 four.1 in
-    subst (λ (z : Place × List Draft). ProcsBehind p z.0 z.1 Nothing) (ap (result one.0 two.0 three.0) same ∙ ok_same (result one.0 two.0 three.0 four.0) r four.2)
-    (proc_good p name body one.0 two.0 three.0 sound (record { head = head; decls = decls; read = three.1 }))
+    subst (λ (z : Place × List Draft). ProcsBehind p z.0 (body ∷ bs) z.1 Nothing) (ap (result one.0 two.0 three.0) same ∙ ok_same (result one.0 two.0 three.0 four.0) r four.2)
+    (proc_good p name body bs one.0 two.0 three.0 sound (record { head = head; decls = decls; read = three.1 }))
 
 -- ---- trees
 
 abbrev OfDecls : Decls → Type 0
-OfDecls x = GoodDecls (declarations x)
+OfDecls x = GoodDecls (bodies_in x) (declarations x)
 
 abbrev OfProc : Proc → Type 0
-OfProc x = GoodProc (procedure x)
+OfProc x = GoodProc (bodies_of x) (procedure x)
 
-procs_good : (xs : List ((x : Proc) × OfProc x)) → AllProcs (map procedure (map (λ x. x.0) xs))
+procs_good : (xs : List ((x : Proc) × OfProc x)) → AllProcs (map bodies_of (map (λ x. x.0) xs)) (map procedure (map (λ x. x.0) xs))
 procs_good [] = tt
 procs_good (x ∷ xs) = (x.1, procs_good xs)
 
+decls_from : (x : Decls) (bs : List (List Stmt)) (f : DeclsResult) → bodies_in x ≡ bs → declarations x ≡ f → GoodDecls bs f → OfDecls x
+decls_from x bs f bodies is good = subst (λ b. GoodDecls b (declarations x)) (sym bodies) (subst (GoodDecls bs) (sym is) good)
+
+proc_from : (x : Proc) (bs : List (List Stmt)) (f : ProcResult) → bodies_of x ≡ bs → procedure x ≡ f → GoodProc bs f → OfProc x
+proc_from x bs f bodies is good = subst (λ b. GoodProc b (procedure x)) (sym bodies) (subst (GoodProc bs) (sym is) good)
+
 decls_case : (cs : List ConstDecl) (ts : List TypeDecl) (vs : List NameList) (xs : List ((x : Proc) × OfProc x)) → OfDecls (roll-Decls (record { consts = cs; types = ts; vars = vs; procs = map (λ x. x.0) xs }))
-decls_case cs ts vs xs = subst GoodDecls (sym (fold-roll-Decls DeclsResult ProcResult decls_step proc_step _))
-    (record { gives = λ p sound d is. decls_behind cs ts vs (map procedure (map (λ x. x.0) xs)) (procs_good xs) p sound d is })
+decls_case cs ts vs xs =
+    let procs = map (λ x. x.0) xs in
+    let y : Decls-F Decls Proc = record { consts = cs; types = ts; vars = vs; procs = procs } in
+    decls_from (roll-Decls y) _ _ (fold-roll-Decls (List (List Stmt)) (List (List Stmt)) decls_bodies proc_bodies y) (fold-roll-Decls DeclsResult ProcResult decls_step proc_step y)
+    (record { gives = λ p sound d is. decls_behind cs ts vs (map bodies_of procs) (map procedure procs) (procs_good xs) p sound d is })
 
 proc_case : (span : Span) (name close : ℕ) (ss : List Section) (x : (x : Decls) × OfDecls x) (body : List Stmt) → OfProc (roll-Proc (record { span = span; name = name; params = ss; decls = x.0; body = body; close = close }))
-proc_case span name close ss x body = subst GoodProc (sym (fold-roll-Proc DeclsResult ProcResult decls_step proc_step _))
-    (record { gives = λ p sound r is. proc_behind name close ss (declarations x.0) x.1 body p sound r is })
+proc_case span name close ss x body =
+    let y : Proc-F Decls Proc = record { span = span; name = name; params = ss; decls = x.0; body = body; close = close } in
+    proc_from (roll-Proc y) _ _ (fold-roll-Proc (List (List Stmt)) (List (List Stmt)) decls_bodies proc_bodies y) (fold-roll-Proc DeclsResult ProcResult decls_step proc_step y)
+    (record { gives = λ p sound r is. proc_behind name close ss (bodies_in x.0) (declarations x.0) x.1 body p sound r is })
 
-declarations_good : (x : Decls) → GoodDecls (declarations x)
+declarations_good : (x : Decls) → OfDecls x
 declarations_good = ind-Decls OfDecls OfProc
     (λ x y is. subst (λ z. OfDecls (roll-Decls z)) is (decls_case y.consts y.types y.vars y.procs))
     (λ x y is. subst (λ z. OfProc (roll-Proc z)) is (proc_case y.span y.name y.close y.params y.decls y.body))
@@ -432,3 +459,15 @@ reading_sound bytes tokens m r is =
           let fits = fitting program one.0.place behind.sound types both.0 in
           (subst (λ h. are_typed program h two.0 ≡ true) behind.here (body_typed program one.0.place fits m.body two.0 two.1), both.1);
     })
+
+-- Each body is read from one of the tree.
+pub reading_read : (bytes : List ℕ) (tokens : List Token) (m : Module) (r : Reading) → reading bytes tokens m ≡ Ok r → ReadFrom tokens (m.body ∷ bodies_in m.decls) r.procs
+reading_read bytes tokens m r is =
+    let result = module_read tokens m in
+    let begin = beginning bytes tokens in
+    let one = came_of (declarations m.decls begin) (λ d. each d.place [] (map statement m.body) >>= λ done. closed 1 d.place m.name m.close >>= λ end. Ok (result d done end)) r is in
+    let two = came_of (each one.0.place [] (map statement m.body)) (λ done. closed 1 one.0.place m.name m.close >>= λ end. Ok (result one.0 done end)) r one.2 in
+    let three = came_of (closed 1 one.0.place m.name m.close) (λ end. Ok (result one.0 two.0 end)) r two.2 in
+    let decls = (declarations_good m.decls).gives begin (beginning_sound bytes tokens) one.0 one.1 in
+    subst (λ (z : Reading). ReadFrom tokens (m.body ∷ bodies_in m.decls) z.procs) (ok_same (result one.0 two.0 three.0) r three.2)
+    (record { place = one.0.place; read = two.1; nodes = refl }, decls.behind.read)

@@ -97,11 +97,12 @@ ready p sound = record {
 
 -- ---- what is behind a declaration
 
--- A place behind another one has its types and more, and the same headings and nodes.
+-- A place behind another one has its types and more, and the same tokens, headings and nodes.
 pub record Onward (p q : Place) : Type 0 where
   pub more : List Shape
   pub grown : q.types ≡ p.types ++ more
   pub here : q.here ≡ p.here
+  pub tokens : q.tokens ≡ p.tokens
   pub headings : q.headings ≡ p.headings
   pub nodes : q.nodes ≡ p.nodes
   pub sound : Sound q
@@ -113,13 +114,14 @@ pub few_types : (p q : Place) → Onward p q → length p.types ≤ length q.typ
 few_types p q a = longer p.types q.types a.more a.grown
 
 pub onward_stays : (p : Place) → Sound p → Onward p p
-onward_stays p sound = record { more = []; grown = sym (append-nil p.types); here = refl; headings = refl; nodes = refl; sound = sound }
+onward_stays p sound = record { more = []; grown = sym (append-nil p.types); here = refl; tokens = refl; headings = refl; nodes = refl; sound = sound }
 
 pub onward_on : (p q r : Place) → Onward p q → Onward q r → Onward p r
 onward_on p q r a b = record {
   more = a.more ++ b.more;
   grown = b.grown ∙ ap (λ ts. ts ++ b.more) a.grown ∙ append_assoc p.types a.more b.more;
   here = b.here ∙ a.here;
+  tokens = b.tokens ∙ a.tokens;
   headings = b.headings ∙ a.headings;
   nodes = b.nodes ∙ a.nodes;
   sound = b.sound;
@@ -136,6 +138,7 @@ onward_scope p s sound all = record {
   more = [];
   grown = sym (append-nil p.types);
   here = refl;
+  tokens = refl;
   headings = refl;
   nodes = refl;
   sound = record { formed = sound.formed; scope = all; outer = sound.outer; begun = sound.begun };
@@ -153,6 +156,7 @@ onward_type p q sound e =
       more = e.more;
       grown = e.grown;
       here = refl;
+      tokens = refl;
       headings = refl;
       nodes = refl;
       sound = record {

@@ -1,4 +1,5 @@
 pub mod Typing
 pub mod TypedStatements
 pub mod TypedModules
+pub mod Nodes
 pub mod Fitting

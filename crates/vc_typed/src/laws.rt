@@ -5,6 +5,7 @@ ghost use Rattle.std.specs.Prelude.{◌≡◌, true, ℕ, List, [], map, Ok};
 ghost use Rattle.ob_syntax.specs.Declarations.{Reading, beginning};
 ghost use Rattle.ob_syntax.specs.Expressions.{expression};
 ghost use Rattle.ob_syntax.specs.Names.{Place};
+ghost use Rattle.ob_syntax.specs.Source.{IsParsed};
 ghost use Rattle.ob_syntax.specs.Statements.{each, statement};
 ghost use Rattle.ob_syntax.specs.WellFormed.{IsWellFormed, IsWithin, is_scalar, resolved};
 ghost use Rattle.ob_syntax.specs.declared.checked.Checked.{Checked};
@@ -18,7 +19,8 @@ ghost use Rattle.ob_syntax.specs.declared.tree.Module.{Module};
 ghost use Rattle.ob_syntax.specs.declared.tree.Stmt.{Stmt};
 ghost use Rattle.vc_relation.specs.Layout.{IsLaidOut};
 ghost use Rattle.vc_typed.specs.Fitting.{Fits};
-ghost use Rattle.vc_typed.specs.TypedModules.{IsTyped, IsLimited};
+ghost use Rattle.vc_typed.specs.Nodes.{HaveTheirNodes};
+ghost use Rattle.vc_typed.specs.TypedModules.{IsTyped, IsLimited, IsSelectable};
 ghost use Rattle.vc_typed.specs.TypedStatements.{are_typed};
 ghost use Rattle.vc_typed.specs.Typing.{typed, typing, variable_typing};
 
@@ -65,4 +67,17 @@ pub fn checked_modules_are_typed()
 pub fn checked_modules_are_limited()
     ensures { (bytes : List ℕ) (tokens : List Token) (m : Module) (r : Reading) →
         IsWellFormed bytes tokens m r → IsWithin r → IsLimited (resolved m r) }
+{}
+
+/// The body of each procedure of a well-formed module that tokens derive has at most the nodes that
+/// are counted for the procedure in the text.
+pub fn bodies_have_their_nodes()
+    ensures { (bytes : List ℕ) (tokens : List Token) (m : Module) (r : Reading) →
+        IsParsed bytes tokens m → IsWellFormed bytes tokens m r → HaveTheirNodes (resolved m r) }
+{}
+
+/// Code can be selected for what a well-formed module within the limits stands for.
+pub fn modules_are_selectable()
+    ensures { (bytes : List ℕ) (tokens : List Token) (m : Module) (r : Reading) →
+        IsWellFormed bytes tokens m r → IsWithin r → IsSelectable (resolved m r) }
 {}
