@@ -23,3 +23,4 @@ pub mod StatementNodes
 pub mod PhraseNodes
 pub mod TreeNodes
 pub mod BodyNodes
+pub mod Selectable
