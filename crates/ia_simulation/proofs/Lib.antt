@@ -38,3 +38,4 @@ pub mod Cleared
 pub mod Each
 pub mod Listed
 pub mod SampleIsLoadable
+pub mod Addressed

@@ -1,6 +1,6 @@
 -- MOV from an object's word.
-use Rattle.std.proofs.Common.{◌≡◌, ℕ, suc, ◌+◌, ◌<◌, true, List, [], ◌∷◌, ◌++◌, length, map, drop, Option, Some, None, refl, sym, ap, ◌∙◌, subst, arith}
-use Rattle.std.specs.Prelude.{ℤ, slice_get, slice_index_or}
+use Rattle.std.proofs.Common.{◌≡◌, ℕ, ◌+◌, List, [], ◌∷◌, length, map, drop, Option, Some, None, refl, sym, ap, ◌∙◌, subst}
+use Rattle.std.specs.Prelude.{ℤ}
 use Rattle.std.specs.Int.{w32}
 use Rattle.std.specs.Int.RustNames.{FitsSigned}
 use Rattle.pra_list.specs.Results.{◌>>=◌}
@@ -12,7 +12,6 @@ use Rattle.ia_emit.specs.declared.item.Operand.TheVariants as at
 use Rattle.ia_emit.specs.Emission.{reg_of, address, via_count, index_count}
 use Rattle.ia_emit.specs.Operands as emitted
 use Rattle.ia_step.specs.Effect.{effect, goes, load, mov, read_rm, write_rm}
-use Rattle.ia_step.specs.Registers.{get}
 use Rattle.ia_step.specs.Run.{Ran}
 use Rattle.ia_step.specs.State as machine
 use Rattle.pl_place.specs.declared.placed.LInstr.{LInstr}
@@ -21,113 +20,38 @@ use Rattle.pl_place.specs.declared.placed.LProc.{LProc}
 use Rattle.pl_place.specs.Machine.{Cells, proc_of, shape, operands, put, put_all, behind}
 use Rattle.pl_place.specs.Placed.{place_in}
 use Rattle.pl_place.specs.Valid.{OperandsPlaced, counts_of}
-use Rattle.pra_base.specs.Code.{cell_of}
 use Rattle.pra_base.specs.declared.code.Addr.{Addr}
 use Rattle.pra_base.specs.declared.code.Base.{Base}
-use Rattle.pra_base.specs.declared.code.Base.TheVariants as base
 use Rattle.pra_base.specs.declared.code.VInstr.{VInstr}
 use Rattle.pra_base.specs.declared.code.VInstr.TheVariants as instr
 use Rattle.pra_base.specs.declared.ids.Place.{Place}
-use Rattle.pra_base.specs.declared.ids.Place.TheVariants as place
 use Rattle.pra_base.specs.declared.ids.VarId.{VarId}
-use Rattle.pra_base.specs.Operands.{read_by, table, line_writes, via, index, var_of}
-use Rattle.pra_base.specs.Places.{number as number_of, has_register}
+use Rattle.pra_base.specs.Operands.{read_by}
+use Rattle.pra_base.specs.Places.{number as number_of}
 use Rattle.pra_base.specs.Valid.{TakesArgs}
 use Rattle.vc_code.specs.declared.action.Action.TheVariants as action
-use Rattle.vc_code.specs.declared.value.Value.{Value}
 use Rattle.vc_code.specs.declared.value.Value.TheVariants.{Num}
-use Rattle.vc_code.specs.Operation.{base_count, placed}
+use Rattle.vc_code.specs.Operation.{placed}
 use Rattle.vc_code.specs.Value.{Held}
 use Rattle.vc_code.specs.Machine.{State, After, number_in, with_top}
-use Rattle.ia_simulation.specs.Frames.{Means}
 use Rattle.ia_simulation.specs.Represents.{IsLoadable, Represents, Leads}
 use Rattle.ia_simulation.proofs.Addresses as addresses
-use Rattle.ia_simulation.proofs.Checks.{bare_has}
 use Rattle.ia_simulation.proofs.Computes as computes
 use Rattle.ia_simulation.proofs.Computes.{register_operand}
-use Rattle.ia_simulation.proofs.Effects.{ok_same}
-use Rattle.ia_simulation.proofs.Locates.{operand_at, last_of, index_at, counts}
+use Rattle.ia_simulation.proofs.Addressed.{last_of, HasAddress, are_there}
+use Rattle.ia_simulation.proofs.Locates.{Placed, places_are}
 use Rattle.ia_simulation.proofs.Objects.{loads_object}
-use Rattle.ia_simulation.proofs.Masks.{in_mask, allowed_at, is_register}
 use Rattle.ia_simulation.proofs.Ops as ops
 use Rattle.ia_simulation.proofs.Ops.{put_done}
-use Rattle.ia_simulation.proofs.Rows.{itself, Led}
-use Rattle.ia_simulation.proofs.Spots.{read}
-use Rattle.ia_simulation.proofs.Standing as standing
-use Rattle.ia_simulation.proofs.Start.{bare_there}
+use Rattle.ia_simulation.proofs.Rows.{Led}
 use Rattle.ia_simulation.proofs.Steps as steps
 use Rattle.ia_simulation.proofs.Steps.{found_ok}
 
 -- ---- what valid code says of the places of an address
 
-module _ (p : LProc) (v : VarId) (off : ℤ) where
-  abbrev i : Base → Option VarId → VInstr
-  i b x = instr.Load v (record { base = b; offset = off; index = x })
-
-  pub record Placed (b : Base) (x : Option VarId) (l : List Place) : Type 0 where
-    pub via_there : (u : VarId) → b ≡ base.Via u → has_register (place_in l 0) ≡ true
-    pub index_there : (u : VarId) → x ≡ Some u → has_register (place_in l (via_count b)) ≡ true
-    pub to_there : has_register (place_in l (via_count b + index_count x)) ≡ true
-    pub long : length l ≡ suc (via_count b + index_count x)
-    pub read : length (read_by (i b x)) ≡ via_count b + index_count x
-
-  places_are : (b : Base) (x : Option VarId) (l : List Place) → OperandsPlaced p (i b x) l → Placed b x l
-  places_are (base.Global g) None l is = record {
-    via_there = λ w e. cc;
-    index_there = λ w e. cc;
-    to_there = is_register p v.0 true (slice_index_or l 0 place.Eax) ((in_mask (table (i (base.Global g) None)) v.0 (place_in l 0) (allowed_at p (i (base.Global g) None) l is 0 _ refl)).0 (itself v.0));
-    long = is.count;
-    read = refl;
-  }
-  places_are (base.Global g) (Some z) l is = record {
-    via_there = λ w e. cc;
-    index_there = λ w e. is_register p z.0 (line_writes (table (i (base.Global g) (Some z))) z.0) (slice_index_or l 0 place.Eax) ((in_mask (table (i (base.Global g) (Some z))) z.0 (place_in l 0) (allowed_at p (i (base.Global g) (Some z)) l is 0 _ refl)).0 (itself z.0));
-    to_there = is_register p v.0 true (slice_index_or l 1 place.Eax) ((in_mask (table (i (base.Global g) (Some z))) v.0 (place_in l 1) (allowed_at p (i (base.Global g) (Some z)) l is 1 _ refl)).1.0 (itself v.0));
-    long = is.count;
-    read = refl;
-  }
-  places_are (base.Frame g) None l is = record {
-    via_there = λ w e. cc;
-    index_there = λ w e. cc;
-    to_there = is_register p v.0 true (slice_index_or l 0 place.Eax) ((in_mask (table (i (base.Frame g) None)) v.0 (place_in l 0) (allowed_at p (i (base.Frame g) None) l is 0 _ refl)).0 (itself v.0));
-    long = is.count;
-    read = refl;
-  }
-  places_are (base.Frame g) (Some z) l is = record {
-    via_there = λ w e. cc;
-    index_there = λ w e. is_register p z.0 (line_writes (table (i (base.Frame g) (Some z))) z.0) (slice_index_or l 0 place.Eax) ((in_mask (table (i (base.Frame g) (Some z))) z.0 (place_in l 0) (allowed_at p (i (base.Frame g) (Some z)) l is 0 _ refl)).0 (itself z.0));
-    to_there = is_register p v.0 true (slice_index_or l 1 place.Eax) ((in_mask (table (i (base.Frame g) (Some z))) v.0 (place_in l 1) (allowed_at p (i (base.Frame g) (Some z)) l is 1 _ refl)).1.0 (itself v.0));
-    long = is.count;
-    read = refl;
-  }
-  places_are (base.Cell g) None l is = record {
-    via_there = λ w e. cc;
-    index_there = λ w e. cc;
-    to_there = is_register p v.0 true (slice_index_or l 0 place.Eax) ((in_mask (table (i (base.Cell g) None)) v.0 (place_in l 0) (allowed_at p (i (base.Cell g) None) l is 0 _ refl)).0 (itself v.0));
-    long = is.count;
-    read = refl;
-  }
-  places_are (base.Cell g) (Some z) l is = record {
-    via_there = λ w e. cc;
-    index_there = λ w e. is_register p z.0 (line_writes (table (i (base.Cell g) (Some z))) z.0) (slice_index_or l 0 place.Eax) ((in_mask (table (i (base.Cell g) (Some z))) z.0 (place_in l 0) (allowed_at p (i (base.Cell g) (Some z)) l is 0 _ refl)).0 (itself z.0));
-    to_there = is_register p v.0 true (slice_index_or l 1 place.Eax) ((in_mask (table (i (base.Cell g) (Some z))) v.0 (place_in l 1) (allowed_at p (i (base.Cell g) (Some z)) l is 1 _ refl)).1.0 (itself v.0));
-    long = is.count;
-    read = refl;
-  }
-  places_are (base.Via u) None l is = record {
-    via_there = λ w e. is_register p u.0 (line_writes (table (i (base.Via u) None)) u.0) (slice_index_or l 0 place.Eax) ((in_mask (table (i (base.Via u) None)) u.0 (place_in l 0) (allowed_at p (i (base.Via u) None) l is 0 _ refl)).0 (itself u.0));
-    index_there = λ w e. cc;
-    to_there = is_register p v.0 true (slice_index_or l 1 place.Eax) ((in_mask (table (i (base.Via u) None)) v.0 (place_in l 1) (allowed_at p (i (base.Via u) None) l is 1 _ refl)).1.0 (itself v.0));
-    long = is.count;
-    read = refl;
-  }
-  places_are (base.Via u) (Some z) l is = record {
-    via_there = λ w e. is_register p u.0 (line_writes (table (i (base.Via u) (Some z))) u.0) (slice_index_or l 0 place.Eax) ((in_mask (table (i (base.Via u) (Some z))) u.0 (place_in l 0) (allowed_at p (i (base.Via u) (Some z)) l is 0 _ refl)).0 (itself u.0));
-    index_there = λ w e. is_register p z.0 (line_writes (table (i (base.Via u) (Some z))) z.0) (slice_index_or l 1 place.Eax) ((in_mask (table (i (base.Via u) (Some z))) z.0 (place_in l 1) (allowed_at p (i (base.Via u) (Some z)) l is 1 _ refl)).1.0 (itself z.0));
-    to_there = is_register p v.0 true (slice_index_or l 2 place.Eax) ((in_mask (table (i (base.Via u) (Some z))) v.0 (place_in l 2) (allowed_at p (i (base.Via u) (Some z)) l is 2 _ refl)).1.1.0 (itself v.0));
-    long = is.count;
-    read = refl;
-  }
+-- LEA has the same row
+located : (p : LProc) (v : VarId) (a : Addr) (l : List Place) → OperandsPlaced p (instr.Load v a) l → OperandsPlaced p (instr.Addr v a) l
+located p v a l is = record { count = is.count; allowed = is.allowed; in_place = is.in_place; pair = is.pair }
 
 module _ (procs : List LProc) (data_words : ℕ) (ok : IsLoadable procs data_words) (s : State Cells) (r : Ran) (y : Represents procs s r) (o : s.over ≡ None) where
   abbrev p : LProc
@@ -162,7 +86,10 @@ module _ (procs : List LProc) (data_words : ℕ) (ok : IsLoadable procs data_wor
     is_l = computes.placed_so procs data_words ok s r y o this places more e
 
     so : Placed p v off b x l
-    so = places_are p v off b x l is_l
+    so = places_are p v off b x l (located p v a l is_l)
+
+    has : HasAddress this b x l
+    has = let z = so.has_address in record { long = z.long; via_is = z.via_is; via_there = z.via_there; index_is = z.index_is; index_there = z.index_there; cell_is = z.cell_is }
 
     abbrev now : machine.State
     now = ops.now procs data_words ok s r y o this places more e j refl
@@ -170,30 +97,8 @@ module _ (procs : List LProc) (data_words : ℕ) (ok : IsLoadable procs data_wor
     abbrev held : List Held
     held = operands p s.top (read_by this) (map number_of l)
 
-    -- a variable in a register
-    in_register : (n u : ℕ) (value : Value) → slice_get (read_by this) n ≡ Some u → n < length l → has_register (place_in l n) ≡ true → slice_index_or held n None ≡ Some value →
-        Means value (get now.regs (emitted.register_at (place_in l n)))
-    in_register n u value is lt has h =
-        let from_is = register_operand p u (place_in l n) has in
-        let got = ops.reads_here procs data_words ok s r y o this places more e j refl u (place_in l n) value (λ z e. let no_number : at.Register (emitted.register_at (place_in l n)) ≡ at.Number z = sym from_is ∙ e in cc) (operand_at p s.top (read_by this) l n u value is lt h) in
-        subst (Means value) (sym (ok_same (get now.regs (emitted.register_at (place_in l n))) got.0 (ap (read now) (sym from_is) ∙ got.1))) got.2
-
     are : addresses.InRegisters procs (steps.x procs data_words ok s r y o).backs s.pushed s.top s.below s.globals now (steps.x procs data_words ok s r y o).lies b x l held
-    are =
-        let run_x = steps.x procs data_words ok s r y o in
-        let has = standing.instr_is procs s.top.proc s.top.home.block s.top.home.rest s.top.home.end (length s.pushed) r.state.eip run_x.stands (placed_.Op this places) more e in
-        let bare = bare_has has.0.code run_x.stands.index this places has.2 in
-        let cells = (ok.placed.each s.top.proc p run_x.stands.there).numbers_in_range.cells s.top.home.block bare.0 this (ap (λ l. slice_get l bare.0) (bare_there p.blocks s.top.home.block has.0 has.1) ∙ bare.1) in
-        let long = so.long in
-        record {
-          via = λ u is value h. in_register 0 u.0 value (ap (λ b. slice_get (map var_of (via b ++ index x)) 0) is) (omega (arith, long)) (so.via_there u is) h;
-          index = λ u is value h.
-              let count = counts b in
-              let some = ap index_count is in
-              subst (λ n. Means value (get now.regs (emitted.register_at (place_in l n)))) count
-              (in_register (base_count b) u.0 value (index_at b x u is) (omega (arith, long, count, some)) (subst (λ n. has_register (place_in l n) ≡ true) (sym count) (so.index_there u is)) h);
-          cell = λ n is. cells n (ap (λ b. cell_of b) is);
-        }
+    are = are_there procs data_words ok s r y o this places more e j refl b x has
 
     pub loads_it : Led procs data_words ok s r y o this more l
     unfolding effect write_rm read_rm mov

@@ -1,5 +1,5 @@
 -- MOV to an object's word.
-use Rattle.std.proofs.Common.{◌≡◌, ℕ, suc, ◌+◌, ◌^◌, ◌%◌, ◌<◌, ◌≤◌, Bool, true, false, List, [], ◌∷◌, ◌++◌, length, map, Option, Some, None, refl, sym, ap, ◌∙◌, subst, arith, ◌-◌, ◌/◌, length-append}
+use Rattle.std.proofs.Common.{◌≡◌, ℕ, suc, ◌+◌, ◌^◌, ◌%◌, ◌≤◌, Bool, true, false, List, [], ◌∷◌, ◌++◌, length, map, Option, Some, None, refl, sym, ap, ◌∙◌, subst, arith, ◌-◌, ◌/◌, length-append}
 use Rattle.std.specs.Prelude.{ℤ, Ok, slice_get, slice_index_or, if◌then◌else◌, slice_set}
 use Rattle.std.specs.Int.{w32}
 use Rattle.std.specs.Int.RustNames.{FitsSigned}
@@ -42,7 +42,6 @@ use Rattle.pra_base.specs.Valid.{TakesArgs}
 use Rattle.vc_code.specs.declared.action.Action.TheVariants as action
 use Rattle.vc_code.specs.declared.value.Object.{Object}
 use Rattle.vc_code.specs.declared.value.Object.TheVariants.{Data, Aggregates, Cell}
-use Rattle.vc_code.specs.declared.value.Value.{Value}
 use Rattle.vc_code.specs.declared.value.Value.TheVariants.{Num}
 use Rattle.vc_code.specs.Operation.{base_count, number_at, placed}
 use Rattle.vc_code.specs.Value.{Held}
@@ -52,11 +51,10 @@ use Rattle.pra_base.specs.Words.{word}
 use Rattle.ia_simulation.specs.Frames.{Means, Stacked, base_of, frames}
 use Rattle.ia_simulation.specs.Represents.{IsLoadable, RegistersHold, Lies, Runs, Represents, Leads}
 use Rattle.ia_simulation.proofs.Addresses as addresses
-use Rattle.ia_simulation.proofs.Checks.{bare_has}
 use Rattle.ia_simulation.proofs.Computes as computes
 use Rattle.ia_simulation.proofs.Computes.{register_operand}
 use Rattle.ia_simulation.proofs.Effects.{ok_same}
-use Rattle.ia_simulation.proofs.Locates.{operand_at, counts}
+use Rattle.ia_simulation.proofs.Addressed.{operand_at, counts, are_there}
 use Rattle.ia_simulation.proofs.Cells.{get_inside, set_back, length_set, store_cell, store_word}
 use Rattle.ia_simulation.proofs.Changed.{Stored, stored, same_depth, same_ebp, sizes_alike, stands_alike, waits_alike}
 use Rattle.ia_simulation.proofs.Objects.{all_sized, word_is}
@@ -67,8 +65,6 @@ use Rattle.ia_simulation.proofs.Ops as ops
 use Rattle.ia_simulation.proofs.Ops.{number_is}
 use Rattle.ia_simulation.proofs.Rows.{itself, Led}
 use Rattle.ia_simulation.proofs.Spots.{read}
-use Rattle.ia_simulation.proofs.Standing as standing
-use Rattle.ia_simulation.proofs.Start.{bare_there}
 use Rattle.ia_simulation.proofs.Steps as steps
 use Rattle.ia_simulation.proofs.Steps.{found_ok}
 
@@ -255,27 +251,12 @@ module _ (procs : List LProc) (data_words : ℕ) (ok : IsLoadable procs data_wor
     few : length s.pushed ≤ 32
     few = steps.few procs data_words ok s r y o
 
-    in_register : (n u : ℕ) (value : Value) → slice_get (read_by this) n ≡ Some u → n < length l → has_register (place_in l n) ≡ true → slice_index_or held n None ≡ Some value →
-        Means value (get now.regs (emitted.register_at (place_in l n)))
-    in_register n u value is lt has h =
-        let from_is = register_operand p u (place_in l n) has in
-        let got = ops.reads_here procs data_words ok s r y o this places more e j refl u (place_in l n) value (λ z e. let no_number : at.Register (emitted.register_at (place_in l n)) ≡ at.Number z = sym from_is ∙ e in cc) (operand_at p s.top (read_by this) l n u value is lt h) in
-        subst (Means value) (sym (ok_same (get now.regs (emitted.register_at (place_in l n))) got.0 (ap (read now) (sym from_is) ∙ got.1))) got.2
-
     are : addresses.InRegisters procs run_x.backs s.pushed s.top s.below s.globals now run_x.lies b x l held
     are =
-        let has = standing.instr_is procs s.top.proc s.top.home.block s.top.home.rest s.top.home.end (length s.pushed) r.state.eip run_x.stands (placed_.Op this places) more e in
-        let bare = bare_has has.0.code run_x.stands.index this places has.2 in
-        let cells = (ok.placed.each s.top.proc p run_x.stands.there).numbers_in_range.cells s.top.home.block bare.0 this (ap (λ l. slice_get l bare.0) (bare_there p.blocks s.top.home.block has.0 has.1) ∙ bare.1) in
         let long = so.long in
-        record {
-          via = λ u is value h. in_register 0 u.0 value (so.via_is u is) (omega (arith, long)) (so.via_there u is) h;
-          index = λ u is value h.
-              let count = counts b in
-              let some = ap index_count is in
-              in_register (via_count b) u.0 value (so.index_is u is) (omega (arith, long, some)) (so.index_there u is) (ap (λ n. slice_index_or held n None) (sym count) ∙ h);
-          cell = λ n is. cells n (ap (λ b. cell_of b) is);
-        }
+        are_there procs data_words ok s r y o this places more e j refl b x (
+        record { long = omega (arith, long); via_is = so.via_is; via_there = so.via_there; index_is = so.index_is; index_there = so.index_there; cell_is = λ n is. ap cell_of is }
+        )
 
     abbrev top1 : Activation Cells
     top1 = ops.passed_by procs data_words ok s r y o this places more e
