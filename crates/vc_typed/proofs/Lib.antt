@@ -24,3 +24,4 @@ pub mod PhraseNodes
 pub mod TreeNodes
 pub mod BodyNodes
 pub mod Selectable
+pub mod SampleIsSelectable

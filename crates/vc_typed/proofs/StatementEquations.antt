@@ -72,6 +72,18 @@ lent-Repeat body test = ap lent_in (sym (s.rolls-Repeat body test)) ∙ lent_rol
 pub lent-Call : (callee : ProcId) (args : List RArg) → lent_in (s.Call callee args) ≡ lent_by args
 lent-Call callee args = ap lent_in (sym (s.rolls-Call callee args)) ∙ lent_roll (RStmt-F.Call callee args)
 
+pub lent-Assign : (v : RVar) (e : RExpr) → lent_in (s.Assign v e) ≡ []
+lent-Assign v e = ap lent_in (sym (s.rolls-Assign v e)) ∙ lent_roll (RStmt-F.Assign v e)
+
+pub lent-Read : (v : RVar) → lent_in (s.Read v) ≡ []
+lent-Read v = ap lent_in (sym (s.rolls-Read v)) ∙ lent_roll (RStmt-F.Read v)
+
+pub lent-Write : (e : RExpr) → lent_in (s.Write e) ≡ []
+lent-Write e = ap lent_in (sym (s.rolls-Write e)) ∙ lent_roll (RStmt-F.Write e)
+
+pub lent-WriteLine : lent_in s.WriteLine ≡ []
+lent-WriteLine = ap lent_in (sym s.rolls-WriteLine) ∙ lent_roll RStmt-F.WriteLine
+
 pub lent_behind-is : (arm : RArm) → lent_behind arm ≡ lent_in_all (out-RArm arm).body
 lent_behind-is arm = fold_out-RArm (List Root) (List Root) lent_step lent_in_arm arm
 

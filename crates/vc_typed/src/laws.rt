@@ -21,6 +21,7 @@ ghost use Rattle.vc_relation.specs.Layout.{IsLaidOut};
 ghost use Rattle.vc_typed.specs.Fitting.{Fits};
 ghost use Rattle.vc_typed.specs.Nodes.{HaveTheirNodes};
 ghost use Rattle.vc_typed.specs.TypedModules.{IsTyped, IsLimited, IsSelectable};
+ghost use Rattle.vc_typed.specs.TypedSample.{sample};
 ghost use Rattle.vc_typed.specs.TypedStatements.{are_typed};
 ghost use Rattle.vc_typed.specs.Typing.{typed, typing, variable_typing};
 
@@ -80,4 +81,11 @@ pub fn bodies_have_their_nodes()
 pub fn modules_are_selectable()
     ensures { (bytes : List ℕ) (tokens : List Token) (m : Module) (r : Reading) →
         IsWellFormed bytes tokens m r → IsWithin r → IsSelectable (resolved m r) }
+{}
+
+/// Code can be selected for the sample, whose statements lend a parameter, a local and an element,
+/// and its bodies have their nodes.
+pub fn a_sample_is_selectable()
+    ensures selectable { IsSelectable sample }
+    ensures nodes { HaveTheirNodes sample }
 {}

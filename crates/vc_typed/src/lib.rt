@@ -12,7 +12,7 @@
 //!
 //! `bodies_have_their_nodes` says besides, of a tree that tokens derive, that each body has at most
 //! the nodes that the limit counts in the text, so that code of so much for a node keeps within
-//! bounds.
+//! bounds. Both are met: `a_sample_is_selectable` has a module with each kind of variable.
 //!
 //! # What to read
 //!
