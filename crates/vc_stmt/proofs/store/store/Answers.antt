@@ -1,0 +1,5 @@
+use Rattle.vc_stmt.proofs.Endings.{store_done}
+use Rattle.vc_stmt.proofs.store.store.Goals as goal
+
+pub returns-in_ok-put-in-Memory-clause-stores : goal.returns-in_ok-put-in-Memory-clause-stores
+returns-in_ok-put-in-Memory-clause-stores c = store_done c.args.setting.now _ _ _ _ _ _ c.in-Memory.is c.requires.is_open c.in_ok-put-in-Memory.ensures

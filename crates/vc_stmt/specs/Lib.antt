@@ -1,0 +1,9 @@
+pub mod Completes
+pub mod Calls
+pub mod Does
+pub mod Sound
+pub mod Stores
+pub mod Blocks
+pub mod Loops
+pub mod Arms
+pub mod Passes

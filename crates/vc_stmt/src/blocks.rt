@@ -1,0 +1,66 @@
+// Blocks that are opened before the code that comes before them in the text.
+
+ghost use Rattle.std.specs.Prelude.{◌≡◌, ◌+◌, ◌<◌, length, IfOk, OnOk};
+ghost use Rattle.pra_base.specs.Code.{block_of};
+ghost use Rattle.vc_build.specs.Grow.{count};
+ghost use Rattle.vc_stmt.specs.Blocks.{deeper as deeper_than, with_arm, with_loop};
+
+use pra_base::{BlockId, OutOfMemory, VProc};
+use std::alloc::Global;
+use vc_build::open_block;
+use vc_expr::Targets;
+
+/// The block where the test of a loop begins, the one where its statements begin, and the one
+/// behind it.
+#[derive(Clone, Copy, Debug, PartialEq, Eq, Drop)]
+pub struct Loop {
+    pub test: BlockId,
+    pub body: BlockId,
+    pub behind: BlockId,
+}
+
+/// The depth of the blocks in a loop, by that of the block in which it stands.
+pub fn deeper(depth: u32) -> u32
+    ensures { result ≡ deeper_than depth }
+{
+    if depth < 5 { depth + 1 } else { 5 }
+}
+
+/// Opens the blocks of a loop that stands in a block. Of the two ends of a WHILE's test the one that
+/// comes later in the text has the smaller number.
+///
+/// # Errors
+///
+/// Where there is no memory for them, or no number; the code is of no use then.
+pub fn open_loop(alloc: Global, code: &mut VProc, at: BlockId) -> Result<Loop, OutOfMemory>
+    requires { at.0 < count code.old }
+    ensures made { OnOk result (code.new ≡ with_loop (block_of code.old at.0).depth code.old) }
+    ensures behind { IfOk result (λ l. l.behind.0 ≡ count code.old) }
+    ensures body { IfOk result (λ l. l.body.0 ≡ count code.old + 1) }
+    ensures test { IfOk result (λ l. l.test.0 ≡ count code.old + 2) }
+{
+    let depth = code.blocks[at.0 as usize].depth;
+    let inner = deeper(depth);
+    let behind = open_block(alloc, code, depth)?;
+    let body = open_block(alloc, code, inner)?;
+    let test = open_block(alloc, code, inner)?;
+    Ok(Loop { test, body, behind })
+}
+
+/// Opens the two blocks to which the condition of an arm leads from a block. The one that comes
+/// later in the text has the smaller number.
+///
+/// # Errors
+///
+/// Where there is no memory for them, or no number; the code is of no use then.
+pub fn open_arm(alloc: Global, code: &mut VProc, at: BlockId) -> Result<Targets, OutOfMemory>
+    requires { at.0 < count code.old }
+    ensures made { OnOk result (code.new ≡ with_arm (block_of code.old at.0).depth code.old) }
+    ensures fails { IfOk result (λ t. t.fails.0 ≡ count code.old) }
+    ensures holds { IfOk result (λ t. t.holds.0 ≡ count code.old + 1) }
+{
+    let depth = code.blocks[at.0 as usize].depth;
+    let fails = open_block(alloc, code, depth)?;
+    let holds = open_block(alloc, code, depth)?;
+    Ok(Targets { holds, fails })
+}

@@ -1,0 +1,63 @@
+//! The walk over statements that selects code for them.
+//!
+//! # What is promised
+//!
+//! A run stands at the end of what the open block `from` has so far, in a state that matches that
+//! of the meaning (`Matches` of `specs/Does`): the store is represented, the same is written, the
+//! same words of the input are taken; no argument is pushed, and the calls that wait stand where
+//! they stood, with their variables. Running on through the code that was added for statements, and
+//! over all code that is made later, it completes as they do (`Does`, with the meaning's execution
+//! as its last parameter, over `Completes` of `specs/Completes`):
+//!
+//! - where the meaning is Normal, it comes to the end of the open block `to`, in a state that
+//!   matches the one after the statements;
+//! - where it traps, the run traps, with the same written and as many words taken;
+//! - where a budget of the meaning ran out (Going), the run goes on and has done the same, after
+//!   `least` steps or more, for any `least` up to the turns of loops. So it is carried steps that
+//!   are said of each statement, and a loop without statements goes on as long as its turns.
+//!
+//! What is asked of statements is a Bool that computes (`is_sound` of `specs/Sound`): they are
+//! typed, and what they lend has an address.
+//!
+//! # Calls
+//!
+//! Of the calls in a body one thing is asked, `CallsFollow` of `specs/Calls`: from a state before
+//! the Call of a procedure, with the arguments pushed (`StandsAtCall`), the run completes as the
+//! meaning's `call` does, and has then returned (`HasReturned`). It speaks of the live calls and of
+//! what is around the statements (`Around` of ob_mean), and of no code. So code of one procedure is
+//! selected without a word on the code of others; that all calls do what they mean is an induction
+//! over how much deeper calls may stand, where the step into a call makes up for one call less.
+//!
+//! ```text
+//! program, w, least, a : Around       CallsFollow program w least a
+//!   a.calls, a.call                   each call of a procedure, by a.call, in at least `least` steps
+//!                                     where it goes on
+//! Does g old new from to sound exec   for any w whose code of the procedure has grown from `new`
+//! ```
+//!
+//! # How to read it
+//!
+//! `specs/` in this order: `Completes`, `Calls`, `Does`, `Sound`; then `Stores` (what gives a value
+//! to a variable of the source), `Passes` (arguments), `Blocks`, `Loops` and `Arms` (blocks that
+//! wait, the meaning of loops, an IF arm after arm).
+//!
+//! The lemmas: `Completing` puts runs together (`completes_then`, `completes_value`), `Matching`
+//! says which states match on (`matches_on` behind an expression), `Jumping` and `Waiting` are for
+//! blocks. Each form has a file.
+//!
+//! # The blocks
+//!
+//! WHILE is a block for its test, one for its statements and one behind; REPEAT the same, with the
+//! statements first. Blocks in a loop are one deeper. An arm of an IF has a block for its
+//! statements and one where control goes that passes it; what follows ELSE stands in the last of
+//! these, also where there is none. Of two blocks to which a test leads, the one that comes later
+//! in the text has the smaller number, so that the order of the text can be found again.
+#![tactic(auto)]
+
+pub mod blocks;
+pub mod store;
+pub mod write;
+
+pub use blocks::{Loop, open_arm, open_loop};
+pub use store::{select_assignment, select_read};
+pub use write::{select_line, select_write};
