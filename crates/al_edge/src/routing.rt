@@ -5,7 +5,6 @@ ghost use Rattle.std.specs.Prelude.{OnOk};
 ghost use Rattle.net_form.specs.Admitted.{strand_at, uses_bundle, IsAdmitted};
 ghost use Rattle.net_form.specs.Flow.{edges, flow, AreRoutes};
 ghost use Rattle.net_form.specs.Formed.{IsFormed};
-ghost use Rattle.net_form.specs.Index.{first_layer};
 ghost use Rattle.net_form.specs.Rooms.{layer_total};
 ghost use Rattle.net_gate.specs.InUse.{mark, comes_to};
 ghost use Rattle.net_laws.specs.Homes.{HasRoom, is_there};
@@ -22,18 +21,6 @@ use pra_base::{OutOfMemory, Place};
 use pra_list::Seq;
 use std::alloc::Global;
 
-// The number of the layer 0 of a strand's block, where the layers of all blocks are counted
-// together.
-fn base_of(net: &Net, strand: usize) -> u32
-    requires net { IsFormed net.now }
-    requires strand { strand < length net.now.strands }
-    ensures value { result ≡ first_layer net.now.blocks (strand_at net.now strand).block.0 }
-    ensures within { result + (strand_at net.now strand).last < layer_total net.now.blocks }
-{
-    let block = net.strands[strand].block;
-    net.index.layers[block.0 as usize]
-}
-
 // The registers in use where the strand would be.
 fn busy_at(net: &Net, regs: &Seq<u8>, strand: usize, layer: u32) -> u8
     requires net { IsFormed net.now }
@@ -42,7 +29,7 @@ fn busy_at(net: &Net, regs: &Seq<u8>, strand: usize, layer: u32) -> u8
     requires there { is_there (strand_at net.now strand) layer ≡ true }
     ensures { result ≡ busy_at net.now regs.now strand layer }
 {
-    let base = base_of(net, strand);
+    let base = net.entry_layer(strand);
     let here = regs[(base + layer) as usize];
     if passes(&net.strands[strand], layer) {
         here | regs[(base + across(layer)) as usize]
@@ -115,7 +102,7 @@ fn occupy_path(regs: &mut Seq<u8>, net: &Net, strand: usize, path: &[Place])
         mark regs.new n r ≡ min 1 (mark regs.old n r +
         count_by (uses_bundle net.now n r) (edges strand first None path.now)) }
 {
-    let mut layer = base_of(net, strand) + net.strands[strand].first;
+    let mut layer = net.entry_layer(strand) + net.strands[strand].first;
     let mut rest = path;
     while let [to, others @ ..] = rest {
         occupy(regs, layer as usize, *to);
