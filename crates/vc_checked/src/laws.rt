@@ -1,0 +1,23 @@
+// The laws that join the checker with selection of code. Each function is a law: its contract is the
+// statement, and it does nothing.
+
+ghost use Rattle.std.specs.Prelude.{ℕ, List};
+ghost use Rattle.ob_check.specs.Checking.{IsChecked};
+ghost use Rattle.ob_syntax.specs.Source.{IsParsed};
+ghost use Rattle.ob_syntax.specs.declared.checked.Checked.{Checked};
+ghost use Rattle.ob_syntax.specs.declared.token.Token.{Token};
+ghost use Rattle.ob_syntax.specs.declared.tree.Module.{Module};
+ghost use Rattle.vc_typed.specs.Nodes.{HaveTheirNodes};
+ghost use Rattle.vc_typed.specs.TypedModules.{IsSelectable};
+
+/// Code can be selected for each module that the checker answers.
+pub fn checked_modules_are_selectable()
+    ensures { (bytes : List ℕ) (tokens : List Token) (m : Module) (c : Checked) →
+        IsChecked bytes tokens m c → IsSelectable c }
+{}
+
+/// Where the tree is that of the tokens, each body of the module has at most its nodes in the text.
+pub fn checked_bodies_have_their_nodes()
+    ensures { (bytes : List ℕ) (tokens : List Token) (m : Module) (c : Checked) →
+        IsParsed bytes tokens m → IsChecked bytes tokens m c → HaveTheirNodes c }
+{}
