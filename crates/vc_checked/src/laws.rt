@@ -1,5 +1,5 @@
-// The laws that join the checker with selection of code. Each function is a law: its contract is the
-// statement, and it does nothing.
+// The laws that join the checker with selection of code. Each function is a law: its contract is
+// the statement, and it does nothing.
 
 ghost use Rattle.std.specs.Prelude.{ℕ, List};
 ghost use Rattle.ob_check.specs.Checking.{IsChecked};
