@@ -7,6 +7,7 @@ ghost use Rattle.ob_syntax.specs.Source.{IsParsed};
 ghost use Rattle.ob_syntax.specs.declared.checked.Checked.{Checked};
 ghost use Rattle.ob_syntax.specs.declared.token.Token.{Token};
 ghost use Rattle.ob_syntax.specs.declared.tree.Module.{Module};
+ghost use Rattle.vc_checked.specs.Sample.{source, tokens, tree, checked};
 ghost use Rattle.vc_typed.specs.Nodes.{HaveTheirNodes};
 ghost use Rattle.vc_typed.specs.TypedModules.{IsSelectable};
 
@@ -20,4 +21,9 @@ pub fn checked_modules_are_selectable()
 pub fn checked_bodies_have_their_nodes()
     ensures { (bytes : List ℕ) (tokens : List Token) (m : Module) (c : Checked) →
         IsParsed bytes tokens m → IsChecked bytes tokens m c → HaveTheirNodes c }
+{}
+
+/// There is such a module: the sample.
+pub fn a_sample_is_checked()
+    ensures { IsChecked source tokens tree checked }
 {}

@@ -5,7 +5,8 @@
 //! `IsSelectable` (`specs/TypedModules` there) says that storage is laid out, each body is typed,
 //! what is lent to VAR parameters has an address, and nothing is above its maximum;
 //! `HaveTheirNodes` (`specs/Nodes` there), that each body has at most the nodes of the text. A
-//! compiler that has the one cites the laws for the other.
+//! compiler that has the one cites the laws for the other. There are such modules: that of
+//! `specs/Sample` is one.
 #![tactic(auto)]
 
 pub mod laws;
