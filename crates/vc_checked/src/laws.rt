@@ -4,6 +4,7 @@
 ghost use Rattle.std.specs.Prelude.{ℕ, List};
 ghost use Rattle.ob_check.specs.Checking.{IsChecked};
 ghost use Rattle.ob_syntax.specs.Source.{IsParsed};
+ghost use Rattle.ob_syntax.specs.Whole.{kinds, most_nesting, IsTreeOf};
 ghost use Rattle.ob_syntax.specs.declared.checked.Checked.{Checked};
 ghost use Rattle.ob_syntax.specs.declared.token.Token.{Token};
 ghost use Rattle.ob_syntax.specs.declared.tree.Module.{Module};
@@ -23,7 +24,8 @@ pub fn checked_bodies_have_their_nodes()
         IsParsed bytes tokens m → IsChecked bytes tokens m c → HaveTheirNodes c }
 {}
 
-/// There is such a module: the sample.
+/// There is such a module: the sample, whose tree its tokens derive.
 pub fn a_sample_is_checked()
-    ensures { IsChecked source tokens tree checked }
+    ensures checked { IsChecked source tokens tree checked }
+    ensures derived { IsTreeOf most_nesting (kinds tokens) tree }
 {}
