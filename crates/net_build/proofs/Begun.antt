@@ -33,7 +33,7 @@ pub read_roles : (v : ℕ) (o : Option VInstr) → list_any (is_role_of v) (role
 read_roles v None = refl
 read_roles v (Some i) = list_any-map (is_role_of v) (settled (table i)) (table i).reads
 
-written_roles : (v : ℕ) (o : Option VInstr) → list_any (is_role_of v) (roles_beside false operands o) ≡ passes (λ i. writes i v) o
+pub written_roles : (v : ℕ) (o : Option VInstr) → list_any (is_role_of v) (roles_beside false operands o) ≡ passes (λ i. writes i v) o
 written_roles v None = refl
 written_roles v (Some i) =
     let line = table i in

@@ -1,9 +1,11 @@
 -- Where a place stands among strands in order.
-use Rattle.std.proofs.Common.{ℕ, ◌≡◌, ◌+◌, ◌<◌, ◌≤◌, ◌⊎◌, inl, inr, List, length, get_or, refl, subst, sym, ◌∙◌, arith}
+use Rattle.std.proofs.Common.{ℕ, ◌≡◌, ◌+◌, ◌<◌, ◌≤◌, ◌⊎◌, inl, inr, List, [], ◌∷◌, ◌++◌, length, get_or, refl, subst, sym, ap, ◌∙◌, arith}
 use Rattle.std.proofs.lemmas.Bool.{cases_eq, cases_lt}
-use Rattle.std.proofs.lemmas.List.{get_or_default}
+use Rattle.std.proofs.Math.Seq.{get_or-append_seam}
+use Rattle.std.proofs.lemmas.List.{get_or_default, get_or_append_left, length-append}
 use Rattle.net_form.specs.declared.net.Strand.{Strand}
-use Rattle.net_build.specs.Order.{Key, key_of, Precedes, block, first, var, AreInOrder, IsBetween}
+use Rattle.net_form.specs.Admitted.{no_strand}
+use Rattle.net_build.specs.Order.{Key, key_of, Precedes, block, first, var, AreInOrder, IsBetween, StartsAt, AreStarts}
 
 pub trans : (a b c : Key) → Precedes a b → Precedes b c → Precedes a c
 trans a b c (block x) (block y) = block (omega (arith, x, y))
@@ -53,3 +55,55 @@ one_place ss place n k d order bounds lt same = by (cases_lt k n) (cases_lt n k)
     by (inl less) more = absurd (irreflexive place place refl refl refl (subst (λ x. Precedes x place) same (bounds.before k d less)))
     by (inr le) (inl more) = absurd (bounds.behind n d (omega arith) (omega (arith, more, lt)) (subst (Precedes (key_of (get_or ss n d))) same (order n k d more lt)))
     by (inr le) (inr ge) = omega (arith, le, ge)
+
+-- ---- where the strands of a block begin
+
+not_later : (a b : Key) → Precedes a b → a.0 ≤ b.0
+not_later a b (block x) = omega (arith, x)
+not_later a b (first e x) = omega (arith, e)
+not_later a b (var e f x) = omega (arith, e)
+
+pub starts_here : (ss : List Strand) (b at : ℕ) → AreInOrder ss → at ≤ length ss
+    → ((k : ℕ) (d : Strand) → k < at → (get_or ss k d).block.0 < b)
+    → ((d : Strand) → at < length ss → b ≤ (get_or ss at d).block.0) → StartsAt ss b at
+starts_here ss b at order within before here = record {
+  within = within;
+  before = before;
+  behind = λ k d le lt. elim (cases_eq k at) as (λ _. b ≤ (get_or ss k d).block.0) [
+    | inl same ↦ subst (λ n. b ≤ (get_or ss n d).block.0) (sym same) (here d (omega (arith, same, lt)))
+    | inr other ↦
+        let one = here d (omega (arith, le, lt)) in
+        let two = not_later (key_of (get_or ss at d)) (key_of (get_or ss k d)) (order at k d (omega (arith, le, other)) lt) in
+        omega (arith, one, two)
+  ];
+}
+
+pub starts_in_order : (ss : List Strand) (b low high : ℕ) → StartsAt ss b low → StartsAt ss (b + 1) high → low ≤ high
+starts_in_order ss b low high one two = by (cases_lt high low)
+  where
+    by : (high < low) ⊎ (low ≤ high) → low ≤ high
+    by (inr le) = le
+    by (inl lt) =
+        let within = one.within in
+        let before = one.before high no_strand lt in
+        let behind = two.behind high no_strand (omega arith) (omega (arith, lt, within)) in
+        absurd (omega (arith, before, behind))
+
+pub between_starts : (ss : List Strand) (b v low high : ℕ) → StartsAt ss b low → StartsAt ss (b + 1) high → IsBetween ss (b, 0, v) low high
+between_starts ss b v low high one two = record {
+  before = λ k d lt. block (one.before k d lt);
+  behind = λ k d le lt is.
+      let most = not_later (key_of (get_or ss k d)) (b, 0, v) is in
+      let least = two.behind k d le lt in
+      omega (arith, most, least);
+}
+
+pub starts_pushed : (ss : List Strand) (starts : List ℕ) (at : ℕ) → AreStarts ss starts → StartsAt ss (length starts) at → AreStarts ss (starts ++ at ∷ [])
+starts_pushed ss starts at all here b lt = elim (cases_lt b (length starts)) as (λ _. StartsAt ss b (get_or (starts ++ at ∷ []) b 0)) [
+  | inl less ↦ subst (StartsAt ss b) (sym (get_or_append_left starts (at ∷ []) 0 b less)) (all b less)
+  | inr le ↦
+      let long = length-append starts (at ∷ []) in
+      let same : b ≡ length starts = omega (arith, long, lt, le) in
+      let last : get_or (starts ++ at ∷ []) b 0 ≡ at = ap (λ n. get_or (starts ++ at ∷ []) n 0) same ∙ get_or-append_seam starts at [] 0 in
+      subst (λ n. StartsAt ss n (get_or (starts ++ at ∷ []) b 0)) (sym same) (subst (StartsAt ss (length starts)) (sym last) here)
+]

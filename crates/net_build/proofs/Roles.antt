@@ -1,9 +1,10 @@
 -- Roles as the code has them, and those of the definitions.
-use Rattle.std.proofs.Common.{ℕ, ◌≡◌, ◌-◌, ◌≤◌, Bool, eqb, ◌||◌, List, [], ◌∷◌, length, get_or, take, drop, sym, ap, ◌∙◌, suc, arith}
+use Rattle.std.proofs.Common.{ℕ, ◌≡◌, ◌-◌, ◌≤◌, Bool, true, false, true≢false, cond, eqb, ◌||◌, List, [], ◌∷◌, length, get_or, take, drop, fold, refl, sym, ap, ◌∙◌, suc, arith}
 use Rattle.std.specs.List.{list_any}
 use Rattle.std.proofs.lemmas.Bool.{ne_eqb}
 use Rattle.std.proofs.lemmas.List.{take_all}
 use Rattle.pra_base.specs.Operands as table
+use Rattle.pra_base.specs.Places.{meet}
 use Rattle.pra_list.proofs.Mapped.{list_any-map}
 use Rattle.vc_code.specs.declared.row.Role.{Role}
 use Rattle.vc_code.specs.Rows.{role_of, roles_of}
@@ -21,3 +22,13 @@ another [] d v some other = absurd (omega (arith, some))
 another (r ∷ rs) d v some other =
     ap (λ b. b || named rs v) (ne_eqb r.var.0 v other)
     ∙ sym (ap (λ l. named l v) (take_all (suc (length rs) - 1) rs (omega arith)))
+
+-- a mask that no role of the variable meets
+pub unmet : (v own : ℕ) (roles : List table.Role) → list_any (table.is_role_of v) roles ≡ false → fold (table.meets v) own roles ≡ own
+unmet v own [] none = refl
+unmet v own (r ∷ rs) none = by (eqb r.var v) none (unmet v own rs)
+  where
+    by : (t : Bool) → (t || list_any (table.is_role_of v) rs) ≡ false → (list_any (table.is_role_of v) rs ≡ false → fold (table.meets v) own rs ≡ own)
+        → fold (table.meets v) (cond t (meet own r.mask) own) rs ≡ own
+    by true none rest = absurd (true≢false none)
+    by false none rest = rest none

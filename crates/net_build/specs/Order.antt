@@ -33,6 +33,17 @@ pub record IsBetween (ss : List Strand) (place : Key) (low high : ℕ) : Type 0 
   pub behind : (k : ℕ) (d : Strand) → high ≤ k → k < length ss →
       ¬ Precedes (key_of (slice_index_or ss k d)) place
 
+-- the strands of earlier blocks are those below `at`
+pub record StartsAt (ss : List Strand) (b at : ℕ) : Type 0 where
+  pub within : at ≤ length ss
+  pub before : (k : ℕ) (d : Strand) → k < at → (slice_index_or ss k d).block.0 < b
+  pub behind : (k : ℕ) (d : Strand) → at ≤ k → k < length ss →
+      b ≤ (slice_index_or ss k d).block.0
+
+-- for each block the number of its first strand, or of the first one of a later block
+abbrev pub AreStarts : List Strand → List ℕ → Type 0
+AreStarts ss starts = (b : ℕ) → b < length starts → StartsAt ss b (slice_index_or starts b 0)
+
 -- the tie from a strand to the one of number k, if that goes on the variable behind the end
 abbrev pub tie_to : List Strand → End → ℕ → ℕ → ℕ → Option Tie
 tie_to ss end v from k =

@@ -5,12 +5,14 @@ ghost use Rattle.std.specs.List.{list_any};
 ghost use Rattle.pra_base.specs.Code.{kind_of};
 ghost use Rattle.pra_base.specs.Operands.{is_role_of, meets, own_places};
 ghost use Rattle.net_form.specs.Strands.{beside, across, is_before, is_present, roles_at, mask_at};
-ghost use Rattle.net_form.specs.Strands.{is_param, met_mask, clobbered};
+ghost use Rattle.net_form.specs.Strands.{is_param, met_mask, clobbered, roles_beside};
+ghost use Rattle.pra_base.specs.Operands as table;
 ghost use Rattle.pra_base.specs.Places.{without};
 ghost use Rattle.net_form.specs.Tables.{all_tables};
 ghost use Rattle.vc_code.specs.Rows.{roles_of, row_of};
 ghost use Rattle.vc_live.specs.Rows.{live_at};
 
+use crate::naming::has_role_beside;
 use pra_base::places::{BOTH_PLACES, CONSTANT, MEMORY, REGISTERS, meet, without};
 use pra_base::{BlockId, Mask, VInstr, VProc, VarId, VarKind};
 use vc_code::{OperandRow, Role, operands};
@@ -42,13 +44,6 @@ fn across(layer: u32) -> u32
     }
 }
 
-// Whether one of the roles is the variable's.
-pub(crate) fn has_role(roles: &[Role], var: u32) -> bool
-    ensures { result ≡ list_any (λ role. nat_eq role.var.0 var) roles.now }
-{
-    roles.iter().any(|role| role.var.0 == var)
-}
-
 // The roles of a row at a layer: what is read before the instruction, what is written after it.
 pub(crate) fn side(row: &OperandRow, layer: u32) -> &[Role]
     ensures { roles_of result.now ≡
@@ -68,10 +63,7 @@ pub(crate) fn is_role(code: &VProc, block: u32, layer: u32, var: u32) -> bool
 {
     match beside(code, block, layer) {
         None => false,
-        Some(instr) => {
-            let row = operands(&instr);
-            has_role(side(&row, layer), var)
-        }
+        Some(instr) => has_role_beside(&instr, layer, var),
     }
 }
 
@@ -122,6 +114,56 @@ fn comes_in_memory(kind: VarKind, block: u32, layer: u32) -> bool
     }
 }
 
+// A variable's own places, met with the masks of its roles beside an instruction. Most variables
+// have none there, and the operand table is not asked.
+fn met_beside(instr: &VInstr, layer: u32, var: u32, own: Mask) -> Mask
+    ensures { result ≡
+        fold (meets var) own (roles_beside (is_before layer) table.operands (Some instr.now)) }
+{
+    if has_role_beside(instr, layer, var) {
+        let row = operands(instr);
+        met_mask(side(&row, layer), var, own)
+    } else {
+        own
+    }
+}
+
+// The registers that the instruction destroys.
+fn clobbers_of(instr: &VInstr) -> u8
+    ensures { result ≡ (table.operands instr.now).clobbers }
+{
+    match instr {
+        VInstr::Call(_) => operands(instr).clobbers,
+        VInstr::Clear => operands(instr).clobbers,
+        _ => 0,
+    }
+}
+
+// The registers that the instruction destroys, where the variable is on both of its sides.
+fn clobbered_beside(
+    code: &VProc,
+    live: &Liveness,
+    block: u32,
+    layer: u32,
+    var: u32,
+    instr: &VInstr,
+) -> u8
+    requires block { block < length code.now.blocks }
+    requires layer { layer < 100000 }
+    requires instr { beside code.now block layer ≡ Some instr.now }
+    ensures { result ≡ clobbered all_tables code.now (live_at live.now) var block layer }
+{
+    let clobbers = clobbers_of(instr);
+    if clobbers == 0 {
+        return 0;
+    }
+    if is_present(code, live, block, across(layer), var) {
+        clobbers
+    } else {
+        0
+    }
+}
+
 // The mask beside an instruction.
 fn mask_beside(
     code: &VProc,
@@ -138,13 +180,9 @@ fn mask_beside(
     ensures { result ≡ without (met_mask all_tables code.now var block layer)
         (clobbered all_tables code.now (live_at live.now) var block layer) }
 {
-    let row = operands(instr);
-    let met = met_mask(side(&row, layer), var, own_places(code.vars[var as usize]));
-    if is_present(code, live, block, across(layer), var) {
-        without(met, row.clobbers)
-    } else {
-        without(met, 0)
-    }
+    let met = met_beside(instr, layer, var, own_places(code.vars[var as usize]));
+    let clobbered = clobbered_beside(code, live, block, layer, var, instr);
+    without(met, clobbered)
 }
 
 // Where the variable may be at a layer.

@@ -7,7 +7,8 @@
 //! its variable has a role, a law on what is live (proofs/Begun), so only variables with roles are
 //! looked at after the entry. The strand of an operand is looked for among the strands of its
 //! block. Strands are in order (proofs/InOrder), so the strand that a tie goes to is found by
-//! bisection.
+//! bisection among those of its block. Most variables have no role at most layers: there the
+//! operand table is not asked for its masks (`naming`).
 //!
 //! Then the index, in time linear in the lists. Where each strand's items begin is counted. Ties by
 //! the strands that they go to, and ends of memory pairs by their strands, are taken in one pass
@@ -30,6 +31,7 @@ mod groups;
 mod index;
 mod labels;
 mod lists;
+mod naming;
 mod network;
 mod order;
 mod owners;

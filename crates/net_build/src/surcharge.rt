@@ -1,16 +1,14 @@
 // What an operand costs more in memory or as an immediate than in a register.
 
-ghost use Rattle.std.specs.Prelude.{◌≡◌, nat_eq, ◌&&◌};
-ghost use Rattle.pra_base.specs.Operands.{reads, only_writes};
+ghost use Rattle.std.specs.Prelude.{◌≡◌};
 ghost use Rattle.net_form.specs.Strands.{is_before};
 ghost use Rattle.net_form.specs.Network.{plays};
 ghost use Rattle.net_form.specs.Tables.{extra_columns, is_short, memory_event, constant_event};
 ghost use Rattle.net_build.specs.Surcharge.{columns_of};
 
-use crate::beside::has_role;
+use crate::naming::{only_writes, reads};
 use net_cost::Event;
 use pra_base::{VInstr, VarKind};
-use vc_code::operands;
 
 /// What an operand of an instruction costs in memory, near and far, and as an immediate of 8 and of
 /// 32 bits.
@@ -118,29 +116,6 @@ pub(crate) fn constant_event(kind: VarKind, extra: Surcharges) -> Option<Event>
             }
         }
         _ => None,
-    }
-}
-
-fn reads(instr: &VInstr, var: u32) -> bool
-    ensures { result ≡ reads instr.now var }
-{
-    let row = operands(instr);
-    has_role(row.reads.as_slice(), var)
-}
-
-// Whether the instruction writes the variable where it does not read it.
-fn only_writes(instr: &VInstr, var: u32) -> bool
-    ensures { result ≡ only_writes instr.now var }
-{
-    match instr {
-        VInstr::Set(target, _) => target.0 == var,
-        VInstr::Copy(target, _) => target.0 == var,
-        VInstr::CmpSet(_, target, _, _) => target.0 == var,
-        VInstr::DivMod(quotient, remainder, _, _) => quotient.0 == var || remainder.0 == var,
-        VInstr::Load(target, _) => target.0 == var,
-        VInstr::Addr(target, _) => target.0 == var,
-        VInstr::Read(target) => target.0 == var,
-        _ => false,
     }
 }
 

@@ -1,20 +1,20 @@
 // Ties: a strand that reaches its block's exit, and the variable's strand at the entry of a block
 // that follows.
 
-ghost use Rattle.std.specs.Prelude.{◌≡◌, ℕ, ◌++◌, ◌<◌, ◌≤◌, ◌^◌, length, All, map, IfOk, OnOk};
-ghost use Rattle.std.specs.Prelude.{option_to_list, slice_index_or};
+ghost use Rattle.std.specs.Prelude.{◌≡◌, ℕ, ◌++◌, ◌+◌, ◌<◌, ◌≤◌, ◌^◌, length, All, map, IfOk};
+ghost use Rattle.std.specs.Prelude.{OnOk, option_to_list, slice_index_or};
 ghost use Rattle.std.specs.List.{filter_map, range_with_len};
-ghost use Rattle.pra_base.specs.Code.{end_of};
+ghost use Rattle.pra_base.specs.Code.{end_of, IsTarget};
 ghost use Rattle.pra_base.specs.Valid.{IsSized};
 ghost use Rattle.net_form.specs.Admitted.{no_strand};
 ghost use Rattle.net_form.specs.declared.net.Strand.{Strand as NetStrand};
 ghost use Rattle.net_form.specs.Formed.{IsStrandOf};
 ghost use Rattle.net_form.specs.Network.{leads_to, ties, ties_from, net_block};
 ghost use Rattle.net_form.specs.Strands.{exit_layer};
-ghost use Rattle.net_build.specs.Order.{AreInOrder, goes_on, key_of, tie_to};
+ghost use Rattle.net_build.specs.Order.{AreInOrder, AreStarts, goes_on, key_of, tie_to};
 ghost use Rattle.net_build.specs.Runs.{IsLeastFrom};
 
-use crate::order::place_of;
+use crate::order::{place_of, starts_of};
 use crate::strands::nearer;
 use net_form::{Strand, Tie};
 use pra_base::{End, VProc};
@@ -42,28 +42,40 @@ fn goes_on(end: &End, var: u32, strand: &Strand) -> bool
 }
 
 // The number of the variable's strand at the entry of a block, if there is one.
-fn entry_of(strands: &Seq<Strand>, block: u32, var: u32) -> u32
+fn entry_of(strands: &Seq<Strand>, starts: &Seq<u32>, block: u32, var: u32) -> u32
     requires few { length strands.now < 2 ^ 32 }
     requires order { AreInOrder strands.now }
+    requires starts { AreStarts strands.now starts.now }
+    requires block { block + 1 < length starts.now }
     ensures { (k : ℕ) (d : NetStrand) → k < length strands.now →
         key_of (slice_index_or strands.now k d) ≡ (block, 0, var) → result ≡ k }
 {
-    place_of(strands, 0, strands.len() as u32, block, 0, var)
+    let low = starts[block as usize];
+    let high = starts[block as usize + 1];
+    place_of(strands, low, high, block, 0, var)
 }
 
 // The number of the next strand, from this one on, that goes on the variable.
-fn next_from(strands: &Seq<Strand>, end: &End, var: u32, from: u32) -> Option<u32>
+fn next_from(
+    strands: &Seq<Strand>,
+    starts: &Seq<u32>,
+    end: &End,
+    var: u32,
+    from: u32,
+) -> Option<u32>
     requires few { length strands.now < 2 ^ 32 }
     requires order { AreInOrder strands.now }
+    requires starts { AreStarts strands.now starts.now }
+    requires targets { (t : ℕ) → IsTarget end.now t → t + 1 < length starts.now }
     ensures { IsLeastFrom (λ k. goes_on end.now var (slice_index_or strands.now k no_strand))
         from (length strands.now) result }
 {
     let count = strands.len() as u32;
     match end {
-        End::Jump(target) => nearer(None, entry_of(strands, target.0, var), from, count),
+        End::Jump(target) => nearer(None, entry_of(strands, starts, target.0, var), from, count),
         End::Branch(_, one, other) => {
-            let least = nearer(None, entry_of(strands, one.0, var), from, count);
-            nearer(least, entry_of(strands, other.0, var), from, count)
+            let least = nearer(None, entry_of(strands, starts, one.0, var), from, count);
+            nearer(least, entry_of(strands, starts, other.0, var), from, count)
         }
         End::Return => None,
     }
@@ -91,6 +103,7 @@ fn add_tie(
 // Adds the ties from a strand that reaches its block's exit.
 fn add_exit(
     strands: &Seq<Strand>,
+    starts: &Seq<u32>,
     number: u32,
     end: &End,
     var: u32,
@@ -98,11 +111,13 @@ fn add_exit(
 ) -> Result<(), AllocError>
     requires few { length strands.now < 2 ^ 32 }
     requires order { AreInOrder strands.now }
+    requires starts { AreStarts strands.now starts.now }
+    requires targets { (t : ℕ) → IsTarget end.now t → t + 1 < length starts.now }
     ensures { OnOk result (out.new ≡ out.old ++ filter_map
         (tie_to strands.now end.now var number) (range_with_len 0 (length strands.now))) }
 {
     let mut from = 0;
-    while let Some(to) = next_from(strands, end, var, from) {
+    while let Some(to) = next_from(strands, starts, end, var, from) {
         add_tie(strands, number, end, var, to, out)?;
         from = to + 1;
     }
@@ -122,6 +137,7 @@ fn exit_layer(code: &VProc, block: u32) -> u32
 fn add_strand(
     code: &VProc,
     strands: &Seq<Strand>,
+    starts: &Seq<u32>,
     number: u32,
     strand: &Strand,
     out: &mut Seq<Tie>,
@@ -129,6 +145,8 @@ fn add_strand(
     requires sized { IsSized code.now }
     requires few { length strands.now < 2 ^ 32 }
     requires order { AreInOrder strands.now }
+    requires starts { AreStarts strands.now starts.now }
+    requires blocks { length starts.now ≡ length code.now.blocks + 1 }
     requires block { strand.now.block.0 < length code.now.blocks }
     ensures { OnOk result
         (out.new ≡ out.old ++ ties_from code.now strands.now (number, strand.now)) }
@@ -139,6 +157,7 @@ fn add_strand(
     }
     add_exit(
         strands,
+        starts,
         number,
         &code.blocks[block as usize].end,
         strand.var.0,
@@ -159,9 +178,11 @@ pub fn ties_of(alloc: Global, code: &VProc, strands: &Seq<Strand>) -> Result<Seq
     requires strands { All (IsStrandOf (map net_block code.now.blocks)) strands.now }
     ensures { IfOk result (λ made. made ≡ ties code.now strands.now) }
 {
+    let starts = starts_of(alloc, strands, code.blocks.len() as u32)?;
     let mut out = Seq::new(alloc);
     for number in 0..strands.len() as u32 {
-        add_strand(code, strands, number, &strands[number as usize], &mut out)?;
+        let strand = &strands[number as usize];
+        add_strand(code, strands, &starts, number, strand, &mut out)?;
     }
     Ok(out)
 }

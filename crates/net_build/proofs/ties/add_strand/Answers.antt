@@ -1,12 +1,20 @@
-use Rattle.std.proofs.Common.{◌++◌, List, ◌∙◌, length, sym, ap, append-nil}
+use Rattle.std.proofs.Common.{◌++◌, List, ◌∙◌, length, sym, ap, subst, append-nil, arith}
 use Rattle.std.specs.List.{filter_map, range_with_len}
 use Rattle.std.proofs.lemmas.List.{get_or_read}
 use Rattle.pra_base.specs.declared.code.Block.{Block}
-use Rattle.pra_base.specs.Code.{no_block}
+use Rattle.pra_base.specs.Code.{no_block, IsTarget}
 use Rattle.net_form.specs.declared.net.Tie.{Tie}
 use Rattle.net_build.specs.Order.{tie_to}
 use Rattle.net_build.proofs.GoesOn.{at_exit, elsewhere}
 use Rattle.net_build.proofs.ties.add_strand.Goals as goal
+
+pub add_exit-requires-clause-targets : goal.add_exit-requires-clause-targets
+add_exit-requires-clause-targets c = λ t is.
+    let code = c.args.code.now in
+    let b = c.args.strand.now.block.0 in
+    let block = get_or_read code.blocks b c.index.result.now c.requires.block c.index.ensures no_block in
+    let lt = c.requires.sized.targets_in_range b t c.requires.block (subst (λ (x : Block). IsTarget x.end t) block is) in
+    omega (arith, lt, c.requires.blocks)
 
 pub returns-then-strand-exit_layer : goal.returns-then-strand-exit_layer
 returns-then-strand-exit_layer c =

@@ -1,5 +1,7 @@
-use Rattle.std.proofs.Common.{ℕ, ◌<◌, ◌≤◌, subst, arith}
+use Rattle.std.proofs.Common.{ℕ, ◌<◌, ◌≤◌, inl, inr, refl, sym, subst, arith}
 use Rattle.std.specs.Prelude.{IfSome}
+use Rattle.pra_base.specs.declared.code.End.{End}
+use Rattle.pra_base.specs.Code.{IsTarget}
 use Rattle.net_build.proofs.GoesOn.{not_jump, not_branch, not_return}
 use Rattle.net_build.proofs.ties.next_from.Goals as goal
 
@@ -23,3 +25,15 @@ returns-in-Branch c = (
 
 pub returns-in-Return : goal.returns-in-Return
 returns-in-Return c = (tt, λ k from lt below. not_return c.args.strands.now c.args.var k lt c.args.end.now c.in-Return.is)
+
+pub entry_of-requires-clause-block : goal.entry_of-requires-clause-block
+entry_of-requires-clause-block c =
+    c.requires.targets c.in-Jump.target.0 (subst (λ (e : End). IsTarget e c.in-Jump.target.0) (sym c.in-Jump.is) refl)
+
+pub entry_of-requires-in-Branch-clause-block : goal.entry_of-requires-in-Branch-clause-block
+entry_of-requires-in-Branch-clause-block c =
+    c.requires.targets c.in-Branch.one.0 (subst (λ (e : End). IsTarget e c.in-Branch.one.0) (sym c.in-Branch.is) (inl refl))
+
+pub entry_of-requires-in-Branch-2-clause-block : goal.entry_of-requires-in-Branch-2-clause-block
+entry_of-requires-in-Branch-2-clause-block c =
+    c.requires.targets c.in-Branch.other.0 (subst (λ (e : End). IsTarget e c.in-Branch.other.0) (sym c.in-Branch.is) (inr refl))
