@@ -45,7 +45,7 @@ same_sums f g (x ∷ xs) (y ∷ ys) e same =
     ∙ ap (λ n. g y + n) (same_sums f g xs ys (omega (arith, e)) (λ k. same (suc k)))
     ∙ sym (sum_by-cons g y ys)
 
-sum_of_map : {X Y : Type 0} (f : Y → ℕ) (h : X → Y) (xs : List X) → sum_by f (map h xs) ≡ sum_by (λ x. f (h x)) xs
+pub sum_of_map : {X Y : Type 0} (f : Y → ℕ) (h : X → Y) (xs : List X) → sum_by f (map h xs) ≡ sum_by (λ x. f (h x)) xs
 sum_of_map f h [] = refl
 sum_of_map f h (x ∷ xs) = sum_by-cons f (h x) (map h xs) ∙ ap (λ n. f (h x) + n) (sum_of_map f h xs) ∙ sym (sum_by-cons (λ x. f (h x)) x xs)
 

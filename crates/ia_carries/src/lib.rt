@@ -4,8 +4,8 @@
 //! its bytes are (`specs/Carries` of ia_emit). Whoever has assembled valid placed code within the
 //! limits, at once or one procedure after the other, gets from `assembled_code_is_faithful` that
 //! the image is valid, that it follows the placed code, and that it carries each code and flow
-//! behind it. `code_has_room` and `code_behind_has_limits` give what the assembler asks for from the
-//! limits of a module, of placed code and of the code behind it.
+//! behind it. `code_has_room` and `code_behind_has_limits` give what the assembler asks for from
+//! the limits of a module, of placed code and of the code behind it.
 //!
 //! Read first `specs/Faithful`.
 #![tactic(auto)]
