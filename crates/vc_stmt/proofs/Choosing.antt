@@ -60,6 +60,9 @@ module _ (g : Setting) (old m2 m3 : VProc) (from to : ℕ) (behind holds fails :
   pub arm_from_open : IsOpen opened from
   arm_from_open = (omega (arith, o.0, opened_is), ap (λ z. z.end) from_kept ∙ o.1)
 
+  pub arm_holds_within : holds.0 < count opened
+  arm_holds_within = omega (arith, holds_is, opened_is)
+
   fails_opened : Waits opened fails.0
   fails_opened = subst (Waits opened) (sym fails_is) (waits_beside depth half (count old) (waits_first depth old))
 

@@ -1,6 +1,6 @@
 -- The code of a statement of each form does what the statement means.
 use Rattle.std.proofs.Common.{◌≡◌, ◌≢◌, ℕ, ◌+◌, ◌<◌, ◌≤◌, Bool, true, List, [], ◌∷◌, map, length, drop, get_or, refl, sym, ap, ◌∙◌, subst, arith}
-use Rattle.std.specs.Prelude.{◌&&◌}
+use Rattle.std.specs.Prelude.{◌&&◌, slice_get}
 use Rattle.std.proofs.lemmas.List.{drop_all}
 use Rattle.pra_base.specs.declared.ids.ProcId.{ProcId}
 use Rattle.pra_base.specs.Code.{block_of}
@@ -9,6 +9,7 @@ use Rattle.pra_base.specs.declared.code.End.TheVariants.{Jump}
 use Rattle.pra_base.specs.declared.code.VProc.{VProc}
 use Rattle.ob_syntax.specs.Expressions.{integer, boolean}
 use Rattle.ob_syntax.specs.WellFormed.{lent_by}
+use Rattle.ob_syntax.specs.declared.checked.RArg.{RArg}
 use Rattle.ob_syntax.specs.declared.checked.RArm.{RArm, out-RArm, fold_out-RArm}
 use Rattle.ob_syntax.specs.declared.checked.RExpr.{RExpr}
 use Rattle.ob_syntax.specs.declared.checked.RStmt.{RStmt, RStmt-F}
@@ -17,22 +18,22 @@ use Rattle.ob_syntax.specs.declared.checked.RVar.{RVar}
 use Rattle.ob_mean.specs.Expressions.{value}
 use Rattle.ob_mean.specs.Statements as mean
 use Rattle.ob_mean.specs.Statements.{Around, Execution, Arm, Run, then_do, in_turn, chosen, stmt_step, arm_step, arm_of, exec, exec_all}
-use Rattle.ob_mean.proofs.Equations.{in_turn-all, exec-Assign, exec-If, exec-While, exec-Repeat, exec-Read, exec-Write, exec-WriteLine}
+use Rattle.ob_mean.proofs.Equations.{in_turn-all, exec-Assign, exec-If, exec-While, exec-Repeat, exec-Call, exec-Read, exec-Write, exec-WriteLine}
 use Rattle.vc_build.specs.Grow.{count, IsOpen, with_open_block, with_end}
 use Rattle.vc_expr.specs.declared.branch.Targets.{Targets}
 use Rattle.vc_select.specs.declared.target.Setting.{Setting}
 use Rattle.vc_select.specs.Selects.{Tests}
 use Rattle.vc_select.proofs.Arms.{next_item}
-use Rattle.vc_typed.specs.TypedStatements.{is_assignable}
+use Rattle.vc_typed.specs.TypedStatements.{is_assignable, is_call}
 use Rattle.vc_typed.specs.Typing.{is_of, typing, variable_typing}
 use Rattle.vc_stmt.specs.Arms.{Guards, Chooses}
 use Rattle.vc_stmt.specs.Blocks.{Waits, with_arm}
 use Rattle.vc_stmt.specs.Does.{Does}
 use Rattle.vc_stmt.specs.Loops.{while_of, repeat_of}
-use Rattle.vc_stmt.specs.Sound.{is_sound, are_sound, is_sound_arm, are_sound_arms}
+use Rattle.vc_stmt.specs.Sound.{addressed, is_sound, are_sound, is_sound_arm, are_sound_arms}
 use Rattle.vc_stmt.proofs.Sequences.{does_as, does_nothing, does_then}
 use Rattle.vc_stmt.proofs.Choosing.{guards_as, guards_arm, chooses_as, chooses_none, chooses_more, joins_last, does_if}
-use Rattle.vc_stmt.proofs.Sounds.{both_true, sound_first, sound_first_arm, sound_arm, sound_assign, sound_read, sound_write, sound_while, sound_repeat, sound_if}
+use Rattle.vc_stmt.proofs.Sounds.{both_true, sound_first, sound_first_arm, sound_arm, sound_assign, sound_read, sound_write, sound_while, sound_repeat, sound_if, sound_call}
 
 module _ (g : Setting) (old new : VProc) (from to : ℕ) (t : RStmt) where
   pub statement_assign : (v : RVar) (e : RExpr) → t ≡ s.Assign v e → Does g old new from to (is_assignable (variable_typing g.program.now g.id.0 v) (typing g.program.now g.id.0 e)) (stmt_step g.program.now (RStmt-F.Assign v e)) →
@@ -68,6 +69,13 @@ module _ (g : Setting) (old new : VProc) (from to : ℕ) (t : RStmt) where
       does_as g old new from to (are_sound g.program.now g.id.0 body && is_of boolean (typing g.program.now g.id.0 test)) (is_sound g.program.now g.id.0 t) (repeat_of (exec_all g.program.now body) (value g.program.now test)) (exec g.program.now t)
       (λ sound. sound_repeat g.program.now g.id.0 t sound body test is) (λ a m. ap (λ z. exec g.program.now z a m) is ∙ exec-Repeat g.program.now body test a m) p
 
+module _ (g : Setting) (old new : VProc) (from to : ℕ) (t : RStmt) where
+  pub statement_call : (callee : ProcId) (args : List RArg) → t ≡ s.Call callee args → Does g old new from to (is_call g.program.now g.id.0 (slice_get g.program.now.procs callee.0) args && addressed g.program.now g.id.0 (lent_by args)) (stmt_step g.program.now (RStmt-F.Call callee args)) →
+      Does g old new from to (is_sound g.program.now g.id.0 t) (exec g.program.now t)
+  statement_call callee args is p =
+      does_as g old new from to (is_call g.program.now g.id.0 (slice_get g.program.now.procs callee.0) args && addressed g.program.now g.id.0 (lent_by args)) (is_sound g.program.now g.id.0 t) (stmt_step g.program.now (RStmt-F.Call callee args)) (exec g.program.now t)
+      (λ sound. sound_call g.program.now g.id.0 t sound callee args is) (λ a m. ap (λ z. exec g.program.now z a m) is ∙ exec-Call g.program.now callee args a m) p
+
 -- ---- sequences, item by item
 
 pub sequence_done : (g : Setting) (old : VProc) (at : ℕ) (all : List RStmt) (i : ℕ) → IsOpen old at → length all ≤ i → Does g old old at at (are_sound g.program.now g.id.0 (drop i all)) (exec_all g.program.now (drop i all))
@@ -83,6 +91,10 @@ sequence_more g old mid new from between to all i t lt is p q =
     (sound_first g.program.now g.id.0 t (drop (i + 1) all)) p q)
 
 -- ---- IF
+
+pub in_turn_body : (g : Setting) (old new : VProc) (from to : ℕ) (body : List RStmt) → Does g old new from to (are_sound g.program.now g.id.0 body) (exec_all g.program.now body) → Does g old new from to (are_sound g.program.now g.id.0 body) (in_turn (map (exec g.program.now) body))
+in_turn_body g old new from to body q =
+    does_as g old new from to (are_sound g.program.now g.id.0 body) (are_sound g.program.now g.id.0 body) (exec_all g.program.now body) (in_turn (map (exec g.program.now) body)) (λ sound. sound) (λ a m. ap (λ (f : Run). f m) (in_turn-all g.program.now body a)) q
 
 module _ (g : Setting) where
   abbrev sounds : List RArm → Bool

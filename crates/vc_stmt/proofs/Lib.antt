@@ -19,3 +19,4 @@ pub mod Addressing
 pub mod Pushing
 pub mod Calling
 pub mod Endings
+pub mod Walking

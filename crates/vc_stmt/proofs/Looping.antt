@@ -142,6 +142,12 @@ module _ (g : Setting) (old : VProc) (from : ℕ) (blocks : Loop) (typing : Typi
     pub test_entered : Waits entered_by blocks.test.0
     test_entered = waits_on from opened entered_by blocks.test.0 enters_grows test_off test_opened
 
+    pub loop_test_open : IsOpen entered_by blocks.test.0
+    loop_test_open = waits_open entered_by blocks.test.0 test_entered
+
+    pub loop_body_open : IsOpen entered_by blocks.body.0
+    loop_body_open = waits_open entered_by blocks.body.0 body_entered
+
   -- ---- WHILE
 
   abbrev while_targets : Targets

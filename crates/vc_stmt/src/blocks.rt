@@ -1,13 +1,14 @@
 // Blocks that are opened before the code that comes before them in the text.
 
-ghost use Rattle.std.specs.Prelude.{◌≡◌, ◌+◌, ◌<◌, length, IfOk, OnOk};
+ghost use Rattle.std.specs.Prelude.{◌≡◌, ◌≢◌, ◌+◌, ◌<◌, ◌≤◌, length, IfOk, OnOk};
 ghost use Rattle.pra_base.specs.Code.{block_of};
-ghost use Rattle.vc_build.specs.Grow.{count};
-ghost use Rattle.vc_stmt.specs.Blocks.{deeper as deeper_than, with_arm, with_loop};
+ghost use Rattle.pra_base.specs.declared.code.End.TheVariants.{Jump};
+ghost use Rattle.vc_build.specs.Grow.{count, with_end};
+ghost use Rattle.vc_stmt.specs.Blocks.{Waits, deeper as deeper_than, with_arm, with_loop};
 
-use pra_base::{BlockId, OutOfMemory, VProc};
+use pra_base::{BlockId, End, OutOfMemory, VProc};
 use std::alloc::Global;
-use vc_build::open_block;
+use vc_build::{close, open_block};
 use vc_expr::Targets;
 
 /// The block where the test of a loop begins, the one where its statements begin, and the one
@@ -26,8 +27,8 @@ pub fn deeper(depth: u32) -> u32
     if depth < 5 { depth + 1 } else { 5 }
 }
 
-/// Opens the blocks of a loop that stands in a block. Of the two ends of a WHILE's test the one that
-/// comes later in the text has the smaller number.
+/// Opens the blocks of a loop that stands in a block. Of the two ends of a WHILE's test the one
+/// that comes later in the text has the smaller number.
 ///
 /// # Errors
 ///
@@ -35,6 +36,7 @@ pub fn deeper(depth: u32) -> u32
 pub fn open_loop(alloc: Global, code: &mut VProc, at: BlockId) -> Result<Loop, OutOfMemory>
     requires { at.0 < count code.old }
     ensures made { OnOk result (code.new ≡ with_loop (block_of code.old at.0).depth code.old) }
+    ensures vars { OnOk result (length code.old.vars ≤ length code.new.vars) }
     ensures behind { IfOk result (λ l. l.behind.0 ≡ count code.old) }
     ensures body { IfOk result (λ l. l.body.0 ≡ count code.old + 1) }
     ensures test { IfOk result (λ l. l.test.0 ≡ count code.old + 2) }
@@ -56,6 +58,7 @@ pub fn open_loop(alloc: Global, code: &mut VProc, at: BlockId) -> Result<Loop, O
 pub fn open_arm(alloc: Global, code: &mut VProc, at: BlockId) -> Result<Targets, OutOfMemory>
     requires { at.0 < count code.old }
     ensures made { OnOk result (code.new ≡ with_arm (block_of code.old at.0).depth code.old) }
+    ensures vars { OnOk result (length code.old.vars ≤ length code.new.vars) }
     ensures fails { IfOk result (λ t. t.fails.0 ≡ count code.old) }
     ensures holds { IfOk result (λ t. t.holds.0 ≡ count code.old + 1) }
 {
@@ -64,3 +67,22 @@ pub fn open_arm(alloc: Global, code: &mut VProc, at: BlockId) -> Result<Targets,
     let holds = open_block(alloc, code, depth)?;
     Ok(Targets { holds, fails })
 }
+
+/// Ends a block with a jump.
+pub fn jump(alloc: Global, code: &mut VProc, at: BlockId, target: BlockId)
+    requires { at.0 < count code.old }
+    ensures made { code.new ≡ with_end at.0 (Jump target) code.old }
+    ensures vars { length code.old.vars ≤ length code.new.vars }
+{
+    close(alloc, code, at, End::Jump(target));
+}
+
+/// Says that another block waits, and is not the first one, so that what follows need not show it.
+pub fn confirm_waits(code: &VProc, at: BlockId, block: BlockId)
+    requires waits { Waits code.now block.0 }
+    requires apart { block.0 ≢ at.0 }
+    requires real { block.0 ≢ 0 }
+    ensures waits { Waits code.now block.0 }
+    ensures apart { block.0 ≢ at.0 }
+    ensures real { block.0 ≢ 0 }
+{}

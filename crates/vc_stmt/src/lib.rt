@@ -30,8 +30,8 @@
 //!
 //! ```text
 //! program, w, least, a : Around       CallsFollow program w least a
-//!   a.calls, a.call                   each call of a procedure, by a.call, in at least `least` steps
-//!                                     where it goes on
+//!   a.calls, a.call                   each call of a procedure, by a.call, for at least `least`
+//!                                     steps where it goes on
 //! Does g old new from to sound exec   for any w whose code of the procedure has grown from `new`
 //! ```
 //!
@@ -55,9 +55,12 @@
 #![tactic(auto)]
 
 pub mod blocks;
+pub mod call;
+pub mod select;
 pub mod store;
 pub mod write;
 
 pub use blocks::{Loop, open_arm, open_loop};
+pub use select::{select_statement, select_statements};
 pub use store::{select_assignment, select_read};
 pub use write::{select_line, select_write};

@@ -113,8 +113,8 @@ fn read_word(
     address: Addr,
 ) -> Result<VarId, OutOfMemory>
     requires { IsOpen code.old at.0 }
-    ensures made { IfOk result (λ t. code.new ≡
-        with_instr at.0 (Store address t) (with_instr at.0 (Read t) (with_variable Plain code.old))) }
+    ensures made { IfOk result (λ t. code.new ≡ with_instr at.0 (Store address t)
+        (with_instr at.0 (Read t) (with_variable Plain code.old))) }
     ensures number { IfOk result (λ t. t.0 ≡ length code.old.vars) }
 {
     let t = declare(code, VarKind::Plain)?;

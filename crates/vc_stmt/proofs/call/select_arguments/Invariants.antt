@@ -1,0 +1,14 @@
+use Rattle.std.proofs.Common.{◌≤◌, ◌++◌, ℕ, List, length, drop}
+use Rattle.pra_base.specs.declared.ids.VarId.{VarId}
+use Rattle.pra_base.specs.declared.code.VProc.{VProc}
+use Rattle.vc_build.specs.Grow.{IsOpen}
+use Rattle.vc_stmt.specs.Passes.{PassesAll}
+use Rattle.vc_stmt.proofs.call.select_arguments.Given as goal
+
+-- what is evaluated, with what is left, is the whole
+abbrev pub invariant-loop-arg : goal.invariant-loop-arg
+invariant-loop-arg l =
+    IsOpen l.ctx.code l.ctx.at.0 × (length l.fn.ctx.code.vars ≤ length l.ctx.code.vars)
+    × ((new : VProc) (to : ℕ) (vs : List VarId) →
+    PassesAll l.setting l.ctx.code new l.ctx.at.0 to vs (drop l.arg-index l.args) →
+    PassesAll l.setting l.fn.ctx.code new l.fn.ctx.at.0 to (l.values.items ++ vs) l.args)

@@ -1,0 +1,24 @@
+use Rattle.std.proofs.Common.{◌≢◌, ◌≤◌, ℕ, length, drop, map}
+use Rattle.pra_base.specs.declared.code.VProc.{VProc}
+use Rattle.ob_mean.specs.Statements.{exec_all, arm_of}
+use Rattle.vc_build.specs.Grow.{IsOpen}
+use Rattle.vc_stmt.specs.Arms.{Chooses}
+use Rattle.vc_stmt.specs.Blocks.{Waits}
+use Rattle.vc_stmt.specs.Does.{Does}
+use Rattle.vc_stmt.specs.Sound.{are_sound, are_sound_arms}
+use Rattle.vc_stmt.proofs.select.+statements.Given as goal
+
+-- what is done, with what is left, is the whole
+abbrev pub invariant-select_statements-loop-t : goal.invariant-select_statements-loop-t
+invariant-select_statements-loop-t l =
+    IsOpen l.ctx.code l.ctx.at.0 × (length l.fn.ctx.code.vars ≤ length l.ctx.code.vars)
+    × ((new : VProc) (to : ℕ) →
+    Does l.setting l.ctx.code new l.ctx.at.0 to (are_sound l.setting.program.now l.setting.id.0 (drop l.t-index l.body)) (exec_all l.setting.program.now (drop l.t-index l.body)) →
+    Does l.setting l.fn.ctx.code new l.fn.ctx.at.0 to (are_sound l.setting.program.now l.setting.id.0 l.body) (exec_all l.setting.program.now l.body))
+
+abbrev pub invariant-select_arms-loop-arm : goal.invariant-select_arms-loop-arm
+invariant-select_arms-loop-arm l =
+    IsOpen l.ctx.code l.ctx.at.0 × (length l.fn.ctx.code.vars ≤ length l.ctx.code.vars) × Waits l.ctx.code l.behind.0 × (l.behind.0 ≢ l.ctx.at.0)
+    × ((new : VProc) (to : ℕ) →
+    Chooses l.setting l.ctx.code new l.ctx.at.0 to l.behind.0 (are_sound_arms l.setting.program.now l.setting.id.0 (drop l.arm-index l.arms)) (map (arm_of l.setting.program.now) (drop l.arm-index l.arms)) →
+    Chooses l.setting l.fn.ctx.code new l.fn.ctx.at.0 to l.behind.0 (are_sound_arms l.setting.program.now l.setting.id.0 l.arms) (map (arm_of l.setting.program.now) l.arms))

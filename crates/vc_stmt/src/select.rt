@@ -1,0 +1,242 @@
+// The walk over statements.
+
+ghost use Rattle.std.specs.Prelude.{◌≡◌, ◌≢◌, ◌<◌, ◌≤◌, ◌&&◌, map, length, OnOk};
+ghost use Rattle.ob_mean.specs.Expressions.{value};
+ghost use Rattle.ob_mean.specs.Statements.{exec, exec_all, arm_of};
+ghost use Rattle.ob_syntax.specs.Expressions.{boolean};
+ghost use Rattle.vc_build.specs.Grow.{IsOpen};
+ghost use Rattle.vc_select.specs.Targets.{above_setting};
+ghost use Rattle.vc_typed.specs.Typing.{typing, is_of};
+ghost use Rattle.vc_stmt.specs.Arms.{Guards, Chooses};
+ghost use Rattle.vc_stmt.specs.Blocks.{Waits};
+ghost use Rattle.vc_stmt.specs.Does.{Does};
+ghost use Rattle.vc_stmt.specs.Loops.{while_of, repeat_of};
+ghost use Rattle.vc_stmt.specs.Sound.{is_sound, are_sound, is_sound_arm, are_sound_arms};
+
+use crate::blocks::{confirm_waits, jump, open_arm, open_loop};
+use crate::call::select_call;
+use crate::store::{select_assignment, select_read};
+use crate::write::{select_line, select_write};
+use ob_syntax::{RArm, RExpr, RStmt};
+use pra_base::{BlockId, OutOfMemory};
+use vc_expr::Targets;
+use vc_select::split::{confirm, confirm_targets, open_beside};
+use vc_select::{Ctx, Setting, select_test};
+
+/// Adds the code of a statement.
+///
+/// # Errors
+///
+/// Where there is no memory, or no number; the code is of no use then.
+#[cycle(statements)]
+pub fn select_statement(setting: &Setting<'_>, ctx: &mut Ctx, t: &RStmt) -> Result<(), OutOfMemory>
+    requires is_open { IsOpen ctx.old.code ctx.old.at.0 }
+    requires homes { above_setting setting.now ≤ length ctx.old.code.vars }
+    ensures is_open { OnOk result (IsOpen ctx.new.code ctx.new.at.0) }
+    ensures vars { OnOk result (length ctx.old.code.vars ≤ length ctx.new.code.vars) }
+    ensures does { OnOk result
+        (Does setting.now ctx.old.code ctx.new.code ctx.old.at.0 ctx.new.at.0
+        (is_sound setting.now.program.now setting.now.id.0 t.now)
+        (exec setting.now.program.now t.now)) }
+{
+    match t {
+        RStmt::Assign(v, e) => {
+            select_assignment(setting, ctx, v, e)?;
+            Ok(())
+        }
+        RStmt::If(arms, other) => {
+            let behind = open_beside(setting.alloc, &mut ctx.code, ctx.at)?;
+            confirm_waits(&ctx.code, ctx.at, behind);
+            select_arms(setting, ctx, arms.as_slice(), behind)?;
+            select_statements(setting, ctx, other.as_slice())?;
+            jump(setting.alloc, &mut ctx.code, ctx.at, behind);
+            ctx.at = behind;
+            Ok(())
+        }
+        RStmt::While(test, body) => {
+            select_while(setting, ctx, body.as_slice(), test)?;
+            Ok(())
+        }
+        RStmt::Repeat(body, test) => {
+            select_repeat(setting, ctx, body.as_slice(), test)?;
+            Ok(())
+        }
+        RStmt::Call(callee, args) => {
+            select_call(setting, ctx, *callee, args.as_slice())?;
+            Ok(())
+        }
+        RStmt::Read(v) => {
+            select_read(setting, ctx, v)?;
+            Ok(())
+        }
+        RStmt::Write(e) => {
+            select_write(setting, ctx, e)?;
+            Ok(())
+        }
+        RStmt::WriteLine => {
+            select_line(setting, ctx)?;
+            Ok(())
+        }
+    }
+}
+
+/// Adds the code of statements one after the other.
+///
+/// # Errors
+///
+/// Where there is no memory, or no number; the code is of no use then.
+#[cycle(statements)]
+pub fn select_statements(
+    setting: &Setting<'_>,
+    ctx: &mut Ctx,
+    body: &[RStmt],
+) -> Result<(), OutOfMemory>
+    requires is_open { IsOpen ctx.old.code ctx.old.at.0 }
+    requires homes { above_setting setting.now ≤ length ctx.old.code.vars }
+    ensures is_open { OnOk result (IsOpen ctx.new.code ctx.new.at.0) }
+    ensures vars { OnOk result (length ctx.old.code.vars ≤ length ctx.new.code.vars) }
+    ensures does { OnOk result
+        (Does setting.now ctx.old.code ctx.new.code ctx.old.at.0 ctx.new.at.0
+        (are_sound setting.now.program.now setting.now.id.0 body.now)
+        (exec_all setting.now.program.now body.now)) }
+{
+    for t in body {
+        select_statement(setting, ctx, t)?;
+    }
+    Ok(())
+}
+
+/// A loop that tests before its statements.
+#[cycle(statements)]
+fn select_while(
+    setting: &Setting<'_>,
+    ctx: &mut Ctx,
+    body: &[RStmt],
+    test: &RExpr,
+) -> Result<(), OutOfMemory>
+    requires is_open { IsOpen ctx.old.code ctx.old.at.0 }
+    requires homes { above_setting setting.now ≤ length ctx.old.code.vars }
+    ensures is_open { OnOk result (IsOpen ctx.new.code ctx.new.at.0) }
+    ensures vars { OnOk result (length ctx.old.code.vars ≤ length ctx.new.code.vars) }
+    ensures does { OnOk result
+        (Does setting.now ctx.old.code ctx.new.code ctx.old.at.0 ctx.new.at.0
+        (is_of boolean (typing setting.now.program.now setting.now.id.0 test.now)
+        && are_sound setting.now.program.now setting.now.id.0 body.now)
+        (while_of (value setting.now.program.now test.now)
+        (exec_all setting.now.program.now body.now))) }
+{
+    let blocks = open_loop(setting.alloc, &mut ctx.code, ctx.at)?;
+    jump(setting.alloc, &mut ctx.code, ctx.at, blocks.test);
+    ctx.at = blocks.test;
+    let targets = Targets {
+        holds: blocks.body,
+        fails: blocks.behind,
+    };
+    confirm(&ctx.code, blocks.test);
+    confirm_targets(&ctx.code, targets);
+    select_test(setting, ctx, test, targets)?;
+    confirm(&ctx.code, blocks.body);
+    ctx.at = blocks.body;
+    select_statements(setting, ctx, body)?;
+    jump(setting.alloc, &mut ctx.code, ctx.at, blocks.test);
+    ctx.at = blocks.behind;
+    Ok(())
+}
+
+/// A loop that tests behind its statements.
+#[cycle(statements)]
+fn select_repeat(
+    setting: &Setting<'_>,
+    ctx: &mut Ctx,
+    body: &[RStmt],
+    test: &RExpr,
+) -> Result<(), OutOfMemory>
+    requires is_open { IsOpen ctx.old.code ctx.old.at.0 }
+    requires homes { above_setting setting.now ≤ length ctx.old.code.vars }
+    ensures is_open { OnOk result (IsOpen ctx.new.code ctx.new.at.0) }
+    ensures vars { OnOk result (length ctx.old.code.vars ≤ length ctx.new.code.vars) }
+    ensures does { OnOk result
+        (Does setting.now ctx.old.code ctx.new.code ctx.old.at.0 ctx.new.at.0
+        (are_sound setting.now.program.now setting.now.id.0 body.now
+        && is_of boolean (typing setting.now.program.now setting.now.id.0 test.now))
+        (repeat_of (exec_all setting.now.program.now body.now)
+        (value setting.now.program.now test.now))) }
+{
+    let blocks = open_loop(setting.alloc, &mut ctx.code, ctx.at)?;
+    jump(setting.alloc, &mut ctx.code, ctx.at, blocks.body);
+    ctx.at = blocks.body;
+    confirm(&ctx.code, blocks.body);
+    select_statements(setting, ctx, body)?;
+    jump(setting.alloc, &mut ctx.code, ctx.at, blocks.test);
+    ctx.at = blocks.test;
+    let targets = Targets {
+        holds: blocks.behind,
+        fails: blocks.body,
+    };
+    confirm(&ctx.code, blocks.test);
+    confirm_targets(&ctx.code, targets);
+    select_test(setting, ctx, test, targets)?;
+    ctx.at = blocks.behind;
+    Ok(())
+}
+
+/// The arms of an IF. The block where control goes that passes all of them is left open.
+#[cycle(statements)]
+fn select_arms(
+    setting: &Setting<'_>,
+    ctx: &mut Ctx,
+    arms: &[RArm],
+    behind: BlockId,
+) -> Result<(), OutOfMemory>
+    requires is_open { IsOpen ctx.old.code ctx.old.at.0 }
+    requires homes { above_setting setting.now ≤ length ctx.old.code.vars }
+    requires waits { Waits ctx.old.code behind.0 }
+    requires apart { behind.0 ≢ ctx.old.at.0 }
+    requires real { behind.0 ≢ 0 }
+    ensures is_open { OnOk result (IsOpen ctx.new.code ctx.new.at.0) }
+    ensures vars { OnOk result (length ctx.old.code.vars ≤ length ctx.new.code.vars) }
+    ensures waits { OnOk result (Waits ctx.new.code behind.0) }
+    ensures chooses { OnOk result
+        (Chooses setting.now ctx.old.code ctx.new.code ctx.old.at.0 ctx.new.at.0 behind.0
+        (are_sound_arms setting.now.program.now setting.now.id.0 arms.now)
+        (map (arm_of setting.now.program.now) arms.now)) }
+{
+    for arm in arms {
+        select_arm(setting, ctx, arm, behind)?;
+    }
+    Ok(())
+}
+
+/// An arm of an IF. The block where control goes that passes it is left open.
+#[cycle(statements)]
+fn select_arm(
+    setting: &Setting<'_>,
+    ctx: &mut Ctx,
+    arm: &RArm,
+    behind: BlockId,
+) -> Result<(), OutOfMemory>
+    requires is_open { IsOpen ctx.old.code ctx.old.at.0 }
+    requires homes { above_setting setting.now ≤ length ctx.old.code.vars }
+    requires waits { Waits ctx.old.code behind.0 }
+    requires apart { behind.0 ≢ ctx.old.at.0 }
+    requires real { behind.0 ≢ 0 }
+    ensures is_open { OnOk result (IsOpen ctx.new.code ctx.new.at.0) }
+    ensures vars { OnOk result (length ctx.old.code.vars ≤ length ctx.new.code.vars) }
+    ensures waits { OnOk result (Waits ctx.new.code behind.0) }
+    ensures apart { OnOk result (behind.0 ≢ ctx.new.at.0) }
+    ensures guards { OnOk result
+        (Guards setting.now ctx.old.code ctx.new.code ctx.old.at.0 ctx.new.at.0 behind.0
+        (is_sound_arm setting.now.program.now setting.now.id.0 arm.now)
+        (arm_of setting.now.program.now arm.now)) }
+{
+    let targets = open_arm(setting.alloc, &mut ctx.code, ctx.at)?;
+    confirm(&ctx.code, ctx.at);
+    confirm_targets(&ctx.code, targets);
+    select_test(setting, ctx, &arm.test, targets)?;
+    confirm(&ctx.code, targets.holds);
+    ctx.at = targets.holds;
+    select_statements(setting, ctx, arm.body.as_slice())?;
+    jump(setting.alloc, &mut ctx.code, ctx.at, behind);
+    ctx.at = targets.fails;
+    Ok(())
+}
