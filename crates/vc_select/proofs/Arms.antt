@@ -1,5 +1,5 @@
 -- The arms of the walk: each form of tree, from what its parts give.
-use Rattle.std.proofs.Common.{◌≡◌, ◌≢◌, ℕ, ◌+◌, ◌*◌, ◌<◌, ◌≤◌, Bool, true, false, List, [], ◌∷◌, length, map, drop, drop-cons, add-one, get_or, Option, Some, None, Result, Ok, Err, refl, sym, ap, ◌∙◌, subst}
+use Rattle.std.proofs.Common.{◌≡◌, ℕ, ◌+◌, ◌*◌, ◌<◌, ◌≤◌, Bool, true, List, ◌∷◌, length, map, drop, drop-cons, add-one, get_or, Ok, refl, sym, ap, ◌∙◌, subst}
 use Rattle.std.proofs.lemmas.List.{drop_all}
 use Rattle.std.specs.Prelude.{ℤ, pos, ◌&&◌, slice_index}
 use Rattle.std.specs.Int.{w32}
@@ -37,7 +37,7 @@ use Rattle.vc_select.specs.Indexes.{IndexedBy}
 use Rattle.vc_select.specs.Targets.{above_target, above_target_base, shifted, words_to_field, root_target}
 use Rattle.vc_typed.specs.Typing.{Typing, typed, is_of, Leading, ToField, ToElement, type_after, binary_typing, typing, leading, variable_typing}
 use Rattle.vc_select.specs.Selects.{Finds, Selects, Locates, Loads, Leads, LeadsFrom, LeadsBy, Tests, IsFor, Always, joined, exchanged}
-use Rattle.vc_select.proofs.Equations.{typing-Number, typing-Truth, typing-Var, typing-Negate, typing-Not, typing-Binary, leading-Field, leading-Index, variable_typing-is}
+use Rattle.vc_typed.proofs.Equations.{typing-Number, typing-Truth, typing-Var, typing-Negate, typing-Not, typing-Binary, leading-Field, leading-Index, variable_typing-is}
 use Rattle.vc_select.proofs.Forms.{selects_as, selects_constant, selects_variable, selects_one}
 use Rattle.vc_select.proofs.Sides.{of_type, truth_bit}
 use Rattle.vc_select.proofs.Strides.{leads_field, leads_constant, leads_no_index, leads_index}

@@ -6,7 +6,6 @@ pub mod Counting
 pub mod Strides
 pub mod Walks
 pub mod Loading
-pub mod Equations
 pub mod Forms
 pub mod Sides
 pub mod Conditions
@@ -14,3 +13,11 @@ pub mod Chosen
 pub mod Arms
 pub mod Safety
 pub mod Walking
+pub mod Nodes
+pub mod Ready
+pub mod ReadyTests
+pub mod ReadyChoice
+pub mod ReadyTargets
+pub mod Depths
+pub mod ReadyArms
+pub mod Started

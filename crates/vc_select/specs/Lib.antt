@@ -1,3 +1,6 @@
 pub mod Targets
 pub mod Indexes
 pub mod Selects
+pub mod Amounts
+pub mod Certified
+pub mod Sample

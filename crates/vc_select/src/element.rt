@@ -4,6 +4,9 @@ ghost use Rattle.std.specs.Prelude.{◌≡◌, ◌<◌, ◌≤◌, ◌*◌, pos,
 ghost use Rattle.std.specs.Prelude.{IfSome, IfOk, OnOk};
 ghost use Rattle.ob_syntax.specs.declared.checked.RExpr.TheVariants.{Number, Binary};
 ghost use Rattle.vc_build.specs.Grow.{IsOpen};
+ghost use Rattle.vc_expr.specs.Counts.{AddsAtMost};
+ghost use Rattle.vc_expr.specs.Rules.{StaysValid};
+ghost use Rattle.vc_select.specs.Certified.{ReadsTarget};
 ghost use Rattle.vc_select.specs.Indexes.{IndexedBy};
 ghost use Rattle.vc_select.specs.Selects.{Always};
 ghost use Rattle.vc_select.specs.Targets.{above_target, above_target_base};
@@ -90,6 +93,10 @@ pub fn indexed(
     ensures base { IfOk result (λ t. above_target_base t ≡ above_target_base target) }
     ensures indexed { IfOk result (λ t. IndexedBy first at.0 code.old code.new target
         index.variable.0 index.count index.words t) }
+    ensures counts { OnOk result (AddsAtMost 5 2 1 0 code.old code.new) }
+    ensures valid { OnOk result (StaysValid code.old code.new) }
+    ensures reads { IfOk result (λ t. above_target_base target ≤ first →
+        ReadsTarget first at.0 code.old code.new target index.variable.0 t) }
 {
     match target {
         Target::Var(v) => Ok(Target::Var(v)),

@@ -1,8 +1,12 @@
 // Elements by indexes that are computed.
 
-ghost use Rattle.std.specs.Prelude.{◌≡◌, ◌<◌, ◌≤◌, ◌^◌, pos, length, IfOk, OnOk};
+ghost use Rattle.std.specs.Prelude.{◌≡◌, ◌<◌, ◌≤◌, ◌^◌, ◌⊎◌, pos, length, IfOk, OnOk};
 ghost use Rattle.pra_base.specs.declared.code.VInstr.TheVariants.{Check};
 ghost use Rattle.vc_build.specs.Grow.{IsOpen, count, with_instr};
+ghost use Rattle.vc_expr.specs.Counts.{AddsAtMost};
+ghost use Rattle.vc_expr.specs.Readable.{ReadsOperands};
+ghost use Rattle.vc_expr.specs.Rules.{StaysValid};
+ghost use Rattle.vc_select.specs.Certified.{ReadsIndex};
 ghost use Rattle.vc_select.specs.Indexes.{Checks, Scales, Sums, Indexes};
 ghost use Rattle.vc_select.specs.Targets.{above_index};
 
@@ -43,7 +47,11 @@ fn check(
     count: u32,
 ) -> Result<(), OutOfMemory>
     requires { IsOpen code.old at.0 }
-    ensures { OnOk result (Checks at.0 code.old code.new index.0 count) }
+    ensures checks { OnOk result (Checks at.0 code.old code.new index.0 count) }
+    ensures counts { OnOk result (AddsAtMost 1 0 0 0 code.old code.new) }
+    ensures valid { OnOk result (index.0 < length code.old.vars → StaysValid code.old code.new) }
+    ensures reads { OnOk result
+        (ReadsOperands (length code.old.vars) at.0 code.old code.new index.0 index.0 index.0) }
 {
     let bound = signed(count)?;
     put_check(alloc, code, at, index, bound)?;
@@ -66,6 +74,11 @@ fn scale(
     ensures named { IfOk result (λ v. v.0 < length code.new.vars) }
     ensures scales { IfOk result (λ v.
         Scales first at.0 code.old code.new index.0 words v.0) }
+    ensures counts { OnOk result (AddsAtMost 2 1 1 0 code.old code.new) }
+    ensures valid { OnOk result (StaysValid code.old code.new) }
+    ensures reads { IfOk result (λ v.
+        ReadsOperands first at.0 code.old code.new index.0 index.0 v.0) }
+    ensures fresh { IfOk result (λ v. (v.0 ≡ index.0) ⊎ (first ≤ v.0)) }
 {
     if words == 1 {
         return Ok(index);
@@ -92,6 +105,10 @@ fn sum(
     ensures vars { OnOk result (length code.old.vars ≤ length code.new.vars) }
     ensures named { IfOk result (λ v. v.0 < length code.new.vars) }
     ensures sums { IfOk result (λ v. Sums first at.0 code.old code.new so_far index.0 v.0) }
+    ensures counts { OnOk result (AddsAtMost 2 1 0 0 code.old code.new) }
+    ensures valid { OnOk result (StaysValid code.old code.new) }
+    ensures reads { IfOk result (λ v.
+        ReadsIndex first at.0 code.old code.new so_far index.0 v.0) }
 {
     let Some(left) = so_far else {
         return Ok(index);
@@ -129,6 +146,10 @@ pub fn select_index(
     ensures named { IfOk result (λ v. v.0 < length code.new.vars) }
     ensures indexes { IfOk result (λ v.
         Indexes first at.0 code.old code.new so_far index.0 count words v.0) }
+    ensures counts { OnOk result (AddsAtMost 5 2 1 0 code.old code.new) }
+    ensures valid { OnOk result (StaysValid code.old code.new) }
+    ensures reads { IfOk result (λ v.
+        ReadsIndex first at.0 code.old code.new so_far index.0 v.0) }
 {
     check(alloc, code, at, index, count)?;
     let scaled = scale(alloc, code, at, before, index, words)?;

@@ -20,6 +20,25 @@
 //! code alone: for any tree the functions answer code in which the open block stays open and
 //! earlier blocks stay as they are.
 //!
+//! # Valid code
+//!
+//! Beside its meaning each function says what the code that it adds keeps of valid code, for any
+//! tree, over a certificate of what each block may read (vc_expr, `specs/Readable`):
+//!
+//! - `counts`, of `specs/Amounts`: how many instructions, local variables, constants and blocks are
+//!   added at most, by the nodes of the tree; a parameter is never added.
+//! - `ready`, of `specs/Certified`: code that was ready for more at the end of the block `at`
+//!   (`IsReady`: it keeps the rules, is certified, and may read its homes there) is ready at the
+//!   end of the new block `at`, with a certificate that is the same for blocks that were there
+//!   (`StaysReady`). The answer may be read there, and all that might be read before of variables
+//!   that were there. A condition closes its block (`EndsReady`): from targets that await no more
+//!   than might be read at its end it is certified, and other blocks that were ready still are.
+//! - `depth`: new blocks have the depth of the block `at` (`KeepsDepth`).
+//!
+//! A caller names for a block that it opens what may be read at the end of the block that leads
+//! there; the law `blocks_wait` has it that blocks wait ready while code goes on elsewhere. The law
+//! `a_body_starts` is an example of a run that starts.
+//!
 //! # Targets
 //!
 //! A variable of the source is in a variable of the code, or at an address (`Target`). A target
@@ -41,9 +60,10 @@
 //! control: the left side leads to the block of the right side where it does not decide, and `~`
 //! exchanges the targets.
 //!
-//! Read `specs/` in this order: `Targets`, `Indexes`, and `Selects` (what code for a tree does). The
-//! files of `proofs/` have a lemma for each form; `Arms` and `Walking` join them to the functions of
-//! `select`.
+//! Read `specs/` in this order: `Targets`, `Indexes`, `Selects` (what code for a tree does),
+//! `Amounts` and `Certified` (what it keeps); `Sample` is the example. The files of `proofs/` have a
+//! lemma for each form; `Arms` and `Walking` join them to the functions of `select`, and `ReadyArms`
+//! joins those of what is kept.
 #![tactic(auto)]
 
 pub mod constant;

@@ -4,6 +4,8 @@ ghost use Rattle.std.specs.Prelude.{◌≡◌, ◌<◌, ◌≤◌, length, IfOk,
 ghost use Rattle.pra_base.specs.declared.code.VarKind.TheVariants.{Plain};
 ghost use Rattle.pra_base.specs.declared.code.VInstr.TheVariants.{Load};
 ghost use Rattle.vc_build.specs.Grow.{IsOpen, with_instr, with_variable};
+ghost use Rattle.vc_expr.specs.Counts.{AddsAtMost};
+ghost use Rattle.vc_select.specs.Certified.{ReadsWord};
 ghost use Rattle.vc_select.specs.Selects.{Loads};
 ghost use Rattle.vc_select.specs.Targets.{above_target};
 
@@ -46,6 +48,8 @@ pub fn load(
     ensures vars { OnOk result (length code.old.vars ≤ length code.new.vars) }
     ensures named { IfOk result (λ v. v.0 < length code.new.vars) }
     ensures loads { IfOk result (λ v. Loads setting.now at.0 code.old code.new target v.0) }
+    ensures counts { OnOk result (AddsAtMost 1 1 0 0 code.old code.new) }
+    ensures reads { IfOk result (λ v. ReadsWord at.0 code.old code.new target v.0) }
 {
     match target {
         Target::Var(v) => Ok(v),

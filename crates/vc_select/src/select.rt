@@ -1,6 +1,6 @@
 // The walk over resolved trees: expressions, variables with their selectors, and conditions.
 
-ghost use Rattle.std.specs.Prelude.{◌≡◌, ◌<◌, ◌≤◌, List, length, true, IfOk, OnOk};
+ghost use Rattle.std.specs.Prelude.{◌≡◌, ◌<◌, ◌≤◌, ◌+◌, ℕ, suc, List, length, true, IfOk, OnOk};
 ghost use Rattle.ob_mean.specs.Expressions.{value, selector, location};
 ghost use Rattle.ob_mean.specs.Store.{Store};
 ghost use Rattle.ob_mean.specs.declared.store.LiveCall.{LiveCall};
@@ -8,9 +8,15 @@ ghost use Rattle.ob_syntax.specs.declared.checked.RExpr.TheVariants.{Binary};
 ghost use Rattle.vc_build.specs.Grow.{IsOpen, count};
 ghost use Rattle.vc_expr.specs.Operators.{is_bitwise as is_bitwise_operator};
 ghost use Rattle.vc_expr.specs.Operators.{is_relation as is_relation_operator};
+ghost use Rattle.vc_relation.specs.declared.home.Home.TheVariants as home;
+ghost use Rattle.vc_select.specs.Certified.{StaysReady, StaysReadyFrom, EndsReady, KeepsDepth};
+ghost use Rattle.vc_select.specs.Certified.{IsAnswer, InTarget, CellOf, IsHome};
+ghost use Rattle.vc_select.specs.Amounts.{AddsForPath, AddsForVariable, AddsForValue};
+ghost use Rattle.vc_select.specs.Amounts.{AddsForTest};
 ghost use Rattle.vc_select.specs.Selects.{Selects, Locates, LeadsFrom, LeadsBy, Tests, IsFor};
 ghost use Rattle.vc_select.specs.Selects.{sided, joined};
 ghost use Rattle.vc_select.specs.Targets.{above_setting, above_target, above_target_base};
+ghost use Rattle.vc_typed.specs.Nodes.{nodes_in, nodes_in_step, nodes_in_var};
 ghost use Rattle.vc_typed.specs.Typing.{typing, binary_typing, leading, variable_typing};
 ghost use Rattle.vc_typed.specs.Typing.{type_after};
 
@@ -50,6 +56,12 @@ pub fn select_expr(setting: &Setting<'_>, ctx: &mut Ctx, e: &RExpr) -> Result<Va
         Selects setting.now ctx.old.code ctx.new.code ctx.old.at.0 ctx.new.at.0 v.0
         (typing setting.now.program.now setting.now.id.0 e.now)
         (value setting.now.program.now e.now)) }
+    ensures counts { OnOk result (AddsForValue (nodes_in e.now)
+        ctx.old.code ctx.new.code) }
+    ensures ready { IfOk result (λ v. StaysReady setting.now (length ctx.old.code.vars)
+        ctx.old.code ctx.new.code ctx.old.at.0 ctx.new.at.0 (IsAnswer v.0)) }
+    ensures depth { OnOk result (KeepsDepth ctx.old.at.0 ctx.new.at.0
+        ctx.old.code ctx.new.code) }
 {
     match e {
         RExpr::Number(n) => {
@@ -109,6 +121,12 @@ fn select_binary(
         (binary_typing op (typing setting.now.program.now setting.now.id.0 x.now)
         (typing setting.now.program.now setting.now.id.0 y.now))
         (joined op (value setting.now.program.now x.now) (value setting.now.program.now y.now))) }
+    ensures counts { OnOk result (AddsForValue (suc (nodes_in x.now + nodes_in y.now))
+        ctx.old.code ctx.new.code) }
+    ensures ready { IfOk result (λ v. StaysReady setting.now (length ctx.old.code.vars)
+        ctx.old.code ctx.new.code ctx.old.at.0 ctx.new.at.0 (IsAnswer v.0)) }
+    ensures depth { OnOk result (KeepsDepth ctx.old.at.0 ctx.new.at.0
+        ctx.old.code ctx.new.code) }
 {
     if is_sided(op, y) {
         let v = select_sides(setting, ctx, e, op, x, y)?;
@@ -139,6 +157,12 @@ fn select_sides(
         (binary_typing op (typing setting.now.program.now setting.now.id.0 x.now)
         (typing setting.now.program.now setting.now.id.0 y.now))
         (sided op (value setting.now.program.now x.now) (value setting.now.program.now y.now))) }
+    ensures counts { OnOk result (AddsForValue (suc (nodes_in x.now + nodes_in y.now))
+        ctx.old.code ctx.new.code) }
+    ensures ready { IfOk result (λ v. StaysReady setting.now (length ctx.old.code.vars)
+        ctx.old.code ctx.new.code ctx.old.at.0 ctx.new.at.0 (IsAnswer v.0)) }
+    ensures depth { OnOk result (KeepsDepth ctx.old.at.0 ctx.new.at.0
+        ctx.old.code ctx.new.code) }
 {
     let first = variable_count(&ctx.code)?;
     let left = select_expr(setting, ctx, x)?;
@@ -170,6 +194,12 @@ fn select_choice(
         (binary_typing op (typing setting.now.program.now setting.now.id.0 x.now)
         (typing setting.now.program.now setting.now.id.0 y.now))
         (joined op (value setting.now.program.now x.now) (value setting.now.program.now y.now))) }
+    ensures counts { OnOk result (AddsForValue (suc (nodes_in x.now + nodes_in y.now))
+        ctx.old.code ctx.new.code) }
+    ensures ready { IfOk result (λ v. StaysReady setting.now (length ctx.old.code.vars)
+        ctx.old.code ctx.new.code ctx.old.at.0 ctx.new.at.0 (IsAnswer v.0)) }
+    ensures depth { OnOk result (KeepsDepth ctx.old.at.0 ctx.new.at.0
+        ctx.old.code ctx.new.code) }
 {
     let choice = open_choice(setting.alloc, &mut ctx.code, ctx.at, op)?;
     let targets = test_of(op, choice);
@@ -199,6 +229,14 @@ pub fn select_var(setting: &Setting<'_>, ctx: &mut Ctx, v: &RVar) -> Result<Targ
         Locates setting.now ctx.old.code ctx.new.code ctx.old.at.0 ctx.new.at.0 t
         (variable_typing setting.now.program.now setting.now.id.0 v.now)
         (location setting.now.program.now v.now)) }
+    ensures counts { OnOk result (AddsForVariable (nodes_in_var v.now)
+        ctx.old.code ctx.new.code) }
+    ensures ready { IfOk result (λ t. StaysReady setting.now (length ctx.old.code.vars)
+        ctx.old.code ctx.new.code ctx.old.at.0 ctx.new.at.0 (InTarget t)) }
+    ensures cells { IfOk result (λ t. (k : ℕ) → CellOf t k →
+        IsHome setting.now (home.Cell k)) }
+    ensures depth { OnOk result (KeepsDepth ctx.old.at.0 ctx.new.at.0
+        ctx.old.code ctx.new.code) }
 {
     let first = variable_count(&ctx.code)?;
     let mut target = root_target(setting, v.root);
@@ -240,6 +278,12 @@ fn select_step(
         ctx.old.code ctx.new.code ctx.old.at.0 ctx.new.at.0 from.target r.target from.type_id
         (leading setting.now.program.now setting.now.id.0 step.now)
         (selector setting.now.program.now step.now)) }
+    ensures counts { OnOk result (AddsForPath (nodes_in_step step.now)
+        ctx.old.code ctx.new.code) }
+    ensures ready { IfOk result (λ r. StaysReadyFrom setting.now first
+        ctx.old.code ctx.new.code ctx.old.at.0 ctx.new.at.0 from.target r.target) }
+    ensures depth { OnOk result (KeepsDepth ctx.old.at.0 ctx.new.at.0
+        ctx.old.code ctx.new.code) }
 {
     let shapes = setting.program.types.as_slice();
     match step {
@@ -279,6 +323,12 @@ fn select_element(
         ctx.old.code ctx.new.code ctx.old.at.0 ctx.new.at.0 from.target t from.type_id
         (typing setting.now.program.now setting.now.id.0 x.now)
         (value setting.now.program.now x.now)) }
+    ensures counts { OnOk result (AddsForPath (suc (nodes_in x.now))
+        ctx.old.code ctx.new.code) }
+    ensures ready { IfOk result (λ t. StaysReadyFrom setting.now first
+        ctx.old.code ctx.new.code ctx.old.at.0 ctx.new.at.0 from.target t) }
+    ensures depth { OnOk result (KeepsDepth ctx.old.at.0 ctx.new.at.0
+        ctx.old.code ctx.new.code) }
 {
     let shapes = setting.program.types.as_slice();
     let count = array_length(shapes, from.type_id);
@@ -323,6 +373,12 @@ pub fn select_test(
         Tests setting.now ctx.old.code ctx.new.code ctx.old.at.0 targets
         (typing setting.now.program.now setting.now.id.0 e.now)
         (value setting.now.program.now e.now)) }
+    ensures counts { OnOk result (AddsForTest (nodes_in e.now)
+        ctx.old.code ctx.new.code) }
+    ensures ready { OnOk result
+        (EndsReady setting.now ctx.old.code ctx.new.code ctx.old.at.0 targets) }
+    ensures depth { OnOk result (KeepsDepth ctx.old.at.0 ctx.old.at.0
+        ctx.old.code ctx.new.code) }
 {
     match e {
         RExpr::Not(x) => {
@@ -368,6 +424,12 @@ fn select_binary_test(
         (binary_typing op (typing setting.now.program.now setting.now.id.0 x.now)
         (typing setting.now.program.now setting.now.id.0 y.now))
         (joined op (value setting.now.program.now x.now) (value setting.now.program.now y.now))) }
+    ensures counts { OnOk result (AddsForTest (suc (nodes_in x.now + nodes_in y.now))
+        ctx.old.code ctx.new.code) }
+    ensures ready { OnOk result
+        (EndsReady setting.now ctx.old.code ctx.new.code ctx.old.at.0 targets) }
+    ensures depth { OnOk result (KeepsDepth ctx.old.at.0 ctx.old.at.0
+        ctx.old.code ctx.new.code) }
 {
     if is_bitwise(op) {
         select_split_test(setting, ctx, e, op, x, y, targets)?;
@@ -405,6 +467,12 @@ fn select_relation_test(
         (binary_typing op (typing setting.now.program.now setting.now.id.0 x.now)
         (typing setting.now.program.now setting.now.id.0 y.now))
         (sided op (value setting.now.program.now x.now) (value setting.now.program.now y.now))) }
+    ensures counts { OnOk result (AddsForTest (suc (nodes_in x.now + nodes_in y.now))
+        ctx.old.code ctx.new.code) }
+    ensures ready { OnOk result
+        (EndsReady setting.now ctx.old.code ctx.new.code ctx.old.at.0 targets) }
+    ensures depth { OnOk result (KeepsDepth ctx.old.at.0 ctx.old.at.0
+        ctx.old.code ctx.new.code) }
 {
     let left = select_expr(setting, ctx, x)?;
     let right = select_expr(setting, ctx, y)?;
@@ -437,6 +505,12 @@ fn select_split_test(
         (binary_typing op (typing setting.now.program.now setting.now.id.0 x.now)
         (typing setting.now.program.now setting.now.id.0 y.now))
         (joined op (value setting.now.program.now x.now) (value setting.now.program.now y.now))) }
+    ensures counts { OnOk result (AddsForTest (suc (nodes_in x.now + nodes_in y.now))
+        ctx.old.code ctx.new.code) }
+    ensures ready { OnOk result
+        (EndsReady setting.now ctx.old.code ctx.new.code ctx.old.at.0 targets) }
+    ensures depth { OnOk result (KeepsDepth ctx.old.at.0 ctx.old.at.0
+        ctx.old.code ctx.new.code) }
 {
     let right = open_beside(setting.alloc, &mut ctx.code, ctx.at)?;
     let inner = inner_targets(op, right, targets);

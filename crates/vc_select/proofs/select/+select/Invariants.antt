@@ -6,6 +6,8 @@ use Rattle.vc_build.specs.Grow.{IsOpen}
 use Rattle.vc_select.specs.declared.target.Target.{Target}
 use Rattle.vc_select.specs.Selects.{Leads}
 use Rattle.vc_select.specs.Targets.{above_target, above_target_base, root_target}
+use Rattle.vc_select.specs.Certified.{StaysReadyFrom, KeepsDepth}
+use Rattle.vc_select.specs.Amounts.{AddsForPath, path_nodes}
 use Rattle.vc_typed.specs.Typing.{leading}
 use Rattle.vc_select.proofs.select.+select.Given as goal
 
@@ -17,3 +19,7 @@ invariant-select_var-loop-step l =
     Leads l.setting l.first l.ctx.code new l.ctx.at.0 to l.target end l.type_id (map (leading l.setting.program.now l.setting.id.0) (drop l.step-index l.step-items)) (map (selector l.setting.program.now) (drop l.step-index l.step-items)) →
     Leads l.setting l.first l.fn.ctx.code new l.fn.ctx.at.0 to (root_target l.setting.program.now l.setting.params.now l.setting.locals.now l.setting.id.0 l.v.root) end (root_type l.setting.program.now l.setting.id.0 l.v.root)
     (map (leading l.setting.program.now l.setting.id.0) l.v.steps) (map (selector l.setting.program.now) l.v.steps))
+    × (length l.fn.ctx.code.blocks ≤ length l.ctx.code.blocks)
+    × ((new : VProc) → AddsForPath (path_nodes (drop l.step-index l.step-items)) l.ctx.code new → AddsForPath (path_nodes l.v.steps) l.fn.ctx.code new)
+    × StaysReadyFrom l.setting l.first l.fn.ctx.code l.ctx.code l.fn.ctx.at.0 l.ctx.at.0 (root_target l.setting.program.now l.setting.params.now l.setting.locals.now l.setting.id.0 l.v.root) l.target
+    × KeepsDepth l.fn.ctx.at.0 l.ctx.at.0 l.fn.ctx.code l.ctx.code
