@@ -13,22 +13,23 @@ use pra_base::VProc;
 use std::alloc::{AllocError, Global};
 use vc_live::live;
 
-// The code with less of what it does for nothing, or nothing where it is tidy.
+// The code with less of what it does for nothing, or nothing where it is tidy. Variables that no
+// instruction has go first, since the liveness of all takes time by their number.
 fn step(alloc: Global, code: &VProc) -> Result<Option<VProc>, AllocError>
     requires valid { IsValid code.now }
     requires sized { IsSized code.now }
     ensures { IfOk result (λ new. IsStep code.now new) }
 {
+    if let Some(new) = pack(alloc, code)? {
+        return Ok(Some(new));
+    }
     let Ok(liveness) = live(alloc, code) else {
         return Err(AllocError);
     };
     if let Some(new) = thin(alloc, code, &liveness)? {
         return Ok(Some(new));
     }
-    if let Some(new) = join(alloc, code, &liveness)? {
-        return Ok(Some(new));
-    }
-    let new = pack(alloc, code)?;
+    let new = join(alloc, code, &liveness)?;
     Ok(new)
 }
 
