@@ -1,10 +1,13 @@
 -- When code is other code with its blocks in another order. Nothing here speaks of runs.
-use Rattle.std.specs.Prelude.{◌≡◌, ℕ, ◌<◌, length, slice_get, Some}
+use Rattle.std.specs.Prelude.{◌≡◌, ℕ, suc, ◌<◌, List, length, map, slice_get, slice_index_or, Some}
+use Rattle.std.specs.List.{range_with_len}
+use Rattle.std.specs.List.Sorted.{IsPermutation}
 use Rattle.pra_base.specs.declared.ids.BlockId.{BlockId}
 use Rattle.pra_base.specs.declared.code.End.{End}
 use Rattle.pra_base.specs.declared.code.End.TheVariants.{Jump, Branch, Return}
 use Rattle.pra_base.specs.declared.code.Block.{Block}
 use Rattle.pra_base.specs.declared.code.VProc.{VProc}
+use Rattle.pra_base.specs.Code.{block_of}
 use Rattle.pra_base.specs.Valid.{instruction_count}
 
 -- the new number of each block
@@ -38,3 +41,30 @@ pub record Reordered (to from : Places) (old new : VProc) : Type 0 where
   pub forth : (c : ℕ) → c < length old.blocks → to (from c) ≡ c
   pub within : (c : ℕ) → c < length old.blocks → from c < length old.blocks
   pub instructions : instruction_count new.blocks ≡ instruction_count old.blocks
+
+-- ---- an order as two lists
+
+-- the number of this place in a list; past its end a number stays what it is
+abbrev pub place_in : List ℕ → Places
+place_in places b = slice_index_or places b b
+
+-- Two lists are an order of so many blocks, which begins with the entry: the place of each block,
+-- and the block at each place.
+pub record IsOrder (count : ℕ) (to from : List ℕ) : Type 0 where
+  pub places : length to ≡ count
+  pub blocks : length from ≡ count
+  pub entry : place_in to 0 ≡ 0
+  pub there : (b : ℕ) → b < count → (place_in to b < count) × (place_in from (place_in to b) ≡ b)
+  pub back : (c : ℕ) → c < count → (place_in from c < count) × (place_in to (place_in from c) ≡ c)
+  pub all : IsPermutation (range_with_len 0 count) from
+
+-- the blocks in an order of them
+abbrev pub blocks_in : (to from : List ℕ) → VProc → List Block
+blocks_in to from code = map (λ b. block_with (place_in to) (block_of code b)) from
+
+-- The code has its blocks in another order, in which one of them is the last.
+pub record IsInOrder (code : VProc) (last : ℕ) (new : VProc) : Type 0 where
+  pub to : Places
+  pub from : Places
+  pub reordered : Reordered to from code new
+  pub last_is : suc (to last) ≡ length code.blocks
