@@ -7,3 +7,4 @@ pub mod Blocks
 pub mod Loops
 pub mod Arms
 pub mod Passes
+pub mod Procedures
