@@ -1,12 +1,9 @@
 //! Tests of the public calls on selected code and of moves: the operand table, near procedures,
 //! runs, moves.
 //!
-//! Each module of tests is of one crate, and nothing here is used by another crate. `code` makes
-//! selected code of text.
+//! Each module of tests is of one crate, and nothing here is used by another crate.
 #![tactic(auto)]
 
-#[cfg(test)]
-mod code;
 #[cfg(test)]
 mod moves_tests;
 #[cfg(test)]

@@ -1,5 +1,7 @@
 // `moves` on worked pairs, and on many others beside the simultaneous assignment.
 
+ghost use Rattle.std.specs.Prelude.{◌<◌};
+
 use pl_moves::{Move, Pair, can_move, moves};
 use pra_base::{Place, VarId};
 use std::alloc::Global;
@@ -271,6 +273,90 @@ fn permuted(alloc: Global, n: u32) -> Result<Vec<Pair>, Fail> {
 fn every_permutation_is_done_at_once(rt: HostRuntime) -> Result<(), Fail> {
     for n in 0..1440u32 {
         let pairs = permuted(rt.alloc(), n)?;
+        let list = done(&rt, rt.alloc(), &pairs)?;
+        let mut cells = numbered();
+        run(&mut cells, &list);
+        assert_eq!(rt;
+            cells.as_slice(),
+            assigned(&numbered(), &pairs).as_slice(),
+            "{pairs:?}"
+        );
+    }
+    Ok(())
+}
+
+/// Numbers that follow from the first one by a linear congruence, of which the upper half is taken.
+#[derive(Drop)]
+struct Random(u32);
+
+impl Random {
+    fn below(&mut self, bound: u32) -> u32
+        requires { 0 < bound }
+        ensures { result < bound }
+    {
+        self.0 = self.0.wrapping_mul(1_664_525).wrapping_add(1_013_904_223);
+        (self.0 >> 16) % bound
+    }
+}
+
+/// The six registers in some order, of which the first ones were given out.
+#[derive(Drop)]
+struct Shuffled {
+    order: [u8; 6],
+    given: usize,
+}
+
+impl Shuffled {
+    fn new(random: &mut Random) -> Shuffled {
+        let mut order = [0, 1, 2, 3, 4, 5];
+        for i in 0..6u32 {
+            let j = i + random.below(6 - i);
+            exchange(&mut order, i as usize, j as usize);
+        }
+        Shuffled { order, given: 0 }
+    }
+
+    // A register that was not given out, alone or with memory, or none.
+    fn place(&mut self, random: &mut Random, is_constant: bool) -> Place {
+        let way = random.below(4);
+        match self.order.get(self.given).copied() {
+            Some(register) if way < 2 => {
+                self.given = self.given.saturating_add(1);
+                picked(&REGISTERS, register)
+            }
+            Some(register) if way == 2 && !is_constant => {
+                self.given = self.given.saturating_add(1);
+                picked(&BOTH, register)
+            }
+            _ if is_constant => Place::Const,
+            _ => Place::Mem,
+        }
+    }
+}
+
+// Up to twelve pairs of any places that suit their variables.
+fn drawn(alloc: Global, random: &mut Random) -> Result<Vec<Pair>, Fail> {
+    let mut sources = Shuffled::new(random);
+    let mut targets = Shuffled::new(random);
+    let mut pairs = Vec::new(alloc);
+    for var in 0..1 + random.below(12) {
+        let is_constant = random.below(5) == 0;
+        let from = sources.place(random, is_constant);
+        let to = targets.place(random, is_constant);
+        if is_constant {
+            pairs.push(constant(var, -1 - random.below(100) as i32, from, to))?;
+        } else {
+            pairs.push(pair(var, from, to))?;
+        }
+    }
+    Ok(pairs)
+}
+
+#[test]
+fn any_pairs_are_done_at_once(rt: HostRuntime) -> Result<(), Fail> {
+    let mut random = Random(1);
+    for _ in 0..20_000u32 {
+        let pairs = drawn(rt.alloc(), &mut random)?;
         let list = done(&rt, rt.alloc(), &pairs)?;
         let mut cells = numbered();
         run(&mut cells, &list);

@@ -1,6 +1,6 @@
 // The operand table, a line an instruction, and procedures that are near.
 
-use crate::code::instruction;
+use pl_sketch::instruction;
 use pra_base::{Mask, OutOfMemory, VarKind};
 use std::alloc::Global;
 use std::process::Abort;

@@ -1,11 +1,11 @@
 // Runs of selected code, each compared with what its text says.
 
-use crate::code::Sketch;
-use pra_base::{OutEvent, OutOfMemory};
+use pl_sketch::{Given, Sketch, print_outcome};
+use pra_base::OutOfMemory;
 use std::alloc::Global;
 use std::mem;
 use std::process::Abort;
-use vc_code::{Ending, Outcome, run_selected};
+use vc_code::run_selected;
 
 // A row begins with its name behind `#` and has the code of its procedures, the body first: `proc`
 // with how many arguments and aggregate words it has and its variables, each `plain`, `param` with
@@ -302,88 +302,26 @@ jump 1
 = 1 stuck 0
 ";
 
-/// What a row gives beside its code.
-#[derive(Drop)]
-struct Given {
-    frames: Vec<u32>,
-    input: Vec<i32>,
-    steps: u32,
-    data: u32,
-}
-
-fn nothing_given(alloc: Global) -> Given {
-    Given {
-        frames: Vec::new(alloc),
-        input: Vec::new(alloc),
-        steps: 1000,
-        data: 0,
-    }
-}
-
-fn give(given: &mut Given, line: &str) -> Result<bool, OutOfMemory> {
-    let (name, text) = line.split_once(' ').unwrap_or((line, ""));
-    if name == "frames" {
-        for word in text.split(' ') {
-            given.frames.push(word.parse::<u32>().unwrap_or(0))?;
-        }
-        return Ok(true);
-    }
-    if name == "input" {
-        for word in text.split(' ') {
-            given.input.push(word.parse::<i32>().unwrap_or(0))?;
-        }
-        return Ok(true);
-    }
-    if name == "steps" {
-        given.steps = text.parse::<u32>().unwrap_or(0);
-        return Ok(true);
-    }
-    if name == "data" {
-        given.data = text.parse::<u32>().unwrap_or(0);
-        return Ok(true);
-    }
-    Ok(false)
-}
-
-fn printed(alloc: Global, outcome: &Outcome) -> Result<String, OutOfMemory> {
-    let mut text = String::new(alloc);
-    for event in outcome.events.as_slice() {
-        match event {
-            OutEvent::Number(n) => text.push_str(&format!(in alloc; " {n}")?)?,
-            OutEvent::Line => text.push_str("/")?,
-        }
-    }
-    match outcome.ending {
-        Some(Ending::Ended) => text.push_str(" ended")?,
-        Some(Ending::Trap(kind)) => text.push_str(&format!(in alloc; " trap {kind:?}")?)?,
-        Some(Ending::Stuck) => text.push_str(" stuck")?,
-        None => text.push_str(" going")?,
-    }
-    let taken = outcome.taken;
-    text.push_str(&format!(in alloc; " {taken}")?)?;
-    Ok(text)
-}
-
 fn answer(alloc: Global, sketch: Sketch, given: &Given) -> Result<String, OutOfMemory> {
     let code = sketch.module(given.data)?;
     let outcome = run_selected(alloc, &code, &given.frames, &given.input, given.steps)?;
-    printed(alloc, &outcome)
+    Ok(print_outcome(alloc, &outcome)?)
 }
 
 fn check_rows(rt: &impl Abort, alloc: Global, table: &str) -> Result<(), OutOfMemory> {
     let mut name = String::new(alloc);
     let mut sketch = Sketch::new(alloc);
-    let mut given = nothing_given(alloc);
+    let mut given = Given::new(alloc);
     for line in table.lines() {
         if let Some(text) = line.strip_prefix("# ") {
             name = String::from_str(alloc, text)?;
             sketch = Sketch::new(alloc);
-            given = nothing_given(alloc);
+            given = Given::new(alloc);
         } else if let Some(expected) = line.strip_prefix("=") {
             let done = mem::replace(&mut sketch, Sketch::new(alloc));
             let found = answer(alloc, done, &given)?;
             assert_eq!(rt; found.as_str(), expected, "{name}");
-        } else if !give(&mut given, line)? {
+        } else if !given.line(line)? {
             let is_code = sketch.line(line)?;
             assert!(rt; is_code, "{name}: {line}");
         }
