@@ -1,0 +1,4 @@
+pub mod Totals
+pub mod TreeTokens
+pub mod ReadVariables
+pub mod Short
