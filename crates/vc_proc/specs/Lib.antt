@@ -1,0 +1,3 @@
+pub mod Opening
+pub mod Finished
+pub mod Selected
