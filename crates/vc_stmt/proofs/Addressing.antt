@@ -1,10 +1,9 @@
 -- The address of what is lent, in a variable of the code.
-use Rattle.std.proofs.Common.{◌≡◌, ◌≢◌, ℕ, suc, ◌+◌, ◌*◌, ◌^◌, ◌%◌, ◌<◌, ◌≤◌, true, List, [], ◌∷◌, length, Option, Some, None, refl, sym, ap, ◌∙◌, subst, arith}
-use Rattle.std.specs.Prelude.{ℤ, pos, slice_index_or}
+use Rattle.std.proofs.Common.{◌≡◌, ℕ, ◌+◌, ◌*◌, ◌^◌, ◌%◌, ◌<◌, length, Some, None, refl, sym, ap, ◌∙◌, arith}
+use Rattle.std.specs.Prelude.{pos}
 use Rattle.std.proofs.Math.Nat.{mod-eq_of_lt}
 use Rattle.pra_list.specs.Options.{◌>>=◌}
 use Rattle.pra_list.proofs.Options.{some_same}
-use Rattle.pra_base.specs.Code as code
 use Rattle.pra_base.specs.Code.{kind_of}
 use Rattle.pra_base.specs.Words.{word}
 use Rattle.pra_base.specs.declared.ids.VarId.{VarId}
@@ -14,26 +13,20 @@ use Rattle.pra_base.specs.declared.code.VarKind.TheVariants.{Plain}
 use Rattle.pra_base.specs.declared.code.VInstr.{VInstr}
 use Rattle.pra_base.specs.declared.code.VInstr.TheVariants as instr
 use Rattle.pra_base.specs.declared.code.VProc.{VProc}
-use Rattle.ob_mean.specs.Store.{Store}
-use Rattle.ob_mean.specs.declared.store.LiveCall.{LiveCall}
-use Rattle.ob_mean.specs.declared.store.Location.{Location}
 use Rattle.vc_code.specs.declared.action.Action.TheVariants.{Give}
 use Rattle.vc_code.specs.declared.value.Object.{Object}
 use Rattle.vc_code.specs.declared.value.Value.TheVariants.{Num, At}
 use Rattle.vc_code.specs.Value.{Held}
-use Rattle.vc_code.specs.Machine.{Activation, State, here}
+use Rattle.vc_code.specs.Machine.{here}
 use Rattle.vc_code.specs.Operation as operation
 use Rattle.vc_code.specs.Operation.{indexed, base_count, address}
-use Rattle.vc_code.specs.Selected.{Vars, read, code_of, shape}
-use Rattle.vc_build.specs.Grow.{IsOpen, with_instr, with_variable, GrowsAt}
-use Rattle.vc_build.specs.Runs.{Codes, Stands, SameBelow, Reaches}
+use Rattle.vc_code.specs.Selected.{read, code_of, shape}
+use Rattle.vc_build.specs.Grow.{IsOpen, with_instr, with_variable}
 use Rattle.vc_build.proofs.Growth.{grows_at_again, grows_at_same, put_open, put_grows, declared_kind, declared_count, declared_grows}
 use Rattle.vc_build.proofs.Steps.{same_self, rests, gives}
-use Rattle.vc_relation.specs.Relation.{IsAddressOf}
 use Rattle.vc_select.specs.declared.target.Setting.{Setting}
 use Rattle.vc_select.specs.declared.target.Target.TheVariants.{Var, Memory}
-use Rattle.vc_select.specs.Selects.{Starts, translation}
-use Rattle.vc_select.specs.Targets.{held_for, IsWord}
+use Rattle.vc_select.specs.Targets.{held_for}
 use Rattle.vc_select.proofs.Placing.{word_bound}
 use Rattle.vc_stmt.specs.Passes.{Lends}
 

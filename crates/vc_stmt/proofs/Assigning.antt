@@ -1,22 +1,17 @@
 -- Assignment: the location of the target, then the value, then the store.
-use Rattle.std.proofs.Common.{◌≡◌, ℕ, ◌≤◌, true, length, ap, ◌∙◌, subst, arith}
+use Rattle.std.proofs.Common.{ℕ, ◌≤◌, length, ◌∙◌, arith}
 use Rattle.std.specs.Prelude.{◌&&◌}
-use Rattle.std.proofs.lemmas.Bool.{eqb-true}
-use Rattle.std.specs.Prelude.{nat_eq}
 use Rattle.pra_list.proofs.Choices.{and_true}
 use Rattle.pra_base.specs.declared.code.VProc.{VProc}
-use Rattle.ob_syntax.specs.Operators.{number}
 use Rattle.ob_syntax.specs.WellFormed.{is_scalar}
 use Rattle.ob_syntax.specs.declared.checked.RExpr.{RExpr}
 use Rattle.ob_syntax.specs.declared.checked.RStmt.{RStmt-F}
 use Rattle.ob_syntax.specs.declared.checked.RVar.{RVar}
 use Rattle.ob_mean.specs.Expressions.{value, location}
-use Rattle.ob_mean.specs.Statements as mean
 use Rattle.ob_mean.specs.Statements.{Normal, with, store_at, stmt_step}
-use Rattle.vc_code.specs.Machine.{State, with_top}
-use Rattle.vc_code.specs.Selected.{Vars, code_of}
+use Rattle.vc_code.specs.Machine.{with_top}
+use Rattle.vc_code.specs.Selected.{code_of}
 use Rattle.vc_build.proofs.Growth.{grows_on}
-use Rattle.vc_relation.specs.Relation.{is_of_type}
 use Rattle.vc_select.specs.declared.target.Setting.{Setting}
 use Rattle.vc_select.specs.declared.target.Target.{Target}
 use Rattle.vc_select.specs.Selects.{Selects, Results, Locates, Finds}
@@ -25,7 +20,6 @@ use Rattle.vc_select.proofs.Keeping.{extends_on, extends_at, named_on}
 use Rattle.vc_select.proofs.Sides.{of_type}
 use Rattle.vc_typed.specs.Typing.{Typing, typing, variable_typing, is_of}
 use Rattle.vc_typed.specs.TypedStatements.{is_assignable}
-use Rattle.vc_stmt.specs.Completes.{Completes}
 use Rattle.vc_stmt.specs.Does.{Matches, Does}
 use Rattle.vc_stmt.specs.Stores.{Stores}
 use Rattle.vc_stmt.proofs.Completing.{completes_value}

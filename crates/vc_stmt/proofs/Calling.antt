@@ -1,5 +1,5 @@
 -- A call: the arguments, the pushes, and what the call does.
-use Rattle.std.proofs.Common.{◌≡◌, ◌≢◌, ℕ, suc, ◌+◌, ◌<◌, ◌≤◌, Bool, true, false, List, [], ◌∷◌, map, length, Option, Some, None, refl, sym, ap, ◌∙◌, subst, arith, length-append}
+use Rattle.std.proofs.Common.{◌≡◌, ℕ, suc, ◌+◌, true, List, [], ◌∷◌, map, length, Option, Some, None, refl, sym, ap, ◌∙◌, arith, length-append}
 use Rattle.std.specs.Prelude.{◌&&◌, slice_get}
 use Rattle.pra_list.proofs.Choices.{and_true}
 use Rattle.pra_base.specs.Code as code
@@ -15,9 +15,9 @@ use Rattle.ob_mean.specs.Statements as mean
 use Rattle.ob_mean.specs.Statements.{Around, arguments, stmt_step}
 use Rattle.ob_mean.specs.declared.store.Argument.{Argument}
 use Rattle.vc_code.specs.Value.{Words}
-use Rattle.vc_code.specs.Machine.{Activation, State, enters, with_top}
-use Rattle.vc_code.specs.Selected.{Vars, selected, code_of, at_point}
-use Rattle.vc_build.specs.Grow.{IsOpen, with_instr, Grows}
+use Rattle.vc_code.specs.Machine.{Activation, State, with_top}
+use Rattle.vc_code.specs.Selected.{Vars, code_of, at_point}
+use Rattle.vc_build.specs.Grow.{IsOpen, Grows}
 use Rattle.vc_build.specs.Runs.{Codes, runs, Stands, SameBelow}
 use Rattle.vc_build.proofs.Growth.{grows_on, grows_at_again, put_code, put_open, put_grows}
 use Rattle.vc_build.proofs.Steps.{performs}

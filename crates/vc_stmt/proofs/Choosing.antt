@@ -2,7 +2,6 @@
 use Rattle.std.proofs.Common.{◌≡◌, ◌≢◌, ℕ, ◌+◌, ◌<◌, ◌≤◌, Bool, true, false, List, [], ◌∷◌, length, refl, sym, ap, ◌∙◌, subst, arith}
 use Rattle.std.specs.Prelude.{◌&&◌, if◌then◌else◌}
 use Rattle.pra_list.proofs.Choices.{and_true}
-use Rattle.pra_base.specs.Code as code
 use Rattle.pra_base.specs.Code.{block_of}
 use Rattle.pra_base.specs.declared.ids.BlockId.{BlockId}
 use Rattle.pra_base.specs.declared.code.End.TheVariants.{Jump}
@@ -14,7 +13,7 @@ use Rattle.ob_mean.specs.Statements.{Around, Execution, Completion, Normal, Trap
 use Rattle.vc_code.specs.Machine.{Activation, State, with_top}
 use Rattle.vc_code.specs.Selected.{Vars, code_of}
 use Rattle.vc_build.specs.Grow.{count, IsOpen, with_open_block, with_end, Grows, GrowsAt}
-use Rattle.vc_build.specs.Runs.{Codes, runs}
+use Rattle.vc_build.specs.Runs.{Codes}
 use Rattle.vc_build.proofs.Growth.{grows_on, grows_at_on, grows_at_again, grows_at_same, opened_grows, opened_kept, opened_count, closed_grows}
 use Rattle.vc_expr.specs.Branches.{Enters}
 use Rattle.vc_expr.specs.Branches as branches
@@ -29,7 +28,7 @@ use Rattle.vc_stmt.specs.Calls.{CallsFollow}
 use Rattle.vc_stmt.specs.Does.{Matches, Does}
 use Rattle.vc_stmt.specs.Blocks.{Waits, with_arm}
 use Rattle.vc_stmt.specs.Arms.{Joins, Guards, Chooses, guarded}
-use Rattle.vc_stmt.proofs.Completing.{completes_after, completes_as, completes_behind, completes_value, comes_here}
+use Rattle.vc_stmt.proofs.Completing.{completes_as, completes_behind, completes_value, comes_here}
 use Rattle.vc_stmt.proofs.Matching.{starts_with, matches_at}
 use Rattle.vc_stmt.proofs.Jumping.{matches_enters, completes_jumped}
 use Rattle.vc_stmt.proofs.Sounds.{both_true}

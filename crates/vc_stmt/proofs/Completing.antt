@@ -1,5 +1,5 @@
 -- Runs that complete, one after the other.
-use Rattle.std.proofs.Common.{◌≡◌, ℕ, ◌+◌, ◌≤◌, Option, Some, None, Result, Ok, Err, refl, sym, ap, ◌∙◌, subst, arith}
+use Rattle.std.proofs.Common.{◌≡◌, ℕ, ◌+◌, ◌≤◌, Some, None, Result, Ok, Err, refl, sym, ap, ◌∙◌, subst, arith}
 use Rattle.pra_base.specs.RunEnd.{RunEnd}
 use Rattle.pra_base.specs.RunEnd as run
 use Rattle.pra_base.specs.declared.event.TrapKind.{TrapKind}
@@ -7,7 +7,7 @@ use Rattle.ob_mean.specs.Statements as mean
 use Rattle.ob_mean.specs.Statements.{Completion, Normal, Trapped, Going, Run, then_do, with}
 use Rattle.vc_code.specs.Machine.{Activation, State, step, with_top, ended}
 use Rattle.vc_code.specs.Selected.{Vars, selected}
-use Rattle.vc_build.specs.Runs.{Codes, runs, Reaches, Traps, Yields}
+use Rattle.vc_build.specs.Runs.{Codes, runs, Reaches, Yields}
 use Rattle.vc_build.proofs.Steps.{run_more}
 use Rattle.vc_stmt.specs.Completes.{Shows, Comes, HasEnding, Completes}
 

@@ -1,42 +1,37 @@
 -- What is lent is in a word of an object, and in no variable of selected code.
-use Rattle.std.proofs.Common.{◌≡◌, ◌≢◌, ℕ, suc, ◌+◌, Bool, true, false, List, [], ◌∷◌, ◌++◌, map, length, Option, Some, None, Result, Ok, Err, refl, sym, ap, ◌∙◌, subst, ◌⊎◌, ⊎_elim, arith}
-use Rattle.std.specs.Prelude.{◌&&◌, ◌||◌, not, nat_eq, slice_get, unwrap_or, if◌then◌else◌}
-use Rattle.std.proofs.lemmas.Bool.{eq-eqb, eqb-true, or_cases}
+use Rattle.std.proofs.Common.{◌≡◌, ℕ, suc, ◌+◌, Bool, true, false, List, [], ◌∷◌, ◌++◌, map, length, Option, Some, None, Result, Ok, Err, refl, sym, ap, ◌∙◌, subst}
+use Rattle.std.specs.Prelude.{◌&&◌, ◌||◌, not, slice_get, unwrap_or, if◌then◌else◌}
+use Rattle.std.proofs.lemmas.Bool.{eq-eqb}
 use Rattle.pra_list.specs.Results.{◌>>=◌}
 use Rattle.pra_list.proofs.Choices.{and_true}
 use Rattle.pra_list.proofs.Options.{some_same, none_some}
 use Rattle.pra_base.specs.declared.event.TrapKind.{TrapKind}
-use Rattle.ob_syntax.specs.Expressions.{integer, boolean}
-use Rattle.ob_syntax.specs.Operators.{Outcome, number}
+use Rattle.ob_syntax.specs.Operators.{number}
 use Rattle.ob_syntax.specs.WellFormed.{is_scalar, lent_root}
 use Rattle.ob_syntax.specs.declared.checked.Checked.{Checked}
 use Rattle.ob_syntax.specs.declared.checked.CheckedProc.{CheckedProc}
-use Rattle.ob_syntax.specs.declared.checked.Local.{Local}
 use Rattle.ob_syntax.specs.declared.checked.Param.{Param}
 use Rattle.ob_syntax.specs.declared.checked.Root.{Root}
 use Rattle.ob_syntax.specs.declared.checked.Root.TheVariants as root
 use Rattle.ob_syntax.specs.declared.checked.RStep.{RStep}
 use Rattle.ob_syntax.specs.declared.checked.RVar.{RVar, out-RVar}
 use Rattle.ob_syntax.specs.declared.checked.Shape.{Shape}
-use Rattle.ob_syntax.specs.declared.checked.Shape.TheVariants.{Integer, Boolean}
-use Rattle.ob_mean.specs.Designators.{shape_of, element_type, field_type, array_length, picked, Selector, Field, Element, Located, selected, designated, root_location, root_type, lent_to, depth, running}
+use Rattle.ob_mean.specs.Designators.{shape_of, element_type, field_type, array_length, picked, Selector, Field, Element, Located, selected, root_location, root_type, lent_to, depth, running}
 use Rattle.ob_mean.specs.Expressions.{at_store, selector, location}
 use Rattle.ob_mean.specs.Store.{Store, part, whole}
 use Rattle.ob_mean.specs.declared.store.LiveCall.{LiveCall}
 use Rattle.ob_mean.specs.declared.store.Location.{Location}
-use Rattle.ob_mean.specs.declared.store.Object.{Object}
 use Rattle.ob_mean.specs.declared.store.Object.TheVariants as mean
 use Rattle.ob_mean.proofs.Equations.{designation-is}
 use Rattle.vc_code.specs.Machine.{State}
 use Rattle.vc_code.specs.Selected.{Vars}
 use Rattle.vc_build.specs.Runs.{Codes}
 use Rattle.vc_relation.specs.Homes.{param_variable}
-use Rattle.vc_relation.specs.Layout.{Part, TypesInOrder, part_in, part_along, words_before, further, is_aggregate}
-use Rattle.vc_relation.specs.Relation.{Represents, IsGiven, lent_in, content}
-use Rattle.vc_relation.specs.Spots.{Spot, InVariable, InWord, Placed, placed_at, placed, object_placed, beyond, part_placed, call_at, param_of}
+use Rattle.vc_relation.specs.Layout.{is_aggregate}
+use Rattle.vc_relation.specs.Relation.{Represents, IsGiven, content}
+use Rattle.vc_relation.specs.Spots.{Spot, InVariable, InWord, Placed, placed_at, placed, beyond, call_at, param_of}
 use Rattle.vc_relation.proofs.Apart.{Owner, OfParam, OfLocal, Standing, IsData, IsVariable, IsCell, IsAggregate, stands, Found, found}
 use Rattle.vc_relation.proofs.Lives.{placed_deeper}
-use Rattle.vc_relation.proofs.Variables.{same_depth}
 use Rattle.vc_select.specs.declared.target.Setting.{Setting}
 use Rattle.vc_select.specs.Selects.{IsSet, translation}
 use Rattle.vc_select.proofs.Roots.{running_is}

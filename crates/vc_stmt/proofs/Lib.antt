@@ -20,3 +20,14 @@ pub mod Pushing
 pub mod Calling
 pub mod Endings
 pub mod Walking
+pub mod Amounting
+pub mod Shallow
+pub mod Obeying
+pub mod Entering
+pub mod Proceeding
+pub mod ReadyLoops
+pub mod ReadyIf
+pub mod ReadyStores
+pub mod ReadyCalls
+pub mod Fixed
+pub mod Statements

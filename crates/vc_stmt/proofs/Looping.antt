@@ -1,15 +1,13 @@
 -- The blocks of a loop stand open, and its code does what the loop means: WHILE and REPEAT.
-use Rattle.std.proofs.Common.{◌≡◌, ◌≢◌, ℕ, zero, suc, ◌+◌, ◌-◌, ◌<◌, ◌≤◌, Bool, true, false, List, length, Some, None, refl, sym, ap, ◌∙◌, subst, arith}
+use Rattle.std.proofs.Common.{◌≡◌, ◌≢◌, ℕ, zero, suc, ◌+◌, ◌-◌, ◌<◌, ◌≤◌, Bool, true, false, List, length, sym, ap, ◌∙◌, subst, arith}
 use Rattle.std.specs.Prelude.{◌&&◌, if◌then◌else◌}
 use Rattle.pra_list.proofs.Choices.{and_true}
-use Rattle.pra_base.specs.Code as code
 use Rattle.pra_base.specs.Code.{block_of}
 use Rattle.pra_base.specs.declared.ids.BlockId.{BlockId}
 use Rattle.pra_base.specs.declared.code.End.TheVariants.{Jump}
 use Rattle.pra_base.specs.declared.code.VProc.{VProc}
 use Rattle.ob_syntax.specs.Expressions.{boolean}
 use Rattle.ob_syntax.specs.Operators.{is_true}
-use Rattle.ob_syntax.specs.declared.checked.Value.{Value}
 use Rattle.ob_mean.specs.Expressions.{Evaluation}
 use Rattle.ob_mean.specs.Statements as mean
 use Rattle.ob_mean.specs.declared.store.LiveCall.{LiveCall}
@@ -27,12 +25,12 @@ use Rattle.vc_select.specs.Selects.{Tests, Extends, home_variables}
 use Rattle.vc_select.proofs.Sides.{of_type}
 use Rattle.vc_typed.specs.Typing.{Typing, is_of}
 use Rattle.vc_stmt.specs.declared.blocks.Loop.{Loop}
-use Rattle.vc_stmt.specs.Completes.{Comes, HasEnding, Completes}
+use Rattle.vc_stmt.specs.Completes.{Completes}
 use Rattle.vc_stmt.specs.Calls.{CallsFollow}
 use Rattle.vc_stmt.specs.Does.{Matches, Does}
 use Rattle.vc_stmt.specs.Blocks.{Waits, deeper, with_loop}
 use Rattle.vc_stmt.specs.Loops.{while_of, repeat_of}
-use Rattle.vc_stmt.proofs.Completing.{completes_after, completes_fewer, completes_then, completes_value, comes_here}
+use Rattle.vc_stmt.proofs.Completing.{completes_fewer, completes_then, completes_value, comes_here}
 use Rattle.vc_stmt.proofs.Matching.{starts_with, matches_at}
 use Rattle.vc_stmt.proofs.Jumping.{matches_enters, completes_jumped}
 use Rattle.vc_stmt.proofs.Waiting.{waits_open, waits_empty, waits_on, waits_first, waits_beside}

@@ -8,7 +8,7 @@ use Rattle.ob_mean.specs.declared.store.LiveCall.{LiveCall}
 use Rattle.vc_code.specs.Machine.{Activation, State, with_top}
 use Rattle.vc_code.specs.Selected.{Vars, code_of}
 use Rattle.vc_build.specs.Grow.{Grows}
-use Rattle.vc_build.specs.Runs.{Codes, Stands, RunsIn, SameBelow}
+use Rattle.vc_build.specs.Runs.{Codes, Stands, SameBelow}
 use Rattle.vc_build.proofs.Growth.{grows_same}
 use Rattle.vc_relation.specs.Relation.{Represents, SameButVariables, homes_in, homes_of, held_at}
 use Rattle.vc_relation.proofs.Variables.{freed}

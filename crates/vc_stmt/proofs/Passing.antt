@@ -1,13 +1,12 @@
 -- The code of an argument gives a variable what is pushed for it.
-use Rattle.std.proofs.Common.{◌≡◌, ◌≢◌, ℕ, suc, ◌+◌, ◌*◌, ◌^◌, ◌%◌, ◌<◌, ◌≤◌, Bool, true, false, List, [], ◌∷◌, ◌++◌, map, length, Option, Some, None, Result, Ok, Err, refl, sym, ap, ◌∙◌, subst, arith, append-nil}
-use Rattle.std.specs.Prelude.{ℤ, pos, ◌&&◌, not, slice_get, slice_index_or}
+use Rattle.std.proofs.Common.{◌≡◌, ℕ, ◌<◌, true, List, [], ◌∷◌, ◌++◌, length, Result, Ok, Err, refl, sym, ap, ◌∙◌, subst, append-nil}
+use Rattle.std.specs.Prelude.{not}
 use Rattle.pra_list.specs.Results.{◌>>=◌}
 use Rattle.pra_list.proofs.Choices.{and_true, not_true}
 use Rattle.pra_base.specs.Code.{kind_of}
 use Rattle.pra_base.specs.declared.event.TrapKind.{TrapKind}
 use Rattle.pra_base.specs.declared.ids.VarId.{VarId}
 use Rattle.pra_base.specs.declared.code.VProc.{VProc}
-use Rattle.ob_syntax.specs.Operators.{number}
 use Rattle.ob_syntax.specs.WellFormed.{lent_root, lent_by}
 use Rattle.ob_syntax.specs.declared.checked.Param.{Param}
 use Rattle.ob_syntax.specs.declared.checked.RArg.{RArg}
@@ -20,20 +19,17 @@ use Rattle.ob_mean.specs.Store.{Store}
 use Rattle.ob_mean.specs.declared.store.Argument.{Argument}
 use Rattle.ob_mean.specs.declared.store.Argument.TheVariants.{Passed, Lent}
 use Rattle.ob_mean.specs.declared.store.LiveCall.{LiveCall}
-use Rattle.ob_mean.specs.declared.store.Location.{Location}
 use Rattle.vc_code.specs.Machine.{Activation, State, with_top}
 use Rattle.vc_code.specs.Selected.{Vars, read, code_of}
-use Rattle.vc_build.specs.Grow.{GrowsAt, IsOpen}
+use Rattle.vc_build.specs.Grow.{IsOpen}
 use Rattle.vc_build.specs.Runs.{Codes, Stands, SameBelow, Reaches, Yields}
 use Rattle.vc_build.proofs.Growth.{grows_same}
 use Rattle.vc_build.proofs.Steps.{same_on, same_self, yields_after, yields_on, rests}
 use Rattle.vc_expr.proofs.Operations.{read_on}
 use Rattle.vc_relation.specs.Relation.{IsAddressOf}
-use Rattle.vc_relation.specs.Spots.{InVariable, placed_at, placed}
 use Rattle.vc_select.specs.declared.target.Setting.{Setting}
 use Rattle.vc_select.specs.declared.target.Target.{Target}
-use Rattle.vc_select.specs.Selects.{Starts, Extends, Selects, Results, Locates, Finds, home_variables, translation}
-use Rattle.vc_select.specs.Targets.{IsNamed}
+use Rattle.vc_select.specs.Selects.{Starts, Selects, Results, Locates, Finds, translation}
 use Rattle.vc_select.proofs.Keeping.{starts_earlier, starts_on, extends_on, extends_at}
 use Rattle.vc_select.proofs.Sides.{of_type}
 use Rattle.vc_typed.specs.TypedStatements.{is_passed, are_passed}

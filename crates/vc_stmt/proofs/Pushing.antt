@@ -1,34 +1,28 @@
 -- The pushes of a call, and the Call.
-use Rattle.std.proofs.Common.{◌≡◌, ◌≢◌, ℕ, zero, suc, ◌+◌, ◌-◌, ◌<◌, ◌≤◌, true, false, List, [], ◌∷◌, ◌++◌, map, length, Option, Some, None, refl, sym, ap, ◌∙◌, subst, arith, length-append}
-use Rattle.std.specs.Prelude.{nat_lt, slice_get, slice_index_or, if◌then◌else◌}
+use Rattle.std.proofs.Common.{◌≡◌, ℕ, zero, suc, ◌+◌, ◌-◌, ◌<◌, List, [], ◌∷◌, map, length, Some, None, refl, sym, ap, ◌∙◌, subst, arith, length-append}
+use Rattle.std.specs.Prelude.{slice_get, if◌then◌else◌}
 use Rattle.std.proofs.lemmas.Bool.{lt-ltb}
 use Rattle.std.proofs.lemmas.List.{length-map}
 use Rattle.pra_base.specs.Code as code
 use Rattle.pra_base.specs.Code.{kind_of}
-use Rattle.pra_base.specs.declared.ids.ProcId.{ProcId}
 use Rattle.pra_base.specs.declared.ids.VarId.{VarId}
-use Rattle.pra_base.specs.declared.code.VInstr.TheVariants.{Push, Call}
+use Rattle.pra_base.specs.declared.code.VInstr.TheVariants.{Push}
 use Rattle.pra_base.specs.declared.code.VProc.{VProc}
 use Rattle.ob_syntax.specs.declared.checked.Checked.{Checked}
-use Rattle.ob_syntax.specs.declared.checked.CheckedProc.{CheckedProc}
 use Rattle.ob_syntax.specs.declared.checked.Param.{Param}
-use Rattle.ob_mean.specs.Statements as mean
-use Rattle.ob_mean.specs.Statements.{Around, Completion}
 use Rattle.ob_mean.specs.declared.store.Argument.{Argument}
 use Rattle.ob_mean.specs.declared.store.Argument.TheVariants.{Passed, Lent}
 use Rattle.ob_mean.specs.declared.store.LiveCall.{LiveCall}
-use Rattle.vc_code.specs.declared.action.Action.TheVariants as action
 use Rattle.vc_code.specs.declared.value.Value.{Value}
 use Rattle.vc_code.specs.Value.{Held, Words}
-use Rattle.vc_code.specs.Machine.{Activation, State, here, apply, found, joined, last_get, live_in, with_pushed}
+use Rattle.vc_code.specs.Machine.{Activation, State, here, apply, joined, last_get}
 use Rattle.vc_code.specs.Operation.{operate}
 use Rattle.vc_code.specs.Selected.{Vars, read, shape, selected, code_of, at_point, written}
 use Rattle.vc_build.specs.Grow.{IsOpen, with_instr, Grows, GrowsAt}
-use Rattle.vc_build.specs.Runs.{Codes, runs, Stands, RunsIn, acted}
+use Rattle.vc_build.specs.Runs.{Codes, runs}
 use Rattle.vc_build.proofs.Growth.{grows_on, grows_at_again, grows_at_same, put_code, put_open, put_grows}
-use Rattle.vc_build.proofs.Steps.{run_more, performs}
+use Rattle.vc_build.proofs.Steps.{performs}
 use Rattle.vc_expr.proofs.Starts.{reads_are}
-use Rattle.vc_relation.specs.Relation.{Translation}
 use Rattle.vc_select.specs.declared.target.Setting.{Setting}
 use Rattle.vc_select.specs.Selects.{translation}
 use Rattle.vc_call.specs.Begins.{IsPushed, ArePushed}

@@ -1,6 +1,6 @@
 -- Read: a word of the input is taken into a variable of the code, and from there into a word.
-use Rattle.std.proofs.Common.{◌≡◌, ℕ, suc, ◌+◌, ◌^◌, ◌<◌, ◌≤◌, true, List, [], ◌∷◌, ◌++◌, length, map, Some, None, refl, sym, ap, ◌∙◌, subst, arith, length-append}
-use Rattle.std.specs.Prelude.{ℤ, pos, negsuc, ◌&&◌, slice_set, slice_index_or, if◌then◌else◌}
+use Rattle.std.proofs.Common.{◌≡◌, ℕ, suc, ◌+◌, ◌^◌, ◌<◌, ◌≤◌, true, List, [], ◌∷◌, length, Some, None, refl, sym, ap, ◌∙◌, subst, arith, length-append}
+use Rattle.std.specs.Prelude.{ℤ, pos, negsuc, slice_set, slice_index_or, if◌then◌else◌}
 use Rattle.std.specs.Int.{w32}
 use Rattle.std.specs.Int.RustNames.{FitsSigned}
 use Rattle.std.proofs.lemmas.Bool.{lt-ltb, ltb-true}
@@ -15,7 +15,6 @@ use Rattle.pra_base.specs.declared.event.TrapKind.TheVariants.{Input as NoInput}
 use Rattle.pra_base.specs.declared.ids.VarId.{VarId}
 use Rattle.pra_base.specs.declared.code.Addr.{Addr}
 use Rattle.pra_base.specs.declared.code.VarKind.TheVariants.{Plain}
-use Rattle.pra_base.specs.declared.code.VInstr.{VInstr}
 use Rattle.pra_base.specs.declared.code.VInstr.TheVariants.{Read, Store}
 use Rattle.pra_base.specs.declared.code.VProc.{VProc}
 use Rattle.ob_syntax.specs.Expressions.{integer}
@@ -29,9 +28,9 @@ use Rattle.ob_mean.specs.Store.{assigned}
 use Rattle.ob_mean.specs.declared.store.LiveCall.{LiveCall}
 use Rattle.ob_mean.specs.declared.store.Location.{Location}
 use Rattle.vc_code.specs.declared.value.Value.TheVariants.{Num}
-use Rattle.vc_code.specs.Value.{Held, Words}
+use Rattle.vc_code.specs.Value.{Words}
 use Rattle.vc_code.specs.Machine.{Activation, State, with_top, ended, takes, found, with_rest}
-use Rattle.vc_code.specs.Selected.{Vars, read, valued, code_of, at_point, behind, put_all, written}
+use Rattle.vc_code.specs.Selected.{Vars, valued, code_of, at_point, behind, put_all, written}
 use Rattle.vc_build.specs.Grow.{IsOpen, with_instr, with_variable, Grows, GrowsAt}
 use Rattle.vc_build.specs.Runs.{Codes, runs, SameBelow}
 use Rattle.vc_build.proofs.Growth.{grows_on, grows_at_again, put_code, put_open, put_grows, declared_kind, declared_count, declared_grows}

@@ -7,7 +7,7 @@ use Rattle.pra_list.proofs.Options.{none_some}
 use Rattle.ob_syntax.specs.Expressions.{integer, boolean}
 use Rattle.ob_syntax.specs.WellFormed.{is_scalar}
 use Rattle.ob_syntax.specs.declared.checked.Shape.{Shape}
-use Rattle.ob_syntax.specs.declared.checked.Shape.TheVariants.{Integer, Boolean}
+use Rattle.ob_syntax.specs.declared.checked.Shape.TheVariants.{Integer}
 use Rattle.ob_syntax.specs.declared.checked.Checked.{Checked}
 use Rattle.ob_syntax.specs.declared.checked.CheckedProc.{CheckedProc}
 use Rattle.ob_syntax.specs.declared.checked.Param.{Param}

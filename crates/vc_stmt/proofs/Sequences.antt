@@ -1,5 +1,5 @@
 -- Statements one after the other.
-use Rattle.std.proofs.Common.{◌≡◌, ℕ, Bool, true, refl, sym, subst}
+use Rattle.std.proofs.Common.{◌≡◌, ℕ, Bool, true, sym, subst}
 use Rattle.pra_base.specs.declared.code.VProc.{VProc}
 use Rattle.ob_mean.specs.Statements as mean
 use Rattle.ob_mean.specs.Statements.{Around, Execution, Normal, then_do}

@@ -1,5 +1,5 @@
 -- What is asked of the parts of a statement, and what statements of each form mean by their parts.
-use Rattle.std.proofs.Common.{◌≡◌, ℕ, Bool, true, false, List, [], ◌∷◌, ◌++◌, map, refl, sym, ap, ◌∙◌, subst}
+use Rattle.std.proofs.Common.{◌≡◌, ℕ, Bool, true, false, List, ◌∷◌, ◌++◌, map, sym, ap, ◌∙◌}
 use Rattle.std.specs.Prelude.{◌&&◌, Option, Some, None, slice_get}
 use Rattle.pra_list.proofs.Choices.{and_true}
 use Rattle.pra_base.specs.declared.ids.ProcId.{ProcId}
@@ -14,7 +14,7 @@ use Rattle.ob_syntax.specs.declared.checked.RStmt.{RStmt}
 use Rattle.ob_syntax.specs.declared.checked.RStmt.TheVariants as s
 use Rattle.ob_syntax.specs.declared.checked.RVar.{RVar}
 use Rattle.ob_syntax.specs.declared.checked.Root.{Root}
-use Rattle.vc_typed.specs.TypedModules.{all_have_addresses, lent_in_all}
+use Rattle.vc_typed.specs.TypedModules.{lent_in_all}
 use Rattle.vc_typed.specs.TypedStatements.{all_true, is_assignable, is_call, is_typed, is_typed_arm, are_typed}
 use Rattle.vc_typed.specs.Typing.{is_of, typing, variable_typing}
 use Rattle.vc_typed.proofs.StatementEquations.{typed-Assign, typed-If, typed-While, typed-Repeat, typed-Call, typed-Read, typed-Write, typed_arm-is, lent-If, lent-While, lent-Repeat, lent-Call, lent_behind-is, both_addressed}

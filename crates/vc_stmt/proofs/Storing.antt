@@ -1,12 +1,11 @@
 -- A value is given to a variable of the source: to its variable in the code, or to its word.
-use Rattle.std.proofs.Common.{◌≡◌, ℕ, suc, ◌+◌, ◌*◌, ◌/◌, ◌%◌, ◌^◌, ◌<◌, ◌≤◌, Bool, true, false, List, [], ◌∷◌, ◌++◌, length, map, Option, Some, None, refl, sym, ap, ◌∙◌, subst, ◌⊎◌, inl, inr, ⊎_elim, arith, length-append}
+use Rattle.std.proofs.Common.{◌≡◌, ℕ, suc, ◌+◌, ◌*◌, ◌/◌, ◌%◌, ◌^◌, ◌<◌, Bool, true, false, List, [], ◌∷◌, ◌++◌, length, map, Option, Some, None, refl, sym, ap, ◌∙◌, subst, ◌⊎◌, ⊎_elim, arith, length-append}
 use Rattle.std.specs.Prelude.{ℤ, pos, negsuc, ◌||◌, nat_eq, slice_get, slice_set, slice_index_or, if◌then◌else◌}
 use Rattle.std.specs.Ordering.{int_eq}
 use Rattle.std.specs.Int.{w32}
 use Rattle.std.specs.Int.RustNames.{FitsSigned}
 use Rattle.std.proofs.Math.Nat.{mod-eq_of_lt}
 use Rattle.std.proofs.lemmas.Bool.{lt-ltb, eq-eqb, eqb-true}
-use Rattle.std.proofs.lemmas.Bool.Decides.{Decides-int_eq}
 use Rattle.std.proofs.lemmas.Int.{ints}
 use Rattle.std.proofs.lemmas.List.{get_or-set_same, get_or-set_other, length-set}
 use Rattle.pra_list.specs.Options.{◌>>=◌}
@@ -42,19 +41,19 @@ use Rattle.vc_code.specs.declared.action.Here.{Here}
 use Rattle.vc_code.specs.declared.value.Object.{Object}
 use Rattle.vc_code.specs.declared.value.Value.TheVariants.{Num}
 use Rattle.vc_code.specs.Value.{Held, Words}
-use Rattle.vc_code.specs.Machine.{Activation, State, here, with_top, live_in, object, joined, word_at, apply, found, goes_on, with_number, with_object}
+use Rattle.vc_code.specs.Machine.{Activation, State, here, with_top, object, word_at, apply, found, with_object}
 use Rattle.vc_code.specs.Operation as operation
 use Rattle.vc_code.specs.Operation.{based, indexed, base_count, index_count, number_at, operate}
 use Rattle.vc_code.specs.Stands.{address_vars}
-use Rattle.vc_code.specs.Selected.{Vars, read, valued, shape, selected, code_of, at_point, behind, put_all, written, held_by}
+use Rattle.vc_code.specs.Selected.{Vars, read, valued, shape, selected, code_of, at_point, behind, put_all, written}
 use Rattle.vc_build.specs.Grow.{IsOpen, with_instr, Grows}
-use Rattle.vc_build.specs.Runs.{Codes, runs, Stands, acted}
+use Rattle.vc_build.specs.Runs.{Codes, runs, acted}
 use Rattle.vc_build.proofs.Growth.{grows_on, grows_at_same, put_code, put_open, put_grows}
 use Rattle.vc_build.proofs.Steps.{performs}
 use Rattle.vc_expr.specs.Operators.{HasValue, IsBit, first_of}
 use Rattle.vc_expr.proofs.Starts.{reads_are}
-use Rattle.vc_relation.specs.Spots.{InVariable, InWord, placed_at, placed, call_at}
-use Rattle.vc_relation.specs.Relation.{Represents, is_of_type, held_at, homes_in, content, number_at as number_in}
+use Rattle.vc_relation.specs.Spots.{InWord, call_at}
+use Rattle.vc_relation.specs.Relation.{Represents, is_of_type, held_at, homes_in, number_at as number_in}
 use Rattle.vc_relation.proofs.Lives.{owner_within, home_there}
 use Rattle.vc_relation.proofs.Represented.{assigned_word}
 use Rattle.vc_relation.proofs.Variables.{assigned_variable}
@@ -68,7 +67,7 @@ use Rattle.vc_stmt.specs.Completes.{Shows, Comes}
 use Rattle.vc_stmt.specs.Does.{Matches}
 use Rattle.vc_stmt.specs.Stores.{Stores}
 use Rattle.vc_stmt.proofs.Matching.{starts_with, represents_but, matches_as}
-use Rattle.vc_stmt.proofs.Objects.{Beside, object_beside, live_homes, live_procs, word_there, head_same, tail_same}
+use Rattle.vc_stmt.proofs.Objects.{object_beside, live_homes, live_procs, word_there, head_same, tail_same}
 
 -- ---- a value of a type
 

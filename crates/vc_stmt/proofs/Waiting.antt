@@ -1,8 +1,8 @@
 -- Blocks that were opened and wait until something is put into them.
-use Rattle.std.proofs.Common.{◌≡◌, ◌≢◌, ℕ, ◌+◌, ◌<◌, ◌≤◌, length, refl, sym, ap, ◌∙◌, arith}
-use Rattle.pra_base.specs.Code.{block_of, code_of}
+use Rattle.std.proofs.Common.{◌≡◌, ◌≢◌, ℕ, length, ap, ◌∙◌, arith}
+use Rattle.pra_base.specs.Code.{code_of}
 use Rattle.pra_base.specs.declared.code.VProc.{VProc}
-use Rattle.vc_build.specs.Grow.{count, IsOpen, open_block, with_open_block, GrowsAt}
+use Rattle.vc_build.specs.Grow.{count, IsOpen, with_open_block, GrowsAt}
 use Rattle.vc_build.proofs.Growth.{opened_kept, opened_count, opened_block}
 use Rattle.vc_stmt.specs.Blocks.{Waits}
 

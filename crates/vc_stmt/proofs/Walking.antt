@@ -1,5 +1,5 @@
 -- What the functions of the walk leave, by what their calls leave.
-use Rattle.std.proofs.Common.{◌≡◌, ◌≢◌, ℕ, ◌+◌, ◌<◌, ◌≤◌, Bool, true, List, [], ◌∷◌, ◌++◌, map, length, drop, get_or, refl, sym, ap, ◌∙◌, subst, arith, append-nil, append_assoc}
+use Rattle.std.proofs.Common.{◌≡◌, ◌≢◌, ℕ, ◌+◌, ◌<◌, ◌≤◌, Bool, List, [], ◌∷◌, map, length, drop, get_or, sym, ap, ◌∙◌, subst, arith}
 use Rattle.std.specs.Prelude.{pos, None, ◌&&◌, slice_get}
 use Rattle.std.proofs.lemmas.List.{drop_all}
 use Rattle.pra_base.specs.Code.{block_of}
@@ -35,7 +35,7 @@ use Rattle.vc_stmt.specs.Arms.{Guards, Chooses}
 use Rattle.vc_stmt.specs.Blocks.{Waits, with_arm, with_loop}
 use Rattle.vc_stmt.specs.Does.{Does}
 use Rattle.vc_stmt.specs.Loops.{while_of, repeat_of}
-use Rattle.vc_stmt.specs.Passes.{Lends, Passes, PassesAll, with_pushes, with_call}
+use Rattle.vc_stmt.specs.Passes.{Lends, Passes, PassesAll, with_call}
 use Rattle.vc_stmt.specs.Sound.{addressed, is_sound, are_sound, is_sound_arm, are_sound_arms}
 use Rattle.vc_stmt.proofs.Addressing.{lends_variable, lends_itself, lends_address}
 use Rattle.vc_stmt.proofs.Calling.{does_call}
@@ -43,7 +43,7 @@ use Rattle.vc_stmt.proofs.Choosing.{arm_from_open, arm_holds_within, arm_holds_o
 use Rattle.vc_stmt.proofs.Forms.{in_turn_body, arm_guards, statement_if}
 use Rattle.vc_stmt.proofs.Looping.{loop_count, loop_test_open, loop_body_open, while_body_open, does_while, repeat_test_open, does_repeat}
 use Rattle.vc_stmt.proofs.Passing.{passes_none, passes_more}
-use Rattle.vc_stmt.proofs.Waiting.{waits_open, waits_first}
+use Rattle.vc_stmt.proofs.Waiting.{waits_first}
 
 -- a block is still there behind those of a loop
 pub loop_room : (old m1 : VProc) (from depth : ℕ) → from < count old → m1 ≡ with_loop depth old → from < count m1

@@ -1,8 +1,7 @@
 -- Instructions that only tell an event: Write and WriteLn.
-use Rattle.std.proofs.Common.{◌≡◌, ℕ, suc, ◌≤◌, true, List, [], ◌∷◌, ◌++◌, length, Some, None, Ok, refl, sym, ap, ◌∙◌, subst, arith, length-append}
+use Rattle.std.proofs.Common.{◌≡◌, ℕ, suc, true, List, [], ◌∷◌, ◌++◌, length, Some, refl, sym, ap, ◌∙◌, subst, arith, length-append}
 use Rattle.pra_base.specs.Code as code
 use Rattle.pra_base.specs.Operands.{written_by}
-use Rattle.pra_base.specs.Words.{signed, word}
 use Rattle.pra_base.specs.declared.event.OutEvent.{OutEvent}
 use Rattle.pra_base.specs.declared.event.OutEvent.TheVariants as event
 use Rattle.pra_base.specs.declared.ids.VarId.{VarId}
@@ -13,7 +12,7 @@ use Rattle.ob_syntax.specs.Expressions.{integer}
 use Rattle.ob_syntax.specs.Operators.{number}
 use Rattle.ob_syntax.specs.declared.checked.RExpr.{RExpr}
 use Rattle.ob_syntax.specs.declared.checked.RStmt.{RStmt-F}
-use Rattle.ob_mean.specs.Expressions.{Evaluation, value}
+use Rattle.ob_mean.specs.Expressions.{value}
 use Rattle.ob_mean.specs.Statements as mean
 use Rattle.ob_mean.specs.Statements.{Around, Execution, Normal, with, stmt_step}
 use Rattle.ob_mean.specs.declared.store.LiveCall.{LiveCall}
@@ -31,8 +30,7 @@ use Rattle.vc_select.specs.declared.target.Setting.{Setting}
 use Rattle.vc_select.specs.Selects.{Selects, Results}
 use Rattle.vc_select.proofs.Keeping.{extends_on, extends_at}
 use Rattle.vc_select.proofs.Sides.{of_type}
-use Rattle.vc_typed.specs.Typing.{Typing, typing, is_of}
-use Rattle.vc_typed.specs.TypedStatements.{is_typed_step}
+use Rattle.vc_typed.specs.Typing.{typing, is_of}
 use Rattle.vc_stmt.specs.Completes.{Completes}
 use Rattle.vc_stmt.specs.Does.{Matches, Does}
 use Rattle.vc_stmt.proofs.Completing.{completes_value}

@@ -1,5 +1,5 @@
 -- Blocks that are opened before the code that comes before them in the text.
-use Rattle.std.specs.Prelude.{◌≡◌, ℕ, ◌+◌, ◌<◌, List, [], min}
+use Rattle.std.specs.Prelude.{◌≡◌, ℕ, ◌+◌, ◌<◌, [], min}
 use Rattle.pra_base.specs.Code.{code_of, end_of}
 use Rattle.pra_base.specs.declared.code.VProc.{VProc}
 use Rattle.vc_build.specs.Grow.{count, stand_in, with_open_block}

@@ -4,7 +4,7 @@ use Rattle.pra_base.specs.declared.code.VProc.{VProc}
 use Rattle.ob_mean.specs.Statements as mean
 use Rattle.ob_mean.specs.Statements.{Around, Execution}
 use Rattle.ob_mean.specs.declared.store.LiveCall.{LiveCall}
-use Rattle.vc_code.specs.Machine.{Activation, State}
+use Rattle.vc_code.specs.Machine.{State}
 use Rattle.vc_code.specs.Selected.{Vars, code_of}
 use Rattle.vc_build.specs.Grow.{Grows}
 use Rattle.vc_build.specs.Runs.{Codes}

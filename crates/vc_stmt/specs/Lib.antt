@@ -7,4 +7,6 @@ pub mod Blocks
 pub mod Loops
 pub mod Arms
 pub mod Passes
+pub mod Amounts
+pub mod Ready
 pub mod Procedures

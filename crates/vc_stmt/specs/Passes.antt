@@ -1,17 +1,14 @@
 -- What the code of a call does before its Call: arguments are evaluated, and then pushed.
-use Rattle.std.specs.Prelude.{◌≡◌, ℕ, true, List, [], ◌∷◌, length, map, Result, Some, slice_get}
+use Rattle.std.specs.Prelude.{◌≡◌, ℕ, true, List, [], ◌∷◌, length, Some}
 use Rattle.pra_base.specs.Code.{kind_of}
-use Rattle.pra_base.specs.declared.event.TrapKind.{TrapKind}
 use Rattle.pra_base.specs.declared.ids.ProcId.{ProcId}
 use Rattle.pra_base.specs.declared.ids.VarId.{VarId}
 use Rattle.pra_base.specs.declared.code.VInstr.TheVariants.{Push, Call}
 use Rattle.pra_base.specs.declared.code.VProc.{VProc}
 use Rattle.ob_syntax.specs.WellFormed.{lent_by}
 use Rattle.ob_syntax.specs.declared.checked.Checked.{Checked}
-use Rattle.ob_syntax.specs.declared.checked.CheckedProc.{CheckedProc}
 use Rattle.ob_syntax.specs.declared.checked.Param.{Param}
 use Rattle.ob_syntax.specs.declared.checked.RArg.{RArg}
-use Rattle.ob_mean.specs.Statements as mean
 use Rattle.ob_mean.specs.Statements.{argument, arguments}
 use Rattle.ob_mean.specs.Store.{Store}
 use Rattle.ob_mean.specs.declared.store.Argument.{Argument}

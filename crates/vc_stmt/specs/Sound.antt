@@ -1,5 +1,5 @@
 -- What is asked of statements before code is selected for them.
-use Rattle.std.specs.Prelude.{ℕ, Bool, false, ◌&&◌, List, [], ◌∷◌, map, Option, Some, None}
+use Rattle.std.specs.Prelude.{ℕ, Bool, false, ◌&&◌, List, map, Option, Some, None}
 use Rattle.std.specs.Prelude.{slice_get}
 use Rattle.ob_syntax.specs.WellFormed.{joined, lent_in, lent_in_arm, lent_step}
 use Rattle.ob_syntax.specs.declared.checked.Checked.{Checked}

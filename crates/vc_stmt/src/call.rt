@@ -1,6 +1,6 @@
 // Calls: all arguments are evaluated, from left to right, and then pushed.
 
-ghost use Rattle.std.specs.Prelude.{◌≡◌, ◌<◌, ◌≤◌, ◌&&◌, pos, length, IfOk, OnOk, IfSome};
+ghost use Rattle.std.specs.Prelude.{◌≡◌, ◌<◌, ◌≤◌, ◌+◌, ◌&&◌, pos, length, IfOk, OnOk, IfSome};
 ghost use Rattle.std.specs.Prelude.{slice_get};
 ghost use Rattle.pra_base.specs.declared.code.Base.TheVariants.{Via};
 ghost use Rattle.pra_base.specs.declared.code.VarKind.TheVariants.{Plain};
@@ -9,10 +9,16 @@ ghost use Rattle.ob_syntax.specs.WellFormed.{lent_by};
 ghost use Rattle.ob_syntax.specs.declared.checked.RStmt.{RStmt-F};
 ghost use Rattle.ob_mean.specs.Statements.{stmt_step};
 ghost use Rattle.vc_build.specs.Grow.{IsOpen, with_instr, with_variable};
+ghost use Rattle.vc_expr.specs.Counts.{AddsAtMost};
+ghost use Rattle.vc_select.specs.Amounts.{AddsForValue};
+ghost use Rattle.vc_select.specs.Certified.{IsAnswer, ReadsWord, StaysReady};
 ghost use Rattle.vc_select.specs.Targets.{above_setting, above_target};
+ghost use Rattle.vc_typed.specs.Nodes.{arg_nodes};
 ghost use Rattle.vc_typed.specs.TypedStatements.{is_call};
+ghost use Rattle.vc_stmt.specs.Amounts.{AddsForArguments, AddsForStatements, argument_nodes};
 ghost use Rattle.vc_stmt.specs.Does.{Does};
 ghost use Rattle.vc_stmt.specs.Passes.{Lends, Passes, PassesAll, with_call};
+ghost use Rattle.vc_stmt.specs.Ready.{KeepsReady, KeepsShallow, PassesReady};
 ghost use Rattle.vc_stmt.specs.Sound.{addressed};
 
 use ob_syntax::{RArg, RVar};
@@ -70,6 +76,8 @@ fn lend(
     ensures vars { OnOk result (length code.old.vars ≤ length code.new.vars) }
     ensures named { IfOk result (λ t. t.0 < length code.new.vars) }
     ensures lends { IfOk result (λ t. Lends setting.now at.0 code.old code.new target t.0) }
+    ensures counts { OnOk result (AddsAtMost 1 1 0 0 code.old code.new) }
+    ensures reads { IfOk result (λ t. ReadsWord at.0 code.old code.new target t.0) }
 {
     match target {
         Target::Var(u) => Ok(u),
@@ -102,6 +110,10 @@ pub fn select_argument(
     ensures named { IfOk result (λ v. v.0 < length ctx.new.code.vars) }
     ensures passes { IfOk result (λ v.
         Passes setting.now ctx.old.code ctx.new.code ctx.old.at.0 ctx.new.at.0 v.0 arg.now) }
+    ensures counts { OnOk result (AddsForValue (arg_nodes arg.now) ctx.old.code ctx.new.code) }
+    ensures ready { IfOk result (λ v. StaysReady setting.now (length ctx.old.code.vars)
+        ctx.old.code ctx.new.code ctx.old.at.0 ctx.new.at.0 (IsAnswer v.0)) }
+    ensures depths { OnOk result (KeepsShallow ctx.old.code ctx.new.code) }
 {
     match arg {
         RArg::Value(e) => {
@@ -134,6 +146,11 @@ pub fn select_arguments(
     ensures passes { IfOk result (λ vs.
         PassesAll setting.now ctx.old.code ctx.new.code ctx.old.at.0 ctx.new.at.0 vs.items
         args.now) }
+    ensures many { IfOk result (λ vs. length vs.items ≡ length args.now) }
+    ensures counts { OnOk result (AddsForArguments args.now ctx.old.code ctx.new.code) }
+    ensures ready { IfOk result (λ vs.
+        PassesReady setting.now ctx.old.code ctx.new.code ctx.old.at.0 ctx.new.at.0 vs.items) }
+    ensures depths { OnOk result (KeepsShallow ctx.old.code ctx.new.code) }
 {
     let mut values = Vec::new(setting.alloc);
     for arg in args {
@@ -186,6 +203,14 @@ pub fn select_call(
         (slice_get setting.now.program.now.procs callee.0) args.now
         && addressed setting.now.program.now setting.now.id.0 (lent_by args.now))
         (stmt_step setting.now.program.now (RStmt-F.Call callee args.now))) }
+    ensures counts { OnOk result (AddsForStatements (1 + argument_nodes args.now)
+        ctx.old.code ctx.new.code) }
+    ensures ready { OnOk result
+        (KeepsReady setting.now ctx.old.code ctx.new.code ctx.old.at.0 ctx.new.at.0
+        (is_call setting.now.program.now setting.now.id.0
+        (slice_get setting.now.program.now.procs callee.0) args.now
+        && addressed setting.now.program.now setting.now.id.0 (lent_by args.now))) }
+    ensures depths { OnOk result (KeepsShallow ctx.old.code ctx.new.code) }
 {
     let values = select_arguments(setting, ctx, args)?;
     put_call(

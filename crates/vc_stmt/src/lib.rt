@@ -35,15 +35,34 @@
 //! Does g old new from to sound exec   for any w whose code of the procedure has grown from `new`
 //! ```
 //!
+//! # Valid and sized code
+//!
+//! Beside its meaning each function says what the code that it adds keeps of valid and of sized
+//! code, over a certificate of what each block may read (vc_expr, `specs/Readable`):
+//!
+//! - `counts`, of `specs/Amounts`: for each node of the statements at most 4 instructions, 3 local
+//!   variables, 4 constants and 2 blocks are added, and a parameter never. It holds of any tree.
+//! - `ready`, of `specs/Ready`: code that was ready for more at the end of the block `from`
+//!   (`IsReady` of vc_select) is ready at the end of the block `to`, with a certificate that is the
+//!   same for blocks that were there, and other blocks that were ready still are (`KeepsReady`).
+//!   What is asked is the Bool `is_sound` again: so each call passes as many arguments as the
+//!   procedure has parameters, by `parameter_counts` of the module.
+//! - `depths`: where no block stood in more loops than there may be, none does (`KeepsShallow`).
+//!
+//! A block that is opened before control comes to it may read homes at its begin and nothing else
+//! (`ReadsHomes`): these may be read at the end of each block that is ready, so that the end of a
+//! loop's statements gives its test what its begin gave.
+//!
 //! # How to read it
 //!
 //! `specs/` in this order: `Completes`, `Calls`, `Does`, `Sound`; then `Stores` (what gives a value
 //! to a variable of the source), `Passes` (arguments), `Blocks`, `Loops` and `Arms` (blocks that
-//! wait, the meaning of loops, an IF arm after arm).
+//! wait, the meaning of loops, an IF arm after arm); `Amounts` and `Ready`.
 //!
 //! The lemmas: `Completing` puts runs together (`completes_then`, `completes_value`), `Matching`
 //! says which states match on (`matches_on` behind an expression), `Jumping` and `Waiting` are for
-//! blocks. Each form has a file.
+//! blocks. Each form has a file. Of what is kept, `Entering` has the certificates of opened blocks,
+//! `Proceeding` puts pieces together, and the files `Ready..` have a lemma for each form.
 //!
 //! # The blocks
 //!
@@ -51,7 +70,8 @@
 //! statements first. Blocks in a loop are one deeper. An arm of an IF has a block for its
 //! statements and one where control goes that passes it; what follows ELSE stands in the last of
 //! these, also where there is none. Of two blocks to which a test leads, the one that comes later
-//! in the text has the smaller number, so that the order of the text can be found again.
+//! in the text has the smaller number, so that the order of the text can be found again. An IF
+//! without arms, which no text has, is its other statements alone.
 #![tactic(auto)]
 
 pub mod blocks;

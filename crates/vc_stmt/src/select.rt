@@ -1,16 +1,19 @@
 // The walk over statements.
 
-ghost use Rattle.std.specs.Prelude.{◌≡◌, ◌≢◌, ◌<◌, ◌≤◌, ◌&&◌, map, length, OnOk};
+ghost use Rattle.std.specs.Prelude.{◌≡◌, ◌≢◌, ◌<◌, ◌≤◌, ◌+◌, ◌&&◌, map, length, OnOk};
 ghost use Rattle.ob_mean.specs.Expressions.{value};
 ghost use Rattle.ob_mean.specs.Statements.{exec, exec_all, arm_of};
 ghost use Rattle.ob_syntax.specs.Expressions.{boolean};
 ghost use Rattle.vc_build.specs.Grow.{IsOpen};
 ghost use Rattle.vc_select.specs.Targets.{above_setting};
 ghost use Rattle.vc_typed.specs.Typing.{typing, is_of};
+ghost use Rattle.vc_typed.specs.Nodes.{nodes_in, nodes_in_stmt, nodes_in_arm, nodes_in_all};
+ghost use Rattle.vc_stmt.specs.Amounts.{AddsForStatements, AddsForArm, AddsForArms};
 ghost use Rattle.vc_stmt.specs.Arms.{Guards, Chooses};
 ghost use Rattle.vc_stmt.specs.Blocks.{Waits};
 ghost use Rattle.vc_stmt.specs.Does.{Does};
 ghost use Rattle.vc_stmt.specs.Loops.{while_of, repeat_of};
+ghost use Rattle.vc_stmt.specs.Ready.{KeepsReady, KeepsReadyBeside, KeepsShallow};
 ghost use Rattle.vc_stmt.specs.Sound.{is_sound, are_sound, is_sound_arm, are_sound_arms};
 
 use crate::blocks::{confirm_waits, jump, open_arm, open_loop};
@@ -38,6 +41,12 @@ pub fn select_statement(setting: &Setting<'_>, ctx: &mut Ctx, t: &RStmt) -> Resu
         (Does setting.now ctx.old.code ctx.new.code ctx.old.at.0 ctx.new.at.0
         (is_sound setting.now.program.now setting.now.id.0 t.now)
         (exec setting.now.program.now t.now)) }
+    ensures counts { OnOk result (AddsForStatements (nodes_in_stmt t.now)
+        ctx.old.code ctx.new.code) }
+    ensures ready { OnOk result
+        (KeepsReady setting.now ctx.old.code ctx.new.code ctx.old.at.0 ctx.new.at.0
+        (is_sound setting.now.program.now setting.now.id.0 t.now)) }
+    ensures depths { OnOk result (KeepsShallow ctx.old.code ctx.new.code) }
 {
     match t {
         RStmt::Assign(v, e) => {
@@ -45,6 +54,10 @@ pub fn select_statement(setting: &Setting<'_>, ctx: &mut Ctx, t: &RStmt) -> Resu
             Ok(())
         }
         RStmt::If(arms, other) => {
+            if arms.is_empty() {
+                select_statements(setting, ctx, other.as_slice())?;
+                return Ok(());
+            }
             let behind = open_beside(setting.alloc, &mut ctx.code, ctx.at)?;
             confirm_waits(&ctx.code, ctx.at, behind);
             select_arms(setting, ctx, arms.as_slice(), behind)?;
@@ -99,6 +112,12 @@ pub fn select_statements(
         (Does setting.now ctx.old.code ctx.new.code ctx.old.at.0 ctx.new.at.0
         (are_sound setting.now.program.now setting.now.id.0 body.now)
         (exec_all setting.now.program.now body.now)) }
+    ensures counts { OnOk result (AddsForStatements (nodes_in_all body.now)
+        ctx.old.code ctx.new.code) }
+    ensures ready { OnOk result
+        (KeepsReady setting.now ctx.old.code ctx.new.code ctx.old.at.0 ctx.new.at.0
+        (are_sound setting.now.program.now setting.now.id.0 body.now)) }
+    ensures depths { OnOk result (KeepsShallow ctx.old.code ctx.new.code) }
 {
     for t in body {
         select_statement(setting, ctx, t)?;
@@ -124,6 +143,13 @@ fn select_while(
         && are_sound setting.now.program.now setting.now.id.0 body.now)
         (while_of (value setting.now.program.now test.now)
         (exec_all setting.now.program.now body.now))) }
+    ensures counts { OnOk result (AddsForStatements (1 + nodes_in test.now + nodes_in_all body.now)
+        ctx.old.code ctx.new.code) }
+    ensures ready { OnOk result
+        (KeepsReady setting.now ctx.old.code ctx.new.code ctx.old.at.0 ctx.new.at.0
+        (is_of boolean (typing setting.now.program.now setting.now.id.0 test.now)
+        && are_sound setting.now.program.now setting.now.id.0 body.now)) }
+    ensures depths { OnOk result (KeepsShallow ctx.old.code ctx.new.code) }
 {
     let blocks = open_loop(setting.alloc, &mut ctx.code, ctx.at)?;
     jump(setting.alloc, &mut ctx.code, ctx.at, blocks.test);
@@ -161,6 +187,13 @@ fn select_repeat(
         && is_of boolean (typing setting.now.program.now setting.now.id.0 test.now))
         (repeat_of (exec_all setting.now.program.now body.now)
         (value setting.now.program.now test.now))) }
+    ensures counts { OnOk result (AddsForStatements (1 + nodes_in_all body.now + nodes_in test.now)
+        ctx.old.code ctx.new.code) }
+    ensures ready { OnOk result
+        (KeepsReady setting.now ctx.old.code ctx.new.code ctx.old.at.0 ctx.new.at.0
+        (are_sound setting.now.program.now setting.now.id.0 body.now
+        && is_of boolean (typing setting.now.program.now setting.now.id.0 test.now))) }
+    ensures depths { OnOk result (KeepsShallow ctx.old.code ctx.new.code) }
 {
     let blocks = open_loop(setting.alloc, &mut ctx.code, ctx.at)?;
     jump(setting.alloc, &mut ctx.code, ctx.at, blocks.body);
@@ -200,6 +233,11 @@ fn select_arms(
         (Chooses setting.now ctx.old.code ctx.new.code ctx.old.at.0 ctx.new.at.0 behind.0
         (are_sound_arms setting.now.program.now setting.now.id.0 arms.now)
         (map (arm_of setting.now.program.now) arms.now)) }
+    ensures counts { OnOk result (AddsForArms arms.now ctx.old.code ctx.new.code) }
+    ensures ready { OnOk result
+        (KeepsReadyBeside setting.now ctx.old.code ctx.new.code ctx.old.at.0 ctx.new.at.0 behind.0
+        (are_sound_arms setting.now.program.now setting.now.id.0 arms.now)) }
+    ensures depths { OnOk result (KeepsShallow ctx.old.code ctx.new.code) }
 {
     for arm in arms {
         select_arm(setting, ctx, arm, behind)?;
@@ -228,6 +266,11 @@ fn select_arm(
         (Guards setting.now ctx.old.code ctx.new.code ctx.old.at.0 ctx.new.at.0 behind.0
         (is_sound_arm setting.now.program.now setting.now.id.0 arm.now)
         (arm_of setting.now.program.now arm.now)) }
+    ensures counts { OnOk result (AddsForArm (nodes_in_arm arm.now) ctx.old.code ctx.new.code) }
+    ensures ready { OnOk result
+        (KeepsReadyBeside setting.now ctx.old.code ctx.new.code ctx.old.at.0 ctx.new.at.0 behind.0
+        (is_sound_arm setting.now.program.now setting.now.id.0 arm.now)) }
+    ensures depths { OnOk result (KeepsShallow ctx.old.code ctx.new.code) }
 {
     let targets = open_arm(setting.alloc, &mut ctx.code, ctx.at)?;
     confirm(&ctx.code, ctx.at);

@@ -1,16 +1,22 @@
 // A value is given to a variable of the source: assignment, and Read.
 
-ghost use Rattle.std.specs.Prelude.{◌≡◌, ◌<◌, ◌≤◌, length, IfOk, OnOk};
+ghost use Rattle.std.specs.Prelude.{◌≡◌, ◌<◌, ◌≤◌, ◌+◌, length, IfOk, OnOk};
 ghost use Rattle.ob_syntax.specs.Expressions.{integer};
+ghost use Rattle.pra_base.specs.Code.{kind_of};
 ghost use Rattle.pra_base.specs.declared.code.VarKind.TheVariants.{Plain};
 ghost use Rattle.pra_base.specs.declared.code.VInstr.TheVariants.{Store, Read};
 ghost use Rattle.ob_syntax.specs.declared.checked.RStmt.{RStmt-F};
 ghost use Rattle.ob_mean.specs.Statements.{stmt_step};
 ghost use Rattle.vc_build.specs.Grow.{IsOpen, with_instr, with_variable};
+ghost use Rattle.vc_expr.specs.Counts.{AddsAtMost};
+ghost use Rattle.vc_expr.specs.Readable.{is_constant};
 ghost use Rattle.vc_select.specs.Targets.{above_setting, above_target};
 ghost use Rattle.vc_typed.specs.TypedStatements.{is_assignable};
 ghost use Rattle.vc_typed.specs.Typing.{typing, variable_typing, is_of};
+ghost use Rattle.vc_typed.specs.Nodes.{nodes_in, nodes_in_var};
+ghost use Rattle.vc_stmt.specs.Amounts.{AddsForStatements};
 ghost use Rattle.vc_stmt.specs.Does.{Does};
+ghost use Rattle.vc_stmt.specs.Ready.{GivesReady, KeepsReady, KeepsShallow, StoresReady};
 ghost use Rattle.vc_select.specs.declared.target.Target.TheVariants.{Var};
 ghost use Rattle.vc_stmt.specs.Stores.{Stores, Reads};
 
@@ -21,7 +27,19 @@ use vc_build::{declare, put};
 use vc_expr::start::first_of;
 use vc_select::{Ctx, Setting, Target, select_expr, select_var};
 
-/// Gives the value in a variable of the code to another one, which is none of the constants.
+/// Whether a variable of the code is a constant, which is never written.
+fn is_constant(code: &VProc, v: VarId) -> bool
+    ensures { result ≡ is_constant (kind_of code.now v.0) }
+{
+    let v = v.0 as usize;
+    if v >= code.vars.len() {
+        return false;
+    }
+    matches!(code.vars[v], VarKind::Constant(_))
+}
+
+/// Gives the value in a variable of the code to another one. No variable of the source is a
+/// constant, and where the target is one nothing is put.
 ///
 /// # Errors
 ///
@@ -39,8 +57,14 @@ fn copy(
     ensures vars { OnOk result (length code.old.vars ≤ length code.new.vars) }
     ensures stores { OnOk result
         (Stores setting.now at.0 code.old code.new (Var target) v.0) }
+    ensures counts { OnOk result (AddsAtMost 1 0 0 0 code.old code.new) }
+    ensures ready { OnOk result
+        (StoresReady setting.now at.0 code.old code.new (Var target) v.0) }
 {
     if target.0 == v.0 {
+        return Ok(());
+    }
+    if is_constant(code, target) {
         return Ok(());
     }
     let kind = code.vars[v.0 as usize];
@@ -65,6 +89,8 @@ pub fn store(
     ensures is_open { OnOk result (IsOpen code.new at.0) }
     ensures vars { OnOk result (length code.old.vars ≤ length code.new.vars) }
     ensures stores { OnOk result (Stores setting.now at.0 code.old code.new target v.0) }
+    ensures counts { OnOk result (AddsAtMost 1 0 0 0 code.old code.new) }
+    ensures ready { OnOk result (StoresReady setting.now at.0 code.old code.new target v.0) }
 {
     match target {
         Target::Var(u) => {
@@ -98,6 +124,13 @@ pub fn select_assignment(
         (is_assignable (variable_typing setting.now.program.now setting.now.id.0 v.now)
         (typing setting.now.program.now setting.now.id.0 e.now))
         (stmt_step setting.now.program.now (RStmt-F.Assign v.now e.now))) }
+    ensures counts { OnOk result (AddsForStatements (nodes_in_var v.now + 1 + nodes_in e.now)
+        ctx.old.code ctx.new.code) }
+    ensures ready { OnOk result
+        (KeepsReady setting.now ctx.old.code ctx.new.code ctx.old.at.0 ctx.new.at.0
+        (is_assignable (variable_typing setting.now.program.now setting.now.id.0 v.now)
+        (typing setting.now.program.now setting.now.id.0 e.now))) }
+    ensures depths { OnOk result (KeepsShallow ctx.old.code ctx.new.code) }
 {
     let target = select_var(setting, ctx, v)?;
     let value = select_expr(setting, ctx, e)?;
@@ -123,7 +156,8 @@ fn read_word(
     Ok(t)
 }
 
-/// Takes a word of the input for a target.
+/// Takes a word of the input for a target. No variable of the source is a constant, and where the
+/// target is one nothing is put.
 ///
 /// # Errors
 ///
@@ -139,9 +173,14 @@ pub fn read(
     ensures is_open { OnOk result (IsOpen code.new at.0) }
     ensures vars { OnOk result (length code.old.vars ≤ length code.new.vars) }
     ensures reads { OnOk result (Reads setting.now at.0 code.old code.new target) }
+    ensures counts { OnOk result (AddsAtMost 2 1 0 0 code.old code.new) }
+    ensures ready { OnOk result (GivesReady setting.now at.0 code.old code.new target) }
 {
     match target {
         Target::Var(u) => {
+            if is_constant(code, u) {
+                return Ok(());
+            }
             put(setting.alloc, code, at, VInstr::Read(u))?;
             Ok(())
         }
@@ -166,6 +205,12 @@ pub fn select_read(setting: &Setting<'_>, ctx: &mut Ctx, v: &RVar) -> Result<(),
         (Does setting.now ctx.old.code ctx.new.code ctx.old.at.0 ctx.new.at.0
         (is_of integer (variable_typing setting.now.program.now setting.now.id.0 v.now))
         (stmt_step setting.now.program.now (RStmt-F.Read v.now))) }
+    ensures counts { OnOk result (AddsForStatements (1 + nodes_in_var v.now)
+        ctx.old.code ctx.new.code) }
+    ensures ready { OnOk result
+        (KeepsReady setting.now ctx.old.code ctx.new.code ctx.old.at.0 ctx.new.at.0
+        (is_of integer (variable_typing setting.now.program.now setting.now.id.0 v.now))) }
+    ensures depths { OnOk result (KeepsShallow ctx.old.code ctx.new.code) }
 {
     let target = select_var(setting, ctx, v)?;
     read(setting, &mut ctx.code, ctx.at, target)?;

@@ -1,13 +1,16 @@
 // Write and WriteLn.
 
-ghost use Rattle.std.specs.Prelude.{◌≡◌, ◌<◌, ◌≤◌, true, length, OnOk};
+ghost use Rattle.std.specs.Prelude.{◌≡◌, ◌<◌, ◌≤◌, ◌+◌, true, length, OnOk};
 ghost use Rattle.ob_syntax.specs.Expressions.{integer};
 ghost use Rattle.ob_syntax.specs.declared.checked.RStmt.{RStmt-F};
 ghost use Rattle.ob_mean.specs.Statements.{stmt_step};
 ghost use Rattle.vc_build.specs.Grow.{IsOpen};
 ghost use Rattle.vc_select.specs.Targets.{above_setting};
 ghost use Rattle.vc_typed.specs.Typing.{typing, is_of};
+ghost use Rattle.vc_typed.specs.Nodes.{nodes_in};
+ghost use Rattle.vc_stmt.specs.Amounts.{AddsForStatements};
 ghost use Rattle.vc_stmt.specs.Does.{Does};
+ghost use Rattle.vc_stmt.specs.Ready.{KeepsReady, KeepsShallow};
 
 use ob_syntax::RExpr;
 use pra_base::{OutOfMemory, VInstr};
@@ -28,6 +31,12 @@ pub fn select_write(setting: &Setting<'_>, ctx: &mut Ctx, e: &RExpr) -> Result<(
         (Does setting.now ctx.old.code ctx.new.code ctx.old.at.0 ctx.new.at.0
         (is_of integer (typing setting.now.program.now setting.now.id.0 e.now))
         (stmt_step setting.now.program.now (RStmt-F.Write e.now))) }
+    ensures counts { OnOk result (AddsForStatements (1 + nodes_in e.now)
+        ctx.old.code ctx.new.code) }
+    ensures ready { OnOk result
+        (KeepsReady setting.now ctx.old.code ctx.new.code ctx.old.at.0 ctx.new.at.0
+        (is_of integer (typing setting.now.program.now setting.now.id.0 e.now))) }
+    ensures depths { OnOk result (KeepsShallow ctx.old.code ctx.new.code) }
 {
     let v = select_expr(setting, ctx, e)?;
     put(setting.alloc, &mut ctx.code, ctx.at, VInstr::Write(v))?;
@@ -46,6 +55,10 @@ pub fn select_line(setting: &Setting<'_>, ctx: &mut Ctx) -> Result<(), OutOfMemo
     ensures does { OnOk result
         (Does setting.now ctx.old.code ctx.new.code ctx.old.at.0 ctx.new.at.0 true
         (stmt_step setting.now.program.now RStmt-F.WriteLine)) }
+    ensures counts { OnOk result (AddsForStatements 1 ctx.old.code ctx.new.code) }
+    ensures ready { OnOk result
+        (KeepsReady setting.now ctx.old.code ctx.new.code ctx.old.at.0 ctx.new.at.0 true) }
+    ensures depths { OnOk result (KeepsShallow ctx.old.code ctx.new.code) }
 {
     put(setting.alloc, &mut ctx.code, ctx.at, VInstr::Line)?;
     Ok(())

@@ -1,8 +1,10 @@
-use Rattle.std.proofs.Common.{◌≤◌, ◌++◌, ℕ, List, length, drop}
+use Rattle.std.proofs.Common.{◌≡◌, ◌≤◌, ◌+◌, ◌++◌, ℕ, List, length, drop}
 use Rattle.pra_base.specs.declared.ids.VarId.{VarId}
 use Rattle.pra_base.specs.declared.code.VProc.{VProc}
 use Rattle.vc_build.specs.Grow.{IsOpen}
+use Rattle.vc_stmt.specs.Amounts.{AddsForArguments}
 use Rattle.vc_stmt.specs.Passes.{PassesAll}
+use Rattle.vc_stmt.specs.Ready.{PassesReady, KeepsShallow}
 use Rattle.vc_stmt.proofs.call.select_arguments.Given as goal
 
 -- what is evaluated, with what is left, is the whole
@@ -12,3 +14,8 @@ invariant-loop-arg l =
     × ((new : VProc) (to : ℕ) (vs : List VarId) →
     PassesAll l.setting l.ctx.code new l.ctx.at.0 to vs (drop l.arg-index l.args) →
     PassesAll l.setting l.fn.ctx.code new l.fn.ctx.at.0 to (l.values.items ++ vs) l.args)
+    × (length l.values.items + length (drop l.arg-index l.args) ≡ length l.args)
+    × ((new : VProc) → AddsForArguments (drop l.arg-index l.args) l.ctx.code new → AddsForArguments l.args l.fn.ctx.code new)
+    × (length l.fn.ctx.code.blocks ≤ length l.ctx.code.blocks)
+    × PassesReady l.setting l.fn.ctx.code l.ctx.code l.fn.ctx.at.0 l.ctx.at.0 l.values.items
+    × KeepsShallow l.fn.ctx.code l.ctx.code

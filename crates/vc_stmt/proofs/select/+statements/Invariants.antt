@@ -2,9 +2,12 @@ use Rattle.std.proofs.Common.{◌≢◌, ◌≤◌, ℕ, length, drop, map}
 use Rattle.pra_base.specs.declared.code.VProc.{VProc}
 use Rattle.ob_mean.specs.Statements.{exec_all, arm_of}
 use Rattle.vc_build.specs.Grow.{IsOpen}
+use Rattle.vc_typed.specs.Nodes.{nodes_in_all}
+use Rattle.vc_stmt.specs.Amounts.{AddsForStatements, AddsForArms}
 use Rattle.vc_stmt.specs.Arms.{Chooses}
 use Rattle.vc_stmt.specs.Blocks.{Waits}
 use Rattle.vc_stmt.specs.Does.{Does}
+use Rattle.vc_stmt.specs.Ready.{KeepsReady, KeepsReadyBeside, KeepsShallow}
 use Rattle.vc_stmt.specs.Sound.{are_sound, are_sound_arms}
 use Rattle.vc_stmt.proofs.select.+statements.Given as goal
 
@@ -15,6 +18,9 @@ invariant-select_statements-loop-t l =
     × ((new : VProc) (to : ℕ) →
     Does l.setting l.ctx.code new l.ctx.at.0 to (are_sound l.setting.program.now l.setting.id.0 (drop l.t-index l.body)) (exec_all l.setting.program.now (drop l.t-index l.body)) →
     Does l.setting l.fn.ctx.code new l.fn.ctx.at.0 to (are_sound l.setting.program.now l.setting.id.0 l.body) (exec_all l.setting.program.now l.body))
+    × ((new : VProc) → AddsForStatements (nodes_in_all (drop l.t-index l.body)) l.ctx.code new → AddsForStatements (nodes_in_all l.body) l.fn.ctx.code new)
+    × ((new : VProc) (to : ℕ) → KeepsReady l.setting l.ctx.code new l.ctx.at.0 to (are_sound l.setting.program.now l.setting.id.0 (drop l.t-index l.body)) → KeepsReady l.setting l.fn.ctx.code new l.fn.ctx.at.0 to (are_sound l.setting.program.now l.setting.id.0 l.body))
+    × KeepsShallow l.fn.ctx.code l.ctx.code
 
 abbrev pub invariant-select_arms-loop-arm : goal.invariant-select_arms-loop-arm
 invariant-select_arms-loop-arm l =
@@ -22,3 +28,7 @@ invariant-select_arms-loop-arm l =
     × ((new : VProc) (to : ℕ) →
     Chooses l.setting l.ctx.code new l.ctx.at.0 to l.behind.0 (are_sound_arms l.setting.program.now l.setting.id.0 (drop l.arm-index l.arms)) (map (arm_of l.setting.program.now) (drop l.arm-index l.arms)) →
     Chooses l.setting l.fn.ctx.code new l.fn.ctx.at.0 to l.behind.0 (are_sound_arms l.setting.program.now l.setting.id.0 l.arms) (map (arm_of l.setting.program.now) l.arms))
+    × ((new : VProc) → AddsForArms (drop l.arm-index l.arms) l.ctx.code new → AddsForArms l.arms l.fn.ctx.code new)
+    × ((new : VProc) (to : ℕ) → KeepsReadyBeside l.setting l.ctx.code new l.ctx.at.0 to l.behind.0 (are_sound_arms l.setting.program.now l.setting.id.0 (drop l.arm-index l.arms)) →
+    KeepsReadyBeside l.setting l.fn.ctx.code new l.fn.ctx.at.0 to l.behind.0 (are_sound_arms l.setting.program.now l.setting.id.0 l.arms))
+    × KeepsShallow l.fn.ctx.code l.ctx.code

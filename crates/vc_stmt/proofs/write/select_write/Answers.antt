@@ -1,5 +1,21 @@
+use Rattle.vc_select.proofs.Nodes.{some_nodes}
+use Rattle.vc_stmt.proofs.Amounting.{write_adds}
 use Rattle.vc_stmt.proofs.Endings.{write_done}
+use Rattle.vc_stmt.proofs.ReadyStores.{one_put, write_ready, put_at}
+use Rattle.vc_stmt.proofs.Shallow.{shallow_on, shallow_kept, shallow_put}
 use Rattle.vc_stmt.proofs.write.select_write.Goals as goal
 
 pub returns-clause-does : goal.returns-clause-does
 returns-clause-does c = write_done c.args.setting.now _ _ _ _ _ _ c.args.e.now c.in_ok-v.ensures.selects c.in_ok-put.ensures
+
+pub returns-clause-counts : goal.returns-clause-counts
+returns-clause-counts c = write_adds _ _ _ _ (some_nodes c.args.e.now) c.in_ok-v.ensures.counts (one_put _ _ _ _ c.in_ok-v.ensures.is_open c.in_ok-put.ensures)
+
+pub returns-clause-ready : goal.returns-clause-ready
+returns-clause-ready c =
+    write_ready c.args.setting.now _ _ _ _ _ c.requires.homes c.in_ok-v.ensures.selects.extends (put_at _ _ _ _ c.in_ok-v.ensures.is_open c.in_ok-put.ensures) c.in_ok-v.ensures.counts.params (one_put _ _ _ _ c.in_ok-v.ensures.is_open c.in_ok-put.ensures).params _
+    _ c.in_ok-v.ensures.ready c.in_ok-v.ensures.named c.in_ok-put.ensures
+
+pub returns-clause-depths : goal.returns-clause-depths
+returns-clause-depths c =
+    shallow_on _ _ _ (shallow_kept _ _ _ _ c.in_ok-v.ensures.depth c.in_ok-v.ensures.selects.extends.grows.grows) (shallow_put _ _ _ _ c.in_ok-v.ensures.is_open c.in_ok-put.ensures)
