@@ -17,6 +17,6 @@ mod text;
 pub use build::{Frame, Step, block, procedure};
 pub use given::Given;
 pub use outcome::print_outcome;
-pub use paths::{has_places, path};
+pub use paths::{has_places, path, place};
 pub use reader::{Sketch, end, instruction};
 pub use text::print;

@@ -25,7 +25,8 @@ const PLACES: &[(&str, Place)] = &[
     ("edim", Place::EdiM),
 ];
 
-fn place_named(word: &str) -> Option<Place> {
+/// The place of a name, as `mem` or `ebxm`, or None where there is none.
+pub fn place(word: &str) -> Option<Place> {
     for (name, place) in PLACES {
         if *name == word {
             return Some(*place);
@@ -42,7 +43,7 @@ fn place_named(word: &str) -> Option<Place> {
 pub fn path(alloc: Global, line: &str) -> Result<Option<Seq<Place>>, OutOfMemory> {
     let mut path = Seq::new(alloc);
     for word in line.split(' ') {
-        match place_named(word) {
+        match place(word) {
             Some(place) => path.push(place)?,
             None => return Ok(None),
         }

@@ -217,7 +217,8 @@ pub fn end(line: &str) -> Option<End> {
 
 /// A module that is read line by line: the procedures so far, and the one that is being read. A
 /// procedure begins with a line `proc`, how many arguments and aggregate words it has, and its
-/// variables, each `plain`, `param` with a number, or the number of a constant.
+/// variables, each `plain`, `param` with a number, or the number of a constant. A line `loops` with
+/// a number says in how many loops the block stands whose instructions follow.
 #[derive(Drop)]
 pub struct Sketch {
     alloc: Global,
@@ -226,6 +227,7 @@ pub struct Sketch {
     aggregates: u32,
     vars: Vec<VarKind>,
     blocks: Vec<Block>,
+    depth: u32,
     code: Vec<VInstr>,
 }
 
@@ -239,6 +241,7 @@ impl Sketch {
             aggregates: 0,
             vars: Vec::new(alloc),
             blocks: Vec::new(alloc),
+            depth: 0,
             code: Vec::new(alloc),
         }
     }
@@ -281,6 +284,16 @@ impl Sketch {
         Ok(true)
     }
 
+    // The block is whole.
+    fn end_block(&mut self, end: End) -> Result<bool, OutOfMemory> {
+        let mut whole = block(self.alloc, &self.code, end)?;
+        whole.depth = self.depth;
+        self.code = Vec::new(self.alloc);
+        self.depth = 0;
+        self.blocks.push(whole)?;
+        Ok(true)
+    }
+
     /// Takes a line, unless it says nothing of code. Answers whether it does.
     ///
     /// # Errors
@@ -288,14 +301,16 @@ impl Sketch {
     /// Where there is no memory for it.
     pub fn line(&mut self, line: &str) -> Result<bool, OutOfMemory> {
         let mut words = line.split(' ');
-        if words.next() == Some("proc") {
+        let name = words.next();
+        if name == Some("proc") {
             return self.begin(&mut words);
         }
-        if let Some(end) = end(line) {
-            let whole = block(self.alloc, &self.code, end)?;
-            self.code = Vec::new(self.alloc);
-            self.blocks.push(whole)?;
+        if name == Some("loops") {
+            self.depth = number(words.next()).unwrap_or(0);
             return Ok(true);
+        }
+        if let Some(end) = end(line) {
+            return self.end_block(end);
         }
         match instruction(line) {
             Some(i) => {
