@@ -1,14 +1,13 @@
 // Networks written out: the two worked ones, a call with a parameter over it, a loop whose strands
 // are tied, and blocks that are empty, that nothing reaches, or that lead to themselves.
 
-use crate::samples::{around_code, block, one_block};
 use net_build::build;
 use net_form::{Net, Strand};
-use pra_base::{
-    Addr, Base, Block, BlockId, Cond, End, OutOfMemory, ProcId, VInstr, VProc, VarId, VarKind,
-};
+use pl_sketch::Sketch;
+use pra_base::{OutOfMemory, VProc};
 use pra_list::Seq;
 use std::alloc::{AllocError, Global};
+use std::process::Abort;
 use std::test::Fail;
 use vc_live::{is_sized, live};
 
@@ -111,10 +110,12 @@ fn network(alloc: Global, code: &VProc) -> Result<String, OutOfMemory> {
     Ok(text_of(alloc, &net)?)
 }
 
-fn write_code(alloc: Global) -> Result<VProc, AllocError> {
-    let code = [VInstr::Write(VarId(0)), VInstr::Line];
-    one_block(alloc, &[VarKind::Constant(7)], &code)
-}
+// A constant is written.
+const WRITE_CODE: &str = "proc 0 0 7
+write v0
+line
+return
+";
 
 const WRITE: &str = "near true
 block 0 6
@@ -129,14 +130,13 @@ entries 0 0
 arrivals
 ";
 
-fn sum_code(alloc: Global) -> Result<VProc, AllocError> {
-    let code = [
-        VInstr::Set(VarId(0), 3),
-        VInstr::Add(VarId(0), VarId(1)),
-        VInstr::Write(VarId(0)),
-    ];
-    one_block(alloc, &[VarKind::Plain, VarKind::Constant(4)], &code)
-}
+// A constant is added.
+const SUM_CODE: &str = "proc 0 0 plain 4
+set v0 3
+add v0 v1
+write v0
+return
+";
 
 const SUM: &str = "near true
 block 0 8
@@ -154,6 +154,21 @@ ends 3:0 3:0
 exits 0 0 0
 entries 0 0 0
 arrivals
+";
+
+// A block that leads to itself, an empty one behind it, and one that nothing reaches.
+const AROUND_CODE: &str = "proc 0 0 plain 1
+set v0 5
+jump 1
+loops 1
+sub v0 v1
+cmp v0 v1
+branch g 1 2
+jump 4
+set v0 5
+jump 4
+write v0
+return
 ";
 
 const AROUND: &str = "near true
@@ -191,54 +206,19 @@ entries 0 0 2 2 3 3 5
 arrivals 0 1 2 3 4
 ";
 
-fn call_code(alloc: Global) -> Result<VProc, AllocError> {
-    let mut blocks = Seq::new(alloc);
-    let code = Seq::from_slice(
-        alloc,
-        &[
-            VInstr::Read(VarId(1)),
-            VInstr::Read(VarId(1)),
-            VInstr::Push(VarId(1)),
-            VInstr::Push(VarId(1)),
-            VInstr::Call(ProcId(2)),
-            VInstr::Cmp(VarId(0), VarId(0)),
-            VInstr::Neg(VarId(0)),
-            VInstr::Store(
-                Addr {
-                    base: Base::Global(0),
-                    offset: 0,
-                    index: Some(VarId(1)),
-                },
-                VarId(7),
-            ),
-        ],
-    )?;
-    blocks.push(Block {
-        depth: 1,
-        code,
-        end: End::Return,
-    })?;
-    let vars = Seq::from_slice(
-        alloc,
-        &[
-            VarKind::Param(0),
-            VarKind::Plain,
-            VarKind::Plain,
-            VarKind::Plain,
-            VarKind::Plain,
-            VarKind::Constant(-128),
-            VarKind::Constant(127),
-            VarKind::Constant(-128),
-        ],
-    )?;
-    Ok(VProc {
-        id: ProcId(0),
-        args: 3,
-        aggregates: 0,
-        vars,
-        blocks,
-    })
-}
+// A call with a parameter over it.
+const CALL_CODE: &str = "proc 3 0 param 0 plain plain plain plain -128 127 -128
+loops 1
+read v1
+read v1
+push v1
+push v1
+call 2
+cmp v0 v0
+neg v0
+store v7 global 0 v1
+return
+";
 
 const CALL: &str = "near true
 block 1 18
@@ -260,81 +240,25 @@ entries 0 0 0 0 0
 arrivals
 ";
 
-fn repeat_code(alloc: Global) -> Result<VProc, AllocError> {
-    let mut blocks = Seq::new(alloc);
-    let code = Seq::from_slice(
-        alloc,
-        &[
-            VInstr::Set(VarId(2), 1),
-            VInstr::Set(VarId(4), 1),
-            VInstr::Copy(VarId(3), VarId(2)),
-        ],
-    )?;
-    blocks.push(Block {
-        depth: 0,
-        code,
-        end: End::Jump(BlockId(1)),
-    })?;
-    let code = Seq::from_slice(alloc, &[VInstr::CheckPos(VarId(3))])?;
-    blocks.push(Block {
-        depth: 1,
-        code,
-        end: End::Jump(BlockId(2)),
-    })?;
-    let code = Seq::from_slice(
-        alloc,
-        &[
-            VInstr::Sub(VarId(1), VarId(4)),
-            VInstr::Addr(
-                VarId(4),
-                Addr {
-                    base: Base::Global(0),
-                    offset: 4,
-                    index: None,
-                },
-            ),
-            VInstr::Cmp(VarId(3), VarId(1)),
-        ],
-    )?;
-    blocks.push(Block {
-        depth: 1,
-        code,
-        end: End::Branch(Cond::B, BlockId(3), BlockId(1)),
-    })?;
-    let code = Seq::from_slice(
-        alloc,
-        &[
-            VInstr::Push(VarId(6)),
-            VInstr::Call(ProcId(2)),
-            VInstr::Write(VarId(1)),
-        ],
-    )?;
-    blocks.push(Block {
-        depth: 0,
-        code,
-        end: End::Return,
-    })?;
-    let vars = Seq::from_slice(
-        alloc,
-        &[
-            VarKind::Param(0),
-            VarKind::Param(1),
-            VarKind::Plain,
-            VarKind::Plain,
-            VarKind::Plain,
-            VarKind::Constant(-129),
-            VarKind::Constant(-129),
-            VarKind::Constant(1),
-        ],
-    )?;
-    Ok(VProc {
-        id: ProcId(0),
-        args: 2,
-        aggregates: 0,
-        vars,
-        blocks,
-    })
-}
+// A loop with calls behind it, and ties of each of its variables.
+const REPEAT_CODE: &str = "proc 2 0 param 0 param 1 plain plain plain -129 -129 1
+set v2 1
+set v4 1
+copy v3 v2
+jump 1
+loops 1
+checkpos v3
+jump 2
+loops 1
+sub v1 v4
+addr v4 global 0 4
+cmp v3 v1
+branch b 3 1
+push v6
+call 2
+write v1
+return
+";
 
 const REPEAT: &str = "near true
 block 0 8
@@ -387,13 +311,26 @@ entries 0 0 0 0 0 2 4 6 7 8 9 9 10 10
 arrivals 0 6 2 8 1 9 3 4 5 7
 ";
 
+fn check(rt: &impl Abort, alloc: Global, lines: &str, expected: &str) -> Result<(), Fail> {
+    let mut sketch = Sketch::new(alloc);
+    for line in lines.lines() {
+        let is_code = sketch.line(line)?;
+        assert!(rt; is_code, "{line}");
+    }
+    let module = sketch.module(0)?;
+    match module.procs.get(0) {
+        Some(code) => assert_eq!(rt; network(alloc, code)?.as_str(), expected),
+        None => assert!(rt; false, "no code"),
+    }
+    Ok(())
+}
+
 #[test]
 fn networks_written_out(rt: HostRuntime) -> Result<(), Fail> {
     let alloc = rt.alloc();
-    assert_eq!(rt; network(alloc, &write_code(alloc)?)?.as_str(), WRITE);
-    assert_eq!(rt; network(alloc, &sum_code(alloc)?)?.as_str(), SUM);
-    assert_eq!(rt; network(alloc, &around_code(alloc)?)?.as_str(), AROUND);
-    assert_eq!(rt; network(alloc, &call_code(alloc)?)?.as_str(), CALL);
-    assert_eq!(rt; network(alloc, &repeat_code(alloc)?)?.as_str(), REPEAT);
-    Ok(())
+    check(&rt, alloc, WRITE_CODE, WRITE)?;
+    check(&rt, alloc, SUM_CODE, SUM)?;
+    check(&rt, alloc, AROUND_CODE, AROUND)?;
+    check(&rt, alloc, CALL_CODE, CALL)?;
+    check(&rt, alloc, REPEAT_CODE, REPEAT)
 }

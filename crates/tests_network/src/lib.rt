@@ -1,14 +1,12 @@
-//! Tests of the public calls on networks: worked networks written out, and what is said of routes
-//! in them.
+//! Tests of the public calls on networks, from a code to what its home routes and others cost.
 //!
-//! Nothing here is used by another crate.
+//! `build_tests` has networks written out, and `route_tests` rows of codes with routes: what these
+//! cost, or what they break first. Nothing here is used by another crate.
 #![tactic(auto)]
 
 #[cfg(test)]
 mod build_tests;
 #[cfg(test)]
-mod samples;
-#[cfg(test)]
-mod verdict_tests;
+mod route_tests;
 #[cfg(test)]
 mod verdicts;
