@@ -6,3 +6,4 @@ pub mod Embodying
 pub mod OpenRules
 pub mod Ordered
 pub mod Sizes
+pub mod Answered

@@ -1,5 +1,5 @@
 -- The selected code of a procedure of a checked module.
-use Rattle.std.specs.Prelude.{◌≡◌, ℕ, ◌+◌, ◌*◌, ◌≤◌, List, length, map, count_by}
+use Rattle.std.specs.Prelude.{◌≡◌, ℕ, ◌+◌, ◌*◌, ◌≤◌, length, count_by}
 use Rattle.pra_base.specs.Code.{is_plain}
 use Rattle.pra_base.specs.Valid.{PushesBeforeCalls, TakesArgs, IsValid, IsSized, instruction_count}
 use Rattle.pra_base.specs.declared.code.VProc.{VProc}
@@ -8,11 +8,8 @@ use Rattle.ob_syntax.specs.declared.checked.CheckedProc.{CheckedProc}
 use Rattle.vc_expr.specs.Readable.{is_constant}
 use Rattle.vc_same.specs.SameRuns.{SameRuns}
 use Rattle.vc_stmt.specs.Procedures.{Embodies}
+pub use Rattle.vc_stmt.specs.Ready.{parameter_counts}
 use Rattle.vc_typed.specs.TypedModules.{scalar_locals}
-
--- how many parameters each procedure has
-abbrev pub parameter_counts : Checked → List ℕ
-parameter_counts program = map (λ (proc : CheckedProc). length proc.params) program.procs
 
 -- The code has no more than so much for each node of the procedure's statements. Besides there is
 -- an instruction for each scalar local, and one that clears the aggregates; a Plain variable for
@@ -23,8 +20,8 @@ pub record KeepsCounts (proc : CheckedProc) (code : VProc) : Type 0 where
   pub locals : count_by is_plain code.vars ≤ 3 * proc.nodes + scalar_locals proc
   pub constants : count_by is_constant code.vars ≤ 4 * proc.nodes
 
--- What selection answers for a procedure: code that embodies it, with its blocks in the order of the
--- text. The code is valid and sized, and each of its Calls has the Pushes that the callee takes.
+-- What selection answers for a procedure: code that embodies it, with its blocks in the order of
+-- the text. It is valid and sized, and each of its Calls has the Pushes that the callee takes.
 pub record IsSelected (program : Checked) (p : ℕ) (proc : CheckedProc) (code : VProc) : Type 0 where
   -- the code in the order of its making
   pub made : VProc
