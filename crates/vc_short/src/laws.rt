@@ -2,9 +2,11 @@
 // it does nothing.
 
 ghost use Rattle.std.specs.Prelude.{◌≤◌, ℕ, List, length};
+ghost use Rattle.ob_check.specs.Checking.{IsChecked};
 ghost use Rattle.ob_syntax.specs.Declarations.{Reading};
 ghost use Rattle.ob_syntax.specs.Source.{IsParsed};
 ghost use Rattle.ob_syntax.specs.WellFormed.{IsWellFormed, resolved};
+ghost use Rattle.ob_syntax.specs.declared.checked.Checked.{Checked};
 ghost use Rattle.ob_syntax.specs.declared.token.Token.{Token};
 ghost use Rattle.ob_syntax.specs.declared.tree.Module.{Module};
 ghost use Rattle.vc_short.specs.Short.{nodes_and_locals, IsShort};
@@ -21,4 +23,10 @@ pub fn nodes_are_tokens()
 pub fn modules_are_short()
     ensures { (bytes : List ℕ) (tokens : List Token) (m : Module) (r : Reading) →
         IsParsed bytes tokens m → IsWellFormed bytes tokens m r → IsShort (resolved m r) }
+{}
+
+/// What the checker answers for the tree of a source is short.
+pub fn checked_modules_are_short()
+    ensures { (bytes : List ℕ) (tokens : List Token) (m : Module) (c : Checked) →
+        IsParsed bytes tokens m → IsChecked bytes tokens m c → IsShort c }
 {}

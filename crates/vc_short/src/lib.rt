@@ -4,7 +4,8 @@
 //! longer than an image may be. The limit on tokens does not: [`laws`] says that all procedures
 //! together have at most as many nodes and scalar locals as the source has tokens
 //! (`nodes_are_tokens`), so at most 65,536, which is `IsShort` of `specs/Short`
-//! (`modules_are_short`).
+//! (`modules_are_short`). Over the clauses of ob_check's `check`, and of ob_read's `read` and
+//! `resolve`, this is `checked_modules_are_short`.
 //!
 //! # How it is proved
 //!
