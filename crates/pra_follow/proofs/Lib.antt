@@ -1,2 +1,7 @@
-pub mod Sums
+pub mod Assembled
+pub mod Followed
 pub mod Little
+pub mod Room
+pub mod Sides
+pub mod Sums
+pub mod Translated

@@ -1,11 +1,59 @@
 // What holds of a whole module that was translated. Each function is a law: its contract is the
 // statement, and it does nothing.
 
-ghost use Rattle.std.specs.Prelude.{◌+◌, ◌*◌, ◌≤◌, sum_by};
+ghost use Rattle.std.specs.Prelude.{◌≡◌, ℕ, ◌+◌, ◌*◌, ◌≤◌, List, [], ◌∷◌, ◌++◌, length, map};
+ghost use Rattle.std.specs.Prelude.{slice_get, sum_by, Some};
+ghost use Rattle.ia_asm.specs.declared.assembly.Assembly.{Assembly};
+ghost use Rattle.ia_asm.specs.Assembly.{IsAssembly, IsImageOf};
+ghost use Rattle.ia_code.specs.declared.image.Image.{Image};
+ghost use Rattle.ia_code.specs.Image.{max_code_bytes};
+ghost use Rattle.ia_emit.specs.Code.{size};
+ghost use Rattle.ia_emit.specs.Emission.{emit_proc};
+ghost use Rattle.ia_emit.specs.Operands.{IsSmall};
+ghost use Rattle.net_form.specs.declared.net.Net.{Net};
+ghost use Rattle.net_form.specs.declared.routes.Routes.{Routes};
 ghost use Rattle.ob_syntax.specs.declared.checked.Checked.{Checked};
 ghost use Rattle.ob_syntax.specs.declared.checked.CheckedProc.{CheckedProc};
-ghost use Rattle.pra_follow.specs.Short.{IsShort};
-ghost use Rattle.vc_typed.specs.TypedModules.{scalar_locals, IsLimited};
+ghost use Rattle.pl_made.specs.Made.{IsMade};
+ghost use Rattle.pl_place.specs.declared.placed.LProc.{LProc};
+ghost use Rattle.pl_place.specs.Valid.{IsPlaced};
+ghost use Rattle.pl_routed.specs.Routed.{routed};
+ghost use Rattle.pra_base.specs.declared.code.VProc.{VProc};
+ghost use Rattle.pra_follow.specs.Follows.{FollowsModule};
+ghost use Rattle.vc_short.specs.Short.{IsShort};
+ghost use Rattle.pra_follow.specs.Translation.{Translation, IsTranslation, AreTranslations};
+ghost use Rattle.pra_follow.specs.Translation.{AreAdmittedIn};
+ghost use Rattle.vc_proc.specs.Selected.{IsSelected};
+ghost use Rattle.vc_same.specs.SameRuns.{Preserves};
+ghost use Rattle.vc_tidy.specs.Tidy.{IsTidy};
+ghost use Rattle.vc_typed.specs.TypedModules.{scalar_locals, IsLimited, IsSelectable};
+
+/// Where all procedures of a module were translated, with any admitted routes, an image that was
+/// assembled of their placed code follows the module: it does what the module means, on each input
+/// of words, and carries the codes and the flows.
+pub fn translated_modules_are_followed()
+    ensures { (program : Checked) (ts : List Translation) (image : Image) →
+        IsSelectable program → AreTranslations program ts → length ts ≡ length program.procs →
+        IsImageOf (map (λ (t : Translation). t.placed) ts) program.data_words image →
+        FollowsModule program ts image }
+{}
+
+/// What may stand in the place of selected code is a translation of the procedure, together with
+/// admitted routes of its network and placed code that was made of them.
+pub fn selected_code_is_translated()
+    ensures { (program : Checked) (p : ℕ) (proc : CheckedProc) (selected code : VProc)
+        (net : Net) (routes : Routes) (placed : LProc) →
+        slice_get program.procs p ≡ Some proc → (is : IsSelected program p proc selected) →
+        Preserves selected code → IsTidy code → AreAdmittedIn code net routes →
+        IsMade (routed code net routes) placed →
+        IsTranslation program p (record {
+          made = is.made;
+          code = code;
+          net = net;
+          routes = routes;
+          placed = placed;
+        }) }
+{}
 
 /// A module of the size of a source has little code: with at most 4 instructions a node, one more a
 /// scalar local and one more, and at most 2 blocks a node and 2 more in each procedure.
@@ -15,4 +63,21 @@ pub fn short_modules_have_little_code()
         ≤ 262401 }
     ensures blocks { (program : Checked) → IsLimited program → IsShort program →
         sum_by (λ (proc : CheckedProc). 2 * proc.nodes + 2) program.procs ≤ 131586 }
+{}
+
+/// The placed code of one procedure more of a short module can be added to the assembly of those
+/// before it.
+pub fn one_procedure_more_has_room()
+    ensures placed { (program : Checked) (p : ℕ) (t : Translation) →
+        IsTranslation program p t → IsPlaced t.placed }
+    ensures small { (program : Checked) (p : ℕ) (t : Translation) →
+        IsTranslation program p t → IsSmall t.placed }
+    ensures one_more { (program : Checked) (ts : List Translation) (t : Translation) →
+        AreTranslations program ts → IsTranslation program (length ts) t →
+        AreTranslations program (ts ++ t ∷ []) }
+    ensures room { (program : Checked) (ts : List Translation) (t : Translation)
+        (data_words : ℕ) (a : Assembly) → IsLimited program → IsShort program →
+        AreTranslations program (ts ++ t ∷ []) →
+        IsAssembly (map (λ (x : Translation). x.placed) ts) data_words a →
+        length a.code.items + size (emit_proc t.placed) ≤ max_code_bytes }
 {}

@@ -1,0 +1,56 @@
+-- What selection, tidying, routing and placement answer for a procedure is a translation of it.
+use Rattle.std.proofs.Common.{◌≡◌, ℕ, ◌+◌, ◌*◌, ◌≤◌, length, Some, ap, ◌∙◌, arith}
+use Rattle.std.specs.Prelude.{slice_get}
+use Rattle.pra_base.specs.declared.code.VProc.{VProc}
+use Rattle.pra_base.specs.Valid.{instruction_count}
+use Rattle.ob_syntax.specs.declared.checked.Checked.{Checked}
+use Rattle.ob_syntax.specs.declared.checked.CheckedProc.{CheckedProc}
+use Rattle.net_form.specs.declared.net.Net.{Net}
+use Rattle.net_form.specs.declared.routes.Routes.{Routes}
+use Rattle.pl_made.specs.Made.{IsMade}
+use Rattle.pl_place.specs.declared.placed.LProc.{LProc}
+use Rattle.pl_routed.specs.Routed.{routed}
+use Rattle.vc_proc.specs.Selected.{IsSelected, parameter_counts}
+use Rattle.vc_same.specs.SameRuns.{Preserves}
+use Rattle.vc_same.proofs.Carried.{runs_on}
+use Rattle.vc_tidy.specs.Tidy.{IsTidy}
+use Rattle.vc_typed.specs.TypedModules.{scalar_locals}
+use Rattle.pra_follow.specs.Translation.{KeepsSize, IsCodeOf, AreAdmittedIn, IsTranslation}
+
+module _ (program : Checked) (p : ℕ) (proc : CheckedProc) (selected code : VProc) (is : IsSelected program p proc selected) (kept : Preserves selected code) (tidy : IsTidy code) where
+  size_of : KeepsSize proc code
+  size_of =
+      let fewer : instruction_count code.blocks ≤ instruction_count selected.blocks = kept.instructions in
+      let most : instruction_count selected.blocks ≤ 4 * proc.nodes + scalar_locals proc + 1 = is.counts.instructions in
+      let same : length code.blocks ≡ length selected.blocks = kept.count in
+      let few : length selected.blocks ≤ 2 * proc.nodes + 2 = is.counts.blocks in
+      record { instructions = omega (arith, fewer, most); blocks = omega (arith, same, few) }
+
+  code_of : IsCodeOf program p proc code
+  code_of = record {
+    id = ap (λ i. i.0) kept.id ∙ is.id;
+    args = kept.args ∙ is.args;
+    aggregates = kept.aggregates ∙ is.aggregates;
+    valid = kept.is_valid;
+    sized = kept.is_sized;
+    pushes = kept.pushes (parameter_counts program) is.pushes;
+    size = size_of;
+    tidy = tidy;
+  }
+
+  pub made_so : (net : Net) (routes : Routes) (placed : LProc) → slice_get program.procs p ≡ Some proc → AreAdmittedIn code net routes → IsMade (routed code net routes) placed →
+      IsTranslation program p (record { made = is.made; code = code; net = net; routes = routes; placed = placed })
+  made_so net routes placed there admitted made = record {
+    proc = proc;
+    there = there;
+    embodies = is.embodies;
+    runs = runs_on is.made selected code is.same kept.runs;
+    code = code_of;
+    routes = admitted;
+    placed = made;
+  }
+
+pub translated : (program : Checked) (p : ℕ) (proc : CheckedProc) (selected code : VProc) (net : Net) (routes : Routes) (placed : LProc) → slice_get program.procs p ≡ Some proc → (is : IsSelected program p proc selected) →
+    Preserves selected code → IsTidy code → AreAdmittedIn code net routes → IsMade (routed code net routes) placed →
+    IsTranslation program p (record { made = is.made; code = code; net = net; routes = routes; placed = placed })
+translated program p proc selected code net routes placed there is kept tidy admitted made = made_so program p proc selected code is kept tidy net routes placed there admitted made

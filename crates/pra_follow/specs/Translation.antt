@@ -1,0 +1,73 @@
+-- What becomes of a procedure on its way into an image, and when that is right. Nothing here asks
+-- how routes were found: they are any admitted routes of the code's network.
+use Rattle.std.specs.Prelude.{◌≡◌, ℕ, ◌+◌, ◌*◌, ◌≤◌, List, length, slice_get, Some}
+use Rattle.pra_base.specs.declared.code.VProc.{VProc}
+use Rattle.pra_base.specs.Valid.{IsValid, IsSized, PushesBeforeCalls, TakesArgs, instruction_count}
+use Rattle.ob_syntax.specs.declared.checked.Checked.{Checked}
+use Rattle.ob_syntax.specs.declared.checked.CheckedProc.{CheckedProc}
+use Rattle.net_form.specs.declared.net.Net.{Net}
+use Rattle.net_form.specs.declared.routes.Routes.{Routes}
+use Rattle.net_form.specs.Admitted.{IsAdmitted}
+use Rattle.net_form.specs.Flow.{flow, AreRoutes}
+use Rattle.net_form.specs.Network.{IsNet}
+use Rattle.pl_made.specs.Made.{IsMade}
+use Rattle.pl_place.specs.declared.placed.LProc.{LProc}
+use Rattle.pl_place.specs.Behind.{Routed}
+use Rattle.pl_routed.specs.Routed.{routed}
+use Rattle.vc_proc.specs.Selected.{parameter_counts}
+use Rattle.vc_same.specs.SameRuns.{SameRuns}
+use Rattle.vc_stmt.specs.Procedures.{Embodies}
+use Rattle.vc_tidy.specs.Tidy.{IsTidy}
+use Rattle.vc_typed.specs.TypedModules.{scalar_locals}
+
+-- No more instructions and blocks than the nodes and the scalar locals of the procedure leave room
+-- for.
+pub record KeepsSize (proc : CheckedProc) (code : VProc) : Type 0 where
+  pub instructions : instruction_count code.blocks ≤ 4 * proc.nodes + scalar_locals proc + 1
+  pub blocks : length code.blocks ≤ 2 * proc.nodes + 2
+
+-- Tidy code of procedure p, valid alone and in its module, and of its size.
+pub record IsCodeOf (program : Checked) (p : ℕ) (proc : CheckedProc) (code : VProc)
+    : Type 0 where
+  pub id : code.id.0 ≡ p
+  pub args : code.args ≡ length proc.params
+  pub aggregates : code.aggregates ≡ proc.aggregate_words
+  pub valid : IsValid code
+  pub sized : IsSized code
+  pub pushes : PushesBeforeCalls (TakesArgs (parameter_counts program)) code.blocks
+  pub size : KeepsSize proc code
+  pub tidy : IsTidy code
+
+-- the network of the code, and routes that it admits
+pub record AreAdmittedIn (code : VProc) (net : Net) (routes : Routes) : Type 0 where
+  pub is_net : IsNet net code
+  pub are_routes : AreRoutes net routes
+  pub admitted : IsAdmitted net (flow net routes)
+
+-- Code as selection made it, the code that stands in its place, with its network and routes, and
+-- placed code.
+pub record Translation : Type 0 where
+  pub made : VProc
+  pub code : VProc
+  pub net : Net
+  pub routes : Routes
+  pub placed : LProc
+
+abbrev pub behind : Translation → Routed
+behind t = routed t.code t.net t.routes
+
+-- The code as it was made embodies procedure p, the code in its place does the same, and the placed
+-- code was made of that and its routes.
+pub record IsTranslation (program : Checked) (p : ℕ) (t : Translation) : Type 0 where
+  pub proc : CheckedProc
+  pub there : slice_get program.procs p ≡ Some proc
+  pub embodies : Embodies program p t.made
+  pub runs : SameRuns t.made t.code
+  pub code : IsCodeOf program p proc t.code
+  pub routes : AreAdmittedIn t.code t.net t.routes
+  pub placed : IsMade (behind t) t.placed
+
+-- of the first procedures of a module, in order
+pub record AreTranslations (program : Checked) (ts : List Translation) : Type 0 where
+  pub few : length ts ≤ length program.procs
+  pub each : (p : ℕ) (t : Translation) → slice_get ts p ≡ Some t → IsTranslation program p t
