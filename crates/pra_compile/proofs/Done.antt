@@ -1,0 +1,152 @@
+-- What was done of a module, one procedure after the other.
+use Rattle.std.proofs.Common.{◌≡◌, ℕ, zero, suc, ◌+◌, ◌<◌, List, [], ◌∷◌, ◌++◌, length, map, Some, refl, sym, ap, subst, ◌∙◌, arith}
+use Rattle.std.specs.Prelude.{slice_get}
+use Rattle.std.proofs.lemmas.List.{length-map, length_push, map-append}
+use Rattle.pra_list.proofs.Options.{some_same}
+use Rattle.pra_base.specs.declared.code.VProc.{VProc}
+use Rattle.pra_base.specs.Valid.{AreValid}
+use Rattle.ob_syntax.specs.declared.checked.Checked.{Checked}
+use Rattle.ob_syntax.specs.declared.checked.CheckedProc.{CheckedProc}
+use Rattle.ia_asm.specs.declared.assembly.Assembly.{Assembly}
+use Rattle.ia_asm.specs.Assembly.{IsAssembly, IsImageOf}
+use Rattle.ia_code.specs.declared.image.Image.{Image}
+use Rattle.net_form.specs.declared.net.Net.{Net}
+use Rattle.pl_made.specs.Made.{IsMade}
+use Rattle.pl_place.specs.Behind.{Routed, frame_of}
+use Rattle.pl_place.specs.Placed.{frame_size}
+use Rattle.pl_routed.specs.Routed.{routed}
+use Rattle.vc_proc.specs.Selected.{IsSelected}
+use Rattle.vc_same.specs.SameRuns.{Preserves}
+use Rattle.vc_tidy.specs.Tidy.{IsTidy}
+use Rattle.vc_typed.specs.TypedModules.{IsSelectable}
+use Rattle.vc_typed.proofs.Lists.{got}
+use Rattle.pra_follow.specs.Follows.{DoesAsMeant}
+use Rattle.pra_follow.specs.Translation.{Translation, IsTranslation, AreTranslations, AreAdmittedIn, IsCodeOf, behind}
+use Rattle.pra_follow.proofs.Followed.{follows_module}
+use Rattle.pra_follow.proofs.Room.{one_more}
+use Rattle.pra_follow.proofs.Sides.{mapped, same_maps}
+use Rattle.pra_follow.proofs.Translated.{translated}
+use Rattle.pra_compile.specs.declared.compiling.Step.{Step}
+use Rattle.pra_compile.specs.declared.output.ProcOut.{ProcOut}
+use Rattle.pra_compile.specs.Compiled.{IsProcOut, IsCompiled, name_of}
+use Rattle.pra_compile.specs.Steps.{IsTidied, IsKept, IsStep, AreDone}
+
+-- ---- one procedure
+
+pub there_is : {A : Type 0} (xs : List A) (k : ℕ) → k < length xs → (x : A) × (slice_get xs k ≡ Some x)
+there_is [] k lt = absurd (omega (arith, lt))
+there_is (x ∷ xs) zero lt = (x, refl)
+there_is (x ∷ xs) (suc k) lt = there_is xs k (omega (arith, lt))
+
+pub tidied : (program : Checked) (p : ℕ) (selected code : VProc) → p < length program.procs →
+    ((proc : CheckedProc) → slice_get program.procs p ≡ Some proc → IsSelected program p proc selected) → Preserves selected code → IsTidy code → IsTidied program p code
+tidied program p selected code lt is kept tidy =
+    let own = there_is program.procs p lt in
+    record {
+      proc = own.0;
+      there = own.1;
+      selected = selected;
+      is_selected = is own.0 own.1;
+      preserves = kept;
+      tidy = tidy;
+    }
+
+pub stepped : (program : Checked) (p : ℕ) (net : Net) (step : Step) → IsTidied program p step.out.code → AreAdmittedIn step.out.code net step.out.routes → IsMade (routed step.out.code net step.out.routes) step.placed →
+    step.out.name ≡ name_of program p → step.out.frame ≡ frame_size step.placed → frame_size step.placed ≡ frame_of (routed step.out.code net step.out.routes) → IsStep program p step
+stepped program p net step is routes made name frame of_flow = record {
+  translation = record { made = is.is_selected.made; code = step.out.code; net = net; routes = step.out.routes; placed = step.placed };
+  is = translated program p is.proc is.selected step.out.code net step.out.routes step.placed is.there is.is_selected is.preserves is.tidy routes made;
+  placed = refl;
+  kept = record { name = name; frame = frame; flow_frame = frame ∙ of_flow; code = refl; routes = refl };
+}
+
+-- ---- all of them
+
+pub none_done : (program : Checked) (assembly : Assembly) → IsAssembly [] program.data_words assembly → AreDone program 0 [] assembly
+none_done program assembly is = record {
+  translations = [];
+  are = record { few = omega arith; each = λ p t e. cc };
+  count = refl;
+  procs_count = refl;
+  kept = λ p t out e f. cc;
+  assembled = is;
+}
+
+module _ (program : Checked) (n : ℕ) (procs : List ProcOut) (old new : Assembly) (done : AreDone program n procs old) (step : Step) (is : IsStep program n step) where
+  abbrev ts : List Translation
+  ts = done.translations
+
+  translation_is : IsTranslation program (length ts) is.translation
+  translation_is = subst (λ k. IsTranslation program k is.translation) (sym done.count) is.is
+
+  pub more_are : AreTranslations program (ts ++ is.translation ∷ [])
+  more_are = one_more program ts is.translation done.are translation_is
+
+  pub one_done : IsAssembly (map (λ (t : Translation). t.placed) ts ++ step.placed ∷ []) program.data_words new → AreDone program (n + 1) (procs ++ step.out ∷ []) new
+  one_done assembled =
+      let long = length_push ts is.translation in
+      let many = length_push procs step.out in
+      let count = done.count in
+      let procs_count = done.procs_count in
+      record {
+        translations = ts ++ is.translation ∷ [];
+        are = more_are;
+        count = omega (arith, long, count);
+        procs_count = omega (arith, many, procs_count);
+        kept = λ p t out e f.
+            got ts is.translation t p e
+            (λ lt there.
+            got procs step.out out p f
+            (λ less here. done.kept p t out there here)
+            (λ at same. absurd (omega (arith, lt, at, count, procs_count))))
+            (λ at same.
+            got procs step.out out p f
+            (λ less here. absurd (omega (arith, less, at, count, procs_count)))
+            (λ here other. subst (λ k. IsKept program k t out) (omega (arith, at, count)) (subst (λ o. IsKept program n t o) other (subst (λ u. IsKept program n u step.out) same is.kept))));
+        assembled =
+            subst (λ l. IsAssembly l program.data_words new)
+            (ap (λ p. map (λ (t : Translation). t.placed) ts ++ p ∷ []) (sym is.placed) ∙ sym (map-append (λ (t : Translation). t.placed) ts (is.translation ∷ [])))
+            assembled;
+      }
+
+-- ---- the whole
+
+module _ (program : Checked) (selectable : IsSelectable program) (procs : List ProcOut) (assembly : Assembly) (done : AreDone program (length program.procs) procs assembly) where
+  abbrev all : List Translation
+  all = done.translations
+
+  same_frames : map (λ (t : Translation). frame_size t.placed) all ≡ map (λ (out : ProcOut). out.frame) procs
+  same_frames = same_maps (λ (t : Translation). frame_size t.placed) (λ (out : ProcOut). out.frame) all procs (done.procs_count ∙ sym done.count) (λ k t out e f. sym (done.kept k t out e f).frame)
+
+  same_codes : map (λ (t : Translation). t.code) all ≡ map (λ (out : ProcOut). out.code) procs
+  same_codes = same_maps (λ (t : Translation). t.code) (λ (out : ProcOut). out.code) all procs (done.procs_count ∙ sym done.count) (λ k t out e f. sym (done.kept k t out e f).code)
+
+  out_is : (p : ℕ) (proc : CheckedProc) (out : ProcOut) (r : Routed) → slice_get program.procs p ≡ Some proc → slice_get procs p ≡ Some out → slice_get (map behind all) p ≡ Some r → IsProcOut program p proc out r
+  out_is p proc out r e f g =
+      let x = mapped behind all p r g in
+      let is = done.are.each p x.from x.there in
+      let kept = done.kept p x.from out x.there f in
+      let code : IsCodeOf program p proc out.code = subst (λ c. IsCodeOf program p proc c) (sym kept.code) (subst (λ q. IsCodeOf program p q x.from.code) (some_same is.proc proc (sym is.there ∙ e)) is.code) in
+      record {
+        name = kept.name;
+        code = code;
+        net = x.from.net;
+        routes = subst (λ c. AreAdmittedIn c x.from.net out.routes) (sym kept.code) (subst (λ rs. AreAdmittedIn x.from.code x.from.net rs) (sym kept.routes) is.routes);
+        carried = sym x.is ∙ ap (λ c. routed c x.from.net x.from.routes) (sym kept.code) ∙ ap (λ rs. routed out.code x.from.net rs) (sym kept.routes);
+        frame = kept.flow_frame ∙ ap frame_of x.is;
+      }
+
+  pub all_compiled : (image : Image) → IsImageOf (map (λ (t : Translation). t.placed) all) program.data_words image → IsCompiled program (record { image = image; procs = procs })
+  all_compiled image is =
+      let follows = follows_module program all done.are selectable done.count image is in
+      record {
+        valid = follows.valid;
+        data_words = follows.data_words;
+        does = λ input words. subst (λ frames. DoesAsMeant program frames image input) same_frames (follows.does input words);
+        codes = subst AreValid same_codes follows.codes;
+        behind = map behind all;
+        carries = follows.carries;
+        count = done.procs_count;
+        behind_count = length-map all behind ∙ done.count ∙ sym done.procs_count;
+        each = out_is;
+      }

@@ -1,0 +1,54 @@
+-- What a module is compiled to.
+use Rattle.std.specs.Prelude.{◌≡◌, ℕ, zero, suc, ℤ, true, List, [], length, map, Option, Some, None}
+use Rattle.std.specs.Prelude.{slice_get}
+use Rattle.pra_base.specs.Valid.{AreValid}
+use Rattle.ob_syntax.specs.declared.checked.Checked.{Checked}
+use Rattle.ob_syntax.specs.declared.checked.CheckedProc.{CheckedProc}
+use Rattle.ia_code.specs.Image.{IsImage}
+use Rattle.ia_emit.specs.Carries.{Carries}
+use Rattle.net_form.specs.declared.net.Net.{Net}
+use Rattle.pl_place.specs.Behind.{Routed, frame_of}
+use Rattle.pl_routed.specs.Routed.{routed}
+use Rattle.pra_compile.specs.declared.output.Compiled.{Compiled}
+use Rattle.pra_compile.specs.declared.output.ProcOut.{ProcOut}
+use Rattle.pra_follow.specs.Follows.{DoesAsMeant}
+use Rattle.pra_follow.specs.Translation.{IsCodeOf, AreAdmittedIn}
+use Rattle.vc_stmt.specs.Completes.{are_words}
+
+abbrev pub own_name : Option CheckedProc → List ℕ
+own_name (Some proc) = proc.name
+own_name None = []
+
+-- the name that is told of a procedure: of the module's body that of the module
+abbrev pub name_of : Checked → ℕ → List ℕ
+name_of program zero = program.name
+name_of program (suc p) = own_name (slice_get program.procs (suc p))
+
+-- What is kept of procedure p, and the code and the flow that the image carries of it: tidy code
+-- within the limits, the flow of the routes in the code's network, which admits them, and the frame
+-- that both give.
+pub record IsProcOut (program : Checked) (p : ℕ) (proc : CheckedProc) (out : ProcOut) (r : Routed)
+    : Type 0 where
+  pub name : out.name ≡ name_of program p
+  pub code : IsCodeOf program p proc out.code
+  pub net : Net
+  pub routes : AreAdmittedIn out.code net out.routes
+  pub carried : r ≡ routed out.code net out.routes
+  pub frame : out.frame ≡ frame_of r
+
+-- The image is valid, has the module's data, and does on each input of words what the module means
+-- with the frames that are kept. Of each procedure in order something is kept; the codes are valid
+-- together, and the image carries them with the flows of the routes.
+pub record IsCompiled (program : Checked) (compiled : Compiled) : Type 0 where
+  pub valid : IsImage compiled.image
+  pub data_words : compiled.image.data_words ≡ program.data_words
+  pub does : (input : List ℤ) → are_words input ≡ true →
+      DoesAsMeant program (map (λ (out : ProcOut). out.frame) compiled.procs) compiled.image input
+  pub codes : AreValid (map (λ (out : ProcOut). out.code) compiled.procs)
+  pub behind : List Routed
+  pub carries : Carries compiled.image behind
+  pub count : length compiled.procs ≡ length program.procs
+  pub behind_count : length behind ≡ length compiled.procs
+  pub each : (p : ℕ) (proc : CheckedProc) (out : ProcOut) (r : Routed) →
+      slice_get program.procs p ≡ Some proc → slice_get compiled.procs p ≡ Some out →
+      slice_get behind p ≡ Some r → IsProcOut program p proc out r
