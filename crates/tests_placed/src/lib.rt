@@ -1,15 +1,21 @@
-//! Tests of `run_placed` and of `place`: small placed codes that are run, and selected code that is
-//! placed by several routes and run by both machines.
+//! Tests of `run_placed` and of `place`: placed codes that are run, and selected codes that are
+//! placed by many routes and run by both machines.
 //!
-//! `cases` has the codes that `run_tests` runs, `sample` the code, the network and the routes of
-//! `place_tests`. Nothing here is used by another crate.
+//! `cases` has the codes that `run_tests` runs. `route_tests` has rows of selected codes with routes
+//! by hand, and `sweep_tests` rows in which one instruction is tried with each choice of places
+//! that its network admits; `rows` reads them, and `placing` leads from a code to what it becomes.
+//! Nothing here is used by another crate.
 #![tactic(auto)]
 
 #[cfg(test)]
 mod cases;
 #[cfg(test)]
-mod place_tests;
+mod placing;
+#[cfg(test)]
+mod route_tests;
+#[cfg(test)]
+mod rows;
 #[cfg(test)]
 mod run_tests;
 #[cfg(test)]
-mod sample;
+mod sweep_tests;

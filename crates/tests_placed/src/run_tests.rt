@@ -3,11 +3,10 @@
 use crate::cases::{CASES, Case, Procedure};
 use pl_place::LProc;
 use pl_run::run_placed;
-use pl_sketch::{block, print, procedure};
-use pra_base::{OutEvent, OutOfMemory};
+use pl_sketch::{block, print, print_outcome, procedure};
+use pra_base::OutOfMemory;
 use std::alloc::Global;
 use std::process::Abort;
-use vc_code::{Ending, Outcome};
 
 const STEPS: u32 = 1000;
 
@@ -29,25 +28,6 @@ fn module(alloc: Global, case: &Case) -> Result<Vec<LProc>, OutOfMemory> {
     Ok(procs)
 }
 
-pub fn printed(alloc: Global, outcome: &Outcome) -> Result<String, OutOfMemory> {
-    let mut text = String::new(alloc);
-    for event in outcome.events.as_slice() {
-        match event {
-            OutEvent::Number(n) => text.push_str(&format!(in alloc; " {n}")?)?,
-            OutEvent::Line => text.push_str("/")?,
-        }
-    }
-    match outcome.ending {
-        Some(Ending::Ended) => text.push_str(" ended")?,
-        Some(Ending::Trap(kind)) => text.push_str(&format!(in alloc; " trap {kind:?}")?)?,
-        Some(Ending::Stuck) => text.push_str(" stuck")?,
-        None => text.push_str(" going")?,
-    }
-    let taken = outcome.taken;
-    text.push_str(&format!(in alloc; " {taken}")?)?;
-    Ok(text)
-}
-
 // The code as text, for a failure.
 fn code_of(alloc: Global, procs: &[LProc]) -> Result<String, OutOfMemory> {
     let mut text = String::new(alloc);
@@ -63,7 +43,7 @@ fn check(rt: &impl Abort, alloc: Global, case: &Case) -> Result<(), OutOfMemory>
     let outcome = run_placed(alloc, &procs, 0, case.input, STEPS)?;
     let code = code_of(alloc, &procs)?;
     assert_eq!(rt;
-        printed(alloc, &outcome)?.as_str(),
+        print_outcome(alloc, &outcome)?.as_str(),
         case.expected,
         "{name}\n{code}"
     );
