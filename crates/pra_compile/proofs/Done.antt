@@ -17,6 +17,7 @@ use Rattle.pl_place.specs.Placed.{frame_size}
 use Rattle.pl_routed.specs.Routed.{routed}
 use Rattle.vc_proc.specs.Selected.{IsSelected}
 use Rattle.vc_same.specs.SameRuns.{Preserves}
+use Rattle.vc_tidy.specs.KindCounts.{KeepsKinds}
 use Rattle.vc_tidy.specs.Tidy.{IsTidy}
 use Rattle.vc_typed.specs.TypedModules.{IsSelectable}
 use Rattle.vc_typed.proofs.Lists.{got}
@@ -39,8 +40,8 @@ there_is (x ∷ xs) zero lt = (x, refl)
 there_is (x ∷ xs) (suc k) lt = there_is xs k (omega (arith, lt))
 
 pub tidied : (program : Checked) (p : ℕ) (selected code : VProc) → p < length program.procs →
-    ((proc : CheckedProc) → slice_get program.procs p ≡ Some proc → IsSelected program p proc selected) → Preserves selected code → IsTidy code → IsTidied program p code
-tidied program p selected code lt is kept tidy =
+    ((proc : CheckedProc) → slice_get program.procs p ≡ Some proc → IsSelected program p proc selected) → Preserves selected code → KeepsKinds selected code → IsTidy code → IsTidied program p code
+tidied program p selected code lt is kept kinds tidy =
     let own = there_is program.procs p lt in
     record {
       proc = own.0;
@@ -48,6 +49,7 @@ tidied program p selected code lt is kept tidy =
       selected = selected;
       is_selected = is own.0 own.1;
       preserves = kept;
+      kinds = kinds;
       tidy = tidy;
     }
 
@@ -55,7 +57,7 @@ pub stepped : (program : Checked) (p : ℕ) (net : Net) (step : Step) → IsTidi
     step.out.name ≡ name_of program p → step.out.frame ≡ frame_size step.placed → frame_size step.placed ≡ frame_of (routed step.out.code net step.out.routes) → IsStep program p step
 stepped program p net step is routes made name frame of_flow = record {
   translation = record { made = is.is_selected.made; code = step.out.code; net = net; routes = step.out.routes; placed = step.placed };
-  is = translated program p is.proc is.selected step.out.code net step.out.routes step.placed is.there is.is_selected is.preserves is.tidy routes made;
+  is = translated program p is.proc is.selected step.out.code net step.out.routes step.placed is.there is.is_selected is.preserves is.kinds is.tidy routes made;
   placed = refl;
   kept = record { name = name; frame = frame; flow_frame = frame ∙ of_flow; code = refl; routes = refl };
 }

@@ -14,6 +14,7 @@ use Rattle.pra_follow.specs.Translation.{Translation, IsTranslation, AreTranslat
 use Rattle.pra_follow.specs.Translation.{behind}
 use Rattle.vc_proc.specs.Selected.{IsSelected}
 use Rattle.vc_same.specs.SameRuns.{Preserves}
+use Rattle.vc_tidy.specs.KindCounts.{KeepsKinds}
 use Rattle.vc_tidy.specs.Tidy.{IsTidy}
 
 -- tidy code that may stand in the place of what selection answers for procedure p
@@ -23,6 +24,7 @@ pub record IsTidied (program : Checked) (p : ℕ) (code : VProc) : Type 0 where
   pub selected : VProc
   pub is_selected : IsSelected program p proc selected
   pub preserves : Preserves selected code
+  pub kinds : KeepsKinds selected code
   pub tidy : IsTidy code
 
 -- what is kept of procedure p is that of its translation

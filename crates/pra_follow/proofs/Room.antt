@@ -64,7 +64,7 @@ module _ (program : Checked) (limited : IsLimited program) (short : IsShort prog
       let x = mapped (λ (t : Translation). t.placed) ts k p f in
       let is = are.each k x.from x.there in
       let same = same_instructions (behind x.from) x.from.placed (behind_of (behind x.from) x.from.placed is.placed) in
-      let most : count_of x.from.code.blocks ≤ most_instructions is.proc = is.code.size.instructions in
+      let most : count_of x.from.code.blocks ≤ most_instructions is.proc = is.code.counts.instructions in
       let here : instruction_count x.from.placed ≤ most_instructions is.proc = omega (arith, same, most) in
       subst (λ q. instruction_count q ≤ most_instructions proc) x.is
       (subst (λ q. instruction_count x.from.placed ≤ most_instructions q) (some_same is.proc proc (sym is.there ∙ e)) here)
@@ -74,7 +74,7 @@ module _ (program : Checked) (limited : IsLimited program) (short : IsShort prog
       let x = mapped (λ (t : Translation). t.placed) ts k p f in
       let is = are.each k x.from x.there in
       let same : length x.from.placed.blocks ≡ length x.from.code.blocks = is.placed.count in
-      let most : length x.from.code.blocks ≤ most_blocks is.proc = is.code.size.blocks in
+      let most : length x.from.code.blocks ≤ most_blocks is.proc = is.code.counts.blocks in
       let here : length x.from.placed.blocks ≤ most_blocks is.proc = omega (arith, same, most) in
       subst (λ (q : LProc). length q.blocks ≤ most_blocks proc) x.is
       (subst (λ q. length x.from.placed.blocks ≤ most_blocks q) (some_same is.proc proc (sym is.there ∙ e)) here)

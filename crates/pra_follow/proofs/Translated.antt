@@ -1,6 +1,7 @@
 -- What selection, tidying, routing and placement answer for a procedure is a translation of it.
 use Rattle.std.proofs.Common.{◌≡◌, ℕ, ◌+◌, ◌*◌, ◌≤◌, length, Some, ap, ◌∙◌, arith}
-use Rattle.std.specs.Prelude.{slice_get}
+use Rattle.std.specs.Prelude.{slice_get, count_by}
+use Rattle.pra_base.specs.Code.{is_plain}
 use Rattle.pra_base.specs.declared.code.VProc.{VProc}
 use Rattle.pra_base.specs.Valid.{instruction_count}
 use Rattle.ob_syntax.specs.declared.checked.Checked.{Checked}
@@ -10,21 +11,32 @@ use Rattle.net_form.specs.declared.routes.Routes.{Routes}
 use Rattle.pl_made.specs.Made.{IsMade}
 use Rattle.pl_place.specs.declared.placed.LProc.{LProc}
 use Rattle.pl_routed.specs.Routed.{routed}
-use Rattle.vc_proc.specs.Selected.{IsSelected, parameter_counts}
+use Rattle.vc_expr.specs.Readable.{is_constant}
+use Rattle.vc_proc.specs.Selected.{IsSelected, KeepsCounts, parameter_counts}
 use Rattle.vc_same.specs.SameRuns.{Preserves}
 use Rattle.vc_same.proofs.Carried.{runs_on}
+use Rattle.vc_tidy.specs.KindCounts.{KeepsKinds}
 use Rattle.vc_tidy.specs.Tidy.{IsTidy}
 use Rattle.vc_typed.specs.TypedModules.{scalar_locals}
-use Rattle.pra_follow.specs.Translation.{KeepsSize, IsCodeOf, AreAdmittedIn, IsTranslation}
+use Rattle.pra_follow.specs.Translation.{IsCodeOf, AreAdmittedIn, IsTranslation}
 
-module _ (program : Checked) (p : ℕ) (proc : CheckedProc) (selected code : VProc) (is : IsSelected program p proc selected) (kept : Preserves selected code) (tidy : IsTidy code) where
-  size_of : KeepsSize proc code
-  size_of =
+module _ (program : Checked) (p : ℕ) (proc : CheckedProc) (selected code : VProc) (is : IsSelected program p proc selected) (kept : Preserves selected code) (kinds : KeepsKinds selected code) (tidy : IsTidy code) where
+  counts_of : KeepsCounts proc code
+  counts_of =
       let fewer : instruction_count code.blocks ≤ instruction_count selected.blocks = kept.instructions in
       let most : instruction_count selected.blocks ≤ 4 * proc.nodes + scalar_locals proc + 1 = is.counts.instructions in
       let same : length code.blocks ≡ length selected.blocks = kept.count in
       let few : length selected.blocks ≤ 2 * proc.nodes + 2 = is.counts.blocks in
-      record { instructions = omega (arith, fewer, most); blocks = omega (arith, same, few) }
+      let plain = kinds.counts is_plain in
+      let locals : count_by is_plain selected.vars ≤ 3 * proc.nodes + scalar_locals proc = is.counts.locals in
+      let constant = kinds.counts is_constant in
+      let constants : count_by is_constant selected.vars ≤ 4 * proc.nodes = is.counts.constants in
+      record {
+        instructions = omega (arith, fewer, most);
+        blocks = omega (arith, same, few);
+        locals = omega (arith, plain, locals);
+        constants = omega (arith, constant, constants);
+      }
 
   code_of : IsCodeOf program p proc code
   code_of = record {
@@ -34,7 +46,7 @@ module _ (program : Checked) (p : ℕ) (proc : CheckedProc) (selected code : VPr
     valid = kept.is_valid;
     sized = kept.is_sized;
     pushes = kept.pushes (parameter_counts program) is.pushes;
-    size = size_of;
+    counts = counts_of;
     tidy = tidy;
   }
 
@@ -51,6 +63,6 @@ module _ (program : Checked) (p : ℕ) (proc : CheckedProc) (selected code : VPr
   }
 
 pub translated : (program : Checked) (p : ℕ) (proc : CheckedProc) (selected code : VProc) (net : Net) (routes : Routes) (placed : LProc) → slice_get program.procs p ≡ Some proc → (is : IsSelected program p proc selected) →
-    Preserves selected code → IsTidy code → AreAdmittedIn code net routes → IsMade (routed code net routes) placed →
+    Preserves selected code → KeepsKinds selected code → IsTidy code → AreAdmittedIn code net routes → IsMade (routed code net routes) placed →
     IsTranslation program p (record { made = is.made; code = code; net = net; routes = routes; placed = placed })
-translated program p proc selected code net routes placed there is kept tidy admitted made = made_so program p proc selected code is kept tidy net routes placed there admitted made
+translated program p proc selected code net routes placed there is kept kinds tidy admitted made = made_so program p proc selected code is kept kinds tidy net routes placed there admitted made

@@ -1,8 +1,8 @@
 -- What becomes of a procedure on its way into an image, and when that is right. Nothing here asks
 -- how routes were found: they are any admitted routes of the code's network.
-use Rattle.std.specs.Prelude.{◌≡◌, ℕ, ◌+◌, ◌*◌, ◌≤◌, List, length, slice_get, Some}
+use Rattle.std.specs.Prelude.{◌≡◌, ℕ, ◌≤◌, List, length, slice_get, Some}
 use Rattle.pra_base.specs.declared.code.VProc.{VProc}
-use Rattle.pra_base.specs.Valid.{IsValid, IsSized, PushesBeforeCalls, TakesArgs, instruction_count}
+use Rattle.pra_base.specs.Valid.{IsValid, IsSized, PushesBeforeCalls, TakesArgs}
 use Rattle.ob_syntax.specs.declared.checked.Checked.{Checked}
 use Rattle.ob_syntax.specs.declared.checked.CheckedProc.{CheckedProc}
 use Rattle.net_form.specs.declared.net.Net.{Net}
@@ -14,19 +14,12 @@ use Rattle.pl_made.specs.Made.{IsMade}
 use Rattle.pl_place.specs.declared.placed.LProc.{LProc}
 use Rattle.pl_place.specs.Behind.{Routed}
 use Rattle.pl_routed.specs.Routed.{routed}
-use Rattle.vc_proc.specs.Selected.{parameter_counts}
+use Rattle.vc_proc.specs.Selected.{KeepsCounts, parameter_counts}
 use Rattle.vc_same.specs.SameRuns.{SameRuns}
 use Rattle.vc_stmt.specs.Procedures.{Embodies}
 use Rattle.vc_tidy.specs.Tidy.{IsTidy}
-use Rattle.vc_typed.specs.TypedModules.{scalar_locals}
 
--- No more instructions and blocks than the nodes and the scalar locals of the procedure leave room
--- for.
-pub record KeepsSize (proc : CheckedProc) (code : VProc) : Type 0 where
-  pub instructions : instruction_count code.blocks ≤ 4 * proc.nodes + scalar_locals proc + 1
-  pub blocks : length code.blocks ≤ 2 * proc.nodes + 2
-
--- Tidy code of procedure p, valid alone and in its module, and of its size.
+-- Tidy code of procedure p, valid alone and in its module, with the counts that selection keeps.
 pub record IsCodeOf (program : Checked) (p : ℕ) (proc : CheckedProc) (code : VProc)
     : Type 0 where
   pub id : code.id.0 ≡ p
@@ -35,7 +28,7 @@ pub record IsCodeOf (program : Checked) (p : ℕ) (proc : CheckedProc) (code : V
   pub valid : IsValid code
   pub sized : IsSized code
   pub pushes : PushesBeforeCalls (TakesArgs (parameter_counts program)) code.blocks
-  pub size : KeepsSize proc code
+  pub counts : KeepsCounts proc code
   pub tidy : IsTidy code
 
 -- the network of the code, and routes that it admits

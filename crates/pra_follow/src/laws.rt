@@ -25,6 +25,7 @@ ghost use Rattle.pra_follow.specs.Translation.{Translation, IsTranslation, AreTr
 ghost use Rattle.pra_follow.specs.Translation.{AreAdmittedIn};
 ghost use Rattle.vc_proc.specs.Selected.{IsSelected};
 ghost use Rattle.vc_same.specs.SameRuns.{Preserves};
+ghost use Rattle.vc_tidy.specs.KindCounts.{KeepsKinds};
 ghost use Rattle.vc_tidy.specs.Tidy.{IsTidy};
 ghost use Rattle.vc_typed.specs.TypedModules.{scalar_locals, IsLimited, IsSelectable};
 
@@ -44,8 +45,8 @@ pub fn selected_code_is_translated()
     ensures { (program : Checked) (p : ℕ) (proc : CheckedProc) (selected code : VProc)
         (net : Net) (routes : Routes) (placed : LProc) →
         slice_get program.procs p ≡ Some proc → (is : IsSelected program p proc selected) →
-        Preserves selected code → IsTidy code → AreAdmittedIn code net routes →
-        IsMade (routed code net routes) placed →
+        Preserves selected code → KeepsKinds selected code → IsTidy code →
+        AreAdmittedIn code net routes → IsMade (routed code net routes) placed →
         IsTranslation program p (record {
           made = is.made;
           code = code;

@@ -1,5 +1,6 @@
 pub mod Grouped
 pub mod Joining
+pub mod KeptKinds
 pub mod Marking
 pub mod Meeting
 pub mod Noted

@@ -1,9 +1,11 @@
 -- Variables that are kept and their numbers.
 use Rattle.std.proofs.Common.{◌≡◌, ◌≢◌, ℕ, suc, ◌+◌, ◌<◌, ◌≤◌, ◌⊎◌, inl, inr, ⊎_elim, Bool, true, false, ◌||◌, List, [], ◌∷◌, ◌++◌, take, length, get_or, slice_get, slice_index_or, Some, refl, sym, ap, subst, ◌∙◌, arith}
+use Rattle.std.specs.Prelude.{count_by, cond}
 use Rattle.std.specs.List.{list_any}
 use Rattle.std.proofs.lemmas.Bool.{cases_eq, cases_lt}
-use Rattle.std.proofs.lemmas.List.{get_or_append_left, take_all, length-append}
+use Rattle.std.proofs.lemmas.List.{get_or_append_left, take_all, take_more, length-append}
 use Rattle.std.proofs.lemmas.List.Folds.{list_any-append, list_any_more}
+use Rattle.std.proofs.lemmas.List.Sums.{sum_by-append}
 use Rattle.std.proofs.lemmas.Option.{slice_get-get_or, slice_get_within}
 use Rattle.std.proofs.Math.Seq.{get_or-append_seam}
 use Rattle.pra_list.proofs.Options.{some_same}
@@ -18,6 +20,7 @@ use Rattle.vc_code.specs.Machine.{is_param}
 use Rattle.vc_same.specs.Reduction.{Needed, IsNamed, ParamsApart}
 use Rattle.vc_same.specs.SameRuns.{Preserves}
 use Rattle.vc_same.proofs.Kept.{reads_here}
+use Rattle.vc_tidy.specs.KindCounts.{KeepsKinds}
 use Rattle.vc_tidy.specs.Tidy.{NoUnused}
 use Rattle.vc_tidy.specs.Thinned.{is_marked, IsIn}
 use Rattle.vc_tidy.specs.Joined.{name, joined_code}
@@ -53,12 +56,16 @@ none_numbered code marks names vars no_names no_vars = record {
   rising = λ v w lt less kept. absurd (omega (arith, less));
   from = λ j lt. let e = ap length no_vars in absurd (omega (arith, e, lt));
   homes = λ i. ap (λ (ks : List VarKind). list_any (is_param i) ks) no_vars ∙ sym (ap (λ (ks : List VarKind). list_any (is_param i) ks) (take_none code.vars));
+  counts = λ kind. let e = ap (λ (ks : List VarKind). count_by kind ks) no_vars in omega (arith, e);
   all = λ e v lt. absurd (omega (arith, lt));
 }
   where
     take_none : (ks : List VarKind) → take 0 ks ≡ []
     take_none [] = refl
     take_none (k ∷ ks) = refl
+
+counted : (kind : VarKind → Bool) (ks more : List VarKind) → count_by kind (ks ++ more) ≡ count_by kind ks + count_by kind more
+counted kind ks more = sum_by-append (λ k. cond (kind k) 1 0) ks more
 
 not_argument : (i : ℕ) (k : VarKind) → is_argument k ≡ false → is_param i k ≡ false
 not_argument i (Param j) e = cc
@@ -88,6 +95,9 @@ module _ (code : VProc) (marks : List Bool) (names : List ℕ) (vars : List VarK
       by (inl l) = let one = old_name v (omega (arith, lt, l)) in let two = old_name w l in let up = are.rising v w lt l kept in omega (arith, one, two, up)
       by (inr e) = let l : v < n = omega (arith, lt, e) in let one = old_name v l in let two = last_name w e in let up = (are.kinds v l kept).0 in omega (arith, one, two, up)
 
+  counted_next : (kind : VarKind → Bool) → count_by kind (take (n + 1) code.vars) ≡ count_by kind (take n code.vars) + count_by kind (kind_of code n ∷ [])
+  counted_next kind = ap (λ (ks : List VarKind). count_by kind ks) (take_more code.vars n Plain inside) ∙ counted kind (take n code.vars) (kind_of code n ∷ [])
+
   -- the variable is left out
   pub one_left_out : is_kept code marks n ≡ false → AreNumbers code marks more vars (n + 1)
   one_left_out out = record {
@@ -103,6 +113,7 @@ module _ (code : VProc) (marks : List Bool) (names : List ℕ) (vars : List VarK
     homes = λ i. are.homes i
         ∙ sym (or_same (list_any (is_param i) (take n code.vars)) (is_param i (kind_of code n)) (not_argument i (kind_of code n) (or_none (is_marked marks n) (is_argument (kind_of code n)) out)))
         ∙ sym (list_any_more (is_param i) code.vars n Plain inside);
+    counts = λ kind. let few = are.counts kind in let next = counted_next kind in omega (arith, few, next);
     all = λ e v lt. let few = are.fewer in absurd (omega (arith, few, e));
   }
 
@@ -141,6 +152,7 @@ module _ (code : VProc) (marks : List Bool) (names : List ℕ) (vars : List VarK
     homes = λ i. list_any-append (is_param i) vars (kind_of code n ∷ []) ∙ ap (λ (b : Bool). b || list_any (is_param i) (kind_of code n ∷ [])) (are.homes i)
         ∙ ap (λ (b : Bool). list_any (is_param i) (take n code.vars) || b) (alone (is_param i (kind_of code n)))
         ∙ sym (list_any_more (is_param i) code.vars n Plain inside);
+    counts = λ kind. let few = are.counts kind in let next = counted_next kind in let more = counted kind vars (kind_of code n ∷ []) in omega (arith, few, next, more);
     all = λ e v lt.
         ⊎_elim
         (λ (l : v < n). let long = one_longer in are.all (omega (arith, long, e)) v l)
@@ -227,6 +239,14 @@ module _ (code : VProc) (marks : List Bool) (names : List ℕ) (vars : List VarK
 
   pub numbered_preserves : Preserves code (joined_code names vars code)
   numbered_preserves = joined_preserves code names vars joins params valid_ sized
+
+  pub numbered_kinds : KeepsKinds code (joined_code names vars code)
+  numbered_kinds = record {
+    counts = λ kind.
+        let few = are.counts kind in
+        let all = ap (λ (ks : List VarKind). count_by kind ks) (take_all (length code.vars) code.vars (omega arith)) in
+        omega (arith, few, all);
+  }
 
   pub all_used : length vars ≡ length code.vars → NoUnused code
   all_used e v lt = by (or_cases (is_marked marks v) (is_argument (kind_of code v)) (are.all e v lt))

@@ -18,6 +18,7 @@ use Rattle.vc_code.specs.declared.row.OperandRow.{OperandRow}
 use Rattle.vc_live.specs.declared.liveness.Liveness.{Liveness}
 use Rattle.vc_live.specs.Equations.{named_in}
 use Rattle.vc_live.specs.Rows.{live_at, IsLiveness}
+use Rattle.vc_tidy.specs.KindCounts.{KeepsKinds}
 use Rattle.vc_tidy.specs.Tidy.{is_between, CanBeOne, NoCopy}
 use Rattle.vc_tidy.specs.declared.places.Place.{Place}
 use Rattle.vc_tidy.specs.declared.classes.Classes.{Classes}
@@ -162,5 +163,6 @@ pub record IsFound (code : VProc) (names : List ℕ) : Type 0 where
 -- code in which copies were joined, and that is shorter, or nothing where none can be
 abbrev pub IsJoined : VProc → Option VProc → Type 0
 IsJoined old (Some new) =
-    Preserves old new × (instruction_count new.blocks < instruction_count old.blocks)
+    Preserves old new × KeepsKinds old new
+    × (instruction_count new.blocks < instruction_count old.blocks)
 IsJoined old None = NoCopy old

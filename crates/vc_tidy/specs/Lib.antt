@@ -1,4 +1,5 @@
 pub mod Joined
+pub mod KindCounts
 pub mod Places
 pub mod Steps
 pub mod Thinned

@@ -8,6 +8,7 @@ use Rattle.pra_base.specs.Operands.{reads, writes}
 use Rattle.pra_base.specs.Valid.{Names, instruction_count}
 use Rattle.pra_base.specs.declared.code.VProc.{VProc}
 use Rattle.vc_same.specs.SameRuns.{Preserves}
+use Rattle.vc_tidy.specs.KindCounts.{KeepsKinds}
 use Rattle.vc_tidy.specs.Tidy.{NoDead}
 use Rattle.vc_live.specs.declared.liveness.Liveness.{Liveness}
 use Rattle.vc_live.specs.Rows.{live_at}
@@ -64,5 +65,6 @@ pub record ThinsAll (l : Liveness) (olds news : List Block) (n : ℕ) : Type 0 w
 -- what is left of code without its dead instructions, or nothing where nothing is dead
 abbrev pub IsThinned : VProc → Option VProc → Type 0
 IsThinned old (Some new) =
-    Preserves old new × (instruction_count new.blocks < instruction_count old.blocks)
+    Preserves old new × KeepsKinds old new
+    × (instruction_count new.blocks < instruction_count old.blocks)
 IsThinned old None = NoDead old

@@ -1,6 +1,6 @@
 -- Variables that no instruction has, and the numbers of the others.
 use Rattle.std.specs.Prelude.{◌≡◌, ℕ, ◌<◌, ◌≤◌, ◌||◌, Bool, true, false, List, length, take}
-use Rattle.std.specs.Prelude.{slice_index_or, Option, Some, None}
+use Rattle.std.specs.Prelude.{count_by, slice_index_or, Option, Some, None}
 use Rattle.std.specs.List.{list_any}
 use Rattle.pra_base.specs.declared.code.VarKind.{VarKind}
 use Rattle.pra_base.specs.declared.code.VarKind.TheVariants.{Param, Plain}
@@ -10,6 +10,7 @@ use Rattle.vc_code.specs.Machine.{is_param}
 use Rattle.vc_same.specs.Reduction.{IsNamed}
 use Rattle.vc_same.specs.SameRuns.{Preserves}
 use Rattle.vc_tidy.specs.Joined.{name}
+use Rattle.vc_tidy.specs.KindCounts.{KeepsKinds}
 use Rattle.vc_tidy.specs.Thinned.{is_marked}
 use Rattle.vc_tidy.specs.Tidy.{NoUnused}
 
@@ -38,9 +39,11 @@ pub record AreNumbers (code : VProc) (marks : List Bool) (names : List ℕ) (var
   pub from : (j : ℕ) → j < length vars →
       (v : ℕ) × (v < n) × (is_kept code marks v ≡ true) × (name names v ≡ j)
   pub homes : (i : ℕ) → list_any (is_param i) vars ≡ list_any (is_param i) (take n code.vars)
+  pub counts : (kind : VarKind → Bool) → count_by kind vars ≤ count_by kind (take n code.vars)
   pub all : length vars ≡ n → (v : ℕ) → v < n → is_kept code marks v ≡ true
 
 -- code with fewer variables, or nothing where all are used
 abbrev pub IsPacked : VProc → Option VProc → Type 0
-IsPacked old (Some new) = Preserves old new × (length new.vars < length old.vars)
+IsPacked old (Some new) =
+    Preserves old new × KeepsKinds old new × (length new.vars < length old.vars)
 IsPacked old None = NoUnused old

@@ -2,7 +2,7 @@
 //!
 //! `tidy` gives tidy code (`specs/Tidy`, `IsTidy`) that may stand in the place of the code
 //! (`Preserves` of vc_same): it is valid and sized, no larger, and does the same in every run that
-//! is never stuck. Tidy code has
+//! is never stuck. It has no more variables of any kind (`KeepsKinds`). Tidy code has
 //!
 //! - no pure instruction all of whose results are dead;
 //! - no copy between two Plain variables that can be one: their live ranges do not interfere, and

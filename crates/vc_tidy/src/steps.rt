@@ -3,6 +3,7 @@
 ghost use Rattle.std.specs.Prelude.{◌≡◌, IfOk, IfErr};
 ghost use Rattle.pra_base.specs.Valid.{IsSized, IsValid};
 ghost use Rattle.vc_same.specs.SameRuns.{Preserves};
+ghost use Rattle.vc_tidy.specs.KindCounts.{KeepsKinds};
 ghost use Rattle.vc_tidy.specs.Tidy.{IsTidy};
 ghost use Rattle.vc_tidy.specs.Steps.{BecomesTidy, IsStep};
 
@@ -58,6 +59,7 @@ pub fn tidy(alloc: Global, code: VProc) -> Result<VProc, VProc>
     requires valid { IsValid code }
     requires sized { IsSized code }
     ensures preserves { IfOk result (λ new. Preserves code new) }
+    ensures kinds { IfOk result (λ new. KeepsKinds code new) }
     ensures tidy { IfOk result (λ new. IsTidy new) }
     ensures unchanged { IfErr result (λ old. old ≡ code) }
 {

@@ -3,6 +3,8 @@ use Rattle.pra_base.specs.declared.code.Block.{Block}
 use Rattle.pra_base.specs.declared.code.VProc.{VProc}
 use Rattle.pra_base.specs.Valid.{instruction_count, most_instructions}
 use Rattle.vc_same.specs.SameRuns.{Preserves}
+use Rattle.vc_tidy.specs.KindCounts.{KeepsKinds}
+use Rattle.vc_tidy.proofs.KeptKinds.{same_kinds}
 use Rattle.vc_tidy.proofs.Thin.{thin_count, thin_same, thin_preserves}
 use Rattle.vc_tidy.proofs.dead.thin.Goals as goal
 
@@ -28,5 +30,5 @@ returns c =
     let other : instruction_count news ≢ instruction_count code.blocks = λ same. c.if-total.false (c.total.ensures ∙ ap (λ (bs : List Block). instruction_count bs) c.as_slice.ensures.value ∙ same ∙ sym (ap (λ (bs : List Block). instruction_count bs) c.as_slice-2.ensures) ∙ sym c.total-2.ensures) in
     let less : instruction_count news < instruction_count code.blocks = omega (arith, fewer, other) in
     let new : VProc = record code { blocks = news } in
-    subst (λ (n : VProc). Preserves code n × (instruction_count n.blocks < instruction_count code.blocks)) (sym c.in_ok-new.ensures)
-    (thin_preserves code c.args.liveness.now c.requires.is_valid c.requires.is_sized c.requires.exact new refl refl refl refl c.in_ok-blocks.ensures, less)
+    subst (λ (n : VProc). Preserves code n × KeepsKinds code n × (instruction_count n.blocks < instruction_count code.blocks)) (sym c.in_ok-new.ensures)
+    (thin_preserves code c.args.liveness.now c.requires.is_valid c.requires.is_sized c.requires.exact new refl refl refl refl c.in_ok-blocks.ensures, same_kinds code new refl, less)

@@ -3,8 +3,9 @@ use Rattle.pra_base.specs.declared.code.VarKind.{VarKind}
 use Rattle.pra_base.specs.declared.code.VProc.{VProc}
 use Rattle.vc_same.specs.SameRuns.{Preserves}
 use Rattle.vc_tidy.specs.Joined.{joined_code}
+use Rattle.vc_tidy.specs.KindCounts.{KeepsKinds}
 use Rattle.vc_tidy.specs.Unused.{AreNumbers}
-use Rattle.vc_tidy.proofs.Numbered.{numbered_preserves, all_used}
+use Rattle.vc_tidy.proofs.Numbered.{numbered_preserves, numbered_kinds, all_used}
 use Rattle.vc_tidy.proofs.unused.pack.Goals as goal
 
 pub returns-then-len : goal.returns-then-len
@@ -23,6 +24,9 @@ returns c =
     let few : length vars ≤ length code.vars = numbers.fewer in
     let other : length vars ≢ length code.vars = λ e. c.if-len.false (omega (arith, e, c.len.ensures, c.len-2.ensures)) in
     let less : length vars < length code.vars = omega (arith, few, other) in
-    subst (λ (n : VProc). Preserves code n × (length n.vars < length code.vars))
-    (sym (c.in_ok-new.ensures ∙ ap₂ (λ (ns : List ℕ) (vs : List VarKind). joined_code ns vs code) c.as_slice-2.ensures.value c.from_vec.ensures))
-    (numbered_preserves code c.in_ok-marks.marks.items names vars c.requires.sized c.requires.valid c.in_ok-marks.ensures numbers, less)
+    subst (λ (n : VProc). Preserves code n × KeepsKinds code n × (length n.vars < length code.vars))
+    (sym (c.in_ok-new.ensures ∙ ap₂ (λ (ns : List ℕ) (vs : List VarKind). joined_code ns vs code) c.as_slice-2.ensures.value c.from_vec.ensures)) (
+      numbered_preserves code c.in_ok-marks.marks.items names vars c.requires.sized c.requires.valid c.in_ok-marks.ensures numbers,
+      numbered_kinds code c.in_ok-marks.marks.items names vars c.requires.sized c.requires.valid c.in_ok-marks.ensures numbers,
+      less,
+    )
