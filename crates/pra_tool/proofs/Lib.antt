@@ -1,5 +1,8 @@
-mod Numbers
 mod Files
 mod WriteEnds
 mod ModeAnswers
-mod RunMode
+mod InputWords
+mod Sources
+mod BothModes
+mod WordsEnds
+mod CompiledEnds

@@ -1,5 +1,5 @@
 -- The ends of writing a report.
-use Rattle.std.proofs.Common.{◌≡◌, ◌≢◌, ◌⊎◌, inl, inr, refl, sym, subst, List, codes}
+use Rattle.std.proofs.Common.{◌≡◌, inl, inr, refl, sym, subst, List, codes}
 use Rattle.std.specs.Io.KnownBytes.{Keeps}
 use Rattle.pra_io.specs.declared.files.FileFault.{FileFault}
 use Rattle.pra_io.specs.declared.files.FileFault.TheVariants.{Failed, TooLong, OutOfMemory}

@@ -1,83 +1,148 @@
 -- What the call that does all promises.
-use Rattle.std.specs.Prelude.{◌≡◌, ◌≢◌, ℕ, ℤ, List, [], ◌∷◌, Some, Result, Ok, Err}
-use Rattle.pra_base.specs.Agreement.{Agree}
-use Rattle.pra_base.specs.RunEnd.{Wrong}
+use Rattle.std.specs.Prelude.{◌≡◌, ◌⊎◌, ℕ, ℤ, Bool, true, false, List, [], ◌∷◌, ◌++◌, length}
+use Rattle.std.specs.Prelude.{Result, Ok, Err}
 use Rattle.ia_code.specs.declared.image.Image.{Image}
-use Rattle.ia_code.specs.Image.{IsImage, image_bytes_of}
+use Rattle.ia_code.specs.Image.{image_bytes_of}
 use Rattle.ia_step.specs.declared.out.RunOut.{RunOut}
-use Rattle.ia_step.specs.Run.{machine_run, progress}
-use Rattle.pra_small.specs.declared.fault.CompileFault.{CompileFault}
-use Rattle.pra_small.specs.declared.fault.CompileFault.TheVariants as compile
-use Rattle.pra_small.specs.Source.{IsRefused}
-use Rattle.pra_tool.specs.declared.status.Status.{Status}
-use Rattle.pra_tool.specs.declared.status.Status.TheVariants.{BadSource, OverLimit, BadWords}
-use Rattle.pra_tool.specs.declared.status.Status.TheVariants.{NoMemory}
-use Rattle.pra_tool.specs.declared.words.WordsFault.{WordsFault}
-use Rattle.pra_tool.specs.Language.{Program, IsAccepted, meaning}
-use Rattle.pra_tool.specs.Status.{IsStatusOf}
-use Rattle.pra_tool.specs.Words.{Asked}
+use Rattle.ia_step.specs.Run.{machine_run}
+use Rattle.ob_read.specs.declared.fault.ReadFault.{ReadFault}
+use Rattle.ob_read.specs.declared.fault.ReadFault.TheVariants as read
+use Rattle.ob_read.specs.Source.{ReadText, IsRead, IsUnreadable}
+use Rattle.pra_compile.specs.declared.output.Compiled.{Compiled}
 use Rattle.pra_report.specs.Texts.{output_text}
-use Rattle.pra_tool.specs.Texts.{ending_line, fault_line, words_lines}
+use Rattle.pra_words.specs.declared.words.Mode.{Mode as Word}
+use Rattle.pra_words.specs.declared.words.Mode.TheVariants.{Run, Compile}
+use Rattle.pra_words.specs.declared.words.WordsFault.{WordsFault}
+use Rattle.pra_words.specs.Texts.{words_lines}
+use Rattle.pra_words.specs.Words.{Asked}
+use Rattle.pra_tool.specs.declared.input.WrongInput.{WrongInput}
+use Rattle.pra_tool.specs.declared.status.Status.{Status}
+use Rattle.pra_tool.specs.declared.status.Status.TheVariants.{Ended, BadSource, OverLimit}
+use Rattle.pra_tool.specs.declared.status.Status.TheVariants.{BadWords, NoMemory}
+use Rattle.pra_tool.specs.Inputs.{HasNumbers, IsWrongInput, input_status}
+use Rattle.pra_tool.specs.Compiling.{MadeOf}
+use Rattle.pra_tool.specs.Status.{IsStatusOf}
+use Rattle.pra_tool.specs.Texts.{ending_line, procedure_lines, code_line, fault_line, input_line}
 use Rattle.pra_tool.specs.Outside.{Seen, Refused, Untouched}
 use Rattle.pra_tool.specs.Writes.{FileText, Writes}
-use Rattle.pra_tool.specs.Modes.{Mode, Answers}
+use Rattle.pra_tool.specs.Modes.{Kind, Mode, Answers}
 
--- An image made of a source: the source is a text of a program, whose meaning never goes wrong,
--- the image is valid, and whatever the input is, its run on the machine agrees with the meaning,
--- both ways.
-pub record MadeOf (source : List ℕ) (image : Image) : Type 0 where
-  pub program : Program
-  pub accepted : IsAccepted source program
-  pub never_wrong : (input : List ℤ) (n : ℕ) → (meaning program input n).ending ≢ Some Wrong
-  pub valid : IsImage image
-  pub agrees : (input : List ℤ) → Agree (meaning program input) (progress image input)
+-- ---- what is written
 
--- the run of an image within the steps, without input
-abbrev pub run_of : Image → ℕ → RunOut
-run_of image steps = machine_run image [] steps
+-- the run of an image on an input within the steps
+abbrev pub run_of : Image → List ℤ → ℕ → RunOut
+run_of image input steps = machine_run image input steps
 
--- what `run` writes: the image, the output of its run within the steps, and the run's ending line
-abbrev pub run_writes : Asked → Image → Writes
-run_writes asked image = record {
-  files = record { name = asked.image; bytes = image_bytes_of image } ∷ [];
-  out = output_text (run_of image asked.steps).events;
-  notes = ending_line (run_of image asked.steps);
+-- the one file that is written
+abbrev pub image_file : List ℕ → Image → List FileText
+image_file name image = record { name = name; bytes = image_bytes_of image } ∷ []
+
+-- what `run` writes: the image, the output of its run within the steps, and as notes the report and
+-- the run's ending line
+abbrev pub run_writes : Asked → Compiled → List ℤ → Writes
+run_writes asked compiled input = record {
+  files = image_file asked.image compiled.image;
+  out = output_text (run_of compiled.image input asked.steps).events;
+  notes = procedure_lines 0 compiled.procs
+      ++ ending_line (run_of compiled.image input asked.steps);
 }
 
--- What `run` makes of a source: an image made of it, and the status by the ending of the image's
--- run.
-pub record RunMakes (asked : Asked) (source : List ℕ) (w : Writes) (s : Status) : Type 0 where
-  pub image : Image
-  pub made : MadeOf source image
-  pub writes : w ≡ run_writes asked image
-  pub ended : IsStatusOf (run_of image asked.steps).ending s
+-- what `compile` writes: the image, and as output the report with the length of the code
+abbrev pub compile_writes : Asked → Compiled → Writes
+compile_writes asked compiled = record {
+  files = image_file asked.image compiled.image;
+  out = procedure_lines 0 compiled.procs ++ code_line (length compiled.image.code);
+  notes = [];
+}
+
+-- What `run` makes of a source and an input: what the source is compiled to, and the status by the
+-- ending of the image's run on the numbers of the input.
+pub record RunMakes (asked : Asked) (source input : List ℕ) (w : Writes) (s : Status)
+    : Type 0 where
+  pub compiled : Compiled
+  pub made : MadeOf source compiled
+  pub numbers : List ℤ
+  pub has : HasNumbers input numbers
+  pub writes : w ≡ run_writes asked compiled numbers
+  pub ended : IsStatusOf (run_of compiled.image numbers asked.steps).ending s
+
+-- What `compile` makes of a source; the input, which it does not read, counts as empty.
+pub record CompileMakes (asked : Asked) (source input : List ℕ) (w : Writes) (s : Status)
+    : Type 0 where
+  pub compiled : Compiled
+  pub made : MadeOf source compiled
+  pub no_input : input ≡ []
+  pub writes : w ≡ compile_writes asked compiled
+  pub done : s ≡ Ended
+
+-- ---- what is refused
 
 -- the status of a source that is not compiled
-abbrev pub fault_status : CompileFault → Status
-fault_status (compile.Source f) = BadSource
-fault_status (compile.Limit f) = OverLimit
-fault_status compile.Unbuilt = BadSource
-fault_status compile.OutOfMemory = NoMemory
+abbrev pub fault_status : ReadFault → Status
+fault_status (read.Source f) = BadSource
+fault_status (read.Limit f) = OverLimit
+fault_status read.OutOfMemory = NoMemory
 
--- `run FILE`
-abbrev pub run_mode : Asked → Mode
-run_mode asked = record {
-  Wrong = CompileFault;
-  IsWrong = IsRefused;
+-- the sources: texts of modules
+abbrev pub sources : Kind
+sources = record {
+  Wrong = ReadFault;
+  IsWrong = IsUnreadable;
   line = fault_line;
   status = fault_status;
-  IsRight = λ source. (program : Program) × IsAccepted source program;
-  Makes = RunMakes asked;
+  IsRight = λ source. (text : ReadText) × IsRead source text;
+}
+
+-- the inputs: the words of numbers
+abbrev pub inputs : Kind
+inputs = record {
+  Wrong = WrongInput;
+  IsWrong = IsWrongInput;
+  line = input_line;
+  status = input_status;
+  IsRight = λ input. (numbers : List ℤ) × HasNumbers input numbers;
+}
+
+-- ---- the modes
+
+abbrev pub makes : Word → Asked → List ℕ → List ℕ → Writes → Status → Type 0
+makes Run = RunMakes
+makes Compile = CompileMakes
+
+abbrev pub reads_input : Word → Bool
+reads_input Run = true
+reads_input Compile = false
+
+-- the mode of this word
+abbrev pub mode_by : Word → Asked → Mode
+mode_by word asked = record {
+  source = sources;
+  input = inputs;
+  reads_input = reads_input word;
+  Makes = makes word asked;
   files = asked.image ∷ [];
   Leaves = Untouched;
 }
 
--- The words are refused: their lines are told, and nothing is read or written.
+-- the mode that is asked for
+abbrev pub mode_of : Asked → Mode
+mode_of asked = mode_by asked.mode asked
+
+-- ---- the whole
+
+-- The words are refused: their lines are told, unless memory was wanting, and nothing is read or
+-- written.
 pub record WordsRefused (fault : WordsFault) (old new : Seen) (status : Status) : Type 0 where
-  pub status_is : status ≡ BadWords
-  pub left : Refused (words_lines fault) old new
+  pub known : (status ≡ BadWords) ⊎ (status ≡ NoMemory)
+  pub told : status ≡ BadWords → Refused (words_lines fault) old new
+  pub memory : status ≡ NoMemory → Untouched old new
 
 -- the whole promise, by what the words ask for
 abbrev pub Promise : Result Asked WordsFault → Seen → Seen → Status → Type 0
 Promise (Err fault) old new status = WordsRefused fault old new status
-Promise (Ok asked) old new status = Answers (run_mode asked) asked.file old new status
+Promise (Ok asked) old new status = Answers (mode_of asked) asked.file old new status
+
+-- the words ask for a mode that reads the input
+abbrev pub asks_input : Result Asked WordsFault → Bool
+asks_input (Err fault) = false
+asks_input (Ok asked) = reads_input asked.mode

@@ -1,9 +1,10 @@
-pub mod Language
+pub mod Compiling
 pub mod Status
-pub mod Words
 pub mod Outside
 pub mod Writes
 pub mod Modes
+pub mod Inputs
+pub mod Ends
 pub mod Texts
 pub mod Clause
 pub mod Reports

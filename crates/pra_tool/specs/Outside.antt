@@ -1,5 +1,5 @@
 -- What stands outside the program at a moment, and what a refusal leaves there.
-use Rattle.std.specs.Prelude.{◌≡◌, ◌≤◌, ℕ, List, None, Some}
+use Rattle.std.specs.Prelude.{◌≡◌, ◌≤◌, ℕ, List}
 use Rattle.std.specs.declared.option.Option.{Option}
 use Rattle.std.specs.Io.KnownBytes.{Keeps, Appends}
 use Rattle.pra_io.specs.Causes.{Rose}
@@ -11,13 +11,14 @@ pub record FolderSeen : Type 0 where
   pub read_faults : List ℕ → ℕ
   pub write_faults : List ℕ → ℕ
 
--- what stands in an output, where it tells it, and its count of faults
+-- what stands in an output or is left in an input, where it tells it, and its count of faults
 pub record StreamSeen : Type 0 where
   pub bytes : Option (List ℕ)
   pub faults : ℕ
 
 pub record Seen : Type 0 where
   pub folder : FolderSeen
+  pub input : StreamSeen
   pub out : StreamSeen
   pub notes : StreamSeen
 
@@ -27,12 +28,13 @@ abbrev pub folder_seen : {D : Type 0} → (D → List ℕ → Option (Option (Li
 folder_seen file reads writes d =
     record { file = file d; read_faults = reads d; write_faults = writes d }
 
--- an output, by what it tells of itself
+-- an output or an input, by what it tells of itself
 abbrev pub stream_seen : {S : Type 0} → (S → Option (List ℕ)) → (S → ℕ) → S → StreamSeen
 stream_seen bytes faults s = record { bytes = bytes s; faults = faults s }
 
-abbrev pub seen : FolderSeen → StreamSeen → StreamSeen → Seen
-seen folder out notes = record { folder = folder; out = out; notes = notes }
+abbrev pub seen : FolderSeen → (input out notes : StreamSeen) → Seen
+seen folder input out notes =
+    record { folder = folder; input = input; out = out; notes = notes }
 
 -- no file changed
 abbrev pub SameFiles : FolderSeen → FolderSeen → Type 0

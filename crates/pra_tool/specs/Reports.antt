@@ -1,13 +1,8 @@
--- What stands behind the values of the code: what was asked, and what is to be written.
+-- What stands behind the values of the code: what is to be written.
 use Rattle.std.specs.Prelude.{map}
 use Rattle.pra_tool.specs.declared.report.NamedFile.{NamedFile}
 use Rattle.pra_tool.specs.declared.report.Report.{Report}
-use Rattle.pra_tool.specs.declared.words.Request.{Request}
-use Rattle.pra_tool.specs.Words.{Asked}
 use Rattle.pra_tool.specs.Writes.{FileText, Writes}
-
-abbrev pub asked_by : Request → Asked
-asked_by r = record { file = r.file.now; steps = r.steps; image = r.image.now }
 
 abbrev pub file_text : NamedFile → FileText
 file_text f = record { name = f.name.now; bytes = f.bytes.items }

@@ -4,7 +4,8 @@ use Rattle.ia_step.specs.declared.out.Ending.{Ending}
 use Rattle.ia_step.specs.declared.out.Ending.TheVariants as ending
 use Rattle.pra_tool.specs.declared.status.Status.{Status}
 use Rattle.pra_tool.specs.declared.status.Status.TheVariants.{Ended, Trapped, Going, BadSource}
-use Rattle.pra_tool.specs.declared.status.Status.TheVariants.{OverLimit, Fault, BadWords, NoMemory}
+use Rattle.pra_tool.specs.declared.status.Status.TheVariants.{OverLimit, Fault, BadWords}
+use Rattle.pra_tool.specs.declared.status.Status.TheVariants.{BadInput, NoMemory}
 
 -- the number with which the program exits
 abbrev pub exit_code : Status → ℕ
@@ -15,6 +16,7 @@ exit_code BadSource = 3
 exit_code OverLimit = 4
 exit_code Fault = 5
 exit_code BadWords = 6
+exit_code BadInput = 7
 exit_code NoMemory = 8
 
 -- all was done and written
@@ -24,10 +26,11 @@ IsDone Trapped = ⊤
 IsDone Going = ⊤
 IsDone status = ⊥
 
--- the source is refused
+-- the source or the input is refused
 abbrev pub IsRefusal : Status → Type 0
 IsRefusal BadSource = ⊤
 IsRefusal OverLimit = ⊤
+IsRefusal BadInput = ⊤
 IsRefusal status = ⊥
 
 -- an ending that is no fault of the machine

@@ -1,5 +1,5 @@
 -- The texts that the program writes.
-use Rattle.std.specs.Prelude.{ℕ, List, [], ◌∷◌, ◌++◌, codes}
+use Rattle.std.specs.Prelude.{ℕ, ◌+◌, List, [], ◌∷◌, ◌++◌, codes}
 use Rattle.std.specs.Fmt.{decimal}
 use Rattle.pra_base.specs.declared.event.TrapKind.{TrapKind}
 use Rattle.pra_base.specs.declared.event.TrapKind.TheVariants as trap
@@ -7,18 +7,18 @@ use Rattle.ia_step.specs.declared.out.Ending.{Ending}
 use Rattle.ia_step.specs.declared.out.Ending.TheVariants.{Going, Ended, Trap, Fault}
 use Rattle.ia_step.specs.declared.out.RunOut.{RunOut}
 use Rattle.pra_base.specs.declared.limit.LimitKind.{LimitKind}
+use Rattle.pra_base.specs.declared.limit.LimitKind.TheVariants as limit
 use Rattle.pra_base.specs.Limits.{limit_name, limit_maximum}
-use Rattle.pra_tool.specs.declared.words.WordsFault.{WordsFault}
-use Rattle.pra_tool.specs.declared.words.WordsFault.TheVariants.{Words, Value}
-use Rattle.pra_tool.specs.declared.words.Word.{Word}
-use Rattle.pra_tool.specs.declared.words.Word.TheVariants as word
 use Rattle.ob_lex.specs.declared.scanner.LexFault.{LexFault}
 use Rattle.ob_lex.specs.declared.scanner.LexFault.TheVariants as lex
 use Rattle.ob_read.specs.declared.fault.SourceFault.TheVariants.{Lex, Grammar, Rule}
 use Rattle.ob_read.specs.declared.fault.LimitFault.TheVariants.{Count, Depth}
-use Rattle.pra_small.specs.declared.fault.CompileFault.{CompileFault}
-use Rattle.pra_small.specs.declared.fault.CompileFault.TheVariants.{Source, Limit, Unbuilt}
-use Rattle.pra_small.specs.declared.fault.CompileFault.TheVariants.{OutOfMemory}
+use Rattle.pra_report.specs.Texts.{procedure_line}
+use Rattle.pra_compile.specs.declared.output.ProcOut.{ProcOut}
+use Rattle.pra_tool.specs.declared.input.WrongInput.{WrongInput}
+use Rattle.pra_tool.specs.declared.input.WrongInput.TheVariants.{TooLong, NoWord}
+use Rattle.ob_read.specs.declared.fault.ReadFault.{ReadFault}
+use Rattle.ob_read.specs.declared.fault.ReadFault.TheVariants.{Source, Limit, OutOfMemory}
 
 abbrev pub trap_name : TrapKind → List ℕ
 trap_name trap.Index = codes "Index"
@@ -38,6 +38,18 @@ ending_words (Fault kind) = []
 abbrev pub ending_line : RunOut → List ℕ
 ending_line run = ending_words run.ending ++ codes " steps " ++ decimal run.steps ++
     codes " reads " ++ decimal run.reads ++ codes "\n"
+
+-- ---- the report
+
+-- a line for each procedure, from this number on
+abbrev pub procedure_lines : ℕ → List ProcOut → List ℕ
+procedure_lines number [] = []
+procedure_lines number (proc ∷ procs) =
+    procedure_line number proc.name proc.frame ++ procedure_lines (number + 1) procs
+
+-- how many bytes of code there are
+abbrev pub code_line : ℕ → List ℕ
+code_line count = codes "code " ++ decimal count ++ codes "\n"
 
 -- ---- what is wrong with a source; what no source is refused for has no line
 
@@ -59,28 +71,17 @@ abbrev pub count_line : LimitKind → ℕ → List ℕ
 count_line kind count = codes "limit " ++ limit_name kind ++ codes " count " ++ decimal count ++
     codes " maximum " ++ decimal (limit_maximum kind) ++ codes "\n"
 
-abbrev pub fault_line : CompileFault → List ℕ
+abbrev pub fault_line : ReadFault → List ℕ
 fault_line (Source (Lex f)) = lexical_line f
 fault_line (Source (Grammar token at)) = codes "fault grammar token " ++ place_text token at
 fault_line (Source (Rule rule token at)) =
     codes "fault rule " ++ decimal rule ++ codes " token " ++ place_text token at
 fault_line (Limit (Count kind count)) = count_line kind count
 fault_line (Limit (Depth token at)) = codes "limit depth token " ++ place_text token at
-fault_line Unbuilt = codes "fault unbuilt\n"
 fault_line OutOfMemory = []
 
--- ---- what is wrong with the words
+-- ---- what is wrong with an input: its first byte too many, or the first byte of what is no word
 
--- a word of the command line, as it is told
-abbrev pub word_name : Word → List ℕ
-word_name word.Mode = codes "MODE"
-word_name word.File = codes "FILE"
-word_name word.Steps = codes "--steps"
-
-abbrev pub words_line : WordsFault → List ℕ
-words_line Words = codes "fault words\n"
-words_line (Value w) = codes "fault value " ++ word_name w ++ codes "\n"
-
--- and the usage line
-abbrev pub words_lines : WordsFault → List ℕ
-words_lines fault = words_line fault ++ codes "usage: pra run FILE [--steps M]\n"
+abbrev pub input_line : WrongInput → List ℕ
+input_line TooLong = count_line limit.Input 1048577
+input_line (NoWord at) = codes "fault input at " ++ decimal at ++ codes "\n"

@@ -1,17 +1,18 @@
 //! The whole of what the program does, over a folder, an input and two outputs that are handed in.
 //!
 //! `run_tool` is all that the program calls, and `specs/Clause` is its promise: read there what
-//! `run` makes of a source, in `specs/Modes` what any mode that reads FILE answers, in
+//! `run` and `compile` make of a source, in `specs/Modes` what any mode that reads FILE answers, in
 //! `specs/Writes` what is left where all was written or where writing stopped, and in
-//! `specs/Language` which sources are accepted and what they mean.
+//! `specs/Compiling` what a source is compiled to.
 #![tactic(auto)]
 
+pub mod compiler;
+pub mod input;
 pub mod laws;
 mod report;
 pub mod status;
 pub mod texts;
 pub mod tool;
-pub mod words;
 
 pub use status::Status;
 pub use tool::run_tool;

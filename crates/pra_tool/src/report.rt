@@ -1,25 +1,27 @@
 // What a call writes: made before the first write, and written in one order.
 
-ghost use Rattle.std.specs.Prelude.{◌≡◌, ◌≢◌, ◌≤◌, codes, length, map, IfOk, IfErr};
-ghost use Rattle.ob_syntax.specs.Source.{most_bytes};
+ghost use Rattle.std.specs.Prelude.{◌≡◌, ◌≤◌, true, codes, length, map, IfOk};
 ghost use Rattle.ia_code.specs.Image.{IsImage};
-ghost use Rattle.pra_small.specs.Source.{IsRefused};
-ghost use Rattle.pra_tool.specs.Status.{IsDone};
-ghost use Rattle.pra_tool.specs.Outside.{Seen, folder_seen, stream_seen, seen, NoneFell, Told};
+ghost use Rattle.pra_words.specs.Written.{asked_by};
+ghost use Rattle.pra_tool.specs.Status.{IsDone, IsStatusOf};
+ghost use Rattle.pra_tool.specs.Outside.{StreamSeen, Seen, folder_seen, stream_seen, seen};
+ghost use Rattle.pra_tool.specs.Outside.{NoneFell, Told};
 ghost use Rattle.pra_tool.specs.Writes.{AreDifferent, FilesWritten, Wrote, stop_status};
-ghost use Rattle.pra_tool.specs.Reports.{asked_by, file_text, writes_of};
-ghost use Rattle.pra_tool.specs.Clause.{run_of, RunMakes};
+ghost use Rattle.pra_tool.specs.Reports.{file_text, writes_of};
+ghost use Rattle.pra_tool.specs.Clause.{image_file, run_of, run_writes, compile_writes};
+ghost use Rattle.pra_tool.specs.Ends.{NeverFaults};
+ghost use Rattle.vc_stmt.specs.Completes.{are_words};
 
 use crate::status::Status;
-use crate::texts::ending_line;
-use crate::words::Request;
+use crate::texts::{code_line, ending_line, procedure_lines};
 use ia_asm::image_bytes;
 use ia_code::Image;
 use ia_step::{Machine, RunOut};
 use pra_base::OutOfMemory;
+use pra_compile::Compiled;
 use pra_io::{FileFault, Folder, Sink, write_all};
 use pra_report::output_text;
-use pra_small::{CompileFault, compile};
+use pra_words::Request;
 use std::alloc::Global;
 
 /// A file that is to hold these bytes.
@@ -38,28 +40,30 @@ pub(crate) struct Report<'a> {
     status: Status,
 }
 
-/// Compiles the source, runs the image and makes the texts.
-pub(crate) fn make_report<'a>(
+/// Runs the image on the numbers of the input and makes the texts.
+pub(crate) fn run_report<'a>(
     alloc: Global,
-    source: &[u8],
     request: &Request<'a>,
-) -> Result<Report<'a>, CompileFault>
-    requires { length source.now ≤ most_bytes }
-    ensures made { IfOk result (λ r.
-        RunMakes (asked_by request.now) source.now (writes_of r) r.status) }
-    ensures cause { IfErr result (λ f. f ≢ CompileFault.OutOfMemory → IsRefused source.now f) }
+    compiled: &Compiled,
+    numbers: Vec<i32>,
+) -> Result<Report<'a>, OutOfMemory>
+    requires valid { IsImage compiled.now.image }
+    requires sound { NeverFaults compiled.now.image }
+    requires words { are_words numbers.items ≡ true }
+    requires few { length compiled.now.procs ≤ 65536 }
+    ensures writes { IfOk result (λ r.
+        writes_of r ≡ run_writes (asked_by request.now) compiled.now numbers.items) }
+    ensures ended { IfOk result (λ r. IsStatusOf
+        (run_of compiled.now.image numbers.items request.now.steps).ending r.status) }
+    ensures done { IfOk result (λ r. IsDone r.status) }
 {
-    let image = compile(alloc, source)?;
-    let run = run_image(alloc, &image, request.steps)?;
+    let run = run_image(alloc, &compiled.image, numbers, request.steps)?;
     let status = Status::of_run(run.ending);
-    let bytes = image_bytes(alloc, &image)?;
     let out = output_text(alloc, run.events.as_slice())?;
-    let notes = ending_line(alloc, &run)?;
-    let mut files = Vec::new(alloc);
-    files.push(NamedFile {
-        name: request.image,
-        bytes,
-    })?;
+    let mut notes = procedure_lines(alloc, compiled.procs.as_slice())?;
+    let ending = ending_line(alloc, &run)?;
+    notes.extend_from_slice(&ending)?;
+    let files = image_file(alloc, request, &compiled.image)?;
     Ok(Report {
         files,
         out,
@@ -68,12 +72,60 @@ pub(crate) fn make_report<'a>(
     })
 }
 
-// Runs an image without input.
-fn run_image(alloc: Global, image: &Image, steps: u32) -> Result<RunOut, OutOfMemory>
-    requires { IsImage image.now }
-    ensures { IfOk result (λ out. out ≡ run_of image.now steps) }
+/// Makes the texts of a source that was only compiled.
+pub(crate) fn compile_report<'a>(
+    alloc: Global,
+    request: &Request<'a>,
+    compiled: &Compiled,
+) -> Result<Report<'a>, OutOfMemory>
+    requires valid { IsImage compiled.now.image }
+    requires few { length compiled.now.procs ≤ 65536 }
+    ensures writes { IfOk result (λ r.
+        writes_of r ≡ compile_writes (asked_by request.now) compiled.now) }
+    ensures done { IfOk result (λ r. r.status ≡ Status.Ended) }
 {
-    let mut machine = Machine::load(alloc, image, Vec::new(alloc))?;
+    let mut out = procedure_lines(alloc, compiled.procs.as_slice())?;
+    let code = code_line(alloc, compiled.image.code.as_slice().len())?;
+    out.extend_from_slice(&code)?;
+    let files = image_file(alloc, request, &compiled.image)?;
+    Ok(Report {
+        files,
+        out,
+        notes: Vec::new(alloc),
+        status: Status::Ended,
+    })
+}
+
+// The one file that is written.
+fn image_file<'a>(
+    alloc: Global,
+    request: &Request<'a>,
+    image: &Image,
+) -> Result<Vec<NamedFile<'a>>, OutOfMemory>
+    requires { IsImage image.now }
+    ensures { IfOk result (λ files. map file_text files.items
+        ≡ image_file request.now.image.now image.now) }
+{
+    let bytes = image_bytes(alloc, image)?;
+    let mut files = Vec::new(alloc);
+    files.push(NamedFile {
+        name: request.image,
+        bytes,
+    })?;
+    Ok(files)
+}
+
+// Runs an image on an input.
+fn run_image(
+    alloc: Global,
+    image: &Image,
+    numbers: Vec<i32>,
+    steps: u32,
+) -> Result<RunOut, OutOfMemory>
+    requires { IsImage image.now }
+    ensures { IfOk result (λ out. out ≡ run_of image.now numbers.items steps) }
+{
+    let mut machine = Machine::load(alloc, image, numbers)?;
     let out = machine.run(alloc, steps)?;
     Ok(out)
 }
@@ -110,10 +162,11 @@ pub(crate) fn write_report<D: Folder, O: Sink, N: Sink>(
 ) -> Status
     requires done { IsDone report.now.status }
     requires different { AreDifferent (map file_text report.now.files.items) }
-    ensures { let old : Seen = seen (folder_seen D.file D.read_faults D.write_faults folder.old)
-        (stream_seen O.bytes O.faults out.old) (stream_seen N.bytes N.faults notes.old) in
+    ensures { (input_old input_new : StreamSeen) →
+        let old : Seen = seen (folder_seen D.file D.read_faults D.write_faults folder.old)
+        input_old (stream_seen O.bytes O.faults out.old) (stream_seen N.bytes N.faults notes.old) in
         let new : Seen = seen (folder_seen D.file D.read_faults D.write_faults folder.new)
-        (stream_seen O.bytes O.faults out.new) (stream_seen N.bytes N.faults notes.new) in
+        input_new (stream_seen O.bytes O.faults out.new) (stream_seen N.bytes N.faults notes.new) in
         Wrote (writes_of report.now) report.now.status old new result }
 {
     match write_files(alloc, &report.files, folder) {

@@ -8,7 +8,7 @@ use ia_step::Ending;
 /// How a call ends.
 #[derive(Clone, Copy, Debug, PartialEq, Eq, Drop)]
 pub enum Status {
-    /// The image ended within the steps.
+    /// The image ended within the steps, or was made without a run.
     Ended,
     /// The image trapped.
     Trapped,
@@ -22,6 +22,8 @@ pub enum Status {
     Fault,
     /// The words are refused.
     BadWords,
+    /// The input is no list of words.
+    BadInput,
     /// Memory was wanting.
     NoMemory,
 }
@@ -39,6 +41,7 @@ impl Status {
             Status::OverLimit => 4,
             Status::Fault => 5,
             Status::BadWords => 6,
+            Status::BadInput => 7,
             Status::NoMemory => 8,
         }
     }

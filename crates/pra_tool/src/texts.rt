@@ -1,19 +1,23 @@
 // The texts that the program writes.
 
-ghost use Rattle.std.specs.Prelude.{◌≡◌, ◌++◌, codes, IfOk, OnOk, string_bytes};
+ghost use Rattle.std.specs.Prelude.{◌≡◌, ◌≤◌, ◌++◌, codes, length, IfOk, OnOk, string_bytes};
 ghost use Rattle.std.specs.Fmt.{decimal};
 ghost use Rattle.pra_tool.specs.Texts.{trap_name, ending_words};
-ghost use Rattle.pra_tool.specs.Texts.{ending_line, lexical_line, place_text, count_line};
-ghost use Rattle.pra_tool.specs.Texts.{fault_line, words_lines};
+ghost use Rattle.pra_tool.specs.Texts.{ending_line, procedure_lines, code_line, lexical_line};
+ghost use Rattle.pra_tool.specs.Texts.{place_text, count_line, fault_line, input_line};
 
-use crate::words::{Word, WordsFault};
+use crate::input::WrongInput;
 use ia_step::{Ending, RunOut};
 use ob_lex::LexFault;
-use ob_read::{LimitFault, SourceFault};
+use ob_read::{LimitFault, ReadFault, SourceFault};
 use pra_base::{LimitKind, OutOfMemory, TrapKind};
-use pra_small::CompileFault;
+use pra_compile::ProcOut;
+use pra_report::procedure_line;
 use std::alloc::{AllocError, Global};
 use std::fmt::Write;
+
+// What is told of an input that is too long: one byte more than it may have.
+const INPUT_OVER: u64 = 1_048_577;
 
 /// The line that tells how a run ended, how many steps it made and how many input words it took.
 ///
@@ -42,28 +46,74 @@ fn ending_words(ending: Ending) -> &'static str
     }
 }
 
+/// A line for each procedure, with its number, its name and its frame.
+///
+/// # Errors
+///
+/// Where there is no memory for the lines.
+pub fn procedure_lines(alloc: Global, procs: &[ProcOut]) -> Result<Vec<u8>, OutOfMemory>
+    requires { length procs.now ≤ 65536 }
+    ensures { IfOk result (λ text. text.items ≡ procedure_lines 0 procs.now) }
+{
+    let mut text = Vec::new(alloc);
+    let mut number = 0u32;
+    let mut rest = procs;
+    while let [proc, others @ ..] = rest {
+        let line = procedure_line(alloc, number, proc.name.as_slice(), proc.frame)?;
+        text.extend_from_slice(&line)?;
+        number += 1;
+        rest = others;
+    }
+    Ok(text)
+}
+
+/// The line that tells how many bytes of code there are.
+///
+/// # Errors
+///
+/// Where there is no memory for the line.
+pub fn code_line(alloc: Global, count: usize) -> Result<Vec<u8>, OutOfMemory>
+    ensures { IfOk result (λ text. text.items ≡ code_line count) }
+{
+    let line = format!(in alloc; "code {count}\n")?;
+    Ok(line.into_bytes())
+}
+
+/// The line that tells what is wrong with an input.
+///
+/// # Errors
+///
+/// Where there is no memory for the line.
+pub fn input_line(alloc: Global, wrong: WrongInput) -> Result<String, AllocError>
+    ensures { IfOk result (λ line. string_bytes line ≡ input_line wrong) }
+{
+    match wrong {
+        WrongInput::TooLong => count_line(alloc, LimitKind::Input, INPUT_OVER),
+        WrongInput::NoWord(at) => format!(in alloc; "fault input at {at}\n"),
+    }
+}
+
 /// The line that tells what is wrong with a source.
 ///
 /// # Errors
 ///
 /// Where there is no memory for the line.
-pub fn fault_line(alloc: Global, fault: CompileFault) -> Result<String, AllocError>
+pub fn fault_line(alloc: Global, fault: ReadFault) -> Result<String, AllocError>
     ensures { IfOk result (λ line. string_bytes line ≡ fault_line fault) }
 {
     match fault {
-        CompileFault::Source(SourceFault::Lex(fault)) => lexical_line(alloc, fault),
-        CompileFault::Source(SourceFault::Grammar(token, at)) => {
+        ReadFault::Source(SourceFault::Lex(fault)) => lexical_line(alloc, fault),
+        ReadFault::Source(SourceFault::Grammar(token, at)) => {
             place_line(alloc, "fault grammar token ", token, at)
         }
-        CompileFault::Source(SourceFault::Rule(rule, token, at)) => {
+        ReadFault::Source(SourceFault::Rule(rule, token, at)) => {
             rule_line(alloc, rule, token, at)
         }
-        CompileFault::Limit(LimitFault::Count(kind, count)) => count_line(alloc, kind, count),
-        CompileFault::Limit(LimitFault::Depth(token, at)) => {
+        ReadFault::Limit(LimitFault::Count(kind, count)) => count_line(alloc, kind, count),
+        ReadFault::Limit(LimitFault::Depth(token, at)) => {
             place_line(alloc, "limit depth token ", token, at)
         }
-        CompileFault::Unbuilt => String::from_str(alloc, "fault unbuilt\n"),
-        CompileFault::OutOfMemory => Ok(String::new(alloc)),
+        ReadFault::OutOfMemory => Ok(String::new(alloc)),
     }
 }
 
@@ -100,18 +150,4 @@ fn rule_line(alloc: Global, rule: u8, token: u32, at: u32) -> Result<String, All
 {
     let words = format!(in alloc; "fault rule {rule} token ")?;
     place_line(alloc, words.as_str(), token, at)
-}
-
-/// The lines that tell why the words are refused, the usage line at the end.
-pub fn words_lines(fault: WordsFault) -> &'static str
-    ensures { result.now ≡ words_lines fault }
-{
-    match fault {
-        WordsFault::Words => "fault words\nusage: pra run FILE [--steps M]\n",
-        WordsFault::Value(Word::Mode) => { "fault value MODE\nusage: pra run FILE [--steps M]\n" }
-        WordsFault::Value(Word::File) => { "fault value FILE\nusage: pra run FILE [--steps M]\n" }
-        WordsFault::Value(Word::Steps) => {
-            "fault value --steps\nusage: pra run FILE [--steps M]\n"
-        }
-    }
 }

@@ -1,52 +1,63 @@
 // The call that does all that the program does.
 
-ghost use Rattle.std.specs.Prelude.{◌≡◌, ◌≢◌, ◌⊎◌, IsErr};
+ghost use Rattle.std.specs.Prelude.{◌≡◌, ◌≢◌, ◌≤◌, ◌⊎◌, false, ℕ, List, length, IsErr};
+ghost use Rattle.ia_code.specs.Image.{IsImage};
+ghost use Rattle.pra_words.specs.declared.words.Mode.TheVariants.{Run, Compile};
+ghost use Rattle.pra_words.specs.Texts.{words_lines};
+ghost use Rattle.pra_words.specs.Words.{asked_of, texts};
+ghost use Rattle.pra_words.specs.Written.{asked_by};
 ghost use Rattle.pra_tool.specs.Status.{exit_code};
-ghost use Rattle.pra_tool.specs.Outside.{Seen, folder_seen, stream_seen, seen, Told};
+ghost use Rattle.pra_tool.specs.Outside.{StreamSeen, Seen, folder_seen, stream_seen, seen, Told};
 ghost use Rattle.pra_tool.specs.Texts.{fault_line};
-ghost use Rattle.pra_tool.specs.Words.{asked_of, texts};
-ghost use Rattle.pra_tool.specs.Reports.{asked_by};
+ghost use Rattle.pra_tool.specs.Inputs.{input_fault_status, input_fault_line};
 ghost use Rattle.pra_tool.specs.Modes.{Answers};
-ghost use Rattle.pra_tool.specs.Clause.{run_mode, fault_status, Promise};
+ghost use Rattle.pra_tool.specs.Ends.{Ends, NeverFaults};
+ghost use Rattle.pra_tool.specs.Compiling.{MadeOf};
+ghost use Rattle.pra_tool.specs.Clause.{mode_by, mode_of, reads_input, asks_input};
+ghost use Rattle.pra_tool.specs.Clause.{fault_status, Promise};
 
-use crate::report::{make_report, refuse, write_report};
+use crate::compiler::compile_source;
+use crate::input::{InputFault, WrongInput, read_numbers};
+use crate::report::{compile_report, refuse, run_report, write_report};
 use crate::status::Status;
-use crate::texts::{fault_line, words_lines};
-use crate::words::{Request, read_words};
-use ob_read::{LimitFault, MAX_SOURCE};
-use pra_base::LimitKind;
+use crate::texts::{fault_line, input_line};
+use ob_read::{LimitFault, MAX_SOURCE, ReadFault};
+use pra_base::{LimitKind, OutOfMemory};
+use pra_compile::Compiled;
 use pra_io::{FileFault, Folder, Sink, Source};
-use pra_small::CompileFault;
+use pra_words::{Mode, Request, WordsFault, read_words, words_lines};
 use std::alloc::Global;
 
-/// All that the program does: it reads the words, reads FILE, compiles it, runs the image, and
-/// writes the image file, the output and the ending line, in this order.
+/// All that the program does. With MODE `run` it reads FILE, compiles it, reads the input, runs the
+/// image, and writes the image file, the output, and the report with the ending line; with
+/// `compile` it reads FILE, compiles it, and writes the image file and the report.
 ///
-/// `words` are those behind the program's name: `run FILE` or `run FILE --steps M`. The answer is
-/// the exit status:
+/// `words` are those behind the program's name: MODE and FILE, and among them the options
+/// `--steps M` and `--image NAME`. The answer is the exit status:
 ///
 /// | Status | When | Line in notes |
 /// |---|---|---|
-/// | 0 | the image ended within the steps | the ending line |
-/// | 1 | the image trapped | the ending line |
-/// | 2 | the image is still going after the steps | the ending line |
+/// | 0 | the image ended within the steps, or was compiled | `run`: the report, the ending line |
+/// | 1 | the image trapped | the report, the ending line |
+/// | 2 | the image is still going after the steps | the report, the ending line |
 /// | 3 | FILE has a byte that begins no token | `fault bad-byte at A` |
 /// | 3 | FILE has a comment that is not closed | `fault open-comment at A` |
 /// | 3 | FILE has a number above the greatest | `fault number-too-large at A` |
 /// | 3 | no module goes on with token T | `fault grammar token T at A` |
 /// | 3 | FILE breaks rule K of the language | `fault rule K token T at A` |
-/// | 3 | FILE is a module that is not compiled | `fault unbuilt` |
 /// | 4 | FILE is too long | `limit source count 1048577 maximum 1048576` |
 /// | 4 | FILE nests too deep | `limit depth token T at A` |
 /// | 4 | FILE has too much of one thing | `limit NAME count C maximum L` |
-/// | 5 | reading FILE failed | `fault read file` |
+/// | 4 | the input is too long | `limit input count 1048577 maximum 1048576` |
+/// | 5 | reading FILE or the input failed | `fault read file`, `fault read input` |
 /// | 5 | writing the image or out failed | `fault write file`, `fault write out` |
 /// | 5 | writing notes failed | none |
-/// | 6 | the words are refused | `fault words` and the usage line |
+/// | 6 | the words are no command line | `fault words` and the usage line |
+/// | 6 | W is the first word with a wrong value | `fault value W` and the usage line |
+/// | 7 | the input has at A what is no number | `fault input at A` |
 /// | 8 | want of memory; nothing was written | none |
 ///
-/// A counts bytes and T tokens from 0; behind the last token A is the length of FILE. Nothing is
-/// taken from the input.
+/// A counts bytes and T tokens from 0; behind the last token A is the length of FILE.
 pub fn run_tool<D: Folder, I: Source, O: Sink, N: Sink>(
     alloc: Global,
     words: &[String],
@@ -57,58 +68,86 @@ pub fn run_tool<D: Folder, I: Source, O: Sink, N: Sink>(
 ) -> u8
     ensures promise { let old : Seen =
         seen (folder_seen D.file D.read_faults D.write_faults folder.old)
-        (stream_seen O.bytes O.faults out.old) (stream_seen N.bytes N.faults notes.old) in
+        (stream_seen I.left I.faults input.old) (stream_seen O.bytes O.faults out.old)
+        (stream_seen N.bytes N.faults notes.old) in
         let new : Seen = seen (folder_seen D.file D.read_faults D.write_faults folder.new)
-        (stream_seen O.bytes O.faults out.new) (stream_seen N.bytes N.faults notes.new) in
+        (stream_seen I.left I.faults input.new) (stream_seen O.bytes O.faults out.new)
+        (stream_seen N.bytes N.faults notes.new) in
         (status : Status) × (result ≡ exit_code status) ×
         Promise (asked_of (texts words.now)) old new status }
 
-    // Nothing is taken from the input; and after refused words nothing was read or written but the
-    // lines.
-    ensures input { input.new ≡ input.old }
+    // Nothing is taken from the input where no mode is asked for that reads it; and after refused
+    // words nothing was read or written but the lines.
+    ensures input { asks_input (asked_of (texts words.now)) ≡ false → input.new ≡ input.old }
     ensures words { IsErr (asked_of (texts words.now)) →
         (folder.new ≡ folder.old) × (input.new ≡ input.old) × (out.new ≡ out.old) }
 {
-    let _ = input;
-    let status = answer(alloc, words, folder, out, notes);
+    let status = answer(alloc, words, folder, input, out, notes);
     status.exit_code()
 }
 
 // Reads the words, and does what they ask for.
-fn answer<D: Folder, O: Sink, N: Sink>(
+fn answer<D: Folder, I: Source, O: Sink, N: Sink>(
     alloc: Global,
     words: &[String],
     folder: &mut D,
+    input: &mut I,
     out: &mut O,
     notes: &mut N,
 ) -> Status
     ensures promise { let old : Seen =
         seen (folder_seen D.file D.read_faults D.write_faults folder.old)
-        (stream_seen O.bytes O.faults out.old) (stream_seen N.bytes N.faults notes.old) in
+        (stream_seen I.left I.faults input.old) (stream_seen O.bytes O.faults out.old)
+        (stream_seen N.bytes N.faults notes.old) in
         let new : Seen = seen (folder_seen D.file D.read_faults D.write_faults folder.new)
-        (stream_seen O.bytes O.faults out.new) (stream_seen N.bytes N.faults notes.new) in
+        (stream_seen I.left I.faults input.new) (stream_seen O.bytes O.faults out.new)
+        (stream_seen N.bytes N.faults notes.new) in
         Promise (asked_of (texts words.now)) old new result }
+    ensures input { asks_input (asked_of (texts words.now)) ≡ false → input.new ≡ input.old }
     ensures words { IsErr (asked_of (texts words.now)) →
-        (folder.new ≡ folder.old) × (out.new ≡ out.old) }
+        (folder.new ≡ folder.old) × (input.new ≡ input.old) × (out.new ≡ out.old) }
 {
-    match read_words(words) {
-        Err(fault) => refuse(notes, Status::BadWords, words_lines(fault)),
-        Ok(request) => run_file(alloc, &request, folder, out, notes),
+    match read_words(alloc, words) {
+        Err(fault) => refuse_words(alloc, notes, fault),
+        Ok(request) => compile_file(alloc, &request, folder, input, out, notes),
     }
 }
 
-fn run_file<D: Folder, O: Sink, N: Sink>(
+// Writes why the words are refused, where they were read.
+fn refuse_words<N: Sink>(alloc: Global, notes: &mut N, fault: WordsFault) -> Status
+    ensures known { ((result ≡ Status.BadWords) × (fault ≢ WordsFault.OutOfMemory)) ⊎
+        (result ≡ Status.NoMemory) }
+    ensures told { result ≡ Status.BadWords → Told (words_lines fault)
+        (stream_seen N.bytes N.faults notes.old) (stream_seen N.bytes N.faults notes.new) }
+    ensures memory { result ≡ Status.NoMemory → notes.new ≡ notes.old }
+{
+    if fault == WordsFault::OutOfMemory {
+        return Status::NoMemory;
+    }
+    match words_lines(alloc, fault) {
+        Ok(lines) => refuse(notes, Status::BadWords, lines.as_str()),
+        Err(_) => Status::NoMemory,
+    }
+}
+
+// Reads FILE and compiles it, and does with it what is asked for.
+fn compile_file<D: Folder, I: Source, O: Sink, N: Sink>(
     alloc: Global,
     request: &Request,
     folder: &mut D,
+    input: &mut I,
     out: &mut O,
     notes: &mut N,
 ) -> Status
-    ensures { let old : Seen = seen (folder_seen D.file D.read_faults D.write_faults folder.old)
-        (stream_seen O.bytes O.faults out.old) (stream_seen N.bytes N.faults notes.old) in
+    ensures answers { let old : Seen =
+        seen (folder_seen D.file D.read_faults D.write_faults folder.old)
+        (stream_seen I.left I.faults input.old) (stream_seen O.bytes O.faults out.old)
+        (stream_seen N.bytes N.faults notes.old) in
         let new : Seen = seen (folder_seen D.file D.read_faults D.write_faults folder.new)
-        (stream_seen O.bytes O.faults out.new) (stream_seen N.bytes N.faults notes.new) in
-        Answers (run_mode (asked_by request.now)) request.now.file.now old new result }
+        (stream_seen I.left I.faults input.new) (stream_seen O.bytes O.faults out.new)
+        (stream_seen N.bytes N.faults notes.new) in
+        Answers (mode_of (asked_by request.now)) request.now.file.now old new result }
+    ensures input { reads_input request.now.mode ≡ false → input.new ≡ input.old }
 {
     let source = match folder.read_file(alloc, request.file, MAX_SOURCE) {
         Ok(source) => source,
@@ -116,29 +155,136 @@ fn run_file<D: Folder, O: Sink, N: Sink>(
         Err(FileFault::TooLong) => return refuse_source(alloc, notes, SOURCE_OVER),
         Err(FileFault::Failed) => return refuse(notes, Status::Fault, "fault read file\n"),
     };
-    match make_report(alloc, &source, request) {
-        Ok(report) => write_report(alloc, &report, folder, out, notes),
+    match compile_source(alloc, &source) {
+        Ok(compiled) => finish(alloc, request, &compiled, folder, input, out, notes),
         Err(fault) => refuse_source(alloc, notes, fault),
     }
 }
 
+// Does with what was compiled what is asked for.
+fn finish<D: Folder, I: Source, O: Sink, N: Sink>(
+    alloc: Global,
+    request: &Request,
+    compiled: &Compiled,
+    folder: &mut D,
+    input: &mut I,
+    out: &mut O,
+    notes: &mut N,
+) -> Status
+    requires valid { IsImage compiled.now.image }
+    requires sound { NeverFaults compiled.now.image }
+    requires few { length compiled.now.procs ≤ 65536 }
+    ensures ends { (source : List ℕ) → MadeOf source compiled.now →
+        let old : Seen = seen (folder_seen D.file D.read_faults D.write_faults folder.old)
+        (stream_seen I.left I.faults input.old) (stream_seen O.bytes O.faults out.old)
+        (stream_seen N.bytes N.faults notes.old) in
+        let new : Seen = seen (folder_seen D.file D.read_faults D.write_faults folder.new)
+        (stream_seen I.left I.faults input.new) (stream_seen O.bytes O.faults out.new)
+        (stream_seen N.bytes N.faults notes.new) in
+        Ends (mode_of (asked_by request.now)) source old new result }
+    ensures input { reads_input request.now.mode ≡ false → input.new ≡ input.old }
+{
+    match request.mode {
+        Mode::Run => run_compiled(alloc, request, compiled, folder, input, out, notes),
+        Mode::Compile => write_compiled(alloc, request, compiled, folder, out, notes),
+    }
+}
+
+// Reads the input, runs the image, and writes.
+fn run_compiled<D: Folder, I: Source, O: Sink, N: Sink>(
+    alloc: Global,
+    request: &Request,
+    compiled: &Compiled,
+    folder: &mut D,
+    input: &mut I,
+    out: &mut O,
+    notes: &mut N,
+) -> Status
+    requires valid { IsImage compiled.now.image }
+    requires sound { NeverFaults compiled.now.image }
+    requires few { length compiled.now.procs ≤ 65536 }
+    ensures { (source : List ℕ) → MadeOf source compiled.now →
+        let old : Seen = seen (folder_seen D.file D.read_faults D.write_faults folder.old)
+        (stream_seen I.left I.faults input.old) (stream_seen O.bytes O.faults out.old)
+        (stream_seen N.bytes N.faults notes.old) in
+        let new : Seen = seen (folder_seen D.file D.read_faults D.write_faults folder.new)
+        (stream_seen I.left I.faults input.new) (stream_seen O.bytes O.faults out.new)
+        (stream_seen N.bytes N.faults notes.new) in
+        Ends (mode_by Run (asked_by request.now)) source old new result }
+{
+    let numbers = match read_numbers(alloc, input) {
+        Ok(numbers) => numbers,
+        Err(fault) => return refuse_input(alloc, notes, fault),
+    };
+    match run_report(alloc, request, compiled, numbers) {
+        Ok(report) => write_report(alloc, &report, folder, out, notes),
+        Err(OutOfMemory) => Status::NoMemory,
+    }
+}
+
+// Writes what was compiled.
+fn write_compiled<D: Folder, O: Sink, N: Sink>(
+    alloc: Global,
+    request: &Request,
+    compiled: &Compiled,
+    folder: &mut D,
+    out: &mut O,
+    notes: &mut N,
+) -> Status
+    requires valid { IsImage compiled.now.image }
+    requires few { length compiled.now.procs ≤ 65536 }
+    ensures { (source : List ℕ) (input : StreamSeen) → MadeOf source compiled.now →
+        let old : Seen = seen (folder_seen D.file D.read_faults D.write_faults folder.old) input
+        (stream_seen O.bytes O.faults out.old) (stream_seen N.bytes N.faults notes.old) in
+        let new : Seen = seen (folder_seen D.file D.read_faults D.write_faults folder.new) input
+        (stream_seen O.bytes O.faults out.new) (stream_seen N.bytes N.faults notes.new) in
+        Ends (mode_by Compile (asked_by request.now)) source old new result }
+{
+    match compile_report(alloc, request, compiled) {
+        Ok(report) => write_report(alloc, &report, folder, out, notes),
+        Err(OutOfMemory) => Status::NoMemory,
+    }
+}
+
+// Writes why the input was not read.
+fn refuse_input<N: Sink>(alloc: Global, notes: &mut N, fault: InputFault) -> Status
+    ensures known { (result ≡ input_fault_status fault) ⊎ (result ≡ Status.NoMemory) }
+    ensures told { result ≢ Status.NoMemory → Told (input_fault_line fault)
+        (stream_seen N.bytes N.faults notes.old) (stream_seen N.bytes N.faults notes.new) }
+    ensures memory { result ≡ Status.NoMemory → notes.new ≡ notes.old }
+{
+    let wrong = match fault {
+        InputFault::Wrong(wrong) => wrong,
+        InputFault::NotRead => return refuse(notes, Status::Fault, "fault read input\n"),
+        InputFault::OutOfMemory => return Status::NoMemory,
+    };
+    let status = match wrong {
+        WrongInput::TooLong => Status::OverLimit,
+        WrongInput::NoWord(_) => Status::BadInput,
+    };
+    match input_line(alloc, wrong) {
+        Ok(line) => refuse(notes, status, line.as_str()),
+        Err(_) => Status::NoMemory,
+    }
+}
+
 // What is told of a source that is too long: the count is one byte more than it may have.
-const SOURCE_OVER: CompileFault = CompileFault::Limit(LimitFault::Count(
+const SOURCE_OVER: ReadFault = ReadFault::Limit(LimitFault::Count(
     LimitKind::Source,
     MAX_SOURCE as u64 + 1,
 ));
 
 // Writes what is wrong with a source.
-fn refuse_source<N: Sink>(alloc: Global, notes: &mut N, fault: CompileFault) -> Status
+fn refuse_source<N: Sink>(alloc: Global, notes: &mut N, fault: ReadFault) -> Status
     ensures known { (result ≡ fault_status fault) ⊎ (result ≡ Status.NoMemory) }
     ensures told { result ≢ Status.NoMemory → Told (fault_line fault)
         (stream_seen N.bytes N.faults notes.old) (stream_seen N.bytes N.faults notes.new) }
     ensures memory { result ≡ Status.NoMemory → notes.new ≡ notes.old }
 {
     let status = match fault {
-        CompileFault::Source(_) | CompileFault::Unbuilt => Status::BadSource,
-        CompileFault::Limit(_) => Status::OverLimit,
-        CompileFault::OutOfMemory => return Status::NoMemory,
+        ReadFault::Source(_) => Status::BadSource,
+        ReadFault::Limit(_) => Status::OverLimit,
+        ReadFault::OutOfMemory => return Status::NoMemory,
     };
     match fault_line(alloc, fault) {
         Ok(line) => refuse(notes, status, line.as_str()),

@@ -6,9 +6,11 @@ use Rattle.std.specs.declared.option.Option.{Option}
 use Rattle.std.specs.declared.alloc.Global.{Global}
 use Rattle.std.specs.Str.{bytes_eq, all_ascii_digits}
 use Rattle.std.specs.Str.Parse.{digits_value}
+use Rattle.pra_words.specs.declared.words.Mode.{Mode}
+use Rattle.pra_words.specs.declared.words.Mode.TheVariants.{Run, Compile}
 use Rattle.pra_words.specs.declared.words.WordsFault.{WordsFault}
 use Rattle.pra_words.specs.declared.words.WordsFault.TheVariants.{Words, Value}
-use Rattle.pra_words.specs.declared.words.Word.TheVariants.{Mode, File, Steps, Image}
+use Rattle.pra_words.specs.declared.words.Word.TheVariants as a_word
 use Rattle.pra_words.specs.CommandLine.{Line, line_of}
 
 -- the name of the image's file, and the steps that a run is granted, where the words don't say
@@ -28,8 +30,10 @@ texts words = map string_bytes words
 
 -- ---- values
 
-abbrev pub is_mode : List ℕ → Bool
-is_mode word = bytes_eq word (codes "run")
+abbrev pub mode_of : List ℕ → Option Mode
+mode_of word =
+    if bytes_eq word (codes "run") then Some Run
+    else (if bytes_eq word (codes "compile") then Some Compile else None)
 
 abbrev pub is_empty : List ℕ → Bool
 is_empty [] = true
@@ -55,28 +59,34 @@ is_image file word = not (is_empty word) && not (bytes_eq word file)
 
 -- ---- the whole
 
--- FILE, the granted steps, and the name of the file that the image is written to
+-- what is done with FILE, its name, the granted steps, and the name of the file that the image is
+-- written to
 pub record Asked : Type 0 where
+  pub mode : Mode
   pub file : List ℕ
   pub steps : ℕ
   pub image : List ℕ
 
-abbrev pub with_image : List ℕ → ℕ → List ℕ → Result Asked WordsFault
-with_image file steps image =
-    if is_image file image then Ok (record { file = file; steps = steps; image = image })
-    else Err (Value Image)
+abbrev pub with_image : Mode → List ℕ → ℕ → List ℕ → Result Asked WordsFault
+with_image mode file steps image =
+    if is_image file image
+    then Ok (record { mode = mode; file = file; steps = steps; image = image })
+    else Err (Value a_word.Image)
 
-abbrev pub with_steps : List ℕ → Option ℕ → List ℕ → Result Asked WordsFault
-with_steps file None image = Err (Value Steps)
-with_steps file (Some steps) image = with_image file steps image
+abbrev pub with_steps : Mode → List ℕ → Option ℕ → List ℕ → Result Asked WordsFault
+with_steps mode file None image = Err (Value a_word.Steps)
+with_steps mode file (Some steps) image = with_image mode file steps image
+
+abbrev pub with_mode : Option Mode → Line → Result Asked WordsFault
+with_mode None line = Err (Value a_word.Mode)
+with_mode (Some mode) line =
+    if is_empty line.file then Err (Value a_word.File)
+    else with_steps mode line.file (steps_of line.steps) (unwrap_or line.image default_image)
 
 -- What the values ask for, or the first of them that it may not have: MODE, FILE, the steps, the
 -- image's name.
 abbrev pub values_of : Line → Result Asked WordsFault
-values_of line =
-    if not (is_mode line.mode) then Err (Value Mode)
-    else (if is_empty line.file then Err (Value File)
-    else with_steps line.file (steps_of line.steps) (unwrap_or line.image default_image))
+values_of line = with_mode (mode_of line.mode) line
 
 abbrev pub asked_in : Option Line → Result Asked WordsFault
 asked_in None = Err Words

@@ -18,4 +18,5 @@ written l = record {
 }
 
 abbrev pub asked_by : Request → Asked
-asked_by r = record { file = r.file.now; steps = r.steps; image = r.image.now }
+asked_by r =
+    record { mode = r.mode; file = r.file.now; steps = r.steps; image = r.image.now }

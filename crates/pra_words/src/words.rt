@@ -2,9 +2,9 @@
 
 ghost use Rattle.std.specs.Prelude.{◌≡◌, ◌≢◌, Ok, Err, MatchResult};
 ghost use Rattle.std.specs.Str.{all_ascii_digits};
-ghost use Rattle.pra_words.specs.Words.{texts, is_number, number_of_steps, steps_of, is_image};
+ghost use Rattle.pra_words.specs.Words.{texts, mode_of, is_number, number_of_steps, steps_of};
 ghost use Rattle.pra_words.specs.Texts.{word_name};
-ghost use Rattle.pra_words.specs.Words.{values_of, asked_of};
+ghost use Rattle.pra_words.specs.Words.{is_image, values_of, asked_of};
 ghost use Rattle.pra_words.specs.Written.{asked_by, written};
 
 use crate::line::{Line, read_line};
@@ -19,6 +19,15 @@ const DEFAULT_STEPS: u32 = 10_000_000;
 
 /// The most steps that the words may grant.
 const MOST_STEPS: u32 = 200_000_000;
+
+/// What is done with FILE.
+#[derive(Clone, Copy, Debug, PartialEq, Eq)]
+pub enum Mode {
+    /// It is compiled, and its image runs.
+    Run,
+    /// It is compiled.
+    Compile,
+}
 
 /// A word of the command line that has a value.
 #[derive(Clone, Copy, Debug, PartialEq, Eq)]
@@ -54,10 +63,11 @@ pub enum WordsFault {
     OutOfMemory,
 }
 
-/// What the words ask for: FILE, the steps that its run is granted, and the name of the file that
-/// the image is written to.
+/// What the words ask for: what is done with FILE, its name, the steps that its run is granted, and
+/// the name of the file that the image is written to.
 #[derive(Clone, Copy, Drop)]
 pub struct Request<'a> {
+    pub mode: Mode,
     pub file: &'a str,
     pub steps: u32,
     pub image: &'a str,
@@ -68,9 +78,9 @@ pub struct Request<'a> {
 /// # Errors
 ///
 /// `WordsFault::Words` where the words are no such line, and else `WordsFault::Value` of the first
-/// word, in this order, whose value is none that it may have: MODE is `run`, FILE is not empty, the
-/// steps are one to ten digits and at most 200000000, and the image's name is neither empty nor
-/// FILE. `WordsFault::OutOfMemory` where there is no memory for reading.
+/// word, in this order, whose value is none that it may have: MODE is `run` or `compile`, FILE is
+/// not empty, the steps are one to ten digits and at most 200000000, and the image's name is
+/// neither empty nor FILE. `WordsFault::OutOfMemory` where there is no memory for reading.
 pub fn read_words(alloc: Global, words: &[String]) -> Result<Request<'_>, WordsFault>
     ensures { MatchResult result (λ r. asked_of (texts words.now) ≡ Ok (asked_by r))
         (λ fault. fault ≢ WordsFault.OutOfMemory → asked_of (texts words.now) ≡ Err fault) }
@@ -87,9 +97,9 @@ fn values<'a>(line: &Line<'a>) -> Result<Request<'a>, WordsFault>
     ensures { MatchResult result (λ r. values_of (written line.now) ≡ Ok (asked_by r))
         (λ fault. values_of (written line.now) ≡ Err fault) }
 {
-    if line.mode != "run" {
+    let Some(mode) = mode_of(line.mode) else {
         return Err(WordsFault::Value(Word::Mode));
-    }
+    };
     if line.file.is_empty() {
         return Err(WordsFault::Value(Word::File));
     }
@@ -101,10 +111,23 @@ fn values<'a>(line: &Line<'a>) -> Result<Request<'a>, WordsFault>
         return Err(WordsFault::Value(Word::Image));
     }
     Ok(Request {
+        mode,
         file: line.file,
         steps,
         image,
     })
+}
+
+fn mode_of(word: &str) -> Option<Mode>
+    ensures { result ≡ mode_of word.now }
+{
+    if word == "run" {
+        Some(Mode::Run)
+    } else if word == "compile" {
+        Some(Mode::Compile)
+    } else {
+        None
+    }
 }
 
 fn steps_of(line: &Line) -> Option<u32>

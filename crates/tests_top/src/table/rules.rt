@@ -18,25 +18,25 @@ pub(super) const RULES: &str = "\
 3 in front of a broken type|MODULE M; VAR x, x: T; END M.|3||fault rule 3 token 6 at 17
 3 in front of a broken value|MODULE M; CONST c = 1; c = c DIV 0; END M.|3||fault rule 3 token 8 at 23
 3 behind a broken type|MODULE M; VAR x: T; x: INTEGER; END M.|3||fault rule 5 token 6 at 17
-3 is for one scope|MODULE M; VAR P, x: INTEGER; PROCEDURE Q(x: BOOLEAN); VAR Q: INTEGER; BEGIN Q := P END Q; END M.|3||fault unbuilt
+3 is for one scope|MODULE M; VAR P, x: INTEGER; PROCEDURE Q(x: BOOLEAN); VAR Q: INTEGER; BEGIN Q := P END Q; END M.|0||ended steps
 4 in two lists|MODULE M; VAR r: RECORD a: INTEGER; b, a: BOOLEAN END; END M.|3||fault rule 4 token 13 at 39
 4 in front of a broken type|MODULE M; VAR r: RECORD a, a: T END; END M.|3||fault rule 4 token 9 at 27
 4 behind a broken type|MODULE M; VAR r: RECORD a: T; a: INTEGER END; END M.|3||fault rule 5 token 9 at 27
-4 is for one record|MODULE M; VAR a: RECORD a: RECORD a: INTEGER END; b: RECORD a: BOOLEAN END END; END M.|3||fault unbuilt
+4 is for one record|MODULE M; VAR a: RECORD a: RECORD a: INTEGER END; b: RECORD a: BOOLEAN END END; END M.|0||ended steps
 5 of a type that is declared later|MODULE M; TYPE A = B; B = INTEGER; END M.|3||fault rule 5 token 6 at 19
 5 of a variable in its own type|MODULE M; VAR n: ARRAY n OF INTEGER; END M.|3||fault rule 5 token 7 at 23
 5 of a local outside|MODULE M; PROCEDURE P; VAR k: INTEGER; END P; BEGIN k := 1 END M.|3||fault rule 5 token 15 at 52
 5 of a procedure in its own heading|MODULE M; PROCEDURE P(a: P); END P; END M.|3||fault rule 5 token 8 at 25
 5 in front of selectors|MODULE M; BEGIN Write(y.f[1 + TRUE]) END M.|3||fault rule 5 token 6 at 22
-5 is not for a call of itself|MODULE M; PROCEDURE P; BEGIN P END P; END M.|3||fault unbuilt
+5 is not for a call of itself|MODULE M; PROCEDURE P; BEGIN P END P; END M.|0||ended steps
 6 of a local as target|MODULE M; PROCEDURE P; VAR k: INTEGER; PROCEDURE Q; BEGIN k := 1 END Q; END P; END M.|3||fault rule 6 token 15 at 58
 6 of a parameter in an expression|MODULE M; PROCEDURE P(k: INTEGER); PROCEDURE Q; BEGIN Write(1 + k) END Q; END P; END M.|3||fault rule 6 token 19 at 64
 6 and not 8|MODULE M; PROCEDURE P(k: INTEGER); PROCEDURE Q; VAR y: k; END Q; END P; END M.|3||fault rule 6 token 17 at 55
 6 and not 9|MODULE M; PROCEDURE P(k: INTEGER); PROCEDURE Q; BEGIN k END Q; END P; END M.|3||fault rule 6 token 15 at 54
 6 and not 23|MODULE M; PROCEDURE P(k: INTEGER); PROCEDURE Q; BEGIN Read(k) END Q; END P; END M.|3||fault rule 6 token 17 at 59
 6 and not 24, in a heading|MODULE M; PROCEDURE P(k: INTEGER); PROCEDURE Q(VAR a: ARRAY k OF INTEGER); END Q; END P; END M.|3||fault rule 6 token 18 at 60
-6 is not for a variable of the module|MODULE M; VAR k: INTEGER; PROCEDURE P; PROCEDURE Q; BEGIN k := k + 1 END Q; BEGIN Q END P; END M.|3||fault unbuilt
-6 is not for a name that is declared anew|MODULE M; PROCEDURE P(k: INTEGER); PROCEDURE Q(k: INTEGER); BEGIN k := k + 1 END Q; BEGIN Q(k) END P; END M.|3||fault unbuilt
+6 is not for a variable of the module|MODULE M; VAR k: INTEGER; PROCEDURE P; PROCEDURE Q; BEGIN k := k + 1 END Q; BEGIN Q END P; END M.|0||ended steps
+6 is not for a name that is declared anew|MODULE M; PROCEDURE P(k: INTEGER); PROCEDURE Q(k: INTEGER); BEGIN k := k + 1 END Q; BEGIN Q(k) END P; END M.|0||ended steps
 7 of a type|MODULE M; VAR x: INTEGER; BEGIN x := 1 + INTEGER END M.|3||fault rule 7 token 13 at 41
 7 of a procedure|MODULE M; PROCEDURE P; END P; BEGIN Write(P) END M.|3||fault rule 7 token 12 at 42
 7 in front of a broken index|MODULE M; TYPE T = INTEGER; BEGIN Write(T[y]) END M.|3||fault rule 7 token 11 at 40
@@ -122,7 +122,7 @@ pub(super) const RULES: &str = "\
 23 of two types of one form|MODULE M; VAR a: ARRAY 2 OF INTEGER; PROCEDURE P(VAR p: ARRAY 2 OF INTEGER); END P; BEGIN P(a) END M.|3||fault rule 23 token 29 at 92
 23 with a broken index|MODULE M; VAR a: ARRAY 2 OF INTEGER; BEGIN Read(a[TRUE]) END M.|3||fault rule 14 token 16 at 50
 23 and not 7|MODULE M; PROCEDURE P; END P; BEGIN Read(P) END M.|3||fault rule 7 token 12 at 41
-23 is not for one type by two names|MODULE M; TYPE T = ARRAY 2 OF INTEGER; U = T; VAR a: U; PROCEDURE P(VAR p: T); END P; BEGIN P(a); Read(a[1]) END M.|3||fault unbuilt
+23 is not for one type by two names|MODULE M; TYPE T = ARRAY 2 OF INTEGER; U = T; VAR a: U; PROCEDURE P(VAR p: T); END P; BEGIN P(a); Read(a[1]) END M.|1||trap Input steps
 24 of a variable|MODULE M; VAR x: INTEGER; PROCEDURE P; CONST c = x - 1; END P; END M.|3||fault rule 24 token 16 at 53
 24 of a division by 0|MODULE M; CONST c = 7 DIV 0; END M.|3||fault rule 24 token 8 at 26
 24 of a remainder by a number below 0|MODULE M; CONST c = 7 MOD (0 - 1); END M.|3||fault rule 24 token 12 at 32
@@ -135,8 +135,8 @@ pub(super) const RULES: &str = "\
 24 with a broken part|MODULE M; CONST c = 1 + y; END M.|3||fault rule 5 token 8 at 24
 24 and not 7|MODULE M; CONST c = INTEGER; END M.|3||fault rule 7 token 6 at 20
 24 and not 16|MODULE M; CONST c = FALSE & 2; END M.|3||fault rule 16 token 8 at 28
-24 is not for a side that is not looked at|MODULE M; CONST c = TRUE OR (1 DIV 0 = 1); d = FALSE & (1 MOD 0 = 1); END M.|3||fault unbuilt
-24 is not for a sum that wraps|MODULE M; CONST c = 2147483647 + 1; d = -c; END M.|3||fault unbuilt
+24 is not for a side that is not looked at|MODULE M; CONST c = TRUE OR (1 DIV 0 = 1); d = FALSE & (1 MOD 0 = 1); END M.|0||ended steps
+24 is not for a sum that wraps|MODULE M; CONST c = 2147483647 + 1; d = -c; END M.|0||ended steps
 the least token of two broken rules|MODULE M; VAR b: BOOLEAN; BEGIN Write(b + y); b := 1 END N.|3||fault rule 15 token 11 at 38
 a lexical fault behind a broken rule|MODULE M; BEGIN x := 1 END M. !|3||fault bad-byte at 30
 a faulty grammar behind a broken rule|MODULE M; BEGIN x := 1 x END M.|3||fault grammar token 7 at 23
@@ -145,27 +145,27 @@ a broken rule and a limit|MODULE M; VAR a: ARRAY 1048577 OF INTEGER; BEGIN Write
 
 /// For each limit the most that is accepted, the least that is refused, and which of two is told.
 pub(super) const LIMITS: &str = "\
-the greatest array|MODULE M; VAR a: ARRAY 1048576 OF INTEGER; END M.|3||fault unbuilt
+the greatest array|MODULE M; VAR a: ARRAY 1048576 OF INTEGER; END M.|0||ended steps
 an array one longer|MODULE M; VAR a: ARRAY 1048577 OF INTEGER; END M.|4||limit array-length count 1048577 maximum 1048576
 the outer of two long arrays|MODULE M; TYPE T = ARRAY 1048578 OF ARRAY 1048577 OF INTEGER; END M.|4||limit array-length count 1048578 maximum 1048576
 the first of two long arrays|MODULE M; PROCEDURE P(VAR a: ARRAY 1048579 OF INTEGER); VAR b: ARRAY 1048580 OF INTEGER; END P; END M.|4||limit array-length count 1048579 maximum 1048576
-the greatest type|MODULE M; TYPE T = ARRAY 4 OF ARRAY 1048576 OF INTEGER; END M.|3||fault unbuilt
+the greatest type|MODULE M; TYPE T = ARRAY 4 OF ARRAY 1048576 OF INTEGER; END M.|0||ended steps
 a type of one word more|MODULE M; TYPE T = RECORD a: ARRAY 4 OF ARRAY 1048576 OF INTEGER; b: BOOLEAN END; END M.|4||limit type-words count 4194305 maximum 4194304
 the inner of two great types|MODULE M; TYPE T = ARRAY 9 OF ARRAY 5 OF ARRAY 1048576 OF INTEGER; END M.|4||limit type-words count 5242880 maximum 4194304
 a great type of great words|MODULE M; TYPE A = ARRAY 1048576 OF INTEGER; B = ARRAY 1048576 OF RECORD x, y, z: A END; END M.|4||limit type-words count 3298534883328 maximum 4194304
 a great type behind a long array|MODULE M; TYPE T = ARRAY 5 OF ARRAY 1048576 OF INTEGER; A = ARRAY 1048577 OF INTEGER; END M.|4||limit array-length count 1048577 maximum 1048576
-32 parameters|MODULE M; PROCEDURE P(a, b, c, d, e, f, g, h, i, j, k, l, m, n, o, p, q, r, s, t, u, v, w, x, y, z, A, B, C, D, E, F: INTEGER); END P; END M.|3||fault unbuilt
+32 parameters|MODULE M; PROCEDURE P(a, b, c, d, e, f, g, h, i, j, k, l, m, n, o, p, q, r, s, t, u, v, w, x, y, z, A, B, C, D, E, F: INTEGER); END P; END M.|0||ended steps
 33 parameters|MODULE M; PROCEDURE P(a, b, c, d, e, f, g, h, i, j, k, l, m, n, o, p, q, r, s, t, u, v, w, x, y, z, A, B, C, D, E, F, G: INTEGER); END P; END M.|4||limit parameters count 33 maximum 32
 33 parameters in an inner procedure, some VAR|MODULE M; PROCEDURE P; PROCEDURE Q(a, b, c, d, e, f, g, h, i, j, k, l, m, n, o, p, q, r, s, t, u, v, w, x, y, z, A, B, C, D: INTEGER; VAR x1, x2, x3: BOOLEAN); END Q; END P; END M.|4||limit parameters count 33 maximum 32
-128 scalars|MODULE M; PROCEDURE P(VAR a, b, c, d, e, f, g, h, i, j: INTEGER); VAR k, l, m, n, o, p, q, r, s, t, u, v, w, x, y, z, A, B, C, D, E, F, G, H, I, J, K, L, M, N, O, P, Q, R, S, T, U, V, W, X, Y, Z, aa, ab, ac, ad, ae, af, ag, ah, ai, aj, ba, bb, bc, bd, be, bf, bg, bh, bi, bj, ca, cb, cc, cd, ce, cf, cg, ch, ci, cj, da, db, dc, dd, de, df, dg, dh, di, dj, ea, eb, ec, ed, ee, ef, eg, eh, ei, ej, fa, fb, fc, fd, fe, ff, fg, fh, fi, fj, ga, gb, gc, gd, ge, gf, gg, gh, gi, gj, ha, hb, hc, hd, he, hf: INTEGER; A1: ARRAY 2 OF INTEGER; END P; END M.|3||fault unbuilt
+128 scalars|MODULE M; PROCEDURE P(VAR a, b, c, d, e, f, g, h, i, j: INTEGER); VAR k, l, m, n, o, p, q, r, s, t, u, v, w, x, y, z, A, B, C, D, E, F, G, H, I, J, K, L, M, N, O, P, Q, R, S, T, U, V, W, X, Y, Z, aa, ab, ac, ad, ae, af, ag, ah, ai, aj, ba, bb, bc, bd, be, bf, bg, bh, bi, bj, ca, cb, cc, cd, ce, cf, cg, ch, ci, cj, da, db, dc, dd, de, df, dg, dh, di, dj, ea, eb, ec, ed, ee, ef, eg, eh, ei, ej, fa, fb, fc, fd, fe, ff, fg, fh, fi, fj, ga, gb, gc, gd, ge, gf, gg, gh, gi, gj, ha, hb, hc, hd, he, hf: INTEGER; A1: ARRAY 2 OF INTEGER; END P; END M.|0||ended steps
 129 scalars|MODULE M; PROCEDURE P(VAR a, b, c, d, e, f, g, h, i, j: INTEGER); VAR k, l, m, n, o, p, q, r, s, t, u, v, w, x, y, z, A, B, C, D, E, F, G, H, I, J, K, L, M, N, O, P, Q, R, S, T, U, V, W, X, Y, Z, aa, ab, ac, ad, ae, af, ag, ah, ai, aj, ba, bb, bc, bd, be, bf, bg, bh, bi, bj, ca, cb, cc, cd, ce, cf, cg, ch, ci, cj, da, db, dc, dd, de, df, dg, dh, di, dj, ea, eb, ec, ed, ee, ef, eg, eh, ei, ej, fa, fb, fc, fd, fe, ff, fg, fh, fi, fj, ga, gb, gc, gd, ge, gf, gg, gh, gi, gj, ha, hb, hc, hd, he, hf: INTEGER; A1: ARRAY 2 OF INTEGER; hg: BOOLEAN; END P; END M.|4||limit scalars count 129 maximum 128
-129 variables of the module|MODULE M; VAR a, b, c, d, e, f, g, h, i, j, k, l, m, n, o, p, q, r, s, t, u, v, w, x, y, z, A, B, C, D, E, F, G, H, I, J, K, L, M, N, O, P, Q, R, S, T, U, V, W, X, Y, Z, aa, ab, ac, ad, ae, af, ag, ah, ai, aj, ba, bb, bc, bd, be, bf, bg, bh, bi, bj, ca, cb, cc, cd, ce, cf, cg, ch, ci, cj, da, db, dc, dd, de, df, dg, dh, di, dj, ea, eb, ec, ed, ee, ef, eg, eh, ei, ej, fa, fb, fc, fd, fe, ff, fg, fh, fi, fj, ga, gb, gc, gd, ge, gf, gg, gh, gi, gj, ha, hb, hc, hd, he, hf, hg: INTEGER; z1: BOOLEAN; END M.|3||fault unbuilt
-the most aggregate words|MODULE M; PROCEDURE P; VAR a: ARRAY 65535 OF INTEGER; r: RECORD f: BOOLEAN END; x: INTEGER; BEGIN Read(x); Write(a[x]) END P; END M.|3||fault unbuilt
+129 variables of the module|MODULE M; VAR a, b, c, d, e, f, g, h, i, j, k, l, m, n, o, p, q, r, s, t, u, v, w, x, y, z, A, B, C, D, E, F, G, H, I, J, K, L, M, N, O, P, Q, R, S, T, U, V, W, X, Y, Z, aa, ab, ac, ad, ae, af, ag, ah, ai, aj, ba, bb, bc, bd, be, bf, bg, bh, bi, bj, ca, cb, cc, cd, ce, cf, cg, ch, ci, cj, da, db, dc, dd, de, df, dg, dh, di, dj, ea, eb, ec, ed, ee, ef, eg, eh, ei, ej, fa, fb, fc, fd, fe, ff, fg, fh, fi, fj, ga, gb, gc, gd, ge, gf, gg, gh, gi, gj, ha, hb, hc, hd, he, hf, hg: INTEGER; z1: BOOLEAN; END M.|0||ended steps
+the most aggregate words|MODULE M; PROCEDURE P; VAR a: ARRAY 65535 OF INTEGER; r: RECORD f: BOOLEAN END; x: INTEGER; BEGIN Read(x); Write(a[x]) END P; END M.|0||ended steps
 one aggregate word more|MODULE M; PROCEDURE P; VAR a: ARRAY 65535 OF INTEGER; r: RECORD f, g: BOOLEAN END; END P; END M.|4||limit aggregate-words count 65537 maximum 65536
 a local that is lent is an aggregate word|MODULE M; PROCEDURE Q(VAR y: INTEGER); END Q; PROCEDURE P; VAR a: ARRAY 65536 OF INTEGER; x: INTEGER; BEGIN WHILE TRUE DO IF TRUE THEN ELSE REPEAT Q(x); Q(x) UNTIL TRUE END END END P; END M.|4||limit aggregate-words count 65537 maximum 65536
-a local that is not lent is none|MODULE M; VAR m: INTEGER; PROCEDURE Q(VAR y: INTEGER); END Q; PROCEDURE P(p: INTEGER; VAR q: INTEGER); VAR a: ARRAY 65536 OF INTEGER; x: INTEGER; BEGIN Read(x); Q(p); Q(q); Q(m); Q(a[x]) END P; END M.|3||fault unbuilt
-aggregate words of a parameter are none|MODULE M; TYPE T = ARRAY 65536 OF INTEGER; PROCEDURE P(VAR p: T); VAR a: T; END P; END M.|3||fault unbuilt
-the most words of the module|MODULE M; VAR a, b, c: ARRAY 1048576 OF INTEGER; d: ARRAY 1048575 OF INTEGER; x: BOOLEAN; END M.|3||fault unbuilt
+a local that is not lent is none|MODULE M; VAR m: INTEGER; PROCEDURE Q(VAR y: INTEGER); END Q; PROCEDURE P(p: INTEGER; VAR q: INTEGER); VAR a: ARRAY 65536 OF INTEGER; x: INTEGER; BEGIN Read(x); Q(p); Q(q); Q(m); Q(a[x]) END P; END M.|0||ended steps
+aggregate words of a parameter are none|MODULE M; TYPE T = ARRAY 65536 OF INTEGER; PROCEDURE P(VAR p: T); VAR a: T; END P; END M.|0||ended steps
+the most words of the module|MODULE M; VAR a, b, c: ARRAY 1048576 OF INTEGER; d: ARRAY 1048575 OF INTEGER; x: BOOLEAN; END M.|0||ended steps
 one word of the module more|MODULE M; VAR a, b, c, d: ARRAY 1048576 OF INTEGER; x: BOOLEAN; END M.|4||limit module-words count 4194305 maximum 4194304
 aggregate words are told before words of the module|MODULE M; VAR a, b, c, d, e: ARRAY 1048576 OF INTEGER; PROCEDURE P; VAR a: ARRAY 65537 OF INTEGER; END P; END M.|4||limit aggregate-words count 65537 maximum 65536
 parameters are told before aggregate words|MODULE M; PROCEDURE P; VAR a: ARRAY 65537 OF INTEGER; END P; PROCEDURE Q(a, b, c, d, e, f, g, h, i, j, k, l, m, n, o, p, q, r, s, t, u, v, w, x, y, z, A, B, C, D, E, F, G, H: INTEGER); END Q; END M.|4||limit parameters count 34 maximum 32

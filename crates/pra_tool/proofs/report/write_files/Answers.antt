@@ -1,10 +1,9 @@
-use Rattle.std.proofs.Common.{rules, ◌≡◌, ◌<◌, ◌∙◌, sym, ap, subst, take, length, List, ℕ, arith}
+use Rattle.std.proofs.Common.{◌<◌, ap, subst, length, List, ℕ, arith}
 use Rattle.std.specs.Prelude.{map, Err}
 use Rattle.pra_io.specs.declared.files.FileFault.{FileFault}
 use Rattle.std.proofs.lemmas.List.{length-map}
 use Rattle.pra_io.specs.Contents.{Becomes}
 use Rattle.pra_tool.specs.Reports.{file_text}
-use Rattle.pra_tool.specs.Writes.{FileText, Stored}
 use Rattle.pra_tool.proofs.Files.{stored_next, failed_next, left_next, file_of, stopped_by, rose_after}
 use Rattle.pra_tool.proofs.report.write_files.Goals as goal
 

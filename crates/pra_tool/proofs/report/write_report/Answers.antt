@@ -1,13 +1,13 @@
-use Rattle.std.proofs.Common.{rules, ap, subst, sym, inl, inr}
+use Rattle.std.proofs.Common.{ap, subst, sym}
 use Rattle.std.specs.Prelude.{map}
 use Rattle.std.specs.Io.KnownBytes.{Keeps}
 use Rattle.pra_tool.specs.Reports.{file_text, writes_of}
 use Rattle.pra_tool.proofs.WriteEnds.{file_end, stopped_same}
-use Rattle.pra_tool.proofs.RunMode.{keeps_same}
+use Rattle.pra_tool.proofs.BothModes.{keeps_same}
 use Rattle.pra_tool.proofs.report.write_report.Goals as goal
 
 pub returns-in-Err : goal.returns-in-Err
-returns-in-Err g c =
+returns-in-Err g c = λ input_old input_new.
     let report = c.args.report.now in
     let f = c.in-Err.fault in
     file_end (writes_of report) report.status c.requires.done _ _ c.write_files.ensures.counts f _

@@ -1,0 +1,183 @@
+-- `run` and `compile` are modes.
+use Rattle.std.proofs.Common.{◌≡◌, ◌≢◌, ◌⊎◌, ◌<◌, ◌+◌, inl, refl, sym, ap, ◌∙◌, subst, ℕ, ℤ, List, [], ◌∷◌, length, take, Some, None, replicate, arith, rules, ⊎_elim}
+use Rattle.std.proofs.lemmas.List.{length-map, length-replicate, length-append}
+use Rattle.std.specs.declared.option.Option.{Option}
+use Rattle.std.specs.Io.KnownBytes.{Keeps}
+use Rattle.pra_base.specs.declared.limit.LimitKind.TheVariants as limit
+use Rattle.pra_base.specs.RunEnd as end
+use Rattle.pra_io.specs.Contents.{Holds, IsLonger, IsAllOf, Takes}
+use Rattle.ia_code.specs.declared.image.Image.{Image}
+use Rattle.ia_step.specs.declared.out.Ending.{Ending}
+use Rattle.ia_step.specs.declared.out.Ending.TheVariants as ending
+use Rattle.ia_step.specs.Run.{run_end}
+use Rattle.ob_read.specs.declared.fault.LimitFault.TheVariants.{Count}
+use Rattle.ob_read.specs.declared.fault.ReadFault.{ReadFault}
+use Rattle.ob_read.specs.Source.{IsUnreadable}
+use Rattle.ob_read.proofs.Reading.{one_reading, never_memory}
+use Rattle.pra_compile.specs.declared.output.Compiled.{Compiled}
+use Rattle.pra_tool.specs.Compiling.{MadeOf}
+use Rattle.ob_read.specs.declared.fault.ReadFault.TheVariants as read
+use Rattle.pra_words.specs.declared.words.Mode.{Mode as Word}
+use Rattle.pra_words.specs.declared.words.Mode.TheVariants.{Run, Compile}
+use Rattle.pra_words.specs.Words.{Asked}
+use Rattle.pra_tool.specs.declared.input.WrongInput.{WrongInput}
+use Rattle.pra_tool.specs.declared.input.WrongInput.TheVariants.{TooLong, NoWord}
+use Rattle.pra_tool.specs.declared.status.Status.{Status}
+use Rattle.pra_tool.specs.declared.status.Status.TheVariants.{Ended, Trapped, Going, NoMemory}
+use Rattle.pra_tool.specs.Ends.{NeverFaults}
+use Rattle.pra_tool.specs.Inputs.{HasNumbers, IsWrongInput, input_status}
+use Rattle.pra_tool.specs.Status.{IsDone, IsRefusal, IsEnding, IsStatusOf}
+use Rattle.pra_tool.specs.Outside.{Seen, Untouched}
+use Rattle.pra_tool.specs.Writes.{FileText, Writes, IsOther, AreDifferent, names, LeftOff}
+use Rattle.pra_tool.proofs.Files.{one_file}
+use Rattle.pra_tool.specs.Modes.{IsKind, IsMode}
+use Rattle.pra_tool.specs.Clause.{makes, sources, inputs, mode_by, fault_status, image_file}
+
+-- the run of an image that was made of a source is no fault
+ending_along : (e : Ending) → (run_end e ≢ Some end.Wrong) → IsEnding e
+ending_along ending.Going h = tt
+ending_along ending.Ended h = tt
+ending_along (ending.Trap k) h = tt
+ending_along (ending.Fault k) h = absurd (h refl)
+
+pub never_faults : (source : List ℕ) (compiled : Compiled) → MadeOf source compiled →
+    NeverFaults compiled.image
+never_faults source compiled made input words m =
+    ending_along _ ((made.compiled_to.does input words).never_wrong m)
+
+pub done_of : (e : Ending) (s : Status) → IsStatusOf e s → IsDone s
+done_of e Ended is = tt
+done_of e Trapped is = tt
+done_of e Going is = tt
+done_of ending.Ended _ is = absurd is
+done_of (ending.Trap k) _ is = absurd is
+done_of ending.Going _ is = absurd is
+done_of (ending.Fault k) _ is = absurd is
+
+-- one file at most is written, so none stands where memory was wanting
+pub nothing_left : (w : Writes) (name : List ℕ) (old new : Seen) → names w.files ≡ name ∷ [] →
+    LeftOff w old new → Untouched old new
+nothing_left w name old new one l =
+    let count : length w.files ≡ 1 = sym (length-map w.files (λ f. f.name)) ∙ ap length one in
+    let none : l.files.before ≡ 0 = let le = l.files.some_left in omega (arith, count, le) in
+    record {
+      files = λ n. l.files.stored.others n
+          (subst (λ (k : ℕ). IsOther n (take k w.files)) (sym none) tt);
+      out = l.out;
+      notes = l.notes;
+    }
+
+refusal_of : (source : List ℕ) (f : ReadFault) → IsUnreadable source f → IsRefusal (fault_status f)
+refusal_of source (read.Source f) h = tt
+refusal_of source (read.Limit f) h = tt
+refusal_of source read.OutOfMemory h = absurd (never_memory source read.OutOfMemory h refl)
+
+-- ---- sources and inputs
+
+sources_are_a_kind : IsKind sources
+sources_are_a_kind = record {
+  one_wrong = one_reading.one_fault;
+  never_both = λ source f right h. one_reading.never_both source right.0 f right.1 h;
+  refuses = refusal_of;
+}
+
+one_wrong_input : (text : List ℕ) (f g : WrongInput) → IsWrongInput text f → IsWrongInput text g →
+    f ≡ g
+one_wrong_input text TooLong TooLong h k = refl
+one_wrong_input text TooLong (NoWord at) h k = absurd (let le = k.0 in omega (arith, h, le))
+one_wrong_input text (NoWord at) TooLong h k = absurd (let le = h.0 in omega (arith, k, le))
+one_wrong_input text (NoWord at) (NoWord other) h k = let e = sym h.1 ∙ k.1 in cc
+
+input_never_both : (text : List ℕ) (f : WrongInput) → (numbers : List ℤ) × HasNumbers text numbers →
+    IsWrongInput text f → ⊥
+input_never_both text TooLong right h = let le = right.1.0 in omega (arith, h, le)
+input_never_both text (NoWord at) right h = let e = sym right.1.1 ∙ h.1 in cc
+
+input_refusal : (text : List ℕ) (f : WrongInput) → IsWrongInput text f → IsRefusal (input_status f)
+input_refusal text TooLong h = tt
+input_refusal text (NoWord at) h = tt
+
+inputs_are_a_kind : IsKind inputs
+inputs_are_a_kind = record {
+  one_wrong = one_wrong_input;
+  never_both = input_never_both;
+  refuses = input_refusal;
+}
+
+-- ---- the modes
+
+no_numbers : HasNumbers [] []
+no_numbers = (omega arith, refl)
+
+modes_right : (word : Word) (asked : Asked) (source input : List ℕ) (w : Writes) (s : Status) →
+    makes word asked source input w s →
+    sources.IsRight source × inputs.IsRight input
+modes_right Run asked source input w s made =
+    ((made.made.text, made.made.read), (made.numbers, made.has))
+modes_right Compile asked source input w s made = (
+  (made.made.text, made.made.read),
+  ([], subst (λ (text : List ℕ). HasNumbers text []) (sym made.no_input) no_numbers),
+)
+
+modes_done : (word : Word) (asked : Asked) (source input : List ℕ) (w : Writes) (s : Status) →
+    makes word asked source input w s → IsDone s
+modes_done Run asked source input w s made = done_of _ s made.ended
+modes_done Compile asked source input w s made = subst IsDone (sym made.done) tt
+
+pub modes_write : (word : Word) (asked : Asked) (source input : List ℕ) (w : Writes) (s : Status) →
+    makes word asked source input w s → names w.files ≡ asked.image ∷ []
+modes_write Run asked source input w s made = ap (λ (x : Writes). names x.files) made.writes
+modes_write Compile asked source input w s made = ap (λ (x : Writes). names x.files) made.writes
+
+pub both_are_modes : (word : Word) (asked : Asked) → IsMode (mode_by word asked)
+both_are_modes word asked = record {
+  source = sources_are_a_kind;
+  input = inputs_are_a_kind;
+  right = modes_right word asked;
+  done = modes_done word asked;
+  writes = modes_write word asked;
+}
+
+-- ---- a source that is too long
+
+some_longer : (n : ℕ) → (source : List ℕ) × (n < length source)
+some_longer n =
+    (replicate (n + 1) 0, let same = length-replicate {A = ℕ} (n + 1) 0 in omega (arith, same))
+
+-- there is a source that FILE may hold and that is longer
+longer : (n : ℕ) (file : Option (Option (List ℕ))) → IsLonger file n →
+    (source : List ℕ) × Holds file source × (n < length source)
+longer n None h = let x = some_longer n in (x.0, tt, x.1)
+longer n (Some None) h = absurd h
+longer n (Some (Some bytes)) h = (bytes, refl, h)
+
+-- and it is refused for that
+pub too_long : (file : Option (Option (List ℕ))) → IsLonger file 1048576 →
+    (source : List ℕ) × Holds file source × IsUnreadable source (read.Limit (Count limit.Source 1048577))
+too_long file h = let x = longer 1048576 file h in (x.0, x.1, inl (x.2, refl))
+
+-- the one file that is written differs from all others
+pub different : (name : List ℕ) (image : Image) (files : List FileText) → files ≡ image_file name image →
+    AreDifferent files
+different name image files is = subst AreDifferent (sym is) (one_file _)
+
+pub keeps_same : (o : Option (List ℕ)) → Keeps o o
+keeps_same o = search rules
+
+-- what is wrong with a source that is refused with its own status
+pub told_wrong : {P : Type 0} (f : ReadFault) (result : Status) →
+    (result ≡ fault_status f) ⊎ (result ≡ NoMemory) → (f ≢ read.OutOfMemory → P) →
+    result ≢ NoMemory → P
+told_wrong f result known h other =
+    h (λ memory. other (⊎_elim (λ e. e ∙ ap fault_status memory) (λ e. e) known))
+
+-- ---- an input that is too long
+
+-- there is an input of which so many bytes were taken
+pub longer_input : (n : ℕ) (old new : Option (List ℕ)) → Takes old new (n + 1) →
+    (bytes : List ℕ) × IsAllOf old bytes × (n < length bytes)
+longer_input n None new h = let x = some_longer n in (x.0, tt, x.1)
+longer_input n (Some held) None h = absurd h.2
+longer_input n (Some held) (Some kept) h =
+    let all : length held ≡ length h.0 + length kept = ap length h.2 ∙ length-append h.0 kept in
+    let count = h.1 in (held, refl, omega (arith, all, count))

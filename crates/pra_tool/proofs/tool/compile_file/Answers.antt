@@ -1,0 +1,75 @@
+use Rattle.std.proofs.Common.{rules, ◌≢◌, refl, subst, sym, List, ℕ}
+use Rattle.std.specs.Io.KnownBytes.{Keeps}
+use Rattle.ob_read.specs.declared.fault.ReadFault.TheVariants.{OutOfMemory}
+use Rattle.ob_read.specs.Source.{IsUnreadable}
+use Rattle.pra_words.specs.Written.{asked_by}
+use Rattle.pra_tool.specs.Clause.{mode_of}
+use Rattle.pra_tool.specs.Compiling.{MadeOf}
+use Rattle.pra_tool.proofs.ModeAnswers.{wrong_source, right_source}
+use Rattle.pra_tool.proofs.BothModes.{both_are_modes, modes_write, too_long, told_wrong, nothing_left, keeps_same}
+use Rattle.pra_tool.proofs.tool.compile_file.Goals as goal
+
+pub returns-in-Ok-compile_source-clause-answers : goal.returns-in-Ok-compile_source-clause-answers
+returns-in-Ok-compile_source-clause-answers g c =
+    let asked = asked_by c.args.request.now in
+    let source = c.in-Ok.source.items in
+    let compiled = c.in-Ok-compile_source.compiled in
+    let made : MadeOf source compiled =
+    subst (λ (s : List ℕ). MadeOf s compiled) c.deref.ensures.value c.in-Ok-compile_source.ensures.made in
+    right_source (mode_of asked) (both_are_modes asked.mode asked) asked.file _ _ _
+    (record {
+      same = c.in-Ok.ensures.same;
+      input = refl;
+      out = refl;
+      notes = refl;
+      later = c.in-Ok.ensures.cause.other_later;
+    })
+    source c.in-Ok.ensures.bytes (made.text, made.read) _
+    (λ input w s makes. nothing_left w asked.image _ _
+    (modes_write asked.mode asked source input w s makes))
+    (λ untouched. untouched)
+    (c.finish.ensures.ends source made)
+
+pub returns-clause-answers : goal.returns-clause-answers
+returns-clause-answers g c =
+    let f = c.in-Err.fault in
+    let asked = asked_by c.args.request.now in
+    let cause : f ≢ OutOfMemory → IsUnreadable c.in-Ok.source.items f =
+    subst (λ (b : List ℕ). f ≢ OutOfMemory → IsUnreadable b f) c.deref.ensures.value
+    c.in-Err.ensures.cause in
+    wrong_source (mode_of asked) (both_are_modes asked.mode asked) asked.file _ _
+    c.in-Ok.source.items f _ c.in-Ok.ensures.bytes
+    (told_wrong f _ c.refuse_source-in-Err.ensures.known cause)
+    c.refuse_source-in-Err.ensures.known
+    (λ other. record {
+      files = c.in-Ok.ensures.same;
+      out = keeps_same (g.O.Sink.bytes c.args.out.now);
+      notes = c.refuse_source-in-Err.ensures.told other;
+    })
+    (λ memory. record {
+      files = c.in-Ok.ensures.same;
+      out = keeps_same (g.O.Sink.bytes c.args.out.now);
+      notes = subst (λ n. Keeps (g.N.Sink.bytes c.args.notes.now) (g.N.Sink.bytes n))
+          (sym (c.refuse_source-in-Err.ensures.memory memory)) (keeps_same _);
+    })
+    refl
+
+pub returns-in-Err-TooLong-clause-answers : goal.returns-in-Err-TooLong-clause-answers
+returns-in-Err-TooLong-clause-answers g c =
+    let asked = asked_by c.args.request.now in
+    let x = too_long _ (c.in-Err-TooLong.ensures.too_long (search rules)) in
+    wrong_source (mode_of asked) (both_are_modes asked.mode asked) asked.file _ _ x.0 _ _ x.1
+    (λ other. x.2)
+    c.refuse_source.ensures.known
+    (λ other. record {
+      files = c.in-Err-TooLong.ensures.same;
+      out = keeps_same (g.O.Sink.bytes c.args.out.now);
+      notes = c.refuse_source.ensures.told other;
+    })
+    (λ memory. record {
+      files = c.in-Err-TooLong.ensures.same;
+      out = keeps_same (g.O.Sink.bytes c.args.out.now);
+      notes = subst (λ n. Keeps (g.N.Sink.bytes c.args.notes.now) (g.N.Sink.bytes n))
+          (sym (c.refuse_source.ensures.memory memory)) (keeps_same _);
+    })
+    refl

@@ -1,0 +1,50 @@
+use Rattle.std.proofs.Common.{ap, refl, subst, sym}
+use Rattle.std.specs.Io.KnownBytes.{Keeps}
+use Rattle.pra_words.specs.Written.{asked_by}
+use Rattle.pra_tool.specs.Outside.{stream_seen}
+use Rattle.pra_tool.specs.Reports.{writes_of}
+use Rattle.pra_tool.specs.Writes.{Writes}
+use Rattle.pra_tool.proofs.BothModes.{different, keeps_same}
+use Rattle.pra_tool.proofs.CompiledEnds.{input_ends, run_ends}
+use Rattle.pra_tool.proofs.InputWords.{numbers_are_words}
+use Rattle.pra_tool.proofs.tool.run_compiled.Goals as goal
+
+pub returns-in-Err : goal.returns-in-Err
+returns-in-Err g c = λ source made.
+    input_ends (asked_by c.args.request.now) c.in-Err.fault _ _ _
+    c.in-Err.ensures.cause
+    c.refuse_input.ensures.known
+    (λ other. record {
+      files = λ name. refl;
+      out = keeps_same (g.O.Sink.bytes c.args.out.now);
+      notes = c.refuse_input.ensures.told other;
+    })
+    (λ memory. record {
+      files = λ name. refl;
+      out = keeps_same (g.O.Sink.bytes c.args.out.now);
+      notes = subst (λ n. Keeps (g.N.Sink.bytes c.args.notes.now) (g.N.Sink.bytes n))
+          (sym (c.refuse_input.ensures.memory memory)) (keeps_same _);
+    })
+    source
+
+pub run_report-requires-clause-words : goal.run_report-requires-clause-words
+run_report-requires-clause-words g c =
+    let given = c.in-Ok.ensures.numbers in
+    numbers_are_words given.bytes c.in-Ok.numbers.items given.has.1
+
+pub write_report-requires-clause-different : goal.write_report-requires-clause-different
+write_report-requires-clause-different g c =
+    different c.args.request.now.image.now c.args.compiled.now.image _
+    (ap (λ (x : Writes). x.files) c.in-Ok-run_report.ensures.writes)
+
+pub returns-in-Ok-run_report : goal.returns-in-Ok-run_report
+returns-in-Ok-run_report g c = λ source made.
+    let report = c.in-Ok-run_report.report in
+    run_ends (asked_by c.args.request.now) c.args.compiled.now c.in-Ok.numbers.items
+    (writes_of report) report.status _ _ _
+    c.in-Ok.ensures.numbers
+    c.in-Ok-run_report.ensures.writes
+    c.in-Ok-run_report.ensures.ended
+    (c.write_report.ensures (stream_seen g.I.Source.left g.I.Source.faults c.args.input.now)
+    (stream_seen g.I.Source.left g.I.Source.faults c.read_numbers.new.input))
+    source made

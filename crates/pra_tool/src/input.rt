@@ -1,0 +1,56 @@
+// The numbers of a program's input.
+
+ghost use Rattle.std.specs.Prelude.{IfOk, IfErr};
+ghost use Rattle.pra_tool.specs.Inputs.{HasGiven, IsInputCause};
+ghost use Rattle.pra_tool.specs.Outside.{stream_seen};
+
+use pra_io::{ReadAll, Source, read_all};
+use pra_report::input_words;
+use std::alloc::Global;
+
+/// The most bytes of an input.
+const MAX_INPUT: usize = 1_048_576;
+
+/// What may be wrong with an input.
+#[derive(Clone, Copy, Debug, PartialEq, Eq)]
+pub enum WrongInput {
+    /// It has more than 1,048,576 bytes.
+    TooLong,
+    /// The run of bytes that begins there, counted from 0, is no word of a number.
+    NoWord(u32),
+}
+
+/// Why no numbers were read.
+#[derive(Clone, Copy, Debug, PartialEq, Eq)]
+pub(crate) enum InputFault {
+    Wrong(WrongInput),
+    /// The input failed.
+    NotRead,
+    OutOfMemory,
+}
+
+/// Reads an input to its end.
+///
+/// # Errors
+///
+/// What is wrong with the input, or that it failed, or that memory was wanting.
+pub(crate) fn read_numbers<I: Source>(alloc: Global, input: &mut I) -> Result<Vec<i32>, InputFault>
+    ensures numbers { IfOk result (λ numbers. HasGiven (stream_seen I.left I.faults input.old)
+        (stream_seen I.left I.faults input.new) numbers.items) }
+    ensures cause { IfErr result (λ fault. IsInputCause fault
+        (stream_seen I.left I.faults input.old) (stream_seen I.left I.faults input.new)) }
+{
+    let bytes = match read_all(alloc, input, MAX_INPUT) {
+        Ok(bytes) => bytes,
+        Err(ReadAll::TooLong) => return Err(InputFault::Wrong(WrongInput::TooLong)),
+        Err(ReadAll::ReadFault) => return Err(InputFault::NotRead),
+        Err(ReadAll::OutOfMemory) => return Err(InputFault::OutOfMemory),
+    };
+    match input_words(alloc, &bytes) {
+        Ok(numbers) => Ok(numbers),
+        Err(pra_report::InputFault::BadInput(at)) => {
+            Err(InputFault::Wrong(WrongInput::NoWord(at)))
+        }
+        Err(pra_report::InputFault::OutOfMemory) => Err(InputFault::OutOfMemory),
+    }
+}
