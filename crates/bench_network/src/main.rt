@@ -1,5 +1,8 @@
 // Makes the network of the largest procedure that is sized, with 448 variables live throughout, and
-// prints how large it is: the work behind bench/network.sh.
+// prints how large it is: the work behind bench/network.sh. A word says behind which part to stop,
+// and then it is noted how much processor time each part took: `live` and `build`, and behind them
+// `valid`, `home`, `admitted` and `cost`, which ask for home routes, whether they are admitted and
+// what they cost.
 //
 // The locals are set in the entry and written in the last block. Between them stand blocks in
 // pairs: one changes a local and compares it, and leads back to itself or on; the other changes
@@ -8,12 +11,16 @@
 
 ghost use Rattle.std.specs.Prelude.{◌<◌};
 
+mod parts;
+mod work;
+
+use crate::parts::from_live;
+use crate::work::{Stop, Work, begin};
 use anyhow::anyhow;
-use net_build::build;
 use pra_base::{Block, BlockId, Cond, End, ProcId, VInstr, VProc, VarId, VarKind};
 use pra_list::Seq;
 use std::alloc::{AllocError, Global};
-use vc_live::{is_sized, live};
+use vc_live::is_sized;
 
 /// The locals, and behind them the constant 1.
 const LOCALS: u32 = 448;
@@ -92,21 +99,21 @@ fn procedure(alloc: Global) -> Result<VProc, AllocError> {
     })
 }
 
-fn main(rt: HostRuntime) -> anyhow::Result<()> {
-    let code = procedure(rt.alloc())?;
-    if !is_sized(&code) {
-        return Err(anyhow!("not sized"));
+fn measured(rt: &HostRuntime, work: &mut Work) -> Result<(), Stop> {
+    let code = procedure(rt.alloc()).map_err(|_| Stop::NoMemory)?;
+    if is_sized(&code) {
+        return from_live(rt, work, &code);
     }
-    let liveness = live(rt.alloc(), &code).map_err(|_| anyhow!("no memory"))?;
-    let net = build(rt.alloc(), &code, &liveness).map_err(|_| anyhow!("no memory"))?;
-    println!(rt;
-        "network: {} blocks, {} strands, {} extras, {} memory pairs, {} ties, {} groups",
-        net.blocks.len(),
-        net.strands.len(),
-        net.extras.len(),
-        net.pairs.len(),
-        net.ties.len(),
-        net.groups
-    )?;
-    Ok(())
+    Err(Stop::NotSized)
+}
+
+fn main(rt: HostRuntime) -> anyhow::Result<()> {
+    let mut work = begin(&rt)?;
+    let Err(stop) = measured(&rt, &mut work) else {
+        return Ok(());
+    };
+    match stop.told() {
+        Some(told) => Err(anyhow!("{told}")),
+        None => Ok(()),
+    }
 }
