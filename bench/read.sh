@@ -1,7 +1,6 @@
 #!/usr/bin/env bash
-# Times the program on two sources of some 60,000 tokens that break no rule and keep within the limits, and are no small
-# module, so they are read, checked and refused: one has 1 MB and 256 procedures, one has 10,000 names in one scope. Each
-# time is the best of five.
+# Times the program on two sources of some 60,000 tokens that keep the rules and the limits, which it reads, checks and
+# compiles: one has 1 MB and 256 procedures, one has 10,000 names in one scope. Each time is the best of five.
 set -eu
 top=$(cd "$(dirname "$0")/.." && pwd)
 folder=$(mktemp -d)
@@ -35,12 +34,12 @@ best_of_five() {
     best=
     for _ in 1 2 3 4 5; do
         from=$(date +%s%N)
-        "$top/pra" run "$1" >output 2>notes || true
+        "$top/pra" compile "$1" >output 2>notes
         to=$(date +%s%N)
         taken=$((to - from))
         if [ -z "$best" ] || [ "$taken" -lt "$best" ]; then best=$taken; fi
     done
-    echo "$1: $(stat -c %s "$1") bytes in $((best / 1000000)) ms: $(cat notes)"
+    echo "$1: $(stat -c %s "$1") bytes in $((best / 1000000)) ms: $(tail -n 1 output)"
 }
 
 "$top/pra" run "$top/examples/first.ob" >/dev/null 2>&1 # builds, where needed

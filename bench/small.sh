@@ -17,4 +17,4 @@ cd "$folder"
 from=$(date +%s%N)
 "$top/pra" run large.ob >output 2>notes
 to=$(date +%s%N)
-echo "$(stat -c %s large.ob) bytes of source, $(stat -c %s out.pri) bytes of image, $(stat -c %s output) bytes of output, in $(((to - from) / 1000000)) ms: $(cat notes)"
+echo "$(stat -c %s large.ob) bytes of source, $(stat -c %s out.pri) bytes of image, $(stat -c %s output) bytes of output, in $(((to - from) / 1000000)) ms: $(tail -n 1 notes)"
