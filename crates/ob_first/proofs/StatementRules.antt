@@ -1,6 +1,7 @@
 -- Statements, production by production.
 use Rattle.std.proofs.Common.{◌≡◌, ℕ, ◌+◌, ◌<◌, ◌≤◌, ◌⊎◌, inl, inr, List, [], ◌∷◌, ◌++◌, map, refl, ap, sym, subst, ◌∙◌, arith}
 use Rattle.std.specs.Prelude.{Ok, Err}
+use Rattle.pra_list.specs.Among.{Among}
 use Rattle.ob_syntax.specs.declared.checked.Meaning.{Meaning}
 use Rattle.ob_syntax.specs.declared.checked.Meaning.TheVariants.{Variable}
 use Rattle.ob_syntax.specs.declared.checked.RArm.{RArm, roll-RArm}
@@ -19,7 +20,7 @@ use Rattle.ob_syntax.specs.declared.tree.StmtForm.TheVariants as form_is
 use Rattle.ob_syntax.specs.Expressions.{Phrase, Next, Selected, Selection, FactorResult, SelectorResult, factor_form, selector_form, designator, expr, factor, next_factor, next_term, relation, selector, simple_expr, term, boolean, of_type, are_alike, selected, variable, expression, one_selector, name_with_selectors}
 use Rattle.ob_syntax.specs.Names.{Fault, Judged, Place, used}
 use Rattle.ob_syntax.specs.Statements.{Judge, StmtResult, stmt_form, arm_step, stmt_step, target, assigned, condition, each, statement, arm}
-use Rattle.ob_first.specs.Faults.{IsIn, BothFail, AnyOf, NameFails}
+use Rattle.ob_first.specs.Faults.{BothFail, AnyOf, NameFails}
 use Rattle.ob_first.specs.InExpressions.{bare, SelectorsFail, InExpression, InSelector}
 use Rattle.ob_first.specs.InStatements as which
 use Rattle.ob_first.specs.InStatements.{TargetFails, AssignmentFails, InCondition, InCall, Layer, StatementFails, arms_in, statements_in, layer, InStatement, InArm}
@@ -55,7 +56,7 @@ module _ {X A : Type 0} (item : X → Judge A) (B : Place → X → Fault → Ty
       (wide k l i l _ (B p x) low (omega arith) (one.leads p)) (λ y is. each_leads p xs (done ++ y ∷ []) l j order) (each_leads p xs done l j order).lies
       (let some = one.some in omega arith) (items_in_order xs l j order))
     where
-      one_or_other : (f : Fault) (y : X) → IsIn y (x ∷ xs) → B p y f → B p x f ⊎ AnyOf (B p) xs f
+      one_or_other : (f : Fault) (y : X) → Among y (x ∷ xs) → B p y f → B p x f ⊎ AnyOf (B p) xs f
       one_or_other f y (inl is) b = inl (subst (λ z. B p z f) is b)
       one_or_other f y (inr is) b = inr (y, is, b)
 
@@ -254,8 +255,8 @@ arm_stands e ss i k l n j low mid first rest = record {
 
     outside : (p : Place) (f : Fault) → InCondition p e f ⊎ AnyOf (λ t g. InStatement p t g) ss f → InArm p a f
     outside p f (inl b) = which.test a f (subst (λ z. InCondition p z.test f) (sym opens) b)
-    outside p f (inr (t, among, b)) = which.body a f t (subst (λ z. IsIn t z.body) (sym opens) among) b
+    outside p f (inr (t, among, b)) = which.body a f t (subst (λ z. Among t z.body) (sym opens) among) b
 
     inside : (p : Place) (f : Fault) → InArm p a f → InCondition p e f ⊎ AnyOf (λ t g. InStatement p t g) ss f
     inside p f (which.test _ _ b) = inl (subst (λ z. InCondition p z.test f) opens b)
-    inside p f (which.body _ _ t among b) = inr (t, subst (λ z. IsIn t z.body) opens among, b)
+    inside p f (which.body _ _ t among b) = inr (t, subst (λ z. Among t z.body) opens among, b)

@@ -1,11 +1,8 @@
 -- What breaks a rule by itself: a phrase that is tested, a name, one of several parts.
 use Rattle.std.specs.Prelude.{◌≡◌, ℕ, ◌⊎◌, List, [], ◌∷◌, Some, Ok, Err}
+use Rattle.pra_list.specs.Among.{Among}
 use Rattle.ob_syntax.specs.declared.checked.Meaning.{Meaning}
 use Rattle.ob_syntax.specs.Names.{Fault, Judged, Place, meaning, name_at, used}
-
-abbrev pub IsIn : {A : Type 0} → A → List A → Type 0
-IsIn x [] = ⊥
-IsIn x (y ∷ ys) = (x ≡ y) ⊎ IsIn x ys
 
 -- A phrase that has a reading is tested, and the test finds f broken. What has no reading is not
 -- tested.
@@ -26,7 +23,7 @@ NameFails p k kind f =
 
 -- one of the elements breaks a rule
 abbrev pub AnyOf : {A : Type 0} → (A → Fault → Type 0) → List A → Fault → Type 0
-AnyOf {A} B xs f = (x : A) × IsIn x xs × B x f
+AnyOf {A} B xs f = (x : A) × Among x xs × B x f
 
 -- What breaks a rule behind what has a reading, which makes its scope. Where that has none, there
 -- is no scope in which the rest could be looked at.

@@ -1,5 +1,6 @@
 -- Where an expression breaks a rule at a place, whatever else is broken in it.
 use Rattle.std.specs.Prelude.{◌≡◌, ℕ, ◌⊎◌, List, [], ◌∷◌, map, Some, Ok, Err, slice_get}
+use Rattle.pra_list.specs.Among.{Among}
 use Rattle.ob_syntax.specs.declared.checked.ROp.TheVariants as op
 use Rattle.ob_syntax.specs.declared.checked.RExpr.{RExpr}
 use Rattle.ob_syntax.specs.declared.checked.ROp.{ROp}
@@ -22,7 +23,7 @@ use Rattle.ob_syntax.specs.Expressions.{designated, expression, simple_expressio
 use Rattle.ob_syntax.specs.Expressions.{whole_factor, following_term, following_factor, comparison}
 use Rattle.ob_syntax.specs.Expressions.{one_selector}
 use Rattle.ob_syntax.specs.Names.{Fault, Judged, Place, used}
-use Rattle.ob_first.specs.Faults.{IsIn, Fails, BothFail, NameFails}
+use Rattle.ob_first.specs.Faults.{Fails, BothFail, NameFails}
 use Rattle.pra_list.specs.Results.{◌>>=◌}
 
 -- ---- operators
@@ -96,7 +97,7 @@ mutual
   pub data InSimple (p : Place) : SimpleExpr → Fault → Type 0 where
     first_term : (e : SimpleExpr) (f : Fault) → InTerm p (out-SimpleExpr e).first f →
         InSimple p e f
-    next_term : (e : SimpleExpr) (f : Fault) (n : NextTerm) → IsIn n (out-SimpleExpr e).rest →
+    next_term : (e : SimpleExpr) (f : Fault) (n : NextTerm) → Among n (out-SimpleExpr e).rest →
         InTerm p (out-NextTerm n).term f → InSimple p e f
     sign : (e : SimpleExpr) (f : Fault) →
         Fails ((whole_term (out-SimpleExpr e).first).judge p) (signed_term (out-SimpleExpr e).sign
@@ -107,7 +108,7 @@ mutual
 
   pub data InTerm (p : Place) : Term → Fault → Type 0 where
     first_factor : (t : Term) (f : Fault) → InFactor p (out-Term t).first f → InTerm p t f
-    next_factor : (t : Term) (f : Fault) (n : NextFactor) → IsIn n (out-Term t).rest →
+    next_factor : (t : Term) (f : Fault) (n : NextFactor) → Among n (out-Term t).rest →
         InFactor p (out-NextFactor n).factor f → InTerm p t f
     factors : (t : Term) (f : Fault) →
         ChainFails p (whole_factor (out-Term t).first).last
@@ -126,7 +127,7 @@ mutual
         InFactor p x f
     index : (x : Factor) (f : Fault) (d : Designator) (s : Selector) →
         out-FactorForm (out-Factor x).form ≡ FactorForm-F.Name d →
-        IsIn s (out-Designator d).selectors → InSelector p s f → InFactor p x f
+        Among s (out-Designator d).selectors → InSelector p s f → InFactor p x f
     name : (x : Factor) (f : Fault) (d : Designator) →
         out-FactorForm (out-Factor x).form ≡ FactorForm-F.Name d →
         NameFails p (out-Designator d).name (designated p (bare (out-Designator d).name)) f →

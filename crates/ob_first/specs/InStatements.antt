@@ -1,6 +1,7 @@
 -- Where a statement breaks a rule at a place, whatever else is broken in it.
 use Rattle.std.specs.Prelude.{◌≡◌, ℕ, ◌⊎◌, Bool, true, false, List, [], ◌∷◌, length, Option, Some}
 use Rattle.std.specs.Prelude.{None, Ok, Err}
+use Rattle.pra_list.specs.Among.{Among}
 use Rattle.ob_syntax.specs.declared.checked.Meaning.{Meaning}
 use Rattle.ob_syntax.specs.declared.checked.Meaning.TheVariants.{Procedure, Standard}
 use Rattle.ob_syntax.specs.declared.checked.Param.{Param}
@@ -15,7 +16,7 @@ use Rattle.ob_syntax.specs.Expressions.{integer, boolean, of_type, expression, n
 use Rattle.ob_syntax.specs.Names.{Fault, Place, meaning, name_at, used}
 use Rattle.ob_syntax.specs.Statements.{target, assigned, argument, arguments, counted, parameters}
 use Rattle.ob_syntax.specs.Statements.{called}
-use Rattle.ob_first.specs.Faults.{IsIn, Fails, BothFail, AnyOf, NameFails}
+use Rattle.ob_first.specs.Faults.{Fails, BothFail, AnyOf, NameFails}
 use Rattle.ob_first.specs.InExpressions.{bare, SelectorsFail, InExpression, InSelector}
 use Rattle.pra_list.specs.Results.{◌>>=◌}
 
@@ -112,12 +113,12 @@ mutual
   pub data InStatement (p : Place) : Stmt → Fault → Type 0 where
     itself : (s : Stmt) (f : Fault) → StatementFails p (out-Stmt s).span.last (layer s) f →
         InStatement p s f
-    in_arm : (s : Stmt) (f : Fault) (a : Arm) → IsIn a (arms_in (layer s)) → InArm p a f →
+    in_arm : (s : Stmt) (f : Fault) (a : Arm) → Among a (arms_in (layer s)) → InArm p a f →
         InStatement p s f
-    in_statement : (s : Stmt) (f : Fault) (t : Stmt) → IsIn t (statements_in (layer s)) →
+    in_statement : (s : Stmt) (f : Fault) (t : Stmt) → Among t (statements_in (layer s)) →
         InStatement p t f → InStatement p s f
 
   pub data InArm (p : Place) : Arm → Fault → Type 0 where
     test : (a : Arm) (f : Fault) → InCondition p (out-Arm a).test f → InArm p a f
-    body : (a : Arm) (f : Fault) (t : Stmt) → IsIn t (out-Arm a).body → InStatement p t f →
+    body : (a : Arm) (f : Fault) (t : Stmt) → Among t (out-Arm a).body → InStatement p t f →
         InArm p a f

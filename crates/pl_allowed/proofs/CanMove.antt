@@ -2,6 +2,7 @@
 use Rattle.std.proofs.Common.{◌≡◌, ℕ, suc, ◌+◌, ◌*◌, inl, inr, Bool, true, false, not, ◌&&◌, nat_eq, List, [], ◌∷◌, map, filter, refl, sym, ap, ap₂, subst, ◌∙◌, arith}
 use Rattle.std.specs.List.{list_all}
 use Rattle.std.proofs.lemmas.Bool.Decides.{nat_tests}
+use Rattle.pra_list.specs.Among.{Among}
 use Rattle.pra_base.specs.declared.ids.Place.{Place}
 use Rattle.pra_base.specs.declared.ids.Place.TheVariants.{Const}
 use Rattle.pra_base.specs.declared.code.VarKind.{VarKind}
@@ -19,7 +20,7 @@ use Rattle.pl_moves.specs.declared.transfer.Pair.{Pair}
 use Rattle.pl_moves.specs.Assignment.{suits, suits_pair, share_register, are_apart, can_move}
 use Rattle.pl_place.specs.Behind.{Routed, strand_of, comes_to, constant, from_place, pair_of, pairs_at}
 use Rattle.pl_routed.specs.Routed.{routed}
-use Rattle.pl_routed.proofs.Listed.{In, of_filter}
+use Rattle.pra_list.proofs.Among.{of_filter}
 use Rattle.pl_routed.proofs.Present.{live as live_of, brings_edge, one_edge, edge_inside, edge_from, From, edge_apart}
 use Rattle.pl_routed.proofs.Present.From.{Begins, Goes}
 use Rattle.pl_routed.proofs.Lives.{changes, begins_constant}
@@ -53,14 +54,14 @@ number_suits (Constant n) e = refl
 -- ---- a test of pairs, over the edges that they are of
 
 module _ {X : Type 0} (f : X → Pair) where
-  all_apart : (x : X) (xs : List X) → ((y : X) → In y xs → are_apart (f x) (f y) ≡ true) → list_all (are_apart (f x)) (map f xs) ≡ true
+  all_apart : (x : X) (xs : List X) → ((y : X) → Among y xs → are_apart (f x) (f y) ≡ true) → list_all (are_apart (f x)) (map f xs) ≡ true
   all_apart x [] h = refl
   all_apart x (y ∷ ys) h = both_true (are_apart (f x) (f y)) (list_all (are_apart (f x)) (map f ys)) (h y (inl refl)) (all_apart x ys (λ z i. h z (inr i)))
 
   three_true : (a b c : Bool) → a ≡ true → b ≡ true → c ≡ true → (a && b && c) ≡ true
   three_true a b c e g h = rw (e, g, h) refl
 
-  pub can_move_by : (xs : List X) → ((x : X) → In x xs → suits_pair (f x) ≡ true) → EachTwo (λ x y. are_apart (f x) (f y) ≡ true) xs → can_move (map f xs) ≡ true
+  pub can_move_by : (xs : List X) → ((x : X) → Among x xs → suits_pair (f x) ≡ true) → EachTwo (λ x y. are_apart (f x) (f y) ≡ true) xs → can_move (map f xs) ≡ true
   can_move_by [] g h = refl
   can_move_by (x ∷ xs) g h = three_true (suits_pair (f x)) (list_all (are_apart (f x)) (map f xs)) (can_move (map f xs)) (g x (inl refl)) (all_apart x xs h.0) (can_move_by xs (λ y i. g y (inr i)) h.1)
 
@@ -77,7 +78,7 @@ module _ (code : VProc) (net : Net) (routes : Routes) (is : IsNet net code) (has
   abbrev var : Edge → ℕ
   var e = (strand_of r e).var.0
 
-  edge_in : (e : Edge) → In e (filter (comes_to r b l) (flow net routes)) → EdgeIs l (var e) e
+  edge_in : (e : Edge) → Among e (filter (comes_to r b l) (flow net routes)) → EdgeIs l (var e) e
   edge_in e i =
       let f = of_filter (comes_to r b l) (flow net routes) e i in
       brings_edge all_tables code net is routes has admitted b l (var e) e f.0 (both_true (nat_eq (var e) (var e)) (comes_to r b l e) (is_itself (var e)) f.1)
@@ -101,7 +102,7 @@ module _ (code : VProc) (net : Net) (routes : Routes) (is : IsNet net code) (has
 
   -- ---- places that suit
 
-  suits_it : (e : Edge) → In e (filter (comes_to r b l) (flow net routes)) → suits_pair (pair_of r e) ≡ true
+  suits_it : (e : Edge) → Among e (filter (comes_to r b l) (flow net routes)) → suits_pair (pair_of r e) ≡ true
   suits_it e i =
       let at = edge_in e i in
       both_true (suits (constant (kind_of code (var e))) (number (from_place e.from))) (suits (constant (kind_of code (var e))) (number e.to)) (suits_from (was (var e) e at)) (edge_suits code net is routes has admitted b l (var e) e at)
@@ -141,7 +142,7 @@ module _ (code : VProc) (net : Net) (routes : Routes) (is : IsNet net code) (has
   not_all : (a c d : Bool) → a ≡ false → c ≡ false → d ≡ false → (not a && not c && not d) ≡ true
   not_all a c d e f g = rw (e, f, g) refl
 
-  apart : (e d : Edge) → In e (filter (comes_to r b l) (flow net routes)) → In d (filter (comes_to r b l) (flow net routes)) → Differ e d → are_apart (pair_of r e) (pair_of r d) ≡ true
+  apart : (e d : Edge) → Among e (filter (comes_to r b l) (flow net routes)) → Among d (filter (comes_to r b l) (flow net routes)) → Differ e d → are_apart (pair_of r e) (pair_of r d) ≡ true
   apart e d i j differ =
       let at = edge_in e i in
       let other = edge_in d j in
@@ -157,7 +158,7 @@ module _ (code : VProc) (net : Net) (routes : Routes) (is : IsNet net code) (has
   abbrev pub layer_edges : List Edge
   layer_edges = filter (comes_to r b l) (flow net routes)
 
-  pub edges_suit : (e : Edge) → In e layer_edges → suits_pair (pair_of r e) ≡ true
+  pub edges_suit : (e : Edge) → Among e layer_edges → suits_pair (pair_of r e) ≡ true
   edges_suit e i = suits_it e i
 
   pub edges_apart : EachTwo (λ e d. are_apart (pair_of r e) (pair_of r d) ≡ true) layer_edges

@@ -2,6 +2,7 @@
 use Rattle.std.proofs.Common.{◌≡◌, ℕ, ℤ, ◌+◌, ◌*◌, ◌≤◌, ◌⊎◌, inl, inr, ⊎_elim, Bool, true, false, not, ◌&&◌, ◌||◌, nat_eq, if◌then◌else◌, List, [], ◌∷◌, map, count_by, sum_by, Option, Some, None, refl, sym, ap, ◌∙◌, arith}
 use Rattle.std.proofs.lemmas.Bool.Decides.{nat_tests}
 use Rattle.std.proofs.lemmas.List.Sums.{sum_by-cons}
+use Rattle.pra_list.specs.Among.{Among}
 use Rattle.pra_list.proofs.Counts.{bit, count-cons}
 use Rattle.pra_base.specs.declared.ids.Place.{Place}
 use Rattle.pra_base.specs.declared.ids.Place.TheVariants.{Eax, Ecx, Edx, Ebx, Esi, Edi, Mem, Const, EaxM, EcxM, EdxM, EbxM, EsiM, EdiM}
@@ -18,7 +19,6 @@ use Rattle.pl_moves.specs.Crossbar.{crosses_into_both, most_moves}
 use Rattle.pl_place.specs.Behind.{pair_of, pairs_at}
 use Rattle.pl_place.specs.Valid.{most_moves_before}
 use Rattle.pl_routed.specs.Routed.{routed}
-use Rattle.pl_routed.proofs.Listed.{In}
 use Rattle.pl_allowed.proofs.Apart.{EachTwo, two_weaker}
 use Rattle.pl_allowed.proofs.CanMove.{layer_edges, edges_suit, edges_apart}
 
@@ -83,7 +83,7 @@ module _ (g : Edge → Place) where
       three : (a c d : Bool) → a ≡ true → c ≡ true → d ≡ true → (a && c && d) ≡ true
       three a c d e f h = rw (e, f, h) refl
 
-  none_in : (m : ℕ) (es : List Edge) → ((e : Edge) → In e es → in_ m e ≡ true → ⊥) → count_by (in_ m) es ≡ 0
+  none_in : (m : ℕ) (es : List Edge) → ((e : Edge) → Among e es → in_ m e ≡ true → ⊥) → count_by (in_ m) es ≡ 0
   none_in m [] f = refl
   none_in m (e ∷ es) f =
       let ih = none_in m es (λ d i. f d (inr i)) in
@@ -176,7 +176,7 @@ registers_needed x ok =
     by_test false false false false h k = absurd (true_false false (h refl refl) refl)
 
 module _ (f : Edge → Pair) where
-  sum_needed : (es : List Edge) → ((e : Edge) → In e es → suits_pair (f e) ≡ true) → sum_by most_moves (map f es) ≤ count_by (λ e. has_register (number (f e).from)) es + count_by (λ e. has_register (number (f e).to)) es
+  sum_needed : (es : List Edge) → ((e : Edge) → Among e es → suits_pair (f e) ≡ true) → sum_by most_moves (map f es) ≤ count_by (λ e. has_register (number (f e).from)) es + count_by (λ e. has_register (number (f e).to)) es
   sum_needed [] g = omega arith
   sum_needed (e ∷ es) g =
       let ih = sum_needed es (λ d i. g d (inr i)) in

@@ -5,6 +5,7 @@ use Rattle.std.specs.List.{list_any}
 use Rattle.std.proofs.lemmas.Bool.{eq-eqb, lt-ltb}
 use Rattle.std.proofs.lemmas.List.{map-append}
 use Rattle.std.proofs.lemmas.Option.{slice_get_within}
+use Rattle.pra_list.specs.Among.{Among}
 use Rattle.pra_base.specs.declared.ids.Place.{Place}
 use Rattle.pra_base.specs.declared.code.VInstr.{VInstr}
 use Rattle.pra_base.specs.declared.code.VProc.{VProc}
@@ -25,7 +26,6 @@ use Rattle.net_form.specs.Tables.{all_tables}
 use Rattle.pl_moves.specs.declared.transfer.Pair.{Pair}
 use Rattle.pl_place.specs.Behind.{Routed, strand_of, comes_to, brings, place_at, pair_of, pairs_at, operand_places}
 use Rattle.pl_routed.specs.Routed.{routed}
-use Rattle.pl_simulation.specs.Correspondence.{Among}
 use Rattle.pl_routed.proofs.Present.{live as live_of, edge_there, place_of_edge}
 use Rattle.pl_routed.proofs.Lives.{after_even}
 use Rattle.pl_routed.proofs.Roles.{among_writes, row_writes, roles_are}

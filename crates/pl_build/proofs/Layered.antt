@@ -5,6 +5,7 @@ use Rattle.std.proofs.lemmas.Bool.{eq-eqb, eqb-true, and_parts}
 use Rattle.std.proofs.lemmas.List.{get_or-map, length-map, take_all}
 use Rattle.std.proofs.lemmas.List.FromFn.{length-map-range_with_len, get_or-map-range_with_len}
 use Rattle.std.proofs.lemmas.List.Sums.{sum_by-cons, sum_by_more, sum_by-take-le}
+use Rattle.pra_list.specs.Among.{Among}
 use Rattle.pra_base.specs.declared.code.VProc.{VProc}
 use Rattle.pra_base.specs.Code.{no_block as no_code}
 use Rattle.net_form.specs.declared.net.NetBlock.{NetBlock}
@@ -21,7 +22,6 @@ use Rattle.net_form.specs.Strands.{layer_count}
 use Rattle.net_form.specs.Tables.{all_tables}
 use Rattle.pl_place.specs.Behind.{Routed, comes_to, pair_of, pairs_at}
 use Rattle.pl_routed.specs.Routed.{routed}
-use Rattle.pl_routed.proofs.Listed.{In}
 use Rattle.pl_routed.proofs.Present.{brings_edge}
 use Rattle.pl_routed.proofs.Present as present
 use Rattle.pl_build.specs.Layers.{comes_into, pairs_into}
@@ -72,7 +72,7 @@ same_bool true false f g = sym (f refl)
 same_bool false true f g = g refl
 same_bool false false f g = refl
 
-filter_agrees : {X : Type 0} (p q : X → Bool) (xs : List X) → ((x : X) → In x xs → p x ≡ q x) → filter p xs ≡ filter q xs
+filter_agrees : {X : Type 0} (p q : X → Bool) (xs : List X) → ((x : X) → Among x xs → p x ≡ q x) → filter p xs ≡ filter q xs
 filter_agrees p q [] same = refl
 filter_agrees p q (x ∷ xs) same =
     ap₂ (λ (b : Bool) (ys : List _). cond b (x ∷ ys) ys) (same x (inl refl)) (filter_agrees p q xs (λ y i. same y (inr i)))
@@ -96,7 +96,7 @@ module _ (code : VProc) (net : Net) (routes : Routes) (is : IsNet net code) (for
   layers_of_block b lt = ap (λ (bs : List NetBlock). layers_in bs b) blocks_are ∙ ap (λ (k : NetBlock). k.layers) (get_or-map net_block code.blocks b no_code no_block lt)
 
   -- an edge comes to a layer of its block
-  edge_within : (e : Edge) → In e (flow net routes) → e.layer < layers_in net.blocks (strand_at net e.strand).block.0
+  edge_within : (e : Edge) → Among e (flow net routes) → e.layer < layers_in net.blocks (strand_at net e.strand).block.0
   edge_within e i =
       let v = (strand_at net e.strand).var.0 in
       let b = (strand_at net e.strand).block.0 in
@@ -107,7 +107,7 @@ module _ (code : VProc) (net : Net) (routes : Routes) (is : IsNet net code) (for
       let long = layers_of_block b inside.block in
       omega (arith, lt, long)
 
-  comes : (b l : ℕ) → b < length code.blocks → l < layer_count code b → (e : Edge) → In e (flow net routes) → comes_into net (first_layer net.blocks b + l) e ≡ comes_to r b l e
+  comes : (b l : ℕ) → b < length code.blocks → l < layer_count code b → (e : Edge) → Among e (flow net routes) → comes_into net (first_layer net.blocks b + l) e ≡ comes_to r b l e
   comes b l b_in l_in e i =
       let c = (strand_at net e.strand).block.0 in
       same_bool (comes_into net (first_layer net.blocks b + l) e) (comes_to r b l e)

@@ -4,6 +4,7 @@ use Rattle.std.specs.Prelude.{nat_eq, slice_index}
 use Rattle.std.specs.List.{range_with_len, filter_map}
 use Rattle.std.proofs.lemmas.Bool.{eqb-true, eq-eqb, ne_eqb}
 use Rattle.std.proofs.lemmas.List.Sums.{sum_by-cons, sum_by-append}
+use Rattle.pra_list.specs.Among.{Among}
 use Rattle.pra_base.specs.declared.ids.Place.{Place}
 use Rattle.pra_base.specs.declared.ids.Place.TheVariants.{Eax, Ecx, Edx, Ebx, Esi, Edi, Mem, Const, EaxM, EcxM, EdxM, EbxM, EsiM, EdiM}
 use Rattle.pra_base.specs.declared.code.VarKind.{VarKind}
@@ -37,7 +38,7 @@ use Rattle.net_form.specs.Network.{ties}
 use Rattle.net_form.specs.Strands.{strands}
 use Rattle.net_laws.proofs.Runs.{IsRun, net_runs}
 use Rattle.pl_routed.specs.Routed.{routed}
-use Rattle.pl_routed.proofs.Listed.{In, in_all, in_at, of_filter, sum_zero}
+use Rattle.pra_list.proofs.Among.{in_all, in_at, of_filter, sum_zero}
 use Rattle.pl_routed.proofs.Lives.{changes, begins_constant}
 use Rattle.pl_routed.proofs.Present.{live as live_of, its_strand, brings_edge, edge_inside, edge_from, From}
 use Rattle.pl_routed.proofs.Present.From.{Begins, Goes}
@@ -185,7 +186,7 @@ module _ (code : VProc) (net : Net) (routes : Routes) (is : IsNet net code) (has
             ∙ begins_as net.near e.to place
             ∙ ap (λ c. begun c e.to) (sym flag)
 
-    edge_weighs : (e : Edge) → In e (flow net routes) → comes_to r b l e ≡ true → events_weight size_weights 0 (pair_events e) ≡ w e
+    edge_weighs : (e : Edge) → Among e (flow net routes) → comes_to r b l e ≡ true → events_weight size_weights 0 (pair_events e) ≡ w e
     edge_weighs e i t =
         let at = brings_edge all_tables code net is routes has admitted b l (var e) e i (both_true (nat_eq (var e) (var e)) (comes_to r b l e) (eq-eqb (var e) (var e) refl) t) in
         ap (events_weight size_weights 0) (way_events e e.from refl at)
@@ -194,7 +195,7 @@ module _ (code : VProc) (net : Net) (routes : Routes) (is : IsNet net code) (has
         both_true : (a c : Bool) → a ≡ true → c ≡ true → (a && c) ≡ true
         both_true a c e f = rw (e, f) refl
 
-    edges_weigh : (es : List Edge) → ((e : Edge) → In e es → events_weight size_weights 0 (pair_events e) ≡ w e) → events_weight size_weights 0 (events net.near (map (pair_of r) es)) ≡ sum_by w es
+    edges_weigh : (es : List Edge) → ((e : Edge) → Among e es → events_weight size_weights 0 (pair_events e) ≡ w e) → events_weight size_weights 0 (events net.near (map (pair_of r) es)) ≡ sum_by w es
     edges_weigh [] each = refl
     edges_weigh (e ∷ es) each =
         let one = sum_by-append (λ n. weight_at size_weights n 0) (pair_events e) (events net.near (map (pair_of r) es)) in

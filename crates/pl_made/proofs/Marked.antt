@@ -1,6 +1,7 @@
 -- Of the two operands of a memory pair one at most is in memory.
 use Rattle.std.proofs.Common.{◌≡◌, ℕ, zero, suc, ◌+◌, ◌*◌, ◌≤◌, ◌⊎◌, inl, inr, ⊎_elim, Bool, true, false, not, cond, List, [], ◌∷◌, ◌++◌, length, map, filter, slice_get, Option, Some, None, refl, sym, ap, ap₂, subst, ◌∙◌, arith, append_assoc}
 use Rattle.std.specs.List.{prefix_len}
+use Rattle.pra_list.specs.Among.{Among}
 use Rattle.pra_list.proofs.Options.{some_same}
 use Rattle.pra_base.specs.declared.code.Base.{Base}
 use Rattle.pra_base.specs.declared.code.Base.TheVariants as base
@@ -9,7 +10,7 @@ use Rattle.pra_base.specs.declared.code.VInstr.{VInstr}
 use Rattle.pra_base.specs.declared.code.VInstr.TheVariants as instr
 use Rattle.pra_base.specs.Operands.{Role, Line, via, index, addressed, table, operands, settled}
 use Rattle.net_form.specs.Network.{marked_roles, marked}
-use Rattle.pl_routed.proofs.Listed.{In, in_at, in_map, in_filter, in_left, in_right}
+use Rattle.pra_list.proofs.Among.{in_at, in_map, in_filter, in_left, in_right}
 
 -- ---- how many are marked
 
@@ -65,7 +66,7 @@ few_marked k instr.Line = omega arith
 few_marked k instr.Clear = omega arith
 
 -- two of two
-pub two_of_two : (xs : List (ℕ × ℕ)) → length xs ≤ 2 → (x y : ℕ × ℕ) → In x xs → In y xs → (x.0 ≡ y.0 → ⊥) → (xs ≡ x ∷ y ∷ []) ⊎ (xs ≡ y ∷ x ∷ [])
+pub two_of_two : (xs : List (ℕ × ℕ)) → length xs ≤ 2 → (x y : ℕ × ℕ) → Among x xs → Among y xs → (x.0 ≡ y.0 → ⊥) → (xs ≡ x ∷ y ∷ []) ⊎ (xs ≡ y ∷ x ∷ [])
 two_of_two [] le x y i j ne = absurd i
 two_of_two (a ∷ []) le x y i j ne = ⊎_elim (λ (e : x ≡ a). ⊎_elim (λ (f : y ≡ a). absurd (ne (ap (λ (z : ℕ × ℕ). z.0) (e ∙ sym f)))) (λ (b : ⊥). absurd b) j) (λ (b : ⊥). absurd b) i
 two_of_two (a ∷ b ∷ []) le x y i j ne =
@@ -88,12 +89,12 @@ two_of_two (a ∷ b ∷ []) le x y i j ne =
 two_of_two (a ∷ b ∷ c ∷ xs) le x y i j ne = absurd (omega arith)
 
 -- a marked role is among them
-pub read_marked : (k : ℕ) (i : VInstr) (n : ℕ) (x : Role) → slice_get (operands i).reads n ≡ Some x → x.memory ≡ true → In (x.var, 2 * k + 1) (marked k (operands i))
+pub read_marked : (k : ℕ) (i : VInstr) (n : ℕ) (x : Role) → slice_get (operands i).reads n ≡ Some x → x.memory ≡ true → Among (x.var, 2 * k + 1) (marked k (operands i))
 read_marked k i n x e m =
     in_left (marked_roles (2 * k + 1) (operands i).reads) (marked_roles (2 * k + 2) (operands i).writes) (x.var, 2 * k + 1)
     (in_map (λ (r : Role). (r.var, 2 * k + 1)) (filter (λ (r : Role). r.memory) (operands i).reads) x (in_filter (λ (r : Role). r.memory) (operands i).reads x (in_at (operands i).reads n x e) m))
 
-pub write_marked : (k : ℕ) (i : VInstr) (n : ℕ) (x : Role) → slice_get (operands i).writes n ≡ Some x → x.memory ≡ true → In (x.var, 2 * k + 2) (marked k (operands i))
+pub write_marked : (k : ℕ) (i : VInstr) (n : ℕ) (x : Role) → slice_get (operands i).writes n ≡ Some x → x.memory ≡ true → Among (x.var, 2 * k + 2) (marked k (operands i))
 write_marked k i n x e m =
     in_right (marked_roles (2 * k + 1) (operands i).reads) (marked_roles (2 * k + 2) (operands i).writes) (x.var, 2 * k + 2)
     (in_map (λ (r : Role). (r.var, 2 * k + 2)) (filter (λ (r : Role). r.memory) (operands i).writes) x (in_filter (λ (r : Role). r.memory) (operands i).writes x (in_at (operands i).writes n x e) m))

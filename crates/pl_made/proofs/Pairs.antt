@@ -3,6 +3,7 @@ use Rattle.std.proofs.Common.{◌≡◌, ℕ, zero, suc, ◌+◌, ◌≤◌, ◌
 use Rattle.std.specs.List.{filter_map, range_with_len, enumerate_from}
 use Rattle.std.proofs.lemmas.Bool.Decides.{nat_tests}
 use Rattle.std.proofs.lemmas.List.Sums.{sum_by-append}
+use Rattle.pra_list.specs.Among.{Among}
 use Rattle.pra_list.proofs.Options.{some_same}
 use Rattle.pra_list.proofs.Counts.{bit, count-cons}
 use Rattle.pra_base.specs.declared.code.VInstr.{VInstr}
@@ -21,7 +22,7 @@ use Rattle.net_form.specs.Network.{grouped, ties, stands_for, strand_of, marked,
 use Rattle.net_form.specs.Flow.{Edge, is_at, flow, AreRoutes}
 use Rattle.net_form.specs.Admitted.{strand_at, uses_memory, IsAdmitted}
 use Rattle.pl_place.specs.Valid.{roles}
-use Rattle.pl_routed.proofs.Listed.{In, in_all, in_flat, in_filter_map, in_range, one_passes}
+use Rattle.pra_list.proofs.Among.{in_all, in_flat, in_filter_map, in_range, one_passes}
 use Rattle.pl_routed.proofs.Edges.{path_after}
 use Rattle.pl_routed.proofs.Strands.{Covers, one_strand}
 use Rattle.pl_routed.proofs.Present.{live as live_of, its_strand, in_the_flow}
@@ -109,7 +110,7 @@ mask_either l (y ∷ rs) ws qs (suc n) x e = mask_either l rs ws qs n x e
 
 -- ---- the network's pair
 
-in_enumerate : (n : ℕ) (xs : List VInstr) (k : ℕ) (t : VInstr) → slice_get xs k ≡ Some t → In (n + k, t) (enumerate_from n xs)
+in_enumerate : (n : ℕ) (xs : List VInstr) (k : ℕ) (t : VInstr) → slice_get xs k ≡ Some t → Among (n + k, t) (enumerate_from n xs)
 in_enumerate n [] k t e = cc
 in_enumerate n (x ∷ xs) zero t e =
     let same : x ≡ t = some_same x t e in
@@ -117,10 +118,10 @@ in_enumerate n (x ∷ xs) zero t e =
     inl (ap₂ (λ (m : ℕ) (y : VInstr). (m, y)) zero_more (sym same))
 in_enumerate n (x ∷ xs) (suc k) t e =
     let more : n + 1 + k ≡ n + suc k = omega arith in
-    inr (subst (λ m. In (m, t) (enumerate_from (n + 1) xs)) more (in_enumerate (n + 1) xs k t e))
+    inr (subst (λ m. Among (m, t) (enumerate_from (n + 1) xs)) more (in_enumerate (n + 1) xs k t e))
 
-in_numbers : (xs : List VInstr) (k : ℕ) (t : VInstr) → slice_get xs k ≡ Some t → In (k, t) (enumerate_from 0 xs)
-in_numbers xs k t e = let same : 0 + k ≡ k = omega arith in subst (λ m. In (m, t) (enumerate_from 0 xs)) same (in_enumerate 0 xs k t e)
+in_numbers : (xs : List VInstr) (k : ℕ) (t : VInstr) → slice_get xs k ≡ Some t → Among (k, t) (enumerate_from 0 xs)
+in_numbers xs k t e = let same : 0 + k ≡ k = omega arith in subst (λ m. Among (m, t) (enumerate_from 0 xs)) same (in_enumerate 0 xs k t e)
 
 record Plain (u t : Strand) : Type 0 where
   var : u.var ≡ t.var
@@ -182,11 +183,11 @@ module _ (code : VProc) (net : Net) (routes : Routes) (is : IsNet net code) (has
   abbrev pair : ℕ × ℕ → ℕ × ℕ → MemPair
   pair x y = record { left = strand_of ss x.0 b x.1; left_layer = x.1; right = strand_of ss y.0 b y.1; right_layer = y.1 }
 
-  pair_there : (x y : ℕ × ℕ) → marked k (operands i) ≡ x ∷ y ∷ [] → (x.0 ≡ y.0 → ⊥) → In (pair x y) net.pairs
+  pair_there : (x y : ℕ × ℕ) → marked k (operands i) ≡ x ∷ y ∷ [] → (x.0 ≡ y.0 → ⊥) → Among (pair x y) net.pairs
   pair_there x y e ne =
       let other : nat_eq x.0 y.0 ≡ false = false_from (nat_eq x.0 y.0) (λ t. ne (nat_is x.0 y.0 t)) in
       let made : pair_of ss b (marked k (operands i)) ≡ Some (pair x y) = ap (pair_of ss b) e ∙ ap (λ t. if t then None else Some (pair x y)) other in
-      subst (In (pair x y)) (sym (ap (λ (n : Net). n.pairs) is.is))
+      subst (Among (pair x y)) (sym (ap (λ (n : Net). n.pairs) is.is))
       (in_flat (λ c. filter_map (λ (j : ℕ × VInstr). pair_of ss c (marked j.0 (operands j.1))) (enumerate_from 0 (code_of code c))) (range_with_len 0 (length code.blocks)) b (pair x y)
       (in_range 0 (length code.blocks) b (omega arith) (omega (arith, b_in)))
       (in_filter_map (λ (j : ℕ × VInstr). pair_of ss b (marked j.0 (operands j.1))) (enumerate_from 0 (code_of code b)) (k, i) (pair x y) (in_numbers (code_of code b) k i here) made))

@@ -1,6 +1,7 @@
 -- The parts of a block that was made.
 use Rattle.std.proofs.Common.{◌≡◌, ℕ, suc, ◌+◌, ◌*◌, ◌≤◌, ◌⊎◌, ⊎_elim, List, [], ◌∷◌, ◌++◌, length, map, slice_get, Option, Some, refl, sym, ap, subst, ◌∙◌, arith, sum_by, append-nil}
 use Rattle.std.specs.List.{filter_map}
+use Rattle.pra_list.specs.Among.{Among}
 use Rattle.pra_base.specs.declared.ids.Place.{Place}
 use Rattle.pra_base.specs.declared.code.VInstr.{VInstr}
 use Rattle.pl_moves.specs.declared.transfer.Move.{Move}
@@ -12,7 +13,7 @@ use Rattle.pl_place.specs.Placed.{op_of}
 use Rattle.pl_place.specs.Behind.{Routed, pairs_at, operand_places, IsOp, Lays, IsBehind}
 use Rattle.pl_place.specs.Valid.{FewMoves, most_moves_before}
 use Rattle.pl_made.specs.Made.{MovesAt, LaysMoves, IsMade}
-use Rattle.pl_routed.proofs.Listed.{In, in_all, in_either, of_map}
+use Rattle.pra_list.proofs.Among.{in_all, in_either, of_map}
 
 lays_of : (r : Routed) (b k : ℕ) (is : List VInstr) (left : List LInstr) → LaysMoves r b k is left → Lays r b k is left
 lays_of r b k [] left m = (m.0, m.1, m.2.assigns)
@@ -38,28 +39,28 @@ pub record OpOf (r : Routed) (b j : ℕ) (is : List VInstr) (op : LInstr) : Type
   pub here : slice_get is index ≡ Some instr
   pub is_op : IsOp op instr (operand_places r b (j + index) instr)
 
-not_move : (ms : List Move) (i : VInstr) (places : _) → In (placed.Op i places) (map placed.Move ms) → ⊥
+not_move : (ms : List Move) (i : VInstr) (places : _) → Among (placed.Op i places) (map placed.Move ms) → ⊥
 not_move ms i places k = let m = of_map placed.Move ms (placed.Op i places) k in differ m.0 m.2
   where
     differ : (m : Move) → placed.Op i places ≡ placed.Move m → ⊥
     differ m e = cc
 
-pub op_in : (r : Routed) (b j : ℕ) (is : List VInstr) (left : List LInstr) → LaysMoves r b j is left → (i : VInstr) (places : _) → In (placed.Op i places) left → OpOf r b j is (placed.Op i places)
-op_in r b j [] left m i places k = absurd (not_move m.0 i places (subst (In (placed.Op i places)) m.1 k))
+pub op_in : (r : Routed) (b j : ℕ) (is : List VInstr) (left : List LInstr) → LaysMoves r b j is left → (i : VInstr) (places : _) → Among (placed.Op i places) left → OpOf r b j is (placed.Op i places)
+op_in r b j [] left m i places k = absurd (not_move m.0 i places (subst (Among (placed.Op i places)) m.1 k))
 op_in r b j (x ∷ is) left m i places k =
     ⊎_elim
-    (λ (moves : In (placed.Op i places) (map placed.Move m.0)). absurd (not_move m.0 i places moves))
-    (λ (more : (placed.Op i places ≡ m.1) ⊎ In (placed.Op i places) m.2).
+    (λ (moves : Among (placed.Op i places) (map placed.Move m.0)). absurd (not_move m.0 i places moves))
+    (λ (more : (placed.Op i places ≡ m.1) ⊎ Among (placed.Op i places) m.2).
     ⊎_elim
     (λ (same : placed.Op i places ≡ m.1).
     let zero_more : j ≡ j + 0 = omega arith in
     record { index = 0; instr = x; here = refl; is_op = subst (λ n. IsOp (placed.Op i places) x (operand_places r b n x)) zero_more (subst (λ o. IsOp o x (operand_places r b j x)) (sym same) m.5) })
-    (λ (later : In (placed.Op i places) m.2).
+    (λ (later : Among (placed.Op i places) m.2).
     let o = op_in r b (suc j) is m.2 m.6 i places later in
     let one_more : suc j + o.index ≡ j + suc o.index = omega arith in
     record { index = suc o.index; instr = o.instr; here = o.here; is_op = subst (λ n. IsOp (placed.Op i places) o.instr (operand_places r b n o.instr)) one_more o.is_op })
     more)
-    (in_either (map placed.Move m.0) (m.1 ∷ m.2) (placed.Op i places) (subst (In (placed.Op i places)) m.3 k))
+    (in_either (map placed.Move m.0) (m.1 ∷ m.2) (placed.Op i places) (subst (Among (placed.Op i places)) m.3 k))
 
 -- ---- moves
 
@@ -68,7 +69,7 @@ pub record MoveOf (r : Routed) (b : ℕ) (m : Move) : Type 0 where
   pub in_registers : InRegisters m
   pub names : NamesMemory (pairs_at r b (2 * index + 1)) m
 
-of_moves : (r : Routed) (b k : ℕ) (ms : List Move) → MovesAt r b (2 * k + 1) ms → (m : Move) → In (placed.Move m) (map placed.Move ms) → MoveOf r b m
+of_moves : (r : Routed) (b k : ℕ) (ms : List Move) → MovesAt r b (2 * k + 1) ms → (m : Move) → Among (placed.Move m) (map placed.Move ms) → MoveOf r b m
 of_moves r b k ms is m i =
     let x = of_map placed.Move ms (placed.Move m) i in
     let same : m ≡ x.0 = move_same m x.0 x.2 in
@@ -80,17 +81,17 @@ of_moves r b k ms is m i =
 op_or : (op : LInstr) (i : VInstr) (ps : List (Option Place)) (m : Move) → IsOp op i ps → placed.Move m ≡ op → ⊥
 op_or op i ps m is e = subst (λ o. IsOp o i ps) (sym e) is
 
-pub move_in : (r : Routed) (b j : ℕ) (is : List VInstr) (left : List LInstr) → LaysMoves r b j is left → (m : Move) → In (placed.Move m) left → MoveOf r b m
-move_in r b j [] left l m k = of_moves r b j l.0 l.2 m (subst (In (placed.Move m)) l.1 k)
+pub move_in : (r : Routed) (b j : ℕ) (is : List VInstr) (left : List LInstr) → LaysMoves r b j is left → (m : Move) → Among (placed.Move m) left → MoveOf r b m
+move_in r b j [] left l m k = of_moves r b j l.0 l.2 m (subst (Among (placed.Move m)) l.1 k)
 move_in r b j (x ∷ is) left l m k =
     ⊎_elim
-    (λ (moves : In (placed.Move m) (map placed.Move l.0)). of_moves r b j l.0 l.4 m moves)
-    (λ (more : (placed.Move m ≡ l.1) ⊎ In (placed.Move m) l.2).
+    (λ (moves : Among (placed.Move m) (map placed.Move l.0)). of_moves r b j l.0 l.4 m moves)
+    (λ (more : (placed.Move m ≡ l.1) ⊎ Among (placed.Move m) l.2).
     ⊎_elim
     (λ (same : placed.Move m ≡ l.1). absurd (op_or l.1 x (operand_places r b j x) m l.5 same))
-    (λ (later : In (placed.Move m) l.2). move_in r b (suc j) is l.2 l.6 m later)
+    (λ (later : Among (placed.Move m) l.2). move_in r b (suc j) is l.2 l.6 m later)
     more)
-    (in_either (map placed.Move l.0) (l.1 ∷ l.2) (placed.Move m) (subst (In (placed.Move m)) l.3 k))
+    (in_either (map placed.Move l.0) (l.1 ∷ l.2) (placed.Move m) (subst (Among (placed.Move m)) l.3 k))
 
 -- ---- how many
 

@@ -5,6 +5,7 @@ use Rattle.std.proofs.lemmas.Bool.Decides.{nat_tests}
 use Rattle.std.proofs.lemmas.List.{length-map}
 use Rattle.std.proofs.lemmas.Nat.Bits.{bit_at_and}
 use Rattle.std.proofs.lemmas.Option.{get_or_from_slice_get}
+use Rattle.pra_list.specs.Among.{Among}
 use Rattle.pra_list.proofs.Options.{some_same}
 use Rattle.pra_base.specs.declared.ids.Place.{Place}
 use Rattle.pra_base.specs.declared.ids.Place.TheVariants.{Eax, Mem}
@@ -25,7 +26,7 @@ use Rattle.pl_place.specs.Placed.{place_in}
 use Rattle.pl_place.specs.Behind.{Routed, place_at, operand_places}
 use Rattle.pl_place.specs.Valid.{roles}
 use Rattle.pl_routed.specs.Routed.{routed}
-use Rattle.pl_routed.proofs.Listed.{In, in_at}
+use Rattle.pra_list.proofs.Among.{in_at}
 use Rattle.pl_routed.proofs.Present.{live as live_of, edge_of_place, edge_inside, edge_mask, edge_from, From, edge_stays, one_edge}
 use Rattle.pl_routed.proofs.Present.From.{Begins, Goes}
 use Rattle.pl_routed.proofs.Masks.{both_allow, fold_allows, place_of_role}
@@ -152,7 +153,7 @@ module _ (code : VProc) (net : Net) (routes : Routes) (is : IsNet net code) (has
   itself : (v : ℕ) → nat_eq v v ≡ true
   itself v = grind (arith, nat_tests)
 
-  allowed_at : (l : ℕ) (role : Role) (q : Place) → In role (roles_at all_tables code b l) → comes_in_memory code role.var b l ≡ false → place_at r b l role.var ≡ Some q → allows (meet role.mask (own_places (base.kind_of code role.var))) (number q) ≡ true
+  allowed_at : (l : ℕ) (role : Role) (q : Place) → Among role (roles_at all_tables code b l) → comes_in_memory code role.var b l ≡ false → place_at r b l role.var ≡ Some q → allows (meet role.mask (own_places (base.kind_of code role.var))) (number q) ≡ true
   allowed_at l role q k_in later e =
       let x = edge_for l role.var q e in
       let ok = edge_mask all_tables code net is routes has admitted b l role.var x.0 x.1 in
@@ -168,10 +169,10 @@ module _ (code : VProc) (net : Net) (routes : Routes) (is : IsNet net code) (has
       by_role : RoleIs n role → allows (meet role.mask (own_places (base.kind_of code role.var))) (place_in places n) ≡ true
       by_role (Read q at in_reads f) =
           ap (allows (meet role.mask (own_places (base.kind_of code role.var)))) (place_is n q at)
-          ∙ allowed_at (2 * k + 1) role q (subst (In role) (sym (reads_are code b k i here)) (in_at (operands i).reads n role in_reads)) (not_coming_odd code b k i here role.var) f
+          ∙ allowed_at (2 * k + 1) role q (subst (Among role) (sym (reads_are code b k i here)) (in_at (operands i).reads n role in_reads)) (not_coming_odd code b k i here role.var) f
       by_role (Write q j at m in_writes g) =
           ap (allows (meet role.mask (own_places (base.kind_of code role.var)))) (place_is n q at)
-          ∙ allowed_at (2 * k + 2) role q (subst (In role) (sym (roles_are code (live_of all_tables code net is) b k i here)) (in_at (operands i).writes j role in_writes)) (not_coming code (live_of all_tables code net is) b k i here role.var) g
+          ∙ allowed_at (2 * k + 2) role q (subst (Among role) (sym (roles_are code (live_of all_tables code net is) b k i here)) (in_at (operands i).writes j role in_writes)) (not_coming code (live_of all_tables code net is) b k i here role.var) g
 
   -- what is read and written stays
   pub stays_place : (v : ℕ) (q s : Place) → before v ≡ Some q → after v ≡ Some s → q ≡ s

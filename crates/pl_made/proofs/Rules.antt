@@ -5,6 +5,7 @@ use Rattle.std.proofs.lemmas.Bool.{cases_lt}
 use Rattle.std.proofs.lemmas.Bool.Decides.{nat_tests}
 use Rattle.std.proofs.lemmas.List.{get_or_past, get_or-map, length-map}
 use Rattle.std.proofs.lemmas.Option.{slice_get-map, slice_get-get_or, slice_get_within, get_or_from_slice_get}
+use Rattle.pra_list.specs.Among.{Among}
 use Rattle.pra_base.specs.declared.ids.Place.{Place}
 use Rattle.pra_base.specs.declared.ids.VarId.{VarId}
 use Rattle.pra_base.specs.declared.code.Block.{Block}
@@ -38,7 +39,7 @@ use Rattle.pl_place.specs.Behind.{Routed, strand_of, comes_to, constant, from_pl
 use Rattle.pl_place.specs.Machine.{no_block}
 use Rattle.pl_place.specs.Valid.{linstr_at, EachOp, EachMove, FewMoves, HasMemory, MoveHasMemory, MoveNames, NumbersInRange}
 use Rattle.pl_routed.specs.Routed.{routed}
-use Rattle.pl_routed.proofs.Listed.{In, in_at, at_in, in_map, in_filter, in_range, of_map, of_filter, at_most_one, sum_one}
+use Rattle.pra_list.proofs.Among.{in_at, at_in, in_map, in_filter, in_range, of_map, of_filter, at_most_one, sum_one}
 use Rattle.pl_routed.proofs.Present.{edge_inside, its_strand, in_the_flow, brings_edge, edge_from, From}
 use Rattle.pl_routed.proofs.Present.From.{Begins, Goes}
 use Rattle.pra_list.proofs.Counts.{bit, count-cons}
@@ -123,13 +124,13 @@ module _ (code : VProc) (net : Net) (routes : Routes) (is : IsNet net code) (has
   same_nat a c e = grind (arith, nat_tests)
 
   -- a Plain variable that is brought to memory is among the slots
-  slotted_in : (b l v : ℕ) (e : Edge) → EdgeIs b l v e → needs_slot (number e.to) ≡ true → base.kind_of code v ≡ Plain → In v (map (λ (u : VarId). u.0) p.slots)
+  slotted_in : (b l v : ℕ) (e : Edge) → EdgeIs b l v e → needs_slot (number e.to) ≡ true → base.kind_of code v ≡ Plain → Among v (map (λ (u : VarId). u.0) p.slots)
   slotted_in b l v e at h plain =
       let inside = edge_inside all_tables code net is routes has admitted b l v e at in
       let var : (strand_of r e).var.0 ≡ v = ap (λ (t : Strand). t.var.0) (its_strand all_tables code net is routes has admitted e at.route) ∙ at.covers.var in
       let here : in_memory r v ≡ true = any_in _ (flow net routes) e (in_the_flow all_tables code net is routes has admitted b l v e at) (both (nat_eq (strand_of r e).var.0 v) (needs_slot (number e.to)) (same_nat (strand_of r e).var.0 v var) h) in
       let slot : has_slot r v ≡ true = both (is_plain (base.kind_of code v)) (in_memory r v) (ap is_plain plain) here in
-      subst (In v) (sym made.slots) (in_filter (has_slot r) _ v (in_range 0 (length code.vars) v (omega arith) (let lt = inside.var in omega (arith, lt))) slot)
+      subst (Among v) (sym made.slots) (in_filter (has_slot r) _ v (in_range 0 (length code.vars) v (omega arith) (let lt = inside.var in omega (arith, lt))) slot)
 
   no_memory : (n : ℤ) (q : Place) → needs_slot (number q) ≡ true → suits (Some n) (number q) ≡ true → ⊥
   no_memory n q h e = true_false (needs_slot (number q)) h e
@@ -151,11 +152,11 @@ module _ (code : VProc) (net : Net) (routes : Routes) (is : IsNet net code) (has
 
   -- ---- the pairs of a layer
 
-  any_in_list : {X : Type 0} (P : X → Type 0) (xs : List X) → Any P xs → (x : X) × In x xs × P x
+  any_in_list : {X : Type 0} (P : X → Type 0) (xs : List X) → Any P xs → (x : X) × Among x xs × P x
   any_in_list P xs a = (a.1, in_at xs a.0 a.1 (slice_get-get_or xs a.0 a.1 a.2 ∙ ap Some a.3), a.4)
 
   -- a pair that comes from memory or goes there is of a variable that has it
-  pair_memory : (b k : ℕ) (y : Pair) → In y (pairs_at r b (2 * k + 1)) → crossbar.HasMemory y → HasMemory p y.var.0 × (y.var.0 < length code.vars)
+  pair_memory : (b k : ℕ) (y : Pair) → Among y (pairs_at r b (2 * k + 1)) → crossbar.HasMemory y → HasMemory p y.var.0 × (y.var.0 < length code.vars)
   pair_memory b k y i h =
       let d = of_map (pair_of r) _ y i in
       let f = of_filter (comes_to r b (2 * k + 1)) (flow net routes) d.0 d.1 in
@@ -200,13 +201,13 @@ module _ (code : VProc) (net : Net) (routes : Routes) (is : IsNet net code) (has
 
   -- ---- slots
 
-  in_range_less : (a n k : ℕ) → In k (range_with_len a n) → k < a + n
+  in_range_less : (a n k : ℕ) → Among k (range_with_len a n) → k < a + n
   in_range_less a zero k i = absurd i
-  in_range_less a (suc n) k i = ⊎_elim (λ (e : k ≡ a). omega (arith, e)) (λ (more : In k (range_with_len (a + 1) n)). let lt = in_range_less (a + 1) n k more in omega (arith, lt)) i
+  in_range_less a (suc n) k i = ⊎_elim (λ (e : k ≡ a). omega (arith, e)) (λ (more : Among k (range_with_len (a + 1) n)). let lt = in_range_less (a + 1) n k more in omega (arith, lt)) i
 
   slot_kind : (k : ℕ) (u : VarId) → slice_get p.slots k ≡ Some u → (u.0 < length code.vars) × (base.kind_of code u.0 ≡ Plain)
   slot_kind k u e =
-      let i : In u.0 (slots_of r) = subst (In u.0) made.slots (in_map (λ (w : VarId). w.0) p.slots u (in_at p.slots k u e)) in
+      let i : Among u.0 (slots_of r) = subst (Among u.0) made.slots (in_map (λ (w : VarId). w.0) p.slots u (in_at p.slots k u e)) in
       let f = of_filter (has_slot r) (range_with_len 0 (length code.vars)) u.0 i in
       let lt = in_range_less 0 (length code.vars) u.0 f.0 in
       (omega (arith, lt), is_plain_kind (base.kind_of code u.0) (left (is_plain (base.kind_of code u.0)) (in_memory r u.0) f.1))

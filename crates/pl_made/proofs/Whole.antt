@@ -3,6 +3,7 @@ use Rattle.std.proofs.Common.{◌≡◌, ◌≢◌, ℕ, zero, suc, ◌+◌, ◌
 use Rattle.std.proofs.lemmas.Bool.{cases_eq, cases_lt}
 use Rattle.std.proofs.lemmas.Bool.Decides.{nat_tests}
 use Rattle.std.proofs.lemmas.Option.{slice_get_within}
+use Rattle.pra_list.specs.Among.{Among}
 use Rattle.pra_base.specs.declared.ids.Place.{Place}
 use Rattle.pra_base.specs.declared.code.VInstr.{VInstr}
 use Rattle.pra_base.specs.declared.code.VProc.{VProc}
@@ -22,7 +23,7 @@ use Rattle.pl_place.specs.Placed.{place_in}
 use Rattle.pl_place.specs.Behind.{place_at, operand_places}
 use Rattle.pl_place.specs.Valid.{linstr_at, EachOp, roles, HasMemory, OperandsPlaced, IsPlaced}
 use Rattle.pl_routed.specs.Routed.{routed}
-use Rattle.pl_routed.proofs.Listed.{In, in_at, at_most_one}
+use Rattle.pra_list.proofs.Among.{in_at, at_most_one}
 use Rattle.pl_routed.proofs.Masks.{both_allow}
 use Rattle.pl_routed.proofs.Transferred.{At}
 use Rattle.pl_made.specs.Made.{IsMade}
@@ -66,7 +67,7 @@ module _ (code : VProc) (net : Net) (routes : Routes) (is : IsNet net code) (has
   -- where an operand is, at its layer
   pub record Side (n : ℕ) (role : Role) : Type 0 where
     pub layer : ℕ
-    pub marks : role.memory ≡ true → In (role.var, layer) (marked k (operands i))
+    pub marks : role.memory ≡ true → Among (role.var, layer) (marked k (operands i))
     pub edge : Edge
     pub at : EdgeIs layer role.var edge
     pub place : place_in places n ≡ number edge.to

@@ -4,6 +4,7 @@ use Rattle.std.proofs.lemmas.Bool.{cases_lt}
 use Rattle.std.proofs.lemmas.Bool.Decides.{nat_tests}
 use Rattle.std.proofs.lemmas.List.{get_or_past}
 use Rattle.std.proofs.lemmas.Option.{slice_get-get_or, slice_get_past, get_or_from_slice_get}
+use Rattle.pra_list.specs.Among.{Among}
 use Rattle.pra_list.proofs.Options.{some_same, none_some}
 use Rattle.pra_base.specs.declared.ids.Place.{Place}
 use Rattle.pra_base.specs.declared.ids.Place.TheVariants.{Eax, Ecx, Edx, Ebx, Esi, Edi, Mem, Const, EaxM, EcxM, EdxM, EbxM, EsiM, EdiM}
@@ -41,7 +42,7 @@ use Rattle.pl_place.specs.Valid.{linstr_at, HasMemory, MoveHasMemory, MoveNames,
 use Rattle.pra_list.specs.Each.{Each}
 use Rattle.pl_simulation.specs.Correspondence.{Allocation, InFrame, IsCell, InCells, Fits, IsOpAt, InstrCorresponds, EndCorresponds, Comes, Corresponds}
 use Rattle.pl_routed.specs.Routed.{routed}
-use Rattle.pl_routed.proofs.Listed.{In, in_at, at_in, in_left, in_right, in_map, in_filter, in_range}
+use Rattle.pra_list.proofs.Among.{in_at, at_in, in_left, in_right, in_map, in_filter, in_range}
 use Rattle.pl_routed.proofs.Present.{live as live_of, edge_inside, edge_mask, edge_there, edge_tied, in_the_flow, its_strand}
 use Rattle.pl_routed.proofs.Masks.{place_at_entry}
 use Rattle.pl_routed.proofs.Lives.{present_at_exit, lives_at_entry}
@@ -86,11 +87,11 @@ laid_end r b j (x ∷ is) left lays =
     let same : suc j + length is ≡ j + suc (length is) = omega arith in
     subst (λ n. LaidEnd r b n (rest_at r b (suc j) is lays.2 lays.6 (length is))) same (laid_end r b (suc j) is lays.2 lays.6)
 
-rest_in : (r : Routed) (b j : ℕ) (is : List VInstr) (left : List LInstr) (lays : Lays r b j is left) (k : ℕ) (x : LInstr) → In x (rest_at r b j is left lays k) → In x left
+rest_in : (r : Routed) (b j : ℕ) (is : List VInstr) (left : List LInstr) (lays : Lays r b j is left) (k : ℕ) (x : LInstr) → Among x (rest_at r b j is left lays k) → Among x left
 rest_in r b j is left lays zero x i = i
 rest_in r b j [] left lays (suc k) x i = absurd i
 rest_in r b j (y ∷ is) left lays (suc k) x i =
-    subst (In x) (sym lays.3) (in_right (map placed.Move lays.0) (lays.1 ∷ lays.2) x (inr (rest_in r b (suc j) is lays.2 lays.6 k x i)))
+    subst (Among x) (sym lays.3) (in_right (map placed.Move lays.0) (lays.1 ∷ lays.2) x (inr (rest_in r b (suc j) is lays.2 lays.6 k x i)))
 
 -- ---- places, registers, kinds
 
@@ -133,7 +134,7 @@ memory_suits (Constant n) q h e = no_memory (needs_slot (number q)) h e
     no_memory true h e = e
     no_memory false h e = h
 
-each_of : (P : Move → Type 0) (ms : List Move) → ((m : Move) → In m ms → P m) → Each P ms
+each_of : (P : Move → Type 0) (ms : List Move) → ((m : Move) → Among m ms → P m) → Each P ms
 each_of P [] f = tt
 each_of P (m ∷ ms) f = (f m (inl refl), each_of P ms (λ x i. f x (inr i)))
 
@@ -147,7 +148,7 @@ module _ (p : LProc) (is : IsPlaced p) where
       subst (InFrame p) (sym here) (is.numbers_in_range.params v param.0 (kind_param p.vars v param.0 param.1)))
       (λ (slot : (k : ℕ) × (u : VarId) × (slice_get p.slots k ≡ Some u) × (u.0 ≡ v)).
       let plain : kind_of p v ≡ Plain = ap (λ w. kind_of p w) (sym slot.3) ∙ get_or_from_slice_get p.vars slot.1.0 Plain Plain (is.numbers_in_range.slots_plain slot.0 slot.1 slot.2) in
-      let there = slot_there p v (subst (λ w. In w (map (λ (u : VarId). u.0) p.slots)) slot.3 (in_map (λ (u : VarId). u.0) p.slots slot.1 (in_at p.slots slot.0 slot.1 slot.2))) in
+      let there = slot_there p v (subst (λ w. Among w (map (λ (u : VarId). u.0) p.slots)) slot.3 (in_map (λ (u : VarId). u.0) p.slots slot.1 (in_at p.slots slot.0 slot.1 slot.2))) in
       let here : spot p v ≡ Slot there.0 = ap (λ k. spot_as k (slot_of p v)) plain ∙ ap slotted there.1 in
       subst (InFrame p) (sym here) there.2)
       has
@@ -159,7 +160,7 @@ module _ (p : LProc) (is : IsPlaced p) where
   in_cells (move.Store v r) regs has names = (has_cell v.0 (names v.0 refl) has, reg_cell p r regs)
   in_cells (move.Set r n) regs has names = reg_cell p r regs
 
-  block_cells : (b : ℕ) (block : LBlock) → slice_get p.blocks b ≡ Some block → (m : Move) → In (placed.Move m) block.code → InCells p m
+  block_cells : (b : ℕ) (block : LBlock) → slice_get p.blocks b ≡ Some block → (m : Move) → Among (placed.Move m) block.code → InCells p m
   block_cells b block e m i =
       let k = at_in block.code (placed.Move m) i in
       let at : linstr_at p b k.0 (placed.Move m) = (block, e, k.1) in
@@ -185,7 +186,7 @@ module _ (code : VProc) (net : Net) (is : IsNet net code) (routes : Routes) (has
       let var : (strand_of r e).var.0 ≡ v = ap (λ (t : Strand). t.var.0) (its_strand all_tables code net is routes has admitted e at.route) ∙ at.covers.var in
       let here : in_memory r v ≡ true = any_in _ (flow net routes) e (in_the_flow all_tables code net is routes has admitted b l v e at) (both (nat_eq (strand_of r e).var.0 v) (needs_slot (number e.to)) (same_nat (strand_of r e).var.0 v var) h) in
       let slot : has_slot r v ≡ true = both (is_plain (base.kind_of code v)) (in_memory r v) (ap is_plain plain) here in
-      subst (In v) (sym behind.slots) (in_filter (has_slot r) _ v (in_range 0 (length code.vars) v (omega arith) (let lt = inside.var in omega (arith, lt))) slot))
+      subst (Among v) (sym behind.slots) (in_filter (has_slot r) _ v (in_range 0 (length code.vars) v (omega arith) (let lt = inside.var in omega (arith, lt))) slot))
       (memory_suits (base.kind_of code v) e.to h (edge_suits code net is routes has admitted b l v e at))
     where
       both : (a c : Bool) → a ≡ true → c ≡ true → (a && c) ≡ true
@@ -199,7 +200,7 @@ module _ (code : VProc) (net : Net) (is : IsNet net code) (routes : Routes) (has
       each_of (InCells p) ms
       (λ m i.
       block_cells p placed_is b block e m
-      (rest_in r b 0 (code_of code b) block.code (behind.lays b block e) k (placed.Move m) (subst (In (placed.Move m)) (sym parts) (in_left (map placed.Move ms) more (placed.Move m) (in_map placed.Move ms m i)))))
+      (rest_in r b 0 (code_of code b) block.code (behind.lays b block e) k (placed.Move m) (subst (Among (placed.Move m)) (sym parts) (in_left (map placed.Move ms) more (placed.Move m) (in_map placed.Move ms m i)))))
 
   -- what is left of a block, where it is there
   abbrev rest_of : (b : ℕ) (o : Option LBlock) → slice_get p.blocks b ≡ o → ℕ → List LInstr

@@ -2,8 +2,8 @@
 use Rattle.std.proofs.Common.{◌≡◌, ◌≢◌, ℕ, ℤ, suc, ◌+◌, ◌*◌, ◌%◌, ◌⊎◌, inl, inr, ⊎_elim, Bool, true, false, nat_eq, if◌then◌else◌, List, [], ◌∷◌, ◌++◌, length, map, drop, Option, Some, refl, sym, ap, subst, ◌∙◌, arith, lit<}
 use Rattle.std.specs.Prelude.{option_map}
 use Rattle.std.specs.List.{list_any}
+use Rattle.pra_list.specs.Among.{Among}
 use Rattle.net_form.specs.Strands.{roles_at}
-use Rattle.pl_routed.proofs.Listed.{In}
 use Rattle.std.proofs.lemmas.Bool.Decides.{nat_tests}
 use Rattle.pra_base.specs.declared.ids.Place.{Place}
 use Rattle.pra_base.specs.declared.ids.Place.TheVariants.{Eax, Ecx, Edx, Ebx, Esi, Edi, Mem, Const, EaxM, EcxM, EdxM, EbxM, EsiM, EdiM}
@@ -29,7 +29,7 @@ use Rattle.pl_place.specs.Placed.{kind_of}
 use Rattle.pl_place.specs.Machine.{cells, fixed}
 use Rattle.pl_place.specs.Behind.{Routed, place_at}
 use Rattle.pra_list.specs.Each.{Each}
-use Rattle.pl_simulation.specs.Correspondence.{Allocation, Among, IsCell, AllRead, Written, AllWritten, is_destroyed, Stays, Fits}
+use Rattle.pl_simulation.specs.Correspondence.{Allocation, IsCell, AllRead, Written, AllWritten, is_destroyed, Stays, Fits}
 use Rattle.pl_routed.proofs.Present.{r as routed, live as live_of, edge_of_place, edge_inside, edge_mask, edge_from, From, edge_stays, edge_apart, is_nat}
 use Rattle.pl_routed.proofs.Present.From.{Begins, Goes}
 use Rattle.pl_routed.proofs.Masks.{is_single, one_cell, kept_out, place_of_role, place_kept}
@@ -180,7 +180,7 @@ module _ (code : VProc) (net : Net) (is : IsNet net code) (routes : Routes) (has
         let single : is_single (number e.to) ≡ true =
         one_cell i w k_in e.to
         (ap (λ m. allows m (number e.to)) (sym role.mask)
-        ∙ place_of_role code live w b l e.to mask role.role (subst (λ rs. In role.role rs) (sym (roles_are code live b k i here)) role.in_row) (is_nat all_tables code net is routes has admitted role.role.var w role.var) (not_coming code live b k i here w)) in
+        ∙ place_of_role code live w b l e.to mask role.role (subst (λ rs. Among role.role rs) (sym (roles_are code live b k i here)) role.in_row) (is_nat all_tables code net is routes has admitted role.role.var w role.var) (not_coming code live b k i here w)) in
         record {
           at_place = of_edge code net is routes has admitted b l w e at;
           cell = cell_at e.to w;

@@ -2,7 +2,6 @@ pub mod Corresponding
 pub mod Edges
 pub mod Fitted
 pub mod Followed
-pub mod Listed
 pub mod Lives
 pub mod Masks
 pub mod Present

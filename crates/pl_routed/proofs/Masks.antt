@@ -4,6 +4,7 @@ use Rattle.std.specs.Int.{bit_at}
 use Rattle.std.proofs.lemmas.Bool.{and_parts}
 use Rattle.std.proofs.lemmas.Bool.Decides.{nat_tests}
 use Rattle.std.proofs.lemmas.Nat.Bits.{bit_at_and, bit_at-lt}
+use Rattle.pra_list.specs.Among.{Among}
 use Rattle.pra_base.specs.declared.ids.Place.{Place}
 use Rattle.pra_base.specs.declared.ids.Place.TheVariants.{Eax, Ecx, Edx, Ebx, Esi, Edi, Mem, Const, EaxM, EcxM, EdxM, EbxM, EsiM, EdiM}
 use Rattle.pra_base.specs.declared.code.VarKind.{VarKind}
@@ -18,8 +19,8 @@ use Rattle.net_form.specs.Tables.{all_tables}
 use Rattle.net_form.specs.Strands.{Lives, is_param, comes_in_memory, met_mask, clobbered, mask_at, roles_at}
 use Rattle.pl_moves.specs.Assignment.{suits}
 use Rattle.pl_place.specs.Behind.{constant}
-use Rattle.pl_simulation.specs.Correspondence.{is_destroyed, Among}
-use Rattle.pl_routed.proofs.Listed.{In, in_left, in_right, in_map}
+use Rattle.pl_simulation.specs.Correspondence.{is_destroyed}
+use Rattle.pra_list.proofs.Among.{in_left, in_right, in_map}
 use Rattle.pl_moves.specs.Meaning.{Register}
 
 true_false : (b : Bool) → b ≡ true → b ≡ false → ⊥
@@ -44,14 +45,14 @@ both_allow a b p e =
 -- ---- what the roles of a variable have in common
 
 abbrev AllowsOf : ℕ → List Role → ℕ → Type 0
-AllowsOf v roles p = (role : Role) → In role roles → is_role_of v role ≡ true → allows role.mask p ≡ true
+AllowsOf v roles p = (role : Role) → Among role roles → is_role_of v role ≡ true → allows role.mask p ≡ true
 
 pub fold_allows : (v m : ℕ) (roles : List Role) (p : ℕ) → allows (fold (meets v) m roles) p ≡ true → (allows m p ≡ true) × AllowsOf v roles p
 fold_allows v m [] p e = (e, λ role i of. absurd i)
 fold_allows v m (x ∷ roles) p e =
     let more = fold_allows v (meets v m x) roles p e in
     let first = by_test (is_role_of v x) (more.0) in
-    (first.0, λ role i of. ⊎_elim (λ (same : role ≡ x). subst (λ y. allows y.mask p ≡ true) (sym same) (first.1 (sym (ap (is_role_of v) same) ∙ of))) (λ (later : In role roles). more.1 role later of) i)
+    (first.0, λ role i of. ⊎_elim (λ (same : role ≡ x). subst (λ y. allows y.mask p ≡ true) (sym same) (first.1 (sym (ap (is_role_of v) same) ∙ of))) (λ (later : Among role roles). more.1 role later of) i)
   where
     by_test : (b : Bool) → allows (if b then meet m x.mask else m) p ≡ true → (allows m p ≡ true) × (b ≡ true → allows x.mask p ≡ true)
     by_test true e = let both = both_allow m x.mask p e in (both.0, λ _. both.1)
@@ -74,11 +75,11 @@ itself : (v : ℕ) → nat_eq v v ≡ true
 itself v = grind (arith, nat_tests)
 
 -- a role that is only written
-of_write : (l : Line) (role : Role) (p : ℕ) → In role l.writes → allows (mask_of l role.var) p ≡ true → allows role.mask p ≡ true
+of_write : (l : Line) (role : Role) (p : ℕ) → Among role l.writes → allows (mask_of l role.var) p ≡ true → allows role.mask p ≡ true
 of_write l role p i e = mask_allows l role.var p e role (in_right (map (widened l) l.reads) l.writes role i) (itself role.var)
 
 -- a role that is read, of a variable that is written too
-of_read : (l : Line) (role : Role) (p : ℕ) → In role l.reads → line_writes l role.var ≡ true → allows (mask_of l role.var) p ≡ true → allows role.mask p ≡ true
+of_read : (l : Line) (role : Role) (p : ℕ) → Among role l.reads → line_writes l role.var ≡ true → allows (mask_of l role.var) p ≡ true → allows role.mask p ≡ true
 of_read l role p i w e =
     let wide = mask_allows l role.var p e (widened l role) (in_left (map (widened l) l.reads) l.writes (widened l role) (in_map (widened l) l.reads role i)) (itself role.var) in
     by_test (line_writes l role.var) w (with_both role.mask) wide
@@ -174,10 +175,10 @@ single_edx EdiM e = cc
 abbrev OneCell : Line → ℕ → Type 0
 OneCell l w = (q : Place) → allows (mask_of l w) (number q) ≡ true → is_single (number q) ≡ true
 
-one_written : (l : Line) (role : Role) → In role l.writes → Single role.mask → OneCell l role.var
+one_written : (l : Line) (role : Role) → Among role l.writes → Single role.mask → OneCell l role.var
 one_written l role i single q e = single q (of_write l role (number q) i e)
 
-one_in_place : (l : Line) (role : Role) → In role l.reads → line_writes l role.var ≡ true → Single role.mask → OneCell l role.var
+one_in_place : (l : Line) (role : Role) → Among role l.reads → line_writes l role.var ≡ true → Single role.mask → OneCell l role.var
 one_in_place l role i w single q e = single q (of_read l role (number q) i w e)
 
 one_of : (l : Line) (w v : ℕ) → (w ≡ v) ⊎ Among w [] → OneCell l v → OneCell l w
@@ -395,7 +396,7 @@ module _ (code : VProc) (live : Lives) (v b l : ℕ) (q : Place) (ok : allows (m
   place_at_entry e = only_mem q (sym (ap (λ t. allows (if t then only Mem else without (met_mask all_tables code v b l) (clobbered all_tables code live v b l)) (number q)) e) ∙ ok)
 
   -- where the variable has a role
-  pub place_of_role : (role : Role) → In role (roles_at all_tables code b l) → is_role_of v role ≡ true → comes_in_memory code v b l ≡ false → allows role.mask (number q) ≡ true
+  pub place_of_role : (role : Role) → Among role (roles_at all_tables code b l) → is_role_of v role ≡ true → comes_in_memory code v b l ≡ false → allows role.mask (number q) ≡ true
   place_of_role role i of later =
       ⊎_elim
       (λ (c : (comes_in_memory code v b l ≡ true) × (q ≡ Mem)). absurd (true_false (comes_in_memory code v b l) c.0 later))

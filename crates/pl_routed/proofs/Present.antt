@@ -5,6 +5,7 @@ use Rattle.std.specs.List.{enumerate_from}
 use Rattle.std.proofs.lemmas.Bool.Decides.{nat_tests}
 use Rattle.std.proofs.lemmas.List.FromFn.{get_or-map-range_with_len}
 use Rattle.std.proofs.lemmas.Option.{get_or_from_slice_get}
+use Rattle.pra_list.specs.Among.{Among}
 use Rattle.pra_list.proofs.Counts.{count-no}
 use Rattle.pra_list.proofs.Options.{some_same}
 use Rattle.pra_base.specs.declared.ids.Place.{Place}
@@ -25,7 +26,7 @@ use Rattle.net_form.specs.Admitted.{no_strand, strand_at, layer_of, mask_of, in_
 use Rattle.net_form.specs.Index.{first_layer}
 use Rattle.net_form.proofs.PlaceEquality.{same_place-true, same_place-refl}
 use Rattle.pl_place.specs.Behind.{Routed, strand_of, brings, place_at}
-use Rattle.pl_routed.proofs.Listed.{In, in_all, in_at, at_in, in_flat, in_filter_map, some_counted, finds, found_in, one_passes}
+use Rattle.pra_list.proofs.Among.{in_all, in_at, at_in, in_flat, in_filter_map, some_counted, finds, found_in, one_passes}
 use Rattle.pl_routed.proofs.Edges.{path_after, path_one, path_from, path_at, Behind, OfRoute, of_flow, in_flow, route_of}
 use Rattle.pl_routed.proofs.Strands.{IsStrand, Covers, are_strands, covered, fresh, last_inside, run_some, one_strand, strand_of as strand_there}
 
@@ -111,7 +112,7 @@ module _ (tables : PlaceTables) (code : VProc) (net : Net) (is : IsNetBy tables 
       pub layer : e.layer ≡ l
       pub covers : Covers tables code live route.strand v b l
 
-    pub in_the_flow : (b l v : ℕ) (e : Edge) → EdgeAt b l v e → In e (flow net routes)
+    pub in_the_flow : (b l v : ℕ) (e : Edge) → EdgeAt b l v e → Among e (flow net routes)
     in_the_flow b l v e at = in_flow 0 net.strands routes.places e at.route
 
     its_number : (e : Edge) (o : OfRoute 0 net.strands routes.places e) → e.strand ≡ o.number
@@ -148,7 +149,7 @@ module _ (tables : PlaceTables) (code : VProc) (net : Net) (is : IsNetBy tables 
         (is_nat _ b (ap (λ (t : Strand). t.block.0) same ∙ at.covers.block))
         (is_nat e.layer l at.layer)
 
-    pub brings_edge : (b l v : ℕ) (e : Edge) → In e (flow net routes) → brings r b l v e ≡ true → EdgeAt b l v e
+    pub brings_edge : (b l v : ℕ) (e : Edge) → Among e (flow net routes) → brings r b l v e ≡ true → EdgeAt b l v e
     brings_edge b l v e i t =
         let o = of_flow 0 net.strands routes.places e i in
         let same = its_strand e o in
@@ -170,12 +171,12 @@ module _ (tables : PlaceTables) (code : VProc) (net : Net) (is : IsNetBy tables 
         }
 
     -- the same strand, and so the same path
-    same_route : (e d : Edge) (o : OfRoute 0 net.strands routes.places e) (u : OfRoute 0 net.strands routes.places d) → o.number ≡ u.number → In d (edges (0 + o.number) o.strand.first None o.path)
+    same_route : (e d : Edge) (o : OfRoute 0 net.strands routes.places e) (u : OfRoute 0 net.strands routes.places d) → o.number ≡ u.number → Among d (edges (0 + o.number) o.strand.first None o.path)
     same_route e d o u same =
         let strand : u.strand ≡ o.strand = some_same u.strand o.strand (sym u.is_strand ∙ ap (slice_get net.strands) (sym same) ∙ o.is_strand) in
         let path : u.path ≡ o.path = some_same u.path o.path (sym u.is_path ∙ ap (slice_get routes.places) (sym same) ∙ o.is_path) in
-        subst (λ n. In d (edges (0 + n) o.strand.first None o.path)) (sym same)
-        (subst (λ t. In d (edges (0 + u.number) t.first None o.path)) strand (subst (λ ps. In d (edges (0 + u.number) u.strand.first None ps)) path u.in_path))
+        subst (λ n. Among d (edges (0 + n) o.strand.first None o.path)) (sym same)
+        (subst (λ t. Among d (edges (0 + u.number) t.first None o.path)) strand (subst (λ ps. Among d (edges (0 + u.number) u.strand.first None ps)) path u.in_path))
 
     pub one_edge : (b l v : ℕ) (e d : Edge) → EdgeAt b l v e → EdgeAt b l v d → e ≡ d
     one_edge b l v e d a c =
@@ -334,7 +335,7 @@ module _ (tables : PlaceTables) (code : VProc) (net : Net) (is : IsNetBy tables 
 
     -- ---- ties
 
-    in_enumerate : (n : ℕ) (xs : List Strand) (i : ℕ) (t : Strand) → slice_get xs i ≡ Some t → In (n + i, t) (enumerate_from n xs)
+    in_enumerate : (n : ℕ) (xs : List Strand) (i : ℕ) (t : Strand) → slice_get xs i ≡ Some t → Among (n + i, t) (enumerate_from n xs)
     in_enumerate n [] i t e = cc
     in_enumerate n (x ∷ xs) zero t e =
         let same : x ≡ t = some_same x t e in
@@ -342,10 +343,10 @@ module _ (tables : PlaceTables) (code : VProc) (net : Net) (is : IsNetBy tables 
         inl (ap₂ (λ (k : ℕ) (y : Strand). (k, y)) zero_more (sym same))
     in_enumerate n (x ∷ xs) (suc i) t e =
         let more : n + 1 + i ≡ n + suc i = omega arith in
-        inr (subst (λ k. In (k, t) (enumerate_from (n + 1) xs)) more (in_enumerate (n + 1) xs i t e))
+        inr (subst (λ k. Among (k, t) (enumerate_from (n + 1) xs)) more (in_enumerate (n + 1) xs i t e))
 
-    in_numbers : (xs : List Strand) (i : ℕ) (t : Strand) → slice_get xs i ≡ Some t → In (i, t) (enumerate_from 0 xs)
-    in_numbers xs i t e = let same : 0 + i ≡ i = omega arith in subst (λ k. In (k, t) (enumerate_from 0 xs)) same (in_enumerate 0 xs i t e)
+    in_numbers : (xs : List Strand) (i : ℕ) (t : Strand) → slice_get xs i ≡ Some t → Among (i, t) (enumerate_from 0 xs)
+    in_numbers xs i t e = let same : 0 + i ≡ i = omega arith in subst (λ k. Among (k, t) (enumerate_from 0 xs)) same (in_enumerate 0 xs i t e)
 
     led : (end : End) (t : ℕ) → IsTarget end t → leads_to end t ≡ true
     led (Jump b) t e = is_nat b.0 t e
@@ -368,11 +369,11 @@ module _ (tables : PlaceTables) (code : VProc) (net : Net) (is : IsNetBy tables 
     of_three true false c e = cc
     of_three false b c e = cc
 
-    counted_in : {X : Type 0} (p : X → Bool) (xs : List X) → 0 < count_by p xs → (x : X) × In x xs × (p x ≡ true)
+    counted_in : {X : Type 0} (p : X → Bool) (xs : List X) → 0 < count_by p xs → (x : X) × Among x xs × (p x ≡ true)
     counted_in p [] lt = absurd (omega (arith, lt))
     counted_in p (x ∷ xs) lt = by_test (p x) refl (λ more. counted_in p xs more)
       where
-        by_test : (b : Bool) → p x ≡ b → (0 < count_by p xs → (y : _) × In y xs × (p y ≡ true)) → (y : _) × In y (x ∷ xs) × (p y ≡ true)
+        by_test : (b : Bool) → p x ≡ b → (0 < count_by p xs → (y : _) × Among y xs × (p y ≡ true)) → (y : _) × Among y (x ∷ xs) × (p y ≡ true)
         by_test true e ih = (x, inl refl, e)
         by_test false e ih = let no = count-no p x xs e in let a = ih (omega (arith, no, lt)) in (a.0, inr a.1, a.2)
 
@@ -397,11 +398,11 @@ module _ (tables : PlaceTables) (code : VProc) (net : Net) (is : IsNetBy tables 
         (is_nat _ _ (from.var ∙ sym to.var))
         (ap₂ (λ x y. leads_to (end_of code x) y) block to.block ∙ led (end_of code b) t target) in
         let tie : Tie = record { from = a.route.number; to = c.route.number } in
-        let in_ties : In tie (ties code ss) =
+        let in_ties : Among tie (ties code ss) =
         in_flat (ties_from code ss) (enumerate_from 0 ss) (a.route.number, s.0) tie (in_numbers ss a.route.number s.0 s.1)
         (in_filter_map (λ x. if is_joined code s.0 x.1 then Some (record { from = a.route.number; to = x.0 }) else None) (enumerate_from 0 ss) (c.route.number, u.0) tie (in_numbers ss c.route.number u.0 u.1)
         (if_yes (is_joined code s.0 u.0) tie joined)) in
-        let in_net : In tie net.ties = subst (In tie) (sym (ap (λ (n : Net). n.ties) is.is)) in_ties in
+        let in_net : Among tie net.ties = subst (Among tie) (sym (ap (λ (n : Net). n.ties) is.is)) in_ties in
         let keeps = in_all (KeepsTie net (flow net routes)) net.ties admitted.ties tie in_net e.to in
         let first_strand : strand_at net a.route.number ≡ a.route.strand = get_or_from_slice_get net.strands a.route.number a.route.strand no_strand a.route.is_strand in
         let second_strand : strand_at net c.route.number ≡ c.route.strand = get_or_from_slice_get net.strands c.route.number c.route.strand no_strand c.route.is_strand in

@@ -3,14 +3,14 @@ use Rattle.std.proofs.Common.{◌≡◌, ℕ, ◌+◌, ◌-◌, ◌*◌, ◌/◌
 use Rattle.std.specs.List.{list_any}
 use Rattle.std.proofs.lemmas.Bool.Decides.{nat_tests}
 use Rattle.std.proofs.lemmas.List.Folds.{list_any-append}
+use Rattle.pra_list.specs.Among.{Among}
 use Rattle.pra_base.specs.declared.code.VInstr.{VInstr}
 use Rattle.pra_base.specs.declared.code.VProc.{VProc}
 use Rattle.pra_base.specs.Code.{kind_of, instr_at}
 use Rattle.pra_base.specs.Operands.{Role, Line, table, is_role_of, mask_of, settled, rewritten, operands, written_by, var_of, writes}
 use Rattle.net_form.specs.Tables.{all_tables}
 use Rattle.net_form.specs.Strands.{Lives, beside, across, roles_beside, roles_at, clobbers_beside, is_present, is_param, comes_in_memory, clobbered}
-use Rattle.pl_simulation.specs.Correspondence.{Among}
-use Rattle.pl_routed.proofs.Listed.{In, in_left, in_right}
+use Rattle.pra_list.proofs.Among.{in_left, in_right, in_either}
 use Rattle.pl_routed.proofs.Lives.{after_even}
 
 turned : (a b : ℕ) → nat_eq a b ≡ nat_eq b a
@@ -23,19 +23,6 @@ nat_is : (a b : ℕ) → nat_eq a b ≡ true → a ≡ b
 nat_is a b e = grind (arith, nat_tests)
 
 -- ---- the written variables
-
-among_either : (xs ys : List ℕ) (v : ℕ) → Among v (xs ++ ys) → Among v xs ⊎ Among v ys
-among_either [] ys v i = inr i
-among_either (x ∷ xs) ys v i =
-    ⊎_elim (λ (e : v ≡ x). inl (inl e)) (λ (more : Among v (xs ++ ys)). ⊎_elim (λ (a : Among v xs). inl (inr a)) (λ (b : Among v ys). inr b) (among_either xs ys v more)) i
-
-among_left : (xs ys : List ℕ) (v : ℕ) → Among v xs → Among v (xs ++ ys)
-among_left [] ys v i = absurd i
-among_left (x ∷ xs) ys v i = ⊎_elim (λ (e : v ≡ x). inl e) (λ (more : Among v xs). inr (among_left xs ys v more)) i
-
-among_right : (xs ys : List ℕ) (v : ℕ) → Among v ys → Among v (xs ++ ys)
-among_right [] ys v i = i
-among_right (x ∷ xs) ys v i = inr (among_right xs ys v i)
 
 or_cases : (a b : Bool) → (a || b) ≡ true → (a ≡ true) ⊎ (b ≡ true)
 or_cases true b e = inl refl
@@ -65,8 +52,8 @@ roles_any (x ∷ roles) v = ap₂ (λ a b. a || b) (turned x.var v) (roles_any r
 pub writes_among : (i : VInstr) (v : ℕ) → writes i v ≡ true → Among v (written_by i)
 writes_among i v e =
     ⊎_elim
-    (λ (a : list_any (nat_eq v) (table i).in_place ≡ true). among_left (table i).in_place _ v (among_any (table i).in_place v a))
-    (λ (b : list_any (is_role_of v) (table i).writes ≡ true). among_right (table i).in_place _ v (among_any (map var_of (table i).writes) v (sym (roles_any (table i).writes v) ∙ b)))
+    (λ (a : list_any (nat_eq v) (table i).in_place ≡ true). in_left (table i).in_place _ v (among_any (table i).in_place v a))
+    (λ (b : list_any (is_role_of v) (table i).writes ≡ true). in_right (table i).in_place _ v (among_any (map var_of (table i).writes) v (sym (roles_any (table i).writes v) ∙ b)))
     (or_cases (list_any (nat_eq v) (table i).in_place) _ e)
 
 pub among_writes : (i : VInstr) (v : ℕ) → Among v (written_by i) → writes i v ≡ true
@@ -74,7 +61,7 @@ among_writes i v k =
     ⊎_elim
     (λ (a : Among v (table i).in_place). or_left (list_any (nat_eq v) (table i).in_place) _ (any_among (table i).in_place v a))
     (λ (b : Among v (map var_of (table i).writes)). or_right (list_any (nat_eq v) (table i).in_place) _ (roles_any (table i).writes v ∙ any_among (map var_of (table i).writes) v b))
-    (among_either (table i).in_place (map var_of (table i).writes) v k)
+    (in_either (table i).in_place (map var_of (table i).writes) v k)
 
 -- ---- the roles of its row
 
@@ -94,11 +81,11 @@ row_writes i v =
 -- a role of a written variable
 pub record WrittenRole (i : VInstr) (w : ℕ) : Type 0 where
   pub role : Role
-  pub in_row : In role (operands i).writes
+  pub in_row : Among role (operands i).writes
   pub var : role.var ≡ w
   pub mask : role.mask ≡ mask_of (table i) w
 
-in_place_role : (l : Line) (ws : List ℕ) (w : ℕ) → Among w ws → (role : Role) × In role (map (rewritten l) ws) × (role.var ≡ w) × (role.mask ≡ mask_of l w)
+in_place_role : (l : Line) (ws : List ℕ) (w : ℕ) → Among w ws → (role : Role) × Among role (map (rewritten l) ws) × (role.var ≡ w) × (role.mask ≡ mask_of l w)
 in_place_role l [] w k = absurd k
 in_place_role l (x ∷ ws) w k =
     ⊎_elim
@@ -106,7 +93,7 @@ in_place_role l (x ∷ ws) w k =
     (λ (more : Among w ws). let a = in_place_role l ws w more in (a.0, inr a.1, a.2, a.3))
     k
 
-settled_role : (l : Line) (roles : List Role) (w : ℕ) → Among w (map var_of roles) → (role : Role) × In role (map (settled l) roles) × (role.var ≡ w) × (role.mask ≡ mask_of l w)
+settled_role : (l : Line) (roles : List Role) (w : ℕ) → Among w (map var_of roles) → (role : Role) × Among role (map (settled l) roles) × (role.var ≡ w) × (role.mask ≡ mask_of l w)
 settled_role l [] w k = absurd k
 settled_role l (x ∷ roles) w k =
     ⊎_elim
@@ -120,7 +107,7 @@ written_role i w k =
     ⊎_elim
     (λ (a : Among w l.in_place). let r = in_place_role l l.in_place w a in record { role = r.0; in_row = in_left (map (rewritten l) l.in_place) (map (settled l) l.writes) r.0 r.1; var = r.2; mask = r.3 })
     (λ (b : Among w (map var_of l.writes)). let r = settled_role l l.writes w b in record { role = r.0; in_row = in_right (map (rewritten l) l.in_place) (map (settled l) l.writes) r.0 r.1; var = r.2; mask = r.3 })
-    (among_either l.in_place (map var_of l.writes) w k)
+    (in_either l.in_place (map var_of l.writes) w k)
 
 -- ---- the layer behind an instruction
 

@@ -1,5 +1,6 @@
 -- Where the cells of a place get their values from, when pairs are moved at once.
 use Rattle.std.proofs.Common.{◌≡◌, ◌≢◌, ℕ, ℤ, ◌⊎◌, inl, inr, ⊎_elim, Bool, true, false, if◌then◌else◌, List, [], ◌∷◌, Option, refl, sym, ap, subst, ◌∙◌}
+use Rattle.pra_list.specs.Among.{Among}
 use Rattle.pra_base.specs.declared.ids.Place.{Place}
 use Rattle.pra_base.specs.declared.ids.Place.TheVariants.{Eax, Ecx, Edx, Ebx, Esi, Edi, Mem, Const, EaxM, EcxM, EdxM, EbxM, EsiM, EdiM}
 use Rattle.pra_base.specs.declared.code.VarKind.{VarKind}
@@ -13,24 +14,22 @@ use Rattle.pl_place.specs.Placed.{kind_of}
 use Rattle.pl_place.specs.Machine.{cells, fixed}
 use Rattle.pl_place.specs.Behind.{constant}
 use Rattle.pra_list.specs.Each.{Each}
-use Rattle.pl_simulation.specs.Correspondence.{Among}
-use Rattle.pl_routed.proofs.Listed.{In}
 use Rattle.pl_routed.proofs.Lives.{changes}
 
 true_false : (b : Bool) → b ≡ true → b ≡ false → ⊥
 true_false b e f = cc
 
 -- what one pair alone fills
-pub source_of : (pairs : List Pair) (cell : Cell) (x : Pair) → In x pairs → fills x cell ≡ true → ((y : Pair) → In y pairs → fills y cell ≡ true → y ≡ x) → source pairs cell ≡ origin x
+pub source_of : (pairs : List Pair) (cell : Cell) (x : Pair) → Among x pairs → fills x cell ≡ true → ((y : Pair) → Among y pairs → fills y cell ≡ true → y ≡ x) → source pairs cell ≡ origin x
 source_of [] cell x i t one = absurd i
 source_of (y ∷ ys) cell x i t one = by_test (fills y cell) refl (λ more. source_of ys cell x more t (λ z j u. one z (inr j) u))
   where
-    by_test : (b : Bool) → fills y cell ≡ b → (In x ys → source ys cell ≡ origin x) → (if b then origin y else source ys cell) ≡ origin x
+    by_test : (b : Bool) → fills y cell ≡ b → (Among x ys → source ys cell ≡ origin x) → (if b then origin y else source ys cell) ≡ origin x
     by_test true e ih = ap origin (one y (inl refl) e)
-    by_test false e ih = ⊎_elim (λ (same : x ≡ y). absurd (true_false (fills y cell) (sym (ap (λ z. fills z cell) same) ∙ t) e)) (λ (more : In x ys). ih more) i
+    by_test false e ih = ⊎_elim (λ (same : x ≡ y). absurd (true_false (fills y cell) (sym (ap (λ z. fills z cell) same) ∙ t) e)) (λ (more : Among x ys). ih more) i
 
 -- what none fills keeps its own
-pub source_kept : (pairs : List Pair) (cell : Cell) → ((y : Pair) → In y pairs → fills y cell ≡ false) → source pairs cell ≡ cell
+pub source_kept : (pairs : List Pair) (cell : Cell) → ((y : Pair) → Among y pairs → fills y cell ≡ false) → source pairs cell ≡ cell
 source_kept [] cell none = refl
 source_kept (y ∷ ys) cell none = ap (λ b. if b then origin y else source ys cell) (none y (inl refl)) ∙ source_kept ys cell (λ z i. none z (inr i))
 

@@ -11,7 +11,7 @@ use Rattle.pra_base.specs.declared.code.VProc.{VProc}
 use Rattle.net_form.specs.declared.net.Strand.{Strand}
 use Rattle.net_form.specs.Tables.{PlaceTables}
 use Rattle.net_form.specs.Strands.{Lives, layer_count, is_present, begins, run_from, mask_at, strand, begun_strand, layer_strands, block_strands, strands}
-use Rattle.pl_routed.proofs.Listed.{in_all, in_at, at_in, in_flat, in_filter_map, in_range, at_most_one, sum_zero, sum_one}
+use Rattle.pra_list.proofs.Among.{in_all, in_at, at_in, in_flat, in_filter_map, in_range, at_most_one, sum_zero, sum_one}
 
 truth : (b : Bool) → (b ≡ true) ⊎ (b ≡ false)
 truth true = inl refl

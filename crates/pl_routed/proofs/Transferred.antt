@@ -1,6 +1,7 @@
 -- The moves of a layer transfer the allocation of the layer before it to its own.
 use Rattle.std.proofs.Common.{◌≡◌, ◌≢◌, ℕ, suc, ◌+◌, ◌*◌, ◌⊎◌, inl, inr, ⊎_elim, Bool, true, false, not, ◌&&◌, nat_eq, List, [], slice_index_or, Option, Some, None, refl, sym, ap, subst, ◌∙◌, arith}
 use Rattle.std.specs.Prelude.{option_map}
+use Rattle.pra_list.specs.Among.{Among}
 use Rattle.pra_list.proofs.Options.{some_same}
 use Rattle.pra_base.specs.declared.ids.Place.{Place}
 use Rattle.pra_base.specs.declared.ids.Place.TheVariants.{Const}
@@ -25,8 +26,8 @@ use Rattle.pl_place.specs.Placed.{kind_of}
 use Rattle.pl_place.specs.Machine.{cells}
 use Rattle.pl_place.specs.Behind.{Routed, strand_of, comes_to, place_at, constant, from_place, pair_of, pairs_at}
 use Rattle.pra_list.specs.Each.{Each}
-use Rattle.pl_simulation.specs.Correspondence.{Allocation, Among, InCells, ComesFrom, Brings, Transfers}
-use Rattle.pl_routed.proofs.Listed.{In, in_filter, of_filter, in_map, of_map}
+use Rattle.pl_simulation.specs.Correspondence.{Allocation, InCells, ComesFrom, Brings, Transfers}
+use Rattle.pra_list.proofs.Among.{in_filter, of_filter, in_map, of_map}
 use Rattle.pl_routed.proofs.Present.{EdgeAt, r as routed, live as live_of, edge_of_place, place_of_edge, brings_edge, one_edge, edge_inside, edge_mask, edge_from, From, edge_apart, its_strand, nat_is, is_nat, in_the_flow}
 use Rattle.pl_routed.proofs.Present.From.{Begins, Goes}
 use Rattle.pl_routed.proofs.Masks.{place_suits}
@@ -95,13 +96,13 @@ module _ (code : VProc) (net : Net) (is : IsNet net code) (routes : Routes) (has
       both_true : (c d : Bool) → c ≡ true → d ≡ true → (c && d) ≡ true
       both_true c d f g = rw (f, g) refl
 
-      is_in : In x pairs
+      is_in : Among x pairs
       is_in = in_map (pair_of r) _ e
           (in_filter (comes_to r b (2 * k + 1)) (flow net routes) e (in_the_flow all_tables code net is routes has admitted b (2 * k + 1) v e at)
           (both_true (nat_eq (strand_of r e).block.0 b) (nat_eq e.layer (2 * k + 1)) (is_nat all_tables code net is routes has admitted (strand_of r e).block.0 b block) (is_nat all_tables code net is routes has admitted e.layer (2 * k + 1) at.layer)))
 
       -- a pair of this layer is of an edge of it
-      edge_of_pair : (y : Pair) → In y pairs → (d : Edge) × (y ≡ pair_of r d) × At b (2 * k + 1) (strand_of r d).var.0 d
+      edge_of_pair : (y : Pair) → Among y pairs → (d : Edge) × (y ≡ pair_of r d) × At b (2 * k + 1) (strand_of r d).var.0 d
       edge_of_pair y i =
           let d = of_map (pair_of r) _ y i in
           let f = of_filter (comes_to r b (2 * k + 1)) (flow net routes) d.0 d.1 in
@@ -111,7 +112,7 @@ module _ (code : VProc) (net : Net) (is : IsNet net code) (routes : Routes) (has
       same_edge d c same = one_edge all_tables code net is routes has admitted b (2 * k + 1) v d e (subst (λ w. At b (2 * k + 1) w d) same c) at
 
       -- the pairs that fill a cell of the place
-      one_register : has_register (number e.to) ≡ true → (y : Pair) → In y pairs → fills y (Register (register_of (number e.to))) ≡ true → y ≡ x
+      one_register : has_register (number e.to) ≡ true → (y : Pair) → Among y pairs → fills y (Register (register_of (number e.to))) ≡ true → y ≡ x
       one_register h y i t =
           let d = edge_of_pair y i in
           let here : in_register (register_of (number e.to)) e.to ≡ true = both_true (has_register (number e.to)) (nat_eq (register_of (number e.to)) (register_of (number e.to))) h (is_nat all_tables code net is routes has admitted (register_of (number e.to)) (register_of (number e.to)) refl) in
@@ -119,7 +120,7 @@ module _ (code : VProc) (net : Net) (is : IsNet net code) (routes : Routes) (has
           let same = edge_apart all_tables code net is routes has admitted b (2 * k + 1) (strand_of r d.0).var.0 v (register_of (number e.to)) d.0 e d.2 at there here in
           d.1 ∙ ap (pair_of r) (same_edge d.0 d.2 same)
 
-      memory_var : (y : Pair) → In y pairs → fills y (Memory v) ≡ true → y ≡ x
+      memory_var : (y : Pair) → Among y pairs → fills y (Memory v) ≡ true → y ≡ x
       memory_var y i t =
           let d = edge_of_pair y i in
           let parts = split (into_memory y) (nat_eq y.var.0 v) t in
@@ -155,7 +156,7 @@ module _ (code : VProc) (net : Net) (is : IsNet net code) (routes : Routes) (has
       memory_from h =
           ⊎_elim
           (λ (had : needs_slot (number from) ≡ true).
-          let none : (y : Pair) → In y pairs → fills y (Memory v) ≡ false = λ y i. false_from (fills y (Memory v)) (λ t. let same = memory_var y i t in true_false (fills x (Memory v)) (sym (ap (λ z. fills z (Memory v)) same) ∙ t) (kept (needs_slot (number e.to)) (needs_slot (number from)) (nat_eq x.var.0 v) had)) in
+          let none : (y : Pair) → Among y pairs → fills y (Memory v) ≡ false = λ y i. false_from (fills y (Memory v)) (λ t. let same = memory_var y i t in true_false (fills x (Memory v)) (sym (ap (λ z. fills z (Memory v)) same) ∙ t) (kept (needs_slot (number e.to)) (needs_slot (number from)) (nat_eq x.var.0 v) had)) in
           subst (λ c. Among c (cells p v (number from))) (sym (source_kept pairs (Memory v) none)) (memory_among p v from had))
           (λ (had : needs_slot (number from) ≡ false).
           let t : fills x (Memory v) ≡ true = filled (needs_slot (number e.to)) (needs_slot (number from)) (nat_eq x.var.0 v) h had (is_nat all_tables code net is routes has admitted x.var.0 v var) in

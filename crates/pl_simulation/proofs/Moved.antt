@@ -1,5 +1,6 @@
 -- A list of moves brings the values from their places in one allocation to those in another.
 use Rattle.std.proofs.Common.{◌≡◌, ℕ, ⊎_elim, Bool, true, false, if◌then◌else◌, List, [], ◌∷◌, ◌++◌, length, map, slice_index_or, Option, Some, None, refl, sym, ap, subst, ◌∙◌}
+use Rattle.pra_list.specs.Among.{Among}
 use Rattle.pra_list.proofs.Options.{some_same}
 use Rattle.pra_list.specs.Options.{◌>>=◌}
 use Rattle.pra_base.specs.System.{run}
@@ -22,7 +23,7 @@ use Rattle.pl_place.specs.declared.placed.LProc.{LProc}
 use Rattle.pl_place.specs.Placed.{kind_of}
 use Rattle.pl_place.specs.Machine.{Cells, Spot, Slot, Argument, Nowhere, spot, in_spot, at_cell, put_cell, holding, cells, fixed, passed, proc_of, next_of, placed_machine}
 use Rattle.pra_list.specs.Each.{Each}
-use Rattle.pl_simulation.specs.Correspondence.{Allocation, Among, IsCell, InCells, ComesFrom, Transfers}
+use Rattle.pl_simulation.specs.Correspondence.{Allocation, IsCell, InCells, ComesFrom, Transfers}
 use Rattle.pl_simulation.proofs.Cells.{is_own, ParamsApart, HasCells, write, written_cell, put_is, still_there, Alike, alike_then, alike}
 use Rattle.pl_simulation.proofs.Located.{Matches}
 

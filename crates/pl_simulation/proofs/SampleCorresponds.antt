@@ -2,6 +2,7 @@
 use Rattle.std.proofs.Common.{◌≡◌, ◌≢◌, ℕ, zero, suc, ◌<◌, ◌⊎◌, inl, inr, false, nat_eq, if◌then◌else◌, List, [], ◌∷◌, slice_get, length, Some, None, refl, ap, subst, arith, lit<}
 use Rattle.std.specs.Prelude.{pos}
 use Rattle.std.proofs.lemmas.Bool.Decides.{nat_tests}
+use Rattle.pra_list.specs.Among.{Among}
 use Rattle.pra_list.proofs.Options.{some_same}
 use Rattle.pra_base.specs.declared.ids.Place.TheVariants.{Eax, Mem, Const, EaxM}
 use Rattle.pra_base.specs.declared.code.VarKind.TheVariants.{Param}
@@ -24,7 +25,7 @@ use Rattle.pl_place.specs.Machine.{cells}
 use Rattle.pl_place.specs.Sample.{v0, v1, op}
 use Rattle.pl_place.specs.SampleRoutes.{in_memory}
 use Rattle.pra_list.specs.Each.{Each}
-use Rattle.pl_simulation.specs.Correspondence.{Allocation, Among, Transfers, Brings, Written, Stays, Fits, InstrCorresponds, EndCorresponds, Corresponds, AllCorrespond}
+use Rattle.pl_simulation.specs.Correspondence.{Allocation, Transfers, Brings, Written, Stays, Fits, InstrCorresponds, EndCorresponds, Corresponds, AllCorrespond}
 use Rattle.pl_simulation.proofs.Simulated.{no_moves}
 
 -- the layers: nothing; v in memory; k beside it; v in EAX too

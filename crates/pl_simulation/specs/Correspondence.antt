@@ -5,6 +5,7 @@ use Rattle.std.specs.Prelude.{◌≡◌, ◌≢◌, ℕ, suc, ◌<◌, ◌⊎◌
 use Rattle.std.specs.Prelude.{◌++◌}
 use Rattle.std.specs.Prelude.{length, map, drop, slice_get, Option, Some}
 use Rattle.std.specs.Int.{bit_at}
+use Rattle.pra_list.specs.Among.{Among}
 use Rattle.pra_list.specs.Each.{Each}
 use Rattle.pra_base.specs.declared.ids.Place.TheVariants.{Mem, Const}
 use Rattle.pra_base.specs.declared.code.VarKind.TheVariants.{Param}
@@ -33,10 +34,6 @@ use Rattle.pl_place.specs.Machine.{Spot, Slot, Argument, Nowhere, spot, cells}
 -- the place of each variable that is present, by numbers
 abbrev pub Allocation : Type 0
 Allocation = ℕ → Option ℕ
-
-abbrev pub Among : {X : Type 0} → X → List X → Type 0
-Among x [] = ⊥
-Among x (y ∷ ys) = (x ≡ y) ⊎ Among x ys
 
 -- ---- cells of a frame
 

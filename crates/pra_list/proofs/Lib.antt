@@ -1,3 +1,4 @@
+pub mod Among
 pub mod Choices
 pub mod Comprehensions
 pub mod Counts

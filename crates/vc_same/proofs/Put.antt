@@ -11,7 +11,7 @@ use Rattle.vc_code.specs.declared.value.Value.{Value}
 use Rattle.vc_code.specs.Value.{Held, Words}
 use Rattle.vc_code.specs.Selected.{read, valued, put, put_all}
 use Rattle.vc_same.specs.Renaming.{Names}
-use Rattle.vc_same.proofs.Renamed.{Among}
+use Rattle.pra_list.specs.Among.{Among}
 
 pub if_true : {A : Type 0} (b : Bool) (x y : A) → b ≡ true → (if b then x else y) ≡ x
 if_true true x y e = refl

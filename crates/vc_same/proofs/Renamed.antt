@@ -2,7 +2,9 @@
 use Rattle.std.proofs.Common.{◌≡◌, ℕ, ◌+◌, ◌*◌, ◌%◌, ◌^◌, ◌⊎◌, inl, inr, Bool, true, false, ◌||◌, nat_eq, List, [], ◌∷◌, ◌++◌, map, Option, Some, None, refl, sym, ap, ap₂, subst, ◌∙◌, arith}
 use Rattle.std.specs.List.{list_any}
 use Rattle.std.proofs.lemmas.Bool.Decides.{nat_tests}
+use Rattle.pra_list.specs.Among.{Among}
 use Rattle.pra_list.specs.Options.{◌>>=◌}
+use Rattle.pra_list.proofs.Among.{in_left, in_right, in_either, in_map, of_map}
 use Rattle.pra_base.specs.declared.ids.VarId.{VarId}
 use Rattle.pra_base.specs.declared.code.Base.{Base}
 use Rattle.pra_base.specs.declared.code.Base.TheVariants as base
@@ -19,41 +21,6 @@ use Rattle.vc_code.specs.declared.action.Action.TheVariants as action
 use Rattle.vc_code.specs.Value.{Held}
 use Rattle.vc_code.specs.Operation.{operate, placed, based, indexed, base_count, index_count, number_at}
 use Rattle.vc_same.specs.Renaming.{Names, var, base_of, index_of, address, renamed}
-
--- ---- elements of a list
-
-abbrev pub Among : ℕ → List ℕ → Type 0
-Among v [] = ⊥
-Among v (w ∷ ws) = (v ≡ w) ⊎ Among v ws
-
-pub among_left : (v : ℕ) (xs ys : List ℕ) → Among v xs → Among v (xs ++ ys)
-among_left v [] ys m = absurd m
-among_left v (x ∷ xs) ys (inl e) = inl e
-among_left v (x ∷ xs) ys (inr m) = inr (among_left v xs ys m)
-
-pub among_right : (v : ℕ) (xs ys : List ℕ) → Among v ys → Among v (xs ++ ys)
-among_right v [] ys m = m
-among_right v (x ∷ xs) ys m = inr (among_right v xs ys m)
-
-pub among_either : (v : ℕ) (xs ys : List ℕ) → Among v (xs ++ ys) → Among v xs ⊎ Among v ys
-among_either v [] ys m = inr m
-among_either v (x ∷ xs) ys (inl e) = inl (inl e)
-among_either v (x ∷ xs) ys (inr m) = later (among_either v xs ys m)
-  where
-    later : Among v xs ⊎ Among v ys → Among v (x ∷ xs) ⊎ Among v ys
-    later (inl n) = inl (inr n)
-    later (inr n) = inr n
-
--- an element under its new name, and where such a name comes from
-pub among_map : (to : Names) (v : ℕ) (xs : List ℕ) → Among v xs → Among (to v) (map to xs)
-among_map to v [] m = absurd m
-among_map to v (x ∷ xs) (inl e) = inl (ap to e)
-among_map to v (x ∷ xs) (inr m) = inr (among_map to v xs m)
-
-pub among_from : (to : Names) (w : ℕ) (xs : List ℕ) → Among w (map to xs) → (v : ℕ) × Among v xs × (w ≡ to v)
-among_from to w [] m = absurd m
-among_from to w (x ∷ xs) (inl e) = (x, inl refl, e)
-among_from to w (x ∷ xs) (inr m) = let r = among_from to w xs m in (r.0, inr r.1, r.2)
 
 -- ---- the tests of the table
 
@@ -111,11 +78,11 @@ pub writes_among : (i : VInstr) (v : ℕ) → writes i v ≡ true → Among v (w
 writes_among i v e = first (or_cases (list_any (nat_eq v) (table i).in_place) (list_any (is_role_of v) (table i).writes) e)
   where
     first : (list_any (nat_eq v) (table i).in_place ≡ true) ⊎ (list_any (is_role_of v) (table i).writes ≡ true) → Among v (written_by i)
-    first (inl f) = among_left v (table i).in_place (map var_of (table i).writes) (numbers_among (table i).in_place v f)
-    first (inr f) = among_right v (table i).in_place (map var_of (table i).writes) (roles_among (table i).writes v f)
+    first (inl f) = in_left (table i).in_place (map var_of (table i).writes) v (numbers_among (table i).in_place v f)
+    first (inr f) = in_right (table i).in_place (map var_of (table i).writes) v (roles_among (table i).writes v f)
 
 pub among_writes : (i : VInstr) (v : ℕ) → Among v (written_by i) → writes i v ≡ true
-among_writes i v m = first (among_either v (table i).in_place (map var_of (table i).writes) m)
+among_writes i v m = first (in_either (table i).in_place (map var_of (table i).writes) v m)
   where
     first : Among v (table i).in_place ⊎ Among v (map var_of (table i).writes) → writes i v ≡ true
     first (inl n) = or_left (list_any (nat_eq v) (table i).in_place) (list_any (is_role_of v) (table i).writes) (among_numbers (table i).in_place v n)
@@ -221,20 +188,20 @@ module _ (to : Names) where
   only_written_renamed instr.Clear = refl
 
   pub reads_renamed : (i : VInstr) (v : ℕ) → reads i v ≡ true → reads (renamed to i) (to v) ≡ true
-  reads_renamed i v e = among_reads (renamed to i) (to v) (subst (λ l. Among (to v) l) (sym (read_by_renamed i)) (among_map to v (read_by i) (reads_among i v e)))
+  reads_renamed i v e = among_reads (renamed to i) (to v) (subst (λ l. Among (to v) l) (sym (read_by_renamed i)) (in_map to (read_by i) v (reads_among i v e)))
 
   pub writes_renamed : (i : VInstr) (v : ℕ) → writes i v ≡ true → writes (renamed to i) (to v) ≡ true
-  writes_renamed i v e = among_writes (renamed to i) (to v) (subst (λ l. Among (to v) l) (sym (written_by_renamed i)) (among_map to v (written_by i) (writes_among i v e)))
+  writes_renamed i v e = among_writes (renamed to i) (to v) (subst (λ l. Among (to v) l) (sym (written_by_renamed i)) (in_map to (written_by i) v (writes_among i v e)))
 
   -- a variable of the renamed instruction is the new name of one of the instruction
   pub reads_from : (i : VInstr) (w : ℕ) → reads (renamed to i) w ≡ true → (v : ℕ) × (reads i v ≡ true) × (w ≡ to v)
-  reads_from i w e = let m = among_from to w (read_by i) (subst (λ l. Among w l) (read_by_renamed i) (reads_among (renamed to i) w e)) in (m.0, among_reads i m.0 m.1, m.2)
+  reads_from i w e = let m = of_map to (read_by i) w (subst (λ l. Among w l) (read_by_renamed i) (reads_among (renamed to i) w e)) in (m.0, among_reads i m.0 m.1, m.2)
 
   pub writes_from : (i : VInstr) (w : ℕ) → writes (renamed to i) w ≡ true → (v : ℕ) × (writes i v ≡ true) × (w ≡ to v)
-  writes_from i w e = let m = among_from to w (written_by i) (subst (λ l. Among w l) (written_by_renamed i) (writes_among (renamed to i) w e)) in (m.0, among_writes i m.0 m.1, m.2)
+  writes_from i w e = let m = of_map to (written_by i) w (subst (λ l. Among w l) (written_by_renamed i) (writes_among (renamed to i) w e)) in (m.0, among_writes i m.0 m.1, m.2)
 
   pub only_writes_from : (i : VInstr) (w : ℕ) → only_writes (renamed to i) w ≡ true → (v : ℕ) × (only_writes i v ≡ true) × (w ≡ to v)
-  only_writes_from i w e = let m = among_from to w (map var_of (table i).writes) (subst (λ l. Among w l) (only_written_renamed i) (roles_among (table (renamed to i)).writes w e)) in (m.0, among_roles (table i).writes m.0 m.1, m.2)
+  only_writes_from i w e = let m = of_map to (map var_of (table i).writes) w (subst (λ l. Among w l) (only_written_renamed i) (roles_among (table (renamed to i)).writes w e)) in (m.0, among_roles (table i).writes m.0 m.1, m.2)
 
   -- ---- the action
 

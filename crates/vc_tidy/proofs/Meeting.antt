@@ -27,7 +27,9 @@ use Rattle.vc_live.proofs.Steps.{no_role, named_at, named_more, reads_named, wri
 use Rattle.vc_same.specs.Renaming.{renamed}
 use Rattle.vc_same.specs.Reduction.{Needed}
 use Rattle.vc_same.proofs.Paths.{needed_read, needed_over}
-use Rattle.vc_same.proofs.Renamed.{Among, roles_among, among_roles, among_map, reads_renamed, only_written_renamed}
+use Rattle.pra_list.specs.Among.{Among}
+use Rattle.pra_list.proofs.Among.{in_map}
+use Rattle.vc_same.proofs.Renamed.{roles_among, among_roles, reads_renamed, only_written_renamed}
 use Rattle.vc_tidy.specs.Tidy.{IsPresent, is_between, in_place, block_as_one, as_one, CanBeOne}
 use Rattle.vc_tidy.specs.declared.places.Place.{Place}
 use Rattle.vc_tidy.specs.Joined.{IsKnown, IsPlain, MeetsAt, Meets, is_met, places_of, HasPlaces}
@@ -222,7 +224,7 @@ still_there t s code b k i is other =
 -- ---- roles
 
 only_renamed : (to : ℕ → ℕ) (i : VInstr) (v : ℕ) → only_writes i v ≡ true → only_writes (renamed to i) (to v) ≡ true
-only_renamed to i v e = among_roles (table (renamed to i)).writes (to v) (subst (λ ws. Among (to v) ws) (sym (only_written_renamed to i)) (among_map to v (map var_of (table i).writes) (roles_among (table i).writes v e)))
+only_renamed to i v e = among_roles (table (renamed to i)).writes (to v) (subst (λ ws. Among (to v) ws) (sym (only_written_renamed to i)) (in_map to (map var_of (table i).writes) v (roles_among (table i).writes v e)))
 
 first : (x w : ℕ) (more : Bool) → (nat_eq w x || false) ≡ true → (nat_eq x w || more) ≡ true
 first x w more e = or_left (nat_eq x w) more (turned x w (alone (nat_eq w x) e))

@@ -4,101 +4,98 @@ use Rattle.std.specs.List.{find, flat_map, filter_map, range_with_len, cons_opti
 use Rattle.std.proofs.lemmas.Bool.{cases_eq}
 use Rattle.std.proofs.lemmas.List.Elements.{All-head, All-tail}
 use Rattle.std.proofs.lemmas.List.Sums.{sum_by-cons}
+use Rattle.pra_list.specs.Among.{Among}
 use Rattle.pra_list.proofs.Counts.{bit, count-cons}
 use Rattle.pra_list.proofs.Options.{some_same}
 
-abbrev pub In : {X : Type 0} → X → List X → Type 0
-In x [] = ⊥
-In x (y ∷ ys) = (x ≡ y) ⊎ In x ys
-
-pub in_all : {X : Type 0} (P : X → Type 0) (xs : List X) → All P xs → (x : X) → In x xs → P x
+pub in_all : {X : Type 0} (P : X → Type 0) (xs : List X) → All P xs → (x : X) → Among x xs → P x
 in_all P [] all x i = absurd i
-in_all P (y ∷ ys) all x i = ⊎_elim (λ (e : x ≡ y). subst P (sym e) (All-head P y ys all)) (λ (more : In x ys). in_all P ys (All-tail P y ys all) x more) i
+in_all P (y ∷ ys) all x i = ⊎_elim (λ (e : x ≡ y). subst P (sym e) (All-head P y ys all)) (λ (more : Among x ys). in_all P ys (All-tail P y ys all) x more) i
 
-pub in_at : {X : Type 0} (xs : List X) (k : ℕ) (x : X) → slice_get xs k ≡ Some x → In x xs
+pub in_at : {X : Type 0} (xs : List X) (k : ℕ) (x : X) → slice_get xs k ≡ Some x → Among x xs
 in_at [] k x e = cc
 in_at (y ∷ ys) zero x e = inl (sym (some_same y x e))
 in_at (y ∷ ys) (suc k) x e = inr (in_at ys k x e)
 
-pub at_in : {X : Type 0} (xs : List X) (x : X) → In x xs → (k : ℕ) × (slice_get xs k ≡ Some x)
+pub at_in : {X : Type 0} (xs : List X) (x : X) → Among x xs → (k : ℕ) × (slice_get xs k ≡ Some x)
 at_in [] x i = absurd i
-at_in (y ∷ ys) x i = ⊎_elim (λ (e : x ≡ y). (0, ap Some (sym e))) (λ (more : In x ys). let a = at_in ys x more in (suc a.0, a.1)) i
+at_in (y ∷ ys) x i = ⊎_elim (λ (e : x ≡ y). (0, ap Some (sym e))) (λ (more : Among x ys). let a = at_in ys x more in (suc a.0, a.1)) i
 
-pub in_left : {X : Type 0} (xs ys : List X) (x : X) → In x xs → In x (xs ++ ys)
+pub in_left : {X : Type 0} (xs ys : List X) (x : X) → Among x xs → Among x (xs ++ ys)
 in_left [] ys x i = absurd i
-in_left (z ∷ zs) ys x i = ⊎_elim (λ (e : x ≡ z). inl e) (λ (more : In x zs). inr (in_left zs ys x more)) i
+in_left (z ∷ zs) ys x i = ⊎_elim (λ (e : x ≡ z). inl e) (λ (more : Among x zs). inr (in_left zs ys x more)) i
 
-pub in_right : {X : Type 0} (xs ys : List X) (x : X) → In x ys → In x (xs ++ ys)
+pub in_right : {X : Type 0} (xs ys : List X) (x : X) → Among x ys → Among x (xs ++ ys)
 in_right [] ys x i = i
 in_right (z ∷ zs) ys x i = inr (in_right zs ys x i)
 
-pub in_either : {X : Type 0} (xs ys : List X) (x : X) → In x (xs ++ ys) → In x xs ⊎ In x ys
+pub in_either : {X : Type 0} (xs ys : List X) (x : X) → Among x (xs ++ ys) → Among x xs ⊎ Among x ys
 in_either [] ys x i = inr i
 in_either (z ∷ zs) ys x i =
-    ⊎_elim (λ (e : x ≡ z). inl (inl e)) (λ (more : In x (zs ++ ys)). ⊎_elim (λ (a : In x zs). inl (inr a)) (λ (b : In x ys). inr b) (in_either zs ys x more)) i
+    ⊎_elim (λ (e : x ≡ z). inl (inl e)) (λ (more : Among x (zs ++ ys)). ⊎_elim (λ (a : Among x zs). inl (inr a)) (λ (b : Among x ys). inr b) (in_either zs ys x more)) i
 
-pub in_map : {X Y : Type 0} (f : X → Y) (xs : List X) (x : X) → In x xs → In (f x) (map f xs)
+pub in_map : {X Y : Type 0} (f : X → Y) (xs : List X) (x : X) → Among x xs → Among (f x) (map f xs)
 in_map f [] x i = absurd i
-in_map f (z ∷ zs) x i = ⊎_elim (λ (e : x ≡ z). inl (ap f e)) (λ (more : In x zs). inr (in_map f zs x more)) i
+in_map f (z ∷ zs) x i = ⊎_elim (λ (e : x ≡ z). inl (ap f e)) (λ (more : Among x zs). inr (in_map f zs x more)) i
 
-pub of_map : {X Y : Type 0} (f : X → Y) (xs : List X) (y : Y) → In y (map f xs) → (x : X) × In x xs × (y ≡ f x)
+pub of_map : {X Y : Type 0} (f : X → Y) (xs : List X) (y : Y) → Among y (map f xs) → (x : X) × Among x xs × (y ≡ f x)
 of_map f [] y i = absurd i
-of_map f (z ∷ zs) y i = ⊎_elim (λ (e : y ≡ f z). (z, inl refl, e)) (λ (more : In y (map f zs)). let a = of_map f zs y more in (a.0, inr a.1, a.2)) i
+of_map f (z ∷ zs) y i = ⊎_elim (λ (e : y ≡ f z). (z, inl refl, e)) (λ (more : Among y (map f zs)). let a = of_map f zs y more in (a.0, inr a.1, a.2)) i
 
 true_false : (b : Bool) → b ≡ true → b ≡ false → ⊥
 true_false b e f = cc
 
-pub in_filter : {X : Type 0} (p : X → Bool) (xs : List X) (x : X) → In x xs → p x ≡ true → In x (filter p xs)
+pub in_filter : {X : Type 0} (p : X → Bool) (xs : List X) (x : X) → Among x xs → p x ≡ true → Among x (filter p xs)
 in_filter p [] x i t = absurd i
 in_filter {X = X} p (z ∷ zs) x i t = kept (p z) refl (λ more. in_filter p zs x more t)
   where
-    kept : (b : Bool) → p z ≡ b → (In x zs → In x (filter p zs)) → In x (cond b (z ∷ filter p zs) (filter p zs))
-    kept true e ih = ⊎_elim (λ (same : x ≡ z). inl same) (λ (more : In x zs). inr (ih more)) i
-    kept false e ih = ⊎_elim (λ (same : x ≡ z). absurd (true_false (p z) (sym (ap p same) ∙ t) e)) (λ (more : In x zs). ih more) i
+    kept : (b : Bool) → p z ≡ b → (Among x zs → Among x (filter p zs)) → Among x (cond b (z ∷ filter p zs) (filter p zs))
+    kept true e ih = ⊎_elim (λ (same : x ≡ z). inl same) (λ (more : Among x zs). inr (ih more)) i
+    kept false e ih = ⊎_elim (λ (same : x ≡ z). absurd (true_false (p z) (sym (ap p same) ∙ t) e)) (λ (more : Among x zs). ih more) i
 
-pub of_filter : {X : Type 0} (p : X → Bool) (xs : List X) (x : X) → In x (filter p xs) → In x xs × (p x ≡ true)
+pub of_filter : {X : Type 0} (p : X → Bool) (xs : List X) (x : X) → Among x (filter p xs) → Among x xs × (p x ≡ true)
 of_filter p [] x i = absurd i
 of_filter p (z ∷ zs) x i = kept (p z) refl (λ more. of_filter p zs x more) i
   where
-    kept : (b : Bool) → p z ≡ b → (In x (filter p zs) → In x zs × (p x ≡ true)) → In x (cond b (z ∷ filter p zs) (filter p zs)) → In x (z ∷ zs) × (p x ≡ true)
-    kept true e ih i = ⊎_elim (λ (same : x ≡ z). (inl same, ap p same ∙ e)) (λ (more : In x (filter p zs)). let a = ih more in (inr a.0, a.1)) i
+    kept : (b : Bool) → p z ≡ b → (Among x (filter p zs) → Among x zs × (p x ≡ true)) → Among x (cond b (z ∷ filter p zs) (filter p zs)) → Among x (z ∷ zs) × (p x ≡ true)
+    kept true e ih i = ⊎_elim (λ (same : x ≡ z). (inl same, ap p same ∙ e)) (λ (more : Among x (filter p zs)). let a = ih more in (inr a.0, a.1)) i
     kept false e ih i = let a = ih i in (inr a.0, a.1)
 
-pub found_in : {X : Type 0} (p : X → Bool) (xs : List X) (x : X) → find p xs ≡ Some x → In x xs × (p x ≡ true)
+pub found_in : {X : Type 0} (p : X → Bool) (xs : List X) (x : X) → find p xs ≡ Some x → Among x xs × (p x ≡ true)
 found_in p [] x e = cc
 found_in p (z ∷ zs) x e = kept (p z) refl (λ more. found_in p zs x more) e
   where
-    kept : (b : Bool) → p z ≡ b → (find p zs ≡ Some x → In x zs × (p x ≡ true)) → cond b (Some z) (find p zs) ≡ Some x → In x (z ∷ zs) × (p x ≡ true)
+    kept : (b : Bool) → p z ≡ b → (find p zs ≡ Some x → Among x zs × (p x ≡ true)) → cond b (Some z) (find p zs) ≡ Some x → Among x (z ∷ zs) × (p x ≡ true)
     kept true t ih e = let same : z ≡ x = some_same z x e in (inl (sym same), sym (ap p same) ∙ t)
     kept false t ih e = let a = ih e in (inr a.0, a.1)
 
 -- what passes is found, or something before it
-pub finds : {X : Type 0} (p : X → Bool) (xs : List X) (x : X) → In x xs → p x ≡ true → (y : X) × (find p xs ≡ Some y)
+pub finds : {X : Type 0} (p : X → Bool) (xs : List X) (x : X) → Among x xs → p x ≡ true → (y : X) × (find p xs ≡ Some y)
 finds p [] x i t = absurd i
 finds {X = X} p (z ∷ zs) x i t = kept (p z) refl (λ more. finds p zs x more t)
   where
-    kept : (b : Bool) → p z ≡ b → (In x zs → (y : X) × (find p zs ≡ Some y)) → (y : X) × (cond b (Some z) (find p zs) ≡ Some y)
+    kept : (b : Bool) → p z ≡ b → (Among x zs → (y : X) × (find p zs ≡ Some y)) → (y : X) × (cond b (Some z) (find p zs) ≡ Some y)
     kept true e ih = (z, refl)
-    kept false e ih = ⊎_elim (λ (same : x ≡ z). absurd (true_false (p z) (sym (ap p same) ∙ t) e)) (λ (more : In x zs). ih more) i
+    kept false e ih = ⊎_elim (λ (same : x ≡ z). absurd (true_false (p z) (sym (ap p same) ∙ t) e)) (λ (more : Among x zs). ih more) i
 
-pub in_flat : {X Y : Type 0} (f : X → List Y) (xs : List X) (x : X) (y : Y) → In x xs → In y (f x) → In y (flat_map f xs)
+pub in_flat : {X Y : Type 0} (f : X → List Y) (xs : List X) (x : X) (y : Y) → Among x xs → Among y (f x) → Among y (flat_map f xs)
 in_flat f [] x y i j = absurd i
 in_flat f (z ∷ zs) x y i j =
-    ⊎_elim (λ (e : x ≡ z). in_left (f z) (flat_map f zs) y (subst (λ w. In y (f w)) e j)) (λ (more : In x zs). in_right (f z) (flat_map f zs) y (in_flat f zs x y more j)) i
+    ⊎_elim (λ (e : x ≡ z). in_left (f z) (flat_map f zs) y (subst (λ w. Among y (f w)) e j)) (λ (more : Among x zs). in_right (f z) (flat_map f zs) y (in_flat f zs x y more j)) i
 
-skipped : {Y : Type 0} (o : Option Y) (ys : List Y) (y : Y) → In y ys → In y (cons_option o ys)
+skipped : {Y : Type 0} (o : Option Y) (ys : List Y) (y : Y) → Among y ys → Among y (cons_option o ys)
 skipped None ys y i = i
 skipped (Some w) ys y i = inr i
 
-pub in_filter_map : {X Y : Type 0} (f : X → Option Y) (xs : List X) (x : X) (y : Y) → In x xs → f x ≡ Some y → In y (filter_map f xs)
+pub in_filter_map : {X Y : Type 0} (f : X → Option Y) (xs : List X) (x : X) (y : Y) → Among x xs → f x ≡ Some y → Among y (filter_map f xs)
 in_filter_map f [] x y i e = absurd i
 in_filter_map f (z ∷ zs) x y i e =
     ⊎_elim
-    (λ (same : x ≡ z). subst (λ o. In y (cons_option o (filter_map f zs))) (sym (sym (ap f same) ∙ e)) (inl refl))
-    (λ (more : In x zs). skipped (f z) (filter_map f zs) y (in_filter_map f zs x y more e))
+    (λ (same : x ≡ z). subst (λ o. Among y (cons_option o (filter_map f zs))) (sym (sym (ap f same) ∙ e)) (inl refl))
+    (λ (more : Among x zs). skipped (f z) (filter_map f zs) y (in_filter_map f zs x y more e))
     i
 
-pub in_range : (a n k : ℕ) → a ≤ k → k < a + n → In k (range_with_len a n)
+pub in_range : (a n k : ℕ) → a ≤ k → k < a + n → Among k (range_with_len a n)
 in_range a zero k le lt = absurd (omega arith)
 in_range a (suc n) k le lt =
     ⊎_elim
@@ -138,7 +135,7 @@ at_most_one p (z ∷ zs) few (suc i) (suc j) x y e t f u =
     ap suc (at_most_one p zs (omega (arith, one, few)) i j x y e t f u)
 
 -- the same, for elements
-pub one_passes : {X : Type 0} (p : X → Bool) (xs : List X) → count_by p xs ≤ 1 → (x y : X) → In x xs → p x ≡ true → In y xs → p y ≡ true → x ≡ y
+pub one_passes : {X : Type 0} (p : X → Bool) (xs : List X) → count_by p xs ≤ 1 → (x y : X) → Among x xs → p x ≡ true → Among y xs → p y ≡ true → x ≡ y
 one_passes p xs few x y i t j u =
     let a = at_in xs x i in
     let b = at_in xs y j in
