@@ -7,6 +7,7 @@ use Rattle.std.proofs.lemmas.List.Sums.{sum_by-cons}
 use Rattle.pra_list.specs.Among.{Among}
 use Rattle.pra_list.proofs.Counts.{bit, count-cons}
 use Rattle.pra_list.proofs.Options.{some_same}
+use Rattle.pra_list.proofs.Truths.{true_false}
 
 pub in_all : {X : Type 0} (P : X → Type 0) (xs : List X) → All P xs → (x : X) → Among x xs → P x
 in_all P [] all x i = absurd i
@@ -41,9 +42,6 @@ in_map f (z ∷ zs) x i = ⊎_elim (λ (e : x ≡ z). inl (ap f e)) (λ (more : 
 pub of_map : {X Y : Type 0} (f : X → Y) (xs : List X) (y : Y) → Among y (map f xs) → (x : X) × Among x xs × (y ≡ f x)
 of_map f [] y i = absurd i
 of_map f (z ∷ zs) y i = ⊎_elim (λ (e : y ≡ f z). (z, inl refl, e)) (λ (more : Among y (map f zs)). let a = of_map f zs y more in (a.0, inr a.1, a.2)) i
-
-true_false : (b : Bool) → b ≡ true → b ≡ false → ⊥
-true_false b e f = cc
 
 pub in_filter : {X : Type 0} (p : X → Bool) (xs : List X) (x : X) → Among x xs → p x ≡ true → Among x (filter p xs)
 in_filter p [] x i t = absurd i

@@ -3,5 +3,7 @@ pub mod Choices
 pub mod Comprehensions
 pub mod Counts
 pub mod Each
+pub mod Elements
 pub mod Mapped
 pub mod Options
+pub mod Truths

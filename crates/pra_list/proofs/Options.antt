@@ -8,6 +8,9 @@ some_same x y e = cc
 pub none_some : {A : Type 0} {x : A} → None ≡ Some x → ⊥
 none_some e = cc
 
+pub not_both : {A : Type 0} (o : Option A) (x : A) → o ≡ None → o ≡ Some x → ⊥
+not_both o x e f = cc
+
 -- what came of a step came of a value
 pub bind_some : {A B : Type 0} (o : Option A) (f : A → Option B) (y : B) →
     (o >>= f) ≡ Some y → (x : A) × (o ≡ Some x) × (f x ≡ Some y)
