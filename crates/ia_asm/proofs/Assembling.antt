@@ -1,9 +1,9 @@
 -- An assembly with one procedure more, its start, and its calls filled in.
-use Rattle.std.proofs.Common.{◌≡◌, ℕ, zero, suc, Some, ◌+◌, ◌-◌, ◌≤◌, ◌<◌, List, [], ◌∷◌, ◌++◌, length, refl, sym, ap, ◌∙◌, arith, append_assoc, append-nil, length-append, subst, ◌⊎◌, inl, inr}
-use Rattle.std.specs.Prelude.{slice_get}
+use Rattle.std.proofs.Common.{◌≡◌, ℕ, ◌+◌, ◌-◌, ◌≤◌, ◌<◌, List, [], ◌∷◌, ◌++◌, length, refl, sym, ap, ◌∙◌, arith, append_assoc, append-nil, length-append, subst, ◌⊎◌, inl, inr}
 use Rattle.std.specs.List.{sum_by}
 use Rattle.std.proofs.lemmas.List.{take_all, take_at, take-append-le, get_or_append_left, get_or_default, get_or_past, get_or_push, length_push}
 use Rattle.std.proofs.lemmas.List.Sums.{sum_by-cons, sum_by_push}
+use Rattle.pra_list.proofs.Elements.{each_more}
 use Rattle.ia_code.specs.DecodeTable.{imm32}
 use Rattle.ia_code.specs.Image.{max_code_bytes, max_data_words, IsImage}
 use Rattle.ia_code.specs.declared.image.Image.{Image}
@@ -20,7 +20,6 @@ use Rattle.ia_asm.specs.declared.assembly.Assembly.{Assembly}
 use Rattle.ia_asm.specs.Assembly.{entry_in, IsAssembly}
 use Rattle.pl_place.specs.declared.placed.LProc.{LProc}
 use Rattle.pl_place.specs.Valid.{EachOp}
-use Rattle.pra_list.proofs.Options.{some_same}
 
 abbrev proc_size : LProc → ℕ
 proc_size p = size (emit_proc p)
@@ -73,12 +72,6 @@ filled_same one other same from (c ∷ calls) bytes =
 -- ---- lists
 
 -- what holds of each holds with one more
-each_more : {X : Type 0} (P : X → Type 0) (xs : List X) (x : X) → ((k : ℕ) (y : X) → slice_get xs k ≡ Some y → P y) → P x → (k : ℕ) (y : X) → slice_get (xs ++ x ∷ []) k ≡ Some y → P y
-each_more P [] x all it zero y there = subst P (some_same x y there) it
-each_more P [] x all it (suc k) y there = cc
-each_more P (z ∷ xs) x all it zero y there = all zero y there
-each_more P (z ∷ xs) x all it (suc k) y there = each_more P xs x (λ k. all (suc k)) it k y there
-
 -- ---- an assembly
 
 abbrev nowhere : ℕ → ℕ

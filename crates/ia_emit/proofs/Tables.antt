@@ -10,6 +10,7 @@ use Rattle.std.proofs.lemmas.Grind.{common_steps}
 use Rattle.std.proofs.lemmas.List.Quantifiers.{position-Some}
 use Rattle.std.proofs.lemmas.List.Sums.{fails_before_first}
 use Rattle.std.proofs.lemmas.Option.{slice_get-get_or, slice_get_within, get_or_from_slice_get}
+use Rattle.pra_list.proofs.Elements.{got_set, got_unset}
 use Rattle.ia_emit.specs.Operands.{slot_at, spot_at, IsTable}
 use Rattle.pl_place.specs.declared.placed.LProc.{LProc}
 use Rattle.pl_place.specs.Machine.{spot_as}
@@ -22,18 +23,6 @@ use Rattle.pra_base.specs.declared.ids.VarId.{VarId}
 -- the displacement of a variable that has no slot
 abbrev pub without_slot : LProc → VarKind → ℤ
 without_slot p kind = spot_at p.args (spot_as kind None)
-
-get_set_same : {X : Type 0} (xs : List X) (k : ℕ) (x : X) → k < length xs → slice_get (slice_set xs k x) k ≡ Some x
-get_set_same [] k x lt = absurd (omega arith)
-get_set_same (y ∷ xs) zero x lt = refl
-get_set_same (y ∷ xs) (suc k) x lt = get_set_same xs k x (omega (arith, lt))
-
-get_set_other : {X : Type 0} (xs : List X) (k j : ℕ) (x : X) → j ≢ k → slice_get (slice_set xs k x) j ≡ slice_get xs j
-get_set_other [] k j x apart = refl
-get_set_other (y ∷ xs) zero zero x apart = absurd (apart refl)
-get_set_other (y ∷ xs) zero (suc j) x apart = refl
-get_set_other (y ∷ xs) (suc k) zero x apart = refl
-get_set_other (y ∷ xs) (suc k) (suc j) x apart = get_set_other xs k j x (λ e. apart (ap suc e))
 
 length_set : {X : Type 0} (xs : List X) (k : ℕ) (x : X) → length (slice_set xs k x) ≡ length xs
 length_set [] k x = refl
@@ -81,16 +70,16 @@ module _ (p : LProc) (is : IsPlaced p) where
     slots_are = λ j w lt f. elim (below_or_at j k lt) [
       | inl below ↦
           let other : w.0 ≢ u.0 = λ same. let here = apart_from j k w u f e same in absurd (omega (arith, here, below)) in
-          ap (λ l. slice_get l w.0) set ∙ get_set_other old u.0 w.0 (slot_at k) other ∙ so_far.slots_are j w below f
+          ap (λ l. slice_get l w.0) set ∙ got_unset old u.0 w.0 (slot_at k) other ∙ so_far.slots_are j w below f
       | inr here ↦
           let same : Some w ≡ Some u = sym f ∙ ap (slice_get p.slots) here ∙ e in
           let variable : w.0 ≡ u.0 = cc in
           ap (λ l. slice_get l w.0) set ∙ ap (slice_get (slice_set old u.0 (slot_at k))) variable
-          ∙ get_set_same old u.0 (slot_at k) (in_table k old u so_far e) ∙ ap (λ n. Some (slot_at n)) (sym here)
+          ∙ got_set old u.0 (slot_at k) (in_table k old u so_far e) ∙ ap (λ n. Some (slot_at n)) (sym here)
     ];
     others = λ v d f apart.
         let other : v ≢ u.0 = λ same. apart k u (omega arith) e (sym same) in
-        so_far.others v d (sym (get_set_other old u.0 v (slot_at k) other) ∙ ap (λ l. slice_get l v) (sym set) ∙ f)
+        so_far.others v d (sym (got_unset old u.0 v (slot_at k) other) ∙ ap (λ l. slice_get l v) (sym set) ∙ f)
         (λ j w lt g. apart j w (omega (arith, lt)) g);
   }
     where

@@ -1,6 +1,6 @@
 -- Words of a region that stand for what cells hold: one is read, one is written, and some come or
 -- go at the front.
-use Rattle.std.proofs.Common.{◌≡◌, ◌≢◌, ℕ, zero, suc, ◌+◌, ◌-◌, ◌*◌, ◌^◌, ◌≤◌, ◌<◌, List, [], ◌∷◌, ◌++◌, length, Some, None, refl, sym, ap, ◌∙◌, subst, arith, inl, inr}
+use Rattle.std.proofs.Common.{◌≡◌, ℕ, zero, suc, ◌+◌, ◌-◌, ◌*◌, ◌^◌, ◌≤◌, ◌<◌, List, [], ◌∷◌, ◌++◌, length, Some, None, refl, sym, ap, ◌∙◌, subst, arith, inl, inr}
 use Rattle.std.specs.Prelude.{Ok, slice_get, slice_set, replicate}
 use Rattle.ia_code.specs.Image.{max_data_words}
 use Rattle.ia_code.specs.Regions.{data_base, stack_base, stack_length}
@@ -88,18 +88,6 @@ pub length_set : {A : Type 0} (xs : List A) (i : ℕ) (y : A) → length (slice_
 length_set [] i y = refl
 length_set (x ∷ xs) zero y = refl
 length_set (x ∷ xs) (suc i) y = omega (arith, length_set xs i y)
-
-pub set_same : {A : Type 0} (xs : List A) (i : ℕ) (y : A) → i < length xs → slice_get (slice_set xs i y) i ≡ Some y
-set_same [] i y l = absurd (omega (arith, l))
-set_same (x ∷ xs) zero y l = refl
-set_same (x ∷ xs) (suc i) y l = set_same xs i y (omega (arith, l))
-
-pub set_apart : {A : Type 0} (xs : List A) (i j : ℕ) (y : A) → j ≢ i → slice_get (slice_set xs i y) j ≡ slice_get xs j
-set_apart [] i j y n = refl
-set_apart (x ∷ xs) zero zero y n = absurd (n refl)
-set_apart (x ∷ xs) zero (suc j) y n = refl
-set_apart (x ∷ xs) (suc i) zero y n = refl
-set_apart (x ∷ xs) (suc i) (suc j) y n = set_apart xs i j y (λ e. n (ap suc e))
 
 pub get_inside : {A : Type 0} (xs : List A) (i : ℕ) (y : A) → slice_get xs i ≡ Some y → i < length xs
 get_inside [] i y e = cc

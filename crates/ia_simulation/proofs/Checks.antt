@@ -2,6 +2,7 @@
 use Rattle.std.proofs.Common.{◌≡◌, ◌≢◌, ℕ, zero, suc, ◌+◌, ◌++◌, ◌^◌, ◌<◌, inl, Bool, true, false, List, [], ◌∷◌, length, map, Some, None, refl, sym, ap, ◌∙◌, subst, arith}
 use Rattle.std.specs.Prelude.{ℤ, pos, negsuc, ◌≤ℤ◌, not, Ok, if◌then◌else◌, slice_get}
 use Rattle.std.proofs.lemmas.Bool.Decides.{nat_tests}
+use Rattle.pra_list.proofs.Truths.{itself}
 use Rattle.pra_list.proofs.Options.{some_same}
 use Rattle.std.specs.List.{filter_map}
 use Rattle.std.proofs.lemmas.Int.{ints}
@@ -65,7 +66,7 @@ use Rattle.ia_simulation.proofs.Walks.{Walks, aimed_at, goes_on, reaches}
 use Rattle.ia_simulation.proofs.Ops as ops
 use Rattle.ia_simulation.proofs.Ops.{one_is, number_is, no_number, alu_fits}
 use Rattle.ia_simulation.proofs.Steps as steps
-use Rattle.ia_simulation.proofs.Rows.{itself, Led}
+use Rattle.ia_simulation.proofs.Rows.{Led}
 use Rattle.ia_simulation.proofs.Computes as computes
 
 -- ---- the tests are the same

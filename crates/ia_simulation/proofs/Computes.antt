@@ -5,6 +5,7 @@ use Rattle.std.specs.List.{filter_map}
 use Rattle.std.specs.Int.{w32}
 use Rattle.std.specs.Int.RustNames.{FitsSigned}
 use Rattle.std.proofs.lemmas.Int.{ints}
+use Rattle.pra_list.proofs.Truths.{itself}
 use Rattle.ia_code.specs.declared.ins.Ins.TheVariants as ins
 use Rattle.ia_code.specs.DecodeTable.{IsSound}
 use Rattle.ia_emit.specs.declared.item.Item.TheVariants.{Plain}
@@ -37,7 +38,7 @@ use Rattle.ia_simulation.proofs.Masks.{in_mask, allowed_at, is_place, one_in_mem
 use Rattle.ia_simulation.proofs.Ops as ops
 use Rattle.ia_simulation.proofs.Ops.{one_is, two_are, three_are, number_is, combined_fits, no_number, put_done}
 use Rattle.ia_simulation.proofs.Steps as steps
-use Rattle.ia_simulation.proofs.Rows.{itself, Led, plain_lead}
+use Rattle.ia_simulation.proofs.Rows.{Led, plain_lead}
 
 -- ---- operands
 

@@ -2,8 +2,8 @@
 use Rattle.std.proofs.Common.{◌≡◌, ◌≢◌, ℕ, zero, suc, ◌+◌, ◌-◌, ◌^◌, ◌≤◌, ◌<◌, Bool, true, false, List, [], ◌∷◌, ◌++◌, length, Option, Some, None, refl, sym, ap, ◌∙◌, subst, arith, ◌⊎◌, inl, inr}
 use Rattle.std.specs.Prelude.{nat_eq, if◌then◌else◌, slice_get, flat_map}
 use Rattle.std.specs.List.{filter_map}
-use Rattle.std.proofs.lemmas.Bool.Decides.{nat_tests}
 use Rattle.std.proofs.lemmas.List.Sums.{sum_by-cons}
+use Rattle.pra_list.proofs.Truths.{nat_is}
 use Rattle.pra_list.proofs.Options.{some_same}
 use Rattle.ia_code.specs.Image.{max_code_bytes}
 use Rattle.ia_code.specs.Listing.{bytes_of_all, AreSound}
@@ -47,9 +47,6 @@ use Rattle.ia_simulation.proofs.Steps.{found_ok}
 use Rattle.ia_simulation.proofs.Walks.{Walks, aimed_at, reaches, goes_on}
 
 -- ---- the jump to a block, or none to the next one
-
-nat_is : (a b : ℕ) → nat_eq a b ≡ true → a ≡ b
-nat_is a b e = grind (arith, nat_tests)
 
 lands : (procs : List LProc) → AreSound (code_of procs) → length (bytes_of_all (code_of procs)) ≤ max_code_bytes → (p : LProc) (start : ℕ) (m : machine.State) (words : Words) (from next : ℕ) (b : BlockId) →
     Walks procs m words (target_in p start) from (jump_to next b) → from + size (jump_to next b) ≡ block_start p start next → block_start p start b.0 ≤ max_code_bytes →

@@ -3,6 +3,7 @@ use Rattle.std.proofs.Common.{◌≡◌, ℕ, suc, ◌+◌, true, List, [], ◌�
 use Rattle.std.specs.Prelude.{ℤ, slice_index_or}
 use Rattle.std.specs.Int.{w32}
 use Rattle.std.specs.Int.RustNames.{FitsSigned}
+use Rattle.pra_list.proofs.Truths.{itself}
 use Rattle.ia_code.specs.declared.ins.Ins.{Ins}
 use Rattle.ia_code.specs.declared.ins.Ins.TheVariants as ins
 use Rattle.ia_emit.specs.declared.item.Operand.{Operand}
@@ -46,7 +47,7 @@ use Rattle.ia_simulation.proofs.Effects.{ok_same}
 use Rattle.ia_simulation.proofs.Masks.{in_mask, allowed_at, is_register}
 use Rattle.ia_simulation.proofs.Ops as ops
 use Rattle.ia_simulation.proofs.Ops.{put_done}
-use Rattle.ia_simulation.proofs.Rows.{itself, Led}
+use Rattle.ia_simulation.proofs.Rows.{Led}
 use Rattle.ia_simulation.proofs.Steps as steps
 
 -- ---- what valid code says of the places of an address

@@ -5,6 +5,7 @@ use Rattle.std.specs.List.{filter_map}
 use Rattle.std.specs.Int.{w8, w32}
 use Rattle.std.specs.Int.RustNames.{FitsSigned}
 use Rattle.std.proofs.lemmas.Int.{ints}
+use Rattle.pra_list.proofs.Truths.{itself}
 use Rattle.pra_list.proofs.Choices.{either}
 use Rattle.net_form.specs.Tables.{is_short}
 use Rattle.ia_code.specs.declared.ins.AluOp.TheVariants as alu
@@ -45,7 +46,7 @@ use Rattle.ia_simulation.proofs.Spots.{read}
 use Rattle.ia_simulation.proofs.Ops as ops
 use Rattle.ia_simulation.proofs.Ops.{one_is, two_are, three_are, number_is, combined_fits, no_number, put_done}
 use Rattle.ia_simulation.proofs.Steps as steps
-use Rattle.ia_simulation.proofs.Rows.{itself, Led}
+use Rattle.ia_simulation.proofs.Rows.{Led}
 use Rattle.ia_simulation.proofs.Computes as computes
 use Rattle.ia_simulation.proofs.Computes.{register_operand}
 

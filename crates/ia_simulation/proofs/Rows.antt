@@ -1,9 +1,9 @@
 -- The operations of one row of opcodes: v op= w, wherever the variables are.
-use Rattle.std.proofs.Common.{◌≡◌, ◌≢◌, ℕ, ◌^◌, ◌<◌, true, false, List, [], ◌∷◌, length, map, Some, None, refl, sym, ap, ◌∙◌, subst, arith, nat_eq}
+use Rattle.std.proofs.Common.{◌≡◌, ◌≢◌, ℕ, ◌^◌, ◌<◌, true, false, List, [], ◌∷◌, length, map, Some, None, refl, sym, ap, ◌∙◌, subst, arith}
 use Rattle.std.specs.Prelude.{Ok, bit_and, bit_or, bit_xor}
 use Rattle.std.specs.List.{filter_map}
-use Rattle.std.proofs.lemmas.Bool.Decides.{nat_tests}
 use Rattle.std.proofs.lemmas.Nat.{and_le_l, or_of_32, xor_of_32}
+use Rattle.pra_list.proofs.Truths.{itself}
 use Rattle.ia_code.specs.declared.ins.AluOp.{AluOp}
 use Rattle.ia_code.specs.declared.ins.AluOp.TheVariants as alu
 use Rattle.ia_code.specs.declared.ins.Ins.{Ins}
@@ -40,9 +40,6 @@ use Rattle.ia_simulation.proofs.Masks.{in_mask, allowed_at, is_place, one_in_mem
 use Rattle.ia_simulation.proofs.Ops as ops
 use Rattle.ia_simulation.proofs.Ops.{one_is, two_are, three_are, combined_fits, no_number, put_done}
 use Rattle.ia_simulation.proofs.Steps as steps
-
-pub itself : (v : ℕ) → nat_eq v v ≡ true
-itself v = grind (arith, nat_tests)
 
 module _ (procs : List LProc) (data_words : ℕ) (ok : IsLoadable procs data_words) (s : State Cells) (r : Ran) (y : Represents procs s r) (o : s.over ≡ None) where
   abbrev p : LProc

@@ -7,6 +7,7 @@ use Rattle.std.specs.Int.{w32}
 use Rattle.std.specs.Int.RustNames.{FitsSigned}
 use Rattle.std.proofs.lemmas.Bool.Decides.{nat_tests}
 use Rattle.std.proofs.lemmas.Int.{ints}
+use Rattle.pra_list.proofs.Elements.{got_set, got_unset}
 use Rattle.pra_list.proofs.Options.{some_same}
 use Rattle.ia_code.specs.declared.ins.Width.{Width}
 use Rattle.ia_code.specs.DecodeTable.{reg_number}
@@ -38,7 +39,7 @@ use Rattle.vc_code.specs.Value.{Held, Words}
 use Rattle.vc_code.specs.Machine.{Activation, depth, last_get, joined}
 use Rattle.ia_simulation.specs.Frames.{Means, Holds, Stacked, register_held, saved, rest_of, frames}
 use Rattle.ia_simulation.specs.Represents.{AllWait, RegistersHold, Lies}
-use Rattle.ia_simulation.proofs.Cells.{load_cell, store_cell, get_front, get_back, set_front, set_back, length_set, set_same, set_apart, get_inside}
+use Rattle.ia_simulation.proofs.Cells.{load_cell, store_cell, get_front, get_back, set_front, set_back, length_set, get_inside}
 use Rattle.ia_simulation.proofs.Sizes.{live_long, saved_long}
 
 -- ---- registers
@@ -78,10 +79,10 @@ registers_set held regs r h n long l m all q k = one (cases_eq q r)
     one : (q ≡ r) ⊎ (q ≢ r) → Holds (register_held (slice_set held r h) q) (get (with_reg regs (free_register r) n) (free_register q))
     one (inl e) =
         subst (λ q. Holds (register_held (slice_set held r h) q) (get (with_reg regs (free_register r) n) (free_register q))) (sym e)
-        (subst (λ g. Holds g (get (with_reg regs (free_register r) n) (free_register r))) (sym (ap joined (set_same held r h (omega (arith, long, l)))))
+        (subst (λ g. Holds g (get (with_reg regs (free_register r) n) (free_register r))) (sym (ap joined (got_set held r h (omega (arith, long, l)))))
         (subst (Holds h) (sym (get-with_reg regs (free_register r) n)) m))
     one (inr ne) =
-        subst (λ g. Holds g (get (with_reg regs (free_register r) n) (free_register q))) (sym (ap joined (set_apart held r q h ne)))
+        subst (λ g. Holds g (get (with_reg regs (free_register r) n) (free_register q))) (sym (ap joined (got_unset held r q h ne)))
         (subst (Holds (register_held held q)) (sym (get-with_reg_other regs (free_register r) (free_register q) n (registers_apart r l q k ne))) (all q k))
 
 -- ---- what is there

@@ -3,6 +3,7 @@ use Rattle.std.proofs.Common.{◌≡◌, ℕ, suc, ◌+◌, ◌^◌, ◌%◌, �
 use Rattle.std.specs.Prelude.{ℤ, Ok, slice_get, slice_index_or, if◌then◌else◌, slice_set}
 use Rattle.std.specs.Int.{w32}
 use Rattle.std.specs.Int.RustNames.{FitsSigned}
+use Rattle.pra_list.proofs.Truths.{itself}
 use Rattle.pra_list.specs.Results.{◌>>=◌}
 use Rattle.ia_code.specs.declared.ins.Rm.TheVariants as rm
 use Rattle.ia_code.specs.declared.ins.Ins.{Ins}
@@ -63,7 +64,7 @@ use Rattle.ia_simulation.proofs.Spots.{data_below, few_words}
 use Rattle.ia_simulation.proofs.Masks.{in_mask, allowed_at, is_register}
 use Rattle.ia_simulation.proofs.Ops as ops
 use Rattle.ia_simulation.proofs.Ops.{number_is}
-use Rattle.ia_simulation.proofs.Rows.{itself, Led}
+use Rattle.ia_simulation.proofs.Rows.{Led}
 use Rattle.ia_simulation.proofs.Spots.{read}
 use Rattle.ia_simulation.proofs.Steps as steps
 use Rattle.ia_simulation.proofs.Steps.{found_ok}

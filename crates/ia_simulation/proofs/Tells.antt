@@ -2,6 +2,7 @@
 use Rattle.std.proofs.Common.{◌≡◌, ◌≢◌, ℕ, ◌+◌, ◌++◌, true, List, [], ◌∷◌, length, map, Some, None, refl, sym, ap, ◌∙◌, subst, arith}
 use Rattle.std.specs.Prelude.{ℤ, Ok}
 use Rattle.std.specs.List.{filter_map}
+use Rattle.pra_list.proofs.Truths.{itself}
 use Rattle.ia_code.specs.declared.ins.Ins.{Ins}
 use Rattle.ia_code.specs.declared.ins.Reg.TheVariants.{Eax}
 use Rattle.ia_code.specs.declared.ins.Ins.TheVariants as ins
@@ -45,7 +46,7 @@ use Rattle.ia_simulation.proofs.Ops as ops
 use Rattle.ia_simulation.proofs.Ops.{one_is, two_are, three_are, number_is, combined_fits, no_number, put_done}
 use Rattle.ia_simulation.proofs.Steps as steps
 use Rattle.ia_simulation.proofs.Steps.{found_ok}
-use Rattle.ia_simulation.proofs.Rows.{itself, Led}
+use Rattle.ia_simulation.proofs.Rows.{Led}
 use Rattle.ia_simulation.proofs.Computes as computes
 
 module _ (procs : List LProc) (data_words : ℕ) (ok : IsLoadable procs data_words) (s : State Cells) (r : Ran) (y : Represents procs s r) (o : s.over ≡ None) where

@@ -3,6 +3,7 @@ use Rattle.std.proofs.Common.{ℕ, zero, suc, ◌≡◌, ◌+◌, ◌*◌, ◌/�
 use Rattle.std.specs.List.{range_with_len, flat_map, filter_map, cons_option}
 use Rattle.std.proofs.lemmas.Bool.{cases_eq, eq-eqb, ne_eqb, false_from_ne_true}
 use Rattle.std.proofs.lemmas.List.{map-append}
+use Rattle.pra_list.proofs.Truths.{or_none}
 use Rattle.net_form.specs.declared.net.Strand.{Strand}
 use Rattle.net_form.specs.declared.net.MemPair.{MemPair}
 use Rattle.net_form.specs.Admitted.{no_strand}
@@ -55,10 +56,6 @@ module _ {Y : Type 0} (e : ℕ → Y) (at : ℕ) (f : ℕ → List Y) where
   ]
 
 -- ---- the ends that belong to one strand
-
-or_false : (b : Bool) → (b || false) ≡ b
-or_false true = refl
-or_false false = refl
 
 module _ (ss : List Strand) (ps : List MemPair) (are : ArePairs ss ps) (s : ℕ) (lt_s : s < length ss) where
   abbrev pair_at : ℕ → MemPair
@@ -185,7 +182,7 @@ module _ (ss : List Strand) (ps : List MemPair) (are : ArePairs ss ps) (s : ℕ)
             let q = ne_eqb (pair_at k).right s not_r in
             let there = (are.each k no_pair lt).left no_strand (omega (arith, l, lt_s)) in
             let it : get_or ss (pair_at k).left no_strand ≡ t = ap (λ (n : ℕ). get_or ss n no_strand) l ∙ is_t in
-            one (pair_at k).left_layer (end_in_by true false k p q) (λ x. is_end_by true false k x p q ∙ or_false (eqb (pair_at k).left_layer x) ∙ swapped (pair_at k).left_layer x)
+            one (pair_at k).left_layer (end_in_by true false k p q) (λ x. is_end_by true false k x p q ∙ or_none (eqb (pair_at k).left_layer x) ∙ swapped (pair_at k).left_layer x)
             (subst (λ (u : Strand). u.first ≤ (pair_at k).left_layer) it there.0) (subst (λ (u : Strand). (pair_at k).left_layer ≤ u.last) it there.1)
         by (inr not_l) (inl r) =
             let p = ne_eqb (pair_at k).left s not_l in

@@ -2,6 +2,7 @@
 use Rattle.std.proofs.Common.{◌≡◌, ℕ, ◌<◌, Bool, true, false, ◌||◌, List, [], ◌∷◌, length, refl, sym, ap, ◌∙◌, subst}
 use Rattle.std.specs.Prelude.{slice_index_or}
 use Rattle.std.specs.List.{list_any}
+use Rattle.pra_list.proofs.Truths.{or_none}
 use Rattle.ob_syntax.specs.declared.checked.Root.{Root}
 use Rattle.ob_syntax.specs.WellFormed.{same_root}
 use Rattle.ob_measure.specs.Lending.{AreMarks}
@@ -11,10 +12,6 @@ abbrev pub AreMarksSo : (ℕ → Root) → List Root → List Root → List Bool
 AreMarksSo variable left all marks =
     (k : ℕ) → k < length marks →
     (slice_index_or marks k false || list_any (same_root (variable k)) left) ≡ list_any (same_root (variable k)) all
-
-or_false : (b : Bool) → (b || false) ≡ b
-or_false true = refl
-or_false false = refl
 
 or_assoc : (a b c : Bool) → ((a || b) || c) ≡ (a || (b || c))
 or_assoc true b c = refl
@@ -38,9 +35,9 @@ pub one_other : (variable : ℕ → Root) (left rest all : List Root) (root : Ro
     AreMarksSo variable left all marks → AreMarksSo variable rest all marks
 one_other variable left rest all root marks next other =
     one_more variable left rest all root marks marks next refl
-    (λ k h. sym (ap (λ b. slice_index_or marks k false || b) (other k) ∙ or_false (slice_index_or marks k false)))
+    (λ k h. sym (ap (λ b. slice_index_or marks k false || b) (other k) ∙ or_none (slice_index_or marks k false)))
 
 pub ended : (variable : ℕ → Root) (left all : List Root) (marks : List Bool) → left ≡ [] → AreMarksSo variable left all marks → AreMarks variable all marks
 ended variable left all marks none so k h =
-    sym (or_false (slice_index_or marks k false))
+    sym (or_none (slice_index_or marks k false))
     ∙ ap (λ roots. slice_index_or marks k false || list_any (same_root (variable k)) roots) (sym none) ∙ so k h

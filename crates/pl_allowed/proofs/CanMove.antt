@@ -2,6 +2,7 @@
 use Rattle.std.proofs.Common.{◌≡◌, ℕ, suc, ◌+◌, ◌*◌, inl, inr, Bool, true, false, not, ◌&&◌, nat_eq, List, [], ◌∷◌, map, filter, refl, sym, ap, ap₂, subst, ◌∙◌, arith}
 use Rattle.std.specs.List.{list_all}
 use Rattle.std.proofs.lemmas.Bool.Decides.{nat_tests}
+use Rattle.pra_list.proofs.Truths.{true_false, false_from, both_true, nat_is}
 use Rattle.pra_list.specs.Among.{Among}
 use Rattle.pra_base.specs.declared.ids.Place.{Place}
 use Rattle.pra_base.specs.declared.ids.Place.TheVariants.{Const}
@@ -27,21 +28,8 @@ use Rattle.pl_routed.proofs.Lives.{changes, begins_constant}
 use Rattle.pl_routed.proofs.Transferred.{At, edge_suits}
 use Rattle.pl_allowed.proofs.Apart.{EachTwo, Differ, flow_apart, two_filter, two_weaker}
 
-true_false : (b : Bool) → b ≡ true → b ≡ false → ⊥
-true_false b e f = cc
-
-false_from : (c : Bool) → (c ≡ true → ⊥) → c ≡ false
-false_from true f = absurd (f refl)
-false_from false f = refl
-
-both_true : (c d : Bool) → c ≡ true → d ≡ true → (c && d) ≡ true
-both_true c d f g = rw (f, g) refl
-
 is_itself : (a : ℕ) → nat_eq a a ≡ true
 is_itself a = grind (arith, nat_tests)
-
-nat_is : (a b : ℕ) → nat_eq a b ≡ true → a ≡ b
-nat_is a b e = grind (arith, nat_tests)
 
 is_nat : (a b : ℕ) → a ≡ b → nat_eq a b ≡ true
 is_nat a b e = grind (arith, nat_tests)

@@ -2,6 +2,7 @@
 use Rattle.std.proofs.Common.{◌≡◌, ℕ, ℤ, ◌+◌, ◌*◌, ◌≤◌, ◌⊎◌, inl, inr, ⊎_elim, Bool, true, false, not, ◌&&◌, ◌||◌, nat_eq, if◌then◌else◌, List, [], ◌∷◌, map, count_by, sum_by, Option, Some, None, refl, sym, ap, ◌∙◌, arith}
 use Rattle.std.proofs.lemmas.Bool.Decides.{nat_tests}
 use Rattle.std.proofs.lemmas.List.Sums.{sum_by-cons}
+use Rattle.pra_list.proofs.Truths.{true_false}
 use Rattle.pra_list.specs.Among.{Among}
 use Rattle.pra_list.proofs.Counts.{bit, count-cons}
 use Rattle.pra_base.specs.declared.ids.Place.{Place}
@@ -21,9 +22,6 @@ use Rattle.pl_place.specs.Valid.{most_moves_before}
 use Rattle.pl_routed.specs.Routed.{routed}
 use Rattle.pl_allowed.proofs.Apart.{EachTwo, two_weaker}
 use Rattle.pl_allowed.proofs.CanMove.{layer_edges, edges_suit, edges_apart}
-
-true_false : (b : Bool) → b ≡ true → b ≡ false → ⊥
-true_false b e f = cc
 
 -- ---- a place in a register is in one of six
 

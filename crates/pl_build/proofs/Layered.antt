@@ -1,10 +1,11 @@
 -- The pairs of a layer of a block, where the layers of all blocks are counted together.
-use Rattle.std.proofs.Common.{◌≡◌, ℕ, zero, suc, ◌+◌, ◌<◌, ◌≤◌, inl, inr, Bool, true, false, cond, ◌&&◌, List, [], ◌∷◌, length, get_or, take, map, filter, sum_by, refl, sym, ap, ap₂, ◌∙◌, arith}
+use Rattle.std.proofs.Common.{◌≡◌, ℕ, zero, suc, ◌+◌, ◌<◌, ◌≤◌, inl, inr, Bool, true, false, cond, List, [], ◌∷◌, length, get_or, take, map, filter, sum_by, refl, sym, ap, ap₂, ◌∙◌, arith}
 use Rattle.std.specs.Prelude.{nat_eq, slice_index_or}
 use Rattle.std.proofs.lemmas.Bool.{eq-eqb, eqb-true, and_parts}
 use Rattle.std.proofs.lemmas.List.{get_or-map, length-map, take_all}
 use Rattle.std.proofs.lemmas.List.FromFn.{length-map-range_with_len, get_or-map-range_with_len}
 use Rattle.std.proofs.lemmas.List.Sums.{sum_by-cons, sum_by_more, sum_by-take-le}
+use Rattle.pra_list.proofs.Truths.{both_true}
 use Rattle.pra_list.specs.Among.{Among}
 use Rattle.pra_base.specs.declared.code.VProc.{VProc}
 use Rattle.pra_base.specs.Code.{no_block as no_code}
@@ -76,9 +77,6 @@ filter_agrees : {X : Type 0} (p q : X → Bool) (xs : List X) → ((x : X) → A
 filter_agrees p q [] same = refl
 filter_agrees p q (x ∷ xs) same =
     ap₂ (λ (b : Bool) (ys : List _). cond b (x ∷ ys) ys) (same x (inl refl)) (filter_agrees p q xs (λ y i. same y (inr i)))
-
-both_true : (a b : Bool) → a ≡ true → b ≡ true → (a && b) ≡ true
-both_true a b e f = rw (e, f) refl
 
 -- ---- a layer of a block
 

@@ -3,6 +3,7 @@ use Rattle.std.proofs.Common.{◌≡◌, ℕ, zero, suc, ◌+◌, ◌≤◌, ◌
 use Rattle.std.specs.List.{filter_map, range_with_len, enumerate_from}
 use Rattle.std.proofs.lemmas.Bool.Decides.{nat_tests}
 use Rattle.std.proofs.lemmas.List.Sums.{sum_by-append}
+use Rattle.pra_list.proofs.Truths.{false_from, nat_is}
 use Rattle.pra_list.specs.Among.{Among}
 use Rattle.pra_list.proofs.Options.{some_same}
 use Rattle.pra_list.proofs.Counts.{bit, count-cons}
@@ -30,18 +31,8 @@ use Rattle.pl_routed.proofs.Masks.{both_allow}
 use Rattle.pl_routed.proofs.Transferred.{At}
 use Rattle.pl_made.proofs.Marked.{prefix_is}
 
-true_false : (b : Bool) → b ≡ true → b ≡ false → ⊥
-true_false b e f = cc
-
-false_from : (c : Bool) → (c ≡ true → ⊥) → c ≡ false
-false_from true f = absurd (f refl)
-false_from false f = refl
-
 same_nat : (a c : ℕ) → a ≡ c → nat_eq a c ≡ true
 same_nat a c e = grind (arith, nat_tests)
-
-nat_is : (a c : ℕ) → nat_eq a c ≡ true → a ≡ c
-nat_is a c e = grind (arith, nat_tests)
 
 -- ---- two marked roles of one variable
 

@@ -5,6 +5,8 @@ use Rattle.std.proofs.lemmas.Bool.Decides.{nat_tests}
 use Rattle.std.proofs.lemmas.List.{length-map}
 use Rattle.std.proofs.lemmas.Nat.Bits.{bit_at_and}
 use Rattle.std.proofs.lemmas.Option.{get_or_from_slice_get}
+use Rattle.pra_list.proofs.Elements.{head_same, tail_same, nil_cons}
+use Rattle.pra_list.proofs.Truths.{true_false}
 use Rattle.pra_list.specs.Among.{Among}
 use Rattle.pra_list.proofs.Options.{some_same}
 use Rattle.pra_base.specs.declared.ids.Place.{Place}
@@ -33,18 +35,6 @@ use Rattle.pl_routed.proofs.Masks.{both_allow, fold_allows, place_of_role}
 use Rattle.pl_routed.proofs.Lives.{before_odd}
 use Rattle.pl_routed.proofs.Roles.{roles_are, not_coming}
 use Rattle.pl_routed.proofs.Transferred.{At}
-
-true_false : (b : Bool) → b ≡ true → b ≡ false → ⊥
-true_false b e f = cc
-
-head_same : {X : Type 0} (x y : X) (xs ys : List X) → x ∷ xs ≡ y ∷ ys → x ≡ y
-head_same x y xs ys e = cc
-
-tail_same : {X : Type 0} (x y : X) (xs ys : List X) → x ∷ xs ≡ y ∷ ys → xs ≡ ys
-tail_same x y xs ys e = cc
-
-nil_cons : {X : Type 0} (x : X) (xs : List X) → [] ≡ x ∷ xs → ⊥
-nil_cons x xs e = cc
 
 -- ---- roles and their places
 

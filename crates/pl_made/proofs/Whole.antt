@@ -3,6 +3,7 @@ use Rattle.std.proofs.Common.{◌≡◌, ◌≢◌, ℕ, zero, suc, ◌+◌, ◌
 use Rattle.std.proofs.lemmas.Bool.{cases_eq, cases_lt}
 use Rattle.std.proofs.lemmas.Bool.Decides.{nat_tests}
 use Rattle.std.proofs.lemmas.Option.{slice_get_within}
+use Rattle.pra_list.proofs.Truths.{false_from}
 use Rattle.pra_list.specs.Among.{Among}
 use Rattle.pra_base.specs.declared.ids.Place.{Place}
 use Rattle.pra_base.specs.declared.code.VInstr.{VInstr}
@@ -33,10 +34,6 @@ use Rattle.pl_made.proofs.Parts.{op_in}
 use Rattle.pl_made.proofs.Placed.{RoleAt, find_role, place_is, edge_for, allowed, stays_place, count}
 use Rattle.pl_made.proofs.Placed.RoleAt.{Read, Write}
 use Rattle.pl_made.proofs.Rules.{in_registers, few_moves, keeps_rules, has_memory, moves_have_memory, slots_distinct, numbers, kind_is}
-
-false_from : (c : Bool) → (c ≡ true → ⊥) → c ≡ false
-false_from true f = absurd (f refl)
-false_from false f = refl
 
 get_left : {X : Type 0} (xs ys : List X) (n : ℕ) (x : X) → slice_get xs n ≡ Some x → slice_get (xs ++ ys) n ≡ Some x
 get_left [] ys n x e = cc

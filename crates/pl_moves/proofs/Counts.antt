@@ -2,6 +2,7 @@
 use Rattle.std.proofs.Common.{◌≡◌, ℕ, zero, suc, ◌+◌, ◌≤◌, Bool, true, false, nat_eq, not, if◌then◌else◌, cond, List, [], ◌∷◌, ◌++◌, length, map, Option, Some, None, refl, sym, ap, ap₂, ◌∙◌, subst, arith, count_by}
 use Rattle.std.specs.List.{cons_option}
 use Rattle.std.proofs.lemmas.List.Sums.{sum_by-cons}
+use Rattle.pra_list.proofs.Truths.{if_true, if_false}
 use Rattle.pra_base.specs.declared.ids.Place.{Place}
 use Rattle.pra_base.specs.declared.ids.VarId.{VarId}
 use Rattle.pra_base.specs.Places.{number, has_register, register_of, needs_slot}
@@ -18,7 +19,7 @@ use Rattle.pl_moves.specs.Sequence.{alone, store_of, bring_of, comes_from, reads
 use Rattle.pl_moves.proofs.Ordered.{length_red}
 use Rattle.pra_list.proofs.Choices.{either}
 use Rattle.pl_moves.proofs.Pairs.{by_store, by_bring}
-use Rattle.pl_moves.proofs.Whole.{stores, brings, turned, if_true, if_false}
+use Rattle.pl_moves.proofs.Whole.{stores, brings, turned}
 
 -- ---- how many pass a test
 

@@ -5,6 +5,7 @@ use Rattle.std.specs.List.{cons_option}
 use Rattle.std.proofs.lemmas.Bool.{eqb-true}
 use Rattle.std.proofs.lemmas.List.{get_or_default}
 use Rattle.std.proofs.lemmas.List.Sums.{sum_by-cons}
+use Rattle.pra_list.proofs.Truths.{if_true, if_false}
 use Rattle.pra_base.specs.declared.ids.Place.{Place}
 use Rattle.pra_base.specs.declared.ids.Place.TheVariants.{Eax, Ecx, Edx, Ebx, Esi, Edi, Mem, Const, EaxM, EcxM, EdxM, EbxM, EsiM, EdiM}
 use Rattle.pra_base.specs.Places.{number, has_register, is_register, register_of, is_both, needs_slot}
@@ -23,7 +24,7 @@ use Rattle.pra_list.specs.Each.{Each}
 use Rattle.pra_list.proofs.Each.{each_of_all, all_of_each}
 use Rattle.pra_list.proofs.Choices.{not_true, and_true}
 use Rattle.pl_moves.proofs.Counts.{Agrees, tally, sequence_at_most}
-use Rattle.pl_moves.proofs.Whole.{stores, brings, turned, self, if_true, if_false}
+use Rattle.pl_moves.proofs.Whole.{stores, brings, turned, self}
 
 -- ---- what moves name
 

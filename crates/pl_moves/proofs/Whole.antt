@@ -3,6 +3,7 @@ use Rattle.std.proofs.Common.{◌≡◌, ◌≢◌, ℕ, ℤ, Bool, true, false,
 use Rattle.std.specs.List.{filter_map, cons_option}
 use Rattle.std.proofs.lemmas.Bool.{eqb-true}
 use Rattle.std.proofs.lemmas.Bool.Decides.{nat_tests}
+use Rattle.pra_list.proofs.Truths.{if_true, if_false}
 use Rattle.pra_base.specs.declared.ids.Place.{Place}
 use Rattle.pra_base.specs.Places.{number, has_register, register_of, needs_slot}
 use Rattle.pl_moves.specs.declared.transfer.Move.{Move}
@@ -37,14 +38,6 @@ last_false : (a b c : Bool) → a ≡ true → b ≡ true → (a && b && c) ≡ 
 last_false true true c e f g = g
 last_false true false c e f g = cc
 last_false false b c e f g = cc
-
-pub if_true : {A : Type 0} (b : Bool) (x y : A) → b ≡ true → (if b then x else y) ≡ x
-if_true true x y e = refl
-if_true false x y e = cc
-
-pub if_false : {A : Type 0} (b : Bool) (x y : A) → b ≡ false → (if b then x else y) ≡ y
-if_false true x y e = cc
-if_false false x y e = refl
 
 pub self : (n : ℕ) → nat_eq n n ≡ true
 self n = grind (arith, nat_tests)

@@ -1,7 +1,8 @@
 -- The sample is valid placed code, rule by rule.
-use Rattle.std.proofs.Common.{◌≡◌, ◌≢◌, ℕ, zero, suc, ◌<◌, ◌⊎◌, inl, inr, ⊎_elim, Bool, true, false, nat_eq, ◌||◌, List, [], ◌∷◌, length, slice_get, Some, refl, arith, lit≤, lit<}
+use Rattle.std.proofs.Common.{◌≡◌, ◌≢◌, ℕ, zero, suc, ◌<◌, ◌⊎◌, inr, ⊎_elim, Bool, true, false, nat_eq, ◌||◌, List, [], ◌∷◌, length, slice_get, Some, refl, arith, lit≤, lit<}
 use Rattle.std.specs.Prelude.{ℤ, ◌↔◌, pos, ◌≤ℤ◌}
 use Rattle.std.proofs.lemmas.Bool.Decides.{nat_tests}
+use Rattle.pra_list.proofs.Truths.{or_cases}
 use Rattle.pra_base.specs.declared.ids.Place.{Place}
 use Rattle.pra_base.specs.declared.ids.Place.TheVariants.{Eax, Ecx, Mem, EaxM}
 use Rattle.pra_base.specs.declared.ids.VarId.{VarId}
@@ -224,10 +225,6 @@ or_none : (a : Bool) → (a || false) ≡ true → a ≡ true
 or_none true h = refl
 or_none false h = cc
 
-or_either : (a b : Bool) → (a || b) ≡ true → (a ≡ true) ⊎ (b ≡ true)
-or_either true b h = inl refl
-or_either false b h = inr h
-
 no_names : (v : ℕ) → (false ≡ true) ⊎ (false ≡ true) → v < 2
 no_names v h = ⊎_elim (λ (e : false ≡ true). cc) (λ (e : false ≡ true). cc) h
 
@@ -237,7 +234,7 @@ one_name v w lt h = below_two v w lt (or_none (nat_eq w v) h)
 two_names : (v : ℕ) → (nat_eq 1 v || (nat_eq 0 v || false)) ≡ true → v < 2
 two_names v h =
     ⊎_elim (λ (e : nat_eq 1 v ≡ true). below_two v 1 (lit< tt) e) (λ (e : (nat_eq 0 v || false) ≡ true). one_name v 0 (lit< tt) e)
-    (or_either (nat_eq 1 v) (nat_eq 0 v || false) h)
+    (or_cases (nat_eq 1 v) (nat_eq 0 v || false) h)
 
 none_true : {A : Type 0} → false ≡ true → A
 none_true e = cc

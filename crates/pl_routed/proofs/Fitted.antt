@@ -2,6 +2,8 @@
 use Rattle.std.proofs.Common.{◌≡◌, ◌≢◌, ℕ, ℤ, suc, ◌+◌, ◌*◌, ◌%◌, ◌⊎◌, inl, inr, ⊎_elim, Bool, true, false, nat_eq, if◌then◌else◌, List, [], ◌∷◌, ◌++◌, length, map, drop, Option, Some, refl, sym, ap, subst, ◌∙◌, arith, lit<}
 use Rattle.std.specs.Prelude.{option_map}
 use Rattle.std.specs.List.{list_any}
+use Rattle.pra_list.proofs.Elements.{head_same, tail_same, nil_cons}
+use Rattle.pra_list.proofs.Truths.{true_false, truth}
 use Rattle.pra_list.specs.Among.{Among}
 use Rattle.net_form.specs.Strands.{roles_at}
 use Rattle.std.proofs.lemmas.Bool.Decides.{nat_tests}
@@ -37,22 +39,6 @@ use Rattle.pl_routed.proofs.Lives.{was_present}
 use Rattle.pl_routed.proofs.Sources.{each_cell, const_or}
 use Rattle.pl_routed.proofs.Roles.{writes_among, among_writes, row_writes, written_role, roles_are, not_coming, clobbered_is}
 use Rattle.pl_routed.proofs.Transferred.{At, alloc, edge_of, of_edge, same_kind}
-
-true_false : (b : Bool) → b ≡ true → b ≡ false → ⊥
-true_false b e f = cc
-
-truth : (b : Bool) → (b ≡ true) ⊎ (b ≡ false)
-truth true = inl refl
-truth false = inr refl
-
-head_same : {X : Type 0} (x y : X) (xs ys : List X) → x ∷ xs ≡ y ∷ ys → x ≡ y
-head_same x y xs ys e = cc
-
-tail_same : {X : Type 0} (x y : X) (xs ys : List X) → x ∷ xs ≡ y ∷ ys → xs ≡ ys
-tail_same x y xs ys e = cc
-
-nil_cons : {X : Type 0} (x : X) (xs : List X) → [] ≡ x ∷ xs → ⊥
-nil_cons x xs e = cc
 
 cons_nil : {X : Type 0} (x : X) (xs : List X) → x ∷ xs ≡ [] → ⊥
 cons_nil x xs e = cc

@@ -1,8 +1,9 @@
 -- What is live on one side of an instruction or a jump is live on the other.
-use Rattle.std.proofs.Common.{◌≡◌, ℕ, suc, ◌+◌, ◌*◌, ◌/◌, ◌%◌, ◌<◌, ◌⊎◌, inl, inr, ⊎_elim, Bool, true, false, not, ◌&&◌, ◌||◌, nat_eq, nat_lt, length, Some, None, refl, sym, ap, subst, ◌∙◌, arith}
+use Rattle.std.proofs.Common.{◌≡◌, ℕ, suc, ◌+◌, ◌*◌, ◌/◌, ◌%◌, ◌<◌, ◌⊎◌, inl, inr, ⊎_elim, Bool, true, false, not, ◌&&◌, nat_eq, nat_lt, length, Some, None, refl, sym, ap, subst, ◌∙◌, arith}
 use Rattle.std.specs.List.{list_any}
 use Rattle.std.proofs.lemmas.Bool.{and_parts}
 use Rattle.std.proofs.lemmas.Bool.Decides.{nat_tests}
+use Rattle.pra_list.proofs.Truths.{true_false, or_left, or_cases}
 use Rattle.pra_base.specs.declared.code.VarKind.{VarKind}
 use Rattle.pra_base.specs.declared.code.VarKind.TheVariants.{Param, Plain, Constant}
 use Rattle.pra_base.specs.declared.code.VInstr.{VInstr}
@@ -85,20 +86,9 @@ live_leaves (Param i) code v b n t here target h = subst (λ k. ReadBeforeWritte
 
 -- ---- what is present
 
-or_cases : (a b : Bool) → (a || b) ≡ true → (a ≡ true) ⊎ (b ≡ true)
-or_cases true b e = inl refl
-or_cases false b e = inr e
-
-or_left : (a b : Bool) → a ≡ true → (a || b) ≡ true
-or_left true b e = refl
-or_left false b e = cc
-
 and_false : (a b : Bool) → a ≡ true → (not a && b) ≡ false
 and_false true b e = refl
 and_false false b e = cc
-
-true_false : (b : Bool) → b ≡ true → b ≡ false → ⊥
-true_false b e f = cc
 
 module _ (code : VProc) (live : Lives) (is : IsLive code live) where
   abbrev present : ℕ → ℕ → ℕ → Bool

@@ -4,6 +4,7 @@ use Rattle.std.specs.Int.{bit_at}
 use Rattle.std.proofs.lemmas.Bool.{and_parts}
 use Rattle.std.proofs.lemmas.Bool.Decides.{nat_tests}
 use Rattle.std.proofs.lemmas.Nat.Bits.{bit_at_and, bit_at-lt}
+use Rattle.pra_list.proofs.Truths.{true_false, itself}
 use Rattle.pra_list.specs.Among.{Among}
 use Rattle.pra_base.specs.declared.ids.Place.{Place}
 use Rattle.pra_base.specs.declared.ids.Place.TheVariants.{Eax, Ecx, Edx, Ebx, Esi, Edi, Mem, Const, EaxM, EcxM, EdxM, EbxM, EsiM, EdiM}
@@ -22,9 +23,6 @@ use Rattle.pl_place.specs.Behind.{constant}
 use Rattle.pl_simulation.specs.Correspondence.{is_destroyed}
 use Rattle.pra_list.proofs.Among.{in_left, in_right, in_map}
 use Rattle.pl_moves.specs.Meaning.{Register}
-
-true_false : (b : Bool) → b ≡ true → b ≡ false → ⊥
-true_false b e f = cc
 
 -- ---- bits
 
@@ -70,9 +68,6 @@ if_allows false m p e = e
 
 mask_allows : (l : Line) (v p : ℕ) → allows (mask_of l v) p ≡ true → AllowsOf v (all_roles l) p
 mask_allows l v p e = (fold_allows v every (all_roles l) p (if_allows _ (common (all_roles l) v) p e)).1
-
-itself : (v : ℕ) → nat_eq v v ≡ true
-itself v = grind (arith, nat_tests)
 
 -- a role that is only written
 of_write : (l : Line) (role : Role) (p : ℕ) → Among role l.writes → allows (mask_of l role.var) p ≡ true → allows role.mask p ≡ true

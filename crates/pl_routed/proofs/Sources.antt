@@ -1,5 +1,6 @@
 -- Where the cells of a place get their values from, when pairs are moved at once.
 use Rattle.std.proofs.Common.{◌≡◌, ◌≢◌, ℕ, ℤ, ◌⊎◌, inl, inr, ⊎_elim, Bool, true, false, if◌then◌else◌, List, [], ◌∷◌, Option, refl, sym, ap, subst, ◌∙◌}
+use Rattle.pra_list.proofs.Truths.{true_false}
 use Rattle.pra_list.specs.Among.{Among}
 use Rattle.pra_base.specs.declared.ids.Place.{Place}
 use Rattle.pra_base.specs.declared.ids.Place.TheVariants.{Eax, Ecx, Edx, Ebx, Esi, Edi, Mem, Const, EaxM, EcxM, EdxM, EbxM, EsiM, EdiM}
@@ -15,9 +16,6 @@ use Rattle.pl_place.specs.Machine.{cells, fixed}
 use Rattle.pl_place.specs.Behind.{constant}
 use Rattle.pra_list.specs.Each.{Each}
 use Rattle.pl_routed.proofs.Lives.{changes}
-
-true_false : (b : Bool) → b ≡ true → b ≡ false → ⊥
-true_false b e f = cc
 
 -- what one pair alone fills
 pub source_of : (pairs : List Pair) (cell : Cell) (x : Pair) → Among x pairs → fills x cell ≡ true → ((y : Pair) → Among y pairs → fills y cell ≡ true → y ≡ x) → source pairs cell ≡ origin x

@@ -5,6 +5,7 @@ use Rattle.std.proofs.lemmas.Bool.{cases_eq, cases_lt, and_parts}
 use Rattle.std.proofs.lemmas.Bool.Decides.{nat_tests}
 use Rattle.std.proofs.lemmas.List.FromFn.{get_or-range_with_len, length-range_with_len}
 use Rattle.std.proofs.lemmas.List.Sums.{prefix_len_passes, prefix_len-le-length, sum_by-cons, sum_by-append}
+use Rattle.pra_list.proofs.Truths.{true_false, truth}
 use Rattle.pra_list.proofs.Comprehensions.{All-filter_map, All-flat_map, All-range, IfSome-test}
 use Rattle.pra_list.proofs.Counts.{bit, count-cons}
 use Rattle.pra_base.specs.declared.code.VProc.{VProc}
@@ -12,13 +13,6 @@ use Rattle.net_form.specs.declared.net.Strand.{Strand}
 use Rattle.net_form.specs.Tables.{PlaceTables}
 use Rattle.net_form.specs.Strands.{Lives, layer_count, is_present, begins, run_from, mask_at, strand, begun_strand, layer_strands, block_strands, strands}
 use Rattle.pra_list.proofs.Among.{in_all, in_at, at_in, in_flat, in_filter_map, in_range, at_most_one, sum_zero, sum_one}
-
-truth : (b : Bool) → (b ≡ true) ⊎ (b ≡ false)
-truth true = inl refl
-truth false = inr refl
-
-true_false : (b : Bool) → b ≡ true → b ≡ false → ⊥
-true_false b e f = cc
 
 -- a run is as long as the test holds
 run_long : (p : ℕ → Bool) (l n m : ℕ) → m ≤ n → ((k : ℕ) → k < m → p (l + k) ≡ true) → m ≤ prefix_len p (range_with_len l n)

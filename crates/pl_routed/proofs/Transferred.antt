@@ -1,6 +1,7 @@
 -- The moves of a layer transfer the allocation of the layer before it to its own.
 use Rattle.std.proofs.Common.{◌≡◌, ◌≢◌, ℕ, suc, ◌+◌, ◌*◌, ◌⊎◌, inl, inr, ⊎_elim, Bool, true, false, not, ◌&&◌, nat_eq, List, [], slice_index_or, Option, Some, None, refl, sym, ap, subst, ◌∙◌, arith}
 use Rattle.std.specs.Prelude.{option_map}
+use Rattle.pra_list.proofs.Truths.{true_false, truth}
 use Rattle.pra_list.specs.Among.{Among}
 use Rattle.pra_list.proofs.Options.{some_same}
 use Rattle.pra_base.specs.declared.ids.Place.{Place}
@@ -33,13 +34,6 @@ use Rattle.pl_routed.proofs.Present.From.{Begins, Goes}
 use Rattle.pl_routed.proofs.Masks.{place_suits}
 use Rattle.pl_routed.proofs.Lives.{changes, begins_constant}
 use Rattle.pl_routed.proofs.Sources.{source_of, source_kept, numbers_stay, origin_among, memory_among, each_cell, some_cells, const_or, constant_at}
-
-true_false : (b : Bool) → b ≡ true → b ≡ false → ⊥
-true_false b e f = cc
-
-truth : (b : Bool) → (b ≡ true) ⊎ (b ≡ false)
-truth true = inl refl
-truth false = inr refl
 
 pub mapped_some : (o : Option Place) (n : ℕ) → option_map number o ≡ Some n → (q : Place) × (o ≡ Some q) × (number q ≡ n)
 mapped_some None n e = cc

@@ -5,6 +5,7 @@ use Rattle.std.proofs.lemmas.Bool.{cases_lt}
 use Rattle.std.proofs.lemmas.Bool.Decides.{nat_tests}
 use Rattle.std.proofs.lemmas.List.{get_or_past, length-map}
 use Rattle.std.proofs.lemmas.Option.{slice_get-map, slice_get-get_or, slice_get_within, get_or_from_slice_get}
+use Rattle.pra_list.proofs.Truths.{if_true}
 use Rattle.pra_list.proofs.Options.{some_same}
 use Rattle.pra_base.specs.Agreement.{Progress, Carried}
 use Rattle.pra_base.specs.System.{Simulates}
@@ -29,7 +30,6 @@ use Rattle.pl_place.specs.Machine as low
 use Rattle.pl_place.specs.Placed.{frame_size}
 use Rattle.pl_simulation.specs.Correspondence.{Corresponds, AllCorrespond}
 use Rattle.vc_coupling.specs.Coupled.{Same}
-use Rattle.pl_simulation.proofs.Words.{if_true}
 use Rattle.pl_simulation.proofs.Simulated.{Steps, TakesCall, instr_step, end_step, begins}
 use Rattle.pl_simulation.proofs.Pushed.{Pending, step_led, call_takes}
 use Rattle.pl_simulation.proofs.Tracked.{Tracks}

@@ -1,9 +1,9 @@
 -- What cells hold once one of them is written.
-use Rattle.std.proofs.Common.{◌≡◌, ℕ, ⊎_elim, Bool, true, false, ◌||◌, nat_eq, if◌then◌else◌, List, [], ◌∷◌, slice_get, slice_set, slice_index_or, Option, Some, None, refl, sym, ap, ◌∙◌, zero, suc, arith}
+use Rattle.std.proofs.Common.{◌≡◌, ℕ, ⊎_elim, Bool, true, false, ◌||◌, nat_eq, if◌then◌else◌, List, [], ◌∷◌, slice_get, slice_set, slice_index_or, Option, Some, None, refl, sym, ap, ◌∙◌, zero, suc}
 use Rattle.std.specs.List.{list_any}
 use Rattle.std.proofs.lemmas.Bool.{cases_eq}
-use Rattle.std.proofs.lemmas.Bool.Decides.{nat_tests}
 use Rattle.std.proofs.lemmas.List.Quantifiers.{position-Some}
+use Rattle.pra_list.proofs.Truths.{true_false, nat_is, itself, if_false}
 use Rattle.pra_base.specs.declared.ids.VarId.{VarId}
 use Rattle.pra_base.specs.declared.code.VarKind.{VarKind}
 use Rattle.pra_base.specs.declared.code.VarKind.TheVariants.{Param, Plain, Constant}
@@ -15,7 +15,7 @@ use Rattle.pl_place.specs.Placed.{kind_of, slot_of}
 use Rattle.pl_place.specs.Machine.{Cells, Spot, Slot, Argument, Nowhere, spot, spot_as, in_spot, with_regs, with_spot, if_there, at_cell, put_cell}
 use Rattle.pra_list.specs.Each.{Each}
 use Rattle.pl_simulation.specs.Correspondence.{InFrame, IsCell}
-use Rattle.pl_simulation.proofs.Words.{if_false, differ, itself, set_get, last_set_get}
+use Rattle.pl_simulation.proofs.Words.{differ, set_get, last_set_get}
 
 -- an argument in whose cell a variable's value is
 abbrev pub is_own : LProc → ℕ → Bool
@@ -61,9 +61,6 @@ spots_differ Plain Plain (Some k) None f g = refl
 spots_differ Plain Plain (Some k) (Some l) f g = differ k l (λ is. g k refl (ap Some (sym is)))
 spots_differ Plain (Constant n) (Some k) b f g = refl
 spots_differ (Constant n) w a b f g = refl
-
-nat_is : (a b : ℕ) → nat_eq a b ≡ true → a ≡ b
-nat_is a b e = grind (arith, nat_tests)
 
 no_slot : VarId
 no_slot = record { 0 = 0 }
@@ -165,9 +162,6 @@ param_is (k ∷ vars) (suc v) i e = or_true (is_param i k) (param_is vars v i e)
     or_true : (b : Bool) {c : Bool} → c ≡ true → (b || c) ≡ true
     or_true true e = refl
     or_true false e = e
-
-true_false : (b : Bool) → b ≡ true → b ≡ false → ⊥
-true_false b e f = cc
 
 spot_alike : (p : LProc) (d : Activation Cells) (v : ℕ) (kind : VarKind) → kind_of p v ≡ kind → (slot : Option ℕ) (h old : Held) → in_spot d (spot_as kind slot) ≡ Some old → Alike p d (with_spot d (spot_as kind slot) h)
 spot_alike p d v (Param i) is slot h old e = record {

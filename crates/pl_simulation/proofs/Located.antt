@@ -4,6 +4,7 @@ use Rattle.std.specs.Int.{bit_at}
 use Rattle.std.proofs.lemmas.Bool.{cases_eq, cases_lt}
 use Rattle.std.proofs.lemmas.Bool.Decides.{nat_tests}
 use Rattle.std.proofs.lemmas.List.{get_or-set_same, get_or-set_other}
+use Rattle.pra_list.proofs.Truths.{if_true, if_false}
 use Rattle.pra_list.specs.Among.{Among}
 use Rattle.pra_list.proofs.Options.{some_same}
 use Rattle.pra_base.specs.declared.code.VarKind.{VarKind}
@@ -21,7 +22,6 @@ use Rattle.pl_place.specs.Placed.{kind_of}
 use Rattle.pl_place.specs.Machine.{Cells, spot, at_cell, cells, operands, put, put_all, put_first, first_held, cleared, clobbered, in_spot, Spot, Slot, Argument, Nowhere}
 use Rattle.pra_list.specs.Each.{Each}
 use Rattle.pl_simulation.specs.Correspondence.{Allocation, AllRead, Written, AllWritten, is_destroyed, Stays, Fits}
-use Rattle.pl_simulation.proofs.Words.{if_true, if_false}
 use Rattle.pl_simulation.proofs.Cells.{is_own, ParamsApart, HasCells, write, written_cell, same_is, put_is, still_there, stay, Alike, alike_itself, alike_then, alike}
 
 -- the value is in every cell of the variable's place

@@ -2,6 +2,7 @@
 use Rattle.std.proofs.Common.{◌≡◌, ◌≢◌, ℕ, zero, suc, ◌+◌, ◌-◌, ◌<◌, inl, inr, Bool, true, false, nat_lt, if◌then◌else◌, List, [], ◌∷◌, ◌++◌, length, map, drop, slice_get, slice_index_or, Option, Some, None, refl, sym, ap, ap₂, subst, ◌∙◌, arith, append-nil}
 use Rattle.std.proofs.lemmas.Bool.Decides.{nat_tests}
 use Rattle.std.proofs.lemmas.List.{length-replicate}
+use Rattle.pra_list.proofs.Truths.{if_true}
 use Rattle.pra_list.specs.Among.{Among}
 use Rattle.pra_list.proofs.Options.{some_same}
 use Rattle.pra_base.specs.System.{run}
@@ -39,7 +40,6 @@ use Rattle.pra_list.specs.Each.{Each}
 use Rattle.pl_simulation.specs.Correspondence.{Allocation, InFrame, Transfers, Fits, IsOpAt, InstrCorresponds, EndCorresponds, Comes, Corresponds}
 use Rattle.vc_coupling.specs.Coupled.{AllBeside, Couples, Same, Leads}
 use Rattle.vc_coupling.proofs.Applied.{found_same, with_top_same, ended_same, performed}
-use Rattle.pl_simulation.proofs.Words.{if_true}
 use Rattle.pl_simulation.proofs.Cells.{ParamsApart, HasCells}
 use Rattle.pl_simulation.proofs.Located.{IsIn, Matches, reads_same, matches_behind, behind_is}
 use Rattle.pl_simulation.proofs.Moved.{Ran, moves_run, matches_moved}

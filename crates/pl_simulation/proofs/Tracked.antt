@@ -1,6 +1,7 @@
 -- Live calls that track those of selected code have the same objects, and go on tracking.
 use Rattle.std.proofs.Common.{◌≡◌, ◌≢◌, ℕ, suc, ◌<◌, Bool, true, false, nat_eq, if◌then◌else◌, List, [], ◌∷◌, length, Option, Some, None, refl, sym, ap, ◌∙◌}
 use Rattle.std.specs.List.{list_any}
+use Rattle.pra_list.proofs.Truths.{true_false, if_false}
 use Rattle.pra_base.specs.declared.code.VarKind.{VarKind}
 use Rattle.pra_base.specs.declared.code.VarKind.TheVariants.{Param, Plain, Constant}
 use Rattle.pra_base.specs.declared.code.VInstr.{VInstr}
@@ -16,7 +17,7 @@ use Rattle.pl_place.specs.Machine.{Cells, Spot, Slot, Argument, Nowhere, spot, s
 use Rattle.pra_list.specs.Each.{Each}
 use Rattle.pl_simulation.specs.Correspondence.{Allocation, InstrCorresponds, EndCorresponds, Corresponds}
 use Rattle.vc_coupling.specs.Coupled.{Couples}
-use Rattle.pl_simulation.proofs.Words.{if_false, differ, last_set_get}
+use Rattle.pl_simulation.proofs.Words.{differ, last_set_get}
 use Rattle.pl_simulation.proofs.Cells.{is_own, HasCells, param_is}
 use Rattle.pl_simulation.proofs.Located.{IsIn, Matches}
 
@@ -55,9 +56,6 @@ aggregates_at : (p : LProc) (d : Activation Cells) (ws : Words) (b : Cell) → a
 aggregates_at p d ws (Register r) = refl
 aggregates_at p d ws (Memory v) = aggregates_spot d ws (spot p v)
 aggregates_at p d ws (Fixed n) = refl
-
-true_false : (b : Bool) → b ≡ true → b ≡ false → ⊥
-true_false b e f = cc
 
 -- the cell of an argument that is no variable's is in no place
 args_spot : (p : LProc) (d : Activation Cells) (i : ℕ) (h old : Held) → is_own p i ≡ false → last_get d.args i ≡ Some old → (v : ℕ) (kind : VarKind) → kind_of p v ≡ kind → (slot : Option ℕ) →

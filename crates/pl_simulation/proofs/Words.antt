@@ -4,22 +4,12 @@ use Rattle.std.proofs.lemmas.Bool.{cases_lt}
 use Rattle.std.proofs.Math.Dec.{eqb-suc-zero, eqb-zero-suc}
 use Rattle.std.proofs.lemmas.Bool.Decides.{nat_tests}
 use Rattle.std.proofs.lemmas.List.{length-set}
+use Rattle.pra_list.proofs.Truths.{if_true, if_false}
 use Rattle.vc_code.specs.Value.{Held, Words}
 use Rattle.vc_code.specs.Machine.{last_get, last_set}
 
-pub if_true : {A : Type 0} (b : Bool) (x y : A) → b ≡ true → (if b then x else y) ≡ x
-if_true true x y e = refl
-if_true false x y e = cc
-
-pub if_false : {A : Type 0} (b : Bool) (x y : A) → b ≡ false → (if b then x else y) ≡ y
-if_false true x y e = cc
-if_false false x y e = refl
-
 pub differ : (i j : ℕ) → (i ≡ j → ⊥) → nat_eq i j ≡ false
 differ i j ne = grind (arith, nat_tests)
-
-pub itself : (i : ℕ) → nat_eq i i ≡ true
-itself i = grind (arith, nat_tests)
 
 pub last_inside : (ws : Words) (i : ℕ) (old : Held) → last_get ws i ≡ Some old → i < length ws
 last_inside ws i old e = ⊎_elim (λ (lt : i < length ws). lt) (λ (le : length ws ≤ i). absurd (none (nat_lt i (length ws)) (grind (arith, nat_tests)) e)) (cases_lt i (length ws))

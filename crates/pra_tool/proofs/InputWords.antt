@@ -1,9 +1,10 @@
 -- The numbers of an input have 32 bits.
-use Rattle.std.proofs.Common.{◌≡◌, ℕ, zero, suc, ◌≤◌, ℤ, pos, Bool, true, false, ◌&&◌, List, [], ◌∷◌, Option, Some, None, refl, subst, arith, lt-ltb, leb-true}
+use Rattle.std.proofs.Common.{◌≡◌, ℕ, zero, suc, ◌≤◌, ℤ, pos, true, ◌&&◌, List, [], ◌∷◌, Option, Some, None, refl, subst, arith, lt-ltb, leb-true}
 use Rattle.std.specs.Prelude.{Result, Ok, Err, neg_ℤ, nat_le, ◌==◌}
 use Rattle.std.specs.Option.{option_map}
 use Rattle.std.specs.Str.{all_ascii_digits}
 use Rattle.std.specs.Str.Parse.{digits_value_after}
+use Rattle.pra_list.proofs.Truths.{both_true}
 use Rattle.pra_base.specs.Words.{fits_word}
 use Rattle.pra_list.proofs.Choices.{and_true, by_test}
 use Rattle.pra_list.proofs.Options.{some_same, none_some}
@@ -35,10 +36,6 @@ word_fits (b ∷ bs) z is =
     by_test (b == 45) (option_map (λ n. neg_ℤ (pos n)) (numeral 2147483648 bs)) (option_map pos (numeral 2147483647 (b ∷ bs))) (Some z)
     (λ minus same. mapped_fits (λ n. neg_ℤ (pos n)) (numeral 2147483648 bs) z (λ n e. negative_fits n (numeral_most 2147483648 bs n e)) same)
     (λ plain same. mapped_fits pos (numeral 2147483647 (b ∷ bs)) z (λ n e. positive_fits n (numeral_most 2147483647 (b ∷ bs) n e)) same) is
-
-both_true : (a b : Bool) → a ≡ true → b ≡ true → (a && b) ≡ true
-both_true true b h k = k
-both_true false b h k = h
 
 with_fits : (at : ℕ) (w : Option ℤ) (more : Result (List ℤ) ℕ) (ns : List ℤ) → ((n : ℤ) → w ≡ Some n → fits_word n ≡ true) → ((ms : List ℤ) → more ≡ Ok ms → are_words ms ≡ true)
     → with_word at w more ≡ Ok ns → are_words ns ≡ true

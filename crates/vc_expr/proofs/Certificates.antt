@@ -4,6 +4,7 @@ use Rattle.std.specs.Prelude.{slice_get}
 use Rattle.std.proofs.Math.ListN.{get_or-append}
 use Rattle.std.proofs.lemmas.Bool.{cases_eq, cases_lt}
 use Rattle.std.proofs.lemmas.List.{get_or-set_other, get_or_past}
+use Rattle.pra_list.proofs.Truths.{or_right}
 use Rattle.pra_base.specs.Code.{no_block, kind_of, block_of, code_of, end_of, IsTarget}
 use Rattle.pra_base.specs.Operands.{reads, writes}
 use Rattle.pra_base.specs.declared.code.VarKind.{VarKind}
@@ -39,10 +40,6 @@ found (x ∷ xs) i (suc k) j e = on (found xs i k j e)
     on (last is all) = last is (ap (λ l. x ∷ l) all)
 
 -- ---- one more instruction
-
-or_right : (a b : Bool) → b ≡ true → (a || b) ≡ true
-or_right true b e = refl
-or_right false b e = e
 
 or_same : (a b c : Bool) → (b ≡ true → c ≡ true) → (a || b) ≡ true → (a || c) ≡ true
 or_same true b c f e = refl

@@ -2,6 +2,7 @@
 use Rattle.std.proofs.Common.{◌≡◌, ◌≢◌, ℕ, ◌<◌, Bool, true, false, List, length, refl, sym, ap, ◌∙◌, ⊎_elim, ◌⊎◌, arith}
 use Rattle.std.specs.Prelude.{ℤ, ◌||◌, nat_eq, slice_index_or}
 use Rattle.std.proofs.lemmas.Bool.Decides.{nat_tests}
+use Rattle.pra_list.proofs.Truths.{false_from}
 use Rattle.pra_base.specs.Operands.{reads, writes}
 use Rattle.pra_base.specs.declared.ids.VarId.{VarId}
 use Rattle.pra_base.specs.declared.ids.Cond.{Cond}
@@ -21,10 +22,6 @@ is_either a b v e = grind (arith, nat_tests)
 is_written : (a v : ℕ) → ((nat_eq v a || false) || false) ≡ true → v ≡ a
 is_written a v e = grind (arith, nat_tests)
 
-no_other : (b : Bool) → (b ≡ true → ⊥) → b ≡ false
-no_other true e = absurd (e refl)
-no_other false e = refl
-
 -- a constant is no local variable
 plain_constant : (n : ℤ) → Plain ≡ Constant n → ⊥
 plain_constant n e = cc
@@ -38,7 +35,7 @@ module _ (args : ℕ) (vars : List VarKind) where
 
   -- what is written is no constant
   unwritten_by : (i : VInstr) (t : ℕ) → kind t ≡ Plain → ((v : ℕ) → writes i v ≡ true → v ≡ t) → (v : ℕ) (n : ℤ) → kind v ≡ Constant n → writes i v ≡ false
-  unwritten_by i t plain only v n e = no_other (writes i v) (λ w. plain_constant n (sym plain ∙ ap kind (sym (only v w)) ∙ e))
+  unwritten_by i t plain only v n e = false_from (writes i v) (λ w. plain_constant n (sym plain ∙ ap kind (sym (only v w)) ∙ e))
 
   named_two : (t s v : ℕ) → t < length vars → s < length vars → (((nat_eq t v || (nat_eq s v || false)) ≡ true) ⊎ (((nat_eq v t || false) || false) ≡ true)) → v < length vars
   named_two t s v one other n = ⊎_elim
@@ -129,7 +126,7 @@ module _ (args : ℕ) (vars : List VarKind) where
   pub obeys_copy : (t s : VarId) → kind t.0 ≡ Plain → t.0 < length vars → s.0 < length vars → t.0 ≢ s.0 → ((n : ℤ) → kind s.0 ≢ Constant n) → Obeys args vars (Copy t s)
   obeys_copy t s plain there right apart variable = record {
     named = λ v n. ⊎_elim (λ r. omega (arith, is_first s.0 v r, right)) (λ w. omega (arith, is_first t.0 v w, there)) n;
-    roles_apart = λ v e. no_other (reads (Copy t s) v) (λ r. apart (sym (is_first t.0 v e) ∙ is_first s.0 v r));
+    roles_apart = λ v e. false_from (reads (Copy t s) v) (λ r. apart (sym (is_first t.0 v e) ∙ is_first s.0 v r));
     division_apart = λ q r a d e. absurd (cc);
     constants_kept = λ v n e. record {
       unwritten = unwritten_by (Copy t s) t.0 plain (is_first t.0) v n e;
@@ -155,7 +152,7 @@ module _ (args : ℕ) (vars : List VarKind) where
   pub obeys_cmp_set : (k : Cond) (t a b : VarId) → kind t.0 ≡ Plain → t.0 < length vars → a.0 < length vars → b.0 < length vars → t.0 ≢ a.0 → t.0 ≢ b.0 → Obeys args vars (CmpSet k t a b)
   obeys_cmp_set k t a b plain there left right t_a t_b = record {
     named = λ v n. ⊎_elim (λ r. ⊎_elim (λ (e : v ≡ a.0). omega (arith, e, left)) (λ (e : v ≡ b.0). omega (arith, e, right)) (is_either a.0 b.0 v r)) (λ w. omega (arith, is_first t.0 v w, there)) n;
-    roles_apart = λ v e. no_other (reads (CmpSet k t a b) v) (λ r. ⊎_elim (λ (s : v ≡ a.0). t_a (sym (is_first t.0 v e) ∙ s)) (λ (s : v ≡ b.0). t_b (sym (is_first t.0 v e) ∙ s)) (is_either a.0 b.0 v r));
+    roles_apart = λ v e. false_from (reads (CmpSet k t a b) v) (λ r. ⊎_elim (λ (s : v ≡ a.0). t_a (sym (is_first t.0 v e) ∙ s)) (λ (s : v ≡ b.0). t_b (sym (is_first t.0 v e) ∙ s)) (is_either a.0 b.0 v r));
     division_apart = λ q r a d e. absurd (cc);
     constants_kept = λ v n e. record { unwritten = unwritten_by (CmpSet k t a b) t.0 plain (is_first t.0) v n e; uncopied = λ x y z. absurd (cc) };
     check_range = λ v n e. absurd (cc);
@@ -178,13 +175,13 @@ module _ (args : ℕ) (vars : List VarKind) where
         (λ x. ⊎_elim (λ (e : v ≡ a.0). omega (arith, e, a_low, q_there)) (λ (e : v ≡ d.0). omega (arith, e, d_low, q_there)) (is_either a.0 d.0 v x))
         (λ x. ⊎_elim (λ (e : v ≡ q.0). omega (arith, e, q_there)) (λ (e : v ≡ r.0). omega (arith, e, r_there)) (is_either q.0 r.0 v x))
         n;
-    roles_apart = λ v e. no_other (reads (DivMod q r a d) v) (λ x. ⊎_elim
+    roles_apart = λ v e. false_from (reads (DivMod q r a d) v) (λ x. ⊎_elim
         (λ (s : v ≡ a.0). ⊎_elim (λ (z : v ≡ q.0). omega (arith, s, z, a_low)) (λ (z : v ≡ r.0). omega (arith, s, z, a_low, low)) (is_either q.0 r.0 v e))
         (λ (s : v ≡ d.0). ⊎_elim (λ (z : v ≡ q.0). omega (arith, s, z, d_low)) (λ (z : v ≡ r.0). omega (arith, s, z, d_low, low)) (is_either q.0 r.0 v e))
         (is_either a.0 d.0 v x));
     division_apart = λ x y z u e. four q r a d x y z u e a_low d_low low apart a_plain (omega (arith, a_low, q_there));
     constants_kept = λ v n e. record {
-      unwritten = no_other (writes (DivMod q r a d) v) (λ w. ⊎_elim
+      unwritten = false_from (writes (DivMod q r a d) v) (λ w. ⊎_elim
           (λ (s : v ≡ q.0). plain_constant n (sym q_plain ∙ ap kind (sym s) ∙ e))
           (λ (s : v ≡ r.0). plain_constant n (sym r_plain ∙ ap kind (sym s) ∙ e))
           (is_either q.0 r.0 v w));

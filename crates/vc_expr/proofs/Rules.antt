@@ -1,10 +1,11 @@
 -- Each change of code under construction keeps the rules.
-use Rattle.std.proofs.Common.{◌≡◌, ◌≢◌, ℕ, zero, suc, ◌<◌, ◌≤◌, Bool, true, false, List, [], ◌∷◌, ◌++◌, length, Some, refl, sym, ap, ◌∙◌, subst, ⊎_elim, ◌⊎◌, inl, inr, arith, length-append}
+use Rattle.std.proofs.Common.{◌≡◌, ◌≢◌, ℕ, zero, suc, ◌<◌, ◌≤◌, true, List, [], ◌∷◌, ◌++◌, length, Some, refl, sym, ap, ◌∙◌, subst, ⊎_elim, ◌⊎◌, inl, inr, arith, length-append}
 use Rattle.std.specs.Prelude.{ℤ, slice_get, slice_index_or}
 use Rattle.std.proofs.Math.ListN.{get_or-append}
 use Rattle.std.proofs.lemmas.Bool.{cases_eq, cases_lt}
 use Rattle.std.proofs.lemmas.Bool.Decides.{nat_tests}
 use Rattle.std.proofs.lemmas.List.{get_or-set_other, get_or_past}
+use Rattle.pra_list.proofs.Truths.{false_from}
 use Rattle.pra_base.specs.Code.{block_of, code_of, no_block}
 use Rattle.pra_base.specs.Operands.{reads, writes}
 use Rattle.pra_base.specs.Valid.{KeepsConstant, PushesLead, TakesArgs}
@@ -233,10 +234,6 @@ module _ (counts : List ℕ) (depth : ℕ) (old : VProc) (k : KeepsRules counts 
 
 -- ---- one more variable
 
-not_true : (b : Bool) → (b ≡ true → ⊥) → b ≡ false
-not_true true no_way = absurd (no_way refl)
-not_true false no_way = refl
-
 reads_source : (t s : VarId) → reads (Copy t s) s.0 ≡ true
 reads_source t s = grind (arith, nat_tests)
 
@@ -248,7 +245,7 @@ module _ (args : ℕ) (vars : List VarKind) (kind : VarKind) (local : (n : ℕ) 
   constants v n e = ⊎_elim
       (λ (lt : v < length vars). o.constants_kept v n (sym (get_or-append vars (kind ∷ []) Plain v lt) ∙ e))
       (λ (le : length vars ≤ v). record {
-        unwritten = not_true (writes i v) (λ w. omega (arith, le, o.named v (inr w)));
+        unwritten = false_from (writes i v) (λ w. omega (arith, le, o.named v (inr w)));
         uncopied = λ t s is same. omega (arith, le, o.named v (inl (ap (λ j. reads j v) is ∙ ap (reads (Copy t s)) (sym same) ∙ reads_source t s)));
       })
       (cases_lt v (length vars))

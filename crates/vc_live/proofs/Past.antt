@@ -2,6 +2,7 @@
 use Rattle.std.proofs.Common.{◌≡◌, ℕ, ◌+◌, ◌*◌, ◌-◌, ◌/◌, ◌%◌, ◌<◌, ◌≤◌, ◌⊎◌, inl, inr, nat_eq, Bool, true, false, ◌&&◌, List, [], Option, Some, None, length, get_or, refl, sym, ap, ◌∙◌, ◌↔◌, arith, if◌then◌else◌}
 use Rattle.std.proofs.lemmas.Bool.{cases_order}
 use Rattle.std.proofs.lemmas.List.{get_or_past}
+use Rattle.pra_list.proofs.Truths.{false_from}
 use Rattle.pra_base.specs.declared.code.VarKind.TheVariants.{Param, Plain, Constant}
 use Rattle.pra_base.specs.declared.code.VarKind.{VarKind}
 use Rattle.pra_base.specs.declared.code.VInstr.{VInstr}
@@ -22,10 +23,6 @@ within_or_past a b = elim (cases_order a b) [
   | inr (inl before) ↦ inl before
   | inr (inr after) ↦ inr (omega arith)
 ]
-
-not_true : (x : Bool) → (x ≡ true → ⊥) → x ≡ false
-not_true true never = absurd (never refl)
-not_true false never = refl
 
 -- no instruction reads a variable past the end
 unread : (code : VProc) (v : ℕ) (from : Point) → IsSized code → length code.vars ≤ v → ReadBeforeWritten code v from → ⊥
@@ -59,7 +56,7 @@ nothing_past code constants entries blocks are sound closed sized all v b layer 
     either : (b < length code.blocks) ⊎ (length code.blocks ≤ b) → (2 * length (code_of code b) + 1 < layer) ⊎ (layer ≤ 2 * length (code_of code b) + 1) → has_at blocks b (layer / 2) v ≡ false
     either (inr beyond) _ = empty_past code (contains constants) entries blocks all b (layer / 2) v (inl beyond)
     either (inl inside) (inl beyond) = empty_past code (contains constants) entries blocks all b (layer / 2) v (inr (omega arith))
-    either (inl inside) (inr within) = not_true _ (λ has. unread code v (record { block = b; index = layer / 2 }) sized past ((plain_exact code (contains constants) entries blocks all b v inside layer free within sound closed (λ c t below target. sized.targets_in_range c t below target)).0 has))
+    either (inl inside) (inr within) = false_from _ (λ has. unread code v (record { block = b; index = layer / 2 }) sized past ((plain_exact code (contains constants) entries blocks all b v inside layer free within sound closed (λ c t below target. sized.targets_in_range c t below target)).0 has))
 nothing_past code constants entries blocks are sound closed sized all v b layer (inr past) = by_test (contains constants v)
   where
     none : has_at blocks b (layer / 2) v ≡ false

@@ -6,6 +6,7 @@ use Rattle.std.proofs.lemmas.Bool.{eq-eqb, eqb-true}
 use Rattle.std.proofs.lemmas.Bool.Decides.{nat_tests}
 use Rattle.std.proofs.lemmas.List.{drop_all, drop_more}
 use Rattle.std.proofs.lemmas.List.Folds.{list_any_more, list_any_at, list_any-append}
+use Rattle.pra_list.proofs.Truths.{or_none}
 use Rattle.pra_base.specs.declared.code.VInstr.{VInstr}
 use Rattle.pra_base.specs.declared.code.End.{End}
 use Rattle.pra_base.specs.Operands as table
@@ -66,22 +67,18 @@ put_in false start now true is = refl
 put_in true start now false is = is
 put_in false start now false is = is
 
-or_false : (b : Bool) → (b || false) ≡ b
-or_false true = refl
-or_false false = refl
-
 -- a role whose variable is no constant: the variable goes
 pub taken_out : (named start constant now eq : Bool) → now ≡ (start && (constant || not named)) → (eq ≡ true → constant ≡ false) → (not eq && now) ≡ (start && (constant || not (named || eq)))
 taken_out named start constant now true is free = rw (free refl) (gone named start)
   where
     gone : (named start : Bool) → false ≡ (start && not (named || true))
     gone named start = grind arith
-taken_out named start constant now false is free = is ∙ rw (or_false named) refl
+taken_out named start constant now false is free = is ∙ rw (or_none named) refl
 
 -- a role whose variable is a constant: it stays
 pub left_in : (named start constant now eq : Bool) → now ≡ (start && (constant || not named)) → (eq ≡ true → constant ≡ true) → now ≡ (start && (constant || not (named || eq)))
 left_in named start constant now true is free = is ∙ rw (free refl) refl
-left_in named start constant now false is free = is ∙ rw (or_false named) refl
+left_in named start constant now false is free = is ∙ rw (or_none named) refl
 
 -- ---- the equations
 

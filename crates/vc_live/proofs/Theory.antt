@@ -1,5 +1,6 @@
 -- From paths to equations and back.
-use Rattle.std.proofs.Common.{◌≡◌, ℕ, zero, suc, ◌<◌, inl, inr, Bool, true, false, not, ◌&&◌, ◌||◌, List, [], ◌∷◌, length, drop, slice_get, Option, Some, None, refl, sym, ap, ◌∙◌, arith}
+use Rattle.std.proofs.Common.{◌≡◌, ℕ, suc, ◌<◌, inl, inr, Bool, true, false, not, ◌&&◌, ◌||◌, List, [], ◌∷◌, length, drop, slice_get, Option, Some, None, refl, sym, ap, ◌∙◌, arith}
+use Rattle.pra_list.proofs.Elements.{nothing_left, left_begins, none_left, some_left}
 use Rattle.pra_base.specs.declared.code.VInstr.{VInstr}
 use Rattle.pra_base.specs.declared.code.VProc.{VProc}
 use Rattle.pra_base.specs.declared.code.End.{End}
@@ -13,28 +14,6 @@ use Rattle.vc_live.specs.Sets.{contains}
 use Rattle.vc_live.specs.Equations.{before, through, at_exit, at_targets, entry, live_in, IsSound, IsClosed}
 
 -- ---- what is left of a list begins with the element there
-
-pub nothing_left : {A : Type 0} (xs : List A) (k : ℕ) → drop k xs ≡ [] → slice_get xs k ≡ None
-nothing_left [] k e = refl
-nothing_left (x ∷ xs) zero e = cc
-nothing_left (x ∷ xs) (suc k) e = nothing_left xs k e
-
-pub left_begins : {A : Type 0} (xs ys : List A) (k : ℕ) (y : A) → drop k xs ≡ y ∷ ys → (slice_get xs k ≡ Some y) × (drop (suc k) xs ≡ ys)
-left_begins [] ys zero y e = (cc, cc)
-left_begins [] ys (suc k) y e = (cc, cc)
-left_begins (x ∷ xs) ys zero y e = (cc, cc)
-left_begins (x ∷ xs) ys (suc k) y e = left_begins xs ys k y e
-
-pub none_left : {A : Type 0} (xs : List A) (k : ℕ) → slice_get xs k ≡ None → drop k xs ≡ []
-none_left [] zero e = refl
-none_left [] (suc k) e = refl
-none_left (x ∷ xs) zero e = cc
-none_left (x ∷ xs) (suc k) e = none_left xs k e
-
-pub some_left : {A : Type 0} (xs : List A) (k : ℕ) (x : A) → slice_get xs k ≡ Some x → drop k xs ≡ x ∷ drop (suc k) xs
-some_left [] k x e = cc
-some_left (y ∷ ys) zero x e = cc
-some_left (y ∷ ys) (suc k) x e = some_left ys k x e
 
 -- ---- an end
 

@@ -4,6 +4,7 @@ use Rattle.std.specs.Prelude.{slice_get, slice_set, slice_index_or, nat_eq, coun
 use Rattle.std.proofs.lemmas.Bool.{lt-ltb, cases_eq, eqb-true}
 use Rattle.std.proofs.lemmas.List.{get_or-set_same, get_or-set_other, length-set, length-map, length-replicate}
 use Rattle.std.proofs.lemmas.Option.{slice_get-get_or, slice_get-map}
+use Rattle.pra_list.proofs.Elements.{got_front, got_back}
 use Rattle.pra_base.specs.Code as code
 use Rattle.pra_base.specs.declared.code.VInstr.{VInstr}
 use Rattle.pra_base.specs.declared.code.VInstr.TheVariants.{Clear}
@@ -18,7 +19,6 @@ use Rattle.vc_build.proofs.Steps.{rests, reaches_after}
 use Rattle.ob_syntax.specs.declared.checked.CheckedProc.{CheckedProc}
 use Rattle.vc_relation.specs.Homes.{in_variable, local_in_variable, home_count}
 use Rattle.vc_proc.specs.Opening.{clearing, zeros, opening, opened}
-use Rattle.vc_proc.proofs.Gets.{got_front, got_back}
 use Rattle.vc_proc.proofs.HomeVariables.{kinds_length}
 use Rattle.vc_proc.proofs.Zeroing.{zero_at, zeros_length, zeros_there}
 

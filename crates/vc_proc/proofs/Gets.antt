@@ -1,21 +1,11 @@
 -- Elements of lists that are joined, and counts.
-use Rattle.std.proofs.Common.{◌≡◌, ◌≢◌, ℕ, zero, suc, ◌+◌, ◌<◌, ◌≤◌, Bool, true, false, cond, inl, inr, ⊎_elim, ◌⊎◌, List, [], ◌∷◌, ◌++◌, length, take, Some, refl, sym, ap, ◌∙◌, subst, arith}
-use Rattle.std.specs.Prelude.{slice_get, slice_set, count_by}
+use Rattle.std.proofs.Common.{◌≡◌, ℕ, zero, suc, ◌+◌, ◌<◌, ◌≤◌, Bool, true, false, cond, inl, inr, ⊎_elim, ◌⊎◌, List, [], ◌∷◌, ◌++◌, length, take, Some, refl, sym, ap, ◌∙◌, subst, arith}
+use Rattle.std.specs.Prelude.{slice_get, count_by}
 use Rattle.std.proofs.lemmas.Bool.{false_from_ne_true}
 use Rattle.pra_list.proofs.Counts.{count-cons, count-yes, count-no}
 use Rattle.pra_list.proofs.Options.{none_some, some_same}
 
 -- ---- two lists one after the other
-
-pub got_front : {A : Type 0} (xs ys : List A) (k : ℕ) (z : A) → slice_get xs k ≡ Some z → slice_get (xs ++ ys) k ≡ Some z
-got_front [] ys k z e = absurd (none_some e)
-got_front (x ∷ xs) ys zero z e = e
-got_front (x ∷ xs) ys (suc k) z e = got_front xs ys k z e
-
-pub got_back : {A : Type 0} (xs ys : List A) (k j : ℕ) → k ≡ length xs + j → slice_get (xs ++ ys) k ≡ slice_get ys j
-got_back [] ys k j e = ap (slice_get ys) (omega (arith, e))
-got_back (x ∷ xs) ys zero j e = absurd (omega (arith, e))
-got_back (x ∷ xs) ys (suc k) j e = got_back xs ys k j (omega (arith, e))
 
 -- an element that stands in the second list
 pub record InBack {A : Type 0} (xs ys : List A) (k : ℕ) (z : A) : Type 0 where
@@ -38,18 +28,6 @@ got_some (x ∷ xs) zero lt = (x, refl)
 got_some (x ∷ xs) (suc k) lt = got_some xs k (omega (arith, lt))
 
 -- ---- another element in place of one
-
-pub got_set : {A : Type 0} (xs : List A) (k : ℕ) (z : A) → k < length xs → slice_get (slice_set xs k z) k ≡ Some z
-got_set [] k z lt = absurd (omega (arith, lt))
-got_set (x ∷ xs) zero z lt = refl
-got_set (x ∷ xs) (suc k) z lt = got_set xs k z (omega (arith, lt))
-
-pub got_unset : {A : Type 0} (xs : List A) (k j : ℕ) (z : A) → j ≢ k → slice_get (slice_set xs k z) j ≡ slice_get xs j
-got_unset [] k j z apart = refl
-got_unset (x ∷ xs) zero zero z apart = absurd (apart refl)
-got_unset (x ∷ xs) zero (suc j) z apart = refl
-got_unset (x ∷ xs) (suc k) zero z apart = refl
-got_unset (x ∷ xs) (suc k) (suc j) z apart = got_unset xs k j z (λ e. apart (ap suc e))
 
 -- ---- counts
 

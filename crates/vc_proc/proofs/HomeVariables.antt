@@ -1,6 +1,7 @@
 -- The variables that are homes, and the homes of parameters and locals, by their numbers.
 use Rattle.std.proofs.Common.{◌≡◌, ℕ, zero, suc, ◌+◌, ◌<◌, ◌≤◌, Bool, true, false, inl, inr, ⊎_elim, ◌⊎◌, List, [], ◌∷◌, ◌++◌, length, take, Some, refl, sym, ap, ◌∙◌, arith, length-append}
 use Rattle.std.specs.Prelude.{slice_get, count_by, not, if◌then◌else◌}
+use Rattle.pra_list.proofs.Elements.{got_front, got_back}
 use Rattle.pra_list.proofs.Counts.{count-cons}
 use Rattle.pra_list.proofs.Options.{none_some, some_same}
 use Rattle.pra_base.specs.declared.code.VarKind.{VarKind}
@@ -12,7 +13,7 @@ use Rattle.ob_syntax.specs.declared.checked.Param.{Param}
 use Rattle.vc_relation.specs.Homes.{in_variable, local_in_variable, param_variable, local_variable, home_count, param_home, local_home}
 use Rattle.vc_relation.specs.Layout.{is_aggregate}
 use Rattle.vc_proc.specs.Opening.{param_kind, local_kind, param_kinds, local_kinds, home_kinds, param_home_at, local_home_at, param_homes, local_homes}
-use Rattle.vc_proc.proofs.Gets.{got_front, got_back, InBack, got_either, count_before}
+use Rattle.vc_proc.proofs.Gets.{InBack, got_either, count_before}
 
 -- ---- how many
 

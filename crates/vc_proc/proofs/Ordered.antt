@@ -5,6 +5,7 @@ use Rattle.std.proofs.lemmas.Bool.{cases_eq}
 use Rattle.std.proofs.lemmas.List.{length-set, get_or-set_same, get_or-set_other}
 use Rattle.std.proofs.lemmas.List.Sums.{sum_by-set}
 use Rattle.std.proofs.lemmas.Option.{get_or_from_slice_get, slice_get-get_or, slice_get_within}
+use Rattle.pra_list.proofs.Elements.{got_set, got_unset}
 use Rattle.pra_list.proofs.Options.{some_same}
 use Rattle.pra_base.specs.Code.{no_block, block_of, code_of, end_of, IsTarget}
 use Rattle.pra_base.specs.Valid.{PushesLead, TakesArgs, instruction_count}
@@ -21,7 +22,6 @@ use Rattle.vc_order.specs.Order.{Places, block_with, Reordered}
 use Rattle.vc_order.proofs.Kept.{rules_kept, certificate_moves, completes, depths_kept}
 use Rattle.vc_order.proofs.Beside.{same_runs}
 use Rattle.vc_proc.specs.Finished.{KeepsOn, IsFinished}
-use Rattle.vc_proc.proofs.Gets.{got_set, got_unset}
 
 -- a block that is left by Return instead
 abbrev left_by_return : Block → Block

@@ -6,6 +6,7 @@ use Rattle.std.proofs.lemmas.Bool.{cases_eq, cases_lt}
 use Rattle.std.proofs.lemmas.Bool.Decides.{nat_tests}
 use Rattle.std.proofs.lemmas.List.{get_or_past, length-drop, length-set}
 use Rattle.std.proofs.lemmas.Option.{slice_get-get_or}
+use Rattle.pra_list.proofs.Truths.{if_true, if_false}
 use Rattle.pra_base.specs.Agreement.{Progress, Carried}
 use Rattle.pra_base.specs.System.{Simulates}
 use Rattle.pra_base.specs.RunEnd.{RunEnd, Wrong}
@@ -29,7 +30,6 @@ use Rattle.vc_same.specs.Renaming.{Names}
 use Rattle.vc_same.specs.Reduction.{Reduced, AllReduced, Part}
 use Rattle.vc_same.specs.Reduction.Part.{ends, stays}
 use Rattle.vc_same.specs.SameRuns.{RunsWell, SameRuns, with_proc}
-use Rattle.vc_same.proofs.Put.{if_true, if_false}
 use Rattle.vc_same.proofs.Renamed.{same_names}
 use Rattle.vc_coupling.specs.Coupled.{Same}
 use Rattle.vc_same.proofs.Tracked.{Tracks, begun_tracks}

@@ -1,7 +1,9 @@
 -- Where the instructions of reduced code come from, and what is needed there.
-use Rattle.std.proofs.Common.{◌≡◌, ◌≢◌, ℕ, zero, suc, ◌+◌, ◌≤◌, ◌⊎◌, inl, inr, ⊎_elim, Bool, true, false, List, [], ◌∷◌, drop, slice_get, Option, Some, None, refl, sym, ap, subst, ◌∙◌, arith}
+use Rattle.std.proofs.Common.{◌≡◌, ◌≢◌, ℕ, zero, suc, ◌+◌, ◌≤◌, ◌⊎◌, inl, ⊎_elim, true, false, List, [], ◌∷◌, drop, slice_get, Option, Some, None, refl, sym, ap, subst, ◌∙◌, arith}
 use Rattle.std.proofs.lemmas.Bool.{cases_eq}
-use Rattle.pra_list.proofs.Options.{some_same}
+use Rattle.pra_list.proofs.Elements.{nothing_left, left_begins}
+use Rattle.pra_list.proofs.Truths.{true_false, false_from}
+use Rattle.pra_list.proofs.Options.{some_same, not_both}
 use Rattle.pra_base.specs.declared.code.VInstr.{VInstr}
 use Rattle.pra_base.specs.declared.code.VInstr.TheVariants as instr
 use Rattle.pra_base.specs.declared.code.VProc.{VProc}
@@ -16,21 +18,7 @@ use Rattle.vc_same.specs.Reduction.{Needed, Stays, LeftOut, Part, Reduced}
 use Rattle.vc_same.specs.Reduction.LeftOut.{dead, copied}
 use Rattle.vc_same.specs.Reduction.Part.{ends, stays, left_out}
 use Rattle.vc_same.proofs.Renamed.{writes_among, among_reads, reads_from, writes_renamed}
-use Rattle.vc_same.proofs.Paths.{nothing_left, left_begins, needed_read, needed_over, needed_leave}
-
-truth : (b : Bool) → (b ≡ true) ⊎ (b ≡ false)
-truth true = inl refl
-truth false = inr refl
-
-true_false : (b : Bool) → b ≡ true → b ≡ false → ⊥
-true_false b e f = cc
-
-not_true : (b : Bool) → (b ≡ true → ⊥) → b ≡ false
-not_true true n = absurd (n refl)
-not_true false n = refl
-
-none_some : {X : Type 0} (o : Option X) (x : X) → o ≡ None → o ≡ Some x → ⊥
-none_some o x e f = cc
+use Rattle.vc_same.proofs.Paths.{needed_read, needed_over, needed_leave}
 
 module _ (to : Names) (old new : VProc) (b : ℕ) where
   -- The new instruction n of a part comes from one of the old part, no earlier there.
@@ -47,7 +35,7 @@ module _ (to : Names) (old new : VProc) (b : ℕ) where
     pub rest : Part to old new b (suc place) (suc there) (drop (suc at) xs) (drop (suc n) ys)
 
   pub origin : (k j : ℕ) (xs ys : List VInstr) (n : ℕ) (y : VInstr) → Part to old new b k j xs ys → slice_get ys n ≡ Some y → Origin k j xs ys n y
-  origin k j [] [] n y ends e = absurd (none_some None y refl e)
+  origin k j [] [] n y ends e = absurd (not_both None y refl e)
   origin k j [] (z ∷ ys) n y part e = elim part [ ]
   origin k j (x ∷ xs) (z ∷ ys) zero y (stays st rest) e = record {
     at = 0;
@@ -85,7 +73,7 @@ module _ (to : Names) (old new : VProc) (b : ℕ) where
   -- over an instruction that is left out
   pub found_out : (k j v : ℕ) (x : VInstr) → instr_at old b k ≡ Some x → LeftOut to old new b j x → Needed new b j v → Found (suc k) v → Found k v
   found_out k j v x is (dead pure unneeded) needed f =
-      let free : writes x f.name ≡ false = not_true (writes x f.name) (λ e. unneeded f.name e (subst (λ u. Needed new b j u) (sym f.is) needed)) in
+      let free : writes x f.name ≡ false = false_from (writes x f.name) (λ e. unneeded f.name e (subst (λ u. Needed new b j u) (sym f.is) needed)) in
       record { name = f.name; is = f.is; kind = f.kind; needed = needed_over old b k f.name x is free f.needed }
   found_out k j v x is (copied {t = t} {s = s} same names kinds) needed f =
       let is_copy : instr_at old b k ≡ Some (instr.Copy t s) = is ∙ ap Some same in
@@ -97,7 +85,7 @@ module _ (to : Names) (old new : VProc) (b : ℕ) where
         needed = needed_read old b k s.0 (instr.Copy t s) is_copy (among_reads (instr.Copy t s) s.0 (inl refl));
       })
       (λ (other : f.name ≢ t.0).
-      let free : writes (instr.Copy t s) f.name ≡ false = not_true (writes (instr.Copy t s) f.name) (λ e. ⊎_elim (λ (q : f.name ≡ t.0). other q) (λ (none : ⊥). none) (writes_among (instr.Copy t s) f.name e)) in
+      let free : writes (instr.Copy t s) f.name ≡ false = false_from (writes (instr.Copy t s) f.name) (λ e. ⊎_elim (λ (q : f.name ≡ t.0). other q) (λ (none : ⊥). none) (writes_among (instr.Copy t s) f.name e)) in
       record { name = f.name; is = f.is; kind = f.kind; needed = needed_over old b k f.name (instr.Copy t s) is_copy free f.needed })
       (cases_eq f.name t.0)
 
@@ -127,7 +115,7 @@ module _ (to : Names) (old new : VProc) (reduced : Reduced to old new) where
   found v p q at_once read k xs ys part e f =
       let here = reads_here new v p read in
       skip to old new p.block k p.index v xs ys part e (record { to = p; path = at_once; read = read })
-      (λ l g none. absurd (none_some _ here.0 (nothing_left (code_of new p.block) p.index (f ∙ none)) here.1))
+      (λ l g none. absurd (not_both _ here.0 (nothing_left (code_of new p.block) p.index (f ∙ none)) here.1))
       (λ l x y us vs g h st rest.
       let y_is : y ≡ here.0 = some_same y here.0 (sym (left_begins (code_of new p.block) vs p.index y (f ∙ h)).0 ∙ here.1) in
       let from = reads_from to x v (subst (λ z. reads z v ≡ true) (sym y_is ∙ st.is) here.2) in
@@ -139,13 +127,13 @@ module _ (to : Names) (old new : VProc) (reduced : Reduced to old new) where
       })
   found v p q (then_on write (over {i = i} here) more) read k xs ys part e f =
       skip to old new p.block k p.index v xs ys part e (record { to = q; path = then_on write (over here) more; read = read })
-      (λ l g none. absurd (none_some _ i (nothing_left (code_of new p.block) p.index (f ∙ none)) here))
+      (λ l g none. absurd (not_both _ i (nothing_left (code_of new p.block) p.index (f ∙ none)) here))
       (λ l x y us vs g h st rest.
       let begins = left_begins (code_of new p.block) vs p.index y (f ∙ h) in
       let y_is : y ≡ i = some_same y i (sym begins.0 ∙ here) in
       let old_begins = left_begins (code_of old p.block) us l x g in
       let next = found v (record { block = p.block; index = suc p.index }) q more read (suc l) us vs rest old_begins.1 begins.1 in
-      let free : writes x next.name ≡ false = not_true (writes x next.name) (λ wr.
+      let free : writes x next.name ≡ false = false_from (writes x next.name) (λ wr.
       let there : writes i v ≡ true = subst (λ z. writes z v ≡ true) (sym st.is ∙ y_is) (subst (λ u. writes (renamed to x) u ≡ true) next.is (writes_renamed to x next.name wr)) in
       true_false (writes i v) there (sym (ap (passes (λ j. writes j v)) here) ∙ write)) in
       record { name = next.name; is = next.is; kind = next.kind; needed = needed_over old p.block l next.name x old_begins.0 free next.needed })
@@ -154,7 +142,7 @@ module _ (to : Names) (old new : VProc) (reduced : Reduced to old new) where
       (λ l g none.
       let next = found v (record { block = t; index = 0 }) q more read 0 (code_of old t) (code_of new t) (reduced.code t) refl refl in
       record { name = next.name; is = next.is; kind = next.kind; needed = needed_leave old p.block l t next.name (nothing_left (code_of old p.block) l g) (subst (λ z. IsTarget z t) (reduced.ends p.block) target) next.needed })
-      (λ l x y us vs g h st rest. absurd (none_some _ y here (left_begins (code_of new p.block) vs p.index y (f ∙ h)).0))
+      (λ l x y us vs g h st rest. absurd (not_both _ y here (left_begins (code_of new p.block) vs p.index y (f ∙ h)).0))
 
   pub needed_from : (b k j v : ℕ) → Part to old new b k j (drop k (code_of old b)) (drop j (code_of new b)) → Needed new b j v → Found to old new b k v
   needed_from b k j v part needed = found v (record { block = b; index = j }) needed.to needed.path needed.read k (drop k (code_of old b)) (drop j (code_of new b)) part refl refl

@@ -1,5 +1,5 @@
 -- What is needed at a point, from what is needed at the next.
-use Rattle.std.proofs.Common.{◌≡◌, ℕ, zero, suc, true, false, List, [], ◌∷◌, drop, slice_get, Some, None, refl, ap, ◌∙◌}
+use Rattle.std.proofs.Common.{◌≡◌, ℕ, suc, true, false, Some, None, ap, ◌∙◌}
 use Rattle.pra_base.specs.declared.code.VInstr.{VInstr}
 use Rattle.pra_base.specs.declared.code.VProc.{VProc}
 use Rattle.pra_base.specs.Code.{end_of, instr_at, IsTarget}
@@ -10,17 +10,6 @@ use Rattle.pra_base.specs.Live.Path.{stays, then}
 use Rattle.vc_same.specs.Reduction.{Needed}
 
 -- ---- what is left of a list begins with the element there
-
-pub nothing_left : {A : Type 0} (xs : List A) (k : ℕ) → drop k xs ≡ [] → slice_get xs k ≡ None
-nothing_left [] k e = refl
-nothing_left (x ∷ xs) zero e = cc
-nothing_left (x ∷ xs) (suc k) e = nothing_left xs k e
-
-pub left_begins : {A : Type 0} (xs ys : List A) (k : ℕ) (y : A) → drop k xs ≡ y ∷ ys → (slice_get xs k ≡ Some y) × (drop (suc k) xs ≡ ys)
-left_begins [] ys zero y e = (cc, cc)
-left_begins [] ys (suc k) y e = (cc, cc)
-left_begins (x ∷ xs) ys zero y e = (cc, cc)
-left_begins (x ∷ xs) ys (suc k) y e = left_begins xs ys k y e
 
 -- ---- one step of a path
 

@@ -1,8 +1,9 @@
 -- What variables hold once an instruction's results are written, in one machine and in two.
-use Rattle.std.proofs.Common.{◌≡◌, ◌≢◌, ℕ, ◌<◌, ◌≤◌, ◌⊎◌, inl, inr, ⊎_elim, Bool, true, false, nat_lt, if◌then◌else◌, List, [], ◌∷◌, length, map, slice_set, slice_index_or, Some, None, refl, sym, ap, subst, ◌∙◌, arith}
+use Rattle.std.proofs.Common.{◌≡◌, ◌≢◌, ℕ, ◌<◌, ◌≤◌, ◌⊎◌, inl, inr, ⊎_elim, nat_lt, List, [], ◌∷◌, length, map, slice_set, slice_index_or, Some, None, refl, sym, ap, subst, ◌∙◌, arith}
 use Rattle.std.proofs.lemmas.Bool.{cases_eq, cases_lt}
 use Rattle.std.proofs.lemmas.Bool.Decides.{nat_tests}
 use Rattle.std.proofs.lemmas.List.{get_or-set_same, get_or-set_other, length-set}
+use Rattle.pra_list.proofs.Truths.{if_true, if_false}
 use Rattle.pra_list.proofs.Options.{some_same}
 use Rattle.pra_base.specs.Code.{kind_of}
 use Rattle.pra_base.specs.declared.code.VarKind.{VarKind}
@@ -12,14 +13,6 @@ use Rattle.vc_code.specs.Value.{Held, Words}
 use Rattle.vc_code.specs.Selected.{read, valued, put, put_all}
 use Rattle.vc_same.specs.Renaming.{Names}
 use Rattle.pra_list.specs.Among.{Among}
-
-pub if_true : {A : Type 0} (b : Bool) (x y : A) → b ≡ true → (if b then x else y) ≡ x
-if_true true x y e = refl
-if_true false x y e = cc
-
-pub if_false : {A : Type 0} (b : Bool) (x y : A) → b ≡ false → (if b then x else y) ≡ y
-if_false true x y e = cc
-if_false false x y e = refl
 
 put_inside : (held : Words) (w : ℕ) (h : Held) → w < length held → put held w h ≡ Some (slice_set held w h)
 put_inside held w h lt = if_true (nat_lt w (length held)) (Some (slice_set held w h)) None (grind (arith, nat_tests))

@@ -2,9 +2,11 @@
 use Rattle.std.proofs.Common.{◌≡◌, ◌≢◌, ℕ, suc, ◌<◌, ◌⊎◌, inl, inr, ⊎_elim, Bool, true, false, nat_lt, if◌then◌else◌, List, [], ◌∷◌, drop, length, map, slice_get, slice_index_or, Option, Some, None, refl, sym, ap, ap₂, subst, ◌∙◌, arith}
 use Rattle.std.proofs.lemmas.Bool.{cases_eq}
 use Rattle.std.proofs.lemmas.Option.{get_or_from_slice_get, slice_get-get_or, slice_get_within}
+use Rattle.pra_list.proofs.Elements.{nothing_left, left_begins}
+use Rattle.pra_list.proofs.Truths.{true_false, truth, false_from, if_true, if_false}
 use Rattle.pra_list.specs.Among.{Among}
 use Rattle.pra_list.specs.Options.{◌>>=◌}
-use Rattle.pra_list.proofs.Options.{some_same}
+use Rattle.pra_list.proofs.Options.{some_same, not_both}
 use Rattle.pra_base.specs.System.{run}
 use Rattle.pra_base.specs.RunEnd.{Ended, Wrong}
 use Rattle.pra_base.specs.Words.{compares, is_positive}
@@ -38,23 +40,9 @@ use Rattle.vc_same.specs.Reduction.Part.{ends, stays, left_out}
 use Rattle.vc_coupling.specs.Coupled.{AllBeside, Same, Leads}
 use Rattle.vc_coupling.proofs.Applied.{found_same, with_top_same, ended_same, performed}
 use Rattle.vc_same.proofs.Renamed.{among_reads, writes_among, among_writes, read_by_renamed, written_by_renamed, reads_renamed, writes_from, operate_renamed}
-use Rattle.vc_same.proofs.Put.{if_true, if_false, put_rest, put_one, put_both}
-use Rattle.vc_same.proofs.Paths.{nothing_left, left_begins, needed_read, needed_over, needed_leave}
+use Rattle.vc_same.proofs.Put.{put_rest, put_one, put_both}
+use Rattle.vc_same.proofs.Paths.{needed_read, needed_over, needed_leave}
 use Rattle.vc_same.proofs.Tracked.{Counts, Tracks, couples, begun_tracks}
-
-truth : (b : Bool) → (b ≡ true) ⊎ (b ≡ false)
-truth true = inl refl
-truth false = inr refl
-
-true_false : (b : Bool) → b ≡ true → b ≡ false → ⊥
-true_false b e f = cc
-
-none_some : {X : Type 0} (o : Option X) (x : X) → o ≡ None → o ≡ Some x → ⊥
-none_some o x e f = cc
-
-not_true : (b : Bool) → (b ≡ true → ⊥) → b ≡ false
-not_true true n = absurd (n refl)
-not_true false n = refl
 
 -- ---- what goes on
 
@@ -67,7 +55,7 @@ is_quiet (Some (action.Load x o)) = true
 is_quiet _ = false
 
 behind_is : (c x : Activation Vars) (o : Option Words) → behind c o ≡ Some x → (held : Words) × (o ≡ Some held) × (x ≡ at_point c c.home.block (suc c.home.index) held)
-behind_is c x None e = absurd (none_some None x refl e)
+behind_is c x None e = absurd (not_both None x refl e)
 behind_is c x (Some held) e = (held, refl, sym (some_same _ _ e))
 
 module _ {H : Type 0} where
@@ -222,7 +210,7 @@ module _ (olds news : List VProc) (to : ℕ → Names) (frames : List ℕ) (all 
     counts_before v counts free = record {
       kind = counts.kind;
       here = needed_over (old p) b k v i is free counts.here;
-      there = needed_over (new p) b l (to p v) j beside (not_true (writes j (to p v)) written_there) counts.there;
+      there = needed_over (new p) b l (to p v) j beside (false_from (writes j (to p v)) written_there) counts.there;
     }
       where
         written_there : writes j (to p v) ≡ true → ⊥
@@ -320,7 +308,7 @@ module _ (olds news : List VProc) (to : ℕ → Names) (frames : List ℕ) (all 
         let kept = put_rest (written_by i) q.0 s.top.home.held w.0 w.1 in
         subst Done (sym q.3) (quiet_same q.1 w.0 w.2 (behind_tracks q.1 w.0 w.2 kept.0
         (λ v counts.
-        let free : writes i v ≡ false = not_true (writes i v) (λ e. unneeded v e counts.there) in
+        let free : writes i v ≡ false = false_from (writes i v) (λ e. unneeded v e counts.there) in
         r.top.agrees v (record { kind = counts.kind; here = needed_over (old p') b' k' v i is_here free counts.here; there = counts.there })
         ∙ ap (λ h. valued (kind_of (old p') v) h) (sym (kept.1 v (λ among. true_false (writes i v) (among_writes i v among) free))))))
 
@@ -346,7 +334,7 @@ module _ (olds news : List VProc) (to : ℕ → Names) (frames : List ℕ) (all 
         ap (λ u. read (kind_of (new p')) t.top.home.held u) (ap (to p') e ∙ names) ∙ r.top.agrees c.0 source ∙ sym value ∙ ap (λ u. read (kind_of (old p')) w.0 u) (sym e))
         (λ (other : v ≢ a.0).
         let apart : Among v (a.0 ∷ []) → ⊥ = λ among. ⊎_elim (λ (e : v ≡ a.0). other e) (λ (none : ⊥). none) among in
-        let free : writes (instr.Copy a c) v ≡ false = not_true (writes (instr.Copy a c) v) (λ e. apart (writes_among (instr.Copy a c) v e)) in
+        let free : writes (instr.Copy a c) v ≡ false = false_from (writes (instr.Copy a c) v) (λ e. apart (writes_among (instr.Copy a c) v e)) in
         r.top.agrees v (record { kind = counts.kind; here = needed_over (old p') b' k' v (instr.Copy a c) is_copy free counts.here; there = counts.there })
         ∙ ap (λ h. valued (kind_of (old p') v) h) (sym (kept.1 v apart)))
         (cases_eq v a.0))))
@@ -368,7 +356,7 @@ module _ (olds news : List VProc) (to : ℕ → Names) (frames : List ℕ) (all 
   there_too xs ys b x d long e = let lt : b < length xs = slice_get_within xs b x e in slice_get-get_or ys b d (omega (arith, lt, long))
 
   jumped : (c x : Activation Vars) (b : ℕ) (o : Option Block) → at_block c b o ≡ Some x → (block : Block) × (o ≡ Some block) × (x ≡ at_point c b 0 c.home.held)
-  jumped c x b None e = absurd (none_some None x refl e)
+  jumped c x b None e = absurd (not_both None x refl e)
   jumped c x b (Some block) e = (block, refl, sym (some_same _ _ e))
 
   module _ (s t : State Vars) (r : Same R s t)
@@ -441,14 +429,14 @@ module _ (olds news : List VProc) (to : ℕ → Names) (frames : List ℕ) (all 
 
   called : (t : Bool) (c x : Activation Vars) → (if t then Some c else None) ≡ Some x → x ≡ c
   called true c x e = sym (some_same c x e)
-  called false c x e = absurd (none_some None x refl e)
+  called false c x e = absurd (not_both None x refl e)
 
   begun_is : (p : ℕ) (args : Words) (o : Option VProc) (x : Activation Vars) → selection.begin p o args ≡ Some x → (code : VProc) × (o ≡ Some code) × (nat_lt 0 (length code.blocks) ≡ true) × (x ≡ begun p code args)
-  begun_is p args None x e = absurd (none_some None x refl e)
+  begun_is p args None x e = absurd (not_both None x refl e)
   begun_is p args (Some code) x e =
       ⊎_elim
       (λ (is : nat_lt 0 (length code.blocks) ≡ true). (code, refl, is, called (nat_lt 0 (length code.blocks)) (begun p code args) x e))
-      (λ (is : nat_lt 0 (length code.blocks) ≡ false). absurd (none_some _ x (if_false (nat_lt 0 (length code.blocks)) (Some (begun p code args)) None is) e))
+      (λ (is : nat_lt 0 (length code.blocks) ≡ false). absurd (not_both _ x (if_false (nat_lt 0 (length code.blocks)) (Some (begun p code args)) None is) e))
       (truth (nat_lt 0 (length code.blocks)))
 
   module _ (long : length news ≡ length olds) where

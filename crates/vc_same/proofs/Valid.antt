@@ -1,9 +1,10 @@
 -- Reduced code of valid code is valid, and of sized code is sized.
-use Rattle.std.proofs.Common.{◌≡◌, ℕ, zero, suc, ◌+◌, ◌*◌, ◌/◌, ◌-◌, ◌<◌, ◌≤◌, inl, inr, Bool, true, false, ◌||◌, nat_eq, List, [], ◌∷◌, drop, length, slice_get, Option, Some, None, refl, sym, ap, subst, ◌∙◌, arith}
+use Rattle.std.proofs.Common.{◌≡◌, ℕ, zero, suc, ◌+◌, ◌*◌, ◌/◌, ◌-◌, ◌<◌, ◌≤◌, inl, inr, Bool, true, false, ◌||◌, nat_eq, List, [], ◌∷◌, drop, length, slice_get, Some, refl, sym, ap, subst, ◌∙◌, arith}
 use Rattle.std.specs.List.{list_any}
 use Rattle.std.proofs.lemmas.List.Sums.{sum_by-cons}
 use Rattle.std.proofs.lemmas.Bool.Decides.{nat_tests}
-use Rattle.pra_list.proofs.Options.{some_same}
+use Rattle.pra_list.proofs.Truths.{true_false, false_from}
+use Rattle.pra_list.proofs.Options.{some_same, not_both}
 use Rattle.pra_base.specs.declared.ids.VarId.{VarId}
 use Rattle.pra_base.specs.declared.code.VarKind.{VarKind}
 use Rattle.pra_base.specs.declared.code.VarKind.TheVariants.{Param, Plain, Constant}
@@ -28,20 +29,10 @@ use Rattle.vc_same.specs.SameRuns.{Preserves}
 use Rattle.vc_same.proofs.Carried.{same_runs, runs_on, runs_itself}
 use Rattle.vc_same.proofs.Kept.{Origin, origin, needed_from, reads_here}
 
-none_some : {X : Type 0} (o : Option X) (x : X) → o ≡ None → o ≡ Some x → ⊥
-none_some o x e f = cc
-
-true_false : (b : Bool) → b ≡ true → b ≡ false → ⊥
-true_false b e f = cc
-
-not_true : (b : Bool) → (b ≡ true → ⊥) → b ≡ false
-not_true true n = absurd (n refl)
-not_true false n = refl
-
 -- ---- parameters
 
 has_param : (vars : List VarKind) (v i : ℕ) → slice_get vars v ≡ Some (Param i) → list_any (is_param i) vars ≡ true
-has_param [] v i e = absurd (none_some _ _ refl e)
+has_param [] v i e = absurd (not_both _ _ refl e)
 has_param (k ∷ vars) zero i e = first (is_param i k) (ap (is_param i) (some_same k (Param i) e) ∙ same_number i)
   where
     same_number : (i : ℕ) → nat_eq i i ≡ true
@@ -99,7 +90,7 @@ module _ (to : Names) (old new : VProc) (b : ℕ) where
   LastCompares (x ∷ y ∷ ys) = LastCompares (y ∷ ys)
 
   last_from : (xs : List VInstr) → EndsWithCmp xs → LastCompares xs
-  last_from [] e = absurd (none_some _ _ refl e.2)
+  last_from [] e = absurd (not_both _ _ refl e.2)
   last_from (x ∷ []) e = (e.0, e.1, some_same x (instr.Cmp e.0 e.1) e.2)
   last_from (x ∷ y ∷ ys) e = last_from (y ∷ ys) (e.0, e.1, subst (λ n. slice_get (x ∷ y ∷ ys) n ≡ Some (instr.Cmp e.0 e.1)) (place (length ys)) e.2)
     where
@@ -184,7 +175,7 @@ module _ (to : Names) (old new : VProc) (r : Reduced to old new) where
   new_roles_apart apart b j y is v only =
       let o = from b j y is in
       let w = only_writes_from to o.instr v (subst (λ z. only_writes z v ≡ true) o.stays.is only) in
-      not_true (reads y v) (λ read.
+      false_from (reads y v) (λ read.
       let u = reads_from to o.instr v (subst (λ z. reads z v ≡ true) o.stays.is read) in
       let same : u.0 ≡ w.0 = o.stays.apart w.0 u.0 (only_names o.instr w.0 w.1) (sym u.2 ∙ w.2) (inl (names_read o.instr u.0 u.1)) in
       true_false (reads o.instr w.0) (subst (λ z. reads o.instr z ≡ true) same u.1) (apart b o.place o.instr (from_is b j y is) w.0 w.1))
@@ -294,7 +285,7 @@ module _ (to : Names) (old new : VProc) (r : Reduced to old new) where
       let o = from b j y is in
       let was = from_is b j y is in
       record {
-        unwritten = not_true (writes y v) (λ e.
+        unwritten = false_from (writes y v) (λ e.
             let w = writes_from to o.instr v (subst (λ z. writes z v ≡ true) o.stays.is e) in
             let old_kind : kind_of old w.0 ≡ Constant n = sym (o.stays.kinds w.0 (inr w.1)) ∙ ap (λ u. kind_of new u) (sym w.2) ∙ kind in
             true_false (writes o.instr w.0) w.1 (kept w.0 n old_kind b o.place o.instr was).unwritten);
@@ -355,7 +346,7 @@ module _ (to : Names) (old new : VProc) (r : Reduced to old new) where
   }
     where
       first_stays : (xs : List VInstr) → Part to old new 0 0 0 xs (code_of new 0) → slice_get xs 0 ≡ Some instr.Clear → instr_at new 0 0 ≡ Some instr.Clear
-      first_stays [] part e = absurd (none_some _ _ refl e)
+      first_stays [] part e = absurd (not_both _ _ refl e)
       first_stays (x ∷ xs) part e = clear_stays to old new 0 0 0 x xs (code_of new 0) (some_same x instr.Clear e) part
 
   pub is_valid : ParamsApart new → IsValid old → IsValid new

@@ -2,6 +2,7 @@
 use Rattle.std.proofs.Common.{◌≡◌, ◌≢◌, ℕ, ◌<◌, ◌≤◌, Bool, true, List, [], length, inl, inr, ⊎_elim, ◌⊎◌, refl, sym, ap, ◌∙◌, subst, arith}
 use Rattle.std.specs.Prelude.{nat_eq, ◌||◌}
 use Rattle.std.proofs.lemmas.Bool.Decides.{nat_tests}
+use Rattle.pra_list.proofs.Truths.{or_cases}
 use Rattle.pra_base.specs.Code.{kind_of, code_of}
 use Rattle.pra_base.specs.declared.code.Block.{Block}
 use Rattle.pra_base.specs.declared.code.VProc.{VProc}
@@ -16,7 +17,7 @@ use Rattle.vc_select.specs.declared.target.Setting.{Setting}
 use Rattle.vc_select.specs.Targets.{above_setting}
 use Rattle.vc_select.specs.Certified.{AddsNoParam, IsReady, Continues, StaysReady, IsAnswer, Awaits, Closes, EndsReady}
 use Rattle.vc_select.proofs.Ready.{ready_on}
-use Rattle.vc_select.proofs.ReadyTests.{with_entries, entries_before, entries_from, or_either, or_second, seen, is_seen, was_seen, usable_empty, usable_waiting}
+use Rattle.vc_select.proofs.ReadyTests.{with_entries, entries_before, entries_from, or_second, seen, is_seen, was_seen, usable_empty, usable_waiting}
 use Rattle.vc_select.proofs.Walking.{test_holds, test_fails}
 
 is_that : (v u : ℕ) → nat_eq v u ≡ true → v ≡ u
@@ -109,7 +110,7 @@ module _ (g : Setting) (op : ROp) (old m1 m2 m3 new : VProc) (from to v : ℕ) (
     offered_is b u le is = ⊎_elim
         (λ (e : seen known old from u ≡ true). inl (was_seen known old from u e))
         (λ (e : nat_eq u t ≡ true). inr (is_that u t e))
-        (or_either (seen known old from u) (nat_eq u t) (sym (there b u le) ∙ is))
+        (or_cases (seen known old from u) (nat_eq u t) (sym (there b u le) ∙ is))
 
     awaits : (b : ℕ) → count old ≤ b → Awaits first b m1 from
     awaits b le u is = ⊎_elim

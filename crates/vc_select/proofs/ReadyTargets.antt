@@ -3,6 +3,7 @@ use Rattle.std.proofs.Common.{◌≡◌, ◌≢◌, ℕ, zero, suc, ◌+◌, ◌
 use Rattle.std.specs.Prelude.{ℤ, pos, ◌≤ℤ◌, ◌++◌, slice_get, slice_index_or}
 use Rattle.std.specs.List.{list_any}
 use Rattle.std.proofs.lemmas.Int.{ints}
+use Rattle.pra_list.proofs.Truths.{false_from}
 use Rattle.pra_base.specs.Code.{kind_of, cell_of}
 use Rattle.pra_base.specs.Operands.{reads, writes, via, index, is_role_of}
 use Rattle.pra_base.specs.declared.ids.VarId.{VarId}
@@ -200,10 +201,6 @@ module _ (g : Setting) where
 
 -- ---- the instructions
 
-no_other : (b : Bool) → (b ≡ true → ⊥) → b ≡ false
-no_other true e = absurd (e refl)
-no_other false e = refl
-
 plain_constant : (n : ℤ) → Plain ≡ Constant n → ⊥
 plain_constant n e = cc
 
@@ -230,10 +227,10 @@ module _ (args : ℕ) (vars : List VarKind) where
   pub obeys_load : (t : VarId) (a : Addr) → kind t.0 ≡ Plain → t.0 < length vars → ((v : ℕ) → InTarget (Memory a) v → v < t.0) → ((k : ℕ) → CellOfBase a.base k → (k < args) × ((v : ℕ) → slice_get vars v ≢ Some (Param k))) → Obeys args vars (Load t a)
   obeys_load t a plain there below cells = record {
     named = λ v n. ⊎_elim (λ r. omega (arith, below v (in_address v a.base a.index r), there)) (λ w. omega (arith, is_first t.0 v w, there)) n;
-    roles_apart = λ v e. no_other (reads (Load t a) v) (λ r. omega (arith, is_first t.0 v e, below v (in_address v a.base a.index r)));
+    roles_apart = λ v e. false_from (reads (Load t a) v) (λ r. omega (arith, is_first t.0 v e, below v (in_address v a.base a.index r)));
     division_apart = λ q r x d e. absurd (cc);
     constants_kept = λ v n e. record {
-      unwritten = no_other (writes (Load t a) v) (λ w. plain_constant n (sym plain ∙ ap kind (sym (is_first t.0 v w)) ∙ e));
+      unwritten = false_from (writes (Load t a) v) (λ w. plain_constant n (sym plain ∙ ap kind (sym (is_first t.0 v w)) ∙ e));
       uncopied = λ x y z. absurd (cc);
     };
     check_range = λ v n e. absurd (cc);

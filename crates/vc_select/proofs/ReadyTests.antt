@@ -1,7 +1,8 @@
 -- Code for conditions keeps the rules and a certificate: blocks that wait, and ends.
-use Rattle.std.proofs.Common.{◌≡◌, ◌≢◌, ℕ, ◌+◌, ◌<◌, ◌≤◌, Bool, true, false, List, [], length, Some, inl, inr, ◌⊎◌, refl, sym, ap, ◌∙◌, subst, arith}
+use Rattle.std.proofs.Common.{◌≡◌, ◌≢◌, ℕ, ◌+◌, ◌<◌, ◌≤◌, Bool, true, false, List, [], length, Some, refl, sym, ap, ◌∙◌, subst, arith}
 use Rattle.std.specs.Prelude.{nat_lt, ◌&&◌, ◌||◌, if◌then◌else◌, slice_get}
 use Rattle.std.proofs.lemmas.Bool.{lt-ltb, le-ltb, ltb-true}
+use Rattle.pra_list.proofs.Truths.{both_true}
 use Rattle.pra_base.specs.Code.{kind_of, block_of, code_of}
 use Rattle.pra_base.specs.declared.ids.BlockId.{BlockId}
 use Rattle.pra_base.specs.declared.code.Block.{Block}
@@ -36,16 +37,9 @@ entries_before n now known b v lt = ap (λ t. if t then known b v else now v) (l
 pub entries_from : (n : ℕ) (now : ℕ → Bool) (known : Entries) (b v : ℕ) → n ≤ b → with_entries n now known b v ≡ now v
 entries_from n now known b v le = ap (λ t. if t then known b v else now v) (le-ltb b n le)
 
-both_true : (a b : Bool) → a ≡ true → b ≡ true → (a && b) ≡ true
-both_true a b e f = ap (λ x. x && b) e ∙ f
-
 first_true : (a b : Bool) → (a && b) ≡ true → (a ≡ true) × (b ≡ true)
 first_true true b e = (refl, e)
 first_true false b e = absurd (cc)
-
-pub or_either : (a b : Bool) → (a || b) ≡ true → (a ≡ true) ⊎ (b ≡ true)
-or_either true b e = inl refl
-or_either false b e = inr e
 
 pub or_second : (a b : Bool) → b ≡ true → (a || b) ≡ true
 or_second true b e = refl

@@ -4,6 +4,7 @@ use Rattle.std.proofs.lemmas.Bool.{cases_lt}
 use Rattle.std.proofs.lemmas.Bool.Decides.{nat_tests}
 use Rattle.std.proofs.lemmas.List.{get_or_past}
 use Rattle.std.proofs.lemmas.Option.{slice_get-get_or}
+use Rattle.pra_list.proofs.Truths.{true_false}
 use Rattle.pra_base.specs.declared.ids.BlockId.{BlockId}
 use Rattle.pra_base.specs.declared.ids.Cond.{Cond}
 use Rattle.pra_base.specs.declared.ids.VarId.{VarId}
@@ -24,9 +25,6 @@ use Rattle.pra_base.specs.Live as live
 use Rattle.pra_base.specs.Live.{Live, LiveAs, passes}
 use Rattle.pra_base.specs.Valid.{PushesLead, TakesAny, IsValid, IsSized}
 use Rattle.vc_simple.specs.Simple.{is_base, is_bare, is_simple, EndFits, IsSimpleCode}
-
-true_false : (b : Bool) → b ≡ true → b ≡ false → ⊥
-true_false b e f = cc
 
 pub no_false : false ≡ true → ⊥
 no_false e = cc

@@ -1,6 +1,7 @@
 -- A call: the arguments, the pushes, and what the call does.
 use Rattle.std.proofs.Common.{◌≡◌, ℕ, suc, ◌+◌, true, List, [], ◌∷◌, map, length, Option, Some, None, refl, sym, ap, ◌∙◌, arith, length-append}
 use Rattle.std.specs.Prelude.{◌&&◌, slice_get}
+use Rattle.pra_list.proofs.Elements.{head_same, tail_same}
 use Rattle.pra_list.proofs.Choices.{and_true}
 use Rattle.pra_base.specs.Code as code
 use Rattle.pra_base.specs.declared.ids.ProcId.{ProcId}
@@ -31,7 +32,6 @@ use Rattle.vc_stmt.specs.Passes.{HaveArguments, PassesAll, with_pushes, with_cal
 use Rattle.vc_stmt.specs.Sound.{addressed}
 use Rattle.vc_stmt.proofs.Completing.{completes_after, completes_as, completes_value, shows_over}
 use Rattle.vc_stmt.proofs.Matching.{starts_with, represents_but, matches_as, matches_on}
-use Rattle.vc_stmt.proofs.Objects.{head_same, tail_same}
 use Rattle.vc_stmt.proofs.Pushing.{pushes_grow, pushes_open, pushes_code, pushed_onto, helds, are_pushed, stood, pushes_run}
 
 module _ (g : Setting) (old : VProc) (at : ℕ) (p : ProcId) (vs : List VarId) (o : IsOpen old at) where

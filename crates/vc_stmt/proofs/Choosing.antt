@@ -1,6 +1,7 @@
 -- The code of an IF, arm after arm.
 use Rattle.std.proofs.Common.{◌≡◌, ◌≢◌, ℕ, ◌+◌, ◌<◌, ◌≤◌, Bool, true, false, List, [], ◌∷◌, length, refl, sym, ap, ◌∙◌, subst, arith}
 use Rattle.std.specs.Prelude.{◌&&◌, if◌then◌else◌}
+use Rattle.pra_list.proofs.Truths.{both_true}
 use Rattle.pra_list.proofs.Choices.{and_true}
 use Rattle.pra_base.specs.Code.{block_of}
 use Rattle.pra_base.specs.declared.ids.BlockId.{BlockId}
@@ -31,7 +32,6 @@ use Rattle.vc_stmt.specs.Arms.{Joins, Guards, Chooses, guarded}
 use Rattle.vc_stmt.proofs.Completing.{completes_as, completes_behind, completes_value, comes_here}
 use Rattle.vc_stmt.proofs.Matching.{starts_with, matches_at}
 use Rattle.vc_stmt.proofs.Jumping.{matches_enters, completes_jumped}
-use Rattle.vc_stmt.proofs.Sounds.{both_true}
 use Rattle.vc_stmt.proofs.Waiting.{waits_open, waits_empty, waits_on, waits_first, waits_beside}
 
 -- ---- an arm

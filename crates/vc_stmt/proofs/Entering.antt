@@ -3,6 +3,7 @@
 use Rattle.std.proofs.Common.{◌≡◌, ◌≢◌, ℕ, zero, suc, ◌<◌, ◌≤◌, Bool, true, false, List, [], ◌∷◌, length, Some, inl, inr, ⊎_elim, refl, sym, ap, ◌∙◌, subst, arith}
 use Rattle.std.specs.Prelude.{◌||◌, nat_eq, slice_get, slice_index_or}
 use Rattle.std.proofs.lemmas.Bool.Decides.{nat_tests}
+use Rattle.pra_list.proofs.Truths.{or_cases}
 use Rattle.pra_list.proofs.Options.{some_same}
 use Rattle.pra_base.specs.Code.{kind_of, code_of}
 use Rattle.pra_base.specs.declared.ids.BlockId.{BlockId}
@@ -26,7 +27,7 @@ use Rattle.vc_select.specs.declared.target.Setting.{Setting}
 use Rattle.vc_select.specs.Targets.{above_setting}
 use Rattle.vc_select.specs.Certified.{AddsNoParam, IsHome, IsReady, IsContinued, Awaits, Closes}
 use Rattle.vc_select.proofs.Ready.{home_below, cell_stays, ready_on}
-use Rattle.vc_select.proofs.ReadyTests.{with_entries, entries_before, entries_from, or_either, or_second, usable_empty, waits, closes}
+use Rattle.vc_select.proofs.ReadyTests.{with_entries, entries_before, entries_from, or_second, usable_empty, waits, closes}
 use Rattle.vc_stmt.specs.Blocks.{deeper, with_arm, with_loop}
 use Rattle.vc_stmt.specs.Ready.{ReadsHomes}
 use Rattle.vc_stmt.proofs.Waiting.{open_beside}
@@ -60,7 +61,7 @@ found_home [] v e = absurd (cc)
 found_home (h ∷ hs) v e = ⊎_elim
     (λ (x : is_at h v ≡ true). (0, ap Some (at_is h v x)))
     (λ (x : any_at hs v ≡ true). let rest = found_home hs v x in (suc rest.0, rest.1))
-    (or_either (is_at h v) (any_at hs v) e)
+    (or_cases (is_at h v) (any_at hs v) e)
 
 any_found : (homes : List Home) (k : ℕ) (v : VarId) → slice_get homes k ≡ Some (home.Var v) → any_at homes v.0 ≡ true
 any_found [] k v e = absurd (cc)
@@ -72,7 +73,7 @@ module _ (g : Setting) where
   home_is v e = ⊎_elim
       (λ (x : any_at g.params.now v.0 ≡ true). let at = found_home g.params.now v.0 x in (at.0, inl at.1))
       (λ (x : any_at g.locals.now v.0 ≡ true). let at = found_home g.locals.now v.0 x in (at.0, inr at.1))
-      (or_either (any_at g.params.now v.0) (any_at g.locals.now v.0) e)
+      (or_cases (any_at g.params.now v.0) (any_at g.locals.now v.0) e)
 
   is_home_of : (v : VarId) → IsHome g (home.Var v) → is_home g v.0 ≡ true
   is_home_of v h = ⊎_elim

@@ -2,6 +2,7 @@
 use Rattle.std.proofs.Common.{◌≡◌, ◌≢◌, ℕ, ◌+◌, ◌<◌, ◌≤◌, Bool, true, List, [], ◌∷◌, map, length, drop, get_or, refl, sym, ap, ◌∙◌, subst}
 use Rattle.std.specs.Prelude.{◌&&◌, slice_get}
 use Rattle.std.proofs.lemmas.List.{drop_all}
+use Rattle.pra_list.proofs.Truths.{both_true}
 use Rattle.pra_base.specs.declared.ids.ProcId.{ProcId}
 use Rattle.pra_base.specs.Code.{block_of}
 use Rattle.pra_base.specs.declared.ids.BlockId.{BlockId}
@@ -33,7 +34,7 @@ use Rattle.vc_stmt.specs.Loops.{while_of, repeat_of}
 use Rattle.vc_stmt.specs.Sound.{addressed, is_sound, are_sound, is_sound_arm, are_sound_arms}
 use Rattle.vc_stmt.proofs.Sequences.{does_as, does_nothing, does_then}
 use Rattle.vc_stmt.proofs.Choosing.{guards_as, guards_arm, chooses_as, chooses_none, chooses_more, joins_last, does_if}
-use Rattle.vc_stmt.proofs.Sounds.{both_true, sound_first, sound_first_arm, sound_arm, sound_assign, sound_read, sound_write, sound_while, sound_repeat, sound_if, sound_call}
+use Rattle.vc_stmt.proofs.Sounds.{sound_first, sound_first_arm, sound_arm, sound_assign, sound_read, sound_write, sound_while, sound_repeat, sound_if, sound_call}
 
 module _ (g : Setting) (old new : VProc) (from to : ℕ) (t : RStmt) where
   pub statement_assign : (v : RVar) (e : RExpr) → t ≡ s.Assign v e → Does g old new from to (is_assignable (variable_typing g.program.now g.id.0 v) (typing g.program.now g.id.0 e)) (stmt_step g.program.now (RStmt-F.Assign v e)) →

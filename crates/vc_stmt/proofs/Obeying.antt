@@ -1,8 +1,9 @@
 -- The instructions of statements keep the rules of an instruction.
-use Rattle.std.proofs.Common.{◌≡◌, ◌≢◌, ℕ, ◌<◌, Bool, true, false, List, length, Option, Some, None, inl, inr, ⊎_elim, ◌⊎◌, refl, sym, ap, ◌∙◌, arith}
+use Rattle.std.proofs.Common.{◌≡◌, ◌≢◌, ℕ, ◌<◌, true, false, List, length, Option, Some, None, inl, inr, ⊎_elim, ◌⊎◌, refl, sym, ap, ◌∙◌, arith}
 use Rattle.std.specs.Prelude.{ℤ, ◌++◌, slice_get, slice_index_or}
 use Rattle.std.specs.List.{list_any}
 use Rattle.std.proofs.lemmas.List.Folds.{list_any-append}
+use Rattle.pra_list.proofs.Truths.{or_cases, false_from}
 use Rattle.pra_base.specs.Code.{cell_of}
 use Rattle.pra_base.specs.Operands.{Role, reads, writes, via, index, is_role_of, addressed}
 use Rattle.pra_base.specs.declared.ids.ProcId.{ProcId}
@@ -20,11 +21,6 @@ use Rattle.vc_expr.specs.Rules.{Obeys}
 use Rattle.vc_expr.proofs.Obeys.{is_first}
 use Rattle.vc_select.specs.declared.target.Target.TheVariants.{Memory}
 use Rattle.vc_select.specs.Certified.{InBase, InIndex, InTarget, CellOfBase}
-use Rattle.vc_select.proofs.ReadyTests.{or_either}
-
-no_other : (b : Bool) → (b ≡ true → ⊥) → b ≡ false
-no_other true e = absurd (e refl)
-no_other false e = refl
 
 -- ---- the variables of an address
 
@@ -39,7 +35,7 @@ in_index u (Some v) e = is_first v.0 u e
 in_index u None e = cc
 
 in_either : (u : ℕ) (xs ys : List Role) → list_any (is_role_of u) (xs ++ ys) ≡ true → (list_any (is_role_of u) xs ≡ true) ⊎ (list_any (is_role_of u) ys ≡ true)
-in_either u xs ys e = or_either (list_any (is_role_of u) xs) (list_any (is_role_of u) ys) (sym (list_any-append (is_role_of u) xs ys) ∙ e)
+in_either u xs ys e = or_cases (list_any (is_role_of u) xs) (list_any (is_role_of u) ys) (sym (list_any-append (is_role_of u) xs ys) ∙ e)
 
 pub in_address : (u : ℕ) (a : Addr) → list_any (is_role_of u) (addressed a) ≡ true → InTarget (Memory a) u
 in_address u a e = ⊎_elim
@@ -91,10 +87,10 @@ module _ (args : ℕ) (vars : List VarKind) where
   pub obeys_address : (t : VarId) (a : Addr) → kind t.0 ≡ Plain → t.0 < length vars → ((v : ℕ) → InTarget (Memory a) v → v < t.0) → ((k : ℕ) → CellOfBase a.base k → HasCell k) → Obeys args vars (instr.Addr t a)
   obeys_address t a plain there below cells = record {
     named = λ v n. ⊎_elim (λ r. omega (arith, below v (in_address v a r), there)) (λ w. omega (arith, is_first t.0 v w, there)) n;
-    roles_apart = λ v e. no_other (reads (instr.Addr t a) v) (λ r. omega (arith, is_first t.0 v e, below v (in_address v a r)));
+    roles_apart = λ v e. false_from (reads (instr.Addr t a) v) (λ r. omega (arith, is_first t.0 v e, below v (in_address v a r)));
     division_apart = λ q r x d e. absurd (cc);
     constants_kept = λ v n e. record {
-      unwritten = no_other (writes (instr.Addr t a) v) (λ w. plain_constant n (sym plain ∙ ap kind (sym (is_first t.0 v w)) ∙ e));
+      unwritten = false_from (writes (instr.Addr t a) v) (λ w. plain_constant n (sym plain ∙ ap kind (sym (is_first t.0 v w)) ∙ e));
       uncopied = λ x y z. absurd (cc);
     };
     check_range = λ v n e. absurd (cc);
@@ -147,7 +143,7 @@ module _ (args : ℕ) (vars : List VarKind) where
   -- ---- what gives a variable that is no constant a word
 
   unwritten_by : (i : VInstr) (t : ℕ) → ((n : ℤ) → kind t ≢ Constant n) → ((v : ℕ) → writes i v ≡ true → v ≡ t) → (v : ℕ) (n : ℤ) → kind v ≡ Constant n → writes i v ≡ false
-  unwritten_by i t varies only v n e = no_other (writes i v) (λ w. varies n (ap kind (sym (only v w)) ∙ e))
+  unwritten_by i t varies only v n e = false_from (writes i v) (λ w. varies n (ap kind (sym (only v w)) ∙ e))
 
   pub obeys_read : (t : VarId) → t.0 < length vars → ((n : ℤ) → kind t.0 ≢ Constant n) → Obeys args vars (Read t)
   obeys_read t there varies = record {
@@ -172,7 +168,7 @@ module _ (args : ℕ) (vars : List VarKind) where
   obeys_copy : (t s : VarId) → t.0 < length vars → s.0 < length vars → t.0 ≢ s.0 → ((n : ℤ) → kind t.0 ≢ Constant n) → ((n : ℤ) → kind s.0 ≢ Constant n) → Obeys args vars (Copy t s)
   obeys_copy t s there right apart varies variable = record {
     named = λ v n. ⊎_elim (λ r. omega (arith, is_first s.0 v r, right)) (λ w. omega (arith, is_first t.0 v w, there)) n;
-    roles_apart = λ v e. no_other (reads (Copy t s) v) (λ r. apart (sym (is_first t.0 v e) ∙ is_first s.0 v r));
+    roles_apart = λ v e. false_from (reads (Copy t s) v) (λ r. apart (sym (is_first t.0 v e) ∙ is_first s.0 v r));
     division_apart = λ q r a d e. absurd (cc);
     constants_kept = λ v n e. record {
       unwritten = unwritten_by (Copy t s) t.0 varies (is_first t.0) v n e;

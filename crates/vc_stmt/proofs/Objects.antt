@@ -22,12 +22,6 @@ calls_beside : (s : State Vars) (calls : List (Activation Vars)) → Beside s (w
 calls_beside s [] = record { over = refl; compared = refl; pushed = refl; input = refl; events = refl; taken = refl }
 calls_beside s (c ∷ calls) = record { over = refl; compared = refl; pushed = refl; input = refl; events = refl; taken = refl }
 
-pub head_same : {A : Type 0} (x y : A) (xs ys : List A) → (x ∷ xs) ≡ (y ∷ ys) → x ≡ y
-head_same x y xs ys e = cc
-
-pub tail_same : {A : Type 0} (x y : A) (xs ys : List A) → (x ∷ xs) ≡ (y ∷ ys) → xs ≡ ys
-tail_same x y xs ys e = cc
-
 module _ (shape : ℕ → Shape) (w : ℕ) (h : Held) where
   pub object_beside : (s : State Vars) (x : Object) → Beside s (with_object shape s x w h)
   object_beside s Data = record { over = refl; compared = refl; pushed = refl; input = refl; events = refl; taken = refl }

@@ -1,6 +1,7 @@
 -- What is asked of the parts of a statement, and what statements of each form mean by their parts.
-use Rattle.std.proofs.Common.{◌≡◌, ℕ, Bool, true, false, List, ◌∷◌, ◌++◌, map, sym, ap, ◌∙◌}
+use Rattle.std.proofs.Common.{◌≡◌, ℕ, true, List, ◌∷◌, ◌++◌, map, sym, ap, ◌∙◌}
 use Rattle.std.specs.Prelude.{◌&&◌, Option, Some, None, slice_get}
+use Rattle.pra_list.proofs.Truths.{both_true}
 use Rattle.pra_list.proofs.Choices.{and_true}
 use Rattle.pra_base.specs.declared.ids.ProcId.{ProcId}
 use Rattle.ob_syntax.specs.Expressions.{integer, boolean}
@@ -19,10 +20,6 @@ use Rattle.vc_typed.specs.TypedStatements.{all_true, is_assignable, is_call, is_
 use Rattle.vc_typed.specs.Typing.{is_of, typing, variable_typing}
 use Rattle.vc_typed.proofs.StatementEquations.{typed-Assign, typed-If, typed-While, typed-Repeat, typed-Call, typed-Read, typed-Write, typed_arm-is, lent-If, lent-While, lent-Repeat, lent-Call, lent_behind-is, both_addressed}
 use Rattle.vc_stmt.specs.Sound.{addressed_in, addressed, is_sound, are_sound, lent_behind, is_sound_arm, are_sound_arms}
-
-pub both_true : (a b : Bool) → a ≡ true → b ≡ true → (a && b) ≡ true
-both_true true b e f = f
-both_true false b e f = e
 
 module _ (program : Checked) (proc : ℕ) where
   apart : (p : Option CheckedProc) (xs ys : List Root) → addressed_in p (xs ++ ys) ≡ true → (addressed_in p xs ≡ true) × (addressed_in p ys ≡ true)

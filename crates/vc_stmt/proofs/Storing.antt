@@ -8,6 +8,7 @@ use Rattle.std.proofs.Math.Nat.{mod-eq_of_lt}
 use Rattle.std.proofs.lemmas.Bool.{lt-ltb, eq-eqb, eqb-true}
 use Rattle.std.proofs.lemmas.Int.{ints}
 use Rattle.std.proofs.lemmas.List.{get_or-set_same, get_or-set_other, length-set}
+use Rattle.pra_list.proofs.Elements.{head_same, tail_same}
 use Rattle.pra_list.specs.Options.{◌>>=◌}
 use Rattle.pra_list.proofs.Options.{some_same, none_some}
 use Rattle.pra_base.specs.Code as code
@@ -67,7 +68,7 @@ use Rattle.vc_stmt.specs.Completes.{Shows, Comes}
 use Rattle.vc_stmt.specs.Does.{Matches}
 use Rattle.vc_stmt.specs.Stores.{Stores}
 use Rattle.vc_stmt.proofs.Matching.{starts_with, represents_but, matches_as}
-use Rattle.vc_stmt.proofs.Objects.{object_beside, live_homes, live_procs, word_there, head_same, tail_same}
+use Rattle.vc_stmt.proofs.Objects.{object_beside, live_homes, live_procs, word_there}
 
 -- ---- a value of a type
 

@@ -5,6 +5,7 @@ use Rattle.std.proofs.lemmas.Bool.Decides.{nat_tests}
 use Rattle.std.proofs.lemmas.List.{get_or_past, get_or-set_same, get_or-set_other, length-set}
 use Rattle.std.proofs.lemmas.List.Elements.{All-nil, All-cons, All-append, All-weaker, All-contains, Contains-append_left, Contains-append_right, Contains-push}
 use Rattle.std.proofs.lemmas.Option.{slice_get-get_or, slice_get_within}
+use Rattle.pra_list.proofs.Truths.{true_false, truth, nat_is}
 use Rattle.pra_list.proofs.Options.{some_same}
 use Rattle.pra_base.specs.declared.ids.VarId.{VarId}
 use Rattle.pra_base.specs.declared.code.VarKind.TheVariants.{Plain, Constant}
@@ -22,21 +23,11 @@ use Rattle.vc_tidy.specs.declared.classes.Classes.{Classes}
 use Rattle.vc_tidy.proofs.Joining.{Joins, joined_preserves}
 use Rattle.vc_tidy.proofs.Meeting.{in_block, meeting_cant, meeting_back_cant}
 
-true_false : (b : Bool) → b ≡ true → b ≡ false → ⊥
-true_false b e f = cc
-
-truth : (b : Bool) → (b ≡ true) ⊎ (b ≡ false)
-truth true = inl refl
-truth false = inr refl
-
 eq_true : (a b : ℕ) → a ≡ b → nat_eq a b ≡ true
 eq_true a b e = grind (arith, nat_tests)
 
 eq_false : (a b : ℕ) → a ≢ b → nat_eq a b ≡ false
 eq_false a b e = grind (arith, nat_tests)
-
-true_eq : (a b : ℕ) → nat_eq a b ≡ true → a ≡ b
-true_eq a b e = grind (arith, nat_tests)
 
 -- ---- each variable alone
 
@@ -291,7 +282,7 @@ no_copy_code code n le none b k t s at =
 
 between_joined : (names : List ℕ) (v w : ℕ) (i : VInstr) → name names v ≡ name names w → is_between v w i ≡ true → is_joined names i ≡ true
 between_joined names v w (instr.Copy t s) same e =
-    by (nat_eq t.0 v) (nat_eq s.0 w) (nat_eq t.0 w) (nat_eq s.0 v) (true_eq t.0 v) (true_eq s.0 w) (true_eq t.0 w) (true_eq s.0 v) e
+    by (nat_eq t.0 v) (nat_eq s.0 w) (nat_eq t.0 w) (nat_eq s.0 v) (nat_is t.0 v) (nat_is s.0 w) (nat_is t.0 w) (nat_is s.0 v) e
   where
     by : (a b c d : Bool) → (a ≡ true → t.0 ≡ v) → (b ≡ true → s.0 ≡ w) → (c ≡ true → t.0 ≡ w) → (d ≡ true → s.0 ≡ v) → ((a && b) || (c && d)) ≡ true → nat_eq (name names t.0) (name names s.0) ≡ true
     by true true c d p q r u e = eq_true _ _ (ap (λ x. name names x) (p refl) ∙ same ∙ sym (ap (λ x. name names x) (q refl)))

@@ -1,10 +1,12 @@
 -- Code under other names: how it is made, that it is the code reduced, and that it is shorter.
-use Rattle.std.proofs.Common.{◌≡◌, ℕ, zero, suc, ◌+◌, ◌<◌, ◌≤◌, ◌⊎◌, inl, inr, ⊎_elim, ℤ, Bool, true, false, nat_eq, if◌then◌else◌, List, [], ◌∷◌, ◌++◌, drop, get_or, append_assoc, append-nil, length, map, slice_get, slice_index_or, Option, Some, None, refl, sym, ap, subst, ◌∙◌, arith}
+use Rattle.std.proofs.Common.{◌≡◌, ℕ, zero, suc, ◌+◌, ◌<◌, ◌≤◌, ◌⊎◌, inl, inr, ⊎_elim, ℤ, Bool, true, false, nat_eq, if◌then◌else◌, List, [], ◌∷◌, ◌++◌, drop, get_or, append_assoc, append-nil, length, map, slice_get, slice_index_or, Some, None, refl, sym, ap, subst, ◌∙◌, arith}
 use Rattle.std.specs.List.{list_any}
 use Rattle.std.proofs.lemmas.Bool.Decides.{nat_tests}
 use Rattle.std.proofs.lemmas.List.{length-map, drop_more, drop_all}
 use Rattle.std.proofs.lemmas.List.Sums.{sum_by-cons}
-use Rattle.pra_list.proofs.Options.{some_same}
+use Rattle.pra_list.proofs.Elements.{left_begins}
+use Rattle.pra_list.proofs.Truths.{truth, if_true, if_false}
+use Rattle.pra_list.proofs.Options.{some_same, not_both}
 use Rattle.pra_base.specs.declared.ids.VarId.{VarId}
 use Rattle.pra_base.specs.declared.code.VarKind.{VarKind}
 use Rattle.pra_base.specs.declared.code.VarKind.TheVariants.{Plain, Constant}
@@ -20,17 +22,9 @@ use Rattle.vc_same.specs.Reduction.{Needed, Part, Reduced, ParamsApart, IsNamed}
 use Rattle.vc_same.specs.Reduction.LeftOut.{copied}
 use Rattle.vc_same.specs.Reduction.Part.{ends, stays, left_out}
 use Rattle.vc_same.specs.SameRuns.{Preserves}
-use Rattle.vc_same.proofs.Paths.{left_begins}
 use Rattle.vc_same.proofs.Renamed.{among_reads, among_writes}
 use Rattle.vc_same.proofs.Valid.{preserves}
 use Rattle.vc_tidy.specs.Joined.{name, is_joined, joined, joined_block, joined_code, HasJoined}
-
-truth : (b : Bool) → (b ≡ true) ⊎ (b ≡ false)
-truth true = inl refl
-truth false = inr refl
-
-none_some : {X : Type 0} (o : Option X) (x : X) → o ≡ None → o ≡ Some x → ⊥
-none_some o x e f = cc
 
 pub joined_more : (names : List ℕ) (i : VInstr) (xs : List VInstr) → joined names (i ∷ xs) ≡ (if is_joined names i then joined names xs else renamed (name names) i ∷ joined names xs)
 unfolding joined
@@ -39,14 +33,6 @@ joined_more names i xs = refl
 joined_none : (names : List ℕ) → joined names [] ≡ []
 unfolding joined
 joined_none names = refl
-
-if_true : {A : Type 0} (b : Bool) (x y : A) → b ≡ true → (if b then x else y) ≡ x
-if_true true x y e = refl
-if_true false x y e = cc
-
-if_false : {A : Type 0} (b : Bool) (x y : A) → b ≡ false → (if b then x else y) ≡ y
-if_false true x y e = cc
-if_false false x y e = refl
 
 not_so : false ≡ true → ⊥
 not_so e = cc
@@ -170,7 +156,7 @@ joined_shorter names (x ∷ xs) = by (is_joined names x) refl (joined_shorter na
     by false e le = let l : length (joined names (x ∷ xs)) ≡ suc (length (joined names xs)) = ap length (joined_more names x xs ∙ if_false (is_joined names x) _ _ e) in omega (arith, l, le)
 
 joined_less : (names : List ℕ) (xs : List VInstr) (k : ℕ) (i : VInstr) → slice_get xs k ≡ Some i → is_joined names i ≡ true → length (joined names xs) < length xs
-joined_less names [] k i is e = absurd (none_some None i refl is)
+joined_less names [] k i is e = absurd (not_both None i refl is)
 joined_less names (x ∷ xs) zero i is e =
     let x_is : x ≡ i = some_same x i is in
     let le = joined_shorter names xs in
@@ -195,7 +181,7 @@ blocks_shorter names (x ∷ xs) =
     omega (arith, rest, first, left, right)
 
 blocks_less : (names : List ℕ) (xs : List Block) (b k : ℕ) (i : VInstr) → slice_get (block_in xs b).code k ≡ Some i → is_joined names i ≡ true → instruction_count (map (joined_block names) xs) < instruction_count xs
-blocks_less names [] b k i is e = absurd (none_some None i refl is)
+blocks_less names [] b k i is e = absurd (not_both None i refl is)
 blocks_less names (x ∷ xs) zero k i is e =
     let rest = blocks_shorter names xs in
     let first = joined_less names x.code k i is e in

@@ -4,6 +4,7 @@ use Rattle.std.proofs.lemmas.Bool.{cases_eq}
 use Rattle.std.proofs.lemmas.Bool.Decides.{nat_tests}
 use Rattle.std.proofs.lemmas.List.{get_or-set_same, get_or-set_other}
 use Rattle.std.specs.List.{list_any}
+use Rattle.pra_list.proofs.Truths.{or_right, or_left, or_cases}
 use Rattle.vc_code.specs.declared.row.Role.{Role}
 use Rattle.vc_live.specs.Equations.{named_in}
 use Rattle.pra_list.proofs.Options.{some_same}
@@ -119,24 +120,9 @@ in_here xs k v i is named = (k, i, is, named)
 
 -- ---- roles of which none, or one, is marked
 
-pub true_false : (b : Bool) → b ≡ true → b ≡ false → ⊥
-true_false b e f = cc
-
-or_cases : (a b : Bool) → (a || b) ≡ true → (a ≡ true) ⊎ (b ≡ true)
-or_cases true b e = inl refl
-or_cases false b e = inr e
-
 or_none : (a b : Bool) → (a || b) ≡ false → (a ≡ false) × (b ≡ false)
 or_none true b e = (cc, cc)
 or_none false b e = (refl, e)
-
-or_left : (a b : Bool) → a ≡ true → (a || b) ≡ true
-or_left true b e = refl
-or_left false b e = cc
-
-or_right : (a b : Bool) → b ≡ true → (a || b) ≡ true
-or_right true b e = refl
-or_right false b e = e
 
 pub any_none : (marks : List Bool) (roles : List Role) (v : ℕ) → list_any (λ (role : Role). is_marked marks role.var.0) roles ≡ false → named_in roles v ≡ true → is_marked marks v ≡ false
 unfolding named_in

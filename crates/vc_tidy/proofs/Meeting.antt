@@ -1,12 +1,13 @@
 -- Variables that meet: by a liveness, and that they can't be one.
-use Rattle.std.proofs.Common.{◌≡◌, ◌≢◌, ℕ, zero, suc, ◌+◌, ◌*◌, ◌/◌, ◌<◌, ◌≤◌, ◌⊎◌, inl, inr, ⊎_elim, Bool, true, false, not, ◌||◌, ◌&&◌, nat_eq, if◌then◌else◌, List, [], ◌∷◌, length, map, filter, take, get_or, All, slice_get, Option, Some, None, IsTrue, refl, sym, ap, subst, ◌∙◌, arith}
+use Rattle.std.proofs.Common.{◌≡◌, ◌≢◌, ℕ, zero, suc, ◌+◌, ◌*◌, ◌/◌, ◌<◌, ◌≤◌, ◌⊎◌, inl, inr, ⊎_elim, Bool, true, false, not, ◌||◌, ◌&&◌, nat_eq, if◌then◌else◌, List, [], ◌∷◌, length, map, filter, take, get_or, All, slice_get, Some, None, IsTrue, refl, sym, ap, subst, ◌∙◌, arith}
 use Rattle.std.specs.List.{list_any}
 use Rattle.std.proofs.lemmas.Bool.Decides.{nat_tests}
 use Rattle.std.proofs.lemmas.Option.{slice_get_within, slice_get-get_or}
 use Rattle.std.proofs.lemmas.Bool.{cases_lt}
 use Rattle.std.proofs.lemmas.List.{get_or_past, take_all}
 use Rattle.std.proofs.lemmas.List.Elements.{All-contains}
-use Rattle.pra_list.proofs.Options.{some_same}
+use Rattle.pra_list.proofs.Truths.{true_false, truth, or_right, or_left, or_cases}
+use Rattle.pra_list.proofs.Options.{some_same, not_both}
 use Rattle.pra_base.specs.declared.code.VarKind.{VarKind}
 use Rattle.pra_base.specs.declared.code.VarKind.TheVariants.{Plain}
 use Rattle.pra_base.specs.declared.code.Block.{Block}
@@ -33,32 +34,6 @@ use Rattle.vc_same.proofs.Renamed.{roles_among, among_roles, reads_renamed, only
 use Rattle.vc_tidy.specs.Tidy.{IsPresent, is_between, in_place, block_as_one, as_one, CanBeOne}
 use Rattle.vc_tidy.specs.declared.places.Place.{Place}
 use Rattle.vc_tidy.specs.Joined.{IsKnown, IsPlain, MeetsAt, Meets, is_met, places_of, HasPlaces}
-
-truth : (b : Bool) → (b ≡ true) ⊎ (b ≡ false)
-truth true = inl refl
-truth false = inr refl
-
-true_false : (b : Bool) → b ≡ true → b ≡ false → ⊥
-true_false b e f = cc
-
-none_some : {X : Type 0} (o : Option X) (x : X) → o ≡ None → o ≡ Some x → ⊥
-none_some o x e f = cc
-
-or_cases : (a b : Bool) → (a || b) ≡ true → (a ≡ true) ⊎ (b ≡ true)
-or_cases true b e = inl refl
-or_cases false b e = inr e
-
-or_left : (a b : Bool) → a ≡ true → (a || b) ≡ true
-or_left true b e = refl
-or_left false b e = cc
-
-or_right : (a b : Bool) → b ≡ true → (a || b) ≡ true
-or_right true b e = refl
-or_right false b e = e
-
-not_true : (b : Bool) → (b ≡ true → ⊥) → b ≡ false
-not_true true n = absurd (n refl)
-not_true false n = refl
 
 -- ---- one more role
 
@@ -89,7 +64,7 @@ pub in_block : (code : VProc) (b k : ℕ) (i : VInstr) → instr_at code b k ≡
 in_block code b k i is =
     ⊎_elim
     (λ (lt : b < length code.blocks). lt)
-    (λ (le : length code.blocks ≤ b). absurd (none_some None i refl (ap (λ (x : Block). slice_get x.code k) (sym (get_or_past code.blocks b no_block le)) ∙ is)))
+    (λ (le : length code.blocks ≤ b). absurd (not_both None i refl (ap (λ (x : Block). slice_get x.code k) (sym (get_or_past code.blocks b no_block le)) ∙ is)))
     (cases_lt b (length code.blocks))
 
 -- ---- by a liveness
@@ -172,7 +147,7 @@ none_there code b k v w i row row_is is none m = row_not row i v row_is none (su
 
 -- of no block, or of no instruction
 pub none_past : (code : VProc) (b k v w : ℕ) → instr_at code b k ≡ None → MeetsAt code b k v w → ⊥
-none_past code b k v w e m = none_some None m.instr refl (sym e ∙ m.is)
+none_past code b k v w e m = not_both None m.instr refl (sym e ∙ m.is)
 
 -- all of them were asked
 pub none_met : (code : VProc) (l : Liveness) (row : OperandRow) (i : VInstr) (b k v n : ℕ) (others : List ℕ) → IsKnown code l → row_of row ≡ operands i → instr_at code b k ≡ Some i → All (IsPlain code) others → length others ≤ n →
@@ -199,7 +174,7 @@ the_places places v x lt e = e ∙ some_same _ _ (sym (slice_get-get_or places v
 -- ---- the code with one variable in the place of the other
 
 kept_there : {A : Type 0} (test : A → Bool) (f : A → A) (xs : List A) (k : ℕ) (x : A) → slice_get xs k ≡ Some x → test x ≡ true → (j : ℕ) × (slice_get (map f (filter test xs)) j ≡ Some (f x))
-kept_there test f [] k x is e = absurd (none_some None x refl is)
+kept_there test f [] k x is e = absurd (not_both None x refl is)
 kept_there test f (y ∷ ys) zero x is e = by (test y) refl
   where
     by : (c : Bool) → test y ≡ c → (j : ℕ) × (slice_get (map f (filter test (y ∷ ys))) j ≡ Some (f x))

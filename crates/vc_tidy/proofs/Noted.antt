@@ -1,10 +1,10 @@
 -- Lists of places, while they are filled.
-use Rattle.std.proofs.Common.{◌≡◌, ◌≢◌, ℕ, ◌+◌, ◌<◌, ◌⊎◌, inl, inr, ⊎_elim, Bool, true, false, ◌||◌, nat_eq, List, [], ◌∷◌, ◌++◌, take, length, get_or, Contains, slice_get, slice_set, Some, refl, sym, ap, subst, ◌∙◌, arith}
+use Rattle.std.proofs.Common.{◌≡◌, ◌≢◌, ℕ, ◌+◌, ◌<◌, ◌⊎◌, ⊎_elim, true, nat_eq, List, [], ◌∷◌, ◌++◌, take, length, get_or, Contains, slice_get, slice_set, Some, sym, ap, subst, ◌∙◌, arith}
 use Rattle.std.proofs.lemmas.Bool.{cases_eq}
-use Rattle.std.proofs.lemmas.Bool.Decides.{nat_tests}
 use Rattle.std.proofs.lemmas.List.{get_or-set_same, get_or-set_other}
 use Rattle.std.proofs.lemmas.List.Elements.{Contains-append_left, Contains-push}
 use Rattle.std.proofs.lemmas.Option.{slice_get-get_or}
+use Rattle.pra_list.proofs.Truths.{or_cases, nat_is}
 use Rattle.pra_list.proofs.Options.{some_same}
 use Rattle.pra_base.specs.declared.code.Block.{Block}
 use Rattle.pra_base.specs.declared.code.VInstr.{VInstr}
@@ -17,13 +17,6 @@ use Rattle.vc_live.proofs.Steps.{no_role, named_more}
 use Rattle.vc_tidy.specs.declared.places.Place.{Place}
 use Rattle.vc_tidy.specs.Joined.{places_of}
 use Rattle.vc_tidy.specs.Places.{Keep, FitAll, Notes, NotesBlock}
-
-or_cases : (a b : Bool) → (a || b) ≡ true → (a ≡ true) ⊎ (b ≡ true)
-or_cases true b e = inl refl
-or_cases false b e = inr e
-
-true_eq : (a b : ℕ) → nat_eq a b ≡ true → a ≡ b
-true_eq a b e = grind (arith, nat_tests)
 
 pub keeps_itself : (lists : List (List Place)) → Keep lists lists
 keeps_itself lists v p c = c
@@ -49,7 +42,7 @@ pub noted_more : (roles : List Role) (k : ℕ) (old new : List (List Place)) (pl
 noted_more roles k old new place lt keep here was v named =
     ⊎_elim
     (λ (m : named_in (take k roles) v ≡ true). keep v place (was v m))
-    (λ (m : nat_eq (get_or roles k no_role).var.0 v ≡ true). subst (λ u. Contains (places_of new u) place) (true_eq (get_or roles k no_role).var.0 v m) here)
+    (λ (m : nat_eq (get_or roles k no_role).var.0 v ≡ true). subst (λ u. Contains (places_of new u) place) (nat_is (get_or roles k no_role).var.0 v m) here)
     (or_cases (named_in (take k roles) v) (nat_eq (get_or roles k no_role).var.0 v) (sym (named_more roles k no_role lt v) ∙ named))
 
 -- one more instruction

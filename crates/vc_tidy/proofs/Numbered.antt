@@ -8,6 +8,7 @@ use Rattle.std.proofs.lemmas.List.Folds.{list_any-append, list_any_more}
 use Rattle.std.proofs.lemmas.List.Sums.{sum_by-append}
 use Rattle.std.proofs.lemmas.Option.{slice_get-get_or, slice_get_within}
 use Rattle.std.proofs.Math.Seq.{get_or-append_seam}
+use Rattle.pra_list.proofs.Truths.{true_false, or_left, or_cases}
 use Rattle.pra_list.proofs.Options.{some_same}
 use Rattle.pra_base.specs.declared.code.VarKind.{VarKind}
 use Rattle.pra_base.specs.declared.code.VarKind.TheVariants.{Param, Plain, Constant}
@@ -26,17 +27,6 @@ use Rattle.vc_tidy.specs.Thinned.{is_marked, IsIn}
 use Rattle.vc_tidy.specs.Joined.{name, joined_code}
 use Rattle.vc_tidy.specs.Unused.{AreNamed, AreNumbers, is_argument, is_kept}
 use Rattle.vc_tidy.proofs.Joining.{Joins, joined_preserves}
-
-true_false : (b : Bool) → b ≡ true → b ≡ false → ⊥
-true_false b e f = cc
-
-or_left : (a b : Bool) → a ≡ true → (a || b) ≡ true
-or_left true b e = refl
-or_left false b e = cc
-
-or_cases : (a b : Bool) → (a || b) ≡ true → (a ≡ true) ⊎ (b ≡ true)
-or_cases true b e = inl refl
-or_cases false b e = inr e
 
 or_none : (a b : Bool) → (a || b) ≡ false → b ≡ false
 or_none true b e = cc

@@ -1,8 +1,10 @@
 -- Thinned blocks: how they are made from their end on, and that code of thinned blocks is reduced code.
-use Rattle.std.proofs.Common.{◌≡◌, ℕ, zero, suc, ◌+◌, ◌*◌, ◌/◌, ◌<◌, ◌≤◌, ◌⊎◌, inl, inr, ⊎_elim, ℤ, Bool, true, false, not, ◌||◌, ◌&&◌, List, [], ◌∷◌, ◌++◌, drop, length, reverse, get_or, slice_get, slice_index_or, Option, Some, None, IsTrue, refl, sym, ap, subst, ◌∙◌, arith}
+use Rattle.std.proofs.Common.{◌≡◌, ℕ, zero, suc, ◌+◌, ◌*◌, ◌/◌, ◌<◌, ◌≤◌, ◌⊎◌, inl, inr, ⊎_elim, ℤ, Bool, true, false, not, ◌||◌, ◌&&◌, List, [], ◌∷◌, ◌++◌, drop, length, reverse, get_or, slice_get, slice_index_or, Some, None, IsTrue, refl, sym, ap, subst, ◌∙◌, arith}
 use Rattle.std.proofs.lemmas.List.{drop_all, drop_more, reverse-append, get_or_past}
 use Rattle.std.proofs.lemmas.Bool.{cases_lt}
-use Rattle.pra_list.proofs.Options.{some_same}
+use Rattle.pra_list.proofs.Elements.{left_begins, none_left, some_left}
+use Rattle.pra_list.proofs.Truths.{true_false, truth}
+use Rattle.pra_list.proofs.Options.{some_same, not_both}
 use Rattle.pra_base.specs.declared.code.VarKind.{VarKind}
 use Rattle.pra_base.specs.declared.code.VarKind.TheVariants.{Param, Plain, Constant}
 use Rattle.pra_base.specs.declared.code.Block.{Block}
@@ -26,20 +28,13 @@ use Rattle.vc_same.specs.Pure.{is_pure}
 use Rattle.vc_same.specs.Reduction.{Needed, Part, Reduced}
 use Rattle.vc_same.specs.Reduction.LeftOut.{dead}
 use Rattle.vc_same.specs.Reduction.Part.{ends, stays, left_out}
-use Rattle.vc_same.proofs.Paths.{left_begins, needed_read, needed_over, needed_leave}
+use Rattle.vc_same.proofs.Paths.{needed_read, needed_over, needed_leave}
 use Rattle.vc_same.proofs.Kept.{reads_here}
 use Rattle.vc_same.proofs.Renamed.{same_names}
 use Rattle.vc_tidy.specs.Tidy.{IsDead, NoDead}
 use Rattle.vc_tidy.specs.Thinned.{is_marked, HasMarks, AreMarked, ahead, Unneeded, Thins, exit_of, ThinsAll}
 use Rattle.vc_tidy.specs.Thinned.Thins.{none, keeps, drops}
-use Rattle.vc_tidy.proofs.Marking.{true_false, in_here}
-
-truth : (b : Bool) → (b ≡ true) ⊎ (b ≡ false)
-truth true = inl refl
-truth false = inr refl
-
-none_some : {X : Type 0} (o : Option X) (x : X) → o ≡ None → o ≡ Some x → ⊥
-none_some o x e f = cc
+use Rattle.vc_tidy.proofs.Marking.{in_here}
 
 -- ---- from the end of a list to its begin
 
@@ -85,17 +80,6 @@ module _ (exit : ℕ → Bool) (code : List VInstr) (left next : ℕ) (i d : VIn
   back_drops pure unneeded = subst (λ xs. Thins exit xs (reverse kept)) (sym more) (drops pure (λ v wr. ahead_result v wr ∙ unneeded v wr) was)
 
 -- ---- thinned blocks of code
-
-none_left : {A : Type 0} (xs : List A) (k : ℕ) → slice_get xs k ≡ None → drop k xs ≡ []
-none_left [] zero e = refl
-none_left [] (suc k) e = refl
-none_left (x ∷ xs) zero e = cc
-none_left (x ∷ xs) (suc k) e = none_left xs k e
-
-some_left : {A : Type 0} (xs : List A) (k : ℕ) (x : A) → slice_get xs k ≡ Some x → drop k xs ≡ x ∷ drop (suc k) xs
-some_left [] k x e = cc
-some_left (y ∷ ys) zero x e = cc
-some_left (y ∷ ys) (suc k) x e = some_left ys k x e
 
 count_more : (x : Block) (xs : List Block) → instruction_count (x ∷ xs) ≡ length x.code + instruction_count xs
 count_more x xs = sum_by-cons (λ (c : Block). length c.code) x xs
@@ -205,7 +189,7 @@ module _ (code : VProc) (l : Liveness) (valid_ : IsValid code) (sized : IsSized 
   -- nothing was dropped: then nothing is dead
   none_dead : (b k : ℕ) (xs ys : List VInstr) → Thins (exits b) xs ys → length ys ≡ length xs → drop k (code_of code b) ≡ xs → k + length xs ≡ len b → b < length code.blocks →
       (n m : ℕ) (i : VInstr) → m ≡ k + n → slice_get xs n ≡ Some i → is_pure i ≡ true → IsDead code b m i → ⊥
-  none_dead b k [] [] none same e f bl n m i at is pure is_dead = none_some None i refl is
+  none_dead b k [] [] none same e f bl n m i at is pure is_dead = not_both None i refl is
   none_dead b k [] (y ∷ ys) t same e f bl n m i at is pure is_dead = elim t [ ]
   none_dead b k (x ∷ xs) (y ∷ ys) (keeps needed t) same e f bl zero m i at is pure is_dead =
       let begins = left_begins (code_of code b) xs k x e in
@@ -292,7 +276,7 @@ module _ (code : VProc) (l : Liveness) (valid_ : IsValid code) (sized : IsSized 
       (λ (bl : b < length code.blocks).
       none_dead b 0 (code_of code b) (block_in news b).code (thin.each b bl).code
       (as_many code.blocks news thin.count (λ c. shorter c) same b) refl (omega arith) bl k k i (omega arith) is pure is_dead)
-      (λ (le : length code.blocks ≤ b). none_some None i refl (ap (λ (xs : List VInstr). slice_get xs k) (sym (ap (λ (x : Block). x.code) (get_or_past code.blocks b no_block le))) ∙ is))
+      (λ (le : length code.blocks ≤ b). not_both None i refl (ap (λ (xs : List VInstr). slice_get xs k) (sym (ap (λ (x : Block). x.code) (get_or_past code.blocks b no_block le))) ∙ is))
       (cases_lt b (length code.blocks))
     where
       shorter : (c : ℕ) → length (block_in news c).code ≤ length (block_in code.blocks c).code

@@ -3,6 +3,7 @@ use Rattle.std.proofs.Common.{◌≡◌, ℕ, zero, suc, ◌+◌, ◌<◌, Bool,
 use Rattle.std.specs.Prelude.{slice_get, option_map}
 use Rattle.std.specs.List.{list_any}
 use Rattle.std.proofs.lemmas.Option.{slice_get-map}
+use Rattle.pra_list.proofs.Truths.{or_right}
 use Rattle.pra_list.proofs.Choices.{and_true}
 use Rattle.pra_list.proofs.Options.{some_same, none_some}
 use Rattle.ob_syntax.specs.declared.checked.Checked.{Checked}
@@ -91,10 +92,6 @@ same_itself : (r : Root) → same_root r r ≡ true
 same_itself (root.Module n) = eq_self n
 same_itself (root.Param n) = eq_self n
 same_itself (root.Local n) = eq_self n
-
-or_right : (a b : Bool) → b ≡ true → (a || b) ≡ true
-or_right true b is = refl
-or_right false b is = is
 
 not_or_self : (b : Bool) → (not b || b) ≡ true
 not_or_self true = refl

@@ -4,6 +4,7 @@
 use Rattle.std.proofs.Common.{◌≡◌, ℕ, zero, suc, ◌+◌, ◌<◌, ◌≤◌, Bool, true, false, List, [], ◌∷◌, ◌++◌, length, Some, None, ap, sym, ◌∙◌, subst, arith, length-append, lt-ltb}
 use Rattle.std.specs.Prelude.{Ok, Err, slice_get}
 use Rattle.std.proofs.lemmas.List.{append-nil, append_assoc}
+use Rattle.pra_list.proofs.Elements.{got_front, got_last}
 use Rattle.pra_list.proofs.Choices.{by_test}
 use Rattle.pra_list.proofs.Options.{some_same, none_some}
 use Rattle.pra_list.specs.Results.{◌>>=◌}
@@ -25,7 +26,7 @@ use Rattle.ob_mean.specs.Designators.{type_at, type_in}
 use Rattle.vc_typed.specs.Typing.{typed, root_typing, is_declared_in}
 use Rattle.vc_typed.specs.Fitting.{AreAlike, AllThere, ValuesAreScalars, HasProcedure}
 use Rattle.vc_typed.proofs.Bindings.{came_of, ok_same, ok_err}
-use Rattle.vc_typed.proofs.Lists.{get_more, get_behind, got}
+use Rattle.vc_typed.proofs.Lists.{got}
 use Rattle.vc_typed.proofs.Scopes.{Sound, ready, mean_with_name, Onward, few_types, onward_stays, onward_on, onward_scope, onward_shown, onward_type, left_sound, entered_sound, Shows, announced_there, all_there_more, each_there_more, named_there, shows_scope, shows_shown, shows_type, left_shows, entered_shows}
 use Rattle.vc_typed.proofs.TypeTrees.{AllBelow, type_good}
 
@@ -140,7 +141,7 @@ shown_variables p vars t (k ∷ ks) sound all lt =
       below = rest.below;
       later = t ∷ rest.later;
       longer = whole;
-      shows = λ program inside s. rest.shows program inside (shows_shown program p k m s (inside (length vars) t (ap (λ z. slice_get z (length vars)) whole ∙ get_behind vars t rest.later)));
+      shows = λ program inside s. rest.shows program inside (shows_shown program p k m s (inside (length vars) t (ap (λ z. slice_get z (length vars)) whole ∙ got_last vars t rest.later)));
     }
 
 list_behind : (p : Place) (vars : List ℕ) (l : NameList) (r : Place × List ℕ) → Sound p → AllBelow (length p.types) vars → variable_list p vars l ≡ Ok r → VarsBehind p vars r
@@ -175,7 +176,7 @@ variables_behind p vars (l ∷ ls) r sound all is =
       longer = rest.longer ∙ ap (λ z. z ++ rest.later) one.longer ∙ append_assoc vars one.later rest.later;
       shows = λ program inside s.
           rest.shows program (subst (λ h. VarsIn program h r.1) (sym one.onward.here) inside)
-          (one.shows program (λ k t at. inside k t (ap (λ z. slice_get z k) rest.longer ∙ get_more of.0.1 rest.later k t at)) s);
+          (one.shows program (λ k t at. inside k t (ap (λ z. slice_get z k) rest.longer ∙ got_front of.0.1 rest.later k t at)) s);
     }
 
 -- ---- parameters
@@ -214,7 +215,7 @@ shown_parameters p params by_var t (k ∷ ks) sound all one =
       scalars = rest.scalars;
       later = q ∷ rest.later;
       longer = whole;
-      shows = λ program inside s. rest.shows program inside (shows_shown program p k m s (inside (length params) q (ap (λ z. slice_get z (length params)) whole ∙ get_behind params q rest.later)));
+      shows = λ program inside s. rest.shows program inside (shows_shown program p k m s (inside (length params) q (ap (λ z. slice_get z (length params)) whole ∙ got_last params q rest.later)));
     }
 
 section_behind : (p : Place) (params : List Param) (s : Section) (r : Place × List Param) → Sound p → ValuesAreScalars params → section p params s ≡ Ok r → ParamsBehind p params r
@@ -249,7 +250,7 @@ sections_behind p params (s ∷ ss) r sound all is =
       longer = rest.longer ∙ ap (λ z. z ++ rest.later) one.longer ∙ append_assoc params one.later rest.later;
       shows = λ program inside shows.
           rest.shows program (subst (λ h. ParamsIn program h r.1) (sym one.onward.here) inside)
-          (one.shows program (λ k q at. inside k q (ap (λ z. slice_get z k) rest.longer ∙ get_more of.0.1 rest.later k q at)) shows);
+          (one.shows program (λ k q at. inside k q (ap (λ z. slice_get z k) rest.longer ∙ got_front of.0.1 rest.later k q at)) shows);
     }
 
 -- ---- headings

@@ -1,21 +1,13 @@
 -- What stands in longer lists.
 use Rattle.std.proofs.Common.{◌≡◌, ℕ, zero, suc, ◌<◌, List, [], ◌∷◌, ◌++◌, length, Some, refl, ap, sym, subst, arith}
 use Rattle.std.specs.Prelude.{slice_get}
+use Rattle.pra_list.proofs.Elements.{got_front, got_last}
 use Rattle.pra_list.proofs.Options.{some_same, none_some}
 
 pub get_before : {A : Type 0} (xs : List A) (y : A) (k : ℕ) → k < length xs → slice_get (xs ++ y ∷ []) k ≡ slice_get xs k
 get_before [] y k lt = absurd (omega (arith, lt))
 get_before (x ∷ xs) y zero lt = refl
 get_before (x ∷ xs) y (suc k) lt = get_before xs y k (omega (arith, lt))
-
-pub get_more : {A : Type 0} (xs ys : List A) (k : ℕ) (z : A) → slice_get xs k ≡ Some z → slice_get (xs ++ ys) k ≡ Some z
-get_more [] ys k z at = absurd (none_some at)
-get_more (x ∷ xs) ys zero z at = at
-get_more (x ∷ xs) ys (suc k) z at = get_more xs ys k z at
-
-pub get_behind : {A : Type 0} (xs : List A) (y : A) (ys : List A) → slice_get (xs ++ y ∷ ys) (length xs) ≡ Some y
-get_behind [] y ys = refl
-get_behind (x ∷ xs) y ys = get_behind xs y ys
 
 -- what stands in the longer list: one of those before, or the last
 pub got : {A : Type 0} (xs : List A) (y z : A) (k : ℕ) {Q : Type 0} → slice_get (xs ++ y ∷ []) k ≡ Some z → (k < length xs → slice_get xs k ≡ Some z → Q) → (k ≡ length xs → y ≡ z → Q) → Q
@@ -30,10 +22,10 @@ pub record IsAmong (n : ℕ) (ns : List ℕ) : Type 0 where
   pub at : slice_get ns index ≡ Some n
 
 pub among_more : (n : ℕ) (ns more : List ℕ) → IsAmong n ns → IsAmong n (ns ++ more)
-among_more n ns more is = record { index = is.index; at = get_more ns more is.index n is.at }
+among_more n ns more is = record { index = is.index; at = got_front ns more is.index n is.at }
 
 pub among_last : (ns : List ℕ) (n : ℕ) → IsAmong n (ns ++ n ∷ [])
-among_last ns n = record { index = length ns; at = get_behind ns n [] }
+among_last ns n = record { index = length ns; at = got_last ns n [] }
 
 pub among_longer : (n : ℕ) (ns more out : List ℕ) → out ≡ ns ++ more → IsAmong n ns → IsAmong n out
 among_longer n ns more out is among = subst (IsAmong n) (sym is) (among_more n ns more among)

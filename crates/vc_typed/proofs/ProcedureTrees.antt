@@ -4,6 +4,7 @@
 use Rattle.std.proofs.Common.{◌≡◌, ℕ, zero, suc, ◌+◌, ◌<◌, ◌≤◌, true, List, [], ◌∷◌, ◌++◌, length, map, Some, refl, ap, sym, ◌∙◌, subst, arith, length-append, lt-ltb, ne_eqb}
 use Rattle.std.specs.Prelude.{Ok, Err, slice_get, bytes_eq, if◌then◌else◌}
 use Rattle.std.proofs.lemmas.List.{append-nil, append_assoc}
+use Rattle.pra_list.proofs.Elements.{got_front}
 use Rattle.pra_list.proofs.Choices.{by_test}
 use Rattle.pra_list.proofs.Options.{some_same, none_some}
 use Rattle.pra_list.specs.Results.{◌>>=◌}
@@ -38,7 +39,7 @@ use Rattle.vc_typed.specs.Typing.{root_typing, is_declared_in}
 use Rattle.vc_typed.specs.Typing as typing
 use Rattle.vc_typed.proofs.Bindings.{came_of, ok_same, ok_err}
 use Rattle.vc_typed.proofs.DeclarationTrees.{constants_behind, types_behind, Behind, all_more, VarsIn, VarsBehind, variables_behind, HeadingBehind, heading_behind}
-use Rattle.vc_typed.proofs.Lists.{get_more, IsAmong, among_last, among_longer}
+use Rattle.vc_typed.proofs.Lists.{IsAmong, among_last, among_longer}
 use Rattle.vc_typed.proofs.Scopes.{Sound, longer, Shows, TypesIn, left_sound, left_shows, fitting}
 use Rattle.vc_typed.proofs.StatementTrees.{body_typed}
 use Rattle.vc_typed.proofs.TreeBodies.{decls_bodies, proc_bodies, bodies_in, bodies_of, ReadFrom, read_append}
@@ -105,7 +106,7 @@ counted_append nodes [] ys all more = more
 counted_append nodes (x ∷ xs) ys (one, rest) more = (one, counted_append nodes xs ys rest more)
 
 types_before : (program : Checked) (xs ys more : List Shape) → ys ≡ xs ++ more → TypesIn program ys → TypesIn program xs
-types_before program xs ys more grown inside k shape at = inside k shape (ap (λ z. slice_get z k) grown ∙ get_more xs more k shape at)
+types_before program xs ys more grown inside k shape at = inside k shape (ap (λ z. slice_get z k) grown ∙ got_front xs more k shape at)
 
 -- ---- procedures behind a place
 

@@ -1,6 +1,7 @@
 -- Code can be selected for the sample.
-use Rattle.std.proofs.Common.{◌≡◌, ℕ, ◌+◌, ◌<◌, ◌≤◌, Bool, true, false, ◌&&◌, List, [], ◌∷◌, ◌++◌, refl, ap, ◌∙◌, arith}
+use Rattle.std.proofs.Common.{◌≡◌, ℕ, ◌+◌, ◌<◌, ◌≤◌, true, false, ◌&&◌, List, [], ◌∷◌, ◌++◌, refl, ap, ◌∙◌, arith}
 use Rattle.std.specs.Prelude.{pos}
+use Rattle.pra_list.proofs.Truths.{both_true}
 use Rattle.pra_base.specs.Limits.{limit_maximum}
 use Rattle.pra_base.specs.declared.limit.LimitKind.TheVariants.{ArrayLength, TypeWords}
 use Rattle.pra_list.proofs.Each.{each_at}
@@ -85,9 +86,6 @@ test_typed =
     typing-Binary sample 1 Less (x.Var (whole (Param 1))) (x.Var (whole (Local 0)))
     ∙ ap (λ z. binary_typing Less z (typing sample 1 (x.Var (whole (Local 0))))) (value_typed 1 (whole (Param 1)) (whole_typed 1 (Param 1) refl))
     ∙ ap (λ z. binary_typing Less (typed true integer) z) (value_typed 1 (whole (Local 0)) (whole_typed 1 (Local 0) refl))
-
-both_true : (a b : Bool) → a ≡ true → b ≡ true → (a && b) ≡ true
-both_true a b x y = ap (λ z. z && b) x ∙ y
 
 call_typed : (here : ℕ) (p : RVar) (n m : RExpr) → variable_typing sample here p ≡ typed true integer → typing sample here n ≡ typed true integer → typing sample here m ≡ typed true integer → is_typed sample here (call (Lent p) n m) ≡ true
 call_typed here p n m first second third =

@@ -4,6 +4,7 @@ use Rattle.std.proofs.Common.{◌≡◌, ℕ, zero, suc, ◌+◌, ◌-◌, ◌<�
 use Rattle.std.specs.Prelude.{count_by, option_to_list, if◌then◌else◌}
 use Rattle.std.proofs.lemmas.List.{append-nil, append_assoc}
 use Rattle.std.proofs.lemmas.List.Sums.{sum_by-cons}
+use Rattle.pra_list.proofs.Elements.{head_same, tail_same}
 use Rattle.ob_syntax.specs.declared.token.Kind.{Kind}
 use Rattle.ob_syntax.specs.declared.token.Token.{Token}
 use Rattle.ob_syntax.specs.declared.tree.Arm.{Arm as ArmTree}
@@ -45,12 +46,6 @@ marks (k ∷ ks) = kind_nodes k + marks ks
 marks-append : (xs ys : List Kind) → marks (xs ++ ys) ≡ marks xs + marks ys
 marks-append [] ys = omega arith
 marks-append (x ∷ xs) ys = let rest = marks-append xs ys in omega (arith, rest)
-
-head_same : {A : Type 0} (x y : A) (xs ys : List A) → x ∷ xs ≡ y ∷ ys → x ≡ y
-head_same x y xs ys h = cc
-
-tail_same : {A : Type 0} (x y : A) (xs ys : List A) → x ∷ xs ≡ y ∷ ys → xs ≡ ys
-tail_same x y xs ys h = cc
 
 front_nodes : (ks more : List Kind) (ts : List Token) → kinds ts ≡ ks ++ more → count_by (λ t. is_node t.kind) (take (length ks) ts) ≡ marks ks
 front_nodes [] more ts is = refl

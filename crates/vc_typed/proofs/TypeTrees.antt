@@ -4,6 +4,7 @@ use Rattle.std.specs.Prelude.{Ok, Err, slice_get, bytes_eq}
 use Rattle.std.specs.List.{list_any}
 use Rattle.std.proofs.lemmas.List.{append-nil, append_assoc}
 use Rattle.std.proofs.lemmas.Option.{slice_get_within}
+use Rattle.pra_list.proofs.Elements.{got_last}
 use Rattle.pra_list.proofs.Choices.{by_test}
 use Rattle.pra_list.proofs.Options.{none_some}
 use Rattle.pra_list.specs.Results.{◌>>=◌}
@@ -22,7 +23,7 @@ use Rattle.ob_syntax.specs.Source.{Name}
 use Rattle.ob_syntax.specs.Types.{array_length, Shaped, with_type, with_length, named_type, with_fields, with_types, Fields, FieldsAfter, all_fields, type_form, field_list, type_step, type_expression, fields_of}
 use Rattle.vc_relation.specs.Layout.{NamesBelow, TypesInOrder}
 use Rattle.vc_typed.proofs.Bindings.{came_of, ok_same, ok_err}
-use Rattle.vc_typed.proofs.Lists.{get_before, get_behind, got, IsAmong, among_last, among_longer}
+use Rattle.vc_typed.proofs.Lists.{get_before, got, IsAmong, among_last, among_longer}
 
 -- types that name only types before them, the names of the fields of each, and lengths of arrays
 pub record Formed (types : List Shape) (fields : List (List Name)) (lengths : List ℕ) : Type 0 where
@@ -66,7 +67,7 @@ formed_push types fields lengths shape names formed below same counted = record 
   parallel = let count = formed.parallel in omega (arith, count, length-append types (shape ∷ []), length-append fields (names ∷ []));
   named = λ k fs at. got types shape (Record fs) k at
       (λ lt is. ap (λ o. length (field_names o)) (get_before fields names k (let count = formed.parallel in omega (arith, count, lt))) ∙ formed.named k fs is)
-      (λ end is. ap (λ n. length (field_names (slice_get (fields ++ names ∷ []) n))) (end ∙ sym formed.parallel) ∙ ap (λ o. length (field_names o)) (get_behind fields names []) ∙ same fs is);
+      (λ end is. ap (λ n. length (field_names (slice_get (fields ++ names ∷ []) n))) (end ∙ sym formed.parallel) ∙ ap (λ o. length (field_names o)) (got_last fields names []) ∙ same fs is);
   counted = λ k count element at. got types shape (Array count element) k at (λ lt is. formed.counted k count element is) (λ end is. subst (IsCounted lengths) is counted);
 }
 

@@ -1,9 +1,10 @@
 -- The rules of instructions, of blocks and of the whole, together.
-use Rattle.std.proofs.Common.{◌≡◌, ◌≢◌, ℕ, ◌<◌, ◌≤◌, ◌⊎◌, inl, inr, Bool, true, false, true≢false, ◌||◌, nat_eq, Option, Some, None, List, [], ◌∷◌, length, refl, sym, ap, ◌∙◌, subst, arith}
+use Rattle.std.proofs.Common.{◌≡◌, ◌≢◌, ℕ, ◌<◌, ◌≤◌, ◌⊎◌, inl, inr, true, false, true≢false, nat_eq, Option, Some, None, List, [], ◌∷◌, length, refl, sym, ap, ◌∙◌, subst, arith}
 use Rattle.std.proofs.lemmas.Bool.{cases_lt}
 use Rattle.std.proofs.lemmas.List.{get_or_past}
 use Rattle.std.specs.List.{slice_get, list_any}
 use Rattle.std.proofs.lemmas.Option.{slice_get-get_or}
+use Rattle.pra_list.proofs.Truths.{or_right}
 use Rattle.pra_base.specs.declared.code.VarKind.{VarKind}
 use Rattle.pra_base.specs.declared.code.VarKind.TheVariants.{Param, Plain, Constant}
 use Rattle.pra_base.specs.declared.code.VInstr.{VInstr}
@@ -18,10 +19,6 @@ use Rattle.pra_base.specs.Valid.{IsSized, IsValid, LiveAtEntry, EndsWithCmp, Cmp
 use Rattle.vc_live.specs.declared.liveness.Liveness.{Liveness}
 use Rattle.vc_live.specs.Rows.{live_at, IsLiveness}
 use Rattle.vc_valid.specs.Rules.{KeepsRules, KeepsBlock}
-
-or_right : (a b : Bool) → b ≡ true → (a || b) ≡ true
-or_right true b is = refl
-or_right false b is = is
 
 pub filled : {A : Type 0} (xs : List A) → (xs ≡ [] → ⊥) → 0 < length xs
 filled [] some = absurd (some refl)

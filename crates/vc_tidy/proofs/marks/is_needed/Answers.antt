@@ -1,10 +1,11 @@
 use Rattle.std.proofs.Common.{◌≡◌, true, inr, List, sym, ap, ◌∙◌}
+use Rattle.pra_list.proofs.Truths.{true_false}
 use Rattle.pra_base.specs.Operands.{writes}
 use Rattle.vc_code.specs.declared.row.Role.{Role}
 use Rattle.vc_same.specs.Pure.{is_pure}
 use Rattle.vc_live.specs.Equations.{named_in}
 use Rattle.vc_live.proofs.Steps.{writes_named}
-use Rattle.vc_tidy.proofs.Marking.{any_none, any_some, true_false}
+use Rattle.vc_tidy.proofs.Marking.{any_none, any_some}
 use Rattle.vc_tidy.proofs.marks.is_needed.Goals as goal
 
 pub any_marked-requires : goal.any_marked-requires

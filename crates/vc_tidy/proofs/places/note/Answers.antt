@@ -1,12 +1,12 @@
 use Rattle.std.proofs.Common.{◌≡◌, ℕ, ◌<◌, true, length, List, [], ◌∷◌, ◌++◌, Contains, get_or, refl, sym, ap, subst, ◌∙◌, arith}
 use Rattle.std.proofs.lemmas.List.{length-set, take_all}
+use Rattle.pra_list.proofs.Truths.{true_false}
 use Rattle.vc_code.specs.declared.row.Role.{Role}
 use Rattle.vc_live.specs.Equations.{named_in}
 use Rattle.vc_live.proofs.Steps.{no_role, named_none, named_at}
 use Rattle.vc_tidy.specs.declared.places.Place.{Place}
 use Rattle.vc_tidy.specs.Joined.{places_of}
 use Rattle.vc_tidy.specs.Places.{Keep}
-use Rattle.vc_tidy.proofs.Marking.{true_false}
 use Rattle.vc_tidy.proofs.Noted.{keeps_itself, keeps_on, keeps_added, added, noted_more}
 use Rattle.vc_tidy.proofs.places.note.Goals as goal
 
