@@ -77,10 +77,10 @@ any_width Edi e w = refl
 
 -- ---- masks
 
-allowed_first : (a b p : ℕ) → allows (meet a b) p ≡ true → allows a p ≡ true
+pub allowed_first : (a b p : ℕ) → allows (meet a b) p ≡ true → allows a p ≡ true
 allowed_first a b p e = let both = bit_at_and a b p in grind (arith, nat_tests)
 
-allowed_second : (a b p : ℕ) → allows (meet a b) p ≡ true → allows b p ≡ true
+pub allowed_second : (a b p : ℕ) → allows (meet a b) p ≡ true → allows b p ≡ true
 allowed_second a b p e = let both = bit_at_and a b p in grind (arith, nat_tests)
 
 -- the place of a role that is in no memory pair is one of the role's mask

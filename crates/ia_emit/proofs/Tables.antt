@@ -10,7 +10,7 @@ use Rattle.std.proofs.lemmas.Grind.{common_steps}
 use Rattle.std.proofs.lemmas.List.Quantifiers.{position-Some}
 use Rattle.std.proofs.lemmas.List.Sums.{fails_before_first}
 use Rattle.std.proofs.lemmas.Option.{slice_get-get_or, slice_get_within, get_or_from_slice_get}
-use Rattle.pra_list.proofs.Elements.{got_set, got_unset}
+use Rattle.pra_list.proofs.Elements.{got_set, got_unset, length_set}
 use Rattle.ia_emit.specs.Operands.{slot_at, spot_at, IsTable}
 use Rattle.pl_place.specs.declared.placed.LProc.{LProc}
 use Rattle.pl_place.specs.Machine.{spot_as}
@@ -23,11 +23,6 @@ use Rattle.pra_base.specs.declared.ids.VarId.{VarId}
 -- the displacement of a variable that has no slot
 abbrev pub without_slot : LProc → VarKind → ℤ
 without_slot p kind = spot_at p.args (spot_as kind None)
-
-length_set : {X : Type 0} (xs : List X) (k : ℕ) (x : X) → length (slice_set xs k x) ≡ length xs
-length_set [] k x = refl
-length_set (y ∷ xs) zero x = refl
-length_set (y ∷ xs) (suc k) x = ap suc (length_set xs k x)
 
 -- with the slots below k entered
 pub record Entered (p : LProc) (k : ℕ) (table : List ℤ) : Type 0 where

@@ -2,6 +2,7 @@
 -- go at the front.
 use Rattle.std.proofs.Common.{◌≡◌, ℕ, zero, suc, ◌+◌, ◌-◌, ◌*◌, ◌^◌, ◌≤◌, ◌<◌, List, [], ◌∷◌, ◌++◌, length, Some, None, refl, sym, ap, ◌∙◌, subst, arith, inl, inr}
 use Rattle.std.specs.Prelude.{Ok, slice_get, slice_set, replicate}
+use Rattle.pra_list.proofs.Elements.{length_set}
 use Rattle.ia_code.specs.Image.{max_data_words}
 use Rattle.ia_code.specs.Regions.{data_base, stack_base, stack_length}
 use Rattle.ia_step.specs.Effect.{load, store}
@@ -83,11 +84,6 @@ pub set_back : {A : Type 0} (xs ys : List A) (i j : ℕ) (y : A) → j ≡ lengt
 set_back [] ys i j y e = let z : j ≡ i = omega (arith, e) in ap (λ k. slice_set ys k y) z
 set_back (x ∷ xs) ys i zero y e = absurd (omega (arith, e))
 set_back (x ∷ xs) ys i (suc j) y e = ap (λ zs. x ∷ zs) (set_back xs ys i j y (omega (arith, e)))
-
-pub length_set : {A : Type 0} (xs : List A) (i : ℕ) (y : A) → length (slice_set xs i y) ≡ length xs
-length_set [] i y = refl
-length_set (x ∷ xs) zero y = refl
-length_set (x ∷ xs) (suc i) y = omega (arith, length_set xs i y)
 
 pub get_inside : {A : Type 0} (xs : List A) (i : ℕ) (y : A) → slice_get xs i ≡ Some y → i < length xs
 get_inside [] i y e = cc

@@ -1,6 +1,7 @@
 -- A word of an object of live calls is written: one word of the stack changes.
 use Rattle.std.proofs.Common.{◌≡◌, ℕ, ◌+◌, ◌-◌, ◌*◌, ◌/◌, ◌%◌, ◌≤◌, ◌<◌, Bool, true, false, ◌&&◌, List, [], ◌∷◌, ◌++◌, length, Some, refl, sym, ap, ap₂, ◌∙◌, subst, arith, length-append, nat_eq}
 use Rattle.std.specs.Prelude.{if◌then◌else◌, slice_get, slice_set}
+use Rattle.pra_list.proofs.Elements.{length_set}
 use Rattle.pra_list.proofs.Choices.{and_true}
 use Rattle.ia_code.specs.Regions.{stack_top}
 use Rattle.pl_place.specs.declared.placed.LProc.{LProc}
@@ -13,7 +14,7 @@ use Rattle.vc_code.specs.Machine.{Activation, depth, calls_with, cell_words, is_
 use Rattle.vc_code.specs.declared.value.Value.TheVariants.{Num}
 use Rattle.ia_simulation.specs.Frames.{base_of, ebp_of, register_held, saved, rest_of, frames}
 use Rattle.ia_simulation.specs.Represents.{StandsBefore, HasSizes, GivesUp, AllWait}
-use Rattle.ia_simulation.proofs.Cells.{get_inside, set_back, set_front, length_set}
+use Rattle.ia_simulation.proofs.Cells.{get_inside, set_back, set_front}
 use Rattle.ia_simulation.proofs.Objects.{AllSized, word_is, same_is, one_word}
 use Rattle.ia_simulation.proofs.Sizes.{saved_long}
 use Rattle.ia_simulation.proofs.Spots.{last_there}

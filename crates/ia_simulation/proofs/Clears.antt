@@ -3,6 +3,7 @@ use Rattle.std.proofs.Common.{◌≡◌, ℕ, zero, suc, ◌+◌, ◌-◌, ◌*�
 use Rattle.std.specs.Prelude.{pos, neg_ℤ, not, ◌==◌, slice_set}
 use Rattle.std.proofs.lemmas.Bool.Decides.{nat_tests}
 use Rattle.std.proofs.lemmas.Int.{ints}
+use Rattle.pra_list.proofs.Elements.{length_set}
 use Rattle.pra_list.specs.Results.{◌>>=◌}
 use Rattle.ia_code.specs.declared.ins.AluOp.TheVariants as alu
 use Rattle.ia_code.specs.declared.ins.Reg.TheVariants.{Ecx, Ebp}
@@ -32,7 +33,7 @@ use Rattle.vc_code.specs.declared.value.Value.TheVariants.{Num}
 use Rattle.vc_code.specs.Value.{Held, Words}
 use Rattle.vc_code.specs.Machine.{zeroed}
 use Rattle.ia_simulation.specs.Frames.{Stacked}
-use Rattle.ia_simulation.proofs.Cells.{length_set, set_front, store_cell}
+use Rattle.ia_simulation.proofs.Cells.{set_front, store_cell}
 use Rattle.ia_simulation.proofs.Here as here
 use Rattle.ia_simulation.proofs.Walks.{Walks, reaches, goes_on}
 

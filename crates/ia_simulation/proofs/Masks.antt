@@ -1,8 +1,7 @@
 -- What the masks of valid placed code say of the machine's operands.
-use Rattle.std.proofs.Common.{◌≡◌, ℕ, Bool, true, false, List, [], ◌∷◌, ◌++◌, Some, refl, arith}
+use Rattle.std.proofs.Common.{◌≡◌, ℕ, Bool, true, false, List, [], ◌∷◌, ◌++◌, Some, refl}
 use Rattle.std.specs.Prelude.{nat_lt, if◌then◌else◌, fold, count_by, slice_get}
-use Rattle.std.proofs.lemmas.Bool.Decides.{nat_tests}
-use Rattle.std.proofs.lemmas.Nat.Bits.{bit_at_and}
+use Rattle.ia_emit.proofs.Soundness.{allowed_first, allowed_second}
 use Rattle.pra_list.proofs.Choices.{either}
 use Rattle.ia_code.specs.declared.ins.MemAddr.{MemAddr}
 use Rattle.ia_code.specs.declared.ins.Reg.{Reg}
@@ -18,12 +17,6 @@ use Rattle.pra_base.specs.declared.ids.Place.TheVariants as place
 use Rattle.pra_base.specs.Operands.{R, M, Role, Line, is_role_of, is_star_of, meets, common, all_roles, but_memory, mask_of, own_places, every}
 use Rattle.pra_base.specs.Places.{number, has_register, is_mem, allows, meet, only, with_both, ◌∪◌}
 use Rattle.ia_simulation.proofs.Effects.{IsPlace, OneInMemory}
-
-allowed_first : (a b p : ℕ) → allows (meet a b) p ≡ true → allows a p ≡ true
-allowed_first a b p e = let both = bit_at_and a b p in grind (arith, nat_tests)
-
-allowed_second : (a b p : ℕ) → allows (meet a b) p ≡ true → allows b p ≡ true
-allowed_second a b p e = let both = bit_at_and a b p in grind (arith, nat_tests)
 
 -- the place is in the mask of each role of the variable
 abbrev pub AllowedBy : ℕ → List Role → ℕ → Type 0

@@ -2,9 +2,8 @@
 use Rattle.std.proofs.Common.{◌≡◌, ℕ, List, [], ◌∷◌, length, map, Some, None, refl, sym, ap, ◌∙◌, subst, arith}
 use Rattle.std.specs.Prelude.{ℤ, Ok}
 use Rattle.std.specs.List.{filter_map}
-use Rattle.std.specs.Int.{w8, w32}
+use Rattle.std.specs.Int.{w32}
 use Rattle.std.specs.Int.RustNames.{FitsSigned}
-use Rattle.std.proofs.lemmas.Int.{ints}
 use Rattle.pra_list.proofs.Truths.{itself}
 use Rattle.pra_list.proofs.Choices.{either}
 use Rattle.net_form.specs.Tables.{is_short}
@@ -44,14 +43,11 @@ use Rattle.ia_simulation.proofs.Effects.{IsPlace, OneInMemory, ok_same, multipli
 use Rattle.ia_simulation.proofs.Masks.{in_mask, allowed_at, is_place, is_register, one_in_memory}
 use Rattle.ia_simulation.proofs.Spots.{read}
 use Rattle.ia_simulation.proofs.Ops as ops
-use Rattle.ia_simulation.proofs.Ops.{one_is, two_are, three_are, number_is, combined_fits, no_number, put_done}
+use Rattle.ia_simulation.proofs.Ops.{one_is, two_are, three_are, number_is, combined_fits, no_number, put_done, short_is_word}
 use Rattle.ia_simulation.proofs.Steps as steps
 use Rattle.ia_simulation.proofs.Rows.{Led}
 use Rattle.ia_simulation.proofs.Computes as computes
 use Rattle.ia_simulation.proofs.Computes.{register_operand}
-
-short_is_word : (n : ℤ) → FitsSigned w8 n → FitsSigned w32 n
-short_is_word n f = omega (arith, ints)
 
 number_fits : (reg : Reg) (n : ℤ) → IsSound (multiply_number reg n) → FitsSigned w32 n
 number_fits reg n = either (λ i. IsSound i → FitsSigned w32 n) (is_short n) (ins.ImulB reg (rm.Reg reg) n) (ins.ImulI reg (rm.Reg reg) n) (λ _ s. short_is_word n s.1) (λ _ s. s.1)

@@ -71,7 +71,7 @@ number_is (Some (At x k)) n e = cc
 
 -- ---- numbers of instructions that the table has
 
-short_is_word : (n : ℤ) → FitsSigned w8 n → FitsSigned w32 n
+pub short_is_word : (n : ℤ) → FitsSigned w8 n → FitsSigned w32 n
 short_is_word n f = omega (arith, ints)
 
 pub alu_fits : (op : AluOp) (to : Operand) (n : ℤ) → IsSound (alu_number op to n) → FitsSigned w32 n

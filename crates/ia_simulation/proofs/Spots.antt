@@ -7,7 +7,7 @@ use Rattle.std.specs.Int.{w32}
 use Rattle.std.specs.Int.RustNames.{FitsSigned}
 use Rattle.std.proofs.lemmas.Bool.Decides.{nat_tests}
 use Rattle.std.proofs.lemmas.Int.{ints}
-use Rattle.pra_list.proofs.Elements.{got_set, got_unset}
+use Rattle.pra_list.proofs.Elements.{got_set, got_unset, length_set}
 use Rattle.pra_list.proofs.Options.{some_same}
 use Rattle.ia_code.specs.declared.ins.Width.{Width}
 use Rattle.ia_code.specs.DecodeTable.{reg_number}
@@ -39,7 +39,7 @@ use Rattle.vc_code.specs.Value.{Held, Words}
 use Rattle.vc_code.specs.Machine.{Activation, depth, last_get, joined}
 use Rattle.ia_simulation.specs.Frames.{Means, Holds, Stacked, register_held, saved, rest_of, frames}
 use Rattle.ia_simulation.specs.Represents.{AllWait, RegistersHold, Lies}
-use Rattle.ia_simulation.proofs.Cells.{load_cell, store_cell, get_front, get_back, set_front, set_back, length_set, get_inside}
+use Rattle.ia_simulation.proofs.Cells.{load_cell, store_cell, get_front, get_back, set_front, set_back, get_inside}
 use Rattle.ia_simulation.proofs.Sizes.{live_long, saved_long}
 
 -- ---- registers

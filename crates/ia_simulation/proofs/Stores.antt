@@ -3,6 +3,7 @@ use Rattle.std.proofs.Common.{◌≡◌, ℕ, suc, ◌+◌, ◌^◌, ◌%◌, �
 use Rattle.std.specs.Prelude.{ℤ, Ok, slice_get, slice_index_or, if◌then◌else◌, slice_set}
 use Rattle.std.specs.Int.{w32}
 use Rattle.std.specs.Int.RustNames.{FitsSigned}
+use Rattle.pra_list.proofs.Elements.{length_set}
 use Rattle.pra_list.proofs.Truths.{itself}
 use Rattle.pra_list.specs.Results.{◌>>=◌}
 use Rattle.ia_code.specs.declared.ins.Rm.TheVariants as rm
@@ -56,7 +57,7 @@ use Rattle.ia_simulation.proofs.Computes as computes
 use Rattle.ia_simulation.proofs.Computes.{register_operand}
 use Rattle.ia_simulation.proofs.Effects.{ok_same}
 use Rattle.ia_simulation.proofs.Addressed.{operand_at, counts, are_there}
-use Rattle.ia_simulation.proofs.Cells.{get_inside, set_back, length_set, store_cell, store_word}
+use Rattle.ia_simulation.proofs.Cells.{get_inside, set_back, store_cell, store_word}
 use Rattle.ia_simulation.proofs.Changed.{Stored, stored, same_depth, same_ebp, sizes_alike, stands_alike, waits_alike}
 use Rattle.ia_simulation.proofs.Objects.{all_sized, word_is}
 use Rattle.ia_simulation.proofs.Sizes.{live_long}

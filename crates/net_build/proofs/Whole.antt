@@ -1,11 +1,11 @@
 -- The network from its lists, groups and index.
-use Rattle.std.proofs.Common.{ℕ, ◌≡◌, ◌+◌, ◌*◌, ◌^◌, ◌<◌, ◌≤◌, ◌⊎◌, inl, inr, Bool, true, false, cond, eqb, ◌&&◌, List, [], ◌∷◌, map, length, get_or, All, Some, None, Option, IfSome, count_by, refl, sym, ap, ◌∙◌, arith, suc, true≢false}
+use Rattle.std.proofs.Common.{ℕ, ◌≡◌, ◌+◌, ◌*◌, ◌^◌, ◌<◌, ◌≤◌, ◌⊎◌, inl, inr, Bool, true, false, cond, eqb, ◌&&◌, List, [], ◌∷◌, map, length, get_or, All, Some, None, Option, IfSome, count_by, sym, ap, ◌∙◌, arith, suc, true≢false}
 use Rattle.std.specs.List.{range_with_len, enumerate_from}
 use Rattle.std.proofs.lemmas.Bool.{cases_Bool, cases_lt}
 use Rattle.std.proofs.lemmas.List.{get_or_past}
 use Rattle.std.proofs.lemmas.List.Elements.{All-nil, All-cons, All-weaker}
 use Rattle.std.proofs.lemmas.List.FromFn.{get_or-map-range_with_len}
-use Rattle.std.proofs.lemmas.List.Sums.{sum_by-cons}
+use Rattle.net_form.proofs.NetworkFormed.{total_layers}
 use Rattle.pra_list.proofs.Comprehensions.{All-filter_map, All-flat_map, IfSome-test}
 use Rattle.pra_base.specs.declared.code.Block.{Block}
 use Rattle.pra_base.specs.declared.code.VProc.{VProc}
@@ -72,14 +72,6 @@ ties_below code ss = All-flat_map (IsBelow (2 * length ss)) (ties_from code ss) 
     (enumerate_from 0 ss) (all_numbers 0 ss))
 
 -- ---- the layers of all blocks
-
-total_layers : (bs : List Block) → layer_total (map net_block bs) ≡ 2 * instruction_count bs + 2 * length bs
-total_layers [] = refl
-total_layers (b ∷ bs) =
-    let more = total_layers bs in
-    let one = sum_by-cons (λ (k : NetBlock). k.layers) (net_block b) (map net_block bs) in
-    let two = sum_by-cons (λ (k : Block). length k.code) b bs in
-    omega (arith, more, one, two)
 
 pub few_layers : (code : VProc) → IsSized code → layer_total (map net_block code.blocks) < 2 ^ 32
 few_layers code sized =

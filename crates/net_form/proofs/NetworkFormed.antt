@@ -82,7 +82,7 @@ pub strands_are_formed : (tables : PlaceTables) (code : VProc) (live : Lives)
 unfolding blocks
 strands_are_formed tables code live = formed_strands tables code live
 
-total_layers : (bs : List Block) → layer_total (map net_block bs) ≡ 2 * instruction_count bs + 2 * length bs
+pub total_layers : (bs : List Block) → layer_total (map net_block bs) ≡ 2 * instruction_count bs + 2 * length bs
 total_layers [] = refl
 total_layers (b ∷ bs) =
     let more = total_layers bs in

@@ -1,9 +1,9 @@
 -- How many registers a strand has to choose from, and how many strands compete with it.
-use Rattle.std.proofs.Common.{ℕ, zero, suc, ◌≡◌, ◌<◌, ◌≤◌, Bool, true, false, not, ◌&&◌, ◌||◌, cond, eqb, List, [], ◌∷◌, length, get_or, All, count_by, refl, sym, ap, ◌∙◌, subst, arith, inl, inr, ◌⊎◌, Option, Some}
+use Rattle.std.proofs.Common.{ℕ, zero, suc, ◌≡◌, ◌<◌, ◌≤◌, Bool, true, false, not, ◌&&◌, ◌||◌, cond, eqb, [], ◌∷◌, length, All, refl, sym, ap, ◌∙◌, subst, arith, inl, inr, ◌⊎◌, Option, Some}
 use Rattle.std.specs.List.{list_any}
 use Rattle.std.proofs.lemmas.Bool.{and_from, eqb-true, or_cases, false≢true}
 use Rattle.std.proofs.lemmas.List.Elements.{All-weaker}
-use Rattle.pra_list.proofs.Counts.{count-yes, count-cons}
+use Rattle.pra_list.proofs.Counts.{count-yes, some_count}
 use Rattle.pra_base.specs.declared.code.VarKind.{VarKind}
 use Rattle.pra_base.specs.declared.code.VarKind.TheVariants.{Param, Plain, Constant}
 use Rattle.pra_base.specs.declared.code.VInstr.{VInstr}
@@ -31,11 +31,6 @@ four m w =
     let c = count-yes p 2 (3 ∷ 4 ∷ 5 ∷ []) (wide_at m 2 w (omega arith)) in
     let d = count-yes p 3 (4 ∷ 5 ∷ []) (wide_at m 3 w (omega arith)) in
     omega (arith, a, b, c, d)
-
-some_count : {X : Type 0} (p : X → Bool) (xs : List X) (j : ℕ) (d : X) → j < length xs → p (get_or xs j d) ≡ true → 0 < count_by p xs
-some_count p [] j d lt is = absurd (omega (arith, lt))
-some_count p (x ∷ xs) zero d lt is = let e = count-yes p x xs is in omega (arith, e)
-some_count p (x ∷ xs) (suc j) d lt is = let e = count-cons p x xs in let more = some_count p xs j d (omega (arith, lt)) is in omega (arith, e, more)
 
 -- one of the first registers
 pub one : (m p : ℕ) → p < 6 → allows m p ≡ true → 0 < choices m

@@ -8,7 +8,7 @@ use Rattle.std.proofs.lemmas.List.Elements.{All-map, All-weaker}
 use Rattle.std.proofs.lemmas.List.FromFn.{length-range_with_len, get_or-map-range_with_len}
 use Rattle.std.proofs.lemmas.List.Sums.{prefix_len-le-length, sum_by-append}
 use Rattle.pra_list.proofs.Comprehensions.{All-filter_map, All-flat_map, All-range, All-enumerate, IfSome-test}
-use Rattle.pra_list.proofs.Counts.{count-cons, count-yes, count-no}
+use Rattle.pra_list.proofs.Counts.{count-cons, count-yes, count-no, some_count}
 use Rattle.pra_base.specs.declared.code.VProc.{VProc}
 use Rattle.pra_base.specs.Code.{kind_of}
 use Rattle.net_form.specs.declared.net.Strand.{Strand}
@@ -191,11 +191,6 @@ module _ (code : VProc) (live : Lives) (v b l : ℕ) where
   net_one_start ts least = let e = grouped_same ts least 0 (strands all_tables code live) in let one = one_start in omega (arith, e, one)
 
 -- ---- two strands of a variable are apart
-
-some_count : {X : Type 0} (p : X → Bool) (xs : List X) (j : ℕ) (d : X) → j < length xs → p (get_or xs j d) ≡ true → 0 < count_by p xs
-some_count p [] j d lt is = absurd (omega (arith, lt))
-some_count p (x ∷ xs) zero d lt is = let e = count-yes p x xs is in omega (arith, e)
-some_count p (x ∷ xs) (suc j) d lt is = let e = count-cons p x xs in let more = some_count p xs j d (omega (arith, lt)) is in omega (arith, e, more)
 
 two_pass : {X : Type 0} (p : X → Bool) (xs : List X) (i j : ℕ) (d : X) → i < j → j < length xs → p (get_or xs i d) ≡ true → p (get_or xs j d) ≡ true → 1 < count_by p xs
 two_pass p [] i j d lt in_ one two = absurd (omega (arith, in_))

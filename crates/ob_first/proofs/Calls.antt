@@ -1,6 +1,7 @@
 -- Calls and their arguments.
 use Rattle.std.proofs.Common.{◌≡◌, ℕ, suc, ◌+◌, ◌<◌, ◌≤◌, ◌⊎◌, inl, inr, Bool, true, false, List, [], ◌∷◌, ◌++◌, length, Option, Some, None, refl, ap, sym, subst, ◌∙◌, arith}
 use Rattle.std.specs.Prelude.{Ok, Err, nat_eq, if◌then◌else◌}
+use Rattle.pra_list.proofs.Results.{came_of}
 use Rattle.ob_syntax.specs.declared.checked.Meaning.{Meaning}
 use Rattle.ob_syntax.specs.declared.checked.Meaning.TheVariants.{Constant, TypeName, Variable, Procedure, Standard}
 use Rattle.ob_syntax.specs.declared.checked.Param.{Param}
@@ -20,7 +21,7 @@ use Rattle.ob_syntax.specs.Statements.{is_designator, lent_variable, lent, passe
 use Rattle.ob_first.specs.Faults.{Fails, AnyOf, NameFails}
 use Rattle.ob_first.specs.InExpressions.{InExpression}
 use Rattle.ob_first.specs.InStatements.{wanted, ArgumentsFail, CallFails, InCall}
-use Rattle.ob_first.proofs.Leads.{told, Leads, InOrder, alike, wide, after, behind, tested, nothing, same_value, came_of, ok_err, err_told, as_told}
+use Rattle.ob_first.proofs.Leads.{told, Leads, InOrder, alike, wide, after, behind, tested, nothing, same_value, ok_err, err_told, as_told}
 use Rattle.ob_first.proofs.Chains.{Stands, of_type_at}
 use Rattle.ob_first.proofs.UsedNames.{named}
 use Rattle.ob_first.proofs.ExpressionRules.{value_or_err}

@@ -1,6 +1,7 @@
 -- Declarations, production by production.
 use Rattle.std.proofs.Common.{◌∙◌, ◌≡◌, ℕ, ◌≤◌, ◌⊎◌, inl, inr, Bool, ◌||◌, List, [], ◌∷◌, length, refl, ap, sym, subst, arith}
 use Rattle.std.specs.Prelude.{Ok, Err, nat_eq}
+use Rattle.pra_list.proofs.Results.{came_of}
 use Rattle.ob_syntax.specs.declared.checked.Meaning.TheVariants as meaning
 use Rattle.ob_syntax.specs.declared.checked.Param.{Param}
 use Rattle.ob_syntax.specs.declared.tree.ConstDecl.{ConstDecl}
@@ -15,7 +16,7 @@ use Rattle.ob_syntax.specs.Types.{constant, type_expression}
 use Rattle.ob_first.specs.Faults.{Behind, value_or}
 use Rattle.ob_first.specs.InTypes.{InConstant, InType}
 use Rattle.ob_first.specs.InDeclarations.{behind_name, behind_names, NamesFail, InConstants, InTypeDeclarations, InVariables, InParameterType, InSections, InHeading}
-use Rattle.ob_first.proofs.Leads.{told, Leads, InOrder, alike, wide, after, after_behind, after_place, tested, nothing, told_joined, same_value, came_of}
+use Rattle.ob_first.proofs.Leads.{told, Leads, InOrder, alike, wide, after, after_behind, after_place, tested, nothing, told_joined, same_value}
 use Rattle.ob_first.proofs.Selections.{alone}
 use Rattle.ob_first.proofs.Calls.{ExpressionAt}
 use Rattle.ob_first.proofs.TypeRules.{constant_leads, NameAt, names_in_order, TypeAt, NamesOfType, NameListAt, of_type_in_order, lists_in_order}

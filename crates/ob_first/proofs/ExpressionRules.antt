@@ -1,6 +1,7 @@
 -- Expressions, production by production.
 use Rattle.std.proofs.Common.{◌≡◌, ℕ, ℤ, ◌+◌, ◌<◌, ◌≤◌, ◌⊎◌, inl, inr, List, map, Option, Some, None, refl, ap, sym, subst, ◌∙◌, arith}
 use Rattle.std.specs.Prelude.{Ok, Err}
+use Rattle.pra_list.proofs.Options.{not_both}
 use Rattle.ob_syntax.specs.declared.token.Kind.{Kind}
 use Rattle.ob_syntax.specs.declared.token.Kind.TheVariants as kind
 use Rattle.ob_syntax.specs.declared.checked.ROp.{ROp}
@@ -27,7 +28,7 @@ use Rattle.ob_syntax.specs.Names.{Fault, Judged, Place, used}
 use Rattle.ob_first.specs.Faults.{Fails, BothFail, AnyOf, NameFails}
 use Rattle.ob_first.specs.InExpressions as which
 use Rattle.ob_first.specs.InExpressions.{OperandFails, ChainFails, RelationFails, signed, bare, SelectorsFail, InExpression, InSimple, InTerm, InFactor, InSelector}
-use Rattle.ob_first.proofs.Leads.{told, Leads, InOrder, alike, wide, tested, both_tested, joined, told_joined, nothing, one_some, not_both}
+use Rattle.ob_first.proofs.Leads.{told, Leads, InOrder, alike, wide, tested, both_tested, joined, told_joined, nothing, one_some}
 use Rattle.ob_first.proofs.Chains.{Stands, of_type_at, operand_at, in_two, told_unit, chain}
 use Rattle.ob_first.proofs.Selections.{SelectorAt, ordered, regrouped, field_selector, index_selector, designated_leads}
 use Rattle.pra_list.proofs.Choices.{by_test}

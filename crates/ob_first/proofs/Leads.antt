@@ -135,14 +135,7 @@ InOrder P i (x ∷ xs) j = (k : ℕ) × (l : ℕ) × (i ≤ k) × P x k l × InO
 pub one_some : {A : Type 0} (o : Option A) (x y : A) → o ≡ Some x → o ≡ Some y → x ≡ y
 one_some o x y e e' = cc
 
-pub not_both : {A : Type 0} (o : Option A) (x : A) → o ≡ None → o ≡ Some x → ⊥
-not_both o x e e' = cc
-
 -- what came of a step came of a value
-pub came_of : {A B : Type 0} (r : Judged A) (g : A → Judged B) (y : B) → (r >>= g) ≡ Ok y → (x : A) × (r ≡ Ok x) × (g x ≡ Ok y)
-came_of (Ok x) g y e = (x, refl, e)
-came_of (Err f) g y e = absurd (cc)
-
 -- as `after`, where what breaks behind comes after what is told in front by other reasons
 pub behind : {A B : Type 0} (i j : ℕ) (a : Judged A) (g : A → Judged B) (P Q : Fault → Type 0) → Leads i j (told a) P
     → ((x : A) → a ≡ Ok x → Leads i j (told (g x)) Q) → ((f : Fault) → Q f → Lies i j f) → ((h f : Fault) → a ≡ Err h → Q f → Precedes h f)

@@ -1,6 +1,7 @@
 -- Procedures, and declarations as a whole.
 use Rattle.std.proofs.Common.{◌≡◌, ℕ, ◌<◌, ◌≤◌, ◌⊎◌, inl, inr, List, [], ◌∷◌, ◌++◌, map, refl, ap, sym, subst, ◌∙◌, arith}
 use Rattle.std.specs.Prelude.{Ok, Err, bytes_eq}
+use Rattle.pra_list.proofs.Results.{came_of}
 use Rattle.ob_syntax.specs.declared.checked.Draft.{Draft}
 use Rattle.ob_syntax.specs.declared.checked.Param.{Param}
 use Rattle.ob_syntax.specs.declared.checked.RStmt.{RStmt}
@@ -19,7 +20,7 @@ use Rattle.ob_first.specs.Faults.{AnyOf, Behind}
 use Rattle.ob_first.specs.InStatements.{InStatement}
 use Rattle.ob_first.specs.InDeclarations as which
 use Rattle.ob_first.specs.InDeclarations.{InConstants, InTypeDeclarations, InVariables, InHeading, PlaceBehind, all_behind, variables_behind, behind_step, behind_proc_step, behind_declarations, behind_procedure, InDeclarations, InProcedures, InProcedure}
-use Rattle.ob_first.proofs.Leads.{told, Leads, InOrder, alike, wide, after, after_behind, joined, nothing, told_joined, same_value, came_of}
+use Rattle.ob_first.proofs.Leads.{told, Leads, InOrder, alike, wide, after, after_behind, joined, nothing, told_joined, same_value}
 use Rattle.ob_first.proofs.Selections.{alone, regrouped}
 use Rattle.ob_first.proofs.Calls.{ExpressionAt}
 use Rattle.ob_first.proofs.StatementRules.{StatementAt, each_leads, items_in_order}

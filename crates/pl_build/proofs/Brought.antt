@@ -5,6 +5,7 @@ use Rattle.std.specs.List.{list_any}
 use Rattle.std.proofs.lemmas.Bool.{eq-eqb, lt-ltb}
 use Rattle.std.proofs.lemmas.List.{map-append}
 use Rattle.std.proofs.lemmas.Option.{slice_get_within}
+use Rattle.pra_base.proofs.Roles.{among_writes}
 use Rattle.pra_list.specs.Among.{Among}
 use Rattle.pra_base.specs.declared.ids.Place.{Place}
 use Rattle.pra_base.specs.declared.code.VInstr.{VInstr}
@@ -28,7 +29,7 @@ use Rattle.pl_place.specs.Behind.{Routed, strand_of, comes_to, brings, place_at,
 use Rattle.pl_routed.specs.Routed.{routed}
 use Rattle.pl_routed.proofs.Present.{live as live_of, edge_there, place_of_edge}
 use Rattle.pl_routed.proofs.Lives.{after_even}
-use Rattle.pl_routed.proofs.Roles.{among_writes, row_writes, roles_are}
+use Rattle.pl_routed.proofs.Roles.{row_writes, roles_are}
 use Rattle.pl_build.specs.Laid.{brought, or_eax, places_by, operands_by}
 
 -- ---- the pair of a variable is its edge

@@ -37,18 +37,6 @@ fn constant(kind: VarKind) -> Option<i32>
     }
 }
 
-// The number of the layer 0 of a strand's block, where the layers of all blocks are counted
-// together.
-fn base_of(net: &Net, strand: usize) -> u32
-    requires net { IsFormed net.now }
-    requires strand { strand < length net.now.strands }
-    ensures value { result ≡ first_layer net.now.blocks (strand_at net.now strand).block.0 }
-    ensures within { result + (strand_at net.now strand).last < layer_total net.now.blocks }
-{
-    let block = net.strands[strand].block;
-    net.index.layers[block.0 as usize]
-}
-
 // A list of no pairs for each layer.
 fn empty_layers(alloc: Global, net: &Net) -> Result<Vec<Seq<Pair>>, OutOfMemory>
     requires { IsFormed net.now }
@@ -91,7 +79,7 @@ fn add_path(
 {
     let var = net.strands[strand].var;
     let constant = constant(kind_of(code, var));
-    let mut at = base_of(net, strand) + net.strands[strand].first;
+    let mut at = net.entry_layer(strand) + net.strands[strand].first;
     let mut from = None;
     let mut rest = path;
     while let [to, others @ ..] = rest {

@@ -1,3 +1,4 @@
 pub mod MovesArePaid
+pub mod PlacedCode
 pub mod SampleIsBehind
 pub mod SampleIsPlaced

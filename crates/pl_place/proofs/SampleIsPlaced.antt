@@ -1,8 +1,6 @@
 -- The sample is valid placed code, rule by rule.
-use Rattle.std.proofs.Common.{◌≡◌, ◌≢◌, ℕ, zero, suc, ◌<◌, ◌⊎◌, inr, ⊎_elim, Bool, true, false, nat_eq, ◌||◌, List, [], ◌∷◌, length, slice_get, Some, refl, arith, lit≤, lit<}
+use Rattle.std.proofs.Common.{◌≡◌, ◌≢◌, ℕ, zero, suc, ◌<◌, ◌⊎◌, inr, ⊎_elim, true, List, [], ◌∷◌, slice_get, Some, refl, arith, lit≤, lit<}
 use Rattle.std.specs.Prelude.{ℤ, ◌↔◌, pos, ◌≤ℤ◌}
-use Rattle.std.proofs.lemmas.Bool.Decides.{nat_tests}
-use Rattle.pra_list.proofs.Truths.{or_cases}
 use Rattle.pra_base.specs.declared.ids.Place.{Place}
 use Rattle.pra_base.specs.declared.ids.Place.TheVariants.{Eax, Ecx, Mem, EaxM}
 use Rattle.pra_base.specs.declared.ids.VarId.{VarId}
@@ -26,70 +24,26 @@ use Rattle.pl_place.specs.Valid.{linstr_at, EachOp, EachMove, roles, OperandsPla
 use Rattle.pl_place.specs.Sample.{v0, v1, callee, word_0, caller, called, sample}
 use Rattle.pra_list.specs.Each.{EachAt}
 use Rattle.pra_list.proofs.Each.{each_at}
-
--- ---- facts about each element of a list
-
-abbrev InBlocks : (LInstr → Type 0) → List LBlock → Type 0
-InBlocks P blocks = EachAt (λ b block. EachAt (λ k i. P i) block.code) blocks
-
-in_blocks : (P : LInstr → Type 0) (p : LProc) → InBlocks P p.blocks → (b k : ℕ) (i : LInstr) → linstr_at p b k i → P i
-in_blocks P p each b k i h =
-    each_at (λ k i. P i) h.0.code (each_at (λ b block. EachAt (λ k i. P i) block.code) p.blocks each b h.0 h.1) k i h.2
-
-abbrev OfOp : (VInstr → List Place → Type 0) → LInstr → Type 0
-OfOp P (placed.Op i places) = P i places.items
-OfOp P (placed.Move m) = Unit {0}
-
-abbrev OfMove : (Move → Type 0) → LInstr → Type 0
-OfMove P (placed.Op i places) = Unit {0}
-OfMove P (placed.Move m) = P m
-
-each_op : (P : VInstr → List Place → Type 0) (p : LProc) → InBlocks (OfOp P) p.blocks → EachOp p P
-each_op P p each b k i places h = in_blocks (OfOp P) p each b k (placed.Op i places) h
-
-each_move : (P : Move → Type 0) (p : LProc) → InBlocks (OfMove P) p.blocks → EachMove p P
-each_move P p each b k m h = in_blocks (OfMove P) p each b k (placed.Move m) h
-
-abbrev InCode : (VInstr → Type 0) → List Block → Type 0
-InCode P blocks = EachAt (λ b block. EachAt (λ k i. P i) block.code) blocks
+use Rattle.pl_place.proofs.PlacedCode.{InBlocks, OfOp, OfMove, each_op, each_move, placed_at, InMemory, names_below}
 
 -- ---- operands
-
-abbrev Allowed : LProc → List Place → ℕ → Role → Type 0
-Allowed p places k role = allows (meet role.mask (own_places (kind_of p role.var))) (place_in places k) ≡ true
-
-abbrev Paired : List Place → List Role → ℕ → Role → Type 0
-Paired places all k one = EachAt (λ j other. one.memory ≡ true → other.memory ≡ true → k ≢ j → is_mem (place_in places k) ≡ true → is_mem (place_in places j) ≡ false) all
-
--- where nothing is written in place
-placed_at : (p : LProc) (i : VInstr) (places : List Place) → length places ≡ length (roles i) → EachAt (Allowed p places) (roles i) →
-    ((k j : ℕ) (read write : Role) → slice_get (operands i).reads k ≡ Some read → slice_get (operands i).writes j ≡ Some write → ⊥) →
-    EachAt (Paired places (roles i)) (roles i) → OperandsPlaced p i places
-placed_at p i places count allowed none pairs = record {
-  count = count;
-  allowed = λ k role h. each_at (Allowed p places) (roles i) allowed k role h;
-  in_place = λ k j read write r w same. absurd (none k j read write r w);
-  pair = λ k j one other a b m n ne mem.
-      each_at (λ j other. one.memory ≡ true → other.memory ≡ true → k ≢ j → is_mem (place_in places k) ≡ true → is_mem (place_in places j) ≡ false) (roles i)
-      (each_at (Paired places (roles i)) (roles i) pairs k one a) j other b m n ne mem;
-}
 
 caller_operands : EachOp caller (OperandsPlaced caller)
 caller_operands = each_op (OperandsPlaced caller) caller (
   (
-    placed_at caller Clear [] refl tt (λ k j read write r w. cc) tt,
+    placed_at caller Clear [] refl tt tt tt,
     (
-      placed_at caller (Set v0 (pos 5)) (Eax ∷ []) refl (refl, tt) (λ k j read write r w. cc) (((λ m n ne mem. cc), tt), tt),
+      placed_at caller (Set v0 (pos 5)) (Eax ∷ []) refl (refl, tt) tt (((λ m n ne mem. cc), tt), tt),
       (
         tt,
         (
-          placed_at caller (Push v0) (EaxM ∷ []) refl (refl, tt) (λ k j read write r w. cc) (((λ m n ne mem. cc), tt), tt),
+          placed_at caller (Push v0) (EaxM ∷ []) refl (refl, tt) (tt, tt) (((λ m n ne mem. cc), tt), tt),
           (
-            placed_at caller (Call callee) [] refl tt (λ k j read write r w. cc) tt,
+            placed_at caller (Call callee) [] refl tt tt tt,
             (
-              placed_at caller (Load v1 word_0) (Ecx ∷ []) refl (refl, tt) (λ k j read write r w. cc) (((λ m n ne mem. cc), tt), tt),
+              placed_at caller (Load v1 word_0) (Ecx ∷ []) refl (refl, tt) tt (((λ m n ne mem. cc), tt), tt),
               (
-                placed_at caller (Cmp v1 v0) (Ecx ∷ Mem ∷ []) refl (refl, (refl, tt)) (λ k j read write r w. cc)
+                placed_at caller (Cmp v1 v0) (Ecx ∷ Mem ∷ []) refl (refl, (refl, tt)) (tt, (tt, tt))
                     (((λ m n ne mem. cc), ((λ m n ne mem. cc), tt)), (((λ m n ne mem. refl), ((λ m n ne mem. absurd (ne refl)), tt)), tt)),
                 tt,
               ),
@@ -101,9 +55,6 @@ caller_operands = each_op (OperandsPlaced caller) caller (
   ),
   (tt, tt),
 )
-
-abbrev InMemory : LProc → List Place → ℕ → Role → Type 0
-InMemory p places k role = is_mem (place_in places k) ≡ true → HasMemory p role.var
 
 slot_0 : HasMemory caller 0
 slot_0 = inr (0, v0, refl, refl)
@@ -215,49 +166,25 @@ caller_checks = of_caller InRange ((λ v n e. cc), ((λ v n e. cc), ((λ v n e. 
 
 -- ---- numbers
 
-names_one : (v w : ℕ) → (nat_eq w v ≡ true) → v ≡ w
-names_one v w h = grind (arith, nat_tests)
-
-below_two : (v w : ℕ) → w < 2 → nat_eq w v ≡ true → v < 2
-below_two v w lt h = let e : v ≡ w = names_one v w h in omega arith
-
-or_none : (a : Bool) → (a || false) ≡ true → a ≡ true
-or_none true h = refl
-or_none false h = cc
-
-no_names : (v : ℕ) → (false ≡ true) ⊎ (false ≡ true) → v < 2
-no_names v h = ⊎_elim (λ (e : false ≡ true). cc) (λ (e : false ≡ true). cc) h
-
-one_name : (v w : ℕ) → w < 2 → (nat_eq w v || false) ≡ true → v < 2
-one_name v w lt h = below_two v w lt (or_none (nat_eq w v) h)
-
-two_names : (v : ℕ) → (nat_eq 1 v || (nat_eq 0 v || false)) ≡ true → v < 2
-two_names v h =
-    ⊎_elim (λ (e : nat_eq 1 v ≡ true). below_two v 1 (lit< tt) e) (λ (e : (nat_eq 0 v || false) ≡ true). one_name v 0 (lit< tt) e)
-    (or_cases (nat_eq 1 v) (nat_eq 0 v || false) h)
-
-none_true : {A : Type 0} → false ≡ true → A
-none_true e = cc
-
 abbrev NamesWithin : VInstr → List Place → Type 0
 NamesWithin i places = (v : ℕ) → Names i v → v < 2
 
 caller_names : EachOp caller NamesWithin
 caller_names = each_op NamesWithin caller (
   (
-    (λ v h. no_names v h),
+    names_below 2 Clear tt tt tt,
     (
-      (λ v h. ⊎_elim (λ (e : false ≡ true). none_true e) (λ (e : (nat_eq 0 v || false) ≡ true). one_name v 0 (lit< tt) e) h),
+      names_below 2 (Set v0 (pos 5)) tt tt (lit< tt, tt),
       (
         tt,
         (
-          (λ v h. ⊎_elim (λ (e : (nat_eq 0 v || false) ≡ true). one_name v 0 (lit< tt) e) (λ (e : false ≡ true). none_true e) h),
+          names_below 2 (Push v0) (lit< tt, tt) tt tt,
           (
-            (λ v h. no_names v h),
+            names_below 2 (Call callee) tt tt tt,
             (
-              (λ v h. ⊎_elim (λ (e : false ≡ true). none_true e) (λ (e : (nat_eq 1 v || false) ≡ true). one_name v 1 (lit< tt) e) h),
+              names_below 2 (Load v1 word_0) tt tt (lit< tt, tt),
               (
-                (λ v h. ⊎_elim (λ (e : (nat_eq 1 v || (nat_eq 0 v || false)) ≡ true). two_names v e) (λ (e : false ≡ true). none_true e) h),
+                names_below 2 (Cmp v1 v0) (lit< tt, (lit< tt, tt)) tt tt,
                 tt,
               ),
             ),

@@ -2,6 +2,7 @@
 use Rattle.std.proofs.Common.{◌≡◌, ◌≢◌, ℕ, ℤ, suc, ◌+◌, ◌*◌, ◌%◌, ◌⊎◌, inl, inr, ⊎_elim, Bool, true, false, nat_eq, if◌then◌else◌, List, [], ◌∷◌, ◌++◌, length, map, drop, Option, Some, refl, sym, ap, subst, ◌∙◌, arith, lit<}
 use Rattle.std.specs.Prelude.{option_map}
 use Rattle.std.specs.List.{list_any}
+use Rattle.pra_base.proofs.Roles.{writes_among, among_writes}
 use Rattle.pra_list.proofs.Elements.{head_same, tail_same, nil_cons}
 use Rattle.pra_list.proofs.Truths.{true_false, truth}
 use Rattle.pra_list.specs.Among.{Among}
@@ -37,7 +38,7 @@ use Rattle.pl_routed.proofs.Present.From.{Begins, Goes}
 use Rattle.pl_routed.proofs.Masks.{is_single, one_cell, kept_out, place_of_role, place_kept}
 use Rattle.pl_routed.proofs.Lives.{was_present}
 use Rattle.pl_routed.proofs.Sources.{each_cell, const_or}
-use Rattle.pl_routed.proofs.Roles.{writes_among, among_writes, row_writes, written_role, roles_are, not_coming, clobbered_is}
+use Rattle.pl_routed.proofs.Roles.{row_writes, written_role, roles_are, not_coming, clobbered_is}
 use Rattle.pl_routed.proofs.Transferred.{At, alloc, edge_of, of_edge, same_kind}
 
 cons_nil : {X : Type 0} (x : X) (xs : List X) → x ∷ xs ≡ [] → ⊥

@@ -3,7 +3,6 @@ use Rattle.std.proofs.Common.{◌≡◌, ℕ, ◌+◌, ◌-◌, ◌*◌, ◌/◌
 use Rattle.std.specs.List.{list_any}
 use Rattle.std.proofs.lemmas.Bool.Decides.{nat_tests}
 use Rattle.std.proofs.lemmas.List.Folds.{list_any-append}
-use Rattle.pra_list.proofs.Truths.{or_right, or_left, or_cases, nat_is, itself}
 use Rattle.pra_list.specs.Among.{Among}
 use Rattle.pra_base.specs.declared.code.VInstr.{VInstr}
 use Rattle.pra_base.specs.declared.code.VProc.{VProc}
@@ -16,35 +15,6 @@ use Rattle.pl_routed.proofs.Lives.{after_even}
 
 turned : (a b : ℕ) → nat_eq a b ≡ nat_eq b a
 turned a b = grind (arith, nat_tests)
-
--- ---- the written variables
-
-among_any : (xs : List ℕ) (v : ℕ) → list_any (nat_eq v) xs ≡ true → Among v xs
-among_any [] v e = cc
-among_any (x ∷ xs) v e = ⊎_elim (λ (a : nat_eq v x ≡ true). inl (nat_is v x a)) (λ (b : list_any (nat_eq v) xs ≡ true). inr (among_any xs v b)) (or_cases (nat_eq v x) _ e)
-
-any_among : (xs : List ℕ) (v : ℕ) → Among v xs → list_any (nat_eq v) xs ≡ true
-any_among [] v i = absurd i
-any_among (x ∷ xs) v i =
-    ⊎_elim (λ (e : v ≡ x). or_left (nat_eq v x) _ (ap (nat_eq v) (sym e) ∙ itself v)) (λ (more : Among v xs). or_right (nat_eq v x) _ (any_among xs v more)) i
-
-roles_any : (roles : List Role) (v : ℕ) → list_any (is_role_of v) roles ≡ list_any (nat_eq v) (map var_of roles)
-roles_any [] v = refl
-roles_any (x ∷ roles) v = ap₂ (λ a b. a || b) (turned x.var v) (roles_any roles v)
-
-pub writes_among : (i : VInstr) (v : ℕ) → writes i v ≡ true → Among v (written_by i)
-writes_among i v e =
-    ⊎_elim
-    (λ (a : list_any (nat_eq v) (table i).in_place ≡ true). in_left (table i).in_place _ v (among_any (table i).in_place v a))
-    (λ (b : list_any (is_role_of v) (table i).writes ≡ true). in_right (table i).in_place _ v (among_any (map var_of (table i).writes) v (sym (roles_any (table i).writes v) ∙ b)))
-    (or_cases (list_any (nat_eq v) (table i).in_place) _ e)
-
-pub among_writes : (i : VInstr) (v : ℕ) → Among v (written_by i) → writes i v ≡ true
-among_writes i v k =
-    ⊎_elim
-    (λ (a : Among v (table i).in_place). or_left (list_any (nat_eq v) (table i).in_place) _ (any_among (table i).in_place v a))
-    (λ (b : Among v (map var_of (table i).writes)). or_right (list_any (nat_eq v) (table i).in_place) _ (roles_any (table i).writes v ∙ any_among (map var_of (table i).writes) v b))
-    (in_either (table i).in_place (map var_of (table i).writes) v k)
 
 -- ---- the roles of its row
 

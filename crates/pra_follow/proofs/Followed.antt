@@ -45,7 +45,7 @@ use Rattle.vc_stmt.specs.Procedures.{Embodies, AreEmbodied}
 use Rattle.vc_typed.specs.TypedModules.{IsSelectable}
 use Rattle.pra_follow.specs.Follows.{DoesAsMeant, FollowsModule}
 use Rattle.pra_follow.specs.Translation.{Translation, AreTranslations, behind}
-use Rattle.pra_follow.proofs.Assembled.{faithful}
+use Rattle.ia_carries.proofs.Assembled.{faithful}
 use Rattle.pra_follow.proofs.Sides.{mapped, both_mapped, same_maps}
 
 -- ---- words

@@ -1,4 +1,3 @@
-pub mod Assembled
 pub mod Followed
 pub mod Little
 pub mod Room

@@ -23,7 +23,7 @@ use Rattle.vc_typed.specs.TypedModules.{scalar_locals, IsLimited}
 use Rattle.vc_typed.proofs.Lists.{got}
 use Rattle.vc_short.specs.Short.{IsShort}
 use Rattle.pra_follow.specs.Translation.{Translation, IsTranslation, AreTranslations, behind}
-use Rattle.pra_follow.proofs.Assembled.{room_for_one}
+use Rattle.ia_carries.proofs.Assembled.{room_for_one}
 use Rattle.pra_follow.proofs.Little.{few_instructions, few_blocks}
 use Rattle.pra_follow.proofs.Sides.{mapped}
 use Rattle.pra_follow.proofs.Sums.{sum_of_front}

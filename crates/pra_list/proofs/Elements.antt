@@ -74,3 +74,8 @@ got_unset (x ∷ xs) zero zero z apart = absurd (apart refl)
 got_unset (x ∷ xs) zero (suc j) z apart = refl
 got_unset (x ∷ xs) (suc k) zero z apart = refl
 got_unset (x ∷ xs) (suc k) (suc j) z apart = got_unset xs k j z (λ e. apart (ap suc e))
+
+pub length_set : {A : Type 0} (xs : List A) (i : ℕ) (y : A) → length (slice_set xs i y) ≡ length xs
+length_set [] i y = refl
+length_set (x ∷ xs) zero y = refl
+length_set (x ∷ xs) (suc i) y = omega (arith, length_set xs i y)

@@ -6,4 +6,5 @@ pub mod Each
 pub mod Elements
 pub mod Mapped
 pub mod Options
+pub mod Results
 pub mod Truths

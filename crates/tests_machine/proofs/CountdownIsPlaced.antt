@@ -22,7 +22,7 @@ use Rattle.ia_emit.specs.Operands.{IsSmall}
 use Rattle.ia_emit.proofs.FewBytes.{few_bytes}
 use Rattle.ia_asm.specs.Assembly.{CanAssemble}
 use Rattle.tests_machine.specs.Countdown.{argument, less, nought, one, callee, body, down, countdown}
-use Rattle.tests_machine.proofs.PlacedCode.{InBlocks, OfOp, OfMove, each_op, each_move, each_instr, no_clear, placed_at, InMemory, names_below}
+use Rattle.pl_place.proofs.PlacedCode.{InBlocks, OfOp, OfMove, each_op, each_move, each_instr, no_clear, placed_at, InMemory, names_below}
 
 -- ---- operands
 

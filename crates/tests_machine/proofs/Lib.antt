@@ -1,3 +1,2 @@
 pub mod CountdownIsPlaced
 pub mod EmptyIsPlaced
-pub mod PlacedCode

@@ -23,7 +23,7 @@ is_written : (a v : ℕ) → ((nat_eq v a || false) || false) ≡ true → v ≡
 is_written a v e = grind (arith, nat_tests)
 
 -- a constant is no local variable
-plain_constant : (n : ℤ) → Plain ≡ Constant n → ⊥
+pub plain_constant : (n : ℤ) → Plain ≡ Constant n → ⊥
 plain_constant n e = cc
 
 other_than : (b : Bool) → b ≡ false → b ≡ true → ⊥

@@ -5,7 +5,8 @@ use Rattle.std.specs.Ordering.{int_eq}
 use Rattle.std.specs.Int.{w32}
 use Rattle.std.specs.Int.RustNames.{FitsSigned}
 use Rattle.std.proofs.lemmas.Bool.Decides.{same_from_decides, Decides-eqb, Decides-int_eq}
-use Rattle.std.proofs.lemmas.Int.{ints, to_z-of_z}
+use Rattle.std.proofs.lemmas.Int.{to_z-of_z}
+use Rattle.vc_expr.proofs.Truths.{truth_fits}
 use Rattle.pra_base.specs.Code.{kind_of}
 use Rattle.pra_base.specs.Words.{word, signed, compares, truth}
 use Rattle.pra_base.specs.declared.ids.VarId.{VarId}
@@ -50,10 +51,6 @@ by_numbers test a b f g = ap (λ x. test x (signed (word b))) (back a f) ∙ ap 
 word_of_truth : (b : Bool) → truth b ≡ word (number (Truth b))
 word_of_truth true = refl
 word_of_truth false = refl
-
-truth_fits : (b : Bool) → FitsSigned w32 (number (Truth b))
-truth_fits true = omega (arith, ints)
-truth_fits false = omega (arith, ints)
 
 module _ (first at : ℕ) (old : VProc) (target left right : VarId) (o : IsOpen old at) (is_new : target.0 ≡ length old.vars) (low : first ≤ length old.vars) (k : Cond) (op : ROp) (related : ℤ → ℤ → Bool)
     (is : (x y : Value) → of_values op x y ≡ Ok (Truth (related (number x) (number y))))

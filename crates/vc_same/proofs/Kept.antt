@@ -1,6 +1,7 @@
 -- Where the instructions of reduced code come from, and what is needed there.
 use Rattle.std.proofs.Common.{◌≡◌, ◌≢◌, ℕ, zero, suc, ◌+◌, ◌≤◌, ◌⊎◌, inl, ⊎_elim, true, false, List, [], ◌∷◌, drop, slice_get, Option, Some, None, refl, sym, ap, subst, ◌∙◌, arith}
 use Rattle.std.proofs.lemmas.Bool.{cases_eq}
+use Rattle.pra_base.proofs.Roles.{writes_among, among_reads}
 use Rattle.pra_list.proofs.Elements.{nothing_left, left_begins}
 use Rattle.pra_list.proofs.Truths.{true_false, false_from}
 use Rattle.pra_list.proofs.Options.{some_same, not_both}
@@ -17,7 +18,7 @@ use Rattle.vc_same.specs.Renaming.{Names, renamed}
 use Rattle.vc_same.specs.Reduction.{Needed, Stays, LeftOut, Part, Reduced}
 use Rattle.vc_same.specs.Reduction.LeftOut.{dead, copied}
 use Rattle.vc_same.specs.Reduction.Part.{ends, stays, left_out}
-use Rattle.vc_same.proofs.Renamed.{writes_among, among_reads, reads_from, writes_renamed}
+use Rattle.vc_same.proofs.Renamed.{reads_from, writes_renamed}
 use Rattle.vc_same.proofs.Paths.{needed_read, needed_over, needed_leave}
 
 module _ (to : Names) (old new : VProc) (b : ℕ) where

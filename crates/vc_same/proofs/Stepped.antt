@@ -2,6 +2,7 @@
 use Rattle.std.proofs.Common.{◌≡◌, ◌≢◌, ℕ, suc, ◌<◌, ◌⊎◌, inl, inr, ⊎_elim, Bool, true, false, nat_lt, if◌then◌else◌, List, [], ◌∷◌, drop, length, map, slice_get, slice_index_or, Option, Some, None, refl, sym, ap, ap₂, subst, ◌∙◌, arith}
 use Rattle.std.proofs.lemmas.Bool.{cases_eq}
 use Rattle.std.proofs.lemmas.Option.{get_or_from_slice_get, slice_get-get_or, slice_get_within}
+use Rattle.pra_base.proofs.Roles.{among_reads, writes_among, among_writes}
 use Rattle.pra_list.proofs.Elements.{nothing_left, left_begins}
 use Rattle.pra_list.proofs.Truths.{true_false, truth, false_from, if_true, if_false}
 use Rattle.pra_list.specs.Among.{Among}
@@ -39,7 +40,7 @@ use Rattle.vc_same.specs.Reduction.LeftOut.{dead, copied}
 use Rattle.vc_same.specs.Reduction.Part.{ends, stays, left_out}
 use Rattle.vc_coupling.specs.Coupled.{AllBeside, Same, Leads}
 use Rattle.vc_coupling.proofs.Applied.{found_same, with_top_same, ended_same, performed}
-use Rattle.vc_same.proofs.Renamed.{among_reads, writes_among, among_writes, read_by_renamed, written_by_renamed, reads_renamed, writes_from, operate_renamed}
+use Rattle.vc_same.proofs.Renamed.{read_by_renamed, written_by_renamed, reads_renamed, writes_from, operate_renamed}
 use Rattle.vc_same.proofs.Put.{put_rest, put_one, put_both}
 use Rattle.vc_same.proofs.Paths.{needed_read, needed_over, needed_leave}
 use Rattle.vc_same.proofs.Tracked.{Counts, Tracks, couples, begun_tracks}

@@ -3,6 +3,7 @@ use Rattle.std.proofs.Common.{◌≡◌, ℕ, zero, suc, ◌+◌, ◌*◌, ◌/�
 use Rattle.std.specs.List.{list_any}
 use Rattle.std.proofs.lemmas.List.Sums.{sum_by-cons}
 use Rattle.std.proofs.lemmas.Bool.Decides.{nat_tests}
+use Rattle.pra_base.proofs.Roles.{among_reads, among_writes}
 use Rattle.pra_list.proofs.Truths.{true_false, false_from}
 use Rattle.pra_list.proofs.Options.{some_same, not_both}
 use Rattle.pra_base.specs.declared.ids.VarId.{VarId}
@@ -23,7 +24,7 @@ use Rattle.vc_same.specs.Renaming.{Names, var, renamed}
 use Rattle.vc_same.specs.Reduction.{Needed, LeftOut, Part, Reduced, ParamsApart}
 use Rattle.vc_same.specs.Reduction.LeftOut.{dead, copied}
 use Rattle.vc_same.specs.Reduction.Part.{ends, stays, left_out}
-use Rattle.vc_same.proofs.Renamed.{among_reads, among_writes, reads_from, writes_from, only_writes_from}
+use Rattle.vc_same.proofs.Renamed.{reads_from, writes_from, only_writes_from}
 use Rattle.vc_same.proofs.Forms.{from_check, from_copy, from_division, from_clear, cell_renamed, lead_renamed, lead_pure}
 use Rattle.vc_same.specs.SameRuns.{Preserves}
 use Rattle.vc_same.proofs.Carried.{same_runs, runs_on, runs_itself}

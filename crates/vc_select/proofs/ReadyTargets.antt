@@ -25,7 +25,7 @@ use Rattle.vc_expr.specs.Rules.{Obeys, StaysValid}
 use Rattle.vc_expr.proofs.Added.{put_valid, same_valid, plain_valid, constant_valid, valid_on}
 use Rattle.vc_expr.proofs.Certificates.{put_written, put_kept, put_certifies, declare_certifies, declare_usable}
 use Rattle.vc_expr.proofs.Counting.{adds_on, plain_adds, constant_adds, put_adds}
-use Rattle.vc_expr.proofs.Obeys.{is_first, is_either}
+use Rattle.vc_expr.proofs.Obeys.{is_first, is_either, plain_constant}
 use Rattle.vc_expr.proofs.Published.{new_constant}
 use Rattle.vc_relation.specs.declared.home.Home.{Home}
 use Rattle.vc_relation.specs.declared.home.Home.TheVariants as home
@@ -201,9 +201,6 @@ module _ (g : Setting) where
 
 -- ---- the instructions
 
-plain_constant : (n : ℤ) → Plain ≡ Constant n → ⊥
-plain_constant n e = cc
-
 in_address : (u : ℕ) (b : Base) (i : Option VarId) → list_any (is_role_of u) (via b ++ index i) ≡ true → InBase b u ⊎ InIndex i u
 in_address u (base.Via v) None e = inl (is_first v.0 u e)
 in_address u (base.Via v) (Some w) e = is_either v.0 w.0 u e
@@ -214,7 +211,7 @@ in_address u (base.Frame n) (Some w) e = inr (is_first w.0 u e)
 in_address u (base.Cell n) None e = absurd (cc)
 in_address u (base.Cell n) (Some w) e = inr (is_first w.0 u e)
 
-cell_named : (b : Base) (k : ℕ) → cell_of b ≡ Some k → CellOfBase b k
+pub cell_named : (b : Base) (k : ℕ) → cell_of b ≡ Some k → CellOfBase b k
 cell_named (base.Cell n) k e = cc
 cell_named (base.Via v) k e = absurd (cc)
 cell_named (base.Global n) k e = absurd (cc)

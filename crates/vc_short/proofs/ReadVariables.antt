@@ -1,6 +1,7 @@
 -- What is read of a module has as many variables as its tree has names of variables.
 use Rattle.std.proofs.Common.{◌≡◌, ℕ, ◌+◌, List, [], ◌∷◌, ◌++◌, length, map, ap, sym, ◌∙◌, subst, arith, length-append}
 use Rattle.std.specs.Prelude.{Ok}
+use Rattle.pra_list.proofs.Results.{came_of}
 use Rattle.pra_list.specs.Results.{◌>>=◌}
 use Rattle.ob_syntax.specs.declared.checked.Draft.{Draft}
 use Rattle.ob_syntax.specs.declared.checked.Meaning.TheVariants.{Variable}
@@ -20,7 +21,7 @@ use Rattle.ob_syntax.specs.Declarations.{all_announced, own_root, shown, with_va
 use Rattle.ob_syntax.specs.Names.{Place}
 use Rattle.ob_syntax.specs.Statements.{each, statement}
 use Rattle.ob_syntax.specs.Types.{type_expression}
-use Rattle.vc_typed.proofs.Bindings.{came_of, ok_same}
+use Rattle.vc_typed.proofs.Bindings.{ok_same}
 use Rattle.vc_short.proofs.Totals.{added, names_in_lists, decls_names, proc_names, names_in, names_of}
 
 -- ---- lists of variables

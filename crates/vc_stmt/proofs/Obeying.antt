@@ -3,6 +3,7 @@ use Rattle.std.proofs.Common.{◌≡◌, ◌≢◌, ℕ, ◌<◌, true, false, L
 use Rattle.std.specs.Prelude.{ℤ, ◌++◌, slice_get, slice_index_or}
 use Rattle.std.specs.List.{list_any}
 use Rattle.std.proofs.lemmas.List.Folds.{list_any-append}
+use Rattle.vc_select.proofs.ReadyTargets.{cell_named}
 use Rattle.pra_list.proofs.Truths.{or_cases, false_from}
 use Rattle.pra_base.specs.Code.{cell_of}
 use Rattle.pra_base.specs.Operands.{Role, reads, writes, via, index, is_role_of, addressed}
@@ -42,12 +43,6 @@ in_address u a e = ⊎_elim
     (λ (b : list_any (is_role_of u) (via a.base) ≡ true). inl (in_via u a.base b))
     (λ (i : list_any (is_role_of u) (index a.index) ≡ true). inr (in_index u a.index i))
     (in_either u (via a.base) (index a.index) e)
-
-cell_named : (b : Base) (k : ℕ) → cell_of b ≡ Some k → CellOfBase b k
-cell_named (base.Cell n) k e = cc
-cell_named (base.Via v) k e = absurd (cc)
-cell_named (base.Global n) k e = absurd (cc)
-cell_named (base.Frame n) k e = absurd (cc)
 
 -- what a Store reads: the variables of its address, and the value
 pub store_reads : (a : Addr) (s : VarId) (u : ℕ) → reads (Store a s) u ≡ true → InTarget (Memory a) u ⊎ (u ≡ s.0)

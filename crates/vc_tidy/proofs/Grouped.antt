@@ -5,6 +5,7 @@ use Rattle.std.proofs.lemmas.Bool.Decides.{nat_tests}
 use Rattle.std.proofs.lemmas.List.{get_or_past, get_or-set_same, get_or-set_other, length-set}
 use Rattle.std.proofs.lemmas.List.Elements.{All-nil, All-cons, All-append, All-weaker, All-contains, Contains-append_left, Contains-append_right, Contains-push}
 use Rattle.std.proofs.lemmas.Option.{slice_get-get_or, slice_get_within}
+use Rattle.pra_base.proofs.Roles.{among_reads, among_writes}
 use Rattle.pra_list.proofs.Truths.{true_false, truth, nat_is}
 use Rattle.pra_list.proofs.Options.{some_same}
 use Rattle.pra_base.specs.declared.ids.VarId.{VarId}
@@ -16,7 +17,6 @@ use Rattle.pra_base.specs.Code.{kind_of, code_of, instr_at}
 use Rattle.pra_base.specs.Operands.{reads}
 use Rattle.pra_base.specs.Valid.{IsSized, IsValid}
 use Rattle.vc_same.specs.SameRuns.{Preserves}
-use Rattle.vc_same.proofs.Renamed.{among_reads, among_writes}
 use Rattle.vc_tidy.specs.Tidy.{is_between, CanBeOne, NoCopyAt}
 use Rattle.vc_tidy.specs.Joined.{name, is_joined, joined_code, AreNames, IsPlain, Meets, SomeMeet, NoneMeet, group_of, IsLike, AreClasses, AreAlone, AreTried, IsFound, IsNoCopy}
 use Rattle.vc_tidy.specs.declared.classes.Classes.{Classes}

@@ -3,7 +3,8 @@ use Rattle.std.proofs.Common.{◌≡◌, ℕ, zero, suc, ◌+◌, ◌<◌, ◌�
 use Rattle.std.specs.List.{list_any}
 use Rattle.std.proofs.lemmas.Bool.Decides.{nat_tests}
 use Rattle.std.proofs.lemmas.List.{length-map, drop_more, drop_all}
-use Rattle.std.proofs.lemmas.List.Sums.{sum_by-cons}
+use Rattle.vc_tidy.proofs.Thin.{count_more}
+use Rattle.pra_base.proofs.Roles.{among_reads, among_writes}
 use Rattle.pra_list.proofs.Elements.{left_begins}
 use Rattle.pra_list.proofs.Truths.{truth, if_true, if_false}
 use Rattle.pra_list.proofs.Options.{some_same, not_both}
@@ -22,7 +23,6 @@ use Rattle.vc_same.specs.Reduction.{Needed, Part, Reduced, ParamsApart, IsNamed}
 use Rattle.vc_same.specs.Reduction.LeftOut.{copied}
 use Rattle.vc_same.specs.Reduction.Part.{ends, stays, left_out}
 use Rattle.vc_same.specs.SameRuns.{Preserves}
-use Rattle.vc_same.proofs.Renamed.{among_reads, among_writes}
 use Rattle.vc_same.proofs.Valid.{preserves}
 use Rattle.vc_tidy.specs.Joined.{name, is_joined, joined, joined_block, joined_code, HasJoined}
 
@@ -167,9 +167,6 @@ joined_less names (x ∷ xs) (suc k) i is e = by (is_joined names x) refl (joine
     by : (b : Bool) → is_joined names x ≡ b → length (joined names xs) < length xs → length (joined names (x ∷ xs)) < length (x ∷ xs)
     by true e lt = let l : length (joined names (x ∷ xs)) ≡ length (joined names xs) = ap length (joined_more names x xs ∙ if_true (is_joined names x) _ _ e) in omega (arith, l, lt)
     by false e lt = let l : length (joined names (x ∷ xs)) ≡ suc (length (joined names xs)) = ap length (joined_more names x xs ∙ if_false (is_joined names x) _ _ e) in omega (arith, l, lt)
-
-count_more : (x : Block) (xs : List Block) → instruction_count (x ∷ xs) ≡ length x.code + instruction_count xs
-count_more x xs = sum_by-cons (λ (c : Block). length c.code) x xs
 
 blocks_shorter : (names : List ℕ) (xs : List Block) → instruction_count (map (joined_block names) xs) ≤ instruction_count xs
 blocks_shorter names [] = omega arith

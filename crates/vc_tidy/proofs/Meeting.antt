@@ -6,6 +6,7 @@ use Rattle.std.proofs.lemmas.Option.{slice_get_within, slice_get-get_or}
 use Rattle.std.proofs.lemmas.Bool.{cases_lt}
 use Rattle.std.proofs.lemmas.List.{get_or_past, take_all}
 use Rattle.std.proofs.lemmas.List.Elements.{All-contains}
+use Rattle.pra_base.proofs.Roles.{roles_among, among_roles}
 use Rattle.pra_list.proofs.Truths.{true_false, truth, or_right, or_left, or_cases}
 use Rattle.pra_list.proofs.Options.{some_same, not_both}
 use Rattle.pra_base.specs.declared.code.VarKind.{VarKind}
@@ -30,7 +31,7 @@ use Rattle.vc_same.specs.Reduction.{Needed}
 use Rattle.vc_same.proofs.Paths.{needed_read, needed_over}
 use Rattle.pra_list.specs.Among.{Among}
 use Rattle.pra_list.proofs.Among.{in_map}
-use Rattle.vc_same.proofs.Renamed.{roles_among, among_roles, reads_renamed, only_written_renamed}
+use Rattle.vc_same.proofs.Renamed.{reads_renamed, only_written_renamed}
 use Rattle.vc_tidy.specs.Tidy.{IsPresent, is_between, in_place, block_as_one, as_one, CanBeOne}
 use Rattle.vc_tidy.specs.declared.places.Place.{Place}
 use Rattle.vc_tidy.specs.Joined.{IsKnown, IsPlain, MeetsAt, Meets, is_met, places_of, HasPlaces}

@@ -81,7 +81,7 @@ module _ (exit : ℕ → Bool) (code : List VInstr) (left next : ℕ) (i d : VIn
 
 -- ---- thinned blocks of code
 
-count_more : (x : Block) (xs : List Block) → instruction_count (x ∷ xs) ≡ length x.code + instruction_count xs
+pub count_more : (x : Block) (xs : List Block) → instruction_count (x ∷ xs) ≡ length x.code + instruction_count xs
 count_more x xs = sum_by-cons (λ (c : Block). length c.code) x xs
 
 -- blocks that are no longer one by one, and as long together, are as long one by one

@@ -6,11 +6,6 @@ use Rattle.ob_syntax.specs.Names.{Fault, Judged}
 use Rattle.ob_syntax.specs.declared.checked.RExpr.{RExpr}
 use Rattle.ob_syntax.specs.declared.checked.Typed.{Typed}
 use Rattle.pra_list.proofs.Choices.{by_test}
-use Rattle.pra_list.specs.Results.{◌>>=◌}
-
-pub came_of : {A B : Type 0} (r : Judged A) (g : A → Judged B) (y : B) → (r >>= g) ≡ Ok y → (x : A) × (r ≡ Ok x) × (g x ≡ Ok y)
-came_of (Ok x) g y e = (x, refl, e)
-came_of (Err f) g y e = absurd (cc)
 
 pub ok_same : {A : Type 0} (x y : A) → ◌≡◌ {A = Judged A} (Ok x) (Ok y) → x ≡ y
 ok_same x y h = cc

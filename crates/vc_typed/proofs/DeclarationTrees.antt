@@ -4,6 +4,7 @@
 use Rattle.std.proofs.Common.{◌≡◌, ℕ, zero, suc, ◌+◌, ◌<◌, ◌≤◌, Bool, true, false, List, [], ◌∷◌, ◌++◌, length, Some, None, ap, sym, ◌∙◌, subst, arith, length-append, lt-ltb}
 use Rattle.std.specs.Prelude.{Ok, Err, slice_get}
 use Rattle.std.proofs.lemmas.List.{append-nil, append_assoc}
+use Rattle.pra_list.proofs.Results.{came_of}
 use Rattle.pra_list.proofs.Elements.{got_front, got_last}
 use Rattle.pra_list.proofs.Choices.{by_test}
 use Rattle.pra_list.proofs.Options.{some_same, none_some}
@@ -25,7 +26,7 @@ use Rattle.ob_syntax.specs.WellFormed.{is_scalar}
 use Rattle.ob_mean.specs.Designators.{type_at, type_in}
 use Rattle.vc_typed.specs.Typing.{typed, root_typing, is_declared_in}
 use Rattle.vc_typed.specs.Fitting.{AreAlike, AllThere, ValuesAreScalars, HasProcedure}
-use Rattle.vc_typed.proofs.Bindings.{came_of, ok_same, ok_err}
+use Rattle.vc_typed.proofs.Bindings.{ok_same, ok_err}
 use Rattle.vc_typed.proofs.Lists.{got}
 use Rattle.vc_typed.proofs.Scopes.{Sound, ready, mean_with_name, Onward, few_types, onward_stays, onward_on, onward_scope, onward_shown, onward_type, left_sound, entered_sound, Shows, announced_there, all_there_more, each_there_more, named_there, shows_scope, shows_shown, shows_type, left_shows, entered_shows}
 use Rattle.vc_typed.proofs.TypeTrees.{AllBelow, type_good}

@@ -1,6 +1,7 @@
 -- What a phrase of an expression is read as has at most the nodes of the phrase.
 use Rattle.std.proofs.Common.{◌≡◌, ℕ, ◌+◌, ◌≤◌, List, [], ◌∷◌, ◌++◌, map, Option, Some, None, refl, ap, sym, ◌∙◌, arith}
 use Rattle.std.specs.Prelude.{Ok, Err, sum}
+use Rattle.pra_list.proofs.Results.{came_of}
 use Rattle.pra_list.proofs.Choices.{by_test}
 use Rattle.pra_list.specs.Results.{◌>>=◌}
 use Rattle.ob_syntax.specs.declared.checked.Meaning.{Meaning}
@@ -22,7 +23,7 @@ use Rattle.ob_syntax.specs.declared.token.Kind.TheVariants as kind
 use Rattle.ob_syntax.specs.Expressions.{Phrase, Next, Selected, Selection, integer, boolean, of_type, operand, binary, are_alike, the_field, field_number, field, element, selected, variable, literal, designated, typed, chained, signed_term, compared_alike, related}
 use Rattle.ob_syntax.specs.Names.{Place}
 use Rattle.vc_typed.specs.Nodes.{nodes_in, nodes_in_step, nodes_in_var}
-use Rattle.vc_typed.proofs.Bindings.{came_of, ok_same, ok_err, of_type_is}
+use Rattle.vc_typed.proofs.Bindings.{ok_same, ok_err, of_type_is}
 use Rattle.vc_typed.proofs.NodeEquations.{sum-last, nodes-Number, nodes-Truth, nodes-Var, nodes-Negate, nodes-Binary, nodes-Field, nodes-Index, nodes_in_var-is}
 
 -- what is read of the phrase has at most so many nodes

@@ -1,6 +1,7 @@
 -- Each expression of a tree is read with a good typing, in a place that fits the module.
 use Rattle.std.proofs.Common.{◌≡◌, ℕ, List, [], ◌∷◌, map, Option, Some, None, refl, sym, subst}
 use Rattle.std.specs.Prelude.{Ok, slice_get}
+use Rattle.pra_list.proofs.Results.{came_of}
 use Rattle.pra_list.specs.Results.{◌>>=◌}
 use Rattle.ob_syntax.specs.declared.checked.Checked.{Checked}
 use Rattle.ob_syntax.specs.declared.checked.RExpr.TheVariants as x
@@ -19,7 +20,7 @@ use Rattle.ob_syntax.specs.declared.tree.Span.{Span}
 use Rattle.ob_syntax.specs.declared.tree.Term.{Term, roll-Term, fold-roll-Term}
 use Rattle.ob_syntax.specs.Expressions.{Phrase, Next, Selected, Selection, FactorResult, SelectorResult, factor_form, selector_form, designator, expr, factor, next_factor, next_term, relation, selector, simple_expr, term, integer, boolean, of_type, related, chained, signed_term, designated, typed, element, expression, simple_expression, whole_term, whole_factor, following_term, following_factor, comparison, one_selector, name_with_selectors}
 use Rattle.ob_syntax.specs.Names.{used}
-use Rattle.vc_typed.proofs.Bindings.{came_of, ok_same}
+use Rattle.vc_typed.proofs.Bindings.{ok_same}
 use Rattle.vc_typed.proofs.ExpressionTypes as e
 use Rattle.vc_typed.proofs.ExpressionTypes.{Holds, GoodPhrase, GoodSelection, AllGood, AllPhrases}
 

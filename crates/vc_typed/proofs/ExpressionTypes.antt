@@ -3,6 +3,7 @@ use Rattle.std.proofs.Common.{◌≡◌, ℕ, ℤ, ◌<◌, true, false, ◌&&�
 use Rattle.std.specs.Prelude.{Ok, Err, nat_eq, nat_lt, slice_get, slice_index, unwrap_or, bytes_eq, codes, ◌||◌}
 use Rattle.std.proofs.lemmas.List.{map-append}
 use Rattle.std.proofs.lemmas.List.Quantifiers.{position-Some}
+use Rattle.pra_list.proofs.Results.{came_of}
 use Rattle.pra_list.proofs.Choices.{by_test, and_true}
 use Rattle.pra_list.specs.Results.{◌>>=◌}
 use Rattle.ob_syntax.specs.declared.checked.Checked.{Checked}
@@ -35,7 +36,7 @@ use Rattle.ob_mean.specs.Designators.{shape_of, field_types, field_type, element
 use Rattle.vc_typed.specs.Typing as t
 use Rattle.vc_typed.specs.Typing.{Typing, Leading, ToField, ToElement, is_of, is_array, into, along, root_typing, typing, leading, variable_typing, binary_typing, expr_typing, step_typing, var_typing, designated_typing}
 use Rattle.vc_typed.specs.Fitting.{Fits, IsThere, AllThere, EachThere}
-use Rattle.vc_typed.proofs.Bindings.{came_of, ok_same, of_type_is, eq_self}
+use Rattle.vc_typed.proofs.Bindings.{ok_same, of_type_is, eq_self}
 use Rattle.vc_typed.proofs.Equations.{typing-Number, typing-Truth, typing-Var, typing-Negate, typing-Not, typing-Binary, leading-Field, leading-Index}
 
 module _ (program : Checked) where

@@ -2,6 +2,7 @@
 -- parts.
 use Rattle.std.proofs.Common.{◌≡◌, ℕ, ◌+◌, ◌≤◌, ℤ, List, [], ◌∷◌, map, Option, Some, None, refl, ap, sym, ◌∙◌, subst, arith}
 use Rattle.std.specs.Prelude.{Ok, slice_get, sum}
+use Rattle.pra_list.proofs.Results.{came_of}
 use Rattle.pra_list.specs.Results.{◌>>=◌}
 use Rattle.ob_syntax.specs.declared.checked.RArm.{RArm, roll-RArm}
 use Rattle.ob_syntax.specs.declared.checked.RExpr.TheVariants as x
@@ -31,7 +32,7 @@ use Rattle.ob_syntax.specs.Expressions.{Phrase, Next, Selected, Selection, Facto
 use Rattle.ob_syntax.specs.Names.{used}
 use Rattle.ob_syntax.specs.Statements.{target, assigned, condition, called, Judge, each, StmtResult, stmt_form, arm_step, stmt_step, statement, arm}
 use Rattle.vc_typed.specs.Nodes.{nodes_in, nodes_in_stmt, nodes_in_arm}
-use Rattle.vc_typed.proofs.Bindings.{came_of, ok_same}
+use Rattle.vc_typed.proofs.Bindings.{ok_same}
 use Rattle.vc_typed.proofs.ExpressionNodes.{Bounded, Chain, BoundedStep, Selectors, SignAt, of_type_nodes, chained_nodes, signed_nodes, related_nodes, field_nodes, element_nodes, designated_nodes}
 use Rattle.vc_typed.proofs.NodeEquations.{nodes-Number, nodes-Not, nodes-If, nodes-While, nodes-Repeat, nodes_in_arm-is}
 use Rattle.vc_typed.proofs.StatementNodes.{BoundedStmt, BoundedArm, Stmts, Arms, Exprs, stmts_nodes, arms_nodes, target_nodes, assigned_nodes, condition_nodes, called_nodes}

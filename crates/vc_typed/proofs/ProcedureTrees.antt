@@ -4,6 +4,7 @@
 use Rattle.std.proofs.Common.{◌≡◌, ℕ, zero, suc, ◌+◌, ◌<◌, ◌≤◌, true, List, [], ◌∷◌, ◌++◌, length, map, Some, refl, ap, sym, ◌∙◌, subst, arith, length-append, lt-ltb, ne_eqb}
 use Rattle.std.specs.Prelude.{Ok, Err, slice_get, bytes_eq, if◌then◌else◌}
 use Rattle.std.proofs.lemmas.List.{append-nil, append_assoc}
+use Rattle.pra_list.proofs.Results.{came_of}
 use Rattle.pra_list.proofs.Elements.{got_front}
 use Rattle.pra_list.proofs.Choices.{by_test}
 use Rattle.pra_list.proofs.Options.{some_same, none_some}
@@ -37,7 +38,7 @@ use Rattle.vc_typed.specs.Fitting.{AreAlike, ValuesAreScalars, HasProcedure}
 use Rattle.vc_typed.specs.TypedStatements.{are_typed}
 use Rattle.vc_typed.specs.Typing.{root_typing, is_declared_in}
 use Rattle.vc_typed.specs.Typing as typing
-use Rattle.vc_typed.proofs.Bindings.{came_of, ok_same, ok_err}
+use Rattle.vc_typed.proofs.Bindings.{ok_same, ok_err}
 use Rattle.vc_typed.proofs.DeclarationTrees.{constants_behind, types_behind, Behind, all_more, VarsIn, VarsBehind, variables_behind, HeadingBehind, heading_behind}
 use Rattle.vc_typed.proofs.Lists.{IsAmong, among_last, among_longer}
 use Rattle.vc_typed.proofs.Scopes.{Sound, longer, Shows, TypesIn, left_sound, left_shows, fitting}

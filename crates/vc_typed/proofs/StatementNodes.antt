@@ -1,6 +1,7 @@
 -- What a statement is read as has at most the nodes of the statement.
 use Rattle.std.proofs.Common.{◌≡◌, ℕ, ◌+◌, ◌≤◌, List, [], ◌∷◌, ◌++◌, length, map, refl, ap, sym, ◌∙◌, subst, arith}
 use Rattle.std.specs.Prelude.{Ok, Err, nat_eq, sum, if◌then◌else◌}
+use Rattle.pra_list.proofs.Results.{came_of}
 use Rattle.pra_list.proofs.Choices.{by_test}
 use Rattle.pra_list.specs.Results.{◌>>=◌}
 use Rattle.ob_syntax.specs.declared.checked.Meaning.{Meaning}
@@ -22,7 +23,7 @@ use Rattle.ob_syntax.specs.Expressions.{Selected, expression, selected, variable
 use Rattle.ob_syntax.specs.Names.{Place}
 use Rattle.ob_syntax.specs.Statements.{target, assigned, condition, is_designator, lent_variable, lent, passed, argument, beyond, arguments, counted, parameters, standard_call, procedure_call, called, Judge, each}
 use Rattle.vc_typed.specs.Nodes.{nodes_in, nodes_in_var, arg_nodes, nodes_in_stmt, nodes_in_arm}
-use Rattle.vc_typed.proofs.Bindings.{came_of, ok_same, ok_err}
+use Rattle.vc_typed.proofs.Bindings.{ok_same, ok_err}
 use Rattle.vc_typed.proofs.ExpressionNodes.{Bounded, Selectors, of_type_nodes, selected_variable}
 use Rattle.vc_typed.proofs.NodeEquations.{sum-last, variable_nodes, nodes-Assign, nodes-Call, nodes-Read, nodes-Write, nodes-WriteLine}
 

@@ -1,6 +1,7 @@
 -- Each statement of a tree is read as a typed one, in a place that fits the module.
 use Rattle.std.proofs.Common.{◌≡◌, ℕ, true, List, [], ◌∷◌, map, refl, sym, subst}
 use Rattle.std.specs.Prelude.{Ok}
+use Rattle.pra_list.proofs.Results.{came_of}
 use Rattle.pra_list.specs.Results.{◌>>=◌}
 use Rattle.ob_syntax.specs.declared.checked.Checked.{Checked}
 use Rattle.ob_syntax.specs.declared.checked.RArm.{RArm, roll-RArm}
@@ -15,7 +16,7 @@ use Rattle.ob_syntax.specs.Names.{Place, used}
 use Rattle.ob_syntax.specs.Statements.{condition, called, Judge, each, StmtResult, stmt_form, arm_step, stmt_step, statement, arm}
 use Rattle.vc_typed.specs.Fitting.{Fits}
 use Rattle.vc_typed.specs.TypedStatements.{is_typed, is_typed_arm, are_typed}
-use Rattle.vc_typed.proofs.Bindings.{came_of, ok_same}
+use Rattle.vc_typed.proofs.Bindings.{ok_same}
 use Rattle.vc_typed.proofs.ExpressionTypes.{used_there}
 use Rattle.vc_typed.proofs.StatementTypes.{GoodJudge, GoodArm, AllJudges, AllArms, assignment_typed, condition_typed, called_typed, each_typed, each_arm_typed, if_typed, while_typed, repeat_typed, arm_typed}
 

@@ -2,6 +2,7 @@
 use Rattle.std.proofs.Common.{◌≡◌, ℕ, ◌<◌, Bool, true, false, not, ◌&&◌, List, [], ◌∷◌, ◌++◌, length, map, Some, refl, ap, sym, ◌∙◌, subst, arith, eqb-true}
 use Rattle.std.specs.Prelude.{Ok, Err, nat_eq, slice_get, get_or, if◌then◌else◌}
 use Rattle.std.proofs.lemmas.Option.{slice_get-get_or}
+use Rattle.pra_list.proofs.Results.{came_of}
 use Rattle.pra_list.proofs.Choices.{by_test, and_true}
 use Rattle.pra_list.specs.Results.{◌>>=◌}
 use Rattle.ob_syntax.specs.declared.checked.Checked.{Checked}
@@ -31,7 +32,7 @@ use Rattle.vc_typed.specs.Typing as t
 use Rattle.vc_typed.specs.Typing.{Typing, is_of, root_typing, typing, variable_typing}
 use Rattle.vc_typed.specs.TypedStatements.{all_true, is_assignable, is_passed, are_passed, is_call, is_typed_step, is_typed_arm_step, is_typed, is_typed_arm, are_typed}
 use Rattle.vc_typed.specs.Fitting.{Fits, AreAlike, ValuesAreScalars, IsThere}
-use Rattle.vc_typed.proofs.Bindings.{came_of, ok_same, ok_err, eq_self}
+use Rattle.vc_typed.proofs.Bindings.{ok_same, ok_err, eq_self}
 use Rattle.vc_typed.proofs.ExpressionTypes.{Holds, AllGood, of_type_typed, alike_types, selected_along, variable_good, used_there, at_here}
 use Rattle.vc_typed.proofs.StatementEquations.{typed-Assign, typed-If, typed-While, typed-Repeat, typed-Call, typed-Read, typed-Write, typed-WriteLine}
 use Rattle.vc_typed.proofs.ExpressionTrees.{expression_good, selections_hold}

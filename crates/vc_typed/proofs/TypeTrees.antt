@@ -4,6 +4,7 @@ use Rattle.std.specs.Prelude.{Ok, Err, slice_get, bytes_eq}
 use Rattle.std.specs.List.{list_any}
 use Rattle.std.proofs.lemmas.List.{append-nil, append_assoc}
 use Rattle.std.proofs.lemmas.Option.{slice_get_within}
+use Rattle.pra_list.proofs.Results.{came_of}
 use Rattle.pra_list.proofs.Elements.{got_last}
 use Rattle.pra_list.proofs.Choices.{by_test}
 use Rattle.pra_list.proofs.Options.{none_some}
@@ -22,7 +23,7 @@ use Rattle.ob_syntax.specs.Names.{meaning as meaning_of}
 use Rattle.ob_syntax.specs.Source.{Name}
 use Rattle.ob_syntax.specs.Types.{array_length, Shaped, with_type, with_length, named_type, with_fields, with_types, Fields, FieldsAfter, all_fields, type_form, field_list, type_step, type_expression, fields_of}
 use Rattle.vc_relation.specs.Layout.{NamesBelow, TypesInOrder}
-use Rattle.vc_typed.proofs.Bindings.{came_of, ok_same, ok_err}
+use Rattle.vc_typed.proofs.Bindings.{ok_same, ok_err}
 use Rattle.vc_typed.proofs.Lists.{get_before, got, IsAmong, among_last, among_longer}
 
 -- types that name only types before them, the names of the fields of each, and lengths of arrays

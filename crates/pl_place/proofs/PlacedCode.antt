@@ -1,5 +1,5 @@
 -- Rules of valid placed code, from what holds of each element of code that is written out.
-use Rattle.std.proofs.Common.{◌≡◌, ◌≢◌, ℕ, zero, suc, ◌+◌, ◌<◌, ◌⊎◌, inl, inr, ⊎_elim, Bool, true, false, nat_eq, ◌||◌, List, [], ◌∷◌, length, refl, arith}
+use Rattle.std.proofs.Common.{◌≡◌, ◌≢◌, ℕ, zero, suc, ◌+◌, ◌<◌, ◌⊎◌, ⊎_elim, true, false, nat_eq, ◌||◌, List, [], ◌∷◌, length, refl, arith}
 use Rattle.std.specs.List.{list_any}
 use Rattle.std.proofs.lemmas.Bool.Decides.{nat_tests}
 use Rattle.pra_base.specs.declared.ids.Place.{Place}
@@ -19,6 +19,7 @@ use Rattle.pl_place.specs.Placed.{kind_of, place_in}
 use Rattle.pl_place.specs.Valid.{linstr_at, EachOp, EachMove, roles, OperandsPlaced, HasMemory}
 use Rattle.pra_list.specs.Each.{Each, EachAt}
 use Rattle.pra_list.proofs.Each.{each_at}
+use Rattle.pra_list.proofs.Truths.{or_cases}
 
 -- ---- instructions and moves
 
@@ -85,21 +86,17 @@ InMemory p places k role = is_mem (place_in places k) ≡ true → HasMemory p r
 below : (n v w : ℕ) → w < n → nat_eq w v ≡ true → v < n
 below n v w lt h = grind (arith, nat_tests)
 
-or_either : (a b : Bool) → (a || b) ≡ true → (a ≡ true) ⊎ (b ≡ true)
-or_either true b h = inl refl
-or_either false b h = inr h
-
 roles_below : (n v : ℕ) (all : List Role) → Each (λ role. role.var < n) all → list_any (is_role_of v) all ≡ true → v < n
 roles_below n v [] each h = cc
 roles_below n v (x ∷ xs) each h =
     ⊎_elim (λ (e : nat_eq x.var v ≡ true). below n v x.var each.0 e) (λ (e : list_any (is_role_of v) xs ≡ true). roles_below n v xs each.1 e)
-    (or_either (nat_eq x.var v) (list_any (is_role_of v) xs) h)
+    (or_cases (nat_eq x.var v) (list_any (is_role_of v) xs) h)
 
 numbers_below : (n v : ℕ) (all : List ℕ) → Each (λ w. w < n) all → list_any (nat_eq v) all ≡ true → v < n
 numbers_below n v [] each h = cc
 numbers_below n v (x ∷ xs) each h =
     ⊎_elim (λ (e : nat_eq v x ≡ true). other n v x each.0 e) (λ (e : list_any (nat_eq v) xs ≡ true). numbers_below n v xs each.1 e)
-    (or_either (nat_eq v x) (list_any (nat_eq v) xs) h)
+    (or_cases (nat_eq v x) (list_any (nat_eq v) xs) h)
   where
     other : (n v w : ℕ) → w < n → nat_eq v w ≡ true → v < n
     other n v w lt h = grind (arith, nat_tests)
@@ -112,5 +109,5 @@ names_below n i reads in_place writes v h =
     (λ (e : (list_any (nat_eq v) (table i).in_place || list_any (is_role_of v) (table i).writes) ≡ true).
     ⊎_elim (λ (e : list_any (nat_eq v) (table i).in_place ≡ true). numbers_below n v (table i).in_place in_place e)
     (λ (e : list_any (is_role_of v) (table i).writes ≡ true). roles_below n v (table i).writes writes e)
-    (or_either (list_any (nat_eq v) (table i).in_place) (list_any (is_role_of v) (table i).writes) e))
+    (or_cases (list_any (nat_eq v) (table i).in_place) (list_any (is_role_of v) (table i).writes) e))
     h
