@@ -1,5 +1,5 @@
 -- Blocks that are the same up to their depth keep the same rules.
-use Rattle.std.proofs.Common.{◌≡◌, ◌≢◌, ℕ, suc, ◌<◌, List, length, Some, refl, sym, ◌∙◌, subst, ap}
+use Rattle.std.proofs.Common.{◌≡◌, ◌≢◌, ℕ, suc, ◌<◌, List, length, Some, sym, ◌∙◌, subst}
 use Rattle.std.specs.Prelude.{slice_get, ◌↔◌}
 use Rattle.pra_base.specs.declared.code.Block.{Block}
 use Rattle.pra_base.specs.declared.code.VInstr.{VInstr}
@@ -7,7 +7,7 @@ use Rattle.pra_base.specs.declared.code.VInstr.TheVariants.{Clear}
 use Rattle.pra_base.specs.declared.code.End.{End}
 use Rattle.pra_base.specs.declared.code.End.TheVariants.{Return}
 use Rattle.pra_base.specs.Code.{block_in, EachInstr}
-use Rattle.pra_base.specs.Valid.{LastReturn, CmpBeforeBranch, EndsWithCmp, PushesLead, PushesBeforeCalls, ClearFirst, CheckRange, KeepsBlockRules, UpToDepth}
+use Rattle.pra_base.specs.Valid.{LastReturn, CmpBeforeBranch, EndsWithCmp, PushesLead, PushesBeforeCalls, ClearFirst, KeepsBlockRules, UpToDepth}
 
 module _ (one other : List Block) (same : UpToDepth one other) where
   pub each_instr : (P : VInstr → Type 0) → EachInstr one P → EachInstr other P

@@ -1,12 +1,12 @@
 -- Quotients and remainders that are rounded toward zero, and down.
-use Rattle.std.proofs.Common.{◌≡◌, ℕ, zero, suc, ◌+◌, ◌*◌, ◌^◌, ◌≤◌, ◌<◌, Bool, true, false, refl, sym, ap, ◌∙◌, subst, arith, nat_lt, nat_le}
+use Rattle.std.proofs.Common.{◌≡◌, ℕ, zero, suc, ◌^◌, ◌≤◌, ◌<◌, Bool, true, false, refl, sym, ap, ◌∙◌, subst, arith}
 use Rattle.std.specs.Prelude.{ℤ, pos, negsuc, ◌+ℤ◌, ◌-ℤ◌, ◌*ℤ◌, ◌≤ℤ◌, ◌<ℤ◌, int_lt, int_div, int_rem, if◌then◌else◌, IsTrue}
-use Rattle.std.specs.Int.{w32, cast_signed, cast_unsigned}
+use Rattle.std.specs.Int.{w32}
 use Rattle.std.specs.Int.RustNames.{FitsSigned, unsigned_abs}
 use Rattle.std.proofs.lemmas.Bool.Decides.{nat_tests}
 use Rattle.std.proofs.lemmas.Int.{ints, to_z-of_z, quot-rem, rem_below, fits_signed_from_abs, quot_fits}
 use Rattle.std.proofs.Math.IntN.{suc_ℤ, suc_ℤ-*ℤ}
-use Rattle.pra_base.specs.Words.{word, signed, is_positive, quotient32, remainder32, IsTruncated, IsFloored, floored_quotient, floored_remainder}
+use Rattle.pra_base.specs.Words.{signed, is_positive, quotient32, remainder32, IsTruncated, IsFloored, floored_quotient, floored_remainder}
 
 rem_above : (x d : ℤ) → pos 0 ≤ℤ x → pos 0 ≤ℤ int_rem x d
 rem_above (pos n) d h = omega (arith, ints)
