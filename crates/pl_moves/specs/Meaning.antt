@@ -1,6 +1,5 @@
 -- What a move does, to whatever the registers and the memory of variables hold.
 use Rattle.std.specs.Prelude.{ℕ, ℤ, Bool, false, nat_eq, if◌then◌else◌, List, [], ◌∷◌, Option, Some}
-use Rattle.std.specs.Prelude.{None}
 use Rattle.pra_base.specs.declared.ids.Place.{Place}
 use Rattle.pra_base.specs.Places.{number, register_of}
 use Rattle.pl_moves.specs.declared.transfer.Move.{Move}
