@@ -1,6 +1,6 @@
 -- Numbers and operands that are read are spelled so by the table.
 use Rattle.std.proofs.Common.{◌≡◌, ℕ, zero, suc, ◌+◌, ◌/◌, ◌%◌, ◌^◌, ◌≤◌, ◌<◌, Bool, true, false, List, [], ◌∷◌, ◌++◌, length, Option, Some, None, refl, sym, ap, ◌∙◌, subst, arith, append_assoc, take, drop, nat_lt, get_or-drop, rules, take-append-drop, length-take}
-use Rattle.std.specs.Prelude.{ℤ, pos, ◌==◌, ◌&&◌, if◌then◌else◌}
+use Rattle.std.specs.Prelude.{ℤ, pos, ◌==◌, ◌&&◌}
 use Rattle.std.proofs.lemmas.Bool.Decides.{nat_tests}
 use Rattle.std.proofs.lemmas.Bool.{ltb-false}
 use Rattle.std.proofs.lemmas.Int.{of_z-to_z}
@@ -16,7 +16,6 @@ use Rattle.ia_code.specs.declared.ins.Rm.{Rm}
 use Rattle.ia_code.specs.declared.ins.Rm.TheVariants as rm
 use Rattle.ia_code.specs.DecodeTable.{reg_number, scale_number, mod_number, fields, imm8, imm32, displacement, address, operand, is_scale, is_index, is_base, Holds, IsAddress, IsOperand}
 use Rattle.ia_code.specs.Reading.{reg_of, scale_of, width_of, byte_at, short_at, half_at, word_at, displacement_at, address_at, sib_at, memory_at, fields_at, operand_at}
-use Rattle.pra_list.specs.Options.{◌>>=◌}
 use Rattle.ia_code.proofs.FieldNumbers.{reg_back, scale_back, scale_stands, mode_back}
 use Rattle.ia_code.specs.DecodeTable.{IsBytes}
 use Rattle.pra_list.proofs.Choices.{by_test}
