@@ -8,23 +8,18 @@ use Rattle.pra_base.specs.declared.code.VarKind.TheVariants.{Param, Plain}
 use Rattle.pra_base.specs.declared.code.VInstr.{VInstr}
 use Rattle.pra_base.specs.declared.code.VInstr.TheVariants.{Set, Push, Call, Load, Cmp, Clear, Check}
 use Rattle.pra_base.specs.declared.code.End.TheVariants.{Return}
-use Rattle.pra_base.specs.declared.code.Block.{Block}
 use Rattle.pra_base.specs.Code.{block_in, EachInstr, IsTarget}
-use Rattle.pra_base.specs.Places.{allows, meet, is_mem}
-use Rattle.pra_base.specs.Operands.{Role, operands, own_places}
+use Rattle.pra_base.specs.Places.{is_mem}
+use Rattle.pra_base.specs.Operands.{Role}
 use Rattle.pra_base.specs.Valid.{LastReturn, CmpBeforeBranch, PushesBeforeCalls, TakesAny, TakesArgs, ClearFirst, CheckRange, ArgumentsApart, Names, NamesCell}
 use Rattle.pl_moves.specs.declared.transfer.Move.{Move}
 use Rattle.pl_moves.specs.Crossbar.{InRegisters}
-use Rattle.pl_place.specs.declared.placed.LInstr.{LInstr}
-use Rattle.pl_place.specs.declared.placed.LInstr.TheVariants as placed
-use Rattle.pl_place.specs.declared.placed.LBlock.{LBlock}
-use Rattle.pl_place.specs.declared.placed.LProc.{LProc}
-use Rattle.pl_place.specs.Placed.{kind_of, place_in, bare}
-use Rattle.pl_place.specs.Valid.{linstr_at, EachOp, EachMove, roles, OperandsPlaced, HasMemory, MoveHasMemory, MemoryThere, FewMoves, MoveNames, NumbersInRange, IsPlaced, counts_of, ArePlaced}
+use Rattle.pl_place.specs.Placed.{place_in, bare}
+use Rattle.pl_place.specs.Valid.{EachOp, roles, OperandsPlaced, HasMemory, MoveHasMemory, MemoryThere, FewMoves, MoveNames, NumbersInRange, IsPlaced, counts_of, ArePlaced}
 use Rattle.pl_place.specs.Sample.{v0, v1, callee, word_0, caller, called, sample}
 use Rattle.pra_list.specs.Each.{EachAt}
 use Rattle.pra_list.proofs.Each.{each_at}
-use Rattle.pl_place.proofs.PlacedCode.{InBlocks, OfOp, OfMove, each_op, each_move, placed_at, InMemory, names_below}
+use Rattle.pl_place.proofs.PlacedCode.{each_op, each_move, placed_at, InMemory, names_below}
 
 -- ---- operands
 
