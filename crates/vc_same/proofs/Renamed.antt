@@ -11,7 +11,7 @@ use Rattle.pra_base.specs.declared.code.Addr.{Addr}
 use Rattle.pra_base.specs.declared.code.VInstr.{VInstr}
 use Rattle.pra_base.specs.declared.code.VInstr.TheVariants as instr
 use Rattle.pra_base.specs.Words.{word}
-use Rattle.pra_base.specs.Operands.{Role, table, reads, writes, only_writes, read_by, written_by, is_role_of, var_of, via, index, role, R, K}
+use Rattle.pra_base.specs.Operands.{Role, table, reads, writes, only_writes, read_by, written_by, var_of, via, index, role, R, K}
 use Rattle.pra_base.specs.Places.{◌∪◌}
 use Rattle.vc_code.specs.declared.value.Object.{Object}
 use Rattle.vc_code.specs.declared.value.Value.TheVariants.{At}
