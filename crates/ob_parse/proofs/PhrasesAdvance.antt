@@ -1,7 +1,7 @@
 -- How far a phrase goes.
-use Rattle.std.proofs.Common.{ℕ, ◌+◌, ◌≤◌, ◌<◌, List, length, length-append, arith, ap}
-use Rattle.ob_syntax.specs.Grammar.{Nonterminal, Symbol, right, Selector, Factor, Term, SimpleExpression, field, index, name, number, parenthesis, negation, term, simple_expression}
-use Rattle.ob_syntax.specs.Forms.{Form, Parts, made, done, taken, part, end, ends}
+use Rattle.std.proofs.Common.{ℕ, ◌+◌, ◌≤◌, ◌<◌, length, length-append, arith, ap}
+use Rattle.ob_syntax.specs.Grammar.{Nonterminal, Selector, Factor, Term, SimpleExpression, field, index, name, number, parenthesis, negation, term, simple_expression}
+use Rattle.ob_syntax.specs.Forms.{Form, made, taken, part, end}
 use Rattle.ob_syntax.specs.Tree.{Tree}
 use Rattle.ob_syntax.proofs.FormsAdvance.{stays, all_stay}
 use Rattle.ob_parse.specs.declared.cursor.Parser.{Parser}

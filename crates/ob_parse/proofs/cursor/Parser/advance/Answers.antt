@@ -1,5 +1,5 @@
 use Rattle.std.proofs.Common.{◌∷◌, arith, refl, sym, ◌∙◌, ap, add-one, drop}
-use Rattle.ob_parse.specs.Reading.{left, place}
+use Rattle.ob_parse.specs.Reading.{left}
 use Rattle.ob_syntax.specs.Whole.{kinds}
 use Rattle.ob_parse.proofs.KindsLeft.{below, gone}
 use Rattle.ob_parse.proofs.cursor.Parser.advance.Goals as goal

@@ -1,5 +1,5 @@
 use Rattle.std.proofs.Common.{refl}
-use Rattle.ob_parse.specs.Reading.{left, place}
+use Rattle.ob_parse.specs.Reading.{left}
 use Rattle.ob_parse.proofs.cursor.Parser.new.Goals as goal
 
 pub returns-clause-left : goal.returns-clause-left

@@ -1,5 +1,4 @@
 use Rattle.std.proofs.Common.{arith, refl}
-use Rattle.ob_parse.specs.Reading.{place}
 use Rattle.ob_parse.proofs.cursor.Parser.span_from.Goals as goal
 
 pub overflow_sub-result : goal.overflow_sub-result
