@@ -1,5 +1,5 @@
 -- The moves of a layer transfer the allocation of the layer before it to its own.
-use Rattle.std.proofs.Common.{◌≡◌, ◌≢◌, ℕ, suc, ◌+◌, ◌*◌, ◌⊎◌, inl, inr, ⊎_elim, Bool, true, false, not, ◌&&◌, nat_eq, List, [], slice_index_or, Option, Some, None, refl, sym, ap, subst, ◌∙◌, arith}
+use Rattle.std.proofs.Common.{◌≡◌, ◌≢◌, ℕ, suc, ◌+◌, ◌*◌, inl, inr, ⊎_elim, Bool, true, false, not, ◌&&◌, nat_eq, List, [], slice_index_or, Option, Some, None, refl, sym, ap, subst, ◌∙◌, arith}
 use Rattle.std.specs.Prelude.{option_map}
 use Rattle.pra_list.proofs.Truths.{true_false, truth}
 use Rattle.pra_list.specs.Among.{Among}
