@@ -5,7 +5,6 @@ use Rattle.std.specs.List.{list_any}
 use Rattle.std.proofs.lemmas.List.Folds.{list_any-append}
 use Rattle.vc_select.proofs.ReadyTargets.{cell_named}
 use Rattle.pra_list.proofs.Truths.{or_cases, false_from}
-use Rattle.pra_base.specs.Code.{cell_of}
 use Rattle.pra_base.specs.Operands.{Role, reads, writes, via, index, is_role_of, addressed}
 use Rattle.pra_base.specs.declared.ids.ProcId.{ProcId}
 use Rattle.pra_base.specs.declared.ids.VarId.{VarId}
