@@ -1,16 +1,11 @@
 use Rattle.std.proofs.Common.{List}
 use Rattle.ia_carries.proofs.Assembled.{room_for_one}
-use Rattle.ia_asm.specs.declared.assembly.Assembly.{Assembly}
-use Rattle.ia_asm.specs.Assembly.{IsAssembly, CanAssemble}
-use Rattle.ia_asm.proofs.Assembling.{length_assembly}
+use Rattle.ia_asm.specs.Assembly.{CanAssemble}
 use Rattle.ia_carries.specs.Faithful.{AreSmall}
-use Rattle.ia_code.specs.Image.{max_code_bytes}
-use Rattle.ia_emit.specs.Code.{size, first_entry}
 use Rattle.ia_emit.specs.Counts.{AreFew}
-use Rattle.ia_emit.specs.Emission.{emit_proc}
 use Rattle.ia_emit.proofs.FewBytes.{few_bytes}
 use Rattle.pl_place.specs.declared.placed.LProc.{LProc}
-use Rattle.pl_place.specs.Valid.{ArePlaced, IsPlaced}
+use Rattle.pl_place.specs.Valid.{ArePlaced}
 use Rattle.ia_carries.proofs.laws.code_has_room.Goals as goal
 
 at_once : (procs : List LProc) → ArePlaced procs → AreSmall procs → AreFew procs → CanAssemble procs
