@@ -7,10 +7,8 @@ use Rattle.std.proofs.lemmas.List.Elements.{All-nil, All-cons, All-weaker}
 use Rattle.std.proofs.lemmas.List.FromFn.{get_or-map-range_with_len}
 use Rattle.net_form.proofs.NetworkFormed.{total_layers}
 use Rattle.pra_list.proofs.Comprehensions.{All-filter_map, All-flat_map, IfSome-test}
-use Rattle.pra_base.specs.declared.code.Block.{Block}
 use Rattle.pra_base.specs.declared.code.VProc.{VProc}
-use Rattle.pra_base.specs.Valid.{IsSized, instruction_count}
-use Rattle.net_form.specs.declared.net.NetBlock.{NetBlock}
+use Rattle.pra_base.specs.Valid.{IsSized}
 use Rattle.net_form.specs.declared.net.Strand.{Strand}
 use Rattle.net_form.specs.declared.net.Tie.{Tie}
 use Rattle.net_form.specs.Groups.{leads, groups_below, group_of}

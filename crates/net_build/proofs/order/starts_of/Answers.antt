@@ -1,4 +1,4 @@
-use Rattle.std.proofs.Common.{◌≡◌, ◌+◌, ℕ, List, [], ◌∷◌, length, sym, subst, ap, ◌∙◌, arith}
+use Rattle.std.proofs.Common.{[], ◌∷◌, length, sym, subst, ap, ◌∙◌, arith}
 use Rattle.std.proofs.lemmas.List.{length-append}
 use Rattle.net_build.specs.Order.{AreStarts, StartsAt}
 use Rattle.net_build.proofs.Places.{starts_pushed}
