@@ -1,5 +1,5 @@
 -- An answer has one cause, so a text with another cause is not answered so.
-use Rattle.std.proofs.Common.{◌≡◌, ℕ, ◌<◌, ◌≤◌, List, length, Err, refl, sym, ap, ◌∙◌, inl, inr, arith}
+use Rattle.std.proofs.Common.{◌≡◌, ℕ, ◌<◌, ◌≤◌, List, length, Err, refl, ap, ◌∙◌, inl, inr, arith}
 use Rattle.ob_syntax.specs.declared.token.Token.{Token}
 use Rattle.ob_syntax.specs.Tokens.{Tokens, Fault, FirstFault, number_too_large, open_comment, bad_byte}
 use Rattle.ob_syntax.proofs.Texts.{one_list, one_first_fault, no_fault_in_tokens}
