@@ -1,13 +1,13 @@
 -- What the place of the first separator says of a text's parts.
-use Rattle.std.proofs.Common.{◌≡◌, ℕ, ◌+◌, ◌<◌, ◌≤◌, Bool, true, false, Option, Some, None, List, [], ◌∷◌, length, take, drop, refl, ap, arith, rules, cond, inl, inr, ◌∙◌, sym, length-drop}
+use Rattle.std.proofs.Common.{◌≡◌, ℕ, ◌+◌, ◌<◌, ◌≤◌, Bool, true, false, Some, None, List, [], ◌∷◌, length, take, drop, refl, ap, arith, cond, inl, inr, ◌∙◌, length-drop}
 use Rattle.std.specs.Prelude.{nat_lt, position}
-use Rattle.std.specs.List.{position_or_len, slice_split, before_first, after_first}
+use Rattle.std.specs.List.{position_or_len, slice_split}
 use Rattle.std.proofs.lemmas.List.{length-take-le}
 use Rattle.std.proofs.lemmas.List.Splits.{slice_split_first, slice_split_none}
 use Rattle.std.proofs.lemmas.List.Sums.{fails_before_first}
 use borrow.Author.Tests.{ltb-true, ltb-false}
 use Rattle.pra_report.specs.Input.{is_separator}
-use Rattle.pra_report.specs.Parts.{IsPartBefore, IsOnlyPart, IsFirstPart}
+use Rattle.pra_report.specs.Parts.{IsFirstPart}
 
 some_where : (b : Bool) (n at : ℕ) → cond b (Some n) None ≡ Some at → (b ≡ true) × (n ≡ at)
 some_where true n at e = (refl, cc)

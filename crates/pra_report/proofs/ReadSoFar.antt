@@ -1,9 +1,9 @@
 -- An input that is read up to some place.
-use Rattle.std.proofs.Common.{◌≡◌, ℕ, ◌+◌, ◌-◌, ◌<◌, ◌≤◌, Option, Some, None, List, [], ◌∷◌, ◌++◌, length, refl, ap, arith, rules, ◌∙◌, sym, append_assoc, ◌⊎◌, inl, inr, append-nil}
+use Rattle.std.proofs.Common.{◌≡◌, ℕ, ◌+◌, ◌-◌, ◌<◌, Some, None, List, [], ◌∷◌, ◌++◌, length, refl, ap, arith, ◌∙◌, sym, append_assoc, inl, inr, append-nil}
 use Rattle.std.specs.Prelude.{ℤ, Result, Ok, Err}
 use Rattle.std.specs.List.{slice_split}
 use Rattle.pra_report.specs.Input.{is_separator, word_of, runs_from, with_word, numbers_of, input_words}
-use Rattle.pra_report.specs.Parts.{IsPartBefore, IsOnlyPart, IsFirstPart}
+use Rattle.pra_report.specs.Parts.{IsFirstPart}
 
 -- numbers in front of what is read behind them
 abbrev pub behind : List ℤ → Result (List ℤ) ℕ → Result (List ℤ) ℕ
