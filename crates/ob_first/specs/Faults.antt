@@ -1,5 +1,5 @@
 -- What breaks a rule by itself: a phrase that is tested, a name, one of several parts.
-use Rattle.std.specs.Prelude.{◌≡◌, ℕ, ◌⊎◌, List, [], ◌∷◌, Some, Ok, Err}
+use Rattle.std.specs.Prelude.{◌≡◌, ℕ, ◌⊎◌, List, Some, Ok, Err}
 use Rattle.pra_list.specs.Among.{Among}
 use Rattle.ob_syntax.specs.declared.checked.Meaning.{Meaning}
 use Rattle.ob_syntax.specs.Names.{Fault, Judged, Place, meaning, name_at, used}
