@@ -7,3 +7,4 @@ pub mod Conditions
 pub mod Division
 pub mod Runs
 pub mod Reaches
+pub mod Entries

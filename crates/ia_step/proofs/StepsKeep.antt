@@ -24,6 +24,7 @@ use Rattle.ia_step.specs.Effect.{Done, goes, lies_in, load, store, read_rm, writ
 use Rattle.pra_list.specs.Results.{◌>>=◌}
 use Rattle.ia_step.specs.Step.{fetch, execute, settled, step_from, step, ending_told}
 use Rattle.ia_step.specs.Kept.{Kept}
+use Rattle.ia_step.specs.Views.{OnDone}
 use Rattle.ia_step.proofs.MemoryWords.{length_put}
 
 -- P of what an Ok has
@@ -249,6 +250,14 @@ moved s n (Err e) k = failed
 after_execute : (s : State) → IfGiven (GoesOn s) (execute s)
 unfolding Goes
 after_execute s = bound (λ x. Unit {0}) (GoesOn s) (fetch s) _ (any (fetch s)) (λ x _. moved s x.1 _ (after_effect (at s x.1) x.0))
+
+of_given : {A : Type 0} (P : A → Type 0) (x : A) → IfGiven P (Ok x) → P x
+of_given P x (given p) = p
+
+-- whatever came of an instruction, the code is the same
+pub done_keeps_code : (s t : State) (r : Result StepOut FaultKind) → OnDone s t r (execute s) → t.code ≡ s.code
+done_keeps_code s t (Ok o) is = (of_given (GoesOn s) (t, o) (subst (IfGiven (GoesOn s)) is (after_execute s))).later.code
+done_keeps_code s t (Err e) is = ap (λ (u : State). u.code) is.1
 
 kept_settled : (s : State) (r : Done) → IfGiven (GoesOn s) r → Kept s (settled s r).0 1
 kept_settled s (Ok x) (given k) = k.later

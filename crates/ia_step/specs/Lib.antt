@@ -5,5 +5,6 @@ pub mod State
 pub mod Effect
 pub mod Kept
 pub mod Step
+pub mod Fetched
 pub mod Views
 pub mod Run

@@ -1,5 +1,5 @@
 -- One step: fetch, decode, execute.
-use Rattle.std.specs.Prelude.{ℕ, ◌+◌, ◌-◌, nat_lt, nat_le, if◌then◌else◌, length, drop, Option}
+use Rattle.std.specs.Prelude.{ℕ, ◌+◌, ◌-◌, nat_lt, nat_le, if◌then◌else◌, length, drop, List, Option}
 use Rattle.std.specs.Prelude.{Some, None, Result, Ok, Err}
 use Rattle.ia_code.specs.declared.ins.Ins.{Ins}
 use Rattle.ia_code.specs.Reading.{decoded}
@@ -20,12 +20,16 @@ abbrev pub next_to : ℕ → Option (Ins × ℕ) → Result (Ins × ℕ) FaultKi
 next_to eip None = Err fault.Decode
 next_to eip (Some x) = Ok (x.0, eip + x.1)
 
--- the instruction at EIP; Fetch: EIP is outside the code region
+-- the instruction at a place of the code; Fetch: the place is outside the code region
+abbrev pub fetch_in : List ℕ → ℕ → Result (Ins × ℕ) FaultKind
+fetch_in code eip =
+    if nat_lt eip code_base then Err fault.Fetch
+    else if nat_le (code_base + length code) eip then Err fault.Fetch
+    else next_to eip (decoded (drop (eip - code_base) code))
+
+-- the instruction at EIP
 unfoldable pub fetch : State → Result (Ins × ℕ) FaultKind
-fetch s =
-    if nat_lt s.eip code_base then Err fault.Fetch
-    else if nat_le (code_base + length s.code) s.eip then Err fault.Fetch
-    else next_to s.eip (decoded (drop (s.eip - code_base) s.code))
+fetch s = fetch_in s.code s.eip
 
 -- the instruction at EIP, executed with EIP at the next one
 abbrev pub execute : State → Done

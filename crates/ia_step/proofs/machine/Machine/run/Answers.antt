@@ -22,21 +22,21 @@ overflow_sub-result c =
     let later : Kept c.args.self.now c.loop-steps.self c.loop-steps.steps = kept_here _ _ c.loop-steps.steps c.loop-steps.events c.loop-steps.invariant.same in
     let a = ap (λ (s : State). s.taken) c.self.view_is in
     let b = ap (λ (s : State). s.taken) c.self-2.view_is in
-    omega (arith, later.taken, a, b)
+    omega (arith, later.taken, a, b, c.taken.ensures, c.taken-taken.ensures)
 
 pub overflow_cast-result : goal.overflow_cast-result
 overflow_cast-result c =
     let later : Kept c.args.self.now c.loop-steps.self c.loop-steps.steps = kept_here _ _ c.loop-steps.steps c.loop-steps.events c.loop-steps.invariant.same in
     let a = ap (λ (s : State). s.taken) c.self.view_is in
     let b = ap (λ (s : State). s.taken) c.self-2.view_is in
-    omega (arith, later.few, later.taken, a, b)
+    omega (arith, later.few, later.taken, a, b, c.taken.ensures, c.taken-taken.ensures)
 
 pub returns-clause-told : goal.returns-clause-told
 returns-clause-told c =
     let ended : (c.args.m ≤ c.loop-steps.steps) ⊎ (is_going c.loop-steps.self.ending ≡ false) =
     elim c.loop-steps-test.branch [ then-loop-steps-test+else-is_going w ↦ inr (sym w.is_going.ensures ∙ w.if-is_going.false) | else-loop-steps-test w ↦ inl w.loop-steps-test.false ] in
     let all = finished c.args.self.now c.loop-steps.self c.loop-steps.steps c.loop-steps.events c.loop-steps.invariant.same c.args.m c.loop-steps.invariant.within ended in
-    rw (all, ← c.self-2.view_is, ← c.self.view_is) refl
+    rw (all, ← c.self-2.view_is, ← c.self.view_is, c.ending.ensures, c.taken.ensures, c.taken-taken.ensures) refl
 
 pub returns-clause-state : goal.returns-clause-state
 returns-clause-state c =

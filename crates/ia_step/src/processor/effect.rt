@@ -16,7 +16,7 @@ ghost use Rattle.ia_step.specs.Effect.{serve as serve_of, trapped};
 ghost use Rattle.ia_code.specs.Services.{trap_of};
 ghost use Rattle.ia_step.specs.Views.{OnResult, OnResultWith, OnDone};
 
-use super::Machine;
+use super::Processor;
 use crate::arithmetic::{
     compute, difference, flags, flags_of_bits, flags_of_difference, flags_of_product, product,
     sign_word, sum, unknown_flags, with_low_byte,
@@ -37,7 +37,7 @@ fn lies_within(base: u32, region: &[u8], address: u32) -> bool
     base <= address && u64::from(address) + 4 <= u64::from(base) + region.len() as u64
 }
 
-impl Machine {
+impl Processor {
     #[tactic(auto, unfolding(crate::specs::Effect::load))]
     fn load_word(&self, address: u32) -> Result<u32, FaultKind>
         ensures { result ≡ load_of self.now address }
@@ -73,6 +73,7 @@ impl Machine {
         self.load_word(address)
     }
 
+    #[inline]
     #[tactic(auto, unfolding(crate::specs::Effect::read_rm))]
     fn read_rm(&self, rm: &Rm) -> Result<u32, FaultKind>
         ensures { result ≡ read_rm_of self.now rm.now }
@@ -89,6 +90,7 @@ impl Machine {
         self.regs.set(reg, value);
     }
 
+    #[inline]
     #[tactic(auto, unfolding(crate::specs::Effect::write_rm))]
     fn write_rm(&mut self, rm: &Rm, value: u32) -> Result<(), FaultKind>
         ensures { OnResult self.old self.new result (write_rm_of self.old rm.now value) }
@@ -141,6 +143,7 @@ impl Machine {
         }
     }
 
+    #[inline]
     #[tactic(auto, unfolding(crate::specs::Effect::alu))]
     fn alu(&mut self, op: AluOp, dest: &Rm, src: u32) -> Result<StepOut, FaultKind>
         ensures { OnDone self.old self.new result (alu_of op self.old dest.now src) }
