@@ -1,6 +1,7 @@
 #!/bin/sh
-# Prints how long it takes to assemble 200 procedures of 60 instructions: a hundredth of the time of a program that does
-# it a hundred times.
+# Prints how long it takes to assemble 200 procedures of 60 instructions a hundred times, and how
+# much memory is held at most.
 set -eu
-result=$("$(dirname "$0")/best_of_five.sh" bench_assemble)
-echo "${result#* }, $((${result%% *} / 100)) microseconds each"
+cd "$(dirname "$0")"
+program=$(./built.sh bench_assemble)
+./best_of_five.sh "$program"

@@ -1,15 +1,15 @@
 #!/bin/sh
-# Builds the program crates/NAME of the workspace, runs it five times, and prints the least time that a run took, in microseconds, and
-# behind it what the program writes: best_of_five.sh NAME
+# Runs a command five times, and once more for its memory. Prints the least time that a run took,
+# the most memory that it held, and the last line that it wrote: best_of_five.sh COMMAND
 set -eu
-cd "$(dirname "$0")/../crates/$1"
-rt run > /dev/null 2>&1
+peak=$("$(dirname "$0")/peak.sh" "$@")
 best=
 for _ in 1 2 3 4 5; do
     begin=$(date +%s%N)
-    line=$("./out/$1")
+    output=$("$@" 2>/dev/null)
     end=$(date +%s%N)
-    taken=$(((end - begin) / 1000))
+    taken=$(((end - begin) / 1000000))
     if [ -z "$best" ] || [ "$taken" -lt "$best" ]; then best=$taken; fi
 done
-echo "$best $line"
+last=$(echo "$output" | tail -n 1)
+echo "$best ms, $((peak / 1024)) MB at most${last:+: $last}"

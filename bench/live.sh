@@ -1,5 +1,7 @@
 #!/bin/sh
-# Prints how long it takes to make the largest procedure that is sized and to ask for its liveness.
+# Prints how long it takes to make the largest procedure that is sized and to ask for its liveness,
+# and how much memory is held at most.
 set -eu
-result=$("$(dirname "$0")/best_of_five.sh" bench_live)
-echo "${result#* }, in $((${result%% *} / 1000)) ms"
+cd "$(dirname "$0")"
+program=$(./built.sh bench_live)
+./best_of_five.sh "$program"

@@ -1,8 +1,9 @@
-#!/usr/bin/env bash
-# Times the program on two sources of some 60,000 tokens that keep the rules and the limits, which it reads, checks and
-# compiles: one has 1 MB and 256 procedures, one has 10,000 names in one scope. Each time is the best of five.
+#!/bin/sh
+# Times the program on two sources of some 60,000 tokens that keep the rules and the limits, which
+# it reads, checks and compiles: one has 1 MB and 256 procedures, one has 10,000 names in one scope.
+# Each time is the best of five, and beside it stands the most memory that is held.
 set -eu
-top=$(cd "$(dirname "$0")/.." && pwd)
+bench=$(cd "$(dirname "$0")" && pwd)
 folder=$(mktemp -d)
 trap 'rm -rf "$folder"' EXIT
 cd "$folder"
@@ -10,7 +11,8 @@ cd "$folder"
 # 6 tokens around 256 procedures of 254
 awk 'BEGIN {
     comment = "(*"
-    while (length(comment) < 3200) comment = comment " what stands here is skipped (* and this in it *)"
+    skipped = " what stands here is skipped (* and this in it *)"
+    while (length(comment) < 3200) comment = comment skipped
     print "MODULE Wide;"
     for (i = 1; i <= 256; i++) {
         print "PROCEDURE P" i "(VAR total: INTEGER; count: INTEGER); VAR i"
@@ -30,18 +32,8 @@ awk 'BEGIN {
     print "VAR b: BOOLEAN; BEGIN b := c10000 = 10000 END Names."
 }' >names.ob
 
-best_of_five() {
-    best=
-    for _ in 1 2 3 4 5; do
-        from=$(date +%s%N)
-        "$top/pra" compile "$1" >output 2>notes
-        to=$(date +%s%N)
-        taken=$((to - from))
-        if [ -z "$best" ] || [ "$taken" -lt "$best" ]; then best=$taken; fi
-    done
-    echo "$1: $(stat -c %s "$1") bytes in $((best / 1000000)) ms: $(tail -n 1 output)"
-}
-
-"$top/pra" run "$top/examples/first.ob" >/dev/null 2>&1 # builds, where needed
-best_of_five wide.ob
-best_of_five names.ob
+"$bench/../pra" compile wide.ob >/dev/null 2>&1 # builds, where needed
+for name in wide.ob names.ob; do
+    result=$("$bench/best_of_five.sh" "$bench/../crates/pra/out/pra" compile "$name")
+    echo "$name: $(stat -c %s "$name") bytes in $result"
+done

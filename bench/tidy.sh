@@ -1,5 +1,7 @@
 #!/bin/sh
-# Prints how long it takes to make a procedure of as many instructions as there may be and to tidy it.
+# Prints how long it takes to make a procedure of as many instructions as there may be and to tidy
+# it, and how much memory is held at most.
 set -eu
-result=$("$(dirname "$0")/best_of_five.sh" bench_tidy)
-echo "${result#* }, in $((${result%% *} / 1000)) ms"
+cd "$(dirname "$0")"
+program=$(./built.sh bench_tidy)
+./best_of_five.sh "$program"
