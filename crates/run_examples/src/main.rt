@@ -1,34 +1,23 @@
-//! Runs the modules of examples/ by their meaning and prints what each writes, how it ends, and how
-//! many input words it takes.
+//! Runs the modules of examples/ by the tool's own call, and prints of each what it writes, what is
+//! noted of its procedures and its ending, and the status.
 //!
-//! Each module goes through the reader and the checker; what it does is answered by the slow
-//! evaluator, which is proved to answer the meaning.
+//! `data` holds a copy of each module of examples/, equal to the byte, and the input that it is run
+//! on. What the modules write was worked out apart from the program; frames and steps are those that
+//! it told once, so that a change of them is seen.
 #![tactic(auto)]
 
 use anyhow::anyhow;
-use ob_read::{MAX_SOURCE, Parsed, read, resolve};
-use ob_sketch::module::{Reached, run};
-use ob_sketch::running::{Finish, Setting};
-use ob_syntax::Checked;
-use pra_base::TrapKind;
-use pra_io::{Folder, HostFolder};
-use pra_report::{input_words, output_text};
+use pra_base::OutOfMemory;
+use pra_io::{Folder, HostFolder, MemSink, MemSource};
+use pra_tool::run_tool;
 use std::alloc::Global;
+use std::str;
 
-/// How deep statements, expressions and calls may nest.
-const FUEL: u32 = 2_000;
-
-/// How many turns a loop may take, and how deep calls may stand.
-const TURNS: u32 = 200;
-
-/// The bytes of each procedure's frame; the stack has 1,048,576.
-const FRAMES: [u32; 5] = [10_000, 10_000, 10_000, 10_000, 10_000];
-
-/// The most bytes of an input.
-const MOST_INPUT: usize = 4_096;
-
-/// The modules, each in the file NAME.ob, with its input in NAME.in.
+/// The modules, each in the file NAME.ob, with its input in NAME.in; behind the name stand the
+/// options that it is run with.
 const EXAMPLES: &str = "\
+first
+sums
 samples
 sort
 primes
@@ -38,71 +27,63 @@ matrix
 magic
 queue
 overflow
-endless";
+endless --steps 400";
+
+/// The most bytes of an input, of an output and of notes.
+const ROOM: usize = 4_096;
+
+/// What a run writes, and its status.
+#[derive(Drop)]
+struct Ran {
+    out: MemSink,
+    notes: MemSink,
+    status: u8,
+}
 
 fn main(rt: HostRuntime) -> anyhow::Result<()> {
     let alloc = rt.alloc();
     let mut folder = HostFolder::new(alloc, &rt);
-    for name in EXAMPLES.lines() {
-        let program = checked(alloc, &mut folder, name)?;
+    for line in EXAMPLES.lines() {
+        let (name, options) = line.split_once(' ').unwrap_or((line, ""));
+        let words = words(alloc, name, options).map_err(|_| anyhow!("no memory"))?;
         let input = input(alloc, &mut folder, name)?;
-        let reached = reached(alloc, &program, &input)?;
-        println!(rt; "{name}")?;
-        println!(rt; "{}", output(alloc, &reached)?)?;
-        println!(rt;
-            "{} reads {}",
-            ending(reached.finish),
-            reached.running.taken
-        )?;
+        let ran = run(alloc, &words, &mut folder, input).map_err(|_| anyhow!("no memory"))?;
+        println!(rt; "{line}")?;
+        println!(rt; "{}", str::from_utf8(ran.out.bytes())?)?;
+        print!(rt; "{}", str::from_utf8(ran.notes.bytes())?)?;
+        println!(rt; "status {}", ran.status)?;
     }
     Ok(())
 }
 
-// The module that the text of NAME.ob stands for.
-fn checked<D: Folder>(alloc: Global, folder: &mut D, name: &str) -> anyhow::Result<Checked> {
-    let name = format!(in alloc; "{name}.ob")?;
-    let bytes = folder.read_file(alloc, &name, MAX_SOURCE);
-    let bytes = bytes.map_err(|_| anyhow!("a module can't be read"))?;
-    let parsed = read(alloc, &bytes).map_err(|_| anyhow!("no module"))?;
-    let Parsed { tokens, tree } = parsed;
-    let checked = resolve(alloc, &bytes, &tokens, tree);
-    checked.map_err(|_| anyhow!("a rule is broken"))
-}
-
-// The words of NAME.in.
-fn input<D: Folder>(alloc: Global, folder: &mut D, name: &str) -> anyhow::Result<Vec<i32>> {
-    let name = format!(in alloc; "{name}.in")?;
-    let bytes = folder.read_file(alloc, &name, MOST_INPUT);
-    let bytes = bytes.map_err(|_| anyhow!("an input can't be read"))?;
-    input_words(alloc, &bytes).map_err(|_| anyhow!("an input has no words"))
-}
-
-// What running the module comes to.
-fn reached(alloc: Global, program: &Checked, input: &[i32]) -> anyhow::Result<Reached> {
-    let setting = Setting {
-        alloc,
-        program,
-        frames: &FRAMES,
-        input,
-        turns: TURNS,
-    };
-    let reached = run(&setting, FUEL).map_err(|_| anyhow!("no memory"))?;
-    reached.ok_or_else(|| anyhow!("the module nests too deep"))
-}
-
-fn output(alloc: Global, reached: &Reached) -> anyhow::Result<String> {
-    let text = output_text(alloc, reached.running.events.as_slice());
-    let text = text.map_err(|_| anyhow!("no memory"))?;
-    String::from_utf8(text).map_err(|_| anyhow!("no text"))
-}
-
-fn ending(finish: Finish) -> &'static str {
-    match finish {
-        Finish::Normal => "ended",
-        Finish::Going => "going",
-        Finish::Trapped(TrapKind::Index) => "trap Index",
-        Finish::Trapped(TrapKind::Divide) => "trap Divide",
-        Finish::Trapped(TrapKind::Input) => "trap Input",
-        Finish::Trapped(TrapKind::Stack) => "trap Stack",
+// The words of the call that runs NAME.ob.
+fn words(alloc: Global, name: &str, options: &str) -> Result<Vec<String>, OutOfMemory> {
+    let mut words = Vec::new(alloc);
+    words.push(String::from_str(alloc, "run")?)?;
+    words.push(format!(in alloc; "{name}.ob")?)?;
+    for option in options.split_ascii_whitespace() {
+        words.push(String::from_str(alloc, option)?)?;
     }
+    Ok(words)
+}
+
+// What NAME.in holds.
+fn input<D: Folder>(alloc: Global, folder: &mut D, name: &str) -> anyhow::Result<MemSource> {
+    let name = format!(in alloc; "{name}.in")?;
+    let bytes = folder.read_file(alloc, &name, ROOM);
+    let bytes = bytes.map_err(|_| anyhow!("an input can't be read"))?;
+    Ok(MemSource::new(bytes, ROOM, Vec::new(alloc)))
+}
+
+// What the call leaves that reads the given input.
+fn run<D: Folder>(
+    alloc: Global,
+    words: &[String],
+    folder: &mut D,
+    mut input: MemSource,
+) -> Result<Ran, OutOfMemory> {
+    let mut out = MemSink::new(alloc, ROOM, ROOM, Vec::new(alloc))?;
+    let mut notes = MemSink::new(alloc, ROOM, ROOM, Vec::new(alloc))?;
+    let status = run_tool(alloc, words, folder, &mut input, &mut out, &mut notes);
+    Ok(Ran { out, notes, status })
 }
