@@ -1,8 +1,12 @@
 //! Tests of the public calls at the top: the outside, and whole calls of the tool.
 //!
-//! Each module tests one thing, and nothing here is used by another crate.
+//! `outside` makes a whole call over objects in memory. `calls` has rows of modules with what is
+//! left by calls of many kinds, `table` modules of every kind with a run of each, and `words_rows`
+//! command lines. Nothing here is used by another crate.
 #![tactic(auto)]
 
+#[cfg(test)]
+mod calls;
 #[cfg(test)]
 mod fake_files;
 #[cfg(test)]
@@ -10,11 +14,9 @@ mod fake_streams;
 #[cfg(test)]
 mod host_tests;
 #[cfg(test)]
-mod input_rows;
-#[cfg(test)]
 mod memory_tests;
 #[cfg(test)]
-mod rows;
+mod outside;
 #[cfg(test)]
 mod table;
 #[cfg(test)]

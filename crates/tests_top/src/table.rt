@@ -4,25 +4,25 @@ mod long;
 mod modules;
 mod rules;
 
-use crate::rows::{ALL_WELL, call};
+use crate::calls::{field, unfolded};
+use crate::outside::{ALL_WELL, call};
 use pra_base::OutOfMemory;
 use std::alloc::{Alloc, Global};
 use std::process::Abort;
-use std::str::Split;
 
-/// A source, and what a call over it must leave: the status in decimal, the output, and the line of
-/// notes without its end; of a run, how its last line begins.
+/// A source, and what a call over it must leave: the status in decimal, the output, in which `$` is
+/// the end of a line, and the line of notes without its end; of a run, how its last line begins.
 #[derive(Clone, Copy)]
 struct Row<'a> {
     name: &'a str,
     source: &'a [u8],
     status: &'a str,
-    out: &'a [u8],
+    out: &'a str,
     notes: &'a str,
 }
 
 // The last line of notes, without its end.
-pub(crate) fn last_line(notes: &[u8]) -> &str {
+fn last_line(notes: &[u8]) -> &str {
     let lines = notes.strip_suffix(b"\n").unwrap_or(notes);
     let text = str::from_utf8(lines).unwrap_or("");
     match text.rsplit_once('\n') {
@@ -31,17 +31,8 @@ pub(crate) fn last_line(notes: &[u8]) -> &str {
     }
 }
 
-// A line of a table has `$` for each line feed of the output.
-fn in_a_line(alloc: Global, out: &[u8]) -> Result<Vec<u8>, OutOfMemory> {
-    let mut line = Vec::new(alloc);
-    for byte in out {
-        line.push(if *byte == b'\n' { b'$' } else { *byte })?;
-    }
-    Ok(line)
-}
-
 fn check(rt: &impl Abort, alloc: Global, row: Row) -> Result<(), OutOfMemory> {
-    let left = call(alloc, &["run", "M.ob"], row.source, ALL_WELL)?;
+    let left = call(alloc, "run M.ob", row.source, b"", ALL_WELL)?;
     let name = row.name;
     assert_eq!(rt; Some(left.status), row.status.parse::<u8>().ok(), "{name}");
     let notes = left.notes.bytes();
@@ -59,19 +50,14 @@ fn check(rt: &impl Abort, alloc: Global, row: Row) -> Result<(), OutOfMemory> {
             "{name}"
         );
     }
-    let out = in_a_line(alloc, left.out.bytes())?;
-    assert_eq!(rt; out.as_slice(), row.out, "{name}");
+    let out = unfolded(alloc, row.out)?;
+    assert_eq!(rt; left.out.bytes(), out.as_slice(), "{name}");
     assert_eq!(rt;
         left.folder.file("out.pri").is_some(),
         left.status <= 2,
         "{name}"
     );
     Ok(())
-}
-
-// The next field of a line, which is empty past its end.
-fn field<'a>(fields: &mut Split<'a, char>) -> &'a str {
-    fields.next().unwrap_or("")
 }
 
 fn check_lines(rt: &impl Abort, alloc: Global, table: &str) -> Result<(), OutOfMemory> {
@@ -81,7 +67,7 @@ fn check_lines(rt: &impl Abort, alloc: Global, table: &str) -> Result<(), OutOfM
             name: field(&mut fields),
             source: field(&mut fields).as_bytes(),
             status: field(&mut fields),
-            out: field(&mut fields).as_bytes(),
+            out: field(&mut fields),
             notes: field(&mut fields),
         };
         check(rt, alloc, row)?;
@@ -114,7 +100,7 @@ fn check_long(rt: &impl Abort, alloc: Global, table: &str) -> Result<(), OutOfMe
             name,
             source: &source,
             status: field(&mut fields),
-            out: field(&mut fields).as_bytes(),
+            out: field(&mut fields),
             notes: field(&mut fields),
         };
         check(rt, alloc, row)?;

@@ -1,19 +1,24 @@
 // Command lines, and what a call with each of them leaves.
 //
 // A line of a table is a row. Its first field is the words, between which one blank stands each, so
-// that two blanks have an empty word between them.
+// that two blanks have an empty word between them. An empty line has no words.
 
-use crate::rows::{ALL_WELL, Left, NUMBER, NUMBER_IMAGE, call};
-use crate::table::last_line;
-use pra_base::OutOfMemory;
+use crate::outside::{ALL_WELL, call};
 use pra_io::{Folder, HostFolder, MemSink, MemSource};
 use pra_tool::run_tool;
-use std::alloc::{Alloc, Global};
+use std::alloc::Alloc;
 use std::fs;
 use std::test::Fail;
 
+const NUMBER: &[u8] = b"MODULE M; BEGIN Write(7); WriteLn END M.";
+
+/// How many bytes its image file has: a header of 16, and 63 of code.
+const NUMBER_IMAGE: usize = 79;
+
 /// Words that are refused, and what is told of them.
 const REFUSED: &str = "\
+|words
+run|words
 M.ob|words
 run M.ob more|words
 run M.ob --steps 3 more|words
@@ -62,19 +67,11 @@ run --image - M.ob|-|ended steps 18 reads 0
 --steps 18 -- run M.ob|out.pri|ended steps 18 reads 0
 run M.ob --image M.ob.pri|M.ob.pri|ended steps 18 reads 0";
 
-fn call_with(alloc: Global, line: &str) -> Result<Left, OutOfMemory> {
-    let mut words = Vec::new(alloc);
-    for word in line.split(' ') {
-        words.push(word)?;
-    }
-    call(alloc, &words, NUMBER, ALL_WELL)
-}
-
 #[test]
 fn bad_words_are_told(rt: HostRuntime) -> Result<(), Fail> {
     for row in REFUSED.lines() {
         let (words, fault) = row.split_once('|').ok_or("a row without its fault")?;
-        let left = call_with(rt.alloc(), words)?;
+        let left = call(rt.alloc(), words, NUMBER, b"", ALL_WELL)?;
         let notes = format!(in rt.alloc();
             "fault {fault}\nusage: pra MODE FILE [--steps M] [--image NAME]\n"
         )?;
@@ -92,8 +89,9 @@ fn good_words_are_taken(rt: HostRuntime) -> Result<(), Fail> {
     for row in TAKEN.lines() {
         let (words, rest) = row.split_once('|').ok_or("a row without its image")?;
         let (image, line) = rest.split_once('|').ok_or("a row without its line")?;
-        let left = call_with(rt.alloc(), words)?;
-        assert_eq!(rt; last_line(left.notes.bytes()), line, "{words}");
+        let left = call(rt.alloc(), words, NUMBER, b"", ALL_WELL)?;
+        let notes = format!(in rt.alloc(); "procedure 0 M frame 20\n{line}\n")?;
+        assert_eq!(rt; left.notes.bytes(), notes.as_bytes(), "{words}");
         let written = left.folder.file(image).ok_or("no image")?;
         assert_eq!(rt; written.len(), NUMBER_IMAGE, "{words}");
         assert_eq!(rt; left.folder.file("M.ob"), Some(NUMBER), "{words}");
