@@ -1,8 +1,7 @@
 -- One more procedure is added, and what was added can be assembled.
-use Rattle.std.proofs.Common.{◌≡◌, ℕ, zero, suc, ◌+◌, ◌≤◌, List, [], ◌∷◌, ◌++◌, length, Some, refl, sym, ap, ◌∙◌, subst, arith}
-use Rattle.std.specs.Prelude.{slice_get}
-use Rattle.std.specs.List.{sum_by}
-use Rattle.std.proofs.lemmas.List.Sums.{sum_by-append}
+use Rattle.std.proofs.Common.{ℕ, ◌+◌, ◌≤◌, List, [], ◌∷◌, ◌++◌, length, ap, ◌∙◌, arith}
+use Rattle.std.proofs.lemmas.List.Sums.{sum_by_push}
+use Rattle.pra_list.proofs.Elements.{each_more}
 use Rattle.ia_asm.specs.Assembly.{CanAssemble}
 use Rattle.ia_carries.proofs.Few.{is_small, same_instructions}
 use Rattle.ia_emit.specs.Counts.{instruction_count}
@@ -13,16 +12,6 @@ use Rattle.pl_place.specs.Behind.{Routed, IsBehind}
 use Rattle.pl_place.specs.Valid.{IsPlaced}
 use Rattle.pra_base.specs.Valid.{IsSized, instruction_count as count_of}
 
-each_more : (P : LProc → Type 0) (xs : List LProc) (x : LProc) → ((k : ℕ) (y : LProc) → slice_get xs k ≡ Some y → P y) → P x →
-    (k : ℕ) (y : LProc) → slice_get (xs ++ x ∷ []) k ≡ Some y → P y
-each_more P [] x each last zero y h = let same : x ≡ y = cc in subst P same last
-each_more P [] x each last (suc k) y h = cc
-each_more P (z ∷ zs) x each last zero y h = each 0 y h
-each_more P (z ∷ zs) x each last (suc k) y h = each_more P zs x (λ j. each (suc j)) last k y h
-
-sum_more : (f : LProc → ℕ) (xs : List LProc) (x : LProc) → sum_by f (xs ++ x ∷ []) ≡ sum_by f xs + f x
-sum_more f xs x = let all = sum_by-append f xs (x ∷ []) in omega (arith, all)
-
 -- one more, of sized code and a flow that stand behind it
 pub one_more : (procs : List LProc) (instructions blocks : ℕ) (r : Routed) (p : LProc) → AreAdded procs instructions blocks → IsBehind r p → IsPlaced p → IsSized r.code →
     instructions + count_of r.code.blocks ≤ 262401 → blocks + length r.code.blocks ≤ 131586 →
@@ -30,8 +19,8 @@ pub one_more : (procs : List LProc) (instructions blocks : ℕ) (r : Routed) (p 
 one_more procs instructions blocks r p are behind placed sized few some = record {
   placed = each_more IsPlaced procs p are.placed placed;
   small = each_more _ procs p are.small (is_small r p behind sized);
-  instructions_are = sum_more instruction_count procs p ∙ ap (λ n. n + instruction_count p) are.instructions_are ∙ ap (λ n. instructions + n) (same_instructions r p behind);
-  blocks_are = sum_more (λ (q : LProc). length q.blocks) procs p ∙ ap (λ n. n + length p.blocks) are.blocks_are ∙ ap (λ n. blocks + n) behind.count;
+  instructions_are = sum_by_push instruction_count procs p ∙ ap (λ n. n + instruction_count p) are.instructions_are ∙ ap (λ n. instructions + n) (same_instructions r p behind);
+  blocks_are = sum_by_push (λ (q : LProc). length q.blocks) procs p ∙ ap (λ n. n + length p.blocks) are.blocks_are ∙ ap (λ n. blocks + n) behind.count;
   few_instructions = few;
   few_blocks = some;
 }

@@ -1,7 +1,7 @@
 // A module whose procedures are placed one after the other.
 
-ghost use Rattle.std.specs.Prelude.{◌≡◌, ◌≤◌, IfOk, OnErr, OnOk, [], length};
-ghost use Rattle.ia_asm.specs.Assembly.{CanAssemble, IsImageOf};
+ghost use Rattle.std.specs.Prelude.{◌≡◌, ◌≤◌, IfOk, OnErr, OnOk, []};
+ghost use Rattle.ia_asm.specs.Assembly.{IsImageOf};
 ghost use Rattle.ia_code.specs.Image.{IsImage, max_data_words};
 ghost use Rattle.ia_sketch.specs.Added.{IsAdded};
 ghost use Rattle.net_form.specs.Admitted.{IsAdmitted};

@@ -2,7 +2,7 @@
 
 ghost use Rattle.std.specs.Prelude.{◌≡◌, IfOk, IsTrue};
 ghost use Rattle.net_form.specs.Admitted.{IsAdmitted};
-ghost use Rattle.net_form.specs.Flow.{flow, AreRoutes, HasPlaces};
+ghost use Rattle.net_form.specs.Flow.{flow, AreRoutes};
 ghost use Rattle.net_form.specs.Formed.{IsFormed};
 ghost use Rattle.net_form.specs.Network.{IsNet};
 ghost use Rattle.pra_base.specs.Valid.{IsSized, IsValid};

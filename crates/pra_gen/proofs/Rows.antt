@@ -1,5 +1,5 @@
 -- Texts in a row and draws one behind the other, as loops reach them.
-use Rattle.std.proofs.Common.{◌≡◌, ℕ, ◌+◌, ◌*◌, List, [], ◌++◌, refl, ap, suc, zero, arith, sym, ◌∙◌, append_assoc, append-nil}
+use Rattle.std.proofs.Common.{◌≡◌, ℕ, ◌+◌, List, [], ◌++◌, refl, ap, suc, zero, arith, sym, ◌∙◌, append_assoc, append-nil}
 use Rattle.pra_gen.specs.Draws.{next_state, state_after}
 use Rattle.pra_gen.specs.Module.{in_a_row}
 

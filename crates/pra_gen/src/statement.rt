@@ -1,6 +1,6 @@
 // Random assignments.
 
-ghost use Rattle.std.specs.Prelude.{◌≡◌, ◌<◌, ◌++◌, OnOk, string_bytes, ◌^◌};
+ghost use Rattle.std.specs.Prelude.{◌≡◌, ◌<◌, ◌++◌, OnOk, string_bytes};
 ghost use Rattle.pra_gen.specs.Draws.{state_after};
 ghost use Rattle.pra_gen.specs.Module.{form_of, statement_from, right_side, statement_line};
 

@@ -1,7 +1,7 @@
 // The rules that one block keeps, and those of all its instructions.
 
-ghost use Rattle.std.specs.Prelude.{◌≡◌, ◌≤◌, ◌<◌, ◌↔◌, ℕ, IsTrue, Some, length};
-ghost use Rattle.std.specs.Prelude.{slice_get, IfSome};
+ghost use Rattle.std.specs.Prelude.{◌≡◌, ◌<◌, ◌↔◌, ℕ, IsTrue, Some, length};
+ghost use Rattle.std.specs.Prelude.{IfSome};
 ghost use Rattle.pra_base.specs.declared.code.VInstr.{VInstr as Instr};
 ghost use Rattle.pra_base.specs.Code.{IsTarget, block_in, instr_at};
 ghost use Rattle.pra_base.specs.Valid.{IsSized, EndsWithCmp, PushesLead, TakesAny};

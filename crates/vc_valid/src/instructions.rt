@@ -6,7 +6,7 @@ ghost use Rattle.pra_base.specs.Code.{instr_at};
 ghost use Rattle.pra_base.specs.Operands.{reads, writes, only_writes};
 ghost use Rattle.pra_base.specs.Valid.{IsSized, DividesApart, KeepsConstant, NamesCell};
 ghost use Rattle.vc_live.specs.Equations.{named_in};
-ghost use Rattle.vc_live.specs.Rows.{live_at, IsLiveness};
+ghost use Rattle.vc_live.specs.Rows.{IsLiveness};
 ghost use Rattle.vc_live.specs.Sized.{named_cell};
 ghost use Rattle.vc_valid.specs.Rules.{KeepsVariable, KeepsVariables, KeepsRules};
 

@@ -1,5 +1,3 @@
-use Rattle.std.proofs.Common.{◌≡◌}
-use Rattle.pra_gen.specs.Draws.{state_after}
 use Rattle.pra_gen.proofs.Drawn.{first, second, third, fourth, gives, statement_is}
 use Rattle.pra_gen.proofs.statement.Statement.drawn.Goals as goal
 
