@@ -1,6 +1,7 @@
 -- Code under construction: blocks that are still open, the four changes that are made to code, and
 -- what later code has of earlier code.
-use Rattle.std.specs.Prelude.{◌≡◌, ◌≢◌, ℕ, ◌<◌, ◌≤◌, List, [], ◌∷◌, ◌++◌, length, slice_set}
+use Rattle.std.specs.Prelude.{◌≡◌, ◌≢◌, ℕ, suc, ◌<◌, ◌≤◌, Bool, false, nat_eq, List}
+use Rattle.std.specs.Prelude.{[], ◌∷◌, ◌++◌, length, count_by, slice_set}
 use Rattle.pra_base.specs.Code.{kind_of, block_of, code_of, end_of}
 use Rattle.pra_base.specs.declared.code.VarKind.{VarKind}
 use Rattle.pra_base.specs.declared.code.VInstr.{VInstr}
@@ -74,3 +75,25 @@ pub record Grows (old new : VProc) : Type 0 where
 pub record GrowsAt (from : ℕ) (old new : VProc) : Type 0 where
   pub grows : Grows old new
   pub others : (b : ℕ) → b < count old → b ≢ from → block_of new b ≡ block_of old b
+
+-- ---- how many blocks are open
+
+abbrev pub is_stand_in : End → Bool
+is_stand_in (Jump b) = nat_eq b.0 0
+is_stand_in _ = false
+
+abbrev pub is_open : Block → Bool
+is_open block = is_stand_in block.end
+
+abbrev pub open_blocks : VProc → ℕ
+open_blocks code = count_by is_open code.blocks
+
+-- One block that was open is closed.
+pub record ClosesOne (old new : VProc) : Type 0 where
+  pub one_less : suc (open_blocks new) ≡ open_blocks old
+
+-- The block `to` is open in place of the block `from`, and as many blocks are open as before. If
+-- the entry was open only as the only block, so it is still.
+pub record HandsOn (from to : ℕ) (old new : VProc) : Type 0 where
+  pub as_many : open_blocks new ≡ open_blocks old
+  pub entry : (from ≡ 0 → count old ≡ 1) → to ≡ 0 → count new ≡ 1

@@ -13,6 +13,10 @@
 //! by many changes is held by the code at the end. `GrowsAt b old new` says besides that of the old
 //! blocks only b is another.
 //!
+//! How many blocks are open (`open_blocks`) is counted, since counts compose with no names of
+//! blocks: code that goes on from one open block to another keeps the count (`HandsOn`), and an end
+//! takes one off (`ClosesOne`). Where one block is open, all others are closed (`only_open`).
+//!
 //! # Running on
 //!
 //! A run stands behind all that a block has so far (`Stands`), in a procedure whose final code
@@ -32,9 +36,10 @@
 //! # What the layers above use
 //!
 //! The laws (`laws`), and of `proofs/` the lemmas behind them and what puts runs together: `Growth`
-//! (each change: the new block, its length, where it is found in later code) and `Steps`
-//! (`yields_on`, which carries a value of a part into the whole and a trap past it, `reaches_on`,
-//! `rests`, `performs`, `leaves`, `gives`).
+//! (each change: the new block, its length, where it is found in later code), `Open` (each change:
+//! how many blocks are open; from one open block to another) and `Steps` (`yields_on`, which
+//! carries a value of a part into the whole and a trap past it, `reaches_on`, `rests`, `performs`,
+//! `leaves`, `gives`).
 #![tactic(auto)]
 
 pub mod build;

@@ -25,6 +25,7 @@ use Rattle.vc_code.specs.Selected.{Vars, read, selected, held_by, shape, code_of
 use Rattle.vc_build.specs.Grow.{count, stand_in, IsOpen, with_instr, with_end, with_variable, Grows, GrowsAt}
 use Rattle.vc_build.specs.Runs.{Codes, runs, Stands, RunsIn, acted, Reaches, Yields}
 use Rattle.vc_build.proofs.Growth.{grows_at_again, put_code, put_open, put_grows, closed_there, closed_end, closed_grows, declared_kind, declared_count, declared_grows}
+use Rattle.vc_build.proofs.Open.{jump_real, branch_real}
 use Rattle.vc_build.proofs.Steps.{run_more, performs, leaves, runs_in_earlier}
 use Rattle.vc_expr.specs.Operators.{is_relation, condition_of}
 use Rattle.vc_expr.specs.Branches.{Enters, chosen as chosen_of, BranchesBy, BranchesOn}
@@ -53,12 +54,9 @@ goes w id b s proc lt =
 -- ---- an end with one target
 
 module _ (w : Codes) (id at : ℕ) (old : VProc) (target : BlockId) (o : IsOpen old at) (some : target.0 ≢ 0) (there : target.0 < count old) (s : State Vars) (stands : Stands old at s.top) (r : RunsIn w id (with_end at (Jump target) old) s) where
-  real : Jump target ≢ stand_in
-  real e = some (cc)
-
   pub jumps : runs w 1 s ≡ with_top s (entered s.top target.0)
   jumps =
-      leaves w id at old s o stands (Jump target) real r
+      leaves w id at old s o stands (Jump target) (jump_real target some) r
       ∙ goes w id target.0 s r.proc (omega (arith, there, (closed_grows at (Jump target) old o).grows.blocks, r.holds.blocks))
 
 -- ---- a comparison, and an end with two targets
@@ -103,9 +101,6 @@ module _ (at : ℕ) (old : VProc) (k : Cond) (left right : VarId) (targets : Tar
   branch_grows : GrowsAt at old new
   branch_grows = grows_at_again old mid new at (put_grows at (Cmp left right) old o) (closed_grows at (Branch k one other) mid mid_open)
 
-  two_targets : Branch k one other ≢ stand_in
-  two_targets e = cc
-
   module _ (w : Codes) (id : ℕ) (s : State Vars) (x y : ℕ) (r : RunsIn w id new s) (stands : Stands old at s.top) (held : held_by (code_of w.procs s.top.proc) s.top (left.0 ∷ right.0 ∷ []) ≡ Some (Num x) ∷ Some (Num y) ∷ []) where
     abbrev moved : Activation Vars
     moved = at_point s.top s.top.home.block (suc s.top.home.index) s.top.home.held
@@ -138,7 +133,7 @@ module _ (at : ℕ) (old : VProc) (k : Cond) (left right : VarId) (targets : Tar
     branches =
         run_more (step (selected w.procs w.frames)) 1 1 s
         ∙ ap (runs w 1) compares_them
-        ∙ leaves_compared w id at mid compared mid_open (Branch k one other) two_targets r.holds r.proc r.going stands_behind
+        ∙ leaves_compared w id at mid compared mid_open (Branch k one other) (branch_real k one other) r.holds r.proc r.going stands_behind
         ∙ goes w id chosen compared r.proc (chosen_there (compares k x y))
 
   pub branches_by : (op : ROp) → is_relation op ≡ true → k ≡ condition_of op → BranchesBy op at old new left.0 right.0 targets

@@ -27,6 +27,7 @@ use Rattle.vc_code.specs.Selected.{Vars, read, valued, shape, code_of}
 use Rattle.vc_build.specs.Grow.{count, open_block, IsOpen, with_instr, with_end, with_open_block, with_variable, GrowsAt}
 use Rattle.vc_build.specs.Runs.{Codes, Stands, RunsIn, SameBelow, acted, Reaches, Holds, Yields}
 use Rattle.vc_build.proofs.Growth.{grows_at_again, put_count, put_open, put_grows, closed_grows, opened_kept, opened_count, opened_block, opened_grows, declared_kind, declared_count, declared_grows}
+use Rattle.vc_build.proofs.Open.{put_keeps, open_one}
 use Rattle.vc_build.proofs.Steps.{same_on, yields_on, rests, runs_in_earlier, runs_in_on, gives}
 use Rattle.vc_expr.specs.Operators.{is_bitwise, HasValue, first_of}
 use Rattle.vc_expr.specs.Branches.{Enters, chosen}
@@ -100,6 +101,7 @@ module _ (op : ROp) (at : ℕ) (old : VProc) (target : VarId) (depth : ℕ) (o :
   opens right behind r_is b_is = record {
     adds = record { grows = old_m4; is_open = m4_open; named = declared; above = omega (arith, is_new); plain = plain };
     blocks = m4_count;
+    waiting = omega (arith, open_one depth m3, open_one depth m2, put_keeps at set m1 m1_open);
     right = r_is ∙ m2_count;
     behind = b_is ∙ m3_count;
     right_block = ap (block_of m4) r_is ∙ opened_kept depth m3 (count m2) (omega (arith, opened_count depth m2)) ∙ opened_block depth m2 ∙ ap open_block same_depth;

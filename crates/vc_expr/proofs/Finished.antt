@@ -18,6 +18,7 @@ use Rattle.pra_base.specs.declared.code.End.TheVariants.{Branch, Return}
 use Rattle.pra_base.specs.declared.code.Block.{Block}
 use Rattle.pra_base.specs.declared.code.VProc.{VProc}
 use Rattle.vc_build.specs.Grow.{count, stand_in, with_end}
+use Rattle.vc_build.proofs.Open.{return_real}
 use Rattle.vc_build.proofs.Growth.{closed_block, closed_count}
 use Rattle.vc_expr.specs.Rules.{ClosesWell, KeepsRules, IsComplete}
 use Rattle.vc_expr.specs.Readable.{Entries, Certifies, IsClosed}
@@ -153,13 +154,10 @@ module _ (counts : List ℕ) (known : Entries) (code : VProc) (last : ℕ) (k : 
   closed : IsClosed whole
   closed b lt = (real, λ t target. omega (arith, (targets b t (omega (arith, lt, same_count)) target).1, same_count))
     where
-      not_open : Return ≡ stand_in → ⊥
-      not_open e = cc
-
       real : end_of whole b ≢ stand_in
       real e = ⊎_elim
           (λ (l : b < last). complete.closed b l (sym (end_before b l) ∙ e))
-          (λ (is : b ≡ last). not_open (sym (end_last b is) ∙ e))
+          (λ (is : b ≡ last). return_real (sym (end_last b is) ∙ e))
           (before_or_last b (omega (arith, lt, same_count)))
 
   is_block : (b n : ℕ) (i : VInstr) → slice_get (code_of whole b) n ≡ Some i → b < count whole

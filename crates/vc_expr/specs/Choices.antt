@@ -1,7 +1,7 @@
 -- `&` and OR as values with a right side that can trap. A variable has what is given where the left
 -- side decides; else control comes to a block that evaluates the right side, and gives its value to
 -- the variable. Both ways lead to one more block.
-use Rattle.std.specs.Prelude.{◌≡◌, ℕ, suc, Bool, true, false, length}
+use Rattle.std.specs.Prelude.{◌≡◌, ℕ, suc, ◌+◌, Bool, true, false, length}
 use Rattle.pra_base.specs.Code.{block_of}
 use Rattle.pra_base.specs.declared.code.VProc.{VProc}
 use Rattle.ob_syntax.specs.declared.checked.ROp.{ROp}
@@ -10,7 +10,7 @@ use Rattle.ob_syntax.specs.declared.checked.Value.{Value}
 use Rattle.ob_syntax.specs.declared.checked.Value.TheVariants.{Truth}
 use Rattle.vc_code.specs.Machine.{Activation, State}
 use Rattle.vc_code.specs.Selected.{Vars}
-use Rattle.vc_build.specs.Grow.{count, open_block, GrowsAt}
+use Rattle.vc_build.specs.Grow.{count, open_block, open_blocks, GrowsAt}
 use Rattle.vc_build.specs.Runs.{Codes, Stands, RunsIn, SameBelow, Reaches}
 use Rattle.vc_expr.specs.declared.branch.Targets.{Targets}
 use Rattle.vc_expr.specs.declared.choice.Choice.{Choice}
@@ -32,6 +32,7 @@ test_of _ choice = record { holds = choice.right; fails = choice.behind }
 pub record OpensChoice (op : ROp) (at : ℕ) (old new : VProc) (choice : Choice) : Type 0 where
   pub adds : Adds (length old.vars) at old new choice.target.0
   pub blocks : count new ≡ suc (suc (count old))
+  pub waiting : open_blocks new ≡ 2 + open_blocks old
   pub right : choice.right.0 ≡ count old
   pub behind : choice.behind.0 ≡ suc (count old)
   pub right_block : block_of new choice.right.0 ≡ open_block (block_of old at).depth

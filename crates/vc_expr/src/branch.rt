@@ -1,7 +1,8 @@
 // Conditions: a comparison, and an end with two targets.
 
-ghost use Rattle.std.specs.Prelude.{◌≡◌, ◌<◌, ◌≤◌, length, true, OnOk};
-ghost use Rattle.vc_build.specs.Grow.{count, IsOpen};
+ghost use Rattle.std.specs.Prelude.{◌≡◌, ◌≢◌, ◌<◌, ◌≤◌, length, true, OnOk};
+ghost use Rattle.pra_base.specs.Code.{end_of};
+ghost use Rattle.vc_build.specs.Grow.{count, stand_in, IsOpen};
 ghost use Rattle.vc_expr.specs.Operators.{is_relation};
 ghost use Rattle.vc_expr.specs.Branches.{BranchesBy, BranchesOn};
 ghost use Rattle.vc_expr.specs.Rules.{StaysValid};
@@ -44,6 +45,7 @@ pub fn branch_by(
     ensures vars { OnOk result (code.new.vars ≡ code.old.vars) }
     ensures branches { OnOk result
         (BranchesBy op at.0 code.old code.new left.0 right.0 targets) }
+    ensures closed { OnOk result (end_of code.new at.0 ≢ stand_in) }
     ensures counts { OnOk result (AddsAtMost 1 0 0 0 code.old code.new) }
     ensures valid { OnOk result (0 < targets.holds.0 → 0 < targets.fails.0 →
         StaysValid code.old code.new) }
@@ -78,6 +80,7 @@ pub fn branch_on(
     requires fails { targets.fails.0 < count code.old }
     ensures vars { OnOk result (length code.old.vars ≤ length code.new.vars) }
     ensures branches { OnOk result (BranchesOn at.0 code.old code.new v.0 targets) }
+    ensures closed { OnOk result (end_of code.new at.0 ≢ stand_in) }
     ensures counts { OnOk result (AddsAtMost 1 0 1 0 code.old code.new) }
     ensures valid { OnOk result (0 < targets.holds.0 → 0 < targets.fails.0 →
         StaysValid code.old code.new) }

@@ -2,12 +2,12 @@
 // side, and what stands behind the right side.
 
 ghost use Rattle.std.specs.Prelude.{◌≡◌, ◌≢◌, ◌<◌, ◌≤◌, length, IfOk, OnOk};
-ghost use Rattle.pra_base.specs.Code.{kind_of};
+ghost use Rattle.pra_base.specs.Code.{end_of, kind_of};
 ghost use Rattle.pra_base.specs.declared.code.VarKind.TheVariants.{Plain};
 ghost use Rattle.pra_base.specs.declared.code.VInstr.TheVariants.{Set};
 ghost use Rattle.ob_syntax.specs.Operators.{number};
 ghost use Rattle.ob_syntax.specs.declared.checked.Value.TheVariants.{Truth};
-ghost use Rattle.vc_build.specs.Grow.{count, IsOpen};
+ghost use Rattle.vc_build.specs.Grow.{count, stand_in, IsOpen};
 ghost use Rattle.vc_expr.specs.Choices.{decided, test_of, OpensChoice, ClosesChoice};
 ghost use Rattle.vc_expr.specs.Rules.{StaysValid};
 ghost use Rattle.vc_expr.specs.Readable.{PublishesNew, PublishesTo};
@@ -106,6 +106,7 @@ pub fn close_choice(
     requires no_entry { 0 < choice.behind.0 }
     ensures vars { OnOk result (code.new.vars ≡ code.old.vars) }
     ensures closes { OnOk result (ClosesChoice at.0 code.old code.new v.0 choice) }
+    ensures closed { OnOk result (end_of code.new at.0 ≢ stand_in) }
     ensures counts { OnOk result (AddsAtMost 1 0 0 0 code.old code.new) }
     ensures valid { OnOk result (choice.target.0 ≢ v.0 → StaysValid code.old code.new) }
     ensures reads { OnOk result

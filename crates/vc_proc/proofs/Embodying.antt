@@ -20,7 +20,8 @@ use Rattle.ob_mean.specs.declared.store.LiveCall.{LiveCall}
 use Rattle.vc_code.specs.Value.{Words}
 use Rattle.vc_code.specs.Machine.{Activation, State, is_param, with_top}
 use Rattle.vc_code.specs.Selected.{Vars, argument, code_of}
-use Rattle.vc_build.specs.Grow.{stand_in, with_end, Grows}
+use Rattle.vc_build.specs.Grow.{with_end, Grows}
+use Rattle.vc_build.proofs.Open.{return_real}
 use Rattle.vc_build.specs.Runs.{Codes, RunsIn}
 use Rattle.vc_build.proofs.Growth.{grows_on, grows_same, closed_count, closed_grows}
 use Rattle.vc_build.proofs.Steps.{leaves}
@@ -136,15 +137,12 @@ module _ (g : Setting) (set : IsSet g) (proc : CheckedProc) (there : slice_get g
         }
 
     -- the last block is left by Return
-    no_stand_in : Return ≡ stand_in → ⊥
-    no_stand_in e = cc
-
     at_return : (calls : List LiveCall) (waiting : List Vars) (m : mean.State) (t : State Vars) → Matches g w new to calls waiting m t → AtReturn program w calls waiting m t
     at_return calls waiting m t matched =
         let r = matched.starts.runs in
         let in_made : RunsIn w p made t = record { proc = r.proc; holds = subst (Grows made) (sym code_is) (grows_same made); going = r.going; compared = r.compared; room = r.room } in
         record {
-          step = leaves w p to new t does.extends.is_open matched.starts.stands Return no_stand_in in_made;
+          step = leaves w p to new t does.extends.is_open matched.starts.stands Return return_real in_made;
           going = r.going;
           compared = r.compared;
           pushed = matched.pushed;

@@ -20,8 +20,9 @@
 //! which the call has begun as vc_call asks it, its aggregates and locals 0. `finish` leaves the
 //! last open block by Return, and brings the blocks into the order of the text (`specs/Finished`).
 //!
-//! That selection of statements closes each block but the last one is no clause of vc_stmt.
-//! `finish` tests it, so that another open block would be refused; there is none.
+//! The opening has one open block, and behind the statements as many are open (`hands_on` of
+//! vc_stmt). So there `finish` meets one open block, and answers want of memory or of a number
+//! alone.
 //!
 //! # How the proof goes
 //!

@@ -19,5 +19,6 @@ pub mod ReadyTests
 pub mod ReadyChoice
 pub mod ReadyTargets
 pub mod Depths
+pub mod Opens
 pub mod ReadyArms
 pub mod Started

@@ -34,6 +34,8 @@
 //!   that were there. A condition closes its block (`EndsReady`): from targets that await no more
 //!   than might be read at its end it is certified, and other blocks that were ready still are.
 //! - `depth`: new blocks have the depth of the block `at` (`KeepsDepth`).
+//! - `hands_on`: as many blocks are open as before, so that of new blocks the new `at` alone may be
+//!   open (`HandsOn` of vc_build). A condition leaves one less open (`closes`).
 //!
 //! A caller names for a block that it opens what may be read at the end of the block that leads
 //! there; the law `blocks_wait` has it that blocks wait ready while code goes on elsewhere. The law

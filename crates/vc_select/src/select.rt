@@ -5,7 +5,7 @@ ghost use Rattle.ob_mean.specs.Expressions.{value, selector, location};
 ghost use Rattle.ob_mean.specs.Store.{Store};
 ghost use Rattle.ob_mean.specs.declared.store.LiveCall.{LiveCall};
 ghost use Rattle.ob_syntax.specs.declared.checked.RExpr.TheVariants.{Binary};
-ghost use Rattle.vc_build.specs.Grow.{IsOpen, count};
+ghost use Rattle.vc_build.specs.Grow.{count, ClosesOne, HandsOn, IsOpen};
 ghost use Rattle.vc_expr.specs.Operators.{is_bitwise as is_bitwise_operator};
 ghost use Rattle.vc_expr.specs.Operators.{is_relation as is_relation_operator};
 ghost use Rattle.vc_relation.specs.declared.home.Home.TheVariants as home;
@@ -61,6 +61,8 @@ pub fn select_expr(setting: &Setting<'_>, ctx: &mut Ctx, e: &RExpr) -> Result<Va
     ensures ready { IfOk result (λ v. StaysReady setting.now (length ctx.old.code.vars)
         ctx.old.code ctx.new.code ctx.old.at.0 ctx.new.at.0 (IsAnswer v.0)) }
     ensures depth { OnOk result (KeepsDepth ctx.old.at.0 ctx.new.at.0
+        ctx.old.code ctx.new.code) }
+    ensures hands_on { OnOk result (HandsOn ctx.old.at.0 ctx.new.at.0
         ctx.old.code ctx.new.code) }
 {
     match e {
@@ -127,6 +129,8 @@ fn select_binary(
         ctx.old.code ctx.new.code ctx.old.at.0 ctx.new.at.0 (IsAnswer v.0)) }
     ensures depth { OnOk result (KeepsDepth ctx.old.at.0 ctx.new.at.0
         ctx.old.code ctx.new.code) }
+    ensures hands_on { OnOk result (HandsOn ctx.old.at.0 ctx.new.at.0
+        ctx.old.code ctx.new.code) }
 {
     if is_sided(op, y) {
         let v = select_sides(setting, ctx, e, op, x, y)?;
@@ -162,6 +166,8 @@ fn select_sides(
     ensures ready { IfOk result (λ v. StaysReady setting.now (length ctx.old.code.vars)
         ctx.old.code ctx.new.code ctx.old.at.0 ctx.new.at.0 (IsAnswer v.0)) }
     ensures depth { OnOk result (KeepsDepth ctx.old.at.0 ctx.new.at.0
+        ctx.old.code ctx.new.code) }
+    ensures hands_on { OnOk result (HandsOn ctx.old.at.0 ctx.new.at.0
         ctx.old.code ctx.new.code) }
 {
     let first = variable_count(&ctx.code)?;
@@ -200,6 +206,8 @@ fn select_choice(
         ctx.old.code ctx.new.code ctx.old.at.0 ctx.new.at.0 (IsAnswer v.0)) }
     ensures depth { OnOk result (KeepsDepth ctx.old.at.0 ctx.new.at.0
         ctx.old.code ctx.new.code) }
+    ensures hands_on { OnOk result (HandsOn ctx.old.at.0 ctx.new.at.0
+        ctx.old.code ctx.new.code) }
 {
     let choice = open_choice(setting.alloc, &mut ctx.code, ctx.at, op)?;
     let targets = test_of(op, choice);
@@ -236,6 +244,8 @@ pub fn select_var(setting: &Setting<'_>, ctx: &mut Ctx, v: &RVar) -> Result<Targ
     ensures cells { IfOk result (λ t. (k : ℕ) → CellOf t k →
         IsHome setting.now (home.Cell k)) }
     ensures depth { OnOk result (KeepsDepth ctx.old.at.0 ctx.new.at.0
+        ctx.old.code ctx.new.code) }
+    ensures hands_on { OnOk result (HandsOn ctx.old.at.0 ctx.new.at.0
         ctx.old.code ctx.new.code) }
 {
     let first = variable_count(&ctx.code)?;
@@ -284,6 +294,8 @@ fn select_step(
         ctx.old.code ctx.new.code ctx.old.at.0 ctx.new.at.0 from.target r.target) }
     ensures depth { OnOk result (KeepsDepth ctx.old.at.0 ctx.new.at.0
         ctx.old.code ctx.new.code) }
+    ensures hands_on { OnOk result (HandsOn ctx.old.at.0 ctx.new.at.0
+        ctx.old.code ctx.new.code) }
 {
     let shapes = setting.program.types.as_slice();
     match step {
@@ -328,6 +340,8 @@ fn select_element(
     ensures ready { IfOk result (λ t. StaysReadyFrom setting.now first
         ctx.old.code ctx.new.code ctx.old.at.0 ctx.new.at.0 from.target t) }
     ensures depth { OnOk result (KeepsDepth ctx.old.at.0 ctx.new.at.0
+        ctx.old.code ctx.new.code) }
+    ensures hands_on { OnOk result (HandsOn ctx.old.at.0 ctx.new.at.0
         ctx.old.code ctx.new.code) }
 {
     let shapes = setting.program.types.as_slice();
@@ -379,6 +393,7 @@ pub fn select_test(
         (EndsReady setting.now ctx.old.code ctx.new.code ctx.old.at.0 targets) }
     ensures depth { OnOk result (KeepsDepth ctx.old.at.0 ctx.old.at.0
         ctx.old.code ctx.new.code) }
+    ensures closes { OnOk result (ClosesOne ctx.old.code ctx.new.code) }
 {
     match e {
         RExpr::Not(x) => {
@@ -430,6 +445,7 @@ fn select_binary_test(
         (EndsReady setting.now ctx.old.code ctx.new.code ctx.old.at.0 targets) }
     ensures depth { OnOk result (KeepsDepth ctx.old.at.0 ctx.old.at.0
         ctx.old.code ctx.new.code) }
+    ensures closes { OnOk result (ClosesOne ctx.old.code ctx.new.code) }
 {
     if is_bitwise(op) {
         select_split_test(setting, ctx, e, op, x, y, targets)?;
@@ -473,6 +489,7 @@ fn select_relation_test(
         (EndsReady setting.now ctx.old.code ctx.new.code ctx.old.at.0 targets) }
     ensures depth { OnOk result (KeepsDepth ctx.old.at.0 ctx.old.at.0
         ctx.old.code ctx.new.code) }
+    ensures closes { OnOk result (ClosesOne ctx.old.code ctx.new.code) }
 {
     let left = select_expr(setting, ctx, x)?;
     let right = select_expr(setting, ctx, y)?;
@@ -511,6 +528,7 @@ fn select_split_test(
         (EndsReady setting.now ctx.old.code ctx.new.code ctx.old.at.0 targets) }
     ensures depth { OnOk result (KeepsDepth ctx.old.at.0 ctx.old.at.0
         ctx.old.code ctx.new.code) }
+    ensures closes { OnOk result (ClosesOne ctx.old.code ctx.new.code) }
 {
     let right = open_beside(setting.alloc, &mut ctx.code, ctx.at)?;
     let inner = inner_targets(op, right, targets);

@@ -22,6 +22,7 @@ pub mod Endings
 pub mod Walking
 pub mod Amounting
 pub mod Shallow
+pub mod Opens
 pub mod Obeying
 pub mod Entering
 pub mod Proceeding

@@ -24,8 +24,9 @@ use Rattle.ob_syntax.specs.declared.checked.Checked.{Checked}
 use Rattle.ob_syntax.specs.declared.checked.CheckedProc.{CheckedProc}
 use Rattle.ob_syntax.specs.declared.checked.Param.{Param as Parameter}
 use Rattle.ob_syntax.specs.declared.checked.RArg.{RArg}
-use Rattle.vc_build.specs.Grow.{count, stand_in, IsOpen, with_instr, with_variable, Grows, GrowsAt}
+use Rattle.vc_build.specs.Grow.{count, stand_in, IsOpen, with_instr, with_variable, Grows, GrowsAt, HandsOn}
 use Rattle.vc_build.proofs.Growth.{grows_at_on, grows_at_again, put_code, put_count, put_open, put_grows, declared_kind, declared_count}
+use Rattle.vc_build.proofs.Open.{hands_same}
 use Rattle.vc_expr.specs.Counts.{AddsAtMost}
 use Rattle.vc_expr.specs.Readable.{Entries, usable, Certifies}
 use Rattle.vc_expr.specs.Rules.{Obeys, ClosesWell, KeepsRules}
@@ -412,8 +413,14 @@ module _ (g : Setting) (old mid new : VProc) (from to : ℕ) (p : ProcId) (vs : 
 pub call_as : (at : ℕ) (p : ProcId) (us vs : List VarId) (mid new : VProc) → us ≡ vs → new ≡ with_call at p us mid → new ≡ with_call at p vs mid
 call_as at p us vs mid new same is = is ∙ ap (λ ws. with_call at p ws mid) same
 
-pub call_shallow : (at : ℕ) (p : ProcId) (vs : List VarId) (mid new : VProc) → IsOpen mid at → new ≡ with_call at p vs mid → KeepsShallow mid new
-call_shallow at p vs mid new o is =
-    let last = with_call at p vs mid in
-    let grows : GrowsAt at mid last = grows_at_again mid (with_pushes at vs mid) last at (pushes_grow at vs mid o) (put_grows at (Call p) (with_pushes at vs mid) (pushes_open at vs mid o)) in
-    subst (λ (z : VProc). KeepsShallow mid z) (sym is) (shallow_same mid last grows.grows (omega (arith, (appends_call at p vs mid o).blocks)))
+module _ (at : ℕ) (p : ProcId) (vs : List VarId) (mid new : VProc) (o : IsOpen mid at) (is : new ≡ with_call at p vs mid) where
+  call_grows : GrowsAt at mid (with_call at p vs mid)
+  call_grows = grows_at_again mid (with_pushes at vs mid) (with_call at p vs mid) at (pushes_grow at vs mid o) (put_grows at (Call p) (with_pushes at vs mid) (pushes_open at vs mid o))
+
+  pub call_shallow : KeepsShallow mid new
+  call_shallow = subst (λ (z : VProc). KeepsShallow mid z) (sym is) (shallow_same mid (with_call at p vs mid) call_grows.grows (omega (arith, (appends_call at p vs mid o).blocks)))
+
+  pub call_hands : HandsOn at at mid new
+  call_hands =
+      subst (HandsOn at at mid) (sym is)
+      (hands_same at mid (with_call at p vs mid) call_grows (omega (arith, (appends_call at p vs mid o).blocks)) o (put_open at (Call p) (with_pushes at vs mid) (pushes_open at vs mid o)))

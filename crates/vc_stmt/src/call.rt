@@ -8,7 +8,7 @@ ghost use Rattle.pra_base.specs.declared.code.VInstr.TheVariants as instr;
 ghost use Rattle.ob_syntax.specs.WellFormed.{lent_by};
 ghost use Rattle.ob_syntax.specs.declared.checked.RStmt.{RStmt-F};
 ghost use Rattle.ob_mean.specs.Statements.{stmt_step};
-ghost use Rattle.vc_build.specs.Grow.{IsOpen, with_instr, with_variable};
+ghost use Rattle.vc_build.specs.Grow.{HandsOn, IsOpen, with_instr, with_variable};
 ghost use Rattle.vc_expr.specs.Counts.{AddsAtMost};
 ghost use Rattle.vc_select.specs.Amounts.{AddsForValue};
 ghost use Rattle.vc_select.specs.Certified.{IsAnswer, ReadsWord, StaysReady};
@@ -114,6 +114,8 @@ pub fn select_argument(
     ensures ready { IfOk result (λ v. StaysReady setting.now (length ctx.old.code.vars)
         ctx.old.code ctx.new.code ctx.old.at.0 ctx.new.at.0 (IsAnswer v.0)) }
     ensures depths { OnOk result (KeepsShallow ctx.old.code ctx.new.code) }
+    ensures hands_on { OnOk result (HandsOn ctx.old.at.0 ctx.new.at.0
+        ctx.old.code ctx.new.code) }
 {
     match arg {
         RArg::Value(e) => {
@@ -151,6 +153,8 @@ pub fn select_arguments(
     ensures ready { IfOk result (λ vs.
         PassesReady setting.now ctx.old.code ctx.new.code ctx.old.at.0 ctx.new.at.0 vs.items) }
     ensures depths { OnOk result (KeepsShallow ctx.old.code ctx.new.code) }
+    ensures hands_on { OnOk result (HandsOn ctx.old.at.0 ctx.new.at.0
+        ctx.old.code ctx.new.code) }
 {
     let mut values = Vec::new(setting.alloc);
     for arg in args {
@@ -211,6 +215,8 @@ pub fn select_call(
         (slice_get setting.now.program.now.procs callee.0) args.now
         && addressed setting.now.program.now setting.now.id.0 (lent_by args.now))) }
     ensures depths { OnOk result (KeepsShallow ctx.old.code ctx.new.code) }
+    ensures hands_on { OnOk result (HandsOn ctx.old.at.0 ctx.new.at.0
+        ctx.old.code ctx.new.code) }
 {
     let values = select_arguments(setting, ctx, args)?;
     put_call(

@@ -48,6 +48,8 @@
 //!   What is asked is the Bool `is_sound` again: so each call passes as many arguments as the
 //!   procedure has parameters, by `parameter_counts` of the module.
 //! - `depths`: where no block stood in more loops than there may be, none does (`KeepsShallow`).
+//! - `hands_on`: as many blocks are open as before (`HandsOn` of vc_build). So where one block was
+//!   open, all are closed but the block `to`.
 //!
 //! A block that is opened before control comes to it may read homes at its begin and nothing else
 //! (`ReadsHomes`): these may be read at the end of each block that is ready, so that the end of a

@@ -4,7 +4,7 @@ ghost use Rattle.std.specs.Prelude.{◌≡◌, ◌≢◌, ◌<◌, ◌≤◌, �
 ghost use Rattle.ob_mean.specs.Expressions.{value};
 ghost use Rattle.ob_mean.specs.Statements.{exec, exec_all, arm_of};
 ghost use Rattle.ob_syntax.specs.Expressions.{boolean};
-ghost use Rattle.vc_build.specs.Grow.{IsOpen};
+ghost use Rattle.vc_build.specs.Grow.{HandsOn, IsOpen};
 ghost use Rattle.vc_select.specs.Targets.{above_setting};
 ghost use Rattle.vc_typed.specs.Typing.{typing, is_of};
 ghost use Rattle.vc_typed.specs.Nodes.{nodes_in, nodes_in_stmt, nodes_in_arm, nodes_in_all};
@@ -47,6 +47,8 @@ pub fn select_statement(setting: &Setting<'_>, ctx: &mut Ctx, t: &RStmt) -> Resu
         (KeepsReady setting.now ctx.old.code ctx.new.code ctx.old.at.0 ctx.new.at.0
         (is_sound setting.now.program.now setting.now.id.0 t.now)) }
     ensures depths { OnOk result (KeepsShallow ctx.old.code ctx.new.code) }
+    ensures hands_on { OnOk result (HandsOn ctx.old.at.0 ctx.new.at.0
+        ctx.old.code ctx.new.code) }
 {
     match t {
         RStmt::Assign(v, e) => {
@@ -118,6 +120,8 @@ pub fn select_statements(
         (KeepsReady setting.now ctx.old.code ctx.new.code ctx.old.at.0 ctx.new.at.0
         (are_sound setting.now.program.now setting.now.id.0 body.now)) }
     ensures depths { OnOk result (KeepsShallow ctx.old.code ctx.new.code) }
+    ensures hands_on { OnOk result (HandsOn ctx.old.at.0 ctx.new.at.0
+        ctx.old.code ctx.new.code) }
 {
     for t in body {
         select_statement(setting, ctx, t)?;
@@ -150,6 +154,8 @@ fn select_while(
         (is_of boolean (typing setting.now.program.now setting.now.id.0 test.now)
         && are_sound setting.now.program.now setting.now.id.0 body.now)) }
     ensures depths { OnOk result (KeepsShallow ctx.old.code ctx.new.code) }
+    ensures hands_on { OnOk result (HandsOn ctx.old.at.0 ctx.new.at.0
+        ctx.old.code ctx.new.code) }
 {
     let blocks = open_loop(setting.alloc, &mut ctx.code, ctx.at)?;
     jump(setting.alloc, &mut ctx.code, ctx.at, blocks.test);
@@ -194,6 +200,8 @@ fn select_repeat(
         (are_sound setting.now.program.now setting.now.id.0 body.now
         && is_of boolean (typing setting.now.program.now setting.now.id.0 test.now))) }
     ensures depths { OnOk result (KeepsShallow ctx.old.code ctx.new.code) }
+    ensures hands_on { OnOk result (HandsOn ctx.old.at.0 ctx.new.at.0
+        ctx.old.code ctx.new.code) }
 {
     let blocks = open_loop(setting.alloc, &mut ctx.code, ctx.at)?;
     jump(setting.alloc, &mut ctx.code, ctx.at, blocks.body);
@@ -238,6 +246,8 @@ fn select_arms(
         (KeepsReadyBeside setting.now ctx.old.code ctx.new.code ctx.old.at.0 ctx.new.at.0 behind.0
         (are_sound_arms setting.now.program.now setting.now.id.0 arms.now)) }
     ensures depths { OnOk result (KeepsShallow ctx.old.code ctx.new.code) }
+    ensures hands_on { OnOk result (HandsOn ctx.old.at.0 ctx.new.at.0
+        ctx.old.code ctx.new.code) }
 {
     for arm in arms {
         select_arm(setting, ctx, arm, behind)?;
@@ -271,6 +281,8 @@ fn select_arm(
         (KeepsReadyBeside setting.now ctx.old.code ctx.new.code ctx.old.at.0 ctx.new.at.0 behind.0
         (is_sound_arm setting.now.program.now setting.now.id.0 arm.now)) }
     ensures depths { OnOk result (KeepsShallow ctx.old.code ctx.new.code) }
+    ensures hands_on { OnOk result (HandsOn ctx.old.at.0 ctx.new.at.0
+        ctx.old.code ctx.new.code) }
 {
     let targets = open_arm(setting.alloc, &mut ctx.code, ctx.at)?;
     confirm(&ctx.code, ctx.at);

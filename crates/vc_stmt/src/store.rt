@@ -7,7 +7,7 @@ ghost use Rattle.pra_base.specs.declared.code.VarKind.TheVariants.{Plain};
 ghost use Rattle.pra_base.specs.declared.code.VInstr.TheVariants.{Store, Read};
 ghost use Rattle.ob_syntax.specs.declared.checked.RStmt.{RStmt-F};
 ghost use Rattle.ob_mean.specs.Statements.{stmt_step};
-ghost use Rattle.vc_build.specs.Grow.{IsOpen, with_instr, with_variable};
+ghost use Rattle.vc_build.specs.Grow.{HandsOn, IsOpen, with_instr, with_variable};
 ghost use Rattle.vc_expr.specs.Counts.{AddsAtMost};
 ghost use Rattle.vc_expr.specs.Readable.{is_constant};
 ghost use Rattle.vc_select.specs.Targets.{above_setting, above_target};
@@ -131,6 +131,8 @@ pub fn select_assignment(
         (is_assignable (variable_typing setting.now.program.now setting.now.id.0 v.now)
         (typing setting.now.program.now setting.now.id.0 e.now))) }
     ensures depths { OnOk result (KeepsShallow ctx.old.code ctx.new.code) }
+    ensures hands_on { OnOk result (HandsOn ctx.old.at.0 ctx.new.at.0
+        ctx.old.code ctx.new.code) }
 {
     let target = select_var(setting, ctx, v)?;
     let value = select_expr(setting, ctx, e)?;
@@ -211,6 +213,8 @@ pub fn select_read(setting: &Setting<'_>, ctx: &mut Ctx, v: &RVar) -> Result<(),
         (KeepsReady setting.now ctx.old.code ctx.new.code ctx.old.at.0 ctx.new.at.0
         (is_of integer (variable_typing setting.now.program.now setting.now.id.0 v.now))) }
     ensures depths { OnOk result (KeepsShallow ctx.old.code ctx.new.code) }
+    ensures hands_on { OnOk result (HandsOn ctx.old.at.0 ctx.new.at.0
+        ctx.old.code ctx.new.code) }
 {
     let target = select_var(setting, ctx, v)?;
     read(setting, &mut ctx.code, ctx.at, target)?;

@@ -4,7 +4,7 @@ ghost use Rattle.std.specs.Prelude.{◌≡◌, ◌<◌, ◌≤◌, ◌+◌, true
 ghost use Rattle.ob_syntax.specs.Expressions.{integer};
 ghost use Rattle.ob_syntax.specs.declared.checked.RStmt.{RStmt-F};
 ghost use Rattle.ob_mean.specs.Statements.{stmt_step};
-ghost use Rattle.vc_build.specs.Grow.{IsOpen};
+ghost use Rattle.vc_build.specs.Grow.{HandsOn, IsOpen};
 ghost use Rattle.vc_select.specs.Targets.{above_setting};
 ghost use Rattle.vc_typed.specs.Typing.{typing, is_of};
 ghost use Rattle.vc_typed.specs.Nodes.{nodes_in};
@@ -37,6 +37,8 @@ pub fn select_write(setting: &Setting<'_>, ctx: &mut Ctx, e: &RExpr) -> Result<(
         (KeepsReady setting.now ctx.old.code ctx.new.code ctx.old.at.0 ctx.new.at.0
         (is_of integer (typing setting.now.program.now setting.now.id.0 e.now))) }
     ensures depths { OnOk result (KeepsShallow ctx.old.code ctx.new.code) }
+    ensures hands_on { OnOk result (HandsOn ctx.old.at.0 ctx.new.at.0
+        ctx.old.code ctx.new.code) }
 {
     let v = select_expr(setting, ctx, e)?;
     put(setting.alloc, &mut ctx.code, ctx.at, VInstr::Write(v))?;
@@ -59,6 +61,8 @@ pub fn select_line(setting: &Setting<'_>, ctx: &mut Ctx) -> Result<(), OutOfMemo
     ensures ready { OnOk result
         (KeepsReady setting.now ctx.old.code ctx.new.code ctx.old.at.0 ctx.new.at.0 true) }
     ensures depths { OnOk result (KeepsShallow ctx.old.code ctx.new.code) }
+    ensures hands_on { OnOk result (HandsOn ctx.old.at.0 ctx.new.at.0
+        ctx.old.code ctx.new.code) }
 {
     put(setting.alloc, &mut ctx.code, ctx.at, VInstr::Line)?;
     Ok(())

@@ -1,8 +1,11 @@
-use Rattle.std.proofs.Common.{◌≡◌, ap, sym, ◌∙◌, subst}
+use Rattle.std.proofs.Common.{◌≡◌, ◌≢◌, ap, sym, ◌∙◌, subst}
+use Rattle.pra_base.specs.Code.{end_of}
 use Rattle.pra_base.specs.declared.code.VInstr.TheVariants.{Cmp}
 use Rattle.pra_base.specs.declared.code.End.TheVariants.{Branch}
 use Rattle.pra_base.specs.declared.code.VProc.{VProc}
-use Rattle.vc_build.specs.Grow.{with_instr, with_end}
+use Rattle.vc_build.specs.Grow.{stand_in, with_instr, with_end}
+use Rattle.vc_build.proofs.Growth.{put_open}
+use Rattle.vc_build.proofs.Open.{branch_real, closed_real}
 use Rattle.vc_expr.specs.Branches.{BranchesBy}
 use Rattle.vc_expr.proofs.Branching.{branches_by}
 use Rattle.vc_expr.specs.Rules.{StaysValid}
@@ -54,3 +57,15 @@ returns-clause-counts c =
     let i = Cmp c.args.left c.args.right in
     let made : c.close.new.code ≡ with_end at end (with_instr at i old) = c.close.ensures ∙ ap (with_end at end) c.in_ok-put.ensures in
     subst (λ (z : VProc). AddsAtMost 1 0 0 0 old z) (sym made) (put_close_adds at i end old c.requires.is_open)
+
+pub returns-clause-closed : goal.returns-clause-closed
+returns-clause-closed c =
+    let at = c.args.at.0 in
+    let old = c.args.code.now in
+    let targets = c.args.targets in
+    let k = c.condition_of.result in
+    let i = Cmp c.args.left c.args.right in
+    let made : c.close.new.code ≡ with_end at (Branch k targets.holds targets.fails) (with_instr at i old) =
+    c.close.ensures ∙ ap (with_end at (Branch k targets.holds targets.fails)) c.in_ok-put.ensures in
+    subst (λ (z : VProc). end_of z at ≢ stand_in) (sym made)
+    (closed_real at (Branch k targets.holds targets.fails) (with_instr at i old) (put_open at i old c.requires.is_open) (branch_real k targets.holds targets.fails))

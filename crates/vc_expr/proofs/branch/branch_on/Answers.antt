@@ -30,3 +30,6 @@ returns-clause-reads c =
 pub returns-clause-counts : goal.returns-clause-counts
 returns-clause-counts c =
     branch_adds (pos 0) c.args.code.now c.branch_by.new.code (subst (λ (z : VProc). AddsAtMost 1 0 0 0 z c.branch_by.new.code) c.in_ok-zero.ensures.made c.in_ok-branch_by.ensures.counts)
+
+pub returns-clause-closed : goal.returns-clause-closed
+returns-clause-closed c = c.in_ok-branch_by.ensures.closed

@@ -1,10 +1,12 @@
-use Rattle.std.proofs.Common.{◌≡◌, ap, sym, ◌∙◌, subst}
+use Rattle.std.proofs.Common.{◌≡◌, ◌≢◌, ap, sym, ◌∙◌, subst, arith}
 use Rattle.std.proofs.lemmas.List.{get_or_read}
-use Rattle.pra_base.specs.Code.{kind_of}
+use Rattle.pra_base.specs.Code.{end_of, kind_of}
 use Rattle.pra_base.specs.declared.code.VarKind.TheVariants.{Plain}
 use Rattle.pra_base.specs.declared.code.End.TheVariants.{Jump}
 use Rattle.pra_base.specs.declared.code.VProc.{VProc}
-use Rattle.vc_build.specs.Grow.{with_instr, with_end}
+use Rattle.vc_build.specs.Grow.{stand_in, with_instr, with_end}
+use Rattle.vc_build.proofs.Growth.{put_open}
+use Rattle.vc_build.proofs.Open.{jump_real, closed_real}
 use Rattle.vc_expr.specs.Operators.{first_of}
 use Rattle.vc_expr.specs.Choices.{ClosesChoice}
 use Rattle.vc_expr.proofs.Choosing.{closes}
@@ -59,3 +61,13 @@ returns-clause-counts c =
     let i = c.first_of.result in
     let made : c.close.new.code ≡ with_end at end (with_instr at i old) = c.close.ensures ∙ ap (with_end at end) c.in_ok-put.ensures in
     subst (λ (z : VProc). AddsAtMost 1 0 0 0 old z) (sym made) (put_close_adds at i end old c.requires.is_open)
+
+pub returns-clause-closed : goal.returns-clause-closed
+returns-clause-closed c =
+    let at = c.args.at.0 in
+    let old = c.args.code.now in
+    let end = Jump c.args.choice.behind in
+    let i = c.first_of.result in
+    let made : c.close.new.code ≡ with_end at end (with_instr at i old) = c.close.ensures ∙ ap (with_end at end) c.in_ok-put.ensures in
+    subst (λ (z : VProc). end_of z at ≢ stand_in) (sym made)
+    (closed_real at end (with_instr at i old) (put_open at i old c.requires.is_open) (jump_real c.args.choice.behind (λ is. omega (arith, is, c.requires.no_entry))))

@@ -1,5 +1,6 @@
-use Rattle.std.proofs.Common.{◌≤◌, length, sym, subst}
+use Rattle.std.proofs.Common.{◌≤◌, length, sym, ap, ◌∙◌, subst}
 use Rattle.pra_base.specs.declared.code.VProc.{VProc}
+use Rattle.vc_build.specs.Grow.{count, open_blocks}
 use Rattle.vc_select.specs.Targets.{above_setting}
 use Rattle.vc_proc.proofs.Answered.{selected_from}
 use Rattle.vc_proc.proofs.OpenRules.{open_above}
@@ -9,6 +10,12 @@ pub select_statements-requires-clause-homes : goal.select_statements-requires-cl
 select_statements-requires-clause-homes c =
     let g = c.args.setting.now in
     subst (λ (z : VProc). above_setting g ≤ length z.vars) (sym c.requires.opened) (open_above g.id.0 c.args.proc.now g c.requires.setting.params c.requires.setting.locals)
+
+pub finish-requires-clause-no_other : goal.finish-requires-clause-no_other
+finish-requires-clause-no_other c = c.in_ok-select_statements.ensures.hands_on.as_many ∙ ap open_blocks c.requires.opened
+
+pub finish-requires-clause-entry : goal.finish-requires-clause-entry
+finish-requires-clause-entry c = λ is. c.in_ok-select_statements.ensures.hands_on.entry (λ _. ap count c.requires.opened) is
 
 pub returns : goal.returns
 returns c =

@@ -4,6 +4,7 @@ use Rattle.ob_mean.specs.Designators.{shape_of, array_length, element_type, fiel
 use Rattle.ob_mean.specs.Expressions.{value}
 use Rattle.std.specs.Prelude.{slice_index}
 use Rattle.vc_build.specs.Grow.{count}
+use Rattle.vc_build.proofs.Open.{hands_declared, hands_nothing, hands_on}
 use Rattle.vc_expr.specs.declared.branch.Targets.{Targets}
 use Rattle.vc_select.specs.declared.target.Target.{Target}
 use Rattle.vc_select.specs.Targets.{above_target, above_target_base, words_to_field}
@@ -22,6 +23,7 @@ use Rattle.vc_typed.proofs.NodeEquations.{nodes-Number, nodes-Truth, nodes-Var}
 use Rattle.vc_select.specs.Amounts.{path_nodes, AddsForPath}
 use Rattle.vc_select.proofs.Nodes.{negate_nodes, not_nodes, binary_nodes, index_nodes, some_nodes, operation_most, value_adds, test_adds, one_node, loaded_adds, sides_add, choice_adds, value_test_adds, not_test_adds, relation_test_adds, split_test_adds, element_adds, path_adds, path_variable}
 use Rattle.vc_select.proofs.Depths.{depth_on, depth_after, depth_chosen, depth_split}
+use Rattle.vc_select.proofs.Opens.{hands_after, closes_after, hands_indexed, hands_chosen, closes_split}
 use Rattle.vc_select.proofs.Ready.{one_ready, both_ready}
 use Rattle.vc_select.proofs.ReadyTests.{exchanged_ready, split_ready}
 use Rattle.vc_select.proofs.ReadyChoice.{choice_ready}
@@ -116,6 +118,7 @@ select_var-loop-step-init t c =
       subst (λ (z : Target). StaysReadyFrom g c.in_ok-first.first c.args.ctx.now.code c.args.ctx.now.code c.args.ctx.now.at.0 c.args.ctx.now.at.0 z c.root_target-target.result) c.root_target-target.ensures
           (from_same g c.in_ok-first.first c.args.ctx.now.code c.args.ctx.now.at.0 c.root_target-target.result c.root_target-target.result (λ u e. e) (λ k e. e)),
       nothing_depth c.args.ctx.now.code c.args.ctx.now.at.0 c.requires.is_open,
+      hands_nothing c.args.ctx.now.at.0 c.args.ctx.now.code,
     )
 
 pub select_var-loop-step-preserved : goal.select_var-loop-step-preserved
@@ -130,6 +133,7 @@ select_var-loop-step-preserved t c = (
   λ new p. c.loop-step.invariant.6 new (path_walk _ _ _ _ new c.step-item.result c.loop-step-test.true c.step-item.is c.in_ok-reached.ensures.counts p),
   from_on c.args.setting.now _ _ _ _ _ _ _ _ _ _ c.loop-step.invariant.5 c.loop-step.invariant.7 c.in_ok-reached.ensures.ready,
   depth_on _ _ _ _ _ _ c.loop-step.invariant.8 c.in_ok-reached.ensures.depth c.in_ok-reached.ensures.leads.extends.grows.grows,
+  hands_on _ _ _ _ _ _ c.loop-step.invariant.9 c.in_ok-reached.ensures.hands_on,
 )
 
 pub select_var-returns-clause-locates : goal.select_var-returns-clause-locates
@@ -425,3 +429,50 @@ select_split_test-returns-clause-ready t c =
 
 pub select_split_test-returns-clause-depth : goal.select_split_test-returns-clause-depth
 select_split_test-returns-clause-depth t c = depth_split _ _ _ _ _ _ _ c.requires.is_open refl c.in_ok-right.ensures.made c.in_ok-right.ensures.number c.in_ok-select_test.ensures.depth c.in_ok-select_test.ensures.tests.grows.grows c.in_ok-select_test-2.ensures.depth c.in_ok-select_test-2.ensures.tests.grows.grows
+
+-- ---- how many blocks are open
+
+pub select_expr-returns-in_ok-v-in-Number-clause-hands_on : goal.select_expr-returns-in_ok-v-in-Number-clause-hands_on
+select_expr-returns-in_ok-v-in-Number-clause-hands_on t c = hands_declared _ _ _ _ c.in_ok-v-in-Number.ensures.made
+
+pub select_expr-returns-in_ok-v-in-Truth-clause-hands_on : goal.select_expr-returns-in_ok-v-in-Truth-clause-hands_on
+select_expr-returns-in_ok-v-in-Truth-clause-hands_on t c = hands_declared _ _ _ _ c.in_ok-v-in-Truth.ensures.made
+
+pub select_expr-returns-in_ok-v-in-Var-clause-hands_on : goal.select_expr-returns-in_ok-v-in-Var-clause-hands_on
+select_expr-returns-in_ok-v-in-Var-clause-hands_on t c = hands_after _ _ _ _ _ c.in_ok-target-in-Var.ensures.hands_on c.in_ok-v-in-Var.ensures.loads.grows (omega (arith, c.in_ok-v-in-Var.ensures.counts.blocks)) c.in_ok-target-in-Var.ensures.is_open c.in_ok-v-in-Var.ensures.loads.is_open
+
+pub select_expr-returns-in_ok-v-in-Negate-clause-hands_on : goal.select_expr-returns-in_ok-v-in-Negate-clause-hands_on
+select_expr-returns-in_ok-v-in-Negate-clause-hands_on t c = hands_after _ _ _ _ _ c.in_ok-operand-in-Negate.ensures.hands_on c.in_ok-v-in-Negate.ensures.converts.adds.grows (omega (arith, c.in_ok-v-in-Negate.ensures.counts.blocks)) c.in_ok-operand-in-Negate.ensures.is_open c.in_ok-v-in-Negate.ensures.converts.adds.is_open
+
+pub select_expr-returns-in_ok-v-in-Not-clause-hands_on : goal.select_expr-returns-in_ok-v-in-Not-clause-hands_on
+select_expr-returns-in_ok-v-in-Not-clause-hands_on t c = hands_after _ _ _ _ _ c.in_ok-operand-in-Not.ensures.hands_on c.in_ok-v-in-Not.ensures.converts.adds.grows (omega (arith, c.in_ok-v-in-Not.ensures.counts.blocks)) c.in_ok-operand-in-Not.ensures.is_open c.in_ok-v-in-Not.ensures.converts.adds.is_open
+
+pub select_sides-returns-clause-hands_on : goal.select_sides-returns-clause-hands_on
+select_sides-returns-clause-hands_on t c = hands_after _ _ _ _ _ (hands_on _ _ _ _ _ _ c.in_ok-left.ensures.hands_on c.in_ok-right.ensures.hands_on) c.in_ok-v.ensures.operates.adds.grows (omega (arith, c.in_ok-v.ensures.counts.blocks)) c.in_ok-right.ensures.is_open c.in_ok-v.ensures.operates.adds.is_open
+
+pub select_choice-returns-clause-hands_on : goal.select_choice-returns-clause-hands_on
+select_choice-returns-clause-hands_on t c = hands_chosen c.args.op _ _ _ _ _ _ _ _ c.in_ok-choice.ensures.opens c.in_ok-select_test.ensures.closes c.in_ok-v.ensures.hands_on c.in_ok-close_choice.ensures.closes.grows (omega (arith, c.in_ok-close_choice.ensures.counts.blocks)) c.in_ok-v.ensures.is_open c.in_ok-close_choice.ensures.closed
+
+pub select_var-returns-clause-hands_on : goal.select_var-returns-clause-hands_on
+select_var-returns-clause-hands_on t c = c.loop-step.invariant.9
+
+pub select_step-returns-in_ok-target-in-Field-clause-hands_on : goal.select_step-returns-in_ok-target-in-Field-clause-hands_on
+select_step-returns-in_ok-target-in-Field-clause-hands_on t c = hands_nothing _ _
+
+pub select_element-returns-in-Some-clause-hands_on : goal.select_element-returns-in-Some-clause-hands_on
+select_element-returns-in-Some-clause-hands_on t c = hands_nothing _ _
+
+pub select_element-returns-clause-hands_on : goal.select_element-returns-clause-hands_on
+select_element-returns-clause-hands_on t c = hands_on _ _ _ _ _ _ c.in_ok-variable.ensures.hands_on (hands_indexed _ _ _ _ _ _ _ _ _ c.in_ok-target-2.ensures.indexed (omega (arith, c.in_ok-target-2.ensures.counts.blocks)) c.in_ok-variable.ensures.is_open)
+
+pub select_test-returns-in_ok-branch_on-in_default-clause-closes : goal.select_test-returns-in_ok-branch_on-in_default-clause-closes
+select_test-returns-in_ok-branch_on-in_default-clause-closes t c = closes_after _ _ _ _ _ c.in_ok-v-in_default.ensures.hands_on c.in_ok-branch_on-in_default.ensures.branches.grows (omega (arith, c.in_ok-branch_on-in_default.ensures.counts.blocks)) c.in_ok-v-in_default.ensures.is_open c.in_ok-branch_on-in_default.ensures.closed
+
+pub select_binary_test-returns-clause-closes : goal.select_binary_test-returns-clause-closes
+select_binary_test-returns-clause-closes t c = closes_after _ _ _ _ _ c.in_ok-v.ensures.hands_on c.in_ok-branch_on.ensures.branches.grows (omega (arith, c.in_ok-branch_on.ensures.counts.blocks)) c.in_ok-v.ensures.is_open c.in_ok-branch_on.ensures.closed
+
+pub select_relation_test-returns-clause-closes : goal.select_relation_test-returns-clause-closes
+select_relation_test-returns-clause-closes t c = closes_after _ _ _ _ _ (hands_on _ _ _ _ _ _ c.in_ok-left.ensures.hands_on c.in_ok-right.ensures.hands_on) c.in_ok-branch_by.ensures.branches.grows (omega (arith, c.in_ok-branch_by.ensures.counts.blocks)) c.in_ok-right.ensures.is_open c.in_ok-branch_by.ensures.closed
+
+pub select_split_test-returns-clause-closes : goal.select_split_test-returns-clause-closes
+select_split_test-returns-clause-closes t c = closes_split _ _ _ _ _ c.in_ok-right.ensures.made c.in_ok-select_test.ensures.closes c.in_ok-select_test-2.ensures.closes

@@ -2,7 +2,7 @@ use Rattle.std.proofs.Common.{◌≤◌, ℕ, length, drop, map}
 use Rattle.pra_base.specs.declared.code.VProc.{VProc}
 use Rattle.ob_mean.specs.Designators.{root_type}
 use Rattle.ob_mean.specs.Expressions.{selector}
-use Rattle.vc_build.specs.Grow.{IsOpen}
+use Rattle.vc_build.specs.Grow.{HandsOn, IsOpen}
 use Rattle.vc_select.specs.declared.target.Target.{Target}
 use Rattle.vc_select.specs.Selects.{Leads}
 use Rattle.vc_select.specs.Targets.{above_target, above_target_base, root_target}
@@ -23,3 +23,4 @@ invariant-select_var-loop-step l =
     × ((new : VProc) → AddsForPath (path_nodes (drop l.step-index l.step-items)) l.ctx.code new → AddsForPath (path_nodes l.v.steps) l.fn.ctx.code new)
     × StaysReadyFrom l.setting l.first l.fn.ctx.code l.ctx.code l.fn.ctx.at.0 l.ctx.at.0 (root_target l.setting.program.now l.setting.params.now l.setting.locals.now l.setting.id.0 l.v.root) l.target
     × KeepsDepth l.fn.ctx.at.0 l.ctx.at.0 l.fn.ctx.code l.ctx.code
+    × HandsOn l.fn.ctx.at.0 l.ctx.at.0 l.fn.ctx.code l.ctx.code

@@ -1,5 +1,6 @@
 use Rattle.std.proofs.Common.{arith}
 use Rattle.vc_select.proofs.Nodes.{loaded_adds}
+use Rattle.vc_select.proofs.Opens.{hands_after}
 use Rattle.vc_select.proofs.ReadyTargets.{word_ready}
 use Rattle.vc_stmt.proofs.Amounting.{some_variable, value_argument, lent_argument}
 use Rattle.vc_stmt.proofs.Passing.{passes_value, passes_lent}
@@ -28,3 +29,7 @@ returns-in_ok-v-in-Lent-clause-ready c =
 pub returns-in_ok-v-in-Lent-clause-depths : goal.returns-in_ok-v-in-Lent-clause-depths
 returns-in_ok-v-in-Lent-clause-depths c =
     shallow_on _ _ _ (shallow_kept _ _ _ _ c.in_ok-target-in-Lent.ensures.depth c.in_ok-target-in-Lent.ensures.locates.extends.grows.grows) (shallow_same _ _ c.in_ok-v-in-Lent.ensures.lends.grows.grows (omega (arith, c.in_ok-v-in-Lent.ensures.counts.blocks)))
+
+pub returns-in_ok-v-in-Lent-clause-hands_on : goal.returns-in_ok-v-in-Lent-clause-hands_on
+returns-in_ok-v-in-Lent-clause-hands_on c =
+    hands_after _ _ _ _ _ c.in_ok-target-in-Lent.ensures.hands_on c.in_ok-v-in-Lent.ensures.lends.grows (omega (arith, c.in_ok-v-in-Lent.ensures.counts.blocks)) c.in_ok-target-in-Lent.ensures.is_open c.in_ok-v-in-Lent.ensures.is_open

@@ -1,5 +1,6 @@
 use Rattle.std.proofs.Common.{◌≡◌, ◌++◌, List, [], ◌∷◌, length, sym, ap, ◌∙◌, subst, arith, append-nil, append_assoc}
 use Rattle.pra_base.specs.declared.ids.VarId.{VarId}
+use Rattle.vc_build.proofs.Open.{hands_nothing, hands_on}
 use Rattle.vc_stmt.specs.Passes.{PassesAll}
 use Rattle.vc_stmt.specs.Ready.{PassesReady}
 use Rattle.vc_stmt.proofs.Amounting.{arguments_none, arguments_more}
@@ -26,6 +27,9 @@ returns-clause-ready c = c.loop-arg.invariant.6
 pub returns-clause-depths : goal.returns-clause-depths
 returns-clause-depths c = c.loop-arg.invariant.7
 
+pub returns-clause-hands_on : goal.returns-clause-hands_on
+returns-clause-hands_on c = c.loop-arg.invariant.8
+
 pub loop-arg-init : goal.loop-arg-init
 loop-arg-init c =
     let g = c.args.setting.now in
@@ -40,6 +44,7 @@ loop-arg-init c =
       omega arith,
       subst (λ (us : List VarId). PassesReady g old old at at us) (sym none) (arguments_begin g old at),
       shallow_nothing old,
+      hands_nothing at old,
     )
 
 pub loop-arg-preserved : goal.loop-arg-preserved
@@ -57,4 +62,5 @@ loop-arg-preserved c =
       omega (arith, c.loop-arg.invariant.5, c.in_ok-v.ensures.passes.extends.grows.grows.blocks),
       arguments_on c.args.setting.now _ _ _ _ _ _ c.loop-arg.values.items c.push.new.self.items c.in_ok-v.v pushed c.loop-arg.invariant.1 c.loop-arg.invariant.5 c.in_ok-v.ensures.vars c.loop-arg.invariant.6 c.in_ok-v.ensures.ready c.in_ok-v.ensures.named,
       shallow_on _ _ _ c.loop-arg.invariant.7 c.in_ok-v.ensures.depths,
+      hands_on _ _ _ _ _ _ c.loop-arg.invariant.8 c.in_ok-v.ensures.hands_on,
     )

@@ -1,7 +1,7 @@
 use Rattle.std.proofs.Common.{◌≡◌, ◌≤◌, ◌+◌, ◌++◌, ℕ, List, length, drop}
 use Rattle.pra_base.specs.declared.ids.VarId.{VarId}
 use Rattle.pra_base.specs.declared.code.VProc.{VProc}
-use Rattle.vc_build.specs.Grow.{IsOpen}
+use Rattle.vc_build.specs.Grow.{HandsOn, IsOpen}
 use Rattle.vc_stmt.specs.Amounts.{AddsForArguments}
 use Rattle.vc_stmt.specs.Passes.{PassesAll}
 use Rattle.vc_stmt.specs.Ready.{PassesReady, KeepsShallow}
@@ -19,3 +19,4 @@ invariant-loop-arg l =
     × (length l.fn.ctx.code.blocks ≤ length l.ctx.code.blocks)
     × PassesReady l.setting l.fn.ctx.code l.ctx.code l.fn.ctx.at.0 l.ctx.at.0 l.values.items
     × KeepsShallow l.fn.ctx.code l.ctx.code
+    × HandsOn l.fn.ctx.at.0 l.ctx.at.0 l.fn.ctx.code l.ctx.code

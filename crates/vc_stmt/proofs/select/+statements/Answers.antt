@@ -1,12 +1,14 @@
 use Rattle.std.proofs.Common.{refl, sym, ap, ◌∙◌, arith}
 use Rattle.pra_list.proofs.Choices.{and_true}
 use Rattle.ob_syntax.specs.declared.checked.RStmt.TheVariants as s
+use Rattle.vc_build.proofs.Open.{hands_nothing, hands_on}
 use Rattle.vc_select.proofs.Nodes.{some_nodes}
 use Rattle.vc_typed.specs.Nodes.{nodes_in_stmt}
 use Rattle.vc_typed.proofs.NodeEquations.{nodes-Assign, nodes-While, nodes-Repeat, nodes-Call, nodes-Read, nodes-Write, nodes-WriteLine}
 use Rattle.vc_stmt.proofs.Amounting.{jump_adds, beside_adds, open_arm_adds, open_loop_adds, statement_adds, none_adds, more_adds, while_adds, repeat_adds, arm_adds, arms_none}
 use Rattle.vc_stmt.proofs.Amounting as amounting
 use Rattle.vc_stmt.proofs.Entering.{loop_still_open}
+use Rattle.vc_stmt.proofs.Opens.{closes_jump, hands_if, hands_arm, hands_while, hands_repeat}
 use Rattle.vc_stmt.proofs.Proceeding.{keeps_as}
 use Rattle.vc_stmt.proofs.ReadyIf.{arm_ready, if_ready}
 use Rattle.vc_stmt.proofs.ReadyLoops.{while_ready, repeat_ready}
@@ -145,7 +147,7 @@ pub select_statements-returns-clause-depths : goal.select_statements-returns-cla
 select_statements-returns-clause-depths t c = c.loop-t.invariant.5
 
 pub select_statements-loop-t-init : goal.select_statements-loop-t-init
-select_statements-loop-t-init t c = (c.requires.is_open, omega arith, λ new to m. m, λ new p. p, λ new to p. p, shallow_nothing _)
+select_statements-loop-t-init t c = (c.requires.is_open, omega arith, λ new to m. m, λ new p. p, λ new to p. p, shallow_nothing _, hands_nothing _ _)
 
 pub select_statements-loop-t-preserved : goal.select_statements-loop-t-preserved
 select_statements-loop-t-preserved t c = (
@@ -155,6 +157,7 @@ select_statements-loop-t-preserved t c = (
   λ new p. c.loop-t.invariant.3 new (more_adds c.args.body.now c.loop-t.t-index _ _ _ new c.loop-t-test.true c.t-item.is c.in_ok-select_statement.ensures.counts p),
   λ new to p. c.loop-t.invariant.4 new to (more_ready c.args.setting.now _ _ new _ _ to c.args.body.now c.loop-t.t-index _ c.loop-t-test.true c.t-item.is c.in_ok-select_statement.ensures.does.extends c.in_ok-select_statement.ensures.ready p),
   shallow_on _ _ _ c.loop-t.invariant.5 c.in_ok-select_statement.ensures.depths,
+  hands_on _ _ _ _ _ _ c.loop-t.invariant.6 c.in_ok-select_statement.ensures.hands_on,
 )
 
 -- ---- WHILE
@@ -237,7 +240,7 @@ pub select_arms-returns-clause-depths : goal.select_arms-returns-clause-depths
 select_arms-returns-clause-depths t c = c.loop-arm.invariant.7
 
 pub select_arms-loop-arm-init : goal.select_arms-loop-arm-init
-select_arms-loop-arm-init t c = (c.requires.is_open, omega arith, c.requires.waits, c.requires.apart, λ new to m. m, λ new p. p, λ new to p. p, shallow_nothing _)
+select_arms-loop-arm-init t c = (c.requires.is_open, omega arith, c.requires.waits, c.requires.apart, λ new to m. m, λ new p. p, λ new to p. p, shallow_nothing _, hands_nothing _ _)
 
 pub select_arms-loop-arm-preserved : goal.select_arms-loop-arm-preserved
 select_arms-loop-arm-preserved t c = (
@@ -251,6 +254,7 @@ select_arms-loop-arm-preserved t c = (
   λ new to p. c.loop-arm.invariant.6 new to
       (more_arms_ready c.args.setting.now _ _ new _ _ to _ c.args.arms.now c.loop-arm.arm-index _ c.loop-arm-test.true c.arm-item.is c.loop-arm.invariant.2.within c.in_ok-select_arm.ensures.guards.extends c.in_ok-select_arm.ensures.ready p),
   shallow_on _ _ _ c.loop-arm.invariant.7 c.in_ok-select_arm.ensures.depths,
+  hands_on _ _ _ _ _ _ c.loop-arm.invariant.8 c.in_ok-select_arm.ensures.hands_on,
 )
 
 pub select_arm-confirm-requires : goal.select_arm-confirm-requires
@@ -339,3 +343,33 @@ select_repeat-returns-clause-depths t c =
     (shallow_on _ _ _ (shallow_jump _ _ _ _ (loop_still_open _ _ _ _ c.requires.is_open c.in_ok-blocks.ensures.made) c.jump.ensures.made)
     (shallow_on _ _ _ c.in_ok-select_statements.ensures.depths
     (shallow_on _ _ _ (shallow_jump _ _ _ _ c.in_ok-select_statements.ensures.is_open c.jump-2.ensures.made) (shallow_kept _ _ _ _ c.in_ok-select_test.ensures.depth c.in_ok-select_test.ensures.tests.grows.grows))))
+
+-- ---- how many blocks are open
+
+pub select_statement-returns-in_ok-select_statements-in-If-2-clause-hands_on : goal.select_statement-returns-in_ok-select_statements-in-If-2-clause-hands_on
+select_statement-returns-in_ok-select_statements-in-If-2-clause-hands_on t c =
+    hands_if _ _ _ _ _ c.requires.is_open c.in_ok-behind-in-If.ensures.number _ _ _ _ _ c.in_ok-behind-in-If.ensures.made c.in_ok-select_arms-in-If.ensures.hands_on c.in_ok-select_statements-in-If-2.ensures.hands_on
+    (closes_jump _ c.in_ok-behind-in-If.behind _ _ c.in_ok-select_statements-in-If-2.ensures.is_open c.jump.ensures.made (if_real c.args.setting.now _ _ _ _ c.requires.is_open c.in_ok-behind-in-If.ensures.made c.in_ok-behind-in-If.ensures.number))
+
+pub select_statements-returns-clause-hands_on : goal.select_statements-returns-clause-hands_on
+select_statements-returns-clause-hands_on t c = c.loop-t.invariant.6
+
+pub select_arms-returns-clause-hands_on : goal.select_arms-returns-clause-hands_on
+select_arms-returns-clause-hands_on t c = c.loop-arm.invariant.8
+
+pub select_arm-returns-clause-hands_on : goal.select_arm-returns-clause-hands_on
+select_arm-returns-clause-hands_on t c =
+    hands_arm _ _ _ _ _ c.requires.is_open c.in_ok-targets.ensures.fails _ _ _ _ _ c.in_ok-targets.ensures.made c.in_ok-select_test.ensures.closes c.in_ok-select_statements.ensures.hands_on
+    (closes_jump _ c.args.behind _ _ c.in_ok-select_statements.ensures.is_open c.jump.ensures.made c.requires.real)
+
+pub select_while-returns-clause-hands_on : goal.select_while-returns-clause-hands_on
+select_while-returns-clause-hands_on t c =
+    hands_while _ _ _ _ _ c.requires.is_open c.in_ok-blocks.ensures.behind _ _ _ _ _ _ c.in_ok-blocks.ensures.made
+    (closes_jump _ c.in_ok-blocks.blocks.test _ _ (loop_still_open _ _ _ _ c.requires.is_open c.in_ok-blocks.ensures.made) c.jump.ensures.made (λ is. omega (arith, is, c.in_ok-blocks.ensures.test)))
+    c.in_ok-select_test.ensures.closes c.in_ok-select_statements.ensures.hands_on (closes_jump _ c.in_ok-blocks.blocks.test _ _ c.in_ok-select_statements.ensures.is_open c.jump-2.ensures.made (λ is. omega (arith, is, c.in_ok-blocks.ensures.test)))
+
+pub select_repeat-returns-clause-hands_on : goal.select_repeat-returns-clause-hands_on
+select_repeat-returns-clause-hands_on t c =
+    hands_repeat _ _ _ _ _ c.requires.is_open c.in_ok-blocks.ensures.behind _ _ _ _ _ _ c.in_ok-blocks.ensures.made
+    (closes_jump _ c.in_ok-blocks.blocks.body _ _ (loop_still_open _ _ _ _ c.requires.is_open c.in_ok-blocks.ensures.made) c.jump.ensures.made (λ is. omega (arith, is, c.in_ok-blocks.ensures.body)))
+    c.in_ok-select_statements.ensures.hands_on (closes_jump _ c.in_ok-blocks.blocks.test _ _ c.in_ok-select_statements.ensures.is_open c.jump-2.ensures.made (λ is. omega (arith, is, c.in_ok-blocks.ensures.test))) c.in_ok-select_test.ensures.closes

@@ -1,7 +1,7 @@
 use Rattle.std.proofs.Common.{◌≢◌, ◌≤◌, ℕ, length, drop, map}
 use Rattle.pra_base.specs.declared.code.VProc.{VProc}
 use Rattle.ob_mean.specs.Statements.{exec_all, arm_of}
-use Rattle.vc_build.specs.Grow.{IsOpen}
+use Rattle.vc_build.specs.Grow.{HandsOn, IsOpen}
 use Rattle.vc_typed.specs.Nodes.{nodes_in_all}
 use Rattle.vc_stmt.specs.Amounts.{AddsForStatements, AddsForArms}
 use Rattle.vc_stmt.specs.Arms.{Chooses}
@@ -21,6 +21,7 @@ invariant-select_statements-loop-t l =
     × ((new : VProc) → AddsForStatements (nodes_in_all (drop l.t-index l.body)) l.ctx.code new → AddsForStatements (nodes_in_all l.body) l.fn.ctx.code new)
     × ((new : VProc) (to : ℕ) → KeepsReady l.setting l.ctx.code new l.ctx.at.0 to (are_sound l.setting.program.now l.setting.id.0 (drop l.t-index l.body)) → KeepsReady l.setting l.fn.ctx.code new l.fn.ctx.at.0 to (are_sound l.setting.program.now l.setting.id.0 l.body))
     × KeepsShallow l.fn.ctx.code l.ctx.code
+    × HandsOn l.fn.ctx.at.0 l.ctx.at.0 l.fn.ctx.code l.ctx.code
 
 abbrev pub invariant-select_arms-loop-arm : goal.invariant-select_arms-loop-arm
 invariant-select_arms-loop-arm l =
@@ -32,3 +33,4 @@ invariant-select_arms-loop-arm l =
     × ((new : VProc) (to : ℕ) → KeepsReadyBeside l.setting l.ctx.code new l.ctx.at.0 to l.behind.0 (are_sound_arms l.setting.program.now l.setting.id.0 (drop l.arm-index l.arms)) →
     KeepsReadyBeside l.setting l.fn.ctx.code new l.fn.ctx.at.0 to l.behind.0 (are_sound_arms l.setting.program.now l.setting.id.0 l.arms))
     × KeepsShallow l.fn.ctx.code l.ctx.code
+    × HandsOn l.fn.ctx.at.0 l.ctx.at.0 l.fn.ctx.code l.ctx.code

@@ -1,4 +1,6 @@
 use Rattle.std.proofs.Common.{arith}
+use Rattle.vc_build.proofs.Open.{hands_on}
+use Rattle.vc_select.proofs.Opens.{hands_after}
 use Rattle.vc_select.proofs.Nodes.{some_nodes}
 use Rattle.vc_stmt.proofs.Amounting.{some_variable, assign_adds}
 use Rattle.vc_stmt.proofs.Assigning.{does_assign}
@@ -23,3 +25,7 @@ returns-clause-depths c =
     shallow_on _ _ _
     (shallow_on _ _ _ (shallow_kept _ _ _ _ c.in_ok-target.ensures.depth c.in_ok-target.ensures.locates.extends.grows.grows) (shallow_kept _ _ _ _ c.in_ok-value.ensures.depth c.in_ok-value.ensures.selects.extends.grows.grows))
     (shallow_same _ _ c.in_ok-store.ensures.stores.grows.grows (omega (arith, c.in_ok-store.ensures.counts.blocks)))
+
+pub returns-clause-hands_on : goal.returns-clause-hands_on
+returns-clause-hands_on c =
+    hands_after _ _ _ _ _ (hands_on _ _ _ _ _ _ c.in_ok-target.ensures.hands_on c.in_ok-value.ensures.hands_on) c.in_ok-store.ensures.stores.grows (omega (arith, c.in_ok-store.ensures.counts.blocks)) c.in_ok-value.ensures.is_open c.in_ok-store.ensures.is_open

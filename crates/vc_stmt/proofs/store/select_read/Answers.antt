@@ -1,4 +1,5 @@
 use Rattle.std.proofs.Common.{arith}
+use Rattle.vc_select.proofs.Opens.{hands_after}
 use Rattle.vc_stmt.proofs.Amounting.{some_variable, read_adds}
 use Rattle.vc_stmt.proofs.Reading.{does_read}
 use Rattle.vc_stmt.proofs.ReadyStores.{read_ready}
@@ -19,3 +20,6 @@ returns-clause-ready c =
 pub returns-clause-depths : goal.returns-clause-depths
 returns-clause-depths c =
     shallow_on _ _ _ (shallow_kept _ _ _ _ c.in_ok-target.ensures.depth c.in_ok-target.ensures.locates.extends.grows.grows) (shallow_same _ _ c.in_ok-read.ensures.reads.grows.grows (omega (arith, c.in_ok-read.ensures.counts.blocks)))
+
+pub returns-clause-hands_on : goal.returns-clause-hands_on
+returns-clause-hands_on c = hands_after _ _ _ _ _ c.in_ok-target.ensures.hands_on c.in_ok-read.ensures.reads.grows (omega (arith, c.in_ok-read.ensures.counts.blocks)) c.in_ok-target.ensures.is_open c.in_ok-read.ensures.is_open

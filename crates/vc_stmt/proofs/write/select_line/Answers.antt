@@ -1,3 +1,4 @@
+use Rattle.vc_build.proofs.Open.{hands_put}
 use Rattle.vc_stmt.proofs.Amounting.{line_adds}
 use Rattle.vc_stmt.proofs.Endings.{line_done}
 use Rattle.vc_stmt.proofs.ReadyStores.{one_put, line_ready}
@@ -15,3 +16,6 @@ returns-clause-ready c = line_ready c.args.setting.now _ _ _ _ c.requires.is_ope
 
 pub returns-clause-depths : goal.returns-clause-depths
 returns-clause-depths c = shallow_put _ _ _ _ c.requires.is_open c.in_ok-put.ensures
+
+pub returns-clause-hands_on : goal.returns-clause-hands_on
+returns-clause-hands_on c = hands_put _ _ _ _ c.requires.is_open c.in_ok-put.ensures

@@ -1,3 +1,4 @@
+use Rattle.vc_build.proofs.Open.{hands_on, hands_put}
 use Rattle.vc_select.proofs.Nodes.{some_nodes}
 use Rattle.vc_stmt.proofs.Amounting.{write_adds}
 use Rattle.vc_stmt.proofs.Endings.{write_done}
@@ -19,3 +20,6 @@ returns-clause-ready c =
 pub returns-clause-depths : goal.returns-clause-depths
 returns-clause-depths c =
     shallow_on _ _ _ (shallow_kept _ _ _ _ c.in_ok-v.ensures.depth c.in_ok-v.ensures.selects.extends.grows.grows) (shallow_put _ _ _ _ c.in_ok-v.ensures.is_open c.in_ok-put.ensures)
+
+pub returns-clause-hands_on : goal.returns-clause-hands_on
+returns-clause-hands_on c = hands_on _ _ _ _ _ _ c.in_ok-v.ensures.hands_on (hands_put _ _ _ _ c.in_ok-v.ensures.is_open c.in_ok-put.ensures)
