@@ -12,6 +12,7 @@ use Rattle.ia_asm.specs.Assembly.{IsAssembly, IsImageOf}
 use Rattle.ia_code.specs.declared.image.Image.{Image}
 use Rattle.net_form.specs.declared.net.Net.{Net}
 use Rattle.pl_made.specs.Made.{IsMade}
+use Rattle.pl_place.specs.declared.placed.LProc.{LProc}
 use Rattle.pl_place.specs.Behind.{Routed, frame_of}
 use Rattle.pl_place.specs.Placed.{frame_size}
 use Rattle.pl_routed.specs.Routed.{routed}
@@ -25,7 +26,7 @@ use Rattle.pra_follow.specs.Follows.{DoesAsMeant}
 use Rattle.pra_follow.specs.Translation.{Translation, IsTranslation, AreTranslations, AreAdmittedIn, IsCodeOf, behind}
 use Rattle.pra_follow.proofs.Followed.{follows_module}
 use Rattle.pra_follow.proofs.Room.{one_more}
-use Rattle.pra_follow.proofs.Sides.{mapped, same_maps}
+use Rattle.pra_follow.proofs.Sides.{mapped, both_mapped, same_maps}
 use Rattle.pra_follow.proofs.Translated.{translated}
 use Rattle.pra_compile.specs.declared.compiling.Step.{Step}
 use Rattle.pra_compile.specs.declared.output.ProcOut.{ProcOut}
@@ -138,6 +139,14 @@ module _ (program : Checked) (selectable : IsSelectable program) (procs : List P
         frame = kept.flow_frame ∙ ap frame_of x.is;
       }
 
+  abbrev placed_codes : List LProc
+  placed_codes = map (λ (t : Translation). t.placed) all
+
+  placed_is : (p : ℕ) (r : Routed) (l : LProc) → slice_get (map behind all) p ≡ Some r → slice_get placed_codes p ≡ Some l → IsMade r l
+  placed_is p r l e f =
+      let x = both_mapped behind (λ (t : Translation). t.placed) all p r l e f in
+      subst (λ l. IsMade r l) x.other (subst (λ r. IsMade r x.from.placed) x.one (done.are.each p x.from x.there).placed)
+
   pub all_compiled : (image : Image) → IsImageOf (map (λ (t : Translation). t.placed) all) program.data_words image → IsCompiled program (record { image = image; procs = procs })
   all_compiled image is =
       let follows = follows_module program all done.are selectable done.count image is in
@@ -151,4 +160,8 @@ module _ (program : Checked) (selectable : IsSelectable program) (procs : List P
         count = done.procs_count;
         behind_count = length-map all behind ∙ done.count ∙ sym done.procs_count;
         each = out_is;
+        placed = placed_codes;
+        placed_count = length-map all (λ (t : Translation). t.placed) ∙ done.count ∙ sym done.procs_count;
+        made = placed_is;
+        assembled = is;
       }

@@ -4,9 +4,12 @@ use Rattle.std.specs.Prelude.{slice_get}
 use Rattle.pra_base.specs.Valid.{AreValid}
 use Rattle.ob_syntax.specs.declared.checked.Checked.{Checked}
 use Rattle.ob_syntax.specs.declared.checked.CheckedProc.{CheckedProc}
+use Rattle.ia_asm.specs.Assembly.{IsImageOf}
 use Rattle.ia_code.specs.Image.{IsImage}
 use Rattle.ia_emit.specs.Carries.{Carries}
 use Rattle.net_form.specs.declared.net.Net.{Net}
+use Rattle.pl_made.specs.Made.{IsMade}
+use Rattle.pl_place.specs.declared.placed.LProc.{LProc}
 use Rattle.pl_place.specs.Behind.{Routed, frame_of}
 use Rattle.pl_routed.specs.Routed.{routed}
 use Rattle.pra_compile.specs.declared.output.Compiled.{Compiled}
@@ -38,7 +41,8 @@ pub record IsProcOut (program : Checked) (p : ℕ) (proc : CheckedProc) (out : P
 
 -- The image is valid, has the module's data, and does on each input of words what the module means
 -- with the frames that are kept. Of each procedure in order something is kept; the codes are valid
--- together, and the image carries them with the flows of the routes.
+-- together, and the image carries them with the flows of the routes. It is the image that is
+-- assembled of placed code, made of each code and its routes.
 pub record IsCompiled (program : Checked) (compiled : Compiled) : Type 0 where
   pub valid : IsImage compiled.image
   pub data_words : compiled.image.data_words ≡ program.data_words
@@ -52,3 +56,8 @@ pub record IsCompiled (program : Checked) (compiled : Compiled) : Type 0 where
   pub each : (p : ℕ) (proc : CheckedProc) (out : ProcOut) (r : Routed) →
       slice_get program.procs p ≡ Some proc → slice_get compiled.procs p ≡ Some out →
       slice_get behind p ≡ Some r → IsProcOut program p proc out r
+  pub placed : List LProc
+  pub placed_count : length placed ≡ length compiled.procs
+  pub made : (p : ℕ) (r : Routed) (l : LProc) →
+      slice_get behind p ≡ Some r → slice_get placed p ≡ Some l → IsMade r l
+  pub assembled : IsImageOf placed program.data_words compiled.image
