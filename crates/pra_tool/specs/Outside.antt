@@ -36,6 +36,14 @@ abbrev pub seen : FolderSeen → (input out notes : StreamSeen) → Seen
 seen folder input out notes =
     record { folder = folder; input = input; out = out; notes = notes }
 
+-- all of it, by what a folder, an input, an output and the notes tell of themselves
+abbrev pub seen_by : {D I O N : Type 0} → (D → List ℕ → Option (Option (List ℕ))) →
+    (reads writes : D → List ℕ → ℕ) → (I → Option (List ℕ)) → (I → ℕ) →
+    (O → Option (List ℕ)) → (O → ℕ) → (N → Option (List ℕ)) → (N → ℕ) → D → I → O → N → Seen
+seen_by file reads writes left input_faults bytes out_faults lines notes_faults d i o n =
+    seen (folder_seen file reads writes d) (stream_seen left input_faults i)
+    (stream_seen bytes out_faults o) (stream_seen lines notes_faults n)
+
 -- no file changed
 abbrev pub SameFiles : FolderSeen → FolderSeen → Type 0
 SameFiles old new = (name : List ℕ) → new.file name ≡ old.file name

@@ -1,8 +1,8 @@
 // The texts that the program writes.
 
-ghost use Rattle.std.specs.Prelude.{◌≡◌, ◌≤◌, ◌++◌, codes, length, IfOk, OnOk, string_bytes};
+ghost use Rattle.std.specs.Prelude.{◌≡◌, ◌≤◌, ◌++◌, codes, length, IfOk, string_bytes};
 ghost use Rattle.std.specs.Fmt.{decimal};
-ghost use Rattle.pra_tool.specs.Texts.{trap_name, ending_words};
+ghost use Rattle.pra_tool.specs.Texts.{ending_words};
 ghost use Rattle.pra_tool.specs.Texts.{ending_line, procedure_lines, code_line, lexical_line};
 ghost use Rattle.pra_tool.specs.Texts.{place_text, count_line, fault_line, input_line};
 

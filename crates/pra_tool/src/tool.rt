@@ -7,7 +7,8 @@ ghost use Rattle.pra_words.specs.Texts.{words_lines};
 ghost use Rattle.pra_words.specs.Words.{asked_of, texts};
 ghost use Rattle.pra_words.specs.Written.{asked_by};
 ghost use Rattle.pra_tool.specs.Status.{exit_code};
-ghost use Rattle.pra_tool.specs.Outside.{StreamSeen, Seen, folder_seen, stream_seen, seen, Told};
+ghost use Rattle.pra_tool.specs.Outside.{StreamSeen, Seen, folder_seen, stream_seen, seen};
+ghost use Rattle.pra_tool.specs.Outside.{seen_by, Told};
 ghost use Rattle.pra_tool.specs.Texts.{fault_line};
 ghost use Rattle.pra_tool.specs.Inputs.{input_fault_status, input_fault_line};
 ghost use Rattle.pra_tool.specs.Modes.{Answers};
@@ -66,13 +67,10 @@ pub fn run_tool<D: Folder, I: Source, O: Sink, N: Sink>(
     out: &mut O,
     notes: &mut N,
 ) -> u8
-    ensures promise { let old : Seen =
-        seen (folder_seen D.file D.read_faults D.write_faults folder.old)
-        (stream_seen I.left I.faults input.old) (stream_seen O.bytes O.faults out.old)
-        (stream_seen N.bytes N.faults notes.old) in
-        let new : Seen = seen (folder_seen D.file D.read_faults D.write_faults folder.new)
-        (stream_seen I.left I.faults input.new) (stream_seen O.bytes O.faults out.new)
-        (stream_seen N.bytes N.faults notes.new) in
+    ensures promise { let look = seen_by D.file D.read_faults D.write_faults I.left I.faults
+        O.bytes O.faults N.bytes N.faults in
+        let old = look folder.old input.old out.old notes.old in
+        let new = look folder.new input.new out.new notes.new in
         (status : Status) × (result ≡ exit_code status) ×
         Promise (asked_of (texts words.now)) old new status }
 
@@ -95,13 +93,10 @@ fn answer<D: Folder, I: Source, O: Sink, N: Sink>(
     out: &mut O,
     notes: &mut N,
 ) -> Status
-    ensures promise { let old : Seen =
-        seen (folder_seen D.file D.read_faults D.write_faults folder.old)
-        (stream_seen I.left I.faults input.old) (stream_seen O.bytes O.faults out.old)
-        (stream_seen N.bytes N.faults notes.old) in
-        let new : Seen = seen (folder_seen D.file D.read_faults D.write_faults folder.new)
-        (stream_seen I.left I.faults input.new) (stream_seen O.bytes O.faults out.new)
-        (stream_seen N.bytes N.faults notes.new) in
+    ensures promise { let look = seen_by D.file D.read_faults D.write_faults I.left I.faults
+        O.bytes O.faults N.bytes N.faults in
+        let old = look folder.old input.old out.old notes.old in
+        let new = look folder.new input.new out.new notes.new in
         Promise (asked_of (texts words.now)) old new result }
     ensures input { asks_input (asked_of (texts words.now)) ≡ false → input.new ≡ input.old }
     ensures words { IsErr (asked_of (texts words.now)) →
@@ -139,13 +134,10 @@ fn compile_file<D: Folder, I: Source, O: Sink, N: Sink>(
     out: &mut O,
     notes: &mut N,
 ) -> Status
-    ensures answers { let old : Seen =
-        seen (folder_seen D.file D.read_faults D.write_faults folder.old)
-        (stream_seen I.left I.faults input.old) (stream_seen O.bytes O.faults out.old)
-        (stream_seen N.bytes N.faults notes.old) in
-        let new : Seen = seen (folder_seen D.file D.read_faults D.write_faults folder.new)
-        (stream_seen I.left I.faults input.new) (stream_seen O.bytes O.faults out.new)
-        (stream_seen N.bytes N.faults notes.new) in
+    ensures answers { let look = seen_by D.file D.read_faults D.write_faults I.left I.faults
+        O.bytes O.faults N.bytes N.faults in
+        let old = look folder.old input.old out.old notes.old in
+        let new = look folder.new input.new out.new notes.new in
         Answers (mode_of (asked_by request.now)) request.now.file.now old new result }
     ensures input { reads_input request.now.mode ≡ false → input.new ≡ input.old }
 {
@@ -175,12 +167,10 @@ fn finish<D: Folder, I: Source, O: Sink, N: Sink>(
     requires sound { NeverFaults compiled.now.image }
     requires few { length compiled.now.procs ≤ 65536 }
     ensures ends { (source : List ℕ) → MadeOf source compiled.now →
-        let old : Seen = seen (folder_seen D.file D.read_faults D.write_faults folder.old)
-        (stream_seen I.left I.faults input.old) (stream_seen O.bytes O.faults out.old)
-        (stream_seen N.bytes N.faults notes.old) in
-        let new : Seen = seen (folder_seen D.file D.read_faults D.write_faults folder.new)
-        (stream_seen I.left I.faults input.new) (stream_seen O.bytes O.faults out.new)
-        (stream_seen N.bytes N.faults notes.new) in
+        let look = seen_by D.file D.read_faults D.write_faults I.left I.faults
+        O.bytes O.faults N.bytes N.faults in
+        let old = look folder.old input.old out.old notes.old in
+        let new = look folder.new input.new out.new notes.new in
         Ends (mode_of (asked_by request.now)) source old new result }
     ensures input { reads_input request.now.mode ≡ false → input.new ≡ input.old }
 {
@@ -204,12 +194,10 @@ fn run_compiled<D: Folder, I: Source, O: Sink, N: Sink>(
     requires sound { NeverFaults compiled.now.image }
     requires few { length compiled.now.procs ≤ 65536 }
     ensures { (source : List ℕ) → MadeOf source compiled.now →
-        let old : Seen = seen (folder_seen D.file D.read_faults D.write_faults folder.old)
-        (stream_seen I.left I.faults input.old) (stream_seen O.bytes O.faults out.old)
-        (stream_seen N.bytes N.faults notes.old) in
-        let new : Seen = seen (folder_seen D.file D.read_faults D.write_faults folder.new)
-        (stream_seen I.left I.faults input.new) (stream_seen O.bytes O.faults out.new)
-        (stream_seen N.bytes N.faults notes.new) in
+        let look = seen_by D.file D.read_faults D.write_faults I.left I.faults
+        O.bytes O.faults N.bytes N.faults in
+        let old = look folder.old input.old out.old notes.old in
+        let new = look folder.new input.new out.new notes.new in
         Ends (mode_by Run (asked_by request.now)) source old new result }
 {
     let numbers = match read_numbers(alloc, input) {

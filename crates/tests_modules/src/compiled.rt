@@ -80,10 +80,10 @@ pub fn select(alloc: Global, text: &str) -> Result<VModule, Fail>
 /// # Errors
 ///
 /// Where there is no memory.
-pub fn tidied(alloc: Global, module: VModule) -> Result<VModule, Fail>
-    requires { All (λ code. IsValid code × IsSized code) module.procs }
+pub fn tidied(alloc: Global, selected: VModule) -> Result<VModule, Fail>
+    requires { All (λ code. IsValid code × IsSized code) selected.procs }
 {
-    let VModule { procs, data_words } = module;
+    let VModule { procs, data_words } = selected;
     let mut tidy_procs = Vec::new(alloc);
     for code in procs.into_vec() {
         let code = tidy(alloc, code).map_err(|_| OutOfMemory)?;
