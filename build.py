@@ -3,10 +3,10 @@
 
     build.py NAME
 
-In one checkout the kit works on one crate at a time. So each worker has a copy of the sources, proves
-one library there, and hands what was made on to the other copies and to this checkout, where the
-crate itself can then be built. The library on which most work still waits is taken first. A line to
-standard error tells of each library as its proof begins. The status is 0 where all were built.
+In one checkout the kit works on one crate at a time. So each worker has a copy of the sources,
+proves one library there, and hands on what was made to this checkout, where the crate itself can
+then be built. The library on which most work still waits is taken first. A line to standard error
+tells of each library as its proof begins. The status is 0 where all were built.
 """
 
 import os
@@ -131,9 +131,10 @@ class Build:
                 self.turn.notify_all()
 
     def receive(self, name, copy):
-        """Gives a copy the libraries below a crate."""
-        for it in below(name, self.stands_on):
-            self.link(f"{TOP}/crates/{it}/out", f"{copy}/crates/{it}/out")
+        """Gives a copy the libraries below a crate, and what an earlier build left of its own."""
+        for it in [*below(name, self.stands_on), name]:
+            if os.path.isdir(f"{TOP}/crates/{it}/out"):
+                self.link(f"{TOP}/crates/{it}/out", f"{copy}/crates/{it}/out")
 
     def hand_in(self, name, copy):
         """Leaves in this checkout what was made of a crate."""
