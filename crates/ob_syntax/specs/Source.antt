@@ -29,12 +29,6 @@ spelling bytes tokens k = spelled (slice_get tokens k)
     spelled (Some t) = take (t.to - t.from) (drop t.from bytes)
     spelled None = []
 
--- the names that each module has without a declaration
-abbrev pub predeclared : List Name
-predeclared =
-    codes "INTEGER" ∷ codes "BOOLEAN" ∷ codes "TRUE" ∷ codes "FALSE" ∷
-    codes "Read" ∷ codes "Write" ∷ codes "WriteLn" ∷ []
-
 -- the byte with which token k begins; behind the last token, the number of all bytes
 abbrev pub byte_of : List ℕ → List Token → ℕ → ℕ
 byte_of bytes tokens k = from (slice_get tokens k)
@@ -61,10 +55,3 @@ pub record AreTooMany (bytes : List ℕ) (count : ℕ) : Type 0 where
   pub scanned : Tokens bytes tokens
   pub count_is : count ≡ length tokens
   pub over : most_tokens < count
-
--- where the tokens stop or nest too deep, told by the number of the token and by its first byte
-pub record IsStop (At : List Kind → ℕ → Type 0) (bytes : List ℕ) (k at : ℕ) : Type 0 where
-  pub tokens : List Token
-  pub scanned : IsScanned bytes tokens
-  pub stops : At (kinds tokens) k
-  pub at_is : at ≡ byte_of bytes tokens k
