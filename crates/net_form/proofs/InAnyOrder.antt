@@ -9,7 +9,7 @@ use Rattle.net_form.specs.declared.net.Net.{Net}
 use Rattle.net_form.specs.declared.routes.Routes.{Routes}
 use Rattle.net_form.specs.Flow.{Edge, IsEdge, leaves, arrives, Conserves, flow, AreRoutes}
 use Rattle.net_form.specs.Admitted.{IsAdmitted, in_mask, stays_across, uses_bundle, uses_memory, exits_at, enters_at}
-use Rattle.net_form.specs.Cost.{cost_by, edge_cost, extra_cost, meets}
+use Rattle.net_form.specs.Cost.{cost_by, way_cost, extra_cost, meets}
 use Rattle.net_form.specs.Formed.{IsFormed}
 use Rattle.net_form.specs.Tables.{PlaceTables}
 use Rattle.pra_list.proofs.Counts.{count-same}
@@ -38,8 +38,8 @@ pub cost-permutation : (tables : PlaceTables) (net : Net) (w : Weights) (f g : L
     → cost_by tables net w g ≡ cost_by tables net w f
 cost-permutation tables net w f g same =
     ap (λ n. n + sum_by (λ x. extra_cost net w x * count_by (meets x) g) net.extras)
-    (sum_by-IsPermutation (edge_cost tables net w) f g same)
-    ∙ ap (λ (h : Extra → ℕ). sum_by (edge_cost tables net w) f + sum_by h net.extras)
+    (sum_by-IsPermutation (way_cost tables net w) f g same)
+    ∙ ap (λ (h : Extra → ℕ). sum_by (way_cost tables net w) f + sum_by h net.extras)
     (fun_ext (λ (x : Extra). ap (λ n. extra_cost net w x * n) (count-same (meets x) f g same)))
 
 -- the law: an admitted flow is the flow of admitted routes, in some order

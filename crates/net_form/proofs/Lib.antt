@@ -1,4 +1,6 @@
+pub mod Bundles
 pub mod Chain
+pub mod EdgeCosts
 pub mod ExampleLiveness
 pub mod FlowIsRoutes
 pub mod InAnyOrder

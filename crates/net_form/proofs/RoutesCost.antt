@@ -13,7 +13,7 @@ use Rattle.net_form.specs.declared.net.Net.{Net}
 use Rattle.net_form.specs.declared.routes.Routes.{Routes}
 use Rattle.net_form.specs.Flow.{Edge, is_at, same_place, same_start, arrives, edges, flow_of, flow, HasPlaces, AreRoutes}
 use Rattle.net_form.specs.Admitted.{no_strand}
-use Rattle.net_form.specs.Cost.{cost_by, routes_cost, edge_cost, extra_cost, meets, place_of, is_met}
+use Rattle.net_form.specs.Cost.{cost_by, routes_cost, way_cost, extra_cost, meets, place_of, is_met}
 use Rattle.net_form.specs.Tables.{PlaceTables}
 use Rattle.pra_list.proofs.Counts.{bit, count-none}
 use Rattle.net_form.proofs.Paths.{none_earlier, first_only, later_layer}
@@ -111,6 +111,6 @@ paid false c n h = subst (λ k. 0 ≡ c * k) (sym h) (let e : 0 ≡ c * 0 = omeg
 pub cost_of_routes : (tables : PlaceTables) (net : Net) (w : Weights) (routes : Routes) → AreRoutes net routes
     → routes_cost tables net w routes ≡ cost_by tables net w (flow net routes)
 cost_of_routes tables net w routes has =
-    ap (λ (g : Extra → ℕ). sum_by (edge_cost tables net w) (flow net routes) + sum_by g net.extras)
+    ap (λ (g : Extra → ℕ). sum_by (way_cost tables net w) (flow net routes) + sum_by g net.extras)
     (fun_ext (λ (x : Extra). paid (is_met net routes x) (extra_cost net w x) (count_by (meets x) (flow net routes))
     (flow_at net.strands routes.places has x.strand x.layer x.place no_strand)))

@@ -1,13 +1,13 @@
 -- What flows and routes cost.
-use Rattle.std.specs.Prelude.{ℕ, ◌+◌, ◌-◌, ◌*◌, Bool, nat_le, if◌then◌else◌, List, [], Option, None}
-use Rattle.std.specs.Prelude.{Some, sum_by, count_by, slice_index_or, slice_get}
+use Rattle.std.specs.Prelude.{ℕ, ◌+◌, ◌-◌, ◌*◌, ◌&&◌, Bool, nat_eq, nat_le, if◌then◌else◌, List, []}
+use Rattle.std.specs.Prelude.{Option, None, Some, sum_by, count_by, slice_index_or, slice_get}
 use Rattle.pra_base.specs.declared.ids.Place.{Place}
 use Rattle.net_cost.specs.declared.weights.Weights.{Weights}
 use Rattle.net_cost.specs.Weights.{weight_at, weight_of}
 use Rattle.net_form.specs.declared.net.Extra.{Extra}
 use Rattle.net_form.specs.declared.net.Net.{Net}
 use Rattle.net_form.specs.declared.routes.Routes.{Routes}
-use Rattle.net_form.specs.Flow.{Edge, arrives, same_start, flow}
+use Rattle.net_form.specs.Flow.{Edge, arrives, same_place, same_start, flow}
 use Rattle.net_form.specs.Admitted.{strand_at, is_across}
 use Rattle.net_form.specs.Tables.{PlaceTables, all_tables}
 use Rattle.net_form.specs.Formed.{no_block}
@@ -25,8 +25,9 @@ events_from tables net e (Some p) = if is_across e then [] else tables.crossbar 
 abbrev pub events_weight : Weights → ℕ → List ℕ → ℕ
 events_weight w depth events = sum_by (λ n. weight_at w n depth) events
 
-abbrev pub edge_cost : PlaceTables → Net → Weights → Edge → ℕ
-edge_cost tables net w e =
+-- the way that an edge goes
+abbrev pub way_cost : PlaceTables → Net → Weights → Edge → ℕ
+way_cost tables net w e =
     events_weight w (depth_at net e.strand) (events_from tables net e e.from)
 
 abbrev pub extra_cost : Net → Weights → Extra → ℕ
@@ -38,11 +39,26 @@ meets x e = arrives x.strand x.layer x.place e
 -- the cost of a flow: its edges, and each extra as often as it is met
 abbrev pub cost_by : PlaceTables → Net → Weights → List Edge → ℕ
 cost_by tables net w f =
-    sum_by (edge_cost tables net w) f +
+    sum_by (way_cost tables net w) f +
     sum_by (λ x. extra_cost net w x * count_by (meets x) f) net.extras
 
 abbrev pub cost_of : Net → Weights → List Edge → ℕ
 cost_of net w f = cost_by all_tables net w f
+
+-- ---- the same, edge by edge
+
+-- an extra of strand s at place p of layer l
+abbrev pub is_extra_at : ℕ → ℕ → Place → Extra → Bool
+is_extra_at s l p x = nat_eq s x.strand && nat_eq l x.layer && same_place p x.place
+
+-- what the extras of strand s cost where it is at place p of layer l
+abbrev pub extras_cost : Net → Weights → ℕ → ℕ → Place → ℕ
+extras_cost net w s l p =
+    sum_by (λ x. if is_extra_at s l p x then extra_cost net w x else 0) net.extras
+
+-- all that an edge costs: its way, and the extras that it meets
+abbrev pub edge_cost : PlaceTables → Net → Weights → Edge → ℕ
+edge_cost tables net w e = way_cost tables net w e + extras_cost net w e.strand e.layer e.to
 
 -- ---- the cost of routes: the ways of their paths, and each extra whose place is met
 
@@ -61,4 +77,4 @@ met_cost net w routes x = if is_met net routes x then extra_cost net w x else 0
 
 abbrev pub routes_cost : PlaceTables → Net → Weights → Routes → ℕ
 routes_cost tables net w routes =
-    sum_by (edge_cost tables net w) (flow net routes) + sum_by (met_cost net w routes) net.extras
+    sum_by (way_cost tables net w) (flow net routes) + sum_by (met_cost net w routes) net.extras

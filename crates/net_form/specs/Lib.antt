@@ -1,4 +1,5 @@
 pub mod Admitted
+pub mod Bundles
 pub mod Cost
 pub mod EightTables
 pub mod Examples
@@ -7,6 +8,7 @@ pub mod Formed
 pub mod Groups
 pub mod Index
 pub mod Network
+pub mod Ordered
 pub mod Rooms
 pub mod Strands
 pub mod Tables

@@ -1,7 +1,8 @@
 // The laws of networks, flows and costs.
 
-ghost use Rattle.std.specs.Prelude.{◌≡◌, List, IsPermutation};
+ghost use Rattle.std.specs.Prelude.{◌≡◌, ℕ, ◌<◌, List, IsPermutation, sum_by, count_by};
 ghost use Rattle.pra_base.specs.declared.code.VProc.{VProc};
+ghost use Rattle.pra_base.specs.Places.{register_count};
 ghost use Rattle.pra_base.specs.Valid.{IsSized};
 ghost use Rattle.net_cost.specs.declared.weights.Weights.{Weights};
 ghost use Rattle.net_form.specs.declared.net.Net.{Net};
@@ -14,8 +15,9 @@ ghost use Rattle.net_cost.specs.Weights.{size_weights, speed_weights};
 ghost use Rattle.net_form.specs.Network.{IsNetBy, IsNet};
 ghost use Rattle.net_form.specs.Formed.{IsFormed};
 ghost use Rattle.net_form.specs.Flow.{Edge, Conserves, flow, AreRoutes};
-ghost use Rattle.net_form.specs.Admitted.{IsAdmitted};
-ghost use Rattle.net_form.specs.Cost.{cost_by, cost_of, routes_cost};
+ghost use Rattle.net_form.specs.Admitted.{IsAdmitted, uses_bundle};
+ghost use Rattle.net_form.specs.Bundles.{bundle_key, comes_to_bundle};
+ghost use Rattle.net_form.specs.Cost.{cost_by, cost_of, edge_cost, routes_cost};
 
 /// Code has one network.
 pub fn code_has_one_network()
@@ -49,6 +51,21 @@ pub fn routes_cost_their_flow()
         routes_cost tables net w routes ≡ cost_by tables net w (flow net routes) }
     ensures order { (tables : PlaceTables) (net : Net) (w : Weights) (f g : List Edge) →
         IsPermutation f g → cost_by tables net w g ≡ cost_by tables net w f }
+{}
+
+/// A flow costs what its edges cost: each pays for its way and for the extras that it meets.
+pub fn edges_cost_their_flow()
+    ensures { (tables : PlaceTables) (net : Net) (w : Weights) (f : List Edge) →
+        cost_by tables net w f ≡ sum_by (edge_cost tables net w) f }
+{}
+
+/// A register of a layer is one number: an edge uses it where it comes to a register and has that
+/// number, so it is used as often, counted either way.
+pub fn bundles_have_keys()
+    ensures edge { (net : Net) (n r : ℕ) (e : Edge) → r < register_count →
+        uses_bundle net n r e ≡ comes_to_bundle net (bundle_key n r) e }
+    ensures flow { (net : Net) (n r : ℕ) (f : List Edge) → r < register_count →
+        count_by (comes_to_bundle net (bundle_key n r)) f ≡ count_by (uses_bundle net n r) f }
 {}
 
 /// The network of a Write of a constant and an end of line.

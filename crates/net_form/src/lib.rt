@@ -98,8 +98,10 @@ mod net;
 mod prices;
 mod routes;
 mod taken;
+mod ways;
 
 pub use net::{Extra, MemPair, Net, NetBlock, NetIndex, PairEnd, Strand, Tie};
 pub use prices::{Line, Prices};
 pub use routes::{Ends, Plan, Routes};
 pub use taken::{Spare, Taken};
+pub use ways::{begun_cost, crossbar_cost, way_cost};

@@ -1,7 +1,9 @@
 // The network of a procedure.
 
-ghost use Rattle.std.specs.Prelude.{◌≡◌, ◌+◌, ◌<◌, length};
+ghost use Rattle.std.specs.Prelude.{◌≡◌, ◌+◌, ◌<◌, ◌≤◌, length};
+ghost use Rattle.net_cost.specs.Weights.{deepest};
 ghost use Rattle.net_form.specs.Admitted.{strand_at};
+ghost use Rattle.net_form.specs.Cost.{depth_at};
 ghost use Rattle.net_form.specs.Formed.{IsFormed};
 ghost use Rattle.net_form.specs.Index.{first_layer};
 ghost use Rattle.net_form.specs.Rooms.{layer_total};
@@ -121,5 +123,16 @@ impl Net {
     {
         let block = self.strands[strand].block;
         self.index.layers[block.0 as usize]
+    }
+
+    /// The loop depth of a strand's block.
+    pub fn depth(&self, strand: usize) -> u32
+        requires net { IsFormed self.now }
+        requires strand { strand < length self.now.strands }
+        ensures value { result ≡ depth_at self.now strand }
+        ensures small { result ≤ deepest }
+    {
+        let block = self.strands[strand].block;
+        self.blocks[block.0 as usize].depth
     }
 }

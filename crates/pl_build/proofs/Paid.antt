@@ -18,7 +18,7 @@ use Rattle.net_form.specs.declared.net.Strand.{Strand}
 use Rattle.net_form.specs.declared.net.Net.{Net}
 use Rattle.net_form.specs.declared.routes.Routes.{Routes}
 use Rattle.net_form.specs.Admitted.{strand_at, is_across, IsAdmitted}
-use Rattle.net_form.specs.Cost.{events_from, events_weight, edge_cost, depth_at}
+use Rattle.net_form.specs.Cost.{events_from, events_weight, way_cost, depth_at}
 use Rattle.net_form.specs.Flow.{Edge, flow, AreRoutes}
 use Rattle.net_form.specs.Network.{IsNet}
 use Rattle.net_form.specs.Strands.{is_constant}
@@ -140,7 +140,7 @@ module _ (code : VProc) (net : Net) (routes : Routes) (is : IsNet net code) (has
   r = routed code net routes
 
   abbrev w : Edge → ℕ
-  w e = edge_cost all_tables net size_weights e
+  w e = way_cost all_tables net size_weights e
 
   abbrev pair_events : Edge → List ℕ
   pair_events e = crossbar net.near (number (from_place e.from)) (number e.to)

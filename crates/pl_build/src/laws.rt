@@ -11,7 +11,7 @@ ghost use Rattle.net_cost.specs.Weights.{size_weights};
 ghost use Rattle.net_form.specs.declared.net.Net.{Net};
 ghost use Rattle.net_form.specs.declared.routes.Routes.{Routes};
 ghost use Rattle.net_form.specs.Admitted.{IsAdmitted};
-ghost use Rattle.net_form.specs.Cost.{edge_cost};
+ghost use Rattle.net_form.specs.Cost.{way_cost};
 ghost use Rattle.net_form.specs.Examples.{set_add_write};
 ghost use Rattle.net_form.specs.Flow.{flow, AreRoutes};
 ghost use Rattle.net_form.specs.Network.{IsNet};
@@ -52,7 +52,7 @@ pub fn all_moves_are_paid()
         AreRoutes net routes → IsAdmitted net (flow net routes) →
         IsMade (routed code net routes) p →
         sum_by (move_bytes p.near) (moves_of p)
-        ≤ sum_by (edge_cost all_tables net size_weights) (flow net routes) }
+        ≤ sum_by (way_cost all_tables net size_weights) (flow net routes) }
 {}
 
 /// Some code was placed: with a variable in memory, a constant as an immediate, and a both place.

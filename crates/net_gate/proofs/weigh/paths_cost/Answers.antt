@@ -2,7 +2,7 @@ use Rattle.std.proofs.Common.{ℕ, ◌<◌, ◌∙◌, List, length, ap, arith, 
 use Rattle.pra_base.specs.declared.ids.Place.{Place}
 use Rattle.net_cost.specs.Models.{weights_of}
 use Rattle.net_form.specs.Admitted.{no_strand, strand_at}
-use Rattle.net_form.specs.Cost.{edge_cost}
+use Rattle.net_form.specs.Cost.{way_cost}
 use Rattle.net_form.specs.Flow.{Edge, edges}
 use Rattle.net_form.specs.Tables.{all_tables}
 use Rattle.net_form.proofs.RoutesConserve.{as_many}
@@ -26,7 +26,7 @@ loop-at-preserved g c =
     let net = c.args.net.now in
     let rs = c.args.routes.now.places in
     let i = c.loop-at.at in
-    let w : Edge → ℕ = edge_cost all_tables net (weights_of c.args.model.now) in
+    let w : Edge → ℕ = way_cost all_tables net (weights_of c.args.model.now) in
     let lt : i < length net.strands = omega arith in
     let n = as_many net.strands rs c.requires.routes in
     let step = sum_drop w net.strands rs i no_strand c.index.result.now lt (omega (arith, lt, n)) in

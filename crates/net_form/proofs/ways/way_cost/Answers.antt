@@ -4,9 +4,9 @@ use Rattle.pra_base.specs.declared.ids.Place.{Place}
 use Rattle.net_form.specs.declared.net.Strand.{Strand}
 use Rattle.net_cost.specs.Models.{weights_of}
 use Rattle.net_form.specs.Admitted.{no_strand}
-use Rattle.net_form.specs.Cost.{events_weight, edge_cost, depth_at}
+use Rattle.net_form.specs.Cost.{events_weight, way_cost, depth_at}
 use Rattle.net_form.specs.Tables.{all_tables, begun}
-use Rattle.net_gate.proofs.weigh.edge_cost.Goals as goal
+use Rattle.net_form.proofs.ways.way_cost.Goals as goal
 
 pub returns-in-None-clause-value : goal.returns-in-None-clause-value
 returns-in-None-clause-value g c =
@@ -15,6 +15,6 @@ returns-in-None-clause-value g c =
     let s = c.args.strand in
     let t = get_or_read net.strands s c.index.result.now c.requires.strand c.index.ensures no_strand in
     c.begun_cost.ensures.value
-    ∙ ap (λ (d : ℕ). events_weight w d (begun c.index.result.now.constant c.args.to)) c.depth_of-depth.ensures.value
+    ∙ ap (λ (d : ℕ). events_weight w d (begun c.index.result.now.constant c.args.to)) c.depth-depth.ensures.value
     ∙ ap (λ (u : Strand). events_weight w (depth_at net s) (begun u.constant c.args.to)) t
-    ∙ sym (ap (λ (o : Option Place). edge_cost all_tables net w (record { strand = s; layer = c.args.layer; from = o; to = c.args.to })) c.in-None.is)
+    ∙ sym (ap (λ (o : Option Place). way_cost all_tables net w (record { strand = s; layer = c.args.layer; from = o; to = c.args.to })) c.in-None.is)
