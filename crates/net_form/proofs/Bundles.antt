@@ -1,12 +1,12 @@
 -- Registers at layers by one number.
-use Rattle.std.proofs.Common.{ℕ, ◌≡◌, ◌+◌, ◌*◌, ◌/◌, ◌%◌, ◌<◌, Bool, true, false, ◌&&◌, eqb, List, get_or, count_by, refl, sym, ap, ◌∙◌, arith, true≢false, inl, inr}
-use Rattle.std.proofs.lemmas.Bool.{and_left, and_right, and_parts, and_from, eqb-true, eq-eqb, ne_eqb, cases_Bool}
+use Rattle.std.proofs.Common.{ℕ, ◌≡◌, ◌<◌, Bool, true, false, ◌&&◌, eqb, List, get_or, count_by, refl, sym, ◌∙◌, arith, true≢false, inl, inr}
+use Rattle.std.proofs.lemmas.Bool.{and_right, and_parts, and_from, eqb-true, eq-eqb, cases_Bool}
 use Rattle.pra_base.specs.declared.ids.Place.{Place}
 use Rattle.pra_base.specs.declared.ids.Place.TheVariants.{Eax, Ecx, Edx, Ebx, Esi, Edi, Mem, Const, EaxM, EcxM, EdxM, EbxM, EsiM, EdiM}
 use Rattle.pra_base.specs.Places.{number, has_register, register_of, register_count}
 use Rattle.net_form.specs.declared.net.Net.{Net}
 use Rattle.net_form.specs.Flow.{Edge}
-use Rattle.net_form.specs.Admitted.{layer_of, in_register, uses_bundle}
+use Rattle.net_form.specs.Admitted.{layer_of, uses_bundle}
 use Rattle.net_form.specs.Bundles.{bundle_key, bundle_of, comes_to_bundle}
 use Rattle.pra_list.proofs.Counts.{count-agree}
 

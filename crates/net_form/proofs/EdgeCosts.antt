@@ -4,7 +4,6 @@ use Rattle.std.proofs.lemmas.List.Sums.{sum_by-cons}
 use Rattle.pra_list.proofs.Counts.{bit, count-cons}
 use Rattle.net_cost.specs.declared.weights.Weights.{Weights}
 use Rattle.net_form.specs.declared.net.Net.{Net}
-use Rattle.net_form.specs.declared.net.Extra.{Extra}
 use Rattle.net_form.specs.Flow.{Edge}
 use Rattle.net_form.specs.Cost.{way_cost, extra_cost, meets, extras_cost, edge_cost, cost_by}
 use Rattle.net_form.specs.Tables.{PlaceTables}

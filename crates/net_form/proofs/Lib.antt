@@ -2,6 +2,7 @@ pub mod Bundles
 pub mod Chain
 pub mod EdgeCosts
 pub mod ExampleLiveness
+pub mod ExtrasInOrder
 pub mod FlowIsRoutes
 pub mod InAnyOrder
 pub mod Layers

@@ -1,5 +1,6 @@
 -- The order of extras: by strand, then layer, then place; and where those of a layer begin.
-use Rattle.std.specs.Prelude.{◌≡◌, ℕ, ◌<◌, ◌≤◌, Bool, ◌&&◌, ◌||◌, nat_eq, nat_lt, All, length, count_by}
+use Rattle.std.specs.Prelude.{◌≡◌, ℕ, ◌<◌, ◌≤◌, Bool, ◌&&◌, ◌||◌, nat_eq, nat_lt, if◌then◌else◌, All}
+use Rattle.std.specs.Prelude.{length, count_by, Option, Some, None}
 use Rattle.std.specs.List.{AllPairs}
 use Rattle.pra_base.specs.Places.{number}
 use Rattle.net_form.specs.declared.net.Extra.{Extra}
@@ -30,3 +31,8 @@ is_earlier s l x = nat_lt x.strand s || (nat_eq x.strand s && nat_lt x.layer l)
 -- the number of the first extra of strand s at layer l or a later one
 abbrev pub first_extra : Net → ℕ → ℕ → ℕ
 first_extra net s l = count_by (is_earlier s l) net.extras
+
+-- the extra, if it is of strand s at layer l
+abbrev pub extra_there : ℕ → ℕ → Option Extra → Option Extra
+extra_there s l None = None
+extra_there s l (Some x) = if nat_eq x.strand s && nat_eq x.layer l then Some x else None

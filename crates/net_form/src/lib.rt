@@ -93,6 +93,7 @@
 //! Read specs/Strands, Network, Flow, Admitted and Cost, in this order.
 #![tactic(auto)]
 
+mod extras;
 pub mod laws;
 mod net;
 mod prices;
@@ -100,6 +101,7 @@ mod routes;
 mod taken;
 mod ways;
 
+pub use extras::extras_cost;
 pub use net::{Extra, MemPair, Net, NetBlock, NetIndex, PairEnd, Strand, Tie};
 pub use prices::{Line, Prices};
 pub use routes::{Ends, Plan, Routes};

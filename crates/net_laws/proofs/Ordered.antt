@@ -21,8 +21,9 @@ use Rattle.net_form.specs.Strands.{Lives, beside, strands}
 use Rattle.net_form.specs.Network.{extra_of, extra_at, event_beside, priced_places, extras, is_joined, ties_from, ties, grouped, net_of, IsNetBy}
 use Rattle.net_form.specs.Tables.{PlaceTables}
 use Rattle.net_form.proofs.NetworkFormed.{strands_are_formed}
-use Rattle.net_laws.specs.Ordered.{ExtraBefore, TieBefore, IsExtraOf, IsInOrder}
-use Rattle.net_laws.specs.Ordered.ExtraBefore.{strand, layer, place}
+use Rattle.net_form.specs.Ordered.{ExtraBefore, IsExtraOf}
+use Rattle.net_form.specs.Ordered.ExtraBefore.{strand, layer, place}
+use Rattle.net_laws.specs.Ordered.{TieBefore, IsInOrder}
 use Rattle.net_laws.specs.Ordered.TieBefore.{from, to}
 
 -- ---- pairs of the elements of comprehensions
