@@ -18,8 +18,8 @@ use Rattle.net_form.specs.Strands.{across}
 use Rattle.net_form.specs.Admitted.{strand_at, no_strand, in_register, uses_bundle}
 use Rattle.net_form.specs.Formed.{IsFormed, no_block}
 use Rattle.net_form.specs.Index.{first_layer}
-use Rattle.net_gate.specs.InUse.{mark}
-use Rattle.net_gate.proofs.Layers.{uses}
+use Rattle.net_form.specs.InUse.{mark}
+use Rattle.net_form.proofs.PathUses.{uses}
 use Rattle.net_laws.specs.Homes.{HasRoom, is_there, passes, allowed, home_of, needs_register, registers, shares, contends, is_rival}
 use Rattle.net_laws.proofs.Few.{few}
 use Rattle.net_laws.proofs.Found.{first_that}

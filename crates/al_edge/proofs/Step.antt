@@ -17,8 +17,8 @@ use Rattle.net_form.specs.Strands.{across}
 use Rattle.net_form.specs.Admitted.{strand_at, no_strand, in_register, uses_bundle}
 use Rattle.net_form.specs.Formed.{IsFormed}
 use Rattle.net_form.specs.Index.{first_layer}
-use Rattle.net_gate.specs.InUse.{mark}
-use Rattle.net_gate.proofs.Layers.{uses}
+use Rattle.net_form.specs.InUse.{mark}
+use Rattle.net_form.proofs.PathUses.{uses}
 use Rattle.net_laws.specs.Homes.{HasRoom, is_there, passes, mask_in, allowed, has_home, home_of, yields_at, yields, needs_register}
 use Rattle.al_edge.specs.Choice.{layer_in, busy_at, pick, place_for, path_for}
 use Rattle.al_edge.proofs.Uses.{held_is, held_once, uses_at, uses_below, count_push}

@@ -12,7 +12,7 @@ use Rattle.net_form.specs.Flow.{Edge, is_at, edges, flow_from}
 use Rattle.net_form.specs.Admitted.{strand_at, no_strand, in_register, uses_bundle}
 use Rattle.net_form.specs.Index.{first_layer}
 use Rattle.net_form.proofs.Paths.{none_earlier, first_only, later_layer, of_path}
-use Rattle.net_gate.proofs.Layers.{uses}
+use Rattle.net_form.proofs.PathUses.{uses}
 
 -- ---- a path
 

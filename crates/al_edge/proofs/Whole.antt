@@ -24,7 +24,7 @@ use Rattle.net_form.specs.Cost.{place_at}
 use Rattle.net_form.specs.Formed.{IsFormed, IsStrandOf}
 use Rattle.net_form.proofs.PlaceEquality.{same_place-refl, same_place-true, same_start-refl}
 use Rattle.net_form.proofs.RoutesConserve.{flow_conserves}
-use Rattle.net_gate.specs.InUse.{mark}
+use Rattle.net_form.specs.InUse.{mark}
 use Rattle.net_gate.proofs.Ends.{arrivals, tie_kept, two_ends, one_end, arrivals_small}
 use Rattle.net_laws.specs.Homes.{HasRoom, is_there, passes, mask_in, allowed, has_home, left_stays, is_right, yields_at, yields, needs_register}
 use Rattle.net_laws.proofs.Bits.{met_allows, allows_meet}

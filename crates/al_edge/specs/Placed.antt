@@ -9,7 +9,7 @@ use Rattle.net_form.specs.Flow.{flow_from}
 use Rattle.net_form.specs.Strands.{across}
 use Rattle.net_form.specs.Admitted.{strand_at, uses_bundle}
 use Rattle.net_form.specs.Rooms.{layer_total}
-use Rattle.net_gate.specs.InUse.{mark}
+use Rattle.net_form.specs.InUse.{mark}
 use Rattle.net_laws.specs.Homes.{is_there, passes, allowed, home_of, needs_register}
 
 -- A place of strand x at layer l: one that it may be at, its home where it can be at home, else a

@@ -1,12 +1,10 @@
 // Home routes, a strand after the other.
 
-ghost use Rattle.std.specs.Prelude.{◌≡◌, ◌<◌, ◌≤◌, ◌+◌, ℕ, true, length, min, count_by, None, IfOk};
-ghost use Rattle.std.specs.Prelude.{OnOk};
-ghost use Rattle.net_form.specs.Admitted.{strand_at, uses_bundle, IsAdmitted};
-ghost use Rattle.net_form.specs.Flow.{edges, flow, AreRoutes};
+ghost use Rattle.std.specs.Prelude.{◌≡◌, ◌<◌, ◌+◌, true, length, IfOk, OnOk};
+ghost use Rattle.net_form.specs.Admitted.{strand_at, IsAdmitted};
+ghost use Rattle.net_form.specs.Flow.{flow, AreRoutes};
 ghost use Rattle.net_form.specs.Formed.{IsFormed};
-ghost use Rattle.net_form.specs.Rooms.{layer_total};
-ghost use Rattle.net_gate.specs.InUse.{mark, comes_to};
+ghost use Rattle.net_form.specs.Rooms.{layer_total, IsRoomOf};
 ghost use Rattle.net_laws.specs.Homes.{HasRoom, is_there};
 ghost use Rattle.al_edge.specs.Choice.{busy_at, place_for, path_for};
 ghost use Rattle.al_edge.specs.HomeRoutes.{AreHome};
@@ -78,45 +76,12 @@ fn path_for(
     Ok(path)
 }
 
-// A strand comes to a place at a layer, counted over all blocks.
-fn occupy(regs: &mut Seq<u8>, layer: usize, to: Place)
-    requires { layer < length regs.old }
-    ensures long { length regs.new ≡ length regs.old }
-    ensures marks { (n r : ℕ) →
-        mark regs.new n r ≡ min 1 (mark regs.old n r + comes_to layer to n r) }
-{
-    if !to.has_register() {
-        return;
-    }
-    regs.set(layer, regs[layer] | 1u8 << to.register());
-}
-
-// The registers that the path of a strand is in.
-fn occupy_path(regs: &mut Seq<u8>, net: &Net, strand: usize, path: &[Place])
-    requires regs { length regs.old ≡ layer_total net.now.blocks }
-    requires net { IsFormed net.now }
-    requires strand { strand < length net.now.strands }
-    requires path { let t = strand_at net.now strand in t.first + length path.now ≡ t.last + 1 }
-    ensures long { length regs.new ≡ length regs.old }
-    ensures marks { let first = (strand_at net.now strand).first in (n r : ℕ) →
-        mark regs.new n r ≡ min 1 (mark regs.old n r +
-        count_by (uses_bundle net.now n r) (edges strand first None path.now)) }
-{
-    let mut layer = net.entry_layer(strand) + net.strands[strand].first;
-    let mut rest = path;
-    while let [to, others @ ..] = rest {
-        occupy(regs, layer as usize, *to);
-        layer += 1;
-        rest = others;
-    }
-}
-
 // The path of one strand more.
 fn add_path(
     alloc: Global,
     net: &Net,
     table: &[Seq<bool>],
-    regs: &mut Seq<u8>,
+    taken: &mut Taken,
     paths: &mut Seq<Seq<Place>>,
     strand: usize,
 ) -> Result<(), OutOfMemory>
@@ -124,11 +89,13 @@ fn add_path(
     requires room { HasRoom net.now }
     requires table { IsTable net.now (length net.now.pairs) table.now }
     requires strand { strand < length net.now.strands }
-    requires paths { IsSoFar net.now regs.old paths.old strand }
-    ensures { OnOk result (IsSoFar net.now regs.new paths.new (strand + 1)) }
+    requires taken { IsRoomOf net.now taken.old }
+    requires paths { IsSoFar net.now taken.old.regs paths.old strand }
+    ensures taken { OnOk result (IsRoomOf net.now taken.new) }
+    ensures paths { OnOk result (IsSoFar net.now taken.new.regs paths.new (strand + 1)) }
 {
-    let path = path_for(alloc, net, regs, table, strand)?;
-    occupy_path(regs, net, strand, path.as_slice());
+    let path = path_for(alloc, net, &taken.regs, table, strand)?;
+    taken.take_path(net, strand, path.as_slice());
     paths.push(path)?;
     Ok(())
 }
@@ -150,14 +117,7 @@ pub fn home(alloc: Global, net: &Net) -> Result<Routes, OutOfMemory>
     let mut taken = Taken::empty(alloc, net)?;
     let mut paths = Seq::from_vec(Vec::with_capacity(alloc, net.strands.len())?);
     for strand in 0..net.strands.len() {
-        add_path(
-            alloc,
-            net,
-            table.as_slice(),
-            &mut taken.regs,
-            &mut paths,
-            strand,
-        )?;
+        add_path(alloc, net, table.as_slice(), &mut taken, &mut paths, strand)?;
     }
     Ok(Routes { places: paths })
 }

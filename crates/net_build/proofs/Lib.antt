@@ -6,6 +6,7 @@ pub mod Indexing
 pub mod Joining
 pub mod Linking
 pub mod LiveAt
+pub mod MemberLists
 pub mod PairEnds
 pub mod PairsInOrder
 pub mod Places

@@ -8,7 +8,8 @@ use Rattle.net_form.specs.declared.net.Strand.{Strand}
 use Rattle.net_form.specs.declared.net.MemPair.{MemPair}
 use Rattle.net_form.specs.Admitted.{no_strand}
 use Rattle.net_form.specs.Index.{OwnedEnd, is_end, ends_at, owned_ends}
-use Rattle.net_build.specs.Owners.{owner_of, if_owned, owned, by_owner, end_owners, pair_end, no_pair, ArePairs}
+use Rattle.net_build.specs.Owners.{owner_of, if_owned, owned, by_owner, end_owners, pair_end, ArePairs}
+use Rattle.net_form.specs.InUse.{no_pair}
 use Rattle.net_build.proofs.Comprehended.{filter_map-map, flat_map-map, map-flat_map, by_number, flat_map-agree, filter_map-empty, flat_map-empty}
 use Rattle.net_build.proofs.Ranges.{filter_map_more}
 

@@ -1,15 +1,17 @@
 // Where the lists of a network begin for each block and each strand.
 
-ghost use Rattle.std.specs.Prelude.{◌≡◌, ℕ, ◌+◌, ◌*◌, ◌<◌, ◌≤◌, ◌^◌, length, map, All, IfOk};
-ghost use Rattle.std.specs.List.{range_with_len};
+ghost use Rattle.std.specs.Prelude.{◌≡◌, ℕ, ◌+◌, ◌*◌, ◌<◌, ◌≤◌, ◌^◌, length, map, All, IfOk, IfSome};
+ghost use Rattle.std.specs.List.{range_with_len, flat_map};
 ghost use Rattle.net_form.specs.Formed.{IsStrandOf};
-ghost use Rattle.net_form.specs.Index.{beginnings, first_layer, index_of};
+ghost use Rattle.net_form.specs.Index.{beginnings, first_layer, index_of, var_count, members};
+ghost use Rattle.net_form.specs.Index.{ends_in, by_owner as strands_by};
 ghost use Rattle.net_form.specs.Rooms.{layer_total};
 ghost use Rattle.net_build.specs.Owners.{owner_of, by_owner, end_owners, pair_end, ArePairs};
 
 use crate::lists::Lists;
+use crate::members::{Members, ends_in_order, members_of};
 use crate::owners::{beginnings, by_owner, linked, owners_in};
-use net_form::{Extra, MemPair, NetBlock, NetIndex, PairEnd, Tie};
+use net_form::{Extra, MemPair, NetBlock, NetIndex, PairEnd, Strand, Tie, TieEnd};
 use pra_base::OutOfMemory;
 use pra_list::Seq;
 use std::alloc::{AllocError, Global};
@@ -61,6 +63,69 @@ fn tie_targets(alloc: Global, ties: &Seq<Tie>) -> Result<Seq<u32>, AllocError>
 {
     let owners: Vec<u32> = ties.as_slice().iter().map(|t| t.to).collect(alloc)?;
     Ok(Seq::from_vec(owners))
+}
+
+fn strand_blocks(alloc: Global, strands: &Seq<Strand>) -> Result<Seq<u32>, AllocError>
+    ensures { IfOk result (λ owners. owners ≡ map (λ t. t.block.0) strands.now) }
+{
+    let owners: Vec<u32> = strands.as_slice().iter().map(|t| t.block.0).collect(alloc)?;
+    Ok(Seq::from_vec(owners))
+}
+
+fn strand_vars(alloc: Global, strands: &Seq<Strand>) -> Result<Seq<u32>, AllocError>
+    ensures { IfOk result (λ owners. owners ≡ map (λ t. t.var.0) strands.now) }
+{
+    let owners: Vec<u32> = strands.as_slice().iter().map(|t| t.var.0).collect(alloc)?;
+    Ok(Seq::from_vec(owners))
+}
+
+// One more than the greatest number of a variable; None where 32 bits do not count it.
+fn var_count(strands: &Seq<Strand>) -> Option<u32>
+    ensures { IfSome result (λ count. count ≡ var_count strands.now) }
+{
+    let mut count = 0u32;
+    let mut rest = strands.as_slice();
+    while let [strand, others @ ..] = rest {
+        count = count.max(strand.var.0.checked_add(1)?);
+        rest = others;
+    }
+    Some(count)
+}
+
+// Where the strands of each block begin, and those of each variable by their numbers.
+#[derive(Drop)]
+struct ByPlace {
+    blocks: Seq<u32>,
+    vars: Seq<u32>,
+    of_vars: Seq<u32>,
+}
+
+fn by_place(
+    alloc: Global,
+    blocks: &Seq<NetBlock>,
+    strands: &Seq<Strand>,
+) -> Result<ByPlace, OutOfMemory>
+    requires few { length strands.now < 2 ^ 32 }
+    ensures blocks { IfOk result (λ made. made.blocks ≡
+        beginnings (λ t. t.block.0) strands.now (length blocks.now)) }
+    ensures vars { IfOk result (λ made. made.vars ≡
+        beginnings (λ t. t.var.0) strands.now (var_count strands.now)) }
+    ensures of_vars { IfOk result (λ made. made.of_vars ≡
+        strands_by (λ t. t.var.0) strands.now (var_count strands.now)) }
+{
+    let block_count = u32::try_from(blocks.len()).map_err(|_| OutOfMemory)?;
+    let Some(count) = var_count(strands) else {
+        return Err(OutOfMemory);
+    };
+    let owners = strand_blocks(alloc, strands)?;
+    let blocks = strand_beginnings(alloc, &owners, block_count)?;
+    let owners = strand_vars(alloc, strands)?;
+    let vars = strand_beginnings(alloc, &owners, count)?;
+    Ok(ByPlace {
+        blocks,
+        vars,
+        of_vars: items_by_owner(alloc, owners, count)?,
+    })
 }
 
 // The strands of the ends of memory pairs, of each the left one and the right one.
@@ -133,13 +198,37 @@ fn ends_of(alloc: Global, pairs: &Seq<MemPair>, strands: u32) -> Result<Ends, Ou
     })
 }
 
-// The numbers of ties by the strands that they go to.
-fn arrivals(alloc: Global, targets: Seq<u32>, strands: u32) -> Result<Seq<u32>, OutOfMemory>
-    ensures { IfOk result (λ made. made ≡ by_owner targets strands) }
+// The numbers of items by their owners, of which there are so many.
+fn items_by_owner(alloc: Global, owners: Seq<u32>, count: u32) -> Result<Seq<u32>, OutOfMemory>
+    ensures { IfOk result (λ made. made ≡ by_owner owners count) }
 {
-    let _few = u32::try_from(targets.len()).map_err(|_| OutOfMemory)?;
-    let links = linked(alloc, targets, strands)?;
+    let _few = u32::try_from(owners.len()).map_err(|_| OutOfMemory)?;
+    let links = linked(alloc, owners, count)?;
     Ok(by_owner(alloc, &links)?)
+}
+
+// The ends that ties join, by their groups, and where those of each group begin.
+#[derive(Drop)]
+struct Grouped {
+    first: Seq<u32>,
+    ends: Seq<TieEnd>,
+}
+
+fn by_group(alloc: Global, strands: &Seq<Strand>, groups: u32) -> Result<Grouped, OutOfMemory>
+    requires few { length strands.now < 2 ^ 32 }
+    ensures first { IfOk result (λ made. made.first ≡
+        beginnings (λ m. m.group) (members strands.now) groups) }
+    ensures ends { IfOk result (λ made. made.ends ≡
+        flat_map (ends_in (members strands.now)) (range_with_len 0 groups)) }
+{
+    let members = members_of(alloc, strands)?;
+    let Members { owners, ends } = members;
+    let first = strand_beginnings(alloc, &owners, groups)?;
+    let order = items_by_owner(alloc, owners, groups)?;
+    Ok(Grouped {
+        first,
+        ends: ends_in_order(alloc, &ends, &order)?,
+    })
 }
 
 /// Where the lists of a network begin for each block and each strand.
@@ -147,16 +236,17 @@ fn arrivals(alloc: Global, targets: Seq<u32>, strands: u32) -> Result<Seq<u32>, 
 /// # Errors
 ///
 /// Where there is no memory for it, or a list has more elements than 32 bits count.
-pub(crate) fn index_of(alloc: Global, lists: &Lists) -> Result<NetIndex, OutOfMemory>
+pub(crate) fn index_of(alloc: Global, lists: &Lists, groups: u32) -> Result<NetIndex, OutOfMemory>
     requires few { length lists.now.strands < 2 ^ 32 }
     requires layers { layer_total lists.now.blocks < 2 ^ 32 }
     requires strands { All (IsStrandOf lists.now.blocks) lists.now.strands }
     requires pairs { ArePairs lists.now.strands lists.now.pairs }
     ensures { IfOk result (λ made. made ≡ index_of lists.now.blocks lists.now.strands
-        lists.now.extras lists.now.pairs lists.now.ties) }
+        lists.now.extras lists.now.pairs lists.now.ties groups) }
 {
     let strands = lists.strands.len() as u32;
     let layers = first_layers(alloc, &lists.blocks)?;
+    let places = by_place(alloc, &lists.blocks, &lists.strands)?;
     let owners = extra_owners(alloc, &lists.extras)?;
     let extras = strand_beginnings(alloc, &owners, strands)?;
     let ends = ends_of(alloc, &lists.pairs, strands)?;
@@ -164,14 +254,20 @@ pub(crate) fn index_of(alloc: Global, lists: &Lists) -> Result<NetIndex, OutOfMe
     let exits = strand_beginnings(alloc, &sources, strands)?;
     let targets = tie_targets(alloc, &lists.ties)?;
     let entries = strand_beginnings(alloc, &targets, strands)?;
-    let arrivals = arrivals(alloc, targets, strands)?;
+    let arrivals = items_by_owner(alloc, targets, strands)?;
+    let members = by_group(alloc, &lists.strands, groups)?;
     Ok(NetIndex {
         layers,
+        strands: places.blocks,
+        vars: places.vars,
+        of_vars: places.of_vars,
         extras,
         pairs: ends.first,
         ends: ends.ends,
         exits,
         entries,
         arrivals,
+        groups: members.first,
+        members: members.ends,
     })
 }

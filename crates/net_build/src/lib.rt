@@ -31,6 +31,7 @@ mod groups;
 mod index;
 mod labels;
 mod lists;
+mod members;
 mod naming;
 mod network;
 mod order;

@@ -24,7 +24,13 @@ pub fn build(alloc: Global, code: &VProc, live: &Liveness) -> Result<Net, OutOfM
     ensures { IfOk result (λ net. IsNet net code.now) }
 {
     let lists = lists_of(alloc, code, live)?;
-    let index = index_of(alloc, &lists)?;
+    let groups = groups_of(alloc, &lists.ties, lists.strands.len())?;
+    let lists = Lists {
+        strands: grouped(alloc, lists.strands, &groups)?,
+        ..lists
+    };
+    let count = groups.count();
+    let index = index_of(alloc, &lists, count)?;
     let Lists {
         near,
         blocks,
@@ -33,8 +39,6 @@ pub fn build(alloc: Global, code: &VProc, live: &Liveness) -> Result<Net, OutOfM
         pairs,
         ties,
     } = lists;
-    let groups = groups_of(alloc, &ties, strands.len())?;
-    let strands = grouped(alloc, strands, &groups)?;
     Ok(Net {
         near,
         blocks,
@@ -42,7 +46,7 @@ pub fn build(alloc: Global, code: &VProc, live: &Liveness) -> Result<Net, OutOfM
         extras,
         pairs,
         ties,
-        groups: groups.count(),
+        groups: count,
         index,
     })
 }

@@ -6,10 +6,14 @@ pub mod ExtrasInOrder
 pub mod FlowIsRoutes
 pub mod InAnyOrder
 pub mod Layers
+pub mod Marking
 pub mod NetworkFormed
 pub mod OneNetwork
 pub mod OneStrand
+pub mod PairUses
+pub mod PathUses
 pub mod Paths
 pub mod PlaceEquality
 pub mod RoutesConserve
 pub mod RoutesCost
+pub mod TakenFlows

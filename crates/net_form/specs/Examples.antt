@@ -55,12 +55,17 @@ write_constant_net = record {
   groups = 0;
   index = record {
     layers = 0 ∷ 6 ∷ [];
+    strands = 0 ∷ 1 ∷ [];
+    vars = 0 ∷ 1 ∷ [];
+    of_vars = 0 ∷ [];
     extras = 0 ∷ 0 ∷ [];
     pairs = 0 ∷ 0 ∷ [];
     ends = [];
     exits = 0 ∷ 0 ∷ [];
     entries = 0 ∷ 0 ∷ [];
     arrivals = [];
+    groups = 0 ∷ [];
+    members = [];
   };
 }
 
@@ -112,12 +117,17 @@ set_add_write_net = record {
   groups = 0;
   index = record {
     layers = 0 ∷ 8 ∷ [];
+    strands = 0 ∷ 2 ∷ [];
+    vars = 0 ∷ 1 ∷ 2 ∷ [];
+    of_vars = 0 ∷ 1 ∷ [];
     extras = 0 ∷ 2 ∷ 3 ∷ [];
     pairs = 0 ∷ 1 ∷ 2 ∷ [];
     ends = record { layer = 3; pair = 0 } ∷ record { layer = 3; pair = 0 } ∷ [];
     exits = 0 ∷ 0 ∷ 0 ∷ [];
     entries = 0 ∷ 0 ∷ 0 ∷ [];
     arrivals = [];
+    groups = 0 ∷ [];
+    members = [];
   };
 }
 

@@ -32,4 +32,5 @@ pub record IsFormed (net : Net) : Type 0 where
   -- an instruction has one memory pair at most, and its layers are more
   pub pairs : length net.pairs ≤ most_layers
   pub ties : All (λ t. t.from < length net.strands) net.ties
-  pub index : net.index ≡ index_of net.blocks net.strands net.extras net.pairs net.ties
+  pub index : net.index ≡
+      index_of net.blocks net.strands net.extras net.pairs net.ties net.groups

@@ -6,6 +6,7 @@ pub mod Examples
 pub mod Flow
 pub mod Formed
 pub mod Groups
+pub mod InUse
 pub mod Index
 pub mod Network
 pub mod Ordered

@@ -148,15 +148,16 @@ net_of tables code live least =
     let blocks = map net_block code.blocks in
     let found = map (grouped ts least) (enumerate_from 0 ss) in
     let es = extras tables code ss in
-    let ps = pairs tables code ss in record {
+    let ps = pairs tables code ss in
+    let groups = count_by (leads ts least) (range_with_len 0 (2 * length ss)) in record {
       near = near code.vars code.args;
       blocks = blocks;
       strands = found;
       extras = es;
       pairs = ps;
       ties = ts;
-      groups = count_by (leads ts least) (range_with_len 0 (2 * length ss));
-      index = index_of blocks found es ps ts;
+      groups = groups;
+      index = index_of blocks found es ps ts groups;
     }
 
 pub record IsNetBy (tables : PlaceTables) (code : VProc) (net : Net) : Type 0 where

@@ -1,12 +1,13 @@
 // The laws of networks, flows and costs.
 
-ghost use Rattle.std.specs.Prelude.{◌≡◌, ℕ, ◌<◌, List, IsPermutation, sum_by, count_by};
+ghost use Rattle.std.specs.Prelude.{◌≡◌, ◌↔◌, ℕ, ◌<◌, ◌++◌, List, IsPermutation, sum_by, count_by};
 ghost use Rattle.pra_base.specs.declared.code.VProc.{VProc};
 ghost use Rattle.pra_base.specs.Places.{register_count};
 ghost use Rattle.pra_base.specs.Valid.{IsSized};
 ghost use Rattle.net_cost.specs.declared.weights.Weights.{Weights};
 ghost use Rattle.net_form.specs.declared.net.Net.{Net};
 ghost use Rattle.net_form.specs.declared.routes.Routes.{Routes};
+ghost use Rattle.net_form.specs.declared.taken.Taken.{Taken};
 ghost use Rattle.net_form.specs.Tables.{PlaceTables};
 ghost use Rattle.net_form.specs.Examples.{write_constant, write_constant_net, set_add_write};
 ghost use Rattle.net_form.specs.Examples.{set_add_write_net, set_add_write_cost};
@@ -17,6 +18,7 @@ ghost use Rattle.net_form.specs.Formed.{IsFormed};
 ghost use Rattle.net_form.specs.Flow.{Edge, Conserves, flow, AreRoutes};
 ghost use Rattle.net_form.specs.Admitted.{IsAdmitted, uses_bundle};
 ghost use Rattle.net_form.specs.Bundles.{bundle_key, comes_to_bundle};
+ghost use Rattle.net_form.specs.InUse.{StandsFor, UsesNothing, AreApart, UsesOnce, Takes, Releases};
 ghost use Rattle.net_form.specs.Cost.{cost_by, cost_of, edge_cost, routes_cost};
 
 /// Code has one network.
@@ -66,6 +68,20 @@ pub fn bundles_have_keys()
         uses_bundle net n r e ≡ comes_to_bundle net (bundle_key n r) e }
     ensures flow { (net : Net) (n r : ℕ) (f : List Edge) → r < register_count →
         count_by (comes_to_bundle net (bundle_key n r)) f ≡ count_by (uses_bundle net n r) f }
+{}
+
+/// What is marked stands for a flow: edges use nothing of it exactly where no register of a layer
+/// and no memory pair is used by both. Taking a path adds its edges, releasing one takes them away.
+pub fn taken_stands_for_flows()
+    ensures apart { (net : Net) (taken : Taken) (f g : List Edge) → StandsFor net taken g →
+        UsesNothing net taken f ↔ AreApart net f g }
+    ensures once { (net : Net) (f g : List Edge) →
+        UsesOnce net (f ++ g) ↔ (UsesOnce net f × UsesOnce net g × AreApart net f g) }
+    ensures takes { (net : Net) (old new : Taken) (f g : List Edge) → StandsFor net old g →
+        UsesOnce net (f ++ g) → Takes net f old new → StandsFor net new (f ++ g) }
+    ensures releases { (net : Net) (old new : Taken) (f g : List Edge) →
+        StandsFor net old (f ++ g) → Releases net f old new → StandsFor net new g }
+    ensures admitted { (net : Net) (f : List Edge) → IsAdmitted net f → UsesOnce net f }
 {}
 
 /// The network of a Write of a constant and an end of line.

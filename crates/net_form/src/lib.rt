@@ -95,6 +95,7 @@
 
 mod extras;
 pub mod laws;
+mod marks;
 mod net;
 mod prices;
 mod routes;
@@ -102,7 +103,7 @@ mod taken;
 mod ways;
 
 pub use extras::extras_cost;
-pub use net::{Extra, MemPair, Net, NetBlock, NetIndex, PairEnd, Strand, Tie};
+pub use net::{BlockEnd, Extra, MemPair, Net, NetBlock, NetIndex, PairEnd, Strand, Tie, TieEnd};
 pub use prices::{Line, Prices};
 pub use routes::{Ends, Plan, Routes};
 pub use taken::{Spare, Taken};

@@ -72,14 +72,34 @@ pub struct PairEnd {
     pub pair: u32,
 }
 
-/// Where the lists of a network begin for each block and each strand. Each list of beginnings has
-/// one entry more, the length of what it leads into, so what belongs to number k lies between
-/// entries k and k + 1.
+/// Where a strand meets the border of its block.
+#[derive(Clone, Copy, Debug, PartialEq, Eq)]
+pub enum BlockEnd {
+    Entry,
+    Exit,
+}
+
+/// An end of a strand that ties join with others.
+#[derive(Clone, Copy, Debug, PartialEq, Eq, Drop)]
+pub struct TieEnd {
+    pub strand: u32,
+    pub end: BlockEnd,
+}
+
+/// Where the lists of a network begin for each block, strand, variable and tie group. Each list of
+/// beginnings has one entry more, the length of what it leads into, so what belongs to number k
+/// lies between entries k and k + 1.
 #[derive(Debug, PartialEq, Eq, Drop)]
 pub struct NetIndex {
     /// For each block the number of its layer 0, where the layers of all blocks are counted
     /// together.
     pub layers: Seq<u32>,
+    /// For each block its first strand.
+    pub strands: Seq<u32>,
+    /// For each variable, up to the greatest that has a strand, its first strand, in `of_vars`.
+    pub vars: Seq<u32>,
+    /// The numbers of the strands, by variable.
+    pub of_vars: Seq<u32>,
     /// For each strand its first extra.
     pub extras: Seq<u32>,
     /// For each strand its first end of a memory pair, in `ends`.
@@ -92,6 +112,10 @@ pub struct NetIndex {
     pub entries: Seq<u32>,
     /// The numbers of the ties, by the strand that they go to.
     pub arrivals: Seq<u32>,
+    /// For each tie group its first end, in `members`.
+    pub groups: Seq<u32>,
+    /// The ends of strands that ties join, by their group.
+    pub members: Seq<TieEnd>,
 }
 
 /// The network: strands are the commodities, places at layers the nodes.

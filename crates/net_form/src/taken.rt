@@ -1,9 +1,16 @@
 // What is in use, and room to work in.
 
-ghost use Rattle.std.specs.Prelude.{◌≡◌, ◌≤◌, IfOk, IfSome};
+ghost use Rattle.std.specs.Prelude.{◌≡◌, ◌≤◌, ◌<◌, ◌+◌, ℕ, [], false, min, nat_eq, length, None};
+ghost use Rattle.std.specs.Prelude.{slice_index_or, IfOk, IfSome};
+ghost use Rattle.net_form.specs.declared.net.Net.{Net as AnyNet};
+ghost use Rattle.net_form.specs.Admitted.{strand_at};
+ghost use Rattle.net_form.specs.Flow.{edges};
+ghost use Rattle.net_form.specs.Formed.{IsFormed};
+ghost use Rattle.net_form.specs.InUse.{mark, comes_to, Takes, Releases, StandsFor};
 ghost use Rattle.net_form.specs.Rooms.{layer_total, empty_taken, zero_prices, some_routes};
-ghost use Rattle.net_form.specs.Rooms.{empty_spare};
+ghost use Rattle.net_form.specs.Rooms.{empty_spare, IsRoomOf};
 
+use crate::marks::{mark_pairs, mark_path, mark_place};
 use crate::net::Net;
 use crate::prices::Prices;
 use crate::routes::Routes;
@@ -48,13 +55,88 @@ impl Taken {
     ///
     /// Where there is no memory for it.
     pub fn empty(alloc: Global, net: &Net) -> Result<Taken, OutOfMemory>
-        ensures { IfOk result (λ taken. taken ≡ empty_taken net.now) }
+        ensures value { IfOk result (λ taken. taken ≡ empty_taken net.now) }
+        ensures room { IfOk result (IsRoomOf net.now) }
+        ensures nothing { IfOk result (λ taken. StandsFor net.now taken []) }
     {
         let total = layer_total(net).ok_or(OutOfMemory)?;
         Ok(Taken {
             regs: Seq::from_vec(vec![in alloc; 0u8; total]?),
             mems: Seq::from_vec(vec![in alloc; false; net.pairs.len()]?),
         })
+    }
+
+    /// Whether a register is in use at a layer, counted over all blocks.
+    pub fn uses_register(&self, layer: u32, register: u8) -> bool
+        requires layer { layer < length self.now.regs }
+        requires register { register < 8 }
+        ensures { result ≡ nat_eq (mark self.now.regs layer register) 1 }
+    {
+        (self.regs[layer as usize] >> register) & 1 == 1
+    }
+
+    /// Whether a memory pair is in use.
+    pub fn uses_pair(&self, pair: u32) -> bool
+        requires { pair < length self.now.mems }
+        ensures { result ≡ slice_index_or self.now.mems pair false }
+    {
+        self.mems[pair as usize]
+    }
+
+    /// Marks the register of a place at a layer, counted over all blocks, as used.
+    pub fn take_place(&mut self, layer: u32, to: Place)
+        requires { layer < length self.old.regs }
+        ensures long { length self.new.regs ≡ length self.old.regs }
+        ensures mems { self.new.mems ≡ self.old.mems }
+        ensures marks { (n r : ℕ) → mark self.new.regs n r ≡
+            min 1 (mark self.old.regs n r + comes_to layer to n r) }
+    {
+        mark_place(&mut self.regs, layer as usize, to, true);
+    }
+
+    /// Takes all that the path of a strand uses: its registers, and the memory pairs of which it
+    /// brings an end to memory.
+    pub fn take_path(&mut self, net: &Net, strand: usize, path: &[Place])
+        requires room { IsRoomOf net.now self.old }
+        requires net { IsFormed net.now }
+        requires strand { strand < length net.now.strands }
+        requires path { (strand_at net.now strand).first + length path.now ≡
+            (strand_at net.now strand).last + 1 }
+        ensures room { IsRoomOf net.now self.new }
+        ensures takes { Takes net.now
+            (edges strand (strand_at net.now strand).first None path.now) self.old self.new }
+    {
+        mark_path(&mut self.regs, net, strand, path, true);
+        mark_pairs(&mut self.mems, net, strand, path, true);
+    }
+
+    /// Releases all that the path of a strand uses.
+    pub fn release_path(&mut self, net: &Net, strand: usize, path: &[Place])
+        requires room { IsRoomOf net.now self.old }
+        requires net { IsFormed net.now }
+        requires strand { strand < length net.now.strands }
+        requires path { (strand_at net.now strand).first + length path.now ≡
+            (strand_at net.now strand).last + 1 }
+        ensures room { IsRoomOf net.now self.new }
+        ensures releases { Releases net.now
+            (edges strand (strand_at net.now strand).first None path.now) self.old self.new }
+    {
+        mark_path(&mut self.regs, net, strand, path, false);
+        mark_pairs(&mut self.mems, net, strand, path, false);
+    }
+
+    /// Releases all.
+    pub fn clear(&mut self)
+        ensures regs { length self.new.regs ≡ length self.old.regs }
+        ensures mems { length self.new.mems ≡ length self.old.mems }
+        ensures nothing { (net : AnyNet) → StandsFor net self.new [] }
+    {
+        for layer in 0..self.regs.len() {
+            self.regs.set(layer, 0);
+        }
+        for pair in 0..self.mems.len() {
+            self.mems.set(pair, false);
+        }
     }
 }
 

@@ -1,7 +1,6 @@
 pub mod EdgeRules
 pub mod Ends
 pub mod Firsts
-pub mod Layers
 pub mod Occupied
 pub mod Paths
 pub mod WhatBreaks

@@ -33,7 +33,7 @@ pub fn admitted(taken: &mut Taken, net: &Net, routes: &Routes) -> Result<(), Bro
     if let Some((strand, layer)) = first_edge(EdgeRule::StaysAcross, net, routes) {
         return Err(Broken::Edge(strand, layer));
     }
-    if let Some(bundle) = first_bundle(&mut taken.regs, net, routes) {
+    if let Some(bundle) = first_bundle(taken, net, routes) {
         return Err(Broken::Bundle(bundle.layer, bundle.register));
     }
     if let Some(pair) = first_pair(net, routes) {

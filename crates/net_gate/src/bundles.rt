@@ -1,19 +1,19 @@
 // Registers: at a layer one strand at most is in each, whether in the register alone or in its both
 // place.
 
-ghost use Rattle.std.specs.Prelude.{◌≡◌, ◌↔◌, ℕ, ◌+◌, ◌<◌, ◌≤◌, nat_eq, length, count_by};
-ghost use Rattle.std.specs.Prelude.{slice_index, IsTrue, None, Some, option_map, sum_by};
+ghost use Rattle.std.specs.Prelude.{◌≡◌, ◌↔◌, ℕ, ◌+◌, ◌<◌, length, count_by, IsTrue, None};
+ghost use Rattle.std.specs.Prelude.{option_map};
 ghost use Rattle.pra_base.specs.Places.{number, has_register, register_of};
 ghost use Rattle.net_form.specs.Admitted.{strand_at, uses_bundle};
 ghost use Rattle.net_form.specs.Flow.{edges, flow, AreRoutes};
 ghost use Rattle.net_form.specs.Formed.{IsFormed};
-ghost use Rattle.net_form.specs.Rooms.{layer_total};
+ghost use Rattle.net_form.specs.InUse.{comes_to};
+ghost use Rattle.net_form.specs.Rooms.{layer_total, IsRoomOf};
 ghost use Rattle.net_gate.specs.Broken.{IsFirstAbove, IsBefore};
-ghost use Rattle.net_gate.specs.InUse.{mark, Stands, comes_to, numbers, IsEarlier};
+ghost use Rattle.net_gate.specs.InUse.{Stands, numbers, IsEarlier};
 
-use net_form::{Net, Routes};
+use net_form::{Net, Routes, Taken};
 use pra_base::Place;
-use pra_list::Seq;
 
 // A register at a layer, where the layers of all blocks are counted together.
 #[derive(Clone, Copy)]
@@ -36,25 +36,6 @@ fn alone(place: Place) -> Place
         Place::EdiM => Place::Edi,
         other => other,
     }
-}
-
-fn is_marked(regs: &Seq<u8>, layer: usize, register: u8) -> bool
-    requires layer { layer < length regs.now }
-    requires register { register < 8 }
-    ensures { result ≡ nat_eq (mark regs.now layer register) 1 }
-{
-    (regs[layer] >> register) & 1 == 1
-}
-
-fn set_mark(regs: &mut Seq<u8>, layer: usize, register: u8)
-    requires layer { layer < length regs.old }
-    requires register { register < 8 }
-    ensures long { length regs.new ≡ length regs.old }
-    ensures same { mark regs.new layer register ≡ 1 }
-    ensures other { (n r : ℕ) → ¬ ((n ≡ layer) × (r ≡ register)) →
-        mark regs.new n r ≡ mark regs.old n r }
-{
-    regs.set(layer, regs[layer] | 1u8 << register);
 }
 
 // Whether one bundle comes before the other, by layer and register.
@@ -85,76 +66,68 @@ fn earlier(clash: Option<Bundle>, layer: u32, register: Place) -> Bundle
 }
 
 // A strand comes to a place at a layer, counted over all blocks.
-fn occupy(regs: &mut Seq<u8>, clash: Option<Bundle>, layer: u32, to: Place) -> Option<Bundle>
-    requires { layer < length regs.old }
-    ensures long { length regs.new ≡ length regs.old }
-    ensures stands { (uses : ℕ → ℕ → ℕ) → Stands uses regs.old clash →
-        Stands (λ n r. uses n r + comes_to layer to n r) regs.new result }
+fn come_to(taken: &mut Taken, clash: Option<Bundle>, layer: u32, to: Place) -> Option<Bundle>
+    requires { layer < length taken.old.regs }
+    ensures long { length taken.new.regs ≡ length taken.old.regs }
+    ensures mems { taken.new.mems ≡ taken.old.mems }
+    ensures stands { (uses : ℕ → ℕ → ℕ) → Stands uses taken.old.regs clash →
+        Stands (λ n r. uses n r + comes_to layer to n r) taken.new.regs result }
 {
     if !to.has_register() {
         return clash;
     }
-    let register = to.register();
-    if is_marked(regs, layer as usize, register) {
+    if taken.uses_register(layer, to.register()) {
         return Some(earlier(clash, layer, alone(to)));
     }
-    set_mark(regs, layer as usize, register);
+    taken.take_place(layer, to);
     clash
 }
 
-// The registers that the path of a strand is in.
-fn occupy_path(
-    regs: &mut Seq<u8>,
+// A strand goes along its path.
+fn go_along(
+    taken: &mut Taken,
     clash: Option<Bundle>,
     net: &Net,
     strand: usize,
     path: &[Place],
 ) -> Option<Bundle>
-    requires regs { length regs.old ≡ layer_total net.now.blocks }
+    requires regs { length taken.old.regs ≡ layer_total net.now.blocks }
     requires net { IsFormed net.now }
     requires strand { strand < length net.now.strands }
     requires path { (strand_at net.now strand).first + length path.now ≡
         (strand_at net.now strand).last + 1 }
-    ensures long { length regs.new ≡ length regs.old }
-    ensures stands { (uses : ℕ → ℕ → ℕ) → Stands uses regs.old clash → Stands
+    ensures long { length taken.new.regs ≡ length taken.old.regs }
+    ensures mems { taken.new.mems ≡ taken.old.mems }
+    ensures stands { (uses : ℕ → ℕ → ℕ) → Stands uses taken.old.regs clash → Stands
         (λ n r. uses n r + count_by (uses_bundle net.now n r)
         (edges strand (strand_at net.now strand).first None path.now))
-        regs.new result }
+        taken.new.regs result }
 {
     let mut clash = clash;
     let mut layer = net.entry_layer(strand) + net.strands[strand].first;
     let mut rest = path;
     while let [to, others @ ..] = rest {
-        clash = occupy(regs, clash, layer, *to);
+        clash = come_to(taken, clash, layer, *to);
         layer += 1;
         rest = others;
     }
     clash
 }
 
-fn clear(regs: &mut Seq<u8>)
-    ensures long { length regs.new ≡ length regs.old }
-    ensures none { (n r : ℕ) → mark regs.new n r ≡ 0 }
-{
-    for n in 0..regs.len() {
-        regs.set(n, 0);
-    }
-}
-
 // The first register, by layer and number, that two strands are in.
-pub(crate) fn first_bundle(regs: &mut Seq<u8>, net: &Net, routes: &Routes) -> Option<Bundle>
-    requires regs { length regs.old ≡ layer_total net.now.blocks }
+pub(crate) fn first_bundle(taken: &mut Taken, net: &Net, routes: &Routes) -> Option<Bundle>
+    requires room { IsRoomOf net.now taken.old }
     requires net { IsFormed net.now }
     requires routes { AreRoutes net.now routes.now }
-    ensures long { length regs.new ≡ length regs.old }
+    ensures room { IsRoomOf net.now taken.new }
     ensures first { IsFirstAbove 1
         (λ n r. count_by (uses_bundle net.now n r) (flow net.now routes.now))
         (option_map numbers result) }
 {
-    clear(regs);
+    taken.clear();
     let mut clash = None;
     for at in 0..net.strands.len() {
-        clash = occupy_path(regs, clash, net, at, routes.places[at].as_slice());
+        clash = go_along(taken, clash, net, at, routes.places[at].as_slice());
     }
     clash
 }

@@ -1,26 +1,26 @@
 use Rattle.std.proofs.Common.{List, ◌+◌, min, length, None, subst, sym, ap, ◌∙◌, arith}
 use Rattle.pra_base.specs.declared.ids.Place.{Place}
 use Rattle.net_form.specs.Admitted.{strand_at}
-use Rattle.net_gate.specs.InUse.{mark}
-use Rattle.net_gate.proofs.Layers.{uses}
+use Rattle.net_form.specs.InUse.{mark}
+use Rattle.net_form.proofs.PathUses.{uses}
 use Rattle.al_edge.specs.Placed.{IsSoFar}
 use Rattle.al_edge.proofs.Step.{path_placed, so_far_more}
 use Rattle.al_edge.proofs.routing.add_path.Goals as goal
 
-pub occupy_path-requires-clause-path : goal.occupy_path-requires-clause-path
-occupy_path-requires-clause-path c =
+pub take_path-requires-clause-path : goal.take_path-requires-clause-path
+take_path-requires-clause-path c =
     let net = c.args.net.now in
     let so = c.requires.paths in
-    let placed = path_placed net c.requires.net c.requires.room c.args.paths.now c.args.regs.now so.marks so.placed c.args.strand c.requires.strand so.count in
+    let placed = path_placed net c.requires.net c.requires.room c.args.paths.now c.args.taken.now.regs so.marks so.placed c.args.strand c.requires.strand so.count in
     let long = placed.long in
     let row = ap length (c.as_slice.ensures ∙ c.in_ok-path.ensures) in
     omega (arith, long, row)
 
-pub returns : goal.returns
-returns c =
+pub returns-clause-paths : goal.returns-clause-paths
+returns-clause-paths c =
     let net = c.args.net.now in
     let so = c.requires.paths in
     let path = c.in_ok-path.path in
-    subst (λ (ps : List (List Place)). IsSoFar net c.occupy_path.new.regs ps (c.args.strand + 1)) (sym c.in_ok-push.ensures.ok)
-    (so_far_more net c.requires.net c.requires.room c.args.paths.now c.args.regs.now c.occupy_path.new.regs c.args.strand path c.requires.strand so c.in_ok-path.ensures c.occupy_path.ensures.long
-    (λ n r. c.occupy_path.ensures.marks n r ∙ ap (λ (ps : List Place). min 1 (mark c.args.regs.now n r + uses net n r c.args.strand (strand_at net c.args.strand).first None ps)) c.as_slice.ensures))
+    subst (λ (ps : List (List Place)). IsSoFar net c.take_path.new.self.regs ps (c.args.strand + 1)) (sym c.in_ok-push.ensures.ok)
+    (so_far_more net c.requires.net c.requires.room c.args.paths.now c.args.taken.now.regs c.take_path.new.self.regs c.args.strand path c.requires.strand so c.in_ok-path.ensures (let old = c.requires.taken.regs in let new = c.take_path.ensures.room.regs in omega (arith, old, new))
+    (λ n r. c.take_path.ensures.takes.registers n r ∙ ap (λ (ps : List Place). min 1 (mark c.args.taken.now.regs n r + uses net n r c.args.strand (strand_at net c.args.strand).first None ps)) c.as_slice.ensures))

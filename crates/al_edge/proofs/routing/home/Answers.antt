@@ -4,17 +4,20 @@ use Rattle.al_edge.proofs.Ends.{nobody_yet, whole_routes, whole_admitted, whole_
 use Rattle.al_edge.proofs.routing.home.Goals as goal
 
 pub loop-strand-init : goal.loop-strand-init
-loop-strand-init c = nobody_yet c.args.net.now c.in_ok-taken.taken.regs c.from_vec-paths.result
-    (ap (λ (t : Taken). t.regs) c.in_ok-taken.ensures) (c.from_vec-paths.ensures ∙ c.in_ok-with_capacity.ensures.items)
+loop-strand-init c = record {
+  taken = c.in_ok-taken.ensures.room;
+  paths = nobody_yet c.args.net.now c.in_ok-taken.taken.regs c.from_vec-paths.result
+      (ap (λ (t : Taken). t.regs) c.in_ok-taken.ensures.value) (c.from_vec-paths.ensures ∙ c.in_ok-with_capacity.ensures.items);
+}
 
 pub returns-clause-routes : goal.returns-clause-routes
-returns-clause-routes c = whole_routes c.args.net.now c.requires.net c.requires.room c.loop-strand.taken.regs c.loop-strand.paths c.loop-strand.strand c.loop-strand.invariant
+returns-clause-routes c = whole_routes c.args.net.now c.requires.net c.requires.room c.loop-strand.taken.regs c.loop-strand.paths c.loop-strand.strand c.loop-strand.invariant.paths
     (omega (arith, c.loop-strand-test.false, c.len-strand-end.ensures)) (omega (arith, c.loop-strand.auto.strand-end, c.len-strand-end.ensures))
 
 pub returns-clause-admitted : goal.returns-clause-admitted
-returns-clause-admitted c = whole_admitted c.args.net.now c.requires.net c.requires.room c.loop-strand.taken.regs c.loop-strand.paths c.loop-strand.strand c.loop-strand.invariant
+returns-clause-admitted c = whole_admitted c.args.net.now c.requires.net c.requires.room c.loop-strand.taken.regs c.loop-strand.paths c.loop-strand.strand c.loop-strand.invariant.paths
     (omega (arith, c.loop-strand-test.false, c.len-strand-end.ensures)) (omega (arith, c.loop-strand.auto.strand-end, c.len-strand-end.ensures))
 
 pub returns-clause-home : goal.returns-clause-home
-returns-clause-home c = whole_home c.args.net.now c.requires.net c.requires.room c.loop-strand.taken.regs c.loop-strand.paths c.loop-strand.strand c.loop-strand.invariant
+returns-clause-home c = whole_home c.args.net.now c.requires.net c.requires.room c.loop-strand.taken.regs c.loop-strand.paths c.loop-strand.strand c.loop-strand.invariant.paths
     (omega (arith, c.loop-strand-test.false, c.len-strand-end.ensures)) (omega (arith, c.loop-strand.auto.strand-end, c.len-strand-end.ensures))

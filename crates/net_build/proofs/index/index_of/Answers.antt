@@ -24,10 +24,15 @@ returns c =
     let arrivals = c.in_ok-arrivals.ensures ∙ (λ i. by_owner (c.in_ok-targets.ensures i) (count i)) ∙ arrivals_are l.ties n in
     (λ i. record {
       layers = c.in_ok-layers.ensures i;
+      strands = c.in_ok-places.ensures.blocks i;
+      vars = c.in_ok-places.ensures.vars i;
+      of_vars = c.in_ok-places.ensures.of_vars i;
       extras = extras i;
       pairs = pairs i;
       ends = ends i;
       exits = exits i;
       entries = entries i;
       arrivals = arrivals i;
+      groups = c.in_ok-members.ensures.first i;
+      members = c.in_ok-members.ensures.ends i;
     })

@@ -12,13 +12,30 @@ use Rattle.net_form.specs.Strands.{strands}
 use Rattle.net_form.specs.Tables.{all_tables}
 use Rattle.net_form.proofs.NetworkFormed.{few_strands, strands_are_formed}
 use Rattle.vc_live.specs.Rows.{live_at}
+use Rattle.pra_base.specs.declared.code.VProc.{VProc}
+use Rattle.net_form.specs.Strands.{Lives}
+use Rattle.net_build.specs.declared.lists.Lists.{Lists}
+use Rattle.net_build.specs.declared.groups.Groups.{Groups}
+use Rattle.net_build.specs.Lists.{AreLists}
+use Rattle.net_build.specs.Grouped.{AreGroups, AreNumbered, grouped_in}
 use Rattle.net_build.specs.Labels.{parent, IsBelow}
 use Rattle.net_build.specs.Owners.{ArePairs}
-use Rattle.net_build.proofs.Indexing.{same_index}
+use Rattle.net_build.proofs.Indexing.{with_groups, as_many, still_of, still_pairs}
 use Rattle.net_build.proofs.LiveAt.{is_live}
 use Rattle.net_build.proofs.PairsInOrder.{are_pairs}
 use Rattle.net_build.proofs.Whole.{same_leads, same_group, ties_below, few_layers}
 use Rattle.net_build.proofs.network.build.Goals as goal
+
+-- the strands with their groups
+found_are : (code : VProc) (live : Lives) (l : Lists) (g : Groups) (ends : ℕ) (made : List Strand) → AreLists code live l → AreGroups l.ties ends g → AreNumbered g
+    → made ≡ map (grouped_in g) (enumerate_from 0 l.strands)
+    → made ≡ with_groups (ties code (strands all_tables code live)) (parent g.least) (strands all_tables code live)
+found_are code live l g ends made are groups_are numbered is =
+    let group = same_group l.ties ends g groups_are numbered in
+    let sp = are.strands_are in
+    is
+    ∙ (λ i. map (λ (s : ℕ × Strand). record s.1 { entry_group = group (entry_end s.0) i; exit_group = group (exit_end s.0) i }) (enumerate_from 0 (sp i)))
+    ∙ ap (λ (t : List Tie). map (grouped t (parent g.least)) (enumerate_from 0 (strands all_tables code live))) (are.ties_are ∙ ap (ties code) sp)
 
 pub index_of-requires : goal.index_of-requires
 index_of-requires c =
@@ -26,14 +43,21 @@ index_of-requires c =
     let are = c.in_ok-lists.ensures in
     let code = c.args.code.now in
     let live = live_at c.args.live.now in
+    let g = c.in_ok-groups.groups in
+    let ss = strands all_tables code live in
+    let ts = ties code ss in
+    let made = c.in_ok-grouped.field-0 in
+    let found = found_are code live l g (2 * c.len.result) made are c.in_ok-groups.ensures.groups c.in_ok-groups.ensures.numbered c.in_ok-grouped.ensures in
     let few = few_strands all_tables code live c.requires.sized in
-    let same = ap length are.strands_are in
+    let same = ap length found ∙ as_many ts (parent g.least) ss in
+    let formed = still_of ts (parent g.least) ss (map net_block code.blocks) (strands_are_formed all_tables code live) in
+    let pp : l.pairs ≡ pairs all_tables code ss = are.pairs_are ∙ ap (pairs all_tables code) are.strands_are in
     record {
       few = omega (arith, few, same);
       layers = subst (λ (bs : List NetBlock). layer_total bs < 4294967296) (sym are.blocks_are) (few_layers code c.requires.sized);
-      strands = subst (λ (bs : List NetBlock). All (IsStrandOf bs) l.strands) (sym are.blocks_are)
-          (subst (All (IsStrandOf (map net_block code.blocks))) (sym are.strands_are) (strands_are_formed all_tables code live));
-      pairs = subst (ArePairs l.strands) (sym are.pairs_are) (are_pairs all_tables code l.strands);
+      strands = subst (λ (bs : List NetBlock). All (IsStrandOf bs) made) (sym are.blocks_are) (subst (All (IsStrandOf (map net_block code.blocks))) (sym found) formed);
+      pairs = subst (λ (s : List Strand). ArePairs s l.pairs) (sym found)
+          (still_pairs ts (parent g.least) ss l.pairs (subst (ArePairs ss) (sym pp) (are_pairs all_tables code ss)));
     }
 
 pub groups_of-requires : goal.groups_of-requires
@@ -66,17 +90,13 @@ returns c =
     let tp : l.ties ≡ ts = are.ties_are ∙ ap (ties code) sp in
     let ep : l.extras ≡ extras all_tables code ss = are.extras_are ∙ ap (extras all_tables code) sp in
     let pp : l.pairs ≡ pairs all_tables code ss = are.pairs_are ∙ ap (pairs all_tables code) sp in
-    let group = same_group l.ties ends g groups_are c.in_ok-groups.ensures.numbered in
-    let with_groups = c.in_ok-strands.ensures
-    ∙ (λ i. map (λ (s : ℕ × Strand). record s.1 { entry_group = group (entry_end s.0) i; exit_group = group (exit_end s.0) i }) (enumerate_from 0 (sp i)))
-    ∙ ap (λ (t : List Tie). map (grouped t least) (enumerate_from 0 ss)) tp in
+    let found = found_are code live l g ends c.in_ok-grouped.field-0 are groups_are c.in_ok-groups.ensures.numbered c.in_ok-grouped.ensures in
     let count : length g.least ≡ 2 * length ss = groups_are.count ∙ ap (λ (n : ℕ). 2 * n) (c.len.ensures ∙ ap length sp) in
-    let number = c.count.ensures
+    let number = c.count-count.ensures
     ∙ (λ i. count_by (same_leads l.ties ends g groups_are i) (range_with_len 0 (count i)))
     ∙ ap (λ (t : List Tie). count_by (leads t least) (range_with_len 0 (2 * length ss))) tp in
     let index = c.in_ok-index.ensures
-    ∙ (λ i. index_of (are.blocks_are i) (sp i) (ep i) (pp i) (tp i))
-    ∙ same_index ts least (map net_block code.blocks) ss (extras all_tables code ss) (pairs all_tables code ss) in
+    ∙ (λ i. index_of (are.blocks_are i) (found i) (ep i) (pp i) (tp i) (number i)) in
     record {
       live = live;
       is_live = is_live code c.args.live.now c.requires.live;
@@ -85,7 +105,7 @@ returns c =
       is = λ i. record {
         near = are.near_is i;
         blocks = are.blocks_are i;
-        strands = with_groups i;
+        strands = found i;
         extras = ep i;
         pairs = pp i;
         ties = tp i;

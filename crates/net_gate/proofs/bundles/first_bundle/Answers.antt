@@ -14,8 +14,8 @@ index-requires c =
     let n = as_many c.args.net.now.strands c.args.routes.now.places c.requires.routes in
     omega (arith, n)
 
-pub occupy_path-clash-requires-clause-path : goal.occupy_path-clash-requires-clause-path
-occupy_path-clash-requires-clause-path c =
+pub go_along-clash-requires-clause-path : goal.go_along-clash-requires-clause-path
+go_along-clash-requires-clause-path c =
     let long = places_at c.args.net.now.strands c.args.routes.now.places c.loop-at.at no_strand c.index.result.now c.requires.routes (omega arith) in
     let row = ap length (c.as_slice.ensures ∙ c.index.ensures) in
     omega (arith, long, row)
@@ -23,9 +23,10 @@ occupy_path-clash-requires-clause-path c =
 pub loop-at-init : goal.loop-at-init
 loop-at-init c = record {
   long = refl;
+  mems = refl;
   bound = λ n r. omega arith;
   stands = record {
-    marks = λ n r. let none = c.clear.ensures.none n r in omega (arith, none);
+    marks = λ n r. let none = (c.clear.ensures.nothing c.args.net.now).registers n r in omega (arith, none);
     first = λ n r. omega arith;
   };
 }
@@ -44,11 +45,12 @@ loop-at-preserved c =
     λ n r. sum_drop (λ (e : Edge). cond (uses_bundle net n r e) 1 0) net.strands rs i no_strand [] (omega arith) (omega (arith, as_many net.strands rs c.requires.routes))
     ∙ sym (ap (λ (xs : List Place). count_by (uses_bundle net n r) (edges i (strand_at net i).first None xs) + left (i + 1) n r) row) in
     record {
-      long = c.occupy_path-clash.ensures.long ∙ c.loop-at.invariant.long;
+      long = c.go_along-clash.ensures.long ∙ c.loop-at.invariant.long;
+      mems = ap length c.go_along-clash.ensures.mems ∙ c.loop-at.invariant.mems;
       bound = λ n r. let now = step n r in let was = c.loop-at.invariant.bound n r in omega (arith, now, was);
-      stands = stands_same (λ n r. all n r - left i n r + path n r) (λ n r. all n r - left (i + 1) n r) c.occupy_path-clash.new.regs c.occupy_path-clash.result
+      stands = stands_same (λ n r. all n r - left i n r + path n r) (λ n r. all n r - left (i + 1) n r) c.go_along-clash.new.taken.regs c.go_along-clash.result
           (λ n r. let now = step n r in let was = c.loop-at.invariant.bound n r in omega (arith, now, was))
-          (c.occupy_path-clash.ensures.stands (λ n r. all n r - left i n r) c.loop-at.invariant.stands);
+          (c.go_along-clash.ensures.stands (λ n r. all n r - left i n r) c.loop-at.invariant.stands);
     }
 
 pub returns-clause-first : goal.returns-clause-first
@@ -59,5 +61,5 @@ returns-clause-first c =
     let none : (n r : ℕ) → count_by (uses_bundle net n r) (flow_from i (drop i net.strands) (drop i rs)) ≡ 0 =
     λ n r. ap (λ (ts : List Strand). count_by (uses_bundle net n r) (flow_from i ts (drop i rs))) (drop_all i net.strands (omega arith)) in
     (stands_same (λ n r. count_by (uses_bundle net n r) (flow net c.args.routes.now) - count_by (uses_bundle net n r) (flow_from i (drop i net.strands) (drop i rs)))
-    (λ n r. count_by (uses_bundle net n r) (flow net c.args.routes.now)) c.loop-at.regs c.loop-at.clash
+    (λ n r. count_by (uses_bundle net n r) (flow net c.args.routes.now)) c.loop-at.taken.regs c.loop-at.clash
     (λ n r. let zero_ = none n r in omega (arith, zero_)) c.loop-at.invariant.stands).first

@@ -1,5 +1,4 @@
 -- The registers that paths are in at the layers of all blocks.
-pub use Rattle.net_form.proofs.Layers.{layers_long, layers_at, in_layers}
 use Rattle.std.proofs.Common.{ℕ, suc, ◌≡◌, ◌+◌, ◌-◌, ◌<◌, ◌≤◌, List, [], ◌∷◌, length, get_or, take, drop, count_by, Some, None, Option, refl, sym, ap, ◌∙◌, arith, add-one}
 use Rattle.std.proofs.lemmas.List.{take_all}
 use Rattle.pra_base.specs.declared.ids.Place.{Place}
@@ -8,7 +7,7 @@ use Rattle.net_form.specs.Admitted.{strand_at, uses_bundle}
 use Rattle.net_form.specs.Flow.{edges}
 use Rattle.net_form.specs.Index.{first_layer}
 use Rattle.pra_list.proofs.Counts.{count-cons}
-use Rattle.net_gate.specs.InUse.{comes_to}
+use Rattle.net_form.specs.InUse.{comes_to}
 
 -- where a path comes from is all the same to the registers that it is in
 module _ (net : Net) (n r : ℕ) where
