@@ -1,0 +1,5 @@
+pub mod Edges
+pub mod Paths
+pub mod Priced
+pub mod Step
+pub mod Value
