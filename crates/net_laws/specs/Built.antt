@@ -1,0 +1,61 @@
+-- What every network of valid sized code is: all that calls above ask of a network, in one record.
+use Rattle.std.specs.Prelude.{◌≡◌, ◌≢◌, ℕ, ◌+◌, ◌<◌, ◌≤◌, ◌&&◌, Bool, nat_eq, All, count_by, length}
+use Rattle.std.specs.Prelude.{slice_index_or}
+use Rattle.std.specs.List.{AllPairs}
+use Rattle.net_form.specs.declared.net.Strand.{Strand}
+use Rattle.net_form.specs.declared.net.MemPair.{MemPair}
+use Rattle.net_form.specs.declared.net.Tie.{Tie}
+use Rattle.net_form.specs.declared.net.Net.{Net}
+use Rattle.net_form.specs.Admitted.{strand_at}
+use Rattle.net_form.specs.Formed.{IsFormed, no_block}
+use Rattle.net_form.specs.Index.{is_end}
+use Rattle.net_laws.specs.Homes.{HasRoom}
+use Rattle.net_laws.specs.Ordered.{IsInOrder}
+
+-- by block, first layer, variable
+pub data StrandBefore (s t : Strand) : Type 0 where
+  block : s.block.0 < t.block.0 → StrandBefore s t
+  layer : s.block.0 ≡ t.block.0 → s.first < t.first → StrandBefore s t
+  var : s.block.0 ≡ t.block.0 → s.first ≡ t.first → s.var.0 < t.var.0 → StrandBefore s t
+
+-- of one variable in one block, the one ends before the other begins
+abbrev pub EndsBefore : Strand → Strand → Type 0
+EndsBefore s t = s.var.0 ≡ t.var.0 → s.block.0 ≡ t.block.0 → s.last < t.first
+
+-- A tie begins at the exit of a block, which is its last layer, and leads to an entry, layer 0. It
+-- joins strands of one variable.
+pub record IsBlockTie (net : Net) (t : Tie) : Type 0 where
+  pub exit : (strand_at net t.from).last + 1 ≡
+      (slice_index_or net.blocks (strand_at net t.from).block.0 no_block).layers
+  pub entry : (strand_at net t.to).first ≡ 0
+  pub var : (strand_at net t.from).var.0 ≡ (strand_at net t.to).var.0
+
+-- from the strand, and to it from block b
+abbrev pub goes_from : ℕ → Tie → Bool
+goes_from s t = nat_eq t.from s
+
+abbrev pub comes_to : Net → ℕ → ℕ → Tie → Bool
+comes_to net s b t = nat_eq t.to s && nat_eq (strand_at net t.from).block.0 b
+
+-- a block is followed by two at most
+abbrev pub most_following : ℕ
+most_following = 2
+
+-- the blocks of the greatest procedure
+abbrev pub most_blocks : ℕ
+most_blocks = 4098
+
+pub record IsBuilt (net : Net) : Type 0 where
+  pub formed : IsFormed net
+  pub in_order : IsInOrder net
+  pub room : HasRoom net
+  pub blocks : length net.blocks ≤ most_blocks
+  pub strands : AllPairs StrandBefore net.strands
+  pub runs : AllPairs EndsBefore net.strands
+  -- an instruction has one memory pair at most, of operands that are two variables
+  pub one_end : (s l : ℕ) → count_by (is_end s l) net.pairs ≤ 1
+  pub two_variables : All
+      (λ m. (strand_at net m.left).var.0 ≢ (strand_at net m.right).var.0) net.pairs
+  pub ties : All (IsBlockTie net) net.ties
+  pub exits : (s : ℕ) → count_by (goes_from s) net.ties ≤ most_following
+  pub entries : (s b : ℕ) → count_by (comes_to net s b) net.ties ≤ 1
