@@ -1,6 +1,5 @@
 -- The law of duality, and that a value is the only one.
-use Rattle.std.proofs.Common.{ℕ, ◌+◌, ◌*◌, ◌<◌, ◌≤◌, ◌≡◌, ℤ, pos, ◌+ℤ◌, ◌-ℤ◌, ◌≤ℤ◌, List, length, sum_by, All, sym, ap, ◌∙◌, arith}
-use Rattle.std.specs.Prelude.{IsTrue}
+use Rattle.std.proofs.Common.{ℕ, ◌*◌, ◌<◌, ◌≡◌, ℤ, pos, ◌≤ℤ◌, List, length, sum_by, arith}
 use Rattle.std.specs.List.{range_with_len}
 use Rattle.std.proofs.lemmas.Int.{ints}
 use Rattle.pra_list.proofs.Comprehensions.{All-range}
@@ -12,9 +11,13 @@ use Rattle.net_form.specs.Flow.{Edge, flow, AreRoutes}
 use Rattle.net_form.specs.Admitted.{IsAdmitted}
 use Rattle.net_form.specs.Formed.{IsFormed}
 use Rattle.net_form.proofs.InAnyOrder.{admitted_is_routes}
-use Rattle.net_dual.specs.Priced.{total, priced}
+use Rattle.net_cost.specs.declared.weights.Weights.{Weights}
+use Rattle.net_form.specs.Cost.{cost_of}
+use Rattle.net_form.specs.Tables.{all_tables}
+use Rattle.net_form.proofs.EdgeCosts.{cost_by_edges}
+use Rattle.net_dual.specs.Priced.{priced, cost_by_weights, AreInRange}
 use Rattle.net_dual.specs.Paths.{IsPath, MayGo, AreLeast, Anywhere, any_ends, path_price, path_in}
-use Rattle.net_dual.specs.Value.{routes_price, all_paid, IsValue}
+use Rattle.net_dual.specs.Value.{routes_price, IsValue, IsLagrange}
 use Rattle.net_dual.proofs.Totals.{total-le, total-same}
 use Rattle.net_dual.proofs.Strands.{total-routes, each_is_path, has_places}
 use Rattle.net_dual.proofs.Paid.{flow_pays}
@@ -66,3 +69,13 @@ one_value net cost prices one two y z a b =
     let u = a.is in
     let v = b.is in
     omega (arith, ints, same, u, v)
+
+pub duality_of_weights : (net : Net) (w : Weights) (prices : Prices) (z : ℤ) (f : List Edge) → IsFormed net → AreInRange net prices
+    → IsLagrange net w prices z → IsAdmitted net f → z ≤ℤ pos (1024 * cost_of net w f)
+duality_of_weights net w prices z f formed range value a =
+    let le = duality net (cost_by_weights net w) prices value.family z f formed range.mems value.value a in
+    let same = cost_by_edges all_tables net w f in
+    omega (arith, ints, le, same)
+
+pub one_lagrange : (net : Net) (w : Weights) (prices : Prices) (y z : ℤ) → IsLagrange net w prices y → IsLagrange net w prices z → y ≡ z
+one_lagrange net w prices y z a b = one_value net (cost_by_weights net w) prices a.family b.family y z a.value b.value

@@ -1,6 +1,6 @@
 -- The value at prices of nothing is the least cost of strands alone, in units of a price.
-use Rattle.std.proofs.Common.{ℕ, ◌+◌, ◌*◌, ◌<◌, ◌≤◌, ◌≡◌, ◌↔◌, Bool, true, false, ℤ, pos, ◌+ℤ◌, ◌-ℤ◌, ◌≤ℤ◌, List, [], ◌∷◌, length, get_or}
-use Rattle.std.proofs.Common.{replicate, sum, sum_by, All, Option, Some, None, refl, sym, ap, ◌∙◌, arith, inl, inr}
+use Rattle.std.proofs.Common.{ℕ, ◌+◌, ◌*◌, ◌≡◌, ◌↔◌, Bool, true, false, ℤ, pos, List, length, get_or}
+use Rattle.std.proofs.Common.{replicate, sum_by, Option, Some, None, refl, ap, ◌∙◌, arith, inl, inr}
 use Rattle.std.specs.List.{range_with_len, enumerate_from}
 use Rattle.std.proofs.lemmas.Int.{ints}
 use Rattle.std.proofs.lemmas.Bool.{cases_lt}
@@ -13,12 +13,12 @@ use Rattle.net_form.specs.declared.routes.Routes.{Routes}
 use Rattle.net_form.specs.Flow.{Edge}
 use Rattle.net_form.specs.Admitted.{uses_memory}
 use Rattle.net_form.specs.Rooms.{layer_total, zero_prices}
-use Rattle.net_dual.specs.Edges.{bundle_of}
-use Rattle.net_dual.specs.Priced.{total, pay, in_any_register, exits, enters, mem_price, tie_price, tie_slot, slot_price}
+use Rattle.net_form.specs.Bundles.{bundle_of}
+use Rattle.net_dual.specs.Priced.{total, pay, in_any_register, exits, enters, tie_slot, slot_price}
 use Rattle.net_dual.specs.Priced.{cap_part, mem_part, exit_part, entry_part, priced, cost_by_weights}
-use Rattle.net_dual.specs.Paths.{path_edges, path_price, path_in, IsLeast, AreLeast}
-use Rattle.net_dual.specs.Value.{routes_price, all_paid, IsValue, IsLagrange, IsFreeBound}
-use Rattle.net_dual.proofs.Totals.{total-agree, total-nothing, total-pos, total-scale, sum_by-scale}
+use Rattle.net_dual.specs.Paths.{path_edges, path_price, path_in, AreLeast}
+use Rattle.net_dual.specs.Value.{routes_price, all_paid, IsLagrange, IsFreeBound}
+use Rattle.net_dual.proofs.Totals.{total-agree, total-nothing, total-pos, total-scale}
 
 replicated : {X : Type 0} (n k : ℕ) (x : X) → get_or (replicate n x) k x ≡ x
 replicated n k x = elim (cases_lt k n) as (λ _. get_or (replicate n x) k x ≡ x) [
@@ -42,13 +42,13 @@ module _ (net : Net) where
     free_price : (e : Edge) → priced net cost (zero_prices net) e ≡ pos (1024 * cost e)
     free_price e =
         let cap : cap_part net (zero_prices net) e ≡ pos 0
-            = pay-nothing (in_any_register e) _ (ap pos (replicated (6 * layer_total net.blocks) (bundle_of net e) 0)) in
+        = pay-nothing (in_any_register e) _ (ap pos (replicated (6 * layer_total net.blocks) (bundle_of net e) 0)) in
         let mem : mem_part net (zero_prices net) e ≡ pos 0
-            = total-none _ (enumerate_from 0 net.pairs) (λ m. pay-nothing (uses_memory m.1 e) _ (ap pos (replicated (length net.pairs) m.0 0))) in
+        = total-none _ (enumerate_from 0 net.pairs) (λ m. pay-nothing (uses_memory m.1 e) _ (ap pos (replicated (length net.pairs) m.0 0))) in
         let out : exit_part net (zero_prices net) e ≡ pos 0
-            = total-none _ (enumerate_from 0 net.ties) (λ t. pay-nothing (exits net t.1 e) _ (slot_free t.0 (tie_slot e.to))) in
+        = total-none _ (enumerate_from 0 net.ties) (λ t. pay-nothing (exits net t.1 e) _ (slot_free t.0 (tie_slot e.to))) in
         let in_ : entry_part net (zero_prices net) e ≡ pos 0
-            = total-none _ (enumerate_from 0 net.ties) (λ t. pay-nothing (enters net t.1 e) _ (slot_free t.0 (tie_slot e.to))) in
+        = total-none _ (enumerate_from 0 net.ties) (λ t. pay-nothing (enters net t.1 e) _ (slot_free t.0 (tie_slot e.to))) in
         omega (arith, ints, cap, mem, out, in_)
 
     -- the cost of a path of strand s
@@ -115,17 +115,17 @@ module _ (net : Net) where
   pub free_bound : (w : Weights) (b : ℕ) → IsFreeBound net w b ↔ IsLagrange net w (zero_prices net) (pos (1024 * b))
   free_bound w b = (
     λ f.
-    let cost = cost_by_weights net w in
-    let priced = free_routes cost f.family in
-    let plain = cost_routes cost f.family in
-    let paid = nothing_paid in
-    let is = f.is in
-    record { family = f.family; value = record { least = to_priced cost f.family f.least; is = omega (arith, ints, priced, plain, paid, is) } },
+        let cost = cost_by_weights net w in
+        let priced = free_routes cost f.family in
+        let plain = cost_routes cost f.family in
+        let paid = nothing_paid in
+        let is = f.is in
+        record { family = f.family; value = record { least = to_priced cost f.family f.least; is = omega (arith, ints, priced, plain, paid, is) } },
     λ l.
-    let cost = cost_by_weights net w in
-    let priced = free_routes cost l.family in
-    let plain = cost_routes cost l.family in
-    let paid = nothing_paid in
-    let is = l.value.is in
-    record { family = l.family; least = of_priced cost l.family l.value.least; is = omega (arith, ints, priced, plain, paid, is) },
+        let cost = cost_by_weights net w in
+        let priced = free_routes cost l.family in
+        let plain = cost_routes cost l.family in
+        let paid = nothing_paid in
+        let is = l.value.is in
+        record { family = l.family; least = of_priced cost l.family l.value.least; is = omega (arith, ints, priced, plain, paid, is) },
   )

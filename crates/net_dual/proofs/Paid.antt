@@ -1,11 +1,10 @@
 -- What the edges of an admitted flow pay is at most their cost and all prices.
-use Rattle.std.proofs.Common.{ℕ, ◌+◌, ◌*◌, ◌≤◌, ◌≡◌, ◌&&◌, ℤ, pos, ◌+ℤ◌, ◌-ℤ◌, ◌≤ℤ◌, List, [], ◌∷◌, length, get_or, eqb}
+use Rattle.std.proofs.Common.{ℕ, ◌+◌, ◌*◌, ◌≤◌, ◌≡◌, pos, ◌+ℤ◌, ◌-ℤ◌, ◌≤ℤ◌, List, [], ◌∷◌, length, get_or, eqb}
 use Rattle.std.proofs.Common.{count_by, sum_by, sum, refl, sym, ap, ◌∙◌, All, arith}
 use Rattle.std.specs.List.{range_with_len, enumerate_from}
 use Rattle.std.proofs.lemmas.Int.{ints}
 use Rattle.std.proofs.lemmas.List.{get_or_past}
 use Rattle.std.proofs.lemmas.List.Elements.{All-head, All-tail}
-use Rattle.pra_base.specs.declared.ids.Place.{Place}
 use Rattle.pra_base.specs.Places.{all_places}
 use Rattle.net_form.specs.declared.net.MemPair.{MemPair}
 use Rattle.net_form.specs.declared.net.Tie.{Tie}
@@ -13,8 +12,8 @@ use Rattle.net_form.specs.declared.net.Net.{Net}
 use Rattle.net_form.specs.declared.prices.Prices.{Prices}
 use Rattle.net_form.specs.Flow.{Edge, same_place}
 use Rattle.net_form.specs.Admitted.{uses_memory, uses_bundle, exits_at, enters_at, KeepsTie, IsAdmitted}
-use Rattle.net_dual.specs.Edges.{bundle_of}
-use Rattle.net_dual.specs.Priced.{total, pay, in_any_register, uses_key, exits, enters, cap_price, mem_price, tie_price}
+use Rattle.net_form.specs.Bundles.{bundle_of, comes_to_bundle}
+use Rattle.net_dual.specs.Priced.{total, pay, in_any_register, exits, enters, cap_price, mem_price, tie_price}
 use Rattle.net_dual.specs.Priced.{cap_part, mem_part, exit_part, entry_part, priced}
 use Rattle.net_dual.specs.Value.{all_paid}
 use Rattle.net_dual.proofs.Totals.{total-add, total-sub, total-le, total-agree, total-swap, total-pay, total-by_key, total-scale}
@@ -26,10 +25,10 @@ module _ (net : Net) (prices : Prices) (f : List Edge) where
   caps_paid once =
       let keys = range_with_len 0 (length prices.caps) in
       let keyed = total-by_key in_any_register (λ e q. eqb (bundle_of net e) q) (λ e. pos (cap_price prices (bundle_of net e))) (λ q. pos (cap_price prices q)) keys
-          (λ e. look-up-from (λ q. pos (cap_price prices q)) (bundle_of net e) 0 (length prices.caps) (omega arith)
-          (λ past. ap pos (get_or_past prices.caps (bundle_of net e) 0 (omega (arith, past))))) f in
-      let le = total-le (λ q. times (count_by (uses_key net q) f) (pos (cap_price prices q))) (λ q. pos (cap_price prices q)) keys
-          (λ k d lt. times-once _ _ (key_once net f once (get_or keys k d)) (omega (arith, ints))) in
+      (λ e. look-up-from (λ q. pos (cap_price prices q)) (bundle_of net e) 0 (length prices.caps) (omega arith)
+      (λ past. ap pos (get_or_past prices.caps (bundle_of net e) 0 (omega (arith, past))))) f in
+      let le = total-le (λ q. times (count_by (comes_to_bundle net q) f) (pos (cap_price prices q))) (λ q. pos (cap_price prices q)) keys
+      (λ k d lt. times-once _ _ (key_once net f once (get_or keys k d)) (omega (arith, ints))) in
       let sum = range-sum prices.caps in
       omega (arith, ints, keyed, le, sum)
 
@@ -63,11 +62,11 @@ module _ (net : Net) (prices : Prices) (f : List Edge) where
   ties_even k (t ∷ ts) even =
       let same = All-head (KeepsTie net f) t ts even in
       let one = total-by_key (exits net t) (λ e p. same_place e.to p) (λ e. tie_price prices k e.to) (tie_price prices k) all_places
-          (λ e. look-up-place (tie_price prices k) e.to) f in
+      (λ e. look-up-place (tie_price prices k) e.to) f in
       let two = total-by_key (enters net t) (λ e p. same_place e.to p) (λ e. tie_price prices k e.to) (tie_price prices k) all_places
-          (λ e. look-up-place (tie_price prices k) e.to) f in
+      (λ e. look-up-place (tie_price prices k) e.to) f in
       let counts = total-agree (λ p. times (count_by (exits_at net t p) f) (tie_price prices k p)) (λ p. times (count_by (enters_at net t p) f) (tie_price prices k p)) all_places
-          (λ j d lt. ap (λ n. times n (tie_price prices k (get_or all_places j d))) (same (get_or all_places j d))) in
+      (λ j d lt. ap (λ n. times n (tie_price prices k (get_or all_places j d))) (same (get_or all_places j d))) in
       let more = ties_even (k + 1) ts (All-tail (KeepsTie net f) t ts even) in
       omega (arith, ints, one, two, counts, more)
 

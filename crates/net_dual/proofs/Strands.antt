@@ -1,7 +1,7 @@
 -- Routes strand by strand: what they cost in sum, and what each path is.
-use Rattle.std.proofs.Common.{ℕ, zero, suc, ◌+◌, ◌<◌, ◌≤◌, ◌≡◌, ℤ, ◌+ℤ◌, List, [], ◌∷◌, ◌++◌, length, get_or, slice_get, set, All}
-use Rattle.std.proofs.Common.{IsPermutation, refl, sym, ap, ◌∙◌, subst, arith, None, Some}
-use Rattle.std.specs.Prelude.{slice_index_or, IsTrue}
+use Rattle.std.proofs.Common.{ℕ, zero, suc, ◌+◌, ◌<◌, ◌≡◌, ℤ, List, [], ◌∷◌, ◌++◌, length, get_or, All}
+use Rattle.std.proofs.Common.{IsPermutation, refl, sym, ap, ◌∙◌, subst, arith, None}
+use Rattle.std.specs.Prelude.{IsTrue}
 use Rattle.std.specs.List.{range_with_len}
 use Rattle.std.proofs.lemmas.Int.{ints}
 use Rattle.std.proofs.lemmas.List.{set-get_or}
@@ -47,10 +47,10 @@ total_from net price routes k (t ∷ ts) (r ∷ rs) has f =
     let here : strand_at net k ≡ t = ap (λ n. get_or net.strands n no_strand) (sym e) ∙ f.strands 0 in
     let row : path_in routes k ≡ r = ap (λ n. get_or routes.places n []) (sym e) ∙ f.paths 0 in
     let one : path_price net price k (path_in routes k) ≡ total price (edges k t.first None r)
-        = ap (λ (u : Strand). total price (edges k u.first None (path_in routes k))) here ∙ ap (λ ps. total price (edges k t.first None ps)) row in
+    = ap (λ (u : Strand). total price (edges k u.first None (path_in routes k))) here ∙ ap (λ ps. total price (edges k t.first None ps)) row in
     let next : suc k ≡ k + 1 = omega arith in
     let more = ap (λ n. total price (flow_from n ts rs)) next
-        ∙ total_from net price routes (k + 1) ts rs has.1 (from_next net routes k t ts r rs f) in
+    ∙ total_from net price routes (k + 1) ts rs has.1 (from_next net routes k t ts r rs f) in
     let sum = total-append price (edges k t.first None r) (flow_from (suc k) ts rs) in
     omega (arith, ints, one, more, sum)
 

@@ -1,7 +1,7 @@
 -- Sums of signed numbers, in any order and by key.
 use Rattle.std.proofs.Common.{ℕ, zero, suc, ◌+◌, ◌*◌, ◌<◌, ◌≤◌, ◌≡◌, Bool, true, false, ◌&&◌, eqb, ℤ, pos, ◌+ℤ◌, ◌-ℤ◌, ◌≤ℤ◌}
 use Rattle.std.proofs.Common.{List, [], ◌∷◌, ◌++◌, length, get_or, count_by, sum_by, sum, slice_index, IsPermutation, refl, sym, ap, ◌∙◌}
-use Rattle.std.proofs.Common.{All, arith, inl, inr, add-one, append_assoc, length-append}
+use Rattle.std.proofs.Common.{All, arith, inl, inr, append_assoc, length-append}
 use Rattle.std.proofs.lemmas.Int.{ints}
 use Rattle.std.proofs.lemmas.Bool.{cases_eq, eq-eqb, ne_eqb}
 use Rattle.std.proofs.lemmas.List.Elements.{All-head, All-tail}

@@ -1,4 +1,3 @@
-pub mod Edges
 pub mod Paths
 pub mod Priced
 pub mod Step

@@ -2,7 +2,7 @@
 -- layer holds one of them, an instruction has one memory operand, places agree where blocks meet)
 -- are relaxed, and whoever uses what they are about pays for it instead (Koes and Goldstein, A
 -- Global Progressive Register Allocator, PLDI 2006, section 3, the Lagrangian relaxation).
-use Rattle.std.specs.Prelude.{◌≡◌, ℕ, ◌+◌, ◌-◌, ◌*◌, ◌^◌, ◌≤◌, ◌&&◌, Bool, nat_eq}
+use Rattle.std.specs.Prelude.{◌≡◌, ℕ, ◌+◌, ◌-◌, ◌*◌, ◌^◌, ◌≤◌, Bool}
 use Rattle.std.specs.Prelude.{if◌then◌else◌, ℤ, pos, ◌+ℤ◌, ◌-ℤ◌, ◌≤ℤ◌, List, [], ◌∷◌, length, All}
 use Rattle.std.specs.Prelude.{slice_index, slice_index_or, Option, Some, None}
 use Rattle.std.specs.List.{enumerate_from}
@@ -17,7 +17,8 @@ use Rattle.net_form.specs.Flow.{Edge, is_at}
 use Rattle.net_form.specs.Admitted.{strand_at, uses_memory}
 use Rattle.net_form.specs.Rooms.{layer_total, tie_numbers}
 use Rattle.net_form.specs.Tables.{all_tables}
-use Rattle.net_dual.specs.Edges.{edge_cost, bundle_of}
+use Rattle.net_form.specs.Bundles.{bundle_of}
+use Rattle.net_form.specs.Cost.{edge_cost}
 
 -- ---- signed sums
 
@@ -74,9 +75,6 @@ tie_price prices i p = slot_price prices i (tie_slot p)
 -- it comes to a register, alone or in its both place
 abbrev pub in_any_register : Edge → Bool
 in_any_register e = has_register (number e.to)
-
-abbrev pub uses_key : Net → ℕ → Edge → Bool
-uses_key net k e = in_any_register e && nat_eq (bundle_of net e) k
 
 -- it comes to the exit at which the tie begins, or to the entry to which it leads
 abbrev pub exits : Net → Tie → Edge → Bool

@@ -14,8 +14,9 @@ use Rattle.net_form.specs.declared.prices.Prices.{Prices}
 use Rattle.net_form.specs.declared.routes.Routes.{Routes}
 use Rattle.net_form.specs.Flow.{Edge, flow}
 use Rattle.net_form.specs.Admitted.{uses_memory, exits_at, enters_at}
+use Rattle.net_form.specs.Bundles.{comes_to_bundle}
 use Rattle.net_form.specs.Rooms.{zero_prices}
-use Rattle.net_dual.specs.Priced.{uses_key, mem_price, tie_price, most_price, edge_price}
+use Rattle.net_dual.specs.Priced.{mem_price, tie_price, most_price, edge_price}
 use Rattle.net_dual.specs.Paths.{AreLeast}
 
 -- the step of round k
@@ -51,7 +52,7 @@ next_tie net f s old t =
 abbrev pub next : Net → List Edge → ℕ → Prices → Prices
 next net f s old = record {
   caps =
-      map (λ c. used_price s c.1 (count_by (uses_key net c.0) f)) (enumerate_from 0 old.caps);
+      map (λ c. used_price s c.1 (count_by (comes_to_bundle net c.0) f)) (enumerate_from 0 old.caps);
   mems =
       map (λ m. used_price s (mem_price old m.0) (count_by (uses_memory m.1) f))
       (enumerate_from 0 net.pairs);

@@ -1,11 +1,42 @@
 // The laws of prices, least paths and the bound.
 
-ghost use Rattle.std.specs.Prelude.{◌≡◌, Some, map};
+ghost use Rattle.std.specs.Prelude.{◌≡◌, ◌*◌, ◌↔◌, ℕ, ℤ, pos, ◌≤ℤ◌, List, Some, map};
 ghost use Rattle.std.specs.List.{range_with_len};
+ghost use Rattle.net_cost.specs.declared.weights.Weights.{Weights};
+ghost use Rattle.net_cost.specs.Weights.{size_weights};
 ghost use Rattle.net_form.specs.declared.net.Net.{Net};
+ghost use Rattle.net_form.specs.declared.prices.Prices.{Prices};
+ghost use Rattle.net_form.specs.Flow.{Edge};
+ghost use Rattle.net_form.specs.Admitted.{IsAdmitted};
+ghost use Rattle.net_form.specs.Cost.{cost_of};
+ghost use Rattle.net_form.specs.Examples.{set_add_write_net};
+ghost use Rattle.net_form.specs.Formed.{IsFormed};
 ghost use Rattle.net_form.specs.Rooms.{zero_prices, tie_numbers};
 ghost use Rattle.net_dual.specs.Priced.{AreInRange, tie_slot};
 ghost use Rattle.net_dual.specs.Step.{tied_places};
+ghost use Rattle.net_dual.specs.Value.{IsLagrange, IsFreeBound};
+
+/// The law of duality: whatever the prices, no admitted flow costs less than the value. A flow is
+/// any list of edges, and prices are in units of 1/1024.
+pub fn duality()
+    ensures { (net : Net) (w : Weights) (prices : Prices) (z : ℤ) (f : List Edge) →
+        IsFormed net → AreInRange net prices → IsLagrange net w prices z → IsAdmitted net f →
+        z ≤ℤ pos (1024 * cost_of net w f) }
+{}
+
+/// There is one value of a network at prices.
+pub fn networks_have_one_value()
+    ensures { (net : Net) (w : Weights) (prices : Prices) (y z : ℤ) →
+        IsLagrange net w prices y → IsLagrange net w prices z → y ≡ z }
+{}
+
+/// At prices of nothing the value is what strands cost at least, each alone.
+pub fn free_bound_is_the_value()
+    ensures same { (net : Net) (w : Weights) (bound : ℕ) → IsFreeBound net w bound ↔
+        IsLagrange net w (zero_prices net) (pos (1024 * bound)) }
+    ensures value { (net : Net) (w : Weights) (bound : ℕ) (z : ℤ) → IsFreeBound net w bound →
+        IsLagrange net w (zero_prices net) z → z ≡ pos (1024 * bound) }
+{}
 
 /// Prices of nothing are within the ranges of prices, with an entry for all that has a price.
 pub fn zero_prices_are_in_range()
@@ -15,4 +46,11 @@ pub fn zero_prices_are_in_range()
 /// The numbers that ties have for places are their numbers in the order of these places.
 pub fn ties_number_places()
     ensures { map tie_slot tied_places ≡ map Some (range_with_len 0 tie_numbers) }
+{}
+
+/// What the strands of a Set, an Add of a constant and a Write cost at least: the immediate alone.
+pub fn value_of_set_add_write()
+    ensures bound { IsFreeBound set_add_write_net size_weights 1 }
+    ensures value { IsLagrange set_add_write_net size_weights (zero_prices set_add_write_net)
+        (pos 1024) }
 {}
