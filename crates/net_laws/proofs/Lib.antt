@@ -1,4 +1,5 @@
 pub mod Bits
+pub mod Built
 pub mod Choices
 pub mod Division
 pub mod Few
@@ -7,8 +8,12 @@ pub mod Homes
 pub mod Needs
 pub mod Ordered
 pub mod Pairs
+pub mod PairsApart
 pub mod Present
 pub mod Room
 pub mod Rows
 pub mod Runs
 pub mod Sides
+pub mod StrandsInOrder
+pub mod TieCounts
+pub mod Ties

@@ -29,23 +29,23 @@ use Rattle.net_laws.specs.Ordered.TieBefore.{from, to}
 -- ---- pairs of the elements of comprehensions
 
 -- the numbers of an enumeration
-numbers_from : {A : Type 0} (n : ℕ) (xs : List A) → All (λ (s : ℕ × A). n ≤ s.0) (enumerate_from n xs)
+pub numbers_from : {A : Type 0} (n : ℕ) (xs : List A) → All (λ (s : ℕ × A). n ≤ s.0) (enumerate_from n xs)
 numbers_from n [] = All-nil _
 numbers_from {A} n (x ∷ xs) =
     All-cons (λ (s : ℕ × A). n ≤ s.0) (n, x) (enumerate_from (n + 1) xs) (omega arith)
     (All-weaker (λ (s : ℕ × A). n + 1 ≤ s.0) (λ (s : ℕ × A). n ≤ s.0) (λ s le. omega (arith, le)) (enumerate_from (n + 1) xs) (numbers_from (n + 1) xs))
 
-numbers_below : {A : Type 0} (n : ℕ) (xs : List A) → All (λ (s : ℕ × A). s.0 < n + length xs) (enumerate_from n xs)
+pub numbers_below : {A : Type 0} (n : ℕ) (xs : List A) → All (λ (s : ℕ × A). s.0 < n + length xs) (enumerate_from n xs)
 numbers_below n [] = All-nil _
 numbers_below {A} n (x ∷ xs) =
     All-cons (λ (s : ℕ × A). s.0 < n + suc (length xs)) (n, x) (enumerate_from (n + 1) xs) (omega arith)
     (All-weaker (λ (s : ℕ × A). s.0 < (n + 1) + length xs) (λ (s : ℕ × A). s.0 < n + suc (length xs)) (λ s lt. omega (arith, lt)) (enumerate_from (n + 1) xs) (numbers_below (n + 1) xs))
 
 module _ {X : Type 0} (R : X → X → Type 0) where
-  none : AllPairs R []
+  pub none : AllPairs R []
   none i j d lt in_ = absurd (omega (arith, in_))
 
-  joined : (xs ys : List X) → AllPairs R xs → AllPairs R ys → All (λ x. All (R x) ys) xs → AllPairs R (xs ++ ys)
+  pub joined : (xs ys : List X) → AllPairs R xs → AllPairs R ys → All (λ x. All (R x) ys) xs → AllPairs R (xs ++ ys)
   joined [] ys one two cross = two
   joined (x ∷ xs) ys one two cross =
       AllPairs-cons R x (xs ++ ys)
@@ -53,7 +53,7 @@ module _ {X : Type 0} (R : X → X → Type 0) where
       (joined xs ys (λ i j d lt in_. one (suc i) (suc j) d (omega (arith, lt)) (omega (arith, in_))) two (All-tail (λ x. All (R x) ys) x xs cross))
 
   -- what each element of an enumeration brings has its number as its key
-  by_key : {A : Type 0} (P : X → Type 0) (key : X → ℕ) → ((x y : X) → P x → P y → key x < key y → R x y) → (f : ℕ × A → List X)
+  pub by_key : {A : Type 0} (P : X → Type 0) (key : X → ℕ) → ((x y : X) → P x → P y → key x < key y → R x y) → (f : ℕ × A → List X)
       → ((s : ℕ × A) → All (λ x. P x × (key x ≡ s.0)) (f s)) → ((s : ℕ × A) → AllPairs R (f s)) → (n : ℕ) (xs : List A) → AllPairs R (flat_map f (enumerate_from n xs))
   by_key P key apart f has each n [] = none
   by_key {A} P key apart f has each n (a ∷ more) =

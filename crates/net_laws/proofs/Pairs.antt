@@ -1,5 +1,5 @@
 -- What the memory pairs of the network of valid code are: two operands of one instruction, of two variables.
-use Rattle.std.proofs.Common.{ℕ, ◌≡◌, ◌≢◌, ◌+◌, ◌*◌, ◌<◌, Bool, true, false, ◌&&◌, cond, eqb, leb, List, [], ◌∷◌, length, get_or, map, filter, All, refl, sym, ap, ◌∙◌, subst, arith, inl, inr, Some, None, slice_get}
+use Rattle.std.proofs.Common.{ℕ, ◌≡◌, ◌≢◌, ◌+◌, ◌*◌, ◌<◌, Bool, true, false, ◌&&◌, cond, eqb, leb, List, [], ◌∷◌, length, get_or, map, filter, All, refl, sym, ap, ◌∙◌, subst, arith, inl, inr, Option, Some, None, slice_get}
 use Rattle.std.specs.Prelude.{IfSome}
 use Rattle.std.specs.List.{list_any, range_with_len, filter_map, enumerate_from}
 use Rattle.std.proofs.lemmas.Bool.{cases_Bool, and_parts, and_from, eqb-true, eqb-false, eq-eqb}
@@ -85,6 +85,16 @@ module _ (code : VProc) (live : Lives) (is_live : IsLive code live) (valid : IsV
     pub right_strand : IsStrandFor block m.right m.right_layer right_var
     pub made : pair_of (strands all_tables code live) block (marked index (operands instr)) ≡ Some m
 
+  -- a pair of instruction k of block b
+  pub record IsPairAt (b k : ℕ) (m : MemPair) : Type 0 where
+    pub pair : IsPair m
+    pub in_block : pair.block ≡ b
+    pub at_index : pair.index ≡ k
+
+  -- the pair of one instruction
+  abbrev pub pair_at : ℕ → ℕ × VInstr → Option MemPair
+  pair_at b i = pair_of (strands all_tables code live) b (marked i.0 (operands i.1))
+
   module _ (b k : ℕ) (in_code : b < length code.blocks) (i : VInstr) (is : instr_at code b k ≡ Some i) where
     pub names : (v : ℕ) (before : Bool) → list_any (is_role_of v) (roles_beside before operands (Some i)) ≡ true → v < length code.vars
     names v true role = sized.variables_in_range b k i is v (inl (sym (read_roles v i) ∙ role))
@@ -114,25 +124,29 @@ module _ (code : VProc) (live : Lives) (is_live : IsLive code live) (valid : IsV
           there = and_from (leb t.first l) (leb l t.last) first.1 last.1;
         })
 
-    pair_is : (ms : List (ℕ × ℕ)) → ms ≡ marked k (operands i) → All (λ (x : ℕ × ℕ). IsOperand k i x.0 x.1) ms → IfSome (pair_of (strands all_tables code live) b ms) IsPair
+    pub pair_is : (ms : List (ℕ × ℕ)) → ms ≡ marked k (operands i) → All (λ (x : ℕ × ℕ). IsOperand k i x.0 x.1) ms → IfSome (pair_of (strands all_tables code live) b ms) (IsPairAt b k)
     pair_is [] same ops = tt
     pair_is (x ∷ []) same ops = tt
-    pair_is (x ∷ y ∷ more) same ops = elim (cases_Bool (eqb x.0 y.0)) as (λ _. IfSome (pair_of (strands all_tables code live) b (x ∷ y ∷ more)) IsPair) [
-      | inl one_var ↦ subst (λ t. IfSome (cond t None (Some pair)) IsPair) (sym one_var) tt
-      | inr other ↦ subst (λ t. IfSome (cond t None (Some pair)) IsPair) (sym other) (record {
-        block = b;
-        index = k;
-        instr = i;
-        in_code = in_code;
-        is = is;
-        left_var = x.0;
-        right_var = y.0;
-        apart = eqb-false x.0 y.0 other;
-        left = one;
-        right = two;
-        left_strand = strand_for x.0 x.1 one;
-        right_strand = strand_for y.0 y.1 two;
-        made = sym (ap (pair_of (strands all_tables code live) b) same) ∙ ap (λ t. cond t None (Some pair)) other;
+    pair_is (x ∷ y ∷ more) same ops = elim (cases_Bool (eqb x.0 y.0)) as (λ _. IfSome (pair_of (strands all_tables code live) b (x ∷ y ∷ more)) (IsPairAt b k)) [
+      | inl one_var ↦ subst (λ t. IfSome (cond t None (Some pair)) (IsPairAt b k)) (sym one_var) tt
+      | inr other ↦ subst (λ t. IfSome (cond t None (Some pair)) (IsPairAt b k)) (sym other) (record {
+        in_block = refl;
+        at_index = refl;
+        pair = record {
+          block = b;
+          index = k;
+          instr = i;
+          in_code = in_code;
+          is = is;
+          left_var = x.0;
+          right_var = y.0;
+          apart = eqb-false x.0 y.0 other;
+          left = one;
+          right = two;
+          left_strand = strand_for x.0 x.1 one;
+          right_strand = strand_for y.0 y.1 two;
+          made = sym (ap (pair_of (strands all_tables code live) b) same) ∙ ap (λ t. cond t None (Some pair)) other;
+        };
       })
     ]
       where
@@ -153,12 +167,22 @@ module _ (code : VProc) (live : Lives) (is_live : IsLive code live) (valid : IsV
           right_layer = y.1;
         }
 
+  -- the pairs of a block
+  pub pairs_of : (b : ℕ) → b < length code.blocks
+      → All (λ (i : ℕ × VInstr). IfSome (pair_at b i) (IsPairAt b i.0)) (enumerate_from 0 (code_of code b))
+  pairs_of b b_lt = All-weaker (λ (i : ℕ × VInstr). instr_at code b i.0 ≡ Some i.1) (λ (i : ℕ × VInstr). IfSome (pair_at b i) (IsPairAt b i.0))
+      (λ i is. pair_is b i.0 b_lt i.1 is (marked i.0 (operands i.1)) refl (marked_operands i.0 i.1))
+      (enumerate_from 0 (code_of code b)) (enumerated (code_of code b) instr.Line)
+
   pub all_pairs : All IsPair (pairs all_tables code (strands all_tables code live))
   all_pairs =
-      let ss = strands all_tables code live in
-      All-flat_map IsPair (λ b. filter_map (λ (i : ℕ × VInstr). pair_of ss b (marked i.0 (operands i.1))) (enumerate_from 0 (code_of code b))) (range_with_len 0 (length code.blocks))
-      (All-range (λ b. All IsPair (filter_map (λ (i : ℕ × VInstr). pair_of ss b (marked i.0 (operands i.1))) (enumerate_from 0 (code_of code b)))) 0 (length code.blocks) (λ b _ b_lt.
-      All-filter_map IsPair (λ (i : ℕ × VInstr). pair_of ss b (marked i.0 (operands i.1))) (enumerate_from 0 (code_of code b))
-      (All-weaker (λ (i : ℕ × VInstr). instr_at code b i.0 ≡ Some i.1) (λ (i : ℕ × VInstr). IfSome (pair_of ss b (marked i.0 (operands i.1))) IsPair)
-      (λ i is. pair_is b i.0 (omega (arith, b_lt)) i.1 is (marked i.0 (operands i.1)) refl (marked_operands i.0 i.1))
-      (enumerate_from 0 (code_of code b)) (enumerated (code_of code b) instr.Line))))
+      All-flat_map IsPair (λ b. filter_map (pair_at b) (enumerate_from 0 (code_of code b))) (range_with_len 0 (length code.blocks))
+      (All-range (λ b. All IsPair (filter_map (pair_at b) (enumerate_from 0 (code_of code b)))) 0 (length code.blocks) (λ b _ b_lt.
+      All-filter_map IsPair (pair_at b) (enumerate_from 0 (code_of code b))
+      (All-weaker (λ (i : ℕ × VInstr). IfSome (pair_at b i) (IsPairAt b i.0)) (λ (i : ℕ × VInstr). IfSome (pair_at b i) IsPair)
+      (λ i is. IfSome-weaker (IsPairAt b i.0) IsPair (λ m at. at.pair) (pair_at b i) is)
+      (enumerate_from 0 (code_of code b)) (pairs_of b (omega (arith, b_lt))))))
+    where
+      IfSome-weaker : {X : Type 0} (P Q : X → Type 0) → ((x : X) → P x → Q x) → (o : Option X) → IfSome o P → IfSome o Q
+      IfSome-weaker P Q gives None is = tt
+      IfSome-weaker P Q gives (Some x) is = gives x is

@@ -1,16 +1,12 @@
 -- The network of valid code has room for home routes.
-use Rattle.std.proofs.Common.{ℕ, ◌≡◌, ◌+◌, ◌<◌, Bool, true, false, not, ◌&&◌, ◌||◌, cond, eqb, leb, List, length, get_or, All, sym, ap, ◌∙◌, subst, arith, inl, inr, Some, None}
-use Rattle.std.specs.Prelude.{IfSome}
-use Rattle.std.specs.List.{list_any, enumerate_from, prefix_len}
+use Rattle.std.proofs.Common.{ℕ, ◌≡◌, ◌<◌, Bool, true, false, not, ◌&&◌, ◌||◌, eqb, leb, List, length, get_or, All, sym, ap, ◌∙◌, subst, arith, inl, inr, Some}
+use Rattle.std.specs.List.{list_any, prefix_len}
 use Rattle.std.proofs.lemmas.Bool.{false≢true, and_parts, and_from, eqb-true, le-leb, both_ways, false_from_ne_true, not-true, or_cases}
-use Rattle.std.proofs.lemmas.List.{get_or-map, length-map}
 use Rattle.std.proofs.lemmas.List.Elements.{All-weaker}
-use Rattle.std.proofs.lemmas.List.FromFn.{get_or-enumerate_from, length-enumerate_from}
 use Rattle.pra_list.proofs.Options.{some_same}
-use Rattle.pra_list.proofs.Comprehensions.{All-filter_map, All-flat_map, IfSome-test}
 use Rattle.pra_base.specs.declared.code.VInstr.{VInstr}
 use Rattle.pra_base.specs.declared.code.VProc.{VProc}
-use Rattle.pra_base.specs.Code.{kind_of, instr_at, code_of, end_of}
+use Rattle.pra_base.specs.Code.{kind_of, instr_at, code_of}
 use Rattle.pra_base.specs.Operands.{reads, writes, operands}
 use Rattle.pra_base.specs.Valid.{IsValid, IsSized}
 use Rattle.net_form.specs.declared.net.Strand.{Strand}
@@ -18,15 +14,15 @@ use Rattle.net_form.specs.declared.net.MemPair.{MemPair}
 use Rattle.net_form.specs.declared.net.Tie.{Tie}
 use Rattle.net_form.specs.declared.net.Net.{Net}
 use Rattle.net_form.specs.Tables.{all_tables}
-use Rattle.net_form.specs.Strands.{Lives, IsLive, across, is_constant, exit_layer, strands}
-use Rattle.net_form.specs.Network.{ties, ties_from, is_joined, leads_to, grouped, marked, pair_of, IsNet}
-use Rattle.net_form.specs.Admitted.{no_strand}
+use Rattle.net_form.specs.Strands.{Lives, IsLive, across, is_constant, strands}
+use Rattle.net_form.specs.Network.{ties, marked, pair_of, IsNet}
 use Rattle.net_laws.specs.Homes.{is_there, passes, allowed, choices, needs_register, rivals, left_stays, has_home, yields, yields_at, is_right, IsFreePair, HasRoom}
 use Rattle.net_laws.proofs.Sides.{side, side_some, side_across, same_index}
 use Rattle.net_laws.proofs.Rows.{named, Shape, wide, bare, single, divides, shape}
 use Rattle.net_laws.proofs.Present.{instr_within}
 use Rattle.net_laws.proofs.Pairs.{IsPair, all_pairs}
 use Rattle.net_laws.proofs.Needs.{net, at, run_of, needs, rival, no_pair}
+use Rattle.net_laws.proofs.Ties.{IsJoin, all_joins}
 use Rattle.net_laws.proofs.Found.{first_that}
 use Rattle.net_laws.proofs.Choices.{wide_room, single_room}
 use Rattle.net_laws.proofs.Division.{division_room}
@@ -101,70 +97,46 @@ module _ (code : VProc) (live : Lives) (is_live : IsLive code live) (valid : IsV
 
   -- ---- ties
 
-  -- a strand with its number
-  record IsNumbered (x : ℕ × Strand) : Type 0 where
-    within : x.0 < length n.strands
-    is : strand_of x.0 ≡ grouped tied least x
+  record AtHome (t : Tie) : Type 0 where
+    exit : needs_register n t.from (strand_of t.from).last ≡ false
+    entry : needs_register n t.to (strand_of t.to).first ≡ false
+    alike : (strand_of t.from).constant ≡ (strand_of t.to).constant
+    target : t.to < length n.strands
 
-  all_numbered : All IsNumbered (enumerate_from 0 (strands all_tables code live))
-  all_numbered k e lt =
-      let ss = strands all_tables code live in
-      let long = length-enumerate_from 0 ss in
-      let same = length-map (enumerate_from 0 ss) (grouped tied least) in
-      let y = get_or (enumerate_from 0 ss) k e in
-      let number : y.0 ≡ k = ap (λ (x : ℕ × Strand). x.0) (get_or-enumerate_from 0 ss k e (omega (arith, long, lt))) ∙ (let z : 0 + k ≡ k = omega arith in z) in record {
-        within = omega (arith, number, same, lt);
-        is = ap strand_of number ∙ get_or-map (grouped tied least) (enumerate_from 0 ss) k e no_strand lt;
-      }
-
-  abbrev AtHome : Tie → Type 0
-  AtHome t = (needs_register n t.from (strand_of t.from).last ≡ false) × (needs_register n t.to (strand_of t.to).first ≡ false) × ((strand_of t.from).constant ≡ (strand_of t.to).constant) × (t.to < length n.strands)
-
-  joined_home : (s t : ℕ × Strand) → IsNumbered s → IsNumbered t → is_joined code s.1 t.1 ≡ true → AtHome (record { from = s.0; to = t.0 })
-  joined_home s t x y joined =
-      let one = and_parts (eqb s.1.last (exit_layer code s.1.block.0) && eqb t.1.first 0 && eqb s.1.var.0 t.1.var.0) (leads_to (end_of code s.1.block.0) t.1.block.0) joined in
-      let two = and_parts (eqb s.1.last (exit_layer code s.1.block.0) && eqb t.1.first 0) (eqb s.1.var.0 t.1.var.0) one.0 in
-      let three = and_parts (eqb s.1.last (exit_layer code s.1.block.0)) (eqb t.1.first 0) two.0 in
-      let a = strand_of s.0 in
-      let b = strand_of t.0 in
-      let last : a.last ≡ exit_layer code a.block.0 = ap (λ (u : Strand). u.last) x.is ∙ eqb-true s.1.last (exit_layer code s.1.block.0) three.0 ∙ sym (ap (λ (u : Strand). exit_layer code u.block.0) x.is) in
-      let first : b.first ≡ 0 = ap (λ (u : Strand). u.first) y.is ∙ eqb-true t.1.first 0 three.1 in
-      let var : a.var.0 ≡ b.var.0 = ap (λ (u : Strand). u.var.0) x.is ∙ eqb-true s.1.var.0 t.1.var.0 two.1 ∙ sym (ap (λ (u : Strand). u.var.0) y.is) in
-      let ra = run_of code live is_live valid sized least s.0 x.within in
-      let rb = run_of code live is_live valid sized least t.0 y.within in (
-        false_from_ne_true (needs_register n s.0 a.last) (λ need.
-            let o = needs code live is_live valid sized least s.0 x.within a.last (and_from (leb a.first a.last) (leb a.last a.last) (le-leb a.first a.last ra.order) (le-leb a.last a.last (omega arith))) need in
+  -- an entry and an exit are beside no instruction
+  joined_home : (t : Tie) → IsJoin code live least t → AtHome t
+  joined_home t joined =
+      let a = strand_of t.from in
+      let b = strand_of t.to in
+      let last = joined.last in
+      let first = joined.first in
+      let ra = run_of code live is_live valid sized least t.from joined.from in
+      let rb = run_of code live is_live valid sized least t.to joined.to in record {
+        exit = false_from_ne_true (needs_register n t.from a.last) (λ need.
+            let o = needs code live is_live valid sized least t.from joined.from a.last (and_from (leb a.first a.last) (leb a.last a.last) (le-leb a.first a.last ra.order) (le-leb a.last a.last (omega arith))) need in
             let lt = instr_within code a.block.0 o.index o.instr o.is in
             let e = same_index o.index (length (code_of code a.block.0)) o.before true (sym o.at ∙ last) in
-            omega (arith, lt, e)),
-        false_from_ne_true (needs_register n t.0 b.first) (λ need.
-            let o = needs code live is_live valid sized least t.0 y.within b.first (and_from (leb b.first b.first) (leb b.first b.last) (le-leb b.first b.first (omega arith)) (le-leb b.first b.last rb.order)) need in
+            omega (arith, lt, e));
+        entry = false_from_ne_true (needs_register n t.to b.first) (λ need.
+            let o = needs code live is_live valid sized least t.to joined.to b.first (and_from (leb b.first b.first) (leb b.first b.last) (le-leb b.first b.first (omega arith)) (le-leb b.first b.last rb.order)) need in
             let some = side_some o.index o.before in
             let e = o.at in
-            omega (arith, some, e, first)),
-        ra.constant ∙ ap (λ v. is_constant (kind_of code v)) var ∙ sym rb.constant,
-        y.within,
-      )
+            omega (arith, some, e, first));
+        alike = ra.constant ∙ ap (λ v. is_constant (kind_of code v)) joined.var ∙ sym rb.constant;
+        target = joined.to;
+      }
 
   tie_facts : All AtHome n.ties
-  tie_facts =
-      let ss = strands all_tables code live in
-      All-flat_map AtHome (ties_from code ss) (enumerate_from 0 ss)
-      (All-weaker IsNumbered (λ s. All AtHome (ties_from code ss s)) (λ s x.
-      All-filter_map AtHome (λ (t : ℕ × Strand). cond (is_joined code s.1 t.1) (Some (record { from = s.0; to = t.0 })) None) (enumerate_from 0 ss)
-      (All-weaker IsNumbered (λ t. IfSome (cond (is_joined code s.1 t.1) (Some (record { from = s.0; to = t.0 })) None) AtHome) (λ t y.
-      IfSome-test AtHome (is_joined code s.1 t.1) (record { from = s.0; to = t.0 }) (joined_home s t x y))
-      (enumerate_from 0 ss) all_numbered))
-      (enumerate_from 0 ss) all_numbered)
+  tie_facts = All-weaker (IsJoin code live least) AtHome joined_home n.ties (all_joins code live least)
 
   has_room : HasRoom n
   has_room = record {
     registers = registers;
     pairs = free_pairs;
-    targets = All-weaker AtHome (λ t. t.to < length n.strands) (λ t h. h.3) n.ties tie_facts;
-    exits = All-weaker AtHome (λ t. needs_register n t.from (strand_of t.from).last ≡ false) (λ t h. h.0) n.ties tie_facts;
-    entries = All-weaker AtHome (λ t. needs_register n t.to (strand_of t.to).first ≡ false) (λ t h. h.1) n.ties tie_facts;
-    alike = All-weaker AtHome (λ t. (strand_of t.from).constant ≡ (strand_of t.to).constant) (λ t h. h.2) n.ties tie_facts;
+    targets = All-weaker AtHome (λ t. t.to < length n.strands) (λ t h. h.target) n.ties tie_facts;
+    exits = All-weaker AtHome (λ t. needs_register n t.from (strand_of t.from).last ≡ false) (λ t h. h.exit) n.ties tie_facts;
+    entries = All-weaker AtHome (λ t. needs_register n t.to (strand_of t.to).first ≡ false) (λ t h. h.entry) n.ties tie_facts;
+    alike = All-weaker AtHome (λ t. (strand_of t.from).constant ≡ (strand_of t.to).constant) (λ t h. h.alike) n.ties tie_facts;
   }
 
 pub leaves_room : (code : VProc) (m : Net) → IsNet m code → IsValid code → IsSized code → HasRoom m

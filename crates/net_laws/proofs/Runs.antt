@@ -122,16 +122,16 @@ flat_one p f k a (suc n) none one =
 abbrev pub listed : {Y : Type 0} → Option Y → List Y
 listed o = cons_option o []
 
-pub as_flat : {Y : Type 0} (f : ℕ → Option Y) (xs : List ℕ) → filter_map f xs ≡ flat_map (λ i. listed (f i)) xs
+pub as_flat : {X Y : Type 0} (f : X → Option Y) (xs : List X) → filter_map f xs ≡ flat_map (λ i. listed (f i)) xs
 as_flat f [] = refl
-as_flat {Y} f (x ∷ xs) = by (f x) ∙ ap (λ l. listed (f x) ++ l) (as_flat f xs)
+as_flat {Y = Y} f (x ∷ xs) = by (f x) ∙ ap (λ l. listed (f x) ++ l) (as_flat f xs)
   where
     by : (o : Option Y) → cons_option o (filter_map f xs) ≡ listed o ++ filter_map f xs
     by None = refl
     by (Some y) = refl
 
 -- a strand of variable v in block b that begins at layer l
-abbrev is_start : ℕ → ℕ → ℕ → Strand → Bool
+abbrev pub is_start : ℕ → ℕ → ℕ → Strand → Bool
 is_start v b l t = eqb t.var.0 v && eqb t.block.0 b && eqb t.first l
 
 module _ (code : VProc) (live : Lives) (v b l : ℕ) where
@@ -176,7 +176,7 @@ module _ (code : VProc) (live : Lives) (v b l : ℕ) where
   block_one : count_by (is_start v b l) (block_strands all_tables code live b) ≤ 1
   block_one = flat_one (is_start v b l) (layer_strands all_tables code live b) l 0 (layer_count code b) (λ k other. layer_none b k (λ e. other e.1)) layer_one
 
-  one_start : count_by (is_start v b l) (strands all_tables code live) ≤ 1
+  pub one_start : count_by (is_start v b l) (strands all_tables code live) ≤ 1
   one_start = flat_one (is_start v b l) (block_strands all_tables code live) b 0 (length code.blocks) block_none block_one
 
   grouped_same : (ts : List Tie) (least : ℕ → ℕ) (n : ℕ) (ss : List Strand) → count_by (is_start v b l) (map (grouped ts least) (enumerate_from n ss)) ≡ count_by (is_start v b l) ss

@@ -1,6 +1,6 @@
 -- How the lists of a network are ordered, so that what belongs to one strand lies together and
 -- follows its layers.
-use Rattle.std.specs.Prelude.{◌≡◌, ◌<◌, ◌≤◌, All, length}
+use Rattle.std.specs.Prelude.{◌≡◌, ◌<◌, All, length}
 use Rattle.std.specs.List.{AllPairs}
 use Rattle.net_form.specs.declared.net.Tie.{Tie}
 use Rattle.net_form.specs.declared.net.Net.{Net}
