@@ -1,4 +1,5 @@
 pub mod Paths
 pub mod Priced
+pub mod Small
 pub mod Step
 pub mod Value

@@ -1,18 +1,23 @@
 // The laws of prices, least paths and the bound.
 
-ghost use Rattle.std.specs.Prelude.{◌≡◌, ◌*◌, ◌↔◌, ℕ, ℤ, pos, ◌≤ℤ◌, List, Some, map};
+ghost use Rattle.std.specs.Prelude.{◌≡◌, ◌<◌, ◌≤◌, ◌*◌, ◌↔◌, ℕ, ℤ, pos, ◌≤ℤ◌, List, Some, length};
+ghost use Rattle.std.specs.Prelude.{map};
 ghost use Rattle.std.specs.List.{range_with_len};
 ghost use Rattle.net_cost.specs.declared.weights.Weights.{Weights};
-ghost use Rattle.net_cost.specs.Weights.{size_weights};
+ghost use Rattle.pra_base.specs.declared.ids.Place.{Place};
+ghost use Rattle.net_cost.specs.Weights.{IsValid, size_weights};
 ghost use Rattle.net_form.specs.declared.net.Net.{Net};
 ghost use Rattle.net_form.specs.declared.prices.Prices.{Prices};
 ghost use Rattle.net_form.specs.Flow.{Edge};
 ghost use Rattle.net_form.specs.Admitted.{IsAdmitted};
 ghost use Rattle.net_form.specs.Cost.{cost_of};
 ghost use Rattle.net_form.specs.Examples.{set_add_write_net};
-ghost use Rattle.net_form.specs.Formed.{IsFormed};
+ghost use Rattle.net_form.specs.Formed.{IsFormed, most_layers};
 ghost use Rattle.net_form.specs.Rooms.{zero_prices, tie_numbers};
-ghost use Rattle.net_dual.specs.Priced.{AreInRange, tie_slot};
+ghost use Rattle.net_laws.specs.Built.{IsBuilt};
+ghost use Rattle.net_dual.specs.Paths.{IsPath, path_price};
+ghost use Rattle.net_dual.specs.Priced.{AreInRange, edge_price, tie_slot};
+ghost use Rattle.net_dual.specs.Small.{IsWithin, most_sum};
 ghost use Rattle.net_dual.specs.Step.{tied_places};
 ghost use Rattle.net_dual.specs.Value.{IsLagrange, IsFreeBound};
 
@@ -36,6 +41,17 @@ pub fn free_bound_is_the_value()
         IsLagrange net w (zero_prices net) (pos (1024 * bound)) }
     ensures value { (net : Net) (w : Weights) (bound : ℕ) (z : ℤ) → IsFreeBound net w bound →
         IsLagrange net w (zero_prices net) z → z ≡ pos (1024 * bound) }
+{}
+
+/// What a path costs in a built network fits 64 bits with room to spare, whatever the prices: a
+/// whole path, and as many layers as the greatest procedure has.
+pub fn priced_sums_are_small()
+    ensures path { (net : Net) (w : Weights) (prices : Prices) (s : ℕ) (ps : List Place) →
+        IsBuilt net → IsValid w → AreInRange net prices → s < length net.strands →
+        IsPath net s ps → IsWithin most_sum (path_price net (edge_price net w prices) s ps) }
+    ensures part { (net : Net) (w : Weights) (prices : Prices) (s : ℕ) (ps : List Place) →
+        IsBuilt net → IsValid w → AreInRange net prices → length ps ≤ most_layers →
+        IsWithin most_sum (path_price net (edge_price net w prices) s ps) }
 {}
 
 /// Prices of nothing are within the ranges of prices, with an entry for all that has a price.

@@ -1,3 +1,4 @@
+pub mod Arrivals
 pub mod Bits
 pub mod Built
 pub mod Choices

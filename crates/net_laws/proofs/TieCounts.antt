@@ -26,7 +26,7 @@ use Rattle.net_laws.proofs.PairsApart.{count_few}
 use Rattle.net_laws.proofs.Ties.{IsJoin, all_joins}
 
 -- what passes passes one of two tests
-count_either : {X : Type 0} (p q r : X → Bool) (xs : List X) → All (λ x. p x ≡ true → (q x ≡ true) ⊎ (r x ≡ true)) xs
+pub count_either : {X : Type 0} (p q r : X → Bool) (xs : List X) → All (λ x. p x ≡ true → (q x ≡ true) ⊎ (r x ≡ true)) xs
     → count_by p xs ≤ count_by q xs + count_by r xs
 count_either p q r [] h = omega arith
 count_either p q r (x ∷ xs) h =

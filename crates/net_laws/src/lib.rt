@@ -22,8 +22,8 @@
 //! to the entry of one that follows, two at most from a strand, and to a strand one at most from
 //! each block.
 //!
-//! Read specs/Homes, specs/Ordered for the order, and specs/Built. A layer above that makes routes may ask for
-//! `HasRoom` of its network, since it has that of every valid code by the law. Of proofs/ it may
+//! Read specs/Homes, specs/Ordered for the order, and specs/Built. A layer above that makes routes
+//! may ask for `HasRoom` of its network, since it has that of every valid code by the law. Of proofs/ it may
 //! use the lemmas too: `Runs` (a strand is a run of layers at which its variable is present, and a
 //! variable has one strand at most at two layers side by side), `Found` (where a variable is
 //! present, `strand_of` is its strand), `Pairs` (the ends of memory pairs are operands of one
