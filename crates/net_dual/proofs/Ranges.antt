@@ -14,6 +14,8 @@ zero_in_range net = record {
   ties = length-replicate (13 * length net.ties) (pos 0);
   most_cap = All-replicate (λ c. c ≤ most_price) (6 * layer_total net.blocks) 0 (omega arith);
   most_mem = All-replicate (λ m. m ≤ most_price) (length net.pairs) 0 (omega arith);
-  most_tie = All-replicate (λ z. z ≤ℤ pos most_price) (13 * length net.ties) (pos 0) (omega (arith, ints));
-  least_tie = All-replicate (λ z. (pos 0 -ℤ pos most_price) ≤ℤ z) (13 * length net.ties) (pos 0) (omega (arith, ints));
+  most_tie = All-replicate (λ z. z ≤ℤ pos most_price) (13 * length net.ties) (pos 0)
+      (omega (arith, ints));
+  least_tie = All-replicate (λ z. (pos 0 -ℤ pos most_price) ≤ℤ z) (13 * length net.ties) (pos 0)
+      (omega (arith, ints));
 }

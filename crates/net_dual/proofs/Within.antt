@@ -1,5 +1,6 @@
 -- Sums of numbers within bounds.
-use Rattle.std.proofs.Common.{ℕ, ◌≡◌, ◌+◌, ◌*◌, ◌≤◌, Bool, true, false, cond, ℤ, pos, ◌+ℤ◌, ◌-ℤ◌, List, [], ◌∷◌, All, count_by, sum_by, refl, ap, arith, inl, inr}
+use Rattle.std.proofs.Common.{ℕ, ◌≡◌, ◌+◌, ◌*◌, ◌≤◌, Bool, true, false, cond, ℤ, pos, ◌+ℤ◌, ◌-ℤ◌}
+use Rattle.std.proofs.Common.{List, [], ◌∷◌, All, count_by, sum_by, refl, ap, arith, inl, inr}
 use Rattle.std.specs.List.{enumerate_from}
 use Rattle.std.proofs.lemmas.Int.{ints}
 use Rattle.std.proofs.lemmas.Bool.{cases_Bool}
@@ -10,7 +11,8 @@ use Rattle.net_dual.specs.Priced.{total, pay, most_price}
 use Rattle.net_dual.specs.Small.{IsWithin}
 
 pub within-more : (m n : ℕ) (z : ℤ) → m ≤ n → IsWithin m z → IsWithin n z
-within-more m n z le w = let low = w.low in let high = w.high in record { low = omega (arith, ints, le, low); high = omega (arith, ints, le, high) }
+within-more m n z le w = let low = w.low in let high = w.high in
+    record { low = omega (arith, ints, le, low); high = omega (arith, ints, le, high) }
 
 pub within-add : (m n : ℕ) (y z : ℤ) → IsWithin m y → IsWithin n z → IsWithin (m + n) (y +ℤ z)
 within-add m n y z a b =
@@ -35,16 +37,19 @@ pub within-pay : (b : Bool) (n : ℕ) (z : ℤ) → IsWithin n z → IsWithin (c
 within-pay true n z w = w
 within-pay false n z w = within-pos 0 0 (omega arith)
 
-pub within-total : {X : Type 0} (f : X → ℤ) (g : X → ℕ) (xs : List X) → All (λ x. IsWithin (g x) (f x)) xs → IsWithin (sum_by g xs) (total f xs)
+pub within-total : {X : Type 0} (f : X → ℤ) (g : X → ℕ) (xs : List X)
+    → All (λ x. IsWithin (g x) (f x)) xs → IsWithin (sum_by g xs) (total f xs)
 within-total f g [] h = within-pos 0 0 (omega arith)
 within-total f g (x ∷ xs) h =
     let one = All-head (λ x. IsWithin (g x) (f x)) x xs h in
     let more = within-total f g xs (All-tail (λ x. IsWithin (g x) (f x)) x xs h) in
     let sum = sum_by-cons g x xs in
-    within-more (g x + sum_by g xs) (sum_by g (x ∷ xs)) (total f (x ∷ xs)) (omega (arith, sum)) (within-add (g x) (sum_by g xs) (f x) (total f xs) one more)
+    within-more (g x + sum_by g xs) (sum_by g (x ∷ xs)) (total f (x ∷ xs)) (omega (arith, sum))
+    (within-add (g x) (sum_by g xs) (f x) (total f xs) one more)
 
 -- where what passes counts as the greatest price
-pub sum_passing : {X : Type 0} (p : X → Bool) (xs : List X) → sum_by (λ x. cond (p x) most_price 0) xs ≡ most_price * count_by p xs
+pub sum_passing : {X : Type 0} (p : X → Bool) (xs : List X)
+    → sum_by (λ x. cond (p x) most_price 0) xs ≡ most_price * count_by p xs
 sum_passing p [] = refl
 sum_passing p (x ∷ xs) =
     let a = sum_by-cons (λ x. cond (p x) most_price 0) x xs in
@@ -58,22 +63,24 @@ sum_passing p (x ∷ xs) =
     paid false = refl
 
 -- where one passes at most
-pub sum_once : {X : Type 0} (p : X → Bool) (k : ℕ) (xs : List X) → count_by p xs ≤ 1 → sum_by (λ x. cond (p x) k 0) xs ≤ k
+pub sum_once : {X : Type 0} (p : X → Bool) (k : ℕ) (xs : List X) → count_by p xs ≤ 1
+    → sum_by (λ x. cond (p x) k 0) xs ≤ k
 sum_once p k [] h = omega arith
-sum_once {X = X} p k (x ∷ xs) h = elim (cases_Bool (p x)) as (λ _. sum_by (λ x. cond (p x) k 0) (x ∷ xs) ≤ k) [
-  | inl is ↦
-      let a = sum_by-cons (λ x. cond (p x) k 0) x xs in
-      let one = count-yes p x xs is in
-      let none = sum_never xs (none-count p xs (omega (arith, one, h))) in
-      let here : cond (p x) k 0 ≡ k = ap (λ b. cond b k 0) is in
-      omega (arith, a, none, here)
-  | inr no_ ↦
-      let a = sum_by-cons (λ x. cond (p x) k 0) x xs in
-      let same = count-no p x xs no_ in
-      let more = sum_once p k xs (omega (arith, same, h)) in
-      let here : cond (p x) k 0 ≡ 0 = ap (λ b. cond b k 0) no_ in
-      omega (arith, a, more, here)
-]
+sum_once {X = X} p k (x ∷ xs) h = elim (cases_Bool (p x))
+    as (λ _. sum_by (λ x. cond (p x) k 0) (x ∷ xs) ≤ k) [
+      | inl is ↦
+          let a = sum_by-cons (λ x. cond (p x) k 0) x xs in
+          let one = count-yes p x xs is in
+          let none = sum_never xs (none-count p xs (omega (arith, one, h))) in
+          let here : cond (p x) k 0 ≡ k = ap (λ b. cond b k 0) is in
+          omega (arith, a, none, here)
+      | inr no_ ↦
+          let a = sum_by-cons (λ x. cond (p x) k 0) x xs in
+          let same = count-no p x xs no_ in
+          let more = sum_once p k xs (omega (arith, same, h)) in
+          let here : cond (p x) k 0 ≡ 0 = ap (λ b. cond b k 0) no_ in
+          omega (arith, a, more, here)
+    ]
   where
     sum_never : (ys : List X) → All (λ y. p y ≡ false) ys → sum_by (λ x. cond (p x) k 0) ys ≡ 0
     sum_never [] h = refl
@@ -83,7 +90,8 @@ sum_once {X = X} p k (x ∷ xs) h = elim (cases_Bool (p x)) as (λ _. sum_by (λ
         let here : cond (p y) k 0 ≡ 0 = ap (λ b. cond b k 0) (All-head (λ y. p y ≡ false) y ys h) in
         omega (arith, a, more, here)
 
-pub count-numbered : {X : Type 0} (p : X → Bool) (n : ℕ) (xs : List X) → count_by (λ (x : ℕ × X). p x.1) (enumerate_from n xs) ≡ count_by p xs
+pub count-numbered : {X : Type 0} (p : X → Bool) (n : ℕ) (xs : List X)
+    → count_by (λ (x : ℕ × X). p x.1) (enumerate_from n xs) ≡ count_by p xs
 count-numbered p n [] = refl
 count-numbered {X} p n (x ∷ xs) =
     let a = count-cons (λ (x : ℕ × X). p x.1) (n, x) (enumerate_from (n + 1) xs) in

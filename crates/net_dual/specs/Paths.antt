@@ -1,7 +1,8 @@
 -- Paths of one strand, and the least of them. What an edge costs is any function here: its cost,
 -- or its cost with prices.
 use Rattle.std.specs.Prelude.{◌≡◌, ◌⊎◌, ℕ, ◌+◌, ◌-◌, ◌<◌, ℤ, ◌≤ℤ◌, List, [], length}
-use Rattle.std.specs.Prelude.{slice_get, slice_index_or, None, Some, All, IfSome, IsTrue, count_by, ⊤}
+use Rattle.std.specs.Prelude.{slice_get, slice_index_or, None, Some, All, IfSome, IsTrue, count_by}
+use Rattle.std.specs.Prelude.{⊤}
 use Rattle.pra_base.specs.declared.ids.Place.{Place}
 use Rattle.net_form.specs.declared.net.Net.{Net}
 use Rattle.net_form.specs.declared.routes.Ends.{Ends}

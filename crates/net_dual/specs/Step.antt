@@ -1,4 +1,5 @@
--- How prices follow a family of least paths: whoever is wanted more than once becomes dearer, whoever
+-- How prices follow a family of least paths: whoever is wanted more than once becomes dearer,
+-- whoever
 -- is not wanted becomes cheaper, by steps that shrink (the subgradient method for the Lagrangian
 -- dual; Koes and Goldstein, PLDI 2006, section 4).
 use Rattle.std.specs.Prelude.{◌≡◌, ℕ, suc, min, max, ◌+◌, ◌-◌, ◌*◌, ◌/◌, ℤ, pos, negsuc}
@@ -52,7 +53,8 @@ next_tie net f s old t =
 abbrev pub next : Net → List Edge → ℕ → Prices → Prices
 next net f s old = record {
   caps =
-      map (λ c. used_price s c.1 (count_by (comes_to_bundle net c.0) f)) (enumerate_from 0 old.caps);
+      map (λ c. used_price s c.1 (count_by (comes_to_bundle net c.0) f))
+      (enumerate_from 0 old.caps);
   mems =
       map (λ m. used_price s (mem_price old m.0) (count_by (uses_memory m.1) f))
       (enumerate_from 0 net.pairs);

@@ -9,10 +9,11 @@
 //! value: by the law of duality no admitted flow costs less, whatever the prices. Prices that are
 //! well chosen make the value rise; a step of prices follows what the least paths want.
 //!
-//! There is no code here: `specs/` has the definitions that the calls above promise, and `laws` what
-//! is proved of them. Read specs/Priced, Paths, Value and Step, in this order. What an edge costs
-//! is a function that definitions of paths take, so one record, `IsLeast`, serves least paths with
-//! prices and without, with ends that are fixed, and through what others leave.
+//! There is no code here: `specs/` has the definitions that calls above promise, and `laws` what is
+//! proved of them. Read specs/Priced, Paths, Value and Step, in this order, and specs/Small for how
+//! large sums get. What an edge costs is a function that definitions of paths take, so one record,
+//! `IsLeast`, serves least paths with prices and without, with ends that are fixed, and through
+//! what others leave.
 #![tactic(auto)]
 
 pub mod laws;

@@ -23,12 +23,19 @@ pub built : (code : VProc) (net : Net) → IsNet net code → IsValid code → I
 built code net is valid sized =
     let n = net_of all_tables code is.live is.least in
     let tied = ties code (strands all_tables code is.live) in
-    let itself : IsNet n code = record { live = is.live; is_live = is.is_live; least = is.least; are_least = is.are_least; is = λ i. n } in
+    let itself : IsNet n code = record {
+      live = is.live;
+      is_live = is.is_live;
+      least = is.least;
+      are_least = is.are_least;
+      is = λ i. n;
+    } in
     subst IsBuilt (sym is.is) (record {
       formed = formed all_tables code n itself sized;
       in_order = in_order all_tables code n itself;
       room = leaves_room code n itself valid sized;
-      blocks = let same = length-map code.blocks net_block in let few = sized.blocks in omega (arith, same, few);
+      blocks = let same = length-map code.blocks net_block in let few = sized.blocks in
+          omega (arith, same, few);
       strands = net_strands_in_order code is.live tied is.least;
       runs = net_ends_before code is.live tied is.least;
       one_end = one_end code is.live is.is_live valid sized tied is.least;

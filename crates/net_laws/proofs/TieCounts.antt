@@ -1,6 +1,9 @@
 -- How many ties a strand has: at an exit two at most, and at an entry one from each block.
-use Rattle.std.proofs.Common.{ℕ, ◌≡◌, ◌≢◌, ◌+◌, ◌<◌, ◌≤◌, Bool, true, false, ◌&&◌, eqb, leb, List, [], ◌∷◌, length, get_or, All, count_by, refl, sym, ap, ◌∙◌, arith, inl, inr, ◌⊎◌}
-use Rattle.std.proofs.lemmas.Bool.{and_parts, and_from, eqb-true, eq-eqb, le-leb, or_cases, false≢true}
+use Rattle.std.proofs.Common.{ℕ, ◌≡◌, ◌≢◌, ◌+◌, ◌<◌, ◌≤◌, Bool, true, false, ◌&&◌, eqb, leb, List}
+use Rattle.std.proofs.Common.{[], ◌∷◌, length, get_or, All, count_by, refl, sym, ap, ◌∙◌, arith}
+use Rattle.std.proofs.Common.{inl, inr, ◌⊎◌}
+use Rattle.std.proofs.lemmas.Bool.{and_parts, and_from, eqb-true, eq-eqb, le-leb, or_cases}
+use Rattle.std.proofs.lemmas.Bool.{false≢true}
 use Rattle.std.proofs.lemmas.List.{get_or-map}
 use Rattle.std.proofs.lemmas.List.Elements.{All-head, All-tail}
 use Rattle.pra_list.proofs.Counts.{count-cons, bit}
@@ -26,22 +29,30 @@ use Rattle.net_laws.proofs.PairsApart.{count_few}
 use Rattle.net_laws.proofs.Ties.{IsJoin, all_joins}
 
 -- what passes passes one of two tests
-pub count_either : {X : Type 0} (p q r : X → Bool) (xs : List X) → All (λ x. p x ≡ true → (q x ≡ true) ⊎ (r x ≡ true)) xs
+pub count_either : {X : Type 0} (p q r : X → Bool) (xs : List X)
+    → All (λ x. p x ≡ true → (q x ≡ true) ⊎ (r x ≡ true)) xs
     → count_by p xs ≤ count_by q xs + count_by r xs
 count_either p q r [] h = omega arith
 count_either p q r (x ∷ xs) h =
     let a = count-cons p x xs in
     let b = count-cons q x xs in
     let c = count-cons r x xs in
-    let more = count_either p q r xs (All-tail (λ x. p x ≡ true → (q x ≡ true) ⊎ (r x ≡ true)) x xs h) in
-    let one = bits (p x) (q x) (r x) (All-head (λ x. p x ≡ true → (q x ≡ true) ⊎ (r x ≡ true)) x xs h) in
+    let more = count_either p q r xs (All-tail (λ x. p x ≡ true
+    → (q x ≡ true) ⊎ (r x ≡ true)) x xs h) in
+    let one = bits (p x) (q x) (r x) (All-head (λ x. p x ≡ true
+    → (q x ≡ true) ⊎ (r x ≡ true)) x xs h) in
     omega (arith, a, b, c, more, one)
   where
     bits : (a b c : Bool) → (a ≡ true → (b ≡ true) ⊎ (c ≡ true)) → bit a ≤ bit b + bit c
     bits false b c h = omega arith
     bits true true c h = omega arith
     bits true false true h = omega arith
-    bits true false false h = elim (h refl) as (λ _. bit true ≤ bit false + bit false) [ inl e ↦ absurd (false≢true e) | inr e ↦ absurd (false≢true e) ]
+    bits true false false h = elim (h refl)
+        as (λ _. bit true ≤ bit false + bit false) [
+          | inl e ↦ absurd (false≢true e)
+          | inr e ↦
+              absurd (false≢true e)
+        ]
 
 module _ (code : VProc) (live : Lives) (least : ℕ → ℕ) where
   abbrev n : Net
@@ -54,19 +65,24 @@ module _ (code : VProc) (live : Lives) (least : ℕ → ℕ) where
   runs = net_runs code live (ties code (strands all_tables code live)) least
 
   -- two strands of one variable in one block that are at one layer
-  both_there : (i j l : ℕ) → i < length n.strands → j < length n.strands → i ≢ j → (at i).var.0 ≡ (at j).var.0 → (at i).block.0 ≡ (at j).block.0
+  both_there : (i j l : ℕ) → i < length n.strands → j < length n.strands → i ≢ j
+      → (at i).var.0 ≡ (at j).var.0 → (at i).block.0 ≡ (at j).block.0
       → (at i).first ≤ l → l ≤ (at i).last → (at j).first ≤ l → l ≤ (at j).last → ⊥
   both_there i j l i_lt j_lt other var block a b c d =
-      one_strand code live n.strands runs (λ v b l. net_one_start code live v b l (ties code (strands all_tables code live)) least) i j l l i_lt j_lt other var block
+      one_strand code live n.strands runs
+      (λ v b l. net_one_start code live v b l (ties code (strands all_tables code live)) least)
+      i j l l i_lt j_lt other var block
       (there (at i) a b) (there (at j) c d) (omega arith) (omega arith)
     where
       there : (t : Strand) → t.first ≤ l → l ≤ t.last → is_there t l ≡ true
-      there t low high = and_from (leb t.first l) (leb l t.last) (le-leb t.first l low) (le-leb l t.last high)
+      there t low high = and_from (leb t.first l) (leb l t.last) (le-leb t.first l low)
+          (le-leb l t.last high)
 
   abbrev goes_to : ℕ → ℕ → Tie → Bool
   goes_to s b t = eqb t.from s && eqb (at t.to).block.0 b
 
-  one_entry : (s b : ℕ) (t u : Tie) → TieBefore t u → IsJoin code live least t → IsJoin code live least u → comes_to n s b t ≡ true → comes_to n s b u ≡ true → ⊥
+  one_entry : (s b : ℕ) (t u : Tie) → TieBefore t u → IsJoin code live least t
+      → IsJoin code live least u → comes_to n s b t ≡ true → comes_to n s b u ≡ true → ⊥
   one_entry s b t u before x y one two =
       let p = and_parts (eqb t.to s) (eqb (at t.from).block.0 b) one in
       let q = and_parts (eqb u.to s) (eqb (at u.from).block.0 b) two in
@@ -79,17 +95,23 @@ module _ (code : VProc) (live : Lives) (least : ℕ → ℕ) where
       by (to same less) to_t to_u block = omega (arith, less, to_t, to_u)
       by (from less) to_t to_u block =
           let var = x.var ∙ ap (λ k. (at k).var.0) (to_t ∙ sym to_u) ∙ sym y.var in
-          let last : (at t.from).last ≡ (at u.from).last = x.last ∙ ap (exit_layer code) block ∙ sym y.last in
+          let last : (at t.from).last ≡ (at u.from).last = x.last ∙ ap (exit_layer code) block
+          ∙ sym y.last in
           let rt = (runs t.from no_strand x.from).order in
           let ru = (runs u.from no_strand y.from).order in
-          both_there t.from u.from (at t.from).last x.from y.from (λ same. omega (arith, same, less)) var block
+          both_there t.from u.from (at t.from).last x.from y.from
+          (λ same. omega (arith, same, less)) var block
           rt (omega arith) (omega (arith, ru, last)) (omega (arith, last))
 
   pub entries : (s b : ℕ) → count_by (comes_to n s b) n.ties ≤ 1
-  entries s b = count_few (comes_to n s b) n.ties (λ i j d lt in_. one_entry s b (get_or n.ties i d) (get_or n.ties j d)
-      (ties_in_order code (strands all_tables code live) i j d lt in_) (all_joins code live least i d (omega (arith, lt, in_))) (all_joins code live least j d in_))
+  entries s b = count_few (comes_to n s b) n.ties (λ i j d lt in_. one_entry s b (get_or n.ties i d)
+      (get_or n.ties j d)
+      (ties_in_order code (strands all_tables code live) i j d lt in_)
+      (all_joins code live least i d (omega (arith, lt, in_)))
+      (all_joins code live least j d in_))
 
-  one_exit : (s b : ℕ) (t u : Tie) → TieBefore t u → IsJoin code live least t → IsJoin code live least u → goes_to s b t ≡ true → goes_to s b u ≡ true → ⊥
+  one_exit : (s b : ℕ) (t u : Tie) → TieBefore t u → IsJoin code live least t
+      → IsJoin code live least u → goes_to s b t ≡ true → goes_to s b u ≡ true → ⊥
   one_exit s b t u before x y one two =
       let p = and_parts (eqb t.from s) (eqb (at t.to).block.0 b) one in
       let q = and_parts (eqb u.from s) (eqb (at u.to).block.0 b) two in
@@ -108,43 +130,58 @@ module _ (code : VProc) (live : Lives) (least : ℕ → ℕ) where
           (omega (arith, ft)) (omega arith) (omega (arith, fu)) (omega arith)
 
   to_block : (s b : ℕ) → count_by (goes_to s b) n.ties ≤ 1
-  to_block s b = count_few (goes_to s b) n.ties (λ i j d lt in_. one_exit s b (get_or n.ties i d) (get_or n.ties j d)
-      (ties_in_order code (strands all_tables code live) i j d lt in_) (all_joins code live least i d (omega (arith, lt, in_))) (all_joins code live least j d in_))
+  to_block s b = count_few (goes_to s b) n.ties (λ i j d lt in_. one_exit s b (get_or n.ties i d)
+      (get_or n.ties j d)
+      (ties_in_order code (strands all_tables code live) i j d lt in_)
+      (all_joins code live least i d (omega (arith, lt, in_)))
+      (all_joins code live least j d in_))
 
   pub exits : (s : ℕ) → count_by (goes_from s) n.ties ≤ 2
   exits s = by (end_of code (at s).block.0) refl
     where
-      target : (t : Tie) (b c : ℕ) → IsJoin code live least t → ((l : ℕ) → leads_to (end_of code (at s).block.0) l ≡ true → (l ≡ b) ⊎ (l ≡ c)) → goes_from s t ≡ true
+      target : (t : Tie) (b c : ℕ) → IsJoin code live least t
+          → ((l : ℕ) → leads_to (end_of code (at s).block.0) l ≡ true → (l ≡ b) ⊎ (l ≡ c))
+          → goes_from s t ≡ true
           → (goes_to s b t ≡ true) ⊎ (goes_to s c t ≡ true)
       target t b c x leads h =
           let is = eqb-true t.from s h in
-          elim (leads (at t.to).block.0 (ap (λ k. leads_to (end_of code (at k).block.0) (at t.to).block.0) (sym is) ∙ x.leads)) as (λ _. (goes_to s b t ≡ true) ⊎ (goes_to s c t ≡ true)) [
-            | inl same ↦ inl (and_from (eqb t.from s) (eqb (at t.to).block.0 b) h (eq-eqb (at t.to).block.0 b same))
-            | inr same ↦ inr (and_from (eqb t.from s) (eqb (at t.to).block.0 c) h (eq-eqb (at t.to).block.0 c same))
+          elim (leads (at t.to).block.0
+          (ap (λ k. leads_to (end_of code (at k).block.0) (at t.to).block.0) (sym is)
+          ∙ x.leads)) as (λ _. (goes_to s b t ≡ true) ⊎ (goes_to s c t ≡ true)) [
+            | inl same ↦ inl (and_from (eqb t.from s) (eqb (at t.to).block.0 b) h
+                (eq-eqb (at t.to).block.0 b same))
+            | inr same ↦ inr (and_from (eqb t.from s) (eqb (at t.to).block.0 c) h
+                (eq-eqb (at t.to).block.0 c same))
           ]
 
-      two : (b c : ℕ) → ((l : ℕ) → leads_to (end_of code (at s).block.0) l ≡ true → (l ≡ b) ⊎ (l ≡ c)) → count_by (goes_from s) n.ties ≤ 2
+      two : (b c : ℕ) → ((l : ℕ) → leads_to (end_of code (at s).block.0) l ≡ true
+          → (l ≡ b) ⊎ (l ≡ c)) → count_by (goes_from s) n.ties ≤ 2
       two b c leads =
-          let few = count_either (goes_from s) (goes_to s b) (goes_to s c) n.ties (λ k d lt. target (get_or n.ties k d) b c (all_joins code live least k d lt) leads) in
+          let few = count_either (goes_from s) (goes_to s b) (goes_to s c) n.ties
+          (λ k d lt. target (get_or n.ties k d) b c (all_joins code live least k d lt) leads) in
           let one = to_block s b in
           let other = to_block s c in
           omega (arith, few, one, other)
 
       by : (e : End) → end_of code (at s).block.0 ≡ e → count_by (goes_from s) n.ties ≤ 2
-      by (Jump b) is = two b.0 b.0 (λ l leads. inl (sym (eqb-true b.0 l (sym (ap (λ e. leads_to e l) is) ∙ leads))))
+      by (Jump b) is = two b.0 b.0
+          (λ l leads. inl (sym (eqb-true b.0 l (sym (ap (λ e. leads_to e l) is) ∙ leads))))
       by (Branch condition one other) is = two one.0 other.0 (λ l leads.
-          elim (or_cases (eqb one.0 l) (eqb other.0 l) (sym (ap (λ e. leads_to e l) is) ∙ leads)) as (λ _. (l ≡ one.0) ⊎ (l ≡ other.0)) [
+          elim (or_cases (eqb one.0 l) (eqb other.0 l) (sym (ap (λ e. leads_to e l) is) ∙ leads))
+          as (λ _. (l ≡ one.0) ⊎ (l ≡ other.0)) [
             | inl e ↦ inl (sym (eqb-true one.0 l e))
             | inr e ↦ inr (sym (eqb-true other.0 l e))
           ])
-      by Return is = two 0 0 (λ l leads. absurd (false≢true (sym (ap (λ e. leads_to e l) is) ∙ leads)))
+      by Return is = two 0 0
+          (λ l leads. absurd (false≢true (sym (ap (λ e. leads_to e l) is) ∙ leads)))
 
   pub block_ties : All (IsBlockTie n) n.ties
   block_ties k d lt =
       let t = get_or n.ties k d in
       let x = all_joins code live least k d lt in
       let run = runs t.from no_strand x.from in
-      let layers = ap (λ b. b.layers) (get_or-map net_block code.blocks (at t.from).block.0 no_code no_block run.block) in
+      let layers = ap (λ b. b.layers) (get_or-map net_block code.blocks (at t.from).block.0 no_code
+      no_block run.block) in
       let last = x.last in record {
         exit = omega (arith, layers, last);
         entry = x.first;

@@ -15,16 +15,16 @@
 //! layer and place, ties by the strands that they join, each of a strand that is there. With the
 //! beginnings in the network's index it gives a path's extras, layer by layer, without a search.
 //!
-//! `networks_are_built` gives all that calls above ask of a network in one record, `IsBuilt`: that it
-//! is in bounds, in order and with room; that its strands stand by block, first layer and variable,
-//! and that two of one variable in one block share no layer; that a strand has one end of a memory
-//! pair at a layer at most, and a pair two variables; and that a tie goes from the exit of a block
-//! to the entry of one that follows, two at most from a strand, and to a strand one at most from
-//! each block.
+//! `networks_are_built` gives all that calls above ask of a network in one record, `IsBuilt`: that
+//! it is in bounds, in order and with room; that its strands stand by block, first layer and
+//! variable, and that two of one variable in one block share no layer; that a strand has one end of
+//! a memory pair at a layer at most, and a pair two variables; and that a tie goes from the exit of
+//! a block to the entry of one that follows, two at most from a strand, and to a strand one at most
+//! from each block.
 //!
 //! Read specs/Homes, specs/Ordered for the order, and specs/Built. A layer above that makes routes
-//! may ask for `HasRoom` of its network, since it has that of every valid code by the law. Of proofs/ it may
-//! use the lemmas too: `Runs` (a strand is a run of layers at which its variable is present, and a
+//! may ask for `HasRoom` of its network, since it has that of every valid code by the law. Of
+//! proofs/ it may use the lemmas too: `Runs` (a strand is a run of layers at which its variable is present, and a
 //! variable has one strand at most at two layers side by side), `Found` (where a variable is
 //! present, `strand_of` is its strand), `Pairs` (the ends of memory pairs are operands of one
 //! instruction), `Ties` (what ties join), `Rows` (the shapes of the operand table's rows).
