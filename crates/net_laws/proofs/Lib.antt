@@ -1,3 +1,5 @@
+pub mod CleanCopies
+pub mod EightMasks
 pub mod Arrivals
 pub mod Bits
 pub mod Built

@@ -22,12 +22,16 @@
 //! a block to the entry of one that follows, two at most from a strand, and to a strand one at most
 //! from each block.
 //!
+//! `clean_copies_lose_nothing` compares with plain spilling, where a value is in a register or in
+//! memory and never in both at once: what the network of those eight places admits, the network of
+//! all fourteen admits at the same cost, so the both places can only make code cheaper.
+//!
 //! Read specs/Homes, specs/Ordered for the order, and specs/Built. A layer above that makes routes
 //! may ask for `HasRoom` of its network, since it has that of every valid code by the law. Of
-//! proofs/ it may use the lemmas too: `Runs` (a strand is a run of layers at which its variable is present, and a
-//! variable has one strand at most at two layers side by side), `Found` (where a variable is
-//! present, `strand_of` is its strand), `Pairs` (the ends of memory pairs are operands of one
-//! instruction), `Ties` (what ties join), `Rows` (the shapes of the operand table's rows).
+//! proofs/ it may use the lemmas too: `Runs` (a strand is a run of layers at which its variable is
+//! present, and a variable has one strand at most at two layers side by side), `Found` (where a
+//! variable is present, `strand_of` is its strand), `Pairs` (the ends of memory pairs are operands
+//! of one instruction), `Ties` (what ties join), `Rows` (the shapes of the operand table's rows).
 #![tactic(auto)]
 
 pub mod laws;
