@@ -64,7 +64,7 @@ module _ (net : Net) where
     abbrev path_cost : ℕ → List Place → ℕ
     path_cost s ps = sum_by cost (path_edges net s ps)
 
-    free_path : (s : ℕ) (ps : List Place)
+    pub free_path : (s : ℕ) (ps : List Place)
         → path_price net (priced net cost (zero_prices net)) s ps ≡ pos (1024 * path_cost s ps)
     free_path s ps = total-agree (priced net cost (zero_prices net)) (λ e. pos (1024 * cost e))
         (path_edges net s ps)

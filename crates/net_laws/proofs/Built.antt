@@ -17,7 +17,7 @@ use Rattle.net_laws.proofs.Room.{leaves_room}
 use Rattle.net_laws.proofs.StrandsInOrder.{net_strands_in_order, net_ends_before}
 use Rattle.net_laws.proofs.Pairs.{IsPair, all_pairs}
 use Rattle.net_laws.proofs.PairsApart.{one_end}
-use Rattle.net_laws.proofs.TieCounts.{entries, exits, block_ties}
+use Rattle.net_laws.proofs.TieCounts.{entries, exits, block_ties, grouped_strands}
 
 pub built : (code : VProc) (net : Net) → IsNet net code → IsValid code → IsSized code → IsBuilt net
 built code net is valid sized =
@@ -43,7 +43,8 @@ built code net is valid sized =
           (λ (m : MemPair). (strand_at n m.left).var.0 ≢ (strand_at n m.right).var.0)
           (λ m pair same. pair.apart (sym pair.left_strand.var ∙ same ∙ pair.right_strand.var))
           n.pairs (all_pairs code is.live is.is_live valid sized tied is.least);
-      ties = block_ties code is.live is.least;
+      ties = block_ties code is.live is.least is.are_least;
+      groups = grouped_strands code is.live is.least is.are_least;
       exits = exits code is.live is.least;
       entries = entries code is.live is.least;
     })

@@ -1,3 +1,4 @@
+pub mod GroupsBuilt
 pub mod CleanCopies
 pub mod EightMasks
 pub mod Arrivals

@@ -147,7 +147,7 @@ module _ (code : VProc) (live : Lives) where
     regroup i j s t (layer same lt) = layer same lt
     regroup i j s t (var one two lt) = var one two lt
 
-    grouped_at : (k : ℕ) (d : Strand) → k < length (strands all_tables code live)
+    pub grouped_at : (k : ℕ) (d : Strand) → k < length (strands all_tables code live)
         → get_or all k d ≡ grouped ts least
         (0 + k, get_or (strands all_tables code live) k no_strand)
     grouped_at k d lt =

@@ -1,10 +1,11 @@
 -- How many ties a strand has: at an exit two at most, and at an entry one from each block.
-use Rattle.std.proofs.Common.{ℕ, ◌≡◌, ◌≢◌, ◌+◌, ◌<◌, ◌≤◌, Bool, true, false, ◌&&◌, eqb, leb, List}
+use Rattle.std.proofs.Common.{subst, ℕ, ◌≡◌, ◌≢◌, ◌+◌, ◌<◌, ◌≤◌, Bool, true, false, ◌&&◌, eqb, leb}
+use Rattle.std.proofs.Common.{List}
 use Rattle.std.proofs.Common.{[], ◌∷◌, length, get_or, All, count_by, refl, sym, ap, ◌∙◌, arith}
 use Rattle.std.proofs.Common.{inl, inr, ◌⊎◌}
 use Rattle.std.proofs.lemmas.Bool.{and_parts, and_from, eqb-true, eq-eqb, le-leb, or_cases}
 use Rattle.std.proofs.lemmas.Bool.{false≢true}
-use Rattle.std.proofs.lemmas.List.{get_or-map}
+use Rattle.std.proofs.lemmas.List.{get_or-map, get_or_default}
 use Rattle.std.proofs.lemmas.List.Elements.{All-head, All-tail}
 use Rattle.pra_list.proofs.Counts.{count-cons, bit}
 use Rattle.pra_base.specs.declared.code.End.{End}
@@ -19,7 +20,7 @@ use Rattle.net_form.specs.Strands.{Lives, exit_layer, strands}
 use Rattle.net_form.specs.Network.{ties, leads_to, net_block, net_of}
 use Rattle.net_form.specs.Admitted.{strand_at, no_strand}
 use Rattle.net_form.specs.Formed.{no_block}
-use Rattle.net_laws.specs.Built.{IsBlockTie, goes_from, comes_to}
+use Rattle.net_laws.specs.Built.{IsBlockTie, IsGroupedStrand, goes_from, comes_to}
 use Rattle.net_laws.specs.Homes.{is_there}
 use Rattle.net_laws.specs.Ordered.{TieBefore}
 use Rattle.net_laws.specs.Ordered.TieBefore.{from, to}
@@ -27,6 +28,10 @@ use Rattle.net_laws.proofs.Ordered.{ties_in_order}
 use Rattle.net_laws.proofs.Runs.{IsRun, net_runs, net_one_start, one_strand}
 use Rattle.net_laws.proofs.PairsApart.{count_few}
 use Rattle.net_laws.proofs.Ties.{IsJoin, all_joins}
+use Rattle.net_laws.proofs.GroupsBuilt.{tie_group, exit_grouped, entry_grouped, entry_facts}
+use Rattle.net_laws.proofs.GroupsBuilt.{exit_facts}
+use Rattle.net_form.specs.Groups.{IsLeastEnd}
+use Rattle.std.specs.Prelude.{slice_index_or, IfSome, Option, Some, None}
 
 -- what passes passes one of two tests
 pub count_either : {X : Type 0} (p q r : X → Bool) (xs : List X)
@@ -175,15 +180,48 @@ module _ (code : VProc) (live : Lives) (least : ℕ → ℕ) where
       by Return is = two 0 0
           (λ l leads. absurd (false≢true (sym (ap (λ e. leads_to e l) is) ∙ leads)))
 
-  pub block_ties : All (IsBlockTie n) n.ties
-  block_ties k d lt =
-      let t = get_or n.ties k d in
-      let x = all_joins code live least k d lt in
-      let run = runs t.from no_strand x.from in
-      let layers = ap (λ b. b.layers) (get_or-map net_block code.blocks (at t.from).block.0 no_code
-      no_block run.block) in
-      let last = x.last in record {
-        exit = omega (arith, layers, last);
-        entry = x.first;
-        var = x.var;
-      }
+  module _ (are : (e : ℕ) → IsLeastEnd (ties code (strands all_tables code live)) e (least e)) where
+    layers_of_block : (s : ℕ) → s < length n.strands
+        → (slice_index_or n.blocks (at s).block.0 no_block).layers ≡ exit_layer code
+        (at s).block.0 + 1
+    layers_of_block s lt =
+        let layers = ap (λ b. b.layers)
+        (get_or-map net_block code.blocks (at s).block.0 no_code no_block
+        (runs s no_strand lt).block) in
+        omega (arith, layers)
+
+    pub block_ties : All (IsBlockTie n) n.ties
+    block_ties k d lt =
+        let t = get_or n.ties k d in
+        let x = all_joins code live least k d lt in
+        let layers = layers_of_block t.from x.from in
+        let last = x.last in record {
+          exit = omega (arith, layers, last);
+          entry = x.first;
+          var = x.var;
+          group = tie_group code live least are t;
+          exit_group = exit_grouped code live least are k d lt;
+          entry_group = entry_grouped code live least are k d lt;
+        }
+
+    if_some : {A : Type 0} (P : A → Type 0) (o : Option A) → ((x : A) → o ≡ Some x → P x)
+        → IfSome o P
+    if_some P None h = tt
+    if_some P (Some x) h = h x refl
+
+    grouped_at_ends : (s : ℕ) → s < length n.strands → IsGroupedStrand n (at s)
+    grouped_at_ends s lt = record {
+      entry = if_some (λ g. (g < n.groups) × ((at s).first ≡ 0)) (at s).entry_group
+          (λ g is. entry_facts code live least are s g lt is);
+      exit = if_some
+          (λ g. (g < n.groups) ×
+          ((at s).last + 1 ≡ (slice_index_or n.blocks (at s).block.0 no_block).layers))
+          (at s).exit_group (λ g is.
+          let facts = exit_facts code live least are s g lt is in
+          let layers = layers_of_block s lt in
+          let last = facts.1 in (facts.0, omega (arith, layers, last)));
+    }
+
+    pub grouped_strands : All (IsGroupedStrand n) n.strands
+    grouped_strands k d lt =
+        subst (IsGroupedStrand n) (get_or_default n.strands k no_strand d lt) (grouped_at_ends k lt)

@@ -1,6 +1,6 @@
 -- What every network of valid sized code is: all that calls above ask of a network, in one record.
 use Rattle.std.specs.Prelude.{◌≡◌, ◌≢◌, ℕ, ◌+◌, ◌<◌, ◌≤◌, ◌&&◌, Bool, nat_eq, All, count_by, length}
-use Rattle.std.specs.Prelude.{slice_index_or}
+use Rattle.std.specs.Prelude.{slice_index_or, Some, IfSome}
 use Rattle.std.specs.List.{AllPairs}
 use Rattle.net_form.specs.declared.net.Strand.{Strand}
 use Rattle.net_form.specs.declared.net.Tie.{Tie}
@@ -28,6 +28,17 @@ pub record IsBlockTie (net : Net) (t : Tie) : Type 0 where
       (slice_index_or net.blocks (strand_at net t.from).block.0 no_block).layers
   pub entry : (strand_at net t.to).first ≡ 0
   pub var : (strand_at net t.from).var.0 ≡ (strand_at net t.to).var.0
+  -- both ends are in one tie group
+  pub group : ℕ
+  pub exit_group : (strand_at net t.from).exit_group ≡ Some group
+  pub entry_group : (strand_at net t.to).entry_group ≡ Some group
+
+-- who has a group is at an entry, or at an exit
+pub record IsGroupedStrand (net : Net) (t : Strand) : Type 0 where
+  pub entry : IfSome t.entry_group (λ g. (g < net.groups) × (t.first ≡ 0))
+  pub exit : IfSome t.exit_group
+      (λ g. (g < net.groups) ×
+      (t.last + 1 ≡ (slice_index_or net.blocks t.block.0 no_block).layers))
 
 -- from the strand, and to it from block b
 abbrev pub goes_from : ℕ → Tie → Bool
@@ -56,5 +67,6 @@ pub record IsBuilt (net : Net) : Type 0 where
   pub two_variables : All
       (λ m. (strand_at net m.left).var.0 ≢ (strand_at net m.right).var.0) net.pairs
   pub ties : All (IsBlockTie net) net.ties
+  pub groups : All (IsGroupedStrand net) net.strands
   pub exits : (s : ℕ) → count_by (goes_from s) net.ties ≤ most_following
   pub entries : (s b : ℕ) → count_by (comes_to net s b) net.ties ≤ 1
