@@ -1,0 +1,6 @@
+pub mod Ends
+pub mod Once
+pub mod OneStrand
+pub mod Parts
+pub mod Put
+pub mod Variable
