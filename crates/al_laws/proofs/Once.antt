@@ -19,6 +19,7 @@ use Rattle.net_form.specs.declared.routes.Routes.{Routes}
 use Rattle.net_form.specs.Flow.{Edge, is_at, AreRoutes}
 use Rattle.net_form.specs.Admitted.{strand_at, no_strand, layer_of, in_register, uses_bundle}
 use Rattle.net_form.specs.Admitted.{uses_memory}
+use Rattle.net_form.specs.InUse.{UsesOnce, pair_at, no_pair}
 use Rattle.net_form.specs.Formed.{no_block}
 use Rattle.net_form.specs.Index.{first_layer}
 use Rattle.net_form.proofs.Paths.{of_path}
@@ -245,7 +246,7 @@ module _ (net : Net) (built : IsBuilt net) (routes : Routes) (has : AreRoutes ne
         (of_strand (get_or ns j d) p (omega (arith, at_j, long, in_)) y.1)) in
         omega (arith, sum, once)
 
-    pub registers_once : (n r : ℕ)
+    registers_once : (n r : ℕ)
         → count_by (uses_bundle net n r) (part net (of_variable net v) routes) ≤ 1
     registers_once n r = own_once (uses_bundle net n r)
         (λ s. path_register_once net s n r (path_in routes s)) (λ x y less lt vx vy a b.
@@ -256,15 +257,16 @@ module _ (net : Net) (built : IsBuilt net) (routes : Routes) (has : AreRoutes ne
         (eqb-true (layer_of net b.edge) n (and_parts (eqb (layer_of net b.edge) n)
         (in_register r b.edge.to) b.passes).0))
 
-    pub pairs_once : All (λ m. count_by (uses_memory m) (part net (of_variable net v) routes) ≤ 1)
-        net.pairs
-    pairs_once k d lt =
-        let m = get_or net.pairs k d in
-        let two = built.two_variables k d lt in
-        own_once (uses_memory m) (λ s. path_pair_once net s m (path_in routes s)
-        (λ same. two (ap (λ s. (strand_at net s).var.0) same))) (λ x y less lt vx vy a b.
-        by m two x y less vx vy a.edge b.edge a.strand b.strand (side_of m a.edge a.passes)
-        (side_of m b.edge b.passes))
+    pair_once : (k : ℕ) → k < length net.pairs
+        → count_by (uses_memory (pair_at net k)) (part net (of_variable net v) routes) ≤ 1
+    pair_once k lt =
+        let m = pair_at net k in
+        let two = built.two_variables k no_pair lt in
+        own_once (uses_memory m)
+        (λ s. path_pair_once net s m (path_in routes s)
+        (λ same. two (ap (λ s. (strand_at net s).var.0) same)))
+        (λ x y less lt vx vy a b. by m two x y less vx vy a.edge b.edge a.strand b.strand
+        (side_of m a.edge a.passes) (side_of m b.edge b.passes))
       where
         by : (m : MemPair) → (strand_at net m.left).var.0 ≢ (strand_at net m.right).var.0
             → (x y : ℕ) → x < y → (strand_at net x).var.0 ≡ v → (strand_at net y).var.0 ≡ v
@@ -279,3 +281,7 @@ module _ (net : Net) (built : IsBuilt net) (routes : Routes) (has : AreRoutes ne
             ∙ ap (λ s. (strand_at net s).var.0) (sym one ∙ a.0))
         by m two x y less vx vy e g one other (inr a) (inr b) = let i = a.0 in let j = b.0 in
             omega (arith, i, j, one, other, less)
+
+    -- all paths of the variable together use each thing once
+    pub uses_once : UsesOnce net (part net (of_variable net v) routes)
+    uses_once = record { registers = registers_once; pairs = pair_once }

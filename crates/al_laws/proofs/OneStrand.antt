@@ -13,13 +13,14 @@ use Rattle.net_form.specs.declared.routes.Routes.{Routes}
 use Rattle.net_form.specs.Flow.{Edge, flow, AreRoutes}
 use Rattle.net_form.specs.Admitted.{strand_at, uses_bundle, uses_memory, KeepsTie, IsAdmitted}
 use Rattle.net_form.specs.Cost.{place_of, place_at, cost_of}
+use Rattle.net_form.specs.InUse.{AreApart, pair_at, no_pair}
 use Rattle.net_form.specs.Formed.{IsFormed}
 use Rattle.net_form.specs.Tables.{all_tables}
 use Rattle.net_form.proofs.EdgeCosts.{cost_by_edges}
 use Rattle.net_form.proofs.RoutesConserve.{as_many}
 use Rattle.pra_list.proofs.Elements.{length_set}
 use Rattle.net_laws.specs.Built.{IsBuilt}
-use Rattle.net_dual.specs.Paths.{path_edges, path_in, IsPath, IsApart, HasEnds}
+use Rattle.net_dual.specs.Paths.{path_edges, path_in, IsPath, HasEnds}
 use Rattle.net_dual.specs.Priced.{cost_by_weights}
 use Rattle.net_dual.proofs.FreeBound.{free_path}
 use Rattle.net_dual.proofs.Strands.{each_long, has_places}
@@ -84,22 +85,20 @@ module _ (net : Net) (formed : IsFormed net) (routes : Routes) (has : AreRoutes 
   back p (inl none) = inl (sym (new_sum (λ e. cond (p e) 1 0)) ∙ none)
   back p (inr none) = inr (sym (rest_same (λ e. cond (p e) 1 0)) ∙ none)
 
-  apart_in : IsApart net (path_edges net s ps) (rest net (only_strand s) routes)
-      → IsApart net new_part (rest net (only_strand s) new)
+  apart_in : AreApart net (path_edges net s ps) (rest net (only_strand s) routes)
+      → AreApart net new_part (rest net (only_strand s) new)
   apart_in a = record {
-    bundles = λ n r. moved (uses_bundle net n r) (a.bundles n r);
-    pairs =
-        λ k d in_. moved (uses_memory (get_or net.pairs k d)) (a.pairs k d in_);
+    registers = λ n r. moved (uses_bundle net n r) (a.registers n r);
+    pairs = λ k in_. moved (uses_memory (pair_at net k)) (a.pairs k in_);
   }
 
   pub apart_out : IsAdmitted net (flow net new)
-      → IsApart net (path_edges net s ps) (rest net (only_strand s) routes)
+      → AreApart net (path_edges net s ps) (rest net (only_strand s) routes)
   apart_out a =
       let apart = parts_apart net (only_strand s) new a in
       record {
-        bundles = λ n r. back (uses_bundle net n r) (apart.bundles n r);
-        pairs = λ k d in_.
-            back (uses_memory (get_or net.pairs k d)) (apart.pairs k d in_);
+        registers = λ n r. back (uses_bundle net n r) (apart.registers n r);
+        pairs = λ k in_. back (uses_memory (pair_at net k)) (apart.pairs k in_);
       }
 
   -- ---- ties
@@ -160,19 +159,22 @@ module _ (net : Net) (formed : IsFormed net) (routes : Routes) (has : AreRoutes 
           (a.ties k d in_) there))
 
       -- a path with the same places at entry and exit, that uses nothing of the others
-      pub path_put : IsApart net (path_edges net s ps) (rest net (only_strand s) routes)
+      pub path_put : AreApart net (path_edges net s ps) (rest net (only_strand s) routes)
           → IsAdmitted net (flow net new)
       path_put apart = put net formed (only_strand s) routes new has goes agree a
           (λ r r_lt is. let same = eqb-true r s is in subst (λ k. IsPath net k (path_in new k))
           (sym same) (subst (IsPath net s) (sym here) path))
-          (λ n r. let sum = new_sum (λ e. cond (uses_bundle net n r e) 1 0) in let few =
-          path_register_once net s n r ps in omega (arith, sum, few))
-          (λ k d in_.
-          let m = get_or net.pairs k d in
-          let sum = new_sum (λ e. cond (uses_memory m e) 1 0) in
-          let few = path_pair_once net s m ps
-          (λ same. built.two_variables k d in_ (ap (λ r. (strand_at net r).var.0) same)) in
-          omega (arith, sum, few))
+          (record {
+            registers = λ n r.
+                let sum = new_sum (λ e. cond (uses_bundle net n r e) 1 0) in
+                let few = path_register_once net s n r ps in
+                omega (arith, sum, few);
+            pairs = λ k in_.
+                let sum = new_sum (λ e. cond (uses_memory (pair_at net k) e) 1 0) in
+                let few = path_pair_once net s (pair_at net k) ps
+                (λ same. built.two_variables k no_pair in_ (ap (λ r. (strand_at net r).var.0) same)) in
+                omega (arith, sum, few);
+          })
           (apart_in apart) ties_kept
 
   -- ---- costs

@@ -1,9 +1,10 @@
 -- Paths put in beside others, when the whole stays admitted.
 use Rattle.std.proofs.Common.{ℕ, zero, suc, ◌≡◌, ◌+◌, ◌<◌, ◌≤◌, Bool, true, false, cond}
-use Rattle.std.proofs.Common.{length, get_or, All, count_by, Some, refl, sym, ap, ◌∙◌, subst, arith}
+use Rattle.std.proofs.Common.{length, All, count_by, Some, refl, sym, ap, ◌∙◌, subst, arith}
 use Rattle.std.proofs.Common.{inl, inr, ◌⊎◌}
 use Rattle.std.specs.Prelude.{IsTrue}
 use Rattle.std.proofs.lemmas.Bool.{cases_Bool}
+use Rattle.std.proofs.lemmas.List.{get_or_default}
 use Rattle.pra_base.specs.declared.ids.Place.{Place}
 use Rattle.pra_list.proofs.Counts.{bit}
 use Rattle.net_form.specs.declared.net.Tie.{Tie}
@@ -13,11 +14,12 @@ use Rattle.net_form.specs.Flow.{Edge, same_start, arrives, flow, AreRoutes}
 use Rattle.net_form.specs.Admitted.{strand_at, no_strand, in_mask, stays_across, uses_bundle}
 use Rattle.net_form.specs.Admitted.{uses_memory, KeepsTie, IsAdmitted}
 use Rattle.net_form.specs.Cost.{place_at}
+use Rattle.net_form.specs.InUse.{AreApart, UsesOnce, pair_at, no_pair}
 use Rattle.net_form.specs.Formed.{IsFormed}
 use Rattle.net_form.proofs.PlaceEquality.{same_start-true, same_start-refl}
 use Rattle.net_form.proofs.RoutesConserve.{flow_conserves}
 use Rattle.net_form.proofs.RoutesCost.{flow_at}
-use Rattle.net_dual.specs.Paths.{path_in, IsPath, IsApart}
+use Rattle.net_dual.specs.Paths.{path_in, IsPath}
 use Rattle.net_dual.proofs.Strands.{each_is_path}
 use Rattle.al_laws.specs.Parts.{part, rest, AgreeBut}
 use Rattle.al_laws.proofs.Parts.{flow_sum, rest_agrees, all_of_each}
@@ -28,14 +30,14 @@ one_or_other (suc m) n h = inr (omega (arith, h))
 
 -- an admitted flow uses nothing twice, so neither do two parts of it together
 pub parts_apart : (net : Net) (mine : ℕ → Bool) (new : Routes) → IsAdmitted net (flow net new)
-    → IsApart net (part net mine new) (rest net mine new)
+    → AreApart net (part net mine new) (rest net mine new)
 parts_apart net mine new a = record {
-  bundles = λ n r. one_or_other _ _
+  registers = λ n r. one_or_other _ _
       (let sum = flow_sum net new mine (λ e. cond (uses_bundle net n r e) 1 0) in let le = a.bundles
       n r in omega (arith, sum, le));
-  pairs = λ k d lt. one_or_other _ _
-      (let sum = flow_sum net new mine (λ e. cond (uses_memory (get_or net.pairs k d) e) 1 0) in
-      let le = a.pairs k d lt in omega (arith, sum, le));
+  pairs = λ k lt. one_or_other _ _
+      (let sum = flow_sum net new mine (λ e. cond (uses_memory (pair_at net k) e) 1 0) in
+      let le = a.pairs k no_pair lt in omega (arith, sum, le));
 }
 
 both_fit : (m n old k : ℕ) → k ≡ m + n → n ≤ old → old ≤ 1 → m ≤ 1 → (m ≡ 0) ⊎ (n ≡ 0) → k ≤ 1
@@ -70,18 +72,18 @@ module _ (net : Net) (formed : IsFormed net) (mine : ℕ
       (count_by p (flow net routes)) (count_by p (flow net new))
       (flow_sum net new mine g) (omega (arith, old, same)) was once apart
 
-  pub put : ((n r : ℕ) → count_by (uses_bundle net n r) (part net mine new) ≤ 1)
-      → All (λ m. count_by (uses_memory m) (part net mine new) ≤ 1) net.pairs
-      → IsApart net (part net mine new) (rest net mine new)
+  pub put : UsesOnce net (part net mine new) → AreApart net (part net mine new) (rest net mine new)
       → All (KeepsTie net (flow net new)) net.ties → IsAdmitted net (flow net new)
-  put once pairs apart ties = record {
-    conserves = flow_conserves net.strands new.places (λ k d lt. (formed.strands k d lt).order)
-        goes;
+  put once apart ties = record {
+    conserves = flow_conserves net.strands new.places (λ k d lt. (formed.strands k d lt).order) goes;
     masks = all_of_each net (λ e. IsTrue (in_mask net e)) new (λ s lt. (path_of s lt).masks);
     across = all_of_each net (λ e. IsTrue (stays_across e)) new (λ s lt. (path_of s lt).across);
-    bundles = λ n r. fits (uses_bundle net n r) (once n r) (apart.bundles n r) (a.bundles n r);
-    pairs = λ k d lt. fits (uses_memory (get_or net.pairs k d)) (pairs k d lt) (apart.pairs k d lt)
-        (a.pairs k d lt);
+    bundles = λ n r. fits (uses_bundle net n r) (once.registers n r) (apart.registers n r)
+        (a.bundles n r);
+    pairs = λ k d lt. subst (λ m. count_by (uses_memory m) (flow net new) ≤ 1)
+        (get_or_default net.pairs k no_pair d lt)
+        (fits (uses_memory (pair_at net k)) (once.pairs k lt) (apart.pairs k lt)
+        (a.pairs k no_pair lt));
     ties = ties;
   }
 

@@ -14,6 +14,7 @@ use Rattle.net_cost.specs.declared.weights.Weights.{Weights}
 use Rattle.net_form.specs.declared.net.Tie.{Tie}
 use Rattle.net_form.specs.declared.net.Net.{Net}
 use Rattle.net_form.specs.declared.routes.Routes.{Routes}
+use Rattle.net_form.specs.InUse.{AreApart, pair_at}
 use Rattle.net_form.specs.Flow.{Edge, flow, AreRoutes}
 use Rattle.net_form.specs.Admitted.{strand_at, uses_bundle, uses_memory, KeepsTie, IsAdmitted}
 use Rattle.net_form.specs.Cost.{place_of, cost_of}
@@ -21,7 +22,7 @@ use Rattle.net_form.specs.Rooms.{zero_prices}
 use Rattle.net_form.specs.Tables.{all_tables}
 use Rattle.net_form.proofs.EdgeCosts.{cost_by_edges}
 use Rattle.net_laws.specs.Built.{IsBuilt, IsBlockTie}
-use Rattle.net_dual.specs.Paths.{path_edges, path_price, path_in, IsPath, IsApart, HasEnds}
+use Rattle.net_dual.specs.Paths.{path_edges, path_price, path_in, IsPath, HasEnds}
 use Rattle.net_dual.specs.Priced.{pay, edge_price, cost_by_weights}
 use Rattle.net_dual.proofs.FreeBound.{free_path}
 use Rattle.net_dual.proofs.Strands.{each_is_path}
@@ -29,7 +30,7 @@ use Rattle.net_dual.proofs.Totals.{total-le, total-agree, total-scale}
 use Rattle.al_laws.specs.Parts.{part, rest, of_variable, AgreeBut}
 use Rattle.al_laws.specs.Settled.{tied_ends, variable_price, NoneCheaperAt, IsVariableSettled}
 use Rattle.al_laws.proofs.Ends.{held, at_last, at_first, last_place, last_is}
-use Rattle.al_laws.proofs.Once.{registers_once, pairs_once}
+use Rattle.al_laws.proofs.Once.{uses_once}
 use Rattle.al_laws.proofs.Parts.{path_sum, own_sum, part_sum, flow_sum, rest_agrees}
 use Rattle.al_laws.proofs.Put.{put, parts_apart, tie_kept, kept_tie}
 
@@ -109,13 +110,12 @@ module _ (net : Net) (built : IsBuilt net) (v : ℕ) (routes new : Routes)
 
   -- a way for one of mine past the others
   pub clear_of_admitted : IsAdmitted net (flow net new) → (s : ℕ) → s < length net.strands
-      → mine s ≡ true → IsApart net (path_edges net s (path_in new s)) (rest net mine routes)
+      → mine s ≡ true → AreApart net (path_edges net s (path_in new s)) (rest net mine routes)
   clear_of_admitted a s lt is =
       let apart = parts_apart net mine new a in
       record {
-        bundles = λ n r. one_clear (uses_bundle net n r) (apart.bundles n r) s lt is;
-        pairs =
-            λ k d in_. one_clear (uses_memory (get_or net.pairs k d)) (apart.pairs k d in_) s lt is;
+        registers = λ n r. one_clear (uses_bundle net n r) (apart.registers n r) s lt is;
+        pairs = λ k in_. one_clear (uses_memory (pair_at net k)) (apart.pairs k in_) s lt is;
       }
 
   -- ---- where the variable is at one place at all of its ties
@@ -167,15 +167,15 @@ module _ (net : Net) (built : IsBuilt net) (v : ℕ) (routes new : Routes)
     pub variable_put : ((s : ℕ) → s < length net.strands → mine s ≡ true
         → IsPath net s (path_in new s))
         → ((s : ℕ) → s < length net.strands → mine s ≡ true
-        → IsApart net (path_edges net s (path_in new s)) (rest net mine routes))
+        → AreApart net (path_edges net s (path_in new s)) (rest net mine routes))
         → IsAdmitted net (flow net new)
     variable_put paths clears = put net built.formed mine routes new has goes agree a paths
-        (registers_once net built new goes v) (pairs_once net built new goes v)
+        (uses_once net built new goes v)
         (record {
-          bundles = λ n r. all_clear (uses_bundle net n r)
-              (λ s lt is. (clears s lt is).bundles n r);
-          pairs = λ k d in_. all_clear (uses_memory (get_or net.pairs k d))
-              (λ s lt is. (clears s lt is).pairs k d in_);
+          registers = λ n r. all_clear (uses_bundle net n r)
+              (λ s lt is. (clears s lt is).registers n r);
+          pairs = λ k in_. all_clear (uses_memory (pair_at net k))
+              (λ s lt is. (clears s lt is).pairs k in_);
         }) tie_at
 
   -- ---- costs

@@ -5,7 +5,8 @@ use Rattle.net_form.specs.declared.net.Net.{Net}
 use Rattle.net_form.specs.declared.routes.Routes.{Routes}
 use Rattle.net_form.specs.Flow.{Edge, flow}
 use Rattle.net_form.specs.Admitted.{strand_at}
-use Rattle.net_dual.specs.Paths.{Clear, IsApart, path_in}
+use Rattle.net_form.specs.InUse.{AreApart}
+use Rattle.net_dual.specs.Paths.{Clear, path_in}
 
 -- the edges of the strands of which the test holds, and of the others
 abbrev pub part : Net → (ℕ → Bool) → Routes → List Edge
@@ -23,7 +24,7 @@ of_variable net v s = nat_eq (strand_at net s).var.0 v
 
 -- what a path does that uses nothing of a flow
 abbrev pub ClearOf : Net → List Edge → Clear
-ClearOf net g = λ f. IsApart net f g
+ClearOf net g = λ f. AreApart net f g
 
 -- the strand takes another path
 abbrev pub with_path : Routes → ℕ → List Place → Routes

@@ -8,7 +8,8 @@ ghost use Rattle.net_form.specs.declared.routes.Routes.{Routes};
 ghost use Rattle.net_form.specs.Admitted.{IsAdmitted};
 ghost use Rattle.net_form.specs.Flow.{flow, AreRoutes};
 ghost use Rattle.net_laws.specs.Built.{IsBuilt};
-ghost use Rattle.net_dual.specs.Paths.{IsApart, MayGo, path_in};
+ghost use Rattle.net_form.specs.InUse.{AreApart};
+ghost use Rattle.net_dual.specs.Paths.{MayGo, path_in};
 ghost use Rattle.al_laws.specs.Parts.{part, rest, only_strand, of_variable, with_path};
 ghost use Rattle.al_laws.specs.Parts.{AgreeBut, ClearOf};
 ghost use Rattle.al_laws.specs.Settled.{block_ends, tied_ends, NoneCheaper, NoneCheaperAt};
@@ -21,7 +22,7 @@ pub fn flows_have_two_parts()
         (flow net routes) (part net mine routes ++ rest net mine routes) }
     ensures apart { (net : Net) (mine : ℕ → Bool) (routes : Routes) →
         IsAdmitted net (flow net routes) →
-        IsApart net (part net mine routes) (rest net mine routes) }
+        AreApart net (part net mine routes) (rest net mine routes) }
 {}
 
 /// A strand may take any path past the others that keeps its places at entry and exit.

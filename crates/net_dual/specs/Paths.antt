@@ -1,14 +1,14 @@
 -- Paths of one strand, and the least of them. What an edge costs is any function here: its cost,
 -- or its cost with prices.
-use Rattle.std.specs.Prelude.{◌≡◌, ◌⊎◌, ℕ, ◌+◌, ◌-◌, ◌<◌, ℤ, ◌≤ℤ◌, List, [], length}
-use Rattle.std.specs.Prelude.{slice_get, slice_index_or, None, Some, All, IfSome, IsTrue, count_by}
+use Rattle.std.specs.Prelude.{◌≡◌, ℕ, ◌+◌, ◌-◌, ◌<◌, ℤ, ◌≤ℤ◌, List, [], length}
+use Rattle.std.specs.Prelude.{slice_get, slice_index_or, None, Some, All, IfSome, IsTrue}
 use Rattle.std.specs.Prelude.{⊤}
 use Rattle.pra_base.specs.declared.ids.Place.{Place}
 use Rattle.net_form.specs.declared.net.Net.{Net}
 use Rattle.net_form.specs.declared.routes.Ends.{Ends}
 use Rattle.net_form.specs.declared.routes.Routes.{Routes}
 use Rattle.net_form.specs.Flow.{Edge, edges}
-use Rattle.net_form.specs.Admitted.{strand_at, in_mask, stays_across, uses_bundle, uses_memory}
+use Rattle.net_form.specs.Admitted.{strand_at, in_mask, stays_across}
 use Rattle.net_dual.specs.Priced.{total}
 
 -- the edges of a path of strand s
@@ -32,15 +32,8 @@ any_ends = record { first = None; last = None }
 
 -- ---- what a path may not use
 
--- no register at a layer and no memory pair is used by both
-pub record IsApart (net : Net) (f g : List Edge) : Type 0 where
-  pub bundles : (n r : ℕ) →
-      (count_by (uses_bundle net n r) f ≡ 0) ⊎ (count_by (uses_bundle net n r) g ≡ 0)
-  pub pairs : All
-      (λ m. (count_by (uses_memory m) f ≡ 0) ⊎ (count_by (uses_memory m) g ≡ 0)) net.pairs
-
 -- What the edges of a path have to keep clear of, as a fact on them: of nothing, of a flow g by
--- `λ f. IsApart net f g`, or of what is in use.
+-- `λ f. AreApart net f g`, or of what is in use by `UsesNothing net taken`.
 abbrev pub Clear : Type 1
 Clear = List Edge → Type 0
 
