@@ -1,6 +1,8 @@
 pub mod Blocks
 pub mod Each
+pub mod Exchanged
 pub mod FewBytes
+pub mod MoveBytes
 pub mod NearCells
 pub mod Open
 pub mod OpenFront

@@ -13,9 +13,8 @@ use Rattle.ia_emit.specs.declared.item.Target.TheVariants.{Block, Stub}
 use Rattle.ia_emit.specs.Code.{size, all_aimed, front, stub_start, first_entry}
 use Rattle.ia_emit.specs.Emission.{prologue, emit_move, emit_op, emit_end}
 use Rattle.pl_moves.specs.declared.transfer.Move.{Move}
-use Rattle.pl_moves.specs.Assignment.{Assigns}
 use Rattle.pl_place.specs.declared.placed.LProc.{LProc}
-use Rattle.pl_place.specs.Behind.{Routed, pairs_at, operand_places, slots_of}
+use Rattle.pl_place.specs.Behind.{Routed, MovesInto, operand_places, slots_of}
 use Rattle.pra_base.specs.declared.code.VInstr.{VInstr}
 use Rattle.pra_base.specs.declared.ids.Place.{Place}
 use Rattle.pra_base.specs.Code.{code_of, end_of}
@@ -35,11 +34,11 @@ framed r = record {
 
 -- ---- a block
 
--- Moves that are the simultaneous assignment of what moves into this layer of block b.
+-- What moves that do all that moves into this layer of block b become.
 abbrev pub AreMoves : Routed → ℕ → ℕ → List Item → Type 0
 AreMoves r b l items =
     (ms : List Move)
-    × (items ≡ map (λ m. Plain (emit_move (framed r) m)) ms) × Assigns ms (pairs_at r b l)
+    × (items ≡ map (λ m. Plain (emit_move (framed r) m)) ms) × MovesInto r b l ms
 
 -- What instruction k of block b becomes: what it reads is where the flow has it before, and what it
 -- writes where the flow has it after.

@@ -2,6 +2,7 @@ pub mod Carries
 pub mod Code
 pub mod Counts
 pub mod Emission
+pub mod Exchanges
 pub mod Layout
 pub mod Open
 pub mod Operands

@@ -10,14 +10,17 @@ use Rattle.pl_place.specs.declared.placed.LInstr.{LInstr}
 use Rattle.pl_place.specs.declared.placed.LInstr.TheVariants as placed
 use Rattle.pl_place.specs.declared.placed.LProc.{LProc}
 use Rattle.pl_place.specs.Placed.{op_of}
-use Rattle.pl_place.specs.Behind.{Routed, pairs_at, operand_places, IsOp, Lays, IsBehind}
+use Rattle.pl_place.specs.Behind.{Routed, MovesInto, pairs_at, operand_places, IsOp, Lays, IsBehind}
 use Rattle.pl_place.specs.Valid.{FewMoves, most_moves_before}
 use Rattle.pl_made.specs.Made.{MovesAt, LaysMoves, IsMade}
 use Rattle.pra_list.proofs.Among.{in_all, in_either, of_map}
 
+into_of : (r : Routed) (b l : ℕ) (ms : List Move) → MovesAt r b l ms → MovesInto r b l ms
+into_of r b l ms m = record { in_registers = m.in_registers; assigns = m.assigns }
+
 lays_of : (r : Routed) (b k : ℕ) (is : List VInstr) (left : List LInstr) → LaysMoves r b k is left → Lays r b k is left
-lays_of r b k [] left m = (m.0, m.1, m.2.assigns)
-lays_of r b k (i ∷ is) left m = (m.0, m.1, m.2, m.3, m.4.assigns, m.5, lays_of r b (suc k) is m.2 m.6)
+lays_of r b k [] left m = (m.0, m.1, into_of r b (2 * k + 1) m.0 m.2)
+lays_of r b k (i ∷ is) left m = (m.0, m.1, m.2, m.3, into_of r b (2 * k + 1) m.0 m.4, m.5, lays_of r b (suc k) is m.2 m.6)
 
 pub behind_of : (r : Routed) (p : LProc) → IsMade r p → IsBehind r p
 behind_of r p m = record {

@@ -1,22 +1,26 @@
 -- Two routes of one code are behind the code that they place.
-use Rattle.std.proofs.Common.{◌≡◌, ℕ, zero, suc, Bool, true, false, nat_eq, if◌then◌else◌, List, [], ◌∷◌, slice_get, Some, refl, sym, ap, subst, arith}
+use Rattle.std.proofs.Common.{◌≡◌, ℕ, zero, suc, Bool, true, false, nat_eq, if◌then◌else◌, [], ◌∷◌, slice_get, Some, refl, sym, ap, subst, arith}
 use Rattle.std.proofs.lemmas.Bool.Decides.{nat_tests}
 use Rattle.net_form.specs.Examples.{in_register_routes}
+use Rattle.pra_list.proofs.Each.{all_of_each}
 use Rattle.pra_base.specs.declared.ids.Place.TheVariants.{Eax}
 use Rattle.pl_moves.specs.declared.transfer.Move.TheVariants.{Load}
-use Rattle.pl_moves.specs.declared.transfer.Pair.{Pair}
 use Rattle.pra_base.specs.Code.{code_of, end_of}
 use Rattle.pl_moves.specs.Meaning.{Cell, Register, Memory, Fixed, with_cell}
-use Rattle.pl_moves.specs.Assignment.{source, Assigns}
+use Rattle.pl_moves.specs.Assignment.{source}
+use Rattle.pl_moves.specs.Crossbar.{InRegisters}
 use Rattle.pl_place.specs.declared.placed.LBlock.{LBlock}
-use Rattle.pl_place.specs.Behind.{Routed, IsBehind, Lays, pairs_at}
+use Rattle.pl_place.specs.Behind.{Routed, IsBehind, Lays, MovesInto, pairs_at}
 use Rattle.pl_place.specs.Sample.{v0}
 use Rattle.pl_place.specs.SampleRoutes.{routed, both_places_routes, in_register, in_memory}
 
 -- ---- moves
 
-none : (pairs : List Pair) → ((cell : Cell) → source pairs cell ≡ cell) → Assigns [] pairs
-none pairs each = record { after = λ cell. cell; runs = refl; each = λ cell. sym (each cell) }
+none : (r : Routed) (l : ℕ) → ((cell : Cell) → source (pairs_at r 0 l) cell ≡ cell) → MovesInto r 0 l []
+none r l each = record {
+  in_registers = all_of_each InRegisters [] tt;
+  assigns = record { after = λ cell. cell; runs = refl; each = λ cell. sym (each cell) };
+}
 
 same : (b : Bool) (k r : ℕ) → (b ≡ true → k ≡ r) → (if b then Register k else Register r) ≡ Register r
 same true k r f = let e : k ≡ r = f refl in rw e refl
@@ -61,9 +65,9 @@ register_is = record {
     _,
     _,
     refl,
-    none [] (λ cell. refl),
+    none one 1 (λ cell. refl),
     (refl, refl),
-    ([], _, _, refl, none (pairs_at one 0 3) eax_added, (refl, refl), ([], _, _, refl, none (pairs_at one 0 5) eax_written, (refl, refl), ([], refl, none [] (λ cell. refl)))),
+    ([], _, _, refl, none one 3 eax_added, (refl, refl), ([], _, _, refl, none one 5 eax_written, (refl, refl), ([], refl, none one 7 (λ cell. refl)))),
   );
 }
 
@@ -85,6 +89,12 @@ loads (Register r) = turned 0 r (Memory 0) (Register r)
 loads (Memory v) = refl
 loads (Fixed n) = refl
 
+loading : MovesInto other 0 5 (Load Eax v0 ∷ [])
+loading = record {
+  in_registers = all_of_each InRegisters (Load Eax v0 ∷ []) (refl, tt);
+  assigns = record { after = loaded; runs = refl; each = loads };
+}
+
 pub memory_is : IsBehind other in_memory
 memory_is = record {
   id = refl;
@@ -99,8 +109,8 @@ memory_is = record {
     _,
     _,
     refl,
-    none [] (λ cell. refl),
+    none other 1 (λ cell. refl),
     (refl, refl),
-    ([], _, _, refl, none (pairs_at other 0 3) memory_added, (refl, refl), (Load Eax v0 ∷ [], _, _, refl, record { after = loaded; runs = refl; each = loads }, (refl, refl), ([], refl, none [] (λ cell. refl)))),
+    ([], _, _, refl, none other 3 memory_added, (refl, refl), (Load Eax v0 ∷ [], _, _, refl, loading, (refl, refl), ([], refl, none other 7 (λ cell. refl)))),
   );
 }

@@ -2,6 +2,7 @@
 -- variable is.
 use Rattle.std.specs.Prelude.{◌≡◌, ℕ, suc, ◌+◌, ◌*◌, ℤ, Bool, nat_eq, ◌&&◌, List, [], ◌∷◌, ◌++◌}
 use Rattle.std.specs.Prelude.{length, map, filter, find, slice_get, option_map, Option, Some, None}
+use Rattle.std.specs.Prelude.{All}
 use Rattle.std.specs.List.{list_any, range_with_len}
 use Rattle.pra_base.specs.declared.ids.Place.{Place}
 use Rattle.pra_base.specs.declared.ids.Place.TheVariants.{Const}
@@ -19,6 +20,7 @@ use Rattle.net_form.specs.Admitted.{strand_at}
 use Rattle.pl_moves.specs.declared.transfer.Pair.{Pair}
 use Rattle.pl_moves.specs.declared.transfer.Move.{Move}
 use Rattle.pl_moves.specs.Assignment.{Assigns}
+use Rattle.pl_moves.specs.Crossbar.{InRegisters}
 use Rattle.pl_place.specs.declared.placed.LInstr.{LInstr}
 use Rattle.pl_place.specs.declared.placed.LInstr.TheVariants as placed
 use Rattle.pl_place.specs.declared.placed.LBlock.{LBlock}
@@ -77,6 +79,12 @@ pair_of r e =
 abbrev pub pairs_at : Routed → ℕ → ℕ → List Pair
 pairs_at r b l = map (pair_of r) (filter (comes_to r b l) r.flow)
 
+-- Moves that are the simultaneous assignment of what moves into this layer. Their places are
+-- registers: no other place is a cell of the machine.
+pub record MovesInto (r : Routed) (b l : ℕ) (ms : List Move) : Type 0 where
+  pub in_registers : All InRegisters ms
+  pub assigns : Assigns ms (pairs_at r b l)
+
 -- ---- slots
 
 -- some edge brings the variable to memory, alone or beside a register
@@ -100,14 +108,14 @@ abbrev pub IsOp : LInstr → VInstr → List (Option Place) → Type 0
 IsOp (placed.Op j places) i ps = (j ≡ i) × (map Some places.items ≡ ps)
 IsOp (placed.Move m) i ps = ⊥
 
--- From instruction k of block b on: before each instruction and before the end stand moves that are
--- the simultaneous assignment of what moves there, and each instruction has its operands' places.
+-- From instruction k of block b on: before each instruction and before the end stand the moves of
+-- what moves there, and each instruction has its operands' places.
 abbrev pub Lays : Routed → ℕ → ℕ → List VInstr → List LInstr → Type 0
 Lays r b k [] left =
-    (ms : List Move) × (left ≡ map placed.Move ms) × Assigns ms (pairs_at r b (2 * k + 1))
+    (ms : List Move) × (left ≡ map placed.Move ms) × MovesInto r b (2 * k + 1) ms
 Lays r b k (i ∷ is) left =
     (ms : List Move) × (op : LInstr) × (rest : List LInstr)
-    × (left ≡ map placed.Move ms ++ op ∷ rest) × Assigns ms (pairs_at r b (2 * k + 1))
+    × (left ≡ map placed.Move ms ++ op ∷ rest) × MovesInto r b (2 * k + 1) ms
     × IsOp op i (operand_places r b k i) × Lays r b (suc k) is rest
 
 -- The code and the flow stand behind the placed code.

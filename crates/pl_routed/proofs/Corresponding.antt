@@ -69,7 +69,7 @@ laid_at r b j [] left lays k i e = cc
 laid_at r b j (x ∷ is) left lays zero i e =
     let same : j ≡ j + 0 = omega arith in
     subst (λ n. Laid r b n i left lays.2) same
-    (subst (λ y. Laid r b j y left lays.2) (some_same x i e) (record { moves = lays.0; op = lays.1; parts = lays.3; assigns = lays.4; is_op = lays.5 }))
+    (subst (λ y. Laid r b j y left lays.2) (some_same x i e) (record { moves = lays.0; op = lays.1; parts = lays.3; assigns = lays.4.assigns; is_op = lays.5 }))
 laid_at r b j (x ∷ is) left lays (suc k) i e =
     let same : suc j + k ≡ j + suc k = omega arith in
     subst (λ n. Laid r b n i (rest_at r b (suc j) is lays.2 lays.6 k) (rest_at r b (suc j) is lays.2 lays.6 (suc k))) same (laid_at r b (suc j) is lays.2 lays.6 k i e)
@@ -82,7 +82,7 @@ record LaidEnd (r : Routed) (b k : ℕ) (left : List LInstr) : Type 0 where
 laid_end : (r : Routed) (b j : ℕ) (is : List VInstr) (left : List LInstr) (lays : Lays r b j is left) → LaidEnd r b (j + length is) (rest_at r b j is left lays (length is))
 laid_end r b j [] left lays =
     let same : j ≡ j + 0 = omega arith in
-    subst (λ n. LaidEnd r b n left) same (record { moves = lays.0; parts = lays.1; assigns = lays.2 })
+    subst (λ n. LaidEnd r b n left) same (record { moves = lays.0; parts = lays.1; assigns = lays.2.assigns })
 laid_end r b j (x ∷ is) left lays =
     let same : suc j + length is ≡ j + suc (length is) = omega arith in
     subst (λ n. LaidEnd r b n (rest_at r b (suc j) is lays.2 lays.6 (length is))) same (laid_end r b (suc j) is lays.2 lays.6)
