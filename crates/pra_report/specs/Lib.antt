@@ -1,3 +1,4 @@
 pub mod Texts
 pub mod Input
 pub mod Parts
+pub mod Report

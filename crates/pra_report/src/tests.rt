@@ -1,9 +1,14 @@
 // Inputs with each fault, and the texts of outputs.
 
-ghost use Rattle.std.specs.Prelude.{◌≤◌, length};
+ghost use Rattle.std.specs.Prelude.{◌≡◌, ◌≤◌, [], ◌∷◌, ◌++◌, length, IfOk};
 
-use crate::{InputFault, input_words, output_text, procedure_line};
-use pra_base::{OutEvent, OutOfMemory};
+use crate::{
+    InputFault, ProcOut, generated_line, input_words, output_line, output_text, procedure_line,
+    report_text,
+};
+use net_form::{Line, Prices, Routes};
+use pra_base::{OutEvent, OutOfMemory, ProcId, VProc};
+use pra_list::Seq;
 use std::alloc::Global;
 use std::process::Abort;
 
@@ -52,5 +57,124 @@ fn texts(rt: HostRuntime) -> Result<(), OutOfMemory> {
     assert_eq!(rt; text.as_slice(), b" -7\n 0 -2147483648".as_slice());
     let line = procedure_line(rt.alloc(), 0, b"M", 20)?;
     assert_eq!(rt; line.as_slice(), b"procedure 0 M frame 20\n".as_slice());
+    Ok(())
+}
+
+// A procedure of which a line is told.
+fn proc(alloc: Global, name: u8, line: Line) -> Result<ProcOut, OutOfMemory>
+    ensures { IfOk result (λ p. p.lines ≡ line ∷ []) }
+{
+    let mut bytes = Vec::new(alloc);
+    bytes.push(name)?;
+    let mut lines = Vec::new(alloc);
+    lines.push(line)?;
+    Ok(ProcOut {
+        name: Seq::from_vec(bytes),
+        frame: 20,
+        code: no_code(alloc),
+        routes: Routes {
+            places: Seq::new(alloc),
+        },
+        prices: Prices {
+            caps: Seq::new(alloc),
+            mems: Seq::new(alloc),
+            ties: Seq::new(alloc),
+        },
+        lines: Seq::from_vec(lines),
+    })
+}
+
+fn no_code(alloc: Global) -> VProc {
+    VProc {
+        id: ProcId(0),
+        args: 0,
+        aggregates: 0,
+        vars: Seq::new(alloc),
+        blocks: Seq::new(alloc),
+    }
+}
+
+fn line(round: u32, cost: u128, bound: u128) -> Line
+    ensures { result ≡ record { round = round; cost = cost; bound = bound } }
+{
+    Line { round, cost, bound }
+}
+
+#[test]
+fn reports(rt: HostRuntime) -> Result<(), OutOfMemory> {
+    let alloc = rt.alloc();
+    // MODULE M; BEGIN Write(7); WriteLn END M.
+    let one_number = [proc(alloc, b'M', line(0, 5, 5))?];
+    let text = report_text(alloc, &one_number, 63)?;
+    assert_eq!(rt;
+        text.as_slice(),
+        b"procedure 0 M frame 20\nround 0 cost 5 bound 5\ntotal cost 5 bound 5 code 63\n".as_slice()
+    );
+    // MODULE M; END M.
+    let empty_module = [proc(alloc, b'M', line(0, 0, 0))?];
+    let text = report_text(alloc, &empty_module, 54)?;
+    assert_eq!(rt;
+        text.as_slice(),
+        b"procedure 0 M frame 20\nround 0 cost 0 bound 0\ntotal cost 0 bound 0 code 54\n".as_slice()
+    );
+    // MODULE M; PROCEDURE P; BEGIN Write(1); P END P; BEGIN P END M.
+    let stack_trap = [
+        proc(alloc, b'M', line(0, 0, 0))?,
+        proc(alloc, b'P', line(0, 5, 5))?,
+    ];
+    let text = report_text(alloc, &stack_trap, 97)?;
+    assert_eq!(rt;
+        text.as_slice(),
+        b"procedure 0 M frame 20\nround 0 cost 0 bound 0\n\
+          procedure 1 P frame 20\nround 0 cost 5 bound 5\n\
+          total cost 5 bound 5 code 97\n"
+            .as_slice()
+    );
+    Ok(())
+}
+
+#[test]
+fn rounds(rt: HostRuntime) -> Result<(), OutOfMemory> {
+    let alloc = rt.alloc();
+    let mut lines = Vec::new(alloc);
+    lines.push(line(0, 340_282_366_920_938_463_463_374_607_431_768_211_455, 1))?;
+    lines.push(line(1, 9, 3))?;
+    let ProcOut {
+        name,
+        frame,
+        code,
+        routes,
+        prices,
+        ..
+    } = proc(alloc, b'M', line(0, 0, 0))?;
+    let told = [ProcOut {
+        name,
+        frame,
+        code,
+        routes,
+        prices,
+        lines: Seq::from_vec(lines),
+    }];
+    let text = report_text(alloc, &told, 4_294_967_295)?;
+    assert_eq!(rt;
+        text.as_slice(),
+        b"procedure 0 M frame 20\n\
+          round 0 cost 340282366920938463463374607431768211455 bound 1\n\
+          round 1 cost 9 bound 3\n\
+          total cost 9 bound 3 code 4294967295\n"
+            .as_slice()
+    );
+    Ok(())
+}
+
+#[test]
+fn generated(rt: HostRuntime) -> Result<(), OutOfMemory> {
+    let line = generated_line(rt.alloc(), 1, 200, 987_654)?;
+    assert_eq!(rt;
+        line.as_slice(),
+        b"generated seed 1 size 200 bytes 987654\n".as_slice()
+    );
+    let line = output_line(rt.alloc(), 0)?;
+    assert_eq!(rt; line.as_slice(), b"output bytes 0\n".as_slice());
     Ok(())
 }

@@ -46,6 +46,18 @@ pub fn procedure_line(
 ) -> Result<Vec<u8>, OutOfMemory>
     ensures { IfOk result (λ line. line.items ≡ procedure_line number name.now frame) }
 {
+    numbered_line(alloc, number as usize, name, frame)
+}
+
+/// The same, of a procedure of any number.
+pub(crate) fn numbered_line(
+    alloc: Global,
+    number: usize,
+    name: &[u8],
+    frame: u32,
+) -> Result<Vec<u8>, OutOfMemory>
+    ensures { IfOk result (λ line. line.items ≡ procedure_line number name.now frame) }
+{
     let mut line = format!(in alloc; "procedure {number} ")?.into_bytes();
     line.extend_from_slice(name)?;
     let end = format!(in alloc; " frame {frame}\n")?;
