@@ -1,7 +1,7 @@
 // Bytes to be taken, and a place for bytes, piece by piece.
 
 ghost use Rattle.std.specs.Prelude.{◌≡◌, ◌⊎◌, ◌≤◌, ◌+◌, ◌++◌, ℕ, List, [], vec_len, IsSome, IfOk};
-ghost use Rattle.std.specs.Prelude.{OnOk, OnErr, IsErrOf};
+ghost use Rattle.std.specs.Prelude.{◌<◌, length, OnOk, OnErr, IsErr, IsErrOf};
 ghost use Rattle.std.specs.declared.option.Option.{Option};
 ghost use Rattle.std.specs.Io.{ReadsAtMost, WritesAtMost};
 ghost use Rattle.std.specs.Io.KnownBytes.{ReadConsumes, WriteAppends, Appends, Consumes, IsAtEnd};
@@ -160,11 +160,12 @@ pub fn read_all<I: Source>(alloc: Global, source: &mut I, max: usize) -> Result<
 ///
 /// # Errors
 ///
-/// Where the sink failed: a front of the bytes was put before.
+/// Where the sink failed, which is not asked for no bytes: a front of the bytes was put before.
 pub fn write_all<O: Sink>(sink: &mut O, bytes: &[u8]) -> Result<(), WriteFault>
     ensures all { OnOk result (Appends (O.bytes sink.old) (O.bytes sink.new) bytes.now) }
     ensures front { AppendsFront (O.bytes sink.old) (O.bytes sink.new) bytes.now }
     ensures cause { HasCause (O.faults sink.old) (O.faults sink.new) result }
+    ensures some { IsErr result → 0 < length bytes.now }
 {
     let mut at = 0;
     while at < bytes.len() {

@@ -257,12 +257,14 @@ module _ (old mid new : Seen) (only : OnlyRead old mid) where
     notes = rw (sym only.notes) f.notes;
   })
   stopped_since w (inr (inl o)) = inr (inl (record {
+    some = o.some;
     cause = rw (sym only.out) o.cause;
     files = stored_since w.files o.files;
     out = rw (sym only.out) o.out;
     notes = rw (sym only.notes) o.notes;
   }))
   stopped_since w (inr (inr n)) = inr (inr (record {
+    some = n.some;
     cause = rw (sym only.notes) n.cause;
     files = stored_since w.files n.files;
     out = rw (sym only.out) n.out;

@@ -1,6 +1,6 @@
 -- What a call writes, as one value, and what stands outside where all of it was written, or where
 -- writing stopped. It is written in this order: the files, out, notes.
-use Rattle.std.specs.Prelude.{◌≡◌, ◌≢◌, ◌⊎◌, ◌≤◌, ◌-◌, ℕ, List, [], ◌∷◌, ◌++◌, map, take, length, ⊤}
+use Rattle.std.specs.Prelude.{◌≡◌, ◌≢◌, ◌⊎◌, ◌<◌, ◌≤◌, ◌-◌, ℕ, List, [], ◌∷◌, ◌++◌, map, take, length, ⊤}
 use Rattle.std.specs.Prelude.{codes, Result, MatchResult}
 use Rattle.std.specs.List.{AllByRecursion as Each}
 use Rattle.std.specs.Io.KnownBytes.{Keeps, Appends}
@@ -96,15 +96,19 @@ pub record StoppedAtFile (w : Writes) (old new : Seen) : Type 0 where
   pub out : Keeps old.out.bytes new.out.bytes
   pub notes : Told (codes "fault write file\n") old.notes new.notes
 
--- it stopped at out, whose count rose: the files stand, and out has a prefix of its text
+-- it stopped at out, for which there was something and whose count rose: the files stand, and out
+-- has a prefix of its text
 pub record StoppedAtOut (w : Writes) (old new : Seen) : Type 0 where
+  pub some : 0 < length w.out
   pub cause : Rose old.out.faults new.out.faults
   pub files : Stored w.files old.folder new.folder
   pub out : AppendsFront old.out.bytes new.out.bytes w.out
   pub notes : Told (codes "fault write out\n") old.notes new.notes
 
--- it stopped at notes, whose count rose: files and out stand, and notes has a prefix of its text
+-- it stopped at notes, for which there was something and whose count rose: files and out stand, and
+-- notes has a prefix of its text
 pub record StoppedAtNotes (w : Writes) (old new : Seen) : Type 0 where
+  pub some : 0 < length w.notes
   pub cause : Rose old.notes.faults new.notes.faults
   pub files : Stored w.files old.folder new.folder
   pub out : Appends old.out.bytes new.out.bytes w.out
