@@ -1,4 +1,7 @@
 mod Keys
-mod OneAnswer
+mod Lent
+pub mod OneAnswer
+mod Pendings
 mod Procedures
 mod Scopes
+mod Worths

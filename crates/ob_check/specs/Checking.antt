@@ -13,6 +13,7 @@ use Rattle.ob_check.specs.declared.fault.CheckFault.{CheckFault}
 use Rattle.ob_check.specs.declared.fault.CheckFault.TheVariants.{Rule, Limit, OutOfMemory}
 use Rattle.ob_check.specs.declared.refusal.Refusal.{Refusal}
 use Rattle.ob_check.specs.declared.refusal.Refusal.TheVariants as refusal
+use Rattle.ob_check.specs.Rules.{rule_number}
 
 -- The module breaks no rule and keeps within the limits, and this is what it stands for.
 pub record IsChecked (bytes : List ℕ) (tokens : List Token) (m : Module) (c : Checked)
@@ -48,7 +49,7 @@ IsErrUnlessMemory answer fault = IsErrOf answer fault ⊎ IsErrOf answer OutOfMe
 -- ---- what the parts of the checker refuse, as the whole tells it
 
 abbrev pub of_refusal : Refusal → CheckFault
-of_refusal (refusal.Broken rule token) = Rule rule token
+of_refusal (refusal.Broken rule token) = Rule (rule_number rule) token
 of_refusal refusal.OutOfMemory = OutOfMemory
 
 abbrev pub of_measure : MeasureFault → CheckFault

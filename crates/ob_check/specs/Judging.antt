@@ -10,6 +10,7 @@ use Rattle.ob_check.specs.declared.place.Place.{Place}
 use Rattle.ob_check.specs.declared.reading.Reading.{Reading}
 use Rattle.ob_check.specs.declared.refusal.Refusal.{Refusal}
 use Rattle.ob_check.specs.declared.refusal.Refusal.TheVariants.{Broken, OutOfMemory}
+use Rattle.ob_check.specs.Rules.{rule_number}
 
 -- what is known at a place
 abbrev pub known_at : Place → Known
@@ -28,7 +29,7 @@ known_at p = record {
 
 -- the rule and the token that a refusal tells
 abbrev pub told : Refusal → Fault
-told (Broken rule token) = (rule, token)
+told (Broken rule token) = (rule_number rule, token)
 told OutOfMemory = (0, 0)
 
 -- The answer is what a phrase is read as, or the first rule that is broken in it, unless memory is

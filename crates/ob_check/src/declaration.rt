@@ -16,6 +16,7 @@ use crate::constant::constant;
 use crate::expression::{BOOLEAN, INTEGER};
 use crate::place::Place;
 use crate::refusal::Refusal;
+use crate::rules::Rule;
 use crate::type_expression::type_expression;
 use ob_syntax::{ConstDecl, Meaning, NameList, Param, Root, Section, TypeDecl};
 use pra_list::Seq;
@@ -124,7 +125,7 @@ fn parameter_type(by_var: bool, token: u32, type_id: u32) -> Result<u32, Refusal
     if by_var || type_id == INTEGER || type_id == BOOLEAN {
         Ok(type_id)
     } else {
-        Err(Refusal::Broken(21, token))
+        Err(Refusal::Broken(Rule::ValueParameterIsScalar, token))
     }
 }
 

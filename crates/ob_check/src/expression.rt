@@ -14,9 +14,11 @@ ghost use Rattle.ob_syntax.specs.Expressions.{related as related_of, chained};
 ghost use Rattle.ob_syntax.specs.Expressions.{selected as selected_of, designated as designated_of};
 ghost use Rattle.ob_syntax.specs.Expressions.{field as field_of, the_field, element as element_of};
 ghost use Rattle.ob_check.specs.Judging.{known_at, Answers};
+ghost use Rattle.ob_check.specs.Rules.{rule_number};
 
 use crate::place::Place;
 use crate::refusal::Refusal;
+use crate::rules::Rule;
 use ob_syntax::{
     Designator, Expr, Factor, FactorForm, Kind, Meaning, RExpr, ROp, RStep, RVar, Relation, Root,
     Selector, SelectorForm, Shape, SimpleExpr, Term, Typed, Value,
@@ -30,8 +32,8 @@ pub const INTEGER: u32 = 0;
 pub const BOOLEAN: u32 = 1;
 
 /// The expression, if it has the type that is wanted; else the rule is broken at the token.
-pub fn of_type(rule: u8, type_id: u32, token: u32, typed: Typed) -> Result<RExpr, Refusal>
-    ensures { Answers (is_of_type rule type_id token typed) result }
+pub fn of_type(rule: Rule, type_id: u32, token: u32, typed: Typed) -> Result<RExpr, Refusal>
+    ensures { Answers (is_of_type (rule_number rule) type_id token typed) result }
 {
     if typed.type_id == type_id {
         Ok(typed.expr)
@@ -65,8 +67,8 @@ fn operand(op: ROp, token: u32, typed: Typed) -> Result<RExpr, Refusal>
     ensures { Answers (operand_of op token typed) result }
 {
     match op {
-        ROp::Both | ROp::Either => of_type(16, BOOLEAN, token, typed),
-        _ => of_type(15, INTEGER, token, typed),
+        ROp::Both | ROp::Either => of_type(Rule::OperandIsBoolean, BOOLEAN, token, typed),
+        _ => of_type(Rule::OperandIsInteger, INTEGER, token, typed),
     }
 }
 
@@ -137,7 +139,7 @@ fn related(place: &Place, last: u32, left: Typed, relation: &Relation) -> Result
             if are_alike(left.type_id, right.type_id) {
                 binary(place, op, left.expr, right.expr)
             } else {
-                Err(Refusal::Broken(17, relation.right.span.last))
+                Err(Refusal::Broken(Rule::ComparedAreAlike, relation.right.span.last))
             }
         }
         _ => {
@@ -174,7 +176,7 @@ fn signed(place: &Place, sign: Option<Kind>, token: u32, typed: Typed) -> Result
     match sign {
         None => Ok(typed),
         Some(Kind::Minus) => {
-            let number = of_type(15, INTEGER, token, typed)?;
+            let number = of_type(Rule::OperandIsInteger, INTEGER, token, typed)?;
             let number = Owned::new(place.alloc, number)?;
             Ok(Typed {
                 type_id: INTEGER,
@@ -182,7 +184,7 @@ fn signed(place: &Place, sign: Option<Kind>, token: u32, typed: Typed) -> Result
             })
         }
         Some(_) => {
-            let number = of_type(15, INTEGER, token, typed)?;
+            let number = of_type(Rule::OperandIsInteger, INTEGER, token, typed)?;
             Ok(Typed {
                 type_id: INTEGER,
                 expr: number,
@@ -226,7 +228,7 @@ fn factor(place: &Place, factor: &Factor) -> Result<Typed, Refusal>
             let inner = inner.get();
             let last = inner.span.last;
             let truth = self::factor(place, inner)?;
-            let truth = of_type(16, BOOLEAN, last, truth)?;
+            let truth = of_type(Rule::OperandIsBoolean, BOOLEAN, last, truth)?;
             let truth = Owned::new(place.alloc, truth)?;
             Ok(Typed {
                 type_id: BOOLEAN,
@@ -259,7 +261,7 @@ fn designated(place: &Place, name: &Designator, meaning: Meaning) -> Result<Type
                 }),
             })
         }
-        _ => Err(Refusal::Broken(7, name.name)),
+        _ => Err(Refusal::Broken(Rule::NameHasValue, name.name)),
     }
 }
 
@@ -293,7 +295,7 @@ fn selector(place: &Place, type_id: u32, selector: &Selector) -> Result<(RStep, 
         SelectorForm::Index(index) => {
             let last = index.span.last;
             let index = expression(place, index)?;
-            let index = of_type(14, INTEGER, last, index)?;
+            let index = of_type(Rule::IndexIsInteger, INTEGER, last, index)?;
             element(place, selector.span.last, index, type_id)
         }
     }
@@ -309,7 +311,7 @@ fn field(place: &Place, token: u32, type_id: u32) -> Result<(RStep, u32), Refusa
             let number = place.field_number(type_id, token);
             numbered_field(token, types.as_slice(), number)
         }
-        _ => Err(Refusal::Broken(11, token)),
+        _ => Err(Refusal::Broken(Rule::FieldIsOfRecord, token)),
     }
 }
 
@@ -318,7 +320,7 @@ fn numbered_field(token: u32, types: &[u32], number: Option<usize>) -> Result<(R
     ensures { Answers (the_field token types.now number) result }
 {
     match number {
-        None => Err(Refusal::Broken(12, token)),
+        None => Err(Refusal::Broken(Rule::FieldIsKnown, token)),
         Some(number) => {
             let type_id = match types.get(number) {
                 Some(type_id) => *type_id,
@@ -338,6 +340,6 @@ fn element(place: &Place, token: u32, index: RExpr, type_id: u32) -> Result<(RSt
 {
     match place.types.get(type_id as usize) {
         Some(Shape::Array(_, item)) => Ok((RStep::Index(index), *item)),
-        _ => Err(Refusal::Broken(13, token)),
+        _ => Err(Refusal::Broken(Rule::ElementIsOfArray, token)),
     }
 }

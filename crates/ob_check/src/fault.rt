@@ -8,7 +8,7 @@ use thiserror::Error;
 /// Why a tree stands for no module that can be compiled.
 #[derive(Clone, Copy, Debug, PartialEq, Eq, Error)]
 pub enum CheckFault {
-    /// A rule, by its number, and the token at which it is broken.
+    /// A rule, by its number ([`Rule`](crate::Rule) names it), and the token at which it is broken.
     #[error("rule {0} is broken at token {1}")]
     Rule(u8, u32),
     /// What there is too much of, and how much there is.
@@ -26,7 +26,7 @@ impl From<Refusal> for CheckFault {
 
     fn from(refusal: Refusal) -> CheckFault {
         match refusal {
-            Refusal::Broken(rule, token) => CheckFault::Rule(rule, token),
+            Refusal::Broken(rule, token) => CheckFault::Rule(rule.number(), token),
             Refusal::OutOfMemory => CheckFault::OutOfMemory,
         }
     }

@@ -4,6 +4,7 @@ ghost use Rattle.std.specs.Prelude.{◌≡◌, ◌<◌, ◌≤◌, length, All};
 ghost use Rattle.ob_syntax.specs.Names.{standard as standard_of};
 
 use crate::refusal::Refusal;
+use crate::rules::Rule;
 use crate::scope::Scope;
 use indexmap::IndexSet;
 use ob_syntax::{Meaning, Param, Root, Shape, Standard, Token, Value};
@@ -116,12 +117,12 @@ impl<'a> Place<'a> {
         ensures { Answers (used_at (known_at self.now) token) result }
     {
         match self.meaning(self.name(token)) {
-            None => Err(Refusal::Broken(5, token)),
+            None => Err(Refusal::Broken(Rule::NameIsDeclared, token)),
             Some(Meaning::Variable(owner, root, type_id)) => {
                 if self.is_within_reach(owner, root) {
                     Ok(Meaning::Variable(owner, root, type_id))
                 } else {
-                    Err(Refusal::Broken(6, token))
+                    Err(Refusal::Broken(Rule::VariableIsWithinReach, token))
                 }
             }
             Some(meaning) => Ok(meaning),
@@ -134,7 +135,7 @@ impl<'a> Place<'a> {
     {
         let name = self.name(token);
         if self.scope.is_declared(name) {
-            return Err(Refusal::Broken(3, token));
+            return Err(Refusal::Broken(Rule::NameIsNew, token));
         }
         self.scope.set(name, None)?;
         Ok(())

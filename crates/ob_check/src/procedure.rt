@@ -5,11 +5,13 @@ ghost use Rattle.ob_syntax.specs.Declarations.{drafted, heading as heading_at, c
 ghost use Rattle.ob_syntax.specs.Declarations.{declarations as declarations_of};
 ghost use Rattle.ob_syntax.specs.Declarations.{procedure as procedure_of};
 ghost use Rattle.ob_check.specs.Judging.{known_at, Gives, Widens, Declares, Drafts};
+ghost use Rattle.ob_check.specs.Rules.{rule_number};
 
 use crate::declaration::{constants, sections, types, variables};
 use crate::node::nodes_of;
 use crate::place::Place;
 use crate::refusal::Refusal;
+use crate::rules::Rule;
 use crate::scope::Scope;
 use crate::statement::statements;
 use ob_syntax::{Decls, Draft, Param, Proc, Section};
@@ -34,8 +36,8 @@ fn heading<'a>(place: &mut Place<'a>, name: u32, list: &[Section]) -> Result<Seq
 }
 
 /// The name after END is the name in front; else this rule is broken.
-pub fn closed(place: &Place, rule: u8, name: u32, close: u32) -> Result<(), Refusal>
-    ensures { Widens (closed_at rule (known_at place.now) name close) result (known_at place.now) }
+pub fn closed(place: &Place, rule: Rule, name: u32, close: u32) -> Result<(), Refusal>
+    ensures { Widens (closed_at (rule_number rule) (known_at place.now) name close) result (known_at place.now) }
 {
     if place.name(close) == place.name(name) {
         Ok(())
@@ -90,7 +92,7 @@ fn procedure<'a>(place: &mut Place<'a>, procs: &mut Vec<Draft>, proc: &Proc) -> 
     procs.push(begun(place.alloc, place.here, proc.name))?;
     let vars = declarations(place, procs, &proc.decls)?;
     let body = statements(place, proc.body.as_slice())?;
-    closed(place, 2, proc.name, proc.close)?;
+    closed(place, Rule::ProcedureEndsWithItsName, proc.name, proc.close)?;
     let nodes = nodes_of(place.tokens, proc.body.as_slice())?;
     procs[number] = Draft {
         id: place.here,

@@ -8,6 +8,7 @@ use crate::node::nodes_of;
 use crate::place::{FieldNames, Place};
 use crate::procedure::{begun, closed, declarations};
 use crate::refusal::Refusal;
+use crate::rules::Rule;
 use crate::scope::Scope;
 use crate::statement::statements;
 use ob_syntax::{Draft, Module, Shape, Token};
@@ -64,7 +65,7 @@ pub fn read_module<'a>(
     let mut procs = vec![in alloc; begun(alloc, 0, tree.name)]?;
     let vars = declarations(&mut place, &mut procs, &tree.decls)?;
     let body = statements(&place, tree.body.as_slice())?;
-    closed(&place, 1, tree.name, tree.close)?;
+    closed(&place, Rule::ModuleEndsWithItsName, tree.name, tree.close)?;
     let nodes = nodes_of(tokens, tree.body.as_slice())?;
     procs[0] = Draft {
         id: 0,

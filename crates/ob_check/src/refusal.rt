@@ -2,13 +2,14 @@
 
 ghost use Rattle.std.specs.Prelude.{◌≡◌};
 
+use crate::rules::Rule;
 use pra_base::OutOfMemory;
 use std::alloc::{AllocError, AllocFailed};
 
 /// A rule that is broken at a token, or want of memory.
-#[derive(Clone, Copy, Debug, PartialEq, Eq)]
+#[derive(Clone, Copy, Debug)]
 pub enum Refusal {
-    Broken(u8, u32),
+    Broken(Rule, u32),
     OutOfMemory,
 }
 

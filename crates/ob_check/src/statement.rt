@@ -18,6 +18,7 @@ ghost use Rattle.ob_check.specs.Judging.{known_at, Answers};
 use crate::expression::{BOOLEAN, INTEGER, are_alike, expression, of_type, selected};
 use crate::place::Place;
 use crate::refusal::Refusal;
+use crate::rules::Rule;
 use ob_syntax::{
     Arm, Designator, Expr, FactorForm, Meaning, Param, RArg, RArm, RExpr, RStmt, RVar, Standard,
     Stmt, StmtForm, Typed,
@@ -39,7 +40,7 @@ fn target(place: &Place, name: &Designator, meaning: Meaning) -> Result<RVar, Re
                 type_id,
             })
         }
-        _ => Err(Refusal::Broken(10, name.name)),
+        _ => Err(Refusal::Broken(Rule::TargetIsVariable, name.name)),
     }
 }
 
@@ -49,7 +50,7 @@ fn assigned(token: u32, variable: RVar, value: Typed) -> Result<RStmt, Refusal>
     if are_alike(variable.type_id, value.type_id) {
         Ok(RStmt::Assign(variable, value.expr))
     } else {
-        Err(Refusal::Broken(18, token))
+        Err(Refusal::Broken(Rule::AssignedAreAlike, token))
     }
 }
 
@@ -58,7 +59,7 @@ fn condition(place: &Place, expr: &Expr) -> Result<RExpr, Refusal>
     ensures { Answers (condition_at (known_at place.now) expr.now) result }
 {
     let test = expression(place, expr)?;
-    of_type(19, BOOLEAN, expr.span.last, test)
+    of_type(Rule::ConditionIsBoolean, BOOLEAN, expr.span.last, test)
 }
 
 /// Whether an expression is nothing but a name with its selectors.
@@ -80,26 +81,20 @@ fn is_designator(expr: &Expr) -> bool
     }
 }
 
+#[tactic(auto, using(crate::proofs::Lent::lent_is))]
 fn lent_variable(type_id: u32, token: u32, typed: Typed) -> Result<RVar, Refusal>
     ensures { Answers (lent_variable_of type_id token typed) result }
 {
-    let Typed {
-        type_id: its_type,
-        expr,
-    } = typed;
-    match expr {
-        RExpr::Var(variable) => {
+    let its_type = typed.type_id;
+    match typed.expr.into_variable() {
+        Some(variable) => {
             if its_type == type_id {
                 Ok(variable)
             } else {
-                Err(Refusal::Broken(23, token))
+                Err(Refusal::Broken(Rule::ArgumentIsVariable, token))
             }
         }
-        RExpr::Number(_) => Err(Refusal::Broken(23, token)),
-        RExpr::Truth(_) => Err(Refusal::Broken(23, token)),
-        RExpr::Negate(_) => Err(Refusal::Broken(23, token)),
-        RExpr::Not(_) => Err(Refusal::Broken(23, token)),
-        RExpr::Binary(_, _, _) => Err(Refusal::Broken(23, token)),
+        None => Err(Refusal::Broken(Rule::ArgumentIsVariable, token)),
     }
 }
 
@@ -111,7 +106,7 @@ fn lent(place: &Place, type_id: u32, expr: &Expr) -> Result<RVar, Refusal>
     if is_designator(expr) {
         lent_variable(type_id, expr.span.last, typed)
     } else {
-        Err(Refusal::Broken(23, expr.span.last))
+        Err(Refusal::Broken(Rule::ArgumentIsVariable, expr.span.last))
     }
 }
 
@@ -120,7 +115,7 @@ fn passed(place: &Place, type_id: u32, expr: &Expr) -> Result<RExpr, Refusal>
     ensures { Answers (passed_at (known_at place.now) type_id expr.now) result }
 {
     let typed = expression(place, expr)?;
-    of_type(22, type_id, expr.span.last, typed)
+    of_type(Rule::ArgumentHasItsType, type_id, expr.span.last, typed)
 }
 
 fn argument(place: &Place, param: Param, expr: &Expr) -> Result<RArg, Refusal>
@@ -175,7 +170,7 @@ fn standard_call(
 {
     match which {
         Standard::Read => match exprs {
-            [] => Err(Refusal::Broken(20, last)),
+            [] => Err(Refusal::Broken(Rule::ArgumentsAreAsMany, last)),
             [expr, more @ ..] => {
                 let variable = lent(place, INTEGER, expr)?;
                 beyond(place, more)?;
@@ -183,7 +178,7 @@ fn standard_call(
             }
         },
         Standard::Write => match exprs {
-            [] => Err(Refusal::Broken(20, last)),
+            [] => Err(Refusal::Broken(Rule::ArgumentsAreAsMany, last)),
             [expr, more @ ..] => {
                 let value = passed(place, INTEGER, expr)?;
                 beyond(place, more)?;
@@ -204,7 +199,7 @@ fn counted(token: u32, wanted: usize, given: usize, call: RStmt) -> Result<RStmt
     if wanted == given {
         Ok(call)
     } else {
-        Err(Refusal::Broken(20, token))
+        Err(Refusal::Broken(Rule::ArgumentsAreAsMany, token))
     }
 }
 
@@ -234,7 +229,7 @@ fn called(
     match meaning {
         Meaning::Procedure(id) => procedure_call(place, last, id, exprs),
         Meaning::Standard(which) => standard_call(place, last, which, exprs),
-        _ => Err(Refusal::Broken(9, name)),
+        _ => Err(Refusal::Broken(Rule::NameIsProcedure, name)),
     }
 }
 

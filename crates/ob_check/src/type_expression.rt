@@ -9,6 +9,7 @@ ghost use Rattle.ob_check.specs.Judging.{known_at, fields_at, Gives, Widens};
 use crate::constant::array_length;
 use crate::place::{FieldNames, Place};
 use crate::refusal::Refusal;
+use crate::rules::Rule;
 use ob_syntax::{Meaning, NameList, Shape, TypeExpr, TypeForm};
 use pra_list::Seq;
 
@@ -20,7 +21,7 @@ pub fn type_expression<'a>(place: &mut Place<'a>, shape: &TypeExpr) -> Result<u3
     match &shape.form {
         TypeForm::Name(name) => match place.used(*name)? {
             Meaning::TypeName(type_id) => Ok(type_id),
-            _ => Err(Refusal::Broken(8, *name)),
+            _ => Err(Refusal::Broken(Rule::NameIsType, *name)),
         },
         TypeForm::Array(count, item) => {
             let count = array_length(place, count.get())?;
@@ -76,7 +77,7 @@ fn field_list<'a>(
     for token in list.names.as_slice() {
         let name = place.name(*token);
         if !names.declare(name)? {
-            return Err(Refusal::Broken(4, *token));
+            return Err(Refusal::Broken(Rule::FieldNameIsNew, *token));
         }
     }
     let type_id = type_expression(place, &list.shape)?;

@@ -10,3 +10,4 @@ pub mod FormsAreChosen
 pub mod OneForm
 pub mod FormsAdvance
 pub mod NumbersInTrees
+pub mod KindsAreEqual

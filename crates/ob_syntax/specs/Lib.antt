@@ -16,3 +16,4 @@ pub mod WellFormed
 pub mod Whole
 pub mod Kinds
 pub mod Numbers
+pub mod Variables

@@ -101,8 +101,8 @@ pub enum RArg {
     Lent(RVar),
 }
 
+/// An expression. A chain of operators is as deep to the left as it is long.
 #[cycle(resolved_expressions)]
-#[derive(Drop)]
 pub enum RExpr {
     Number(i32),
     Truth(bool),
@@ -110,6 +110,45 @@ pub enum RExpr {
     Negate(Owned<RExpr>),
     Not(Owned<RExpr>),
     Binary(ROp, Owned<RExpr>, Owned<RExpr>),
+}
+
+impl RExpr {
+    ghost use Rattle.std.specs.Prelude.{◌≡◌};
+    ghost use Rattle.ob_syntax.specs.Variables.{variable_of};
+
+    /// The variable that the expression is, or None where it is another one.
+    pub fn into_variable(self) -> Option<RVar>
+        ensures { result ≡ variable_of self }
+    {
+        match self {
+            RExpr::Var(variable) => Some(variable),
+            RExpr::Number(_) | RExpr::Truth(_) => None,
+            RExpr::Negate(_) | RExpr::Not(_) => None,
+            RExpr::Binary(_, _, _) => None,
+        }
+    }
+}
+
+impl Drop for RExpr {
+    /// Gives up left operands one after the other, so that a chain takes no more stack than one of
+    /// its operators.
+    #[cycle(resolved_expressions)]
+    fn drop(mut self) {
+        loop {
+            match self {
+                RExpr::Number(_) | RExpr::Truth(_) => return,
+                RExpr::Var(variable) => {
+                    drop(variable);
+                    return;
+                }
+                RExpr::Negate(inner) | RExpr::Not(inner) => self = inner.into_inner(),
+                RExpr::Binary(_, left, right) => {
+                    drop(right.into_inner());
+                    self = left.into_inner();
+                }
+            }
+        }
+    }
 }
 
 /// A variable with its selectors, and the type of the whole.
