@@ -9,7 +9,7 @@ use Rattle.ob_parse.specs.declared.cursor.Parser.{Parser}
 use Rattle.ob_parse.specs.Reading.{left, place, IsNext}
 use Rattle.ob_parse.proofs.PhraseUnderway.{Waits, opened_only, taken_only}
 
-abbrev behind_target : List Symbol
+abbrev pub behind_target : List Symbol
 behind_target = phrase level Selectors ∷ token Becomes ∷ phrase level Expression ∷ []
 
 pub assigned : (room : ℕ) (p q : Parser) → IsNext Ident p q → behind_name (first (left q)) ≡ Some assignment
@@ -29,7 +29,7 @@ assigned room p q n is = record {
       taken_only Ident behind_target next after (depth Action f) g.0 g.1 g.2 g.3;
 }
 
-abbrev behind_procedure : List Symbol
+abbrev pub behind_procedure : List Symbol
 behind_procedure = phrase level ActualParameters ∷ []
 
 pub called : (room : ℕ) (p q : Parser) → IsNext Ident p q → behind_name (first (left q)) ≡ Some call → Waits Action (phrase level ActualParameters ∷ []) room (λ j v. tree_by call (place p) j (place p, v)) p q

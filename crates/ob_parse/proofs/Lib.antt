@@ -5,3 +5,5 @@ pub mod PhrasesAdvance
 pub mod AssignmentOrCall
 pub mod PhraseUnderway
 pub mod KindsLeft
+pub mod EachReads
+pub mod TreeOrRefusal

@@ -3,8 +3,8 @@
 //! [`parse`] gives the tree exactly where the tokens are a module of depth at most 64, and else the
 //! first token that no such module has there. Read first `Grammar`, `Tree` and `Whole` in the specs
 //! of ob_syntax, then `Reading`, which says what each function here promises of its phrase. The
-//! layer above may use the laws of trees in ob_syntax: there is one tree, and its numbers are those
-//! of tokens.
+//! layer above may use the laws of trees in ob_syntax, that there is one tree and that its numbers
+//! are those of tokens, and the law here, that each token list has a tree or a refusal.
 //!
 //! A predictive parser, production by production in the order of the grammar: each function reads
 //! the phrase of its name. It recurs only where phrases nest, and `room` says how much deeper they
@@ -18,6 +18,7 @@ ghost use Rattle.ob_syntax.specs.Whole.{DeepensAt};
 mod cursor;
 mod declaration;
 mod expression;
+pub mod laws;
 mod list;
 mod statement;
 mod types;

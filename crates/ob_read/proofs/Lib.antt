@@ -2,3 +2,6 @@ pub mod Rungs
 mod Fronts
 mod Causes
 pub mod Reading
+mod EachIsRead
+mod Exactly
+mod FirstRule

@@ -15,7 +15,7 @@ use Rattle.ob_read.specs.declared.fault.LimitFault.TheVariants.{Count, Depth}
 use Rattle.ob_read.specs.declared.fault.ReadFault.{ReadFault}
 use Rattle.ob_read.specs.declared.fault.ReadFault.TheVariants.{Source, Limit, OutOfMemory}
 use Rattle.ob_read.specs.Ladder.{Then, Stops, IsRung}
-use Rattle.ob_read.specs.Source.{IsShort, IsTooLong, Scanned, HasTokens, HasNoTokens, AreFew, AreOver, ParsedText, HasTree, HasNoModule, IsTooDeep, HasNoTree, WellFormedText, HasReading, BreaksRule, ReadText, StandsFor, HasTooMuch, IsRead, IsUnreadable}
+use Rattle.ob_read.specs.Source.{IsShort, IsTooLong, Scanned, HasTokens, HasNoTokens, AreFew, AreOver, ParsedText, HasTree, HasNoModule, IsTooDeep, HasNoTree, WellFormedText, HasReading, BreaksRule, ReadText, StandsFor, HasTooMuch, HasText, IsRead, IsUnparsed, IsUnreadable}
 use Rattle.ob_read.proofs.Rungs.{over, narrowed}
 use Rattle.ob_read.proofs.Fronts.{one_place, no_place, stops_or_deepens}
 
@@ -188,6 +188,36 @@ unfolding Climbed
 ladder = over _ _ _ _ size (over _ _ _ _ tokens (over _ _ _ _ count (over _ _ _ _ tree
     (over _ _ _ _ rules limits))))
 
+-- ---- up to the tree
+
+ParsedClimb : List ℕ → ParsedText → Type 0
+ParsedClimb = Then IsShort (Then HasTokens (Then AreFew HasTree))
+
+parsed_climb : (bytes : List ℕ) (t : ParsedText) → HasText bytes t → ParsedClimb bytes t
+unfolding ParsedClimb
+parsed_climb bytes t (same, p) = record {
+  between = bytes;
+  below = (p.scanned.short, refl);
+  above = record {
+    between = record { bytes = bytes; tokens = t.tokens };
+    below = (p.scanned.scanned, refl);
+    above = record {
+      between = record { bytes = bytes; tokens = t.tokens };
+      below = (p.scanned.few, refl);
+      above = (p.parsed, same, refl);
+    };
+  };
+}
+
+parsed_ladder : IsRung ParsedClimb IsUnparsed
+unfolding ParsedClimb
+parsed_ladder = over _ _ _ _ size (over _ _ _ _ tokens (over _ _ _ _ count tree))
+
+pub one_text_or_fault : IsRung HasText IsUnparsed
+one_text_or_fault = narrowed ParsedClimb HasText IsUnparsed parsed_climb parsed_ladder
+
+-- ---- the whole
+
 pub one_reading : IsRung IsRead IsUnreadable
 one_reading = narrowed Climbed IsRead IsUnreadable climbed ladder
 
@@ -204,16 +234,19 @@ never_memory bytes f (inr s) is = behind s.above
     behind_tree (inl u) = let e = sym is ∙ u.told in cc
     behind_tree (inr u) = let e = sym is ∙ u.above.told in cc
 
-    behind_count : {t : Scanned} → Stops HasNoTree HasTree (Stops BreaksRule HasReading HasTooMuch) t f → ⊥
+    behind_count : {t : Scanned} →
+        Stops HasNoTree HasTree (Stops BreaksRule HasReading HasTooMuch) t f → ⊥
     behind_count (inl u) = no_tree_told _ u
     behind_count (inr u) = behind_tree u.above
 
     behind_tokens : {t : Scanned} →
-        Stops AreOver AreFew (Stops HasNoTree HasTree (Stops BreaksRule HasReading HasTooMuch)) t f → ⊥
+        Stops AreOver AreFew (Stops HasNoTree HasTree
+        (Stops BreaksRule HasReading HasTooMuch)) t f → ⊥
     behind_tokens (inl u) = let e = sym is ∙ u.1 in cc
     behind_tokens (inr u) = behind_count u.above
 
     behind : {a : List ℕ} →
-        Stops HasNoTokens HasTokens (Stops AreOver AreFew (Stops HasNoTree HasTree (Stops BreaksRule HasReading HasTooMuch))) a f → ⊥
+        Stops HasNoTokens HasTokens (Stops AreOver AreFew (Stops HasNoTree HasTree
+        (Stops BreaksRule HasReading HasTooMuch))) a f → ⊥
     behind (inl u) = let e = sym is ∙ u.told in cc
     behind (inr u) = behind_tokens u.above

@@ -26,3 +26,7 @@ pub record IsRung {A B F : Type 0} (Climb : A → B → Type 0) (Stop : A → F 
   pub one_way : (a : A) (b c : B) → Climb a b → Climb a c → b ≡ c
   pub one_fault : (a : A) (f g : F) → Stop a f → Stop a g → f ≡ g
   pub never_both : (a : A) (b : B) (f : F) → Climb a b → Stop a f → ⊥
+
+-- Each thing gets over the rung or stops at it.
+abbrev pub IsExhaustive : {A B F : Type 0} → (A → B → Type 0) → (A → F → Type 0) → Type 0
+IsExhaustive {A} {B} {F} Climb Stop = (a : A) → ((b : B) × Climb a b) ⊎ ((f : F) × Stop a f)

@@ -1,7 +1,7 @@
 -- What a source is, by how far it gets: it has at most so many bytes, it has a token list, of at
 -- most so many tokens, they are a module of at most so much depth, which breaks no rule, and of
 -- nothing it has too much. What is told of a source is where it stops.
-use Rattle.std.specs.Prelude.{◌≡◌, ◌⊎◌, ℕ, ◌+◌, ◌<◌, ◌≤◌, List, Some, length}
+use Rattle.std.specs.Prelude.{◌≡◌, ◌⊎◌, ℕ, ◌+◌, ◌<◌, ◌≤◌, List, Some, length, Result, IsErrOf}
 use Rattle.pra_base.specs.declared.limit.LimitKind.{LimitKind}
 use Rattle.pra_base.specs.declared.limit.LimitKind.TheVariants as limit
 use Rattle.ob_syntax.specs.declared.token.Token.{Token}
@@ -17,7 +17,7 @@ use Rattle.ob_check.specs.Checking.{IsChecked}
 use Rattle.ob_read.specs.declared.fault.SourceFault.TheVariants.{Lex, Grammar, Rule}
 use Rattle.ob_read.specs.declared.fault.LimitFault.TheVariants.{Count, Depth}
 use Rattle.ob_read.specs.declared.fault.ReadFault.{ReadFault}
-use Rattle.ob_read.specs.declared.fault.ReadFault.TheVariants.{Source, Limit}
+use Rattle.ob_read.specs.declared.fault.ReadFault.TheVariants.{Source, Limit, OutOfMemory}
 use Rattle.ob_read.specs.Ladder.{Stops}
 
 -- ---- the first rung: at most 1,048,576 bytes
@@ -120,11 +120,24 @@ pub record HasTooMuch (w : WellFormedText) (f : ReadFault) : Type 0 where
 
 -- ---- the whole ladder
 
+-- the answer is this refusal, unless memory is wanting
+abbrev pub IsErrUnlessMemory : {T : Type 0} → Result T ReadFault → ReadFault → Type 0
+IsErrUnlessMemory answer fault = IsErrOf answer fault ⊎ IsErrOf answer OutOfMemory
+
+-- These are the tokens and the tree of the bytes.
+abbrev pub HasText : List ℕ → ParsedText → Type 0
+HasText bytes t = (t.bytes ≡ bytes) × IsParsed bytes t.tokens t.tree
+
 -- These are the tokens and the tree of the bytes, and the module that they stand for.
 abbrev pub IsRead : List ℕ → ReadText → Type 0
 IsRead bytes t =
     (t.text.bytes ≡ bytes) × IsParsed bytes t.text.tokens t.text.tree
     × IsChecked bytes t.text.tokens t.text.tree t.checked
+
+-- The bytes stop before they have a tree, with this fault.
+abbrev pub IsUnparsed : List ℕ → ReadFault → Type 0
+IsUnparsed =
+    Stops IsTooLong IsShort (Stops HasNoTokens HasTokens (Stops AreOver AreFew HasNoTree))
 
 -- The bytes stop at a rung, with this fault.
 abbrev pub IsUnreadable : List ℕ → ReadFault → Type 0

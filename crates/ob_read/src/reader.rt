@@ -1,10 +1,14 @@
 // Tokens, tree and checked module of a source, by the scanner, the parser and the checker.
 
-ghost use Rattle.std.specs.Prelude.{◌≡◌, ◌≢◌, ◌≤◌, length, IfOk, IfErr};
+ghost use Rattle.std.specs.Prelude.{◌≡◌, ◌≢◌, ◌≤◌, List, length, IfOk, IfErr, IsOkUnless};
+ghost use Rattle.ob_syntax.specs.declared.checked.Checked.{Checked};
+ghost use Rattle.ob_syntax.specs.declared.token.Token.{Token};
+ghost use Rattle.ob_syntax.specs.declared.tree.Module.{Module};
 ghost use Rattle.ob_syntax.specs.Tokens.{SlicesSource};
 ghost use Rattle.ob_syntax.specs.Source.{most_bytes, byte_of, IsScanned, IsParsed};
 ghost use Rattle.ob_check.specs.Checking.{IsChecked};
-ghost use Rattle.ob_read.specs.Source.{IsUnreadable};
+ghost use Rattle.ob_read.specs.declared.fault.ReadFault.{ReadFault};
+ghost use Rattle.ob_read.specs.Source.{IsUnparsed, IsUnreadable, IsErrUnlessMemory};
 
 use crate::fault::{LimitFault, ReadFault, SourceFault};
 use ob_check::{CheckFault, check};
@@ -36,6 +40,20 @@ pub fn read(alloc: Global, bytes: &[u8]) -> Result<Parsed, ReadFault>
     ensures found { IfOk result (λ p. IsParsed bytes.now p.tokens.items p.tree) }
     ensures spans { IfOk result (λ p. SlicesSource bytes.now p.tokens.items) }
     ensures cause { IfErr result (λ f. f ≢ ReadFault.OutOfMemory → IsUnreadable bytes.now f) }
+
+    // And each source is answered so, unless memory is wanting.
+    ensures ok_where { (tokens : List Token) (tree : Module) → IsParsed bytes.now tokens tree →
+        IsOkUnless result ReadFault.OutOfMemory }
+    ensures fault_where { (f : ReadFault) → IsUnparsed bytes.now f → IsErrUnlessMemory result f }
+{
+    text_of(alloc, bytes)
+}
+
+fn text_of(alloc: Global, bytes: &[u8]) -> Result<Parsed, ReadFault>
+    requires { length bytes.now ≤ most_bytes }
+    ensures found { IfOk result (λ p. IsParsed bytes.now p.tokens.items p.tree) }
+    ensures spans { IfOk result (λ p. SlicesSource bytes.now p.tokens.items) }
+    ensures cause { IfErr result (λ f. f ≢ ReadFault.OutOfMemory → IsUnparsed bytes.now f) }
 {
     let tokens = tokens_of(alloc, bytes)?;
     let tree = tree_of(alloc, bytes, &tokens)?;
@@ -46,7 +64,7 @@ fn tokens_of(alloc: Global, bytes: &[u8]) -> Result<Vec<Token>, ReadFault>
     requires { length bytes.now ≤ most_bytes }
     ensures found { IfOk result (λ tokens. IsScanned bytes.now tokens.items) }
     ensures spans { IfOk result (λ tokens. SlicesSource bytes.now tokens.items) }
-    ensures cause { IfErr result (λ f. f ≢ ReadFault.OutOfMemory → IsUnreadable bytes.now f) }
+    ensures cause { IfErr result (λ f. f ≢ ReadFault.OutOfMemory → IsUnparsed bytes.now f) }
 {
     match lex(alloc, bytes) {
         Ok(tokens) => Ok(tokens),
@@ -62,7 +80,7 @@ fn tokens_of(alloc: Global, bytes: &[u8]) -> Result<Vec<Token>, ReadFault>
 fn tree_of(alloc: Global, bytes: &[u8], tokens: &[Token]) -> Result<Module, ReadFault>
     requires { IsScanned bytes.now tokens.now }
     ensures found { IfOk result (IsParsed bytes.now tokens.now) }
-    ensures cause { IfErr result (λ f. f ≢ ReadFault.OutOfMemory → IsUnreadable bytes.now f) }
+    ensures cause { IfErr result (λ f. f ≢ ReadFault.OutOfMemory → IsUnparsed bytes.now f) }
 {
     match parse(alloc, tokens) {
         Ok(tree) => Ok(tree),
@@ -92,6 +110,25 @@ pub fn resolve(
     requires parsed { IsParsed bytes.now tokens.now tree }
     requires spans { SlicesSource bytes.now tokens.now }
     // The checked module is that of the bytes, and a fault is the one that they have.
+    ensures found { IfOk result (IsChecked bytes.now tokens.now tree) }
+    ensures cause { IfErr result (λ f. f ≢ ReadFault.OutOfMemory → IsUnreadable bytes.now f) }
+
+    // And each module is answered so, unless memory is wanting.
+    ensures ok_where { (c : Checked) → IsChecked bytes.now tokens.now tree c →
+        IsOkUnless result ReadFault.OutOfMemory }
+    ensures fault_where { (f : ReadFault) → IsUnreadable bytes.now f → IsErrUnlessMemory result f }
+{
+    checked_of(alloc, bytes, tokens, tree)
+}
+
+fn checked_of(
+    alloc: Global,
+    bytes: &[u8],
+    tokens: &[Token],
+    tree: Module,
+) -> Result<Checked, ReadFault>
+    requires parsed { IsParsed bytes.now tokens.now tree }
+    requires spans { SlicesSource bytes.now tokens.now }
     ensures found { IfOk result (IsChecked bytes.now tokens.now tree) }
     ensures cause { IfErr result (λ f. f ≢ ReadFault.OutOfMemory → IsUnreadable bytes.now f) }
 {

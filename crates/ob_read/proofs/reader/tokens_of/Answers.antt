@@ -4,7 +4,7 @@ use Rattle.ob_syntax.specs.Source.{AreTooMany}
 use Rattle.ob_lex.specs.Scanning.{IsCause}
 use Rattle.ob_read.specs.declared.fault.LimitFault.TheVariants.{Count}
 use Rattle.ob_read.specs.declared.fault.ReadFault.TheVariants.{Limit}
-use Rattle.ob_read.specs.Source.{IsUnreadable}
+use Rattle.ob_read.specs.Source.{IsUnparsed}
 use Rattle.ob_read.proofs.Causes.{too_many}
 use Rattle.ob_read.proofs.reader.tokens_of.Goals as goal
 
@@ -15,5 +15,5 @@ returns-in-Err-TokensOver-clause-cause c =
     let many : AreTooMany bytes count =
     subst (IsCause bytes) c.in-Err-TokensOver.field-0-is c.in-Err-TokensOver.ensures.cause in
     let same : c.from.result ≡ count = search rules in
-    λ other. subst (λ (n : ℕ). IsUnreadable bytes (Limit (Count limit.Tokens n))) (sym same)
+    λ other. subst (λ (n : ℕ). IsUnparsed bytes (Limit (Count limit.Tokens n))) (sym same)
     (too_many bytes count many)
