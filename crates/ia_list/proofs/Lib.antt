@@ -1,0 +1,11 @@
+pub mod DigitsRead
+pub mod NumbersRead
+pub mod OperandsRead
+pub mod NamesRead
+pub mod LineRead
+pub mod LineSize
+pub mod LinesRead
+pub mod TextsRead
+pub mod CodeListed
+pub mod LinesTold
+pub mod TextsOnce
