@@ -35,7 +35,7 @@ same_words m n a b hm hn e =
 
 -- The others.
 
-same_line : (place : ℕ) (i j : Ins) (a b : List ℕ) → place < 2 ^ 31 → IsSound i → IsSound j → line place i ++ a ≡ line place j ++ b → (i ≡ j) × (a ≡ b)
+pub same_line : (place : ℕ) (i j : Ins) (a b : List ℕ) → place < 2 ^ 31 → IsSound i → IsSound j → line place i ++ a ≡ line place j ++ b → (i ≡ j) × (a ≡ b)
 same_line place i j a b h si sj e =
     let same : i ≡ j = some_same i j (sym (line_read place i a si h) ∙ ap (instruction_at place) e ∙ line_read place j b sj h) in
     (same, behind_same (line place i) a b (e ∙ ap (λ k. line place k ++ b) (sym same)))

@@ -12,20 +12,24 @@ use Rattle.ia_list.specs.ListText.{lines, text_of, IsListText, max_text_bytes, H
 use Rattle.ia_list.proofs.LineSize.{lines_some}
 use Rattle.ia_list.proofs.LinesRead.{code_small, text_begins}
 
--- one more line behind others
-pub lines-snoc : (place : ℕ) (ins : List Ins) (i : Ins) → lines place (ins ++ i ∷ []) ≡ lines place ins ++ line (place + length (bytes_of_all ins)) i
-lines-snoc place [] i = append-nil (line place i) ∙ ap (λ p. line p i) (omega arith)
-lines-snoc place (j ∷ ins) i =
-    let same : place + length (bytes_of j) + length (bytes_of_all ins) ≡ place + length (bytes_of j ++ bytes_of_all ins) = omega (arith, length-append (bytes_of j) (bytes_of_all ins)) in
-    ap (λ l. line place j ++ l) (lines-snoc (place + length (bytes_of j)) ins i)
-    ∙ sym (append_assoc (line place j) (lines (place + length (bytes_of j)) ins) _)
-    ∙ ap (λ p. (line place j ++ lines (place + length (bytes_of j)) ins) ++ line p i) same
+-- lines behind others
+pub lines-append : (place : ℕ) (is js : List Ins) → lines place (is ++ js) ≡ lines place is ++ lines (place + length (bytes_of_all is)) js
+lines-append place [] js = ap (λ p. lines p js) (omega arith)
+lines-append place (i ∷ is) js =
+    let same : place + length (bytes_of i) + length (bytes_of_all is) ≡ place + length (bytes_of i ++ bytes_of_all is) = omega (arith, length-append (bytes_of i) (bytes_of_all is)) in
+    ap (λ l. line place i ++ l) (lines-append (place + length (bytes_of i)) is js)
+    ∙ sym (append_assoc (line place i) (lines (place + length (bytes_of i)) is) _)
+    ∙ ap (λ p. (line place i ++ lines (place + length (bytes_of i)) is) ++ lines p js) same
+
+pub text-append : (words : ℕ) (is js : List Ins) → text_of words (is ++ js) ≡ text_of words is ++ lines (length (bytes_of_all is)) js
+text-append words is js =
+    ap (λ l. data_line words ++ l) (lines-append 0 is js)
+    ∙ sym (append_assoc (data_line words) (lines 0 is) _)
+    ∙ ap (λ p. text_of words is ++ lines p js) (omega arith)
 
 pub text-snoc : (words : ℕ) (ins : List Ins) (i : Ins) → text_of words (ins ++ i ∷ []) ≡ text_of words ins ++ line (length (bytes_of_all ins)) i
 text-snoc words ins i =
-    ap (λ l. data_line words ++ l) (lines-snoc 0 ins i)
-    ∙ sym (append_assoc (data_line words) (lines 0 ins) _)
-    ∙ ap (λ p. text_of words ins ++ line p i) (omega arith)
+    text-append words ins (i ∷ []) ∙ ap (λ l. text_of words ins ++ l) (append-nil (line (length (bytes_of_all ins)) i))
 
 pub code-snoc : (ins : List Ins) (i : Ins) → bytes_of_all (ins ++ i ∷ []) ≡ bytes_of_all ins ++ bytes_of i
 code-snoc ins i = bytes_of_all-append ins (i ∷ []) ∙ ap (λ l. bytes_of_all ins ++ l) (append-nil (bytes_of i))
