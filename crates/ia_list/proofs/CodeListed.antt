@@ -1,5 +1,5 @@
 -- What was written of a code so far, and what follows where it stops.
-use Rattle.std.proofs.Common.{◌≡◌, ℕ, ◌+◌, ◌≤◌, ◌<◌, List, [], ◌∷◌, ◌++◌, length, take, drop, refl, sym, ap, ◌∙◌, arith, append_assoc, length-append, length-take, length-drop, append-nil, take-append-drop}
+use Rattle.std.proofs.Common.{◌≡◌, ℕ, ◌+◌, ◌≤◌, ◌<◌, List, [], ◌∷◌, ◌++◌, length, take, drop, refl, sym, ap, ◌∙◌, subst, arith, append_assoc, length-append, length-take, length-drop, append-nil, take-append-drop}
 use Rattle.std.proofs.lemmas.List.{drop-drop}
 use Rattle.ia_code.specs.declared.ins.Ins.{Ins}
 use Rattle.ia_code.specs.declared.image.Image.{Image}
@@ -8,7 +8,7 @@ use Rattle.ia_code.specs.Listing.{bytes_of_all, AreSound}
 use Rattle.ia_code.proofs.EncodingSize.{code_of}
 use Rattle.ia_code.proofs.Listings.{sound_append}
 use Rattle.ia_list.specs.Text.{line, data_line}
-use Rattle.ia_list.specs.ListText.{text_of, IsListText, StopsAt}
+use Rattle.ia_list.specs.ListText.{text_of, IsListText, StandsAt, StopsAt}
 use Rattle.ia_list.proofs.TextsRead.{text-snoc, code-snoc}
 
 -- the text has the data words and the code before this place
@@ -41,6 +41,12 @@ module _ (code : List ℕ) (place size : ℕ) (i : Ins) (within : place ≤ leng
   pub row_within : place + size ≤ length code
   row_within = omega (arith, row.length_is, length-take size (drop place code), length-drop place code)
 
+-- how far a text of this length has come
+pub record IsCountedTo (code : List ℕ) (words place count : ℕ) : Type 0 where
+  pub text : List ℕ
+  pub listed : IsListedTo code words place text
+  pub count_is : count ≡ length text
+
 module _ (code : List ℕ) (words place : ℕ) (text : List ℕ) (l : IsListedTo code words place text) where
   pub listed_next : (size : ℕ) (i : Ins) (longer : List ℕ) → Row (take size (drop place code)) i size → longer ≡ text ++ line place i → IsListedTo code words (place + size) longer
   listed_next size i longer row e =
@@ -54,6 +60,9 @@ module _ (code : List ℕ) (words place : ℕ) (text : List ℕ) (l : IsListedTo
         within = row_within code place size i l.within row;
         written = e ∙ ap (λ t. t ++ line place i) l.written ∙ ap (λ p. text_of words l.ins ++ line p i) l.place_is ∙ sym (text-snoc words l.ins i);
       }
+
+  pub listed_on : (next : ℕ) (longer : List ℕ) → (i : Ins) × (size : ℕ) × StandsAt code place i size × (next ≡ place + size) × (longer ≡ text ++ line place i) → IsListedTo code words next longer
+  listed_on next longer f = subst (λ p. IsListedTo code words p longer) (sym f.3) (listed_next f.1 f.0 longer f.2 f.4)
 
   pub listed_stops : place < length code → ((i : Ins) (size : ℕ) → Row (take size (drop place code)) i size → ⊥) → StopsAt code place
   listed_stops h none = record {
@@ -70,3 +79,10 @@ module _ (code : List ℕ) (words place : ℕ) (text : List ℕ) (l : IsListedTo
     none : (rest front : List ℕ) → length rest < 1 → front ++ rest ≡ front
     none [] front h = append-nil front
     none (b ∷ rest) front h = absurd (omega arith)
+
+pub counted_on : (code : List ℕ) (words place count next : ℕ) (written : List ℕ) → IsCountedTo code words place count → (i : Ins) × (size : ℕ) × StandsAt code place i size × (next ≡ place + size) × (written ≡ [] ++ line place i) → IsCountedTo code words next (count + length written)
+counted_on code words place count next written c f = record {
+  text = c.text ++ written;
+  listed = listed_on code words place c.text c.listed next (c.text ++ written) (f.0, f.1, f.2, f.3, ap (λ l. c.text ++ l) f.4);
+  count_is = omega (arith, c.count_is, length-append c.text written);
+}

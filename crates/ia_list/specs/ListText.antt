@@ -1,5 +1,5 @@
 -- The text of an image, and what the two calls answer.
-use Rattle.std.specs.Prelude.{◌≡◌, ℕ, zero, suc, ◌+◌, ◌-◌, ◌≤◌, List, [], ◌∷◌, ◌++◌, length, take}
+use Rattle.std.specs.Prelude.{◌≡◌, ℕ, zero, suc, ◌+◌, ◌-◌, ◌≤◌, List, [], ◌∷◌, ◌++◌, length, take, drop}
 use Rattle.std.specs.Prelude.{Result, Ok, Err}
 use Rattle.ia_code.specs.declared.ins.Ins.{Ins}
 use Rattle.ia_code.specs.declared.image.Image.{Image}
@@ -27,6 +27,10 @@ pub record IsListText (image : Image) (text : List ℕ) : Type 0 where
   pub listing : IsListing image.code ins
   pub written : text ≡ text_of image.data_words ins
 
+-- an instruction of this size stands at this place in the code
+abbrev pub StandsAt : List ℕ → ℕ → Ins → ℕ → Type 0
+StandsAt code place i size = Row (take size (drop place code)) i size
+
 -- What list_text answers where there is no such text: at this place, where the instructions before
 -- it end, there is code, and it begins with none of the table's.
 pub record StopsAt (code : List ℕ) (place : ℕ) : Type 0 where
@@ -41,6 +45,12 @@ pub record StopsAt (code : List ℕ) (place : ℕ) : Type 0 where
 abbrev pub IsListFault : Image → ListFault → Type 0
 IsListFault image (listing.NotInSubset place) = StopsAt image.code place
 IsListFault image listing.OutOfMemory = Unit {0}
+
+-- what is told of a place at which no instruction stands
+abbrev pub NoneStandsAt : List ℕ → ℕ → ListFault → Type 0
+NoneStandsAt code place (listing.NotInSubset told) =
+    (told ≡ place) × ((i : Ins) (size : ℕ) → StandsAt code place i size → ⊥)
+NoneStandsAt code place listing.OutOfMemory = Unit {0}
 
 -- how many bytes asm_text takes at most
 abbrev pub max_text_bytes : ℕ

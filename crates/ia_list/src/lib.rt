@@ -20,4 +20,4 @@ mod scan;
 mod table;
 
 pub use assembly::{AsmFault, MAX_TEXT_BYTES, asm_text};
-pub use listing::{ListFault, list_text};
+pub use listing::{ListFault, list_text, text_length};
