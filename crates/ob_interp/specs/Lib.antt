@@ -1,2 +1,3 @@
-pub mod Units
 pub mod Kept
+pub mod Running
+pub mod Units
