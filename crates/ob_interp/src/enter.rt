@@ -89,18 +89,18 @@ pub fn begin(
     setting: &Setting<'_>,
     running: &mut Running,
     proc: u32,
-    args: Vec<Argument>,
+    args: &[Argument],
 ) -> Result<(), AllocError>
     requires room { length running.old.calls.items + 1 < 2 ^ 32 }
-    requires few { length args.items < 2 ^ 32 }
+    requires few { length args.now < 2 ^ 32 }
     requires stack { running.old.stack ≡
         live_frames setting.now.frames.now running.old.calls.items }
     requires fits { live_frames setting.now.frames.now running.old.calls.items +
         frame_of setting.now.frames.now proc ≤ stack_limit }
     ensures calls { OnOk result (running.new.calls.items ≡
-        call_with proc args.items ∷ running.old.calls.items) }
+        call_with proc args.now ∷ running.old.calls.items) }
     ensures store { OnOk result (store_of running.new ≡
-        entered (length running.old.calls.items + 1) args.items (store_of running.old)) }
+        entered (length running.old.calls.items + 1) args.now (store_of running.old)) }
     ensures events { running.new.events ≡ running.old.events }
     ensures taken { running.new.taken ≡ running.old.taken }
     ensures units { running.new.units ≡ running.old.units }
@@ -111,7 +111,7 @@ pub fn begin(
     let mut lent = Vec::new(setting.alloc);
     running.memory.begin(setting.alloc, depth)?;
     let mut k = 0;
-    for arg in &args {
+    for arg in args {
         match arg {
             Argument::Passed(value) => {
                 let at = Location {
