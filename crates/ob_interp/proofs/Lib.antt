@@ -1,3 +1,4 @@
 pub mod Follows
 pub mod Kept
+pub mod Remaining
 pub mod Turns

@@ -16,9 +16,9 @@ use Rattle.ob_syntax.specs.declared.checked.RArm.{RArm, RArm-F, roll-RArm, fold-
 use Rattle.ob_mean.specs.declared.store.Argument.{Argument}
 use Rattle.ob_mean.specs.declared.store.LiveCall.{LiveCall}
 use Rattle.ob_mean.specs.Expressions.{Evaluation, value}
-use Rattle.ob_mean.specs.Statements.{State, Completion, Normal, Trapped, Going, Run}
-use Rattle.ob_mean.specs.Program.{body}
-use Rattle.ob_interp.specs.Units.{Counted, Halt, Done, Failed, Stopped, Counting, unit, then_go, given, halt, does, while_units, repeat_units, Granted, CountedStatement, CountedArm, in_order, on_counted, first_true, single, counted_step, counted_arm_step, counted, counted_arm, counted_all, in_call, within_stack, counted_call, granted_around}
+use Rattle.ob_mean.specs.Statements.{State, Completion, Normal, Trapped, Going, Run, arguments, stmt_step}
+use Rattle.ob_mean.specs.Program.{body, live_frames, frame_of}
+use Rattle.ob_interp.specs.Units.{Counted, Halt, Done, Failed, Stopped, Counting, unit, then_go, given, halt, does, while_units, repeat_units, Granted, CountedStatement, CountedArm, in_order, on_counted, first_true, alone, single, counted_step, counted_arm_step, counted, counted_arm, counted_all, in_call, within_stack, counted_call, granted_around}
 
 -- ---- one after the other
 
@@ -34,6 +34,13 @@ given_then (Err trap) c f g = refl
 pub chosen_then : (b : Bool) (x y : Halt) (g : Counting) → then_go (if b then x else y) g ≡ (if b then then_go x g else then_go y g)
 chosen_then true x y g = refl
 chosen_then false x y g = refl
+
+-- what follows the unit of a test
+abbrev pub while_turn : ℕ → ℕ → (Counted → Outcome) → Counting → Counting
+while_turn n granted test r d = given (test d) d (λ x. if is_true x then then_go (r d) (while_units n granted test r) else Done d)
+
+abbrev pub until_turn : ℕ → ℕ → Counting → (Counted → Outcome) → Counting
+until_turn n granted r test d = given (test d) d (λ x. if is_true x then Done d else repeat_units n granted r test d)
 
 -- ---- units are never taken back
 
@@ -157,10 +164,10 @@ module _ (program : Checked) where
   stmt_fair (RStmt-F.If arms other) = fair_from _ (record { at = λ a h. unit_adds a.granted _ (first_adds _ _ (arms_fair arms) (all_fair other) a h) })
   stmt_fair (RStmt-F.While test ts) = fair_from _ (record { at = λ a h. while_adds a.granted a.granted _ _ (in_order_adds _ (all_fair ts) a h) })
   stmt_fair (RStmt-F.Repeat ts test) = fair_from _ (record { at = λ a h. repeat_adds a.granted a.granted _ _ (in_order_adds _ (all_fair ts) a h) })
-  stmt_fair (RStmt-F.Call proc args) = fair_from _ (record { at = λ a h. unit_adds a.granted _ (call_adds _ (a.call proc.0) (h proc.0)) })
+  stmt_fair (RStmt-F.Call proc args) = fair_from _ (record { at = λ a h. unit_adds a.granted _ (call_adds (λ c. arguments program a.calls c.state.store args) (a.call proc.0) (h proc.0)) })
   stmt_fair (RStmt-F.Read v) = fair_from _ (record { at = λ a h. unit_adds a.granted _ (does_adds _) })
   stmt_fair (RStmt-F.Write e) = fair_from _ (record { at = λ a h. unit_adds a.granted _ (does_adds _) })
-  stmt_fair RStmt-F.WriteLine = fair_from _ (record { at = λ a h. unit_adds a.granted _ (does_adds _) })
+  stmt_fair RStmt-F.WriteLine = fair_from _ (record { at = λ a h. unit_adds a.granted _ (does_adds (stmt_step program RStmt-F.WriteLine (alone a.calls))) })
 
   arm_fair : (y : RArm-F ((t : RStmt) × IsFair t) ((t : RArm) × IsFairArm t)) → IsFairArm (roll-RArm (record { test = y.test; body = map (λ e. e.0) y.body }))
   arm_fair y =
@@ -177,7 +184,7 @@ module _ (program : Checked) where
   all_adds (t ∷ ts) a h = then_adds (counted program t a) (counted_all program ts a) ((fair t).at a h) (all_adds ts a h)
 
   stack_adds : (frames : List ℕ) (calls : List LiveCall) (proc : ℕ) (r : Counting) → Adds r → Adds (within_stack frames calls proc r)
-  stack_adds frames calls proc r a = record { later = λ c. later_if _ c _ _ tt (a.later c) }
+  stack_adds frames calls proc r a = record { later = λ c. later_if (nat_lt stack_limit (live_frames frames calls + frame_of frames proc)) c (Failed Stack c) (r c) tt (a.later c) }
 
   enters_adds : (depth : ℕ) (args : List Argument) (r : Counting) → Adds r → Adds (λ c. r (in_call depth args c))
   enters_adds depth args r a = record { later = λ c. a.later (in_call depth args c) }
@@ -212,7 +219,7 @@ in_order_idle (f ∷ fs) g a c le = inr (ap (λ h. then_go h (in_order fs a)) (g
 
 while_idle : (n granted : ℕ) (test : Counted → Outcome) (r : Counting) (c : Counted) → granted ≤ c.units → while_units n granted test r c ≡ Stopped c
 while_idle zero granted test r c le = refl
-while_idle (suc n) granted test r c le = unit_idle granted _ c le
+while_idle (suc n) granted test r c le = unit_idle granted (while_turn n granted test r) c le
 
 waits_then : (c : Counted) (h : Halt) (k : Counting) → Waits c h → k c ≡ Stopped c → then_go h k ≡ Stopped c
 waits_then c h k (inl e) s = ap (λ x. then_go x k) e ∙ s
@@ -220,7 +227,7 @@ waits_then c h k (inr e) s = ap (λ x. then_go x k) e
 
 repeat_idle : (n granted : ℕ) (r : Counting) (test : Counted → Outcome) (c : Counted) → granted ≤ c.units → Waits c (r c) → repeat_units n granted r test c ≡ Stopped c
 repeat_idle zero granted r test c le w = refl
-repeat_idle (suc n) granted r test c le w = waits_then c (r c) _ w (unit_idle granted _ c le)
+repeat_idle (suc n) granted r test c le w = waits_then c (r c) (unit granted (until_turn n granted r test)) w (unit_idle granted (until_turn n granted r test) c le)
 
 module _ (program : Checked) where
   abbrev IsIdle : RStmt → Type 0
@@ -237,14 +244,14 @@ module _ (program : Checked) where
   idle_from y g = subst Idles (sym (counted_roll program y)) g
 
   stmt_idle : (y : RStmt-F ((t : RStmt) × IsIdle t) ((t : RArm) × AnyArm t)) → IsIdle (roll-RStmt (map-RStmt ((t : RStmt) × IsIdle t) ((t : RArm) × AnyArm t) RStmt RArm (λ e. e.0) (λ e. e.0) y))
-  stmt_idle (RStmt-F.Assign v e) = idle_from _ (record { at = λ a c le. unit_idle a.granted _ c le })
-  stmt_idle (RStmt-F.If arms other) = idle_from _ (record { at = λ a c le. unit_idle a.granted _ c le })
+  stmt_idle (RStmt-F.Assign v e) = idle_from _ (record { at = λ a c le. unit_idle a.granted (does (stmt_step program (RStmt-F.Assign v e) (alone a.calls))) c le })
+  stmt_idle (RStmt-F.If arms other) = idle_from _ (record { at = λ a c le. unit_idle a.granted (first_true (map (counted_arm program) (map (λ e. e.0) arms)) (map (counted program) (map (λ e. e.0) other)) a) c le })
   stmt_idle (RStmt-F.While test ts) = idle_from _ (record { at = λ a c le. while_idle a.granted a.granted _ _ c le })
   stmt_idle (RStmt-F.Repeat ts test) = idle_from _ (record { at = λ a c le. repeat_idle a.granted a.granted _ _ c le (in_order_idle _ (all_idle ts) a c le) })
-  stmt_idle (RStmt-F.Call proc args) = idle_from _ (record { at = λ a c le. unit_idle a.granted _ c le })
-  stmt_idle (RStmt-F.Read v) = idle_from _ (record { at = λ a c le. unit_idle a.granted _ c le })
-  stmt_idle (RStmt-F.Write e) = idle_from _ (record { at = λ a c le. unit_idle a.granted _ c le })
-  stmt_idle RStmt-F.WriteLine = idle_from _ (record { at = λ a c le. unit_idle a.granted _ c le })
+  stmt_idle (RStmt-F.Call proc args) = idle_from _ (record { at = λ a c le. unit_idle a.granted (λ d. given (arguments program a.calls d.state.store args) d (λ xs. a.call proc.0 xs d)) c le })
+  stmt_idle (RStmt-F.Read v) = idle_from _ (record { at = λ a c le. unit_idle a.granted (does (stmt_step program (RStmt-F.Read v) (alone a.calls))) c le })
+  stmt_idle (RStmt-F.Write e) = idle_from _ (record { at = λ a c le. unit_idle a.granted (does (stmt_step program (RStmt-F.Write e) (alone a.calls))) c le })
+  stmt_idle RStmt-F.WriteLine = idle_from _ (record { at = λ a c le. unit_idle a.granted (does (stmt_step program RStmt-F.WriteLine (alone a.calls))) c le })
 
   pub idle : (t : RStmt) → IsIdle t
   idle = ind-RStmt IsIdle AnyArm
@@ -269,19 +276,19 @@ same_then c (Done d) k q l e = e d l
 same_then c (Failed trap d) k q l e = refl
 same_then c (Stopped d) k q l e = refl
 
-while_more : (n granted : ℕ) (test : Counted → Outcome) (r : Counting) → Adds r → (c : Counted) → granted ≤ c.units + n → while_units n granted test r c ≡ while_units (suc n) granted test r c
-while_more zero granted test r a c le = sym (unit_idle granted _ c (omega (arith, le)))
+pub while_more : (n granted : ℕ) (test : Counted → Outcome) (r : Counting) → Adds r → (c : Counted) → granted ≤ c.units + n → while_units n granted test r c ≡ while_units (suc n) granted test r c
+while_more zero granted test r a c le = sym (unit_idle granted (while_turn zero granted test r) c (omega (arith, le)))
 while_more (suc n) granted test r a c le =
     let d : Counted = record c { units = c.units + 1 } in
-    same_unit granted _ _ c (same_given (test d) d _ _ (λ x.
+    same_unit granted (while_turn n granted test r) (while_turn (suc n) granted test r) c (same_given (test d) d _ _ (λ x.
     ap (λ h. if is_true x then h else Done d)
-    (same_then d (r d) _ _ (a.later d) (λ e l. while_more n granted test r a e (omega (arith, le, l))))))
+    (same_then d (r d) (while_units n granted test r) (while_units (suc n) granted test r) (a.later d) (λ e l. while_more n granted test r a e (omega (arith, le, l))))))
 
-repeat_more : (n granted : ℕ) (r : Counting) (test : Counted → Outcome) → Adds r → ((c : Counted) → granted ≤ c.units → Waits c (r c)) → (c : Counted) → granted ≤ c.units + n →
+pub repeat_more : (n granted : ℕ) (r : Counting) (test : Counted → Outcome) → Adds r → ((c : Counted) → granted ≤ c.units → Waits c (r c)) → (c : Counted) → granted ≤ c.units + n →
     repeat_units n granted r test c ≡ repeat_units (suc n) granted r test c
-repeat_more zero granted r test a w c le = sym (waits_then c (r c) _ (w c (omega (arith, le))) (unit_idle granted _ c (omega (arith, le))))
+repeat_more zero granted r test a w c le = sym (waits_then c (r c) (unit granted (until_turn zero granted r test)) (w c (omega (arith, le))) (unit_idle granted (until_turn zero granted r test) c (omega (arith, le))))
 repeat_more (suc n) granted r test a w c le =
-    same_then c (r c) _ _ (a.later c) (λ d l.
+    same_then c (r c) (unit granted (until_turn n granted r test)) (unit granted (until_turn (suc n) granted r test)) (a.later c) (λ d l.
     let e : Counted = record d { units = d.units + 1 } in
-    same_unit granted _ _ d (same_given (test e) e _ _ (λ x.
+    same_unit granted (until_turn n granted r test) (until_turn (suc n) granted r test) d (same_given (test e) e _ _ (λ x.
     ap (λ h. if is_true x then Done e else h) (repeat_more n granted r test a w e (omega (arith, le, l))))))

@@ -3,6 +3,7 @@
 
 pub mod enter;
 pub mod evaluate;
+pub mod execute;
 pub mod laws;
 pub mod memory;
 pub mod place;

@@ -1,6 +1,6 @@
 // Statements that hold no other statements and call nothing.
 
-ghost use Rattle.std.specs.Prelude.{◌≡◌, ◌<◌, ◌^◌, length, IfOk, OnOk};
+ghost use Rattle.std.specs.Prelude.{◌≡◌, ◌+◌, ◌≤◌, ◌<◌, ◌^◌, length, IfOk, OnOk};
 ghost use Rattle.ob_interp.specs.Units.{does};
 ghost use Rattle.ob_interp.specs.Running.{counted_of, halted};
 ghost use Rattle.ob_interp.specs.Running.{assigning, reading, writing, ending_line};
@@ -22,6 +22,7 @@ pub fn assign(
     ensures calls { OnOk result (running.new.calls.items ≡ running.old.calls.items) }
     ensures stack { running.new.stack ≡ running.old.stack }
     ensures units { running.new.units ≡ running.old.units }
+    ensures taken { running.new.taken ≤ running.old.taken + 1 }
     ensures means { IfOk result (λ f. halted setting.now running.new f ≡
         does (assigning setting.now.program.now running.old.calls.items v.now e.now)
         (counted_of setting.now.input.now running.old)) }
@@ -44,6 +45,7 @@ pub fn read(setting: &Setting<'_>, running: &mut Running, v: &RVar) -> Result<Fi
     ensures calls { OnOk result (running.new.calls.items ≡ running.old.calls.items) }
     ensures stack { running.new.stack ≡ running.old.stack }
     ensures units { running.new.units ≡ running.old.units }
+    ensures taken { running.new.taken ≤ running.old.taken + 1 }
     ensures means { IfOk result (λ f. halted setting.now running.new f ≡
         does (reading setting.now.program.now running.old.calls.items v.now)
         (counted_of setting.now.input.now running.old)) }
@@ -69,6 +71,7 @@ pub fn write(setting: &Setting<'_>, running: &mut Running, e: &RExpr) -> Result<
     ensures calls { OnOk result (running.new.calls.items ≡ running.old.calls.items) }
     ensures stack { running.new.stack ≡ running.old.stack }
     ensures units { running.new.units ≡ running.old.units }
+    ensures taken { running.new.taken ≤ running.old.taken + 1 }
     ensures means { IfOk result (λ f. halted setting.now running.new f ≡
         does (writing setting.now.program.now running.old.calls.items e.now)
         (counted_of setting.now.input.now running.old)) }
@@ -86,6 +89,7 @@ pub fn write_line(setting: &Setting<'_>, running: &mut Running) -> Result<Finish
     ensures calls { OnOk result (running.new.calls.items ≡ running.old.calls.items) }
     ensures stack { running.new.stack ≡ running.old.stack }
     ensures units { running.new.units ≡ running.old.units }
+    ensures taken { running.new.taken ≤ running.old.taken + 1 }
     ensures means { IfOk result (λ f. halted setting.now running.new f ≡
         does ending_line (counted_of setting.now.input.now running.old)) }
 {
