@@ -9,7 +9,6 @@ use Rattle.pra_base.specs.declared.event.OutEvent.TheVariants as event
 use Rattle.pra_base.specs.declared.event.TrapKind.{TrapKind}
 use Rattle.ob_syntax.specs.Operators.{Outcome, is_true, number}
 use Rattle.ob_syntax.specs.declared.checked.Checked.{Checked}
-use Rattle.ob_syntax.specs.declared.checked.Value.{Value}
 use Rattle.ob_syntax.specs.declared.checked.RVar.{RVar}
 use Rattle.ob_syntax.specs.declared.checked.RExpr.{RExpr}
 use Rattle.ob_syntax.specs.declared.checked.RStmt.{RStmt, RStmt-F, roll-RStmt, map-RStmt, ind-RStmt, fold-roll-RStmt}
@@ -23,7 +22,7 @@ use Rattle.ob_mean.specs.Statements.{State, Completion, Normal, Trapped, Going, 
 use Rattle.ob_mean.specs.Program.{on_stack, live_frames, frame_of, call_with, entered, body, around, only_body, start, progress_of, completion, mean}
 use Rattle.ob_mean.proofs.Budgets.{After}
 use Rattle.ob_mean.proofs.Equations.{exec_roll, arm_of_roll}
-use Rattle.ob_interp.specs.Units.{Counted, Halt, Done, Failed, Stopped, Counting, unit, then_go, given, halt, does, while_units, repeat_units, Granted, CountedStatement, CountedArm, in_order, on_counted, first_true, alone, single, counted_step, counted_arm_step, counted, counted_arm, counted_all, in_call, within_stack, counted_call, granted_around, units_run, progress_in}
+use Rattle.ob_interp.specs.Units.{Counted, Halt, Done, Failed, Stopped, Counting, unit, then_go, given, halt, does, while_units, repeat_units, Granted, CountedStatement, CountedArm, in_order, on_counted, first_true, counted_step, counted_arm_step, counted, counted_arm, counted_all, in_call, within_stack, granted_around, units_run, progress_in}
 
 abbrev done : State → Progress OutEvent RunEnd
 done s = progress_of (Going s)

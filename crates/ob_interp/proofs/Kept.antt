@@ -4,14 +4,13 @@ use Rattle.std.proofs.lemmas.Option.{slice_get-get_or}
 use Rattle.pra_list.proofs.Elements.{got_set, got_unset}
 use Rattle.std.proofs.Math.Dec.{eqb}
 use Rattle.std.proofs.Common.{◌≡◌, ◌≢◌, ◌⊎◌, inl, inr, ℕ, zero, suc, ◌+◌, ◌<◌, Bool, true, false, cond, not, List, [], ◌∷◌, ◌++◌, map, Option, Some, None, refl, sym, ap, ◌∙◌, subst, arith, Vec, get_or, Result, Ok, Err, OnOk}
-use Rattle.std.specs.Prelude.{nat_eq, unwrap_or, slice_get, slice_set, length}
+use Rattle.std.specs.Prelude.{unwrap_or, slice_get, slice_set, length}
 use Rattle.std.specs.declared.alloc.Global.{Global}
 use Rattle.std.specs.declared.cmp.Ordering.{Ordering}
 use Rattle.std.specs.declared.cmp.Ordering.TheVariants.{Less, Equal, Greater}
 use Rattle.std.specs.Ordering.{is_eq, nat_cmp, ordering_then, eq_by_cmp, match_ordering}
-use Rattle.std.specs.Cmp.{IsTotalOrder, tied_itself, nat_cmp_total}
+use Rattle.std.specs.Cmp.{tied_itself, nat_cmp_total}
 use Rattle.std.specs.Cmp.Lexicographic.{slice_cmp, nat_list_cmp_total}
-use Rattle.std.specs.Map.{lookup}
 use Rattle.std.specs.BTreeMap.{insert_entry, BTreeMap}
 use Rattle.std.specs.declared.alloc.AllocError.{AllocError}
 use Rattle.std.specs.FinMap as finite
@@ -19,7 +18,7 @@ use Rattle.ob_syntax.specs.declared.checked.Value.{Value}
 use Rattle.ob_mean.specs.declared.store.Object.{Object}
 use Rattle.ob_mean.specs.declared.store.Object.TheVariants.{Module, Param, Local}
 use Rattle.ob_mean.specs.declared.store.Location.{Location}
-use Rattle.ob_mean.specs.Store.{Store, location_cmp, read, assigned, begun, is_at_depth}
+use Rattle.ob_mean.specs.Store.{location_cmp, read, assigned, begun, is_at_depth}
 use Rattle.ob_mean.proofs.Stores.{ordered, tied}
 use Rattle.ob_interp.specs.declared.memory.Layer.{Layer}
 use Rattle.ob_interp.specs.declared.memory.Memory.{Memory}
@@ -194,7 +193,6 @@ equal_by Greater e = absurd (cc)
 -- whether a part is the one that is asked for is a fact on its number and path
 abbrev asks : List ℕ → List ℕ → Bool
 asks q k = is_eq (slice_cmp nat_cmp q k)
-
 
 swapped : (a b : Bool) (x y : Value) (z : Option Value) → (a ≡ true → b ≡ true → ⊥) → cond a (Some x) (cond b (Some y) z) ≡ cond b (Some y) (cond a (Some x) z)
 swapped true true x y z apart = absurd (apart refl refl)

@@ -1,11 +1,10 @@
 -- What is left of a run, step by step: what each form of statement is due for, and what a unit leaves.
-use Rattle.std.proofs.Common.{◌≡◌, ◌≢◌, ℕ, zero, suc, ◌+◌, ◌-◌, ◌<◌, ◌≤◌, ℤ, Bool, true, false, List, [], ◌∷◌, map, length, drop, get_or, drop-cons, Option, Some, None, Result, Ok, Err, refl, sym, ap, ◌∙◌, subst, arith}
+use Rattle.std.proofs.Common.{◌≡◌, ℕ, suc, ◌+◌, ◌-◌, ◌<◌, ◌≤◌, ℤ, Bool, true, false, List, [], ◌∷◌, map, length, drop, get_or, drop-cons, Option, Some, None, Ok, refl, sym, ap, ◌∙◌, subst, arith}
 use Rattle.std.specs.Prelude.{if◌then◌else◌, nat_lt}
 use Rattle.std.specs.Borrow.{Bor}
 use Rattle.std.proofs.lemmas.Bool.{lt-ltb, le-ltb}
 use Rattle.pra_base.specs.Words.{stack_limit}
 use Rattle.pra_base.specs.declared.ids.ProcId.{ProcId}
-use Rattle.pra_base.specs.declared.event.TrapKind.{TrapKind}
 use Rattle.pra_base.specs.declared.event.TrapKind.TheVariants.{Stack}
 use Rattle.ob_syntax.specs.Operators.{Outcome, is_true}
 use Rattle.ob_syntax.specs.declared.checked.Checked.{Checked}
@@ -15,25 +14,23 @@ use Rattle.ob_syntax.specs.declared.checked.RVar.{RVar}
 use Rattle.ob_syntax.specs.declared.checked.RExpr.{RExpr}
 use Rattle.ob_syntax.specs.declared.checked.RStmt.{RStmt, RStmt-F, roll-RStmt, out-RStmt, roll-out-RStmt, map-RStmt, fold-roll-RStmt}
 use Rattle.ob_syntax.specs.declared.checked.RStmt.TheVariants as stmt
-use Rattle.ob_syntax.specs.declared.checked.RArm.{RArm, RArm-F, fold-RArm, fold_out-RArm}
+use Rattle.ob_syntax.specs.declared.checked.RArm.{RArm, fold-RArm, fold_out-RArm}
 use Rattle.ob_mean.specs.declared.store.Argument.{Argument}
 use Rattle.ob_mean.specs.declared.store.LiveCall.{LiveCall}
 use Rattle.ob_mean.specs.Expressions.{value}
-use Rattle.ob_mean.specs.Statements.{State, arguments}
+use Rattle.ob_mean.specs.Statements.{arguments}
 use Rattle.ob_mean.specs.Program.{live_frames, frame_of, call_with, entered, body}
-use Rattle.ob_interp.specs.Units.{Counted, Halt, Done, Failed, Stopped, Counting, unit, then_go, given, does, while_units, repeat_units, Granted, CountedStatement, CountedArm, in_order, on_counted, first_true, counted_step, counted_arm_step, counted, counted_arm, counted_all, in_call, within_stack, counted_call, granted_around}
-use Rattle.ob_interp.specs.declared.running.Setting.{Setting}
+use Rattle.ob_interp.specs.Units.{Counted, Halt, Done, Failed, Stopped, Counting, unit, then_go, given, does, while_units, repeat_units, Granted, CountedStatement, CountedArm, in_order, on_counted, first_true, counted_step, counted_arm_step, counted, counted_arm, counted_all, in_call, counted_call, granted_around}
 use Rattle.ob_interp.specs.declared.running.Running.{Running}
 use Rattle.ob_interp.specs.declared.running.Finish.{Finish}
 use Rattle.ob_interp.specs.declared.running.Finish.TheVariants as finish
 use Rattle.ob_interp.specs.declared.task.Task.{Task}
 use Rattle.ob_interp.specs.declared.task.Task.TheVariants as task
 use Rattle.ob_interp.specs.declared.task.Due.TheVariants as due
-use Rattle.ob_interp.specs.declared.task.Due.{Due}
 use Rattle.ob_interp.specs.declared.task.First.{First}
 use Rattle.ob_interp.specs.declared.task.First.TheVariants as first
-use Rattle.ob_interp.specs.Running.{store_of, leads, weight, weight_step, weighed, weights, counted_of, halted, halt_of, assigning, reading, writing, ending_line, here, begun_of, due_of, below, goes_on, remains, behind, around, due_remains, begun_remains, comes_to, ends_in}
-use Rattle.ob_interp.proofs.Turns.{then_after, given_then, Adds, counted_roll, all_adds, calls_add, while_more, repeat_more, all_wait}
+use Rattle.ob_interp.specs.Running.{store_of, leads, weight, weight_step, weighed, weights, counted_of, halt_of, assigning, reading, writing, ending_line, here, begun_of, due_of, goes_on, ends_in}
+use Rattle.ob_interp.proofs.Turns.{then_after, Adds, counted_roll, all_adds, calls_add, while_more, repeat_more, all_wait}
 
 -- the next of a list by its index
 pub next-item : {A : Type 0} (xs : List A) (i : ℕ) (x : A) → i < length xs → x ≡ get_or xs i x → drop i xs ≡ x ∷ drop (i + 1) xs

@@ -1,6 +1,6 @@
 -- Turns of loops in counted runs: a loop goes on as if each of its turns were its first, since no
 -- run has more turns than units.
-use Rattle.std.proofs.Common.{◌≡◌, ◌⊎◌, inl, inr, ℕ, zero, suc, ◌+◌, ◌<◌, ◌≤◌, Bool, true, false, List, [], ◌∷◌, map, Result, Ok, Err, refl, sym, ap, ◌∙◌, subst, arith}
+use Rattle.std.proofs.Common.{◌≡◌, ◌⊎◌, inl, inr, ℕ, zero, suc, ◌+◌, ◌≤◌, Bool, true, false, List, [], ◌∷◌, map, Result, Ok, Err, refl, sym, ap, ◌∙◌, subst, arith}
 use Rattle.std.specs.Prelude.{if◌then◌else◌, nat_lt}
 use Rattle.std.proofs.lemmas.Bool.{le-ltb}
 use Rattle.pra_base.specs.Words.{stack_limit}
@@ -8,17 +8,14 @@ use Rattle.pra_base.specs.declared.event.TrapKind.{TrapKind}
 use Rattle.pra_base.specs.declared.event.TrapKind.TheVariants.{Stack}
 use Rattle.ob_syntax.specs.Operators.{Outcome, is_true}
 use Rattle.ob_syntax.specs.declared.checked.Checked.{Checked}
-use Rattle.ob_syntax.specs.declared.checked.Value.{Value}
-use Rattle.ob_syntax.specs.declared.checked.RExpr.{RExpr}
 use Rattle.ob_syntax.specs.declared.checked.RStmt.{RStmt, RStmt-F, roll-RStmt, map-RStmt, ind-RStmt, fold-roll-RStmt}
-use Rattle.ob_syntax.specs.declared.checked.RStmt.TheVariants as stmt
 use Rattle.ob_syntax.specs.declared.checked.RArm.{RArm, RArm-F, roll-RArm, fold-roll-RArm}
 use Rattle.ob_mean.specs.declared.store.Argument.{Argument}
 use Rattle.ob_mean.specs.declared.store.LiveCall.{LiveCall}
-use Rattle.ob_mean.specs.Expressions.{Evaluation, value}
-use Rattle.ob_mean.specs.Statements.{State, Completion, Normal, Trapped, Going, Run, arguments, stmt_step}
+use Rattle.ob_mean.specs.Expressions.{value}
+use Rattle.ob_mean.specs.Statements.{Completion, Normal, Trapped, Going, Run, arguments, stmt_step}
 use Rattle.ob_mean.specs.Program.{body, live_frames, frame_of}
-use Rattle.ob_interp.specs.Units.{Counted, Halt, Done, Failed, Stopped, Counting, unit, then_go, given, halt, does, while_units, repeat_units, Granted, CountedStatement, CountedArm, in_order, on_counted, first_true, alone, single, counted_step, counted_arm_step, counted, counted_arm, counted_all, in_call, within_stack, counted_call, granted_around}
+use Rattle.ob_interp.specs.Units.{Counted, Halt, Done, Failed, Stopped, Counting, unit, then_go, given, halt, does, while_units, repeat_units, Granted, CountedStatement, CountedArm, in_order, on_counted, first_true, alone, counted_step, counted_arm_step, counted, counted_arm, counted_all, in_call, within_stack, counted_call}
 
 -- ---- one after the other
 

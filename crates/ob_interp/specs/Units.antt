@@ -3,7 +3,7 @@
 -- Read, Write and WriteLn are calls. The forms are those of the meaning (Wirth, The Programming
 -- Language Oberon, sections 9 and 10), one equation a form.
 use Rattle.std.specs.Prelude.{ℕ, zero, suc, ◌+◌, ℤ, nat_lt, List, [], ◌∷◌, Result, Ok, Err}
-use Rattle.std.specs.Prelude.{Option, Some, None, if◌then◌else◌}
+use Rattle.std.specs.Prelude.{Some, None, if◌then◌else◌}
 use Rattle.pra_base.specs.Agreement.{Progress}
 use Rattle.pra_base.specs.RunEnd as run
 use Rattle.pra_base.specs.Words.{stack_limit}
@@ -186,11 +186,15 @@ granted_around program frames granted deeper calls = record {
 
 -- ---- the whole
 
+-- no unit was begun
+abbrev pub started : List ℤ → Counted
+started input = record { state = start input; units = 0 }
+
 -- The run of a module that stops where k units were begun and another is due.
 abbrev pub units_run : Checked → List ℕ → List ℤ → ℕ → Halt
 units_run program frames input k =
     counted_all program (body program 0) (granted_around program frames k k only_body)
-    (record { state = start input; units = 0 })
+    (started input)
 
 -- what was written and taken, with the ending, if there is one
 abbrev pub progress_in : Halt → Progress OutEvent run.RunEnd

@@ -63,7 +63,7 @@ pub fn arguments(
 }
 
 /// The bytes of the frame of a procedure.
-fn frame(frames: &[u32], proc: u32) -> u32
+pub fn frame(frames: &[u32], proc: u32) -> u32
     ensures { result ≡ frame_of frames.now proc }
 {
     match frames.get(proc as usize) {

@@ -1,8 +1,7 @@
-use Rattle.std.proofs.Common.{◌≡◌, ◌≤◌, ◌+◌, false, refl, sym, ap, ◌∙◌, length, arith, Ok}
+use Rattle.std.proofs.Common.{◌≡◌, ◌≤◌, ◌+◌, false, sym, ap, ◌∙◌, length, arith, Ok}
 use Rattle.std.specs.Prelude.{nat_lt}
 use Rattle.pra_base.specs.Words.{stack_limit}
 use Rattle.ob_mean.specs.Program.{live_frames, frame_of}
-use Rattle.ob_interp.specs.Units.{in_call}
 use Rattle.ob_interp.specs.Running.{counted_of}
 use Rattle.ob_interp.proofs.Remaining.{called-goes, entered-counted}
 use Rattle.ob_interp.proofs.execute.call.Goals as goal

@@ -1,4 +1,4 @@
-use Rattle.std.proofs.Common.{◌≡◌, ◌≤◌, true, false, map, length, refl, sym, ap, ◌∙◌, arith, drop, drop_of_length-le, Ok, Err}
+use Rattle.std.proofs.Common.{◌≡◌, ◌≤◌, true, false, map, length, sym, ap, ◌∙◌, arith, drop_of_length-le, Ok, Err}
 use Rattle.ob_syntax.specs.Operators.{is_true}
 use Rattle.ob_interp.specs.Units.{then_go, first_true, counted, counted_arm, counted_all}
 use Rattle.ob_interp.specs.Running.{around, counted_of, goes_on}

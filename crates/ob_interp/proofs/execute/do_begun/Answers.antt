@@ -1,4 +1,3 @@
-use Rattle.std.proofs.Common.{◌≡◌, refl, sym, ap, ◌∙◌}
 use Rattle.ob_interp.proofs.execute.do_begun.Goals as goal
 
 pub returns-in-If-clause-goes : goal.returns-in-If-clause-goes

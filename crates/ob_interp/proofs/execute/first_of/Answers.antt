@@ -1,4 +1,4 @@
-use Rattle.std.proofs.Common.{◌≡◌, ◌≤◌, ◌+◌, refl, sym, ap, ◌∙◌, subst, arith, List, Bor}
+use Rattle.std.proofs.Common.{◌≡◌, ◌+◌, refl, ap, ◌∙◌, arith, Bor}
 use Rattle.ob_syntax.specs.declared.checked.RExpr.{RExpr}
 use Rattle.ob_interp.specs.Units.{counted}
 use Rattle.ob_interp.specs.Running.{here, weight, weights}

@@ -1,5 +1,5 @@
-use Rattle.std.proofs.Common.{◌≡◌, ◌∷◌, refl, sym, ap, ◌∙◌}
-use Rattle.ob_interp.specs.Units.{then_go, counted_all}
+use Rattle.std.proofs.Common.{◌≡◌, ◌∷◌, sym, ap, ◌∙◌}
+use Rattle.ob_interp.specs.Units.{then_go}
 use Rattle.ob_interp.specs.declared.task.Task.TheVariants as task
 use Rattle.ob_interp.specs.declared.task.First.TheVariants as first
 use Rattle.ob_interp.specs.Running.{around, counted_of, goes_on, leads}

@@ -1,4 +1,4 @@
-use Rattle.std.proofs.Common.{◌≡◌, ◌∷◌, false, refl, sym, ap, ◌∙◌, Ok}
+use Rattle.std.proofs.Common.{◌≡◌, false, sym, ◌∙◌}
 use Rattle.ob_syntax.specs.Operators.{is_true}
 use Rattle.ob_interp.specs.Running.{counted_of}
 use Rattle.ob_interp.proofs.Remaining.{turned-back}

@@ -1,8 +1,6 @@
-use Rattle.std.proofs.Common.{◌≡◌, ◌∷◌, true, refl, sym, ap, ◌∙◌, Ok}
+use Rattle.std.proofs.Common.{◌≡◌, true, sym, ◌∙◌}
 use Rattle.ob_syntax.specs.Operators.{is_true}
-use Rattle.ob_interp.specs.Units.{Counting, then_go, given, while_units, on_counted, counted_all}
-use Rattle.ob_interp.specs.declared.task.Task.TheVariants as task
-use Rattle.ob_interp.specs.Running.{around, here, counted_of, goes_on}
+use Rattle.ob_interp.specs.Running.{counted_of}
 use Rattle.ob_interp.proofs.Remaining.{turned}
 use Rattle.ob_interp.proofs.execute.while_test.Goals as goal
 

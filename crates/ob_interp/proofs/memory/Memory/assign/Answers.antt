@@ -1,4 +1,4 @@
-use Rattle.std.proofs.Common.{◌≡◌, refl, sym, ap, ◌∙◌, false, true, Vec}
+use Rattle.std.proofs.Common.{refl, sym, ap, ◌∙◌, false, true, Vec}
 use Rattle.std.specs.declared.alloc.Global.{Global}
 use Rattle.std.specs.Vec.{with_item}
 use Rattle.ob_mean.specs.declared.store.Object.TheVariants.{Param, Local}
