@@ -1,5 +1,7 @@
 -- A run that counts units, beside the meaning with as many turns and calls.
-use Rattle.std.proofs.Common.{◌≡◌, ◌≢◌, ℕ, zero, suc, ◌+◌, ℤ, Bool, true, false, List, [], ◌∷◌, ◌++◌, map, None, Result, Ok, Err, refl, sym, ap, ◌∙◌, subst, arith, append_assoc, append-nil}
+use Rattle.std.proofs.Common.{◌≡◌, ◌≢◌, ℕ, zero, suc, ◌+◌, ℤ, Bool, true, false, List, [], ◌∷◌}
+use Rattle.std.proofs.Common.{◌++◌, map, None, Result, Ok, Err, refl, sym, ap, ◌∙◌, subst, arith}
+use Rattle.std.proofs.Common.{append_assoc, append-nil}
 use Rattle.std.specs.Prelude.{if◌then◌else◌, nat_lt}
 use Rattle.pra_base.specs.Agreement.{Progress, IsPrefix}
 use Rattle.pra_base.specs.RunEnd.{RunEnd}
@@ -11,18 +13,27 @@ use Rattle.ob_syntax.specs.Operators.{Outcome, is_true, number}
 use Rattle.ob_syntax.specs.declared.checked.Checked.{Checked}
 use Rattle.ob_syntax.specs.declared.checked.RVar.{RVar}
 use Rattle.ob_syntax.specs.declared.checked.RExpr.{RExpr}
-use Rattle.ob_syntax.specs.declared.checked.RStmt.{RStmt, RStmt-F, roll-RStmt, map-RStmt, ind-RStmt, fold-roll-RStmt}
+use Rattle.ob_syntax.specs.declared.checked.RStmt.{RStmt, RStmt-F, roll-RStmt, map-RStmt, ind-RStmt}
+use Rattle.ob_syntax.specs.declared.checked.RStmt.{fold-roll-RStmt}
 use Rattle.ob_syntax.specs.declared.checked.RArm.{RArm, RArm-F, roll-RArm, fold-roll-RArm}
 use Rattle.ob_mean.specs.declared.store.Argument.{Argument}
 use Rattle.ob_mean.specs.declared.store.Location.{Location}
 use Rattle.ob_mean.specs.declared.store.LiveCall.{LiveCall}
 use Rattle.ob_mean.specs.Designators.{depth}
 use Rattle.ob_mean.specs.Expressions.{Evaluation, value, location}
-use Rattle.ob_mean.specs.Statements.{State, Completion, Normal, Trapped, Going, Run, then_do, with, store_at, written, read_to, while_turns, repeat_turns, Around, Execution, Arm, in_turn, on_state, chosen, arguments, stmt_step, arm_of, exec, exec_all}
-use Rattle.ob_mean.specs.Program.{on_stack, live_frames, frame_of, call_with, entered, body, around, only_body, start, progress_of, completion, mean}
+use Rattle.ob_mean.specs.Statements.{State, Completion, Normal, Trapped, Going, Run, then_do, with}
+use Rattle.ob_mean.specs.Statements.{store_at, written, read_to, while_turns, repeat_turns, Around}
+use Rattle.ob_mean.specs.Statements.{Execution, Arm, in_turn, on_state, chosen, arguments}
+use Rattle.ob_mean.specs.Statements.{stmt_step, arm_of, exec, exec_all}
+use Rattle.ob_mean.specs.Program.{on_stack, live_frames, frame_of, call_with, entered, body, around}
+use Rattle.ob_mean.specs.Program.{only_body, start, progress_of, completion, mean}
 use Rattle.ob_mean.proofs.Budgets.{After}
 use Rattle.ob_mean.proofs.Equations.{exec_roll, arm_of_roll}
-use Rattle.ob_interp.specs.Units.{Counted, Halt, Done, Failed, Stopped, Counting, unit, then_go, given, halt, does, while_units, repeat_units, Granted, CountedStatement, CountedArm, in_order, on_counted, first_true, counted_step, counted_arm_step, counted, counted_arm, counted_all, in_call, within_stack, granted_around, units_run, progress_in}
+use Rattle.ob_interp.specs.Units.{Counted, Halt, Done, Failed, Stopped, Counting, unit, then_go}
+use Rattle.ob_interp.specs.Units.{given, halt, does, while_units, repeat_units, Granted}
+use Rattle.ob_interp.specs.Units.{CountedStatement, CountedArm, in_order, on_counted, first_true}
+use Rattle.ob_interp.specs.Units.{counted_step, counted_arm_step, counted, counted_arm, counted_all}
+use Rattle.ob_interp.specs.Units.{in_call, within_stack, granted_around, units_run, progress_in}
 
 abbrev done : State → Progress OutEvent RunEnd
 done s = progress_of (Going s)
@@ -33,7 +44,8 @@ same_prefix : (p : Progress OutEvent RunEnd) → IsPrefix p p
 same_prefix p = ([], sym (append-nil p.events), omega arith)
 
 prefix_trans : (a b c : Progress OutEvent RunEnd) → IsPrefix a b → IsPrefix b c → IsPrefix a c
-prefix_trans a b c p q = (p.0 ++ q.0, q.1 ∙ ap (λ l. l ++ q.0) p.1 ∙ append_assoc a.events p.0 q.0, omega (arith, p.2, q.2))
+prefix_trans a b c p q = (p.0 ++ q.0, q.1 ∙ ap (λ l. l ++ q.0) p.1
+    ∙ append_assoc a.events p.0 q.0, omega (arith, p.2, q.2))
 
 at_once : (s : State) → After s (Normal s)
 at_once s = record { prefix = same_prefix (done s) }
@@ -44,16 +56,20 @@ trapped_at_once trap s = record { prefix = same_prefix (done s) }
 going_at_once : (s : State) → After s (Going s)
 going_at_once s = record { prefix = same_prefix (done s) }
 
-after_then : (s : State) (m : Completion) (k : Run) → After s m → ((t : State) → After t (k t)) → After s (then_do m k)
-after_then s (Normal t) k h g = record { prefix = prefix_trans (done s) (done t) (progress_of (k t)) h.prefix (g t).prefix }
+after_then : (s : State) (m : Completion) (k : Run) → After s m → ((t : State) → After t (k t)) →
+    After s (then_do m k)
+after_then s (Normal t) k h g = record { prefix = prefix_trans (done s) (done t) (progress_of (k t))
+    h.prefix (g t).prefix }
 after_then s (Trapped trap t) k h g = h
 after_then s (Going t) k h g = h
 
-with_after : {A : Type 0} (x : Result A TrapKind) (s : State) (k : A → Completion) → ((a : A) → After s (k a)) → After s (with x s k)
+with_after : {A : Type 0} (x : Result A TrapKind) (s : State) (k : A → Completion) → ((a : A) →
+    After s (k a)) → After s (with x s k)
 with_after (Ok a) s k h = h a
 with_after (Err trap) s k h = trapped_at_once trap s
 
-either_after : (b : Bool) (s : State) (m n : Completion) → After s m → After s n → After s (if b then m else n)
+either_after : (b : Bool) (s : State) (m n : Completion) → After s m → After s n →
+    After s (if b then m else n)
 either_after true s m n p q = p
 either_after false s m n p q = q
 
@@ -69,26 +85,31 @@ pub record Beside (r : Counting) (m : Run) : Type 0 where
   pub grows : (s : State) → After s (m s)
   pub meets : (c : Counted) → Meets (r c) (m c.state)
 
-then_meets : (h : Halt) (m : Completion) (r : Counting) (k : Run) → Meets h m → Beside r k → Meets (then_go h r) (then_do m k)
+then_meets : (h : Halt) (m : Completion) (r : Counting) (k : Run) → Meets h m → Beside r k →
+    Meets (then_go h r) (then_do m k)
 then_meets (Done c) m r k h b = subst (λ z. Meets (r c) (then_do z k)) (sym h) (b.meets c)
 then_meets (Failed trap c) m r k h b = ap (λ z. then_do z k) h
 then_meets (Stopped c) m r k h b = after_then c.state m k h b.grows
 
-then_beside : (r q : Counting) (m k : Run) → Beside r m → Beside q k → Beside (λ c. then_go (r c) q) (λ s. then_do (m s) k)
+then_beside : (r q : Counting) (m k : Run) → Beside r m → Beside q k →
+    Beside (λ c. then_go (r c) q) (λ s. then_do (m s) k)
 then_beside r q m k b d = record {
   grows = λ s. after_then s (m s) k (b.grows s) d.grows;
   meets = λ c. then_meets (r c) (m c.state) q k (b.meets c) d;
 }
 
-given_meets : {A : Type 0} (x : Result A TrapKind) (c : Counted) (h : A → Halt) (m : A → Completion) → ((a : A) → Meets (h a) (m a)) → Meets (given x c h) (with x c.state m)
+given_meets : {A : Type 0} (x : Result A TrapKind) (c : Counted) (h : A → Halt) (m : A →
+    Completion) → ((a : A) → Meets (h a) (m a)) → Meets (given x c h) (with x c.state m)
 given_meets (Ok a) c h m p = p a
 given_meets (Err trap) c h m p = refl
 
-either_meets : (b : Bool) (h g : Halt) (m n : Completion) → Meets h m → Meets g n → Meets (if b then h else g) (if b then m else n)
+either_meets : (b : Bool) (h g : Halt) (m n : Completion) → Meets h m → Meets g n →
+    Meets (if b then h else g) (if b then m else n)
 either_meets true h g m n p q = p
 either_meets false h g m n p q = q
 
-unit_meets : (b : Bool) (h : Halt) (c : Counted) (m : Completion) → Meets h m → After c.state m → Meets (if b then h else Stopped c) m
+unit_meets : (b : Bool) (h : Halt) (c : Counted) (m : Completion) → Meets h m → After c.state m →
+    Meets (if b then h else Stopped c) m
 unit_meets true h c m p g = p
 unit_meets false h c m p g = g
 
@@ -96,7 +117,8 @@ unit_meets false h c m p g = g
 unit_beside : (granted : ℕ) (r : Counting) (m : Run) → Beside r m → Beside (unit granted r) m
 unit_beside granted r m b = record {
   grows = b.grows;
-  meets = λ c. unit_meets (nat_lt c.units granted) _ c (m c.state) (b.meets (record c { units = c.units + 1 })) (b.grows c.state);
+  meets = λ c. unit_meets (nat_lt c.units granted) _ c (m c.state)
+      (b.meets (record c { units = c.units + 1 })) (b.grows c.state);
 }
 
 halt_meets : (units : ℕ) (m : Completion) → Meets (halt units m) m
@@ -109,39 +131,54 @@ does_beside m g = record { grows = g; meets = λ c. halt_meets c.units (m c.stat
 
 -- ---- loops
 
-while_after : (n : ℕ) (test : State → Outcome) (m : Run) → ((s : State) → After s (m s)) → (s : State) → After s (while_turns n test m s)
+while_after : (n : ℕ) (test : State → Outcome) (m : Run) → ((s : State) → After s (m s)) →
+    (s : State) → After s (while_turns n test m s)
 while_after zero test m g s = going_at_once s
 while_after (suc n) test m g s =
-    with_after (test s) s _ (λ x. either_after (is_true x) s _ _ (after_then s (m s) (while_turns n test m) (g s) (while_after n test m g)) (at_once s))
+    with_after (test s) s _ (λ x. either_after (is_true x)
+        s _ _ (after_then s (m s) (while_turns n test m) (g s) (while_after n test m g))
+        (at_once s))
 
-while_beside : (n granted : ℕ) (test : State → Outcome) (r : Counting) (m : Run) → Beside r m → Beside (while_units n granted (λ c. test c.state) r) (while_turns n test m)
-while_beside zero granted test r m b = record { grows = while_after zero test m b.grows; meets = λ c. going_at_once c.state }
+while_beside : (n granted : ℕ) (test : State → Outcome) (r : Counting) (m : Run) → Beside r m →
+    Beside (while_units n granted (λ c. test c.state) r) (while_turns n test m)
+while_beside zero granted test r m b = record { grows = while_after zero test m b.grows; meets = λ
+    c. going_at_once c.state }
 while_beside (suc n) granted test r m b = record {
   grows = while_after (suc n) test m b.grows;
   meets = λ c. unit_meets (nat_lt c.units granted) _ c _
       (given_meets (test c.state) (record c { units = c.units + 1 }) _ _
       (λ x. either_meets (is_true x) _ _ _ _
-      (then_meets (r (record c { units = c.units + 1 })) (m c.state) _ _ (b.meets (record c { units = c.units + 1 })) (while_beside n granted test r m b)) refl))
+      (then_meets (r (record c { units = c.units + 1 })) (m c.state)
+          _ _ (b.meets (record c { units = c.units + 1 })) (while_beside n granted test r m b))
+          refl))
       (while_after (suc n) test m b.grows c.state);
 }
 
-tested_after : (x : Outcome) (s : State) (k : Run) → ((t : State) → After t (k t)) → After s (with x s (λ y. if is_true y then Normal s else k s))
+tested_after : (x : Outcome) (s : State) (k : Run) → ((t : State) → After t (k t)) →
+    After s (with x s (λ y. if is_true y then Normal s else k s))
 tested_after x s k g = with_after x s _ (λ y. either_after (is_true y) s _ _ (at_once s) (g s))
 
-repeat_after : (n : ℕ) (m : Run) (test : State → Outcome) → ((s : State) → After s (m s)) → (s : State) → After s (repeat_turns n m test s)
+repeat_after : (n : ℕ) (m : Run) (test : State → Outcome) → ((s : State) → After s (m s)) →
+    (s : State) → After s (repeat_turns n m test s)
 repeat_after zero m test g s = going_at_once s
 repeat_after (suc n) m test g s =
-    after_then s (m s) _ (g s) (λ t. tested_after (test t) t (repeat_turns n m test) (repeat_after n m test g))
+    after_then s (m s) _ (g s) (λ t. tested_after (test t) t (repeat_turns n m test)
+        (repeat_after n m test g))
 
-repeat_beside : (n granted : ℕ) (r : Counting) (m : Run) (test : State → Outcome) → Beside r m → Beside (repeat_units n granted r (λ c. test c.state)) (repeat_turns n m test)
-repeat_beside zero granted r m test b = record { grows = repeat_after zero m test b.grows; meets = λ c. going_at_once c.state }
+repeat_beside : (n granted : ℕ) (r : Counting) (m : Run) (test : State → Outcome) → Beside r m →
+    Beside (repeat_units n granted r (λ c. test c.state)) (repeat_turns n m test)
+repeat_beside zero granted r m test b = record { grows = repeat_after zero m test b.grows; meets =
+    λ c. going_at_once c.state }
 repeat_beside (suc n) granted r m test b =
     then_beside r _ m _ b (record {
       grows = λ s. tested_after (test s) s (repeat_turns n m test) (repeat_after n m test b.grows);
       meets = λ c. unit_meets (nat_lt c.units granted) _ c _
           (given_meets (test c.state) (record c { units = c.units + 1 }) _ _
-          (λ x. either_meets (is_true x) _ _ _ _ refl ((repeat_beside n granted r m test b).meets (record c { units = c.units + 1 }))))
-          (tested_after (test c.state) c.state (repeat_turns n m test) (repeat_after n m test b.grows));
+          (λ x. either_meets (is_true x)
+              _ _ _ _ refl ((repeat_beside n granted r m test b).meets (record c { units = c.units
+              + 1 }))))
+          (tested_after (test c.state) c.state (repeat_turns n m test)
+              (repeat_after n m test b.grows));
     })
 
 -- ---- statements
@@ -161,11 +198,13 @@ AllFit [] (e ∷ es) = ⊥
 AllFit (f ∷ fs) [] = ⊥
 AllFit (f ∷ fs) (e ∷ es) = Fits f e × AllFit fs es
 
-in_order_beside : (fs : List CountedStatement) (es : List Execution) → AllFit fs es → (a : Granted) (b : Around) → Near a b → Beside (in_order fs a) (in_turn es b)
+in_order_beside : (fs : List CountedStatement) (es : List Execution) → AllFit fs es →
+    (a : Granted) (b : Around) → Near a b → Beside (in_order fs a) (in_turn es b)
 in_order_beside [] [] g a b w = record { grows = at_once; meets = λ c. refl }
 in_order_beside [] (e ∷ es) g a b w = absurd g
 in_order_beside (f ∷ fs) [] g a b w = absurd g
-in_order_beside (f ∷ fs) (e ∷ es) g a b w = then_beside (f a) (in_order fs a) (e b) (in_turn es b) (g.0.at a b w) (in_order_beside fs es g.1 a b w)
+in_order_beside (f ∷ fs) (e ∷ es) g a b w = then_beside (f a) (in_order fs a) (e b) (in_turn es b)
+    (g.0.at a b w) (in_order_beside fs es g.1 a b w)
 
 abbrev pub ArmsFit : List CountedArm → List Arm → Type 0
 ArmsFit [] [] = Unit {0}
@@ -173,49 +212,63 @@ ArmsFit [] (y ∷ ys) = ⊥
 ArmsFit (x ∷ xs) [] = ⊥
 ArmsFit (x ∷ xs) (y ∷ ys) = (x.0 ≡ y.0) × AllFit x.1 y.1 × ArmsFit xs ys
 
-given_after : {A : Type 0} (x : Result A TrapKind) (s : State) (k : A → Run) → ((a : A) → (t : State) → After t (k a t)) → After s (with x s (λ a. k a s))
+given_after : {A : Type 0} (x : Result A TrapKind) (s : State) (k : A → Run) → ((a : A) →
+    (t : State) → After t (k a t)) → After s (with x s (λ a. k a s))
 given_after x s k g = with_after x s (λ a. k a s) (λ a. g a s)
 
 -- a choice by what was evaluated
 choice_beside : (x : Counted → Outcome) (y : State → Outcome) → ((c : Counted) → x c ≡ y c.state) →
     (r q : Counting) (m k : Run) → Beside r m → Beside q k →
-    Beside (λ c. given (x c) c (λ v. if is_true v then r c else q c)) (λ s. with (y s) s (λ v. if is_true v then m s else k s))
+    Beside (λ c. given (x c) c (λ v. if is_true v then r c else q c)) (λ s. with (y s)
+        s (λ v. if is_true v then m s else k s))
 choice_beside x y same r q m k b d = record {
   grows = λ s. with_after (y s) s _ (λ v. either_after (is_true v) s _ _ (b.grows s) (d.grows s));
-  meets = λ c. subst (λ z. Meets (given z c (λ v. if is_true v then r c else q c)) (with (y c.state) c.state (λ v. if is_true v then m c.state else k c.state))) (sym (same c))
-      (given_meets (y c.state) c _ _ (λ v. either_meets (is_true v) _ _ _ _ (b.meets c) (d.meets c)));
+  meets = λ c. subst (λ z. Meets (given z c (λ v. if is_true v then r c else q c))
+      (with (y c.state) c.state (λ v. if is_true v then m c.state else k c.state))) (sym (same c))
+      (given_meets (y c.state)
+          c _ _ (λ v. either_meets (is_true v) _ _ _ _ (b.meets c) (d.meets c)));
 }
 
-first_beside : (xs : List CountedArm) (ys : List Arm) (fs : List CountedStatement) (es : List Execution) → ArmsFit xs ys → AllFit fs es →
+first_beside : (xs : List CountedArm) (ys : List Arm) (fs : List CountedStatement)
+    (es : List Execution) → ArmsFit xs ys → AllFit fs es →
     (a : Granted) (b : Around) → Near a b → Beside (first_true xs fs a) (chosen ys es b)
 first_beside [] [] fs es g h a b w = in_order_beside fs es h a b w
 first_beside [] (y ∷ ys) fs es g h a b w = absurd g
 first_beside (x ∷ xs) [] fs es g h a b w = absurd g
 first_beside (x ∷ xs) (y ∷ ys) fs es g h a b w =
     choice_beside (on_counted x.0 a) (on_state y.0 b)
-    (λ c. ap (λ e. e a.calls c.state.store) g.0 ∙ ap (λ calls. y.0 calls c.state.store) (sym w.calls))
+    (λ c. ap (λ e. e a.calls c.state.store) g.0 ∙ ap (λ calls. y.0 calls c.state.store)
+        (sym w.calls))
     _ _ _ _ (in_order_beside x.1 y.1 g.1 a b w) (first_beside xs ys fs es g.2 h a b w)
 
 -- ---- trees
 
 module _ (program : Checked) where
-  counted_roll : (y : RStmt-F RStmt RArm) → counted program (roll-RStmt y) ≡ counted_step program (map-RStmt RStmt RArm CountedStatement CountedArm (counted program) (counted_arm program) y)
-  counted_roll = fold-roll-RStmt CountedStatement CountedArm (counted_step program) (counted_arm_step program)
+  counted_roll : (y : RStmt-F RStmt RArm) → counted program (roll-RStmt y)
+      ≡ counted_step program (map-RStmt RStmt RArm CountedStatement CountedArm (counted program)
+      (counted_arm program) y)
+  counted_roll = fold-roll-RStmt CountedStatement CountedArm (counted_step program)
+      (counted_arm_step program)
 
-  counted_arm_roll : (y : RArm-F RStmt RArm) → counted_arm program (roll-RArm y) ≡ (value program y.test, map (counted program) y.body)
-  counted_arm_roll = fold-roll-RArm CountedStatement CountedArm (counted_step program) (counted_arm_step program)
+  counted_arm_roll : (y : RArm-F RStmt RArm) → counted_arm program (roll-RArm y)
+      ≡ (value program y.test, map (counted program) y.body)
+  counted_arm_roll = fold-roll-RArm CountedStatement CountedArm (counted_step program)
+      (counted_arm_step program)
 
   abbrev Fit : RStmt → Type 0
   Fit t = Fits (counted program t) (exec program t)
 
   abbrev FitArm : RArm → Type 0
-  FitArm arm = ((counted_arm program arm).0 ≡ (arm_of program arm).0) × AllFit (counted_arm program arm).1 (arm_of program arm).1
+  FitArm arm = ((counted_arm program arm).0 ≡ (arm_of program arm).0)
+      × AllFit (counted_arm program arm).1 (arm_of program arm).1
 
-  all_fit : (ts : List ((t : RStmt) × Fit t)) → AllFit (map (counted program) (map (λ e. e.0) ts)) (map (exec program) (map (λ e. e.0) ts))
+  all_fit : (ts : List ((t : RStmt) × Fit t)) → AllFit (map (counted program) (map (λ e. e.0) ts))
+      (map (exec program) (map (λ e. e.0) ts))
   all_fit [] = tt
   all_fit (t ∷ ts) = (t.1, all_fit ts)
 
-  arms_fit : (ts : List ((t : RArm) × FitArm t)) → ArmsFit (map (counted_arm program) (map (λ e. e.0) ts)) (map (arm_of program) (map (λ e. e.0) ts))
+  arms_fit : (ts : List ((t : RArm) × FitArm t)) → ArmsFit (map (counted_arm program)
+      (map (λ e. e.0) ts)) (map (arm_of program) (map (λ e. e.0) ts))
   arms_fit [] = tt
   arms_fit (t ∷ ts) = (t.1.0, t.1.1, arms_fit ts)
 
@@ -226,15 +279,22 @@ module _ (program : Checked) where
   plain = map-RStmt ((t : RStmt) × Fit t) ((t : RArm) × FitArm t) RStmt RArm (λ e. e.0) (λ e. e.0)
 
   fit_from : (y : RStmt-F RStmt RArm) →
-      Fits (counted_step program (map-RStmt RStmt RArm CountedStatement CountedArm (counted program) (counted_arm program) y))
-      (stmt_step program (map-RStmt RStmt RArm Execution Arm (exec program) (arm_of program) y)) → Fit (roll-RStmt y)
-  fit_from y g = subst (λ e. Fits (counted program (roll-RStmt y)) e) (sym (exec_roll program y)) (subst (λ f. Fits f (stmt_step program (map-RStmt RStmt RArm Execution Arm (exec program) (arm_of program) y))) (sym (counted_roll y)) g)
+      Fits (counted_step program (map-RStmt RStmt RArm CountedStatement CountedArm (counted
+          program) (counted_arm program) y))
+      (stmt_step program (map-RStmt RStmt RArm Execution Arm (exec program) (arm_of program) y)) →
+          Fit (roll-RStmt y)
+  fit_from y g = subst (λ e. Fits (counted program (roll-RStmt y)) e) (sym (exec_roll program y))
+      (subst (λ f. Fits f (stmt_step program (map-RStmt RStmt RArm Execution Arm (exec program)
+      (arm_of program) y))) (sym (counted_roll y)) g)
 
   -- ---- statements that hold no others
 
   assign_after : (v : RVar) (e : RExpr) (calls : List LiveCall) (s : State) →
-      After s (with (location program v calls s.store) s (λ l. with (value program e calls s.store) s (λ y. Normal (store_at s l y))))
-  assign_after v e calls s = with_after (location program v calls s.store) s _ (λ l. with_after (value program e calls s.store) s _ (λ y. record { prefix = same_prefix (done s) }))
+      After s (with (location program v calls s.store)
+          s (λ l. with (value program e calls s.store) s (λ y. Normal (store_at s l y))))
+  assign_after v e calls s = with_after (location program v calls s.store)
+      s _ (λ l. with_after (value program e calls s.store)
+      s _ (λ y. record { prefix = same_prefix (done s) }))
 
   read_after : (words : List ℤ) (l : Location) (s : State) → After s (read_to words l s)
   read_after [] l s = trapped_at_once _ s
@@ -244,80 +304,117 @@ module _ (program : Checked) where
   write_after e s = record { prefix = (e ∷ [], refl, omega arith) }
 
   -- a unit that does what a run means
-  single_beside : (a : Granted) (b : Around) → Near a b → (m : List LiveCall → Run) → ((s : State) → After s (m b.calls s)) →
+  single_beside : (a : Granted) (b : Around) → Near a b → (m : List LiveCall → Run) →
+      ((s : State) → After s (m b.calls s)) →
       Beside (unit a.granted (does (m a.calls))) (m b.calls)
-  single_beside a b w m g = subst (λ calls. Beside (unit a.granted (does (m calls))) (m b.calls)) w.calls (unit_beside a.granted (does (m b.calls)) (m b.calls) (does_beside (m b.calls) g))
+  single_beside a b w m g = subst (λ calls. Beside (unit a.granted (does (m calls))) (m b.calls))
+      w.calls (unit_beside a.granted (does (m b.calls)) (m b.calls) (does_beside (m b.calls) g))
 
   abbrev assigned_by : RVar → RExpr → List LiveCall → Run
-  assigned_by v e calls s = with (location program v calls s.store) s (λ l. with (value program e calls s.store) s (λ y. Normal (store_at s l y)))
+  assigned_by v e calls s = with (location program v calls s.store)
+      s (λ l. with (value program e calls s.store) s (λ y. Normal (store_at s l y)))
 
   abbrev read_by : RVar → List LiveCall → Run
   read_by v calls s = with (location program v calls s.store) s (λ l. read_to s.input l s)
 
   abbrev written_by : RExpr → List LiveCall → Run
-  written_by e calls s = with (value program e calls s.store) s (λ y. Normal (written s (event.Number (number y))))
+  written_by e calls s = with (value program e calls s.store)
+      s (λ y. Normal (written s (event.Number (number y))))
 
   -- ---- each form
 
   -- the arguments of a call, and the call
-  called_beside : (a : Granted) (b : Around) → Near a b → (x : List LiveCall → State → Result (List Argument) TrapKind) (proc : ℕ) →
-      Beside (λ c. given (x a.calls c.state) c (λ xs. a.call proc xs c)) (λ s. with (x b.calls s) s (λ xs. b.call proc xs s))
+  called_beside : (a : Granted) (b : Around) → Near a b → (x : List LiveCall → State →
+      Result (List Argument) TrapKind) (proc : ℕ) →
+      Beside (λ c. given (x a.calls c.state) c (λ xs. a.call proc xs c)) (λ s. with (x b.calls s)
+          s (λ xs. b.call proc xs s))
   called_beside a b w x proc = record {
     grows = λ s. with_after (x b.calls s) s _ (λ xs. (w.call proc xs).grows s);
-    meets = λ c. subst (λ calls. Meets (given (x calls c.state) c (λ xs. a.call proc xs c)) (with (x b.calls c.state) c.state (λ xs. b.call proc xs c.state))) w.calls
+    meets = λ c. subst (λ calls. Meets (given (x calls c.state) c (λ xs. a.call proc xs c))
+        (with (x b.calls c.state) c.state (λ xs. b.call proc xs c.state))) w.calls
         (given_meets (x b.calls c.state) c _ _ (λ xs. (w.call proc xs).meets c));
   }
 
-  while_fits : (x : Evaluation) (fs : List CountedStatement) (es : List Execution) → AllFit fs es → (a : Granted) (b : Around) → Near a b →
-      Beside (while_units a.granted a.granted (on_counted x a) (in_order fs a)) (while_turns b.turns (on_state x b) (in_turn es b))
+  while_fits : (x : Evaluation) (fs : List CountedStatement) (es : List Execution) → AllFit fs es →
+      (a : Granted) (b : Around) → Near a b →
+      Beside (while_units a.granted a.granted (on_counted x a) (in_order fs a))
+          (while_turns b.turns (on_state x b) (in_turn es b))
   while_fits x fs es g a b w =
-      subst (λ n. Beside (while_units a.granted a.granted (on_counted x a) (in_order fs a)) (while_turns n (on_state x b) (in_turn es b))) (sym w.turns)
-      (subst (λ calls. Beside (while_units a.granted a.granted (λ c. x calls c.state.store) (in_order fs a)) (while_turns a.granted (on_state x b) (in_turn es b))) w.calls
-      (while_beside a.granted a.granted (on_state x b) (in_order fs a) (in_turn es b) (in_order_beside fs es g a b w)))
+      subst (λ n. Beside (while_units a.granted a.granted (on_counted x a) (in_order fs a))
+          (while_turns n (on_state x b) (in_turn es b))) (sym w.turns)
+      (subst (λ calls. Beside (while_units a.granted a.granted (λ c. x calls c.state.store)
+          (in_order fs a)) (while_turns a.granted (on_state x b) (in_turn es b))) w.calls
+      (while_beside a.granted a.granted (on_state x b) (in_order fs a) (in_turn es b)
+          (in_order_beside fs es g a b w)))
 
-  repeat_fits : (x : Evaluation) (fs : List CountedStatement) (es : List Execution) → AllFit fs es → (a : Granted) (b : Around) → Near a b →
-      Beside (repeat_units a.granted a.granted (in_order fs a) (on_counted x a)) (repeat_turns b.turns (in_turn es b) (on_state x b))
+  repeat_fits : (x : Evaluation) (fs : List CountedStatement) (es : List Execution) →
+      AllFit fs es → (a : Granted) (b : Around) → Near a b →
+      Beside (repeat_units a.granted a.granted (in_order fs a) (on_counted x a))
+          (repeat_turns b.turns (in_turn es b) (on_state x b))
   repeat_fits x fs es g a b w =
-      subst (λ n. Beside (repeat_units a.granted a.granted (in_order fs a) (on_counted x a)) (repeat_turns n (in_turn es b) (on_state x b))) (sym w.turns)
-      (subst (λ calls. Beside (repeat_units a.granted a.granted (in_order fs a) (λ c. x calls c.state.store)) (repeat_turns a.granted (in_turn es b) (on_state x b))) w.calls
-      (repeat_beside a.granted a.granted (in_order fs a) (in_turn es b) (on_state x b) (in_order_beside fs es g a b w)))
+      subst (λ n. Beside (repeat_units a.granted a.granted (in_order fs a) (on_counted x a))
+          (repeat_turns n (in_turn es b) (on_state x b))) (sym w.turns)
+      (subst (λ calls. Beside (repeat_units a.granted a.granted (in_order fs a) (λ c. x calls
+          c.state.store)) (repeat_turns a.granted (in_turn es b) (on_state x b))) w.calls
+      (repeat_beside a.granted a.granted (in_order fs a) (in_turn es b) (on_state x b)
+          (in_order_beside fs es g a b w)))
 
   stmt_case : (y : WithFit) → Fit (roll-RStmt (plain y))
-  stmt_case (RStmt-F.Assign v e) = fit_from _ (record { at = λ a b w. single_beside a b w (assigned_by v e) (assign_after v e b.calls) })
-  stmt_case (RStmt-F.If arms other) = fit_from _ (record { at = λ a b w. unit_beside a.granted _ _ (first_beside _ _ _ _ (arms_fit arms) (all_fit other) a b w) })
-  stmt_case (RStmt-F.While test ts) = fit_from _ (record { at = λ a b w. while_fits (value program test) _ _ (all_fit ts) a b w })
-  stmt_case (RStmt-F.Repeat ts test) = fit_from _ (record { at = λ a b w. repeat_fits (value program test) _ _ (all_fit ts) a b w })
-  stmt_case (RStmt-F.Call proc args) = fit_from _ (record { at = λ a b w. unit_beside a.granted _ _ (called_beside a b w (λ calls s. arguments program calls s.store args) proc.0) })
+  stmt_case (RStmt-F.Assign v e)
+      = fit_from _ (record { at = λ a b w. single_beside a b w (assigned_by v e) (assign_after v e
+      b.calls) })
+  stmt_case (RStmt-F.If arms other)
+      = fit_from _ (record { at = λ a b w. unit_beside a.granted _ _ (first_beside _ _ _ _
+      (arms_fit arms) (all_fit other) a b w) })
+  stmt_case (RStmt-F.While test ts)
+      = fit_from _ (record { at = λ a b w. while_fits (value program test) _ _ (all_fit ts) a b w })
+  stmt_case (RStmt-F.Repeat ts test)
+      = fit_from _ (record { at = λ a b w. repeat_fits (value program test) _ _ (all_fit ts) a b w
+      })
+  stmt_case (RStmt-F.Call proc args)
+      = fit_from _ (record { at = λ a b w. unit_beside a.granted _ _ (called_beside a b w (λ calls
+      s. arguments program calls s.store args) proc.0) })
   stmt_case (RStmt-F.Read v) = fit_from _ (record {
-    at = λ a b w. single_beside a b w (read_by v) (λ s. with_after (location program v b.calls s.store) s _ (λ l. read_after s.input l s));
+    at = λ a b w. single_beside a b w (read_by v)
+        (λ s. with_after (location program v b.calls s.store) s _ (λ l. read_after s.input l s));
   })
   stmt_case (RStmt-F.Write e) = fit_from _ (record {
-    at = λ a b w. single_beside a b w (written_by e) (λ s. with_after (value program e b.calls s.store) s _ (λ y. write_after (event.Number (number y)) s));
+    at = λ a b w. single_beside a b w (written_by e)
+        (λ s. with_after (value program e b.calls s.store)
+        s _ (λ y. write_after (event.Number (number y)) s));
   })
-  stmt_case RStmt-F.WriteLine = fit_from _ (record { at = λ a b w. single_beside a b w (λ calls s. Normal (written s event.Line)) (write_after event.Line) })
+  stmt_case RStmt-F.WriteLine = fit_from _ (record { at = λ a b w. single_beside a b w (λ calls s.
+      Normal (written s event.Line)) (write_after event.Line) })
 
-  arm_case : (y : RArm-F ((t : RStmt) × Fit t) ((t : RArm) × FitArm t)) → FitArm (roll-RArm (record { test = y.test; body = map (λ e. e.0) y.body }))
+  arm_case : (y : RArm-F ((t : RStmt) × Fit t) ((t : RArm) × FitArm t)) →
+      FitArm (roll-RArm (record { test = y.test; body = map (λ e. e.0) y.body }))
   arm_case y =
       let here : RArm-F RStmt RArm = record { test = y.test; body = map (λ e. e.0) y.body } in
-      subst (λ z. (z.0 ≡ (arm_of program (roll-RArm here)).0) × AllFit z.1 (arm_of program (roll-RArm here)).1) (sym (counted_arm_roll here))
-      (subst (λ z. (value program y.test ≡ z.0) × AllFit (map (counted program) (map (λ e. e.0) y.body)) z.1) (sym (arm_of_roll program here)) (refl, all_fit y.body))
+      subst (λ z. (z.0 ≡ (arm_of program (roll-RArm here)).0)
+          × AllFit z.1 (arm_of program (roll-RArm here)).1) (sym (counted_arm_roll here))
+      (subst (λ z. (value program y.test ≡ z.0) × AllFit (map (counted program) (map (λ e. e.0)
+          y.body)) z.1) (sym (arm_of_roll program here)) (refl, all_fit y.body))
 
   pub fits : (t : RStmt) → Fit t
   fits = ind-RStmt Fit FitArm
       (λ x y is. subst (λ z. Fit (roll-RStmt z)) is (stmt_case y))
       (λ x y is. subst (λ z. FitArm (roll-RArm z)) is (arm_case y))
 
-  all_beside : (ts : List RStmt) (a : Granted) (b : Around) → Near a b → Beside (counted_all program ts a) (exec_all program ts b)
+  all_beside : (ts : List RStmt) (a : Granted) (b : Around) → Near a b →
+      Beside (counted_all program ts a) (exec_all program ts b)
   all_beside [] a b w = record { grows = at_once; meets = λ c. refl }
-  all_beside (t ∷ ts) a b w = then_beside (counted program t a) (counted_all program ts a) (exec program t b) (exec_all program ts b) ((fits t).at a b w) (all_beside ts a b w)
+  all_beside (t ∷ ts) a b w = then_beside (counted program t a) (counted_all program ts a)
+      (exec program t b) (exec_all program ts b) ((fits t).at a b w) (all_beside ts a b w)
 
   -- ---- calls
 
-  either_beside : (t : Bool) (r q : Counting) (m k : Run) → Beside r m → Beside q k → Beside (λ c. if t then r c else q c) (λ s. if t then m s else k s)
+  either_beside : (t : Bool) (r q : Counting) (m k : Run) → Beside r m → Beside q k →
+      Beside (λ c. if t then r c else q c) (λ s. if t then m s else k s)
   either_beside true r q m k b d = b
   either_beside false r q m k b d = d
 
-  stack_beside : (frames : List ℕ) (calls : List LiveCall) (proc : ℕ) (r : Counting) (m : Run) → Beside r m →
+  stack_beside : (frames : List ℕ) (calls : List LiveCall) (proc : ℕ) (r : Counting) (m : Run) →
+      Beside r m →
       Beside (within_stack frames calls proc r) (λ s. on_stack frames calls proc s (m s))
   stack_beside frames calls proc r m b =
       either_beside (nat_lt stack_limit (live_frames frames calls + frame_of frames proc)) _ r _ m
@@ -326,14 +423,19 @@ module _ (program : Checked) where
   stops_beside : Beside Stopped Going
   stops_beside = record { grows = going_at_once; meets = λ c. going_at_once c.state }
 
-  enters_beside : (calls : List LiveCall) (args : List Argument) (r : Counting) (m : Run) → Beside r m →
-      Beside (λ c. r (in_call (suc (depth calls)) args c)) (λ s. m (record s { store = entered (suc (depth calls)) args s.store }))
+  enters_beside : (calls : List LiveCall) (args : List Argument) (r : Counting) (m : Run) →
+      Beside r m →
+      Beside (λ c. r (in_call (suc (depth calls)) args c))
+          (λ s. m (record s { store = entered (suc (depth calls)) args s.store }))
   enters_beside calls args r m b = record {
-    grows = λ s. record { prefix = (b.grows (record s { store = entered (suc (depth calls)) args s.store })).prefix };
+    grows = λ s. record { prefix = (b.grows (record s { store = entered (suc (depth calls)) args
+        s.store })).prefix };
     meets = λ c. b.meets (in_call (suc (depth calls)) args c);
   }
 
-  around_near : (frames : List ℕ) (granted deeper : ℕ) (calls : List LiveCall) → Near (granted_around program frames granted deeper calls) (around program frames granted deeper calls)
+  around_near : (frames : List ℕ) (granted deeper : ℕ) (calls : List LiveCall) →
+      Near (granted_around program frames granted deeper calls)
+      (around program frames granted deeper calls)
   around_near frames granted zero calls = record {
     turns = refl;
     calls = refl;
@@ -343,26 +445,37 @@ module _ (program : Checked) where
     turns = refl;
     calls = refl;
     call = λ proc args. stack_beside frames calls proc _ _ (enters_beside calls args _ _
-        (all_beside (body program proc) _ _ (around_near frames granted deeper (call_with proc args ∷ calls))));
+        (all_beside (body program proc)
+            _ _ (around_near frames granted deeper (call_with proc args ∷ calls))));
   }
 
   -- ---- the whole
 
-  module_meets : (frames : List ℕ) (input : List ℤ) (k : ℕ) → Meets (units_run program frames input k) (completion program frames input k)
-  module_meets frames input k = (all_beside (body program 0) _ _ (around_near frames k k only_body)).meets (record { state = start input; units = 0 })
+  module_meets : (frames : List ℕ) (input : List ℤ) (k : ℕ) →
+      Meets (units_run program frames input k) (completion program frames input k)
+  module_meets frames input k = (all_beside (body program 0)
+      _ _ (around_near frames k k only_body)).meets (record { state = start input; units = 0 })
 
-  ends_in : (h : Halt) (m : Completion) → Meets h m → (progress_in h).ending ≢ None → progress_in h ≡ progress_of m
+  ends_in : (h : Halt) (m : Completion) → Meets h m → (progress_in h).ending ≢ None →
+      progress_in h ≡ progress_of m
   ends_in (Done c) m h over = sym (ap progress_of h)
   ends_in (Failed trap c) m h over = sym (ap progress_of h)
   ends_in (Stopped c) m h over = absurd (over refl)
 
   goes_in : (h : Halt) (m : Completion) → Meets h m → IsPrefix (progress_in h) (progress_of m)
-  goes_in (Done c) m h = subst (λ z. IsPrefix (progress_in (Done c)) (progress_of z)) (sym h) (same_prefix (progress_in (Done c)))
-  goes_in (Failed trap c) m h = subst (λ z. IsPrefix (progress_in (Failed trap c)) (progress_of z)) (sym h) (same_prefix (progress_in (Failed trap c)))
+  goes_in (Done c) m h = subst (λ z. IsPrefix (progress_in (Done c)) (progress_of z)) (sym h)
+      (same_prefix (progress_in (Done c)))
+  goes_in (Failed trap c) m h = subst (λ z. IsPrefix (progress_in (Failed trap c)) (progress_of z))
+      (sym h) (same_prefix (progress_in (Failed trap c)))
   goes_in (Stopped c) m h = h.prefix
 
-  pub units_end_as_meant : (frames : List ℕ) (input : List ℤ) (k : ℕ) → (progress_in (units_run program frames input k)).ending ≢ None → progress_in (units_run program frames input k) ≡ mean program frames input k
-  units_end_as_meant frames input k over = ends_in (units_run program frames input k) (completion program frames input k) (module_meets frames input k) over
+  pub units_end_as_meant : (frames : List ℕ) (input : List ℤ) (k : ℕ) →
+      (progress_in (units_run program frames input k)).ending ≢ None →
+      progress_in (units_run program frames input k) ≡ mean program frames input k
+  units_end_as_meant frames input k over = ends_in (units_run program frames input k)
+      (completion program frames input k) (module_meets frames input k) over
 
-  pub units_go_as_meant : (frames : List ℕ) (input : List ℤ) (k : ℕ) → IsPrefix (progress_in (units_run program frames input k)) (mean program frames input k)
-  units_go_as_meant frames input k = goes_in (units_run program frames input k) (completion program frames input k) (module_meets frames input k)
+  pub units_go_as_meant : (frames : List ℕ) (input : List ℤ) (k : ℕ) →
+      IsPrefix (progress_in (units_run program frames input k)) (mean program frames input k)
+  units_go_as_meant frames input k = goes_in (units_run program frames input k)
+      (completion program frames input k) (module_meets frames input k)

@@ -5,7 +5,9 @@ use Rattle.ob_interp.proofs.enter.begin.Given as goal
 
 abbrev pub invariant-loop-arg : goal.invariant-loop-arg
 invariant-loop-arg l = record {
-  store : passed (length l.fn.running.calls.items + 1) l.k (drop l.arg-index l.args) (store_of l.running) ≡ entered (length l.fn.running.calls.items + 1) l.args (store_of l.fn.running);
+  store : passed (length l.fn.running.calls.items + 1) l.k (drop l.arg-index l.args)
+      (store_of l.running) ≡ entered (length l.fn.running.calls.items + 1)
+      l.args (store_of l.fn.running);
   lent : l.lent.items ++ map lent_of (drop l.arg-index l.args) ≡ map lent_of l.args;
   number : l.k ≡ l.arg-index;
   calls : l.running.calls.items ≡ l.fn.running.calls.items;

@@ -9,6 +9,7 @@ invariant-loop-arm l =
     let a = around l.setting l.running in
     let c = counted_of l.setting.input.now l.running in
     record {
-      goes : first_true (map (counted_arm p) (drop l.arm-index l.arms)) (map (counted p) l.other) a c ≡ first_true (map (counted_arm p) l.arms) (map (counted p) l.other) a c;
+      goes : first_true (map (counted_arm p) (drop l.arm-index l.arms)) (map (counted p) l.other)
+          a c ≡ first_true (map (counted_arm p) l.arms) (map (counted p) l.other) a c;
       tasks : l.tasks.items ≡ l.fn.tasks.items;
     }

@@ -6,7 +6,8 @@ abbrev pub invariant-loop-task : goal.invariant-loop-task
 invariant-loop-task l = record {
   running : IsRunning l.setting l.running;
   units : l.running.units ≡ l.fn.running.units;
-  goes : remains l.setting l.tasks.items l.running ≡ remains l.setting l.fn.tasks.items l.fn.running;
+  goes : remains l.setting l.tasks.items l.running
+      ≡ remains l.setting l.fn.tasks.items l.fn.running;
 }
 
 abbrev pub decreases-loop-task : goal.decreases-loop-task

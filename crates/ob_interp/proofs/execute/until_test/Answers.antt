@@ -12,4 +12,6 @@ returns-in_ok-push_front-in-Ok-2 c =
     let no : is_true c.in-Ok.x ≡ false = sym c.is_true.ensures ∙ c.if-not-is_true.true in
     let pushed = c.in_ok-push_front-in-Ok.ensures.items in
     let again = c.in_ok-push_front-in-Ok-2.ensures.items in
-    turned-back p c.args.setting.now.frames.now c.args.setting.now.granted c.args.running.now.calls.items s c.args.body c.args.test c.in-Ok.x c.args.tasks.now.items _ _ v no pushed again
+    turned-back p c.args.setting.now.frames.now c.args.setting.now.granted
+        c.args.running.now.calls.items s c.args.body c.args.test c.in-Ok.x c.args.tasks.now.items _
+        _ v no pushed again
