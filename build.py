@@ -1,14 +1,17 @@
 #!/usr/bin/env python3
-"""Proves and builds the libraries that a crate stands on, several side by side.
+"""Proves and builds a program and the libraries that it stands on, several side by side.
 
-    build.py NAME
+    build.py NAME          builds the program crates/NAME
+    build.py --sum NAME    prints a sum of the sources that it is built of
 
 In one checkout the kit works on one crate at a time. So each worker has a copy of the sources,
-proves one library there, and hands on what was made to this checkout, where the crate itself can
-then be built. The library on which most work still waits is taken first. A line to standard error
-tells of each library as its proof begins. The status is 0 where all were built.
+proves one library there, and hands on what was made to this checkout, where the program itself is
+then built. The library on which most work still waits is taken first. A line to standard error
+tells of each crate as its proof begins. The status is 0 where all is built, and else 70. Beside the
+program stands the sum of its sources, as NAME.sources.
 """
 
+import hashlib
 import os
 import re
 import shutil
@@ -20,16 +23,22 @@ import time
 
 TOP = os.path.dirname(os.path.realpath(__file__))
 MEMORY_OF_ONE = 4 << 20  # kilobytes that the proof of one crate may take
+NOT_BUILT = 70  # the status where the program was not built
 
 
 def crates():
-    """Each crate of the repository, with the crates of the repository that it names."""
+    """Each crate of the repository, with all that its line names."""
     named = {}
     with open(f"{TOP}/crates.txt", encoding="utf-8") as lines:
         for line in lines:
             name, colon, rest = line.partition(":")
             if colon and not line.startswith("#"):
                 named[name.split()[0]] = rest.split()
+    return named
+
+
+def of_the_repository(named):
+    """Each crate, with the crates of the repository that its line names."""
     return {it: [below for below in named[it] if below in named] for it in named}
 
 
@@ -41,12 +50,33 @@ def below(name, stands_on):
     return found
 
 
+def sources(name):
+    """The files of a crate that its proof reads."""
+    found = []
+    for part in ("src", "specs", "proofs"):
+        for folder, _, files in os.walk(f"{TOP}/crates/{name}/{part}"):
+            found += [f"{folder}/{it}" for it in files]
+    return sorted(found)
+
+
+def sum_of_sources(name):
+    named = crates()
+    total = hashlib.sha256()
+    for crate in sorted([name, *below(name, of_the_repository(named))]):
+        total.update(f"{crate}: {named[crate]}\n".encode())
+        for file in sources(crate):
+            with open(file, "rb") as text:
+                total.update(f"{os.path.relpath(file, TOP)}\n".encode())
+                total.update(hashlib.sha256(text.read()).digest())
+    return total.hexdigest()
+
+
 def weight(name):
     """The lines of a crate's code: its proof takes the longer the more there are."""
     lines = 0
-    for folder, _, files in os.walk(f"{TOP}/crates/{name}/src"):
-        for it in files:
-            with open(f"{folder}/{it}", "rb") as text:
+    for file in sources(name):
+        if file.endswith(".rt"):
+            with open(file, "rb") as text:
                 lines += text.read().count(b"\n")
     return lines
 
@@ -60,13 +90,31 @@ def copies_at_once():
     return max(1, min(len(os.sched_getaffinity(0)), free // MEMORY_OF_ONE))
 
 
+def say(line):
+    print(f"pra: {line}", file=sys.stderr, flush=True)
+
+
+def ran(command, folder, at_first_line):
+    """Whether a command did its work, and what it said; calls at_first_line once it says any."""
+    how = {"cwd": folder, "stdin": subprocess.DEVNULL, "errors": "replace"}
+    how.update(stdout=subprocess.PIPE, stderr=subprocess.STDOUT)
+    said = []
+    with subprocess.Popen(command, **how) as it:
+        for line in it.stdout:
+            if not said:
+                at_first_line()
+            said.append(line)
+    return it.returncode, "".join(said)
+
+
 class Build:
     """What is still to be built, and by whom."""
 
     def __init__(self, name, room):
-        self.stands_on = crates()
+        self.name = name
+        self.stands_on = of_the_repository(crates())
         self.waiting = below(name, self.stands_on)
-        self.all = len(self.waiting)
+        self.all = len(self.waiting) + 1
         self.built, self.failed, self.at_work = set(), None, 0
         self.turn = threading.Condition()
         self.begun = time.time()
@@ -90,19 +138,16 @@ class Build:
                     name = max(ready, key=self.behind.get)
                     self.waiting.remove(name)
                     self.at_work += 1
-                    self.tell(name)
                     return name, len(self.copies) // max(self.at_work, len(ready))
                 self.turn.wait()
             return None
 
-    def tell(self, name):
+    def time(self):
         minutes, seconds = divmod(int(time.time() - self.begun), 60)
-        number = self.all - len(self.waiting)
-        print(
-            f"pra: proving {name}, crate {number} of {self.all}, {minutes} min {seconds} s so far",
-            file=sys.stderr,
-            flush=True,
-        )
+        return f"{minutes} min {seconds} s"
+
+    def tell(self, name):
+        say(f"proving {name}, {len(self.built)} of {self.all} crates done, {self.time()} so far")
 
     def work(self, copy):
         """Builds one crate after the other in a copy."""
@@ -112,19 +157,12 @@ class Build:
         while taken := self.take():
             name, jobs = taken
             self.receive(name, copy)
-            ran = subprocess.run(
-                ["rt", "lib", "--jobs", str(max(jobs, 1))],
-                cwd=f"{copy}/crates/{name}",
-                stdin=subprocess.DEVNULL,
-                stdout=subprocess.PIPE,
-                stderr=subprocess.STDOUT,
-                errors="replace",
-                check=False,
-            )
+            command = ["rt", "lib", "--jobs", str(max(jobs, 1))]
+            status, said = ran(command, f"{copy}/crates/{name}", lambda: self.tell(name))
             with self.turn:
                 self.at_work -= 1
-                if ran.returncode:
-                    self.failed = self.failed or (name, ran.stdout)
+                if status:
+                    self.failed = self.failed or (name, said)
                 else:
                     self.hand_in(name, copy)
                     self.built.add(name)
@@ -149,25 +187,49 @@ class Build:
         shutil.rmtree(new, ignore_errors=True)
         subprocess.run(["cp", "-al", old, new], check=True)
 
-    def run(self):
+    def libraries(self):
         workers = [threading.Thread(target=self.work, args=(copy,)) for copy in self.copies]
         for it in workers:
             it.start()
         for it in workers:
             it.join()
+
+    def program(self):
+        """Builds the program, and runs it without words, which it refuses with its usage."""
+        folder = f"{TOP}/crates/{self.name}"
+        _, said = ran(["rt", "run"], folder, lambda: self.tell(self.name))
+        if f"usage: {self.name}" not in said:
+            self.failed = (self.name, said)
+
+    def run(self):
+        self.libraries()
+        if not self.failed:
+            self.program()
         if self.failed:
             name, said = self.failed
             print(said, file=sys.stderr)
-            print(f"pra: {name} was not built", file=sys.stderr)
-        return 1 if self.failed else 0
+            say(f"{name} was not built")
+            return NOT_BUILT
+        say(f"built in {self.time()}")
+        return 0
 
 
 def main(name):
     # beside what is made, so that files can be handed on as links
-    os.makedirs(f"{TOP}/crates/{name}/out", exist_ok=True)
-    with tempfile.TemporaryDirectory(prefix="copies-", dir=f"{TOP}/crates/{name}/out") as room:
-        return Build(name, room).run()
+    out = f"{TOP}/crates/{name}/out"
+    os.makedirs(out, exist_ok=True)
+    say("proving and building what is not built: from nothing some 80 minutes of processor time")
+    total = sum_of_sources(name)
+    with tempfile.TemporaryDirectory(prefix="copies-", dir=out) as room:
+        status = Build(name, room).run()
+    if not status:
+        with open(f"{out}/{name}.sources", "w", encoding="utf-8") as file:
+            print(total, file=file)
+    return status
 
 
 if __name__ == "__main__":
-    sys.exit(main(sys.argv[1]))
+    if sys.argv[1] == "--sum":
+        print(sum_of_sources(sys.argv[2]))
+    else:
+        sys.exit(main(sys.argv[1]))

@@ -10,7 +10,7 @@ trap 'rm -rf "$folder"' EXIT
 cd "$folder"
 
 "$generate" 1 200 >G.ob
-"$bench/../pra" compile G.ob >/dev/null 2>&1 # builds, where needed
+"$bench/../pra" build
 program=$bench/../crates/pra/out/pra
 result=$("$bench/best_of_five.sh" "$program" compile G.ob)
 echo "pra: $(wc -l <G.ob) lines in $result"

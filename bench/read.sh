@@ -32,7 +32,7 @@ awk 'BEGIN {
     print "VAR b: BOOLEAN; BEGIN b := c10000 = 10000 END Names."
 }' >names.ob
 
-"$bench/../pra" compile wide.ob >/dev/null 2>&1 # builds, where needed
+"$bench/../pra" build
 for name in wide.ob names.ob; do
     result=$("$bench/best_of_five.sh" "$bench/../crates/pra/out/pra" compile "$name")
     echo "$name: $(stat -c %s "$name") bytes in $result"

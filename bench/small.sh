@@ -13,7 +13,7 @@ awk 'BEGIN {
     printf " END M."
 }' >large.ob
 
-"$bench/../pra" run large.ob </dev/null >output 2>&1 # builds, where needed
+"$bench/../pra" build
 command="'$bench/../crates/pra/out/pra' run large.ob </dev/null 2>&1 >/dev/null"
 result=$("$bench/best_of_five.sh" sh -c "$command")
 echo "$(wc -c <large.ob) bytes of source, $(wc -c <out.pri) bytes of image, in $result"

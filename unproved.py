@@ -1,0 +1,184 @@
+#!/usr/bin/env python3
+"""Runs the compiler's sources, of which nothing need be proved, as a call of the program would run.
+
+    unproved.py WHY WORD ..
+
+`rt try` builds the sources with checks and runs them in a folder of its own, so names are made
+absolute here. Input, output, notes, exit status and files are those of the call ./pra WORD .. One
+line to the terminal, or to standard error where there is none, says WHY this run is not proved.
+Where such a run can't tell what the call would do, a line says so, and the status is 70.
+"""
+
+import os
+import re
+import signal
+import subprocess
+import sys
+import tempfile
+
+TOP = os.path.dirname(os.path.realpath(__file__))
+NO_ANSWER = 70  # the status where nothing can be said of the call
+SECONDS = 3600  # that a run may take
+MOST_INPUT = 1 << 20  # bytes of input that the program takes; one more is refused
+IMAGE = b"out.pri"  # the image's name where the words give none
+NO_NUMBER = b"x"  # an input that is refused where one is that can't be read
+# What rt try adds behind the program's notes.
+ENDED = re.compile(rb"checked: [^\n]*\nrun=ended status=(\d+) [^\n]*proved=no\n\Z")
+
+
+class NoAnswer(Exception):
+    """Why an unproved run can't tell what the call would do."""
+
+
+def say(line):
+    """Tells the user, and neither output nor notes where there is a terminal."""
+    try:
+        with open("/dev/tty", "w", encoding="utf-8") as terminal:
+            print(f"pra: {line}", file=terminal)
+    except OSError:
+        print(f"pra: {line}", file=sys.stderr, flush=True)
+
+
+def stands_for_itself(word):
+    return not word.startswith(b"-") or word == b"-"
+
+
+def roles(words):
+    """Of each word what it is: mode, file, image, steps, or None."""
+    plain, option, all_plain = ["mode", "file"], None, False
+    for word in words:
+        if option:
+            yield option if stands_for_itself(word) else None
+            option = None
+        elif all_plain or stands_for_itself(word):
+            yield plain.pop(0) if plain else None
+        else:
+            all_plain = word == b"--"
+            option = {b"--image": "image", b"--steps": "steps"}.get(word)
+            yield "image" if word.startswith(b"--image=") else None
+
+
+def absolute(name, folder):
+    return name if not name or name.startswith(b"/") else folder + b"/" + name
+
+
+def by_role(words):
+    return dict(zip(roles(words), words))
+
+
+def renamed(words, folder):
+    """The words with absolute names, which are the same exactly where the given ones are."""
+    given = by_role(words)
+    file = given.get("file", b"")
+    image = given.get("image", IMAGE).removeprefix(b"--image=")
+    names = {"file": absolute(file, folder), "image": absolute(image, folder)}
+    if file != image and names["file"] == names["image"]:
+        short = "image" if names["image"] != image else "file"
+        names[short] = folder + b"/./" + given.get(short, IMAGE).removeprefix(b"--image=")
+    told = [] if "image" in given else [b"--image", names["image"]]
+    for role, word in zip(roles(words), words):
+        prefix = b"--image=" if role == "image" and word.startswith(b"--image=") else b""
+        told.append(prefix + names[role] if role in names else word)
+    return told
+
+
+def is_text(word):
+    try:
+        word.decode()
+    except UnicodeDecodeError:
+        return False
+    return True
+
+
+def words_to_try(words):
+    """The words for the run. Those that are no text the program refuses as it refuses none."""
+    if not all(map(is_text, words)):
+        return []
+    folder = os.getcwdb()
+    if not is_text(folder):
+        raise NoAnswer("the name of the working folder is no UTF-8 text")
+    return renamed(words, folder)
+
+
+def take_input(words):
+    """What the program would take of standard input, and whether it can be read."""
+    taken = bytearray()
+    if by_role(words).get("mode") == b"run":
+        try:
+            while len(taken) <= MOST_INPUT and (more := os.read(0, MOST_INPUT + 1 - len(taken))):
+                taken += more
+        except OSError:
+            return NO_NUMBER, False
+    return taken, True
+
+
+def run(words, taken):
+    """The exit status, output and notes of the run."""
+    with tempfile.TemporaryDirectory(prefix="pra-") as room:
+        streams = [open(f"{room}/{name}", "w+b") for name in ("input", "out", "notes")]
+        streams[0].write(taken)
+        streams[0].seek(0)
+        command = ["rt", "try", "--seconds", str(SECONDS), "--", *words]
+        how = dict(zip(("stdin", "stdout", "stderr"), streams))
+        with subprocess.Popen(command, cwd=f"{TOP}/crates/pra", **how) as tried:
+            try:
+                tried.wait()
+            finally:
+                tried.terminate()
+        for it in streams:
+            it.seek(0)
+        _, out, notes = [it.read() for it in streams]
+    ended = ENDED.search(notes)
+    if not ended:
+        raise NoAnswer(notes.decode(errors="replace").rstrip() or "rt try was cut off")
+    return int(ended[1]), out, notes[: ended.start()]
+
+
+def keep_closed_streams():
+    """Has reads and writes of a stream that is closed fail, whatever file is opened later."""
+    for stream, flags in enumerate((os.O_WRONLY, os.O_RDONLY, os.O_RDONLY)):
+        try:
+            os.fstat(stream)
+        except OSError:
+            os.open(os.devnull, flags)  # gets the least free number
+
+
+def write_all(stream, data):
+    while data:
+        data = data[os.write(stream, data) :]
+
+
+def write(status, out, notes):
+    """Writes in the program's order; the status is then the program's, also where writing fails."""
+    try:
+        write_all(1, out)
+    except OSError:
+        status, notes = 5, b"fault write out\n"
+    try:
+        write_all(2, notes)
+    except OSError:
+        status = 5
+    return status
+
+
+def main(why, words):
+    keep_closed_streams()
+    say(f"{why}, so this run is NOT PROVED and takes a minute or more; ./pra build proves it")
+    taken, is_read = take_input(words)
+    status, out, notes = run(words_to_try(words), taken)
+    if not is_read and status == 7:
+        status, notes = 5, b"fault read input\n"
+    return write(status, out, notes)
+
+
+if __name__ == "__main__":
+    signal.signal(signal.SIGTERM, lambda number, _: sys.exit(128 + number))
+    try:
+        sys.exit(main(sys.argv[1], [os.fsencode(it) for it in sys.argv[2:]]))
+    except NoAnswer as reason:
+        print(f"{reason}\npra: this unproved run has no answer; ./pra build", file=sys.stderr)
+    except OSError as error:
+        print(f"pra: no unproved run: {error}", file=sys.stderr)
+    except KeyboardInterrupt:
+        sys.exit(128 + signal.SIGINT)
+    sys.exit(NO_ANSWER)
