@@ -1,16 +1,28 @@
-//! Tests of the public calls of the machine's crates: instructions and bytes, image files, placed
-//! code that is assembled, runs.
+//! Tests of the public calls of the machine's crates: instructions and bytes, image files, bare
+//! programs, and images of placed code.
 //!
-//! Each module tests one crate, and nothing here is used by another crate.
+//! `images` reads rows of modules that are placed by paths, assembled and run, the placed code and
+//! the image beside each other: `near_rows` and `far_rows` have each form of instruction at each
+//! kind of place, `forced_rows` and `routes_rows` images to the byte. `programs` reads bytes that
+//! the bare machine runs (`program_rows`), `instructions` rows of the manual. Nothing here is used
+//! by another crate.
 #![tactic(auto)]
 
 #[cfg(test)]
-mod assemble_tests;
+mod far_rows;
 #[cfg(test)]
-mod countdown_code;
+mod forced_rows;
 #[cfg(test)]
-mod ia_asm_tests;
+mod image_files;
 #[cfg(test)]
-mod ia_code_tests;
+mod images;
 #[cfg(test)]
-mod ia_step_tests;
+mod instructions;
+#[cfg(test)]
+mod near_rows;
+#[cfg(test)]
+mod program_rows;
+#[cfg(test)]
+mod programs;
+#[cfg(test)]
+mod routes_rows;

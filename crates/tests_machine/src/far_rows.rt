@@ -1,10 +1,7 @@
 // The same forms of instruction where slots and arguments are reached by displacements of 32 bits:
 // there are 30 local variables, or 31 arguments.
 
-use crate::rows::check_rows;
-use pra_base::OutOfMemory;
-
-const ROWS: &str = "\
+pub(crate) const ROWS: &str = "\
 # moves of values
 proc 0 0 plain*3 300 plain*27
 set v0 7; set v1 -3; copy v2 v0; copy v0 v1; copy v1 v2; write v0; write v1; neg v2; set v0 300
@@ -208,8 +205,3 @@ add v0 v27; add v0 v28; add v0 v29; add v0 v30; write v0; return
 home
 = 496 ended 0
 ";
-
-#[test]
-fn instructions_in_far_procedures(rt: HostRuntime) -> Result<(), OutOfMemory> {
-    check_rows(&rt, rt.alloc(), ROWS)
-}

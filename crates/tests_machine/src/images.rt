@@ -10,6 +10,7 @@
 
 ghost use Rattle.ia_code.specs.Image.{IsImage};
 
+use crate::{far_rows, forced_rows, near_rows, routes_rows};
 use ia_asm::image_bytes;
 use ia_code::Image;
 use ia_code::image::MAX_DATA_WORDS;
@@ -112,8 +113,8 @@ impl Row {
     }
 }
 
-// What a run of the machine came to, as `print_outcome` has it.
-fn print_run(alloc: Global, out: &RunOut) -> Result<String, AllocError> {
+/// What a run of the machine came to, as `print_outcome` has it.
+pub(crate) fn print_run(alloc: Global, out: &RunOut) -> Result<String, AllocError> {
     let mut text = String::new(alloc);
     for event in out.events.as_slice() {
         match event {
@@ -215,8 +216,7 @@ impl Row {
     }
 }
 
-/// Checks each row of a table.
-pub fn check_rows(rt: &impl Abort, alloc: Global, table: &str) -> Result<(), OutOfMemory> {
+fn check_rows(rt: &impl Abort, alloc: Global, table: &str) -> Result<(), OutOfMemory> {
     let mut row = Row::new(alloc, "")?;
     for line in table.lines() {
         if let Some(name) = line.strip_prefix("# ") {
@@ -233,4 +233,19 @@ pub fn check_rows(rt: &impl Abort, alloc: Global, table: &str) -> Result<(), Out
         }
     }
     Ok(())
+}
+
+#[test]
+fn images_to_the_byte(rt: HostRuntime) -> Result<(), OutOfMemory> {
+    check_rows(&rt, rt.alloc(), forced_rows::SELECTED)?;
+    check_rows(&rt, rt.alloc(), forced_rows::STRAIGHT)?;
+    check_rows(&rt, rt.alloc(), routes_rows::ROWS)
+}
+
+#[test]
+fn images_that_do_as_the_code(rt: HostRuntime) -> Result<(), OutOfMemory> {
+    check_rows(&rt, rt.alloc(), forced_rows::CHOICES)?;
+    check_rows(&rt, rt.alloc(), near_rows::ROWS)?;
+    check_rows(&rt, rt.alloc(), near_rows::FRAMES)?;
+    check_rows(&rt, rt.alloc(), far_rows::ROWS)
 }

@@ -2,11 +2,8 @@
 // program worked them out from the tables of instructions and bytes. Where a layer does, images
 // that carry the same code and paths do the same.
 
-use crate::rows::check_rows;
-use pra_base::OutOfMemory;
-
 // What selection makes of small modules.
-const SELECTED: &str = "\
+pub(crate) const SELECTED: &str = "\
 # a difference and its negative
 proc 0 0 3 plain plain
 set v1 20; sub v1 v0; write v1; line; set v2 1; neg v2; write v2; return
@@ -98,7 +95,7 @@ takes 26
 
 // Three procedures without jumps, with registers, both places and memory as they come; some of them
 // are far.
-const STRAIGHT: &str = "\
+pub(crate) const STRAIGHT: &str = "\
 # straight code 1
 proc 0 0 plain*4 7 1 100
 read v2; read v2; line; xor v2 v2; and v2 v6; add v2 v5; call 1; cmp v2 v4; mul v2 v5; write v2
@@ -315,7 +312,7 @@ takes 138
 ";
 
 // Several images carry these.
-const CHOICES: &str = "\
+pub(crate) const CHOICES: &str = "\
 # straight code 1
 proc 0 5 plain*5 7 1 7
 clear; set v0 5; set v0 12345; or v0 v0; and v0 v0; store v5 frame 2; cmpset ge v1 v0 v0
@@ -402,14 +399,3 @@ input 7
 data 9
 = 7 ended 1
 ";
-
-#[test]
-fn images_to_the_byte(rt: HostRuntime) -> Result<(), OutOfMemory> {
-    check_rows(&rt, rt.alloc(), SELECTED)?;
-    check_rows(&rt, rt.alloc(), STRAIGHT)
-}
-
-#[test]
-fn images_of_which_there_are_several(rt: HostRuntime) -> Result<(), OutOfMemory> {
-    check_rows(&rt, rt.alloc(), CHOICES)
-}

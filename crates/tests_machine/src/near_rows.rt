@@ -2,10 +2,7 @@
 // number, where the rules let it be there: the same code at several places. Slots and arguments are
 // reached by displacements of 8 bits. What the runs come to was worked out from the code alone.
 
-use crate::rows::check_rows;
-use pra_base::OutOfMemory;
-
-const ROWS: &str = "\
+pub(crate) const ROWS: &str = "\
 # moves of values 1
 proc 0 0 plain*3 300
 set v0 7; set v1 -3; copy v2 v0; copy v0 v1; copy v1 v2; write v0; write v1; neg v2; set v0 300
@@ -389,7 +386,7 @@ at edi edim edim edi; at esi; at ecxm esi esi ecxm; at edi*4; at ecxm*3 eaxm; at
 ";
 
 // Frames of 32 bytes, or a word more, and four of 262,136.
-const FRAMES: &str = "\
+pub(crate) const FRAMES: &str = "\
 # the stack is just full
 proc 0 3
 clear; call 1; return
@@ -405,13 +402,3 @@ clear; write v0; call 1; return
 at eax
 = 1 1 1 trap Stack 0
 ";
-
-#[test]
-fn instructions_at_each_kind_of_place(rt: HostRuntime) -> Result<(), OutOfMemory> {
-    check_rows(&rt, rt.alloc(), ROWS)
-}
-
-#[test]
-fn frames_at_the_limit_of_the_stack(rt: HostRuntime) -> Result<(), OutOfMemory> {
-    check_rows(&rt, rt.alloc(), FRAMES)
-}

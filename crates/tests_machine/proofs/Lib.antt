@@ -1,2 +1,0 @@
-pub mod CountdownIsPlaced
-pub mod EmptyIsPlaced
