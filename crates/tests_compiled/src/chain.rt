@@ -1,6 +1,6 @@
-// From the text of a module to the tidy code of its procedures.
+// From the text of a module to the selected code and the tidy code of its procedures.
 
-ghost use Rattle.std.specs.Prelude.{◌<◌, ◌≤◌, IfOk, length};
+ghost use Rattle.std.specs.Prelude.{◌<◌, ◌≤◌, All, IfOk, length};
 ghost use Rattle.ob_syntax.specs.Source.{most_bytes};
 ghost use Rattle.pra_base.specs.Valid.{IsSized, IsValid};
 ghost use Rattle.vc_short.specs.Short.{IsShort};
@@ -9,7 +9,8 @@ ghost use Rattle.vc_typed.specs.TypedModules.{IsSelectable};
 
 use ob_read::{MAX_SOURCE, Parsed, ReadFault, read, resolve};
 use ob_syntax::Checked;
-use pra_base::{OutOfMemory, ProcId, VProc};
+use pra_base::{OutOfMemory, ProcId, VModule, VProc};
+use pra_list::Seq;
 use std::alloc::Global;
 use std::test::Fail;
 use vc_checked::laws::{checked_bodies_have_their_nodes, checked_modules_are_selectable};
@@ -50,21 +51,81 @@ pub(crate) fn checked(alloc: Global, text: &str) -> Result<Checked, Fail>
     Ok(checked)
 }
 
-/// The selected code of a procedure, made tidy.
+// The selected code of a procedure.
+fn code_of(alloc: Global, checked: &Checked, number: u32) -> Result<VProc, OutOfMemory>
+    requires selectable { IsSelectable checked.now }
+    requires nodes { HaveTheirNodes checked.now }
+    requires there { number < length checked.now.procs }
+    ensures { IfOk result (λ code. IsValid code × IsSized code) }
+{
+    let code = select_proc(alloc, checked, ProcId(number))?;
+    Ok(code)
+}
+
+// The selected code of each procedure, the module's body first.
+fn codes(alloc: Global, checked: &Checked) -> Result<Vec<VProc>, OutOfMemory>
+    requires selectable { IsSelectable checked.now }
+    requires nodes { HaveTheirNodes checked.now }
+    ensures { IfOk result (λ codes. All (λ code. IsValid code × IsSized code) codes.items) }
+{
+    let mut codes = Vec::new(alloc);
+    for number in 0..checked.procs.len() {
+        let code = code_of(alloc, checked, number as u32)?;
+        codes.push(code)?;
+    }
+    Ok(codes)
+}
+
+/// The selected code of a module.
 ///
 /// # Errors
 ///
 /// Where there is no memory.
-pub(crate) fn tidy_code(alloc: Global, checked: &Checked, number: u32) -> Result<VProc, OutOfMemory>
+pub(crate) fn selected(alloc: Global, checked: &Checked) -> Result<VModule, OutOfMemory>
     requires selectable { IsSelectable checked.now }
     requires nodes { HaveTheirNodes checked.now }
-    requires there { number < length checked.now.procs }
+    ensures { IfOk result (λ m. All (λ code. IsValid code × IsSized code) m.procs) }
+{
+    let procs = codes(alloc, checked)?;
+    Ok(VModule {
+        procs: Seq::from_vec(procs),
+        data_words: checked.data_words,
+    })
+}
+
+/// A procedure's code, made tidy.
+///
+/// # Errors
+///
+/// Where there is no memory.
+pub(crate) fn tidied_code(alloc: Global, code: VProc) -> Result<VProc, OutOfMemory>
+    requires valid { IsValid code }
+    requires sized { IsSized code }
     ensures valid { IfOk result IsValid }
     ensures sized { IfOk result IsSized }
 {
-    let code = select_proc(alloc, checked, ProcId(number))?;
     match tidy(alloc, code) {
         Ok(code) => Ok(code),
         Err(_) => Err(OutOfMemory),
     }
+}
+
+/// The module with each of its procedures tidied.
+///
+/// # Errors
+///
+/// Where there is no memory.
+pub(crate) fn tidied(alloc: Global, selected: VModule) -> Result<VModule, OutOfMemory>
+    requires { All (λ code. IsValid code × IsSized code) selected.procs }
+{
+    let VModule { procs, data_words } = selected;
+    let mut tidy_procs = Vec::new(alloc);
+    for code in procs.into_vec() {
+        let code = tidied_code(alloc, code)?;
+        tidy_procs.push(code)?;
+    }
+    Ok(VModule {
+        procs: Seq::from_vec(tidy_procs),
+        data_words,
+    })
 }

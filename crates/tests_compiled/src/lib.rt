@@ -1,17 +1,29 @@
-//! Tests of the compiler beside the layers that it joins: `compile` of a checked module answers the
-//! image that the layers' own public calls give.
+//! Tests of whole modules: from a text to selected code, tidy code, routes and an image.
 //!
-//! `texts` has the modules, and `chain` what both ways share: the checked module of a text, and the
-//! tidy code of its procedures. `image_tests` compares the two images and the codes, and has one
-//! image file to the byte; `network_tests` takes one module by home routes and the placement of
-//! each network. Nothing here is used by another crate.
+//! `modules` and `expressions` run selected code and tidy code, and compare what they come to with
+//! their rows (`module_rows`, `expression_rows`), `expressions` also with the meaning; `drawn` has
+//! expressions that are drawn. `templates` has code of operators, instruction by instruction.
+//! `images` compares what `compile` answers with what the layers' own calls give (`image_rows`).
+//! `chain` is what all share. Nothing here is used by another crate.
 #![tactic(auto)]
 
 #[cfg(test)]
 mod chain;
 #[cfg(test)]
-mod image_tests;
+mod drawn;
 #[cfg(test)]
-mod network_tests;
+mod expression_rows;
 #[cfg(test)]
-mod texts;
+mod expressions;
+#[cfg(test)]
+mod image_rows;
+#[cfg(test)]
+mod images;
+#[cfg(test)]
+mod module_rows;
+#[cfg(test)]
+mod modules;
+#[cfg(test)]
+mod shown;
+#[cfg(test)]
+mod templates;

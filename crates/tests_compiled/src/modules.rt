@@ -1,12 +1,13 @@
 // Each row of the tables is run by its selected code and by its tidy code.
 
-use crate::compiled::{run, select, tidied};
-use crate::rows;
+use crate::chain::{checked, selected, tidied};
+use crate::module_rows;
 use crate::shown::shows;
 use pra_base::{OutOfMemory, VModule, VProc};
 use std::alloc::Global;
 use std::process::Abort;
 use std::test::Fail;
+use vc_code::run_selected;
 
 // How many steps a row may take, where it does not say it.
 const STEPS: u32 = 10_000_000;
@@ -91,7 +92,7 @@ fn check_run(
     codes: &VModule,
     expected: &str,
 ) -> Result<(), OutOfMemory> {
-    let outcome = run(alloc, codes, &row.frames, &row.input, row.steps)?;
+    let outcome = run_selected(alloc, codes, &row.frames, &row.input, row.steps)?;
     let found = shows(alloc, &outcome)?;
     let name = &row.name;
     assert_eq!(rt; found.as_str(), expected, "{name}");
@@ -106,7 +107,7 @@ fn count_of(codes: &VModule, proc: usize) -> usize {
 // Runs the row's selected code and its tidy code. Tidying leaves what the row says, which is less
 // than there was.
 fn check_row(rt: &impl Abort, alloc: Global, row: &Row, expected: &str) -> Result<(), Fail> {
-    let selected = select(alloc, &row.text)?;
+    let selected = selected(alloc, &checked(alloc, &row.text)?)?;
     check_run(rt, alloc, row, &selected, expected)?;
     let mut before = Vec::new(alloc);
     for (proc, _) in row.left.as_slice() {
@@ -139,31 +140,11 @@ fn check_rows(rt: &impl Abort, alloc: Global, table: &str) -> Result<(), Fail> {
 }
 
 #[test]
-fn values(rt: HostRuntime) -> Result<(), Fail> {
-    check_rows(&rt, rt.alloc(), rows::VALUES)
-}
-
-#[test]
-fn statements(rt: HostRuntime) -> Result<(), Fail> {
-    check_rows(&rt, rt.alloc(), rows::STATEMENTS)
-}
-
-#[test]
-fn calls(rt: HostRuntime) -> Result<(), Fail> {
-    check_rows(&rt, rt.alloc(), rows::CALLS)
-}
-
-#[test]
-fn traps(rt: HostRuntime) -> Result<(), Fail> {
-    check_rows(&rt, rt.alloc(), rows::TRAPS)
-}
-
-#[test]
-fn the_stack(rt: HostRuntime) -> Result<(), Fail> {
-    check_rows(&rt, rt.alloc(), rows::STACK)
-}
-
-#[test]
-fn tidy_code(rt: HostRuntime) -> Result<(), Fail> {
-    check_rows(&rt, rt.alloc(), rows::TIDY)
+fn modules_by_hand(rt: HostRuntime) -> Result<(), Fail> {
+    check_rows(&rt, rt.alloc(), module_rows::VALUES)?;
+    check_rows(&rt, rt.alloc(), module_rows::STATEMENTS)?;
+    check_rows(&rt, rt.alloc(), module_rows::CALLS)?;
+    check_rows(&rt, rt.alloc(), module_rows::TRAPS)?;
+    check_rows(&rt, rt.alloc(), module_rows::STACK)?;
+    check_rows(&rt, rt.alloc(), module_rows::TIDY)
 }

@@ -2,7 +2,7 @@
 use Rattle.net_form.specs.Tables.{all_tables}
 use Rattle.net_form.proofs.NetworkFormed.{formed}
 use Rattle.net_laws.proofs.Room.{leaves_room}
-use Rattle.tests_compiled.proofs.network_tests.check_procedure.Goals as goal
+use Rattle.tests_compiled.proofs.images.check_procedure.Goals as goal
 
 pub home-requires-clause-net : goal.home-requires-clause-net
 home-requires-clause-net g c = formed all_tables c.args.code.now c.in_ok-net.net c.in_ok-net.ensures c.requires.sized

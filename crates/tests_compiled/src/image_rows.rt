@@ -1,29 +1,29 @@
-// Modules, and the image file of the least one.
+// Modules, and behind `=` how many procedures they have, the body counted, and how many words of
+// data. `image` has the image file in hexadecimal: the header, the call of the body with the end and
+// the stubs of three traps, and the body, which is a prologue and an epilogue.
 
-pub const EMPTY_MODULE: &str = "MODULE M; END M.";
-
-/// Its image file in hexadecimal: the header, the call of the body with the end, the stubs of three
-/// traps, and the body, which is a prologue and an epilogue.
-pub const EMPTY_MODULE_FILE: &str = "50524149010000003600000000000000\
-    e817000000cd20b801000000cd24b802000000cd24b804000000cd24\
-    5589e581fd0c0400080f82eaffffff5356578d65f45f5e5b5dc3";
-
-pub const ALIASED_VAR_PARAMETERS: &str = "MODULE M; VAR x: INTEGER;
+pub(crate) const ROWS: &str = "\
+MODULE M; END M.
+image 50524149010000003600000000000000
+image e817000000cd20b801000000cd24b802000000cd24b804000000cd24
+image 5589e581fd0c0400080f82eaffffff5356578d65f45f5e5b5dc3
+= 1 0
+MODULE M; VAR x: INTEGER;
 PROCEDURE Add(VAR a, b: INTEGER); BEGIN a := a + 1; b := b + a END Add;
-BEGIN x := 5; Add(x, x); Write(x) END M.";
-
-pub const STACK_TRAP: &str = "MODULE M; PROCEDURE P; BEGIN Write(1); P END P; BEGIN P END M.";
-
-pub const EIGHT_LIVE_SCALARS: &str = "MODULE M;
+BEGIN x := 5; Add(x, x); Write(x) END M.
+= 2 1
+MODULE M; PROCEDURE P; BEGIN Write(1); P END P; BEGIN P END M.
+= 2 0
+MODULE M;
 PROCEDURE P(k: INTEGER);
 VAR a, b, c, d, e, f, g, h: INTEGER;
 BEGIN a := k; b := a + 1; c := b + 1; d := c + 1; e := d + 1; f := e + 1; g := f + 1; h := g + 1;
   WHILE k > 0 DO a := a DIV 3 + b; k := k - 1 END;
   Write(a + b + c + d + e + f + g + h + k)
 END P;
-BEGIN P(2) END M.";
-
-pub const SAMPLES: &str = "MODULE Samples;
+BEGIN P(2) END M.
+= 2 0
+MODULE Samples;
 TYPE Row = ARRAY 16 OF INTEGER;
 VAR n, i, x, y, z: INTEGER; a: Row;
 PROCEDURE Multiply(x, y: INTEGER; VAR z: INTEGER);
@@ -57,4 +57,6 @@ BEGIN
   Read(n); i := 0;
   WHILE i < n DO Read(a[i]); i := i + 1 END;
   Read(x); Find(a, n, x, i); Write(i); WriteLn
-END Samples.";
+END Samples.
+= 4 21
+";

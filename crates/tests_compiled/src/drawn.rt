@@ -2,39 +2,65 @@
 
 ghost use Rattle.std.specs.Prelude.{◌<◌, length};
 
-use crate::row_tests::check_rows;
+use crate::expressions::{CONDITION, TRUTH, VALUE, check_rows};
 use ob_syntax::checked::ROp;
 use ob_values::{number, operate};
 use pra_base::OutOfMemory;
 use std::alloc::Global;
+use std::test::Fail;
 
-// 0, 1, -1, the least and the greatest number, as constants and as variables.
+// 0, 1, -1, 3, -7, the least and the greatest number, as constants and as variables.
 const OPERANDS: &[(&str, i32)] = &[
     ("0", 0),
     ("1", 1),
     ("minus", -1),
     ("least", -2147483648),
     ("greatest", 2147483647),
+    ("3", 3),
+    ("seven", -7),
     ("k[1].a[0]", 0),
     ("i", 1),
     ("k[1].a[n]", -1),
     ("k[i].x", -2147483648),
     ("r.x", 2147483647),
+    ("h", 3),
+    ("y", -7),
 ];
 
-// The operator between each two operands, a row for each.
-fn pairs(alloc: Global, name: &str, op: ROp) -> Result<String, OutOfMemory> {
-    let mut text = String::new(alloc);
-    for (left, x) in OPERANDS {
-        for (right, y) in OPERANDS {
-            text.push_str(&format!(in alloc; "{left} {name} {right} -> ")?)?;
-            match operate(op, *x, *y) {
-                Ok(value) => text.push_str(&format!(in alloc; "{}\n", number(value))?)?,
-                Err(kind) => text.push_str(&format!(in alloc; "trap {kind:?}\n")?)?,
+// The operator between an operand and each, in one row where it has a value, and a row for each
+// trap.
+fn pairs_of(
+    alloc: Global,
+    table: &mut String,
+    name: &str,
+    op: ROp,
+    (left, x): (&str, i32),
+) -> Result<(), OutOfMemory> {
+    let mut row = String::new(alloc);
+    let mut values = String::new(alloc);
+    for (right, y) in OPERANDS {
+        let pair = format!(in alloc; "{left} {name} {right}")?;
+        match operate(op, x, *y) {
+            Ok(value) => {
+                let bar = if row.is_empty() { "" } else { "|" };
+                row.push_str(bar)?;
+                row.push_str(&pair)?;
+                values.push_str(&format!(in alloc; " {}", number(value))?)?;
             }
+            Err(kind) => table.push_str(&format!(in alloc; "{pair} -> trap {kind:?}\n")?)?,
         }
     }
-    Ok(text)
+    table.push_str(&format!(in alloc; "{row} ->{values}\n")?)?;
+    Ok(())
+}
+
+// The operator between each two operands.
+fn pairs(alloc: Global, name: &str, op: ROp) -> Result<String, OutOfMemory> {
+    let mut table = String::new(alloc);
+    for left in OPERANDS {
+        pairs_of(alloc, &mut table, name, op, *left)?;
+    }
+    Ok(table)
 }
 
 const ARITHMETIC: &[(&str, ROp)] = &[
@@ -55,20 +81,15 @@ const RELATIONS: &[(&str, ROp)] = &[
 ];
 
 #[test]
-fn arithmetic_of_extreme_numbers(rt: HostRuntime) -> Result<(), OutOfMemory> {
+fn operators_of_extreme_numbers(rt: HostRuntime) -> Result<(), Fail> {
     for (name, op) in ARITHMETIC {
         let table = pairs(rt.alloc(), name, *op)?;
-        check_rows(&rt, rt.alloc(), &table, "Write(", ");\n")?;
+        check_rows(&rt, rt.alloc(), VALUE, &table)?;
     }
-    Ok(())
-}
-
-#[test]
-fn relations_of_extreme_numbers(rt: HostRuntime) -> Result<(), OutOfMemory> {
     for (name, op) in RELATIONS {
         let table = pairs(rt.alloc(), name, *op)?;
-        check_rows(&rt, rt.alloc(), &table, "IF ", " THEN END;\n")?;
-        check_rows(&rt, rt.alloc(), &table, "s := ", ";\n")?;
+        check_rows(&rt, rt.alloc(), CONDITION, &table)?;
+        check_rows(&rt, rt.alloc(), TRUTH, &table)?;
     }
     Ok(())
 }
@@ -223,7 +244,7 @@ impl Draft {
 }
 
 #[test]
-fn drawn_expressions(rt: HostRuntime) -> Result<(), OutOfMemory> {
+fn drawn_expressions(rt: HostRuntime) -> Result<(), Fail> {
     let alloc = rt.alloc();
     let mut draft = Draft {
         alloc,
@@ -233,10 +254,10 @@ fn drawn_expressions(rt: HostRuntime) -> Result<(), OutOfMemory> {
     };
     for _ in 0..15u32 {
         let numbers = draft.rows(false)?;
-        check_rows(&rt, alloc, &numbers, "Write(", ");\n")?;
+        check_rows(&rt, alloc, VALUE, &numbers)?;
         let truths = draft.rows(true)?;
-        check_rows(&rt, alloc, &truths, "IF ", " THEN END;\n")?;
-        check_rows(&rt, alloc, &truths, "s := ", ";\n")?;
+        check_rows(&rt, alloc, CONDITION, &truths)?;
+        check_rows(&rt, alloc, TRUTH, &truths)?;
     }
     Ok(())
 }

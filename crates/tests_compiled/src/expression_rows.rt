@@ -1,5 +1,5 @@
-// What is selected in P, and what it must give: a number, or a trap. The rows are worked by hand,
-// from what `contents` has.
+// What stands in a statement of P (`expressions`), and what it must give: a number, or a trap. The
+// rows are worked by hand.
 
 /// INTEGER expressions.
 pub const VALUES: &str = "-x -> -7
@@ -125,6 +125,14 @@ k[0].a[x MOD 0] -> trap Divide";
 /// BOOLEAN expressions, as values and as conditions.
 pub const CONDITIONS: &str = "TRUE -> 1
 FALSE -> 0
+TRUE & TRUE -> 1
+TRUE & FALSE -> 0
+FALSE & TRUE -> 0
+FALSE & FALSE -> 0
+TRUE OR TRUE -> 1
+TRUE OR FALSE -> 1
+FALSE OR TRUE -> 1
+FALSE OR FALSE -> 0
 b -> 1
 s -> 0
 q -> 1

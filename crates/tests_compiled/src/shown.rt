@@ -1,5 +1,7 @@
 // What a run came to, as a text.
 
+use ob_sketch::module::Reached;
+use ob_sketch::running::Finish;
 use pra_base::{OutEvent, OutOfMemory};
 use std::alloc::Global;
 use vc_code::{Ending, Outcome};
@@ -46,7 +48,7 @@ fn push_output(alloc: Global, text: &mut String, output: &[OutEvent]) -> Result<
 /// # Errors
 ///
 /// Where there is no memory for the text.
-pub fn shows(alloc: Global, outcome: &Outcome) -> Result<String, OutOfMemory> {
+pub(crate) fn shows(alloc: Global, outcome: &Outcome) -> Result<String, OutOfMemory> {
     let mut text = String::new(alloc);
     push_output(alloc, &mut text, outcome.events.as_slice())?;
     match outcome.ending {
@@ -56,6 +58,24 @@ pub fn shows(alloc: Global, outcome: &Outcome) -> Result<String, OutOfMemory> {
         None => text.push_str(" going")?,
     }
     let taken = outcome.taken;
+    text.push_str(&format!(in alloc; " {taken}")?)?;
+    Ok(text)
+}
+
+/// The same of what a module means.
+///
+/// # Errors
+///
+/// Where there is no memory for the text.
+pub(crate) fn shows_meaning(alloc: Global, reached: &Reached) -> Result<String, OutOfMemory> {
+    let mut text = String::new(alloc);
+    push_output(alloc, &mut text, reached.running.events.as_slice())?;
+    match reached.finish {
+        Finish::Normal => text.push_str(" ended")?,
+        Finish::Trapped(kind) => text.push_str(&format!(in alloc; " trap {kind:?}")?)?,
+        Finish::Going => text.push_str(" going")?,
+    }
+    let taken = reached.running.taken;
     text.push_str(&format!(in alloc; " {taken}")?)?;
     Ok(text)
 }
