@@ -17,9 +17,9 @@ use anyhow::anyhow;
 use pra_base::{Block, BlockId, Cond, End, ProcId, VInstr, VProc, VarId, VarKind};
 use pra_list::Seq;
 use std::alloc::{AllocError, Global};
-use vc_live::is_sized;
-use vc_simple::is_valid_simple;
+use vc_live::{is_sized, live};
 use vc_tidy::tidy;
+use vc_valid::is_valid;
 
 const LOCALS: u32 = 128;
 
@@ -124,10 +124,10 @@ fn tidied(alloc: Global, code: VProc) -> anyhow::Result<VProc> {
     if !is_sized(&code) {
         return Err(anyhow!("not sized"));
     }
-    let Ok(valid) = is_valid_simple(alloc, &code) else {
+    let Ok(liveness) = live(alloc, &code) else {
         return Err(anyhow!("no memory"));
     };
-    if valid {
+    if is_valid(&code, &liveness) {
         return match tidy(alloc, code) {
             Ok(new) => Ok(new),
             Err(_) => Err(anyhow!("no memory")),

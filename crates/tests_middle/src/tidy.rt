@@ -1,0 +1,160 @@
+// Procedures and what tidying leaves of them. What is expected is worked by hand.
+//
+// A row begins with its name behind `#` and has the code of a procedure; what is left stands on
+// lines behind `left`, and behind `=` how many variables it has.
+
+use pl_sketch::Sketch;
+use pra_base::{BlockId, VProc, VarId};
+use std::alloc::Global;
+use std::mem;
+use std::process::Abort;
+use std::test::Fail;
+use vc_live::{is_sized, live};
+use vc_sketch::print;
+use vc_tidy::tidy;
+use vc_valid::is_valid;
+
+const ROWS: &str = "\
+# PROCEDURE P; VAR u: INTEGER; BEGIN u := 5 END P;
+proc 0 0 plain
+set v0 0
+set v0 5
+return
+left b0:
+left   return
+= 0
+# a dead load goes
+proc 0 0 plain plain plain
+load v0 global 0
+read v2
+write v2
+return
+left b0:
+left   read v0
+left   write v0
+left   return
+= 1
+# traps and the input stay
+proc 0 0 plain plain plain
+read v0
+checkpos v0
+read v1
+return
+left b0:
+left   read v0
+left   checkpos v0
+left   read v1
+left   return
+= 2
+# variable 0 is not live behind the first copy, nor variable 1 behind the second one
+proc 0 0 plain plain plain
+read v0
+copy v1 v0
+neg v1
+copy v2 v1
+write v2
+return
+left b0:
+left   read v0
+left   neg v0
+left   write v0
+left   return
+= 1
+# both are live behind the copy, and then hold different numbers
+proc 0 0 plain plain plain
+read v0
+copy v1 v0
+neg v1
+write v1
+write v0
+return
+left b0:
+left   read v0
+left   copy v1, v0
+left   neg v1
+left   write v1
+left   write v0
+left   return
+= 2
+# a set and a copy to the next block, where one is read and the other is not
+proc 0 0 plain plain plain
+set v1 3
+set v2 4
+copy v0 v2
+jump 1
+write v1
+return
+left b0:
+left   set v0, 3
+left   jump b1
+left b1:
+left   write v0
+left   return
+= 1
+# what one block leaves out is not live in the block before it
+proc 0 0 plain plain
+set v0 1
+jump 1
+copy v1 v0
+return
+left b0:
+left   jump b1
+left b1:
+left   return
+= 0
+";
+
+fn tidied(alloc: Global, code: VProc) -> Result<VProc, Fail> {
+    if !is_sized(&code) {
+        return Err(Fail::from("not sized"));
+    }
+    let liveness = live(alloc, &code)?;
+    if !is_valid(&code, &liveness) {
+        return Err(Fail::from("not valid"));
+    }
+    tidy(alloc, code).map_err(|_| Fail::from("no memory"))
+}
+
+// Tidies the code, and compares what is left and how many variables it has: one more is not live.
+fn check(
+    rt: &impl Abort,
+    alloc: Global,
+    sketch: Sketch,
+    left: &str,
+    vars: &str,
+) -> Result<(), Fail> {
+    for code in sketch.module(0)?.procs.into_vec() {
+        let code = tidied(alloc, code)?;
+        let text = print(alloc, &code)?;
+        assert_eq!(rt; text.as_str(), left);
+        assert_eq!(rt; vars.parse::<usize>().ok(), Some(code.vars.len()), "{left}");
+        if !is_sized(&code) {
+            return Err(Fail::from("not sized any more"));
+        }
+        let past = VarId(code.vars.len() as u32);
+        let liveness = live(alloc, &code)?;
+        for layer in 0..2 {
+            assert!(rt; !liveness.at(past, BlockId(0), layer), "{left}");
+        }
+    }
+    Ok(())
+}
+
+#[test]
+fn what_tidying_leaves(rt: HostRuntime) -> Result<(), Fail> {
+    let mut sketch = Sketch::new(rt.alloc());
+    let mut left = String::new(rt.alloc());
+    for line in ROWS.lines() {
+        if let Some(text) = line.strip_prefix("left ") {
+            left.push_str(text)?;
+            left.push_str("\n")?;
+        } else if let Some(vars) = line.strip_prefix("= ") {
+            let done = mem::replace(&mut sketch, Sketch::new(rt.alloc()));
+            check(&rt, rt.alloc(), done, &left, vars)?;
+            left = String::new(rt.alloc());
+        } else if !line.starts_with("# ") {
+            assert!(rt; sketch.line(line)?, "{line}");
+        }
+    }
+    Ok(())
+}
