@@ -51,8 +51,12 @@ pub(crate) fn checked(alloc: Global, text: &str) -> Result<Checked, Fail>
     Ok(checked)
 }
 
-// The selected code of a procedure.
-fn code_of(alloc: Global, checked: &Checked, number: u32) -> Result<VProc, OutOfMemory>
+/// The selected code of a procedure.
+///
+/// # Errors
+///
+/// Where there is no memory.
+pub(crate) fn code_of(alloc: Global, checked: &Checked, number: u32) -> Result<VProc, OutOfMemory>
     requires selectable { IsSelectable checked.now }
     requires nodes { HaveTheirNodes checked.now }
     requires there { number < length checked.now.procs }

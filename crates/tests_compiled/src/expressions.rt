@@ -54,23 +54,23 @@ pub(crate) struct Form<'a> {
 }
 
 pub(crate) const VALUE: Form = Form {
-    statement: "  Write(@)",
+    statement: "  Write(@); WriteLn",
     behind: " ended 0",
 };
 
 // What it holds, and then what was read.
 const VARIABLE: Form = Form {
-    statement: "  Write(@); Read(@); Write(@)",
+    statement: "  Write(@); WriteLn; Read(@); Write(@)",
     behind: " 5 ended 1",
 };
 
 pub(crate) const CONDITION: Form = Form {
-    statement: "  IF @ THEN Write(1) ELSE Write(0) END",
+    statement: "  IF @ THEN Write(1) ELSE Write(0) END; WriteLn",
     behind: " ended 0",
 };
 
 pub(crate) const TRUTH: Form = Form {
-    statement: "  s := @; IF s THEN Write(1) ELSE Write(0) END",
+    statement: "  s := @; IF s THEN Write(1) ELSE Write(0) END; WriteLn",
     behind: " ended 0",
 };
 
@@ -92,10 +92,17 @@ fn meant(alloc: Global, program: &Checked) -> Result<String, OutOfMemory> {
     }
 }
 
-// What a row says that its module comes to.
-fn told(alloc: Global, form: Form, value: &str) -> Result<String, OutOfMemory> {
-    let behind = if value.starts_with("trap") { " 0" } else { form.behind };
-    Ok(format!(in alloc; " {value}{behind}")?)
+// What a row says that its module comes to: a trap, or its values, a line each.
+fn told(alloc: Global, form: Form, values: &str) -> Result<String, OutOfMemory> {
+    if values.starts_with("trap") {
+        return Ok(format!(in alloc; " {values} 0")?);
+    }
+    let mut text = String::new(alloc);
+    for value in values.split(' ') {
+        text.push_str(&format!(in alloc; " {value}/")?)?;
+    }
+    text.push_str(form.behind)?;
+    Ok(text)
 }
 
 // The module in which the expressions of a row stand, between which `|` stands.
@@ -110,17 +117,25 @@ fn module_of(alloc: Global, form: Form, row: &str) -> Result<String, OutOfMemory
 }
 
 fn check_row(rt: &impl Abort, alloc: Global, form: Form, line: &str) -> Result<(), Fail> {
-    let (row, value) = line.split_once(" -> ").unwrap_or((line, ""));
+    let (row, values) = line.split_once(" -> ").unwrap_or((line, ""));
     let program = checked(alloc, &module_of(alloc, form, row)?)?;
     let meant = meant(alloc, &program)?;
-    if !value.is_empty() {
-        let told = told(alloc, form, value)?;
+    if !values.is_empty() {
+        let told = told(alloc, form, values)?;
         assert_eq!(rt; meant.as_str(), told.as_str(), "{line}, meant");
     }
     let codes = selected(alloc, &program)?;
-    assert_eq!(rt; found(alloc, &codes)?.as_str(), meant.as_str(), "{line}, selected");
+    assert_eq!(rt;
+        found(alloc, &codes)?.as_str(),
+        meant.as_str(),
+        "{line}, selected"
+    );
     let codes = tidied(alloc, codes)?;
-    assert_eq!(rt; found(alloc, &codes)?.as_str(), meant.as_str(), "{line}, tidy");
+    assert_eq!(rt;
+        found(alloc, &codes)?.as_str(),
+        meant.as_str(),
+        "{line}, tidy"
+    );
     Ok(())
 }
 

@@ -3,7 +3,7 @@
 
 ghost use Rattle.pra_base.specs.Valid.{IsSized, IsValid};
 
-use crate::chain::{checked, selected, tidied_code};
+use crate::chain::{checked, code_of, tidied_code};
 use crate::image_rows;
 use al_edge::home;
 use ia_asm::image_bytes;
@@ -60,15 +60,25 @@ fn check(
     assert_eq!(rt; sizes.as_str(), expected, "{text}");
     let bytes = image_bytes(alloc, &compiled.image)?;
     let digits = hex::encode(alloc, bytes.as_slice())?;
-    assert!(rt; image.is_empty() || digits.as_str() == image, "{text}: {digits}");
+    assert!(rt;
+        image.is_empty() || digits.as_str() == image,
+        "{text}: {digits}"
+    );
     let mut placed = PlacedModule::new(alloc);
-    let codes = selected(alloc, &checked)?;
-    for (code, out) in codes.procs.into_vec().into_iter().zip(compiled.procs.as_slice()) {
+    for number in 0..checked.procs.len() {
+        let Some(out) = compiled.procs.get(number) else {
+            return Err(Fail::from("a procedure is missing"));
+        };
+        let code = code_of(alloc, &checked, number as u32)?;
         let code = tidied_code(alloc, code)?;
         check_procedure(rt, alloc, &mut placed, &code, out)?;
     }
     let made = placed.assemble(alloc, checked.data_words)?;
-    assert_eq!(rt; compiled.image.code.as_slice(), made.code.as_slice(), "{text}");
+    assert_eq!(rt;
+        compiled.image.code.as_slice(),
+        made.code.as_slice(),
+        "{text}"
+    );
     assert_eq!(rt; compiled.image.data_words, made.data_words, "{text}");
     Ok(())
 }

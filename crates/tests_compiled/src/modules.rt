@@ -107,13 +107,14 @@ fn count_of(codes: &VModule, proc: usize) -> usize {
 // Runs the row's selected code and its tidy code. Tidying leaves what the row says, which is less
 // than there was.
 fn check_row(rt: &impl Abort, alloc: Global, row: &Row, expected: &str) -> Result<(), Fail> {
-    let selected = selected(alloc, &checked(alloc, &row.text)?)?;
-    check_run(rt, alloc, row, &selected, expected)?;
+    let program = checked(alloc, &row.text)?;
+    let codes = selected(alloc, &program)?;
+    check_run(rt, alloc, row, &codes, expected)?;
     let mut before = Vec::new(alloc);
     for (proc, _) in row.left.as_slice() {
-        before.push(count_of(&selected, *proc))?;
+        before.push(count_of(&codes, *proc))?;
     }
-    let tidy = tidied(alloc, selected)?;
+    let tidy = tidied(alloc, codes)?;
     check_run(rt, alloc, row, &tidy, expected)?;
     let name = &row.name;
     for ((proc, count), before) in row.left.iter().zip(before.iter()) {

@@ -86,7 +86,10 @@ const ROWS: &[(ROp, Option<i32>, &str)] = &[
 #[test]
 fn templates_of_operators(rt: HostRuntime) -> Result<(), OutOfMemory> {
     for (op, right, expected) in ROWS {
-        let right = right.map_or(VarKind::Plain, |n| VarKind::Constant(n));
+        let right = match right {
+            Some(n) => VarKind::Constant(*n),
+            None => VarKind::Plain,
+        };
         let code = operation(rt.alloc(), *op, right)?;
         let text = print(rt.alloc(), &code)?;
         assert_eq!(rt; text.as_str(), *expected, "{op:?}");

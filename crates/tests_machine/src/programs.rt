@@ -62,7 +62,11 @@ impl<'a> Row<'a> {
                 let digits = if digits == "@" { this } else { digits };
                 bytes.extend_from_slice(&number(digits).to_le_bytes())?;
             } else {
-                let digits = if word == "conditions" { CONDITIONS } else { word };
+                let digits = if word == "conditions" {
+                    CONDITIONS
+                } else {
+                    word
+                };
                 let part = hex::decode(self.alloc, digits.as_bytes()).map_err(|_| "no digits")?;
                 bytes.extend_from_slice(&part)?;
             }

@@ -1,7 +1,7 @@
 // Selected codes that are placed by routes given by hand, and run by both machines.
 
-use crate::placing::{frames, placed_module, run, selected};
 use crate::placed_rows::Row;
+use crate::placing::{frames, placed_module, run, selected};
 use pl_sketch::{Sketch, print};
 use std::alloc::Global;
 use std::mem;

@@ -4,8 +4,8 @@
 ghost use Rattle.pra_base.specs.Valid.{IsSized};
 ghost use Rattle.net_form.specs.Network.{IsNet};
 
-use crate::placing::{by_routes, frames, placed_module, run, selected};
 use crate::placed_rows::{Row, Site};
+use crate::placing::{by_routes, frames, placed_module, run, selected};
 use al_edge::home;
 use net_build::build;
 use net_form::{Net, Routes, Strand};

@@ -131,7 +131,7 @@ fn check(
         if !is_sized(&code) {
             return Err(Fail::from("not sized any more"));
         }
-        let past = VarId(code.vars.len() as u32);
+        let past = VarId(u32::try_from(code.vars.len()).unwrap_or(0));
         let liveness = live(alloc, &code)?;
         for layer in 0..2 {
             assert!(rt; !liveness.at(past, BlockId(0), layer), "{left}");

@@ -187,15 +187,7 @@ fn check_rows(rt: &impl Abort, alloc: Global, table: &str) -> Result<(), OutOfMe
 
 #[test]
 fn calls_over_modules(rt: HostRuntime) -> Result<(), OutOfMemory> {
-    check_rows(&rt, rt.alloc(), worked::ROWS)
-}
-
-#[test]
-fn calls_over_inputs(rt: HostRuntime) -> Result<(), OutOfMemory> {
-    check_rows(&rt, rt.alloc(), inputs::ROWS)
-}
-
-#[test]
-fn calls_that_meet_faults(rt: HostRuntime) -> Result<(), OutOfMemory> {
+    check_rows(&rt, rt.alloc(), worked::ROWS)?;
+    check_rows(&rt, rt.alloc(), inputs::ROWS)?;
     check_rows(&rt, rt.alloc(), faults::ROWS)
 }

@@ -127,21 +127,9 @@ fn answers_by_the_rules(rt: HostRuntime) -> Result<(), OutOfMemory> {
 }
 
 #[test]
-fn answers_at_the_depth_limit(rt: HostRuntime) -> Result<(), OutOfMemory> {
-    check_long(&rt, rt.alloc(), long::DEPTH)
-}
-
-#[test]
-fn answers_at_the_tokens_limit(rt: HostRuntime) -> Result<(), OutOfMemory> {
-    check_long(&rt, rt.alloc(), long::TOKENS)
-}
-
-#[test]
-fn answers_at_the_source_limit(rt: HostRuntime) -> Result<(), OutOfMemory> {
-    check_long(&rt, rt.alloc(), long::SOURCE)
-}
-
-#[test]
-fn answers_of_long_pieces(rt: HostRuntime) -> Result<(), OutOfMemory> {
+fn answers_at_limits(rt: HostRuntime) -> Result<(), OutOfMemory> {
+    check_long(&rt, rt.alloc(), long::DEPTH)?;
+    check_long(&rt, rt.alloc(), long::TOKENS)?;
+    check_long(&rt, rt.alloc(), long::SOURCE)?;
     check_long(&rt, rt.alloc(), long::PIECES)
 }
