@@ -1,3 +1,4 @@
 pub mod Growth
 pub mod Steps
 pub mod Open
+pub mod Text
