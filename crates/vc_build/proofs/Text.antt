@@ -10,7 +10,7 @@ use Rattle.pra_base.specs.declared.code.Block.{Block}
 use Rattle.pra_base.specs.declared.code.VProc.{VProc}
 use Rattle.vc_build.specs.Grow.{count, stand_in, IsOpen, Grows, GrowsAt, with_open_block}
 use Rattle.vc_build.specs.Text.{depth_at, is_one, times, below, HaveDepths, Enters, IsLast, ComesBefore, IsBack, AreInText, MayLead, GoesOn}
-use Rattle.vc_build.proofs.Growth.{opened_block, opened_count, opened_kept}
+use Rattle.vc_build.proofs.Growth.{grows_same, opened_block, opened_count, opened_kept}
 
 -- ---- numbers and lists
 
@@ -230,6 +230,9 @@ module _ (d : ℕ) (old one : VProc) (x : BlockId) (made : one ≡ with_open_blo
   -- behind a part
   pub enters_behind : (two new : VProc) (o1 o2 : List BlockId) (ds : List ℕ) → Enters one two o1 o2 ds → Grows two new → count new ≤ count two → Enters old new o1 (o2 ++ x ∷ []) (ds ++ d ∷ [])
   enters_behind two new o1 o2 ds p grows none = enters_between two new o1 o2 (o2 ++ x ∷ []) ds [] p (enters_same two new (o2 ++ x ∷ []) grows none)
+
+  pub enters_behind_here : (new : VProc) (o1 o2 : List BlockId) (ds : List ℕ) → Enters one new o1 o2 ds → Enters old new o1 (o2 ++ x ∷ []) (ds ++ d ∷ [])
+  enters_behind_here new o1 o2 ds p = enters_behind new new o1 o2 ds p (grows_same new) (omega arith)
 
 -- ---- two blocks, and three
 

@@ -1,5 +1,7 @@
 -- What the code of conditions does: it leaves its block for one of two others.
-use Rattle.std.specs.Prelude.{◌≡◌, ℕ, Bool, if◌then◌else◌, length}
+use Rattle.std.specs.Prelude.{◌≡◌, ℕ, ◌⊎◌, Bool, if◌then◌else◌, length}
+use Rattle.pra_base.specs.Code.{IsTarget}
+use Rattle.pra_base.specs.declared.code.End.{End}
 use Rattle.pra_base.specs.declared.code.VProc.{VProc}
 use Rattle.ob_syntax.specs.Operators.{is_true}
 use Rattle.ob_syntax.specs.declared.checked.ROp.{ROp}
@@ -19,6 +21,11 @@ pub record Enters (b n : ℕ) (old new : Activation Vars) : Type 0 where
 
 abbrev pub chosen : Targets → Bool → ℕ
 chosen targets b = if b then targets.holds.0 else targets.fails.0
+
+-- an end leads to the two blocks, and to no other
+abbrev pub LeadsOnlyTo : Targets → End → Type 0
+LeadsOnlyTo targets end =
+    (t : ℕ) → IsTarget end t → (targets.holds.0 ≡ t) ⊎ (targets.fails.0 ≡ t)
 
 -- The block is closed. From variables with values of the sides it is left by whether the
 -- relation holds.

@@ -4,7 +4,7 @@ ghost use Rattle.std.specs.Prelude.{◌≡◌, ◌≢◌, ◌<◌, ◌≤◌, le
 ghost use Rattle.pra_base.specs.Code.{end_of};
 ghost use Rattle.vc_build.specs.Grow.{count, stand_in, IsOpen};
 ghost use Rattle.vc_expr.specs.Operators.{is_relation};
-ghost use Rattle.vc_expr.specs.Branches.{BranchesBy, BranchesOn};
+ghost use Rattle.vc_expr.specs.Branches.{BranchesBy, BranchesOn, LeadsOnlyTo};
 ghost use Rattle.vc_expr.specs.Rules.{StaysValid};
 ghost use Rattle.vc_expr.specs.Readable.{ReadsSides};
 ghost use Rattle.vc_expr.specs.Counts.{AddsAtMost};
@@ -46,6 +46,7 @@ pub fn branch_by(
     ensures branches { OnOk result
         (BranchesBy op at.0 code.old code.new left.0 right.0 targets) }
     ensures closed { OnOk result (end_of code.new at.0 ≢ stand_in) }
+    ensures leads { OnOk result (LeadsOnlyTo targets (end_of code.new at.0)) }
     ensures counts { OnOk result (AddsAtMost 1 0 0 0 code.old code.new) }
     ensures valid { OnOk result (0 < targets.holds.0 → 0 < targets.fails.0 →
         StaysValid code.old code.new) }
@@ -81,6 +82,7 @@ pub fn branch_on(
     ensures vars { OnOk result (length code.old.vars ≤ length code.new.vars) }
     ensures branches { OnOk result (BranchesOn at.0 code.old code.new v.0 targets) }
     ensures closed { OnOk result (end_of code.new at.0 ≢ stand_in) }
+    ensures leads { OnOk result (LeadsOnlyTo targets (end_of code.new at.0)) }
     ensures counts { OnOk result (AddsAtMost 1 0 1 0 code.old code.new) }
     ensures valid { OnOk result (0 < targets.holds.0 → 0 < targets.fails.0 →
         StaysValid code.old code.new) }

@@ -3,6 +3,7 @@
 
 ghost use Rattle.std.specs.Prelude.{◌≡◌, ◌≢◌, ◌<◌, ◌≤◌, length, IfOk, OnOk};
 ghost use Rattle.pra_base.specs.Code.{end_of, kind_of};
+ghost use Rattle.pra_base.specs.declared.code.End.TheVariants.{Jump};
 ghost use Rattle.pra_base.specs.declared.code.VarKind.TheVariants.{Plain};
 ghost use Rattle.pra_base.specs.declared.code.VInstr.TheVariants.{Set};
 ghost use Rattle.ob_syntax.specs.Operators.{number};
@@ -107,6 +108,7 @@ pub fn close_choice(
     ensures vars { OnOk result (code.new.vars ≡ code.old.vars) }
     ensures closes { OnOk result (ClosesChoice at.0 code.old code.new v.0 choice) }
     ensures closed { OnOk result (end_of code.new at.0 ≢ stand_in) }
+    ensures end { OnOk result (end_of code.new at.0 ≡ Jump choice.behind) }
     ensures counts { OnOk result (AddsAtMost 1 0 0 0 code.old code.new) }
     ensures valid { OnOk result (choice.target.0 ≢ v.0 → StaysValid code.old code.new) }
     ensures reads { OnOk result

@@ -2,11 +2,12 @@ use Rattle.std.proofs.Common.{◌≡◌, ◌≢◌, ap, sym, ◌∙◌, subst}
 use Rattle.pra_base.specs.Code.{end_of}
 use Rattle.pra_base.specs.declared.code.VInstr.TheVariants.{Cmp}
 use Rattle.pra_base.specs.declared.code.End.TheVariants.{Branch}
+use Rattle.pra_base.specs.declared.code.Block.{Block}
 use Rattle.pra_base.specs.declared.code.VProc.{VProc}
 use Rattle.vc_build.specs.Grow.{stand_in, with_instr, with_end}
-use Rattle.vc_build.proofs.Growth.{put_open}
+use Rattle.vc_build.proofs.Growth.{put_open, closed_block}
 use Rattle.vc_build.proofs.Open.{branch_real, closed_real}
-use Rattle.vc_expr.specs.Branches.{BranchesBy}
+use Rattle.vc_expr.specs.Branches.{BranchesBy, LeadsOnlyTo}
 use Rattle.vc_expr.proofs.Branching.{branches_by}
 use Rattle.vc_expr.specs.Rules.{StaysValid}
 use Rattle.vc_expr.specs.Readable.{ReadsSides}
@@ -69,3 +70,15 @@ returns-clause-closed c =
     c.close.ensures ∙ ap (with_end at (Branch k targets.holds targets.fails)) c.in_ok-put.ensures in
     subst (λ (z : VProc). end_of z at ≢ stand_in) (sym made)
     (closed_real at (Branch k targets.holds targets.fails) (with_instr at i old) (put_open at i old c.requires.is_open) (branch_real k targets.holds targets.fails))
+
+pub returns-clause-leads : goal.returns-clause-leads
+returns-clause-leads c =
+    let at = c.args.at.0 in
+    let old = c.args.code.now in
+    let targets = c.args.targets in
+    let end = Branch c.condition_of.result targets.holds targets.fails in
+    let i = Cmp c.args.left c.args.right in
+    let made : c.close.new.code ≡ with_end at end (with_instr at i old) = c.close.ensures ∙ ap (with_end at end) c.in_ok-put.ensures in
+    let is : end_of c.close.new.code at ≡ end =
+    ap (λ (z : VProc). end_of z at) made ∙ ap (λ (x : Block). x.end) (closed_block at end (with_instr at i old) (put_open at i old c.requires.is_open)) in
+    subst (LeadsOnlyTo targets) (sym is) (λ t target. target)

@@ -3,9 +3,10 @@ use Rattle.std.proofs.lemmas.List.{get_or_read}
 use Rattle.pra_base.specs.Code.{end_of, kind_of}
 use Rattle.pra_base.specs.declared.code.VarKind.TheVariants.{Plain}
 use Rattle.pra_base.specs.declared.code.End.TheVariants.{Jump}
+use Rattle.pra_base.specs.declared.code.Block.{Block}
 use Rattle.pra_base.specs.declared.code.VProc.{VProc}
 use Rattle.vc_build.specs.Grow.{stand_in, with_instr, with_end}
-use Rattle.vc_build.proofs.Growth.{put_open}
+use Rattle.vc_build.proofs.Growth.{put_open, closed_block}
 use Rattle.vc_build.proofs.Open.{jump_real, closed_real}
 use Rattle.vc_expr.specs.Operators.{first_of}
 use Rattle.vc_expr.specs.Choices.{ClosesChoice}
@@ -71,3 +72,12 @@ returns-clause-closed c =
     let made : c.close.new.code ≡ with_end at end (with_instr at i old) = c.close.ensures ∙ ap (with_end at end) c.in_ok-put.ensures in
     subst (λ (z : VProc). end_of z at ≢ stand_in) (sym made)
     (closed_real at end (with_instr at i old) (put_open at i old c.requires.is_open) (jump_real c.args.choice.behind (λ is. omega (arith, is, c.requires.no_entry))))
+
+pub returns-clause-end : goal.returns-clause-end
+returns-clause-end c =
+    let at = c.args.at.0 in
+    let old = c.args.code.now in
+    let end = Jump c.args.choice.behind in
+    let i = c.first_of.result in
+    let made : c.close.new.code ≡ with_end at end (with_instr at i old) = c.close.ensures ∙ ap (with_end at end) c.in_ok-put.ensures in
+    ap (λ (z : VProc). end_of z at) made ∙ ap (λ (x : Block). x.end) (closed_block at end (with_instr at i old) (put_open at i old c.requires.is_open))
