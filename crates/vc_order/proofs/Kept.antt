@@ -32,7 +32,7 @@ module _ (to from : Places) (old new : VProc) (is : Reordered to from old new) w
       get_or_from_slice_get new.blocks (to b) (block_with to (block_of old b)) no_block
       (is.blocks b (block_of old b) (slice_get-get_or old.blocks b no_block lt))
 
-  block_is : (c : ℕ) → c < count old → block_of new c ≡ block_with to (block_of old (from c))
+  pub block_is : (c : ℕ) → c < count old → block_of new c ≡ block_with to (block_of old (from c))
   block_is c lt = ap (block_of new) (sym (is.forth c lt)) ∙ block_there (from c) (is.within c lt)
 
   code_is : (c : ℕ) → c < count old → code_of new c ≡ code_of old (from c)

@@ -1,3 +1,4 @@
 pub mod Beside
 pub mod Kept
 pub mod Orders
+pub mod Listings

@@ -18,7 +18,7 @@ use Rattle.pra_base.specs.declared.code.Block.{Block}
 use Rattle.pra_base.specs.declared.code.VProc.{VProc}
 use Rattle.pra_base.specs.Code.{block_of, no_block}
 use Rattle.pra_base.specs.Valid.{instruction_count}
-use Rattle.vc_order.specs.Order.{place_in, IsOrder, block_with, blocks_in, Reordered, IsInOrder}
+use Rattle.vc_order.specs.Order.{place_in, IsOrder, block_with, blocks_in, Reordered}
 
 -- within a list it makes no difference what stands for what is past its end
 pub any_default : (xs : List ℕ) (k d e : ℕ) → k < length xs → get_or xs k d ≡ get_or xs k e
@@ -28,7 +28,7 @@ any_default xs k d e lt = some_same (get_or xs k d) (get_or xs k e) (sym (slice_
 pub read : (xs : List ℕ) (k r : ℕ) → k < length xs → r ≡ slice_index_or xs k r → r ≡ place_in xs k
 read xs k r lt e = e ∙ any_default xs k r k lt
 
-swapped_second : (xs : List ℕ) (i j k : ℕ) → i < length xs → j < length xs → k ≡ j → place_in (swap xs i j) k ≡ place_in xs i
+pub swapped_second : (xs : List ℕ) (i j k : ℕ) → i < length xs → j < length xs → k ≡ j → place_in (swap xs i j) k ≡ place_in xs i
 swapped_second xs i j k li lj e =
     let long : length (set xs i (get_or xs j k)) ≡ length xs = length-set xs i (get_or xs j k) in
     sym (ap (λ l. get_or l k k) (swap_is xs i j k li lj))
@@ -36,7 +36,7 @@ swapped_second xs i j k li lj e =
     ∙ get_or-set_same (set xs i (get_or xs j k)) j (get_or xs i k) k (omega (arith, lj, long))
     ∙ any_default xs i k i li
 
-swapped_first : (xs : List ℕ) (i j k : ℕ) → i < length xs → j < length xs → k ≢ j → k ≡ i → place_in (swap xs i j) k ≡ place_in xs j
+pub swapped_first : (xs : List ℕ) (i j k : ℕ) → i < length xs → j < length xs → k ≢ j → k ≡ i → place_in (swap xs i j) k ≡ place_in xs j
 swapped_first xs i j k li lj d e =
     sym (ap (λ l. get_or l k k) (swap_is xs i j k li lj))
     ∙ get_or-set_other (set xs i (get_or xs j k)) j k (get_or xs i k) k d
@@ -44,7 +44,7 @@ swapped_first xs i j k li lj d e =
     ∙ get_or-set_same xs i (get_or xs j k) k li
     ∙ any_default xs j k j lj
 
-swapped_other : (xs : List ℕ) (i j k : ℕ) → i < length xs → j < length xs → k ≢ j → k ≢ i → place_in (swap xs i j) k ≡ place_in xs k
+pub swapped_other : (xs : List ℕ) (i j k : ℕ) → i < length xs → j < length xs → k ≢ j → k ≢ i → place_in (swap xs i j) k ≡ place_in xs k
 swapped_other xs i j k li lj d e =
     sym (ap (λ l. get_or l k k) (swap_is xs i j k li lj))
     ∙ get_or-set_other (set xs i (get_or xs j k)) j k (get_or xs i k) k d
@@ -139,9 +139,6 @@ module _ (n : ℕ) (to from : List ℕ) (is : IsOrder n to from) (c d : ℕ) (fi
     back = from_back;
     all = IsPermutation-trans (range_with_len 0 n) from from' is.all moves;
   }
-
-  pub comes_to : place_in to' a ≡ d
-  comes_to = ⊎_elim (λ (s : a ≡ b). swapped_second to a b a la lb s ∙ ap (place_in to) s ∙ to_b) (λ (s : a ≢ b). swapped_first to a b a la lb s refl ∙ to_b) (cases_eq a b)
 
 -- ---- the order in which blocks stand
 
@@ -243,22 +240,6 @@ module _ (to from : List ℕ) (code new : VProc) (is : IsOrder (length code.bloc
     within = λ c lt. (is.back c lt).0;
     instructions = instructions_same;
   }
-
-  pub in_order : (last : ℕ) → place_in to last + 1 ≡ n' → IsInOrder code last new
-  in_order last e = record { to = place_in to; from = place_in from; reordered = reordered; last_is = omega (arith, e) }
-
--- ---- the last place
-
-module _ (n : ℕ) (to from : List ℕ) (is : IsOrder n to from) (last : ℕ) (there : last < n) where
-  pub not_first : n ≢ 1 → (last ≡ 0 → n ≡ 1) → 0 < place_in to last
-  not_first other only =
-      ⊎_elim (λ (e : place_in to last ≡ 0).
-      let same : last ≡ 0 = sym (is.there last there).1 ∙ ap (place_in from) (e ∙ sym is.entry) ∙ (is.there 0 (omega (arith, there))).1 in
-      absurd (other (only same)))
-      (λ (d : place_in to last ≢ 0). omega (arith, d)) (cases_eq (place_in to last) 0)
-
-  pub alone : n ≡ 1 → place_in to last + 1 ≡ n
-  alone one = let same : last ≡ 0 = omega (arith, there, one) in let first : place_in to last ≡ 0 = ap (place_in to) same ∙ is.entry in omega (arith, first, one)
 
 -- ---- the blocks so far
 

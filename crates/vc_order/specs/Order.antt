@@ -1,5 +1,6 @@
 -- When code is other code with its blocks in another order. Nothing here speaks of runs.
-use Rattle.std.specs.Prelude.{◌≡◌, ℕ, suc, ◌<◌, List, length, map, slice_get, slice_index_or, Some}
+use Rattle.std.specs.Prelude.{◌≡◌, ℕ, ◌<◌, ◌⊎◌, List, length, map, slice_get, slice_index_or}
+use Rattle.std.specs.Prelude.{Some}
 use Rattle.std.specs.List.{range_with_len}
 use Rattle.std.specs.List.Sorted.{IsPermutation}
 use Rattle.pra_base.specs.declared.ids.BlockId.{BlockId}
@@ -7,8 +8,9 @@ use Rattle.pra_base.specs.declared.code.End.{End}
 use Rattle.pra_base.specs.declared.code.End.TheVariants.{Jump, Branch, Return}
 use Rattle.pra_base.specs.declared.code.Block.{Block}
 use Rattle.pra_base.specs.declared.code.VProc.{VProc}
-use Rattle.pra_base.specs.Code.{block_of}
+use Rattle.pra_base.specs.Code.{block_of, end_of, IsTarget}
 use Rattle.pra_base.specs.Valid.{instruction_count}
+use Rattle.vc_build.specs.Text.{times, below, depth_at}
 
 -- the new number of each block
 abbrev pub Places : Type 0
@@ -42,7 +44,15 @@ pub record Reordered (to from : Places) (old new : VProc) : Type 0 where
   pub within : (c : ℕ) → c < length old.blocks → from c < length old.blocks
   pub instructions : instruction_count new.blocks ≡ instruction_count old.blocks
 
+-- the depths of the blocks, in their order
+abbrev pub depths : VProc → List ℕ
+depths code = map (λ (b : Block). b.depth) code.blocks
+
 -- ---- an order as two lists
+
+-- the number of the block at this place in a list
+abbrev pub number_at : List BlockId → ℕ → ℕ
+number_at ids c = (slice_index_or ids c (record { 0 = 0 })).0
 
 -- the number of this place in a list; past its end a number stays what it is
 abbrev pub place_in : List ℕ → Places
@@ -62,9 +72,25 @@ pub record IsOrder (count : ℕ) (to from : List ℕ) : Type 0 where
 abbrev pub blocks_in : (to from : List ℕ) → VProc → List Block
 blocks_in to from code = map (λ b. block_with (place_in to) (block_of code b)) from
 
--- The code has its blocks in another order, in which one of them is the last.
-pub record IsInOrder (code : VProc) (last : ℕ) (new : VProc) : Type 0 where
+-- A list has so many blocks, each once, and begins with the entry.
+pub record IsListing (count : ℕ) (ids : List BlockId) : Type 0 where
+  pub many : length ids ≡ count
+  pub once : (b : ℕ) → times b ids ≡ below b count
+  pub entry : number_at ids 0 ≡ 0
+
+-- The code has its blocks in the order of a list, and the depths of its blocks are theirs.
+pub record IsInOrder (code : VProc) (ids : List BlockId) (new : VProc) : Type 0 where
   pub to : Places
   pub from : Places
   pub reordered : Reordered to from code new
-  pub last_is : suc (to last) ≡ length code.blocks
+  pub listed : (c : ℕ) → c < length ids → from c ≡ number_at ids c
+  pub depths : depths new ≡ map (λ b. depth_at code b.0) ids
+
+-- ---- where blocks lead
+
+-- Each block leads only to blocks that stand behind it; but in a loop it may lead back, to a block
+-- that stands in as many loops.
+abbrev pub LeadOn : VProc → Type 0
+LeadOn code =
+    (b t : ℕ) → b < length code.blocks → IsTarget (end_of code b) t →
+    (b < t) ⊎ ((0 < depth_at code t) × (depth_at code b ≡ depth_at code t))

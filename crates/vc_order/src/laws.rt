@@ -1,14 +1,16 @@
 // What holds of code whose blocks are in another order. Each function is a law: its contract is the
 // statement, and it does nothing.
 
-ghost use Rattle.std.specs.Prelude.{◌≡◌, ◌≢◌, ℕ, suc, ◌<◌, ◌≤◌, List, Some, slice_get};
-ghost use Rattle.pra_base.specs.Code.{block_of, end_of};
+ghost use Rattle.std.specs.Prelude.{◌≡◌, ◌≢◌, ℕ, suc, ◌<◌, ◌≤◌, ◌⊎◌, List, Some, slice_get};
+ghost use Rattle.pra_base.specs.Code.{block_of, end_of, IsTarget};
+ghost use Rattle.pra_base.specs.declared.ids.BlockId.{BlockId};
 ghost use Rattle.pra_base.specs.declared.code.VProc.{VProc};
 ghost use Rattle.pra_base.specs.declared.code.VarKind.TheVariants.{Param};
 ghost use Rattle.vc_build.specs.Grow.{count, stand_in, IsOpen};
 ghost use Rattle.vc_expr.specs.Readable.{Entries, Certifies};
 ghost use Rattle.vc_expr.specs.Rules.{KeepsRules, IsComplete};
-ghost use Rattle.vc_order.specs.Order.{Places, Reordered};
+ghost use Rattle.vc_build.specs.Text.{AreInText, depth_at};
+ghost use Rattle.vc_order.specs.Order.{IsInOrder, IsListing, Places, Reordered};
 ghost use Rattle.vc_same.specs.SameRuns.{SameRuns};
 
 /// Code with its blocks in another order carries every run of the old code that is never stuck, in
@@ -35,4 +37,14 @@ pub fn rules_know_no_order()
     ensures depths { (to from : Places) (old new : VProc) (most : ℕ) →
         Reordered to from old new → ((b : ℕ) → (block_of old b).depth ≤ most) →
         (b : ℕ) → (block_of new b).depth ≤ most }
+{}
+
+/// Where each closed block of the old code comes before those to which it leads, or leads back in a
+/// loop, each block of the new code leads to blocks that stand behind it, or back in a loop.
+pub fn ahead_stays_ahead()
+    ensures { (code new : VProc) (ids : List BlockId) (at c t : ℕ) →
+        (order : IsInOrder code ids new) → IsListing (count code) ids → AreInText code ids at →
+        ((b u : ℕ) → b < count code → IsTarget (end_of code b) u → u < count code) →
+        c < count code → end_of code (order.from c) ≢ stand_in → IsTarget (end_of new c) t →
+        (c < t) ⊎ ((0 < depth_at new t) × (depth_at new c ≡ depth_at new t)) }
 {}

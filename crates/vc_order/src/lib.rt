@@ -6,20 +6,19 @@
 //! the old code is open at its new place. So code is made in whatever order its blocks are opened,
 //! and is finished in the order of the text.
 //!
-//! `in_text_order` brings the blocks into that order: a search from the entry leaves each block
-//! after those that control comes to from there, and the reverse is the order of the text, if of
-//! two targets of an end the one that comes later has the lesser number.
+//! `in_listed_order` brings the blocks into the order of a list, in which selection has entered
+//! them: that is the order of the text. What leads on to a block that was entered later leads on to
+//! one that stands behind (the law `ahead_stays_ahead`).
 //!
 //! ```text
 //! IF x = 0 THEN a ELSE b END; c     opened: 1 c    2 ELSE   3 THEN
 //! 0: .. cmp, branch 3, 2    3: a, jump 1    2: b, jump 1    1: c
-//! the search leaves 1, 2, 3, 0, so the text has 0, 3, 2, 1
+//! entered: 0, 3, 2, 1
 //! ```
 #![tactic(auto)]
 
 pub mod laws;
 pub mod order;
 pub mod reorder;
-pub mod search;
 
-pub use reorder::in_text_order;
+pub use reorder::in_listed_order;

@@ -1,8 +1,10 @@
 // An order of blocks: the place of each block, and the block at each place.
 
-ghost use Rattle.std.specs.Prelude.{◌≡◌, ◌<◌, IfOk, length};
-ghost use Rattle.vc_order.specs.Order.{IsOrder, place_in};
+ghost use Rattle.std.specs.Prelude.{◌≡◌, ◌<◌, ℕ, IfOk, length};
+ghost use Rattle.std.specs.List.{swap};
+ghost use Rattle.vc_order.specs.Order.{IsListing, IsOrder, number_at, place_in};
 
+use pra_base::BlockId;
 use std::alloc::{AllocError, Global};
 
 #[derive(Debug, Drop)]
@@ -59,10 +61,29 @@ pub fn exchange(order: &mut Order, c: usize, d: usize)
     requires second_within { d < length order.old.to.items }
     ensures is { IsOrder (length order.old.to.items) order.new.to.items order.new.from.items }
     ensures count { length order.new.to.items ≡ length order.old.to.items }
-    ensures moved { place_in order.new.to.items (place_in order.old.from.items c) ≡ d }
+    ensures swapped { order.new.from.items ≡ swap order.old.from.items c d }
 {
     let a = block_at(order, c);
     let b = block_at(order, d);
     order.from.swap(c, d);
     order.to.swap(a, b);
+}
+
+/// The order of so many blocks in which a list has them.
+///
+/// # Errors
+///
+/// Where there is no memory.
+pub fn listed_order(alloc: Global, count: u32, ids: &[BlockId]) -> Result<Order, AllocError>
+    requires { IsListing count ids.now }
+    ensures is { IfOk result (λ order. IsOrder count order.to.items order.from.items) }
+    ensures listed { IfOk result (λ order. (c : ℕ) → c < count →
+        place_in order.from.items c ≡ number_at ids.now c) }
+{
+    let mut order = same_order(alloc, count)?;
+    for c in 1..ids.len() {
+        let at = place_of(&order, ids[c].0 as usize);
+        exchange(&mut order, c, at);
+    }
+    Ok(order)
 }

@@ -1,13 +1,13 @@
-// Code with its blocks in the order of the text.
+// Code with its blocks in the order of a list.
 
 ghost use Rattle.std.specs.Prelude.{◌≡◌, ◌<◌, IfOk, length};
 ghost use Rattle.vc_build.specs.Grow.{count};
 ghost use Rattle.pra_base.specs.Code.{block_of};
-ghost use Rattle.vc_order.specs.Order.{IsOrder, IsInOrder, place_in, end_with, block_with, blocks_in};
+ghost use Rattle.vc_order.specs.Order.{IsListing, IsOrder, IsInOrder, place_in, end_with};
+ghost use Rattle.vc_order.specs.Order.{block_with, blocks_in};
 ghost use Rattle.vc_order.specs.Order.{block_at as block_id_at};
 
-use crate::order::{Order, block_at};
-use crate::search::text_order;
+use crate::order::{Order, block_at, listed_order};
 use pra_base::{Block, BlockId, End, OutOfMemory, VProc};
 use pra_list::Seq;
 use std::alloc::{AllocError, Global};
@@ -62,23 +62,21 @@ fn in_order(alloc: Global, code: &VProc, order: &Order) -> Result<Vec<Block>, Al
     Ok(blocks)
 }
 
-/// The code with its blocks in the order in which a search from the entry meets them, and the block
-/// `last` last. That is the order of the text, where of two targets of an end the one with the
-/// lesser number comes later in the text.
+/// The code with its blocks in the order of a list, which has each of them once and begins with the
+/// entry.
 ///
 /// # Errors
 ///
 /// Where there is no memory, or there are more blocks than 32 bits count.
-pub fn in_text_order(alloc: Global, code: VProc, last: BlockId) -> Result<VProc, OutOfMemory>
-    requires last { last.0 < count code }
-    requires other { last.0 ≡ 0 → count code ≡ 1 }
-    ensures { IfOk result (λ new. IsInOrder code last.0 new) }
+pub fn in_listed_order(alloc: Global, code: VProc, ids: &[BlockId]) -> Result<VProc, OutOfMemory>
+    requires { IsListing (count code) ids.now }
+    ensures { IfOk result (λ new. IsInOrder code ids.now new) }
 {
     if code.blocks.len() > u32::MAX as usize {
         return Err(OutOfMemory);
     }
     let blocks = code.blocks.len() as u32;
-    let order = text_order(alloc, code.blocks.as_slice(), blocks, last.0)?;
+    let order = listed_order(alloc, blocks, ids)?;
     let blocks = in_order(alloc, &code, &order)?;
     let VProc {
         id,

@@ -7,6 +7,7 @@ use Rattle.std.proofs.lemmas.Option.{get_or_from_slice_get, slice_get_within}
 use Rattle.pra_list.proofs.Options.{some_same}
 use Rattle.pra_base.specs.Code.{kind_of, is_plain}
 use Rattle.pra_base.specs.Valid.{IsValid, IsSized}
+use Rattle.pra_base.specs.declared.ids.BlockId.{BlockId}
 use Rattle.pra_base.specs.declared.ids.ProcId.{ProcId}
 use Rattle.pra_base.specs.declared.code.End.TheVariants.{Return}
 use Rattle.pra_base.specs.declared.code.VarKind.{VarKind}
@@ -20,15 +21,19 @@ use Rattle.ob_syntax.specs.declared.checked.RStmt.{RStmt}
 use Rattle.ob_mean.specs.Statements.{exec_all}
 use Rattle.vc_code.specs.Machine.{is_param}
 use Rattle.vc_build.specs.Grow.{with_end}
+use Rattle.vc_build.specs.Text.{depth_at, GoesOn}
+use Rattle.vc_order.specs.Order.{depths}
 use Rattle.vc_expr.specs.Readable.{is_constant}
 use Rattle.vc_relation.specs.Homes.{in_variable, param_home, local_home}
 use Rattle.vc_relation.specs.declared.home.Home.{Home}
 use Rattle.vc_select.specs.Selects.{IsSet}
 use Rattle.vc_select.specs.declared.target.Setting.{Setting}
 use Rattle.vc_stmt.specs.Amounts.{AddsForStatements}
+use Rattle.vc_stmt.specs.Depths.{depths_of_all}
+use Rattle.vc_stmt.proofs.AtMost.{few_deep}
 use Rattle.vc_stmt.specs.Does.{Does}
 use Rattle.vc_stmt.specs.Procedures.{Embodies}
-use Rattle.vc_stmt.specs.Ready.{Proceeds, KeepsReady, KeepsShallow, parameter_counts}
+use Rattle.vc_stmt.specs.Ready.{Proceeds, KeepsReady, parameter_counts}
 use Rattle.vc_stmt.specs.Sound.{are_sound}
 use Rattle.vc_typed.specs.Nodes.{nodes_in_all, HaveTheirNodes}
 use Rattle.vc_typed.specs.TypedModules.{IsSelectable}
@@ -38,8 +43,9 @@ use Rattle.vc_proc.specs.Selected.{KeepsCounts, IsSelected}
 use Rattle.vc_proc.proofs.Gets.{count_within}
 use Rattle.vc_proc.proofs.HomeVariables.{home_of_param, home_of_local, param_number}
 use Rattle.vc_proc.proofs.Embodying as embodying
+use Rattle.vc_proc.proofs.InText.{few_depths, depths_are}
 use Rattle.vc_proc.proofs.OpenRules.{at_entry, known_param, params_apart, open_ready}
-use Rattle.vc_proc.proofs.Sizes.{is_argument, three_kinds, plain_homes, constant_homes, argument_homes, few_instructions, open_shallow}
+use Rattle.vc_proc.proofs.Sizes.{is_argument, three_kinds, plain_homes, constant_homes, argument_homes, few_instructions}
 
 -- ---- lists of variables
 
@@ -86,7 +92,7 @@ module _ (g : Setting) (proc : CheckedProc) (of : IsSettingOf g proc) (selectabl
       (does : Does g old new 0 to (are_sound program p proc.body) (exec_all program proc.body))
       (adds : AddsForStatements (nodes_in_all proc.body) old new)
       (ready : KeepsReady g old new 0 to (are_sound program p proc.body))
-      (shallow : KeepsShallow old new) where
+      (after : List BlockId) (text : GoesOn 0 to old new (record { 0 = 0 } ∷ []) after (depths_of_all proc.body 0)) where
     abbrev counts : List ℕ
     counts = parameter_counts program
 
@@ -116,7 +122,7 @@ module _ (g : Setting) (proc : CheckedProc) (of : IsSettingOf g proc) (selectabl
         let below = slice_get_within (home_kinds proc) v (kind.Param known.0) known.1 in
         (known.0, does.extends.grows.grows.kinds v below ∙ get_or_from_slice_get (home_kinds proc) v (kind.Param known.0) Plain known.1)
 
-    module _ (code : VProc) (finished : IsFinished new to code) where
+    module _ (code : VProc) (finished : IsFinished new to after code) where
       args_are : code.args ≡ length proc.params
       args_are = finished.args ∙ does.extends.grows.grows.args
 
@@ -154,6 +160,9 @@ module _ (g : Setting) (proc : CheckedProc) (of : IsSettingOf g proc) (selectabl
           stays k Plain e is = cc
           stays k (Constant n) e is = cc
 
+      text_depths : depths code ≡ 0 ∷ depths_of_all proc.body 0
+      text_depths = finished.depths ∙ depths_are p proc new after (depths_of_all proc.body 0) text.enters
+
       sized : IsSized code
       sized =
           let limits = selectable.limited.procs p proc of.there in
@@ -165,7 +174,7 @@ module _ (g : Setting) (proc : CheckedProc) (of : IsSettingOf g proc) (selectabl
             params_in_range = λ v i e.
                 let n = param_number proc v i (adds.params v i (ap (λ (ks : List VarKind). slice_get ks v) (sym finished.vars) ∙ e)) in
                 omega (arith, args_are, slice_get_within proc.params i n.0 n.1);
-            depths = finished.depths 5 (shallow.depths (open_shallow p proc));
+            depths = few_depths code (0 ∷ depths_of_all proc.body 0) text_depths (omega arith, few_deep proc.body 0 (omega arith));
             instructions = omega (arith, few.instructions, limits.nodes, limits.scalars);
             blocks = omega (arith, few.blocks, limits.nodes);
             variables = omega (arith, three_kinds code.vars, few.locals, few.constants, few_arguments, limits.nodes, limits.scalars);
@@ -185,16 +194,18 @@ module _ (g : Setting) (proc : CheckedProc) (of : IsSettingOf g proc) (selectabl
         sized = sized;
         pushes = keeps.pushes;
         counts = few;
+        depths = text_depths;
+        leads = finished.leads counts proceeds.ready.rules;
       }
 
   -- What selection of statements leaves.
-  pub record Left (start : VProc) (body : List RStmt) (new : VProc) (to : ℕ) : Type 0 where
+  pub record Left (start : VProc) (body : List RStmt) (new : VProc) (to : ℕ) (after : List BlockId) : Type 0 where
     pub does : Does g start new 0 to (are_sound program p body) (exec_all program body)
     pub adds : AddsForStatements (nodes_in_all body) start new
     pub ready : KeepsReady g start new 0 to (are_sound program p body)
-    pub shallow : KeepsShallow start new
+    pub text : GoesOn 0 to start new (record { 0 = 0 } ∷ []) after (depths_of_all body (depth_at start 0))
 
-  pub selected_from : HaveTheirNodes program → (start : VProc) → start ≡ old → (body : List RStmt) → body ≡ proc.body → (new : VProc) (to : ℕ) → Left start body new to → (code : VProc) → IsFinished new to code → IsSelected program p proc code
-  selected_from nodes start start_is body body_is new to left code finished =
-      let l = subst (λ (b : List RStmt). Left old b new to) body_is (subst (λ (z : VProc). Left z body new to) start_is left) in
-      selected nodes new to l.does l.adds l.ready l.shallow code finished
+  pub selected_from : HaveTheirNodes program → (start : VProc) → start ≡ old → (body : List RStmt) → body ≡ proc.body → (new : VProc) (to : ℕ) (after : List BlockId) → Left start body new to after → (code : VProc) → IsFinished new to after code → IsSelected program p proc code
+  selected_from nodes start start_is body body_is new to after left code finished =
+      let l = subst (λ (b : List RStmt). Left old b new to after) body_is (subst (λ (z : VProc). Left z body new to after) start_is left) in
+      selected nodes new to l.does l.adds l.ready after l.text code finished

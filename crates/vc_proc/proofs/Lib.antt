@@ -1,3 +1,4 @@
+pub mod InText
 pub mod Gets
 pub mod HomeVariables
 pub mod Zeroing

@@ -1,6 +1,7 @@
 -- Code in the order of the text whose last block is left by Return.
-use Rattle.std.proofs.Common.{◌≡◌, ◌≢◌, ℕ, suc, ◌<◌, ◌≤◌, inl, inr, ⊎_elim, ◌⊎◌, List, length, Some, sym, ap, ◌∙◌, subst, arith}
+use Rattle.std.proofs.Common.{◌≡◌, ◌≢◌, ℕ, suc, ◌<◌, inl, inr, ⊎_elim, ◌⊎◌, List, length, Some, refl, sym, ap, ◌∙◌, subst, arith}
 use Rattle.std.specs.Prelude.{slice_get, slice_index_or}
+use Rattle.std.proofs.Math.Seq.{map-set_same}
 use Rattle.std.proofs.lemmas.Bool.{cases_eq}
 use Rattle.std.proofs.lemmas.List.{length-set, get_or-set_same, get_or-set_other}
 use Rattle.std.proofs.lemmas.List.Sums.{sum_by-set}
@@ -9,6 +10,7 @@ use Rattle.pra_list.proofs.Elements.{got_set, got_unset}
 use Rattle.pra_list.proofs.Options.{some_same}
 use Rattle.pra_base.specs.Code.{no_block, block_of, code_of, end_of, IsTarget}
 use Rattle.pra_base.specs.Valid.{PushesLead, TakesArgs, instruction_count}
+use Rattle.pra_base.specs.declared.ids.BlockId.{BlockId}
 use Rattle.pra_base.specs.declared.code.Block.{Block}
 use Rattle.pra_base.specs.declared.code.End.TheVariants.{Return}
 use Rattle.pra_base.specs.declared.code.VarKind.{VarKind}
@@ -16,10 +18,12 @@ use Rattle.pra_base.specs.declared.code.VarKind.TheVariants.{Plain}
 use Rattle.pra_base.specs.declared.code.VInstr.{VInstr}
 use Rattle.pra_base.specs.declared.code.VProc.{VProc}
 use Rattle.vc_build.specs.Grow.{count, stand_in, IsOpen, with_end}
+use Rattle.vc_build.specs.Text.{depth_at, AreInText}
 use Rattle.vc_expr.specs.Rules.{ClosesWell, KeepsRules}
 use Rattle.vc_expr.proofs.Finished.{is_valid}
-use Rattle.vc_order.specs.Order.{Places, block_with, Reordered}
-use Rattle.vc_order.proofs.Kept.{rules_kept, certificate_moves, completes, depths_kept}
+use Rattle.vc_order.specs.Order.{Places, block_with, Reordered, IsInOrder, IsListing, LeadOn, depths}
+use Rattle.vc_order.proofs.Kept.{rules_kept, certificate_moves, completes}
+use Rattle.vc_order.proofs.Listings.{ahead}
 use Rattle.vc_order.proofs.Beside.{same_runs}
 use Rattle.vc_proc.specs.Finished.{KeepsOn, IsFinished}
 
@@ -55,6 +59,13 @@ same_depth last b code lt =
 
 -- from rules that are kept, whatever block is left by Return
 module _ (counts : List ℕ) (last : ℕ) (code : VProc) (lt : last < count code) (rules : KeepsRules counts code) where
+  by : (b t : ℕ) → b < count code → IsTarget (end_of code b) t → ((block_of code b).end ≡ stand_in) ⊎ ClosesWell (count code) (block_of code b) → t < count code
+  by b t below target (inl e) = let entry : 0 ≡ t = subst (λ x. IsTarget x t) e target in omega (arith, below, entry)
+  by b t below target (inr w) = (w.targets t target).1
+
+  targets_within : (b t : ℕ) → b < count code → IsTarget (end_of code b) t → t < count code
+  targets_within b t below target = by b t below target (rules.ends b below)
+
   keeps_on : KeepsOn counts (with_end last Return code)
   keeps_on = record {
     obeys = λ b k i e. rules.obeys b k i (ap (λ (is : List VInstr). slice_get is k) (sym (same_code last b code lt)) ∙ e);
@@ -71,10 +82,6 @@ module _ (counts : List ℕ) (last : ℕ) (code : VProc) (lt : last < count code
         omega (arith, there, same_count last code))
         (cases_eq b last);
   }
-    where
-      by : (b t : ℕ) → b < count code → IsTarget (end_of code b) t → ((block_of code b).end ≡ stand_in) ⊎ ClosesWell (count code) (block_of code b) → t < count code
-      by b t below target (inl e) = let entry : 0 ≡ t = subst (λ x. IsTarget x t) e target in omega (arith, below, entry)
-      by b t below target (inr w) = (w.targets t target).1
 
 module _ (to from : Places) (old mid : VProc) (last : ℕ) (is : Reordered to from old mid) (o : IsOpen old last) (last_is : suc (to last) ≡ count old) where
   abbrev made : VProc
@@ -121,24 +128,48 @@ module _ (to from : Places) (old mid : VProc) (last : ℕ) (is : Reordered to fr
   from_entry : from 0 ≡ 0
   from_entry = ap from (sym is.entry) ∙ is.back 0 (omega (arith, o.0))
 
-  -- what is left by Return at its new place
-  pub finished : ((b : ℕ) → b < count old → b ≢ last → end_of old b ≢ stand_in) → IsFinished old last new
-  finished closed = record {
-    same = same_runs to from made new ends_reordered;
-    id = is.id;
-    args = is.args;
-    aggregates = is.aggregates;
-    vars = is.vars;
-    count = same_count (to last) mid ∙ is.count;
-    instructions = same_size (to last) mid within ∙ is.instructions;
-    depths = λ most all b. subst (λ n. n ≤ most) (sym (same_depth (to last) b mid within)) (depths_kept to from old mid is most all b);
-    keeps = λ counts rules. keeps_on counts (to last) mid within (rules_kept to from old mid is counts rules);
-    valid = λ counts known rules certifies apart entry.
-        is_valid counts (λ b v. known (from b) v) mid (to last)
-        (rules_kept to from old mid is counts rules)
-        (certificate_moves to from old mid is counts rules known certifies)
-        (completes to from old mid is counts rules last o last_is closed apart)
-        (λ v e.
-        let i = entry v (ap (λ b. known b v) (sym from_entry) ∙ e) in
-        (i.0, ap (λ (kinds : List VarKind). slice_index_or kinds v Plain) is.vars ∙ i.1));
-  }
+  depths_stay : depths new ≡ depths mid
+  depths_stay = map-set_same (λ (b : Block). b.depth) mid.blocks (to last) (left_by_return (block_of mid (to last))) no_block refl
+
+  -- where the blocks lead
+  module _ (ids : List BlockId) (order : IsInOrder old ids mid) (same_to : order.to ≡ to) (same_from : order.from ≡ from) (listing : IsListing (count old) ids) (text : AreInText old ids last)
+      (closed : (b : ℕ) → b < count old → b ≢ last → end_of old b ≢ stand_in) where
+    new_count : count new ≡ count old
+    new_count = same_count (to last) mid ∙ is.count
+
+    lead_on : (counts : List ℕ) → KeepsRules counts old → LeadOn new
+    lead_on counts rules c t lt target = ⊎_elim
+        (λ (e : c ≡ to last).
+        let end : end_of new c ≡ Return = ap (end_of new) e ∙ ap (λ (x : Block). x.end) (last_block (to last) mid within) in
+        absurd (subst (λ x. IsTarget x t) end target))
+        (λ (d : c ≢ to last).
+        let end : end_of new c ≡ end_of mid c = ap (λ (x : Block). x.end) (other_block (to last) c mid d) in
+        let l : c < count old = omega (arith, lt, new_count) in
+        let other : order.from c ≢ last = λ e. d (sym (is.forth c l) ∙ ap to (sym (ap (λ (f : Places). f c) same_from) ∙ e)) in
+        ⊎_elim (λ (z : c < t). inl z)
+        (λ (z : (0 < depth_at mid t) × (depth_at mid c ≡ depth_at mid t)). inr (omega (arith, z.0, same_depth (to last) t mid within), same_depth (to last) c mid within ∙ z.1 ∙ sym (same_depth (to last) t mid within)))
+        (ahead old mid ids last c t order listing text l (λ b u below goes. targets_within counts last old o.0 rules b u below goes) (closed (order.from c) (order.reordered.within c l) other) (subst (λ x. IsTarget x t) end target)))
+        (cases_eq c (to last))
+
+    -- what is left by Return at its new place
+    pub finished : IsFinished old last ids new
+    finished = record {
+      same = same_runs to from made new ends_reordered;
+      id = is.id;
+      args = is.args;
+      aggregates = is.aggregates;
+      vars = is.vars;
+      count = new_count;
+      instructions = same_size (to last) mid within ∙ is.instructions;
+      depths = depths_stay ∙ order.depths;
+      leads = lead_on;
+      keeps = λ counts rules. keeps_on counts (to last) mid within (rules_kept to from old mid is counts rules);
+      valid = λ counts known rules certifies apart entry.
+          is_valid counts (λ b v. known (from b) v) mid (to last)
+          (rules_kept to from old mid is counts rules)
+          (certificate_moves to from old mid is counts rules known certifies)
+          (completes to from old mid is counts rules last o last_is closed apart)
+          (λ v e.
+          let i = entry v (ap (λ b. known b v) (sym from_entry) ∙ e) in
+          (i.0, ap (λ (kinds : List VarKind). slice_index_or kinds v Plain) is.vars ∙ i.1));
+    }

@@ -1,10 +1,10 @@
 -- How much the code has at whose end statements are selected, and how much there may be.
-use Rattle.std.proofs.Common.{◌≡◌, ℕ, zero, suc, ◌+◌, ◌≤◌, Bool, true, false, not, cond, ⊎_elim, List, [], ◌∷◌, length, Some, refl, ap, arith, length-append}
+use Rattle.std.proofs.Common.{◌≡◌, ℕ, ◌+◌, ◌≤◌, Bool, true, false, not, cond, ⊎_elim, List, [], ◌∷◌, length, Some, refl, ap, arith, length-append}
 use Rattle.std.specs.Prelude.{slice_get, count_by, nat_eq, ◌||◌, if◌then◌else◌}
 use Rattle.std.proofs.lemmas.List.Sums.{sum_by-append, sum_by-cons, count_by-le-length}
 use Rattle.pra_list.proofs.Counts.{count-cons}
-use Rattle.pra_base.specs.Code.{block_of, is_plain}
-use Rattle.pra_base.specs.Valid.{instruction_count, most_loops}
+use Rattle.pra_base.specs.Code.{is_plain}
+use Rattle.pra_base.specs.Valid.{instruction_count}
 use Rattle.pra_base.specs.declared.code.Block.{Block}
 use Rattle.pra_base.specs.declared.code.VInstr.TheVariants.{Clear}
 use Rattle.pra_base.specs.declared.code.VarKind.{VarKind}
@@ -89,7 +89,3 @@ module _ (id : ℕ) (proc : CheckedProc) where
       clearing_length : (b : Bool) → length (if b then [] else Clear ∷ []) ≤ 1
       clearing_length true = omega arith
       clearing_length false = omega arith
-
-  pub open_shallow : (b : ℕ) → (block_of (opened id proc) b).depth ≤ most_loops
-  open_shallow zero = omega arith
-  open_shallow (suc b) = omega arith

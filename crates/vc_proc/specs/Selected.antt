@@ -1,5 +1,5 @@
 -- The selected code of a procedure of a checked module.
-use Rattle.std.specs.Prelude.{◌≡◌, ℕ, ◌+◌, ◌*◌, ◌≤◌, length, count_by}
+use Rattle.std.specs.Prelude.{◌≡◌, ℕ, ◌+◌, ◌*◌, ◌≤◌, ◌∷◌, length, count_by}
 use Rattle.pra_base.specs.Code.{is_plain}
 use Rattle.pra_base.specs.Valid.{PushesBeforeCalls, TakesArgs, IsValid, IsSized, instruction_count}
 use Rattle.pra_base.specs.declared.code.VProc.{VProc}
@@ -7,6 +7,8 @@ use Rattle.ob_syntax.specs.declared.checked.Checked.{Checked}
 use Rattle.ob_syntax.specs.declared.checked.CheckedProc.{CheckedProc}
 use Rattle.vc_expr.specs.Readable.{is_constant}
 use Rattle.vc_same.specs.SameRuns.{SameRuns}
+use Rattle.vc_order.specs.Order.{LeadOn, depths}
+use Rattle.vc_stmt.specs.Depths.{depths_of_all}
 use Rattle.vc_stmt.specs.Procedures.{Embodies}
 pub use Rattle.vc_stmt.specs.Ready.{parameter_counts}
 use Rattle.vc_typed.specs.TypedModules.{scalar_locals}
@@ -34,3 +36,6 @@ pub record IsSelected (program : Checked) (p : ℕ) (proc : CheckedProc) (code :
   pub sized : IsSized code
   pub pushes : PushesBeforeCalls (TakesArgs (parameter_counts program)) code.blocks
   pub counts : KeepsCounts proc code
+  -- the blocks stand in the order of the text, each as deep as what it is made for
+  pub depths : depths code ≡ 0 ∷ depths_of_all proc.body 0
+  pub leads : LeadOn code

@@ -13,6 +13,7 @@ use crate::opening::open_code;
 use crate::words::words_of_types;
 use ob_syntax::{Checked, CheckedProc};
 use pra_base::{BlockId, OutOfMemory, ProcId, VProc};
+use pra_list::Seq;
 use std::alloc::Global;
 use vc_select::{Ctx, Setting};
 use vc_stmt::select_statements;
@@ -26,13 +27,16 @@ fn select_body(setting: &Setting<'_>, proc: &CheckedProc, code: VProc) -> Result
     ensures { IfOk result (λ new.
         IsSelected setting.now.program.now setting.now.id.0 proc.now new) }
 {
+    let mut order = Seq::new(setting.alloc);
+    order.push(BlockId(0))?;
     let mut ctx = Ctx {
         code,
         at: BlockId(0),
+        order,
     };
     select_statements(setting, &mut ctx, proc.body.as_slice())?;
-    let Ctx { code, at } = ctx;
-    let code = finish(setting.alloc, code, at)?;
+    let Ctx { code, at, order } = ctx;
+    let code = finish(setting.alloc, code, at, order.as_slice())?;
     Ok(code)
 }
 

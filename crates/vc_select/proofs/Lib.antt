@@ -18,7 +18,8 @@ pub mod Ready
 pub mod ReadyTests
 pub mod ReadyChoice
 pub mod ReadyTargets
-pub mod Depths
+pub mod NeedsOf
+pub mod InText
 pub mod Opens
 pub mod ReadyArms
 pub mod Started

@@ -5,8 +5,8 @@ use Rattle.std.specs.Prelude.{ℤ}
 use Rattle.pra_base.specs.declared.code.VarKind.TheVariants.{Constant}
 use Rattle.pra_base.specs.declared.code.VProc.{VProc}
 use Rattle.ob_syntax.specs.declared.checked.RStep.{RStep}
-use Rattle.vc_build.specs.Grow.{count, IsOpen, Grows, GrowsAt, with_variable}
-use Rattle.vc_build.proofs.Growth.{grows_same, grows_at_on, declared_grows}
+use Rattle.vc_build.specs.Grow.{count, Grows, GrowsAt, with_variable}
+use Rattle.vc_build.proofs.Growth.{grows_same, grows_at_on}
 use Rattle.vc_expr.specs.Counts.{AddsAtMost, OperationAdds}
 use Rattle.vc_expr.specs.Readable.{ReadsSides}
 use Rattle.vc_expr.specs.Rules.{StaysValid}
@@ -20,9 +20,8 @@ use Rattle.vc_typed.specs.Nodes.{nodes_in_step}
 use Rattle.vc_select.specs.Amounts.{path_nodes, AddsForPath, AddsForVariable, AddsForValue}
 use Rattle.vc_select.specs.Selects.{Extends}
 use Rattle.vc_select.specs.Targets.{above_setting, shifted}
-use Rattle.vc_select.specs.Certified.{AddsNoParam, StaysReady, IsAnswer, StaysReadyFrom, EndsReady, KeepsDepth}
+use Rattle.vc_select.specs.Certified.{AddsNoParam, StaysReady, IsAnswer, StaysReadyFrom, EndsReady}
 use Rattle.vc_select.proofs.Arms.{next_item}
-use Rattle.vc_select.proofs.Depths.{depth_same, depth_on, depth_after, depth_here}
 use Rattle.vc_select.proofs.Nodes.{operation_most, sign_adds, path_on}
 use Rattle.vc_select.proofs.Ready.{InBoth, constant_ready, both_continues}
 use Rattle.vc_select.proofs.ReadyTargets.{from_same, in_shifted, cell_of_shifted}
@@ -36,9 +35,6 @@ module _ (g : Setting) (old new : VProc) (at v : ℕ) (n : ℤ) (made : new ≡ 
 
   pub constant_stays : v ≡ length old.vars → above_setting g ≤ length old.vars → StaysReady g (length old.vars) old new at at (IsAnswer v)
   constant_stays is_new low = subst (λ z. StaysReady g (length old.vars) old z at at (IsAnswer v)) (sym made) (constant_ready g old at v n is_new low)
-
-  pub constant_depth : IsOpen old at → KeepsDepth at at old new
-  constant_depth o = subst (KeepsDepth at at old) (sym made) (depth_same at old (with_variable (Constant n) old) (declared_grows (Constant n) old at).grows o.0 (omega arith))
 
 -- ---- signs
 
@@ -59,9 +55,6 @@ indexed_grows first at old new (Memory a) end index length_is factor q = q.2.gro
 pub shifted_ready : (g : Setting) (first : ℕ) (old : VProc) (at : ℕ) (begin end : Target) (n : ℕ) → end ≡ shifted n begin → StaysReadyFrom g first old old at at begin end
 shifted_ready g first old at begin end n is = subst (StaysReadyFrom g first old old at at begin) (sym is) (from_same g first old at begin (shifted n begin) (in_shifted n begin) (cell_of_shifted n begin))
 
-pub nothing_depth : (old : VProc) (at : ℕ) → IsOpen old at → KeepsDepth at at old old
-nothing_depth old at o = depth_same at old old (grows_same old) o.0 (omega arith)
-
 -- ---- selector after selector
 
 pub path_walk : (all : List RStep) (i : ℕ) (old mid new : VProc) (s : RStep) → i < length all → s ≡ get_or all i s → AddsForPath (nodes_in_step s) old mid → AddsForPath (path_nodes (drop (i + 1) all)) mid new → AddsForPath (path_nodes (drop i all)) old new
@@ -73,9 +66,6 @@ path_walk all i old mid new s lt is one rest = subst (λ l. AddsForPath (path_no
 module _ (old mid new : VProc) (from to : ℕ) (e : Extends from to old mid) (q : GrowsAt to mid new) where
   pub test_grows : GrowsAt from old new
   test_grows = grows_at_on old mid new from to e.grows q e.apart
-
-  pub test_depth : from < count old → KeepsDepth from to old mid → count new ≤ count mid → KeepsDepth from from old new
-  test_depth there p none = depth_here from to old new (depth_after from to old mid new p q.grows e.is_open.0 none) test_grows.grows there
 
   -- by a truth value in a variable
   pub value_ends : (g : Setting) (v : ℕ) (targets : Targets) → above_setting g ≤ length old.vars → StaysReady g (length old.vars) old mid from to (IsAnswer v) → AddsNoParam old mid → AddsNoParam mid new →
@@ -98,9 +88,6 @@ module _ (g : Setting) (old one two new : VProc) (from between to u v : ℕ) (ta
       (0 < targets.holds.0 → 0 < targets.fails.0 → StaysValid two new) → ReadsSides to two new u v targets → targets.holds.0 < count old → targets.fails.0 < count old → EndsReady g old new from targets
   relation_ends low named left right p1 p2 p3 valid reads holds fails =
       ends_ready g old two new from to u v targets (InBoth u v) (inl refl) (inr refl) low (both_continues g old one two from between to u v named left right x.grows.grows) all_grows (λ z k is. p1 z k (p2 z k (p3 z k is))) valid reads holds fails
-
-  pub relation_depth : from < count old → KeepsDepth from between old one → KeepsDepth between to one two → count new ≤ count two → KeepsDepth from from old new
-  relation_depth there a b none = depth_here from to old new (depth_after from to old two new (depth_on from between to old one two a b y.grows.grows) q.grows y.is_open.0 none) all_grows.grows there
 
 -- ---- by equations
 

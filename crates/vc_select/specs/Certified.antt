@@ -2,7 +2,6 @@
 -- may read: a proof of what the code does never speaks of it.
 use Rattle.std.specs.Prelude.{◌≡◌, ◌≢◌, ℕ, ◌<◌, ◌≤◌, ◌⊎◌, true, List, length, Some, None, Option}
 use Rattle.std.specs.Prelude.{slice_get}
-use Rattle.pra_base.specs.Code.{block_of}
 use Rattle.pra_base.specs.declared.ids.VarId.{VarId}
 use Rattle.pra_base.specs.declared.code.Base.{Base}
 use Rattle.pra_base.specs.declared.code.Base.TheVariants as base
@@ -165,11 +164,3 @@ pub record EndsReady (g : Setting) (old new : VProc) (from : ℕ) (targets : Tar
   pub stays : (counts : List ℕ) (known : Entries) → IsReady g counts known old from →
       0 < targets.holds.0 → 0 < targets.fails.0 → Awaits known targets.holds.0 old from →
       Awaits known targets.fails.0 old from → Closes g counts known old new from
-
--- ---- depths
-
--- Each new block has the depth of the block `from`, and so has the block `to`.
-pub record KeepsDepth (from to : ℕ) (old new : VProc) : Type 0 where
-  pub blocks : (b : ℕ) → count old ≤ b → b < count new →
-      (block_of new b).depth ≡ (block_of old from).depth
-  pub end : (block_of new to).depth ≡ (block_of old from).depth

@@ -1,11 +1,12 @@
 // Elements of arrays: by a constant, or by an index that is in a variable.
 
-ghost use Rattle.std.specs.Prelude.{◌≡◌, ◌<◌, ◌≤◌, ◌*◌, pos, length};
-ghost use Rattle.std.specs.Prelude.{IfSome, IfOk, OnOk};
+ghost use Rattle.std.specs.Prelude.{◌≡◌, ◌≢◌, ◌<◌, ◌≤◌, ◌*◌, ℕ, pos, length, None};
+ghost use Rattle.std.specs.Prelude.{IfSome, IfOk, OnOk, OnSome};
 ghost use Rattle.ob_syntax.specs.declared.checked.RExpr.TheVariants.{Number, Binary};
 ghost use Rattle.vc_build.specs.Grow.{IsOpen};
 ghost use Rattle.vc_expr.specs.Counts.{AddsAtMost};
 ghost use Rattle.vc_expr.specs.Rules.{StaysValid};
+ghost use Rattle.vc_select.specs.Blocks.{needs};
 ghost use Rattle.vc_select.specs.Certified.{ReadsTarget};
 ghost use Rattle.vc_select.specs.Indexes.{IndexedBy};
 ghost use Rattle.vc_select.specs.Selects.{Always};
@@ -37,6 +38,7 @@ pub struct Subscript {
 fn in_range(n: i32, count: u32) -> Option<u32>
     ensures below { IfSome result (λ k. k < count) }
     ensures is { IfSome result (λ k. n ≡ pos k) }
+    ensures none { result ≡ None → (k : ℕ) → k < count → n ≢ pos k }
 {
     let k = u32::try_from(n).ok()?;
     if k < count { Some(k) } else { None }
@@ -46,6 +48,8 @@ fn in_range(n: i32, count: u32) -> Option<u32>
 pub fn constant_index(e: &RExpr, count: u32) -> Option<u32>
     ensures below { IfSome result (λ k. k < count) }
     ensures means { IfSome result (λ k. Always e.now k) }
+    ensures no_blocks { OnSome result ((needs e.now).value ≡ 0) }
+    ensures none { result ≡ None → (k : ℕ) → k < count → e.now ≢ Number (pos k) }
 {
     match e {
         RExpr::Number(n) => {

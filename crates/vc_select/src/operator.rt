@@ -1,8 +1,9 @@
 // What is known of operators, and of expressions that never trap.
 
-ghost use Rattle.std.specs.Prelude.{◌≡◌, true, false};
+ghost use Rattle.std.specs.Prelude.{◌≡◌, true, false, map};
 ghost use Rattle.vc_expr.specs.Division.{is_division};
 ghost use Rattle.vc_expr.specs.Operators.{is_bitwise, is_relation};
+ghost use Rattle.vc_select.specs.Blocks.{all_safe, has_both, needs, needs_of_step};
 ghost use Rattle.vc_select.specs.Selects.{IsSafe, IsSided, AreFields};
 
 use ob_syntax::{RExpr, ROp, RStep};
@@ -29,7 +30,8 @@ fn is_division(op: ROp) -> bool
 }
 
 fn are_fields(steps: &[RStep]) -> bool
-    ensures { result ≡ true → AreFields steps.now }
+    ensures is { result ≡ all_safe (map needs_of_step steps.now) }
+    ensures fields { result ≡ true → AreFields steps.now }
 {
     for step in steps {
         match step {
@@ -43,7 +45,8 @@ fn are_fields(steps: &[RStep]) -> bool
 /// Whether an expression has no index, no DIV and no MOD; such a one never traps.
 #[cycle(safe)]
 pub fn is_safe(e: &RExpr) -> bool
-    ensures { result ≡ true → IsSafe e.now }
+    ensures is { result ≡ (needs e.now).safe }
+    ensures safe { result ≡ true → IsSafe e.now }
 {
     match e {
         RExpr::Number(_) => true,
@@ -66,6 +69,7 @@ pub fn is_safe(e: &RExpr) -> bool
 /// Whether both sides of an operator may be evaluated: `&` and OR then have a right side that never
 /// traps.
 pub fn is_sided(op: ROp, y: &RExpr) -> bool
+    ensures is { result ≡ has_both op (needs y.now).safe }
     ensures sided { result ≡ true → IsSided op y.now }
     ensures bitwise { result ≡ false → is_bitwise op ≡ true }
 {

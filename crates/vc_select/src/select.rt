@@ -1,18 +1,21 @@
 // The walk over resolved trees: expressions, variables with their selectors, and conditions.
 
-ghost use Rattle.std.specs.Prelude.{◌≡◌, ◌<◌, ◌≤◌, ◌+◌, ℕ, suc, List, length, true, IfOk, OnOk};
+ghost use Rattle.std.specs.Prelude.{◌≡◌, ◌<◌, ◌≤◌, ◌+◌, ℕ, suc, pos, List, length, true, IfOk, OnOk};
+ghost use Rattle.ob_mean.specs.Designators.{array_length, shape_of};
 ghost use Rattle.ob_mean.specs.Expressions.{value, selector, location};
 ghost use Rattle.ob_mean.specs.Store.{Store};
 ghost use Rattle.ob_mean.specs.declared.store.LiveCall.{LiveCall};
-ghost use Rattle.ob_syntax.specs.declared.checked.RExpr.TheVariants.{Binary};
+ghost use Rattle.ob_syntax.specs.declared.checked.RExpr.TheVariants.{Binary, Number};
 ghost use Rattle.vc_build.specs.Grow.{count, ClosesOne, HandsOn, IsOpen};
 ghost use Rattle.vc_expr.specs.Operators.{is_bitwise as is_bitwise_operator};
 ghost use Rattle.vc_expr.specs.Operators.{is_relation as is_relation_operator};
 ghost use Rattle.vc_relation.specs.declared.home.Home.TheVariants as home;
-ghost use Rattle.vc_select.specs.Certified.{StaysReady, StaysReadyFrom, EndsReady, KeepsDepth};
+ghost use Rattle.vc_select.specs.Certified.{StaysReady, StaysReadyFrom, EndsReady};
 ghost use Rattle.vc_select.specs.Certified.{IsAnswer, InTarget, CellOf, IsHome};
 ghost use Rattle.vc_select.specs.Amounts.{AddsForPath, AddsForVariable, AddsForValue};
 ghost use Rattle.vc_select.specs.Amounts.{AddsForTest};
+ghost use Rattle.vc_select.specs.Blocks.{EndsInText, StaysInText};
+ghost use Rattle.vc_select.specs.Blocks.{needs, needs_of_step, needs_of_var};
 ghost use Rattle.vc_select.specs.Selects.{Selects, Locates, LeadsFrom, LeadsBy, Tests, IsFor};
 ghost use Rattle.vc_select.specs.Selects.{sided, joined};
 ghost use Rattle.vc_select.specs.Targets.{above_setting, above_target, above_target_base};
@@ -60,8 +63,8 @@ pub fn select_expr(setting: &Setting<'_>, ctx: &mut Ctx, e: &RExpr) -> Result<Va
         ctx.old.code ctx.new.code) }
     ensures ready { IfOk result (λ v. StaysReady setting.now (length ctx.old.code.vars)
         ctx.old.code ctx.new.code ctx.old.at.0 ctx.new.at.0 (IsAnswer v.0)) }
-    ensures depth { OnOk result (KeepsDepth ctx.old.at.0 ctx.new.at.0
-        ctx.old.code ctx.new.code) }
+    ensures text { OnOk result (StaysInText (needs e.now).value
+        ctx.old.at.0 ctx.new.at.0 ctx.old.code ctx.new.code ctx.old.order ctx.new.order) }
     ensures hands_on { OnOk result (HandsOn ctx.old.at.0 ctx.new.at.0
         ctx.old.code ctx.new.code) }
 {
@@ -127,8 +130,8 @@ fn select_binary(
         ctx.old.code ctx.new.code) }
     ensures ready { IfOk result (λ v. StaysReady setting.now (length ctx.old.code.vars)
         ctx.old.code ctx.new.code ctx.old.at.0 ctx.new.at.0 (IsAnswer v.0)) }
-    ensures depth { OnOk result (KeepsDepth ctx.old.at.0 ctx.new.at.0
-        ctx.old.code ctx.new.code) }
+    ensures text { OnOk result (StaysInText (needs e.now).value
+        ctx.old.at.0 ctx.new.at.0 ctx.old.code ctx.new.code ctx.old.order ctx.new.order) }
     ensures hands_on { OnOk result (HandsOn ctx.old.at.0 ctx.new.at.0
         ctx.old.code ctx.new.code) }
 {
@@ -165,8 +168,8 @@ fn select_sides(
         ctx.old.code ctx.new.code) }
     ensures ready { IfOk result (λ v. StaysReady setting.now (length ctx.old.code.vars)
         ctx.old.code ctx.new.code ctx.old.at.0 ctx.new.at.0 (IsAnswer v.0)) }
-    ensures depth { OnOk result (KeepsDepth ctx.old.at.0 ctx.new.at.0
-        ctx.old.code ctx.new.code) }
+    ensures text { OnOk result (StaysInText ((needs x.now).value + (needs y.now).value)
+        ctx.old.at.0 ctx.new.at.0 ctx.old.code ctx.new.code ctx.old.order ctx.new.order) }
     ensures hands_on { OnOk result (HandsOn ctx.old.at.0 ctx.new.at.0
         ctx.old.code ctx.new.code) }
 {
@@ -204,8 +207,8 @@ fn select_choice(
         ctx.old.code ctx.new.code) }
     ensures ready { IfOk result (λ v. StaysReady setting.now (length ctx.old.code.vars)
         ctx.old.code ctx.new.code ctx.old.at.0 ctx.new.at.0 (IsAnswer v.0)) }
-    ensures depth { OnOk result (KeepsDepth ctx.old.at.0 ctx.new.at.0
-        ctx.old.code ctx.new.code) }
+    ensures text { OnOk result (StaysInText ((needs x.now).test + (1 + ((needs y.now).value + 1)))
+        ctx.old.at.0 ctx.new.at.0 ctx.old.code ctx.new.code ctx.old.order ctx.new.order) }
     ensures hands_on { OnOk result (HandsOn ctx.old.at.0 ctx.new.at.0
         ctx.old.code ctx.new.code) }
 {
@@ -214,9 +217,11 @@ fn select_choice(
     confirm_targets(&ctx.code, targets);
     select_test(setting, ctx, x, targets)?;
     confirm(&ctx.code, choice.right);
+    ctx.order.push(choice.right)?;
     ctx.at = choice.right;
     let v = select_expr(setting, ctx, y)?;
     close_choice(setting.alloc, &mut ctx.code, ctx.at, v, choice)?;
+    ctx.order.push(choice.behind)?;
     ctx.at = choice.behind;
     Ok(choice.target)
 }
@@ -243,8 +248,8 @@ pub fn select_var(setting: &Setting<'_>, ctx: &mut Ctx, v: &RVar) -> Result<Targ
         ctx.old.code ctx.new.code ctx.old.at.0 ctx.new.at.0 (InTarget t)) }
     ensures cells { IfOk result (λ t. (k : ℕ) → CellOf t k →
         IsHome setting.now (home.Cell k)) }
-    ensures depth { OnOk result (KeepsDepth ctx.old.at.0 ctx.new.at.0
-        ctx.old.code ctx.new.code) }
+    ensures text { OnOk result (StaysInText (needs_of_var v.now).blocks
+        ctx.old.at.0 ctx.new.at.0 ctx.old.code ctx.new.code ctx.old.order ctx.new.order) }
     ensures hands_on { OnOk result (HandsOn ctx.old.at.0 ctx.new.at.0
         ctx.old.code ctx.new.code) }
 {
@@ -292,8 +297,8 @@ fn select_step(
         ctx.old.code ctx.new.code) }
     ensures ready { IfOk result (λ r. StaysReadyFrom setting.now first
         ctx.old.code ctx.new.code ctx.old.at.0 ctx.new.at.0 from.target r.target) }
-    ensures depth { OnOk result (KeepsDepth ctx.old.at.0 ctx.new.at.0
-        ctx.old.code ctx.new.code) }
+    ensures text { OnOk result (StaysInText (needs_of_step step.now).blocks
+        ctx.old.at.0 ctx.new.at.0 ctx.old.code ctx.new.code ctx.old.order ctx.new.order) }
     ensures hands_on { OnOk result (HandsOn ctx.old.at.0 ctx.new.at.0
         ctx.old.code ctx.new.code) }
 {
@@ -331,6 +336,9 @@ fn select_element(
     ensures vars { OnOk result (length ctx.old.code.vars ≤ length ctx.new.code.vars) }
     ensures named { IfOk result (λ t. above_target t ≤ length ctx.new.code.vars) }
     ensures base { IfOk result (λ t. above_target_base t ≡ above_target_base from.target) }
+    ensures in_range { OnOk result ((k : ℕ) →
+        k < array_length (shape_of setting.now.program.now.types from.type_id) →
+        x.now ≡ Number (pos k) → ctx.new.code ≡ ctx.old.code) }
     ensures leads { IfOk result (λ t. LeadsBy setting.now first
         ctx.old.code ctx.new.code ctx.old.at.0 ctx.new.at.0 from.target t from.type_id
         (typing setting.now.program.now setting.now.id.0 x.now)
@@ -339,8 +347,8 @@ fn select_element(
         ctx.old.code ctx.new.code) }
     ensures ready { IfOk result (λ t. StaysReadyFrom setting.now first
         ctx.old.code ctx.new.code ctx.old.at.0 ctx.new.at.0 from.target t) }
-    ensures depth { OnOk result (KeepsDepth ctx.old.at.0 ctx.new.at.0
-        ctx.old.code ctx.new.code) }
+    ensures text { OnOk result (StaysInText (needs x.now).value
+        ctx.old.at.0 ctx.new.at.0 ctx.old.code ctx.new.code ctx.old.order ctx.new.order) }
     ensures hands_on { OnOk result (HandsOn ctx.old.at.0 ctx.new.at.0
         ctx.old.code ctx.new.code) }
 {
@@ -391,8 +399,8 @@ pub fn select_test(
         ctx.old.code ctx.new.code) }
     ensures ready { OnOk result
         (EndsReady setting.now ctx.old.code ctx.new.code ctx.old.at.0 targets) }
-    ensures depth { OnOk result (KeepsDepth ctx.old.at.0 ctx.old.at.0
-        ctx.old.code ctx.new.code) }
+    ensures text { OnOk result (EndsInText (needs e.now).test
+        ctx.old.at.0 targets ctx.old.code ctx.new.code ctx.old.order ctx.new.order) }
     ensures closes { OnOk result (ClosesOne ctx.old.code ctx.new.code) }
 {
     match e {
@@ -443,8 +451,8 @@ fn select_binary_test(
         ctx.old.code ctx.new.code) }
     ensures ready { OnOk result
         (EndsReady setting.now ctx.old.code ctx.new.code ctx.old.at.0 targets) }
-    ensures depth { OnOk result (KeepsDepth ctx.old.at.0 ctx.old.at.0
-        ctx.old.code ctx.new.code) }
+    ensures text { OnOk result (EndsInText (needs e.now).test
+        ctx.old.at.0 targets ctx.old.code ctx.new.code ctx.old.order ctx.new.order) }
     ensures closes { OnOk result (ClosesOne ctx.old.code ctx.new.code) }
 {
     if is_bitwise(op) {
@@ -487,8 +495,8 @@ fn select_relation_test(
         ctx.old.code ctx.new.code) }
     ensures ready { OnOk result
         (EndsReady setting.now ctx.old.code ctx.new.code ctx.old.at.0 targets) }
-    ensures depth { OnOk result (KeepsDepth ctx.old.at.0 ctx.old.at.0
-        ctx.old.code ctx.new.code) }
+    ensures text { OnOk result (EndsInText ((needs x.now).value + (needs y.now).value)
+        ctx.old.at.0 targets ctx.old.code ctx.new.code ctx.old.order ctx.new.order) }
     ensures closes { OnOk result (ClosesOne ctx.old.code ctx.new.code) }
 {
     let left = select_expr(setting, ctx, x)?;
@@ -526,8 +534,8 @@ fn select_split_test(
         ctx.old.code ctx.new.code) }
     ensures ready { OnOk result
         (EndsReady setting.now ctx.old.code ctx.new.code ctx.old.at.0 targets) }
-    ensures depth { OnOk result (KeepsDepth ctx.old.at.0 ctx.old.at.0
-        ctx.old.code ctx.new.code) }
+    ensures text { OnOk result (EndsInText ((needs x.now).test + (1 + (needs y.now).test))
+        ctx.old.at.0 targets ctx.old.code ctx.new.code ctx.old.order ctx.new.order) }
     ensures closes { OnOk result (ClosesOne ctx.old.code ctx.new.code) }
 {
     let right = open_beside(setting.alloc, &mut ctx.code, ctx.at)?;
@@ -535,6 +543,7 @@ fn select_split_test(
     confirm_targets(&ctx.code, inner);
     select_test(setting, ctx, x, inner)?;
     confirm(&ctx.code, right);
+    ctx.order.push(right)?;
     ctx.at = right;
     select_test(setting, ctx, y, targets)?;
     Ok(())

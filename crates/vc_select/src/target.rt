@@ -2,6 +2,7 @@
 
 use ob_syntax::Checked;
 use pra_base::{Addr, BlockId, ProcId, VProc, VarId};
+use pra_list::Seq;
 use std::alloc::Global;
 use vc_relation::Home;
 
@@ -18,11 +19,13 @@ pub struct Setting<'a> {
     pub locals: &'a [Home],
 }
 
-/// The code so far, and the open block at whose end code is added.
+/// The code so far, the open block at whose end code is added, and all blocks that were entered, in
+/// the order of the text.
 #[derive(Drop)]
 pub struct Ctx {
     pub code: VProc,
     pub at: BlockId,
+    pub order: Seq<BlockId>,
 }
 
 /// Where a variable of the source is: in a variable of the code, or at an address.

@@ -21,7 +21,10 @@ pub mod Calling
 pub mod Endings
 pub mod Walking
 pub mod Amounting
-pub mod Shallow
+pub mod Depths
+pub mod AtMost
+pub mod TextOrder
+pub mod LastArm
 pub mod Opens
 pub mod Obeying
 pub mod Entering

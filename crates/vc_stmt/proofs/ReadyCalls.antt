@@ -10,6 +10,7 @@ use Rattle.pra_base.specs.Code.{no_block, kind_of, block_of, code_of, end_of}
 use Rattle.pra_base.specs.Operands.{writes}
 use Rattle.pra_base.specs.Valid.{PushesLead, TakesArgs}
 use Rattle.pra_base.specs.declared.ids.ProcId.{ProcId}
+use Rattle.pra_base.specs.declared.ids.BlockId.{BlockId}
 use Rattle.pra_base.specs.declared.ids.VarId.{VarId}
 use Rattle.pra_base.specs.declared.code.Addr.{Addr}
 use Rattle.pra_base.specs.declared.code.Base.TheVariants.{Via}
@@ -43,12 +44,13 @@ use Rattle.vc_select.proofs.Arms.{next_item}
 use Rattle.vc_select.proofs.Ready.{continues_same}
 use Rattle.vc_select.proofs.ReadyTargets.{in_target_below}
 use Rattle.vc_typed.specs.TypedStatements.{is_passed, are_passed, is_call}
+use Rattle.vc_select.specs.Blocks.{StaysInText}
+use Rattle.vc_select.proofs.InText.{text_after}
 use Rattle.vc_stmt.specs.Passes.{with_pushes, with_call}
-use Rattle.vc_stmt.specs.Ready.{parameter_counts, KeepsReady, Keeps, IsOneOf, PassesReady, KeepsShallow}
+use Rattle.vc_stmt.specs.Ready.{parameter_counts, KeepsReady, Keeps, IsOneOf, PassesReady}
 use Rattle.vc_stmt.proofs.Obeying.{in_address, push_reads, obeys_address, obeys_push, obeys_call}
 use Rattle.vc_stmt.proofs.Proceeding.{proceeds_put}
 use Rattle.vc_stmt.proofs.Pushing.{pushes_grow, pushes_open}
-use Rattle.vc_stmt.proofs.Shallow.{shallow_same}
 
 -- ---- the address of a target
 
@@ -417,8 +419,10 @@ module _ (at : ℕ) (p : ProcId) (vs : List VarId) (mid new : VProc) (o : IsOpen
   call_grows : GrowsAt at mid (with_call at p vs mid)
   call_grows = grows_at_again mid (with_pushes at vs mid) (with_call at p vs mid) at (pushes_grow at vs mid o) (put_grows at (Call p) (with_pushes at vs mid) (pushes_open at vs mid o))
 
-  pub call_shallow : KeepsShallow mid new
-  call_shallow = subst (λ (z : VProc). KeepsShallow mid z) (sym is) (shallow_same mid (with_call at p vs mid) call_grows.grows (omega (arith, (appends_call at p vs mid o).blocks)))
+  pub call_text : (n from : ℕ) (old : VProc) (o1 o2 : List BlockId) → StaysInText n from at old mid o1 o2 → StaysInText n from at old new o1 o2
+  call_text n from old o1 o2 stays =
+      subst (λ (z : VProc). StaysInText n from at old z o1 o2) (sym is)
+      (text_after n from at old mid (with_call at p vs mid) o1 o2 stays call_grows (omega (arith, (appends_call at p vs mid o).blocks)) o (put_open at (Call p) (with_pushes at vs mid) (pushes_open at vs mid o)))
 
   pub call_hands : HandsOn at at mid new
   call_hands =

@@ -1,5 +1,6 @@
 -- What the code of an IF does, arm after arm.
-use Rattle.std.specs.Prelude.{◌≡◌, ℕ, ◌≤◌, Bool, true, ◌&&◌, List, if◌then◌else◌}
+use Rattle.std.specs.Prelude.{◌≡◌, ℕ, ◌-◌, ◌≤◌, Bool, true, ◌&&◌, List, length, take, if◌then◌else◌}
+use Rattle.ob_syntax.specs.declared.checked.RArm.{RArm}
 use Rattle.pra_base.specs.declared.code.VProc.{VProc}
 use Rattle.ob_syntax.specs.Operators.{is_true}
 use Rattle.ob_mean.specs.Statements as mean
@@ -55,3 +56,7 @@ pub record Chooses
   pub joins : (later : VProc) (fine : Bool) (other : List Execution) →
       Joins g new later next behind fine (in_turn other) →
       Joins g old later from behind (sound && fine) (chosen arms other)
+
+-- all arms but the last
+abbrev pub take_init : List RArm → List RArm
+take_init arms = take (length arms - 1) arms

@@ -4,6 +4,7 @@ pub mod Does
 pub mod Sound
 pub mod Stores
 pub mod Blocks
+pub mod Depths
 pub mod Loops
 pub mod Arms
 pub mod Passes

@@ -1,8 +1,6 @@
 -- What code that was added for statements keeps of valid and of sized code, over a certificate of
 -- what its blocks may read.
 use Rattle.std.specs.Prelude.{◌≡◌, ℕ, ◌<◌, ◌≤◌, ◌⊎◌, Bool, true, List, [], ◌∷◌, length, map}
-use Rattle.pra_base.specs.Code.{block_of}
-use Rattle.pra_base.specs.Valid.{most_loops}
 use Rattle.pra_base.specs.declared.ids.VarId.{VarId}
 use Rattle.pra_base.specs.declared.code.VProc.{VProc}
 use Rattle.ob_syntax.specs.declared.checked.Checked.{Checked}
@@ -51,6 +49,13 @@ pub record KeepsReadyBeside
       sound ≡ true → IsReady g counts known old from → ReadsHomes g known behind →
       Proceeds g counts known old new from to
 
+-- The same of the last arm without ELSE, which leaves its block.
+pub record ClosesReadyBeside
+    (g : Setting) (old new : VProc) (from behind : ℕ) (sound : Bool) : Type 0 where
+  pub stays : (counts : List ℕ) (known : Entries) → counts ≡ parameter_counts g.program.now →
+      sound ≡ true → IsReady g counts known old from → ReadsHomes g known behind →
+      Closes g counts known old new from
+
 -- ---- what is put at the end of a block
 
 -- The code keeps the rules and the certificate, and what might be read at the end of the block may
@@ -90,12 +95,3 @@ pub record PassesReady (g : Setting) (old new : VProc) (from to : ℕ) (vs : Lis
   pub stays : (counts : List ℕ) (known : Entries) → IsReady g counts known old from →
       Continues g counts known (length old.vars) old new from to (IsOneOf vs)
   pub named : (u : ℕ) → IsOneOf vs u → u < length new.vars
-
--- ---- depths
-
--- No block stands in more loops than there may be.
-abbrev pub IsShallow : VProc → Type 0
-IsShallow code = (b : ℕ) → (block_of code b).depth ≤ most_loops
-
-pub record KeepsShallow (old new : VProc) : Type 0 where
-  pub depths : IsShallow old → IsShallow new

@@ -27,8 +27,7 @@ pub fn deeper(depth: u32) -> u32
     if depth < 5 { depth + 1 } else { 5 }
 }
 
-/// Opens the blocks of a loop that stands in a block. Of the two ends of a WHILE's test the one
-/// that comes later in the text has the smaller number.
+/// Opens the blocks of a loop that stands in a block.
 ///
 /// # Errors
 ///
@@ -49,8 +48,7 @@ pub fn open_loop(alloc: Global, code: &mut VProc, at: BlockId) -> Result<Loop, O
     Ok(Loop { test, body, behind })
 }
 
-/// Opens the two blocks to which the condition of an arm leads from a block. The one that comes
-/// later in the text has the smaller number.
+/// Opens the two blocks to which the condition of an arm leads from a block.
 ///
 /// # Errors
 ///

@@ -11,14 +11,16 @@ ghost use Rattle.ob_mean.specs.Statements.{stmt_step};
 ghost use Rattle.vc_build.specs.Grow.{HandsOn, IsOpen, with_instr, with_variable};
 ghost use Rattle.vc_expr.specs.Counts.{AddsAtMost};
 ghost use Rattle.vc_select.specs.Amounts.{AddsForValue};
+ghost use Rattle.vc_select.specs.Blocks.{StaysInText};
 ghost use Rattle.vc_select.specs.Certified.{IsAnswer, ReadsWord, StaysReady};
 ghost use Rattle.vc_select.specs.Targets.{above_setting, above_target};
 ghost use Rattle.vc_typed.specs.Nodes.{arg_nodes};
 ghost use Rattle.vc_typed.specs.TypedStatements.{is_call};
 ghost use Rattle.vc_stmt.specs.Amounts.{AddsForArguments, AddsForStatements, argument_nodes};
+ghost use Rattle.vc_stmt.specs.Depths.{blocks_of_argument, blocks_of_arguments};
 ghost use Rattle.vc_stmt.specs.Does.{Does};
 ghost use Rattle.vc_stmt.specs.Passes.{Lends, Passes, PassesAll, with_call};
-ghost use Rattle.vc_stmt.specs.Ready.{KeepsReady, KeepsShallow, PassesReady};
+ghost use Rattle.vc_stmt.specs.Ready.{KeepsReady, PassesReady};
 ghost use Rattle.vc_stmt.specs.Sound.{addressed};
 
 use ob_syntax::{RArg, RVar};
@@ -113,7 +115,8 @@ pub fn select_argument(
     ensures counts { OnOk result (AddsForValue (arg_nodes arg.now) ctx.old.code ctx.new.code) }
     ensures ready { IfOk result (λ v. StaysReady setting.now (length ctx.old.code.vars)
         ctx.old.code ctx.new.code ctx.old.at.0 ctx.new.at.0 (IsAnswer v.0)) }
-    ensures depths { OnOk result (KeepsShallow ctx.old.code ctx.new.code) }
+    ensures text { OnOk result (StaysInText (blocks_of_argument arg.now) ctx.old.at.0 ctx.new.at.0
+        ctx.old.code ctx.new.code ctx.old.order ctx.new.order) }
     ensures hands_on { OnOk result (HandsOn ctx.old.at.0 ctx.new.at.0
         ctx.old.code ctx.new.code) }
 {
@@ -152,7 +155,8 @@ pub fn select_arguments(
     ensures counts { OnOk result (AddsForArguments args.now ctx.old.code ctx.new.code) }
     ensures ready { IfOk result (λ vs.
         PassesReady setting.now ctx.old.code ctx.new.code ctx.old.at.0 ctx.new.at.0 vs.items) }
-    ensures depths { OnOk result (KeepsShallow ctx.old.code ctx.new.code) }
+    ensures text { OnOk result (StaysInText (blocks_of_arguments args.now) ctx.old.at.0 ctx.new.at.0
+        ctx.old.code ctx.new.code ctx.old.order ctx.new.order) }
     ensures hands_on { OnOk result (HandsOn ctx.old.at.0 ctx.new.at.0
         ctx.old.code ctx.new.code) }
 {
@@ -214,7 +218,8 @@ pub fn select_call(
         (is_call setting.now.program.now setting.now.id.0
         (slice_get setting.now.program.now.procs callee.0) args.now
         && addressed setting.now.program.now setting.now.id.0 (lent_by args.now))) }
-    ensures depths { OnOk result (KeepsShallow ctx.old.code ctx.new.code) }
+    ensures text { OnOk result (StaysInText (blocks_of_arguments args.now) ctx.old.at.0 ctx.new.at.0
+        ctx.old.code ctx.new.code ctx.old.order ctx.new.order) }
     ensures hands_on { OnOk result (HandsOn ctx.old.at.0 ctx.new.at.0
         ctx.old.code ctx.new.code) }
 {

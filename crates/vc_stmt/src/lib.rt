@@ -47,7 +47,10 @@
 //!   same for blocks that were there, and other blocks that were ready still are (`KeepsReady`).
 //!   What is asked is the Bool `is_sound` again: so each call passes as many arguments as the
 //!   procedure has parameters, by `parameter_counts` of the module.
-//! - `depths`: where no block stood in more loops than there may be, none does (`KeepsShallow`).
+//! - `text`, of `specs/Depths`: which blocks are added, in the order of the text, and how deep each
+//!   of them stands: in as many loops as what it is made for, at most 5 (`depths_of`). Each closed
+//!   block comes before those to which it leads, but for the loops' ways back (`GoesOn` of
+//!   vc_build).
 //! - `hands_on`: as many blocks are open as before (`HandsOn` of vc_build). So where one block was
 //!   open, all are closed but the block `to`.
 //!
@@ -70,10 +73,10 @@
 //!
 //! WHILE is a block for its test, one for its statements and one behind; REPEAT the same, with the
 //! statements first. Blocks in a loop are one deeper. An arm of an IF has a block for its
-//! statements and one where control goes that passes it; what follows ELSE stands in the last of
-//! these, also where there is none. Of two blocks to which a test leads, the one that comes later
-//! in the text has the smaller number, so that the order of the text can be found again. An IF
-//! without arms, which no text has, is its other statements alone.
+//! statements and one where control goes that passes it. What follows ELSE stands in the last of
+//! these; without ELSE the last arm leads past its statements to what follows the IF, so that no
+//! block is empty. Each block is noted when it is entered (`order` of `Ctx`), which is the order of
+//! the text. An IF without arms, which no text has, is its other statements alone.
 #![tactic(auto)]
 
 pub mod blocks;

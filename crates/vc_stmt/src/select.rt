@@ -1,19 +1,25 @@
 // The walk over statements.
 
-ghost use Rattle.std.specs.Prelude.{◌≡◌, ◌≢◌, ◌<◌, ◌≤◌, ◌+◌, ◌&&◌, map, length, OnOk};
+ghost use Rattle.std.specs.Prelude.{◌≡◌, ◌≢◌, ◌<◌, ◌≤◌, ◌+◌, ◌&&◌, [], ◌∷◌, map, length, OnOk};
 ghost use Rattle.ob_mean.specs.Expressions.{value};
-ghost use Rattle.ob_mean.specs.Statements.{exec, exec_all, arm_of};
+ghost use Rattle.ob_mean.specs.Statements.{exec, exec_all, arm_of, chosen};
 ghost use Rattle.ob_syntax.specs.Expressions.{boolean};
-ghost use Rattle.vc_build.specs.Grow.{HandsOn, IsOpen};
+ghost use Rattle.vc_build.specs.Grow.{ClosesOne, HandsOn, IsOpen};
+ghost use Rattle.vc_build.specs.Text.{depth_at, GoesOn};
+ghost use Rattle.vc_select.specs.Blocks.{needs};
 ghost use Rattle.vc_select.specs.Targets.{above_setting};
 ghost use Rattle.vc_typed.specs.Typing.{typing, is_of};
 ghost use Rattle.vc_typed.specs.Nodes.{nodes_in, nodes_in_stmt, nodes_in_arm, nodes_in_all};
 ghost use Rattle.vc_stmt.specs.Amounts.{AddsForStatements, AddsForArm, AddsForArms};
-ghost use Rattle.vc_stmt.specs.Arms.{Guards, Chooses};
+ghost use Rattle.vc_stmt.specs.Amounts.{nodes_in_arms};
+ghost use Rattle.vc_stmt.specs.Arms.{Guards, Chooses, Joins, take_init};
 ghost use Rattle.vc_stmt.specs.Blocks.{Waits};
+ghost use Rattle.vc_stmt.specs.Depths.{GoesOnBeside, EndsBeside, depths_of, depths_of_all};
+ghost use Rattle.vc_stmt.specs.Depths.{depths_of_arm, depths_of_arms, end_depths};
+ghost use Rattle.vc_stmt.specs.Depths.{while_depths, repeat_depths};
 ghost use Rattle.vc_stmt.specs.Does.{Does};
 ghost use Rattle.vc_stmt.specs.Loops.{while_of, repeat_of};
-ghost use Rattle.vc_stmt.specs.Ready.{KeepsReady, KeepsReadyBeside, KeepsShallow};
+ghost use Rattle.vc_stmt.specs.Ready.{KeepsReady, KeepsReadyBeside, ClosesReadyBeside};
 ghost use Rattle.vc_stmt.specs.Sound.{is_sound, are_sound, is_sound_arm, are_sound_arms};
 
 use crate::blocks::{confirm_waits, jump, open_arm, open_loop};
@@ -46,7 +52,9 @@ pub fn select_statement(setting: &Setting<'_>, ctx: &mut Ctx, t: &RStmt) -> Resu
     ensures ready { OnOk result
         (KeepsReady setting.now ctx.old.code ctx.new.code ctx.old.at.0 ctx.new.at.0
         (is_sound setting.now.program.now setting.now.id.0 t.now)) }
-    ensures depths { OnOk result (KeepsShallow ctx.old.code ctx.new.code) }
+    ensures text { OnOk result (GoesOn ctx.old.at.0 ctx.new.at.0
+        ctx.old.code ctx.new.code ctx.old.order ctx.new.order
+        (depths_of t.now (depth_at ctx.old.code ctx.old.at.0))) }
     ensures hands_on { OnOk result (HandsOn ctx.old.at.0 ctx.new.at.0
         ctx.old.code ctx.new.code) }
 {
@@ -56,6 +64,10 @@ pub fn select_statement(setting: &Setting<'_>, ctx: &mut Ctx, t: &RStmt) -> Resu
             Ok(())
         }
         RStmt::If(arms, other) => {
+            if other.is_empty() {
+                select_if(setting, ctx, arms.as_slice())?;
+                return Ok(());
+            }
             if arms.is_empty() {
                 select_statements(setting, ctx, other.as_slice())?;
                 return Ok(());
@@ -65,6 +77,7 @@ pub fn select_statement(setting: &Setting<'_>, ctx: &mut Ctx, t: &RStmt) -> Resu
             select_arms(setting, ctx, arms.as_slice(), behind)?;
             select_statements(setting, ctx, other.as_slice())?;
             jump(setting.alloc, &mut ctx.code, ctx.at, behind);
+            ctx.order.push(behind)?;
             ctx.at = behind;
             Ok(())
         }
@@ -119,7 +132,9 @@ pub fn select_statements(
     ensures ready { OnOk result
         (KeepsReady setting.now ctx.old.code ctx.new.code ctx.old.at.0 ctx.new.at.0
         (are_sound setting.now.program.now setting.now.id.0 body.now)) }
-    ensures depths { OnOk result (KeepsShallow ctx.old.code ctx.new.code) }
+    ensures text { OnOk result (GoesOn ctx.old.at.0 ctx.new.at.0
+        ctx.old.code ctx.new.code ctx.old.order ctx.new.order
+        (depths_of_all body.now (depth_at ctx.old.code ctx.old.at.0))) }
     ensures hands_on { OnOk result (HandsOn ctx.old.at.0 ctx.new.at.0
         ctx.old.code ctx.new.code) }
 {
@@ -153,12 +168,15 @@ fn select_while(
         (KeepsReady setting.now ctx.old.code ctx.new.code ctx.old.at.0 ctx.new.at.0
         (is_of boolean (typing setting.now.program.now setting.now.id.0 test.now)
         && are_sound setting.now.program.now setting.now.id.0 body.now)) }
-    ensures depths { OnOk result (KeepsShallow ctx.old.code ctx.new.code) }
+    ensures text { OnOk result (GoesOn ctx.old.at.0 ctx.new.at.0
+        ctx.old.code ctx.new.code ctx.old.order ctx.new.order
+        (while_depths (needs test.now).test (depths_of_all body.now) (depth_at ctx.old.code ctx.old.at.0))) }
     ensures hands_on { OnOk result (HandsOn ctx.old.at.0 ctx.new.at.0
         ctx.old.code ctx.new.code) }
 {
     let blocks = open_loop(setting.alloc, &mut ctx.code, ctx.at)?;
     jump(setting.alloc, &mut ctx.code, ctx.at, blocks.test);
+    ctx.order.push(blocks.test)?;
     ctx.at = blocks.test;
     let targets = Targets {
         holds: blocks.body,
@@ -168,9 +186,11 @@ fn select_while(
     confirm_targets(&ctx.code, targets);
     select_test(setting, ctx, test, targets)?;
     confirm(&ctx.code, blocks.body);
+    ctx.order.push(blocks.body)?;
     ctx.at = blocks.body;
     select_statements(setting, ctx, body)?;
     jump(setting.alloc, &mut ctx.code, ctx.at, blocks.test);
+    ctx.order.push(blocks.behind)?;
     ctx.at = blocks.behind;
     Ok(())
 }
@@ -199,16 +219,20 @@ fn select_repeat(
         (KeepsReady setting.now ctx.old.code ctx.new.code ctx.old.at.0 ctx.new.at.0
         (are_sound setting.now.program.now setting.now.id.0 body.now
         && is_of boolean (typing setting.now.program.now setting.now.id.0 test.now))) }
-    ensures depths { OnOk result (KeepsShallow ctx.old.code ctx.new.code) }
+    ensures text { OnOk result (GoesOn ctx.old.at.0 ctx.new.at.0
+        ctx.old.code ctx.new.code ctx.old.order ctx.new.order
+        (repeat_depths (needs test.now).test (depths_of_all body.now) (depth_at ctx.old.code ctx.old.at.0))) }
     ensures hands_on { OnOk result (HandsOn ctx.old.at.0 ctx.new.at.0
         ctx.old.code ctx.new.code) }
 {
     let blocks = open_loop(setting.alloc, &mut ctx.code, ctx.at)?;
     jump(setting.alloc, &mut ctx.code, ctx.at, blocks.body);
+    ctx.order.push(blocks.body)?;
     ctx.at = blocks.body;
     confirm(&ctx.code, blocks.body);
     select_statements(setting, ctx, body)?;
     jump(setting.alloc, &mut ctx.code, ctx.at, blocks.test);
+    ctx.order.push(blocks.test)?;
     ctx.at = blocks.test;
     let targets = Targets {
         holds: blocks.behind,
@@ -217,6 +241,7 @@ fn select_repeat(
     confirm(&ctx.code, blocks.test);
     confirm_targets(&ctx.code, targets);
     select_test(setting, ctx, test, targets)?;
+    ctx.order.push(blocks.behind)?;
     ctx.at = blocks.behind;
     Ok(())
 }
@@ -245,12 +270,56 @@ fn select_arms(
     ensures ready { OnOk result
         (KeepsReadyBeside setting.now ctx.old.code ctx.new.code ctx.old.at.0 ctx.new.at.0 behind.0
         (are_sound_arms setting.now.program.now setting.now.id.0 arms.now)) }
-    ensures depths { OnOk result (KeepsShallow ctx.old.code ctx.new.code) }
+    ensures text { OnOk result (GoesOnBeside ctx.old.at.0 ctx.new.at.0 behind.0
+        ctx.old.code ctx.new.code ctx.old.order ctx.new.order
+        (depths_of_arms arms.now (depth_at ctx.old.code ctx.old.at.0))) }
     ensures hands_on { OnOk result (HandsOn ctx.old.at.0 ctx.new.at.0
         ctx.old.code ctx.new.code) }
 {
     for arm in arms {
         select_arm(setting, ctx, arm, behind)?;
+    }
+    Ok(())
+}
+
+/// The arms of an IF but for the last one. The block where control goes that passes all of them is
+/// left open.
+#[cycle(statements)]
+fn select_first_arms(
+    setting: &Setting<'_>,
+    ctx: &mut Ctx,
+    arms: &[RArm],
+    behind: BlockId,
+) -> Result<(), OutOfMemory>
+    requires is_open { IsOpen ctx.old.code ctx.old.at.0 }
+    requires homes { above_setting setting.now ≤ length ctx.old.code.vars }
+    requires waits { Waits ctx.old.code behind.0 }
+    requires apart { behind.0 ≢ ctx.old.at.0 }
+    requires real { behind.0 ≢ 0 }
+    ensures is_open { OnOk result (IsOpen ctx.new.code ctx.new.at.0) }
+    ensures vars { OnOk result (length ctx.old.code.vars ≤ length ctx.new.code.vars) }
+    ensures waits { OnOk result (Waits ctx.new.code behind.0) }
+    ensures chooses { OnOk result
+        (Chooses setting.now ctx.old.code ctx.new.code ctx.old.at.0 ctx.new.at.0 behind.0
+        (are_sound_arms setting.now.program.now setting.now.id.0 (take_init arms.now))
+        (map (arm_of setting.now.program.now) (take_init arms.now))) }
+    ensures counts { OnOk result (AddsForArms (take_init arms.now) ctx.old.code ctx.new.code) }
+    ensures ready { OnOk result
+        (KeepsReadyBeside setting.now ctx.old.code ctx.new.code ctx.old.at.0 ctx.new.at.0 behind.0
+        (are_sound_arms setting.now.program.now setting.now.id.0 (take_init arms.now))) }
+    ensures text { OnOk result (GoesOnBeside ctx.old.at.0 ctx.new.at.0 behind.0
+        ctx.old.code ctx.new.code ctx.old.order ctx.new.order
+        (depths_of_arms (take_init arms.now) (depth_at ctx.old.code ctx.old.at.0))) }
+    ensures hands_on { OnOk result (HandsOn ctx.old.at.0 ctx.new.at.0
+        ctx.old.code ctx.new.code) }
+{
+    let mut left = arms.len();
+    for arm in arms {
+        if left < 2 {
+            return Ok(());
+        }
+        select_arm(setting, ctx, arm, behind)?;
+        left -= 1;
     }
     Ok(())
 }
@@ -280,7 +349,9 @@ fn select_arm(
     ensures ready { OnOk result
         (KeepsReadyBeside setting.now ctx.old.code ctx.new.code ctx.old.at.0 ctx.new.at.0 behind.0
         (is_sound_arm setting.now.program.now setting.now.id.0 arm.now)) }
-    ensures depths { OnOk result (KeepsShallow ctx.old.code ctx.new.code) }
+    ensures text { OnOk result (GoesOnBeside ctx.old.at.0 ctx.new.at.0 behind.0
+        ctx.old.code ctx.new.code ctx.old.order ctx.new.order
+        (depths_of_arm arm.now (depth_at ctx.old.code ctx.old.at.0))) }
     ensures hands_on { OnOk result (HandsOn ctx.old.at.0 ctx.new.at.0
         ctx.old.code ctx.new.code) }
 {
@@ -289,9 +360,88 @@ fn select_arm(
     confirm_targets(&ctx.code, targets);
     select_test(setting, ctx, &arm.test, targets)?;
     confirm(&ctx.code, targets.holds);
+    ctx.order.push(targets.holds)?;
     ctx.at = targets.holds;
     select_statements(setting, ctx, arm.body.as_slice())?;
     jump(setting.alloc, &mut ctx.code, ctx.at, behind);
+    ctx.order.push(targets.fails)?;
     ctx.at = targets.fails;
+    Ok(())
+}
+
+/// The last arm of an IF without ELSE. Where its condition is FALSE control goes to the block
+/// behind the IF at once.
+#[cycle(statements)]
+fn select_last_arm(
+    setting: &Setting<'_>,
+    ctx: &mut Ctx,
+    arm: &RArm,
+    behind: BlockId,
+) -> Result<(), OutOfMemory>
+    requires is_open { IsOpen ctx.old.code ctx.old.at.0 }
+    requires homes { above_setting setting.now ≤ length ctx.old.code.vars }
+    requires waits { Waits ctx.old.code behind.0 }
+    requires apart { behind.0 ≢ ctx.old.at.0 }
+    requires real { behind.0 ≢ 0 }
+    ensures vars { OnOk result (length ctx.old.code.vars ≤ length ctx.new.code.vars) }
+    ensures joins { OnOk result
+        (Joins setting.now ctx.old.code ctx.new.code ctx.old.at.0 behind.0
+        (is_sound_arm setting.now.program.now setting.now.id.0 arm.now)
+        (chosen (arm_of setting.now.program.now arm.now ∷ []) [])) }
+    ensures counts { OnOk result (AddsForArm (nodes_in_arm arm.now) ctx.old.code ctx.new.code) }
+    ensures ready { OnOk result
+        (ClosesReadyBeside setting.now ctx.old.code ctx.new.code ctx.old.at.0 behind.0
+        (is_sound_arm setting.now.program.now setting.now.id.0 arm.now)) }
+    ensures text { OnOk result (EndsBeside ctx.old.at.0 behind.0
+        ctx.old.code ctx.new.code ctx.old.order ctx.new.order
+        (end_depths arm.now (depth_at ctx.old.code ctx.old.at.0))) }
+    ensures closes { OnOk result (ClosesOne ctx.old.code ctx.new.code) }
+{
+    let holds = open_beside(setting.alloc, &mut ctx.code, ctx.at)?;
+    let targets = Targets {
+        holds,
+        fails: behind,
+    };
+    confirm_targets(&ctx.code, targets);
+    select_test(setting, ctx, &arm.test, targets)?;
+    confirm(&ctx.code, holds);
+    ctx.order.push(holds)?;
+    ctx.at = holds;
+    select_statements(setting, ctx, arm.body.as_slice())?;
+    jump(setting.alloc, &mut ctx.code, ctx.at, behind);
+    Ok(())
+}
+
+/// An IF without ELSE.
+#[cycle(statements)]
+fn select_if(setting: &Setting<'_>, ctx: &mut Ctx, arms: &[RArm]) -> Result<(), OutOfMemory>
+    requires is_open { IsOpen ctx.old.code ctx.old.at.0 }
+    requires homes { above_setting setting.now ≤ length ctx.old.code.vars }
+    ensures is_open { OnOk result (IsOpen ctx.new.code ctx.new.at.0) }
+    ensures vars { OnOk result (length ctx.old.code.vars ≤ length ctx.new.code.vars) }
+    ensures does { OnOk result
+        (Does setting.now ctx.old.code ctx.new.code ctx.old.at.0 ctx.new.at.0
+        (are_sound_arms setting.now.program.now setting.now.id.0 arms.now)
+        (chosen (map (arm_of setting.now.program.now) arms.now) [])) }
+    ensures counts { OnOk result (AddsForStatements (nodes_in_arms arms.now)
+        ctx.old.code ctx.new.code) }
+    ensures ready { OnOk result
+        (KeepsReady setting.now ctx.old.code ctx.new.code ctx.old.at.0 ctx.new.at.0
+        (are_sound_arms setting.now.program.now setting.now.id.0 arms.now)) }
+    ensures text { OnOk result (GoesOn ctx.old.at.0 ctx.new.at.0
+        ctx.old.code ctx.new.code ctx.old.order ctx.new.order
+        (depths_of_arms arms.now (depth_at ctx.old.code ctx.old.at.0))) }
+    ensures hands_on { OnOk result (HandsOn ctx.old.at.0 ctx.new.at.0
+        ctx.old.code ctx.new.code) }
+{
+    let [.., last] = arms else {
+        return Ok(());
+    };
+    let behind = open_beside(setting.alloc, &mut ctx.code, ctx.at)?;
+    confirm_waits(&ctx.code, ctx.at, behind);
+    select_first_arms(setting, ctx, arms, behind)?;
+    select_last_arm(setting, ctx, last, behind)?;
+    ctx.order.push(behind)?;
+    ctx.at = behind;
     Ok(())
 }

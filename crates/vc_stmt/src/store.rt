@@ -16,7 +16,8 @@ ghost use Rattle.vc_typed.specs.Typing.{typing, variable_typing, is_of};
 ghost use Rattle.vc_typed.specs.Nodes.{nodes_in, nodes_in_var};
 ghost use Rattle.vc_stmt.specs.Amounts.{AddsForStatements};
 ghost use Rattle.vc_stmt.specs.Does.{Does};
-ghost use Rattle.vc_stmt.specs.Ready.{GivesReady, KeepsReady, KeepsShallow, StoresReady};
+ghost use Rattle.vc_select.specs.Blocks.{StaysInText, needs, needs_of_var};
+ghost use Rattle.vc_stmt.specs.Ready.{GivesReady, KeepsReady, StoresReady};
 ghost use Rattle.vc_select.specs.declared.target.Target.TheVariants.{Var};
 ghost use Rattle.vc_stmt.specs.Stores.{Stores, Reads};
 
@@ -130,7 +131,8 @@ pub fn select_assignment(
         (KeepsReady setting.now ctx.old.code ctx.new.code ctx.old.at.0 ctx.new.at.0
         (is_assignable (variable_typing setting.now.program.now setting.now.id.0 v.now)
         (typing setting.now.program.now setting.now.id.0 e.now))) }
-    ensures depths { OnOk result (KeepsShallow ctx.old.code ctx.new.code) }
+    ensures text { OnOk result (StaysInText ((needs_of_var v.now).blocks + (needs e.now).value) ctx.old.at.0 ctx.new.at.0
+        ctx.old.code ctx.new.code ctx.old.order ctx.new.order) }
     ensures hands_on { OnOk result (HandsOn ctx.old.at.0 ctx.new.at.0
         ctx.old.code ctx.new.code) }
 {
@@ -212,7 +214,8 @@ pub fn select_read(setting: &Setting<'_>, ctx: &mut Ctx, v: &RVar) -> Result<(),
     ensures ready { OnOk result
         (KeepsReady setting.now ctx.old.code ctx.new.code ctx.old.at.0 ctx.new.at.0
         (is_of integer (variable_typing setting.now.program.now setting.now.id.0 v.now))) }
-    ensures depths { OnOk result (KeepsShallow ctx.old.code ctx.new.code) }
+    ensures text { OnOk result (StaysInText (needs_of_var v.now).blocks ctx.old.at.0 ctx.new.at.0
+        ctx.old.code ctx.new.code ctx.old.order ctx.new.order) }
     ensures hands_on { OnOk result (HandsOn ctx.old.at.0 ctx.new.at.0
         ctx.old.code ctx.new.code) }
 {

@@ -10,7 +10,8 @@ ghost use Rattle.vc_typed.specs.Typing.{typing, is_of};
 ghost use Rattle.vc_typed.specs.Nodes.{nodes_in};
 ghost use Rattle.vc_stmt.specs.Amounts.{AddsForStatements};
 ghost use Rattle.vc_stmt.specs.Does.{Does};
-ghost use Rattle.vc_stmt.specs.Ready.{KeepsReady, KeepsShallow};
+ghost use Rattle.vc_select.specs.Blocks.{StaysInText, needs};
+ghost use Rattle.vc_stmt.specs.Ready.{KeepsReady};
 
 use ob_syntax::RExpr;
 use pra_base::{OutOfMemory, VInstr};
@@ -36,7 +37,8 @@ pub fn select_write(setting: &Setting<'_>, ctx: &mut Ctx, e: &RExpr) -> Result<(
     ensures ready { OnOk result
         (KeepsReady setting.now ctx.old.code ctx.new.code ctx.old.at.0 ctx.new.at.0
         (is_of integer (typing setting.now.program.now setting.now.id.0 e.now))) }
-    ensures depths { OnOk result (KeepsShallow ctx.old.code ctx.new.code) }
+    ensures text { OnOk result (StaysInText (needs e.now).value ctx.old.at.0 ctx.new.at.0
+        ctx.old.code ctx.new.code ctx.old.order ctx.new.order) }
     ensures hands_on { OnOk result (HandsOn ctx.old.at.0 ctx.new.at.0
         ctx.old.code ctx.new.code) }
 {
@@ -60,7 +62,8 @@ pub fn select_line(setting: &Setting<'_>, ctx: &mut Ctx) -> Result<(), OutOfMemo
     ensures counts { OnOk result (AddsForStatements 1 ctx.old.code ctx.new.code) }
     ensures ready { OnOk result
         (KeepsReady setting.now ctx.old.code ctx.new.code ctx.old.at.0 ctx.new.at.0 true) }
-    ensures depths { OnOk result (KeepsShallow ctx.old.code ctx.new.code) }
+    ensures text { OnOk result (StaysInText 0 ctx.old.at.0 ctx.new.at.0
+        ctx.old.code ctx.new.code ctx.old.order ctx.new.order) }
     ensures hands_on { OnOk result (HandsOn ctx.old.at.0 ctx.new.at.0
         ctx.old.code ctx.new.code) }
 {

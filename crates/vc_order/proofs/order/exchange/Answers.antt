@@ -17,10 +17,5 @@ returns-clause-is c =
     let at : c.swap-2.new.self.items ≡ swap to (place_in from c.args.c) (place_in from c.args.d) = c.swap-2.ensures.items ∙ ap (λ z. swap to z c.block_at-b.result) c.block_at-a.ensures.is ∙ ap (swap to (place_in from c.args.c)) c.block_at-b.ensures.is in
     subst (λ z. IsOrder (length to) z c.swap.new.self.items) (sym at) (subst (λ z. IsOrder (length to) (swap to (place_in from c.args.c) (place_in from c.args.d)) z) (sym c.swap.ensures.items) is)
 
-pub returns-clause-moved : goal.returns-clause-moved
-returns-clause-moved c =
-    let order = c.requires.is in
-    let to = c.args.order.now.to.items in
-    let from = c.args.order.now.from.items in
-    let at : c.swap-2.new.self.items ≡ swap to (place_in from c.args.c) (place_in from c.args.d) = c.swap-2.ensures.items ∙ ap (λ z. swap to z c.block_at-b.result) c.block_at-a.ensures.is ∙ ap (swap to (place_in from c.args.c)) c.block_at-b.ensures.is in
-    ap (λ z. place_in z (place_in from c.args.c)) at ∙ orders.comes_to (length to) to from order c.args.c c.args.d c.requires.first c.requires.second c.requires.first_within c.requires.second_within
+pub returns-clause-swapped : goal.returns-clause-swapped
+returns-clause-swapped c = c.swap.ensures.items

@@ -22,13 +22,15 @@ use Rattle.vc_typed.specs.Nodes.{nodes_in}
 use Rattle.vc_typed.proofs.NodeEquations.{nodes-Number, nodes-Truth, nodes-Var}
 use Rattle.vc_select.specs.Amounts.{path_nodes, AddsForPath}
 use Rattle.vc_select.proofs.Nodes.{negate_nodes, not_nodes, binary_nodes, index_nodes, some_nodes, operation_most, value_adds, test_adds, one_node, loaded_adds, sides_add, choice_adds, value_test_adds, not_test_adds, relation_test_adds, split_test_adds, element_adds, path_adds, path_variable}
-use Rattle.vc_select.proofs.Depths.{depth_on, depth_after, depth_chosen, depth_split}
+use Rattle.vc_select.specs.Blocks.{Needs, StaysInText, blocks_of_steps}
+use Rattle.vc_select.proofs.NeedsOf.{needs-Number, needs-Truth, needs-Var, needs-Negate, needs-Not, needs-Field, needs-Index, needs_of_var-is, value_both, value_choice, test_split, test_both, test_value, steps_next, steps_done}
+use Rattle.vc_select.proofs.InText.{text_as, ends_text_as, text_begin, text_end, ends_begin, text_none, text_declared, text_indexed, text_on, text_after, text_ends, text_exchanged, text_split, text_chosen}
 use Rattle.vc_select.proofs.Opens.{hands_after, closes_after, hands_indexed, hands_chosen, closes_split}
 use Rattle.vc_select.proofs.Ready.{one_ready, both_ready}
 use Rattle.vc_select.proofs.ReadyTests.{exchanged_ready, split_ready}
 use Rattle.vc_select.proofs.ReadyChoice.{choice_ready}
 use Rattle.vc_select.proofs.ReadyTargets.{from_same, from_on, variable_ready, variable_cells, element_ready, word_ready}
-use Rattle.vc_select.proofs.ReadyArms.{constant_counts, constant_stays, constant_depth, negation_adds, inversion_adds, indexed_grows, shifted_ready, nothing_depth, path_walk, test_depth, value_ends, relation_ends, relation_depth, variable_as, path_as, ends_as, first_as}
+use Rattle.vc_select.proofs.ReadyArms.{constant_counts, constant_stays, negation_adds, inversion_adds, indexed_grows, shifted_ready, path_walk, value_ends, relation_ends, variable_as, path_as, ends_as, first_as}
 use Rattle.vc_select.proofs.select.+select.Goals as goal
 
 -- ---- expressions
@@ -117,7 +119,7 @@ select_var-loop-step-init t c =
       λ new p. subst (λ (l : List RStep). AddsForPath (path_nodes l) c.args.ctx.now.code new) c.as_slice-step-items.ensures p,
       subst (λ (z : Target). StaysReadyFrom g c.in_ok-first.first c.args.ctx.now.code c.args.ctx.now.code c.args.ctx.now.at.0 c.args.ctx.now.at.0 z c.root_target-target.result) c.root_target-target.ensures
           (from_same g c.in_ok-first.first c.args.ctx.now.code c.args.ctx.now.at.0 c.root_target-target.result c.root_target-target.result (λ u e. e) (λ k e. e)),
-      nothing_depth c.args.ctx.now.code c.args.ctx.now.at.0 c.requires.is_open,
+      λ new to after p. subst (λ (l : List RStep). StaysInText (blocks_of_steps l) c.args.ctx.now.at.0 to c.args.ctx.now.code new c.args.ctx.now.order after) c.as_slice-step-items.ensures p,
       hands_nothing c.args.ctx.now.at.0 c.args.ctx.now.code,
     )
 
@@ -132,7 +134,7 @@ select_var-loop-step-preserved t c = (
   omega (arith, c.loop-step.invariant.5, c.in_ok-reached.ensures.leads.extends.grows.grows.blocks),
   λ new p. c.loop-step.invariant.6 new (path_walk _ _ _ _ new c.step-item.result c.loop-step-test.true c.step-item.is c.in_ok-reached.ensures.counts p),
   from_on c.args.setting.now _ _ _ _ _ _ _ _ _ _ c.loop-step.invariant.5 c.loop-step.invariant.7 c.in_ok-reached.ensures.ready,
-  depth_on _ _ _ _ _ _ c.loop-step.invariant.8 c.in_ok-reached.ensures.depth c.in_ok-reached.ensures.leads.extends.grows.grows,
+  λ new to after p. c.loop-step.invariant.8 new to after (text_as _ _ _ _ _ _ _ _ (steps_next _ _ c.step-item.result c.loop-step-test.true c.step-item.is) (text_on _ _ _ _ _ _ _ _ _ _ _ c.in_ok-reached.ensures.text p)),
   hands_on _ _ _ _ _ _ c.loop-step.invariant.9 c.in_ok-reached.ensures.hands_on,
 )
 
@@ -277,17 +279,11 @@ select_expr-returns-in_ok-v-in-Number-clause-counts t c = value_adds _ 1 _ _ (ap
 pub select_expr-returns-in_ok-v-in-Number-clause-ready : goal.select_expr-returns-in_ok-v-in-Number-clause-ready
 select_expr-returns-in_ok-v-in-Number-clause-ready t c = constant_stays c.args.setting.now _ _ _ _ _ c.in_ok-v-in-Number.ensures.made c.in_ok-v-in-Number.ensures.number c.requires.homes
 
-pub select_expr-returns-in_ok-v-in-Number-clause-depth : goal.select_expr-returns-in_ok-v-in-Number-clause-depth
-select_expr-returns-in_ok-v-in-Number-clause-depth t c = constant_depth c.args.setting.now _ _ _ 0 _ c.in_ok-v-in-Number.ensures.made c.requires.is_open
-
 pub select_expr-returns-in_ok-v-in-Truth-clause-counts : goal.select_expr-returns-in_ok-v-in-Truth-clause-counts
 select_expr-returns-in_ok-v-in-Truth-clause-counts t c = value_adds _ 1 _ _ (ap nodes_in c.in-Truth.is ∙ nodes-Truth _) (one_node 0 0 1 _ _ (omega arith) (omega arith) (omega arith) (constant_counts c.args.setting.now _ _ 0 0 _ c.in_ok-v-in-Truth.ensures.made))
 
 pub select_expr-returns-in_ok-v-in-Truth-clause-ready : goal.select_expr-returns-in_ok-v-in-Truth-clause-ready
 select_expr-returns-in_ok-v-in-Truth-clause-ready t c = constant_stays c.args.setting.now _ _ _ _ _ c.in_ok-v-in-Truth.ensures.made c.in_ok-v-in-Truth.ensures.number c.requires.homes
-
-pub select_expr-returns-in_ok-v-in-Truth-clause-depth : goal.select_expr-returns-in_ok-v-in-Truth-clause-depth
-select_expr-returns-in_ok-v-in-Truth-clause-depth t c = constant_depth c.args.setting.now _ _ _ 0 _ c.in_ok-v-in-Truth.ensures.made c.requires.is_open
 
 pub select_expr-returns-in_ok-v-in-Var-clause-counts : goal.select_expr-returns-in_ok-v-in-Var-clause-counts
 select_expr-returns-in_ok-v-in-Var-clause-counts t c = loaded_adds _ _ _ _ (some_nodes c.args.e.now) (variable_as _ _ _ _ (ap nodes_in c.in-Var.is ∙ nodes-Var _) c.in_ok-target-in-Var.ensures.counts) c.in_ok-v-in-Var.ensures.counts
@@ -295,26 +291,17 @@ select_expr-returns-in_ok-v-in-Var-clause-counts t c = loaded_adds _ _ _ _ (some
 pub select_expr-returns-in_ok-v-in-Var-clause-ready : goal.select_expr-returns-in_ok-v-in-Var-clause-ready
 select_expr-returns-in_ok-v-in-Var-clause-ready t c = word_ready c.args.setting.now _ _ _ _ _ _ _ c.requires.homes c.in_ok-target-in-Var.ensures.ready c.in_ok-target-in-Var.ensures.cells c.in_ok-target-in-Var.ensures.locates.extends.grows.grows c.in_ok-v-in-Var.ensures.loads.grows.grows c.in_ok-v-in-Var.ensures.counts.params c.in_ok-v-in-Var.ensures.reads
 
-pub select_expr-returns-in_ok-v-in-Var-clause-depth : goal.select_expr-returns-in_ok-v-in-Var-clause-depth
-select_expr-returns-in_ok-v-in-Var-clause-depth t c = depth_after _ _ _ _ _ c.in_ok-target-in-Var.ensures.depth c.in_ok-v-in-Var.ensures.loads.grows.grows c.in_ok-target-in-Var.ensures.is_open.0 (omega (arith, c.in_ok-v-in-Var.ensures.counts.blocks))
-
 pub select_expr-returns-in_ok-v-in-Negate-clause-counts : goal.select_expr-returns-in_ok-v-in-Negate-clause-counts
 select_expr-returns-in_ok-v-in-Negate-clause-counts t c = value_adds _ _ _ _ (negate_nodes _ _ (c.in-Negate.is ∙ ap x.Negate (sym c.get.ensures))) (negation_adds _ _ _ _ _ _ (some_nodes _) c.in_ok-operand-in-Negate.ensures.counts c.in_ok-v-in-Negate.ensures.counts)
 
 pub select_expr-returns-in_ok-v-in-Negate-clause-ready : goal.select_expr-returns-in_ok-v-in-Negate-clause-ready
 select_expr-returns-in_ok-v-in-Negate-clause-ready t c = one_ready c.args.setting.now _ _ _ _ _ _ _ _ c.in_ok-first-in-Negate.ensures c.requires.homes c.in_ok-operand-in-Negate.ensures.ready c.in_ok-operand-in-Negate.ensures.selects.extends.grows.grows.blocks c.in_ok-v-in-Negate.ensures.converts.adds.grows.grows c.in_ok-v-in-Negate.ensures.counts.params c.in_ok-v-in-Negate.ensures.valid c.in_ok-v-in-Negate.ensures.converts.adds.above c.in_ok-v-in-Negate.ensures.reads
 
-pub select_expr-returns-in_ok-v-in-Negate-clause-depth : goal.select_expr-returns-in_ok-v-in-Negate-clause-depth
-select_expr-returns-in_ok-v-in-Negate-clause-depth t c = depth_after _ _ _ _ _ c.in_ok-operand-in-Negate.ensures.depth c.in_ok-v-in-Negate.ensures.converts.adds.grows.grows c.in_ok-operand-in-Negate.ensures.is_open.0 (omega (arith, c.in_ok-v-in-Negate.ensures.counts.blocks))
-
 pub select_expr-returns-in_ok-v-in-Not-clause-counts : goal.select_expr-returns-in_ok-v-in-Not-clause-counts
 select_expr-returns-in_ok-v-in-Not-clause-counts t c = value_adds _ _ _ _ (not_nodes _ _ (c.in-Not.is ∙ ap x.Not (sym c.get-in-Not.ensures))) (inversion_adds _ _ _ _ _ _ (some_nodes _) c.in_ok-operand-in-Not.ensures.counts c.in_ok-v-in-Not.ensures.counts)
 
 pub select_expr-returns-in_ok-v-in-Not-clause-ready : goal.select_expr-returns-in_ok-v-in-Not-clause-ready
 select_expr-returns-in_ok-v-in-Not-clause-ready t c = one_ready c.args.setting.now _ _ _ _ _ _ _ _ c.in_ok-first-in-Not.ensures c.requires.homes c.in_ok-operand-in-Not.ensures.ready c.in_ok-operand-in-Not.ensures.selects.extends.grows.grows.blocks c.in_ok-v-in-Not.ensures.converts.adds.grows.grows c.in_ok-v-in-Not.ensures.counts.params c.in_ok-v-in-Not.ensures.valid c.in_ok-v-in-Not.ensures.converts.adds.above c.in_ok-v-in-Not.ensures.reads
-
-pub select_expr-returns-in_ok-v-in-Not-clause-depth : goal.select_expr-returns-in_ok-v-in-Not-clause-depth
-select_expr-returns-in_ok-v-in-Not-clause-depth t c = depth_after _ _ _ _ _ c.in_ok-operand-in-Not.ensures.depth c.in_ok-v-in-Not.ensures.converts.adds.grows.grows c.in_ok-operand-in-Not.ensures.is_open.0 (omega (arith, c.in_ok-v-in-Not.ensures.counts.blocks))
 
 pub select_expr-returns-in_ok-v-in-Binary-clause-counts : goal.select_expr-returns-in_ok-v-in-Binary-clause-counts
 select_expr-returns-in_ok-v-in-Binary-clause-counts t c = value_adds _ _ _ _ (binary_nodes _ _ _ _ c.confirm_binary.ensures) c.in_ok-v-in-Binary.ensures.counts
@@ -325,9 +312,6 @@ select_sides-returns-clause-counts t c = sides_add _ _ _ _ _ _ (some_nodes c.arg
 pub select_sides-returns-clause-ready : goal.select_sides-returns-clause-ready
 select_sides-returns-clause-ready t c = both_ready c.args.setting.now _ _ _ _ _ _ _ _ _ _ _ c.in_ok-first.ensures c.requires.homes c.in_ok-left.ensures.named c.in_ok-left.ensures.ready c.in_ok-right.ensures.ready c.in_ok-left.ensures.selects.extends.grows.grows c.in_ok-right.ensures.selects.extends.grows.grows c.in_ok-v.ensures.operates.adds.grows.grows c.in_ok-v.ensures.counts.params c.in_ok-v.ensures.valid c.in_ok-v.ensures.operates.adds.above c.in_ok-v.ensures.reads
 
-pub select_sides-returns-clause-depth : goal.select_sides-returns-clause-depth
-select_sides-returns-clause-depth t c = depth_after _ _ _ _ _ (depth_on _ _ _ _ _ _ c.in_ok-left.ensures.depth c.in_ok-right.ensures.depth c.in_ok-right.ensures.selects.extends.grows.grows) c.in_ok-v.ensures.operates.adds.grows.grows c.in_ok-right.ensures.is_open.0 (omega (arith, c.in_ok-v.ensures.counts.blocks))
-
 pub select_choice-returns-clause-counts : goal.select_choice-returns-clause-counts
 select_choice-returns-clause-counts t c = choice_adds _ _ _ _ _ _ _ (some_nodes c.args.x.now) (some_nodes c.args.y.now) c.in_ok-choice.ensures.counts c.in_ok-select_test.ensures.counts c.in_ok-v.ensures.counts c.in_ok-close_choice.ensures.counts
 
@@ -336,9 +320,6 @@ select_choice-returns-clause-ready t c =
     choice_ready c.args.setting.now c.args.op _ _ _ _ _ _ _ _ _ c.requires.is_open c.requires.homes c.in_ok-choice.ensures.opens c.in_ok-choice.ensures.counts.params c.in_ok-choice.ensures.valid c.in_ok-choice.ensures.reads
     (ends_as c.args.setting.now _ _ _ _ _ c.test_of-targets.ensures c.in_ok-select_test.ensures.ready) c.in_ok-select_test.ensures.tests.grows c.in_ok-select_test.ensures.counts.params
     c.in_ok-v.ensures.ready c.in_ok-v.ensures.selects.extends.grows c.in_ok-v.ensures.counts.params c.in_ok-v.ensures.selects.extends.apart c.in_ok-close_choice.ensures.closes.grows c.in_ok-close_choice.ensures.counts.params c.in_ok-close_choice.ensures.valid c.in_ok-close_choice.ensures.reads
-
-pub select_choice-returns-clause-depth : goal.select_choice-returns-clause-depth
-select_choice-returns-clause-depth t c = depth_chosen c.args.op _ _ _ _ c.requires.is_open c.in_ok-choice.ensures.opens _ _ _ _ c.in_ok-select_test.ensures.depth c.in_ok-select_test.ensures.tests.grows.grows c.in_ok-v.ensures.depth c.in_ok-v.ensures.selects.extends.grows.grows c.in_ok-close_choice.ensures.closes.grows.grows c.in_ok-v.ensures.is_open.0 (omega (arith, c.in_ok-close_choice.ensures.counts.blocks))
 
 pub select_var-returns-clause-counts : goal.select_var-returns-clause-counts
 select_var-returns-clause-counts t c = path_variable c.args.v.now _ _ (c.loop-step.invariant.6 _ (path_adds _ _ _ (adds_none _)))
@@ -350,17 +331,11 @@ select_var-returns-clause-ready t c =
 pub select_var-returns-clause-cells : goal.select_var-returns-clause-cells
 select_var-returns-clause-cells t c = variable_cells c.args.setting.now _ _ _ _ _ c.args.v.now.root _ c.loop-step.invariant.7
 
-pub select_var-returns-clause-depth : goal.select_var-returns-clause-depth
-select_var-returns-clause-depth t c = c.loop-step.invariant.8
-
 pub select_step-returns-in_ok-target-in-Field-clause-counts : goal.select_step-returns-in_ok-target-in-Field-clause-counts
 select_step-returns-in_ok-target-in-Field-clause-counts t c = path_adds _ _ _ (adds_none _)
 
 pub select_step-returns-in_ok-target-in-Field-clause-ready : goal.select_step-returns-in_ok-target-in-Field-clause-ready
 select_step-returns-in_ok-target-in-Field-clause-ready t c = shifted_ready c.args.setting.now _ _ _ _ _ _ c.in_ok-target-in-Field.ensures
-
-pub select_step-returns-in_ok-target-in-Field-clause-depth : goal.select_step-returns-in_ok-target-in-Field-clause-depth
-select_step-returns-in_ok-target-in-Field-clause-depth t c = nothing_depth _ _ c.requires.is_open
 
 pub select_step-returns-in_ok-target-in-Index-clause-counts : goal.select_step-returns-in_ok-target-in-Index-clause-counts
 select_step-returns-in_ok-target-in-Index-clause-counts t c = path_as _ _ _ _ (index_nodes _ _ c.in-Index.is) c.in_ok-target-in-Index.ensures.counts
@@ -371,17 +346,11 @@ select_element-returns-in-Some-clause-counts t c = path_adds _ _ _ (adds_none _)
 pub select_element-returns-in-Some-clause-ready : goal.select_element-returns-in-Some-clause-ready
 select_element-returns-in-Some-clause-ready t c = shifted_ready c.args.setting.now _ _ _ _ _ _ c.in_ok-target.ensures
 
-pub select_element-returns-in-Some-clause-depth : goal.select_element-returns-in-Some-clause-depth
-select_element-returns-in-Some-clause-depth t c = nothing_depth _ _ c.requires.is_open
-
 pub select_element-returns-clause-counts : goal.select_element-returns-clause-counts
 select_element-returns-clause-counts t c = element_adds _ _ _ _ (some_nodes c.args.x.now) c.in_ok-variable.ensures.counts c.in_ok-target-2.ensures.counts
 
 pub select_element-returns-clause-ready : goal.select_element-returns-clause-ready
 select_element-returns-clause-ready t c = element_ready c.args.setting.now _ _ _ _ _ _ _ _ _ c.requires.homes c.requires.first c.requires.named c.in_ok-variable.ensures.ready c.in_ok-variable.ensures.selects.extends.grows.grows (indexed_grows _ _ _ _ _ _ _ _ _ c.in_ok-target-2.ensures.indexed) c.in_ok-target-2.ensures.counts.params c.in_ok-target-2.ensures.valid (c.in_ok-target-2.ensures.reads c.requires.base)
-
-pub select_element-returns-clause-depth : goal.select_element-returns-clause-depth
-select_element-returns-clause-depth t c = depth_after _ _ _ _ _ c.in_ok-variable.ensures.depth (indexed_grows _ _ _ _ _ _ _ _ _ c.in_ok-target-2.ensures.indexed) c.in_ok-variable.ensures.is_open.0 (omega (arith, c.in_ok-target-2.ensures.counts.blocks))
 
 pub select_test-returns-in_ok-select_test-in-Not-clause-counts : goal.select_test-returns-in_ok-select_test-in-Not-clause-counts
 select_test-returns-in_ok-select_test-in-Not-clause-counts t c = test_adds _ _ _ _ (not_nodes _ _ (c.in-Not.is ∙ ap x.Not (sym c.get.ensures))) (not_test_adds _ _ _ c.in_ok-select_test-in-Not.ensures.counts)
@@ -398,26 +367,17 @@ select_test-returns-in_ok-branch_on-in_default-clause-counts t c = value_test_ad
 pub select_test-returns-in_ok-branch_on-in_default-clause-ready : goal.select_test-returns-in_ok-branch_on-in_default-clause-ready
 select_test-returns-in_ok-branch_on-in_default-clause-ready t c = value_ends _ _ _ _ _ c.in_ok-v-in_default.ensures.selects.extends c.in_ok-branch_on-in_default.ensures.branches.grows c.args.setting.now _ c.args.targets c.requires.homes c.in_ok-v-in_default.ensures.ready c.in_ok-v-in_default.ensures.counts.params c.in_ok-branch_on-in_default.ensures.counts.params c.in_ok-branch_on-in_default.ensures.valid c.in_ok-branch_on-in_default.ensures.reads c.requires.holds c.requires.fails
 
-pub select_test-returns-in_ok-branch_on-in_default-clause-depth : goal.select_test-returns-in_ok-branch_on-in_default-clause-depth
-select_test-returns-in_ok-branch_on-in_default-clause-depth t c = test_depth _ _ _ _ _ c.in_ok-v-in_default.ensures.selects.extends c.in_ok-branch_on-in_default.ensures.branches.grows c.requires.is_open.0 c.in_ok-v-in_default.ensures.depth (omega (arith, c.in_ok-branch_on-in_default.ensures.counts.blocks))
-
 pub select_binary_test-returns-clause-counts : goal.select_binary_test-returns-clause-counts
 select_binary_test-returns-clause-counts t c = value_test_adds _ _ _ _ (omega arith) c.in_ok-v.ensures.counts c.in_ok-branch_on.ensures.counts
 
 pub select_binary_test-returns-clause-ready : goal.select_binary_test-returns-clause-ready
 select_binary_test-returns-clause-ready t c = value_ends _ _ _ _ _ c.in_ok-v.ensures.selects.extends c.in_ok-branch_on.ensures.branches.grows c.args.setting.now _ c.args.targets c.requires.homes c.in_ok-v.ensures.ready c.in_ok-v.ensures.counts.params c.in_ok-branch_on.ensures.counts.params c.in_ok-branch_on.ensures.valid c.in_ok-branch_on.ensures.reads c.requires.holds c.requires.fails
 
-pub select_binary_test-returns-clause-depth : goal.select_binary_test-returns-clause-depth
-select_binary_test-returns-clause-depth t c = test_depth _ _ _ _ _ c.in_ok-v.ensures.selects.extends c.in_ok-branch_on.ensures.branches.grows c.requires.is_open.0 c.in_ok-v.ensures.depth (omega (arith, c.in_ok-branch_on.ensures.counts.blocks))
-
 pub select_relation_test-returns-clause-counts : goal.select_relation_test-returns-clause-counts
 select_relation_test-returns-clause-counts t c = relation_test_adds _ _ _ _ _ _ (some_nodes c.args.x.now) (some_nodes c.args.y.now) c.in_ok-left.ensures.counts c.in_ok-right.ensures.counts c.in_ok-branch_by.ensures.counts
 
 pub select_relation_test-returns-clause-ready : goal.select_relation_test-returns-clause-ready
 select_relation_test-returns-clause-ready t c = relation_ends c.args.setting.now _ _ _ _ _ _ _ _ _ c.args.targets c.in_ok-left.ensures.selects.extends c.in_ok-right.ensures.selects.extends c.in_ok-branch_by.ensures.branches.grows c.requires.homes c.in_ok-left.ensures.named c.in_ok-left.ensures.ready c.in_ok-right.ensures.ready c.in_ok-left.ensures.counts.params c.in_ok-right.ensures.counts.params c.in_ok-branch_by.ensures.counts.params c.in_ok-branch_by.ensures.valid c.in_ok-branch_by.ensures.reads c.requires.holds c.requires.fails
-
-pub select_relation_test-returns-clause-depth : goal.select_relation_test-returns-clause-depth
-select_relation_test-returns-clause-depth t c = relation_depth c.args.setting.now _ _ _ _ _ _ _ 0 0 c.args.targets c.in_ok-left.ensures.selects.extends c.in_ok-right.ensures.selects.extends c.in_ok-branch_by.ensures.branches.grows c.requires.is_open.0 c.in_ok-left.ensures.depth c.in_ok-right.ensures.depth (omega (arith, c.in_ok-branch_by.ensures.counts.blocks))
 
 pub select_split_test-returns-clause-counts : goal.select_split_test-returns-clause-counts
 select_split_test-returns-clause-counts t c = split_test_adds _ _ _ _ _ _ (some_nodes c.args.x.now) (some_nodes c.args.y.now) (subst (AddsAtMost 0 0 0 1 _) (sym c.in_ok-right.ensures.made) (open_adds _ _)) c.in_ok-select_test.ensures.counts c.in_ok-select_test-2.ensures.counts
@@ -426,9 +386,6 @@ pub select_split_test-returns-clause-ready : goal.select_split_test-returns-clau
 select_split_test-returns-clause-ready t c =
     split_ready c.args.setting.now c.args.op _ _ _ _ _ _ _ c.args.targets c.requires.is_open c.in_ok-right.ensures.made c.in_ok-right.ensures.number c.requires.homes c.requires.holds c.requires.fails
     (ends_as c.args.setting.now _ _ _ _ _ c.inner_targets-inner.ensures c.in_ok-select_test.ensures.ready) c.in_ok-select_test.ensures.tests.grows c.in_ok-select_test.ensures.counts.params c.in_ok-select_test-2.ensures.ready c.in_ok-select_test-2.ensures.tests.grows c.in_ok-select_test-2.ensures.counts.params
-
-pub select_split_test-returns-clause-depth : goal.select_split_test-returns-clause-depth
-select_split_test-returns-clause-depth t c = depth_split _ _ _ _ _ _ _ c.requires.is_open refl c.in_ok-right.ensures.made c.in_ok-right.ensures.number c.in_ok-select_test.ensures.depth c.in_ok-select_test.ensures.tests.grows.grows c.in_ok-select_test-2.ensures.depth c.in_ok-select_test-2.ensures.tests.grows.grows
 
 -- ---- how many blocks are open
 
@@ -476,3 +433,106 @@ select_relation_test-returns-clause-closes t c = closes_after _ _ _ _ _ (hands_o
 
 pub select_split_test-returns-clause-closes : goal.select_split_test-returns-clause-closes
 select_split_test-returns-clause-closes t c = closes_split _ _ _ _ _ c.in_ok-right.ensures.made c.in_ok-select_test.ensures.closes c.in_ok-select_test-2.ensures.closes
+
+-- ---- the order of the text
+
+pub select_expr-returns-in_ok-v-in-Number-clause-text : goal.select_expr-returns-in_ok-v-in-Number-clause-text
+select_expr-returns-in_ok-v-in-Number-clause-text t c =
+    text_as _ 0 _ _ _ _ _ _ (ap (λ (z : Needs). z.value) (needs-Number _ _ c.confirm_number.ensures))
+    (text_declared _ _ _ _ _ c.in_ok-v-in-Number.ensures.made c.requires.is_open)
+
+pub select_expr-returns-in_ok-v-in-Truth-clause-text : goal.select_expr-returns-in_ok-v-in-Truth-clause-text
+select_expr-returns-in_ok-v-in-Truth-clause-text t c =
+    text_as _ 0 _ _ _ _ _ _ (ap (λ (z : Needs). z.value) (needs-Truth _ _ c.in-Truth.is))
+    (text_declared _ _ _ _ _ c.in_ok-v-in-Truth.ensures.made c.requires.is_open)
+
+pub select_expr-returns-in_ok-v-in-Var-clause-text : goal.select_expr-returns-in_ok-v-in-Var-clause-text
+select_expr-returns-in_ok-v-in-Var-clause-text t c =
+    text_as _ _ _ _ _ _ _ _ (ap (λ (z : Needs). z.value) (needs-Var _ _ c.in-Var.is))
+    (text_after _ _ _ _ _ _ _ _ c.in_ok-target-in-Var.ensures.text c.in_ok-v-in-Var.ensures.loads.grows (omega (arith, c.in_ok-v-in-Var.ensures.counts.blocks)) c.in_ok-target-in-Var.ensures.is_open c.in_ok-v-in-Var.ensures.loads.is_open)
+
+pub select_expr-returns-in_ok-v-in-Negate-clause-text : goal.select_expr-returns-in_ok-v-in-Negate-clause-text
+select_expr-returns-in_ok-v-in-Negate-clause-text t c =
+    text_as _ _ _ _ _ _ _ _ (ap (λ (z : Needs). z.value) (needs-Negate _ _ (c.in-Negate.is ∙ ap x.Negate (sym c.get.ensures))))
+    (text_after _ _ _ _ _ _ _ _ c.in_ok-operand-in-Negate.ensures.text c.in_ok-v-in-Negate.ensures.converts.adds.grows (omega (arith, c.in_ok-v-in-Negate.ensures.counts.blocks)) c.in_ok-operand-in-Negate.ensures.is_open c.in_ok-v-in-Negate.ensures.converts.adds.is_open)
+
+pub select_expr-returns-in_ok-v-in-Not-clause-text : goal.select_expr-returns-in_ok-v-in-Not-clause-text
+select_expr-returns-in_ok-v-in-Not-clause-text t c =
+    text_as _ _ _ _ _ _ _ _ (ap (λ (z : Needs). z.value) (needs-Not _ _ (c.in-Not.is ∙ ap x.Not (sym c.get-in-Not.ensures))))
+    (text_after _ _ _ _ _ _ _ _ c.in_ok-operand-in-Not.ensures.text c.in_ok-v-in-Not.ensures.converts.adds.grows (omega (arith, c.in_ok-v-in-Not.ensures.counts.blocks)) c.in_ok-operand-in-Not.ensures.is_open c.in_ok-v-in-Not.ensures.converts.adds.is_open)
+
+pub select_binary-returns-then-is_sided-clause-text : goal.select_binary-returns-then-is_sided-clause-text
+select_binary-returns-then-is_sided-clause-text t c =
+    text_as _ _ _ _ _ _ _ _ (value_both c.args.op _ _ _ c.requires.is (sym c.is_sided.ensures.is ∙ c.if-is_sided.true)) c.in_ok-v.ensures.text
+
+pub select_binary-returns-clause-text : goal.select_binary-returns-clause-text
+select_binary-returns-clause-text t c =
+    text_as _ _ _ _ _ _ _ _ (value_choice c.args.op _ _ _ c.requires.is (sym c.is_sided.ensures.is ∙ c.if-is_sided.false)) c.in_ok-v-2.ensures.text
+
+pub select_sides-returns-clause-text : goal.select_sides-returns-clause-text
+select_sides-returns-clause-text t c =
+    text_after _ _ _ _ _ _ _ _ (text_on _ _ _ _ _ _ _ _ _ _ _ c.in_ok-left.ensures.text c.in_ok-right.ensures.text) c.in_ok-v.ensures.operates.adds.grows (omega (arith, c.in_ok-v.ensures.counts.blocks)) c.in_ok-right.ensures.is_open c.in_ok-v.ensures.operates.adds.is_open
+
+pub select_choice-returns-clause-text : goal.select_choice-returns-clause-text
+select_choice-returns-clause-text t c =
+    text_end _ _ _ _ _ _ _ _ c.in_ok-push-2.ensures.ok
+    (text_chosen c.args.op _ _ _ _ _ _ _ _ _ _ _ _ _ _ c.requires.is_open c.in_ok-choice.ensures.opens c.test_of-targets.ensures c.in_ok-select_test.ensures.text
+    (text_begin _ _ _ _ _ _ _ _ c.in_ok-push.ensures.ok c.in_ok-v.ensures.text)
+    c.in_ok-close_choice.ensures.closes.grows (omega (arith, c.in_ok-close_choice.ensures.counts.blocks)) c.in_ok-v.ensures.is_open c.in_ok-close_choice.ensures.end)
+
+pub select_var-returns-clause-text : goal.select_var-returns-clause-text
+select_var-returns-clause-text t c =
+    text_as _ _ _ _ _ _ _ _ (ap (λ z. z.blocks) (needs_of_var-is c.args.v.now))
+    (c.loop-step.invariant.8 _ _ _ (text_as _ 0 _ _ _ _ _ _ (steps_done _ _ c.loop-step-test.false) (text_none _ _ _ c.loop-step.invariant.0)))
+
+pub select_step-returns-in_ok-target-in-Field-clause-text : goal.select_step-returns-in_ok-target-in-Field-clause-text
+select_step-returns-in_ok-target-in-Field-clause-text t c =
+    text_as _ 0 _ _ _ _ _ _ (ap (λ z. z.blocks) (needs-Field _ _ c.in-Field.is)) (text_none _ _ _ c.requires.is_open)
+
+pub select_step-returns-in_ok-target-in-Index-clause-text : goal.select_step-returns-in_ok-target-in-Index-clause-text
+select_step-returns-in_ok-target-in-Index-clause-text t c =
+    text_as _ _ _ _ _ _ _ _ (ap (λ z. z.blocks) (needs-Index _ _ c.in-Index.is)) c.in_ok-target-in-Index.ensures.text
+
+pub select_element-returns-in-Some-clause-text : goal.select_element-returns-in-Some-clause-text
+select_element-returns-in-Some-clause-text t c =
+    text_as _ 0 _ _ _ _ _ _ (c.in-Some.ensures.no_blocks) (text_none _ _ _ c.requires.is_open)
+
+pub select_element-returns-clause-text : goal.select_element-returns-clause-text
+select_element-returns-clause-text t c =
+    text_indexed _ _ _ _ _ _ _ _ _ _ _ _ _ _ c.in_ok-variable.ensures.text c.in_ok-target-2.ensures.indexed (omega (arith, c.in_ok-target-2.ensures.counts.blocks)) c.in_ok-variable.ensures.is_open
+
+pub select_element-returns-clause-in_range : goal.select_element-returns-clause-in_range
+select_element-returns-clause-in_range t c = λ k lt is.
+    absurd (c.in_default.ensures.none refl k (subst (λ n. k < n) (sym (c.array_length-count.ensures ∙ ap (λ z. array_length (shape_of z c.args.from.type_id)) c.as_slice-shapes.ensures)) lt) is)
+
+pub select_test-returns-in_ok-select_test-in-Not-clause-text : goal.select_test-returns-in_ok-select_test-in-Not-clause-text
+select_test-returns-in_ok-select_test-in-Not-clause-text t c =
+    ends_text_as _ _ _ _ _ _ _ _ (ap (λ (z : Needs). z.test) (needs-Not _ _ (c.in-Not.is ∙ ap x.Not (sym c.get.ensures))))
+    (text_exchanged _ _ _ _ _ _ _ _ c.exchanged-other.ensures c.in_ok-select_test-in-Not.ensures.text)
+
+pub select_test-returns-in_ok-branch_on-in_default-clause-text : goal.select_test-returns-in_ok-branch_on-in_default-clause-text
+select_test-returns-in_ok-branch_on-in_default-clause-text t c =
+    ends_text_as _ _ _ _ _ _ _ _ (test_value c.args.e.now c.in_default.not-Not c.in_default.not-Binary)
+    (text_ends _ _ _ _ _ _ _ _ _ c.in_ok-v-in_default.ensures.text c.in_ok-branch_on-in_default.ensures.branches.grows (omega (arith, c.in_ok-branch_on-in_default.ensures.counts.blocks)) c.in_ok-v-in_default.ensures.is_open c.in_ok-branch_on-in_default.ensures.leads c.requires.holds c.requires.fails c.requires.is_open.0)
+
+pub select_binary_test-returns-then-is_bitwise-clause-text : goal.select_binary_test-returns-then-is_bitwise-clause-text
+select_binary_test-returns-then-is_bitwise-clause-text t c =
+    ends_text_as _ _ _ _ _ _ _ _ (test_split c.args.op _ _ _ c.requires.is (sym c.is_bitwise.ensures ∙ c.if-is_bitwise.true)) c.in_ok-select_split_test.ensures.text
+
+pub select_binary_test-returns-then-is_relation-clause-text : goal.select_binary_test-returns-then-is_relation-clause-text
+select_binary_test-returns-then-is_relation-clause-text t c =
+    ends_text_as _ _ _ _ _ _ _ _ (test_both c.args.op _ _ _ c.requires.is (sym c.is_bitwise.ensures ∙ c.if-is_bitwise.false)) c.in_ok-select_relation_test.ensures.text
+
+pub select_binary_test-returns-clause-text : goal.select_binary_test-returns-clause-text
+select_binary_test-returns-clause-text t c =
+    ends_text_as _ _ _ _ _ _ _ _ (test_both c.args.op _ _ _ c.requires.is (sym c.is_bitwise.ensures ∙ c.if-is_bitwise.false))
+    (text_ends _ _ _ _ _ _ _ _ _ c.in_ok-v.ensures.text c.in_ok-branch_on.ensures.branches.grows (omega (arith, c.in_ok-branch_on.ensures.counts.blocks)) c.in_ok-v.ensures.is_open c.in_ok-branch_on.ensures.leads c.requires.holds c.requires.fails c.requires.is_open.0)
+
+pub select_relation_test-returns-clause-text : goal.select_relation_test-returns-clause-text
+select_relation_test-returns-clause-text t c =
+    text_ends _ _ _ _ _ _ _ _ _ (text_on _ _ _ _ _ _ _ _ _ _ _ c.in_ok-left.ensures.text c.in_ok-right.ensures.text) c.in_ok-branch_by.ensures.branches.grows (omega (arith, c.in_ok-branch_by.ensures.counts.blocks)) c.in_ok-right.ensures.is_open c.in_ok-branch_by.ensures.leads c.requires.holds c.requires.fails c.requires.is_open.0
+
+pub select_split_test-returns-clause-text : goal.select_split_test-returns-clause-text
+select_split_test-returns-clause-text t c =
+    text_split c.args.op _ _ _ c.args.targets _ _ _ _ _ _ _ _ _ c.requires.is_open c.in_ok-right.ensures.made c.in_ok-right.ensures.number c.inner_targets-inner.ensures c.requires.holds c.requires.fails c.in_ok-select_test.ensures.text
+    (ends_begin _ _ _ _ _ _ _ _ c.in_ok-push.ensures.ok c.in_ok-select_test-2.ensures.text)

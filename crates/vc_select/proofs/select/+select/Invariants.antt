@@ -1,4 +1,5 @@
-use Rattle.std.proofs.Common.{◌≤◌, ℕ, length, drop, map}
+use Rattle.std.proofs.Common.{◌≤◌, ℕ, List, length, drop, map}
+use Rattle.pra_base.specs.declared.ids.BlockId.{BlockId}
 use Rattle.pra_base.specs.declared.code.VProc.{VProc}
 use Rattle.ob_mean.specs.Designators.{root_type}
 use Rattle.ob_mean.specs.Expressions.{selector}
@@ -6,7 +7,8 @@ use Rattle.vc_build.specs.Grow.{HandsOn, IsOpen}
 use Rattle.vc_select.specs.declared.target.Target.{Target}
 use Rattle.vc_select.specs.Selects.{Leads}
 use Rattle.vc_select.specs.Targets.{above_target, above_target_base, root_target}
-use Rattle.vc_select.specs.Certified.{StaysReadyFrom, KeepsDepth}
+use Rattle.vc_select.specs.Certified.{StaysReadyFrom}
+use Rattle.vc_select.specs.Blocks.{StaysInText, blocks_of_steps}
 use Rattle.vc_select.specs.Amounts.{AddsForPath, path_nodes}
 use Rattle.vc_typed.specs.Typing.{leading}
 use Rattle.vc_select.proofs.select.+select.Given as goal
@@ -22,5 +24,7 @@ invariant-select_var-loop-step l =
     × (length l.fn.ctx.code.blocks ≤ length l.ctx.code.blocks)
     × ((new : VProc) → AddsForPath (path_nodes (drop l.step-index l.step-items)) l.ctx.code new → AddsForPath (path_nodes l.v.steps) l.fn.ctx.code new)
     × StaysReadyFrom l.setting l.first l.fn.ctx.code l.ctx.code l.fn.ctx.at.0 l.ctx.at.0 (root_target l.setting.program.now l.setting.params.now l.setting.locals.now l.setting.id.0 l.v.root) l.target
-    × KeepsDepth l.fn.ctx.at.0 l.ctx.at.0 l.fn.ctx.code l.ctx.code
+    × ((new : VProc) (to : ℕ) (after : List BlockId) →
+    StaysInText (blocks_of_steps (drop l.step-index l.step-items)) l.ctx.at.0 to l.ctx.code new l.ctx.order after →
+    StaysInText (blocks_of_steps l.v.steps) l.fn.ctx.at.0 to l.fn.ctx.code new l.fn.ctx.order after)
     × HandsOn l.fn.ctx.at.0 l.ctx.at.0 l.fn.ctx.code l.ctx.code

@@ -5,9 +5,11 @@ use Rattle.vc_stmt.specs.Passes.{PassesAll}
 use Rattle.vc_stmt.specs.Ready.{PassesReady}
 use Rattle.vc_stmt.proofs.Amounting.{arguments_none, arguments_more}
 use Rattle.vc_stmt.proofs.ReadyCalls.{arguments_begin, arguments_on, many_none, many_more}
-use Rattle.vc_stmt.proofs.Shallow.{shallow_nothing, shallow_on}
 use Rattle.vc_stmt.proofs.Walking as walking
 use Rattle.vc_stmt.proofs.Walking.{arguments_done}
+use Rattle.vc_select.proofs.InText.{text_as, text_on, text_none}
+use Rattle.vc_stmt.proofs.Depths.{arguments_next}
+use Rattle.vc_stmt.proofs.Depths as depths
 use Rattle.vc_stmt.proofs.call.select_arguments.Goals as goal
 
 pub returns-clause-passes : goal.returns-clause-passes
@@ -23,9 +25,6 @@ returns-clause-counts c = c.loop-arg.invariant.4 _ (arguments_none c.args.args.n
 
 pub returns-clause-ready : goal.returns-clause-ready
 returns-clause-ready c = c.loop-arg.invariant.6
-
-pub returns-clause-depths : goal.returns-clause-depths
-returns-clause-depths c = c.loop-arg.invariant.7
 
 pub returns-clause-hands_on : goal.returns-clause-hands_on
 returns-clause-hands_on c = c.loop-arg.invariant.8
@@ -43,7 +42,7 @@ loop-arg-init c =
       λ new p. p,
       omega arith,
       subst (λ (us : List VarId). PassesReady g old old at at us) (sym none) (arguments_begin g old at),
-      shallow_nothing old,
+      λ new to after p. p,
       hands_nothing at old,
     )
 
@@ -61,6 +60,10 @@ loop-arg-preserved c =
       λ new p. c.loop-arg.invariant.4 new (arguments_more c.args.args.now c.loop-arg.arg-index _ _ _ new c.loop-arg-test.true c.arg-item.is c.in_ok-v.ensures.counts p),
       omega (arith, c.loop-arg.invariant.5, c.in_ok-v.ensures.passes.extends.grows.grows.blocks),
       arguments_on c.args.setting.now _ _ _ _ _ _ c.loop-arg.values.items c.push.new.self.items c.in_ok-v.v pushed c.loop-arg.invariant.1 c.loop-arg.invariant.5 c.in_ok-v.ensures.vars c.loop-arg.invariant.6 c.in_ok-v.ensures.ready c.in_ok-v.ensures.named,
-      shallow_on _ _ _ c.loop-arg.invariant.7 c.in_ok-v.ensures.depths,
+      λ new to after p. c.loop-arg.invariant.7 new to after (text_as _ _ _ _ _ _ _ _ (arguments_next c.args.args.now c.loop-arg.arg-index _ c.loop-arg-test.true c.arg-item.is) (text_on _ _ _ _ _ _ _ _ _ _ _ c.in_ok-v.ensures.text p)),
       hands_on _ _ _ _ _ _ c.loop-arg.invariant.8 c.in_ok-v.ensures.hands_on,
     )
+
+pub returns-clause-text : goal.returns-clause-text
+returns-clause-text c =
+    c.loop-arg.invariant.7 _ _ _ (text_as _ 0 _ _ _ _ _ _ (depths.arguments_done c.args.args.now c.loop-arg.arg-index c.loop-arg-test.false) (text_none _ _ _ c.loop-arg.invariant.0))

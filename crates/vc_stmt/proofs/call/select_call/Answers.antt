@@ -1,8 +1,7 @@
 use Rattle.vc_build.proofs.Open.{hands_on}
 use Rattle.vc_stmt.proofs.Amounting.{call_adds}
 use Rattle.vc_stmt.proofs.Pushing.{pushes_open}
-use Rattle.vc_stmt.proofs.ReadyCalls.{call_as, call_ready, call_shallow, call_hands}
-use Rattle.vc_stmt.proofs.Shallow.{shallow_on}
+use Rattle.vc_stmt.proofs.ReadyCalls.{call_as, call_ready, call_text, call_hands}
 use Rattle.vc_stmt.proofs.Walking.{call_done}
 use Rattle.vc_stmt.proofs.call.select_call.Goals as goal
 
@@ -27,12 +26,11 @@ returns-clause-ready c =
     call_ready c.args.setting.now _ _ _ _ _ c.args.callee c.in_ok-values.values.items c.args.args.now c.requires.homes c.in_ok-values.ensures.passes.extends c.in_ok-values.ensures.counts.params c.in_ok-values.ensures.ready c.in_ok-values.ensures.many
     (call_as _ c.args.callee _ _ _ _ c.as_slice.ensures.value c.in_ok-put_call.ensures.made) _
 
-pub returns-clause-depths : goal.returns-clause-depths
-returns-clause-depths c =
-    shallow_on _ _ _ c.in_ok-values.ensures.depths
-    (call_shallow _ c.args.callee c.in_ok-values.values.items _ _ c.in_ok-values.ensures.is_open (call_as _ c.args.callee _ _ _ _ c.as_slice.ensures.value c.in_ok-put_call.ensures.made))
-
 pub returns-clause-hands_on : goal.returns-clause-hands_on
 returns-clause-hands_on c =
     hands_on _ _ _ _ _ _ c.in_ok-values.ensures.hands_on
     (call_hands _ c.args.callee c.in_ok-values.values.items _ _ c.in_ok-values.ensures.is_open (call_as _ c.args.callee _ _ _ _ c.as_slice.ensures.value c.in_ok-put_call.ensures.made))
+
+pub returns-clause-text : goal.returns-clause-text
+returns-clause-text c =
+    call_text _ c.args.callee c.in_ok-values.values.items _ _ c.in_ok-values.ensures.is_open (call_as _ c.args.callee _ _ _ _ c.as_slice.ensures.value c.in_ok-put_call.ensures.made) _ _ _ _ _ c.in_ok-values.ensures.text

@@ -3,7 +3,7 @@ use Rattle.vc_select.proofs.Opens.{hands_after}
 use Rattle.vc_stmt.proofs.Amounting.{some_variable, read_adds}
 use Rattle.vc_stmt.proofs.Reading.{does_read}
 use Rattle.vc_stmt.proofs.ReadyStores.{read_ready}
-use Rattle.vc_stmt.proofs.Shallow.{shallow_on, shallow_kept, shallow_same}
+use Rattle.vc_select.proofs.InText.{text_after}
 use Rattle.vc_stmt.proofs.store.select_read.Goals as goal
 
 pub returns-clause-does : goal.returns-clause-does
@@ -17,9 +17,8 @@ returns-clause-ready c =
     read_ready c.args.setting.now _ _ _ _ _ c.requires.homes c.in_ok-target.ensures.locates.extends c.in_ok-read.ensures.reads.grows c.in_ok-target.ensures.counts.params c.in_ok-read.ensures.counts.params _
     _ c.in_ok-target.ensures.ready c.in_ok-target.ensures.cells c.in_ok-target.ensures.named c.in_ok-read.ensures.ready
 
-pub returns-clause-depths : goal.returns-clause-depths
-returns-clause-depths c =
-    shallow_on _ _ _ (shallow_kept _ _ _ _ c.in_ok-target.ensures.depth c.in_ok-target.ensures.locates.extends.grows.grows) (shallow_same _ _ c.in_ok-read.ensures.reads.grows.grows (omega (arith, c.in_ok-read.ensures.counts.blocks)))
-
 pub returns-clause-hands_on : goal.returns-clause-hands_on
 returns-clause-hands_on c = hands_after _ _ _ _ _ c.in_ok-target.ensures.hands_on c.in_ok-read.ensures.reads.grows (omega (arith, c.in_ok-read.ensures.counts.blocks)) c.in_ok-target.ensures.is_open c.in_ok-read.ensures.is_open
+
+pub returns-clause-text : goal.returns-clause-text
+returns-clause-text c = text_after _ _ _ _ _ _ _ _ c.in_ok-target.ensures.text c.in_ok-read.ensures.reads.grows (omega (arith, c.in_ok-read.ensures.counts.blocks)) c.in_ok-target.ensures.is_open c.in_ok-read.ensures.is_open
