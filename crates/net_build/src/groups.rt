@@ -132,27 +132,19 @@ impl Groups {
     }
 }
 
-/// The strands with the groups of their ends.
-pub(crate) fn grouped(
-    alloc: Global,
-    strands: Seq<Strand>,
-    groups: &Groups,
-) -> Result<Seq<Strand>, AllocError>
+/// Gives the ends of strands their groups, in place.
+pub(crate) fn grouped(strands: Seq<Strand>, groups: &Groups) -> Seq<Strand>
     requires groups { AreNumbered groups.now }
     requires ends { length groups.now.least ≡ 2 * length strands }
     requires few { length groups.now.least < 2 ^ 32 }
-    ensures { IfOk result (λ made.
-        made ≡ map (grouped_in groups.now) (enumerate_from 0 strands)) }
+    ensures { result ≡ map (grouped_in groups.now) (enumerate_from 0 strands) }
 {
-    let mut made = Seq::new(alloc);
+    let mut strands = strands.into_vec();
     let mut number = 0u32;
-    for strand in strands.into_vec() {
-        made.push(Strand {
-            entry_group: groups.of(entry_end(number)),
-            exit_group: groups.of(exit_end(number)),
-            ..strand
-        })?;
+    for strand in strands.iter_mut() {
+        strand.entry_group = groups.of(entry_end(number));
+        strand.exit_group = groups.of(exit_end(number));
         number += 1;
     }
-    Ok(made)
+    Seq::from_vec(strands)
 }

@@ -10,16 +10,17 @@
 //! bisection among those of its block. Most variables have no role at most layers: there the
 //! operand table is not asked for its masks (`naming`).
 //!
-//! Then the index, in time linear in the lists. Where each strand's items begin is counted. Ties by
-//! the strands that they go to, and ends of memory pairs by their strands, are taken in one pass
-//! over links from each item to the next one of its owner. Memory pairs are in the order of their
-//! instructions (proofs/PairsInOrder), so the ends of one strand come by their layers.
-//!
-//! Last the tie groups. Ends that ties join are put under each other, always the greater under the
+//! Then the tie groups. Ends that ties join are put under each other, always the greater under the
 //! lesser, and each end that is looked up is put under its grandparent; so the top of a group is
 //! its least end (Tarjan, Efficiency of a good but not linear set union algorithm, JACM 1975). What
 //! an end stands under never changes its label, the least end of its group, and that is all that
 //! the proofs need (specs/Labels). Groups are numbered in one pass by their least ends.
+//!
+//! Last the index, in time linear in the lists. Where each strand's items begin is counted. Strands
+//! by their variables, ties by the strands that they go to, ends of memory pairs by their strands
+//! and ends of strands by their tie groups are taken in one pass over links from each item to the
+//! next one of its owner. Memory pairs are in the order of their instructions
+//! (proofs/PairsInOrder), so the ends of one strand come by their layers.
 //!
 //! Read specs/Lists first, then specs/Labels, Grouped and Owners. A layer above hands in sized code
 //! with its liveness, and gets the network of the code.

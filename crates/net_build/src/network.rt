@@ -26,7 +26,7 @@ pub fn build(alloc: Global, code: &VProc, live: &Liveness) -> Result<Net, OutOfM
     let lists = lists_of(alloc, code, live)?;
     let groups = groups_of(alloc, &lists.ties, lists.strands.len())?;
     let lists = Lists {
-        strands: grouped(alloc, lists.strands, &groups)?,
+        strands: grouped(lists.strands, &groups),
         ..lists
     };
     let count = groups.count();

@@ -74,9 +74,16 @@
 //! end is the least of its tie group; the latter two are what relations say of the code, so code
 //! has one network. `laws` has what is proved: that, that the network of sized code is in bounds
 //! (`IsFormed`, which calls above require), that an admitted flow is the flow of admitted routes,
-//! that the flow of routes conserves, and that routes cost what their flow costs. `Taken::empty`
-//! and `Spare::empty` make rooms with nothing in use, and `Net::entry_layer` counts the layers of
-//! all blocks together.
+//! that the flow of routes conserves, that routes cost what their flow costs, and that a flow costs
+//! what its edges cost. `Taken::empty` and `Spare::empty` make rooms with nothing in use, and
+//! `Net::entry_layer` counts the layers of all blocks together.
+//!
+//! What an edge costs is asked of a cost model for one layer at a time: `way_cost` for its way,
+//! `extras_cost` for the extras at the place that it comes to. `Net::first_extra` and `next_extra`
+//! lead to the extras of a strand layer by layer.
+//!
+//! `Taken` keeps what is in use: `take_path` and `release_path` of a strand's path, and the laws in
+//! `taken_stands_for_flows` lead from its marks to flows and back (specs/InUse).
 //!
 //! What depends on which places there are stands in one record, `PlaceTables`: masks of operands,
 //! places of a variable, extras, and the crossbar's events. Networks and costs are made from it;
@@ -87,8 +94,8 @@
 //!
 //! Least paths ask for the mask and the extras of one strand layer by layer, for every strand,
 //! round after round. So the masks of a strand lie together, and `NetIndex` leads from a strand to
-//! its extras, its ends of memory pairs and its ties, and from a block to its first layer, without
-//! a search.
+//! its extras, its ends of memory pairs and its ties, from a block to its first layer and its first
+//! strand, from a variable to its strands, and from a tie group to its ends, without a search.
 //!
 //! Read specs/Strands, Network, Flow, Admitted and Cost, in this order.
 #![tactic(auto)]

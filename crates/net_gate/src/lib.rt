@@ -6,9 +6,9 @@
 //! costs. Both walk the routes place by place and never make the list of edges that the definitions
 //! speak of.
 //!
-//! Read specs/Broken: what is broken, and which of it comes first. What is admitted and what a flow
-//! costs are definitions of the crate of networks. specs/InUse says how registers that are in use
-//! are marked, a bit for each register of each layer; that is inner.
+//! Read specs/Broken: what is broken, and which of it comes first. What is admitted, what a flow
+//! costs and how registers in use are marked are definitions of the crate of networks. specs/InUse
+//! says which of the registers that are used twice comes first; that is inner.
 //!
 //! A layer above may use both calls on the network of sized code and on routes with a place for
 //! each layer of each strand, and may use the room again after `admitted`, which says nothing of
