@@ -130,7 +130,8 @@ def run(words, taken):
         _, out, notes = [it.read() for it in streams]
     ended = ENDED.search(notes)
     if not ended:
-        raise NoAnswer(notes.decode(errors="replace").rstrip() or "rt try was cut off")
+        why = re.search(rb"^checked: (no-answer: )?([^\n]*)", notes, re.M)
+        raise NoAnswer((why[2] if why else notes).decode(errors="replace").rstrip())
     return int(ended[1]), out, notes[: ended.start()]
 
 
@@ -176,7 +177,7 @@ if __name__ == "__main__":
     try:
         sys.exit(main(sys.argv[1], [os.fsencode(it) for it in sys.argv[2:]]))
     except NoAnswer as reason:
-        print(f"{reason}\npra: this unproved run has no answer; ./pra build", file=sys.stderr)
+        print(f"pra: this unproved run has no answer: {reason}", file=sys.stderr)
     except OSError as error:
         print(f"pra: no unproved run: {error}", file=sys.stderr)
     except KeyboardInterrupt:
