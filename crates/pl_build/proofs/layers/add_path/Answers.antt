@@ -9,7 +9,7 @@ use Rattle.net_form.specs.declared.net.Strand.{Strand}
 use Rattle.net_form.specs.Admitted.{strand_at, no_strand}
 use Rattle.net_form.specs.Flow.{Edge, edges}
 use Rattle.net_form.specs.Index.{first_layer}
-use Rattle.net_gate.proofs.Layers.{in_layers}
+use Rattle.net_form.proofs.Layers.{in_layers}
 use Rattle.pl_moves.specs.declared.transfer.Pair.{Pair}
 use Rattle.pl_place.specs.Behind.{from_place, constant}
 use Rattle.pl_build.specs.Layers.{layer, pairs_into}
