@@ -1,10 +1,10 @@
 #!/usr/bin/env python3
 """Runs the compiler's sources, of which nothing need be proved, as a call of the program would run.
 
-    unproved.py WHY WORD ..
+    unproved.py WHY WORD .. 3<INPUT
 
 `rt try` builds the sources with checks and runs them in a folder of its own, so names are made
-absolute here. Input, output, notes, exit status and files are those of the call ./pra WORD .. One
+absolute here. Output, notes, exit status and files are those of the call ./pra WORD .. <INPUT. One
 line to the terminal, or to standard error where there is none, says WHY this run is not proved.
 Where such a run can't tell what the call would do, a line says so, and the status is 70.
 """
@@ -19,6 +19,7 @@ import tempfile
 TOP = os.path.dirname(os.path.realpath(__file__))
 NO_ANSWER = 70  # the status where nothing can be said of the call
 SECONDS = 3600  # that a run may take
+INPUT = 3  # the stream that is the program's standard input, closed where that is
 MOST_INPUT = 1 << 20  # bytes of input that the program takes; one more is refused
 IMAGE = b"out.pri"  # the image's name where the words give none
 NO_NUMBER = b"x"  # an input that is refused where one is that can't be read
@@ -105,7 +106,7 @@ def take_input(words):
     taken = bytearray()
     if by_role(words).get("mode") == b"run":
         try:
-            while len(taken) <= MOST_INPUT and (more := os.read(0, MOST_INPUT + 1 - len(taken))):
+            while more := os.read(INPUT, MOST_INPUT + 1 - len(taken)):
                 taken += more
         except OSError:
             return NO_NUMBER, False
@@ -137,11 +138,11 @@ def run(words, taken):
 
 def keep_closed_streams():
     """Has reads and writes of a stream that is closed fail, whatever file is opened later."""
-    for stream, flags in enumerate((os.O_WRONLY, os.O_RDONLY, os.O_RDONLY)):
+    for stream, flags in ((1, os.O_RDONLY), (2, os.O_RDONLY), (INPUT, os.O_WRONLY)):
         try:
             os.fstat(stream)
         except OSError:
-            os.open(os.devnull, flags)  # gets the least free number
+            os.dup2(os.open(os.devnull, flags), stream)
 
 
 def write_all(stream, data):
