@@ -9,6 +9,7 @@ line to the terminal, or to standard error where there is none, says WHY this ru
 Where such a run can't tell what the call would do, a line says so, and the status is 70.
 """
 
+import contextlib
 import os
 import re
 import signal
@@ -33,11 +34,13 @@ class NoAnswer(Exception):
 
 def say(line):
     """Tells the user, and neither output nor notes where there is a terminal."""
+    told = f"pra: {line}\n".encode(errors="replace")
     try:
-        with open("/dev/tty", "w", encoding="utf-8") as terminal:
-            print(f"pra: {line}", file=terminal)
+        terminal = os.open("/dev/tty", os.O_WRONLY)
     except OSError:
-        print(f"pra: {line}", file=sys.stderr, flush=True)
+        terminal = 2
+    with contextlib.suppress(OSError):
+        write_all(terminal, told)
 
 
 def stands_for_itself(word):
@@ -178,9 +181,9 @@ if __name__ == "__main__":
     try:
         sys.exit(main(sys.argv[1], [os.fsencode(it) for it in sys.argv[2:]]))
     except NoAnswer as reason:
-        print(f"pra: this unproved run has no answer: {reason}", file=sys.stderr)
+        say(f"this unproved run has no answer: {reason}")
     except OSError as error:
-        print(f"pra: no unproved run: {error}", file=sys.stderr)
+        say(f"there is no unproved run: {error}")
     except KeyboardInterrupt:
         sys.exit(128 + signal.SIGINT)
     sys.exit(NO_ANSWER)
