@@ -4,7 +4,8 @@
 // each procedure's frame, the body's first; none where nothing is said) and `steps` are given to
 // the run. What it comes to stands behind `=`: what is written, `/` for the end of a line, the
 // ending, and how many words of the input were taken; `1*3` is a 1 that is written three times.
-// `left 1 4` says that procedure 1 has 4 instructions when it is tidy, fewer than it had before.
+// `left 1 4` says that procedure 1 has 4 instructions when it is tidy, fewer than it had before, and
+// `depths` how many loops stand around each block of the body, in the order of the text.
 
 pub const VALUES: &str = "# one number
 MODULE M; BEGIN Write(7); WriteLn END M.
@@ -236,6 +237,21 @@ BEGIN
 END Samples.
 input 25 7 6 2 3 5 8 13 21 8
 = 175 3 4/ 3/ ended 10
+# the depth of a block is how many loops stand around it
+MODULE M; VAR i, j: INTEGER;
+BEGIN
+  WHILE i < 2 DO
+    j := 0;
+    WHILE j < 2 DO
+      IF j = 1 THEN Write(j) ELSE Write(-1) END;
+      REPEAT j := j + 1 UNTIL j > 0
+    END;
+    i := i + 1
+  END;
+  Write(i)
+END M.
+depths 0 1 1 2 2 2 2 2 3 2 1 0
+= -1 1 -1 1 2 ended 0
 ";
 
 pub const CALLS: &str = "# two names of one variable

@@ -22,6 +22,8 @@ struct Row {
     steps: u32,
     /// Procedures with the instructions that tidying leaves of each.
     left: Vec<(usize, usize)>,
+    /// The depths of the blocks of the body, or nothing.
+    depths: String,
 }
 
 impl Row {
@@ -33,6 +35,7 @@ impl Row {
             frames: Vec::new(alloc),
             steps: STEPS,
             left: Vec::new(alloc),
+            depths: String::new(alloc),
         })
     }
 
@@ -44,6 +47,8 @@ impl Row {
             push_bytes(words, &mut self.frames)?;
         } else if let Some(word) = line.strip_prefix("steps ") {
             self.steps = number(word);
+        } else if let Some(words) = line.strip_prefix("depths") {
+            self.depths.push_str(words)?;
         } else if let Some(words) = line.strip_prefix("left ") {
             if let Some((proc, count)) = words.split_once(' ') {
                 self.left
@@ -84,6 +89,17 @@ fn instructions(code: &VProc) -> usize {
     count
 }
 
+// The depths of the blocks of the body.
+fn depths_of(alloc: Global, codes: &VModule) -> Result<String, OutOfMemory> {
+    let mut text = String::new(alloc);
+    if let Some(body) = codes.procs.get(0) {
+        for block in body.blocks.as_slice() {
+            text.push_str(&format!(in alloc; " {}", block.depth)?)?;
+        }
+    }
+    Ok(text)
+}
+
 // Runs a code of the row, and compares what it comes to.
 fn check_run(
     rt: &impl Abort,
@@ -96,6 +112,10 @@ fn check_run(
     let found = shows(alloc, &outcome)?;
     let name = &row.name;
     assert_eq!(rt; found.as_str(), expected, "{name}");
+    if !row.depths.is_empty() {
+        let depths = depths_of(alloc, codes)?;
+        assert_eq!(rt; depths.as_str(), row.depths.as_str(), "{name}");
+    }
     Ok(())
 }
 
