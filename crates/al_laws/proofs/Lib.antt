@@ -1,4 +1,6 @@
+pub mod EndsAnywhere
 pub mod Ends
+pub mod Laid
 pub mod Once
 pub mod OneStrand
 pub mod Parts

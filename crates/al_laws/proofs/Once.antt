@@ -73,7 +73,7 @@ path_pair_once net s m ps apart = at_most_once (uses_memory m) s (strand_at net 
 
 -- ---- several paths, of which one at most uses it
 
-sum_few : (f : ℕ → ℕ) (xs : List ℕ) → All (λ x. f x ≤ 1) xs
+pub sum_few : (f : ℕ → ℕ) (xs : List ℕ) → All (λ x. f x ≤ 1) xs
     → AllPairs (λ x y. 0 < f x → 0 < f y → ⊥) xs → sum_by f xs ≤ 1
 sum_few f [] few apart = omega arith
 sum_few f (x ∷ xs) few apart = elim (cases_eq (f x) 0) as (λ _. sum_by f (x ∷ xs) ≤ 1) [

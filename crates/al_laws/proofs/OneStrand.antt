@@ -172,7 +172,8 @@ module _ (net : Net) (formed : IsFormed net) (routes : Routes) (has : AreRoutes 
             pairs = λ k in_.
                 let sum = new_sum (λ e. cond (uses_memory (pair_at net k) e) 1 0) in
                 let few = path_pair_once net s (pair_at net k) ps
-                (λ same. built.two_variables k no_pair in_ (ap (λ r. (strand_at net r).var.0) same)) in
+                (λ same. built.two_variables k no_pair in_ (ap (λ r. (strand_at net r).var.0) same))
+                in
                 omega (arith, sum, few);
           })
           (apart_in apart) ties_kept

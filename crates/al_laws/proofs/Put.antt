@@ -75,7 +75,8 @@ module _ (net : Net) (formed : IsFormed net) (mine : ℕ
   pub put : UsesOnce net (part net mine new) → AreApart net (part net mine new) (rest net mine new)
       → All (KeepsTie net (flow net new)) net.ties → IsAdmitted net (flow net new)
   put once apart ties = record {
-    conserves = flow_conserves net.strands new.places (λ k d lt. (formed.strands k d lt).order) goes;
+    conserves = flow_conserves net.strands new.places (λ k d lt. (formed.strands k d lt).order)
+        goes;
     masks = all_of_each net (λ e. IsTrue (in_mask net e)) new (λ s lt. (path_of s lt).masks);
     across = all_of_each net (λ e. IsTrue (stays_across e)) new (λ s lt. (path_of s lt).across);
     bundles = λ n r. fits (uses_bundle net n r) (once.registers n r) (apart.registers n r)

@@ -3,7 +3,7 @@
 use Rattle.std.specs.Prelude.{◌≡◌, ◌⊎◌, ℕ, ◌+◌, ◌-◌, ◌<◌, ◌≤◌, ◌&&◌, ◌||◌, Bool, true, false}
 use Rattle.std.specs.Prelude.{nat_eq}
 use Rattle.std.specs.Prelude.{if◌then◌else◌, ℤ, ◌<ℤ◌, length, slice_get, slice_index_or}
-use Rattle.std.specs.Prelude.{Option, Some, None, IsTrue}
+use Rattle.std.specs.Prelude.{Option, Some, None, IsTrue, IfSome}
 use Rattle.std.specs.List.{range_with_len}
 use Rattle.pra_base.specs.declared.ids.Place.{Place}
 use Rattle.pra_base.specs.Places.{number, allows, has_register, register_of}
@@ -16,6 +16,7 @@ use Rattle.net_form.specs.Admitted.{strand_at}
 use Rattle.net_form.specs.Index.{first_layer}
 use Rattle.net_dual.specs.Paths.{Anywhere, IsLeastCost}
 use Rattle.net_dual.specs.Priced.{total, pay, edge_price}
+use Rattle.al_laws.specs.Settled.{is_at_entry, is_at_exit}
 
 -- ---- the ends of a group
 
@@ -89,3 +90,14 @@ pub record IsGreedy (net : Net) (w : Weights) (prices : Prices) (plan : Plan) : 
   pub open_places : (g : ℕ) (p : Place) → slice_get plan.places g ≡ Some p → IsOpen net plan g p
   pub chosen : (g : ℕ) (p q : Place) → slice_get plan.places g ≡ Some p → IsOpen net plan g q →
       Precedes (weight net least g) p q
+
+-- ---- where a strand may begin and end
+
+-- an end that is given is at an entry or an exit, and in the mask there
+pub record MayEnd (net : Net) (s : ℕ) (ends : Ends) : Type 0 where
+  pub first : IfSome ends.first
+      (λ p. (is_at_entry net s ≡ true) ×
+      IsTrue (allows (mask_at net s (strand_at net s).first) (number p)))
+  pub last : IfSome ends.last
+      (λ p. (is_at_exit net s ≡ true) ×
+      IsTrue (allows (mask_at net s (strand_at net s).last) (number p)))

@@ -1,15 +1,22 @@
 // The laws of changes.
 
-ghost use Rattle.std.specs.Prelude.{◌≡◌, ◌<◌, ◌++◌, ℕ, Bool, true, List, length, IsPermutation};
+ghost use Rattle.std.specs.Prelude.{◌≡◌, ◌<◌, ◌++◌, ℕ, Bool, true, List, length, Some};
+ghost use Rattle.std.specs.Prelude.{slice_get, IsPermutation};
+ghost use Rattle.std.specs.List.{range_with_len};
 ghost use Rattle.pra_base.specs.declared.ids.Place.{Place};
 ghost use Rattle.net_cost.specs.declared.weights.Weights.{Weights};
 ghost use Rattle.net_form.specs.declared.net.Net.{Net};
+ghost use Rattle.net_form.specs.declared.prices.Prices.{Prices};
+ghost use Rattle.net_form.specs.declared.routes.Ends.{Ends};
+ghost use Rattle.net_form.specs.declared.routes.Plan.{Plan};
 ghost use Rattle.net_form.specs.declared.routes.Routes.{Routes};
 ghost use Rattle.net_form.specs.Admitted.{IsAdmitted};
 ghost use Rattle.net_form.specs.Flow.{flow, AreRoutes};
 ghost use Rattle.net_laws.specs.Built.{IsBuilt};
 ghost use Rattle.net_form.specs.InUse.{AreApart};
-ghost use Rattle.net_dual.specs.Paths.{MayGo, path_in};
+ghost use Rattle.net_dual.specs.Paths.{Anywhere, IsPath, MayGo, path_in};
+ghost use Rattle.al_laws.specs.Greedy.{IsOpen, MayEnd, group_ends};
+ghost use Rattle.al_laws.specs.Laid.{AreLaid, plan_ends};
 ghost use Rattle.al_laws.specs.Parts.{part, rest, only_strand, of_variable, with_path};
 ghost use Rattle.al_laws.specs.Parts.{AgreeBut, ClearOf};
 ghost use Rattle.al_laws.specs.Settled.{block_ends, tied_ends, NoneCheaper, NoneCheaperAt};
@@ -53,4 +60,28 @@ pub fn none_cheaper_is_settled()
     ensures variable { (net : Net) (w : Weights) (routes : Routes) (v : ℕ) → IsBuilt net →
         AreRoutes net routes → ((p : Place) → NoneCheaperAt net w routes v p) →
         IsVariableSettled net w routes v }
+{}
+
+/// What is laid for a plan that has a place for each tie group, each strand once, is admitted.
+pub fn laid_routes_are_admitted()
+    ensures { (net : Net) (w : Weights) (prices : Prices) (plan : Plan) (order : List ℕ)
+        (routes : Routes) → IsBuilt net → length plan.places ≡ net.groups →
+        length routes.places ≡ length net.strands →
+        IsPermutation (range_with_len 0 (length net.strands)) order →
+        AreLaid net w prices plan order routes →
+        AreRoutes net routes × IsAdmitted net (flow net routes) }
+{}
+
+/// Where a strand has a path at all it has one with any places of the masks at the entry and the
+/// exit of its block. So the costs by which a plan is chosen are there for every open place, and
+/// those by which strands are ordered for a plan of open places.
+pub fn ends_may_be_anywhere()
+    ensures path { (net : Net) (s : ℕ) (ps : List Place) (ends : Ends) → IsBuilt net →
+        s < length net.strands → IsPath net s ps → MayEnd net s ends →
+        (qs : List Place) × MayGo net ends Anywhere s qs }
+    ensures group { (net : Net) (s : ℕ) (plan : Plan) (g : ℕ) (p : Place) → IsBuilt net →
+        s < length net.strands → IsOpen net plan g p → MayEnd net s (group_ends net g p s) }
+    ensures plan { (net : Net) (s : ℕ) (plan : Plan) → IsBuilt net → s < length net.strands →
+        ((g : ℕ) (p : Place) → slice_get plan.places g ≡ Some p → IsOpen net plan g p) →
+        MayEnd net s (plan_ends net plan s) }
 {}

@@ -1,7 +1,8 @@
 -- The network of valid sized code is built.
-use Rattle.std.proofs.Common.{◌≢◌, sym, ◌∙◌, subst, arith}
+use Rattle.std.proofs.Common.{ℕ, ◌≡◌, length, get_or, ◌+◌, ◌*◌, ◌%◌, ◌≢◌, sym, ◌∙◌, subst, arith}
 use Rattle.std.proofs.lemmas.List.{length-map}
-use Rattle.std.proofs.lemmas.List.Elements.{All-weaker}
+use Rattle.std.proofs.lemmas.List.Elements.{All-weaker, All-map}
+use Rattle.net_form.specs.declared.net.NetBlock.{NetBlock}
 use Rattle.pra_base.specs.declared.code.VProc.{VProc}
 use Rattle.pra_base.specs.Valid.{IsValid, IsSized}
 use Rattle.net_form.specs.declared.net.MemPair.{MemPair}
@@ -18,6 +19,9 @@ use Rattle.net_laws.proofs.StrandsInOrder.{net_strands_in_order, net_ends_before
 use Rattle.net_laws.proofs.Pairs.{IsPair, all_pairs}
 use Rattle.net_laws.proofs.PairsApart.{one_end}
 use Rattle.net_laws.proofs.TieCounts.{entries, exits, block_ties, grouped_strands}
+
+even_layers : (n : ℕ) → (2 * n + 2) % 2 ≡ 0
+even_layers n = omega arith
 
 pub built : (code : VProc) (net : Net) → IsNet net code → IsValid code → IsSized code → IsBuilt net
 built code net is valid sized =
@@ -36,6 +40,8 @@ built code net is valid sized =
       room = leaves_room code n itself valid sized;
       blocks = let same = length-map code.blocks net_block in let few = sized.blocks in
           omega (arith, same, few);
+      even = All-map (λ (k : NetBlock). k.layers % 2 ≡ 0) net_block code.blocks
+          (λ k d lt. let b = get_or code.blocks k d in even_layers (length b.code));
       strands = net_strands_in_order code is.live tied is.least;
       runs = net_ends_before code is.live tied is.least;
       one_end = one_end code is.live is.is_live valid sized tied is.least;

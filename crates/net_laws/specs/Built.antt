@@ -1,5 +1,5 @@
 -- What every network of valid sized code is: all that calls above ask of a network, in one record.
-use Rattle.std.specs.Prelude.{◌≡◌, ◌≢◌, ℕ, ◌+◌, ◌<◌, ◌≤◌, ◌&&◌, Bool, nat_eq, All, count_by, length}
+use Rattle.std.specs.Prelude.{◌≡◌, ◌≢◌, ℕ, ◌+◌, ◌%◌, ◌<◌, ◌≤◌, ◌&&◌, Bool, nat_eq, All, count_by, length}
 use Rattle.std.specs.Prelude.{slice_index_or, Some, IfSome}
 use Rattle.std.specs.List.{AllPairs}
 use Rattle.net_form.specs.declared.net.Strand.{Strand}
@@ -60,6 +60,8 @@ pub record IsBuilt (net : Net) : Type 0 where
   pub in_order : IsInOrder net
   pub room : HasRoom net
   pub blocks : length net.blocks ≤ most_blocks
+  -- two layers for each instruction, an entry and an exit
+  pub even : All (λ b. b.layers % 2 ≡ 0) net.blocks
   pub strands : AllPairs StrandBefore net.strands
   pub runs : AllPairs EndsBefore net.strands
   -- an instruction has one memory pair at most, of operands that are two variables
