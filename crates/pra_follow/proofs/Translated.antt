@@ -1,7 +1,8 @@
 -- What selection, tidying, routing and placement answer for a procedure is a translation of it.
-use Rattle.std.proofs.Common.{◌≡◌, ℕ, ◌+◌, ◌*◌, ◌≤◌, length, Some, ap, ◌∙◌, arith}
-use Rattle.std.specs.Prelude.{slice_get, count_by}
-use Rattle.pra_base.specs.Code.{is_plain}
+use Rattle.std.proofs.Common.{◌≡◌, ℕ, suc, ◌+◌, ◌*◌, ◌≤◌, List, [], ◌∷◌, length, map, Some, refl, ap, ◌∙◌, arith}
+use Rattle.std.specs.Prelude.{slice_get, slice_index_or, count_by}
+use Rattle.pra_base.specs.Code.{no_block, is_plain}
+use Rattle.pra_base.specs.declared.code.Block.{Block}
 use Rattle.pra_base.specs.declared.code.VProc.{VProc}
 use Rattle.pra_base.specs.Valid.{instruction_count}
 use Rattle.ob_syntax.specs.declared.checked.Checked.{Checked}
@@ -19,6 +20,14 @@ use Rattle.vc_tidy.specs.KindCounts.{KeepsKinds}
 use Rattle.vc_tidy.specs.Tidy.{IsTidy}
 use Rattle.vc_typed.specs.TypedModules.{scalar_locals}
 use Rattle.pra_follow.specs.Translation.{IsCodeOf, AreAdmittedIn, IsTranslation}
+
+-- blocks that are as deep one by one are so in order
+same_depths : (xs ys : List Block) → length xs ≡ length ys → ((b : ℕ) → (slice_index_or xs b no_block).depth ≡ (slice_index_or ys b no_block).depth) → map (λ (b : Block). b.depth) xs ≡ map (λ (b : Block). b.depth) ys
+same_depths [] [] long same = refl
+same_depths [] (y ∷ ys) long same = absurd (omega (arith, long))
+same_depths (x ∷ xs) [] long same = absurd (omega (arith, long))
+same_depths (x ∷ xs) (y ∷ ys) long same =
+    ap (λ d. d ∷ map (λ (b : Block). b.depth) xs) (same 0) ∙ ap (λ l. y.depth ∷ l) (same_depths xs ys (omega (arith, long)) (λ b. same (suc b)))
 
 module _ (program : Checked) (p : ℕ) (proc : CheckedProc) (selected code : VProc) (is : IsSelected program p proc selected) (kept : Preserves selected code) (kinds : KeepsKinds selected code) (tidy : IsTidy code) where
   counts_of : KeepsCounts proc code
@@ -47,6 +56,7 @@ module _ (program : Checked) (p : ℕ) (proc : CheckedProc) (selected code : VPr
     sized = kept.is_sized;
     pushes = kept.pushes (parameter_counts program) is.pushes;
     counts = counts_of;
+    depths = same_depths code.blocks selected.blocks kept.count (λ b. kept.depths b) ∙ is.depths;
     tidy = tidy;
   }
 

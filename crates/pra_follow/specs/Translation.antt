@@ -1,6 +1,6 @@
 -- What becomes of a procedure on its way into an image, and when that is right. Nothing here asks
 -- how routes were found: they are any admitted routes of the code's network.
-use Rattle.std.specs.Prelude.{◌≡◌, ℕ, ◌≤◌, List, length, slice_get, Some}
+use Rattle.std.specs.Prelude.{◌≡◌, ℕ, ◌≤◌, List, ◌∷◌, length, slice_get, Some}
 use Rattle.pra_base.specs.declared.code.VProc.{VProc}
 use Rattle.pra_base.specs.Valid.{IsValid, IsSized, PushesBeforeCalls, TakesArgs}
 use Rattle.ob_syntax.specs.declared.checked.Checked.{Checked}
@@ -14,12 +14,15 @@ use Rattle.pl_made.specs.Made.{IsMade}
 use Rattle.pl_place.specs.declared.placed.LProc.{LProc}
 use Rattle.pl_place.specs.Behind.{Routed}
 use Rattle.pl_routed.specs.Routed.{routed}
+use Rattle.vc_order.specs.Order.{depths}
+use Rattle.vc_stmt.specs.Depths.{depths_of_all}
 use Rattle.vc_proc.specs.Selected.{KeepsCounts, parameter_counts}
 use Rattle.vc_same.specs.SameRuns.{SameRuns}
 use Rattle.vc_stmt.specs.Procedures.{Embodies}
 use Rattle.vc_tidy.specs.Tidy.{IsTidy}
 
--- Tidy code of procedure p, valid alone and in its module, with the counts that selection keeps.
+-- Tidy code of procedure p, valid alone and in its module, with the counts that selection keeps. Its
+-- blocks stand in the order of the text, each in as many loops as what it is made for.
 pub record IsCodeOf (program : Checked) (p : ℕ) (proc : CheckedProc) (code : VProc)
     : Type 0 where
   pub id : code.id.0 ≡ p
@@ -29,6 +32,7 @@ pub record IsCodeOf (program : Checked) (p : ℕ) (proc : CheckedProc) (code : V
   pub sized : IsSized code
   pub pushes : PushesBeforeCalls (TakesArgs (parameter_counts program)) code.blocks
   pub counts : KeepsCounts proc code
+  pub depths : depths code ≡ 0 ∷ depths_of_all proc.body 0
   pub tidy : IsTidy code
 
 -- the network of the code, and routes that it admits
