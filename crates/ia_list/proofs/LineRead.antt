@@ -1,5 +1,6 @@
 -- A line that is written is read again.
-use Rattle.std.proofs.Common.{◌≡◌, ℕ, ◌+◌, ◌^◌, ◌<◌, true, List, [], ◌∷◌, ◌++◌, length, drop, Some, refl, sym, ap, ◌∙◌, arith, append_assoc}
+use Rattle.std.proofs.Common.{◌≡◌, ℕ, ◌+◌, ◌^◌, ◌<◌, true, List, [], ◌∷◌, ◌++◌, length, drop, Some}
+use Rattle.std.proofs.Common.{refl, sym, ap, ◌∙◌, arith, append_assoc}
 use Rattle.std.specs.Prelude.{ℤ, pos}
 use Rattle.std.specs.Int.{w8, w32}
 use Rattle.std.specs.Int.RustNames.{FitsSigned}
@@ -7,15 +8,24 @@ use Rattle.std.proofs.lemmas.Bool.Decides.{nat_tests}
 use Rattle.std.proofs.lemmas.Int.{ints, to_z-of_z}
 use Rattle.pra_base.specs.Words.{word, signed, sum32, diff32}
 use Rattle.ia_code.specs.declared.ins.Ins.{Ins}
-use Rattle.ia_code.specs.declared.ins.Ins.TheVariants.{MovRmR, MovRRm, MovRI, MovRmI, AluRmR, AluRRm, AluRmI, AluRmB, ImulRRm, ImulI, ImulB, Neg, Idiv, Cdq, Lea, PushR, PopR, PushM, PushI, Call, Ret, RetI, Jmp, Jcc, Set, Movzx, Xchg, Test, Int}
+use Rattle.ia_code.specs.declared.ins.Ins.TheVariants.{MovRmR, MovRRm, MovRI, MovRmI, AluRmR}
+use Rattle.ia_code.specs.declared.ins.Ins.TheVariants.{AluRRm, AluRmI, AluRmB, ImulRRm, ImulI}
+use Rattle.ia_code.specs.declared.ins.Ins.TheVariants.{ImulB, Neg, Idiv, Cdq, Lea, PushR, PopR}
+use Rattle.ia_code.specs.declared.ins.Ins.TheVariants.{PushM, PushI, Call, Ret, RetI, Jmp, Jcc, Set}
+use Rattle.ia_code.specs.declared.ins.Ins.TheVariants.{Movzx, Xchg, Test, Int}
 use Rattle.ia_code.specs.Services.{is_service}
 use Rattle.ia_code.specs.DecodeTable.{bytes_of, IsSound}
 use Rattle.ia_code.proofs.FieldNumbers.{bits_fit}
 use Rattle.ia_list.specs.declared.forms.Operands.{Operands}
-use Rattle.ia_list.specs.declared.forms.Operands.TheVariants.{Nothing, One, Two, Number, OneNumber, TwoNumber, Target, LowByte, OneLowByte}
+use Rattle.ia_list.specs.declared.forms.Operands.TheVariants.{Nothing, One, Two, Number, OneNumber}
+use Rattle.ia_list.specs.declared.forms.Operands.TheVariants.{TwoNumber, Target, LowByte}
+use Rattle.ia_list.specs.declared.forms.Operands.TheVariants.{OneLowByte}
 use Rattle.ia_list.specs.Parts.{name, shape_of, target, parts}
 use Rattle.ia_list.specs.Text.{operands_text, line}
-use Rattle.ia_list.specs.Reading.{ends_name, named_at, operands_at, short_of, natural_of, distance, made_nothing, made_one, made_two, made_number, made_one_number, made_two_number, made_target, made_low, made_one_low, made, instruction_at}
+use Rattle.ia_list.specs.Reading.{ends_name, named_at, operands_at, short_of, natural_of, distance}
+use Rattle.ia_list.specs.Reading.{made_nothing, made_one, made_two, made_number, made_one_number}
+use Rattle.ia_list.specs.Reading.{made_two_number, made_target, made_low, made_one_low, made}
+use Rattle.ia_list.specs.Reading.{instruction_at}
 use Rattle.ia_list.proofs.NamesRead.{name_read}
 use Rattle.ia_list.proofs.OperandsRead.{operands_shape, AreOperands, end, operands_read}
 
@@ -110,15 +120,19 @@ byte_again n h = grind (arith, nat_tests)
 turned : (next b : ℕ) → next < 2 ^ 32 → b < 2 ^ 32 → diff32 (sum32 next b) next ≡ b
 turned next b h k = omega arith
 
-distance_again : (next : ℕ) (to : ℤ) → next < 2 ^ 32 → FitsSigned w32 to → distance next (target next to) ≡ to
-distance_again next to h f = ap signed (turned next (word to) h (bits_fit to f)) ∙ to_z-of_z w32 to f
+distance_again : (next : ℕ) (to : ℤ) → next < 2 ^ 32 → FitsSigned w32 to →
+    distance next (target next to) ≡ to
+distance_again next to h f = ap signed (turned next (word to) h (bits_fit to f))
+    ∙ to_z-of_z w32 to f
 
 -- what stands at this place and has so many bytes
 MadeAt : ℕ → Ins → Type 0
-MadeAt place i = made place (parts (place + length (bytes_of i)) i).0 (parts (place + length (bytes_of i)) i).1 ≡ Some i
+MadeAt place i = made place (parts (place + length (bytes_of i)) i).0
+    (parts (place + length (bytes_of i)) i).1 ≡ Some i
 
 made_again : (place : ℕ) (i : Ins) → IsSound i → place < 2 ^ 31 → MadeAt place i
-unfolding MadeAt made made_nothing made_one made_two made_number made_one_number made_two_number made_target made_low made_one_low
+unfolding MadeAt made made_nothing made_one made_two made_number made_one_number made_two_number
+    made_target made_low made_one_low
 made_again place (MovRmR to from) is h = refl
 made_again place (MovRRm to from) is h = refl
 made_again place (MovRI to n) is h = refl
@@ -138,11 +152,14 @@ made_again place (PushR from) is h = refl
 made_again place (PushM from) is h = refl
 made_again place (PushI n) is h = refl
 made_again place (PopR to) is h = refl
-made_again place (Call to) is h = ap (λ d. Some (Call d)) (distance_again (place + 5) to (omega arith) is)
+made_again place (Call to) is h =
+    ap (λ d. Some (Call d)) (distance_again (place + 5) to (omega arith) is)
 made_again place Ret is h = refl
 made_again place (RetI n) is h = rw (half_again n is) refl
-made_again place (Jmp to) is h = ap (λ d. Some (Jmp d)) (distance_again (place + 5) to (omega arith) is)
-made_again place (Jcc c to) is h = ap (λ d. Some (Jcc c d)) (distance_again (place + 6) to (omega arith) is)
+made_again place (Jmp to) is h =
+    ap (λ d. Some (Jmp d)) (distance_again (place + 5) to (omega arith) is)
+made_again place (Jcc c to) is h =
+    ap (λ d. Some (Jcc c d)) (distance_again (place + 6) to (omega arith) is)
 made_again place (Set c to) is h = refl
 made_again place (Movzx to from) is h = refl
 made_again place (Xchg to with) is h = refl
@@ -152,7 +169,8 @@ made_again place (Int n) is h = rw (byte_again n (service_small n is)) refl
 -- A whole line.
 
 -- a name ends where operands begin, or with the line
-ends_before : (o : Operands) (rest : List ℕ) → (c : ℕ) × (t : List ℕ) × (ends_name c ≡ true) × (operands_text o ++ 10 ∷ rest ≡ c ∷ t)
+ends_before : (o : Operands) (rest : List ℕ) →
+    (c : ℕ) × (t : List ℕ) × (ends_name c ≡ true) × (operands_text o ++ 10 ∷ rest ≡ c ∷ t)
 ends_before Nothing rest = (10, rest, refl, refl)
 ends_before (One a) rest = (32, _, refl, refl)
 ends_before (Two a b) rest = (32, _, refl, refl)
@@ -170,20 +188,26 @@ module _ (place : ℕ) (i : Ins) (rest : List ℕ) where
   next : ℕ
   next = place + length (bytes_of i)
 
-  behind_place : drop 9 (line place i ++ rest) ≡ name (parts next i).0 ++ (operands_text (parts next i).1 ++ 10 ∷ rest)
+  behind_place : drop 9 (line place i ++ rest) ≡ name (parts next i).0
+      ++ (operands_text (parts next i).1 ++ 10 ∷ rest)
   unfolding line next
-  behind_place = line_nested (name (parts (place + length (bytes_of i)) i).0) (operands_text (parts (place + length (bytes_of i)) i).1) rest
+  behind_place = line_nested (name (parts (place + length (bytes_of i)) i).0)
+      (operands_text (parts (place + length (bytes_of i)) i).1) rest
 
-  name_behind : named_at (drop 9 (line place i ++ rest)) ≡ Some ((parts next i).0, operands_text (parts next i).1 ++ 10 ∷ rest)
+  name_behind : named_at (drop 9 (line place i ++ rest))
+      ≡ Some ((parts next i).0, operands_text (parts next i).1 ++ 10 ∷ rest)
   name_behind =
       let e = ends_before (parts next i).1 rest in
-      ap named_at (behind_place ∙ ap (λ l. name (parts next i).0 ++ l) e.3) ∙ name_read e.0 e.1 e.2 (parts next i).0
+      ap named_at (behind_place ∙ ap (λ l. name (parts next i).0 ++ l) e.3)
+      ∙ name_read e.0 e.1 e.2 (parts next i).0
       ∙ ap (λ l. Some ((parts next i).0, l)) (sym e.3)
 
-  operands_behind : IsSound i → operands_at (shape_of (parts next i).0) (operands_text (parts next i).1 ++ 10 ∷ rest) ≡ Some (parts next i).1
+  operands_behind : IsSound i → operands_at (shape_of (parts next i).0)
+      (operands_text (parts next i).1 ++ 10 ∷ rest) ≡ Some (parts next i).1
   unfolding end
   operands_behind is =
-      ap (λ s. operands_at s (operands_text (parts next i).1 ++ 10 ∷ rest)) (shape_is next i) ∙ operands_read rest (parts next i).1 (are_operands next i is)
+      ap (λ s. operands_at s (operands_text (parts next i).1 ++ 10 ∷ rest)) (shape_is next i)
+      ∙ operands_read rest (parts next i).1 (are_operands next i is)
 
   pub line_read : IsSound i → place < 2 ^ 31 → instruction_at place (line place i ++ rest) ≡ Some i
   unfolding instruction_at MadeAt next

@@ -1,5 +1,6 @@
 -- A line is at least twice as long as the code of its instruction.
-use Rattle.std.proofs.Common.{◌≡◌, ℕ, ◌+◌, ◌*◌, ◌≤◌, ◌<◌, List, [], ◌∷◌, ◌++◌, length, ap, arith, length-append}
+use Rattle.std.proofs.Common.{◌≡◌, ℕ, ◌+◌, ◌*◌, ◌≤◌, ◌<◌, List, [], ◌∷◌, ◌++◌, length, ap, arith}
+use Rattle.std.proofs.Common.{length-append}
 use Rattle.std.specs.Prelude.{ℤ, pos, negsuc}
 use Rattle.std.specs.Int.{w32}
 use Rattle.std.specs.Int.RustNames.{FitsSigned}
@@ -13,16 +14,23 @@ use Rattle.ia_code.specs.declared.ins.Width.TheVariants.{D0, D8, D32}
 use Rattle.ia_code.specs.declared.ins.Rm.{Rm}
 use Rattle.ia_code.specs.declared.ins.Rm.TheVariants as rm
 use Rattle.ia_code.specs.declared.ins.Ins.{Ins}
-use Rattle.ia_code.specs.declared.ins.Ins.TheVariants.{MovRmR, MovRRm, MovRI, MovRmI, AluRmR, AluRRm, AluRmI, AluRmB, ImulRRm, ImulI, ImulB, Neg, Idiv, Cdq, Lea, PushR, PopR, PushM, PushI, Call, Ret, RetI, Jmp, Jcc, Set, Movzx, Xchg, Test, Int}
+use Rattle.ia_code.specs.declared.ins.Ins.TheVariants.{MovRmR, MovRRm, MovRI, MovRmI, AluRmR}
+use Rattle.ia_code.specs.declared.ins.Ins.TheVariants.{AluRRm, AluRmI, AluRmB, ImulRRm, ImulI}
+use Rattle.ia_code.specs.declared.ins.Ins.TheVariants.{ImulB, Neg, Idiv, Cdq, Lea, PushR, PopR}
+use Rattle.ia_code.specs.declared.ins.Ins.TheVariants.{PushM, PushI, Call, Ret, RetI, Jmp, Jcc, Set}
+use Rattle.ia_code.specs.declared.ins.Ins.TheVariants.{Movzx, Xchg, Test, Int}
 use Rattle.ia_code.specs.DecodeTable.{reg_number, imm32, operand, bytes_of, IsOperand, IsSound}
 use Rattle.ia_code.specs.Listing.{bytes_of_all, AreSound}
 use Rattle.ia_code.proofs.EncodingSize.{code_of}
 use Rattle.ia_list.specs.declared.forms.Form.{Form}
 use Rattle.ia_list.specs.declared.forms.Form.TheVariants as form
 use Rattle.ia_list.specs.declared.forms.Operands.{Operands}
-use Rattle.ia_list.specs.declared.forms.Operands.TheVariants.{Nothing, One, Two, Number, OneNumber, TwoNumber, Target, LowByte, OneLowByte}
+use Rattle.ia_list.specs.declared.forms.Operands.TheVariants.{Nothing, One, Two, Number, OneNumber}
+use Rattle.ia_list.specs.declared.forms.Operands.TheVariants.{TwoNumber, Target, LowByte}
+use Rattle.ia_list.specs.declared.forms.Operands.TheVariants.{OneLowByte}
 use Rattle.ia_list.specs.Parts.{name, parts}
-use Rattle.ia_list.specs.Text.{register_name, low_name, base_text, index_text, width_text, operand_text, operands_text, line}
+use Rattle.ia_list.specs.Text.{register_name, low_name, base_text, index_text, width_text}
+use Rattle.ia_list.specs.Text.{operand_text, operands_text, line}
 use Rattle.ia_list.specs.ListText.{lines}
 use Rattle.ia_list.proofs.OperandsRead.{AreOperands}
 use Rattle.ia_list.proofs.NamesRead.{by_op, by_cond}
@@ -31,7 +39,17 @@ use Rattle.ia_list.proofs.LineRead.{are_operands}
 -- Operands.
 
 register_long : (r : Reg) → 3 ≤ length (register_name r)
-register_long r = elim r as (λ r. 3 ≤ length (register_name r)) [ Eax ↦ omega arith | Ecx ↦ omega arith | Edx ↦ omega arith | Ebx ↦ omega arith | Esp ↦ omega arith | Ebp ↦ omega arith | Esi ↦ omega arith | Edi ↦ omega arith ]
+register_long r = elim r as (λ r. 3 ≤ length (register_name r)) [
+  | Eax ↦ omega arith
+  | Ecx ↦ omega arith
+  | Edx ↦ omega arith
+  | Ebx ↦ omega arith
+  | Esp ↦ omega
+      arith
+  | Ebp ↦ omega arith
+  | Esi ↦ omega arith
+  | Edi ↦ omega arith
+]
 
 width_long : (w : Width) → 3 ≤ length (width_text w)
 width_long D0 = omega arith
@@ -39,12 +57,22 @@ width_long D8 = omega arith
 width_long D32 = omega arith
 
 middle_long : (a b c d : List ℕ) → length b ≤ length (((a ++ b) ++ c) ++ d)
-middle_long a b c d = omega (arith, length-append ((a ++ b) ++ c) d, length-append (a ++ b) c, length-append a b)
+middle_long a b c d = omega (
+  arith,
+  length-append ((a ++ b) ++ c) d,
+  length-append (a ++ b) c,
+  length-append a b,
+)
 
 operand_long : (a : Rm) → 3 ≤ length (operand_text a)
 operand_long (rm.Reg r) = register_long r
 operand_long (rm.Mem a) =
-    omega (arith, width_long a.width, middle_long ((91 ∷ [] ++ base_text a.base) ++ index_text a.index) (width_text a.width) (signed_decimal a.disp) (93 ∷ []))
+    omega (
+      arith,
+      width_long a.width,
+      middle_long ((91 ∷ [] ++ base_text a.base) ++ index_text a.index) (width_text a.width)
+          (signed_decimal a.disp) (93 ∷ []),
+    )
 
 signed_long : (n : ℤ) → FitsSigned w32 n → 1 ≤ length (signed_decimal n)
 signed_long (pos n) f = omega (arith, decimal_nonempty n (omega arith))
@@ -63,23 +91,54 @@ least (LowByte r) = 1
 least (OneLowByte a r) = 6
 
 two_long : (a b : List ℕ) → length (((32 ∷ a) ++ 44 ∷ 32 ∷ []) ++ b) ≡ 3 + length a + length b
-two_long a b = omega (arith, length-append ((32 ∷ a) ++ 44 ∷ 32 ∷ []) b, length-append (32 ∷ a) (44 ∷ 32 ∷ []))
+two_long a b = omega (
+  arith,
+  length-append ((32 ∷ a) ++ 44 ∷ 32 ∷ []) b,
+  length-append (32 ∷ a) (44 ∷ 32 ∷ []),
+)
 
-three_long : (a b c : List ℕ) → length (((((32 ∷ a) ++ 44 ∷ 32 ∷ []) ++ b) ++ 44 ∷ 32 ∷ []) ++ c) ≡ 5 + length a + length b + length c
+three_long : (a b c : List ℕ) →
+    length (((((32 ∷ a) ++ 44 ∷ 32 ∷ []) ++ b) ++ 44 ∷ 32 ∷ []) ++ c)
+    ≡ 5 + length a + length b + length c
 three_long a b c =
-    omega (arith, length-append ((((32 ∷ a) ++ 44 ∷ 32 ∷ []) ++ b) ++ 44 ∷ 32 ∷ []) c, length-append (((32 ∷ a) ++ 44 ∷ 32 ∷ []) ++ b) (44 ∷ 32 ∷ []), two_long a b)
+    omega (
+      arith,
+      length-append ((((32 ∷ a) ++ 44 ∷ 32 ∷ []) ++ b) ++ 44 ∷ 32 ∷ []) c,
+      length-append (((32 ∷ a) ++ 44 ∷ 32 ∷ []) ++ b) (44 ∷ 32 ∷ []),
+      two_long a b,
+    )
 
 operands_long : (o : Operands) → AreOperands o → least o ≤ length (operands_text o)
 operands_long Nothing h = omega arith
 operands_long (One a) h = omega (arith, operand_long a)
-operands_long (Two a b) h = omega (arith, two_long (operand_text a) (operand_text b), operand_long a, operand_long b)
+operands_long (Two a b) h = omega (
+  arith,
+  two_long (operand_text a) (operand_text b),
+  operand_long a,
+  operand_long b,
+)
 operands_long (Number n) h = omega (arith, signed_long n h)
-operands_long (OneNumber a n) h = omega (arith, two_long (operand_text a) (signed_decimal n), operand_long a, signed_long n h.1)
+operands_long (OneNumber a n) h = omega (
+  arith,
+  two_long (operand_text a) (signed_decimal n),
+  operand_long a,
+  signed_long n h.1,
+)
 operands_long (TwoNumber a b n) h =
-    omega (arith, three_long (operand_text a) (operand_text b) (signed_decimal n), operand_long a, operand_long b, signed_long n h.2)
+    omega (
+      arith,
+      three_long (operand_text a) (operand_text b) (signed_decimal n),
+      operand_long a,
+      operand_long b,
+      signed_long n h.2,
+    )
 operands_long (Target t) h = omega arith
 operands_long (LowByte r) h = omega arith
-operands_long (OneLowByte a r) h = omega (arith, two_long (operand_text a) (low_name r), operand_long a)
+operands_long (OneLowByte a r) h = omega (
+  arith,
+  two_long (operand_text a) (low_name r),
+  operand_long a,
+)
 
 -- how long a name is at least
 abbrev least_name : Form → ℕ
@@ -91,20 +150,32 @@ least_name (form.Jcc c) = 2
 least_name _ = 3
 
 name_long : (f : Form) → least_name f ≤ length (name f)
-name_long (form.AluMr op) = by_op (λ op. 3 ≤ length (name (form.AluMr op))) (omega arith) (omega arith) (omega arith) (omega arith) (omega arith) (omega arith) op
-name_long (form.AluRm op) = by_op (λ op. 3 ≤ length (name (form.AluRm op))) (omega arith) (omega arith) (omega arith) (omega arith) (omega arith) (omega arith) op
-name_long (form.AluMi op) = by_op (λ op. 5 ≤ length (name (form.AluMi op))) (omega arith) (omega arith) (omega arith) (omega arith) (omega arith) (omega arith) op
-name_long (form.AluMb op) = by_op (λ op. 5 ≤ length (name (form.AluMb op))) (omega arith) (omega arith) (omega arith) (omega arith) (omega arith) (omega arith) op
+name_long (form.AluMr op) = by_op (λ op. 3 ≤ length (name (form.AluMr op))) (omega arith)
+    (omega arith) (omega arith) (omega arith) (omega arith) (omega arith) op
+name_long (form.AluRm op) = by_op (λ op. 3 ≤ length (name (form.AluRm op))) (omega arith)
+    (omega arith) (omega arith) (omega arith) (omega arith) (omega arith) op
+name_long (form.AluMi op) = by_op (λ op. 5 ≤ length (name (form.AluMi op))) (omega arith)
+    (omega arith) (omega arith) (omega arith) (omega arith) (omega arith) op
+name_long (form.AluMb op) = by_op (λ op. 5 ≤ length (name (form.AluMb op))) (omega arith)
+    (omega arith) (omega arith) (omega arith) (omega arith) (omega arith) op
 name_long (form.Jcc c) =
-    by_cond (λ c. 2 ≤ length (name (form.Jcc c))) (omega arith) (omega arith) (omega arith) (omega arith) (omega arith) (omega arith) (omega arith) (omega arith) (omega arith) (omega arith) (omega arith) (omega arith) c
+    by_cond (λ c. 2 ≤ length (name (form.Jcc c))) (omega arith) (omega arith) (omega arith)
+    (omega arith) (omega arith) (omega arith) (omega arith) (omega arith) (omega arith)
+    (omega arith) (omega arith) (omega arith) c
 name_long (form.Set c) =
-    by_cond (λ c. 3 ≤ length (name (form.Set c))) (omega arith) (omega arith) (omega arith) (omega arith) (omega arith) (omega arith) (omega arith) (omega arith) (omega arith) (omega arith) (omega arith) (omega arith) c
+    by_cond (λ c. 3 ≤ length (name (form.Set c))) (omega arith) (omega arith) (omega arith)
+    (omega arith) (omega arith) (omega arith) (omega arith) (omega arith) (omega arith)
+    (omega arith) (omega arith) (omega arith) c
 name_long _ = omega arith
 
 -- Code.
 
 operand_size : (r : Reg) (a : Rm) → IsOperand a → length (operand (reg_number r) a) ≤ 6
-operand_size r a is = omega (arith, (code_of (ImulI r a (pos 0)) (is, omega (arith, ints))).most, length-append (operand (reg_number r) a) (imm32 (pos 0)))
+operand_size r a is = omega (
+  arith,
+  (code_of (ImulI r a (pos 0)) (is, omega (arith, ints))).most,
+  length-append (operand (reg_number r) a) (imm32 (pos 0)),
+)
 
 -- how long the code of a form is at most
 abbrev most : Form → ℕ
@@ -157,11 +228,14 @@ code_size next (Test left right) is = (code_of (Test left right) is).most
 code_size next (Int n) is = omega arith
 
 -- for each form, what is needed of a name, operands and ten more bytes
-enough : (next : ℕ) (i : Ins) → 2 * most (parts next i).0 ≤ 10 + least_name (parts next i).0 + least (parts next i).1
+enough : (next : ℕ) (i : Ins) →
+    2 * most (parts next i).0 ≤ 10 + least_name (parts next i).0 + least (parts next i).1
 enough next Cdq = omega arith
 enough next _ = omega arith
 
-line_long : (place : ℕ) (i : Ins) → length (line place i) ≡ 10 + length (name (parts (place + length (bytes_of i)) i).0) + length (operands_text (parts (place + length (bytes_of i)) i).1)
+line_long : (place : ℕ) (i : Ins) →
+    length (line place i) ≡ 10 + length (name (parts (place + length (bytes_of i)) i).0) + length
+    (operands_text (parts (place + length (bytes_of i)) i).1)
 unfolding line
 line_long place i =
     let f = name (parts (place + length (bytes_of i)) i).0 in
@@ -171,19 +245,44 @@ line_long place i =
 line_size : (place : ℕ) (i : Ins) → IsSound i → 2 * length (bytes_of i) ≤ length (line place i)
 line_size place i is =
     let next = place + length (bytes_of i) in
-    omega (arith, code_size next i is, enough next i, line_long place i, name_long (parts next i).0, operands_long (parts next i).1 (are_operands next i is))
+    omega (
+      arith,
+      code_size next i is,
+      enough next i,
+      line_long place i,
+      name_long (parts next i).0,
+      operands_long (parts next i).1 (are_operands next i is),
+    )
 
-pub lines_size : (place : ℕ) (ins : List Ins) → AreSound ins → 2 * length (bytes_of_all ins) ≤ length (lines place ins)
+pub lines_size : (place : ℕ) (ins : List Ins) → AreSound ins →
+    2 * length (bytes_of_all ins) ≤ length (lines place ins)
 lines_size place [] s = omega arith
 lines_size place (i ∷ ins) s =
-    omega (arith, line_size place i s.0, lines_size (place + length (bytes_of i)) ins s.1, length-append (bytes_of i) (bytes_of_all ins), length-append (line place i) (lines (place + length (bytes_of i)) ins))
+    omega (
+      arith,
+      line_size place i s.0,
+      lines_size (place + length (bytes_of i)) ins s.1,
+      length-append (bytes_of i) (bytes_of_all ins),
+      length-append (line place i) (lines (place + length (bytes_of i)) ins),
+    )
 
 -- what is behind a line is shorter
-pub behind_line : (place : ℕ) (i : Ins) (bytes rest : List ℕ) → bytes ≡ line place i ++ rest → length rest < length bytes
-behind_line place i bytes rest e = omega (arith, ap length e, line_long place i, length-append (line place i) rest)
+pub behind_line : (place : ℕ) (i : Ins) (bytes rest : List ℕ) → bytes ≡ line place i ++ rest →
+    length rest < length bytes
+behind_line place i bytes rest e = omega (
+  arith,
+  ap length e,
+  line_long place i,
+  length-append (line place i) rest,
+)
 
 -- each line has some bytes
 pub lines_some : (place : ℕ) (ins : List Ins) → length ins ≤ length (lines place ins)
 lines_some place [] = omega arith
 lines_some place (i ∷ ins) =
-    omega (arith, line_long place i, lines_some (place + length (bytes_of i)) ins, length-append (line place i) (lines (place + length (bytes_of i)) ins))
+    omega (
+      arith,
+      line_long place i,
+      lines_some (place + length (bytes_of i)) ins,
+      length-append (line place i) (lines (place + length (bytes_of i)) ins),
+    )

@@ -1,5 +1,6 @@
 -- What a line that was read and written again tells of the bytes in front.
-use Rattle.std.proofs.Common.{◌≡◌, ℕ, ◌^◌, ◌≤◌, ◌<◌, List, ◌++◌, Some, None, sym, ap, ◌∙◌, subst, arith}
+use Rattle.std.proofs.Common.{◌≡◌, ℕ, ◌^◌, ◌≤◌, ◌<◌, List, ◌++◌, Some, None, sym, ap, ◌∙◌, subst}
+use Rattle.std.proofs.Common.{arith}
 use Rattle.ia_code.specs.declared.ins.Ins.{Ins}
 use Rattle.ia_code.specs.DecodeTable.{IsSound}
 use Rattle.ia_code.specs.Image.{max_data_words}
@@ -13,17 +14,23 @@ use Rattle.ia_list.proofs.TextsRead.{NoLine}
 module _ (place : ℕ) (bytes : List ℕ) (h : place < 2 ^ 31) where
   -- nothing is read
   pub no_line : instruction_at place bytes ≡ None → NoLine place bytes
-  no_line e i rest s f = none_some (sym e ∙ ap (instruction_at place) f ∙ line_read place i rest s h)
+  no_line e i rest s f = none_some (sym e ∙ ap (instruction_at place) f
+      ∙ line_read place i rest s h)
 
   -- what is read is the only one
-  pub only_line : (j : Ins) → instruction_at place bytes ≡ Some j → (i : Ins) (rest : List ℕ) → IsSound i → bytes ≡ line place i ++ rest → j ≡ i
-  only_line j e i rest s f = some_same j i (sym e ∙ ap (instruction_at place) f ∙ line_read place i rest s h)
+  pub only_line : (j : Ins) → instruction_at place bytes ≡ Some j → (i : Ins) (rest : List ℕ) →
+      IsSound i → bytes ≡ line place i ++ rest → j ≡ i
+  only_line j e i rest s f = some_same j i (sym e ∙ ap (instruction_at place) f
+      ∙ line_read place i rest s h)
 
-  pub unsound_line : (j : Ins) → instruction_at place bytes ≡ Some j → (IsSound j → ⊥) → NoLine place bytes
+  pub unsound_line : (j : Ins) → instruction_at place bytes ≡ Some j → (IsSound j → ⊥) →
+      NoLine place bytes
   unsound_line j e bad i rest s f = bad (subst IsSound (sym (only_line j e i rest s f)) s)
 
-  pub other_line : (j : Ins) → instruction_at place bytes ≡ Some j → ((rest : List ℕ) → bytes ≡ line place j ++ rest → ⊥) → NoLine place bytes
-  other_line j e none i rest s f = none rest (f ∙ ap (λ k. line place k ++ rest) (sym (only_line j e i rest s f)))
+  pub other_line : (j : Ins) → instruction_at place bytes ≡ Some j →
+      ((rest : List ℕ) → bytes ≡ line place j ++ rest → ⊥) → NoLine place bytes
+  other_line j e none i rest s f = none rest (f
+      ∙ ap (λ k. line place k ++ rest) (sym (only_line j e i rest s f)))
 
 -- of data words
 abbrev pub NoWords : List ℕ → Type 0
@@ -32,11 +39,15 @@ NoWords bytes = (n : ℕ) (rest : List ℕ) → n ≤ max_data_words → bytes �
 pub no_words : (bytes : List ℕ) → words_at bytes ≡ None → NoWords bytes
 no_words bytes e n rest h f = none_some (sym e ∙ ap words_at f ∙ words_read n rest h)
 
-only_words : (bytes : List ℕ) (m : ℕ) → words_at bytes ≡ Some m → (n : ℕ) (rest : List ℕ) → n ≤ max_data_words → bytes ≡ data_line n ++ rest → m ≡ n
+only_words : (bytes : List ℕ) (m : ℕ) → words_at bytes ≡ Some m → (n : ℕ) (rest : List ℕ) →
+    n ≤ max_data_words → bytes ≡ data_line n ++ rest → m ≡ n
 only_words bytes m e n rest h f = some_same m n (sym e ∙ ap words_at f ∙ words_read n rest h)
 
-pub many_words : (bytes : List ℕ) (m : ℕ) → words_at bytes ≡ Some m → max_data_words < m → NoWords bytes
+pub many_words : (bytes : List ℕ) (m : ℕ) → words_at bytes ≡ Some m → max_data_words < m →
+    NoWords bytes
 many_words bytes m e many n rest h f = omega (arith, only_words bytes m e n rest h f)
 
-pub other_words : (bytes : List ℕ) (m : ℕ) → words_at bytes ≡ Some m → ((rest : List ℕ) → bytes ≡ data_line m ++ rest → ⊥) → NoWords bytes
-other_words bytes m e none n rest h f = none rest (f ∙ ap (λ k. data_line k ++ rest) (sym (only_words bytes m e n rest h f)))
+pub other_words : (bytes : List ℕ) (m : ℕ) → words_at bytes ≡ Some m →
+    ((rest : List ℕ) → bytes ≡ data_line m ++ rest → ⊥) → NoWords bytes
+other_words bytes m e none n rest h f = none rest (f
+    ∙ ap (λ k. data_line k ++ rest) (sym (only_words bytes m e n rest h f)))

@@ -1,5 +1,6 @@
 -- Operands that are written are read again.
-use Rattle.std.proofs.Common.{◌≡◌, ℕ, ◌+◌, ◌^◌, ◌<◌, true, List, [], ◌∷◌, ◌++◌, drop, Option, Some, None, refl, sym, ap, ◌∙◌, arith, append_assoc}
+use Rattle.std.proofs.Common.{◌≡◌, ℕ, ◌+◌, ◌^◌, ◌<◌, true, List, [], ◌∷◌, ◌++◌, drop, Option, Some}
+use Rattle.std.proofs.Common.{None, refl, sym, ap, ◌∙◌, arith, append_assoc}
 use Rattle.std.specs.Prelude.{ℤ, slice_index}
 use Rattle.std.specs.Int.{w32}
 use Rattle.std.specs.Int.RustNames.{FitsSigned}
@@ -17,11 +18,15 @@ use Rattle.ia_code.specs.declared.ins.Rm.TheVariants as rm
 use Rattle.ia_code.specs.DecodeTable.{is_scale, is_index, has_low_byte, Holds, IsAddress, IsOperand}
 use Rattle.ia_code.proofs.OperandsSpelledAreRead.{index_parts}
 use Rattle.ia_list.specs.declared.forms.Operands.{Operands}
-use Rattle.ia_list.specs.declared.forms.Operands.TheVariants.{Nothing, One, Two, Number, OneNumber, TwoNumber, Target, LowByte, OneLowByte}
+use Rattle.ia_list.specs.declared.forms.Operands.TheVariants.{Nothing, One, Two, Number, OneNumber}
+use Rattle.ia_list.specs.declared.forms.Operands.TheVariants.{TwoNumber, Target, LowByte}
+use Rattle.ia_list.specs.declared.forms.Operands.TheVariants.{OneLowByte}
 use Rattle.ia_list.specs.declared.forms.Shape.{Shape}
 use Rattle.ia_list.specs.declared.forms.Shape.TheVariants as shape
-use Rattle.ia_list.specs.Text.{register_name, low_name, base_text, index_text, width_text, address_text, operand_text, operands_text}
-use Rattle.ia_list.specs.Reading.{number_at, register_at, low_named, scale_named, base_at, index_at, width_at, address_at, operand_at, operands_at}
+use Rattle.ia_list.specs.Text.{register_name, low_name, base_text, index_text, width_text}
+use Rattle.ia_list.specs.Text.{address_text, operand_text, operands_text}
+use Rattle.ia_list.specs.Reading.{number_at, register_at, low_named, scale_named, base_at, index_at}
+use Rattle.ia_list.specs.Reading.{width_at, address_at, operand_at, operands_at}
 use Rattle.pra_list.specs.Options.{◌>>=◌}
 use Rattle.ia_list.proofs.NumbersRead.{number_read, hexadecimal_read}
 
@@ -29,9 +34,20 @@ use Rattle.ia_list.proofs.NumbersRead.{number_read, hexadecimal_read}
 
 register_read : (r : Reg) (rest : List ℕ) → register_at (register_name r ++ rest) ≡ Some (r, rest)
 unfolding register_at
-register_read r rest = elim r as (λ r. register_at (register_name r ++ rest) ≡ Some (r, rest)) [ Eax ↦ refl | Ecx ↦ refl | Edx ↦ refl | Ebx ↦ refl | Esp ↦ refl | Ebp ↦ refl | Esi ↦ refl | Edi ↦ refl ]
+register_read r rest = elim r as (λ r. register_at (register_name r ++ rest) ≡ Some (r, rest)) [
+  | Eax ↦ refl
+  | Ecx ↦ refl
+  | Edx ↦ refl
+  | Ebx ↦ refl
+  | Esp ↦ refl
+  | Ebp ↦ refl
+  | Esi ↦ refl
+  | Edi
+      ↦ refl
+]
 
-low_read : (r : Reg) (rest : List ℕ) → has_low_byte r ≡ true → low_named (slice_index (low_name r ++ rest) 0) ≡ Some r
+low_read : (r : Reg) (rest : List ℕ) → has_low_byte r ≡ true →
+    low_named (slice_index (low_name r ++ rest) 0) ≡ Some r
 low_read Eax rest h = refl
 low_read Ecx rest h = refl
 low_read Edx rest h = refl
@@ -45,33 +61,71 @@ low_read Edi rest h = cc
 
 base_some : (r : Reg) (rest : List ℕ) → base_at (register_name r ++ 43 ∷ rest) ≡ Some (Some r, rest)
 unfolding base_at register_at
-base_some r rest = elim r as (λ r. base_at (register_name r ++ 43 ∷ rest) ≡ Some (Some r, rest)) [ Eax ↦ refl | Ecx ↦ refl | Edx ↦ refl | Ebx ↦ refl | Esp ↦ refl | Ebp ↦ refl | Esi ↦ refl | Edi ↦ refl ]
+base_some r rest = elim r as (λ r. base_at (register_name r ++ 43 ∷ rest) ≡ Some (Some r, rest)) [
+  | Eax ↦ refl
+  | Ecx ↦ refl
+  | Edx ↦ refl
+  | Ebx ↦ refl
+  | Esp ↦ refl
+  | Ebp ↦ refl
+  | Esi ↦ refl
+  | Edi
+      ↦ refl
+]
 
 -- a register before a * is no base
-base_at_index : (r : Reg) (rest : List ℕ) → base_at (register_name r ++ 42 ∷ rest) ≡ Some (None, register_name r ++ 42 ∷ rest)
+base_at_index : (r : Reg) (rest : List ℕ) →
+    base_at (register_name r ++ 42 ∷ rest) ≡ Some (None, register_name r ++ 42 ∷ rest)
 unfolding base_at
-base_at_index r rest = elim r as (λ r. base_at (register_name r ++ 42 ∷ rest) ≡ Some (None, register_name r ++ 42 ∷ rest)) [ Eax ↦ refl | Ecx ↦ refl | Edx ↦ refl | Ebx ↦ refl | Esp ↦ refl | Ebp ↦ refl | Esi ↦ refl | Edi ↦ refl ]
+base_at_index r rest = elim r as (λ r. base_at (register_name r ++ 42 ∷ rest)
+    ≡ Some (None, register_name r ++ 42 ∷ rest)) [
+      | Eax ↦ refl
+      | Ecx ↦ refl
+      | Edx ↦ refl
+      | Ebx ↦ refl
+      | Esp ↦ refl
+      | Ebp ↦ refl
+      | Esi ↦ refl
+      | Edi
+          ↦ refl
+    ]
 
-base_at_width : (w : Width) (rest : List ℕ) → base_at (width_text w ++ rest) ≡ Some (None, width_text w ++ rest)
+base_at_width : (w : Width) (rest : List ℕ) →
+    base_at (width_text w ++ rest) ≡ Some (None, width_text w ++ rest)
 unfolding base_at
 base_at_width D0 rest = refl
 base_at_width D8 rest = refl
 base_at_width D32 rest = refl
 
 -- behind a register's name
-index_named : (r : Reg) (rest : List ℕ) → index_at (register_name r ++ rest) ≡ (scale_named (slice_index rest 1) >>= λ s. Some (Some (r, s), drop 3 rest))
+index_named : (r : Reg) (rest : List ℕ) →
+    index_at (register_name r ++ rest)
+    ≡ (scale_named (slice_index rest 1) >>= λ s. Some (Some (r, s), drop 3 rest))
 unfolding index_at register_at
-index_named r rest = elim r as (λ r. index_at (register_name r ++ rest) ≡ (scale_named (slice_index rest 1) >>= λ s. Some (Some (r, s), drop 3 rest))) [ Eax ↦ refl | Ecx ↦ refl | Edx ↦ refl | Ebx ↦ refl | Esp ↦ refl | Ebp ↦ refl | Esi ↦ refl | Edi ↦ refl ]
+index_named r rest = elim r as (λ r. index_at (register_name r ++ rest)
+    ≡ (scale_named (slice_index rest 1) >>= λ s. Some (Some (r, s), drop 3 rest))) [
+      | Eax ↦ refl
+      | Ecx ↦ refl
+      | Edx ↦ refl
+      | Ebx ↦ refl
+      | Esp ↦ refl
+      | Ebp ↦ refl
+      | Esi ↦ refl
+      | Edi
+          ↦ refl
+    ]
 
 scale_read : (s : ℕ) → is_scale s ≡ true → (s < 10) × (scale_named (48 + s) ≡ Some s)
 scale_read s h = (grind (arith, nat_tests), grind (arith, nat_tests))
 
-index_some : (r : Reg) (s : ℕ) (rest : List ℕ) → is_scale s ≡ true → index_at (register_name r ++ 42 ∷ (decimal s ++ 43 ∷ rest)) ≡ Some (Some (r, s), rest)
+index_some : (r : Reg) (s : ℕ) (rest : List ℕ) → is_scale s ≡ true →
+    index_at (register_name r ++ 42 ∷ (decimal s ++ 43 ∷ rest)) ≡ Some (Some (r, s), rest)
 index_some r s rest h =
     let is = scale_read s h in
     index_named r (42 ∷ (decimal s ++ 43 ∷ rest)) ∙ rw (decimal_digit s is.0, is.1) refl
 
-index_at_width : (w : Width) (rest : List ℕ) → index_at (width_text w ++ rest) ≡ Some (None, width_text w ++ rest)
+index_at_width : (w : Width) (rest : List ℕ) →
+    index_at (width_text w ++ rest) ≡ Some (None, width_text w ++ rest)
 unfolding index_at
 index_at_width D0 rest = refl
 index_at_width D8 rest = refl
@@ -88,10 +142,12 @@ disp_fits D0 d h = omega (arith, ints)
 disp_fits D8 d h = omega (arith, ints)
 disp_fits D32 d h = h
 
-nested : (a b c d e rest : List ℕ) → (((((a ++ b) ++ c) ++ d) ++ e) ++ 93 ∷ []) ++ rest ≡ a ++ (b ++ (c ++ (d ++ (e ++ 93 ∷ rest))))
+nested : (a b c d e rest : List ℕ) →
+    (((((a ++ b) ++ c) ++ d) ++ e) ++ 93 ∷ []) ++ rest ≡ a ++ (b ++ (c ++ (d ++ (e ++ 93 ∷ rest))))
 nested a b c d e rest = simp (append_assoc) refl
 
-index_nested : (r d rest : List ℕ) → (((r ++ 42 ∷ []) ++ d) ++ 43 ∷ []) ++ rest ≡ r ++ 42 ∷ (d ++ 43 ∷ rest)
+index_nested : (r d rest : List ℕ) →
+    (((r ++ 42 ∷ []) ++ d) ++ 43 ∷ []) ++ rest ≡ r ++ 42 ∷ (d ++ 43 ∷ rest)
 index_nested r d rest = simp (append_assoc) refl
 
 -- an address behind its bracket
@@ -119,35 +175,66 @@ module _ (w : Width) (d : ℤ) (rest : List ℕ) (h : Holds w d) where
   no_index = index_at_width w number_text
 
   -- behind a base, or where there is none
-  index_read : (x : Option (Reg × ℕ)) → is_index x ≡ true → index_at (index_text x ++ tail) ≡ Some (x, tail)
+  index_read : (x : Option (Reg × ℕ)) → is_index x ≡ true →
+      index_at (index_text x ++ tail) ≡ Some (x, tail)
   index_read None ix = no_index
   index_read (Some x) ix =
-      ap index_at (index_nested (register_name x.0) (decimal x.1) tail) ∙ index_some x.0 x.1 tail (index_parts x ix).1
+      ap index_at (index_nested (register_name x.0) (decimal x.1) tail)
+      ∙ index_some x.0 x.1 tail (index_parts x ix).1
 
-  base_read : (b : Option Reg) (x : Option (Reg × ℕ)) → base_at (base_text b ++ (index_text x ++ tail)) ≡ Some (b, index_text x ++ tail)
+  base_read : (b : Option Reg) (x : Option (Reg × ℕ)) →
+      base_at (base_text b ++ (index_text x ++ tail)) ≡ Some (b, index_text x ++ tail)
   base_read None None = no_base
   base_read None (Some x) =
       let e = index_nested (register_name x.0) (decimal x.1) tail in
-      ap base_at e ∙ base_at_index x.0 (decimal x.1 ++ 43 ∷ tail) ∙ ap (λ l. let y : Option Reg × List ℕ = (None, l) in Some y) (sym e)
+      ap base_at e ∙ base_at_index x.0 (decimal x.1 ++ 43 ∷ tail)
+      ∙ ap (λ l. let y : Option Reg × List ℕ = (None, l) in Some y) (sym e)
   base_read (Some b) x =
-      ap base_at (append_assoc (register_name b) (43 ∷ []) (index_text x ++ tail)) ∙ base_some b (index_text x ++ tail)
+      ap base_at (append_assoc (register_name b) (43 ∷ []) (index_text x ++ tail))
+      ∙ base_some b (index_text x ++ tail)
 
   parts_read : (b : Option Reg) (x : Option (Reg × ℕ)) → is_index x ≡ true →
-      address_at (base_text b ++ (index_text x ++ tail)) ≡ Some (record { base = b; index = x; disp = d; width = w }, rest)
+      address_at (base_text b ++ (index_text x ++ tail)) ≡ Some (
+        record {
+          base = b;
+          index = x;
+          disp = d;
+          width = w;
+        },
+        rest,
+      )
   unfolding address_at
   parts_read b x ix = rw (base_read b x, index_read x ix, width_behind, number_behind) refl
 
-address_read : (a : MemAddr) (rest : List ℕ) → IsAddress a → operand_at (address_text a ++ rest) ≡ Some (rm.Mem a, rest)
+address_read : (a : MemAddr) (rest : List ℕ) → IsAddress a →
+    operand_at (address_text a ++ rest) ≡ Some (rm.Mem a, rest)
 unfolding operand_at tail number_text
 address_read a rest is =
-    ap operand_at (nested (91 ∷ []) (base_text a.base) (index_text a.index) (width_text a.width) (signed_decimal a.disp) rest)
+    ap operand_at (nested (91 ∷ []) (base_text a.base) (index_text a.index) (width_text a.width)
+    (signed_decimal a.disp) rest)
     ∙ rw (parts_read a.width a.disp rest is.disp a.base a.index is.index) refl
 
-register_operand : (r : Reg) (rest : List ℕ) → operand_at (register_name r ++ rest) ≡ (register_at (register_name r ++ rest) >>= λ q. let y : Rm × List ℕ = (rm.Reg q.0, q.1) in Some y)
+register_operand : (r : Reg) (rest : List ℕ) →
+    operand_at (register_name r ++ rest)
+    ≡ (register_at (register_name r ++ rest) >>= λ q. let y : Rm × List ℕ = (rm.Reg q.0, q.1) in
+    Some y)
 unfolding operand_at
-register_operand r rest = elim r as (λ r. operand_at (register_name r ++ rest) ≡ (register_at (register_name r ++ rest) >>= λ q. let y : Rm × List ℕ = (rm.Reg q.0, q.1) in Some y)) [ Eax ↦ refl | Ecx ↦ refl | Edx ↦ refl | Ebx ↦ refl | Esp ↦ refl | Ebp ↦ refl | Esi ↦ refl | Edi ↦ refl ]
+register_operand r rest = elim r as (λ r. operand_at (register_name r ++ rest)
+    ≡ (register_at (register_name r ++ rest) >>= λ q. let y : Rm × List ℕ = (rm.Reg q.0, q.1) in
+    Some y)) [
+      | Eax ↦ refl
+      | Ecx ↦ refl
+      | Edx ↦ refl
+      | Ebx ↦ refl
+      | Esp ↦ refl
+      | Ebp ↦ refl
+      | Esi ↦
+          refl
+      | Edi ↦ refl
+    ]
 
-operand_read : (a : Rm) (rest : List ℕ) → IsOperand a → operand_at (operand_text a ++ rest) ≡ Some (a, rest)
+operand_read : (a : Rm) (rest : List ℕ) → IsOperand a →
+    operand_at (operand_text a ++ rest) ≡ Some (a, rest)
 operand_read (rm.Reg r) rest is = register_operand r rest ∙ rw (register_read r rest) refl
 operand_read (rm.Mem a) rest is = address_read a rest is
 
@@ -175,10 +262,13 @@ AreOperands (Target t) = t < 2 ^ 32
 AreOperands (LowByte r) = has_low_byte r ≡ true
 AreOperands (OneLowByte a r) = IsOperand a × (has_low_byte r ≡ true)
 
-two_nested : (a b rest : List ℕ) → ((32 ∷ a) ++ 44 ∷ 32 ∷ []) ++ b ++ rest ≡ 32 ∷ (a ++ 44 ∷ 32 ∷ (b ++ rest))
+two_nested : (a b rest : List ℕ) →
+    ((32 ∷ a) ++ 44 ∷ 32 ∷ []) ++ b ++ rest ≡ 32 ∷ (a ++ 44 ∷ 32 ∷ (b ++ rest))
 two_nested a b rest = simp (append_assoc) refl
 
-three_nested : (a b c rest : List ℕ) → ((((32 ∷ a) ++ 44 ∷ 32 ∷ []) ++ b) ++ 44 ∷ 32 ∷ []) ++ c ++ rest ≡ 32 ∷ (a ++ 44 ∷ 32 ∷ (b ++ 44 ∷ 32 ∷ (c ++ rest)))
+three_nested : (a b c rest : List ℕ) →
+    ((((32 ∷ a) ++ 44 ∷ 32 ∷ []) ++ b) ++ 44 ∷ 32 ∷ []) ++ c ++ rest
+    ≡ 32 ∷ (a ++ 44 ∷ 32 ∷ (b ++ 44 ∷ 32 ∷ (c ++ rest)))
 three_nested a b c rest = simp (append_assoc) refl
 
 -- behind the operands stands the end of the line
@@ -190,7 +280,8 @@ module _ (rest : List ℕ) where
   unfolding end
   number_end n f = number_read 10 rest refl n f
 
-  pub operands_read : (o : Operands) → AreOperands o → operands_at (operands_shape o) (operands_text o ++ end) ≡ Some o
+  pub operands_read : (o : Operands) → AreOperands o →
+      operands_at (operands_shape o) (operands_text o ++ end) ≡ Some o
   unfolding operands_at operands_shape
   operands_read Nothing h = refl
   operands_read (One a) h = rw (operand_read a end h) refl
@@ -202,8 +293,13 @@ module _ (rest : List ℕ) where
       ap (operands_at shape.OneNumber) (two_nested (operand_text a) (signed_decimal n) end)
       ∙ rw (operand_read a (44 ∷ 32 ∷ (signed_decimal n ++ end)) h.0, number_end n h.1) refl
   operands_read (TwoNumber a b n) h =
-      ap (operands_at shape.TwoNumber) (three_nested (operand_text a) (operand_text b) (signed_decimal n) end)
-      ∙ rw (operand_read a (44 ∷ 32 ∷ (operand_text b ++ 44 ∷ 32 ∷ (signed_decimal n ++ end))) h.0, operand_read b (44 ∷ 32 ∷ (signed_decimal n ++ end)) h.1, number_end n h.2) refl
+      ap (operands_at shape.TwoNumber)
+      (three_nested (operand_text a) (operand_text b) (signed_decimal n) end)
+      ∙ rw (
+        operand_read a (44 ∷ 32 ∷ (operand_text b ++ 44 ∷ 32 ∷ (signed_decimal n ++ end))) h.0,
+        operand_read b (44 ∷ 32 ∷ (signed_decimal n ++ end)) h.1,
+        number_end n h.2,
+      ) refl
   operands_read (Target t) h = rw (hexadecimal_read t end h) refl
   operands_read (LowByte r) h = rw (low_read r end h) refl
   operands_read (OneLowByte a r) h =

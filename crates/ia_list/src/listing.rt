@@ -50,7 +50,7 @@ fn push_next(out: &mut Vec<u8>, code: &[u8], place: usize) -> Result<usize, List
     requires code { length code.now ≤ max_code_bytes }
     ensures { MatchResult result
         (λ next. (i : Ins) × (size : ℕ) × StandsAt code.now place i size × (next ≡ place + size)
-            × (out.new.items ≡ out.old.items ++ line place i))
+        × (out.new.items ≡ out.old.items ++ line place i))
         (NoneStandsAt code.now place) }
 {
     let Ok((i, size)) = decode(code, place) else {

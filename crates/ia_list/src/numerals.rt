@@ -40,8 +40,8 @@ pub(crate) fn push_decimal(out: &mut Vec<u8>, n: u32) -> Result<(), AllocError>
 }
 
 /// A number in decimal digits, with a minus before one below 0.
-pub(crate) fn push_signed(out: &mut Vec<u8>, n: i32) -> Result<(), AllocError>
-    ensures { OnOk result (out.new.items ≡ out.old.items ++ signed_decimal n) }
+pub(crate) fn push_signed(out: &mut Vec<u8>, z: i32) -> Result<(), AllocError>
+    ensures { OnOk result (out.new.items ≡ out.old.items ++ signed_decimal z) }
 {
-    out.extend_from_slice(Buffer::new().format(n).as_bytes())
+    out.extend_from_slice(Buffer::new().format(z).as_bytes())
 }
