@@ -6,6 +6,7 @@ use Rattle.std.specs.Prelude.{IsTrue, IfSome}
 use Rattle.std.proofs.lemmas.Bool.{cases_Bool, eqb-true, eq-eqb, ne_eqb}
 use Rattle.std.proofs.lemmas.List.Elements.{All-head, All-tail, All-cons, All-nil}
 use Rattle.pra_base.specs.declared.ids.Place.{Place}
+use Rattle.pra_base.specs.declared.ids.Place.TheVariants.{Mem}
 use Rattle.pra_base.specs.Places.{number, allows}
 use Rattle.net_form.specs.declared.net.Net.{Net}
 use Rattle.net_form.specs.declared.routes.Ends.{Ends}
@@ -16,7 +17,7 @@ use Rattle.net_form.specs.Admitted.{stays_across}
 use Rattle.net_form.specs.Formed.{no_block}
 use Rattle.net_laws.specs.Built.{IsBuilt}
 use Rattle.net_dual.specs.Paths.{IsPath, MayGo, Anywhere}
-use Rattle.al_laws.specs.Greedy.{is_group, group_ends, mask_at, IsOpen, MayEnd}
+use Rattle.al_laws.specs.Greedy.{IsEnd, is_group, group_ends, mask_at, IsOpen, MayEnd}
 use Rattle.al_laws.specs.Greedy.IsEnd.{entry, exit}
 use Rattle.al_laws.specs.Laid.{plan_ends, planned}
 use Rattle.al_laws.specs.Settled.{is_at_entry, is_at_exit}
@@ -355,3 +356,19 @@ module _ (net : Net) (built : IsBuilt net) (s : ℕ) (lt : s < length net.strand
           × IsTrue (allows (mask_at net s (strand_at net s).last) (number p)))
       last_of None is = tt
       last_of (Some g) is = last_at g is (slice_get plan.places g) refl
+
+-- memory is open to every group
+pub memory_open : (net : Net) → IsBuilt net → (plan : Plan) (g : ℕ) → IsOpen net plan g Mem
+memory_open net built plan g = record {
+  mask = λ s l lt end. by s lt l end;
+  free = λ s l h r k q _ _ _ _ _ _ _. refl;
+}
+  where
+    by : (s : ℕ) (lt : s < length net.strands) (l : ℕ) → IsEnd net g s l
+        → IsTrue (allows (mask_at net s l) (number Mem))
+    by s lt l (entry is) = held
+        (λ g. IsTrue (allows (mask_at net s (strand_at net s).first) (number Mem)))
+        (strand_at net s).entry_group g (built.groups s no_strand lt).entry_memory is
+    by s lt l (exit is) = held
+        (λ g. IsTrue (allows (mask_at net s (strand_at net s).last) (number Mem)))
+        (strand_at net s).exit_group g (built.groups s no_strand lt).exit_memory is

@@ -1,5 +1,6 @@
-pub mod EndsAnywhere
 pub mod Ends
+pub mod EndsAnywhere
+pub mod HomePaths
 pub mod Laid
 pub mod Once
 pub mod OneStrand

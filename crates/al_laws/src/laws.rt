@@ -4,6 +4,7 @@ ghost use Rattle.std.specs.Prelude.{◌≡◌, ◌<◌, ◌++◌, ℕ, Bool, tru
 ghost use Rattle.std.specs.Prelude.{slice_get, IsPermutation};
 ghost use Rattle.std.specs.List.{range_with_len};
 ghost use Rattle.pra_base.specs.declared.ids.Place.{Place};
+ghost use Rattle.pra_base.specs.declared.ids.Place.TheVariants.{Mem};
 ghost use Rattle.net_cost.specs.declared.weights.Weights.{Weights};
 ghost use Rattle.net_form.specs.declared.net.Net.{Net};
 ghost use Rattle.net_form.specs.declared.prices.Prices.{Prices};
@@ -84,4 +85,11 @@ pub fn ends_may_be_anywhere()
     ensures plan { (net : Net) (s : ℕ) (plan : Plan) → IsBuilt net → s < length net.strands →
         ((g : ℕ) (p : Place) → slice_get plan.places g ≡ Some p → IsOpen net plan g p) →
         MayEnd net s (plan_ends net plan s) }
+{}
+
+/// Each strand of a built network has a path, and memory is open to every tie group.
+pub fn strands_have_paths()
+    ensures path { (net : Net) (s : ℕ) → IsBuilt net → s < length net.strands →
+        (ps : List Place) × IsPath net s ps }
+    ensures memory { (net : Net) (plan : Plan) (g : ℕ) → IsBuilt net → IsOpen net plan g Mem }
 {}

@@ -50,7 +50,7 @@ built code net is valid sized =
           (λ m pair same. pair.apart (sym pair.left_strand.var ∙ same ∙ pair.right_strand.var))
           n.pairs (all_pairs code is.live is.is_live valid sized tied is.least);
       ties = block_ties code is.live is.least is.are_least;
-      groups = grouped_strands code is.live is.least is.are_least;
+      groups = grouped_strands code is.live is.least is.are_least is.is_live;
       exits = exits code is.live is.least;
       entries = entries code is.live is.least;
     })

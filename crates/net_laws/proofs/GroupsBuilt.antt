@@ -233,3 +233,22 @@ module _ (code : VProc) (live : Lives) (least : ℕ → ℕ) (are : (e : ℕ)
               | inr two ↦ absurd (omega (arith, two))
             ],
       )
+
+  -- a tie that leads to the strand
+  pub record EntryTie (s : ℕ) : Type 0 where
+    pub tie : Tie
+    pub join : IsJoin code live least tie
+    pub to_it : tie.to ≡ s
+
+  pub entry_tie : (s g : ℕ) → s < length n.strands → (strand_at n s).entry_group ≡ Some g
+      → EntryTie s
+  entry_tie s g lt is =
+      let h = sym (entry_is s lt) ∙ is in
+      let t = get_or tied (touching (entry_end s) g h) no_tie in record {
+        tie = t;
+        join = touched_join (entry_end s) g h;
+        to_it = elim (cases (entry_end s) g h) as (λ _. t.to ≡ s) [
+          | inl one ↦ absurd (omega (arith, one))
+          | inr two ↦ omega (arith, two)
+        ];
+      }

@@ -1,13 +1,13 @@
-pub mod GroupsBuilt
-pub mod CleanCopies
-pub mod EightMasks
 pub mod Arrivals
 pub mod Bits
 pub mod Built
 pub mod Choices
+pub mod CleanCopies
 pub mod Division
+pub mod EightMasks
 pub mod Few
 pub mod Found
+pub mod GroupsBuilt
 pub mod Homes
 pub mod Needs
 pub mod Ordered
@@ -20,4 +20,5 @@ pub mod Runs
 pub mod Sides
 pub mod StrandsInOrder
 pub mod TieCounts
+pub mod TiedMemory
 pub mod Ties

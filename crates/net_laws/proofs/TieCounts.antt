@@ -16,12 +16,15 @@ use Rattle.net_form.specs.declared.net.Strand.{Strand}
 use Rattle.net_form.specs.declared.net.Tie.{Tie}
 use Rattle.net_form.specs.declared.net.Net.{Net}
 use Rattle.net_form.specs.Tables.{all_tables}
-use Rattle.net_form.specs.Strands.{Lives, exit_layer, strands}
+use Rattle.pra_base.specs.declared.ids.Place.TheVariants.{Mem}
+use Rattle.pra_base.specs.Places.{number, allows}
+use Rattle.net_form.specs.Strands.{Lives, IsLive, exit_layer, strands}
 use Rattle.net_form.specs.Network.{ties, leads_to, net_block, net_of}
 use Rattle.net_form.specs.Admitted.{strand_at, no_strand}
 use Rattle.net_form.specs.Formed.{no_block}
 use Rattle.net_laws.specs.Built.{IsBlockTie, IsGroupedStrand, goes_from, comes_to}
-use Rattle.net_laws.specs.Homes.{is_there}
+use Rattle.net_laws.specs.Homes.{is_there, mask_in}
+use Rattle.net_laws.proofs.TiedMemory.{entry_memory, exit_memory}
 use Rattle.net_laws.specs.Ordered.{TieBefore}
 use Rattle.net_laws.specs.Ordered.TieBefore.{from, to}
 use Rattle.net_laws.proofs.Ordered.{ties_in_order}
@@ -31,7 +34,7 @@ use Rattle.net_laws.proofs.Ties.{IsJoin, all_joins}
 use Rattle.net_laws.proofs.GroupsBuilt.{tie_group, exit_grouped, entry_grouped, entry_facts}
 use Rattle.net_laws.proofs.GroupsBuilt.{exit_facts}
 use Rattle.net_form.specs.Groups.{IsLeastEnd}
-use Rattle.std.specs.Prelude.{slice_index_or, IfSome, Option, Some, None}
+use Rattle.std.specs.Prelude.{slice_index_or, IfSome, IsTrue, Option, Some, None}
 
 -- what passes passes one of two tests
 pub count_either : {X : Type 0} (p q r : X → Bool) (xs : List X)
@@ -209,8 +212,8 @@ module _ (code : VProc) (live : Lives) (least : ℕ → ℕ) where
     if_some P None h = tt
     if_some P (Some x) h = h x refl
 
-    grouped_at_ends : (s : ℕ) → s < length n.strands → IsGroupedStrand n (at s)
-    grouped_at_ends s lt = record {
+    grouped_at_ends : IsLive code live → (s : ℕ) → s < length n.strands → IsGroupedStrand n (at s)
+    grouped_at_ends is_live s lt = record {
       entry = if_some (λ g. (g < n.groups) × ((at s).first ≡ 0)) (at s).entry_group
           (λ g is. entry_facts code live least are s g lt is);
       exit = if_some
@@ -220,8 +223,12 @@ module _ (code : VProc) (live : Lives) (least : ℕ → ℕ) where
           let facts = exit_facts code live least are s g lt is in
           let layers = layers_of_block s lt in
           let last = facts.1 in (facts.0, omega (arith, layers, last)));
+      entry_memory = if_some (λ g. IsTrue (allows (mask_in (at s) (at s).first) (number Mem)))
+          (at s).entry_group (λ g is. entry_memory code live is_live least are s g lt is);
+      exit_memory = if_some (λ g. IsTrue (allows (mask_in (at s) (at s).last) (number Mem)))
+          (at s).exit_group (λ g is. exit_memory code live is_live least are s g lt is);
     }
 
-    pub grouped_strands : All (IsGroupedStrand n) n.strands
-    grouped_strands k d lt =
-        subst (IsGroupedStrand n) (get_or_default n.strands k no_strand d lt) (grouped_at_ends k lt)
+    pub grouped_strands : IsLive code live → All (IsGroupedStrand n) n.strands
+    grouped_strands is_live k d lt = subst (IsGroupedStrand n)
+        (get_or_default n.strands k no_strand d lt) (grouped_at_ends is_live k lt)

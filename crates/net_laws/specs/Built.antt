@@ -1,14 +1,17 @@
 -- What every network of valid sized code is: all that calls above ask of a network, in one record.
-use Rattle.std.specs.Prelude.{◌≡◌, ◌≢◌, ℕ, ◌+◌, ◌%◌, ◌<◌, ◌≤◌, ◌&&◌, Bool, nat_eq, All, count_by, length}
-use Rattle.std.specs.Prelude.{slice_index_or, Some, IfSome}
+use Rattle.std.specs.Prelude.{◌≡◌, ◌≢◌, ℕ, ◌+◌, ◌%◌, ◌<◌, ◌≤◌, ◌&&◌, Bool, nat_eq, All, count_by}
+use Rattle.std.specs.Prelude.{length}
+use Rattle.std.specs.Prelude.{slice_index_or, Some, IfSome, IsTrue}
 use Rattle.std.specs.List.{AllPairs}
+use Rattle.pra_base.specs.declared.ids.Place.TheVariants.{Mem}
+use Rattle.pra_base.specs.Places.{number, allows}
 use Rattle.net_form.specs.declared.net.Strand.{Strand}
 use Rattle.net_form.specs.declared.net.Tie.{Tie}
 use Rattle.net_form.specs.declared.net.Net.{Net}
 use Rattle.net_form.specs.Admitted.{strand_at}
 use Rattle.net_form.specs.Formed.{IsFormed, no_block}
 use Rattle.net_form.specs.Index.{is_end}
-use Rattle.net_laws.specs.Homes.{HasRoom}
+use Rattle.net_laws.specs.Homes.{HasRoom, mask_in}
 use Rattle.net_laws.specs.Ordered.{IsInOrder}
 
 -- by block, first layer, variable
@@ -33,12 +36,15 @@ pub record IsBlockTie (net : Net) (t : Tie) : Type 0 where
   pub exit_group : (strand_at net t.from).exit_group ≡ Some group
   pub entry_group : (strand_at net t.to).entry_group ≡ Some group
 
--- who has a group is at an entry, or at an exit
+-- who has a group is at an entry, or at an exit, and may be in memory there
 pub record IsGroupedStrand (net : Net) (t : Strand) : Type 0 where
   pub entry : IfSome t.entry_group (λ g. (g < net.groups) × (t.first ≡ 0))
   pub exit : IfSome t.exit_group
       (λ g. (g < net.groups) ×
       (t.last + 1 ≡ (slice_index_or net.blocks t.block.0 no_block).layers))
+  pub entry_memory : IfSome t.entry_group
+      (λ g. IsTrue (allows (mask_in t t.first) (number Mem)))
+  pub exit_memory : IfSome t.exit_group (λ g. IsTrue (allows (mask_in t t.last) (number Mem)))
 
 -- from the strand, and to it from block b
 abbrev pub goes_from : ℕ → Tie → Bool
