@@ -1,10 +1,10 @@
 //! The texts around a compiled program: what it reads, what it writes, and the report on its
 //! procedures.
 //!
-//! Read `specs/Texts` for what is written, `specs/Report` for the report with its rounds and totals,
-//! and `specs/Input` for what an input is: the numbers of its runs, or the place of the first run
-//! that is no word. [`output_text`], [`report_text`] and [`input_words`] answer exactly these, as
-//! do the functions for single lines.
+//! Read `specs/Texts` for what is written, `specs/Report` for the report with its rounds and
+//! totals, and `specs/Input` for what an input is: the numbers of its runs, or the place of the
+//! first run that is no word. [`output_text`], [`report_text`] and [`input_words`] answer exactly
+//! these, as do the functions for single lines.
 #![tactic(auto)]
 
 mod input;
