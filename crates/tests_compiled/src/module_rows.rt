@@ -250,7 +250,7 @@ BEGIN
   END;
   Write(i)
 END M.
-depths 0 1 1 2 2 2 2 2 3 2 1 0
+depths 0 1 1 2 2 2 2 2 3 3 2 1 0
 = -1 1 -1 1 2 ended 0
 ";
 
