@@ -1,24 +1,25 @@
 // The laws of prices, least paths and the bound.
 
 ghost use Rattle.std.specs.Prelude.{◌≡◌, ◌<◌, ◌≤◌, ◌*◌, ◌↔◌, ℕ, ℤ, pos, ◌≤ℤ◌, List, Some, length};
-ghost use Rattle.std.specs.Prelude.{map};
+ghost use Rattle.std.specs.Prelude.{map, slice_get};
 ghost use Rattle.std.specs.List.{range_with_len};
 ghost use Rattle.net_cost.specs.declared.weights.Weights.{Weights};
 ghost use Rattle.pra_base.specs.declared.ids.Place.{Place};
 ghost use Rattle.net_cost.specs.Weights.{IsValid, size_weights};
 ghost use Rattle.net_form.specs.declared.net.Net.{Net};
 ghost use Rattle.net_form.specs.declared.prices.Prices.{Prices};
-ghost use Rattle.net_form.specs.Flow.{Edge};
+ghost use Rattle.net_form.specs.declared.routes.Routes.{Routes};
+ghost use Rattle.net_form.specs.Flow.{Edge, AreRoutes};
 ghost use Rattle.net_form.specs.Admitted.{IsAdmitted};
 ghost use Rattle.net_form.specs.Cost.{cost_of};
 ghost use Rattle.net_form.specs.Examples.{set_add_write_net};
 ghost use Rattle.net_form.specs.Formed.{IsFormed, most_layers};
 ghost use Rattle.net_form.specs.Rooms.{zero_prices, tie_numbers};
 ghost use Rattle.net_laws.specs.Built.{IsBuilt};
-ghost use Rattle.net_dual.specs.Paths.{IsPath, path_price};
+ghost use Rattle.net_dual.specs.Paths.{IsPath, AreLeast, path_price};
 ghost use Rattle.net_dual.specs.Priced.{AreInRange, edge_price, tie_slot};
 ghost use Rattle.net_dual.specs.Small.{IsWithin, most_sum};
-ghost use Rattle.net_dual.specs.Step.{tied_places};
+ghost use Rattle.net_dual.specs.Step.{tied_places, IsNext, IsChain};
 ghost use Rattle.net_dual.specs.Value.{IsLagrange, IsFreeBound};
 
 /// The law of duality: whatever the prices, no admitted flow costs less than the value. A flow is
@@ -54,9 +55,20 @@ pub fn priced_sums_are_small()
         IsWithin most_sum (path_price net (edge_price net w prices) s ps) }
 {}
 
-/// Prices of nothing are within the ranges of prices, with an entry for all that has a price.
-pub fn zero_prices_are_in_range()
-    ensures { (net : Net) → AreInRange net (zero_prices net) }
+/// Prices of nothing are within the ranges of prices, with an entry for all that has a price; a step
+/// leaves them within; and so are all prices of a chain of rounds.
+pub fn prices_stay_in_range()
+    ensures zero { (net : Net) → AreInRange net (zero_prices net) }
+    ensures step { (net : Net) (family : Routes) (k : ℕ) (old new : Prices) →
+        AreInRange net old → IsNext net family k old new → AreInRange net new }
+    ensures chain { (net : Net) (w : Weights) (chain : List Prices) (k : ℕ) (prices : Prices) →
+        IsChain net w chain → slice_get chain k ≡ Some prices → AreInRange net prices }
+{}
+
+/// A least path for each strand is routes.
+pub fn least_families_are_routes()
+    ensures { (net : Net) (price : Edge → ℤ) (family : Routes) →
+        AreLeast net price family → AreRoutes net family }
 {}
 
 /// The numbers that ties have for places are their numbers in the order of these places.

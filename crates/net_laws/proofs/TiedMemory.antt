@@ -93,8 +93,9 @@ module _ (code : VProc) (live : Lives) (is_live : IsLive code live) where
         in_mask h = elim (cases_Bool (passes_across (at s) l))
             as (λ _. allows (mask_in (at s) l) 6 ≡ true) [
               | inl is ↦ (met_allows (mask_in (at s) l) (mask_in (at s) (across l)) 6
-                  (sym (ap (λ x. allows (cond x (meet (mask_in (at s) l) (mask_in (at s) (across l)))
-                  (mask_in (at s) l)) 6) is) ∙ h)).0
+                  (sym (ap (λ x. allows (cond x
+                  (meet (mask_in (at s) l) (mask_in (at s) (across l))) (mask_in (at s) l)) 6) is)
+                  ∙ h)).0
               | inr no_ ↦
                   sym (ap (λ x. allows (cond x (meet (mask_in (at s) l) (mask_in (at s) (across l)))
                   (mask_in (at s) l)) 6) no_) ∙ h
