@@ -27,12 +27,14 @@ All-left P (x ∷ xs) ys h = All-cons P x xs (All-head P x (xs ++ ys) h)
     (All-left P xs ys (All-tail P x (xs ++ ys) h))
 
 -- a strand and its path, from number k on
-pub record From (net : Net) (routes : Routes) (k : ℕ) (ts : List Strand) (rs : List (List Place)) : Type
+pub record From (net : Net) (routes : Routes) (k : ℕ) (ts : List Strand)
+    (rs : List (List Place)) : Type
     0 where
   pub strands : (i : ℕ) → get_or net.strands (k + i) no_strand ≡ get_or ts i no_strand
   pub paths : (i : ℕ) → get_or routes.places (k + i) [] ≡ get_or rs i []
 
-pub from_next : (net : Net) (routes : Routes) (k : ℕ) (t : Strand) (ts : List Strand) (r : List Place)
+pub from_next : (net : Net) (routes : Routes) (k : ℕ) (t : Strand) (ts : List Strand)
+    (r : List Place)
     (rs : List (List Place))
     → From net routes k (t ∷ ts) (r ∷ rs) → From net routes (k + 1) ts rs
 from_next net routes k t ts r rs f = record {

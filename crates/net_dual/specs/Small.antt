@@ -7,9 +7,8 @@ pub record IsWithin (n : ℕ) (z : ℤ) : Type 0 where
   pub low : (pos 0 -ℤ pos n) ≤ℤ z
   pub high : z ≤ℤ pos n
 
--- An edge meets three events at most, which are less than six of the greatest price, and has one
--- cap
--- price and one mem price.
+-- An edge meets three events at most, which weigh less than six of the greatest price, and pays one
+-- cap price and one mem price.
 abbrev pub most_of_edge : ℕ
 most_of_edge = 8
 

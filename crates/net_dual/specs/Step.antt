@@ -1,7 +1,6 @@
--- How prices follow a family of least paths: whoever is wanted more than once becomes dearer,
--- whoever
--- is not wanted becomes cheaper, by steps that shrink (the subgradient method for the Lagrangian
--- dual; Koes and Goldstein, PLDI 2006, section 4).
+-- How prices follow a family of least paths: whoever is wanted more than once becomes dearer, and
+-- whoever is not wanted cheaper, by steps that shrink (the subgradient method for the Lagrangian
+-- dual; Koes and Goldstein, PLDI 2006).
 use Rattle.std.specs.Prelude.{◌≡◌, ℕ, suc, min, max, ◌+◌, ◌-◌, ◌*◌, ◌/◌, ℤ, pos, negsuc}
 use Rattle.std.specs.Prelude.{◌+ℤ◌, ◌-ℤ◌, ◌*ℤ◌, List, [], ◌∷◌, map, slice_get, Some, count_by}
 use Rattle.std.specs.List.{enumerate_from, flat_map}

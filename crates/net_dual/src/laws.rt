@@ -55,8 +55,8 @@ pub fn priced_sums_are_small()
         IsWithin most_sum (path_price net (edge_price net w prices) s ps) }
 {}
 
-/// Prices of nothing are within the ranges of prices, with an entry for all that has a price; a step
-/// leaves them within; and so are all prices of a chain of rounds.
+/// Prices of nothing are within the ranges of prices, with an entry for all that has a price; a
+/// step leaves them within; and so are all prices of a chain of rounds.
 pub fn prices_stay_in_range()
     ensures zero { (net : Net) → AreInRange net (zero_prices net) }
     ensures step { (net : Net) (family : Routes) (k : ℕ) (old new : Prices) →
