@@ -34,9 +34,8 @@ block_ends net routes s =
       last = if is_at_exit net s then slice_get ps (length ps - 1) else None;
     }
 
--- No other path with its places at the block's entry and exit, that leaves the whole admitted,
--- makes
--- it cheaper.
+-- No other path with the same places at the block's entry and exit, that leaves the whole admitted,
+-- makes it cheaper.
 abbrev pub IsStrandSettled : Net → Weights → Routes → ℕ → Type 0
 IsStrandSettled net w routes s =
     (ps : List Place) → IsPath net s ps → HasEnds (block_ends net routes s) ps →
