@@ -6,4 +6,5 @@ pub mod Once
 pub mod OneStrand
 pub mod Parts
 pub mod Put
+pub mod StaySettled
 pub mod Variable

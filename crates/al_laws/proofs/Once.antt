@@ -45,11 +45,11 @@ path_register_once net s n r ps = at_most_once (uses_bundle net n r) s (strand_a
     omega (arith, a, b, c))
 
 -- the end of the pair that the edge brings to memory
-abbrev IsSide : MemPair → Edge → Type 0
+abbrev pub IsSide : MemPair → Edge → Type 0
 IsSide m e = ((e.strand ≡ m.left) × (e.layer ≡ m.left_layer))
     ⊎ ((e.strand ≡ m.right) × (e.layer ≡ m.right_layer))
 
-side_of : (m : MemPair) (e : Edge) → uses_memory m e ≡ true → IsSide m e
+pub side_of : (m : MemPair) (e : Edge) → uses_memory m e ≡ true → IsSide m e
 side_of m e h = elim (or_cases (is_at m.left m.left_layer e) (is_at m.right m.right_layer e)
     (and_parts (is_at m.left m.left_layer e || is_at m.right m.right_layer e) (is_mem (number e.to))
     h).0) as (λ _. IsSide m e) [
@@ -107,12 +107,12 @@ sum_few f (x ∷ xs) few apart = elim (cases_eq (f x) 0) as (λ _. sum_by f (x �
         omega (arith, sum, one, more)
 
 -- an edge that is counted
-record Counted (p : Edge → Bool) (es : List Edge) : Type 0 where
-  at : ℕ
-  within : at < length es
-  passes : (d : Edge) → p (get_or es at d) ≡ true
+pub record Counted (p : Edge → Bool) (es : List Edge) : Type 0 where
+  pub at : ℕ
+  pub within : at < length es
+  pub passes : (d : Edge) → p (get_or es at d) ≡ true
 
-counted : (p : Edge → Bool) (es : List Edge) → 0 < count_by p es → Counted p es
+pub counted : (p : Edge → Bool) (es : List Edge) → 0 < count_by p es → Counted p es
 counted p es some =
     let any = sym (any-count p es) ∙ lt-ltb 0 (count_by p es) some in
     record {

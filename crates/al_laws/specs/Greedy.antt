@@ -1,6 +1,6 @@
 -- A place for each tie group, chosen group by group: the open place that costs the strands of the
 -- group least, each alone.
-use Rattle.std.specs.Prelude.{◌≡◌, ◌⊎◌, ℕ, ◌+◌, ◌-◌, ◌<◌, ◌≤◌, ◌&&◌, ◌||◌, Bool, true, false}
+use Rattle.std.specs.Prelude.{◌≡◌, ◌⊎◌, ℕ, ◌-◌, ◌<◌, ◌≤◌, ◌&&◌, ◌||◌, Bool, true, false}
 use Rattle.std.specs.Prelude.{nat_eq}
 use Rattle.std.specs.Prelude.{if◌then◌else◌, ℤ, ◌<ℤ◌, length, slice_get, slice_index_or}
 use Rattle.std.specs.Prelude.{Option, Some, None, IsTrue, IfSome}
@@ -13,9 +13,9 @@ use Rattle.net_form.specs.declared.prices.Prices.{Prices}
 use Rattle.net_form.specs.declared.routes.Ends.{Ends}
 use Rattle.net_form.specs.declared.routes.Plan.{Plan}
 use Rattle.net_form.specs.Admitted.{strand_at}
-use Rattle.net_form.specs.Index.{first_layer}
 use Rattle.net_dual.specs.Paths.{Anywhere, IsLeastCost}
 use Rattle.net_dual.specs.Priced.{total, pay, edge_price}
+use Rattle.al_laws.specs.Parts.{layer_at}
 use Rattle.al_laws.specs.Settled.{is_at_entry, is_at_exit}
 
 -- ---- the ends of a group
@@ -43,10 +43,6 @@ group_ends net g p s =
     }
 
 -- ---- open places
-
--- layer l of the strand's block, where the layers of all blocks are counted together
-abbrev pub layer_at : Net → ℕ → ℕ → ℕ
-layer_at net s l = first_layer net.blocks (strand_at net s).block.0 + l
 
 abbrev pub mask_at : Net → ℕ → ℕ → ℕ
 mask_at net s l =
@@ -78,7 +74,8 @@ weight net least g p =
 abbrev pub Precedes : (Place → ℤ) → Place → Place → Type 0
 Precedes weight p q = (weight p <ℤ weight q) ⊎ ((weight p ≡ weight q) × (number p ≤ number q))
 
--- Each group has the open place of least weight: the sum, over the strands with an end in it, of the
+-- Each group has the open place of least weight: the sum, over the strands with an end in it, of
+-- the
 -- least priced cost of a path with these ends at the place and the other end free.
 pub record IsGreedy (net : Net) (w : Weights) (prices : Prices) (plan : Plan) : Type 0 where
   pub many : length plan.places ≡ net.groups

@@ -1,12 +1,17 @@
 -- A flow in two parts: the paths of some strands, and those of all others.
-use Rattle.std.specs.Prelude.{◌≡◌, ℕ, Bool, false, not, nat_eq, List, filter, slice_set}
+use Rattle.std.specs.Prelude.{◌≡◌, ℕ, ◌+◌, Bool, false, not, nat_eq, List, filter, slice_set}
 use Rattle.pra_base.specs.declared.ids.Place.{Place}
 use Rattle.net_form.specs.declared.net.Net.{Net}
 use Rattle.net_form.specs.declared.routes.Routes.{Routes}
 use Rattle.net_form.specs.Flow.{Edge, flow}
 use Rattle.net_form.specs.Admitted.{strand_at}
 use Rattle.net_form.specs.InUse.{AreApart}
+use Rattle.net_form.specs.Index.{first_layer}
 use Rattle.net_dual.specs.Paths.{Clear, path_in}
+
+-- layer l of the strand's block, where the layers of all blocks are counted together
+abbrev pub layer_at : Net → ℕ → ℕ → ℕ
+layer_at net s l = first_layer net.blocks (strand_at net s).block.0 + l
 
 -- the edges of the strands of which the test holds, and of the others
 abbrev pub part : Net → (ℕ → Bool) → Routes → List Edge

@@ -1,5 +1,5 @@
 -- Routes that no change of one strand, or of one variable, makes cheaper while all else stays.
-use Rattle.std.specs.Prelude.{◌≡◌, ℕ, ◌+◌, ◌-◌, ◌<◌, ◌≤◌, Bool, true, nat_eq, if◌then◌else◌}
+use Rattle.std.specs.Prelude.{◌≡◌, ◌⊎◌, ℕ, ◌+◌, ◌-◌, ◌<◌, ◌≤◌, Bool, true, nat_eq, if◌then◌else◌}
 use Rattle.std.specs.Prelude.{List, length, slice_get, slice_index_or, Some, None, is_some}
 use Rattle.std.specs.Prelude.{ℤ, ◌≤ℤ◌}
 use Rattle.std.specs.List.{range_with_len}
@@ -8,14 +8,16 @@ use Rattle.net_cost.specs.declared.weights.Weights.{Weights}
 use Rattle.net_form.specs.declared.net.Net.{Net}
 use Rattle.net_form.specs.declared.routes.Ends.{Ends}
 use Rattle.net_form.specs.declared.routes.Routes.{Routes}
-use Rattle.net_form.specs.Flow.{flow, AreRoutes}
+use Rattle.net_form.specs.Flow.{Edge, flow, AreRoutes}
 use Rattle.net_form.specs.Admitted.{strand_at, IsAdmitted}
 use Rattle.net_form.specs.Cost.{cost_of}
 use Rattle.net_form.specs.Formed.{no_block}
+use Rattle.net_form.specs.InUse.{pair_at, register_uses, pair_uses}
 use Rattle.net_form.specs.Rooms.{zero_prices}
 use Rattle.net_dual.specs.Paths.{IsPath, HasEnds, MayGo, path_price, path_in}
 use Rattle.net_dual.specs.Priced.{total, pay, edge_price}
-use Rattle.al_laws.specs.Parts.{ClearOf, rest, only_strand, of_variable, with_path, AgreeBut}
+use Rattle.al_laws.specs.Parts.{layer_at, ClearOf, rest, only_strand, of_variable, with_path}
+use Rattle.al_laws.specs.Parts.{AgreeBut}
 
 -- the strand begins at the entry of its block, and ends at the exit
 abbrev pub is_at_entry : Net → ℕ → Bool
@@ -93,3 +95,14 @@ NoneCheaper net w routes s =
     MayGo net (block_ends net routes s) (ClearOf net (rest net (only_strand s) routes)) s ps →
     path_price net (edge_price net w (zero_prices net)) s (path_in routes s) ≤ℤ
     path_price net (edge_price net w (zero_prices net)) s ps
+
+-- ---- what may have become cheaper
+
+-- of what strand s could use, nothing that the flow `was` used is free of the flow `now`
+pub record NothingFreed (net : Net) (s : ℕ) (was now : List Edge) : Type 0 where
+  pub registers : (l r : ℕ) → (strand_at net s).first ≤ l → l ≤ (strand_at net s).last →
+      register_uses net now (layer_at net s l) r ≡ 0 →
+      register_uses net was (layer_at net s l) r ≡ 0
+  pub pairs : (k : ℕ) → k < length net.pairs →
+      ((pair_at net k).left ≡ s) ⊎ ((pair_at net k).right ≡ s) → pair_uses net now k ≡ 0 →
+      pair_uses net was k ≡ 0

@@ -21,7 +21,7 @@ ghost use Rattle.al_laws.specs.Laid.{AreLaid, plan_ends};
 ghost use Rattle.al_laws.specs.Parts.{part, rest, only_strand, of_variable, with_path};
 ghost use Rattle.al_laws.specs.Parts.{AgreeBut, ClearOf};
 ghost use Rattle.al_laws.specs.Settled.{block_ends, tied_ends, NoneCheaper, NoneCheaperAt};
-ghost use Rattle.al_laws.specs.Settled.{IsStrandSettled, IsVariableSettled};
+ghost use Rattle.al_laws.specs.Settled.{IsStrandSettled, IsVariableSettled, NothingFreed};
 
 /// A flow has two parts, of some strands and of the others, and where it is admitted the one part
 /// uses nothing of the other.
@@ -92,4 +92,19 @@ pub fn strands_have_paths()
     ensures path { (net : Net) (s : ℕ) → IsBuilt net → s < length net.strands →
         (ps : List Place) × IsPath net s ps }
     ensures memory { (net : Net) (plan : Plan) (g : ℕ) → IsBuilt net → IsOpen net plan g Mem }
+{}
+
+/// A strand that has no cheaper way past the others has none after they change, if nothing that it
+/// could use came free; and so for a variable, whose strands are asked again only then.
+pub fn who_is_settled_stays_so()
+    ensures strand { (net : Net) (w : Weights) (routes new : Routes) (s : ℕ) →
+        path_in new s ≡ path_in routes s →
+        NothingFreed net s (rest net (only_strand s) routes) (rest net (only_strand s) new) →
+        NoneCheaper net w routes s → NoneCheaper net w new s }
+    ensures variable { (net : Net) (w : Weights) (routes new : Routes) (v : ℕ) (p : Place) →
+        ((s : ℕ) → s < length net.strands → of_variable net v s ≡ true →
+        path_in new s ≡ path_in routes s) →
+        ((s : ℕ) → s < length net.strands → of_variable net v s ≡ true → NothingFreed net s
+        (rest net (of_variable net v) routes) (rest net (of_variable net v) new)) →
+        NoneCheaperAt net w routes v p → NoneCheaperAt net w new v p }
 {}
