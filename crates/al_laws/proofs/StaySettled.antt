@@ -54,14 +54,16 @@ module _ (net : Net) (s : ℕ) (ps : List Place) (path : IsPath net s ps) where
           as (λ _. (register_uses net es n r ≡ 0) ⊎ (register_uses net was n r ≡ 0)) [
             | inl zero_ ↦ inl zero_
             | inr some ↦
-                let c = counted (uses_bundle net n r) es (some_of (register_uses net es n r) some) in
+                let c = counted (uses_bundle net n r) es (some_of (register_uses net es n r) some)
+                in
                 let e = get_or es c.at no_edge in
                 let o = of (uses_bundle net n r) c in
                 let long = path.long in
                 let before = o.before in
                 let layer : layer_at net s e.layer ≡ n = ap (λ k. first_layer net.blocks
                 (strand_at net k).block.0 + e.layer) (sym o.strand)
-                ∙ eqb-true (layer_of net e) n (and_parts (eqb (layer_of net e) n) (in_register r e.to)
+                ∙ eqb-true (layer_of net e) n
+                (and_parts (eqb (layer_of net e) n) (in_register r e.to)
                 (c.passes no_edge)).0 in
                 inr (subst (λ k. register_uses net was k r ≡ 0) layer
                 (freed.registers e.layer r o.after (omega (arith, before, long))
@@ -81,7 +83,8 @@ module _ (net : Net) (s : ℕ) (ps : List Place) (path : IsPath net s ps) where
           as (λ _. (pair_uses net es k ≡ 0) ⊎ (pair_uses net was k ≡ 0)) [
             | inl zero_ ↦ inl zero_
             | inr some ↦
-                let c = counted (uses_memory (pair_at net k)) es (some_of (pair_uses net es k) some) in
+                let c = counted (uses_memory (pair_at net k)) es (some_of (pair_uses net es k) some)
+                in
                 inr (freed.pairs k lt
                 (end_of k (get_or es c.at no_edge) (of (uses_memory (pair_at net k)) c).strand
                 (side_of (pair_at net k) (get_or es c.at no_edge) (c.passes no_edge))) none)

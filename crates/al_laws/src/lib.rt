@@ -10,8 +10,12 @@
 //! specs/ has the words of what is promised: routes are settled where no change of one strand or
 //! one variable makes them cheaper (Settled), laid where each path is least through what those
 //! before it left (Laid), a plan is greedy (Greedy), an order is that of falling prices (Order).
-//! `laws` has what shows them: a strand is settled where it has no cheaper way past the others, and
-//! a variable where at no place its strands have.
+//!
+//! `laws` has what shows them, and what a search for them may rely on. A strand is settled where it
+//! has no cheaper way past the others, and a variable where at no place its strands have; who is
+//! settled stays so until something that it could use comes free. What is laid for a plan with a
+//! place for each tie group is admitted. Each strand has a path, with any places of the masks at its
+//! ends, and memory is open to every group, so a plan finds a place and the costs that it asks for.
 #![tactic(auto)]
 
 pub mod laws;
