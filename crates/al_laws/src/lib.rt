@@ -14,8 +14,9 @@
 //! `laws` has what shows them, and what a search for them may rely on. A strand is settled where it
 //! has no cheaper way past the others, and a variable where at no place its strands have; who is
 //! settled stays so until something that it could use comes free. What is laid for a plan with a
-//! place for each tie group is admitted. Each strand has a path, with any places of the masks at its
-//! ends, and memory is open to every group, so a plan finds a place and the costs that it asks for.
+//! place for each tie group is admitted. Each strand has a path, also with any places of the masks
+//! at its ends, and memory is open to every group: so a plan finds a place, and the costs that it
+//! asks for.
 #![tactic(auto)]
 
 pub mod laws;
