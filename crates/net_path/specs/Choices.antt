@@ -1,0 +1,26 @@
+-- The choice of a place to come to.
+use Rattle.std.specs.Prelude.{◌≡◌, ℕ, ◌<◌, ℤ, ◌+ℤ◌, ◌≤ℤ◌, List, None, IsTrue}
+use Rattle.pra_base.specs.declared.ids.Place.{Place}
+use Rattle.pra_base.specs.Places.{number, place_count}
+use Rattle.net_path.specs.declared.path.Choice.{Choice}
+use Rattle.net_path.specs.Ways.{at}
+use Rattle.net_path.specs.Rests.{Terrain, IsBest}
+
+-- to come to this place, where the way costs so much and the row has what is paid from there on
+pub record IsChoice (way : ℕ → ℤ) (costs : List ℤ) (to : Place) (choice : Choice) : Type 0 where
+  pub place : choice.place ≡ to
+  pub is : choice.debt.cost ≡ way (number to) +ℤ at costs (number to)
+
+-- the best of the first n places, or as good
+pub record IsBestChoice (way : ℕ → ℤ) (costs : List ℤ) (n : ℕ) (choice : Choice) : Type 0 where
+  pub is : choice.debt.cost ≡ way (number choice.place) +ℤ at costs (number choice.place)
+  pub below : (k : ℕ) → k < n → choice.debt.cost ≤ℤ (way k +ℤ at costs k)
+
+pub record IsBestPlace (way : ℕ → ℤ) (costs : List ℤ) (to : Place) : Type 0 where
+  pub below : (k : ℕ) → k < place_count →
+      (way (number to) +ℤ at costs (number to)) ≤ℤ (way k +ℤ at costs k)
+
+-- a path may begin there, and none of the places is better
+pub record IsGoodStart (t : Terrain) (costs : List ℤ) (start : Place) : Type 0 where
+  pub comes : IsTrue (t.may_come 0 None start)
+  pub best : IsBest t 0 None costs (t.way 0 None start +ℤ at costs (number start))

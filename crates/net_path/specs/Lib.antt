@@ -1,0 +1,9 @@
+pub mod Cells
+pub mod Choices
+pub mod Desk
+pub mod Ends
+pub mod Grounds
+pub mod Rests
+pub mod Rows
+pub mod Ties
+pub mod Ways

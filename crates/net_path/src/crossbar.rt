@@ -1,0 +1,287 @@
+// Crossbars: what is to be paid before one, from what is to be paid behind it.
+//
+// A way costs no more than a move into a register and one into memory, and that for all registers
+// alike but the one where the value is. So there is no need to try each place with each: the least
+// of the six registers and of the six both places, memory and the constant itself say what it costs
+// to go on from a place to another register or out of registers, and beside that a value may stay
+// in its register.
+
+ghost use Rattle.std.specs.Prelude.{◌≡◌, ◌⊎◌, ◌≤ℤ◌, ◌+ℤ◌, ◌+◌, ◌≤◌, ◌<◌, ℕ, ℤ, List};
+ghost use Rattle.std.specs.Prelude.{slice_set};
+ghost use Rattle.net_path.specs.Ways.{at, IsLeastOf, IsLeastOfFour, AreBests, AreBestsWithin};
+ghost use Rattle.net_path.specs.Ways.{IsLeastWay, IsLeastElsewhere, AreWaysWithin, IsDebt};
+ghost use Rattle.net_path.specs.Ways.{AreDebts, step_price, IsBeforeCrossbar, IsOnward, IsShort};
+ghost use Rattle.net_path.specs.Ways.{IsFromAlone, IsFromBoth, IsFromMemory, IsFromConstant};
+
+/// What is to be paid from a place on: its priced cost, and a second sum that decides between equal
+/// costs.
+#[derive(Clone, Copy, Debug)]
+pub(crate) struct Debt {
+    pub cost: i64,
+    pub second: i64,
+}
+
+/// What is to be paid from each place on, by the places' numbers. The last two lanes are of no
+/// place.
+#[derive(Clone, Copy, Debug)]
+pub(crate) struct Row {
+    pub costs: [i64; 16],
+    pub seconds: [i64; 16],
+}
+
+/// What a move costs from a register to another, out of memory into a register, from a register
+/// into memory, and of a constant into a register.
+#[derive(Clone, Copy, Debug)]
+pub(crate) struct Ways {
+    pub between: i64,
+    pub load: i64,
+    pub store: i64,
+    pub set: i64,
+}
+
+/// The least of the six registers alone and of the six both places, memory, and the constant
+/// itself.
+#[derive(Clone, Copy, Debug)]
+pub(crate) struct Bests {
+    pub alone: Debt,
+    pub both: Debt,
+    pub memory: Debt,
+    pub constant: Debt,
+}
+
+/// What it costs to go to another register alone, to another both place, to memory, and to leave a
+/// constant to itself.
+#[derive(Clone, Copy, Debug)]
+pub(crate) struct Onward {
+    pub alone: i64,
+    pub both: i64,
+    pub memory: i64,
+    pub constant: i64,
+}
+
+// The lesser of two debts.
+pub(crate) fn lesser(one: Debt, other: Debt) -> Debt
+    ensures one { result.cost ≤ℤ one.cost }
+    ensures other { result.cost ≤ℤ other.cost }
+    ensures met { (result.cost ≡ one.cost) ⊎ (result.cost ≡ other.cost) }
+{
+    if other.cost < one.cost || (other.cost == one.cost && other.second < one.second) {
+        other
+    } else {
+        one
+    }
+}
+
+// The debt and a way before it.
+pub(crate) fn with_way(debt: Debt, way: i64) -> Debt
+    requires debt { IsDebt debt.cost }
+    requires way { IsShort way }
+    ensures { result.cost ≡ way +ℤ debt.cost }
+{
+    Debt {
+        cost: way + debt.cost,
+        second: debt.second,
+    }
+}
+
+pub(crate) fn debt_at(row: &Row, place: usize) -> Debt
+    requires { place < 16 }
+    ensures { result.cost ≡ at row.now.costs place }
+{
+    Debt {
+        cost: row.costs[place],
+        second: row.seconds[place],
+    }
+}
+
+// The least of the six debts from a place on.
+fn least_of_six(row: &Row, from: usize) -> Debt
+    requires { from + 6 ≤ 16 }
+    ensures { IsLeastOf row.now.costs from 6 result.cost }
+{
+    let mut least = debt_at(row, from);
+    for k in 1..6usize {
+        least = lesser(least, debt_at(row, from + k));
+    }
+    least
+}
+
+fn least_of_four(first: Debt, second: Debt, third: Debt, fourth: Debt) -> Debt
+    ensures { IsLeastOfFour first.cost second.cost third.cost fourth.cost result.cost }
+{
+    let one = lesser(first, second);
+    let other = lesser(third, fourth);
+    lesser(one, other)
+}
+
+fn bests_of(row: &Row) -> Bests
+    requires { AreDebts row.now.costs }
+    ensures are { AreBests row.now.costs result }
+    ensures within { AreBestsWithin result }
+{
+    Bests {
+        alone: least_of_six(row, 0),
+        both: least_of_six(row, 8),
+        memory: debt_at(row, 6),
+        constant: debt_at(row, 7),
+    }
+}
+
+// What it costs to go on to another register, or out of registers.
+fn going_on(bests: &Bests, by: Onward) -> Debt
+    requires bests { AreBestsWithin bests.now }
+    requires by { IsOnward by }
+    ensures { IsLeastOfFour (by.alone +ℤ bests.now.alone.cost) (by.both +ℤ bests.now.both.cost)
+        (by.memory +ℤ bests.now.memory.cost) (by.constant +ℤ bests.now.constant.cost)
+        result.cost }
+{
+    least_of_four(
+        with_way(bests.alone, by.alone),
+        with_way(bests.both, by.both),
+        with_way(bests.memory, by.memory),
+        with_way(bests.constant, by.constant),
+    )
+}
+
+fn from_alone(ways: &Ways) -> Onward
+    requires { AreWaysWithin ways.now }
+    ensures is { IsFromAlone ways.now result }
+    ensures within { IsOnward result }
+{
+    Onward {
+        alone: ways.between,
+        both: ways.between + ways.store,
+        memory: ways.store,
+        constant: 0,
+    }
+}
+
+fn from_both(ways: &Ways) -> Onward
+    requires { AreWaysWithin ways.now }
+    ensures is { IsFromBoth ways.now result }
+    ensures within { IsOnward result }
+{
+    Onward {
+        alone: ways.between,
+        both: ways.between,
+        memory: 0,
+        constant: 0,
+    }
+}
+
+fn from_memory(ways: &Ways) -> Onward
+    requires { AreWaysWithin ways.now }
+    ensures is { IsFromMemory ways.now result }
+    ensures within { IsOnward result }
+{
+    Onward {
+        alone: ways.load,
+        both: ways.load,
+        memory: 0,
+        constant: 0,
+    }
+}
+
+fn from_constant(ways: &Ways) -> Onward
+    requires { AreWaysWithin ways.now }
+    ensures is { IsFromConstant ways.now result }
+    ensures within { IsOnward result }
+{
+    Onward {
+        alone: ways.set,
+        both: ways.set + ways.store,
+        memory: ways.store,
+        constant: 0,
+    }
+}
+
+// From a register alone, not to that register.
+fn elsewhere_from_alone(ways: &Ways, bests: &Bests) -> Debt
+    requires ways { AreWaysWithin ways.now }
+    requires bests { AreBestsWithin bests.now }
+    ensures { (costs : List ℤ) (r : ℕ) → AreBests costs bests.now → r < 6 →
+        IsLeastElsewhere (step_price ways.now r) r costs result.cost }
+{
+    going_on(bests, from_alone(ways))
+}
+
+// From a both place, not to its register.
+fn elsewhere_from_both(ways: &Ways, bests: &Bests) -> Debt
+    requires ways { AreWaysWithin ways.now }
+    requires bests { AreBestsWithin bests.now }
+    ensures { (costs : List ℤ) (r : ℕ) → AreBests costs bests.now → r < 6 →
+        IsLeastElsewhere (step_price ways.now (8 + r)) r costs result.cost }
+{
+    going_on(bests, from_both(ways))
+}
+
+// From memory, to any place.
+fn debt_in_memory(ways: &Ways, bests: &Bests) -> Debt
+    requires ways { AreWaysWithin ways.now }
+    requires bests { AreBestsWithin bests.now }
+    ensures { (costs : List ℤ) → AreBests costs bests.now →
+        IsLeastWay (step_price ways.now 6) costs result.cost }
+{
+    going_on(bests, from_memory(ways))
+}
+
+// From a constant that is nowhere, to any place.
+fn debt_nowhere(ways: &Ways, bests: &Bests) -> Debt
+    requires ways { AreWaysWithin ways.now }
+    requires bests { AreBestsWithin bests.now }
+    ensures { (costs : List ℤ) → AreBests costs bests.now →
+        IsLeastWay (step_price ways.now 7) costs result.cost }
+{
+    going_on(bests, from_constant(ways))
+}
+
+// From register r alone: it goes elsewhere, stays, or is stored and stays.
+fn debt_alone(ways: &Ways, row: &Row, r: usize, elsewhere: Debt) -> Debt
+    requires ways { AreWaysWithin ways.now }
+    requires row { AreDebts row.now.costs }
+    requires register { r < 6 }
+    requires elsewhere { IsLeastElsewhere (step_price ways.now r) r row.now.costs elsewhere.cost }
+    ensures { IsLeastWay (step_price ways.now r) row.now.costs result.cost }
+{
+    let stored = with_way(debt_at(row, 8 + r), ways.store);
+    lesser(elsewhere, lesser(debt_at(row, r), stored))
+}
+
+// From the both place of register r: it goes elsewhere, or stays, in both or in the register alone.
+fn debt_in_both(ways: &Ways, row: &Row, r: usize, elsewhere: Debt) -> Debt
+    requires ways { AreWaysWithin ways.now }
+    requires row { AreDebts row.now.costs }
+    requires register { r < 6 }
+    requires elsewhere { IsLeastElsewhere (step_price ways.now (8 + r)) r row.now.costs
+        elsewhere.cost }
+    ensures { IsLeastWay (step_price ways.now (8 + r)) row.now.costs result.cost }
+{
+    lesser(elsewhere, lesser(debt_at(row, 8 + r), debt_at(row, r)))
+}
+
+fn put_debt(row: &mut Row, place: usize, debt: Debt)
+    requires { place < 16 }
+    ensures { row.new.costs ≡ slice_set row.old.costs place debt.cost }
+{
+    row.costs[place] = debt.cost;
+    row.seconds[place] = debt.second;
+}
+
+/// What is to be paid before a crossbar, from what is to be paid behind it.
+pub(crate) fn before_crossbar(ways: &Ways, behind: &Row) -> Row
+    requires ways { AreWaysWithin ways.now }
+    requires behind { AreDebts behind.now.costs }
+    ensures { IsBeforeCrossbar ways.now behind.now.costs result.costs }
+{
+    let bests = bests_of(behind);
+    let alone = elsewhere_from_alone(ways, &bests);
+    let both = elsewhere_from_both(ways, &bests);
+    let mut before = *behind;
+    for r in 0..6usize {
+        put_debt(&mut before, r, debt_alone(ways, behind, r, alone));
+        put_debt(&mut before, 8 + r, debt_in_both(ways, behind, r, both));
+    }
+    put_debt(&mut before, 6, debt_in_memory(ways, &bests));
+    put_debt(&mut before, 7, debt_nowhere(ways, &bests));
+    before
+}

@@ -1,0 +1,93 @@
+// A family of least paths, one for each strand.
+
+ghost use Rattle.std.specs.Prelude.{◌≡◌, ◌≢◌, ◌≤◌, ◌<◌, ℕ, [], length, slice_index_or};
+ghost use Rattle.net_cost.specs.Models.{Keeps, weights_of};
+ghost use Rattle.net_form.specs.Admitted.{strand_at};
+ghost use Rattle.net_form.specs.InUse.{StandsFor};
+ghost use Rattle.net_form.specs.Rooms.{IsRoomOf};
+ghost use Rattle.net_laws.specs.Built.{IsBuilt};
+ghost use Rattle.net_dual.specs.Priced.{AreInRange, edge_price};
+ghost use Rattle.net_dual.specs.Paths.{IsLeast, Anywhere, any_ends, path_price, path_in};
+ghost use Rattle.net_path.specs.Desk.{IsReservedFor, HasSizes};
+
+use crate::crossbar::Row;
+use crate::search::search_front;
+use crate::work::{Work, keep_path};
+use net_cost::{CostModel, Event};
+use net_form::{Ends, Net, Prices, Routes, Taken};
+use pra_base::Place;
+use std::alloc::Global;
+
+// The same, with the parts of the room.
+fn renew_parts<F: Fn(Event, u32) -> u32>(
+    net: &Net,
+    model: &CostModel<F>,
+    prices: &Prices,
+    strand: usize,
+    free: &Taken,
+    rows: &mut [Row],
+    path: &mut [Place],
+    alloc: Global,
+    family: &mut Routes,
+) -> i64
+    requires kept { Keeps F.Fn model.now }
+    requires net { IsBuilt net.now }
+    requires prices { AreInRange net.now prices.now }
+    requires strand { strand < length net.now.strands }
+    requires room { IsRoomOf net.now free.now }
+    requires free { StandsFor net.now free.now [] }
+    requires rows { length (strand_at net.now strand).masks ≤ length rows.old }
+    requires path { length (strand_at net.now strand).masks ≤ length path.old }
+    requires family { HasSizes net.now family.old }
+    ensures least { IsLeast net.now
+        (edge_price net.now (weights_of model.now) prices.now) any_ends Anywhere strand
+        (path_in family.new strand) }
+    ensures cost { result ≡
+        path_price net.now (edge_price net.now (weights_of model.now) prices.now) strand
+        (path_in family.new strand) }
+    ensures others { (s : ℕ) → s ≢ strand → path_in family.new s ≡ path_in family.old s }
+    ensures sizes { HasSizes net.now family.new }
+{
+    let layers = net.strands[strand].masks.len();
+    let ends = Ends {
+        first: None,
+        last: None,
+    };
+    match search_front(net, model, prices, strand, ends, free, layers, rows, path) {
+        Err(_) => 0,
+        Ok(cost) => {
+            keep_path(alloc, family, strand, &path[..layers]);
+            cost
+        }
+    }
+}
+
+/// Finds a least path of a strand, wherever it begins and ends and whatever is in use, and puts it
+/// into the family of the room. Its priced cost is answered, in units of 1/1024. It takes no
+/// memory.
+pub fn renew<F: Fn(Event, u32) -> u32>(
+    work: &mut Work,
+    net: &Net,
+    model: &CostModel<F>,
+    prices: &Prices,
+    strand: u32,
+) -> i64
+    requires kept { Keeps F.Fn model.now }
+    requires net { IsBuilt net.now }
+    requires work { IsReservedFor net.now work.old }
+    requires prices { AreInRange net.now prices.now }
+    requires strand { strand < length net.now.strands }
+    ensures least { IsLeast net.now
+        (edge_price net.now (weights_of model.now) prices.now) any_ends Anywhere strand
+        (path_in work.new.family strand) }
+    ensures cost { result ≡
+        path_price net.now (edge_price net.now (weights_of model.now) prices.now) strand
+        (path_in work.new.family strand) }
+    ensures others { (s : ℕ) → s ≢ strand →
+        path_in work.new.family s ≡ path_in work.old.family s }
+    ensures reserved { IsReservedFor net.now work.new }
+{
+    let (rows, path) = (&mut work.rows, &mut work.path);
+    let (free, family) = (&work.free, &mut work.family);
+    renew_parts(net, model, prices, strand as usize, free, rows, path, work.alloc, family)
+}

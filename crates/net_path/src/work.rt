@@ -1,0 +1,112 @@
+// Room to work in.
+
+ghost use Rattle.std.specs.Prelude.{◌≡◌, ◌≤◌, ◌<◌, ℕ, [], length, IfOk, slice_index_or, slice_set};
+ghost use Rattle.net_form.specs.Admitted.{strand_at};
+ghost use Rattle.net_form.specs.Rooms.{some_routes};
+
+use crate::crossbar::Row;
+use net_cost::{CostModel, Event};
+use net_form::{Net, Routes, Taken};
+use std::mem;
+use pra_base::{OutOfMemory, Place};
+use pra_list::Seq;
+use std::alloc::Global;
+
+/// Room for the rows and the path of one strand at a time, and for a family of paths, one for each
+/// strand. Of edges it keeps nothing.
+#[derive(Drop)]
+pub struct Work {
+    pub(crate) rows: Vec<Row>,
+    pub(crate) path: Vec<Place>,
+    pub(crate) count: usize,
+    pub(crate) family: Routes,
+    pub(crate) free: Taken,
+    pub(crate) alloc: Global,
+    ghost as_long: { length path.items ≡ length rows.items },
+    ghost within: { count ≤ length path.items },
+}
+
+// The layers of the longest strand.
+fn longest(net: &Net) -> usize
+    ensures { (s : ℕ) → s < length net.now.strands →
+        length (strand_at net.now s).masks ≤ result }
+{
+    let mut most = 0usize;
+    for strand in net.strands.as_slice() {
+        most = most.max(strand.masks.len());
+    }
+    most
+}
+
+// Some place for each layer of each strand.
+fn some_routes(alloc: Global, net: &Net) -> Result<Routes, OutOfMemory>
+    ensures { IfOk result (λ routes. routes ≡ some_routes net.now) }
+{
+    let mut places = Vec::with_capacity(alloc, net.strands.len())?;
+    for strand in net.strands.as_slice() {
+        places.push(Seq::from_vec(vec![in alloc; Place::Eax; strand.masks.len()]?))?;
+    }
+    Ok(Routes {
+        places: Seq::from_vec(places),
+    })
+}
+
+/// Puts a path into a family, in its own memory.
+pub(crate) fn keep_path(alloc: Global, family: &mut Routes, strand: usize, path: &[Place])
+    requires strand { strand < length family.old.places }
+    requires path { length path.now ≡ length (slice_index_or family.old.places strand []) }
+    ensures { family.new.places ≡ slice_set family.old.places strand path.now }
+{
+    let empty = Routes {
+        places: Seq::new(alloc),
+    };
+    let kept = mem::replace(family, empty);
+    let mut places = kept.places.into_vec();
+    places[strand].overwrite(path);
+    family.places = Seq::from_vec(places);
+}
+
+impl Work {
+    ghost use Rattle.net_path.specs.Desk.{path_of, IsReservedFor};
+
+    /// The path that `least` found last.
+    pub fn path(&self) -> &[Place]
+        ensures { result.now ≡ path_of self.now }
+    {
+        &self.path[..self.count]
+    }
+
+    /// The family that was left last.
+    pub fn family(&self) -> &Routes
+        ensures { result.now ≡ self.now.family }
+    {
+        &self.family
+    }
+
+    /// Room for the strands of a network.
+    ///
+    /// # Errors
+    ///
+    /// Where there is no memory for it.
+    pub fn reserve<F: Fn(Event, u32) -> u32>(
+        alloc: Global,
+        net: &Net,
+        _model: &CostModel<F>,
+    ) -> Result<Work, OutOfMemory>
+        ensures { IfOk result (IsReservedFor net.now) }
+    {
+        let most = longest(net);
+        let empty = Row {
+            costs: [0; 16],
+            seconds: [0; 16],
+        };
+        Ok(Work {
+            rows: vec![in alloc; empty; most]?,
+            path: vec![in alloc; Place::Eax; most]?,
+            count: 0,
+            family: some_routes(alloc, net)?,
+            free: Taken::empty(alloc, net)?,
+            alloc,
+        })
+    }
+}

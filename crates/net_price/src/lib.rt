@@ -1,0 +1,6 @@
+//! What a network is worth at prices, and how prices follow a family of least paths.
+#![tactic(auto)]
+
+mod value;
+
+pub use value::lagrange;
