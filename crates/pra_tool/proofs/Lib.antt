@@ -3,6 +3,10 @@ mod WriteEnds
 mod ModeAnswers
 mod InputWords
 mod Sources
-mod BothModes
+mod CompilingModes
+mod ListingModes
+mod ListingEnds
+mod RoundTrip
+mod AllModes
 mod WordsEnds
 mod CompiledEnds

@@ -10,7 +10,7 @@ use Rattle.pra_tool.specs.declared.status.Status.TheVariants.{BadWords, NoMemory
 use Rattle.pra_tool.specs.Outside.{Seen, Refused, Untouched}
 use Rattle.pra_tool.specs.Clause.{mode_of, Promise}
 use Rattle.pra_tool.proofs.ModeAnswers.{no_memory}
-use Rattle.pra_tool.proofs.BothModes.{both_are_modes}
+use Rattle.pra_tool.proofs.AllModes.{all_are_modes, leaves_all}
 
 -- memory was wanting before anything was read
 no_words : (asked : Result Asked WordsFault) (old new : Seen) (s : Status) → s ≡ NoMemory →
@@ -18,7 +18,8 @@ no_words : (asked : Result Asked WordsFault) (old new : Seen) (s : Status) → s
 no_words (Err fault) old new s is left =
     record { known = inr is; told = λ e. absurd cc; memory = λ e. left }
 no_words (Ok asked) old new s is left =
-    no_memory (mode_of asked) (both_are_modes asked.mode asked) asked.file old new s is left
+    no_memory (mode_of asked) (all_are_modes asked.mode asked) asked.file old new s is
+    (leaves_all asked.mode asked old new left)
 
 pub refused_words : (asked : Result Asked WordsFault) (fault : WordsFault) (old new : Seen)
     (s : Status) → (fault ≢ words.OutOfMemory → asked ≡ Err fault) →

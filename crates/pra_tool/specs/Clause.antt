@@ -11,7 +11,7 @@ use Rattle.ob_read.specs.Source.{ReadText, IsRead, IsUnreadable}
 use Rattle.pra_compile.specs.declared.output.Compiled.{Compiled}
 use Rattle.pra_report.specs.Texts.{output_text}
 use Rattle.pra_words.specs.declared.words.Mode.{Mode as Word}
-use Rattle.pra_words.specs.declared.words.Mode.TheVariants.{Run, Compile}
+use Rattle.pra_words.specs.declared.words.Mode.TheVariants as word
 use Rattle.pra_words.specs.declared.words.WordsFault.{WordsFault}
 use Rattle.pra_words.specs.Texts.{words_lines}
 use Rattle.pra_words.specs.Words.{Asked}
@@ -26,6 +26,9 @@ use Rattle.pra_tool.specs.Texts.{ending_line, procedure_lines, code_line, fault_
 use Rattle.pra_tool.specs.Outside.{Seen, Refused, Untouched}
 use Rattle.pra_tool.specs.Writes.{FileText, Writes}
 use Rattle.pra_tool.specs.Modes.{Kind, Mode, Answers}
+use Rattle.pra_tool.specs.Listings.{IsTextOf, images, listings, ListMakes}
+use Rattle.pra_tool.specs.declared.tool.Then.{Then}
+use Rattle.pra_tool.specs.declared.tool.Then.TheVariants.{Run, Write}
 
 -- ---- what is written
 
@@ -34,8 +37,11 @@ abbrev pub run_of : Image → List ℤ → ℕ → RunOut
 run_of image input steps = machine_run image input steps
 
 -- the one file that is written
+abbrev pub one_file : List ℕ → List ℕ → List FileText
+one_file name bytes = record { name = name; bytes = bytes } ∷ []
+
 abbrev pub image_file : List ℕ → Image → List FileText
-image_file name image = record { name = name; bytes = image_bytes_of image } ∷ []
+image_file name image = one_file name (image_bytes_of image)
 
 -- what `run` writes: the image, the output of its run within the steps, and as notes the report and
 -- the run's ending line
@@ -75,6 +81,23 @@ pub record CompileMakes (asked : Asked) (source input : List ℕ) (w : Writes) (
   pub writes : w ≡ compile_writes asked compiled
   pub done : s ≡ Ended
 
+-- what `asm` writes: the image
+abbrev pub asm_writes : Asked → Image → Writes
+asm_writes asked image = record {
+  files = image_file asked.image image;
+  out = [];
+  notes = [];
+}
+
+-- What `asm` makes of a text; the input, which it does not read, counts as empty.
+pub record AsmMakes (asked : Asked) (text input : List ℕ) (w : Writes) (s : Status)
+    : Type 0 where
+  pub image : Image
+  pub listed : IsTextOf text image
+  pub no_input : input ≡ []
+  pub writes : w ≡ asm_writes asked image
+  pub done : s ≡ Ended
+
 -- ---- what is refused
 
 -- the status of a source that is not compiled
@@ -105,24 +128,57 @@ inputs = record {
 
 -- ---- the modes
 
-abbrev pub makes : Word → Asked → List ℕ → List ℕ → Writes → Status → Type 0
+abbrev pub makes : Then → Asked → List ℕ → List ℕ → Writes → Status → Type 0
 makes Run = RunMakes
-makes Compile = CompileMakes
+makes Write = CompileMakes
 
-abbrev pub reads_input : Word → Bool
-reads_input Run = true
-reads_input Compile = false
+abbrev pub is_run : Then → Bool
+is_run Run = true
+is_run Write = false
 
--- the mode of this word
-abbrev pub mode_by : Word → Asked → Mode
-mode_by word asked = record {
+-- FILE is a source, which is compiled, and then this is done
+abbrev pub compiling : Then → Asked → Mode
+compiling next asked = record {
   source = sources;
   input = inputs;
-  reads_input = reads_input word;
-  Makes = makes word asked;
+  reads_input = is_run next;
+  Makes = makes next asked;
   files = asked.image ∷ [];
   Leaves = Untouched;
 }
+
+-- FILE is an image, which is listed
+abbrev pub listing : Mode
+listing = record {
+  source = images;
+  input = inputs;
+  reads_input = false;
+  Makes = ListMakes;
+  files = [];
+  Leaves = Untouched;
+}
+
+-- FILE is the text of an image, which is assembled
+abbrev pub assembling : Asked → Mode
+assembling asked = record {
+  source = listings;
+  input = inputs;
+  reads_input = false;
+  Makes = AsmMakes asked;
+  files = asked.image ∷ [];
+  Leaves = Untouched;
+}
+
+-- the mode of this word
+abbrev pub mode_by : Word → Asked → Mode
+mode_by word.Run asked = compiling Run asked
+mode_by word.Compile asked = compiling Write asked
+mode_by word.List asked = listing
+mode_by word.Asm asked = assembling asked
+
+abbrev pub reads_input : Word → Bool
+reads_input word.Run = true
+reads_input mode = false
 
 -- the mode that is asked for
 abbrev pub mode_of : Asked → Mode

@@ -6,5 +6,6 @@ pub mod Modes
 pub mod Inputs
 pub mod Ends
 pub mod Texts
+pub mod Listings
 pub mod Clause
 pub mod Reports

@@ -19,6 +19,12 @@ use Rattle.pra_tool.specs.declared.input.WrongInput.{WrongInput}
 use Rattle.pra_tool.specs.declared.input.WrongInput.TheVariants.{TooLong, NoWord}
 use Rattle.ob_read.specs.declared.fault.ReadFault.{ReadFault}
 use Rattle.ob_read.specs.declared.fault.ReadFault.TheVariants.{Source, Limit, OutOfMemory}
+use Rattle.ia_asm.specs.declared.image_file.Field.{Field}
+use Rattle.ia_asm.specs.declared.image_file.Field.TheVariants as field
+use Rattle.pra_tool.specs.declared.listing.Unlisted.{Unlisted}
+use Rattle.pra_tool.specs.declared.listing.Unlisted.TheVariants as unlisted
+use Rattle.pra_tool.specs.declared.listing.Unassembled.{Unassembled}
+use Rattle.pra_tool.specs.declared.listing.Unassembled.TheVariants as unassembled
 
 abbrev pub trap_name : TrapKind → List ℕ
 trap_name trap.Index = codes "Index"
@@ -66,10 +72,13 @@ lexical_line lex.OutOfMemory = []
 abbrev pub place_text : ℕ → ℕ → List ℕ
 place_text token at = decimal token ++ codes " at " ++ decimal at ++ codes "\n"
 
--- how much there is, and how much there may be
+-- of what there is too much, how much there is, and how much there may be
+abbrev pub over_line : List ℕ → ℕ → ℕ → List ℕ
+over_line name count maximum = codes "limit " ++ name ++ codes " count " ++ decimal count ++
+    codes " maximum " ++ decimal maximum ++ codes "\n"
+
 abbrev pub count_line : LimitKind → ℕ → List ℕ
-count_line kind count = codes "limit " ++ limit_name kind ++ codes " count " ++ decimal count ++
-    codes " maximum " ++ decimal (limit_maximum kind) ++ codes "\n"
+count_line kind count = over_line (limit_name kind) count (limit_maximum kind)
 
 abbrev pub fault_line : ReadFault → List ℕ
 fault_line (Source (Lex f)) = lexical_line f
@@ -85,3 +94,29 @@ fault_line OutOfMemory = []
 abbrev pub input_line : WrongInput → List ℕ
 input_line TooLong = count_line limit.Input 1048577
 input_line (NoWord at) = codes "fault input at " ++ decimal at ++ codes "\n"
+
+-- ---- what is wrong with an image that is to be listed
+
+-- the name of a field
+abbrev pub field_name : Field → List ℕ
+field_name field.Length = codes "Length"
+field_name field.Magic = codes "Magic"
+field_name field.Version = codes "Version"
+field_name field.CodeLength = codes "CodeLength"
+field_name field.DataWords = codes "DataWords"
+
+abbrev pub unlisted_line : Unlisted → List ℕ
+unlisted_line unlisted.TooLong = over_line (codes "image") 41943057 41943056
+unlisted_line (unlisted.Broken broken at) =
+    codes "fault image " ++ field_name broken ++ codes " at " ++ decimal at ++ codes "\n"
+unlisted_line (unlisted.Code at) = codes "fault code at " ++ decimal at ++ codes "\n"
+unlisted_line (unlisted.LongText count) = over_line (codes "listing") count 67108864
+unlisted_line unlisted.OutOfMemory = []
+
+-- ---- what is wrong with a text that is to be assembled
+
+abbrev pub unassembled_line : Unassembled → List ℕ
+unassembled_line unassembled.TooLong = over_line (codes "listing") 67108865 67108864
+unassembled_line (unassembled.Line number) = codes "fault line " ++ decimal number ++ codes "\n"
+unassembled_line unassembled.Empty = codes "fault empty\n"
+unassembled_line unassembled.OutOfMemory = []

@@ -9,6 +9,8 @@ ghost use Rattle.pra_tool.specs.Outside.{NoneFell, Told};
 ghost use Rattle.pra_tool.specs.Writes.{AreDifferent, FilesWritten, Wrote, stop_status};
 ghost use Rattle.pra_tool.specs.Reports.{file_text, writes_of};
 ghost use Rattle.pra_tool.specs.Clause.{image_file, run_of, run_writes, compile_writes};
+ghost use Rattle.pra_tool.specs.Clause.{asm_writes};
+ghost use Rattle.pra_tool.specs.Listings.{list_writes};
 ghost use Rattle.pra_tool.specs.Ends.{NeverFaults};
 ghost use Rattle.vc_stmt.specs.Completes.{are_words};
 
@@ -91,6 +93,39 @@ pub(crate) fn compile_report<'a>(
     Ok(Report {
         files,
         out,
+        notes: Vec::new(alloc),
+        status: Status::Ended,
+    })
+}
+
+/// Takes the text of an image.
+pub(crate) fn list_report<'a>(alloc: Global, text: Vec<u8>) -> Report<'a>
+    ensures writes { writes_of result ≡ list_writes text.items }
+    ensures done { result.status ≡ Status.Ended }
+{
+    Report {
+        files: Vec::new(alloc),
+        out: text,
+        notes: Vec::new(alloc),
+        status: Status::Ended,
+    }
+}
+
+/// Makes the file of an image that was assembled.
+pub(crate) fn asm_report<'a>(
+    alloc: Global,
+    request: &Request<'a>,
+    image: &Image,
+) -> Result<Report<'a>, OutOfMemory>
+    requires { IsImage image.now }
+    ensures writes { IfOk result (λ r.
+        writes_of r ≡ asm_writes (asked_by request.now) image.now) }
+    ensures done { IfOk result (λ r. r.status ≡ Status.Ended) }
+{
+    let files = image_file(alloc, request, image)?;
+    Ok(Report {
+        files,
+        out: Vec::new(alloc),
         notes: Vec::new(alloc),
         status: Status::Ended,
     })

@@ -8,15 +8,15 @@ use ia_step::Ending;
 /// How a call ends.
 #[derive(Clone, Copy, Debug, PartialEq, Eq, Drop)]
 pub enum Status {
-    /// The image ended within the steps, or was made without a run.
+    /// The image ended within the steps, or all was done without a run.
     Ended,
     /// The image trapped.
     Trapped,
     /// The image is still going after the steps.
     Going,
-    /// The source is no module, or none that is compiled.
+    /// FILE is not what its mode reads: no module that is compiled, no image or no text of one.
     BadSource,
-    /// The source goes beyond a limit.
+    /// FILE, the input or what is made of FILE goes beyond a limit.
     OverLimit,
     /// Something was not read or not written.
     Fault,

@@ -4,9 +4,13 @@ ghost use Rattle.std.specs.Prelude.{◌≡◌, ◌≤◌, ◌++◌, codes, lengt
 ghost use Rattle.std.specs.Fmt.{decimal};
 ghost use Rattle.pra_tool.specs.Texts.{ending_words};
 ghost use Rattle.pra_tool.specs.Texts.{ending_line, procedure_lines, code_line, lexical_line};
-ghost use Rattle.pra_tool.specs.Texts.{place_text, count_line, fault_line, input_line};
+ghost use Rattle.pra_tool.specs.Texts.{place_text, over_line, count_line, fault_line, input_line};
+ghost use Rattle.pra_tool.specs.Texts.{field_name, unlisted_line, unassembled_line};
 
 use crate::input::WrongInput;
+use crate::listing::{MAX_IMAGE, Unassembled, Unlisted};
+use ia_asm::Field;
+use ia_list::MAX_TEXT_BYTES;
 use ia_step::{Ending, RunOut};
 use ob_lex::LexFault;
 use ob_read::{LimitFault, ReadFault, SourceFault};
@@ -131,8 +135,12 @@ fn lexical_line(alloc: Global, fault: LexFault) -> Result<String, AllocError>
 fn count_line(alloc: Global, kind: LimitKind, count: u64) -> Result<String, AllocError>
     ensures { IfOk result (λ line. string_bytes line ≡ count_line kind count) }
 {
-    let name = kind.name();
-    let maximum = kind.maximum();
+    over_line(alloc, kind.name(), count, kind.maximum() as u64)
+}
+
+fn over_line(alloc: Global, name: &str, count: u64, maximum: u64) -> Result<String, AllocError>
+    ensures { IfOk result (λ line. string_bytes line ≡ over_line name.now count maximum) }
+{
     let line = format!(in alloc; "limit {name} count {count} maximum {maximum}\n")?;
     Ok(line)
 }
@@ -150,4 +158,65 @@ fn rule_line(alloc: Global, rule: u8, token: u32, at: u32) -> Result<String, All
 {
     let words = format!(in alloc; "fault rule {rule} token ")?;
     place_line(alloc, words.as_str(), token, at)
+}
+
+/// The line that tells why an image's file is not listed.
+///
+/// # Errors
+///
+/// Where there is no memory for the line.
+pub fn unlisted_line(alloc: Global, fault: Unlisted) -> Result<String, AllocError>
+    ensures { IfOk result (λ line. string_bytes line ≡ unlisted_line fault) }
+{
+    match fault {
+        Unlisted::TooLong => { over_line(alloc, "image", MAX_IMAGE as u64 + 1, MAX_IMAGE as u64) }
+        Unlisted::Broken(field, at) => field_line(alloc, field, at),
+        Unlisted::Code(at) => format!(in alloc; "fault code at {at}\n"),
+        Unlisted::LongText(count) => { over_line(alloc, "listing", count, MAX_TEXT_BYTES as u64) }
+        Unlisted::OutOfMemory => Ok(String::new(alloc)),
+    }
+}
+
+fn field_line(alloc: Global, field: Field, at: u32) -> Result<String, AllocError>
+    ensures { IfOk result (λ line. string_bytes line
+        ≡ codes "fault image " ++ field_name field ++ codes " at " ++ decimal at ++ codes "\n") }
+{
+    let name = field_name(field);
+    let line = format!(in alloc; "fault image {name} at {at}\n")?;
+    Ok(line)
+}
+
+fn field_name(field: Field) -> &'static str
+    ensures { result.now ≡ field_name field }
+{
+    match field {
+        Field::Length => "Length",
+        Field::Magic => "Magic",
+        Field::Version => "Version",
+        Field::CodeLength => "CodeLength",
+        Field::DataWords => "DataWords",
+    }
+}
+
+/// The line that tells why a text is not assembled.
+///
+/// # Errors
+///
+/// Where there is no memory for the line.
+pub fn unassembled_line(alloc: Global, fault: Unassembled) -> Result<String, AllocError>
+    ensures { IfOk result (λ line. string_bytes line ≡ unassembled_line fault) }
+{
+    match fault {
+        Unassembled::TooLong => {
+            over_line(
+                alloc,
+                "listing",
+                MAX_TEXT_BYTES as u64 + 1,
+                MAX_TEXT_BYTES as u64,
+            )
+        }
+        Unassembled::Line(number) => format!(in alloc; "fault line {number}\n"),
+        Unassembled::Empty => String::from_str(alloc, "fault empty\n"),
+        Unassembled::OutOfMemory => Ok(String::new(alloc)),
+    }
 }

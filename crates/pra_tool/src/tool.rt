@@ -2,26 +2,31 @@
 
 ghost use Rattle.std.specs.Prelude.{◌≡◌, ◌≢◌, ◌≤◌, ◌⊎◌, false, ℕ, List, length, IsErr};
 ghost use Rattle.ia_code.specs.Image.{IsImage};
-ghost use Rattle.pra_words.specs.declared.words.Mode.TheVariants.{Run, Compile};
+ghost use Rattle.pra_tool.specs.declared.tool.Then.TheVariants.{Run, Write};
 ghost use Rattle.pra_words.specs.Texts.{words_lines};
 ghost use Rattle.pra_words.specs.Words.{asked_of, texts};
 ghost use Rattle.pra_words.specs.Written.{asked_by};
 ghost use Rattle.pra_tool.specs.Status.{exit_code};
 ghost use Rattle.pra_tool.specs.Outside.{StreamSeen, Seen, folder_seen, stream_seen, seen};
 ghost use Rattle.pra_tool.specs.Outside.{seen_by, Told};
-ghost use Rattle.pra_tool.specs.Texts.{fault_line};
+ghost use Rattle.pra_tool.specs.Texts.{fault_line, unlisted_line, unassembled_line};
 ghost use Rattle.pra_tool.specs.Inputs.{input_fault_status, input_fault_line};
 ghost use Rattle.pra_tool.specs.Modes.{Answers};
 ghost use Rattle.pra_tool.specs.Ends.{Ends, NeverFaults};
 ghost use Rattle.pra_tool.specs.Compiling.{MadeOf};
-ghost use Rattle.pra_tool.specs.Clause.{mode_by, mode_of, reads_input, asks_input};
-ghost use Rattle.pra_tool.specs.Clause.{fault_status, Promise};
+ghost use Rattle.pra_tool.specs.Clause.{mode_of, reads_input, asks_input, fault_status, Promise};
+ghost use Rattle.pra_tool.specs.Clause.{compiling, is_run, listing, assembling};
+ghost use Rattle.pra_tool.specs.Listings.{IsListed, IsTextOf};
+ghost use Rattle.pra_tool.specs.Listings.{unlisted_status, unassembled_status};
 
 use crate::compiler::compile_source;
 use crate::input::{InputFault, WrongInput, read_numbers};
-use crate::report::{compile_report, refuse, run_report, write_report};
+use crate::listing::{MAX_IMAGE, Unassembled, Unlisted, image_by, listing_of};
+use crate::report::{asm_report, compile_report, list_report, refuse, run_report, write_report};
 use crate::status::Status;
-use crate::texts::{fault_line, input_line};
+use crate::texts::{fault_line, input_line, unassembled_line, unlisted_line};
+use ia_code::Image;
+use ia_list::MAX_TEXT_BYTES;
 use ob_read::{LimitFault, MAX_SOURCE, ReadFault};
 use pra_base::{LimitKind, OutOfMemory};
 use pra_compile::Compiled;
@@ -31,14 +36,17 @@ use std::alloc::Global;
 
 /// All that the program does. With MODE `run` it reads FILE, compiles it, reads the input, runs the
 /// image, and writes the image file, the output, and the report with the ending line; with
-/// `compile` it reads FILE, compiles it, and writes the image file and the report.
+/// `compile` it reads FILE, compiles it, and writes the image file and the report. With `list` it
+/// reads FILE, which is an image, and writes its text to out; with `asm` it reads FILE, which is the
+/// text of an image, and writes the image file.
 ///
 /// `words` are those behind the program's name: MODE and FILE, and among them the options
 /// `--steps M` and `--image NAME`. The answer is the exit status:
 ///
 /// | Status | When | Line in notes |
 /// |---|---|---|
-/// | 0 | the image ended within the steps, or was compiled | `run`: the report, the ending line |
+/// | 0 | the image ended within the steps | `run`: the report, the ending line |
+/// | 0 | what is to be written was made and written | none |
 /// | 1 | the image trapped | the report, the ending line |
 /// | 2 | the image is still going after the steps | the report, the ending line |
 /// | 3 | FILE has a byte that begins no token | `fault bad-byte at A` |
@@ -46,9 +54,16 @@ use std::alloc::Global;
 /// | 3 | FILE has a number above the greatest | `fault number-too-large at A` |
 /// | 3 | no module goes on with token T | `fault grammar token T at A` |
 /// | 3 | FILE breaks rule K of the language | `fault rule K token T at A` |
+/// | 3 | FILE is no image: this field breaks its rule | `fault image FIELD at A` |
+/// | 3 | at A of the image's code no instruction begins | `fault code at A` |
+/// | 3 | line N of FILE, from 1, is none of an image's text | `fault line N` |
+/// | 3 | FILE is the first line of a text alone | `fault empty` |
 /// | 4 | FILE is too long | `limit source count 1048577 maximum 1048576` |
 /// | 4 | FILE nests too deep | `limit depth token T at A` |
 /// | 4 | FILE has too much of one thing | `limit NAME count C maximum L` |
+/// | 4 | FILE is too long for an image | `limit image count 41943057 maximum 41943056` |
+/// | 4 | FILE is too long for a text | `limit listing count 67108865 maximum 67108864` |
+/// | 4 | the image's text is too long | `limit listing count C maximum 67108864` |
 /// | 4 | the input is too long | `limit input count 1048577 maximum 1048576` |
 /// | 5 | reading FILE or the input failed | `fault read file`, `fault read input` |
 /// | 5 | writing the image or out failed | `fault write file`, `fault write out` |
@@ -104,7 +119,7 @@ fn answer<D: Folder, I: Source, O: Sink, N: Sink>(
 {
     match read_words(alloc, words) {
         Err(fault) => refuse_words(alloc, notes, fault),
-        Ok(request) => compile_file(alloc, &request, folder, input, out, notes),
+        Ok(request) => perform(alloc, &request, folder, input, out, notes),
     }
 }
 
@@ -125,8 +140,8 @@ fn refuse_words<N: Sink>(alloc: Global, notes: &mut N, fault: WordsFault) -> Sta
     }
 }
 
-// Reads FILE and compiles it, and does with it what is asked for.
-fn compile_file<D: Folder, I: Source, O: Sink, N: Sink>(
+// Does with FILE what is asked for.
+fn perform<D: Folder, I: Source, O: Sink, N: Sink>(
     alloc: Global,
     request: &Request,
     folder: &mut D,
@@ -141,6 +156,40 @@ fn compile_file<D: Folder, I: Source, O: Sink, N: Sink>(
         Answers (mode_of (asked_by request.now)) request.now.file.now old new result }
     ensures input { reads_input request.now.mode ≡ false → input.new ≡ input.old }
 {
+    match request.mode {
+        Mode::Run => compile_file(alloc, request, Then::Run, folder, input, out, notes),
+        Mode::Compile => compile_file(alloc, request, Then::Write, folder, input, out, notes),
+        Mode::List => list_file(alloc, request, folder, out, notes),
+        Mode::Asm => asm_file(alloc, request, folder, out, notes),
+    }
+}
+
+/// What is done with what was compiled.
+#[derive(Clone, Copy, Debug, PartialEq, Eq)]
+pub(crate) enum Then {
+    /// It runs, and is written.
+    Run,
+    /// It is written.
+    Write,
+}
+
+// Reads FILE and compiles it, and does with it what is asked for.
+fn compile_file<D: Folder, I: Source, O: Sink, N: Sink>(
+    alloc: Global,
+    request: &Request,
+    then: Then,
+    folder: &mut D,
+    input: &mut I,
+    out: &mut O,
+    notes: &mut N,
+) -> Status
+    ensures answers { let look = seen_by D.file D.read_faults D.write_faults I.left I.faults
+        O.bytes O.faults N.bytes N.faults in
+        let old = look folder.old input.old out.old notes.old in
+        let new = look folder.new input.new out.new notes.new in
+        Answers (compiling then (asked_by request.now)) request.now.file.now old new result }
+    ensures input { is_run then ≡ false → input.new ≡ input.old }
+{
     let source = match folder.read_file(alloc, request.file, MAX_SOURCE) {
         Ok(source) => source,
         Err(FileFault::OutOfMemory) => return Status::NoMemory,
@@ -148,7 +197,7 @@ fn compile_file<D: Folder, I: Source, O: Sink, N: Sink>(
         Err(FileFault::Failed) => return refuse(notes, Status::Fault, "fault read file\n"),
     };
     match compile_source(alloc, &source) {
-        Ok(compiled) => finish(alloc, request, &compiled, folder, input, out, notes),
+        Ok(compiled) => finish(alloc, request, then, &compiled, folder, input, out, notes),
         Err(fault) => refuse_source(alloc, notes, fault),
     }
 }
@@ -157,6 +206,7 @@ fn compile_file<D: Folder, I: Source, O: Sink, N: Sink>(
 fn finish<D: Folder, I: Source, O: Sink, N: Sink>(
     alloc: Global,
     request: &Request,
+    then: Then,
     compiled: &Compiled,
     folder: &mut D,
     input: &mut I,
@@ -171,12 +221,12 @@ fn finish<D: Folder, I: Source, O: Sink, N: Sink>(
         O.bytes O.faults N.bytes N.faults in
         let old = look folder.old input.old out.old notes.old in
         let new = look folder.new input.new out.new notes.new in
-        Ends (mode_of (asked_by request.now)) source old new result }
-    ensures input { reads_input request.now.mode ≡ false → input.new ≡ input.old }
+        Ends (compiling then (asked_by request.now)) source old new result }
+    ensures input { is_run then ≡ false → input.new ≡ input.old }
 {
-    match request.mode {
-        Mode::Run => run_compiled(alloc, request, compiled, folder, input, out, notes),
-        Mode::Compile => write_compiled(alloc, request, compiled, folder, out, notes),
+    match then {
+        Then::Run => run_compiled(alloc, request, compiled, folder, input, out, notes),
+        Then::Write => write_compiled(alloc, request, compiled, folder, out, notes),
     }
 }
 
@@ -198,7 +248,7 @@ fn run_compiled<D: Folder, I: Source, O: Sink, N: Sink>(
         O.bytes O.faults N.bytes N.faults in
         let old = look folder.old input.old out.old notes.old in
         let new = look folder.new input.new out.new notes.new in
-        Ends (mode_by Run (asked_by request.now)) source old new result }
+        Ends (compiling Run (asked_by request.now)) source old new result }
 {
     let numbers = match read_numbers(alloc, input) {
         Ok(numbers) => numbers,
@@ -226,7 +276,7 @@ fn write_compiled<D: Folder, O: Sink, N: Sink>(
         (stream_seen O.bytes O.faults out.old) (stream_seen N.bytes N.faults notes.old) in
         let new : Seen = seen (folder_seen D.file D.read_faults D.write_faults folder.new) input
         (stream_seen O.bytes O.faults out.new) (stream_seen N.bytes N.faults notes.new) in
-        Ends (mode_by Compile (asked_by request.now)) source old new result }
+        Ends (compiling Write (asked_by request.now)) source old new result }
 {
     match compile_report(alloc, request, compiled) {
         Ok(report) => write_report(alloc, &report, folder, out, notes),
@@ -275,6 +325,122 @@ fn refuse_source<N: Sink>(alloc: Global, notes: &mut N, fault: ReadFault) -> Sta
         ReadFault::OutOfMemory => return Status::NoMemory,
     };
     match fault_line(alloc, fault) {
+        Ok(line) => refuse(notes, status, line.as_str()),
+        Err(_) => Status::NoMemory,
+    }
+}
+
+// Reads FILE, which is an image, and lists it.
+fn list_file<D: Folder, O: Sink, N: Sink>(
+    alloc: Global,
+    request: &Request,
+    folder: &mut D,
+    out: &mut O,
+    notes: &mut N,
+) -> Status
+    ensures { (input : StreamSeen) →
+        let old : Seen = seen (folder_seen D.file D.read_faults D.write_faults folder.old) input
+        (stream_seen O.bytes O.faults out.old) (stream_seen N.bytes N.faults notes.old) in
+        let new : Seen = seen (folder_seen D.file D.read_faults D.write_faults folder.new) input
+        (stream_seen O.bytes O.faults out.new) (stream_seen N.bytes N.faults notes.new) in
+        Answers listing request.now.file.now old new result }
+{
+    let file = match folder.read_file(alloc, request.file, MAX_IMAGE) {
+        Ok(file) => file,
+        Err(FileFault::OutOfMemory) => return Status::NoMemory,
+        Err(FileFault::TooLong) => return refuse_image(alloc, notes, Unlisted::TooLong),
+        Err(FileFault::Failed) => return refuse(notes, Status::Fault, "fault read file\n"),
+    };
+    match listing_of(alloc, &file) {
+        Ok(text) => {
+            let report = list_report(alloc, text);
+            write_report(alloc, &report, folder, out, notes)
+        }
+        Err(fault) => refuse_image(alloc, notes, fault),
+    }
+}
+
+// Writes why an image's file is not listed.
+fn refuse_image<N: Sink>(alloc: Global, notes: &mut N, fault: Unlisted) -> Status
+    ensures known { (result ≡ unlisted_status fault) ⊎ (result ≡ Status.NoMemory) }
+    ensures told { result ≢ Status.NoMemory → Told (unlisted_line fault)
+        (stream_seen N.bytes N.faults notes.old) (stream_seen N.bytes N.faults notes.new) }
+    ensures memory { result ≡ Status.NoMemory → notes.new ≡ notes.old }
+{
+    let status = match fault {
+        Unlisted::Broken(_, _) | Unlisted::Code(_) => Status::BadSource,
+        Unlisted::TooLong | Unlisted::LongText(_) => Status::OverLimit,
+        Unlisted::OutOfMemory => return Status::NoMemory,
+    };
+    match unlisted_line(alloc, fault) {
+        Ok(line) => refuse(notes, status, line.as_str()),
+        Err(_) => Status::NoMemory,
+    }
+}
+
+// Reads FILE, which is the text of an image, and assembles it.
+fn asm_file<D: Folder, O: Sink, N: Sink>(
+    alloc: Global,
+    request: &Request,
+    folder: &mut D,
+    out: &mut O,
+    notes: &mut N,
+) -> Status
+    ensures { (input : StreamSeen) →
+        let old : Seen = seen (folder_seen D.file D.read_faults D.write_faults folder.old) input
+        (stream_seen O.bytes O.faults out.old) (stream_seen N.bytes N.faults notes.old) in
+        let new : Seen = seen (folder_seen D.file D.read_faults D.write_faults folder.new) input
+        (stream_seen O.bytes O.faults out.new) (stream_seen N.bytes N.faults notes.new) in
+        Answers (assembling (asked_by request.now)) request.now.file.now old new result }
+{
+    let text = match folder.read_file(alloc, request.file, MAX_TEXT_BYTES) {
+        Ok(text) => text,
+        Err(FileFault::OutOfMemory) => return Status::NoMemory,
+        Err(FileFault::TooLong) => return refuse_text(alloc, notes, Unassembled::TooLong),
+        Err(FileFault::Failed) => return refuse(notes, Status::Fault, "fault read file\n"),
+    };
+    match image_by(alloc, &text) {
+        Ok(image) => write_image(alloc, request, &image, folder, out, notes),
+        Err(fault) => refuse_text(alloc, notes, fault),
+    }
+}
+
+// Writes the image that was assembled.
+fn write_image<D: Folder, O: Sink, N: Sink>(
+    alloc: Global,
+    request: &Request,
+    image: &Image,
+    folder: &mut D,
+    out: &mut O,
+    notes: &mut N,
+) -> Status
+    requires { IsImage image.now }
+    ensures { (text : List ℕ) (input : StreamSeen) → IsTextOf text image.now →
+        let old : Seen = seen (folder_seen D.file D.read_faults D.write_faults folder.old) input
+        (stream_seen O.bytes O.faults out.old) (stream_seen N.bytes N.faults notes.old) in
+        let new : Seen = seen (folder_seen D.file D.read_faults D.write_faults folder.new) input
+        (stream_seen O.bytes O.faults out.new) (stream_seen N.bytes N.faults notes.new) in
+        Ends (assembling (asked_by request.now)) text old new result }
+{
+    match asm_report(alloc, request, image) {
+        Ok(report) => write_report(alloc, &report, folder, out, notes),
+        Err(OutOfMemory) => Status::NoMemory,
+    }
+}
+
+// Writes why a text is not assembled.
+fn refuse_text<N: Sink>(alloc: Global, notes: &mut N, fault: Unassembled) -> Status
+    ensures known { (result ≡ unassembled_status fault) ⊎ (result ≡ Status.NoMemory) }
+    ensures told { result ≢ Status.NoMemory → Told (unassembled_line fault)
+        (stream_seen N.bytes N.faults notes.old) (stream_seen N.bytes N.faults notes.new) }
+    ensures memory { result ≡ Status.NoMemory → notes.new ≡ notes.old }
+{
+    let status = match fault {
+        Unassembled::Line(_) | Unassembled::Empty => Status::BadSource,
+        Unassembled::TooLong => Status::OverLimit,
+        Unassembled::OutOfMemory => return Status::NoMemory,
+    };
+    match unassembled_line(alloc, fault) {
         Ok(line) => refuse(notes, status, line.as_str()),
         Err(_) => Status::NoMemory,
     }

@@ -7,7 +7,7 @@ use Rattle.std.specs.declared.alloc.Global.{Global}
 use Rattle.std.specs.Str.{bytes_eq, all_ascii_digits}
 use Rattle.std.specs.Str.Parse.{digits_value}
 use Rattle.pra_words.specs.declared.words.Mode.{Mode}
-use Rattle.pra_words.specs.declared.words.Mode.TheVariants.{Run, Compile}
+use Rattle.pra_words.specs.declared.words.Mode.TheVariants as a_mode
 use Rattle.pra_words.specs.declared.words.WordsFault.{WordsFault}
 use Rattle.pra_words.specs.declared.words.WordsFault.TheVariants.{Words, Value}
 use Rattle.pra_words.specs.declared.words.Word.TheVariants as a_word
@@ -32,8 +32,15 @@ texts words = map string_bytes words
 
 abbrev pub mode_of : List ℕ → Option Mode
 mode_of word =
-    if bytes_eq word (codes "run") then Some Run
-    else (if bytes_eq word (codes "compile") then Some Compile else None)
+    if bytes_eq word (codes "run") then Some a_mode.Run
+    else (if bytes_eq word (codes "compile") then Some a_mode.Compile
+    else (if bytes_eq word (codes "list") then Some a_mode.List
+    else (if bytes_eq word (codes "asm") then Some a_mode.Asm else None)))
+
+-- whether the mode writes an image file
+abbrev pub writes_image : Mode → Bool
+writes_image a_mode.List = false
+writes_image mode = true
 
 abbrev pub is_empty : List ℕ → Bool
 is_empty [] = true
@@ -53,9 +60,9 @@ abbrev pub steps_of : Option (List ℕ) → Option ℕ
 steps_of None = Some default_steps
 steps_of (Some word) = number_of_steps word
 
--- the image's name: not empty, and not FILE
-abbrev pub is_image : List ℕ → List ℕ → Bool
-is_image file word = not (is_empty word) && not (bytes_eq word file)
+-- the image's name: not empty, and where an image file is written not FILE
+abbrev pub is_image : Mode → List ℕ → List ℕ → Bool
+is_image mode file word = not (is_empty word) && not (writes_image mode && bytes_eq word file)
 
 -- ---- the whole
 
@@ -69,7 +76,7 @@ pub record Asked : Type 0 where
 
 abbrev pub with_image : Mode → List ℕ → ℕ → List ℕ → Result Asked WordsFault
 with_image mode file steps image =
-    if is_image file image
+    if is_image mode file image
     then Ok (record { mode = mode; file = file; steps = steps; image = image })
     else Err (Value a_word.Image)
 

@@ -4,7 +4,7 @@ ghost use Rattle.std.specs.Prelude.{◌≡◌, ◌≢◌, Ok, Err, MatchResult};
 ghost use Rattle.std.specs.Str.{all_ascii_digits};
 ghost use Rattle.pra_words.specs.Words.{texts, mode_of, is_number, number_of_steps, steps_of};
 ghost use Rattle.pra_words.specs.Texts.{word_name};
-ghost use Rattle.pra_words.specs.Words.{is_image, values_of, asked_of};
+ghost use Rattle.pra_words.specs.Words.{writes_image, is_image, values_of, asked_of};
 ghost use Rattle.pra_words.specs.Written.{asked_by, written};
 
 use crate::line::{Line, read_line};
@@ -27,6 +27,19 @@ pub enum Mode {
     Run,
     /// It is compiled.
     Compile,
+    /// It is an image, and is listed.
+    List,
+    /// It is the listing of an image, and is assembled.
+    Asm,
+}
+
+impl Mode {
+    // Whether it writes an image file.
+    fn writes_image(self) -> bool
+        ensures { result ≡ writes_image self }
+    {
+        self != Mode::List
+    }
 }
 
 /// A word of the command line that has a value.
@@ -78,9 +91,10 @@ pub struct Request<'a> {
 /// # Errors
 ///
 /// `WordsFault::Words` where the words are no such line, and else `WordsFault::Value` of the first
-/// word, in this order, whose value is none that it may have: MODE is `run` or `compile`, FILE is
-/// not empty, the steps are one to ten digits and at most 200000000, and the image's name is
-/// neither empty nor FILE. `WordsFault::OutOfMemory` where there is no memory for reading.
+/// word, in this order, whose value is none that it may have: MODE is `run`, `compile`, `list` or
+/// `asm`, FILE is not empty, the steps are one to ten digits and at most 200000000, and the image's
+/// name is not empty nor, but for `list`, FILE. `WordsFault::OutOfMemory` where there is no memory
+/// for reading.
 pub fn read_words(alloc: Global, words: &[String]) -> Result<Request<'_>, WordsFault>
     ensures { MatchResult result (λ r. asked_of (texts words.now) ≡ Ok (asked_by r))
         (λ fault. fault ≢ WordsFault.OutOfMemory → asked_of (texts words.now) ≡ Err fault) }
@@ -107,7 +121,7 @@ fn values<'a>(line: &Line<'a>) -> Result<Request<'a>, WordsFault>
         return Err(WordsFault::Value(Word::Steps));
     };
     let image = line.image.unwrap_or(DEFAULT_IMAGE);
-    if !is_image(line.file, image) {
+    if !is_image(mode, line.file, image) {
         return Err(WordsFault::Value(Word::Image));
     }
     Ok(Request {
@@ -125,6 +139,10 @@ fn mode_of(word: &str) -> Option<Mode>
         Some(Mode::Run)
     } else if word == "compile" {
         Some(Mode::Compile)
+    } else if word == "list" {
+        Some(Mode::List)
+    } else if word == "asm" {
+        Some(Mode::Asm)
     } else {
         None
     }
@@ -139,10 +157,10 @@ fn steps_of(line: &Line) -> Option<u32>
     }
 }
 
-fn is_image(file: &str, word: &str) -> bool
-    ensures { result ≡ is_image file.now word.now }
+fn is_image(mode: Mode, file: &str, word: &str) -> bool
+    ensures { result ≡ is_image mode file.now word.now }
 {
-    !word.is_empty() && word != file
+    !word.is_empty() && !(mode.writes_image() && word == file)
 }
 
 fn all_digits(bytes: &[u8]) -> bool

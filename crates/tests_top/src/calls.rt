@@ -1,7 +1,7 @@
 // Calls of the tool over the modules of rows.
 //
-// A row begins with its name behind `#`, and then has the module, which the file M.ob holds.
-// `words`, `<` (the input) and `image` (the bytes of the image file in hexadecimal) are said for
+// A row begins with its name behind `#`, and then has the text that the file M.ob holds, or behind
+// `bytes` the file in hexadecimal. `words`, `<` (the input) and `image` (the bytes of the image file in hexadecimal) are said for
 // all further calls of the row. For the next call alone `fails` says which call of an object of
 // the outside fails, `pieces` how many bytes the streams move at once, and `room` how many bytes
 // out takes.
@@ -12,6 +12,7 @@
 
 mod faults;
 mod inputs;
+mod listings;
 mod worked;
 
 use crate::outside::{ALL_WELL, Outside, call};
@@ -25,7 +26,7 @@ use std::str::Split;
 #[derive(Drop)]
 struct Row<'a> {
     name: &'a str,
-    source: String,
+    source: Vec<u8>,
     words: &'a str,
     input: &'a str,
     image: &'a str,
@@ -40,7 +41,7 @@ impl<'a> Row<'a> {
     fn begin(alloc: Global, name: &'a str) -> Row<'a> {
         Row {
             name,
-            source: String::new(alloc),
+            source: Vec::new(alloc),
             words: "run M.ob",
             input: "",
             image: "",
@@ -65,6 +66,7 @@ impl<'a> Row<'a> {
             "words" => self.words = rest,
             "<" => self.input = rest,
             "image" => self.image = rest,
+            "bytes" => push_hexadecimal(&mut self.source, rest)?,
             "pieces" => self.outside.piece = number(rest),
             "room" => self.outside.room = number(rest),
             "fails" => {
@@ -73,9 +75,9 @@ impl<'a> Row<'a> {
             }
             _ => {
                 if !self.source.is_empty() {
-                    self.source.push_str("\n")?;
+                    self.source.push(b'\n')?;
                 }
-                self.source.push_str(line)?;
+                self.source.extend_from_slice(line.as_bytes())?;
             }
         }
         Ok(())
@@ -89,14 +91,38 @@ pub(crate) fn field<'a>(fields: &mut Split<'a, char>) -> &'a str {
 
 /// The bytes that a field stands for: `$` is the end of a line, and `3*a` is `aaa`.
 pub(crate) fn unfolded(alloc: Global, field: &str) -> Result<Vec<u8>, OutOfMemory> {
-    let (count, part) = field.split_once('*').unwrap_or(("1", field));
+    let (times, part) = match field.split_once('*') {
+        Some((count, part)) => match count.parse::<usize>() {
+            Ok(times) => (times, part),
+            Err(_) => (1, field),
+        },
+        None => (1, field),
+    };
     let mut bytes = Vec::new(alloc);
-    for _ in 0..number(count) {
+    for _ in 0..times {
         for byte in part.as_bytes() {
             bytes.push(if *byte == b'$' { b'\n' } else { *byte })?;
         }
     }
     Ok(bytes)
+}
+
+// The bytes that are written in hexadecimal, with blanks between any of them.
+fn push_hexadecimal(bytes: &mut Vec<u8>, text: &str) -> Result<(), OutOfMemory> {
+    let mut high = None;
+    for digit in text.chars() {
+        let Some(value) = digit.to_digit(16) else {
+            continue;
+        };
+        high = match high {
+            Some(first) => {
+                bytes.push((first * 16 + value) as u8)?;
+                None
+            }
+            None => Some(value),
+        };
+    }
+    Ok(())
 }
 
 // What stands behind the digits with which a text begins.
@@ -139,7 +165,7 @@ fn hexadecimal(alloc: Global, bytes: &[u8]) -> Result<String, OutOfMemory> {
 fn check(rt: &impl Abort, alloc: Global, row: &Row, expected: &str) -> Result<(), OutOfMemory> {
     let (name, words) = (row.name, row.words);
     let input = unfolded(alloc, row.input)?;
-    let left = call(alloc, words, row.source.as_bytes(), &input, row.outside)?;
+    let left = call(alloc, words, &row.source, &input, row.outside)?;
     let mut fields = expected.split('|');
     let status = field(&mut fields);
     assert_eq!(rt;
@@ -190,4 +216,68 @@ fn calls_over_modules(rt: HostRuntime) -> Result<(), OutOfMemory> {
     check_rows(&rt, rt.alloc(), worked::ROWS)?;
     check_rows(&rt, rt.alloc(), inputs::ROWS)?;
     check_rows(&rt, rt.alloc(), faults::ROWS)
+}
+
+#[test]
+fn calls_over_images_and_their_texts(rt: HostRuntime) -> Result<(), OutOfMemory> {
+    check_rows(&rt, rt.alloc(), listings::ROWS)
+}
+
+// The module with all forms of statement, and its image, which is listed and assembled.
+#[test]
+fn an_image_comes_back_from_its_text(rt: HostRuntime) -> Result<(), OutOfMemory> {
+    let alloc = rt.alloc();
+    let (_, rest) = worked::ROWS
+        .split_once("# all forms of statement\n")
+        .unwrap_or(("", ""));
+    let (source, _) = rest.split_once("\n< ").unwrap_or(("", ""));
+    let compiled = call(alloc, "compile M.ob", source.as_bytes(), b"", ALL_WELL)?;
+    let image = compiled.folder.file("out.pri").unwrap_or(b"");
+    let listed = call(alloc, "list M.ob", image, b"", ALL_WELL)?;
+    assert_eq!(rt; listed.status, 0);
+    let text = listed.out.bytes();
+    assert!(rt; text.starts_with(b"data 21\n00000000 call "));
+    let assembled = call(alloc, "asm M.ob", text, b"", ALL_WELL)?;
+    assert_eq!(rt; assembled.status, 0);
+    assert_eq!(rt; assembled.folder.file("out.pri"), Some(image));
+    Ok(())
+}
+
+// Files of the most bytes and of one more, and an image whose text is too long.
+#[test]
+fn limits_of_images_and_texts(rt: HostRuntime) -> Result<(), OutOfMemory> {
+    let alloc = rt.alloc();
+    for (words, length, status, notes) in [
+        ("list M.ob", 41_943_056, 3, "fault image Magic at 0\n"),
+        (
+            "list M.ob",
+            41_943_057,
+            4,
+            "limit image count 41943057 maximum 41943056\n",
+        ),
+        ("asm M.ob", 67_108_864, 3, "fault line 1\n"),
+        (
+            "asm M.ob",
+            67_108_865,
+            4,
+            "limit listing count 67108865 maximum 67108864\n",
+        ),
+    ] {
+        let mut file = Vec::new(alloc);
+        file.resize(length, 0)?;
+        let left = call(alloc, words, &file, b"", ALL_WELL)?;
+        assert_eq!(rt; left.notes.bytes(), notes.as_bytes(), "{words}: {length}");
+        assert_eq!(rt; left.status, status, "{words}: {length}");
+    }
+    let mut image = Vec::new(alloc);
+    push_hexadecimal(&mut image, "50524149 01000000 2cc54e00 00000000")?;
+    image.resize(16 + 5_162_284, 0x99)?;
+    let left = call(alloc, "list M.ob", &image, b"", ALL_WELL)?;
+    assert_eq!(rt;
+        left.notes.bytes(),
+        b"limit listing count 67109699 maximum 67108864\n".as_slice()
+    );
+    assert_eq!(rt; left.status, 4);
+    assert!(rt; left.out.bytes().is_empty());
+    Ok(())
 }

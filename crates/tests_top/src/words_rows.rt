@@ -51,7 +51,13 @@ run M.ob --image  --steps x|value --steps
 run M.ob --image |value --image
 run M.ob --image=|value --image
 run M.ob --image M.ob|value --image
-run out.pri|value --image";
+run out.pri|value --image
+compile out.pri|value --image
+asm out.pri|value --image
+asm M.ob --image M.ob|value --image
+list M.ob --image |value --image
+List M.ob|value MODE
+list |value FILE";
 
 /// Words that are taken, the image's name, and the line of notes without its end.
 const TAKEN: &str = "\

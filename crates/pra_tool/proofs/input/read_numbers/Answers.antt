@@ -1,5 +1,5 @@
 use Rattle.std.proofs.Common.{rules}
-use Rattle.pra_tool.proofs.BothModes.{longer_input}
+use Rattle.pra_tool.proofs.CompilingModes.{longer_input}
 use Rattle.pra_tool.proofs.input.read_numbers.Goals as goal
 
 pub returns-in-Err-TooLong-clause-cause : goal.returns-in-Err-TooLong-clause-cause

@@ -3,7 +3,7 @@ use Rattle.std.specs.Prelude.{map}
 use Rattle.std.specs.Io.KnownBytes.{Keeps}
 use Rattle.pra_tool.specs.Reports.{file_text, writes_of}
 use Rattle.pra_tool.proofs.WriteEnds.{file_end, stopped_same}
-use Rattle.pra_tool.proofs.BothModes.{keeps_same}
+use Rattle.pra_tool.proofs.CompilingModes.{keeps_same}
 use Rattle.pra_tool.proofs.report.write_report.Goals as goal
 
 pub returns-in-Err : goal.returns-in-Err

@@ -1,7 +1,7 @@
 use Rattle.std.proofs.Common.{rules, sym, subst}
 use Rattle.std.specs.Io.KnownBytes.{Keeps}
 use Rattle.pra_words.specs.Words.{asked_of, texts}
-use Rattle.pra_tool.proofs.BothModes.{keeps_same}
+use Rattle.pra_tool.proofs.CompilingModes.{keeps_same}
 use Rattle.pra_tool.proofs.WordsEnds.{refused_words}
 use Rattle.pra_tool.proofs.tool.answer.Goals as goal
 

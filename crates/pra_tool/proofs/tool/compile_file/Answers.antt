@@ -3,10 +3,10 @@ use Rattle.std.specs.Io.KnownBytes.{Keeps}
 use Rattle.ob_read.specs.declared.fault.ReadFault.TheVariants.{OutOfMemory}
 use Rattle.ob_read.specs.Source.{IsUnreadable}
 use Rattle.pra_words.specs.Written.{asked_by}
-use Rattle.pra_tool.specs.Clause.{mode_of}
+use Rattle.pra_tool.specs.Clause.{compiling, fault_status}
 use Rattle.pra_tool.specs.Compiling.{MadeOf}
 use Rattle.pra_tool.proofs.ModeAnswers.{wrong_source, right_source}
-use Rattle.pra_tool.proofs.BothModes.{both_are_modes, modes_write, too_long, told_wrong, nothing_left, keeps_same}
+use Rattle.pra_tool.proofs.CompilingModes.{compiling_is_a_mode, modes_write, too_long, told_wrong, nothing_left, keeps_same}
 use Rattle.pra_tool.proofs.tool.compile_file.Goals as goal
 
 pub returns-in-Ok-compile_source-clause-answers : goal.returns-in-Ok-compile_source-clause-answers
@@ -16,7 +16,7 @@ returns-in-Ok-compile_source-clause-answers g c =
     let compiled = c.in-Ok-compile_source.compiled in
     let made : MadeOf source compiled =
     subst (λ (s : List ℕ). MadeOf s compiled) c.deref.ensures.value c.in-Ok-compile_source.ensures.made in
-    right_source (mode_of asked) (both_are_modes asked.mode asked) asked.file _ _ _
+    right_source (compiling c.args.then asked) (compiling_is_a_mode c.args.then asked) asked.file _ _ _
     (record {
       same = c.in-Ok.ensures.same;
       input = refl;
@@ -26,7 +26,7 @@ returns-in-Ok-compile_source-clause-answers g c =
     })
     source c.in-Ok.ensures.bytes (made.text, made.read) _
     (λ input w s makes. nothing_left w asked.image _ _
-    (modes_write asked.mode asked source input w s makes))
+    (modes_write c.args.then asked source input w s makes))
     (λ untouched. untouched)
     (c.finish.ensures.ends source made)
 
@@ -37,9 +37,9 @@ returns-clause-answers g c =
     let cause : f ≢ OutOfMemory → IsUnreadable c.in-Ok.source.items f =
     subst (λ (b : List ℕ). f ≢ OutOfMemory → IsUnreadable b f) c.deref.ensures.value
     c.in-Err.ensures.cause in
-    wrong_source (mode_of asked) (both_are_modes asked.mode asked) asked.file _ _
+    wrong_source (compiling c.args.then asked) (compiling_is_a_mode c.args.then asked) asked.file _ _
     c.in-Ok.source.items f _ c.in-Ok.ensures.bytes
-    (told_wrong f _ c.refuse_source-in-Err.ensures.known cause)
+    (told_wrong fault_status OutOfMemory refl f _ c.refuse_source-in-Err.ensures.known cause)
     c.refuse_source-in-Err.ensures.known
     (λ other. record {
       files = c.in-Ok.ensures.same;
@@ -58,7 +58,7 @@ pub returns-in-Err-TooLong-clause-answers : goal.returns-in-Err-TooLong-clause-a
 returns-in-Err-TooLong-clause-answers g c =
     let asked = asked_by c.args.request.now in
     let x = too_long _ (c.in-Err-TooLong.ensures.too_long (search rules)) in
-    wrong_source (mode_of asked) (both_are_modes asked.mode asked) asked.file _ _ x.0 _ _ x.1
+    wrong_source (compiling c.args.then asked) (compiling_is_a_mode c.args.then asked) asked.file _ _ x.0 _ _ x.1
     (λ other. x.2)
     c.refuse_source.ensures.known
     (λ other. record {

@@ -4,7 +4,7 @@ use Rattle.pra_words.specs.Written.{asked_by}
 use Rattle.pra_tool.specs.Outside.{stream_seen}
 use Rattle.pra_tool.specs.Reports.{writes_of}
 use Rattle.pra_tool.specs.Writes.{Writes}
-use Rattle.pra_tool.proofs.BothModes.{different, keeps_same}
+use Rattle.pra_tool.proofs.CompilingModes.{different, keeps_same}
 use Rattle.pra_tool.proofs.CompiledEnds.{input_ends, run_ends}
 use Rattle.pra_tool.proofs.InputWords.{numbers_are_words}
 use Rattle.pra_tool.proofs.tool.run_compiled.Goals as goal

@@ -1,4 +1,4 @@
--- `run` and `compile` are modes.
+-- The modes that compile FILE are modes.
 use Rattle.std.proofs.Common.{◌≡◌, ◌≢◌, ◌⊎◌, ◌<◌, ◌+◌, inl, refl, sym, ap, ◌∙◌, subst, ℕ, ℤ, List, [], ◌∷◌, length, take, Some, None, replicate, arith, rules, ⊎_elim}
 use Rattle.std.proofs.lemmas.List.{length-map, length-replicate, length-append}
 use Rattle.std.specs.declared.option.Option.{Option}
@@ -17,8 +17,8 @@ use Rattle.ob_read.proofs.Reading.{one_reading, never_memory}
 use Rattle.pra_compile.specs.declared.output.Compiled.{Compiled}
 use Rattle.pra_tool.specs.Compiling.{MadeOf}
 use Rattle.ob_read.specs.declared.fault.ReadFault.TheVariants as read
-use Rattle.pra_words.specs.declared.words.Mode.{Mode as Word}
-use Rattle.pra_words.specs.declared.words.Mode.TheVariants.{Run, Compile}
+use Rattle.pra_tool.specs.declared.tool.Then.{Then}
+use Rattle.pra_tool.specs.declared.tool.Then.TheVariants.{Run, Write}
 use Rattle.pra_words.specs.Words.{Asked}
 use Rattle.pra_tool.specs.declared.input.WrongInput.{WrongInput}
 use Rattle.pra_tool.specs.declared.input.WrongInput.TheVariants.{TooLong, NoWord}
@@ -31,7 +31,7 @@ use Rattle.pra_tool.specs.Outside.{Seen, Untouched}
 use Rattle.pra_tool.specs.Writes.{FileText, Writes, IsOther, AreDifferent, names, LeftOff}
 use Rattle.pra_tool.proofs.Files.{one_file}
 use Rattle.pra_tool.specs.Modes.{IsKind, IsMode}
-use Rattle.pra_tool.specs.Clause.{makes, sources, inputs, mode_by, fault_status, image_file}
+use Rattle.pra_tool.specs.Clause.{makes, sources, inputs, compiling, fault_status, image_file}
 
 -- the run of an image that was made of a source is no fault
 ending_along : (e : Ending) → (run_end e ≢ Some end.Wrong) → IsEnding e
@@ -54,7 +54,20 @@ done_of (ending.Trap k) _ is = absurd is
 done_of ending.Going _ is = absurd is
 done_of (ending.Fault k) _ is = absurd is
 
--- one file at most is written, so none stands where memory was wanting
+-- where no file is written, none stands where memory was wanting
+pub none_left : (w : Writes) (old new : Seen) → names w.files ≡ [] → LeftOff w old new →
+    Untouched old new
+none_left w old new is l =
+    let count : length w.files ≡ 0 = sym (length-map w.files (λ f. f.name)) ∙ ap length is in
+    let none : l.files.before ≡ 0 = let le = l.files.some_left in omega (arith, count, le) in
+    record {
+      files = λ n. l.files.stored.others n
+          (subst (λ (k : ℕ). IsOther n (take k w.files)) (sym none) tt);
+      out = l.out;
+      notes = l.notes;
+    }
+
+-- nor is one file alone
 pub nothing_left : (w : Writes) (name : List ℕ) (old new : Seen) → names w.files ≡ name ∷ [] →
     LeftOff w old new → Untouched old new
 nothing_left w name old new one l =
@@ -97,7 +110,7 @@ input_refusal : (text : List ℕ) (f : WrongInput) → IsWrongInput text f → I
 input_refusal text TooLong h = tt
 input_refusal text (NoWord at) h = tt
 
-inputs_are_a_kind : IsKind inputs
+pub inputs_are_a_kind : IsKind inputs
 inputs_are_a_kind = record {
   one_wrong = one_wrong_input;
   never_both = input_never_both;
@@ -109,33 +122,35 @@ inputs_are_a_kind = record {
 no_numbers : HasNumbers [] []
 no_numbers = (omega arith, refl)
 
-modes_right : (word : Word) (asked : Asked) (source input : List ℕ) (w : Writes) (s : Status) →
-    makes word asked source input w s →
+-- an input that is not read has no numbers
+pub not_read : (input : List ℕ) → input ≡ [] → inputs.IsRight input
+not_read input is = ([], subst (λ (text : List ℕ). HasNumbers text []) (sym is) no_numbers)
+
+modes_right : (next : Then) (asked : Asked) (source input : List ℕ) (w : Writes) (s : Status) →
+    makes next asked source input w s →
     sources.IsRight source × inputs.IsRight input
 modes_right Run asked source input w s made =
     ((made.made.text, made.made.read), (made.numbers, made.has))
-modes_right Compile asked source input w s made = (
-  (made.made.text, made.made.read),
-  ([], subst (λ (text : List ℕ). HasNumbers text []) (sym made.no_input) no_numbers),
-)
+modes_right Write asked source input w s made =
+    ((made.made.text, made.made.read), not_read input made.no_input)
 
-modes_done : (word : Word) (asked : Asked) (source input : List ℕ) (w : Writes) (s : Status) →
-    makes word asked source input w s → IsDone s
+modes_done : (next : Then) (asked : Asked) (source input : List ℕ) (w : Writes) (s : Status) →
+    makes next asked source input w s → IsDone s
 modes_done Run asked source input w s made = done_of _ s made.ended
-modes_done Compile asked source input w s made = subst IsDone (sym made.done) tt
+modes_done Write asked source input w s made = subst IsDone (sym made.done) tt
 
-pub modes_write : (word : Word) (asked : Asked) (source input : List ℕ) (w : Writes) (s : Status) →
-    makes word asked source input w s → names w.files ≡ asked.image ∷ []
+pub modes_write : (next : Then) (asked : Asked) (source input : List ℕ) (w : Writes) (s : Status) →
+    makes next asked source input w s → names w.files ≡ asked.image ∷ []
 modes_write Run asked source input w s made = ap (λ (x : Writes). names x.files) made.writes
-modes_write Compile asked source input w s made = ap (λ (x : Writes). names x.files) made.writes
+modes_write Write asked source input w s made = ap (λ (x : Writes). names x.files) made.writes
 
-pub both_are_modes : (word : Word) (asked : Asked) → IsMode (mode_by word asked)
-both_are_modes word asked = record {
+pub compiling_is_a_mode : (next : Then) (asked : Asked) → IsMode (compiling next asked)
+compiling_is_a_mode next asked = record {
   source = sources_are_a_kind;
   input = inputs_are_a_kind;
-  right = modes_right word asked;
-  done = modes_done word asked;
-  writes = modes_write word asked;
+  right = modes_right next asked;
+  done = modes_done next asked;
+  writes = modes_write next asked;
 }
 
 -- ---- a source that is too long
@@ -145,7 +160,7 @@ some_longer n =
     (replicate (n + 1) 0, let same = length-replicate {A = ℕ} (n + 1) 0 in omega (arith, same))
 
 -- there is a source that FILE may hold and that is longer
-longer : (n : ℕ) (file : Option (Option (List ℕ))) → IsLonger file n →
+pub longer : (n : ℕ) (file : Option (Option (List ℕ))) → IsLonger file n →
     (source : List ℕ) × Holds file source × (n < length source)
 longer n None h = let x = some_longer n in (x.0, tt, x.1)
 longer n (Some None) h = absurd h
@@ -165,11 +180,11 @@ pub keeps_same : (o : Option (List ℕ)) → Keeps o o
 keeps_same o = search rules
 
 -- what is wrong with a source that is refused with its own status
-pub told_wrong : {P : Type 0} (f : ReadFault) (result : Status) →
-    (result ≡ fault_status f) ⊎ (result ≡ NoMemory) → (f ≢ read.OutOfMemory → P) →
-    result ≢ NoMemory → P
-told_wrong f result known h other =
-    h (λ memory. other (⊎_elim (λ e. e ∙ ap fault_status memory) (λ e. e) known))
+pub told_wrong : {F P : Type 0} (status : F → Status) (wanting : F) → status wanting ≡ NoMemory →
+    (f : F) (result : Status) → (result ≡ status f) ⊎ (result ≡ NoMemory) →
+    (f ≢ wanting → P) → result ≢ NoMemory → P
+told_wrong status wanting is f result known h other =
+    h (λ memory. other (⊎_elim (λ e. e ∙ ap status memory ∙ is) (λ e. e) known))
 
 -- ---- an input that is too long
 

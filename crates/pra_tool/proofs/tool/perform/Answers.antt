@@ -1,0 +1,27 @@
+use Rattle.pra_words.specs.declared.words.Mode.TheVariants.{Run, Compile, List, Asm}
+use Rattle.pra_words.specs.Written.{asked_by}
+use Rattle.pra_tool.specs.Outside.{stream_seen}
+use Rattle.pra_tool.proofs.ListingEnds.{answers_by}
+use Rattle.pra_tool.proofs.tool.perform.Goals as goal
+
+pub returns-in-Run-clause-answers : goal.returns-in-Run-clause-answers
+returns-in-Run-clause-answers g c =
+    answers_by Run (asked_by c.args.request.now) c.args.request.now.file.now _ _ _
+    c.in-Run.is c.compile_file.ensures.answers
+
+pub returns-in-Compile-clause-answers : goal.returns-in-Compile-clause-answers
+returns-in-Compile-clause-answers g c =
+    answers_by Compile (asked_by c.args.request.now) c.args.request.now.file.now _ _ _
+    c.in-Compile.is c.compile_file-in-Compile.ensures.answers
+
+pub returns-in-List-clause-answers : goal.returns-in-List-clause-answers
+returns-in-List-clause-answers g c =
+    answers_by List (asked_by c.args.request.now) c.args.request.now.file.now _ _ _
+    c.in-List.is
+    (c.list_file.ensures (stream_seen g.I.Source.left g.I.Source.faults c.args.input.now))
+
+pub returns-in-Asm-clause-answers : goal.returns-in-Asm-clause-answers
+returns-in-Asm-clause-answers g c =
+    answers_by Asm (asked_by c.args.request.now) c.args.request.now.file.now _ _ _
+    c.in-Asm.is
+    (c.asm_file.ensures (stream_seen g.I.Source.left g.I.Source.faults c.args.input.now))
