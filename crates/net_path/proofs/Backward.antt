@@ -1,16 +1,15 @@
 -- From the row behind a layer to the layer's own row.
-use Rattle.std.proofs.Common.{ℕ, zero, suc, ◌≡◌, ◌≢◌, ◌⊎◌, ◌<◌, ◌≤◌, ◌+◌, ◌-◌, ◌*◌, ◌%◌, ◌^◌, Bool, true, false, ℤ, pos, ◌+ℤ◌, ◌≤ℤ◌, ◌<ℤ◌, List, length, Option, Some, IsTrue, refl, sym, subst, ap, ◌∙◌, inl, inr, arith, add-suc}
+use Rattle.std.proofs.Common.{ℕ, zero, suc, ◌≡◌, ◌≢◌, ◌⊎◌, ◌<◌, ◌≤◌, ◌+◌, ◌-◌, ◌%◌, Bool, true, false, ℤ, pos, List, length, Some, refl, sym, subst, ◌∙◌, inl, inr, arith}
 use Rattle.std.proofs.lemmas.Int.{ints}
 use Rattle.pra_base.specs.declared.ids.Place.{Place}
 use Rattle.pra_base.specs.Places.{number}
-use Rattle.net_form.specs.Flow.{same_place}
 use Rattle.net_form.proofs.PlaceEquality.{same_place-true, same_place-refl}
 use Rattle.net_path.specs.declared.crossbar.Row.{Row}
 use Rattle.net_path.specs.declared.crossbar.Ways.{Ways}
-use Rattle.net_path.specs.Ways.{at, step_price, IsLeastWay, IsBeforeCrossbar, AreWaysWithin}
-use Rattle.net_path.specs.Rests.{unreached, Terrain, IsLeastRest, IsPaidThere, IsFrom, IsRow, IsMetBy, IsBest, IsSlack, AreRows}
+use Rattle.net_path.specs.Ways.{at, IsBeforeCrossbar, AreWaysWithin}
+use Rattle.net_path.specs.Rests.{unreached, Terrain, IsFrom, IsRow, IsBest, IsSlack, AreRows}
 use Rattle.net_path.specs.Rows.{costs_at, cell_bound, slack_at, IsAbout, IsGround, IsCell, AreCells, IsPaid, ArePaid, IsRowWithin, IsPaidLayer}
-use Rattle.net_path.proofs.Numbers.{number_below, Numbered, place_of}
+use Rattle.net_path.proofs.Numbers.{number_below, place_of}
 use Rattle.std.proofs.lemmas.Bool.{cases_eq}
 use Rattle.net_path.proofs.Within.{parity, AreRests, rests_within, paid_within}
 use Rattle.net_path.proofs.LeastRests.{rest_more, nothing_left}

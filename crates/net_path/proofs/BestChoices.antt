@@ -1,5 +1,5 @@
 -- One more place to choose from.
-use Rattle.std.proofs.Common.{ℕ, ◌≡◌, ◌⊎◌, ◌<◌, ◌+◌, ℤ, ◌+ℤ◌, ◌≤ℤ◌, List, sym, subst, arith, inl, inr, ap}
+use Rattle.std.proofs.Common.{ℕ, ◌≡◌, ◌⊎◌, ◌+◌, ℤ, ◌+ℤ◌, ◌≤ℤ◌, List, sym, subst, arith, inl, inr}
 use Rattle.std.proofs.lemmas.Int.{ints}
 use borrow.Author.Count.{below_more}
 use Rattle.pra_base.specs.declared.ids.Place.{Place}

@@ -1,20 +1,19 @@
 -- Paths of a strand, and what passes through its terrain.
-use Rattle.std.proofs.Common.{ℕ, suc, ◌≡◌, ◌⊎◌, ◌<◌, ◌≤◌, ◌+◌, ◌-◌, ◌*◌, Bool, true, false, ◌&&◌, ◌||◌, not, eqb, ℤ, pos, ◌+ℤ◌, ◌-ℤ◌, ◌≤ℤ◌, List, [], ◌∷◌, length, Option, Some, None, All, IsTrue, refl, sym, subst, ap, ◌∙◌, inl, inr, arith, slice_get}
+use Rattle.std.proofs.Common.{ℕ, suc, ◌≡◌, ◌*◌, Bool, ◌&&◌, pos, ◌+ℤ◌, List, [], ◌∷◌, Option, Some, None, All, IsTrue, refl, sym, subst, ap, ◌∙◌, arith}
 use Rattle.std.proofs.lemmas.Int.{ints}
 use Rattle.std.proofs.lemmas.List.Elements.{All-nil, All-cons, All-head, All-tail}
 use Rattle.pra_base.specs.declared.ids.Place.{Place}
 use Rattle.net_cost.specs.declared.weights.Weights.{Weights}
-use Rattle.net_form.specs.declared.net.Strand.{Strand}
 use Rattle.net_form.specs.declared.net.Net.{Net}
 use Rattle.net_form.specs.declared.prices.Prices.{Prices}
 use Rattle.net_form.specs.declared.routes.Ends.{Ends}
-use Rattle.net_form.specs.Flow.{Edge, edges, same_place}
+use Rattle.net_form.specs.Flow.{Edge, edges}
 use Rattle.net_form.specs.Admitted.{strand_at, in_mask, stays_across}
-use Rattle.net_form.specs.Cost.{way_cost, extras_cost}
+use Rattle.net_form.specs.Cost.{way_cost}
 use Rattle.net_form.specs.Tables.{all_tables}
 use Rattle.net_dual.specs.Priced.{total, edge_price}
 use Rattle.net_path.specs.Rests.{Terrain, Passes, rest_price}
-use Rattle.net_path.specs.Grounds.{edge, suits, suits_ends, is_open, there_price, layer, terrain}
+use Rattle.net_path.specs.Grounds.{edge, suits_ends, is_open, there_price, layer, terrain}
 
 module _ (net : Net) (w : Weights) (prices : Prices) (ends : Ends) (free : Edge → Bool) (s : ℕ) (any : (l : ℕ) (p : Option Place) (q : Place) → free (edge s l p q) ≡ free (edge s l None q)) where
   abbrev t : Terrain

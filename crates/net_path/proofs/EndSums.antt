@@ -1,10 +1,10 @@
 -- Sums over the ends of memory pairs.
-use Rattle.std.proofs.Common.{cond, ℕ, zero, suc, ◌≡◌, ◌≢◌, ◌⊎◌, ◌+◌, ◌-◌, ◌*◌, ◌^◌, ◌<◌, ◌≤◌, Bool, true, false, ◌&&◌, ◌||◌, eqb, ℤ, pos, ◌+ℤ◌, ◌-ℤ◌, ◌≤ℤ◌, ◌<ℤ◌, List, [], ◌∷◌, ◌++◌, length, map, take, get_or, count_by, Option, Some, None, refl, sym, subst, ap, ◌∙◌, inl, inr, arith, add-one}
+use Rattle.std.proofs.Common.{cond, ℕ, zero, suc, ◌≡◌, ◌≢◌, ◌⊎◌, ◌+◌, ◌*◌, ◌^◌, ◌<◌, ◌≤◌, Bool, true, false, ℤ, pos, ◌+ℤ◌, ◌≤ℤ◌, ◌<ℤ◌, List, [], ◌∷◌, ◌++◌, length, map, take, get_or, count_by, Option, Some, None, refl, sym, subst, ap, ◌∙◌, inl, inr, arith, add-one}
 use Rattle.std.specs.Prelude.{nat_eq}
-use Rattle.std.specs.List.{range_with_len, flat_map, filter_map, enumerate_from, cons_option}
+use Rattle.std.specs.List.{range_with_len, flat_map, filter_map, enumerate_from}
 use Rattle.std.proofs.lemmas.Int.{ints}
 use Rattle.std.proofs.lemmas.Bool.{cases_eq, cases_Bool, eq-eqb, ne_eqb}
-use Rattle.std.proofs.lemmas.List.{length-append, map-append, length-map}
+use Rattle.std.proofs.lemmas.List.{length-append, map-append}
 use Rattle.std.proofs.Math.Seq.{take-suc}
 use Rattle.pra_list.proofs.Counts.{bit, count-cons}
 use Rattle.net_form.specs.declared.net.MemPair.{MemPair}
@@ -16,7 +16,6 @@ use Rattle.net_dual.specs.Priced.{total, pay}
 use Rattle.net_dual.proofs.Totals.{total-append}
 use Rattle.net_path.specs.Ends.{ends_sum, busy, mem_number, IsMemory, IsOneEnd}
 use Rattle.net_path.specs.Rests.{unreached}
-use Rattle.net_path.specs.Rows.{IsAbout}
 
 -- ---- one end more
 

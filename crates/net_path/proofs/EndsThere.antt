@@ -1,18 +1,18 @@
 -- The end of a number, among those of a strand; and rows of which one pays it.
-use Rattle.std.proofs.Common.{ℕ, ◌≡◌, ◌≢◌, ◌+◌, ◌-◌, ◌*◌, ◌^◌, ◌<◌, ◌≤◌, ◌∙◌, Bool, true, false, ℤ, pos, ◌+ℤ◌, ◌≤ℤ◌, List, [], length, take, get_or, set, refl, subst, sym, ap, arith, inl, inr, get_or-set_same, get_or-set_other, length-set}
+use Rattle.std.proofs.Common.{ℕ, ◌≡◌, ◌≢◌, ◌+◌, ◌-◌, ◌^◌, ◌<◌, ◌≤◌, ◌∙◌, Bool, true, false, ℤ, pos, ◌≤ℤ◌, List, [], length, take, get_or, set, refl, subst, sym, ap, arith, inl, inr, get_or-set_same, get_or-set_other}
 use Rattle.std.proofs.lemmas.Int.{ints}
 use Rattle.std.proofs.lemmas.Bool.{cases_eq}
-use Rattle.std.proofs.lemmas.List.{get_or_read, take_all, length-take}
+use Rattle.std.proofs.lemmas.List.{length-take}
 use Rattle.net_form.specs.declared.net.Net.{Net}
 use Rattle.net_form.specs.declared.net.PairEnd.{PairEnd}
 use Rattle.net_form.specs.declared.prices.Prices.{Prices}
 use Rattle.net_form.specs.declared.taken.Taken.{Taken}
-use Rattle.net_form.specs.Admitted.{strand_at, no_strand}
+use Rattle.net_form.specs.Admitted.{strand_at}
 use Rattle.net_form.specs.Formed.{IsFormed}
-use Rattle.net_form.proofs.PairUses.{IsEndOf, pairs_long, pairs_end, ends_there, ends_few, ends_within}
+use Rattle.net_form.proofs.PairUses.{IsEndOf, pairs_end, ends_there, ends_few, ends_within}
 use Rattle.net_dual.specs.Priced.{pay}
 use Rattle.net_path.specs.declared.crossbar.Row.{Row}
-use Rattle.net_path.specs.Ends.{ends_sum, busy, mem_number, IsMemory, IsMemoryRow, AreMemoryRows, IsOneEnd, strand_ends}
+use Rattle.net_path.specs.Ends.{ends_sum, busy, mem_number, IsMemoryRow, AreMemoryRows, IsOneEnd, strand_ends}
 use Rattle.net_path.specs.Rows.{costs_at, no_row}
 use Rattle.net_path.specs.Ways.{at}
 use Rattle.net_path.proofs.EndSums.{other_end, this_end, ends_between}

@@ -1,15 +1,13 @@
 -- The ties that go to a strand lie together.
-use Rattle.std.proofs.Common.{cond, ℕ, zero, suc, ◌≡◌, ◌⊎◌, ◌+◌, ◌-◌, ◌*◌, ◌^◌, ◌<◌, ◌≤◌, Bool, true, false, ◌&&◌, eqb, ltb, ℤ, pos, ◌+ℤ◌, ◌≤ℤ◌, List, [], ◌∷◌, ◌++◌, length, map, get_or, count_by, All, Some, None, refl, sym, subst, ap, ◌∙◌, inl, inr, arith}
-use Rattle.std.specs.Prelude.{nat_lt, nat_eq, IfSome}
-use Rattle.std.specs.List.{range_with_len, enumerate_from, flat_map, filter_map, cons_option}
+use Rattle.std.proofs.Common.{cond, ℕ, zero, suc, ◌≡◌, ◌+◌, ◌-◌, ◌<◌, ◌≤◌, Bool, true, false, eqb, ℤ, List, [], ◌∷◌, ◌++◌, length, get_or, count_by, All, Some, None, refl, sym, subst, ap, ◌∙◌, inl, inr, arith}
+use Rattle.std.specs.Prelude.{nat_lt, nat_eq}
+use Rattle.std.specs.List.{range_with_len, enumerate_from, flat_map, filter_map}
 use Rattle.std.proofs.lemmas.Int.{ints}
-use Rattle.std.proofs.lemmas.Bool.{cases_Bool, cases_eq, eq-eqb, ne_eqb, and_from, and_left, eqb-true}
+use Rattle.std.proofs.lemmas.Bool.{cases_Bool, cases_eq, eq-eqb, ne_eqb, and_from, and_left}
 use Rattle.std.proofs.lemmas.Bool.Decides.{nat_tests}
 use Rattle.std.proofs.lemmas.List.{length-append, get_or-append_right, get_or_append_left}
 use Rattle.std.proofs.lemmas.List.FromFn.{length-map-range_with_len, get_or-map-range_with_len}
-use Rattle.std.proofs.lemmas.List.Elements.{All-nil, All-cons, All-get_or}
-use Rattle.std.proofs.lemmas.List.Sums.{count_by-le-length}
-use Rattle.pra_list.proofs.Comprehensions.{All-filter_map, IfSome-test}
+use Rattle.std.proofs.lemmas.List.Elements.{All-nil, All-cons}
 use Rattle.pra_list.proofs.Counts.{bit, count-cons, count-none}
 use Rattle.pra_base.specs.declared.ids.Place.{Place}
 use Rattle.net_form.specs.declared.net.Net.{Net}
@@ -17,7 +15,6 @@ use Rattle.net_form.specs.declared.net.NetIndex.{NetIndex}
 use Rattle.net_form.specs.declared.net.Tie.{Tie}
 use Rattle.net_form.specs.declared.prices.Prices.{Prices}
 use Rattle.net_form.specs.Admitted.{strand_at}
-use Rattle.net_form.specs.Flow.{Edge}
 use Rattle.net_form.specs.Formed.{IsFormed}
 use Rattle.net_dual.specs.Priced.{total, pay, enters, entry_part, tie_price}
 use Rattle.net_path.specs.Grounds.{edge}

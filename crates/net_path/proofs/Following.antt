@@ -1,10 +1,9 @@
 -- A path that goes on to a best place at each layer.
-use Rattle.std.proofs.Common.{ℕ, suc, ◌≡◌, ◌⊎◌, ◌<◌, ◌≤◌, ◌+◌, ◌%◌, true, ℤ, pos, ◌+ℤ◌, ◌≤ℤ◌, List, [], ◌∷◌, ◌++◌, length, take, set, Option, Some, None, IsTrue, refl, sym, subst, ap, ◌∙◌, inl, inr, arith, add-one, append_assoc}
+use Rattle.std.proofs.Common.{ℕ, suc, ◌≡◌, ◌<◌, ◌+◌, ◌%◌, ℤ, ◌+ℤ◌, List, ◌∷◌, ◌++◌, length, take, set, Some, None, IsTrue, refl, sym, subst, ap, ◌∙◌, inl, inr, arith, add-one, append_assoc}
 use Rattle.std.proofs.lemmas.Int.{ints}
 use Rattle.std.proofs.Math.Seq.{take-suc-set}
 use Rattle.pra_base.specs.declared.ids.Place.{Place}
 use Rattle.pra_base.specs.Places.{number}
-use Rattle.net_form.specs.Flow.{same_place}
 use Rattle.net_form.proofs.PlaceEquality.{same_place-refl}
 use Rattle.net_path.specs.declared.crossbar.Ways.{Ways}
 use Rattle.net_path.specs.declared.path.Choice.{Choice}

@@ -1,5 +1,5 @@
 -- Paths that a strand may take, and edges that are good.
-use Rattle.std.proofs.Common.{ℕ, suc, ◌≡◌, ◌⊎◌, ◌<◌, ◌≤◌, ◌+◌, ◌-◌, Bool, true, false, ◌&&◌, ◌||◌, not, eqb, List, [], ◌∷◌, length, Option, Some, None, All, IsTrue, IfSome, refl, sym, subst, ap, ◌∙◌, inl, inr, arith, slice_get}
+use Rattle.std.proofs.Common.{ℕ, suc, ◌≡◌, ◌<◌, ◌≤◌, ◌+◌, ◌-◌, Bool, true, false, ◌&&◌, ◌||◌, not, eqb, List, [], ◌∷◌, length, Option, Some, None, All, IsTrue, IfSome, refl, sym, subst, ap, arith, slice_get}
 use Rattle.std.proofs.lemmas.Bool.{eqb-true, eq-eqb, false≢true}
 use Rattle.std.proofs.lemmas.List.Elements.{All-nil, All-cons, All-head, All-tail}
 use Rattle.pra_base.specs.declared.ids.Place.{Place}
@@ -7,7 +7,7 @@ use Rattle.net_form.specs.declared.net.Strand.{Strand}
 use Rattle.net_form.specs.declared.net.Net.{Net}
 use Rattle.net_form.specs.declared.routes.Ends.{Ends}
 use Rattle.net_form.specs.Flow.{Edge, edges, same_place}
-use Rattle.net_form.specs.Admitted.{strand_at, in_mask, stays_across}
+use Rattle.net_form.specs.Admitted.{strand_at, stays_across}
 use Rattle.net_form.proofs.PlaceEquality.{same_place-true, same_place-refl}
 use Rattle.net_dual.specs.Paths.{IsPath, HasEnds, path_edges}
 use Rattle.net_path.specs.Grounds.{edge, suits, suits_ends, is_open}

@@ -1,5 +1,5 @@
 -- The terrain of a strand is as its ways say, and where a path may begin.
-use Rattle.std.proofs.Common.{cond, ℕ, zero, suc, ◌≡◌, ◌⊎◌, ◌<◌, ◌≤◌, ◌+◌, ◌-◌, ◌*◌, ◌%◌, ◌^◌, Bool, true, false, ◌&&◌, ◌||◌, not, eqb, ℤ, pos, ◌+ℤ◌, ◌≤ℤ◌, ◌<ℤ◌, List, [], ◌∷◌, length, Option, Some, None, IsTrue, All, refl, sym, subst, ap, ◌∙◌, inl, inr, arith}
+use Rattle.std.proofs.Common.{cond, ℕ, ◌≡◌, ◌+◌, ◌*◌, ◌%◌, Bool, true, false, ◌&&◌, ◌||◌, not, ℤ, pos, List, [], Option, Some, None, refl, sym, subst, ap, ◌∙◌, arith}
 use Rattle.std.proofs.lemmas.Int.{ints}
 use Rattle.std.proofs.lemmas.Bool.{eq-eqb, ne_eqb}
 use Rattle.pra_base.specs.declared.ids.Place.{Place}
@@ -10,10 +10,9 @@ use Rattle.net_cost.specs.Weights.{IsValid}
 use Rattle.net_form.specs.declared.net.Net.{Net}
 use Rattle.net_form.specs.declared.prices.Prices.{Prices}
 use Rattle.net_form.specs.declared.routes.Ends.{Ends}
-use Rattle.net_form.specs.Admitted.{strand_at, is_across, stays_from, stays_across}
-use Rattle.net_form.specs.Cost.{depth_at, events_weight, way_cost}
+use Rattle.net_form.specs.Admitted.{strand_at, is_across}
+use Rattle.net_form.specs.Cost.{depth_at, events_weight}
 use Rattle.net_form.specs.Flow.{Edge, same_place}
-use Rattle.net_form.specs.Tables.{all_tables}
 use Rattle.net_laws.specs.Built.{IsBuilt}
 use Rattle.net_dual.specs.Priced.{AreInRange}
 use Rattle.net_dual.proofs.Small.{cost_small}
@@ -24,7 +23,7 @@ use Rattle.net_path.specs.Grounds.{edge, layer, terrain}
 use Rattle.net_path.specs.declared.crossbar.Row.{Row}
 use Rattle.net_path.specs.Rests.{Terrain, IsBest, AreRows}
 use Rattle.net_path.specs.Rows.{IsGround, AreCells, slack_at}
-use Rattle.net_path.specs.Ways.{at, AreWays, AreWaysWithin, way_price, step_price, start_price}
+use Rattle.net_path.specs.Ways.{AreWays, start_price}
 use Rattle.net_path.proofs.Numbers.{number_below}
 use Rattle.net_path.proofs.Steps.{step_is_way, one}
 use Rattle.net_path.proofs.WholeCells.{there_about}
@@ -52,7 +51,7 @@ module _ (net : Net) (built : IsBuilt net) (prices : Prices) (range : AreInRange
     crossbar = λ k p q odd. (
       ap (λ (b : Bool). not b || same_place p q) (across_false k (Some p) q odd),
       ap (λ (b : Bool). pos (1024 * events_weight w (depth_at net s) (cond b [] (crossbar net.near (number p) (number q))))) (across_false k (Some p) q odd)
-      ∙ step_is_way w (depth_at net s) net.near ways are (number p) (number q),
+          ∙ step_is_way w (depth_at net s) net.near ways are (number p) (number q),
     );
     way_low = λ k p q. omega (arith, ints);
     way_high = λ k p q. let small = cost_small net built w valid (e k p q) in omega (arith, ints, small);

@@ -1,5 +1,5 @@
 -- What was found is a least path, or there is none.
-use Rattle.std.proofs.Common.{ℕ, zero, suc, ◌≡◌, ◌⊎◌, ◌<◌, ◌≤◌, ◌+◌, ◌-◌, ◌*◌, ◌^◌, Bool, true, false, ℤ, pos, ◌+ℤ◌, ◌-ℤ◌, ◌≤ℤ◌, ◌<ℤ◌, List, [], ◌∷◌, length, Option, Some, None, All, refl, sym, subst, ap, ◌∙◌, inl, inr, arith}
+use Rattle.std.proofs.Common.{ℕ, suc, ◌≡◌, ◌<◌, ◌≤◌, ◌+◌, ◌-◌, ◌^◌, false, ℤ, pos, ◌≤ℤ◌, ◌<ℤ◌, List, length, None, refl, subst, arith}
 use Rattle.std.proofs.lemmas.Int.{ints}
 use lib.Signed.{le_z}
 use Rattle.pra_base.specs.declared.ids.Place.{Place}
@@ -10,15 +10,14 @@ use Rattle.net_form.specs.declared.prices.Prices.{Prices}
 use Rattle.net_form.specs.declared.routes.Ends.{Ends}
 use Rattle.net_form.specs.declared.taken.Taken.{Taken}
 use Rattle.net_form.specs.Admitted.{strand_at, no_strand}
-use Rattle.net_form.specs.Flow.{Edge, edges}
 use Rattle.net_form.specs.InUse.{UsesNothing}
 use Rattle.net_form.proofs.Layers.{in_layers}
 use Rattle.net_laws.specs.Built.{IsBuilt}
-use Rattle.net_dual.specs.Priced.{total, edge_price, AreInRange}
-use Rattle.net_dual.specs.Paths.{IsPath, HasEnds, MayGo, IsLeast, path_edges, path_price}
+use Rattle.net_dual.specs.Priced.{edge_price, AreInRange}
+use Rattle.net_dual.specs.Paths.{MayGo, IsLeast, path_edges, path_price}
 use Rattle.net_dual.proofs.Small.{path_is_small}
-use Rattle.net_path.specs.Grounds.{edge, layer, terrain, is_free, is_open}
-use Rattle.net_path.specs.Rests.{unreached, Terrain, Passes, rest_price, IsBest, IsLeastRest, AreRows, Follows}
+use Rattle.net_path.specs.Grounds.{layer, terrain, is_free}
+use Rattle.net_path.specs.Rests.{Terrain, Passes, rest_price, IsBest, IsLeastRest, AreRows, Follows}
 use Rattle.net_path.specs.Rows.{slack_at}
 use Rattle.net_path.proofs.Bridges.{to_edges, from_edges, price_is}
 use Rattle.net_path.proofs.GoodPaths.{good_of, path_of}

@@ -1,12 +1,12 @@
 -- The law of rows: the least of coming to a place and of what is paid from there on is the least of
 -- the rest, layer by layer from the last one.
-use Rattle.std.proofs.Common.{ℕ, zero, suc, ◌≡◌, ◌⊎◌, ◌+◌, ◌^◌, ◌<◌, ◌≤◌, Bool, true, false, ℤ, pos, ◌+ℤ◌, ◌≤ℤ◌, ◌<ℤ◌, List, [], ◌∷◌, length, Option, Some, IsTrue, refl, sym, subst, ap, inl, inr, arith}
+use Rattle.std.proofs.Common.{ℕ, zero, suc, ◌≡◌, ◌⊎◌, ◌+◌, ◌^◌, Bool, true, false, ℤ, pos, ◌+ℤ◌, ◌≤ℤ◌, ◌<ℤ◌, List, [], ◌∷◌, length, Option, Some, IsTrue, refl, sym, subst, ap, inl, inr, arith}
 use Rattle.std.proofs.lemmas.Int.{ints}
 use Rattle.std.proofs.lemmas.Bool.{false≢true}
 use Rattle.pra_base.specs.declared.ids.Place.{Place}
 use Rattle.pra_base.specs.Places.{number}
 use Rattle.net_path.specs.Ways.{at}
-use Rattle.net_path.specs.Rests.{unreached, Terrain, Passes, rest_price, IsLeastRest, IsPaidThere, IsFrom, IsRow, IsMetBy, IsBest, Follows, IsSlack, AreRows}
+use Rattle.net_path.specs.Rests.{unreached, Terrain, Passes, rest_price, IsLeastRest, IsPaidThere, IsFrom, IsRow, IsBest, Follows, IsSlack, AreRows}
 
 -- behind the last layer nothing is left
 pub nothing_left : (t : Terrain) (l : ℕ) (p : Option Place) (slack : ℕ) → IsLeastRest t 0 l p slack (pos 0)

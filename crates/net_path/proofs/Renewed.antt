@@ -1,15 +1,15 @@
 -- A least path that may use anything.
-use Rattle.std.proofs.Common.{ℕ, ℤ, ◌≡◌, ◌≢◌, ◌<◌, ◌+◌, List, [], length, All, None, get_or, set, refl, sym, subst, ap, ◌∙◌, arith, inl, inr, get_or-set_same, get_or-set_other, length-set}
+use Rattle.std.proofs.Common.{ℕ, ℤ, ◌≡◌, ◌≢◌, ◌<◌, List, [], length, get_or, set, sym, subst, ap, ◌∙◌, arith, inl, inr, get_or-set_same, get_or-set_other, length-set}
 use Rattle.std.proofs.lemmas.Bool.{cases_eq}
 use Rattle.pra_base.specs.declared.ids.Place.{Place}
 use Rattle.net_form.specs.declared.net.Net.{Net}
 use Rattle.net_form.specs.declared.routes.Routes.{Routes}
 use Rattle.net_form.specs.declared.taken.Taken.{Taken}
-use Rattle.net_form.specs.Admitted.{strand_at, layer_of}
+use Rattle.net_form.specs.Admitted.{strand_at}
 use Rattle.net_form.specs.Flow.{Edge}
 use Rattle.net_form.specs.InUse.{UsesNothing, StandsFor}
 use Rattle.net_laws.specs.Built.{IsBuilt}
-use Rattle.net_dual.specs.Paths.{IsPath, HasEnds, MayGo, IsLeast, Anywhere, any_ends, path_edges, path_in}
+use Rattle.net_dual.specs.Paths.{MayGo, IsLeast, Anywhere, any_ends, path_edges, path_in}
 use Rattle.net_path.specs.Desk.{HasSizes}
 use Rattle.net_path.proofs.SomePath.{some_path}
 
@@ -41,7 +41,7 @@ module _ (net : Net) (old new : Routes) (s : ℕ) (path : List Place) (sizes : H
   renewed_sizes = record {
     many = ap length is ∙ length-set old.places s path ∙ sizes.many;
     each = λ k lt. elim (cases_eq k s) as (λ _. length (path_in new k) ≡ length (strand_at net k).masks) [
-          inl here ↦ subst (λ (k : ℕ). length (path_in new k) ≡ length (strand_at net k).masks) (sym here) (ap length renewed_at ∙ size)
-        | inr other ↦ ap length (renewed_other k other) ∙ sizes.each k lt
-        ];
+      | inl here ↦ subst (λ (k : ℕ). length (path_in new k) ≡ length (strand_at net k).masks) (sym here) (ap length renewed_at ∙ size)
+      | inr other ↦ ap length (renewed_other k other) ∙ sizes.each k lt
+    ];
   }

@@ -1,27 +1,27 @@
 -- Each strand of a built network has a path: at home where it may be, and else in a register.
-use Rattle.std.proofs.Common.{cond, ℕ, zero, suc, ◌≡◌, ◌⊎◌, ◌<◌, ◌≤◌, ◌+◌, ◌-◌, ◌%◌, Bool, true, false, ◌&&◌, ◌||◌, not, eqb, leb, List, [], ◌∷◌, length, map, count_by, min, Option, Some, None, All, IsTrue, refl, sym, subst, ap, ◌∙◌, inl, inr, arith}
+use Rattle.std.proofs.Common.{cond, ℕ, zero, suc, ◌≡◌, ◌<◌, ◌≤◌, ◌+◌, ◌-◌, ◌%◌, Bool, true, false, ◌&&◌, ◌||◌, not, eqb, List, [], ◌∷◌, length, map, count_by, min, Option, Some, None, All, IsTrue, refl, sym, subst, ap, ◌∙◌, inl, inr, arith}
 use Rattle.std.specs.Prelude.{nat_lt}
 use Rattle.std.specs.Int.{bit_at}
 use Rattle.std.specs.List.{range_with_len}
-use Rattle.std.proofs.lemmas.Bool.{cases_Bool, cases_eq, eq-eqb, ne_eqb, eqb-true, false≢true, and_from, lt-ltb}
+use Rattle.std.proofs.lemmas.Bool.{cases_Bool, cases_eq, eq-eqb, ne_eqb, eqb-true, and_from, lt-ltb}
 use Rattle.std.proofs.lemmas.Bool.Decides.{nat_tests}
 use Rattle.std.proofs.lemmas.Nat.Bits.{bit_at_and, bit_at-lt}
 use Rattle.std.proofs.lemmas.List.{length-map}
 use Rattle.std.proofs.lemmas.List.FromFn.{length-range_with_len}
 use Rattle.std.proofs.lemmas.List.Elements.{All-nil, All-cons}
-use Rattle.pra_list.proofs.Counts.{count-yes, count-no}
+use Rattle.pra_list.proofs.Counts.{count-no}
 use Rattle.pra_base.specs.declared.ids.Place.{Place}
 use Rattle.pra_base.specs.declared.ids.Place.TheVariants.{Eax, Ecx, Edx, Ebx, Esi, Edi}
 use Rattle.pra_base.specs.Places.{number, allows, meet}
 use Rattle.net_form.specs.declared.net.Strand.{Strand}
 use Rattle.net_form.specs.declared.net.Net.{Net}
 use Rattle.net_form.specs.Admitted.{strand_at, no_strand, in_mask, stays_across, is_across}
-use Rattle.net_form.specs.Flow.{Edge, edges, same_place}
+use Rattle.net_form.specs.Flow.{edges, same_place}
 use Rattle.net_form.specs.Strands.{across}
 use Rattle.net_form.proofs.PlaceEquality.{same_place-refl}
 use Rattle.net_laws.specs.Built.{IsBuilt}
-use Rattle.net_laws.specs.Homes.{home_of, is_there, passes, mask_in, allowed, has_home, needs_register, yields}
-use Rattle.net_dual.specs.Paths.{IsPath, path_edges}
+use Rattle.net_laws.specs.Homes.{home_of, is_there, passes, mask_in, allowed, needs_register, yields}
+use Rattle.net_dual.specs.Paths.{IsPath}
 use Rattle.net_path.specs.Grounds.{edge}
 
 -- ---- a place that a test lets pass
@@ -39,15 +39,15 @@ pick ok home = cond (ok (number home)) home (pick_in ok six home)
 passes_in : (ok : ℕ → Bool) (ps : List Place) (d : Place) → 0 < count_by (λ p. ok (number p)) ps → ok (number (pick_in ok ps d)) ≡ true
 passes_in ok [] d some = absurd (omega (arith, some))
 passes_in ok (p ∷ ps) d some = elim (cases_Bool (ok (number p))) as (λ _. ok (number (pick_in ok (p ∷ ps) d)) ≡ true) [
-      inl is ↦ subst (λ (b : Bool). ok (number (cond b p (pick_in ok ps d))) ≡ true) (sym is) is
-    | inr is ↦ subst (λ (b : Bool). ok (number (cond b p (pick_in ok ps d))) ≡ true) (sym is) (passes_in ok ps d (let fewer = count-no (λ p. ok (number p)) p ps is in omega (arith, fewer, some)))
-    ]
+  | inl is ↦ subst (λ (b : Bool). ok (number (cond b p (pick_in ok ps d))) ≡ true) (sym is) is
+  | inr is ↦ subst (λ (b : Bool). ok (number (cond b p (pick_in ok ps d))) ≡ true) (sym is) (passes_in ok ps d (let fewer = count-no (λ p. ok (number p)) p ps is in omega (arith, fewer, some)))
+]
 
 picked : (ok : ℕ → Bool) (home : Place) → (ok (number home) ≡ false → 0 < count_by ok (range_with_len 0 6)) → ok (number (pick ok home)) ≡ true
 picked ok home some = elim (cases_Bool (ok (number home))) as (λ _. ok (number (pick ok home)) ≡ true) [
-      inl is ↦ subst (λ (b : Bool). ok (number (cond b home (pick_in ok six home))) ≡ true) (sym is) is
-    | inr is ↦ subst (λ (b : Bool). ok (number (cond b home (pick_in ok six home))) ≡ true) (sym is) (passes_in ok six home (some is))
-    ]
+  | inl is ↦ subst (λ (b : Bool). ok (number (cond b home (pick_in ok six home))) ≡ true) (sym is) is
+  | inr is ↦ subst (λ (b : Bool). ok (number (cond b home (pick_in ok six home))) ≡ true) (sym is) (passes_in ok six home (some is))
+]
 
 same_in : (a b : ℕ → Bool) (ps : List Place) (d : Place) → ((k : ℕ) → a k ≡ b k) → pick_in a ps d ≡ pick_in b ps d
 same_in a b [] d same = refl
@@ -87,10 +87,10 @@ module _ (net : Net) (built : IsBuilt net) (s : ℕ) (lt : s < length net.strand
   -- the masks allow it
   masked : (l : ℕ) → t.first ≤ l → l ≤ t.last → allows (mask_in t l) (number (place l)) ≡ true
   masked l a b = elim (cases_Bool (passes t l)) as (λ _. allows (mask_in t l) (number (place l)) ≡ true) [
-        inl is ↦ met_first (mask_in t l) (mask_in t (across l)) (number (place l))
-            (subst (λ (m : ℕ). allows m (number (place l)) ≡ true) (ap (λ (x : Bool). cond x (meet (mask_in t l) (mask_in t (across l))) (mask_in t l)) is) (open_there l a b))
-      | inr is ↦ subst (λ (m : ℕ). allows m (number (place l)) ≡ true) (ap (λ (x : Bool). cond x (meet (mask_in t l) (mask_in t (across l))) (mask_in t l)) is) (open_there l a b)
-      ]
+    | inl is ↦ met_first (mask_in t l) (mask_in t (across l)) (number (place l))
+        (subst (λ (m : ℕ). allows m (number (place l)) ≡ true) (ap (λ (x : Bool). cond x (meet (mask_in t l) (mask_in t (across l))) (mask_in t l)) is) (open_there l a b))
+    | inr is ↦ subst (λ (m : ℕ). allows m (number (place l)) ≡ true) (ap (λ (x : Bool). cond x (meet (mask_in t l) (mask_in t (across l))) (mask_in t l)) is) (open_there l a b)
+  ]
 
   -- and it is the same on both sides of an instruction
   across_even : (l : ℕ) → l % 2 ≡ 0 → across l ≡ l - 1
@@ -127,10 +127,10 @@ module _ (net : Net) (built : IsBuilt net) (s : ℕ) (lt : s < length net.strand
     by true = refl
     by false = refl
   stays l (Some p) (before a) b = elim (cases_eq (l % 2) 0) as (λ _. stays_across (edge s l (Some (place (l - 1))) (place l)) ≡ true) [
-        inl even ↦ ap (λ (x : Bool). not x || same_place (place (l - 1)) (place l)) (eq-eqb (l % 2) 0 even)
-            ∙ subst (λ (q : Place). same_place (place (l - 1)) q ≡ true) (both_sides l even a b) (same_place-refl (place (l - 1)))
-      | inr odd ↦ ap (λ (x : Bool). not x || same_place (place (l - 1)) (place l)) (ne_eqb (l % 2) 0 odd)
-      ]
+    | inl even ↦ ap (λ (x : Bool). not x || same_place (place (l - 1)) (place l)) (eq-eqb (l % 2) 0 even)
+        ∙ subst (λ (q : Place). same_place (place (l - 1)) q ≡ true) (both_sides l even a b) (same_place-refl (place (l - 1)))
+    | inr odd ↦ ap (λ (x : Bool). not x || same_place (place (l - 1)) (place l)) (ne_eqb (l % 2) 0 odd)
+  ]
 
   next : (l : ℕ) → t.first ≤ l → From (suc l) (Some (place l))
   next l a = let e : suc l - 1 ≡ l = omega arith in subst (λ (k : ℕ). From (suc l) (Some (place k))) e (before (omega (arith, a)))

@@ -1,7 +1,7 @@
 -- The rows of a strand, stage by stage.
-use Rattle.std.proofs.Common.{ℕ, zero, suc, ◌≡◌, ◌≢◌, ◌⊎◌, ◌+◌, ◌-◌, ◌*◌, ◌^◌, ◌<◌, ◌≤◌, ◌∙◌, Bool, true, false, ℤ, pos, ◌+ℤ◌, ◌-ℤ◌, ◌≤ℤ◌, List, length, get_or, set, None, refl, sym, subst, ap, inl, inr, arith, get_or-set_same, get_or-set_other, length-set}
+use Rattle.std.proofs.Common.{ℕ, suc, ◌≡◌, ◌⊎◌, ◌+◌, ◌^◌, ◌<◌, ◌≤◌, ◌∙◌, Bool, true, false, ℤ, pos, ◌+ℤ◌, ◌-ℤ◌, List, length, get_or, set, None, sym, subst, ap, inl, inr, arith, get_or-set_same, get_or-set_other}
 use Rattle.std.proofs.lemmas.Int.{ints}
-use Rattle.std.proofs.lemmas.Bool.{cases_eq, cases_Bool}
+use Rattle.std.proofs.lemmas.Bool.{cases_eq}
 use Rattle.pra_base.specs.declared.ids.Place.{Place}
 use Rattle.pra_base.specs.Places.{number}
 use Rattle.net_cost.specs.declared.weights.Weights.{Weights}
@@ -16,7 +16,7 @@ use Rattle.net_form.proofs.Layers.{in_layers}
 use Rattle.net_laws.specs.Built.{IsBuilt}
 use Rattle.net_dual.specs.Priced.{total, mem_part, exit_part, entry_part, AreInRange}
 use Rattle.net_path.specs.declared.crossbar.Row.{Row}
-use Rattle.net_path.specs.Cells.{alone_price, is_open_alone, ArePlainRows}
+use Rattle.net_path.specs.Cells.{alone_price, ArePlainRows}
 use Rattle.net_path.specs.Ends.{IsMemory, AreMemoryRows, strand_ends}
 use Rattle.net_path.specs.Grounds.{edge, layer, is_free, is_open, there_price}
 use Rattle.net_path.specs.Rests.{unreached}
@@ -78,23 +78,23 @@ module _ (net : Net) (built : IsBuilt net) (prices : Prices) (range : AreInRange
   pub cells_two : (rows : List Row) (row : Row) (k' : ℕ) → suc k' ≡ n → length rows ≡ n → AreCellsOf paid_one rows
       → ArePaidInAll (λ q. total (λ i. tie_pay prices true i q) (exit_ties net s)) (costs_at rows k') row.costs → AreCellsOf paid_two (set rows k' row)
   cells_two rows row k' last size are paid k q in_ = elim (cases_eq k k') as (λ _. IsCell (opened k q) (paid_two k q) (at (costs_at (set rows k' row) k) (number q))) [
-        inl here ↦
-            let is : get_or (set rows k' row) k no_row ≡ row = ap (λ (j : ℕ). get_or (set rows k' row) j no_row) here ∙ get_or-set_same rows k' row no_row (omega (arith, last, size)) in
-            let same : costs_at rows k' ≡ costs_at rows k = ap (λ (j : ℕ). costs_at rows j) (sym here) in
-            let at_last : (strand_at net s).last ≡ layer net s k = omega (arith, here, last, long) in
-            let pays : total (λ i. tie_pay prices true i q) (exit_ties net s) ≡ exit_part net prices (e k q) =
-            exits_pay net built prices range w valid s lt q ∙ ap (λ (l : ℕ). exit_part net prices (edge s l None q)) at_last in
-            let more = subst (λ (x : ℤ). IsSumMore (at (costs_at rows k') (number q)) x (at row.costs (number q))) pays (paid q) in
-            let more2 = subst (λ (xs : List ℤ). IsSumMore (at xs (number q)) (exit_part net prices (e k q)) (at row.costs (number q))) same more in
-            let a = one_about k q in_ in
-            subst (λ (r : Row). IsCell (opened k q) (paid_two k q) (at r.costs (number q))) (sym is)
-            (cell_more (opened k q) (paid_one k q) (exit_part net prices (e k q)) (at (costs_at rows k) (number q)) (at row.costs (number q)) (are k q in_) (omega (arith, ints, a), omega (arith, ints, a)) more2)
-      | inr other ↦
-            let is : get_or (set rows k' row) k no_row ≡ get_or rows k no_row = get_or-set_other rows k' k row no_row other in
-            let none = no_exit net prices s (layer net s k) q (λ h. other (omega (arith, h, last, long))) in
-            subst (λ (r : Row). IsCell (opened k q) (paid_two k q) (at r.costs (number q))) (sym is)
-            (cell_same (opened k q) (paid_one k q) (paid_two k q) (at (costs_at rows k) (number q)) (omega (arith, ints, none)) (are k q in_))
-      ]
+    | inl here ↦
+        let is : get_or (set rows k' row) k no_row ≡ row = ap (λ (j : ℕ). get_or (set rows k' row) j no_row) here ∙ get_or-set_same rows k' row no_row (omega (arith, last, size)) in
+        let same : costs_at rows k' ≡ costs_at rows k = ap (λ (j : ℕ). costs_at rows j) (sym here) in
+        let at_last : (strand_at net s).last ≡ layer net s k = omega (arith, here, last, long) in
+        let pays : total (λ i. tie_pay prices true i q) (exit_ties net s) ≡ exit_part net prices (e k q) =
+        exits_pay net built prices range w valid s lt q ∙ ap (λ (l : ℕ). exit_part net prices (edge s l None q)) at_last in
+        let more = subst (λ (x : ℤ). IsSumMore (at (costs_at rows k') (number q)) x (at row.costs (number q))) pays (paid q) in
+        let more2 = subst (λ (xs : List ℤ). IsSumMore (at xs (number q)) (exit_part net prices (e k q)) (at row.costs (number q))) same more in
+        let a = one_about k q in_ in
+        subst (λ (r : Row). IsCell (opened k q) (paid_two k q) (at r.costs (number q))) (sym is)
+        (cell_more (opened k q) (paid_one k q) (exit_part net prices (e k q)) (at (costs_at rows k) (number q)) (at row.costs (number q)) (are k q in_) (omega (arith, ints, a), omega (arith, ints, a)) more2)
+    | inr other ↦
+        let is : get_or (set rows k' row) k no_row ≡ get_or rows k no_row = get_or-set_other rows k' k row no_row other in
+        let none = no_exit net prices s (layer net s k) q (λ h. other (omega (arith, h, last, long))) in
+        subst (λ (r : Row). IsCell (opened k q) (paid_two k q) (at r.costs (number q))) (sym is)
+        (cell_same (opened k q) (paid_one k q) (paid_two k q) (at (costs_at rows k) (number q)) (omega (arith, ints, none)) (are k q in_))
+  ]
 
   pub room_two : (rows : List Row) → AreCellsOf paid_two rows → (k : ℕ) → k < n → HaveTieRoom (costs_at rows k)
   room_two rows are k in_ q = let a = two_about k q in_ in room_of (opened k q) (paid_two k q) (at (costs_at rows k) (number q)) (are k q in_) (omega (arith, ints, a), omega (arith, ints, a))
@@ -106,25 +106,25 @@ module _ (net : Net) (built : IsBuilt net) (prices : Prices) (range : AreInRange
   pub cells_three : (rows : List Row) (row : Row) → 0 < n → length rows ≡ n → AreCellsOf paid_two rows
       → ArePaidInAll (λ q. total (λ i. tie_pay prices false i q) (entry_ties net s)) (costs_at rows 0) row.costs → AreCellsOf paid_three (set rows 0 row)
   cells_three rows row some size are paid k q in_ = elim (cases_eq k 0) as (λ _. IsCell (opened k q) (paid_three k q) (at (costs_at (set rows 0 row) k) (number q))) [
-        inl here ↦
-            let is : get_or (set rows 0 row) k no_row ≡ row = ap (λ (j : ℕ). get_or (set rows 0 row) j no_row) here ∙ get_or-set_same rows 0 row no_row (omega (arith, some, size)) in
-            let same : costs_at rows 0 ≡ costs_at rows k = ap (λ (j : ℕ). costs_at rows j) (sym here) in
-            let at_first : (strand_at net s).first ≡ layer net s k = omega (arith, here) in
-            let pays : total (λ i. tie_pay prices false i q) (entry_ties net s) ≡ pos 0 -ℤ entry_part net prices (e k q) =
-            entries_pay net built prices range w valid s lt q ∙ ap (λ (l : ℕ). pos 0 -ℤ entry_part net prices (edge s l None q)) at_first in
-            let more = subst (λ (x : ℤ). IsSumMore (at (costs_at rows 0) (number q)) x (at row.costs (number q))) pays (paid q) in
-            let more2 = subst (λ (xs : List ℤ). IsSumMore (at xs (number q)) (pos 0 -ℤ entry_part net prices (e k q)) (at row.costs (number q))) same more in
-            let a = two_about k q in_ in
-            subst (λ (r : Row). IsCell (opened k q) (paid_three k q) (at r.costs (number q))) (sym is)
-            (cell_same (opened k q) (paid_two k q +ℤ (pos 0 -ℤ entry_part net prices (e k q))) (paid_three k q) (at row.costs (number q)) (whole_price net w prices (e k q))
-            (cell_more (opened k q) (paid_two k q) (pos 0 -ℤ entry_part net prices (e k q)) (at (costs_at rows k) (number q)) (at row.costs (number q)) (are k q in_) (omega (arith, ints, a), omega (arith, ints, a)) more2))
-      | inr other ↦
-            let is : get_or (set rows 0 row) k no_row ≡ get_or rows k no_row = get_or-set_other rows 0 k row no_row other in
-            let none = no_entry net prices s (layer net s k) q (λ h. other (omega (arith, h))) in
-            let whole = whole_price net w prices (e k q) in
-            subst (λ (r : Row). IsCell (opened k q) (paid_three k q) (at r.costs (number q))) (sym is)
-            (cell_same (opened k q) (paid_two k q) (paid_three k q) (at (costs_at rows k) (number q)) (omega (arith, ints, none, whole)) (are k q in_))
-      ]
+    | inl here ↦
+        let is : get_or (set rows 0 row) k no_row ≡ row = ap (λ (j : ℕ). get_or (set rows 0 row) j no_row) here ∙ get_or-set_same rows 0 row no_row (omega (arith, some, size)) in
+        let same : costs_at rows 0 ≡ costs_at rows k = ap (λ (j : ℕ). costs_at rows j) (sym here) in
+        let at_first : (strand_at net s).first ≡ layer net s k = omega (arith, here) in
+        let pays : total (λ i. tie_pay prices false i q) (entry_ties net s) ≡ pos 0 -ℤ entry_part net prices (e k q) =
+        entries_pay net built prices range w valid s lt q ∙ ap (λ (l : ℕ). pos 0 -ℤ entry_part net prices (edge s l None q)) at_first in
+        let more = subst (λ (x : ℤ). IsSumMore (at (costs_at rows 0) (number q)) x (at row.costs (number q))) pays (paid q) in
+        let more2 = subst (λ (xs : List ℤ). IsSumMore (at xs (number q)) (pos 0 -ℤ entry_part net prices (e k q)) (at row.costs (number q))) same more in
+        let a = two_about k q in_ in
+        subst (λ (r : Row). IsCell (opened k q) (paid_three k q) (at r.costs (number q))) (sym is)
+        (cell_same (opened k q) (paid_two k q +ℤ (pos 0 -ℤ entry_part net prices (e k q))) (paid_three k q) (at row.costs (number q)) (whole_price net w prices (e k q))
+        (cell_more (opened k q) (paid_two k q) (pos 0 -ℤ entry_part net prices (e k q)) (at (costs_at rows k) (number q)) (at row.costs (number q)) (are k q in_) (omega (arith, ints, a), omega (arith, ints, a)) more2))
+    | inr other ↦
+        let is : get_or (set rows 0 row) k no_row ≡ get_or rows k no_row = get_or-set_other rows 0 k row no_row other in
+        let none = no_entry net prices s (layer net s k) q (λ h. other (omega (arith, h))) in
+        let whole = whole_price net w prices (e k q) in
+        subst (λ (r : Row). IsCell (opened k q) (paid_three k q) (at r.costs (number q))) (sym is)
+        (cell_same (opened k q) (paid_two k q) (paid_three k q) (at (costs_at rows k) (number q)) (omega (arith, ints, none, whole)) (are k q in_))
+  ]
 
   pub all_within : (rows : List Row) → length rows ≡ n → AreCellsOf paid_three rows → AreCellsWithin rows
   all_within rows size are k p in_ lp =

@@ -1,8 +1,8 @@
 -- Cells, stage by stage: registers and extras, memory pairs, exits, entries.
-use Rattle.std.proofs.Common.{cond, ℕ, zero, suc, ◌≡◌, ◌≢◌, ◌⊎◌, ◌+◌, ◌-◌, ◌*◌, ◌^◌, ◌<◌, ◌≤◌, ◌∙◌, Bool, true, false, ◌&&◌, eqb, ℤ, pos, ◌+ℤ◌, ◌-ℤ◌, ◌≤ℤ◌, ◌<ℤ◌, List, length, get_or, count_by, Option, Some, None, refl, sym, subst, ap, inl, inr, arith}
+use Rattle.std.proofs.Common.{ℕ, ◌≡◌, ◌≢◌, ◌+◌, ◌-◌, ◌^◌, ◌<◌, ◌≤◌, ◌∙◌, Bool, true, false, ◌&&◌, ℤ, pos, ◌+ℤ◌, ◌-ℤ◌, length, get_or, None, refl, sym, subst, ap, inl, inr, arith}
 use Rattle.std.specs.List.{range_with_len}
 use Rattle.std.proofs.lemmas.Int.{ints}
-use Rattle.std.proofs.lemmas.Bool.{cases_eq, cases_Bool, eq-eqb, ne_eqb, eqb-true, false≢true}
+use Rattle.std.proofs.lemmas.Bool.{cases_eq, eq-eqb, ne_eqb, eqb-true, false≢true}
 use Rattle.std.proofs.lemmas.List.FromFn.{length-range_with_len}
 use Rattle.pra_base.specs.declared.ids.Place.{Place}
 use Rattle.pra_base.specs.declared.ids.Place.TheVariants.{Mem}
@@ -20,7 +20,7 @@ use Rattle.net_laws.specs.Built.{IsBuilt}
 use Rattle.net_dual.specs.Priced.{total, mem_part, exit_part, entry_part, tie_price, AreInRange}
 use Rattle.net_dual.proofs.Small.{mem_small, tie_small}
 use Rattle.net_path.specs.Cells.{alone_price, is_open_alone}
-use Rattle.net_path.specs.Ends.{ends_sum, busy, mem_number, IsMemory, strand_ends}
+use Rattle.net_path.specs.Ends.{mem_number, IsMemory, strand_ends}
 use Rattle.net_path.specs.Grounds.{edge, suits_ends, register_free, pairs_free, pairs_in_use, is_free, is_open, there_price}
 use Rattle.net_path.specs.Rests.{unreached}
 use Rattle.net_path.specs.Rows.{IsAbout, IsCell}
@@ -29,7 +29,7 @@ use Rattle.net_path.proofs.EndSums.{ends_between, ends_few}
 use Rattle.net_path.proofs.ExitTies.{exit_sum, exits_few}
 use Rattle.net_path.proofs.EntryTies.{entry_sum}
 use Rattle.net_path.proofs.TieSums.{about_sum, pay_about, total_pay}
-use Rattle.net_path.proofs.WholeCells.{mem_sum, busy_sum, no_mem_part, no_pair_in_use, no_exit, no_entry, alone_about}
+use Rattle.net_path.proofs.WholeCells.{mem_sum, busy_sum, no_mem_part, no_pair_in_use, no_exit, alone_about}
 
 regroup : (a b c : Bool) → (a && (b && c)) ≡ ((a && b) && c)
 regroup true b c = refl
@@ -81,8 +81,8 @@ module _ (net : Net) (built : IsBuilt net) (prices : Prices) (range : AreInRange
         let paid = memory.free (omega (arith, ints, z_is, about), omega (arith, ints, z_is, about)) (omega (arith, ints, used, none)) in
         omega (arith, ints, paid, z_is, mem))
         (λ opened taken_. elim (cases_eq (pairs_in_use net taken e) 0) as (λ _. z' ≡ unreached) [
-          inl none ↦ absurd (false≢true (sym taken_ ∙ eq-eqb (pairs_in_use net taken e) 0 none))
-        | inr some ↦ memory.in_use (omega (arith, ints, used, some))
+          | inl none ↦ absurd (false≢true (sym taken_ ∙ eq-eqb (pairs_in_use net taken e) 0 none))
+          | inr some ↦ memory.in_use (omega (arith, ints, used, some))
         ])
         (λ closed. memory.shut (cell_false a (alone_price net w prices e) z is closed)))
 
@@ -105,39 +105,39 @@ module _ (net : Net) (built : IsBuilt net) (prices : Prices) (range : AreInRange
         → (number q ≢ 6 → z' ≡ z) → (number q ≡ 6 → IsMemory prices taken l (strand_ends net s) z z')
         → IsCell (open_ q) (alone_price net w prices (edge s l None q) +ℤ mem_part net prices (edge s l None q)) z'
     with_pairs q z z' is others memory = elim (cases_eq (number q) 6) as (λ _. IsCell (open_ q) (alone_price net w prices (edge s l None q) +ℤ mem_part net prices (edge s l None q)) z') [
-          inl here ↦
-              let same : q ≡ Mem = number-injective q Mem here in
-              let is2 = subst (λ (q : Place). IsCell (is_open_alone net ends taken (edge s l None q)) (alone_price net w prices (edge s l None q)) z) same is in
-              subst (λ (q : Place). IsCell (open_ q) (alone_price net w prices (edge s l None q) +ℤ mem_part net prices (edge s l None q)) z') (sym same) (in_memory z z' is2 (memory here))
-        | inr other ↦
-              subst (λ (x : ℤ). IsCell (open_ q) (alone_price net w prices (edge s l None q) +ℤ mem_part net prices (edge s l None q)) x) (sym (others other)) (elsewhere q z (ne_eqb (number q) 6 other) is)
-        ]
+      | inl here ↦
+          let same : q ≡ Mem = number-injective q Mem here in
+          let is2 = subst (λ (q : Place). IsCell (is_open_alone net ends taken (edge s l None q)) (alone_price net w prices (edge s l None q)) z) same is in
+          subst (λ (q : Place). IsCell (open_ q) (alone_price net w prices (edge s l None q) +ℤ mem_part net prices (edge s l None q)) z') (sym same) (in_memory z z' is2 (memory here))
+      | inr other ↦
+          subst (λ (x : ℤ). IsCell (open_ q) (alone_price net w prices (edge s l None q) +ℤ mem_part net prices (edge s l None q)) x) (sym (others other)) (elsewhere q z (ne_eqb (number q) 6 other) is)
+    ]
 
     pub mem_about : (q : Place) → length (strand_at net s).masks ≤ 2 ^ 15 → IsAbout (2 ^ 55) (mem_part net prices (edge s l None q))
     mem_about q few = elim (cases_eq (number q) 6) as (λ _. IsAbout (2 ^ 55) (mem_part net prices (edge s l None q))) [
-          inl here ↦
-              let same : q ≡ Mem = number-injective q Mem here in
-              let mem = mem_sum net s l first last prices in
-              let sum = ends_between (mem_number prices) (2 ^ 40) l (strand_ends net s) (λ k. let small = mem_small net built prices range k in (omega (arith, ints), omega (arith, ints, small))) in
-              let many = ends_few net.pairs s (strand_at net s).first (length (strand_at net s).masks) (built.one_end s) in
-              subst (λ (q : Place). IsAbout (2 ^ 55) (mem_part net prices (edge s l None q))) (sym same) (omega (arith, ints, mem, sum, many, few), omega (arith, ints, mem, sum, many, few))
-        | inr other ↦ let none = no_mem_part net prices (edge s l None q) (ne_eqb (number q) 6 other) in (omega (arith, ints, none), omega (arith, ints, none))
-        ]
+      | inl here ↦
+          let same : q ≡ Mem = number-injective q Mem here in
+          let mem = mem_sum net s l first last prices in
+          let sum = ends_between (mem_number prices) (2 ^ 40) l (strand_ends net s) (λ k. let small = mem_small net built prices range k in (omega (arith, ints), omega (arith, ints, small))) in
+          let many = ends_few net.pairs s (strand_at net s).first (length (strand_at net s).masks) (built.one_end s) in
+          subst (λ (q : Place). IsAbout (2 ^ 55) (mem_part net prices (edge s l None q))) (sym same) (omega (arith, ints, mem, sum, many, few), omega (arith, ints, mem, sum, many, few))
+      | inr other ↦ let none = no_mem_part net prices (edge s l None q) (ne_eqb (number q) 6 other) in (omega (arith, ints, none), omega (arith, ints, none))
+    ]
 
   -- what exits pay
   pub exit_about : (l : ℕ) (q : Place) → IsAbout (2 ^ 42) (exit_part net prices (edge s l None q))
   exit_about l q = elim (cases_eq l (strand_at net s).last) as (λ _. IsAbout (2 ^ 42) (exit_part net prices (edge s l None q))) [
-        inl same ↦
-            let sum = exit_sum net built.formed built.in_order.ties s q prices lt in
-            let a = get_or net.index.exits s 0 in
-            let n = get_or net.index.exits (s + 1) 0 - a in
-            let about = about_sum (λ i. tie_price prices i q) (range_with_len a n) (λ i. pay_about prices true i q (tie_small net built prices range i q)) in
-            let size = length-range_with_len a n in
-            let few = exits_few net built.formed built.in_order.ties s lt in
-            let two = built.exits s in
-            subst (λ (l : ℕ). IsAbout (2 ^ 42) (exit_part net prices (edge s l None q))) (sym same) (omega (arith, ints, sum, about, size, few, two), omega (arith, ints, sum, about, size, few, two))
-      | inr other ↦ let none = no_exit net prices s l q other in (omega (arith, ints, none), omega (arith, ints, none))
-      ]
+    | inl same ↦
+        let sum = exit_sum net built.formed built.in_order.ties s q prices lt in
+        let a = get_or net.index.exits s 0 in
+        let n = get_or net.index.exits (s + 1) 0 - a in
+        let about = about_sum (λ i. tie_price prices i q) (range_with_len a n) (λ i. pay_about prices true i q (tie_small net built prices range i q)) in
+        let size = length-range_with_len a n in
+        let few = exits_few net built.formed built.in_order.ties s lt in
+        let two = built.exits s in
+        subst (λ (l : ℕ). IsAbout (2 ^ 42) (exit_part net prices (edge s l None q))) (sym same) (omega (arith, ints, sum, about, size, few, two), omega (arith, ints, sum, about, size, few, two))
+    | inr other ↦ let none = no_exit net prices s l q other in (omega (arith, ints, none), omega (arith, ints, none))
+  ]
 
   pub exits_pay : (q : Place) → total (λ i. tie_pay prices true i q) (exit_ties net s) ≡ exit_part net prices (edge s (strand_at net s).last None q)
   exits_pay q = exit_sum net built.formed built.in_order.ties s q prices lt

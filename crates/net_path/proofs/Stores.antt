@@ -1,5 +1,5 @@
 -- A loop that fills a list from the front.
-use Rattle.std.proofs.Common.{ℕ, ◌≡◌, ◌≢◌, ◌<◌, ◌+◌, List, length, get_or, set, get_or-set_same, get_or-set_other, subst, sym, arith}
+use Rattle.std.proofs.Common.{ℕ, ◌≢◌, ◌<◌, ◌+◌, List, length, get_or, set, get_or-set_same, get_or-set_other, subst, sym, arith}
 use borrow.Author.Count.{below_more}
 
 pub stored : {A : Type 0} (P : ℕ → A → Type 0) (xs : List A) (d : A) (i : ℕ) (x : A)

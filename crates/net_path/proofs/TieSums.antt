@@ -1,17 +1,14 @@
 -- What several ties add.
-use Rattle.std.proofs.Common.{ℕ, zero, suc, ◌≡◌, ◌⊎◌, ◌+◌, ◌-◌, ◌*◌, ◌^◌, ◌<◌, ◌≤◌, Bool, true, false, ℤ, pos, ◌+ℤ◌, ◌-ℤ◌, ◌≤ℤ◌, List, [], ◌∷◌, ◌++◌, length, take, get_or, refl, sym, subst, ap, ◌∙◌, inl, inr, arith}
+use Rattle.std.proofs.Common.{ℕ, zero, suc, ◌≡◌, ◌+◌, ◌*◌, ◌^◌, Bool, true, false, ℤ, pos, ◌+ℤ◌, ◌-ℤ◌, List, [], ◌∷◌, ◌++◌, length, ap, ◌∙◌, inl, inr, arith}
 use Rattle.std.specs.List.{range_with_len}
 use Rattle.std.proofs.lemmas.Int.{ints}
 use Rattle.pra_base.specs.declared.ids.Place.{Place}
 use Rattle.pra_base.specs.Places.{number}
-use Rattle.net_form.specs.declared.net.Net.{Net}
 use Rattle.net_form.specs.declared.prices.Prices.{Prices}
-use Rattle.net_dual.specs.Priced.{total, tie_price, AreInRange}
+use Rattle.net_dual.specs.Priced.{total, tie_price}
 use Rattle.net_dual.specs.Small.{IsWithin}
-use Rattle.net_dual.proofs.Totals.{total-append}
-use Rattle.net_path.specs.Rests.{unreached}
 use Rattle.net_path.specs.Rows.{IsAbout}
-use Rattle.net_path.specs.Ties.{IsMore, IsSumMore, HasTieRoom, HasPayRoom, HaveTieRoom, HavePayRoom, ArePaidMore, ArePaidInAll, tie_pay}
+use Rattle.net_path.specs.Ties.{HasPayRoom, HaveTieRoom, HavePayRoom, ArePaidMore, ArePaidInAll, tie_pay}
 use Rattle.net_path.specs.Ways.{at}
 
 -- a sum of numbers that are each within 2^40

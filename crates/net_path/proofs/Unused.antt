@@ -1,5 +1,5 @@
 -- Edges that use nothing which is in use.
-use Rattle.std.proofs.Common.{ℕ, ◌≡◌, ◌≢◌, ◌<◌, ◌+◌, Bool, true, false, ◌&&◌, ◌||◌, not, cond, eqb, List, length, get_or, count_by, All, refl, sym, subst, ap, ◌∙◌, inl, inr, arith, zero-add}
+use Rattle.std.proofs.Common.{ℕ, ◌≡◌, ◌<◌, Bool, true, false, ◌&&◌, ◌||◌, not, cond, eqb, List, length, get_or, All, refl, sym, ap, ◌∙◌, inl, inr, arith, zero-add}
 use Rattle.std.specs.List.{enumerate_from}
 use Rattle.std.proofs.lemmas.Bool.{cases_Bool, eqb-true, eq-eqb, false≢true, and_left, and_right, and_from}
 use Rattle.std.proofs.lemmas.List.{get_or_default}
@@ -43,8 +43,8 @@ module _ (net : Net) (taken : Taken) (e : Edge) where
   to_pairs_free unused = eq-eqb (pairs_in_use net taken e) 0 (count-none in_use (enumerate_from 0 net.pairs) (λ k d lt.
       let inside : k < length net.pairs = omega (arith, lt, length-enumerate_from 0 net.pairs) in
       numbered k d inside ∙ elim (cases_Bool (uses_memory (pair_at net k) e)) as (λ _. (uses_memory (pair_at net k) e && get_or taken.mems k false) ≡ false) [
-        inl is ↦ and_right (uses_memory (pair_at net k) e) (get_or taken.mems k false) (mark_none (get_or taken.mems k false) (unused k inside is))
-      | inr is ↦ and_left (uses_memory (pair_at net k) e) (get_or taken.mems k false) is
+        | inl is ↦ and_right (uses_memory (pair_at net k) e) (get_or taken.mems k false) (mark_none (get_or taken.mems k false) (unused k inside is))
+        | inr is ↦ and_left (uses_memory (pair_at net k) e) (get_or taken.mems k false) is
       ]))
 
   pub of_pairs_free : pairs_free net taken e ≡ true → (k : ℕ) → k < length net.pairs → uses_memory (pair_at net k) e ≡ true → pair_mark taken.mems k ≡ 0
@@ -52,8 +52,8 @@ module _ (net : Net) (taken : Taken) (e : Edge) where
       let none = none-count in_use (enumerate_from 0 net.pairs) (eqb-true (pairs_in_use net taken e) 0 free) k (0, no_pair) (omega (arith, lt, length-enumerate_from 0 net.pairs)) in
       let is = sym (numbered k (0, no_pair) lt) ∙ none in
       elim (cases_Bool (get_or taken.mems k false)) as (λ _. pair_mark taken.mems k ≡ 0) [
-        inl used ↦ absurd (false≢true (sym is ∙ and_from (uses_memory (pair_at net k) e) (get_or taken.mems k false) uses used))
-      | inr unused ↦ let z : pair_mark taken.mems k ≡ cond false 1 0 = ap (λ (b : Bool). bit b) unused in z
+        | inl used ↦ absurd (false≢true (sym is ∙ and_from (uses_memory (pair_at net k) e) (get_or taken.mems k false) uses used))
+        | inr unused ↦ let z : pair_mark taken.mems k ≡ cond false 1 0 = ap (λ (b : Bool). bit b) unused in z
       ]
 
 -- ---- both

@@ -1,39 +1,33 @@
 -- What is paid at a place of a layer, stage by stage.
-use Rattle.std.proofs.Common.{cond, ℕ, zero, suc, ◌≡◌, ◌≢◌, ◌⊎◌, ◌+◌, ◌-◌, ◌*◌, ◌^◌, ◌<◌, ◌≤◌, ◌∙◌, Bool, true, false, ◌&&◌, ◌||◌, not, eqb, ℤ, pos, ◌+ℤ◌, ◌-ℤ◌, ◌≤ℤ◌, ◌<ℤ◌, List, [], ◌∷◌, length, get_or, count_by, Option, Some, None, refl, sym, subst, ap, inl, inr, arith, IsTrue}
-use Rattle.std.specs.Prelude.{nat_eq}
-use Rattle.std.specs.List.{enumerate_from, range_with_len}
+use Rattle.std.proofs.Common.{cond, ℕ, suc, ◌≡◌, ◌≢◌, ◌+◌, ◌-◌, ◌*◌, ◌^◌, ◌<◌, ◌≤◌, ◌∙◌, Bool, true, false, ◌&&◌, ◌||◌, eqb, ℤ, pos, List, [], ◌∷◌, length, get_or, count_by, None, refl, sym, ap, inl, inr, arith}
+use Rattle.std.specs.List.{enumerate_from}
 use Rattle.std.proofs.lemmas.Int.{ints}
-use Rattle.std.proofs.lemmas.Bool.{cases_eq, cases_Bool, eq-eqb, ne_eqb, eqb-true, false≢true, and_left, and_right}
+use Rattle.std.proofs.lemmas.Bool.{cases_eq, eq-eqb, ne_eqb, and_left, and_right}
 use Rattle.std.proofs.lemmas.Bool.Decides.{nat_tests}
-use Rattle.std.proofs.lemmas.List.FromFn.{length-range_with_len}
-use Rattle.pra_list.proofs.Counts.{bit, count-cons, count-none}
+use Rattle.pra_list.proofs.Counts.{count-cons, count-none}
 use Rattle.pra_base.specs.declared.ids.Place.{Place}
 use Rattle.pra_base.specs.declared.ids.Place.TheVariants.{Mem}
 use Rattle.pra_base.specs.Places.{number, is_mem}
 use Rattle.net_cost.specs.declared.weights.Weights.{Weights}
-use Rattle.net_cost.specs.Weights.{IsValid, most_weight}
+use Rattle.net_cost.specs.Weights.{IsValid}
 use Rattle.net_form.specs.declared.net.MemPair.{MemPair}
 use Rattle.net_form.specs.declared.net.Net.{Net}
 use Rattle.net_form.specs.declared.net.Tie.{Tie}
 use Rattle.net_form.specs.declared.prices.Prices.{Prices}
-use Rattle.net_form.specs.declared.routes.Ends.{Ends}
 use Rattle.net_form.specs.declared.taken.Taken.{Taken}
-use Rattle.net_form.specs.Admitted.{strand_at, no_strand, in_mask, uses_memory}
+use Rattle.net_form.specs.Admitted.{strand_at, uses_memory}
 use Rattle.net_form.specs.Flow.{Edge, is_at}
 use Rattle.net_form.specs.Index.{is_end}
 use Rattle.net_laws.specs.Built.{IsBuilt}
 use Rattle.net_form.specs.Bundles.{bundle_of}
 use Rattle.net_dual.specs.Priced.{in_any_register, cap_price}
-use Rattle.net_dual.specs.Priced.{total, pay, mem_part, mem_price, exit_part, entry_part, exits, enters, cap_part, tie_price, AreInRange, most_price, edge_price}
-use Rattle.net_dual.specs.Small.{IsWithin}
+use Rattle.net_dual.specs.Priced.{total, pay, mem_part, mem_price, exit_part, entry_part, exits, enters, cap_part, tie_price, AreInRange, most_price}
 use Rattle.net_dual.proofs.Totals.{total-agree, total-nothing}
-use Rattle.net_dual.proofs.Small.{cost_small, cap_small, mem_small, edge_small, tie_small}
-use Rattle.net_path.specs.Cells.{alone_price, is_open_alone}
-use Rattle.net_path.specs.Ends.{ends_sum, busy, mem_number, IsMemory, strand_ends}
-use Rattle.net_path.specs.Grounds.{edge, suits_ends, register_free, pairs_free, pairs_in_use, is_free, is_open, there_price}
-use Rattle.net_path.specs.Rests.{unreached}
-use Rattle.net_path.specs.Rows.{IsAbout, IsCell, cell_bound}
-use Rattle.net_path.specs.Ties.{IsSumMore}
+use Rattle.net_dual.proofs.Small.{cost_small, cap_small, edge_small}
+use Rattle.net_path.specs.Cells.{alone_price}
+use Rattle.net_path.specs.Ends.{ends_sum, busy, mem_number, strand_ends}
+use Rattle.net_path.specs.Grounds.{edge, pairs_in_use, there_price}
+use Rattle.net_path.specs.Rows.{IsAbout, cell_bound}
 use Rattle.net_path.proofs.EndSums.{all_sum}
 
 -- ---- memory pairs
@@ -96,15 +90,15 @@ total_none f xs none = total-agree f (λ x. pos 0) xs (λ k d lt. none (get_or x
 pub no_exit : (net : Net) (prices : Prices) (s l : ℕ) (q : Place) → l ≢ (strand_at net s).last → exit_part net prices (edge s l None q) ≡ pos 0
 no_exit net prices s l q other = total_none (λ (t : ℕ × Tie). pay (exits net t.1 (edge s l None q)) (tie_price prices t.0 q)) (enumerate_from 0 net.ties)
     (λ t. ap (λ (b : Bool). pay b (tie_price prices t.0 q)) (elim (cases_eq s t.1.from) as (λ _. exits net t.1 (edge s l None q) ≡ false) [
-      inl same ↦ and_right (eqb s t.1.from) (eqb l (strand_at net t.1.from).last) (ne_eqb l (strand_at net t.1.from).last (λ e. other (e ∙ ap (λ (k : ℕ). (strand_at net k).last) (sym same))))
-    | inr apart ↦ and_left (eqb s t.1.from) (eqb l (strand_at net t.1.from).last) (ne_eqb s t.1.from apart)
+      | inl same ↦ and_right (eqb s t.1.from) (eqb l (strand_at net t.1.from).last) (ne_eqb l (strand_at net t.1.from).last (λ e. other (e ∙ ap (λ (k : ℕ). (strand_at net k).last) (sym same))))
+      | inr apart ↦ and_left (eqb s t.1.from) (eqb l (strand_at net t.1.from).last) (ne_eqb s t.1.from apart)
     ]))
 
 pub no_entry : (net : Net) (prices : Prices) (s l : ℕ) (q : Place) → l ≢ (strand_at net s).first → entry_part net prices (edge s l None q) ≡ pos 0
 no_entry net prices s l q other = total_none (λ (t : ℕ × Tie). pay (enters net t.1 (edge s l None q)) (tie_price prices t.0 q)) (enumerate_from 0 net.ties)
     (λ t. ap (λ (b : Bool). pay b (tie_price prices t.0 q)) (elim (cases_eq s t.1.to) as (λ _. enters net t.1 (edge s l None q) ≡ false) [
-      inl same ↦ and_right (eqb s t.1.to) (eqb l (strand_at net t.1.to).first) (ne_eqb l (strand_at net t.1.to).first (λ e. other (e ∙ ap (λ (k : ℕ). (strand_at net k).first) (sym same))))
-    | inr apart ↦ and_left (eqb s t.1.to) (eqb l (strand_at net t.1.to).first) (ne_eqb s t.1.to apart)
+      | inl same ↦ and_right (eqb s t.1.to) (eqb l (strand_at net t.1.to).first) (ne_eqb l (strand_at net t.1.to).first (λ e. other (e ∙ ap (λ (k : ℕ). (strand_at net k).first) (sym same))))
+      | inr apart ↦ and_left (eqb s t.1.to) (eqb l (strand_at net t.1.to).first) (ne_eqb s t.1.to apart)
     ]))
 
 -- ---- bounds
@@ -135,13 +129,13 @@ module _ (net : Net) (built : IsBuilt net) (prices : Prices) (range : AreInRange
       let low = small.low in
       let high = small.high in
       let exit : cond (eqb e.layer (strand_at net s).last) (2 * most_price) 0 ≤ 2 ^ 55 * (1 - (n - suc k)) =
-          elim (cases_eq e.layer (strand_at net s).last) as (λ _. cond (eqb e.layer (strand_at net s).last) (2 * most_price) 0 ≤ 2 ^ 55 * (1 - (n - suc k))) [
-            inl same ↦ let is = cond_is (2 * most_price) (eq-eqb e.layer (strand_at net s).last same) in omega (arith, is, same, long)
-          | inr other ↦ let is = cond_is (2 * most_price) (ne_eqb e.layer (strand_at net s).last other) in omega (arith, is)
-          ] in
+      elim (cases_eq e.layer (strand_at net s).last) as (λ _. cond (eqb e.layer (strand_at net s).last) (2 * most_price) 0 ≤ 2 ^ 55 * (1 - (n - suc k))) [
+        | inl same ↦ let is = cond_is (2 * most_price) (eq-eqb e.layer (strand_at net s).last same) in omega (arith, is, same, long)
+        | inr other ↦ let is = cond_is (2 * most_price) (ne_eqb e.layer (strand_at net s).last other) in omega (arith, is)
+      ] in
       let entry : cond (eqb e.layer (strand_at net s).first) (4098 * most_price) 0 ≤ 2 ^ 55 * (1 - k) =
-          elim (cases_eq e.layer (strand_at net s).first) as (λ _. cond (eqb e.layer (strand_at net s).first) (4098 * most_price) 0 ≤ 2 ^ 55 * (1 - k)) [
-            inl same ↦ let is = cond_is (4098 * most_price) (eq-eqb e.layer (strand_at net s).first same) in omega (arith, is, same)
-          | inr other ↦ let is = cond_is (4098 * most_price) (ne_eqb e.layer (strand_at net s).first other) in omega (arith, is)
-          ] in
+      elim (cases_eq e.layer (strand_at net s).first) as (λ _. cond (eqb e.layer (strand_at net s).first) (4098 * most_price) 0 ≤ 2 ^ 55 * (1 - k)) [
+        | inl same ↦ let is = cond_is (4098 * most_price) (eq-eqb e.layer (strand_at net s).first same) in omega (arith, is, same)
+        | inr other ↦ let is = cond_is (4098 * most_price) (ne_eqb e.layer (strand_at net s).first other) in omega (arith, is)
+      ] in
       (omega (arith, ints, cost, low, exit, entry), omega (arith, ints, cost, high, exit, entry))

@@ -1,13 +1,12 @@
 -- Rows of numbers that are not too large.
-use Rattle.std.proofs.Common.{ℕ, suc, ◌≡◌, ◌⊎◌, ◌<◌, ◌≤◌, ◌+◌, ◌-◌, ◌*◌, ◌%◌, ◌^◌, Bool, true, false, ℤ, pos, ◌+ℤ◌, ◌≤ℤ◌, ◌<ℤ◌, List, length, cond, not, eqb, ◌&&◌, inl, inr, arith}
+use Rattle.std.proofs.Common.{ℕ, suc, ◌≡◌, ◌⊎◌, ◌<◌, ◌≤◌, ◌+◌, ◌%◌, ◌^◌, Bool, true, false, ℤ, pos, ◌+ℤ◌, ◌≤ℤ◌, List, cond, not, eqb, ◌&&◌, inl, inr, arith}
 use Rattle.std.proofs.lemmas.Int.{ints}
 use Rattle.std.proofs.lemmas.Bool.{cases_eq}
 use Rattle.pra_base.specs.Places.{has_register, register_of, needs_slot}
-use Rattle.net_path.specs.declared.crossbar.Row.{Row}
 use Rattle.net_path.specs.declared.crossbar.Ways.{Ways}
-use Rattle.net_path.specs.Ways.{at, step_price, bring_price, AreWaysWithin, IsWay, IsLeastWay, IsBeforeCrossbar, AreDebts}
+use Rattle.net_path.specs.Ways.{at, step_price, AreWaysWithin, IsWay, IsBeforeCrossbar, AreDebts}
 use Rattle.net_path.specs.Rests.{unreached}
-use Rattle.net_path.specs.Rows.{costs_at, cell_bound, slack_at, IsAbout, IsRowWithin, AreCellsWithin, AreCostsCells, IsPaid, ArePaid}
+use Rattle.net_path.specs.Rows.{cell_bound, slack_at, IsAbout, IsRowWithin, AreCostsCells, ArePaid}
 
 pub parity : (n : ℕ) → (n % 2 ≡ 0) ⊎ (n % 2 ≡ 1)
 parity n = elim (cases_eq (n % 2) 0) as (λ _. (n % 2 ≡ 0) ⊎ (n % 2 ≡ 1)) [ inl e ↦ inl e | inr ne ↦ inr (omega arith) ]

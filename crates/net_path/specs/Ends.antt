@@ -4,7 +4,6 @@ use Rattle.std.specs.List.{range_with_len, flat_map}
 use Rattle.net_form.specs.declared.net.Net.{Net}
 use Rattle.net_form.specs.Admitted.{strand_at}
 use Rattle.net_form.specs.Index.{ends_at}
-use Rattle.pra_base.specs.Places.{place_count}
 use Rattle.net_form.specs.declared.net.PairEnd.{PairEnd}
 use Rattle.net_form.specs.declared.prices.Prices.{Prices}
 use Rattle.net_form.specs.declared.taken.Taken.{Taken}

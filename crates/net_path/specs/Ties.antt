@@ -1,11 +1,11 @@
 -- What ties add at the ends of a strand.
-use Rattle.std.specs.Prelude.{◌≡◌, ◌⊎◌, ℕ, ◌+◌, ◌-◌, ◌*◌, ◌^◌, ◌<◌, ◌≤◌, Bool, if◌then◌else◌, ℤ, pos, ◌+ℤ◌, ◌-ℤ◌, ◌<ℤ◌, List, slice_index, nat_eq, Some, None}
+use Rattle.std.specs.Prelude.{◌≡◌, ◌⊎◌, ℕ, ◌+◌, ◌-◌, ◌^◌, Bool, if◌then◌else◌, ℤ, pos, ◌+ℤ◌, ◌-ℤ◌, List, slice_index, nat_eq, Some, None}
 use Rattle.std.specs.List.{range_with_len, filter_map, enumerate_from}
 use Rattle.pra_base.specs.declared.ids.Place.{Place}
 use Rattle.pra_base.specs.Places.{number}
 use Rattle.net_form.specs.declared.net.Net.{Net}
 use Rattle.net_form.specs.declared.prices.Prices.{Prices}
-use Rattle.net_dual.specs.Priced.{total, tie_price}
+use Rattle.net_dual.specs.Priced.{tie_price}
 use Rattle.net_path.specs.Rests.{unreached}
 use Rattle.net_path.specs.Rows.{IsAbout}
 use Rattle.net_path.specs.Ways.{at}

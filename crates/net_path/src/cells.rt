@@ -1,6 +1,7 @@
 // What is paid at each place of each layer of a strand, and which places are closed.
 
-ghost use Rattle.std.specs.Prelude.{◌≡◌, ◌≤◌, ◌<◌, ◌+◌, ◌*◌, ◌^◌, ◌||◌, pos, not, nat_eq, length, All};
+ghost use Rattle.std.specs.Prelude.{◌≡◌, ◌≤◌, ◌<◌, ◌+◌, ◌*◌, ◌^◌};
+ghost use Rattle.std.specs.Prelude.{◌||◌, pos, not, nat_eq, length, All};
 ghost use Rattle.std.specs.Prelude.{slice_index, None, if◌then◌else◌};
 ghost use Rattle.net_cost.specs.Models.{Keeps, weights_of};
 ghost use Rattle.net_form.specs.Admitted.{strand_at};

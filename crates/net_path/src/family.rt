@@ -89,5 +89,15 @@ pub fn renew<F: Fn(Event, u32) -> u32>(
 {
     let (rows, path) = (&mut work.rows, &mut work.path);
     let (free, family) = (&work.free, &mut work.family);
-    renew_parts(net, model, prices, strand as usize, free, rows, path, work.alloc, family)
+    renew_parts(
+        net,
+        model,
+        prices,
+        strand as usize,
+        free,
+        rows,
+        path,
+        work.alloc,
+        family,
+    )
 }

@@ -1,4 +1,57 @@
-//! Least priced paths of a strand.
+//! Least priced paths of a strand: where a strand is at each of its layers so that what its places
+//! and the ways between them cost, with the prices of registers, memory pairs and ties, is least.
+//!
+//! [`least`] finds such a path from the place and to the place that it is asked for, past all that
+//! other strands have taken, or says that there is none. [`renew`] finds one that is free to begin
+//! and end anywhere, and puts it into the family of paths that a [`Work`] keeps: the family that
+//! the Lagrange value of a network is read from, and that prices follow. Both do what they say for
+//! each network that `net_build` makes; both take no memory, since [`Work::reserve`] took it
+//! before.
+//!
+//! # Rows
+//!
+//! A row is sixteen numbers, one for each place at one layer: the six registers, memory, the
+//! constant's place, the six both places, and two that are no place. Forwards the numbers would be
+//! what it costs to come there; here they are the rest: what the cheapest way from there to the end
+//! costs, with the place's own cost. So the rows are filled from the last layer to the first, each
+//! in place over what its places cost alone, and the path is read from the first layer to the last:
+//! at each the next place is the one whose rest makes up for what is left.
+//!
+//! ```text
+//!   layer    0          1          2          3
+//!          row 0  ←   row 1  ←   row 2  ←   row 3     what is left to pay, from the last
+//!            Eax   →    Eax   →    Mem   →    Mem      the places, from the first
+//! ```
+//!
+//! What no path reaches is `UNREACHED`, 2^62, and stays above `REACHED`, 2^61, whatever is added to
+//! it: the costs of one path stay below 2^60. A number is therefore never tested before it is added
+//! to, and nothing overflows.
+//!
+//! # Crossbars
+//!
+//! Between instructions a strand may move from any place to any place. Its step of a row does not
+//! try all 14 times 14 ways. The cost of a move depends on five things only: whether it leaves a
+//! register, a both place, memory or the constant's place, and to which of these it goes; and
+//! staying, or taking the same register's other form, is cheaper than changing register. So a step
+//! takes the least number of the six registers and of the six both places, and makes each number of
+//! the next row from two minima: of staying, and of the best way on. The weights of the events are
+//! asked once for each strand, at its block's depth.
+//!
+//! ```text
+//!   row of the layer after    Eax .. Edi     Mem    Const   EaxM .. EdiM
+//!                                |             |      |          |
+//!                             least          number  number    least      four numbers
+//!                                \_____________|______|__________/
+//!                                      + what the way costs
+//!   row of the layer before   each place: the lesser of that and of staying
+//! ```
+//!
+//! # Where it is
+//!
+//! `ways` of the crossbar's moves and the step over rows are in `crossbar`; the costs of the places
+//! of one layer (masks, ends, what is taken, prices, extras) in `cells`, with the pairs' in `pairs`
+//! and the ties' in `ties`; `rows` goes over the layers, `path` reads the path, `search` puts them
+//! together, `family` renews one path of a family. No cost of an edge is ever stored.
 #![tactic(auto)]
 
 mod cells;

@@ -1,6 +1,7 @@
 // What ties add to the costs at the ends of a strand.
 
-ghost use Rattle.std.specs.Prelude.{◌≡◌, ◌≤◌, ◌<◌, ◌+◌, ◌*◌, ◌^◌, length, All, pos, ◌≤ℤ◌, ◌-ℤ◌, ◌+ℤ◌};
+ghost use Rattle.std.specs.Prelude.{◌≡◌, ◌≤◌, ◌<◌, ◌+◌, ◌*◌, ◌^◌};
+ghost use Rattle.std.specs.Prelude.{length, All, pos, ◌≤ℤ◌, ◌-ℤ◌, ◌+ℤ◌};
 ghost use Rattle.std.specs.Prelude.{true, false};
 ghost use Rattle.net_laws.specs.Built.{IsBuilt};
 ghost use Rattle.net_dual.specs.Priced.{tie_price, AreInRange, total};

@@ -7,10 +7,10 @@ ghost use Rattle.net_form.specs.Rooms.{some_routes};
 use crate::crossbar::Row;
 use net_cost::{CostModel, Event};
 use net_form::{Net, Routes, Taken};
-use std::mem;
 use pra_base::{OutOfMemory, Place};
 use pra_list::Seq;
 use std::alloc::Global;
+use std::mem;
 
 /// Room for the rows and the path of one strand at a time, and for a family of paths, one for each
 /// strand. Of edges it keeps nothing.

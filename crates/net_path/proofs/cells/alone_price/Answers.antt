@@ -1,9 +1,7 @@
-use Rattle.std.proofs.Common.{ℕ, ◌≡◌, ◌+◌, ◌*◌, ℤ, pos, ◌+ℤ◌, cond, slice_index, None, ap, ◌∙◌, arith}
+use Rattle.std.proofs.Common.{ℕ, ◌≡◌, ◌+◌, pos, cond, slice_index, None, ap, ◌∙◌, arith}
 use Rattle.std.proofs.lemmas.Int.{ints}
 use Rattle.pra_base.specs.Places.{number, has_register, register_of}
-use Rattle.net_cost.specs.Models.{weights_of}
 use Rattle.net_form.specs.Bundles.{bundle_key}
-use Rattle.net_form.specs.Cost.{extras_cost}
 use Rattle.net_dual.specs.Priced.{cap_part}
 use Rattle.net_path.specs.Grounds.{edge}
 use Rattle.net_path.proofs.cells.alone_price.Goals as goal

@@ -1,11 +1,10 @@
-use Rattle.std.proofs.Common.{ℕ, ◌≡◌, ◌<◌, ℤ, pos, length, length-set, arith, refl, sym, subst, ◌∙◌, to_z, of_z, w64}
+use Rattle.std.proofs.Common.{ℕ, ◌≡◌, ℤ, pos, length-set, arith, refl, sym, subst, ◌∙◌, to_z, of_z, w64}
 use Rattle.std.proofs.lemmas.Int.{to_z-of_z}
 use Rattle.pra_base.specs.declared.ids.Place.{Place}
 use Rattle.pra_base.specs.Places.{number}
 use Rattle.net_form.proofs.PlaceEquality.{number-injective}
 use Rattle.net_cost.specs.Models.{weights_of}
 use Rattle.net_path.specs.Cells.{IsPlainCell}
-use Rattle.net_path.specs.Ways.{at}
 use Rattle.net_path.proofs.Numbers.{number_below}
 use Rattle.net_path.proofs.Stores.{stored}
 use Rattle.net_path.proofs.cells.plain_row.Goals as goal

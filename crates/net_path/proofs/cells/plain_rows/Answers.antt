@@ -1,7 +1,7 @@
-use Rattle.std.proofs.Common.{ℕ, ◌≡◌, ◌<◌, ◌+◌, length, arith, ap, sym, subst, ◌∙◌}
+use Rattle.std.proofs.Common.{ℕ, ◌≡◌, ◌+◌, arith, ap, subst, ◌∙◌}
 use Rattle.std.proofs.lemmas.List.{get_or_read}
 use Rattle.net_form.specs.declared.net.Strand.{Strand}
-use Rattle.net_form.specs.Admitted.{strand_at, no_strand}
+use Rattle.net_form.specs.Admitted.{no_strand}
 use Rattle.net_form.specs.Ordered.{first_extra}
 use Rattle.net_cost.specs.Models.{weights_of}
 use Rattle.net_path.specs.declared.crossbar.Row.{Row}

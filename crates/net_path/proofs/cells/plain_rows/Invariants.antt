@@ -1,4 +1,4 @@
-use Rattle.std.proofs.Common.{◌≡◌, ◌+◌, length}
+use Rattle.std.proofs.Common.{◌≡◌}
 use Rattle.net_cost.specs.Models.{weights_of}
 use Rattle.net_form.specs.Ordered.{first_extra}
 use Rattle.net_path.specs.Cells.{ArePlainRows}

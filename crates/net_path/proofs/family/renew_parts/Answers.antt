@@ -1,9 +1,6 @@
-use Rattle.std.proofs.Common.{◌≡◌, ◌∙◌, List, length, take, get_or, ap, sym, subst, [], get_or-set_same, arith}
+use Rattle.std.proofs.Common.{◌≡◌, ◌∙◌, List, take, get_or, ap, sym, subst, [], get_or-set_same, arith}
 use Rattle.pra_base.specs.declared.ids.Place.{Place}
-use Rattle.std.proofs.lemmas.List.{get_or_read}
 use Rattle.net_cost.specs.Models.{weights_of}
-use Rattle.net_form.specs.declared.net.Strand.{Strand}
-use Rattle.net_form.specs.Admitted.{strand_at, no_strand}
 use Rattle.net_dual.specs.Priced.{edge_price}
 use Rattle.net_dual.specs.Paths.{IsLeast, Anywhere, any_ends, path_in}
 use Rattle.net_path.proofs.Renewed.{least_anywhere, never_none}

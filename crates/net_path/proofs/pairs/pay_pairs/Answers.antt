@@ -1,18 +1,13 @@
-use Rattle.std.proofs.Common.{ℕ, ◌≡◌, ◌+◌, ◌-◌, ◌^◌, ◌<◌, ◌≤◌, ◌∙◌, Bool, true, false, cond, ℤ, pos, ◌≤ℤ◌, List, length, take, get_or, refl, subst, sym, ap, arith, length-set}
+use Rattle.std.proofs.Common.{ℕ, ◌≡◌, ◌+◌, ◌-◌, Bool, false, cond, pos, length, get_or, refl, subst, ap, arith, length-set}
 use Rattle.std.proofs.lemmas.Int.{ints}
 use Rattle.std.proofs.lemmas.List.{get_or_read, take_all}
-use Rattle.net_form.specs.declared.net.Net.{Net}
 use Rattle.net_form.specs.declared.net.Strand.{Strand}
-use Rattle.net_form.specs.declared.net.PairEnd.{PairEnd}
-use Rattle.net_form.specs.declared.prices.Prices.{Prices}
 use Rattle.net_form.specs.Admitted.{strand_at, no_strand}
 use Rattle.net_form.proofs.Layers.{in_layers}
 use Rattle.net_form.proofs.PairUses.{pairs_long, pairs_end}
-use Rattle.net_laws.specs.Built.{IsBuilt}
-use Rattle.net_dual.specs.Priced.{AreInRange}
 use Rattle.net_dual.proofs.Small.{mem_small}
 use Rattle.net_path.specs.declared.crossbar.Row.{Row}
-use Rattle.net_path.specs.Ends.{AreMemoryRows, IsOneEnd, busy, mem_number, strand_ends}
+use Rattle.net_path.specs.Ends.{IsOneEnd, mem_number, strand_ends}
 use Rattle.net_path.specs.Rows.{costs_at}
 use Rattle.net_path.specs.Ways.{at}
 use Rattle.net_path.proofs.EndSums.{ends_few}

@@ -1,4 +1,4 @@
-use Rattle.std.proofs.Common.{ℕ, suc, ◌≡◌, ◌+◌, ◌++◌, ◌∷◌, [], List, length, take, Some, None, subst, sym, refl, arith, rules, add-one, append-nil, ◌<◌, length-set}
+use Rattle.std.proofs.Common.{suc, ◌≡◌, ◌∷◌, [], length, Some, arith, add-one, append-nil, ◌<◌, length-set}
 use Rattle.pra_base.specs.declared.ids.Place.{Place}
 use Rattle.net_path.specs.Rests.{Follows}
 use Rattle.net_path.specs.Rows.{costs_at}

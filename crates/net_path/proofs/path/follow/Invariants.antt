@@ -1,4 +1,4 @@
-use Rattle.std.proofs.Common.{ℕ, ◌<◌, ◌≤◌, ◌++◌, List, length, take, None, Some}
+use Rattle.std.proofs.Common.{◌<◌, ◌≤◌, ◌++◌, List, length, take, None, Some}
 use Rattle.pra_base.specs.declared.ids.Place.{Place}
 use Rattle.net_path.specs.Rests.{Terrain, Follows}
 use Rattle.net_path.specs.Rows.{costs_at, IsGround}

@@ -1,5 +1,3 @@
-use Rattle.std.proofs.Common.{◌∙◌, ap}
-use Rattle.pra_base.specs.Places.{number}
 use Rattle.net_path.proofs.Numbers.{numbered_is}
 use Rattle.net_path.proofs.path.place_of.Goals as goal
 

@@ -1,4 +1,4 @@
-use Rattle.std.proofs.Common.{ℕ, ◌≡◌, ◌<◌, ℤ, pos, to_z, of_z, w64, set, length, length-set, arith, rules}
+use Rattle.std.proofs.Common.{◌≡◌, ℤ, pos, to_z, of_z, w64, length-set, arith}
 use Rattle.std.proofs.lemmas.Int.{to_z-of_z}
 use Rattle.net_path.specs.Ways.{at}
 use Rattle.net_path.specs.Rows.{IsPaid}

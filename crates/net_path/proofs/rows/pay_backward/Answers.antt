@@ -1,10 +1,9 @@
-use Rattle.std.proofs.Common.{ℕ, suc, ◌≡◌, ◌≢◌, ◌<◌, ◌≤◌, ◌+◌, ◌-◌, ◌%◌, ◌^◌, List, length, arith, rules, ap, sym, subst, ◌∙◌, refl, ℤ, inl, inr}
+use Rattle.std.proofs.Common.{ℕ, suc, ◌≡◌, ◌<◌, ◌+◌, ◌-◌, List, length, arith, sym, subst, ◌∙◌, refl, ℤ, inl, inr}
 use Rattle.std.proofs.lemmas.Bool.{cases_eq}
 use Rattle.net_path.specs.Ways.{AreDebts}
-use Rattle.net_path.specs.declared.crossbar.Row.{Row}
-use Rattle.net_path.specs.Rests.{Terrain, AreRows}
-use Rattle.net_path.specs.Rows.{costs_at, slack_at, IsRowWithin, ArePaid, AreCostsCells, IsGround, AreCells, IsPaidLayer}
-use Rattle.net_path.proofs.Within.{rests_within, paid_within, cells_within, costs_are_cells, row_is_wide, wide_is_debts}
+use Rattle.net_path.specs.Rests.{AreRows}
+use Rattle.net_path.specs.Rows.{costs_at, slack_at, IsRowWithin, IsGround, IsPaidLayer}
+use Rattle.net_path.proofs.Within.{cells_within, costs_are_cells, row_is_wide, wide_is_debts}
 use Rattle.net_path.proofs.Backward.{rows_last, small_more, paid_more}
 use Rattle.net_path.proofs.rows.pay_backward.Goals as goal
 
@@ -51,16 +50,16 @@ loop-at-preserved c =
     subst (λ (k : ℕ). IsPaidLayer c.args.ways.now (c.args.first + j) (costs_at c.loop-at.rows k) (costs_at c.loop-at.rows i) (costs_at c.pay_layer.new.rows i)) same c.pay_layer.ensures.paid in
     let small : IsRowWithin (slack_at n i) (costs_at c.pay_layer.new.rows i) =
     small_more c.args.ways.now c.requires.ways c.args.first i j n next lt c.loop-at.rows c.pay_layer.new.rows c.args.rows.now refl c.pay_layer.ensures.others left paid
-          (λ p below. c.requires.cells i p (omega (arith, lt)) below) (rw before at c.loop-at.invariant.small) in
+    (λ p below. c.requires.cells i p (omega (arith, lt)) below) (rw before at c.loop-at.invariant.small) in
     let debts : AreDebts (costs_at c.pay_layer.new.rows i) = wide_is_debts (costs_at c.pay_layer.new.rows i) (row_is_wide n i (costs_at c.pay_layer.new.rows i) (omega (arith, c.requires.few)) small) in
     record {
       within = omega (arith, long, lt);
       left = λ k below. c.pay_layer.ensures.others k (omega (arith, below)) ∙ c.loop-at.invariant.left k (omega (arith, below));
       small = rw long small;
       debts = λ k le in_. elim (cases_eq k i) as (λ _. AreDebts (costs_at c.pay_layer.new.rows k)) [
-            inl here ↦ subst (λ (k : ℕ). AreDebts (costs_at c.pay_layer.new.rows k)) (sym here) debts
-          | inr other ↦ subst (λ (xs : List ℤ). AreDebts xs) (sym (c.pay_layer.ensures.others k other)) (c.loop-at.invariant.debts k (omega (arith, le, other)) (omega (arith, in_, long, before)))
-          ];
+        | inl here ↦ subst (λ (k : ℕ). AreDebts (costs_at c.pay_layer.new.rows k)) (sym here) debts
+        | inr other ↦ subst (λ (xs : List ℤ). AreDebts xs) (sym (c.pay_layer.ensures.others k other)) (c.loop-at.invariant.debts k (omega (arith, le, other)) (omega (arith, in_, long, before)))
+      ];
       paid = λ t ground cells.
           let g : IsGround c.args.ways.now c.args.first n t = rw long at ground in
           let are : AreRows t (costs_at c.loop-at.rows) (slack_at n) n j = rw before at (c.loop-at.invariant.paid t (rw before g) cells) in

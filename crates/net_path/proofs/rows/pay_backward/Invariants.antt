@@ -1,4 +1,4 @@
-use Rattle.std.proofs.Common.{ℕ, ◌≡◌, ◌<◌, ◌≤◌, ◌-◌, length}
+use Rattle.std.proofs.Common.{ℕ, ◌≡◌, ◌<◌, ◌≤◌, length}
 use Rattle.net_path.specs.Rests.{Terrain, AreRows}
 use Rattle.net_path.specs.Ways.{AreDebts}
 use Rattle.net_path.specs.Rows.{costs_at, slack_at, IsRowWithin, IsGround, AreCells}

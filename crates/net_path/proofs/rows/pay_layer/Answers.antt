@@ -1,6 +1,6 @@
-use Rattle.std.proofs.Common.{ℕ, ◌^◌, ◌+◌, arith, get_or-set_same, subst, sym, ap, List, ℤ}
+use Rattle.std.proofs.Common.{◌^◌, ◌+◌, arith, get_or-set_same, subst, sym}
 use Rattle.net_path.specs.declared.crossbar.Row.{Row}
-use Rattle.net_path.specs.Rows.{costs_at, no_row, ArePaid, IsPaidLayer}
+use Rattle.net_path.specs.Rows.{costs_at, no_row, ArePaid}
 use Rattle.net_path.proofs.Within.{rests_within, wide_is_debts, wide_rests_are_debts}
 use Rattle.net_path.proofs.rows.pay_layer.Goals as goal
 

@@ -1,7 +1,7 @@
-use Rattle.std.proofs.Common.{◌≡◌, ◌≤◌, ℕ, List, length, ap, arith}
+use Rattle.std.proofs.Common.{List, length, ap, arith}
 use Rattle.std.proofs.lemmas.List.{get_or_read}
 use Rattle.net_form.specs.declared.net.Strand.{Strand}
-use Rattle.net_form.specs.Admitted.{strand_at, no_strand}
+use Rattle.net_form.specs.Admitted.{no_strand}
 use Rattle.pra_base.specs.declared.ids.Place.{Place}
 use Rattle.net_path.specs.declared.crossbar.Row.{Row}
 use Rattle.net_path.proofs.search.least.Goals as goal

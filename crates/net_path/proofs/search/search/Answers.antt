@@ -1,20 +1,13 @@
-use Rattle.std.proofs.Common.{ℕ, ◌≡◌, ◌+◌, ◌-◌, ◌<◌, ◌≤◌, ◌∙◌, ℤ, Bool, List, length, take, refl, sym, subst, ap, arith, rules, pos, ◌<ℤ◌, ◌^◌, w64, to_z, of_z}
+use Rattle.std.proofs.Common.{ℕ, ◌≡◌, ◌∙◌, length, sym, subst, ap, arith, rules, pos, ◌<ℤ◌, ◌^◌, w64, to_z, of_z}
 use mir.Val.{SFits}
 use Rattle.std.proofs.lemmas.Int.{ints, to_z-of_z}
 use Rattle.std.proofs.lemmas.List.{get_or_read, take_all}
-use Rattle.pra_base.specs.declared.ids.Place.{Place}
 use Rattle.net_cost.specs.Models.{weights_of}
 use Rattle.net_form.specs.declared.net.Strand.{Strand}
-use Rattle.net_form.specs.Admitted.{strand_at, no_strand}
-use Rattle.net_form.specs.Cost.{depth_at}
-use Rattle.net_form.specs.InUse.{UsesNothing}
+use Rattle.net_form.specs.Admitted.{no_strand}
 use Rattle.net_form.proofs.Layers.{in_layers}
-use Rattle.net_path.specs.declared.crossbar.Ways.{Ways}
-use Rattle.net_path.specs.Choices.{IsBestChoice}
 use Rattle.net_path.specs.Grounds.{terrain, is_free}
-use Rattle.net_path.specs.Rests.{AreRows, IsBest, Follows}
-use Rattle.net_path.specs.Rows.{costs_at, slack_at, IsGround}
-use Rattle.net_path.specs.Ways.{AreWays, start_price}
+use Rattle.net_path.specs.Rows.{costs_at, IsGround}
 use Rattle.net_path.proofs.Grounded.{ready}
 use Rattle.net_path.proofs.LeastPath.{no_path, least_path, below_of}
 use Rattle.net_path.proofs.search.search.Goals as goal
@@ -33,9 +26,9 @@ returns-then-start-ge-REACHED-clause-none g c =
     let t = get_or_read net.strands s c.index.result.now c.requires.strand c.index.ensures no_strand in
     let u = get_or_read net.strands s c.index-2.result.now c.requires.strand c.index-2.ensures no_strand in
     let are = ready net c.requires.net c.args.prices.now c.requires.prices w c.requires.kept.valid c.args.ends (is_free net c.args.taken.now) s n c.requires.rows c.ways_of-ways.result
-        c.depth.result c.index.result.now.first (length c.fill_cells.new.rows) c.index-2.result.now.constant (costs_at c.pay_backward.new.rows) c.fill_cells.new.rows c.best_start-start.result
-        c.ways_of-ways.ensures.are c.depth.ensures.value (ap (λ (t : Strand). t.first) t) c.fill_cells.ensures.long (ap (λ (t : Strand). t.constant) u) c.fill_cells.ensures.cells
-        c.pay_backward.ensures.rows c.best_start-start.ensures in
+    c.depth.result c.index.result.now.first (length c.fill_cells.new.rows) c.index-2.result.now.constant (costs_at c.pay_backward.new.rows) c.fill_cells.new.rows c.best_start-start.result
+    c.ways_of-ways.ensures.are c.depth.ensures.value (ap (λ (t : Strand). t.first) t) c.fill_cells.ensures.long (ap (λ (t : Strand). t.constant) u) c.fill_cells.ensures.cells
+    c.pay_backward.ensures.rows c.best_start-start.ensures in
     let fits : SFits w64 c.best_start-start.result.debt.cost = search rules in
     let cost = c.best_start-start.result.debt.cost in
     let whole : to_z w64 (of_z w64 cost) ≡ cost = to_z-of_z w64 cost fits in
@@ -67,9 +60,9 @@ returns-clause-found g c =
     let t = get_or_read net.strands s c.index.result.now c.requires.strand c.index.ensures no_strand in
     let u = get_or_read net.strands s c.index-2.result.now c.requires.strand c.index-2.ensures no_strand in
     let are = ready net c.requires.net c.args.prices.now c.requires.prices w c.requires.kept.valid c.args.ends (is_free net c.args.taken.now) s n c.requires.rows c.ways_of-ways.result
-        c.depth.result c.index.result.now.first (length c.fill_cells.new.rows) c.index-2.result.now.constant (costs_at c.pay_backward.new.rows) c.fill_cells.new.rows c.best_start-start.result
-        c.ways_of-ways.ensures.are c.depth.ensures.value (ap (λ (t : Strand). t.first) t) c.fill_cells.ensures.long (ap (λ (t : Strand). t.constant) u) c.fill_cells.ensures.cells
-        c.pay_backward.ensures.rows c.best_start-start.ensures in
+    c.depth.result c.index.result.now.first (length c.fill_cells.new.rows) c.index-2.result.now.constant (costs_at c.pay_backward.new.rows) c.fill_cells.new.rows c.best_start-start.result
+    c.ways_of-ways.ensures.are c.depth.ensures.value (ap (λ (t : Strand). t.first) t) c.fill_cells.ensures.long (ap (λ (t : Strand). t.constant) u) c.fill_cells.ensures.cells
+    c.pay_backward.ensures.rows c.best_start-start.ensures in
     let fits : SFits w64 c.best_start-start.result.debt.cost = search rules in
     let cost = c.best_start-start.result.debt.cost in
     let whole : to_z w64 (of_z w64 cost) ≡ cost = to_z-of_z w64 cost fits in
@@ -82,7 +75,7 @@ returns-clause-found g c =
     (subst (λ (f : ℕ). IsGround c.ways_of-ways.result f n (terrain net w c.args.prices.now c.args.ends (is_free net c.args.taken.now) s)) (sym (ap (λ (t : Strand). t.first) t)) are.ground) in
     let follows = rw all at (c.follow.ensures (terrain net w c.args.prices.now c.args.ends (is_free net c.args.taken.now) s) ground are.good) in
     let found = least_path net c.requires.net c.args.prices.now c.requires.prices w c.requires.kept.valid c.args.ends c.args.taken.now s n c.requires.strand c.requires.rows
-        (costs_at c.pay_backward.new.rows) are.rows cost are.best c.follow.new.path near same follows in
+    (costs_at c.pay_backward.new.rows) are.rows cost are.best c.follow.new.path near same follows in
     found.0
 
 pub returns-clause-cost : goal.returns-clause-cost
@@ -94,9 +87,9 @@ returns-clause-cost g c =
     let t = get_or_read net.strands s c.index.result.now c.requires.strand c.index.ensures no_strand in
     let u = get_or_read net.strands s c.index-2.result.now c.requires.strand c.index-2.ensures no_strand in
     let are = ready net c.requires.net c.args.prices.now c.requires.prices w c.requires.kept.valid c.args.ends (is_free net c.args.taken.now) s n c.requires.rows c.ways_of-ways.result
-        c.depth.result c.index.result.now.first (length c.fill_cells.new.rows) c.index-2.result.now.constant (costs_at c.pay_backward.new.rows) c.fill_cells.new.rows c.best_start-start.result
-        c.ways_of-ways.ensures.are c.depth.ensures.value (ap (λ (t : Strand). t.first) t) c.fill_cells.ensures.long (ap (λ (t : Strand). t.constant) u) c.fill_cells.ensures.cells
-        c.pay_backward.ensures.rows c.best_start-start.ensures in
+    c.depth.result c.index.result.now.first (length c.fill_cells.new.rows) c.index-2.result.now.constant (costs_at c.pay_backward.new.rows) c.fill_cells.new.rows c.best_start-start.result
+    c.ways_of-ways.ensures.are c.depth.ensures.value (ap (λ (t : Strand). t.first) t) c.fill_cells.ensures.long (ap (λ (t : Strand). t.constant) u) c.fill_cells.ensures.cells
+    c.pay_backward.ensures.rows c.best_start-start.ensures in
     let fits : SFits w64 c.best_start-start.result.debt.cost = search rules in
     let cost = c.best_start-start.result.debt.cost in
     let whole : to_z w64 (of_z w64 cost) ≡ cost = to_z-of_z w64 cost fits in
@@ -109,5 +102,5 @@ returns-clause-cost g c =
     (subst (λ (f : ℕ). IsGround c.ways_of-ways.result f n (terrain net w c.args.prices.now c.args.ends (is_free net c.args.taken.now) s)) (sym (ap (λ (t : Strand). t.first) t)) are.ground) in
     let follows = rw all at (c.follow.ensures (terrain net w c.args.prices.now c.args.ends (is_free net c.args.taken.now) s) ground are.good) in
     let found = least_path net c.requires.net c.args.prices.now c.requires.prices w c.requires.kept.valid c.args.ends c.args.taken.now s n c.requires.strand c.requires.rows
-        (costs_at c.pay_backward.new.rows) are.rows cost are.best c.follow.new.path near same follows in
+    (costs_at c.pay_backward.new.rows) are.rows cost are.best c.follow.new.path near same follows in
     whole ∙ found.1

@@ -1,14 +1,12 @@
-use Rattle.std.proofs.Common.{ℕ, suc, ◌≡◌, ◌+◌, ◌-◌, ◌*◌, ◌^◌, ◌<◌, ◌≤◌, ◌++◌, ◌∷◌, [], List, ℤ, pos, ◌+ℤ◌, false, length, take, get_or, arith, refl, sym, subst, ap, ◌∙◌, add-one, count_by}
+use Rattle.std.proofs.Common.{ℕ, ◌≡◌, ◌+◌, ◌-◌, ◌<◌, ◌∷◌, [], ◌+ℤ◌, false, length, take, get_or, arith, ap, ◌∙◌, add-one}
 use Rattle.std.proofs.lemmas.Int.{ints}
 use Rattle.std.proofs.lemmas.List.{get_or_read, take_all, length-take}
 use Rattle.std.proofs.Math.Seq.{take-suc}
-use Rattle.pra_base.specs.declared.ids.Place.{Place}
-use Rattle.net_dual.specs.Priced.{total, tie_price}
+use Rattle.net_dual.specs.Priced.{total}
 use Rattle.net_dual.proofs.Totals.{total-append}
 use Rattle.net_dual.proofs.Small.{tie_small}
 use Rattle.net_laws.proofs.Arrivals.{few_arrivals}
-use Rattle.net_path.specs.Rows.{IsAbout}
-use Rattle.net_path.specs.Ties.{ArePaidInAll, tie_pay, entry_ties}
+use Rattle.net_path.specs.Ties.{tie_pay, entry_ties}
 use Rattle.net_path.proofs.EntryTies.{entries_long, entries_end, entries_few, arrivals_there, entries_within, arriving_long}
 use Rattle.net_path.proofs.TieSums.{about_sum, none_more, room_left, one_more, pay_about}
 use Rattle.net_path.proofs.ties.pay_entries.Goals as goal

@@ -1,14 +1,12 @@
-use Rattle.std.proofs.Common.{ℕ, ◌≡◌, ◌+◌, ◌-◌, ◌*◌, ◌^◌, ◌<◌, ◌≤◌, ◌++◌, ◌∷◌, [], List, ℤ, pos, ◌+ℤ◌, true, length, get_or, arith, refl, sym, subst, ap, ◌∙◌}
+use Rattle.std.proofs.Common.{ℕ, ◌≡◌, ◌+◌, ◌-◌, ◌∷◌, [], true, get_or, arith, ap, ◌∙◌}
 use Rattle.std.specs.List.{range_with_len}
 use Rattle.std.proofs.lemmas.Int.{ints}
 use Rattle.std.proofs.lemmas.List.{get_or_read}
 use Rattle.std.proofs.lemmas.List.FromFn.{length-range_with_len}
-use Rattle.pra_base.specs.declared.ids.Place.{Place}
-use Rattle.net_dual.specs.Priced.{total, tie_price}
+use Rattle.net_dual.specs.Priced.{total}
 use Rattle.net_dual.proofs.Totals.{total-append}
 use Rattle.net_dual.proofs.Small.{tie_small}
-use Rattle.net_path.specs.Rows.{IsAbout}
-use Rattle.net_path.specs.Ties.{ArePaidInAll, tie_pay}
+use Rattle.net_path.specs.Ties.{tie_pay}
 use Rattle.net_path.proofs.ExitTies.{exits_long, exits_order, exits_within, exits_few}
 use Rattle.net_path.proofs.TieSums.{about_sum, last_range, none_more, room_left, one_more, pay_about}
 use Rattle.net_path.proofs.ties.pay_exits.Goals as goal

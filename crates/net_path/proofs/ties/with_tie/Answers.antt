@@ -1,4 +1,4 @@
-use Rattle.std.proofs.Common.{ℕ, ◌≡◌, ◌<◌, ℤ, pos, length, length-set, arith, refl, sym, subst, ◌∙◌, to_z, of_z, w64}
+use Rattle.std.proofs.Common.{ℕ, ◌≡◌, ℤ, pos, length-set, arith, refl, sym, subst, ◌∙◌, to_z, of_z, w64}
 use Rattle.std.proofs.lemmas.Int.{to_z-of_z}
 use Rattle.pra_base.specs.declared.ids.Place.{Place}
 use Rattle.pra_base.specs.Places.{number}
