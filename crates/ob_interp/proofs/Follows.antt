@@ -44,8 +44,12 @@ same_prefix : (p : Progress OutEvent RunEnd) → IsPrefix p p
 same_prefix p = ([], sym (append-nil p.events), omega arith)
 
 prefix_trans : (a b c : Progress OutEvent RunEnd) → IsPrefix a b → IsPrefix b c → IsPrefix a c
-prefix_trans a b c p q = (p.0 ++ q.0, q.1 ∙ ap (λ l. l ++ q.0) p.1
-    ∙ append_assoc a.events p.0 q.0, omega (arith, p.2, q.2))
+prefix_trans a b c p q = (
+  p.0 ++ q.0,
+  q.1 ∙ ap (λ l. l ++ q.0) p.1
+      ∙ append_assoc a.events p.0 q.0,
+  omega (arith, p.2, q.2),
+)
 
 at_once : (s : State) → After s (Normal s)
 at_once s = record { prefix = same_prefix (done s) }
@@ -58,8 +62,10 @@ going_at_once s = record { prefix = same_prefix (done s) }
 
 after_then : (s : State) (m : Completion) (k : Run) → After s m → ((t : State) → After t (k t)) →
     After s (then_do m k)
-after_then s (Normal t) k h g = record { prefix = prefix_trans (done s) (done t) (progress_of (k t))
-    h.prefix (g t).prefix }
+after_then s (Normal t) k h g = record {
+  prefix = prefix_trans (done s) (done t) (progress_of (k t))
+      h.prefix (g t).prefix;
+}
 after_then s (Trapped trap t) k h g = h
 after_then s (Going t) k h g = h
 
@@ -136,21 +142,24 @@ while_after : (n : ℕ) (test : State → Outcome) (m : Run) → ((s : State) �
 while_after zero test m g s = going_at_once s
 while_after (suc n) test m g s =
     with_after (test s) s _ (λ x. either_after (is_true x)
-        s _ _ (after_then s (m s) (while_turns n test m) (g s) (while_after n test m g))
-        (at_once s))
+    s _ _ (after_then s (m s) (while_turns n test m) (g s) (while_after n test m g))
+    (at_once s))
 
 while_beside : (n granted : ℕ) (test : State → Outcome) (r : Counting) (m : Run) → Beside r m →
     Beside (while_units n granted (λ c. test c.state) r) (while_turns n test m)
-while_beside zero granted test r m b = record { grows = while_after zero test m b.grows; meets = λ
-    c. going_at_once c.state }
+while_beside zero granted test r m b = record {
+  grows = while_after zero test m b.grows;
+  meets = λ
+      c. going_at_once c.state;
+}
 while_beside (suc n) granted test r m b = record {
   grows = while_after (suc n) test m b.grows;
   meets = λ c. unit_meets (nat_lt c.units granted) _ c _
       (given_meets (test c.state) (record c { units = c.units + 1 }) _ _
       (λ x. either_meets (is_true x) _ _ _ _
       (then_meets (r (record c { units = c.units + 1 })) (m c.state)
-          _ _ (b.meets (record c { units = c.units + 1 })) (while_beside n granted test r m b))
-          refl))
+      _ _ (b.meets (record c { units = c.units + 1 })) (while_beside n granted test r m b))
+      refl))
       (while_after (suc n) test m b.grows c.state);
 }
 
@@ -163,22 +172,27 @@ repeat_after : (n : ℕ) (m : Run) (test : State → Outcome) → ((s : State) �
 repeat_after zero m test g s = going_at_once s
 repeat_after (suc n) m test g s =
     after_then s (m s) _ (g s) (λ t. tested_after (test t) t (repeat_turns n m test)
-        (repeat_after n m test g))
+    (repeat_after n m test g))
 
 repeat_beside : (n granted : ℕ) (r : Counting) (m : Run) (test : State → Outcome) → Beside r m →
     Beside (repeat_units n granted r (λ c. test c.state)) (repeat_turns n m test)
-repeat_beside zero granted r m test b = record { grows = repeat_after zero m test b.grows; meets =
-    λ c. going_at_once c.state }
+repeat_beside zero granted r m test b = record {
+  grows = repeat_after zero m test b.grows;
+  meets =
+      λ c. going_at_once c.state;
+}
 repeat_beside (suc n) granted r m test b =
     then_beside r _ m _ b (record {
       grows = λ s. tested_after (test s) s (repeat_turns n m test) (repeat_after n m test b.grows);
       meets = λ c. unit_meets (nat_lt c.units granted) _ c _
           (given_meets (test c.state) (record c { units = c.units + 1 }) _ _
           (λ x. either_meets (is_true x)
-              _ _ _ _ refl ((repeat_beside n granted r m test b).meets (record c { units = c.units
-              + 1 }))))
+          _ _ _ _ refl ((repeat_beside n granted r m test b).meets (record c {
+            units = c.units
+                + 1;
+          }))))
           (tested_after (test c.state) c.state (repeat_turns n m test)
-              (repeat_after n m test b.grows));
+          (repeat_after n m test b.grows));
     })
 
 -- ---- statements
@@ -220,13 +234,13 @@ given_after x s k g = with_after x s (λ a. k a s) (λ a. g a s)
 choice_beside : (x : Counted → Outcome) (y : State → Outcome) → ((c : Counted) → x c ≡ y c.state) →
     (r q : Counting) (m k : Run) → Beside r m → Beside q k →
     Beside (λ c. given (x c) c (λ v. if is_true v then r c else q c)) (λ s. with (y s)
-        s (λ v. if is_true v then m s else k s))
+    s (λ v. if is_true v then m s else k s))
 choice_beside x y same r q m k b d = record {
   grows = λ s. with_after (y s) s _ (λ v. either_after (is_true v) s _ _ (b.grows s) (d.grows s));
   meets = λ c. subst (λ z. Meets (given z c (λ v. if is_true v then r c else q c))
       (with (y c.state) c.state (λ v. if is_true v then m c.state else k c.state))) (sym (same c))
       (given_meets (y c.state)
-          c _ _ (λ v. either_meets (is_true v) _ _ _ _ (b.meets c) (d.meets c)));
+      c _ _ (λ v. either_meets (is_true v) _ _ _ _ (b.meets c) (d.meets c)));
 }
 
 first_beside : (xs : List CountedArm) (ys : List Arm) (fs : List CountedStatement)
@@ -238,7 +252,7 @@ first_beside (x ∷ xs) [] fs es g h a b w = absurd g
 first_beside (x ∷ xs) (y ∷ ys) fs es g h a b w =
     choice_beside (on_counted x.0 a) (on_state y.0 b)
     (λ c. ap (λ e. e a.calls c.state.store) g.0 ∙ ap (λ calls. y.0 calls c.state.store)
-        (sym w.calls))
+    (sym w.calls))
     _ _ _ _ (in_order_beside x.1 y.1 g.1 a b w) (first_beside xs ys fs es g.2 h a b w)
 
 -- ---- trees
@@ -280,9 +294,9 @@ module _ (program : Checked) where
 
   fit_from : (y : RStmt-F RStmt RArm) →
       Fits (counted_step program (map-RStmt RStmt RArm CountedStatement CountedArm (counted
-          program) (counted_arm program) y))
+      program) (counted_arm program) y))
       (stmt_step program (map-RStmt RStmt RArm Execution Arm (exec program) (arm_of program) y)) →
-          Fit (roll-RStmt y)
+      Fit (roll-RStmt y)
   fit_from y g = subst (λ e. Fits (counted program (roll-RStmt y)) e) (sym (exec_roll program y))
       (subst (λ f. Fits f (stmt_step program (map-RStmt RStmt RArm Execution Arm (exec program)
       (arm_of program) y))) (sym (counted_roll y)) g)
@@ -291,7 +305,7 @@ module _ (program : Checked) where
 
   assign_after : (v : RVar) (e : RExpr) (calls : List LiveCall) (s : State) →
       After s (with (location program v calls s.store)
-          s (λ l. with (value program e calls s.store) s (λ y. Normal (store_at s l y))))
+      s (λ l. with (value program e calls s.store) s (λ y. Normal (store_at s l y))))
   assign_after v e calls s = with_after (location program v calls s.store)
       s _ (λ l. with_after (value program e calls s.store)
       s _ (λ y. record { prefix = same_prefix (done s) }))
@@ -327,7 +341,7 @@ module _ (program : Checked) where
   called_beside : (a : Granted) (b : Around) → Near a b → (x : List LiveCall → State →
       Result (List Argument) TrapKind) (proc : ℕ) →
       Beside (λ c. given (x a.calls c.state) c (λ xs. a.call proc xs c)) (λ s. with (x b.calls s)
-          s (λ xs. b.call proc xs s))
+      s (λ xs. b.call proc xs s))
   called_beside a b w x proc = record {
     grows = λ s. with_after (x b.calls s) s _ (λ xs. (w.call proc xs).grows s);
     meets = λ c. subst (λ calls. Meets (given (x calls c.state) c (λ xs. a.call proc xs c))
@@ -338,42 +352,49 @@ module _ (program : Checked) where
   while_fits : (x : Evaluation) (fs : List CountedStatement) (es : List Execution) → AllFit fs es →
       (a : Granted) (b : Around) → Near a b →
       Beside (while_units a.granted a.granted (on_counted x a) (in_order fs a))
-          (while_turns b.turns (on_state x b) (in_turn es b))
+      (while_turns b.turns (on_state x b) (in_turn es b))
   while_fits x fs es g a b w =
       subst (λ n. Beside (while_units a.granted a.granted (on_counted x a) (in_order fs a))
-          (while_turns n (on_state x b) (in_turn es b))) (sym w.turns)
+      (while_turns n (on_state x b) (in_turn es b))) (sym w.turns)
       (subst (λ calls. Beside (while_units a.granted a.granted (λ c. x calls c.state.store)
-          (in_order fs a)) (while_turns a.granted (on_state x b) (in_turn es b))) w.calls
+      (in_order fs a)) (while_turns a.granted (on_state x b) (in_turn es b))) w.calls
       (while_beside a.granted a.granted (on_state x b) (in_order fs a) (in_turn es b)
-          (in_order_beside fs es g a b w)))
+      (in_order_beside fs es g a b w)))
 
   repeat_fits : (x : Evaluation) (fs : List CountedStatement) (es : List Execution) →
       AllFit fs es → (a : Granted) (b : Around) → Near a b →
       Beside (repeat_units a.granted a.granted (in_order fs a) (on_counted x a))
-          (repeat_turns b.turns (in_turn es b) (on_state x b))
+      (repeat_turns b.turns (in_turn es b) (on_state x b))
   repeat_fits x fs es g a b w =
       subst (λ n. Beside (repeat_units a.granted a.granted (in_order fs a) (on_counted x a))
-          (repeat_turns n (in_turn es b) (on_state x b))) (sym w.turns)
+      (repeat_turns n (in_turn es b) (on_state x b))) (sym w.turns)
       (subst (λ calls. Beside (repeat_units a.granted a.granted (in_order fs a) (λ c. x calls
-          c.state.store)) (repeat_turns a.granted (in_turn es b) (on_state x b))) w.calls
+      c.state.store)) (repeat_turns a.granted (in_turn es b) (on_state x b))) w.calls
       (repeat_beside a.granted a.granted (in_order fs a) (in_turn es b) (on_state x b)
-          (in_order_beside fs es g a b w)))
+      (in_order_beside fs es g a b w)))
 
   stmt_case : (y : WithFit) → Fit (roll-RStmt (plain y))
   stmt_case (RStmt-F.Assign v e)
-      = fit_from _ (record { at = λ a b w. single_beside a b w (assigned_by v e) (assign_after v e
-      b.calls) })
+      = fit_from _ (record {
+        at = λ a b w. single_beside a b w (assigned_by v e) (assign_after v e
+            b.calls);
+      })
   stmt_case (RStmt-F.If arms other)
-      = fit_from _ (record { at = λ a b w. unit_beside a.granted _ _ (first_beside _ _ _ _
-      (arms_fit arms) (all_fit other) a b w) })
+      = fit_from _ (record {
+        at = λ a b w. unit_beside a.granted _ _ (first_beside _ _ _ _
+            (arms_fit arms) (all_fit other) a b w);
+      })
   stmt_case (RStmt-F.While test ts)
       = fit_from _ (record { at = λ a b w. while_fits (value program test) _ _ (all_fit ts) a b w })
   stmt_case (RStmt-F.Repeat ts test)
-      = fit_from _ (record { at = λ a b w. repeat_fits (value program test) _ _ (all_fit ts) a b w
+      = fit_from _ (record {
+        at = λ a b w. repeat_fits (value program test) _ _ (all_fit ts) a b w;
       })
   stmt_case (RStmt-F.Call proc args)
-      = fit_from _ (record { at = λ a b w. unit_beside a.granted _ _ (called_beside a b w (λ calls
-      s. arguments program calls s.store args) proc.0) })
+      = fit_from _ (record {
+        at = λ a b w. unit_beside a.granted _ _ (called_beside a b w (λ calls
+            s. arguments program calls s.store args) proc.0);
+      })
   stmt_case (RStmt-F.Read v) = fit_from _ (record {
     at = λ a b w. single_beside a b w (read_by v)
         (λ s. with_after (location program v b.calls s.store) s _ (λ l. read_after s.input l s));
@@ -383,17 +404,19 @@ module _ (program : Checked) where
         (λ s. with_after (value program e b.calls s.store)
         s _ (λ y. write_after (event.Number (number y)) s));
   })
-  stmt_case RStmt-F.WriteLine = fit_from _ (record { at = λ a b w. single_beside a b w (λ calls s.
-      Normal (written s event.Line)) (write_after event.Line) })
+  stmt_case RStmt-F.WriteLine = fit_from _ (record {
+    at = λ a b w. single_beside a b w (λ calls s.
+        Normal (written s event.Line)) (write_after event.Line);
+  })
 
   arm_case : (y : RArm-F ((t : RStmt) × Fit t) ((t : RArm) × FitArm t)) →
       FitArm (roll-RArm (record { test = y.test; body = map (λ e. e.0) y.body }))
   arm_case y =
       let here : RArm-F RStmt RArm = record { test = y.test; body = map (λ e. e.0) y.body } in
       subst (λ z. (z.0 ≡ (arm_of program (roll-RArm here)).0)
-          × AllFit z.1 (arm_of program (roll-RArm here)).1) (sym (counted_arm_roll here))
+      × AllFit z.1 (arm_of program (roll-RArm here)).1) (sym (counted_arm_roll here))
       (subst (λ z. (value program y.test ≡ z.0) × AllFit (map (counted program) (map (λ e. e.0)
-          y.body)) z.1) (sym (arm_of_roll program here)) (refl, all_fit y.body))
+      y.body)) z.1) (sym (arm_of_roll program here)) (refl, all_fit y.body))
 
   pub fits : (t : RStmt) → Fit t
   fits = ind-RStmt Fit FitArm
@@ -426,10 +449,14 @@ module _ (program : Checked) where
   enters_beside : (calls : List LiveCall) (args : List Argument) (r : Counting) (m : Run) →
       Beside r m →
       Beside (λ c. r (in_call (suc (depth calls)) args c))
-          (λ s. m (record s { store = entered (suc (depth calls)) args s.store }))
+      (λ s. m (record s { store = entered (suc (depth calls)) args s.store }))
   enters_beside calls args r m b = record {
-    grows = λ s. record { prefix = (b.grows (record s { store = entered (suc (depth calls)) args
-        s.store })).prefix };
+    grows = λ s. record {
+      prefix = (b.grows (record s {
+        store = entered (suc (depth calls)) args
+            s.store;
+      })).prefix;
+    };
     meets = λ c. b.meets (in_call (suc (depth calls)) args c);
   }
 
@@ -446,7 +473,7 @@ module _ (program : Checked) where
     calls = refl;
     call = λ proc args. stack_beside frames calls proc _ _ (enters_beside calls args _ _
         (all_beside (body program proc)
-            _ _ (around_near frames granted deeper (call_with proc args ∷ calls))));
+        _ _ (around_near frames granted deeper (call_with proc args ∷ calls))));
   }
 
   -- ---- the whole

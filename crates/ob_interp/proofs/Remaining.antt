@@ -110,8 +110,8 @@ module _ (program : Checked) where
       unit a.granted (λ c. given (on_counted (value program test) a c) c (λ x.
       if is_true x
       then then_go (counted_all program ts a c)
-          (while_units a.granted a.granted (on_counted (value program test) a)
-          (counted_all program ts a))
+      (while_units a.granted a.granted (on_counted (value program test) a)
+      (counted_all program ts a))
       else Done c))
 
   abbrev pub until_due : List RStmt → RExpr → Granted → Counting
@@ -119,7 +119,7 @@ module _ (program : Checked) where
       unit a.granted (λ c. given (on_counted (value program test) a c) c (λ x.
       if is_true x then Done c
       else repeat_units a.granted a.granted (counted_all program ts a)
-          (on_counted (value program test) a) c))
+      (on_counted (value program test) a) c))
 
   enough : (a : Granted) (c : Counted) → a.granted ≤ c.units + a.granted
   enough a c = omega arith
@@ -135,7 +135,7 @@ module _ (program : Checked) where
 
   pub turns_are_due : (test : RExpr) (ts : List RStmt) (a : Granted) → AddsUnits a → (c : Counted) →
       while_units a.granted a.granted (on_counted (value program test) a) (counted_all program ts a)
-          c ≡ while_due test ts a c
+      c ≡ while_due test ts a c
   turns_are_due test ts a h c = while_more a.granted a.granted (on_counted (value program test) a)
       (counted_all program ts a) (all_adds program ts a h) c (enough a c)
 
@@ -143,15 +143,15 @@ module _ (program : Checked) where
       (c : Counted) → counted program (stmt.While test ts) a c ≡ while_due test ts a c
   counted-While test ts a h c =
       ap (λ z. counted program z a c) (sym (stmt.rolls-While test ts))
-          ∙ ap (λ (f : CountedStatement). f a c) (counted_roll program (RStmt-F.While test ts))
+      ∙ ap (λ (f : CountedStatement). f a c) (counted_roll program (RStmt-F.While test ts))
       ∙ ap (λ (r : Counting). while_units a.granted a.granted (on_counted (value program test) a)
-          r c) (in_order-all ts a)
+      r c) (in_order-all ts a)
       ∙ turns_are_due test ts a h c
 
   -- a REPEAT is its statements and then a test
   pub again : (ts : List RStmt) (test : RExpr) (a : Granted) → AddsUnits a → (c : Counted) →
       repeat_units a.granted a.granted (counted_all program ts a) (on_counted (value program test)
-          a) c ≡ then_go (counted_all program ts a c) (until_due ts test a)
+      a) c ≡ then_go (counted_all program ts a c) (until_due ts test a)
   again ts test a h c = repeat_more a.granted a.granted (counted_all program ts a)
       (on_counted (value program test) a) (all_adds program ts a h) (all_wait program ts a)
       c (enough a c)
@@ -161,9 +161,9 @@ module _ (program : Checked) where
       ≡ then_go (counted_all program ts a c) (until_due ts test a)
   counted-Repeat ts test a h c =
       ap (λ z. counted program z a c) (sym (stmt.rolls-Repeat ts test))
-          ∙ ap (λ (f : CountedStatement). f a c) (counted_roll program (RStmt-F.Repeat ts test))
+      ∙ ap (λ (f : CountedStatement). f a c) (counted_roll program (RStmt-F.Repeat ts test))
       ∙ ap (λ (r : Counting). repeat_units a.granted a.granted r (on_counted (value program test) a)
-          c) (in_order-all ts a)
+      c) (in_order-all ts a)
       ∙ again ts test a h c
 
   -- ---- one step of an IF
@@ -172,16 +172,16 @@ module _ (program : Checked) where
       (c : Counted) (r : Outcome) → arms ≡ arm ∷ rest → r
       ≡ value program arm.test a.calls c.state.store →
       given r c (λ x. if is_true x then counted_all program arm.body a c else first_true (map
-          (counted_arm program) rest) other a c)
+      (counted_arm program) rest) other a c)
       ≡ first_true (map (counted_arm program) arms) other a c
   arm-step arms rest arm other a c r is v =
       ap (λ k. given k c (λ x. if is_true x then counted_all program arm.body a c else first_true
-          (map (counted_arm program) rest) other a c)) v
+      (map (counted_arm program) rest) other a c)) v
       ∙ ap (λ (k : Counting). given (value program arm.test a.calls c.state.store)
-          c (λ x. if is_true x then k c else first_true (map (counted_arm program) rest) other a c))
-          (sym (in_order-all arm.body a))
+      c (λ x. if is_true x then k c else first_true (map (counted_arm program) rest) other a c))
+      (sym (in_order-all arm.body a))
       ∙ ap (λ (k : CountedArm). first_true (k ∷ map (counted_arm program) rest) other a c)
-          (sym (arm-is arm))
+      (sym (arm-is arm))
       ∙ ap (λ k. first_true (map (counted_arm program) k) other a c) (sym is)
 
   pub others-are : (other : List RStmt) (a : Granted) (c : Counted) →
@@ -217,37 +217,37 @@ ended finish.Stopped c h next goes is e go some none = ap go e ∙ some finish.S
 pub called : (program : Checked) (frames : List ℕ) (granted : ℕ) (calls : List LiveCall) (proc : ℕ)
     (args : List Argument) (c d : Counted) →
     length calls ≤ granted → nat_lt stack_limit (live_frames frames calls + frame_of frames proc)
-        ≡ false → d ≡ in_call (length calls + 1) args c →
+    ≡ false → d ≡ in_call (length calls + 1) args c →
     (here program frames granted calls).call proc args c ≡ counted_all program (body program proc)
-        (here program frames granted (call_with proc args ∷ calls)) d
+    (here program frames granted (call_with proc args ∷ calls)) d
 called program frames granted calls proc args c d le low is =
     let some : granted + 1 - length calls ≡ suc (granted - length calls) = omega arith in
     let fewer : granted - length calls ≡ granted + 1 - length (call_with proc args ∷ calls)
-        = omega arith in
+    = omega arith in
     let one : suc (length calls) ≡ length calls + 1 = omega arith in
     ap (λ k. counted_call program frames granted k calls proc args c) some
     ∙ ap (λ b. if b then Failed Stack c else counted_all program (body program proc)
-        (granted_around program frames granted (granted - length calls)
-        (call_with proc args ∷ calls)) (in_call (suc (length calls)) args c)) low
+    (granted_around program frames granted (granted - length calls)
+    (call_with proc args ∷ calls)) (in_call (suc (length calls)) args c)) low
     ∙ ap (λ k. counted_all program (body program proc)
-        (granted_around program frames granted k (call_with proc args ∷ calls))
-        (in_call (suc (length calls)) args c)) fewer
+    (granted_around program frames granted k (call_with proc args ∷ calls))
+    (in_call (suc (length calls)) args c)) fewer
     ∙ ap (λ k. counted_all program (body program proc)
-        (here program frames granted (call_with proc args ∷ calls)) (in_call k args c)) one
+    (here program frames granted (call_with proc args ∷ calls)) (in_call k args c)) one
     ∙ ap (counted_all program (body program proc)
-        (here program frames granted (call_with proc args ∷ calls))) (sym is)
+    (here program frames granted (call_with proc args ∷ calls))) (sym is)
 
 pub stack-full : (program : Checked) (frames : List ℕ) (granted : ℕ) (calls : List LiveCall)
     (proc : ℕ) (args : List Argument) (c : Counted) →
     length calls ≤ granted → nat_lt stack_limit (live_frames frames calls + frame_of frames proc)
-        ≡ true →
+    ≡ true →
     (here program frames granted calls).call proc args c ≡ Failed Stack c
 stack-full program frames granted calls proc args c le high =
     let some : granted + 1 - length calls ≡ suc (granted - length calls) = omega arith in
     ap (λ k. counted_call program frames granted k calls proc args c) some
     ∙ ap (λ b. if b then Failed Stack c else counted_all program (body program proc)
-        (granted_around program frames granted (granted - length calls)
-        (call_with proc args ∷ calls)) (in_call (suc (length calls)) args c)) high
+    (granted_around program frames granted (granted - length calls)
+    (call_with proc args ∷ calls)) (in_call (suc (length calls)) args c)) high
 
 -- ---- weights
 
@@ -285,15 +285,15 @@ module _ where
 pub at_head : (program : Checked) (frames : List ℕ) (k : ℕ) (calls : List LiveCall) (c : Counted)
     (all more : List RStmt) (t : RStmt) (next : Counting) (f : First) → all ≡ t ∷ more →
     counted program t (here program frames k calls) c
-        ≡ leads program f (here program frames k calls) c →
+    ≡ leads program f (here program frames k calls) c →
     then_go (leads program f (here program frames k calls) c)
-        (λ d. then_go (counted_all program more (here program frames k calls) d) next)
+    (λ d. then_go (counted_all program more (here program frames k calls) d) next)
     ≡ then_go (counted_all program all (here program frames k calls) c) next
 at_head program frames k calls c all more t next f is led =
     ap (λ h. then_go h (λ d. then_go (counted_all program more (here program frames k calls) d)
-        next)) (sym led)
+    next)) (sym led)
     ∙ sym (then_after (counted program t (here program frames k calls) c)
-        (counted_all program more (here program frames k calls)) next)
+    (counted_all program more (here program frames k calls)) next)
     ∙ ap (λ ts. then_go (counted_all program ts (here program frames k calls) c) next) (sym is)
 
 -- ---- a turn of a loop is pushed: the statements, and the next test behind them
@@ -303,51 +303,51 @@ module _ (program : Checked) (frames : List ℕ) (k : ℕ) (calls : List LiveCal
       Ok x ≡ value program test.now calls c.state.store → is_true x ≡ true →
       one ≡ task.While test ts ∷ tasks → two ≡ task.Statements ts ∷ one →
       goes_on program frames k two calls c ≡ then_go (begun_of program (due.While test ts)
-          (here program frames k calls) c) (goes_on program frames k tasks calls)
+      (here program frames k calls) c) (goes_on program frames k tasks calls)
   turned test ts x tasks one two v truth pushed more =
       ap (λ l. goes_on program frames k l calls c) (more ∙ ap (λ l. task.Statements ts ∷ l) pushed)
       ∙ sym (then_same (counted_all program ts.now (here program frames k calls) c)
       (λ d. then_go (while_units k k (on_counted (value program test.now) (here program frames k
-          calls)) (counted_all program ts.now (here program frames k calls)) d)
-          (goes_on program frames k tasks calls))
+      calls)) (counted_all program ts.now (here program frames k calls)) d)
+      (goes_on program frames k tasks calls))
       (goes_on program frames k (task.While test ts ∷ tasks) calls)
       (λ d. ap (λ h. then_go h (goes_on program frames k tasks calls))
-          (turns_are_due program test.now ts.now (here program frames k calls)
-          (here_adds program frames k calls) d)))
+      (turns_are_due program test.now ts.now (here program frames k calls)
+      (here_adds program frames k calls) d)))
       ∙ sym (then_after (counted_all program ts.now (here program frames k calls) c)
-          (while_units k k (on_counted (value program test.now) (here program frames k calls))
-          (counted_all program ts.now (here program frames k calls)))
-          (goes_on program frames k tasks calls))
+      (while_units k k (on_counted (value program test.now) (here program frames k calls))
+      (counted_all program ts.now (here program frames k calls)))
+      (goes_on program frames k tasks calls))
       ∙ ap (λ (b : Bool). then_go (if b then then_go (counted_all program ts.now (here program
-          frames k calls) c) (while_units k k (on_counted (value program test.now)
-          (here program frames k calls)) (counted_all program ts.now (here program frames k calls)))
-          else Done c) (goes_on program frames k tasks calls)) (sym truth)
+      frames k calls) c) (while_units k k (on_counted (value program test.now)
+      (here program frames k calls)) (counted_all program ts.now (here program frames k calls)))
+      else Done c) (goes_on program frames k tasks calls)) (sym truth)
       ∙ ap (λ r. then_go (given r c (λ y. if is_true y then then_go (counted_all program ts.now
-          (here program frames k calls) c) (while_units k k (on_counted (value program test.now)
-          (here program frames k calls)) (counted_all program ts.now (here program frames k calls)))
-          else Done c)) (goes_on program frames k tasks calls)) v
+      (here program frames k calls) c) (while_units k k (on_counted (value program test.now)
+      (here program frames k calls)) (counted_all program ts.now (here program frames k calls)))
+      else Done c)) (goes_on program frames k tasks calls)) v
 
   pub turned-back : (ts : Bor (List RStmt)) (test : Bor RExpr) (x : Value)
       (tasks one two : List Task) → Ok x ≡ value program test.now calls c.state.store → is_true x
       ≡ false →
       one ≡ task.Until ts test ∷ tasks → two ≡ task.Statements ts ∷ one →
       goes_on program frames k two calls c ≡ then_go (begun_of program (due.Until ts test)
-          (here program frames k calls) c) (goes_on program frames k tasks calls)
+      (here program frames k calls) c) (goes_on program frames k tasks calls)
   turned-back ts test x tasks one two v truth pushed more =
       ap (λ l. goes_on program frames k l calls c) (more ∙ ap (λ l. task.Statements ts ∷ l) pushed)
       ∙ sym (then_after (counted_all program ts.now (here program frames k calls) c)
-          (until_due program ts.now test.now (here program frames k calls))
-          (goes_on program frames k tasks calls))
+      (until_due program ts.now test.now (here program frames k calls))
+      (goes_on program frames k tasks calls))
       ∙ ap (λ h. then_go h (goes_on program frames k tasks calls))
-          (sym (again program ts.now test.now (here program frames k calls) (here_adds program
-          frames k calls) c))
+      (sym (again program ts.now test.now (here program frames k calls) (here_adds program
+      frames k calls) c))
       ∙ ap (λ (b : Bool). then_go (if b then Done c else repeat_units k k (counted_all program
-          ts.now (here program frames k calls)) (on_counted (value program test.now)
-          (here program frames k calls)) c) (goes_on program frames k tasks calls)) (sym truth)
+      ts.now (here program frames k calls)) (on_counted (value program test.now)
+      (here program frames k calls)) c) (goes_on program frames k tasks calls)) (sym truth)
       ∙ ap (λ r. then_go (given r c (λ y. if is_true y then Done c else repeat_units k k
-          (counted_all program ts.now (here program frames k calls))
-          (on_counted (value program test.now) (here program frames k calls)) c))
-          (goes_on program frames k tasks calls)) v
+      (counted_all program ts.now (here program frames k calls))
+      (on_counted (value program test.now) (here program frames k calls)) c))
+      (goes_on program frames k tasks calls)) v
 
 -- ---- how statements begin
 
@@ -355,18 +355,18 @@ module _ (program : Checked) (frames : List ℕ) (k : ℕ) (calls : List LiveCal
   pub leads-If : (arms : Bor (List RArm)) (other : Bor (List RStmt)) (ys : List RArm)
       (zs : List RStmt) → arms.now ≡ ys → other.now ≡ zs →
       counted program (stmt.If ys zs) (here program frames k calls) c
-          ≡ due_of program (due.If arms other) (here program frames k calls) c
+      ≡ due_of program (due.If arms other) (here program frames k calls) c
   leads-If arms other ys zs e d =
       counted-If program ys zs (here program frames k calls) c
       ∙ ap (λ xs. unit k (first_true (map (counted_arm program) xs) (map (counted program) zs)
-          (here program frames k calls)) c) (sym e)
+      (here program frames k calls)) c) (sym e)
       ∙ ap (λ xs. unit k (first_true (map (counted_arm program) arms.now) (map (counted program)
-          xs) (here program frames k calls)) c) (sym d)
+      xs) (here program frames k calls)) c) (sym d)
 
   pub leads-While : (test : Bor RExpr) (ts : Bor (List RStmt)) (e : RExpr) (zs : List RStmt) →
       test.now ≡ e → ts.now ≡ zs →
       counted program (stmt.While e zs) (here program frames k calls) c
-          ≡ due_of program (due.While test ts) (here program frames k calls) c
+      ≡ due_of program (due.While test ts) (here program frames k calls) c
   leads-While test ts e zs is same =
       counted-While program e zs (here program frames k calls) (here_adds program frames k calls) c
       ∙ ap (λ x. while_due program x zs (here program frames k calls) c) (sym is)
@@ -375,31 +375,31 @@ module _ (program : Checked) (frames : List ℕ) (k : ℕ) (calls : List LiveCal
   pub leads-Repeat : (ts : Bor (List RStmt)) (test : Bor RExpr) (zs : List RStmt) (e : RExpr) →
       ts.now ≡ zs → test.now ≡ e →
       counted program (stmt.Repeat zs e) (here program frames k calls) c
-          ≡ leads program (first.Repeat ts test) (here program frames k calls) c
+      ≡ leads program (first.Repeat ts test) (here program frames k calls) c
   leads-Repeat ts test zs e same is =
       counted-Repeat program zs e (here program frames k calls) (here_adds program frames k calls) c
       ∙ ap (λ xs. then_go (counted_all program xs (here program frames k calls) c)
-          (until_due program xs e (here program frames k calls))) (sym same)
+      (until_due program xs e (here program frames k calls))) (sym same)
       ∙ ap (λ x. then_go (counted_all program ts.now (here program frames k calls) c)
-          (until_due program ts.now x (here program frames k calls))) (sym is)
+      (until_due program ts.now x (here program frames k calls))) (sym is)
 
   pub leads-Call : (proc : ProcId) (args : Bor (List RArg)) (ys : List RArg) → args.now ≡ ys →
       counted program (stmt.Call proc ys) (here program frames k calls) c
-          ≡ due_of program (due.Call proc.0 args) (here program frames k calls) c
+      ≡ due_of program (due.Call proc.0 args) (here program frames k calls) c
   leads-Call proc args ys same =
       counted-Call program proc ys (here program frames k calls) c
       ∙ ap (λ xs. unit k (λ d. given (arguments program calls d.state.store xs) d (λ l. (here
-          program frames k calls).call proc.0 l d)) c) (sym same)
+      program frames k calls).call proc.0 l d)) c) (sym same)
 
 -- the statements of a REPEAT, its test, and what is behind them
 pub repeated : (program : Checked) (frames : List ℕ) (k : ℕ) (calls : List LiveCall) (c : Counted)
     (ts : Bor (List RStmt)) (test : Bor RExpr) (next : Counting) →
     then_go (counted_all program ts.now (here program frames k calls) c)
-        (λ d. then_go (due_of program (due.Until ts test) (here program frames k calls) d) next)
+    (λ d. then_go (due_of program (due.Until ts test) (here program frames k calls) d) next)
     ≡ then_go (leads program (first.Repeat ts test) (here program frames k calls) c) next
 repeated program frames k calls c ts test next =
     sym (then_after (counted_all program ts.now (here program frames k calls) c)
-        (due_of program (due.Until ts test) (here program frames k calls)) next)
+    (due_of program (due.Until ts test) (here program frames k calls)) next)
 
 -- ---- a call goes on with its body, and then returns
 
@@ -407,32 +407,60 @@ pub called-goes : (program : Checked) (frames : List ℕ) (k : ℕ) (calls mid :
     (proc : ℕ) (args : Bor (List RArg)) (xs : List Argument) (body' : Bor (List RStmt))
     (c d : Counted) (tasks one two : List Task) →
     length calls ≤ k → nat_lt stack_limit (live_frames frames calls + frame_of frames proc)
-        ≡ false → d ≡ in_call (length calls + 1) xs c → mid ≡ call_with proc xs ∷ calls →
+    ≡ false → d ≡ in_call (length calls + 1) xs c → mid ≡ call_with proc xs ∷ calls →
     Ok xs ≡ arguments program calls c.state.store args.now → body'.now ≡ body program proc →
     one ≡ task.Return ∷ tasks → two ≡ task.Statements body' ∷ one →
     goes_on program frames k two mid d ≡ then_go (begun_of program (due.Call proc args)
-        (here program frames k calls) c) (goes_on program frames k tasks calls)
+    (here program frames k calls) c) (goes_on program frames k tasks calls)
 called-goes program frames k calls mid proc args xs body' c d tasks one two le low at is given'
     same pushed more =
     ap (λ l. goes_on program frames k l mid d) (more ∙ ap (λ l. task.Statements body' ∷ l) pushed)
     ∙ ap (λ l. goes_on program frames k (task.Statements body' ∷ task.Return ∷ tasks) l d) is
     ∙ ap (λ ts. then_go (counted_all program ts (here program frames k (call_with proc xs ∷ calls))
-        d) (goes_on program frames k tasks calls)) same
+    d) (goes_on program frames k tasks calls)) same
     ∙ ap (λ h. then_go h (goes_on program frames k tasks calls))
-        (sym (called program frames k calls proc xs c d le low at))
+    (sym (called program frames k calls proc xs c d le low at))
     ∙ ap (λ r. then_go (given r c (λ l. (here program frames k calls).call proc l c))
-        (goes_on program frames k tasks calls)) given'
+    (goes_on program frames k tasks calls)) given'
 
 pub entered-counted : (input : List ℤ) (r new : Running) (depth : ℕ) (args : List Argument) →
     store_of new ≡ entered depth args (store_of r) → new.events ≡ r.events → new.taken ≡ r.taken →
     new.units ≡ r.units →
     counted_of input new ≡ in_call depth args (counted_of input r)
 entered-counted input r new depth args store events taken units =
-    ap {B = Counted} (λ x. record { state = record { store = x; input = drop new.taken input;
-        events = new.events; taken = new.taken }; units = new.units }) store
-    ∙ ap {B = Counted} (λ x. record { state = record { store = entered depth args (store_of r);
-        input = drop new.taken input; events = x; taken = new.taken }; units = new.units }) events
-    ∙ ap {B = Counted} (λ x. record { state = record { store = entered depth args (store_of r);
-        input = drop x input; events = r.events; taken = x }; units = new.units }) taken
-    ∙ ap {B = Counted} (λ x. record { state = record { store = entered depth args (store_of r);
-        input = drop r.taken input; events = r.events; taken = r.taken }; units = x }) units
+    ap {B = Counted} (λ x. record {
+      state = record {
+        store = x;
+        input = drop new.taken input;
+        events = new.events;
+        taken = new.taken;
+      };
+      units = new.units;
+    }) store
+    ∙ ap {B = Counted} (λ x. record {
+      state = record {
+        store = entered depth args (store_of r);
+        input = drop new.taken input;
+        events = x;
+        taken = new.taken;
+      };
+      units = new.units;
+    }) events
+    ∙ ap {B = Counted} (λ x. record {
+      state = record {
+        store = entered depth args (store_of r);
+        input = drop x input;
+        events = r.events;
+        taken = x;
+      };
+      units = new.units;
+    }) taken
+    ∙ ap {B = Counted} (λ x. record {
+      state = record {
+        store = entered depth args (store_of r);
+        input = drop r.taken input;
+        events = r.events;
+        taken = r.taken;
+      };
+      units = x;
+    }) units

@@ -108,8 +108,10 @@ does_adds m = record { later = λ c. halt_later c.units (m c.state) c refl }
 
 test_adds : (x : Counted → Outcome) (r q : Counting) → Adds r → Adds q →
     Adds (λ d. given (x d) d (λ v. if is_true v then r d else q d))
-test_adds x r q a b = record { later = λ c. later_given (x c)
-    c _ (λ v. later_if (is_true v) c _ _ (a.later c) (b.later c)) }
+test_adds x r q a b = record {
+  later = λ c. later_given (x c)
+      c _ (λ v. later_if (is_true v) c _ _ (a.later c) (b.later c));
+}
 
 while_adds : (n granted : ℕ) (test : Counted → Outcome) (r : Counting) → Adds r →
     Adds (while_units n granted test r)
@@ -199,23 +201,33 @@ module _ (program : Checked) where
   stmt_fair (RStmt-F.Assign v e)
       = fair_from _ (record { at = λ a h. unit_adds a.granted _ (does_adds _) })
   stmt_fair (RStmt-F.If arms other)
-      = fair_from _ (record { at = λ a h. unit_adds a.granted _ (first_adds _ _ (arms_fair arms)
-      (all_fair other) a h) })
+      = fair_from _ (record {
+        at = λ a h. unit_adds a.granted _ (first_adds _ _ (arms_fair arms)
+            (all_fair other) a h);
+      })
   stmt_fair (RStmt-F.While test ts)
-      = fair_from _ (record { at = λ a h. while_adds a.granted a.granted _ _ (in_order_adds _
-      (all_fair ts) a h) })
+      = fair_from _ (record {
+        at = λ a h. while_adds a.granted a.granted _ _ (in_order_adds _
+            (all_fair ts) a h);
+      })
   stmt_fair (RStmt-F.Repeat ts test)
-      = fair_from _ (record { at = λ a h. repeat_adds a.granted a.granted _ _ (in_order_adds _
-      (all_fair ts) a h) })
+      = fair_from _ (record {
+        at = λ a h. repeat_adds a.granted a.granted _ _ (in_order_adds _
+            (all_fair ts) a h);
+      })
   stmt_fair (RStmt-F.Call proc args)
-      = fair_from _ (record { at = λ a h. unit_adds a.granted _ (call_adds (λ c. arguments program
-      a.calls c.state.store args) (a.call proc.0) (h proc.0)) })
+      = fair_from _ (record {
+        at = λ a h. unit_adds a.granted _ (call_adds (λ c. arguments program
+            a.calls c.state.store args) (a.call proc.0) (h proc.0));
+      })
   stmt_fair (RStmt-F.Read v)
       = fair_from _ (record { at = λ a h. unit_adds a.granted _ (does_adds _) })
   stmt_fair (RStmt-F.Write e)
       = fair_from _ (record { at = λ a h. unit_adds a.granted _ (does_adds _) })
-  stmt_fair RStmt-F.WriteLine = fair_from _ (record { at = λ a h. unit_adds a.granted _ (does_adds
-      (stmt_step program RStmt-F.WriteLine (alone a.calls))) })
+  stmt_fair RStmt-F.WriteLine = fair_from _ (record {
+    at = λ a h. unit_adds a.granted _ (does_adds
+        (stmt_step program RStmt-F.WriteLine (alone a.calls)));
+  })
 
   arm_fair : (y : RArm-F ((t : RStmt) × IsFair t) ((t : RArm) × IsFairArm t)) →
       IsFairArm (roll-RArm (record { test = y.test; body = map (λ e. e.0) y.body }))
@@ -236,8 +248,10 @@ module _ (program : Checked) where
 
   stack_adds : (frames : List ℕ) (calls : List LiveCall) (proc : ℕ) (r : Counting) → Adds r →
       Adds (within_stack frames calls proc r)
-  stack_adds frames calls proc r a = record { later = λ c. later_if (nat_lt stack_limit
-      (live_frames frames calls + frame_of frames proc)) c (Failed Stack c) (r c) tt (a.later c) }
+  stack_adds frames calls proc r a = record {
+    later = λ c. later_if (nat_lt stack_limit
+        (live_frames frames calls + frame_of frames proc)) c (Failed Stack c) (r c) tt (a.later c);
+  }
 
   enters_adds : (depth : ℕ) (args : List Argument) (r : Counting) → Adds r →
       Adds (λ c. r (in_call depth args c))
@@ -245,8 +259,10 @@ module _ (program : Checked) where
 
   pub calls_add : (frames : List ℕ) (granted deeper : ℕ) (calls : List LiveCall) (proc : ℕ)
       (args : List Argument) → Adds (counted_call program frames granted deeper calls proc args)
-  calls_add frames granted zero calls proc args = record { later = (stack_adds frames calls proc
-      Stopped (record { later = λ c. tt })).later }
+  calls_add frames granted zero calls proc args = record {
+    later = (stack_adds frames calls proc
+        Stopped (record { later = λ c. tt })).later;
+  }
   calls_add frames granted (suc deeper) calls proc args = record {
     later = (stack_adds frames calls proc _ (enters_adds _ args _ (all_adds (body program proc) _
         (calls_add frames granted deeper _)))).later;
@@ -315,27 +331,41 @@ module _ (program : Checked) where
       IsIdle (roll-RStmt (map-RStmt ((t : RStmt) × IsIdle t) ((t : RArm) × AnyArm t) RStmt RArm (λ
       e. e.0) (λ e. e.0) y))
   stmt_idle (RStmt-F.Assign v e)
-      = idle_from _ (record { at = λ a c le. unit_idle a.granted (does (stmt_step program
-      (RStmt-F.Assign v e) (alone a.calls))) c le })
+      = idle_from _ (record {
+        at = λ a c le. unit_idle a.granted (does (stmt_step program
+            (RStmt-F.Assign v e) (alone a.calls))) c le;
+      })
   stmt_idle (RStmt-F.If arms other)
-      = idle_from _ (record { at = λ a c le. unit_idle a.granted (first_true (map (counted_arm
-      program) (map (λ e. e.0) arms)) (map (counted program) (map (λ e. e.0) other)) a) c le })
+      = idle_from _ (record {
+        at = λ a c le. unit_idle a.granted (first_true (map (counted_arm
+            program) (map (λ e. e.0) arms)) (map (counted program) (map (λ e. e.0) other)) a) c le;
+      })
   stmt_idle (RStmt-F.While test ts)
       = idle_from _ (record { at = λ a c le. while_idle a.granted a.granted _ _ c le })
   stmt_idle (RStmt-F.Repeat ts test)
-      = idle_from _ (record { at = λ a c le. repeat_idle a.granted a.granted _ _ c le
-      (in_order_idle _ (all_idle ts) a c le) })
+      = idle_from _ (record {
+        at = λ a c le. repeat_idle a.granted a.granted _ _ c le
+            (in_order_idle _ (all_idle ts) a c le);
+      })
   stmt_idle (RStmt-F.Call proc args)
-      = idle_from _ (record { at = λ a c le. unit_idle a.granted (λ d. given (arguments program
-      a.calls d.state.store args) d (λ xs. a.call proc.0 xs d)) c le })
+      = idle_from _ (record {
+        at = λ a c le. unit_idle a.granted (λ d. given (arguments program
+            a.calls d.state.store args) d (λ xs. a.call proc.0 xs d)) c le;
+      })
   stmt_idle (RStmt-F.Read v)
-      = idle_from _ (record { at = λ a c le. unit_idle a.granted (does (stmt_step program
-      (RStmt-F.Read v) (alone a.calls))) c le })
+      = idle_from _ (record {
+        at = λ a c le. unit_idle a.granted (does (stmt_step program
+            (RStmt-F.Read v) (alone a.calls))) c le;
+      })
   stmt_idle (RStmt-F.Write e)
-      = idle_from _ (record { at = λ a c le. unit_idle a.granted (does (stmt_step program
-      (RStmt-F.Write e) (alone a.calls))) c le })
-  stmt_idle RStmt-F.WriteLine = idle_from _ (record { at = λ a c le. unit_idle a.granted (does
-      (stmt_step program RStmt-F.WriteLine (alone a.calls))) c le })
+      = idle_from _ (record {
+        at = λ a c le. unit_idle a.granted (does (stmt_step program
+            (RStmt-F.Write e) (alone a.calls))) c le;
+      })
+  stmt_idle RStmt-F.WriteLine = idle_from _ (record {
+    at = λ a c le. unit_idle a.granted (does
+        (stmt_step program RStmt-F.WriteLine (alone a.calls))) c le;
+  })
 
   pub idle : (t : RStmt) → IsIdle t
   idle = ind-RStmt IsIdle AnyArm
@@ -373,10 +403,10 @@ while_more zero granted test r a c le = sym (unit_idle granted (while_turn zero 
 while_more (suc n) granted test r a c le =
     let d : Counted = record c { units = c.units + 1 } in
     same_unit granted (while_turn n granted test r) (while_turn (suc n) granted test r)
-        c (same_given (test d) d _ _ (λ x.
+    c (same_given (test d) d _ _ (λ x.
     ap (λ h. if is_true x then h else Done d)
     (same_then d (r d) (while_units n granted test r) (while_units (suc n) granted test r)
-        (a.later d) (λ e l. while_more n granted test r a e (omega (arith, le, l))))))
+    (a.later d) (λ e l. while_more n granted test r a e (omega (arith, le, l))))))
 
 pub repeat_more : (n granted : ℕ) (r : Counting) (test : Counted → Outcome) → Adds r →
     ((c : Counted) → granted ≤ c.units → Waits c (r c)) → (c : Counted) → granted ≤ c.units + n →
@@ -386,9 +416,9 @@ repeat_more zero granted r test a w c le = sym (waits_then c (r c)
     (unit_idle granted (until_turn zero granted r test) c (omega (arith, le))))
 repeat_more (suc n) granted r test a w c le =
     same_then c (r c) (unit granted (until_turn n granted r test))
-        (unit granted (until_turn (suc n) granted r test)) (a.later c) (λ d l.
+    (unit granted (until_turn (suc n) granted r test)) (a.later c) (λ d l.
     let e : Counted = record d { units = d.units + 1 } in
     same_unit granted (until_turn n granted r test) (until_turn (suc n) granted r test)
-        d (same_given (test e) e _ _ (λ x.
+    d (same_given (test e) e _ _ (λ x.
     ap (λ h. if is_true x then Done e else h)
-        (repeat_more n granted r test a w e (omega (arith, le, l))))))
+    (repeat_more n granted r test a w e (omega (arith, le, l))))))

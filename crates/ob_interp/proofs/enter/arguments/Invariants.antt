@@ -7,5 +7,5 @@ use Rattle.ob_interp.proofs.enter.arguments.Given as goal
 abbrev pub invariant-loop-x : goal.invariant-loop-x
 invariant-loop-x l =
     (arguments l.setting.program.now l.running.calls.items (store_of l.running)
-        (drop l.x-index l.all) >>= λ rest. Ok (l.done.items ++ rest))
+    (drop l.x-index l.all) >>= λ rest. Ok (l.done.items ++ rest))
     ≡ arguments l.setting.program.now l.running.calls.items (store_of l.running) l.all

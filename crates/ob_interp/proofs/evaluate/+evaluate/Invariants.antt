@@ -9,5 +9,5 @@ invariant-locate-loop-step l =
     let calls = l.running.calls.items in
     let s = store_of l.running in
     selected l.program.types l.type_id l.at (at_store calls s (map (selector l.program) (drop
-        l.step-index l.step-items)))
+    l.step-index l.step-items)))
     ≡ location l.program l.v calls s

@@ -13,5 +13,5 @@ returns-in_ok-push_front-in-Ok-2 c =
     let pushed = c.in_ok-push_front-in-Ok.ensures.items in
     let again = c.in_ok-push_front-in-Ok-2.ensures.items in
     turned p c.args.setting.now.frames.now c.args.setting.now.granted
-        c.args.running.now.calls.items s c.args.test c.args.body c.in-Ok.x c.args.tasks.now.items _
-        _ v yes pushed again
+    c.args.running.now.calls.items s c.args.test c.args.body c.in-Ok.x c.args.tasks.now.items _
+    _ v yes pushed again

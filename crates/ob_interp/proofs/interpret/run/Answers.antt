@@ -6,4 +6,4 @@ pub returns-in-None : goal.returns-in-None
 returns-in-None c =
     let goes = rw c.in-None.is at c.in_ok-due.ensures.goes in
     c.reached-in-None.ensures c.args.setting.now.input.now ∙ ap told (goes
-        ∙ c.loop-tasks.invariant.goes)
+    ∙ c.loop-tasks.invariant.goes)

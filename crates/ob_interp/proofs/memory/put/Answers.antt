@@ -9,9 +9,9 @@ pub returns : goal.returns
 returns c = elim c.match-insert.branch [
   | in-Ok w ↦
       let put : c.insert.new.self.entries
-          ≡ insert_entry part_cmp c.args.parts.now.entries c.args.key c.args.value =
-          w.in-Ok.ensures.entries in
+      ≡ insert_entry part_cmp c.args.parts.now.entries c.args.key c.args.value =
+      w.in-Ok.ensures.entries in
       rw w.result-is (λ n path. ap (λ es. held es n path) put
-          ∙ held-put c.args.parts.now.entries c.args.key c.args.value n path)
+      ∙ held-put c.args.parts.now.entries c.args.key c.args.value n path)
   | in-Err w ↦ rw w.result-is tt
 ]

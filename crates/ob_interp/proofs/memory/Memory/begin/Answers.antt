@@ -9,7 +9,7 @@ use Rattle.ob_interp.proofs.memory.Memory.begin.Goals as goal
 pub returns : goal.returns
 returns c =
     let written : Vec Layer Global = with_item c.reach.new.self.layers c.args.depth
-        c.empty_layer.result in
+    c.empty_layer.result in
     layer-begun c.reach.new.self written c.args.depth c.empty_layer.result
-        c.in_ok-reach.ensures.there refl c.empty_layer.ensures.params c.empty_layer.ensures.locals
+    c.in_ok-reach.ensures.there refl c.empty_layer.ensures.params c.empty_layer.ensures.locals
     ∙ ap (λ s. begun s c.args.depth) c.reach.ensures.same
