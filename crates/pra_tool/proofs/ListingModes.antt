@@ -1,5 +1,5 @@
 -- `list` and `asm` are modes.
-use Rattle.std.proofs.Common.{◌≡◌, ◌≢◌, ◌≤◌, ◌<◌, refl, sym, ap, ap₂, ◌∙◌, subst, ℕ, List, [], ◌∷◌, length, arith}
+use Rattle.std.proofs.Common.{◌≡◌, ◌≢◌, ◌≤◌, refl, sym, ap, ap₂, ◌∙◌, subst, ℕ, List, length, arith}
 use Rattle.std.specs.Prelude.{Ok, Err}
 use Rattle.pra_list.proofs.Options.{none_some, some_same}
 use Rattle.ia_code.specs.declared.image.Image.{Image}
@@ -11,7 +11,7 @@ use Rattle.ia_asm.proofs.ImageFile.{broken-image_bytes_of}
 use Rattle.ia_list.specs.declared.listing.ListFault.{ListFault}
 use Rattle.ia_list.specs.declared.listing.ListFault.TheVariants as list
 use Rattle.ia_list.specs.declared.assembly.AsmFault.TheVariants as asm
-use Rattle.ia_list.specs.ListText.{IsListText, StopsAt, IsListFault, max_text_bytes}
+use Rattle.ia_list.specs.ListText.{IsListText, StopsAt, IsListFault}
 use Rattle.ia_list.proofs.TextsOnce.{one_answer, one_text, text_or_stop, one_stop}
 use Rattle.pra_words.specs.Words.{Asked}
 use Rattle.pra_tool.specs.declared.listing.Unlisted.{Unlisted}
@@ -21,7 +21,7 @@ use Rattle.pra_tool.specs.declared.listing.Unassembled.TheVariants as unassemble
 use Rattle.pra_tool.specs.Status.{IsDone, IsRefusal}
 use Rattle.pra_tool.specs.Writes.{Writes, names}
 use Rattle.pra_tool.specs.Modes.{IsKind, IsMode}
-use Rattle.pra_tool.specs.Listings.{most_image, IsListed, StopsIn, IsLong, IsUnlisted, unlisted_by, unlisted_status, images, IsTextOf, IsUnassembled, unassembled_status, listings}
+use Rattle.pra_tool.specs.Listings.{most_image, IsListed, StopsIn, IsUnlisted, unlisted_by, unlisted_status, images, IsUnassembled, unassembled_status, listings}
 use Rattle.pra_tool.specs.Clause.{listing, assembling}
 use Rattle.pra_tool.proofs.CompilingModes.{inputs_are_a_kind, not_read}
 

@@ -5,7 +5,6 @@ use Rattle.ia_code.specs.declared.image.Image.{Image}
 use Rattle.ia_code.specs.Image.{IsImage, image_bytes_of}
 use Rattle.ia_code.specs.declared.ins.Ins.{Ins}
 use Rattle.ia_code.specs.Listing.{IsListing}
-use Rattle.ia_asm.specs.Rules.{IsFileOf}
 use Rattle.ia_list.specs.ListText.{IsListText, text_of, max_text_bytes}
 use Rattle.ia_list.proofs.TextsOnce.{listed_assembles, one_text}
 use Rattle.pra_compile.specs.declared.output.Compiled.{Compiled}

@@ -116,7 +116,7 @@ fn push_hexadecimal(bytes: &mut Vec<u8>, text: &str) -> Result<(), OutOfMemory> 
         };
         high = match high {
             Some(first) => {
-                bytes.push((first * 16 + value) as u8)?;
+                bytes.push((first << 4 | value) as u8)?;
                 None
             }
             None => Some(value),
