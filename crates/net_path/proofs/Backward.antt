@@ -1,5 +1,7 @@
 -- From the row behind a layer to the layer's own row.
-use Rattle.std.proofs.Common.{ℕ, zero, suc, ◌≡◌, ◌≢◌, ◌⊎◌, ◌<◌, ◌≤◌, ◌+◌, ◌-◌, ◌%◌, Bool, true, false, ℤ, pos, List, length, Some, refl, sym, subst, ◌∙◌, inl, inr, arith}
+use Rattle.std.proofs.Common.{ℕ, zero, suc, ◌≡◌, ◌≢◌, ◌⊎◌, ◌<◌, ◌≤◌, ◌+◌, ◌-◌, ◌%◌, Bool, true}
+use Rattle.std.proofs.Common.{false, ℤ, pos, List, length, Some, refl, sym, subst, ◌∙◌, inl, inr}
+use Rattle.std.proofs.Common.{arith}
 use Rattle.std.proofs.lemmas.Int.{ints}
 use Rattle.pra_base.specs.declared.ids.Place.{Place}
 use Rattle.pra_base.specs.Places.{number}
@@ -8,7 +10,8 @@ use Rattle.net_path.specs.declared.crossbar.Row.{Row}
 use Rattle.net_path.specs.declared.crossbar.Ways.{Ways}
 use Rattle.net_path.specs.Ways.{at, IsBeforeCrossbar, AreWaysWithin}
 use Rattle.net_path.specs.Rests.{unreached, Terrain, IsFrom, IsRow, IsBest, IsSlack, AreRows}
-use Rattle.net_path.specs.Rows.{costs_at, cell_bound, slack_at, IsAbout, IsGround, IsCell, AreCells, IsPaid, ArePaid, IsRowWithin, IsPaidLayer}
+use Rattle.net_path.specs.Rows.{costs_at, cell_bound, slack_at, IsAbout, IsGround, IsCell, AreCells}
+use Rattle.net_path.specs.Rows.{IsPaid, ArePaid, IsRowWithin, IsPaidLayer}
 use Rattle.net_path.proofs.Numbers.{number_below, place_of}
 use Rattle.std.proofs.lemmas.Bool.{cases_eq}
 use Rattle.net_path.proofs.Within.{parity, AreRests, rests_within, paid_within}
@@ -26,7 +29,8 @@ module _ (ways : Ways) (first n : ℕ) (t : Terrain) (ground : IsGround ways fir
   }
 
   -- across an instruction a value stays
-  pub stays_best : (k : ℕ) (costs : List ℤ) (q : Place) → (first + k) % 2 ≡ 0 → IsBest t k (Some q) costs (at costs (number q))
+  pub stays_best : (k : ℕ) (costs : List ℤ) (q : Place) → (first + k) % 2 ≡ 0
+      → IsBest t k (Some q) costs (at costs (number q))
   stays_best k costs q even = record {
     below = λ r comes.
         let same = same_place-true q r (sym (ground.across k q r even).0 ∙ comes) in
@@ -40,11 +44,13 @@ module _ (ways : Ways) (first n : ℕ) (t : Terrain) (ground : IsGround ways fir
   }
 
   -- and before a crossbar what was found is the least
-  pub crossed_best : (k : ℕ) (behind costs : List ℤ) (q : Place) → (first + k) % 2 ≡ 1 → IsBeforeCrossbar ways behind costs → IsBest t k (Some q) behind (at costs (number q))
+  pub crossed_best : (k : ℕ) (behind costs : List ℤ) (q : Place) → (first + k) % 2 ≡ 1
+      → IsBeforeCrossbar ways behind costs → IsBest t k (Some q) behind (at costs (number q))
   crossed_best k behind costs q odd before =
       let least = before (number q) (number_below q) in
       let to = place_of least.met.place least.met.within in record {
-        below = λ r comes. let way = (ground.crossbar k q r odd).1 in let b = least.below (number r) (number_below r) in rw way b;
+        below = λ r comes. let way = (ground.crossbar k q r odd).1 in
+            let b = least.below (number r) (number_below r) in rw way b;
         met = record {
           place = to.place;
           comes = (ground.crossbar k q to.place odd).0;
@@ -53,80 +59,111 @@ module _ (ways : Ways) (first n : ℕ) (t : Terrain) (ground : IsGround ways fir
       }
 
   -- the row of the last layer is what is paid there
-  pub last_row : (k : ℕ) (costs : List ℤ) → suc k ≡ n → ((q : Place) → IsCell (t.is_open k q) (t.cell k q) (at costs (number q))) → IsRow t 0 k (slack_at n (suc k)) costs
+  pub last_row : (k : ℕ) (costs : List ℤ)
+      → suc k ≡ n → ((q : Place) → IsCell (t.is_open k q) (t.cell k q) (at costs (number q)))
+      → IsRow t 0 k (slack_at n (suc k)) costs
   last_row k costs e cells q = of (t.is_open k q) (cells q) where
-    of : (b : Bool) → IsCell b (t.cell k q) (at costs (number q)) → IsFrom b t 0 k q (slack_at n (suc k)) (at costs (number q))
-    of true is = record { rest = pos 0; least = nothing_left t (suc k) (Some q) (slack_at n (suc k)); is = omega (arith, ints, is) }
+    of : (b : Bool) → IsCell b (t.cell k q) (at costs (number q))
+        → IsFrom b t 0 k q (slack_at n (suc k)) (at costs (number q))
+    of true is = record {
+      rest = pos 0;
+      least = nothing_left t (suc k) (Some q) (slack_at n (suc k));
+      is = omega (arith, ints, is);
+    }
     of false is = is
 
   -- that of any other is what is paid there, and the best of what is left
-  pub row_before : (m k : ℕ) (cells behind rests costs : List ℤ) → suc (suc (m + k)) ≡ n → ((q : Place) → IsCell (t.is_open k q) (t.cell k q) (at cells (number q)))
-      → IsRow t m (suc k) (slack_at n (suc (suc k))) behind → ((q : Place) → IsBest t (suc k) (Some q) behind (at rests (number q)))
+  pub row_before : (m k : ℕ) (cells behind rests costs : List ℤ) → suc (suc (m + k)) ≡ n
+      → ((q : Place) → IsCell (t.is_open k q) (t.cell k q) (at cells (number q)))
+      → IsRow t m (suc k) (slack_at n (suc (suc k))) behind
+      → ((q : Place) → IsBest t (suc k) (Some q) behind (at rests (number q)))
       → ArePaid cells rests costs → IsRow t (suc m) k (slack_at n (suc k)) costs
-  row_before m k cells behind rests costs e are row best paid q = of (t.is_open k q) refl (are q) where
-    this : IsPaid (at cells (number q)) (at rests (number q)) (at costs (number q))
-    this = paid (number q) (number_below q)
+  row_before m k cells behind rests costs e are row best paid q =
+      of (t.is_open k q) refl (are q) where
+        this : IsPaid (at cells (number q)) (at rests (number q)) (at costs (number q))
+        this = paid (number q) (number_below q)
 
-    of : (b : Bool) → t.is_open k q ≡ b → IsCell b (t.cell k q) (at cells (number q)) → IsFrom b t (suc m) k q (slack_at n (suc k)) (at costs (number q))
-    of true opened is =
-        let about = (ground.cells k q (omega arith) opened).1 in record {
-          rest = at rests (number q);
-          least = rest_more t m (suc k) (slack_at n (suc k)) (slack_at n (suc (suc k))) (Some q) behind (slack_of (suc k) (omega arith)) row (at rests (number q)) (best q);
-          is = rw (← is) (this.opened (omega (arith, ints, is, about)));
-        }
-    of false shut is = this.shut is
+        of : (b : Bool) → t.is_open k q ≡ b → IsCell b (t.cell k q) (at cells (number q))
+            → IsFrom b t (suc m) k q (slack_at n (suc k)) (at costs (number q))
+        of true opened is =
+            let about = (ground.cells k q (omega arith) opened).1 in record {
+              rest = at rests (number q);
+              least = rest_more t m (suc k) (slack_at n (suc k)) (slack_at n (suc (suc k))) (Some q)
+                  behind (slack_of (suc k) (omega arith)) row (at rests (number q)) (best q);
+              is = rw (← is) (this.opened (omega (arith, ints, is, about)));
+            }
+        of false shut is = this.shut is
 
   -- the row of the last layer
-  pub rows_last : (rows : List Row) → suc (length rows - 1) ≡ length rows → length rows ≡ n → AreCells t rows → AreRows t (costs_at rows) (slack_at n) n (n - 1)
+  pub rows_last : (rows : List Row) → suc (length rows - 1) ≡ length rows → length rows ≡ n
+      → AreCells t rows → AreRows t (costs_at rows) (slack_at n) n (n - 1)
   rows_last rows e long cells = record {
     rows = λ m k le end.
         let none : m ≡ 0 = omega arith in
-        subst (λ (m : ℕ). IsRow t m k (slack_at n (suc k)) (costs_at rows k)) (sym none) (last_row k (costs_at rows k) (omega arith) (λ q. cells k q (omega arith)));
+        subst (λ (m : ℕ). IsRow t m k (slack_at n (suc k)) (costs_at rows k)) (sym none)
+        (last_row k (costs_at rows k) (omega arith) (λ q. cells k q (omega arith)));
     slacks = λ k le lt. slack_of k lt;
   }
 
   -- one layer more
-  pub rows_more : (old new : List Row) (initial : List Row) (i : ℕ) (rests : List ℤ) → suc i < n → length initial ≡ n
-      → ((k : ℕ) → suc i ≤ k → costs_at new k ≡ costs_at old k) → AreCells t initial
-      → ((first + suc i) % 2 ≡ 0 → rests ≡ costs_at old (suc i)) → ((first + suc i) % 2 ≡ 1 → IsBeforeCrossbar ways (costs_at old (suc i)) rests)
-      → ArePaid (costs_at initial i) rests (costs_at new i) → AreRows t (costs_at old) (slack_at n) n (suc i)
-      → AreRows t (costs_at new) (slack_at n) n i
+  pub rows_more : (old new : List Row) (initial : List Row) (i : ℕ) (rests : List ℤ)
+      → suc i < n → length initial ≡ n → ((k : ℕ) → suc i ≤ k → costs_at new k ≡ costs_at old k)
+      → AreCells t initial → ((first + suc i) % 2 ≡ 0 → rests ≡ costs_at old (suc i))
+      → ((first + suc i) % 2 ≡ 1 → IsBeforeCrossbar ways (costs_at old (suc i)) rests)
+      → ArePaid (costs_at initial i) rests (costs_at new i)
+      → AreRows t (costs_at old) (slack_at n) n (suc i) → AreRows t (costs_at new) (slack_at n) n i
   rows_more old new initial i rests lt long same cells across crossbar paid are = record {
-    rows = λ m k le end. elim (cases_eq k i) as (λ _. IsRow t m k (slack_at n (suc k)) (costs_at new k)) [
-      | inl here ↦ at_here m k here end
-      | inr other ↦ subst (λ (xs : List ℤ). IsRow t m k (slack_at n (suc k)) xs) (sym (same k (omega arith))) (are.rows m k (omega arith) end)
-    ];
+    rows = λ m k le end. elim (cases_eq k i)
+        as (λ _. IsRow t m k (slack_at n (suc k)) (costs_at new k)) [
+          | inl here ↦ at_here m k here end
+          | inr other ↦ subst (λ (xs : List ℤ). IsRow t m k (slack_at n (suc k)) xs)
+              (sym (same k (omega arith))) (are.rows m k (omega arith) end)
+        ];
     slacks = λ k le lt. slack_of k lt;
   } where
     best : (q : Place) → IsBest t (suc i) (Some q) (costs_at old (suc i)) (at rests (number q))
-    best q = elim (parity (first + suc i)) as (λ _. IsBest t (suc i) (Some q) (costs_at old (suc i)) (at rests (number q))) [
-      | inl even ↦ rw (across even) (stays_best (suc i) (costs_at old (suc i)) q even)
-      | inr odd ↦ crossed_best (suc i) (costs_at old (suc i)) rests q odd (crossbar odd)
-    ]
+    best q = elim (parity (first + suc i))
+        as (λ _. IsBest t (suc i) (Some q) (costs_at old (suc i)) (at rests (number q))) [
+          | inl even ↦ rw (across even) (stays_best (suc i) (costs_at old (suc i)) q even)
+          | inr odd ↦ crossed_best (suc i) (costs_at old (suc i)) rests q odd (crossbar odd)
+        ]
 
     made : (m : ℕ) → suc (suc m + i) ≡ n → IsRow t (suc m) i (slack_at n (suc i)) (costs_at new i)
-    made m end = row_before m i (costs_at initial i) (costs_at old (suc i)) rests (costs_at new i) (omega arith) (λ q. cells i q (omega arith))
+    made m end = row_before m i (costs_at initial i) (costs_at old (suc i)) rests (costs_at new i)
+        (omega arith) (λ q. cells i q (omega arith))
         (are.rows m (suc i) (omega arith) (omega arith)) best paid
 
-    at_here : (m k : ℕ) → k ≡ i → suc (m + k) ≡ n → IsRow t m k (slack_at n (suc k)) (costs_at new k)
+    at_here : (m k : ℕ) → k ≡ i → suc (m + k) ≡ n
+        → IsRow t m k (slack_at n (suc k)) (costs_at new k)
     at_here zero k here end = absurd (omega arith)
-    at_here (suc m) k here end = subst (λ (k : ℕ). IsRow t (suc m) k (slack_at n (suc k)) (costs_at new k)) (sym here) (made m (omega arith))
+    at_here (suc m) k here end =
+        subst (λ (k : ℕ). IsRow t (suc m) k (slack_at n (suc k)) (costs_at new k)) (sym here)
+        (made m (omega arith))
 
 -- one layer more, as the loop makes it
-module _ (ways : Ways) (within : AreWaysWithin ways) (first i j n : ℕ) (next : j ≡ suc i) (lt : j < n) (old new initial : List Row) (long : length initial ≡ n)
-    (same : (k : ℕ) → k ≢ i → costs_at new k ≡ costs_at old k) (left : costs_at old i ≡ costs_at initial i)
+module _ (ways : Ways) (within : AreWaysWithin ways)
+    (first i j n : ℕ) (next : j ≡ suc i) (lt : j < n) (old new initial : List Row)
+    (long : length initial ≡ n) (same : (k : ℕ) → k ≢ i → costs_at new k ≡ costs_at old k)
+    (left : costs_at old i ≡ costs_at initial i)
     (paid : IsPaidLayer ways (first + j) (costs_at old j) (costs_at old i) (costs_at new i)) where
-  pub small_more : ((p : ℕ) → p < 14 → (at (costs_at initial i) p ≡ unreached) ⊎ IsAbout (cell_bound n i) (at (costs_at initial i) p))
+  pub small_more : ((p : ℕ) → p < 14 → (at (costs_at initial i) p ≡ unreached)
+      ⊎ IsAbout (cell_bound n i) (at (costs_at initial i) p))
       → IsRowWithin (slack_at n j) (costs_at old j) → IsRowWithin (slack_at n i) (costs_at new i)
   small_more about small =
-      let rests = rests_within ways within (slack_at n j) (first + j) (costs_at old j) paid.rests small paid.across paid.crossbar in
-      paid_within ways within n i (costs_at old i) paid.rests (costs_at new i) (omega arith) (rw left about)
+      let rests = rests_within ways within (slack_at n j) (first + j) (costs_at old j) paid.rests
+      small paid.across paid.crossbar in
+      paid_within ways within n i (costs_at old i) paid.rests (costs_at new i) (omega arith)
+      (rw left about)
       (subst (λ (j : ℕ). AreRests (slack_at n j) paid.rests) next rests) paid.paid
 
-  pub paid_more : (t : Terrain) → IsGround ways first n t → AreCells t initial → AreRows t (costs_at old) (slack_at n) n j → AreRows t (costs_at new) (slack_at n) n i
+  pub paid_more : (t : Terrain) → IsGround ways first n t → AreCells t initial
+      → AreRows t (costs_at old) (slack_at n) n j → AreRows t (costs_at new) (slack_at n) n i
   paid_more t ground cells are =
-      rows_more ways first n t ground old new initial i paid.rests (omega arith) long (λ k le. same k (omega arith)) cells
-      (λ even. subst (λ (j : ℕ). paid.rests ≡ costs_at old j) next (paid.across (subst (λ (j : ℕ). (first + j) % 2 ≡ 0) (sym next) even)))
-      (λ odd. subst (λ (j : ℕ). IsBeforeCrossbar ways (costs_at old j) paid.rests) next (paid.crossbar (subst (λ (j : ℕ). (first + j) % 2 ≡ 1) (sym next) odd)))
+      rows_more ways first n t ground old new initial i paid.rests (omega arith) long
+      (λ k le. same k (omega arith)) cells
+      (λ even. subst (λ (j : ℕ). paid.rests ≡ costs_at old j) next
+      (paid.across (subst (λ (j : ℕ). (first + j) % 2 ≡ 0) (sym next) even)))
+      (λ odd. subst (λ (j : ℕ). IsBeforeCrossbar ways (costs_at old j) paid.rests) next
+      (paid.crossbar (subst (λ (j : ℕ). (first + j) % 2 ≡ 1) (sym next) odd)))
       (subst (λ (xs : List ℤ). ArePaid xs paid.rests (costs_at new i)) left paid.paid)
       (subst (λ (j : ℕ). AreRows t (costs_at old) (slack_at n) n j) next are)

@@ -1,14 +1,18 @@
 -- The least of going on from a place to any register but its own, or out of registers.
-use Rattle.std.proofs.Common.{ℕ, ◌≡◌, ◌≢◌, ◌⊎◌, ◌<◌, ◌+◌, ℤ, ◌+ℤ◌, ◌≤ℤ◌, List, subst, sym, arith, inl, inr, ap}
+use Rattle.std.proofs.Common.{ℕ, ◌≡◌, ◌≢◌, ◌⊎◌, ◌<◌, ◌+◌, ℤ, ◌+ℤ◌, ◌≤ℤ◌, List, subst, sym, arith}
+use Rattle.std.proofs.Common.{inl, inr, ap}
 use Rattle.std.proofs.lemmas.Int.{ints}
 use Rattle.net_path.specs.declared.crossbar.Ways.{Ways}
 use Rattle.net_path.specs.declared.crossbar.Bests.{Bests}
 use Rattle.net_path.specs.declared.crossbar.Onward.{Onward}
-use Rattle.net_path.specs.Ways.{at, step_price, AreWaysWithin, AreBests, IsLeastOfFour, IsLeastWay, IsLeastElsewhere, IsMet}
+use Rattle.net_path.specs.Ways.{at, step_price, AreWaysWithin, AreBests, IsLeastOfFour, IsLeastWay}
+use Rattle.net_path.specs.Ways.{IsLeastElsewhere, IsMet}
 use Rattle.net_path.specs.Ways.{IsFromAlone, IsFromBoth, IsFromMemory, IsFromConstant}
 use Rattle.net_path.proofs.Classes.{Class, class_of}
 use Rattle.net_path.proofs.Classes.Class.{alone, memory, constant, both}
-use Rattle.net_path.proofs.Steps.{moved_within, moved_other, alone_alone, alone_both, alone_memory, both_alone, both_both, both_memory, memory_alone, memory_both, constant_alone, constant_both}
+use Rattle.net_path.proofs.Steps.{moved_within, moved_other, alone_alone, alone_both, alone_memory}
+use Rattle.net_path.proofs.Steps.{both_alone, both_both, both_memory, memory_alone, memory_both}
+use Rattle.net_path.proofs.Steps.{constant_alone, constant_both}
 
 -- to a class of places the way costs what is said of the class, but less to register r
 pub record Bounds (way : ℕ → ℤ) (r : ℕ) (by : Onward) : Type 0 where
@@ -22,7 +26,8 @@ pub record Bounds (way : ℕ → ℤ) (r : ℕ) (by : Onward) : Type 0 where
 at_zero : (costs : List ℤ) (s : ℕ) → at costs (0 + s) ≡ at costs s
 at_zero costs s = ap (λ (n : ℕ). at costs n) (omega arith)
 
-module _ (way : ℕ → ℤ) (r : ℕ) (by : Onward) (costs : List ℤ) (bests : Bests) (bounds : Bounds way r by) (are : AreBests costs bests) where
+module _ (way : ℕ → ℤ) (r : ℕ) (by : Onward) (costs : List ℤ) (bests : Bests)
+    (bounds : Bounds way r by) (are : AreBests costs bests) where
   abbrev first : ℤ
   first = by.alone +ℤ bests.alone.cost
 
@@ -35,15 +40,18 @@ module _ (way : ℕ → ℤ) (r : ℕ) (by : Onward) (costs : List ℤ) (bests :
   abbrev fourth : ℤ
   fourth = by.constant +ℤ bests.constant.cost
 
-  below : (z : ℤ) → IsLeastOfFour first second third fourth z → (q : ℕ) → Class q → q ≢ r → q ≢ 8 + r → z ≤ℤ (way q +ℤ at costs q)
+  below : (z : ℤ) → IsLeastOfFour first second third fourth z → (q : ℕ) → Class q → q ≢ r
+      → q ≢ 8 + r → z ≤ℤ (way q +ℤ at costs q)
   below z least q (alone s lt) apart other =
       let way_is = bounds.other_alone s lt apart in
       let cost = are.alone.below s lt in
       let same = at_zero costs s in
       let bound = least.first in
       omega (arith, ints, way_is, cost, same, bound)
-  below z least q memory apart other = let m = least.third in let w = bounds.to_memory in let c = are.memory in omega (arith, ints, m, w, c)
-  below z least q constant apart other = let m = least.fourth in let w = bounds.to_constant in let c = are.constant in omega (arith, ints, m, w, c)
+  below z least q memory apart other = let m = least.third in let w = bounds.to_memory in
+      let c = are.memory in omega (arith, ints, m, w, c)
+  below z least q constant apart other = let m = least.fourth in let w = bounds.to_constant in
+      let c = are.constant in omega (arith, ints, m, w, c)
   below z least q (both s lt) apart other =
       let way_is = bounds.other_both s lt (λ e. other (ap (λ (n : ℕ). 8 + n) e)) in
       let cost = are.both.below s lt in
@@ -62,7 +70,8 @@ module _ (way : ℕ → ℤ) (r : ℕ) (by : Onward) (costs : List ℤ) (bests :
   met_second = record {
     place = 8 + are.both.place;
     within = omega (arith, are.both.within);
-    met = let w = bounds.to_both are.both.place are.both.within in let c = are.both.met in omega (arith, ints, w, c);
+    met = let w = bounds.to_both are.both.place are.both.within in let c = are.both.met in
+        omega (arith, ints, w, c);
   }
 
   met_third : IsMet way costs third
@@ -85,53 +94,81 @@ module _ (way : ℕ → ℤ) (r : ℕ) (by : Onward) (costs : List ℤ) (bests :
   met_of z (inr (inr (inl e))) = subst (λ (x : ℤ). IsMet way costs x) (sym e) met_third
   met_of z (inr (inr (inr e))) = subst (λ (x : ℤ). IsMet way costs x) (sym e) met_fourth
 
-  pub least_elsewhere : (z : ℤ) → IsLeastOfFour first second third fourth z → IsLeastElsewhere way r costs z
+  pub least_elsewhere : (z : ℤ) → IsLeastOfFour first second third fourth z
+      → IsLeastElsewhere way r costs z
   least_elsewhere z least = record {
     below = λ q lt. below z least q (class_of q lt);
     met = met_of z least.met;
   }
 
 -- no place is excluded
-pub least_anywhere : (way : ℕ → ℤ) (costs : List ℤ) (z : ℤ) → IsLeastElsewhere way 14 costs z → IsLeastWay way costs z
-least_anywhere way costs z least = record { below = λ q lt. least.below q lt (λ e. absurd (omega arith)) (λ e. absurd (omega arith)); met = least.met }
+pub least_anywhere : (way : ℕ → ℤ) (costs : List ℤ) (z : ℤ) → IsLeastElsewhere way 14 costs z
+    → IsLeastWay way costs z
+least_anywhere way costs z least = record {
+  below = λ q lt. least.below q lt
+      (λ e. absurd (omega arith)) (λ e. absurd (omega arith));
+  met = least.met;
+}
 
 module _ (ways : Ways) (within : AreWaysWithin ways) (by : Onward) where
   pub alone_bounds : (r : ℕ) → r < 6 → IsFromAlone ways by → Bounds (step_price ways r) r by
   alone_bounds r lr is = record {
-    to_alone = λ s ls. let e = alone_alone ways r s lr ls in let m = moved_within ways r s within.between.0 in let b = is.alone in omega (arith, ints, e, m, b);
-    to_both = λ s ls. let e = alone_both ways r s lr ls in let m = moved_within ways r s within.between.0 in let b = is.both in omega (arith, ints, e, m, b);
+    to_alone = λ s ls. let e = alone_alone ways r s lr ls in
+        let m = moved_within ways r s within.between.0 in let b = is.alone in
+        omega (arith, ints, e, m, b);
+    to_both = λ s ls. let e = alone_both ways r s lr ls in
+        let m = moved_within ways r s within.between.0 in let b = is.both in
+        omega (arith, ints, e, m, b);
     to_memory = let e = alone_memory ways r lr in let b = is.memory in omega (arith, ints, e, b);
     to_constant = sym is.constant;
-    other_alone = λ s ls ne. let e = alone_alone ways r s lr ls in let m = moved_other ways r s (λ e. ne (sym e)) in let b = is.alone in omega (arith, ints, e, m, b);
-    other_both = λ s ls ne. let e = alone_both ways r s lr ls in let m = moved_other ways r s (λ e. ne (sym e)) in let b = is.both in omega (arith, ints, e, m, b);
+    other_alone = λ s ls ne. let e = alone_alone ways r s lr ls in
+        let m = moved_other ways r s (λ e. ne (sym e)) in let b = is.alone in
+        omega (arith, ints, e, m, b);
+    other_both = λ s ls ne. let e = alone_both ways r s lr ls in
+        let m = moved_other ways r s (λ e. ne (sym e)) in let b = is.both in
+        omega (arith, ints, e, m, b);
   }
 
   pub both_bounds : (r : ℕ) → IsFromBoth ways by → Bounds (step_price ways (8 + r)) r by
   both_bounds r is = record {
-    to_alone = λ s ls. let e = both_alone ways r s ls in let m = moved_within ways r s within.between.0 in let b = is.alone in omega (arith, ints, e, m, b);
-    to_both = λ s ls. let e = both_both ways r s in let m = moved_within ways r s within.between.0 in let b = is.both in omega (arith, ints, e, m, b);
+    to_alone = λ s ls. let e = both_alone ways r s ls in
+        let m = moved_within ways r s within.between.0 in let b = is.alone in
+        omega (arith, ints, e, m, b);
+    to_both = λ s ls. let e = both_both ways r s in
+        let m = moved_within ways r s within.between.0 in let b = is.both in
+        omega (arith, ints, e, m, b);
     to_memory = let e = both_memory ways r in let b = is.memory in omega (arith, ints, e, b);
     to_constant = sym is.constant;
-    other_alone = λ s ls ne. let e = both_alone ways r s ls in let m = moved_other ways r s (λ e. ne (sym e)) in let b = is.alone in omega (arith, ints, e, m, b);
-    other_both = λ s ls ne. let e = both_both ways r s in let m = moved_other ways r s (λ e. ne (sym e)) in let b = is.both in omega (arith, ints, e, m, b);
+    other_alone = λ s ls ne. let e = both_alone ways r s ls in
+        let m = moved_other ways r s (λ e. ne (sym e)) in let b = is.alone in
+        omega (arith, ints, e, m, b);
+    other_both = λ s ls ne. let e = both_both ways r s in
+        let m = moved_other ways r s (λ e. ne (sym e)) in let b = is.both in
+        omega (arith, ints, e, m, b);
   }
 
   pub memory_bounds : (r : ℕ) → IsFromMemory ways by → Bounds (step_price ways 6) r by
   memory_bounds r is = record {
-    to_alone = λ s ls. let e = memory_alone ways s ls in let b = is.alone in omega (arith, ints, e, b);
+    to_alone = λ s ls. let e = memory_alone ways s ls in let b = is.alone in
+        omega (arith, ints, e, b);
     to_both = λ s ls. let e = memory_both ways s in let b = is.both in omega (arith, ints, e, b);
     to_memory = sym is.memory;
     to_constant = sym is.constant;
-    other_alone = λ s ls ne. let e = memory_alone ways s ls in let b = is.alone in omega (arith, ints, e, b);
-    other_both = λ s ls ne. let e = memory_both ways s in let b = is.both in omega (arith, ints, e, b);
+    other_alone = λ s ls ne. let e = memory_alone ways s ls in let b = is.alone in
+        omega (arith, ints, e, b);
+    other_both = λ s ls ne. let e = memory_both ways s in let b = is.both in
+        omega (arith, ints, e, b);
   }
 
   pub constant_bounds : (r : ℕ) → IsFromConstant ways by → Bounds (step_price ways 7) r by
   constant_bounds r is = record {
-    to_alone = λ s ls. let e = constant_alone ways s ls in let b = is.alone in omega (arith, ints, e, b);
+    to_alone = λ s ls. let e = constant_alone ways s ls in let b = is.alone in
+        omega (arith, ints, e, b);
     to_both = λ s ls. let e = constant_both ways s in let b = is.both in omega (arith, ints, e, b);
     to_memory = let b = is.memory in omega (arith, ints, b);
     to_constant = sym is.constant;
-    other_alone = λ s ls ne. let e = constant_alone ways s ls in let b = is.alone in omega (arith, ints, e, b);
-    other_both = λ s ls ne. let e = constant_both ways s in let b = is.both in omega (arith, ints, e, b);
+    other_alone = λ s ls ne. let e = constant_alone ways s ls in let b = is.alone in
+        omega (arith, ints, e, b);
+    other_both = λ s ls ne. let e = constant_both ways s in let b = is.both in
+        omega (arith, ints, e, b);
   }

@@ -1,5 +1,6 @@
 -- The terrain of a strand is as its ways say, and where a path may begin.
-use Rattle.std.proofs.Common.{cond, ℕ, ◌≡◌, ◌+◌, ◌*◌, ◌%◌, Bool, true, false, ◌&&◌, ◌||◌, not, ℤ, pos, List, [], Option, Some, None, refl, sym, subst, ap, ◌∙◌, arith}
+use Rattle.std.proofs.Common.{cond, ℕ, ◌≡◌, ◌+◌, ◌*◌, ◌%◌, Bool, true, false, ◌&&◌, ◌||◌, not, ℤ}
+use Rattle.std.proofs.Common.{pos, List, [], Option, Some, None, refl, sym, subst, ap, ◌∙◌, arith}
 use Rattle.std.proofs.lemmas.Int.{ints}
 use Rattle.std.proofs.lemmas.Bool.{eq-eqb, ne_eqb}
 use Rattle.pra_base.specs.declared.ids.Place.{Place}
@@ -28,38 +29,46 @@ use Rattle.net_path.proofs.Numbers.{number_below}
 use Rattle.net_path.proofs.Steps.{step_is_way, one}
 use Rattle.net_path.proofs.WholeCells.{there_about}
 
-module _ (net : Net) (built : IsBuilt net) (prices : Prices) (range : AreInRange net prices) (w : Weights) (valid : IsValid w) (ends : Ends) (free : Edge → Bool)
-    (s n : ℕ) (long : (strand_at net s).first + n ≡ (strand_at net s).last + 1) (ways : Ways) (are : AreWays w (depth_at net s) net.near ways) where
+module _ (net : Net) (built : IsBuilt net) (prices : Prices) (range : AreInRange net prices)
+    (w : Weights) (valid : IsValid w) (ends : Ends) (free : Edge → Bool)
+    (s n : ℕ) (long : (strand_at net s).first + n ≡ (strand_at net s).last + 1) (ways : Ways)
+    (are : AreWays w (depth_at net s) net.near ways) where
   abbrev t : Terrain
   t = terrain net w prices ends free s
 
   abbrev e : ℕ → Option Place → Place → Edge
   e k p q = edge s (layer net s k) p q
 
-  across_true : (k : ℕ) (p : Option Place) (q : Place) → (layer net s k) % 2 ≡ 0 → is_across (e k p q) ≡ true
+  across_true : (k : ℕ) (p : Option Place) (q : Place) → (layer net s k) % 2 ≡ 0
+      → is_across (e k p q) ≡ true
   across_true k p q even = eq-eqb (layer net s k % 2) 0 even
 
-  across_false : (k : ℕ) (p : Option Place) (q : Place) → (layer net s k) % 2 ≡ 1 → is_across (e k p q) ≡ false
+  across_false : (k : ℕ) (p : Option Place) (q : Place) → (layer net s k) % 2 ≡ 1
+      → is_across (e k p q) ≡ false
   across_false k p q odd = ne_eqb (layer net s k % 2) 0 (λ h. omega (arith, odd, h))
 
   pub grounded : IsGround ways (strand_at net s).first n t
   grounded = record {
     across = λ k p q even. (
       ap (λ (b : Bool). not b || same_place p q) (across_true k (Some p) q even),
-      ap (λ (b : Bool). pos (1024 * events_weight w (depth_at net s) (cond b [] (crossbar net.near (number p) (number q))))) (across_true k (Some p) q even),
+      ap (λ (b : Bool). pos (1024 * events_weight w (depth_at net s)
+          (cond b [] (crossbar net.near (number p) (number q))))) (across_true k (Some p) q even),
     );
     crossbar = λ k p q odd. (
       ap (λ (b : Bool). not b || same_place p q) (across_false k (Some p) q odd),
-      ap (λ (b : Bool). pos (1024 * events_weight w (depth_at net s) (cond b [] (crossbar net.near (number p) (number q))))) (across_false k (Some p) q odd)
+      ap (λ (b : Bool). pos (1024 * events_weight w (depth_at net s)
+          (cond b [] (crossbar net.near (number p) (number q))))) (across_false k (Some p) q odd)
           ∙ step_is_way w (depth_at net s) net.near ways are (number p) (number q),
     );
     way_low = λ k p q. omega (arith, ints);
-    way_high = λ k p q. let small = cost_small net built w valid (e k p q) in omega (arith, ints, small);
+    way_high = λ k p q. let small = cost_small net built w valid (e k p q) in
+        omega (arith, ints, small);
     cells = λ k q lt opened. there_about net built prices range w valid s n k q lt long;
   }
 
   -- ---- the start
-  made : (b : Bool) → pos (1024 * events_weight w (depth_at net s) (only_if b constant_event)) ≡ cond b ways.set (pos 0)
+  made : (b : Bool) → pos (1024 * events_weight w (depth_at net s) (only_if b constant_event))
+      ≡ cond b ways.set (pos 0)
   made true = one w (depth_at net s) net.near ways are constant_event ∙ sym are.set
   made false = refl
 
@@ -72,41 +81,60 @@ module _ (net : Net) (built : IsBuilt net) (prices : Prices) (range : AreInRange
     by true = refl
     by false = refl
 
-  pub best_of_start : (costs : List ℤ) (start : Choice) → IsBestChoice (start_price ways (strand_at net s).constant) costs 14 start → IsBest t 0 None costs start.debt.cost
+  pub best_of_start : (costs : List ℤ) (start : Choice)
+      → IsBestChoice (start_price ways (strand_at net s).constant) costs 14 start
+      → IsBest t 0 None costs start.debt.cost
   best_of_start costs start best = record {
-    below = λ q comes. let way = start_way q in let b = best.below (number q) (number_below q) in omega (arith, ints, way, b);
-    met = record { place = start.place; comes = start_comes start.place; met = let way = start_way start.place in let is = best.is in omega (arith, ints, way, is) };
+    below = λ q comes. let way = start_way q in let b = best.below (number q) (number_below q) in
+        omega (arith, ints, way, b);
+    met = record {
+      place = start.place;
+      comes = start_comes start.place;
+      met = let way = start_way start.place in let is = best.is in omega (arith, ints, way, is);
+    };
   }
 
-  pub good_start : (costs : List ℤ) (start : Choice) → IsBestChoice (start_price ways (strand_at net s).constant) costs 14 start → IsGoodStart t costs start.place
+  pub good_start : (costs : List ℤ) (start : Choice)
+      → IsBestChoice (start_price ways (strand_at net s).constant) costs 14 start
+      → IsGoodStart t costs start.place
   good_start costs start best = record {
     comes = start_comes start.place;
-    best = subst (λ (z : ℤ). IsBest t 0 None costs z) (let way = start_way start.place in let is = best.is in omega (arith, ints, way, is)) (best_of_start costs start best);
+    best = subst (λ (z : ℤ). IsBest t 0 None costs z) (let way = start_way start.place in
+        let is = best.is in omega (arith, ints, way, is)) (best_of_start costs start best);
   }
 
 -- the same, with what the code read of the network
-pub record Ready (net : Net) (prices : Prices) (w : Weights) (ends : Ends) (free : Edge → Bool) (s n : ℕ) (ways : Ways) (row : ℕ → List ℤ) (start : Choice) : Type 0 where
+pub record Ready (net : Net) (prices : Prices) (w : Weights) (ends : Ends) (free : Edge → Bool)
+    (s n : ℕ) (ways : Ways) (row : ℕ → List ℤ) (start : Choice) : Type 0 where
   pub ground : IsGround ways (strand_at net s).first n (terrain net w prices ends free s)
   pub rows : AreRows (terrain net w prices ends free s) row (slack_at n) n 0
   pub best : IsBest (terrain net w prices ends free s) 0 None (row 0) start.debt.cost
   pub good : IsGoodStart (terrain net w prices ends free s) (row 0) start.place
 
-pub ready : (net : Net) (built : IsBuilt net) (prices : Prices) (range : AreInRange net prices) (w : Weights) (valid : IsValid w) (ends : Ends) (free : Edge → Bool)
-    (s n : ℕ) (long : (strand_at net s).first + n ≡ (strand_at net s).last + 1) (ways : Ways) (depth first m : ℕ) (constant : Bool) (row : ℕ → List ℤ) (cells : List Row) (start : Choice)
-    → AreWays w depth net.near ways → depth ≡ depth_at net s → first ≡ (strand_at net s).first → m ≡ n → constant ≡ (strand_at net s).constant
+pub ready : (net : Net) (built : IsBuilt net) (prices : Prices) (range : AreInRange net prices)
+    (w : Weights) (valid : IsValid w) (ends : Ends) (free : Edge → Bool)
+    (s n : ℕ) (long : (strand_at net s).first + n ≡ (strand_at net s).last + 1) (ways : Ways)
+    (depth first m : ℕ) (constant : Bool) (row : ℕ → List ℤ) (cells : List Row) (start : Choice)
+    → AreWays w depth net.near ways → depth ≡ depth_at net s → first ≡ (strand_at net s).first
+    → m ≡ n → constant ≡ (strand_at net s).constant
     → AreCells (terrain net w prices ends free s) cells
     → ((t : Terrain) → IsGround ways first m t → AreCells t cells → AreRows t row (slack_at m) m 0)
     → IsBestChoice (start_price ways constant) (row 0) 14 start
     → Ready net prices w ends free s n ways row start
-ready net built prices range w valid ends free s n long ways depth first m constant row cells start are is_depth is_first is_n is_constant paid rows best =
+ready net built prices range w valid ends free s n long ways depth first m constant row cells start
+    are is_depth is_first is_n is_constant paid rows best =
     let t = terrain net w prices ends free s in
     let ways_are = subst (λ (d : ℕ). AreWays w d net.near ways) is_depth are in
     let ground = grounded net built prices range w valid ends free s n long ways ways_are in
-    let ground2 : IsGround ways first m t = subst (λ (k : ℕ). IsGround ways first k t) (sym is_n) (subst (λ (f : ℕ). IsGround ways f n t) (sym is_first) ground) in
-    let chosen = subst (λ (b : Bool). IsBestChoice (start_price ways b) (row 0) 14 start) is_constant best in
+    let ground2 : IsGround ways first m t = subst (λ (k : ℕ). IsGround ways first k t) (sym is_n)
+    (subst (λ (f : ℕ). IsGround ways f n t) (sym is_first) ground) in
+    let chosen =
+    subst (λ (b : Bool). IsBestChoice (start_price ways b) (row 0) 14 start) is_constant best in
     record {
       ground = ground;
       rows = subst (λ (k : ℕ). AreRows t row (slack_at k) k 0) is_n (rows t ground2 paid);
-      best = best_of_start net built prices range w valid ends free s n long ways ways_are (row 0) start chosen;
-      good = good_start net built prices range w valid ends free s n long ways ways_are (row 0) start chosen;
+      best = best_of_start net built prices range w valid ends free s n long ways ways_are
+          (row 0) start chosen;
+      good = good_start net built prices range w valid ends free s n long ways ways_are
+          (row 0) start chosen;
     }

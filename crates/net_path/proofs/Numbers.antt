@@ -1,10 +1,12 @@
 -- Places and their numbers.
-use Rattle.std.proofs.Common.{ℕ, ◌≡◌, ◌<◌, List, get_or, map, Some, unwrap_or, refl, sym, ap, ◌∙◌, arith, zero-add}
+use Rattle.std.proofs.Common.{ℕ, ◌≡◌, ◌<◌, List, get_or, map, Some, unwrap_or, refl, sym, ap, ◌∙◌}
+use Rattle.std.proofs.Common.{arith, zero-add}
 use Rattle.std.specs.List.{range_with_len}
 use Rattle.std.proofs.lemmas.List.{get_or-map}
 use Rattle.std.proofs.lemmas.List.FromFn.{get_or-range_with_len}
 use Rattle.pra_base.specs.declared.ids.Place.{Place}
-use Rattle.pra_base.specs.declared.ids.Place.TheVariants.{Eax, Ecx, Edx, Ebx, Esi, Edi, Mem, Const, EaxM, EcxM, EdxM, EbxM, EsiM, EdiM}
+use Rattle.pra_base.specs.declared.ids.Place.TheVariants.{Eax, Ecx, Edx, Ebx, Esi, Edi, Mem, Const}
+use Rattle.pra_base.specs.declared.ids.Place.TheVariants.{EaxM, EcxM, EdxM, EbxM, EsiM, EdiM}
 use Rattle.pra_base.specs.Places.{number, numbered, all_places}
 
 pub number_below : (q : Place) → number q < 14
@@ -50,11 +52,13 @@ numbers_are = refl
 pub place_of : (k : ℕ) → k < 14 → Numbered k
 place_of k lt = record {
   place = get_or all_places k Eax;
-  is = sym (get_or-map number all_places k Eax 0 lt) ∙ ap (λ (xs : List ℕ). get_or xs k 0) numbers_are ∙ get_or-range_with_len 0 14 k 0 lt ∙ zero-add k;
+  is = sym (get_or-map number all_places k Eax 0 lt) ∙ ap (λ (xs : List ℕ). get_or xs k 0)
+      numbers_are ∙ get_or-range_with_len 0 14 k 0 lt ∙ zero-add k;
 }
 
 pub numbered_is : (k : ℕ) → k < 14 → number (unwrap_or (numbered k) Eax) ≡ k
 numbered_is k lt =
     let found = place_of k lt in
-    let is : numbered k ≡ Some found.place = ap numbered (sym found.is) ∙ numbered_number found.place in
+    let is : numbered k ≡ Some found.place = ap numbered (sym found.is)
+    ∙ numbered_number found.place in
     rw is found.is

@@ -1,5 +1,6 @@
 -- To stay, in the register alone or in its both place, beside going elsewhere.
-use Rattle.std.proofs.Common.{ℕ, ◌≡◌, ◌⊎◌, ◌<◌, ◌+◌, ℤ, ◌+ℤ◌, ◌≤ℤ◌, List, subst, sym, arith, inl, inr}
+use Rattle.std.proofs.Common.{ℕ, ◌≡◌, ◌⊎◌, ◌<◌, ◌+◌, ℤ, ◌+ℤ◌, ◌≤ℤ◌, List, subst, sym, arith, inl}
+use Rattle.std.proofs.Common.{inr}
 use Rattle.std.proofs.lemmas.Int.{ints}
 use Rattle.std.proofs.lemmas.Bool.{cases_eq}
 use Rattle.net_path.specs.declared.crossbar.Ways.{Ways}
@@ -10,16 +11,18 @@ module _ (way : ℕ → ℤ) (r : ℕ) (costs : List ℤ) where
   below : (e s z : ℤ) → IsLeastElsewhere way r costs e → z ≤ℤ e → z ≤ℤ s
       → s ≤ℤ (way r +ℤ at costs r) → s ≤ℤ (way (8 + r) +ℤ at costs (8 + r))
       → (q : ℕ) → q < 14 → z ≤ℤ (way q +ℤ at costs q)
-  below e s z else ze zs alone both q lt = elim (cases_eq q r) as (λ _. z ≤ℤ (way q +ℤ at costs q)) [
-    | inl is ↦ rw is (omega (arith, ints))
-    | inr apart ↦ elim (cases_eq q (8 + r)) as (λ _. z ≤ℤ (way q +ℤ at costs q)) [
-      | inl is ↦ rw is (omega (arith, ints))
-      | inr other ↦ let b = else.below q lt apart other in omega (arith, ints)
-    ]
-  ]
+  below e s z else ze zs alone both q lt =
+      elim (cases_eq q r) as (λ _. z ≤ℤ (way q +ℤ at costs q)) [
+        | inl is ↦ rw is (omega (arith, ints))
+        | inr apart ↦ elim (cases_eq q (8 + r)) as (λ _. z ≤ℤ (way q +ℤ at costs q)) [
+          | inl is ↦ rw is (omega (arith, ints))
+          | inr other ↦ let b = else.below q lt apart other in omega (arith, ints)
+        ]
+      ]
 
-  pub least_with_stay : (e s z : ℤ) → IsLeastElsewhere way r costs e → z ≤ℤ e → z ≤ℤ s → (z ≡ e) ⊎ (z ≡ s)
-      → s ≤ℤ (way r +ℤ at costs r) → s ≤ℤ (way (8 + r) +ℤ at costs (8 + r)) → IsMet way costs s → IsLeastWay way costs z
+  pub least_with_stay : (e s z : ℤ) → IsLeastElsewhere way r costs e → z ≤ℤ e → z ≤ℤ s
+      → (z ≡ e) ⊎ (z ≡ s) → s ≤ℤ (way r +ℤ at costs r) → s ≤ℤ (way (8 + r) +ℤ at costs (8 + r))
+      → IsMet way costs s → IsLeastWay way costs z
   least_with_stay e s z else ze zs met alone both stays = record {
     below = below e s z else ze zs alone both;
     met = elim met as (λ _. IsMet way costs z) [
@@ -30,27 +33,34 @@ module _ (way : ℕ → ℤ) (r : ℕ) (costs : List ℤ) where
 
 module _ (ways : Ways) (r : ℕ) (lr : r < 6) (costs : List ℤ) (kept s z e : ℤ) where
   -- from the register alone
-  pub stays_alone : (stored : ℤ) → kept ≡ at costs r → stored ≡ ways.store +ℤ at costs (8 + r) → s ≤ℤ kept → s ≤ℤ stored → (s ≡ kept) ⊎ (s ≡ stored)
-      → IsLeastElsewhere (step_price ways r) r costs e → z ≤ℤ e → z ≤ℤ s → (z ≡ e) ⊎ (z ≡ s) → IsLeastWay (step_price ways r) costs z
+  pub stays_alone : (stored : ℤ) → kept ≡ at costs r → stored ≡ ways.store +ℤ at costs (8 + r)
+      → s ≤ℤ kept → s ≤ℤ stored → (s ≡ kept) ⊎ (s ≡ stored)
+      → IsLeastElsewhere (step_price ways r) r costs e → z ≤ℤ e → z ≤ℤ s → (z ≡ e) ⊎ (z ≡ s)
+      → IsLeastWay (step_price ways r) costs z
   stays_alone stored is_kept is_stored sk ss met else ze zs zmet =
       let same = moved_same ways r in
       let a = alone_alone ways r r lr lr in
       let b = alone_both ways r r lr lr in
-      least_with_stay (step_price ways r) r costs e s z else ze zs zmet (omega (arith, ints, same, a)) (omega (arith, ints, same, b))
+      least_with_stay (step_price ways r) r costs e s z else ze zs zmet
+      (omega (arith, ints, same, a)) (omega (arith, ints, same, b))
       (elim met as (λ _. IsMet (step_price ways r) costs s) [
         | inl is ↦ record { place = r; within = omega arith; met = omega (arith, ints, same, a) }
-        | inr is ↦ record { place = 8 + r; within = omega arith; met = omega (arith, ints, same, b) }
+        | inr is ↦
+            record { place = 8 + r; within = omega arith; met = omega (arith, ints, same, b) }
       ])
 
   -- from its both place
-  pub stays_in_both : (other : ℤ) → kept ≡ at costs (8 + r) → other ≡ at costs r → s ≤ℤ kept → s ≤ℤ other → (s ≡ kept) ⊎ (s ≡ other)
-      → IsLeastElsewhere (step_price ways (8 + r)) r costs e → z ≤ℤ e → z ≤ℤ s → (z ≡ e) ⊎ (z ≡ s) → IsLeastWay (step_price ways (8 + r)) costs z
+  pub stays_in_both : (other : ℤ) → kept ≡ at costs (8 + r) → other ≡ at costs r → s ≤ℤ kept
+      → s ≤ℤ other → (s ≡ kept) ⊎ (s ≡ other) → IsLeastElsewhere (step_price ways (8 + r)) r costs e
+      → z ≤ℤ e → z ≤ℤ s → (z ≡ e) ⊎ (z ≡ s) → IsLeastWay (step_price ways (8 + r)) costs z
   stays_in_both other is_kept is_other sk so met else ze zs zmet =
       let same = moved_same ways r in
       let a = both_alone ways r r lr in
       let b = both_both ways r r in
-      least_with_stay (step_price ways (8 + r)) r costs e s z else ze zs zmet (omega (arith, ints, same, a)) (omega (arith, ints, same, b))
+      least_with_stay (step_price ways (8 + r)) r costs e s z else ze zs zmet
+      (omega (arith, ints, same, a)) (omega (arith, ints, same, b))
       (elim met as (λ _. IsMet (step_price ways (8 + r)) costs s) [
-        | inl is ↦ record { place = 8 + r; within = omega arith; met = omega (arith, ints, same, b) }
+        | inl is ↦
+            record { place = 8 + r; within = omega arith; met = omega (arith, ints, same, b) }
         | inr is ↦ record { place = r; within = omega arith; met = omega (arith, ints, same, a) }
       ])

@@ -1,5 +1,6 @@
 -- What memory pairs add at the layers of a strand.
-use Rattle.std.specs.Prelude.{◌≡◌, ◌≢◌, ℕ, ◌+◌, ◌^◌, ◌<◌, nat_eq, ℤ, pos, ◌+ℤ◌, ◌<ℤ◌, List, length, slice_index_or, false, map}
+use Rattle.std.specs.Prelude.{◌≡◌, ◌≢◌, ℕ, ◌+◌, ◌^◌, ◌<◌, nat_eq, ℤ, pos, ◌+ℤ◌, ◌<ℤ◌, List, length}
+use Rattle.std.specs.Prelude.{slice_index_or, false, map}
 use Rattle.std.specs.List.{range_with_len, flat_map}
 use Rattle.net_form.specs.declared.net.Net.{Net}
 use Rattle.net_form.specs.Admitted.{strand_at}

@@ -1,5 +1,6 @@
 -- The terrain of a strand: where it may be at its layers, and what its edges pay.
-use Rattle.std.specs.Prelude.{ℕ, ◌+◌, ◌*◌, Bool, ◌&&◌, ◌||◌, not, true, nat_eq, ℤ, pos, ◌+ℤ◌, ◌-ℤ◌, Option, None, Some, slice_index_or, count_by, false}
+use Rattle.std.specs.Prelude.{ℕ, ◌+◌, ◌*◌, Bool, ◌&&◌, ◌||◌, not, true, nat_eq, ℤ, pos, ◌+ℤ◌, ◌-ℤ◌}
+use Rattle.std.specs.Prelude.{Option, None, Some, slice_index_or, count_by, false}
 use Rattle.net_form.specs.InUse.{mark}
 use Rattle.std.specs.List.{enumerate_from}
 use Rattle.pra_base.specs.Places.{number, has_register, register_of}

@@ -1,7 +1,8 @@
 -- What is left of a path from a layer on, and what is least of it. Layers, places, ways and cells
 -- are any here: where the strand may be, whether it may come from a place, what the way there
 -- costs, and what it pays for being there.
-use Rattle.std.specs.Prelude.{◌≡◌, ◌⊎◌, ℕ, suc, ◌+◌, ◌^◌, ◌<◌, ◌≤◌, Bool, true, false, ℤ, pos, ◌+ℤ◌, ◌≤ℤ◌, List}
+use Rattle.std.specs.Prelude.{◌≡◌, ◌⊎◌, ℕ, suc, ◌+◌, ◌^◌, ◌<◌, ◌≤◌, Bool, true, false, ℤ, pos, ◌+ℤ◌}
+use Rattle.std.specs.Prelude.{◌≤ℤ◌, List}
 use Rattle.std.specs.Prelude.{[], ◌∷◌, length, Option, Some, IsTrue, ⊤}
 use Rattle.pra_base.specs.declared.ids.Place.{Place}
 use Rattle.pra_base.specs.Places.{number}

@@ -1,6 +1,7 @@
 -- Rows of what is paid at each layer of a strand, and of what is paid from each layer on.
 use Rattle.std.specs.Prelude.{◌≡◌, ◌⊎◌, ℕ, suc, ◌+◌, ◌-◌, ◌*◌, ◌%◌, ◌^◌, ◌<◌, Bool, true, false, ℤ}
-use Rattle.std.specs.Prelude.{pos, ◌+ℤ◌, ◌≤ℤ◌, ◌<ℤ◌, List, [], length, slice_index_or, Option, Some, IsTrue}
+use Rattle.std.specs.Prelude.{pos, ◌+ℤ◌, ◌≤ℤ◌, ◌<ℤ◌, List, [], length, slice_index_or, Option, Some}
+use Rattle.std.specs.Prelude.{IsTrue}
 use Rattle.pra_base.specs.declared.ids.Place.{Place}
 use Rattle.pra_base.specs.Places.{number, place_count}
 use Rattle.net_form.specs.Flow.{same_place}
@@ -31,7 +32,8 @@ IsAbout b z = (pos 0 ≤ℤ (z +ℤ pos b)) × (z ≤ℤ pos b)
 abbrev pub AreCellsWithin : List Row → Type 0
 AreCellsWithin rows =
     (k p : ℕ) → k < length rows → p < place_count →
-    (at (costs_at rows k) p ≡ unreached) ⊎ IsAbout (cell_bound (length rows) k) (at (costs_at rows k) p)
+    (at (costs_at rows k) p ≡ unreached)
+    ⊎ IsAbout (cell_bound (length rows) k) (at (costs_at rows k) p)
 
 abbrev pub IsRowWithin : ℕ → List ℤ → Type 0
 IsRowWithin b costs =

@@ -13,5 +13,14 @@ returns-clause-value g c =
     let place = c.args.place in
     let spot = c.args.spot in
     let cap : c.cap_price.result ≡ cap_part net prices (edge spot.strand spot.layer None place) =
-    c.cap_price.ensures.value ∙ ap (λ (n : ℕ). cond (has_register (number place)) (pos (slice_index prices.caps (bundle_key (n + spot.layer) (register_of (number place))))) (pos 0)) c.entry_layer.ensures.value in
-    omega (arith, ints, c.extras_cost-extras.ensures.value, c.extras_cost-extras.ensures.small, cap, c.cap_price.ensures.about)
+    c.cap_price.ensures.value ∙ ap (λ (n : ℕ). cond (has_register (number place))
+    (pos (slice_index prices.caps (bundle_key (n + spot.layer) (register_of (number place)))))
+    (pos 0)) c.entry_layer.ensures.value in
+    omega (
+      arith,
+      ints,
+      c.extras_cost-extras.ensures.value,
+      c.extras_cost-extras.ensures.small,
+      cap,
+      c.cap_price.ensures.about,
+    )

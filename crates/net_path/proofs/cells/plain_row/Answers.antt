@@ -1,4 +1,5 @@
-use Rattle.std.proofs.Common.{ℕ, ◌≡◌, ℤ, pos, length-set, arith, refl, sym, subst, ◌∙◌, to_z, of_z, w64}
+use Rattle.std.proofs.Common.{ℕ, ◌≡◌, ℤ, pos, length-set, arith, refl, sym, subst, ◌∙◌, to_z, of_z}
+use Rattle.std.proofs.Common.{w64}
 use Rattle.std.proofs.lemmas.Int.{to_z-of_z}
 use Rattle.pra_base.specs.declared.ids.Place.{Place}
 use Rattle.pra_base.specs.Places.{number}
@@ -11,14 +12,21 @@ use Rattle.net_path.proofs.cells.plain_row.Goals as goal
 
 pub loop-p-preserved : goal.loop-p-preserved
 loop-p-preserved g c =
-    let whole : to_z w64 (of_z w64 c.cell.result) ≡ c.cell.result = to_z-of_z w64 c.cell.result (record { sfits = c.cell.type_inv }) in
-    let Cell = λ (k : ℕ) (z : ℤ). (place : Place) → number place ≡ k → IsPlainCell c.args.net.now (weights_of c.args.model.now) c.args.prices.now c.args.ends c.args.taken.now c.args.spot place z in
+    let whole : to_z w64 (of_z w64 c.cell.result) ≡ c.cell.result =
+    to_z-of_z w64 c.cell.result (record { sfits = c.cell.type_inv }) in
+    let Cell = λ (k : ℕ) (z : ℤ). (place : Place) → number place ≡ k
+    → IsPlainCell c.args.net.now (weights_of c.args.model.now) c.args.prices.now c.args.ends
+    c.args.taken.now c.args.spot place z in
     record {
       long = omega (arith, length-set {A = ℤ}, c.loop-p.invariant.long);
-      cells = rw whole (stored Cell c.loop-p.row.costs (pos 0) c.loop-p.p c.cell.result (omega (arith, c.loop-p.invariant.long)) c.loop-p.invariant.cells
-          (λ place is. subst (λ (q : Place). IsPlainCell c.args.net.now (weights_of c.args.model.now) c.args.prices.now c.args.ends c.args.taken.now c.args.spot q c.cell.result)
+      cells = rw whole (stored Cell c.loop-p.row.costs (pos 0) c.loop-p.p c.cell.result
+          (omega (arith, c.loop-p.invariant.long)) c.loop-p.invariant.cells
+          (λ place is.
+          subst (λ (q : Place). IsPlainCell c.args.net.now (weights_of c.args.model.now)
+          c.args.prices.now c.args.ends c.args.taken.now c.args.spot q c.cell.result)
           (number-injective c.place_of.result place (c.place_of.ensures ∙ sym is)) c.cell.ensures));
     }
 
 pub returns-clause-cells : goal.returns-clause-cells
-returns-clause-cells g c = λ place. c.loop-p.invariant.cells (number place) (let b = number_below place in omega arith) place refl
+returns-clause-cells g c = λ place.
+    c.loop-p.invariant.cells (number place) (let b = number_below place in omega arith) place refl

@@ -10,5 +10,6 @@ abbrev pub invariant-loop-p : goal.invariant-loop-p
 invariant-loop-p g l = record {
   long : length l.row.costs ≡ 16;
   cells : (k : ℕ) → k < l.p → (place : Place) → number place ≡ k →
-      IsPlainCell l.net (weights_of l.model) l.prices l.ends l.taken l.spot place (at l.row.costs k);
+      IsPlainCell l.net (weights_of l.model) l.prices l.ends l.taken l.spot place
+      (at l.row.costs k);
 }

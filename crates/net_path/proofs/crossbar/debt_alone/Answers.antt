@@ -13,8 +13,17 @@ with_way-stored-requires-clause-debt c =
 pub returns : goal.returns
 returns c =
     let debt = c.requires.row (8 + c.args.r) (omega (arith, c.requires.register)) in
-    let stored : c.with_way-stored.result.cost ≡ c.args.ways.now.store +ℤ at c.args.row.now.costs (8 + c.args.r) =
-    omega (arith, ints, debt, c.debt_at.ensures, c.with_way-stored.ensures, c.requires.ways.store) in
-    stays_alone c.args.ways.now c.args.r c.requires.register c.args.row.now.costs c.debt_at-2.result.cost c.lesser.result.cost c.lesser-2.result.cost c.args.elsewhere.cost
-    c.with_way-stored.result.cost c.debt_at-2.ensures stored c.lesser.ensures.one c.lesser.ensures.other c.lesser.ensures.met
+    let stored : c.with_way-stored.result.cost
+    ≡ c.args.ways.now.store +ℤ at c.args.row.now.costs (8 + c.args.r) = omega (
+      arith,
+      ints,
+      debt,
+      c.debt_at.ensures,
+      c.with_way-stored.ensures,
+      c.requires.ways.store,
+    ) in
+    stays_alone c.args.ways.now c.args.r c.requires.register c.args.row.now.costs
+    c.debt_at-2.result.cost c.lesser.result.cost c.lesser-2.result.cost c.args.elsewhere.cost
+    c.with_way-stored.result.cost c.debt_at-2.ensures stored c.lesser.ensures.one
+    c.lesser.ensures.other c.lesser.ensures.met
     c.requires.elsewhere c.lesser-2.ensures.one c.lesser-2.ensures.other c.lesser-2.ensures.met

@@ -5,4 +5,5 @@ pub loop-k-init : goal.loop-k-init
 loop-k-init c = least_of_one _ _ _ c.debt_at-least.ensures
 
 pub loop-k-preserved : goal.loop-k-preserved
-loop-k-preserved c = least_of_more _ _ _ _ _ _ c.loop-k.invariant c.debt_at.ensures c.lesser-least.ensures.one c.lesser-least.ensures.other c.lesser-least.ensures.met
+loop-k-preserved c = least_of_more _ _ _ _ _ _ c.loop-k.invariant c.debt_at.ensures
+    c.lesser-least.ensures.one c.lesser-least.ensures.other c.lesser-least.ensures.met

@@ -7,5 +7,6 @@ abbrev pub invariant-loop-at : goal.invariant-loop-at
 invariant-loop-at l = record {
   long : length l.rows ≡ length l.initial.rows;
   paid : AreMemoryRows l.prices l.taken (strand_at l.net l.strand).first
-      (take (l.at - get_or l.net.index.pairs l.strand 0) (strand_ends l.net l.strand)) l.initial.rows l.rows;
+      (take (l.at - get_or l.net.index.pairs l.strand 0) (strand_ends l.net l.strand))
+      l.initial.rows l.rows;
 }

@@ -1,4 +1,5 @@
-use Rattle.std.proofs.Common.{suc, ◌≡◌, ◌∷◌, [], length, Some, arith, add-one, append-nil, ◌<◌, length-set}
+use Rattle.std.proofs.Common.{suc, ◌≡◌, ◌∷◌, [], length, Some, arith, add-one, append-nil, ◌<◌}
+use Rattle.std.proofs.Common.{length-set}
 use Rattle.pra_base.specs.declared.ids.Place.{Place}
 use Rattle.net_path.specs.Rests.{Follows}
 use Rattle.net_path.specs.Rows.{costs_at}
@@ -10,7 +11,8 @@ loop-at-init c = record {
   some = omega arith;
   within = omega (arith, c.requires.some);
   follows = λ t rest ground good follows.
-      let is = put_first c.args.path.now rest c.args.start (omega (arith, c.requires.some, c.requires.room)) in
+      let is = put_first c.args.path.now rest c.args.start
+      (omega (arith, c.requires.some, c.requires.room)) in
       rw is (begins t (costs_at c.args.rows.now) c.args.start rest good follows);
 }
 
@@ -21,11 +23,20 @@ loop-at-preserved c = record {
   follows = λ t rest ground good follows.
       let i = c.loop-at.at in
       let q = c.next_place-from.result in
-      let lt : i < length c.loop-at.path = omega (arith, c.loop-at-test.true, c.requires.room, c.loop-at.auto.path, length-set {A = Place}) in
+      let lt : i < length c.loop-at.path = omega (
+        arith,
+        c.loop-at-test.true,
+        c.requires.room,
+        c.loop-at.auto.path,
+        length-set {A = Place},
+      ) in
       let is = put_behind c.loop-at.path i q rest lt in
-      let behind : Follows t (costs_at c.args.rows.now) (suc i) (Some q) rest = rw (← add-one i) follows in
+      let behind : Follows t (costs_at c.args.rows.now) (suc i) (Some q) rest =
+      rw (← add-one i) follows in
       rw is (c.loop-at.invariant.follows t (q ∷ rest) ground good
-      (goes_on c.args.ways.now c.args.first (length c.args.rows.now) t ground (costs_at c.args.rows.now) i c.loop-at.from q c.next_place-from.ensures.across c.next_place-from.ensures.crossbar rest behind));
+      (goes_on c.args.ways.now c.args.first (length c.args.rows.now) t ground
+      (costs_at c.args.rows.now) i c.loop-at.from q c.next_place-from.ensures.across
+      c.next_place-from.ensures.crossbar rest behind));
 }
 
 pub returns : goal.returns

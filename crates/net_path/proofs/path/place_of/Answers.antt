@@ -2,4 +2,5 @@ use Rattle.net_path.proofs.Numbers.{numbered_is}
 use Rattle.net_path.proofs.path.place_of.Goals as goal
 
 pub returns : goal.returns
-returns c = let is = numbered_is c.args.place c.requires in cc (c.unwrap_or.ensures, c.of_number.ensures)
+returns c = let is = numbered_is c.args.place c.requires in
+    cc (c.unwrap_or.ensures, c.of_number.ensures)

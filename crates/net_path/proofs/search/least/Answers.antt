@@ -8,14 +8,16 @@ use Rattle.net_path.proofs.search.least.Goals as goal
 
 pub search_front-result-requires-clause-rows : goal.search_front-result-requires-clause-rows
 search_front-result-requires-clause-rows g c =
-    let t = ap (λ (t : Strand). length t.masks) (get_or_read c.args.net.now.strands c.args.strand c.index.result.now c.requires.strand c.index.ensures no_strand) in
+    let t = ap (λ (t : Strand). length t.masks) (get_or_read c.args.net.now.strands c.args.strand
+    c.index.result.now c.requires.strand c.index.ensures no_strand) in
     let room = c.requires.work.rows c.args.strand c.requires.strand in
     let same = ap (λ (rows : List Row). length rows) c.deref_mut.ensures.value in
     omega (arith, t, room, same, c.len-layers.ensures)
 
 pub search_front-result-requires-clause-path : goal.search_front-result-requires-clause-path
 search_front-result-requires-clause-path g c =
-    let t = ap (λ (t : Strand). length t.masks) (get_or_read c.args.net.now.strands c.args.strand c.index.result.now c.requires.strand c.index.ensures no_strand) in
+    let t = ap (λ (t : Strand). length t.masks) (get_or_read c.args.net.now.strands c.args.strand
+    c.index.result.now c.requires.strand c.index.ensures no_strand) in
     let room = c.requires.work.rows c.args.strand c.requires.strand in
     let long = c.args.work.now.as_long in
     let same = ap (λ (path : List Place). length path) c.deref_mut-2.ensures.value in

@@ -8,6 +8,7 @@ abbrev pub invariant-loop-tie : goal.invariant-loop-tie
 invariant-loop-tie l = record {
   after : get_or l.net.index.exits l.strand 0 ≤ l.tie;
   paid : ArePaidInAll (λ place. total (λ i. tie_pay l.prices true i place)
-      (range_with_len (get_or l.net.index.exits l.strand 0) (l.tie - get_or l.net.index.exits l.strand 0)))
+      (range_with_len (get_or l.net.index.exits l.strand 0)
+      (l.tie - get_or l.net.index.exits l.strand 0)))
       l.initial.row.costs l.row.costs;
 }
