@@ -1,24 +1,29 @@
 #!/bin/sh
-# Prints how long it takes to make the largest procedure's liveness, network and home routes, and to
-# ask whether these are admitted and what they cost: of each part the least processor time of five
-# runs. Then how much memory the liveness takes, and how much the network beside it.
+# Prints how long it takes to make the largest procedure's liveness, network and home routes, to ask
+# whether these are admitted and what they cost, and to make room for a least path of each strand and
+# find these at prices of nothing: of each part the least processor time of five runs, and of the
+# least paths that for each layer of a strand too. Then how much memory the liveness takes, and how
+# much the network beside it.
 set -eu
 cd "$(dirname "$0")"
 program=$(./built.sh bench_network)
-for _ in 1 2 3 4 5; do "$program" cost 2>&1; done | awk '
+for _ in 1 2 3 4 5; do "$program" lagrange 2>&1; done | awk '
     $3 == "ms" {
         if (!($1 in least)) { least[$1] = $2; parts[++count] = $1 }
         else if ($2 < least[$1]) least[$1] = $2
     }
-    $1 ~ /:$/ || $2 ~ /routes:/ { said[$0] = 1 }
+    $1 == "masks" { masks = $2 }
+    $1 ~ /:$/ || $2 ~ /routes:/ || $1 == "value" { said[$0] = 1 }
     END {
         for (line in said) print line
         for (i = 1; i <= count; i++) print parts[i] ": " least[parts[i]] " ms"
+        printf "lagrange: %.1f ns for each of %d layers of strands\n",
+            least["lagrange"] * 1e6 / masks, masks
     }'
 
 live=$(./peak.sh "$program" live)
 build=$(./peak.sh "$program" build)
-all=$(./peak.sh "$program" cost)
+all=$(./peak.sh "$program" lagrange)
 masks=$("$program" valid 2>&1 >/dev/null | awk '$1 == "masks" { print $2 }')
 each=$(((build - live) * 1024 / masks))
 echo "liveness: $((live / 1024)) MB at most; with the network $((build / 1024)) MB," \

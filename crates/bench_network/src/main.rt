@@ -2,7 +2,8 @@
 // prints how large it is: the work behind bench/network.sh. A word says behind which part to stop,
 // and then it is noted how much processor time each part took: `live` and `build`, and behind them
 // `valid`, `home`, `admitted` and `cost`, which ask for home routes, whether they are admitted and
-// what they cost.
+// what they cost, and `reserve` and `lagrange`, which make room for a least path of each strand and
+// find these at prices of nothing.
 //
 // The locals are set in the entry and written in the last block. Between them stand blocks in
 // pairs: one changes a local and compares it, and leads back to itself or on; the other changes

@@ -1,17 +1,23 @@
 // The parts of the work. Each does its own, notes its time, and goes on to the next.
 
-ghost use Rattle.std.specs.Prelude.{IfOk};
+ghost use Rattle.std.specs.Prelude.{◌≡◌, IfOk};
 ghost use Rattle.pra_base.specs.Valid.{IsSized, IsValid};
+ghost use Rattle.net_cost.specs.Models.{Keeps};
 ghost use Rattle.net_form.specs.Flow.{AreRoutes};
 ghost use Rattle.net_form.specs.Network.{IsNet};
+ghost use Rattle.net_form.specs.Rooms.{empty_spare};
+ghost use Rattle.net_laws.specs.Built.{IsBuilt};
+ghost use Rattle.net_dual.specs.Priced.{AreInRange};
+ghost use Rattle.net_path.specs.Desk.{IsReservedFor};
 ghost use Rattle.vc_live.specs.Rows.{IsLiveness};
 
 use crate::work::{Stop, Work};
 use al_edge::home;
 use net_build::build;
 use net_cost::{CostModel, Event, Weights};
-use net_form::{Net, Routes, Taken};
+use net_form::{Net, Prices, Routes, Spare, Taken};
 use net_gate::{admitted, cost};
+use net_price::lagrange;
 use pra_base::{OutOfMemory, VProc};
 use std::alloc::Global;
 use vc_live::{Liveness, live};
@@ -137,6 +143,7 @@ fn from_admitted(
     routes: &Routes,
 ) -> Result<(), Stop>
     requires sized { IsSized code.now }
+    requires valid { IsValid code.now }
     requires net { IsNet net.now code.now }
     requires routes { AreRoutes net.now routes.now }
 {
@@ -144,5 +151,48 @@ fn from_admitted(
     work.done(rt, "admitted")?;
     let total = cost_by_size(code, net, routes);
     println!(rt; "home routes: cost {total} by size").map_err(|_| Stop::NoHost)?;
-    work.done(rt, "cost")
+    work.done(rt, "cost")?;
+    from_spare(rt, work, code, net)
+}
+
+// Prices of nothing.
+fn from_spare(rt: &HostRuntime, work: &mut Work, code: &VProc, net: &Net) -> Result<(), Stop>
+    requires sized { IsSized code.now }
+    requires valid { IsValid code.now }
+    requires net { IsNet net.now code.now }
+{
+    let spare = Spare::empty(rt.alloc(), net).map_err(|_| Stop::NoMemory)?;
+    from_reserve(rt, work, net, &spare)
+}
+
+// Room for least paths.
+fn from_reserve(rt: &HostRuntime, work: &mut Work, net: &Net, spare: &Spare) -> Result<(), Stop>
+    requires net { IsBuilt net.now }
+    requires spare { spare.now ≡ empty_spare net.now }
+{
+    let model = CostModel::keep(Weights::size(), |event: Event, depth: u32| {
+        Weights::size().weight(event, depth)
+    });
+    let mut room = net_path::Work::reserve(rt.alloc(), net, &model).map_err(|_| Stop::NoMemory)?;
+    work.done(rt, "reserve")?;
+    from_lagrange(rt, work, &mut room, net, &model, &spare.zero)
+}
+
+// The value, in units of 1/1024, and a least path of each strand.
+fn from_lagrange<F: Fn(Event, u32) -> u32>(
+    rt: &HostRuntime,
+    work: &mut Work,
+    room: &mut net_path::Work,
+    net: &Net,
+    model: &CostModel<F>,
+    prices: &Prices,
+) -> Result<(), Stop>
+    requires kept { Keeps F.Fn model.now }
+    requires net { IsBuilt net.now }
+    requires room { IsReservedFor net.now room.old }
+    requires prices { AreInRange net.now prices.now }
+{
+    let value = lagrange(room, net, model, prices);
+    println!(rt; "value {value} by size").map_err(|_| Stop::NoHost)?;
+    work.done(rt, "lagrange")
 }
