@@ -193,6 +193,6 @@ fn from_lagrange<F: Fn(Event, u32) -> u32>(
     requires prices { AreInRange net.now prices.now }
 {
     let value = lagrange(room, net, model, prices);
-    println!(rt; "value {value} by size").map_err(|_| Stop::NoHost)?;
+    println!(rt; "value {value} / 1024 by size").map_err(|_| Stop::NoHost)?;
     work.done(rt, "lagrange")
 }
