@@ -47,110 +47,66 @@ struct Wanted {
     memory: bool,
 }
 
-const V: Wanted = Wanted {
-    strand: 0,
-    first: None,
-    last: None,
-    layer: 3,
-    registers: 0,
-    memory: false,
-};
-
-const CONSTANT: Wanted = Wanted { strand: 1, ..V };
+const ANY: Option<Place> = None;
 
 const IN_EAX: Option<Place> = Some(Place::Eax);
 
+const IN_EAX_AND_MEMORY: Option<Place> = Some(Place::EaxM);
+
+const IN_ECX: Option<Place> = Some(Place::Ecx);
+
 const IN_MEMORY: Option<Place> = Some(Place::Mem);
 
-// What is wanted, and a least path behind its cost, of which there is one alone. To store the
-// number of the Set costs two bytes, an operand in memory one, to load or to store v three, to
-// move it two, and to set a register to the constant five.
-const PATHS: &[(Wanted, &str)] = &[
-    (V, "0 [Eax, Eax, Eax, Eax]"),
+// What is wanted, by the fields above, of v, which is strand 0, and of the constant; and a least
+// path behind its cost, of which there is one alone. To store the number of the Set costs two
+// bytes, an operand in memory one, to load or to store v three, to move it two, and to set a
+// register to the constant five.
+const PATHS: &[(u32, Option<Place>, Option<Place>, usize, u8, bool, &str)] = &[
+    (0, ANY, ANY, 3, 0b00_0000, false, "0 [Eax, Eax, Eax, Eax]"),
+    (0, ANY, ANY, 5, 0b00_0001, false, "no path"),
+    (0, ANY, ANY, 5, 0b11_1110, false, "0 [Eax, Eax, Eax, Eax]"),
     (
-        Wanted {
-            layer: 5,
-            registers: 0b00_0001,
-            ..V
-        },
-        "no path",
-    ),
-    (
-        Wanted {
-            layer: 5,
-            registers: 0b11_1110,
-            ..V
-        },
-        "0 [Eax, Eax, Eax, Eax]",
-    ),
-    (
-        Wanted {
-            registers: 0b11_0111,
-            ..V
-        },
+        0,
+        ANY,
+        ANY,
+        3,
+        0b11_0111,
+        false,
         "2048 [Ebx, Ebx, Ebx, Eax]",
     ),
     (
-        Wanted {
-            registers: 0b11_1111,
-            last: IN_EAX,
-            ..V
-        },
+        0,
+        ANY,
+        IN_EAX,
+        3,
+        0b11_1111,
+        false,
         "6144 [Mem, Mem, Mem, Eax]",
     ),
+    (0, ANY, ANY, 3, 0b11_1111, true, "no path"),
     (
-        Wanted {
-            registers: 0b11_1111,
-            memory: true,
-            ..V
-        },
-        "no path",
-    ),
-    (
-        Wanted {
-            first: IN_MEMORY,
-            ..V
-        },
+        0,
+        IN_MEMORY,
+        ANY,
+        3,
+        0b00_0000,
+        false,
         "5120 [Mem, Eax, Eax, Eax]",
     ),
     (
-        Wanted {
-            last: Some(Place::EaxM),
-            ..V
-        },
+        0,
+        ANY,
+        IN_EAX_AND_MEMORY,
+        3,
+        0b00_0000,
+        false,
         "3072 [Eax, Eax, Eax, EaxM]",
     ),
-    (
-        Wanted {
-            last: Some(Place::Ecx),
-            ..V
-        },
-        "no path",
-    ),
-    (CONSTANT, "1024 [Const]"),
-    (
-        Wanted {
-            registers: 0b11_1110,
-            last: IN_EAX,
-            ..CONSTANT
-        },
-        "5120 [Eax]",
-    ),
-    (
-        Wanted {
-            registers: 0b00_0001,
-            last: IN_EAX,
-            ..CONSTANT
-        },
-        "no path",
-    ),
-    (
-        Wanted {
-            first: IN_MEMORY,
-            ..CONSTANT
-        },
-        "no path",
-    ),
+    (0, ANY, IN_ECX, 3, 0b00_0000, false, "no path"),
+    (1, ANY, ANY, 3, 0b00_0000, false, "1024 [Const]"),
+    (1, ANY, IN_EAX, 3, 0b11_1110, false, "5120 [Eax]"),
+    (1, ANY, IN_EAX, 3, 0b00_0001, false, "no path"),
+    (1, IN_MEMORY, ANY, 3, 0b00_0000, false, "no path"),
 ];
 
 fn code(alloc: Global) -> Result<VProc, AllocError> {
@@ -272,8 +228,16 @@ fn least_paths(rt: HostRuntime) -> Result<(), Fail> {
         assert!(rt; false, "the code is not valid");
         return Ok(());
     };
-    for (wanted, expected) in PATHS {
-        let found = path(alloc, &net, wanted)?;
+    for (strand, first, last, layer, registers, memory, expected) in PATHS {
+        let wanted = Wanted {
+            strand: *strand,
+            first: *first,
+            last: *last,
+            layer: *layer,
+            registers: *registers,
+            memory: *memory,
+        };
+        let found = path(alloc, &net, &wanted)?;
         assert_eq!(rt; found.as_str(), *expected, "{wanted:?}");
     }
     Ok(())
