@@ -1,2 +1,4 @@
 pub mod Raised
+pub mod Stepped
 pub mod Sums
+pub mod Tied

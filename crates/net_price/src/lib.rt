@@ -3,6 +3,9 @@
 
 mod mems;
 mod raise;
+mod round;
+mod ties;
 mod value;
 
+pub use round::step;
 pub use value::lagrange;
