@@ -1,6 +1,7 @@
 -- The numbers of ties after a step, one by one.
 use Rattle.std.proofs.Common.{ℕ, ◌≡◌, ◌+◌, ◌-◌, ◌<◌, ◌≤◌, Bool, true, false, cond, ℤ, pos, negsuc}
-use Rattle.std.proofs.Common.{◌+ℤ◌, ◌-ℤ◌, ◌*ℤ◌, ◌≤ℤ◌, ◌^◌, List, length, get_or, set, slice_get, count_by}
+use Rattle.std.proofs.Common.{◌+ℤ◌, ◌-ℤ◌, ◌*ℤ◌, ◌≤ℤ◌, ◌^◌, List, length, get_or, set, slice_get}
+use Rattle.std.proofs.Common.{count_by}
 use Rattle.std.proofs.Common.{None, Some, sym, ap, ◌∙◌, arith, inl, inr}
 use Rattle.std.specs.Int.Signed.{mag}
 use Rattle.std.proofs.lemmas.Int.{ints}

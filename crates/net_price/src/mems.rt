@@ -1,6 +1,6 @@
 // Prices of memory pairs, raised for each use.
 
-ghost use Rattle.std.specs.Prelude.{◌≡◌, ◌≤◌, ◌<◌, ◌+◌, ℕ, None, length, count_by};
+ghost use Rattle.std.specs.Prelude.{◌≡◌, ◌≤◌, ◌<◌, ◌+◌, None, length, count_by};
 ghost use Rattle.std.specs.Prelude.{if◌then◌else◌};
 ghost use Rattle.net_form.specs.Admitted.{strand_at, uses_memory};
 ghost use Rattle.net_form.specs.Flow.{edges, flow, AreRoutes};

@@ -4,7 +4,6 @@ ghost use Rattle.std.specs.Prelude.{◌≡◌, ◌≤◌, ◌<◌, ◌*◌, ◌/
 ghost use Rattle.std.specs.Prelude.{if◌then◌else◌, slice_index_or, count_by};
 ghost use Rattle.net_form.specs.Admitted.{strand_at};
 ghost use Rattle.net_form.specs.Flow.{arrives, flow, AreRoutes};
-ghost use Rattle.net_form.specs.Formed.{IsFormed};
 ghost use Rattle.net_laws.specs.Built.{IsBuilt};
 ghost use Rattle.net_dual.specs.Priced.{most_price};
 ghost use Rattle.net_dual.specs.Step.{clamp, tied_price};

@@ -10,6 +10,8 @@ invariant-loop-strand l = record {
   long : length l.mems ≡ length l.initial.mems;
   words : AreWords l.mems;
   raised : (k : ℕ) → k < length l.initial.mems →
-      raised l.s (get_or l.mems k 0) (left (uses_memory (pair_at l.net k)) l.net l.family l.strand)
-      ≡ raised l.s (get_or l.initial.mems k 0) (left (uses_memory (pair_at l.net k)) l.net l.family 0);
+      raised l.s (get_or l.mems k 0)
+      (left (uses_memory (pair_at l.net k)) l.net l.family l.strand)
+      ≡ raised l.s (get_or l.initial.mems k 0)
+      (left (uses_memory (pair_at l.net k)) l.net l.family 0);
 }
