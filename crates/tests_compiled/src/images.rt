@@ -1,7 +1,11 @@
 // Modules by `compile`, and by the calls of each layer one by one: home routes are admitted, and
 // placement by them gives what `compile` answers, to the byte.
 
+ghost use Rattle.std.specs.Prelude.{IfOk};
 ghost use Rattle.pra_base.specs.Valid.{IsSized, IsValid};
+ghost use Rattle.net_form.specs.Admitted.{IsAdmitted};
+ghost use Rattle.net_form.specs.Flow.{AreRoutes, flow};
+ghost use Rattle.net_form.specs.Network.{IsNet};
 
 use crate::chain::{checked, code_of, tidied_code};
 use crate::image_rows;
@@ -9,15 +13,70 @@ use al_edge::home;
 use ia_asm::image_bytes;
 use ia_sketch::PlacedModule;
 use net_build::build;
-use net_form::{Routes, Taken};
+use net_form::{Net, Routes, Taken};
 use net_gate::admitted;
 use pl_build::place;
-use pra_base::VProc;
+use pl_place::LProc;
+use pra_base::{OutOfMemory, VProc};
 use pra_compile::{ProcOut, compile};
 use std::alloc::Global;
 use std::process::Abort;
 use std::test::Fail;
 use vc_live::live;
+
+// Home routes of the network of valid code, which admits them.
+fn home_routes(alloc: Global, code: &VProc, net: &Net) -> Result<Routes, OutOfMemory>
+    requires sized { IsSized code.now }
+    requires valid { IsValid code.now }
+    requires net { IsNet net.now code.now }
+    ensures routes { IfOk result (AreRoutes net.now) }
+    ensures admitted { IfOk result (λ routes. IsAdmitted net.now (flow net.now routes)) }
+{
+    home(alloc, net)
+}
+
+// The network admits the routes.
+fn check_admitted(
+    rt: &impl Abort,
+    alloc: Global,
+    code: &VProc,
+    net: &Net,
+    routes: &Routes,
+) -> Result<(), OutOfMemory>
+    requires sized { IsSized code.now }
+    requires net { IsNet net.now code.now }
+    requires routes { AreRoutes net.now routes.now }
+{
+    let mut taken = Taken::empty(alloc, net)?;
+    let answer = admitted(&mut taken, net, routes);
+    assert!(rt; answer.is_ok());
+    Ok(())
+}
+
+// What `place` answers by the routes.
+fn placed_by(alloc: Global, code: &VProc, net: &Net, routes: &Routes) -> Result<LProc, OutOfMemory>
+    requires sized { IsSized code.now }
+    requires net { IsNet net.now code.now }
+    requires routes { AreRoutes net.now routes.now }
+    requires admitted { IsAdmitted net.now (flow net.now routes.now) }
+{
+    place(alloc, code, net, routes)
+}
+
+// The next procedure is placed as `place` answers.
+fn check_next(
+    rt: &impl Abort,
+    alloc: Global,
+    placed: &mut PlacedModule,
+    code: &VProc,
+    routes: Routes,
+    made: &LProc,
+) -> Result<(), Fail> {
+    let Routes { places } = routes;
+    placed.add(alloc, code, places)?;
+    assert_eq!(rt; placed.procs().last(), Some(made));
+    Ok(())
+}
 
 // Places the next procedure by the home routes of its network. The network admits them, they are
 // those that were kept, and what is placed is what `place` answers.
@@ -33,16 +92,12 @@ fn check_procedure(
 {
     let liveness = live(alloc, code)?;
     let net = build(alloc, code, &liveness)?;
-    let routes = home(alloc, &net)?;
-    let mut taken = Taken::empty(alloc, &net)?;
-    assert_eq!(rt; admitted(&mut taken, &net, &routes), Ok(()));
+    let routes = home_routes(alloc, code, &net)?;
+    check_admitted(rt, alloc, code, &net, &routes)?;
     assert_eq!(rt; &routes, &out.routes);
     assert_eq!(rt; code, &out.code);
-    let made = place(alloc, code, &net, &routes)?;
-    let Routes { places } = routes;
-    placed.add(alloc, code, places)?;
-    assert_eq!(rt; placed.procs().last(), Some(&made));
-    Ok(())
+    let made = placed_by(alloc, code, &net, &routes)?;
+    check_next(rt, alloc, placed, code, routes, &made)
 }
 
 // Both ways give one image. The text has so many procedures, the body counted, and words of data;
