@@ -116,7 +116,9 @@ fn push_hexadecimal(bytes: &mut Vec<u8>, text: &str) -> Result<(), OutOfMemory> 
         };
         high = match high {
             Some(first) => {
-                bytes.push((first << 4 | value) as u8)?;
+                if let Ok(byte) = u8::try_from(first << 4 | value) {
+                    bytes.push(byte)?;
+                }
                 None
             }
             None => Some(value),
