@@ -131,7 +131,8 @@ pub fn select_assignment(
         (KeepsReady setting.now ctx.old.code ctx.new.code ctx.old.at.0 ctx.new.at.0
         (is_assignable (variable_typing setting.now.program.now setting.now.id.0 v.now)
         (typing setting.now.program.now setting.now.id.0 e.now))) }
-    ensures text { OnOk result (StaysInText ((needs_of_var v.now).blocks + (needs e.now).value) ctx.old.at.0 ctx.new.at.0
+    ensures text { OnOk result (StaysInText
+        ((needs_of_var v.now).blocks + (needs e.now).value) ctx.old.at.0 ctx.new.at.0
         ctx.old.code ctx.new.code ctx.old.order ctx.new.order) }
     ensures hands_on { OnOk result (HandsOn ctx.old.at.0 ctx.new.at.0
         ctx.old.code ctx.new.code) }
