@@ -1,7 +1,13 @@
+pub mod Costs
 pub mod Ends
 pub mod Free
+pub mod GroupMembers
+pub mod LeastPlace
+pub mod OpenPlaces
 pub mod Picked
+pub mod Plans
 pub mod Step
+pub mod Sums
 pub mod Tables
 pub mod Uses
 pub mod Whole

@@ -1,4 +1,9 @@
+pub mod Cheapest
 pub mod Choice
+pub mod GroupEnds
 pub mod HomeRoutes
+pub mod OpenPlaces
 pub mod Placed
+pub mod Planned
+pub mod Weighed
 pub mod Yielding

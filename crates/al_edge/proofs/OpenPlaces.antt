@@ -1,0 +1,167 @@
+-- The test of a place tells whether it is open.
+use Rattle.std.proofs.Common.{ℕ, ◌≡◌, ◌<◌, true, false, not, ◌&&◌, eqb, List, [], length}
+use Rattle.std.proofs.Common.{All, refl, sym, ap, ◌∙◌, inl, inr}
+use Rattle.std.proofs.lemmas.Bool.{cases_Bool, eqb-true, eq-eqb, false≢true, and_from}
+use Rattle.std.proofs.lemmas.List.Elements.{All-weaker}
+use Rattle.std.proofs.lemmas.List.Sums.{AllPass-from_list_all, list_all-from_AllPass}
+use Rattle.std.proofs.lemmas.Option.{slice_get_within}
+use Rattle.pra_list.proofs.Choices.{and_true}
+use Rattle.pra_list.proofs.Options.{none_some}
+use Rattle.pra_base.specs.declared.ids.Place.{Place}
+use Rattle.pra_base.specs.declared.ids.Place.TheVariants.{Mem}
+use Rattle.pra_base.specs.Places.{number, allows, has_register, register_of}
+use Rattle.net_form.specs.declared.net.Net.{Net}
+use Rattle.net_form.specs.declared.net.TieEnd.{TieEnd}
+use Rattle.net_form.specs.Admitted.{strand_at, in_register}
+use Rattle.net_form.specs.InUse.{mark}
+use Rattle.net_laws.specs.Built.{IsBuilt}
+use Rattle.al_laws.specs.Greedy.{IsEnd, IsOpen, MayEnd, clash, mask_at, group_ends}
+use Rattle.al_laws.specs.Greedy.IsEnd.{entry, exit}
+use Rattle.al_laws.specs.Parts.{layer_at}
+use Rattle.al_laws.proofs.EndsAnywhere.{open_ends, memory_open}
+use Rattle.al_edge.specs.GroupEnds.{ends_of, end_layer}
+use Rattle.al_edge.specs.OpenPlaces.{is_free, suits, suits_all, whole_layer, IsInMasks}
+use Rattle.al_edge.specs.OpenPlaces.{AreMarked}
+use Rattle.al_edge.proofs.GroupMembers.{IsMember, all_members, each_end, this_in}
+
+-- ---- what the test says of each end
+
+module _ (net : Net) (regs : List ℕ) (g : ℕ) (p : Place) (all : suits_all net regs g p ≡ true) where
+  each : All (λ (e : TieEnd). suits net regs p e ≡ true) (ends_of net g)
+  each = AllPass-from_list_all (suits net regs p) (ends_of net g) all
+
+  suits_end : (s : ℕ) → s < length net.strands → (l : ℕ) → IsEnd net g s l
+      → (allows (mask_at net s l) (number p) && is_free regs (layer_at net s l) p) ≡ true
+  suits_end s lt l (entry is) = (each_end net g (λ (e : TieEnd). suits net regs p e ≡ true) each s
+      lt).0 (this_in g (strand_at net s).entry_group is)
+  suits_end s lt l (exit is) = (each_end net g (λ (e : TieEnd). suits net regs p e ≡ true) each s
+      lt).1 (this_in g (strand_at net s).exit_group is)
+
+  pub in_masks : IsInMasks net g p
+  in_masks s l lt end = (and_true (allows (mask_at net s l) (number p))
+      (is_free regs (layer_at net s l) p) (suits_end s lt l end)).0
+
+  pub frees : (s l : ℕ) → s < length net.strands → IsEnd net g s l
+      → is_free regs (layer_at net s l) p ≡ true
+  frees s l lt end = (and_true (allows (mask_at net s l) (number p))
+      (is_free regs (layer_at net s l) p) (suits_end s lt l end)).1
+
+-- ---- places that are in one register
+
+clash_parts : (p q : Place) → clash p q ≡ true
+    → (has_register (number p) ≡ true) × (in_register (register_of (number p)) q ≡ true)
+clash_parts p q h =
+    let both = and_true (has_register (number p) && has_register (number q))
+    (eqb (register_of (number p)) (register_of (number q))) h in
+    let has = and_true (has_register (number p)) (has_register (number q)) both.0 in
+    let same = eqb-true (register_of (number p)) (register_of (number q)) both.1 in (
+      has.0,
+      and_from (has_register (number q)) (eqb (register_of (number q)) (register_of (number p)))
+          has.1 (eq-eqb (register_of (number q)) (register_of (number p)) (sym same)),
+    )
+
+clash_from : (p q : Place) → has_register (number p) ≡ true
+    → in_register (register_of (number p)) q ≡ true → clash p q ≡ true
+clash_from p q has in_ =
+    let both = and_true (has_register (number q))
+    (eqb (register_of (number q)) (register_of (number p))) in_ in
+    let same = eqb-true (register_of (number q)) (register_of (number p)) both.1 in
+    and_from (has_register (number p) && has_register (number q))
+    (eqb (register_of (number p)) (register_of (number q)))
+    (and_from (has_register (number p)) (has_register (number q)) has both.0)
+    (eq-eqb (register_of (number p)) (register_of (number q)) (sym same))
+
+-- whichever of them is named first
+pub clash_turned : (p q : Place) → clash p q ≡ false → clash q p ≡ false
+clash_turned p q none = elim (cases_Bool (clash q p)) as (λ _. clash q p ≡ false) [
+  | inl yes_ ↦
+      let parts = clash_parts q p yes_ in
+      let both = and_true (has_register (number p))
+      (eqb (register_of (number p)) (register_of (number q))) parts.1 in
+      absurd (false≢true (sym none ∙ and_from (has_register (number p) && has_register (number q))
+      (eqb (register_of (number p)) (register_of (number q)))
+      (and_from (has_register (number p)) (has_register (number q)) both.0 parts.0) both.1))
+  | inr no_ ↦ no_
+]
+
+not_free : (regs : List ℕ) (n : ℕ) (p : Place) → has_register (number p) ≡ true
+    → mark regs n (register_of (number p)) ≡ 1 → is_free regs n p ≡ false
+not_free regs n p has is = ap not (and_from (has_register (number p))
+    (eqb (mark regs n (register_of (number p))) 1) has
+    (eq-eqb (mark regs n (register_of (number p))) 1 is))
+
+-- ---- the test and what is open
+
+module _ (net : Net) (places : List Place) (regs : List ℕ) (marked : AreMarked net places regs)
+    (p : Place) where
+  pub opens : suits_all net regs (length places) p ≡ true
+      → IsOpen net (record { places = places }) (length places) p
+  opens all = record {
+    mask = in_masks net regs (length places) p all;
+    free = λ s l h r k q lt rlt hlt is end other same. elim (cases_Bool (clash p q))
+        as (λ _. clash p q ≡ false) [
+          | inl yes_ ↦
+              let parts = clash_parts p q yes_ in
+              let used = marked.all (layer_at net s l) (register_of (number p)) (record {
+                group = h;
+                place = q;
+                strand = r;
+                layer = k;
+                is_planned = is;
+                there = rlt;
+                end = other;
+                at = sym same;
+                held = parts.1;
+              }) in
+              absurd (false≢true (sym (not_free regs (layer_at net s l) p parts.0 used)
+              ∙ frees net regs (length places) p all s l lt end))
+          | inr no_ ↦ no_
+        ];
+  }
+
+  free_there : IsOpen net (record { places = places }) (length places) p → (e : TieEnd)
+      → IsMember net (length places) e → is_free regs (whole_layer net e) p ≡ true
+  free_there opened e member = elim (cases_Bool (has_register (number p) && eqb
+      (mark regs (whole_layer net e) (register_of (number p))) 1))
+      as (λ _. is_free regs (whole_layer net e) p ≡ true) [
+        | inl yes_ ↦
+            let both = and_true (has_register (number p))
+            (eqb (mark regs (whole_layer net e) (register_of (number p))) 1) yes_ in
+            let by = marked.only (whole_layer net e) (register_of (number p))
+            (eqb-true (mark regs (whole_layer net e) (register_of (number p))) 1 both.1) in
+            let apart = opened.free e.strand (end_layer net e) by.group by.strand by.layer by.place
+            member.there by.there (slice_get_within places by.group by.place by.is_planned)
+            by.is_planned member.end by.end (sym by.at) in
+            absurd (false≢true (sym apart ∙ clash_from p by.place both.0 by.held))
+        | inr no_ ↦ ap not no_
+      ]
+
+  pub opened_suits : IsOpen net (record { places = places }) (length places) p
+      → suits_all net regs (length places) p ≡ true
+  opened_suits opened = list_all-from_AllPass (suits net regs p) (ends_of net (length places))
+      (All-weaker (IsMember net (length places)) (λ (e : TieEnd). suits net regs p e ≡ true)
+      (λ e member. and_from (allows (mask_at net e.strand (end_layer net e)) (number p))
+      (is_free regs (whole_layer net e) p)
+      (opened.mask e.strand (end_layer net e) member.there member.end)
+      (free_there opened e member)) (ends_of net (length places)) (all_members net (length places)))
+
+-- memory passes the test for every group
+pub memory_suits : (net : Net) → IsBuilt net → (regs : List ℕ) (g : ℕ)
+    → suits_all net regs g Mem ≡ true
+memory_suits net built regs g =
+    let opened = memory_open net built (record { places = [] }) g in
+    list_all-from_AllPass (suits net regs Mem) (ends_of net g)
+    (All-weaker (IsMember net g) (λ (e : TieEnd). suits net regs Mem e ≡ true)
+    (λ e member. and_from (allows (mask_at net e.strand (end_layer net e)) (number Mem))
+    (is_free regs (whole_layer net e) Mem)
+    (opened.mask e.strand (end_layer net e) member.there member.end) refl)
+    (ends_of net g) (all_members net g))
+
+-- ---- where strands may end
+
+pub may_end : (net : Net) → IsBuilt net → (g : ℕ) (p : Place) → IsInMasks net g p → (s : ℕ)
+    → s < length net.strands → MayEnd net s (group_ends net g p s)
+may_end net built g p masks s lt = open_ends net built s lt (record { places = [] }) g p (record {
+  mask = masks;
+  free = λ s l h r k q _ _ _ is _ _ _. absurd (none_some is);
+})
