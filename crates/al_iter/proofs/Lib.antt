@@ -1,0 +1,3 @@
+pub mod ByCost
+pub mod EachOnce
+pub mod Unused
