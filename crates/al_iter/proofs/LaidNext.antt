@@ -17,8 +17,8 @@ use Rattle.net_form.specs.declared.prices.Prices.{Prices}
 use Rattle.net_form.specs.declared.routes.Plan.{Plan}
 use Rattle.net_form.specs.declared.routes.Routes.{Routes}
 use Rattle.net_form.specs.declared.taken.Taken.{Taken}
-use Rattle.net_form.specs.Admitted.{strand_at, no_strand}
-use Rattle.net_form.specs.Flow.{Edge, AreRoutes}
+use Rattle.net_form.specs.Admitted.{strand_at, no_strand, IsAdmitted}
+use Rattle.net_form.specs.Flow.{Edge, flow, AreRoutes}
 use Rattle.net_form.specs.InUse.{UsesNothing, UsesOnce, Takes, StandsFor, pair_at, no_pair}
 use Rattle.net_form.specs.Rooms.{IsRoomOf, some_routes}
 use Rattle.net_form.proofs.EdgeCosts.{sum_by-plus}
@@ -30,11 +30,12 @@ use Rattle.net_dual.specs.Priced.{edge_price}
 use Rattle.net_dual.proofs.Strands.{has_places}
 use Rattle.net_path.specs.Desk.{HasSizes}
 use Rattle.net_path.proofs.Renewed.{renewed_at, renewed_other, renewed_sizes}
-use Rattle.al_laws.specs.Laid.{AreLaid, AreLaidBefore, IsBlocked, is_before, plan_ends}
+use Rattle.al_laws.specs.Laid.{AreLaid, AreLaidBefore, is_before, plan_ends}
 use Rattle.al_laws.specs.Parts.{ClearOf, part}
+use Rattle.al_laws.proofs.Laid.{laid_admitted}
 use Rattle.al_laws.proofs.Once.{path_register_once, path_pair_once}
 use Rattle.al_laws.proofs.Parts.{numbers, path_sum, part_sum, sum_only, sum_by-agree}
-use Rattle.al_iter.specs.LaidSoFar.{IsLaidSoFar}
+use Rattle.al_iter.specs.LaidSoFar.{IsBlockedStrand, IsLaidSoFar}
 use Rattle.al_iter.proofs.Before.{before_next, not_before}
 use Rattle.al_iter.proofs.EachOnce.{below, others}
 use Rattle.al_iter.proofs.SameUses.{apart_too, stands_too, marked_once}
@@ -83,14 +84,18 @@ module _ (net : Net) (built : IsBuilt net) (w : Weights) (prices : Prices) (plan
 
   pub is_blocked : ((ps : List Place)
       → MayGo net (plan_ends net plan s) (UsesNothing net taken) s ps → ⊥)
-      → IsBlocked net w prices plan order s taken
+      → IsBlockedStrand net w prices plan order s taken
   is_blocked none = record {
-    at = k;
-    is_next = is_next;
-    routes = routes;
-    laid = so_far.laid;
-    kept = so_far.stands;
-    none = none;
+    strand = lt;
+    blocked = record {
+      at = k;
+      is_next = is_next;
+      routes = routes;
+      laid = so_far.laid;
+      kept = so_far.stands;
+      none = none;
+    };
+    room = so_far.room;
   }
 
   module _ (ps : List Place) (least : IsLeast net (edge_price net w prices) (plan_ends net plan s)
@@ -273,8 +278,18 @@ module _ (net : Net) (built : IsBuilt net) (w : Weights) (prices : Prices) (plan
     }
 
 -- everybody is laid
-pub all_laid : (net : Net) (w : Weights) (prices : Prices) (plan : Plan) (order : List ℕ) (n : ℕ)
-    (routes : Routes) → length order ≤ n → AreLaidBefore net w prices plan order n routes
-    → AreLaid net w prices plan order routes
-all_laid net w prices plan order n routes le laid k s is =
-    laid k s (let lt = slice_get_within order k s is in omega (arith, lt, le)) is
+module _ (net : Net) (built : IsBuilt net) (w : Weights) (prices : Prices) (plan : Plan)
+    (order : List ℕ) (each : IsPermutation (range_with_len 0 (length net.strands)) order) (n : ℕ)
+    (routes : Routes) (taken : Taken) (le : length order ≤ n)
+    (so_far : IsLaidSoFar net w prices plan order n routes taken) where
+  pub all_laid : AreLaid net w prices plan order routes
+  all_laid k s is =
+      let lt = slice_get_within order k s is in
+      so_far.laid k s (omega (arith, lt, le)) is
+
+  pub all_routes : AreRoutes net routes
+  all_routes = sized_routes net routes built so_far.sizes
+
+  pub all_admitted : length plan.places ≡ net.groups → IsAdmitted net (flow net routes)
+  all_admitted many = laid_admitted net built w prices plan order routes many so_far.sizes.many each
+      all_laid

@@ -1,5 +1,5 @@
 -- What holds while strands are laid one after the other, and why it may end.
-use Rattle.std.specs.Prelude.{ℕ, List, ⊤}
+use Rattle.std.specs.Prelude.{ℕ, ◌<◌, List, length, ⊤}
 use Rattle.pra_base.specs.declared.ids.Place.{Place}
 use Rattle.net_cost.specs.declared.weights.Weights.{Weights}
 use Rattle.net_form.specs.declared.net.Net.{Net}
@@ -24,9 +24,16 @@ pub record IsLaidSoFar (net : Net) (w : Weights) (prices : Prices) (plan : Plan)
   pub room : IsRoomOf net taken
   pub stands : StandsFor net taken (part net (is_before order k) routes)
 
--- A strand that has no path left is told with what is taken.
+-- A strand of the network is blocked, and what is taken is of the network's size.
+pub record IsBlockedStrand (net : Net) (w : Weights) (prices : Prices) (plan : Plan)
+    (order : List ℕ) (s : ℕ) (taken : Taken) : Type 0 where
+  pub strand : s < length net.strands
+  pub blocked : IsBlocked net w prices plan order s taken
+  pub room : IsRoomOf net taken
+
 abbrev pub IsLayFault : Net → Weights → Prices → Plan → List ℕ → LayFault → Type 0
-IsLayFault net w prices plan order (Blocked s taken) = IsBlocked net w prices plan order s taken
+IsLayFault net w prices plan order (Blocked s taken) =
+    IsBlockedStrand net w prices plan order s taken
 IsLayFault net w prices plan order OutOfMemory = ⊤
 
 -- paths as routes

@@ -10,8 +10,8 @@ ghost use Rattle.net_form.specs.Rooms.{some_routes};
 ghost use Rattle.net_laws.specs.Built.{IsBuilt};
 ghost use Rattle.net_dual.specs.Priced.{AreInRange};
 ghost use Rattle.net_path.specs.Desk.{IsReservedFor};
-ghost use Rattle.al_laws.specs.Laid.{AreLaid, IsBlocked};
-ghost use Rattle.al_iter.specs.LaidSoFar.{IsLaidSoFar, IsLayFault, routes_of};
+ghost use Rattle.al_laws.specs.Laid.{AreLaid};
+ghost use Rattle.al_iter.specs.LaidSoFar.{IsBlockedStrand, IsLaidSoFar, IsLayFault, routes_of};
 ghost use Rattle.al_iter.specs.declared.laying.LayFault.TheVariants as fault;
 
 use crate::order::plan_ends;
@@ -75,8 +75,8 @@ fn lay_next<F: Fn(Event, u32) -> u32>(
         (routes_of paths.old) taken.old }
     ensures laid { OnOk result (IsLaidSoFar net.now (weights_of model.now) prices.now plan.now
         order.now (at + 1) (routes_of paths.new) taken.new) }
-    ensures blocked { OnErr result (IsBlocked net.now (weights_of model.now) prices.now plan.now
-        order.now (slice_index order.now at) taken.new) }
+    ensures blocked { OnErr result (IsBlockedStrand net.now (weights_of model.now) prices.now
+        plan.now order.now (slice_index order.now at) taken.new) }
     ensures family { work.new.family ≡ work.old.family }
     ensures reserved { IsReservedFor net.now work.new }
 {
