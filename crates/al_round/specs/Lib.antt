@@ -1,0 +1,6 @@
+pub mod Allocations
+pub mod Candidates
+pub mod Lines
+pub mod Stages
+pub mod Tried
+pub mod Watches

@@ -1,0 +1,60 @@
+// Prices and routes written over others, in their memory.
+
+ghost use Rattle.std.specs.Prelude.{◌≡◌, ◌<◌, ℕ, [], length, slice_index_or, IfOk};
+ghost use Rattle.net_form.specs.Flow.{AreRoutes};
+
+use net_form::{Net, Prices, Routes};
+use pra_base::{OutOfMemory, Place};
+use pra_list::Seq;
+use std::alloc::Global;
+use std::mem;
+
+/// A copy of prices.
+///
+/// # Errors
+///
+/// Where there is no memory for it.
+pub(crate) fn copy_prices(alloc: Global, prices: &Prices) -> Result<Prices, OutOfMemory>
+    ensures { IfOk result (λ copy. copy ≡ prices.now) }
+{
+    Ok(Prices {
+        caps: Seq::from_slice(alloc, prices.caps.as_slice())?,
+        mems: Seq::from_slice(alloc, prices.mems.as_slice())?,
+        ties: Seq::from_slice(alloc, prices.ties.as_slice())?,
+    })
+}
+
+/// Writes prices over others, as many.
+pub(crate) fn overwrite_prices(to: &mut Prices, from: &Prices)
+    requires caps { length to.old.caps ≡ length from.now.caps }
+    requires mems { length to.old.mems ≡ length from.now.mems }
+    requires ties { length to.old.ties ≡ length from.now.ties }
+    ensures { to.new ≡ from.now }
+{
+    to.caps.overwrite(from.caps.as_slice());
+    to.mems.overwrite(from.mems.as_slice());
+    to.ties.overwrite(from.ties.as_slice());
+}
+
+// Writes paths over others, each as long.
+fn overwrite_paths(to: &mut [Seq<Place>], from: &[Seq<Place>])
+    requires many { length to.old ≡ length from.now }
+    requires long { (s : ℕ) → s < length from.now →
+        length (slice_index_or to.old s []) ≡ length (slice_index_or from.now s []) }
+    ensures { to.new ≡ from.now }
+{
+    for at in 0..from.len() {
+        to[at].overwrite(from[at].as_slice());
+    }
+}
+
+/// Writes the routes of a network over others.
+pub(crate) fn overwrite_routes(alloc: Global, to: &mut Routes, net: &Net, from: &Routes)
+    requires to { AreRoutes net.now to.old }
+    requires from { AreRoutes net.now from.now }
+    ensures { to.new ≡ from.now }
+{
+    let mut paths = mem::replace(&mut to.places, Seq::new(alloc)).into_vec();
+    overwrite_paths(&mut paths, from.places.as_slice());
+    to.places = Seq::from_vec(paths);
+}
