@@ -1,5 +1,5 @@
 -- Paths laid one after the other, each least through what those before it left.
-use Rattle.std.specs.Prelude.{◌≡◌, ℕ, ◌<◌, Bool, nat_eq, List, take, slice_get, Option, Some, ⊥}
+use Rattle.std.specs.Prelude.{◌≡◌, ℕ, ◌<◌, Bool, nat_eq, List, take, slice_get, Option, Some}
 use Rattle.std.specs.Prelude.{option_and_then}
 use Rattle.std.specs.List.{list_any}
 use Rattle.pra_base.specs.declared.ids.Place.{Place}

@@ -1,0 +1,4 @@
+pub mod SettleMarks
+pub mod SettlePasses
+pub mod SettleRows
+pub mod SettleStrand
