@@ -1,4 +1,6 @@
+pub mod SettleIndex
 pub mod SettleMarks
 pub mod SettlePasses
 pub mod SettleRows
 pub mod SettleStrand
+pub mod SettleSums

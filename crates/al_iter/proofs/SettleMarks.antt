@@ -2,7 +2,9 @@
 use Rattle.std.proofs.Common.{ℕ, ◌≡◌, ◌≢◌, ◌+◌, ◌<◌, Bool, true, false, not, cond, List, [], ◌∷◌}
 use Rattle.std.proofs.Common.{length, filter, sum_by, refl, ap, ◌∙◌, arith}
 use Rattle.std.proofs.Common.{inl, inr}
-use Rattle.std.specs.List.{range_with_len}
+use Rattle.std.proofs.Common.{take, drop, get_or}
+use Rattle.std.specs.Prelude.{◌||◌}
+use Rattle.std.specs.List.{range_with_len, AllPairs}
 use Rattle.std.proofs.lemmas.Bool.{cases_eq, eq-eqb, ne_eqb}
 use Rattle.std.proofs.lemmas.List.Sums.{sum_by-cons}
 use Rattle.net_form.specs.declared.net.Net.{Net}
@@ -14,6 +16,8 @@ use Rattle.net_form.specs.InUse.{StandsFor, UsesOnce, Takes, Releases, pair_at}
 use Rattle.net_dual.specs.Paths.{path_edges, path_in}
 use Rattle.al_laws.specs.Parts.{part, rest, only_strand, AgreeBut}
 use Rattle.al_laws.proofs.Parts.{path_sum, own_sum, part_sum, flow_sum, sum_only, rest_agrees}
+use Rattle.al_iter.specs.SettleState.{among}
+use Rattle.al_iter.proofs.SettleSums.{among_take, among_drop, take_apart, drop_apart}
 
 -- the second test holds of strand s too, and else the two are the same
 pub record IsOneMore (s : ℕ) (f g : ℕ → Bool) : Type 0 where
@@ -145,3 +149,39 @@ marks_agree net mine one two a b agree taken stands = record {
       let was = stands.pairs k in_ in
       omega (arith, same, was);
 }
+
+-- ---- several strands, one after the other
+
+either_same : (a b : Bool) → b ≡ false → (a || b) ≡ a
+either_same true b h = refl
+either_same false b h = h
+
+either_true : (a b : Bool) → b ≡ true → (a || b) ≡ true
+either_true true b h = refl
+either_true false b h = h
+
+module _ (strands : List ℕ) (i : ℕ) (rising : AllPairs (λ s r. s < r) strands)
+    (lt : i < length strands) where
+  -- the first i are out, and one more
+  pub one_out_more : IsOneMore (get_or strands i 0) (λ s. not (among (take (i + 1) strands) s))
+      (λ s. not (among (take i strands) s))
+  one_out_more = record {
+    without = ap not (among_take strands i (get_or strands i 0) lt
+        ∙ either_true (among (take i strands) (get_or strands i 0)) _
+        (eq-eqb (get_or strands i 0) (get_or strands i 0) refl));
+    with_it = ap not (take_apart strands i rising lt);
+    others = λ r other. ap not (among_take strands i r lt
+        ∙ either_same (among (take i strands) r) _ (ne_eqb r (get_or strands i 0) other));
+  }
+
+  -- all from number i on are out, or one less
+  pub one_in_more : IsOneMore (get_or strands i 0) (λ s. not (among (drop i strands) s))
+      (λ s. not (among (drop (i + 1) strands) s))
+  one_in_more = record {
+    without = ap not (among_drop strands i (get_or strands i 0) lt
+        ∙ ap (λ b. b || among (drop (i + 1) strands) (get_or strands i 0))
+        (eq-eqb (get_or strands i 0) (get_or strands i 0) refl));
+    with_it = ap not (drop_apart strands i rising lt);
+    others = λ r other. ap not (among_drop strands i r lt
+        ∙ ap (λ b. b || among (drop (i + 1) strands) r) (ne_eqb r (get_or strands i 0) other));
+  }

@@ -14,3 +14,4 @@ mod settle_passes;
 mod settle_price;
 mod settle_rows;
 mod settle_strand;
+mod settle_strands;
