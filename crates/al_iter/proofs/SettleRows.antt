@@ -9,10 +9,12 @@ use Rattle.pra_list.proofs.Elements.{length_set}
 use Rattle.net_form.specs.declared.net.Net.{Net}
 use Rattle.net_form.specs.declared.routes.Routes.{Routes}
 use Rattle.net_form.specs.Flow.{AreRoutes}
-use Rattle.net_form.specs.Admitted.{strand_at}
+use Rattle.net_form.specs.Admitted.{strand_at, no_strand}
+use Rattle.net_form.specs.Formed.{IsFormed}
 use Rattle.net_form.proofs.RoutesConserve.{as_many}
 use Rattle.net_dual.specs.Paths.{path_in}
 use Rattle.net_dual.proofs.Strands.{each_long, has_places}
+use Rattle.net_path.specs.Desk.{HasSizes}
 use Rattle.al_laws.specs.Parts.{with_path}
 
 module _ (net : Net) (routes : Routes) (has : AreRoutes net routes) (s : ℕ)
@@ -43,3 +45,20 @@ module _ (net : Net) (routes : Routes) (has : AreRoutes net routes) (s : ℕ)
             ≡ (strand_at net r).last + 1) (sym (elsewhere ps r other))
             (each_long net routes has r r_lt)
       ])
+
+-- a place for each layer of each strand, said in two ways
+module _ (net : Net) (formed : IsFormed net) (routes : Routes) where
+  pub sizes_routes : HasSizes net routes → AreRoutes net routes
+  sizes_routes sizes = has_places net.strands routes.places sizes.many (λ s lt.
+      let size = sizes.each s lt in
+      let masks = (formed.strands s no_strand lt).masks in
+      omega (arith, size, masks))
+
+  pub routes_sizes : AreRoutes net routes → HasSizes net routes
+  routes_sizes has = record {
+    many = as_many net.strands routes.places has;
+    each = λ s lt.
+        let long = each_long net routes has s lt in
+        let masks = (formed.strands s no_strand lt).masks in
+        omega (arith, long, masks);
+  }

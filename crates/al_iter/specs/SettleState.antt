@@ -33,9 +33,14 @@ pub record AreStrandsOf (net : Net) (v : ℕ) (strands : List ℕ) : Type 0 wher
   pub are : AreStrands net strands
   pub each : (s : ℕ) → s < length net.strands → of_variable net v s ≡ among strands s
 
--- admitted routes, and marked is what all but the strands of variable v use
-pub record IsAside (net : Net) (v : ℕ) (spare : Spare) (routes : Routes) : Type 0 where
+-- all strands of one variable
+pub record AreOfOne (net : Net) (strands : List ℕ) : Type 0 where
+  pub variable : ℕ
+  pub are : AreStrandsOf net variable strands
+
+-- admitted routes, and marked is what all strands but these use
+pub record IsAside (net : Net) (strands : List ℕ) (spare : Spare) (routes : Routes) : Type 0 where
   pub room : IsSpareOf net spare
   pub are_routes : AreRoutes net routes
   pub admitted : IsAdmitted net (flow net routes)
-  pub marked : StandsFor net spare.taken (rest net (of_variable net v) routes)
+  pub marked : StandsFor net spare.taken (rest net (among strands) routes)

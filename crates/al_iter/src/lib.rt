@@ -11,6 +11,7 @@
 #![tactic(auto)]
 
 mod settle_passes;
+mod settle_place;
 mod settle_price;
 mod settle_rows;
 mod settle_strand;
