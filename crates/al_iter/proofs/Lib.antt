@@ -6,3 +6,4 @@ pub mod SettleRows
 pub mod SettleShut
 pub mod SettleStrand
 pub mod SettleSums
+pub mod SettleVariable

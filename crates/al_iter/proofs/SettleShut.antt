@@ -17,16 +17,16 @@ use Rattle.net_form.specs.declared.net.Net.{Net}
 use Rattle.net_form.specs.declared.routes.Routes.{Routes}
 use Rattle.net_form.specs.declared.taken.Taken.{Taken}
 use Rattle.net_form.specs.Admitted.{strand_at, in_mask, layer_of}
-use Rattle.net_form.specs.InUse.{mark}
+use Rattle.net_form.specs.InUse.{mark, UsesNothing}
 use Rattle.net_form.specs.Flow.{Edge, edges}
-use Rattle.net_dual.specs.Paths.{path_in, path_edges}
+use Rattle.net_dual.specs.Paths.{MayGo, path_in}
 use Rattle.net_dual.specs.Priced.{total}
 use Rattle.net_dual.proofs.Totals.{total-agree, total-append}
 use Rattle.al_laws.specs.Settled.{tied_ends}
 use Rattle.al_laws.proofs.Ends.{held}
 use Rattle.al_iter.specs.SettleState.{among}
 use Rattle.al_iter.specs.SettleSums.{MayGoTied, PayAtLeast, IsDraft, IsShut, IsOpenAt, free_price}
-use Rattle.al_iter.specs.SettleSums.{sum_of}
+use Rattle.al_iter.specs.SettleSums.{sum_of, IsUntied}
 use Rattle.al_iter.proofs.SettleSums.{pays_something, is_among, of_each}
 
 -- ---- an edge of a path by its number
@@ -204,3 +204,26 @@ module _ (net : Net) (w : Weights) (taken : Taken) (strands : List ℕ) (p : Pla
     least = λ k d lt ps may. pays_something net w (get_or strands k d) ps;
     in_sum = total_positive (λ (s : ℕ). pos 0) strands (λ s. omega (arith, ints));
   }
+
+-- ---- a variable without ties
+
+untied_ends : (net : Net) (p q : Place) (s : ℕ) → IsUntied (strand_at net s)
+    → tied_ends net p s ≡ tied_ends net q s
+untied_ends net p q s untied = λ i. record {
+  first = (ap (λ o. cond (is_some o) (Some p) None) untied.entry
+      ∙ sym (ap (λ o. cond (is_some o) (Some q) None) untied.entry)) i;
+  last = (ap (λ o. cond (is_some o) (Some p) None) untied.exit
+      ∙ sym (ap (λ o. cond (is_some o) (Some q) None) untied.exit)) i;
+}
+
+-- what they pay at least for one place they pay at least for any
+pub pay_untied : (net : Net) (w : Weights) (taken : Taken) (strands : List ℕ) (p q : Place) (z : ℤ)
+    → All (λ s. IsUntied (strand_at net s)) strands → PayAtLeast net w taken strands q z
+    → PayAtLeast net w taken strands p z
+pay_untied net w taken strands p q z untied pay = record {
+  costs = pay.costs;
+  least = λ k d lt ps may. pay.least k d lt ps
+      (subst (λ ends. MayGo net ends (UsesNothing net taken) (get_or strands k d) ps)
+      (untied_ends net p q (get_or strands k d) (untied k d lt)) may);
+  in_sum = pay.in_sum;
+}

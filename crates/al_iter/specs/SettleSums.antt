@@ -1,9 +1,10 @@
 -- What the strands of a variable pay together, and what they pay at least.
-use Rattle.std.specs.Prelude.{◌≡◌, ℕ, ◌<◌, true, ℤ, ◌≤ℤ◌, List, length, slice_index, All, IsTrue}
+use Rattle.std.specs.Prelude.{◌≡◌, ℕ, ◌<◌, true, ℤ, ◌≤ℤ◌, List, length, slice_index, All, IsTrue, None}
 use Rattle.pra_base.specs.declared.ids.Place.{Place}
 use Rattle.pra_base.specs.Places.{number, allows, has_register, register_of}
 use Rattle.net_cost.specs.declared.weights.Weights.{Weights}
 use Rattle.net_form.specs.declared.net.Net.{Net}
+use Rattle.net_form.specs.declared.net.Strand.{Strand}
 use Rattle.net_form.specs.declared.routes.Routes.{Routes}
 use Rattle.net_form.specs.declared.taken.Taken.{Taken}
 use Rattle.net_form.specs.InUse.{mark, UsesNothing}
@@ -53,3 +54,8 @@ pub record IsOpenAt (net : Net) (taken : Taken) (s l : ℕ) (p : Place) : Type 0
   pub mask : IsTrue (allows (mask_at net s l) (number p))
   pub free : has_register (number p) ≡ true →
       mark taken.regs (layer_at net s l) (register_of (number p)) ≡ 0
+
+-- no tie at either end
+pub record IsUntied (t : Strand) : Type 0 where
+  pub entry : t.entry_group ≡ None
+  pub exit : t.exit_group ≡ None

@@ -16,3 +16,4 @@ mod settle_price;
 mod settle_rows;
 mod settle_strand;
 mod settle_strands;
+mod settle_variable;
