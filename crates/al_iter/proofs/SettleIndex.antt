@@ -1,11 +1,10 @@
 -- Where the index has the strands of a variable.
 use Rattle.std.proofs.Common.{ℕ, zero, suc, ◌≡◌, ◌≢◌, ◌+◌, ◌-◌, ◌<◌, ◌≤◌, Bool, true, false, cond}
-use Rattle.std.proofs.Common.{List, [], ◌∷◌, ◌++◌, length, get_or, take, drop, map, count_by, All}
-use Rattle.std.proofs.Common.{Some, None, refl, sym, ap, ◌∙◌, subst, inl, inr, arith, max}
+use Rattle.std.proofs.Common.{List, [], ◌∷◌, ◌++◌, length, get_or, take, drop, count_by, All}
+use Rattle.std.proofs.Common.{Some, None, refl, sym, ap, ◌∙◌, subst, inl, inr, arith}
 use Rattle.std.specs.Prelude.{nat_lt, nat_eq, ◌||◌, slice_range}
 use Rattle.std.specs.List.{range_with_len, enumerate_from, flat_map, filter_map, AllPairs}
-use Rattle.std.specs.List.{list_any}
-use Rattle.std.proofs.lemmas.Bool.{cases_Bool, cases_eq, eq-eqb, ne_eqb, eqb-true}
+use Rattle.std.proofs.lemmas.Bool.{cases_Bool, eq-eqb, ne_eqb}
 use Rattle.std.proofs.lemmas.Bool.Decides.{nat_tests}
 use Rattle.std.proofs.lemmas.Grind.{flat_map-append}
 use Rattle.std.proofs.lemmas.List.{length-append}
@@ -16,11 +15,10 @@ use Rattle.pra_list.proofs.Counts.{bit, count-cons, count-none}
 use Rattle.net_form.specs.declared.net.Net.{Net}
 use Rattle.net_form.specs.declared.net.NetIndex.{NetIndex}
 use Rattle.net_form.specs.declared.net.Strand.{Strand}
-use Rattle.net_form.specs.Admitted.{strand_at, no_strand}
+use Rattle.net_form.specs.Admitted.{no_strand}
 use Rattle.net_form.specs.Formed.{IsFormed}
-use Rattle.net_form.specs.Index.{items_of, by_owner, beginnings, var_count}
-use Rattle.al_laws.specs.Parts.{of_variable}
-use Rattle.al_iter.specs.SettleState.{among, AreStrands, AreStrandsOf}
+use Rattle.net_form.specs.Index.{var_count}
+use Rattle.al_iter.specs.SettleState.{among, AreStrandsOf}
 
 -- ---- the strands of one variable, counted from number n on
 

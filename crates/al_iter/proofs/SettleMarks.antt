@@ -1,11 +1,12 @@
 -- Marks of a part of the routes, with one strand more or less.
 use Rattle.std.proofs.Common.{ℕ, ◌≡◌, ◌≢◌, ◌+◌, ◌<◌, Bool, true, false, not, cond, List, [], ◌∷◌}
 use Rattle.std.proofs.Common.{length, filter, sum_by, refl, ap, ◌∙◌, arith}
-use Rattle.std.proofs.Common.{inl, inr}
+use Rattle.std.proofs.Common.{inl, inr, ◌⊎◌, ◌≤◌, sym}
 use Rattle.std.proofs.Common.{take, drop, get_or}
-use Rattle.std.specs.Prelude.{◌||◌}
+use Rattle.std.specs.Prelude.{◌||◌, nat_lt}
 use Rattle.std.specs.List.{range_with_len, AllPairs}
-use Rattle.std.proofs.lemmas.Bool.{cases_eq, eq-eqb, ne_eqb}
+use Rattle.std.proofs.lemmas.Bool.{cases_eq, cases_lt, eq-eqb, ne_eqb, lt-ltb, le-ltb}
+use Rattle.std.proofs.lemmas.List.FromFn.{length-range_with_len, get_or-range_with_len}
 use Rattle.std.proofs.lemmas.List.Sums.{sum_by-cons}
 use Rattle.net_form.specs.declared.net.Net.{Net}
 use Rattle.net_form.specs.declared.routes.Routes.{Routes}
@@ -16,6 +17,7 @@ use Rattle.net_form.specs.InUse.{StandsFor, UsesOnce, Takes, Releases, pair_at}
 use Rattle.net_dual.specs.Paths.{path_edges, path_in}
 use Rattle.al_laws.specs.Parts.{part, rest, only_strand, AgreeBut}
 use Rattle.al_laws.proofs.Parts.{path_sum, own_sum, part_sum, flow_sum, sum_only, rest_agrees}
+use Rattle.al_laws.proofs.Parts.{sum_by-agree}
 use Rattle.al_iter.specs.SettleState.{among}
 use Rattle.al_iter.proofs.SettleSums.{among_take, among_drop, take_apart, drop_apart}
 
@@ -184,4 +186,56 @@ module _ (strands : List ℕ) (i : ℕ) (rising : AllPairs (λ s r. s < r) stran
     with_it = ap not (drop_apart strands i rising lt);
     others = λ r other. ap not (among_drop strands i r lt
         ∙ ap (λ b. b || among (drop (i + 1) strands) r) (ne_eqb r (get_or strands i 0) other));
+  }
+
+-- ---- the strands of lower numbers
+
+abbrev pub below : ℕ → ℕ → Bool
+below n s = nat_lt s n
+
+none_below : (es : List Edge) → filter (λ e. below 0 e.strand) es ≡ []
+none_below [] = refl
+none_below (e ∷ es) = ap (λ b. cond b (e ∷ filter (λ e. below 0 e.strand) es)
+    (filter (λ e. below 0 e.strand) es)) (le-ltb e.strand 0 (omega arith)) ∙ none_below es
+
+pub part_none : (net : Net) (routes : Routes) → part net (below 0) routes ≡ []
+part_none net routes = none_below (flow net routes)
+
+pub one_below_more : (s : ℕ) → IsOneMore s (below s) (below (s + 1))
+one_below_more s = record {
+  without = le-ltb s s (omega arith);
+  with_it = lt-ltb s (s + 1) (omega arith);
+  others = λ r other. either r other (cases_lt r s);
+}
+  where
+    either : (r : ℕ) → r ≢ s → (r < s) ⊎ (s ≤ r) → below s r ≡ below (s + 1) r
+    either r other (inl lt) = lt-ltb r s lt ∙ sym (lt-ltb r (s + 1) (omega (arith, lt)))
+    either r other (inr le) = le-ltb r s le ∙ sym (le-ltb r (s + 1) (omega (arith, le, other)))
+
+module _ (net : Net) (routes : Routes) (has : AreRoutes net routes) (n : ℕ)
+    (all : length net.strands ≤ n) where
+  sum_below : (h : Edge → ℕ) → sum_by h (part net (below n) routes) ≡ sum_by h (flow net routes)
+  sum_below h = part_sum net routes has (below n) h
+      ∙ sum_by-agree (λ s. cond (below n s) (path_sum net h routes s) 0)
+      (λ s. cond (everyone s) (path_sum net h routes s) 0) (range_with_len 0 (length net.strands))
+      (λ k d lt.
+      let long = length-range_with_len 0 (length net.strands) in
+      let in_ : k < length net.strands = omega (arith, lt, long) in
+      let at = get_or-range_with_len 0 (length net.strands) k d in_ in
+      let s = get_or (range_with_len 0 (length net.strands)) k d in
+      ap (λ b. cond b (path_sum net h routes s) 0) (lt-ltb s n (omega (arith, at, in_, all))))
+      ∙ sym (part_sum net routes has everyone h)
+      ∙ ap (sum_by h) (part_all net routes)
+
+  pub all_below : (t : Taken) → StandsFor net t (part net (below n) routes)
+      → StandsFor net t (flow net routes)
+  all_below t stands = record {
+    registers = λ m r.
+        let same = sum_below (λ e. cond (uses_bundle net m r e) 1 0) in
+        let was = stands.registers m r in
+        omega (arith, same, was);
+    pairs = λ k in_.
+        let same = sum_below (λ e. cond (uses_memory (pair_at net k) e) 1 0) in
+        let was = stands.pairs k in_ in
+        omega (arith, same, was);
   }

@@ -1,6 +1,6 @@
 -- What a path needs at its tied ends, and what those pay who have no such path.
-use Rattle.std.proofs.Common.{ℕ, zero, suc, ◌≡◌, ◌≢◌, ◌+◌, ◌-◌, ◌<◌, ◌≤◌, Bool, true, false, cond}
-use Rattle.std.proofs.Common.{ℤ, pos, ◌+ℤ◌, ◌≤ℤ◌, List, [], ◌∷◌, ◌++◌, length, get_or, take, drop, All}
+use Rattle.std.proofs.Common.{ℕ, zero, suc, ◌≡◌, ◌+◌, ◌-◌, ◌<◌, ◌≤◌, Bool, true, false, cond}
+use Rattle.std.proofs.Common.{ℤ, pos, ◌≤ℤ◌, List, [], ◌∷◌, length, get_or, take, drop, All}
 use Rattle.std.proofs.Common.{Option, None, Some, refl, sym, ap, ◌∙◌, subst, arith, inl, inr}
 use Rattle.std.specs.Prelude.{slice_get, is_some, nat_eq, IsTrue}
 use Rattle.std.proofs.lemmas.Int.{ints}
@@ -52,8 +52,7 @@ at_edge P s l o (q ∷ qs) zero all lt = (
 at_edge P s l o (q ∷ qs) (suc k) all lt =
     let more = at_edge P s (suc l) (Some q) qs k
     (All-tail P (record { strand = s; layer = l; from = o; to = q }) (edges s (suc l) (Some q) qs)
-    all) (omega (arith, lt)) in
-    (
+    all) (omega (arith, lt)) in (
       more.0,
       subst (λ n. P (record { strand = s; layer = n; from = more.0; to = get_or qs k Mem }))
           (let e : suc l + k ≡ l + suc k = omega arith in e) more.1,

@@ -1,25 +1,21 @@
 -- Sums over the strands of a variable.
-use Rattle.std.proofs.Common.{ℕ, zero, suc, ◌≡◌, ◌≢◌, ◌+◌, ◌*◌, ◌<◌, ◌≤◌, Bool, true, false, not, cond}
-use Rattle.std.proofs.Common.{ℤ, pos, ◌≤ℤ◌, ◌<ℤ◌, ◌+ℤ◌, List, [], ◌∷◌, ◌++◌, length, get_or, All}
-use Rattle.std.proofs.Common.{sum_by, take, drop, eqb, refl, sym, ap, ◌∙◌, subst, arith, inl, inr}
+use Rattle.std.proofs.Common.{ℕ, zero, suc, ◌≡◌, ◌+◌, ◌<◌, Bool, true, false}
+use Rattle.std.proofs.Common.{ℤ, pos, ◌≤ℤ◌, ◌+ℤ◌, List, [], ◌∷◌, length, get_or, All}
+use Rattle.std.proofs.Common.{take, drop, eqb, refl, sym, ap, ◌∙◌, subst, arith, inl, inr}
 use Rattle.std.specs.Prelude.{◌||◌, nat_eq}
 use Rattle.std.specs.List.{range_with_len, AllPairs}
 use Rattle.std.proofs.lemmas.Int.{ints}
-use Rattle.std.proofs.lemmas.Bool.{cases_Bool, cases_eq, cases_lt, eq-eqb, ne_eqb, eqb-true}
+use Rattle.std.proofs.lemmas.Bool.{cases_eq, eq-eqb, ne_eqb, eqb-true}
 use Rattle.std.proofs.lemmas.List.FromFn.{length-range_with_len, get_or-range_with_len}
 use Rattle.pra_base.specs.declared.ids.Place.{Place}
 use Rattle.net_cost.specs.declared.weights.Weights.{Weights}
 use Rattle.net_form.specs.declared.net.Net.{Net}
-use Rattle.net_form.specs.declared.routes.Routes.{Routes}
-use Rattle.net_dual.specs.Paths.{path_in}
 use Rattle.net_dual.specs.Priced.{total, pay, cost_by_weights}
 use Rattle.net_dual.proofs.FreeBound.{free_path}
-use Rattle.net_dual.proofs.Totals.{total-add, total-agree, total-nothing, total-le, look-up-from}
-use Rattle.net_dual.proofs.Totals.{total-append}
+use Rattle.net_dual.proofs.Totals.{total-add, total-agree, total-nothing, look-up-from}
 use Rattle.al_laws.specs.Parts.{of_variable}
-use Rattle.al_laws.specs.Settled.{variable_price}
-use Rattle.al_iter.specs.SettleState.{among, AreStrands, AreStrandsOf}
-use Rattle.al_iter.specs.SettleSums.{free_price, sum_of}
+use Rattle.al_iter.specs.SettleState.{among, AreStrandsOf}
+use Rattle.al_iter.specs.SettleSums.{free_price}
 use Rattle.al_iter.proofs.SettleIndex.{none_among}
 
 -- ---- what a strand pays

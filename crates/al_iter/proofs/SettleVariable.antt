@@ -1,11 +1,11 @@
 -- Other paths for the strands of a variable, put past the marks of all others.
-use Rattle.std.proofs.Common.{ℕ, ◌≡◌, ◌≢◌, ◌+◌, ◌*◌, ◌<◌, ◌≤◌, Bool, true, false, not, cond, List, []}
-use Rattle.std.proofs.Common.{length, get_or, take, ℤ, pos, ◌≤ℤ◌, ◌<ℤ◌, sum_by, refl, sym, ap, ◌∙◌}
-use Rattle.std.proofs.Common.{subst, arith, inl, inr, All}
+use Rattle.std.proofs.Common.{ℕ, ◌≡◌, ◌+◌, ◌*◌, ◌<◌, Bool, true, false, not, cond, List, []}
+use Rattle.std.proofs.Common.{length, get_or, take, pos, ◌≤ℤ◌, ◌<ℤ◌, sum_by, refl, sym, ap, ◌∙◌}
+use Rattle.std.proofs.Common.{arith, inl, inr, All}
 use Rattle.std.specs.Prelude.{◌||◌, nat_eq}
 use Rattle.std.specs.List.{range_with_len}
 use Rattle.std.proofs.lemmas.Int.{ints}
-use Rattle.std.proofs.lemmas.Bool.{cases_Bool, cases_eq, cases_lt, eq-eqb, ne_eqb}
+use Rattle.std.proofs.lemmas.Bool.{cases_eq, cases_lt, eq-eqb, ne_eqb}
 use Rattle.std.proofs.lemmas.List.{get_or_past, take_all}
 use Rattle.std.proofs.lemmas.List.FromFn.{length-range_with_len, get_or-range_with_len}
 use Rattle.pra_base.specs.declared.ids.Place.{Place}
@@ -17,17 +17,16 @@ use Rattle.net_form.specs.Admitted.{IsAdmitted, uses_bundle, uses_memory}
 use Rattle.net_form.specs.Cost.{cost_of}
 use Rattle.net_form.specs.Flow.{Edge, flow, AreRoutes}
 use Rattle.net_form.specs.InUse.{StandsFor, pair_at}
-use Rattle.net_form.specs.Rooms.{zero_prices}
 use Rattle.net_form.specs.Tables.{all_tables}
 use Rattle.net_form.proofs.EdgeCosts.{cost_by_edges}
 use Rattle.net_form.proofs.RoutesConserve.{as_many}
 use Rattle.net_form.proofs.TakenFlows.{apart_from_nothing, nothing_from_apart}
 use Rattle.net_laws.specs.Built.{IsBuilt}
 use Rattle.net_dual.specs.Paths.{path_edges, path_in}
-use Rattle.net_dual.specs.Priced.{total, pay, edge_price, cost_by_weights}
+use Rattle.net_dual.specs.Priced.{pay, cost_by_weights}
 use Rattle.net_dual.proofs.FreeBound.{free_path}
 use Rattle.net_dual.proofs.Totals.{total-agree, total-scale}
-use Rattle.al_laws.specs.Parts.{part, rest, of_variable, with_path, AgreeBut}
+use Rattle.al_laws.specs.Parts.{rest, of_variable, with_path, AgreeBut}
 use Rattle.al_laws.specs.Settled.{variable_price, NoneCheaperAt}
 use Rattle.al_laws.proofs.Parts.{path_sum, own_sum, part_sum, flow_sum, rest_agrees, sum_by-agree}
 use Rattle.al_laws.proofs.Parts.{numbers}
@@ -256,8 +255,8 @@ module _ (net : Net) (built : IsBuilt net) (strands : List ℕ) (one : AreOfOne 
       let v = one.variable in
       let marks = marks_of_variable net w strands one routes has t stands in
       let goes_ : (s : ℕ) → s < length net.strands → of_variable net v s ≡ true
-          → MayGoTied net t p s (path_in new s)
-          = λ s lt is. may s (sym (one.are.each s lt) ∙ is) in
+      → MayGoTied net t p s (path_in new s)
+      = λ s lt is. may s (sym (one.are.each s lt) ∙ is) in
       variable_put net built v routes new has goes agree_of_variable p a
       (λ s lt is. (goes_ s lt is).has_ends) (λ s lt is. (goes_ s lt is).path)
       (λ s lt is. apart_from_nothing net t (path_edges net s (path_in new s))

@@ -17,3 +17,5 @@ mod settle_rows;
 mod settle_strand;
 mod settle_strands;
 mod settle_variable;
+
+pub use settle_passes::settle;

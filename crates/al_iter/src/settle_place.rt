@@ -116,7 +116,15 @@ fn draft_strand<F: Fn(Event, u32) -> u32>(
     ensures reserved { IsReservedFor net.now work.new }
 {
     let ends = tied_ends(net, strand, place);
-    match least(work, net, model, &spare.zero, strand as u32, ends, &spare.taken) {
+    match least(
+        work,
+        net,
+        model,
+        &spare.zero,
+        strand as u32,
+        ends,
+        &spare.taken,
+    ) {
         Err(_) => None,
         Ok(cost) => {
             write_path(net, &mut spare.routes, strand, work.path());

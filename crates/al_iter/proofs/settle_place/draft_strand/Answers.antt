@@ -1,4 +1,4 @@
-use Rattle.std.proofs.Common.{◌≡◌, ◌∙◌, List, length, ap, sym, subst, arith}
+use Rattle.std.proofs.Common.{◌≡◌, ◌∙◌, List, ap, sym, subst, arith}
 use Rattle.std.proofs.lemmas.Int.{ints}
 use Rattle.pra_base.specs.declared.ids.Place.{Place}
 use Rattle.net_cost.specs.Models.{weights_of}
@@ -9,10 +9,8 @@ use Rattle.net_form.specs.InUse.{UsesNothing}
 use Rattle.net_dual.specs.Paths.{MayGo, path_in, path_price}
 use Rattle.net_dual.specs.Priced.{edge_price}
 use Rattle.net_path.specs.Desk.{path_of}
-use Rattle.al_laws.specs.Parts.{with_path}
-use Rattle.al_laws.specs.Settled.{tied_ends}
 use Rattle.al_iter.specs.SettleSums.{MayGoTied, free_price}
-use Rattle.al_iter.proofs.SettleRows.{sizes_routes, routes_sizes, there, elsewhere}
+use Rattle.al_iter.proofs.SettleRows.{sizes_routes, routes_sizes, there}
 use Rattle.al_iter.proofs.settle_place.draft_strand.Goals as goal
 
 pub write_path-requires-clause-routes : goal.write_path-requires-clause-routes

@@ -1,11 +1,11 @@
-use Rattle.std.proofs.Common.{◌≡◌, ◌<◌, ◌≤◌, ◌+◌, ◌≤ℤ◌, ℕ, ℤ, List, length, get_or, take, Some, ap, ◌∙◌}
-use Rattle.std.proofs.Common.{sym, subst, refl, arith, Option, IfSome, slice_index}
+use Rattle.std.proofs.Common.{◌≡◌, ◌<◌, ◌≤◌, ◌+◌, ℕ, ℤ, length, get_or, ap, ◌∙◌}
+use Rattle.std.proofs.Common.{sym, subst, arith, Option, IfSome}
 use Rattle.std.proofs.lemmas.Int.{ints}
 use Rattle.std.proofs.lemmas.List.{get_or_default}
 use Rattle.net_cost.specs.Models.{weights_of}
 use Rattle.net_form.specs.declared.taken.Taken.{Taken}
 use Rattle.net_dual.specs.Paths.{path_in}
-use Rattle.al_iter.specs.SettleSums.{IsDraft, MayGoTied, free_price, sum_of}
+use Rattle.al_iter.specs.SettleSums.{IsDraft, MayGoTied, free_price}
 use Rattle.al_iter.proofs.SettleDraft.{drafts_more, sum_more}
 use Rattle.std.specs.Prelude.{is_some}
 use Rattle.al_iter.proofs.SettleShut.{shut_pay, pay_partly}
@@ -38,8 +38,16 @@ loop-at-preserved g c =
           c.args.spare.now.taken c.args.place inv.drafts draft;
       sum = omega (arith, ints, sum, cost, inv.sum, inv.least, inv.less, some, c.requires.most);
       least = omega (arith, ints, cost, inv.least, inv.less, some, c.requires.most);
-      less = omega (arith, ints, cost, inv.least, inv.less, some, c.requires.most,
-          c.if-total-price.false);
+      less = omega (
+        arith,
+        ints,
+        cost,
+        inv.least,
+        inv.less,
+        some,
+        c.requires.most,
+        c.if-total-price.false,
+      );
       family = now.family ∙ inv.family;
       reserved = now.reserved;
     }
@@ -82,8 +90,18 @@ returns-then-total-price-clause-none g c = λ _.
     (omega (arith, lt))
     (drafts_more net w strands c.requires.strands old new i lt now.others
     c.args.spare.now.taken c.args.place inv.drafts draft)
-    (omega (arith, ints, sum, cost, inv.sum, inv.least, inv.less, some, c.requires.most,
-    c.if-total-price.true))
+    (omega (
+      arith,
+      ints,
+      sum,
+      cost,
+      inv.sum,
+      inv.least,
+      inv.less,
+      some,
+      c.requires.most,
+      c.if-total-price.true,
+    ))
 
 pub returns-clause-drafts : goal.returns-clause-drafts
 returns-clause-drafts g c = λ _ k d lt.

@@ -1,4 +1,4 @@
-use Rattle.std.proofs.Common.{◌≡◌, ◌<◌, ◌≤◌, ◌+◌, List, ℕ, length, get_or, ap, ◌∙◌, sym, subst, arith}
+use Rattle.std.proofs.Common.{◌+◌, List, ℕ, length, get_or, ap, ◌∙◌, sym, subst, arith}
 use Rattle.std.specs.Prelude.{slice_range}
 use Rattle.al_iter.specs.SettleState.{AreStrandsOf}
 use Rattle.al_iter.proofs.SettleIndex.{vars_begin, vars_are, vars_rise, vars_within, are_strands_of}

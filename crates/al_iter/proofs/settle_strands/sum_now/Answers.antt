@@ -1,4 +1,4 @@
-use Rattle.std.proofs.Common.{◌≡◌, ◌<◌, ◌+◌, ◌*◌, ◌^◌, ℤ, List, length, get_or, take, ap, ◌∙◌, arith}
+use Rattle.std.proofs.Common.{◌≡◌, ◌<◌, List, length, get_or, ap, ◌∙◌, arith}
 use Rattle.std.proofs.lemmas.Int.{ints}
 use Rattle.pra_base.specs.declared.ids.Place.{Place}
 use Rattle.net_cost.specs.Models.{weights_of}
@@ -21,10 +21,31 @@ loop-at-preserved g c =
     ∙ ap (λ (ps : List Place). free_price net w s ps) c.path_at.ensures.path in
     let inv = c.loop-at.invariant in
     record {
-      value = omega (arith, ints, more, price, inv.value, inv.least, inv.most,
-          c.price_now.ensures.least, c.price_now.ensures.most);
-      least = omega (arith, ints, inv.least, inv.most, c.price_now.ensures.least,
-          c.price_now.ensures.most);
-      most = omega (arith, ints, inv.least, inv.most, c.price_now.ensures.least,
-          c.price_now.ensures.most);
+      value = omega (
+        arith,
+        ints,
+        more,
+        price,
+        inv.value,
+        inv.least,
+        inv.most,
+        c.price_now.ensures.least,
+        c.price_now.ensures.most,
+      );
+      least = omega (
+        arith,
+        ints,
+        inv.least,
+        inv.most,
+        c.price_now.ensures.least,
+        c.price_now.ensures.most,
+      );
+      most = omega (
+        arith,
+        ints,
+        inv.least,
+        inv.most,
+        c.price_now.ensures.least,
+        c.price_now.ensures.most,
+      );
     }

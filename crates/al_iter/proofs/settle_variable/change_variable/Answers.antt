@@ -1,4 +1,4 @@
-use Rattle.std.proofs.Common.{◌≡◌, ◌∙◌, sym, subst, arith}
+use Rattle.std.proofs.Common.{arith}
 use Rattle.std.proofs.lemmas.Int.{ints}
 use Rattle.net_cost.specs.Models.{weights_of}
 use Rattle.al_iter.specs.SettleState.{AreOfOne}
@@ -11,8 +11,14 @@ pub returns-then-price-eq0-clause-settled : goal.returns-then-price-eq0-clause-s
 returns-then-price-eq0-clause-settled g c = λ _ p.
     nothing_at c.args.net.now (weights_of c.args.model.now) c.strands_of-strands.result.now
     c.args.var c.args.routes.now c.strands_of-strands.ensures
-    (omega (arith, ints, c.if-price-eq0.true, c.sum_now-price.ensures.value,
-    c.sum_now-price.ensures.least, c.sum_now-price.ensures.most)) p
+    (omega (
+      arith,
+      ints,
+      c.if-price-eq0.true,
+      c.sum_now-price.ensures.value,
+      c.sum_now-price.ensures.least,
+      c.sum_now-price.ensures.most,
+    )) p
 
 pub returns-then-least-price-clause-state : goal.returns-then-least-price-clause-state
 returns-then-least-price-clause-state g c =
@@ -42,8 +48,17 @@ returns-then-least-price-clause-lower g c = λ _.
     let positive = sum_positive net w new strands in
     lower_cost net w strands one old new has now.aside.are_routes
     (agree_of_variable net c.requires.net strands one old new has now.aside.are_routes now.others)
-    (omega (arith, ints, c.if-least-price.true, now.price, now.less, positive,
-    c.sum_now-price.ensures.value, c.sum_now-price.ensures.least, c.sum_now-price.ensures.most))
+    (omega (
+      arith,
+      ints,
+      c.if-least-price.true,
+      now.price,
+      now.less,
+      positive,
+      c.sum_now-price.ensures.value,
+      c.sum_now-price.ensures.least,
+      c.sum_now-price.ensures.most,
+    ))
 
 pub returns-clause-state : goal.returns-clause-state
 returns-clause-state g c =
@@ -66,8 +81,16 @@ returns-clause-same g c = λ _.
     let now = c.try_places-least.ensures in
     let positive = sum_positive net w c.try_places-least.new.routes
     c.strands_of-strands.result.now in
-    now.same (omega (arith, ints, c.if-least-price.false, now.price, now.less, positive,
-    c.sum_now-price.ensures.least, c.sum_now-price.ensures.most))
+    now.same (omega (
+      arith,
+      ints,
+      c.if-least-price.false,
+      now.price,
+      now.less,
+      positive,
+      c.sum_now-price.ensures.least,
+      c.sum_now-price.ensures.most,
+    ))
 
 pub returns-clause-settled : goal.returns-clause-settled
 returns-clause-settled g c = λ _ p.
@@ -81,6 +104,15 @@ returns-clause-settled g c = λ _ p.
     none_at net w strands one c.args.routes.now c.requires.state.are_routes
     c.release_paths.new.taken c.release_paths.ensures.marked p
     (pay_less net w c.release_paths.new.taken strands p _ c.try_places-least.result
-    (omega (arith, ints, c.if-least-price.false, now.price, now.less, positive,
-    c.sum_now-price.ensures.value, c.sum_now-price.ensures.least, c.sum_now-price.ensures.most))
+    (omega (
+      arith,
+      ints,
+      c.if-least-price.false,
+      now.price,
+      now.less,
+      positive,
+      c.sum_now-price.ensures.value,
+      c.sum_now-price.ensures.least,
+      c.sum_now-price.ensures.most,
+    ))
     (now.least p))

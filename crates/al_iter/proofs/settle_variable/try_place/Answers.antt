@@ -2,10 +2,8 @@ use Rattle.std.proofs.Common.{◌≡◌, ℕ, true, List, pos, refl, sym, subst,
 use Rattle.pra_base.specs.declared.ids.Place.{Place}
 use Rattle.std.proofs.lemmas.Int.{ints}
 use Rattle.net_cost.specs.Models.{weights_of}
-use Rattle.net_form.specs.declared.routes.Routes.{Routes}
 use Rattle.net_form.specs.declared.taken.Taken.{Taken}
 use Rattle.net_form.specs.InUse.{StandsFor}
-use Rattle.net_dual.specs.Paths.{path_in}
 use Rattle.al_laws.specs.Parts.{rest}
 use Rattle.al_iter.specs.SettleState.{among}
 use Rattle.al_iter.specs.SettleSums.{MayGoTied, IsDraft}
@@ -78,8 +76,15 @@ returns-clause-price g c =
     let draft = c.draft_strands-draft.new.spare.routes in
     let positive = sum_positive net w draft strands in
     let same = sum_same net w c.write_paths.new.routes draft strands c.write_paths.ensures.mine in
-    omega (arith, ints, positive, same, c.in-Some.ensures.sum, c.in-Some.ensures.less,
-    c.requires.most)
+    omega (
+      arith,
+      ints,
+      positive,
+      same,
+      c.in-Some.ensures.sum,
+      c.in-Some.ensures.less,
+      c.requires.most,
+    )
 
 pub returns-clause-least : goal.returns-clause-least
 returns-clause-least g c =

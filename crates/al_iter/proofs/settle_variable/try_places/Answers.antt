@@ -1,4 +1,4 @@
-use Rattle.std.proofs.Common.{◌≡◌, ◌<◌, ℕ, ◌∙◌, sym, subst, arith, inl, inr}
+use Rattle.std.proofs.Common.{◌≡◌, ◌∙◌, sym, subst, arith, inl, inr}
 use Rattle.std.proofs.lemmas.Int.{ints}
 use Rattle.std.proofs.lemmas.Bool.{cases_eq}
 use Rattle.pra_base.specs.declared.ids.Place.{Place}
@@ -41,10 +41,26 @@ loop-number-preserved g c =
       ];
       less = omega (arith, ints, now.price, now.less, inv.less, positive, c.requires.most);
       same = λ e.
-          now.same (omega (arith, ints, e, now.price, now.less, inv.less, positive,
-          c.requires.most))
-          ∙ inv.same (omega (arith, ints, e, now.price, now.less, inv.less, positive,
-          c.requires.most));
+          now.same (omega (
+            arith,
+            ints,
+            e,
+            now.price,
+            now.less,
+            inv.less,
+            positive,
+            c.requires.most,
+          ))
+          ∙ inv.same (omega (
+            arith,
+            ints,
+            e,
+            now.price,
+            now.less,
+            inv.less,
+            positive,
+            c.requires.most,
+          ));
       others = λ s apart. now.others s apart ∙ inv.others s apart;
       family = now.family ∙ inv.family;
       reserved = now.reserved;
