@@ -3,4 +3,13 @@ pub mod ByCost
 pub mod EachOnce
 pub mod LaidNext
 pub mod SameUses
+pub mod SettleDraft
+pub mod SettleIndex
+pub mod SettleMarks
+pub mod SettlePasses
+pub mod SettleRows
+pub mod SettleShut
+pub mod SettleStrand
+pub mod SettleSums
+pub mod SettleVariable
 pub mod Unused

@@ -1,2 +1,5 @@
 pub mod Costs
 pub mod LaidSoFar
+pub mod Room
+pub mod SettleState
+pub mod SettleSums

@@ -1,5 +1,7 @@
 //! The iterative allocator: strands are laid one after the other, each the cheapest way that those
-//! before it left.
+//! before it left, and then changed one at a time as long as that pays.
+//!
+//! # Laying
 //!
 //! [`priced_order`] says who goes first for a plan, which gives each tie group its place: who pays
 //! most, if nobody else were there. [`lay`] then goes through an order strand by strand. Each takes
@@ -16,10 +18,26 @@
 //!
 //! [`lay_in`] is the same in a room that is there already: it takes no memory but that of its
 //! answer.
+//!
+//! # Settling
+//!
+//! To settle routes is to change them until nothing is left to gain by changing one thing alone: no
+//! strand has a cheaper path that keeps its places at the entry and the exit of its block, and no
+//! variable has cheaper paths that are at one place wherever it is tied. What is in use is kept as
+//! marks, so no change looks at the whole: whoever is asked is released, asked for a least path
+//! past all others, and marked again where it goes then.
 #![tactic(auto)]
 
 mod laying;
 mod order;
+mod settle_passes;
+mod settle_place;
+mod settle_price;
+mod settle_rows;
+mod settle_strand;
+mod settle_strands;
+mod settle_variable;
 
 pub use laying::{LayFault, lay, lay_in};
 pub use order::priced_order;
+pub use settle_passes::settle;

@@ -1,0 +1,22 @@
+use Rattle.std.proofs.Common.{◌≡◌, ◌<◌, ◌≤◌, ℕ, IsTrue, IsFalse}
+use Rattle.net_cost.specs.Models.{weights_of}
+use Rattle.net_form.specs.Cost.{cost_of}
+use Rattle.net_form.specs.Flow.{flow}
+use Rattle.net_path.specs.Desk.{IsReservedFor}
+use Rattle.al_laws.specs.Settled.{NoneCheaper}
+use Rattle.al_iter.specs.SettleState.{IsKept}
+use Rattle.al_iter.proofs.settle_passes.change_strands.Given as goal
+
+abbrev pub invariant-loop-strand : goal.invariant-loop-strand
+invariant-loop-strand g l = record {
+  state : IsKept l.net l.spare l.routes;
+  most : cost_of l.net (weights_of l.model) (flow l.net l.routes)
+      ≤ cost_of l.net (weights_of l.model) (flow l.net l.initial.routes);
+  lower : IsTrue l.changed → cost_of l.net (weights_of l.model) (flow l.net l.routes)
+      < cost_of l.net (weights_of l.model) (flow l.net l.initial.routes);
+  same : IsFalse l.changed → l.routes ≡ l.initial.routes;
+  settled : IsFalse l.changed → (s : ℕ) → s < l.strand
+      → NoneCheaper l.net (weights_of l.model) l.routes s;
+  family : l.work.family ≡ l.initial.work.family;
+  reserved : IsReservedFor l.net l.work;
+}

@@ -1,0 +1,12 @@
+use Rattle.std.proofs.Common.{drop}
+use Rattle.net_form.specs.InUse.{StandsFor}
+use Rattle.net_form.specs.Rooms.{IsRoomOf}
+use Rattle.al_laws.specs.Parts.{rest}
+use Rattle.al_iter.specs.SettleState.{among}
+use Rattle.al_iter.proofs.settle_strands.take_paths.Given as goal
+
+abbrev pub invariant-loop-at : goal.invariant-loop-at
+invariant-loop-at l = record {
+  room : IsRoomOf l.net l.taken;
+  marked : StandsFor l.net l.taken (rest l.net (among (drop l.at l.strands)) l.routes);
+}
