@@ -1,7 +1,9 @@
 pub mod Bounds
 pub mod Chain
+pub mod EmptyRoom
 pub mod Granted
 pub mod Grown
 pub mod LinesGrown
+pub mod NextRound
 pub mod OneShape
 pub mod RoundsGrown

@@ -58,7 +58,8 @@ module _ (net : Net) (w : Weights) (stages : List Stage) (t : Stage) where
       (above : last.bound ≤ line.bound) where
     -- of two lines one after the other the second is an old one, or the new one behind the last
     following : (P : Line → Line → Type 0) (k : ℕ) (l m : Line)
-        → slice_get (lines ++ line ∷ []) k ≡ Some l → slice_get (lines ++ line ∷ []) (suc k) ≡ Some m
+        → slice_get (lines ++ line ∷ []) k ≡ Some l
+        → slice_get (lines ++ line ∷ []) (suc k) ≡ Some m
         → (slice_get lines k ≡ Some l → slice_get lines (suc k) ≡ Some m → P l m) → P last line
         → P l m
     following P k l m one two both end = ⊎_elim

@@ -1,6 +1,7 @@
 pub mod Allocations
 pub mod Candidates
 pub mod Lines
+pub mod Rounds
 pub mod Stages
 pub mod Tried
 pub mod Watches

@@ -1,4 +1,5 @@
--- What a round tried by its prices: a greedy plan, the priced order, and what laying by them came to.
+-- What a round tried by its prices: a greedy plan, its priced order, and what laying by them came
+-- to.
 use Rattle.std.specs.Prelude.{ℕ, ◌≤◌, List}
 use Rattle.net_cost.specs.declared.weights.Weights.{Weights}
 use Rattle.net_form.specs.declared.net.Net.{Net}

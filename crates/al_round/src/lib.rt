@@ -1,19 +1,32 @@
 //! The allocator's rounds: after each there is a cost, which never rises, and a bound that no
 //! allocation beats.
 //!
-//! `specs/Stages` has the prices of rounds and the bounds that they give, `specs/Tried` what a round
-//! tried, `specs/Lines` what a line says, `specs/Watches` how many rounds are made, and
-//! `specs/Allocations` what is left at the end. Read them in this order. `laws` has what follows.
+//! [`start`](Rounds::start) begins with home routes and prices of nothing. Each
+//! [`round`](Rounds::round) changes the prices of registers, memory pairs and ties by how often a
+//! family of least paths wants them, and makes routes by these prices: a greedy plan for the ties,
+//! the strands in the order of what they pay, each laid through what those before it left. The
+//! cheapest routes seen are settled, so that no change of one strand or one variable makes them
+//! cheaper, and kept where they cost no more than those before. The Lagrange value of the prices
+//! bounds the cost of every admitted flow; the line of a round has the greatest one so far.
+//! [`grant`](Rounds::grant) makes so many rounds, or as many as a [`Watch`] wants.
+//!
+//! `specs/Stages` has the prices of rounds and the bounds that they give, `specs/Tried` what a
+//! round tried, `specs/Lines` what a line says, `specs/Watches` how many rounds are made, and
+//! `specs/Allocations` what is left at the end. Read them in this order. `specs/Rounds` says what
+//! one [`Rounds`] keeps, and `laws` has what follows. `specs/Candidates` is inner.
 #![tactic(auto)]
 
 mod allocation;
 mod copies;
+mod improving;
 pub mod laws;
+mod rounds;
 mod tried;
 mod trying;
 mod value;
 mod watch;
 
 pub use allocation::Allocation;
+pub use rounds::Rounds;
 pub use tried::{Outcome, Tried};
 pub use watch::{Verdict, Watch};

@@ -1,0 +1,251 @@
+// Rounds, and how they begin and go on.
+
+ghost use Rattle.std.specs.Prelude.{◌≡◌, ◌≤◌, ◌+◌, ◌-◌, length, IfOk, OnOk, OnErr, Some, None};
+ghost use Rattle.std.specs.Prelude.{slice_get, ◌++◌, ◌∷◌, []};
+ghost use Rattle.net_cost.specs.declared.weights.Weights.{Weights};
+ghost use Rattle.net_cost.specs.Models.{Keeps, weights_of};
+ghost use Rattle.net_form.specs.declared.net.Net.{Net as AnyNet};
+ghost use Rattle.net_laws.specs.Built.{IsBuilt};
+ghost use Rattle.net_dual.specs.Step.{IsNext};
+ghost use Rattle.al_edge.specs.HomeRoutes.{AreHome};
+ghost use Rattle.al_round.specs.Allocations.{IsAllocation};
+ghost use Rattle.al_round.specs.Rounds.{AreRounds, family_of, AreSame};
+ghost use Rattle.al_round.specs.Tried.{IsTried};
+ghost use Rattle.al_round.specs.Watches.{Keeps as IsWatch, gap_of, WasObeyed, WentOn};
+
+use crate::allocation::Allocation;
+use crate::copies::copy_prices;
+use crate::improving::improve;
+use crate::tried::Tried;
+use crate::trying::{step_prices, try_prices};
+use crate::value::{keep_greater, rounded_up};
+use crate::watch::{Verdict, Watch};
+use al_edge::home;
+use net_cost::{CostModel, Event};
+use net_form::{Line, Net, Prices, Routes, Spare};
+use net_gate::cost;
+use net_path::Work;
+use net_price::lagrange;
+use pra_base::OutOfMemory;
+use pra_list::Seq;
+use std::alloc::Global;
+use std::mem;
+
+// The room of a line.
+const NO_LINE: Line = Line {
+    round: 0,
+    cost: 0,
+    bound: 0,
+};
+
+/// Rounds on a network: where they stand, and the room that they work in.
+#[derive(Drop)]
+pub struct Rounds {
+    /// The best routes so far.
+    pub best: Routes,
+    /// The prices of the last round.
+    pub prices: Prices,
+    /// The prices of the greatest value so far.
+    pub best_prices: Prices,
+    /// A line for round 0 and for each round that was made.
+    pub lines: Seq<Line>,
+    /// What the last round tried.
+    pub tried: Option<Tried>,
+    pub(crate) best_value: i128,
+    pub(crate) next: Prices,
+    pub(crate) work: Work,
+    pub(crate) spare: Spare,
+}
+
+impl Rounds {
+    /// A family of least paths at the prices of the last round.
+    pub fn family(&self) -> &Routes
+        ensures { result.now ≡ family_of self.now }
+    {
+        self.work.family()
+    }
+
+    /// Round 0: prices of nothing, home routes and their cost, and the value of no prices.
+    ///
+    /// # Errors
+    ///
+    /// Where there is no memory for it.
+    pub fn start<F: Fn(Event, u32) -> u32>(
+        alloc: Global,
+        net: &Net,
+        model: &CostModel<F>,
+    ) -> Result<Rounds, OutOfMemory>
+        requires kept { Keeps F.Fn model.now }
+        requires net { IsBuilt net.now }
+        ensures rounds { IfOk result (AreRounds net.now (weights_of model.now)) }
+        ensures one { IfOk result (λ rounds. length rounds.lines ≡ 1) }
+        ensures home { IfOk result (λ rounds. AreHome net.now rounds.best) }
+    {
+        let mut work = Work::reserve(alloc, net, model)?;
+        let spare = Spare::empty(alloc, net)?;
+        let best = home(alloc, net)?;
+        let prices = copy_prices(alloc, &spare.zero)?;
+        let best_prices = copy_prices(alloc, &spare.zero)?;
+        let next = copy_prices(alloc, &spare.zero)?;
+        let best_value = lagrange(&mut work, net, model, &prices);
+        let line = Line {
+            round: 0,
+            cost: cost(net, model, &best),
+            bound: rounded_up(best_value),
+        };
+        let lines = Seq::from_slice(alloc, &[line])?;
+        Ok(Rounds {
+            best,
+            prices,
+            best_prices,
+            lines,
+            tried: None,
+            best_value,
+            next,
+            work,
+            spare,
+        })
+    }
+
+    /// One round more, with its line. The net and the model are those of the start.
+    ///
+    /// # Errors
+    ///
+    /// Where there is no memory for it. Nothing changed then.
+    pub fn round<F: Fn(Event, u32) -> u32>(
+        &mut self,
+        alloc: Global,
+        net: &Net,
+        model: &CostModel<F>,
+    ) -> Result<Line, OutOfMemory>
+        requires kept { Keeps F.Fn model.now }
+        requires net { IsBuilt net.now }
+        requires rounds { AreRounds net.now (weights_of model.now) self.old }
+        requires few { length self.old.lines ≤ 4294967295 }
+        ensures rounds { AreRounds net.now (weights_of model.now) self.new }
+        ensures line { IfOk result (λ line. self.new.lines ≡ self.old.lines ++ line ∷ []) }
+        ensures same { OnErr result (AreSame self.old self.new) }
+    {
+        let number = self.lines.len() as u32;
+        step_prices(
+            &mut self.next,
+            &self.prices,
+            net,
+            self.work.family(),
+            number,
+        );
+        let tried = try_prices(alloc, &mut self.work, net, model, &self.next)?;
+        self.finish(alloc, net, model, tried)
+    }
+
+    // What is left to do once the next prices are made and tried.
+    fn finish<F: Fn(Event, u32) -> u32>(
+        &mut self,
+        alloc: Global,
+        net: &Net,
+        model: &CostModel<F>,
+        tried: Tried,
+    ) -> Result<Line, OutOfMemory>
+        requires kept { Keeps F.Fn model.now }
+        requires net { IsBuilt net.now }
+        requires rounds { AreRounds net.now (weights_of model.now) self.old }
+        requires few { length self.old.lines ≤ 4294967295 }
+        requires next { IsNext net.now (family_of self.old) (length self.old.lines)
+            self.old.prices self.old.next }
+        requires tried { IsTried net.now (weights_of model.now) self.old.next 0 tried }
+        ensures rounds { AreRounds net.now (weights_of model.now) self.new }
+        ensures line { IfOk result (λ line. self.new.lines ≡ self.old.lines ++ line ∷ []) }
+        ensures same { OnErr result (AreSame self.old self.new) }
+    {
+        let number = self.lines.len();
+        self.lines.push(NO_LINE)?;
+        improve(
+            alloc,
+            number > 1,
+            &mut self.work,
+            &mut self.spare,
+            net,
+            model,
+            &mut self.best,
+            &tried.outcome,
+        );
+        let value = lagrange(&mut self.work, net, model, &self.next);
+        mem::swap(&mut self.prices, &mut self.next);
+        keep_greater(
+            &mut self.best_value,
+            &mut self.best_prices,
+            value,
+            &self.prices,
+        );
+        let line = Line {
+            round: number as u32,
+            cost: cost(net, model, &self.best),
+            bound: rounded_up(self.best_value),
+        };
+        self.lines.set(number, line);
+        self.tried = Some(tried);
+        Ok(line)
+    }
+
+    /// So many rounds more at most: until the watch says Stop of the last line.
+    ///
+    /// # Errors
+    ///
+    /// Where there is no memory for a round. Those before it are kept.
+    pub fn grant<F: Fn(Event, u32) -> u32, G: Fn(Line) -> Verdict>(
+        &mut self,
+        alloc: Global,
+        net: &Net,
+        model: &CostModel<F>,
+        n: u32,
+        watch: &Watch<G>,
+    ) -> Result<(), OutOfMemory>
+        requires kept { Keeps F.Fn model.now }
+        requires watch { IsWatch G.Fn watch.now }
+        requires net { IsBuilt net.now }
+        requires rounds { AreRounds net.now (weights_of model.now) self.old }
+        requires few { length self.old.lines + n ≤ 4294967296 }
+        ensures rounds { AreRounds net.now (weights_of model.now) self.new }
+        ensures obeyed { OnOk result
+            (WasObeyed (gap_of watch.now) n self.old.lines self.new.lines) }
+        ensures kept { OnErr result
+            (WentOn (gap_of watch.now) n self.old.lines self.new.lines) }
+    {
+        for _ in 0..n {
+            if let Verdict::Stop = watch.ask(self.last_line()) {
+                return Ok(());
+            }
+            self.round(alloc, net, model)?;
+        }
+        Ok(())
+    }
+
+    // The line of the last round.
+    fn last_line(&self) -> Line
+        requires some { 1 ≤ length self.now.lines }
+        ensures { slice_get self.now.lines (length self.now.lines - 1) ≡ Some result }
+    {
+        self.lines[self.lines.len() - 1]
+    }
+
+    /// What is left of the rounds, without the room.
+    pub fn into_allocation(self) -> Allocation
+        ensures lines { result.lines ≡ self.lines }
+        ensures routes { result.routes ≡ self.best }
+        ensures prices { result.prices ≡ self.best_prices }
+        ensures allocation { (net : AnyNet) (w : Weights) → AreRounds net w self →
+            IsAllocation net w result.lines result.routes result.prices }
+    {
+        let Rounds {
+            best,
+            best_prices,
+            lines,
+            ..
+        } = self;
+        Allocation {
+            routes: best,
+            prices: best_prices,
+            lines,
+        }
+    }
+}
