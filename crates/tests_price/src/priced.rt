@@ -2,13 +2,11 @@
 // is there from layer 2 to layer 5, where Write wants it in EAX; the constant is there at layer 3
 // alone, in a register or as an immediate of 8 bits, which costs a byte.
 
-ghost use Rattle.std.specs.Prelude.{◌≤◌, ◌<◌, ◌^◌, length, IfOk, IfSome};
-ghost use Rattle.net_dual.specs.Priced.{AreInRange};
 ghost use Rattle.net_laws.specs.Built.{IsBuilt};
 
-use net_build::build;
+use crate::made::{network, put_price};
 use net_cost::{CostModel, Event, Weights};
-use net_form::{Ends, Net, Prices, Spare, Taken};
+use net_form::{Ends, Net, Spare};
 use net_path::{Work, least};
 use net_price::lagrange;
 use pra_base::{Block, End, OutOfMemory, Place, ProcId, VInstr, VProc, VarId, VarKind};
@@ -16,8 +14,6 @@ use pra_list::Seq;
 use std::alloc::{AllocError, Global};
 use std::process::Abort;
 use std::test::Fail;
-use vc_live::{is_sized, live};
-use vc_valid::is_valid;
 
 // Register r at layer n, by the number 6 n + r; its price, where all others are 0; and what the
 // network is worth, both in units of 1/1024. Without prices the immediate alone costs. At a low
@@ -132,30 +128,6 @@ fn code(alloc: Global) -> Result<VProc, AllocError> {
     })
 }
 
-// The network, or None where the code is not seen to be valid.
-fn network(alloc: Global) -> Result<Option<Net>, OutOfMemory>
-    ensures { IfOk result (λ found. IfSome found IsBuilt) }
-{
-    let code = code(alloc)?;
-    if !is_sized(&code) {
-        return Ok(None);
-    }
-    let live = live(alloc, &code)?;
-    if !is_valid(&code, &live) {
-        return Ok(None);
-    }
-    Ok(Some(build(alloc, &code, &live)?))
-}
-
-fn put_price(_net: &Net, prices: &mut Prices, at: usize, price: u64)
-    requires range { AreInRange _net.now prices.old }
-    requires at { at < length prices.old.caps }
-    requires price { price ≤ 2 ^ 40 }
-    ensures { AreInRange _net.now prices.new }
-{
-    prices.caps.set(at, price);
-}
-
 // What the network is worth where one register at one layer has a price, or None where it cannot
 // have that.
 fn value(alloc: Global, net: &Net, at: usize, price: u64) -> Result<Option<i128>, OutOfMemory>
@@ -210,7 +182,7 @@ fn path(alloc: Global, net: &Net, wanted: &Wanted) -> Result<String, OutOfMemory
 #[test]
 fn values_at_a_price(rt: HostRuntime) -> Result<(), Fail> {
     let alloc = rt.alloc();
-    let Some(net) = network(alloc)? else {
+    let Some(net) = network(alloc, &code(alloc)?)? else {
         assert!(rt; false, "the code is not valid");
         return Ok(());
     };
@@ -224,7 +196,7 @@ fn values_at_a_price(rt: HostRuntime) -> Result<(), Fail> {
 #[test]
 fn least_paths(rt: HostRuntime) -> Result<(), Fail> {
     let alloc = rt.alloc();
-    let Some(net) = network(alloc)? else {
+    let Some(net) = network(alloc, &code(alloc)?)? else {
         assert!(rt; false, "the code is not valid");
         return Ok(());
     };

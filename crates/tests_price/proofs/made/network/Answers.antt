@@ -1,9 +1,9 @@
 -- The network of valid, sized code is built.
 use Rattle.std.proofs.Common.{refl}
 use Rattle.net_laws.proofs.Built.{built}
-use Rattle.tests_price.proofs.priced.network.Goals as goal
+use Rattle.tests_price.proofs.made.network.Goals as goal
 
 pub returns : goal.returns
 returns c =
-    built c.in_ok-code.code c.in_ok-build.field-0 c.in_ok-build.ensures
+    built c.args.code.now c.in_ok-build.field-0 c.in_ok-build.ensures
     (c.if-not-is_valid.ensures refl) (c.if-not-is_sized.ensures.0 refl)
