@@ -16,6 +16,7 @@ pub mod Leasts
 pub mod Numbers
 pub mod Placed
 pub mod Renewed
+pub mod Seconds
 pub mod SomePath
 pub mod StagedRows
 pub mod Stages

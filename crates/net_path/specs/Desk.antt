@@ -5,7 +5,7 @@ use Rattle.net_form.specs.declared.net.Net.{Net}
 use Rattle.net_form.specs.declared.routes.Routes.{Routes}
 use Rattle.net_form.specs.Admitted.{strand_at}
 use Rattle.net_form.specs.InUse.{StandsFor}
-use Rattle.net_form.specs.Rooms.{IsRoomOf}
+use Rattle.net_form.specs.Rooms.{IsRoomOf, layer_total}
 use Rattle.net_path.specs.declared.work.Work.{Work}
 
 -- the path that was found last
@@ -18,10 +18,12 @@ pub record HasSizes (net : Net) (family : Routes) : Type 0 where
   pub each : (s : ℕ) → s < length net.strands →
       length (slice_index_or family.places s []) ≡ length (strand_at net s).masks
 
--- there is room for the rows of each strand, a family of paths, and a room with nothing in use
+-- there is room for the rows of each strand, a family of paths, counts of those at each layer, and
+-- a room with nothing in use
 pub record IsReservedFor (net : Net) (work : Work) : Type 0 where
   pub rows : (s : ℕ) → s < length net.strands →
       length (strand_at net s).masks ≤ length work.rows.items
   pub family : HasSizes net work.family
+  pub loads : length work.loads.items ≡ layer_total net.blocks
   pub room : IsRoomOf net work.free
   pub free : StandsFor net work.free []

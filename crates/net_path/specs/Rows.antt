@@ -17,6 +17,11 @@ no_row = record { costs = []; seconds = [] }
 abbrev pub costs_at : List Row → ℕ → List ℤ
 costs_at rows k = (slice_index_or rows k no_row).costs
 
+-- rows of the same costs
+pub record HaveSameCosts (old new : List Row) : Type 0 where
+  pub long : length new ≡ length old
+  pub same : (k : ℕ) → costs_at new k ≡ costs_at old k
+
 -- ---- bounds: of n layers the first and the last have ties
 
 abbrev pub cell_bound : ℕ → ℕ → ℕ

@@ -1,22 +1,81 @@
 // A family of least paths, one for each strand.
 
-ghost use Rattle.std.specs.Prelude.{◌≡◌, ◌≢◌, ◌≤◌, ◌<◌, ℕ, [], length, slice_index_or};
+ghost use Rattle.std.specs.Prelude.{◌≡◌, ◌≢◌, ◌≤◌, ◌<◌, ℕ, [], length, slice_index_or, IfOk};
 ghost use Rattle.net_cost.specs.Models.{Keeps, weights_of};
 ghost use Rattle.net_form.specs.Admitted.{strand_at};
 ghost use Rattle.net_form.specs.InUse.{StandsFor};
-ghost use Rattle.net_form.specs.Rooms.{IsRoomOf};
+ghost use Rattle.net_form.specs.Rooms.{IsRoomOf, layer_total};
 ghost use Rattle.net_laws.specs.Built.{IsBuilt};
 ghost use Rattle.net_dual.specs.Priced.{AreInRange, edge_price};
 ghost use Rattle.net_dual.specs.Paths.{IsLeast, Anywhere, any_ends, path_price, path_in};
 ghost use Rattle.net_path.specs.Desk.{IsReservedFor, HasSizes};
 
 use crate::crossbar::Row;
-use crate::search::search_front;
+use crate::search::search_spread;
+use crate::spread::{Load, count};
 use crate::work::{Work, keep_path};
 use net_cost::{CostModel, Event};
-use net_form::{Ends, Net, Prices, Routes, Taken};
-use pra_base::Place;
+use net_form::{Net, Prices, Routes, Taken};
+use pra_base::{OutOfMemory, Place};
+use pra_list::Seq;
 use std::alloc::Global;
+
+/// A family of which no path is in a register.
+pub(crate) fn no_paths(alloc: Global, net: &Net) -> Result<Routes, OutOfMemory>
+    ensures { IfOk result (HasSizes net.now) }
+{
+    let mut places = Vec::with_capacity(alloc, net.strands.len())?;
+    for strand in net.strands.as_slice() {
+        places.push(Seq::from_vec(vec![in alloc; Place::Const; strand.masks.len()]?))?;
+    }
+    Ok(Routes {
+        places: Seq::from_vec(places),
+    })
+}
+
+// The same, with the parts of the room that belong to the strand: a row, a place and a count for
+// each of its layers.
+fn renew_over<F: Fn(Event, u32) -> u32>(
+    net: &Net,
+    model: &CostModel<F>,
+    prices: &Prices,
+    strand: usize,
+    free: &Taken,
+    rows: &mut [Row],
+    path: &mut [Place],
+    loads: &mut [Load],
+    alloc: Global,
+    family: &mut Routes,
+) -> i64
+    requires kept { Keeps F.Fn model.now }
+    requires net { IsBuilt net.now }
+    requires prices { AreInRange net.now prices.now }
+    requires strand { strand < length net.now.strands }
+    requires room { IsRoomOf net.now free.now }
+    requires free { StandsFor net.now free.now [] }
+    requires rows { length rows.old ≡ length (strand_at net.now strand).masks }
+    requires path { length path.old ≡ length rows.old }
+    requires loads { length loads.old ≡ length rows.old }
+    requires family { HasSizes net.now family.old }
+    ensures least { IsLeast net.now
+        (edge_price net.now (weights_of model.now) prices.now) any_ends Anywhere strand
+        (path_in family.new strand) }
+    ensures cost { result ≡
+        path_price net.now (edge_price net.now (weights_of model.now) prices.now) strand
+        (path_in family.new strand) }
+    ensures others { (s : ℕ) → s ≢ strand → path_in family.new s ≡ path_in family.old s }
+    ensures sizes { HasSizes net.now family.new }
+{
+    count(loads, family.places[strand].as_slice(), false);
+    match search_spread(net, model, prices, strand, free, family, loads, rows, path) {
+        Err(_) => 0,
+        Ok(cost) => {
+            count(loads, path, true);
+            keep_path(alloc, family, strand, path);
+            cost
+        }
+    }
+}
 
 // The same, with the parts of the room.
 fn renew_parts<F: Fn(Event, u32) -> u32>(
@@ -27,6 +86,7 @@ fn renew_parts<F: Fn(Event, u32) -> u32>(
     free: &Taken,
     rows: &mut [Row],
     path: &mut [Place],
+    loads: &mut [Load],
     alloc: Global,
     family: &mut Routes,
 ) -> i64
@@ -38,6 +98,7 @@ fn renew_parts<F: Fn(Event, u32) -> u32>(
     requires free { StandsFor net.now free.now [] }
     requires rows { length (strand_at net.now strand).masks ≤ length rows.old }
     requires path { length (strand_at net.now strand).masks ≤ length path.old }
+    requires loads { length loads.old ≡ layer_total net.now.blocks }
     requires family { HasSizes net.now family.old }
     ensures least { IsLeast net.now
         (edge_price net.now (weights_of model.now) prices.now) any_ends Anywhere strand
@@ -49,22 +110,18 @@ fn renew_parts<F: Fn(Event, u32) -> u32>(
     ensures sizes { HasSizes net.now family.new }
 {
     let layers = net.strands[strand].masks.len();
-    let ends = Ends {
-        first: None,
-        last: None,
-    };
-    match search_front(net, model, prices, strand, ends, free, layers, rows, path) {
-        Err(_) => 0,
-        Ok(cost) => {
-            keep_path(alloc, family, strand, &path[..layers]);
-            cost
-        }
-    }
+    let first = (net.entry_layer(strand) + net.strands[strand].first) as usize;
+    let rows = &mut rows[..layers];
+    let path = &mut path[..layers];
+    let loads = &mut loads[first..first + layers];
+    renew_over(
+        net, model, prices, strand, free, rows, path, loads, alloc, family,
+    )
 }
 
 /// Finds a least path of a strand, wherever it begins and ends and whatever is in use, and puts it
-/// into the family of the room. Its priced cost is answered, in units of 1/1024. It takes no
-/// memory.
+/// into the family of the room. Its priced cost is answered, in units of 1/1024. Of its least paths
+/// it takes one that the other paths of the family overload least. It takes no memory.
 pub fn renew<F: Fn(Event, u32) -> u32>(
     work: &mut Work,
     net: &Net,
@@ -87,7 +144,7 @@ pub fn renew<F: Fn(Event, u32) -> u32>(
         path_in work.new.family s ≡ path_in work.old.family s }
     ensures reserved { IsReservedFor net.now work.new }
 {
-    let (rows, path) = (&mut work.rows, &mut work.path);
+    let (rows, path, loads) = (&mut work.rows, &mut work.path, &mut work.loads);
     let (free, family) = (&work.free, &mut work.family);
     renew_parts(
         net,
@@ -97,6 +154,7 @@ pub fn renew<F: Fn(Event, u32) -> u32>(
         free,
         rows,
         path,
+        loads,
         work.alloc,
         family,
     )

@@ -46,12 +46,21 @@
 //!   row of the layer before   each place: the lesser of that and of staying
 //! ```
 //!
+//! # Which of the least paths
+//!
+//! A strand has many least paths, and any is right; but prices follow the family, so that paths which
+//! all lie in one register make that dear and then all leave it together. So `renew` compares pairs:
+//! the cost first, and where costs are equal a second sum, which rows carry beside them. It is what
+//! the path adds to the overload of the family: each register at a layer with l other paths in it
+//! counts 2 l - 1, the growth of a sum of squares. For `least` all seconds are 0.
+//!
 //! # Where it is
 //!
 //! `ways` of the crossbar's moves and the step over rows are in `crossbar`; the costs of the places
 //! of one layer (masks, ends, what is taken, prices, extras) in `cells`, with the pairs' in `pairs`
-//! and the ties' in `ties`; `rows` goes over the layers, `path` reads the path, `search` puts them
-//! together, `family` renews one path of a family. No cost of an edge is ever stored.
+//! and the ties' in `ties`; `spread` has the seconds and the counts that they come from; `rows` goes
+//! over the layers, `path` reads the path, `search` puts them together, `family` renews one path of a
+//! family. No cost of an edge is ever stored.
 #![tactic(auto)]
 
 mod cells;
@@ -61,6 +70,7 @@ mod pairs;
 mod path;
 mod rows;
 mod search;
+mod spread;
 mod ties;
 mod work;
 

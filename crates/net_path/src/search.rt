@@ -9,7 +9,9 @@ ghost use Rattle.net_form.specs.InUse.{UsesNothing};
 ghost use Rattle.net_form.specs.Rooms.{IsRoomOf};
 ghost use Rattle.net_laws.specs.Built.{IsBuilt};
 ghost use Rattle.net_dual.specs.Priced.{AreInRange, edge_price};
-ghost use Rattle.net_dual.specs.Paths.{IsLeast, MayGo, path_price};
+ghost use Rattle.net_dual.specs.Paths.{IsLeast, MayGo, any_ends, path_price};
+ghost use Rattle.net_path.specs.Grounds.{terrain, is_free};
+ghost use Rattle.net_path.specs.Rows.{AreCells, AreCellsWithin};
 ghost use Rattle.net_path.specs.Desk.{path_of, IsReservedFor};
 ghost use Rattle.net_path.specs.Ways.{AreWays, AreWaysWithin, IsWay, event_price};
 
@@ -17,9 +19,10 @@ use crate::cells::fill_cells;
 use crate::crossbar::{Row, Ways};
 use crate::path::{best_start, follow};
 use crate::rows::{REACHED, pay_backward};
+use crate::spread::{Load, spread};
 use crate::work::Work;
 use net_cost::{CostModel, Event};
-use net_form::{Ends, Net, Prices, Taken};
+use net_form::{Ends, Net, Prices, Routes, Taken};
 use pra_base::Place;
 
 /// There is no path.
@@ -53,6 +56,49 @@ fn ways_of<F: Fn(Event, u32) -> u32>(model: &CostModel<F>, near: bool, depth: u3
     }
 }
 
+/// Finds a least path over rows of what is paid at each place, with a place for each layer of the
+/// strand to write to.
+pub(crate) fn find<F: Fn(Event, u32) -> u32>(
+    net: &Net,
+    model: &CostModel<F>,
+    _prices: &Prices,
+    strand: usize,
+    _ends: Ends,
+    _taken: &Taken,
+    rows: &mut [Row],
+    path: &mut [Place],
+) -> Result<i64, NoPath>
+    requires kept { Keeps F.Fn model.now }
+    requires net { IsBuilt net.now }
+    requires prices { AreInRange net.now _prices.now }
+    requires strand { strand < length net.now.strands }
+    requires rows { (strand_at net.now strand).first + length rows.old ≡
+        (strand_at net.now strand).last + 1 }
+    requires cells { AreCells (terrain net.now (weights_of model.now) _prices.now _ends
+        (is_free net.now _taken.now) strand) rows.old }
+    requires within { AreCellsWithin rows.old }
+    requires path { length path.old ≡ length rows.old }
+    ensures found { OnOk result (IsLeast net.now
+        (edge_price net.now (weights_of model.now) _prices.now) _ends
+        (UsesNothing net.now _taken.now) strand path.new) }
+    ensures cost { IfOk result (λ z. z ≡
+        path_price net.now (edge_price net.now (weights_of model.now) _prices.now) strand
+        path.new) }
+    ensures kept { OnErr result (path.new ≡ path.old) }
+    ensures none { OnErr result ((ps : List AnyPlace) →
+        MayGo net.now _ends (UsesNothing net.now _taken.now) strand ps → ⊥) }
+{
+    let first = net.strands[strand].first;
+    let ways = ways_of(model, net.near, net.depth(strand));
+    pay_backward(&ways, first, rows);
+    let start = best_start(&ways, net.strands[strand].constant, &rows[0]);
+    if start.debt.cost >= REACHED {
+        return Err(NoPath);
+    }
+    follow(&ways, first, rows, start.place, path);
+    Ok(start.debt.cost)
+}
+
 /// Finds a least path, with a row for each layer of the strand to work in and a place for each to
 /// write to.
 pub(crate) fn search<F: Fn(Event, u32) -> u32>(
@@ -84,15 +130,48 @@ pub(crate) fn search<F: Fn(Event, u32) -> u32>(
         MayGo net.now ends (UsesNothing net.now taken.now) strand ps → ⊥) }
 {
     fill_cells(net, model, prices, ends, taken, strand, rows);
-    let first = net.strands[strand].first;
-    let ways = ways_of(model, net.near, net.depth(strand));
-    pay_backward(&ways, first, rows);
-    let start = best_start(&ways, net.strands[strand].constant, &rows[0]);
-    if start.debt.cost >= REACHED {
-        return Err(NoPath);
-    }
-    follow(&ways, first, rows, start.place, path);
-    Ok(start.debt.cost)
+    find(net, model, prices, strand, ends, taken, rows, path)
+}
+
+/// Finds a least path, wherever it begins and ends, that leaves other paths of the family alone, with
+/// a row, a place and a count for each layer of the strand.
+#[tactic(auto, using(crate::proofs::Seconds::cells_still, crate::proofs::Seconds::within_still))]
+pub(crate) fn search_spread<F: Fn(Event, u32) -> u32>(
+    net: &Net,
+    model: &CostModel<F>,
+    prices: &Prices,
+    strand: usize,
+    taken: &Taken,
+    family: &Routes,
+    loads: &[Load],
+    rows: &mut [Row],
+    path: &mut [Place],
+) -> Result<i64, NoPath>
+    requires kept { Keeps F.Fn model.now }
+    requires net { IsBuilt net.now }
+    requires prices { AreInRange net.now prices.now }
+    requires taken { IsRoomOf net.now taken.now }
+    requires strand { strand < length net.now.strands }
+    requires loads { length loads.now ≡ length rows.old }
+    requires rows { (strand_at net.now strand).first + length rows.old ≡
+        (strand_at net.now strand).last + 1 }
+    requires path { length path.old ≡ length rows.old }
+    ensures found { OnOk result (IsLeast net.now
+        (edge_price net.now (weights_of model.now) prices.now) any_ends
+        (UsesNothing net.now taken.now) strand path.new) }
+    ensures cost { IfOk result (λ z. z ≡
+        path_price net.now (edge_price net.now (weights_of model.now) prices.now) strand
+        path.new) }
+    ensures none { OnErr result ((ps : List AnyPlace) →
+        MayGo net.now any_ends (UsesNothing net.now taken.now) strand ps → ⊥) }
+{
+    let ends = Ends {
+        first: None,
+        last: None,
+    };
+    fill_cells(net, model, prices, ends, taken, strand, rows);
+    spread(net, prices, family, strand, loads, rows);
+    find(net, model, prices, strand, ends, taken, rows, path)
 }
 
 // The same, with rows and a path for as many layers at least.

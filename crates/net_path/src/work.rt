@@ -2,9 +2,10 @@
 
 ghost use Rattle.std.specs.Prelude.{◌≡◌, ◌≤◌, ◌<◌, ℕ, [], length, IfOk, slice_index_or, slice_set};
 ghost use Rattle.net_form.specs.Admitted.{strand_at};
-ghost use Rattle.net_form.specs.Rooms.{some_routes};
 
 use crate::crossbar::Row;
+use crate::family::no_paths;
+use crate::spread::Load;
 use net_cost::{CostModel, Event};
 use net_form::{Net, Routes, Taken};
 use pra_base::{OutOfMemory, Place};
@@ -13,13 +14,14 @@ use std::alloc::Global;
 use std::mem;
 
 /// Room for the rows and the path of one strand at a time, and for a family of paths, one for each
-/// strand. Of edges it keeps nothing.
+/// strand, with a count of those that are in each register. Of edges it keeps nothing.
 #[derive(Drop)]
 pub struct Work {
     pub(crate) rows: Vec<Row>,
     pub(crate) path: Vec<Place>,
     pub(crate) count: usize,
     pub(crate) family: Routes,
+    pub(crate) loads: Vec<Load>,
     pub(crate) free: Taken,
     pub(crate) alloc: Global,
     ghost as_long: { length path.items ≡ length rows.items },
@@ -36,19 +38,6 @@ fn longest(net: &Net) -> usize
         most = most.max(strand.masks.len());
     }
     most
-}
-
-// Some place for each layer of each strand.
-fn some_routes(alloc: Global, net: &Net) -> Result<Routes, OutOfMemory>
-    ensures { IfOk result (λ routes. routes ≡ some_routes net.now) }
-{
-    let mut places = Vec::with_capacity(alloc, net.strands.len())?;
-    for strand in net.strands.as_slice() {
-        places.push(Seq::from_vec(vec![in alloc; Place::Eax; strand.masks.len()]?))?;
-    }
-    Ok(Routes {
-        places: Seq::from_vec(places),
-    })
 }
 
 /// Puts a path into a family, in its own memory.
@@ -100,12 +89,14 @@ impl Work {
             costs: [0; 16],
             seconds: [0; 16],
         };
+        let free = Taken::empty(alloc, net)?;
         Ok(Work {
             rows: vec![in alloc; empty; most]?,
             path: vec![in alloc; Place::Eax; most]?,
             count: 0,
-            family: some_routes(alloc, net)?,
-            free: Taken::empty(alloc, net)?,
+            family: no_paths(alloc, net)?,
+            loads: vec![in alloc; [0; 6]; free.regs.len()]?,
+            free,
             alloc,
         })
     }

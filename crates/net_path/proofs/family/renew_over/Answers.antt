@@ -5,7 +5,7 @@ use Rattle.net_cost.specs.Models.{weights_of}
 use Rattle.net_dual.specs.Priced.{edge_price}
 use Rattle.net_dual.specs.Paths.{IsLeast, Anywhere, any_ends, path_in}
 use Rattle.net_path.proofs.Renewed.{least_anywhere, never_none}
-use Rattle.net_path.proofs.family.renew_parts.Goals as goal
+use Rattle.net_path.proofs.family.renew_over.Goals as goal
 
 pub returns-in-Err-clause-least : goal.returns-in-Err-clause-least
 returns-in-Err-clause-least g c = absurd (never_none c.args.net.now c.args.free.now c.requires.free
@@ -22,8 +22,7 @@ returns-in-Ok-clause-least g c =
     let found = least_anywhere net c.args.free.now c.requires.free price c.args.strand _
     c.in-Ok.ensures.found in
     let at : path_in c.keep_path.new.family c.args.strand
-    ≡ take c.len-layers.result c.search_front.new.path =
+    ≡ c.search_spread.new.path =
     ap (λ (rs : List (List Place)). get_or rs c.args.strand []) c.keep_path.ensures
-    ∙ get_or-set_same c.args.family.now.places c.args.strand (take c.len-layers.result
-    c.search_front.new.path) [] (omega (arith, c.requires.family.many, c.requires.strand)) in
+    ∙ get_or-set_same c.args.family.now.places c.args.strand c.search_spread.new.path [] (omega (arith, c.requires.family.many, c.requires.strand)) in
     subst (λ (ps : List Place). IsLeast net price any_ends Anywhere c.args.strand ps) (sym at) found

@@ -1,4 +1,4 @@
-use Rattle.std.proofs.Common.{ℕ, ◌≡◌, ◌∙◌, length, sym, subst, ap, arith, rules, pos, ◌<ℤ◌, ◌^◌}
+use Rattle.std.proofs.Common.{refl, ℕ, ◌≡◌, ◌∙◌, length, sym, subst, ap, arith, rules, pos, ◌<ℤ◌, ◌^◌}
 use Rattle.std.proofs.Common.{w64, to_z, of_z}
 use mir.Val.{SFits}
 use Rattle.std.proofs.lemmas.Int.{ints, to_z-of_z}
@@ -11,7 +11,7 @@ use Rattle.net_path.specs.Grounds.{terrain, is_free}
 use Rattle.net_path.specs.Rows.{costs_at, IsGround}
 use Rattle.net_path.proofs.Grounded.{ready}
 use Rattle.net_path.proofs.LeastPath.{no_path, least_path, below_of}
-use Rattle.net_path.proofs.search.search.Goals as goal
+use Rattle.net_path.proofs.search.find.Goals as goal
 
 pub best_start-start-requires-clause-row : goal.best_start-start-requires-clause-row
 best_start-start-requires-clause-row g c =
@@ -21,7 +21,6 @@ best_start-start-requires-clause-row g c =
       order,
       c.requires.rows,
       c.pay_backward.ensures.long,
-      c.fill_cells.ensures.long,
     ))
 
 pub returns-then-start-ge-REACHED-clause-none : goal.returns-then-start-ge-REACHED-clause-none
@@ -34,26 +33,26 @@ returns-then-start-ge-REACHED-clause-none g c =
     get_or_read net.strands s c.index.result.now c.requires.strand c.index.ensures no_strand in
     let u = get_or_read net.strands s c.index-2.result.now c.requires.strand c.index-2.ensures
     no_strand in
-    let are = ready net c.requires.net c.args.prices.now c.requires.prices
-    w c.requires.kept.valid c.args.ends (is_free net c.args.taken.now) s n c.requires.rows
-    c.ways_of-ways.result c.depth.result c.index.result.now.first (length c.fill_cells.new.rows)
-    c.index-2.result.now.constant (costs_at c.pay_backward.new.rows) c.fill_cells.new.rows
+    let are = ready net c.requires.net c.args._prices.now c.requires.prices
+    w c.requires.kept.valid c.args._ends (is_free net c.args._taken.now) s n c.requires.rows
+    c.ways_of-ways.result c.depth.result c.index.result.now.first (length c.args.rows.now)
+    c.index-2.result.now.constant (costs_at c.pay_backward.new.rows) c.args.rows.now
     c.best_start-start.result c.ways_of-ways.ensures.are c.depth.ensures.value
-    (ap (λ (t : Strand). t.first) t) c.fill_cells.ensures.long
-    (ap (λ (t : Strand). t.constant) u) c.fill_cells.ensures.cells c.pay_backward.ensures.rows
+    (ap (λ (t : Strand). t.first) t) refl
+    (ap (λ (t : Strand). t.constant) u) c.requires.cells c.pay_backward.ensures.rows
     c.best_start-start.ensures in
     let fits : SFits w64 c.best_start-start.result.debt.cost = search rules in
     let cost = c.best_start-start.result.debt.cost in
     let whole : to_z w64 (of_z w64 cost) ≡ cost = to_z-of_z w64 cost fits in
-    no_path net c.requires.net c.args.prices.now c.requires.prices w c.requires.kept.valid
-    c.args.ends c.args.taken.now s n c.requires.strand c.requires.rows
+    no_path net c.requires.net c.args._prices.now c.requires.prices w c.requires.kept.valid
+    c.args._ends c.args._taken.now s n c.requires.strand c.requires.rows
     (costs_at c.pay_backward.new.rows) are.rows cost are.best
     (grind (arith, ints, whole, c.if-start-ge-REACHED.true))
 
 pub follow-requires-clause-some : goal.follow-requires-clause-some
 follow-requires-clause-some g c =
     let order = (c.requires.net.formed.strands c.args.strand no_strand c.requires.strand).order in
-    omega (arith, order, c.requires.rows, c.pay_backward.ensures.long, c.fill_cells.ensures.long)
+    omega (arith, order, c.requires.rows, c.pay_backward.ensures.long)
 
 pub follow-requires-clause-few : goal.follow-requires-clause-few
 follow-requires-clause-few g c =
@@ -69,7 +68,6 @@ follow-requires-clause-few g c =
       layers,
       c.requires.rows,
       c.pay_backward.ensures.long,
-      c.fill_cells.ensures.long,
     )
 
 pub follow-requires-clause-rows : goal.follow-requires-clause-rows
@@ -85,13 +83,13 @@ returns-clause-found g c =
     get_or_read net.strands s c.index.result.now c.requires.strand c.index.ensures no_strand in
     let u = get_or_read net.strands s c.index-2.result.now c.requires.strand c.index-2.ensures
     no_strand in
-    let are = ready net c.requires.net c.args.prices.now c.requires.prices
-    w c.requires.kept.valid c.args.ends (is_free net c.args.taken.now) s n c.requires.rows
-    c.ways_of-ways.result c.depth.result c.index.result.now.first (length c.fill_cells.new.rows)
-    c.index-2.result.now.constant (costs_at c.pay_backward.new.rows) c.fill_cells.new.rows
+    let are = ready net c.requires.net c.args._prices.now c.requires.prices
+    w c.requires.kept.valid c.args._ends (is_free net c.args._taken.now) s n c.requires.rows
+    c.ways_of-ways.result c.depth.result c.index.result.now.first (length c.args.rows.now)
+    c.index-2.result.now.constant (costs_at c.pay_backward.new.rows) c.args.rows.now
     c.best_start-start.result c.ways_of-ways.ensures.are c.depth.ensures.value
-    (ap (λ (t : Strand). t.first) t) c.fill_cells.ensures.long
-    (ap (λ (t : Strand). t.constant) u) c.fill_cells.ensures.cells c.pay_backward.ensures.rows
+    (ap (λ (t : Strand). t.first) t) refl
+    (ap (λ (t : Strand). t.constant) u) c.requires.cells c.pay_backward.ensures.rows
     c.best_start-start.ensures in
     let fits : SFits w64 c.best_start-start.result.debt.cost = search rules in
     let cost = c.best_start-start.result.debt.cost in
@@ -99,22 +97,22 @@ returns-clause-found g c =
     let near : cost <ℤ pos (2 ^ 61) =
     below_of (pos (2 ^ 61)) cost (rw whole at c.if-start-ge-REACHED.false) in
     let size : length c.pay_backward.new.rows ≡ n =
-    c.pay_backward.ensures.long ∙ c.fill_cells.ensures.long in
+    c.pay_backward.ensures.long in
     let same : length c.follow.new.path ≡ n = omega arith in
     let all =
     take_all (length c.pay_backward.new.rows) c.follow.new.path (omega (arith, size, same)) in
     let ground : IsGround c.ways_of-ways.result c.index.result.now.first
     (length c.pay_backward.new.rows)
-    (terrain net w c.args.prices.now c.args.ends (is_free net c.args.taken.now) s) =
+    (terrain net w c.args._prices.now c.args._ends (is_free net c.args._taken.now) s) =
     subst (λ (k : ℕ). IsGround c.ways_of-ways.result c.index.result.now.first k
-    (terrain net w c.args.prices.now c.args.ends (is_free net c.args.taken.now) s))
+    (terrain net w c.args._prices.now c.args._ends (is_free net c.args._taken.now) s))
     (sym size) (subst (λ (f : ℕ). IsGround c.ways_of-ways.result f n
-    (terrain net w c.args.prices.now c.args.ends (is_free net c.args.taken.now) s))
+    (terrain net w c.args._prices.now c.args._ends (is_free net c.args._taken.now) s))
     (sym (ap (λ (t : Strand). t.first) t)) are.ground) in
-    let follows = rw all at (c.follow.ensures (terrain net w c.args.prices.now c.args.ends
-    (is_free net c.args.taken.now) s) ground are.good) in
-    let found = least_path net c.requires.net c.args.prices.now c.requires.prices
-    w c.requires.kept.valid c.args.ends c.args.taken.now s n c.requires.strand c.requires.rows
+    let follows = rw all at (c.follow.ensures (terrain net w c.args._prices.now c.args._ends
+    (is_free net c.args._taken.now) s) ground are.good) in
+    let found = least_path net c.requires.net c.args._prices.now c.requires.prices
+    w c.requires.kept.valid c.args._ends c.args._taken.now s n c.requires.strand c.requires.rows
     (costs_at c.pay_backward.new.rows) are.rows cost are.best c.follow.new.path near
     same follows in
     found.0
@@ -129,13 +127,13 @@ returns-clause-cost g c =
     get_or_read net.strands s c.index.result.now c.requires.strand c.index.ensures no_strand in
     let u = get_or_read net.strands s c.index-2.result.now c.requires.strand c.index-2.ensures
     no_strand in
-    let are = ready net c.requires.net c.args.prices.now c.requires.prices
-    w c.requires.kept.valid c.args.ends (is_free net c.args.taken.now) s n c.requires.rows
-    c.ways_of-ways.result c.depth.result c.index.result.now.first (length c.fill_cells.new.rows)
-    c.index-2.result.now.constant (costs_at c.pay_backward.new.rows) c.fill_cells.new.rows
+    let are = ready net c.requires.net c.args._prices.now c.requires.prices
+    w c.requires.kept.valid c.args._ends (is_free net c.args._taken.now) s n c.requires.rows
+    c.ways_of-ways.result c.depth.result c.index.result.now.first (length c.args.rows.now)
+    c.index-2.result.now.constant (costs_at c.pay_backward.new.rows) c.args.rows.now
     c.best_start-start.result c.ways_of-ways.ensures.are c.depth.ensures.value
-    (ap (λ (t : Strand). t.first) t) c.fill_cells.ensures.long
-    (ap (λ (t : Strand). t.constant) u) c.fill_cells.ensures.cells c.pay_backward.ensures.rows
+    (ap (λ (t : Strand). t.first) t) refl
+    (ap (λ (t : Strand). t.constant) u) c.requires.cells c.pay_backward.ensures.rows
     c.best_start-start.ensures in
     let fits : SFits w64 c.best_start-start.result.debt.cost = search rules in
     let cost = c.best_start-start.result.debt.cost in
@@ -143,22 +141,22 @@ returns-clause-cost g c =
     let near : cost <ℤ pos (2 ^ 61) =
     below_of (pos (2 ^ 61)) cost (rw whole at c.if-start-ge-REACHED.false) in
     let size : length c.pay_backward.new.rows ≡ n =
-    c.pay_backward.ensures.long ∙ c.fill_cells.ensures.long in
+    c.pay_backward.ensures.long in
     let same : length c.follow.new.path ≡ n = omega arith in
     let all =
     take_all (length c.pay_backward.new.rows) c.follow.new.path (omega (arith, size, same)) in
     let ground : IsGround c.ways_of-ways.result c.index.result.now.first
     (length c.pay_backward.new.rows)
-    (terrain net w c.args.prices.now c.args.ends (is_free net c.args.taken.now) s) =
+    (terrain net w c.args._prices.now c.args._ends (is_free net c.args._taken.now) s) =
     subst (λ (k : ℕ). IsGround c.ways_of-ways.result c.index.result.now.first k
-    (terrain net w c.args.prices.now c.args.ends (is_free net c.args.taken.now) s))
+    (terrain net w c.args._prices.now c.args._ends (is_free net c.args._taken.now) s))
     (sym size) (subst (λ (f : ℕ). IsGround c.ways_of-ways.result f n
-    (terrain net w c.args.prices.now c.args.ends (is_free net c.args.taken.now) s))
+    (terrain net w c.args._prices.now c.args._ends (is_free net c.args._taken.now) s))
     (sym (ap (λ (t : Strand). t.first) t)) are.ground) in
-    let follows = rw all at (c.follow.ensures (terrain net w c.args.prices.now c.args.ends
-    (is_free net c.args.taken.now) s) ground are.good) in
-    let found = least_path net c.requires.net c.args.prices.now c.requires.prices
-    w c.requires.kept.valid c.args.ends c.args.taken.now s n c.requires.strand c.requires.rows
+    let follows = rw all at (c.follow.ensures (terrain net w c.args._prices.now c.args._ends
+    (is_free net c.args._taken.now) s) ground are.good) in
+    let found = least_path net c.requires.net c.args._prices.now c.requires.prices
+    w c.requires.kept.valid c.args._ends c.args._taken.now s n c.requires.strand c.requires.rows
     (costs_at c.pay_backward.new.rows) are.rows cost are.best c.follow.new.path near
     same follows in
     whole ∙ found.1
