@@ -129,7 +129,7 @@ module _ (t : Translation) (id : ℕ) (proc : CheckedProc) (args : List Argument
           let below : placed t.program t.frames calls l ≡ Some (placed_at spot type_id) = sym (placed_below t.program t.frames call calls l other) ∙ at in
           kept_on type_id (number_at store l) (number_at (entered (suc (length calls)) args store) l) (content t old spot) (content t new spot)
           (ap number (entered-other store (suc (length calls)) args l (Number (pos 0)) other))
-          (content_below spot (spot_among t.program t.frames calls laid l (placed_at spot type_id) below))
+          (content_below spot (spot_among t.program t.frames calls l (placed_at spot type_id) below))
           (represents.values l spot type_id below scalar)
 
   -- ---- VAR parameters

@@ -1,5 +1,5 @@
 -- Spots are named by live calls: how deep, and what is the same where one more call is live.
-use Rattle.std.proofs.Common.{◌≡◌, ℕ, suc, ◌<◌, ◌≤◌, Bool, true, false, List, [], ◌∷◌, length, Some, sym, ap, ◌∙◌, subst, arith}
+use Rattle.std.proofs.Common.{◌≡◌, ℕ, suc, ◌<◌, ◌≤◌, Bool, true, false, List, [], ◌∷◌, length, Some, None, sym, ap, ◌∙◌, subst, arith}
 use Rattle.std.specs.Prelude.{slice_get, nat_eq, if◌then◌else◌}
 use Rattle.std.proofs.lemmas.Bool.{ne_eqb}
 use Rattle.pra_list.specs.Options.{◌>>=◌}
@@ -7,14 +7,20 @@ use Rattle.pra_list.proofs.Options.{some_same, none_some, bind_some}
 use Rattle.pra_list.proofs.Choices.{by_test}
 use Rattle.ob_syntax.specs.declared.checked.Checked.{Checked}
 use Rattle.ob_syntax.specs.declared.checked.CheckedProc.{CheckedProc}
+use Rattle.ob_syntax.specs.declared.checked.ModuleVar.{ModuleVar}
+use Rattle.ob_syntax.specs.declared.checked.Param.{Param}
 use Rattle.ob_mean.specs.declared.store.LiveCall.{LiveCall}
 use Rattle.ob_mean.specs.declared.store.Location.{Location}
 use Rattle.ob_mean.specs.declared.store.Object.{Object}
 use Rattle.ob_mean.specs.declared.store.Object.TheVariants as mean
-use Rattle.vc_code.specs.declared.value.Object.TheVariants.{Data, Aggregates, Cell}
+use Rattle.vc_code.specs.declared.action.Here.{Here}
+use Rattle.vc_code.specs.declared.value.Object.TheVariants.{Data}
+use Rattle.vc_relation.specs.declared.home.Home.{Home}
+use Rattle.vc_relation.specs.declared.home.Home.TheVariants as home
+use Rattle.vc_relation.specs.declared.home.Home.TheVariants.{Var, Frame}
 use Rattle.vc_relation.specs.Layout.{part_along, IsLaidOut}
-use Rattle.vc_relation.specs.Homes.{in_variable, local_in_variable, home_count}
-use Rattle.vc_relation.specs.Spots.{Spot, InVariable, InWord, Placed, placed_at, call_at, here_of, param_of, local_of, param_placed, local_placed, object_placed, beyond, part_placed, placed}
+use Rattle.vc_relation.specs.Homes.{in_variable, local_in_variable, home_count, param_home, local_home}
+use Rattle.vc_relation.specs.Spots.{Spot, InVariable, InWord, Placed, IsBelow, placed_at, call_at, here_of, home_spot, param_of, local_of, param_placed, local_placed, object_placed, beyond, part_placed, placed}
 use Rattle.vc_relation.proofs.Apart.{Standing, IsData, IsVariable, IsCell, IsAggregate, Owner, OfParam, OfLocal, count_below, call_depth, stands, found}
 
 -- a live call is one of as many as are live
@@ -59,32 +65,55 @@ owner_within proc depth o v (OfLocal k local a e t is) = omega (arith, is, count
 -- the spot is of one of so many live calls, or of the module's data
 abbrev pub IsAmong : ℕ → Spot → Type 0
 IsAmong n (InVariable depth v) = depth ≤ n
-IsAmong n (InWord Data w) = Unit {0}
-IsAmong n (InWord (Aggregates m sum) w) = m < n
-IsAmong n (InWord (Cell m below k) w) = m < n
+IsAmong n (InWord x w) = IsBelow n x
 
-module _ (program : Checked) (frames : List ℕ) (calls : List LiveCall) (laid : IsLaidOut program) where
-  among_beyond : (n : ℕ) (s : Spot) (i : ℕ) → IsAmong n s → IsAmong n (beyond s i)
-  among_beyond n (InVariable depth v) i a = a
-  among_beyond n (InWord Data w) i a = a
-  among_beyond n (InWord (Aggregates m sum) w) i a = a
-  among_beyond n (InWord (Cell m below k) w) i a = a
+among_beyond : (n : ℕ) (s : Spot) (i : ℕ) → IsAmong n s → IsAmong n (beyond s i)
+among_beyond n (InVariable depth v) i a = a
+among_beyond n (InWord x w) i a = a
 
-  standing_among : (o : Object) (x : Placed) → Standing program frames calls o x → IsAmong (length calls) x.spot
-  standing_among o x (IsData n var a b c) = subst (λ (z : Placed). IsAmong (length calls) z.spot) (sym c) tt
-  standing_among o x (IsVariable depth v call proc a b c d f) =
-      let lt = call_within calls depth call a in
-      let le : depth ≤ length calls = omega (arith, lt, call_depth calls depth call a) in
-      subst (IsAmong (length calls)) (sym c) le
-  standing_among o x (IsCell depth k call a b c d) = subst (IsAmong (length calls)) (sym c) (call_within calls depth call a)
-  standing_among o x (IsAggregate depth k call proc local a b c d f g) = subst (λ (z : Placed). IsAmong (length calls) z.spot) (sym g) (call_within calls depth call a)
+home_among : (n depth : ℕ) (here : Here) (h : Home) → depth ≤ n → here.calls < n → IsAmong n (home_spot depth here h)
+home_among n depth here (Var v) le lt = le
+home_among n depth here (home.Cell k) le lt = lt
+home_among n depth here (Frame w) le lt = lt
+
+module _ (program : Checked) (frames : List ℕ) (calls : List LiveCall) where
+  of_call : (depth : ℕ) (c : LiveCall × List LiveCall) (h : Home) → call_at calls depth ≡ Some c → IsAmong (length calls) (home_spot depth (here_of frames c) h)
+  of_call depth c h at =
+      let lt = call_within calls depth c at in
+      home_among (length calls) depth (here_of frames c) h (omega (arith, lt, call_depth calls depth c at)) lt
+
+  param_among : (depth k : ℕ) (c : LiveCall × List LiveCall) (p : CheckedProc × Param) (x : Placed) → call_at calls depth ≡ Some c → param_placed depth (here_of frames c) k p ≡ Some x → IsAmong (length calls) x.spot
+  param_among depth k c p x at e =
+      by_test p.1.by_var None (Some (placed_at (home_spot depth (here_of frames c) (param_home p.0 k p.1)) p.1.type_id)) (Some x)
+      (λ is none. absurd (none_some none))
+      (λ is some. subst (λ (z : Placed). IsAmong (length calls) z.spot) (some_same (placed_at (home_spot depth (here_of frames c) (param_home p.0 k p.1)) p.1.type_id) x some) (of_call depth c (param_home p.0 k p.1) at))
+      e
+
+  object_among : (o : Object) (x : Placed) → object_placed program frames calls o ≡ Some x → IsAmong (length calls) x.spot
+  object_among (mean.Module n) x e =
+      let f = λ (v : ModuleVar). Some (placed_at (InWord Data v.word) v.type_id) in
+      let one = bind_some (slice_get program.vars n) f x e in
+      subst (λ (z : Placed). IsAmong (length calls) z.spot) (some_same (placed_at (InWord Data one.0.word) one.0.type_id) x one.2) tt
+  object_among (mean.Param depth k) x e =
+      let f = λ (c : LiveCall × List LiveCall). param_of program c.0 k >>= λ p. param_placed depth (here_of frames c) k p in
+      let one = bind_some (call_at calls depth) f x e in
+      let two = bind_some (param_of program one.0.0 k) (λ p. param_placed depth (here_of frames one.0) k p) x one.2 in
+      param_among depth k one.0 two.0 x one.1 two.2
+  object_among (mean.Local depth k) x e =
+      let f = λ (c : LiveCall × List LiveCall). local_of program c.0 k >>= λ p. local_placed depth (here_of frames c) k p in
+      let one = bind_some (call_at calls depth) f x e in
+      let two = bind_some (local_of program one.0.0 k) (λ p. local_placed depth (here_of frames one.0) k p) x one.2 in
+      let h = local_home two.0.0 k two.0.1 in
+      subst (λ (z : Placed). IsAmong (length calls) z.spot) (some_same (placed_at (home_spot depth (here_of frames one.0) h) two.0.1.type_id) x two.2) (of_call depth one.0 h one.1)
 
   pub spot_among : (l : Location) (x : Placed) → placed program frames calls l ≡ Some x → IsAmong (length calls) x.spot
   spot_among l x e =
-      let a = found program frames calls laid l x e in
-      let b = standing_among l.object a.begin (stands program frames calls laid l.object a.begin a.object_there) in
-      subst (λ (z : Placed). IsAmong (length calls) z.spot) a.is (among_beyond (length calls) a.begin.spot a.part.word b)
+      let f = λ (b : Placed). part_along program.types b.type_id l.path >>= λ q. Some (part_placed b q) in
+      let one = bind_some (object_placed program frames calls l.object) f x e in
+      let two = bind_some (part_along program.types one.0.type_id l.path) (λ q. Some (part_placed one.0 q)) x one.2 in
+      subst (λ (z : Placed). IsAmong (length calls) z.spot) (some_same (part_placed one.0 two.0) x two.2) (among_beyond (length calls) one.0.spot two.0.word (object_among l.object one.0 one.1))
 
+module _ (program : Checked) (frames : List ℕ) (calls : List LiveCall) (laid : IsLaidOut program) where
   -- a location in a variable of a live call is in a home of its procedure
   pub record HomeOf (depth v : ℕ) : Type 0 where
     pub call : LiveCall × List LiveCall

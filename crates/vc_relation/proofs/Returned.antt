@@ -1,5 +1,5 @@
 -- A return keeps the relation of the calls below, and VAR parameters name what was lent.
-use Rattle.std.proofs.Common.{◌≡◌, ℕ, suc, ◌<◌, Bool, true, false, List, ◌∷◌, length, map, Option, Some, None, refl, sym, ap, ◌∙◌, subst, arith}
+use Rattle.std.proofs.Common.{◌≡◌, ℕ, suc, ◌*◌, ◌<◌, Bool, true, false, List, ◌∷◌, length, map, Option, Some, None, refl, sym, ap, ◌∙◌, subst, arith}
 use Rattle.std.specs.Prelude.{slice_get, nat_eq, if◌then◌else◌, ◌&&◌, unwrap_or}
 use Rattle.std.proofs.lemmas.Bool.{ne_eqb, eq-eqb}
 use Rattle.std.proofs.lemmas.List.{length-map}
@@ -11,13 +11,15 @@ use Rattle.ob_mean.specs.declared.store.Location.{Location}
 use Rattle.ob_mean.specs.declared.store.Object.TheVariants as mean
 use Rattle.ob_mean.specs.Designators.{root_location}
 use Rattle.ob_mean.specs.Store.{Store, whole}
+use Rattle.vc_code.specs.declared.value.Object.{Object}
 use Rattle.vc_code.specs.declared.value.Object.TheVariants.{Data, Aggregates, Cell}
+use Rattle.vc_code.specs.declared.value.Value.TheVariants.{At}
 use Rattle.vc_code.specs.Value.{Held}
 use Rattle.vc_code.specs.Machine.{Activation, State, depth, cell, words_of, joined, live_in, returned}
 use Rattle.vc_code.specs.Selected.{Vars}
 use Rattle.vc_relation.specs.Layout.{IsLaidOut}
 use Rattle.vc_relation.specs.Homes.{param_variable}
-use Rattle.vc_relation.specs.Spots.{Spot, InVariable, InWord, placed_at, call_at, param_of}
+use Rattle.vc_relation.specs.Spots.{Spot, InVariable, InWord, IsBelow, placed_at, call_at, param_of}
 use Rattle.vc_relation.specs.Relation.{Translation, shapes_of, variable_in, content, number_at, IsAddressOf, IsGiven, lent_in, Represents, held_at}
 use Rattle.vc_relation.proofs.Apart.{call_depth}
 use Rattle.vc_relation.proofs.Lives.{call_within, not_top, call_deeper, placed_deeper, IsAmong, spot_among}
@@ -66,7 +68,7 @@ module _ (t : Translation) (s : State Vars) (c : Activation Vars) (rest : List (
       same_calls = sym (ap (map (λ p. p.proc)) below) ∙ procs_below;
       values = λ l spot type_id at scalar.
           kept_on type_id (number_at store l) (number_at store l) (content t s spot) (content t after spot) refl
-          (content_back spot (subst (λ n. IsAmong n spot) lengths (spot_among t.program t.frames calls laid l (placed_at spot type_id) at)))
+          (content_back spot (subst (λ n. IsAmong n spot) lengths (spot_among t.program t.frames calls l (placed_at spot type_id) at)))
           (represents.values l spot type_id (placed_deeper t.program t.frames call calls l (placed_at spot type_id) at) scalar);
       params = λ d k other lower proc param at has.
           given_on t lower param (lent_in other k) (content t s (InVariable d (param_variable proc k))) (content t after (InVariable d (param_variable proc k)))
@@ -105,3 +107,21 @@ module _ (t : Translation) (call : LiveCall) (below : List LiveCall) (store : St
   names_address =
       by_lent (lent_in call k) (content t s (InVariable (suc (length below)) (param_variable proc k))) (held_at s (param_variable proc k)) held_there
       (represents.params (suc (length below)) k call below proc param top_call has)
+
+  -- what was lent is of the module's data, or of a call below
+  lent_below : (lent : Option Location) (held : Held) (x : Object) (byte : ℕ) → IsGiven t below param lent held → held ≡ Some (At x byte) → IsBelow (length below) x
+  lent_below None held x byte g at = absurd (differ (sym by_var ∙ g))
+    where
+      differ : true ≡ false → ⊥
+      differ d = cc
+  lent_below (Some l) held x byte g at =
+      subst (IsBelow (length below)) (same g.1.object x (4 * g.1.word) byte (sym g.1.address ∙ at))
+      (spot_among t.program t.frames below l (placed_at (InWord g.1.object g.1.word) param.type_id) g.1.place)
+    where
+      same : (y z : Object) (m n : ℕ) → (let h : Held = Some (At y m) in h ≡ Some (At z n)) → y ≡ z
+      same y z m n e = cc
+
+  pub address_below : (x : Object) (byte : ℕ) → held_at s (param_variable proc k) ≡ Some (At x byte) → IsBelow (length below) x
+  address_below x byte at =
+      lent_below (lent_in call k) (content t s (InVariable (suc (length below)) (param_variable proc k))) x byte
+      (represents.params (suc (length below)) k call below proc param top_call has) (held_there ∙ at)

@@ -1,6 +1,6 @@
 -- Where each location is while a module runs: in a variable of a live call, or in a word of an
 -- object. It follows from the live calls and the frames of their procedures alone.
-use Rattle.std.specs.Prelude.{ℕ, suc, ◌+◌, nat_eq, if◌then◌else◌, List, [], ◌∷◌, length, Option}
+use Rattle.std.specs.Prelude.{ℕ, suc, ◌+◌, ◌<◌, ⊤, nat_eq, if◌then◌else◌, List, [], ◌∷◌, length, Option}
 use Rattle.std.specs.Prelude.{Some, None, slice_get}
 use Rattle.pra_list.specs.Options.{◌>>=◌}
 use Rattle.ob_syntax.specs.declared.checked.Checked.{Checked}
@@ -91,6 +91,12 @@ object_placed program frames calls (mean.Local depth k) = do
   call ← call_at calls depth
   local ← local_of program call.0 k
   local_placed depth (here_of frames call) k local
+
+-- The object is the module's data, or of one of so many live calls, the lowest ones.
+abbrev pub IsBelow : ℕ → MachineObject → Type 0
+IsBelow calls machine.Data = ⊤
+IsBelow calls (machine.Aggregates n sum) = n < calls
+IsBelow calls (machine.Cell n below k) = n < calls
 
 -- ---- where a location is
 

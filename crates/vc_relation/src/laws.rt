@@ -20,7 +20,7 @@ ghost use Rattle.ob_mean.specs.Store.{Store, assigned};
 ghost use Rattle.vc_code.specs.declared.value.Object.{Object};
 ghost use Rattle.vc_code.specs.declared.value.Object.TheVariants.{Data, Aggregates, Cell};
 ghost use Rattle.vc_code.specs.declared.value.Value.{Value};
-ghost use Rattle.vc_code.specs.declared.value.Value.TheVariants.{Num};
+ghost use Rattle.vc_code.specs.declared.value.Value.TheVariants.{Num, At};
 ghost use Rattle.vc_code.specs.Value.{Held};
 ghost use Rattle.vc_code.specs.Machine.{Activation, State, with_object, returned};
 ghost use Rattle.vc_code.specs.Selected.{Vars};
@@ -28,7 +28,7 @@ ghost use Rattle.vc_relation.specs.Homes.{param_variable};
 ghost use Rattle.vc_relation.specs.Layout.{Part, part_in, words_before, part_along};
 ghost use Rattle.vc_relation.specs.Layout.{TypesInOrder, IsLaidOut};
 ghost use Rattle.vc_relation.specs.Spots.{Spot, InVariable, InWord, Placed, placed_at};
-ghost use Rattle.vc_relation.specs.Spots.{param_of, placed};
+ghost use Rattle.vc_relation.specs.Spots.{IsBelow, param_of, placed};
 ghost use Rattle.vc_relation.specs.Relation.{Translation, shapes_of, content, is_of_type};
 ghost use Rattle.vc_relation.specs.Relation.{IsAddressOf, Represents, SameButVariables, held_at};
 ghost use Rattle.vc_relation.specs.Relation.{homes_of};
@@ -117,12 +117,17 @@ pub fn a_return_keeps_the_relation()
 /// The variable of a VAR parameter of the running call has the address of the location that it
 /// names: a word of the module's data or of a call below.
 pub fn var_parameters_have_addresses()
-    ensures { (t : Translation) (call : LiveCall) (below : List LiveCall) (store : Store)
+    ensures named { (t : Translation) (call : LiveCall) (below : List LiveCall) (store : Store)
         (s : State Vars) (k : ℕ) (proc : CheckedProc) (param : Param) →
         Represents t (call ∷ below) store s →
         param_of t.program call k ≡ Some (proc, param) → param.by_var ≡ true →
         IsAddressOf t (call ∷ below) (root_location (call ∷ below) (root.Param k)) param.type_id
         (held_at s (param_variable proc k)) }
+    ensures below { (t : Translation) (call : LiveCall) (below : List LiveCall) (store : Store)
+        (s : State Vars) (k : ℕ) (proc : CheckedProc) (param : Param) (x : Object) (byte : ℕ) →
+        Represents t (call ∷ below) store s →
+        param_of t.program call k ≡ Some (proc, param) → param.by_var ≡ true →
+        held_at s (param_variable proc k) ≡ Some (At x byte) → IsBelow (length below) x }
 {}
 
 /// Where the variables of a module with each kind of them are.

@@ -34,7 +34,7 @@ use Rattle.vc_select.specs.declared.target.Setting.{Setting}
 use Rattle.vc_select.specs.declared.target.Target.{Target}
 use Rattle.vc_select.specs.declared.target.Target.TheVariants.{Var, Memory}
 use Rattle.vc_select.specs.Indexes.{IndexedBy}
-use Rattle.vc_select.specs.Targets.{above_target, above_target_base, shifted, words_to_field, root_target}
+use Rattle.vc_select.specs.Targets.{above_target, above_target_base, shifted, words_to_field, root_target, whole_of}
 use Rattle.vc_typed.specs.Typing.{Typing, typed, is_of, Leading, ToField, ToElement, type_after, binary_typing, typing, leading, variable_typing}
 use Rattle.vc_select.specs.Selects.{Finds, Selects, Locates, Loads, Leads, LeadsFrom, LeadsBy, Tests, IsFor, Always, joined, exchanged}
 use Rattle.vc_typed.proofs.Equations.{typing-Number, typing-Truth, typing-Var, typing-Negate, typing-Not, typing-Binary, leading-Field, leading-Index, variable_typing-is}
@@ -236,3 +236,7 @@ above_shifted words (Memory a) = refl
 pub above_base_shifted : (words : ℕ) (t : Target) → above_target_base (shifted words t) ≡ above_target_base t
 above_base_shifted words (Var v) = refl
 above_base_shifted words (Memory a) = refl
+
+pub whole_shifted : (words : ℕ) (t : Target) → whole_of (shifted words t) ≡ whole_of t
+whole_shifted words (Var v) = refl
+whole_shifted words (Memory a) = refl

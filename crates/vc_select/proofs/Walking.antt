@@ -1,6 +1,6 @@
 -- What the walk needs besides the arms: that targets have small numbers, that blocks wait open, and
 -- the whole of a choice.
-use Rattle.std.proofs.Common.{◌≡◌, ℕ, zero, suc, ◌+◌, ◌<◌, ◌≤◌, Bool, true, false, List, [], ◌∷◌, length, max, Option, Some, None, sym, ap, ◌∙◌, subst, arith}
+use Rattle.std.proofs.Common.{◌≡◌, ℕ, zero, suc, ◌+◌, ◌<◌, ◌≤◌, Bool, true, false, List, [], ◌∷◌, length, max, Option, Some, None, refl, sym, ap, ◌∙◌, subst, arith}
 use Rattle.std.specs.Prelude.{slice_get}
 use Rattle.pra_base.specs.Code.{kind_of, block_of}
 use Rattle.pra_base.specs.declared.code.VarKind.TheVariants.{Plain}
@@ -24,7 +24,7 @@ use Rattle.vc_relation.specs.declared.home.Home.TheVariants as home
 use Rattle.vc_select.specs.declared.target.Setting.{Setting}
 use Rattle.vc_select.specs.declared.target.Target.{Target}
 use Rattle.vc_select.specs.declared.target.Target.TheVariants.{Var, Memory}
-use Rattle.vc_select.specs.Targets.{home_target, home_in, by_var_of, param_target, root_target, above_home, above_homes, above_target, above_target_base}
+use Rattle.vc_select.specs.Targets.{home_target, home_in, by_var_of, param_target, root_target, whole_of, above_home, above_homes, above_target, above_target_base}
 use Rattle.vc_typed.specs.Typing.{Typing, binary_typing}
 use Rattle.vc_select.specs.Selects.{Selects, Tests, sided, joined, inner_targets}
 use Rattle.vc_select.proofs.Sides.{selects_sides}
@@ -52,6 +52,22 @@ pub above_root : (program : Checked) (params locals : List Home) (proc : ℕ) (r
 above_root program params locals proc (root.Module n) = omega arith
 above_root program params locals proc (root.Param k) = omega (arith, above_of_param params (slice_get program.procs proc) k)
 above_root program params locals proc (root.Local k) = omega (arith, above_of_home false (home_in locals k), above_in locals k)
+
+-- the target of a variable without selectors is whole
+whole_home : (by_var : Bool) (h : Home) → whole_of (home_target by_var h) ≡ home_target by_var h
+whole_home true (home.Var v) = refl
+whole_home false (home.Var v) = refl
+whole_home by_var (home.Cell k) = refl
+whole_home by_var (home.Frame w) = refl
+
+whole_param : (homes : List Home) (o : Option CheckedProc) (k : ℕ) → whole_of (param_target homes o k) ≡ param_target homes o k
+whole_param homes None k = whole_home false (home_in homes k)
+whole_param homes (Some proc) k = whole_home (by_var_of (slice_get proc.params k)) (home_in homes k)
+
+pub whole_root : (program : Checked) (params locals : List Home) (proc : ℕ) (r : Root) → whole_of (root_target program params locals proc r) ≡ root_target program params locals proc r
+whole_root program params locals proc (root.Module n) = refl
+whole_root program params locals proc (root.Param k) = whole_param params (slice_get program.procs proc) k
+whole_root program params locals proc (root.Local k) = whole_home false (home_in locals k)
 
 pub above_base_within : (t : Target) → above_target_base t ≤ above_target t
 above_base_within (Var v) = omega arith

@@ -64,6 +64,11 @@ root_target program params locals proc (root.Local k) = home_target false (home_
 
 -- ---- the parts of a variable
 
+-- the target of the whole variable of which a target names a part
+abbrev pub whole_of : Target → Target
+whole_of (Var v) = Var v
+whole_of (Memory a) = at_base a.base
+
 -- so many words further on; a variable of the code has no parts
 abbrev pub shifted : ℕ → Target → Target
 shifted words (Var v) = Var v

@@ -10,7 +10,7 @@ ghost use Rattle.vc_select.specs.Blocks.{needs};
 ghost use Rattle.vc_select.specs.Certified.{ReadsTarget};
 ghost use Rattle.vc_select.specs.Indexes.{IndexedBy};
 ghost use Rattle.vc_select.specs.Selects.{Always};
-ghost use Rattle.vc_select.specs.Targets.{above_target, above_target_base};
+ghost use Rattle.vc_select.specs.Targets.{above_target, above_target_base, whole_of};
 
 use crate::index::select_index;
 use crate::target::Target;
@@ -95,6 +95,7 @@ pub fn indexed(
     ensures vars { OnOk result (length code.old.vars ≤ length code.new.vars) }
     ensures named { IfOk result (λ t. above_target t ≤ length code.new.vars) }
     ensures base { IfOk result (λ t. above_target_base t ≡ above_target_base target) }
+    ensures whole { IfOk result (λ t. whole_of t ≡ whole_of target) }
     ensures indexed { IfOk result (λ t. IndexedBy first at.0 code.old code.new target
         index.variable.0 index.count index.words t) }
     ensures counts { OnOk result (AddsAtMost 5 2 1 0 code.old code.new) }

@@ -19,6 +19,7 @@ ghost use Rattle.vc_select.specs.Blocks.{needs, needs_of_step, needs_of_var};
 ghost use Rattle.vc_select.specs.Selects.{Selects, Locates, LeadsFrom, LeadsBy, Tests, IsFor};
 ghost use Rattle.vc_select.specs.Selects.{sided, joined};
 ghost use Rattle.vc_select.specs.Targets.{above_setting, above_target, above_target_base};
+ghost use Rattle.vc_select.specs.Targets.{root_target as target_of_root, whole_of};
 ghost use Rattle.vc_typed.specs.Nodes.{nodes_in, nodes_in_step, nodes_in_var};
 ghost use Rattle.vc_typed.specs.Typing.{typing, binary_typing, leading, variable_typing};
 ghost use Rattle.vc_typed.specs.Typing.{type_after};
@@ -248,6 +249,8 @@ pub fn select_var(setting: &Setting<'_>, ctx: &mut Ctx, v: &RVar) -> Result<Targ
         ctx.old.code ctx.new.code ctx.old.at.0 ctx.new.at.0 (InTarget t)) }
     ensures cells { IfOk result (λ t. (k : ℕ) → CellOf t k →
         IsHome setting.now (home.Cell k)) }
+    ensures whole { IfOk result (λ t. whole_of t ≡ target_of_root setting.now.program.now
+        setting.now.params.now setting.now.locals.now setting.now.id.0 v.now.root) }
     ensures text { OnOk result (StaysInText (needs_of_var v.now).blocks
         ctx.old.at.0 ctx.new.at.0 ctx.old.code ctx.new.code ctx.old.order ctx.new.order) }
     ensures hands_on { OnOk result (HandsOn ctx.old.at.0 ctx.new.at.0
@@ -283,6 +286,7 @@ fn select_step(
     ensures named { IfOk result (λ r. above_target r.target ≤ length ctx.new.code.vars) }
     ensures base { IfOk result (λ r.
         above_target_base r.target ≡ above_target_base from.target) }
+    ensures whole { IfOk result (λ r. whole_of r.target ≡ whole_of from.target) }
     ensures type_after { IfOk result (λ r. r.type_id ≡
         type_after setting.now.program.now.types from.type_id
         (leading setting.now.program.now setting.now.id.0 step.now)) }
@@ -336,6 +340,7 @@ fn select_element(
     ensures vars { OnOk result (length ctx.old.code.vars ≤ length ctx.new.code.vars) }
     ensures named { IfOk result (λ t. above_target t ≤ length ctx.new.code.vars) }
     ensures base { IfOk result (λ t. above_target_base t ≡ above_target_base from.target) }
+    ensures whole { IfOk result (λ t. whole_of t ≡ whole_of from.target) }
     ensures in_range { OnOk result ((k : ℕ) →
         k < array_length (shape_of setting.now.program.now.types from.type_id) →
         x.now ≡ Number (pos k) → ctx.new.code ≡ ctx.old.code) }

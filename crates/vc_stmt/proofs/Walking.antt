@@ -27,6 +27,7 @@ use Rattle.vc_select.specs.declared.target.Setting.{Setting}
 use Rattle.vc_select.specs.declared.target.Target.{Target}
 use Rattle.vc_select.specs.declared.target.Target.TheVariants.{Var, Memory}
 use Rattle.vc_select.specs.Selects.{Tests}
+use Rattle.vc_select.specs.Targets.{at_base}
 use Rattle.vc_select.proofs.Arms.{next_item}
 use Rattle.vc_typed.specs.TypedStatements.{is_call}
 use Rattle.vc_typed.specs.Typing.{Typing, typing, is_of}
@@ -50,6 +51,13 @@ pub loop_room : (old m1 : VProc) (from depth : ℕ) → from < count old → m1 
 loop_room old m1 from depth lt is = subst (λ (z : VProc). from < count z) (sym is) (omega (arith, lt, loop_count depth old))
 
 -- ---- calls
+
+-- the address of a whole VAR parameter
+pub own_address : (target : Target) (a : Addr) (u : VarId) → target ≡ Memory a → target ≡ at_base (Via u) → a ≡ record { base = Via u; offset = pos 0; index = None }
+own_address target a u is own = same a (record { base = Via u; offset = pos 0; index = None }) (sym is ∙ own)
+  where
+    same : (x y : Addr) → (let t : Target = Memory x in t ≡ Memory y) → x ≡ y
+    same x y e = cc
 
 module _ (g : Setting) where
   pub lend_variable_done : (old : VProc) (at : ℕ) (target : Target) (u : VarId) → target ≡ Var u → IsOpen old at → Lends g at old old target u.0

@@ -1,7 +1,7 @@
 // Calls: all arguments are evaluated, from left to right, and then pushed.
 
-ghost use Rattle.std.specs.Prelude.{◌≡◌, ◌<◌, ◌≤◌, ◌+◌, ◌&&◌, pos, length, IfOk, OnOk, IfSome};
-ghost use Rattle.std.specs.Prelude.{slice_get};
+ghost use Rattle.std.specs.Prelude.{◌≡◌, ◌≢◌, ◌<◌, ◌≤◌, ◌+◌, ◌&&◌, true, pos, length, IfOk, OnOk};
+ghost use Rattle.std.specs.Prelude.{IfSome, None, slice_get};
 ghost use Rattle.pra_base.specs.declared.code.Base.TheVariants.{Via};
 ghost use Rattle.pra_base.specs.declared.code.VarKind.TheVariants.{Plain};
 ghost use Rattle.pra_base.specs.declared.code.VInstr.TheVariants as instr;
@@ -13,7 +13,7 @@ ghost use Rattle.vc_expr.specs.Counts.{AddsAtMost};
 ghost use Rattle.vc_select.specs.Amounts.{AddsForValue};
 ghost use Rattle.vc_select.specs.Blocks.{StaysInText};
 ghost use Rattle.vc_select.specs.Certified.{IsAnswer, ReadsWord, StaysReady};
-ghost use Rattle.vc_select.specs.Targets.{above_setting, above_target};
+ghost use Rattle.vc_select.specs.Targets.{above_setting, above_target, at_base};
 ghost use Rattle.vc_typed.specs.Nodes.{arg_nodes};
 ghost use Rattle.vc_typed.specs.TypedStatements.{is_call};
 ghost use Rattle.vc_stmt.specs.Amounts.{AddsForArguments, AddsForStatements, argument_nodes};
@@ -46,12 +46,20 @@ fn put_address(
     Ok(t)
 }
 
-/// The variable that has an address already: that of a VAR parameter.
-fn address_variable(address: Addr) -> Option<VarId>
-    ensures { IfSome result (λ u.
+/// The variable that has the address of a whole variable already: that of a VAR parameter.
+fn address_variable(address: Addr, is_whole: bool) -> Option<VarId>
+    ensures is { IfSome result (λ u.
         address ≡ record { base = Via u; offset = pos 0; index = None }) }
+    ensures none { result ≡ None → is_whole ≡ true → (u : VarId) →
+        address ≢ record { base = Via u; offset = pos 0; index = None } }
 {
-    if address.offset != 0 || address.index.is_some() {
+    if !is_whole {
+        return None;
+    }
+    if address.offset != 0 {
+        return None;
+    }
+    if address.index.is_some() {
         return None;
     }
     match address.base {
@@ -80,14 +88,14 @@ fn lend(
     ensures lends { IfOk result (λ t. Lends setting.now at.0 code.old code.new target t.0) }
     ensures counts { OnOk result (AddsAtMost 1 1 0 0 code.old code.new) }
     ensures reads { IfOk result (λ t. ReadsWord at.0 code.old code.new target t.0) }
+    ensures own { IfOk result (λ t. is_whole ≡ true → (u : VarId) → target ≡ at_base (Via u) →
+        (t ≡ u) × (code.new ≡ code.old)) }
 {
     match target {
         Target::Var(u) => Ok(u),
         Target::Memory(address) => {
-            if is_whole {
-                if let Some(u) = address_variable(address) {
-                    return Ok(u);
-                }
+            if let Some(u) = address_variable(address, is_whole) {
+                return Ok(u);
             }
             let t = put_address(setting.alloc, code, at, address)?;
             Ok(t)

@@ -7,12 +7,12 @@ use Rattle.vc_build.specs.Grow.{count}
 use Rattle.vc_build.proofs.Open.{hands_declared, hands_nothing, hands_on}
 use Rattle.vc_expr.specs.declared.branch.Targets.{Targets}
 use Rattle.vc_select.specs.declared.target.Target.{Target}
-use Rattle.vc_select.specs.Targets.{above_target, above_target_base, words_to_field}
-use Rattle.vc_select.proofs.Arms.{expr_number, expr_truth, expr_variable, expr_negate, expr_not, expr_binary, test_binary, test_exchanged, step_field, step_index, step_type_field, step_type_index, element_constant, element_indexed, for_field, for_index, walk_begin, walk_on, walk_done, variable_walked, above_shifted, above_base_shifted}
+use Rattle.vc_select.specs.Targets.{above_target, above_target_base, words_to_field, whole_of}
+use Rattle.vc_select.proofs.Arms.{expr_number, expr_truth, expr_variable, expr_negate, expr_not, expr_binary, test_binary, test_exchanged, step_field, step_index, step_type_field, step_type_index, element_constant, element_indexed, for_field, for_index, walk_begin, walk_on, walk_done, variable_walked, above_shifted, above_base_shifted, whole_shifted}
 use Rattle.vc_select.proofs.Forms.{selects_as}
 use Rattle.vc_select.proofs.Sides.{joined_sided}
 use Rattle.vc_select.proofs.Conditions.{tests_as, tests_value, tests_relation}
-use Rattle.vc_select.proofs.Walking.{above_root, above_base_within, selects_both, choice_holds, choice_fails, choice_waits, choice_target, choice_plain, choice_behind, choice_no_entry, choice_selects, split_holds, split_fails, split_waits, split_tests}
+use Rattle.vc_select.proofs.Walking.{above_root, above_base_within, whole_root, selects_both, choice_holds, choice_fails, choice_waits, choice_target, choice_plain, choice_behind, choice_no_entry, choice_selects, split_holds, split_fails, split_waits, split_tests}
 use Rattle.std.proofs.Common.{List}
 use Rattle.ob_syntax.specs.declared.checked.RStep.{RStep}
 use Rattle.vc_expr.specs.Counts.{AddsAtMost}
@@ -121,6 +121,7 @@ select_var-loop-step-init t c =
           (from_same g c.in_ok-first.first c.args.ctx.now.code c.args.ctx.now.at.0 c.root_target-target.result c.root_target-target.result (λ u e. e) (λ k e. e)),
       λ new to after p. subst (λ (l : List RStep). StaysInText (blocks_of_steps l) c.args.ctx.now.at.0 to c.args.ctx.now.code new c.args.ctx.now.order after) c.as_slice-step-items.ensures p,
       hands_nothing c.args.ctx.now.at.0 c.args.ctx.now.code,
+      ap whole_of c.root_target-target.ensures ∙ whole_root g.program.now g.params.now g.locals.now g.id.0 c.args.v.now.root,
     )
 
 pub select_var-loop-step-preserved : goal.select_var-loop-step-preserved
@@ -136,6 +137,7 @@ select_var-loop-step-preserved t c = (
   from_on c.args.setting.now _ _ _ _ _ _ _ _ _ _ c.loop-step.invariant.5 c.loop-step.invariant.7 c.in_ok-reached.ensures.ready,
   λ new to after p. c.loop-step.invariant.8 new to after (text_as _ _ _ _ _ _ _ _ (steps_next _ _ c.step-item.result c.loop-step-test.true c.step-item.is) (text_on _ _ _ _ _ _ _ _ _ _ _ c.in_ok-reached.ensures.text p)),
   hands_on _ _ _ _ _ _ c.loop-step.invariant.9 c.in_ok-reached.ensures.hands_on,
+  c.in_ok-reached.ensures.whole ∙ c.loop-step.invariant.10,
 )
 
 pub select_var-returns-clause-locates : goal.select_var-returns-clause-locates
@@ -330,6 +332,12 @@ select_var-returns-clause-ready t c =
 
 pub select_var-returns-clause-cells : goal.select_var-returns-clause-cells
 select_var-returns-clause-cells t c = variable_cells c.args.setting.now _ _ _ _ _ c.args.v.now.root _ c.loop-step.invariant.7
+
+pub select_var-returns-clause-whole : goal.select_var-returns-clause-whole
+select_var-returns-clause-whole t c = c.loop-step.invariant.10
+
+pub select_step-returns-in_ok-target-in-Field-clause-whole : goal.select_step-returns-in_ok-target-in-Field-clause-whole
+select_step-returns-in_ok-target-in-Field-clause-whole t c = ap whole_of c.in_ok-target-in-Field.ensures ∙ whole_shifted c.in_ok-words-in-Field.words c.args.from.target
 
 pub select_step-returns-in_ok-target-in-Field-clause-counts : goal.select_step-returns-in_ok-target-in-Field-clause-counts
 select_step-returns-in_ok-target-in-Field-clause-counts t c = path_adds _ _ _ (adds_none _)

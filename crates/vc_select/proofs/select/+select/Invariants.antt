@@ -1,4 +1,4 @@
-use Rattle.std.proofs.Common.{◌≤◌, ℕ, List, length, drop, map}
+use Rattle.std.proofs.Common.{◌≡◌, ◌≤◌, ℕ, List, length, drop, map}
 use Rattle.pra_base.specs.declared.ids.BlockId.{BlockId}
 use Rattle.pra_base.specs.declared.code.VProc.{VProc}
 use Rattle.ob_mean.specs.Designators.{root_type}
@@ -6,7 +6,7 @@ use Rattle.ob_mean.specs.Expressions.{selector}
 use Rattle.vc_build.specs.Grow.{HandsOn, IsOpen}
 use Rattle.vc_select.specs.declared.target.Target.{Target}
 use Rattle.vc_select.specs.Selects.{Leads}
-use Rattle.vc_select.specs.Targets.{above_target, above_target_base, root_target}
+use Rattle.vc_select.specs.Targets.{above_target, above_target_base, root_target, whole_of}
 use Rattle.vc_select.specs.Certified.{StaysReadyFrom}
 use Rattle.vc_select.specs.Blocks.{StaysInText, blocks_of_steps}
 use Rattle.vc_select.specs.Amounts.{AddsForPath, path_nodes}
@@ -28,3 +28,4 @@ invariant-select_var-loop-step l =
     StaysInText (blocks_of_steps (drop l.step-index l.step-items)) l.ctx.at.0 to l.ctx.code new l.ctx.order after →
     StaysInText (blocks_of_steps l.v.steps) l.fn.ctx.at.0 to l.fn.ctx.code new l.fn.ctx.order after)
     × HandsOn l.fn.ctx.at.0 l.ctx.at.0 l.fn.ctx.code l.ctx.code
+    × (whole_of l.target ≡ root_target l.setting.program.now l.setting.params.now l.setting.locals.now l.setting.id.0 l.v.root)
