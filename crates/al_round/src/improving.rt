@@ -13,6 +13,7 @@ ghost use Rattle.al_iter.specs.Room.{IsSpareOf};
 use crate::copies::overwrite_routes;
 use crate::tried::Outcome;
 use al_iter::settle;
+use al_kick::{SearchRoom, kick};
 use net_cost::{CostModel, Event};
 use net_form::{Net, Routes, Spare};
 use net_gate::cost;
@@ -75,6 +76,58 @@ fn take_laid<F: Fn(Event, u32) -> u32>(
     }
 }
 
+// Looks for routes that cost less than the best ones, and leaves them in the room.
+fn look<F: Fn(Event, u32) -> u32>(
+    alloc: Global,
+    search: &mut SearchRoom,
+    spare: &mut Spare,
+    net: &Net,
+    model: &CostModel<F>,
+    best: &Routes,
+    round: u32,
+    bound: u128,
+) -> bool
+    requires kept { Keeps F.Fn model.now }
+    requires net { IsBuilt net.now }
+    requires spare { IsSpareOf net.now spare.old }
+    ensures spare { IsSpareOf net.now spare.new }
+    ensures found { AreRoutes net.now spare.new.routes }
+    ensures admitted { result ≡ true → IsAdmitted net.now (flow net.now spare.new.routes) }
+{
+    let taken = &mut spare.taken;
+    let found = &mut spare.routes;
+    kick(alloc, search, taken, found, net, model, best, round, bound)
+}
+
+// Takes what the search finds from the best routes, which have this bound.
+fn take_kicked<F: Fn(Event, u32) -> u32>(
+    alloc: Global,
+    best: &mut Routes,
+    search: &mut SearchRoom,
+    spare: &mut Spare,
+    net: &Net,
+    model: &CostModel<F>,
+    round: u32,
+    bound: u128,
+) -> bool
+    requires kept { Keeps F.Fn model.now }
+    requires net { IsBuilt net.now }
+    requires spare { IsSpareOf net.now spare.old }
+    requires routes { AreRoutes net.now best.old }
+    requires admitted { IsAdmitted net.now (flow net.now best.old) }
+    ensures routes { AreRoutes net.now best.new }
+    ensures admitted { IsAdmitted net.now (flow net.now best.new) }
+    ensures less { cost_in net.now (weights_of model.now) best.new ≤
+        cost_in net.now (weights_of model.now) best.old }
+    ensures same { result ≡ false → best.new ≡ best.old }
+    ensures spare { IsSpareOf net.now spare.new }
+{
+    if !look(alloc, search, spare, net, model, best, round, bound) {
+        return false;
+    }
+    take_cheaper(alloc, best, net, model, &spare.routes)
+}
+
 // Settles routes, unless they are.
 fn settle_unless<F: Fn(Event, u32) -> u32>(
     settled: bool,
@@ -104,8 +157,9 @@ fn settle_unless<F: Fn(Event, u32) -> u32>(
     settle(work, spare, net, model, routes);
 }
 
-/// Takes what was laid in place of the best routes where it costs less, and settles what is best
-/// then. `settled` says that the best routes were.
+/// Takes what was laid in place of the best routes where it costs less, then what the search finds
+/// from there, and settles what is best then. `settled` says that the best routes were; the number
+/// of the round decides where the search looks, and it looks no further than this bound.
 pub(crate) fn improve<F: Fn(Event, u32) -> u32>(
     alloc: Global,
     settled: bool,
@@ -115,6 +169,9 @@ pub(crate) fn improve<F: Fn(Event, u32) -> u32>(
     model: &CostModel<F>,
     best: &mut Routes,
     outcome: &Outcome,
+    search: &mut SearchRoom,
+    round: u32,
+    bound: u128,
 )
     requires kept { Keeps F.Fn model.now }
     requires net { IsBuilt net.now }
@@ -133,6 +190,7 @@ pub(crate) fn improve<F: Fn(Event, u32) -> u32>(
     ensures family { work.new.family ≡ work.old.family }
     ensures reserved { IsReservedFor net.now work.new }
 {
-    let changed = take_laid(alloc, best, net, model, outcome);
-    settle_unless(settled && !changed, work, spare, net, model, best);
+    let laid = take_laid(alloc, best, net, model, outcome);
+    let kicked = take_kicked(alloc, best, search, spare, net, model, round, bound);
+    settle_unless(settled && !laid && !kicked, work, spare, net, model, best);
 }

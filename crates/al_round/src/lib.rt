@@ -4,9 +4,10 @@
 //! [`start`](Rounds::start) begins with home routes and prices of nothing. Each
 //! [`round`](Rounds::round) changes the prices of registers, memory pairs and ties by how often a
 //! family of least paths wants them, and makes routes by these prices: a greedy plan for the ties,
-//! the strands in the order of what they pay, each laid through what those before it left. The
-//! cheapest routes seen are settled, so that no change of one strand or one variable makes them
-//! cheaper, and kept where they cost no more than those before. The Lagrange value of the prices
+//! the strands in the order of what they pay, each laid through what those before it left. From the
+//! cheapest routes seen a search goes on that lets strands overlap for a while (al_kick). What is
+//! cheapest then is settled, so that no change of one strand or one variable makes it cheaper, and
+//! kept where it costs no more than what was before. The Lagrange value of the prices
 //! bounds the cost of every admitted flow; the line of a round has the greatest one so far.
 //! [`grant`](Rounds::grant) makes so many rounds, or as many as a [`Watch`] wants.
 //!

@@ -21,6 +21,7 @@ use crate::trying::{step_prices, try_prices};
 use crate::value::{keep_greater, rounded_up};
 use crate::watch::{Verdict, Watch};
 use al_edge::home;
+use al_kick::SearchRoom;
 use net_cost::{CostModel, Event};
 use net_form::{Line, Net, Prices, Routes, Spare};
 use net_gate::cost;
@@ -55,6 +56,7 @@ pub struct Rounds {
     pub(crate) next: Prices,
     pub(crate) work: Work,
     pub(crate) spare: Spare,
+    pub(crate) search: SearchRoom,
 }
 
 impl Rounds {
@@ -94,6 +96,7 @@ impl Rounds {
             bound: rounded_up(best_value),
         };
         let lines = Seq::from_slice(alloc, &[line])?;
+        let search = SearchRoom::reserve(alloc, net)?;
         Ok(Rounds {
             best,
             prices,
@@ -104,6 +107,7 @@ impl Rounds {
             next,
             work,
             spare,
+            search,
         })
     }
 
@@ -158,6 +162,7 @@ impl Rounds {
         ensures same { OnErr result (AreSame self.old self.new) }
     {
         let number = self.lines.len();
+        let bound = self.last_line().bound;
         self.lines.push(NO_LINE)?;
         improve(
             alloc,
@@ -168,6 +173,9 @@ impl Rounds {
             model,
             &mut self.best,
             &tried.outcome,
+            &mut self.search,
+            number as u32,
+            bound,
         );
         let value = lagrange(&mut self.work, net, model, &self.next);
         mem::swap(&mut self.prices, &mut self.next);

@@ -1,0 +1,213 @@
+// How many strands are in each register at a layer, and at each memory pair, and what it costs to
+// come there too (McMurchie and Ebeling, PathFinder: A Negotiation-Based Performance-Driven Router
+// for FPGAs, FPGA 1995).
+//
+// Who comes to a cell pays a penalty for each other strand there now, and the cell's history, which
+// grows as long as strands overlap there.
+
+use crate::lists::Numbers;
+use net_form::Net;
+use std::alloc::{AllocError, Global};
+
+/// The registers of a layer: how many strands are in each, the sum of their numbers, and what was
+/// added for past overlaps.
+#[derive(Clone, Copy)]
+pub(crate) struct Cell {
+    pub count: [u64; 8],
+    pub strands: [usize; 8],
+    pub history: [u64; 8],
+    hot: bool,
+}
+
+/// A memory pair: how many of its ends are in memory, and what was added for past overlaps.
+#[derive(Clone, Copy)]
+pub(crate) struct PairCell {
+    pub count: u64,
+    pub history: u64,
+    hot: bool,
+}
+
+const EMPTY: Cell = Cell {
+    count: [0; 8],
+    strands: [0; 8],
+    history: [0; 8],
+    hot: false,
+};
+
+const NO_PAIR: PairCell = PairCell {
+    count: 0,
+    history: 0,
+    hot: false,
+};
+
+/// Who was met in a cell.
+#[derive(Clone, Copy)]
+pub(crate) enum Met {
+    Nobody,
+    /// One strand.
+    One(usize),
+    /// Several, which overlapped there before.
+    Several,
+}
+
+/// All cells, those with a history, and how many strands are too many.
+#[derive(Drop)]
+pub(crate) struct Cells {
+    pub layers: Vec<Cell>,
+    pub pairs: Vec<PairCell>,
+    hot_layers: Numbers,
+    hot_pairs: Numbers,
+    pub overlaps: u64,
+}
+
+// How many layers all blocks have together.
+fn layer_count(net: &Net) -> usize {
+    let mut total = 0usize;
+    for block in net.blocks.as_slice() {
+        total = total.saturating_add(block.layers as usize);
+    }
+    total
+}
+
+impl Cells {
+    pub fn reserve(alloc: Global, net: &Net) -> Result<Cells, AllocError> {
+        let total = layer_count(net);
+        Ok(Cells {
+            layers: vec![in alloc; EMPTY; total]?,
+            pairs: vec![in alloc; NO_PAIR; net.pairs.len()]?,
+            hot_layers: Numbers::reserve(alloc, total)?,
+            hot_pairs: Numbers::reserve(alloc, net.pairs.len())?,
+            overlaps: 0,
+        })
+    }
+
+    /// Nobody is anywhere.
+    pub fn clear(&mut self) {
+        for layer in self.layers.iter_mut() {
+            *layer = EMPTY;
+        }
+        for pair in self.pairs.iter_mut() {
+            *pair = NO_PAIR;
+        }
+        self.hot_layers.clear();
+        self.hot_pairs.clear();
+        self.overlaps = 0;
+    }
+
+    /// A strand leaves a register.
+    pub fn leave(&mut self, layer: usize, register: usize, strand: usize) {
+        let Some(cell) = self.layers.get_mut(layer) else {
+            return;
+        };
+        let r = register % 8;
+        cell.count[r] = cell.count[r].saturating_sub(1);
+        cell.strands[r] = cell.strands[r].wrapping_sub(strand);
+        if cell.count[r] > 0 {
+            self.overlaps = self.overlaps.saturating_sub(1);
+        }
+    }
+
+    /// A strand comes to a register.
+    pub fn enter(&mut self, layer: usize, register: usize, strand: usize) -> Met {
+        let Some(cell) = self.layers.get_mut(layer) else {
+            return Met::Nobody;
+        };
+        let r = register % 8;
+        let count = cell.count[r];
+        let other = cell.strands[r];
+        cell.count[r] = count.saturating_add(1);
+        cell.strands[r] = other.wrapping_add(strand);
+        if count == 0 {
+            return Met::Nobody;
+        }
+        self.overlaps = self.overlaps.saturating_add(1);
+        if count == 1 {
+            Met::One(other)
+        } else {
+            Met::Several
+        }
+    }
+
+    /// An end of a memory pair leaves memory.
+    pub fn leave_pair(&mut self, pair: usize) {
+        let Some(cell) = self.pairs.get_mut(pair) else {
+            return;
+        };
+        cell.count = cell.count.saturating_sub(1);
+        if cell.count > 0 {
+            self.overlaps = self.overlaps.saturating_sub(1);
+        }
+    }
+
+    /// An end of a memory pair comes to memory. It says whether the other one was there.
+    pub fn enter_pair(&mut self, pair: usize) -> bool {
+        let Some(cell) = self.pairs.get_mut(pair) else {
+            return false;
+        };
+        cell.count = cell.count.saturating_add(1);
+        if cell.count == 1 {
+            return false;
+        }
+        self.overlaps = self.overlaps.saturating_add(1);
+        true
+    }
+
+    /// How many strands are in a register.
+    pub fn count(&self, layer: usize, register: usize) -> u64 {
+        match self.layers.get(layer) {
+            Some(cell) => cell.count[register % 8],
+            None => 0,
+        }
+    }
+
+    /// How many ends of a pair are in memory.
+    pub fn pair_count(&self, pair: usize) -> u64 {
+        match self.pairs.get(pair) {
+            Some(cell) => cell.count,
+            None => 0,
+        }
+    }
+
+    /// A register costs more from now on.
+    pub fn heat(&mut self, layer: usize, register: usize, more: u64) {
+        let Some(cell) = self.layers.get_mut(layer) else {
+            return;
+        };
+        let r = register % 8;
+        cell.history[r] = cell.history[r].wrapping_add(more);
+        if !cell.hot {
+            cell.hot = true;
+            self.hot_layers.push(layer);
+        }
+    }
+
+    /// Memory costs an end of a pair more from now on.
+    pub fn heat_pair(&mut self, pair: usize, more: u64) {
+        let Some(cell) = self.pairs.get_mut(pair) else {
+            return;
+        };
+        cell.history = cell.history.wrapping_add(more);
+        if !cell.hot {
+            cell.hot = true;
+            self.hot_pairs.push(pair);
+        }
+    }
+
+    /// All history is forgotten.
+    pub fn cool(&mut self) {
+        for at in 0..self.hot_layers.count() {
+            if let Some(cell) = self.layers.get_mut(self.hot_layers.at(at)) {
+                cell.history = [0; 8];
+                cell.hot = false;
+            }
+        }
+        for at in 0..self.hot_pairs.count() {
+            if let Some(cell) = self.pairs.get_mut(self.hot_pairs.at(at)) {
+                cell.history = 0;
+                cell.hot = false;
+            }
+        }
+        self.hot_layers.clear();
+        self.hot_pairs.clear();
+    }
+}

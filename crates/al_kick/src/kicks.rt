@@ -1,0 +1,269 @@
+// Kicks: a piece is routed as if nobody else were there, and whoever overlaps then makes room, and
+// pays for cells in which others are, until nobody overlaps. What is cheaper stays.
+//
+// The penalties and the history are those of negotiated congestion (McMurchie and Ebeling,
+// PathFinder: A Negotiation-Based Performance-Driven Router for FPGAs, FPGA 1995); that a local
+// search goes on from a small random change of the best, and back where that brings nothing, is
+// iterated local search (Lourenço, Martin and Stützle, Handbook of Metaheuristics, 2003).
+
+ghost use Rattle.net_cost.specs.Models.{Keeps};
+
+use crate::negotiate::thousandths;
+use crate::search::Search;
+use crate::spans::{Span, range};
+use net_cost::{CostModel, Event};
+use net_form::Net;
+
+// Passes over those that overlap, at most.
+const MOST_PASSES: u32 = 30;
+
+// For so many passes a kicked piece stands still.
+const STILL: u32 = 3;
+
+// A penalty at first, in units of 1/1,000, and by how many thousandths it grows with each pass.
+const PENALTY: u64 = 50;
+
+const GROWTH: u64 = 1400;
+
+// What history grows by where strands overlap, for each of them, in thousandths of a unit.
+const HISTORY: u64 = 50;
+
+// The penalty in a window, in thousandths of a unit.
+const IN_WINDOW: u64 = 100;
+
+impl Search {
+    // Some strand, more often one that pays.
+    fn draw_strand(&mut self) -> usize {
+        let count = self.spans.len();
+        let mut strand = self.draws.below(count);
+        for _ in 0..2u8 {
+            if self.worth(strand) > 0 {
+                return strand;
+            }
+            strand = self.draws.below(count);
+        }
+        strand
+    }
+
+    // By how many units the cells of a kicked piece become dearer.
+    fn draw_units(&mut self) -> u64 {
+        match self.draws.below(3) {
+            0 => 0,
+            1 => 1,
+            _ => 4,
+        }
+    }
+
+    // Routes a piece as if nobody else were there.
+    fn kick_piece<F: Fn(Event, u32) -> u32>(&mut self, net: &Net, model: &CostModel<F>)
+        requires kept { Keeps F.Fn model.now }
+    {
+        let strand = self.draw_strand();
+        let most = if self.draws.below(2) == 0 {
+            0
+        } else {
+            self.draws.below(8).saturating_add(1)
+        };
+        self.gather(net, strand, most);
+        let unit = self.rate(&self.span(strand)).unit;
+        let dearer = self.draw_units().saturating_mul(unit);
+        for number in 0..self.piece.strands.count() {
+            let strand = self.piece.strands.at(number);
+            self.heat_path(strand, dearer);
+        }
+        self.release_piece(net);
+        self.route_piece(net, model, 0);
+        self.cells.cool();
+        self.take_piece(net, model);
+        for number in 0..self.piece.strands.count() {
+            let strand = self.piece.strands.at(number);
+            self.log.still.add(strand);
+        }
+    }
+
+    // Lists the strands of a block that stand between layers.
+    fn list_window(&mut self, net: &Net, block: usize, from_layer: usize, to_layer: usize) {
+        self.log.list.clear();
+        let (from, to) = range(net.index.strands.as_slice(), block);
+        for strand in from..to {
+            let span = self.span(strand);
+            if span.first >= to_layer {
+                return;
+            }
+            if span.end() > from_layer {
+                self.log.list.push(strand);
+            }
+        }
+    }
+
+    // The piece becomes some strands that cross a window around a layer of a strand.
+    fn gather_window(&mut self, net: &Net, span: &Span) {
+        let width = self.draws.below(15).saturating_add(4);
+        let layer = span.first.wrapping_add(self.draws.below(span.len));
+        let from_layer = layer.saturating_sub(width / 2);
+        self.list_window(
+            net,
+            span.block,
+            from_layer,
+            from_layer.saturating_add(width),
+        );
+        self.begin_piece();
+        let count = self.draws.below(3).saturating_add(2);
+        for _ in 0..count {
+            let drawn = self.draws.below(self.log.list.count());
+            let strand = self.log.list.at(drawn);
+            self.add_strand(strand);
+        }
+    }
+
+    // Routes strands that cross a window one after the other, with a small penalty.
+    fn kick_window<F: Fn(Event, u32) -> u32>(&mut self, net: &Net, model: &CostModel<F>)
+        requires kept { Keeps F.Fn model.now }
+    {
+        let strand = self.draw_strand();
+        let span = self.span(strand);
+        self.gather_window(net, &span);
+        self.release_piece(net);
+        let present = thousandths(self.rate(&span).unit, IN_WINDOW);
+        for number in 0..self.piece.strands.count() {
+            let strand = self.piece.strands.at(number);
+            let ends = self.end_places(&self.span(strand));
+            self.route(net, model, strand, ends, present);
+            self.take(net, model, strand);
+        }
+    }
+
+    // Whether a strand of the piece stands still.
+    fn piece_is_still(&self) -> bool {
+        for number in 0..self.piece.strands.count() {
+            if self.log.still.has(self.piece.strands.at(number)) {
+                return true;
+            }
+        }
+        false
+    }
+
+    // Makes room at the tie groups of a strand, and says whether it could.
+    fn make_room_at_ties<F: Fn(Event, u32) -> u32>(
+        &mut self,
+        net: &Net,
+        model: &CostModel<F>,
+        span: &Span,
+        still: bool,
+        present: u64,
+    ) -> bool
+        requires kept { Keeps F.Fn model.now }
+    {
+        let mut done = false;
+        for group in [span.entry, span.exit] {
+            if let Some(group) = group {
+                self.begin_piece();
+                self.add_group(net, group);
+                if !(still && self.piece_is_still()) {
+                    self.reroute_piece(net, model, present);
+                    done = true;
+                }
+            }
+        }
+        done
+    }
+
+    // A strand that overlaps makes room.
+    fn make_room<F: Fn(Event, u32) -> u32>(
+        &mut self,
+        net: &Net,
+        model: &CostModel<F>,
+        strand: usize,
+        pass: u32,
+        penalty: u64,
+    )
+        requires kept { Keeps F.Fn model.now }
+    {
+        let (anywhere, tied) = self.overlaps(net, strand);
+        if !anywhere {
+            return;
+        }
+        let still = pass < STILL;
+        if still && self.log.still.has(strand) {
+            self.note_overlap(strand);
+            return;
+        }
+        let span = self.span(strand);
+        let present = thousandths(self.rate(&span).unit, penalty);
+        let with_ties = tied || pass % 4 == 3;
+        if with_ties && self.make_room_at_ties(net, model, &span, still, present) {
+            return;
+        }
+        self.reroute(net, model, strand, present);
+    }
+
+    // Those that overlap become the queue, in random order.
+    fn next_queue(&mut self) {
+        self.log.queue.clear();
+        for number in 0..self.log.next.count() {
+            let strand = self.log.next.at(number);
+            self.log.queue.push(strand);
+        }
+        self.log.next.clear();
+        self.log.is_next.clear();
+        self.draws.shuffle(&mut self.log.queue);
+    }
+
+    // Passes over those that overlap, until nobody does.
+    fn untangle<F: Fn(Event, u32) -> u32>(&mut self, net: &Net, model: &CostModel<F>)
+        requires kept { Keeps F.Fn model.now }
+    {
+        let mut penalty = PENALTY;
+        for pass in 0..MOST_PASSES {
+            if self.cells.overlaps == 0 {
+                return;
+            }
+            self.next_queue();
+            for number in 0..self.log.queue.count() {
+                let strand = self.log.queue.at(number);
+                self.make_room(net, model, strand, pass, penalty);
+            }
+            for number in 0..self.log.next.count() {
+                let strand = self.log.next.at(number);
+                let unit = self.rate(&self.span(strand)).unit;
+                self.heat_overlaps(net, strand, thousandths(unit, HISTORY));
+            }
+            penalty = penalty.saturating_mul(GROWTH) / 1000;
+        }
+    }
+
+    /// Keeps what changed, or gives it back where strands overlap or all cost more than before.
+    pub(crate) fn end_kick<F: Fn(Event, u32) -> u32>(
+        &mut self,
+        net: &Net,
+        model: &CostModel<F>,
+        before: u64,
+    )
+        requires kept { Keeps F.Fn model.now }
+    {
+        if self.cells.overlaps == 0 && self.paths.total <= before {
+            self.keep_changed();
+        } else {
+            self.undo(net, model);
+        }
+    }
+
+    /// One kick, and what comes of it.
+    pub(crate) fn kick_once<F: Fn(Event, u32) -> u32>(&mut self, net: &Net, model: &CostModel<F>)
+        requires kept { Keeps F.Fn model.now }
+    {
+        let before = self.paths.total;
+        self.begin_kick();
+        if self.draws.below(2) == 0 {
+            self.kick_piece(net, model);
+        } else {
+            self.kick_window(net, model);
+        }
+        self.untangle(net, model);
+        self.cells.cool();
+        if self.cells.overlaps == 0 {
+            self.settle_around(net, model);
+        }
+        self.end_kick(net, model, before);
+    }
+}

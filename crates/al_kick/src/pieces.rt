@@ -1,0 +1,285 @@
+// Pieces: strands that are tied to each other, which go to another place together.
+
+ghost use Rattle.net_cost.specs.Models.{Keeps};
+
+use crate::lists::{at, put};
+use crate::rows::{FAR, Row, add, least_place};
+use crate::search::Search;
+use crate::spans::{Span, range};
+use net_cost::{CostModel, Event};
+use net_form::Net;
+
+impl Search {
+    /// No strand is in the piece.
+    pub(crate) fn begin_piece(&mut self) {
+        self.piece.strands.clear();
+        self.piece.has.clear();
+        self.piece.groups.clear();
+    }
+
+    /// Adds a strand to the piece.
+    pub(crate) fn add_strand(&mut self, strand: usize) {
+        if self.piece.has.add(strand) {
+            self.piece.strands.push(strand);
+        }
+    }
+
+    /// Adds a tie group and the strands at it to the piece, and says whether it is new.
+    pub(crate) fn add_group(&mut self, net: &Net, group: usize) -> bool {
+        if !self.piece.groups.add(group) {
+            return false;
+        }
+        let (from, to) = range(net.index.groups.as_slice(), group);
+        for number in from..to {
+            if let Some(end) = net.index.members.get(number) {
+                self.add_strand(end.strand as usize);
+            }
+        }
+        true
+    }
+
+    // Adds a tie group, if there is one and the piece has fewer groups than it may have.
+    fn add_if(&mut self, net: &Net, group: Option<usize>, groups: usize, most: usize) -> usize {
+        if let Some(group) = group {
+            if groups < most && self.add_group(net, group) {
+                return groups.saturating_add(1);
+            }
+        }
+        groups
+    }
+
+    /// The piece becomes a strand and so many tie groups around it at most.
+    pub(crate) fn gather(&mut self, net: &Net, strand: usize, most: usize) {
+        self.begin_piece();
+        self.add_strand(strand);
+        let mut groups = 0usize;
+        for number in 0..self.spans.len() {
+            if number >= self.piece.strands.count() || groups >= most {
+                return;
+            }
+            let span = self.span(self.piece.strands.at(number));
+            groups = self.add_if(net, span.entry, groups, most);
+            groups = self.add_if(net, span.exit, groups, most);
+        }
+    }
+
+    fn has_group(&self, group: Option<usize>) -> bool {
+        match group {
+            Some(group) => self.piece.groups.has(group),
+            None => false,
+        }
+    }
+
+    // Whether the entry and the exit of a strand move with the piece.
+    fn moves(&self, span: &Span) -> (bool, bool) {
+        (self.has_group(span.entry), self.has_group(span.exit))
+    }
+
+    // Adds what a strand with one moving end pays, by the place of that end.
+    fn add_one_end<F: Fn(Event, u32) -> u32>(
+        &mut self,
+        net: &Net,
+        model: &CostModel<F>,
+        strand: usize,
+        present: u64,
+        sums: &mut Row,
+    )
+        requires kept { Keeps F.Fn model.now }
+    {
+        let span = self.span(strand);
+        let (first, last) = self.end_places(&span);
+        let last_layer = span.len.wrapping_sub(1);
+        let (entry, exit) = self.moves(&span);
+        if entry && exit {
+            self.close_sums(net, strand, sums);
+        } else if entry {
+            self.fill_rows(net, model, strand, present);
+            self.fix(last_layer, last);
+            self.pay_back(&span);
+            add(sums, &self.row(0));
+        } else if exit {
+            self.fill_rows(net, model, strand, present);
+            self.fix(0, first);
+            self.pay_forth(&span);
+            add(sums, &self.row(last_layer));
+        }
+    }
+
+    // Closes the places at which a strand cannot have both its ends.
+    fn close_sums(&self, net: &Net, strand: usize, sums: &mut Row) {
+        let Some(strand) = net.strands.get(strand) else {
+            return;
+        };
+        let masks = strand.masks.as_slice();
+        let Some(first) = masks.first() else {
+            return;
+        };
+        let Some(last) = masks.last() else {
+            return;
+        };
+        for p in 0..14usize {
+            if ((*first & *last) >> p) & 1 == 0 {
+                sums[p] = FAR;
+            }
+        }
+    }
+
+    // What the strands pay both of whose ends move, at a place; so much at least where it is no
+    // less than the least so far.
+    fn both_ends<F: Fn(Event, u32) -> u32>(
+        &mut self,
+        net: &Net,
+        model: &CostModel<F>,
+        present: u64,
+        place: usize,
+        begun: u64,
+        least: u64,
+    ) -> u64
+        requires kept { Keeps F.Fn model.now }
+    {
+        let mut sum = begun;
+        for number in 0..self.piece.strands.count() {
+            if sum >= least {
+                return sum;
+            }
+            let strand = self.piece.strands.at(number);
+            let span = self.span(strand);
+            let (entry, exit) = self.moves(&span);
+            if entry && exit {
+                self.fill_rows(net, model, strand, present);
+                self.fix(0, Some(place));
+                self.fix(span.len.wrapping_sub(1), Some(place));
+                self.pay_back(&span);
+                let row = self.row(0);
+                sum = sum.wrapping_add(at(&row, place, FAR));
+            }
+        }
+        sum
+    }
+
+    // The place at which the piece pays least where its groups are all there, and what it pays, or
+    // so much where it pays no less anywhere.
+    fn choose_place<F: Fn(Event, u32) -> u32>(
+        &mut self,
+        net: &Net,
+        model: &CostModel<F>,
+        present: u64,
+        most: u64,
+    ) -> (usize, u64)
+        requires kept { Keeps F.Fn model.now }
+    {
+        let mut sums = [0u64; 16];
+        for number in 0..self.piece.strands.count() {
+            let strand = self.piece.strands.at(number);
+            self.add_one_end(net, model, strand, present, &mut sums);
+        }
+        let turn = self.draws.below(14);
+        let mut least = most;
+        for step in 0..14usize {
+            let place = turn.wrapping_add(step) % 14;
+            let begun = at(&sums, place, FAR);
+            let mut sum = begun;
+            if begun < FAR {
+                sum = self.both_ends(net, model, present, place, begun, least);
+            }
+            put(&mut sums, place, sum);
+            least = least.min(sum);
+        }
+        (least_place(&sums, turn), least)
+    }
+
+    // Gives the strands of the piece, which are in no cell, least paths with its groups at a place.
+    fn route_at<F: Fn(Event, u32) -> u32>(
+        &mut self,
+        net: &Net,
+        model: &CostModel<F>,
+        place: Option<usize>,
+        present: u64,
+    )
+        requires kept { Keeps F.Fn model.now }
+    {
+        for number in 0..self.piece.strands.count() {
+            let strand = self.piece.strands.at(number);
+            let span = self.span(strand);
+            let (first, last) = self.end_places(&span);
+            let (entry, exit) = self.moves(&span);
+            let ends = (
+                if entry { place } else { first },
+                if exit { place } else { last },
+            );
+            self.route(net, model, strand, ends, present);
+        }
+    }
+
+    /// Gives the strands of the piece, which are in no cell, least paths with its groups at one
+    /// place.
+    pub(crate) fn route_piece<F: Fn(Event, u32) -> u32>(
+        &mut self,
+        net: &Net,
+        model: &CostModel<F>,
+        present: u64,
+    )
+        requires kept { Keeps F.Fn model.now }
+    {
+        let (place, _) = self.choose_place(net, model, present, u64::MAX);
+        self.route_at(net, model, Some(place), present);
+    }
+
+    // What the strands of the piece pay.
+    fn piece_worth(&self) -> u64 {
+        let mut sum = 0u64;
+        for number in 0..self.piece.strands.count() {
+            sum = sum.wrapping_add(self.worth(self.piece.strands.at(number)));
+        }
+        sum
+    }
+
+    /// Gives the strands of the piece cheaper paths past all others, with its groups at one place,
+    /// if there are some.
+    pub(crate) fn settle_piece<F: Fn(Event, u32) -> u32>(&mut self, net: &Net, model: &CostModel<F>)
+        requires kept { Keeps F.Fn model.now }
+    {
+        let worth = self.piece_worth();
+        if worth == 0 {
+            return;
+        }
+        self.release_piece(net);
+        let (place, least) = self.choose_place(net, model, FAR, worth);
+        if least < worth {
+            self.route_at(net, model, Some(place), FAR);
+        }
+        self.take_piece(net, model);
+    }
+
+    /// The strands of the piece leave their cells.
+    pub(crate) fn release_piece(&mut self, net: &Net) {
+        for number in 0..self.piece.strands.count() {
+            let strand = self.piece.strands.at(number);
+            self.release(net, strand);
+        }
+    }
+
+    /// The strands of the piece come to their cells.
+    pub(crate) fn take_piece<F: Fn(Event, u32) -> u32>(&mut self, net: &Net, model: &CostModel<F>)
+        requires kept { Keeps F.Fn model.now }
+    {
+        for number in 0..self.piece.strands.count() {
+            let strand = self.piece.strands.at(number);
+            self.take(net, model, strand);
+        }
+    }
+
+    /// Takes the piece out, gives it least paths, and puts it back.
+    pub(crate) fn reroute_piece<F: Fn(Event, u32) -> u32>(
+        &mut self,
+        net: &Net,
+        model: &CostModel<F>,
+        present: u64,
+    )
+        requires kept { Keeps F.Fn model.now }
+    {
+        self.release_piece(net);
+        self.route_piece(net, model, present);
+        self.take_piece(net, model);
+    }
+}

@@ -1,0 +1,132 @@
+// One round of the search.
+
+ghost use Rattle.std.specs.Prelude.{◌≡◌, true};
+ghost use Rattle.net_cost.specs.Models.{Keeps};
+ghost use Rattle.net_form.specs.Admitted.{IsAdmitted};
+ghost use Rattle.net_form.specs.Flow.{flow, AreRoutes};
+ghost use Rattle.net_form.specs.Formed.{IsFormed};
+ghost use Rattle.net_form.specs.Rooms.{IsRoomOf};
+
+use crate::found::write_routes;
+use crate::search::Search;
+use net_cost::{CostModel, Event};
+use net_form::{Net, Routes, Taken};
+use net_gate::admitted;
+use pra_base::OutOfMemory;
+use std::alloc::Global;
+use std::marker::Model;
+
+// Visits of a round for each layer of each strand: each layer that a least path goes over is one.
+const VISITS: u64 = 50;
+
+// Units of a weight of 1.
+const WHOLE: u128 = 1024;
+
+// Kicks from the best routes until the visits of a round are used up, or nothing is to be gained.
+// It says whether some routes cost less than they.
+fn search_from<F: Fn(Event, u32) -> u32>(
+    search: &mut Search,
+    net: &Net,
+    model: &CostModel<F>,
+    best: &Routes,
+    round: u32,
+    bound: u128,
+) -> bool
+    requires kept { Keeps F.Fn model.now }
+{
+    search.begin(net, model, best, round);
+    let before = search.paths.total;
+    if round == 1 {
+        search.negotiate(net, model);
+    }
+    search.visits = 0;
+    let most = VISITS.saturating_mul(search.paths.now.len() as u64);
+    let least = bound.saturating_mul(WHOLE);
+    for _ in 0..most {
+        if search.visits >= most || search.paths.total as u128 <= least {
+            break;
+        }
+        search.kick_once(net, model);
+    }
+    search.paths.total < before
+}
+
+// The same, and what was found becomes routes, if the gate admits them.
+fn kick_in<F: Fn(Event, u32) -> u32>(
+    alloc: Global,
+    search: &mut Search,
+    taken: &mut Taken,
+    found: &mut Routes,
+    net: &Net,
+    model: &CostModel<F>,
+    best: &Routes,
+    round: u32,
+    bound: u128,
+) -> bool
+    requires kept { Keeps F.Fn model.now }
+    requires net { IsFormed net.now }
+    requires room { IsRoomOf net.now taken.old }
+    requires found { AreRoutes net.now found.old }
+    ensures room { IsRoomOf net.now taken.new }
+    ensures found { AreRoutes net.now found.new }
+    ensures admitted { result ≡ true → IsAdmitted net.now (flow net.now found.new) }
+{
+    if !search_from(search, net, model, best, round, bound) {
+        return false;
+    }
+    write_routes(alloc, found, net, &search.spans, &search.paths.kept);
+    admitted(taken, net, found).is_ok()
+}
+
+/// Room for a search on one network. Contracts see nothing of it.
+#[derive(Drop)]
+pub struct SearchRoom {
+    search: Search,
+}
+
+impl Model for SearchRoom {
+    ghost use Rattle.std.specs.Prelude.{ℕ};
+
+    ghost Value = { ℕ };
+
+    ghost view = { λ _. 0 };
+}
+
+impl SearchRoom {
+    /// Room for the strands of a network.
+    ///
+    /// # Errors
+    ///
+    /// Where there is no memory for it.
+    pub fn reserve(alloc: Global, net: &Net) -> Result<SearchRoom, OutOfMemory> {
+        Ok(SearchRoom {
+            search: Search::reserve(alloc, net)?,
+        })
+    }
+}
+
+/// Looks for routes that cost less than the best ones, whose bound is this, and says whether it
+/// found some. The number of the round decides where it looks: the same call finds the same. It
+/// takes no memory.
+pub fn kick<F: Fn(Event, u32) -> u32>(
+    alloc: Global,
+    room: &mut SearchRoom,
+    taken: &mut Taken,
+    found: &mut Routes,
+    net: &Net,
+    model: &CostModel<F>,
+    best: &Routes,
+    round: u32,
+    bound: u128,
+) -> bool
+    requires kept { Keeps F.Fn model.now }
+    requires net { IsFormed net.now }
+    requires room { IsRoomOf net.now taken.old }
+    requires found { AreRoutes net.now found.old }
+    ensures room { IsRoomOf net.now taken.new }
+    ensures found { AreRoutes net.now found.new }
+    ensures admitted { result ≡ true → IsAdmitted net.now (flow net.now found.new) }
+{
+    let search = &mut room.search;
+    kick_in(alloc, search, taken, found, net, model, best, round, bound)
+}

@@ -1,0 +1,230 @@
+// Where the search stands, and the room that it works in.
+
+ghost use Rattle.net_cost.specs.Models.{Keeps};
+
+use crate::congestion::Cells;
+use crate::draws::Draws;
+use crate::lists::{Marks, Numbers, at, put};
+use crate::rates::{NO_RATE, Rate, rate_at};
+use crate::rows::Row;
+use crate::spans::{NO_SPAN, Span, sizes, spans_of};
+use net_cost::{CostModel, Event};
+use net_form::{Net, Routes};
+use pra_base::OutOfMemory;
+use std::alloc::{AllocError, Global};
+
+/// Paths of all strands, one behind the other, as numbers of places: those now, and those that were
+/// kept last. What each strand pays now, and all of them.
+#[derive(Drop)]
+pub(crate) struct Paths {
+    pub now: Vec<u8>,
+    pub kept: Vec<u8>,
+    pub worth: Vec<u64>,
+    pub total: u64,
+}
+
+/// Strands that go together, and the tie groups that go with them.
+#[derive(Drop)]
+pub(crate) struct Piece {
+    pub strands: Numbers,
+    pub has: Marks,
+    pub groups: Marks,
+}
+
+/// What happened to strands since the last kick: which were changed, which overlap, which stand
+/// still, and which are to be settled.
+#[derive(Drop)]
+pub(crate) struct Log {
+    pub changed: Numbers,
+    pub is_changed: Marks,
+    pub queue: Numbers,
+    pub next: Numbers,
+    pub is_next: Marks,
+    pub still: Marks,
+    pub list: Numbers,
+    pub is_listed: Marks,
+    pub groups: Marks,
+}
+
+/// Room for a search on one network.
+#[derive(Drop)]
+pub struct Search {
+    pub(crate) spans: Vec<Span>,
+    pub(crate) rates: Vec<Rate>,
+    pub(crate) rows: Vec<Row>,
+    pub(crate) paths: Paths,
+    pub(crate) cells: Cells,
+    pub(crate) piece: Piece,
+    pub(crate) log: Log,
+    pub(crate) draws: Draws,
+    pub(crate) visits: u64,
+}
+
+fn paths_of(alloc: Global, total: usize, strands: usize) -> Result<Paths, AllocError> {
+    Ok(Paths {
+        now: vec![in alloc; 6; total]?,
+        kept: vec![in alloc; 6; total]?,
+        worth: vec![in alloc; 0; strands]?,
+        total: 0,
+    })
+}
+
+fn piece_of(alloc: Global, strands: usize, groups: usize) -> Result<Piece, AllocError> {
+    Ok(Piece {
+        strands: Numbers::reserve(alloc, strands)?,
+        has: Marks::reserve(alloc, strands)?,
+        groups: Marks::reserve(alloc, groups)?,
+    })
+}
+
+fn log_of(alloc: Global, strands: usize, groups: usize) -> Result<Log, AllocError> {
+    Ok(Log {
+        changed: Numbers::reserve(alloc, strands)?,
+        is_changed: Marks::reserve(alloc, strands)?,
+        queue: Numbers::reserve(alloc, strands)?,
+        next: Numbers::reserve(alloc, strands)?,
+        is_next: Marks::reserve(alloc, strands)?,
+        still: Marks::reserve(alloc, strands)?,
+        list: Numbers::reserve(alloc, strands)?,
+        is_listed: Marks::reserve(alloc, strands)?,
+        groups: Marks::reserve(alloc, groups)?,
+    })
+}
+
+impl Search {
+    /// Room for the strands of a network.
+    ///
+    /// # Errors
+    ///
+    /// Where there is no memory for it.
+    pub fn reserve(alloc: Global, net: &Net) -> Result<Search, OutOfMemory> {
+        let spans = spans_of(alloc, net)?;
+        let (total, longest) = sizes(&spans);
+        let strands = spans.len();
+        let groups = net.groups as usize;
+        Ok(Search {
+            spans,
+            rates: vec![in alloc; NO_RATE; 6]?,
+            rows: vec![in alloc; [0; 16]; longest]?,
+            paths: paths_of(alloc, total, strands)?,
+            cells: Cells::reserve(alloc, net)?,
+            piece: piece_of(alloc, strands, groups)?,
+            log: log_of(alloc, strands, groups)?,
+            draws: Draws::of_seed(0),
+            visits: 0,
+        })
+    }
+
+    pub(crate) fn span(&self, strand: usize) -> Span {
+        at(&self.spans, strand, NO_SPAN)
+    }
+
+    pub(crate) fn rate(&self, span: &Span) -> Rate {
+        at(&self.rates, span.depth, NO_RATE)
+    }
+
+    pub(crate) fn worth(&self, strand: usize) -> u64 {
+        at(&self.paths.worth, strand, 0)
+    }
+
+    /// Where a strand is now, by the number of its layer from its first on.
+    pub(crate) fn place(&self, span: &Span, layer: usize) -> usize {
+        at(&self.paths.now, span.start.wrapping_add(layer), 6) as usize
+    }
+
+    /// Where a strand is tied at its entry and at its exit, if it is.
+    pub(crate) fn end_places(&self, span: &Span) -> (Option<usize>, Option<usize>) {
+        let first = at(&self.paths.now, span.start, 6) as usize;
+        let last = at(&self.paths.now, span.last(), 6) as usize;
+        (
+            span.entry.is_some().then_some(first),
+            span.exit.is_some().then_some(last),
+        )
+    }
+
+    // What ways cost at each loop depth.
+    fn learn_rates<F: Fn(Event, u32) -> u32>(&mut self, net: &Net, model: &CostModel<F>)
+        requires kept { Keeps F.Fn model.now }
+    {
+        for depth in 0..6u32 {
+            put(&mut self.rates, depth as usize, rate_at(net, model, depth));
+        }
+    }
+
+    // The paths of routes.
+    fn read_routes(&mut self, routes: &Routes) {
+        for strand in 0..self.spans.len() {
+            let span = self.span(strand);
+            let Some(path) = routes.places.get(strand) else {
+                return;
+            };
+            for layer in 0..span.len {
+                if let Some(place) = path.get(layer) {
+                    let to = span.start.wrapping_add(layer);
+                    put(&mut self.paths.now, to, place.number());
+                    put(&mut self.paths.kept, to, place.number());
+                }
+            }
+        }
+    }
+
+    /// Begins a round at routes: nothing of an earlier one is left.
+    pub(crate) fn begin<F: Fn(Event, u32) -> u32>(
+        &mut self,
+        net: &Net,
+        model: &CostModel<F>,
+        routes: &Routes,
+        round: u32,
+    )
+        requires kept { Keeps F.Fn model.now }
+    {
+        self.draws = Draws::of_seed(round as u64);
+        self.visits = 0;
+        self.learn_rates(net, model);
+        self.cells.clear();
+        self.paths.total = 0;
+        self.read_routes(routes);
+        self.begin_kick();
+        for strand in 0..self.spans.len() {
+            self.take(net, model, strand);
+        }
+    }
+
+    /// Begins a kick: no strand is changed, none overlaps.
+    pub(crate) fn begin_kick(&mut self) {
+        self.log.changed.clear();
+        self.log.is_changed.clear();
+        self.log.next.clear();
+        self.log.is_next.clear();
+        self.log.still.clear();
+    }
+
+    /// Keeps the paths of the changed strands.
+    pub(crate) fn keep_changed(&mut self) {
+        for number in 0..self.log.changed.count() {
+            let span = self.span(self.log.changed.at(number));
+            for layer in 0..span.len {
+                let from = span.start.wrapping_add(layer);
+                let place = at(&self.paths.now, from, 6);
+                put(&mut self.paths.kept, from, place);
+            }
+        }
+    }
+
+    /// Gives the changed strands back the paths that were kept.
+    pub(crate) fn undo<F: Fn(Event, u32) -> u32>(&mut self, net: &Net, model: &CostModel<F>)
+        requires kept { Keeps F.Fn model.now }
+    {
+        for number in 0..self.log.changed.count() {
+            let strand = self.log.changed.at(number);
+            let span = self.span(strand);
+            self.release(net, strand);
+            for layer in 0..span.len {
+                let from = span.start.wrapping_add(layer);
+                let place = at(&self.paths.kept, from, 6);
+                put(&mut self.paths.now, from, place);
+            }
+            self.take(net, model, strand);
+        }
+    }
+}

@@ -1,0 +1,229 @@
+// One strand leaves its cells and comes to others, and what its path costs.
+
+ghost use Rattle.net_cost.specs.Models.{Keeps};
+
+use crate::congestion::Met;
+use crate::lists::put;
+use crate::rates::price;
+use crate::rows::{MEMORY, has_register, way};
+use crate::search::Search;
+use crate::spans::{Span, range};
+use net_cost::{CostModel, Event};
+use net_form::{MemPair, Net, PairEnd};
+
+// Whether a strand is in memory at an end of a pair.
+fn is_in_memory(search: &Search, span: &Span, end: PairEnd) -> bool {
+    let layer = (end.layer as usize).wrapping_sub(span.first);
+    search.place(span, layer) == MEMORY
+}
+
+/// The end of a memory pair of this number.
+pub(crate) fn pair_end(net: &Net, number: usize) -> Option<PairEnd> {
+    net.index.ends.get(number).copied()
+}
+
+impl Search {
+    /// Notes that a strand overlaps with others.
+    pub(crate) fn note_overlap(&mut self, strand: usize) {
+        if self.log.is_next.add(strand) {
+            self.log.next.push(strand);
+        }
+    }
+
+    /// A strand leaves the cells of its path.
+    pub(crate) fn release(&mut self, net: &Net, strand: usize) {
+        if self.log.is_changed.add(strand) {
+            self.log.changed.push(strand);
+        }
+        let span = self.span(strand);
+        for layer in 0..span.len {
+            let place = self.place(&span, layer);
+            if has_register(place) {
+                self.cells
+                    .leave(span.layer.wrapping_add(layer), place, strand);
+            }
+        }
+        let (from, to) = range(net.index.pairs.as_slice(), strand);
+        for number in from..to {
+            if let Some(end) = pair_end(net, number) {
+                if is_in_memory(self, &span, end) {
+                    self.cells.leave_pair(end.pair as usize);
+                }
+            }
+        }
+        self.paths.total = self.paths.total.wrapping_sub(self.worth(strand));
+    }
+
+    // A strand comes to the registers of its path, and says whether it meets others there.
+    fn enter_registers(&mut self, strand: usize, span: &Span) -> bool {
+        let mut meets = false;
+        for layer in 0..span.len {
+            let place = self.place(span, layer);
+            if !has_register(place) {
+                continue;
+            }
+            match self
+                .cells
+                .enter(span.layer.wrapping_add(layer), place, strand)
+            {
+                Met::Nobody => {}
+                Met::One(other) => {
+                    self.note_overlap(other);
+                    meets = true;
+                }
+                Met::Several => meets = true,
+            }
+        }
+        meets
+    }
+
+    // Notes both ends of a pair.
+    fn note_pair(&mut self, pair: Option<&MemPair>) {
+        if let Some(pair) = pair {
+            self.note_overlap(pair.left as usize);
+            self.note_overlap(pair.right as usize);
+        }
+    }
+
+    // A strand comes to memory at its ends of memory pairs.
+    fn enter_pairs(&mut self, net: &Net, strand: usize, span: &Span) {
+        let (from, to) = range(net.index.pairs.as_slice(), strand);
+        for number in from..to {
+            if let Some(end) = pair_end(net, number) {
+                if is_in_memory(self, span, end) && self.cells.enter_pair(end.pair as usize) {
+                    self.note_pair(net.pairs.get(end.pair as usize));
+                }
+            }
+        }
+    }
+
+    /// A strand comes to the cells of its path. Who overlaps then is noted.
+    pub(crate) fn take<F: Fn(Event, u32) -> u32>(
+        &mut self,
+        net: &Net,
+        model: &CostModel<F>,
+        strand: usize,
+    )
+        requires kept { Keeps F.Fn model.now }
+    {
+        let span = self.span(strand);
+        if self.enter_registers(strand, &span) {
+            self.note_overlap(strand);
+        }
+        self.enter_pairs(net, strand, &span);
+        let worth = self
+            .path_cost(&span)
+            .wrapping_add(self.extras_cost(net, model, strand, &span));
+        put(&mut self.paths.worth, strand, worth);
+        self.paths.total = self.paths.total.wrapping_add(worth);
+    }
+
+    // What the ways of a path cost.
+    fn path_cost(&self, span: &Span) -> u64 {
+        let rate = self.rate(span);
+        let mut from = self.place(span, 0);
+        let mut cost = 0u64;
+        if span.constant && has_register(from) {
+            cost = rate.set;
+        }
+        for layer in 1..span.len {
+            let to = self.place(span, layer);
+            if to != from {
+                cost = cost.wrapping_add(way(&rate.back, from, to));
+            }
+            from = to;
+        }
+        cost
+    }
+
+    // What the extras of a path cost.
+    fn extras_cost<F: Fn(Event, u32) -> u32>(
+        &self,
+        net: &Net,
+        model: &CostModel<F>,
+        strand: usize,
+        span: &Span,
+    ) -> u64
+        requires kept { Keeps F.Fn model.now }
+    {
+        let mut cost = 0u64;
+        let depth = match net.blocks.get(span.block) {
+            Some(block) => block.depth,
+            None => 0,
+        };
+        let (from, to) = range(net.index.extras.as_slice(), strand);
+        for number in from..to {
+            if let Some(extra) = net.extras.get(number) {
+                let layer = (extra.layer as usize).wrapping_sub(span.first);
+                if self.place(span, layer) == extra.place.number() as usize {
+                    cost = cost.wrapping_add(price(model, extra.event, depth));
+                }
+            }
+        }
+        cost
+    }
+
+    /// Whether a strand overlaps with others, and whether it does where it is tied.
+    pub(crate) fn overlaps(&self, net: &Net, strand: usize) -> (bool, bool) {
+        let span = self.span(strand);
+        let mut anywhere = false;
+        let mut tied = false;
+        for layer in 0..span.len {
+            let place = self.place(&span, layer);
+            let cell = span.layer.wrapping_add(layer);
+            if has_register(place) && self.cells.count(cell, place) > 1 {
+                anywhere = true;
+                tied = tied || is_tied_at(&span, layer);
+            }
+        }
+        let (from, to) = range(net.index.pairs.as_slice(), strand);
+        for number in from..to {
+            if let Some(end) = pair_end(net, number) {
+                let both = self.cells.pair_count(end.pair as usize) > 1;
+                if both && is_in_memory(self, &span, end) {
+                    anywhere = true;
+                    tied = tied || is_tied_at(&span, (end.layer as usize).wrapping_sub(span.first));
+                }
+            }
+        }
+        (anywhere, tied)
+    }
+
+    /// The cells of a path cost more from now on.
+    pub(crate) fn heat_path(&mut self, strand: usize, more: u64) {
+        let span = self.span(strand);
+        for layer in 0..span.len {
+            let place = self.place(&span, layer);
+            if has_register(place) {
+                self.cells.heat(span.layer.wrapping_add(layer), place, more);
+            }
+        }
+    }
+
+    /// Those cells of a path at which it overlaps with others cost more from now on.
+    pub(crate) fn heat_overlaps(&mut self, net: &Net, strand: usize, more: u64) {
+        let span = self.span(strand);
+        for layer in 0..span.len {
+            let place = self.place(&span, layer);
+            let cell = span.layer.wrapping_add(layer);
+            if has_register(place) && self.cells.count(cell, place) > 1 {
+                self.cells.heat(cell, place, more);
+            }
+        }
+        let (from, to) = range(net.index.pairs.as_slice(), strand);
+        for number in from..to {
+            if let Some(end) = pair_end(net, number) {
+                let pair = end.pair as usize;
+                if self.cells.pair_count(pair) > 1 && is_in_memory(self, &span, end) {
+                    self.cells.heat_pair(pair, more);
+                }
+            }
+        }
+    }
+}
+
+// Whether a strand is tied at a layer.
+fn is_tied_at(span: &Span, layer: usize) -> bool {
+    (layer == 0 && span.entry.is_some())
+        || (layer.wrapping_add(1) == span.len && span.exit.is_some())
+}
