@@ -16,7 +16,6 @@ use Rattle.clap.specs.Simple.{App, is_simple, matches_of}
 use Rattle.clap.specs.Faults.{fault_of, is_simple_and_free}
 use Rattle.clap.proofs.OnLiterals.{clap_on_literals}
 use Rattle.clap.proofs.WalkLemmas.{first_value-rows}
-use Rattle.pra_words.specs.declared.words.Word.TheVariants.{Mode, File, Steps, Image}
 use Rattle.pra_words.specs.Texts.{word_name}
 use Rattle.pra_words.specs.Words.{texts}
 use Rattle.pra_words.specs.CommandLine.{line_in, line_of}
@@ -33,8 +32,7 @@ is_plain = refl
 
 -- the values are the same, as the matches give them and as their rows do
 pub by_rows : (f : Found) → line_in (λ word. first_value f (word_name word)) ≡ line_of_rows (rows_of f)
-by_rows f =
-    rw (first_value-rows f (word_name Mode), first_value-rows f (word_name File), first_value-rows f (word_name Steps), first_value-rows f (word_name Image)) refl
+by_rows f = λ i. line_in (λ word. first_value-rows f (word_name word) i)
 
 texts_are_utf8 : (words : List (String Global)) → Each IsUtf8 (texts words)
 texts_are_utf8 [] = tt

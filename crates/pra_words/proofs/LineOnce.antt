@@ -3,29 +3,22 @@ use Rattle.std.proofs.Common.{◌≡◌, ◌∙◌, Bool, true, false, not, ◌&
 use Rattle.std.specs.Prelude.{option_and_then}
 use Rattle.std.specs.List.{list_any}
 use Rattle.std.specs.Str.{bytes_eq}
+use Rattle.std.specs.Bool.{Decides}
+use Rattle.std.proofs.lemmas.Bool.Decides.{same_from_decides}
+use Rattle.std.proofs.lemmas.Slice.Eq.{bytes_eq-Decides}
 use Rattle.pra_words.specs.declared.words.Word.{Word}
-use Rattle.pra_words.specs.declared.words.Word.TheVariants.{Mode, File, Steps, Image}
 use Rattle.pra_words.specs.Texts.{word_name}
 use Rattle.pra_words.specs.CommandLine.{Text, Given, Next, Line, given, is_of, is_once, line_from, line_in, value_in}
 use Rattle.pra_words.proofs.LineRows.{by}
 
 same_name : (a b : Word) → bytes_eq (word_name a) (word_name b) ≡ bytes_eq (word_name b) (word_name a)
-same_name Mode Mode = refl
-same_name Mode File = refl
-same_name Mode Steps = refl
-same_name Mode Image = refl
-same_name File Mode = refl
-same_name File File = refl
-same_name File Steps = refl
-same_name File Image = refl
-same_name Steps Mode = refl
-same_name Steps File = refl
-same_name Steps Steps = refl
-same_name Steps Image = refl
-same_name Image Mode = refl
-same_name Image File = refl
-same_name Image Steps = refl
-same_name Image Image = refl
+same_name a b = same_text (word_name a) (word_name b)
+  where
+    turned_back : (x y : Text) (r : Bool) → Decides r (y ≡ x) → Decides r (x ≡ y)
+    turned_back x y r d = (λ e. sym (d.0 e), λ e. d.1 (sym e))
+
+    same_text : (x y : Text) → bytes_eq x y ≡ bytes_eq y x
+    same_text x y = same_from_decides (bytes_eq x y) (bytes_eq y x) (bytes_eq-Decides x y) (turned_back x y (bytes_eq y x) (bytes_eq-Decides y x))
 
 -- ---- a value at the end
 

@@ -12,11 +12,11 @@ use Rattle.clap.specs.Walk.{Held, Row, Rule, Waiting, Walk, is_empty, has_row, r
 use Rattle.clap.specs.Faults.{settle_fault, use_fault, turn_fault, default_fault, given_default_fault, defaults_fault, check_fault, long_fault, step_fault, word_fault}
 use Rattle.clap.proofs.WalkLemmas.{find-map}
 use Rattle.pra_words.specs.declared.words.Word.{Word}
-use Rattle.pra_words.specs.declared.words.Word.TheVariants.{Mode, File, Steps, Image}
+use Rattle.pra_words.specs.declared.words.Word.TheVariants.{Mode, File}
 use Rattle.pra_words.specs.Texts.{word_name}
 use Rattle.pra_words.specs.CommandLine.{Text, Look, named, Given, Next, any, value_of, itself, Line, place, option_named, any_word, option_value, gives, waits, look, is_of, is_once, value_in, line_by, line_in, line_from, line_of}
 use Rattle.pra_words.specs.Command.{line_of_rows, unless, taken_line}
-use Rattle.pra_words.proofs.LineRows.{top, rules, rule, row, by, repeat, held, pending, Good, good_held, good_pending, settle_word, settle_pending, no_value, use_is, has, one_more}
+use Rattle.pra_words.proofs.LineRows.{top, rules, rule, row, of_each, by, repeat, held, pending, Good, good_held, good_pending, settle_word, settle_pending, no_value, use_is, has, one_more}
 use Rattle.pra_words.proofs.LineLooks.{dashes, Seen, is_plain, is_end, is_named, is_dashed, seen}
 use Rattle.pra_words.proofs.LineOnce.{after_given, turned, turned_nothing, turned_new, turned_again, once_more}
 use Rattle.pra_words.proofs.LineTurns.{Bad, at, after, clap_line, taken_is, line_ends, stops, goes, stuck, stuck_behind, bad_end, joined_fault, joined_met, apart_fault, apart_met, met_plain, fault_plain, met_end, fault_end, met_named, fault_named, bad_named, bad_dashed, bad_turn, turn_is, walked_is, place_fault, mode_walk, file_walk, trailing_turn, trailing_walk}
@@ -46,7 +46,7 @@ no_defaults (a ∷ rs) rows e =
     (ap₂ (λ k r. or_else k (defaults_fault r rs)) here.0 here.1 ∙ rest.0, ap (λ r. fold with_default r rs) here.1 ∙ rest.1)
 
 no_rule_defaults : Each (λ a. a.defaults ≡ []) rules
-no_rule_defaults = (refl, (refl, (refl, (refl, tt))))
+no_rule_defaults = (refl, (refl, (refl, (refl, (refl, (refl, (refl, (refl, (refl, tt)))))))))
 
 find_is : (w : Word) (gs : List Given) → find (λ r. bytes_eq r.id (word_name w)) (map row gs) ≡ option_map row (find (is_of w) gs)
 find_is w gs = sym (find-map (λ r. bytes_eq r.id (word_name w)) row gs)
@@ -57,24 +57,23 @@ first o = option_and_then (λ r. slice_get r.values 0) o
 abbrev missing : Option Row → Bool
 missing o = not (option_map_or (λ r. explicit_source r.source) o false)
 
--- what is left to test, and what is told, by the rows of the four words
-abbrev told : Option Row → Option Row → Option Row → Option Row → Option Line
-told m f s i = unless (check_kinds false false (missing m || (missing f || false))) (line_by (first m) (first f) (first s) (first i))
+-- what is left to test, and what is told, by the rows of the words
+abbrev told : Option Row → Option Row → (Word → Option Row) → Option Line
+told m f rows = unless (check_kinds false false (missing m || (missing f || false))) (line_by (first m) (first f) (λ w. first (rows w)))
 
 first_value : (o : Option Given) → first (option_map row o) ≡ option_map (λ g. g.value) o
 first_value None = refl
 first_value (Some g) = refl
 
-told_is : (m f s i : Option Given) → told (option_map row m) (option_map row f) (option_map row s) (option_map row i) ≡ line_by (option_map (λ g. g.value) m) (option_map (λ g. g.value) f) (option_map (λ g. g.value) s) (option_map (λ g. g.value) i)
-told_is None f s i = refl
-told_is (Some m) None s i = refl
-told_is (Some m) (Some f) s i = ap₂ (λ s i. line_by (Some m.value) (Some f.value) s i) (first_value s) (first_value i)
+told_is : (m f : Option Given) (gs : Word → Option Given) → told (option_map row m) (option_map row f) (λ w. option_map row (gs w)) ≡ line_by (option_map (λ g. g.value) m) (option_map (λ g. g.value) f) (λ w. option_map (λ g. g.value) (gs w))
+told_is None f gs = refl
+told_is (Some m) None gs = refl
+told_is (Some m) (Some f) gs = λ i. line_by (Some m.value) (Some f.value) (λ w. first_value (gs w) i)
 
 checked : (gs : List Given) → unless (check_fault top (map row gs) false) (line_of_rows (map row gs)) ≡ line_in (value_in gs)
 checked gs =
-    ap₂ (λ m f. told m f (find (λ r. bytes_eq r.id (word_name Steps)) (map row gs)) (find (λ r. bytes_eq r.id (word_name Image)) (map row gs))) (find_is Mode gs) (find_is File gs)
-    ∙ ap₂ (λ s i. told (option_map row (find (is_of Mode) gs)) (option_map row (find (is_of File) gs)) s i) (find_is Steps gs) (find_is Image gs)
-    ∙ told_is (find (is_of Mode) gs) (find (is_of File) gs) (find (is_of Steps) gs) (find (is_of Image) gs)
+    (λ i. told (find_is Mode gs i) (find_is File gs i) (λ w. find_is w gs i))
+    ∙ told_is (find (is_of Mode) gs) (find (is_of File) gs) (λ w. find (is_of w) gs)
 
 ended : (h : Held) (gs : List Given) → Good h gs → unless (after h) (line_of_rows (finished rules h)) ≡ line_in (value_in gs)
 ended h gs good =
@@ -228,10 +227,7 @@ module _ (word : Text) (ws : List Text) (u : Each IsUtf8 (word ∷ ws)) (more : 
     free = refl
 
     value_met : (o : Word) → plain_word rules (option (word_name o)) word (pending gs o []) ≡ (pending gs o (word ∷ []), next idle)
-    value_met Mode = refl
-    value_met File = refl
-    value_met Steps = refl
-    value_met Image = refl
+    value_met o = of_each (λ o. plain_word rules (option (word_name o)) word (pending gs o []) ≡ (pending gs o (word ∷ []), next idle)) refl refl refl refl refl refl refl refl refl o
 
     option_case : (l : Look) → Seen word l → clap_line (at h wt (suc n) false) (word ∷ ws) ≡ turned gs (option_value o n word l) ws
     option_case _ (is_plain e l s) =

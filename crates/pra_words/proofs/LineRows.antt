@@ -12,7 +12,7 @@ use Rattle.clap.specs.Walk.{Held, Row, Rule, at_row, more_values, without, with_
 use Rattle.clap.specs.Simple.{Shape, built, new_rule}
 use Rattle.clap.specs.Faults.{use_fault, settle_fault}
 use Rattle.pra_words.specs.declared.words.Word.{Word}
-use Rattle.pra_words.specs.declared.words.Word.TheVariants.{Mode, File, Steps, Image}
+use Rattle.pra_words.specs.declared.words.Word.TheVariants.{Mode, File, Rounds, Cost, Steps, Gap, Image, Seed, Size}
 use Rattle.pra_words.specs.Texts.{word_name}
 use Rattle.pra_words.specs.CommandLine.{Text, Given, is_of}
 use Rattle.pra_words.specs.Command.{command}
@@ -34,6 +34,18 @@ row g = record { id = word_name g.word; values = g.value ∷ []; count = None; s
 abbrev pub by : Word → Text → Given
 by w v = record { word = w; value = v }
 
+-- what each of the words has, all have
+pub of_each : (P : Word → Type 0) → P Mode → P File → P Rounds → P Cost → P Steps → P Gap → P Image → P Seed → P Size → (w : Word) → P w
+of_each P a b c d e f g h i Mode = a
+of_each P a b c d e f g h i File = b
+of_each P a b c d e f g h i Rounds = c
+of_each P a b c d e f g h i Cost = d
+of_each P a b c d e f g h i Steps = e
+of_each P a b c d e f g h i Gap = f
+of_each P a b c d e f g h i Image = g
+of_each P a b c d e f g h i Seed = h
+of_each P a b c d e f g h i Size = i
+
 -- ---- rows
 
 pub has : (w : Word) (gs : List Given) → has_row (word_name w) (map row gs) ≡ list_any (is_of w) gs
@@ -53,11 +65,11 @@ put id how v rows e =
     ap (λ rs. with_values id how CommandLine (v ∷ []) rs) (no_row id (λ r. []) [] rows e ∙ append-nil rows)
     ∙ no_row id (more_values CommandLine (v ∷ [])) _ rows e
 
+use_of : (w : Word) (v : Text) (rows : List Row) → used (rule w) (v ∷ []) rows ≡ with_values (word_name w) (reading_by (rule w)) CommandLine (v ∷ []) (without (word_name w) rows)
+use_of w v rows = of_each (λ w. used (rule w) (v ∷ []) rows ≡ with_values (word_name w) (reading_by (rule w)) CommandLine (v ∷ []) (without (word_name w) rows)) refl refl refl refl refl refl refl refl refl w
+
 pub used_word : (w : Word) (v : Text) (rows : List Row) → has_row (word_name w) rows ≡ false → used (rule w) (v ∷ []) rows ≡ rows ++ row (by w v) ∷ []
-used_word Mode v rows e = put (word_name Mode) (reading_by (rule Mode)) v rows e
-used_word File v rows e = put (word_name File) (reading_by (rule File)) v rows e
-used_word Steps v rows e = put (word_name Steps) (reading_by (rule Steps)) v rows e
-used_word Image v rows e = put (word_name Image) (reading_by (rule Image)) v rows e
+used_word w v rows e = use_of w v rows ∙ put (word_name w) (reading_by (rule w)) v rows e
 
 -- ---- one use
 
@@ -68,17 +80,14 @@ repeat_is : (b : Bool) → or_else (if b && true then ArgumentConflict ∷ [] el
 repeat_is true = refl
 repeat_is false = refl
 
+one_use : (w : Word) (v : Text) (rows : List Row) → use_fault false (rule w) (v ∷ []) rows ≡ or_else (if has_row (word_name w) rows && true then ArgumentConflict ∷ [] else []) []
+one_use w v rows = of_each (λ w. use_fault false (rule w) (v ∷ []) rows ≡ or_else (if has_row (word_name w) rows && true then ArgumentConflict ∷ [] else []) []) refl refl refl refl refl refl refl refl refl w
+
 pub use_is : (w : Word) (v : Text) (rows : List Row) → use_fault false (rule w) (v ∷ []) rows ≡ repeat (has_row (word_name w) rows)
-use_is Mode v rows = repeat_is (has_row (word_name Mode) rows)
-use_is File v rows = repeat_is (has_row (word_name File) rows)
-use_is Steps v rows = repeat_is (has_row (word_name Steps) rows)
-use_is Image v rows = repeat_is (has_row (word_name Image) rows)
+use_is w v rows = one_use w v rows ∙ repeat_is (has_row (word_name w) rows)
 
 pub no_value : (w : Word) (rows : List Row) → use_fault false (rule w) [] rows ≡ InvalidValue ∷ []
-no_value Mode rows = refl
-no_value File rows = refl
-no_value Steps rows = refl
-no_value Image rows = refl
+no_value w rows = of_each (λ w. use_fault false (rule w) [] rows ≡ InvalidValue ∷ []) refl refl refl refl refl refl refl refl refl w
 
 -- ---- what is held
 
@@ -98,16 +107,10 @@ pub good_held : (gs : List Given) → Good (held gs) gs
 good_held gs = record { skip = refl; clean = refl; settles = refl }
 
 pub settle_word : (w : Word) (vs : List Text) (gs : List Given) → settle_fault rules false (pending gs w vs) ≡ use_fault false (rule w) vs (map row gs)
-settle_word Mode vs gs = refl
-settle_word File vs gs = refl
-settle_word Steps vs gs = refl
-settle_word Image vs gs = refl
+settle_word w vs gs = of_each (λ w. settle_fault rules false (pending gs w vs) ≡ use_fault false (rule w) vs (map row gs)) refl refl refl refl refl refl refl refl refl w
 
 rows_word : (w : Word) (v : Text) (rows : List Row) → settled_rows rules (Some (word_name w, v ∷ [])) rows ≡ used (rule w) (v ∷ []) rows
-rows_word Mode v rows = refl
-rows_word File v rows = refl
-rows_word Steps v rows = refl
-rows_word Image v rows = refl
+rows_word w v rows = of_each (λ w. settled_rows rules (Some (word_name w, v ∷ [])) rows ≡ used (rule w) (v ∷ []) rows) refl refl refl refl refl refl refl refl refl w
 
 pub settle_pending : (gs : List Given) (w : Word) (v : Text) → settle_fault rules false (pending gs w (v ∷ [])) ≡ repeat (list_any (is_of w) gs)
 settle_pending gs w v = settle_word w (v ∷ []) gs ∙ use_is w v (map row gs) ∙ ap repeat (has w gs)

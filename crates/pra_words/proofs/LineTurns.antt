@@ -1,5 +1,5 @@
 -- What the simple command makes of one word, from what it holds.
-use Rattle.std.proofs.Common.{◌≡◌, ◌∙◌, ℕ, zero, suc, ◌==◌, Bool, true, false, ◌&&◌, ◌||◌, if◌then◌else◌, List, [], ◌∷◌, ◌++◌, length, map, slice_get, Option, Some, None, option_map, refl, sym, ap, ap₂, arith, codes}
+use Rattle.std.proofs.Common.{◌≡◌, ◌∙◌, ℕ, zero, suc, ◌==◌, Bool, true, false, not, ◌&&◌, if◌then◌else◌, List, [], ◌∷◌, ◌++◌, length, map, slice_get, Option, Some, None, option_map, find, is_some, refl, sym, ap, ap₂, arith}
 use Rattle.std.specs.Prelude.{fold}
 use Rattle.std.proofs.lemmas.Bool.Decides.{nat_tests}
 use Rattle.std.specs.List.{AllByRecursion as Each}
@@ -9,17 +9,19 @@ use Rattle.clap.specs.Lexer.{long_of, short_of}
 use Rattle.clap.specs.Kinds.{Kinds, or_else}
 use Rattle.clap.specs.declared.error.kind.ErrorKind.{ErrorKind}
 use Rattle.clap.specs.declared.error.kind.ErrorKind.TheVariants.{UnknownArgument}
-use Rattle.clap.specs.Walk.{Held, Outcome, Row, Rule, Step, Waiting, Walk, settled, reacted, pushed, is_pending, arg_by_index, arg_by_long, arg_by_short, long_met, word_met, subcommand_met, subcommand_or_other, long_or_other, short_or_plain, long_word, after_flag, after_step, walked, nothing_held, walk_from, finished, idle, option, trailing, value, next, done, plain_word}
+use Rattle.clap.specs.Walk.{Held, Outcome, Row, Rule, Step, Waiting, Walk, settled, reacted, pushed, is_pending, arg_by_index, arg_by_long, arg_by_short, has_long, long_met, word_met, subcommand_met, subcommand_or_other, long_or_other, short_or_plain, long_word, after_flag, after_step, walked, nothing_held, walk_from, finished, idle, option, trailing, value, next, done, plain_word}
 use Rattle.clap.specs.Walk as clap
 use Rattle.clap.specs.Simple.{built, matches_of}
 use Rattle.clap.specs.Faults.{use_fault, settle_fault, long_fault, bundle_step_fault, bundle_fault, flags_fault, flag_word_fault, word_fault, other_fault, positional_fault, step_fault, stray_fault, turn_fault, walk_fault, defaults_fault, check_fault}
 use Rattle.clap.proofs.FaultLemmas.{leaf_fault}
+use Rattle.clap.proofs.WalkLemmas.{find-map}
+use Rattle.std.proofs.Math.Bool.{or-false}
 use Rattle.pra_words.specs.declared.words.Word.{Word}
-use Rattle.pra_words.specs.declared.words.Word.TheVariants.{Mode, File, Steps, Image}
+use Rattle.pra_words.specs.declared.words.Word.TheVariants.{Mode, File}
 use Rattle.pra_words.specs.Texts.{word_name}
-use Rattle.pra_words.specs.CommandLine.{Text, Given, Line, place, option_named}
+use Rattle.pra_words.specs.CommandLine.{Text, Given, Line, place, options, option_name, option_named}
 use Rattle.pra_words.specs.Command.{command, line_of_rows, unless, taken_line}
-use Rattle.pra_words.proofs.LineRows.{top, rules, rule, row, pending, Good}
+use Rattle.pra_words.proofs.LineRows.{top, rules, rule, row, of_each, pending, Good}
 use Rattle.pra_words.proofs.LineLooks.{dashes, Seen, is_plain, is_end, is_named, is_dashed, seen}
 
 abbrev pub at : Held → Waiting → ℕ → Bool → Walk
@@ -62,36 +64,21 @@ goes w t word ws e f = line_goes w word ws ∙ ap₂ (λ k u. unless k (clap_lin
 -- ---- options
 
 find_long : (name : Text) → arg_by_long rules name ≡ option_map rule (option_named name)
-find_long name = go (bytes_eq (codes "steps") name) (bytes_eq (codes "image") name)
-  where
-    go : (b c : Bool) → (if b || false then Some (rule Steps) else (if c || false then Some (rule Image) else None)) ≡ option_map rule (if b then Some Steps else (if c then Some Image else None))
-    go true c = refl
-    go false true = refl
-    go false false = refl
+find_long name =
+    sym (find-map (λ a. not (is_some a.index) && has_long a name) rule options)
+    ∙ ap (option_map rule) (λ i. find (λ w. or-false (bytes_eq (option_name w) name) i) options)
 
 pub joined_fault : (o : Word) (v : Text) (h : Held) → long_fault rules false (Some (rule o)) (Some v) h ≡ or_else (settle_fault rules false h) (use_fault false (rule o) (v ∷ []) (settled rules h).rows)
-joined_fault Mode v h = refl
-joined_fault File v h = refl
-joined_fault Steps v h = refl
-joined_fault Image v h = refl
+joined_fault o v h = of_each (λ o. long_fault rules false (Some (rule o)) (Some v) h ≡ or_else (settle_fault rules false h) (use_fault false (rule o) (v ∷ []) (settled rules h).rows)) refl refl refl refl refl refl refl refl refl o
 
 pub apart_fault : (o : Word) (h : Held) → long_fault rules false (Some (rule o)) None h ≡ settle_fault rules false h
-apart_fault Mode h = refl
-apart_fault File h = refl
-apart_fault Steps h = refl
-apart_fault Image h = refl
+apart_fault o h = of_each (λ o. long_fault rules false (Some (rule o)) None h ≡ settle_fault rules false h) refl refl refl refl refl refl refl refl refl o
 
 pub joined_met : (o : Word) (v : Text) (h : Held) → long_met rules (Some (rule o)) (Some v) h ≡ (reacted rules (rule o) (v ∷ []) h, done)
-joined_met Mode v h = refl
-joined_met File v h = refl
-joined_met Steps v h = refl
-joined_met Image v h = refl
+joined_met o v h = of_each (λ o. long_met rules (Some (rule o)) (Some v) h ≡ (reacted rules (rule o) (v ∷ []) h, done)) refl refl refl refl refl refl refl refl refl o
 
 pub apart_met : (o : Word) (h : Held) → long_met rules (Some (rule o)) None h ≡ (record (settled rules h) { pending = Some (word_name o, []) }, clap.waits (word_name o))
-apart_met Mode h = refl
-apart_met File h = refl
-apart_met Steps h = refl
-apart_met Image h = refl
+apart_met o h = of_each (λ o. long_met rules (Some (rule o)) None h ≡ (record (settled rules h) { pending = Some (word_name o, []) }, clap.waits (word_name o))) refl refl refl refl refl refl refl refl refl o
 
 or_bad : (k l : Kinds) → Bad k → Bad (or_else k l)
 or_bad k l bad = (bad.0, bad.1 ++ [], ap (λ x. or_else x l) bad.2 ∙ ap (λ xs. bad.0 ∷ xs) (sym (nil bad.1)))

@@ -1,12 +1,13 @@
 -- What stands on a command line: the values MODE and FILE, in this order, and anywhere among them
--- the options `--steps` and `--image`, each with its value.
+-- the options, each with its value.
 use Rattle.std.specs.Prelude.{ℕ, zero, suc, Bool, true, not, ◌&&◌, ◌==◌, if◌then◌else◌}
 use Rattle.std.specs.Prelude.{List, [], ◌∷◌, ◌++◌, Option, Some, None, option_map, option_and_then}
-use Rattle.std.specs.Prelude.{find, codes}
+use Rattle.std.specs.Prelude.{find, drop}
 use Rattle.std.specs.List.{list_any, before_first, after_first}
 use Rattle.std.specs.Str.{bytes_eq}
 use Rattle.pra_words.specs.declared.words.Word.{Word}
-use Rattle.pra_words.specs.declared.words.Word.TheVariants.{Mode, File, Steps, Image}
+use Rattle.pra_words.specs.declared.words.Word.TheVariants.{Mode, File, Rounds, Cost, Steps}
+use Rattle.pra_words.specs.declared.words.Word.TheVariants.{Gap, Image, Seed, Size}
 use Rattle.pra_words.specs.Texts.{word_name}
 
 abbrev pub Text : Type 0
@@ -53,10 +54,15 @@ place zero = Some Mode
 place (suc zero) = Some File
 place (suc (suc n)) = None
 
+abbrev pub options : List Word
+options = Rounds ∷ Cost ∷ Steps ∷ Gap ∷ Image ∷ Seed ∷ Size ∷ []
+
+-- an option's name, behind the two dashes
+abbrev pub option_name : Word → Text
+option_name word = drop 2 (word_name word)
+
 abbrev pub option_named : Text → Option Word
-option_named name =
-    if bytes_eq (codes "steps") name then Some Steps
-    else (if bytes_eq (codes "image") name then Some Image else None)
+option_named name = find (λ word. bytes_eq (option_name word) name) options
 
 -- what may come next, behind so many words that stand for themselves: any word, the value of an
 -- option, or, behind `--`, only words that stand for themselves
@@ -118,17 +124,31 @@ value_in gs word = option_map (λ g. g.value) (find (is_of word) gs)
 pub record Line : Type 0 where
   pub mode : Text
   pub file : Text
+  pub rounds : Option Text
+  pub cost : Option Text
   pub steps : Option Text
+  pub gap : Option Text
   pub image : Option Text
+  pub seed : Option Text
+  pub size : Option Text
 
 -- MODE and FILE are wanted, and the options may be left out
-abbrev pub line_by : Option Text → Option Text → Option Text → Option Text → Option Line
-line_by (Some mode) (Some file) steps image =
-    Some (record { mode = mode; file = file; steps = steps; image = image })
-line_by mode file steps image = None
+abbrev pub line_by : Option Text → Option Text → (Word → Option Text) → Option Line
+line_by (Some mode) (Some file) value = Some (record {
+  mode = mode;
+  file = file;
+  rounds = value Rounds;
+  cost = value Cost;
+  steps = value Steps;
+  gap = value Gap;
+  image = value Image;
+  seed = value Seed;
+  size = value Size;
+})
+line_by mode file value = None
 
 abbrev pub line_in : (Word → Option Text) → Option Line
-line_in value = line_by (value Mode) (value File) (value Steps) (value Image)
+line_in value = line_by (value Mode) (value File) value
 
 abbrev pub line_from : List Given → Option Line
 line_from gs = if is_once gs then line_in (value_in gs) else None

@@ -13,10 +13,24 @@ abbrev pub written : Line → line.Line
 written l = record {
   mode = l.mode.now;
   file = l.file.now;
+  rounds = text_in l.rounds;
+  cost = text_in l.cost;
   steps = text_in l.steps;
+  gap = text_in l.gap;
   image = text_in l.image;
+  seed = text_in l.seed;
+  size = text_in l.size;
 }
 
 abbrev pub asked_by : Request → Asked
-asked_by r =
-    record { mode = r.mode; file = r.file.now; steps = r.steps; image = r.image.now }
+asked_by r = record {
+  mode = r.mode;
+  file = r.file.now;
+  rounds = r.rounds;
+  cost = r.cost;
+  steps = r.steps;
+  gap = r.gap;
+  image = r.image.now;
+  seed = r.seed;
+  size = r.size;
+}

@@ -21,8 +21,13 @@ use std::alloc::{AllocError, Global};
 pub struct Line<'a> {
     pub mode: &'a str,
     pub file: &'a str,
+    pub rounds: Option<&'a str>,
+    pub cost: Option<&'a str>,
     pub steps: Option<&'a str>,
+    pub gap: Option<&'a str>,
     pub image: Option<&'a str>,
+    pub seed: Option<&'a str>,
+    pub size: Option<&'a str>,
 }
 
 /// The values of a command line; `None` where the words are none.
@@ -49,15 +54,25 @@ fn command<'a>(alloc: Global) -> Result<Command<'a>, AllocError>
 {
     let mode = wanted(alloc, "MODE");
     let file = wanted(alloc, "FILE");
+    let rounds = option(alloc, "--rounds", "rounds");
+    let cost = option(alloc, "--cost", "cost");
     let steps = option(alloc, "--steps", "steps");
+    let gap = option(alloc, "--gap", "gap");
     let image = option(alloc, "--image", "image");
+    let seed = option(alloc, "--seed", "seed");
+    let size = option(alloc, "--size", "size");
     Command::new(alloc, "pra")
         .no_binary_name(true)
         .disable_help_flag(true)
         .arg(mode)?
         .arg(file)?
+        .arg(rounds)?
+        .arg(cost)?
         .arg(steps)?
-        .arg(image)
+        .arg(gap)?
+        .arg(image)?
+        .arg(seed)?
+        .arg(size)
 }
 
 // The values that the words gave.
@@ -69,8 +84,13 @@ fn line_in<'a>(matches: &ArgMatches<'a>) -> Option<Line<'a>>
         (Some(mode), Some(file)) => Some(Line {
             mode,
             file,
+            rounds: value(matches, Word::Rounds),
+            cost: value(matches, Word::Cost),
             steps: value(matches, Word::Steps),
+            gap: value(matches, Word::Gap),
             image: value(matches, Word::Image),
+            seed: value(matches, Word::Seed),
+            size: value(matches, Word::Size),
         }),
         _ => None,
     }

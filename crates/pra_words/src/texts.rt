@@ -8,7 +8,10 @@ use std::alloc::{AllocError, Global};
 use std::fmt::Write;
 
 /// How the program is called.
-const USAGE: &str = "usage: pra MODE FILE [--steps M] [--image NAME]\n";
+const USAGE: &str = concat!(
+    "usage: pra MODE FILE [--rounds N] [--cost size|speed] [--steps M]",
+    " [--gap G] [--image NAME] [--seed S] [--size Z]\n"
+);
 
 /// The lines that tell why the words are refused, the usage line at the end.
 ///

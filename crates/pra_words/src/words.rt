@@ -1,11 +1,13 @@
 // What the words of a command line ask for.
 
-ghost use Rattle.std.specs.Prelude.{◌≡◌, ◌≢◌, Ok, Err, MatchResult};
+ghost use Rattle.std.specs.Prelude.{◌≡◌, ◌≢◌, Ok, Err, MatchResult, option_map};
+ghost use Rattle.std.specs.Option.{ok_or};
 ghost use Rattle.std.specs.Str.{all_ascii_digits};
-ghost use Rattle.pra_words.specs.Words.{texts, mode_of, is_number, number_of_steps, steps_of};
+ghost use Rattle.pra_words.specs.Words.{texts, mode_of, file_of, is_number, number_within};
+ghost use Rattle.pra_words.specs.Words.{value_of, cost_word, cost_of, image_of};
 ghost use Rattle.pra_words.specs.Texts.{word_name};
 ghost use Rattle.pra_words.specs.Words.{writes_image, is_image, values_of, asked_of};
-ghost use Rattle.pra_words.specs.Written.{asked_by, written};
+ghost use Rattle.pra_words.specs.Written.{asked_by, text_in, written};
 
 use crate::line::{Line, read_line};
 use pra_base::OutOfMemory;
@@ -14,11 +16,48 @@ use std::alloc::Global;
 /// The file that the image is written to, where the words don't say.
 const DEFAULT_IMAGE: &str = "out.pri";
 
-/// How many steps a run is granted where the words don't say.
-const DEFAULT_STEPS: u32 = 10_000_000;
+// The numbers that an option may have, and the one where the words don't say.
+#[derive(Clone, Copy)]
+struct Numbers {
+    default: u32,
+    least: u32,
+    most: u32,
+}
 
-/// The most steps that the words may grant.
-const MOST_STEPS: u32 = 200_000_000;
+// How many rounds of allocation are made at most.
+const ROUNDS: Numbers = Numbers {
+    default: 10,
+    least: 0,
+    most: 1000,
+};
+
+// How many steps a run is granted.
+const STEPS: Numbers = Numbers {
+    default: 10_000_000,
+    least: 0,
+    most: 200_000_000,
+};
+
+// How far above the bound a cost is good enough.
+const GAP: Numbers = Numbers {
+    default: 0,
+    least: 0,
+    most: 4_294_967_295,
+};
+
+// Where the numbers that a module is generated from begin.
+const SEED: Numbers = Numbers {
+    default: 1,
+    least: 0,
+    most: 2_147_483_647,
+};
+
+// How large a generated module is.
+const SIZE: Numbers = Numbers {
+    default: 10,
+    least: 1,
+    most: 200,
+};
 
 /// What is done with FILE.
 #[derive(Clone, Copy, Debug, PartialEq, Eq)]
@@ -27,10 +66,14 @@ pub enum Mode {
     Run,
     /// It is compiled.
     Compile,
+    /// A module is generated and written to it, compiled, and its image runs.
+    Gen,
     /// It is an image, and is listed.
     List,
     /// It is the listing of an image, and is assembled.
     Asm,
+    /// It is compiled, and runs by its meaning.
+    Interp,
 }
 
 impl Mode {
@@ -38,17 +81,31 @@ impl Mode {
     fn writes_image(self) -> bool
         ensures { result ≡ writes_image self }
     {
-        self != Mode::List
+        self != Mode::List && self != Mode::Interp
     }
 }
 
-/// A word of the command line that has a value.
+/// What the code is to be cheap in.
+#[derive(Clone, Copy, Debug, PartialEq, Eq)]
+pub enum CostWord {
+    /// Its bytes.
+    Size,
+    /// Its time.
+    Speed,
+}
+
+/// A word of the command line that has a value, in the order in which the values are told of.
 #[derive(Clone, Copy, Debug, PartialEq, Eq)]
 pub enum Word {
     Mode,
     File,
+    Rounds,
+    Cost,
     Steps,
+    Gap,
     Image,
+    Seed,
+    Size,
 }
 
 impl Word {
@@ -59,8 +116,13 @@ impl Word {
         match self {
             Word::Mode => "MODE",
             Word::File => "FILE",
+            Word::Rounds => "--rounds",
+            Word::Cost => "--cost",
             Word::Steps => "--steps",
+            Word::Gap => "--gap",
             Word::Image => "--image",
+            Word::Seed => "--seed",
+            Word::Size => "--size",
         }
     }
 }
@@ -76,25 +138,51 @@ pub enum WordsFault {
     OutOfMemory,
 }
 
-/// What the words ask for: what is done with FILE, its name, the steps that its run is granted, and
-/// the name of the file that the image is written to.
+/// What the words ask for.
 #[derive(Clone, Copy, Drop)]
 pub struct Request<'a> {
+    /// What is done with FILE.
     pub mode: Mode,
+    /// The name of FILE.
     pub file: &'a str,
+    /// How many rounds of allocation are made at most.
+    pub rounds: u32,
+    /// What the code is to be cheap in.
+    pub cost: CostWord,
+    /// The steps that a run is granted.
     pub steps: u32,
+    /// The rounds stop where a cost is above the bound by no more than this.
+    pub gap: u32,
+    /// The name of the file that the image is written to.
     pub image: &'a str,
+    /// Where the numbers that a module is generated from begin.
+    pub seed: u32,
+    /// How large a generated module is.
+    pub size: u32,
 }
 
-/// Reads MODE, FILE and the options `--steps M` and `--image NAME`, and then their values.
+/// Reads MODE, FILE and the options, and then their values, also of options that the mode does not
+/// use.
+///
+/// | Word | Values | Where it is left out |
+/// |---|---|---|
+/// | MODE | `run`, `compile`, `gen`, `list`, `asm`, `interp` | |
+/// | FILE | not empty | |
+/// | `--rounds` | 0 to 1000 | 10 |
+/// | `--cost` | `size`, `speed` | `size` |
+/// | `--steps` | 0 to 200000000 | 10000000 |
+/// | `--gap` | 0 to 4294967295 | 0 |
+/// | `--image` | not empty; not FILE, but for `list` and `interp`, which write none | `out.pri` |
+/// | `--seed` | 0 to 2147483647 | 1 |
+/// | `--size` | 1 to 200 | 10 |
+///
+/// A number is one to ten decimal digits.
 ///
 /// # Errors
 ///
 /// `WordsFault::Words` where the words are no such line, and else `WordsFault::Value` of the first
-/// word, in this order, whose value is none that it may have: MODE is `run`, `compile`, `list` or
-/// `asm`, FILE is not empty, the steps are one to ten digits and at most 200000000, and the image's
-/// name is not empty nor, but for `list`, FILE. `WordsFault::OutOfMemory` where there is no memory
-/// for reading.
+/// word, in the order of the table, whose value is none that it may have. `WordsFault::OutOfMemory`
+/// where there is no memory for reading.
 pub fn read_words(alloc: Global, words: &[String]) -> Result<Request<'_>, WordsFault>
     ensures { MatchResult result (λ r. asked_of (texts words.now) ≡ Ok (asked_by r))
         (λ fault. fault ≢ WordsFault.OutOfMemory → asked_of (texts words.now) ≡ Err fault) }
@@ -111,25 +199,36 @@ fn values<'a>(line: &Line<'a>) -> Result<Request<'a>, WordsFault>
     ensures { MatchResult result (λ r. values_of (written line.now) ≡ Ok (asked_by r))
         (λ fault. values_of (written line.now) ≡ Err fault) }
 {
-    let Some(mode) = mode_of(line.mode) else {
-        return Err(WordsFault::Value(Word::Mode));
-    };
-    if line.file.is_empty() {
-        return Err(WordsFault::Value(Word::File));
-    }
-    let Some(steps) = steps_of(line) else {
-        return Err(WordsFault::Value(Word::Steps));
-    };
-    let image = line.image.unwrap_or(DEFAULT_IMAGE);
-    if !is_image(mode, line.file, image) {
-        return Err(WordsFault::Value(Word::Image));
-    }
+    let mode = told(mode_of(line.mode), Word::Mode)?;
+    let file = told(file_of(line.file), Word::File)?;
+    let rounds = told(value_of(line.rounds, ROUNDS), Word::Rounds)?;
+    let cost = told(cost_of(line.cost), Word::Cost)?;
+    let steps = told(value_of(line.steps, STEPS), Word::Steps)?;
+    let gap = told(value_of(line.gap, GAP), Word::Gap)?;
+    let image = told(image_of(mode, file, line.image), Word::Image)?;
+    let seed = told(value_of(line.seed, SEED), Word::Seed)?;
+    let size = told(value_of(line.size, SIZE), Word::Size)?;
     Ok(Request {
         mode,
-        file: line.file,
+        file,
+        rounds,
+        cost,
         steps,
+        gap,
         image,
+        seed,
+        size,
     })
+}
+
+// The value of a word, or that it has none that it may have.
+fn told<T: Copy>(value: Option<T>, word: Word) -> Result<T, WordsFault>
+    ensures { result ≡ ok_or value (WordsFault.Value word) }
+{
+    match value {
+        Some(value) => Ok(value),
+        None => Err(WordsFault::Value(word)),
+    }
 }
 
 fn mode_of(word: &str) -> Option<Mode>
@@ -139,21 +238,54 @@ fn mode_of(word: &str) -> Option<Mode>
         Some(Mode::Run)
     } else if word == "compile" {
         Some(Mode::Compile)
+    } else if word == "gen" {
+        Some(Mode::Gen)
     } else if word == "list" {
         Some(Mode::List)
     } else if word == "asm" {
         Some(Mode::Asm)
+    } else if word == "interp" {
+        Some(Mode::Interp)
     } else {
         None
     }
 }
 
-fn steps_of(line: &Line) -> Option<u32>
-    ensures { result ≡ steps_of (written line.now).steps }
+fn file_of(word: &str) -> Option<&str>
+    ensures { text_in result ≡ file_of word.now }
 {
-    match line.steps {
-        Some(word) => number_of_steps(word),
-        None => Some(DEFAULT_STEPS),
+    if word.is_empty() { None } else { Some(word) }
+}
+
+fn cost_of(word: Option<&str>) -> Option<CostWord>
+    ensures { result ≡ cost_of (text_in word.entry) }
+{
+    match word {
+        Some(word) => cost_word(word),
+        None => Some(CostWord::Size),
+    }
+}
+
+fn cost_word(word: &str) -> Option<CostWord>
+    ensures { result ≡ cost_word word.now }
+{
+    if word == "size" {
+        Some(CostWord::Size)
+    } else if word == "speed" {
+        Some(CostWord::Speed)
+    } else {
+        None
+    }
+}
+
+fn image_of<'a>(mode: Mode, file: &str, word: Option<&'a str>) -> Option<&'a str>
+    ensures { text_in result ≡ image_of mode file.now (text_in word.entry) }
+{
+    let image = word.unwrap_or(DEFAULT_IMAGE);
+    if is_image(mode, file, image) {
+        Some(image)
+    } else {
+        None
     }
 }
 
@@ -161,6 +293,15 @@ fn is_image(mode: Mode, file: &str, word: &str) -> bool
     ensures { result ≡ is_image mode file.now word.now }
 {
     !word.is_empty() && !(mode.writes_image() && word == file)
+}
+
+fn value_of(word: Option<&str>, numbers: Numbers) -> Option<u32>
+    ensures { result ≡ value_of numbers.default numbers.least numbers.most (text_in word.entry) }
+{
+    match word {
+        Some(word) => number_within(word, numbers.least, numbers.most),
+        None => Some(numbers.default),
+    }
 }
 
 fn all_digits(bytes: &[u8]) -> bool
@@ -183,14 +324,14 @@ fn is_number(word: &str) -> bool
 }
 
 #[tactic(auto, using(crate::proofs::Numbers::number_parsed))]
-fn number_of_steps(word: &str) -> Option<u32>
-    ensures { result ≡ number_of_steps word.now }
+fn number_within(word: &str, least: u32, most: u32) -> Option<u32>
+    ensures { result ≡ number_within least most word.now }
 {
     if !is_number(word) {
         return None;
     }
     match word.parse::<u64>() {
-        Ok(steps) if steps <= MOST_STEPS as u64 => Some(steps as u32),
+        Ok(number) if least as u64 <= number && number <= most as u64 => Some(number as u32),
         _ => None,
     }
 }
