@@ -29,8 +29,8 @@ use Rattle.pra_follow.proofs.Room.{one_more}
 use Rattle.pra_follow.proofs.Sides.{mapped, both_mapped, same_maps}
 use Rattle.pra_follow.proofs.Translated.{translated}
 use Rattle.pra_compile.specs.declared.compiling.Step.{Step}
-use Rattle.pra_compile.specs.declared.output.ProcOut.{ProcOut}
-use Rattle.pra_compile.specs.Compiled.{IsProcOut, IsCompiled, name_of}
+use Rattle.pra_report.specs.declared.report.ProcOut.{ProcOut}
+use Rattle.pra_compile.specs.Compiled.{Wanted, IsGranted, IsProcOut, IsCompiled, name_of}
 use Rattle.pra_compile.specs.Steps.{IsTidied, IsKept, IsStep, AreDone}
 
 -- ---- one procedure
@@ -54,19 +54,19 @@ tidied program p selected code lt is kept kinds tidy =
       tidy = tidy;
     }
 
-pub stepped : (program : Checked) (p : ℕ) (net : Net) (step : Step) → IsTidied program p step.out.code → AreAdmittedIn step.out.code net step.out.routes → IsMade (routed step.out.code net step.out.routes) step.placed →
-    step.out.name ≡ name_of program p → step.out.frame ≡ frame_size step.placed → frame_size step.placed ≡ frame_of (routed step.out.code net step.out.routes) → IsStep program p step
-stepped program p net step is routes made name frame of_flow = record {
+pub stepped : (program : Checked) (wanted : Wanted) (p : ℕ) (net : Net) (step : Step) → IsTidied program p step.out.code → AreAdmittedIn step.out.code net step.out.routes → IsGranted wanted net step.out.routes step.out.prices step.out.lines → IsMade (routed step.out.code net step.out.routes) step.placed →
+    step.out.name ≡ name_of program p → step.out.frame ≡ frame_size step.placed → frame_size step.placed ≡ frame_of (routed step.out.code net step.out.routes) → IsStep program wanted p step
+stepped program wanted p net step is routes granted made name frame of_flow = record {
   translation = record { made = is.is_selected.made; code = step.out.code; net = net; routes = step.out.routes; placed = step.placed };
   is = translated program p is.proc is.selected step.out.code net step.out.routes step.placed is.there is.is_selected is.preserves is.kinds is.tidy routes made;
   placed = refl;
-  kept = record { name = name; frame = frame; flow_frame = frame ∙ of_flow; code = refl; routes = refl };
+  kept = record { name = name; frame = frame; flow_frame = frame ∙ of_flow; code = refl; routes = refl; granted = granted };
 }
 
 -- ---- all of them
 
-pub none_done : (program : Checked) (assembly : Assembly) → IsAssembly [] program.data_words assembly → AreDone program 0 [] assembly
-none_done program assembly is = record {
+pub none_done : (program : Checked) (wanted : Wanted) (assembly : Assembly) → IsAssembly [] program.data_words assembly → AreDone program wanted 0 [] assembly
+none_done program wanted assembly is = record {
   translations = [];
   are = record { few = omega arith; each = λ p t e. cc };
   count = refl;
@@ -75,7 +75,7 @@ none_done program assembly is = record {
   assembled = is;
 }
 
-module _ (program : Checked) (n : ℕ) (procs : List ProcOut) (old new : Assembly) (done : AreDone program n procs old) (step : Step) (is : IsStep program n step) where
+module _ (program : Checked) (wanted : Wanted) (n : ℕ) (procs : List ProcOut) (old new : Assembly) (done : AreDone program wanted n procs old) (step : Step) (is : IsStep program wanted n step) where
   abbrev ts : List Translation
   ts = done.translations
 
@@ -85,7 +85,7 @@ module _ (program : Checked) (n : ℕ) (procs : List ProcOut) (old new : Assembl
   pub more_are : AreTranslations program (ts ++ is.translation ∷ [])
   more_are = one_more program ts is.translation done.are translation_is
 
-  pub one_done : IsAssembly (map (λ (t : Translation). t.placed) ts ++ step.placed ∷ []) program.data_words new → AreDone program (n + 1) (procs ++ step.out ∷ []) new
+  pub one_done : IsAssembly (map (λ (t : Translation). t.placed) ts ++ step.placed ∷ []) program.data_words new → AreDone program wanted (n + 1) (procs ++ step.out ∷ []) new
   one_done assembled =
       let long = length_push ts is.translation in
       let many = length_push procs step.out in
@@ -105,7 +105,7 @@ module _ (program : Checked) (n : ℕ) (procs : List ProcOut) (old new : Assembl
             (λ at same.
             got procs step.out out p f
             (λ less here. absurd (omega (arith, less, at, count, procs_count)))
-            (λ here other. subst (λ k. IsKept program k t out) (omega (arith, at, count)) (subst (λ o. IsKept program n t o) other (subst (λ u. IsKept program n u step.out) same is.kept))));
+            (λ here other. subst (λ k. IsKept program wanted k t out) (omega (arith, at, count)) (subst (λ o. IsKept program wanted n t o) other (subst (λ u. IsKept program wanted n u step.out) same is.kept))));
         assembled =
             subst (λ l. IsAssembly l program.data_words new)
             (ap (λ p. map (λ (t : Translation). t.placed) ts ++ p ∷ []) (sym is.placed) ∙ sym (map-append (λ (t : Translation). t.placed) ts (is.translation ∷ [])))
@@ -114,7 +114,7 @@ module _ (program : Checked) (n : ℕ) (procs : List ProcOut) (old new : Assembl
 
 -- ---- the whole
 
-module _ (program : Checked) (selectable : IsSelectable program) (procs : List ProcOut) (assembly : Assembly) (done : AreDone program (length program.procs) procs assembly) where
+module _ (program : Checked) (wanted : Wanted) (selectable : IsSelectable program) (procs : List ProcOut) (assembly : Assembly) (done : AreDone program wanted (length program.procs) procs assembly) where
   abbrev all : List Translation
   all = done.translations
 
@@ -124,7 +124,7 @@ module _ (program : Checked) (selectable : IsSelectable program) (procs : List P
   same_codes : map (λ (t : Translation). t.code) all ≡ map (λ (out : ProcOut). out.code) procs
   same_codes = same_maps (λ (t : Translation). t.code) (λ (out : ProcOut). out.code) all procs (done.procs_count ∙ sym done.count) (λ k t out e f. sym (done.kept k t out e f).code)
 
-  out_is : (p : ℕ) (proc : CheckedProc) (out : ProcOut) (r : Routed) → slice_get program.procs p ≡ Some proc → slice_get procs p ≡ Some out → slice_get (map behind all) p ≡ Some r → IsProcOut program p proc out r
+  out_is : (p : ℕ) (proc : CheckedProc) (out : ProcOut) (r : Routed) → slice_get program.procs p ≡ Some proc → slice_get procs p ≡ Some out → slice_get (map behind all) p ≡ Some r → IsProcOut program wanted p proc out r
   out_is p proc out r e f g =
       let x = mapped behind all p r g in
       let is = done.are.each p x.from x.there in
@@ -135,6 +135,7 @@ module _ (program : Checked) (selectable : IsSelectable program) (procs : List P
         code = code;
         net = x.from.net;
         routes = subst (λ c. AreAdmittedIn c x.from.net out.routes) (sym kept.code) (subst (λ rs. AreAdmittedIn x.from.code x.from.net rs) (sym kept.routes) is.routes);
+        allocated = kept.granted;
         carried = sym x.is ∙ ap (λ c. routed c x.from.net x.from.routes) (sym kept.code) ∙ ap (λ rs. routed out.code x.from.net rs) (sym kept.routes);
         frame = kept.flow_frame ∙ ap frame_of x.is;
       }
@@ -147,7 +148,7 @@ module _ (program : Checked) (selectable : IsSelectable program) (procs : List P
       let x = both_mapped behind (λ (t : Translation). t.placed) all p r l e f in
       subst (λ l. IsMade r l) x.other (subst (λ r. IsMade r x.from.placed) x.one (done.are.each p x.from x.there).placed)
 
-  pub all_compiled : (image : Image) → IsImageOf (map (λ (t : Translation). t.placed) all) program.data_words image → IsCompiled program (record { image = image; procs = procs })
+  pub all_compiled : (image : Image) → IsImageOf (map (λ (t : Translation). t.placed) all) program.data_words image → IsCompiled program wanted (record { image = image; procs = procs })
   all_compiled image is =
       let follows = follows_module program all done.are selectable done.count image is in
       record {

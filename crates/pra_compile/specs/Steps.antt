@@ -8,10 +8,10 @@ use Rattle.ia_asm.specs.Assembly.{IsAssembly}
 use Rattle.pl_place.specs.Behind.{frame_of}
 use Rattle.pl_place.specs.Placed.{frame_size}
 use Rattle.pra_compile.specs.declared.compiling.Step.{Step}
-use Rattle.pra_compile.specs.declared.output.ProcOut.{ProcOut}
-use Rattle.pra_compile.specs.Compiled.{name_of}
+use Rattle.pra_compile.specs.Compiled.{Wanted, IsGranted, name_of}
 use Rattle.pra_follow.specs.Translation.{Translation, IsTranslation, AreTranslations}
 use Rattle.pra_follow.specs.Translation.{behind}
+use Rattle.pra_report.specs.declared.report.ProcOut.{ProcOut}
 use Rattle.vc_proc.specs.Selected.{IsSelected}
 use Rattle.vc_same.specs.SameRuns.{Preserves}
 use Rattle.vc_tidy.specs.KindCounts.{KeepsKinds}
@@ -27,29 +27,31 @@ pub record IsTidied (program : Checked) (p : ℕ) (code : VProc) : Type 0 where
   pub kinds : KeepsKinds selected code
   pub tidy : IsTidy code
 
--- what is kept of procedure p is that of its translation
-pub record IsKept (program : Checked) (p : ℕ) (t : Translation) (out : ProcOut) : Type 0 where
+-- what is kept of procedure p is that of its translation, and what rounds left of its network
+pub record IsKept (program : Checked) (wanted : Wanted) (p : ℕ) (t : Translation) (out : ProcOut)
+    : Type 0 where
   pub name : out.name ≡ name_of program p
   pub frame : out.frame ≡ frame_size t.placed
   pub flow_frame : out.frame ≡ frame_of (behind t)
   pub code : out.code ≡ t.code
   pub routes : out.routes ≡ t.routes
+  pub granted : IsGranted wanted t.net out.routes out.prices out.lines
 
 -- procedure p was translated
-pub record IsStep (program : Checked) (p : ℕ) (step : Step) : Type 0 where
+pub record IsStep (program : Checked) (wanted : Wanted) (p : ℕ) (step : Step) : Type 0 where
   pub translation : Translation
   pub is : IsTranslation program p translation
   pub placed : translation.placed ≡ step.placed
-  pub kept : IsKept program p translation step.out
+  pub kept : IsKept program wanted p translation step.out
 
 -- The first n procedures were translated: this is kept of them, and their placed code is assembled.
-pub record AreDone (program : Checked) (n : ℕ) (procs : List ProcOut) (assembly : Assembly)
-    : Type 0 where
+pub record AreDone (program : Checked) (wanted : Wanted) (n : ℕ) (procs : List ProcOut)
+    (assembly : Assembly) : Type 0 where
   pub translations : List Translation
   pub are : AreTranslations program translations
   pub count : length translations ≡ n
   pub procs_count : length procs ≡ n
   pub kept : (p : ℕ) (t : Translation) (out : ProcOut) → slice_get translations p ≡ Some t →
-      slice_get procs p ≡ Some out → IsKept program p t out
+      slice_get procs p ≡ Some out → IsKept program wanted p t out
   pub assembled : IsAssembly (map (λ (t : Translation). t.placed) translations)
       program.data_words assembly

@@ -1,37 +1,42 @@
 // One procedure after the other, from checked module to image.
 
-ghost use Rattle.std.specs.Prelude.{◌≡◌, ◌<◌, length, IfOk, OnOk, OnErr};
+ghost use Rattle.std.specs.Prelude.{◌≡◌, ◌<◌, ◌≤◌, length, IfOk, OnOk, OnErr};
+ghost use Rattle.al_round.specs.Allocations.{IsAllocation};
+ghost use Rattle.al_round.specs.Watches.{Keeps as IsWatch, gap_of};
+ghost use Rattle.net_cost.specs.Models.{Keeps, weights_of};
 ghost use Rattle.net_form.specs.Flow.{flow, AreRoutes};
 ghost use Rattle.net_form.specs.Admitted.{IsAdmitted};
 ghost use Rattle.net_form.specs.Network.{IsNet};
 ghost use Rattle.pra_base.specs.Valid.{IsSized, IsValid};
-ghost use Rattle.pra_compile.specs.Compiled.{IsCompiled, name_of};
+ghost use Rattle.pra_compile.specs.Compiled.{IsCompiled, IsGranted, name_of, wanted_of};
 ghost use Rattle.pra_compile.specs.Steps.{IsTidied, IsStep, AreDone};
 ghost use Rattle.vc_short.specs.Short.{IsShort};
 ghost use Rattle.pra_follow.specs.Translation.{AreAdmittedIn};
 ghost use Rattle.vc_typed.specs.Nodes.{HaveTheirNodes};
 ghost use Rattle.vc_typed.specs.TypedModules.{IsSelectable};
 
-use crate::output::{Compiled, ProcOut};
-use al_edge::home;
+use crate::output::Compiled;
+use al_round::{Allocation, Rounds, Verdict, Watch};
 use ia_asm::Assembly;
 use net_build::build;
-use net_form::{Net, Routes};
+use net_cost::{CostModel, Event};
+use net_form::{Line, Net};
 use ob_syntax::Checked;
 use pl_build::place;
 use pl_place::{LProc, frame_bytes};
 use pra_base::{OutOfMemory, ProcId, VProc};
 use pra_list::Seq;
+use pra_report::ProcOut;
 use std::alloc::Global;
 use vc_live::live;
 use vc_proc::select_proc;
 use vc_tidy::tidy;
 
-// The network of code, and routes of it.
+// The network of code, and what rounds leave of it.
 #[derive(Debug, Drop)]
-struct Routed {
+struct Allocated {
     net: Net,
-    routes: Routes,
+    allocation: Allocation,
 }
 
 // What a procedure is compiled to.
@@ -55,16 +60,30 @@ fn tidy_code(alloc: Global, checked: &Checked, number: u32) -> Result<VProc, Out
     }
 }
 
-// The network of code, and its home routes.
-fn home_routes(alloc: Global, code: &VProc) -> Result<Routed, OutOfMemory>
+// The network of code, and what so many rounds at most leave of it.
+fn allocate<F: Fn(Event, u32) -> u32, G: Fn(Line) -> Verdict>(
+    alloc: Global,
+    code: &VProc,
+    rounds: u32,
+    model: &CostModel<F>,
+    watch: &Watch<G>,
+) -> Result<Allocated, OutOfMemory>
     requires valid { IsValid code.now }
     requires sized { IsSized code.now }
-    ensures { IfOk result (λ r. AreAdmittedIn code.now r.net r.routes) }
+    requires kept { Keeps F.Fn model.now }
+    requires watch { IsWatch G.Fn watch.now }
+    requires few { rounds ≤ 1000 }
+    ensures routes { IfOk result (λ a. AreAdmittedIn code.now a.net a.allocation.routes) }
+    ensures granted { IfOk result (λ a.
+        IsGranted (wanted_of (weights_of model.now) rounds (gap_of watch.now)) a.net
+        a.allocation.routes a.allocation.prices a.allocation.lines) }
 {
     let liveness = live(alloc, code)?;
     let net = build(alloc, code, &liveness)?;
-    let routes = home(alloc, &net)?;
-    Ok(Routed { net, routes })
+    let mut granted = Rounds::start(alloc, &net, model)?;
+    granted.grant(alloc, &net, model, rounds, watch)?;
+    let allocation = granted.into_allocation();
+    Ok(Allocated { net, allocation })
 }
 
 // The name of a procedure, or the module's for the body.
@@ -82,15 +101,31 @@ fn name_of(alloc: Global, checked: &Checked, number: u32) -> Result<Seq<u8>, Out
 }
 
 // A procedure, up to its placed code. Its network does not outlast it.
-fn compile_procedure(alloc: Global, checked: &Checked, number: u32) -> Result<Step, OutOfMemory>
+fn compile_procedure<F: Fn(Event, u32) -> u32, G: Fn(Line) -> Verdict>(
+    alloc: Global,
+    checked: &Checked,
+    number: u32,
+    rounds: u32,
+    model: &CostModel<F>,
+    watch: &Watch<G>,
+) -> Result<Step, OutOfMemory>
     requires selectable { IsSelectable checked.now }
     requires nodes { HaveTheirNodes checked.now }
     requires there { number < length checked.now.procs }
-    ensures { IfOk result (λ step. IsStep checked.now number step) }
+    requires kept { Keeps F.Fn model.now }
+    requires watch { IsWatch G.Fn watch.now }
+    requires few { rounds ≤ 1000 }
+    ensures { IfOk result (λ step. IsStep checked.now
+        (wanted_of (weights_of model.now) rounds (gap_of watch.now)) number step) }
 {
     let name = name_of(alloc, checked, number)?;
     let code = tidy_code(alloc, checked, number)?;
-    let Routed { net, routes } = home_routes(alloc, &code)?;
+    let Allocated { net, allocation } = allocate(alloc, &code, rounds, model, watch)?;
+    let Allocation {
+        routes,
+        prices,
+        lines,
+    } = allocation;
     let placed = place(alloc, &code, &net, &routes)?;
     let frame = frame_bytes(&placed);
     let out = ProcOut {
@@ -98,26 +133,39 @@ fn compile_procedure(alloc: Global, checked: &Checked, number: u32) -> Result<St
         frame,
         code,
         routes,
+        prices,
+        lines,
     };
     Ok(Step { out, placed })
 }
 
-/// A module, compiled. Its procedures are taken in order of number, and only one network stands at a
-/// time.
+/// A module, compiled, with so many rounds of allocation for each procedure, or as many as the watch
+/// wants. Its procedures are taken in order of number, and only one network stands at a time.
 ///
 /// # Errors
 ///
 /// Where there is no memory for it.
-pub fn compile(alloc: Global, checked: &Checked) -> Result<Compiled, OutOfMemory>
+pub fn compile<F: Fn(Event, u32) -> u32, G: Fn(Line) -> Verdict>(
+    alloc: Global,
+    checked: &Checked,
+    rounds: u32,
+    model: &CostModel<F>,
+    watch: &Watch<G>,
+) -> Result<Compiled, OutOfMemory>
     requires selectable { IsSelectable checked.now }
     requires nodes { HaveTheirNodes checked.now }
     requires short { IsShort checked.now }
-    ensures { IfOk result (λ compiled. IsCompiled checked.now compiled) }
+    requires kept { Keeps F.Fn model.now }
+    requires watch { IsWatch G.Fn watch.now }
+    requires few { rounds ≤ 1000 }
+    ensures { IfOk result (λ compiled. IsCompiled checked.now
+        (wanted_of (weights_of model.now) rounds (gap_of watch.now)) compiled) }
 {
     let mut assembly = Assembly::begin(alloc, checked.data_words)?;
     let mut procs = Seq::from_vec(Vec::with_capacity(alloc, checked.procs.len())?);
     for number in 0..checked.procs.len() {
-        let Step { out, placed } = compile_procedure(alloc, checked, number as u32)?;
+        let step = compile_procedure(alloc, checked, number as u32, rounds, model, watch)?;
+        let Step { out, placed } = step;
         assembly.add(alloc, &placed)?;
         procs.push(out)?;
     }

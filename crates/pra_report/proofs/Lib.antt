@@ -1,3 +1,4 @@
 pub mod Digits
 pub mod FirstPart
 pub mod ReadSoFar
+pub mod Totals

@@ -1,6 +1,7 @@
 -- The report on the procedures of a module: what each takes on the stack, how cost and bound went
 -- from round to round, and what the rounds came to.
-use Rattle.std.specs.Prelude.{ℕ, ◌+◌, ◌-◌, List, [], ◌∷◌, ◌++◌, length, slice_get, codes}
+use Rattle.std.specs.Prelude.{ℕ, ◌+◌, ◌-◌, ◌^◌, ◌<◌, ◌≤◌, List, [], ◌∷◌, ◌++◌, length, slice_get}
+use Rattle.std.specs.Prelude.{codes, All}
 use Rattle.std.specs.declared.option.Option.{Option}
 use Rattle.std.specs.Option.{option_map_or}
 use Rattle.std.specs.Fmt.{decimal}
@@ -21,7 +22,13 @@ abbrev pub round_lines : List Line → List ℕ
 round_lines [] = []
 round_lines (l ∷ ls) = round_line l ++ round_lines ls
 
--- the lines on procedures, the first of which has this number
+-- the lines on procedures, the first of which has this number, without rounds
+abbrev pub procedure_lines : ℕ → List ProcOut → List ℕ
+procedure_lines number [] = []
+procedure_lines number (p ∷ ps) =
+    procedure_line number p.name p.frame ++ procedure_lines (number + 1) ps
+
+-- and with them
 abbrev pub procedures_text : ℕ → List ProcOut → List ℕ
 procedures_text number [] = []
 procedures_text number (p ∷ ps) =
@@ -50,6 +57,26 @@ abbrev pub total_line : List ProcOut → ℕ → List ℕ
 total_line procs code =
     codes "total cost " ++ decimal (total_cost procs) ++ codes " bound "
     ++ decimal (total_bound procs) ++ codes " code " ++ decimal code ++ codes "\n"
+
+-- of a procedure at least the line of round 0 is told
+abbrev pub IsTold : ProcOut → Type 0
+IsTold p = 1 ≤ length p.lines
+
+-- each procedure is told of, and the sums have 128 bits
+pub record HaveTotals (procs : List ProcOut) : Type 0 where
+  pub told : All IsTold procs
+  pub costs : total_cost procs < 2 ^ 128
+  pub bounds : total_bound procs < 2 ^ 128
+
+-- a module has no more procedures than its source has tokens
+abbrev pub most_procs : ℕ
+most_procs = 65536
+
+-- it is told of, and the sums of so many as this one have 128 bits
+pub record IsOfMany (p : ProcOut) : Type 0 where
+  pub told : IsTold p
+  pub cost : last_cost p.lines < 2 ^ 112
+  pub bound : last_bound p.lines < 2 ^ 112
 
 -- ---- the whole
 

@@ -4,9 +4,10 @@ ghost use Rattle.std.specs.Prelude.{◌≡◌, ◌+◌, ◌<◌, ◌^◌, ◌++�
 ghost use Rattle.std.specs.Fmt.{decimal};
 ghost use Rattle.pra_report.specs.Report.{round_line, round_lines, procedures_text, last_cost};
 ghost use Rattle.pra_report.specs.Report.{last_bound, total_cost, total_bound, total_line};
-ghost use Rattle.pra_report.specs.Report.{report_text, generated_line, output_line};
+ghost use Rattle.pra_report.specs.Report.{report_text, generated_line, output_line, HaveTotals};
+ghost use Rattle.pra_report.specs.Report.{procedure_lines};
 
-use crate::text::numbered_line;
+use crate::text::procedure_line;
 use net_form::{Line, Prices, Routes};
 use pra_base::{OutOfMemory, VProc};
 use pra_list::Seq;
@@ -38,8 +39,7 @@ pub struct ProcOut {
 ///
 /// Where there is no memory for the text.
 pub fn report_text(alloc: Global, procs: &[ProcOut], code: u32) -> Result<Vec<u8>, OutOfMemory>
-    requires costs { total_cost procs.now < 2 ^ 128 }
-    requires bounds { total_bound procs.now < 2 ^ 128 }
+    requires { HaveTotals procs.now }
     ensures { IfOk result (λ text. text.items ≡ report_text procs.now code) }
 {
     let mut text = procedures_text(alloc, procs)?;
@@ -54,8 +54,7 @@ pub fn report_text(alloc: Global, procs: &[ProcOut], code: u32) -> Result<Vec<u8
 ///
 /// Where there is no memory for the line.
 pub fn total_line(alloc: Global, procs: &[ProcOut], code: u32) -> Result<Vec<u8>, OutOfMemory>
-    requires costs { total_cost procs.now < 2 ^ 128 }
-    requires bounds { total_bound procs.now < 2 ^ 128 }
+    requires { HaveTotals procs.now }
     ensures { IfOk result (λ line. line.items ≡ total_line procs.now code) }
 {
     let cost = total_cost(procs);
@@ -65,12 +64,28 @@ pub fn total_line(alloc: Global, procs: &[ProcOut], code: u32) -> Result<Vec<u8>
     Ok(line.into_bytes())
 }
 
+/// The lines on procedures in the order of their numbers, without those of their rounds.
+///
+/// # Errors
+///
+/// Where there is no memory for the lines.
+pub fn procedure_lines(alloc: Global, procs: &[ProcOut]) -> Result<Vec<u8>, OutOfMemory>
+    ensures { IfOk result (λ text. text.items ≡ procedure_lines 0 procs.now) }
+{
+    let mut text = Vec::new(alloc);
+    for (number, proc) in procs.iter().enumerate() {
+        let line = procedure_line(alloc, number, proc.name.as_slice(), proc.frame)?;
+        text.extend_from_slice(&line)?;
+    }
+    Ok(text)
+}
+
 fn procedures_text(alloc: Global, procs: &[ProcOut]) -> Result<Vec<u8>, OutOfMemory>
     ensures { IfOk result (λ text. text.items ≡ procedures_text 0 procs.now) }
 {
     let mut text = Vec::new(alloc);
     for (number, proc) in procs.iter().enumerate() {
-        let line = numbered_line(alloc, number, proc.name.as_slice(), proc.frame)?;
+        let line = procedure_line(alloc, number, proc.name.as_slice(), proc.frame)?;
         text.extend_from_slice(&line)?;
         let rounds = round_lines(alloc, proc.lines.as_slice())?;
         text.extend_from_slice(&rounds)?;

@@ -3,7 +3,7 @@
 ghost use Rattle.std.specs.Prelude.{◌≡◌, ◌≤◌, [], ◌∷◌, ◌++◌, length, IfOk};
 
 use crate::{
-    InputFault, ProcOut, generated_line, input_words, output_line, output_text, procedure_line,
+    InputFault, ProcOut, generated_line, input_words, output_line, output_text, procedure_lines,
     report_text,
 };
 use net_form::{Line, Prices, Routes};
@@ -55,8 +55,6 @@ fn texts(rt: HostRuntime) -> Result<(), OutOfMemory> {
     ];
     let text = output_text(rt.alloc(), &events)?;
     assert_eq!(rt; text.as_slice(), b" -7\n 0 -2147483648".as_slice());
-    let line = procedure_line(rt.alloc(), 0, b"M", 20)?;
-    assert_eq!(rt; line.as_slice(), b"procedure 0 M frame 20\n".as_slice());
     Ok(())
 }
 
@@ -129,6 +127,11 @@ fn reports(rt: HostRuntime) -> Result<(), OutOfMemory> {
           procedure 1 P frame 20\nround 0 cost 5 bound 5\n\
           total cost 5 bound 5 code 97\n"
             .as_slice()
+    );
+    let text = procedure_lines(alloc, &stack_trap)?;
+    assert_eq!(rt;
+        text.as_slice(),
+        b"procedure 0 M frame 20\nprocedure 1 P frame 20\n".as_slice()
     );
     Ok(())
 }

@@ -34,23 +34,7 @@ fn push_event(text: &mut String, event: OutEvent) -> Result<(), AllocError>
 }
 
 /// The line on a procedure: its number, its name, and how many bytes its frame has.
-///
-/// # Errors
-///
-/// Where there is no memory for the line.
-pub fn procedure_line(
-    alloc: Global,
-    number: u32,
-    name: &[u8],
-    frame: u32,
-) -> Result<Vec<u8>, OutOfMemory>
-    ensures { IfOk result (λ line. line.items ≡ procedure_line number name.now frame) }
-{
-    numbered_line(alloc, number as usize, name, frame)
-}
-
-/// The same, of a procedure of any number.
-pub(crate) fn numbered_line(
+pub(crate) fn procedure_line(
     alloc: Global,
     number: usize,
     name: &[u8],

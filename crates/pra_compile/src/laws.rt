@@ -1,0 +1,62 @@
+// The laws of what a module is compiled to: what its lines say.
+
+ghost use Rattle.std.specs.Prelude.{◌≡◌, ◌≤◌, ◌<◌, ◌+◌, ℕ, List, length, slice_get, Some};
+ghost use Rattle.ob_syntax.specs.declared.checked.Checked.{Checked};
+ghost use Rattle.ob_syntax.specs.declared.checked.CheckedProc.{CheckedProc};
+ghost use Rattle.net_cost.specs.Weights.{IsValid};
+ghost use Rattle.net_form.specs.declared.net.Net.{Net};
+ghost use Rattle.net_form.specs.declared.prices.Line.{Line};
+ghost use Rattle.net_form.specs.declared.prices.Prices.{Prices};
+ghost use Rattle.net_form.specs.declared.routes.Routes.{Routes};
+ghost use Rattle.net_form.specs.Admitted.{IsAdmitted};
+ghost use Rattle.net_form.specs.Cost.{cost_of};
+ghost use Rattle.net_form.specs.Flow.{Edge};
+ghost use Rattle.pl_place.specs.Behind.{Routed};
+ghost use Rattle.pra_compile.specs.declared.output.Compiled.{Compiled};
+ghost use Rattle.pra_compile.specs.Compiled.{Wanted, IsGranted, IsProcOut, IsCompiled};
+ghost use Rattle.pra_report.specs.declared.report.ProcOut.{ProcOut};
+ghost use Rattle.pra_report.specs.Report.{last_cost, last_bound, most_procs, HaveTotals};
+
+/// The cost of a procedure's last line is what the flow costs that the image carries.
+pub fn last_cost_is_carried()
+    ensures { (program : Checked) (wanted : Wanted) (p : ℕ) (proc : CheckedProc) (out : ProcOut)
+        (r : Routed) → IsProcOut program wanted p proc out r →
+        last_cost out.lines ≡ cost_of r.net wanted.weights r.flow }
+{}
+
+/// And no flow that the network of its code admits costs less than the bound of any of its lines.
+pub fn no_flow_costs_less()
+    ensures { (program : Checked) (wanted : Wanted) (p : ℕ) (proc : CheckedProc) (out : ProcOut)
+        (r : Routed) (k : ℕ) (line : Line) (f : List Edge) →
+        IsProcOut program wanted p proc out r → slice_get out.lines k ≡ Some line →
+        IsAdmitted r.net f → line.bound ≤ cost_of r.net wanted.weights f }
+{}
+
+/// Costs never rise and bounds never fall, from one line to any later one.
+pub fn lines_never_worsen()
+    ensures { (wanted : Wanted) (net : Net) (routes : Routes) (prices : Prices) (lines : List Line)
+        (j k : ℕ) (l m : Line) → IsGranted wanted net routes prices lines → j ≤ k →
+        slice_get lines j ≡ Some l → slice_get lines k ≡ Some m →
+        (m.cost ≤ l.cost) × (l.bound ≤ m.bound) }
+{}
+
+/// There is a line, and no more rounds than were wanted. Where there were fewer, the last cost is at
+/// most the gap above the last bound.
+pub fn rounds_are_as_wanted()
+    ensures some { (wanted : Wanted) (net : Net) (routes : Routes) (prices : Prices)
+        (lines : List Line) → IsGranted wanted net routes prices lines → 1 ≤ length lines }
+    ensures most { (wanted : Wanted) (net : Net) (routes : Routes) (prices : Prices)
+        (lines : List Line) → IsGranted wanted net routes prices lines →
+        length lines ≤ wanted.rounds + 1 }
+    ensures fewer { (wanted : Wanted) (net : Net) (routes : Routes) (prices : Prices)
+        (lines : List Line) → IsGranted wanted net routes prices lines →
+        length lines < wanted.rounds + 1 → last_cost lines ≤ last_bound lines + wanted.gap }
+{}
+
+/// What is kept of the procedures of a module has totals, where there are no more than a module may
+/// have and weights are valid.
+pub fn compiled_have_totals()
+    ensures { (program : Checked) (wanted : Wanted) (compiled : Compiled) →
+        IsCompiled program wanted compiled → IsValid wanted.weights →
+        length program.procs ≤ most_procs → HaveTotals compiled.procs }
+{}
