@@ -14,11 +14,11 @@ use Rattle.ob_read.specs.declared.fault.LimitFault.TheVariants.{Count}
 use Rattle.ob_read.specs.declared.fault.ReadFault.{ReadFault}
 use Rattle.ob_read.specs.Source.{IsUnreadable}
 use Rattle.ob_read.proofs.Reading.{one_reading, never_memory}
-use Rattle.pra_compile.specs.declared.output.Compiled.{Compiled}
+use Rattle.pra_tool.specs.declared.compiler.Made.{Made}
 use Rattle.pra_tool.specs.Compiling.{MadeOf}
 use Rattle.ob_read.specs.declared.fault.ReadFault.TheVariants as read
 use Rattle.pra_tool.specs.declared.tool.Then.{Then}
-use Rattle.pra_tool.specs.declared.tool.Then.TheVariants.{Run, Write}
+use Rattle.pra_tool.specs.declared.tool.Then.TheVariants.{Run, Write, Interpret}
 use Rattle.pra_words.specs.Words.{Asked}
 use Rattle.pra_tool.specs.declared.input.WrongInput.{WrongInput}
 use Rattle.pra_tool.specs.declared.input.WrongInput.TheVariants.{TooLong, NoWord}
@@ -26,12 +26,14 @@ use Rattle.pra_tool.specs.declared.status.Status.{Status}
 use Rattle.pra_tool.specs.declared.status.Status.TheVariants.{Ended, Trapped, Going, NoMemory}
 use Rattle.pra_tool.specs.Ends.{NeverFaults}
 use Rattle.pra_tool.specs.Inputs.{HasNumbers, IsWrongInput, input_status}
-use Rattle.pra_tool.specs.Status.{IsDone, IsRefusal, IsEnding, IsStatusOf}
+use Rattle.ob_interp.specs.declared.interpret.UnitEnding.{UnitEnding}
+use Rattle.ob_interp.specs.declared.interpret.UnitEnding.TheVariants as unit
+use Rattle.pra_tool.specs.Status.{IsDone, IsRefusal, IsEnding, IsStatusOf, status_of_units}
 use Rattle.pra_tool.specs.Outside.{Seen, Untouched}
 use Rattle.pra_tool.specs.Writes.{FileText, Writes, IsOther, AreDifferent, names, LeftOff}
 use Rattle.pra_tool.proofs.Files.{one_file}
 use Rattle.pra_tool.specs.Modes.{IsKind, IsMode}
-use Rattle.pra_tool.specs.Clause.{makes, sources, inputs, compiling, fault_status, image_file}
+use Rattle.pra_tool.specs.Clause.{makes, files_of, sources, inputs, compiling, fault_status, image_file}
 
 -- the run of an image that was made of a source is no fault
 ending_along : (e : Ending) → (run_end e ≢ Some end.Wrong) → IsEnding e
@@ -40,10 +42,10 @@ ending_along ending.Ended h = tt
 ending_along (ending.Trap k) h = tt
 ending_along (ending.Fault k) h = absurd (h refl)
 
-pub never_faults : (source : List ℕ) (compiled : Compiled) → MadeOf source compiled →
-    NeverFaults compiled.image
-never_faults source compiled made input words m =
-    ending_along _ ((made.compiled_to.does input words).never_wrong m)
+pub never_faults : (asked : Asked) (source : List ℕ) (made : Made) → MadeOf asked source made →
+    NeverFaults made.compiled.image
+never_faults asked source made is input words m =
+    ending_along _ ((is.compiled_to.does input words).never_wrong m)
 
 pub done_of : (e : Ending) (s : Status) → IsStatusOf e s → IsDone s
 done_of e Ended is = tt
@@ -53,6 +55,11 @@ done_of ending.Ended _ is = absurd is
 done_of (ending.Trap k) _ is = absurd is
 done_of ending.Going _ is = absurd is
 done_of (ending.Fault k) _ is = absurd is
+
+pub units_done : (e : UnitEnding) → IsDone (status_of_units e)
+units_done unit.Ended = tt
+units_done (unit.Trap k) = tt
+units_done unit.Going = tt
 
 -- where no file is written, none stands where memory was wanting
 pub none_left : (w : Writes) (old new : Seen) → names w.files ≡ [] → LeftOff w old new →
@@ -87,7 +94,7 @@ refusal_of source read.OutOfMemory h = absurd (never_memory source read.OutOfMem
 
 -- ---- sources and inputs
 
-sources_are_a_kind : IsKind sources
+pub sources_are_a_kind : IsKind sources
 sources_are_a_kind = record {
   one_wrong = one_reading.one_fault;
   never_both = λ source f right h. one_reading.never_both source right.0 f right.1 h;
@@ -130,19 +137,35 @@ modes_right : (next : Then) (asked : Asked) (source input : List ℕ) (w : Write
     makes next asked source input w s →
     sources.IsRight source × inputs.IsRight input
 modes_right Run asked source input w s made =
-    ((made.made.text, made.made.read), (made.numbers, made.has))
+    ((made.made_of.text, made.made_of.read), (made.numbers, made.has))
 modes_right Write asked source input w s made =
-    ((made.made.text, made.made.read), not_read input made.no_input)
+    ((made.made_of.text, made.made_of.read), not_read input made.no_input)
+modes_right Interpret asked source input w s made =
+    ((made.made_of.text, made.made_of.read), (made.numbers, made.has))
 
 modes_done : (next : Then) (asked : Asked) (source input : List ℕ) (w : Writes) (s : Status) →
     makes next asked source input w s → IsDone s
 modes_done Run asked source input w s made = done_of _ s made.ended
 modes_done Write asked source input w s made = subst IsDone (sym made.done) tt
+modes_done Interpret asked source input w s made =
+    subst IsDone (sym made.ended) (units_done _)
 
 pub modes_write : (next : Then) (asked : Asked) (source input : List ℕ) (w : Writes) (s : Status) →
-    makes next asked source input w s → names w.files ≡ asked.image ∷ []
+    makes next asked source input w s → names w.files ≡ files_of next asked
 modes_write Run asked source input w s made = ap (λ (x : Writes). names x.files) made.writes
 modes_write Write asked source input w s made = ap (λ (x : Writes). names x.files) made.writes
+modes_write Interpret asked source input w s made =
+    ap (λ (x : Writes). names x.files) made.writes
+
+-- where memory was wanting, nothing was written
+pub modes_leave : (next : Then) (asked : Asked) (source input : List ℕ) (w : Writes) (s : Status)
+    (old new : Seen) → makes next asked source input w s → LeftOff w old new → Untouched old new
+modes_leave Run asked source input w s old new made =
+    nothing_left w asked.image old new (modes_write Run asked source input w s made)
+modes_leave Write asked source input w s old new made =
+    nothing_left w asked.image old new (modes_write Write asked source input w s made)
+modes_leave Interpret asked source input w s old new made =
+    none_left w old new (modes_write Interpret asked source input w s made)
 
 pub compiling_is_a_mode : (next : Then) (asked : Asked) → IsMode (compiling next asked)
 compiling_is_a_mode next asked = record {

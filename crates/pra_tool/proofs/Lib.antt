@@ -4,6 +4,10 @@ mod ModeAnswers
 mod InputWords
 mod Sources
 mod CompilingModes
+mod Generating
+mod AskedValues
+mod SameFrames
+mod InterpAgrees
 mod ListingModes
 mod ListingEnds
 mod RoundTrip

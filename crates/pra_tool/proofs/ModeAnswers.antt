@@ -1,4 +1,4 @@
--- The answers of any mode that reads FILE, at each end of a call.
+-- The answers of any mode, at each end of a call.
 use Rattle.std.proofs.Common.{◌≡◌, ◌≢◌, ◌⊎◌, ◌≤◌, inl, inr, ⊎_elim, refl, sym, ap, ◌∙◌, subst, ℕ, Bool, true, false, List, [], ◌∷◌, ◌++◌, Some, take, codes}
 use Rattle.std.proofs.lemmas.List.{map-append}
 use Rattle.std.specs.declared.option.Option.{Option}
@@ -9,7 +9,7 @@ use Rattle.pra_tool.specs.declared.status.Status.TheVariants.{Ended, Trapped, Go
 use Rattle.pra_tool.specs.Status.{IsDone, IsRefusal}
 use Rattle.pra_tool.specs.Outside.{StreamSeen, Seen, SameFiles, Refused, Untouched}
 use Rattle.pra_tool.specs.Writes.{FileText, Writes, names, OthersStay, Hold, Stored, FileFailed, AllWritten, Stopped, LeftOff, Wrote, NoWriteFault}
-use Rattle.pra_tool.specs.Modes.{Mode, IsMode, IsInput, TellsInput, IsLeft, NoInputFault, IsMade, SourceRight, FileNotRead, Answers}
+use Rattle.pra_tool.specs.Modes.{Mode, IsMode, IsInput, TellsInput, IsLeft, NoInputFault, source_told, IsMade, SourceRight, FileNotRead, Answers}
 use Rattle.pra_tool.specs.Ends.{Ends}
 use Rattle.pra_tool.proofs.Files.{rose_after}
 use Rattle.pra_tool.specs.Ends as ends
@@ -60,7 +60,7 @@ is_memory BadInput = inr (λ e. cc)
 
 module _ (m : Mode) (mode : IsMode m) (file : List ℕ) (old new : Seen) where
   -- FILE was not read
-  pub not_read : (s : Status) → s ≡ Fault → FileNotRead file old new → Answers m file old new s
+  pub not_read : (s : Status) → s ≡ Fault → FileNotRead m file old new → Answers m file old new s
   not_read s is left = subst (Answers m file old new) (sym is) (record {
     known = λ e. cc;
     performed = λ d. absurd d;
@@ -86,20 +86,20 @@ module _ (m : Mode) (mode : IsMode m) (file : List ℕ) (old new : Seen) where
     complete = λ source input told right tells good unread well written. inr refl;
   })
 
-  module _ (source : List ℕ) (f : m.source.Wrong) (read : Holds (old.folder.file file) source)
+  module _ (source : List ℕ) (f : m.source.Wrong) (read : Holds (source_told m.own file old) source)
       (wrong : m.source.IsWrong source f) (left : Refused (m.source.line f) old new)
       (alone : new.input ≡ old.input) where
-    exactly : (other : List ℕ) (g : m.source.Wrong) → old.folder.file file ≡ Some (Some other) →
+    exactly : (other : List ℕ) (g : m.source.Wrong) → source_told m.own file old ≡ Some (Some other) →
         m.source.IsWrong other g →
         (m.source.status f ≡ m.source.status g) × Refused (m.source.line g) old new
     exactly other g told h =
-        let same : other ≡ source = held_same (old.folder.file file) other source told read in
+        let same : other ≡ source = held_same (source_told m.own file old) other source told read in
         let one : f ≡ g = mode.source.one_wrong source f g wrong (subst (λ s. m.source.IsWrong s g) same h) in
         (ap m.source.status one, subst (λ x. Refused (m.source.line x) old new) one left)
 
-    no_right : (other : List ℕ) → old.folder.file file ≡ Some (Some other) → m.source.IsRight other → ⊥
+    no_right : (other : List ℕ) → source_told m.own file old ≡ Some (Some other) → m.source.IsRight other → ⊥
     no_right other told right =
-        let same : other ≡ source = held_same (old.folder.file file) other source told read in
+        let same : other ≡ source = held_same (source_told m.own file old) other source told read in
         mode.source.never_both source f (subst m.source.IsRight same right) wrong
 
     refusal : IsRefusal (m.source.status f)
@@ -124,7 +124,7 @@ module _ (m : Mode) (mode : IsMode m) (file : List ℕ) (old new : Seen) where
     }
 
   -- a source that is refused, unless memory is wanting for its line
-  pub wrong_source : (source : List ℕ) (f : m.source.Wrong) (s : Status) → Holds (old.folder.file file) source →
+  pub wrong_source : (source : List ℕ) (f : m.source.Wrong) (s : Status) → Holds (source_told m.own file old) source →
       (s ≢ NoMemory → m.source.IsWrong source f) → (s ≡ m.source.status f) ⊎ (s ≡ NoMemory) →
       (s ≢ NoMemory → Refused (m.source.line f) old new) → (s ≡ NoMemory → m.Leaves old new) →
       new.input ≡ old.input → Answers m file old new s
@@ -137,15 +137,15 @@ module _ (m : Mode) (mode : IsMode m) (file : List ℕ) (old new : Seen) where
 
   -- ---- a source with which nothing is wrong
 
-  module _ (source : List ℕ) (read : Holds (old.folder.file file) source)
+  module _ (source : List ℕ) (read : Holds (source_told m.own file old) source)
       (right : m.source.IsRight source) where
     of_source : SourceRight m file old
     of_source = record { source = source; read = read; right = right }
 
-    not_wrong : (other : List ℕ) (f : m.source.Wrong) → old.folder.file file ≡ Some (Some other) →
+    not_wrong : (other : List ℕ) (f : m.source.Wrong) → source_told m.own file old ≡ Some (Some other) →
         m.source.IsWrong other f → ⊥
     not_wrong other f told h =
-        let same : other ≡ source = held_same (old.folder.file file) other source told read in
+        let same : other ≡ source = held_same (source_told m.own file old) other source told read in
         mode.source.never_both source f right (subst (λ b. m.source.IsWrong b f) same h)
 
     -- the input was not read
@@ -309,7 +309,7 @@ some_rose w files old new same (inr (inl o)) well = well.out o.cause
 some_rose w files old new same (inr (inr n)) well = well.notes n.cause
 
 module _ (m : Mode) (mode : IsMode m) (file : List ℕ) (old mid new : Seen) (only : OnlyRead old mid)
-    (source : List ℕ) (read : Holds (old.folder.file file) source)
+    (source : List ℕ) (read : Holds (source_told m.own file old) source)
     (right : m.source.IsRight source) where
   module _ (input : List ℕ) (taken : IsInput m.reads_input old.input input)
       (left : IsLeft m.reads_input old.input new.input) (w : Writes) (s : Status)
@@ -320,7 +320,7 @@ module _ (m : Mode) (mode : IsMode m) (file : List ℕ) (old mid new : Seen) (on
     done : IsDone s
     done = mode.done source input w s makes
 
-    no_fault_in : (other : List ℕ) (f : m.source.Wrong) → old.folder.file file ≡ Some (Some other) →
+    no_fault_in : (other : List ℕ) (f : m.source.Wrong) → source_told m.own file old ≡ Some (Some other) →
         m.source.IsWrong other f → ⊥
     no_fault_in = not_wrong m mode file old new source read right
 

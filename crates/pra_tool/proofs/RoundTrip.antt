@@ -7,7 +7,7 @@ use Rattle.ia_code.specs.declared.ins.Ins.{Ins}
 use Rattle.ia_code.specs.Listing.{IsListing}
 use Rattle.ia_list.specs.ListText.{IsListText, text_of, max_text_bytes}
 use Rattle.ia_list.proofs.TextsOnce.{listed_assembles, one_text}
-use Rattle.pra_compile.specs.declared.output.Compiled.{Compiled}
+use Rattle.pra_tool.specs.declared.compiler.Made.{Made}
 use Rattle.pra_words.specs.Words.{Asked}
 use Rattle.pra_tool.specs.declared.status.Status.{Status}
 use Rattle.pra_tool.specs.Compiling.{MadeOf}
@@ -59,24 +59,27 @@ text_back asked text file v w s t made files list =
 
 -- ---- what a source is compiled to
 
-pub compiled_is_listed : (source : List ℕ) (compiled : Compiled) → MadeOf source compiled →
-    (text : List ℕ) × IsListed (image_bytes_of compiled.image) text ×
+pub compiled_is_listed : (wanted : Asked) (source : List ℕ) (made : Made) →
+    MadeOf wanted source made →
+    (text : List ℕ) × IsListed (image_bytes_of made.compiled.image) text ×
     (length text ≤ max_text_bytes → (asked : Asked) (w : Writes) (s : Status) →
     AsmMakes asked text [] w s →
-    w.files ≡ one_file asked.image (image_bytes_of compiled.image))
-compiled_is_listed source compiled made = by_listing _ made.compiled_to.assembled.listing
+    w.files ≡ one_file asked.image (image_bytes_of made.compiled.image))
+compiled_is_listed wanted source made made_of =
+    by_listing _ made_of.compiled_to.assembled.listing
   where
-    by_listing : (ins : List Ins) → IsListing compiled.image.code ins →
-        (text : List ℕ) × IsListed (image_bytes_of compiled.image) text ×
+    by_listing : (ins : List Ins) → IsListing made.compiled.image.code ins →
+        (text : List ℕ) × IsListed (image_bytes_of made.compiled.image) text ×
         (length text ≤ max_text_bytes → (asked : Asked) (w : Writes) (s : Status) →
         AsmMakes asked text [] w s →
-        w.files ≡ one_file asked.image (image_bytes_of compiled.image))
+        w.files ≡ one_file asked.image (image_bytes_of made.compiled.image))
     by_listing ins listing =
-        let image = compiled.image in
+        let image = made.compiled.image in
+        let valid = made_of.compiled_to.valid in
         let listed : IsListText image (text_of image.data_words ins) =
         record { ins = ins; listing = listing; written = refl } in (
           text_of image.data_words ins,
-          record { image = image; held = (made.compiled_to.valid, refl); listed = listed },
+          record { image = image; held = (valid, refl); listed = listed },
           λ few asked w s again. written_back asked image (text_of image.data_words ins) w s
-              made.compiled_to.valid listed again,
+              valid listed again,
         )

@@ -1,5 +1,10 @@
--- What the checker answers can be compiled, and has few procedures.
-use Rattle.std.proofs.Common.{ℕ, ◌≤◌, List, length, refl, sym, subst, arith}
+-- What the checker answers can be compiled, and its totals can be told.
+use Rattle.std.proofs.Common.{◌≡◌, ℕ, List, inl, inr, refl, sym, subst, leb-true, Bool, arith}
+use Rattle.std.specs.Prelude.{nat_le}
+use Rattle.std.proofs.lemmas.List.Sums.{AllPass-from_list_all}
+use Rattle.net_cost.specs.Weights.{IsValid, size_weights, speed_weights}
+use Rattle.pra_words.specs.declared.words.CostWord.{CostWord}
+use Rattle.pra_words.specs.declared.words.CostWord.TheVariants.{Size, Speed}
 use Rattle.ob_check.specs.Checking.{IsChecked}
 use Rattle.ob_syntax.specs.Source.{IsParsed}
 use Rattle.ob_syntax.specs.declared.checked.Checked.{Checked}
@@ -7,13 +12,31 @@ use Rattle.ob_syntax.specs.declared.token.Token.{Token}
 use Rattle.ob_syntax.specs.declared.tree.Module.{Module}
 use Rattle.pra_compile.specs.Compiled.{IsCompiled}
 use Rattle.pra_compile.specs.declared.output.Compiled.{Compiled}
-use Rattle.pra_tool.specs.Compiling.{MadeOf}
+use Rattle.pra_compile.proofs.Totals.{have_totals}
+use Rattle.pra_report.specs.Report.{HaveTotals}
+use Rattle.pra_words.specs.Words.{Asked}
+use Rattle.pra_tool.specs.declared.compiler.Made.{Made}
+use Rattle.pra_tool.specs.Compiling.{MadeOf, wanted_by, weights_by}
 use Rattle.vc_short.proofs.Short.{module_short}
 use Rattle.vc_short.specs.Short.{IsShort}
 use Rattle.vc_typed.proofs.BodyNodes.{module_nodes}
 use Rattle.vc_typed.proofs.Selectable.{module_selectable}
 use Rattle.vc_typed.specs.Nodes.{HaveTheirNodes}
 use Rattle.vc_typed.specs.TypedModules.{IsSelectable}
+
+-- both lists of weights are valid
+abbrev fits : ℕ → Bool
+fits x = nat_le x 65535
+
+valid_weights : (word : CostWord) → IsValid (weights_by word)
+valid_weights Size = record {
+  entries = λ k d lt. leb-true _ 65535 (AllPass-from_list_all fits size_weights.list refl k d lt);
+  factor = inl refl;
+}
+valid_weights Speed = record {
+  entries = λ k d lt. leb-true _ 65535 (AllPass-from_list_all fits speed_weights.list refl k d lt);
+  factor = inr refl;
+}
 
 module _ (bytes : List ℕ) (tokens : List Token) (tree : Module) (program : Checked)
     (parsed : IsParsed bytes tokens tree) (is : IsChecked bytes tokens tree program) where
@@ -29,18 +52,21 @@ module _ (bytes : List ℕ) (tokens : List Token) (tree : Module) (program : Che
   short = subst IsShort (sym is.checked_is)
       (module_short bytes tokens tree is.reading parsed is.well_formed)
 
-  module _ (compiled : Compiled) (to : IsCompiled program compiled) where
-    pub few_procs : length compiled.procs ≤ 65536
-    few_procs =
-        let most = selectable.limited.count in
-        let count = to.count in omega (arith, most, count)
+  module _ (asked : Asked) (compiled : Compiled)
+      (to : IsCompiled program (wanted_by asked) compiled) where
+    pub totals : HaveTotals compiled.procs
+    totals = have_totals program (wanted_by asked) compiled to (valid_weights asked.cost)
+        (let few = selectable.limited.count in omega (arith, few))
 
-    pub made_of : MadeOf bytes compiled
-    made_of = record {
+    pub made_of : (made : Made) → made.checked ≡ program → made.compiled ≡ compiled →
+        MadeOf asked bytes made
+    made_of made checked same = record {
       text = record {
         text = record { bytes = bytes; tokens = tokens; tree = tree };
         checked = program;
       };
       read = (refl, parsed, is);
-      compiled_to = to;
+      checked = checked;
+      compiled_to =
+          subst (λ (c : Compiled). IsCompiled program (wanted_by asked) c) (sym same) to;
     }

@@ -1,6 +1,7 @@
 -- What the call that does all promises.
 use Rattle.std.specs.Prelude.{◌≡◌, ◌⊎◌, ℕ, ℤ, Bool, true, false, List, [], ◌∷◌, ◌++◌, length}
-use Rattle.std.specs.Prelude.{Result, Ok, Err}
+use Rattle.std.specs.Prelude.{None, Some, Result, Ok, Err}
+use Rattle.std.specs.Io.KnownBytes.{Keeps}
 use Rattle.ia_code.specs.declared.image.Image.{Image}
 use Rattle.ia_code.specs.Image.{image_bytes_of}
 use Rattle.ia_step.specs.declared.out.RunOut.{RunOut}
@@ -9,12 +10,15 @@ use Rattle.ob_read.specs.declared.fault.ReadFault.{ReadFault}
 use Rattle.ob_read.specs.declared.fault.ReadFault.TheVariants as read
 use Rattle.ob_read.specs.Source.{ReadText, IsRead, IsUnreadable}
 use Rattle.pra_compile.specs.declared.output.Compiled.{Compiled}
+use Rattle.pra_gen.specs.Module.{module_text}
+use Rattle.pra_report.specs.Report.{report_text, total_line, generated_line, output_line}
 use Rattle.pra_report.specs.Texts.{output_text}
 use Rattle.pra_words.specs.declared.words.Mode.{Mode as Word}
 use Rattle.pra_words.specs.declared.words.Mode.TheVariants as word
 use Rattle.pra_words.specs.declared.words.WordsFault.{WordsFault}
 use Rattle.pra_words.specs.Texts.{words_lines}
 use Rattle.pra_words.specs.Words.{Asked}
+use Rattle.pra_tool.specs.declared.compiler.Made.{Made}
 use Rattle.pra_tool.specs.declared.input.WrongInput.{WrongInput}
 use Rattle.pra_tool.specs.declared.status.Status.{Status}
 use Rattle.pra_tool.specs.declared.status.Status.TheVariants.{Ended, BadSource, OverLimit}
@@ -22,13 +26,14 @@ use Rattle.pra_tool.specs.declared.status.Status.TheVariants.{BadWords, NoMemory
 use Rattle.pra_tool.specs.Inputs.{HasNumbers, IsWrongInput, input_status}
 use Rattle.pra_tool.specs.Compiling.{MadeOf}
 use Rattle.pra_tool.specs.Status.{IsStatusOf}
-use Rattle.pra_tool.specs.Texts.{ending_line, procedure_lines, code_line, fault_line, input_line}
+use Rattle.pra_tool.specs.Texts.{ending_line, fault_line, input_line}
 use Rattle.pra_tool.specs.Outside.{Seen, Refused, Untouched}
-use Rattle.pra_tool.specs.Writes.{FileText, Writes}
+use Rattle.pra_tool.specs.Writes.{FileText, Writes, Stored}
 use Rattle.pra_tool.specs.Modes.{Kind, Mode, Answers}
+use Rattle.pra_tool.specs.Interpreted.{InterpMakes}
 use Rattle.pra_tool.specs.Listings.{IsTextOf, images, listings, ListMakes}
 use Rattle.pra_tool.specs.declared.tool.Then.{Then}
-use Rattle.pra_tool.specs.declared.tool.Then.TheVariants.{Run, Write}
+use Rattle.pra_tool.specs.declared.tool.Then.TheVariants.{Run, Write, Interpret}
 
 -- ---- what is written
 
@@ -49,15 +54,15 @@ abbrev pub run_writes : Asked → Compiled → List ℤ → Writes
 run_writes asked compiled input = record {
   files = image_file asked.image compiled.image;
   out = output_text (run_of compiled.image input asked.steps).events;
-  notes = procedure_lines 0 compiled.procs
+  notes = report_text compiled.procs (length compiled.image.code)
       ++ ending_line (run_of compiled.image input asked.steps);
 }
 
--- what `compile` writes: the image, and as output the report with the length of the code
+-- what `compile` writes: the image, and as output the report
 abbrev pub compile_writes : Asked → Compiled → Writes
 compile_writes asked compiled = record {
   files = image_file asked.image compiled.image;
-  out = procedure_lines 0 compiled.procs ++ code_line (length compiled.image.code);
+  out = report_text compiled.procs (length compiled.image.code);
   notes = [];
 }
 
@@ -65,21 +70,49 @@ compile_writes asked compiled = record {
 -- ending of the image's run on the numbers of the input.
 pub record RunMakes (asked : Asked) (source input : List ℕ) (w : Writes) (s : Status)
     : Type 0 where
-  pub compiled : Compiled
-  pub made : MadeOf source compiled
+  pub made : Made
+  pub made_of : MadeOf asked source made
   pub numbers : List ℤ
   pub has : HasNumbers input numbers
-  pub writes : w ≡ run_writes asked compiled numbers
-  pub ended : IsStatusOf (run_of compiled.image numbers asked.steps).ending s
+  pub writes : w ≡ run_writes asked made.compiled numbers
+  pub ended : IsStatusOf (run_of made.compiled.image numbers asked.steps).ending s
 
 -- What `compile` makes of a source; the input, which it does not read, counts as empty.
 pub record CompileMakes (asked : Asked) (source input : List ℕ) (w : Writes) (s : Status)
     : Type 0 where
-  pub compiled : Compiled
-  pub made : MadeOf source compiled
+  pub made : Made
+  pub made_of : MadeOf asked source made
   pub no_input : input ≡ []
-  pub writes : w ≡ compile_writes asked compiled
+  pub writes : w ≡ compile_writes asked made.compiled
   pub done : s ≡ Ended
+
+-- what `gen` tells of a module, whose text has so many bytes, and of its run, in four lines
+abbrev pub summary : Asked → ℕ → Compiled → RunOut → List ℕ
+summary asked bytes compiled run =
+    generated_line asked.seed asked.size bytes
+    ++ total_line compiled.procs (length compiled.image.code)
+    ++ ending_line run
+    ++ output_line (length (output_text run.events))
+
+-- what `gen` writes: the module's text, its image, and as output what is told of them and of the
+-- image's run on no input within the steps
+abbrev pub gen_writes : Asked → List ℕ → Compiled → Writes
+gen_writes asked text compiled = record {
+  files = record { name = asked.file; bytes = text } ∷ image_file asked.image compiled.image;
+  out = summary asked (length text) compiled (run_of compiled.image [] asked.steps);
+  notes = [];
+}
+
+-- What `gen` makes of the text of the seed and the size: what it is compiled to, and the status by
+-- the ending of the image's run on no input.
+pub record GenMakes (asked : Asked) (source input : List ℕ) (w : Writes) (s : Status)
+    : Type 0 where
+  pub text : source ≡ module_text asked.seed asked.size
+  pub made : Made
+  pub made_of : MadeOf asked source made
+  pub no_input : input ≡ []
+  pub writes : w ≡ gen_writes asked source made.compiled
+  pub ended : IsStatusOf (run_of made.compiled.image [] asked.steps).ending s
 
 -- what `asm` writes: the image
 abbrev pub asm_writes : Asked → Image → Writes
@@ -131,26 +164,57 @@ inputs = record {
 abbrev pub makes : Then → Asked → List ℕ → List ℕ → Writes → Status → Type 0
 makes Run = RunMakes
 makes Write = CompileMakes
+makes Interpret = InterpMakes
 
-abbrev pub is_run : Then → Bool
-is_run Run = true
-is_run Write = false
+-- whether the input is read before that
+abbrev pub takes_input : Then → Bool
+takes_input Run = true
+takes_input Write = false
+takes_input Interpret = true
+
+-- the files that are written
+abbrev pub files_of : Then → Asked → List (List ℕ)
+files_of Run asked = asked.image ∷ []
+files_of Write asked = asked.image ∷ []
+files_of Interpret asked = []
 
 -- FILE is a source, which is compiled, and then this is done
 abbrev pub compiling : Then → Asked → Mode
 compiling next asked = record {
   source = sources;
+  own = None;
   input = inputs;
-  reads_input = is_run next;
+  reads_input = takes_input next;
   Makes = makes next asked;
-  files = asked.image ∷ [];
+  files = files_of next asked;
   Leaves = Untouched;
+}
+
+-- FILE holds this text, no other file changed, and nothing else was written
+pub record TextLeft (name text : List ℕ) (old new : Seen) : Type 0 where
+  pub files : Stored (one_file name text) old.folder new.folder
+  pub out : Keeps old.out.bytes new.out.bytes
+  pub notes : Keeps old.notes.bytes new.notes.bytes
+
+-- the source is made, compiled and run; where memory was wanting for the image's file, FILE may
+-- hold the text
+abbrev pub generating : Asked → Mode
+generating asked = record {
+  source = sources;
+  own = Some (module_text asked.seed asked.size);
+  input = inputs;
+  reads_input = false;
+  Makes = GenMakes asked;
+  files = asked.file ∷ asked.image ∷ [];
+  Leaves = λ old new. Untouched old new ⊎
+      TextLeft asked.file (module_text asked.seed asked.size) old new;
 }
 
 -- FILE is an image, which is listed
 abbrev pub listing : Mode
 listing = record {
   source = images;
+  own = None;
   input = inputs;
   reads_input = false;
   Makes = ListMakes;
@@ -162,6 +226,7 @@ listing = record {
 abbrev pub assembling : Asked → Mode
 assembling asked = record {
   source = listings;
+  own = None;
   input = inputs;
   reads_input = false;
   Makes = AsmMakes asked;
@@ -173,11 +238,14 @@ assembling asked = record {
 abbrev pub mode_by : Word → Asked → Mode
 mode_by word.Run asked = compiling Run asked
 mode_by word.Compile asked = compiling Write asked
+mode_by word.Gen asked = generating asked
 mode_by word.List asked = listing
 mode_by word.Asm asked = assembling asked
+mode_by word.Interp asked = compiling Interpret asked
 
 abbrev pub reads_input : Word → Bool
 reads_input word.Run = true
+reads_input word.Interp = true
 reads_input mode = false
 
 -- the mode that is asked for

@@ -1,3 +1,4 @@
+pub mod Asking
 pub mod Compiling
 pub mod Status
 pub mod Outside
@@ -6,6 +7,7 @@ pub mod Modes
 pub mod Inputs
 pub mod Ends
 pub mod Texts
+pub mod Interpreted
 pub mod Listings
 pub mod Clause
 pub mod Reports

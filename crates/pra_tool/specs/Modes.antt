@@ -1,5 +1,7 @@
--- What a mode that reads FILE promises, whatever it makes of its source and its input.
-use Rattle.std.specs.Prelude.{◌≡◌, ◌≢◌, ◌⊎◌, ℕ, List, [], Bool, true, false, Some, ⊤, codes}
+-- What a mode promises, whatever it makes of its source and its input. The source is what FILE
+-- holds, or the mode makes it.
+use Rattle.std.specs.Prelude.{◌≡◌, ◌≢◌, ◌⊎◌, ℕ, List, [], Bool, true, false, None, Some, ⊤, codes}
+use Rattle.std.specs.declared.option.Option.{Option}
 use Rattle.std.specs.Io.KnownBytes.{IsAtEnd}
 use Rattle.pra_io.specs.Causes.{Rose}
 use Rattle.pra_io.specs.Contents.{Holds, IsAllOf}
@@ -20,8 +22,9 @@ pub record Kind : Type 1 where
 
 -- What differs from mode to mode.
 pub record Mode : Type 1 where
-  -- the source, which FILE holds
+  -- the source, which FILE holds, or the one that the mode makes
   pub source : Kind
+  pub own : Option (List ℕ)
   -- the input, which a mode that does not read it has as an empty text
   pub input : Kind
   pub reads_input : Bool
@@ -51,6 +54,19 @@ pub record IsMode (m : Mode) : Type 0 where
   pub writes : (source input : List ℕ) (w : Writes) (s : Status) → m.Makes source input w s →
       names w.files ≡ m.files
 
+-- ---- the source
+
+-- the source, as it is told
+abbrev pub source_told : Option (List ℕ) → List ℕ → Seen → Option (Option (List ℕ))
+source_told None file s = s.folder.file file
+source_told (Some text) file s = Some (Some text)
+
+-- the count of reading FILE rose, where FILE is read
+abbrev pub SourceFault : Option (List ℕ) → List ℕ → Seen → Seen → Type 0
+SourceFault None file old new =
+    Rose (old.folder.read_faults file) (new.folder.read_faults file)
+SourceFault (Some text) file old new = ⊥
+
 -- ---- the input
 
 -- these are all the bytes of an input that is read; of one that is not, none are
@@ -75,11 +91,11 @@ NoInputFault false old new = ⊤
 
 -- ---- all was well
 
--- FILE was read whole, and so was the input where the mode reads it, and this was made of them.
+-- The source was read whole, and so was the input where the mode reads it, and this was made of them.
 pub record IsMade (m : Mode) (file : List ℕ) (old new : Seen) (w : Writes) (s : Status)
     : Type 0 where
   pub source : List ℕ
-  pub read : Holds (old.folder.file file) source
+  pub read : Holds (source_told m.own file old) source
   pub input : List ℕ
   pub taken : IsInput m.reads_input old.input input
   pub left : IsLeft m.reads_input old.input new.input
@@ -108,18 +124,18 @@ pub record TextRefused (kind : Kind) (text : List ℕ) (old new : Seen) (status 
   pub status_is : status ≡ kind.status fault
   pub left : Refused (kind.line fault) old new
 
--- The source that FILE holds is refused; the input was left alone.
+-- The source is refused; the input was left alone.
 pub record SourceRefused (m : Mode) (file : List ℕ) (old new : Seen) (status : Status)
     : Type 0 where
   pub source : List ℕ
-  pub read : Holds (old.folder.file file) source
+  pub read : Holds (source_told m.own file old) source
   pub refused : TextRefused m.source source old new status
   pub alone : new.input ≡ old.input
 
--- Nothing is wrong with the source that FILE holds.
+-- Nothing is wrong with the source.
 pub record SourceRight (m : Mode) (file : List ℕ) (old : Seen) : Type 0 where
   pub source : List ℕ
-  pub read : Holds (old.folder.file file) source
+  pub read : Holds (source_told m.own file old) source
   pub right : m.source.IsRight source
 
 -- Nothing is wrong with the source, and the input is refused.
@@ -133,8 +149,8 @@ pub record InputRefused (m : Mode) (file : List ℕ) (old new : Seen) (status : 
 -- ---- what was not read
 
 -- FILE was not read, for a fault of the folder at reading it; the input was left alone.
-pub record FileNotRead (file : List ℕ) (old new : Seen) : Type 0 where
-  pub cause : Rose (old.folder.read_faults file) (new.folder.read_faults file)
+pub record FileNotRead (m : Mode) (file : List ℕ) (old new : Seen) : Type 0 where
+  pub cause : SourceFault m.own file old new
   pub left : Refused (codes "fault read file\n") old new
   pub alone : new.input ≡ old.input
 
@@ -160,24 +176,22 @@ pub record Answers (m : Mode) (file : List ℕ) (old new : Seen) (status : Statu
   pub refused : IsRefusal status →
       SourceRefused m file old new status ⊎ InputRefused m file old new status
   pub fault : status ≡ Fault →
-      FileNotRead file old new ⊎ InputNotRead m file old new ⊎ NotWritten m file old new
+      FileNotRead m file old new ⊎ InputNotRead m file old new ⊎ NotWritten m file old new
   pub memory : status ≡ NoMemory → m.Leaves old new
   -- whatever is wrong with a source is told by its own line, unless the count of reading FILE rose
   pub refused_exactly : (source : List ℕ) (f : m.source.Wrong) →
-      old.folder.file file ≡ Some (Some source) → m.source.IsWrong source f →
-      IsRefusedFor m.source f old new status ⊎
-      Rose (old.folder.read_faults file) (new.folder.read_faults file)
+      source_told m.own file old ≡ Some (Some source) → m.source.IsWrong source f →
+      IsRefusedFor m.source f old new status ⊎ SourceFault m.own file old new
   -- and so is whatever is wrong with the input, unless that of the input rose
   pub input_exactly : (source input : List ℕ) (f : m.input.Wrong) →
-      old.folder.file file ≡ Some (Some source) → m.source.IsRight source →
+      source_told m.own file old ≡ Some (Some source) → m.source.IsRight source →
       TellsInput m.reads_input old.input input → m.input.IsWrong input f →
-      IsRefusedFor m.input f old new status ⊎
-      Rose (old.folder.read_faults file) (new.folder.read_faults file) ⊎
+      IsRefusedFor m.input f old new status ⊎ SourceFault m.own file old new ⊎
       Rose old.input.faults new.input.faults
   -- and where nothing is, and no count rises, all is done
-  pub complete : (source input : List ℕ) → old.folder.file file ≡ Some (Some source) →
+  pub complete : (source input : List ℕ) → source_told m.own file old ≡ Some (Some source) →
       m.source.IsRight source → TellsInput m.reads_input old.input input →
       m.input.IsRight input →
-      (Rose (old.folder.read_faults file) (new.folder.read_faults file) → ⊥) →
+      (SourceFault m.own file old new → ⊥) →
       NoInputFault m.reads_input old.input new.input → NoWriteFault m.files old new →
       IsDone status ⊎ (status ≡ NoMemory)

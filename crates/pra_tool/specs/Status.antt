@@ -2,6 +2,8 @@
 use Rattle.std.specs.Prelude.{ℕ, ⊤}
 use Rattle.ia_step.specs.declared.out.Ending.{Ending}
 use Rattle.ia_step.specs.declared.out.Ending.TheVariants as ending
+use Rattle.ob_interp.specs.declared.interpret.UnitEnding.{UnitEnding}
+use Rattle.ob_interp.specs.declared.interpret.UnitEnding.TheVariants as unit
 use Rattle.pra_tool.specs.declared.status.Status.{Status}
 use Rattle.pra_tool.specs.declared.status.Status.TheVariants.{Ended, Trapped, Going, BadSource}
 use Rattle.pra_tool.specs.declared.status.Status.TheVariants.{OverLimit, Fault, BadWords}
@@ -44,3 +46,9 @@ IsStatusOf ending.Ended Ended = ⊤
 IsStatusOf (ending.Trap k) Trapped = ⊤
 IsStatusOf ending.Going Going = ⊤
 IsStatusOf e status = ⊥
+
+-- the status of a run by the meaning
+abbrev pub status_of_units : UnitEnding → Status
+status_of_units unit.Ended = Ended
+status_of_units (unit.Trap k) = Trapped
+status_of_units unit.Going = Going

@@ -1,11 +1,14 @@
 -- The texts that the program writes.
-use Rattle.std.specs.Prelude.{ℕ, ◌+◌, List, [], ◌∷◌, ◌++◌, codes}
+use Rattle.std.specs.Prelude.{ℕ, List, [], ◌++◌, codes}
 use Rattle.std.specs.Fmt.{decimal}
 use Rattle.pra_base.specs.declared.event.TrapKind.{TrapKind}
 use Rattle.pra_base.specs.declared.event.TrapKind.TheVariants as trap
 use Rattle.ia_step.specs.declared.out.Ending.{Ending}
 use Rattle.ia_step.specs.declared.out.Ending.TheVariants.{Going, Ended, Trap, Fault}
 use Rattle.ia_step.specs.declared.out.RunOut.{RunOut}
+use Rattle.ob_interp.specs.declared.interpret.UnitEnding.{UnitEnding}
+use Rattle.ob_interp.specs.declared.interpret.UnitEnding.TheVariants as unit
+use Rattle.ob_interp.specs.declared.interpret.UnitOut.{UnitOut}
 use Rattle.pra_base.specs.declared.limit.LimitKind.{LimitKind}
 use Rattle.pra_base.specs.declared.limit.LimitKind.TheVariants as limit
 use Rattle.pra_base.specs.Limits.{limit_name, limit_maximum}
@@ -13,8 +16,6 @@ use Rattle.ob_lex.specs.declared.scanner.LexFault.{LexFault}
 use Rattle.ob_lex.specs.declared.scanner.LexFault.TheVariants as lex
 use Rattle.ob_read.specs.declared.fault.SourceFault.TheVariants.{Lex, Grammar, Rule}
 use Rattle.ob_read.specs.declared.fault.LimitFault.TheVariants.{Count, Depth}
-use Rattle.pra_report.specs.Texts.{procedure_line}
-use Rattle.pra_compile.specs.declared.output.ProcOut.{ProcOut}
 use Rattle.pra_tool.specs.declared.input.WrongInput.{WrongInput}
 use Rattle.pra_tool.specs.declared.input.WrongInput.TheVariants.{TooLong, NoWord}
 use Rattle.ob_read.specs.declared.fault.ReadFault.{ReadFault}
@@ -45,17 +46,16 @@ abbrev pub ending_line : RunOut → List ℕ
 ending_line run = ending_words run.ending ++ codes " steps " ++ decimal run.steps ++
     codes " reads " ++ decimal run.reads ++ codes "\n"
 
--- ---- the report
+-- the same of a run by the meaning
+abbrev pub unit_ending_words : UnitEnding → List ℕ
+unit_ending_words unit.Going = codes "going"
+unit_ending_words unit.Ended = codes "ended"
+unit_ending_words (unit.Trap kind) = codes "trap " ++ trap_name kind
 
--- a line for each procedure, from this number on
-abbrev pub procedure_lines : ℕ → List ProcOut → List ℕ
-procedure_lines number [] = []
-procedure_lines number (proc ∷ procs) =
-    procedure_line number proc.name proc.frame ++ procedure_lines (number + 1) procs
-
--- how many bytes of code there are
-abbrev pub code_line : ℕ → List ℕ
-code_line count = codes "code " ++ decimal count ++ codes "\n"
+-- how it ended, the units that were begun, and the input words that it took
+abbrev pub units_line : UnitOut → List ℕ
+units_line run = unit_ending_words run.ending ++ codes " units " ++ decimal run.units ++
+    codes " reads " ++ decimal run.reads ++ codes "\n"
 
 -- ---- what is wrong with a source; what no source is refused for has no line
 

@@ -1,19 +1,20 @@
 // The laws of what is promised.
 
-ghost use Rattle.std.specs.Prelude.{◌≡◌, ◌≤◌, ℕ, List, [], map, length};
+ghost use Rattle.std.specs.Prelude.{◌≡◌, ◌≢◌, ◌≤◌, ℕ, List, [], length};
 ghost use Rattle.ia_code.specs.Image.{image_bytes_of};
 ghost use Rattle.ia_list.specs.ListText.{max_text_bytes};
-ghost use Rattle.pra_compile.specs.declared.output.Compiled.{Compiled};
-ghost use Rattle.pra_compile.specs.declared.output.ProcOut.{ProcOut};
 ghost use Rattle.pra_follow.specs.Follows.{DoesAsMeant};
 ghost use Rattle.pra_words.specs.declared.words.Mode.{Mode as Word};
 ghost use Rattle.pra_words.specs.Words.{Asked};
+ghost use Rattle.pra_tool.specs.declared.compiler.Made.{Made};
 ghost use Rattle.pra_tool.specs.declared.status.Status.{Status};
 ghost use Rattle.pra_tool.specs.Writes.{Writes};
 ghost use Rattle.pra_tool.specs.Modes.{IsMode};
 ghost use Rattle.pra_tool.specs.Compiling.{MadeOf};
+ghost use Rattle.pra_report.specs.Report.{procedure_lines};
+ghost use Rattle.pra_tool.specs.Interpreted.{InterpMakes, frames_of, units_of};
 ghost use Rattle.pra_tool.specs.Listings.{IsListed, ListMakes};
-ghost use Rattle.pra_tool.specs.Clause.{RunMakes, AsmMakes, one_file, mode_by};
+ghost use Rattle.pra_tool.specs.Clause.{run_of, RunMakes, GenMakes, AsmMakes, one_file, mode_by};
 
 /// What the answers of a mode rest on holds of each mode.
 pub fn all_are_modes()
@@ -21,12 +22,29 @@ pub fn all_are_modes()
 {}
 
 /// What `run` makes does what the source means: the run of the image on the numbers of the input
-/// agrees with the meaning of the module, with the frames that the report prints, both ways.
+/// agrees with the meaning of the module, with the frames that the report prints, both ways. So it
+/// is with what `gen` makes, on no input.
 pub fn runs_do_as_meant()
-    ensures { (asked : Asked) (source input : List ℕ) (w : Writes) (s : Status) →
+    ensures run { (asked : Asked) (source input : List ℕ) (w : Writes) (s : Status) →
         (made : RunMakes asked source input w s) →
-        DoesAsMeant made.made.text.checked
-        (map (λ (out : ProcOut). out.frame) made.compiled.procs) made.compiled.image made.numbers }
+        DoesAsMeant made.made_of.text.checked (frames_of made.made.compiled.procs)
+        made.made.compiled.image made.numbers }
+    ensures generated { (asked : Asked) (source input : List ℕ) (w : Writes) (s : Status) →
+        (made : GenMakes asked source input w s) →
+        DoesAsMeant made.made_of.text.checked (frames_of made.made.compiled.procs)
+        made.made.compiled.image [] }
+{}
+
+/// Where `run` and `interp` of one source and one input both come to an end or a trap, and tell the
+/// same lines of procedures, they end alike, write the same output and take as many words.
+pub fn interp_does_as_run()
+    ensures { (asked other : Asked) (source input : List ℕ) (v w : Writes) (s t : Status) →
+        (run : RunMakes asked source input v s) → (interp : InterpMakes other source input w t) →
+        procedure_lines 0 run.made.compiled.procs ≡ procedure_lines 0 interp.made.compiled.procs →
+        s ≢ Status.Going → t ≢ Status.Going →
+        (s ≡ t) × (v.out ≡ w.out) ×
+        ((run_of run.made.compiled.image run.numbers asked.steps).reads
+        ≡ (units_of interp.made.checked interp.made.compiled interp.numbers other.steps).reads) }
 {}
 
 /// Of what `list` printed of a file, `asm` writes that file again, to the byte; and of a file that
@@ -42,9 +60,9 @@ pub fn listings_come_back()
 /// What a source is compiled to has a text, and `asm` writes the image's file again of the text,
 /// where it is not too long.
 pub fn compiled_is_listed()
-    ensures { (source : List ℕ) (compiled : Compiled) → MadeOf source compiled →
-        (text : List ℕ) × IsListed (image_bytes_of compiled.image) text ×
+    ensures { (wanted : Asked) (source : List ℕ) (made : Made) → MadeOf wanted source made →
+        (text : List ℕ) × IsListed (image_bytes_of made.compiled.image) text ×
         (length text ≤ max_text_bytes → (asked : Asked) (w : Writes) (s : Status) →
         AsmMakes asked text [] w s →
-        w.files ≡ one_file asked.image (image_bytes_of compiled.image)) }
+        w.files ≡ one_file asked.image (image_bytes_of made.compiled.image)) }
 {}

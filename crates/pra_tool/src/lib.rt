@@ -1,10 +1,10 @@
 //! The whole of what the program does, over a folder, an input and two outputs that are handed in.
 //!
 //! `run_tool` is all that the program calls, and `specs/Clause` is its promise: read there what
-//! `run` and `compile` make of a source, in `specs/Listings` what `list` makes of an image, of what
-//! an image is made by `asm`, and what both refuse, in `specs/Modes` what any mode that reads FILE
-//! answers, in `specs/Writes` what is left where all was written or where writing stopped, and in
-//! `specs/Compiling` what a source is compiled to.
+//! `run` and `compile` make of a source, and `gen` of a seed, in `specs/Interpreted` what `interp`
+//! makes, in `specs/Listings` what `list` makes of an image, of what an image is made by `asm`, and
+//! what both refuse, in `specs/Modes` what any mode answers, in `specs/Writes` what is left where
+//! all was written or where writing stopped, and in `specs/Compiling` what a source is compiled to.
 #![tactic(auto)]
 
 pub mod compiler;

@@ -1,28 +1,35 @@
 // What a call writes: made before the first write, and written in one order.
 
-ghost use Rattle.std.specs.Prelude.{◌≡◌, ◌≤◌, true, codes, length, map, IfOk};
+ghost use Rattle.std.specs.Prelude.{◌≡◌, ◌++◌, [], true, codes, length, map, IfOk};
 ghost use Rattle.ia_code.specs.Image.{IsImage};
+ghost use Rattle.pra_report.specs.Report.{HaveTotals};
 ghost use Rattle.pra_words.specs.Written.{asked_by};
-ghost use Rattle.pra_tool.specs.Status.{IsDone, IsStatusOf};
+ghost use Rattle.pra_tool.specs.Status.{IsDone, IsStatusOf, status_of_units};
 ghost use Rattle.pra_tool.specs.Outside.{StreamSeen, Seen, folder_seen, stream_seen, seen};
 ghost use Rattle.pra_tool.specs.Outside.{NoneFell, Told};
 ghost use Rattle.pra_tool.specs.Writes.{AreDifferent, FilesWritten, Wrote, stop_status};
 ghost use Rattle.pra_tool.specs.Reports.{file_text, writes_of};
 ghost use Rattle.pra_tool.specs.Clause.{image_file, run_of, run_writes, compile_writes};
-ghost use Rattle.pra_tool.specs.Clause.{asm_writes};
+ghost use Rattle.pra_tool.specs.Clause.{asm_writes, gen_writes, summary};
+ghost use Rattle.pra_tool.specs.Interpreted.{frames_of, units_of, interp_writes};
 ghost use Rattle.pra_tool.specs.Listings.{list_writes};
 ghost use Rattle.pra_tool.specs.Ends.{NeverFaults};
 ghost use Rattle.vc_stmt.specs.Completes.{are_words};
 
+use crate::compiler::Made;
 use crate::status::Status;
-use crate::texts::{code_line, ending_line, procedure_lines};
+use crate::texts::{ending_line, units_line};
 use ia_asm::image_bytes;
 use ia_code::Image;
 use ia_step::{Machine, RunOut};
+use ob_interp::UnitOut;
+use ob_interp::interpret::interpret;
 use pra_base::OutOfMemory;
 use pra_compile::Compiled;
 use pra_io::{FileFault, Folder, Sink, write_all};
-use pra_report::output_text;
+use pra_report::{
+    ProcOut, generated_line, output_line, output_text, procedure_lines, report_text, total_line,
+};
 use pra_words::Request;
 use std::alloc::Global;
 
@@ -52,7 +59,7 @@ pub(crate) fn run_report<'a>(
     requires valid { IsImage compiled.now.image }
     requires sound { NeverFaults compiled.now.image }
     requires words { are_words numbers.items ≡ true }
-    requires few { length compiled.now.procs ≤ 65536 }
+    requires totals { HaveTotals compiled.now.procs }
     ensures writes { IfOk result (λ r.
         writes_of r ≡ run_writes (asked_by request.now) compiled.now numbers.items) }
     ensures ended { IfOk result (λ r. IsStatusOf
@@ -62,10 +69,11 @@ pub(crate) fn run_report<'a>(
     let run = run_image(alloc, &compiled.image, numbers, request.steps)?;
     let status = Status::of_run(run.ending);
     let out = output_text(alloc, run.events.as_slice())?;
-    let mut notes = procedure_lines(alloc, compiled.procs.as_slice())?;
+    let code = code_length(&compiled.image);
+    let mut notes = report_text(alloc, compiled.procs.as_slice(), code)?;
     let ending = ending_line(alloc, &run)?;
     notes.extend_from_slice(&ending)?;
-    let files = image_file(alloc, request, &compiled.image)?;
+    let files = with_image(alloc, request, Vec::new(alloc), &compiled.image)?;
     Ok(Report {
         files,
         out,
@@ -81,21 +89,139 @@ pub(crate) fn compile_report<'a>(
     compiled: &Compiled,
 ) -> Result<Report<'a>, OutOfMemory>
     requires valid { IsImage compiled.now.image }
-    requires few { length compiled.now.procs ≤ 65536 }
+    requires totals { HaveTotals compiled.now.procs }
     ensures writes { IfOk result (λ r.
         writes_of r ≡ compile_writes (asked_by request.now) compiled.now) }
     ensures done { IfOk result (λ r. r.status ≡ Status.Ended) }
 {
-    let mut out = procedure_lines(alloc, compiled.procs.as_slice())?;
-    let code = code_line(alloc, compiled.image.code.as_slice().len())?;
-    out.extend_from_slice(&code)?;
-    let files = image_file(alloc, request, &compiled.image)?;
+    let code = code_length(&compiled.image);
+    let out = report_text(alloc, compiled.procs.as_slice(), code)?;
+    let files = with_image(alloc, request, Vec::new(alloc), &compiled.image)?;
     Ok(Report {
         files,
         out,
         notes: Vec::new(alloc),
         status: Status::Ended,
     })
+}
+
+/// Runs the source by its meaning on the numbers of the input and makes the texts.
+pub(crate) fn interp_report<'a>(
+    alloc: Global,
+    request: &Request<'a>,
+    made: &Made,
+    numbers: &[i32],
+) -> Result<Report<'a>, OutOfMemory>
+    ensures writes { IfOk result (λ r.
+        writes_of r ≡ interp_writes (asked_by request.now) made.now numbers.now) }
+    ensures ended { IfOk result (λ r. r.status ≡ status_of_units
+        (units_of made.now.checked made.now.compiled numbers.now request.now.steps).ending) }
+    ensures done { IfOk result (λ r. IsDone r.status) }
+{
+    let run = run_units(alloc, made, numbers, request.steps)?;
+    let status = Status::of_units(run.ending);
+    let out = output_text(alloc, run.events.as_slice())?;
+    let mut notes = procedure_lines(alloc, made.compiled.procs.as_slice())?;
+    let ending = units_line(alloc, &run)?;
+    notes.extend_from_slice(&ending)?;
+    Ok(Report {
+        files: Vec::new(alloc),
+        out,
+        notes,
+        status,
+    })
+}
+
+/// Runs the image of a module that was made, on no input, and makes the texts.
+pub(crate) fn gen_report<'a>(
+    alloc: Global,
+    request: &Request<'a>,
+    text: Vec<u8>,
+    compiled: &Compiled,
+) -> Result<Report<'a>, OutOfMemory>
+    requires valid { IsImage compiled.now.image }
+    requires sound { NeverFaults compiled.now.image }
+    requires totals { HaveTotals compiled.now.procs }
+    ensures writes { IfOk result (λ r.
+        writes_of r ≡ gen_writes (asked_by request.now) text.items compiled.now) }
+    ensures ended { IfOk result (λ r. IsStatusOf
+        (run_of compiled.now.image [] request.now.steps).ending r.status) }
+    ensures done { IfOk result (λ r. IsDone r.status) }
+{
+    let run = run_image(alloc, &compiled.image, Vec::new(alloc), request.steps)?;
+    let status = Status::of_run(run.ending);
+    let out = summary(alloc, request, text.len(), compiled, &run)?;
+    let mut files = Vec::new(alloc);
+    files.push(NamedFile {
+        name: request.file,
+        bytes: text,
+    })?;
+    let files = with_image(alloc, request, files, &compiled.image)?;
+    Ok(Report {
+        files,
+        out,
+        notes: Vec::new(alloc),
+        status,
+    })
+}
+
+// What is told of a module that was made, whose text has so many bytes, and of its run.
+fn summary(
+    alloc: Global,
+    request: &Request,
+    bytes: usize,
+    compiled: &Compiled,
+    run: &RunOut,
+) -> Result<Vec<u8>, OutOfMemory>
+    requires valid { IsImage compiled.now.image }
+    requires totals { HaveTotals compiled.now.procs }
+    ensures { IfOk result (λ text.
+        text.items ≡ summary (asked_by request.now) bytes compiled.now run.now) }
+{
+    let mut text = generated_line(alloc, request.seed, request.size, bytes)?;
+    let code = code_length(&compiled.image);
+    let total = total_line(alloc, compiled.procs.as_slice(), code)?;
+    text.extend_from_slice(&total)?;
+    let ending = ending_line(alloc, run)?;
+    text.extend_from_slice(&ending)?;
+    let written = output_text(alloc, run.events.as_slice())?;
+    let output = output_line(alloc, written.len())?;
+    text.extend_from_slice(&output)?;
+    Ok(text)
+}
+
+// Runs a module by its meaning on an input, with the frames of what it was compiled to.
+fn run_units(
+    alloc: Global,
+    made: &Made,
+    numbers: &[i32],
+    units: u32,
+) -> Result<UnitOut, OutOfMemory>
+    ensures { IfOk result (λ out.
+        out ≡ units_of made.now.checked made.now.compiled numbers.now units) }
+{
+    let frames = frames_of(alloc, made.compiled.procs.as_slice())?;
+    let out = interpret(alloc, &made.checked, &frames, numbers, units)?;
+    Ok(out)
+}
+
+// The frames of procedures, in their order.
+fn frames_of(alloc: Global, procs: &[ProcOut]) -> Result<Vec<u32>, OutOfMemory>
+    ensures { IfOk result (λ frames. frames.items ≡ frames_of procs.now) }
+{
+    let mut frames = Vec::new(alloc);
+    for proc in procs {
+        frames.push(proc.frame)?;
+    }
+    Ok(frames)
+}
+
+// How many bytes of code an image has.
+fn code_length(image: &Image) -> u32
+    requires { IsImage image.now }
+    ensures { result ≡ length image.now.code }
+{
+    image.code.as_slice().len() as u32
 }
 
 /// Takes the text of an image.
@@ -122,7 +248,7 @@ pub(crate) fn asm_report<'a>(
         writes_of r ≡ asm_writes (asked_by request.now) image.now) }
     ensures done { IfOk result (λ r. r.status ≡ Status.Ended) }
 {
-    let files = image_file(alloc, request, image)?;
+    let files = with_image(alloc, request, Vec::new(alloc), image)?;
     Ok(Report {
         files,
         out: Vec::new(alloc),
@@ -131,18 +257,18 @@ pub(crate) fn asm_report<'a>(
     })
 }
 
-// The one file that is written.
-fn image_file<'a>(
+// The files, and the image's behind them.
+fn with_image<'a>(
     alloc: Global,
     request: &Request<'a>,
+    mut files: Vec<NamedFile<'a>>,
     image: &Image,
 ) -> Result<Vec<NamedFile<'a>>, OutOfMemory>
     requires { IsImage image.now }
-    ensures { IfOk result (λ files. map file_text files.items
-        ≡ image_file request.now.image.now image.now) }
+    ensures { IfOk result (λ all. map file_text all.items
+        ≡ map file_text files.entry.items ++ image_file request.now.image.now image.now) }
 {
     let bytes = image_bytes(alloc, image)?;
-    let mut files = Vec::new(alloc);
     files.push(NamedFile {
         name: request.image,
         bytes,

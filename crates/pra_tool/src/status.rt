@@ -2,8 +2,10 @@
 
 ghost use Rattle.std.specs.Prelude.{◌≡◌};
 ghost use Rattle.pra_tool.specs.Status.{exit_code, IsEnding, IsDone, IsStatusOf};
+ghost use Rattle.pra_tool.specs.Status.{status_of_units};
 
 use ia_step::Ending;
+use ob_interp::UnitEnding;
 
 /// How a call ends.
 #[derive(Clone, Copy, Debug, PartialEq, Eq, Drop)]
@@ -57,6 +59,18 @@ impl Status {
             Ending::Trap(_) => Status::Trapped,
             Ending::Going => Status::Going,
             Ending::Fault(_) => unreachable!(),
+        }
+    }
+
+    /// The status of a run by the meaning, by its ending.
+    pub(crate) fn of_units(ending: UnitEnding) -> Status
+        ensures is { result ≡ status_of_units ending }
+        ensures done { IsDone result }
+    {
+        match ending {
+            UnitEnding::Ended => Status::Ended,
+            UnitEnding::Trap(_) => Status::Trapped,
+            UnitEnding::Going => Status::Going,
         }
     }
 }

@@ -1,9 +1,9 @@
 // The texts that the program writes.
 
-ghost use Rattle.std.specs.Prelude.{◌≡◌, ◌≤◌, ◌++◌, codes, length, IfOk, string_bytes};
+ghost use Rattle.std.specs.Prelude.{◌≡◌, ◌++◌, codes, IfOk, string_bytes};
 ghost use Rattle.std.specs.Fmt.{decimal};
-ghost use Rattle.pra_tool.specs.Texts.{ending_words};
-ghost use Rattle.pra_tool.specs.Texts.{ending_line, procedure_lines, code_line, lexical_line};
+ghost use Rattle.pra_tool.specs.Texts.{ending_words, ending_line, unit_ending_words, units_line};
+ghost use Rattle.pra_tool.specs.Texts.{lexical_line};
 ghost use Rattle.pra_tool.specs.Texts.{place_text, over_line, count_line, fault_line, input_line};
 ghost use Rattle.pra_tool.specs.Texts.{field_name, unlisted_line, unassembled_line};
 
@@ -12,11 +12,10 @@ use crate::listing::{MAX_IMAGE, Unassembled, Unlisted};
 use ia_asm::Field;
 use ia_list::MAX_TEXT_BYTES;
 use ia_step::{Ending, RunOut};
+use ob_interp::{UnitEnding, UnitOut};
 use ob_lex::LexFault;
 use ob_read::{LimitFault, ReadFault, SourceFault};
 use pra_base::{LimitKind, OutOfMemory, TrapKind};
-use pra_compile::ProcOut;
-use pra_report::procedure_line;
 use std::alloc::{AllocError, Global};
 use std::fmt::Write;
 
@@ -50,37 +49,31 @@ fn ending_words(ending: Ending) -> &'static str
     }
 }
 
-/// A line for each procedure, with its number, its name and its frame.
-///
-/// # Errors
-///
-/// Where there is no memory for the lines.
-pub fn procedure_lines(alloc: Global, procs: &[ProcOut]) -> Result<Vec<u8>, OutOfMemory>
-    requires { length procs.now ≤ 65536 }
-    ensures { IfOk result (λ text. text.items ≡ procedure_lines 0 procs.now) }
-{
-    let mut text = Vec::new(alloc);
-    let mut number = 0u32;
-    let mut rest = procs;
-    while let [proc, others @ ..] = rest {
-        let line = procedure_line(alloc, number, proc.name.as_slice(), proc.frame)?;
-        text.extend_from_slice(&line)?;
-        number += 1;
-        rest = others;
-    }
-    Ok(text)
-}
-
-/// The line that tells how many bytes of code there are.
+/// The line that tells how a run by the meaning ended, how many units it began and how many input
+/// words it took.
 ///
 /// # Errors
 ///
 /// Where there is no memory for the line.
-pub fn code_line(alloc: Global, count: usize) -> Result<Vec<u8>, OutOfMemory>
-    ensures { IfOk result (λ text. text.items ≡ code_line count) }
+pub fn units_line(alloc: Global, run: &UnitOut) -> Result<Vec<u8>, OutOfMemory>
+    ensures { IfOk result (λ text. text.items ≡ units_line run.now) }
 {
-    let line = format!(in alloc; "code {count}\n")?;
+    let words = unit_ending_words(run.ending);
+    let line = format!(in alloc; "{words} units {} reads {}\n", run.units, run.reads)?;
     Ok(line.into_bytes())
+}
+
+fn unit_ending_words(ending: UnitEnding) -> &'static str
+    ensures { result.now ≡ unit_ending_words ending }
+{
+    match ending {
+        UnitEnding::Going => "going",
+        UnitEnding::Ended => "ended",
+        UnitEnding::Trap(TrapKind::Index) => "trap Index",
+        UnitEnding::Trap(TrapKind::Divide) => "trap Divide",
+        UnitEnding::Trap(TrapKind::Input) => "trap Input",
+        UnitEnding::Trap(TrapKind::Stack) => "trap Stack",
+    }
 }
 
 /// The line that tells what is wrong with an input.

@@ -1,11 +1,14 @@
 // The call that does all that the program does.
 
-ghost use Rattle.std.specs.Prelude.{◌≡◌, ◌≢◌, ◌≤◌, ◌⊎◌, false, ℕ, List, length, IsErr};
+ghost use Rattle.std.specs.Prelude.{◌≡◌, ◌≢◌, ◌⊎◌, false, ℕ, List, IsErr};
 ghost use Rattle.ia_code.specs.Image.{IsImage};
-ghost use Rattle.pra_tool.specs.declared.tool.Then.TheVariants.{Run, Write};
+ghost use Rattle.pra_tool.specs.declared.tool.Then.TheVariants.{Run, Write, Interpret};
 ghost use Rattle.pra_words.specs.Texts.{words_lines};
 ghost use Rattle.pra_words.specs.Words.{asked_of, texts};
 ghost use Rattle.pra_words.specs.Written.{asked_by};
+ghost use Rattle.pra_gen.specs.Module.{module_text};
+ghost use Rattle.pra_report.specs.Report.{HaveTotals};
+ghost use Rattle.pra_tool.specs.Asking.{IsAnswerable};
 ghost use Rattle.pra_tool.specs.Status.{exit_code};
 ghost use Rattle.pra_tool.specs.Outside.{StreamSeen, Seen, folder_seen, stream_seen, seen};
 ghost use Rattle.pra_tool.specs.Outside.{seen_by, Told};
@@ -15,40 +18,46 @@ ghost use Rattle.pra_tool.specs.Modes.{Answers};
 ghost use Rattle.pra_tool.specs.Ends.{Ends, NeverFaults};
 ghost use Rattle.pra_tool.specs.Compiling.{MadeOf};
 ghost use Rattle.pra_tool.specs.Clause.{mode_of, reads_input, asks_input, fault_status, Promise};
-ghost use Rattle.pra_tool.specs.Clause.{compiling, is_run, listing, assembling};
+ghost use Rattle.pra_tool.specs.Clause.{compiling, takes_input, generating, listing, assembling};
 ghost use Rattle.pra_tool.specs.Listings.{IsListed, IsTextOf};
 ghost use Rattle.pra_tool.specs.Listings.{unlisted_status, unassembled_status};
 
-use crate::compiler::compile_source;
+use crate::compiler::{Made, compile_source};
 use crate::input::{InputFault, WrongInput, read_numbers};
 use crate::listing::{MAX_IMAGE, Unassembled, Unlisted, image_by, listing_of};
-use crate::report::{asm_report, compile_report, list_report, refuse, run_report, write_report};
+use crate::report::{
+    asm_report, compile_report, gen_report, interp_report, list_report, refuse, run_report,
+    write_report,
+};
 use crate::status::Status;
 use crate::texts::{fault_line, input_line, unassembled_line, unlisted_line};
 use ia_code::Image;
 use ia_list::MAX_TEXT_BYTES;
 use ob_read::{LimitFault, MAX_SOURCE, ReadFault};
 use pra_base::{LimitKind, OutOfMemory};
-use pra_compile::Compiled;
+use pra_gen::generate;
 use pra_io::{FileFault, Folder, Sink, Source};
 use pra_words::{Mode, Request, WordsFault, read_words, words_lines};
 use std::alloc::Global;
 
 /// All that the program does. With MODE `run` it reads FILE, compiles it, reads the input, runs the
 /// image, and writes the image file, the output, and the report with the ending line; with
-/// `compile` it reads FILE, compiles it, and writes the image file and the report. With `list` it
-/// reads FILE, which is an image, and writes its text to out; with `asm` it reads FILE, which is the
-/// text of an image, and writes the image file.
+/// `compile` it reads FILE, compiles it, and writes the image file and the report; with `interp` it
+/// reads FILE and the input, runs FILE by its meaning with the frames of what it is compiled to, and
+/// writes the output, and the lines of the procedures with the ending line. With `gen` it makes a
+/// module, compiles it, runs the image on no input, and writes the module to FILE, the image file,
+/// and to out four lines on both. With `list` it reads FILE, which is an image, and writes its text
+/// to out; with `asm` it reads FILE, which is the text of an image, and writes the image file.
 ///
-/// `words` are those behind the program's name: MODE and FILE, and among them the options
-/// `--steps M` and `--image NAME`. The answer is the exit status:
+/// `words` are those behind the program's name: MODE and FILE, and among them the options that
+/// `read_words` of pra_words reads. The answer is the exit status:
 ///
 /// | Status | When | Line in notes |
 /// |---|---|---|
-/// | 0 | the image ended within the steps | `run`: the report, the ending line |
+/// | 0 | the run ended within the steps | `run`, `interp`: the report, the ending line |
 /// | 0 | what is to be written was made and written | none |
-/// | 1 | the image trapped | the report, the ending line |
-/// | 2 | the image is still going after the steps | the report, the ending line |
+/// | 1 | the run trapped | `run`, `interp`: the report, the ending line |
+/// | 2 | the run is still going after the steps | `run`, `interp`: the same |
 /// | 3 | FILE has a byte that begins no token | `fault bad-byte at A` |
 /// | 3 | FILE has a comment that is not closed | `fault open-comment at A` |
 /// | 3 | FILE has a number above the greatest | `fault number-too-large at A` |
@@ -66,12 +75,12 @@ use std::alloc::Global;
 /// | 4 | the image's text is too long | `limit listing count C maximum 67108864` |
 /// | 4 | the input is too long | `limit input count 1048577 maximum 1048576` |
 /// | 5 | reading FILE or the input failed | `fault read file`, `fault read input` |
-/// | 5 | writing the image or out failed | `fault write file`, `fault write out` |
+/// | 5 | writing a file or out failed | `fault write file`, `fault write out` |
 /// | 5 | writing notes failed | none |
 /// | 6 | the words are no command line | `fault words` and the usage line |
 /// | 6 | W is the first word with a wrong value | `fault value W` and the usage line |
 /// | 7 | the input has at A what is no number | `fault input at A` |
-/// | 8 | want of memory; nothing was written | none |
+/// | 8 | want of memory; nothing was written, but by `gen` maybe FILE | none |
 ///
 /// A counts bytes and T tokens from 0; behind the last token A is the length of FILE.
 pub fn run_tool<D: Folder, I: Source, O: Sink, N: Sink>(
@@ -149,6 +158,7 @@ fn perform<D: Folder, I: Source, O: Sink, N: Sink>(
     out: &mut O,
     notes: &mut N,
 ) -> Status
+    requires { IsAnswerable (asked_by request.now) }
     ensures answers { let look = seen_by D.file D.read_faults D.write_faults I.left I.faults
         O.bytes O.faults N.bytes N.faults in
         let old = look folder.old input.old out.old notes.old in
@@ -159,8 +169,10 @@ fn perform<D: Folder, I: Source, O: Sink, N: Sink>(
     match request.mode {
         Mode::Run => compile_file(alloc, request, Then::Run, folder, input, out, notes),
         Mode::Compile => compile_file(alloc, request, Then::Write, folder, input, out, notes),
+        Mode::Gen => gen_file(alloc, request, folder, out, notes),
         Mode::List => list_file(alloc, request, folder, out, notes),
         Mode::Asm => asm_file(alloc, request, folder, out, notes),
+        Mode::Interp => compile_file(alloc, request, Then::Interpret, folder, input, out, notes),
     }
 }
 
@@ -171,6 +183,8 @@ pub(crate) enum Then {
     Run,
     /// It is written.
     Write,
+    /// Its frames are those of the source's own run.
+    Interpret,
 }
 
 // Reads FILE and compiles it, and does with it what is asked for.
@@ -183,12 +197,13 @@ fn compile_file<D: Folder, I: Source, O: Sink, N: Sink>(
     out: &mut O,
     notes: &mut N,
 ) -> Status
+    requires { IsAnswerable (asked_by request.now) }
     ensures answers { let look = seen_by D.file D.read_faults D.write_faults I.left I.faults
         O.bytes O.faults N.bytes N.faults in
         let old = look folder.old input.old out.old notes.old in
         let new = look folder.new input.new out.new notes.new in
         Answers (compiling then (asked_by request.now)) request.now.file.now old new result }
-    ensures input { is_run then ≡ false → input.new ≡ input.old }
+    ensures input { takes_input then ≡ false → input.new ≡ input.old }
 {
     let source = match folder.read_file(alloc, request.file, MAX_SOURCE) {
         Ok(source) => source,
@@ -196,8 +211,8 @@ fn compile_file<D: Folder, I: Source, O: Sink, N: Sink>(
         Err(FileFault::TooLong) => return refuse_source(alloc, notes, SOURCE_OVER),
         Err(FileFault::Failed) => return refuse(notes, Status::Fault, "fault read file\n"),
     };
-    match compile_source(alloc, &source) {
-        Ok(compiled) => finish(alloc, request, then, &compiled, folder, input, out, notes),
+    match compile_source(alloc, &source, request) {
+        Ok(made) => finish(alloc, request, then, &made, folder, input, out, notes),
         Err(fault) => refuse_source(alloc, notes, fault),
     }
 }
@@ -207,26 +222,27 @@ fn finish<D: Folder, I: Source, O: Sink, N: Sink>(
     alloc: Global,
     request: &Request,
     then: Then,
-    compiled: &Compiled,
+    made: &Made,
     folder: &mut D,
     input: &mut I,
     out: &mut O,
     notes: &mut N,
 ) -> Status
-    requires valid { IsImage compiled.now.image }
-    requires sound { NeverFaults compiled.now.image }
-    requires few { length compiled.now.procs ≤ 65536 }
-    ensures ends { (source : List ℕ) → MadeOf source compiled.now →
+    requires valid { IsImage made.now.compiled.image }
+    requires sound { NeverFaults made.now.compiled.image }
+    requires totals { HaveTotals made.now.compiled.procs }
+    ensures ends { (source : List ℕ) → MadeOf (asked_by request.now) source made.now →
         let look = seen_by D.file D.read_faults D.write_faults I.left I.faults
         O.bytes O.faults N.bytes N.faults in
         let old = look folder.old input.old out.old notes.old in
         let new = look folder.new input.new out.new notes.new in
         Ends (compiling then (asked_by request.now)) source old new result }
-    ensures input { is_run then ≡ false → input.new ≡ input.old }
+    ensures input { takes_input then ≡ false → input.new ≡ input.old }
 {
     match then {
-        Then::Run => run_compiled(alloc, request, compiled, folder, input, out, notes),
-        Then::Write => write_compiled(alloc, request, compiled, folder, out, notes),
+        Then::Run => run_compiled(alloc, request, made, folder, input, out, notes),
+        Then::Write => write_compiled(alloc, request, made, folder, out, notes),
+        Then::Interpret => interpret_made(alloc, request, made, folder, input, out, notes),
     }
 }
 
@@ -234,16 +250,16 @@ fn finish<D: Folder, I: Source, O: Sink, N: Sink>(
 fn run_compiled<D: Folder, I: Source, O: Sink, N: Sink>(
     alloc: Global,
     request: &Request,
-    compiled: &Compiled,
+    made: &Made,
     folder: &mut D,
     input: &mut I,
     out: &mut O,
     notes: &mut N,
 ) -> Status
-    requires valid { IsImage compiled.now.image }
-    requires sound { NeverFaults compiled.now.image }
-    requires few { length compiled.now.procs ≤ 65536 }
-    ensures { (source : List ℕ) → MadeOf source compiled.now →
+    requires valid { IsImage made.now.compiled.image }
+    requires sound { NeverFaults made.now.compiled.image }
+    requires totals { HaveTotals made.now.compiled.procs }
+    ensures { (source : List ℕ) → MadeOf (asked_by request.now) source made.now →
         let look = seen_by D.file D.read_faults D.write_faults I.left I.faults
         O.bytes O.faults N.bytes N.faults in
         let old = look folder.old input.old out.old notes.old in
@@ -254,7 +270,34 @@ fn run_compiled<D: Folder, I: Source, O: Sink, N: Sink>(
         Ok(numbers) => numbers,
         Err(fault) => return refuse_input(alloc, notes, fault),
     };
-    match run_report(alloc, request, compiled, numbers) {
+    match run_report(alloc, request, &made.compiled, numbers) {
+        Ok(report) => write_report(alloc, &report, folder, out, notes),
+        Err(OutOfMemory) => Status::NoMemory,
+    }
+}
+
+// Reads the input, runs the source by its meaning, and writes.
+fn interpret_made<D: Folder, I: Source, O: Sink, N: Sink>(
+    alloc: Global,
+    request: &Request,
+    made: &Made,
+    folder: &mut D,
+    input: &mut I,
+    out: &mut O,
+    notes: &mut N,
+) -> Status
+    ensures { (source : List ℕ) → MadeOf (asked_by request.now) source made.now →
+        let look = seen_by D.file D.read_faults D.write_faults I.left I.faults
+        O.bytes O.faults N.bytes N.faults in
+        let old = look folder.old input.old out.old notes.old in
+        let new = look folder.new input.new out.new notes.new in
+        Ends (compiling Interpret (asked_by request.now)) source old new result }
+{
+    let numbers = match read_numbers(alloc, input) {
+        Ok(numbers) => numbers,
+        Err(fault) => return refuse_input(alloc, notes, fault),
+    };
+    match interp_report(alloc, request, made, &numbers) {
         Ok(report) => write_report(alloc, &report, folder, out, notes),
         Err(OutOfMemory) => Status::NoMemory,
     }
@@ -264,21 +307,22 @@ fn run_compiled<D: Folder, I: Source, O: Sink, N: Sink>(
 fn write_compiled<D: Folder, O: Sink, N: Sink>(
     alloc: Global,
     request: &Request,
-    compiled: &Compiled,
+    made: &Made,
     folder: &mut D,
     out: &mut O,
     notes: &mut N,
 ) -> Status
-    requires valid { IsImage compiled.now.image }
-    requires few { length compiled.now.procs ≤ 65536 }
-    ensures { (source : List ℕ) (input : StreamSeen) → MadeOf source compiled.now →
+    requires valid { IsImage made.now.compiled.image }
+    requires totals { HaveTotals made.now.compiled.procs }
+    ensures { (source : List ℕ) (input : StreamSeen) →
+        MadeOf (asked_by request.now) source made.now →
         let old : Seen = seen (folder_seen D.file D.read_faults D.write_faults folder.old) input
         (stream_seen O.bytes O.faults out.old) (stream_seen N.bytes N.faults notes.old) in
         let new : Seen = seen (folder_seen D.file D.read_faults D.write_faults folder.new) input
         (stream_seen O.bytes O.faults out.new) (stream_seen N.bytes N.faults notes.new) in
         Ends (compiling Write (asked_by request.now)) source old new result }
 {
-    match compile_report(alloc, request, compiled) {
+    match compile_report(alloc, request, &made.compiled) {
         Ok(report) => write_report(alloc, &report, folder, out, notes),
         Err(OutOfMemory) => Status::NoMemory,
     }
@@ -327,6 +371,64 @@ fn refuse_source<N: Sink>(alloc: Global, notes: &mut N, fault: ReadFault) -> Sta
     match fault_line(alloc, fault) {
         Ok(line) => refuse(notes, status, line.as_str()),
         Err(_) => Status::NoMemory,
+    }
+}
+
+// Makes a module, compiles it, runs it on no input, and writes.
+fn gen_file<D: Folder, O: Sink, N: Sink>(
+    alloc: Global,
+    request: &Request,
+    folder: &mut D,
+    out: &mut O,
+    notes: &mut N,
+) -> Status
+    requires within { IsAnswerable (asked_by request.now) }
+    requires apart { request.now.image.now ≢ request.now.file.now }
+    ensures { (input : StreamSeen) →
+        let old : Seen = seen (folder_seen D.file D.read_faults D.write_faults folder.old) input
+        (stream_seen O.bytes O.faults out.old) (stream_seen N.bytes N.faults notes.old) in
+        let new : Seen = seen (folder_seen D.file D.read_faults D.write_faults folder.new) input
+        (stream_seen O.bytes O.faults out.new) (stream_seen N.bytes N.faults notes.new) in
+        Answers (generating (asked_by request.now)) request.now.file.now old new result }
+{
+    let text = match generate(alloc, request.seed, request.size) {
+        Ok(text) => text,
+        Err(OutOfMemory) => return Status::NoMemory,
+    };
+    if text.len() > MAX_SOURCE {
+        return refuse_source(alloc, notes, SOURCE_OVER);
+    }
+    match compile_source(alloc, &text, request) {
+        Ok(made) => write_generated(alloc, request, text, &made, folder, out, notes),
+        Err(fault) => refuse_source(alloc, notes, fault),
+    }
+}
+
+// Runs the image of a module that was made, and writes module and image.
+fn write_generated<D: Folder, O: Sink, N: Sink>(
+    alloc: Global,
+    request: &Request,
+    text: Vec<u8>,
+    made: &Made,
+    folder: &mut D,
+    out: &mut O,
+    notes: &mut N,
+) -> Status
+    requires valid { IsImage made.now.compiled.image }
+    requires sound { NeverFaults made.now.compiled.image }
+    requires totals { HaveTotals made.now.compiled.procs }
+    requires apart { request.now.image.now ≢ request.now.file.now }
+    requires text { text.items ≡ module_text request.now.seed request.now.size }
+    ensures { (input : StreamSeen) → MadeOf (asked_by request.now) text.items made.now →
+        let old : Seen = seen (folder_seen D.file D.read_faults D.write_faults folder.old) input
+        (stream_seen O.bytes O.faults out.old) (stream_seen N.bytes N.faults notes.old) in
+        let new : Seen = seen (folder_seen D.file D.read_faults D.write_faults folder.new) input
+        (stream_seen O.bytes O.faults out.new) (stream_seen N.bytes N.faults notes.new) in
+        Ends (generating (asked_by request.now)) text.items old new result }
+{
+    match gen_report(alloc, request, text, &made.compiled) {
+        Ok(report) => write_report(alloc, &report, folder, out, notes),
+        Err(OutOfMemory) => Status::NoMemory,
     }
 }
 

@@ -1,7 +1,11 @@
 use Rattle.pra_tool.proofs.InputWords.{numbers_are_words}
+use Rattle.std.proofs.Common.{refl, []}
 use Rattle.pra_tool.proofs.laws.runs_do_as_meant.Goals as goal
 
-pub returns : goal.returns
-returns c = λ asked source input w s made.
-    made.made.compiled_to.does made.numbers
+pub returns-clause-run : goal.returns-clause-run
+returns-clause-run c = λ asked source input w s made.
+    made.made_of.compiled_to.does made.numbers
     (numbers_are_words input made.numbers made.has.1)
+
+pub returns-clause-generated : goal.returns-clause-generated
+returns-clause-generated c = λ asked source input w s made. made.made_of.compiled_to.does [] refl

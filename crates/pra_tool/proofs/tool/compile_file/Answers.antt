@@ -6,16 +6,16 @@ use Rattle.pra_words.specs.Written.{asked_by}
 use Rattle.pra_tool.specs.Clause.{compiling, fault_status}
 use Rattle.pra_tool.specs.Compiling.{MadeOf}
 use Rattle.pra_tool.proofs.ModeAnswers.{wrong_source, right_source}
-use Rattle.pra_tool.proofs.CompilingModes.{compiling_is_a_mode, modes_write, too_long, told_wrong, nothing_left, keeps_same}
+use Rattle.pra_tool.proofs.CompilingModes.{compiling_is_a_mode, modes_leave, never_faults, too_long, told_wrong, keeps_same}
 use Rattle.pra_tool.proofs.tool.compile_file.Goals as goal
 
 pub returns-in-Ok-compile_source-clause-answers : goal.returns-in-Ok-compile_source-clause-answers
 returns-in-Ok-compile_source-clause-answers g c =
     let asked = asked_by c.args.request.now in
     let source = c.in-Ok.source.items in
-    let compiled = c.in-Ok-compile_source.compiled in
-    let made : MadeOf source compiled =
-    subst (λ (s : List ℕ). MadeOf s compiled) c.deref.ensures.value c.in-Ok-compile_source.ensures.made in
+    let made : MadeOf asked source c.in-Ok-compile_source.made =
+    subst (λ (s : List ℕ). MadeOf asked s c.in-Ok-compile_source.made) c.deref.ensures.value
+    c.in-Ok-compile_source.ensures.made in
     right_source (compiling c.args.then asked) (compiling_is_a_mode c.args.then asked) asked.file _ _ _
     (record {
       same = c.in-Ok.ensures.same;
@@ -25,8 +25,7 @@ returns-in-Ok-compile_source-clause-answers g c =
       later = c.in-Ok.ensures.cause.other_later;
     })
     source c.in-Ok.ensures.bytes (made.text, made.read) _
-    (λ input w s makes. nothing_left w asked.image _ _
-    (modes_write c.args.then asked source input w s makes))
+    (λ input w s makes. modes_leave c.args.then asked source input w s _ _ makes)
     (λ untouched. untouched)
     (c.finish.ensures.ends source made)
 
@@ -73,3 +72,11 @@ returns-in-Err-TooLong-clause-answers g c =
           (sym (c.refuse_source.ensures.memory memory)) (keeps_same _);
     })
     refl
+
+pub compile_source-requires-clause-rounds : goal.compile_source-requires-clause-rounds
+compile_source-requires-clause-rounds g c = c.requires.rounds
+
+pub finish-requires-clause-sound : goal.finish-requires-clause-sound
+finish-requires-clause-sound g c =
+    never_faults (asked_by c.args.request.now) _ c.in-Ok-compile_source.made
+    c.in-Ok-compile_source.ensures.made

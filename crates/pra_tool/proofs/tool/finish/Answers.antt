@@ -1,4 +1,4 @@
-use Rattle.pra_tool.specs.declared.tool.Then.TheVariants.{Run, Write}
+use Rattle.pra_tool.specs.declared.tool.Then.TheVariants.{Run, Write, Interpret}
 use Rattle.pra_words.specs.Written.{asked_by}
 use Rattle.pra_tool.specs.Outside.{stream_seen}
 use Rattle.pra_tool.proofs.CompiledEnds.{ends_by}
@@ -14,3 +14,8 @@ returns-in-Write-clause-ends g c = λ source made.
     ends_by Write c.args.then (asked_by c.args.request.now) source _ _ _ c.in-Write.is
     (c.write_compiled.ensures source
     (stream_seen g.I.Source.left g.I.Source.faults c.args.input.now) made)
+
+pub returns-in-Interpret-clause-ends : goal.returns-in-Interpret-clause-ends
+returns-in-Interpret-clause-ends g c = λ source made.
+    ends_by Interpret c.args.then (asked_by c.args.request.now) source _ _ _ c.in-Interpret.is
+    (c.interpret_made.ensures source made)

@@ -1,4 +1,6 @@
-use Rattle.pra_words.specs.declared.words.Mode.TheVariants.{Run, Compile, List, Asm}
+use Rattle.std.proofs.Common.{ap}
+use Rattle.pra_words.specs.declared.words.Mode.TheVariants.{Run, Compile, Gen, List, Asm, Interp}
+use Rattle.pra_words.specs.Words.{writes_image}
 use Rattle.pra_words.specs.Written.{asked_by}
 use Rattle.pra_tool.specs.Outside.{stream_seen}
 use Rattle.pra_tool.proofs.ListingEnds.{answers_by}
@@ -25,3 +27,18 @@ returns-in-Asm-clause-answers g c =
     answers_by Asm (asked_by c.args.request.now) c.args.request.now.file.now _ _ _
     c.in-Asm.is
     (c.asm_file.ensures (stream_seen g.I.Source.left g.I.Source.faults c.args.input.now))
+
+pub returns-in-Interp-clause-answers : goal.returns-in-Interp-clause-answers
+returns-in-Interp-clause-answers g c =
+    answers_by Interp (asked_by c.args.request.now) c.args.request.now.file.now _ _ _
+    c.in-Interp.is c.compile_file-in-Interp.ensures.answers
+
+pub gen_file-requires-clause-apart : goal.gen_file-requires-clause-apart
+gen_file-requires-clause-apart g c =
+    c.requires.apart (ap writes_image c.in-Gen.is)
+
+pub returns-in-Gen-clause-answers : goal.returns-in-Gen-clause-answers
+returns-in-Gen-clause-answers g c =
+    answers_by Gen (asked_by c.args.request.now) c.args.request.now.file.now _ _ _
+    c.in-Gen.is
+    (c.gen_file.ensures (stream_seen g.I.Source.left g.I.Source.faults c.args.input.now))

@@ -1,5 +1,6 @@
 use Rattle.std.proofs.Common.{ap, refl, subst, sym}
 use Rattle.std.specs.Io.KnownBytes.{Keeps}
+use Rattle.pra_tool.specs.declared.tool.Then.TheVariants.{Run}
 use Rattle.pra_words.specs.Written.{asked_by}
 use Rattle.pra_tool.specs.Outside.{stream_seen}
 use Rattle.pra_tool.specs.Reports.{writes_of}
@@ -11,7 +12,7 @@ use Rattle.pra_tool.proofs.tool.run_compiled.Goals as goal
 
 pub returns-in-Err : goal.returns-in-Err
 returns-in-Err g c = λ source made.
-    input_ends (asked_by c.args.request.now) c.in-Err.fault _ _ _
+    input_ends Run refl (asked_by c.args.request.now) c.in-Err.fault _ _ _
     c.in-Err.ensures.cause
     c.refuse_input.ensures.known
     (λ other. record {
@@ -34,13 +35,13 @@ run_report-requires-clause-words g c =
 
 pub write_report-requires-clause-different : goal.write_report-requires-clause-different
 write_report-requires-clause-different g c =
-    different c.args.request.now.image.now c.args.compiled.now.image _
+    different c.args.request.now.image.now c.args.made.now.compiled.image _
     (ap (λ (x : Writes). x.files) c.in-Ok-run_report.ensures.writes)
 
 pub returns-in-Ok-run_report : goal.returns-in-Ok-run_report
 returns-in-Ok-run_report g c = λ source made.
     let report = c.in-Ok-run_report.report in
-    run_ends (asked_by c.args.request.now) c.args.compiled.now c.in-Ok.numbers.items
+    run_ends (asked_by c.args.request.now) c.args.made.now c.in-Ok.numbers.items
     (writes_of report) report.status _ _ _
     c.in-Ok.ensures.numbers
     c.in-Ok-run_report.ensures.writes
