@@ -1,24 +1,32 @@
-// Modules by `compile`, and by the calls of each layer one by one: home routes are admitted, and
-// placement by them gives what `compile` answers, to the byte.
+// Modules by `compile` without rounds, and by the calls of each layer one by one: home routes are
+// admitted, and placement by them gives what `compile` answers, to the byte.
 
-ghost use Rattle.std.specs.Prelude.{IfOk};
+ghost use Rattle.std.specs.Prelude.{◌≡◌, ◌≤◌, IfOk};
+ghost use Rattle.al_round.specs.Watches.{verdict_of};
 ghost use Rattle.pra_base.specs.Valid.{IsSized, IsValid};
 ghost use Rattle.net_form.specs.Admitted.{IsAdmitted};
 ghost use Rattle.net_form.specs.Flow.{AreRoutes, flow};
 ghost use Rattle.net_form.specs.Network.{IsNet};
+ghost use Rattle.vc_short.specs.Short.{IsShort};
+ghost use Rattle.vc_typed.specs.Nodes.{HaveTheirNodes};
+ghost use Rattle.vc_typed.specs.TypedModules.{IsSelectable};
 
 use crate::chain::{checked, code_of, tidied_code};
 use crate::image_rows;
 use al_edge::home;
+use al_round::{Verdict, Watch};
 use ia_asm::image_bytes;
 use ia_sketch::PlacedModule;
 use net_build::build;
-use net_form::{Net, Routes, Taken};
+use net_cost::{CostModel, Event, Weights};
+use net_form::{Line, Net, Routes, Taken};
 use net_gate::admitted;
+use ob_syntax::Checked;
 use pl_build::place;
 use pl_place::LProc;
 use pra_base::{OutOfMemory, VProc};
-use pra_compile::{ProcOut, compile};
+use pra_compile::{Compiled, compile};
+use pra_report::ProcOut;
 use std::alloc::Global;
 use std::process::Abort;
 use std::test::Fail;
@@ -100,6 +108,31 @@ fn check_procedure(
     check_next(rt, alloc, placed, code, routes, &made)
 }
 
+// Stops where the cost is the bound.
+fn verdict(line: Line) -> Verdict
+    requires { line.bound ≤ line.cost }
+    ensures { result ≡ verdict_of 0 line }
+{
+    if line.cost - line.bound == 0 {
+        Verdict::Stop
+    } else {
+        Verdict::Go
+    }
+}
+
+// The module, compiled without rounds.
+fn compile_at_home(alloc: Global, checked: &Checked) -> Result<Compiled, OutOfMemory>
+    requires selectable { IsSelectable checked.now }
+    requires nodes { HaveTheirNodes checked.now }
+    requires short { IsShort checked.now }
+{
+    let model = CostModel::keep(Weights::size(), |event: Event, depth: u32| {
+        Weights::size().weight(event, depth)
+    });
+    let watch = Watch::keep(0, |line: Line| verdict(line));
+    compile(alloc, checked, 0, &model, &watch)
+}
+
 // Both ways give one image. The text has so many procedures, the body counted, and words of data;
 // the image file has these bytes, where the row says so.
 fn check(
@@ -110,7 +143,7 @@ fn check(
     image: &str,
 ) -> Result<(), Fail> {
     let checked = checked(alloc, text)?;
-    let compiled = compile(alloc, &checked)?;
+    let compiled = compile_at_home(alloc, &checked)?;
     let sizes = format!(in alloc; "{} {}", compiled.procs.len(), compiled.image.data_words)?;
     assert_eq!(rt; sizes.as_str(), expected, "{text}");
     let bytes = image_bytes(alloc, &compiled.image)?;

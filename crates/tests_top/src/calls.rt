@@ -1,21 +1,27 @@
 // Calls of the tool over the modules of rows.
 //
-// A row begins with its name behind `#`, and then has the text that the file M.ob holds, or behind
-// `bytes` the file in hexadecimal. `words`, `<` (the input) and `image` (the bytes of the image file in hexadecimal) are said for
-// all further calls of the row. For the next call alone `fails` says which call of an object of
-// the outside fails, `pieces` how many bytes the streams move at once, and `room` how many bytes
-// out takes.
+// A row begins with its name behind `#`, and then has the text that M.ob holds, or behind `bytes`
+// its bytes in hexadecimal. `words`, `<` (the input) and `image` (the bytes of the image file in
+// hexadecimal) are said for all further calls of the row. For the next call alone `fails` says which
+// call of an object of the outside fails, `pieces` how many bytes the streams move at once, and
+// `room` how many bytes out takes.
 //
 // What a call leaves stands behind `=`, between `|`: the status, how many bytes the image file has
 // (`-` where none is written), out, notes, and what is left of the input. `$` is the end of a line,
-// `3*a` is `aaa`, and in the notes `..` is any number.
+// `^` a bar, `3*a` is `aaa`, and in out and notes `..` is any number and `~` any lines of rounds
+// and of totals.
+//
+// Of each report that is written whole the lines are also read as `report` says, and each run that
+// ends or traps is repeated by the meaning of the module, which has to leave the same.
 
 mod faults;
 mod inputs;
 mod listings;
+mod meant;
 mod worked;
 
-use crate::outside::{ALL_WELL, Outside, call};
+use crate::outside::{ALL_WELL, Left, Outside, call};
+use crate::report::{Limits, code_length, procedure_lines};
 use pra_base::OutOfMemory;
 use std::alloc::Global;
 use std::fmt::Write;
@@ -89,7 +95,7 @@ pub(crate) fn field<'a>(fields: &mut Split<'a, char>) -> &'a str {
     fields.next().unwrap_or("")
 }
 
-/// The bytes that a field stands for: `$` is the end of a line, and `3*a` is `aaa`.
+/// The bytes that a field stands for: `$` is the end of a line, `^` a bar, and `3*a` is `aaa`.
 pub(crate) fn unfolded(alloc: Global, field: &str) -> Result<Vec<u8>, OutOfMemory> {
     let (times, part) = match field.split_once('*') {
         Some((count, part)) => match count.parse::<usize>() {
@@ -101,7 +107,11 @@ pub(crate) fn unfolded(alloc: Global, field: &str) -> Result<Vec<u8>, OutOfMemor
     let mut bytes = Vec::new(alloc);
     for _ in 0..times {
         for byte in part.as_bytes() {
-            bytes.push(if *byte == b'$' { b'\n' } else { *byte })?;
+            bytes.push(match *byte {
+                b'$' => b'\n',
+                b'^' => b'|',
+                other => other,
+            })?;
         }
     }
     Ok(bytes)
@@ -137,15 +147,43 @@ fn behind_digits(text: &[u8]) -> &[u8] {
     &text[text.len()..]
 }
 
-// Whether a text is as the pattern says, in which `..` is any number.
-fn fits(pattern: &str, text: &[u8]) -> bool {
+// What stands behind the lines of rounds and totals with which a text begins.
+fn behind_rounds(text: &[u8]) -> &[u8] {
+    let lines = str::from_utf8(text).unwrap_or("");
+    let mut rest = text;
+    for line in lines.lines() {
+        if !line.starts_with("round ") && !line.starts_with("total ") {
+            return rest;
+        }
+        rest = rest.strip_prefix(line.as_bytes()).unwrap_or(rest);
+        rest = rest.strip_prefix(b"\n").unwrap_or(rest);
+    }
+    rest
+}
+
+// What stands behind the pattern with which a text begins; `..` is any number.
+fn behind<'a>(pattern: &str, text: &'a [u8]) -> Option<&'a [u8]> {
     let mut rest = text;
     let mut inside = false;
     for piece in pattern.split("..") {
         if inside {
             rest = behind_digits(rest);
         }
-        let Some(after) = rest.strip_prefix(piece.as_bytes()) else {
+        rest = rest.strip_prefix(piece.as_bytes())?;
+        inside = true;
+    }
+    Some(rest)
+}
+
+// Whether a text is as the pattern says, in which `~` is any lines of rounds and totals.
+fn fits(pattern: &str, text: &[u8]) -> bool {
+    let mut rest = text;
+    let mut inside = false;
+    for piece in pattern.split('~') {
+        if inside {
+            rest = behind_rounds(rest);
+        }
+        let Some(after) = behind(piece, rest) else {
             return false;
         };
         rest = after;
@@ -163,6 +201,90 @@ fn hexadecimal(alloc: Global, bytes: &[u8]) -> Result<String, OutOfMemory> {
     Ok(text)
 }
 
+// The text is as the pattern of the row says.
+fn check_text(
+    rt: &impl Abort,
+    alloc: Global,
+    row: &Row,
+    pattern: &str,
+    text: &[u8],
+) -> Result<(), OutOfMemory> {
+    let pattern = unfolded(alloc, pattern)?;
+    let pattern = str::from_utf8(&pattern).unwrap_or("");
+    let told = str::from_utf8(text).unwrap_or("");
+    let (name, words) = (row.name, row.words);
+    assert!(rt; fits(pattern, text), "{name}: {words}: {told}");
+    Ok(())
+}
+
+// The image file is there where the row says so, with as many bytes and with these.
+fn check_image(
+    rt: &impl Abort,
+    alloc: Global,
+    row: &Row,
+    length: &str,
+    image: Option<&[u8]>,
+) -> Result<(), OutOfMemory> {
+    let (name, words) = (row.name, row.words);
+    assert_eq!(rt; image.is_some(), length != "-", "{name}: {words}");
+    if let (Some(bytes), Ok(length)) = (image, length.parse::<usize>()) {
+        assert_eq!(rt; bytes.len(), length, "{name}: {words}");
+        let text = hexadecimal(alloc, bytes)?;
+        let wanted = row.image.replace(alloc, " ", "")?;
+        assert!(rt;
+            wanted.is_empty() || wanted == text,
+            "{name}: {words}: {text}"
+        );
+    }
+    Ok(())
+}
+
+// The report is that of rounds, and tells the length of the code that the image has.
+fn check_report(rt: &impl Abort, row: &Row, report: &[u8], image: &[u8]) {
+    let code = code_length(report, Limits::of_words(row.words));
+    let length = image.len().saturating_sub(16) as u64;
+    let (name, words) = (row.name, row.words);
+    assert_eq!(rt; code, Ok(length), "{name}: {words}");
+}
+
+// The last line of notes, without its end.
+pub(crate) fn last_line(notes: &[u8]) -> &str {
+    let lines = notes.strip_suffix(b"\n").unwrap_or(notes);
+    let text = str::from_utf8(lines).unwrap_or("");
+    match text.rsplit_once('\n') {
+        Some((_, last)) => last,
+        None => text,
+    }
+}
+
+// The module by its meaning does what its image did.
+fn check_meant(rt: &impl Abort, alloc: Global, row: &Row, ran: &Left) -> Result<(), OutOfMemory> {
+    let (_, rest) = row.words.split_once(' ').unwrap_or(("", ""));
+    let words = format!(in alloc; "interp {rest}")?;
+    let input = unfolded(alloc, row.input)?;
+    let meant = call(alloc, &words, &row.source, &input, ALL_WELL)?;
+    let name = row.name;
+    assert_eq!(rt; meant.status, ran.status, "{name}: {words}");
+    assert_eq!(rt; meant.out.bytes(), ran.out.bytes(), "{name}: {words}");
+    assert_eq!(rt; meant.input.left(), ran.input.left(), "{name}: {words}");
+    assert!(rt; meant.folder.file("out.pri").is_none(), "{name}: {words}");
+    let by_meaning = procedure_lines(alloc, meant.notes.bytes())?;
+    let by_image = procedure_lines(alloc, ran.notes.bytes())?;
+    assert_eq!(rt; by_meaning, by_image, "{name}: {words}");
+    let (ending, rest) = split_at(last_line(meant.notes.bytes()), " units ");
+    let (wanted, wanted_rest) = split_at(last_line(ran.notes.bytes()), " steps ");
+    assert_eq!(rt; ending, wanted, "{name}: {words}");
+    let (_, reads) = split_at(rest, " ");
+    let (_, wanted_reads) = split_at(wanted_rest, " ");
+    assert_eq!(rt; reads, wanted_reads, "{name}: {words}");
+    Ok(())
+}
+
+// What stands before a part of a line and behind it; nothing behind it where it is none.
+fn split_at<'a>(line: &'a str, part: &str) -> (&'a str, &'a str) {
+    line.split_once(part).unwrap_or((line, ""))
+}
+
 // Makes the row's next call, and compares what it leaves.
 fn check(rt: &impl Abort, alloc: Global, row: &Row, expected: &str) -> Result<(), OutOfMemory> {
     let (name, words) = (row.name, row.words);
@@ -175,26 +297,20 @@ fn check(rt: &impl Abort, alloc: Global, row: &Row, expected: &str) -> Result<()
         status.parse::<u8>().ok(),
         "{name}: {words}"
     );
-    let length = field(&mut fields);
     let image = left.folder.file("out.pri");
-    assert_eq!(rt; image.is_some(), length != "-", "{name}: {words}");
-    if let (Some(bytes), Ok(length)) = (image, length.parse::<usize>()) {
-        assert_eq!(rt; bytes.len(), length, "{name}: {words}");
-        let text = hexadecimal(alloc, bytes)?;
-        let wanted = row.image.replace(alloc, " ", "")?;
-        assert!(rt;
-            wanted.is_empty() || wanted == text,
-            "{name}: {words}: {text}"
-        );
-    }
-    let out = unfolded(alloc, field(&mut fields))?;
-    assert_eq!(rt; left.out.bytes(), out.as_slice(), "{name}: {words}");
-    let notes = unfolded(alloc, field(&mut fields))?;
-    let notes = str::from_utf8(&notes).unwrap_or("");
-    let told = str::from_utf8(left.notes.bytes()).unwrap_or("");
-    assert!(rt; fits(notes, left.notes.bytes()), "{name}: {words}: {told}");
+    check_image(rt, alloc, row, field(&mut fields), image)?;
+    check_text(rt, alloc, row, field(&mut fields), left.out.bytes())?;
+    check_text(rt, alloc, row, field(&mut fields), left.notes.bytes())?;
     let rest = unfolded(alloc, field(&mut fields))?;
     assert_eq!(rt; left.input.left(), rest.as_slice(), "{name}: {words}");
+    if words.starts_with("run ") && left.status <= 2 {
+        check_report(rt, row, left.notes.bytes(), image.unwrap_or(b""));
+        if left.status <= 1 {
+            check_meant(rt, alloc, row, &left)?;
+        }
+    } else if words.starts_with("compile ") && left.status == 0 {
+        check_report(rt, row, left.out.bytes(), image.unwrap_or(b""));
+    }
     Ok(())
 }
 
@@ -215,9 +331,22 @@ fn check_rows(rt: &impl Abort, alloc: Global, table: &str) -> Result<(), OutOfMe
 
 #[test]
 fn calls_over_modules(rt: HostRuntime) -> Result<(), OutOfMemory> {
-    check_rows(&rt, rt.alloc(), worked::ROWS)?;
-    check_rows(&rt, rt.alloc(), inputs::ROWS)?;
+    check_rows(&rt, rt.alloc(), worked::ROWS)
+}
+
+#[test]
+fn calls_over_inputs(rt: HostRuntime) -> Result<(), OutOfMemory> {
+    check_rows(&rt, rt.alloc(), inputs::ROWS)
+}
+
+#[test]
+fn calls_of_which_one_fails(rt: HostRuntime) -> Result<(), OutOfMemory> {
     check_rows(&rt, rt.alloc(), faults::ROWS)
+}
+
+#[test]
+fn calls_by_the_meaning(rt: HostRuntime) -> Result<(), OutOfMemory> {
+    check_rows(&rt, rt.alloc(), meant::ROWS)
 }
 
 #[test]
@@ -225,14 +354,25 @@ fn calls_over_images_and_their_texts(rt: HostRuntime) -> Result<(), OutOfMemory>
     check_rows(&rt, rt.alloc(), listings::ROWS)
 }
 
+/// The text of the module of a row by its name.
+pub(crate) fn source_of(name: &str) -> &'static str {
+    for row in worked::ROWS.split("# ") {
+        let (first, rest) = split_at(row, "\n");
+        if first == name {
+            let (before_input, _) = split_at(rest, "\n<");
+            let (before_call, _) = split_at(before_input, "\n=");
+            let (source, _) = split_at(before_call, "\nwords ");
+            return source;
+        }
+    }
+    ""
+}
+
 // The module with all forms of statement, and its image, which is listed and assembled.
 #[test]
 fn an_image_comes_back_from_its_text(rt: HostRuntime) -> Result<(), OutOfMemory> {
     let alloc = rt.alloc();
-    let (_, rest) = worked::ROWS
-        .split_once("# all forms of statement\n")
-        .unwrap_or(("", ""));
-    let (source, _) = rest.split_once("\n< ").unwrap_or(("", ""));
+    let source = source_of("all forms of statement");
     let compiled = call(alloc, "compile M.ob", source.as_bytes(), b"", ALL_WELL)?;
     let image = compiled.folder.file("out.pri").unwrap_or(b"");
     let listed = call(alloc, "list M.ob", image, b"", ALL_WELL)?;

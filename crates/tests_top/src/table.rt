@@ -4,11 +4,18 @@ mod long;
 mod modules;
 mod rules;
 
-use crate::calls::{field, unfolded};
+use crate::calls::{field, last_line, unfolded};
 use crate::outside::{ALL_WELL, call};
+use crate::report::{Limits, code_length};
 use pra_base::OutOfMemory;
 use std::alloc::{Alloc, Global};
 use std::process::Abort;
+
+/// The words of a call over a module.
+const WORDS: &str = "run M.ob --rounds 1";
+
+/// The words of a call over a long module.
+const LONG_WORDS: &str = "run M.ob --rounds 0";
 
 /// A source, and what a call over it must leave: the status in decimal, the output, in which `$` is
 /// the end of a line, and the line of notes without its end; of a run, how its last line begins.
@@ -21,18 +28,8 @@ struct Row<'a> {
     notes: &'a str,
 }
 
-// The last line of notes, without its end.
-fn last_line(notes: &[u8]) -> &str {
-    let lines = notes.strip_suffix(b"\n").unwrap_or(notes);
-    let text = str::from_utf8(lines).unwrap_or("");
-    match text.rsplit_once('\n') {
-        Some((_, last)) => last,
-        None => text,
-    }
-}
-
-fn check(rt: &impl Abort, alloc: Global, row: Row) -> Result<(), OutOfMemory> {
-    let left = call(alloc, "run M.ob", row.source, b"", ALL_WELL)?;
+fn check(rt: &impl Abort, alloc: Global, words: &str, row: Row) -> Result<(), OutOfMemory> {
+    let left = call(alloc, words, row.source, b"", ALL_WELL)?;
     let name = row.name;
     assert_eq!(rt; Some(left.status), row.status.parse::<u8>().ok(), "{name}");
     let notes = left.notes.bytes();
@@ -41,6 +38,13 @@ fn check(rt: &impl Abort, alloc: Global, row: Row) -> Result<(), OutOfMemory> {
         assert!(rt; notes.starts_with(b"procedure 0 "), "{name}");
         assert!(rt;
             line.starts_with(row.notes) && line.ends_with(" reads 0"),
+            "{name}"
+        );
+        let image = left.folder.file("out.pri").unwrap_or(b"");
+        let length = image.len().saturating_sub(16) as u64;
+        assert_eq!(rt;
+            code_length(notes, Limits::of_words(words)),
+            Ok(length),
             "{name}"
         );
     } else {
@@ -70,7 +74,7 @@ fn check_lines(rt: &impl Abort, alloc: Global, table: &str) -> Result<(), OutOfM
             out: field(&mut fields),
             notes: field(&mut fields),
         };
-        check(rt, alloc, row)?;
+        check(rt, alloc, WORDS, row)?;
     }
     Ok(())
 }
@@ -103,7 +107,7 @@ fn check_long(rt: &impl Abort, alloc: Global, table: &str) -> Result<(), OutOfMe
             out: field(&mut fields),
             notes: field(&mut fields),
         };
-        check(rt, alloc, row)?;
+        check(rt, alloc, LONG_WORDS, row)?;
     }
     Ok(())
 }
@@ -111,7 +115,7 @@ fn check_long(rt: &impl Abort, alloc: Global, table: &str) -> Result<(), OutOfMe
 #[test]
 fn answers_of_modules(rt: HostRuntime) -> Result<(), OutOfMemory> {
     for row in modules::BYTES {
-        check(&rt, rt.alloc(), *row)?;
+        check(&rt, rt.alloc(), WORDS, *row)?;
     }
     check_lines(&rt, rt.alloc(), modules::PLAIN)?;
     check_lines(&rt, rt.alloc(), modules::OTHER)?;
@@ -121,8 +125,16 @@ fn answers_of_modules(rt: HostRuntime) -> Result<(), OutOfMemory> {
 
 #[test]
 fn answers_by_the_rules(rt: HostRuntime) -> Result<(), OutOfMemory> {
-    check_lines(&rt, rt.alloc(), rules::RULES)?;
-    check_lines(&rt, rt.alloc(), rules::LIMITS)?;
+    check_lines(&rt, rt.alloc(), rules::RULES)
+}
+
+#[test]
+fn answers_beyond_limits(rt: HostRuntime) -> Result<(), OutOfMemory> {
+    check_lines(&rt, rt.alloc(), rules::LIMITS)
+}
+
+#[test]
+fn answers_by_counts(rt: HostRuntime) -> Result<(), OutOfMemory> {
     check_long(&rt, rt.alloc(), long::COUNTS)
 }
 

@@ -6,8 +6,9 @@
 use crate::outside::{ALL_WELL, call};
 use pra_io::{Folder, HostFolder, MemSink, MemSource};
 use pra_tool::run_tool;
-use std::alloc::Alloc;
+use std::alloc::{Alloc, Global};
 use std::fs;
+use std::process::Abort;
 use std::test::Fail;
 
 const NUMBER: &[u8] = b"MODULE M; BEGIN Write(7); WriteLn END M.";
@@ -15,49 +16,132 @@ const NUMBER: &[u8] = b"MODULE M; BEGIN Write(7); WriteLn END M.";
 /// How many bytes its image file has: a header of 16, and 63 of code.
 const NUMBER_IMAGE: usize = 79;
 
-/// Words that are refused, and what is told of them.
+/// Its report.
+const REPORT: &str = "\
+procedure 0 M frame 20
+round 0 cost 5 bound 5
+total cost 5 bound 5 code 63
+";
+
+/// The line that is told behind each refusal.
+const USAGE: &str = "usage: pra MODE FILE [--rounds N] [--cost size|speed] [--steps M] [--gap G] \
+    [--image NAME] [--seed S] [--size Z]";
+
+/// Words that are no line.
+const NO_LINE: &str = "\
+run
+
+M.ob
+run M.ob more
+run M.ob --steps 3 more
+run -M.ob
+run M.ob --steps
+run M.ob --rounds
+run M.ob --size
+run M.ob --steps --image a
+run M.ob --cost --gap 3
+run M.ob --steps 3 --steps 4
+run M.ob --rounds 3 --rounds 3
+run M.ob --cost size --cost speed
+run M.ob --gap 1 --gap 1
+run M.ob --image a --image a
+run M.ob --seed=1 --seed 1
+run M.ob --size 1 --size=1
+run M.ob --rounds -1
+run M.ob --seed -1
+run M.ob --round 3
+run M.ob --step 3
+run M.ob --Cost size
+run M.ob --costs size
+run M.ob -s 3
+run M.ob -- --steps 3
+run M.ob --rounds 1001 more
+--help
+run M.ob --help
+-h
+run M.ob --version";
+
+/// Words with a value that its word may not have, and the first such word.
 const REFUSED: &str = "\
-|words
-run|words
-M.ob|words
-run M.ob more|words
-run M.ob --steps 3 more|words
-run -M.ob|words
-run M.ob --steps|words
-run M.ob --steps --image a|words
-run M.ob --steps 3 --steps 4|words
-run M.ob --image a --image a|words
-run M.ob --rounds 3|words
-run M.ob --step 3|words
-run M.ob -s 3|words
-run M.ob -- --steps 3|words
---help|words
-run M.ob --help|words
--h|words
-run M.ob --version|words
- M.ob|value MODE
-Run M.ob|value MODE
-gen M.ob|value MODE
-M.ob run --steps x|value MODE
-run |value FILE
-run  --steps x|value FILE
-run M.ob --steps |value --steps
-run M.ob --steps x|value --steps
-run M.ob --steps +3|value --steps
-run M.ob --steps 3x|value --steps
-run M.ob --steps 200000001|value --steps
-run M.ob --steps 00000000003|value --steps
-run M.ob --image  --steps x|value --steps
-run M.ob --image |value --image
-run M.ob --image=|value --image
-run M.ob --image M.ob|value --image
-run out.pri|value --image
-compile out.pri|value --image
-asm out.pri|value --image
-asm M.ob --image M.ob|value --image
-list M.ob --image |value --image
-List M.ob|value MODE
-list |value FILE";
+Run M.ob|MODE
+ M.ob|MODE
+generate M.ob|MODE
+Gen M.ob|MODE
+run2 M.ob|MODE
+interpret M.ob|MODE
+List M.ob|MODE
+M.ob run --steps x|MODE
+run |FILE
+run  --steps x|FILE
+gen  --seed x|FILE
+list |FILE
+interp |FILE
+run M.ob --rounds |--rounds
+run M.ob --rounds x|--rounds
+run M.ob --rounds=-1|--rounds
+run M.ob --rounds +3|--rounds
+run M.ob --rounds 3x|--rounds
+run M.ob --rounds 1001|--rounds
+run M.ob --rounds 4294967296|--rounds
+run M.ob --rounds 00000000003|--rounds
+run M.ob --cost |--cost
+run M.ob --cost Size|--cost
+run M.ob --cost speed2|--cost
+run M.ob --cost siz|--cost
+run M.ob --cost 1|--cost
+run M.ob --steps |--steps
+run M.ob --steps x|--steps
+run M.ob --steps=-1|--steps
+run M.ob --steps +3|--steps
+run M.ob --steps 3x|--steps
+run M.ob --steps 200000001|--steps
+run M.ob --steps 00000000003|--steps
+run M.ob --gap |--gap
+run M.ob --gap x|--gap
+run M.ob --gap=-1|--gap
+run M.ob --gap 0x3|--gap
+run M.ob --gap 4294967296|--gap
+run M.ob --gap 9999999999|--gap
+run M.ob --gap 10000000000|--gap
+run M.ob --image |--image
+run M.ob --image=|--image
+run M.ob --image M.ob|--image
+run out.pri|--image
+compile out.pri|--image
+gen out.pri|--image
+asm out.pri|--image
+asm M.ob --image M.ob|--image
+gen M.ob --image M.ob|--image
+list M.ob --image |--image
+interp M.ob --image |--image
+run M.ob --seed |--seed
+run M.ob --seed 1.0|--seed
+run M.ob --seed=-1|--seed
+run M.ob --seed 2147483648|--seed
+run M.ob --seed 00000000001|--seed
+run M.ob --size |--size
+run M.ob --size ten|--size
+run M.ob --size=-1|--size
+run M.ob --size 0|--size
+run M.ob --size 201|--size
+run M.ob --size 4294967297|--size
+list M.ob --rounds 1001|--rounds
+list M.ob --size 0|--size
+asm M.ob --seed x|--seed
+interp M.ob --gap x|--gap
+compile M.ob --size 201|--size
+run  --rounds 1001|FILE
+run M.ob --size 0 --rounds 1001|--rounds
+run M.ob --size 0 --cost x|--cost
+run M.ob --cost x --rounds x|--rounds
+run M.ob --steps x --cost x|--cost
+run M.ob --image  --steps x|--steps
+run M.ob --gap x --steps x|--steps
+run M.ob --image M.ob --gap x|--gap
+run M.ob --seed x --image M.ob|--image
+run M.ob --size x --seed x|--seed
+gen out.pri --size 201 --seed x|--image
+run2  --rounds x --cost x --steps x --gap x --image= --seed x --size x|MODE";
 
 /// Words that are taken, the image's name, and the line of notes without its end.
 const TAKEN: &str = "\
@@ -71,21 +155,44 @@ run M.ob --steps 0|out.pri|going steps 0 reads 0
 run M.ob --image run|run|ended steps 18 reads 0
 run --image - M.ob|-|ended steps 18 reads 0
 --steps 18 -- run M.ob|out.pri|ended steps 18 reads 0
-run M.ob --image M.ob.pri|M.ob.pri|ended steps 18 reads 0";
+run M.ob --image M.ob.pri|M.ob.pri|ended steps 18 reads 0
+run M.ob --rounds 0|out.pri|ended steps 18 reads 0
+run M.ob --rounds 1000|out.pri|ended steps 18 reads 0
+run --rounds=0000000001 M.ob|out.pri|ended steps 18 reads 0
+run M.ob --cost size|out.pri|ended steps 18 reads 0
+--cost=size run M.ob|out.pri|ended steps 18 reads 0
+run M.ob --gap 0|out.pri|ended steps 18 reads 0
+run M.ob --gap 4294967295|out.pri|ended steps 18 reads 0
+run M.ob --seed 0|out.pri|ended steps 18 reads 0
+run M.ob --seed 2147483647|out.pri|ended steps 18 reads 0
+run M.ob --size 1|out.pri|ended steps 18 reads 0
+run M.ob --size 200|out.pri|ended steps 18 reads 0
+--size 7 --seed 3 --image a --gap 1 --steps 18 --cost size --rounds 2 run M.ob|a|\
+    ended steps 18 reads 0";
+
+// Refused words are told, and nothing else is written.
+fn check_refused(rt: &impl Abort, alloc: Global, words: &str, fault: &str) -> Result<(), Fail> {
+    let left = call(alloc, words, NUMBER, b"1 2", ALL_WELL)?;
+    let notes = format!(in alloc; "fault {fault}\n{USAGE}\n")?;
+    assert_eq!(rt; left.notes.bytes(), notes.as_bytes(), "{words}");
+    assert_eq!(rt; left.status, 6, "{words}");
+    assert!(rt; left.out.bytes().is_empty(), "{words}");
+    assert_eq!(rt; left.input.left(), b"1 2".as_slice(), "{words}");
+    assert_eq!(rt; left.folder.file("M.ob"), Some(NUMBER), "{words}");
+    assert!(rt; left.folder.file("out.pri").is_none(), "{words}");
+    Ok(())
+}
 
 #[test]
 fn bad_words_are_told(rt: HostRuntime) -> Result<(), Fail> {
+    let alloc = rt.alloc();
+    for words in NO_LINE.lines() {
+        check_refused(&rt, alloc, words, "words")?;
+    }
     for row in REFUSED.lines() {
-        let (words, fault) = row.split_once('|').ok_or("a row without its fault")?;
-        let left = call(rt.alloc(), words, NUMBER, b"", ALL_WELL)?;
-        let notes = format!(in rt.alloc();
-            "fault {fault}\nusage: pra MODE FILE [--steps M] [--image NAME]\n"
-        )?;
-        assert_eq!(rt; left.notes.bytes(), notes.as_bytes(), "{words}");
-        assert_eq!(rt; left.status, 6, "{words}");
-        assert!(rt; left.out.bytes().is_empty(), "{words}");
-        assert_eq!(rt; left.folder.file("M.ob"), Some(NUMBER), "{words}");
-        assert!(rt; left.folder.file("out.pri").is_none(), "{words}");
+        let (words, word) = row.split_once('|').ok_or("a row without its word")?;
+        let fault = format!(in alloc; "value {word}")?;
+        check_refused(&rt, alloc, words, &fault)?;
     }
     Ok(())
 }
@@ -96,7 +203,7 @@ fn good_words_are_taken(rt: HostRuntime) -> Result<(), Fail> {
         let (words, rest) = row.split_once('|').ok_or("a row without its image")?;
         let (image, line) = rest.split_once('|').ok_or("a row without its line")?;
         let left = call(rt.alloc(), words, NUMBER, b"", ALL_WELL)?;
-        let notes = format!(in rt.alloc(); "procedure 0 M frame 20\n{line}\n")?;
+        let notes = format!(in rt.alloc(); "{REPORT}{line}\n")?;
         assert_eq!(rt; left.notes.bytes(), notes.as_bytes(), "{words}");
         let written = left.folder.file(image).ok_or("no image")?;
         assert_eq!(rt; written.len(), NUMBER_IMAGE, "{words}");

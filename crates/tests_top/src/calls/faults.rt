@@ -9,7 +9,7 @@ fails folder 1
 fails folder 2
 = 5|-||fault write file$
 fails folder 3
-= 0|79| 7$|procedure 0 M frame 20$ended steps 18 reads 0$
+= 0|79| 7$|procedure 0 M frame 20$~ended steps 18 reads 0$
 pieces 1
 fails out 1
 = 5|79||fault write out$
@@ -21,13 +21,13 @@ fails out 3
 = 5|79| 7|fault write out$
 pieces 1
 fails out 4
-= 0|79| 7$|procedure 0 M frame 20$ended steps 18 reads 0$
+= 0|79| 7$|procedure 0 M frame 20$~ended steps 18 reads 0$
 room 0
 = 5|79||fault write out$
 room 2
 = 5|79| 7|fault write out$
 room 3
-= 0|79| 7$|procedure 0 M frame 20$ended steps 18 reads 0$
+= 0|79| 7$|procedure 0 M frame 20$~ended steps 18 reads 0$
 pieces 1
 fails notes 1
 = 5|79| 7$|
@@ -35,11 +35,11 @@ pieces 1
 fails notes 12
 = 5|79| 7$|procedure 0
 pieces 1
-fails notes 46
-= 5|79| 7$|procedure 0 M frame 20$ended steps 18 reads 0
+fails notes 98
+= 5|79| 7$|procedure 0 M frame 20$~ended steps 18 reads 0
 pieces 1
-fails notes 47
-= 0|79| 7$|procedure 0 M frame 20$ended steps 18 reads 0$
+fails notes 99
+= 0|79| 7$|procedure 0 M frame 20$~ended steps 18 reads 0$
 words run N.ob
 = 5|-||fault read file$|1 2
 fails notes 1
@@ -60,7 +60,8 @@ fails notes 1
 = 5|-|||1 2
 words run
 fails folder 1
-= 6|-||fault words$usage: pra MODE FILE [--steps M] [--image NAME]$|1 2
+= 6|-||fault words$usage: pra MODE FILE [--rounds N] [--cost size^speed] [--steps M] [--gap G] \
+    [--image NAME] [--seed S] [--size Z]$|1 2
 fails notes 1
 = 6|-|||1 2
 words run M.ob --steps x
@@ -79,18 +80,32 @@ pieces 1
 fails out 12
 = 5|79|procedure 0|fault write out$
 pieces 1
-fails out 31
-= 5|79|procedure 0 M frame 20$code 63|fault write out$
-room 31
-= 0|79|procedure 0 M frame 20$code 63$|
+fails out 75
+= 5|79|procedure 0 M frame 20$round 0 cost 5 bound 5$total cost 5 bound 5 code 63|fault write out$
+room 75
+= 0|79|procedure 0 M frame 20$round 0 cost 5 bound 5$total cost 5 bound 5 code 63$|
 fails notes 1
-= 0|79|procedure 0 M frame 20$code 63$|
+= 0|79|procedure 0 M frame 20$round 0 cost 5 bound 5$total cost 5 bound 5 code 63$|
 fails out 1
 fails notes 1
 = 5|79||
 words compile N.ob
 fails notes 1
 = 5|-||
+# each call that generating makes fails
+MODULE M; END M.
+words gen G.ob --size 1 --rounds 0
+< x
+fails folder 1
+= 5|-||fault write file$|x
+fails folder 2
+= 5|-||fault write file$|x
+fails out 1
+= 5|..||fault write out$|x
+fails notes 1
+= 0|..|generated seed 1 size 1 bytes ..$~ended steps .. reads 0$output bytes ..$||x
+words gen G.ob --size 1 --rounds 0 --steps 5
+= 2|..|generated seed 1 size 1 bytes ..$~going steps 5 reads 0$output bytes 0$||x
 # a trap is not told where notes fails
 MODULE M; VAR z: INTEGER; BEGIN Write(1); Write(5 DIV z) END M.
 fails notes 1
@@ -154,6 +169,7 @@ BEGIN
   Read(x); Find(a, n, x, i); Write(i); WriteLn
 END Samples.
 < 25 7 6 2 3 5 8 13 21 8
+words run M.ob --rounds 0
 fails folder 1
 = 5|-||fault read file$|25 7 6 2 3 5 8 13 21 8
 fails input 1
