@@ -191,7 +191,7 @@ def input_word(given, at):
 FILES = {
     "read file": "{} can't be read",
     "read input": "the input can't be read",
-    "write file": "a file can't be written (the image; never one that was read)",
+    "write file": "a file can't be written (the image, or the module of gen)",
     "write out": "the output can't be written",
 }
 

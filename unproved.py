@@ -23,6 +23,8 @@ SECONDS = 3600  # that a run may take
 INPUT = 3  # the stream that is the program's standard input, closed where that is
 MOST_INPUT = 1 << 20  # bytes of input that the program takes; one more is refused
 IMAGE = b"out.pri"  # the image's name where the words give none
+OPTIONS = ("rounds", "cost", "steps", "gap", "image", "seed", "size")
+WITH_INPUT = (b"run", b"interp")  # the modes that take the input
 NO_NUMBER = b"x"  # an input that is refused where one is that can't be read
 # What rt try adds behind the program's notes.
 ENDED = re.compile(rb"checked: [^\n]*\nrun=ended status=(\d+) [^\n]*proved=no\n\Z")
@@ -48,7 +50,7 @@ def stands_for_itself(word):
 
 
 def roles(words):
-    """Of each word what it is: mode, file, image, steps, or None."""
+    """Of each word what it is: mode, file, the value of an option by its name, or None."""
     plain, option, all_plain = ["mode", "file"], None, False
     for word in words:
         if option:
@@ -58,7 +60,8 @@ def roles(words):
             yield plain.pop(0) if plain else None
         else:
             all_plain = word == b"--"
-            option = {b"--image": "image", b"--steps": "steps"}.get(word)
+            name = word.decode(errors="replace").removeprefix("--")
+            option = name if word.startswith(b"--") and name in OPTIONS else None
             yield "image" if word.startswith(b"--image=") else None
 
 
@@ -107,7 +110,7 @@ def words_to_try(words):
 def take_input(words):
     """What the program would take of standard input, and whether it can be read."""
     taken = bytearray()
-    if by_role(words).get("mode") == b"run":
+    if by_role(words).get("mode") in WITH_INPUT:
         try:
             while more := os.read(INPUT, MOST_INPUT + 1 - len(taken)):
                 taken += more

@@ -1,7 +1,7 @@
 #!/bin/sh
-# Prints how long it takes to compile the generated module of 200 procedures, seed 1, and how much
-# memory is held at most. Where gcc is there, the same is told of gcc -O2 and of this module as C,
-# and whether both programs write the same.
+# Prints how long it takes to compile the generated module of 200 procedures, seed 1, without rounds
+# and with ten, how much memory is held at most, and what the code costs. Where gcc is there, time
+# and memory are told of gcc -O2 and of this module as C, and whether both programs write the same.
 set -eu
 bench=$(cd "$(dirname "$0")" && pwd)
 generate=$("$bench/built.sh" bench_generate 1 1)
@@ -12,8 +12,10 @@ cd "$folder"
 "$generate" 1 200 >G.ob
 "$bench/../pra" build
 program=$bench/../crates/pra/out/pra
-result=$("$bench/best_of_five.sh" "$program" compile G.ob)
-echo "pra: $(wc -l <G.ob) lines in $result"
+for rounds in 0 10; do
+    result=$("$bench/best_of_five.sh" "$program" compile G.ob --rounds "$rounds")
+    echo "pra, $rounds rounds: $(wc -l <G.ob) lines in $result"
+done
 if command -v gcc >/dev/null; then
     awk -f "$bench/as_c.awk" G.ob >G.c
     result=$("$bench/best_of_five.sh" gcc -O2 -fwrapv G.c -o G)

@@ -1,6 +1,7 @@
 #!/bin/sh
 # Times the program on two sources of some 60,000 tokens that keep the rules and the limits, which
-# it reads, checks and compiles: one has 1 MB and 256 procedures, one has 10,000 names in one scope.
+# it reads, checks and compiles without rounds: one has 1 MB and 256 procedures, one has 10,000
+# names in one scope.
 # Each time is the best of five, and beside it stands the most memory that is held.
 set -eu
 bench=$(cd "$(dirname "$0")" && pwd)
@@ -34,6 +35,7 @@ awk 'BEGIN {
 
 "$bench/../pra" build
 for name in wide.ob names.ob; do
-    result=$("$bench/best_of_five.sh" "$bench/../crates/pra/out/pra" compile "$name")
+    result=$("$bench/best_of_five.sh" "$bench/../crates/pra/out/pra" compile "$name" \
+        --rounds 0)
     echo "$name: $(stat -c %s "$name") bytes in $result"
 done
