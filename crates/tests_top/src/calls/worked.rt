@@ -123,8 +123,13 @@ words compile M.ob
 MODULE M; PROCEDURE Q; BEGIN END Q;
 PROCEDURE P(a: INTEGER); BEGIN Write(a); Q; Write(a) END P;
 BEGIN P(5) END M.
-= 0|..| 5 5|procedure 0 M frame 20$~procedure 1 Q frame 20$~procedure 2 P frame 24$~\
-    ended steps .. reads 0$
+= 0|149| 5 5|procedure 0 M frame 20$round 0 cost 4 bound 4$procedure 1 Q frame 20$\
+    round 0 cost 0 bound 0$procedure 2 P frame 24$round 0 cost 9 bound 6$round 1 cost 6 bound 6$\
+    total cost 10 bound 10 code 133$ended steps 48 reads 0$
+words run M.ob --rounds 0
+= 0|..| 5 5|procedure 0 M frame 20$round 0 cost 4 bound 4$procedure 1 Q frame 20$\
+    round 0 cost 0 bound 0$procedure 2 P frame ..$round 0 cost 9 bound 6$\
+    total cost 13 bound 10 code ..$ended steps .. reads 0$
 # REPEAT counts
 MODULE M; VAR i: INTEGER; BEGIN REPEAT i := i + 1; Write(i) UNTIL i = 3 END M.
 = 0|..| 1 2 3|procedure 0 M frame ..$~ended steps .. reads 0$
@@ -237,4 +242,7 @@ END Samples.
 < 25 7 6 2 3 5 8 13 21 8
 = 0|..| 175 3 4$ 3$|procedure 0 Samples frame ..$~procedure 1 Multiply frame ..$~\
     procedure 2 Divide frame ..$~procedure 3 Find frame ..$~ended steps .. reads 10$
+words run M.ob --rounds 0
+= 0|1087| 175 3 4$ 3$|procedure 0 Samples frame ..$~procedure 1 Multiply frame ..$~\
+    procedure 2 Divide frame ..$~procedure 3 Find frame ..$~ended steps 727 reads 10$
 ";
