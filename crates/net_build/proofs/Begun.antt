@@ -140,3 +140,7 @@ module _ (code : VProc) (live : Lives) (is_live : IsLive code live) (v b l : ℕ
 
   pub none_begun : begun_strand all_tables code live b l v ≡ None
   none_begun = ap (λ t. cond t (Some (strand all_tables code live v b l)) None) not_begun
+
+-- at a block's entry, where no instruction is beside, nothing begins that is not live
+pub none_at_entry : (code : VProc) (live : Lives) (v b : ℕ) → live v b 0 ≡ false → begun_strand all_tables code live b 0 v ≡ None
+none_at_entry code live v b none = rw none refl

@@ -1,5 +1,5 @@
 -- The masks of a run, as the sweep over a block makes them.
-use Rattle.std.specs.Prelude.{ℕ, ◌<◌, ◌≤◌, Bool, List, map, Option, Some, None, IfSome, IsFalse, ⊤}
+use Rattle.std.specs.Prelude.{ℕ, List, map}
 use Rattle.std.specs.List.{range_with_len}
 use Rattle.pra_base.specs.declared.code.VProc.{VProc}
 use Rattle.net_form.specs.Strands.{Lives, run_from, mask_at}
@@ -9,15 +9,3 @@ use Rattle.net_form.specs.Tables.{all_tables}
 abbrev pub run_masks : VProc → Lives → ℕ → ℕ → ℕ → List ℕ
 run_masks code live v b l =
     map (mask_at all_tables code live v b) (range_with_len l (run_from all_tables code live v b l))
-
--- ---- the least number that passes
-
-abbrev pub IsBelow : ℕ → Option ℕ → Type 0
-IsBelow v None = ⊤
-IsBelow v (Some least) = v < least
-
--- the least number from one on and below another that passes, if there is one
-abbrev pub IsLeastFrom : (ℕ → Bool) → ℕ → ℕ → Option ℕ → Type 0
-IsLeastFrom p from end least =
-    IfSome least (λ l. (from ≤ l) × (l < end)) ×
-    ((v : ℕ) → from ≤ v → v < end → IsBelow v least → IsFalse (p v))

@@ -11,7 +11,8 @@ ghost use Rattle.net_form.specs.Strands.{strands, is_constant};
 ghost use Rattle.net_form.specs.Tables.{all_tables};
 ghost use Rattle.vc_code.specs.Rows.{roles_of};
 ghost use Rattle.vc_live.specs.Rows.{live_at};
-ghost use Rattle.net_build.specs.Runs.{run_masks, IsBelow, IsLeastFrom};
+ghost use Rattle.net_build.specs.Runs.{run_masks};
+ghost use Rattle.vc_live.specs.Least.{IsBelow, IsLeastFrom};
 
 use crate::beside::{beside, is_present, mask_at, side};
 use net_form::Strand;
@@ -176,8 +177,11 @@ fn add_entry(
     ensures { OnOk result (out.new ≡ out.old ++
         layer_strands all_tables code.now (live_at live.now) block 0) }
 {
-    for var in 0..code.vars.len() as u32 {
+    let end = code.vars.len() as u32;
+    let mut from = 0;
+    while let Some(var) = live.next_at_entry(BlockId(block), from, end) {
         add_begun(alloc, code, live, block, 0, var, out)?;
+        from = var + 1;
     }
     Ok(())
 }

@@ -12,7 +12,7 @@ ghost use Rattle.net_form.specs.Formed.{IsStrandOf};
 ghost use Rattle.net_form.specs.Network.{leads_to, ties, ties_from, net_block};
 ghost use Rattle.net_form.specs.Strands.{exit_layer};
 ghost use Rattle.net_build.specs.Order.{AreInOrder, AreStarts, goes_on, key_of, tie_to};
-ghost use Rattle.net_build.specs.Runs.{IsLeastFrom};
+ghost use Rattle.vc_live.specs.Least.{IsLeastFrom};
 
 use crate::order::{place_of, starts_of};
 use crate::strands::nearer;

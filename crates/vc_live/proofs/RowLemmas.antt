@@ -1,5 +1,5 @@
 -- The sets of a block's points, where they stand from its end to its begin.
-use Rattle.std.proofs.Common.{◌≡◌, ◌≢◌, inl, inr, ℕ, suc, ◌+◌, ◌-◌, ◌/◌, ◌<◌, ◌≤◌, Bool, true, false, ◌&&◌, ◌||◌, not, List, [], ◌∷◌, ◌++◌, length, get_or, set, take, drop, refl, sym, ap, ◌∙◌, arith, get_or-set_same, get_or-set_other, length-set}
+use Rattle.std.proofs.Common.{◌≡◌, ◌≢◌, inl, inr, ℕ, suc, ◌+◌, ◌-◌, ◌/◌, ◌<◌, ◌≤◌, Bool, true, false, ◌&&◌, ◌||◌, not, if◌then◌else◌, List, [], ◌∷◌, ◌++◌, length, get_or, set, take, drop, refl, sym, ap, ◌∙◌, arith, get_or-set_same, get_or-set_other, length-set}
 use Rattle.std.proofs.lemmas.Bool.{lt-ltb, le-ltb, cases_eq, cases_order}
 use Rattle.std.proofs.lemmas.List.{get_or_past, length_push, get_or_append_left, get_or_push, get_or_default, take_all}
 use Rattle.std.proofs.lemmas.List.Folds.{list_any_more}
@@ -13,7 +13,8 @@ use Rattle.pra_base.specs.Code.{end_of, IsTarget}
 use Rattle.pra_base.specs.Operands.{reads}
 use Rattle.pra_base.specs.Valid.{IsSized, Names}
 use Rattle.vc_live.specs.Equations.{through, before, entry, Fits, HaveWords, FitsEnd, InRange, IsSound}
-use Rattle.vc_live.specs.Rows.{set_of, has_at, read_in, RowsBack, RowsOf, Confined}
+use Rattle.vc_live.specs.declared.liveness.Liveness.{Liveness}
+use Rattle.vc_live.specs.Rows.{set_of, has_at, live_at, read_in, RowsBack, RowsOf, Confined}
 use Rattle.vc_live.proofs.SetLemmas.{none_in}
 use Rattle.vc_live.proofs.Steps.{before-same, through_more, through_end, or_swapped}
 
@@ -31,6 +32,15 @@ no_point_at blocks rows b k v is beyond = rw (← is, set_of-past rows k beyond)
 
 pub no_block_at : (blocks : List (List (List ℕ))) (b k v : ℕ) → length blocks ≤ b → false ≡ has_at blocks b k v
 no_block_at blocks b k v beyond = no_point_at blocks [] b k v (sym (get_or_past blocks b [] beyond)) (omega arith)
+
+-- what is not in the set of the first point is not live where the block begins: no constant is
+pub absent_at_entry : (l : Liveness) (v b : ℕ) → has_at l.blocks b 0 v ≡ false → live_at l v b 0 ≡ false
+unfolding live_at
+absent_at_entry l v b none = either (contains l.constants v) (has_at l.blocks b 0 v) none
+  where
+    either : (t x : Bool) → x ≡ false → if◌then◌else◌ t false x ≡ false
+    either true x none = refl
+    either false x none = none
 
 -- ---- the sets pushed from the end of a block to its begin
 

@@ -1,5 +1,5 @@
 -- What the operations on words do to the members of a set.
-use Rattle.std.proofs.Common.{◌≡◌, ◌≢◌, ℕ, ◌-◌, ◌*◌, ◌/◌, ◌%◌, ◌^◌, ◌<◌, ◌≤◌, inl, inr, Bool, false, not, ◌&&◌, ◌||◌, nat_eq, List, length, get_or, set, bit_and, bit_or, replicate, refl, ap, ◌∙◌, arith, get_or-set_same, get_or-set_other}
+use Rattle.std.proofs.Common.{◌≡◌, ◌≢◌, ℕ, ◌-◌, ◌*◌, ◌/◌, ◌%◌, ◌^◌, ◌<◌, ◌≤◌, inl, inr, Bool, false, not, ◌&&◌, ◌||◌, nat_eq, List, length, get_or, set, bit_and, bit_or, replicate, refl, sym, ap, ◌∙◌, arith, get_or-set_same, get_or-set_other}
 use Rattle.std.specs.Int.{bit_at, bit_not}
 use Rattle.std.proofs.Common.{w64}
 use Rattle.std.proofs.lemmas.Bool.{cases_eq, cases_order}
@@ -132,6 +132,14 @@ contains_read xs v x within read =
 pub contains_past : (xs : List ℕ) (v : ℕ) → length xs ≤ v / 64 → contains xs v ≡ false
 unfolding contains
 contains_past xs v beyond = rw (get_or_past xs (v / 64) 0 beyond, bit_at-zero (v % 64)) refl
+
+-- u stands in the word of v, which is x
+pub blank_word : (xs : List ℕ) (v x : ℕ) → v / 64 < length xs → x ≡ get_or xs (v / 64) x → x ≡ 0 →
+    (u : ℕ) → u / 64 ≡ v / 64 → contains xs u ≡ false
+unfolding contains
+blank_word xs v x within read zero u same =
+    let word : get_or xs (v / 64) 0 ≡ 0 = sym (read ∙ get_or_default xs (v / 64) x 0 within) ∙ zero in
+    rw (same, word, bit_at-zero (u % 64)) refl
 
 pub contains-replicate : (n v : ℕ) → contains (replicate n 0) v ≡ false
 unfolding contains

@@ -1,4 +1,5 @@
 pub mod Equations
+pub mod Least
 pub mod Rows
 pub mod Sets
 pub mod Sized

@@ -1,9 +1,10 @@
 // Which variables are live at which layer.
 
 ghost use Rattle.std.specs.Prelude.{◌≡◌, ℕ, ◌+◌, ◌-◌, ◌/◌, ◌<◌, ◌≤◌, ◌&&◌, length, IfOk, Bool};
-ghost use Rattle.std.specs.Prelude.{true, false};
+ghost use Rattle.std.specs.Prelude.{true, false, IfSome};
 ghost use Rattle.pra_base.specs.Code.{end_of, code_of};
 ghost use Rattle.pra_base.specs.Valid.{IsSized};
+ghost use Rattle.vc_live.specs.Least.{IsLeastFrom};
 ghost use Rattle.vc_live.specs.Sets.{contains};
 ghost use Rattle.vc_live.specs.Equations.{InRange, Shape, IsSound, IsClosed, Fits, FitsEnd};
 ghost use Rattle.vc_live.specs.Equations.{HaveWords, at_exit};
@@ -37,6 +38,37 @@ impl Liveness {
         } else {
             self.has(b, layer as usize / 2, v)
         }
+    }
+
+    /// The least variable from this one on and below the end that is live where the block begins.
+    pub fn next_at_entry(&self, block: BlockId, from: u32, end: u32) -> Option<u32>
+        ensures least { IsLeastFrom (λ v. live_at self.now v block.0 0) from end result }
+        ensures live { IfSome result (λ v. live_at self.now v block.0 0 ≡ true) }
+    {
+        let mut v = from as usize;
+        while v < end as usize {
+            let var = v as u32;
+            if self.at(VarId(var), block, 0) {
+                return Some(var);
+            }
+            v = self.skip_at_entry(block.0 as usize, v + 1);
+        }
+        None
+    }
+
+    // From where on there may be a variable in the set of the block's first point.
+    fn skip_at_entry(&self, block: usize, v: usize) -> usize
+        ensures from { v ≤ result }
+        ensures none { (u : ℕ) → v ≤ u → u < result → has_at self.now.blocks block 0 u ≡ false }
+    {
+        if block >= self.blocks.len() {
+            return v;
+        }
+        let rows = &self.blocks[block];
+        if rows.len() == 0 {
+            return v;
+        }
+        rows[rows.len() - 1].skip(v)
     }
 
     fn constant_at(&self, v: usize, block: usize, layer: u32) -> bool

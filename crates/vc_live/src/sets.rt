@@ -47,6 +47,19 @@ impl BitSet {
         (self.words[v / BITS] >> (v % BITS)) & 1 == 1
     }
 
+    /// From where on there may be members: this number, or where the next word begins if its own
+    /// word has none.
+    pub fn skip(&self, v: usize) -> usize
+        ensures from { v ≤ result }
+        ensures none { (u : ℕ) → v ≤ u → u < result → contains self.now u ≡ false }
+    {
+        let word = v / BITS;
+        if word >= self.words.len() || self.words[word] != 0 {
+            return v;
+        }
+        (v - v % BITS).saturating_add(BITS)
+    }
+
     pub fn insert(&mut self, v: usize)
         requires { v / 64 < length self.old }
         ensures words { length self.new ≡ length self.old }

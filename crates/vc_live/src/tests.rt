@@ -399,6 +399,20 @@ fn nothing_is_live_past_the_end(rt: HostRuntime) -> Result<(), Fail> {
             "variable {v}, block {block}, layer {layer}"
         );
     }
+    for (from, block, end, next) in [
+        (0, 0, 130, Some(63)),
+        (63, 1, 130, Some(63)),
+        (64, 0, 130, Some(64)),
+        (65, 0, 130, Some(129)),
+        (65, 0, 129, None),
+        (0, 2, 130, None),
+    ] {
+        assert_eq!(rt;
+            liveness.next_at_entry(BlockId(block), from, end),
+            next,
+            "from {from}, block {block}"
+        );
+    }
     Ok(())
 }
 

@@ -1,7 +1,7 @@
 use Rattle.std.proofs.Common.{◌≡◌, ◌<◌, ◌≤◌, ℕ, length}
 use Rattle.std.specs.Prelude.{IfSome, nat_eq}
 use Rattle.std.specs.List.{list_any}
-use Rattle.net_build.specs.Runs.{IsBelow}
+use Rattle.vc_live.specs.Least.{IsBelow}
 use Rattle.net_build.proofs.strands.least_from.Given as goal
 
 abbrev pub invariant-loop-rest : goal.invariant-loop-rest
