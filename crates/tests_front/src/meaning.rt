@@ -1,17 +1,17 @@
-// Each row of the tables is read, resolved and run by `run` of ob_sketch, which answers what
-// ob_mean defines.
+// Each row of the tables is read, resolved and run by `interpret` of ob_interp, which does what
+// ob_mean defines, and counts units.
 
 use crate::meaning_rows;
+use ob_interp::interpret::interpret;
+use ob_interp::{UnitEnding, UnitOut};
 use ob_read::{MAX_SOURCE, Parsed, read, resolve};
-use ob_sketch::module::{Reached, run};
-use ob_sketch::running::{Finish, Setting};
 use ob_syntax::Checked;
 use pra_base::{OutEvent, OutOfMemory};
 use std::alloc::Global;
 use std::process::Abort;
 
-// How deep statements, expressions and calls may nest in a row.
-const FUEL: u32 = 200;
+// The units of a row that does not say how many it is granted.
+const UNITS: u32 = 10_000;
 
 const DECLARED: &str = "MODULE M;
 TYPE A = ARRAY 3 OF INTEGER; R = RECORD x: INTEGER; t: BOOLEAN; a: A END;
@@ -25,7 +25,7 @@ struct Row<'a> {
     source: String,
     input: Vec<i32>,
     frames: Vec<u32>,
-    turns: u32,
+    units: u32,
 }
 
 impl<'a> Row<'a> {
@@ -35,7 +35,7 @@ impl<'a> Row<'a> {
             source: String::from_str(alloc, DECLARED)?,
             input: Vec::new(alloc),
             frames: Vec::new(alloc),
-            turns: 100,
+            units: UNITS,
         })
     }
 
@@ -43,7 +43,7 @@ impl<'a> Row<'a> {
     fn take(&mut self, line: &str) -> Result<(), OutOfMemory> {
         let (key, rest) = line.split_once(' ').unwrap_or((line, ""));
         match key {
-            "turns" => self.turns = rest.parse::<u32>().unwrap_or(0),
+            "units" => self.units = rest.parse::<u32>().unwrap_or(0),
             "input" => {
                 for word in rest.split(' ') {
                     self.input.push(word.parse::<i32>().unwrap_or(0))?;
@@ -78,20 +78,20 @@ fn checked(alloc: Global, text: &str) -> Result<Option<Checked>, OutOfMemory> {
 
 // A number for each that was written, `/` for the end of a line, the ending, and how many words of
 // the input were taken.
-fn printed(alloc: Global, reached: &Reached) -> Result<String, OutOfMemory> {
+fn printed(alloc: Global, out: &UnitOut) -> Result<String, OutOfMemory> {
     let mut text = String::new(alloc);
-    for event in reached.running.events.as_slice() {
+    for event in out.events.as_slice() {
         match event {
             OutEvent::Number(n) => text.push_str(&format!(in alloc; " {n}")?)?,
             OutEvent::Line => text.push_str("/")?,
         }
     }
-    match reached.finish {
-        Finish::Normal => text.push_str(" ended")?,
-        Finish::Trapped(kind) => text.push_str(&format!(in alloc; " trap {kind:?}")?)?,
-        Finish::Going => text.push_str(" going")?,
+    match out.ending {
+        UnitEnding::Ended => text.push_str(" ended")?,
+        UnitEnding::Trap(kind) => text.push_str(&format!(in alloc; " trap {kind:?}")?)?,
+        UnitEnding::Going => text.push_str(" going")?,
     }
-    let taken = reached.running.taken;
+    let taken = out.reads;
     text.push_str(&format!(in alloc; " {taken}")?)?;
     Ok(text)
 }
@@ -103,17 +103,8 @@ fn answer(alloc: Global, row: &Row) -> Result<String, OutOfMemory> {
     let Some(program) = checked(alloc, &text)? else {
         return Ok(format!(in alloc; "no module")?);
     };
-    let setting = Setting {
-        alloc,
-        program: &program,
-        frames: &row.frames,
-        input: &row.input,
-        turns: row.turns,
-    };
-    match run(&setting, FUEL)? {
-        Some(reached) => printed(alloc, &reached),
-        None => Ok(format!(in alloc; "no fuel")?),
-    }
+    let out = interpret(alloc, &program, &row.frames, &row.input, row.units)?;
+    printed(alloc, &out)
 }
 
 fn check_rows(rt: &impl Abort, alloc: Global, table: &str) -> Result<(), OutOfMemory> {
@@ -136,5 +127,5 @@ fn modules_do_what_they_mean(rt: HostRuntime) -> Result<(), OutOfMemory> {
     check_rows(&rt, rt.alloc(), meaning_rows::VALUES)?;
     check_rows(&rt, rt.alloc(), meaning_rows::STATEMENTS)?;
     check_rows(&rt, rt.alloc(), meaning_rows::CALLS)?;
-    check_rows(&rt, rt.alloc(), meaning_rows::BUDGETS)
+    check_rows(&rt, rt.alloc(), meaning_rows::UNITS)
 }

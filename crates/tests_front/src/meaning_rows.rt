@@ -1,6 +1,6 @@
 // Modules, and what they come to. A row begins with its name behind `#`, and then has what stands
 // behind the declarations of `meaning` and before `END M.`. `input`, `frames` (one for each
-// procedure, the body first) and `turns` are given to the run; what it comes to stands behind `=`:
+// procedure, the body first) and `units` are given to the run; what it comes to stands behind `=`:
 // what is written, `/` for the end of a line, the ending and how many words of the input were
 // taken.
 
@@ -146,35 +146,35 @@ frames 20 262140
 = 1 1 1 trap Stack 0
 ";
 
-pub const BUDGETS: &str = "# the last test of WHILE is a turn too
+pub const UNITS: &str = "# the last test of WHILE is a unit too
 BEGIN WHILE i < 3 DO i := i + 1 END; Write(i)
-turns 4
+units 8
 = 3 ended 0
-# one turn less
+# one unit less
 BEGIN WHILE i < 3 DO i := i + 1 END; Write(i)
-turns 3
+units 7
 = going 0
 # REPEAT has its tests behind its statements
 BEGIN REPEAT i := i + 1; Write(i) UNTIL i = 3
-turns 3
+units 9
 = 1 2 3 ended 0
-# one turn less in REPEAT
+# three units less in REPEAT
 BEGIN REPEAT i := i + 1; Write(i) UNTIL i = 3
-turns 2
+units 6
 = 1 2 going 0
-# each loop has all turns
+# the units of a loop in a loop
 BEGIN REPEAT x := 0; REPEAT x := x + 1; Write(x) UNTIL x = 2; y := y + 1 UNTIL y = 2
-turns 2
+units 18
 = 1 2 1 2 ended 0
-# calls stand as deep as loops may turn
+# a call is a unit
 PROCEDURE P; BEGIN Write(1); P END P;
 BEGIN P
-turns 3
+units 6
 = 1 1 1 going 0
-# the stack is looked at before that
+# the stack is looked at as soon as the call has its unit
 PROCEDURE P; BEGIN Write(1); P END P;
 BEGIN P
 frames 20 262140
-turns 3
+units 7
 = 1 1 1 trap Stack 0
 ";
