@@ -4,8 +4,7 @@
 use crate::chain::{checked, selected, tidied};
 use crate::expression_rows;
 use crate::shown::{shows, shows_meaning};
-use ob_sketch::module::run;
-use ob_sketch::running::Setting;
+use ob_interp::interpret::interpret;
 use ob_syntax::Checked;
 use pra_base::{OutOfMemory, VModule};
 use std::alloc::Global;
@@ -79,17 +78,7 @@ fn found(alloc: Global, codes: &VModule) -> Result<String, OutOfMemory> {
 }
 
 fn meant(alloc: Global, program: &Checked) -> Result<String, OutOfMemory> {
-    let setting = Setting {
-        alloc,
-        program,
-        frames: &[],
-        input: &INPUT,
-        turns: 9,
-    };
-    match run(&setting, 200)? {
-        Some(reached) => shows_meaning(alloc, &reached),
-        None => Ok(format!(in alloc; "no fuel")?),
-    }
+    shows_meaning(alloc, &interpret(alloc, program, &[], &INPUT, 1000)?)
 }
 
 // What a row says that its module comes to: a trap, or its values, a line each.

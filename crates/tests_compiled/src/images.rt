@@ -4,9 +4,11 @@
 ghost use Rattle.std.specs.Prelude.{◌≡◌, ◌≤◌, IfOk};
 ghost use Rattle.al_round.specs.Watches.{verdict_of};
 ghost use Rattle.pra_base.specs.Valid.{IsSized, IsValid};
+ghost use Rattle.net_cost.specs.Weights.{size_weights};
 ghost use Rattle.net_form.specs.Admitted.{IsAdmitted};
 ghost use Rattle.net_form.specs.Flow.{AreRoutes, flow};
 ghost use Rattle.net_form.specs.Network.{IsNet};
+ghost use Rattle.pra_compile.specs.Compiled.{IsCompiled, wanted_of};
 ghost use Rattle.vc_short.specs.Short.{IsShort};
 ghost use Rattle.vc_typed.specs.Nodes.{HaveTheirNodes};
 ghost use Rattle.vc_typed.specs.TypedModules.{IsSelectable};
@@ -125,6 +127,7 @@ fn compile_at_home(alloc: Global, checked: &Checked) -> Result<Compiled, OutOfMe
     requires selectable { IsSelectable checked.now }
     requires nodes { HaveTheirNodes checked.now }
     requires short { IsShort checked.now }
+    ensures { IfOk result (IsCompiled checked.now (wanted_of size_weights 0 0)) }
 {
     let model = CostModel::keep(Weights::size(), |event: Event, depth: u32| {
         Weights::size().weight(event, depth)

@@ -1,7 +1,6 @@
 // What a run came to, as a text.
 
-use ob_sketch::module::Reached;
-use ob_sketch::running::Finish;
+use ob_interp::{UnitEnding, UnitOut};
 use pra_base::{OutEvent, OutOfMemory};
 use std::alloc::Global;
 use vc_code::{Ending, Outcome};
@@ -67,15 +66,15 @@ pub(crate) fn shows(alloc: Global, outcome: &Outcome) -> Result<String, OutOfMem
 /// # Errors
 ///
 /// Where there is no memory for the text.
-pub(crate) fn shows_meaning(alloc: Global, reached: &Reached) -> Result<String, OutOfMemory> {
+pub(crate) fn shows_meaning(alloc: Global, out: &UnitOut) -> Result<String, OutOfMemory> {
     let mut text = String::new(alloc);
-    push_output(alloc, &mut text, reached.running.events.as_slice())?;
-    match reached.finish {
-        Finish::Normal => text.push_str(" ended")?,
-        Finish::Trapped(kind) => text.push_str(&format!(in alloc; " trap {kind:?}")?)?,
-        Finish::Going => text.push_str(" going")?,
+    push_output(alloc, &mut text, out.events.as_slice())?;
+    match out.ending {
+        UnitEnding::Ended => text.push_str(" ended")?,
+        UnitEnding::Trap(kind) => text.push_str(&format!(in alloc; " trap {kind:?}")?)?,
+        UnitEnding::Going => text.push_str(" going")?,
     }
-    let taken = reached.running.taken;
+    let taken = out.reads;
     text.push_str(&format!(in alloc; " {taken}")?)?;
     Ok(text)
 }
