@@ -98,7 +98,8 @@ fn change_variables<F: Fn(Event, u32) -> u32>(
     changed
 }
 
-// Asks all strands, and where none of them changes all variables.
+// Asks all strands and then all variables, and says whether any changes. To ask the strands again
+// before the variables, until none changes, costs a visit of each layer of a strand more.
 fn change_any<F: Fn(Event, u32) -> u32>(
     work: &mut Work,
     spare: &mut Spare,
@@ -119,10 +120,11 @@ fn change_any<F: Fn(Event, u32) -> u32>(
     ensures family { work.new.family ≡ work.old.family }
     ensures reserved { IsReservedFor net.now work.new }
 {
-    if change_strands(work, spare, net, model, routes) {
+    let is_changed = change_strands(work, spare, net, model, routes);
+    if change_variables(work, spare, net, model, routes) {
         return true;
     }
-    change_variables(work, spare, net, model, routes)
+    is_changed
 }
 
 /// Changes admitted routes until they are settled: no strand has a cheaper path that keeps its
