@@ -1,0 +1,9 @@
+pub mod Answered
+pub mod CertsFit
+pub mod CertsRead
+pub mod LineFeed
+pub mod Lists
+pub mod PartsFit
+pub mod PartsRead
+pub mod Plain
+pub mod Texts

@@ -1,0 +1,140 @@
+// The text of a certificate, and back.
+
+ghost use Rattle.std.specs.Prelude.{◌≡◌, ◌↔◌, ◌≤◌, true, IfOk, IfErr, Some, Err};
+ghost use Rattle.std.specs.Str.{bytes_eq};
+ghost use Rattle.serde_json.specs.Data.{depth};
+ghost use Rattle.serde_json.specs.Read.{max_depth};
+ghost use Rattle.serde_json.specs.View.{view};
+ghost use Rattle.cert_form.specs.Form.{certificate_data, certificate_text};
+ghost use Rattle.cert_form.specs.Reading.{certificate_of};
+ghost use Rattle.cert_form.specs.Whole.{Reads, IsWhole, IsReadAs, IsOfNone};
+ghost use Rattle.cert_form.specs.declared.reading.Misread.TheVariants as misread;
+ghost use Rattle.cert_form.specs.declared.text.CertFault.TheVariants as fault;
+
+use crate::certificate::Certificate;
+use crate::reading::{Misread, certificate};
+use crate::writing::certificate_value;
+use pra_base::OutOfMemory;
+use serde_json::Value;
+use std::alloc::{AllocError, Global};
+use thiserror::Error;
+
+/// 16 MiB: how many bytes the text of a certificate has at most. Callers refuse longer ones.
+pub const MAX_CERT_BYTES: usize = 16_777_216;
+
+/// Why some bytes are no text of a certificate.
+#[derive(Clone, Copy, Debug, PartialEq, Eq, Error)]
+pub enum CertFault {
+    /// They are no JSON.
+    #[error("this is no JSON")]
+    NotJson,
+    /// They are JSON of something else.
+    #[error("this is no certificate")]
+    NotCertificate,
+    #[error("out of memory")]
+    OutOfMemory,
+}
+
+impl From<AllocError> for CertFault {
+    ghost from_gives = { λ _ e. e ≡ fault.OutOfMemory };
+
+    fn from(_: AllocError) -> Self {
+        CertFault::OutOfMemory
+    }
+}
+
+/// The text of a certificate: its JSON value without a blank, and a line feed.
+///
+/// # Errors
+///
+/// Where there is no memory for the text or for the value.
+pub fn cert_text(alloc: Global, c: &Certificate) -> Result<Vec<u8>, OutOfMemory>
+    ensures text { IfOk result (λ t. t.items ≡ certificate_text c.now) }
+    ensures back { IfOk result (λ t. IsReadAs t.items (certificate_data c.now)) }
+{
+    let value = certificate_value(alloc, c)?;
+    let mut text = value.to_vec(alloc)?;
+    text.push(b'\n')?;
+    Ok(text)
+}
+
+// The value that some bytes are read as.
+fn read_value(alloc: Global, bytes: &[u8]) -> Result<Value, CertFault>
+    ensures ok { IfOk result (λ v. IsReadAs bytes.now (view v)) }
+    ensures nests { IfOk result (λ v. depth (view v) ≤ max_depth) }
+    ensures err { IfErr result (λ e. Reads bytes.now (Err e)) }
+{
+    match Value::from_slice(alloc, bytes) {
+        Ok(value) => Ok(value),
+        Err(e) => {
+            if e.is_memory() {
+                Err(CertFault::OutOfMemory)
+            } else {
+                Err(CertFault::NotJson)
+            }
+        }
+    }
+}
+
+// The only certificate that a value can be of.
+fn find(alloc: Global, value: &Value) -> Result<Certificate, Misread>
+    ensures ok { IfOk result (λ c. certificate_of (view value.now) ≡ Some c) }
+    ensures whole { IfOk result (λ c. IsWhole c) }
+    ensures err { IfErr result (λ e. e ≡ misread.Form → IsOfNone (view value.now)) }
+{
+    let found = match certificate(alloc, value) {
+        Ok(found) => found,
+        Err(fault) => return Err(fault),
+    };
+    if found.procs.is_empty() {
+        return Err(Misread::Form);
+    }
+    Ok(found)
+}
+
+fn are_same(a: &[u8], b: &[u8]) -> bool
+    ensures { result ≡ bytes_eq a.now b.now }
+{
+    a == b
+}
+
+// Whether a value is that of a certificate: whether the two are written alike.
+fn is_of(alloc: Global, value: Value, c: &Certificate) -> Result<bool, AllocError>
+    requires { depth (view value) ≤ max_depth }
+    ensures { IfOk result (λ same. (same ≡ true) ↔ (view value ≡ certificate_data c.now)) }
+{
+    let text = value.to_vec(alloc)?;
+    drop(value);
+    let other = certificate_value(alloc, c)?;
+    let again = other.to_vec(alloc)?;
+    Ok(are_same(text.as_slice(), again.as_slice()))
+}
+
+/// The certificate that some bytes are the text of; blanks and the order of keys are free.
+///
+/// # Errors
+///
+/// `NotJson` where the bytes are no JSON; `NotCertificate` where they are JSON of something else,
+/// also where a number is none of its type, or there is no procedure; `OutOfMemory` where there is
+/// no memory for all that.
+pub fn cert_read(alloc: Global, bytes: &[u8]) -> Result<Certificate, CertFault>
+    ensures { Reads bytes.now result }
+{
+    let value = match read_value(alloc, bytes) {
+        Ok(value) => value,
+        Err(fault) => return Err(fault),
+    };
+    let found = match find(alloc, &value) {
+        Ok(found) => found,
+        Err(Misread::Form) => return Err(CertFault::NotCertificate),
+        Err(Misread::OutOfMemory) => return Err(CertFault::OutOfMemory),
+    };
+    let Ok(same) = is_of(alloc, value, &found) else {
+        return Err(CertFault::OutOfMemory);
+    };
+    if same {
+        Ok(found)
+    } else {
+        Err(CertFault::NotCertificate)
+    }
+}
