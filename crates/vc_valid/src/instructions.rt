@@ -1,14 +1,15 @@
 // The rules that one instruction keeps.
 
-ghost use Rattle.std.specs.Prelude.{◌≡◌, ◌≢◌, ◌≤◌, ◌<◌, ℕ, ℤ, pos, ◌≤ℤ◌, IsTrue, true, false, Some};
-ghost use Rattle.std.specs.Prelude.{length};
+ghost use Rattle.std.specs.Prelude.{◌≡◌, ◌<◌, ◌↔◌, ℕ, IsTrue, true, false, Some};
 ghost use Rattle.pra_base.specs.Code.{instr_at};
-ghost use Rattle.pra_base.specs.Operands.{reads, writes, only_writes};
-ghost use Rattle.pra_base.specs.Valid.{IsSized, DividesApart, KeepsConstant, NamesCell};
+ghost use Rattle.pra_base.specs.Operands.{reads, only_writes};
+ghost use Rattle.pra_base.specs.Valid.{IsSized};
 ghost use Rattle.vc_live.specs.Equations.{named_in};
 ghost use Rattle.vc_live.specs.Rows.{IsLiveness};
 ghost use Rattle.vc_live.specs.Sized.{named_cell};
-ghost use Rattle.vc_valid.specs.Rules.{KeepsVariable, KeepsVariables, KeepsRules};
+ghost use Rattle.vc_valid.specs.Rules.{IsApart, IsConstantOf, CopiesNoConstant, KeepsConstants};
+ghost use Rattle.vc_valid.specs.Rules.{IsNoParam, AvoidsParams, AreFour, KeepsDivision, KeepsRange};
+ghost use Rattle.vc_valid.specs.Rules.{KeepsClear, KeepsRules};
 
 use pra_base::{Base, BlockId, VInstr, VProc, VarId, VarKind};
 use vc_code::{Role, operands};
@@ -28,15 +29,8 @@ fn reads(instr: &VInstr, var: u32) -> bool
     is_named(row.reads.as_slice(), var)
 }
 
-fn writes(instr: &VInstr, var: u32) -> bool
-    ensures { result ≡ writes instr.now var }
-{
-    let row = operands(instr);
-    is_named(row.writes.as_slice(), var)
-}
-
 // Whether the instruction writes the variable where it does not read it.
-fn only_writes(instr: &VInstr, var: u32) -> bool
+fn is_only_written(instr: &VInstr, var: u32) -> bool
     ensures { result ≡ only_writes instr.now var }
 {
     match instr {
@@ -51,32 +45,69 @@ fn only_writes(instr: &VInstr, var: u32) -> bool
     }
 }
 
-fn is_apart(instr: &VInstr, var: u32) -> bool
-    ensures { IsTrue result → only_writes instr.now var ≡ true → reads instr.now var ≡ false }
+// Whether none of the roles is of a variable that is only written and read.
+fn are_apart(roles: &[Role], instr: &VInstr) -> bool
+    ensures { IsTrue result ↔ ((v : ℕ) → named_in roles.now v ≡ true →
+        only_writes instr.now v ≡ true → reads instr.now v ≡ false) }
 {
-    if only_writes(instr, var) {
-        return !reads(instr, var);
+    for role in roles {
+        if is_only_written(instr, role.var.0) && reads(instr, role.var.0) {
+            return false;
+        }
     }
     true
 }
 
-// The variable is not copied.
-fn is_uncopied(instr: &VInstr, var: u32) -> bool
-    ensures { IsTrue result → (t s : VarId) → instr.now ≡ VInstr.Copy t s → s.0 ≢ var }
+fn is_apart(instr: &VInstr) -> bool
+    ensures { IsTrue result ↔ IsApart instr.now }
 {
-    match instr {
-        VInstr::Copy(_, source) => source.0 != var,
+    let row = operands(instr);
+    are_apart(row.writes.as_slice(), instr)
+}
+
+fn is_constant(vars: &[VarKind], var: VarId) -> bool
+    ensures { IsTrue result ↔ IsConstantOf vars.now var.0 }
+{
+    let at = var.0 as usize;
+    if at >= vars.len() {
+        return false;
+    }
+    match vars[at] {
+        VarKind::Constant(_) => true,
+        _ => false,
+    }
+}
+
+// Whether none of the roles is of a constant.
+fn avoid_constants(roles: &[Role], vars: &[VarKind]) -> bool
+    ensures { IsTrue result ↔ ((v : ℕ) → named_in roles.now v ≡ true → IsConstantOf vars.now v →
+        ⊥) }
+{
+    for role in roles {
+        if is_constant(vars, role.var) {
+            return false;
+        }
+    }
+    true
+}
+
+fn copies_no_constant(instr: &VInstr, vars: &[VarKind]) -> bool
+    ensures { IsTrue result ↔ CopiesNoConstant vars.now instr.now }
+{
+    match *instr {
+        VInstr::Copy(_, source) => !is_constant(vars, source),
         _ => true,
     }
 }
 
-fn keeps_constant(instr: &VInstr, var: u32) -> bool
-    ensures { IsTrue result → KeepsConstant var instr.now }
+fn keeps_constants(instr: &VInstr, vars: &[VarKind]) -> bool
+    ensures { IsTrue result ↔ KeepsConstants vars.now instr.now }
 {
-    if writes(instr, var) {
+    let row = operands(instr);
+    if !avoid_constants(row.writes.as_slice(), vars) {
         return false;
     }
-    is_uncopied(instr, var)
+    copies_no_constant(instr, vars)
 }
 
 // The argument in whose cell the instruction's address begins.
@@ -95,56 +126,32 @@ fn named_cell(instr: &VInstr) -> Option<u32>
     }
 }
 
-fn avoids_cell(instr: &VInstr, argument: u32) -> bool
-    ensures { IsTrue result → NamesCell instr.now argument → ⊥ }
+/// Whether no parameter from this one on is the argument.
+pub(crate) fn is_no_param(vars: &[VarKind], from: usize, argument: u32) -> bool
+    ensures { IsTrue result ↔ IsNoParam vars.now from argument }
 {
-    match named_cell(instr) {
-        None => true,
-        Some(cell) => cell != argument,
-    }
-}
-
-fn keeps_kind(instr: &VInstr, var: u32, kind: VarKind) -> bool
-    ensures constant { IsTrue result → (n : ℤ) → kind ≡ VarKind.Constant n →
-        KeepsConstant var instr.now }
-    ensures cell { IsTrue result → (k : ℕ) → kind ≡ VarKind.Param k → NamesCell instr.now k → ⊥ }
-{
-    match kind {
-        VarKind::Constant(_) => keeps_constant(instr, var),
-        VarKind::Param(argument) => avoids_cell(instr, argument),
-        VarKind::Plain => true,
-    }
-}
-
-fn keeps_variable(instr: &VInstr, var: u32, kind: VarKind) -> bool
-    ensures { IsTrue result → KeepsVariable instr.now var kind }
-{
-    if !is_apart(instr, var) {
-        return false;
-    }
-    keeps_kind(instr, var, kind)
-}
-
-fn keeps_variables(instr: &VInstr, vars: &[VarKind]) -> bool
-    requires { length vars.now ≤ 16383 }
-    ensures { IsTrue result → KeepsVariables instr.now vars.now }
-{
-    for var in 0..vars.len() {
-        if !keeps_variable(instr, var as u32, vars[var]) {
-            return false;
+    for var in from..vars.len() {
+        if let VarKind::Param(other) = vars[var] {
+            if other == argument {
+                return false;
+            }
         }
     }
     true
 }
 
+fn avoids_params(instr: &VInstr, vars: &[VarKind]) -> bool
+    ensures { IsTrue result ↔ AvoidsParams vars.now instr.now }
+{
+    match named_cell(instr) {
+        None => true,
+        Some(cell) => is_no_param(vars, 0, cell),
+    }
+}
+
 // Whether no two of these are one.
 fn are_four(quotient: VarId, remainder: VarId, dividend: VarId, divisor: VarId) -> bool
-    ensures q_r { IsTrue result → quotient ≢ remainder }
-    ensures q_a { IsTrue result → quotient ≢ dividend }
-    ensures q_d { IsTrue result → quotient ≢ divisor }
-    ensures r_a { IsTrue result → remainder ≢ dividend }
-    ensures r_d { IsTrue result → remainder ≢ divisor }
-    ensures a_d { IsTrue result → dividend ≢ divisor }
+    ensures { IsTrue result ↔ AreFour quotient remainder dividend divisor }
 {
     if quotient.0 == remainder.0 || quotient.0 == dividend.0 || quotient.0 == divisor.0 {
         return false;
@@ -160,8 +167,7 @@ fn keeps_division(code: &VProc, live: &Liveness, block: u32, index: u32, instr: 
     requires live { IsLiveness code.now live.now }
     requires index { index < 100000 }
     requires at { instr_at code.now block index ≡ Some instr.now }
-    ensures { IsTrue result → (q r a d : VarId) → instr.now ≡ VInstr.DivMod q r a d →
-        DividesApart code.now block index q r a d }
+    ensures { IsTrue result ↔ KeepsDivision code.now block index instr.now }
 {
     match *instr {
         VInstr::DivMod(quotient, remainder, dividend, divisor) => {
@@ -175,8 +181,7 @@ fn keeps_division(code: &VProc, live: &Liveness, block: u32, index: u32, instr: 
 }
 
 fn keeps_range(instr: &VInstr) -> bool
-    ensures { IsTrue result → (v : VarId) (n : ℤ) → instr.now ≡ VInstr.Check v n →
-        (pos 0 ≤ℤ n) × (n ≤ℤ pos 2147483647) }
+    ensures { IsTrue result ↔ KeepsRange instr.now }
 {
     match *instr {
         VInstr::Check(_, number) => number >= 0,
@@ -185,8 +190,7 @@ fn keeps_range(instr: &VInstr) -> bool
 }
 
 fn keeps_clear(aggregates: u32, block: u32, index: u32, instr: &VInstr) -> bool
-    ensures { IsTrue result → instr.now ≡ VInstr.Clear →
-        (aggregates ≢ 0) × (block ≡ 0) × (index ≡ 0) }
+    ensures { IsTrue result ↔ KeepsClear aggregates block index instr.now }
 {
     match *instr {
         VInstr::Clear => aggregates != 0 && block == 0 && index == 0,
@@ -205,16 +209,23 @@ pub(crate) fn keeps_rules(
     requires live { IsLiveness code.now live.now }
     requires index { index < 100000 }
     requires at { instr_at code.now block index ≡ Some instr.now }
-    ensures { IsTrue result → KeepsRules code.now block index instr.now }
+    ensures { IsTrue result ↔ KeepsRules code.now block index instr.now }
 {
-    if !keeps_division(code, live, block, index, instr) {
+    let vars = code.vars.as_slice();
+    if !is_apart(instr) {
         return false;
     }
-    if !keeps_clear(code.aggregates, block, index, instr) {
+    if !keeps_constants(instr, vars) {
+        return false;
+    }
+    if !avoids_params(instr, vars) {
+        return false;
+    }
+    if !keeps_division(code, live, block, index, instr) {
         return false;
     }
     if !keeps_range(instr) {
         return false;
     }
-    keeps_variables(instr, code.vars.as_slice())
+    keeps_clear(code.aggregates, block, index, instr)
 }

@@ -1,9 +1,11 @@
 //! Whether selected code is valid, for code that nobody has proved to be.
 //!
-//! Selection makes code that is valid by proof. Code that is written by hand, for a test or a
-//! measurement, is put to `is_valid`, which tries the rules one by one: those of an instruction
-//! (with each variable of the code), those of a block, and those of the whole. Code that passes is
-//! valid. It takes time by instructions times variables, so no layer of the compiler calls it.
+//! Selection makes code that is valid by proof. Code from elsewhere, written by hand for a test or
+//! read from a certificate, is put to `is_valid`, which tries the rules one by one: those of each
+//! instruction, those of each block, and those of the whole. It answers true exactly where the code
+//! is valid. How many arguments a callee takes is known of code in a list of procedures alone:
+//! there `is_counted` answers true exactly where each call is of a procedure of the list, behind
+//! one Push for each argument.
 //!
 //! Read specs/Rules: what of `IsValid` is said of one instruction and of one block.
 #![tactic(auto)]
@@ -12,4 +14,5 @@ mod blocks;
 mod instructions;
 mod whole;
 
+pub use blocks::is_counted;
 pub use whole::is_valid;

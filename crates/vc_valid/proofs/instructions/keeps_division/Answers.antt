@@ -1,21 +1,32 @@
 use Rattle.std.proofs.Common.{Bool, true, false, not, ◌≡◌, ◌∙◌, sym, ap, refl, Some}
-use Rattle.vc_valid.proofs.OneInstruction.{dead_after, same_division}
+use Rattle.vc_live.proofs.SizedLemmas.{refused_by}
+use Rattle.vc_valid.proofs.OneInstruction.{known_after, divides, same_division, four_of}
 use Rattle.vc_valid.proofs.instructions.keeps_division.Goals as goal
 
 turned : (b : Bool) → not b ≡ true → b ≡ false
 turned true is = sym is
 turned false is = refl
 
-pub returns-else-not-are_four : goal.returns-else-not-are_four
-returns-else-not-are_four c = λ yes q r a d is.
+never : (b : Bool) → (b ≡ true → ⊥) → not b ≡ true
+never true fails = absurd (fails refl)
+never false fails = refl
+
+pub returns-then-not-are_four : goal.returns-then-not-are_four
+returns-then-not-are_four c =
     let x = c.in-DivMod in
-    same_division c.args.code.now c.args.block c.args.index c.args.instr.now x.quotient x.remainder x.dividend x.divisor q r a d x.is is (record {
-      q_r = c.if-not-are_four.ensures.q_r refl;
-      q_a = c.if-not-are_four.ensures.q_a refl;
-      q_d = c.if-not-are_four.ensures.q_d refl;
-      r_a = c.if-not-are_four.ensures.r_a refl;
-      r_d = c.if-not-are_four.ensures.r_d refl;
-      a_d = c.if-not-are_four.ensures.a_d refl;
-      dead = dead_after c.args.code.now c.args.live.now c.args.block c.args.index x.quotient x.remainder x.dividend x.divisor c.requires.sized c.requires.live
-          (c.requires.at ∙ ap Some x.is) (sym c.at.ensures ∙ turned c.at.result yes);
-    })
+    refused_by c.if-not-are_four.ensures
+    (λ keeps. four_of c.args.code.now c.args.block c.args.index x.quotient x.remainder x.dividend x.divisor (keeps x.quotient x.remainder x.dividend x.divisor x.is))
+
+pub returns-else-not-are_four : goal.returns-else-not-are_four
+returns-else-not-are_four c =
+    let x = c.in-DivMod in
+    let code = c.args.code.now in
+    let b = c.args.block in
+    let k = c.args.index in
+    let at = c.requires.at ∙ ap Some x.is in (
+      λ yes. same_division code b k c.args.instr.now x.quotient x.remainder x.dividend x.divisor x.is
+          (divides code c.args.live.now b k c.requires.sized c.requires.live x.quotient x.remainder x.dividend x.divisor at (c.if-not-are_four.ensures.0 refl) (sym c.at.ensures ∙ turned c.at.result yes)),
+      λ keeps. never c.at.result (λ is.
+          (keeps x.quotient x.remainder x.dividend x.divisor x.is).dead
+          ((known_after code c.args.live.now b k c.requires.sized c.requires.live x.quotient x.remainder x.dividend x.divisor at).0 (sym c.at.ensures ∙ is))),
+    )

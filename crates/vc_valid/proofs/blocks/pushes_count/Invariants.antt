@@ -1,0 +1,12 @@
+use Rattle.std.proofs.Common.{◌+◌, ◌≤◌, ◌↔◌, length}
+use Rattle.pra_base.specs.Valid.{PushesLead, TakesArgs}
+use Rattle.vc_valid.proofs.blocks.pushes_count.Given as goal
+
+abbrev pub invariant-loop-rest : goal.invariant-loop-rest
+invariant-loop-rest l = record {
+  asks : PushesLead (TakesArgs l.counts) 0 l.code ↔ PushesLead (TakesArgs l.counts) l.pushes l.rest;
+  few : l.pushes + length l.rest ≤ length l.code;
+}
+
+abbrev pub decreases-loop-rest : goal.decreases-loop-rest
+decreases-loop-rest l = length l.rest
