@@ -37,7 +37,7 @@ fn search_from<F: Fn(Event, u32) -> u32>(
     search.begin(net, model, best, round);
     let before = search.paths.total;
     if round == 1 {
-        search.negotiate(net, model);
+        search.negotiate(net);
     }
     search.visits = 0;
     let most = VISITS.saturating_mul(search.paths.now.len() as u64);
@@ -46,7 +46,7 @@ fn search_from<F: Fn(Event, u32) -> u32>(
         if search.visits >= most || search.paths.total as u128 <= least {
             break;
         }
-        search.kick_once(net, model);
+        search.kick_once(net);
     }
     search.paths.total < before
 }
