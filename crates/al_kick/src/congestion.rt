@@ -6,31 +6,32 @@
 // grows as long as strands overlap there.
 
 use crate::lists::Numbers;
+use crate::rows::FAR;
 use net_form::Net;
 use std::alloc::{AllocError, Global};
 
 /// The registers of a layer: how many strands are in each, the sum of their numbers, and what was
-/// added for past overlaps.
+/// added for past overlaps, in scaled units.
 #[derive(Clone, Copy)]
 pub(crate) struct Cell {
-    pub count: [u64; 8],
-    pub strands: [usize; 8],
-    pub history: [u64; 8],
+    pub count: [u32; 8],
+    pub history: [u32; 8],
+    strands: [u32; 8],
     hot: bool,
 }
 
 /// A memory pair: how many of its ends are in memory, and what was added for past overlaps.
 #[derive(Clone, Copy)]
 pub(crate) struct PairCell {
-    pub count: u64,
-    pub history: u64,
+    pub count: u32,
+    pub history: u32,
     hot: bool,
 }
 
 const EMPTY: Cell = Cell {
     count: [0; 8],
-    strands: [0; 8],
     history: [0; 8],
+    strands: [0; 8],
     hot: false,
 };
 
@@ -45,7 +46,7 @@ const NO_PAIR: PairCell = PairCell {
 pub(crate) enum Met {
     Nobody,
     /// One strand.
-    One(usize),
+    One(u32),
     /// Several, which overlapped there before.
     Several,
 }
@@ -95,7 +96,7 @@ impl Cells {
     }
 
     /// A strand leaves a register.
-    pub fn leave(&mut self, layer: usize, register: usize, strand: usize) {
+    pub fn leave(&mut self, layer: usize, register: usize, strand: u32) {
         let Some(cell) = self.layers.get_mut(layer) else {
             return;
         };
@@ -108,7 +109,7 @@ impl Cells {
     }
 
     /// A strand comes to a register.
-    pub fn enter(&mut self, layer: usize, register: usize, strand: usize) -> Met {
+    pub fn enter(&mut self, layer: usize, register: usize, strand: u32) -> Met {
         let Some(cell) = self.layers.get_mut(layer) else {
             return Met::Nobody;
         };
@@ -153,7 +154,7 @@ impl Cells {
     }
 
     /// How many strands are in a register.
-    pub fn count(&self, layer: usize, register: usize) -> u64 {
+    pub fn count(&self, layer: usize, register: usize) -> u32 {
         match self.layers.get(layer) {
             Some(cell) => cell.count[register % 8],
             None => 0,
@@ -161,7 +162,7 @@ impl Cells {
     }
 
     /// How many ends of a pair are in memory.
-    pub fn pair_count(&self, pair: usize) -> u64 {
+    pub fn pair_count(&self, pair: usize) -> u32 {
         match self.pairs.get(pair) {
             Some(cell) => cell.count,
             None => 0,
@@ -169,12 +170,12 @@ impl Cells {
     }
 
     /// A register costs more from now on.
-    pub fn heat(&mut self, layer: usize, register: usize, more: u64) {
+    pub fn heat(&mut self, layer: usize, register: usize, more: u32) {
         let Some(cell) = self.layers.get_mut(layer) else {
             return;
         };
         let r = register % 8;
-        cell.history[r] = cell.history[r].wrapping_add(more);
+        cell.history[r] = cell.history[r].saturating_add(more).min(FAR);
         if !cell.hot {
             cell.hot = true;
             self.hot_layers.push(layer);
@@ -182,11 +183,11 @@ impl Cells {
     }
 
     /// Memory costs an end of a pair more from now on.
-    pub fn heat_pair(&mut self, pair: usize, more: u64) {
+    pub fn heat_pair(&mut self, pair: usize, more: u32) {
         let Some(cell) = self.pairs.get_mut(pair) else {
             return;
         };
-        cell.history = cell.history.wrapping_add(more);
+        cell.history = cell.history.saturating_add(more).min(FAR);
         if !cell.hot {
             cell.hot = true;
             self.hot_pairs.push(pair);

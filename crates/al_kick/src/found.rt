@@ -29,7 +29,7 @@ fn write_paths(paths: &mut [Seq<Place>], spans: &[Span], places: &[u8])
 {
     for strand in 0..paths.len() {
         let span = at(spans, strand, NO_SPAN);
-        write_path(&mut paths[strand], span.start, places);
+        write_path(&mut paths[strand], span.start(), places);
     }
 }
 

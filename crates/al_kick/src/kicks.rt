@@ -6,12 +6,10 @@
 // search goes on from a small random change of the best, and back where that brings nothing, is
 // iterated local search (Lourenço, Martin and Stützle, Handbook of Metaheuristics, 2003).
 
-ghost use Rattle.net_cost.specs.Models.{Keeps};
-
 use crate::negotiate::thousandths;
+use crate::reroute::Penalty;
 use crate::search::Search;
 use crate::spans::{Span, range};
-use net_cost::{CostModel, Event};
 use net_form::Net;
 
 // Passes over those that overlap, at most.
@@ -55,9 +53,7 @@ impl Search {
     }
 
     // Routes a piece as if nobody else were there.
-    fn kick_piece<F: Fn(Event, u32) -> u32>(&mut self, net: &Net, model: &CostModel<F>)
-        requires kept { Keeps F.Fn model.now }
-    {
+    fn kick_piece(&mut self, net: &Net) {
         let strand = self.draw_strand();
         let most = if self.draws.below(2) == 0 {
             0
@@ -65,16 +61,15 @@ impl Search {
             self.draws.below(8).saturating_add(1)
         };
         self.gather(net, strand, most);
-        let unit = self.rate(&self.span(strand)).unit;
-        let dearer = self.draw_units().saturating_mul(unit);
+        let dearer = thousandths(self.draw_units().saturating_mul(1000));
         for number in 0..self.piece.strands.count() {
             let strand = self.piece.strands.at(number);
             self.heat_path(strand, dearer);
         }
         self.release_piece(net);
-        self.route_piece(net, model, 0);
+        self.route_piece(net, Penalty::of(0));
         self.cells.cool();
-        self.take_piece(net, model);
+        self.take_piece(net);
         for number in 0..self.piece.strands.count() {
             let strand = self.piece.strands.at(number);
             self.log.still.add(strand);
@@ -87,7 +82,7 @@ impl Search {
         let (from, to) = range(net.index.strands.as_slice(), block);
         for strand in from..to {
             let span = self.span(strand);
-            if span.first >= to_layer {
+            if span.first() >= to_layer {
                 return;
             }
             if span.end() > from_layer {
@@ -99,11 +94,11 @@ impl Search {
     // The piece becomes some strands that cross a window around a layer of a strand.
     fn gather_window(&mut self, net: &Net, span: &Span) {
         let width = self.draws.below(15).saturating_add(4);
-        let layer = span.first.wrapping_add(self.draws.below(span.len));
+        let layer = span.first().wrapping_add(self.draws.below(span.len()));
         let from_layer = layer.saturating_sub(width / 2);
         self.list_window(
             net,
-            span.block,
+            span.block(),
             from_layer,
             from_layer.saturating_add(width),
         );
@@ -117,19 +112,17 @@ impl Search {
     }
 
     // Routes strands that cross a window one after the other, with a small penalty.
-    fn kick_window<F: Fn(Event, u32) -> u32>(&mut self, net: &Net, model: &CostModel<F>)
-        requires kept { Keeps F.Fn model.now }
-    {
+    fn kick_window(&mut self, net: &Net) {
         let strand = self.draw_strand();
         let span = self.span(strand);
         self.gather_window(net, &span);
         self.release_piece(net);
-        let present = thousandths(self.rate(&span).unit, IN_WINDOW);
+        let penalty = Penalty::of(thousandths(IN_WINDOW));
         for number in 0..self.piece.strands.count() {
             let strand = self.piece.strands.at(number);
             let ends = self.end_places(&self.span(strand));
-            self.route(net, model, strand, ends, present);
-            self.take(net, model, strand);
+            self.route(net, strand, ends, penalty);
+            self.take(net, strand);
         }
     }
 
@@ -144,23 +137,14 @@ impl Search {
     }
 
     // Makes room at the tie groups of a strand, and says whether it could.
-    fn make_room_at_ties<F: Fn(Event, u32) -> u32>(
-        &mut self,
-        net: &Net,
-        model: &CostModel<F>,
-        span: &Span,
-        still: bool,
-        present: u64,
-    ) -> bool
-        requires kept { Keeps F.Fn model.now }
-    {
+    fn make_room_at_ties(&mut self, net: &Net, span: &Span, still: bool, penalty: Penalty) -> bool {
         let mut done = false;
-        for group in [span.entry, span.exit] {
+        for group in [span.entry(), span.exit()] {
             if let Some(group) = group {
                 self.begin_piece();
                 self.add_group(net, group);
                 if !(still && self.piece_is_still()) {
-                    self.reroute_piece(net, model, present);
+                    self.reroute_piece(net, penalty);
                     done = true;
                 }
             }
@@ -169,16 +153,7 @@ impl Search {
     }
 
     // A strand that overlaps makes room.
-    fn make_room<F: Fn(Event, u32) -> u32>(
-        &mut self,
-        net: &Net,
-        model: &CostModel<F>,
-        strand: usize,
-        pass: u32,
-        penalty: u64,
-    )
-        requires kept { Keeps F.Fn model.now }
-    {
+    fn make_room(&mut self, net: &Net, strand: usize, pass: u32, penalty: Penalty) {
         let (anywhere, tied) = self.overlaps(net, strand);
         if !anywhere {
             return;
@@ -189,12 +164,11 @@ impl Search {
             return;
         }
         let span = self.span(strand);
-        let present = thousandths(self.rate(&span).unit, penalty);
         let with_ties = tied || pass % 4 == 3;
-        if with_ties && self.make_room_at_ties(net, model, &span, still, present) {
+        if with_ties && self.make_room_at_ties(net, &span, still, penalty) {
             return;
         }
-        self.reroute(net, model, strand, present);
+        self.reroute(net, strand, penalty);
     }
 
     // Those that overlap become the queue, in random order.
@@ -210,9 +184,7 @@ impl Search {
     }
 
     // Passes over those that overlap, until nobody does.
-    fn untangle<F: Fn(Event, u32) -> u32>(&mut self, net: &Net, model: &CostModel<F>)
-        requires kept { Keeps F.Fn model.now }
-    {
+    fn untangle(&mut self, net: &Net) {
         let mut penalty = PENALTY;
         for pass in 0..MOST_PASSES {
             if self.cells.overlaps == 0 {
@@ -221,49 +193,39 @@ impl Search {
             self.next_queue();
             for number in 0..self.log.queue.count() {
                 let strand = self.log.queue.at(number);
-                self.make_room(net, model, strand, pass, penalty);
+                self.make_room(net, strand, pass, Penalty::of(thousandths(penalty)));
             }
             for number in 0..self.log.next.count() {
                 let strand = self.log.next.at(number);
-                let unit = self.rate(&self.span(strand)).unit;
-                self.heat_overlaps(net, strand, thousandths(unit, HISTORY));
+                self.heat_overlaps(net, strand, thousandths(HISTORY));
             }
             penalty = penalty.saturating_mul(GROWTH) / 1000;
         }
     }
 
     /// Keeps what changed, or gives it back where strands overlap or all cost more than before.
-    pub(crate) fn end_kick<F: Fn(Event, u32) -> u32>(
-        &mut self,
-        net: &Net,
-        model: &CostModel<F>,
-        before: u64,
-    )
-        requires kept { Keeps F.Fn model.now }
-    {
+    pub(crate) fn end_kick(&mut self, net: &Net, before: u64) {
         if self.cells.overlaps == 0 && self.paths.total <= before {
             self.keep_changed();
         } else {
-            self.undo(net, model);
+            self.undo(net);
         }
     }
 
     /// One kick, and what comes of it.
-    pub(crate) fn kick_once<F: Fn(Event, u32) -> u32>(&mut self, net: &Net, model: &CostModel<F>)
-        requires kept { Keeps F.Fn model.now }
-    {
+    pub(crate) fn kick_once(&mut self, net: &Net) {
         let before = self.paths.total;
         self.begin_kick();
         if self.draws.below(2) == 0 {
-            self.kick_piece(net, model);
+            self.kick_piece(net);
         } else {
-            self.kick_window(net, model);
+            self.kick_window(net);
         }
-        self.untangle(net, model);
+        self.untangle(net);
         self.cells.cool();
         if self.cells.overlaps == 0 {
-            self.settle_around(net, model);
+            self.settle_around(net);
         }
-        self.end_kick(net, model, before);
+        self.end_kick(net, before);
     }
 }

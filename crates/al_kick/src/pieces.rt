@@ -1,13 +1,32 @@
 // Pieces: strands that are tied to each other, which go to another place together.
 
-ghost use Rattle.net_cost.specs.Models.{Keeps};
-
 use crate::lists::{at, put};
-use crate::rows::{FAR, Row, add, least_place};
+use crate::reroute::Penalty;
+use crate::rows::{FAR, MEMORY};
 use crate::search::Search;
 use crate::spans::{Span, range};
-use net_cost::{CostModel, Event};
 use net_form::Net;
+
+// What a piece pays by the places of its groups, in units.
+type Sums = [u64; 16];
+
+// The sum at a place where the piece cannot be.
+const CLOSED: u64 = 1 << 60;
+
+// The place of the least sum, the first of these from a place on.
+fn first_of_least(sums: &Sums, turn: usize) -> usize {
+    let mut best = MEMORY;
+    let mut least = u64::MAX;
+    for step in 0..14usize {
+        let place = turn.wrapping_add(step) % 14;
+        let sum = at(sums, place, CLOSED);
+        if sum < least {
+            least = sum;
+            best = place;
+        }
+    }
+    best
+}
 
 impl Search {
     /// No strand is in the piece.
@@ -58,8 +77,8 @@ impl Search {
                 return;
             }
             let span = self.span(self.piece.strands.at(number));
-            groups = self.add_if(net, span.entry, groups, most);
-            groups = self.add_if(net, span.exit, groups, most);
+            groups = self.add_if(net, span.entry(), groups, most);
+            groups = self.add_if(net, span.exit(), groups, most);
         }
     }
 
@@ -72,41 +91,52 @@ impl Search {
 
     // Whether the entry and the exit of a strand move with the piece.
     fn moves(&self, span: &Span) -> (bool, bool) {
-        (self.has_group(span.entry), self.has_group(span.exit))
+        (self.has_group(span.entry()), self.has_group(span.exit()))
+    }
+
+    // What is to be paid at a place of a layer, in units.
+    fn units(&self, span: &Span, layer: usize, place: usize) -> u64 {
+        let cost = at(&self.row(layer), place, FAR);
+        if cost < FAR {
+            u64::from(cost).saturating_mul(self.rate(span).times)
+        } else {
+            CLOSED
+        }
+    }
+
+    // Adds what is to be paid at each place of a layer, in units.
+    fn add_costs(&self, span: &Span, layer: usize, sums: &mut Sums) {
+        let times = self.rate(span).times;
+        let row = self.row(layer);
+        for p in 0..16usize {
+            let more = u64::from(row[p]).saturating_mul(times);
+            sums[p] = sums[p].saturating_add(if row[p] < FAR { more } else { CLOSED });
+        }
     }
 
     // Adds what a strand with one moving end pays, by the place of that end.
-    fn add_one_end<F: Fn(Event, u32) -> u32>(
-        &mut self,
-        net: &Net,
-        model: &CostModel<F>,
-        strand: usize,
-        present: u64,
-        sums: &mut Row,
-    )
-        requires kept { Keeps F.Fn model.now }
-    {
+    fn add_one_end(&mut self, net: &Net, strand: usize, penalty: Penalty, sums: &mut Sums) {
         let span = self.span(strand);
         let (first, last) = self.end_places(&span);
-        let last_layer = span.len.wrapping_sub(1);
+        let last_layer = span.len().wrapping_sub(1);
         let (entry, exit) = self.moves(&span);
         if entry && exit {
             self.close_sums(net, strand, sums);
         } else if entry {
-            self.fill_rows(net, model, strand, present);
+            self.fill_rows(net, strand, penalty);
             self.fix(last_layer, last);
             self.pay_back(&span);
-            add(sums, &self.row(0));
+            self.add_costs(&span, 0, sums);
         } else if exit {
-            self.fill_rows(net, model, strand, present);
+            self.fill_rows(net, strand, penalty);
             self.fix(0, first);
             self.pay_forth(&span);
-            add(sums, &self.row(last_layer));
+            self.add_costs(&span, last_layer, sums);
         }
     }
 
     // Closes the places at which a strand cannot have both its ends.
-    fn close_sums(&self, net: &Net, strand: usize, sums: &mut Row) {
+    fn close_sums(&self, net: &Net, strand: usize, sums: &mut Sums) {
         let Some(strand) = net.strands.get(strand) else {
             return;
         };
@@ -119,24 +149,21 @@ impl Search {
         };
         for p in 0..14usize {
             if ((*first & *last) >> p) & 1 == 0 {
-                sums[p] = FAR;
+                sums[p] = CLOSED;
             }
         }
     }
 
     // What the strands pay both of whose ends move, at a place; so much at least where it is no
     // less than the least so far.
-    fn both_ends<F: Fn(Event, u32) -> u32>(
+    fn both_ends(
         &mut self,
         net: &Net,
-        model: &CostModel<F>,
-        present: u64,
+        penalty: Penalty,
         place: usize,
         begun: u64,
         least: u64,
-    ) -> u64
-        requires kept { Keeps F.Fn model.now }
-    {
+    ) -> u64 {
         let mut sum = begun;
         for number in 0..self.piece.strands.count() {
             if sum >= least {
@@ -146,12 +173,11 @@ impl Search {
             let span = self.span(strand);
             let (entry, exit) = self.moves(&span);
             if entry && exit {
-                self.fill_rows(net, model, strand, present);
+                self.fill_rows(net, strand, penalty);
                 self.fix(0, Some(place));
-                self.fix(span.len.wrapping_sub(1), Some(place));
+                self.fix(span.len().wrapping_sub(1), Some(place));
                 self.pay_back(&span);
-                let row = self.row(0);
-                sum = sum.wrapping_add(at(&row, place, FAR));
+                sum = sum.saturating_add(self.units(&span, 0, place));
             }
         }
         sum
@@ -159,45 +185,29 @@ impl Search {
 
     // The place at which the piece pays least where its groups are all there, and what it pays, or
     // so much where it pays no less anywhere.
-    fn choose_place<F: Fn(Event, u32) -> u32>(
-        &mut self,
-        net: &Net,
-        model: &CostModel<F>,
-        present: u64,
-        most: u64,
-    ) -> (usize, u64)
-        requires kept { Keeps F.Fn model.now }
-    {
+    fn choose_place(&mut self, net: &Net, penalty: Penalty, most: u64) -> (usize, u64) {
         let mut sums = [0u64; 16];
         for number in 0..self.piece.strands.count() {
             let strand = self.piece.strands.at(number);
-            self.add_one_end(net, model, strand, present, &mut sums);
+            self.add_one_end(net, strand, penalty, &mut sums);
         }
         let turn = self.draws.below(14);
         let mut least = most;
         for step in 0..14usize {
             let place = turn.wrapping_add(step) % 14;
-            let begun = at(&sums, place, FAR);
+            let begun = at(&sums, place, CLOSED);
             let mut sum = begun;
-            if begun < FAR {
-                sum = self.both_ends(net, model, present, place, begun, least);
+            if begun < CLOSED {
+                sum = self.both_ends(net, penalty, place, begun, least);
             }
             put(&mut sums, place, sum);
             least = least.min(sum);
         }
-        (least_place(&sums, turn), least)
+        (first_of_least(&sums, turn), least)
     }
 
     // Gives the strands of the piece, which are in no cell, least paths with its groups at a place.
-    fn route_at<F: Fn(Event, u32) -> u32>(
-        &mut self,
-        net: &Net,
-        model: &CostModel<F>,
-        place: Option<usize>,
-        present: u64,
-    )
-        requires kept { Keeps F.Fn model.now }
-    {
+    fn route_at(&mut self, net: &Net, place: Option<usize>, penalty: Penalty) {
         for number in 0..self.piece.strands.count() {
             let strand = self.piece.strands.at(number);
             let span = self.span(strand);
@@ -207,22 +217,15 @@ impl Search {
                 if entry { place } else { first },
                 if exit { place } else { last },
             );
-            self.route(net, model, strand, ends, present);
+            self.route(net, strand, ends, penalty);
         }
     }
 
     /// Gives the strands of the piece, which are in no cell, least paths with its groups at one
     /// place.
-    pub(crate) fn route_piece<F: Fn(Event, u32) -> u32>(
-        &mut self,
-        net: &Net,
-        model: &CostModel<F>,
-        present: u64,
-    )
-        requires kept { Keeps F.Fn model.now }
-    {
-        let (place, _) = self.choose_place(net, model, present, u64::MAX);
-        self.route_at(net, model, Some(place), present);
+    pub(crate) fn route_piece(&mut self, net: &Net, penalty: Penalty) {
+        let (place, _) = self.choose_place(net, penalty, u64::MAX);
+        self.route_at(net, Some(place), penalty);
     }
 
     // What the strands of the piece pay.
@@ -236,19 +239,17 @@ impl Search {
 
     /// Gives the strands of the piece cheaper paths past all others, with its groups at one place,
     /// if there are some.
-    pub(crate) fn settle_piece<F: Fn(Event, u32) -> u32>(&mut self, net: &Net, model: &CostModel<F>)
-        requires kept { Keeps F.Fn model.now }
-    {
+    pub(crate) fn settle_piece(&mut self, net: &Net) {
         let worth = self.piece_worth();
         if worth == 0 {
             return;
         }
         self.release_piece(net);
-        let (place, least) = self.choose_place(net, model, FAR, worth);
+        let (place, least) = self.choose_place(net, Penalty::closed(), worth);
         if least < worth {
-            self.route_at(net, model, Some(place), FAR);
+            self.route_at(net, Some(place), Penalty::closed());
         }
-        self.take_piece(net, model);
+        self.take_piece(net);
     }
 
     /// The strands of the piece leave their cells.
@@ -260,26 +261,17 @@ impl Search {
     }
 
     /// The strands of the piece come to their cells.
-    pub(crate) fn take_piece<F: Fn(Event, u32) -> u32>(&mut self, net: &Net, model: &CostModel<F>)
-        requires kept { Keeps F.Fn model.now }
-    {
+    pub(crate) fn take_piece(&mut self, net: &Net) {
         for number in 0..self.piece.strands.count() {
             let strand = self.piece.strands.at(number);
-            self.take(net, model, strand);
+            self.take(net, strand);
         }
     }
 
     /// Takes the piece out, gives it least paths, and puts it back.
-    pub(crate) fn reroute_piece<F: Fn(Event, u32) -> u32>(
-        &mut self,
-        net: &Net,
-        model: &CostModel<F>,
-        present: u64,
-    )
-        requires kept { Keeps F.Fn model.now }
-    {
+    pub(crate) fn reroute_piece(&mut self, net: &Net, penalty: Penalty) {
         self.release_piece(net);
-        self.route_piece(net, model, present);
-        self.take_piece(net, model);
+        self.route_piece(net, penalty);
+        self.take_piece(net);
     }
 }

@@ -1,4 +1,8 @@
-// What moves and events cost in blocks of a loop depth, in units of 1/1024 of a weight.
+// What moves and events cost in blocks of a loop depth.
+//
+// Costs along a strand, whose layers are all in one block, are counted in scaled units: 1/1024 of a
+// weight in no loop, times as many as a load costs more in the block. So a move costs the same
+// number in each loop, penalties weigh as much there as anywhere, and the numbers are small.
 
 ghost use Rattle.std.specs.Prelude.{◌≤◌};
 ghost use Rattle.net_cost.specs.Models.{Keeps};
@@ -8,16 +12,19 @@ use net_cost::{CostModel, Event};
 use net_form::Net;
 
 /// Units of a weight of 1.
-const WHOLE: u64 = 1024;
+pub(crate) const WHOLE: u64 = 1024;
+
+// No event is taken for dearer than this, in scaled units.
+const DEAREST: u32 = 1 << 24;
 
 /// What it costs to go to another register alone, to another both place, to memory, and to a
 /// constant itself.
 #[derive(Clone, Copy)]
 pub(crate) struct Onward {
-    pub alone: u64,
-    pub both: u64,
-    pub memory: u64,
-    pub constant: u64,
+    pub alone: u32,
+    pub both: u32,
+    pub memory: u32,
+    pub constant: u32,
 }
 
 /// What ways through a crossbar cost, by where they begin; and from a register alone to its own
@@ -28,18 +35,18 @@ pub(crate) struct Ways {
     pub both: Onward,
     pub memory: Onward,
     pub constant: Onward,
-    pub up: u64,
-    pub down: u64,
+    pub up: u32,
+    pub down: u32,
 }
 
 /// What ways cost from place to place, and turned around; what it costs to make a constant in a
-/// register; and the unit of penalties, by how much weights grow with the depth.
+/// register; and how many units a scaled unit is.
 #[derive(Clone, Copy)]
 pub(crate) struct Rate {
     pub back: Ways,
     pub forth: Ways,
-    pub set: u64,
-    pub unit: u64,
+    pub set: u32,
+    pub times: u64,
 }
 
 const NOTHING: Onward = Onward {
@@ -49,7 +56,8 @@ const NOTHING: Onward = Onward {
     constant: 0,
 };
 
-const NO_WAYS: Ways = Ways {
+/// Ways that cost nothing.
+pub(crate) const NO_WAYS: Ways = Ways {
     alone: NOTHING,
     both: NOTHING,
     memory: NOTHING,
@@ -63,10 +71,10 @@ pub(crate) const NO_RATE: Rate = Rate {
     back: NO_WAYS,
     forth: NO_WAYS,
     set: 0,
-    unit: 0,
+    times: 1,
 };
 
-/// What an event costs in a block of this loop depth.
+/// What an event costs in a block of this loop depth, in units.
 pub(crate) fn price<F: Fn(Event, u32) -> u32>(model: &CostModel<F>, event: Event, depth: u32) -> u64
     requires kept { Keeps F.Fn model.now }
 {
@@ -76,8 +84,14 @@ pub(crate) fn price<F: Fn(Event, u32) -> u32>(model: &CostModel<F>, event: Event
     (model.ask(event, depth) as u64).wrapping_mul(WHOLE)
 }
 
+/// So many units in scaled units.
+pub(crate) fn scaled(units: u64, times: u64) -> u32 {
+    let count = units.checked_div(times).unwrap_or(0);
+    u32::try_from(count).unwrap_or(DEAREST).min(DEAREST)
+}
+
 // Ways whose moves between registers, loads, stores and constants cost so much.
-fn ways_back(between: u64, load: u64, store: u64, set: u64) -> Ways {
+fn ways_back(between: u32, load: u32, store: u32, set: u32) -> Ways {
     Ways {
         alone: Onward {
             alone: between,
@@ -141,37 +155,35 @@ fn turned(ways: &Ways) -> Ways {
 }
 
 // How many times more a load costs at a depth than in no loop.
-fn unit<F: Fn(Event, u32) -> u32>(model: &CostModel<F>, depth: u32) -> u64
+fn times_at<F: Fn(Event, u32) -> u32>(model: &CostModel<F>, depth: u32) -> u64
     requires kept { Keeps F.Fn model.now }
 {
     let least = price(model, Event::E1, 0);
     let here = price(model, Event::E1, depth);
-    match here.checked_div(least) {
-        Some(times) => times.wrapping_mul(WHOLE),
-        None => WHOLE,
-    }
+    here.checked_div(least).unwrap_or(1).max(1)
 }
 
 /// What is paid in blocks of a loop depth.
 pub(crate) fn rate_at<F: Fn(Event, u32) -> u32>(net: &Net, model: &CostModel<F>, depth: u32) -> Rate
     requires kept { Keeps F.Fn model.now }
 {
+    let times = times_at(model, depth);
     let (load, store) = if net.near {
         (Event::E1, Event::E2)
     } else {
         (Event::E3, Event::E4)
     };
-    let set = price(model, Event::E5, depth);
+    let set = scaled(price(model, Event::E5, depth), times);
     let back = ways_back(
-        price(model, Event::E0, depth),
-        price(model, load, depth),
-        price(model, store, depth),
+        scaled(price(model, Event::E0, depth), times),
+        scaled(price(model, load, depth), times),
+        scaled(price(model, store, depth), times),
         set,
     );
     Rate {
         back,
         forth: turned(&back),
         set,
-        unit: unit(model, depth),
+        times,
     }
 }

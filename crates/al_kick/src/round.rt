@@ -19,6 +19,12 @@ use std::marker::Model;
 // Visits of a round for each layer of each strand: each layer that a least path goes over is one.
 const VISITS: u64 = 50;
 
+// Visits of a round at most, so that a round of the largest procedures ends in seconds.
+const MOST_VISITS: u64 = 100_000_000;
+
+// Visits for each layer of each strand that routes from nothing may take.
+const VISITS_FROM_NOTHING: u64 = 100;
+
 // Units of a weight of 1.
 const WHOLE: u128 = 1024;
 
@@ -36,17 +42,18 @@ fn search_from<F: Fn(Event, u32) -> u32>(
 {
     search.begin(net, model, best, round);
     let before = search.paths.total;
-    if round == 1 {
-        search.negotiate(net, model);
+    let size = search.paths.now.len() as u64;
+    if round == 1 && VISITS_FROM_NOTHING.saturating_mul(size) <= MOST_VISITS {
+        search.negotiate(net);
     }
     search.visits = 0;
-    let most = VISITS.saturating_mul(search.paths.now.len() as u64);
+    let most = VISITS.saturating_mul(size).min(MOST_VISITS);
     let least = bound.saturating_mul(WHOLE);
     for _ in 0..most {
         if search.visits >= most || search.paths.total as u128 <= least {
             break;
         }
-        search.kick_once(net, model);
+        search.kick_once(net);
     }
     search.paths.total < before
 }

@@ -7,11 +7,11 @@
 use crate::lists::at;
 use crate::rates::{Onward, Ways};
 
-/// What is paid at a place that is closed: more than any path pays.
-pub(crate) const FAR: u64 = 1 << 46;
+/// What is paid at a place that is closed. No path pays more: sums end here.
+pub(crate) const FAR: u32 = 1 << 30;
 
 /// Costs by the numbers of places. The last two are of no place.
-pub(crate) type Row = [u64; 16];
+pub(crate) type Row = [u32; 16];
 
 /// The number of memory.
 pub(crate) const MEMORY: usize = 6;
@@ -25,15 +25,24 @@ pub(crate) fn has_register(place: usize) -> bool {
 }
 
 // The least of the six costs from a place on.
-fn least_of_six(row: &Row, first: usize) -> u64 {
-    let mut least = u64::MAX;
+fn least_of_six(row: &Row, first: usize) -> u32 {
+    let mut least = u32::MAX;
     for register in 0..6usize {
-        least = least.min(at(row, first.wrapping_add(register), u64::MAX));
+        least = least.min(at(row, first.wrapping_add(register), u32::MAX));
     }
     least
 }
 
-fn onward(by: &Onward, alone: u64, both: u64, memory: u64, constant: u64) -> u64 {
+// The least of all costs.
+fn least_of_all(row: &Row) -> u32 {
+    let mut least = u32::MAX;
+    for p in 0..16usize {
+        least = least.min(row[p]);
+    }
+    least
+}
+
+fn onward(by: &Onward, alone: u32, both: u32, memory: u32, constant: u32) -> u32 {
     let registers = by.alone.wrapping_add(alone).min(by.both.wrapping_add(both));
     let others = by
         .memory
@@ -50,8 +59,8 @@ pub(crate) fn across(ways: &Ways, row: &Row) -> Row {
     let constant = row[CONSTANT];
     let from_alone = onward(&ways.alone, alone, both, memory, constant);
     let from_both = onward(&ways.both, alone, both, memory, constant);
-    let mut before = *row;
-    for r in 0..6usize {
+    let mut before = [FAR; 16];
+    for r in 0..8usize {
         let stays = row[r].min(row[8 + r].wrapping_add(ways.up));
         before[r] = from_alone.min(stays);
         let leaves = row[8 + r].min(row[r].wrapping_add(ways.down));
@@ -76,7 +85,7 @@ fn ways_from(ways: &Ways, place: usize) -> Onward {
 }
 
 /// What a way costs from a place to another.
-pub(crate) fn way(ways: &Ways, from: usize, to: usize) -> u64 {
+pub(crate) fn way(ways: &Ways, from: usize, to: usize) -> u32 {
     if from == to {
         return 0;
     }
@@ -97,26 +106,36 @@ pub(crate) fn way(ways: &Ways, from: usize, to: usize) -> u64 {
 
 /// Adds costs, place by place.
 pub(crate) fn add(here: &mut Row, more: &Row) {
-    for p in 0..14usize {
-        here[p] = here[p].wrapping_add(more[p]);
+    for p in 0..16usize {
+        here[p] = here[p].wrapping_add(more[p]).min(FAR);
     }
 }
 
 /// Closes all places but one.
 pub(crate) fn close_others(row: &mut Row, place: usize) {
-    for p in 0..14usize {
+    for p in 0..16usize {
         if p != place {
             row[p] = FAR;
         }
     }
 }
 
+// A place that is so many steps behind another one, where the first follows the last.
+fn turned(turn: usize, step: usize) -> usize {
+    let place = turn.wrapping_add(step);
+    if place < 14 {
+        place
+    } else {
+        place.wrapping_sub(14)
+    }
+}
+
 /// The place of the least cost, the first of these from a place on.
 pub(crate) fn least_place(row: &Row, turn: usize) -> usize {
     let mut best = MEMORY;
-    let mut least = u64::MAX;
+    let mut least = u32::MAX;
     for step in 0..14usize {
-        let place = turn.wrapping_add(step) % 14;
+        let place = turned(turn, step);
         let cost = at(row, place, FAR);
         if cost < least {
             least = cost;
@@ -130,8 +149,11 @@ pub(crate) fn least_place(row: &Row, turn: usize) -> usize {
 pub(crate) fn next_place(ways: &Ways, row: &Row, from: usize, turn: usize) -> usize {
     let mut best = from;
     let mut least = at(row, from, FAR);
+    if least <= least_of_all(row) {
+        return from;
+    }
     for step in 0..14usize {
-        let place = turn.wrapping_add(step) % 14;
+        let place = turned(turn, step);
         let cost = at(row, place, FAR);
         if cost < least {
             let whole = cost.wrapping_add(way(ways, from, place));

@@ -5,11 +5,11 @@ ghost use Rattle.net_cost.specs.Models.{Keeps};
 use crate::congestion::Cells;
 use crate::draws::Draws;
 use crate::lists::{Marks, Numbers, at, put};
-use crate::rates::{NO_RATE, Rate, rate_at};
+use crate::rates::{NO_RATE, Rate, price, rate_at, scaled};
 use crate::rows::Row;
 use crate::spans::{NO_SPAN, Span, sizes, spans_of};
 use net_cost::{CostModel, Event};
-use net_form::{Net, Routes};
+use net_form::{Extra, Net, Routes};
 use pra_base::OutOfMemory;
 use std::alloc::{AllocError, Global};
 
@@ -46,11 +46,30 @@ pub(crate) struct Log {
     pub groups: Marks,
 }
 
+/// What a place costs more at a layer of a strand, in units and in scaled ones; layers from the
+/// strand's first on.
+#[derive(Clone, Copy)]
+pub(crate) struct ExtraCost {
+    pub layer: u32,
+    pub place: u8,
+    pub units: u64,
+    pub scaled: u32,
+}
+
+/// Nothing more.
+pub(crate) const NO_EXTRA: ExtraCost = ExtraCost {
+    layer: 0,
+    place: 0,
+    units: 0,
+    scaled: 0,
+};
+
 /// Room for a search on one network.
 #[derive(Drop)]
 pub struct Search {
     pub(crate) spans: Vec<Span>,
     pub(crate) rates: Vec<Rate>,
+    pub(crate) extras: Vec<ExtraCost>,
     pub(crate) rows: Vec<Row>,
     pub(crate) paths: Paths,
     pub(crate) cells: Cells,
@@ -105,6 +124,7 @@ impl Search {
         Ok(Search {
             spans,
             rates: vec![in alloc; NO_RATE; 6]?,
+            extras: vec![in alloc; NO_EXTRA; net.extras.len()]?,
             rows: vec![in alloc; [0; 16]; longest]?,
             paths: paths_of(alloc, total, strands)?,
             cells: Cells::reserve(alloc, net)?,
@@ -120,7 +140,7 @@ impl Search {
     }
 
     pub(crate) fn rate(&self, span: &Span) -> Rate {
-        at(&self.rates, span.depth, NO_RATE)
+        at(&self.rates, span.depth() as usize, NO_RATE)
     }
 
     pub(crate) fn worth(&self, strand: usize) -> u64 {
@@ -129,16 +149,16 @@ impl Search {
 
     /// Where a strand is now, by the number of its layer from its first on.
     pub(crate) fn place(&self, span: &Span, layer: usize) -> usize {
-        at(&self.paths.now, span.start.wrapping_add(layer), 6) as usize
+        at(&self.paths.now, span.start().wrapping_add(layer), 6) as usize
     }
 
     /// Where a strand is tied at its entry and at its exit, if it is.
     pub(crate) fn end_places(&self, span: &Span) -> (Option<usize>, Option<usize>) {
-        let first = at(&self.paths.now, span.start, 6) as usize;
+        let first = at(&self.paths.now, span.start(), 6) as usize;
         let last = at(&self.paths.now, span.last(), 6) as usize;
         (
-            span.entry.is_some().then_some(first),
-            span.exit.is_some().then_some(last),
+            span.entry().is_some().then_some(first),
+            span.exit().is_some().then_some(last),
         )
     }
 
@@ -151,6 +171,32 @@ impl Search {
         }
     }
 
+    // What an extra costs.
+    fn extra_cost<F: Fn(Event, u32) -> u32>(&self, model: &CostModel<F>, extra: &Extra) -> ExtraCost
+        requires kept { Keeps F.Fn model.now }
+    {
+        let span = self.span(extra.strand as usize);
+        let units = price(model, extra.event, span.depth());
+        ExtraCost {
+            layer: extra.layer.wrapping_sub(span.first),
+            place: extra.place.number(),
+            units,
+            scaled: scaled(units, self.rate(&span).times),
+        }
+    }
+
+    // What all extras cost.
+    fn learn_extras<F: Fn(Event, u32) -> u32>(&mut self, net: &Net, model: &CostModel<F>)
+        requires kept { Keeps F.Fn model.now }
+    {
+        for number in 0..net.extras.len() {
+            if let Some(extra) = net.extras.get(number) {
+                let cost = self.extra_cost(model, extra);
+                put(&mut self.extras, number, cost);
+            }
+        }
+    }
+
     // The paths of routes.
     fn read_routes(&mut self, routes: &Routes) {
         for strand in 0..self.spans.len() {
@@ -158,9 +204,9 @@ impl Search {
             let Some(path) = routes.places.get(strand) else {
                 return;
             };
-            for layer in 0..span.len {
+            for layer in 0..span.len() {
                 if let Some(place) = path.get(layer) {
-                    let to = span.start.wrapping_add(layer);
+                    let to = span.start().wrapping_add(layer);
                     put(&mut self.paths.now, to, place.number());
                     put(&mut self.paths.kept, to, place.number());
                 }
@@ -181,12 +227,13 @@ impl Search {
         self.draws = Draws::of_seed(round as u64);
         self.visits = 0;
         self.learn_rates(net, model);
+        self.learn_extras(net, model);
         self.cells.clear();
         self.paths.total = 0;
         self.read_routes(routes);
         self.begin_kick();
         for strand in 0..self.spans.len() {
-            self.take(net, model, strand);
+            self.take(net, strand);
         }
     }
 
@@ -203,8 +250,8 @@ impl Search {
     pub(crate) fn keep_changed(&mut self) {
         for number in 0..self.log.changed.count() {
             let span = self.span(self.log.changed.at(number));
-            for layer in 0..span.len {
-                let from = span.start.wrapping_add(layer);
+            for layer in 0..span.len() {
+                let from = span.start().wrapping_add(layer);
                 let place = at(&self.paths.now, from, 6);
                 put(&mut self.paths.kept, from, place);
             }
@@ -212,19 +259,17 @@ impl Search {
     }
 
     /// Gives the changed strands back the paths that were kept.
-    pub(crate) fn undo<F: Fn(Event, u32) -> u32>(&mut self, net: &Net, model: &CostModel<F>)
-        requires kept { Keeps F.Fn model.now }
-    {
+    pub(crate) fn undo(&mut self, net: &Net) {
         for number in 0..self.log.changed.count() {
             let strand = self.log.changed.at(number);
             let span = self.span(strand);
             self.release(net, strand);
-            for layer in 0..span.len {
-                let from = span.start.wrapping_add(layer);
+            for layer in 0..span.len() {
+                let from = span.start().wrapping_add(layer);
                 let place = at(&self.paths.kept, from, 6);
                 put(&mut self.paths.now, from, place);
             }
-            self.take(net, model, strand);
+            self.take(net, strand);
         }
     }
 }

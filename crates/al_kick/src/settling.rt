@@ -3,13 +3,11 @@
 //
 // Nothing is promised of it: routes that are chosen at last are settled as a whole.
 
-ghost use Rattle.net_cost.specs.Models.{Keeps};
-
 use crate::lists::at;
-use crate::rows::{CONSTANT, FAR, MEMORY};
+use crate::reroute::Penalty;
+use crate::rows::{CONSTANT, MEMORY};
 use crate::search::Search;
 use crate::spans::{Span, range};
-use net_cost::{CostModel, Event};
 use net_form::Net;
 
 // A variable of more layers than this is not settled after a kick.
@@ -21,21 +19,21 @@ const MOST_PASSES: u32 = 20;
 impl Search {
     // Whether the cell of a place that a strand had at a layer is free now.
     fn is_freed(&self, span: &Span, layer: usize) -> bool {
-        let from = span.start.wrapping_add(layer);
+        let from = span.start().wrapping_add(layer);
         let old = at(&self.paths.kept, from, 6) as usize;
         if old == self.place(span, layer) || old == CONSTANT {
             return false;
         }
-        old == MEMORY || self.cells.count(span.layer.wrapping_add(layer), old) == 0
+        old == MEMORY || self.cells.count(span.layer().wrapping_add(layer), old) == 0
     }
 
     // From which layer of its block on to which one a strand freed cells.
     fn freed(&self, span: &Span) -> (usize, usize) {
         let mut from = usize::MAX;
         let mut to = 0usize;
-        for layer in 0..span.len {
+        for layer in 0..span.len() {
             if self.is_freed(span, layer) {
-                let here = span.first.wrapping_add(layer);
+                let here = span.first().wrapping_add(layer);
                 from = from.min(here);
                 to = here.wrapping_add(1);
             }
@@ -58,7 +56,7 @@ impl Search {
         let (from, to) = range(net.index.strands.as_slice(), block);
         for strand in from..to {
             let span = self.span(strand);
-            if span.first >= between.1 {
+            if span.first() >= between.1 {
                 return;
             }
             if span.end() > between.0 {
@@ -68,46 +66,34 @@ impl Search {
     }
 
     // Settles each strand of the list alone.
-    fn settle_strands<F: Fn(Event, u32) -> u32>(&mut self, net: &Net, model: &CostModel<F>)
-        requires kept { Keeps F.Fn model.now }
-    {
+    fn settle_strands(&mut self, net: &Net) {
         for number in 0..self.log.list.count() {
             let strand = self.log.list.at(number);
             if self.worth(strand) > 0 {
-                self.reroute(net, model, strand, FAR);
+                self.reroute(net, strand, Penalty::closed());
             }
         }
     }
 
     // Settles a tie group of a strand that pays.
-    fn settle_group<F: Fn(Event, u32) -> u32>(
-        &mut self,
-        net: &Net,
-        model: &CostModel<F>,
-        strand: usize,
-        group: Option<usize>,
-    )
-        requires kept { Keeps F.Fn model.now }
-    {
+    fn settle_group(&mut self, net: &Net, strand: usize, group: Option<usize>) {
         if self.worth(strand) == 0 {
             return;
         }
         if let Some(group) = group {
             self.begin_piece();
             self.add_group(net, group);
-            self.settle_piece(net, model);
+            self.settle_piece(net);
         }
     }
 
     // Settles the tie groups of the strands of the list.
-    fn settle_groups<F: Fn(Event, u32) -> u32>(&mut self, net: &Net, model: &CostModel<F>)
-        requires kept { Keeps F.Fn model.now }
-    {
+    fn settle_groups(&mut self, net: &Net) {
         for number in 0..self.log.list.count() {
             let strand = self.log.list.at(number);
             let span = self.span(strand);
-            self.settle_group(net, model, strand, span.entry);
-            self.settle_group(net, model, strand, span.exit);
+            self.settle_group(net, strand, span.entry());
+            self.settle_group(net, strand, span.exit());
         }
     }
 
@@ -115,41 +101,28 @@ impl Search {
     fn piece_size(&self) -> usize {
         let mut size = 0usize;
         for number in 0..self.piece.strands.count() {
-            size = size.saturating_add(self.span(self.piece.strands.at(number)).len);
+            size = size.saturating_add(self.span(self.piece.strands.at(number)).len());
         }
         size
     }
 
     // Settles the variables of the strands of the list, if they have no more layers than this.
-    fn settle_variables<F: Fn(Event, u32) -> u32>(
-        &mut self,
-        net: &Net,
-        model: &CostModel<F>,
-        most: usize,
-    )
-        requires kept { Keeps F.Fn model.now }
-    {
+    fn settle_variables(&mut self, net: &Net, most: usize) {
         for number in 0..self.log.list.count() {
             let strand = self.log.list.at(number);
             let span = self.span(strand);
-            let is_tied = span.entry.is_some() || span.exit.is_some();
+            let is_tied = span.entry().is_some() || span.exit().is_some();
             if is_tied && self.worth(strand) > 0 {
                 self.gather(net, strand, usize::MAX);
                 if self.piece_size() <= most {
-                    self.settle_piece(net, model);
+                    self.settle_piece(net);
                 }
             }
         }
     }
 
     /// Settles around the changed strands.
-    pub(crate) fn settle_around<F: Fn(Event, u32) -> u32>(
-        &mut self,
-        net: &Net,
-        model: &CostModel<F>,
-    )
-        requires kept { Keeps F.Fn model.now }
-    {
+    pub(crate) fn settle_around(&mut self, net: &Net) {
         self.log.list.clear();
         self.log.is_listed.clear();
         for number in 0..self.log.changed.count() {
@@ -157,17 +130,15 @@ impl Search {
             let span = self.span(strand);
             self.list_paying(strand);
             let between = self.freed(&span);
-            self.list_between(net, span.block, between);
+            self.list_between(net, span.block(), between);
         }
-        self.settle_strands(net, model);
-        self.settle_groups(net, model);
-        self.settle_variables(net, model, SMALL);
+        self.settle_strands(net);
+        self.settle_groups(net);
+        self.settle_variables(net, SMALL);
     }
 
     /// Settles all strands, until that brings nothing more.
-    pub(crate) fn settle_all<F: Fn(Event, u32) -> u32>(&mut self, net: &Net, model: &CostModel<F>)
-        requires kept { Keeps F.Fn model.now }
-    {
+    pub(crate) fn settle_all(&mut self, net: &Net) {
         for _ in 0..MOST_PASSES {
             let before = self.paths.total;
             self.log.list.clear();
@@ -175,9 +146,9 @@ impl Search {
             for strand in 0..self.spans.len() {
                 self.list_paying(strand);
             }
-            self.settle_strands(net, model);
-            self.settle_groups(net, model);
-            self.settle_variables(net, model, usize::MAX);
+            self.settle_strands(net);
+            self.settle_groups(net);
+            self.settle_variables(net, usize::MAX);
             if self.paths.total == before {
                 return;
             }

@@ -4,30 +4,72 @@ use crate::lists::at;
 use net_form::{Net, Strand};
 use std::alloc::{AllocError, Global};
 
-/// A strand: its number of layers, the first one, in its block and over all blocks, and where its
-/// places begin among those of all strands.
+// The number of no tie group.
+const NO_GROUP: u32 = u32::MAX;
+
+/// A strand: its number of layers, the first one, in its block and over all blocks, where its
+/// places begin among those of all strands, its block and the tie groups at its ends.
 #[derive(Clone, Copy)]
 pub(crate) struct Span {
-    pub start: usize,
-    pub len: usize,
-    pub first: usize,
-    pub layer: usize,
-    pub block: usize,
-    pub depth: usize,
-    pub entry: Option<usize>,
-    pub exit: Option<usize>,
+    start: u32,
+    len: u32,
+    pub first: u32,
+    layer: u32,
+    block: u32,
+    depth: u32,
+    entry: u32,
+    exit: u32,
     pub constant: bool,
 }
 
 impl Span {
-    /// The place behind its last layer in the block.
+    /// Where its first place lies among those of all strands.
+    pub fn start(&self) -> usize {
+        self.start as usize
+    }
+
+    /// How many layers it has.
+    pub fn len(&self) -> usize {
+        self.len as usize
+    }
+
+    /// Its first layer in the block.
+    pub fn first(&self) -> usize {
+        self.first as usize
+    }
+
+    /// Its first layer, counted over all blocks.
+    pub fn layer(&self) -> usize {
+        self.layer as usize
+    }
+
+    pub fn block(&self) -> usize {
+        self.block as usize
+    }
+
+    /// The loop depth of its block.
+    pub fn depth(&self) -> u32 {
+        self.depth
+    }
+
+    /// The tie group at its entry.
+    pub fn entry(&self) -> Option<usize> {
+        group_of(self.entry)
+    }
+
+    /// The tie group at its exit.
+    pub fn exit(&self) -> Option<usize> {
+        group_of(self.exit)
+    }
+
+    /// The layer behind its last one in the block.
     pub fn end(&self) -> usize {
-        self.first.wrapping_add(self.len)
+        self.first().wrapping_add(self.len())
     }
 
     /// Where its last place lies among those of all strands.
     pub fn last(&self) -> usize {
-        self.start.wrapping_add(self.len).wrapping_sub(1)
+        self.start().wrapping_add(self.len()).wrapping_sub(1)
     }
 }
 
@@ -39,34 +81,31 @@ pub(crate) const NO_SPAN: Span = Span {
     layer: 0,
     block: 0,
     depth: 0,
-    entry: None,
-    exit: None,
+    entry: NO_GROUP,
+    exit: NO_GROUP,
     constant: false,
 };
 
-fn group(number: Option<u32>) -> Option<usize> {
-    match number {
-        Some(group) => Some(group as usize),
-        None => None,
-    }
+fn group_of(number: u32) -> Option<usize> {
+    (number != NO_GROUP).then_some(number as usize)
 }
 
-fn span_of(net: &Net, strand: &Strand, start: usize) -> Span {
-    let block = strand.block.0 as usize;
-    let entry_layer = at(net.index.layers.as_slice(), block, 0) as usize;
-    let depth = match net.blocks.get(block) {
-        Some(block) => block.depth as usize,
+fn span_of(net: &Net, strand: &Strand, start: u32) -> Span {
+    let block = strand.block.0;
+    let entry_layer = at(net.index.layers.as_slice(), block as usize, 0);
+    let depth = match net.blocks.get(block as usize) {
+        Some(block) => block.depth,
         None => 0,
     };
     Span {
         start,
-        len: strand.masks.len(),
-        first: strand.first as usize,
-        layer: entry_layer.wrapping_add(strand.first as usize),
+        len: u32::try_from(strand.masks.len()).unwrap_or(0),
+        first: strand.first,
+        layer: entry_layer.wrapping_add(strand.first),
         block,
         depth,
-        entry: group(strand.entry_group),
-        exit: group(strand.exit_group),
+        entry: strand.entry_group.unwrap_or(NO_GROUP),
+        exit: strand.exit_group.unwrap_or(NO_GROUP),
         constant: strand.constant,
     }
 }
@@ -74,7 +113,7 @@ fn span_of(net: &Net, strand: &Strand, start: usize) -> Span {
 /// The spans of all strands.
 pub(crate) fn spans_of(alloc: Global, net: &Net) -> Result<Vec<Span>, AllocError> {
     let mut spans = Vec::with_capacity(alloc, net.strands.len())?;
-    let mut start = 0usize;
+    let mut start = 0u32;
     for strand in net.strands.as_slice() {
         let span = span_of(net, strand, start);
         start = start.wrapping_add(span.len);
@@ -88,8 +127,8 @@ pub(crate) fn sizes(spans: &[Span]) -> (usize, usize) {
     let mut total = 0usize;
     let mut longest = 0usize;
     for span in spans {
-        total = total.wrapping_add(span.len);
-        longest = longest.max(span.len);
+        total = total.wrapping_add(span.len());
+        longest = longest.max(span.len());
     }
     (total, longest)
 }

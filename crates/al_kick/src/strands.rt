@@ -1,20 +1,22 @@
 // One strand leaves its cells and comes to others, and what its path costs.
 
-ghost use Rattle.net_cost.specs.Models.{Keeps};
-
 use crate::congestion::Met;
-use crate::lists::put;
-use crate::rates::price;
+use crate::lists::{at, put};
+use crate::rates::Rate;
 use crate::rows::{MEMORY, has_register, way};
-use crate::search::Search;
+use crate::search::{NO_EXTRA, Search};
 use crate::spans::{Span, range};
-use net_cost::{CostModel, Event};
 use net_form::{MemPair, Net, PairEnd};
 
 // Whether a strand is in memory at an end of a pair.
 fn is_in_memory(search: &Search, span: &Span, end: PairEnd) -> bool {
-    let layer = (end.layer as usize).wrapping_sub(span.first);
+    let layer = (end.layer as usize).wrapping_sub(span.first());
     search.place(span, layer) == MEMORY
+}
+
+// The number of a strand as cells sum them up.
+fn short(strand: usize) -> u32 {
+    u32::try_from(strand).unwrap_or(0)
 }
 
 /// The end of a memory pair of this number.
@@ -36,11 +38,12 @@ impl Search {
             self.log.changed.push(strand);
         }
         let span = self.span(strand);
-        for layer in 0..span.len {
+        let number = short(strand);
+        for layer in 0..span.len() {
             let place = self.place(&span, layer);
             if has_register(place) {
                 self.cells
-                    .leave(span.layer.wrapping_add(layer), place, strand);
+                    .leave(span.layer().wrapping_add(layer), place, number);
             }
         }
         let (from, to) = range(net.index.pairs.as_slice(), strand);
@@ -56,19 +59,20 @@ impl Search {
 
     // A strand comes to the registers of its path, and says whether it meets others there.
     fn enter_registers(&mut self, strand: usize, span: &Span) -> bool {
+        let number = short(strand);
         let mut meets = false;
-        for layer in 0..span.len {
+        for layer in 0..span.len() {
             let place = self.place(span, layer);
             if !has_register(place) {
                 continue;
             }
             match self
                 .cells
-                .enter(span.layer.wrapping_add(layer), place, strand)
+                .enter(span.layer().wrapping_add(layer), place, number)
             {
                 Met::Nobody => {}
                 Met::One(other) => {
-                    self.note_overlap(other);
+                    self.note_overlap(other as usize);
                     meets = true;
                 }
                 Met::Several => meets = true,
@@ -98,14 +102,7 @@ impl Search {
     }
 
     /// A strand comes to the cells of its path. Who overlaps then is noted.
-    pub(crate) fn take<F: Fn(Event, u32) -> u32>(
-        &mut self,
-        net: &Net,
-        model: &CostModel<F>,
-        strand: usize,
-    )
-        requires kept { Keeps F.Fn model.now }
-    {
+    pub(crate) fn take(&mut self, net: &Net, strand: usize) {
         let span = self.span(strand);
         if self.enter_registers(strand, &span) {
             self.note_overlap(strand);
@@ -113,51 +110,27 @@ impl Search {
         self.enter_pairs(net, strand, &span);
         let worth = self
             .path_cost(&span)
-            .wrapping_add(self.extras_cost(net, model, strand, &span));
+            .wrapping_add(self.extras_cost(net, strand, &span));
         put(&mut self.paths.worth, strand, worth);
         self.paths.total = self.paths.total.wrapping_add(worth);
     }
 
-    // What the ways of a path cost.
+    // What the ways of a path cost, in units.
     fn path_cost(&self, span: &Span) -> u64 {
-        let rate = self.rate(span);
-        let mut from = self.place(span, 0);
-        let mut cost = 0u64;
-        if span.constant && has_register(from) {
-            cost = rate.set;
-        }
-        for layer in 1..span.len {
-            let to = self.place(span, layer);
-            if to != from {
-                cost = cost.wrapping_add(way(&rate.back, from, to));
-            }
-            from = to;
-        }
-        cost
+        let Some(rate) = self.rates.get(span.depth() as usize) else {
+            return 0;
+        };
+        ways_cost(self, rate, span).wrapping_mul(rate.times)
     }
 
-    // What the extras of a path cost.
-    fn extras_cost<F: Fn(Event, u32) -> u32>(
-        &self,
-        net: &Net,
-        model: &CostModel<F>,
-        strand: usize,
-        span: &Span,
-    ) -> u64
-        requires kept { Keeps F.Fn model.now }
-    {
+    // What the extras of a path cost, in units.
+    fn extras_cost(&self, net: &Net, strand: usize, span: &Span) -> u64 {
         let mut cost = 0u64;
-        let depth = match net.blocks.get(span.block) {
-            Some(block) => block.depth,
-            None => 0,
-        };
         let (from, to) = range(net.index.extras.as_slice(), strand);
         for number in from..to {
-            if let Some(extra) = net.extras.get(number) {
-                let layer = (extra.layer as usize).wrapping_sub(span.first);
-                if self.place(span, layer) == extra.place.number() as usize {
-                    cost = cost.wrapping_add(price(model, extra.event, depth));
-                }
+            let extra = at(&self.extras, number, NO_EXTRA);
+            if self.place(span, extra.layer as usize) == extra.place as usize {
+                cost = cost.wrapping_add(extra.units);
             }
         }
         cost
@@ -168,9 +141,9 @@ impl Search {
         let span = self.span(strand);
         let mut anywhere = false;
         let mut tied = false;
-        for layer in 0..span.len {
+        for layer in 0..span.len() {
             let place = self.place(&span, layer);
-            let cell = span.layer.wrapping_add(layer);
+            let cell = span.layer().wrapping_add(layer);
             if has_register(place) && self.cells.count(cell, place) > 1 {
                 anywhere = true;
                 tied = tied || is_tied_at(&span, layer);
@@ -181,8 +154,9 @@ impl Search {
             if let Some(end) = pair_end(net, number) {
                 let both = self.cells.pair_count(end.pair as usize) > 1;
                 if both && is_in_memory(self, &span, end) {
+                    let layer = (end.layer as usize).wrapping_sub(span.first());
                     anywhere = true;
-                    tied = tied || is_tied_at(&span, (end.layer as usize).wrapping_sub(span.first));
+                    tied = tied || is_tied_at(&span, layer);
                 }
             }
         }
@@ -190,22 +164,23 @@ impl Search {
     }
 
     /// The cells of a path cost more from now on.
-    pub(crate) fn heat_path(&mut self, strand: usize, more: u64) {
+    pub(crate) fn heat_path(&mut self, strand: usize, more: u32) {
         let span = self.span(strand);
-        for layer in 0..span.len {
+        for layer in 0..span.len() {
             let place = self.place(&span, layer);
             if has_register(place) {
-                self.cells.heat(span.layer.wrapping_add(layer), place, more);
+                self.cells
+                    .heat(span.layer().wrapping_add(layer), place, more);
             }
         }
     }
 
     /// Those cells of a path at which it overlaps with others cost more from now on.
-    pub(crate) fn heat_overlaps(&mut self, net: &Net, strand: usize, more: u64) {
+    pub(crate) fn heat_overlaps(&mut self, net: &Net, strand: usize, more: u32) {
         let span = self.span(strand);
-        for layer in 0..span.len {
+        for layer in 0..span.len() {
             let place = self.place(&span, layer);
-            let cell = span.layer.wrapping_add(layer);
+            let cell = span.layer().wrapping_add(layer);
             if has_register(place) && self.cells.count(cell, place) > 1 {
                 self.cells.heat(cell, place, more);
             }
@@ -222,8 +197,25 @@ impl Search {
     }
 }
 
+// What the ways of a path cost, in scaled units.
+fn ways_cost(search: &Search, rate: &Rate, span: &Span) -> u64 {
+    let mut from = search.place(span, 0);
+    let mut cost = 0u64;
+    if span.constant && has_register(from) {
+        cost = u64::from(rate.set);
+    }
+    for layer in 1..span.len() {
+        let to = search.place(span, layer);
+        if to != from {
+            cost = cost.wrapping_add(u64::from(way(&rate.back, from, to)));
+        }
+        from = to;
+    }
+    cost
+}
+
 // Whether a strand is tied at a layer.
 fn is_tied_at(span: &Span, layer: usize) -> bool {
-    (layer == 0 && span.entry.is_some())
-        || (layer.wrapping_add(1) == span.len && span.exit.is_some())
+    (layer == 0 && span.entry().is_some())
+        || (layer.wrapping_add(1) == span.len() && span.exit().is_some())
 }
