@@ -8,13 +8,13 @@ use Rattle.pra_base.specs.Places.{number}
 use Rattle.net_form.proofs.PlaceEquality.{same_place-true, same_place-refl}
 use Rattle.net_path.specs.declared.crossbar.Row.{Row}
 use Rattle.net_path.specs.declared.crossbar.Ways.{Ways}
-use Rattle.net_path.specs.Ways.{at, IsBeforeCrossbar, AreWaysWithin}
+use Rattle.net_path.specs.Ways.{at, step_price, AreWaysWithin, IsLeastWay}
 use Rattle.net_path.specs.Rests.{unreached, Terrain, IsFrom, IsRow, IsBest, IsSlack, AreRows}
 use Rattle.net_path.specs.Rows.{costs_at, cell_bound, slack_at, IsAbout, IsGround, IsCell, AreCells}
-use Rattle.net_path.specs.Rows.{IsPaid, ArePaid, IsRowWithin, IsPaidLayer}
+use Rattle.net_path.specs.Rows.{IsPaid, IsRowWithin, IsPaidLayer}
 use Rattle.net_path.proofs.Numbers.{number_below, place_of}
 use Rattle.std.proofs.lemmas.Bool.{cases_eq}
-use Rattle.net_path.proofs.Within.{parity, AreRests, rests_within, paid_within}
+use Rattle.net_path.proofs.Within.{parity, paid_within}
 use Rattle.net_path.proofs.LeastRests.{rest_more, nothing_left}
 
 module _ (ways : Ways) (first n : ℕ) (t : Terrain) (ground : IsGround ways first n t) where
@@ -44,10 +44,9 @@ module _ (ways : Ways) (first n : ℕ) (t : Terrain) (ground : IsGround ways fir
   }
 
   -- and before a crossbar what was found is the least
-  pub crossed_best : (k : ℕ) (behind costs : List ℤ) (q : Place) → (first + k) % 2 ≡ 1
-      → IsBeforeCrossbar ways behind costs → IsBest t k (Some q) behind (at costs (number q))
-  crossed_best k behind costs q odd before =
-      let least = before (number q) (number_below q) in
+  pub crossed_best : (k : ℕ) (behind : List ℤ) (z : ℤ) (q : Place) → (first + k) % 2 ≡ 1
+      → IsLeastWay (step_price ways (number q)) behind z → IsBest t k (Some q) behind z
+  crossed_best k behind z q odd least =
       let to = place_of least.met.place least.met.within in record {
         below = λ r comes. let way = (ground.crossbar k q r odd).1 in
             let b = least.below (number r) (number_below r) in rw way b;
@@ -72,27 +71,51 @@ module _ (ways : Ways) (first n : ℕ) (t : Terrain) (ground : IsGround ways fir
     }
     of false is = is
 
+  -- what is paid at a place, and then the best of what is left
+  pub record IsPaidBest (k : ℕ) (behind : List ℤ) (q : Place) (cell z : ℤ) : Type 0 where
+    pub rest : ℤ
+    pub best : IsBest t k (Some q) behind rest
+    pub paid : IsPaid cell rest z
+
+  pub paid_best : (k : ℕ) (behind cells costs : List ℤ) (q : Place)
+      → IsPaidLayer ways (first + k) behind cells costs
+      → IsPaidBest k behind q (at cells (number q)) (at costs (number q))
+  paid_best k behind cells costs q paid =
+      elim (parity (first + k))
+      as (λ _. IsPaidBest k behind q (at cells (number q)) (at costs (number q))) [
+        | inl even ↦ record {
+          rest = at behind (number q);
+          best = stays_best k behind q even;
+          paid = paid.across even (number q) (number_below q);
+        }
+        | inr odd ↦ let over = paid.crossbar odd (number q) (number_below q) in record {
+          rest = over.rest;
+          best = crossed_best k behind over.rest q odd over.least;
+          paid = over.paid;
+        }
+      ]
+
   -- that of any other is what is paid there, and the best of what is left
-  pub row_before : (m k : ℕ) (cells behind rests costs : List ℤ) → suc (suc (m + k)) ≡ n
+  pub row_before : (m k : ℕ) (cells behind costs : List ℤ) → suc (suc (m + k)) ≡ n
       → ((q : Place) → IsCell (t.is_open k q) (t.cell k q) (at cells (number q)))
       → IsRow t m (suc k) (slack_at n (suc (suc k))) behind
-      → ((q : Place) → IsBest t (suc k) (Some q) behind (at rests (number q)))
-      → ArePaid cells rests costs → IsRow t (suc m) k (slack_at n (suc k)) costs
-  row_before m k cells behind rests costs e are row best paid q =
+      → ((q : Place) → IsPaidBest (suc k) behind q (at cells (number q)) (at costs (number q)))
+      → IsRow t (suc m) k (slack_at n (suc k)) costs
+  row_before m k cells behind costs e are row best q =
       of (t.is_open k q) refl (are q) where
-        this : IsPaid (at cells (number q)) (at rests (number q)) (at costs (number q))
-        this = paid (number q) (number_below q)
+        this : IsPaidBest (suc k) behind q (at cells (number q)) (at costs (number q))
+        this = best q
 
         of : (b : Bool) → t.is_open k q ≡ b → IsCell b (t.cell k q) (at cells (number q))
             → IsFrom b t (suc m) k q (slack_at n (suc k)) (at costs (number q))
         of true opened is =
             let about = (ground.cells k q (omega arith) opened).1 in record {
-              rest = at rests (number q);
+              rest = this.rest;
               least = rest_more t m (suc k) (slack_at n (suc k)) (slack_at n (suc (suc k))) (Some q)
-                  behind (slack_of (suc k) (omega arith)) row (at rests (number q)) (best q);
-              is = rw (← is) (this.opened (omega (arith, ints, is, about)));
+                  behind (slack_of (suc k) (omega arith)) row this.rest this.best;
+              is = rw (← is) (this.paid.opened (omega (arith, ints, is, about)));
             }
-        of false shut is = this.shut is
+        of false shut is = this.paid.shut is
 
   -- the row of the last layer
   pub rows_last : (rows : List Row) → suc (length rows - 1) ≡ length rows → length rows ≡ n
@@ -106,13 +129,13 @@ module _ (ways : Ways) (first n : ℕ) (t : Terrain) (ground : IsGround ways fir
   }
 
   -- one layer more
-  pub rows_more : (old new : List Row) (initial : List Row) (i : ℕ) (rests : List ℤ)
+  pub rows_more : (old new : List Row) (initial : List Row) (i : ℕ)
       → suc i < n → length initial ≡ n → ((k : ℕ) → suc i ≤ k → costs_at new k ≡ costs_at old k)
-      → AreCells t initial → ((first + suc i) % 2 ≡ 0 → rests ≡ costs_at old (suc i))
-      → ((first + suc i) % 2 ≡ 1 → IsBeforeCrossbar ways (costs_at old (suc i)) rests)
-      → ArePaid (costs_at initial i) rests (costs_at new i)
+      → AreCells t initial
+      → IsPaidLayer ways (first + suc i) (costs_at old (suc i)) (costs_at initial i)
+      (costs_at new i)
       → AreRows t (costs_at old) (slack_at n) n (suc i) → AreRows t (costs_at new) (slack_at n) n i
-  rows_more old new initial i rests lt long same cells across crossbar paid are = record {
+  rows_more old new initial i lt long same cells paid are = record {
     rows = λ m k le end. elim (cases_eq k i)
         as (λ _. IsRow t m k (slack_at n (suc k)) (costs_at new k)) [
           | inl here ↦ at_here m k here end
@@ -121,17 +144,11 @@ module _ (ways : Ways) (first n : ℕ) (t : Terrain) (ground : IsGround ways fir
         ];
     slacks = λ k le lt. slack_of k lt;
   } where
-    best : (q : Place) → IsBest t (suc i) (Some q) (costs_at old (suc i)) (at rests (number q))
-    best q = elim (parity (first + suc i))
-        as (λ _. IsBest t (suc i) (Some q) (costs_at old (suc i)) (at rests (number q))) [
-          | inl even ↦ rw (across even) (stays_best (suc i) (costs_at old (suc i)) q even)
-          | inr odd ↦ crossed_best (suc i) (costs_at old (suc i)) rests q odd (crossbar odd)
-        ]
-
     made : (m : ℕ) → suc (suc m + i) ≡ n → IsRow t (suc m) i (slack_at n (suc i)) (costs_at new i)
-    made m end = row_before m i (costs_at initial i) (costs_at old (suc i)) rests (costs_at new i)
+    made m end = row_before m i (costs_at initial i) (costs_at old (suc i)) (costs_at new i)
         (omega arith) (λ q. cells i q (omega arith))
-        (are.rows m (suc i) (omega arith) (omega arith)) best paid
+        (are.rows m (suc i) (omega arith) (omega arith))
+        (λ q. paid_best (suc i) (costs_at old (suc i)) (costs_at initial i) (costs_at new i) q paid)
 
     at_here : (m k : ℕ) → k ≡ i → suc (m + k) ≡ n
         → IsRow t m k (slack_at n (suc k)) (costs_at new k)
@@ -150,20 +167,19 @@ module _ (ways : Ways) (within : AreWaysWithin ways)
       ⊎ IsAbout (cell_bound n i) (at (costs_at initial i) p))
       → IsRowWithin (slack_at n j) (costs_at old j) → IsRowWithin (slack_at n i) (costs_at new i)
   small_more about small =
-      let rests = rests_within ways within (slack_at n j) (first + j) (costs_at old j) paid.rests
-      small paid.across paid.crossbar in
-      paid_within ways within n i (costs_at old i) paid.rests (costs_at new i) (omega arith)
-      (rw left about)
-      (subst (λ (j : ℕ). AreRests (slack_at n j) paid.rests) next rests) paid.paid
+      paid_within ways within n i (first + suc i) (costs_at old (suc i)) (costs_at old i) (costs_at new i)
+      (omega arith) (rw left about)
+      (subst (λ (j : ℕ). IsRowWithin (slack_at n j) (costs_at old j)) next small)
+      (subst (λ (j : ℕ). IsPaidLayer ways (first + j) (costs_at old j) (costs_at old i)
+      (costs_at new i)) next paid)
 
   pub paid_more : (t : Terrain) → IsGround ways first n t → AreCells t initial
       → AreRows t (costs_at old) (slack_at n) n j → AreRows t (costs_at new) (slack_at n) n i
   paid_more t ground cells are =
-      rows_more ways first n t ground old new initial i paid.rests (omega arith) long
+      rows_more ways first n t ground old new initial i (omega arith) long
       (λ k le. same k (omega arith)) cells
-      (λ even. subst (λ (j : ℕ). paid.rests ≡ costs_at old j) next
-      (paid.across (subst (λ (j : ℕ). (first + j) % 2 ≡ 0) (sym next) even)))
-      (λ odd. subst (λ (j : ℕ). IsBeforeCrossbar ways (costs_at old j) paid.rests) next
-      (paid.crossbar (subst (λ (j : ℕ). (first + j) % 2 ≡ 1) (sym next) odd)))
-      (subst (λ (xs : List ℤ). ArePaid xs paid.rests (costs_at new i)) left paid.paid)
+      (subst (λ (xs : List ℤ). IsPaidLayer ways (first + suc i) (costs_at old (suc i)) xs
+      (costs_at new i)) left
+      (subst (λ (j : ℕ). IsPaidLayer ways (first + j) (costs_at old j) (costs_at old i)
+      (costs_at new i)) next paid))
       (subst (λ (j : ℕ). AreRows t (costs_at old) (slack_at n) n j) next are)

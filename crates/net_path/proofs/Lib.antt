@@ -12,8 +12,11 @@ pub mod GoodPaths
 pub mod Grounded
 pub mod LeastPath
 pub mod LeastRests
+pub mod LeavingPlaces
 pub mod Leasts
 pub mod Numbers
+pub mod OpenPlaces
+pub mod PaidExtras
 pub mod Placed
 pub mod Renewed
 pub mod Seconds

@@ -1,57 +1,75 @@
--- Debts that are put into a row, a register and its both place at a time.
-use Rattle.std.proofs.Common.{ℕ, ◌≡◌, ◌≢◌, ◌<◌, ◌+◌, ℤ, List, length, set, get_or-set_same}
-use Rattle.std.proofs.Common.{get_or-set_other, length-set, ◌∙◌, subst, sym, arith}
+-- Places of a row that are paid one after the other, a register and its both place at a time.
+use Rattle.std.proofs.Common.{ℕ, ◌≡◌, ◌≢◌, ◌<◌, ◌≤◌, ◌+◌, ℤ, List, ◌∙◌, subst, sym, arith}
 use borrow.Author.Count.{below_more}
-use Rattle.net_path.specs.Ways.{at}
+use Rattle.net_path.specs.Ways.{at, IsLeastWay}
+use Rattle.net_path.specs.Rows.{IsPaid, IsPaidAt, IsPaidOver}
 use Rattle.net_path.proofs.Classes.{Class, class_of}
 use Rattle.net_path.proofs.Classes.Class.{alone, memory, constant, both}
 
-module _ (xs : List ℤ) (r : ℕ) (x y : ℤ) (long : length xs ≡ 16) (lr : r < 6) where
-  abbrev pub put_two : List ℤ
-  put_two = set (set xs r x) (8 + r) y
+-- the same of an old number and a new one
+pub carried : (P : ℤ → ℤ → Type 0) (a b x y : ℤ) → a ≡ b → x ≡ y → P b y → P a x
+carried P a b x y e f p = subst (λ (u : ℤ). P u x) (sym e) (subst (P b) (sym f) p)
 
-  at_first : at put_two r ≡ x
-  at_first = get_or-set_other (set xs r x) (8 + r) r y _ (omega arith)
-      ∙ get_or-set_same xs r x _ (omega arith)
+module _ (P : ℕ → ℤ → ℤ → Type 0) (first : List ℤ) where
+  -- of the registers below r both are paid, alone and with memory; no other place is
+  pub record HavePaid (r : ℕ) (row : List ℤ) : Type 0 where
+    pub paid : (k : ℕ) → k < r →
+        P k (at first k) (at row k) × P (8 + k) (at first (8 + k)) (at row (8 + k))
+    pub left : (k : ℕ) → r ≤ k → k < 6 →
+        (at row k ≡ at first k) × (at row (8 + k) ≡ at first (8 + k))
+    pub six : at row 6 ≡ at first 6
+    pub seven : at row 7 ≡ at first 7
 
-  at_second : at put_two (8 + r) ≡ y
-  at_second = get_or-set_same (set xs r x) (8 + r) y _ (omega (arith, length-set xs r x))
+  module _ (r : ℕ) (lr : r < 6) (old mid new : List ℤ) (x y : ℤ) (have : HavePaid r old)
+      (one : IsPaidAt r x old mid) (two : IsPaidAt (8 + r) y mid new) where
+    same : (k : ℕ) → k ≢ r → k ≢ 8 + r → at new k ≡ at old k
+    same k a b = two.others k b ∙ one.others k a
 
-  at_other : (k : ℕ) → k ≢ r → k ≢ 8 + r → at put_two k ≡ at xs k
-  at_other k one other = get_or-set_other (set xs r x) (8 + r) k y _ other
-      ∙ get_or-set_other xs r k x _ one
+    at_alone : at new r ≡ at mid r
+    at_alone = two.others r (omega arith)
 
-  pub put_both : (P : ℕ → ℤ → Type 0)
-      → ((k : ℕ) → k < r → P k (at xs k) × P (8 + k) (at xs (8 + k))) → P r x → P (8 + r) y
-      → (k : ℕ) → k < r + 1 → P k (at put_two k) × P (8 + k) (at put_two (8 + k))
-  put_both P old one other = below_more (λ k. P k (at put_two k) × P (8 + k) (at put_two (8 + k))) r
-      (λ k lt. (
-        subst (P k) (sym (at_other k (omega arith) (omega arith))) (old k lt).0,
-        subst (P (8 + k)) (sym (at_other (8 + k) (omega arith) (omega arith))) (old k lt).1,
-      ))
-      (subst (P r) (sym at_first) one, subst (P (8 + r)) (sym at_second) other)
+    at_both : at mid (8 + r) ≡ at old (8 + r)
+    at_both = one.others (8 + r) (omega arith)
 
--- memory and the constant itself are put in the end
-module _ (P : ℕ → ℤ → Type 0) (xs : List ℤ) (m c : ℤ) (long : length xs ≡ 16) where
-  abbrev last_two : List ℤ
-  last_two = set (set xs 6 m) 7 c
+    pub paid_two : P r (at old r) (at new r) → P (8 + r) (at old (8 + r)) (at new (8 + r))
+        → HavePaid (r + 1) new
+    paid_two p q = record {
+      paid = below_more (λ k. P k (at first k) (at new k)
+          × P (8 + k) (at first (8 + k)) (at new (8 + k))) r
+          (λ k lt. (
+            subst (P k (at first k)) (sym (same k (omega arith) (omega arith))) (have.paid k lt).0,
+            subst (P (8 + k) (at first (8 + k))) (sym (same (8 + k) (omega arith) (omega arith)))
+                (have.paid k lt).1,
+          )) (
+            subst (λ (u : ℤ). P r u (at new r)) (have.left r (omega arith) lr).0 p,
+            subst (λ (u : ℤ). P (8 + r) u (at new (8 + r))) (have.left r (omega arith) lr).1 q,
+          );
+      left = λ k ge lt. (
+        same k (omega arith) (omega arith) ∙ (have.left k (omega arith) lt).0,
+        same (8 + k) (omega arith) (omega arith) ∙ (have.left k (omega arith) lt).1,
+      );
+      six = same 6 (omega arith) (omega arith) ∙ have.six;
+      seven = same 7 (omega arith) (omega arith) ∙ have.seven;
+    }
 
-  kept : (k : ℕ) → k ≢ 6 → k ≢ 7 → at last_two k ≡ at xs k
-  kept k one other = get_or-set_other (set xs 6 m) 7 k c _ other ∙ get_or-set_other xs 6 k m _ one
+  -- memory and the constant itself are paid in the end
+  module _ (old mid new : List ℤ) (x y : ℤ) (have : HavePaid 6 old)
+      (one : IsPaidAt 6 x old mid) (two : IsPaidAt 7 y mid new) where
+    kept : (k : ℕ) → k ≢ 6 → k ≢ 7 → at new k ≡ at old k
+    kept k a b = two.others k b ∙ one.others k a
 
-  pub put_all : ((k : ℕ) → k < 6 → P k (at xs k) × P (8 + k) (at xs (8 + k))) → P 6 m → P 7 c
-      → (p : ℕ) → p < 14 → P p (at last_two p)
-  put_all placed pm pc p lt = of p (class_of p lt) where
-    at_six : at last_two 6 ≡ m
-    at_six = get_or-set_other (set xs 6 m) 7 6 c _ (omega arith)
-        ∙ get_or-set_same xs 6 m _ (omega arith)
+    pub paid_all : P 6 (at old 6) (at new 6) → P 7 (at old 7) (at new 7)
+        → (p : ℕ) → p < 14 → P p (at first p) (at new p)
+    paid_all pm pc p lt = of p (class_of p lt) where
+      of : (q : ℕ) → Class q → P q (at first q) (at new q)
+      of q (alone r lr) =
+          subst (P r (at first r)) (sym (kept r (omega arith) (omega arith))) (have.paid r lr).0
+      of q memory = subst (λ (u : ℤ). P 6 u (at new 6)) have.six pm
+      of q constant = subst (λ (u : ℤ). P 7 u (at new 7)) have.seven pc
+      of q (both r lr) = subst (P (8 + r) (at first (8 + r)))
+          (sym (kept (8 + r) (omega arith) (omega arith))) (have.paid r lr).1
 
-    at_seven : at last_two 7 ≡ c
-    at_seven = get_or-set_same (set xs 6 m) 7 c _ (omega (arith, length-set xs 6 m))
-
-    of : (q : ℕ) → Class q → P q (at last_two q)
-    of q (alone r lr) = subst (P r) (sym (kept r (omega arith) (omega arith))) (placed r lr).0
-    of q memory = subst (P 6) (sym at_six) pm
-    of q constant = subst (P 7) (sym at_seven) pc
-    of q (both r lr) =
-        subst (P (8 + r)) (sym (kept (8 + r) (omega arith) (omega arith))) (placed r lr).1
+-- a place is paid over a crossbar
+pub over : (way : ℕ → ℤ) (behind : List ℤ) (cell rest z : ℤ) → IsLeastWay way behind rest
+    → IsPaid cell rest z → IsPaidOver way behind cell z
+over way behind cell rest z least paid = record { rest = rest; least = least; paid = paid }

@@ -1,9 +1,9 @@
 -- Rows of the same costs.
-use Rattle.std.proofs.Common.{ℕ, ℤ, ◌≡◌, ◌⊎◌, ◌<◌, List, length, refl, sym, subst, ◌∙◌}
+use Rattle.std.proofs.Common.{ℤ, ◌≡◌, ◌⊎◌, List, length, refl, sym, subst, ◌∙◌}
 use Rattle.pra_base.specs.Places.{number}
 use Rattle.net_path.specs.declared.crossbar.Row.{Row}
 use Rattle.net_path.specs.Rests.{Terrain}
-use Rattle.net_path.specs.Rows.{HaveSameCosts, costs_at, AreCells, IsCell, AreCellsWithin}
+use Rattle.net_path.specs.Rows.{HaveSameCosts, AreCells, IsCell, AreCellsWithin}
 use Rattle.net_path.specs.Rows.{IsAbout, cell_bound}
 use Rattle.net_path.specs.Rests.{unreached}
 use Rattle.net_path.specs.Ways.{at}

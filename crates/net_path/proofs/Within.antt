@@ -5,18 +5,19 @@ use Rattle.std.proofs.lemmas.Int.{ints}
 use Rattle.std.proofs.lemmas.Bool.{cases_eq}
 use Rattle.pra_base.specs.Places.{has_register, register_of, needs_slot}
 use Rattle.net_path.specs.declared.crossbar.Ways.{Ways}
-use Rattle.net_path.specs.Ways.{at, step_price, AreWaysWithin, IsWay, IsBeforeCrossbar, AreDebts}
+use Rattle.net_path.specs.Ways.{at, step_price, AreWaysWithin, IsWay, IsDebt, AreDebts}
+use Rattle.net_path.specs.Ways.{IsLeastWay}
 use Rattle.net_path.specs.Rests.{unreached}
-use Rattle.net_path.specs.Rows.{cell_bound, slack_at, IsAbout, IsRowWithin, AreCostsCells, ArePaid}
+use Rattle.net_path.specs.Rows.{cell_bound, slack_at, IsAbout, IsRowWithin, AreCostsCells}
+use Rattle.net_path.specs.Rows.{IsPaid, IsPaidLayer}
 
 pub parity : (n : ℕ) → (n % 2 ≡ 0) ⊎ (n % 2 ≡ 1)
 parity n = elim (cases_eq (n % 2) 0)
     as (λ _. (n % 2 ≡ 0) ⊎ (n % 2 ≡ 1)) [ inl e ↦ inl e | inr ne ↦ inr (omega arith) ]
 
 -- what is left before a layer: a way more at most
-abbrev pub AreRests : ℕ → List ℤ → Type 0
-AreRests b rests = (p : ℕ) → p < 14
-    → (pos 0 ≤ℤ (at rests p +ℤ pos b)) × (at rests p ≤ℤ (unreached +ℤ pos (b + 2 ^ 43)))
+abbrev pub IsRest : ℕ → ℤ → Type 0
+IsRest b z = (pos 0 ≤ℤ (z +ℤ pos b)) × (z ≤ℤ (unreached +ℤ pos (b + 2 ^ 43)))
 
 module _ (ways : Ways) (within : AreWaysWithin ways) where
   brings_within : (hp eq sp : Bool)
@@ -44,10 +45,9 @@ module _ (ways : Ways) (within : AreWaysWithin ways) where
       let two = stored_within (needs_slot q && not (needs_slot p)) in
       (omega (arith, ints, one, two), omega (arith, ints, one, two))
 
-  pub crossed_within : (b : ℕ) (behind rests : List ℤ) → IsRowWithin b behind
-      → IsBeforeCrossbar ways behind rests → AreRests b rests
-  crossed_within b behind rests small before p lt =
-      let least = before p lt in
+  pub crossed_within : (b : ℕ) (behind : List ℤ) (p : ℕ) (z : ℤ) → IsRowWithin b behind → p < 14
+      → IsLeastWay (step_price ways p) behind z → IsRest b z
+  crossed_within b behind p z small lt least =
       let met = least.met.met in
       let way = step_within p least.met.place in
       let there = small least.met.place least.met.within in
@@ -56,33 +56,51 @@ module _ (ways : Ways) (within : AreWaysWithin ways) where
       let here = small p lt in
       (omega (arith, ints, met, way, there), omega (arith, ints, own, stay, here))
 
-  pub stayed_within : (b : ℕ) (behind : List ℤ) → IsRowWithin b behind → AreRests b behind
-  stayed_within b behind small p lt = let h = small p lt in
-      (omega (arith, ints, h), omega (arith, ints, h))
+  -- what is left behind a place
+  pub record IsLeft (b : ℕ) (cell z : ℤ) : Type 0 where
+    pub rest : ℤ
+    pub bounded : IsRest b rest
+    pub paid : IsPaid cell rest z
 
-  pub rests_within : (b layer : ℕ) (behind rests : List ℤ) → IsRowWithin b behind
-      → (layer % 2 ≡ 0 → rests ≡ behind) → (layer % 2 ≡ 1 → IsBeforeCrossbar ways behind rests)
-      → AreRests b rests
-  rests_within b layer behind rests small across crossbar =
-      elim (parity layer) as (λ _. AreRests b rests) [
-        | inl even ↦ rw (across even) (stayed_within b behind small)
-        | inr odd ↦ crossed_within b behind rests small (crossbar odd)
+  pub left_within : (b layer : ℕ) (behind cells costs : List ℤ) → IsRowWithin b behind
+      → IsPaidLayer ways layer behind cells costs → (p : ℕ) → p < 14
+      → IsLeft b (at cells p) (at costs p)
+  left_within b layer behind cells costs small paid p lt =
+      elim (parity layer) as (λ _. IsLeft b (at cells p) (at costs p)) [
+        | inl even ↦ let h = small p lt in record {
+          rest = at behind p;
+          bounded = (omega (arith, ints, h), omega (arith, ints, h));
+          paid = paid.across even p lt;
+        }
+        | inr odd ↦ let over = paid.crossbar odd p lt in record {
+          rest = over.rest;
+          bounded = crossed_within b behind p over.rest small lt over.least;
+          paid = over.paid;
+        }
       ]
 
-  pub paid_within : (n k : ℕ) (cells rests costs : List ℤ) → k < n
+  pub paid_within : (n k layer : ℕ) (behind cells costs : List ℤ) → k < n
       → ((p : ℕ) → p < 14 → (at cells p ≡ unreached) ⊎ IsAbout (cell_bound n k) (at cells p))
-      → AreRests (slack_at n (suc k)) rests → ArePaid cells rests costs
+      → IsRowWithin (slack_at n (suc k)) behind → IsPaidLayer ways layer behind cells costs
       → IsRowWithin (slack_at n k) costs
-  paid_within n k cells rests costs lt about small paid p lp =
+  paid_within n k layer behind cells costs lt about small paid p lp =
+      let left = left_within (slack_at n (suc k)) layer behind cells costs small paid p lp in
       elim (about p lp) as (λ _. (pos 0 ≤ℤ (at costs p +ℤ pos (slack_at n k)))
       × (at costs p ≤ℤ (unreached +ℤ pos (slack_at n k)))) [
-        | inl shut ↦ let z = (paid p lp).shut shut in
+        | inl shut ↦ let z = left.paid.shut shut in
             (omega (arith, ints, z), omega (arith, ints, z))
         | inr opened ↦
-            let z = (paid p lp).opened (omega (arith, ints, opened)) in
-            let r = small p lp in
+            let z = left.paid.opened (omega (arith, ints, opened)) in
+            let r = left.bounded in
             (omega (arith, ints, z, r, opened), omega (arith, ints, z, r, opened))
       ]
+
+  -- over a crossbar what is left behind a row is a debt
+  pub least_is_debt : (behind : List ℤ) (p : ℕ) (z : ℤ) → IsRowWithin (2 ^ 60 + 2 ^ 59) behind
+      → p < 14 → IsLeastWay (step_price ways p) behind z → IsDebt z
+  least_is_debt behind p z small lt least =
+      let h = crossed_within (2 ^ 60 + 2 ^ 59) behind p z small lt least in
+      (omega (arith, ints, h), omega (arith, ints, h))
 
 pub cells_within : (n k : ℕ) (costs : List ℤ)
     → k < n → ((p : ℕ) → p < 14 → (at costs p ≡ unreached) ⊎ IsAbout (cell_bound n k) (at costs p))
@@ -105,10 +123,6 @@ costs_are_cells n k costs about p lp =
 
 pub wide_is_debts : (costs : List ℤ) → IsRowWithin (2 ^ 60 + 2 ^ 59) costs → AreDebts costs
 wide_is_debts costs small p lt = let h = small p lt in
-    (omega (arith, ints, h), omega (arith, ints, h))
-
-pub wide_rests_are_debts : (rests : List ℤ) → AreRests (2 ^ 60 + 2 ^ 59) rests → AreDebts rests
-wide_rests_are_debts rests small p lt = let h = small p lt in
     (omega (arith, ints, h), omega (arith, ints, h))
 
 -- the slack of few layers

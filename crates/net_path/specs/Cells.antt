@@ -1,8 +1,8 @@
 -- What is paid at a layer of a strand.
 use Rattle.std.specs.Prelude.{◌≡◌, ◌⊎◌, ℕ, ◌*◌, ◌^◌, ◌<◌, ◌≤◌, Bool, ℤ, pos, ◌+ℤ◌, List, length}
-use Rattle.std.specs.Prelude.{None}
+use Rattle.std.specs.Prelude.{None, if◌then◌else◌, slice_index}
 use Rattle.pra_base.specs.declared.ids.Place.{Place}
-use Rattle.pra_base.specs.Places.{number}
+use Rattle.pra_base.specs.Places.{number, allows, has_register, register_of}
 use Rattle.net_cost.specs.declared.weights.Weights.{Weights}
 use Rattle.net_form.specs.declared.net.Net.{Net}
 use Rattle.net_form.specs.declared.prices.Prices.{Prices}
@@ -37,6 +37,25 @@ alone_price net w prices e =
 
 abbrev pub is_open_alone : Net → Ends → Taken → Edge → Bool
 is_open_alone net ends taken e = is_open net ends (register_free net taken) e.strand e
+
+-- the price of the register of place p, where these are the prices of the six
+abbrev pub cap_of : List ℕ → ℕ → ℤ
+cap_of caps p = if has_register p then pos (slice_index caps (register_of p)) else pos 0
+
+-- what the extras of the layer cost at a place, in units of 1/1024
+abbrev pub spot_extras : Net → Weights → Spot → Place → ℤ
+spot_extras net w spot place = pos (price_unit * extras_cost net w spot.strand spot.layer place)
+
+-- what is paid at a place of a layer, where these places are open and extras cost so much
+pub record IsCellWith (open_places : ℕ) (caps : List ℕ) (extras : ℤ) (place : Place) (z : ℤ)
+    : Type 0 where
+  pub is : IsCell (allows open_places (number place)) (extras +ℤ cap_of caps (number place)) z
+  pub within : (z ≡ unreached) ⊎ IsAbout (2 ^ 43) z
+
+abbrev pub AreCellsWith : ℕ → List ℕ → (Place → ℤ) → List ℤ → Type 0
+AreCellsWith open_places caps extras costs =
+    (place : Place) →
+    IsCellWith open_places caps (extras place) place (at costs (number place))
 
 pub record IsPlainCell (net : Net) (w : Weights) (prices : Prices) (ends : Ends) (taken : Taken)
     (spot : Spot) (place : Place) (z : ℤ) : Type 0 where

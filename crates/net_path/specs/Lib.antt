@@ -3,6 +3,7 @@ pub mod Choices
 pub mod Desk
 pub mod Ends
 pub mod Grounds
+pub mod Leaving
 pub mod Rests
 pub mod Rows
 pub mod Ties

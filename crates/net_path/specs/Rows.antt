@@ -1,13 +1,13 @@
 -- Rows of what is paid at each layer of a strand, and of what is paid from each layer on.
-use Rattle.std.specs.Prelude.{◌≡◌, ◌⊎◌, ℕ, suc, ◌+◌, ◌-◌, ◌*◌, ◌%◌, ◌^◌, ◌<◌, Bool, true, false, ℤ}
-use Rattle.std.specs.Prelude.{pos, ◌+ℤ◌, ◌≤ℤ◌, ◌<ℤ◌, List, [], length, slice_index_or, Option, Some}
+use Rattle.std.specs.Prelude.{◌≡◌, ◌≢◌, ◌⊎◌, ℕ, suc, ◌+◌, ◌-◌, ◌*◌, ◌%◌, ◌^◌, ◌<◌, Bool, true}
+use Rattle.std.specs.Prelude.{false, ℤ, pos, ◌+ℤ◌, ◌≤ℤ◌, ◌<ℤ◌, List, [], length, slice_index_or, Option, Some}
 use Rattle.std.specs.Prelude.{IsTrue}
 use Rattle.pra_base.specs.declared.ids.Place.{Place}
 use Rattle.pra_base.specs.Places.{number, place_count}
 use Rattle.net_form.specs.Flow.{same_place}
 use Rattle.net_path.specs.declared.crossbar.Row.{Row}
 use Rattle.net_path.specs.declared.crossbar.Ways.{Ways}
-use Rattle.net_path.specs.Ways.{at, step_price, IsBeforeCrossbar}
+use Rattle.net_path.specs.Ways.{at, step_price, IsLeastWay}
 use Rattle.net_path.specs.Rests.{unreached, Terrain}
 
 abbrev pub no_row : Row
@@ -84,9 +84,22 @@ abbrev pub ArePaid : List ℤ → List ℤ → List ℤ → Type 0
 ArePaid cells rests costs =
     (p : ℕ) → p < place_count → IsPaid (at cells p) (at rests p) (at costs p)
 
+-- one place of a row is paid
+pub record IsPaidAt (p : ℕ) (rest : ℤ) (old new : List ℤ) : Type 0 where
+  pub others : (q : ℕ) → q ≢ p → at new q ≡ at old q
+  pub here : IsPaid (at old p) rest (at new p)
+
+-- what is paid there, and then what is least over all ways from there on
+pub record IsPaidOver (way : ℕ → ℤ) (behind : List ℤ) (cell z : ℤ) : Type 0 where
+  pub rest : ℤ
+  pub least : IsLeastWay way behind rest
+  pub paid : IsPaid cell rest z
+
+abbrev pub ArePaidOver : Ways → List ℤ → List ℤ → List ℤ → Type 0
+ArePaidOver ways behind cells costs =
+    (p : ℕ) → p < place_count → IsPaidOver (step_price ways p) behind (at cells p) (at costs p)
+
 -- a row from the row behind it, which is that of layer l of the block
 pub record IsPaidLayer (ways : Ways) (l : ℕ) (behind cells costs : List ℤ) : Type 0 where
-  pub rests : List ℤ
-  pub across : l % 2 ≡ 0 → rests ≡ behind
-  pub crossbar : l % 2 ≡ 1 → IsBeforeCrossbar ways behind rests
-  pub paid : ArePaid cells rests costs
+  pub across : l % 2 ≡ 0 → ArePaid cells behind costs
+  pub crossbar : l % 2 ≡ 1 → ArePaidOver ways behind cells costs

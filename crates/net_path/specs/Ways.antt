@@ -107,11 +107,6 @@ pub record IsLeastElsewhere (way : ℕ → ℤ) (r : ℕ) (costs : List ℤ) (z 
   pub below : (q : ℕ) → q < place_count → q ≢ r → q ≢ 8 + r → z ≤ℤ (way q +ℤ at costs q)
   pub met : IsMet way costs z
 
--- of each place
-abbrev pub IsBeforeCrossbar : Ways → List ℤ → List ℤ → Type 0
-IsBeforeCrossbar ways behind before =
-    (p : ℕ) → p < place_count → IsLeastWay (step_price ways p) behind (at before p)
-
 -- ---- what it costs to go on from a class of places to another
 
 -- from 0 to 2^43: two ways at most

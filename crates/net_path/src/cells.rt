@@ -1,21 +1,18 @@
 // What is paid at each place of each layer of a strand, and which places are closed.
 
-ghost use Rattle.std.specs.Prelude.{◌≡◌, ◌≤◌, ◌<◌, ◌+◌, ◌*◌, ◌^◌};
-ghost use Rattle.std.specs.Prelude.{◌||◌, pos, not, nat_eq, length, All};
-ghost use Rattle.std.specs.Prelude.{slice_index, None, if◌then◌else◌};
+ghost use Rattle.std.specs.Prelude.{◌≡◌, ◌≤◌, ◌<◌, ◌+◌, ◌*◌, ◌^◌, ℕ, pos, length, All};
+ghost use Rattle.std.specs.Prelude.{slice_index, None, not, ◌||◌};
 ghost use Rattle.net_cost.specs.Models.{Keeps, weights_of};
 ghost use Rattle.net_form.specs.Admitted.{strand_at};
-ghost use Rattle.net_form.specs.Bundles.{bundle_key};
 ghost use Rattle.net_form.specs.Formed.{IsFormed};
 ghost use Rattle.net_form.specs.Ordered.{AreExtras};
-ghost use Rattle.net_form.specs.InUse.{mark};
 ghost use Rattle.net_form.specs.Rooms.{IsRoomOf};
 ghost use Rattle.net_dual.specs.Priced.{AreInRange};
-ghost use Rattle.pra_base.specs.Places.{number, has_register, register_of};
-ghost use Rattle.net_path.specs.Grounds.{suits, suits_ends, edge, is_open, register_free};
-ghost use Rattle.net_path.specs.Grounds.{is_free, terrain};
-ghost use Rattle.net_path.specs.Cells.{IsSpot, alone_price, IsPlainCell, ArePlainCells};
-ghost use Rattle.net_path.specs.Cells.{ArePlainRows};
+ghost use Rattle.pra_base.specs.Places.{number, allows};
+ghost use Rattle.pra_base.specs.declared.ids.Place.{Place as AnyPlace};
+ghost use Rattle.net_path.specs.Grounds.{suits, suits_ends, edge, is_free, terrain};
+ghost use Rattle.net_path.specs.Cells.{IsSpot, ArePlainCells, ArePlainRows, is_open_alone};
+ghost use Rattle.net_path.specs.Cells.{spot_edge, cap_of, spot_extras, IsCellWith, AreCellsWith};
 ghost use Rattle.net_path.specs.Rows.{IsAbout, AreCells, AreCellsWithin};
 ghost use Rattle.net_laws.specs.Built.{IsBuilt};
 
@@ -23,47 +20,21 @@ use crate::crossbar::Row;
 use crate::pairs::pay_pairs;
 use crate::path::place_of;
 use crate::rows::UNREACHED;
+use crate::search::price_of;
 use crate::ties::{pay_entries, pay_exits};
 use net_cost::{CostModel, Event};
-use net_form::{Ends, Net, Prices, Taken, extras_cost};
-use pra_base::Place;
-use pra_base::places::allows;
+use net_form::{Ends, Net, Prices, Strand, Taken};
+use pra_base::places::{EVERY, allows, meet, only, without};
+use pra_base::{Mask, Place};
 
-fn is_wanted(wanted: Option<Place>, place: Place) -> bool
-    ensures { result ≡ suits wanted place }
+// The places that suit an end: every one, or the one that is wanted.
+fn wanted(place: Option<Place>) -> Mask
+    ensures { (q : AnyPlace) → allows result (number q) ≡ suits place q }
 {
-    match wanted {
-        None => true,
-        Some(there) => there.number() == place.number(),
+    match place {
+        None => EVERY,
+        Some(place) => only(place),
     }
-}
-
-// Whether the register of a place is free at a layer, counted over all blocks.
-fn is_free(taken: &Taken, layer: usize, place: Place) -> bool
-    requires { layer < length taken.now.regs }
-    ensures { result ≡ (not (has_register (number place)) ||
-        nat_eq (mark taken.now.regs layer (register_of (number place))) 0) }
-{
-    if !place.has_register() {
-        return true;
-    }
-    (taken.regs[layer] >> place.register()) & 1 == 0
-}
-
-// The price of the register of a place at a layer, counted over all blocks.
-fn cap_price(prices: &Prices, layer: usize, place: Place) -> i64
-    requires small { layer < 2 ^ 32 }
-    requires layer { 6 * layer + 6 ≤ length prices.now.caps }
-    requires most { All (λ c. c ≤ 2 ^ 40) prices.now.caps }
-    ensures value { result ≡ (if has_register (number place)
-        then pos (slice_index prices.now.caps (bundle_key layer (register_of (number place))))
-        else pos 0) }
-    ensures about { IsAbout (2 ^ 40) result }
-{
-    if !place.has_register() {
-        return 0;
-    }
-    prices.caps[6 * layer + place.register() as usize] as i64
 }
 
 /// A layer of a strand, and the number of the strand's first extra there.
@@ -74,76 +45,115 @@ pub(crate) struct Spot {
     pub extra: usize,
 }
 
-// Whether the ends of a path suit a place.
-fn suits(net: &Net, ends: Ends, spot: Spot, place: Place) -> bool
-    requires { spot.strand < length net.now.strands }
-    ensures { result ≡ suits_ends ends (strand_at net.now spot.strand)
-        (edge spot.strand spot.layer None place) }
+// The same where the end is, and every place where it is not.
+fn wanted_if(here: bool, place: Option<Place>) -> Mask
+    ensures { (q : AnyPlace) → allows result (number q) ≡ (not here || suits place q) }
 {
-    let strand = &net.strands[spot.strand];
-    (spot.layer != strand.first || is_wanted(ends.first, place))
-        && (spot.layer != strand.last || is_wanted(ends.last, place))
+    if here { wanted(place) } else { EVERY }
 }
 
-// Whether a path may be at a place, as far as masks, ends and registers in use go.
-fn is_open(net: &Net, ends: Ends, taken: &Taken, spot: Spot, place: Place) -> bool
+// The places that suit the ends of a path at a layer.
+fn suiting(strand: &Strand, ends: Ends, layer: u32) -> Mask
+    ensures { (s : ℕ) (q : AnyPlace) →
+        allows result (number q) ≡ suits_ends ends strand.now (edge s layer None q) }
+{
+    let first = wanted_if(layer == strand.first, ends.first);
+    let last = wanted_if(layer == strand.last, ends.last);
+    meet(first, last)
+}
+
+// Where a path may be at a layer, as far as masks, ends and registers in use go.
+fn open_places(net: &Net, ends: Ends, taken: &Taken, spot: Spot) -> Mask
     requires net { IsFormed net.now }
     requires spot { IsSpot net.now spot }
     requires taken { IsRoomOf net.now taken.now }
-    ensures { result ≡ is_open net.now ends (register_free net.now taken.now) spot.strand
-        (edge spot.strand spot.layer None place) }
+    ensures { (place : AnyPlace) → allows result (number place) ≡
+        is_open_alone net.now ends taken.now (spot_edge spot place) }
 {
     let strand = &net.strands[spot.strand];
     let mask = strand.masks[(spot.layer - strand.first) as usize];
     let layer = net.entry_layer(spot.strand) + spot.layer;
-    allows(mask, place) && suits(net, ends, spot, place) && is_free(taken, layer as usize, place)
+    let free = without(mask, taken.regs[layer as usize]);
+    meet(free, suiting(strand, ends, spot.layer))
 }
 
-// What is paid for the extras and for the register of a place.
-fn alone_price<F: Fn(Event, u32) -> u32>(
-    net: &Net,
-    model: &CostModel<F>,
-    prices: &Prices,
-    spot: Spot,
-    place: Place,
-) -> i64
-    requires kept { Keeps F.Fn model.now }
-    requires net { IsFormed net.now }
-    requires extras { AreExtras net.now }
-    requires prices { AreInRange net.now prices.now }
-    requires spot { IsSpot net.now spot }
-    ensures value { result ≡ alone_price net.now (weights_of model.now) prices.now
-        (edge spot.strand spot.layer None place) }
-    ensures about { IsAbout (2 ^ 43) result }
+// The prices of the six registers at a layer, counted over all blocks.
+fn caps_at(prices: &Prices, layer: usize) -> &[u64]
+    requires small { layer < 2 ^ 32 }
+    requires layer { 6 * layer + 6 ≤ length prices.now.caps }
+    requires most { All (λ c. c ≤ 2 ^ 40) prices.now.caps }
+    ensures six { length result.now ≡ 6 }
+    ensures are { (r : ℕ) → r < 6 →
+        slice_index result.now r ≡ slice_index prices.now.caps (6 * layer + r) }
+    ensures most { All (λ c. c ≤ 2 ^ 40) result.now }
 {
-    let extras = extras_cost(net, model, spot.strand, spot.layer, place, spot.extra);
-    let layer = net.entry_layer(spot.strand) + spot.layer;
-    1024 * extras as i64 + cap_price(prices, layer as usize, place)
+    &prices.caps.as_slice()[6 * layer..6 * layer + 6]
 }
 
-// What is paid at a place, before memory pairs and ties.
-fn cell<F: Fn(Event, u32) -> u32>(
-    net: &Net,
-    model: &CostModel<F>,
-    prices: &Prices,
-    ends: Ends,
-    taken: &Taken,
-    spot: Spot,
-    place: Place,
-) -> i64
-    requires kept { Keeps F.Fn model.now }
-    requires net { IsFormed net.now }
-    requires extras { AreExtras net.now }
-    requires prices { AreInRange net.now prices.now }
-    requires taken { IsRoomOf net.now taken.now }
-    requires spot { IsSpot net.now spot }
-    ensures { IsPlainCell net.now (weights_of model.now) prices.now ends taken.now spot place
-        result }
+// The price of the register of a place, of these six.
+fn cap_price(caps: &[u64], place: Place) -> i64
+    requires six { length caps.now ≡ 6 }
+    requires most { All (λ c. c ≤ 2 ^ 40) caps.now }
+    ensures value { result ≡ cap_of caps.now (number place) }
+    ensures about { IsAbout (2 ^ 40) result }
 {
-    if is_open(net, ends, taken, spot, place) {
-        alone_price(net, model, prices, spot, place)
+    if !place.has_register() {
+        return 0;
+    }
+    caps[place.register() as usize] as i64
+}
+
+// What is paid at a place, with so much for extras.
+fn cell(places: Mask, caps: &[u64], place: Place, extras: i64) -> i64
+    requires six { length caps.now ≡ 6 }
+    requires most { All (λ c. c ≤ 2 ^ 40) caps.now }
+    requires extras { IsAbout (2 ^ 42) extras }
+    ensures { IsCellWith places caps.now extras place result }
+{
+    if allows(places, place) {
+        extras + cap_price(caps, place)
     } else {
         UNREACHED
+    }
+}
+
+// What is paid at the places of a layer without extras.
+fn fill_row(places: Mask, caps: &[u64], row: &mut Row)
+    requires six { length caps.now ≡ 6 }
+    requires most { All (λ c. c ≤ 2 ^ 40) caps.now }
+    ensures { AreCellsWith places caps.now (λ place. pos 0) row.new.costs }
+{
+    for p in 0..14u8 {
+        row.costs[p as usize] = cell(places, caps, place_of(p), 0);
+    }
+}
+
+// Pays the extras of a layer, each at its place.
+fn pay_extras<F: Fn(Event, u32) -> u32>(
+    net: &Net,
+    model: &CostModel<F>,
+    places: Mask,
+    caps: &[u64],
+    spot: Spot,
+    row: &mut Row,
+)
+    requires kept { Keeps F.Fn model.now }
+    requires net { IsFormed net.now }
+    requires extras { AreExtras net.now }
+    requires spot { IsSpot net.now spot }
+    requires six { length caps.now ≡ 6 }
+    requires most { All (λ c. c ≤ 2 ^ 40) caps.now }
+    requires row { AreCellsWith places caps.now (λ place. pos 0) row.old.costs }
+    ensures { AreCellsWith places caps.now (spot_extras net.now (weights_of model.now) spot)
+        row.new.costs }
+{
+    for next in spot.extra..net.extras.len() {
+        let Some(extra) = net.extra_at(spot.strand, spot.layer, next) else {
+            return;
+        };
+        let price = price_of(model, extra.event, net.depth(spot.strand));
+        let paid = cell(places, caps, extra.place, price);
+        row.costs[extra.place.number() as usize] = paid;
     }
 }
 
@@ -155,25 +165,22 @@ fn plain_row<F: Fn(Event, u32) -> u32>(
     ends: Ends,
     taken: &Taken,
     spot: Spot,
-) -> Row
+    row: &mut Row,
+)
     requires kept { Keeps F.Fn model.now }
     requires net { IsFormed net.now }
     requires extras { AreExtras net.now }
     requires prices { AreInRange net.now prices.now }
     requires taken { IsRoomOf net.now taken.now }
     requires spot { IsSpot net.now spot }
-    ensures long { length result.costs ≡ 16 }
-    ensures cells { ArePlainCells net.now (weights_of model.now) prices.now ends taken.now spot
-        result.costs }
+    ensures { ArePlainCells net.now (weights_of model.now) prices.now ends taken.now spot
+        row.new.costs }
 {
-    let mut row = Row {
-        costs: [UNREACHED; 16],
-        seconds: [0; 16],
-    };
-    for p in 0..14u8 {
-        row.costs[p as usize] = cell(net, model, prices, ends, taken, spot, place_of(p));
-    }
-    row
+    let places = open_places(net, ends, taken, spot);
+    let layer = net.entry_layer(spot.strand) + spot.layer;
+    let caps = caps_at(prices, layer as usize);
+    fill_row(places, caps, row);
+    pay_extras(net, model, places, caps, spot, row);
 }
 
 /// The costs of all layers of a strand, before memory pairs and ties.
@@ -206,7 +213,7 @@ pub(crate) fn plain_rows<F: Fn(Event, u32) -> u32>(
             layer,
             extra,
         };
-        rows[at] = plain_row(net, model, prices, ends, taken, spot);
+        plain_row(net, model, prices, ends, taken, spot, &mut rows[at]);
         extra = net.next_extra(strand, layer, extra);
     }
 }

@@ -6,12 +6,15 @@
 // to go on from a place to another register or out of registers, and beside that a value may stay
 // in its register.
 
-ghost use Rattle.std.specs.Prelude.{◌≡◌, ◌⊎◌, ◌≤ℤ◌, ◌+ℤ◌, ◌+◌, ◌≤◌, ◌<◌, ℕ, ℤ, List};
-ghost use Rattle.std.specs.Prelude.{slice_set};
+ghost use Rattle.std.specs.Prelude.{◌≡◌, ◌⊎◌, ◌≤ℤ◌, ◌+ℤ◌, ◌+◌, ◌^◌, ◌≤◌, ◌<◌, ℕ, ℤ, List};
 ghost use Rattle.net_path.specs.Ways.{at, IsLeastOf, IsLeastOfFour, AreBests, AreBestsWithin};
 ghost use Rattle.net_path.specs.Ways.{IsLeastWay, IsLeastElsewhere, AreWaysWithin, IsDebt};
-ghost use Rattle.net_path.specs.Ways.{AreDebts, step_price, IsBeforeCrossbar, IsOnward, IsShort};
+ghost use Rattle.net_path.specs.Ways.{AreDebts, step_price, IsOnward, IsShort};
+ghost use Rattle.net_path.specs.Rows.{IsCellWithin, AreCostsCells, IsRowWithin, IsPaid, IsPaidAt};
+ghost use Rattle.net_path.specs.Rows.{ArePaidOver};
 ghost use Rattle.net_path.specs.Ways.{IsFromAlone, IsFromBoth, IsFromMemory, IsFromConstant};
+
+use crate::rows::{REACHED, UNREACHED};
 
 /// What is to be paid from a place on: its priced cost, and a second sum that decides between equal
 /// costs.
@@ -59,13 +62,14 @@ pub(crate) struct Onward {
     pub constant: i64,
 }
 
-// The lesser of two debts.
-pub(crate) fn lesser(one: Debt, other: Debt) -> Debt
+// The lesser of two debts; of equal costs, where seconds count, that of the lesser second.
+#[inline(always)]
+fn lesser<const SECONDS: bool>(one: Debt, other: Debt) -> Debt
     ensures one { result.cost ≤ℤ one.cost }
     ensures other { result.cost ≤ℤ other.cost }
     ensures met { (result.cost ≡ one.cost) ⊎ (result.cost ≡ other.cost) }
 {
-    if other.cost < one.cost || (other.cost == one.cost && other.second < one.second) {
+    if other.cost < one.cost || (SECONDS && other.cost == one.cost && other.second < one.second) {
         other
     } else {
         one
@@ -73,6 +77,7 @@ pub(crate) fn lesser(one: Debt, other: Debt) -> Debt
 }
 
 // The debt and a way before it.
+#[inline(always)]
 pub(crate) fn with_way(debt: Debt, way: i64) -> Debt
     requires debt { IsDebt debt.cost }
     requires way { IsShort way }
@@ -84,58 +89,64 @@ pub(crate) fn with_way(debt: Debt, way: i64) -> Debt
     }
 }
 
-pub(crate) fn debt_at(row: &Row, place: usize) -> Debt
+/// What is to be paid from a place on; where seconds do not count, the second is 0.
+#[inline(always)]
+pub(crate) fn debt_at<const SECONDS: bool>(row: &Row, place: usize) -> Debt
     requires { place < 16 }
     ensures { result.cost ≡ at row.now.costs place }
 {
     Debt {
         cost: row.costs[place],
-        second: row.seconds[place],
+        second: if SECONDS { row.seconds[place] } else { 0 },
     }
 }
 
 // The least of the six debts from a place on.
-fn least_of_six(row: &Row, from: usize) -> Debt
+#[inline(always)]
+fn least_of_six<const SECONDS: bool>(row: &Row, from: usize) -> Debt
     requires { from + 6 ≤ 16 }
     ensures { IsLeastOf row.now.costs from 6 result.cost }
 {
-    let mut least = debt_at(row, from);
+    let mut least = debt_at::<SECONDS>(row, from);
     for k in 1..6usize {
-        least = lesser(least, debt_at(row, from + k));
+        least = lesser::<SECONDS>(least, debt_at::<SECONDS>(row, from + k));
     }
     least
 }
 
-fn least_of_four(first: Debt, second: Debt, third: Debt, fourth: Debt) -> Debt
+#[inline(always)]
+fn least_of_four<const SECONDS: bool>(first: Debt, second: Debt, third: Debt, fourth: Debt) -> Debt
     ensures { IsLeastOfFour first.cost second.cost third.cost fourth.cost result.cost }
 {
-    let one = lesser(first, second);
-    let other = lesser(third, fourth);
-    lesser(one, other)
+    let one = lesser::<SECONDS>(first, second);
+    let other = lesser::<SECONDS>(third, fourth);
+    lesser::<SECONDS>(one, other)
 }
 
-fn bests_of(row: &Row) -> Bests
+#[inline(always)]
+fn bests_of<const SECONDS: bool>(row: &Row) -> Bests
     requires { AreDebts row.now.costs }
     ensures are { AreBests row.now.costs result }
     ensures within { AreBestsWithin result }
 {
     Bests {
-        alone: least_of_six(row, 0),
-        both: least_of_six(row, 8),
-        memory: debt_at(row, 6),
-        constant: debt_at(row, 7),
+        alone: least_of_six::<SECONDS>(row, 0),
+        both: least_of_six::<SECONDS>(row, 8),
+        memory: debt_at::<SECONDS>(row, 6),
+        constant: debt_at::<SECONDS>(row, 7),
     }
 }
 
 // What it costs to go on to another register, or out of registers.
-fn going_on(bests: &Bests, by: Onward) -> Debt
+#[inline(always)]
+fn going_on<const SECONDS: bool>(bests: &Bests, by: Onward) -> Debt
     requires bests { AreBestsWithin bests.now }
     requires by { IsOnward by }
     ensures { IsLeastOfFour (by.alone +ℤ bests.now.alone.cost) (by.both +ℤ bests.now.both.cost)
         (by.memory +ℤ bests.now.memory.cost) (by.constant +ℤ bests.now.constant.cost)
         result.cost }
 {
-    least_of_four(
+    least_of_four::<SECONDS>(
         with_way(bests.alone, by.alone),
         with_way(bests.both, by.both),
         with_way(bests.memory, by.memory),
@@ -143,6 +154,7 @@ fn going_on(bests: &Bests, by: Onward) -> Debt
     )
 }
 
+#[inline(always)]
 fn from_alone(ways: &Ways) -> Onward
     requires { AreWaysWithin ways.now }
     ensures is { IsFromAlone ways.now result }
@@ -156,6 +168,7 @@ fn from_alone(ways: &Ways) -> Onward
     }
 }
 
+#[inline(always)]
 fn from_both(ways: &Ways) -> Onward
     requires { AreWaysWithin ways.now }
     ensures is { IsFromBoth ways.now result }
@@ -169,6 +182,7 @@ fn from_both(ways: &Ways) -> Onward
     }
 }
 
+#[inline(always)]
 fn from_memory(ways: &Ways) -> Onward
     requires { AreWaysWithin ways.now }
     ensures is { IsFromMemory ways.now result }
@@ -182,6 +196,7 @@ fn from_memory(ways: &Ways) -> Onward
     }
 }
 
+#[inline(always)]
 fn from_constant(ways: &Ways) -> Onward
     requires { AreWaysWithin ways.now }
     ensures is { IsFromConstant ways.now result }
@@ -196,59 +211,68 @@ fn from_constant(ways: &Ways) -> Onward
 }
 
 // From a register alone, not to that register.
-fn elsewhere_from_alone(ways: &Ways, bests: &Bests) -> Debt
+#[inline(always)]
+fn elsewhere_from_alone<const SECONDS: bool>(ways: &Ways, bests: &Bests) -> Debt
     requires ways { AreWaysWithin ways.now }
     requires bests { AreBestsWithin bests.now }
     ensures { (costs : List ℤ) (r : ℕ) → AreBests costs bests.now → r < 6 →
         IsLeastElsewhere (step_price ways.now r) r costs result.cost }
 {
-    going_on(bests, from_alone(ways))
+    going_on::<SECONDS>(bests, from_alone(ways))
 }
 
 // From a both place, not to its register.
-fn elsewhere_from_both(ways: &Ways, bests: &Bests) -> Debt
+#[inline(always)]
+fn elsewhere_from_both<const SECONDS: bool>(ways: &Ways, bests: &Bests) -> Debt
     requires ways { AreWaysWithin ways.now }
     requires bests { AreBestsWithin bests.now }
     ensures { (costs : List ℤ) (r : ℕ) → AreBests costs bests.now → r < 6 →
         IsLeastElsewhere (step_price ways.now (8 + r)) r costs result.cost }
 {
-    going_on(bests, from_both(ways))
+    going_on::<SECONDS>(bests, from_both(ways))
 }
 
 // From memory, to any place.
-fn debt_in_memory(ways: &Ways, bests: &Bests) -> Debt
+#[inline(always)]
+fn debt_in_memory<const SECONDS: bool>(ways: &Ways, bests: &Bests) -> Debt
     requires ways { AreWaysWithin ways.now }
     requires bests { AreBestsWithin bests.now }
     ensures { (costs : List ℤ) → AreBests costs bests.now →
         IsLeastWay (step_price ways.now 6) costs result.cost }
 {
-    going_on(bests, from_memory(ways))
+    going_on::<SECONDS>(bests, from_memory(ways))
 }
 
 // From a constant that is nowhere, to any place.
-fn debt_nowhere(ways: &Ways, bests: &Bests) -> Debt
+#[inline(always)]
+fn debt_nowhere<const SECONDS: bool>(ways: &Ways, bests: &Bests) -> Debt
     requires ways { AreWaysWithin ways.now }
     requires bests { AreBestsWithin bests.now }
     ensures { (costs : List ℤ) → AreBests costs bests.now →
         IsLeastWay (step_price ways.now 7) costs result.cost }
 {
-    going_on(bests, from_constant(ways))
+    going_on::<SECONDS>(bests, from_constant(ways))
 }
 
 // From register r alone: it goes elsewhere, stays, or is stored and stays.
-fn debt_alone(ways: &Ways, row: &Row, r: usize, elsewhere: Debt) -> Debt
+#[inline(always)]
+fn debt_alone<const SECONDS: bool>(ways: &Ways, row: &Row, r: usize, elsewhere: Debt) -> Debt
     requires ways { AreWaysWithin ways.now }
     requires row { AreDebts row.now.costs }
     requires register { r < 6 }
     requires elsewhere { IsLeastElsewhere (step_price ways.now r) r row.now.costs elsewhere.cost }
     ensures { IsLeastWay (step_price ways.now r) row.now.costs result.cost }
 {
-    let stored = with_way(debt_at(row, 8 + r), ways.store);
-    lesser(elsewhere, lesser(debt_at(row, r), stored))
+    let stored = with_way(debt_at::<SECONDS>(row, 8 + r), ways.store);
+    lesser::<SECONDS>(
+        elsewhere,
+        lesser::<SECONDS>(debt_at::<SECONDS>(row, r), stored),
+    )
 }
 
 // From the both place of register r: it goes elsewhere, or stays, in both or in the register alone.
-fn debt_in_both(ways: &Ways, row: &Row, r: usize, elsewhere: Debt) -> Debt
+#[inline(always)]
+fn debt_in_both<const SECONDS: bool>(ways: &Ways, row: &Row, r: usize, elsewhere: Debt) -> Debt
     requires ways { AreWaysWithin ways.now }
     requires row { AreDebts row.now.costs }
     requires register { r < 6 }
@@ -256,32 +280,53 @@ fn debt_in_both(ways: &Ways, row: &Row, r: usize, elsewhere: Debt) -> Debt
         elsewhere.cost }
     ensures { IsLeastWay (step_price ways.now (8 + r)) row.now.costs result.cost }
 {
-    lesser(elsewhere, lesser(debt_at(row, 8 + r), debt_at(row, r)))
+    let stays = lesser::<SECONDS>(debt_at::<SECONDS>(row, 8 + r), debt_at::<SECONDS>(row, r));
+    lesser::<SECONDS>(elsewhere, stays)
 }
 
-fn put_debt(row: &mut Row, place: usize, debt: Debt)
-    requires { place < 16 }
-    ensures { row.new.costs ≡ slice_set row.old.costs place debt.cost }
+// What is paid at a place and from there on; a closed place stays so.
+#[inline(always)]
+fn paid(cell: i64, rest: i64) -> i64
+    requires cell { IsCellWithin cell }
+    requires rest { IsDebt rest }
+    ensures { IsPaid cell rest result }
 {
-    row.costs[place] = debt.cost;
-    row.seconds[place] = debt.second;
-}
-
-/// What is to be paid before a crossbar, from what is to be paid behind it.
-pub(crate) fn before_crossbar(ways: &Ways, behind: &Row) -> Row
-    requires ways { AreWaysWithin ways.now }
-    requires behind { AreDebts behind.now.costs }
-    ensures { IsBeforeCrossbar ways.now behind.now.costs result.costs }
-{
-    let bests = bests_of(behind);
-    let alone = elsewhere_from_alone(ways, &bests);
-    let both = elsewhere_from_both(ways, &bests);
-    let mut before = *behind;
-    for r in 0..6usize {
-        put_debt(&mut before, r, debt_alone(ways, behind, r, alone));
-        put_debt(&mut before, 8 + r, debt_in_both(ways, behind, r, both));
+    if cell < REACHED {
+        cell + rest
+    } else {
+        UNREACHED
     }
-    put_debt(&mut before, 6, debt_in_memory(ways, &bests));
-    put_debt(&mut before, 7, debt_nowhere(ways, &bests));
-    before
+}
+
+/// Pays at a place what is to be paid from there on.
+#[inline(always)]
+pub(crate) fn pay<const SECONDS: bool>(cells: &mut Row, place: usize, rest: Debt)
+    requires place { place < 16 }
+    requires cell { IsCellWithin (at cells.old.costs place) }
+    requires rest { IsDebt rest.cost }
+    ensures { IsPaidAt place rest.cost cells.old.costs cells.new.costs }
+{
+    cells.costs[place] = paid(cells.costs[place], rest.cost);
+    if SECONDS {
+        cells.seconds[place] = cells.seconds[place].saturating_add(rest.second);
+    }
+}
+
+/// What is paid at each place before a crossbar and from there on, from what is to be paid behind
+/// it.
+pub(crate) fn pay_crossbar<const SECONDS: bool>(ways: &Ways, cells: &mut Row, behind: &Row)
+    requires ways { AreWaysWithin ways.now }
+    requires cells { AreCostsCells cells.old.costs }
+    requires behind { IsRowWithin (2 ^ 60 + 2 ^ 59) behind.now.costs }
+    ensures { ArePaidOver ways.now behind.now.costs cells.old.costs cells.new.costs }
+{
+    let bests = bests_of::<SECONDS>(behind);
+    let alone = elsewhere_from_alone::<SECONDS>(ways, &bests);
+    let both = elsewhere_from_both::<SECONDS>(ways, &bests);
+    for r in 0..6usize {
+        pay::<SECONDS>(cells, r, debt_alone::<SECONDS>(ways, behind, r, alone));
+        pay::<SECONDS>(cells, 8 + r, debt_in_both::<SECONDS>(ways, behind, r, both));
+    }
+    pay::<SECONDS>(cells, 6, debt_in_memory::<SECONDS>(ways, &bests));
+    pay::<SECONDS>(cells, 7, debt_nowhere::<SECONDS>(ways, &bests));
 }

@@ -52,7 +52,15 @@
 //! all lie in one register make that dear and then all leave it together. So `renew` compares pairs:
 //! the cost first, and where costs are equal a second sum, which rows carry beside them. It is what
 //! the path adds to the overload of the family: each register at a layer with l other paths in it
-//! counts 2 l - 1, the growth of a sum of squares. For `least` all seconds are 0.
+//! counts 2 l - 1, the growth of a sum of squares. `least` passes over seconds: the functions that
+//! work on rows are made twice, with them and without.
+//!
+//! # What a layer of a strand takes
+//!
+//! What all places of a layer share is asked once: the set of those that are open, made of the mask,
+//! the registers in use and the wanted ends as one number, and the prices of the six registers. Then
+//! the row is filled by a bit and a price for each place, and the extras that are there, mostly none
+//! or one, are paid at their places. Rows are never copied.
 //!
 //! # Where it is
 //!

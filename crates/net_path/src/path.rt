@@ -1,16 +1,20 @@
 // A path of least cost, read back from the rows by comparing.
 
-ghost use Rattle.std.specs.Prelude.{◌≡◌, ◌⊎◌, ◌≤ℤ◌, ◌&&◌, not, true, false, pos, ◌<◌, ◌≤◌, ◌+◌};
-ghost use Rattle.std.specs.Prelude.{◌%◌, ◌^◌, ℕ, if◌then◌else◌, length, take, None};
-ghost use Rattle.pra_base.specs.Places.{number, has_register, needs_slot, place_count};
-ghost use Rattle.net_path.specs.Ways.{step_price, bring_price, AreWaysWithin, AreDebts, IsShort};
-ghost use Rattle.net_path.specs.Ways.{IsWay, start_price};
+ghost use Rattle.std.specs.Prelude.{◌≡◌, ◌⊎◌, ◌≤ℤ◌, true, false, ◌<◌, ◌≤◌, ◌+◌, ◌%◌, ◌^◌, ℕ};
+ghost use Rattle.std.specs.Prelude.{length, take, None};
+ghost use Rattle.pra_base.specs.Places.{number, place_count};
+ghost use Rattle.net_path.specs.Ways.{step_price, AreWaysWithin, AreDebts, IsShort, IsWay};
+ghost use Rattle.net_path.specs.Ways.{start_price};
+ghost use Rattle.net_path.specs.Leaving.{IsLeaving, into_register, into_memory, leaving_price};
 ghost use Rattle.net_path.specs.Choices.{IsChoice, IsBestChoice, IsBestPlace, IsGoodStart};
 ghost use Rattle.net_path.specs.Rests.{Terrain, Follows};
 ghost use Rattle.net_path.specs.Rows.{costs_at, IsGround};
 
-use crate::crossbar::{Debt, Row, Ways, debt_at, lesser, with_way};
+use crate::crossbar::{Debt, Row, Ways, debt_at, with_way};
 use pra_base::Place;
+
+/// What no register is numbered.
+const NO_REGISTER: u8 = 6;
 
 /// A place to come to, and what is to be paid for the way there and from there on.
 #[derive(Clone, Copy, Debug)]
@@ -20,83 +24,102 @@ pub(crate) struct Choice {
 }
 
 // Whether the first debt is no more than the second.
-fn is_no_more(one: Debt, other: Debt) -> bool
+#[inline(always)]
+fn is_no_more<const SECONDS: bool>(one: Debt, other: Debt) -> bool
     ensures yes { result ≡ true → one.cost ≤ℤ other.cost }
     ensures not { result ≡ false → other.cost ≤ℤ one.cost }
 {
-    one.cost < other.cost || (one.cost == other.cost && one.second <= other.second)
+    one.cost < other.cost || (one.cost == other.cost && (!SECONDS || one.second <= other.second))
 }
 
 // The better of two choices; of equals the first.
-fn better(one: Choice, other: Choice) -> Choice
+#[inline(always)]
+fn better<const SECONDS: bool>(one: Choice, other: Choice) -> Choice
     ensures one { result.debt.cost ≤ℤ one.debt.cost }
     ensures other { result.debt.cost ≤ℤ other.debt.cost }
     ensures met { (result ≡ one) ⊎ (result ≡ other) }
 {
-    if is_no_more(one.debt, other.debt) {
+    if is_no_more::<SECONDS>(one.debt, other.debt) {
         one
     } else {
         other
     }
 }
 
-// What it costs to bring a value from a place into the register of another.
-fn bring(ways: &Ways, from: Place, to: Place) -> i64
+/// What it costs to leave a place: into which register it costs nothing, into another one, and into
+/// memory.
+#[derive(Clone, Copy, Debug)]
+pub(crate) struct Leaving {
+    pub own: u8,
+    pub bring: i64,
+    pub store: i64,
+}
+
+// What it costs to leave a place over a crossbar.
+#[inline(always)]
+fn leave(ways: &Ways, from: Place) -> Leaving
     requires ways { AreWaysWithin ways.now }
-    requires register { has_register (number to) ≡ true }
-    ensures value { result ≡ bring_price ways.now (number from) (number to) }
-    ensures within { IsWay result }
+    ensures is { IsLeaving ways.now (number from) result }
+    ensures bring { IsWay result.bring }
+    ensures store { IsWay result.store }
 {
+    let store = if from.needs_slot() { 0 } else { ways.store };
     if from.has_register() {
-        if from.register() == to.register() {
-            return 0;
-        }
-        return ways.between;
+        return Leaving {
+            own: from.register(),
+            bring: ways.between,
+            store,
+        };
     }
-    if from.needs_slot() {
-        return ways.load;
+    let bring = if from.needs_slot() {
+        ways.load
+    } else {
+        ways.set
+    };
+    Leaving {
+        own: NO_REGISTER,
+        bring,
+        store,
     }
-    ways.set
 }
 
 // What it costs to come into the register of a place, if it has one.
-fn into_register(ways: &Ways, from: Place, to: Place) -> i64
-    requires { AreWaysWithin ways.now }
-    ensures value { result ≡ (if has_register (number to)
-        then bring_price ways.now (number from) (number to) else pos 0) }
+#[inline(always)]
+fn into_register(leaving: &Leaving, to: Place) -> i64
+    requires { IsWay leaving.now.bring }
+    ensures value { result ≡ into_register leaving.now (number to) }
     ensures within { IsWay result }
 {
-    if to.has_register() {
-        bring(ways, from, to)
+    if to.has_register() && to.register() != leaving.own {
+        leaving.bring
     } else {
         0
     }
 }
 
 // What it costs to come into the memory of a place, if it has that and the place before has not.
-fn into_memory(ways: &Ways, from: Place, to: Place) -> i64
-    requires { AreWaysWithin ways.now }
-    ensures value { result ≡ (if needs_slot (number to) && not (needs_slot (number from))
-        then ways.now.store else pos 0) }
+#[inline(always)]
+fn into_memory(leaving: &Leaving, to: Place) -> i64
+    requires { IsWay leaving.now.store }
+    ensures value { result ≡ into_memory leaving.now (number to) }
     ensures within { IsWay result }
 {
-    if to.needs_slot() && !from.needs_slot() {
-        ways.store
-    } else {
-        0
-    }
+    if to.needs_slot() { leaving.store } else { 0 }
 }
 
-// What the way from a place to another costs over a crossbar.
-fn step(ways: &Ways, from: Place, to: Place) -> i64
-    requires { AreWaysWithin ways.now }
-    ensures value { result ≡ step_price ways.now (number from) (number to) }
+// What the way to a place costs over a crossbar.
+#[inline(always)]
+fn step(leaving: &Leaving, to: Place) -> i64
+    requires bring { IsWay leaving.now.bring }
+    requires store { IsWay leaving.now.store }
+    ensures value { result ≡ leaving_price leaving.now (number to) }
     ensures short { IsShort result }
 {
-    into_register(ways, from, to) + into_memory(ways, from, to)
+    into_register(leaving, to) + into_memory(leaving, to)
 }
 
 // The place of a number.
+#[inline(always)]
 pub(crate) fn place_of(place: u8) -> Place
     requires { place < place_count }
     ensures { number result ≡ place }
@@ -105,33 +128,36 @@ pub(crate) fn place_of(place: u8) -> Place
 }
 
 // To come to a place over a crossbar.
-fn choose(ways: &Ways, row: &Row, from: Place, to: Place) -> Choice
-    requires ways { AreWaysWithin ways.now }
+#[inline(always)]
+fn choose<const SECONDS: bool>(leaving: &Leaving, row: &Row, to: Place) -> Choice
+    requires bring { IsWay leaving.now.bring }
+    requires store { IsWay leaving.now.store }
     requires row { AreDebts row.now.costs }
-    ensures { IsChoice (step_price ways.now (number from)) row.now.costs to result }
+    ensures { IsChoice (leaving_price leaving.now) row.now.costs to result }
 {
-    let debt = debt_at(row, to.number() as usize);
+    let debt = debt_at::<SECONDS>(row, to.number() as usize);
     Choice {
         place: to,
-        debt: with_way(debt, step(ways, from, to)),
+        debt: with_way(debt, step(leaving, to)),
     }
 }
 
-/// The best place to come to over a crossbar; of equals that from which the value came.
-pub(crate) fn best_choice(ways: &Ways, row: &Row, from: Place) -> Choice
+// The best place to come to over a crossbar; of equals that from which the value came.
+fn best_choice<const SECONDS: bool>(ways: &Ways, row: &Row, from: Place) -> Choice
     requires ways { AreWaysWithin ways.now }
     requires row { AreDebts row.now.costs }
     ensures { IsBestChoice (step_price ways.now (number from)) row.now.costs 14 result }
 {
-    let mut best = choose(ways, row, from, from);
+    let leaving = leave(ways, from);
+    let mut best = choose::<SECONDS>(&leaving, row, from);
     for number in 0..14u8 {
-        best = better(best, choose(ways, row, from, place_of(number)));
+        best = better::<SECONDS>(best, choose::<SECONDS>(&leaving, row, place_of(number)));
     }
     best
 }
 
 // To begin at a place; a constant that begins in a register is made there.
-fn begin_at(ways: &Ways, constant: bool, row: &Row, to: Place) -> Choice
+fn begin_at<const SECONDS: bool>(ways: &Ways, constant: bool, row: &Row, to: Place) -> Choice
     requires ways { AreWaysWithin ways.now }
     requires row { AreDebts row.now.costs }
     ensures { IsChoice (start_price ways.now constant) row.now.costs to result }
@@ -141,28 +167,57 @@ fn begin_at(ways: &Ways, constant: bool, row: &Row, to: Place) -> Choice
     } else {
         0
     };
-    let debt = debt_at(row, to.number() as usize);
+    let debt = debt_at::<SECONDS>(row, to.number() as usize);
     Choice {
         place: to,
         debt: with_way(debt, made),
     }
 }
 
-/// The best place to begin at.
-pub(crate) fn best_start(ways: &Ways, constant: bool, row: &Row) -> Choice
+// The best place to begin at.
+fn best_start<const SECONDS: bool>(ways: &Ways, constant: bool, row: &Row) -> Choice
     requires ways { AreWaysWithin ways.now }
     requires row { AreDebts row.now.costs }
     ensures { IsBestChoice (start_price ways.now constant) row.now.costs 14 result }
 {
-    let mut best = begin_at(ways, constant, row, Place::Mem);
+    let mut best = begin_at::<SECONDS>(ways, constant, row, Place::Mem);
     for number in 0..14u8 {
-        best = better(best, begin_at(ways, constant, row, place_of(number)));
+        best = better::<SECONDS>(
+            best,
+            begin_at::<SECONDS>(ways, constant, row, place_of(number)),
+        );
     }
     best
 }
 
+/// The best place to begin at, where seconds count or not.
+pub(crate) fn start(ways: &Ways, constant: bool, row: &Row, seconds: bool) -> Choice
+    requires ways { AreWaysWithin ways.now }
+    requires row { AreDebts row.now.costs }
+    ensures { IsBestChoice (start_price ways.now constant) row.now.costs 14 result }
+{
+    if seconds {
+        best_start::<true>(ways, constant, row)
+    } else {
+        best_start::<false>(ways, constant, row)
+    }
+}
+
+// The best place to come to over a crossbar, where seconds count or not.
+fn chosen(ways: &Ways, row: &Row, from: Place, seconds: bool) -> Choice
+    requires ways { AreWaysWithin ways.now }
+    requires row { AreDebts row.now.costs }
+    ensures { IsBestChoice (step_price ways.now (number from)) row.now.costs 14 result }
+{
+    if seconds {
+        best_choice::<true>(ways, row, from)
+    } else {
+        best_choice::<false>(ways, row, from)
+    }
+}
+
 // Where the path goes on from a place to this layer of the block.
-fn next_place(ways: &Ways, layer: u32, row: &Row, from: Place) -> Place
+fn next_place(ways: &Ways, layer: u32, row: &Row, from: Place, seconds: bool) -> Place
     requires ways { AreWaysWithin ways.now }
     requires row { AreDebts row.now.costs }
     ensures across { layer % 2 ≡ 0 → result ≡ from }
@@ -172,12 +227,19 @@ fn next_place(ways: &Ways, layer: u32, row: &Row, from: Place) -> Place
     if layer % 2 == 0 {
         return from;
     }
-    best_choice(ways, row, from).place
+    chosen(ways, row, from, seconds).place
 }
 
 /// Writes the path that begins at a place and goes on to a best place at each further layer; the
 /// first layer is this one of the block.
-pub(crate) fn follow(ways: &Ways, first: u32, rows: &[Row], start: Place, path: &mut [Place])
+pub(crate) fn follow(
+    ways: &Ways,
+    first: u32,
+    rows: &[Row],
+    start: Place,
+    path: &mut [Place],
+    seconds: bool,
+)
     requires ways { AreWaysWithin ways.now }
     requires some { 0 < length rows.now }
     requires few { first + length rows.now ≤ 2 ^ 15 }
@@ -190,7 +252,7 @@ pub(crate) fn follow(ways: &Ways, first: u32, rows: &[Row], start: Place, path: 
     path[0] = start;
     let mut from = start;
     for at in 1..rows.len() {
-        from = next_place(ways, first + at as u32, &rows[at], from);
+        from = next_place(ways, first + at as u32, &rows[at], from, seconds);
         path[at] = from;
     }
 }

@@ -17,7 +17,7 @@ ghost use Rattle.net_path.specs.Ways.{AreWays, AreWaysWithin, IsWay, event_price
 
 use crate::cells::fill_cells;
 use crate::crossbar::{Row, Ways};
-use crate::path::{best_start, follow};
+use crate::path::{follow, start};
 use crate::rows::{REACHED, pay_backward};
 use crate::spread::{Load, spread};
 use crate::work::Work;
@@ -29,8 +29,12 @@ use pra_base::Place;
 #[derive(Clone, Copy, Debug, PartialEq, Eq)]
 pub struct NoPath;
 
-// What an event costs, in units of 1/1024.
-fn price_of<F: Fn(Event, u32) -> u32>(model: &CostModel<F>, event: Event, depth: u32) -> i64
+/// What an event costs, in units of 1/1024.
+pub(crate) fn price_of<F: Fn(Event, u32) -> u32>(
+    model: &CostModel<F>,
+    event: Event,
+    depth: u32,
+) -> i64
     requires kept { Keeps F.Fn model.now }
     requires depth { depth ≤ deepest }
     ensures value { result ≡ event_price (weights_of model.now) depth (event_number event) }
@@ -56,9 +60,9 @@ fn ways_of<F: Fn(Event, u32) -> u32>(model: &CostModel<F>, near: bool, depth: u3
     }
 }
 
-/// Finds a least path over rows of what is paid at each place, with a place for each layer of the
-/// strand to write to.
-pub(crate) fn find<F: Fn(Event, u32) -> u32>(
+// Finds a least path over rows of what is paid at each place, with a place for each layer of the
+// strand to write to. Where seconds count, they decide between paths of one cost.
+fn find<F: Fn(Event, u32) -> u32>(
     net: &Net,
     model: &CostModel<F>,
     _prices: &Prices,
@@ -67,6 +71,7 @@ pub(crate) fn find<F: Fn(Event, u32) -> u32>(
     _taken: &Taken,
     rows: &mut [Row],
     path: &mut [Place],
+    seconds: bool,
 ) -> Result<i64, NoPath>
     requires kept { Keeps F.Fn model.now }
     requires net { IsBuilt net.now }
@@ -90,12 +95,12 @@ pub(crate) fn find<F: Fn(Event, u32) -> u32>(
 {
     let first = net.strands[strand].first;
     let ways = ways_of(model, net.near, net.depth(strand));
-    pay_backward(&ways, first, rows);
-    let start = best_start(&ways, net.strands[strand].constant, &rows[0]);
+    pay_backward(&ways, first, rows, seconds);
+    let start = start(&ways, net.strands[strand].constant, &rows[0], seconds);
     if start.debt.cost >= REACHED {
         return Err(NoPath);
     }
-    follow(&ways, first, rows, start.place, path);
+    follow(&ways, first, rows, start.place, path, seconds);
     Ok(start.debt.cost)
 }
 
@@ -130,7 +135,7 @@ pub(crate) fn search<F: Fn(Event, u32) -> u32>(
         MayGo net.now ends (UsesNothing net.now taken.now) strand ps → ⊥) }
 {
     fill_cells(net, model, prices, ends, taken, strand, rows);
-    find(net, model, prices, strand, ends, taken, rows, path)
+    find(net, model, prices, strand, ends, taken, rows, path, false)
 }
 
 /// Finds a least path, wherever it begins and ends, that leaves other paths of the family alone, with
@@ -171,7 +176,7 @@ pub(crate) fn search_spread<F: Fn(Event, u32) -> u32>(
     };
     fill_cells(net, model, prices, ends, taken, strand, rows);
     spread(net, prices, family, strand, loads, rows);
-    find(net, model, prices, strand, ends, taken, rows, path)
+    find(net, model, prices, strand, ends, taken, rows, path, true)
 }
 
 // The same, with rows and a path for as many layers at least.

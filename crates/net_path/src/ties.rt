@@ -63,21 +63,19 @@ fn tie_pay(prices: &Prices, leaves: bool, tie: usize, place: Place) -> i64
     if leaves { number } else { -number }
 }
 
-// A row that pays the numbers of a tie too.
-fn with_tie(row: &Row, prices: &Prices, leaves: bool, tie: usize) -> Row
-    requires row { HavePayRoom row.now.costs }
+// Pays the numbers of a tie.
+fn pay_tie(row: &mut Row, prices: &Prices, leaves: bool, tie: usize)
+    requires row { HavePayRoom row.old.costs }
     requires small { tie < 2 ^ 32 }
     requires tie { 13 * tie + 13 ≤ length prices.now.ties }
     requires most { All (λ z. z ≤ℤ pos (2 ^ 40)) prices.now.ties }
     requires least { All (λ z. (pos 0 -ℤ pos (2 ^ 40)) ≤ℤ z) prices.now.ties }
-    ensures { ArePaidMore (tie_pay prices.now leaves tie) row.now.costs result.costs }
+    ensures { ArePaidMore (tie_pay prices.now leaves tie) row.old.costs row.new.costs }
 {
-    let mut paid = *row;
     for p in 0..14u8 {
         let more = tie_pay(prices, leaves, tie, place_of(p));
-        paid.costs[p as usize] = cost_with(row, p as usize, more);
+        row.costs[p as usize] = cost_with(row, p as usize, more);
     }
-    paid
 }
 
 /// Pays the numbers of the ties that go from a strand.
@@ -92,7 +90,7 @@ pub(crate) fn pay_exits(net: &Net, prices: &Prices, strand: usize, row: &mut Row
     let start = net.index.exits[strand];
     let stop = net.index.exits[strand + 1];
     for tie in start..stop {
-        *row = with_tie(row, prices, true, tie as usize);
+        pay_tie(row, prices, true, tie as usize);
     }
 }
 
@@ -109,6 +107,6 @@ pub(crate) fn pay_entries(net: &Net, prices: &Prices, strand: usize, row: &mut R
     let stop = net.index.entries[strand + 1];
     for at in start..stop {
         let tie = net.index.arrivals[at as usize];
-        *row = with_tie(row, prices, false, tie as usize);
+        pay_tie(row, prices, false, tie as usize);
     }
 }

@@ -24,13 +24,13 @@ loop-at-preserved g c =
     c.args.prices.now c.args.ends c.args.taken.now (layer_spot net s k) row.costs in
     let one = subst (λ (l : ℕ). ArePlainCells net (weights_of c.args.model.now) c.args.prices.now
     c.args.ends c.args.taken.now (record { strand = s; layer = l; extra = c.loop-at.extra })
-    c.plain_row.result.costs) here c.plain_row.ensures.cells in
-    let two : Cells k c.plain_row.result =
+    c.plain_row.new.row.costs) here c.plain_row.ensures in
+    let two : Cells k c.plain_row.new.row =
     subst (λ (x : ℕ). ArePlainCells net (weights_of c.args.model.now) c.args.prices.now
     c.args.ends c.args.taken.now (record { strand = s; layer = layer net s k; extra = x })
-    c.plain_row.result.costs) c.loop-at.invariant.extra one in
+    c.plain_row.new.row.costs) c.loop-at.invariant.extra one in
     record {
       extra = c.next_extra-extra.ensures ∙ ap (first_extra net s) next;
-      cells = stored Cells c.loop-at.rows no_row k c.plain_row.result
+      cells = stored Cells c.loop-at.rows no_row k c.plain_row.new.row
           (omega (arith, c.loop-at-test.true, c.loop-at.auto.rows)) c.loop-at.invariant.cells two;
     }

@@ -4,7 +4,7 @@ use Rattle.net_path.proofs.Leasts.{least_within}
 use Rattle.net_path.proofs.crossbar.bests_of.Goals as goal
 
 pub returns-clause-within : goal.returns-clause-within
-returns-clause-within c = record {
+returns-clause-within g c = record {
   alone = least_within c.args.row.now.costs 0 6 _ (omega arith) (omega arith) c.requires
       c.least_of_six.ensures;
   both = least_within c.args.row.now.costs 8 6 _ (omega arith) (omega arith) c.requires

@@ -5,13 +5,13 @@ use Rattle.net_path.proofs.Staying.{stays_alone}
 use Rattle.net_path.proofs.crossbar.debt_alone.Goals as goal
 
 pub with_way-stored-requires-clause-debt : goal.with_way-stored-requires-clause-debt
-with_way-stored-requires-clause-debt c =
+with_way-stored-requires-clause-debt g c =
     let debt = c.requires.row (8 + c.args.r) (omega (arith, c.requires.register)) in
     let is = c.debt_at.ensures in
     (omega (arith, ints, debt, is), omega (arith, ints, debt, is))
 
 pub returns : goal.returns
-returns c =
+returns g c =
     let debt = c.requires.row (8 + c.args.r) (omega (arith, c.requires.register)) in
     let stored : c.with_way-stored.result.cost
     ≡ c.args.ways.now.store +ℤ at c.args.row.now.costs (8 + c.args.r) = omega (

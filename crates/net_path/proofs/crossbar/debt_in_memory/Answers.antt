@@ -2,7 +2,7 @@ use Rattle.net_path.proofs.Elsewhere.{least_anywhere, least_elsewhere, memory_bo
 use Rattle.net_path.proofs.crossbar.debt_in_memory.Goals as goal
 
 pub returns : goal.returns
-returns c = λ costs are.
+returns g c = λ costs are.
     least_anywhere _ _ _ (least_elsewhere _ 14 c.from_memory.result costs c.args.bests.now
     (memory_bounds c.args.ways.now c.requires.ways c.from_memory.result 14 c.from_memory.ensures.is)
     are _ c.going_on.ensures)

@@ -1,5 +1,4 @@
-use Rattle.std.proofs.Common.{◌≡◌, ℕ, ◌<◌, List, [], length, get_or}
-use Rattle.pra_base.specs.declared.ids.Place.{Place}
+use Rattle.std.proofs.Common.{◌≡◌, ℕ, ◌<◌, [], length, get_or}
 use Rattle.net_form.specs.Admitted.{strand_at}
 use Rattle.net_path.proofs.family.no_paths.Given as goal
 

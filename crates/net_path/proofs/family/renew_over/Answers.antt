@@ -1,4 +1,4 @@
-use Rattle.std.proofs.Common.{◌≡◌, ◌∙◌, List, take, get_or, ap, sym, subst, [], get_or-set_same}
+use Rattle.std.proofs.Common.{◌≡◌, ◌∙◌, List, get_or, ap, sym, subst, [], get_or-set_same}
 use Rattle.std.proofs.Common.{arith}
 use Rattle.pra_base.specs.declared.ids.Place.{Place}
 use Rattle.net_cost.specs.Models.{weights_of}

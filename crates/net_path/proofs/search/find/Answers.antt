@@ -13,8 +13,8 @@ use Rattle.net_path.proofs.Grounded.{ready}
 use Rattle.net_path.proofs.LeastPath.{no_path, least_path, below_of}
 use Rattle.net_path.proofs.search.find.Goals as goal
 
-pub best_start-start-requires-clause-row : goal.best_start-start-requires-clause-row
-best_start-start-requires-clause-row g c =
+pub start-start-requires-clause-row : goal.start-start-requires-clause-row
+start-start-requires-clause-row g c =
     let order = (c.requires.net.formed.strands c.args.strand no_strand c.requires.strand).order in
     c.pay_backward.ensures.debts 0 (omega (
       arith,
@@ -37,12 +37,12 @@ returns-then-start-ge-REACHED-clause-none g c =
     w c.requires.kept.valid c.args._ends (is_free net c.args._taken.now) s n c.requires.rows
     c.ways_of-ways.result c.depth.result c.index.result.now.first (length c.args.rows.now)
     c.index-2.result.now.constant (costs_at c.pay_backward.new.rows) c.args.rows.now
-    c.best_start-start.result c.ways_of-ways.ensures.are c.depth.ensures.value
+    c.start-start.result c.ways_of-ways.ensures.are c.depth.ensures.value
     (ap (λ (t : Strand). t.first) t) refl
     (ap (λ (t : Strand). t.constant) u) c.requires.cells c.pay_backward.ensures.rows
-    c.best_start-start.ensures in
-    let fits : SFits w64 c.best_start-start.result.debt.cost = search rules in
-    let cost = c.best_start-start.result.debt.cost in
+    c.start-start.ensures in
+    let fits : SFits w64 c.start-start.result.debt.cost = search rules in
+    let cost = c.start-start.result.debt.cost in
     let whole : to_z w64 (of_z w64 cost) ≡ cost = to_z-of_z w64 cost fits in
     no_path net c.requires.net c.args._prices.now c.requires.prices w c.requires.kept.valid
     c.args._ends c.args._taken.now s n c.requires.strand c.requires.rows
@@ -87,12 +87,12 @@ returns-clause-found g c =
     w c.requires.kept.valid c.args._ends (is_free net c.args._taken.now) s n c.requires.rows
     c.ways_of-ways.result c.depth.result c.index.result.now.first (length c.args.rows.now)
     c.index-2.result.now.constant (costs_at c.pay_backward.new.rows) c.args.rows.now
-    c.best_start-start.result c.ways_of-ways.ensures.are c.depth.ensures.value
+    c.start-start.result c.ways_of-ways.ensures.are c.depth.ensures.value
     (ap (λ (t : Strand). t.first) t) refl
     (ap (λ (t : Strand). t.constant) u) c.requires.cells c.pay_backward.ensures.rows
-    c.best_start-start.ensures in
-    let fits : SFits w64 c.best_start-start.result.debt.cost = search rules in
-    let cost = c.best_start-start.result.debt.cost in
+    c.start-start.ensures in
+    let fits : SFits w64 c.start-start.result.debt.cost = search rules in
+    let cost = c.start-start.result.debt.cost in
     let whole : to_z w64 (of_z w64 cost) ≡ cost = to_z-of_z w64 cost fits in
     let near : cost <ℤ pos (2 ^ 61) =
     below_of (pos (2 ^ 61)) cost (rw whole at c.if-start-ge-REACHED.false) in
@@ -131,12 +131,12 @@ returns-clause-cost g c =
     w c.requires.kept.valid c.args._ends (is_free net c.args._taken.now) s n c.requires.rows
     c.ways_of-ways.result c.depth.result c.index.result.now.first (length c.args.rows.now)
     c.index-2.result.now.constant (costs_at c.pay_backward.new.rows) c.args.rows.now
-    c.best_start-start.result c.ways_of-ways.ensures.are c.depth.ensures.value
+    c.start-start.result c.ways_of-ways.ensures.are c.depth.ensures.value
     (ap (λ (t : Strand). t.first) t) refl
     (ap (λ (t : Strand). t.constant) u) c.requires.cells c.pay_backward.ensures.rows
-    c.best_start-start.ensures in
-    let fits : SFits w64 c.best_start-start.result.debt.cost = search rules in
-    let cost = c.best_start-start.result.debt.cost in
+    c.start-start.ensures in
+    let fits : SFits w64 c.start-start.result.debt.cost = search rules in
+    let cost = c.start-start.result.debt.cost in
     let whole : to_z w64 (of_z w64 cost) ≡ cost = to_z-of_z w64 cost fits in
     let near : cost <ℤ pos (2 ^ 61) =
     below_of (pos (2 ^ 61)) cost (rw whole at c.if-start-ge-REACHED.false) in

@@ -1,4 +1,4 @@
-use Rattle.std.proofs.Common.{◌+◌, length, arith}
+use Rattle.std.proofs.Common.{◌+◌, arith}
 use Rattle.std.proofs.lemmas.List.{get_or_read}
 use Rattle.net_path.proofs.ExitTies.{exits_long, exits_within}
 use Rattle.net_path.proofs.spread.draw_exits.Goals as goal

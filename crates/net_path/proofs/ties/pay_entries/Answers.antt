@@ -41,8 +41,8 @@ index-tie-requires c =
     let few = entries_few net c.requires.net.formed s c.requires.strand in
     omega (arith, to, few, c.loop-at-test.true)
 
-pub with_tie-requires-clause-row : goal.with_tie-requires-clause-row
-with_tie-requires-clause-row c =
+pub pay_tie-requires-clause-row : goal.pay_tie-requires-clause-row
+pay_tie-requires-clause-row c =
     let net = c.args.net.now in
     let s = c.args.strand in
     let few = few_arrivals net c.requires.net s in
@@ -56,8 +56,8 @@ with_tie-requires-clause-row c =
     (tie_small net c.requires.net c.args.prices.now c.requires.prices i place)) in
     (omega (arith, ints, sum, size, few, long), omega (arith, ints, sum, size, few, long)))
 
-pub with_tie-requires-clause-tie : goal.with_tie-requires-clause-tie
-with_tie-requires-clause-tie c =
+pub pay_tie-requires-clause-tie : goal.pay_tie-requires-clause-tie
+pay_tie-requires-clause-tie c =
     let net = c.args.net.now in
     let s = c.args.strand in
     let long = entries_long net c.requires.net.formed in
@@ -104,7 +104,7 @@ loop-at-preserved c =
     let size = length-take j xs in
     record {
       after = omega (arith, c.loop-at.invariant.after);
-      paid = rw next (one_more c.args.row.now.costs c.loop-at.row.costs c.with_tie.result.costs _
+      paid = rw next (one_more c.args.row.now.costs c.loop-at.row.costs c.pay_tie.new.row.costs _
           (tie_pay c.args.prices.now false c.index-tie.result.now) _ c.requires.row
           (λ place. let sum = about_sum (λ i. tie_pay c.args.prices.now false i place) (take j xs)
           (λ i. pay_about c.args.prices.now false i place
@@ -120,7 +120,7 @@ loop-at-preserved c =
           ∙ total-append f (take j xs) (get_or xs j 0 ∷ []) in
           let last = ap f is in
           omega (arith, ints, both, last))
-          c.loop-at.invariant.paid c.with_tie.ensures);
+          c.loop-at.invariant.paid c.pay_tie.ensures);
     }
 
 pub returns : goal.returns

@@ -32,8 +32,8 @@ loop-tie-init c =
     let none : c.index-start.result.now - get_or net.index.exits s 0 ≡ 0 = omega (arith, from) in
     record { after = omega (arith, from); paid = rw none (none_more c.args.row.now.costs) }
 
-pub with_tie-requires-clause-row : goal.with_tie-requires-clause-row
-with_tie-requires-clause-row c =
+pub pay_tie-requires-clause-row : goal.pay_tie-requires-clause-row
+pay_tie-requires-clause-row c =
     let net = c.args.net.now in
     let s = c.args.strand in
     let long = exits_long net c.requires.net.formed c.requires.net.in_order.ties in
@@ -53,8 +53,8 @@ with_tie-requires-clause-row c =
       omega (arith, ints, sum, size, to, few, two, c.loop-tie-test.true),
     ))
 
-pub with_tie-requires-clause-tie : goal.with_tie-requires-clause-tie
-with_tie-requires-clause-tie c =
+pub pay_tie-requires-clause-tie : goal.pay_tie-requires-clause-tie
+pay_tie-requires-clause-tie c =
     let net = c.args.net.now in
     let s = c.args.strand in
     let long = exits_long net c.requires.net.formed c.requires.net.in_order.ties in
@@ -82,7 +82,7 @@ loop-tie-preserved c =
     let here : a + n ≡ c.loop-tie.tie = omega (arith, c.loop-tie.invariant.after) in
     record {
       after = omega (arith, c.loop-tie.invariant.after);
-      paid = rw next (one_more c.args.row.now.costs c.loop-tie.row.costs c.with_tie.result.costs _
+      paid = rw next (one_more c.args.row.now.costs c.loop-tie.row.costs c.pay_tie.new.row.costs _
           (tie_pay c.args.prices.now true c.loop-tie.tie) _ c.requires.row
           (λ place. let sum = about_sum (λ i. tie_pay c.args.prices.now true i place)
           (range_with_len a n)
@@ -97,7 +97,7 @@ loop-tie-preserved c =
           ∙ total-append f (range_with_len a n) ((a + n) ∷ []) in
           let last = ap f here in
           omega (arith, ints, both, last))
-          c.loop-tie.invariant.paid c.with_tie.ensures);
+          c.loop-tie.invariant.paid c.pay_tie.ensures);
     }
 
 pub returns : goal.returns
