@@ -1,16 +1,17 @@
 -- Bytes of a certificate have one answer.
-use Rattle.std.proofs.Common.{◌≡◌, ◌↔◌, ℕ, Bool, true, false, ◌⊎◌, List, Option, Some, Result, Ok, Err}
-use Rattle.std.proofs.Common.{inl, inr, refl, sym, ap, ◌∙◌, subst}
+use Rattle.std.proofs.Common.{◌≡◌, ◌↔◌, ◌<◌, ℕ, Bool, true, false, List, Some, Ok}
+use Rattle.std.proofs.Common.{Err, inl, inr, refl, sym, ap, ◌∙◌, subst, length}
 use Rattle.serde_json.specs.Data.{Data}
+use Rattle.pra_list.specs.Each.{Each}
 use Rattle.pra_list.proofs.Options.{some_same}
 use Rattle.pra_list.proofs.Truths.{true_false}
 use Rattle.cert_form.specs.declared.certificate.Certificate.{Certificate}
-use Rattle.cert_form.specs.declared.text.CertFault.{CertFault}
 use Rattle.cert_form.specs.declared.text.CertFault.TheVariants.{NotJson, NotCertificate}
 use Rattle.cert_form.specs.declared.text.CertFault.TheVariants.{OutOfMemory}
 use Rattle.cert_form.specs.Form.{certificate_data}
 use Rattle.cert_form.specs.Reading.{certificate_of}
-use Rattle.cert_form.specs.Whole.{IsWhole, IsReadAs, IsNoJson, IsOfNone, Reads}
+use Rattle.cert_form.specs.Whole.{CertFits, AreNumbered, IsWhole, IsReadAs, IsOfNone, Reads}
+use Rattle.cert_form.specs.Whole.{IsReadAgain}
 use Rattle.cert_form.proofs.CertsRead.{certificate_back, only_certificate}
 
 one_reading : (bytes : List ℕ) (a b : Data) → IsReadAs bytes a → IsReadAs bytes b → a ≡ b
@@ -22,7 +23,7 @@ pub other_value : (d : Data) (c : Certificate) (same : Bool) → certificate_of 
 other_value d c same e alike differs o h g =
     true_false same (alike.1 (g ∙ ap certificate_data (only_certificate d c e o h g))) differs
 
--- one that is
+-- a value that is
 pub same_value : (bytes : List ℕ) (d : Data) (c : Certificate) (same : Bool) → IsReadAs bytes d →
     IsWhole c → ((same ≡ true) ↔ (d ≡ certificate_data c)) → same ≡ true → Reads bytes (Ok c)
 same_value bytes d c same r h alike e =
@@ -33,9 +34,8 @@ pub only_one : (a b : Certificate) → IsWhole a → IsWhole b →
 only_one a b h k e =
     some_same a b (sym (certificate_back a h) ∙ ap certificate_of e ∙ certificate_back b k)
 
-pub is_read : (c : Certificate) (bytes : List ℕ) → IsWhole c → IsReadAs bytes (certificate_data c) →
-    (answer : Result Certificate CertFault) → Reads bytes answer →
-    (answer ≡ Ok c) ⊎ (answer ≡ Err OutOfMemory)
+pub is_read : (c : Certificate) (bytes : List ℕ) → IsWhole c →
+    IsReadAs bytes (certificate_data c) → IsReadAgain c bytes
 is_read c bytes h r (Ok o) k =
     inl (ap (λ x. Ok x) (only_one o c k.1 h
     (one_reading bytes (certificate_data o) (certificate_data c) k.0 r)))
@@ -43,3 +43,9 @@ is_read c bytes h r (Err NotJson) k = absurd (k (certificate_data c) r)
 is_read c bytes h r (Err NotCertificate) k =
     absurd (k.2 c h (one_reading bytes k.0 (certificate_data c) k.1 r))
 is_read c bytes h r (Err OutOfMemory) k = inr refl
+
+pub is_read_again : (c : Certificate) (bytes : List ℕ) → Each CertFits c.procs →
+    IsReadAs bytes (certificate_data c) → 0 < length c.procs → AreNumbered 0 c.procs →
+    IsReadAgain c bytes
+is_read_again c bytes fits r some numbered =
+    is_read c bytes (record { some = some; numbered = numbered; fits = fits }) r

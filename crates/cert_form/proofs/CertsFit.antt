@@ -1,7 +1,7 @@
 -- A certificate that is read is whole, if it has a procedure.
 use Rattle.std.proofs.Common.{◌≡◌, ◌↔◌, ℕ, suc, ◌<◌, Bool, true, false, List, [], ◌∷◌, Option, Some}
 use Rattle.std.proofs.Common.{None, refl, subst, nat_lt, codes, length, arith}
-use Rattle.std.specs.Prelude.{if◌then◌else◌, IfSome}
+use Rattle.std.specs.Prelude.{IfSome}
 use Rattle.std.proofs.lemmas.Bool.{ltb-true}
 use Rattle.serde_json.specs.Data.{Data, Items, item, no_items}
 use Rattle.serde_json.specs.Find.{get, as_array}
@@ -18,13 +18,17 @@ use Rattle.cert_form.specs.declared.certificate.CapAt.{CapAt}
 use Rattle.cert_form.specs.declared.certificate.TieAt.{TieAt}
 use Rattle.cert_form.specs.declared.certificate.Cert.{Cert}
 use Rattle.cert_form.specs.declared.certificate.Certificate.{Certificate}
-use Rattle.cert_form.specs.Reading.{natural_under, long_under, list_under, kind_of, block_of, path_of}
-use Rattle.cert_form.specs.Reading.{cap_of, tie_of, code_of, cert_of, numbered_cert, certs_of, cost_at}
+use Rattle.cert_form.specs.Reading.{natural_under, long_under, list_under, kind_of, block_of}
+use Rattle.cert_form.specs.Reading.{path_of}
+use Rattle.cert_form.specs.Reading.{cap_of, tie_of, code_of, cert_of, numbered_cert, certs_of}
+use Rattle.cert_form.specs.Reading.{cost_at}
 use Rattle.cert_form.specs.Reading.{certificate_of}
-use Rattle.cert_form.specs.Whole.{IsNatural, IsLong, KindFits, BlockFits, CapFits, TieFits, CertFits}
+use Rattle.cert_form.specs.Whole.{IsNatural, IsLong, KindFits, BlockFits, CapFits, TieFits}
+use Rattle.cert_form.specs.Whole.{CertFits}
 use Rattle.cert_form.specs.Whole.{AreNumbered, IsWhole}
 use Rattle.cert_form.proofs.PartsFit.{guarded, of_any, of_fit, of_one, of_two, natural_under_fits}
-use Rattle.cert_form.proofs.PartsFit.{long_under_fits, list_under_fits, kind_fits, block_fits, cap_fits}
+use Rattle.cert_form.proofs.PartsFit.{long_under_fits, list_under_fits, kind_fits, block_fits}
+use Rattle.cert_form.proofs.PartsFit.{cap_fits}
 use Rattle.cert_form.proofs.PartsFit.{tie_fits}
 
 record CodeFits (n : ℕ) (c : VProc) : Type 0 where

@@ -1,9 +1,8 @@
 -- A whole certificate that is written is read again.
-use Rattle.std.proofs.Common.{◌≡◌, ℕ, zero, suc, ◌<◌, List, [], ◌∷◌, map, Option, Some, None, refl}
-use Rattle.std.proofs.Common.{sym, ap, ◌∙◌, subst, nat_lt, codes, length, arith}
+use Rattle.std.proofs.Common.{◌≡◌, ℕ, suc, List, [], ◌∷◌, map, Some, None, refl}
+use Rattle.std.proofs.Common.{sym, ap, ◌∙◌, nat_lt, length, arith}
 use Rattle.std.proofs.lemmas.Bool.{lt-ltb}
-use Rattle.serde_json.specs.Data.{Data, Items, item, no_items}
-use Rattle.serde_json.specs.Find.{get, as_str, as_array}
+use Rattle.serde_json.specs.Data.{Data}
 use Rattle.serde_json.specs.View.{items_of}
 use Rattle.pra_list.specs.Options.{◌>>=◌}
 use Rattle.pra_list.specs.Each.{Each}
@@ -12,8 +11,6 @@ use Rattle.pra_list.proofs.Options.{some_same}
 use Rattle.pra_base.specs.declared.ids.ProcId.{ProcId}
 use Rattle.pra_base.specs.declared.ids.Place.{Place}
 use Rattle.pra_base.specs.declared.code.VProc.{VProc}
-use Rattle.pra_base.specs.declared.code.VarKind.{VarKind}
-use Rattle.pra_base.specs.declared.code.Block.{Block}
 use Rattle.cert_form.specs.declared.certificate.CostWord.{CostWord}
 use Rattle.cert_form.specs.declared.certificate.CostWord.TheVariants.{Size, Speed}
 use Rattle.cert_form.specs.declared.certificate.CapAt.{CapAt}
@@ -24,7 +21,7 @@ use Rattle.cert_form.specs.Form.{natural, list, kind_data, block_data, path_data
 use Rattle.cert_form.specs.Form.{tie_data, cert_data, cost_name, certificate_data}
 use Rattle.cert_form.specs.Reading.{long_natural, natural_of, list_of, kind_of, block_of, path_of}
 use Rattle.cert_form.specs.Reading.{cap_of, tie_of, code_of, cert_of, numbered_cert, certs_of}
-use Rattle.cert_form.specs.Reading.{cost_of, cost_at, certificate_of}
+use Rattle.cert_form.specs.Reading.{cost_of, certificate_of}
 use Rattle.cert_form.specs.Whole.{IsNatural, KindFits, BlockFits, CapFits, TieFits, CertFits}
 use Rattle.cert_form.specs.Whole.{AreNumbered, IsWhole}
 use Rattle.cert_form.proofs.PartsRead.{two, three, four, natural_read, long_natural_read, each_read}
@@ -33,7 +30,8 @@ use Rattle.cert_form.proofs.PartsRead.{kind_read, block_read, paths_read, cap_re
 code_read : (c : Cert) → CertFits c → code_of c.code.id.0 (cert_data c) ≡ Some c.code
 code_read c h =
     four (natural_of (natural c.code.aggregates)) (natural_of (natural c.code.args))
-    (list_of kind_of (list kind_data c.code.vars)) (list_of block_of (list block_data c.code.blocks))
+    (list_of kind_of (list kind_data c.code.vars))
+    (list_of block_of (list block_data c.code.blocks))
     c.code.aggregates c.code.args c.code.vars c.code.blocks
     (λ g a v b. let i : ProcId = record { 0 = c.code.id.0 } in
     let made : VProc = record { id = i; args = a; aggregates = g; vars = v; blocks = b } in

@@ -1,13 +1,14 @@
--- Lists of parts, read from the front on.
-use Rattle.std.proofs.Common.{◌≡◌, ℕ, suc, ◌+◌, ◌<◌, List, [], ◌∷◌, ◌++◌, length, drop, get_or, Option}
-use Rattle.std.proofs.Common.{Some, None, refl, sym, ap, ◌∙◌, arith, append-nil, drop-cons, add-one}
-use Rattle.std.proofs.lemmas.List.{drop_all, length-append}
+-- Lists of parts, from the front on.
+use Rattle.std.proofs.Common.{◌≡◌, ℕ, suc, ◌+◌, ◌<◌, List, [], ◌∷◌, ◌++◌, length, drop, get_or}
+use Rattle.std.proofs.Common.{Option, Some, None, refl, sym, ap, ◌∙◌, append_assoc, drop-cons}
+use Rattle.std.proofs.Common.{add-one}
+use Rattle.std.proofs.lemmas.List.{length-append}
 use Rattle.serde_json.specs.Data.{Data, Items, item}
 use Rattle.serde_json.specs.View.{view, items_view}
 use Rattle.serde_json.specs.declared.value.Value.{Value}
 use Rattle.pra_list.specs.Options.{◌>>=◌}
 use Rattle.cert_form.specs.declared.certificate.Cert.{Cert}
-use Rattle.cert_form.specs.Reading.{each, certs_of, numbered_cert}
+use Rattle.cert_form.specs.Reading.{certs_of, numbered_cert}
 
 -- with what was read before
 abbrev pub joined : {A : Type 0} → List A → Option (List A) → Option (List A)
@@ -16,21 +17,7 @@ joined xs o = o >>= (λ ys. Some (xs ++ ys))
 regroup : {A : Type 0} (xs : List A) (x : A) (o : Option (List A)) →
     joined xs (o >>= (λ ys. Some (x ∷ ys))) ≡ joined (xs ++ x ∷ []) o
 regroup xs x None = refl
-regroup xs x (Some ys) = ap (λ zs. Some zs) (sym_assoc xs x ys)
-  where
-    sym_assoc : {A : Type 0} (xs : List A) (x : A) (ys : List A) →
-        xs ++ x ∷ ys ≡ (xs ++ x ∷ []) ++ ys
-    sym_assoc [] x ys = refl
-    sym_assoc (z ∷ xs) x ys = ap (λ zs. z ∷ zs) (sym_assoc xs x ys)
-
-pub one_more : {A : Type 0} (f : Data → Option A) (d : Data) (x : A) (ds : Items) (xs : List A) →
-    f d ≡ Some x → joined xs (each f (item d ds)) ≡ joined (xs ++ x ∷ []) (each f ds)
-one_more f d x ds xs e = ap (λ o. joined xs (o >>= (λ y. each f ds >>= (λ ys. Some (y ∷ ys))))) e
-    ∙ regroup xs x (each f ds)
-
-pub none_more : {A : Type 0} (f : Data → Option A) (d : Data) (ds : Items) (xs : List A) →
-    f d ≡ None → joined xs (each f (item d ds)) ≡ None
-none_more f d ds xs e = ap (λ o. joined xs (o >>= (λ y. each f ds >>= (λ ys. Some (y ∷ ys))))) e
+regroup xs x (Some ys) = ap (λ zs. Some zs) (sym (append_assoc xs (x ∷ []) ys))
 
 pub one_cert : (n : ℕ) (d : Data) (x : Cert) (ds : Items) (xs : List Cert) →
     numbered_cert n d ≡ Some x →
@@ -38,11 +25,6 @@ pub one_cert : (n : ℕ) (d : Data) (x : Cert) (ds : Items) (xs : List Cert) →
 one_cert n d x ds xs e =
     ap (λ o. joined xs (o >>= (λ y. certs_of (suc n) ds >>= (λ ys. Some (y ∷ ys))))) e
     ∙ regroup xs x (certs_of (suc n) ds)
-
-pub no_cert : (n : ℕ) (d : Data) (ds : Items) (xs : List Cert) →
-    numbered_cert n d ≡ None → joined xs (certs_of n (item d ds)) ≡ None
-no_cert n d ds xs e =
-    ap (λ o. joined xs (o >>= (λ y. certs_of (suc n) ds >>= (λ ys. Some (y ∷ ys))))) e
 
 pub one_longer : {A : Type 0} (xs ys : List A) (x : A) (n : ℕ) → ys ≡ xs ++ x ∷ [] →
     length xs ≡ n → length ys ≡ n + 1
@@ -56,26 +38,6 @@ drop_next vs i v h e =
     drop-cons vs i v h ∙ ap (λ w. w ∷ drop (suc i) vs) (sym e)
     ∙ ap (λ k. v ∷ drop k vs) (sym (add-one i))
 
-pub item_next : {A : Type 0} (f : Data → Option A) (vs : List Value) (i : ℕ) (v : Value) (x : A)
-    (xs : List A) → i < length vs → v ≡ get_or vs i v → f (view v) ≡ Some x →
-    joined xs (each f (items_view (drop i vs)))
-    ≡ joined (xs ++ x ∷ []) (each f (items_view (drop (i + 1) vs)))
-item_next f vs i v x xs h e g =
-    ap (λ l. joined xs (each f (items_view l))) (drop_next vs i v h e)
-    ∙ one_more f (view v) x (items_view (drop (i + 1) vs)) xs g
-
-pub item_none : {A : Type 0} (f : Data → Option A) (vs : List Value) (i : ℕ) (v : Value)
-    (xs : List A) → i < length vs → v ≡ get_or vs i v → f (view v) ≡ None →
-    joined xs (each f (items_view (drop i vs))) ≡ None
-item_none f vs i v xs h e g =
-    ap (λ l. joined xs (each f (items_view l))) (drop_next vs i v h e)
-    ∙ none_more f (view v) (items_view (drop (i + 1) vs)) xs g
-
-pub all_items : {A : Type 0} (f : Data → Option A) (vs : List Value) (xs : List A) →
-    joined xs (each f (items_view (drop (length vs) vs))) ≡ Some xs
-all_items f vs xs =
-    ap (λ l. joined xs (each f (items_view l))) (drop_all (length vs) vs (omega arith)) ∙ ap (λ l. Some l) (append-nil xs)
-
 pub cert_next : (vs : List Value) (i : ℕ) (v : Value) (x : Cert) (xs : List Cert) →
     i < length vs → v ≡ get_or vs i v → numbered_cert i (view v) ≡ Some x →
     joined xs (certs_of i (items_view (drop i vs)))
@@ -84,16 +46,3 @@ cert_next vs i v x xs h e g =
     ap (λ l. joined xs (certs_of i (items_view l))) (drop_next vs i v h e)
     ∙ one_cert i (view v) x (items_view (drop (i + 1) vs)) xs g
     ∙ ap (λ k. joined (xs ++ x ∷ []) (certs_of k (items_view (drop (i + 1) vs)))) (sym (add-one i))
-
-pub cert_none : (vs : List Value) (i : ℕ) (v : Value) (xs : List Cert) → i < length vs →
-    v ≡ get_or vs i v → numbered_cert i (view v) ≡ None →
-    joined xs (certs_of i (items_view (drop i vs))) ≡ None
-cert_none vs i v xs h e g =
-    ap (λ l. joined xs (certs_of i (items_view l))) (drop_next vs i v h e)
-    ∙ no_cert i (view v) (items_view (drop (i + 1) vs)) xs g
-
-pub all_certs : (vs : List Value) (xs : List Cert) (i : ℕ) →
-    joined xs (certs_of i (items_view (drop (length vs) vs))) ≡ Some xs
-all_certs vs xs i =
-    ap (λ l. joined xs (certs_of i (items_view l))) (drop_all (length vs) vs (omega arith))
-    ∙ ap (λ l. Some l) (append-nil xs)

@@ -1,21 +1,21 @@
 -- What is read fits: each number is in its type.
-use Rattle.std.proofs.Common.{◌≡◌, ℕ, ◌<◌, ◌&&◌, Bool, true, false, List, [], ◌∷◌, Option, Some, None}
+use Rattle.std.proofs.Common.{◌≡◌, ℕ, Bool, true, false, List, ◌∷◌, Option, Some}
+use Rattle.std.proofs.Common.{None}
 use Rattle.std.proofs.Common.{refl, arith, nat_lt, codes, bytes_eq}
-use Rattle.std.specs.Prelude.{ℤ, pos, neg_ℤ, int_le, if◌then◌else◌, IfSome, FitsSigned}
+use Rattle.std.specs.Prelude.{ℤ, if◌then◌else◌, IfSome, FitsSigned}
 use Rattle.std.specs.Int.{w32, w64}
 use Rattle.std.proofs.lemmas.Bool.{ltb-true}
 use Rattle.std.proofs.lemmas.Int.{ints}
 use Rattle.std.proofs.lemmas.Bool.Decides.{nat_tests}
 use Rattle.serde_json.specs.Data.{Data, null, boolean, number, string, array, object, Items, item}
 use Rattle.serde_json.specs.Data.{no_items}
-use Rattle.serde_json.specs.Find.{at, as_number, as_str, as_array, as_u64, as_i64, get}
+use Rattle.serde_json.specs.Find.{at, as_number, as_array, as_u64, as_i64, get}
 use Rattle.pra_list.specs.Options.{◌>>=◌}
 use Rattle.pra_list.specs.Each.{Each}
 use Rattle.pra_base.specs.declared.ids.VarId.{VarId}
 use Rattle.pra_base.specs.declared.ids.ProcId.{ProcId}
 use Rattle.pra_base.specs.declared.ids.BlockId.{BlockId}
 use Rattle.pra_base.specs.declared.ids.Cond.{Cond}
-use Rattle.pra_base.specs.declared.code.VarKind.{VarKind}
 use Rattle.pra_base.specs.declared.code.VarKind.TheVariants.{Param, Plain, Constant}
 use Rattle.pra_base.specs.declared.code.Base.{Base}
 use Rattle.pra_base.specs.declared.code.Base.TheVariants.{Global, Frame, Cell, Via}
@@ -33,10 +33,13 @@ use Rattle.cert_form.specs.Table.{form_named}
 use Rattle.cert_form.specs.Form.{base_number}
 use Rattle.cert_form.specs.Reading.{long_natural, natural_of, is_long, long_integer, is_short}
 use Rattle.cert_form.specs.Reading.{integer_of, natural_at, integer_at, variable_at, word_at}
-use Rattle.cert_form.specs.Reading.{condition_at, each, list_of, natural_under, long_under, list_under}
+use Rattle.cert_form.specs.Reading.{condition_at, each, list_of, natural_under, long_under}
+use Rattle.cert_form.specs.Reading.{list_under}
 use Rattle.cert_form.specs.Reading.{kind_named, kind_of, base_of, index_of, address_of, address_at}
-use Rattle.cert_form.specs.Reading.{made, instruction_of, end_named, end_of, block_of, cap_of, tie_of}
-use Rattle.cert_form.specs.Whole.{IsNatural, IsLong, KindFits, AddressFits, InstructionFits, EndFits}
+use Rattle.cert_form.specs.Reading.{made, instruction_of, end_named, end_of, block_of, cap_of}
+use Rattle.cert_form.specs.Reading.{tie_of}
+use Rattle.cert_form.specs.Whole.{IsNatural, IsLong, KindFits, AddressFits, InstructionFits}
+use Rattle.cert_form.specs.Whole.{EndFits}
 use Rattle.cert_form.specs.Whole.{BlockFits, CapFits, TieFits}
 
 -- What is made of parts that fit.
@@ -128,8 +131,10 @@ kind_named_fits word d =
     chosen KindFits (bytes_eq word (codes "param")) (natural_at 1 d >>= (λ i. Some (Param i))) plain
     (of_one IsNatural KindFits (natural_at 1 d) Param (natural_at_fits 1 d) (λ i h. h))
     (chosen KindFits (bytes_eq word (codes "plain")) (Some Plain) constant tt
-    (guarded KindFits (bytes_eq word (codes "constant")) (integer_at 1 d >>= (λ c. Some (Constant c)))
-    (λ e. of_one (FitsSigned w32) KindFits (integer_at 1 d) Constant (integer_at_fits 1 d) (λ c h. h))))
+    (guarded KindFits (bytes_eq word (codes "constant"))
+    (integer_at 1 d >>= (λ c. Some (Constant c)))
+    (λ e. of_one (FitsSigned w32) KindFits (integer_at 1 d) Constant (integer_at_fits 1 d)
+    (λ c h. h))))
 
 pub kind_fits : (d : Data) → IfSome (kind_of d) KindFits
 kind_fits d = of_any KindFits (word_at 0 d) (λ w. kind_named w d) (λ w. kind_named_fits w d)

@@ -1,12 +1,12 @@
 -- Parts that are written are read again.
-use Rattle.std.proofs.Common.{◌≡◌, ℕ, suc, ◌<◌, ◌^◌, true, List, [], ◌∷◌, ◌++◌, map, Option}
-use Rattle.std.proofs.Common.{Some, None, refl, sym, ap, ◌∙◌, arith, nat_lt, codes}
+use Rattle.std.proofs.Common.{◌≡◌, ℕ, ◌<◌, ◌^◌, true, List, [], ◌∷◌, map, Option}
+use Rattle.std.proofs.Common.{Some, None, refl, ap, ◌∙◌, arith, nat_lt}
 use Rattle.std.specs.Prelude.{ℤ, pos, negsuc, if◌then◌else◌, IfSome, FitsSigned}
 use Rattle.std.specs.Int.{w32, w64}
 use Rattle.std.proofs.lemmas.Bool.{lt-ltb}
 use Rattle.std.proofs.lemmas.Int.{ints}
 use Rattle.std.proofs.lemmas.Bool.Decides.{nat_tests}
-use Rattle.serde_json.specs.Data.{Data, Items, item, no_items}
+use Rattle.serde_json.specs.Data.{Data}
 use Rattle.serde_json.specs.Find.{at, as_i64, of_integer}
 use Rattle.serde_json.specs.View.{items_of}
 use Rattle.pra_list.specs.Options.{◌>>=◌}
@@ -45,7 +45,8 @@ use Rattle.cert_form.specs.Reading.{integer_of, natural_at, integer_at}
 use Rattle.cert_form.specs.Reading.{variable_at, condition_at, each, list_of, kind_of, base_of}
 use Rattle.cert_form.specs.Reading.{index_of, address_of, address_at, made, instruction_of, end_of}
 use Rattle.cert_form.specs.Reading.{block_of, place_of, path_of, cap_of, tie_of}
-use Rattle.cert_form.specs.Whole.{IsNatural, IsLong, KindFits, AddressFits, InstructionFits, EndFits}
+use Rattle.cert_form.specs.Whole.{IsNatural, IsLong, KindFits, AddressFits, InstructionFits}
+use Rattle.cert_form.specs.Whole.{EndFits}
 use Rattle.cert_form.specs.Whole.{BlockFits, CapFits, TieFits}
 
 -- Where parts are there, what is made of them.
@@ -378,7 +379,8 @@ end_read (Branch k taken other) h =
     three (condition_at 1 x) (natural_at 2 x) (natural_at 3 x) k taken.0 other.0
     (λ c m n. let y : BlockId = record { 0 = m } in
     let z : BlockId = record { 0 = n } in Some (Branch c y z))
-    (condition_here 1 x k refl) (natural_here 2 x taken.0 refl h.0) (natural_here 3 x other.0 refl h.1)
+    (condition_here 1 x k refl) (natural_here 2 x taken.0 refl h.0)
+    (natural_here 3 x other.0 refl h.1)
 end_read Return h = refl
 
 pub block_read : (b : Block) → BlockFits b → block_of (block_data b) ≡ Some b

@@ -1,8 +1,8 @@
 -- The value of a certificate has no float, and nests at most eight deep.
-use Rattle.std.proofs.Common.{◌≡◌, ℕ, suc, ◌≤◌, max, ◌||◌, Bool, true, false, List, [], ◌∷◌, map}
+use Rattle.std.proofs.Common.{◌≡◌, ℕ, suc, ◌≤◌, ◌||◌, Bool, true, false, List, [], ◌∷◌, map}
 use Rattle.std.proofs.Common.{Option, Some, None, refl, arith, codes}
 use Rattle.std.specs.Prelude.{ℤ, pos, negsuc}
-use Rattle.serde_json.specs.Data.{Data, null, number, string, array, object, Items, no_items, item}
+use Rattle.serde_json.specs.Data.{Data, string, object, Items, no_items, item}
 use Rattle.serde_json.specs.Data.{Members, no_members, member, depth, items_depth, members_depth}
 use Rattle.serde_json.specs.View.{items_of}
 use Rattle.serde_json.specs.Written.{has_float, items_have_float, members_have_float}
@@ -28,7 +28,7 @@ use Rattle.cert_form.specs.Table.{name, form_of, operands_of}
 use Rattle.cert_form.specs.Form.{natural, integer, row, list, kind_data, base_name, base_number}
 use Rattle.cert_form.specs.Form.{index_data, address_data, operand_data, instruction_data, end_data}
 use Rattle.cert_form.specs.Form.{block_data, place_data, path_data, cap_data, tie_data, cert_data}
-use Rattle.cert_form.specs.Form.{cost_name, certificate_data}
+use Rattle.cert_form.specs.Form.{certificate_data}
 
 pub record IsPlain (n : ℕ) (d : Data) : Type 0 where
   pub whole : has_float d ≡ false

@@ -1,6 +1,6 @@
 -- What the text of a certificate's value is, what is read of it, and when two values are written
 -- alike.
-use Rattle.std.proofs.Common.{◌≡◌, ◌↔◌, ℕ, ◌≤◌, Bool, true, false, List, [], ◌∷◌, ◌++◌, Some, sym}
+use Rattle.std.proofs.Common.{◌≡◌, ◌↔◌, ℕ, ◌≤◌, true, false, List, [], ◌∷◌, ◌++◌, Some, sym}
 use Rattle.std.proofs.Common.{ap, ◌∙◌, subst, arith, bytes_eq, IsUtf8}
 use Rattle.std.proofs.lemmas.Slice.Eq.{bytes_eq-Decides}
 use Rattle.json.specs.Lex.{tokens}

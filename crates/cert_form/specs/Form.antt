@@ -1,14 +1,13 @@
 -- What each part of a certificate is in JSON, as a value. Numbers are JSON numbers without a point
 -- or an exponent; the members of an object stand in the order of the bytes of their keys.
-use Rattle.std.specs.Prelude.{ℕ, ◌+◌, ℤ, List, [], ◌∷◌, ◌++◌, map, Option, Some, None, codes}
-use Rattle.serde_json.specs.Data.{Data, null, number, unsigned, string, array, object, Members}
+use Rattle.std.specs.Prelude.{ℕ, ℤ, List, [], ◌∷◌, ◌++◌, map, Option, Some, None, codes}
+use Rattle.serde_json.specs.Data.{Data, null, number, unsigned, string, array, object}
 use Rattle.serde_json.specs.Data.{member, no_members}
 use Rattle.serde_json.specs.Find.{of_integer}
 use Rattle.serde_json.specs.View.{items_of}
 use Rattle.serde_json.specs.Written.{compact_text}
 use Rattle.pra_base.specs.declared.ids.VarId.{VarId}
 use Rattle.pra_base.specs.declared.ids.Place.{Place}
-use Rattle.pra_base.specs.declared.ids.Cond.{Cond}
 use Rattle.pra_base.specs.declared.code.VarKind.{VarKind}
 use Rattle.pra_base.specs.declared.code.VarKind.TheVariants.{Param, Plain, Constant}
 use Rattle.pra_base.specs.declared.code.Base.{Base}

@@ -1,5 +1,5 @@
 pub mod Table
 pub mod Form
-pub mod Building
 pub mod Reading
 pub mod Whole
+pub mod Building

@@ -1,13 +1,15 @@
 -- The table of instructions: the name of each form, and the operands of each instruction in their
 -- order. Writing and reading share it.
-use Rattle.std.specs.Prelude.{ℕ, ℤ, if◌then◌else◌, List, [], ◌∷◌, Option, Some, None, codes}
+use Rattle.std.specs.Prelude.{ℕ, if◌then◌else◌, List, [], ◌∷◌, Option, Some, None, codes}
 use Rattle.std.specs.Str.{bytes_eq}
 use Rattle.pra_base.specs.declared.code.VInstr.{VInstr}
 use Rattle.pra_base.specs.declared.code.VInstr.TheVariants as instr
 use Rattle.cert_form.specs.declared.table.Form.{Form}
 use Rattle.cert_form.specs.declared.table.Form.TheVariants.{Set, Copy, Add, Sub, And, Or, Xor, Mul}
-use Rattle.cert_form.specs.declared.table.Form.TheVariants.{Neg, Cmp, CmpSet, DivMod, Check, CheckPos}
-use Rattle.cert_form.specs.declared.table.Form.TheVariants.{Load, Store, Addr, Push, Call, Read, Write}
+use Rattle.cert_form.specs.declared.table.Form.TheVariants.{Neg, Cmp, CmpSet, DivMod, Check}
+use Rattle.cert_form.specs.declared.table.Form.TheVariants.{CheckPos}
+use Rattle.cert_form.specs.declared.table.Form.TheVariants.{Load, Store, Addr, Push, Call, Read}
+use Rattle.cert_form.specs.declared.table.Form.TheVariants.{Write}
 use Rattle.cert_form.specs.declared.table.Form.TheVariants.{Line, Clear}
 use Rattle.cert_form.specs.declared.table.Operand.{Operand}
 use Rattle.cert_form.specs.declared.table.Operand.TheVariants.{Variable, Number, Address, Condition}

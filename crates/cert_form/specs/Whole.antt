@@ -1,11 +1,10 @@
 -- Which certificates a text may hold, and what reading a text answers.
-use Rattle.std.specs.Prelude.{◌≡◌, ◌<◌, ◌≤◌, ℕ, suc, List, [], ◌∷◌, length, Result, Ok, Err, IsUtf8}
-use Rattle.std.specs.Prelude.{Option, Some, None, IfSome, All, FitsSigned}
+use Rattle.std.specs.Prelude.{◌≡◌, ◌<◌, ◌⊎◌, ℕ, suc, List, [], ◌∷◌, length, Result, Ok, Err, IsUtf8}
+use Rattle.std.specs.Prelude.{Some, IfSome, FitsSigned}
 use Rattle.std.specs.Int.{w32, w64}
 use Rattle.serde_json.specs.Data.{Data}
 use Rattle.serde_json.specs.Read.{read}
 use Rattle.pra_list.specs.Each.{Each}
-use Rattle.pra_base.specs.declared.ids.VarId.{VarId}
 use Rattle.pra_base.specs.declared.code.VarKind.{VarKind}
 use Rattle.pra_base.specs.declared.code.VarKind.TheVariants.{Param, Plain, Constant}
 use Rattle.pra_base.specs.declared.code.Addr.{Addr}
@@ -101,10 +100,16 @@ IsNoJson bytes = (d : Data) → IsReadAs bytes d → ⊥
 abbrev pub IsOfNone : Data → Type 0
 IsOfNone d = (c : Certificate) → IsWhole c → d ≡ certificate_data c → ⊥
 
--- What reading answers: the whole certificate whose value the bytes are read as; or that no value is
--- read; or that a value is read which is that of no whole certificate.
+-- What reading answers: the whole certificate whose value the bytes are read as; or that no value
+-- is read; or that a value is read which is that of no whole certificate.
 abbrev pub Reads : List ℕ → Result Certificate CertFault → Type 0
 Reads bytes (Ok c) = IsReadAs bytes (certificate_data c) × IsWhole c
 Reads bytes (Err NotJson) = IsNoJson bytes
 Reads bytes (Err NotCertificate) = (d : Data) × IsReadAs bytes d × IsOfNone d
 Reads bytes (Err OutOfMemory) = Unit {0}
+
+-- reading answers this certificate, or want of memory
+abbrev pub IsReadAgain : Certificate → List ℕ → Type 0
+IsReadAgain c bytes =
+    (answer : Result Certificate CertFault) → Reads bytes answer →
+    (answer ≡ Ok c) ⊎ (answer ≡ Err OutOfMemory)

@@ -1,14 +1,14 @@
 //! Certificates: costs and bounds of an allocation, with code, routes and prices, as JSON that
 //! anybody can read and test.
 //!
-//! Promised: `cert_text` writes the text of a certificate, and what it wrote is read as the
-//! certificate's value; `cert_read` answers the one certificate whose value some bytes are read as,
-//! or that they are no JSON, or JSON of something else. The law `text_is_read` says that what is
-//! read of a text is what was written.
+//! Promised: `cert_text` writes the text of a certificate, and reading it again answers that
+//! certificate; `cert_read` answers the one certificate whose value some bytes are read as, or that
+//! they are no JSON, or JSON of something else, each exactly where it is so. Want of memory may be
+//! answered anywhere. The law `one_certificate` says that no value is that of two.
 //!
 //! Read first `specs/Table`, the names and operands of instructions that writing and reading share,
 //! then `specs/Form`, the JSON value of each part, and `specs/Whole`, what a text may hold and what
-//! reading answers.
+//! reading answers. The layer above uses `cert_text`, `cert_read` and the types of `certificate`.
 #![tactic(auto)]
 
 mod certificate;

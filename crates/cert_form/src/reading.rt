@@ -5,11 +5,13 @@ ghost use Rattle.serde_json.specs.View.{view, items_view};
 ghost use Rattle.ia_code.specs.Reading.{cond_of};
 ghost use Rattle.cert_form.specs.Reading.{long_natural, natural_of, long_integer, integer_of};
 ghost use Rattle.cert_form.specs.Reading.{natural_at, integer_at, variable_at, word_at};
-ghost use Rattle.cert_form.specs.Reading.{condition_at, list_of, natural_under, long_under, list_under};
+ghost use Rattle.cert_form.specs.Reading.{condition_at, list_of, natural_under, long_under};
+ghost use Rattle.cert_form.specs.Reading.{list_under};
 ghost use Rattle.cert_form.specs.Reading.{kind_named, kind_of, base_of};
 ghost use Rattle.cert_form.specs.Reading.{index_of, address_of, address_at, made, instruction_of};
 ghost use Rattle.cert_form.specs.Reading.{end_named, end_of, block_of, place_of, path_of, cap_of};
-ghost use Rattle.cert_form.specs.Reading.{tie_of, code_of, cert_of, numbered_cert, certs_of, cost_of};
+ghost use Rattle.cert_form.specs.Reading.{tie_of, code_of, cert_of, numbered_cert, certs_of};
+ghost use Rattle.cert_form.specs.Reading.{cost_of};
 ghost use Rattle.cert_form.specs.Reading.{cost_at, certificate_of};
 ghost use Rattle.cert_form.specs.declared.reading.Misread.TheVariants as misread;
 

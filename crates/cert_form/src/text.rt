@@ -1,13 +1,14 @@
 // The text of a certificate, and back.
 
-ghost use Rattle.std.specs.Prelude.{◌≡◌, ◌↔◌, ◌≤◌, true, IfOk, IfErr, Some, Err};
+ghost use Rattle.std.specs.Prelude.{◌≡◌, ◌↔◌, ◌<◌, ◌≤◌, length, true, IfOk, IfErr, Some, Err};
 ghost use Rattle.std.specs.Str.{bytes_eq};
 ghost use Rattle.serde_json.specs.Data.{depth};
 ghost use Rattle.serde_json.specs.Read.{max_depth};
 ghost use Rattle.serde_json.specs.View.{view};
 ghost use Rattle.cert_form.specs.Form.{certificate_data, certificate_text};
 ghost use Rattle.cert_form.specs.Reading.{certificate_of};
-ghost use Rattle.cert_form.specs.Whole.{Reads, IsWhole, IsReadAs, IsOfNone};
+ghost use Rattle.cert_form.specs.Whole.{AreNumbered, IsWhole, IsReadAs, IsReadAgain, IsOfNone};
+ghost use Rattle.cert_form.specs.Whole.{Reads};
 ghost use Rattle.cert_form.specs.declared.reading.Misread.TheVariants as misread;
 ghost use Rattle.cert_form.specs.declared.text.CertFault.TheVariants as fault;
 
@@ -43,7 +44,8 @@ impl From<AllocError> for CertFault {
     }
 }
 
-/// The text of a certificate: its JSON value without a blank, and a line feed.
+/// The text of a certificate: its JSON value without a blank, and a line feed. It is read again
+/// where there is a procedure and the id of each code is its number.
 ///
 /// # Errors
 ///
@@ -51,6 +53,8 @@ impl From<AllocError> for CertFault {
 pub fn cert_text(alloc: Global, c: &Certificate) -> Result<Vec<u8>, OutOfMemory>
     ensures text { IfOk result (λ t. t.items ≡ certificate_text c.now) }
     ensures back { IfOk result (λ t. IsReadAs t.items (certificate_data c.now)) }
+    ensures again { IfOk result (λ t. 0 < length c.now.procs → AreNumbered 0 c.now.procs
+        → IsReadAgain c.now t.items) }
 {
     let value = certificate_value(alloc, c)?;
     let mut text = value.to_vec(alloc)?;

@@ -1,14 +1,19 @@
 // The JSON value of each part of a certificate.
 
-ghost use Rattle.std.specs.Prelude.{◌≡◌, ◌++◌, IfOk, OnOk, map};
+ghost use Rattle.std.specs.Prelude.{◌≡◌, ◌++◌, ⊤, IfOk, OnOk, map};
 ghost use Rattle.serde_json.specs.Data.{object, no_members};
 ghost use Rattle.serde_json.specs.View.{view, members_view};
+ghost use Rattle.pra_list.specs.Each.{Each};
 ghost use Rattle.ia_code.specs.DecodeTable.{cond_number};
-ghost use Rattle.cert_form.specs.Form.{row, kind_data, base_name, base_number, index_data};
+ghost use Rattle.cert_form.specs.Form.{natural, row, kind_data, base_name, base_number, index_data};
 ghost use Rattle.cert_form.specs.Form.{address_data, operand_data, instruction_data, end_data};
 ghost use Rattle.cert_form.specs.Form.{block_data, place_data, path_data, cap_data, tie_data};
 ghost use Rattle.cert_form.specs.Form.{cert_data, cost_name, certificate_data, list};
+ghost use Rattle.cert_form.specs.Whole.{IsNatural, IsLong, KindFits, AddressFits, OperandFits};
+ghost use Rattle.cert_form.specs.Whole.{InstructionFits, EndFits};
+ghost use Rattle.cert_form.specs.Whole.{BlockFits, CapFits, TieFits, CertFits};
 ghost use Rattle.cert_form.specs.Building.{with_numbers, with_lists, with_prices, with_all};
+ghost use Rattle.cert_form.specs.Building.{NumbersFit, ListsFit, PricesFit};
 
 use crate::certificate::{CapAt, Cert, Certificate, CostWord, TieAt};
 use crate::table::{Operand, name, row};
@@ -23,13 +28,18 @@ pub(crate) trait Written {
 
     ghost form: { Self → Data };
 
+    /// Its numbers are in their types.
+    ghost fits: { Self → Type 0 };
+
     fn value(&self, alloc: Global) -> Result<Value, AllocError>
-        ensures { IfOk result (λ v. view v ≡ form self.now) };
+        ensures is { IfOk result (λ v. view v ≡ form self.now) }
+        ensures range { OnOk result (fits self.now) };
 }
 
 /// The list of some parts.
 fn list_value<T: Written>(alloc: Global, parts: &[T]) -> Result<Value, AllocError>
-    ensures { IfOk result (λ v. view v ≡ list T.form parts.now) }
+    ensures is { IfOk result (λ v. view v ≡ list T.form parts.now) }
+    ensures range { OnOk result (Each T.fits parts.now) }
 {
     let mut values = Vec::with_capacity(alloc, parts.len())?;
     for part in parts {
@@ -60,6 +70,8 @@ fn condition_number(k: Cond) -> u32
 
 impl Written for VarKind {
     ghost form = { kind_data };
+
+    ghost fits = { KindFits };
 
     fn value(&self, alloc: Global) -> Result<Value, AllocError> {
         match *self {
@@ -100,7 +112,8 @@ fn index_value(index: Option<VarId>) -> Value
 }
 
 fn address_value(alloc: Global, a: Addr) -> Result<Value, AllocError>
-    ensures { IfOk result (λ v. view v ≡ address_data a) }
+    ensures is { IfOk result (λ v. view v ≡ address_data a) }
+    ensures range { OnOk result (AddressFits a) }
 {
     let name = base_name(a.base);
     let number = base_number(a.base);
@@ -109,7 +122,8 @@ fn address_value(alloc: Global, a: Addr) -> Result<Value, AllocError>
 }
 
 fn operand_value(alloc: Global, operand: Operand) -> Result<Value, AllocError>
-    ensures { IfOk result (λ v. view v ≡ operand_data operand) }
+    ensures is { IfOk result (λ v. view v ≡ operand_data operand) }
+    ensures range { OnOk result (OperandFits operand) }
 {
     match operand {
         Operand::Variable(v) => Ok(Value::from(v.0)),
@@ -126,8 +140,9 @@ fn push_operands(
     values: &mut Vec<Value>,
     operands: &[Operand],
 ) -> Result<(), AllocError>
-    ensures { OnOk result (map view values.new.items
+    ensures is { OnOk result (map view values.new.items
         ≡ map view values.old.items ++ map operand_data operands.now) }
+    ensures range { OnOk result (Each OperandFits operands.now) }
 {
     for operand in operands {
         values.push(operand_value(alloc, *operand)?)?;
@@ -136,7 +151,8 @@ fn push_operands(
 }
 
 fn instruction_value(alloc: Global, i: VInstr) -> Result<Value, AllocError>
-    ensures { IfOk result (λ v. view v ≡ instruction_data i) }
+    ensures is { IfOk result (λ v. view v ≡ instruction_data i) }
+    ensures range { OnOk result (InstructionFits i) }
 {
     let spelled = row(i);
     let mut values = Vec::with_capacity(alloc, 5)?;
@@ -148,13 +164,16 @@ fn instruction_value(alloc: Global, i: VInstr) -> Result<Value, AllocError>
 impl Written for VInstr {
     ghost form = { instruction_data };
 
+    ghost fits = { InstructionFits };
+
     fn value(&self, alloc: Global) -> Result<Value, AllocError> {
         instruction_value(alloc, *self)
     }
 }
 
 fn end_value(alloc: Global, end: End) -> Result<Value, AllocError>
-    ensures { IfOk result (λ v. view v ≡ end_data end) }
+    ensures is { IfOk result (λ v. view v ≡ end_data end) }
+    ensures range { OnOk result (EndFits end) }
 {
     match end {
         End::Jump(b) => json!(in alloc; ["jump", (b.0)]),
@@ -169,6 +188,8 @@ fn end_value(alloc: Global, end: End) -> Result<Value, AllocError>
 impl Written for Block {
     ghost form = { block_data };
 
+    ghost fits = { BlockFits };
+
     fn value(&self, alloc: Global) -> Result<Value, AllocError> {
         let code = list_value(alloc, self.code.as_slice())?;
         let end = end_value(alloc, self.end)?;
@@ -179,6 +200,8 @@ impl Written for Block {
 impl Written for Place {
     ghost form = { place_data };
 
+    ghost fits = { λ p. ⊤ };
+
     fn value(&self, _alloc: Global) -> Result<Value, AllocError> {
         Ok(Value::from(self.number()))
     }
@@ -186,6 +209,8 @@ impl Written for Place {
 
 impl Written for Seq<Place> {
     ghost form = { path_data };
+
+    ghost fits = { λ ps. ⊤ };
 
     fn value(&self, alloc: Global) -> Result<Value, AllocError> {
         list_value(alloc, self.as_slice())
@@ -195,6 +220,8 @@ impl Written for Seq<Place> {
 impl Written for CapAt {
     ghost form = { cap_data };
 
+    ghost fits = { CapFits };
+
     fn value(&self, alloc: Global) -> Result<Value, AllocError> {
         json!(in alloc; [(self.at), (self.price)])
     }
@@ -203,27 +230,45 @@ impl Written for CapAt {
 impl Written for TieAt {
     ghost form = { tie_data };
 
+    ghost fits = { TieFits };
+
     fn value(&self, alloc: Global) -> Result<Value, AllocError> {
         json!(in alloc; [(self.at), (self.number)])
     }
 }
 
+fn natural_value(n: u32) -> Value
+    ensures is { view result ≡ natural n }
+    ensures range { IsNatural n }
+{
+    Value::from(n)
+}
+
+fn long_value(n: u64) -> Value
+    ensures is { view result ≡ natural n }
+    ensures range { IsLong n }
+{
+    Value::from(n)
+}
+
 // Adds the members of a procedure that are numbers to an object.
 fn put_numbers(map: &mut Map<String, Value>, alloc: Global, c: &Cert) -> Result<(), AllocError>
-    ensures { OnOk result (members_view map.new.entries
+    ensures is { OnOk result (members_view map.new.entries
         ≡ with_numbers c.now (members_view map.old.entries)) }
+    ensures range { OnOk result (NumbersFit c.now) }
 {
-    put(map, alloc, "aggregates", Value::from(c.code.aggregates))?;
-    put(map, alloc, "args", Value::from(c.code.args))?;
-    put(map, alloc, "bound", Value::from(c.bound))?;
-    put(map, alloc, "total", Value::from(c.total))?;
+    put(map, alloc, "aggregates", natural_value(c.code.aggregates))?;
+    put(map, alloc, "args", natural_value(c.code.args))?;
+    put(map, alloc, "bound", long_value(c.bound))?;
+    put(map, alloc, "total", long_value(c.total))?;
     Ok(())
 }
 
 // Adds those of its code and routes.
 fn put_lists(map: &mut Map<String, Value>, alloc: Global, c: &Cert) -> Result<(), AllocError>
-    ensures { OnOk result (members_view map.new.entries
+    ensures is { OnOk result (members_view map.new.entries
         ≡ with_lists c.now (members_view map.old.entries)) }
+    ensures range { OnOk result (ListsFit c.now) }
 {
     let blocks = list_value(alloc, c.code.blocks.as_slice())?;
     put(map, alloc, "blocks", blocks)?;
@@ -236,8 +281,9 @@ fn put_lists(map: &mut Map<String, Value>, alloc: Global, c: &Cert) -> Result<()
 
 // Adds those of its prices.
 fn put_prices(map: &mut Map<String, Value>, alloc: Global, c: &Cert) -> Result<(), AllocError>
-    ensures { OnOk result (members_view map.new.entries
+    ensures is { OnOk result (members_view map.new.entries
         ≡ with_prices c.now (members_view map.old.entries)) }
+    ensures range { OnOk result (PricesFit c.now) }
 {
     let caps = list_value(alloc, c.caps.as_slice())?;
     put(map, alloc, "caps", caps)?;
@@ -249,8 +295,9 @@ fn put_prices(map: &mut Map<String, Value>, alloc: Global, c: &Cert) -> Result<(
 }
 
 fn cert_value(alloc: Global, c: &Cert) -> Result<Value, AllocError>
-    ensures { IfOk result (λ v. view v
+    ensures is { IfOk result (λ v. view v
         ≡ object (with_prices c.now (with_lists c.now (with_numbers c.now no_members)))) }
+    ensures range { OnOk result (CertFits c.now) }
 {
     let mut map = Map::new(alloc);
     put_numbers(&mut map, alloc, c)?;
@@ -261,6 +308,8 @@ fn cert_value(alloc: Global, c: &Cert) -> Result<Value, AllocError>
 
 impl Written for Cert {
     ghost form = { cert_data };
+
+    ghost fits = { CertFits };
 
     fn value(&self, alloc: Global) -> Result<Value, AllocError> {
         cert_value(alloc, self)
@@ -278,8 +327,9 @@ fn cost_name(cost: CostWord) -> &'static str
 
 // Adds the members of a certificate to an object.
 fn put_all(map: &mut Map<String, Value>, alloc: Global, c: &Certificate) -> Result<(), AllocError>
-    ensures { OnOk result (members_view map.new.entries
+    ensures is { OnOk result (members_view map.new.entries
         ≡ with_all c.now (members_view map.old.entries)) }
+    ensures range { OnOk result (Each CertFits c.now.procs) }
 {
     put(
         map,
@@ -300,7 +350,8 @@ fn put_all(map: &mut Map<String, Value>, alloc: Global, c: &Certificate) -> Resu
 }
 
 fn members_value(alloc: Global, c: &Certificate) -> Result<Value, AllocError>
-    ensures { IfOk result (λ v. view v ≡ object (with_all c.now no_members)) }
+    ensures is { IfOk result (λ v. view v ≡ object (with_all c.now no_members)) }
+    ensures range { OnOk result (Each CertFits c.now.procs) }
 {
     let mut map = Map::new(alloc);
     put_all(&mut map, alloc, c)?;
@@ -309,7 +360,8 @@ fn members_value(alloc: Global, c: &Certificate) -> Result<Value, AllocError>
 
 /// The value of a certificate.
 pub(crate) fn certificate_value(alloc: Global, c: &Certificate) -> Result<Value, AllocError>
-    ensures { IfOk result (λ v. view v ≡ certificate_data c.now) }
+    ensures is { IfOk result (λ v. view v ≡ certificate_data c.now) }
+    ensures range { OnOk result (Each CertFits c.now.procs) }
 {
     members_value(alloc, c)
 }

@@ -6,7 +6,7 @@ use Rattle.cert_form.proofs.text.is_of.Goals as goal
 
 pub returns : goal.returns
 returns c =
-    let alike = written_alike c.args.c.now (view c.in_ok-other.other) c.in_ok-other.ensures
+    let alike = written_alike c.args.c.now (view c.in_ok-other.other) c.in_ok-other.ensures.is
     (view c.args.value) c.in_ok-text.text.items c.in_ok-again.again.items c.requires
     c.in_ok-text.ensures.text c.in_ok-text.ensures.reads_back c.in_ok-again.ensures.text
     c.in_ok-again.ensures.reads_back in
