@@ -1,0 +1,128 @@
+-- From what holds on the network of a code to the reasons against a certificate.
+use Rattle.std.proofs.Common.{◌≡◌, ℕ, ◌+◌, ◌*◌, ◌<◌, ◌≤◌, inl, inr, ℤ, pos, ◌-ℤ◌, ◌≤ℤ◌}
+use Rattle.std.proofs.Common.{Option, Some, None, sym, ◌∙◌, subst}
+use Rattle.std.proofs.Common.{arith}
+use Rattle.std.specs.Prelude.{slice_get, Result, Ok, Err, IfOk}
+use Rattle.pra_base.specs.declared.event.OutOfMemory.{OutOfMemory}
+use Rattle.cert_check.specs.declared.check.CertAnswer.{CertAnswer}
+use Rattle.std.proofs.lemmas.Int.{ints}
+use Rattle.std.proofs.lemmas.Bool.{cases_eq}
+use Rattle.pra_list.proofs.Options.{some_same}
+use Rattle.net_form.specs.declared.net.Net.{Net}
+use Rattle.net_form.specs.Cost.{cost_of}
+use Rattle.net_form.specs.Network.{IsNet}
+use Rattle.net_form.specs.Tables.{all_tables}
+use Rattle.net_form.proofs.OneNetwork.{one_network}
+use Rattle.net_form.proofs.NetworkFormed.{formed}
+use Rattle.net_dual.proofs.Duality.{duality_of_weights}
+use Rattle.cert_form.specs.declared.certificate.Cert.{Cert}
+use Rattle.cert_form.specs.declared.certificate.Certificate.{Certificate}
+use Rattle.cert_check.specs.declared.check.Reason.{Reason}
+use Rattle.cert_check.specs.declared.check.Reason.TheVariants.{Code, Routes as Ways, Prices, Total}
+use Rattle.cert_check.specs.declared.check.Reason.TheVariants.{Bound}
+use Rattle.cert_check.specs.declared.check.CertAnswer.TheVariants.{Yes}
+use Rattle.cert_check.specs.Listed.{HasPrices, prices_of}
+use Rattle.cert_check.specs.Reasons.{HasCode, HasBound, OnNet, MeetsIn, Meets, MeetsAll}
+use Rattle.cert_check.specs.Reasons.{rank, HoldUpTo, IsFirstIn, IsFirstOf}
+use Rattle.cert_check.specs.Reasons.{IsAnswerOf, IsBounded, AreBounded, counts_in, weights_by}
+use Rattle.cert_check.proofs.ListedPrices.{in_range}
+
+module _ (c : Certificate) (p : ℕ) (cert : Cert) (net : Net) (is_net : IsNet net cert.code)
+    (code : HasCode (counts_in c.procs) p cert.code) where
+  meets : (r : Reason) → MeetsIn (weights_by c.cost) net cert r → Meets c p cert r
+  meets Code is = code
+  meets Ways is = record { net = net; is_net = is_net; holds = is }
+  meets Prices is = record { net = net; is_net = is_net; holds = is }
+  meets Total is = record { net = net; is_net = is_net; holds = is }
+  meets Bound is = record { net = net; is_net = is_net; holds = is }
+
+  on_net : (r : Reason) → OnNet cert.code (λ net. MeetsIn (weights_by c.cost) net cert r)
+      → MeetsIn (weights_by c.cost) net cert r
+  on_net r on =
+      subst (λ net. MeetsIn (weights_by c.cost) net cert r)
+      (one_network all_tables cert.code on.net net on.is_net is_net) on.holds
+
+  meets_in : (r : Reason) → Meets c p cert r → MeetsIn (weights_by c.cost) net cert r
+  meets_in Code is = tt
+  meets_in Ways is = on_net Ways is
+  meets_in Prices is = on_net Prices is
+  meets_in Total is = on_net Total is
+  meets_in Bound is = on_net Bound is
+
+  module _ (at : slice_get c.procs p ≡ Some cert) where
+    pub first_of : (found : Option Reason) → IsFirstIn (weights_by c.cost) net cert found
+        → IsFirstOf c p found
+    first_of None all = λ other is.
+        subst (MeetsAll c p) (some_same cert other (sym at ∙ is)) (λ r. meets r (all r))
+    first_of (Some r) fails = record {
+      cert = cert;
+      is = at;
+      fails = record {
+        holds = λ is. fails.holds (meets_in r is);
+        first = λ q before. meets q (fails.first q before);
+      };
+    }
+
+-- no rank is below that of Code
+pub code_first : (q : Reason) → rank q < rank Code → ⊥
+code_first q lt = omega (arith, lt)
+
+pub fails_code : (c : Certificate) (p : ℕ) (cert : Cert) → slice_get c.procs p ≡ Some cert
+    → (HasCode (counts_in c.procs) p cert.code → ⊥) → IsFirstOf c p (Some Code)
+fails_code c p cert at fails = record {
+  cert = cert;
+  is = at;
+  fails = record { holds = fails; first = λ q before. absurd (code_first q before) };
+}
+
+-- one procedure more
+pub holds_more : (c : Certificate) (n : ℕ) → HoldUpTo c n → IsFirstOf c n None → HoldUpTo c (n + 1)
+holds_more c n before here p cert lt at = elim (cases_eq p n) as (λ _. MeetsAll c p cert) [
+  | inl is ↦ subst (λ k. MeetsAll c k cert) (sym is)
+      (here cert (subst (λ k. slice_get c.procs k ≡ Some cert) is at))
+  | inr other ↦ before p cert (omega (arith, lt, other)) at
+]
+
+-- ---- what yes says
+
+below_cost : (bound cost : ℕ) (z : ℤ) → (pos (1024 * bound) -ℤ pos 1023) ≤ℤ z
+    → z ≤ℤ pos (1024 * cost) → bound ≤ cost
+below_cost bound cost z low high = omega (arith, ints, low, high)
+
+module _ (c : Certificate) (p : ℕ) (cert : Cert) (all : MeetsAll c p cert) where
+  pub bounded : IsBounded (weights_by c.cost) cert
+  bounded =
+      let code : HasCode (counts_in c.procs) p cert.code = all Code in
+      let ways : OnNet cert.code (λ net. MeetsIn (weights_by c.cost) net cert Ways) = all Ways in
+      let net = ways.net in
+      let priced : HasPrices net cert = meets_in c p cert net ways.is_net code Prices (all Prices) in
+      let total = meets_in c p cert net ways.is_net code Total (all Total) in
+      let bound : HasBound (weights_by c.cost) net cert
+      = meets_in c p cert net ways.is_net code Bound (all Bound) in
+      let is_formed = formed all_tables cert.code net ways.is_net code.sized in
+      record {
+        net = net;
+        is_net = ways.is_net;
+        admitted = ways.holds.admitted;
+        cost = total;
+        least = λ f admitted. elim bound as (λ _. cert.bound ≤ cost_of net (weights_by c.cost) f) [
+          | inl none ↦ omega (arith, none)
+          | inr carried ↦
+              below_cost cert.bound (cost_of net (weights_by c.cost) f) carried.z carried.below
+              (duality_of_weights net (weights_by c.cost) (prices_of net cert) carried.z f is_formed
+              (in_range net cert priced) carried.value admitted)
+        ];
+      }
+
+pub yes_bounds : (c : Certificate) → IsAnswerOf c Yes → AreBounded c
+yes_bounds c answer p cert at = bounded c p cert (answer p cert at)
+
+pub yes_ok : (c : Certificate) (r : Result CertAnswer OutOfMemory) → IfOk r (IsAnswerOf c)
+    → IfOk r (λ answer. answer ≡ Yes → AreBounded c)
+yes_ok c (Ok answer) is = λ yes. yes_bounds c (subst (IsAnswerOf c) yes is)
+yes_ok c (Err fault) is = tt
+
+pub if_ok : {A E : Type 0} (P Q : A → Type 0) (r : Result A E) → ((x : A) → P x → Q x) → IfOk r P
+    → IfOk r Q
+if_ok P Q (Ok x) gives is = gives x is
+if_ok P Q (Err fault) gives is = tt

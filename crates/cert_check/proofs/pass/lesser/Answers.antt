@@ -1,0 +1,11 @@
+use Rattle.std.proofs.Common.{subst, ◌∙◌, arith}
+use Rattle.std.proofs.lemmas.Int.{ints}
+use Rattle.cert_check.specs.Pass.{IsLeastOf}
+use Rattle.cert_check.proofs.Guarded.{lower_more}
+use Rattle.cert_check.proofs.pass.lesser.Goals as goal
+
+pub returns-then-more-cost-clause-least : goal.returns-then-more-cost-clause-least
+returns-then-more-cost-clause-least c = λ f n least at.
+    let less = c.if-more-cost.true in
+    lower_more f n c.in-Some.cost c.in-Some-other.more
+    (subst (IsLeastOf f n) c.in-Some.is least) (at ∙ c.in-Some-other.is) (omega (arith, ints, less))

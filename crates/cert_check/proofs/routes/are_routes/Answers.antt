@@ -1,0 +1,41 @@
+use Rattle.std.proofs.Common.{◌<◌, ◌∙◌, [], length, ap, sym, arith}
+use Rattle.std.proofs.lemmas.List.{get_or_read}
+use Rattle.net_form.specs.declared.net.Strand.{Strand}
+use Rattle.net_form.specs.Admitted.{no_strand}
+use Rattle.net_form.proofs.RoutesConserve.{as_many}
+use Rattle.net_dual.proofs.Strands.{each_long, has_places}
+use Rattle.vc_live.proofs.SizedLemmas.{granted, refused}
+use Rattle.cert_check.proofs.routes.are_routes.Goals as goal
+
+pub returns-then-len : goal.returns-then-len
+returns-then-len c = refused (λ has.
+    c.if-len.true (c.len.ensures ∙ as_many c.args.net.now.strands c.args.routes.now.places has ∙ sym c.len-2.ensures))
+
+pub returns-then-len-2 : goal.returns-then-len-2
+returns-then-len-2 c = refused (λ has.
+    let net = c.args.net.now in
+    let places = c.args.routes.now.places in
+    let s = c.loop-strand.strand in
+    let end = c.len-strand-end.ensures in
+    let lt : s < length net.strands = omega (arith, end, c.loop-strand-test.true) in
+    let many = as_many net.strands places has in
+    let path = ap length (get_or_read places s c.index.result.now (omega (arith, lt, many)) c.index.ensures []) in
+    let strand = get_or_read net.strands s c.index-in-loop-strand.result.now lt c.index-in-loop-strand.ensures no_strand in
+    let masks = ap (λ (t : Strand). length t.masks) strand in
+    let long = each_long net c.args.routes.now has s lt in
+    let formed = (c.requires.strands s no_strand lt).masks in
+    let one = c.len-in-loop-strand.ensures in
+    let two = c.len-in-loop-strand-2.ensures in
+    c.if-len-2.true (omega (arith, path, masks, long, formed, one, two)))
+
+pub returns : goal.returns
+returns c =
+    let net = c.args.net.now in
+    let places = c.args.routes.now.places in
+    let end = c.len-strand-end.ensures in
+    let past = c.loop-strand-test.false in
+    granted (has_places net.strands places (sym c.len.ensures ∙ c.if-len.false ∙ c.len-2.ensures)
+    (λ s lt.
+    let long = c.loop-strand.invariant s (omega (arith, lt, end, past)) in
+    let formed = (c.requires.strands s no_strand lt).masks in
+    omega (arith, long, formed)))

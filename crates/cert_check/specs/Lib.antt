@@ -1,0 +1,4 @@
+pub mod Listed
+pub mod Pass
+pub mod Reasons
+pub mod Tolls
