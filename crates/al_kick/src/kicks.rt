@@ -30,12 +30,12 @@ const HISTORY: u64 = 50;
 const IN_WINDOW: u64 = 100;
 
 impl Search {
-    // Some strand, more often one that pays.
+    // Some strand, more often one that pays more than it would alone.
     fn draw_strand(&mut self) -> usize {
         let count = self.spans.len();
         let mut strand = self.draws.below(count);
         for _ in 0..2u8 {
-            if self.worth(strand) > 0 {
+            if self.excess(strand) > 0 {
                 return strand;
             }
             strand = self.draws.below(count);

@@ -228,20 +228,23 @@ impl Search {
         self.route_at(net, Some(place), penalty);
     }
 
-    // What the strands of the piece pay.
-    fn piece_worth(&self) -> u64 {
+    // What the strands of the piece pay, and how much more than they would alone.
+    fn piece_worth(&self) -> (u64, u64) {
         let mut sum = 0u64;
+        let mut excess = 0u64;
         for number in 0..self.piece.strands.count() {
-            sum = sum.wrapping_add(self.worth(self.piece.strands.at(number)));
+            let strand = self.piece.strands.at(number);
+            sum = sum.wrapping_add(self.worth(strand));
+            excess = excess.saturating_add(self.excess(strand));
         }
-        sum
+        (sum, excess)
     }
 
     /// Gives the strands of the piece cheaper paths past all others, with its groups at one place,
     /// if there are some.
     pub(crate) fn settle_piece(&mut self, net: &Net) {
-        let worth = self.piece_worth();
-        if worth == 0 {
+        let (worth, excess) = self.piece_worth();
+        if excess == 0 {
             return;
         }
         self.release_piece(net);

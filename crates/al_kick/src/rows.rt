@@ -33,8 +33,8 @@ fn least_of_six(row: &Row, first: usize) -> u32 {
     least
 }
 
-// The least of all costs.
-fn least_of_all(row: &Row) -> u32 {
+/// The least of all costs.
+pub(crate) fn least_cost(row: &Row) -> u32 {
     let mut least = u32::MAX;
     for p in 0..16usize {
         least = least.min(row[p]);
@@ -149,7 +149,7 @@ pub(crate) fn least_place(row: &Row, turn: usize) -> usize {
 pub(crate) fn next_place(ways: &Ways, row: &Row, from: usize, turn: usize) -> usize {
     let mut best = from;
     let mut least = at(row, from, FAR);
-    if least <= least_of_all(row) {
+    if least <= least_cost(row) {
         return from;
     }
     for step in 0..14usize {

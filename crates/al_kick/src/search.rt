@@ -6,7 +6,8 @@ use crate::congestion::Cells;
 use crate::draws::Draws;
 use crate::lists::{Marks, Numbers, at, put};
 use crate::rates::{NO_RATE, Rate, price, rate_at, scaled};
-use crate::rows::Row;
+use crate::reroute::Penalty;
+use crate::rows::{Row, least_cost};
 use crate::spans::{NO_SPAN, Span, sizes, spans_of};
 use net_cost::{CostModel, Event};
 use net_form::{Extra, Net, Routes};
@@ -14,12 +15,14 @@ use pra_base::OutOfMemory;
 use std::alloc::{AllocError, Global};
 
 /// Paths of all strands, one behind the other, as numbers of places: those now, and those that were
-/// kept last. What each strand pays now, and all of them.
+/// kept last. What each strand pays now, what it would pay at least if it were alone, and what all
+/// of them pay, in units.
 #[derive(Drop)]
 pub(crate) struct Paths {
     pub now: Vec<u8>,
     pub kept: Vec<u8>,
     pub worth: Vec<u64>,
+    pub floor: Vec<u64>,
     pub total: u64,
 }
 
@@ -84,6 +87,7 @@ fn paths_of(alloc: Global, total: usize, strands: usize) -> Result<Paths, AllocE
         now: vec![in alloc; 6; total]?,
         kept: vec![in alloc; 6; total]?,
         worth: vec![in alloc; 0; strands]?,
+        floor: vec![in alloc; 0; strands]?,
         total: 0,
     })
 }
@@ -147,6 +151,12 @@ impl Search {
         at(&self.paths.worth, strand, 0)
     }
 
+    /// What a strand pays more than it would if it were alone.
+    pub(crate) fn excess(&self, strand: usize) -> u64 {
+        self.worth(strand)
+            .saturating_sub(at(&self.paths.floor, strand, 0))
+    }
+
     /// Where a strand is now, by the number of its layer from its first on.
     pub(crate) fn place(&self, span: &Span, layer: usize) -> usize {
         at(&self.paths.now, span.start().wrapping_add(layer), 6) as usize
@@ -197,6 +207,18 @@ impl Search {
         }
     }
 
+    // What each strand pays at least, while nobody is anywhere.
+    fn learn_floors(&mut self, net: &Net) {
+        for strand in 0..self.spans.len() {
+            let span = self.span(strand);
+            self.fill_rows(net, strand, Penalty::closed());
+            self.pay_back(&span);
+            let least = u64::from(least_cost(&self.row(0)));
+            let floor = least.saturating_mul(self.rate(&span).times);
+            put(&mut self.paths.floor, strand, floor);
+        }
+    }
+
     // The paths of routes.
     fn read_routes(&mut self, routes: &Routes) {
         for strand in 0..self.spans.len() {
@@ -225,10 +247,11 @@ impl Search {
         requires kept { Keeps F.Fn model.now }
     {
         self.draws = Draws::of_seed(round as u64);
-        self.visits = 0;
         self.learn_rates(net, model);
         self.learn_extras(net, model);
         self.cells.clear();
+        self.learn_floors(net);
+        self.visits = 0;
         self.paths.total = 0;
         self.read_routes(routes);
         self.begin_kick();

@@ -41,9 +41,9 @@ impl Search {
         (from, to)
     }
 
-    // Lists a strand that pays something.
+    // Lists a strand that pays more than it would alone.
     fn list_paying(&mut self, strand: usize) {
-        if self.worth(strand) > 0 && self.log.is_listed.add(strand) {
+        if self.excess(strand) > 0 && self.log.is_listed.add(strand) {
             self.log.list.push(strand);
         }
     }
@@ -69,7 +69,7 @@ impl Search {
     fn settle_strands(&mut self, net: &Net) {
         for number in 0..self.log.list.count() {
             let strand = self.log.list.at(number);
-            if self.worth(strand) > 0 {
+            if self.excess(strand) > 0 {
                 self.reroute(net, strand, Penalty::closed());
             }
         }
@@ -77,7 +77,7 @@ impl Search {
 
     // Settles a tie group of a strand that pays.
     fn settle_group(&mut self, net: &Net, strand: usize, group: Option<usize>) {
-        if self.worth(strand) == 0 {
+        if self.excess(strand) == 0 {
             return;
         }
         if let Some(group) = group {
@@ -112,7 +112,7 @@ impl Search {
             let strand = self.log.list.at(number);
             let span = self.span(strand);
             let is_tied = span.entry().is_some() || span.exit().is_some();
-            if is_tied && self.worth(strand) > 0 {
+            if is_tied && self.excess(strand) > 0 {
                 self.gather(net, strand, usize::MAX);
                 if self.piece_size() <= most {
                     self.settle_piece(net);
