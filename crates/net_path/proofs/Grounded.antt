@@ -138,3 +138,31 @@ ready net built prices range w valid ends free s n long ways depth first m const
       good = good_start net built prices range w valid ends free s n long ways ways_are
           (row 0) start chosen;
     }
+
+-- the rows alone, and what it costs to begin at a place
+pub record ReadyRows (net : Net) (prices : Prices) (w : Weights) (ends : Ends) (free : Edge → Bool)
+    (s n : ℕ) (ways : Ways) (constant : Bool) (row : ℕ → List ℤ) : Type 0 where
+  pub rows : AreRows (terrain net w prices ends free s) row (slack_at n) n 0
+  pub way : (q : Place) → (terrain net w prices ends free s).way 0 None q
+      ≡ start_price ways constant (number q)
+
+pub rows_ready : (net : Net) (built : IsBuilt net) (prices : Prices) (range : AreInRange net prices)
+    (w : Weights) (valid : IsValid w) (ends : Ends) (free : Edge → Bool)
+    (s n : ℕ) (long : (strand_at net s).first + n ≡ (strand_at net s).last + 1) (ways : Ways)
+    (depth first m : ℕ) (constant : Bool) (row : ℕ → List ℤ) (cells : List Row)
+    → AreWays w depth net.near ways → depth ≡ depth_at net s → first ≡ (strand_at net s).first
+    → m ≡ n → constant ≡ (strand_at net s).constant
+    → AreCells (terrain net w prices ends free s) cells
+    → ((t : Terrain) → IsGround ways first m t → AreCells t cells → AreRows t row (slack_at m) m 0)
+    → ReadyRows net prices w ends free s n ways constant row
+rows_ready net built prices range w valid ends free s n long ways depth first m constant row cells
+    are is_depth is_first is_n is_constant paid rows =
+    let t = terrain net w prices ends free s in
+    let ways_are = subst (λ (d : ℕ). AreWays w d net.near ways) is_depth are in
+    let ground = grounded net built prices range w valid ends free s n long ways ways_are in
+    let ground2 : IsGround ways first m t = subst (λ (k : ℕ). IsGround ways first k t) (sym is_n)
+    (subst (λ (f : ℕ). IsGround ways f n t) (sym is_first) ground) in record {
+      rows = subst (λ (k : ℕ). AreRows t row (slack_at k) k 0) is_n (rows t ground2 paid);
+      way = λ q. start_way net built prices range w valid ends free s n long ways ways_are q
+          ∙ ap (λ (b : Bool). start_price ways b (number q)) (sym is_constant);
+    }

@@ -2,6 +2,7 @@ pub mod Backward
 pub mod BestChoices
 pub mod Bridges
 pub mod Classes
+pub mod CostsFrom
 pub mod Elsewhere
 pub mod EndSums
 pub mod EndsThere

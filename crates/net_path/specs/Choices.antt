@@ -1,5 +1,7 @@
 -- The choice of a place to come to.
-use Rattle.std.specs.Prelude.{◌≡◌, ℕ, ◌<◌, ℤ, ◌+ℤ◌, ◌≤ℤ◌, List, None, IsTrue}
+use Rattle.std.specs.Prelude.{◌≡◌, ℕ, ◌<◌, ◌^◌, ℤ, pos, ◌+ℤ◌, ◌≤ℤ◌, ◌<ℤ◌, List, Option, None}
+use Rattle.std.specs.Prelude.{IsTrue, slice_index_or}
+use Rattle.std.specs.Option.{MatchOption}
 use Rattle.pra_base.specs.declared.ids.Place.{Place}
 use Rattle.pra_base.specs.Places.{number, place_count}
 use Rattle.net_path.specs.declared.path.Choice.{Choice}
@@ -24,3 +26,14 @@ pub record IsBestPlace (way : ℕ → ℤ) (costs : List ℤ) (to : Place) : Typ
 pub record IsGoodStart (t : Terrain) (costs : List ℤ) (start : Place) : Type 0 where
   pub comes : IsTrue (t.may_come 0 None start)
   pub best : IsBest t 0 None costs (t.way 0 None start +ℤ at costs (number start))
+
+-- what is paid from a place where the path begins, or that it is too much for any path
+abbrev pub IsStart : (ℕ → ℤ) → List ℤ → ℕ → Option ℤ → Type 0
+IsStart way costs p o =
+    MatchOption o (pos (2 ^ 61) ≤ℤ (way p +ℤ at costs p))
+    (λ z. (z ≡ way p +ℤ at costs p) × (z <ℤ pos (2 ^ 61)))
+
+-- of the first n places
+abbrev pub AreStarts : (ℕ → ℤ) → List ℤ → ℕ → List (Option ℤ) → Type 0
+AreStarts way costs n starts =
+    (p : ℕ) → p < n → IsStart way costs p (slice_index_or starts p None)

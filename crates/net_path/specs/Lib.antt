@@ -6,5 +6,6 @@ pub mod Grounds
 pub mod Leaving
 pub mod Rests
 pub mod Rows
+pub mod Starts
 pub mod Ties
 pub mod Ways

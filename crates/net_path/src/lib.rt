@@ -79,9 +79,11 @@ mod path;
 mod rows;
 mod search;
 mod spread;
+mod starts;
 mod ties;
 mod work;
 
 pub use family::renew;
 pub use search::{NoPath, least};
+pub use starts::costs_from;
 pub use work::Work;

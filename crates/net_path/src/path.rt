@@ -6,11 +6,15 @@ ghost use Rattle.pra_base.specs.Places.{number, place_count};
 ghost use Rattle.net_path.specs.Ways.{step_price, AreWaysWithin, AreDebts, IsShort, IsWay};
 ghost use Rattle.net_path.specs.Ways.{start_price};
 ghost use Rattle.net_path.specs.Leaving.{IsLeaving, into_register, into_memory, leaving_price};
+ghost use Rattle.std.specs.Prelude.{◌<ℤ◌, pos};
+ghost use Rattle.std.specs.Option.{MatchOption};
 ghost use Rattle.net_path.specs.Choices.{IsChoice, IsBestChoice, IsBestPlace, IsGoodStart};
+ghost use Rattle.net_path.specs.Choices.{AreStarts};
 ghost use Rattle.net_path.specs.Rests.{Terrain, Follows};
 ghost use Rattle.net_path.specs.Rows.{costs_at, IsGround};
 
 use crate::crossbar::{Debt, Row, Ways, debt_at, with_way};
+use crate::rows::REACHED;
 use pra_base::Place;
 
 /// What no register is numbered.
@@ -188,6 +192,28 @@ fn best_start<const SECONDS: bool>(ways: &Ways, constant: bool, row: &Row) -> Ch
         );
     }
     best
+}
+
+// A cost, if it is that of a path.
+fn reached(cost: i64) -> Option<i64>
+    ensures { MatchOption result (pos (2 ^ 61) ≤ℤ cost)
+        (λ z. (z ≡ cost) × (z <ℤ pos (2 ^ 61))) }
+{
+    if cost < REACHED { Some(cost) } else { None }
+}
+
+/// What is paid from each place where the path begins there.
+pub(crate) fn start_costs(ways: &Ways, constant: bool, row: &Row) -> [Option<i64>; 14]
+    requires ways { AreWaysWithin ways.now }
+    requires row { AreDebts row.now.costs }
+    ensures { AreStarts (start_price ways.now constant) row.now.costs place_count result }
+{
+    let mut costs = [None; 14];
+    for number in 0..14u8 {
+        let choice = begin_at::<false>(ways, constant, row, place_of(number));
+        costs[number as usize] = reached(choice.debt.cost);
+    }
+    costs
 }
 
 /// The best place to begin at, where seconds count or not.
