@@ -254,109 +254,37 @@ fn made(form: Form, list: &Value) -> Option<VInstr>
     ensures { result ≡ made form (view list.now) }
 {
     match form {
-        Form::Set => {
-            let v = variable_at(list, 1)?;
-            let c = integer_at(list, 2)?;
-            Some(VInstr::Set(v, c))
-        }
-        Form::Copy => {
-            let v = variable_at(list, 1)?;
-            let s = variable_at(list, 2)?;
-            Some(VInstr::Copy(v, s))
-        }
-        Form::Add => {
-            let v = variable_at(list, 1)?;
-            let s = variable_at(list, 2)?;
-            Some(VInstr::Add(v, s))
-        }
-        Form::Sub => {
-            let v = variable_at(list, 1)?;
-            let s = variable_at(list, 2)?;
-            Some(VInstr::Sub(v, s))
-        }
-        Form::And => {
-            let v = variable_at(list, 1)?;
-            let s = variable_at(list, 2)?;
-            Some(VInstr::And(v, s))
-        }
-        Form::Or => {
-            let v = variable_at(list, 1)?;
-            let s = variable_at(list, 2)?;
-            Some(VInstr::Or(v, s))
-        }
-        Form::Xor => {
-            let v = variable_at(list, 1)?;
-            let s = variable_at(list, 2)?;
-            Some(VInstr::Xor(v, s))
-        }
-        Form::Mul => {
-            let v = variable_at(list, 1)?;
-            let s = variable_at(list, 2)?;
-            Some(VInstr::Mul(v, s))
-        }
-        Form::Neg => {
-            let v = variable_at(list, 1)?;
-            Some(VInstr::Neg(v))
-        }
-        Form::Cmp => {
-            let a = variable_at(list, 1)?;
-            let b = variable_at(list, 2)?;
-            Some(VInstr::Cmp(a, b))
-        }
-        Form::CmpSet => {
-            let k = condition_at(list, 1)?;
-            let v = variable_at(list, 2)?;
-            let a = variable_at(list, 3)?;
-            let b = variable_at(list, 4)?;
-            Some(VInstr::CmpSet(k, v, a, b))
-        }
-        Form::DivMod => {
-            let q = variable_at(list, 1)?;
-            let r = variable_at(list, 2)?;
-            let a = variable_at(list, 3)?;
-            let d = variable_at(list, 4)?;
-            Some(VInstr::DivMod(q, r, a, d))
-        }
-        Form::Check => {
-            let i = variable_at(list, 1)?;
-            let n = integer_at(list, 2)?;
-            Some(VInstr::Check(i, n))
-        }
-        Form::CheckPos => {
-            let d = variable_at(list, 1)?;
-            Some(VInstr::CheckPos(d))
-        }
-        Form::Load => {
-            let v = variable_at(list, 1)?;
-            let m = address_at(list, 2)?;
-            Some(VInstr::Load(v, m))
-        }
-        Form::Store => {
-            let m = address_at(list, 1)?;
-            let s = variable_at(list, 2)?;
-            Some(VInstr::Store(m, s))
-        }
-        Form::Addr => {
-            let v = variable_at(list, 1)?;
-            let m = address_at(list, 2)?;
-            Some(VInstr::Addr(v, m))
-        }
-        Form::Push => {
-            let s = variable_at(list, 1)?;
-            Some(VInstr::Push(s))
-        }
-        Form::Call => {
-            let p = natural_at(list, 1)?;
-            Some(VInstr::Call(ProcId(p)))
-        }
-        Form::Read => {
-            let v = variable_at(list, 1)?;
-            Some(VInstr::Read(v))
-        }
-        Form::Write => {
-            let s = variable_at(list, 1)?;
-            Some(VInstr::Write(s))
-        }
+        Form::Set => Some(VInstr::Set(variable_at(list, 1)?, integer_at(list, 2)?)),
+        Form::Copy => Some(VInstr::Copy(variable_at(list, 1)?, variable_at(list, 2)?)),
+        Form::Add => Some(VInstr::Add(variable_at(list, 1)?, variable_at(list, 2)?)),
+        Form::Sub => Some(VInstr::Sub(variable_at(list, 1)?, variable_at(list, 2)?)),
+        Form::And => Some(VInstr::And(variable_at(list, 1)?, variable_at(list, 2)?)),
+        Form::Or => Some(VInstr::Or(variable_at(list, 1)?, variable_at(list, 2)?)),
+        Form::Xor => Some(VInstr::Xor(variable_at(list, 1)?, variable_at(list, 2)?)),
+        Form::Mul => Some(VInstr::Mul(variable_at(list, 1)?, variable_at(list, 2)?)),
+        Form::Neg => Some(VInstr::Neg(variable_at(list, 1)?)),
+        Form::Cmp => Some(VInstr::Cmp(variable_at(list, 1)?, variable_at(list, 2)?)),
+        Form::CmpSet => Some(VInstr::CmpSet(
+            condition_at(list, 1)?,
+            variable_at(list, 2)?,
+            variable_at(list, 3)?,
+            variable_at(list, 4)?,
+        )),
+        Form::DivMod => Some(VInstr::DivMod(
+            variable_at(list, 1)?,
+            variable_at(list, 2)?,
+            variable_at(list, 3)?,
+            variable_at(list, 4)?,
+        )),
+        Form::Check => Some(VInstr::Check(variable_at(list, 1)?, integer_at(list, 2)?)),
+        Form::CheckPos => Some(VInstr::CheckPos(variable_at(list, 1)?)),
+        Form::Load => Some(VInstr::Load(variable_at(list, 1)?, address_at(list, 2)?)),
+        Form::Store => Some(VInstr::Store(address_at(list, 1)?, variable_at(list, 2)?)),
+        Form::Addr => Some(VInstr::Addr(variable_at(list, 1)?, address_at(list, 2)?)),
+        Form::Push => Some(VInstr::Push(variable_at(list, 1)?)),
+        Form::Call => Some(VInstr::Call(ProcId(natural_at(list, 1)?))),
+        Form::Read => Some(VInstr::Read(variable_at(list, 1)?)),
+        Form::Write => Some(VInstr::Write(variable_at(list, 1)?)),
         Form::Line => Some(VInstr::Line),
         Form::Clear => Some(VInstr::Clear),
     }
