@@ -1,5 +1,6 @@
 pub mod Costs
 pub mod Ends
+pub mod Filled
 pub mod Free
 pub mod GroupMembers
 pub mod LeastPlace

@@ -1,22 +1,19 @@
 -- Sums over the strands of a group, end by end, and the place that costs least.
-use Rattle.std.proofs.Common.{ℕ, ◌≡◌, ◌+◌, ◌<◌, Bool, true, false, not, ◌||◌, cond, eqb, ℤ}
-use Rattle.std.proofs.Common.{pos, ◌+ℤ◌, List, [], ◌∷◌, ◌++◌, length, get_or, set, Option, Some}
+use Rattle.std.proofs.Common.{ℕ, ◌≡◌, ◌<◌, Bool, true, false, not, ◌||◌, cond, eqb, ℤ}
+use Rattle.std.proofs.Common.{pos, ◌+ℤ◌, List, [], ◌∷◌, ◌++◌, length, Option, Some}
 use Rattle.std.proofs.Common.{None, refl, sym, ap, ◌∙◌, subst, arith, inl, inr}
 use Rattle.std.specs.Prelude.{IsSome}
 use Rattle.std.proofs.lemmas.Bool.{cases_Bool, cases_eq, eq-eqb, ne_eqb, false≢true}
 use Rattle.std.proofs.lemmas.Int.{ints}
-use Rattle.std.proofs.lemmas.List.{length-set, get_or-set_same, get_or-set_other}
 use Rattle.std.proofs.lemmas.List.Elements.{All-nil, All-push}
 use Rattle.std.proofs.lemmas.List.Elements.{All-weaker}
 use Rattle.pra_list.proofs.Options.{none_some, some_same}
 use Rattle.pra_base.specs.declared.ids.Place.{Place}
-use Rattle.pra_base.specs.Places.{number}
 use Rattle.net_cost.specs.declared.weights.Weights.{Weights}
 use Rattle.net_form.specs.declared.net.Net.{Net}
 use Rattle.net_form.specs.declared.net.TieEnd.{TieEnd}
 use Rattle.net_form.specs.declared.prices.Prices.{Prices}
 use Rattle.net_form.specs.Admitted.{strand_at}
-use Rattle.net_form.proofs.PlaceEquality.{number-injective}
 use Rattle.net_dual.specs.Priced.{pay}
 use Rattle.net_dual.proofs.Totals.{total-append, total-agree}
 use Rattle.net_path.proofs.Numbers.{number_below}
@@ -195,29 +192,3 @@ pub some_weight : (net : Net) (w : Weights) (prices : Prices) (regs : List ℕ) 
     (o : Option ℤ) → IsSlot net w prices regs g p o → suits_all net regs g p ≡ true → IsSome o
 some_weight net w prices regs g p None none opened = absurd (false≢true (sym none ∙ opened))
 some_weight net w prices regs g p (Some z) is opened = refl
-
--- ---- one place more
-
-module _ (net : Net) (w : Weights) (prices : Prices) (regs : List ℕ) (g k : ℕ)
-    (weights : List (Option ℤ)) where
-  pub no_places : length weights ≡ 14 → AreWeights net w prices regs g 0 weights
-  no_places long = record { long = long; each = λ p lt. absurd (omega (arith, lt)) }
-
-  pub one_place : AreWeights net w prices regs g k weights → k < 14 → (p : Place) → number p ≡ k
-      → (o : Option ℤ) → IsSlot net w prices regs g p o
-      → AreWeights net w prices regs g (k + 1) (set weights k o)
-  one_place are lt p at o is = record {
-    long = length-set weights k o ∙ are.long;
-    each = λ q below. elim (cases_eq (number q) k)
-        as (λ _. IsSlot net w prices regs g q (get_or (set weights k o) (number q) None)) [
-          | inl same ↦
-              let long = are.long in
-              subst (λ (r : Place). IsSlot net w prices regs g r
-              (get_or (set weights k o) (number r) None)) (number-injective p q (at ∙ sym same))
-              (subst (IsSlot net w prices regs g p) (sym (ap (λ (j : ℕ). get_or (set weights k o) j
-              None) at ∙ get_or-set_same weights k o None (omega (arith, long, lt)))) is)
-          | inr other ↦ subst (IsSlot net w prices regs g q)
-              (sym (get_or-set_other weights k (number q) o None other))
-              (are.each q (omega (arith, below, other)))
-        ];
-  }

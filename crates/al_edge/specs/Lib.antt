@@ -5,5 +5,6 @@ pub mod HomeRoutes
 pub mod OpenPlaces
 pub mod Placed
 pub mod Planned
+pub mod Totals
 pub mod Weighed
 pub mod Yielding

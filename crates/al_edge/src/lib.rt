@@ -24,8 +24,9 @@
 //! its ends has it and its register is not used at any end's layer; masks and registers are asked
 //! of all ends before any path is looked for. What an open place costs is the sum over the strands
 //! with an end in the group of a least path with these ends at the place: each strand once, alone
-//! in the network (`cost_at` in `weights`). The open place that costs least is taken, and of equal
-//! ones the first. Memory is open to every group, so there is always one.
+//! in the network (`costs_at` in `weights`). A strand whose entry alone is in the group takes one
+//! search for all places, any other one for each. The open place that costs least is taken, and of
+//! equal ones the first. Memory is open to every group, so there is always one.
 //!
 //! ```text
 //!   block 0 ends at its exit           block 1 begins at its entry
@@ -36,7 +37,7 @@
 //!
 //! What is promised is `IsGreedy` of al_laws, and `laws` has what a layer above may conclude:
 //! places are in the masks of their ends, and two groups at one layer are in two registers.
-//! specs/GroupEnds, OpenPlaces, Weighed, Cheapest and Planned are inner.
+//! specs/GroupEnds, OpenPlaces, Weighed, Totals, Cheapest and Planned are inner.
 #![tactic(auto)]
 
 mod cheapest;

@@ -1,7 +1,7 @@
 // The ends that ties join in one group.
 
 ghost use Rattle.std.specs.Prelude.{◌≡◌, ◌<◌, ◌≤◌, ◌-◌, ◌*◌, length, take, drop};
-ghost use Rattle.std.specs.Prelude.{if◌then◌else◌, Some, None, All};
+ghost use Rattle.std.specs.Prelude.{if◌then◌else◌, Some, None, All, ◌&&◌, not};
 ghost use Rattle.pra_base.specs.declared.ids.Place.{Place as AnyPlace};
 ghost use Rattle.net_form.specs.Admitted.{strand_at};
 ghost use Rattle.net_form.specs.Formed.{IsFormed};
@@ -85,6 +85,16 @@ pub(crate) fn counts(net: &Net, group: u32, end: TieEnd) -> bool
         BlockEnd::Entry => true,
         BlockEnd::Exit => !is_in(group, net.strands[end.strand as usize].entry_group),
     }
+}
+
+/// Whether a strand's entry is in the group, and its exit is not.
+pub(crate) fn enters_alone(net: &Net, group: u32, strand: u32) -> bool
+    requires strand { strand < length net.now.strands }
+    ensures { result ≡ (is_group group (strand_at net.now strand).entry_group &&
+        not (is_group group (strand_at net.now strand).exit_group)) }
+{
+    let strand = &net.strands[strand as usize];
+    is_in(group, strand.entry_group) && !is_in(group, strand.exit_group)
 }
 
 fn wanted(group: u32, place: Place, of_end: Option<u32>) -> Option<Place>

@@ -1,6 +1,9 @@
 // What a tie group's places cost its strands.
 
-ghost use Rattle.std.specs.Prelude.{◌≡◌, ◌<◌, ◌^◌, ℤ, pos, ◌+ℤ◌, ◌≤ℤ◌, [], length};
+ghost use Rattle.std.specs.Prelude.{◌≡◌, ◌<◌, ◌^◌, ℕ, ℤ, pos, ◌+ℤ◌, ◌≤ℤ◌, [], length, true, false};
+ghost use Rattle.std.specs.Prelude.{None, Some, slice_index_or, if◌then◌else◌};
+ghost use Rattle.net_form.specs.Admitted.{strand_at};
+ghost use Rattle.al_laws.specs.Greedy.{is_group};
 ghost use Rattle.pra_base.specs.Places.{place_count};
 ghost use Rattle.net_cost.specs.Models.{Keeps, weights_of};
 ghost use Rattle.net_form.specs.Formed.{IsFormed};
@@ -10,13 +13,15 @@ ghost use Rattle.net_laws.specs.Built.{IsBuilt};
 ghost use Rattle.net_dual.specs.Priced.{AreInRange};
 ghost use Rattle.net_path.specs.Desk.{IsReservedFor};
 ghost use Rattle.al_edge.specs.OpenPlaces.{is_free, suits, suits_all, IsInMasks};
-ghost use Rattle.al_edge.specs.Weighed.{IsCostAt, IsWeight, IsSlot, AreWeights};
+ghost use Rattle.al_edge.specs.Weighed.{IsCostAt, AreWeights};
+ghost use Rattle.al_edge.specs.Totals.{AreOpenBelow, AreInMasks, AreCostsBelow, AreKnown, AreWide};
+ghost use Rattle.al_edge.specs.Totals.{AreAdded, AreTotals};
 
 use crate::cheapest::{PlaceWeights, place_of};
-use crate::members::{counts, ends_of, group_ends, layer_of, mask_of};
+use crate::members::{counts, ends_of, enters_alone, group_ends, layer_of, mask_of};
 use net_cost::{CostModel, Event};
 use net_form::{Net, Prices, Taken, TieEnd};
-use net_path::{Work, least};
+use net_path::{Work, costs_from, least};
 use pra_base::Place;
 use pra_base::places::allows;
 
@@ -87,6 +92,158 @@ fn cost_at<F: Fn(Event, u32) -> u32>(
     }
 }
 
+// The places at which all ends of the group may be.
+fn open_places(net: &Net, used: &Taken, group: u32) -> [bool; 14]
+    requires net { IsFormed net.now }
+    requires used { IsRoomOf net.now used.now }
+    requires group { group < net.now.groups }
+    ensures { AreOpenBelow net.now used.now.regs group place_count result }
+{
+    let mut opens = [false; 14];
+    for number in 0..14u8 {
+        opens[number as usize] = suits_all(net, used, group, place_of(number));
+    }
+    opens
+}
+
+// The same, if this place is open.
+fn cost_if_open<F: Fn(Event, u32) -> u32>(
+    work: &mut Work,
+    net: &Net,
+    model: &CostModel<F>,
+    prices: &Prices,
+    free: &Taken,
+    group: u32,
+    opened: bool,
+    place: Place,
+    strand: u32,
+) -> i64
+    requires kept { Keeps F.Fn model.now }
+    requires net { IsBuilt net.now }
+    requires work { IsReservedFor net.now work.old }
+    requires prices { AreInRange net.now prices.now }
+    requires room { IsRoomOf net.now free.now }
+    requires free { StandsFor net.now free.now [] }
+    requires place { opened ≡ true → IsInMasks net.now group place }
+    requires strand { strand < length net.now.strands }
+    ensures cost { opened ≡ true →
+        IsCostAt net.now (weights_of model.now) prices.now group place strand result }
+    ensures family { work.new.family ≡ work.old.family }
+    ensures reserved { IsReservedFor net.now work.new }
+{
+    if opened {
+        cost_at(work, net, model, prices, free, group, place, strand)
+    } else {
+        0
+    }
+}
+
+// What a strand costs at each open place, by a search for each.
+fn costs_by_place<F: Fn(Event, u32) -> u32>(
+    work: &mut Work,
+    net: &Net,
+    model: &CostModel<F>,
+    prices: &Prices,
+    free: &Taken,
+    group: u32,
+    opens: &[bool; 14],
+    strand: u32,
+) -> [i64; 14]
+    requires kept { Keeps F.Fn model.now }
+    requires net { IsBuilt net.now }
+    requires work { IsReservedFor net.now work.old }
+    requires prices { AreInRange net.now prices.now }
+    requires room { IsRoomOf net.now free.now }
+    requires free { StandsFor net.now free.now [] }
+    requires opens { AreInMasks net.now group opens.now }
+    requires strand { strand < length net.now.strands }
+    ensures costs { AreCostsBelow net.now (weights_of model.now) prices.now group strand opens.now
+        place_count result }
+    ensures family { work.new.family ≡ work.old.family }
+    ensures reserved { IsReservedFor net.now work.new }
+{
+    let mut costs = [0i64; 14];
+    for number in 0..14u8 {
+        let opened = opens[number as usize];
+        let place = place_of(number);
+        let cost = cost_if_open(work, net, model, prices, free, group, opened, place, strand);
+        costs[number as usize] = cost;
+    }
+    costs
+}
+
+// The costs that were found, and 0 where none was.
+fn known(found: &[Option<i64>; 14]) -> [i64; 14]
+    ensures { AreKnown found.now place_count result }
+{
+    let mut costs = [0i64; 14];
+    for number in 0..14usize {
+        costs[number] = found[number].unwrap_or(0);
+    }
+    costs
+}
+
+// What a strand whose entry alone is in the group costs at each open place, by one search.
+fn costs_by_entry<F: Fn(Event, u32) -> u32>(
+    work: &mut Work,
+    net: &Net,
+    model: &CostModel<F>,
+    prices: &Prices,
+    free: &Taken,
+    group: u32,
+    opens: &[bool; 14],
+    strand: u32,
+) -> [i64; 14]
+    requires kept { Keeps F.Fn model.now }
+    requires net { IsBuilt net.now }
+    requires work { IsReservedFor net.now work.old }
+    requires prices { AreInRange net.now prices.now }
+    requires room { IsRoomOf net.now free.now }
+    requires free { StandsFor net.now free.now [] }
+    requires opens { AreInMasks net.now group opens.now }
+    requires strand { strand < length net.now.strands }
+    requires entry { is_group group (strand_at net.now strand).entry_group ≡ true }
+    requires exit { is_group group (strand_at net.now strand).exit_group ≡ false }
+    ensures costs { AreCostsBelow net.now (weights_of model.now) prices.now group strand opens.now
+        place_count result }
+    ensures family { work.new.family ≡ work.old.family }
+    ensures reserved { IsReservedFor net.now work.new }
+{
+    let found = costs_from(work, net, model, prices, strand, None, free);
+    known(&found)
+}
+
+// What a strand costs at least at each open place, with its ends in the group there.
+fn costs_at<F: Fn(Event, u32) -> u32>(
+    work: &mut Work,
+    net: &Net,
+    model: &CostModel<F>,
+    prices: &Prices,
+    free: &Taken,
+    group: u32,
+    opens: &[bool; 14],
+    strand: u32,
+) -> [i64; 14]
+    requires kept { Keeps F.Fn model.now }
+    requires net { IsBuilt net.now }
+    requires work { IsReservedFor net.now work.old }
+    requires prices { AreInRange net.now prices.now }
+    requires room { IsRoomOf net.now free.now }
+    requires free { StandsFor net.now free.now [] }
+    requires opens { AreInMasks net.now group opens.now }
+    requires strand { strand < length net.now.strands }
+    ensures costs { AreCostsBelow net.now (weights_of model.now) prices.now group strand opens.now
+        place_count result }
+    ensures family { work.new.family ≡ work.old.family }
+    ensures reserved { IsReservedFor net.now work.new }
+{
+    if enters_alone(net, group, strand) {
+        costs_by_entry(work, net, model, prices, free, group, opens, strand)
+    } else {
+        costs_by_place(work, net, model, prices, free, group, opens, strand)
+    }
+}
+
 fn add(total: i128, cost: i64) -> i128
     requires low { pos 0 ≤ℤ (total +ℤ pos (2 ^ 100)) }
     requires high { total ≤ℤ pos (2 ^ 100) }
@@ -97,16 +254,26 @@ fn add(total: i128, cost: i64) -> i128
     total + i128::from(cost)
 }
 
-// What the place costs the strands with an end in the group, each once.
-fn weight<F: Fn(Event, u32) -> u32>(
+// Adds what a strand costs at each place.
+fn add_all(totals: &mut [i128; 14], costs: &[i64; 14])
+    requires wide { AreWide (2 ^ 99) totals.old }
+    ensures { AreAdded totals.old costs.now totals.new }
+{
+    for number in 0..14usize {
+        totals[number] = add(totals[number], costs[number]);
+    }
+}
+
+// What each place costs the strands with an end in the group, each once.
+fn totals<F: Fn(Event, u32) -> u32>(
     work: &mut Work,
     net: &Net,
     model: &CostModel<F>,
     prices: &Prices,
     free: &Taken,
     group: u32,
-    place: Place,
-) -> i128
+    opens: &[bool; 14],
+) -> [i128; 14]
     requires kept { Keeps F.Fn model.now }
     requires net { IsBuilt net.now }
     requires work { IsReservedFor net.now work.old }
@@ -114,50 +281,36 @@ fn weight<F: Fn(Event, u32) -> u32>(
     requires room { IsRoomOf net.now free.now }
     requires free { StandsFor net.now free.now [] }
     requires group { group < net.now.groups }
-    requires place { IsInMasks net.now group place }
-    ensures weight { IsWeight net.now (weights_of model.now) prices.now group place result }
+    requires opens { AreInMasks net.now group opens.now }
+    ensures totals { AreTotals net.now (weights_of model.now) prices.now group opens.now result }
     ensures family { work.new.family ≡ work.old.family }
     ensures reserved { IsReservedFor net.now work.new }
 {
-    let mut total = 0i128;
+    let mut totals = [0i128; 14];
     for end in ends_of(net, group) {
         if !counts(net, group, *end) {
             continue;
         }
-        let cost = cost_at(work, net, model, prices, free, group, place, end.strand);
-        total = add(total, cost);
+        let costs = costs_at(work, net, model, prices, free, group, opens, end.strand);
+        add_all(&mut totals, &costs);
     }
-    total
+    totals
 }
 
-// What the place costs the strands of the group, if it is open.
-fn weight_if_open<F: Fn(Event, u32) -> u32>(
-    work: &mut Work,
-    net: &Net,
-    model: &CostModel<F>,
-    prices: &Prices,
-    free: &Taken,
-    used: &Taken,
-    group: u32,
-    place: Place,
-) -> Option<i128>
-    requires kept { Keeps F.Fn model.now }
-    requires net { IsBuilt net.now }
-    requires work { IsReservedFor net.now work.old }
-    requires prices { AreInRange net.now prices.now }
-    requires room { IsRoomOf net.now free.now }
-    requires free { StandsFor net.now free.now [] }
-    requires used { IsRoomOf net.now used.now }
-    requires group { group < net.now.groups }
-    ensures slot { IsSlot net.now (weights_of model.now) prices.now used.now.regs group place
-        result }
-    ensures family { work.new.family ≡ work.old.family }
-    ensures reserved { IsReservedFor net.now work.new }
+// The totals of the open places.
+fn of_open(opens: &[bool; 14], totals: &[i128; 14]) -> PlaceWeights
+    ensures long { length result ≡ 14 }
+    ensures each { (k : ℕ) → k < 14 → slice_index_or result k None ≡
+        (if slice_index_or opens.now k false then Some (slice_index_or totals.now k (pos 0))
+        else None) }
 {
-    if !suits_all(net, used, group, place) {
-        return None;
+    let mut weights = [None; 14];
+    for number in 0..14usize {
+        if opens[number] {
+            weights[number] = Some(totals[number]);
+        }
     }
-    Some(weight(work, net, model, prices, free, group, place))
+    weights
 }
 
 /// What each place costs the strands of a group, and None where it is not open.
@@ -183,12 +336,7 @@ pub(crate) fn weights<F: Fn(Event, u32) -> u32>(
     ensures family { work.new.family ≡ work.old.family }
     ensures reserved { IsReservedFor net.now work.new }
 {
-    let mut weights = [None; 14];
-    for number in 0..14u8 {
-        let place = place_of(number);
-        weights[number as usize] = weight_if_open(
-            work, net, model, prices, free, used, group, place,
-        );
-    }
-    weights
+    let opens = open_places(net, used, group);
+    let totals = totals(work, net, model, prices, free, group, &opens);
+    of_open(&opens, &totals)
 }

@@ -4,8 +4,9 @@
 //! [`least`] finds such a path from the place and to the place that it is asked for, past all that
 //! other strands have taken, or says that there is none. [`renew`] finds one that is free to begin
 //! and end anywhere, and puts it into the family of paths that a [`Work`] keeps: the family that
-//! the Lagrange value of a network is read from, and that prices follow. Both do what they say for
-//! each network that `net_build` makes; both take no memory, since [`Work::reserve`] took it
+//! the Lagrange value of a network is read from, and that prices follow. [`costs_from`] tells by one
+//! search what a least path costs from each place at the strand's first layer. All do what they say
+//! for each network that `net_build` makes; they take no memory, since [`Work::reserve`] took it
 //! before.
 //!
 //! # Rows
@@ -68,7 +69,7 @@
 //! of one layer (masks, ends, what is taken, prices, extras) in `cells`, with the pairs' in `pairs`
 //! and the ties' in `ties`; `spread` has the seconds and the counts that they come from; `rows` goes
 //! over the layers, `path` reads the path, `search` puts them together, `family` renews one path of a
-//! family. No cost of an edge is ever stored.
+//! family, `starts` has the costs from each place. No cost of an edge is ever stored.
 #![tactic(auto)]
 
 mod cells;

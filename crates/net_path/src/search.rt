@@ -44,7 +44,11 @@ pub(crate) fn price_of<F: Fn(Event, u32) -> u32>(
 }
 
 /// The ways of a strand's crossbars, by what the model answers for its four events.
-pub(crate) fn ways_of<F: Fn(Event, u32) -> u32>(model: &CostModel<F>, near: bool, depth: u32) -> Ways
+pub(crate) fn ways_of<F: Fn(Event, u32) -> u32>(
+    model: &CostModel<F>,
+    near: bool,
+    depth: u32,
+) -> Ways
     requires kept { Keeps F.Fn model.now }
     requires depth { depth ≤ deepest }
     ensures are { AreWays (weights_of model.now) depth near result }
