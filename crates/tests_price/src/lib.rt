@@ -9,3 +9,5 @@ mod made;
 mod planned;
 #[cfg(test)]
 mod priced;
+#[cfg(test)]
+mod rounded;
