@@ -13,4 +13,4 @@ home-requires-clause-net g c =
 pub home-requires-clause-room : goal.home-requires-clause-room
 home-requires-clause-room g c =
     leaves_room c.args.code.now c.in_ok-net.net c.in_ok-net.ensures
-    (c.if-not-is_valid.ensures refl) (c.if-not-is_sized.ensures.0 refl)
+    (c.if-not-is_valid.ensures.0 refl) (c.if-not-is_sized.ensures.0 refl)
