@@ -28,3 +28,6 @@ mod tolls;
 mod value;
 
 pub use check::{CertAnswer, Reason, check_cert};
+
+#[cfg(test)]
+mod tests;
