@@ -48,7 +48,7 @@ def contrast(one, two):
     return (light + 0.05) / (dark + 0.05)
 
 
-# What is left of light for those without red or green cones, after Vienot, Brettel and Mollon (1999).
+# What is left of light without red or green cones, after Vienot, Brettel and Mollon (1999).
 WITHOUT = {
     "red": ((0.1124, 0.8876, 0), (0.1124, 0.8876, 0), (0.004, -0.004, 1)),
     "green": ((0.2927, 0.7073, 0), (0.2927, 0.7073, 0), (-0.0223, 0.0223, 1)),
@@ -58,7 +58,8 @@ WITHOUT = {
 def seen(colour, cones):
     """Lightness and two differences of colours (CIELAB), as it is seen without some cones."""
     light = channels(colour)
-    r, g, b = (max(0, sum(a * c for a, c in zip(row, light, strict=True))) for row in WITHOUT[cones])
+    mixed = (sum(a * c for a, c in zip(row, light, strict=True)) for row in WITHOUT[cones])
+    r, g, b = (max(0, it) for it in mixed)
     xyz = (
         (0.4124 * r + 0.3576 * g + 0.1805 * b) / 0.9505,
         0.2126 * r + 0.7152 * g + 0.0722 * b,
@@ -163,6 +164,11 @@ class Document(HTMLParser):
         return shown, self.points[number]
 
 
+def console(said):
+    """What the browser's console holds of a page."""
+    return re.findall(r".*CONSOLE.*", said.decode(errors="replace"))
+
+
 def document_of(path):
     """The document that the browser makes of a page, and what its console says."""
     with tempfile.TemporaryDirectory(prefix="chromium-") as room:
@@ -170,8 +176,7 @@ def document_of(path):
         ran = subprocess.run(command, capture_output=True, timeout=PATIENCE)
     document = Document()
     document.feed(ran.stdout.decode())
-    said = ran.stderr.decode(errors="replace")
-    return document, re.findall(r".*CONSOLE.*", said)
+    return document, console(ran.stderr)
 
 
 # ---- comparing

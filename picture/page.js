@@ -215,10 +215,10 @@
     let out = `<tr><td class="what faint">${from}</td><td class="machine">${start}</td><th scope="row" class="layer">0</th>${cells(p, at, 0, columns)}</tr>`;
     block.code.forEach((text, i) => {
       const pair = block.pairs[i];
-      const note = pair && pair.some((v) => p.kinds[v] !== "co")
-        ? `<span class="pair" title="the machine has one memory operand an instruction">one of ${escaped(p.names[pair[0]])}, ${escaped(p.names[pair[1]])} in memory at most</span>` : "";
+      const note = pair && pair.every((v) => p.kinds[v] !== "co")
+        ? ` title="at most one of ${escaped(p.names[pair[0]])} and ${escaped(p.names[pair[1]])} is in memory here"` : "";
       out += gap(p, block, at, 2 * i + 1, columns);
-      out += `<tr class="before"><td class="what" rowspan="2">${escaped(text)}${note}</td><td class="machine" rowspan="2">${machine(block.machine[i])}</td>`;
+      out += `<tr class="before"><td class="what" rowspan="2"${note}>${escaped(text)}</td><td class="machine" rowspan="2">${machine(block.machine[i])}</td>`;
       out += `<th scope="row" class="layer">${2 * i + 1}</th>${cells(p, at, 2 * i + 1, columns)}</tr>`;
       out += `<tr><th scope="row" class="layer">${2 * i + 2}</th>${cells(p, at, 2 * i + 2, columns)}</tr>`;
     });

@@ -28,7 +28,9 @@ TEMPLATE = """<!DOCTYPE html>
 <p class="lead">{sentence}</p>
 <p class="faint">{made}</p>
 </header>
-<noscript><p>Grids and curves are drawn by a script in this page, which needs no network.</p></noscript>
+<noscript>
+<p>Grids and curves are drawn by a script in this page, which needs no network.</p>
+</noscript>
 <main>
 <h2 id="procedures">Procedures</h2>
 {procedures}
@@ -53,23 +55,25 @@ READING = """
 each variable is before and after each instruction: in one of six registers, in memory, or in a
 register and in memory both. Constants need no place until they are brought into a register.</p>
 <ul class="legend">{legend}</ul>
-<p>In the grid of a block a column is a variable, and a row a <em>layer</em>: the entry of the block,
-before and after each instruction, and the exit. Between two instructions a variable may move
-(<span class="place goes-sample">↓+3 e1</span>), which is a machine instruction of its own and costs
-what is written there. An operand that is in memory, or a number in the instruction itself, makes
-the instruction dearer: that is an <em>extra</em>, as the <span class="place p6">mem<span
-class="extra-sample">+1</span></span> at an operand. The letter e and a number name the event in the
-table below. Choose the head of a column, or a cell, to mark a variable in all blocks of its
-procedure. An empty cell is a layer at which nobody needs the variable's value.</p>
+<p>In the grid of a block a column is a variable, and a row a <em>layer</em>: the entry of the
+block, before and after each instruction, and the exit. Between two instructions a variable may move
+(<span class="place goes-sample">↓+3 e1</span>), which is a machine instruction of its own and
+costs what is written there. An operand that is in memory, or a number in the instruction itself,
+makes the instruction dearer: that is an <em>extra</em>, as the <span class="place p6">mem<span
+class="extra-sample">+1</span></span> at an operand. The letter e and a number name the event in
+the tables. Choose the head of a column, or a cell, to mark a variable in all blocks of its
+procedure. A cell is empty where nobody needs the variable's value.</p>
+<p>Parameters have the names of the source. The others are called v and a number: the compiler has
+parted, merged and copied the variables of the source before it allocates them.</p>
 <p>The <em>cost</em> is the sum of all events: moves, memory operands and immediates. {unit} What
 every allocation has to pay, such as the instructions themselves, is left out. The <em>bound</em> is
-a number below which no allocation of this code can go, whatever it is; it was tested by the
-compiler's checker, which needs to know nothing of how the allocation was found. So the cost is at
-most the difference between both above the best. A <em>round</em> tries to make the allocation
-cheaper, and to raise the bound. Round 0 is the plain beginning: every variable lives in memory and
-visits a register for each instruction that asks for one.</p>
-<p>Where two blocks follow one another, a variable is at the same place at the exit of one and at the
-entry of the other. A call may destroy eax, ecx and edx, a division works in eax and edx, and what is
+a number below which no allocation of this code can go, whatever it is; the compiler's checker has
+tested it, and needs to know nothing of how the allocation was found. So the cost is at most the
+difference between both above the best. A <em>round</em> tries to make the allocation cheaper, and
+to raise the bound. Round 0 is the plain beginning: every variable lives in memory and visits a
+register for each instruction that asks for one.</p>
+<p>Where blocks follow one another, a variable is at the same place at the exit of one and at the
+entry of the next. A call may destroy eax, ecx and edx, a division works in eax and edx, and what is
 read or written goes through eax. An instruction has at most one memory operand.</p>
 """
 UNITS = {
@@ -89,7 +93,8 @@ def at_most(cost, bound, unit):
     """How far at most an allocation is from the best."""
     if cost == bound:
         return f"It costs {cost} {unit}, and no allocation of this code costs less: it is the best."
-    share = f" ({100 * (cost - bound) / bound:.0f} per cent)" if bound else ""
+    is_near = cost <= 2 * bound
+    share = f" ({100 * (cost - bound) / bound:.0f} per cent)" if is_near else ""
     return (
         f"It costs {cost} {unit}, and no allocation of this code costs less than {bound}: it is at"
         f" most {cost - bound}{share} above the best."
@@ -155,8 +160,9 @@ def source_lines(source):
     lines = text.split("\n")
     spans = "".join(f'<span id="L{n}">{escape(it)}</span>' for n, it in enumerate(lines, 1))
     is_open = " open" if len(lines) <= LONG_SOURCE else ""
+    count = f"{len(lines)} lines" if len(lines) > 1 else "one line"
     return (
-        f'<details class="source"{is_open}><summary>{len(lines)} lines</summary>'
+        f'<details class="source"{is_open}><summary>{count}</summary>'
         f'<pre class="source">{spans}</pre></details>'
     )
 
