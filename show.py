@@ -14,6 +14,7 @@ be read or written, 6 where the words are none of these, and 70 where the parts 
 """
 
 import os
+import subprocess
 import sys
 
 from picture.certificate import NoCertificate
@@ -41,6 +42,15 @@ def read_words(words):
     return (files[0], values) if is_good and values["--input"] != "" else None
 
 
+def tell(file, said):
+    """Says what the compiler said, and on a terminal what that means."""
+    sys.stderr.buffer.write(said)
+    sys.stderr.flush()
+    if sys.stderr.isatty():
+        command = [sys.executable, f"{TOP}/explain.py", file]
+        subprocess.run(command, input=said, stdout=sys.stderr, check=False)
+
+
 def main(words):
     known = read_words(words)
     if known is None:
@@ -53,7 +63,7 @@ def main(words):
         with open(f"{file}.html", "w", encoding="utf-8") as out:
             out.write(page_of(module))
     except Refused as refused:
-        sys.stderr.buffer.write(refused.said)
+        tell(file, refused.said)
         return refused.status
     except OSError as error:
         print(f"pra: {error}", file=sys.stderr)

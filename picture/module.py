@@ -50,8 +50,6 @@ class Module:
     def __init__(self, compiler, file, rounds, cost, given=None):
         self.command = f"pra show {file} --rounds {rounds} --cost {cost}"
         self.command += f" --input {given}" if given else ""
-        with open(file, "rb") as text:
-            self.source = text.read()
         self.reports = {}
         with tempfile.TemporaryDirectory(prefix="pra-show-") as room:
             image = f"{room}/out.pri"
@@ -66,6 +64,8 @@ class Module:
                 out.write(text)
             compiler.call("check", f"{room}/cert.json")
             listed, _ = compiler.call("list", image)
+        with open(file, "rb") as source:
+            self.source = source.read()
         self.certificate = certificate.read(text.decode())
         self.headings = report.headings(self.source)
         self.drawn = self.draw(listed.decode())

@@ -151,47 +151,57 @@
     return (lines || []).map(([at, text]) => `<span title="at ${at}">${escaped(text)}</span>`).join("");
   }
 
-  function layers(block) {
-    const places = new Map(), moves = new Map(), extras = new Map();
-    for (const [v, first, path] of block.strands) {
-      [...path].forEach((digit, i) => places.set((first + i) + " " + v, parseInt(digit, 16)));
+  // What is at each layer of a block: the places by column, in their order, moves and extras.
+  function layers(block, columns) {
+    const column = new Map(columns.map((v, at) => [v, at]));
+    const rows = Array.from({ length: 2 * block.code.length + 2 }, () => new Map());
+    const moves = new Map(), extras = new Map();
+    const strands = block.strands.map((s) => [column.get(s[0]), s[1], s[2]]);
+    for (const [at, first, path] of strands.sort((x, y) => x[0] - y[0])) {
+      [...path].forEach((digit, i) => rows[first + i].set(at, parseInt(digit, 16)));
     }
     for (const move of block.moves) {
       if (!moves.has(move[0])) moves.set(move[0], new Map());
-      moves.get(move[0]).set(move[1], move);
+      moves.get(move[0]).set(column.get(move[1]), move);
     }
-    for (const extra of block.extras) extras.set(extra[0] + " " + extra[1], extra);
-    return { places, moves, extras };
+    for (const extra of block.extras) extras.set(extra[0] + " " + column.get(extra[1]), extra);
+    return { columns, rows, moves, extras };
   }
 
-  function cells(p, at, layer, columns) {
-    let out = "";
-    for (const v of columns) {
-      const place = at.places.get(layer + " " + v);
-      if (place === undefined) {
-        out += "<td></td>";
-        continue;
-      }
-      const extra = at.extras.get(layer + " " + v);
+  // A row of cells: those that are drawn, by column, and one for each stretch between them.
+  function row(drawn, count) {
+    let out = "", next = 0;
+    const blank = (to) => (to > next ? `<td${to > next + 1 ? ` colspan="${to - next}"` : ""}></td>` : "");
+    for (const [column, cell] of drawn) {
+      out += blank(column) + cell;
+      next = column + 1;
+    }
+    return out + blank(count);
+  }
+
+  function cells(p, at, layer) {
+    const drawn = [];
+    for (const [column, place] of at.rows[layer]) {
+      const v = at.columns[column], extra = at.extras.get(layer + " " + column);
       const words = `${p.names[v]} at layer ${layer}: ${placeName(place)}` +
         (extra ? `; ${page.events[extra[2]]} (event ${extra[2]}): ${cost(extra[3])}` : "");
-      const digit = place.toString(16);
-      out += `<td data-v="${v}" data-l="${layer}" class="p${digit}${place > 7 ? " both" : ""}" title="${escaped(words)}">` +
-        placeText(place) + (extra ? `<span class="extra" data-e="${extra[2]}">${cost(extra[3])}</span>` : "") + "</td>";
+      const kind = `p${place.toString(16)}${place > 7 ? " both" : ""}`;
+      const mark = extra ? `<span class="extra" data-e="${extra[2]}">${cost(extra[3])}</span>` : "";
+      drawn.push([column, `<td data-v="${v}" data-l="${layer}" class="${kind}" title="${escaped(words)}">${placeText(place)}${mark}</td>`]);
     }
-    return out;
+    return row(drawn, at.columns.length);
   }
 
-  function gap(p, block, at, layer, columns) {
+  function gap(p, block, at, layer) {
     const moves = at.moves.get(layer);
     if (!moves) return "";
-    let sum = 0, out = "";
-    for (const v of columns) {
-      const move = moves.get(v);
+    let sum = 0;
+    const drawn = [];
+    for (const [column, place] of at.rows[layer]) {
+      const v = at.columns[column], move = moves.get(column);
       if (!move) {
-        const place = at.places.get(layer - 1 + " " + v), next = at.places.get(layer + " " + v);
-        const stays = place !== undefined && next !== undefined;
-        out += stays ? `<td data-v="${v}" class="p${place.toString(16)}"></td>` : "<td></td>";
+        const stays = at.rows[layer - 1].has(column);
+        if (stays) drawn.push([column, `<td data-v="${v}" class="p${place.toString(16)}"></td>`]);
         continue;
       }
       const [, , from, to, events, price] = move;
@@ -199,32 +209,32 @@
       const named = events.map((e) => `${page.events[e]} (event ${e})`).join(", ") || "no event";
       const words = `${p.names[v]} goes from ${placeName(from)} to ${placeName(to)}: ${named}: ${cost(price)}`;
       const marks = events.length ? ` <span class="faint">e${events.join(",")}</span>` : "";
-      out += `<td data-v="${v}" data-m="${events.join(",")}" data-w="${price}" class="goes" title="${escaped(words)}">↓${cost(price)}${marks}</td>`;
+      drawn.push([column, `<td data-v="${v}" data-m="${events.join(",")}" data-w="${price}" class="goes" title="${escaped(words)}">↓${cost(price)}${marks}</td>`]);
     }
-    return `<tr class="gap"><td class="what">moves, ${cost(sum)}</td><td class="machine">${machine(block.moved[layer])}</td><td class="layer"></td>${out}</tr>`;
+    return `<tr class="gap"><td class="what">moves, ${cost(sum)}</td><td class="machine">${machine(block.moved[layer])}</td><td class="layer"></td>${row(drawn, at.columns.length)}</tr>`;
   }
 
   function grid(p, number) {
-    const block = p.blocks[number], columns = variables(p, block), at = layers(block);
+    const block = p.blocks[number], columns = variables(p, block), at = layers(block, columns);
     let head = "";
     for (const v of columns) {
       head += `<th scope="col" data-v="${v}"><button type="button" data-mark="${v}" title="${escaped(p.words[v])}">${escaped(p.names[v])}</button></th>`;
     }
     const from = number ? (block.from.length ? "from block " + block.from.join(", ") : "never reached") : "the procedure begins";
     const start = number ? "" : machine(p.prologue);
-    let out = `<tr><td class="what faint">${from}</td><td class="machine">${start}</td><th scope="row" class="layer">0</th>${cells(p, at, 0, columns)}</tr>`;
+    let out = `<tr><td class="what faint">${from}</td><td class="machine">${start}</td><th scope="row" class="layer">0</th>${cells(p, at, 0)}</tr>`;
     block.code.forEach((text, i) => {
       const pair = block.pairs[i];
       const note = pair && pair.every((v) => p.kinds[v] !== "co")
         ? ` title="at most one of ${escaped(p.names[pair[0]])} and ${escaped(p.names[pair[1]])} is in memory here"` : "";
-      out += gap(p, block, at, 2 * i + 1, columns);
+      out += gap(p, block, at, 2 * i + 1);
       out += `<tr class="before"><td class="what" rowspan="2"${note}>${escaped(text)}</td><td class="machine" rowspan="2">${machine(block.machine[i])}</td>`;
-      out += `<th scope="row" class="layer">${2 * i + 1}</th>${cells(p, at, 2 * i + 1, columns)}</tr>`;
-      out += `<tr><th scope="row" class="layer">${2 * i + 2}</th>${cells(p, at, 2 * i + 2, columns)}</tr>`;
+      out += `<th scope="row" class="layer">${2 * i + 1}</th>${cells(p, at, 2 * i + 1)}</tr>`;
+      out += `<tr><th scope="row" class="layer">${2 * i + 2}</th>${cells(p, at, 2 * i + 2)}</tr>`;
     });
     const exit = 2 * block.code.length + 1;
-    out += gap(p, block, at, exit, columns);
-    out += `<tr class="end"><td class="what">${escaped(block.end)}</td><td class="machine">${machine(block.ended)}</td><th scope="row" class="layer">${exit}</th>${cells(p, at, exit, columns)}</tr>`;
+    out += gap(p, block, at, exit);
+    out += `<tr class="end"><td class="what">${escaped(block.end)}</td><td class="machine">${machine(block.ended)}</td><th scope="row" class="layer">${exit}</th>${cells(p, at, exit)}</tr>`;
     return `<div class="grid-box" tabindex="0" role="region" aria-label="Grid of block ${number}"><table class="grid" data-block="${number}"><thead><tr><th class="what" scope="col">instruction</th><th class="machine" scope="col">machine instructions</th><th class="layer" scope="col" title="the number of the layer">layer</th>${head}</tr></thead><tbody>${out}</tbody></table></div>`;
   }
 

@@ -11,6 +11,7 @@ from picture.operands import BASE, EVENTS
 HERE = os.path.dirname(os.path.realpath(__file__))
 UNIT = {"size": "bytes", "speed": "units of time"}
 LONG_SOURCE = 60  # lines that are shown without being asked for
+LONG_CODE = 200  # instructions of a procedure that is
 
 TEMPLATE = """<!DOCTYPE html>
 <html lang="en">
@@ -193,9 +194,12 @@ def made_words(module):
 
 
 def first_open(module):
-    """The procedure that is open at first: the one with the dearest round 0."""
+    """The procedure that is open at first: the one with the dearest round 0, but no huge one."""
     reported = module.reports[module.certificate.cost].procedures
-    return max(range(len(reported)), key=lambda it: reported[it].rounds[0][0])
+    sizes = [sum(len(block.code) for block in it.code.blocks) for it in module.drawn]
+    most = max(LONG_CODE, min(sizes))
+    small = (at for at, size in enumerate(sizes) if size <= most)
+    return max(small, key=lambda it: reported[it].rounds[0][0])
 
 
 def page_of(module):
