@@ -1,14 +1,16 @@
 """Compares what pages show with the certificates of the same modules.
 
-    python3 -m picture.compare [--compiler PROGRAM] [--cost size|speed] [--data-alone] [FILE ..]
+    python3 -m picture.compare [--compiler PROGRAM] [--cost size|speed] [--rounds N] [--data-alone]
+        [FILE ..]
 
 Of each FILE, or of each module of examples/, and of both weights or of the one that is named, a
-page is made and read twice: as the values that it holds, and as the document that headless Chromium
-makes of them, with all procedures open. Both are to show the routes of the certificate to the
-letter, its cost and its bound; moves and extras are to add up to the cost; and the browser's
-console is to hold no error. The browser is `chromium`, and is left out with --data-alone. Before
-all that the colours are tried: text is to stand out from them, and each is to be told from each
-other by those who see no red or no green. The status is 0 where nothing differs, and else 1.
+page of 10 rounds, or of N, is made and read twice: as the values that it holds, and as the document
+that headless Chromium makes of them, with all procedures open. Both are to show the routes of the
+certificate to the letter, its cost and its bound; moves and extras are to add up to the cost; and
+the browser's console is to hold no error. The browser is `chromium`, and is left out with
+--data-alone. Before all that the colours are tried: text is to stand out from them, and each is to
+be told from each other by those who see no red or no green. The status is 0 where nothing differs,
+and else 1.
 """
 
 import glob
@@ -23,6 +25,7 @@ from html.parser import HTMLParser
 from picture.facts import value_of
 
 TOP = os.path.dirname(os.path.dirname(os.path.realpath(__file__)))
+# (without a sandbox, which the administrator's account does not have)
 CHROMIUM = ["chromium", "--headless=new", "--no-sandbox", "--disable-gpu", "--hide-scrollbars"]
 CHROMIUM += ["--disable-dev-shm-usage", "--enable-logging=stderr", "--virtual-time-budget=60000"]
 PATIENCE = 600  # seconds for a page
@@ -182,14 +185,14 @@ def document_of(path):
 # ---- comparing
 
 
-def faults_of(file, cost, compiler, room, with_browser):
+def faults_of(file, options, compiler, room, with_browser):
     """What a page of a module shows that its certificate has not."""
     copy = f"{room}/{os.path.basename(file)}"
     with open(file, "rb") as old, open(copy, "wb") as new:
         new.write(old.read())
-    show = [sys.executable, f"{TOP}/show.py", copy, "--cost", cost, "--compiler", compiler]
+    show = [sys.executable, f"{TOP}/show.py", copy, *options, "--compiler", compiler]
     subprocess.run(show, check=True, stdout=subprocess.DEVNULL)
-    ran = subprocess.run([compiler, "cert", copy, "--cost", cost], check=True, capture_output=True)
+    ran = subprocess.run([compiler, "cert", copy, *options], check=True, capture_output=True)
     wanted = [
         (it["routes"], it["total"], it["bound"], it["total"], it["total"])
         for it in json.loads(ran.stdout)["procs"]
@@ -221,13 +224,15 @@ def browser_faults(path, page, wanted):
 
 
 def main(words):
-    costs, compiler, with_browser = ["size", "speed"], f"{TOP}/pra", True
+    costs, rounds, compiler, with_browser = ["size", "speed"], "10", f"{TOP}/pra", True
     files, words = [], iter(words)
     for word in words:
         if word == "--compiler":
             compiler = next(words)
         elif word == "--cost":
             costs = [next(words)]
+        elif word == "--rounds":
+            rounds = next(words)
         elif word == "--data-alone":
             with_browser = False
         else:
@@ -238,7 +243,8 @@ def main(words):
     for file in files or sorted(glob.glob(f"{TOP}/examples/*.ob")):
         for cost in costs:
             with tempfile.TemporaryDirectory(prefix="pra-pages-") as room:
-                found = list(faults_of(file, cost, compiler, room, with_browser))
+                options = ("--cost", cost, "--rounds", rounds)
+                found = list(faults_of(file, options, compiler, room, with_browser))
             told = "; ".join(found) or "as certified"
             print(f"{os.path.basename(file)} by {cost}: {told}", flush=True)
             faults += found

@@ -84,4 +84,6 @@ class Module:
                 )
             it.machine = reader.procedure(it.network, procedure.routes)
             drawn.append(it)
+        if reader.at != len(reader.instructions):
+            raise listing.NotOfThisCode("the listing goes on behind the last procedure")
         return drawn
