@@ -137,8 +137,8 @@ def events_table(drawn, cost):
         for event, name, count, total in module_paid(drawn)
     ]
     foot = ("", "in all", "", sum(row[3] for row in rows), sum(row[4] for row in rows))
-    note = " (the weight is that outside of loops)" if cost == "speed" else ""
-    return f"<p>What comes once a row, and costs the weight each time{note}.</p>" + table(
+    note = ", eight times as much for each loop around it" if cost == "speed" else ""
+    return f"<p>An event costs its weight each time that it comes{note}.</p>" + table(
         heads, rows, foot
     )
 
