@@ -27,6 +27,7 @@ matrix
 magic
 queue
 overflow
+eight
 endless --steps 400";
 
 /// The most bytes of an input, of an output and of notes.

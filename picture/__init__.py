@@ -1,0 +1,1 @@
+"""The page that shows how one module was allocated: see show.py."""
