@@ -1,0 +1,4 @@
+pub mod Certified
+pub mod Holds
+pub mod ListedAgain
+pub mod Whole
