@@ -31,7 +31,7 @@ OPTIMA = os.path.join(os.path.dirname(os.path.abspath(__file__)), "optima.txt")
 class Row:
     """A procedure, a module or all: its optimum, and cost and bound by rounds."""
 
-    def __init__(self, name, optimum, cost, bound, time="-"):
+    def __init__(self, name, optimum, cost, bound, time=None):
         self.name = name
         self.optimum = optimum
         self.cost = cost
@@ -91,10 +91,10 @@ def rows_of(pra, path, weights, rounds, known):
         cost, bound = ({k: pair[i] for k, pair in at.items()} for i in (0, 1))
         rows.append(Row(f"{module} {number}", known.get((key, weights, number)), cost, bound))
     time = report(pra, path, weights, TIMED)[1] - report(pra, path, weights, 0)[1]
-    return rows, total(module, rows, told, f"{time:.0f}")
+    return rows, total(module, rows, told, f"{max(time, 0):.0f}")
 
 
-def total(name, rows, told, time):
+def total(name, rows, told, time=None):
     optima = [row.optimum for row in rows]
     optimum = None if None in optima else sum(optima)
     cost, bound = ({k: sum(getattr(row, part)[k] for row in rows) for k in told}
@@ -113,19 +113,21 @@ def part(row, at):
     """What part of the optimum the bound is, in per cent."""
     if row.optimum is None:
         return "-"
-    return f"{100 * row.bound[at] / row.optimum:.1f}" if row.optimum else "100"
+    return f"{100 * row.bound[at] / row.optimum:.1f}" if row.optimum else "100.0"
 
 
 def print_table(told, rows, what):
-    print(f"| {what} | optimum | cost | % above it | bound | % of it | ms |")
-    print("|---|--:|---|---|---|---|--:|")
+    is_timed = any(row.time is not None for row in rows)
+    print(f"| {what} | optimum | cost | % above it | bound | % of it |{' ms |' * is_timed}")
+    print(f"|---|--:|---|---|---|---|{'--:|' * is_timed}")
     for row in rows:
         cells = [row.name, "-" if row.optimum is None else row.optimum]
         cells.append(" ".join(str(row.cost[at]) for at in told))
         cells.append(" ".join(above(row, at) for at in told[1:]))
         cells.append(" ".join(str(row.bound[at]) for at in told))
         cells.append(" ".join(part(row, at) for at in told[1:]))
-        cells.append(row.time)
+        if is_timed:
+            cells.append("-" if row.time is None else row.time)
         print("| " + " | ".join(str(cell) for cell in cells) + " |")
         if row.optimum is not None and min(row.cost.values()) < row.optimum:
             print(f"{row.name}: a cost is below the optimum in optima.txt", file=sys.stderr)
@@ -145,7 +147,7 @@ def main():
             all_rows += rows
             modules.append(module)
         print_table(told, all_rows, "Procedure")
-        modules.append(total("all", all_rows, told, "-"))
+        modules.append(total("all", all_rows, told))
         print_table(told, modules, "Module")
 
 
