@@ -74,6 +74,10 @@ pub enum Mode {
     Asm,
     /// It is compiled, and runs by its meaning.
     Interp,
+    /// It is compiled, and what its registers cost is certified.
+    Cert,
+    /// It is a certificate, and is tested.
+    Check,
 }
 
 impl Mode {
@@ -81,7 +85,7 @@ impl Mode {
     fn writes_image(self) -> bool
         ensures { result ≡ writes_image self }
     {
-        self != Mode::List && self != Mode::Interp
+        matches!(self, Mode::Run | Mode::Compile | Mode::Gen | Mode::Asm)
     }
 }
 
@@ -166,13 +170,13 @@ pub struct Request<'a> {
 ///
 /// | Word | Values | Where it is left out |
 /// |---|---|---|
-/// | MODE | `run`, `compile`, `gen`, `list`, `asm`, `interp` | |
+/// | MODE | `run`, `compile`, `gen`, `list`, `asm`, `interp`, `cert`, `check` | |
 /// | FILE | not empty | |
 /// | `--rounds` | 0 to 1000 | 10 |
 /// | `--cost` | `size`, `speed` | `size` |
 /// | `--steps` | 0 to 200000000 | 10000000 |
 /// | `--gap` | 0 to 4294967295 | 0 |
-/// | `--image` | not empty; not FILE, but for `list` and `interp`, which write none | `out.pri` |
+/// | `--image` | not empty; where an image is written not FILE | `out.pri` |
 /// | `--seed` | 0 to 2147483647 | 1 |
 /// | `--size` | 1 to 200 | 10 |
 ///
@@ -246,6 +250,10 @@ fn mode_of(word: &str) -> Option<Mode>
         Some(Mode::Asm)
     } else if word == "interp" {
         Some(Mode::Interp)
+    } else if word == "cert" {
+        Some(Mode::Cert)
+    } else if word == "check" {
+        Some(Mode::Check)
     } else {
         None
     }
