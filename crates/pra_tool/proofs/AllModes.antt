@@ -3,13 +3,14 @@ use Rattle.std.proofs.Common.{inl}
 use Rattle.pra_words.specs.declared.words.Mode.{Mode as Word}
 use Rattle.pra_words.specs.declared.words.Mode.TheVariants as word
 use Rattle.pra_words.specs.Words.{Asked}
-use Rattle.pra_tool.specs.declared.tool.Then.TheVariants.{Run, Write, Interpret}
+use Rattle.pra_tool.specs.declared.tool.Then.TheVariants.{Run, Write, Interpret, Certify}
 use Rattle.pra_tool.specs.Outside.{Seen, Untouched}
 use Rattle.pra_tool.specs.Modes.{IsMode}
 use Rattle.pra_tool.specs.Clause.{mode_by}
 use Rattle.pra_tool.proofs.CompilingModes.{compiling_is_a_mode}
 use Rattle.pra_tool.proofs.Generating.{generating_is_a_mode}
 use Rattle.pra_tool.proofs.ListingModes.{listing_is_a_mode, assembling_is_a_mode}
+use Rattle.pra_tool.proofs.CertModes.{checking_is_a_mode}
 
 pub all_are_modes : (mode : Word) (asked : Asked) → IsMode (mode_by mode asked)
 all_are_modes word.Run asked = compiling_is_a_mode Run asked
@@ -18,6 +19,8 @@ all_are_modes word.Gen asked = generating_is_a_mode asked
 all_are_modes word.Interp asked = compiling_is_a_mode Interpret asked
 all_are_modes word.List asked = listing_is_a_mode
 all_are_modes word.Asm asked = assembling_is_a_mode asked
+all_are_modes word.Cert asked = compiling_is_a_mode Certify asked
+all_are_modes word.Check asked = checking_is_a_mode
 
 -- where memory was wanting, each leaves everything as it was
 pub leaves_all : (mode : Word) (asked : Asked) (old new : Seen) → Untouched old new →
@@ -28,3 +31,5 @@ leaves_all word.Gen asked old new left = inl left
 leaves_all word.Interp asked old new left = left
 leaves_all word.List asked old new left = left
 leaves_all word.Asm asked old new left = left
+leaves_all word.Cert asked old new left = left
+leaves_all word.Check asked old new left = left

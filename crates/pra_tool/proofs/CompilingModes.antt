@@ -18,12 +18,12 @@ use Rattle.pra_tool.specs.declared.compiler.Made.{Made}
 use Rattle.pra_tool.specs.Compiling.{MadeOf}
 use Rattle.ob_read.specs.declared.fault.ReadFault.TheVariants as read
 use Rattle.pra_tool.specs.declared.tool.Then.{Then}
-use Rattle.pra_tool.specs.declared.tool.Then.TheVariants.{Run, Write, Interpret}
+use Rattle.pra_tool.specs.declared.tool.Then.TheVariants.{Run, Write, Interpret, Certify}
 use Rattle.pra_words.specs.Words.{Asked}
 use Rattle.pra_tool.specs.declared.input.WrongInput.{WrongInput}
 use Rattle.pra_tool.specs.declared.input.WrongInput.TheVariants.{TooLong, NoWord}
 use Rattle.pra_tool.specs.declared.status.Status.{Status}
-use Rattle.pra_tool.specs.declared.status.Status.TheVariants.{Ended, Trapped, Going, NoMemory}
+use Rattle.pra_tool.specs.declared.status.Status.TheVariants.{Ended, Trapped, Going, OverLimit, NoMemory}
 use Rattle.pra_tool.specs.Ends.{NeverFaults}
 use Rattle.pra_tool.specs.Inputs.{HasNumbers, IsWrongInput, input_status}
 use Rattle.ob_interp.specs.declared.interpret.UnitEnding.{UnitEnding}
@@ -33,7 +33,7 @@ use Rattle.pra_tool.specs.Outside.{Seen, Untouched}
 use Rattle.pra_tool.specs.Writes.{FileText, Writes, IsOther, AreDifferent, names, LeftOff}
 use Rattle.pra_tool.proofs.Files.{one_file}
 use Rattle.pra_tool.specs.Modes.{IsKind, IsMode}
-use Rattle.pra_tool.specs.Clause.{makes, files_of, sources, inputs, compiling, fault_status, image_file}
+use Rattle.pra_tool.specs.Clause.{makes, refuses, files_of, sources, inputs, compiling, fault_status, image_file}
 
 -- the run of an image that was made of a source is no fault
 ending_along : (e : Ending) → (run_end e ≢ Some end.Wrong) → IsEnding e
@@ -142,6 +142,23 @@ modes_right Write asked source input w s made =
     ((made.made_of.text, made.made_of.read), not_read input made.no_input)
 modes_right Interpret asked source input w s made =
     ((made.made_of.text, made.made_of.read), (made.numbers, made.has))
+modes_right Certify asked source input w s made =
+    ((made.certified.made_of.text, made.certified.made_of.read), not_read input made.no_input)
+
+modes_right_then : (next : Then) (asked : Asked) (source input line : List ℕ) (s : Status) →
+    refuses next asked source input line s → sources.IsRight source × inputs.IsRight input
+modes_right_then Run asked source input line s r = absurd r
+modes_right_then Write asked source input line s r = absurd r
+modes_right_then Interpret asked source input line s r = absurd r
+modes_right_then Certify asked source input line s r =
+    ((r.certified.made_of.text, r.certified.made_of.read), not_read input r.no_input)
+
+modes_refuse : (next : Then) (asked : Asked) (source input line : List ℕ) (s : Status) →
+    refuses next asked source input line s → IsRefusal s
+modes_refuse Run asked source input line s r = absurd r
+modes_refuse Write asked source input line s r = absurd r
+modes_refuse Interpret asked source input line s r = absurd r
+modes_refuse Certify asked source input line s r = subst IsRefusal (sym r.status_is) tt
 
 modes_done : (next : Then) (asked : Asked) (source input : List ℕ) (w : Writes) (s : Status) →
     makes next asked source input w s → IsDone s
@@ -149,6 +166,7 @@ modes_done Run asked source input w s made = done_of _ s made.ended
 modes_done Write asked source input w s made = subst IsDone (sym made.done) tt
 modes_done Interpret asked source input w s made =
     subst IsDone (sym made.ended) (units_done _)
+modes_done Certify asked source input w s made = subst IsDone (sym made.done) tt
 
 pub modes_write : (next : Then) (asked : Asked) (source input : List ℕ) (w : Writes) (s : Status) →
     makes next asked source input w s → names w.files ≡ files_of next asked
@@ -156,6 +174,7 @@ modes_write Run asked source input w s made = ap (λ (x : Writes). names x.files
 modes_write Write asked source input w s made = ap (λ (x : Writes). names x.files) made.writes
 modes_write Interpret asked source input w s made =
     ap (λ (x : Writes). names x.files) made.writes
+modes_write Certify asked source input w s made = ap (λ (x : Writes). names x.files) made.writes
 
 -- where memory was wanting, nothing was written
 pub modes_leave : (next : Then) (asked : Asked) (source input : List ℕ) (w : Writes) (s : Status)
@@ -166,6 +185,8 @@ modes_leave Write asked source input w s old new made =
     nothing_left w asked.image old new (modes_write Write asked source input w s made)
 modes_leave Interpret asked source input w s old new made =
     none_left w old new (modes_write Interpret asked source input w s made)
+modes_leave Certify asked source input w s old new made =
+    none_left w old new (modes_write Certify asked source input w s made)
 
 pub compiling_is_a_mode : (next : Then) (asked : Asked) → IsMode (compiling next asked)
 compiling_is_a_mode next asked = record {
@@ -173,6 +194,8 @@ compiling_is_a_mode next asked = record {
   input = inputs_are_a_kind;
   right = modes_right next asked;
   done = modes_done next asked;
+  right_then = modes_right_then next asked;
+  refuses = modes_refuse next asked;
   writes = modes_write next asked;
 }
 

@@ -22,6 +22,8 @@ generating_is_a_mode asked = record {
   right = λ source input w s made.
       ((made.made_of.text, made.made_of.read), not_read input made.no_input);
   done = λ source input w s made. done_of _ s made.ended;
+  right_then = λ source input line s r. absurd r;
+  refuses = λ source input line s r. absurd r;
   writes = gen_names asked;
 }
 

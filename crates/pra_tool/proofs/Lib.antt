@@ -11,6 +11,8 @@ mod InterpAgrees
 mod ListingModes
 mod ListingEnds
 mod RoundTrip
+mod CertModes
+mod CertEnds
 mod AllModes
 mod WordsEnds
 mod CompiledEnds

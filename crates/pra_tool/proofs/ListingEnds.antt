@@ -12,18 +12,18 @@ use Rattle.std.specs.declared.option.Option.{Option}
 use Rattle.pra_tool.specs.declared.status.Status.{Status}
 use Rattle.pra_tool.specs.declared.status.Status.TheVariants.{Ended}
 use Rattle.pra_tool.specs.Outside.{Seen}
-use Rattle.pra_tool.specs.Writes.{FileText, Writes, AreDifferent, IsOther, names, Wrote}
+use Rattle.pra_tool.specs.Writes.{FileText, Writes, AreDifferent, IsOther, names, text_alone, Wrote}
 use Rattle.pra_tool.specs.Modes.{Answers}
 use Rattle.pra_tool.specs.Ends.{Ends}
 use Rattle.pra_tool.specs.Ends as ends
-use Rattle.pra_tool.specs.Listings.{IsListed, ListMakes, list_writes, IsTextOf, IsUnlisted, IsUnassembled, most_image}
+use Rattle.pra_tool.specs.Listings.{IsListed, ListMakes, IsTextOf, IsUnlisted, IsUnassembled, most_image}
 use Rattle.pra_tool.specs.Clause.{AsmMakes, asm_writes, listing, assembling, mode_by}
 use Rattle.pra_tool.proofs.CompilingModes.{longer}
 
 -- what `list` made was written, as far as writing went
 pub list_ends : (file text : List ℕ) (w : Writes) (s : Status) (old new : Seen) (result : Status) →
     new.input ≡ old.input → IsListed file text → length text ≤ max_text_bytes →
-    w ≡ list_writes text → s ≡ Ended → Wrote w s old new result → Ends listing file old new result
+    w ≡ text_alone text → s ≡ Ended → Wrote w s old new result → Ends listing file old new result
 list_ends file text w s old new result alone listed few is done wrote =
     ends.wrote [] refl alone w s
     (record {

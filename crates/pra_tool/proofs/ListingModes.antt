@@ -138,6 +138,8 @@ listing_is_a_mode = record {
   right = λ file input w s made.
       ((made.text, made.listed, made.few), not_read input made.no_input);
   done = λ file input w s made. subst IsDone (sym made.done) tt;
+  right_then = λ source input line s r. absurd r;
+  refuses = λ source input line s r. absurd r;
   writes = λ file input w s made. ap (λ (x : Writes). names x.files) made.writes;
 }
 
@@ -217,5 +219,7 @@ assembling_is_a_mode asked = record {
   input = inputs_are_a_kind;
   right = λ text input w s made. ((made.image, made.listed), not_read input made.no_input);
   done = λ text input w s made. subst IsDone (sym made.done) tt;
+  right_then = λ source input line s r. absurd r;
+  refuses = λ source input line s r. absurd r;
   writes = λ text input w s made. ap (λ (x : Writes). names x.files) made.writes;
 }

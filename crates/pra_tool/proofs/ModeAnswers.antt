@@ -9,7 +9,7 @@ use Rattle.pra_tool.specs.declared.status.Status.TheVariants.{Ended, Trapped, Go
 use Rattle.pra_tool.specs.Status.{IsDone, IsRefusal}
 use Rattle.pra_tool.specs.Outside.{StreamSeen, Seen, SameFiles, Refused, Untouched}
 use Rattle.pra_tool.specs.Writes.{FileText, Writes, names, OthersStay, Hold, Stored, FileFailed, AllWritten, Stopped, LeftOff, Wrote, NoWriteFault}
-use Rattle.pra_tool.specs.Modes.{Mode, IsMode, IsInput, TellsInput, IsLeft, NoInputFault, source_told, IsMade, SourceRight, FileNotRead, Answers}
+use Rattle.pra_tool.specs.Modes.{Mode, IsMode, IsInput, TellsInput, IsLeft, NoInputFault, source_told, IsMade, SourceRight, MadeRefused, FileNotRead, Answers}
 use Rattle.pra_tool.specs.Ends.{Ends}
 use Rattle.pra_tool.proofs.Files.{rose_after}
 use Rattle.pra_tool.specs.Ends as ends
@@ -83,7 +83,7 @@ module _ (m : Mode) (mode : IsMode m) (file : List ℕ) (old new : Seen) where
     memory = λ e. leaves;
     refused_exactly = λ source f told wrong. inl (inr refl);
     input_exactly = λ source input f told right tells wrong. inl (inr refl);
-    complete = λ source input told right tells good unread well written. inr refl;
+    complete = λ source input told right tells good unread well written. inr (inl refl);
   })
 
   module _ (source : List ℕ) (f : m.source.Wrong) (read : Holds (source_told m.own file old) source)
@@ -188,18 +188,56 @@ module _ (m : Mode) (mode : IsMode m) (file : List ℕ) (old new : Seen) where
       input_refused = record {
         known = λ e. refusal_along (m.input.status f) BadWords input_refusal e;
         performed = λ d. absurd (refusal_is_not_done (m.input.status f) input_refusal d);
-        refused = λ r. inr (record {
+        refused = λ r. inr (inl (record {
           source = of_source;
           input = input;
           taken = taken;
           refused = record { fault = f; wrong = wrong; status_is = refl; left = left };
-        });
+        }));
         fault = λ e. absurd (refusal_along (m.input.status f) Fault input_refusal e);
         memory = λ e. absurd (refusal_along (m.input.status f) NoMemory input_refusal e);
         refused_exactly = λ other g told h. absurd (not_wrong other g told h);
         input_exactly = λ other text g told r tells h. inl (inl (input_exact text g tells h));
         complete = λ other text told r tells good unread well written.
             absurd (not_good text tells good);
+      }
+
+    module _ (input : List ℕ) (taken : IsInput m.reads_input old.input input)
+        (end : IsLeft m.reads_input old.input new.input) (line : List ℕ) (s : Status)
+        (is : m.Refuses source input line s) (told : Refused line old new) where
+      over : MadeRefused m file old new s
+      over = record {
+        source = source;
+        read = read;
+        input = input;
+        taken = taken;
+        left = end;
+        line = line;
+        refused = is;
+        told = told;
+      }
+
+      refusal_then : IsRefusal s
+      refusal_then = mode.refuses source input line s is
+
+      never_bad : (other : List ℕ) (f : m.input.Wrong) →
+          TellsInput m.reads_input old.input other → m.input.IsWrong other f → ⊥
+      never_bad other f tells h =
+          let same : other ≡ input = input_same m.reads_input old.input other input tells taken in
+          mode.input.never_both input f (mode.right_then source input line s is).1
+          (subst (λ b. m.input.IsWrong b f) same h)
+
+      -- what was made of a source and an input is refused
+      made_refused : Answers m file old new s
+      made_refused = record {
+        known = λ e. refusal_along s BadWords refusal_then e;
+        performed = λ d. absurd (refusal_is_not_done s refusal_then d);
+        refused = λ r. inr (inr over);
+        fault = λ e. absurd (refusal_along s Fault refusal_then e);
+        memory = λ e. absurd (refusal_along s NoMemory refusal_then e);
+        refused_exactly = λ other f told h. absurd (not_wrong other f told h);
+        input_exactly = λ other text f told r tells h. absurd (never_bad text f tells h);
+        complete = λ other text told r tells good unread well written. inr (inr over);
       }
 
 -- ---- what was written after FILE was read
@@ -380,6 +418,9 @@ module _ (m : Mode) (mode : IsMode m) (file : List ℕ) (old mid new : Seen) (on
       (refused_since old mid new only (codes "fault read input\n") told)
   right_source s left wanting (ends.wanting is untouched) =
       no_memory m mode file old new s is (wanting (untouched_since old mid new only untouched))
+  right_source s left wanting (ends.over input taken end line is told) =
+      made_refused m mode file old new source read right input (rw (sym only.input) taken)
+      (rw (sym only.input) end) line s is (refused_since old mid new only line told)
   right_source s left wanting (ends.wrote input taken end w done makes wrote) =
       by_result input (rw (sym only.input) taken) (rw (sym only.input) end) w done makes s
       (left input w done makes) wrote wrote.known

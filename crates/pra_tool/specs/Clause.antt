@@ -32,8 +32,9 @@ use Rattle.pra_tool.specs.Writes.{FileText, Writes, Stored}
 use Rattle.pra_tool.specs.Modes.{Kind, Mode, Answers}
 use Rattle.pra_tool.specs.Interpreted.{InterpMakes}
 use Rattle.pra_tool.specs.Listings.{IsTextOf, images, listings, ListMakes}
+use Rattle.pra_tool.specs.Certified.{CertMakes, CertOver, certificates, CheckMakes}
 use Rattle.pra_tool.specs.declared.tool.Then.{Then}
-use Rattle.pra_tool.specs.declared.tool.Then.TheVariants.{Run, Write, Interpret}
+use Rattle.pra_tool.specs.declared.tool.Then.TheVariants.{Run, Write, Interpret, Certify}
 
 -- ---- what is written
 
@@ -165,18 +166,28 @@ abbrev pub makes : Then → Asked → List ℕ → List ℕ → Writes → Statu
 makes Run = RunMakes
 makes Write = CompileMakes
 makes Interpret = InterpMakes
+makes Certify = CertMakes
+
+-- a certificate that is too long is refused
+abbrev pub refuses : Then → Asked → (source input line : List ℕ) → Status → Type 0
+refuses Run asked source input line s = ⊥
+refuses Write asked source input line s = ⊥
+refuses Interpret asked source input line s = ⊥
+refuses Certify asked source input line s = CertOver asked source input line s
 
 -- whether the input is read before that
 abbrev pub takes_input : Then → Bool
 takes_input Run = true
 takes_input Write = false
 takes_input Interpret = true
+takes_input Certify = false
 
 -- the files that are written
 abbrev pub files_of : Then → Asked → List (List ℕ)
 files_of Run asked = asked.image ∷ []
 files_of Write asked = asked.image ∷ []
 files_of Interpret asked = []
+files_of Certify asked = []
 
 -- FILE is a source, which is compiled, and then this is done
 abbrev pub compiling : Then → Asked → Mode
@@ -186,6 +197,7 @@ compiling next asked = record {
   input = inputs;
   reads_input = takes_input next;
   Makes = makes next asked;
+  Refuses = refuses next asked;
   files = files_of next asked;
   Leaves = Untouched;
 }
@@ -205,6 +217,7 @@ generating asked = record {
   input = inputs;
   reads_input = false;
   Makes = GenMakes asked;
+  Refuses = λ source input line s. ⊥;
   files = asked.file ∷ asked.image ∷ [];
   Leaves = λ old new. Untouched old new ⊎
       TextLeft asked.file (module_text asked.seed asked.size) old new;
@@ -218,6 +231,7 @@ listing = record {
   input = inputs;
   reads_input = false;
   Makes = ListMakes;
+  Refuses = λ source input line s. ⊥;
   files = [];
   Leaves = Untouched;
 }
@@ -230,7 +244,21 @@ assembling asked = record {
   input = inputs;
   reads_input = false;
   Makes = AsmMakes asked;
+  Refuses = λ source input line s. ⊥;
   files = asked.image ∷ [];
+  Leaves = Untouched;
+}
+
+-- FILE is a certificate, which is tested
+abbrev pub checking : Mode
+checking = record {
+  source = certificates;
+  own = None;
+  input = inputs;
+  reads_input = false;
+  Makes = CheckMakes;
+  Refuses = λ source input line s. ⊥;
+  files = [];
   Leaves = Untouched;
 }
 
@@ -242,6 +270,8 @@ mode_by word.Gen asked = generating asked
 mode_by word.List asked = listing
 mode_by word.Asm asked = assembling asked
 mode_by word.Interp asked = compiling Interpret asked
+mode_by word.Cert asked = compiling Certify asked
+mode_by word.Check asked = checking
 
 abbrev pub reads_input : Word → Bool
 reads_input word.Run = true

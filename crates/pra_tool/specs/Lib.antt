@@ -9,5 +9,6 @@ pub mod Ends
 pub mod Texts
 pub mod Interpreted
 pub mod Listings
+pub mod Certified
 pub mod Clause
 pub mod Reports

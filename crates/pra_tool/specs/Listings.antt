@@ -15,7 +15,7 @@ use Rattle.pra_tool.specs.declared.listing.Unassembled.TheVariants as unassemble
 use Rattle.pra_tool.specs.declared.status.Status.{Status}
 use Rattle.pra_tool.specs.declared.status.Status.TheVariants.{Ended, BadSource, OverLimit, NoMemory}
 use Rattle.pra_tool.specs.Texts.{unlisted_line, unassembled_line}
-use Rattle.pra_tool.specs.Writes.{Writes}
+use Rattle.pra_tool.specs.Writes.{Writes, text_alone}
 use Rattle.pra_tool.specs.Modes.{Kind}
 
 -- ---- images that are listed
@@ -74,17 +74,13 @@ images = record {
   IsRight = λ file. (text : List ℕ) × IsListed file text × (length text ≤ max_text_bytes);
 }
 
--- what `list` writes: the text
-abbrev pub list_writes : List ℕ → Writes
-list_writes text = record { files = []; out = text; notes = [] }
-
 -- What `list` makes of an image's file; the input, which it does not read, counts as empty.
 pub record ListMakes (file input : List ℕ) (w : Writes) (s : Status) : Type 0 where
   pub text : List ℕ
   pub listed : IsListed file text
   pub few : length text ≤ max_text_bytes
   pub no_input : input ≡ []
-  pub writes : w ≡ list_writes text
+  pub writes : w ≡ text_alone text
   pub done : s ≡ Ended
 
 -- ---- texts that are assembled

@@ -30,6 +30,8 @@ pub record Mode : Type 1 where
   pub reads_input : Bool
   -- what is made of a source and an input: all that is written, and the status of that
   pub Makes : List ℕ → List ℕ → Writes → Status → Type 0
+  -- what is made of them is refused: the line that tells it, and the status of that
+  pub Refuses : List ℕ → List ℕ → List ℕ → Status → Type 0
   -- the files that are written
   pub files : List (List ℕ)
   -- what stands outside where memory was wanting
@@ -51,6 +53,10 @@ pub record IsMode (m : Mode) : Type 0 where
       m.source.IsRight source × m.input.IsRight input
   pub done : (source input : List ℕ) (w : Writes) (s : Status) → m.Makes source input w s →
       IsDone s
+  pub right_then : (source input line : List ℕ) (s : Status) → m.Refuses source input line s →
+      m.source.IsRight source × m.input.IsRight input
+  pub refuses : (source input line : List ℕ) (s : Status) → m.Refuses source input line s →
+      IsRefusal s
   pub writes : (source input : List ℕ) (w : Writes) (s : Status) → m.Makes source input w s →
       names w.files ≡ m.files
 
@@ -146,6 +152,19 @@ pub record InputRefused (m : Mode) (file : List ℕ) (old new : Seen) (status : 
   pub taken : IsInput m.reads_input old.input input
   pub refused : TextRefused m.input input old new status
 
+-- Nothing is wrong with the source and the input, which were read whole, and what is made of them is
+-- refused.
+pub record MadeRefused (m : Mode) (file : List ℕ) (old new : Seen) (status : Status)
+    : Type 0 where
+  pub source : List ℕ
+  pub read : Holds (source_told m.own file old) source
+  pub input : List ℕ
+  pub taken : IsInput m.reads_input old.input input
+  pub left : IsLeft m.reads_input old.input new.input
+  pub line : List ℕ
+  pub refused : m.Refuses source input line status
+  pub told : Refused line old new
+
 -- ---- what was not read
 
 -- FILE was not read, for a fault of the folder at reading it; the input was left alone.
@@ -174,7 +193,8 @@ pub record Answers (m : Mode) (file : List ℕ) (old new : Seen) (status : Statu
   pub known : status ≢ BadWords
   pub performed : IsDone status → Performed m file old new status
   pub refused : IsRefusal status →
-      SourceRefused m file old new status ⊎ InputRefused m file old new status
+      SourceRefused m file old new status ⊎ InputRefused m file old new status ⊎
+      MadeRefused m file old new status
   pub fault : status ≡ Fault →
       FileNotRead m file old new ⊎ InputNotRead m file old new ⊎ NotWritten m file old new
   pub memory : status ≡ NoMemory → m.Leaves old new
@@ -188,10 +208,10 @@ pub record Answers (m : Mode) (file : List ℕ) (old new : Seen) (status : Statu
       TellsInput m.reads_input old.input input → m.input.IsWrong input f →
       IsRefusedFor m.input f old new status ⊎ SourceFault m.own file old new ⊎
       Rose old.input.faults new.input.faults
-  -- and where nothing is, and no count rises, all is done
+  -- and where nothing is, and no count rises, all is done, or what was made is refused
   pub complete : (source input : List ℕ) → source_told m.own file old ≡ Some (Some source) →
       m.source.IsRight source → TellsInput m.reads_input old.input input →
       m.input.IsRight input →
       (SourceFault m.own file old new → ⊥) →
       NoInputFault m.reads_input old.input new.input → NoWriteFault m.files old new →
-      IsDone status ⊎ (status ≡ NoMemory)
+      IsDone status ⊎ (status ≡ NoMemory) ⊎ MadeRefused m file old new status

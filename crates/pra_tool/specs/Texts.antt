@@ -1,8 +1,12 @@
 -- The texts that the program writes.
-use Rattle.std.specs.Prelude.{ℕ, List, [], ◌++◌, codes}
+use Rattle.std.specs.Prelude.{ℕ, ◌+◌, List, [], ◌∷◌, ◌++◌, codes}
 use Rattle.std.specs.Fmt.{decimal}
 use Rattle.pra_base.specs.declared.event.TrapKind.{TrapKind}
 use Rattle.pra_base.specs.declared.event.TrapKind.TheVariants as trap
+use Rattle.cert_check.specs.declared.check.Reason.{Reason}
+use Rattle.cert_check.specs.declared.check.Reason.TheVariants as reason
+use Rattle.cert_form.specs.declared.certificate.Cert.{Cert}
+use Rattle.cert_form.specs.declared.certificate.Certificate.{Certificate}
 use Rattle.ia_step.specs.declared.out.Ending.{Ending}
 use Rattle.ia_step.specs.declared.out.Ending.TheVariants.{Going, Ended, Trap, Fault}
 use Rattle.ia_step.specs.declared.out.RunOut.{RunOut}
@@ -26,6 +30,8 @@ use Rattle.pra_tool.specs.declared.listing.Unlisted.{Unlisted}
 use Rattle.pra_tool.specs.declared.listing.Unlisted.TheVariants as unlisted
 use Rattle.pra_tool.specs.declared.listing.Unassembled.{Unassembled}
 use Rattle.pra_tool.specs.declared.listing.Unassembled.TheVariants as unassembled
+use Rattle.pra_tool.specs.declared.certified.Uncertified.{Uncertified}
+use Rattle.pra_tool.specs.declared.certified.Uncertified.TheVariants as uncertified
 
 abbrev pub trap_name : TrapKind → List ℕ
 trap_name trap.Index = codes "Index"
@@ -120,3 +126,34 @@ unassembled_line unassembled.TooLong = over_line (codes "listing") 67108865 6710
 unassembled_line (unassembled.Line number) = codes "fault line " ++ decimal number ++ codes "\n"
 unassembled_line unassembled.Empty = codes "fault empty\n"
 unassembled_line unassembled.OutOfMemory = []
+
+-- ---- certificates
+
+-- what is told of a procedure of a certificate that holds: its number, total and bound
+abbrev pub held_line : ℕ → Cert → List ℕ
+held_line number cert =
+    codes "procedure " ++ decimal number ++ codes " cost " ++ decimal cert.total
+    ++ codes " bound " ++ decimal cert.bound ++ codes "\n"
+
+-- procedures in their order, the first of which has this number
+abbrev pub held_lines : ℕ → List Cert → List ℕ
+held_lines number [] = []
+held_lines number (cert ∷ certs) = held_line number cert ++ held_lines (number + 1) certs
+
+abbrev pub held_text : Certificate → List ℕ
+held_text c = held_lines 0 c.procs ++ codes "certificate holds\n"
+
+abbrev pub reason_name : Reason → List ℕ
+reason_name reason.Code = codes "code"
+reason_name reason.Routes = codes "routes"
+reason_name reason.Prices = codes "prices"
+reason_name reason.Total = codes "total"
+reason_name reason.Bound = codes "bound"
+
+abbrev pub uncertified_line : Uncertified → List ℕ
+uncertified_line uncertified.TooLong = over_line (codes "certificate") 16777217 16777216
+uncertified_line uncertified.NotJson = codes "fault json\n"
+uncertified_line uncertified.NotCertificate = codes "fault certificate form\n"
+uncertified_line (uncertified.Fails p r) =
+    codes "fault certificate procedure " ++ decimal p ++ codes " " ++ reason_name r ++ codes "\n"
+uncertified_line uncertified.OutOfMemory = []

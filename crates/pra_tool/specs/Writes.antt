@@ -21,6 +21,10 @@ pub record Writes : Type 0 where
   pub out : List ℕ
   pub notes : List ℕ
 
+-- a text to out, and nothing else
+abbrev pub text_alone : List ℕ → Writes
+text_alone text = record { files = []; out = text; notes = [] }
+
 abbrev pub names : List FileText → List (List ℕ)
 names = map (λ f. f.name)
 

@@ -8,11 +8,11 @@ ghost use Rattle.pra_tool.specs.Status.{IsDone, IsStatusOf, status_of_units};
 ghost use Rattle.pra_tool.specs.Outside.{StreamSeen, Seen, folder_seen, stream_seen, seen};
 ghost use Rattle.pra_tool.specs.Outside.{NoneFell, Told};
 ghost use Rattle.pra_tool.specs.Writes.{AreDifferent, FilesWritten, Wrote, stop_status};
+ghost use Rattle.pra_tool.specs.Writes.{text_alone};
 ghost use Rattle.pra_tool.specs.Reports.{file_text, writes_of};
 ghost use Rattle.pra_tool.specs.Clause.{image_file, run_of, run_writes, compile_writes};
 ghost use Rattle.pra_tool.specs.Clause.{asm_writes, gen_writes, summary};
 ghost use Rattle.pra_tool.specs.Interpreted.{frames_of, units_of, interp_writes};
-ghost use Rattle.pra_tool.specs.Listings.{list_writes};
 ghost use Rattle.pra_tool.specs.Ends.{NeverFaults};
 ghost use Rattle.vc_stmt.specs.Completes.{are_words};
 
@@ -224,9 +224,9 @@ fn code_length(image: &Image) -> u32
     image.code.as_slice().len() as u32
 }
 
-/// Takes the text of an image.
-pub(crate) fn list_report<'a>(alloc: Global, text: Vec<u8>) -> Report<'a>
-    ensures writes { writes_of result ≡ list_writes text.items }
+/// Takes a text that is for out, where there is nothing else to write.
+pub(crate) fn text_report<'a>(alloc: Global, text: Vec<u8>) -> Report<'a>
+    ensures writes { writes_of result ≡ text_alone text.items }
     ensures done { result.status ≡ Status.Ended }
 {
     Report {

@@ -16,7 +16,8 @@ pub enum Status {
     Trapped,
     /// The image is still going after the steps.
     Going,
-    /// FILE is not what its mode reads: no module that is compiled, no image or no text of one.
+    /// FILE is not what its mode reads: no module that is compiled, no image, no text of one, or no
+    /// certificate that holds.
     BadSource,
     /// FILE, the input or what is made of FILE goes beyond a limit.
     OverLimit,

@@ -6,9 +6,14 @@ ghost use Rattle.pra_tool.specs.Texts.{ending_words, ending_line, unit_ending_wo
 ghost use Rattle.pra_tool.specs.Texts.{lexical_line};
 ghost use Rattle.pra_tool.specs.Texts.{place_text, over_line, count_line, fault_line, input_line};
 ghost use Rattle.pra_tool.specs.Texts.{field_name, unlisted_line, unassembled_line};
+ghost use Rattle.pra_tool.specs.Texts.{held_line, held_lines, held_text, reason_name};
+ghost use Rattle.pra_tool.specs.Texts.{uncertified_line};
 
+use crate::certified::Uncertified;
 use crate::input::WrongInput;
 use crate::listing::{MAX_IMAGE, Unassembled, Unlisted};
+use cert_check::Reason;
+use cert_form::{Cert, Certificate, MAX_CERT_BYTES};
 use ia_asm::Field;
 use ia_list::MAX_TEXT_BYTES;
 use ia_step::{Ending, RunOut};
@@ -131,7 +136,12 @@ fn count_line(alloc: Global, kind: LimitKind, count: u64) -> Result<String, Allo
     over_line(alloc, kind.name(), count, kind.maximum() as u64)
 }
 
-fn over_line(alloc: Global, name: &str, count: u64, maximum: u64) -> Result<String, AllocError>
+pub(crate) fn over_line(
+    alloc: Global,
+    name: &str,
+    count: u64,
+    maximum: u64,
+) -> Result<String, AllocError>
     ensures { IfOk result (λ line. string_bytes line ≡ over_line name.now count maximum) }
 {
     let line = format!(in alloc; "limit {name} count {count} maximum {maximum}\n")?;
@@ -211,5 +221,85 @@ pub fn unassembled_line(alloc: Global, fault: Unassembled) -> Result<String, All
         Unassembled::Line(number) => format!(in alloc; "fault line {number}\n"),
         Unassembled::Empty => String::from_str(alloc, "fault empty\n"),
         Unassembled::OutOfMemory => Ok(String::new(alloc)),
+    }
+}
+
+/// What is told of a certificate that holds: for each procedure its cost and its bound.
+///
+/// # Errors
+///
+/// Where there is no memory for the text.
+pub fn held_text(alloc: Global, certificate: &Certificate) -> Result<Vec<u8>, OutOfMemory>
+    ensures { IfOk result (λ text. text.items ≡ held_text certificate.now) }
+{
+    let mut text = held_lines(alloc, certificate.procs.as_slice())?;
+    text.extend_from_slice(b"certificate holds\n")?;
+    Ok(text)
+}
+
+fn held_lines(alloc: Global, certs: &[Cert]) -> Result<Vec<u8>, OutOfMemory>
+    ensures { IfOk result (λ text. text.items ≡ held_lines 0 certs.now) }
+{
+    let mut text = Vec::new(alloc);
+    for (number, cert) in certs.iter().enumerate() {
+        let line = held_line(alloc, number, cert)?;
+        text.extend_from_slice(&line)?;
+    }
+    Ok(text)
+}
+
+fn held_line(alloc: Global, number: usize, cert: &Cert) -> Result<Vec<u8>, OutOfMemory>
+    ensures { IfOk result (λ line. line.items ≡ held_line number cert.now) }
+{
+    let mut line = format!(in alloc; "procedure {number} cost {}", cert.total)?;
+    write!(line, " bound {}\n", cert.bound)?;
+    Ok(line.into_bytes())
+}
+
+/// The line that tells why a file is no certificate that holds.
+///
+/// # Errors
+///
+/// Where there is no memory for the line.
+pub fn uncertified_line(alloc: Global, fault: Uncertified) -> Result<String, AllocError>
+    ensures { IfOk result (λ line. string_bytes line ≡ uncertified_line fault) }
+{
+    match fault {
+        Uncertified::TooLong => {
+            let most = MAX_CERT_BYTES as u64;
+            over_line(alloc, "certificate", most + 1, most)
+        }
+        Uncertified::NotJson => String::from_str(alloc, "fault json\n"),
+        Uncertified::NotCertificate => String::from_str(alloc, "fault certificate form\n"),
+        Uncertified::Fails(procedure, reason) => reason_line(alloc, procedure, reason),
+        Uncertified::OutOfMemory => Ok(String::new(alloc)),
+    }
+}
+
+fn reason_line(alloc: Global, procedure: u32, reason: Reason) -> Result<String, AllocError>
+    ensures { IfOk result (λ line. string_bytes line ≡ codes "fault certificate procedure "
+        ++ decimal procedure ++ codes " " ++ reason_name reason ++ codes "\n") }
+{
+    failing_line(alloc, procedure, reason_name(reason))
+}
+
+fn failing_line(alloc: Global, procedure: u32, name: &str) -> Result<String, AllocError>
+    ensures { IfOk result (λ line. string_bytes line ≡ codes "fault certificate procedure "
+        ++ decimal procedure ++ codes " " ++ name.now ++ codes "\n") }
+{
+    let mut line = format!(in alloc; "fault certificate procedure {procedure}")?;
+    write!(line, " {name}\n")?;
+    Ok(line)
+}
+
+fn reason_name(reason: Reason) -> &'static str
+    ensures { result.now ≡ reason_name reason }
+{
+    match reason {
+        Reason::Code => "code",
+        Reason::Routes => "routes",
+        Reason::Prices => "prices",
+        Reason::Total => "total",
+        Reason::Bound => "bound",
     }
 }

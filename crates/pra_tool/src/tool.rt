@@ -1,8 +1,8 @@
 // The call that does all that the program does.
 
-ghost use Rattle.std.specs.Prelude.{◌≡◌, ◌≢◌, ◌⊎◌, false, ℕ, List, IsErr};
+ghost use Rattle.std.specs.Prelude.{◌≡◌, ◌≢◌, ◌⊎◌, false, ℕ, List, IsErr, codes, length};
 ghost use Rattle.ia_code.specs.Image.{IsImage};
-ghost use Rattle.pra_tool.specs.declared.tool.Then.TheVariants.{Run, Write, Interpret};
+ghost use Rattle.pra_tool.specs.declared.tool.Then.TheVariants.{Run, Write, Interpret, Certify};
 ghost use Rattle.pra_words.specs.Texts.{words_lines};
 ghost use Rattle.pra_words.specs.Words.{asked_of, texts};
 ghost use Rattle.pra_words.specs.Written.{asked_by};
@@ -13,24 +13,31 @@ ghost use Rattle.pra_tool.specs.Status.{exit_code};
 ghost use Rattle.pra_tool.specs.Outside.{StreamSeen, Seen, folder_seen, stream_seen, seen};
 ghost use Rattle.pra_tool.specs.Outside.{seen_by, Told};
 ghost use Rattle.pra_tool.specs.Texts.{fault_line, unlisted_line, unassembled_line};
+ghost use Rattle.pra_tool.specs.Texts.{over_line, uncertified_line};
 ghost use Rattle.pra_tool.specs.Inputs.{input_fault_status, input_fault_line};
 ghost use Rattle.pra_tool.specs.Modes.{Answers};
 ghost use Rattle.pra_tool.specs.Ends.{Ends, NeverFaults};
 ghost use Rattle.pra_tool.specs.Compiling.{MadeOf};
 ghost use Rattle.pra_tool.specs.Clause.{mode_of, reads_input, asks_input, fault_status, Promise};
 ghost use Rattle.pra_tool.specs.Clause.{compiling, takes_input, generating, listing, assembling};
+ghost use Rattle.pra_tool.specs.Clause.{checking};
+ghost use Rattle.pra_tool.specs.Certified.{most_certificate, IsHeld, uncertified_status};
 ghost use Rattle.pra_tool.specs.Listings.{IsListed, IsTextOf};
 ghost use Rattle.pra_tool.specs.Listings.{unlisted_status, unassembled_status};
 
+use crate::certified::{Uncertified, certify, held_by};
 use crate::compiler::{Made, compile_source};
 use crate::input::{InputFault, WrongInput, read_numbers};
 use crate::listing::{MAX_IMAGE, Unassembled, Unlisted, image_by, listing_of};
 use crate::report::{
-    asm_report, compile_report, gen_report, interp_report, list_report, refuse, run_report,
+    asm_report, compile_report, gen_report, interp_report, refuse, run_report, text_report,
     write_report,
 };
 use crate::status::Status;
-use crate::texts::{fault_line, input_line, unassembled_line, unlisted_line};
+use crate::texts::{
+    fault_line, held_text, input_line, over_line, unassembled_line, uncertified_line, unlisted_line,
+};
+use cert_form::{Certificate, MAX_CERT_BYTES};
 use ia_code::Image;
 use ia_list::MAX_TEXT_BYTES;
 use ob_read::{LimitFault, MAX_SOURCE, ReadFault};
@@ -47,7 +54,9 @@ use std::alloc::Global;
 /// writes the output, and the lines of the procedures with the ending line. With `gen` it makes a
 /// module, compiles it, runs the image on no input, and writes the module to FILE, the image file,
 /// and to out four lines on both. With `list` it reads FILE, which is an image, and writes its text
-/// to out; with `asm` it reads FILE, which is the text of an image, and writes the image file.
+/// to out; with `asm` it reads FILE, which is the text of an image, and writes the image file. With
+/// `cert` it reads FILE, compiles it, and writes to out a certificate of its costs and bounds; with
+/// `check` it reads FILE, which is a certificate, tests it, and writes to out its costs and bounds.
 ///
 /// `words` are those behind the program's name: MODE and FILE, and among them the options that
 /// `read_words` of pra_words reads. The answer is the exit status:
@@ -67,12 +76,17 @@ use std::alloc::Global;
 /// | 3 | at A of the image's code no instruction begins | `fault code at A` |
 /// | 3 | line N of FILE, from 1, is none of an image's text | `fault line N` |
 /// | 3 | FILE is the first line of a text alone | `fault empty` |
+/// | 3 | FILE is no JSON | `fault json` |
+/// | 3 | FILE is JSON, and no certificate | `fault certificate form` |
+/// | 3 | FILE is a certificate, and procedure P fails by R | `fault certificate procedure P R` |
 /// | 4 | FILE is too long | `limit source count 1048577 maximum 1048576` |
 /// | 4 | FILE nests too deep | `limit depth token T at A` |
 /// | 4 | FILE has too much of one thing | `limit NAME count C maximum L` |
 /// | 4 | FILE is too long for an image | `limit image count 41943057 maximum 41943056` |
 /// | 4 | FILE is too long for a text | `limit listing count 67108865 maximum 67108864` |
 /// | 4 | the image's text is too long | `limit listing count C maximum 67108864` |
+/// | 4 | FILE is too long for a certificate | `limit certificate count 16777217 maximum 16777216` |
+/// | 4 | the certificate that was made is too long | `limit certificate count C maximum 16777216` |
 /// | 4 | the input is too long | `limit input count 1048577 maximum 1048576` |
 /// | 5 | reading FILE or the input failed | `fault read file`, `fault read input` |
 /// | 5 | writing a file or out failed | `fault write file`, `fault write out` |
@@ -173,6 +187,8 @@ fn perform<D: Folder, I: Source, O: Sink, N: Sink>(
         Mode::List => list_file(alloc, request, folder, out, notes),
         Mode::Asm => asm_file(alloc, request, folder, out, notes),
         Mode::Interp => compile_file(alloc, request, Then::Interpret, folder, input, out, notes),
+        Mode::Cert => compile_file(alloc, request, Then::Certify, folder, input, out, notes),
+        Mode::Check => check_file(alloc, request, folder, out, notes),
     }
 }
 
@@ -185,6 +201,8 @@ pub(crate) enum Then {
     Write,
     /// Its frames are those of the source's own run.
     Interpret,
+    /// Its costs and bounds are certified.
+    Certify,
 }
 
 // Reads FILE and compiles it, and does with it what is asked for.
@@ -212,7 +230,7 @@ fn compile_file<D: Folder, I: Source, O: Sink, N: Sink>(
         Err(FileFault::Failed) => return refuse(notes, Status::Fault, "fault read file\n"),
     };
     match compile_source(alloc, &source, request) {
-        Ok(made) => finish(alloc, request, then, &made, folder, input, out, notes),
+        Ok(made) => finish(alloc, request, then, made, folder, input, out, notes),
         Err(fault) => refuse_source(alloc, notes, fault),
     }
 }
@@ -222,16 +240,16 @@ fn finish<D: Folder, I: Source, O: Sink, N: Sink>(
     alloc: Global,
     request: &Request,
     then: Then,
-    made: &Made,
+    made: Made,
     folder: &mut D,
     input: &mut I,
     out: &mut O,
     notes: &mut N,
 ) -> Status
-    requires valid { IsImage made.now.compiled.image }
-    requires sound { NeverFaults made.now.compiled.image }
-    requires totals { HaveTotals made.now.compiled.procs }
-    ensures ends { (source : List ℕ) → MadeOf (asked_by request.now) source made.now →
+    requires valid { IsImage made.compiled.image }
+    requires sound { NeverFaults made.compiled.image }
+    requires totals { HaveTotals made.compiled.procs }
+    ensures ends { (source : List ℕ) → MadeOf (asked_by request.now) source made →
         let look = seen_by D.file D.read_faults D.write_faults I.left I.faults
         O.bytes O.faults N.bytes N.faults in
         let old = look folder.old input.old out.old notes.old in
@@ -240,9 +258,10 @@ fn finish<D: Folder, I: Source, O: Sink, N: Sink>(
     ensures input { takes_input then ≡ false → input.new ≡ input.old }
 {
     match then {
-        Then::Run => run_compiled(alloc, request, made, folder, input, out, notes),
-        Then::Write => write_compiled(alloc, request, made, folder, out, notes),
-        Then::Interpret => interpret_made(alloc, request, made, folder, input, out, notes),
+        Then::Run => run_compiled(alloc, request, &made, folder, input, out, notes),
+        Then::Write => write_compiled(alloc, request, &made, folder, out, notes),
+        Then::Interpret => { interpret_made(alloc, request, &made, folder, input, out, notes) }
+        Then::Certify => certify_made(alloc, request, made, folder, out, notes),
     }
 }
 
@@ -325,6 +344,53 @@ fn write_compiled<D: Folder, O: Sink, N: Sink>(
     match compile_report(alloc, request, &made.compiled) {
         Ok(report) => write_report(alloc, &report, folder, out, notes),
         Err(OutOfMemory) => Status::NoMemory,
+    }
+}
+
+// Certifies what was compiled, and writes the certificate.
+fn certify_made<D: Folder, O: Sink, N: Sink>(
+    alloc: Global,
+    request: &Request,
+    made: Made,
+    folder: &mut D,
+    out: &mut O,
+    notes: &mut N,
+) -> Status
+    ensures { (source : List ℕ) (input : StreamSeen) →
+        MadeOf (asked_by request.now) source made →
+        let old : Seen = seen (folder_seen D.file D.read_faults D.write_faults folder.old) input
+        (stream_seen O.bytes O.faults out.old) (stream_seen N.bytes N.faults notes.old) in
+        let new : Seen = seen (folder_seen D.file D.read_faults D.write_faults folder.new) input
+        (stream_seen O.bytes O.faults out.new) (stream_seen N.bytes N.faults notes.new) in
+        Ends (compiling Certify (asked_by request.now)) source old new result }
+{
+    let text = match certify(alloc, request.cost, made) {
+        Ok(text) => text,
+        Err(OutOfMemory) => return Status::NoMemory,
+    };
+    if text.len() > MAX_CERT_BYTES {
+        return refuse_long(alloc, notes, &text);
+    }
+    let report = text_report(alloc, text);
+    write_report(alloc, &report, folder, out, notes)
+}
+
+// Writes how many bytes the text of a certificate has, where they are too many.
+fn refuse_long<N: Sink>(alloc: Global, notes: &mut N, text: &[u8]) -> Status
+    ensures known { (result ≡ Status.OverLimit) ⊎ (result ≡ Status.NoMemory) }
+    ensures told { result ≢ Status.NoMemory →
+        Told (over_line (codes "certificate") (length text.now) most_certificate)
+        (stream_seen N.bytes N.faults notes.old) (stream_seen N.bytes N.faults notes.new) }
+    ensures memory { result ≡ Status.NoMemory → notes.new ≡ notes.old }
+{
+    match over_line(
+        alloc,
+        "certificate",
+        text.len() as u64,
+        MAX_CERT_BYTES as u64,
+    ) {
+        Ok(line) => refuse(notes, Status::OverLimit, line.as_str()),
+        Err(_) => Status::NoMemory,
     }
 }
 
@@ -455,7 +521,7 @@ fn list_file<D: Folder, O: Sink, N: Sink>(
     };
     match listing_of(alloc, &file) {
         Ok(text) => {
-            let report = list_report(alloc, text);
+            let report = text_report(alloc, text);
             write_report(alloc, &report, folder, out, notes)
         }
         Err(fault) => refuse_image(alloc, notes, fault),
@@ -543,6 +609,77 @@ fn refuse_text<N: Sink>(alloc: Global, notes: &mut N, fault: Unassembled) -> Sta
         Unassembled::OutOfMemory => return Status::NoMemory,
     };
     match unassembled_line(alloc, fault) {
+        Ok(line) => refuse(notes, status, line.as_str()),
+        Err(_) => Status::NoMemory,
+    }
+}
+
+// Reads FILE, which is a certificate, and tests it.
+fn check_file<D: Folder, O: Sink, N: Sink>(
+    alloc: Global,
+    request: &Request,
+    folder: &mut D,
+    out: &mut O,
+    notes: &mut N,
+) -> Status
+    ensures { (input : StreamSeen) →
+        let old : Seen = seen (folder_seen D.file D.read_faults D.write_faults folder.old) input
+        (stream_seen O.bytes O.faults out.old) (stream_seen N.bytes N.faults notes.old) in
+        let new : Seen = seen (folder_seen D.file D.read_faults D.write_faults folder.new) input
+        (stream_seen O.bytes O.faults out.new) (stream_seen N.bytes N.faults notes.new) in
+        Answers checking request.now.file.now old new result }
+{
+    let file = match folder.read_file(alloc, request.file, MAX_CERT_BYTES) {
+        Ok(file) => file,
+        Err(FileFault::OutOfMemory) => return Status::NoMemory,
+        Err(FileFault::TooLong) => return refuse_cert(alloc, notes, Uncertified::TooLong),
+        Err(FileFault::Failed) => return refuse(notes, Status::Fault, "fault read file\n"),
+    };
+    match held_by(alloc, &file) {
+        Ok(certificate) => tell_held(alloc, &certificate, folder, out, notes),
+        Err(fault) => refuse_cert(alloc, notes, fault),
+    }
+}
+
+// Writes the costs and bounds of a certificate that holds.
+fn tell_held<D: Folder, O: Sink, N: Sink>(
+    alloc: Global,
+    certificate: &Certificate,
+    folder: &mut D,
+    out: &mut O,
+    notes: &mut N,
+) -> Status
+    ensures { (file : List ℕ) (input : StreamSeen) → IsHeld file certificate.now →
+        let old : Seen = seen (folder_seen D.file D.read_faults D.write_faults folder.old) input
+        (stream_seen O.bytes O.faults out.old) (stream_seen N.bytes N.faults notes.old) in
+        let new : Seen = seen (folder_seen D.file D.read_faults D.write_faults folder.new) input
+        (stream_seen O.bytes O.faults out.new) (stream_seen N.bytes N.faults notes.new) in
+        Ends checking file old new result }
+{
+    match held_text(alloc, certificate) {
+        Ok(text) => {
+            let report = text_report(alloc, text);
+            write_report(alloc, &report, folder, out, notes)
+        }
+        Err(OutOfMemory) => Status::NoMemory,
+    }
+}
+
+// Writes why a file is no certificate that holds.
+fn refuse_cert<N: Sink>(alloc: Global, notes: &mut N, fault: Uncertified) -> Status
+    ensures known { (result ≡ uncertified_status fault) ⊎ (result ≡ Status.NoMemory) }
+    ensures told { result ≢ Status.NoMemory → Told (uncertified_line fault)
+        (stream_seen N.bytes N.faults notes.old) (stream_seen N.bytes N.faults notes.new) }
+    ensures memory { result ≡ Status.NoMemory → notes.new ≡ notes.old }
+{
+    let status = match fault {
+        Uncertified::NotJson | Uncertified::NotCertificate | Uncertified::Fails(_, _) => {
+            Status::BadSource
+        }
+        Uncertified::TooLong => Status::OverLimit,
+        Uncertified::OutOfMemory => return Status::NoMemory,
+    };
+    match uncertified_line(alloc, fault) {
         Ok(line) => refuse(notes, status, line.as_str()),
         Err(_) => Status::NoMemory,
     }

@@ -1,4 +1,4 @@
-use Rattle.pra_tool.specs.declared.tool.Then.TheVariants.{Run, Write, Interpret}
+use Rattle.pra_tool.specs.declared.tool.Then.TheVariants.{Run, Write, Interpret, Certify}
 use Rattle.pra_words.specs.Written.{asked_by}
 use Rattle.pra_tool.specs.Outside.{stream_seen}
 use Rattle.pra_tool.proofs.CompiledEnds.{ends_by}
@@ -19,3 +19,9 @@ pub returns-in-Interpret-clause-ends : goal.returns-in-Interpret-clause-ends
 returns-in-Interpret-clause-ends g c = λ source made.
     ends_by Interpret c.args.then (asked_by c.args.request.now) source _ _ _ c.in-Interpret.is
     (c.interpret_made.ensures source made)
+
+pub returns-in-Certify-clause-ends : goal.returns-in-Certify-clause-ends
+returns-in-Certify-clause-ends g c = λ source made.
+    ends_by Certify c.args.then (asked_by c.args.request.now) source _ _ _ c.in-Certify.is
+    (c.certify_made.ensures source
+    (stream_seen g.I.Source.left g.I.Source.faults c.args.input.now) made)

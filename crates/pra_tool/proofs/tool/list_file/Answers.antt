@@ -13,7 +13,7 @@ use Rattle.pra_tool.proofs.tool.list_file.Goals as goal
 
 pub write_report-requires-clause-different : goal.write_report-requires-clause-different
 write_report-requires-clause-different g c =
-    none_differ _ (ap (λ (x : Writes). x.files) c.list_report-report.ensures.writes)
+    none_differ _ (ap (λ (x : Writes). x.files) c.text_report-report.ensures.writes)
 
 pub returns-in-Ok-listing_of : goal.returns-in-Ok-listing_of
 returns-in-Ok-listing_of g c = λ input.
@@ -22,7 +22,7 @@ returns-in-Ok-listing_of g c = λ input.
     let listed : IsListed file text =
     subst (λ (f : List ℕ). IsListed f text) c.deref.ensures.value
     c.in-Ok-listing_of.ensures.listed in
-    let report = c.list_report-report.result in
+    let report = c.text_report-report.result in
     right_source listing listing_is_a_mode c.args.request.now.file.now _ _ _
     (record {
       same = c.in-Ok.ensures.same;
@@ -35,8 +35,8 @@ returns-in-Ok-listing_of g c = λ input.
     (λ none w s makes. none_left w _ _ (list_names file none w s makes))
     (λ untouched. untouched)
     (list_ends file text (writes_of report) report.status _ _ _ refl listed
-    c.in-Ok-listing_of.ensures.few c.list_report-report.ensures.writes
-    c.list_report-report.ensures.done (c.write_report.ensures input input))
+    c.in-Ok-listing_of.ensures.few c.text_report-report.ensures.writes
+    c.text_report-report.ensures.done (c.write_report.ensures input input))
 
 pub returns : goal.returns
 returns g c = λ input.

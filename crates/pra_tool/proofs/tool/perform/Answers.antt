@@ -1,5 +1,5 @@
 use Rattle.std.proofs.Common.{ap}
-use Rattle.pra_words.specs.declared.words.Mode.TheVariants.{Run, Compile, Gen, List, Asm, Interp}
+use Rattle.pra_words.specs.declared.words.Mode.TheVariants.{Run, Compile, Gen, List, Asm, Interp, Cert, Check}
 use Rattle.pra_words.specs.Words.{writes_image}
 use Rattle.pra_words.specs.Written.{asked_by}
 use Rattle.pra_tool.specs.Outside.{stream_seen}
@@ -42,3 +42,14 @@ returns-in-Gen-clause-answers g c =
     answers_by Gen (asked_by c.args.request.now) c.args.request.now.file.now _ _ _
     c.in-Gen.is
     (c.gen_file.ensures (stream_seen g.I.Source.left g.I.Source.faults c.args.input.now))
+
+pub returns-in-Cert-clause-answers : goal.returns-in-Cert-clause-answers
+returns-in-Cert-clause-answers g c =
+    answers_by Cert (asked_by c.args.request.now) c.args.request.now.file.now _ _ _
+    c.in-Cert.is c.compile_file-in-Cert.ensures.answers
+
+pub returns-in-Check-clause-answers : goal.returns-in-Check-clause-answers
+returns-in-Check-clause-answers g c =
+    answers_by Check (asked_by c.args.request.now) c.args.request.now.file.now _ _ _
+    c.in-Check.is
+    (c.check_file.ensures (stream_seen g.I.Source.left g.I.Source.faults c.args.input.now))
