@@ -14,6 +14,7 @@
 // Of each report that is written whole the lines are also read as `report` says, and each run that
 // ends or traps is repeated by the meaning of the module, which has to leave the same.
 
+mod certified;
 mod faults;
 mod inputs;
 mod listings;
@@ -354,6 +355,11 @@ fn calls_over_images_and_their_texts(rt: HostRuntime) -> Result<(), OutOfMemory>
     check_rows(&rt, rt.alloc(), listings::ROWS)
 }
 
+#[test]
+fn calls_over_certificates(rt: HostRuntime) -> Result<(), OutOfMemory> {
+    check_rows(&rt, rt.alloc(), certified::ROWS)
+}
+
 /// The text of the module of a row by its name.
 pub(crate) fn source_of(name: &str) -> &'static str {
     for row in worked::ROWS.split("# ") {
@@ -385,9 +391,50 @@ fn an_image_comes_back_from_its_text(rt: HostRuntime) -> Result<(), OutOfMemory>
     Ok(())
 }
 
+// What the test of a certificate tells, where it has the last costs and bounds of a report.
+fn held_lines(alloc: Global, report: &str) -> Result<String, OutOfMemory> {
+    let mut text = String::new(alloc);
+    let mut number = 0u32;
+    let mut inside = false;
+    for part in report.split("procedure ") {
+        if inside {
+            let (_, rounds) = part.rsplit_once("round ").unwrap_or((part, ""));
+            let (line, _) = split_at(rounds, "\n");
+            let (_, costs) = split_at(line, " cost ");
+            write!(text, "procedure {number} cost {costs}\n")?;
+            number = number.saturating_add(1);
+        }
+        inside = true;
+    }
+    write!(text, "certificate holds\n")?;
+    Ok(text)
+}
+
+// The certificate of the module with all forms of statement holds, and has the last costs and bounds
+// of its report.
+#[test]
+fn a_certificate_holds(rt: HostRuntime) -> Result<(), OutOfMemory> {
+    let alloc = rt.alloc();
+    let source = source_of("all forms of statement").as_bytes();
+    for options in ["M.ob --rounds 20", "M.ob --rounds 20 --cost speed"] {
+        let words = format!(in alloc; "compile {options}")?;
+        let compiled = call(alloc, &words, source, b"", ALL_WELL)?;
+        let report = str::from_utf8(compiled.out.bytes()).unwrap_or("");
+        let words = format!(in alloc; "cert {options}")?;
+        let made = call(alloc, &words, source, b"", ALL_WELL)?;
+        assert_eq!(rt; made.status, 0, "{options}");
+        assert!(rt; made.folder.file("out.pri").is_none(), "{options}");
+        let held = call(alloc, "check M.ob", made.out.bytes(), b"", ALL_WELL)?;
+        assert_eq!(rt; held.status, 0, "{options}");
+        let wanted = held_lines(alloc, report)?;
+        assert_eq!(rt; held.out.bytes(), wanted.as_bytes(), "{options}");
+    }
+    Ok(())
+}
+
 // Files of the most bytes and of one more, and an image whose text is too long.
 #[test]
-fn limits_of_images_and_texts(rt: HostRuntime) -> Result<(), OutOfMemory> {
+fn limits_of_files(rt: HostRuntime) -> Result<(), OutOfMemory> {
     let alloc = rt.alloc();
     for (words, length, status, notes) in [
         ("list M.ob", 41_943_056, 3, "fault image Magic at 0\n"),
@@ -403,6 +450,13 @@ fn limits_of_images_and_texts(rt: HostRuntime) -> Result<(), OutOfMemory> {
             67_108_865,
             4,
             "limit listing count 67108865 maximum 67108864\n",
+        ),
+        ("check M.ob", 16_777_216, 3, "fault json\n"),
+        (
+            "check M.ob",
+            16_777_217,
+            4,
+            "limit certificate count 16777217 maximum 16777216\n",
         ),
     ] {
         let mut file = Vec::new(alloc);

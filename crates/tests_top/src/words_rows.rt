@@ -70,12 +70,16 @@ Gen M.ob|MODE
 run2 M.ob|MODE
 interpret M.ob|MODE
 List M.ob|MODE
+Cert M.ob|MODE
+checks M.ob|MODE
 M.ob run --steps x|MODE
 run |FILE
 run  --steps x|FILE
 gen  --seed x|FILE
 list |FILE
 interp |FILE
+cert |FILE
+check |FILE
 run M.ob --rounds |--rounds
 run M.ob --rounds x|--rounds
 run M.ob --rounds=-1|--rounds
@@ -114,6 +118,8 @@ asm M.ob --image M.ob|--image
 gen M.ob --image M.ob|--image
 list M.ob --image |--image
 interp M.ob --image |--image
+cert M.ob --image |--image
+check M.ob --image |--image
 run M.ob --seed |--seed
 run M.ob --seed 1.0|--seed
 run M.ob --seed=-1|--seed
