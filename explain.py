@@ -10,6 +10,7 @@ of docs/LANGUAGE.md. With --input the bytes of the program's input are in the fi
 is 0 where something was explained, and else 1.
 """
 
+import json
 import os
 import re
 import sys
@@ -188,6 +189,77 @@ def input_word(given, at):
     return Place("the input", given, at, word_end(given, at)).tell(words)
 
 
+# ---- images, their texts, and certificates
+
+IMAGE_FIELDS = {
+    "Length": "an image has a head of 16 bytes",
+    "Magic": "an image begins with the bytes PRAI",
+    "Version": "the version of an image is 1",
+    "CodeLength": "the length in the head is that of the code behind it, up to 41943040",
+    "DataWords": "an image has at most 4194304 data words",
+}
+
+REASONS = {
+    "code": "its code is not valid, or calls a procedure that the certificate does not have",
+    "routes": "its routes are not admitted in the network of its code",
+    "prices": "a price is out of range, 0, or not in the order of its index",
+    "total": "its routes cost another total",
+    "bound": "its prices do not show this bound",
+}
+
+
+def image_field(name, field, at):
+    return [f"{name}, byte {at}: this is no image: {IMAGE_FIELDS[field]}"]
+
+
+def text_line(name, source, number):
+    """A line of a text that is to be assembled; behind the last one there is nothing to mark."""
+    lines = source.split(b"\n")
+    words = "this is no line of an image's text"
+    if number > len(lines):
+        return [f"{name}:{number}:1: {words}"]
+    start = sum(len(line) + 1 for line in lines[: number - 1])
+    if start >= len(source):
+        return [f"{name}:{number}:1: {words}"]
+    return Place(name, source, start, start + len(lines[number - 1])).tell(words)
+
+
+def no_json(name, source):
+    """Where a reader of JSON stops; another one may stop a little before or behind."""
+    try:
+        json.loads(source.decode(errors="replace"))
+    except json.JSONDecodeError as stopped:
+        at = len(source.decode(errors="replace")[: stopped.pos].encode())
+        words = f"this is no JSON: {stopped.msg[:1].lower()}{stopped.msg[1:]}"
+        if at < len(source):
+            return Place(name, source, at, at + 1).tell(words)
+        return [f"{name}, byte {at}: {words}"]
+    except RecursionError:
+        pass
+    return [f"{name}: this is no JSON"]
+
+
+def of_other_files(line, name, source):
+    """The same of a line on an image, its text or a certificate."""
+    if found := re.fullmatch(r"fault image ([A-Za-z]+) at (\d+)", line):
+        return image_field(name, found[1], found[2])
+    if found := re.fullmatch(r"fault code at (\d+)", line):
+        at = int(found[1])
+        return [f"{name}, byte {at} of the code, {at + 16} of the file: no instruction begins here"]
+    if found := re.fullmatch(r"fault line (\d+)", line):
+        return text_line(name, source, int(found[1]))
+    if line == "fault empty":
+        return [f"{name}:1:1: no instruction follows the first line"]
+    if line == "fault json":
+        return no_json(name, source)
+    if line == "fault certificate form":
+        return [f"{name}: this is JSON, but no certificate: a key is missing or too many, or a value"
+                " is none that stands there (docs/CERTIFICATES.md)"]
+    if found := re.fullmatch(r"fault certificate procedure (\d+) ([a-z]+)", line):
+        return [f"{name}, procedure {found[1]}: the certificate does not hold: {REASONS[found[2]]}"]
+    return None
+
+
 FILES = {
     "read file": "{} can't be read",
     "read input": "the input can't be read",
@@ -214,7 +286,7 @@ def explained(line, name, source, given):
         return input_word(given, int(found[1]))
     if found := re.fullmatch(r"fault (read file|read input|write file|write out)", line):
         return [FILES[found[1]].format(name)]
-    return None
+    return of_other_files(line, name, source)
 
 
 def read(name):
