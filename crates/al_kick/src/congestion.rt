@@ -10,14 +10,63 @@ use crate::rows::FAR;
 use net_form::Net;
 use std::alloc::{AllocError, Global};
 
-/// The registers of a layer: how many strands are in each, the sum of their numbers, and what was
-/// added for past overlaps, in scaled units.
+/// The registers of a layer: how many strands are in each, the sum of their numbers, what was added
+/// for past overlaps, in scaled units, and in which there is some strand, and more than one.
 #[derive(Clone, Copy)]
 pub(crate) struct Cell {
     pub count: [u32; 8],
     pub history: [u32; 8],
     strands: [u32; 8],
+    some: u8,
+    several: u8,
     hot: bool,
+}
+
+impl Cell {
+    /// The registers in which others are than the strand in these ones.
+    pub fn taken(&self, own: u8) -> u8 {
+        (self.some & !own) | self.several
+    }
+
+    /// Whether more than one strand is in a register.
+    pub fn is_crowded(&self, register: usize) -> bool {
+        (self.several >> (register % 8)) & 1 == 1
+    }
+
+    /// A strand leaves a register. It says whether others stay there.
+    pub fn leave(&mut self, register: usize, strand: u32) -> bool {
+        let r = register % 8;
+        let count = self.count[r].wrapping_sub(1);
+        self.count[r] = count;
+        self.strands[r] = self.strands[r].wrapping_sub(strand);
+        if count == 0 {
+            self.some &= !(1 << r);
+            return false;
+        }
+        if count == 1 {
+            self.several &= !(1 << r);
+        }
+        true
+    }
+
+    /// A strand comes to a register.
+    pub fn enter(&mut self, register: usize, strand: u32) -> Met {
+        let r = register % 8;
+        let count = self.count[r];
+        let other = self.strands[r];
+        self.count[r] = count.wrapping_add(1);
+        self.strands[r] = other.wrapping_add(strand);
+        self.some |= 1 << r;
+        if count == 0 {
+            return Met::Nobody;
+        }
+        self.several |= 1 << r;
+        if count == 1 {
+            Met::One(other)
+        } else {
+            Met::Several
+        }
+    }
 }
 
 /// A memory pair: how many of its ends are in memory, and what was added for past overlaps.
@@ -32,6 +81,8 @@ const EMPTY: Cell = Cell {
     count: [0; 8],
     history: [0; 8],
     strands: [0; 8],
+    some: 0,
+    several: 0,
     hot: false,
 };
 
@@ -95,40 +146,6 @@ impl Cells {
         self.overlaps = 0;
     }
 
-    /// A strand leaves a register.
-    pub fn leave(&mut self, layer: usize, register: usize, strand: u32) {
-        let Some(cell) = self.layers.get_mut(layer) else {
-            return;
-        };
-        let r = register % 8;
-        cell.count[r] = cell.count[r].saturating_sub(1);
-        cell.strands[r] = cell.strands[r].wrapping_sub(strand);
-        if cell.count[r] > 0 {
-            self.overlaps = self.overlaps.saturating_sub(1);
-        }
-    }
-
-    /// A strand comes to a register.
-    pub fn enter(&mut self, layer: usize, register: usize, strand: u32) -> Met {
-        let Some(cell) = self.layers.get_mut(layer) else {
-            return Met::Nobody;
-        };
-        let r = register % 8;
-        let count = cell.count[r];
-        let other = cell.strands[r];
-        cell.count[r] = count.saturating_add(1);
-        cell.strands[r] = other.wrapping_add(strand);
-        if count == 0 {
-            return Met::Nobody;
-        }
-        self.overlaps = self.overlaps.saturating_add(1);
-        if count == 1 {
-            Met::One(other)
-        } else {
-            Met::Several
-        }
-    }
-
     /// An end of a memory pair leaves memory.
     pub fn leave_pair(&mut self, pair: usize) {
         let Some(cell) = self.pairs.get_mut(pair) else {
@@ -151,6 +168,14 @@ impl Cells {
         }
         self.overlaps = self.overlaps.saturating_add(1);
         true
+    }
+
+    /// The cells of layers, from the first of so many on.
+    pub fn of(&self, first: usize, many: usize) -> &[Cell] {
+        match self.layers.get(first..first.wrapping_add(many)) {
+            Some(cells) => cells,
+            None => &[],
+        }
     }
 
     /// How many strands are in a register.
@@ -179,6 +204,17 @@ impl Cells {
         if !cell.hot {
             cell.hot = true;
             self.hot_layers.push(layer);
+        }
+    }
+
+    /// The same, if more than one strand is in the register.
+    pub fn heat_crowded(&mut self, layer: usize, register: usize, more: u32) {
+        let crowded = match self.layers.get(layer) {
+            Some(cell) => cell.is_crowded(register),
+            None => false,
+        };
+        if crowded {
+            self.heat(layer, register, more);
         }
     }
 

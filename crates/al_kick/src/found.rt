@@ -12,11 +12,12 @@ use std::alloc::Global;
 use std::mem;
 
 // Writes the places of a strand over those of a path, as many as it has.
-fn write_path(path: &mut Seq<Place>, start: usize, places: &[u8])
+fn write_path(path: &mut Seq<Place>, span: &Span, places: &[u8])
     ensures { length path.new ≡ length path.old }
 {
     for layer in 0..path.len() {
-        let number = at(places, start.wrapping_add(layer), 6);
+        let step = span.start().wrapping_add(span.step_of(layer));
+        let number = at(places, step, 6);
         path.set(layer, Place::of_number(number).unwrap_or(Place::Mem));
     }
 }
@@ -29,7 +30,7 @@ fn write_paths(paths: &mut [Seq<Place>], spans: &[Span], places: &[u8])
 {
     for strand in 0..paths.len() {
         let span = at(spans, strand, NO_SPAN);
-        write_path(&mut paths[strand], span.start(), places);
+        write_path(&mut paths[strand], &span, places);
     }
 }
 

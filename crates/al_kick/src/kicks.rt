@@ -7,6 +7,7 @@
 // iterated local search (Lourenço, Martin and Stützle, Handbook of Metaheuristics, 2003).
 
 use crate::negotiate::thousandths;
+use crate::rates::WHOLE;
 use crate::reroute::Penalty;
 use crate::search::Search;
 use crate::spans::{Span, range};
@@ -28,6 +29,9 @@ const HISTORY: u64 = 50;
 
 // The penalty in a window, in thousandths of a unit.
 const IN_WINDOW: u64 = 100;
+
+// Who makes room may cost so many units more than all did before a kick.
+const ALLOWANCE: u64 = 2 * WHOLE;
 
 impl Search {
     // Some strand, more often one that pays more than it would alone.
@@ -160,7 +164,7 @@ impl Search {
         }
         let still = pass < STILL;
         if still && self.log.still.has(strand) {
-            self.note_overlap(strand);
+            self.log.note_overlap(strand);
             return;
         }
         let span = self.span(strand);
@@ -183,11 +187,22 @@ impl Search {
         self.draws.shuffle(&mut self.log.queue);
     }
 
-    // Passes over those that overlap, until nobody does.
-    fn untangle(&mut self, net: &Net) {
+    // What all may cost while others make room for the changed strands: a kick that has made them
+    // dearer than that seldom comes to be cheaper in the end.
+    fn most_cost(&self, before: u64) -> u64 {
+        let mut times = 1u64;
+        for number in 0..self.log.changed.count() {
+            let span = self.span(self.log.changed.at(number));
+            times = times.max(self.times(&span));
+        }
+        before.saturating_add(ALLOWANCE.saturating_mul(times))
+    }
+
+    // Passes over those that overlap, until nobody does, or all cost more than this.
+    fn untangle(&mut self, net: &Net, most: u64) {
         let mut penalty = PENALTY;
         for pass in 0..MOST_PASSES {
-            if self.cells.overlaps == 0 {
+            if self.cells.overlaps == 0 || self.paths.total > most {
                 return;
             }
             self.next_queue();
@@ -221,7 +236,11 @@ impl Search {
         } else {
             self.kick_window(net);
         }
-        self.untangle(net);
+        if self.cells.overlaps == 0 && !self.is_changed() {
+            return;
+        }
+        let most = self.most_cost(before);
+        self.untangle(net, most);
         self.cells.cool();
         if self.cells.overlaps == 0 {
             self.settle_around(net);

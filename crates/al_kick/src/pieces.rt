@@ -67,6 +67,38 @@ impl Search {
         groups
     }
 
+    // How many strands are at a tie group.
+    fn group_size(&self, net: &Net, group: Option<usize>) -> usize {
+        let Some(group) = group else {
+            return 0;
+        };
+        let (from, to) = range(net.index.groups.as_slice(), group);
+        to.saturating_sub(from)
+    }
+
+    /// The piece becomes the variable of a strand, with all its tie groups there, and it says
+    /// whether that has no more layers than this.
+    pub(crate) fn gather_small(&mut self, net: &Net, strand: usize, most: usize) -> bool {
+        self.begin_piece();
+        self.add_strand(strand);
+        let mut size = 0usize;
+        for number in 0..self.spans.len() {
+            if number >= self.piece.strands.count() {
+                return true;
+            }
+            let span = self.span(self.piece.strands.at(number));
+            size = size.saturating_add(span.len());
+            for group in [span.entry(), span.exit()] {
+                size = size.max(self.group_size(net, group));
+                if size > most {
+                    return false;
+                }
+                self.add_if(net, group, 0, 1);
+            }
+        }
+        true
+    }
+
     /// The piece becomes a strand and so many tie groups around it at most.
     pub(crate) fn gather(&mut self, net: &Net, strand: usize, most: usize) {
         self.begin_piece();
@@ -94,20 +126,20 @@ impl Search {
         (self.has_group(span.entry()), self.has_group(span.exit()))
     }
 
-    // What is to be paid at a place of a layer, in units.
-    fn units(&self, span: &Span, layer: usize, place: usize) -> u64 {
-        let cost = at(&self.row(layer), place, FAR);
+    // What is to be paid at a place of a step, in units.
+    fn units(&self, span: &Span, step: usize, place: usize) -> u64 {
+        let cost = at(&self.row(step), place, FAR);
         if cost < FAR {
-            u64::from(cost).saturating_mul(self.rate(span).times)
+            u64::from(cost).saturating_mul(self.times(span))
         } else {
             CLOSED
         }
     }
 
-    // Adds what is to be paid at each place of a layer, in units.
-    fn add_costs(&self, span: &Span, layer: usize, sums: &mut Sums) {
-        let times = self.rate(span).times;
-        let row = self.row(layer);
+    // Adds what is to be paid at each place of a step, in units.
+    fn add_costs(&self, span: &Span, step: usize, sums: &mut Sums) {
+        let times = self.times(span);
+        let row = self.row(step);
         for p in 0..16usize {
             let more = u64::from(row[p]).saturating_mul(times);
             sums[p] = sums[p].saturating_add(if row[p] < FAR { more } else { CLOSED });
@@ -118,20 +150,19 @@ impl Search {
     fn add_one_end(&mut self, net: &Net, strand: usize, penalty: Penalty, sums: &mut Sums) {
         let span = self.span(strand);
         let (first, last) = self.end_places(&span);
-        let last_layer = span.len().wrapping_sub(1);
         let (entry, exit) = self.moves(&span);
         if entry && exit {
             self.close_sums(net, strand, sums);
         } else if entry {
             self.fill_rows(net, strand, penalty);
-            self.fix(last_layer, last);
+            self.fix(span.last_step(), last);
             self.pay_back(&span);
             self.add_costs(&span, 0, sums);
         } else if exit {
             self.fill_rows(net, strand, penalty);
             self.fix(0, first);
             self.pay_forth(&span);
-            self.add_costs(&span, last_layer, sums);
+            self.add_costs(&span, span.last_step(), sums);
         }
     }
 
@@ -154,6 +185,19 @@ impl Search {
         }
     }
 
+    // Adds what the strands pay at least both of whose ends move, by the place of their entries.
+    fn add_bounds(&mut self, net: &Net, penalty: Penalty, bounds: &mut Sums) {
+        for number in 0..self.piece.strands.count() {
+            let strand = self.piece.strands.at(number);
+            let span = self.span(strand);
+            if self.moves(&span) == (true, true) {
+                self.fill_rows(net, strand, penalty);
+                self.pay_back(&span);
+                self.add_costs(&span, 0, bounds);
+            }
+        }
+    }
+
     // What the strands pay both of whose ends move, at a place; so much at least where it is no
     // less than the least so far.
     fn both_ends(
@@ -171,11 +215,10 @@ impl Search {
             }
             let strand = self.piece.strands.at(number);
             let span = self.span(strand);
-            let (entry, exit) = self.moves(&span);
-            if entry && exit {
+            if self.moves(&span) == (true, true) {
                 self.fill_rows(net, strand, penalty);
                 self.fix(0, Some(place));
-                self.fix(span.len().wrapping_sub(1), Some(place));
+                self.fix(span.last_step(), Some(place));
                 self.pay_back(&span);
                 sum = sum.saturating_add(self.units(&span, 0, place));
             }
@@ -184,26 +227,32 @@ impl Search {
     }
 
     // The place at which the piece pays least where its groups are all there, and what it pays, or
-    // so much where it pays no less anywhere.
+    // so much where it pays no less anywhere. Places are asked by what they cost at least, and none
+    // that costs too much by that alone.
     fn choose_place(&mut self, net: &Net, penalty: Penalty, most: u64) -> (usize, u64) {
         let mut sums = [0u64; 16];
         for number in 0..self.piece.strands.count() {
             let strand = self.piece.strands.at(number);
             self.add_one_end(net, strand, penalty, &mut sums);
         }
+        let mut bounds = sums;
+        self.add_bounds(net, penalty, &mut bounds);
         let turn = self.draws.below(14);
+        let mut best = first_of_least(&bounds, turn);
         let mut least = most;
-        for step in 0..14usize {
-            let place = turn.wrapping_add(step) % 14;
-            let begun = at(&sums, place, CLOSED);
-            let mut sum = begun;
-            if begun < CLOSED {
-                sum = self.both_ends(net, penalty, place, begun, least);
+        for _ in 0..14u8 {
+            let place = first_of_least(&bounds, turn);
+            if at(&bounds, place, CLOSED) >= least.min(CLOSED) {
+                break;
             }
-            put(&mut sums, place, sum);
-            least = least.min(sum);
+            put(&mut bounds, place, CLOSED);
+            let sum = self.both_ends(net, penalty, place, at(&sums, place, CLOSED), least);
+            if sum < least {
+                least = sum;
+                best = place;
+            }
         }
-        (first_of_least(&sums, turn), least)
+        (best, least)
     }
 
     // Gives the strands of the piece, which are in no cell, least paths with its groups at a place.
@@ -241,18 +290,20 @@ impl Search {
     }
 
     /// Gives the strands of the piece cheaper paths past all others, with its groups at one place,
-    /// if there are some.
-    pub(crate) fn settle_piece(&mut self, net: &Net) {
+    /// if there are some, and says whether there were.
+    pub(crate) fn settle_piece(&mut self, net: &Net) -> bool {
         let (worth, excess) = self.piece_worth();
         if excess == 0 {
-            return;
+            return false;
+        }
+        let (place, least) = self.choose_place(net, Penalty::Closed, worth);
+        if least >= worth {
+            return false;
         }
         self.release_piece(net);
-        let (place, least) = self.choose_place(net, Penalty::closed(), worth);
-        if least < worth {
-            self.route_at(net, Some(place), Penalty::closed());
-        }
+        self.route_at(net, Some(place), Penalty::Closed);
         self.take_piece(net);
+        true
     }
 
     /// The strands of the piece leave their cells.

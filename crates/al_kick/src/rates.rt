@@ -8,6 +8,7 @@ ghost use Rattle.std.specs.Prelude.{◌≤◌};
 ghost use Rattle.net_cost.specs.Models.{Keeps};
 ghost use Rattle.net_cost.specs.Weights.{deepest};
 
+use crate::rows::{Row, way};
 use net_cost::{CostModel, Event};
 use net_form::Net;
 
@@ -17,60 +18,36 @@ pub(crate) const WHOLE: u64 = 1024;
 // No event is taken for dearer than this, in scaled units.
 const DEAREST: u32 = 1 << 24;
 
-/// What it costs to go to another register alone, to another both place, to memory, and to a
-/// constant itself.
-#[derive(Clone, Copy)]
-pub(crate) struct Onward {
-    pub alone: u32,
-    pub both: u32,
-    pub memory: u32,
-    pub constant: u32,
-}
-
-/// What ways through a crossbar cost, by where they begin; and from a register alone to its own
-/// both place, and back.
+/// What ways through a crossbar cost: a move between registers, a load, a store, and a constant that
+/// is made.
 #[derive(Clone, Copy)]
 pub(crate) struct Ways {
-    pub alone: Onward,
-    pub both: Onward,
-    pub memory: Onward,
-    pub constant: Onward,
-    pub up: u32,
-    pub down: u32,
+    pub between: u32,
+    pub load: u32,
+    pub store: u32,
+    pub set: u32,
 }
 
-/// What ways cost from place to place, and turned around; what it costs to make a constant in a
-/// register; and how many units a scaled unit is.
+/// What ways cost, also from each place to each other one; and how many units a scaled unit is.
 #[derive(Clone, Copy)]
 pub(crate) struct Rate {
-    pub back: Ways,
-    pub forth: Ways,
-    pub set: u32,
+    pub ways: Ways,
+    pub moves: [Row; 16],
     pub times: u64,
 }
 
-const NOTHING: Onward = Onward {
-    alone: 0,
-    both: 0,
-    memory: 0,
-    constant: 0,
-};
-
 /// Ways that cost nothing.
 pub(crate) const NO_WAYS: Ways = Ways {
-    alone: NOTHING,
-    both: NOTHING,
-    memory: NOTHING,
-    constant: NOTHING,
-    up: 0,
-    down: 0,
+    between: 0,
+    load: 0,
+    store: 0,
+    set: 0,
 };
 
 /// No cost at all.
 pub(crate) const NO_RATE: Rate = Rate {
-    back: NO_WAYS,
-    forth: NO_WAYS,
-    set: 0,
+    ways: NO_WAYS,
+    moves: [[0; 16]; 16],
     times: 1,
 };
 
@@ -90,68 +67,15 @@ pub(crate) fn scaled(units: u64, times: u64) -> u32 {
     u32::try_from(count).unwrap_or(DEAREST).min(DEAREST)
 }
 
-// Ways whose moves between registers, loads, stores and constants cost so much.
-fn ways_back(between: u32, load: u32, store: u32, set: u32) -> Ways {
-    Ways {
-        alone: Onward {
-            alone: between,
-            both: between.wrapping_add(store),
-            memory: store,
-            constant: 0,
-        },
-        both: Onward {
-            alone: between,
-            both: between,
-            memory: 0,
-            constant: 0,
-        },
-        memory: Onward {
-            alone: load,
-            both: load,
-            memory: 0,
-            constant: 0,
-        },
-        constant: Onward {
-            alone: set,
-            both: set.wrapping_add(store),
-            memory: store,
-            constant: 0,
-        },
-        up: store,
-        down: 0,
+// What ways cost from each place to each other one.
+fn moves_of(ways: &Ways) -> [Row; 16] {
+    let mut moves = [[0; 16]; 16];
+    for from in 0..16usize {
+        for to in 0..16usize {
+            moves[from][to] = way(ways, from, to);
+        }
     }
-}
-
-// The same ways, each from its end to its beginning.
-fn turned(ways: &Ways) -> Ways {
-    Ways {
-        alone: Onward {
-            alone: ways.alone.alone,
-            both: ways.both.alone,
-            memory: ways.memory.alone,
-            constant: ways.constant.alone,
-        },
-        both: Onward {
-            alone: ways.alone.both,
-            both: ways.both.both,
-            memory: ways.memory.both,
-            constant: ways.constant.both,
-        },
-        memory: Onward {
-            alone: ways.alone.memory,
-            both: ways.both.memory,
-            memory: ways.memory.memory,
-            constant: ways.constant.memory,
-        },
-        constant: Onward {
-            alone: ways.alone.constant,
-            both: ways.both.constant,
-            memory: ways.memory.constant,
-            constant: ways.constant.constant,
-        },
-        up: ways.down,
-        down: ways.up,
-    }
+    moves
 }
 
 // How many times more a load costs at a depth than in no loop.
@@ -173,17 +97,15 @@ pub(crate) fn rate_at<F: Fn(Event, u32) -> u32>(net: &Net, model: &CostModel<F>,
     } else {
         (Event::E3, Event::E4)
     };
-    let set = scaled(price(model, Event::E5, depth), times);
-    let back = ways_back(
-        scaled(price(model, Event::E0, depth), times),
-        scaled(price(model, load, depth), times),
-        scaled(price(model, store, depth), times),
-        set,
-    );
+    let ways = Ways {
+        between: scaled(price(model, Event::E0, depth), times),
+        load: scaled(price(model, load, depth), times),
+        store: scaled(price(model, store, depth), times),
+        set: scaled(price(model, Event::E5, depth), times),
+    };
     Rate {
-        back,
-        forth: turned(&back),
-        set,
+        ways,
+        moves: moves_of(&ways),
         times,
     }
 }

@@ -4,7 +4,10 @@
 use crate::congestion::Cell;
 use crate::lists::{at, put};
 use crate::rates::{NO_WAYS, Ways};
-use crate::rows::{FAR, MEMORY, Row, across, add, close_others, least_place, next_place};
+use crate::rows::{
+    FAR, MEMORY, Row, add, before, behind, close_others, has_register, least_cost, least_place,
+    next_place, row_of,
+};
 use crate::search::{NO_EXTRA, Search};
 use crate::spans::{Span, range};
 use crate::strands::pair_end;
@@ -14,103 +17,147 @@ use pra_base::Mask;
 /// No penalty is more, but FAR.
 pub(crate) const MOST_PENALTY: u32 = 1 << 22;
 
-/// What it costs to come to a cell in which others are: so much for each of them, up to so many.
+/// What it costs to come to a cell in which others are.
 #[derive(Clone, Copy)]
-pub(crate) struct Penalty {
-    each: u32,
-    most: u32,
+pub(crate) enum Penalty {
+    /// Nobody can come there. A strand that is in cells itself is no other one to itself.
+    Closed,
+    /// So many scaled units for each of them, besides history.
+    Each(u32),
 }
 
 impl Penalty {
     /// So many scaled units for each.
     pub fn of(units: u32) -> Penalty {
-        Penalty {
-            each: units.min(MOST_PENALTY),
-            most: 255,
-        }
-    }
-
-    /// Nobody can come to where others are.
-    pub fn closed() -> Penalty {
-        Penalty { each: FAR, most: 1 }
-    }
-
-    // What so many others cost, and what was added for those of the past.
-    fn pay(&self, others: u32, history: u32) -> u32 {
-        let now = others.min(self.most).wrapping_mul(self.each);
-        now.wrapping_add(history).min(FAR)
+        Penalty::Each(units.min(MOST_PENALTY))
     }
 }
 
-// What is paid for each register of a layer.
-fn cell_costs(cell: &Cell, penalty: Penalty) -> [u32; 8] {
-    let (counts, history) = (cell.count, cell.history);
-    let mut costs = [0; 8];
+// What so many others cost, and what was added for those of the past.
+fn charge(each: u32, others: u32, history: u32) -> u32 {
+    let now = others.min(255).wrapping_mul(each);
+    now.wrapping_add(history).min(FAR)
+}
+
+// Adds what is paid for each register of a layer.
+fn pay_cell(costs: &mut [u32; 8], cell: &Cell, each: u32) {
     for r in 0..8usize {
-        costs[r] = penalty.pay(counts[r], history[r]);
+        let cost = charge(each, cell.count[r], cell.history[r]);
+        costs[r] = costs[r].wrapping_add(cost);
     }
-    costs
 }
 
-// What is paid at the places of a mask, by what is paid for the registers.
-fn cell_row(mask: Mask, costs: [u32; 8]) -> Row {
-    let mut row = [FAR; 16];
-    for r in 0..8usize {
-        row[r] = if (mask >> r) & 1 == 1 { costs[r] } else { FAR };
-        row[8 + r] = if (mask >> (8 + r)) & 1 == 1 {
-            costs[r]
-        } else {
-            FAR
-        };
-    }
-    row
+// The places of registers, alone and as both places.
+fn places_of(registers: u8) -> Mask {
+    let alone = Mask::from(registers);
+    alone | (alone << 8)
 }
 
-// Adds to what is paid at a place of a layer.
-fn pay(rows: &mut [Row], layer: usize, place: usize, more: u32) {
-    if let Some(row) = rows.get_mut(layer) {
+// The register of a place, as a set.
+fn register_set(place: usize) -> u8 {
+    if has_register(place) {
+        1 << (place % 8)
+    } else {
+        0
+    }
+}
+
+// Adds to what is paid at a place of a step.
+fn pay(rows: &mut [Row], step: usize, place: usize, more: u32) {
+    if let Some(row) = rows.get_mut(step) {
         let cost = at(row, place, FAR);
         put(row, place, cost.wrapping_add(more).min(FAR));
     }
 }
 
 impl Search {
-    // What is paid for the registers at all layers of a strand.
-    fn pay_registers(&mut self, net: &Net, strand: usize, span: &Span, penalty: Penalty) {
-        let Some(strand) = net.strands.get(strand) else {
+    // What is paid for the registers at all steps of a strand, where each other one costs so much.
+    fn pay_registers(&mut self, span: &Span, each: u32) {
+        let to = span.layer().wrapping_add(span.len());
+        let Some(cells) = self.cells.layers.get(span.layer()..to) else {
             return;
         };
-        let masks = strand.masks.as_slice();
-        for layer in 0..span.len() {
-            let mask = at(masks, layer, 0);
-            let cell = self.cells.layers.get(span.layer().wrapping_add(layer));
-            if let Some(cell) = cell {
-                let row = cell_row(mask, cell_costs(cell, penalty));
-                put(&mut self.rows, layer, row);
+        let end = span.start().wrapping_add(span.steps());
+        let Some(masks) = self.masks.get(span.start()..end) else {
+            return;
+        };
+        for step in 0..span.steps() {
+            let mut costs = [0; 8];
+            let (one, other) = span.pair_of(step);
+            if let Some(cell) = cells.get(one) {
+                pay_cell(&mut costs, cell, each);
             }
+            if let Some(cell) = cells.get(other) {
+                pay_cell(&mut costs, cell, each);
+            }
+            put(&mut self.rows, step, row_of(at(masks, step, 0), &costs));
         }
     }
 
-    // And for extras, memory pairs and the beginning of a constant.
-    fn pay_others(&mut self, net: &Net, strand: usize, span: &Span, penalty: Penalty) {
+    // The places at the steps of a strand at which no other one is.
+    fn close_registers(&mut self, span: &Span) {
+        let to = span.layer().wrapping_add(span.len());
+        let Some(cells) = self.cells.layers.get(span.layer()..to) else {
+            return;
+        };
+        let end = span.start().wrapping_add(span.steps());
+        let Some(masks) = self.masks.get(span.start()..end) else {
+            return;
+        };
+        let Some(places) = self.paths.now.get(span.start()..end) else {
+            return;
+        };
+        for step in 0..span.steps() {
+            let own = register_set(at(places, step, 6) as usize);
+            let (one, other) = span.pair_of(step);
+            let mut taken = 0;
+            if let Some(cell) = cells.get(one) {
+                taken = cell.taken(own);
+            }
+            if let Some(cell) = cells.get(other) {
+                taken |= cell.taken(own);
+            }
+            let mask = at(masks, step, 0) & !places_of(taken);
+            put(&mut self.rows, step, row_of(mask, &[0; 8]));
+        }
+    }
+
+    // And for extras.
+    fn pay_extras(&mut self, net: &Net, strand: usize) {
         let (from, to) = range(net.index.extras.as_slice(), strand);
         for number in from..to {
             let extra = at(&self.extras, number, NO_EXTRA);
             pay(
                 &mut self.rows,
-                extra.layer as usize,
+                extra.step as usize,
                 extra.place as usize,
                 extra.scaled,
             );
         }
+    }
+
+    // What it costs a strand to be in memory at an end of a pair.
+    fn pair_cost(&self, span: &Span, step: usize, pair: usize, penalty: Penalty) -> u32 {
+        let Some(cell) = self.cells.pairs.get(pair) else {
+            return 0;
+        };
+        match penalty {
+            Penalty::Each(each) => charge(each, cell.count, cell.history),
+            Penalty::Closed => {
+                let own = u32::from(self.place(span, step) == MEMORY);
+                if cell.count > own { FAR } else { 0 }
+            }
+        }
+    }
+
+    // And for memory pairs.
+    fn pay_pairs(&mut self, net: &Net, strand: usize, span: &Span, penalty: Penalty) {
         let (from, to) = range(net.index.pairs.as_slice(), strand);
         for number in from..to {
             if let Some(end) = pair_end(net, number) {
-                let layer = (end.layer as usize).wrapping_sub(span.first());
-                if let Some(cell) = self.cells.pairs.get(end.pair as usize) {
-                    let more = penalty.pay(cell.count, cell.history);
-                    pay(&mut self.rows, layer, MEMORY, more);
-                }
+                let step = span.step_of((end.layer as usize).wrapping_sub(span.first()));
+                let more = self.pair_cost(span, step, end.pair as usize, penalty);
+                pay(&mut self.rows, step, MEMORY, more);
             }
         }
     }
@@ -120,100 +167,90 @@ impl Search {
         if !span.constant {
             return;
         }
-        let set = self.rate(span).set;
+        let set = self.ways(span).set;
         for r in 0..6usize {
             pay(&mut self.rows, 0, r, set);
             pay(&mut self.rows, 0, r.wrapping_add(8), set);
         }
     }
 
-    /// What is paid at each place of each layer of a strand.
+    /// What is paid at each place of each step of a strand.
     pub(crate) fn fill_rows(&mut self, net: &Net, strand: usize, penalty: Penalty) {
         let span = self.span(strand);
         self.visits = self.visits.saturating_add(span.len() as u64);
-        self.pay_registers(net, strand, &span, penalty);
-        self.pay_others(net, strand, &span, penalty);
+        match penalty {
+            Penalty::Closed => self.close_registers(&span),
+            Penalty::Each(each) => self.pay_registers(&span, each),
+        }
+        self.pay_extras(net, strand);
+        self.pay_pairs(net, strand, &span, penalty);
         self.pay_constant(&span);
     }
 
-    /// Closes all places of a layer but one.
-    pub(crate) fn fix(&mut self, layer: usize, place: Option<usize>) {
+    /// Closes all places of a step but one.
+    pub(crate) fn fix(&mut self, step: usize, place: Option<usize>) {
         if let Some(place) = place {
-            if let Some(row) = self.rows.get_mut(layer) {
+            if let Some(row) = self.rows.get_mut(step) {
                 close_others(row, place);
             }
         }
     }
 
     // What ways cost along a strand.
-    fn ways_back(&self, span: &Span) -> Ways {
+    fn ways(&self, span: &Span) -> Ways {
         match self.rates.get(span.depth() as usize) {
-            Some(rate) => rate.back,
+            Some(rate) => rate.ways,
             None => NO_WAYS,
         }
     }
 
-    // The same, turned around.
-    fn ways_forth(&self, span: &Span) -> Ways {
-        match self.rates.get(span.depth() as usize) {
-            Some(rate) => rate.forth,
-            None => NO_WAYS,
-        }
-    }
-
-    /// From what is paid at each layer to what is to be paid from there on.
+    /// From what is paid at each step to what is to be paid from there on.
     pub(crate) fn pay_back(&mut self, span: &Span) {
-        let ways = self.ways_back(span);
-        let mut behind = [0u32; 16];
-        for step in 0..span.len() {
-            let layer = span.len().wrapping_sub(step).wrapping_sub(1);
-            let coming = span.first().wrapping_add(layer).wrapping_add(1);
-            if step > 0 && coming % 2 == 1 {
-                behind = across(&ways, &behind);
-            }
-            if let Some(row) = self.rows.get_mut(layer) {
-                add(row, &behind);
-                behind = *row;
+        let ways = self.ways(span);
+        let mut later = [0; 16];
+        for number in 1..=span.steps() {
+            if let Some(row) = self.rows.get_mut(span.steps().wrapping_sub(number)) {
+                add(row, &before(&ways, &later));
+                later = *row;
             }
         }
     }
 
-    /// From what is paid at each layer to what is to be paid up to there.
+    /// From what is paid at each step to what is to be paid up to there.
     pub(crate) fn pay_forth(&mut self, span: &Span) {
-        let ways = self.ways_forth(span);
-        let mut before = [0u32; 16];
-        for layer in 0..span.len() {
-            if layer > 0 && span.first().wrapping_add(layer) % 2 == 1 {
-                before = across(&ways, &before);
-            }
-            if let Some(row) = self.rows.get_mut(layer) {
-                add(row, &before);
-                before = *row;
+        let ways = self.ways(span);
+        let mut earlier = [0; 16];
+        for step in 0..span.steps() {
+            if let Some(row) = self.rows.get_mut(step) {
+                add(row, &behind(&ways, &earlier));
+                earlier = *row;
             }
         }
     }
 
-    /// The costs of a layer.
-    pub(crate) fn row(&self, layer: usize) -> Row {
-        at(&self.rows, layer, [FAR; 16])
+    /// The costs of a step.
+    pub(crate) fn row(&self, step: usize) -> Row {
+        at(&self.rows, step, [FAR; 16])
     }
 
-    // Goes along a least path, by what is to be paid from each layer on.
+    // Goes along a least path, by what is to be paid from each step on.
     fn read_path(&mut self, span: &Span) {
-        let ways = self.ways_back(span);
+        let Some(rate) = self.rates.get(span.depth() as usize) else {
+            return;
+        };
         let turn = self.draws.below(14);
         let mut place = MEMORY;
-        for layer in 0..span.len() {
-            if let Some(row) = self.rows.get(layer) {
-                if layer == 0 {
-                    place = least_place(row, turn);
-                } else if span.first().wrapping_add(layer) % 2 == 1 {
-                    place = next_place(&ways, row, place, turn);
-                }
+        for step in 0..span.steps() {
+            if let Some(row) = self.rows.get(step) {
+                place = if step == 0 {
+                    least_place(row, turn)
+                } else {
+                    next_place(&rate.moves[place % 16], row, place, turn)
+                };
             }
             put(
                 &mut self.paths.now,
-                span.start().wrapping_add(layer),
+                span.start().wrapping_add(step),
                 byte(place),
             );
         }
@@ -230,9 +267,25 @@ impl Search {
         let span = self.span(strand);
         self.fill_rows(net, strand, penalty);
         self.fix(0, ends.0);
-        self.fix(span.len().wrapping_sub(1), ends.1);
+        self.fix(span.last_step(), ends.1);
         self.pay_back(&span);
         self.read_path(&span);
+    }
+
+    /// Gives a strand a cheaper path past all others that keeps its tied ends, if there is one.
+    pub(crate) fn settle_strand(&mut self, net: &Net, strand: usize) {
+        let span = self.span(strand);
+        let ends = self.end_places(&span);
+        self.fill_rows(net, strand, Penalty::Closed);
+        self.fix(0, ends.0);
+        self.fix(span.last_step(), ends.1);
+        self.pay_back(&span);
+        let least = u64::from(least_cost(&self.row(0)));
+        if least.saturating_mul(self.times(&span)) < self.worth(strand) {
+            self.release(net, strand);
+            self.read_path(&span);
+            self.take(net, strand);
+        }
     }
 
     /// Takes a strand out, gives it a least path that keeps its tied ends, and puts it back.

@@ -17,7 +17,7 @@ use std::alloc::Global;
 use std::marker::Model;
 
 // Visits of a round for each layer of each strand: each layer that a least path goes over is one.
-const VISITS: u64 = 50;
+const VISITS: u64 = 45;
 
 // Visits of a round at most, so that a round of the largest procedures ends in seconds.
 const MOST_VISITS: u64 = 100_000_000;
@@ -42,7 +42,7 @@ fn search_from<F: Fn(Event, u32) -> u32>(
 {
     search.begin(net, model, best, round);
     let before = search.paths.total;
-    let size = search.paths.now.len() as u64;
+    let size = search.layers;
     if round == 1 && VISITS_FROM_NOTHING.saturating_mul(size) <= MOST_VISITS {
         search.negotiate(net);
     }

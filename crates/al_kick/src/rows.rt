@@ -5,7 +5,8 @@
 // go elsewhere; beside that a value may stay in its register.
 
 use crate::lists::at;
-use crate::rates::{Onward, Ways};
+use crate::rates::Ways;
+use pra_base::Mask;
 
 /// What is paid at a place that is closed. No path pays more: sums end here.
 pub(crate) const FAR: u32 = 1 << 30;
@@ -24,15 +25,6 @@ pub(crate) fn has_register(place: usize) -> bool {
     place != MEMORY && place != CONSTANT
 }
 
-// The least of the six costs from a place on.
-fn least_of_six(row: &Row, first: usize) -> u32 {
-    let mut least = u32::MAX;
-    for register in 0..6usize {
-        least = least.min(at(row, first.wrapping_add(register), u32::MAX));
-    }
-    least
-}
-
 /// The least of all costs.
 pub(crate) fn least_cost(row: &Row) -> u32 {
     let mut least = u32::MAX;
@@ -42,66 +34,114 @@ pub(crate) fn least_cost(row: &Row) -> u32 {
     least
 }
 
-fn onward(by: &Onward, alone: u32, both: u32, memory: u32, constant: u32) -> u32 {
-    let registers = by.alone.wrapping_add(alone).min(by.both.wrapping_add(both));
-    let others = by
-        .memory
-        .wrapping_add(memory)
-        .min(by.constant.wrapping_add(constant));
-    registers.min(others)
+// Of eight places from the first on, those of registers.
+const ARE_REGISTERS: [u32; 8] = [0, 0, 0, 0, 0, 0, FAR, FAR];
+
+// The least costs of registers alone and of both places.
+fn least_of_registers(row: &Row) -> (u32, u32) {
+    let mut alone = FAR;
+    let mut both = FAR;
+    for r in 0..8usize {
+        alone = alone.min(row[r].max(ARE_REGISTERS[r]));
+        both = both.min(row[8 + r]);
+    }
+    (alone, both)
 }
 
 /// What is to be paid before a crossbar, from what is to be paid behind it.
-pub(crate) fn across(ways: &Ways, row: &Row) -> Row {
-    let alone = least_of_six(row, 0);
-    let both = least_of_six(row, 8);
-    let memory = row[MEMORY];
-    let constant = row[CONSTANT];
-    let from_alone = onward(&ways.alone, alone, both, memory, constant);
-    let from_both = onward(&ways.both, alone, both, memory, constant);
-    let mut before = [FAR; 16];
+pub(crate) fn before(ways: &Ways, row: &Row) -> Row {
+    let (alone, both) = least_of_registers(row);
+    let (memory, constant) = (row[MEMORY], row[CONSTANT]);
+    let nearer = alone.min(both);
+    let other = memory.min(constant);
+    let stored = memory.wrapping_add(ways.store).min(constant);
+    let alone = alone.min(both.wrapping_add(ways.store));
+    let a = ways.between.wrapping_add(alone).min(stored);
+    let b = ways.between.wrapping_add(nearer).min(other);
+    let m = ways.load.wrapping_add(nearer).min(other);
+    let c = ways.set.wrapping_add(alone).min(stored);
+    let goes = [a, a, a, a, a, a, m, c];
+    let mut all = [FAR; 16];
     for r in 0..8usize {
-        let stays = row[r].min(row[8 + r].wrapping_add(ways.up));
-        before[r] = from_alone.min(stays);
-        let leaves = row[8 + r].min(row[r].wrapping_add(ways.down));
-        before[8 + r] = from_both.min(leaves);
+        let stays = row[r].min(row[8 + r].wrapping_add(ways.store));
+        all[r] = stays.min(goes[r]);
+        all[8 + r] = row[r].min(row[8 + r]).min(b);
     }
-    before[MEMORY] = onward(&ways.memory, alone, both, memory, constant);
-    before[CONSTANT] = onward(&ways.constant, alone, both, memory, constant);
-    before
+    all
 }
 
-// The ways that begin at a place.
-fn ways_from(ways: &Ways, place: usize) -> Onward {
-    if place == MEMORY {
-        ways.memory
-    } else if place == CONSTANT {
-        ways.constant
-    } else if place < MEMORY {
-        ways.alone
-    } else {
-        ways.both
+/// What is to be paid up to behind a crossbar, from what is to be paid up to before it.
+pub(crate) fn behind(ways: &Ways, row: &Row) -> Row {
+    let (alone, both) = least_of_registers(row);
+    let (memory, constant) = (row[MEMORY], row[CONSTANT]);
+    let set = constant.wrapping_add(ways.set);
+    let loaded = memory.wrapping_add(ways.load);
+    let stored = alone.min(constant).wrapping_add(ways.store);
+    let moved = alone.min(both).wrapping_add(ways.between);
+    let a = moved.min(loaded).min(set);
+    let and_stored = alone
+        .wrapping_add(ways.between)
+        .min(set)
+        .wrapping_add(ways.store);
+    let b = both.wrapping_add(ways.between).min(loaded).min(and_stored);
+    let m = stored.min(both).min(memory);
+    let c = alone.min(both).min(memory).min(constant);
+    let goes = [a, a, a, a, a, a, m, c];
+    let mut all = [FAR; 16];
+    for r in 0..8usize {
+        all[r] = row[r].min(row[8 + r]).min(goes[r]);
+        let stays = row[8 + r].min(row[r].wrapping_add(ways.store));
+        all[8 + r] = stays.min(b);
     }
+    all
 }
 
 /// What a way costs from a place to another.
 pub(crate) fn way(ways: &Ways, from: usize, to: usize) -> u32 {
-    if from == to {
-        return 0;
-    }
-    if has_register(from) && from % 8 == to % 8 {
-        return if from < 8 { ways.up } else { ways.down };
-    }
-    let by = ways_from(ways, from);
-    if to == MEMORY {
-        by.memory
-    } else if to == CONSTANT {
-        by.constant
-    } else if to < MEMORY {
-        by.alone
+    let stored = if to == MEMORY || to > CONSTANT {
+        ways.store
     } else {
-        by.both
+        0
+    };
+    if from == to || to == CONSTANT {
+        0
+    } else if from == MEMORY {
+        ways.load
+    } else if from == CONSTANT {
+        if to == MEMORY {
+            ways.store
+        } else {
+            ways.set.wrapping_add(stored)
+        }
+    } else if from % 8 == to % 8 || to == MEMORY {
+        if from < 8 { stored } else { 0 }
+    } else if from < 8 {
+        ways.between.wrapping_add(stored)
+    } else {
+        ways.between
     }
+}
+
+// The places, as sets.
+const SETS: [u32; 16] = [
+    0x1, 0x2, 0x4, 0x8, 0x10, 0x20, 0x40, 0x80, 0x100, 0x200, 0x400, 0x800, 0x1000, 0x2000, 0x4000,
+    0x8000,
+];
+
+/// What is paid at the places of a mask, by what is paid for the registers. The two numbers behind
+/// those of the six registers are 0, as memory and the constant itself cost nothing there.
+pub(crate) fn row_of(mask: Mask, costs: &[u32; 8]) -> Row {
+    let mask = u32::from(mask);
+    let mut row = [FAR; 16];
+    for r in 0..8usize {
+        row[r] = if mask & SETS[r] == 0 { FAR } else { costs[r] };
+        row[8 + r] = if mask & SETS[8 + r] == 0 {
+            FAR
+        } else {
+            costs[r]
+        };
+    }
+    row
 }
 
 /// Adds costs, place by place.
@@ -132,36 +172,24 @@ fn turned(turn: usize, step: usize) -> usize {
 
 /// The place of the least cost, the first of these from a place on.
 pub(crate) fn least_place(row: &Row, turn: usize) -> usize {
-    let mut best = MEMORY;
-    let mut least = u32::MAX;
+    let least = least_cost(row);
     for step in 0..14usize {
         let place = turned(turn, step);
-        let cost = at(row, place, FAR);
-        if cost < least {
-            least = cost;
-            best = place;
+        if at(row, place, FAR) == least {
+            return place;
         }
     }
-    best
+    MEMORY
 }
 
-/// Where it costs least to go on from a place: to stay, or the first of these from a place on.
-pub(crate) fn next_place(ways: &Ways, row: &Row, from: usize, turn: usize) -> usize {
-    let mut best = from;
-    let mut least = at(row, from, FAR);
-    if least <= least_cost(row) {
-        return from;
+/// Where it costs least to go on from a place, when ways from there cost so much: to stay, or the
+/// first of these from a place on.
+pub(crate) fn next_place(moves: &Row, row: &Row, from: usize, turn: usize) -> usize {
+    let mut whole = *row;
+    add(&mut whole, moves);
+    if at(&whole, from, FAR) == least_cost(&whole) {
+        from
+    } else {
+        least_place(&whole, turn)
     }
-    for step in 0..14usize {
-        let place = turned(turn, step);
-        let cost = at(row, place, FAR);
-        if cost < least {
-            let whole = cost.wrapping_add(way(ways, from, place));
-            if whole < least {
-                least = whole;
-                best = place;
-            }
-        }
-    }
-    best
 }

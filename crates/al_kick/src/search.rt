@@ -11,12 +11,12 @@ use crate::rows::{Row, least_cost};
 use crate::spans::{NO_SPAN, Span, sizes, spans_of};
 use net_cost::{CostModel, Event};
 use net_form::{Extra, Net, Routes};
-use pra_base::OutOfMemory;
+use pra_base::{Mask, OutOfMemory};
 use std::alloc::{AllocError, Global};
 
-/// Paths of all strands, one behind the other, as numbers of places: those now, and those that were
-/// kept last. What each strand pays now, what it would pay at least if it were alone, and what all
-/// of them pay, in units.
+/// Paths of all strands, one behind the other, as numbers of the places at their steps: those now,
+/// and those that were kept last. What each strand pays now, what it would pay at least if it were
+/// alone, and what all of them pay, in units.
 #[derive(Drop)]
 pub(crate) struct Paths {
     pub now: Vec<u8>,
@@ -47,13 +47,23 @@ pub(crate) struct Log {
     pub list: Numbers,
     pub is_listed: Marks,
     pub groups: Marks,
+    pub asked: Marks,
 }
 
-/// What a place costs more at a layer of a strand, in units and in scaled ones; layers from the
+impl Log {
+    /// Notes that a strand overlaps with others.
+    pub(crate) fn note_overlap(&mut self, strand: usize) {
+        if self.is_next.add(strand) {
+            self.next.push(strand);
+        }
+    }
+}
+
+/// What a place costs more at a step of a strand, in units and in scaled ones; steps from the
 /// strand's first on.
 #[derive(Clone, Copy)]
 pub(crate) struct ExtraCost {
-    pub layer: u32,
+    pub step: u32,
     pub place: u8,
     pub units: u64,
     pub scaled: u32,
@@ -61,16 +71,19 @@ pub(crate) struct ExtraCost {
 
 /// Nothing more.
 pub(crate) const NO_EXTRA: ExtraCost = ExtraCost {
-    layer: 0,
+    step: 0,
     place: 0,
     units: 0,
     scaled: 0,
 };
 
-/// Room for a search on one network.
+/// Room for a search on one network: among others where strands may be at each of their steps, and
+/// how many layers they have together.
 #[derive(Drop)]
 pub struct Search {
     pub(crate) spans: Vec<Span>,
+    pub(crate) masks: Vec<Mask>,
+    pub(crate) layers: u64,
     pub(crate) rates: Vec<Rate>,
     pub(crate) extras: Vec<ExtraCost>,
     pub(crate) rows: Vec<Row>,
@@ -82,10 +95,10 @@ pub struct Search {
     pub(crate) visits: u64,
 }
 
-fn paths_of(alloc: Global, total: usize, strands: usize) -> Result<Paths, AllocError> {
+fn paths_of(alloc: Global, steps: usize, strands: usize) -> Result<Paths, AllocError> {
     Ok(Paths {
-        now: vec![in alloc; 6; total]?,
-        kept: vec![in alloc; 6; total]?,
+        now: vec![in alloc; 6; steps]?,
+        kept: vec![in alloc; 6; steps]?,
         worth: vec![in alloc; 0; strands]?,
         floor: vec![in alloc; 0; strands]?,
         total: 0,
@@ -111,7 +124,30 @@ fn log_of(alloc: Global, strands: usize, groups: usize) -> Result<Log, AllocErro
         list: Numbers::reserve(alloc, strands)?,
         is_listed: Marks::reserve(alloc, strands)?,
         groups: Marks::reserve(alloc, groups)?,
+        asked: Marks::reserve(alloc, strands)?,
     })
+}
+
+// Where each strand may be at each of its steps: where it may be at all layers there.
+fn masks_of(
+    alloc: Global,
+    net: &Net,
+    spans: &[Span],
+    steps: usize,
+) -> Result<Vec<Mask>, AllocError> {
+    let mut masks = vec![in alloc; Mask::MAX; steps]?;
+    for number in 0..spans.len() {
+        let span = at(spans, number, NO_SPAN);
+        if let Some(strand) = net.strands.get(number) {
+            for layer in 0..span.len() {
+                let to = span.start().wrapping_add(span.step_of(layer));
+                let mask = at(strand.masks.as_slice(), layer, 0);
+                let others = at(&masks, to, 0);
+                put(&mut masks, to, others & mask);
+            }
+        }
+    }
+    Ok(masks)
 }
 
 impl Search {
@@ -122,15 +158,17 @@ impl Search {
     /// Where there is no memory for it.
     pub fn reserve(alloc: Global, net: &Net) -> Result<Search, OutOfMemory> {
         let spans = spans_of(alloc, net)?;
-        let (total, longest) = sizes(&spans);
+        let (layers, steps, longest) = sizes(&spans);
         let strands = spans.len();
         let groups = net.groups as usize;
         Ok(Search {
+            masks: masks_of(alloc, net, &spans, steps)?,
+            layers: layers as u64,
             spans,
             rates: vec![in alloc; NO_RATE; 6]?,
             extras: vec![in alloc; NO_EXTRA; net.extras.len()]?,
             rows: vec![in alloc; [0; 16]; longest]?,
-            paths: paths_of(alloc, total, strands)?,
+            paths: paths_of(alloc, steps, strands)?,
             cells: Cells::reserve(alloc, net)?,
             piece: piece_of(alloc, strands, groups)?,
             log: log_of(alloc, strands, groups)?,
@@ -143,8 +181,12 @@ impl Search {
         at(&self.spans, strand, NO_SPAN)
     }
 
-    pub(crate) fn rate(&self, span: &Span) -> Rate {
-        at(&self.rates, span.depth() as usize, NO_RATE)
+    /// How many units a scaled unit is where a strand is.
+    pub(crate) fn times(&self, span: &Span) -> u64 {
+        match self.rates.get(span.depth() as usize) {
+            Some(rate) => rate.times,
+            None => 1,
+        }
     }
 
     pub(crate) fn worth(&self, strand: usize) -> u64 {
@@ -157,15 +199,15 @@ impl Search {
             .saturating_sub(at(&self.paths.floor, strand, 0))
     }
 
-    /// Where a strand is now, by the number of its layer from its first on.
-    pub(crate) fn place(&self, span: &Span, layer: usize) -> usize {
-        at(&self.paths.now, span.start().wrapping_add(layer), 6) as usize
+    /// Where a strand is now, by the number of its step from its first on.
+    pub(crate) fn place(&self, span: &Span, step: usize) -> usize {
+        at(&self.paths.now, span.start().wrapping_add(step), 6) as usize
     }
 
     /// Where a strand is tied at its entry and at its exit, if it is.
     pub(crate) fn end_places(&self, span: &Span) -> (Option<usize>, Option<usize>) {
-        let first = at(&self.paths.now, span.start(), 6) as usize;
-        let last = at(&self.paths.now, span.last(), 6) as usize;
+        let first = self.place(span, 0);
+        let last = self.place(span, span.last_step());
         (
             span.entry().is_some().then_some(first),
             span.exit().is_some().then_some(last),
@@ -187,11 +229,12 @@ impl Search {
     {
         let span = self.span(extra.strand as usize);
         let units = price(model, extra.event, span.depth());
+        let layer = extra.layer.wrapping_sub(span.first);
         ExtraCost {
-            layer: extra.layer.wrapping_sub(span.first),
+            step: u32::try_from(span.step_of(layer as usize)).unwrap_or(u32::MAX),
             place: extra.place.number(),
             units,
-            scaled: scaled(units, self.rate(&span).times),
+            scaled: scaled(units, self.times(&span)),
         }
     }
 
@@ -211,10 +254,10 @@ impl Search {
     fn learn_floors(&mut self, net: &Net) {
         for strand in 0..self.spans.len() {
             let span = self.span(strand);
-            self.fill_rows(net, strand, Penalty::closed());
+            self.fill_rows(net, strand, Penalty::Closed);
             self.pay_back(&span);
             let least = u64::from(least_cost(&self.row(0)));
-            let floor = least.saturating_mul(self.rate(&span).times);
+            let floor = least.saturating_mul(self.times(&span));
             put(&mut self.paths.floor, strand, floor);
         }
     }
@@ -226,9 +269,10 @@ impl Search {
             let Some(path) = routes.places.get(strand) else {
                 return;
             };
-            for layer in 0..span.len() {
+            for step in 0..span.steps() {
+                let (layer, _) = span.layers_of(step);
                 if let Some(place) = path.get(layer) {
-                    let to = span.start().wrapping_add(layer);
+                    let to = span.start().wrapping_add(step);
                     put(&mut self.paths.now, to, place.number());
                     put(&mut self.paths.kept, to, place.number());
                 }
@@ -273,12 +317,33 @@ impl Search {
     pub(crate) fn keep_changed(&mut self) {
         for number in 0..self.log.changed.count() {
             let span = self.span(self.log.changed.at(number));
-            for layer in 0..span.len() {
-                let from = span.start().wrapping_add(layer);
+            for step in 0..span.steps() {
+                let from = span.start().wrapping_add(step);
                 let place = at(&self.paths.now, from, 6);
                 put(&mut self.paths.kept, from, place);
             }
         }
+    }
+
+    /// Whether a strand has another path than before the kick.
+    pub(crate) fn is_changed(&self) -> bool {
+        for number in 0..self.log.changed.count() {
+            if self.differs(&self.span(self.log.changed.at(number))) {
+                return true;
+            }
+        }
+        false
+    }
+
+    // Whether a strand has another path than the one that was kept.
+    fn differs(&self, span: &Span) -> bool {
+        for step in 0..span.steps() {
+            let number = span.start().wrapping_add(step);
+            if at(&self.paths.now, number, 6) != at(&self.paths.kept, number, 6) {
+                return true;
+            }
+        }
+        false
     }
 
     /// Gives the changed strands back the paths that were kept.
@@ -286,9 +351,12 @@ impl Search {
         for number in 0..self.log.changed.count() {
             let strand = self.log.changed.at(number);
             let span = self.span(strand);
+            if !self.differs(&span) {
+                continue;
+            }
             self.release(net, strand);
-            for layer in 0..span.len() {
-                let from = span.start().wrapping_add(layer);
+            for step in 0..span.steps() {
+                let from = span.start().wrapping_add(step);
                 let place = at(&self.paths.kept, from, 6);
                 put(&mut self.paths.now, from, place);
             }

@@ -4,7 +4,6 @@
 // Nothing is promised of it: routes that are chosen at last are settled as a whole.
 
 use crate::lists::at;
-use crate::reroute::Penalty;
 use crate::rows::{CONSTANT, MEMORY};
 use crate::search::Search;
 use crate::spans::{Span, range};
@@ -19,9 +18,9 @@ const MOST_PASSES: u32 = 20;
 impl Search {
     // Whether the cell of a place that a strand had at a layer is free now.
     fn is_freed(&self, span: &Span, layer: usize) -> bool {
-        let from = span.start().wrapping_add(layer);
+        let from = span.start().wrapping_add(span.step_of(layer));
         let old = at(&self.paths.kept, from, 6) as usize;
-        if old == self.place(span, layer) || old == CONSTANT {
+        if old == self.place(span, span.step_of(layer)) || old == CONSTANT {
             return false;
         }
         old == MEMORY || self.cells.count(span.layer().wrapping_add(layer), old) == 0
@@ -70,25 +69,30 @@ impl Search {
         for number in 0..self.log.list.count() {
             let strand = self.log.list.at(number);
             if self.excess(strand) > 0 {
-                self.reroute(net, strand, Penalty::closed());
+                self.settle_strand(net, strand);
             }
         }
     }
 
-    // Settles a tie group of a strand that pays.
+    // Settles a tie group of a strand that pays, unless it was asked since anything changed.
     fn settle_group(&mut self, net: &Net, strand: usize, group: Option<usize>) {
         if self.excess(strand) == 0 {
             return;
         }
         if let Some(group) = group {
-            self.begin_piece();
-            self.add_group(net, group);
-            self.settle_piece(net);
+            if self.log.groups.add(group) {
+                self.begin_piece();
+                self.add_group(net, group);
+                if self.settle_piece(net) {
+                    self.log.groups.clear();
+                }
+            }
         }
     }
 
     // Settles the tie groups of the strands of the list.
     fn settle_groups(&mut self, net: &Net) {
+        self.log.groups.clear();
         for number in 0..self.log.list.count() {
             let strand = self.log.list.at(number);
             let span = self.span(strand);
@@ -97,26 +101,30 @@ impl Search {
         }
     }
 
-    // How many layers the strands of the piece have.
-    fn piece_size(&self) -> usize {
-        let mut size = 0usize;
-        for number in 0..self.piece.strands.count() {
-            size = size.saturating_add(self.span(self.piece.strands.at(number)).len());
+    // Settles the variable of a strand, if it has no more layers than this, unless it was asked
+    // since anything changed.
+    fn settle_variable(&mut self, net: &Net, strand: usize, most: usize) {
+        if self.log.asked.has(strand) || !self.gather_small(net, strand, most) {
+            return;
         }
-        size
+        if self.settle_piece(net) {
+            self.log.asked.clear();
+            return;
+        }
+        for number in 0..self.piece.strands.count() {
+            self.log.asked.add(self.piece.strands.at(number));
+        }
     }
 
     // Settles the variables of the strands of the list, if they have no more layers than this.
     fn settle_variables(&mut self, net: &Net, most: usize) {
+        self.log.asked.clear();
         for number in 0..self.log.list.count() {
             let strand = self.log.list.at(number);
             let span = self.span(strand);
             let is_tied = span.entry().is_some() || span.exit().is_some();
             if is_tied && self.excess(strand) > 0 {
-                self.gather(net, strand, usize::MAX);
-                if self.piece_size() <= most {
-                    self.settle_piece(net);
-                }
+                self.settle_variable(net, strand, most);
             }
         }
     }

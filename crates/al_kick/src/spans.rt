@@ -1,4 +1,8 @@
 // Where each strand lies, among the places of all strands and the layers of all blocks.
+//
+// Only crossbars lead from place to place, and they lie before layers of odd number. A step is what
+// lies between two of them, the layers 2k - 1 and 2k of a block, as far as a strand has them: it has
+// one place there, so paths and costs go by steps. Who shares a register is asked for each layer.
 
 use crate::lists::at;
 use net_form::{Net, Strand};
@@ -7,12 +11,13 @@ use std::alloc::{AllocError, Global};
 // The number of no tie group.
 const NO_GROUP: u32 = u32::MAX;
 
-/// A strand: its number of layers, the first one, in its block and over all blocks, where its
-/// places begin among those of all strands, its block and the tie groups at its ends.
+/// A strand: its number of layers and of steps, the first layer, in its block and over all blocks,
+/// where its places begin among those of all strands, its block and the tie groups at its ends.
 #[derive(Clone, Copy)]
 pub(crate) struct Span {
     start: u32,
     len: u32,
+    steps: u32,
     pub first: u32,
     layer: u32,
     block: u32,
@@ -31,6 +36,38 @@ impl Span {
     /// How many layers it has.
     pub fn len(&self) -> usize {
         self.len as usize
+    }
+
+    /// How many steps it has.
+    pub fn steps(&self) -> usize {
+        self.steps as usize
+    }
+
+    /// The step of a layer, both counted from its first ones on.
+    pub fn step_of(&self, layer: usize) -> usize {
+        layer.wrapping_add(self.shift()) / 2
+    }
+
+    /// From which layer on to which one a step goes, counted from its first ones on.
+    pub fn layers_of(&self, step: usize) -> (usize, usize) {
+        let double = step.wrapping_mul(2);
+        let to = double.wrapping_add(2).wrapping_sub(self.shift());
+        (double.saturating_sub(self.shift()), to.min(self.len()))
+    }
+
+    /// The two layers that a step may have, counted from its first ones on; one that it has not is
+    /// none of the strand's.
+    pub fn pair_of(&self, step: usize) -> (usize, usize) {
+        let other = step
+            .wrapping_mul(2)
+            .wrapping_add(1)
+            .wrapping_sub(self.shift());
+        (other.wrapping_sub(1), other)
+    }
+
+    // 1 where its first layer is alone in its step, as a layer of even number is.
+    fn shift(&self) -> usize {
+        self.first().wrapping_add(1) % 2
     }
 
     /// Its first layer in the block.
@@ -67,9 +104,9 @@ impl Span {
         self.first().wrapping_add(self.len())
     }
 
-    /// Where its last place lies among those of all strands.
-    pub fn last(&self) -> usize {
-        self.start().wrapping_add(self.len()).wrapping_sub(1)
+    /// Its last step.
+    pub fn last_step(&self) -> usize {
+        self.steps().wrapping_sub(1)
     }
 }
 
@@ -77,6 +114,7 @@ impl Span {
 pub(crate) const NO_SPAN: Span = Span {
     start: 0,
     len: 0,
+    steps: 0,
     first: 0,
     layer: 0,
     block: 0,
@@ -90,6 +128,16 @@ fn group_of(number: u32) -> Option<usize> {
     (number != NO_GROUP).then_some(number as usize)
 }
 
+// How many steps so many layers have.
+fn steps_of(first: u32, len: u32) -> u32 {
+    if len == 0 {
+        return 0;
+    }
+    let before = first.wrapping_add(1) / 2;
+    let through = first.wrapping_add(len) / 2;
+    through.wrapping_sub(before).wrapping_add(1)
+}
+
 fn span_of(net: &Net, strand: &Strand, start: u32) -> Span {
     let block = strand.block.0;
     let entry_layer = at(net.index.layers.as_slice(), block as usize, 0);
@@ -97,9 +145,11 @@ fn span_of(net: &Net, strand: &Strand, start: u32) -> Span {
         Some(block) => block.depth,
         None => 0,
     };
+    let len = u32::try_from(strand.masks.len()).unwrap_or(0);
     Span {
         start,
-        len: u32::try_from(strand.masks.len()).unwrap_or(0),
+        len,
+        steps: steps_of(strand.first, len),
         first: strand.first,
         layer: entry_layer.wrapping_add(strand.first),
         block,
@@ -116,21 +166,23 @@ pub(crate) fn spans_of(alloc: Global, net: &Net) -> Result<Vec<Span>, AllocError
     let mut start = 0u32;
     for strand in net.strands.as_slice() {
         let span = span_of(net, strand, start);
-        start = start.wrapping_add(span.len);
+        start = start.wrapping_add(span.steps);
         spans.push(span)?;
     }
     Ok(spans)
 }
 
-/// How many layers all strands have, and how many the longest one.
-pub(crate) fn sizes(spans: &[Span]) -> (usize, usize) {
-    let mut total = 0usize;
+/// How many layers all strands have, how many steps, and how many steps the longest one.
+pub(crate) fn sizes(spans: &[Span]) -> (usize, usize, usize) {
+    let mut layers = 0usize;
+    let mut steps = 0usize;
     let mut longest = 0usize;
     for span in spans {
-        total = total.wrapping_add(span.len());
-        longest = longest.max(span.len());
+        layers = layers.wrapping_add(span.len());
+        steps = steps.wrapping_add(span.steps());
+        longest = longest.max(span.steps());
     }
-    (total, longest)
+    (layers, steps, longest)
 }
 
 /// From where to where the numbers lie that belong to a strand, a block or a tie group.

@@ -1,9 +1,9 @@
 // One strand leaves its cells and comes to others, and what its path costs.
 
-use crate::congestion::Met;
+use crate::congestion::{Cell, Met};
 use crate::lists::{at, put};
 use crate::rates::Rate;
-use crate::rows::{MEMORY, has_register, way};
+use crate::rows::{MEMORY, has_register};
 use crate::search::{NO_EXTRA, Search};
 use crate::spans::{Span, range};
 use net_form::{MemPair, Net, PairEnd};
@@ -11,7 +11,7 @@ use net_form::{MemPair, Net, PairEnd};
 // Whether a strand is in memory at an end of a pair.
 fn is_in_memory(search: &Search, span: &Span, end: PairEnd) -> bool {
     let layer = (end.layer as usize).wrapping_sub(span.first());
-    search.place(span, layer) == MEMORY
+    search.place(span, span.step_of(layer)) == MEMORY
 }
 
 // The number of a strand as cells sum them up.
@@ -25,27 +25,13 @@ pub(crate) fn pair_end(net: &Net, number: usize) -> Option<PairEnd> {
 }
 
 impl Search {
-    /// Notes that a strand overlaps with others.
-    pub(crate) fn note_overlap(&mut self, strand: usize) {
-        if self.log.is_next.add(strand) {
-            self.log.next.push(strand);
-        }
-    }
-
     /// A strand leaves the cells of its path.
     pub(crate) fn release(&mut self, net: &Net, strand: usize) {
         if self.log.is_changed.add(strand) {
             self.log.changed.push(strand);
         }
         let span = self.span(strand);
-        let number = short(strand);
-        for layer in 0..span.len() {
-            let place = self.place(&span, layer);
-            if has_register(place) {
-                self.cells
-                    .leave(span.layer().wrapping_add(layer), place, number);
-            }
-        }
+        self.leave_registers(strand, &span);
         let (from, to) = range(net.index.pairs.as_slice(), strand);
         for number in from..to {
             if let Some(end) = pair_end(net, number) {
@@ -57,35 +43,59 @@ impl Search {
         self.paths.total = self.paths.total.wrapping_sub(self.worth(strand));
     }
 
-    // A strand comes to the registers of its path, and says whether it meets others there.
-    fn enter_registers(&mut self, strand: usize, span: &Span) -> bool {
+    // A strand leaves the registers of its path.
+    fn leave_registers(&mut self, strand: usize, span: &Span) {
         let number = short(strand);
-        let mut meets = false;
-        for layer in 0..span.len() {
-            let place = self.place(span, layer);
+        let mut left = 0u64;
+        for step in 0..span.steps() {
+            let place = at(&self.paths.now, span.start().wrapping_add(step), 6) as usize;
             if !has_register(place) {
                 continue;
             }
-            match self
-                .cells
-                .enter(span.layer().wrapping_add(layer), place, number)
-            {
-                Met::Nobody => {}
-                Met::One(other) => {
-                    self.note_overlap(other as usize);
-                    meets = true;
+            let (from, to) = span.layers_of(step);
+            for layer in from..to {
+                let layer = span.layer().wrapping_add(layer);
+                if let Some(cell) = self.cells.layers.get_mut(layer) {
+                    left = left.wrapping_add(u64::from(cell.leave(place, number)));
                 }
-                Met::Several => meets = true,
             }
         }
-        meets
+        self.cells.overlaps = self.cells.overlaps.wrapping_sub(left);
+    }
+
+    // A strand comes to the registers of its path, and says whether it meets others there.
+    fn enter_registers(&mut self, strand: usize, span: &Span) -> bool {
+        let number = short(strand);
+        let mut met = 0u64;
+        for step in 0..span.steps() {
+            let place = at(&self.paths.now, span.start().wrapping_add(step), 6) as usize;
+            if !has_register(place) {
+                continue;
+            }
+            let (from, to) = span.layers_of(step);
+            for layer in from..to {
+                let layer = span.layer().wrapping_add(layer);
+                if let Some(cell) = self.cells.layers.get_mut(layer) {
+                    match cell.enter(place, number) {
+                        Met::Nobody => {}
+                        Met::One(other) => {
+                            self.log.note_overlap(other as usize);
+                            met = met.wrapping_add(1);
+                        }
+                        Met::Several => met = met.wrapping_add(1),
+                    }
+                }
+            }
+        }
+        self.cells.overlaps = self.cells.overlaps.wrapping_add(met);
+        met > 0
     }
 
     // Notes both ends of a pair.
     fn note_pair(&mut self, pair: Option<&MemPair>) {
         if let Some(pair) = pair {
-            self.note_overlap(pair.left as usize);
-            self.note_overlap(pair.right as usize);
+            self.log.note_overlap(pair.left as usize);
+            self.log.note_overlap(pair.right as usize);
         }
     }
 
@@ -105,7 +115,7 @@ impl Search {
     pub(crate) fn take(&mut self, net: &Net, strand: usize) {
         let span = self.span(strand);
         if self.enter_registers(strand, &span) {
-            self.note_overlap(strand);
+            self.log.note_overlap(strand);
         }
         self.enter_pairs(net, strand, &span);
         let worth = self
@@ -129,24 +139,40 @@ impl Search {
         let (from, to) = range(net.index.extras.as_slice(), strand);
         for number in from..to {
             let extra = at(&self.extras, number, NO_EXTRA);
-            if self.place(span, extra.layer as usize) == extra.place as usize {
+            if self.place(span, extra.step as usize) == extra.place as usize {
                 cost = cost.wrapping_add(extra.units);
             }
         }
         cost
     }
 
+    // Whether a strand overlaps with others in a register at a step, whose cells are among these.
+    fn is_crowded(&self, span: &Span, cells: &[Cell], step: usize) -> bool {
+        let place = self.place(span, step);
+        if !has_register(place) {
+            return false;
+        }
+        let (one, other) = span.pair_of(step);
+        for layer in [one, other] {
+            if let Some(cell) = cells.get(layer) {
+                if cell.is_crowded(place) {
+                    return true;
+                }
+            }
+        }
+        false
+    }
+
     /// Whether a strand overlaps with others, and whether it does where it is tied.
     pub(crate) fn overlaps(&self, net: &Net, strand: usize) -> (bool, bool) {
         let span = self.span(strand);
+        let cells = self.cells.of(span.layer(), span.len());
         let mut anywhere = false;
         let mut tied = false;
-        for layer in 0..span.len() {
-            let place = self.place(&span, layer);
-            let cell = span.layer().wrapping_add(layer);
-            if has_register(place) && self.cells.count(cell, place) > 1 {
+        for step in 0..span.steps() {
+            if self.is_crowded(&span, cells, step) {
                 anywhere = true;
-                tied = tied || is_tied_at(&span, layer);
+                tied = tied || is_tied_at(&span, step);
             }
         }
         let (from, to) = range(net.index.pairs.as_slice(), strand);
@@ -156,7 +182,7 @@ impl Search {
                 if both && is_in_memory(self, &span, end) {
                     let layer = (end.layer as usize).wrapping_sub(span.first());
                     anywhere = true;
-                    tied = tied || is_tied_at(&span, layer);
+                    tied = tied || is_tied_at(&span, span.step_of(layer));
                 }
             }
         }
@@ -167,7 +193,7 @@ impl Search {
     pub(crate) fn heat_path(&mut self, strand: usize, more: u32) {
         let span = self.span(strand);
         for layer in 0..span.len() {
-            let place = self.place(&span, layer);
+            let place = self.place(&span, span.step_of(layer));
             if has_register(place) {
                 self.cells
                     .heat(span.layer().wrapping_add(layer), place, more);
@@ -175,16 +201,25 @@ impl Search {
         }
     }
 
+    // The registers of a path in which it overlaps with others cost more from now on.
+    fn heat_registers(&mut self, strand: usize, more: u32) {
+        let span = self.span(strand);
+        for step in 0..span.steps() {
+            let place = self.place(&span, step);
+            if has_register(place) {
+                let (from, to) = span.layers_of(step);
+                for layer in from..to {
+                    let layer = span.layer().wrapping_add(layer);
+                    self.cells.heat_crowded(layer, place, more);
+                }
+            }
+        }
+    }
+
     /// Those cells of a path at which it overlaps with others cost more from now on.
     pub(crate) fn heat_overlaps(&mut self, net: &Net, strand: usize, more: u32) {
         let span = self.span(strand);
-        for layer in 0..span.len() {
-            let place = self.place(&span, layer);
-            let cell = span.layer().wrapping_add(layer);
-            if has_register(place) && self.cells.count(cell, place) > 1 {
-                self.cells.heat(cell, place, more);
-            }
-        }
+        self.heat_registers(strand, more);
         let (from, to) = range(net.index.pairs.as_slice(), strand);
         for number in from..to {
             if let Some(end) = pair_end(net, number) {
@@ -199,23 +234,30 @@ impl Search {
 
 // What the ways of a path cost, in scaled units.
 fn ways_cost(search: &Search, rate: &Rate, span: &Span) -> u64 {
-    let mut from = search.place(span, 0);
+    let start = span.start();
+    let Some(path) = search
+        .paths
+        .now
+        .get(start..start.wrapping_add(span.steps()))
+    else {
+        return 0;
+    };
+    let mut from = at(path, 0, 6);
     let mut cost = 0u64;
-    if span.constant && has_register(from) {
-        cost = u64::from(rate.set);
+    if span.constant && has_register(from as usize) {
+        cost = u64::from(rate.ways.set);
     }
-    for layer in 1..span.len() {
-        let to = search.place(span, layer);
-        if to != from {
-            cost = cost.wrapping_add(u64::from(way(&rate.back, from, to)));
+    for to in path {
+        if *to != from {
+            let moves = &rate.moves[from as usize % 16];
+            cost = cost.wrapping_add(u64::from(at(moves, *to as usize, 0)));
         }
-        from = to;
+        from = *to;
     }
     cost
 }
 
-// Whether a strand is tied at a layer.
-fn is_tied_at(span: &Span, layer: usize) -> bool {
-    (layer == 0 && span.entry().is_some())
-        || (layer.wrapping_add(1) == span.len() && span.exit().is_some())
+// Whether a strand is tied at a step. An entry and an exit are alone in theirs.
+fn is_tied_at(span: &Span, step: usize) -> bool {
+    (step == 0 && span.entry().is_some()) || (step == span.last_step() && span.exit().is_some())
 }
