@@ -17,7 +17,7 @@ use std::alloc::Global;
 use std::marker::Model;
 
 // Visits of a round for each layer of each strand: each layer that a least path goes over is one.
-const VISITS: u64 = 45;
+const VISITS: u64 = 50;
 
 // Visits of a round at most, so that a round of the largest procedures ends in seconds.
 const MOST_VISITS: u64 = 100_000_000;
