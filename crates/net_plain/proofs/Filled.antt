@@ -1,6 +1,8 @@
 -- Rows that are filled from the front.
-use Rattle.std.proofs.Common.{◌≡◌, ℕ, suc, ◌^◌, ◌<◌, ℤ, pos, List, length, get_or, set, replicate, Option}
-use Rattle.std.proofs.Common.{Some, None, refl, get_or-set_same, get_or-set_other, sym, subst, inl, inr, arith}
+use Rattle.std.proofs.Common.{◌≡◌, ℕ, suc, ◌^◌, ◌<◌, ℤ, pos, List, length, get_or, set, replicate}
+use Rattle.std.proofs.Common.{Option}
+use Rattle.std.proofs.Common.{Some, None, refl, get_or-set_same, get_or-set_other, sym, subst, inl}
+use Rattle.std.proofs.Common.{inr, arith}
 use Rattle.std.proofs.lemmas.Bool.{cases_eq, cases_lt}
 use Rattle.std.proofs.lemmas.List.{get_or_past, get_or-replicate}
 use Rattle.pra_base.specs.declared.ids.Place.{Place}
@@ -51,8 +53,8 @@ rests_of net built prices range w valid ends taken s lt l rests long each = reco
 }
 
 -- behind the last layer nothing is left
-pub rests_at_end : (net : Net) (built : IsBuilt net) (prices : Prices) (range : AreInRange net prices)
-    (w : Weights) (valid : IsValid w) (ends : Ends) (taken : Taken) (s : ℕ)
+pub rests_at_end : (net : Net) (built : IsBuilt net) (prices : Prices)
+    (range : AreInRange net prices) (w : Weights) (valid : IsValid w) (ends : Ends) (taken : Taken) (s : ℕ)
     → s < length net.strands → (l : ℕ) → l ≡ suc (strand_at net s).last
     → AreRests net w prices ends taken s l (replicate 14 (Some (pos 0)))
 rests_at_end net built prices range w valid ends taken s lt l behind =

@@ -19,7 +19,8 @@ use Rattle.net_form.specs.Tables.{all_tables}
 use Rattle.net_dual.specs.Priced.{edge_price}
 use Rattle.net_path.specs.Grounds.{edge, is_free, is_open, there_price}
 use Rattle.net_plain.specs.Rows.{IsLeastOf, place_at, cost_at, there, coming}
-use Rattle.net_plain.specs.Rests.{MayTake, Passes, rest_price, IsLong, IsCostOf, IsLeastRest, IsRest}
+use Rattle.net_plain.specs.Rests.{MayTake, Passes, rest_price, IsLong, IsCostOf, IsLeastRest}
+use Rattle.net_plain.specs.Rests.{IsRest}
 use Rattle.net_plain.proofs.Costs.{added_some, added_is, some_or_none}
 use Rattle.net_path.proofs.Numbers.{number_below}
 use Rattle.net_plain.proofs.PlaceNumbers.{place_at-number, number-place_at}

@@ -18,7 +18,8 @@ use crate::sums::narrow;
 use net_cost::{CostModel, Event};
 use net_form::{Ends, Net, Prices, Taken};
 
-// What the least of them costs: what is left to pay behind each place, layer by layer from the last.
+// What the least of them costs: what is left to pay behind each place, layer by layer from the
+// last.
 fn cost_of_least<F: Fn(Event, u32) -> u32>(
     net: &Net,
     model: &CostModel<F>,

@@ -36,8 +36,8 @@ fn has_each_layer(net: &Net, strand: usize, path: &[Place]) -> bool
     path.len() == net.strands[strand].masks.len()
 }
 
-// What a path with a place for each of the strand's layers costs, summed up from its end; None where
-// it may not go this way.
+// What a path with a place for each of the strand's layers costs, summed up from its end; None
+// where it may not go this way.
 fn cost_of<F: Fn(Event, u32) -> u32>(
     net: &Net,
     model: &CostModel<F>,
@@ -73,8 +73,8 @@ fn cost_of<F: Fn(Event, u32) -> u32>(
 }
 
 /// What a path of a strand costs at prices, in units of 1/1024. None where it may not go this way:
-/// where it has not one place for each layer, is outside of a mask, moves across an instruction, has
-/// other ends than `ends` wants, or uses what is taken.
+/// where it has not one place for each layer, is outside of a mask, moves across an instruction,
+/// has other ends than `ends` wants, or uses what is taken.
 pub fn price_plain<F: Fn(Event, u32) -> u32>(
     net: &Net,
     model: &CostModel<F>,

@@ -33,7 +33,8 @@ fn may_come(layer: u32, from: Option<Place>, to: Place) -> bool
     }
 }
 
-/// What is left to pay, with what is paid at a place before; None where a path may not be there.
+/// What is left to pay behind a place, with what is paid there; None where a path may not be
+/// there.
 pub(crate) fn there<F: Fn(Event, u32) -> u32>(
     net: &Net,
     model: &CostModel<F>,
@@ -63,7 +64,7 @@ pub(crate) fn there<F: Fn(Event, u32) -> u32>(
     Some(add(cost, toll(net, model, prices, spot, place)))
 }
 
-/// The same, with the way to the place before; None where a path may not go that way.
+/// The same, with the way to the place; None where a path may not go that way.
 pub(crate) fn coming<F: Fn(Event, u32) -> u32>(
     net: &Net,
     model: &CostModel<F>,

@@ -184,7 +184,8 @@ fn entry_number(net: &Net, prices: &Prices, spot: Spot, place: Place, tie: usize
 fn exit_numbers(net: &Net, prices: &Prices, spot: Spot, place: Place) -> i128
     requires prices { AreInRange net.now prices.now }
     requires spot { IsSpot net.now spot }
-    ensures value { result ≡ exit_part net.now prices.now (edge spot.strand spot.layer None place) }
+    ensures value { result ≡
+        exit_part net.now prices.now (edge spot.strand spot.layer None place) }
     ensures small { IsWithin (2 ^ 104) result }
 {
     let mut total = 0i128;
@@ -201,7 +202,8 @@ fn exit_numbers(net: &Net, prices: &Prices, spot: Spot, place: Place) -> i128
 fn entry_numbers(net: &Net, prices: &Prices, spot: Spot, place: Place) -> i128
     requires prices { AreInRange net.now prices.now }
     requires spot { IsSpot net.now spot }
-    ensures value { result ≡ entry_part net.now prices.now (edge spot.strand spot.layer None place) }
+    ensures value { result ≡
+        entry_part net.now prices.now (edge spot.strand spot.layer None place) }
     ensures small { IsWithin (2 ^ 104) result }
 {
     let mut total = 0i128;
@@ -215,7 +217,8 @@ fn entry_numbers(net: &Net, prices: &Prices, spot: Spot, place: Place) -> i128
 }
 
 /// What is paid for being there, in units of 1/1024: extras, the register's price, those of memory
-/// pairs, and the numbers of ties that leave from there; those of ties that lead there are paid out.
+/// pairs, and the numbers of ties that leave from there; those of ties that lead there are paid
+/// out.
 pub(crate) fn toll<F: Fn(Event, u32) -> u32>(
     net: &Net,
     model: &CostModel<F>,

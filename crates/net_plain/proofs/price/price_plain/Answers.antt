@@ -99,7 +99,7 @@ returns-in-None-clause-none g c =
     let taken = c.args.taken.now in
     let s = c.args.strand in
     let path = c.args.path.now in
-    may_not_go net c.requires.net prices c.requires.prices w c.requires.kept.valid c.args.ends taken s
-    c.requires.strand path
+    may_not_go net c.requires.net prices c.requires.prices w c.requires.kept.valid c.args.ends
+    taken s c.requires.strand path
     (subst (IsCostOf net w prices c.args.ends taken s (strand_at net s).first None path)
     c.in-None.is c.cost_of.ensures)

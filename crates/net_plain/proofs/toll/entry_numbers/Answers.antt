@@ -25,7 +25,8 @@ loop-tie-preserved c =
     let from = c.from.ensures in
     let sum = c.add-total.ensures in
     let exact = to_z-of_z w128 c.add-total.result (record { sfits = c.add-total.type_inv }) in
-    let exact_one = to_z-of_z w64 c.entry_number.result (record { sfits = c.entry_number.type_inv }) in
+    let exact_one = to_z-of_z w64 c.entry_number.result
+    (record { sfits = c.entry_number.type_inv }) in
     let exact_from = to_z-of_z w128 c.from.result (record { sfits = c.from.type_inv }) in
     let old = c.loop-tie.invariant.total in
     let was_low = c.loop-tie.invariant.small.low in

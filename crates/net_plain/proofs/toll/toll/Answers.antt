@@ -14,8 +14,10 @@ returns-clause-value g c =
     let a = c.add.ensures in
     let b = c.subtract.ensures in
     let sum = c.add-2.ensures in
-    let exact_exits = to_z-of_z w128 c.exit_numbers-exits.result (record { sfits = c.exit_numbers-exits.type_inv }) in
-    let exact_entries = to_z-of_z w128 c.entry_numbers-entries.result (record { sfits = c.entry_numbers-entries.type_inv }) in
+    let exact_exits = to_z-of_z w128 c.exit_numbers-exits.result
+    (record { sfits = c.exit_numbers-exits.type_inv }) in
+    let exact_entries = to_z-of_z w128 c.entry_numbers-entries.result
+    (record { sfits = c.entry_numbers-entries.type_inv }) in
     let exact_a = to_z-of_z w128 c.add.result (record { sfits = c.add.type_inv }) in
     let exact_b = to_z-of_z w128 c.subtract.result (record { sfits = c.subtract.type_inv }) in
     let exact = to_z-of_z w128 c.add-2.result (record { sfits = c.add-2.type_inv }) in
@@ -51,8 +53,10 @@ returns-clause-small g c =
     let a = c.add.ensures in
     let b = c.subtract.ensures in
     let sum = c.add-2.ensures in
-    let exact_exits = to_z-of_z w128 c.exit_numbers-exits.result (record { sfits = c.exit_numbers-exits.type_inv }) in
-    let exact_entries = to_z-of_z w128 c.entry_numbers-entries.result (record { sfits = c.entry_numbers-entries.type_inv }) in
+    let exact_exits = to_z-of_z w128 c.exit_numbers-exits.result
+    (record { sfits = c.exit_numbers-exits.type_inv }) in
+    let exact_entries = to_z-of_z w128 c.entry_numbers-entries.result
+    (record { sfits = c.entry_numbers-entries.type_inv }) in
     let exact_a = to_z-of_z w128 c.add.result (record { sfits = c.add.type_inv }) in
     let exact_b = to_z-of_z w128 c.subtract.result (record { sfits = c.subtract.type_inv }) in
     let exact = to_z-of_z w128 c.add-2.result (record { sfits = c.add-2.type_inv }) in
