@@ -85,7 +85,7 @@ class Graph:
             self.meets[other] |= 1 << one
 
     def add_edges(self, webs):
-        """Nodes that are there at one layer interfere, and each with registers that it can't take."""
+        """Nodes that are there at one layer interfere, and each with registers it can't take."""
         there = [0] * webs.layers
         for stop in webs.stops:
             node = self.node_of[stop.number]
@@ -180,7 +180,7 @@ class Colours:
     # ---- coalescing
 
     def is_safe_by_neighbours(self, one, other):
-        """George's test: each neighbour of the other is of low degree, or a neighbour of the one."""
+        """George's test: each neighbour of the other is of low degree, or also of the one."""
         return not self.meets[other] & self.alive & ~self.meets[one] & ~self.low
 
     def is_safe_by_degree(self, one, other):

@@ -6,9 +6,9 @@
 Of each FILE, or of each module of examples/, and of both weights or of the one that is named, a
 page of 10 rounds, or of N, is made and read twice: as the values that it holds, and as the document
 that headless Chromium makes of them, with all procedures open. Both are to show the routes of the
-certificate to the letter, its cost and its bound; moves and extras are to add up to the cost; the
-level lines are to be those of the values; and the browser's console is to hold no error. The browser
-is `chromium`, and is left out with --data-alone. Before all that the colours are tried: text is to
+certificate to the letter, its cost and its bound; moves and extras are to add up to the cost; level
+lines are to be those of the values; and the browser's console is to hold no error. The browser is
+`chromium`, and is left out with --data-alone. Before all that the colours are tried: text is to
 stand out from them, and each is to be told from each other by those who see no red or no green. The
 status is 0 where nothing differs, and else 1.
 """

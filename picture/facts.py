@@ -4,8 +4,8 @@
 
 The lines tell cost and bound, how often each event comes and what it costs, and of each variable
 (of those that are named, or of all but constants) at how many layers of which places it is, and
-what its moves and operands cost. With --moves they tell instead how each of them moves, and with --others
-what allocators of the literature come to.
+what its moves and operands cost. With --moves they tell instead how each of them moves, and with
+--others what allocators of the literature come to.
 """
 
 import json

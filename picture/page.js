@@ -48,7 +48,7 @@
     const step = steps(most), highest = Math.ceil(most / step) * step;
     const longest = Math.max(...ends.map((it) => `${it.name} ${it.value}`.length));
     const beside = 28 + 7.3 * longest;
-    const wide = Math.max(300, Math.min(350 + beside, room)), high = 258;
+    const wide = Math.max(300, Math.min(330 + beside, room)), high = 258;
     const left = 52, right = wide - beside, top = 22, bottom = high - 38, last = rounds.length - 1;
     const x = (k) => left + (last ? ((right - left) * k) / last : 0);
     const y = (c) => bottom - ((bottom - top) * c) / highest;

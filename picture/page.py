@@ -75,15 +75,15 @@ difference between both above the best. A <em>round</em> tries to make the alloc
 to raise the bound. Round 0 is the plain beginning: every variable lives in memory and visits a
 register for each instruction that asks for one.</p>
 <p id="levels">The level lines of a curve are what three allocators of the literature come to on the
-same code: <em>linear scan</em> (Poletto and Sarkar 1999), the same where a variable has its register
-only while it is needed (<em>with holes</em>; Mössenböck and Pfeiffer 2002), and graph
+same code: <em>linear scan</em> (Poletto and Sarkar 1999), the same where a variable has its
+register only while it is needed (<em>with holes</em>; Mössenböck and Pfeiffer 2002), and graph
 <em>colouring</em> (Chaitin 1982; Briggs, Cooper and Torczon 1994; George and Appel 1996). They know
 the weights and the loops; each was tried by three measures of whom to send to memory, and the
 cheapest counts. A variable that goes to memory visits a register for those instructions alone that
 ask for one; another has its register as long as it lives, since none of the three splits it. The
-scripts that made this page worked this out, and tested what was found by all rules of this code, but
-nothing proves that they do as those papers say. Where the cost of round 0 is far above all others it
-is told at the top.</p>
+scripts that made this page worked this out, and tested what was found by all rules of this code,
+but nothing proves that they do as those papers say. Where the cost of round 0 is far above all
+others it is told at the top.</p>
 <p>Where blocks follow one another, a variable is at the same place at the exit of one and at the
 entry of the next. A call may destroy eax, ecx and edx, a division works in eax and edx, and what is
 read or written goes through eax. An instruction has at most one memory operand.</p>

@@ -21,6 +21,8 @@ VISIT = 2  # in a register, of a web that is at home elsewhere
 OPERAND = 3  # of a web in a register, whose operand asks for some of them
 PIECE = 4  # of a web in a register, that passes or is used as it is
 
+NOBODY = -1  # no web
+
 
 class Rates(NamedTuple):
     """What moves cost: to another register, a load, a store, and a constant that is made."""
@@ -45,7 +47,7 @@ class Stop:
     memory: int = 0  # what its instruction costs more with it in memory
     immediate: int = 0  # or as an immediate
     pair: "Stop | None" = None  # of the two one at most is in memory
-    rival: int | None = None  # the web that, if it is at home, keeps this one from being so
+    rival: int = NOBODY  # the web that, if it is at home, keeps this one from being so
     registers: int = 0  # of the mask
     has_home: bool = False
     parts: tuple = ()  # what it is where its web has a register, is at home, or yields
@@ -222,10 +224,8 @@ class Webs:
 
     def parts(self, at_home):
         """What each stop is where these webs are at home."""
-        return [
-            it.parts[0 if not at_home[it.web] else 1 if it.rival is None or not at_home[it.rival] else 2]
-            for it in self.stops
-        ]
+        at_home = [*at_home, False]  # the last is no web's
+        return [it.parts[at_home[it.web] * (1 + at_home[it.rival])] for it in self.stops]
 
     # ---- from registers and homes to routes
 
