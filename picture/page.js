@@ -44,12 +44,12 @@
   function frameOf(rounds, ends, room) {
     const first = rounds[0][0], others = rounds.slice(1).map((r) => r[0]);
     const rest = Math.max(1, ...others, ...ends.map((it) => it.value));
-    const most = first > 1.5 * rest ? rest : Math.max(first, rest);
+    const most = first > 1.5 * rest ? 1.2 * rest : Math.max(first, rest);
     const step = steps(most), highest = Math.ceil(most / step) * step;
     const longest = Math.max(...ends.map((it) => `${it.name} ${it.value}`.length));
     const beside = 28 + 7.3 * longest;
-    const wide = Math.max(300, Math.min(330 + beside, room)), high = 258;
-    const left = 52, right = wide - beside, top = 22, bottom = high - 38, last = rounds.length - 1;
+    const wide = Math.max(300, Math.min(330 + beside, room)), high = 266;
+    const left = 52, right = wide - beside, top = 30, bottom = high - 38, last = rounds.length - 1;
     const x = (k) => left + (last ? ((right - left) * k) / last : 0);
     const y = (c) => bottom - ((bottom - top) * c) / highest;
     return { wide, high, left, right, top, bottom, last, step, highest, x, y };
@@ -69,17 +69,14 @@
     return out + `<text x="${(f.left + f.right) / 2}" y="${f.high - 5}" text-anchor="middle">rounds</text>`;
   }
 
-  // The line of the costs or of the bounds, with a dot for each round. From a first one above the
-  // picture it comes in at the top.
+  // The line of the costs or of the bounds, with a dot for each round. Where the first one is above
+  // the picture the line begins at the top.
   function steadyLine(f, rounds, name, i) {
     const points = rounds.map((r, k) => [f.x(k), f.y(r[i])]);
     const isAbove = rounds[0][i] > f.highest;
-    if (isAbove) {
-      const [[x0, y0], [x1, y1]] = points;
-      points[0] = [x0 + ((x1 - x0) * (f.top - 12 - y0)) / (y1 - y0), f.top - 12];
-    }
+    if (isAbove) points[0] = [f.left, f.top - 9];
     let out = `<polyline class="${name}" points="${points.join(" ")}"/>`;
-    if (isAbove) out += `<text class="${name}-name" x="${points[0][0] + 6}" y="${f.top - 6}">\u2191 ${rounds[0][i]} in round 0</text>`;
+    if (isAbove) out += `<text class="${name}-name" x="${f.left + 3}" y="${f.top - 13}">\u2191 ${rounds[0][i]} in round 0</text>`;
     rounds.forEach((r, k) => {
       const [x, y] = points[k], title = `<title>round ${k}: ${name} ${r[i]}</title>`;
       if (isAbove && k === 0) return;
@@ -130,7 +127,7 @@
   function levelWords(p) {
     return p.others[page.cost]
       ? `<p class="faint">Level lines are what allocators of the literature come to here, by the same weights: <em>linear scan</em>, the same <em>with holes</em>, and graph <em>colouring</em>. Each was tried by three measures of whom to send to memory, the cheapest counts, and nothing proves them (<a href="#levels">more</a>).</p>`
-      : `<p class="faint">Other allocators are not computed for a procedure of this size.</p>`;
+      : `<p class="faint">What other allocators come to was not worked out here, since the module is too large for that.</p>`;
   }
 
   function roundsTable(p) {
