@@ -23,29 +23,32 @@ ALLOCATORS = {
 }
 
 
-def cost_of(webs, wanted):
-    """What the routes cost on which each stop is where it is wanted, or None."""
+def priced(webs, wanted):
+    """What routes cost on which each stop is where it is wanted, and the routes; or None."""
     routes = webs.routes(wanted)
     if routes is None:
         return None
-    return sum(total for _, total in webs.network.paid(routes, webs.cost).values())
+    return sum(total for _, total in webs.network.paid(routes, webs.cost).values()), routes
+
+
+def best_routes(network, cost):
+    """What the cheapest routes cost that each allocator finds, and the routes, by its name; or
+    None."""
+    webs, known = Webs(network, cost), {}
+    for name, variants in ALLOCATORS.items():
+        found = []
+        for wanted in (variant(webs) for variant in variants):
+            if wanted is not None:
+                key = tuple(wanted)
+                if key not in known:
+                    known[key] = priced(webs, wanted)
+                found.append(known[key])
+        yield name, min((it for it in found if it), key=lambda it: it[0], default=None)
 
 
 def others(network, cost):
     """What each allocator comes to, by its name; None where it found no routes."""
-    webs = Webs(network, cost)
-    found, known = {}, {}
-    for name, variants in ALLOCATORS.items():
-        costs = []
-        for variant in variants:
-            wanted = variant(webs)
-            if wanted is not None:
-                key = tuple(wanted)
-                if key not in known:
-                    known[key] = cost_of(webs, wanted)
-                costs.append(known[key])
-        found[name] = min((it for it in costs if it is not None), default=None)
-    return found
+    return {name: best and best[0] for name, best in best_routes(network, cost)}
 
 
 def others_of_all(networks, costs):

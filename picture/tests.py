@@ -3,9 +3,11 @@
     [PRA=PROGRAM] python3 -m unittest picture.tests
 
 What other allocators come to is compared with docs/QUALITY.md where the compiler was built, or
-where PROGRAM is one: ./pra unproved takes a minute or two for each of 34 modules.
+where PROGRAM is one, and the compiler's checker is asked whether their routes are admitted and cost
+that: ./pra unproved takes a minute or two for each of some 150 calls.
 """
 
+import json
 import os
 import tempfile
 import unittest
@@ -14,7 +16,7 @@ from picture import certificate, listing, report
 from picture.module import Compiler
 from picture.network import Network
 from picture.operands import BOTHS, K, M, REGS
-from picture.others import ALLOCATORS, others
+from picture.others import ALLOCATORS, best_routes, others
 from picture.webs import Webs
 
 TOP = os.path.dirname(os.path.dirname(os.path.realpath(__file__)))
@@ -178,7 +180,7 @@ class BesideOthers(unittest.TestCase):
                     yield cost, cells[0], [int(it) for it in cells[1:6]]
 
     def found(self, compiler, name, cost, room):
-        """The same of a module."""
+        """The same of a module. The compiler has to say yes to the routes of each."""
         file = f"{TOP}/examples/{name}.ob"
         image = ("--rounds", "0", "--image", f"{room}/out.pri")
         if name.startswith("generated "):
@@ -186,12 +188,18 @@ class BesideOthers(unittest.TestCase):
             words = ("gen", file, "--seed", seed, "--size", "3", *image)
             compiler.call(*words, good=(0, 1, 2))
         text, _ = compiler.call("cert", file, "--cost", cost, *image)
-        sums = [0] * (2 + len(ALLOCATORS))
-        for procedure in certificate.read(text.decode()).procedures:
-            network = Network(procedure)
-            layers = sum(len(it.masks) for it in network.strands)
-            each = layers, procedure.total, *others(network, cost).values()
-            sums = [one + other for one, other in zip(sums, each, strict=True)]
+        networks = [Network(it) for it in certificate.read(text.decode()).procedures]
+        layers = sum(len(it.masks) for network in networks for it in network.strands)
+        sums = [layers, sum(it.code.total for it in networks)]
+        best = [dict(best_routes(it, cost)) for it in networks]
+        for allocator in ALLOCATORS:
+            value, them = json.loads(text), [it[allocator] for it in best]
+            for procedure, (total, routes) in zip(value["procs"], them, strict=True):
+                procedure["total"], procedure["routes"] = total, routes
+            with open(f"{room}/cert.json", "w", encoding="utf-8") as out:
+                json.dump(value, out)
+            compiler.call("check", f"{room}/cert.json")
+            sums.append(sum(total for total, _ in them))
         return sums
 
     def test_all_modules_come_to_what_the_tables_tell(self):
