@@ -15,7 +15,7 @@ from picture.network import Network
 from picture.scan import RULES, linear_scan
 from picture.webs import Webs
 
-MOST = 60_000  # layers of strands on a page that they are computed for: some seconds by each cost
+MOST = 40_000  # layers of strands on a page that they are computed for: seconds by each cost
 ALLOCATORS = {
     "linear scan": [lambda webs, it=it: linear_scan(webs, it, False) for it in RULES],
     "with holes": [lambda webs, it=it: linear_scan(webs, it, True) for it in RULES],
