@@ -52,8 +52,8 @@ def others(network, cost):
 
 
 def others_of_all(networks, costs):
-    """What they come to on each network by each cost. Of networks that come when MOST layers have
-    been done there is nothing."""
+    """What they come to on each network by each cost, or nothing where that would make it more than
+    MOST layers in all."""
     found, layers = [], 0
     for network in networks:
         more = sum(len(it.masks) for it in network.strands)
