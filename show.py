@@ -4,13 +4,14 @@
     show.py FILE [--rounds N] [--cost size|speed] [--input NAME] [--compiler PROGRAM]
 
 FILE.html is written, which needs no network and nothing else. It shows the source; for each
-procedure cost and bound round by round, its blocks and loops, where each variable is before and
-after each instruction, what moves and operands cost, and the machine instructions that it all
-became. With --input the module is run too, on the numbers that the file NAME holds. Options that
-are left out are the compiler's: 10 rounds, and size. The compiler is ./pra beside this file, or
-PROGRAM; it is asked for its report, the listing and the certificate, and no page is made of a
-certificate that it refuses. The status is that of the call that was refused, 5 where a file can't
-be read or written, 6 where the words are none of these, and 70 where the parts do not fit.
+procedure cost and bound round by round, beside what linear scan and graph colouring come to, its
+blocks and loops, where each variable is before and after each instruction, what moves and operands
+cost, and the machine instructions that it all became. With --input the module is run too, on the
+numbers that the file NAME holds. Options that are left out are the compiler's: 10 rounds, and size.
+The compiler is ./pra beside this file, or PROGRAM; it is asked for its report, the listing and the
+certificate, and no page is made of a certificate that it refuses. The status is that of the call
+that was refused, 5 where a file can't be read or written, 6 where the words are none of these, and
+70 where the parts do not fit.
 """
 
 import os

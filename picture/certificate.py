@@ -9,6 +9,7 @@ from dataclasses import dataclass
 
 REGISTERS = ("eax", "ecx", "edx", "ebx", "esi", "edi")
 MEM, CONST, FIRST_BOTH = 6, 7, 8  # places; 0 to 5 are the registers, 8 to 13 each with memory
+PLACES = 14
 
 # The Intel manual's condition codes, and what they mean where numbers with signs are compared.
 CONDITIONS = {2: "b", 3: "ae", 4: "e", 5: "ne", 6: "be", 7: "a", 8: "s", 9: "ns"} | {

@@ -6,11 +6,11 @@
 Of each FILE, or of each module of examples/, and of both weights or of the one that is named, a
 page of 10 rounds, or of N, is made and read twice: as the values that it holds, and as the document
 that headless Chromium makes of them, with all procedures open. Both are to show the routes of the
-certificate to the letter, its cost and its bound; moves and extras are to add up to the cost; and
-the browser's console is to hold no error. The browser is `chromium`, and is left out with
---data-alone. Before all that the colours are tried: text is to stand out from them, and each is to
-be told from each other by those who see no red or no green. The status is 0 where nothing differs,
-and else 1.
+certificate to the letter, its cost and its bound; moves and extras are to add up to the cost; level
+lines are to be those of the values; and the browser's console is to hold no error. The browser is
+`chromium`, and is left out with --data-alone. Before all that the colours are tried: text is to
+stand out from them, and each is to be told from each other by those who see no red or no green. The
+status is 0 where nothing differs, and else 1.
 """
 
 import glob
@@ -21,6 +21,7 @@ import subprocess
 import sys
 import tempfile
 from html.parser import HTMLParser
+from itertools import combinations
 
 from picture.facts import value_of
 
@@ -72,6 +73,9 @@ def seen(colour, cones):
     return 116 * y - 16, 500 * (x - y), 200 * (y - z)
 
 
+LINES = ("cost", "bound", "scan", "holes", "colouring")  # of curves
+
+
 def colour_faults():
     with open(f"{TOP}/picture/page.css", encoding="utf-8") as text:
         known = dict(re.findall(r"--([a-z-]+): (#[0-9a-f]{3,6});", text.read()))
@@ -82,10 +86,12 @@ def colour_faults():
         for ground in ("paper", "tint"):
             if contrast(known[name], known[ground]) < 4.5:
                 yield f"{name} on {ground} has too little contrast"
-    places = [it for it in known if f"on-{it}" in known]
-    for cones in WITHOUT:
-        for at, one in enumerate(places):
-            for two in places[:at]:
+    for name in LINES:
+        if contrast(known[name], known["paper"]) < 4.5:
+            yield f"the line of {name} stands out too little"
+    for alike in ([it for it in known if f"on-{it}" in known], LINES):
+        for cones in WITHOUT:
+            for one, two in combinations(alike, 2):
                 far = zip(seen(known[one], cones), seen(known[two], cones), strict=True)
                 if sum((a - b) ** 2 for a, b in far) ** 0.5 < 10:
                     yield f"without {cones} cones {one} and {two} look alike"
@@ -114,14 +120,15 @@ class Document(HTMLParser):
     def __init__(self):
         super().__init__()
         self.cells, self.paid, self.sums, self.words, self.points = [], [], [], [], []
-        self.block, self.wants, self.is_ready = None, None, False
+        self.levels = []
+        self.block, self.wants, self.curve, self.is_ready = None, None, None, False
 
     def handle_starttag(self, tag, attributes):
         it = dict(attributes)
         kinds = it.get("class", "").split()
         self.is_ready |= tag == "html" and "data-ready" in it
         if tag == "section" and "procedure" in kinds:
-            for each in (self.cells, self.paid, self.points):
+            for each in (self.cells, self.paid, self.points, self.levels):
                 each.append([])
             self.sums.append(None)
             self.words.append("")
@@ -132,6 +139,10 @@ class Document(HTMLParser):
             self.cells[-1].append((self.block, int(it["data-v"]), int(it["data-l"]), place))
         elif tag == "td" and "data-w" in it:
             self.paid[-1].append(int(it["data-w"]))
+        elif tag == "figure":
+            self.curve = it.get("data-curve")
+        elif "data-level" in it:
+            self.levels[-1].append((self.curve, it["data-level"], int(it["data-cost"])))
         elif tag == "polyline":
             self.points[-1].append(len(it["points"].split()))
         elif "data-sum" in it:
@@ -152,7 +163,8 @@ class Document(HTMLParser):
             self.wants = None
 
     def shown(self, number):
-        """The same as of the values, and how many points each line of the curves has."""
+        """The same as of the values, how many points each line of the curves has, and which level
+        lines there are."""
         by_block = sorted(self.cells[number], key=lambda it: (it[0], it[1], it[2]))
         strands, last = [], None
         for block, v, layer, place in by_block:
@@ -164,7 +176,7 @@ class Document(HTMLParser):
         numbers = re.findall(r"(?:costs|less than) (\d+)", self.words[number])
         cost, bound = int(numbers[0]), int(numbers[-1])
         shown = routes, cost, bound, self.sums[number], sum(self.paid[number])
-        return shown, self.points[number]
+        return shown, self.points[number], sorted(self.levels[number])
 
 
 def console(said):
@@ -215,12 +227,15 @@ def browser_faults(path, page, wanted):
         yield "the page was not drawn"
         return
     for number, it in enumerate(page["procedures"]):
-        shown, points = document.shown(number)
+        shown, points, levels = document.shown(number)
         if shown != wanted[number]:
             yield f"procedure {number}: the page shows something else than the certificate"
         lines = [len(it["rounds"][cost]) for cost in sorted(it["rounds"], key=page["cost"].__ne__)]
         if points != [lines[0], lines[0], lines[1], lines[1]]:
             yield f"procedure {number}: the curves have {points} points"
+        others = [(word, *each) for word, them in it["others"].items() for each in them.items()]
+        if levels != sorted(each for each in others if each[2] is not None):
+            yield f"procedure {number}: the level lines are {levels}"
 
 
 def main(words):

@@ -67,8 +67,9 @@ class Drawn:
                 before[to].append(number)
         return [self.block(number, before) for number in range(len(self.code.blocks))]
 
-    def value(self, reported):
-        """The whole of it; reported has the rounds by each weight."""
+    def value(self, reported, others):
+        """The whole of it; reported has the rounds by each weight, and others what other allocators
+        come to by each."""
         blocks, routes = self.blocks(), self.code.routes
         strands = self.network.strands
         for strand, places in zip(strands, routes, strict=True):
@@ -89,6 +90,7 @@ class Drawn:
             "total": self.code.total,
             "bound": self.code.bound,
             "rounds": {cost: it.rounds for cost, it in reported.items()},
+            "others": others,
             "names": self.names,
             "words": self.words,
             "kinds": [it.kind[:2] for it in self.code.variables],

@@ -1,10 +1,11 @@
 """What a page says of one of its procedures, as lines of text.
 
-    python3 -m picture.facts FILE.html NUMBER [--moves] [NAME ..]
+    python3 -m picture.facts FILE.html NUMBER [--moves] [--others] [NAME ..]
 
 The lines tell cost and bound, how often each event comes and what it costs, and of each variable
 (of those that are named, or of all but constants) at how many layers of which places it is, and
-what its moves and operands cost. With --moves they tell instead how each of them moves.
+what its moves and operands cost. With --moves they tell instead how each of them moves, and with
+--others what allocators of the literature come to.
 """
 
 import json
@@ -68,10 +69,17 @@ def moves(page, number, names):
                     yield f"{name} in block {at}, before layer {layer}: {way}, +{price}"
 
 
+def others(page, number, _):
+    procedure = page["procedures"][number]
+    for name, cost in procedure["others"].get(page["cost"], {}).items():
+        yield f"{name} {'none' if cost is None else cost}"
+    yield f"cost {procedure['total']} bound {procedure['bound']}"
+
+
 if __name__ == "__main__":
     with open(sys.argv[1], encoding="utf-8") as text:
         value = value_of(text.read())
-    named = [it for it in sys.argv[3:] if it != "--moves"]
-    tell = moves if "--moves" in sys.argv else lines
+    named = [it for it in sys.argv[3:] if not it.startswith("--")]
+    tell = moves if "--moves" in sys.argv else others if "--others" in sys.argv else lines
     for line in tell(value, int(sys.argv[2]), named):
         print(line)

@@ -6,6 +6,7 @@ it is present without a gap. Between instructions a strand may change its place,
 """
 
 from dataclasses import dataclass
+from functools import cached_property
 
 from picture.certificate import CONST, MEM, has_memory, register_of
 from picture.operands import BOTHS, K, M, REGS, constant_event, memory_event, row_of, weight
@@ -192,14 +193,17 @@ class Network:
             return memory_event(ins, self.near)
         return constant_event(ins, self.code.variables[strand.var].value)
 
+    @cached_property
     def extras(self):
         """Strand, layer, place and event of each extra."""
+        found = []
         for number, strand in enumerate(self.strands):
             for layer in range(strand.first, strand.last + 1):
                 for place in (MEM, CONST):
                     event = self.event_at(strand, layer, place)
                     if event is not None:
-                        yield number, layer, place, event
+                        found.append((number, layer, place, event))
+        return found
 
     def pairs(self):
         """The two strands and layers of each instruction that may have one operand in memory."""
@@ -218,6 +222,35 @@ class Network:
             if strand.last == block.exit:
                 goes_on = (self.at.get((to, 0, strand.var)) for to in block.successors())
                 yield from sorted((number, to) for to in goes_on if to is not None)
+
+    # ---- which routes it admits
+
+    def are_places(self, routes):
+        """Whether each place is in its mask, no strand moves across an instruction, and no register
+        is taken twice at one layer."""
+        taken = set()
+        for strand, places in zip(self.strands, routes, strict=True):
+            for step, (mask, place) in enumerate(zip(strand.masks, places, strict=True)):
+                layer, register = strand.first + step, register_of(place)
+                at = strand.block, layer, register
+                is_across = step > 0 and layer % 2 == 0
+                if not mask >> place & 1 or at in taken or is_across and places[step - 1] != place:
+                    return False
+                if register is not None:
+                    taken.add(at)
+        return True
+
+    def admits(self, routes):
+        """Whether routes keep all rules: of places, of memory pairs and of ties."""
+        return (
+            self.are_places(routes)
+            and not any(
+                routes[left][one - self.strands[left].first] == MEM
+                and routes[right][two - self.strands[right].first] == MEM
+                for left, one, right, two in self.pairs()
+            )
+            and all(routes[one][-1] == routes[to][0] for one, to in self.ties())
+        )
 
     # ---- what routes cost
 
@@ -254,12 +287,10 @@ class Network:
 
     def met(self, routes):
         """Each extra whose place is met."""
-        for number, (strand, places) in enumerate(zip(self.strands, routes, strict=True)):
-            for step, place in enumerate(places):
-                if place in (MEM, CONST):
-                    event = self.event_at(strand, strand.first + step, place)
-                    if event is not None:
-                        yield Met(number, strand.block, strand.first + step, event)
+        for number, layer, place, event in self.extras:
+            strand = self.strands[number]
+            if routes[number][layer - strand.first] == place:
+                yield Met(number, strand.block, layer, event)
 
     def paid(self, routes, cost):
         """How often each event comes, and what it costs in all."""

@@ -30,55 +30,108 @@
 
   // ---- curves
 
+  // Other allocators, and of what kind their lines are.
+  const LEVELS = { "linear scan": "scan", "with holes": "holes", colouring: "colouring" };
+
   // How far apart the numbers of an axis are.
   function steps(most) {
     const size = Math.pow(10, Math.floor(Math.log10(Math.max(most / 5, 1))));
     return [1, 2, 5, 10].map((n) => n * size).find((n) => n * 5 >= most);
   }
 
-  function curve(word, rounds, shown) {
-    const wide = 440, high = 230, left = 52, right = 92, top = 14, bottom = 38;
-    const last = rounds.length - 1;
-    const most = Math.max(1, ...rounds.map((r) => r[0]));
-    const step = steps(most);
-    const highest = Math.ceil(most / step) * step;
-    const x = (k) => left + (last ? ((wide - left - right) * k) / last : 0);
-    const y = (c) => high - bottom - ((high - top - bottom) * c) / highest;
-    let out = `<svg viewBox="0 0 ${wide} ${high}" width="${wide}" role="img" aria-label="Cost and bound by ${word}, round by round">`;
-    for (let c = 0; c <= highest; c += step) {
-      out += `<line class="tick" x1="${left}" x2="${wide - right}" y1="${y(c)}" y2="${y(c)}"/>`;
-      out += `<text x="${left - 6}" y="${y(c) + 4}" text-anchor="end">${c}</text>`;
-    }
-    const every = Math.max(1, Math.ceil((last + 1) / 11));
-    for (let k = 0; k <= last; k += every) {
-      out += `<text x="${x(k)}" y="${high - bottom + 16}" text-anchor="middle">${k}</text>`;
-    }
-    out += `<path class="axis" d="M${left} ${top}V${high - bottom}H${wide - right}"/>`;
-    out += `<text x="${(left + wide - right) / 2}" y="${high - 5}" text-anchor="middle">rounds</text>`;
-    const ends = [y(rounds[last][0]), y(rounds[last][1])];
-    if (ends[1] - ends[0] < 15) {
-      const middle = Math.min((ends[0] + ends[1]) / 2, high - bottom - 8);
-      ends[0] = middle - 7.5;
-      ends[1] = middle + 7.5;
-    }
-    ["cost", "bound"].forEach((name, i) => {
-      out += `<polyline class="${name}" points="${rounds.map((r, k) => x(k) + "," + y(r[i])).join(" ")}"/>`;
-      rounds.forEach((r, k) => {
-        const title = `<title>round ${k}: ${name} ${r[i]}</title>`;
-        out += i
-          ? `<rect class="bound-dot" x="${x(k) - 3}" y="${y(r[i]) - 3}" width="6" height="6">${title}</rect>`
-          : `<circle class="cost-dot" cx="${x(k)}" cy="${y(r[i])}" r="3.5">${title}</circle>`;
-      });
-      out += `<text class="${name}-name" x="${x(last) + 9}" y="${ends[i] + 4}">${name} ${rounds[last][i]}</text>`;
-    });
-    const note = shown
-      ? "the allocation that is shown below"
-      : `another allocation, which <code>--cost ${word}</code> finds`;
-    return `<figure data-curve="${word}">${out}</svg><figcaption>By ${word}, in ${UNIT[word]}: ${note}.</figcaption></figure>`;
+  // Where the numbers of a curve lie, in a picture that leaves room for labels. Costs of round 0 may
+  // lie above it, where they are far above all others.
+  function frameOf(rounds, ends, room) {
+    const first = rounds[0][0], others = rounds.slice(1).map((r) => r[0]);
+    const rest = Math.max(1, ...others, ...ends.map((it) => it.value));
+    const most = first > 1.5 * rest ? 1.2 * rest : Math.max(first, rest);
+    const step = steps(most), highest = Math.ceil(most / step) * step;
+    const longest = Math.max(...ends.map((it) => `${it.name} ${it.value}`.length));
+    const beside = 28 + 7.3 * longest;
+    const wide = Math.max(300, Math.min(330 + beside, room)), high = 266;
+    const left = 52, right = wide - beside, top = 30, bottom = high - 38, last = rounds.length - 1;
+    const x = (k) => left + (last ? ((right - left) * k) / last : 0);
+    const y = (c) => bottom - ((bottom - top) * c) / highest;
+    return { wide, high, left, right, top, bottom, last, step, highest, x, y };
   }
 
-  function roundsTable(rounds) {
-    const words = Object.keys(rounds);
+  function axes(f) {
+    let out = "";
+    for (let c = 0; c <= f.highest; c += f.step) {
+      out += `<line class="tick" x1="${f.left}" x2="${f.right}" y1="${f.y(c)}" y2="${f.y(c)}"/>`;
+      out += `<text x="${f.left - 6}" y="${f.y(c) + 4}" text-anchor="end">${c}</text>`;
+    }
+    const every = Math.max(1, Math.ceil(((f.last + 1) * 26) / (f.right - f.left)));
+    for (let k = 0; k <= f.last; k += every) {
+      out += `<text x="${f.x(k)}" y="${f.bottom + 16}" text-anchor="middle">${k}</text>`;
+    }
+    out += `<path class="axis" d="M${f.left} ${f.top}V${f.bottom}H${f.right}"/>`;
+    return out + `<text x="${(f.left + f.right) / 2}" y="${f.high - 5}" text-anchor="middle">rounds</text>`;
+  }
+
+  // The line of the costs or of the bounds, with a dot for each round. Where the first one is above
+  // the picture the line begins at the top.
+  function steadyLine(f, rounds, name, i) {
+    const points = rounds.map((r, k) => [f.x(k), f.y(r[i])]);
+    const isAbove = rounds[0][i] > f.highest;
+    if (isAbove) points[0] = [f.left, f.top - 9];
+    let out = `<polyline class="${name}" points="${points.join(" ")}"/>`;
+    if (isAbove) out += `<text class="${name}-name" x="${f.left + 3}" y="${f.top - 13}">\u2191 ${rounds[0][i]} in round 0</text>`;
+    rounds.forEach((r, k) => {
+      const [x, y] = points[k], title = `<title>round ${k}: ${name} ${r[i]}</title>`;
+      if (isAbove && k === 0) return;
+      out += i
+        ? `<rect class="bound-dot" x="${x - 3}" y="${y - 3}" width="6" height="6">${title}</rect>`
+        : `<circle class="cost-dot" cx="${x}" cy="${y}" r="3.5">${title}</circle>`;
+    });
+    return out;
+  }
+
+  // What stands at the ends of lines, one below the other, each led to from its line.
+  function labels(f, ends) {
+    const heights = [];
+    for (const it of ends) heights.push(Math.max(f.y(it.value), heights.length ? heights.at(-1) + 15 : f.top));
+    for (let i = ends.length - 1, most = f.bottom; i >= 0; i--) {
+      most = (heights[i] = Math.min(heights[i], most)) - 15;
+    }
+    return ends.map(({ name, value, kind }, i) => {
+      const isLevel = name in LEVELS, from = isLevel ? f.left : f.x(f.last), to = f.right + 18;
+      const level = isLevel ? ` data-level="${name}" data-cost="${value}"` : "";
+      const line = `<path class="lead ${kind}"${level} d="M${from} ${f.y(value)}H${f.right}L${to} ${heights[i]}h4"/>`;
+      return `${line}<text class="${kind}-name" x="${to + 7}" y="${heights[i] + 4}">${name} ${value}</text>`;
+    }).join("");
+  }
+
+  function curve(word, p, room) {
+    const rounds = p.rounds[word], others = Object.entries(p.others[word] || {});
+    const ends = others.filter((it) => it[1] !== null).map(([name, value]) => ({ name, value, kind: LEVELS[name] }));
+    ["cost", "bound"].forEach((name, i) => ends.push({ name, value: rounds.at(-1)[i], kind: name }));
+    const f = frameOf(rounds, ends.sort((a, b) => b.value - a.value), room);
+    const lines = labels(f, ends) + steadyLine(f, rounds, "cost", 0) + steadyLine(f, rounds, "bound", 1);
+    const note = word === page.cost
+      ? "the allocation that is shown below"
+      : `another allocation, which <code>--cost ${word}</code> finds`;
+    const missing = others.filter((it) => it[1] === null)
+      .map((it) => ` There is no line ${it[0]}: it found no places that this code admits.`).join("");
+    return `<figure data-curve="${word}"><svg viewBox="0 0 ${f.wide} ${f.high}" width="${f.wide}" role="img" aria-label="Cost and bound by ${word}, round by round">${axes(f)}${lines}</svg>` +
+      `<figcaption>By ${word}, in ${UNIT[word]}: ${note}.${missing}</figcaption></figure>`;
+  }
+
+  // Draws the curves of a procedure for the room that there is.
+  function drawCurves(section) {
+    const p = page.procedures[Number(section.dataset.number)], box = section.querySelector(".curves");
+    const words = [page.cost, ...Object.keys(p.rounds).filter((w) => w !== page.cost)];
+    if (box && box.clientWidth) box.innerHTML = words.map((w) => curve(w, p, box.clientWidth)).join("");
+  }
+
+  function levelWords(p) {
+    return p.others[page.cost]
+      ? `<p class="faint">Level lines are what allocators of the literature come to here, by the same weights: <em>linear scan</em>, the same <em>with holes</em>, and graph <em>colouring</em>. Each was tried by three measures of whom to send to memory, the cheapest counts, and nothing proves them (<a href="#levels">more</a>).</p>`
+      : `<p class="faint">What other allocators come to was not worked out here, since the module is too large for that.</p>`;
+  }
+
+  function roundsTable(p) {
+    const words = Object.keys(p.rounds), rounds = p.rounds;
     const longest = Math.max(...words.map((w) => rounds[w].length));
     let out = `<details><summary>The same as numbers</summary><div class="wide"><table class="plain"><thead><tr><th class="number">round</th>`;
     for (const w of words) out += `<th class="number">cost by ${w}</th><th class="number">bound</th>`;
@@ -89,6 +142,11 @@
         const r = rounds[w][k] || ["", ""];
         out += `<td class="number">${r[0]}</td><td class="number">${r[1]}</td>`;
       }
+      out += "</tr>";
+    }
+    for (const name of Object.keys(p.others[page.cost] || {})) {
+      out += `<tr><td>${name}</td>`;
+      for (const w of words) out += `<td class="number">${p.others[w][name] ?? "none"}</td><td></td>`;
       out += "</tr>";
     }
     return out + "</tbody></table></div></details>";
@@ -258,11 +316,8 @@
     if (body.dataset.drawn) return;
     body.dataset.drawn = "yes";
     const p = page.procedures[Number(section.dataset.number)];
-    let out = `<h3>Cost and bound, round by round</h3><div class="curves">`;
-    for (const word of [page.cost, ...Object.keys(p.rounds).filter((w) => w !== page.cost)]) {
-      out += curve(word, p.rounds[word], word === page.cost);
-    }
-    out += `</div>${roundsTable(p.rounds)}<h3>What each event cost</h3>${paidTable(p)}`;
+    let out = `<h3>Cost and bound, round by round</h3><div class="curves"></div>`;
+    out += `${levelWords(p)}${roundsTable(p)}<h3>What each event cost</h3>${paidTable(p)}`;
     if (p.blocks.length > 1) out += `<h3>Blocks and loops</h3>${flow(p)}`;
     out += `<p><button type="button" class="tool only-narrow" data-machine>Show or hide machine instructions</button></p>`;
     out += `<div class="marked-bar" aria-live="polite" hidden><span></span><button type="button" data-unmark>unmark</button></div>`;
@@ -270,6 +325,7 @@
       out += `<h3 id="p${p.number}b${number}">Block ${number}, ${loops(block.depth)}</h3>${grid(p, number)}`;
     });
     body.innerHTML = out;
+    drawCurves(section);
   }
 
   // ---- marking a variable
@@ -368,6 +424,7 @@
   });
   if (sections.length) open(sections.length > 1 && page.first !== undefined ? sections[page.first] : sections[0]);
   window.addEventListener("hashchange", follow);
+  window.addEventListener("resize", () => sections.forEach(drawCurves));
   window.addEventListener("beforeprint", () => sections.forEach((s) => s.querySelector("details").open && draw(s)));
   follow();
   document.documentElement.dataset.ready = "yes";

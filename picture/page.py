@@ -7,6 +7,7 @@ from html import escape
 from picture.certificate import FIRST_BOTH, REGISTERS
 from picture.data import module_paid
 from picture.operands import BASE, EVENTS
+from picture.others import others_of_all
 
 HERE = os.path.dirname(os.path.realpath(__file__))
 UNIT = {"size": "bytes", "speed": "units of time"}
@@ -73,6 +74,16 @@ tested it, and needs to know nothing of how the allocation was found. So the cos
 difference between both above the best. A <em>round</em> tries to make the allocation cheaper, and
 to raise the bound. Round 0 is the plain beginning: every variable lives in memory and visits a
 register for each instruction that asks for one.</p>
+<p id="levels">The level lines of a curve are what three allocators of the literature come to on the
+same code: <em>linear scan</em> (Poletto and Sarkar 1999), the same where a variable has its
+register only while it is needed (<em>with holes</em>; Mössenböck and Pfeiffer 2002), and graph
+<em>colouring</em> (Chaitin 1982; Briggs, Cooper and Torczon 1994; George and Appel 1996). They know
+the weights and the loops; each was tried by three measures of whom to send to memory, and the
+cheapest counts. A variable that goes to memory visits a register for those instructions alone that
+ask for one; another has its register as long as it lives, since none of the three splits it. The
+scripts that made this page worked this out, and tested what was found by all rules of this code,
+but nothing proves that they do as those papers say. Where the cost of round 0 is far above all
+others it is told at the top.</p>
 <p>Where blocks follow one another, a variable is at the same place at the exit of one and at the
 entry of the next. A call may destroy eax, ecx and edx, a division works in eax and edx, and what is
 read or written goes through eax. An instruction has at most one memory operand.</p>
@@ -205,12 +216,13 @@ def first_open(module):
 def page_of(module):
     """The page of a module as text."""
     cost, report = module.certificate.cost, module.reports[module.certificate.cost]
+    others = others_of_all([it.network for it in module.drawn], module.reports)
     value = {
         "cost": cost,
         "events": EVENTS,
         "first": first_open(module),
         "procedures": [
-            it.value({word: r.procedures[at] for word, r in module.reports.items()})
+            it.value({word: r.procedures[at] for word, r in module.reports.items()}, others[at])
             for at, it in enumerate(module.drawn)
         ],
     }
