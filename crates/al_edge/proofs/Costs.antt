@@ -1,6 +1,7 @@
 -- Least costs where nothing is in use, and their sums.
 use Rattle.std.proofs.Common.{ℕ, ◌≡◌, ◌<◌, true, false, ℤ, pos, List, [], length, Option, Some}
 use Rattle.std.proofs.Common.{None, unwrap_or, refl, sym, subst}
+use Rattle.std.specs.Option.{MatchOption}
 use Rattle.pra_base.specs.declared.ids.Place.{Place}
 use Rattle.net_cost.specs.declared.weights.Weights.{Weights}
 use Rattle.net_form.specs.declared.net.Net.{Net}
@@ -13,7 +14,7 @@ use Rattle.net_form.specs.InUse.{UsesNothing, StandsFor}
 use Rattle.net_laws.specs.Built.{IsBuilt}
 use Rattle.net_dual.specs.Paths.{MayGo, IsLeast, IsLeastCost, Anywhere, path_edges, path_price}
 use Rattle.net_dual.specs.Priced.{edge_price}
-use Rattle.net_path.specs.Starts.{starting, IsCostFrom}
+use Rattle.net_path.specs.Starts.{starting, stopping}
 use Rattle.al_laws.specs.Greedy.{group_ends, is_group}
 use Rattle.al_laws.proofs.EndsAnywhere.{anywhere_ends}
 use Rattle.al_laws.proofs.HomePaths.{home_path}
@@ -69,21 +70,29 @@ module _ (net : Net) (taken : Taken) (free : StandsFor net taken []) where
   anywhere_cost price ends s z cost =
       least_cost price ends s cost.way z cost.is_least (sym cost.is)
 
-  -- a strand whose entry alone is in the group
+  -- what was found for these ends, which are those of the group
   module _ (built : IsBuilt net) (w : Weights) (prices : Prices) (g s : ℕ)
-      (lt : s < length net.strands)
-      (entry : is_group g (strand_at net s).entry_group ≡ true)
-      (exit : is_group g (strand_at net s).exit_group ≡ false) (p : Place)
-      (masks : IsInMasks net g p) where
-    ends_are : group_ends net g p s ≡ starting None p
-    ends_are = rw (entry, exit) refl
-
-    pub cost_by_entry : (o : Option ℤ) → IsCostFrom net w prices taken s None p o → (z : ℤ)
+      (lt : s < length net.strands) (p : Place) (masks : IsInMasks net g p) (ends : Ends)
+      (are : group_ends net g p s ≡ ends) where
+    pub cost_with : (o : Option ℤ)
+        → MatchOption o ((ps : List Place) → MayGo net ends (UsesNothing net taken) s ps → ⊥)
+        (IsLeastCost net (edge_price net w prices) ends (UsesNothing net taken) s) → (z : ℤ)
         → z ≡ unwrap_or o (pos 0) → IsCostAt net w prices g p s z
-    cost_by_entry None none z is = absurd (some_way built g p masks s lt
+    cost_with None none z is = absurd (some_way built g p masks s lt
         (subst (λ (ends : Ends). (ps : List Place) → MayGo net ends
-        (UsesNothing net taken) s ps → ⊥) (sym ends_are) none))
-    cost_by_entry (Some x) cost z is =
+        (UsesNothing net taken) s ps → ⊥) (sym are) none))
+    cost_with (Some x) cost z is =
         subst (λ (y : ℤ). IsCostAt net w prices g p s y) (sym is)
         (subst (λ (ends : Ends). IsLeastCost net (edge_price net w prices) ends Anywhere s x)
-        (sym ends_are) (anywhere_cost (edge_price net w prices) (starting None p) s x cost))
+        (sym are) (anywhere_cost (edge_price net w prices) ends s x cost))
+
+module _ (net : Net) (g s : ℕ) (p : Place) where
+  -- the entry alone is in the group
+  pub entry_ends : is_group g (strand_at net s).entry_group ≡ true
+      → is_group g (strand_at net s).exit_group ≡ false → group_ends net g p s ≡ starting None p
+  entry_ends entry exit = rw (entry, exit) refl
+
+  -- the exit alone is
+  pub exit_ends : is_group g (strand_at net s).entry_group ≡ false
+      → is_group g (strand_at net s).exit_group ≡ true → group_ends net g p s ≡ stopping None p
+  exit_ends entry exit = rw (entry, exit) refl

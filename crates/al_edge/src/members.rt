@@ -97,6 +97,17 @@ pub(crate) fn enters_alone(net: &Net, group: u32, strand: u32) -> bool
     is_in(group, strand.entry_group) && !is_in(group, strand.exit_group)
 }
 
+/// Whether a strand's exit is in the group, and its entry is not; and it is no constant.
+pub(crate) fn leaves_alone(net: &Net, group: u32, strand: u32) -> bool
+    requires strand { strand < length net.now.strands }
+    ensures { result ≡ (not (is_group group (strand_at net.now strand).entry_group) &&
+        is_group group (strand_at net.now strand).exit_group &&
+        not (strand_at net.now strand).constant) }
+{
+    let strand = &net.strands[strand as usize];
+    !is_in(group, strand.entry_group) && is_in(group, strand.exit_group) && !strand.constant
+}
+
 fn wanted(group: u32, place: Place, of_end: Option<u32>) -> Option<Place>
     ensures { result ≡ (if is_group group of_end then Some place else None) }
 {

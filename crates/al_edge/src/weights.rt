@@ -18,10 +18,10 @@ ghost use Rattle.al_edge.specs.Totals.{AreOpenBelow, AreInMasks, AreCostsBelow, 
 ghost use Rattle.al_edge.specs.Totals.{AreAdded, AreTotals};
 
 use crate::cheapest::{PlaceWeights, place_of};
-use crate::members::{counts, ends_of, enters_alone, group_ends, layer_of, mask_of};
+use crate::members::{counts, ends_of, enters_alone, group_ends, layer_of, leaves_alone, mask_of};
 use net_cost::{CostModel, Event};
 use net_form::{Net, Prices, Taken, TieEnd};
-use net_path::{Work, costs_from, least};
+use net_path::{Work, costs_from, costs_to, least};
 use pra_base::Place;
 use pra_base::places::allows;
 
@@ -213,6 +213,37 @@ fn costs_by_entry<F: Fn(Event, u32) -> u32>(
     known(&found)
 }
 
+// What a strand whose exit alone is in the group costs at each open place, by one search.
+fn costs_by_exit<F: Fn(Event, u32) -> u32>(
+    work: &mut Work,
+    net: &Net,
+    model: &CostModel<F>,
+    prices: &Prices,
+    free: &Taken,
+    group: u32,
+    opens: &[bool; 14],
+    strand: u32,
+) -> [i64; 14]
+    requires kept { Keeps F.Fn model.now }
+    requires net { IsBuilt net.now }
+    requires work { IsReservedFor net.now work.old }
+    requires prices { AreInRange net.now prices.now }
+    requires room { IsRoomOf net.now free.now }
+    requires free { StandsFor net.now free.now [] }
+    requires opens { AreInMasks net.now group opens.now }
+    requires strand { strand < length net.now.strands }
+    requires entry { is_group group (strand_at net.now strand).entry_group ≡ false }
+    requires exit { is_group group (strand_at net.now strand).exit_group ≡ true }
+    requires value { (strand_at net.now strand).constant ≡ false }
+    ensures costs { AreCostsBelow net.now (weights_of model.now) prices.now group strand opens.now
+        place_count result }
+    ensures family { work.new.family ≡ work.old.family }
+    ensures reserved { IsReservedFor net.now work.new }
+{
+    let found = costs_to(work, net, model, prices, strand, None, free);
+    known(&found)
+}
+
 // What a strand costs at least at each open place, with its ends in the group there.
 fn costs_at<F: Fn(Event, u32) -> u32>(
     work: &mut Work,
@@ -239,6 +270,8 @@ fn costs_at<F: Fn(Event, u32) -> u32>(
 {
     if enters_alone(net, group, strand) {
         costs_by_entry(work, net, model, prices, free, group, opens, strand)
+    } else if leaves_alone(net, group, strand) {
+        costs_by_exit(work, net, model, prices, free, group, opens, strand)
     } else {
         costs_by_place(work, net, model, prices, free, group, opens, strand)
     }

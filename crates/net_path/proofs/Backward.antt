@@ -7,8 +7,7 @@ use Rattle.pra_base.specs.declared.ids.Place.{Place}
 use Rattle.pra_base.specs.Places.{number}
 use Rattle.net_form.proofs.PlaceEquality.{same_place-true, same_place-refl}
 use Rattle.net_path.specs.declared.crossbar.Row.{Row}
-use Rattle.net_path.specs.declared.crossbar.Ways.{Ways}
-use Rattle.net_path.specs.Ways.{at, step_price, AreWaysWithin, IsLeastWay}
+use Rattle.net_path.specs.Ways.{at, IsShort, IsLeastWay}
 use Rattle.net_path.specs.Rests.{unreached, Terrain, IsFrom, IsRow, IsBest, IsSlack, AreRows}
 use Rattle.net_path.specs.Rows.{costs_at, cell_bound, slack_at, IsAbout, IsGround, IsCell, AreCells}
 use Rattle.net_path.specs.Rows.{IsPaid, IsRowWithin, IsPaidLayer}
@@ -17,7 +16,7 @@ use Rattle.std.proofs.lemmas.Bool.{cases_eq}
 use Rattle.net_path.proofs.Within.{parity, paid_within}
 use Rattle.net_path.proofs.LeastRests.{rest_more, nothing_left}
 
-module _ (ways : Ways) (first n : ℕ) (t : Terrain) (ground : IsGround ways first n t) where
+module _ (step : ℕ → ℕ → ℤ) (first n : ℕ) (t : Terrain) (ground : IsGround step first n t) where
   -- the slack of a layer covers what is paid there
   pub slack_of : (k : ℕ) → k < n → IsSlack t k (slack_at n k) (slack_at n (suc k))
   slack_of k lt = record {
@@ -45,7 +44,7 @@ module _ (ways : Ways) (first n : ℕ) (t : Terrain) (ground : IsGround ways fir
 
   -- and before a crossbar what was found is the least
   pub crossed_best : (k : ℕ) (behind : List ℤ) (z : ℤ) (q : Place) → (first + k) % 2 ≡ 1
-      → IsLeastWay (step_price ways (number q)) behind z → IsBest t k (Some q) behind z
+      → IsLeastWay (step (number q)) behind z → IsBest t k (Some q) behind z
   crossed_best k behind z q odd least =
       let to = place_of least.met.place least.met.within in record {
         below = λ r comes. let way = (ground.crossbar k q r odd).1 in
@@ -78,7 +77,7 @@ module _ (ways : Ways) (first n : ℕ) (t : Terrain) (ground : IsGround ways fir
     pub paid : IsPaid cell rest z
 
   pub paid_best : (k : ℕ) (behind cells costs : List ℤ) (q : Place)
-      → IsPaidLayer ways (first + k) behind cells costs
+      → IsPaidLayer step (first + k) behind cells costs
       → IsPaidBest k behind q (at cells (number q)) (at costs (number q))
   paid_best k behind cells costs q paid =
       elim (parity (first + k))
@@ -132,7 +131,7 @@ module _ (ways : Ways) (first n : ℕ) (t : Terrain) (ground : IsGround ways fir
   pub rows_more : (old new : List Row) (initial : List Row) (i : ℕ)
       → suc i < n → length initial ≡ n → ((k : ℕ) → suc i ≤ k → costs_at new k ≡ costs_at old k)
       → AreCells t initial
-      → IsPaidLayer ways (first + suc i) (costs_at old (suc i)) (costs_at initial i)
+      → IsPaidLayer step (first + suc i) (costs_at old (suc i)) (costs_at initial i)
       (costs_at new i)
       → AreRows t (costs_at old) (slack_at n) n (suc i) → AreRows t (costs_at new) (slack_at n) n i
   rows_more old new initial i lt long same cells paid are = record {
@@ -158,28 +157,28 @@ module _ (ways : Ways) (first n : ℕ) (t : Terrain) (ground : IsGround ways fir
         (made m (omega arith))
 
 -- one layer more, as the loop makes it
-module _ (ways : Ways) (within : AreWaysWithin ways)
+module _ (step : ℕ → ℕ → ℤ) (short : (p q : ℕ) → IsShort (step p q))
     (first i j n : ℕ) (next : j ≡ suc i) (lt : j < n) (old new initial : List Row)
     (long : length initial ≡ n) (same : (k : ℕ) → k ≢ i → costs_at new k ≡ costs_at old k)
     (left : costs_at old i ≡ costs_at initial i)
-    (paid : IsPaidLayer ways (first + j) (costs_at old j) (costs_at old i) (costs_at new i)) where
+    (paid : IsPaidLayer step (first + j) (costs_at old j) (costs_at old i) (costs_at new i)) where
   pub small_more : ((p : ℕ) → p < 14 → (at (costs_at initial i) p ≡ unreached)
       ⊎ IsAbout (cell_bound n i) (at (costs_at initial i) p))
       → IsRowWithin (slack_at n j) (costs_at old j) → IsRowWithin (slack_at n i) (costs_at new i)
   small_more about small =
-      paid_within ways within n i (first + suc i) (costs_at old (suc i)) (costs_at old i) (costs_at new i)
+      paid_within step short n i (first + suc i) (costs_at old (suc i)) (costs_at old i) (costs_at new i)
       (omega arith) (rw left about)
       (subst (λ (j : ℕ). IsRowWithin (slack_at n j) (costs_at old j)) next small)
-      (subst (λ (j : ℕ). IsPaidLayer ways (first + j) (costs_at old j) (costs_at old i)
+      (subst (λ (j : ℕ). IsPaidLayer step (first + j) (costs_at old j) (costs_at old i)
       (costs_at new i)) next paid)
 
-  pub paid_more : (t : Terrain) → IsGround ways first n t → AreCells t initial
+  pub paid_more : (t : Terrain) → IsGround step first n t → AreCells t initial
       → AreRows t (costs_at old) (slack_at n) n j → AreRows t (costs_at new) (slack_at n) n i
   paid_more t ground cells are =
-      rows_more ways first n t ground old new initial i (omega arith) long
+      rows_more step first n t ground old new initial i (omega arith) long
       (λ k le. same k (omega arith)) cells
-      (subst (λ (xs : List ℤ). IsPaidLayer ways (first + suc i) (costs_at old (suc i)) xs
+      (subst (λ (xs : List ℤ). IsPaidLayer step (first + suc i) (costs_at old (suc i)) xs
       (costs_at new i)) left
-      (subst (λ (j : ℕ). IsPaidLayer ways (first + j) (costs_at old j) (costs_at old i)
+      (subst (λ (j : ℕ). IsPaidLayer step (first + j) (costs_at old j) (costs_at old i)
       (costs_at new i)) next paid))
       (subst (λ (j : ℕ). AreRows t (costs_at old) (slack_at n) n j) next are)

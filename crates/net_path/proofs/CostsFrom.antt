@@ -1,7 +1,7 @@
 -- What a row says of the paths from each of its places.
 use Rattle.std.proofs.Common.{ℕ, suc, ◌≡◌, ◌<◌, ◌≤◌, ◌+◌, ◌-◌, ◌^◌, Bool, true, false, ℤ, pos, ◌+ℤ◌}
 use Rattle.std.proofs.Common.{◌≤ℤ◌, ◌<ℤ◌, List, [], ◌∷◌, length, slice_get, Option, Some, None}
-use Rattle.std.proofs.Common.{◌||◌, not, IsTrue, refl, sym, subst, ap, arith, ◌⊎◌, inl, inr}
+use Rattle.std.proofs.Common.{◌||◌, not, IsTrue, refl, sym, subst, ap, arith, inl, inr}
 use Rattle.std.proofs.lemmas.Int.{ints}
 use Rattle.std.proofs.lemmas.Bool.{false≢true}
 use Rattle.pra_list.proofs.Options.{none_some, some_same}
@@ -17,12 +17,12 @@ use Rattle.net_form.specs.Admitted.{strand_at}
 use Rattle.net_form.specs.InUse.{UsesNothing}
 use Rattle.net_laws.specs.Built.{IsBuilt}
 use Rattle.net_dual.specs.Priced.{edge_price, AreInRange}
-use Rattle.net_dual.specs.Paths.{MayGo, IsLeast, IsLeastCost, path_price}
+use Rattle.net_dual.specs.Paths.{MayGo, IsLeastCost, path_price}
 use Rattle.net_dual.proofs.Small.{path_is_small}
 use Rattle.net_form.specs.Admitted.{is_across}
 use Rattle.net_path.specs.Choices.{IsStart}
 use Rattle.net_path.specs.Grounds.{terrain, is_free, edge, layer}
-use Rattle.net_path.specs.Rests.{unreached, Terrain, Passes, rest_price, IsFrom, IsPaidThere, AreRows}
+use Rattle.net_path.specs.Rests.{Terrain, Passes, rest_price, IsFrom, IsPaidThere, AreRows}
 use Rattle.net_path.specs.Rows.{slack_at}
 use Rattle.net_path.specs.Starts.{starting, IsCostFrom}
 use Rattle.net_path.specs.Ways.{at}

@@ -1,18 +1,17 @@
 -- The least of going on from a place to any register but its own, or out of registers.
 use Rattle.std.proofs.Common.{ℕ, ◌≡◌, ◌≢◌, ◌⊎◌, ◌<◌, ◌+◌, ℤ, ◌+ℤ◌, ◌≤ℤ◌, List, subst, sym, arith}
-use Rattle.std.proofs.Common.{inl, inr, ap}
+use Rattle.std.proofs.Common.{pos, inl, inr, ap, refl, ◌∙◌}
 use Rattle.std.proofs.lemmas.Int.{ints}
-use Rattle.net_path.specs.declared.crossbar.Ways.{Ways}
+use Rattle.net_path.specs.declared.crossbar.Steps.{Steps}
 use Rattle.net_path.specs.declared.crossbar.Bests.{Bests}
 use Rattle.net_path.specs.declared.crossbar.Onward.{Onward}
-use Rattle.net_path.specs.Ways.{at, step_price, AreWaysWithin, AreBests, IsLeastOfFour, IsLeastWay}
+use Rattle.net_path.specs.Ways.{at, step_of, AreStepsWithin, AreBests, IsLeastOfFour, IsLeastWay}
 use Rattle.net_path.specs.Ways.{IsLeastElsewhere, IsMet}
-use Rattle.net_path.specs.Ways.{IsFromAlone, IsFromBoth, IsFromMemory, IsFromConstant}
 use Rattle.net_path.proofs.Classes.{Class, class_of}
 use Rattle.net_path.proofs.Classes.Class.{alone, memory, constant, both}
 use Rattle.net_path.proofs.Steps.{moved_within, moved_other, alone_alone, alone_both, alone_memory}
 use Rattle.net_path.proofs.Steps.{both_alone, both_both, both_memory, memory_alone, memory_both}
-use Rattle.net_path.proofs.Steps.{constant_alone, constant_both}
+use Rattle.net_path.proofs.Steps.{alone_constant, both_constant, constant_alone, constant_both}
 
 -- to a class of places the way costs what is said of the class, but less to register r
 pub record Bounds (way : ℕ → ℤ) (r : ℕ) (by : Onward) : Type 0 where
@@ -110,65 +109,57 @@ least_anywhere way costs z least = record {
   met = least.met;
 }
 
-module _ (ways : Ways) (within : AreWaysWithin ways) (by : Onward) where
-  pub alone_bounds : (r : ℕ) → r < 6 → IsFromAlone ways by → Bounds (step_price ways r) r by
-  alone_bounds r lr is = record {
-    to_alone = λ s ls. let e = alone_alone ways r s lr ls in
-        let m = moved_within ways r s within.between.0 in let b = is.alone in
-        omega (arith, ints, e, m, b);
-    to_both = λ s ls. let e = alone_both ways r s lr ls in
-        let m = moved_within ways r s within.between.0 in let b = is.both in
-        omega (arith, ints, e, m, b);
-    to_memory = let e = alone_memory ways r lr in let b = is.memory in omega (arith, ints, e, b);
-    to_constant = sym is.constant;
-    other_alone = λ s ls ne. let e = alone_alone ways r s lr ls in
-        let m = moved_other ways r s (λ e. ne (sym e)) in let b = is.alone in
-        omega (arith, ints, e, m, b);
-    other_both = λ s ls ne. let e = alone_both ways r s lr ls in
-        let m = moved_other ways r s (λ e. ne (sym e)) in let b = is.both in
-        omega (arith, ints, e, m, b);
+module _ (steps : Steps) (within : AreStepsWithin steps) where
+  pub alone_bounds : (r : ℕ) → r < 6 → Bounds (step_of steps r) r steps.alone
+  alone_bounds r lr = record {
+    to_alone = λ s ls. let e = alone_alone steps r s lr ls in
+        let m = moved_within r s (pos 0 +ℤ pos 0) steps.alone.alone within.alone.alone.0 in
+        omega (arith, ints, e, m);
+    to_both = λ s ls. let e = alone_both steps r s lr ls in
+        let less = within.kept_less in
+        let m = moved_within r s (steps.kept +ℤ pos 0) steps.alone.both
+        (omega (arith, ints, less)) in omega (arith, ints, e, m);
+    to_memory = alone_memory steps r lr;
+    to_constant = alone_constant steps r lr;
+    other_alone = λ s ls ne. alone_alone steps r s lr ls
+        ∙ moved_other r s (pos 0 +ℤ pos 0) steps.alone.alone (λ e. ne (sym e));
+    other_both = λ s ls ne. alone_both steps r s lr ls
+        ∙ moved_other r s (steps.kept +ℤ pos 0) steps.alone.both (λ e. ne (sym e));
   }
 
-  pub both_bounds : (r : ℕ) → IsFromBoth ways by → Bounds (step_price ways (8 + r)) r by
-  both_bounds r is = record {
-    to_alone = λ s ls. let e = both_alone ways r s ls in
-        let m = moved_within ways r s within.between.0 in let b = is.alone in
-        omega (arith, ints, e, m, b);
-    to_both = λ s ls. let e = both_both ways r s in
-        let m = moved_within ways r s within.between.0 in let b = is.both in
-        omega (arith, ints, e, m, b);
-    to_memory = let e = both_memory ways r in let b = is.memory in omega (arith, ints, e, b);
-    to_constant = sym is.constant;
-    other_alone = λ s ls ne. let e = both_alone ways r s ls in
-        let m = moved_other ways r s (λ e. ne (sym e)) in let b = is.alone in
-        omega (arith, ints, e, m, b);
-    other_both = λ s ls ne. let e = both_both ways r s in
-        let m = moved_other ways r s (λ e. ne (sym e)) in let b = is.both in
-        omega (arith, ints, e, m, b);
+  pub both_bounds : (r : ℕ) → Bounds (step_of steps (8 + r)) r steps.both
+  both_bounds r = record {
+    to_alone = λ s ls. let e = both_alone steps r s ls in
+        let less = within.left_less in
+        let m = moved_within r s (pos 0 +ℤ steps.left) steps.both.alone
+        (omega (arith, ints, less)) in omega (arith, ints, e, m);
+    to_both = λ s ls. let e = both_both steps r s in
+        let m = moved_within r s (pos 0 +ℤ pos 0) steps.both.both within.both.both.0 in
+        omega (arith, ints, e, m);
+    to_memory = both_memory steps r;
+    to_constant = both_constant steps r;
+    other_alone = λ s ls ne. both_alone steps r s ls
+        ∙ moved_other r s (pos 0 +ℤ steps.left) steps.both.alone (λ e. ne (sym e));
+    other_both = λ s ls ne. both_both steps r s
+        ∙ moved_other r s (pos 0 +ℤ pos 0) steps.both.both (λ e. ne (sym e));
   }
 
-  pub memory_bounds : (r : ℕ) → IsFromMemory ways by → Bounds (step_price ways 6) r by
-  memory_bounds r is = record {
-    to_alone = λ s ls. let e = memory_alone ways s ls in let b = is.alone in
-        omega (arith, ints, e, b);
-    to_both = λ s ls. let e = memory_both ways s in let b = is.both in omega (arith, ints, e, b);
-    to_memory = sym is.memory;
-    to_constant = sym is.constant;
-    other_alone = λ s ls ne. let e = memory_alone ways s ls in let b = is.alone in
-        omega (arith, ints, e, b);
-    other_both = λ s ls ne. let e = memory_both ways s in let b = is.both in
-        omega (arith, ints, e, b);
+  pub memory_bounds : (r : ℕ) → Bounds (step_of steps 6) r steps.memory
+  memory_bounds r = record {
+    to_alone = λ s ls. let e = memory_alone steps s ls in omega (arith, ints, e);
+    to_both = λ s ls. let e = memory_both steps s in omega (arith, ints, e);
+    to_memory = refl;
+    to_constant = refl;
+    other_alone = λ s ls ne. memory_alone steps s ls;
+    other_both = λ s ls ne. memory_both steps s;
   }
 
-  pub constant_bounds : (r : ℕ) → IsFromConstant ways by → Bounds (step_price ways 7) r by
-  constant_bounds r is = record {
-    to_alone = λ s ls. let e = constant_alone ways s ls in let b = is.alone in
-        omega (arith, ints, e, b);
-    to_both = λ s ls. let e = constant_both ways s in let b = is.both in omega (arith, ints, e, b);
-    to_memory = let b = is.memory in omega (arith, ints, b);
-    to_constant = sym is.constant;
-    other_alone = λ s ls ne. let e = constant_alone ways s ls in let b = is.alone in
-        omega (arith, ints, e, b);
-    other_both = λ s ls ne. let e = constant_both ways s in let b = is.both in
-        omega (arith, ints, e, b);
+  pub constant_bounds : (r : ℕ) → Bounds (step_of steps 7) r steps.constant
+  constant_bounds r = record {
+    to_alone = λ s ls. let e = constant_alone steps s ls in omega (arith, ints, e);
+    to_both = λ s ls. let e = constant_both steps s in omega (arith, ints, e);
+    to_memory = refl;
+    to_constant = refl;
+    other_alone = λ s ls ne. constant_alone steps s ls;
+    other_both = λ s ls ne. constant_both steps s;
   }

@@ -23,7 +23,7 @@ place_of_best way costs c best = record {
   below = λ k lt. let b = best.below k lt in let is = best.is in omega (arith, ints, b, is);
 }
 
-module _ (ways : Ways) (first n : ℕ) (t : Terrain) (ground : IsGround ways first n t)
+module _ (ways : Ways) (first n : ℕ) (t : Terrain) (ground : IsGround (step_price ways) first n t)
     (row : ℕ → List ℤ) (k : ℕ) (from next : Place) where
   abbrev Goes : Type 0
   Goes = IsTrue (t.may_come k (Some from) next)
@@ -33,7 +33,7 @@ module _ (ways : Ways) (first n : ℕ) (t : Terrain) (ground : IsGround ways fir
   goes_across even same =
       let comes = (ground.across k from from even).0 ∙ same_place-refl from in
       let way = (ground.across k from from even).1 in
-      let best = stays_best ways first n t ground k (row k) from even in
+      let best = stays_best (step_price ways) first n t ground k (row k) from even in
       let is : at (row k) (number from) ≡ t.way k (Some from) from +ℤ at (row k) (number from) =
       omega (arith, ints, way) in
       subst (λ (q : Place). IsTrue (t.may_come k (Some from) q) × IsBest t k (Some from) (row k)

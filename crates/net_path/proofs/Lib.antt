@@ -3,6 +3,7 @@ pub mod BestChoices
 pub mod Bridges
 pub mod Classes
 pub mod CostsFrom
+pub mod CostsTo
 pub mod Elsewhere
 pub mod EndSums
 pub mod EndsThere
@@ -28,6 +29,7 @@ pub mod Staying
 pub mod Steps
 pub mod Stores
 pub mod TieSums
+pub mod Turned
 pub mod Unused
 pub mod WholeCells
 pub mod Within

@@ -1,10 +1,10 @@
 -- To stay, in the register alone or in its both place, beside going elsewhere.
 use Rattle.std.proofs.Common.{ℕ, ◌≡◌, ◌⊎◌, ◌<◌, ◌+◌, ℤ, ◌+ℤ◌, ◌≤ℤ◌, List, subst, sym, arith, inl}
-use Rattle.std.proofs.Common.{inr}
+use Rattle.std.proofs.Common.{inr, pos, ◌∙◌}
 use Rattle.std.proofs.lemmas.Int.{ints}
 use Rattle.std.proofs.lemmas.Bool.{cases_eq}
-use Rattle.net_path.specs.declared.crossbar.Ways.{Ways}
-use Rattle.net_path.specs.Ways.{at, step_price, IsLeastWay, IsLeastElsewhere, IsMet}
+use Rattle.net_path.specs.declared.crossbar.Steps.{Steps}
+use Rattle.net_path.specs.Ways.{at, step_of, IsLeastWay, IsLeastElsewhere, IsMet}
 use Rattle.net_path.proofs.Steps.{moved_same, alone_alone, alone_both, both_alone, both_both}
 
 module _ (way : ℕ → ℤ) (r : ℕ) (costs : List ℤ) where
@@ -31,36 +31,34 @@ module _ (way : ℕ → ℤ) (r : ℕ) (costs : List ℤ) where
     ];
   }
 
-module _ (ways : Ways) (r : ℕ) (lr : r < 6) (costs : List ℤ) (kept s z e : ℤ) where
+module _ (steps : Steps) (r : ℕ) (lr : r < 6) (costs : List ℤ) (kept s z e : ℤ) where
   -- from the register alone
-  pub stays_alone : (stored : ℤ) → kept ≡ at costs r → stored ≡ ways.store +ℤ at costs (8 + r)
+  pub stays_alone : (stored : ℤ) → kept ≡ at costs r → stored ≡ steps.kept +ℤ at costs (8 + r)
       → s ≤ℤ kept → s ≤ℤ stored → (s ≡ kept) ⊎ (s ≡ stored)
-      → IsLeastElsewhere (step_price ways r) r costs e → z ≤ℤ e → z ≤ℤ s → (z ≡ e) ⊎ (z ≡ s)
-      → IsLeastWay (step_price ways r) costs z
+      → IsLeastElsewhere (step_of steps r) r costs e → z ≤ℤ e → z ≤ℤ s → (z ≡ e) ⊎ (z ≡ s)
+      → IsLeastWay (step_of steps r) costs z
   stays_alone stored is_kept is_stored sk ss met else ze zs zmet =
-      let same = moved_same ways r in
-      let a = alone_alone ways r r lr lr in
-      let b = alone_both ways r r lr lr in
-      least_with_stay (step_price ways r) r costs e s z else ze zs zmet
-      (omega (arith, ints, same, a)) (omega (arith, ints, same, b))
-      (elim met as (λ _. IsMet (step_price ways r) costs s) [
-        | inl is ↦ record { place = r; within = omega arith; met = omega (arith, ints, same, a) }
-        | inr is ↦
-            record { place = 8 + r; within = omega arith; met = omega (arith, ints, same, b) }
+      let a = alone_alone steps r r lr lr
+      ∙ moved_same r (pos 0 +ℤ pos 0) steps.alone.alone in
+      let b = alone_both steps r r lr lr ∙ moved_same r (steps.kept +ℤ pos 0) steps.alone.both in
+      least_with_stay (step_of steps r) r costs e s z else ze zs zmet
+      (omega (arith, ints, a)) (omega (arith, ints, b))
+      (elim met as (λ _. IsMet (step_of steps r) costs s) [
+        | inl is ↦ record { place = r; within = omega arith; met = omega (arith, ints, a) }
+        | inr is ↦ record { place = 8 + r; within = omega arith; met = omega (arith, ints, b) }
       ])
 
   -- from its both place
-  pub stays_in_both : (other : ℤ) → kept ≡ at costs (8 + r) → other ≡ at costs r → s ≤ℤ kept
-      → s ≤ℤ other → (s ≡ kept) ⊎ (s ≡ other) → IsLeastElsewhere (step_price ways (8 + r)) r costs e
-      → z ≤ℤ e → z ≤ℤ s → (z ≡ e) ⊎ (z ≡ s) → IsLeastWay (step_price ways (8 + r)) costs z
-  stays_in_both other is_kept is_other sk so met else ze zs zmet =
-      let same = moved_same ways r in
-      let a = both_alone ways r r lr in
-      let b = both_both ways r r in
-      least_with_stay (step_price ways (8 + r)) r costs e s z else ze zs zmet
-      (omega (arith, ints, same, a)) (omega (arith, ints, same, b))
-      (elim met as (λ _. IsMet (step_price ways (8 + r)) costs s) [
-        | inl is ↦
-            record { place = 8 + r; within = omega arith; met = omega (arith, ints, same, b) }
-        | inr is ↦ record { place = r; within = omega arith; met = omega (arith, ints, same, a) }
+  pub stays_in_both : (left : ℤ) → kept ≡ at costs (8 + r) → left ≡ steps.left +ℤ at costs r
+      → s ≤ℤ kept → s ≤ℤ left → (s ≡ kept) ⊎ (s ≡ left)
+      → IsLeastElsewhere (step_of steps (8 + r)) r costs e
+      → z ≤ℤ e → z ≤ℤ s → (z ≡ e) ⊎ (z ≡ s) → IsLeastWay (step_of steps (8 + r)) costs z
+  stays_in_both left is_kept is_left sk sl met else ze zs zmet =
+      let a = both_alone steps r r lr ∙ moved_same r (pos 0 +ℤ steps.left) steps.both.alone in
+      let b = both_both steps r r ∙ moved_same r (pos 0 +ℤ pos 0) steps.both.both in
+      least_with_stay (step_of steps (8 + r)) r costs e s z else ze zs zmet
+      (omega (arith, ints, a)) (omega (arith, ints, b))
+      (elim met as (λ _. IsMet (step_of steps (8 + r)) costs s) [
+        | inl is ↦ record { place = 8 + r; within = omega arith; met = omega (arith, ints, b) }
+        | inr is ↦ record { place = r; within = omega arith; met = omega (arith, ints, a) }
       ])

@@ -1,11 +1,9 @@
 -- Rows of numbers that are not too large.
-use Rattle.std.proofs.Common.{ℕ, suc, ◌≡◌, ◌⊎◌, ◌<◌, ◌≤◌, ◌+◌, ◌%◌, ◌^◌, Bool, true, false, ℤ, pos}
-use Rattle.std.proofs.Common.{◌+ℤ◌, ◌≤ℤ◌, List, cond, not, eqb, ◌&&◌, inl, inr, arith}
+use Rattle.std.proofs.Common.{ℕ, suc, ◌≡◌, ◌⊎◌, ◌<◌, ◌≤◌, ◌+◌, ◌%◌, ◌^◌, ℤ, pos}
+use Rattle.std.proofs.Common.{◌+ℤ◌, ◌≤ℤ◌, List, inl, inr, arith}
 use Rattle.std.proofs.lemmas.Int.{ints}
 use Rattle.std.proofs.lemmas.Bool.{cases_eq}
-use Rattle.pra_base.specs.Places.{has_register, register_of, needs_slot}
-use Rattle.net_path.specs.declared.crossbar.Ways.{Ways}
-use Rattle.net_path.specs.Ways.{at, step_price, AreWaysWithin, IsWay, IsDebt, AreDebts}
+use Rattle.net_path.specs.Ways.{at, IsShort, IsDebt, AreDebts}
 use Rattle.net_path.specs.Ways.{IsLeastWay}
 use Rattle.net_path.specs.Rests.{unreached}
 use Rattle.net_path.specs.Rows.{cell_bound, slack_at, IsAbout, IsRowWithin, AreCostsCells}
@@ -19,40 +17,15 @@ parity n = elim (cases_eq (n % 2) 0)
 abbrev pub IsRest : ℕ → ℤ → Type 0
 IsRest b z = (pos 0 ≤ℤ (z +ℤ pos b)) × (z ≤ℤ (unreached +ℤ pos (b + 2 ^ 43)))
 
-module _ (ways : Ways) (within : AreWaysWithin ways) where
-  brings_within : (hp eq sp : Bool)
-      → IsWay (cond hp (cond eq (pos 0) ways.between) (cond sp ways.load ways.set))
-  brings_within true true sp = (omega (arith, ints), omega (arith, ints))
-  brings_within true false sp = within.between
-  brings_within false eq true = within.load
-  brings_within false eq false = within.set
-
-  comes_within : (hq hp eq sp : Bool) → IsWay
-      (cond hq (cond hp (cond eq (pos 0) ways.between) (cond sp ways.load ways.set)) (pos 0))
-  comes_within true hp eq sp = brings_within hp eq sp
-  comes_within false hp eq sp = (omega (arith, ints), omega (arith, ints))
-
-  stored_within : (b : Bool) → IsWay (cond b ways.store (pos 0))
-  stored_within true = within.store
-  stored_within false = (omega (arith, ints), omega (arith, ints))
-
-  -- a step costs two moves at most
-  pub step_within : (p q : ℕ)
-      → (pos 0 ≤ℤ step_price ways p q) × (step_price ways p q ≤ℤ pos (2 ^ 43))
-  step_within p q =
-      let one = comes_within (has_register q) (has_register p) (eqb (register_of p) (register_of q))
-      (needs_slot p) in
-      let two = stored_within (needs_slot q && not (needs_slot p)) in
-      (omega (arith, ints, one, two), omega (arith, ints, one, two))
-
+module _ (step : ℕ → ℕ → ℤ) (short : (p q : ℕ) → IsShort (step p q)) where
   pub crossed_within : (b : ℕ) (behind : List ℤ) (p : ℕ) (z : ℤ) → IsRowWithin b behind → p < 14
-      → IsLeastWay (step_price ways p) behind z → IsRest b z
+      → IsLeastWay (step p) behind z → IsRest b z
   crossed_within b behind p z small lt least =
       let met = least.met.met in
-      let way = step_within p least.met.place in
+      let way = short p least.met.place in
       let there = small least.met.place least.met.within in
       let own = least.below p lt in
-      let stay = step_within p p in
+      let stay = short p p in
       let here = small p lt in
       (omega (arith, ints, met, way, there), omega (arith, ints, own, stay, here))
 
@@ -63,7 +36,7 @@ module _ (ways : Ways) (within : AreWaysWithin ways) where
     pub paid : IsPaid cell rest z
 
   pub left_within : (b layer : ℕ) (behind cells costs : List ℤ) → IsRowWithin b behind
-      → IsPaidLayer ways layer behind cells costs → (p : ℕ) → p < 14
+      → IsPaidLayer step layer behind cells costs → (p : ℕ) → p < 14
       → IsLeft b (at cells p) (at costs p)
   left_within b layer behind cells costs small paid p lt =
       elim (parity layer) as (λ _. IsLeft b (at cells p) (at costs p)) [
@@ -81,7 +54,7 @@ module _ (ways : Ways) (within : AreWaysWithin ways) where
 
   pub paid_within : (n k layer : ℕ) (behind cells costs : List ℤ) → k < n
       → ((p : ℕ) → p < 14 → (at cells p ≡ unreached) ⊎ IsAbout (cell_bound n k) (at cells p))
-      → IsRowWithin (slack_at n (suc k)) behind → IsPaidLayer ways layer behind cells costs
+      → IsRowWithin (slack_at n (suc k)) behind → IsPaidLayer step layer behind cells costs
       → IsRowWithin (slack_at n k) costs
   paid_within n k layer behind cells costs lt about small paid p lp =
       let left = left_within (slack_at n (suc k)) layer behind cells costs small paid p lp in
@@ -97,7 +70,7 @@ module _ (ways : Ways) (within : AreWaysWithin ways) where
 
   -- over a crossbar what is left behind a row is a debt
   pub least_is_debt : (behind : List ℤ) (p : ℕ) (z : ℤ) → IsRowWithin (2 ^ 60 + 2 ^ 59) behind
-      → p < 14 → IsLeastWay (step_price ways p) behind z → IsDebt z
+      → p < 14 → IsLeastWay (step p) behind z → IsDebt z
   least_is_debt behind p z small lt least =
       let h = crossed_within (2 ^ 60 + 2 ^ 59) behind p z small lt least in
       (omega (arith, ints, h), omega (arith, ints, h))

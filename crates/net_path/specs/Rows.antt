@@ -6,8 +6,7 @@ use Rattle.pra_base.specs.declared.ids.Place.{Place}
 use Rattle.pra_base.specs.Places.{number, place_count}
 use Rattle.net_form.specs.Flow.{same_place}
 use Rattle.net_path.specs.declared.crossbar.Row.{Row}
-use Rattle.net_path.specs.declared.crossbar.Ways.{Ways}
-use Rattle.net_path.specs.Ways.{at, step_price, IsLeastWay}
+use Rattle.net_path.specs.Ways.{at, IsLeastWay}
 use Rattle.net_path.specs.Rests.{unreached, Terrain}
 
 abbrev pub no_row : Row
@@ -45,14 +44,15 @@ IsRowWithin b costs =
     (p : ℕ) → p < place_count →
     (pos 0 ≤ℤ (at costs p +ℤ pos b)) × (at costs p ≤ℤ (unreached +ℤ pos b))
 
--- ---- a terrain that a strand of n layers goes through, from a layer of the block on
+-- ---- a terrain that a strand of n layers goes through, from a layer of the block on, where the
+-- steps of crossbars cost so much
 
-pub record IsGround (ways : Ways) (first n : ℕ) (t : Terrain) : Type 0 where
+pub record IsGround (step : ℕ → ℕ → ℤ) (first n : ℕ) (t : Terrain) : Type 0 where
   pub across : (k : ℕ) (p q : Place) → (first + k) % 2 ≡ 0 →
       (t.may_come k (Some p) q ≡ same_place p q) × (t.way k (Some p) q ≡ pos 0)
   pub crossbar : (k : ℕ) (p q : Place) → (first + k) % 2 ≡ 1 →
       (t.may_come k (Some p) q ≡ true) ×
-      (t.way k (Some p) q ≡ step_price ways (number p) (number q))
+      (t.way k (Some p) q ≡ step (number p) (number q))
   pub way_low : (k : ℕ) (p : Option Place) (q : Place) → pos 0 ≤ℤ t.way k p q
   pub way_high : (k : ℕ) (p : Option Place) (q : Place) → t.way k p q ≤ℤ pos (2 ^ 43)
   pub cells : (k : ℕ) (q : Place) → k < n → IsTrue (t.is_open k q) →
@@ -95,11 +95,11 @@ pub record IsPaidOver (way : ℕ → ℤ) (behind : List ℤ) (cell z : ℤ) : T
   pub least : IsLeastWay way behind rest
   pub paid : IsPaid cell rest z
 
-abbrev pub ArePaidOver : Ways → List ℤ → List ℤ → List ℤ → Type 0
-ArePaidOver ways behind cells costs =
-    (p : ℕ) → p < place_count → IsPaidOver (step_price ways p) behind (at cells p) (at costs p)
+abbrev pub ArePaidOver : (ℕ → ℕ → ℤ) → List ℤ → List ℤ → List ℤ → Type 0
+ArePaidOver step behind cells costs =
+    (p : ℕ) → p < place_count → IsPaidOver (step p) behind (at cells p) (at costs p)
 
 -- a row from the row behind it, which is that of layer l of the block
-pub record IsPaidLayer (ways : Ways) (l : ℕ) (behind cells costs : List ℤ) : Type 0 where
+pub record IsPaidLayer (step : ℕ → ℕ → ℤ) (l : ℕ) (behind cells costs : List ℤ) : Type 0 where
   pub across : l % 2 ≡ 0 → ArePaid cells behind costs
-  pub crossbar : l % 2 ≡ 1 → ArePaidOver ways behind cells costs
+  pub crossbar : l % 2 ≡ 1 → ArePaidOver step behind cells costs

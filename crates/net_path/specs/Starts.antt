@@ -1,4 +1,4 @@
--- What least paths cost from each place at which a strand may begin.
+-- What least paths cost from each place at which a strand may begin, and to each at which it may end.
 use Rattle.std.specs.Prelude.{ℕ, ◌<◌, ℤ, List, Option, Some, None, slice_index_or}
 use Rattle.std.specs.Option.{MatchOption}
 use Rattle.pra_base.specs.declared.ids.Place.{Place}
@@ -29,3 +29,20 @@ abbrev pub AreCostsFrom
 AreCostsFrom net w prices taken s last k costs =
     (p : Place) → number p < k →
     IsCostFrom net w prices taken s last p (slice_index_or costs (number p) None)
+
+-- from that place, or from wherever, to this one
+abbrev pub stopping : Option Place → Place → Ends
+stopping first p = record { first = first; last = Some p }
+
+-- what is least of the paths of strand s to place p, or that there is none
+abbrev pub IsCostTo : Net → Weights → Prices → Taken → ℕ → Option Place → Place → Option ℤ → Type 0
+IsCostTo net w prices taken s first p o =
+    MatchOption o
+    ((ps : List Place) → MayGo net (stopping first p) (UsesNothing net taken) s ps → ⊥)
+    (IsLeastCost net (edge_price net w prices) (stopping first p) (UsesNothing net taken) s)
+
+abbrev pub AreCostsTo
+    : Net → Weights → Prices → Taken → ℕ → Option Place → ℕ → List (Option ℤ) → Type 0
+AreCostsTo net w prices taken s first k costs =
+    (p : Place) → number p < k →
+    IsCostTo net w prices taken s first p (slice_index_or costs (number p) None)

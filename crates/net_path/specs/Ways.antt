@@ -10,6 +10,7 @@ use Rattle.net_form.specs.Cost.{events_weight}
 use Rattle.net_path.specs.declared.crossbar.Ways.{Ways}
 use Rattle.net_path.specs.declared.crossbar.Bests.{Bests}
 use Rattle.net_path.specs.declared.crossbar.Onward.{Onward}
+use Rattle.net_path.specs.declared.crossbar.Steps.{Steps}
 
 -- what an event costs in a block of this loop depth, in units of 1/1024
 abbrev pub event_price : Weights → ℕ → ℕ → ℤ
@@ -142,3 +143,66 @@ pub record IsFromConstant (ways : Ways) (by : Onward) : Type 0 where
   pub both : by.both ≡ ways.set +ℤ ways.store
   pub memory : by.memory ≡ ways.store
   pub constant : by.constant ≡ pos 0
+
+-- what it costs to have come to a register alone from each class of places, to a both place, to
+-- memory, and to the constant itself
+pub record IsToAlone (ways : Ways) (by : Onward) : Type 0 where
+  pub alone : by.alone ≡ ways.between
+  pub both : by.both ≡ ways.between
+  pub memory : by.memory ≡ ways.load
+  pub constant : by.constant ≡ ways.set
+
+pub record IsToBoth (ways : Ways) (by : Onward) : Type 0 where
+  pub alone : by.alone ≡ ways.between +ℤ ways.store
+  pub both : by.both ≡ ways.between
+  pub memory : by.memory ≡ ways.load
+  pub constant : by.constant ≡ ways.set +ℤ ways.store
+
+pub record IsToMemory (ways : Ways) (by : Onward) : Type 0 where
+  pub alone : by.alone ≡ ways.store
+  pub both : by.both ≡ pos 0
+  pub memory : by.memory ≡ pos 0
+  pub constant : by.constant ≡ ways.store
+
+pub record IsToConstant (by : Onward) : Type 0 where
+  pub alone : by.alone ≡ pos 0
+  pub both : by.both ≡ pos 0
+  pub memory : by.memory ≡ pos 0
+  pub constant : by.constant ≡ pos 0
+
+-- ---- the steps of a crossbar, by the classes of the two places
+
+abbrev pub onward : Onward → ℕ → ℤ
+onward by q =
+    if has_register q
+    then (if needs_slot q then by.both else by.alone)
+    else (if needs_slot q then by.memory else by.constant)
+
+abbrev pub onward_from : Steps → ℕ → ℕ → ℤ
+onward_from steps p q =
+    if has_register p
+    then (if needs_slot p then onward steps.both q else onward steps.alone q)
+    else (if needs_slot p then onward steps.memory q else onward steps.constant q)
+
+-- both places are in one register
+abbrev pub stays : ℕ → ℕ → Bool
+stays p q = has_register p && has_register q && nat_eq (register_of p) (register_of q)
+
+abbrev pub staying : Steps → ℕ → ℕ → ℤ
+staying steps p q =
+    (if needs_slot q && not (needs_slot p) then steps.kept else pos 0) +ℤ
+    (if needs_slot p && not (needs_slot q) then steps.left else pos 0)
+
+abbrev pub step_of : Steps → ℕ → ℕ → ℤ
+step_of steps p q = if stays p q then staying steps p q else onward_from steps p q
+
+-- steps are short, and to stay in a register costs no more than to come to another one
+pub record AreStepsWithin (steps : Steps) : Type 0 where
+  pub alone : IsOnward steps.alone
+  pub both : IsOnward steps.both
+  pub memory : IsOnward steps.memory
+  pub constant : IsOnward steps.constant
+  pub kept : IsShort steps.kept
+  pub left : IsShort steps.left
+  pub kept_less : steps.kept ≤ℤ steps.alone.both
+  pub left_less : steps.left ≤ℤ steps.both.alone

@@ -8,11 +8,10 @@
 
 ghost use Rattle.std.specs.Prelude.{◌≡◌, ◌⊎◌, ◌≤ℤ◌, ◌+ℤ◌, ◌+◌, ◌^◌, ◌≤◌, ◌<◌, ℕ, ℤ, List};
 ghost use Rattle.net_path.specs.Ways.{at, IsLeastOf, IsLeastOfFour, AreBests, AreBestsWithin};
-ghost use Rattle.net_path.specs.Ways.{IsLeastWay, IsLeastElsewhere, AreWaysWithin, IsDebt};
-ghost use Rattle.net_path.specs.Ways.{AreDebts, step_price, IsOnward, IsShort};
+ghost use Rattle.net_path.specs.Ways.{IsLeastWay, IsLeastElsewhere, AreStepsWithin, IsDebt};
+ghost use Rattle.net_path.specs.Ways.{AreDebts, step_of, IsOnward, IsShort};
 ghost use Rattle.net_path.specs.Rows.{IsCellWithin, AreCostsCells, IsRowWithin, IsPaid, IsPaidAt};
 ghost use Rattle.net_path.specs.Rows.{ArePaidOver};
-ghost use Rattle.net_path.specs.Ways.{IsFromAlone, IsFromBoth, IsFromMemory, IsFromConstant};
 
 use crate::rows::{REACHED, UNREACHED};
 
@@ -60,6 +59,19 @@ pub(crate) struct Onward {
     pub both: i64,
     pub memory: i64,
     pub constant: i64,
+}
+
+/// What the steps of a crossbar cost: to go on from a register alone, from a both place, from memory
+/// and from the constant itself; and where a value stays in its register, to have it in memory too,
+/// and to have it there no more.
+#[derive(Clone, Copy, Debug)]
+pub(crate) struct Steps {
+    pub alone: Onward,
+    pub both: Onward,
+    pub memory: Onward,
+    pub constant: Onward,
+    pub kept: i64,
+    pub left: i64,
 }
 
 // The lesser of two debts; of equal costs, where seconds count, that of the lesser second.
@@ -154,116 +166,60 @@ fn going_on<const SECONDS: bool>(bests: &Bests, by: Onward) -> Debt
     )
 }
 
-#[inline(always)]
-fn from_alone(ways: &Ways) -> Onward
-    requires { AreWaysWithin ways.now }
-    ensures is { IsFromAlone ways.now result }
-    ensures within { IsOnward result }
-{
-    Onward {
-        alone: ways.between,
-        both: ways.between + ways.store,
-        memory: ways.store,
-        constant: 0,
-    }
-}
-
-#[inline(always)]
-fn from_both(ways: &Ways) -> Onward
-    requires { AreWaysWithin ways.now }
-    ensures is { IsFromBoth ways.now result }
-    ensures within { IsOnward result }
-{
-    Onward {
-        alone: ways.between,
-        both: ways.between,
-        memory: 0,
-        constant: 0,
-    }
-}
-
-#[inline(always)]
-fn from_memory(ways: &Ways) -> Onward
-    requires { AreWaysWithin ways.now }
-    ensures is { IsFromMemory ways.now result }
-    ensures within { IsOnward result }
-{
-    Onward {
-        alone: ways.load,
-        both: ways.load,
-        memory: 0,
-        constant: 0,
-    }
-}
-
-#[inline(always)]
-fn from_constant(ways: &Ways) -> Onward
-    requires { AreWaysWithin ways.now }
-    ensures is { IsFromConstant ways.now result }
-    ensures within { IsOnward result }
-{
-    Onward {
-        alone: ways.set,
-        both: ways.set + ways.store,
-        memory: ways.store,
-        constant: 0,
-    }
-}
-
 // From a register alone, not to that register.
 #[inline(always)]
-fn elsewhere_from_alone<const SECONDS: bool>(ways: &Ways, bests: &Bests) -> Debt
-    requires ways { AreWaysWithin ways.now }
+fn elsewhere_from_alone<const SECONDS: bool>(steps: &Steps, bests: &Bests) -> Debt
+    requires steps { AreStepsWithin steps.now }
     requires bests { AreBestsWithin bests.now }
     ensures { (costs : List ℤ) (r : ℕ) → AreBests costs bests.now → r < 6 →
-        IsLeastElsewhere (step_price ways.now r) r costs result.cost }
+        IsLeastElsewhere (step_of steps.now r) r costs result.cost }
 {
-    going_on::<SECONDS>(bests, from_alone(ways))
+    going_on::<SECONDS>(bests, steps.alone)
 }
 
 // From a both place, not to its register.
 #[inline(always)]
-fn elsewhere_from_both<const SECONDS: bool>(ways: &Ways, bests: &Bests) -> Debt
-    requires ways { AreWaysWithin ways.now }
+fn elsewhere_from_both<const SECONDS: bool>(steps: &Steps, bests: &Bests) -> Debt
+    requires steps { AreStepsWithin steps.now }
     requires bests { AreBestsWithin bests.now }
     ensures { (costs : List ℤ) (r : ℕ) → AreBests costs bests.now → r < 6 →
-        IsLeastElsewhere (step_price ways.now (8 + r)) r costs result.cost }
+        IsLeastElsewhere (step_of steps.now (8 + r)) r costs result.cost }
 {
-    going_on::<SECONDS>(bests, from_both(ways))
+    going_on::<SECONDS>(bests, steps.both)
 }
 
 // From memory, to any place.
 #[inline(always)]
-fn debt_in_memory<const SECONDS: bool>(ways: &Ways, bests: &Bests) -> Debt
-    requires ways { AreWaysWithin ways.now }
+fn debt_in_memory<const SECONDS: bool>(steps: &Steps, bests: &Bests) -> Debt
+    requires steps { AreStepsWithin steps.now }
     requires bests { AreBestsWithin bests.now }
     ensures { (costs : List ℤ) → AreBests costs bests.now →
-        IsLeastWay (step_price ways.now 6) costs result.cost }
+        IsLeastWay (step_of steps.now 6) costs result.cost }
 {
-    going_on::<SECONDS>(bests, from_memory(ways))
+    going_on::<SECONDS>(bests, steps.memory)
 }
 
 // From a constant that is nowhere, to any place.
 #[inline(always)]
-fn debt_nowhere<const SECONDS: bool>(ways: &Ways, bests: &Bests) -> Debt
-    requires ways { AreWaysWithin ways.now }
+fn debt_nowhere<const SECONDS: bool>(steps: &Steps, bests: &Bests) -> Debt
+    requires steps { AreStepsWithin steps.now }
     requires bests { AreBestsWithin bests.now }
     ensures { (costs : List ℤ) → AreBests costs bests.now →
-        IsLeastWay (step_price ways.now 7) costs result.cost }
+        IsLeastWay (step_of steps.now 7) costs result.cost }
 {
-    going_on::<SECONDS>(bests, from_constant(ways))
+    going_on::<SECONDS>(bests, steps.constant)
 }
 
-// From register r alone: it goes elsewhere, stays, or is stored and stays.
+// From register r alone: it goes elsewhere, stays, or stays and is in memory too.
 #[inline(always)]
-fn debt_alone<const SECONDS: bool>(ways: &Ways, row: &Row, r: usize, elsewhere: Debt) -> Debt
-    requires ways { AreWaysWithin ways.now }
+fn debt_alone<const SECONDS: bool>(steps: &Steps, row: &Row, r: usize, elsewhere: Debt) -> Debt
+    requires steps { AreStepsWithin steps.now }
     requires row { AreDebts row.now.costs }
     requires register { r < 6 }
-    requires elsewhere { IsLeastElsewhere (step_price ways.now r) r row.now.costs elsewhere.cost }
-    ensures { IsLeastWay (step_price ways.now r) row.now.costs result.cost }
+    requires elsewhere { IsLeastElsewhere (step_of steps.now r) r row.now.costs elsewhere.cost }
+    ensures { IsLeastWay (step_of steps.now r) row.now.costs result.cost }
 {
-    let stored = with_way(debt_at::<SECONDS>(row, 8 + r), ways.store);
+    let stored = with_way(debt_at::<SECONDS>(row, 8 + r), steps.kept);
     lesser::<SECONDS>(
         elsewhere,
         lesser::<SECONDS>(debt_at::<SECONDS>(row, r), stored),
@@ -272,16 +228,19 @@ fn debt_alone<const SECONDS: bool>(ways: &Ways, row: &Row, r: usize, elsewhere: 
 
 // From the both place of register r: it goes elsewhere, or stays, in both or in the register alone.
 #[inline(always)]
-fn debt_in_both<const SECONDS: bool>(ways: &Ways, row: &Row, r: usize, elsewhere: Debt) -> Debt
-    requires ways { AreWaysWithin ways.now }
+fn debt_in_both<const SECONDS: bool>(steps: &Steps, row: &Row, r: usize, elsewhere: Debt) -> Debt
+    requires steps { AreStepsWithin steps.now }
     requires row { AreDebts row.now.costs }
     requires register { r < 6 }
-    requires elsewhere { IsLeastElsewhere (step_price ways.now (8 + r)) r row.now.costs
+    requires elsewhere { IsLeastElsewhere (step_of steps.now (8 + r)) r row.now.costs
         elsewhere.cost }
-    ensures { IsLeastWay (step_price ways.now (8 + r)) row.now.costs result.cost }
+    ensures { IsLeastWay (step_of steps.now (8 + r)) row.now.costs result.cost }
 {
-    let stays = lesser::<SECONDS>(debt_at::<SECONDS>(row, 8 + r), debt_at::<SECONDS>(row, r));
-    lesser::<SECONDS>(elsewhere, stays)
+    let left = with_way(debt_at::<SECONDS>(row, r), steps.left);
+    lesser::<SECONDS>(
+        elsewhere,
+        lesser::<SECONDS>(debt_at::<SECONDS>(row, 8 + r), left),
+    )
 }
 
 // What is paid at a place and from there on; a closed place stays so.
@@ -314,19 +273,23 @@ pub(crate) fn pay<const SECONDS: bool>(cells: &mut Row, place: usize, rest: Debt
 
 /// What is paid at each place before a crossbar and from there on, from what is to be paid behind
 /// it.
-pub(crate) fn pay_crossbar<const SECONDS: bool>(ways: &Ways, cells: &mut Row, behind: &Row)
-    requires ways { AreWaysWithin ways.now }
+pub(crate) fn pay_crossbar<const SECONDS: bool>(steps: &Steps, cells: &mut Row, behind: &Row)
+    requires steps { AreStepsWithin steps.now }
     requires cells { AreCostsCells cells.old.costs }
     requires behind { IsRowWithin (2 ^ 60 + 2 ^ 59) behind.now.costs }
-    ensures { ArePaidOver ways.now behind.now.costs cells.old.costs cells.new.costs }
+    ensures { ArePaidOver (step_of steps.now) behind.now.costs cells.old.costs cells.new.costs }
 {
     let bests = bests_of::<SECONDS>(behind);
-    let alone = elsewhere_from_alone::<SECONDS>(ways, &bests);
-    let both = elsewhere_from_both::<SECONDS>(ways, &bests);
+    let alone = elsewhere_from_alone::<SECONDS>(steps, &bests);
+    let both = elsewhere_from_both::<SECONDS>(steps, &bests);
     for r in 0..6usize {
-        pay::<SECONDS>(cells, r, debt_alone::<SECONDS>(ways, behind, r, alone));
-        pay::<SECONDS>(cells, 8 + r, debt_in_both::<SECONDS>(ways, behind, r, both));
+        pay::<SECONDS>(cells, r, debt_alone::<SECONDS>(steps, behind, r, alone));
+        pay::<SECONDS>(
+            cells,
+            8 + r,
+            debt_in_both::<SECONDS>(steps, behind, r, both),
+        );
     }
-    pay::<SECONDS>(cells, 6, debt_in_memory::<SECONDS>(ways, &bests));
-    pay::<SECONDS>(cells, 7, debt_nowhere::<SECONDS>(ways, &bests));
+    pay::<SECONDS>(cells, 6, debt_in_memory::<SECONDS>(steps, &bests));
+    pay::<SECONDS>(cells, 7, debt_nowhere::<SECONDS>(steps, &bests));
 }

@@ -5,9 +5,9 @@
 //! other strands have taken, or says that there is none. [`renew`] finds one that is free to begin
 //! and end anywhere, and puts it into the family of paths that a [`Work`] keeps: the family that
 //! the Lagrange value of a network is read from, and that prices follow. [`costs_from`] tells by one
-//! search what a least path costs from each place at the strand's first layer. All do what they say
-//! for each network that `net_build` makes; they take no memory, since [`Work::reserve`] took it
-//! before.
+//! search what a least path costs from each place at the strand's first layer, and [`costs_to`] what
+//! one costs to each place at its last. All do what they say for each network that `net_build` makes;
+//! they take no memory, since [`Work::reserve`] took it before.
 //!
 //! # Rows
 //!
@@ -47,6 +47,15 @@
 //!   row of the layer before   each place: the lesser of that and of staying
 //! ```
 //!
+//! # Against the order of the layers
+//!
+//! What it costs to come to each place of the last layer would want rows that are filled forwards.
+//! [`costs_to`] turns the rows round instead, so that the first layer stands last, and fills them as
+//! ever: a path read against its order costs what it costs read in its order, if a step pays what it
+//! pays to have come from there. So the crossbar is handed what steps cost, from each class of places
+//! to each and where a value stays in its register, and there are two such tables: `forwards` and
+//! `backwards`.
+//!
 //! # Which of the least paths
 //!
 //! A strand has many least paths, and any is right; but prices follow the family, so that paths which
@@ -65,15 +74,18 @@
 //!
 //! # Where it is
 //!
-//! `ways` of the crossbar's moves and the step over rows are in `crossbar`; the costs of the places
+//! `ways` of the crossbar's moves and the step over rows are in `crossbar`, what steps cost in either
+//! direction in `directions`; the costs of the places
 //! of one layer (masks, ends, what is taken, prices, extras) in `cells`, with the pairs' in `pairs`
 //! and the ties' in `ties`; `spread` has the seconds and the counts that they come from; `rows` goes
 //! over the layers, `path` reads the path, `search` puts them together, `family` renews one path of a
-//! family, `starts` has the costs from each place. No cost of an edge is ever stored.
+//! family, `starts` has the costs from each place and `stops` those to each. No cost of an edge is
+//! ever stored.
 #![tactic(auto)]
 
 mod cells;
 mod crossbar;
+mod directions;
 mod family;
 mod pairs;
 mod path;
@@ -81,10 +93,12 @@ mod rows;
 mod search;
 mod spread;
 mod starts;
+mod stops;
 mod ties;
 mod work;
 
 pub use family::renew;
 pub use search::{NoPath, least};
 pub use starts::costs_from;
+pub use stops::costs_to;
 pub use work::Work;

@@ -271,7 +271,7 @@ pub(crate) fn follow(
     requires few { first + length rows.now ≤ 2 ^ 15 }
     requires rows { (k : ℕ) → k < length rows.now → AreDebts (costs_at rows.now k) }
     requires room { length rows.now ≤ length path.old }
-    ensures { (t : Terrain) → IsGround ways.now first (length rows.now) t →
+    ensures { (t : Terrain) → IsGround (step_price ways.now) first (length rows.now) t →
         IsGoodStart t (costs_at rows.now 0) start →
         Follows t (costs_at rows.now) 0 None (take (length rows.now) path.new) }
 {

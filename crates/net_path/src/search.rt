@@ -17,6 +17,7 @@ ghost use Rattle.net_path.specs.Ways.{AreWays, AreWaysWithin, IsWay, event_price
 
 use crate::cells::fill_cells;
 use crate::crossbar::{Row, Ways};
+use crate::directions::forwards;
 use crate::path::{follow, start};
 use crate::rows::{REACHED, pay_backward};
 use crate::spread::{Load, spread};
@@ -99,7 +100,7 @@ fn find<F: Fn(Event, u32) -> u32>(
 {
     let first = net.strands[strand].first;
     let ways = ways_of(model, net.near, net.depth(strand));
-    pay_backward(&ways, first, rows, seconds);
+    pay_backward(&forwards(&ways), first, rows, seconds);
     let start = start(&ways, net.strands[strand].constant, &rows[0], seconds);
     if start.debt.cost >= REACHED {
         return Err(NoPath);

@@ -14,6 +14,7 @@ ghost use Rattle.net_path.specs.Starts.{AreCostsFrom};
 
 use crate::cells::fill_cells;
 use crate::crossbar::Row;
+use crate::directions::forwards;
 use crate::path::start_costs;
 use crate::rows::pay_backward;
 use crate::search::ways_of;
@@ -46,7 +47,7 @@ fn costs_over<F: Fn(Event, u32) -> u32>(
 {
     let first = net.strands[strand].first;
     let ways = ways_of(model, net.near, net.depth(strand));
-    pay_backward(&ways, first, rows, false);
+    pay_backward(&forwards(&ways), first, rows, false);
     start_costs(&ways, net.strands[strand].constant, &rows[0])
 }
 

@@ -14,15 +14,15 @@ pub returns : goal.returns
 returns g c =
     let debt = c.requires.row (8 + c.args.r) (omega (arith, c.requires.register)) in
     let stored : c.with_way-stored.result.cost
-    ≡ c.args.ways.now.store +ℤ at c.args.row.now.costs (8 + c.args.r) = omega (
+    ≡ c.args.steps.now.kept +ℤ at c.args.row.now.costs (8 + c.args.r) = omega (
       arith,
       ints,
       debt,
       c.debt_at.ensures,
       c.with_way-stored.ensures,
-      c.requires.ways.store,
+      c.requires.steps.kept,
     ) in
-    stays_alone c.args.ways.now c.args.r c.requires.register c.args.row.now.costs
+    stays_alone c.args.steps.now c.args.r c.requires.register c.args.row.now.costs
     c.debt_at-2.result.cost c.lesser.result.cost c.lesser-2.result.cost c.args.elsewhere.cost
     c.with_way-stored.result.cost c.debt_at-2.ensures stored c.lesser.ensures.one
     c.lesser.ensures.other c.lesser.ensures.met

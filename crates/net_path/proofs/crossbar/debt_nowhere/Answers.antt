@@ -2,6 +2,6 @@ use Rattle.net_path.proofs.Elsewhere.{least_anywhere, least_elsewhere, constant_
 use Rattle.net_path.proofs.crossbar.debt_nowhere.Goals as goal
 
 pub returns : goal.returns
-returns g c = λ costs are. least_anywhere _ _ _ (least_elsewhere _ 14 c.from_constant.result costs
-    c.args.bests.now (constant_bounds c.args.ways.now c.requires.ways c.from_constant.result 14
-    c.from_constant.ensures.is) are _ c.going_on.ensures)
+returns g c = λ costs are.
+    least_anywhere _ _ _ (least_elsewhere _ 14 c.args.steps.now.constant costs c.args.bests.now
+    (constant_bounds c.args.steps.now c.requires.steps 14) are _ c.going_on.ensures)

@@ -1,9 +1,8 @@
-use Rattle.std.proofs.Common.{ℕ, ◌≡◌, ◌^◌, ◌<◌, ◌∙◌, ℤ, pos, ◌+ℤ◌, ◌≤ℤ◌, ◌<ℤ◌, Option, None, length}
-use Rattle.std.proofs.Common.{length-set, ap, sym, subst, arith, rules, w64, to_z, of_z}
+use Rattle.std.proofs.Common.{ℕ, ◌≡◌, ◌^◌, ◌∙◌, ℤ, pos, ◌+ℤ◌, ◌≤ℤ◌, ◌<ℤ◌, Option, None}
+use Rattle.std.proofs.Common.{length-set, ap, subst, arith, rules, w64, to_z, of_z}
 use mir.Val.{SFits}
 use Rattle.std.proofs.lemmas.Int.{to_z-of_z}
 use Rattle.std.specs.Option.{MatchOption}
-use Rattle.pra_base.specs.Places.{number}
 use Rattle.net_path.specs.Choices.{IsStart}
 use Rattle.net_path.specs.Ways.{at, start_price}
 use Rattle.net_path.proofs.Stores.{stored}

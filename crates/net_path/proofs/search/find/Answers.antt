@@ -9,9 +9,24 @@ use Rattle.net_form.specs.Admitted.{no_strand}
 use Rattle.net_form.proofs.Layers.{in_layers}
 use Rattle.net_path.specs.Grounds.{terrain, is_free}
 use Rattle.net_path.specs.Rows.{costs_at, IsGround}
+use Rattle.net_path.specs.Ways.{step_price}
 use Rattle.net_path.proofs.Grounded.{ready}
 use Rattle.net_path.proofs.LeastPath.{no_path, least_path, below_of}
 use Rattle.net_path.proofs.search.find.Goals as goal
+
+pub pay_backward-requires-clause-some : goal.pay_backward-requires-clause-some
+pay_backward-requires-clause-some g c =
+    let order = (c.requires.net.formed.strands c.args.strand no_strand c.requires.strand).order in
+    omega (arith, order, c.requires.rows)
+
+pub pay_backward-requires-clause-few : goal.pay_backward-requires-clause-few
+pay_backward-requires-clause-few g c =
+    let net = c.args.net.now in
+    let t = ap (λ (t : Strand). t.first) (get_or_read net.strands c.args.strand c.index.result.now
+    c.requires.strand c.index.ensures no_strand) in
+    let within = in_layers net c.requires.net.formed c.args.strand c.requires.strand in
+    let layers = c.requires.net.formed.layers in
+    omega (arith, t, within, layers, c.requires.rows)
 
 pub start-start-requires-clause-row : goal.start-start-requires-clause-row
 start-start-requires-clause-row g c =
@@ -35,9 +50,9 @@ returns-then-start-ge-REACHED-clause-none g c =
     no_strand in
     let are = ready net c.requires.net c.args._prices.now c.requires.prices
     w c.requires.kept.valid c.args._ends (is_free net c.args._taken.now) s n c.requires.rows
-    c.ways_of-ways.result c.depth.result c.index.result.now.first (length c.args.rows.now)
+    c.ways_of-ways.result c.forwards.result c.depth.result c.index.result.now.first (length c.args.rows.now)
     c.index-2.result.now.constant (costs_at c.pay_backward.new.rows) c.args.rows.now
-    c.start-start.result c.ways_of-ways.ensures.are c.depth.ensures.value
+    c.start-start.result c.forwards.ensures.steps c.ways_of-ways.ensures.are c.depth.ensures.value
     (ap (λ (t : Strand). t.first) t) refl
     (ap (λ (t : Strand). t.constant) u) c.requires.cells c.pay_backward.ensures.rows
     c.start-start.ensures in
@@ -85,9 +100,9 @@ returns-clause-found g c =
     no_strand in
     let are = ready net c.requires.net c.args._prices.now c.requires.prices
     w c.requires.kept.valid c.args._ends (is_free net c.args._taken.now) s n c.requires.rows
-    c.ways_of-ways.result c.depth.result c.index.result.now.first (length c.args.rows.now)
+    c.ways_of-ways.result c.forwards.result c.depth.result c.index.result.now.first (length c.args.rows.now)
     c.index-2.result.now.constant (costs_at c.pay_backward.new.rows) c.args.rows.now
-    c.start-start.result c.ways_of-ways.ensures.are c.depth.ensures.value
+    c.start-start.result c.forwards.ensures.steps c.ways_of-ways.ensures.are c.depth.ensures.value
     (ap (λ (t : Strand). t.first) t) refl
     (ap (λ (t : Strand). t.constant) u) c.requires.cells c.pay_backward.ensures.rows
     c.start-start.ensures in
@@ -101,12 +116,12 @@ returns-clause-found g c =
     let same : length c.follow.new.path ≡ n = omega arith in
     let all =
     take_all (length c.pay_backward.new.rows) c.follow.new.path (omega (arith, size, same)) in
-    let ground : IsGround c.ways_of-ways.result c.index.result.now.first
+    let ground : IsGround (step_price c.ways_of-ways.result) c.index.result.now.first
     (length c.pay_backward.new.rows)
     (terrain net w c.args._prices.now c.args._ends (is_free net c.args._taken.now) s) =
-    subst (λ (k : ℕ). IsGround c.ways_of-ways.result c.index.result.now.first k
+    subst (λ (k : ℕ). IsGround (step_price c.ways_of-ways.result) c.index.result.now.first k
     (terrain net w c.args._prices.now c.args._ends (is_free net c.args._taken.now) s))
-    (sym size) (subst (λ (f : ℕ). IsGround c.ways_of-ways.result f n
+    (sym size) (subst (λ (f : ℕ). IsGround (step_price c.ways_of-ways.result) f n
     (terrain net w c.args._prices.now c.args._ends (is_free net c.args._taken.now) s))
     (sym (ap (λ (t : Strand). t.first) t)) are.ground) in
     let follows = rw all at (c.follow.ensures (terrain net w c.args._prices.now c.args._ends
@@ -129,9 +144,9 @@ returns-clause-cost g c =
     no_strand in
     let are = ready net c.requires.net c.args._prices.now c.requires.prices
     w c.requires.kept.valid c.args._ends (is_free net c.args._taken.now) s n c.requires.rows
-    c.ways_of-ways.result c.depth.result c.index.result.now.first (length c.args.rows.now)
+    c.ways_of-ways.result c.forwards.result c.depth.result c.index.result.now.first (length c.args.rows.now)
     c.index-2.result.now.constant (costs_at c.pay_backward.new.rows) c.args.rows.now
-    c.start-start.result c.ways_of-ways.ensures.are c.depth.ensures.value
+    c.start-start.result c.forwards.ensures.steps c.ways_of-ways.ensures.are c.depth.ensures.value
     (ap (λ (t : Strand). t.first) t) refl
     (ap (λ (t : Strand). t.constant) u) c.requires.cells c.pay_backward.ensures.rows
     c.start-start.ensures in
@@ -145,12 +160,12 @@ returns-clause-cost g c =
     let same : length c.follow.new.path ≡ n = omega arith in
     let all =
     take_all (length c.pay_backward.new.rows) c.follow.new.path (omega (arith, size, same)) in
-    let ground : IsGround c.ways_of-ways.result c.index.result.now.first
+    let ground : IsGround (step_price c.ways_of-ways.result) c.index.result.now.first
     (length c.pay_backward.new.rows)
     (terrain net w c.args._prices.now c.args._ends (is_free net c.args._taken.now) s) =
-    subst (λ (k : ℕ). IsGround c.ways_of-ways.result c.index.result.now.first k
+    subst (λ (k : ℕ). IsGround (step_price c.ways_of-ways.result) c.index.result.now.first k
     (terrain net w c.args._prices.now c.args._ends (is_free net c.args._taken.now) s))
-    (sym size) (subst (λ (f : ℕ). IsGround c.ways_of-ways.result f n
+    (sym size) (subst (λ (f : ℕ). IsGround (step_price c.ways_of-ways.result) f n
     (terrain net w c.args._prices.now c.args._ends (is_free net c.args._taken.now) s))
     (sym (ap (λ (t : Strand). t.first) t)) are.ground) in
     let follows = rw all at (c.follow.ensures (terrain net w c.args._prices.now c.args._ends
