@@ -8,9 +8,10 @@
 //! room and the whole costs no more, the change stays. Wires are routed so (McMurchie and Ebeling,
 //! PathFinder, FPGA 1995).
 //!
-//! `negotiate` makes routes from nothing for the first round, `kicks` has pieces and windows and
-//! how others make room, `pieces` and `reroute` have the least paths of pieces and strands past
-//! what is paid, `settling` what is settled around a change, and `draws` the random numbers.
+//! `negotiate` makes routes from nothing, with which some rounds begin: kicks change little, and
+//! from other routes they lead elsewhere. `kicks` has pieces and windows and how others make room,
+//! `pieces` and `reroute` have the least paths of pieces and strands past what is paid, `settling`
+//! what is settled around a change, and `draws` the random numbers.
 //!
 //! Nothing is proved of overlaps and penalties, but that the search ends and is safe: a number that
 //! leads nowhere is read as nothing. What it found is asked of the gate (net_gate), so routes that

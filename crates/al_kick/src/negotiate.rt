@@ -13,7 +13,7 @@ const MOST_PASSES: u32 = 60;
 // A penalty at first, in thousandths of a unit, and by how many thousandths it grows with each pass.
 const PENALTY: u64 = 50;
 
-const GROWTH: u64 = 1100;
+const GROWTH: u64 = 1200;
 
 // What history grows by where strands overlap, for each of them, in thousandths of a unit.
 const HISTORY: u64 = 25;
@@ -88,10 +88,9 @@ impl Search {
         }
     }
 
-    /// Makes routes from nothing, settles them, and keeps them. Where they don't come about, or
-    /// cost more, those before them stay.
+    /// Makes routes from nothing, settles them, and keeps them, whatever those before them cost. Where
+    /// they don't come about, those before them stay.
     pub(crate) fn negotiate(&mut self, net: &Net) {
-        let before = self.paths.total;
         self.begin_kick();
         let mut penalty = PENALTY;
         for number in 0..MOST_PASSES {
@@ -106,6 +105,6 @@ impl Search {
         if self.cells.overlaps == 0 {
             self.settle_all(net);
         }
-        self.end_kick(net, before);
+        self.end_kick(net, u64::MAX);
     }
 }

@@ -17,7 +17,7 @@ use std::alloc::Global;
 use std::marker::Model;
 
 // Visits of a round for each layer of each strand: each layer that a least path goes over is one.
-const VISITS: u64 = 50;
+const VISITS: u64 = 40;
 
 // Visits of a round at most, so that a round of the largest procedures ends in seconds.
 const MOST_VISITS: u64 = 100_000_000;
@@ -25,11 +25,20 @@ const MOST_VISITS: u64 = 100_000_000;
 // Visits for each layer of each strand that routes from nothing may take.
 const VISITS_FROM_NOTHING: u64 = 100;
 
+// From this round on every other one begins from nothing.
+const BEGIN_ANEW: u32 = 4;
+
 // Units of a weight of 1.
 const WHOLE: u128 = 1024;
 
-// Kicks from the best routes until the visits of a round are used up, or nothing is to be gained.
-// It says whether some routes cost less than they.
+// Whether a round begins with routes from nothing, where so many layers of strands allow it.
+fn begins_anew(round: u32, size: u64) -> bool {
+    let allowed = VISITS_FROM_NOTHING.saturating_mul(size) <= MOST_VISITS;
+    allowed && (round == 1 || (round >= BEGIN_ANEW && round % 2 == 0))
+}
+
+// Kicks from the best routes or from new ones, until the visits of a round are used up, or nothing
+// is to be gained. It says whether some routes cost less than the best.
 fn search_from<F: Fn(Event, u32) -> u32>(
     search: &mut Search,
     net: &Net,
@@ -43,7 +52,7 @@ fn search_from<F: Fn(Event, u32) -> u32>(
     search.begin(net, model, best, round);
     let before = search.paths.total;
     let size = search.layers;
-    if round == 1 && VISITS_FROM_NOTHING.saturating_mul(size) <= MOST_VISITS {
+    if begins_anew(round, size) {
         search.negotiate(net);
     }
     search.visits = 0;
