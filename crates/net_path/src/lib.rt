@@ -70,17 +70,16 @@
 //! What all places of a layer share is asked once: the set of those that are open, made of the mask,
 //! the registers in use and the wanted ends as one number, and the prices of the six registers. Then
 //! the row is filled by a bit and a price for each place, and the extras that are there, mostly none
-//! or one, are paid at their places. Rows are never copied.
+//! or one, are paid at their places. Rows are moved by `costs_to` alone, which turns them round.
 //!
 //! # Where it is
 //!
 //! `ways` of the crossbar's moves and the step over rows are in `crossbar`, what steps cost in either
-//! direction in `directions`; the costs of the places
-//! of one layer (masks, ends, what is taken, prices, extras) in `cells`, with the pairs' in `pairs`
-//! and the ties' in `ties`; `spread` has the seconds and the counts that they come from; `rows` goes
-//! over the layers, `path` reads the path, `search` puts them together, `family` renews one path of a
-//! family, `starts` has the costs from each place and `stops` those to each. No cost of an edge is
-//! ever stored.
+//! direction in `directions`; the costs of the places of one layer (masks, ends, what is taken,
+//! prices, extras) in `cells`, with the pairs' in `pairs` and the ties' in `ties`; `spread` has the
+//! seconds and the counts that they come from; `rows` goes over the layers, `path` reads the path,
+//! `search` puts them together, `family` renews one path of a family, `starts` has the costs from
+//! each place and `stops` those to each. No cost of an edge is ever stored.
 #![tactic(auto)]
 
 mod cells;
