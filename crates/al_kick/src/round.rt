@@ -17,7 +17,10 @@ use std::alloc::Global;
 use std::marker::Model;
 
 // Visits of a round for each layer of each strand: each layer that a least path goes over is one.
-const VISITS: u64 = 40;
+const VISITS: u64 = 30;
+
+// The same of the first round, where most is to be gained.
+const FIRST_VISITS: u64 = 80;
 
 // Visits of a round at most, so that a round of the largest procedures ends in seconds.
 const MOST_VISITS: u64 = 100_000_000;
@@ -35,6 +38,12 @@ const WHOLE: u128 = 1024;
 fn begins_anew(round: u32, size: u64) -> bool {
     let allowed = VISITS_FROM_NOTHING.saturating_mul(size) <= MOST_VISITS;
     allowed && (round == 1 || (round >= BEGIN_ANEW && round % 2 == 0))
+}
+
+// How many visits a round has, by so many layers of strands.
+fn visits_of(round: u32, size: u64) -> u64 {
+    let each = if round == 1 { FIRST_VISITS } else { VISITS };
+    each.saturating_mul(size).min(MOST_VISITS)
 }
 
 // Kicks from the best routes or from new ones, until the visits of a round are used up, or nothing
@@ -56,7 +65,7 @@ fn search_from<F: Fn(Event, u32) -> u32>(
         search.negotiate(net);
     }
     search.visits = 0;
-    let most = VISITS.saturating_mul(size).min(MOST_VISITS);
+    let most = visits_of(round, size);
     let least = bound.saturating_mul(WHOLE);
     for _ in 0..most {
         if search.visits >= most || search.paths.total as u128 <= least {
