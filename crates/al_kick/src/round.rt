@@ -17,7 +17,7 @@ use std::alloc::Global;
 use std::marker::Model;
 
 // Visits of a round for each layer of each strand: each layer that a least path goes over is one.
-const VISITS: u64 = 30;
+const VISITS: u64 = 20;
 
 // The same of the first round, where most is to be gained.
 const FIRST_VISITS: u64 = 80;
