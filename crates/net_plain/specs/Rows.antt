@@ -1,0 +1,88 @@
+-- The layers of a strand, and numbers for their places.
+use Rattle.std.specs.Prelude.{◌≡◌, ℕ, ◌+◌, ◌*◌, ◌^◌, ◌<◌, ◌≤◌, Bool, if◌then◌else◌, ℤ, pos, ◌+ℤ◌, ◌≤ℤ◌}
+use Rattle.std.specs.Prelude.{List, length, slice_index_or, Option, Some, None, option_map, IfSome}
+use Rattle.pra_base.specs.declared.ids.Place.{Place}
+use Rattle.pra_base.specs.declared.ids.Place.TheVariants.{Eax}
+use Rattle.pra_base.specs.Places.{all_places, place_count}
+use Rattle.net_cost.specs.declared.weights.Weights.{Weights}
+use Rattle.net_form.specs.declared.net.Net.{Net}
+use Rattle.net_form.specs.declared.net.Tie.{Tie}
+use Rattle.net_form.specs.declared.prices.Prices.{Prices}
+use Rattle.net_form.specs.declared.routes.Ends.{Ends}
+use Rattle.net_form.specs.declared.taken.Taken.{Taken}
+use Rattle.net_form.specs.Admitted.{strand_at, stays_across}
+use Rattle.net_form.specs.Cost.{way_cost}
+use Rattle.net_form.specs.Rooms.{tie_numbers}
+use Rattle.net_form.specs.Tables.{all_tables}
+use Rattle.net_dual.specs.Priced.{price_unit}
+use Rattle.net_dual.specs.Small.{IsWithin}
+use Rattle.net_path.specs.Grounds.{edge, is_free, is_open, there_price}
+use Rattle.net_plain.specs.declared.open.Spot.{Spot}
+
+-- one of the layers of a strand
+pub record IsSpot (net : Net) (spot : Spot) : Type 0 where
+  pub strand : spot.strand < length net.strands
+  pub after : (strand_at net spot.strand).first ≤ spot.layer
+  pub before : spot.layer ≤ (strand_at net spot.strand).last
+
+-- where there is no tie
+abbrev pub no_tie : Tie
+no_tie = record { from = 0; to = 0 }
+
+abbrev pub tie_at : Net → ℕ → Tie
+tie_at net k = slice_index_or net.ties k no_tie
+
+-- the number of a tie among those of all, thirteen for each; a constant has none
+abbrev pub number_in : List ℤ → ℕ → Option ℕ → ℤ
+number_in numbers tie None = pos 0
+number_in numbers tie (Some slot) = slice_index_or numbers (tie_numbers * tie + slot) (pos 0)
+
+-- the place of a number
+abbrev pub place_at : ℕ → Place
+place_at k = slice_index_or all_places k Eax
+
+-- ---- numbers that may be there
+
+-- the least of the first n
+abbrev pub IsLeastOf : (ℕ → Option ℤ) → ℕ → Option ℤ → Type 0
+IsLeastOf f n None = (k : ℕ) → k < n → f k ≡ None
+IsLeastOf f n (Some z) =
+    ((k : ℕ) × (k < n) × (f k ≡ Some z)) ×
+    ((k : ℕ) (d : ℤ) → k < n → f k ≡ Some d → z ≤ℤ d)
+
+-- z is added where the test holds, else nothing is left
+abbrev pub plus_if : Bool → ℤ → Option ℤ → Option ℤ
+plus_if b z o = if b then option_map (λ d. d +ℤ z) o else None
+
+-- what a row has for the place of a number
+abbrev pub cost_at : List (Option ℤ) → ℕ → Option ℤ
+cost_at row k = slice_index_or row k None
+
+abbrev pub IsCostWithin : ℕ → Option ℤ → Type 0
+IsCostWithin n cost = IfSome cost (IsWithin n)
+
+abbrev pub AreWithin : ℕ → List (Option ℤ) → Type 0
+AreWithin n row = (k : ℕ) → IsCostWithin n (cost_at row k)
+
+-- ---- a layer
+
+-- with what is paid at a place, if a path may be there
+abbrev pub there
+    : Net → Weights → Prices → Ends → Taken → ℕ → ℕ → Place → Option ℤ → Option ℤ
+there net w prices ends taken s l q left =
+    plus_if (is_open net ends (is_free net taken) s (edge s l None q))
+    (there_price net w prices (edge s l None q)) left
+
+-- with the way to it, if a path may go this way
+abbrev pub coming : Net → Weights → ℕ → ℕ → Option Place → Place → Option ℤ → Option ℤ
+coming net w s l p q left =
+    plus_if (stays_across (edge s l p q))
+    (pos (price_unit * way_cost all_tables net w (edge s l p q))) left
+
+-- for each place what is paid there and behind it
+pub record IsRowOf (net : Net) (w : Weights) (prices : Prices) (ends : Ends) (taken : Taken)
+    (s l : ℕ) (rests row : List (Option ℤ)) : Type 0 where
+  pub long : length row ≡ place_count
+  pub each : (k : ℕ) → k < place_count →
+      cost_at row k ≡ there net w prices ends taken s l (place_at k) (cost_at rests k)
+  pub within : AreWithin (2 ^ 108) row
