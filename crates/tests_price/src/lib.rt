@@ -1,8 +1,21 @@
-//! Tests of prices: what the network of one small code is worth at prices of a register at a layer,
-//! least paths of its strands where registers are in use, and greedy plans of another code. Nothing
-//! here is used by another crate.
+//! Tests of prices and of what is laid at them, on codes that stand in tables as text.
+//!
+//! `rows` has the codes and what is said of them, and `tabled` goes through the tables. At prices,
+//! `at_prices` asks `priced` for values and least paths, `planned` for plans, orders and how laying
+//! ends, `laid` for paths that are laid or are not, and `compared` holds least paths against plain
+//! loops. `settled` has what settling makes of routes, `rounded` what rounds come to, and
+//! `any_code` what holds of each code, whatever its row says. `reading`, `putting` and `made` are
+//! what all share. Nothing here is used by another crate.
 #![tactic(auto)]
 
+#[cfg(test)]
+mod any_code;
+#[cfg(test)]
+mod at_prices;
+#[cfg(test)]
+mod compared;
+#[cfg(test)]
+mod laid;
 #[cfg(test)]
 mod made;
 #[cfg(test)]
@@ -10,4 +23,14 @@ mod planned;
 #[cfg(test)]
 mod priced;
 #[cfg(test)]
+mod putting;
+#[cfg(test)]
+mod reading;
+#[cfg(test)]
 mod rounded;
+#[cfg(test)]
+mod rows;
+#[cfg(test)]
+mod settled;
+#[cfg(test)]
+mod tabled;

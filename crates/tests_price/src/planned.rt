@@ -1,81 +1,164 @@
-// The greedy plan of a variable that is set in one block and written in the next, with weights by
-// the size of the code. v is there from layer 2 of block 0, which has four, to layer 1 of block 1,
-// where Write wants it in EAX; one tie joins its two strands.
+// What is found at prices: a plan, its priced order, and how laying by both ends.
 
+ghost use Rattle.std.specs.Prelude.{◌≡◌, ◌<◌, length, IsPermutation};
+ghost use Rattle.std.specs.List.{range_with_len};
+ghost use Rattle.net_cost.specs.Models.{Keeps};
+ghost use Rattle.net_dual.specs.Priced.{AreInRange};
+ghost use Rattle.net_form.specs.Rooms.{IsRoomOf};
 ghost use Rattle.net_laws.specs.Built.{IsBuilt};
 
-use crate::made::{network, put_price};
+use crate::any_code::is_admitted;
+use crate::reading::{field, numbers_of};
 use al_edge::plan;
-use net_cost::{CostModel, Event, Weights};
-use net_form::{Net, Spare};
-use pra_base::{Block, BlockId, End, OutOfMemory, ProcId, VInstr, VProc, VarId, VarKind};
-use pra_list::Seq;
-use std::alloc::{AllocError, Global};
-use std::process::Abort;
-use std::test::Fail;
+use al_iter::{LayFault, lay, priced_order};
+use net_cost::{CostModel, Event};
+use net_form::{Ends, Net, Plan, Prices, Taken};
+use net_path::{Work, least};
+use pra_base::{OutOfMemory, Place};
+use std::alloc::Global;
 
-// EAX at layer 0 of block 1, among all registers at all layers.
-const EAX_AT_ENTRY: usize = 24;
-
-// What the row is called, the price of EAX there, in units of 1/1024, where all others are 0, and
-// where the plan puts the one group. Without prices v never moves; at a price of 4096 it is cheaper
-// in ECX, from which it moves to EAX for two bytes, 2048.
-const PLANS: &[(&str, u64, &str)] = &[
-    ("plan_zero_prices", 0, "[Eax]"),
-    ("plan_priced_register", 4096, "[Ecx]"),
-];
-
-fn code(alloc: Global) -> Result<VProc, AllocError> {
-    let v = VarId(0);
-    let mut blocks = Seq::new(alloc);
-    blocks.push(Block {
-        depth: 0,
-        code: Seq::from_slice(alloc, &[VInstr::Set(v, 3)])?,
-        end: End::Jump(BlockId(1)),
-    })?;
-    blocks.push(Block {
-        depth: 0,
-        code: Seq::from_slice(alloc, &[VInstr::Write(v)])?,
-        end: End::Return,
-    })?;
-    Ok(VProc {
-        id: ProcId(0),
-        args: 0,
-        aggregates: 0,
-        vars: Seq::from_slice(alloc, &[VarKind::Plain])?,
-        blocks,
-    })
+/// A plan, its order, and how laying by them ends.
+#[derive(Drop)]
+pub(crate) struct Found {
+    pub plan: Plan,
+    pub order: Vec<u32>,
+    pub end: String,
 }
 
-// The places of the plan where EAX has a price at the entry of block 1.
-fn places(alloc: Global, net: &Net, price: u64) -> Result<String, OutOfMemory>
-    requires { IsBuilt net.now }
+// The plan's place for a tie group.
+fn place_of(plan: &Plan, group: Option<u32>) -> Option<Place> {
+    plan.places.get(group? as usize).copied()
+}
+
+/// Where a strand has to begin and to end by a plan.
+pub(crate) fn ends_of(net: &Net, plan: &Plan, strand: u32) -> Ends
+    requires { strand < length net.now.strands }
 {
-    let Spare {
-        zero: mut prices,
-        ..
-    } = Spare::empty(alloc, net)?;
-    if EAX_AT_ENTRY >= prices.caps.len() || price > 1 << 40 {
-        return Ok(String::from_str(alloc, "another network")?);
+    let strand = &net.strands[strand as usize];
+    Ends {
+        first: place_of(plan, strand.entry_group),
+        last: place_of(plan, strand.exit_group),
     }
-    put_price(net, &mut prices, EAX_AT_ENTRY, price);
-    let model = CostModel::keep(Weights::size(), |event: Event, depth: u32| {
-        Weights::size().weight(event, depth)
-    });
-    let found = plan(alloc, net, &model, &prices)?;
-    Ok(format!(in alloc; "{:?}", found.places.as_slice())?)
 }
 
-#[test]
-fn plans_at_a_price(rt: HostRuntime) -> Result<(), Fail> {
-    let alloc = rt.alloc();
-    let Some(net) = network(alloc, &code(alloc)?)? else {
-        assert!(rt; false, "the code is not valid");
-        return Ok(());
-    };
-    for (row, price, expected) in PLANS {
-        let found = places(alloc, &net, *price)?;
-        assert_eq!(rt; found.as_str(), *expected, "{row}");
+/// Whether a strand has no path past what is taken.
+pub(crate) fn is_blocked<F: Fn(Event, u32) -> u32>(
+    alloc: Global,
+    net: &Net,
+    model: &CostModel<F>,
+    prices: &Prices,
+    plan: &Plan,
+    strand: u32,
+    taken: &Taken,
+) -> Result<bool, OutOfMemory>
+    requires kept { Keeps F.Fn model.now }
+    requires net { IsBuilt net.now }
+    requires prices { AreInRange net.now prices.now }
+    requires strand { strand < length net.now.strands }
+    requires taken { IsRoomOf net.now taken.now }
+{
+    let mut work = Work::reserve(alloc, net, model)?;
+    let ends = ends_of(net, plan, strand);
+    Ok(least(&mut work, net, model, prices, strand, ends, taken).is_err())
+}
+
+// That a strand is blocked, if it is.
+fn told_blocked<F: Fn(Event, u32) -> u32>(
+    alloc: Global,
+    net: &Net,
+    model: &CostModel<F>,
+    prices: &Prices,
+    plan: &Plan,
+    strand: u32,
+    taken: &Taken,
+) -> Result<String, OutOfMemory>
+    requires kept { Keeps F.Fn model.now }
+    requires net { IsBuilt net.now }
+    requires prices { AreInRange net.now prices.now }
+    requires strand { strand < length net.now.strands }
+    requires taken { IsRoomOf net.now taken.now }
+{
+    let is = is_blocked(alloc, net, model, prices, plan, strand, taken)?;
+    let word = if is { "is blocked" } else { "has a path" };
+    Ok(format!(in alloc; "{strand} {word}")?)
+}
+
+// How laying by a plan and an order ends.
+fn end_of<F: Fn(Event, u32) -> u32>(
+    alloc: Global,
+    net: &Net,
+    model: &CostModel<F>,
+    prices: &Prices,
+    plan: &Plan,
+    order: &[u32],
+) -> Result<String, OutOfMemory>
+    requires kept { Keeps F.Fn model.now }
+    requires net { IsBuilt net.now }
+    requires prices { AreInRange net.now prices.now }
+    requires order { IsPermutation (range_with_len 0 (length net.now.strands)) order.now }
+    requires many { length plan.now.places ≡ net.now.groups }
+{
+    match lay(alloc, net, model, prices, plan, order) {
+        Ok(routes) => {
+            let is = is_admitted(alloc, net, &routes)?;
+            Ok(String::from_str(alloc, if is { "laid" } else { "refused" })?)
+        }
+        Err(LayFault::Blocked(strand, taken)) => {
+            told_blocked(alloc, net, model, prices, plan, strand, &taken)
+        }
+        Err(LayFault::OutOfMemory) => Err(OutOfMemory),
     }
-    Ok(())
+}
+
+/// The plan, the order and the end at prices.
+pub(crate) fn find_at<F: Fn(Event, u32) -> u32>(
+    alloc: Global,
+    net: &Net,
+    model: &CostModel<F>,
+    prices: &Prices,
+) -> Result<Found, OutOfMemory>
+    requires kept { Keeps F.Fn model.now }
+    requires net { IsBuilt net.now }
+    requires prices { AreInRange net.now prices.now }
+{
+    let plan = plan(alloc, net, model, prices)?;
+    let mut work = Work::reserve(alloc, net, model)?;
+    let order = priced_order(alloc, &mut work, net, model, prices, &plan)?;
+    let end = end_of(alloc, net, model, prices, &plan, order.as_slice())?;
+    Ok(Found { plan, order, end })
+}
+
+/// A plan, by the numbers of its places, and an order, as rows have them.
+pub(crate) fn told(alloc: Global, plan: &Plan, order: &[u32]) -> Result<String, OutOfMemory> {
+    let numbers = numbers_of(alloc, plan.places.as_slice())?;
+    Ok(format!(in alloc; "{:?} {order:?}", numbers.as_slice())?)
+}
+
+// Whether laying may end so by a row: in one of the ways that it names. Where it names none, routes
+// that are admitted or a strand that is blocked are right.
+fn may_end(ends: &str, end: &str) -> bool {
+    if ends.is_empty() {
+        return end == "laid" || end.ends_with(" is blocked");
+    }
+    for other in ends.split(',') {
+        if other.strip_prefix(' ').unwrap_or(other) == end {
+            return true;
+        }
+    }
+    false
+}
+
+/// What is found in place of what a row says, if anything.
+pub(crate) fn differs_from_found(
+    alloc: Global,
+    found: &Found,
+    at: &str,
+) -> Result<Option<String>, OutOfMemory> {
+    let wanted = field(at, "found ");
+    let told = told(alloc, &found.plan, found.order.as_slice())?;
+    let is_there = wanted.is_empty() || told.as_str() == wanted;
+    if is_there && may_end(field(at, "may be "), found.end.as_str()) {
+        return Ok(None);
+    }
+    Ok(Some(format!(in alloc; "{told} {}", found.end)?))
 }

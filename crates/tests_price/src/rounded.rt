@@ -1,202 +1,199 @@
-// Rounds on small codes: what the first round on one of them tried, and how near others come to the
-// optimum, which an integer program over the edges of the network gave.
+// Rounds of a row: what the first of them tried, and that at most twenty, which end where the cost
+// is the bound, are the same at each call and have the least cost of all between bound and cost.
 
-ghost use Rattle.net_cost.specs.Models.{Keeps};
+ghost use Rattle.std.specs.Prelude.{◌≡◌, ◌≤◌, length};
+ghost use Rattle.net_cost.specs.Models.{Keeps, weights_of};
 ghost use Rattle.net_laws.specs.Built.{IsBuilt};
+ghost use Rattle.al_round.specs.Rounds.{AreRounds};
+ghost use Rattle.al_round.specs.Watches.{verdict_of};
 
-use crate::made::network;
-use al_round::{Outcome, Rounds, Tried};
-use net_cost::{CostModel, Event, Weights};
+use crate::planned::told;
+use crate::reading::{field, least_of, numbers_of};
+use al_round::{Allocation, Outcome, Rounds, Tried, Verdict, Watch};
+use net_cost::{CostModel, Event};
 use net_form::{Line, Net};
-use pra_base::{End, OutOfMemory, ProcId, VInstr, VProc, VarId, VarKind};
-use std::alloc::{AllocError, Global};
-use std::process::Abort;
-use std::test::Fail;
-use vc_sketch::{block, procedure};
+use pra_base::OutOfMemory;
+use pra_list::Seq;
+use std::alloc::Global;
 
-/// Code of one block, by its variables and its instructions.
-type Code = (u32, &'static [VarKind], &'static [VInstr]);
+// How many rounds are granted.
+const MOST: u32 = 20;
 
-// v is there from layer 2 to layer 5, where Write wants it in EAX, and the constant k at layer 3.
-const SET_ADD_WRITE: Code = (
-    0,
-    &[VarKind::Plain, VarKind::Constant(4)],
-    &[
-        VInstr::Set(VarId(0), 3),
-        VInstr::Add(VarId(0), VarId(1)),
-        VInstr::Write(VarId(0)),
-    ],
-);
-
-const ONE_CONSTANT: Code = (
-    0,
-    &[VarKind::Constant(7)],
-    &[VInstr::Write(VarId(0)), VInstr::Line],
-);
-
-const TWO_IN_EAX: Code = (
-    0,
-    &[VarKind::Plain, VarKind::Plain],
-    &[
-        VInstr::Read(VarId(0)),
-        VInstr::Read(VarId(1)),
-        VInstr::Write(VarId(1)),
-        VInstr::Write(VarId(0)),
-    ],
-);
-
-const SEVEN_AT_ONCE: Code = (
-    1,
-    &[
-        VarKind::Plain,
-        VarKind::Plain,
-        VarKind::Plain,
-        VarKind::Plain,
-        VarKind::Plain,
-        VarKind::Plain,
-        VarKind::Plain,
-        VarKind::Plain,
-        VarKind::Plain,
-        VarKind::Constant(3),
-        VarKind::Param(0),
-    ],
-    &[
-        VInstr::Set(VarId(0), 1),
-        VInstr::Set(VarId(1), 2),
-        VInstr::Set(VarId(2), 3),
-        VInstr::Set(VarId(3), 4),
-        VInstr::Set(VarId(4), 5),
-        VInstr::Copy(VarId(5), VarId(10)),
-        VInstr::Copy(VarId(6), VarId(10)),
-        VInstr::Call(ProcId(1)),
-        VInstr::DivMod(VarId(7), VarId(8), VarId(6), VarId(0)),
-        VInstr::Add(VarId(1), VarId(2)),
-        VInstr::And(VarId(1), VarId(9)),
-        VInstr::Write(VarId(1)),
-        VInstr::Write(VarId(2)),
-        VInstr::Write(VarId(3)),
-        VInstr::Write(VarId(4)),
-        VInstr::Write(VarId(5)),
-        VInstr::Write(VarId(0)),
-        VInstr::Write(VarId(7)),
-    ],
-);
-
-// Codes, whether they are weighed by speed, and the least cost of all flows that are admitted.
-const OPTIMA: &[(Code, bool, u128)] = &[
-    (SET_ADD_WRITE, false, 1),
-    (ONE_CONSTANT, true, 1),
-    (TWO_IN_EAX, false, 4),
-    (SEVEN_AT_ONCE, true, 28),
-];
-
-fn made(alloc: Global, code: Code) -> Result<VProc, AllocError> {
-    let (args, vars, lines) = code;
-    let mut blocks = Vec::new(alloc);
-    blocks.push(block(alloc, lines, End::Return)?)?;
-    procedure(alloc, 0, args, 0, vars, blocks)
+/// The lines of rounds, and whether there was memory for each that was wanted.
+#[derive(Drop)]
+struct Granted {
+    lines: Seq<Line>,
+    is_whole: bool,
 }
 
-// What a round tried: how many places the plan has, the order, and the places of each strand.
-fn told(alloc: Global, tried: Option<&Tried>) -> Result<String, OutOfMemory> {
-    let Some(tried) = tried else {
-        return Ok(String::from_str(alloc, "nothing")?);
+// Stops where the cost is the bound.
+fn verdict(line: Line) -> Verdict
+    requires { line.bound ≤ line.cost }
+    ensures { result ≡ verdict_of 0 line }
+{
+    if line.cost - line.bound == 0 {
+        Verdict::Stop
+    } else {
+        Verdict::Go
+    }
+}
+
+fn grant<F: Fn(Event, u32) -> u32>(
+    alloc: Global,
+    net: &Net,
+    model: &CostModel<F>,
+) -> Result<Granted, OutOfMemory>
+    requires kept { Keeps F.Fn model.now }
+    requires net { IsBuilt net.now }
+{
+    let watch = Watch::keep(0, |line: Line| verdict(line));
+    let mut rounds = Rounds::start(alloc, net, model)?;
+    let is_whole = rounds.grant(alloc, net, model, MOST, &watch).is_ok();
+    let Allocation { lines, .. } = rounds.into_allocation();
+    Ok(Granted { lines, is_whole })
+}
+
+// Whether two calls gave the same lines, as far as both go.
+fn go_together(one: &[Line], other: &[Line]) -> bool {
+    for (line, again) in one.iter().zip(other) {
+        if line.round != again.round || line.cost != again.cost || line.bound != again.bound {
+            return false;
+        }
+    }
+    true
+}
+
+// The lines of rounds, or None where a second call gives others. Where there is no memory for a
+// round those before it are the same.
+fn lines_twice<F: Fn(Event, u32) -> u32>(
+    alloc: Global,
+    net: &Net,
+    model: &CostModel<F>,
+) -> Result<Option<Seq<Line>>, OutOfMemory>
+    requires kept { Keeps F.Fn model.now }
+    requires net { IsBuilt net.now }
+{
+    let Granted { lines, is_whole } = grant(alloc, net, model)?;
+    let again = grant(alloc, net, model)?;
+    if !go_together(lines.as_slice(), again.lines.as_slice()) {
+        return Ok(None);
+    }
+    if !is_whole || !again.is_whole {
+        return Err(OutOfMemory);
+    }
+    if lines.len() != again.lines.len() {
+        return Ok(None);
+    }
+    Ok(Some(lines))
+}
+
+// Whether lines are those that a row wants: as many as were granted, unless the last cost is the
+// bound; with the least cost of all between bound and cost, and at the cost where it is `reached`;
+// and with a last cost below the first one where costs `fall`.
+fn are_wanted(lines: &[Line], row: &str) -> bool {
+    let (Some(first), Some(last)) = (lines.first(), lines.last()) else {
+        return false;
     };
-    let places = tried.plan.places.len();
-    let order = tried.order.as_slice();
-    let mut text = format!(in alloc; "{places} places, order {order:?}")?;
-    match &tried.outcome {
+    if last.round != MOST && last.cost != last.bound {
+        return false;
+    }
+    if field(row, "costs ") == "fall" && last.cost >= first.cost {
+        return false;
+    }
+    match least_of(row) {
+        None => true,
+        Some(least) if field(row, "least ").ends_with(" reached") => {
+            last.bound <= least && least == last.cost
+        }
+        Some(least) => last.bound <= least && least <= last.cost,
+    }
+}
+
+// How laying ended: the numbers of the places of each path, or the strand that is blocked.
+fn told_outcome(alloc: Global, outcome: &Outcome) -> Result<String, OutOfMemory> {
+    let mut text = String::new(alloc);
+    match outcome {
         Outcome::Blocked(strand, _) => {
-            text.push_str(format!(in alloc; ", {strand} is blocked")?.as_str())?;
+            text.push_str(format!(in alloc; " {strand} is blocked")?.as_str())?;
         }
         Outcome::Laid(routes) => {
             for path in routes.places.as_slice() {
-                text.push_str(format!(in alloc; ", {:?}", path.as_slice())?.as_str())?;
+                let numbers = numbers_of(alloc, path.as_slice())?;
+                text.push_str(format!(in alloc; " {:?}", numbers.as_slice())?.as_str())?;
             }
         }
     }
     Ok(text)
 }
 
-// The line of the first round, by size, and what that round tried.
-fn first_round(alloc: Global, net: &Net) -> Result<String, OutOfMemory>
-    requires { IsBuilt net.now }
-{
-    let model = CostModel::keep(Weights::size(), |event: Event, depth: u32| {
-        Weights::size().weight(event, depth)
-    });
-    let mut rounds = Rounds::start(alloc, net, &model)?;
-    let line = rounds.round(alloc, net, &model)?;
-    let tried = told(alloc, rounds.tried.as_ref())?;
-    Ok(format!(in alloc;
-        "{} cost {} bound {}: {tried}",
-        line.round, line.cost, line.bound
-    )?)
+// The cost and the bound of a round, and what it tried: the plan, the order and the outcome.
+fn told_round(alloc: Global, line: &Line, tried: &Tried) -> Result<String, OutOfMemory> {
+    let found = told(alloc, &tried.plan, tried.order.as_slice())?;
+    let outcome = told_outcome(alloc, &tried.outcome)?;
+    let mut text = format!(in alloc; "{} {}", line.cost, line.bound)?;
+    text.push_str(format!(in alloc; " {found}{outcome}")?.as_str())?;
+    Ok(text)
 }
 
-// The line of the twentieth round, by a model.
-fn twentieth<F: Fn(Event, u32) -> u32>(
+// What rounds tried last, if they were not only begun.
+fn told_last(alloc: Global, line: &Line, rounds: &Rounds) -> Result<String, OutOfMemory> {
+    match &rounds.tried {
+        Some(tried) => told_round(alloc, line, tried),
+        None => Ok(String::from_str(alloc, "nothing was tried")?),
+    }
+}
+
+// One round more.
+fn told_next<F: Fn(Event, u32) -> u32>(
     alloc: Global,
     net: &Net,
     model: &CostModel<F>,
-) -> Result<Line, OutOfMemory>
+    rounds: &mut Rounds,
+) -> Result<String, OutOfMemory>
+    requires kept { Keeps F.Fn model.now }
+    requires net { IsBuilt net.now }
+    requires rounds { AreRounds net.now (weights_of model.now) rounds.old }
+    requires few { length rounds.old.lines ≤ 4294967295 }
+{
+    let line = rounds.round(alloc, net, model)?;
+    told_last(alloc, &line, rounds)
+}
+
+// The first round.
+fn first_round<F: Fn(Event, u32) -> u32>(
+    alloc: Global,
+    net: &Net,
+    model: &CostModel<F>,
+) -> Result<String, OutOfMemory>
     requires kept { Keeps F.Fn model.now }
     requires net { IsBuilt net.now }
 {
     let mut rounds = Rounds::start(alloc, net, model)?;
-    let mut last = rounds.round(alloc, net, model)?;
-    for _ in 1..20 {
-        if rounds.lines.len() > 20 {
-            return Ok(last);
-        }
-        last = rounds.round(alloc, net, model)?;
-    }
-    Ok(last)
+    told_next(alloc, net, model, &mut rounds)
 }
 
-// The same by speed or by size.
-fn twentieth_line(alloc: Global, net: &Net, by_speed: bool) -> Result<Line, OutOfMemory>
-    requires { IsBuilt net.now }
+/// What differs from what a row says of rounds, if anything.
+pub(crate) fn differs_in_rounds<F: Fn(Event, u32) -> u32>(
+    alloc: Global,
+    net: &Net,
+    model: &CostModel<F>,
+    row: &str,
+) -> Result<Option<String>, OutOfMemory>
+    requires kept { Keeps F.Fn model.now }
+    requires net { IsBuilt net.now }
 {
-    if by_speed {
-        let model = CostModel::keep(Weights::speed(), |event: Event, depth: u32| {
-            Weights::speed().weight(event, depth)
-        });
-        return twentieth(alloc, net, &model);
+    let first = field(row, "first ");
+    if !first.is_empty() {
+        let told = first_round(alloc, net, model)?;
+        if told.as_str() != first {
+            return Ok(Some(told));
+        }
     }
-    let model = CostModel::keep(Weights::size(), |event: Event, depth: u32| {
-        Weights::size().weight(event, depth)
-    });
-    twentieth(alloc, net, &model)
-}
-
-#[test]
-fn what_the_first_round_tried(rt: HostRuntime) -> Result<(), Fail> {
-    let alloc = rt.alloc();
-    let Some(net) = network(alloc, &made(alloc, SET_ADD_WRITE)?)? else {
-        assert!(rt; false, "the code is not valid");
-        return Ok(());
+    let Some(lines) = lines_twice(alloc, net, model)? else {
+        return Ok(Some(String::from_str(alloc, "other lines at a second call")?));
     };
-    let found = first_round(alloc, &net)?;
-    assert_eq!(rt;
-        found.as_str(),
-        "1 cost 1 bound 1: 0 places, order [1, 0], [Eax, Eax, Eax, Eax], [Const]"
-    );
-    Ok(())
-}
-
-#[test]
-fn twenty_rounds_to_the_optimum(rt: HostRuntime) -> Result<(), Fail> {
-    let alloc = rt.alloc();
-    for (code, by_speed, optimum) in OPTIMA {
-        let Some(net) = network(alloc, &made(alloc, *code)?)? else {
-            assert!(rt; false, "the code is not valid");
-            return Ok(());
-        };
-        let line = twentieth_line(alloc, &net, *by_speed)?;
-        assert_eq!(rt; line.round, 20);
-        assert_eq!(rt; line.cost, *optimum, "{line:?}");
-        assert!(rt; line.bound <= *optimum, "{line:?} of {optimum}");
+    if are_wanted(lines.as_slice(), row) {
+        return Ok(None);
     }
-    Ok(())
+    Ok(Some(format!(in alloc; "{:?}", lines.as_slice())?))
 }
