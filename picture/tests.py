@@ -215,7 +215,7 @@ class BesideOthers(unittest.TestCase):
                     self.assertEqual(found, wanted)
                     sums = [one + other for one, other in zip(sums, found, strict=True)]
                     count += 1
-        self.assertEqual(count, 34)
+        self.assertEqual(count, 36)
 
 
 HEAD = """data 0
