@@ -1,24 +1,26 @@
 #!/bin/sh
 # Prints how long it takes to make the largest procedure's liveness, network and home routes, to ask
 # whether these are admitted and what they cost, and to make room for a least path of each strand and
-# find these at prices of nothing: of each part the least processor time of five runs, and of the
-# least paths that for each layer of a strand too. Then how much memory the liveness takes, and how
-# much the network beside it.
+# find these at prices of nothing, as a family and each alone: of each part the least processor time
+# of five runs, and of the least paths that for each layer of a strand too, beside that of the first
+# strand by plain loops. Then how much memory the liveness takes, and how much the network beside it.
 set -eu
 cd "$(dirname "$0")"
 program=$(./built.sh bench_network)
-for _ in 1 2 3 4 5; do "$program" lagrange 2>&1; done | awk '
+for _ in 1 2 3 4 5; do "$program" plain 2>&1; done | awk '
     $3 == "ms" {
         if (!($1 in least)) { least[$1] = $2; parts[++count] = $1 }
         else if ($2 < least[$1]) least[$1] = $2
     }
     $1 == "masks" { masks = $2 }
+    $1 == "plain" && $2 == "loops:" { layers = $3 }
     $1 ~ /:$/ || $2 ~ /routes:/ || $1 == "value" { said[$0] = 1 }
     END {
         for (line in said) print line
         for (i = 1; i <= count; i++) print parts[i] ": " least[parts[i]] " ms"
-        printf "lagrange: %.1f ns for each of %d layers of strands\n",
-            least["lagrange"] * 1e6 / masks, masks
+        printf "lagrange and least: %.1f and %.1f ns for each of %d layers of strands\n",
+            least["lagrange"] * 1e6 / masks, least["least"] * 1e6 / masks, masks
+        printf "plain loops: %.0f ns for each of %d layers\n", least["plain"] * 1e6 / layers, layers
     }'
 
 live=$(./peak.sh "$program" live)

@@ -1,13 +1,12 @@
 // The parts of the work. Each does its own, notes its time, and goes on to the next.
 
-ghost use Rattle.std.specs.Prelude.{◌≡◌, IfOk};
+ghost use Rattle.std.specs.Prelude.{◌≡◌, ◌<◌, length, IfOk};
 ghost use Rattle.pra_base.specs.Valid.{IsSized, IsValid};
 ghost use Rattle.net_cost.specs.Models.{Keeps};
 ghost use Rattle.net_form.specs.Flow.{AreRoutes};
 ghost use Rattle.net_form.specs.Network.{IsNet};
 ghost use Rattle.net_form.specs.Rooms.{empty_spare};
 ghost use Rattle.net_laws.specs.Built.{IsBuilt};
-ghost use Rattle.net_dual.specs.Priced.{AreInRange};
 ghost use Rattle.net_path.specs.Desk.{IsReservedFor};
 ghost use Rattle.vc_live.specs.Rows.{IsLiveness};
 
@@ -15,13 +14,21 @@ use crate::work::{Stop, Work};
 use al_edge::home;
 use net_build::build;
 use net_cost::{CostModel, Event, Weights};
-use net_form::{Net, Prices, Routes, Spare, Taken};
+use net_form::{Ends, Net, Routes, Spare, Taken};
 use net_gate::{admitted, cost};
+use net_path::least;
+use net_plain::least_plain;
 use net_price::lagrange;
 use pra_base::{OutOfMemory, VProc};
 use std::alloc::Global;
 use vc_live::{Liveness, live};
 use vc_valid::is_valid;
+
+// A path may begin and end anywhere.
+const ANYWHERE: Ends = Ends {
+    first: None,
+    last: None,
+};
 
 /// The liveness of sized code, and what comes behind it.
 pub fn from_live(rt: &HostRuntime, work: &mut Work, code: &VProc) -> Result<(), Stop>
@@ -175,7 +182,7 @@ fn from_reserve(rt: &HostRuntime, work: &mut Work, net: &Net, spare: &Spare) -> 
     });
     let mut room = net_path::Work::reserve(rt.alloc(), net, &model).map_err(|_| Stop::NoMemory)?;
     work.done(rt, "reserve")?;
-    from_lagrange(rt, work, &mut room, net, &model, &spare.zero)
+    from_lagrange(rt, work, &mut room, net, &model, spare)
 }
 
 // The value, in units of 1/1024, and a least path of each strand.
@@ -185,14 +192,88 @@ fn from_lagrange<F: Fn(Event, u32) -> u32>(
     room: &mut net_path::Work,
     net: &Net,
     model: &CostModel<F>,
-    prices: &Prices,
+    spare: &Spare,
 ) -> Result<(), Stop>
     requires kept { Keeps F.Fn model.now }
     requires net { IsBuilt net.now }
     requires room { IsReservedFor net.now room.old }
-    requires prices { AreInRange net.now prices.now }
+    requires spare { spare.now ≡ empty_spare net.now }
 {
-    let value = lagrange(room, net, model, prices);
+    let value = lagrange(room, net, model, &spare.zero);
     println!(rt; "value {value} / 1024 by size").map_err(|_| Stop::NoHost)?;
-    work.done(rt, "lagrange")
+    work.done(rt, "lagrange")?;
+    from_least(rt, work, room, net, model, spare)
+}
+
+// Finds a least path of each strand, alone.
+fn find_each<F: Fn(Event, u32) -> u32>(
+    room: &mut net_path::Work,
+    net: &Net,
+    model: &CostModel<F>,
+    spare: &Spare,
+)
+    requires kept { Keeps F.Fn model.now }
+    requires net { IsBuilt net.now }
+    requires room { IsReservedFor net.now room.old }
+    requires spare { spare.now ≡ empty_spare net.now }
+{
+    for strand in 0..net.strands.len() {
+        let (prices, free) = (&spare.zero, &spare.taken);
+        let _ = least(room, net, model, prices, strand as u32, ANYWHERE, free);
+    }
+}
+
+// A least path of each strand, alone.
+fn from_least<F: Fn(Event, u32) -> u32>(
+    rt: &HostRuntime,
+    work: &mut Work,
+    room: &mut net_path::Work,
+    net: &Net,
+    model: &CostModel<F>,
+    spare: &Spare,
+) -> Result<(), Stop>
+    requires kept { Keeps F.Fn model.now }
+    requires net { IsBuilt net.now }
+    requires room { IsReservedFor net.now room.old }
+    requires spare { spare.now ≡ empty_spare net.now }
+{
+    find_each(room, net, model, spare);
+    work.done(rt, "least")?;
+    from_plain(rt, work, net, model, spare)
+}
+
+// Finds what the least path of a strand costs by plain loops, and answers how many layers it has.
+fn find_plain<F: Fn(Event, u32) -> u32>(
+    net: &Net,
+    model: &CostModel<F>,
+    spare: &Spare,
+    strand: u32,
+) -> usize
+    requires kept { Keeps F.Fn model.now }
+    requires net { IsBuilt net.now }
+    requires spare { spare.now ≡ empty_spare net.now }
+    requires strand { strand < length net.now.strands }
+{
+    let _ = least_plain(net, model, &spare.zero, strand, ANYWHERE, &spare.taken);
+    net.strands[strand as usize].masks.len()
+}
+
+// The same of the first strand by plain loops, which ask the whole network at each place.
+fn from_plain<F: Fn(Event, u32) -> u32>(
+    rt: &HostRuntime,
+    work: &mut Work,
+    net: &Net,
+    model: &CostModel<F>,
+    spare: &Spare,
+) -> Result<(), Stop>
+    requires kept { Keeps F.Fn model.now }
+    requires net { IsBuilt net.now }
+    requires spare { spare.now ≡ empty_spare net.now }
+{
+    if net.strands.is_empty() {
+        return Err(Stop::Done);
+    }
+    let layers = find_plain(net, model, spare, 0);
+    println!(rt; "plain loops: {layers} layers").map_err(|_| Stop::NoHost)?;
+    work.done(rt, "plain")
 }
