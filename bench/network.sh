@@ -3,11 +3,11 @@
 # whether these are admitted and what they cost, and to make room for a least path of each strand and
 # find these at prices of nothing, as a family and each alone: of each part the least processor time
 # of five runs, and of the least paths that for each layer of a strand too, beside that of the first
-# strand by plain loops. Then how much memory the liveness takes, and how much the network beside it.
+# strand by plain loops, once, which takes most of a minute. Then how much memory the liveness takes, and how much the network beside it.
 set -eu
 cd "$(dirname "$0")"
 program=$(./built.sh bench_network)
-for _ in 1 2 3 4 5; do "$program" plain 2>&1; done | awk '
+for word in least least least least plain; do "$program" "$word" 2>&1; done | awk '
     $3 == "ms" {
         if (!($1 in least)) { least[$1] = $2; parts[++count] = $1 }
         else if ($2 < least[$1]) least[$1] = $2
