@@ -11,7 +11,7 @@ use Rattle.net_form.specs.Formed.{IsFormed}
 use Rattle.net_form.specs.Rooms.{layer_total}
 use Rattle.net_laws.specs.Homes.{HasRoom}
 use Rattle.al_edge.specs.HomeRoutes.{AreHome}
-use Rattle.al_edge.specs.Placed.{IsSoFar}
+use Rattle.al_edge.specs.HomePaths.{IsSoFar}
 use Rattle.al_edge.proofs.Uses.{no_paths}
 use Rattle.al_edge.proofs.Whole.{are_routes, admitted, are_home}
 

@@ -24,7 +24,7 @@ use Rattle.net_laws.specs.Homes.{HasRoom, is_there, passes, allowed, home_of, ne
 use Rattle.net_laws.proofs.Few.{few}
 use Rattle.net_laws.proofs.Found.{first_that}
 use Rattle.al_edge.specs.Choice.{layer_in, busy_at}
-use Rattle.al_edge.specs.Placed.{IsPlaced}
+use Rattle.al_edge.specs.HomePaths.{IsHomePath}
 use Rattle.al_edge.proofs.Uses.{held_is, uses_at, uses_below, counted, one_layer}
 
 in_filter : (p : ℕ → Bool) (a n x : ℕ) → a ≤ x → x < a + n → p x ≡ true → list_any (eqb x) (filter p (range_with_len a n)) ≡ true
@@ -51,7 +51,7 @@ register_number n is = ap (λ t. cond t (n - 8) n) (false_from_ne_true (leb 8 n)
 
 module _ (net : Net) (formed : IsFormed net) (room : HasRoom net) (rs : List (List Place)) (regs : List ℕ)
     (marks : (n r : ℕ) → mark regs n r ≡ count_by (uses_bundle net n r) (flow_from 0 net.strands rs))
-    (placed : (x : ℕ) → x < length rs → IsPlaced net x (get_or rs x [])) (s l : ℕ) (s_lt : s < length net.strands) (later : length rs ≤ s)
+    (placed : (x : ℕ) → x < length rs → IsHomePath net x (get_or rs x [])) (s l : ℕ) (s_lt : s < length net.strands) (later : length rs ≤ s)
     (there : is_there (strand_at net s) l ≡ true) (need : needs_register net s l ≡ true) where
   abbrev t : ℕ → Strand
   t x = strand_at net x

@@ -24,7 +24,7 @@ use Rattle.al_edge.specs.Choice.{layer_in, busy_at, pick, place_for, path_for}
 use Rattle.al_edge.proofs.Uses.{held_is, held_once, uses_at, uses_below, count_push}
 use Rattle.al_edge.proofs.Picked.{picked, IsPicked}
 use Rattle.al_edge.proofs.Free.{home_apart, register_number, not_full}
-use Rattle.al_edge.specs.Placed.{IsGood, IsPlaced, IsSoFar}
+use Rattle.al_edge.specs.HomePaths.{IsGood, IsHomePath, IsSoFar}
 
 -- ---- both sides of an instruction are alike
 
@@ -99,7 +99,7 @@ module _ (net : Net) (regs : List ℕ) (s l : ℕ) (there : is_there (strand_at 
 
 module _ (net : Net) (formed : IsFormed net) (room : HasRoom net) (rs : List (List Place)) (regs : List ℕ)
     (marks : (n r : ℕ) → mark regs n r ≡ count_by (uses_bundle net n r) (flow_from 0 net.strands rs))
-    (placed : (x : ℕ) → x < length rs → IsPlaced net x (get_or rs x [])) (s : ℕ) (s_lt : s < length net.strands) (count : length rs ≡ s) where
+    (placed : (x : ℕ) → x < length rs → IsHomePath net x (get_or rs x [])) (s : ℕ) (s_lt : s < length net.strands) (count : length rs ≡ s) where
   abbrev t : Strand
   t = strand_at net s
 
@@ -169,7 +169,7 @@ module _ (net : Net) (formed : IsFormed net) (room : HasRoom net) (rs : List (Li
   path_long : length path ≡ length t.masks
   path_long = length-map-range_with_len (place_for net regs s) t.first (length t.masks)
 
-  pub path_placed : IsPlaced net s path
+  pub path_placed : IsHomePath net s path
   path_placed = record {
     long = let a = path_long in let b = masks_long in omega (arith, a, b);
     good = λ l there. subst (IsGood net s l) (sym (path_at l there)) (good_at l there);
@@ -222,13 +222,13 @@ module _ (net : Net) (formed : IsFormed net) (room : HasRoom net) (rs : List (Li
         | inr none ↦ omega (arith, is, was, more, none, small)
       ]
 
-  pub placed_more : (x : ℕ) → x < length (rs ++ path ∷ []) → IsPlaced net x (get_or (rs ++ path ∷ []) x [])
-  placed_more x lt = elim (cases_eq x (length rs)) as (λ _. IsPlaced net x (get_or (rs ++ path ∷ []) x [])) [
-    | inl last ↦ subst (IsPlaced net x) (sym (get_or_push rs path [] x (sym last))) (subst (λ x. IsPlaced net x path) (sym (last ∙ count)) path_placed)
+  pub placed_more : (x : ℕ) → x < length (rs ++ path ∷ []) → IsHomePath net x (get_or (rs ++ path ∷ []) x [])
+  placed_more x lt = elim (cases_eq x (length rs)) as (λ _. IsHomePath net x (get_or (rs ++ path ∷ []) x [])) [
+    | inl last ↦ subst (IsHomePath net x) (sym (get_or_push rs path [] x (sym last))) (subst (λ x. IsHomePath net x path) (sym (last ∙ count)) path_placed)
     | inr other ↦
         let long = length_push rs path in
         let small : x < length rs = omega (arith, lt, long, other) in
-        subst (IsPlaced net x) (sym (get_or_append_left rs (path ∷ []) [] x small)) (placed x small)
+        subst (IsHomePath net x) (sym (get_or_append_left rs (path ∷ []) [] x small)) (placed x small)
   ]
 
 -- one more, in all

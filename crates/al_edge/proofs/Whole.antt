@@ -32,7 +32,7 @@ use Rattle.net_laws.proofs.Found.{first_that}
 use Rattle.net_laws.proofs.Needs.{no_pair}
 use Rattle.al_edge.specs.HomeRoutes.{IsAway, unfit, unfit_across, AreHome}
 use Rattle.al_edge.specs.HomeRoutes as why
-use Rattle.al_edge.specs.Placed.{IsPlaced}
+use Rattle.al_edge.specs.HomePaths.{IsHomePath}
 
 has_places : (ts : List Strand) (rs : List (List Place)) → length rs ≡ length ts
     → ((x : ℕ) → x < length rs → (get_or ts x no_strand).first + length (get_or rs x []) ≡ (get_or ts x no_strand).last + 1) → HasPlaces ts rs
@@ -71,7 +71,7 @@ All-flow Q k (t ∷ ts) (r ∷ rs) same all = All-append Q (edges k t.first None
 
 module _ (net : Net) (formed : IsFormed net) (room : HasRoom net) (rs : List (List Place)) (regs : List ℕ)
     (marks : (n r : ℕ) → mark regs n r ≡ count_by (uses_bundle net n r) (flow_from 0 net.strands rs))
-    (placed : (x : ℕ) → x < length rs → IsPlaced net x (get_or rs x [])) (every : length rs ≡ length net.strands) where
+    (placed : (x : ℕ) → x < length rs → IsHomePath net x (get_or rs x [])) (every : length rs ≡ length net.strands) where
   abbrev routes : Routes
   routes = record { places = rs }
 

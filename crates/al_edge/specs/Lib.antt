@@ -1,9 +1,9 @@
 pub mod Cheapest
 pub mod Choice
 pub mod GroupEnds
+pub mod HomePaths
 pub mod HomeRoutes
 pub mod OpenPlaces
-pub mod Placed
 pub mod Planned
 pub mod Totals
 pub mod Weighed

@@ -24,10 +24,10 @@
 //! its ends has it and its register is not used at any end's layer; masks and registers are asked
 //! of all ends before any path is looked for. What an open place costs is the sum over the strands
 //! with an end in the group of a least path with these ends at the place: each strand once, alone
-//! in the network (`costs_at` in `weights`). A strand with one end in the group takes one search for
-//! all places; one with both, as in a block that is its own loop, takes one for each. The open place
-//! that costs least is taken, and of equal ones the first. Memory is open to every group, so there
-//! is always one.
+//! in the network (`costs_at` in `weights`). A strand with one end in the group takes one search
+//! for all places; one with both, as in a block that is its own loop, takes one for each. The open
+//! place that costs least is taken, and of equal ones the first. Memory is open to every group, so
+//! there is always one.
 //!
 //! ```text
 //!   block 0 ends at its exit           block 1 begins at its entry

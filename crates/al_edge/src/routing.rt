@@ -8,7 +8,7 @@ ghost use Rattle.net_form.specs.Rooms.{layer_total, IsRoomOf};
 ghost use Rattle.net_laws.specs.Homes.{HasRoom, is_there};
 ghost use Rattle.al_edge.specs.Choice.{busy_at, place_for, path_for};
 ghost use Rattle.al_edge.specs.HomeRoutes.{AreHome};
-ghost use Rattle.al_edge.specs.Placed.{IsSoFar};
+ghost use Rattle.al_edge.specs.HomePaths.{IsSoFar};
 ghost use Rattle.al_edge.specs.Yielding.{IsTable};
 
 use crate::choice::pick;

@@ -133,8 +133,8 @@ fn draft_strand<F: Fn(Event, u32) -> u32>(
     }
 }
 
-/// Drafts least paths of the strands of a variable, at a place wherever it is tied, and answers what
-/// they pay together. There is none where they cannot pay less than a price.
+/// Drafts least paths of the strands of a variable, at a place wherever it is tied, and answers
+/// what they pay together. There is none where they cannot pay less than a price.
 pub(crate) fn draft_strands<F: Fn(Event, u32) -> u32>(
     work: &mut Work,
     spare: &mut Spare,

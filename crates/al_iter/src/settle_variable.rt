@@ -1,6 +1,7 @@
 // The strands of one variable go cheaper ways.
 
-ghost use Rattle.std.specs.Prelude.{◌≡◌, ◌<◌, ◌≤ℤ◌, ◌<ℤ◌, ◌+◌, ◌^◌, ℕ, length, pos, true, false, All};
+ghost use Rattle.std.specs.Prelude.{◌≡◌, ◌<◌, ◌≤ℤ◌, ◌<ℤ◌, ◌+◌, ◌^◌, ℕ, length, pos, true, false};
+ghost use Rattle.std.specs.Prelude.{All};
 ghost use Rattle.std.specs.Prelude.{None, IsTrue, IsFalse};
 ghost use Rattle.pra_base.specs.declared.ids.Place.{Place as AnyPlace};
 ghost use Rattle.pra_base.specs.Places.{number, place_count};

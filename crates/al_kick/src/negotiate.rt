@@ -10,7 +10,8 @@ use net_form::Net;
 // Passes over all variables at most.
 const MOST_PASSES: u32 = 60;
 
-// A penalty at first, in thousandths of a unit, and by how many thousandths it grows with each pass.
+// A penalty at first, in thousandths of a unit, and by how many thousandths it grows with each
+// pass.
 const PENALTY: u64 = 50;
 
 const GROWTH: u64 = 1200;
@@ -88,8 +89,8 @@ impl Search {
         }
     }
 
-    /// Makes routes from nothing, settles them, and keeps them, whatever those before them cost. Where
-    /// they don't come about, those before them stay.
+    /// Makes routes from nothing, settles them, and keeps them, whatever those before them cost.
+    /// Where they don't come about, those before them stay.
     pub(crate) fn negotiate(&mut self, net: &Net) {
         self.begin_kick();
         let mut penalty = PENALTY;

@@ -18,8 +18,8 @@ pub(crate) const WHOLE: u64 = 1024;
 // No event is taken for dearer than this, in scaled units.
 const DEAREST: u32 = 1 << 24;
 
-/// What ways through a crossbar cost: a move between registers, a load, a store, and a constant that
-/// is made.
+/// What ways through a crossbar cost: a move between registers, a load, a store, and a constant
+/// that is made.
 #[derive(Clone, Copy)]
 pub(crate) struct Ways {
     pub between: u32,

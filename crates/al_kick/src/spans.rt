@@ -1,8 +1,9 @@
 // Where each strand lies, among the places of all strands and the layers of all blocks.
 //
 // Only crossbars lead from place to place, and they lie before layers of odd number. A step is what
-// lies between two of them, the layers 2k - 1 and 2k of a block, as far as a strand has them: it has
-// one place there, so paths and costs go by steps. Who shares a register is asked for each layer.
+// lies between two of them, the layers 2k - 1 and 2k of a block, as far as a strand has them: it
+// has one place there, so paths and costs go by steps. Who shares a register is asked for each
+// layer.
 
 use crate::lists::at;
 use net_form::{Net, Strand};

@@ -18,8 +18,8 @@ use std::alloc::{AllocError, Global};
 // Units of a weight of 1.
 const WHOLE: u64 = 1024;
 
-/// What it costs to go from place to place in the blocks of a loop depth, a row for each place where
-/// a way begins, and behind these what it costs that a constant begins at a place.
+/// What it costs to go from place to place in the blocks of a loop depth, a row for each place
+/// where a way begins, and behind these what it costs that a constant begins at a place.
 pub(crate) fn write_ways<F: Fn(Event, u32) -> u32>(
     ways: &mut [Row],
     model: &CostModel<F>,
@@ -144,8 +144,8 @@ fn go_back(rests: &mut [Row], ways: &[Row], first: u32, count: usize) {
     }
 }
 
-/// Writes for each layer of a strand what is left to pay from each place on, at the prices, with the
-/// plan's places at its ends, if nobody else were there.
+/// Writes for each layer of a strand what is left to pay from each place on, at the prices, with
+/// the plan's places at its ends, if nobody else were there.
 pub(crate) fn write_rests<F: Fn(Event, u32) -> u32>(
     rests: &mut [Row],
     net: &Net,

@@ -46,8 +46,8 @@ pub(crate) fn costs_of(ways: &[Row], from: Option<usize>, constant: bool, rest: 
     }
 }
 
-/// How early a strand chooses: first who has the fewest places and none at home, then ends of memory
-/// pairs, then who loses most at home.
+/// How early a strand chooses: first who has the fewest places and none at home, then ends of
+/// memory pairs, then who loses most at home.
 pub(crate) fn urgency(costs: &Row, is_paired: bool) -> u64 {
     let home = costs[MEMORY].min(costs[CONSTANT]);
     if home >= FAR {

@@ -72,9 +72,9 @@ fn swept<F: Fn(Event, u32) -> u32>(
     Ok(routes_of(alloc, net, &sweep.places)?)
 }
 
-/// Routes that are made layer by layer, with all strands of a block that live there at once: by what
-/// each would pay from there on at these prices, between the plan's places, if it were alone. Where
-/// the network does not admit them, home routes.
+/// Routes that are made layer by layer, with all strands of a block that live there at once: by
+/// what each would pay from there on at these prices, between the plan's places, if it were alone.
+/// Where the network does not admit them, home routes.
 ///
 /// # Errors
 ///

@@ -3,8 +3,8 @@
 // and then it is noted how much processor time each part took: `live` and `build`, and behind them
 // `valid`, `home`, `admitted` and `cost`, which ask for home routes, whether they are admitted and
 // what they cost, and `reserve`, `lagrange` and `least`, which make room for a least path of each
-// strand and find these at prices of nothing, as a family and each alone; `plain` finds what that of
-// the first strand costs by plain loops.
+// strand and find these at prices of nothing, as a family and each alone; `plain` finds what that
+// of the first strand costs by plain loops.
 //
 // The locals are set in the entry and written in the last block. Between them stand blocks in
 // pairs: one changes a local and compares it, and leads back to itself or on; the other changes

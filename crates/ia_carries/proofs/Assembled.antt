@@ -13,7 +13,7 @@ use Rattle.ia_emit.specs.Code.{size}
 use Rattle.ia_emit.specs.Counts.{AreFew}
 use Rattle.ia_emit.specs.Emission.{emit_proc}
 use Rattle.ia_emit.proofs.FewBytes.{few_bytes}
-use Rattle.ia_simulation.specs.Represents.{IsLoaded}
+use Rattle.ia_simulation.specs.Realizes.{IsLoaded}
 use Rattle.ia_simulation.proofs.Listed as listed
 use Rattle.pl_place.specs.declared.placed.LProc.{LProc}
 use Rattle.pl_place.specs.Valid.{ArePlaced, IsPlaced}

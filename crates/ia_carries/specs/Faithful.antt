@@ -4,7 +4,7 @@ use Rattle.ia_code.specs.declared.image.Image.{Image}
 use Rattle.ia_code.specs.Image.{IsImage}
 use Rattle.ia_emit.specs.Carries.{Carries}
 use Rattle.ia_emit.specs.Operands.{IsSmall}
-use Rattle.ia_simulation.specs.Represents.{AreWords}
+use Rattle.ia_simulation.specs.Realizes.{AreWords}
 use Rattle.ia_step.specs.Run.{progress}
 use Rattle.pl_place.specs.declared.placed.LProc.{LProc}
 use Rattle.pl_place.specs.Behind.{Routed, IsBehind}

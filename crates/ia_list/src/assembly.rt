@@ -1,5 +1,5 @@
-// An image from its text. A line is read to find the one instruction that it can be of, and is right
-// where that instruction is written so.
+// An image from its text. A line is read to find the one instruction that it can be of, and is
+// right where that instruction is written so.
 
 ghost use Rattle.std.specs.Prelude.{◌≡◌, ◌≤◌, ◌<◌, ◌^◌, ℕ, List, ◌++◌, length, IfOk, MatchOption};
 ghost use Rattle.ia_code.specs.declared.ins.Ins.{Ins};
@@ -107,10 +107,10 @@ fn next_line<'a>(
 ///
 /// # Errors
 ///
-/// `BadLine` where a line is not as the table has it, has no end, is not at the place where the code
-/// before it ends, or tells more than `MAX_DATA_WORDS`; the first line is 1, also where there is no
-/// byte. `Empty` where a right first line is all. `OutOfMemory` where there is no memory for the
-/// code.
+/// `BadLine` where a line is not as the table has it, has no end, is not at the place where the
+/// code before it ends, or tells more than `MAX_DATA_WORDS`; the first line is 1, also where there
+/// is no byte. `Empty` where a right first line is all. `OutOfMemory` where there is no memory for
+/// the code.
 pub fn asm_text(alloc: Global, bytes: &[u8]) -> Result<Image, AsmFault>
     requires { length bytes.now ≤ max_text_bytes }
     ensures { Assembles bytes.now result }

@@ -8,7 +8,8 @@ use ia_code::{AluOp, Reg, Rm};
 use pra_base::Cond;
 
 /// An instruction without its operands. The letters at the end of a variant's name say where the
-/// operands are: `m` may be in memory, `r` is a register, `i` a number and `b` a number of one byte.
+/// operands are: `m` may be in memory, `r` is a register, `i` a number and `b` a number of one
+/// byte.
 #[derive(Clone, Copy, Drop)]
 pub enum Form {
     MovMr,

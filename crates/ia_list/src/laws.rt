@@ -1,6 +1,7 @@
 // Laws of texts. Each function is a law: its contract is the statement, and it does nothing.
 
-ghost use Rattle.std.specs.Prelude.{◌≡◌, ◌≢◌, ℕ, ◌*◌, ◌<◌, ◌≤◌, ◌^◌, List, ◌++◌, length, Some, Ok, Err};
+ghost use Rattle.std.specs.Prelude.{◌≡◌, ◌≢◌, ℕ, ◌*◌, ◌<◌, ◌≤◌, ◌^◌, List, ◌++◌, length, Some, Ok};
+ghost use Rattle.std.specs.Prelude.{Err};
 ghost use Rattle.std.specs.Prelude.{Result};
 ghost use Rattle.ia_code.specs.declared.image.Image.{Image};
 ghost use Rattle.ia_code.specs.declared.ins.Ins.{Ins};

@@ -27,7 +27,7 @@ use Rattle.vc_code.specs.Operation.{base_count}
 use Rattle.vc_code.specs.Value.{Held}
 use Rattle.vc_code.specs.Machine.{Activation, State}
 use Rattle.ia_simulation.specs.Frames.{Means}
-use Rattle.ia_simulation.specs.Represents.{IsLoadable, Represents}
+use Rattle.ia_simulation.specs.Realizes.{IsLoadable, Realizes}
 use Rattle.ia_simulation.proofs.Addresses as addresses
 use Rattle.ia_simulation.proofs.Checks.{bare_has}
 use Rattle.ia_simulation.proofs.Computes.{register_operand}
@@ -67,7 +67,7 @@ pub record HasAddress (this : VInstr) (b : Base) (x : Option VarId) (l : List Pl
   pub index_there : (u : VarId) → x ≡ Some u → has_register (place_in l (via_count b)) ≡ true
   pub cell_is : (n : ℕ) → b ≡ base.Cell n → NamesCell this n
 
-module _ (procs : List LProc) (data_words : ℕ) (ok : IsLoadable procs data_words) (s : State Cells) (r : Ran) (y : Represents procs s r) (o : s.over ≡ None) where
+module _ (procs : List LProc) (data_words : ℕ) (ok : IsLoadable procs data_words) (s : State Cells) (r : Ran) (y : Realizes procs s r) (o : s.over ≡ None) where
   abbrev p : LProc
   p = proc_of procs s.top.proc
 

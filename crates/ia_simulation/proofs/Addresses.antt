@@ -29,7 +29,7 @@ use Rattle.vc_code.specs.Operation.{base_count, based, indexed, placed, address 
 use Rattle.vc_code.specs.Value.{Held, Words}
 use Rattle.vc_code.specs.Machine.{Activation, depth}
 use Rattle.ia_simulation.specs.Frames.{Means, base_of}
-use Rattle.ia_simulation.specs.Represents.{Lies}
+use Rattle.ia_simulation.specs.Realizes.{Lies}
 use Rattle.ia_simulation.proofs.Ops.{number_is}
 
 -- ---- displacements of 32 bits

@@ -21,7 +21,7 @@ use Rattle.pra_base.specs.Words.{stack_limit}
 use Rattle.vc_code.specs.Value.{Held, Words}
 use Rattle.vc_code.specs.Machine.{Activation, depth}
 use Rattle.ia_simulation.specs.Frames.{Holds, WordsHold, Stacked, register_held, saved, rest_of, frames}
-use Rattle.ia_simulation.specs.Represents.{IsLoadable, AllWait, Lies}
+use Rattle.ia_simulation.specs.Realizes.{IsLoadable, AllWait, Lies}
 use Rattle.ia_simulation.proofs.Enter as enter
 use Rattle.ia_simulation.proofs.Enter.{Entered}
 use Rattle.ia_simulation.proofs.Places.{no_target}

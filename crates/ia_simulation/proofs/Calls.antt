@@ -35,7 +35,7 @@ use Rattle.vc_code.specs.declared.value.Value.TheVariants.{Num}
 use Rattle.vc_code.specs.Value.{Words}
 use Rattle.vc_code.specs.Machine.{Activation, State, depth, ended, entered, with_call}
 use Rattle.ia_simulation.specs.Frames.{Holds, register_held, ebp_of, frames}
-use Rattle.ia_simulation.specs.Represents.{IsLoadable, StandsBefore, GivesUp, AllWait, Lies, Runs, Represents, Leads}
+use Rattle.ia_simulation.specs.Realizes.{IsLoadable, StandsBefore, GivesUp, AllWait, Lies, Runs, Realizes, Leads}
 use Rattle.ia_simulation.proofs.Begin as begins
 use Rattle.ia_simulation.proofs.Here as here
 use Rattle.ia_simulation.proofs.Ops as ops
@@ -77,7 +77,7 @@ begun_is procs q args c e = one (slice_get procs q) refl e
         let b = block_of (proc_of procs q) (slice_get (proc_of procs q).blocks 0) (subst (λ p. begin q (Some p) args ≡ Some c) same e) in
         record { there = there; block = b.0; has = b.1; is = b.2 }
 
-module _ (procs : List LProc) (data_words : ℕ) (ok : IsLoadable procs data_words) (s : State Cells) (r : Ran) (y : Represents procs s r) (o : s.over ≡ None) (q : ProcId) (places : _) (more : List LInstr) (e : s.top.home.rest ≡ placed.Op (instr.Call q) places ∷ more) where
+module _ (procs : List LProc) (data_words : ℕ) (ok : IsLoadable procs data_words) (s : State Cells) (r : Ran) (y : Realizes procs s r) (o : s.over ≡ None) (q : ProcId) (places : _) (more : List LInstr) (e : s.top.home.rest ≡ placed.Op (instr.Call q) places ∷ more) where
   abbrev i : LInstr
   i = placed.Op (instr.Call q) places
 
@@ -197,7 +197,7 @@ module _ (procs : List LProc) (data_words : ℕ) (ok : IsLoadable procs data_wor
         let reach : Reaches (1 + b.0) r.state t = reach_on 1 b.0 r.state m1 t calls b.2 in (
           1 + b.0,
           inl (omega arith),
-          subst (Represents procs (with_call s callee (caller ∷ s.below))) (sym (reach.by r.events r.steps)) (record {
+          subst (Realizes procs (with_call s callee (caller ∷ s.below))) (sym (reach.by r.events r.steps)) (record {
             ending = ap run_end z.going ∙ sym o;
             events = y.events;
             taken = z.taken ∙ y.taken;

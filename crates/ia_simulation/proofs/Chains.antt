@@ -56,7 +56,7 @@ use Rattle.vc_code.specs.Operation.{gives, divided as divided_by}
 use Rattle.vc_code.specs.Value.{Words}
 use Rattle.vc_code.specs.Machine.{Activation, State, After, apply, with_top}
 use Rattle.ia_simulation.specs.Frames.{Means, frames}
-use Rattle.ia_simulation.specs.Represents.{IsLoadable, Lies, Runs, Represents, Leads}
+use Rattle.ia_simulation.specs.Realizes.{IsLoadable, Lies, Runs, Realizes, Leads}
 use Rattle.ia_simulation.proofs.Effects.{IsPlace, OneInMemory, ok_same, read_place, combines, operates}
 use Rattle.ia_simulation.proofs.Masks.{in_mask, allowed_at, is_place, in_eax, one_in_memory}
 use Rattle.ia_simulation.proofs.Spots.{Same, Wrote, esp_stays, read, reads, writes}
@@ -198,7 +198,7 @@ four_are : (l : List Place) → length l ≡ 4 → (a : Place) × (b : Place) ×
 four_are [] n = cc
 four_are (a ∷ l) n = let m : length l ≡ 3 = omega (arith, n) in let t = three_are l m in (a, t.0, t.1, t.2, ap (λ l. a ∷ l) t.3)
 
-module _ (procs : List LProc) (data_words : ℕ) (ok : IsLoadable procs data_words) (s : State Cells) (r : Ran) (y : Represents procs s r) (o : s.over ≡ None) where
+module _ (procs : List LProc) (data_words : ℕ) (ok : IsLoadable procs data_words) (s : State Cells) (r : Ran) (y : Realizes procs s r) (o : s.over ≡ None) where
   abbrev p : LProc
   p = proc_of procs s.top.proc
 
@@ -258,7 +258,7 @@ module _ (procs : List LProc) (data_words : ℕ) (ok : IsLoadable procs data_wor
     arrives k t c regs stack flags some reach is same lead lies = (
       k,
       inl some,
-      subst (Represents procs (with_top s c)) (sym (reach.by r.events r.steps ∙ ap (λ t. let z : Ran = record { state = t; events = r.events; steps = r.steps + k } in z) is)) (record {
+      subst (Realizes procs (with_top s c)) (sym (reach.by r.events r.steps ∙ ap (λ t. let z : Ran = record { state = t; events = r.events; steps = r.steps + k } in z) is)) (record {
         ending = y.ending;
         events = y.events;
         taken = y.taken;

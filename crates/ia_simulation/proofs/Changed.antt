@@ -13,7 +13,7 @@ use Rattle.vc_code.specs.Value.{Held, Words}
 use Rattle.vc_code.specs.Machine.{Activation, depth, calls_with, cell_words, is_home, last_get, with_aggregate, with_argument, word_at, words_of}
 use Rattle.vc_code.specs.declared.value.Value.TheVariants.{Num}
 use Rattle.ia_simulation.specs.Frames.{base_of, ebp_of, register_held, saved, rest_of, frames}
-use Rattle.ia_simulation.specs.Represents.{StandsBefore, HasSizes, GivesUp, AllWait}
+use Rattle.ia_simulation.specs.Realizes.{StandsBefore, HasSizes, GivesUp, AllWait}
 use Rattle.ia_simulation.proofs.Cells.{get_inside, set_back, set_front}
 use Rattle.ia_simulation.proofs.Objects.{AllSized, word_is, same_is, one_word}
 use Rattle.ia_simulation.proofs.Sizes.{saved_long}

@@ -50,7 +50,7 @@ use Rattle.vc_code.specs.declared.action.Action.TheVariants as action
 use Rattle.vc_code.specs.Operation.{number}
 use Rattle.vc_code.specs.Machine.{Activation, State, After, apply, ended, with_top}
 use Rattle.vc_code.specs.Value.{Words, is_index}
-use Rattle.ia_simulation.specs.Represents.{IsLoadable, Runs, Represents, Leads}
+use Rattle.ia_simulation.specs.Realizes.{IsLoadable, Runs, Realizes, Leads}
 use Rattle.ia_simulation.proofs.Effects.{IsPlace, number_op, operates}
 use Rattle.ia_simulation.proofs.Masks.{in_mask, allowed_at, is_place}
 use Rattle.ia_simulation.specs.Frames.{frames}
@@ -87,7 +87,7 @@ bare_has (x ∷ code) zero i places e =
 bare_has (placed.Move m ∷ code) (suc k) i places e = bare_has code k i places e
 bare_has (placed.Op i1 places1 ∷ code) (suc k) i places e = let rest = bare_has code k i places e in (suc rest.0, rest.1)
 
-module _ (procs : List LProc) (data_words : ℕ) (ok : IsLoadable procs data_words) (s : State Cells) (r : Ran) (y : Represents procs s r) (o : s.over ≡ None) where
+module _ (procs : List LProc) (data_words : ℕ) (ok : IsLoadable procs data_words) (s : State Cells) (r : Ran) (y : Realizes procs s r) (o : s.over ≡ None) where
   abbrev p : LProc
   p = proc_of procs s.top.proc
 
@@ -200,7 +200,7 @@ module _ (procs : List LProc) (data_words : ℕ) (ok : IsLoadable procs data_wor
           let lies = lies_clobbered procs x.backs s.pushed s.top s.below s.globals r.state.regs r.state.stack r.state.storage i more x.lies in (
             2,
             inl (omega arith),
-            subst (Represents procs (with_top s (after_it i places more e))) (sym (both.by r.events r.steps)) (record {
+            subst (Realizes procs (with_top s (after_it i places more e))) (sym (both.by r.events r.steps)) (record {
               ending = y.ending;
               events = y.events;
               taken = y.taken;

@@ -31,7 +31,7 @@ use Rattle.pra_base.specs.Words.{word}
 use Rattle.vc_code.specs.Value.{Words}
 use Rattle.vc_code.specs.Machine.{Activation, State, depth, with_aggregates, with_cleared, zeroed}
 use Rattle.ia_simulation.specs.Frames.{Holds, WordsHold, Stacked, register_held, saved, rest_of, frames}
-use Rattle.ia_simulation.specs.Represents.{IsLoadable, StandsBefore, RegistersHold, Runs, Represents}
+use Rattle.ia_simulation.specs.Realizes.{IsLoadable, StandsBefore, RegistersHold, Runs, Realizes}
 use Rattle.ia_simulation.proofs.Checks.{bare_has}
 use Rattle.ia_simulation.proofs.Clears as clears
 use Rattle.ia_simulation.proofs.Ops as ops
@@ -58,7 +58,7 @@ clears_items p = drop 1 (clear p)
 four_sizes : (p : LProc) → size (clears_items p) ≡ 20
 four_sizes p = refl
 
-module _ (procs : List LProc) (data_words : ℕ) (ok : IsLoadable procs data_words) (s : State Cells) (r : Ran) (y : Represents procs s r) (o : s.over ≡ None) (places : _) (more : List LInstr) (e : s.top.home.rest ≡ placed.Op instr.Clear places ∷ more) where
+module _ (procs : List LProc) (data_words : ℕ) (ok : IsLoadable procs data_words) (s : State Cells) (r : Ran) (y : Realizes procs s r) (o : s.over ≡ None) (places : _) (more : List LInstr) (e : s.top.home.rest ≡ placed.Op instr.Clear places ∷ more) where
   abbrev p : LProc
   p = proc_of procs s.top.proc
 
@@ -166,7 +166,7 @@ module _ (procs : List LProc) (data_words : ℕ) (ok : IsLoadable procs data_wor
       (lies1.registers 0 (omega arith)) (subst (λ h. Holds h k) (sym (ecx_gone s.top.home.regs)) tt) (lies1.registers 2 (omega arith)) (lies1.registers 3 (omega arith)) (lies1.registers 4 (omega arith)) (lies1.registers 5 (omega arith)) in (
         1 + z.0,
         inl (omega arith),
-        subst (Represents procs (with_cleared s c)) (sym (reach.by r.events r.steps)) (record {
+        subst (Realizes procs (with_cleared s c)) (sym (reach.by r.events r.steps)) (record {
           ending = ap run_end v.walks.going ∙ sym o;
           events = y.events;
           taken = v.taken ∙ y.taken;

@@ -32,7 +32,7 @@ use Rattle.vc_code.specs.declared.value.Value.TheVariants.{Num}
 use Rattle.vc_code.specs.declared.action.Action.TheVariants as action
 use Rattle.vc_code.specs.Operation.{gives, number}
 use Rattle.vc_code.specs.Machine.{Activation, State, After}
-use Rattle.ia_simulation.specs.Represents.{IsLoadable, Represents, Leads}
+use Rattle.ia_simulation.specs.Realizes.{IsLoadable, Realizes, Leads}
 use Rattle.ia_simulation.proofs.Effects.{IsPlace, OneInMemory, sets, copies, negates}
 use Rattle.ia_simulation.proofs.Masks.{in_mask, allowed_at, is_place, one_in_memory}
 use Rattle.ia_simulation.proofs.Ops as ops
@@ -54,7 +54,7 @@ set_fits (at.Number k) n is sound = absurd is
 pub word_fits : (n : ℤ) → FitsSigned w32 n → word n < 2 ^ 32
 word_fits n f = omega (arith, ints)
 
-module _ (procs : List LProc) (data_words : ℕ) (ok : IsLoadable procs data_words) (s : State Cells) (r : Ran) (y : Represents procs s r) (o : s.over ≡ None) where
+module _ (procs : List LProc) (data_words : ℕ) (ok : IsLoadable procs data_words) (s : State Cells) (r : Ran) (y : Realizes procs s r) (o : s.over ≡ None) where
   abbrev p : LProc
   p = proc_of procs s.top.proc
 

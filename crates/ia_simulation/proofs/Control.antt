@@ -35,7 +35,7 @@ use Rattle.pra_base.specs.Words.{word, sum32, compares}
 use Rattle.vc_code.specs.Value.{Words}
 use Rattle.vc_code.specs.Machine.{Activation, State, with_top, goes_to, branched}
 use Rattle.ia_simulation.specs.Frames.{frames}
-use Rattle.ia_simulation.specs.Represents.{IsLoadable, StandsBefore, FlagsTell, Runs, Represents, most, Leads}
+use Rattle.ia_simulation.specs.Realizes.{IsLoadable, StandsBefore, FlagsTell, Runs, Realizes, most, Leads}
 use Rattle.ia_simulation.proofs.Here.{AreAt}
 use Rattle.ia_simulation.proofs.Here as here
 use Rattle.ia_simulation.proofs.Places.{block_at}
@@ -93,7 +93,7 @@ few_blocks (c ∷ procs) (suc q) p e =
     let sum = sum_by-cons (λ (p : LProc). length p.blocks) c procs in
     omega (arith, rest, sum)
 
-module _ (procs : List LProc) (data_words : ℕ) (ok : IsLoadable procs data_words) (s : State Cells) (r : Ran) (y : Represents procs s r) (o : s.over ≡ None) (done : s.top.home.rest ≡ []) where
+module _ (procs : List LProc) (data_words : ℕ) (ok : IsLoadable procs data_words) (s : State Cells) (r : Ran) (y : Realizes procs s r) (o : s.over ≡ None) (done : s.top.home.rest ≡ []) where
   abbrev m : machine.State
   m = r.state
 
@@ -146,7 +146,7 @@ module _ (procs : List LProc) (data_words : ℕ) (ok : IsLoadable procs data_wor
   there b = machine.at m (code_base + block_start p start b)
 
   -- at the begin of a block the machine stands for the call there
-  arrived : (b : ℕ) (block : LBlock) (n : ℕ) → slice_get p.blocks b ≡ Some block → Represents procs (with_top s (moved_to s.top b block)) (record { state = there b; events = r.events; steps = n })
+  arrived : (b : ℕ) (block : LBlock) (n : ℕ) → slice_get p.blocks b ≡ Some block → Realizes procs (with_top s (moved_to s.top b block)) (record { state = there b; events = r.events; steps = n })
   arrived b block n has = record {
     ending = y.ending;
     events = y.events;
@@ -189,7 +189,7 @@ module _ (procs : List LProc) (data_words : ℕ) (ok : IsLoadable procs data_wor
       subst (λ c. Leads procs s r (with_top s c)) z.2 (
         g.0,
         lower b g.0 g.2,
-        subst (Represents procs (with_top s (moved_to s.top b z.0))) (sym (g.1.by r.events r.steps)) (arrived b z.0 (r.steps + g.0) z.1),
+        subst (Realizes procs (with_top s (moved_to s.top b z.0))) (sym (g.1.by r.events r.steps)) (arrived b z.0 (r.steps + g.0) z.1),
       ))
 
   block_small : (b : ℕ) (block : LBlock) → slice_get p.blocks b ≡ Some block → block_start p start b ≤ max_code_bytes

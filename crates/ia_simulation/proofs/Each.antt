@@ -18,7 +18,7 @@ use Rattle.pra_base.specs.declared.code.Addr.{Addr}
 use Rattle.pra_base.specs.declared.code.VInstr.{VInstr}
 use Rattle.pra_base.specs.declared.code.VInstr.TheVariants as instr
 use Rattle.pra_base.specs.RunEnd.{Wrong}
-use Rattle.ia_simulation.specs.Represents.{IsLoadable, AreWords, IsCarried, EachIsCarried}
+use Rattle.ia_simulation.specs.Realizes.{IsLoadable, AreWords, IsCarried, EachIsCarried}
 use Rattle.ia_emit.specs.Sound.{OffsetsFit}
 use Rattle.ia_simulation.proofs.Simulated as simulated
 use Rattle.ia_simulation.proofs.Whole as whole

@@ -11,7 +11,7 @@ use Rattle.pra_base.specs.Agreement.{Agree, Carried}
 use Rattle.pra_base.specs.RunEnd.{Wrong}
 use Rattle.pra_base.proofs.Carried.{agree}
 use Rattle.vc_code.proofs.LongerRuns.{longer_runs_keep}
-use Rattle.ia_simulation.specs.Represents.{IsLoadable, IsLoaded, AreWords}
+use Rattle.ia_simulation.specs.Realizes.{IsLoadable, IsLoaded, AreWords}
 use Rattle.ia_simulation.proofs.Each as each
 
 module _ (procs : List LProc) (data_words : ℕ) (image : Image) (z : IsLoaded procs data_words image) where

@@ -34,7 +34,7 @@ use Rattle.vc_code.specs.declared.value.Value.TheVariants.{Num}
 use Rattle.vc_code.specs.Operation.{placed}
 use Rattle.vc_code.specs.Value.{Held}
 use Rattle.vc_code.specs.Machine.{State, After, number_in, with_top}
-use Rattle.ia_simulation.specs.Represents.{IsLoadable, Represents, Leads}
+use Rattle.ia_simulation.specs.Realizes.{IsLoadable, Realizes, Leads}
 use Rattle.ia_simulation.proofs.Addresses as addresses
 use Rattle.ia_simulation.proofs.Computes as computes
 use Rattle.ia_simulation.proofs.Computes.{register_operand}
@@ -53,7 +53,7 @@ use Rattle.ia_simulation.proofs.Steps.{found_ok}
 located : (p : LProc) (v : VarId) (a : Addr) (l : List Place) → OperandsPlaced p (instr.Load v a) l → OperandsPlaced p (instr.Addr v a) l
 located p v a l is = record { count = is.count; allowed = is.allowed; in_place = is.in_place; pair = is.pair }
 
-module _ (procs : List LProc) (data_words : ℕ) (ok : IsLoadable procs data_words) (s : State Cells) (r : Ran) (y : Represents procs s r) (o : s.over ≡ None) where
+module _ (procs : List LProc) (data_words : ℕ) (ok : IsLoadable procs data_words) (s : State Cells) (r : Ran) (y : Realizes procs s r) (o : s.over ≡ None) where
   abbrev p : LProc
   p = proc_of procs s.top.proc
 

@@ -38,7 +38,7 @@ use Rattle.vc_code.specs.Operation.{placed}
 use Rattle.vc_code.specs.Value.{Held}
 use Rattle.vc_code.specs.Machine.{State, After}
 use Rattle.ia_simulation.specs.Frames.{Means}
-use Rattle.ia_simulation.specs.Represents.{IsLoadable, Represents, Leads}
+use Rattle.ia_simulation.specs.Realizes.{IsLoadable, Realizes, Leads}
 use Rattle.ia_simulation.proofs.Addressed.{last_of, HasAddress, are_there}
 use Rattle.ia_simulation.proofs.Addresses as addresses
 use Rattle.ia_simulation.proofs.Computes as computes
@@ -168,7 +168,7 @@ module _ (p : LProc) (v : VarId) (off : ℤ) where
     read = refl;
   }
 
-module _ (procs : List LProc) (data_words : ℕ) (ok : IsLoadable procs data_words) (s : State Cells) (r : Ran) (y : Represents procs s r) (o : s.over ≡ None) where
+module _ (procs : List LProc) (data_words : ℕ) (ok : IsLoadable procs data_words) (s : State Cells) (r : Ran) (y : Realizes procs s r) (o : s.over ≡ None) where
   abbrev p : LProc
   p = proc_of procs s.top.proc
 

@@ -28,7 +28,7 @@ use Rattle.pra_base.specs.RunEnd.{Wrong}
 use Rattle.vc_code.specs.declared.value.Value.TheVariants.{Num}
 use Rattle.vc_code.specs.Value.{Held, Words}
 use Rattle.vc_code.specs.Machine.{Activation, State, Moves, act}
-use Rattle.ia_simulation.specs.Represents.{IsLoadable, AllWait, Lies, Represents, Leads}
+use Rattle.ia_simulation.specs.Realizes.{IsLoadable, AllWait, Lies, Realizes, Leads}
 use Rattle.ia_simulation.proofs.Effects.{ok_same, copies, sets}
 use Rattle.ia_simulation.proofs.Spots.{Same, reads_cell, writes_cell}
 use Rattle.ia_simulation.proofs.Steps as steps
@@ -107,7 +107,7 @@ module _ (procs : List LProc) (backs : List ℕ) (pushed : Words) (top : Activat
       fixed_same : (n k : ℤ) → ◌≡◌ {A = Cell} (Fixed n) (Fixed k) → n ≡ k
       fixed_same n k e = cc
 
-module _ (procs : List LProc) (data_words : ℕ) (ok : IsLoadable procs data_words) (s : State Cells) (r : Ran) (y : Represents procs s r) (o : s.over ≡ None) (move : Move) (more : List LInstr)
+module _ (procs : List LProc) (data_words : ℕ) (ok : IsLoadable procs data_words) (s : State Cells) (r : Ran) (y : Realizes procs s r) (o : s.over ≡ None) (move : Move) (more : List LInstr)
     (e : s.top.home.rest ≡ placed.Move move ∷ more) where
   abbrev p_here : LProc
   p_here = proc_of procs s.top.proc

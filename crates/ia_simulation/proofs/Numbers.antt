@@ -38,7 +38,7 @@ use Rattle.vc_code.specs.declared.value.Value.TheVariants.{Num}
 use Rattle.vc_code.specs.declared.action.Action.TheVariants as action
 use Rattle.vc_code.specs.Operation.{gives}
 use Rattle.vc_code.specs.Machine.{Activation, State, After}
-use Rattle.ia_simulation.specs.Represents.{IsLoadable, Represents, Leads}
+use Rattle.ia_simulation.specs.Realizes.{IsLoadable, Realizes, Leads}
 use Rattle.ia_simulation.proofs.Effects.{IsPlace, OneInMemory, ok_same, multiplies, combines, operates}
 use Rattle.ia_simulation.proofs.Masks.{in_mask, allowed_at, is_place, is_register, one_in_memory}
 use Rattle.ia_simulation.proofs.Spots.{read}
@@ -52,7 +52,7 @@ use Rattle.ia_simulation.proofs.Computes.{register_operand}
 number_fits : (reg : Reg) (n : ℤ) → IsSound (multiply_number reg n) → FitsSigned w32 n
 number_fits reg n = either (λ i. IsSound i → FitsSigned w32 n) (is_short n) (ins.ImulB reg (rm.Reg reg) n) (ins.ImulI reg (rm.Reg reg) n) (λ _ s. short_is_word n s.1) (λ _ s. s.1)
 
-module _ (procs : List LProc) (data_words : ℕ) (ok : IsLoadable procs data_words) (s : State Cells) (r : Ran) (y : Represents procs s r) (o : s.over ≡ None) where
+module _ (procs : List LProc) (data_words : ℕ) (ok : IsLoadable procs data_words) (s : State Cells) (r : Ran) (y : Realizes procs s r) (o : s.over ≡ None) where
   abbrev p : LProc
   p = proc_of procs s.top.proc
 

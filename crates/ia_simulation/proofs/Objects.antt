@@ -16,7 +16,7 @@ use Rattle.vc_code.specs.Operation.{number}
 use Rattle.vc_code.specs.Value.{Held, Words}
 use Rattle.vc_code.specs.Machine.{Activation, State, depth, cell_words, is_home, joined, last_get, number_in, word_at, words_of}
 use Rattle.ia_simulation.specs.Frames.{Means, base_of, saved, rest_of, frames}
-use Rattle.ia_simulation.specs.Represents.{HasSizes, AllWait, Lies}
+use Rattle.ia_simulation.specs.Realizes.{HasSizes, AllWait, Lies}
 use Rattle.ia_simulation.proofs.Cells.{get_back, get_front, get_inside, load_cell, load_word}
 use Rattle.ia_simulation.proofs.Ops.{number_is}
 use Rattle.ia_simulation.proofs.Sizes.{live_long, saved_long}

@@ -40,7 +40,7 @@ use Rattle.vc_code.specs.Operation.{number, both}
 use Rattle.vc_code.specs.Value.{Held}
 use Rattle.vc_code.specs.Machine.{Activation, State, Machine, After, apply, with_top}
 use Rattle.ia_simulation.specs.Frames.{Means}
-use Rattle.ia_simulation.specs.Represents.{IsLoadable, FlagsTell, Lies, Runs, Represents, Leads}
+use Rattle.ia_simulation.specs.Realizes.{IsLoadable, FlagsTell, Lies, Runs, Realizes, Leads}
 use Rattle.ia_simulation.proofs.Effects.{IsPlace}
 use Rattle.ia_simulation.proofs.Spots.{Same, Wrote, read, reads, writes}
 use Rattle.ia_simulation.proofs.Standing as standing
@@ -88,7 +88,7 @@ pub put_done : (p : LProc) (o : Option (Activation Cells)) (places : List ℕ) (
 put_done p None places xs c e = cc
 put_done p (Some d) places xs c e = e
 
-module _ (procs : List LProc) (data_words : ℕ) (ok : IsLoadable procs data_words) (s : State Cells) (r : Ran) (y : Represents procs s r) (o : s.over ≡ None) where
+module _ (procs : List LProc) (data_words : ℕ) (ok : IsLoadable procs data_words) (s : State Cells) (r : Ran) (y : Realizes procs s r) (o : s.over ≡ None) where
   abbrev pub mach : Machine Cells
   mach = placed_machine procs
 

@@ -25,7 +25,7 @@ use Rattle.pra_base.specs.Places.{number as number_of}
 use Rattle.pra_base.specs.Valid.{TakesArgs}
 use Rattle.vc_code.specs.declared.action.Action.TheVariants as action
 use Rattle.vc_code.specs.Machine.{Activation, State, After}
-use Rattle.ia_simulation.specs.Represents.{IsLoadable, StandsBefore, Represents, Leads}
+use Rattle.ia_simulation.specs.Realizes.{IsLoadable, StandsBefore, Realizes, Leads}
 use Rattle.ia_simulation.specs.Frames.{Holds, register_held, frames}
 use Rattle.ia_simulation.proofs.Sizes.{live_long}
 use Rattle.ia_simulation.proofs.Spots.{below_6}
@@ -37,7 +37,7 @@ use Rattle.ia_simulation.proofs.Steps as steps
 use Rattle.ia_simulation.proofs.Rows.{Led}
 use Rattle.ia_simulation.proofs.Computes as computes
 
-module _ (procs : List LProc) (data_words : ℕ) (ok : IsLoadable procs data_words) (s : State Cells) (r : Ran) (y : Represents procs s r) (o : s.over ≡ None) where
+module _ (procs : List LProc) (data_words : ℕ) (ok : IsLoadable procs data_words) (s : State Cells) (r : Ran) (y : Realizes procs s r) (o : s.over ≡ None) where
   abbrev p : LProc
   p = proc_of procs s.top.proc
 

@@ -23,7 +23,7 @@ use Rattle.vc_code.specs.declared.value.Value.TheVariants.{Num}
 use Rattle.vc_code.specs.Value.{Held, Words}
 use Rattle.vc_code.specs.Machine.{Activation, State, depth, ended, returned}
 use Rattle.ia_simulation.specs.Frames.{Holds, WordsHold, Stacked, ebp_of, register_held, saved, rest_of, frames, exit}
-use Rattle.ia_simulation.specs.Represents.{IsLoadable, StandsBefore, AllWait, Lies, Runs, Represents, Leads}
+use Rattle.ia_simulation.specs.Realizes.{IsLoadable, StandsBefore, AllWait, Lies, Runs, Realizes, Leads}
 use Rattle.ia_simulation.proofs.Control as control
 use Rattle.ia_simulation.proofs.Here as here
 use Rattle.ia_simulation.proofs.Leave.{Left, leaves}
@@ -37,7 +37,7 @@ pub none_there : {A : Type 0} (xs : List A) → length xs ≡ 0 → xs ≡ []
 none_there [] e = refl
 none_there (x ∷ xs) e = absurd (omega (arith, e))
 
-module _ (procs : List LProc) (data_words : ℕ) (ok : IsLoadable procs data_words) (s : State Cells) (r : Ran) (y : Represents procs s r) (o : s.over ≡ None) (done : s.top.home.rest ≡ []) (e : s.top.home.end ≡ end.Return) where
+module _ (procs : List LProc) (data_words : ℕ) (ok : IsLoadable procs data_words) (s : State Cells) (r : Ran) (y : Realizes procs s r) (o : s.over ≡ None) (done : s.top.home.rest ≡ []) (e : s.top.home.end ≡ end.Return) where
   abbrev m : machine.State
   m = r.state
 
@@ -114,7 +114,7 @@ module _ (procs : List LProc) (data_words : ℕ) (ok : IsLoadable procs data_wor
       let last = does procs ok.sound t _ no_target 5 (call_service service.End) _ w (machine.over (machine.at t (t.eip + size_of (call_service service.End))) ending.Ended) out.Ended refl in (
         7,
         inl (omega arith),
-        subst (Represents procs (ended s Ended)) (sym (run_more advance 6 1 r ∙ ap (run advance 1) (l.1.by r.events r.steps) ∙ advance_step t _ out.Ended z.going last r.events (r.steps + 6))) (record {
+        subst (Realizes procs (ended s Ended)) (sym (run_more advance 6 1 r ∙ ap (run advance 1) (l.1.by r.events r.steps) ∙ advance_step t _ out.Ended z.going last r.events (r.steps + 6))) (record {
           ending = refl;
           events = y.events;
           taken = z.taken ∙ y.taken;
@@ -134,7 +134,7 @@ module _ (procs : List LProc) (data_words : ℕ) (ok : IsLoadable procs data_wor
       let z = l.2 in (
         6,
         inl (omega arith),
-        subst (Represents procs (returned s (c ∷ calls))) (sym (l.1.by r.events r.steps)) (record {
+        subst (Realizes procs (returned s (c ∷ calls))) (sym (l.1.by r.events r.steps)) (record {
           ending = ap run_end z.going ∙ sym o;
           events = y.events;
           taken = z.taken ∙ y.taken;

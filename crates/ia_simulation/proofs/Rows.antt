@@ -34,14 +34,14 @@ use Rattle.vc_code.specs.declared.value.Value.{Value}
 use Rattle.vc_code.specs.declared.value.Value.TheVariants.{Num}
 use Rattle.vc_code.specs.Operation.{operate, computes, gives}
 use Rattle.vc_code.specs.Machine.{Activation, State, After, here, apply}
-use Rattle.ia_simulation.specs.Represents.{IsLoadable, Represents, Leads}
+use Rattle.ia_simulation.specs.Realizes.{IsLoadable, Realizes, Leads}
 use Rattle.ia_simulation.proofs.Effects.{IsPlace, OneInMemory, combines, operates}
 use Rattle.ia_simulation.proofs.Masks.{in_mask, allowed_at, is_place, one_in_memory}
 use Rattle.ia_simulation.proofs.Ops as ops
 use Rattle.ia_simulation.proofs.Ops.{one_is, two_are, three_are, combined_fits, no_number, put_done}
 use Rattle.ia_simulation.proofs.Steps as steps
 
-module _ (procs : List LProc) (data_words : ℕ) (ok : IsLoadable procs data_words) (s : State Cells) (r : Ran) (y : Represents procs s r) (o : s.over ≡ None) where
+module _ (procs : List LProc) (data_words : ℕ) (ok : IsLoadable procs data_words) (s : State Cells) (r : Ran) (y : Realizes procs s r) (o : s.over ≡ None) where
   abbrev p : LProc
   p = proc_of procs s.top.proc
 

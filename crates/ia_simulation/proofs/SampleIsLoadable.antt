@@ -19,7 +19,7 @@ use Rattle.pra_base.specs.declared.code.Addr.{Addr}
 use Rattle.pra_base.specs.Code.{address_of}
 use Rattle.pra_list.specs.Each.{EachAt}
 use Rattle.pra_list.proofs.Each.{each_at}
-use Rattle.ia_simulation.specs.Represents.{IsLoadable, IsLoaded}
+use Rattle.ia_simulation.specs.Realizes.{IsLoadable, IsLoaded}
 use Rattle.ia_emit.specs.Sound.{OffsetsFit}
 
 fits : (n : ℕ) → n < 2 ^ 31 → FitsSigned w32 (pos n)

@@ -10,7 +10,7 @@ use Rattle.pra_base.specs.declared.code.VInstr.TheVariants as instr
 use Rattle.pra_base.specs.Valid.{PushesLead, TakesArgs}
 use Rattle.vc_code.specs.Machine.{Activation, depth}
 use Rattle.ia_simulation.specs.Frames.{saved, rest_of, frames}
-use Rattle.ia_simulation.specs.Represents.{IsLoadable, HasSizes, AllWait}
+use Rattle.ia_simulation.specs.Realizes.{IsLoadable, HasSizes, AllWait}
 
 pub saved_long : (procs : List LProc) (backs : List ℕ) (calls : List (Activation Cells)) → length (saved procs backs calls) ≡ 5
 saved_long procs backs [] = refl

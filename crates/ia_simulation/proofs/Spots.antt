@@ -38,7 +38,7 @@ use Rattle.vc_code.specs.declared.value.Value.TheVariants.{Num}
 use Rattle.vc_code.specs.Value.{Held, Words}
 use Rattle.vc_code.specs.Machine.{Activation, depth, last_get, joined}
 use Rattle.ia_simulation.specs.Frames.{Means, Holds, Stacked, register_held, saved, rest_of, frames}
-use Rattle.ia_simulation.specs.Represents.{AllWait, RegistersHold, Lies}
+use Rattle.ia_simulation.specs.Realizes.{AllWait, RegistersHold, Lies}
 use Rattle.ia_simulation.proofs.Cells.{load_cell, store_cell, get_front, get_back, set_front, set_back, get_inside}
 use Rattle.ia_simulation.proofs.Sizes.{live_long, saved_long}
 

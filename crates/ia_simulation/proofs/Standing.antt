@@ -17,7 +17,7 @@ use Rattle.pl_place.specs.Placed.{op_of}
 use Rattle.pl_place.specs.Valid.{linstr_at, counts_of}
 use Rattle.pra_base.specs.declared.code.End.{End}
 use Rattle.pra_base.specs.Valid.{PushesLead, TakesArgs}
-use Rattle.ia_simulation.specs.Represents.{StandsBefore}
+use Rattle.ia_simulation.specs.Realizes.{StandsBefore}
 use Rattle.ia_simulation.proofs.Here.{AreAt}
 use Rattle.ia_simulation.proofs.Here as at
 use Rattle.ia_simulation.proofs.Places.{block_at, next_block}

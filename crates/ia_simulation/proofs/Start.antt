@@ -30,7 +30,7 @@ use Rattle.pra_base.specs.Words.{word, sum32, stack_limit}
 use Rattle.vc_code.specs.declared.value.Value.TheVariants.{Num}
 use Rattle.vc_code.specs.Machine.{depth}
 use Rattle.ia_simulation.specs.Frames.{WordsHold, Stacked, exit}
-use Rattle.ia_simulation.specs.Represents.{IsLoadable, AreWords, StandsBefore, Represents}
+use Rattle.ia_simulation.specs.Realizes.{IsLoadable, AreWords, StandsBefore, Realizes}
 use Rattle.ia_simulation.proofs.Begin as begin_call
 use Rattle.ia_simulation.proofs.Here as here
 use Rattle.ia_simulation.proofs.Places.{no_target, front_at, prologue_at}
@@ -162,7 +162,7 @@ module _ (procs : List LProc) (data_words : ℕ) (ok : IsLoadable procs data_wor
       below_limit : (d : ℕ) → d ≤ stack_limit → nat_lt stack_limit d ≡ false
       below_limit d l = grind (arith, nat_tests)
 
-  pub starts : (k : ℕ) × Represents procs (start procs data_words input) (ran m k)
+  pub starts : (k : ℕ) × Realizes procs (start procs data_words input) (ran m k)
   starts =
       let globals = replicate data_words (Some (Num 0)) in
       let long : length globals ≡ data_words = length-replicate data_words (Some (Num 0)) in
@@ -172,7 +172,7 @@ module _ (procs : List LProc) (data_words : ℕ) (ok : IsLoadable procs data_wor
       let z = b.3 in
       let all : Reaches (1 + b.0) m t = reach_on 1 b.0 m m1 t calls b.2 in (
         1 + b.0,
-        subst (Represents procs (start procs data_words input)) (sym (all.by [] 0)) (record {
+        subst (Realizes procs (start procs data_words input)) (sym (all.by [] 0)) (record {
           ending = ap run_end z.going;
           events = refl;
           taken = z.taken;

@@ -33,7 +33,7 @@ use Rattle.pra_base.specs.Valid.{PushesLead, TakesArgs}
 use Rattle.vc_code.specs.Value.{Words}
 use Rattle.vc_code.specs.Machine.{Activation, State, found, act, act_on, leave, step}
 use Rattle.ia_simulation.specs.Frames.{Holds, register_held, frames}
-use Rattle.ia_simulation.specs.Represents.{IsLoadable, StandsBefore, FlagsTell, Lies, Runs, Represents, Leads, StepLeads}
+use Rattle.ia_simulation.specs.Realizes.{IsLoadable, StandsBefore, FlagsTell, Lies, Runs, Realizes, Leads, StepLeads}
 use Rattle.ia_simulation.proofs.Here.{AreAt}
 use Rattle.ia_simulation.proofs.Here as at
 use Rattle.ia_simulation.proofs.Sizes.{few_pushes}
@@ -136,7 +136,7 @@ going_is ending.Ended h = cc
 going_is (ending.Trap k) h = cc
 going_is (ending.Fault k) h = cc
 
-module _ (procs : List LProc) (data_words : ℕ) (ok : IsLoadable procs data_words) (s : State Cells) (r : Ran) (y : Represents procs s r) (o : s.over ≡ None) where
+module _ (procs : List LProc) (data_words : ℕ) (ok : IsLoadable procs data_words) (s : State Cells) (r : Ran) (y : Realizes procs s r) (o : s.over ≡ None) where
   abbrev pub m : machine.State
   m = r.state
 
@@ -237,5 +237,5 @@ module _ (procs : List LProc) (data_words : ℕ) (ok : IsLoadable procs data_wor
 
       -- it alone leads there
       pub leads : (t : machine.State) (told : StepOut) (s1 : State Cells) → effect fetched ins ≡ Ok (t, told) →
-          Represents procs s1 (record { state = t; events = noted r.events told; steps = r.steps + 1 }) → Leads procs s r s1
-      leads t told s1 f rep = (1, inl (omega arith), subst (Represents procs s1) (sym (does t told f)) rep)
+          Realizes procs s1 (record { state = t; events = noted r.events told; steps = r.steps + 1 }) → Leads procs s r s1
+      leads t told s1 f rep = (1, inl (omega arith), subst (Realizes procs s1) (sym (does t told f)) rep)

@@ -51,7 +51,7 @@ use Rattle.vc_code.specs.Machine.{Activation, State, After, object, with_calls, 
 use Rattle.vc_code.specs.Operation as low
 use Rattle.pra_base.specs.Words.{word}
 use Rattle.ia_simulation.specs.Frames.{Means, Stacked, base_of, frames}
-use Rattle.ia_simulation.specs.Represents.{IsLoadable, RegistersHold, Lies, Runs, Represents, Leads}
+use Rattle.ia_simulation.specs.Realizes.{IsLoadable, RegistersHold, Lies, Runs, Realizes, Leads}
 use Rattle.ia_simulation.proofs.Addresses as addresses
 use Rattle.ia_simulation.proofs.Computes as computes
 use Rattle.ia_simulation.proofs.Computes.{register_operand}
@@ -209,7 +209,7 @@ module _ (p : LProc) (v : VarId) (off : ℤ) where
     from_is = refl;
   }
 
-module _ (procs : List LProc) (data_words : ℕ) (ok : IsLoadable procs data_words) (s : State Cells) (r : Ran) (y : Represents procs s r) (o : s.over ≡ None) where
+module _ (procs : List LProc) (data_words : ℕ) (ok : IsLoadable procs data_words) (s : State Cells) (r : Ran) (y : Realizes procs s r) (o : s.over ≡ None) where
   abbrev p : LProc
   p = proc_of procs s.top.proc
 

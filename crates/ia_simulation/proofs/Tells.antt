@@ -38,7 +38,7 @@ use Rattle.vc_code.specs.declared.value.Value.TheVariants.{Num}
 use Rattle.vc_code.specs.declared.action.Action.TheVariants as action
 use Rattle.vc_code.specs.Operation.{number}
 use Rattle.vc_code.specs.Machine.{Activation, State, After, ended, takes, with_event, with_rest}
-use Rattle.ia_simulation.specs.Represents.{IsLoadable, AreWords, Runs, Represents, Leads}
+use Rattle.ia_simulation.specs.Realizes.{IsLoadable, AreWords, Runs, Realizes, Leads}
 use Rattle.ia_simulation.proofs.Effects.{IsPlace, ok_same}
 use Rattle.ia_simulation.proofs.Masks.{in_mask, allowed_at, in_eax}
 use Rattle.ia_simulation.proofs.Spots.{read}
@@ -49,7 +49,7 @@ use Rattle.ia_simulation.proofs.Steps.{found_ok}
 use Rattle.ia_simulation.proofs.Rows.{Led}
 use Rattle.ia_simulation.proofs.Computes as computes
 
-module _ (procs : List LProc) (data_words : ℕ) (ok : IsLoadable procs data_words) (s : State Cells) (r : Ran) (y : Represents procs s r) (o : s.over ≡ None) where
+module _ (procs : List LProc) (data_words : ℕ) (ok : IsLoadable procs data_words) (s : State Cells) (r : Ran) (y : Realizes procs s r) (o : s.over ≡ None) where
   abbrev p : LProc
   p = proc_of procs s.top.proc
 

@@ -10,7 +10,7 @@ use Rattle.pra_base.specs.declared.ids.BlockId.{BlockId}
 use Rattle.pra_base.specs.declared.ids.Cond.{Cond}
 use Rattle.pra_base.specs.declared.ids.ProcId.{ProcId}
 use Rattle.pra_base.specs.declared.ids.VarId.{VarId}
-use Rattle.ia_simulation.specs.Represents.{IsCarried, EndIsCarried}
+use Rattle.ia_simulation.specs.Realizes.{IsCarried, EndIsCarried}
 use Rattle.ia_simulation.proofs.Calls.{calls_it}
 use Rattle.ia_simulation.proofs.Chains as chains
 use Rattle.ia_simulation.proofs.Checks as bounds

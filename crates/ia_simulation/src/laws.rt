@@ -23,8 +23,8 @@ ghost use Rattle.pra_base.specs.declared.ids.BlockId.{BlockId};
 ghost use Rattle.pra_base.specs.declared.ids.Cond.{Cond};
 ghost use Rattle.pra_base.specs.declared.ids.ProcId.{ProcId};
 ghost use Rattle.pra_base.specs.declared.ids.VarId.{VarId};
-ghost use Rattle.ia_simulation.specs.Represents.{IsLoadable, IsLoaded, AreWords, Represents};
-ghost use Rattle.ia_simulation.specs.Represents.{IsCarried, EndIsCarried};
+ghost use Rattle.ia_simulation.specs.Realizes.{IsLoadable, IsLoaded, AreWords, Realizes};
+ghost use Rattle.ia_simulation.specs.Realizes.{IsCarried, EndIsCarried};
 ghost use Rattle.ia_emit.specs.Sound.{OffsetsFit};
 
 /// Wherever the machine stands for placed code that stands before a move, the move is one
@@ -95,7 +95,7 @@ pub fn start_is_represented()
     ensures { (procs : List LProc) (data_words : ℕ) → IsLoadable procs data_words →
         (image : Image) → image.code ≡ bytes_of_all (code_of procs) →
         image.data_words ≡ data_words → (input : List ℤ) → AreWords input →
-        (k : ℕ) × Represents procs (start procs data_words input)
+        (k : ℕ) × Realizes procs (start procs data_words input)
         (ran (machine.start image input) k) }
 {}
 

@@ -1,7 +1,7 @@
 //! The machine does what placed code does.
 //!
 //! `specs/Frames` says where the words of live calls stand in the stack, and which number a value
-//! is for the machine: an address follows from the bytes of the frames alone. `specs/Represents`
+//! is for the machine: an address follows from the bytes of the frames alone. `specs/Realizes`
 //! relates a state of placed code's machine to one of the IA-32 machine over the bytes of its code:
 //! registers, slots, argument cells, aggregates and data, EIP at the first byte of the instruction
 //! that the running call stands before, and flags between CMP and their use.

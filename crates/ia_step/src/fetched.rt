@@ -1,5 +1,6 @@
-// What was fetched before: an instruction is decoded at its first step, and later steps find it here.
-// A place has one entry that may hold it, and shares that with the places `ENTRIES` bytes away.
+// What was fetched before: an instruction is decoded at its first step, and later steps find it
+// here. A place has one entry that may hold it, and shares that with the places `ENTRIES` bytes
+// away.
 
 ghost use Rattle.std.specs.Prelude.{◌≡◌, ℕ, List, IfOk, slice_get, Some};
 ghost use Rattle.ia_step.specs.Fetched.{AreFetched};

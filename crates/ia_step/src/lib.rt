@@ -9,9 +9,10 @@
 //! Read first `specs/State`, `specs/Effect`, `specs/Step` and `specs/Run`: they are the machine, in
 //! the manual's words, and the code is proved equal to them. `specs/Kept` is what no run changes.
 //!
-//! A machine keeps the answers of fetching in entries (`fetched`), so that a loop's instructions are
-//! decoded once and not at each step. Its invariant says that each entry is what fetching answers at
-//! its place (`specs/Fetched`); nothing else speaks of entries, since `Processor` has all the state.
+//! A machine keeps the answers of fetching in entries (`fetched`), so that a loop's instructions
+//! are decoded once and not at each step. Its invariant says that each entry is what fetching
+//! answers at its place (`specs/Fetched`); nothing else speaks of entries, since `Processor` has
+//! all the state.
 //!
 //! The layers above use `Machine`, and of the proofs `AtEip` (what stands at EIP is executed),
 //! `Access` and `MemoryWords` (doublewords), `Reaches` and `Runs` (steps in a row).

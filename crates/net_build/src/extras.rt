@@ -13,7 +13,7 @@ ghost use Rattle.net_form.specs.Tables.{all_tables};
 ghost use Rattle.net_build.specs.Extras.{layer_extras, strand_extras};
 
 use crate::beside::beside;
-use crate::surcharge::{constant_event, memory_event, plays, surcharges_of};
+use crate::extra_columns::{constant_event, extra_columns_of, memory_event, plays};
 use net_cost::Event;
 use net_form::{Extra, Strand};
 use pra_base::places::allows;
@@ -37,7 +37,7 @@ fn event_at(code: &VProc, near: bool, var: u32, instr: &VInstr, place: Place) ->
     requires { near ≡ near_code code.now.vars code.now.args }
     ensures { result ≡ event_at all_tables code.now var instr.now place }
 {
-    let extra = surcharges_of(instr);
+    let extra = extra_columns_of(instr);
     match place {
         Place::Mem => memory_event(near, extra),
         Place::Const => constant_event(kind_of(code, var), extra),

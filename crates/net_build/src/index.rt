@@ -1,6 +1,7 @@
 // Where the lists of a network begin for each block and each strand.
 
-ghost use Rattle.std.specs.Prelude.{◌≡◌, ℕ, ◌+◌, ◌*◌, ◌<◌, ◌≤◌, ◌^◌, length, map, All, IfOk, IfSome};
+ghost use Rattle.std.specs.Prelude.{◌≡◌, ℕ, ◌+◌, ◌*◌, ◌<◌, ◌≤◌, ◌^◌, length, map, All, IfOk};
+ghost use Rattle.std.specs.Prelude.{IfSome};
 ghost use Rattle.std.specs.List.{range_with_len, flat_map};
 ghost use Rattle.net_form.specs.Formed.{IsStrandOf};
 ghost use Rattle.net_form.specs.Index.{beginnings, first_layer, index_of, var_count, members};

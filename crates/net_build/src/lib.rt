@@ -27,6 +27,7 @@
 #![tactic(auto)]
 
 mod beside;
+mod extra_columns;
 mod extras;
 mod groups;
 mod index;
@@ -39,7 +40,6 @@ mod order;
 mod owners;
 mod pairs;
 mod strands;
-mod surcharge;
 mod ties;
 
 pub use extras::extras_of;

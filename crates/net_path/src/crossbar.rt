@@ -61,9 +61,9 @@ pub(crate) struct Onward {
     pub constant: i64,
 }
 
-/// What the steps of a crossbar cost: to go on from a register alone, from a both place, from memory
-/// and from the constant itself; and where a value stays in its register, to have it in memory too,
-/// and to have it there no more.
+/// What the steps of a crossbar cost: to go on from a register alone, from a both place, from
+/// memory and from the constant itself; and where a value stays in its register, to have it in
+/// memory too, and to have it there no more.
 #[derive(Clone, Copy, Debug)]
 pub(crate) struct Steps {
     pub alone: Onward,

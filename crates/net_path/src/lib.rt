@@ -4,10 +4,10 @@
 //! [`least`] finds such a path from the place and to the place that it is asked for, past all that
 //! other strands have taken, or says that there is none. [`renew`] finds one that is free to begin
 //! and end anywhere, and puts it into the family of paths that a [`Work`] keeps: the family that
-//! the Lagrange value of a network is read from, and that prices follow. [`costs_from`] tells by one
-//! search what a least path costs from each place at the strand's first layer, and [`costs_to`] what
-//! one costs to each place at its last. All do what they say for each network that `net_build` makes;
-//! they take no memory, since [`Work::reserve`] took it before.
+//! the Lagrange value of a network is read from, and that prices follow. [`costs_from`] tells by
+//! one search what a least path costs from each place at the strand's first layer, and [`costs_to`]
+//! what one costs to each place at its last. All do what they say for each network that `net_build`
+//! makes; they take no memory, since [`Work::reserve`] took it before.
 //!
 //! # Rows
 //!
@@ -50,36 +50,37 @@
 //! # Against the order of the layers
 //!
 //! What it costs to come to each place of the last layer would want rows that are filled forwards.
-//! [`costs_to`] turns the rows round instead, so that the first layer stands last, and fills them as
-//! ever: a path read against its order costs what it costs read in its order, if a step pays what it
-//! pays to have come from there. So the crossbar is handed what steps cost, from each class of places
-//! to each and where a value stays in its register, and there are two such tables: `forwards` and
-//! `backwards`.
+//! [`costs_to`] turns the rows round instead, so that the first layer stands last, and fills them
+//! as ever: a path read against its order costs what it costs read in its order, if a step pays
+//! what it pays to have come from there. So the crossbar is handed what steps cost, from each class
+//! of places to each and where a value stays in its register, and there are two such tables:
+//! `forwards` and `backwards`.
 //!
 //! # Which of the least paths
 //!
-//! A strand has many least paths, and any is right; but prices follow the family, so that paths which
-//! all lie in one register make that dear and then all leave it together. So `renew` compares pairs:
-//! the cost first, and where costs are equal a second sum, which rows carry beside them. It is what
-//! the path adds to the overload of the family: each register at a layer with l other paths in it
-//! counts 2 l - 1, the growth of a sum of squares. `least` passes over seconds: the functions that
-//! work on rows are made twice, with them and without.
+//! A strand has many least paths, and any is right; but prices follow the family, so that paths
+//! which all lie in one register make that dear and then all leave it together. So `renew` compares
+//! pairs: the cost first, and where costs are equal a second sum, which rows carry beside them. It
+//! is what the path adds to the overload of the family: each register at a layer with l other paths
+//! in it counts 2 l - 1, the growth of a sum of squares. `least` passes over seconds: the functions
+//! that work on rows are made twice, with them and without.
 //!
 //! # What a layer of a strand takes
 //!
-//! What all places of a layer share is asked once: the set of those that are open, made of the mask,
-//! the registers in use and the wanted ends as one number, and the prices of the six registers. Then
-//! the row is filled by a bit and a price for each place, and the extras that are there, mostly none
-//! or one, are paid at their places. Rows are moved by `costs_to` alone, which turns them round.
+//! What all places of a layer share is asked once: the set of those that are open, made of the
+//! mask, the registers in use and the wanted ends as one number, and the prices of the six
+//! registers. Then the row is filled by a bit and a price for each place, and the extras that are
+//! there, mostly none or one, are paid at their places. Rows are moved by `costs_to` alone, which
+//! turns them round.
 //!
 //! # Where it is
 //!
-//! `ways` of the crossbar's moves and the step over rows are in `crossbar`, what steps cost in either
-//! direction in `directions`; the costs of the places of one layer (masks, ends, what is taken,
-//! prices, extras) in `cells`, with the pairs' in `pairs` and the ties' in `ties`; `spread` has the
-//! seconds and the counts that they come from; `rows` goes over the layers, `path` reads the path,
-//! `search` puts them together, `family` renews one path of a family, `starts` has the costs from
-//! each place and `stops` those to each. No cost of an edge is ever stored.
+//! `ways` of the crossbar's moves and the step over rows are in `crossbar`, what steps cost in
+//! either direction in `directions`; the costs of the places of one layer (masks, ends, what is
+//! taken, prices, extras) in `cells`, with the pairs' in `pairs` and the ties' in `ties`; `spread`
+//! has the seconds and the counts that they come from; `rows` goes over the layers, `path` reads
+//! the path, `search` puts them together, `family` renews one path of a family, `starts` has the
+//! costs from each place and `stops` those to each. No cost of an edge is ever stored.
 #![tactic(auto)]
 
 mod cells;

@@ -143,8 +143,8 @@ pub(crate) fn search<F: Fn(Event, u32) -> u32>(
     find(net, model, prices, strand, ends, taken, rows, path, false)
 }
 
-/// Finds a least path, wherever it begins and ends, that leaves other paths of the family alone, with
-/// a row, a place and a count for each layer of the strand.
+/// Finds a least path, wherever it begins and ends, that leaves other paths of the family alone,
+/// with a row, a place and a count for each layer of the strand.
 #[tactic(auto, using(crate::proofs::Seconds::cells_still, crate::proofs::Seconds::within_still))]
 pub(crate) fn search_spread<F: Fn(Event, u32) -> u32>(
     net: &Net,

@@ -3,9 +3,9 @@
 // Each register at a layer counts the paths that are in it, alone or in its both place. A strand
 // that is renewed is counted out, and in again where its new path is. Between the two its rows get
 // seconds: 2 l - 1 for a register with l other paths in it, which is what one path more adds to the
-// overload, a sum of squares; -1 for a free register with a price, which falls only where nobody is;
-// and at an end 2 less for the place of the other side of a tie. So the family is spread over the
-// registers, and the value rises sooner.
+// overload, a sum of squares; -1 for a free register with a price, which falls only where nobody
+// is; and at an end 2 less for the place of the other side of a tie. So the family is spread over
+// the registers, and the value rises sooner.
 
 ghost use Rattle.std.specs.Prelude.{◌≡◌, ◌+◌, ◌*◌, ◌^◌, ◌≤◌, ◌<◌, length};
 ghost use Rattle.net_form.specs.Admitted.{strand_at};

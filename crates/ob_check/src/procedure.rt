@@ -37,7 +37,8 @@ fn heading<'a>(place: &mut Place<'a>, name: u32, list: &[Section]) -> Result<Seq
 
 /// The name after END is the name in front; else this rule is broken.
 pub fn closed(place: &Place, rule: Rule, name: u32, close: u32) -> Result<(), Refusal>
-    ensures { Widens (closed_at (rule_number rule) (known_at place.now) name close) result (known_at place.now) }
+    ensures { Widens (closed_at (rule_number rule) (known_at place.now) name close) result
+        (known_at place.now) }
 {
     if place.name(close) == place.name(name) {
         Ok(())

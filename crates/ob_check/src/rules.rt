@@ -17,7 +17,8 @@ pub enum Rule {
     FieldNameIsNew,
     /// A name that is used was declared before, in a scope around its place.
     NameIsDeclared,
-    /// A variable or parameter that is used is the module's, or of the procedure whose body this is.
+    /// A variable or parameter that is used is the module's, or of the procedure whose body this
+    /// is.
     VariableIsWithinReach,
     /// A name in an expression is a constant, a variable or a parameter.
     NameHasValue,

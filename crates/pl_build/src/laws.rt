@@ -6,7 +6,7 @@ ghost use Rattle.pra_base.specs.Agreement.{Carried};
 ghost use Rattle.pra_base.specs.RunEnd.{Wrong};
 ghost use Rattle.pra_base.specs.declared.code.VModule.{VModule};
 ghost use Rattle.pra_base.specs.declared.code.VProc.{VProc};
-ghost use Rattle.vc_code.specs.Selected.{vrun};
+ghost use Rattle.vc_code.specs.Selected.{vrun, RunsWell};
 ghost use Rattle.net_cost.specs.Weights.{size_weights};
 ghost use Rattle.net_form.specs.declared.net.Net.{Net};
 ghost use Rattle.net_form.specs.declared.routes.Routes.{Routes};
@@ -21,7 +21,6 @@ ghost use Rattle.pl_place.specs.declared.placed.LProc.{LProc};
 ghost use Rattle.pl_place.specs.Machine.{lrun};
 ghost use Rattle.pl_place.specs.Placed.{frame_size};
 ghost use Rattle.pl_place.specs.SampleRoutes.{in_memory};
-ghost use Rattle.pl_simulation.specs.Correspondence.{RunsWell};
 ghost use Rattle.pl_routed.specs.Routed.{routed, AreRouted};
 ghost use Rattle.pl_made.specs.Made.{IsMade};
 ghost use Rattle.pl_build.specs.Placement.{ArePlacements, moves_of};
@@ -37,11 +36,11 @@ pub fn placements_are_routed()
 /// the selected code is never stuck; and then it is never stuck either.
 pub fn placements_follow()
     ensures carried { (module_ : VModule) (procs : List LProc) (input : List ℤ) →
-        ArePlacements module_.procs procs → RunsWell module_ procs input →
+        ArePlacements module_.procs procs → RunsWell module_ (map frame_size procs) input →
         Carried (vrun module_ (map frame_size procs) input)
         (lrun procs module_.data_words input) }
     ensures never_stuck { (module_ : VModule) (procs : List LProc) (input : List ℤ) →
-        ArePlacements module_.procs procs → RunsWell module_ procs input →
+        ArePlacements module_.procs procs → RunsWell module_ (map frame_size procs) input →
         (k : ℕ) → (lrun procs module_.data_words input k).ending ≢ Some Wrong }
 {}
 

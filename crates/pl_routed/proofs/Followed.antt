@@ -4,11 +4,11 @@ use Rattle.pra_base.specs.Agreement.{Carried}
 use Rattle.pra_base.specs.RunEnd.{Wrong}
 use Rattle.pra_base.specs.declared.code.VModule.{VModule}
 use Rattle.pra_base.specs.declared.code.VProc.{VProc}
-use Rattle.vc_code.specs.Selected.{vrun}
+use Rattle.vc_code.specs.Selected.{vrun, RunsWell}
 use Rattle.pl_place.specs.declared.placed.LProc.{LProc}
 use Rattle.pl_place.specs.Machine.{lrun}
 use Rattle.pl_place.specs.Placed.{frame_size}
-use Rattle.pl_simulation.specs.Correspondence.{AllCorrespond, RunsWell}
+use Rattle.pl_simulation.specs.Correspondence.{AllCorrespond}
 use Rattle.pl_simulation.proofs.Carried as simulation
 use Rattle.pl_routed.specs.Routed.{AreRouted}
 use Rattle.pl_routed.proofs.Corresponding.{corresponds}
@@ -24,8 +24,8 @@ all_correspond codes procs is = record {
   body = is.valid.body;
 }
 
-pub carries : (module_ : VModule) (procs : List LProc) (input : List ℤ) → AreRouted module_.procs procs → RunsWell module_ procs input → Carried (vrun module_ (map frame_size procs) input) (lrun procs module_.data_words input)
+pub carries : (module_ : VModule) (procs : List LProc) (input : List ℤ) → AreRouted module_.procs procs → RunsWell module_ (map frame_size procs) input → Carried (vrun module_ (map frame_size procs) input) (lrun procs module_.data_words input)
 carries module_ procs input is never = simulation.placed_carries module_ procs input (all_correspond module_.procs procs is) never
 
-pub never_stuck : (module_ : VModule) (procs : List LProc) (input : List ℤ) → AreRouted module_.procs procs → RunsWell module_ procs input → (k : ℕ) → (lrun procs module_.data_words input k).ending ≢ Some Wrong
+pub never_stuck : (module_ : VModule) (procs : List LProc) (input : List ℤ) → AreRouted module_.procs procs → RunsWell module_ (map frame_size procs) input → (k : ℕ) → (lrun procs module_.data_words input k).ending ≢ Some Wrong
 never_stuck module_ procs input is never = simulation.never_stuck module_ procs input (all_correspond module_.procs procs is) never

@@ -6,11 +6,11 @@ ghost use Rattle.pra_base.specs.Agreement.{Carried};
 ghost use Rattle.pra_base.specs.RunEnd.{Wrong};
 ghost use Rattle.pra_base.specs.declared.code.VModule.{VModule};
 ghost use Rattle.pra_base.specs.declared.code.VProc.{VProc};
-ghost use Rattle.vc_code.specs.Selected.{vrun};
+ghost use Rattle.vc_code.specs.Selected.{vrun, RunsWell};
 ghost use Rattle.pl_place.specs.declared.placed.LProc.{LProc};
 ghost use Rattle.pl_place.specs.Machine.{lrun};
 ghost use Rattle.pl_place.specs.Placed.{frame_size};
-ghost use Rattle.pl_simulation.specs.Correspondence.{AllCorrespond, RunsWell};
+ghost use Rattle.pl_simulation.specs.Correspondence.{AllCorrespond};
 ghost use Rattle.pl_routed.specs.Routed.{AreRouted};
 
 /// Valid placed code that has admitted routes of the network behind it corresponds to the code.
@@ -24,10 +24,10 @@ pub fn routed_code_corresponds()
 /// either.
 pub fn placement_follows()
     ensures carried { (module_ : VModule) (procs : List LProc) (input : List ℤ) →
-        AreRouted module_.procs procs → RunsWell module_ procs input →
+        AreRouted module_.procs procs → RunsWell module_ (map frame_size procs) input →
         Carried (vrun module_ (map frame_size procs) input)
         (lrun procs module_.data_words input) }
     ensures never_stuck { (module_ : VModule) (procs : List LProc) (input : List ℤ) →
-        AreRouted module_.procs procs → RunsWell module_ procs input →
+        AreRouted module_.procs procs → RunsWell module_ (map frame_size procs) input →
         (k : ℕ) → (lrun procs module_.data_words input k).ending ≢ Some Wrong }
 {}

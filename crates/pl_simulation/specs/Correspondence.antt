@@ -1,7 +1,7 @@
 -- When placed code corresponds to selected code: what a placement has to give of each procedure, so
 -- that the machine of placed code does what that of selected code does. Nothing here speaks of
 -- runs.
-use Rattle.std.specs.Prelude.{◌≡◌, ◌≢◌, ℕ, suc, ◌<◌, ◌⊎◌, ℤ, Bool, false, nat_eq, List, [], ◌∷◌}
+use Rattle.std.specs.Prelude.{◌≡◌, ◌≢◌, ℕ, suc, ◌<◌, ◌⊎◌, Bool, false, nat_eq, List, [], ◌∷◌}
 use Rattle.std.specs.Prelude.{◌++◌}
 use Rattle.std.specs.Prelude.{length, map, drop, slice_get, Option, Some}
 use Rattle.std.specs.Int.{bit_at}
@@ -10,15 +10,13 @@ use Rattle.pra_list.specs.Each.{Each}
 use Rattle.pra_base.specs.declared.ids.Place.TheVariants.{Mem, Const}
 use Rattle.pra_base.specs.declared.code.VarKind.TheVariants.{Param}
 use Rattle.pra_base.specs.declared.code.VInstr.{VInstr}
-use Rattle.pra_base.specs.RunEnd.{Wrong}
 use Rattle.pra_base.specs.declared.code.VProc.{VProc}
-use Rattle.pra_base.specs.declared.code.VModule.{VModule}
 use Rattle.pra_base.specs.Code.{code_of, instr_at, end_of, IsTarget}
 use Rattle.pra_base.specs.Operands.{table, read_by, written_by}
 use Rattle.pra_base.specs.Places.{number, register_count}
 use Rattle.pra_base.specs.Valid.{PushesBeforeCalls, TakesArgs, counts_of}
 use Rattle.vc_code.specs.Value.{Held}
-use Rattle.vc_code.specs.Selected.{valued, vrun}
+use Rattle.vc_code.specs.Selected.{valued}
 use Rattle.pl_moves.specs.declared.transfer.Move.{Move}
 use Rattle.pl_moves.specs.declared.transfer.Move.TheVariants as move
 use Rattle.pl_moves.specs.declared.transfer.Pair.{Pair}
@@ -28,7 +26,7 @@ use Rattle.pl_place.specs.declared.placed.LInstr.{LInstr}
 use Rattle.pl_place.specs.declared.placed.LInstr.TheVariants as placed
 use Rattle.pl_place.specs.declared.placed.LBlock.{LBlock}
 use Rattle.pl_place.specs.declared.placed.LProc.{LProc}
-use Rattle.pl_place.specs.Placed.{kind_of, frame_size}
+use Rattle.pl_place.specs.Placed.{kind_of}
 use Rattle.pl_place.specs.Machine.{Spot, Slot, Argument, Nowhere, spot, cells}
 
 -- the place of each variable that is present, by numbers
@@ -185,8 +183,3 @@ pub record AllCorrespond (codes : List VProc) (procs : List LProc) : Type 0 wher
   pub pushes : (n : ℕ) (code : VProc) → slice_get codes n ≡ Some code →
       PushesBeforeCalls (TakesArgs (counts_of codes)) code.blocks
   pub body : TakesArgs (counts_of codes) 0 0
-
--- the selected code, with the frames of the placed code, is never stuck
-abbrev pub RunsWell : VModule → List LProc → List ℤ → Type 0
-RunsWell module_ procs input =
-    (k : ℕ) → (vrun module_ (map frame_size procs) input k).ending ≢ Some Wrong

@@ -28,10 +28,10 @@ use Rattle.pra_follow.proofs.Followed.{follows_module}
 use Rattle.pra_follow.proofs.Room.{one_more}
 use Rattle.pra_follow.proofs.Sides.{mapped, both_mapped, same_maps}
 use Rattle.pra_follow.proofs.Translated.{translated}
-use Rattle.pra_compile.specs.declared.compiling.Step.{Step}
+use Rattle.pra_compile.specs.declared.compiling.CompiledProc.{CompiledProc}
 use Rattle.pra_report.specs.declared.report.ProcOut.{ProcOut}
 use Rattle.pra_compile.specs.Compiled.{Wanted, IsGranted, IsProcOut, IsCompiled, name_of}
-use Rattle.pra_compile.specs.Steps.{IsTidied, IsKept, IsStep, AreDone}
+use Rattle.pra_compile.specs.CompiledProcs.{IsTidied, IsKept, IsCompiledProc, AreDone}
 
 -- ---- one procedure
 
@@ -54,11 +54,11 @@ tidied program p selected code lt is kept kinds tidy =
       tidy = tidy;
     }
 
-pub stepped : (program : Checked) (wanted : Wanted) (p : ℕ) (net : Net) (step : Step) → IsTidied program p step.out.code → AreAdmittedIn step.out.code net step.out.routes → IsGranted wanted net step.out.routes step.out.prices step.out.lines → IsMade (routed step.out.code net step.out.routes) step.placed →
-    step.out.name ≡ name_of program p → step.out.frame ≡ frame_size step.placed → frame_size step.placed ≡ frame_of (routed step.out.code net step.out.routes) → IsStep program wanted p step
-stepped program wanted p net step is routes granted made name frame of_flow = record {
-  translation = record { made = is.is_selected.made; code = step.out.code; net = net; routes = step.out.routes; placed = step.placed };
-  is = translated program p is.proc is.selected step.out.code net step.out.routes step.placed is.there is.is_selected is.preserves is.kinds is.tidy routes made;
+pub compiled_so : (program : Checked) (wanted : Wanted) (p : ℕ) (net : Net) (compiled : CompiledProc) → IsTidied program p compiled.out.code → AreAdmittedIn compiled.out.code net compiled.out.routes → IsGranted wanted net compiled.out.routes compiled.out.prices compiled.out.lines → IsMade (routed compiled.out.code net compiled.out.routes) compiled.placed →
+    compiled.out.name ≡ name_of program p → compiled.out.frame ≡ frame_size compiled.placed → frame_size compiled.placed ≡ frame_of (routed compiled.out.code net compiled.out.routes) → IsCompiledProc program wanted p compiled
+compiled_so program wanted p net compiled is routes granted made name frame of_flow = record {
+  translation = record { made = is.is_selected.made; code = compiled.out.code; net = net; routes = compiled.out.routes; placed = compiled.placed };
+  is = translated program p is.proc is.selected compiled.out.code net compiled.out.routes compiled.placed is.there is.is_selected is.preserves is.kinds is.tidy routes made;
   placed = refl;
   kept = record { name = name; frame = frame; flow_frame = frame ∙ of_flow; code = refl; routes = refl; granted = granted };
 }
@@ -75,7 +75,7 @@ none_done program wanted assembly is = record {
   assembled = is;
 }
 
-module _ (program : Checked) (wanted : Wanted) (n : ℕ) (procs : List ProcOut) (old new : Assembly) (done : AreDone program wanted n procs old) (step : Step) (is : IsStep program wanted n step) where
+module _ (program : Checked) (wanted : Wanted) (n : ℕ) (procs : List ProcOut) (old new : Assembly) (done : AreDone program wanted n procs old) (compiled : CompiledProc) (is : IsCompiledProc program wanted n compiled) where
   abbrev ts : List Translation
   ts = done.translations
 
@@ -85,10 +85,10 @@ module _ (program : Checked) (wanted : Wanted) (n : ℕ) (procs : List ProcOut) 
   pub more_are : AreTranslations program (ts ++ is.translation ∷ [])
   more_are = one_more program ts is.translation done.are translation_is
 
-  pub one_done : IsAssembly (map (λ (t : Translation). t.placed) ts ++ step.placed ∷ []) program.data_words new → AreDone program wanted (n + 1) (procs ++ step.out ∷ []) new
+  pub one_done : IsAssembly (map (λ (t : Translation). t.placed) ts ++ compiled.placed ∷ []) program.data_words new → AreDone program wanted (n + 1) (procs ++ compiled.out ∷ []) new
   one_done assembled =
       let long = length_push ts is.translation in
-      let many = length_push procs step.out in
+      let many = length_push procs compiled.out in
       let count = done.count in
       let procs_count = done.procs_count in
       record {
@@ -99,13 +99,13 @@ module _ (program : Checked) (wanted : Wanted) (n : ℕ) (procs : List ProcOut) 
         kept = λ p t out e f.
             got ts is.translation t p e
             (λ lt there.
-            got procs step.out out p f
+            got procs compiled.out out p f
             (λ less here. done.kept p t out there here)
             (λ at same. absurd (omega (arith, lt, at, count, procs_count))))
             (λ at same.
-            got procs step.out out p f
+            got procs compiled.out out p f
             (λ less here. absurd (omega (arith, less, at, count, procs_count)))
-            (λ here other. subst (λ k. IsKept program wanted k t out) (omega (arith, at, count)) (subst (λ o. IsKept program wanted n t o) other (subst (λ u. IsKept program wanted n u step.out) same is.kept))));
+            (λ here other. subst (λ k. IsKept program wanted k t out) (omega (arith, at, count)) (subst (λ o. IsKept program wanted n t o) other (subst (λ u. IsKept program wanted n u compiled.out) same is.kept))));
         assembled =
             subst (λ l. IsAssembly l program.data_words new)
             (ap (λ p. map (λ (t : Translation). t.placed) ts ++ p ∷ []) (sym is.placed) ∙ sym (map-append (λ (t : Translation). t.placed) ts (is.translation ∷ [])))

@@ -1,2 +1,2 @@
 pub mod Compiled
-pub mod Steps
+pub mod CompiledProcs

@@ -9,7 +9,7 @@ ghost use Rattle.net_form.specs.Admitted.{IsAdmitted};
 ghost use Rattle.net_form.specs.Network.{IsNet};
 ghost use Rattle.pra_base.specs.Valid.{IsSized, IsValid};
 ghost use Rattle.pra_compile.specs.Compiled.{IsCompiled, IsGranted, name_of, wanted_of};
-ghost use Rattle.pra_compile.specs.Steps.{IsTidied, IsStep, AreDone};
+ghost use Rattle.pra_compile.specs.CompiledProcs.{IsTidied, IsCompiledProc, AreDone};
 ghost use Rattle.vc_short.specs.Short.{IsShort};
 ghost use Rattle.pra_follow.specs.Translation.{AreAdmittedIn};
 ghost use Rattle.vc_typed.specs.Nodes.{HaveTheirNodes};
@@ -41,7 +41,7 @@ struct Allocated {
 
 // What a procedure is compiled to.
 #[derive(Debug, Drop)]
-struct Step {
+struct CompiledProc {
     out: ProcOut,
     placed: LProc,
 }
@@ -108,15 +108,15 @@ fn compile_procedure<F: Fn(Event, u32) -> u32, G: Fn(Line) -> Verdict>(
     rounds: u32,
     model: &CostModel<F>,
     watch: &Watch<G>,
-) -> Result<Step, OutOfMemory>
+) -> Result<CompiledProc, OutOfMemory>
     requires selectable { IsSelectable checked.now }
     requires nodes { HaveTheirNodes checked.now }
     requires there { number < length checked.now.procs }
     requires kept { Keeps F.Fn model.now }
     requires watch { IsWatch G.Fn watch.now }
     requires few { rounds ≤ 1000 }
-    ensures { IfOk result (λ step. IsStep checked.now
-        (wanted_of (weights_of model.now) rounds (gap_of watch.now)) number step) }
+    ensures { IfOk result (λ compiled. IsCompiledProc checked.now
+        (wanted_of (weights_of model.now) rounds (gap_of watch.now)) number compiled) }
 {
     let name = name_of(alloc, checked, number)?;
     let code = tidy_code(alloc, checked, number)?;
@@ -136,11 +136,11 @@ fn compile_procedure<F: Fn(Event, u32) -> u32, G: Fn(Line) -> Verdict>(
         prices,
         lines,
     };
-    Ok(Step { out, placed })
+    Ok(CompiledProc { out, placed })
 }
 
-/// A module, compiled, with so many rounds of allocation for each procedure, or as many as the watch
-/// wants. Its procedures are taken in order of number, and only one network stands at a time.
+/// A module, compiled, with so many rounds of allocation for each procedure, or as many as the
+/// watch wants. Its procedures are taken in order of number, and only one network stands at a time.
 ///
 /// # Errors
 ///
@@ -164,8 +164,8 @@ pub fn compile<F: Fn(Event, u32) -> u32, G: Fn(Line) -> Verdict>(
     let mut assembly = Assembly::begin(alloc, checked.data_words)?;
     let mut procs = Seq::from_vec(Vec::with_capacity(alloc, checked.procs.len())?);
     for number in 0..checked.procs.len() {
-        let step = compile_procedure(alloc, checked, number as u32, rounds, model, watch)?;
-        let Step { out, placed } = step;
+        let compiled = compile_procedure(alloc, checked, number as u32, rounds, model, watch)?;
+        let CompiledProc { out, placed } = compiled;
         assembly.add(alloc, &placed)?;
         procs.push(out)?;
     }

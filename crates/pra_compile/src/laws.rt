@@ -40,8 +40,8 @@ pub fn lines_never_worsen()
         (m.cost ≤ l.cost) × (l.bound ≤ m.bound) }
 {}
 
-/// There is a line, and no more rounds than were wanted. Where there were fewer, the last cost is at
-/// most the gap above the last bound.
+/// There is a line, and no more rounds than were wanted. Where there were fewer, the last cost is
+/// at most the gap above the last bound.
 pub fn rounds_are_as_wanted()
     ensures some { (wanted : Wanted) (net : Net) (routes : Routes) (prices : Prices)
         (lines : List Line) → IsGranted wanted net routes prices lines → 1 ≤ length lines }

@@ -22,7 +22,7 @@ use Rattle.ia_carries.specs.Faithful.{AreSmall, AreBehind, IsFaithful}
 use Rattle.ia_carries.proofs.Few.{is_small}
 use Rattle.ia_code.specs.declared.image.Image.{Image}
 use Rattle.ia_emit.specs.Operands.{IsSmall}
-use Rattle.ia_simulation.specs.Represents.{AreWords}
+use Rattle.ia_simulation.specs.Realizes.{AreWords}
 use Rattle.ia_step.specs.Run.{progress}
 use Rattle.ia_step.proofs.Conditions.{fits_is}
 use Rattle.ia_step.proofs.Runs.{progress_keeps}
@@ -35,11 +35,11 @@ use Rattle.pl_place.specs.Machine.{lrun}
 use Rattle.pl_place.specs.Placed.{frame_size}
 use Rattle.pl_routed.specs.Routed.{AreRouted}
 use Rattle.pl_routed.proofs.Followed.{carries, never_stuck}
-use Rattle.vc_code.specs.Selected.{vrun}
+use Rattle.vc_code.specs.Selected.{vrun, RunsWell}
 use Rattle.vc_module.proofs.Followed.{module_carried, module_well}
 use Rattle.vc_module.proofs.Together.{all_replaced}
 use Rattle.vc_proc.specs.Selected.{parameter_counts}
-use Rattle.vc_same.specs.SameRuns.{RunsWell, SameRuns}
+use Rattle.vc_same.specs.SameRuns.{SameRuns}
 use Rattle.vc_stmt.specs.Completes.{are_words}
 use Rattle.vc_stmt.specs.Procedures.{Embodies, AreEmbodied}
 use Rattle.vc_typed.specs.TypedModules.{IsSelectable}

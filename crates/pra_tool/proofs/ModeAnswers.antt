@@ -9,7 +9,7 @@ use Rattle.pra_tool.specs.declared.status.Status.TheVariants.{Ended, Trapped, Go
 use Rattle.pra_tool.specs.Status.{IsDone, IsRefusal}
 use Rattle.pra_tool.specs.Outside.{StreamSeen, Seen, SameFiles, Refused, Untouched}
 use Rattle.pra_tool.specs.Writes.{FileText, Writes, names, OthersStay, Hold, Stored, FileFailed, AllWritten, Stopped, LeftOff, Wrote, NoWriteFault}
-use Rattle.pra_tool.specs.Modes.{Mode, IsMode, IsInput, TellsInput, IsLeft, NoInputFault, source_told, IsMade, SourceRight, MadeRefused, FileNotRead, Answers}
+use Rattle.pra_tool.specs.Modes.{Mode, IsMode, IsInput, TellsInput, IsLeft, NoInputFault, source_told, IsDoneBy, SourceRight, MadeRefused, FileNotRead, Answers}
 use Rattle.pra_tool.specs.Ends.{Ends}
 use Rattle.pra_tool.proofs.Files.{rose_after}
 use Rattle.pra_tool.specs.Ends as ends
@@ -352,7 +352,7 @@ module _ (m : Mode) (mode : IsMode m) (file : List ℕ) (old mid new : Seen) (on
   module _ (input : List ℕ) (taken : IsInput m.reads_input old.input input)
       (left : IsLeft m.reads_input old.input new.input) (w : Writes) (s : Status)
       (makes : m.Makes source input w s) where
-    made : IsMade m file old new w s
+    made : IsDoneBy m file old new w s
     made = record { source = source; read = read; input = input; taken = taken; left = left; made = makes }
 
     done : IsDone s

@@ -98,7 +98,7 @@ NoInputFault false old new = ⊤
 -- ---- all was well
 
 -- The source was read whole, and so was the input where the mode reads it, and this was made of them.
-pub record IsMade (m : Mode) (file : List ℕ) (old new : Seen) (w : Writes) (s : Status)
+pub record IsDoneBy (m : Mode) (file : List ℕ) (old new : Seen) (w : Writes) (s : Status)
     : Type 0 where
   pub source : List ℕ
   pub read : Holds (source_told m.own file old) source
@@ -110,14 +110,14 @@ pub record IsMade (m : Mode) (file : List ℕ) (old new : Seen) (w : Writes) (s 
 -- All that was made was written, and the status is that of it.
 pub record Performed (m : Mode) (file : List ℕ) (old new : Seen) (status : Status) : Type 0 where
   pub writes : Writes
-  pub made : IsMade m file old new writes status
+  pub made : IsDoneBy m file old new writes status
   pub written : AllWritten writes old new
 
 -- Writing what was made stopped, and what is before that stands whole.
 pub record NotWritten (m : Mode) (file : List ℕ) (old new : Seen) : Type 0 where
   pub writes : Writes
   pub status : Status
-  pub made : IsMade m file old new writes status
+  pub made : IsDoneBy m file old new writes status
   pub stopped : Stopped writes old new
 
 -- ---- what is refused

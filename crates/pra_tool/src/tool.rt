@@ -50,13 +50,14 @@ use std::alloc::Global;
 /// All that the program does. With MODE `run` it reads FILE, compiles it, reads the input, runs the
 /// image, and writes the image file, the output, and the report with the ending line; with
 /// `compile` it reads FILE, compiles it, and writes the image file and the report; with `interp` it
-/// reads FILE and the input, runs FILE by its meaning with the frames of what it is compiled to, and
-/// writes the output, and the lines of the procedures with the ending line. With `gen` it makes a
-/// module, compiles it, runs the image on no input, and writes the module to FILE, the image file,
-/// and to out four lines on both. With `list` it reads FILE, which is an image, and writes its text
-/// to out; with `asm` it reads FILE, which is the text of an image, and writes the image file. With
-/// `cert` it reads FILE, compiles it, and writes to out a certificate of its costs and bounds; with
-/// `check` it reads FILE, which is a certificate, tests it, and writes to out its costs and bounds.
+/// reads FILE and the input, runs FILE by its meaning with the frames of what it is compiled to,
+/// and writes the output, and the lines of the procedures with the ending line. With `gen` it makes
+/// a module, compiles it, runs the image on no input, and writes the module to FILE, the image
+/// file, and to out four lines on both. With `list` it reads FILE, which is an image, and writes
+/// its text to out; with `asm` it reads FILE, which is the text of an image, and writes the image
+/// file. With `cert` it reads FILE, compiles it, and writes to out a certificate of its costs and
+/// bounds; with `check` it reads FILE, which is a certificate, tests it, and writes to out its
+/// costs and bounds.
 ///
 /// `words` are those behind the program's name: MODE and FILE, and among them the options that
 /// `read_words` of pra_words reads. The answer is the exit status:

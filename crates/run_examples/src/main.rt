@@ -2,8 +2,8 @@
 //! noted of its procedures and its ending, and the status.
 //!
 //! `data` holds a copy of each module of examples/, equal to the byte, and the input that it is run
-//! on. What the modules write was worked out apart from the program; frames and steps are those that
-//! it told once, so that a change of them is seen.
+//! on. What the modules write was worked out apart from the program; frames and steps are those
+//! that it told once, so that a change of them is seen.
 #![tactic(auto)]
 
 use anyhow::anyhow;

@@ -2,9 +2,9 @@
 //! selected and of placed code, tidying, networks, routes and placement.
 //!
 //! Each module has a table, in which a row costs no proof, and the functions that read it.
-//! `placing` leads from a code to what it becomes by routes, `verdicts` says what is said of routes;
-//! `sweeps` tries one instruction with each choice of places that its network admits. Nothing here
-//! is used by another crate.
+//! `placing` leads from a code to what it becomes by routes, `verdicts` says what is said of
+//! routes; `sweeps` tries one instruction with each choice of places that its network admits.
+//! Nothing here is used by another crate.
 #![tactic(auto)]
 
 #[cfg(test)]

@@ -2,9 +2,9 @@
 //
 // A row begins with its name behind `#`, and then has the text that M.ob holds, or behind `bytes`
 // its bytes in hexadecimal. `words`, `<` (the input) and `image` (the bytes of the image file in
-// hexadecimal) are said for all further calls of the row. For the next call alone `fails` says which
-// call of an object of the outside fails, `pieces` how many bytes the streams move at once, and
-// `room` how many bytes out takes.
+// hexadecimal) are said for all further calls of the row. For the next call alone `fails` says
+// which call of an object of the outside fails, `pieces` how many bytes the streams move at once,
+// and `room` how many bytes out takes.
 //
 // What a call leaves stands behind `=`, between `|`: the status, how many bytes the image file has
 // (`-` where none is written), out, notes, and what is left of the input. `$` is the end of a line,
@@ -410,8 +410,8 @@ fn held_lines(alloc: Global, report: &str) -> Result<String, OutOfMemory> {
     Ok(text)
 }
 
-// The certificate of the module with all forms of statement holds, and has the last costs and bounds
-// of its report.
+// The certificate of the module with all forms of statement holds, and has the last costs and
+// bounds of its report.
 #[test]
 fn a_certificate_holds(rt: HostRuntime) -> Result<(), OutOfMemory> {
     let alloc = rt.alloc();

@@ -31,14 +31,14 @@ use Rattle.vc_code.specs.Selected.{Vars}
 use Rattle.vc_relation.specs.Layout.{IsLaidOut, var_words}
 use Rattle.vc_relation.specs.Homes.{param_variable}
 use Rattle.vc_relation.specs.Spots.{Spot, InVariable, InWord, Placed, placed_at, call_at, param_of, beyond, placed}
-use Rattle.vc_relation.specs.Relation.{Translation, shapes_of, variable_in, content, number_at, IsKept, IsGiven, lent_in, Represents}
+use Rattle.vc_relation.specs.Relation.{SelectedModule, shapes_of, variable_in, content, number_at, IsKept, IsGiven, lent_in, Represents}
 use Rattle.vc_relation.proofs.Apart.{call_depth, Found, found, Standing, IsData, IsVariable, IsCell, IsAggregate, stands, type_within}
 use Rattle.vc_relation.proofs.Parts.{lies_within, scalar_words}
 use Rattle.vc_select.proofs.Placing.{follow_within}
 use Rattle.vc_relation.proofs.Lives.{call_within, not_top, IsAmong, spot_among}
 use Rattle.vc_relation.proofs.Represented.{given_on, kept_on}
 
-module _ (t : Translation) (id : ℕ) (proc : CheckedProc) (args : List Argument) (calls : List LiveCall) (store : Store) (old new : State Vars)
+module _ (t : SelectedModule) (id : ℕ) (proc : CheckedProc) (args : List Argument) (calls : List LiveCall) (store : Store) (old new : State Vars)
     (laid : IsLaidOut t.program) (there : slice_get t.program.procs id ≡ Some proc) (represents : Represents t calls store old)
     (arguments : ArePushed t calls proc.params args old.pushed) (begun : HasBegun t id proc old.pushed new) (waits : Waits old new) where
   abbrev call : LiveCall
@@ -192,7 +192,7 @@ module _ (t : Translation) (id : ℕ) (proc : CheckedProc) (args : List Argument
 new_zero : (l : Location) → number_at new_store l ≡ pos 0
 new_zero l = ap (λ v. number (unwrap_or v (Number (pos 0)))) (get-empty location_cmp l)
 
-module _ (t : Translation) (proc : CheckedProc) (s : State Vars) (laid : IsLaidOut t.program) (there : slice_get t.program.procs 0 ≡ Some proc)
+module _ (t : SelectedModule) (proc : CheckedProc) (s : State Vars) (laid : IsLaidOut t.program) (there : slice_get t.program.procs 0 ≡ Some proc)
     (none : proc.params ≡ []) (begun : HasBegun t 0 proc [] s) (alone : s.below ≡ [])
     (globals : (w : ℕ) → w < t.program.data_words → joined (slice_get s.globals w) ≡ Some (Num 0)) where
   abbrev body : LiveCall

@@ -32,7 +32,7 @@ use Rattle.vc_relation.specs.declared.home.Home.TheVariants as home
 use Rattle.vc_relation.specs.Layout.{Part, part_along, is_aggregate, local_words, IsLaidOut}
 use Rattle.vc_relation.specs.Homes.{in_variable, param_variable, local_variable, variable, param_home, local_home}
 use Rattle.vc_relation.specs.Spots.{Spot, InVariable, InWord, Placed, placed_at, call_at, here_of, home_spot, param_of, local_of, param_placed, local_placed, object_placed, beyond, part_placed, placed}
-use Rattle.vc_relation.specs.Relation.{Translation, shapes_of, variable_in, content, number_at, IsKept, held_at}
+use Rattle.vc_relation.specs.Relation.{SelectedModule, shapes_of, variable_in, content, number_at, IsKept, held_at}
 use Rattle.vc_relation.proofs.Apart.{Found, found, stands, type_within}
 use Rattle.vc_relation.proofs.Parts.{lies_within, scalar_words, one_path}
 use Rattle.vc_relation.proofs.Represented.{kept_on}
@@ -54,7 +54,7 @@ plain : (s a : Bool) → (not s || a) ≡ false → s ≡ true
 plain true a e = refl
 plain false a e = cc
 
-module _ (t : Translation) (id : ℕ) (proc : CheckedProc) (call : LiveCall) (calls : List LiveCall) (pushed : Words) (new : State Vars)
+module _ (t : SelectedModule) (id : ℕ) (proc : CheckedProc) (call : LiveCall) (calls : List LiveCall) (pushed : Words) (new : State Vars)
     (laid : IsLaidOut t.program) (there : slice_get t.program.procs id ≡ Some proc) (call_is : call.proc.0 ≡ id)
     (begun : HasBegun t id proc pushed new) (below_is : map (λ c. c.proc) new.below ≡ map (λ (c : LiveCall). c.proc.0) calls) where
   abbrev top : ℕ

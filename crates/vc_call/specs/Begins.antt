@@ -13,13 +13,13 @@ use Rattle.vc_code.specs.Value.{Held, Words}
 use Rattle.vc_code.specs.Machine.{Activation, State, joined, is_home, last_get}
 use Rattle.vc_code.specs.Selected.{Vars}
 use Rattle.vc_relation.specs.Homes.{in_variable, local_in_variable, param_variable, local_variable}
-use Rattle.vc_relation.specs.Relation.{Translation, shapes_of, IsKept, IsAddressOf, held_at}
+use Rattle.vc_relation.specs.Relation.{SelectedModule, shapes_of, IsKept, IsAddressOf, held_at}
 
 -- ---- arguments
 
 -- What was pushed for an argument: the word of a value for a value parameter, the address of what
 -- is lent for a VAR parameter.
-abbrev pub IsPushed : Translation → List LiveCall → Param → Argument → Held → Type 0
+abbrev pub IsPushed : SelectedModule → List LiveCall → Param → Argument → Held → Type 0
 IsPushed t calls param (Passed x) held =
     (param.by_var ≡ false) × IsKept param.type_id (number x) held
 IsPushed t calls param (Lent l) held =
@@ -27,7 +27,7 @@ IsPushed t calls param (Lent l) held =
 
 -- One argument is pushed for each parameter, the last one on top.
 pub record ArePushed
-    (t : Translation) (calls : List LiveCall) (params : List Param) (args : List Argument)
+    (t : SelectedModule) (calls : List LiveCall) (params : List Param) (args : List Argument)
     (pushed : Words) : Type 0 where
   pub as_many : length args ≡ length params
   pub count : length pushed ≡ length params
@@ -39,7 +39,7 @@ pub record ArePushed
 -- The running call is of a procedure. What is its own of the call is as it begins: parameters have
 -- these arguments, and locals are 0. An argument that is no variable's is in its cell.
 pub record HasBegun
-    (t : Translation) (id : ℕ) (proc : CheckedProc) (pushed : Words) (s : State Vars)
+    (t : SelectedModule) (id : ℕ) (proc : CheckedProc) (pushed : Words) (s : State Vars)
     : Type 0 where
   pub proc_is : s.top.proc ≡ id
   pub args : s.top.args ≡ pushed

@@ -11,12 +11,12 @@ ghost use Rattle.vc_code.specs.Machine.{State, joined};
 ghost use Rattle.vc_code.specs.Selected.{Vars};
 ghost use Rattle.vc_code.specs.declared.value.Value.TheVariants.{Num};
 ghost use Rattle.vc_relation.specs.Layout.{IsLaidOut};
-ghost use Rattle.vc_relation.specs.Relation.{Translation, Represents};
+ghost use Rattle.vc_relation.specs.Relation.{SelectedModule, Represents};
 
 /// A call that has begun with the arguments that waited has the store in which its statements
 /// begin, and the calls below it have theirs.
 pub fn a_call_begins_in_the_relation()
-    ensures { (t : Translation) (id : ℕ) (proc : CheckedProc) (args : List Argument)
+    ensures { (t : SelectedModule) (id : ℕ) (proc : CheckedProc) (args : List Argument)
         (calls : List LiveCall) (store : Store) (old new : State Vars) →
         IsLaidOut t.program → slice_get t.program.procs id ≡ Some proc →
         Represents t calls store old → ArePushed t calls proc.params args old.pushed →
@@ -26,7 +26,7 @@ pub fn a_call_begins_in_the_relation()
 
 /// The module's body begins with the store in which nothing is assigned yet.
 pub fn a_module_begins_in_the_relation()
-    ensures { (t : Translation) (proc : CheckedProc) (s : State Vars) →
+    ensures { (t : SelectedModule) (proc : CheckedProc) (s : State Vars) →
         IsLaidOut t.program → slice_get t.program.procs 0 ≡ Some proc → proc.params ≡ [] →
         HasBegun t 0 proc [] s → s.below ≡ [] →
         ((w : ℕ) → w < t.program.data_words → joined (slice_get s.globals w) ≡ Some (Num 0)) →

@@ -2,8 +2,9 @@
 -- its block.
 use Rattle.std.specs.Prelude.{ℕ, suc, ℤ, nat_lt, if◌then◌else◌, List, [], ◌∷◌, length, map}
 use Rattle.std.specs.Prelude.{replicate, slice_get, slice_set, slice_index_or, Option, Some, None}
+use Rattle.std.specs.Prelude.{◌≢◌}
 use Rattle.pra_base.specs.Agreement.{Progress}
-use Rattle.pra_base.specs.RunEnd.{RunEnd}
+use Rattle.pra_base.specs.RunEnd.{RunEnd, Wrong}
 use Rattle.pra_base.specs.Code.{kind_of, instr_at, end_of}
 use Rattle.pra_base.specs.Operands.{read_by, written_by}
 use Rattle.pra_base.specs.Words.{word}
@@ -126,3 +127,7 @@ start module_ input =
 -- VRun: what so many steps have come to
 abbrev pub vrun : VModule → List ℕ → List ℤ → ℕ → Progress OutEvent RunEnd
 vrun module_ frames input m = progress (selected module_.procs frames) (start module_ input) m
+
+-- no run of the module is ever stuck
+abbrev pub RunsWell : VModule → List ℕ → List ℤ → Type 0
+RunsWell module_ frames input = (k : ℕ) → (vrun module_ frames input k).ending ≢ Some Wrong

@@ -25,13 +25,12 @@ use Rattle.vc_build.specs.Runs.{Codes, runs}
 use Rattle.vc_call.proofs.Begun.{call_begins, module_begins}
 use Rattle.vc_code.specs.declared.value.Value.TheVariants.{Num}
 use Rattle.vc_code.specs.Machine.{Activation, State, depth, joined, found, entered as machine_entered, with_call, with_top, ended, returned, step, view}
-use Rattle.vc_code.specs.Selected.{Vars, begin, begun, code_of, no_proc, selected, shape, vrun}
+use Rattle.vc_code.specs.Selected.{Vars, begin, begun, code_of, no_proc, selected, shape, vrun, RunsWell}
 use Rattle.vc_code.specs.Selected as selection
 use Rattle.vc_code.proofs.LongerRuns.{longer_runs_keep}
 use Rattle.vc_relation.proofs.Returned.{returned_represents}
-use Rattle.vc_same.specs.SameRuns.{RunsWell}
 use Rattle.vc_select.proofs.Placing.{same_frames}
-use Rattle.vc_select.specs.Selects.{translation}
+use Rattle.vc_select.specs.Selects.{selected_module}
 use Rattle.vc_stmt.proofs.Completing.{completes_after, completes_behind}
 use Rattle.vc_stmt.specs.Calls.{StandsAtCall, HasReturned, CallsFollow}
 use Rattle.vc_stmt.specs.Completes.{are_words, Comes, HasEnding, Completes}
@@ -106,7 +105,7 @@ module _ (program : Checked) (w : Codes) (selectable : IsSelectable program) (al
       below = refl;
       shows = record { input = stands.shows.input; words = stands.shows.words; events = stands.shows.events; taken = stands.shows.taken };
       represents = λ n has below globals.
-          call_begins (translation program w) p proc args calls m.store (with_top s c) n selectable.laid stands.there stands.represents stands.pushed has
+          call_begins (selected_module program w) p proc args calls m.store (with_top s c) n selectable.laid stands.there stands.represents stands.pushed has
           (record { home = c.home; below = below; held = refl; globals = globals });
     }
 
@@ -130,7 +129,7 @@ module _ (program : Checked) (w : Codes) (selectable : IsSelectable program) (al
                 compared = refl;
                 pushed = at.pushed;
                 homes = homes;
-                represents = returned_represents (translation program w) t x rest e (call_with p args) calls m'.store selectable.laid at.represents;
+                represents = returned_represents (selected_module program w) t x rest e (call_with p args) calls m'.store selectable.laid at.represents;
                 shows = record { input = at.shows.input; words = at.shows.words; events = at.shows.events; taken = at.shows.taken };
               });
             }
@@ -227,7 +226,7 @@ module _ (program : Checked) (codes : List VProc) (frames : List ℕ) (input : L
     below = refl;
     shows = record { input = refl; words = words; events = refl; taken = refl };
     represents = λ n has below globals.
-        module_begins (translation program w) main n selectable.laid selectable.typed.first selectable.typed.no_params has below
+        module_begins (selected_module program w) main n selectable.laid selectable.typed.first selectable.typed.no_params has below
         (λ k lt. ap (λ ws. joined (slice_get ws k)) globals ∙ zeros program.data_words k lt);
   }
 

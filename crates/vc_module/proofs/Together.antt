@@ -5,8 +5,8 @@ use Rattle.pra_base.specs.Agreement.{Carried}
 use Rattle.pra_base.proofs.Carried.{carried_on}
 use Rattle.pra_base.specs.declared.code.VModule.{VModule}
 use Rattle.pra_base.specs.declared.code.VProc.{VProc}
-use Rattle.vc_code.specs.Selected.{vrun}
-use Rattle.vc_same.specs.SameRuns.{RunsWell, SameRuns}
+use Rattle.vc_code.specs.Selected.{vrun, RunsWell}
+use Rattle.vc_same.specs.SameRuns.{SameRuns}
 
 -- the first of those that are left, behind those that are done
 at_end : {A : Type 0} (done : List A) (x : A) (rest : List A) → slice_get (done ++ x ∷ rest) (length done) ≡ Some x

@@ -9,8 +9,8 @@ ghost use Rattle.ob_mean.specs.Program.{around, mean};
 ghost use Rattle.ob_mean.specs.declared.store.LiveCall.{LiveCall};
 ghost use Rattle.ob_syntax.specs.declared.checked.Checked.{Checked};
 ghost use Rattle.vc_build.specs.Runs.{Codes};
-ghost use Rattle.vc_code.specs.Selected.{vrun};
-ghost use Rattle.vc_same.specs.SameRuns.{RunsWell, SameRuns, with_procs};
+ghost use Rattle.vc_code.specs.Selected.{vrun, RunsWell};
+ghost use Rattle.vc_same.specs.SameRuns.{SameRuns, with_procs};
 ghost use Rattle.vc_stmt.specs.Calls.{CallsFollow};
 ghost use Rattle.vc_stmt.specs.Completes.{are_words};
 ghost use Rattle.vc_stmt.specs.Procedures.{AreEmbodied};
@@ -32,8 +32,8 @@ pub fn procedures_are_replaced_together()
         RunsWell module_ frames input → RunsWell (with_procs module_ news) frames input }
 {}
 
-/// Where the code of each procedure does what its statements mean if the calls in them do, all calls
-/// do what they mean, however deep they stand.
+/// Where the code of each procedure does what its statements mean if the calls in them do, all
+/// calls do what they mean, however deep they stand.
 pub fn calls_follow_their_meaning()
     ensures { (program : Checked) (w : Codes) (turns deeper least : ℕ) (calls : List LiveCall) →
         IsSelectable program → AreEmbodied program w.procs → least ≤ turns → least ≤ deeper →

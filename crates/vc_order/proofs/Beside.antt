@@ -23,10 +23,10 @@ use Rattle.vc_code.specs.Value.{Words}
 use Rattle.vc_code.specs.declared.value.Value.{Value}
 use Rattle.vc_code.specs.declared.value.Value.TheVariants.{Num}
 use Rattle.vc_code.specs.Machine.{Shape, Activation, State, Machine, first, step, act, act_on, view, cell, cell_words, is_home, last_get, last_set, returned, branched, goes_to, leave}
-use Rattle.vc_code.specs.Selected.{Vars, begun, selected, vrun, no_proc, shape, held_by, read, put_all, written, behind, at_point, at_block, next_of}
+use Rattle.vc_code.specs.Selected.{Vars, begun, selected, vrun, no_proc, shape, held_by, read, put_all, written, behind, at_point, at_block, next_of, RunsWell}
 use Rattle.vc_code.specs.Selected as selection
 use Rattle.vc_code.proofs.LongerRuns.{is_machine}
-use Rattle.vc_same.specs.SameRuns.{RunsWell, SameRuns, with_proc}
+use Rattle.vc_same.specs.SameRuns.{SameRuns, with_proc}
 use Rattle.vc_same.proofs.Carried.{carried_well}
 use Rattle.vc_coupling.specs.Coupled.{Couples, AllBeside, Same, Leads}
 use Rattle.vc_coupling.proofs.Applied.{found_same, with_top_same, ended_same, performed}

@@ -1,10 +1,10 @@
 //! Code with its blocks in another order does the same, and keeps the rules.
 //!
 //! `specs/Order` says when code is other code with its blocks in another order (`Reordered`); it
-//! speaks of no runs. By the laws (`laws`) such code may stand in the place of the old code in every
-//! module, and keeps the rules of code under construction with their certificate; what is open in
-//! the old code is open at its new place. So code is made in whatever order its blocks are opened,
-//! and is finished in the order of the text.
+//! speaks of no runs. By the laws (`laws`) such code may stand in the place of the old code in
+//! every module, and keeps the rules of code under construction with their certificate; what is
+//! open in the old code is open at its new place. So code is made in whatever order its blocks are
+//! opened, and is finished in the order of the text.
 //!
 //! `in_listed_order` brings the blocks into the order of a list, in which selection has entered
 //! them: that is the order of the text. What leads on to a block that was entered later leads on to

@@ -29,7 +29,7 @@ use Rattle.vc_call.specs.Begins.{HasBegun}
 use Rattle.vc_relation.specs.Homes.{in_variable, param_variable, local_variable, home_count}
 use Rattle.vc_relation.specs.Relation.{homes_in}
 use Rattle.vc_select.specs.declared.target.Setting.{Setting}
-use Rattle.vc_select.specs.Selects.{IsSet, home_variables, is_constant, translation}
+use Rattle.vc_select.specs.Selects.{IsSet, home_variables, is_constant, selected_module}
 use Rattle.vc_stmt.specs.Calls.{CallsFollow}
 use Rattle.vc_stmt.specs.Completes.{Completes}
 use Rattle.vc_stmt.specs.Does.{Matches, Does}
@@ -105,7 +105,7 @@ module _ (g : Setting) (set : IsSet g) (proc : CheckedProc) (there : slice_get g
             ∙ get_or-map (argument entry.pushed) final.vars (param_variable proc k) Plain None within
             ∙ ap (argument entry.pushed) (home_is (param_variable proc k) (kind.Param k) (kind_of_param proc k param at inside) below)
 
-        has_begun : HasBegun (translation program w) p proc entry.pushed (with_top s c)
+        has_begun : HasBegun (selected_module program w) p proc entry.pushed (with_top s c)
         has_begun = record {
           proc_is = e.proc_is;
           args = e.args;

@@ -6,8 +6,8 @@
 //! vc_stmt has it: from the begin of a call to its return it does what the statements mean, if the
 //! calls in them do. It keeps all rules of valid and of sized code, its Calls have the Pushes that
 //! their callees take, and it has no more than so much for each node of the statements. Its blocks
-//! stand in the order of the text, each in as many loops as what it is made for (`depths`), and lead
-//! to blocks behind them, but for the loops' ways back (`leads`).
+//! stand in the order of the text, each in as many loops as what it is made for (`depths`), and
+//! lead to blocks behind them, but for the loops' ways back (`leads`).
 //!
 //! # How the code is made
 //!

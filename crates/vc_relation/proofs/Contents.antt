@@ -8,7 +8,7 @@ use Rattle.vc_code.specs.Value.{Held}
 use Rattle.vc_code.specs.Machine.{Shape, Activation, State, calls_with, with_object, live_in, object, joined}
 use Rattle.vc_code.specs.Selected.{Vars}
 use Rattle.vc_relation.specs.Spots.{Spot, InVariable, InWord, call_at}
-use Rattle.vc_relation.specs.Relation.{Translation, shapes_of, variable_in, content}
+use Rattle.vc_relation.specs.Relation.{SelectedModule, shapes_of, variable_in, content}
 use Rattle.vc_relation.proofs.Words.{named, put_in, with_cons, home_put, same_length, live_after, written_object, other_object}
 
 joined_some : (o : Option Held) (v : Value) → joined o ≡ Some v → o ≡ Some (Some v)
@@ -31,7 +31,7 @@ module _ (shape : ℕ → Shape) (x : Object) (w : ℕ) (h : Held) (d v : ℕ) w
           ap (λ n. variable_in (if nat_eq d (suc n) then Some (c, calls_with shape calls x w h) else call_at (calls_with shape calls x w h) d) v) (same_length shape x w h calls)
           ∙ by_depth (nat_eq d (suc (length calls))) c c (calls_with shape calls x w h) calls refl more
 
-module _ (t : Translation) (s : State Vars) (x : Object) (w : ℕ) (old : Value) (h : Held) (there : content t s (InWord x w) ≡ Some old) where
+module _ (t : SelectedModule) (s : State Vars) (x : Object) (w : ℕ) (old : Value) (h : Held) (there : content t s (InWord x w) ≡ Some old) where
   pub content_written : content t (with_object (shapes_of t) s x w h) (InWord x w) ≡ h
   content_written = ap joined (written_object (shapes_of t) s w h (Some old) x (joined_some (slice_get (object (shapes_of t) s x) w) old there))
 

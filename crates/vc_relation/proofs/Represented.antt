@@ -23,7 +23,7 @@ use Rattle.vc_code.specs.Selected.{Vars}
 use Rattle.vc_relation.specs.Layout.{IsLaidOut}
 use Rattle.vc_relation.specs.Homes.{param_variable}
 use Rattle.vc_relation.specs.Spots.{Spot, InVariable, InWord, Placed, placed_at, placed}
-use Rattle.vc_relation.specs.Relation.{Translation, shapes_of, content, number_at, is_of_type, IsKept, IsGiven, lent_in, Represents}
+use Rattle.vc_relation.specs.Relation.{SelectedModule, shapes_of, content, number_at, is_of_type, IsKept, IsGiven, lent_in, Represents}
 use Rattle.vc_relation.proofs.Apart.{own_spots}
 use Rattle.vc_relation.proofs.Words.{live_after, same_procs}
 use Rattle.vc_relation.proofs.Contents.{content_written, content_other}
@@ -46,7 +46,7 @@ same_or_not l m = by_order (location_cmp l m) l m refl
 
 -- ---- what is given of a parameter goes by what its variable holds
 
-pub given_on : (t : Translation) (below : List LiveCall) (param : Param) (lent : Option Location) (one other : Held) → other ≡ one → IsGiven t below param lent one → IsGiven t below param lent other
+pub given_on : (t : SelectedModule) (below : List LiveCall) (param : Param) (lent : Option Location) (one other : Held) → other ≡ one → IsGiven t below param lent one → IsGiven t below param lent other
 given_on t below param lent one other e g = subst (IsGiven t below param lent) (sym e) g
 
 pub kept_on : (type_id : ℕ) (m n : ℤ) (one other : Held) → n ≡ m → other ≡ one → IsKept type_id m one → IsKept type_id n other
@@ -54,7 +54,7 @@ kept_on type_id m n one other e f k = subst (λ z. IsKept type_id z other) (sym 
 
 -- ---- an assignment to a word
 
-module _ (t : Translation) (calls : List LiveCall) (store : Store) (s : State Vars) (l : Location) (x : Object) (w type_id : ℕ) (v : SourceValue)
+module _ (t : SelectedModule) (calls : List LiveCall) (store : Store) (s : State Vars) (l : Location) (x : Object) (w type_id : ℕ) (v : SourceValue)
     (laid : IsLaidOut t.program) (represents : Represents t calls store s)
     (there : placed t.program t.frames calls l ≡ Some (placed_at (InWord x w) type_id)) (scalar : is_scalar type_id ≡ true) (typed : is_of_type type_id (number v) ≡ true) where
   abbrev written : State Vars

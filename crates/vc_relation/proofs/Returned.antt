@@ -20,14 +20,14 @@ use Rattle.vc_code.specs.Selected.{Vars}
 use Rattle.vc_relation.specs.Layout.{IsLaidOut}
 use Rattle.vc_relation.specs.Homes.{param_variable}
 use Rattle.vc_relation.specs.Spots.{Spot, InVariable, InWord, IsBelow, placed_at, call_at, param_of}
-use Rattle.vc_relation.specs.Relation.{Translation, shapes_of, variable_in, content, number_at, IsAddressOf, IsGiven, lent_in, Represents, held_at}
+use Rattle.vc_relation.specs.Relation.{SelectedModule, shapes_of, variable_in, content, number_at, IsAddressOf, IsGiven, lent_in, Represents, held_at}
 use Rattle.vc_relation.proofs.Apart.{call_depth}
 use Rattle.vc_relation.proofs.Lives.{call_within, not_top, call_deeper, placed_deeper, IsAmong, spot_among}
 use Rattle.vc_relation.proofs.Represented.{given_on, kept_on}
 
 -- ---- a return
 
-module _ (t : Translation) (s : State Vars) (c : Activation Vars) (rest : List (Activation Vars)) (below : s.below ≡ c ∷ rest) where
+module _ (t : SelectedModule) (s : State Vars) (c : Activation Vars) (rest : List (Activation Vars)) (below : s.below ≡ c ∷ rest) where
   abbrev after : State Vars
   after = returned s (c ∷ rest)
 
@@ -78,7 +78,7 @@ module _ (t : Translation) (s : State Vars) (c : Activation Vars) (rest : List (
 
 -- ---- VAR parameters
 
-module _ (t : Translation) (call : LiveCall) (below : List LiveCall) (store : Store) (s : State Vars) (represents : Represents t (call ∷ below) store s)
+module _ (t : SelectedModule) (call : LiveCall) (below : List LiveCall) (store : Store) (s : State Vars) (represents : Represents t (call ∷ below) store s)
     (k : ℕ) (proc : CheckedProc) (param : Param) (has : param_of t.program call k ≡ Some (proc, param)) (by_var : param.by_var ≡ true) where
   top_call : call_at (call ∷ below) (suc (length below)) ≡ Some (call, below)
   top_call = ap (λ b. if b then Some (call, below) else call_at below (suc (length below))) (eq-eqb (suc (length below)) (suc (length below)) refl)

@@ -25,13 +25,13 @@ use Rattle.vc_code.specs.Selected.{Vars}
 use Rattle.vc_relation.specs.Layout.{IsLaidOut}
 use Rattle.vc_relation.specs.Homes.{in_variable, param_variable, home_count}
 use Rattle.vc_relation.specs.Spots.{Spot, InVariable, InWord, Placed, placed_at, call_at, param_of, placed}
-use Rattle.vc_relation.specs.Relation.{Translation, shapes_of, variable_in, content, number_at, is_of_type, IsKept, IsGiven, lent_in, Represents, homes_in, homes_of, held_at, SameButVariables}
+use Rattle.vc_relation.specs.Relation.{SelectedModule, shapes_of, variable_in, content, number_at, is_of_type, IsKept, IsGiven, lent_in, Represents, homes_in, homes_of, held_at, SameButVariables}
 use Rattle.vc_relation.proofs.Apart.{own_spots, owner_apart, count_below}
 use Rattle.vc_relation.proofs.Lives.{owner_within, home_there}
 use Rattle.vc_relation.proofs.Represented.{same_or_not, kept_on}
 
 -- what is given of a parameter, where only a VAR parameter's variable must be the same
-given_where : (t : Translation) (below : List LiveCall) (param : Param) (lent : Option Location) (one other : Held) → (param.by_var ≡ true → other ≡ one) → IsGiven t below param lent one → IsGiven t below param lent other
+given_where : (t : SelectedModule) (below : List LiveCall) (param : Param) (lent : Option Location) (one other : Held) → (param.by_var ≡ true → other ≡ one) → IsGiven t below param lent one → IsGiven t below param lent other
 given_where t below param None one other same g = g
 given_where t below param (Some l) one other same g = subst (IsGiven t below param (Some l)) (sym (same g.0)) g
 
@@ -39,11 +39,11 @@ by_var_variable : (param : Param) → param.by_var ≡ true → in_variable para
 by_var_variable param e = ap (λ b. b || not param.addressed) e
 
 -- the parameter of a call and its procedure
-record HasParam (t : Translation) (call : LiveCall) (k : ℕ) (proc : CheckedProc) (param : Param) : Type 0 where
+record HasParam (t : SelectedModule) (call : LiveCall) (k : ℕ) (proc : CheckedProc) (param : Param) : Type 0 where
   proc_there : slice_get t.program.procs call.proc.0 ≡ Some proc
   param_there : slice_get proc.params k ≡ Some param
 
-has_param : (t : Translation) (call : LiveCall) (k : ℕ) (proc : CheckedProc) (param : Param) → param_of t.program call k ≡ Some (proc, param) → HasParam t call k proc param
+has_param : (t : SelectedModule) (call : LiveCall) (k : ℕ) (proc : CheckedProc) (param : Param) → param_of t.program call k ≡ Some (proc, param) → HasParam t call k proc param
 has_param t call k proc param e =
     let one = bind_some (slice_get t.program.procs call.proc.0) (λ p. slice_get p.params k >>= λ q. Some (p, q)) (proc, param) e in
     let two = bind_some (slice_get one.0.params k) (λ q. Some (one.0, q)) (proc, param) one.2 in
@@ -71,7 +71,7 @@ same_depth calls s same =
     let n : length (map (λ c. c.proc) (live_in s)) ≡ length (map (λ c. c.proc.0) calls) = ap (λ ps. length ps) same in
     omega (arith, n, length-map s.below (λ c. c.proc), length-map calls (λ c. c.proc.0))
 
-module _ (t : Translation) (old new : State Vars) (but : SameButVariables old new) where
+module _ (t : SelectedModule) (old new : State Vars) (but : SameButVariables old new) where
   abbrev top_as : ℕ → Words → Words → Activation Vars
   top_as p aggregates args = record { proc = p; aggregates = aggregates; args = args; home = old.top.home }
 

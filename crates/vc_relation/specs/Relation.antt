@@ -25,12 +25,12 @@ use Rattle.vc_relation.specs.Homes.{param_variable, home_count}
 use Rattle.vc_relation.specs.Spots.{Spot, InVariable, InWord, placed_at, call_at, param_of, placed}
 
 -- a module with its selected code and the bytes of its frames
-pub record Translation : Type 0 where
+pub record SelectedModule : Type 0 where
   pub program : Checked
   pub code : List VProc
   pub frames : List ℕ
 
-abbrev pub shapes_of : Translation → ℕ → Shape
+abbrev pub shapes_of : SelectedModule → ℕ → Shape
 shapes_of t = shape t.code t.frames
 
 -- ---- what is at a spot
@@ -39,7 +39,7 @@ abbrev pub variable_in : Option (Activation Vars × List (Activation Vars)) → 
 variable_in None v = None
 variable_in (Some c) v = slice_index_or c.0.home.held v None
 
-abbrev pub content : Translation → State Vars → Spot → Held
+abbrev pub content : SelectedModule → State Vars → Spot → Held
 content t s (InVariable depth v) = variable_in (call_at (live_in s) depth) v
 content t s (InWord x w) = joined (slice_get (object (shapes_of t) s x) w)
 
@@ -64,7 +64,7 @@ pub record IsKept (type_id : ℕ) (n : ℤ) (held : Held) : Type 0 where
 -- The address of a location of a type is kept. It is of a word of an object: what is lent is no
 -- variable of selected code.
 pub record IsAddressOf
-    (t : Translation) (calls : List LiveCall) (l : Location) (type_id : ℕ) (held : Held)
+    (t : SelectedModule) (calls : List LiveCall) (l : Location) (type_id : ℕ) (held : Held)
     : Type 0 where
   pub object : Object
   pub word : ℕ
@@ -73,7 +73,7 @@ pub record IsAddressOf
 
 -- What a call has of a parameter, whose variable holds this: to a VAR parameter a location of the
 -- module or of the calls below was lent, to a value parameter nothing.
-abbrev pub IsGiven : Translation → List LiveCall → Param → Option Location → Held → Type 0
+abbrev pub IsGiven : SelectedModule → List LiveCall → Param → Option Location → Held → Type 0
 IsGiven t below param (Some l) held =
     (param.by_var ≡ true) × IsAddressOf t below l param.type_id held
 IsGiven t below param None held = param.by_var ≡ false
@@ -86,7 +86,7 @@ lent_in call k = unwrap_or (slice_get call.lent k) None
 -- The same procedures are live. Each scalar location keeps the word of its number at its spot. The
 -- variable of each VAR parameter of a live call has the address of what was lent to it.
 pub record Represents
-    (t : Translation) (calls : List LiveCall) (store : Store) (s : State Vars) : Type 0 where
+    (t : SelectedModule) (calls : List LiveCall) (store : Store) (s : State Vars) : Type 0 where
   pub same_calls : map (λ c. c.proc) (live_in s) ≡ map (λ call. call.proc.0) calls
   pub values : (l : Location) (spot : Spot) (type_id : ℕ) →
       placed t.program t.frames calls l ≡ Some (placed_at spot type_id) →
@@ -105,7 +105,7 @@ abbrev pub homes_in : Option CheckedProc → ℕ
 homes_in None = 0
 homes_in (Some proc) = home_count proc
 
-abbrev pub homes_of : Translation → State Vars → ℕ
+abbrev pub homes_of : SelectedModule → State Vars → ℕ
 homes_of t s = homes_in (slice_get t.program.procs s.top.proc)
 
 abbrev pub held_at : State Vars → ℕ → Held

@@ -29,7 +29,7 @@ ghost use Rattle.vc_relation.specs.Layout.{Part, part_in, words_before, part_alo
 ghost use Rattle.vc_relation.specs.Layout.{TypesInOrder, IsLaidOut};
 ghost use Rattle.vc_relation.specs.Spots.{Spot, InVariable, InWord, Placed, placed_at};
 ghost use Rattle.vc_relation.specs.Spots.{IsBelow, param_of, placed};
-ghost use Rattle.vc_relation.specs.Relation.{Translation, shapes_of, content, is_of_type};
+ghost use Rattle.vc_relation.specs.Relation.{SelectedModule, shapes_of, content, is_of_type};
 ghost use Rattle.vc_relation.specs.Relation.{IsAddressOf, Represents, SameButVariables, held_at};
 ghost use Rattle.vc_relation.specs.Relation.{homes_of};
 ghost use Rattle.vc_relation.specs.Sample.{sample, at, in_call, frame_bytes};
@@ -66,17 +66,17 @@ pub fn locations_have_spots_of_their_own()
 
 /// A word of an object that is written holds what was written, and every other spot what it held.
 pub fn a_write_is_to_one_spot()
-    ensures there { (t : Translation) (s : State Vars) (x : Object) (w : ℕ) (old : Value)
+    ensures there { (t : SelectedModule) (s : State Vars) (x : Object) (w : ℕ) (old : Value)
         (h : Held) → content t s (InWord x w) ≡ Some old →
         content t (with_object (shapes_of t) s x w h) (InWord x w) ≡ h }
-    ensures others { (t : Translation) (s : State Vars) (x : Object) (w : ℕ) (old : Value)
+    ensures others { (t : SelectedModule) (s : State Vars) (x : Object) (w : ℕ) (old : Value)
         (h : Held) (spot : Spot) → content t s (InWord x w) ≡ Some old → spot ≢ InWord x w →
         content t (with_object (shapes_of t) s x w h) spot ≡ content t s spot }
 {}
 
 /// An assignment to a location in a word of an object is a write to this word.
 pub fn assignment_to_a_word()
-    ensures { (t : Translation) (calls : List LiveCall) (store : Store) (s : State Vars)
+    ensures { (t : SelectedModule) (calls : List LiveCall) (store : Store) (s : State Vars)
         (l : Location) (x : Object) (w type_id : ℕ) (v : SourceValue) →
         IsLaidOut t.program → Represents t calls store s →
         placed t.program t.frames calls l ≡ Some (placed_at (InWord x w) type_id) →
@@ -87,7 +87,7 @@ pub fn assignment_to_a_word()
 
 /// An assignment to a location in a variable of the running call is a write to this variable.
 pub fn assignment_to_a_variable()
-    ensures { (t : Translation) (calls : List LiveCall) (store : Store) (old new : State Vars)
+    ensures { (t : SelectedModule) (calls : List LiveCall) (store : Store) (old new : State Vars)
         (l : Location) (variable type_id : ℕ) (v : SourceValue) →
         IsLaidOut t.program → Represents t calls store old →
         placed t.program t.frames calls l
@@ -100,7 +100,7 @@ pub fn assignment_to_a_variable()
 
 /// Variables that are no homes make no difference.
 pub fn temporaries_are_free()
-    ensures { (t : Translation) (calls : List LiveCall) (store : Store) (old new : State Vars) →
+    ensures { (t : SelectedModule) (calls : List LiveCall) (store : Store) (old new : State Vars) →
         IsLaidOut t.program → Represents t calls store old → SameButVariables old new →
         ((u : ℕ) → u < homes_of t old → held_at new u ≡ held_at old u) →
         Represents t calls store new }
@@ -108,7 +108,7 @@ pub fn temporaries_are_free()
 
 /// When a call returns, the calls below it have what the store has of them.
 pub fn a_return_keeps_the_relation()
-    ensures { (t : Translation) (call : LiveCall) (calls : List LiveCall) (store : Store)
+    ensures { (t : SelectedModule) (call : LiveCall) (calls : List LiveCall) (store : Store)
         (s : State Vars) (c : Activation Vars) (rest : List (Activation Vars)) →
         IsLaidOut t.program → Represents t (call ∷ calls) store s → s.below ≡ c ∷ rest →
         Represents t calls store (returned s (c ∷ rest)) }
@@ -117,13 +117,13 @@ pub fn a_return_keeps_the_relation()
 /// The variable of a VAR parameter of the running call has the address of the location that it
 /// names: a word of the module's data or of a call below.
 pub fn var_parameters_have_addresses()
-    ensures named { (t : Translation) (call : LiveCall) (below : List LiveCall) (store : Store)
+    ensures named { (t : SelectedModule) (call : LiveCall) (below : List LiveCall) (store : Store)
         (s : State Vars) (k : ℕ) (proc : CheckedProc) (param : Param) →
         Represents t (call ∷ below) store s →
         param_of t.program call k ≡ Some (proc, param) → param.by_var ≡ true →
         IsAddressOf t (call ∷ below) (root_location (call ∷ below) (root.Param k)) param.type_id
         (held_at s (param_variable proc k)) }
-    ensures below { (t : Translation) (call : LiveCall) (below : List LiveCall) (store : Store)
+    ensures below { (t : SelectedModule) (call : LiveCall) (below : List LiveCall) (store : Store)
         (s : State Vars) (k : ℕ) (proc : CheckedProc) (param : Param) (x : Object) (byte : ℕ) →
         Represents t (call ∷ below) store s →
         param_of t.program call k ≡ Some (proc, param) → param.by_var ≡ true →

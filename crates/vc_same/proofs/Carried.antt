@@ -23,13 +23,13 @@ use Rattle.pra_base.specs.Valid.{instruction_count}
 use Rattle.vc_code.specs.Value.{Words}
 use Rattle.vc_code.specs.declared.value.Value.TheVariants.{Num}
 use Rattle.vc_code.specs.Machine.{State, first, step, view}
-use Rattle.vc_code.specs.Selected.{Vars, begun, selected, vrun, no_proc}
+use Rattle.vc_code.specs.Selected.{Vars, begun, selected, vrun, no_proc, RunsWell}
 use Rattle.vc_code.specs.Selected as selection
 use Rattle.vc_code.proofs.LongerRuns.{is_machine, longer_runs_keep}
 use Rattle.vc_same.specs.Renaming.{Names}
 use Rattle.vc_same.specs.Reduction.{Reduced, AllReduced, Part}
 use Rattle.vc_same.specs.Reduction.Part.{ends, stays}
-use Rattle.vc_same.specs.SameRuns.{RunsWell, SameRuns, with_proc}
+use Rattle.vc_same.specs.SameRuns.{SameRuns, with_proc}
 use Rattle.vc_same.proofs.Renamed.{same_names}
 use Rattle.vc_coupling.specs.Coupled.{Same}
 use Rattle.vc_same.proofs.Tracked.{Tracks, begun_tracks}

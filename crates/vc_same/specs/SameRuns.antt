@@ -1,16 +1,11 @@
 -- When code may stand in the place of other code.
-use Rattle.std.specs.Prelude.{◌≡◌, ◌≢◌, ℕ, ℤ, ◌≤◌, List, length, slice_get, slice_set, Some}
+use Rattle.std.specs.Prelude.{◌≡◌, ℕ, ℤ, ◌≤◌, List, length, slice_get, slice_set, Some}
 use Rattle.pra_base.specs.Agreement.{Carried}
-use Rattle.pra_base.specs.RunEnd.{Wrong}
 use Rattle.pra_base.specs.declared.code.VProc.{VProc}
 use Rattle.pra_base.specs.declared.code.VModule.{VModule}
 use Rattle.pra_base.specs.Code.{block_of}
 use Rattle.pra_base.specs.Valid.{PushesBeforeCalls, TakesArgs, IsValid, IsSized, instruction_count}
-use Rattle.vc_code.specs.Selected.{vrun}
-
--- no run of the module is ever stuck
-abbrev pub RunsWell : VModule → List ℕ → List ℤ → Type 0
-RunsWell module_ frames input = (k : ℕ) → (vrun module_ frames input k).ending ≢ Some Wrong
+use Rattle.vc_code.specs.Selected.{vrun, RunsWell}
 
 abbrev pub with_procs : VModule → List VProc → VModule
 with_procs module_ procs = record module_ { procs = procs }

@@ -6,10 +6,10 @@ ghost use Rattle.pra_base.specs.Agreement.{Agree, Carried};
 ghost use Rattle.pra_base.specs.Valid.{IsValid, IsSized};
 ghost use Rattle.pra_base.specs.declared.code.VProc.{VProc};
 ghost use Rattle.pra_base.specs.declared.code.VModule.{VModule};
-ghost use Rattle.vc_code.specs.Selected.{vrun};
+ghost use Rattle.vc_code.specs.Selected.{vrun, RunsWell};
 ghost use Rattle.vc_same.specs.Renaming.{Names};
 ghost use Rattle.vc_same.specs.Reduction.{AllReduced, ParamsApart, Reduced};
-ghost use Rattle.vc_same.specs.SameRuns.{Preserves, RunsWell, SameRuns, with_proc, with_procs};
+ghost use Rattle.vc_same.specs.SameRuns.{Preserves, SameRuns, with_proc, with_procs};
 
 /// Where all procedures of a module are reduced, their runs carry each run that is never stuck, and
 /// are then never stuck either.

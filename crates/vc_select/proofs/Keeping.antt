@@ -27,7 +27,7 @@ use Rattle.vc_select.specs.declared.target.Setting.{Setting}
 use Rattle.vc_select.specs.declared.target.Target.{Target}
 use Rattle.vc_select.specs.declared.target.Target.TheVariants.{Var, Memory}
 use Rattle.vc_select.specs.Targets.{above_base, above_index, above_target, held_for, IsNamed}
-use Rattle.vc_select.specs.Selects.{home_variables, translation, Starts, Extends}
+use Rattle.vc_select.specs.Selects.{home_variables, selected_module, Starts, Extends}
 
 module _ (w : Codes) (n : ℕ) (s : State Vars) (c : Activation Vars) (same : SameBelow n s.top c) where
   abbrev now : ℕ → Held
@@ -95,12 +95,12 @@ module _ (g : Setting) (w : Codes) (old one : VProc) (from : ℕ) (calls : List 
     but : SameButVariables s (with_top s c)
     but = record { proc = same.proc; aggregates = same.aggregates; args = same.args; below = refl; globals = refl }
 
-    homes_here : homes_of (translation g.program.now w) s ≡ home_variables g
+    homes_here : homes_of (selected_module g.program.now w) s ≡ home_variables g
     homes_here = ap (λ p. homes_in (slice_get g.program.now.procs p)) starts.runs.proc
 
-    pub represents_on : Represents (translation g.program.now w) calls store (with_top s c)
+    pub represents_on : Represents (selected_module g.program.now w) calls store (with_top s c)
     represents_on =
-        freed (translation g.program.now w) s (with_top s c) but calls store starts.set.laid starts.represents
+        freed (selected_module g.program.now w) s (with_top s c) but calls store starts.set.laid starts.represents
         (λ u lt. same.held u (omega (arith, lt, homes_here, low)))
 
     -- code that was added later runs on behind code that was added before

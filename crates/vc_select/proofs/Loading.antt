@@ -49,7 +49,7 @@ use Rattle.vc_relation.proofs.Variables.{same_depth}
 use Rattle.vc_select.specs.declared.target.Setting.{Setting}
 use Rattle.vc_select.specs.declared.target.Target.TheVariants.{Var, Memory}
 use Rattle.vc_select.specs.Targets.{held_for, IsVariable, IsWord}
-use Rattle.vc_select.specs.Selects.{home_variables, translation, Starts, Results, Loads}
+use Rattle.vc_select.specs.Selects.{home_variables, selected_module, Starts, Results, Loads}
 use Rattle.vc_select.proofs.Placing.{word_bound}
 use Rattle.vc_select.proofs.Roots.{read_plain, running_is}
 
@@ -93,7 +93,7 @@ module _ (g : Setting) (w : Codes) (old new : VProc) (at : ℕ) (calls : List Li
   record IsAt (spot : Spot) : Type 0 where
     fits : FitsSigned w32 (number x)
     bit : type_id ≡ boolean → IsBit x
-    held : content (translation program w) s spot ≡ Some (Num (word (number x)))
+    held : content (selected_module program w) s spot ≡ Some (Num (word (number x)))
 
   kept : (spot : Spot) → placed program w.frames calls l ≡ Some (placed_at spot type_id) → IsAt spot
   kept spot place =

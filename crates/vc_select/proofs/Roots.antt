@@ -42,7 +42,7 @@ use Rattle.vc_relation.proofs.Returned.{names_address}
 use Rattle.vc_select.specs.declared.target.Setting.{Setting}
 use Rattle.vc_select.specs.Targets.{at_base, home_target, home_in, by_var_of, param_target, root_target, IsNamed}
 use Rattle.vc_typed.specs.Typing.{is_declared, is_declared_in}
-use Rattle.vc_select.specs.Selects.{IsSet, is_constant, home_variables, translation}
+use Rattle.vc_select.specs.Selects.{IsSet, is_constant, home_variables, selected_module}
 use Rattle.vc_select.proofs.Placing.{same_frames}
 
 differ : false ≡ true → ⊥
@@ -70,7 +70,7 @@ running_is (call ∷ below) s e = first_same s.top.proc call.proc.0 (map (λ c. 
     first_same x y xs ys d = cc
 
 module _ (g : Setting) (set : IsSet g) (w : Codes) (call : LiveCall) (below : List LiveCall) (store : Store) (s : State Vars)
-    (represents : Represents (translation g.program.now w) (call ∷ below) store s) (top : s.top.proc ≡ g.id.0)
+    (represents : Represents (selected_module g.program.now w) (call ∷ below) store s) (top : s.top.proc ≡ g.id.0)
     (variables : (v : ℕ) → v < home_variables g → is_constant (kind_of (code_of w.procs g.id.0) v) ≡ false) where
   abbrev program : Checked
   program = g.program.now
@@ -212,11 +212,11 @@ module _ (g : Setting) (set : IsSet g) (w : Codes) (call : LiveCall) (below : Li
         ∙ ap (λ (o : Option CheckedProc). o >>= λ q. slice_get q.params k >>= λ x. Some (q, x)) at
         ∙ ap (λ (o : Option Param). o >>= λ x. Some (proc, x)) is
 
-    given : IsGiven (translation program w) below param (lent_in call k) (content (translation program w) s (InVariable (suc (length below)) (param_variable proc k)))
+    given : IsGiven (selected_module program w) below param (lent_in call k) (content (selected_module program w) s (InVariable (suc (length below)) (param_variable proc k)))
     given = represents.params (suc (length below)) k call below proc param top_call has_param
 
     -- nothing was lent to a value parameter
-    not_lent : (lent : Option Location) (h : Held) → param.by_var ≡ false → IsGiven (translation program w) below param lent h → lent ≡ None
+    not_lent : (lent : Option Location) (h : Held) → param.by_var ≡ false → IsGiven (selected_module program w) below param lent h → lent ≡ None
     not_lent None h value given' = refl
     not_lent (Some l) h value given' = absurd (differ (sym value ∙ given'.0))
 
@@ -237,7 +237,7 @@ module _ (g : Setting) (set : IsSet g) (w : Codes) (call : LiveCall) (below : Li
 
     var_named : param.by_var ≡ true → IsNamed program w calls s (at_base (base.Via (record { 0 = param_variable proc k }))) (root_location calls (root.Param k)) param.type_id
     var_named by_var =
-        let a = names_address (translation program w) call below store s represents k proc param has_param by_var in
+        let a = names_address (selected_module program w) call below store s represents k proc param has_param by_var in
         let low : param_variable proc k < home_variables g = subst (λ n. param_variable proc k < n) (sym (ap homes_in at)) (omega (arith, count_below in_variable proc.params k param is (ap (λ b. b || not param.addressed) by_var))) in
         let kind : is_constant (kind_of (code_of w.procs s.top.proc) (param_variable proc k)) ≡ false = ap (λ p. is_constant (kind_of (code_of w.procs p) (param_variable proc k))) top ∙ variables (param_variable proc k) low in
         record {
@@ -278,7 +278,7 @@ module _ (g : Setting) (set : IsSet g) (w : Codes) (call : LiveCall) (below : Li
   root_named_here (root.Local k) d = local_named k d
 
 -- The target of a declared variable names its location, with its type.
-pub root_named : (g : Setting) → IsSet g → (w : Codes) (calls : List LiveCall) (store : Store) (s : State Vars) → Represents (translation g.program.now w) calls store s → s.top.proc ≡ g.id.0 →
+pub root_named : (g : Setting) → IsSet g → (w : Codes) (calls : List LiveCall) (store : Store) (s : State Vars) → Represents (selected_module g.program.now w) calls store s → s.top.proc ≡ g.id.0 →
     ((v : ℕ) → v < home_variables g → is_constant (kind_of (code_of w.procs g.id.0) v) ≡ false) → (r : Root) → is_declared g.program.now g.id.0 r ≡ true →
     IsNamed g.program.now w calls s (root_target g.program.now g.params.now g.locals.now g.id.0 r) (root_location calls r) (root_type g.program.now g.id.0 r)
 root_named g set w [] store s represents top variables r d = absurd (empty represents.same_calls)

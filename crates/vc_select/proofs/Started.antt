@@ -28,7 +28,7 @@ use Rattle.vc_relation.specs.Spots.{Spot, InWord, Placed, placed_at, placed, par
 use Rattle.vc_relation.specs.Relation.{IsKept, Represents, content, number_at}
 use Rattle.vc_select.specs.declared.target.Setting.{Setting}
 use Rattle.vc_select.specs.Sample.{sample, IsForSample, begun, alone, one_call, at_begin}
-use Rattle.vc_select.specs.Selects.{IsSet, Starts, home_variables, translation}
+use Rattle.vc_select.specs.Selects.{IsSet, Starts, home_variables, selected_module}
 
 pub laid : IsLaidOut sample
 laid = record {
@@ -68,10 +68,10 @@ no_params true k call below proc param e p =
 no_params false k call below proc param e p = absurd (none_some e)
 
 kept : (code : VProc) (object : Object) (path : List ℕ) (spot : Spot) (type_id : ℕ) → placed sample (20 ∷ []) one_call (record { object = object; path = path }) ≡ Some (placed_at spot type_id) →
-    IsKept type_id (pos 0) (content (translation sample (alone code)) (at_begin code) spot)
+    IsKept type_id (pos 0) (content (selected_module sample (alone code)) (at_begin code) spot)
 kept code (source.Module zero) [] spot type_id e =
     let same : placed_at (InWord Data 0) 0 ≡ placed_at spot type_id = some_same (placed_at (InWord Data 0) 0) (placed_at spot type_id) e in
-    subst (λ (p : Placed). IsKept p.type_id (pos 0) (content (translation sample (alone code)) (at_begin code) p.spot)) same (record { typed = refl; word = refl })
+    subst (λ (p : Placed). IsKept p.type_id (pos 0) (content (selected_module sample (alone code)) (at_begin code) p.spot)) same (record { typed = refl; word = refl })
 kept code (source.Module zero) (k ∷ path) spot type_id e = absurd (none_some e)
 kept code (source.Module (suc n)) path spot type_id e = absurd (none_some e)
 kept code (source.Param depth k) path spot type_id e = absurd (no_param_placed (nat_eq depth 1) depth k path (placed_at spot type_id) e)
@@ -80,10 +80,10 @@ kept code (source.Local depth k) path spot type_id e = absurd (no_local_placed (
 no_number : (l : Location) → number_at new_store l ≡ pos 0
 no_number l = ap (λ (o : Option Value). number (unwrap_or o (Number (pos 0)))) (get-empty location_cmp l)
 
-represents : (code : VProc) → Represents (translation sample (alone code)) one_call new_store (at_begin code)
+represents : (code : VProc) → Represents (selected_module sample (alone code)) one_call new_store (at_begin code)
 represents code = record {
   same_calls = refl;
-  values = λ l spot type_id e scalar. subst (λ n. IsKept type_id n (content (translation sample (alone code)) (at_begin code) spot)) (sym (no_number l)) (kept code l.object l.path spot type_id e);
+  values = λ l spot type_id e scalar. subst (λ n. IsKept type_id n (content (selected_module sample (alone code)) (at_begin code) spot)) (sym (no_number l)) (kept code l.object l.path spot type_id e);
   params = λ depth k call below proc param at of. absurd (no_params (nat_eq depth 1) k call below proc param at of);
 }
 
@@ -120,5 +120,5 @@ starts g code is grows = record {
     room = length-replicate (length code.vars) None ∙ ap (λ n. length (code_of (code ∷ []) n).vars) (sym is.id);
   };
   stands = record { block = refl; index = refl };
-  represents = subst (λ p. Represents (translation p (alone code)) one_call new_store (at_begin code)) (sym is.program) (represents code);
+  represents = subst (λ p. Represents (selected_module p (alone code)) one_call new_store (at_begin code)) (sym is.program) (represents code);
 }

@@ -34,7 +34,7 @@ use Rattle.vc_build.specs.Grow.{count, IsOpen, GrowsAt}
 use Rattle.vc_build.specs.Runs.{Codes, Stands, RunsIn, SameBelow, Reaches, Yields}
 use Rattle.vc_relation.specs.Homes.{param_home, local_home}
 use Rattle.vc_relation.specs.Layout.{IsLaidOut}
-use Rattle.vc_relation.specs.Relation.{Translation, Represents, homes_in, number_at}
+use Rattle.vc_relation.specs.Relation.{SelectedModule, Represents, homes_in, number_at}
 use Rattle.vc_expr.specs.Operators.{Gives, IsBit, of_values}
 use Rattle.vc_expr.specs.Branches.{Enters, chosen}
 use Rattle.vc_expr.specs.declared.branch.Targets.{Targets}
@@ -65,8 +65,8 @@ is_constant _ = false
 abbrev pub home_variables : Setting → ℕ
 home_variables g = homes_in (slice_get g.program.now.procs g.id.0)
 
-abbrev pub translation : Checked → Codes → Translation
-translation program w = record { program = program; code = w.procs; frames = w.frames }
+abbrev pub selected_module : Checked → Codes → SelectedModule
+selected_module program w = record { program = program; code = w.procs; frames = w.frames }
 
 -- A run stands at the end of what an open block has so far, in a procedure that holds what is to be
 -- added. Its state has the store.
@@ -79,7 +79,7 @@ pub record Starts
       is_constant (kind_of (code_of w.procs g.id.0) v) ≡ false
   pub runs : RunsIn w g.id.0 new s
   pub stands : Stands old from s.top
-  pub represents : Represents (translation g.program.now w) calls store s
+  pub represents : Represents (selected_module g.program.now w) calls store s
 
 -- Code was added at the end of an open block. It ends in an open block, which is the same one or
 -- new; of the blocks that the code had only the first one is another.

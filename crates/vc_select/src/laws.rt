@@ -18,7 +18,8 @@ ghost use Rattle.vc_relation.specs.Relation.{Represents};
 ghost use Rattle.vc_select.specs.declared.target.Setting.{Setting};
 ghost use Rattle.vc_select.specs.Certified.{IsReady, IsContinued, Awaits, AddsNoParam};
 ghost use Rattle.vc_select.specs.Sample.{IsForSample, begun, alone, one_call, at_begin};
-ghost use Rattle.vc_select.specs.Selects.{IsSet, Starts, home_variables, is_constant, translation};
+ghost use Rattle.vc_select.specs.Selects.{IsSet, Starts, home_variables, is_constant};
+ghost use Rattle.vc_select.specs.Selects.{selected_module};
 ghost use Rattle.vc_select.specs.Targets.{root_target, IsNamed, above_setting};
 ghost use Rattle.vc_typed.specs.Typing.{is_declared};
 
@@ -26,7 +27,7 @@ ghost use Rattle.vc_typed.specs.Typing.{is_declared};
 /// state that has the store: a VAR parameter's the location that was lent to it.
 pub fn targets_name_locations()
     ensures { (g : Setting) (w : Codes) (calls : List LiveCall) (store : Store) (s : State Vars)
-        (r : Root) → IsSet g → Represents (translation g.program.now w) calls store s →
+        (r : Root) → IsSet g → Represents (selected_module g.program.now w) calls store s →
         s.top.proc ≡ g.id.0 →
         ((v : ℕ) → v < home_variables g →
         is_constant (kind_of (code_of w.procs g.id.0) v) ≡ false) →

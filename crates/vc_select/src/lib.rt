@@ -66,9 +66,9 @@
 //! exchanges the targets.
 //!
 //! Read `specs/` in this order: `Targets`, `Indexes`, `Selects` (what code for a tree does),
-//! `Amounts` and `Certified` (what it keeps); `Sample` is the example. The files of `proofs/` have a
-//! lemma for each form; `Arms` and `Walking` join them to the functions of `select`, and `ReadyArms`
-//! joins those of what is kept.
+//! `Amounts` and `Certified` (what it keeps); `Sample` is the example. The files of `proofs/` have
+//! a lemma for each form; `Arms` and `Walking` join them to the functions of `select`, and
+//! `ReadyArms` joins those of what is kept.
 #![tactic(auto)]
 
 pub mod constant;

@@ -1,6 +1,7 @@
 // The walk over resolved trees: expressions, variables with their selectors, and conditions.
 
-ghost use Rattle.std.specs.Prelude.{◌≡◌, ◌<◌, ◌≤◌, ◌+◌, ℕ, suc, pos, List, length, true, IfOk, OnOk};
+ghost use Rattle.std.specs.Prelude.{◌≡◌, ◌<◌, ◌≤◌, ◌+◌, ℕ, suc, pos, List, length, true, IfOk};
+ghost use Rattle.std.specs.Prelude.{OnOk};
 ghost use Rattle.ob_mean.specs.Designators.{array_length, shape_of};
 ghost use Rattle.ob_mean.specs.Expressions.{value, selector, location};
 ghost use Rattle.ob_mean.specs.Store.{Store};

@@ -33,7 +33,7 @@ use Rattle.vc_relation.specs.Spots.{Spot, InVariable, InWord, Placed, placed_at,
 use Rattle.vc_relation.proofs.Apart.{Owner, OfParam, OfLocal, Standing, IsData, IsVariable, IsCell, IsAggregate, stands, Found, found}
 use Rattle.vc_relation.proofs.Lives.{placed_deeper}
 use Rattle.vc_select.specs.declared.target.Setting.{Setting}
-use Rattle.vc_select.specs.Selects.{IsSet, translation}
+use Rattle.vc_select.specs.Selects.{IsSet, selected_module}
 use Rattle.vc_select.proofs.Roots.{running_is}
 use Rattle.vc_typed.specs.TypedModules.{has_address, param_has_address, local_has_address}
 use Rattle.vc_stmt.specs.Sound.{addressed, addressed_in}
@@ -90,7 +90,7 @@ word_never : (x : Spot) (d u : ℕ) → is_word x ≡ true → x ≡ InVariable 
 word_never (InVariable e v) d u t same = differ (sym t)
 word_never (InWord z w) d u t same = cc
 
-module _ (g : Setting) (set : IsSet g) (w : Codes) (calls : List LiveCall) (store : Store) (s : State Vars) (represents : Represents (translation g.program.now w) calls store s) (runs : s.top.proc ≡ g.id.0) where
+module _ (g : Setting) (set : IsSet g) (w : Codes) (calls : List LiveCall) (store : Store) (s : State Vars) (represents : Represents (selected_module g.program.now w) calls store s) (runs : s.top.proc ≡ g.id.0) where
   abbrev program : Checked
   program = g.program.now
 
@@ -106,7 +106,7 @@ module _ (g : Setting) (set : IsSet g) (w : Codes) (calls : List LiveCall) (stor
       by_calls (call ∷ below) e at = ap (slice_get program.procs) (sym e ∙ ap (λ (z : LiveCall × List LiveCall). z.0.proc.0) (running_top below call c at)) ∙ has
 
   -- what was lent to a parameter is in a word
-  lent_word : (cs : List LiveCall) → Represents (translation program w) cs store s → running cs ≡ g.id.0 → (k : ℕ) → addressed program g.id.0 (root.Param k ∷ []) ≡ true → (l : Location) → lent_to cs k ≡ Some l → (d u type_id : ℕ) → placed program w.frames cs l ≡ Some (placed_at (InVariable d u) type_id) → ⊥
+  lent_word : (cs : List LiveCall) → Represents (selected_module program w) cs store s → running cs ≡ g.id.0 → (k : ℕ) → addressed program g.id.0 (root.Param k ∷ []) ≡ true → (l : Location) → lent_to cs k ≡ Some l → (d u type_id : ℕ) → placed program w.frames cs l ≡ Some (placed_at (InVariable d u) type_id) → ⊥
   lent_word [] shown is k has l e d u type_id there = none_some e
   lent_word (call ∷ below) shown is k has l e d u type_id there = by_proc (slice_get program.procs g.id.0) refl has
     where
@@ -121,7 +121,7 @@ module _ (g : Setting) (set : IsSet g) (w : Codes) (calls : List LiveCall) (stor
       by_param proc p (Some param) q t =
           let of_call : param_of program call k ≡ Some (proc, param) = param_found program call k proc param (ap (slice_get program.procs) is ∙ p) q in
           let given = shown.params (suc (length below)) k call below proc param top_call of_call in
-          let lent = subst (λ o. IsGiven (translation program w) below param o (content (translation program w) s (InVariable (suc (length below)) (param_variable proc k)))) e given in
+          let lent = subst (λ o. IsGiven (selected_module program w) below param o (content (selected_module program w) s (InVariable (suc (length below)) (param_variable proc k)))) e given in
           apart_spots (InWord lent.1.object lent.1.word) param.type_id type_id refl
           (some_same _ _ (sym (placed_deeper program w.frames call below l (placed_at (InWord lent.1.object lent.1.word) param.type_id) lent.1.place) ∙ there))
 

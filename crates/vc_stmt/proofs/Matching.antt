@@ -13,7 +13,7 @@ use Rattle.vc_build.proofs.Growth.{grows_same}
 use Rattle.vc_relation.specs.Relation.{Represents, SameButVariables, homes_in, homes_of, held_at}
 use Rattle.vc_relation.proofs.Variables.{freed}
 use Rattle.vc_select.specs.declared.target.Setting.{Setting}
-use Rattle.vc_select.specs.Selects.{home_variables, translation, Starts}
+use Rattle.vc_select.specs.Selects.{home_variables, selected_module, Starts}
 use Rattle.vc_select.proofs.Keeping.{starts_earlier}
 use Rattle.vc_stmt.specs.Completes.{Shows}
 use Rattle.vc_stmt.specs.Does.{Matches}
@@ -27,15 +27,15 @@ module _ (g : Setting) (w : Codes) (old : VProc) (from : ℕ) (calls : List Live
   starts_with new grows = starts_earlier g w old final from calls m.store s matches.starts new grows
 
   -- the store is that of a state where homes hold the same
-  pub represents_but : (n : State Vars) → SameButVariables s n → ((u : ℕ) → u < home_variables g → held_at n u ≡ held_at s u) → Represents (translation g.program.now w) calls m.store n
+  pub represents_but : (n : State Vars) → SameButVariables s n → ((u : ℕ) → u < home_variables g → held_at n u ≡ held_at s u) → Represents (selected_module g.program.now w) calls m.store n
   represents_but n but held =
-      let same_homes : homes_of (translation g.program.now w) s ≡ home_variables g = ap (λ p. homes_in (slice_get g.program.now.procs p)) matches.starts.runs.proc in
-      freed (translation g.program.now w) s n but calls m.store matches.starts.set.laid matches.starts.represents (λ u lt. held u (omega (arith, lt, same_homes)))
+      let same_homes : homes_of (selected_module g.program.now w) s ≡ home_variables g = ap (λ p. homes_in (slice_get g.program.now.procs p)) matches.starts.runs.proc in
+      freed (selected_module g.program.now w) s n but calls m.store matches.starts.set.laid matches.starts.represents (λ u lt. held u (omega (arith, lt, same_homes)))
 
   module _ (n : State Vars) (made : VProc) (b : ℕ) (after : mean.State) (proc : n.top.proc ≡ s.top.proc) (going : n.over ≡ None) (compared : n.compared ≡ None) (room : length n.top.home.held ≡ length s.top.home.held)
       (pushed : n.pushed ≡ s.pushed) (below : map (λ c. c.home) n.below ≡ map (λ c. c.home) s.below) (stands : Stands made b n.top) (homes : home_variables g ≤ length made.vars) (shows : Shows after n) where
     -- a state that has another store
-    pub matches_as : Represents (translation g.program.now w) calls after.store n → Matches g w made b calls waiting after n
+    pub matches_as : Represents (selected_module g.program.now w) calls after.store n → Matches g w made b calls waiting after n
     matches_as represents = record {
       starts = record {
         set = matches.starts.set;
@@ -53,7 +53,7 @@ module _ (g : Setting) (w : Codes) (old : VProc) (from : ℕ) (calls : List Live
     -- a state that has the same store, in the same homes
     pub matches_but : after.store ≡ m.store → SameButVariables s n → ((u : ℕ) → u < home_variables g → held_at n u ≡ held_at s u) → Matches g w made b calls waiting after n
     matches_but store but held =
-        matches_as (subst (λ (z : Store). Represents (translation g.program.now w) calls z n) (sym store) (represents_but n but held))
+        matches_as (subst (λ (z : Store). Represents (selected_module g.program.now w) calls z n) (sym store) (represents_but n but held))
 
   -- the same state, at the end of a block of other code
   pub matches_at : (made : VProc) (b : ℕ) → Stands made b s.top → home_variables g ≤ length made.vars → Matches g w made b calls waiting m s

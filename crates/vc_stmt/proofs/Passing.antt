@@ -29,7 +29,7 @@ use Rattle.vc_expr.proofs.Operations.{read_on}
 use Rattle.vc_relation.specs.Relation.{IsAddressOf}
 use Rattle.vc_select.specs.declared.target.Setting.{Setting}
 use Rattle.vc_select.specs.declared.target.Target.{Target}
-use Rattle.vc_select.specs.Selects.{Starts, Selects, Results, Locates, Finds, translation}
+use Rattle.vc_select.specs.Selects.{Starts, Selects, Results, Locates, Finds, selected_module}
 use Rattle.vc_select.proofs.Keeping.{starts_earlier, starts_on, extends_on, extends_at}
 use Rattle.vc_select.proofs.Sides.{of_type}
 use Rattle.vc_typed.specs.TypedStatements.{is_passed, are_passed}
@@ -108,7 +108,7 @@ module _ (g : Setting) (old mid new : VProc) (from to t : ℕ) (target : Target)
         good = (
           y.good.0,
           same_on (length old.vars) (length mid.vars) s.top c y.call p.extends.grows.grows.vars found.same y.good.1,
-          (both.0, subst (λ k. IsAddressOf (translation g.program.now w) calls l k (read (kind_of (code_of w.procs g.id.0)) y.call.home.held t)) type_is.1 y.good.2),
+          (both.0, subst (λ k. IsAddressOf (selected_module g.program.now w) calls l k (read (kind_of (code_of w.procs g.id.0)) y.call.home.held t)) type_is.1 y.good.2),
         );
       })
 
@@ -125,7 +125,7 @@ module _ (g : Setting) (old mid new : VProc) (from to t : ℕ) (target : Target)
 
 -- what a variable has for an argument stays while the variable does
 pushed_on : (program_g : Setting) (w : Codes) (calls : List LiveCall) (param : Param) (x : Argument) (v n : ℕ) (c d : Activation Vars) → v < n → SameBelow n c d → HasArgument program_g.program.now w program_g.id.0 calls param x v c → HasArgument program_g.program.now w program_g.id.0 calls param x v d
-pushed_on g w calls param x v n c d lt same has = subst (IsPushed (translation g.program.now w) calls param x) (sym (read_on w g.id.0 n v c d (read (kind_of (code_of w.procs g.id.0)) c.home.held v) same lt refl)) has
+pushed_on g w calls param x v n c d lt same has = subst (IsPushed (selected_module g.program.now w) calls param x) (sym (read_on w g.id.0 n v c d (read (kind_of (code_of w.procs g.id.0)) c.home.held v) same lt refl)) has
 
 pub passes_none : (g : Setting) (old : VProc) (at : ℕ) → IsOpen old at → PassesAll g old old at at [] []
 passes_none g old at o = record {

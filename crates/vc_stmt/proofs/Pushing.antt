@@ -24,7 +24,7 @@ use Rattle.vc_build.proofs.Growth.{grows_on, grows_at_again, grows_at_same, put_
 use Rattle.vc_build.proofs.Steps.{performs}
 use Rattle.vc_expr.proofs.Starts.{reads_are}
 use Rattle.vc_select.specs.declared.target.Setting.{Setting}
-use Rattle.vc_select.specs.Selects.{translation}
+use Rattle.vc_select.specs.Selects.{selected_module}
 use Rattle.vc_call.specs.Begins.{IsPushed, ArePushed}
 use Rattle.vc_stmt.specs.Passes.{HaveArguments, with_pushes}
 
@@ -85,7 +85,7 @@ module _ (program : Checked) (w : Codes) (id : ℕ) (calls : List LiveCall) (c :
   arguments_alike (p ∷ ps) (x ∷ xs) (v ∷ vs) has = let rest = arguments_alike ps xs vs has.1 in (ap suc rest.0, ap suc rest.1)
 
   each_pushed : (params : List Param) (xs : List Argument) (vs : List VarId) (below : Words) → HaveArguments program w id calls params xs vs c → (k : ℕ) (param : Param) (x : Argument) → slice_get params k ≡ Some param → slice_get xs k ≡ Some x →
-      IsPushed (translation program w) calls param x (joined (last_get (pushed_onto (helds vs) below) (length below + k)))
+      IsPushed (selected_module program w) calls param x (joined (last_get (pushed_onto (helds vs) below) (length below + k)))
   each_pushed [] xs vs below has k param x p q = cc
   each_pushed (p ∷ ps) [] vs below has k param x e f = absurd has
   each_pushed (p ∷ ps) (y ∷ ys) [] below has k param x e f = absurd has
@@ -95,33 +95,33 @@ module _ (program : Checked) (w : Codes) (id : ℕ) (calls : List LiveCall) (c :
       ap (last_get (pushed_onto (helds vs) (h ∷ below))) (plus_zero (length below)) ∙ last_kept (helds vs) (h ∷ below) (length below) (omega arith) ∙ last_on h below in
       let one : p ≡ param = cc in
       let two : y ≡ x = cc in
-      subst (λ z. IsPushed (translation program w) calls param x (joined z)) (sym there)
-      (subst (λ z. IsPushed (translation program w) calls param z h) two (subst (λ z. IsPushed (translation program w) calls z y h) one has.0))
+      subst (λ z. IsPushed (selected_module program w) calls param x (joined z)) (sym there)
+      (subst (λ z. IsPushed (selected_module program w) calls param z h) two (subst (λ z. IsPushed (selected_module program w) calls z y h) one has.0))
     where
       plus_zero : (n : ℕ) → n + 0 ≡ n
       plus_zero n = omega arith
   each_pushed (p ∷ ps) (y ∷ ys) (v ∷ vs) below has (suc k) param x e f =
       let h = read (kind_of (code_of w.procs id)) c.home.held v.0 in
-      subst (λ n. IsPushed (translation program w) calls param x (joined (last_get (pushed_onto (helds vs) (h ∷ below)) n))) (moved (length below) k)
+      subst (λ n. IsPushed (selected_module program w) calls param x (joined (last_get (pushed_onto (helds vs) (h ∷ below)) n))) (moved (length below) k)
       (each_pushed ps ys vs (h ∷ below) has.1 k param x e f)
     where
       moved : (n k : ℕ) → suc n + k ≡ n + suc k
       moved n k = omega arith
 
-  pub are_pushed : (params : List Param) (xs : List Argument) (vs : List VarId) → HaveArguments program w id calls params xs vs c → ArePushed (translation program w) calls params xs (pushed_onto (helds vs) [])
+  pub are_pushed : (params : List Param) (xs : List Argument) (vs : List VarId) → HaveArguments program w id calls params xs vs c → ArePushed (selected_module program w) calls params xs (pushed_onto (helds vs) [])
   are_pushed params xs vs has =
       let alike = arguments_alike params xs vs has in
       record {
         as_many = alike.0;
         count = omega (arith, pushed_length (helds vs) [], length-map vs (λ v. read (kind_of (code_of w.procs id)) c.home.held v.0), alike.1);
-        each = λ k param x p q. subst (λ n. IsPushed (translation program w) calls param x (joined (last_get (pushed_onto (helds vs) []) n))) (zero_plus k) (each_pushed params xs vs [] has k param x p q);
+        each = λ k param x p q. subst (λ n. IsPushed (selected_module program w) calls param x (joined (last_get (pushed_onto (helds vs) []) n))) (zero_plus k) (each_pushed params xs vs [] has k param x p q);
       }
     where
       zero_plus : (n : ℕ) → 0 + n ≡ n
       zero_plus n = omega arith
 
   -- each of them holds something
-  held_something : (param : Param) (x : Argument) (h : Held) → IsPushed (translation program w) calls param x h → (y : Value) × (h ≡ Some y)
+  held_something : (param : Param) (x : Argument) (h : Held) → IsPushed (selected_module program w) calls param x h → (y : Value) × (h ≡ Some y)
   held_something param (Passed v) h has = (_, has.1.word)
   held_something param (Lent l) h has = (_, has.1.address)
 

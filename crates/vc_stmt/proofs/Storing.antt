@@ -61,7 +61,7 @@ use Rattle.vc_relation.proofs.Variables.{assigned_variable}
 use Rattle.vc_select.specs.declared.target.Setting.{Setting}
 use Rattle.vc_select.specs.declared.target.Target.TheVariants.{Var, Memory}
 use Rattle.vc_select.specs.Targets.{held_for, IsVariable, IsWord}
-use Rattle.vc_select.specs.Selects.{home_variables, translation}
+use Rattle.vc_select.specs.Selects.{home_variables, selected_module}
 use Rattle.vc_select.proofs.Placing.{word_bound}
 use Rattle.vc_select.proofs.Roots.{read_plain, running_is}
 use Rattle.vc_stmt.specs.Completes.{Shows, Comes}
@@ -189,8 +189,8 @@ module _ (g : Setting) (w : Codes) (old : VProc) (at : ℕ) (calls : List LiveCa
           matches_as g w old at calls waiting m s matches (with_seen input taken) new at after refl matches.starts.runs.going refl (length-set s.top.home.held u given) refl refl
           (record { block = matches.starts.stands.block; index = omega (arith, matches.starts.stands.index, ap (λ z. length z) (put_code at i old o), length-append (code.code_of old at) (i ∷ [])) })
           matches.starts.homes shows
-          (subst (λ z. Represents (translation program w) calls z (with_seen input taken)) (sym store)
-          (assigned_variable (translation program w) s (with_seen input taken) (record { proc = refl; aggregates = refl; args = refl; below = refl; globals = refl }) calls m.store matches.starts.set.laid matches.starts.represents
+          (subst (λ z. Represents (selected_module program w) calls z (with_seen input taken)) (sym store)
+          (assigned_variable (selected_module program w) s (with_seen input taken) (record { proc = refl; aggregates = refl; args = refl; below = refl; globals = refl }) calls m.store matches.starts.set.laid matches.starts.represents
           l u type_id x named.place scalar typed (get_or-set_same s.top.home.held u given None within) (λ v lt apart. get_or-set_other s.top.home.held u v given None apart)))
 
       -- an instruction that gives the variable the value
@@ -214,7 +214,7 @@ module _ (g : Setting) (w : Codes) (old : VProc) (at : ℕ) (calls : List LiveCa
       enough = omega arith;
       good =
           matches_as g w old at calls waiting m s matches s old at (store_at m l x) refl matches.starts.runs.going matches.starts.runs.compared refl refl refl matches.starts.stands matches.starts.homes matches_shows
-          (assigned_variable (translation program w) s s (record { proc = refl; aggregates = refl; args = refl; below = refl; globals = refl }) calls m.store matches.starts.set.laid matches.starts.represents
+          (assigned_variable (selected_module program w) s s (record { proc = refl; aggregates = refl; args = refl; below = refl; globals = refl }) calls m.store matches.starts.set.laid matches.starts.represents
           l u type_id x named.place scalar typed (sym (read_plain (kind_of final u) (held_at s u) (matches.starts.variables u is_home)) ∙ value.held) (λ v lt apart. refl));
     }
       where
@@ -250,7 +250,7 @@ module _ (g : Setting) (w : Codes) (old : VProc) (at : ℕ) (calls : List LiveCa
       abbrev moved : State Vars
       moved = with_top s behind_it
 
-      same_store : Represents (translation program w) calls m.store moved
+      same_store : Represents (selected_module program w) calls m.store moved
       same_store = represents_but g w old at calls waiting m s matches moved (record { proc = refl; aggregates = refl; args = refl; below = refl; globals = refl }) (λ u lt. refl)
 
       abbrev stored : State Vars
@@ -296,7 +296,7 @@ module _ (g : Setting) (w : Codes) (old : VProc) (at : ℕ) (calls : List LiveCa
                   })
                   matches.starts.homes
                   (record { input = beside.input ∙ matches.shows.input; words = matches.shows.words; events = beside.events ∙ matches.shows.events; taken = beside.taken ∙ matches.shows.taken })
-                  (assigned_word (translation program w) calls m.store moved l named.object named.word type_id x matches.starts.set.laid same_store named.place scalar typed));
+                  (assigned_word (selected_module program w) calls m.store moved l named.object named.word type_id x matches.starts.set.laid same_store named.place scalar typed));
             }
 
 -- ---- the code of an assignment

@@ -11,7 +11,7 @@ use Rattle.vc_code.specs.Selected.{Vars, selected}
 use Rattle.vc_build.specs.Runs.{Codes, runs}
 use Rattle.vc_relation.specs.Relation.{Represents}
 use Rattle.vc_call.specs.Begins.{ArePushed}
-use Rattle.vc_select.specs.Selects.{translation}
+use Rattle.vc_select.specs.Selects.{selected_module}
 use Rattle.vc_stmt.specs.Completes.{Shows, Completes}
 
 -- The next step is the Call of a procedure with these arguments. Behind it the caller goes on at
@@ -21,11 +21,11 @@ pub record StandsAtCall
     (c : Activation Vars) (m : mean.State) (s : State Vars) : Type 0 where
   pub step : runs w 1 s ≡ enters (selected w.procs w.frames) (λ xs. Some c) p s
   pub going : s.over ≡ None
-  pub represents : Represents (translation program w) calls m.store (with_top s c)
+  pub represents : Represents (selected_module program w) calls m.store (with_top s c)
   pub shows : Shows m s
   pub proc : CheckedProc
   pub there : slice_get program.procs p ≡ Some proc
-  pub pushed : ArePushed (translation program w) calls proc.params args s.pushed
+  pub pushed : ArePushed (selected_module program w) calls proc.params args s.pushed
 
 -- The call has returned: the live calls stand where they stood, with their variables. Words of the
 -- objects of any of them may be others.
@@ -36,7 +36,7 @@ pub record HasReturned
   pub compared : s.compared ≡ None
   pub pushed : s.pushed ≡ []
   pub homes : map (λ d. d.home) (live_in s) ≡ map (λ d. d.home) (c ∷ below)
-  pub represents : Represents (translation program w) calls m.store s
+  pub represents : Represents (selected_module program w) calls m.store s
   pub shows : Shows m s
 
 -- Each call that the running procedure makes does what it means, and goes on for so many steps at

@@ -22,7 +22,7 @@ use Rattle.vc_relation.specs.Relation.{IsAddressOf}
 use Rattle.vc_relation.specs.Spots.{InVariable, placed_at, placed}
 use Rattle.vc_select.specs.declared.target.Setting.{Setting}
 use Rattle.vc_select.specs.declared.target.Target.{Target}
-use Rattle.vc_select.specs.Selects.{Starts, Extends, translation}
+use Rattle.vc_select.specs.Selects.{Starts, Extends, selected_module}
 use Rattle.vc_select.specs.Targets.{IsNamed}
 use Rattle.vc_typed.specs.TypedStatements.{is_passed, are_passed}
 use Rattle.vc_call.specs.Begins.{IsPushed}
@@ -32,7 +32,7 @@ use Rattle.vc_stmt.specs.Sound.{addressed}
 abbrev pub HasArgument :
     Checked → Codes → ℕ → List LiveCall → Param → Argument → ℕ → Activation Vars → Type 0
 HasArgument program w id calls param x v c =
-    IsPushed (translation program w) calls param x
+    IsPushed (selected_module program w) calls param x
     (read (kind_of (code_of w.procs id)) c.home.held v)
 
 -- the same of all arguments, in order
@@ -54,7 +54,7 @@ pub record Lends (g : Setting) (at : ℕ) (old new : VProc) (target : Target) (v
       ((depth u k : ℕ) → placed g.program.now w.frames calls l
       ≡ Some (placed_at (InVariable depth u) k) → ⊥) →
       Reaches w s (λ c. Stands new at c × SameBelow (length old.vars) s.top c
-      × IsAddressOf (translation g.program.now w) calls l type_id
+      × IsAddressOf (selected_module g.program.now w) calls l type_id
       (read (kind_of (code_of w.procs g.id.0)) c.home.held v))
 
 -- The added code gives a variable what is pushed for an argument, or comes to its trap.

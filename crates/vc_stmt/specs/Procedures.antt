@@ -17,7 +17,7 @@ use Rattle.vc_build.specs.Runs.{Codes, runs}
 use Rattle.vc_call.specs.Begins.{HasBegun}
 use Rattle.vc_relation.specs.Homes.{in_variable}
 use Rattle.vc_relation.specs.Relation.{Represents}
-use Rattle.vc_select.specs.Selects.{translation}
+use Rattle.vc_select.specs.Selects.{selected_module}
 use Rattle.vc_typed.specs.TypedModules.{IsSelectable}
 use Rattle.vc_stmt.specs.Calls.{CallsFollow}
 use Rattle.vc_stmt.specs.Completes.{Shows, Completes}
@@ -34,9 +34,9 @@ pub record AtEntry
   pub no_more : s.pushed ≡ []
   pub below : map (λ c. c.home) s.below ≡ waiting
   pub shows : Shows m s
-  pub represents : (n : State Vars) → HasBegun (translation program w) p proc pushed n →
+  pub represents : (n : State Vars) → HasBegun (selected_module program w) p proc pushed n →
       n.below ≡ s.below → n.globals ≡ s.globals →
-      Represents (translation program w) calls m.store n
+      Represents (selected_module program w) calls m.store n
 
 -- The statements of the running call are done, and the next step is its return.
 pub record AtReturn
@@ -47,7 +47,7 @@ pub record AtReturn
   pub compared : s.compared ≡ None
   pub pushed : s.pushed ≡ []
   pub below : map (λ c. c.home) s.below ≡ waiting
-  pub represents : Represents (translation program w) calls m.store s
+  pub represents : Represents (selected_module program w) calls m.store s
   pub shows : Shows m s
 
 -- The code does what the procedure's statements mean, where the calls in it do. A parameter that is

@@ -170,7 +170,8 @@ fn select_while(
         && are_sound setting.now.program.now setting.now.id.0 body.now)) }
     ensures text { OnOk result (GoesOn ctx.old.at.0 ctx.new.at.0
         ctx.old.code ctx.new.code ctx.old.order ctx.new.order
-        (while_depths (needs test.now).test (depths_of_all body.now) (depth_at ctx.old.code ctx.old.at.0))) }
+        (while_depths (needs test.now).test (depths_of_all body.now)
+        (depth_at ctx.old.code ctx.old.at.0))) }
     ensures hands_on { OnOk result (HandsOn ctx.old.at.0 ctx.new.at.0
         ctx.old.code ctx.new.code) }
 {
@@ -221,7 +222,8 @@ fn select_repeat(
         && is_of boolean (typing setting.now.program.now setting.now.id.0 test.now))) }
     ensures text { OnOk result (GoesOn ctx.old.at.0 ctx.new.at.0
         ctx.old.code ctx.new.code ctx.old.order ctx.new.order
-        (repeat_depths (needs test.now).test (depths_of_all body.now) (depth_at ctx.old.code ctx.old.at.0))) }
+        (repeat_depths (needs test.now).test (depths_of_all body.now)
+        (depth_at ctx.old.code ctx.old.at.0))) }
     ensures hands_on { OnOk result (HandsOn ctx.old.at.0 ctx.new.at.0
         ctx.old.code ctx.new.code) }
 {

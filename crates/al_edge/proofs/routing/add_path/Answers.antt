@@ -3,7 +3,7 @@ use Rattle.pra_base.specs.declared.ids.Place.{Place}
 use Rattle.net_form.specs.Admitted.{strand_at}
 use Rattle.net_form.specs.InUse.{mark}
 use Rattle.net_form.proofs.PathUses.{uses}
-use Rattle.al_edge.specs.Placed.{IsSoFar}
+use Rattle.al_edge.specs.HomePaths.{IsSoFar}
 use Rattle.al_edge.proofs.Step.{path_placed, so_far_more}
 use Rattle.al_edge.proofs.routing.add_path.Goals as goal
 

@@ -1,5 +1,5 @@
 use Rattle.net_form.specs.Rooms.{IsRoomOf}
-use Rattle.al_edge.specs.Placed.{IsSoFar}
+use Rattle.al_edge.specs.HomePaths.{IsSoFar}
 use Rattle.al_edge.proofs.routing.home.Given as goal
 
 abbrev pub invariant-loop-strand : goal.invariant-loop-strand

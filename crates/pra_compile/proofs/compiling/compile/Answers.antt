@@ -11,7 +11,7 @@ use Rattle.net_cost.specs.Models.{weights_of}
 use Rattle.al_round.specs.Watches.{gap_of}
 use Rattle.pra_report.specs.declared.report.ProcOut.{ProcOut}
 use Rattle.pra_compile.specs.Compiled.{wanted_of}
-use Rattle.pra_compile.specs.Steps.{AreDone}
+use Rattle.pra_compile.specs.CompiledProcs.{AreDone}
 use Rattle.pra_compile.proofs.Done.{none_done, more_are, one_done, all_compiled}
 use Rattle.pra_compile.proofs.compiling.compile.Goals as goal
 
@@ -22,23 +22,23 @@ loop-number-init g c =
 
 pub add-requires-clause-placed : goal.add-requires-clause-placed
 add-requires-clause-placed g c =
-    let step = c.in_ok-step.ensures in
-    subst IsPlaced step.placed (placed_is c.args.checked.now c.loop-number.number step.translation step.is)
+    let compiled = c.in_ok-compiled.ensures in
+    subst IsPlaced compiled.placed (placed_is c.args.checked.now c.loop-number.number compiled.translation compiled.is)
 
 pub add-requires-clause-small : goal.add-requires-clause-small
 add-requires-clause-small g c =
-    let step = c.in_ok-step.ensures in
-    subst IsSmall step.placed (small_is c.args.checked.now c.loop-number.number step.translation step.is)
+    let compiled = c.in_ok-compiled.ensures in
+    subst IsSmall compiled.placed (small_is c.args.checked.now c.loop-number.number compiled.translation compiled.is)
 
 pub add-requires-clause-room : goal.add-requires-clause-room
 add-requires-clause-room g c =
     let program = c.args.checked.now in
     let a = c.loop-number.assembly in
     let done = c.loop-number.invariant in
-    let step = c.in_ok-step.ensures in
-    let are = more_are program (wanted_of (weights_of c.args.model.now) c.args.rounds (gap_of c.args.watch.now)) c.loop-number.number c.loop-number.procs a a done c.in_ok-step.step step in
-    subst (λ (p : LProc). length a.code.items + size (emit_proc p) ≤ max_code_bytes) step.placed
-    (has_room program done.translations step.translation program.data_words a c.requires.selectable.limited c.requires.short are done.assembled)
+    let compiled = c.in_ok-compiled.ensures in
+    let are = more_are program (wanted_of (weights_of c.args.model.now) c.args.rounds (gap_of c.args.watch.now)) c.loop-number.number c.loop-number.procs a a done c.in_ok-compiled.compiled compiled in
+    subst (λ (p : LProc). length a.code.items + size (emit_proc p) ≤ max_code_bytes) compiled.placed
+    (has_room program done.translations compiled.translation program.data_words a c.requires.selectable.limited c.requires.short are done.assembled)
 
 pub loop-number-preserved : goal.loop-number-preserved
 loop-number-preserved g c =
@@ -46,10 +46,10 @@ loop-number-preserved g c =
     let old = c.loop-number.assembly in
     let new = c.add.new.self in
     let done = c.loop-number.invariant in
-    let step = c.in_ok-step.ensures in
+    let compiled = c.in_ok-compiled.ensures in
     let assembled = c.in_ok-add.ensures.ok (map (λ (t : Translation). t.placed) done.translations) program.data_words done.assembled in
     subst (λ (procs : List ProcOut). AreDone program (wanted_of (weights_of c.args.model.now) c.args.rounds (gap_of c.args.watch.now)) (c.loop-number.number + 1) procs new) (sym c.in_ok-push.ensures.ok)
-    (one_done program (wanted_of (weights_of c.args.model.now) c.args.rounds (gap_of c.args.watch.now)) c.loop-number.number c.loop-number.procs old new done c.in_ok-step.step step assembled)
+    (one_done program (wanted_of (weights_of c.args.model.now) c.args.rounds (gap_of c.args.watch.now)) c.loop-number.number c.loop-number.procs old new done c.in_ok-compiled.compiled compiled assembled)
 
 pub returns : goal.returns
 returns g c =

@@ -2,7 +2,7 @@
 use Rattle.net_cost.specs.Models.{weights_of}
 use Rattle.al_round.specs.Watches.{gap_of}
 use Rattle.pra_compile.specs.Compiled.{wanted_of}
-use Rattle.pra_compile.specs.Steps.{AreDone}
+use Rattle.pra_compile.specs.CompiledProcs.{AreDone}
 use Rattle.pra_compile.proofs.compiling.compile.Given as goal
 
 abbrev pub invariant-loop-number : goal.invariant-loop-number

@@ -20,7 +20,7 @@ pub record IsGood (net : Net) (x l : ℕ) (p : Place) : Type 0 where
   pub moved : needs_register net x l ≡ true → is_register (number p) ≡ true
 
 -- A path of strand x, which stays in its place across instructions.
-pub record IsPlaced (net : Net) (x : ℕ) (path : List Place) : Type 0 where
+pub record IsHomePath (net : Net) (x : ℕ) (path : List Place) : Type 0 where
   pub long : (strand_at net x).first + length path ≡ (strand_at net x).last + 1
   pub good : (l : ℕ) → is_there (strand_at net x) l ≡ true →
       IsGood net x l (slice_index_or path (l - (strand_at net x).first) Mem)
@@ -34,4 +34,4 @@ pub record IsSoFar (net : Net) (regs : List ℕ) (paths : List (List Place)) (s 
   pub count : length paths ≡ s
   pub marks : (n r : ℕ) →
       mark regs n r ≡ count_by (uses_bundle net n r) (flow_from 0 net.strands paths)
-  pub placed : (x : ℕ) → x < length paths → IsPlaced net x (slice_index_or paths x [])
+  pub placed : (x : ℕ) → x < length paths → IsHomePath net x (slice_index_or paths x [])

@@ -136,7 +136,7 @@ pub record Runs (procs : List LProc) (s : State Cells) (m : machine.State) : Typ
   pub input_fits : AreWords s.input
 
 -- They have done the same, and while placed code is going on, the machine is where it stands.
-pub record Represents (procs : List LProc) (s : State Cells) (r : Ran) : Type 0 where
+pub record Realizes (procs : List LProc) (s : State Cells) (r : Ran) : Type 0 where
   pub ending : run_end r.state.ending ≡ s.over
   pub events : r.events ≡ s.events
   pub taken : r.state.taken ≡ s.taken
@@ -156,7 +156,7 @@ measure procs s = most procs - s.top.home.block
 -- falls from s to t.
 abbrev pub Leads : List LProc → State Cells → Ran → State Cells → Type 0
 Leads procs s r t =
-    (k : ℕ) × ((0 < k) ⊎ (measure procs t < measure procs s)) × Represents procs t (run advance k r)
+    (k : ℕ) × ((0 < k) ⊎ (measure procs t < measure procs s)) × Realizes procs t (run advance k r)
 
 -- the next step of placed code is led to, where it is not stuck
 abbrev pub StepLeads : List LProc → State Cells → Ran → Type 0
@@ -169,14 +169,14 @@ StepLeads procs s r =
 abbrev pub IsCarried : LInstr → Type 0
 IsCarried i =
     (procs : List LProc) (data_words : ℕ) → IsLoadable procs data_words →
-    (s : State Cells) (r : Ran) → Represents procs s r → s.over ≡ None →
+    (s : State Cells) (r : Ran) → Realizes procs s r → s.over ≡ None →
     (more : List LInstr) → s.top.home.rest ≡ i ∷ more → StepLeads procs s r
 
 -- the same of a block's end, where nothing stands before it
 abbrev pub EndIsCarried : End → Type 0
 EndIsCarried e =
     (procs : List LProc) (data_words : ℕ) → IsLoadable procs data_words →
-    (s : State Cells) (r : Ran) → Represents procs s r → s.over ≡ None →
+    (s : State Cells) (r : Ran) → Realizes procs s r → s.over ≡ None →
     s.top.home.rest ≡ [] → s.top.home.end ≡ e → StepLeads procs s r
 
 -- each instruction of the procedures is carried

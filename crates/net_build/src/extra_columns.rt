@@ -4,7 +4,7 @@ ghost use Rattle.std.specs.Prelude.{◌≡◌};
 ghost use Rattle.net_form.specs.Strands.{is_before};
 ghost use Rattle.net_form.specs.Network.{plays};
 ghost use Rattle.net_form.specs.Tables.{extra_columns, is_short, memory_event, constant_event};
-ghost use Rattle.net_build.specs.Surcharge.{columns_of};
+ghost use Rattle.net_build.specs.ExtraColumns.{columns_of};
 
 use crate::naming::{only_writes, reads};
 use net_cost::Event;
@@ -13,7 +13,7 @@ use pra_base::{VInstr, VarKind};
 /// What an operand of an instruction costs in memory, near and far, and as an immediate of 8 and of
 /// 32 bits.
 #[derive(Clone, Copy)]
-pub(crate) struct Surcharges {
+pub(crate) struct ExtraColumns {
     pub near: Option<Event>,
     pub far: Option<Event>,
     pub short: Option<Event>,
@@ -21,7 +21,7 @@ pub(crate) struct Surcharges {
 }
 
 // The operand is never in memory at a cost of its own, and never an immediate.
-const NOTHING: Surcharges = Surcharges {
+const NOTHING: ExtraColumns = ExtraColumns {
     near: None,
     far: None,
     short: None,
@@ -29,7 +29,7 @@ const NOTHING: Surcharges = Surcharges {
 };
 
 // An operand that is never an immediate.
-const OPERAND: Surcharges = Surcharges {
+const OPERAND: ExtraColumns = ExtraColumns {
     near: Some(Event::E6),
     far: Some(Event::E7),
     short: None,
@@ -37,7 +37,7 @@ const OPERAND: Surcharges = Surcharges {
 };
 
 // v op= s, and a compared with b.
-const ARITHMETIC: Surcharges = Surcharges {
+const ARITHMETIC: ExtraColumns = ExtraColumns {
     near: Some(Event::E6),
     far: Some(Event::E7),
     short: Some(Event::E10),
@@ -45,11 +45,11 @@ const ARITHMETIC: Surcharges = Surcharges {
 };
 
 // What an operand of the instruction costs.
-pub(crate) fn surcharges_of(instr: &VInstr) -> Surcharges
+pub(crate) fn extra_columns_of(instr: &VInstr) -> ExtraColumns
     ensures { columns_of result ≡ extra_columns instr.now }
 {
     match instr {
-        VInstr::Set(_, _) => Surcharges {
+        VInstr::Set(_, _) => ExtraColumns {
             near: Some(Event::E8),
             far: Some(Event::E9),
             short: None,
@@ -67,19 +67,19 @@ pub(crate) fn surcharges_of(instr: &VInstr) -> Surcharges
         | VInstr::DivMod(_, _, _, _)
         | VInstr::Check(_, _)
         | VInstr::CheckPos(_) => OPERAND,
-        VInstr::Mul(_, _) => Surcharges {
+        VInstr::Mul(_, _) => ExtraColumns {
             near: Some(Event::E6),
             far: Some(Event::E7),
             short: None,
             long: Some(Event::E12),
         },
-        VInstr::Store(_, _) => Surcharges {
+        VInstr::Store(_, _) => ExtraColumns {
             near: None,
             far: None,
             short: Some(Event::E11),
             long: Some(Event::E11),
         },
-        VInstr::Push(_) => Surcharges {
+        VInstr::Push(_) => ExtraColumns {
             near: Some(Event::E8),
             far: Some(Event::E9),
             short: Some(Event::E11),
@@ -90,7 +90,7 @@ pub(crate) fn surcharges_of(instr: &VInstr) -> Surcharges
 }
 
 // What the variable costs in memory.
-pub(crate) fn memory_event(near: bool, extra: Surcharges) -> Option<Event>
+pub(crate) fn memory_event(near: bool, extra: ExtraColumns) -> Option<Event>
     ensures { result ≡ memory_event near (columns_of extra) }
 {
     if near { extra.near } else { extra.far }
@@ -104,7 +104,7 @@ fn is_short(number: i32) -> bool
 }
 
 // What the variable costs as an immediate.
-pub(crate) fn constant_event(kind: VarKind, extra: Surcharges) -> Option<Event>
+pub(crate) fn constant_event(kind: VarKind, extra: ExtraColumns) -> Option<Event>
     ensures { result ≡ constant_event kind (columns_of extra) }
 {
     match kind {

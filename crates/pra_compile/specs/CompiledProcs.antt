@@ -7,7 +7,7 @@ use Rattle.ia_asm.specs.declared.assembly.Assembly.{Assembly}
 use Rattle.ia_asm.specs.Assembly.{IsAssembly}
 use Rattle.pl_place.specs.Behind.{frame_of}
 use Rattle.pl_place.specs.Placed.{frame_size}
-use Rattle.pra_compile.specs.declared.compiling.Step.{Step}
+use Rattle.pra_compile.specs.declared.compiling.CompiledProc.{CompiledProc}
 use Rattle.pra_compile.specs.Compiled.{Wanted, IsGranted, name_of}
 use Rattle.pra_follow.specs.Translation.{Translation, IsTranslation, AreTranslations}
 use Rattle.pra_follow.specs.Translation.{behind}
@@ -38,11 +38,12 @@ pub record IsKept (program : Checked) (wanted : Wanted) (p : ℕ) (t : Translati
   pub granted : IsGranted wanted t.net out.routes out.prices out.lines
 
 -- procedure p was translated
-pub record IsStep (program : Checked) (wanted : Wanted) (p : ℕ) (step : Step) : Type 0 where
+pub record IsCompiledProc (program : Checked) (wanted : Wanted) (p : ℕ) (compiled : CompiledProc)
+    : Type 0 where
   pub translation : Translation
   pub is : IsTranslation program p translation
-  pub placed : translation.placed ≡ step.placed
-  pub kept : IsKept program wanted p translation step.out
+  pub placed : translation.placed ≡ compiled.placed
+  pub kept : IsKept program wanted p translation compiled.out
 
 -- The first n procedures were translated: this is kept of them, and their placed code is assembled.
 pub record AreDone (program : Checked) (wanted : Wanted) (n : ℕ) (procs : List ProcOut)
