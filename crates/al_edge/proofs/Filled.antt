@@ -9,8 +9,8 @@ use Rattle.pra_base.specs.declared.ids.Place.{Place}
 use Rattle.pra_base.specs.declared.ids.Place.TheVariants.{Eax, Ecx, Edx, Ebx, Esi, Edi, Mem, Const}
 use Rattle.pra_base.specs.declared.ids.Place.TheVariants.{EaxM, EcxM, EdxM, EbxM, EsiM, EdiM}
 use Rattle.pra_base.specs.Places.{number}
+use Rattle.pra_base.proofs.PlaceNumbers.{place_of}
 use Rattle.net_form.proofs.PlaceEquality.{number-injective}
-use Rattle.net_path.proofs.Numbers.{place_of}
 
 module _ {A : Type 0} (P : Place → A → Type 0) (xs : List A) (d : A) (k : ℕ) (q : Place)
     (is : number q ≡ k) (old : (p : Place) → number p < k → P p (get_or xs (number p) d)) where

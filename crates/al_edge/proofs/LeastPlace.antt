@@ -7,8 +7,8 @@ use Rattle.std.proofs.lemmas.Int.{ints}
 use Rattle.pra_list.proofs.Options.{none_some, some_same}
 use Rattle.pra_base.specs.declared.ids.Place.{Place}
 use Rattle.pra_base.specs.Places.{number}
+use Rattle.pra_base.proofs.PlaceNumbers.{number_below}
 use Rattle.net_form.proofs.PlaceEquality.{number-injective}
-use Rattle.net_path.proofs.Numbers.{number_below}
 use Rattle.al_edge.specs.declared.cheapest.Weighed.{Weighed}
 use Rattle.al_edge.specs.Cheapest.{slot, IsCheapest, IsLesser, IsCheapestBelow, IsBestBelow}
 

@@ -9,6 +9,7 @@ use Rattle.std.proofs.lemmas.List.Elements.{All-nil, All-push}
 use Rattle.std.proofs.lemmas.List.Elements.{All-weaker}
 use Rattle.pra_list.proofs.Options.{none_some, some_same}
 use Rattle.pra_base.specs.declared.ids.Place.{Place}
+use Rattle.pra_base.proofs.PlaceNumbers.{number_below}
 use Rattle.net_cost.specs.declared.weights.Weights.{Weights}
 use Rattle.net_form.specs.declared.net.Net.{Net}
 use Rattle.net_form.specs.declared.net.TieEnd.{TieEnd}
@@ -16,7 +17,6 @@ use Rattle.net_form.specs.declared.prices.Prices.{Prices}
 use Rattle.net_form.specs.Admitted.{strand_at}
 use Rattle.net_dual.specs.Priced.{pay}
 use Rattle.net_dual.proofs.Totals.{total-append, total-agree}
-use Rattle.net_path.proofs.Numbers.{number_below}
 use Rattle.al_laws.specs.Greedy.{is_group, has_end, Precedes}
 use Rattle.al_edge.specs.GroupEnds.{ends_of, counts}
 use Rattle.al_edge.specs.OpenPlaces.{suits_all}

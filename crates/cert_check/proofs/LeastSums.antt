@@ -5,7 +5,10 @@ use Rattle.std.proofs.Common.{length-append, Bool, true, ◌↔◌}
 use Rattle.std.specs.List.{range_with_len}
 use Rattle.std.proofs.lemmas.Int.{ints}
 use Rattle.std.proofs.lemmas.Bool.{cases_eq}
+use Rattle.std.proofs.lemmas.List.{get_or_append_left}
+use Rattle.std.proofs.Math.Seq.{get_or-append_seam}
 use Rattle.pra_list.proofs.Comprehensions.{All-range}
+use Rattle.pra_list.proofs.Growing.{last_range}
 use Rattle.net_cost.specs.declared.weights.Weights.{Weights}
 use Rattle.net_form.specs.declared.net.Net.{Net}
 use Rattle.net_form.specs.declared.prices.Prices.{Prices}
@@ -22,7 +25,6 @@ use Rattle.cert_check.specs.Reasons.{HasRoutes, HasBound}
 use Rattle.cert_form.specs.declared.certificate.Cert.{Cert}
 use Rattle.std.specs.Prelude.{IsTrue}
 use Rattle.net_dual.proofs.Duality.{one_lagrange}
-use Rattle.cert_check.proofs.Numbered.{got_front, got_back, last_range}
 
 module _ (net : Net) (price : Edge → ℤ) where
   pub no_costs : AreLeastCosts net price 0 (pos 0)
@@ -39,9 +41,9 @@ module _ (net : Net) (price : Edge → ℤ) where
       let family = costs.family ++ one.way ∷ [] in
       let many = costs.many in
       let front : (s : ℕ) → s < n → get_or family s [] ≡ get_or costs.family s []
-      = λ s lt. got_front costs.family (one.way ∷ []) s [] (omega (arith, lt, many)) in
+      = λ s lt. get_or_append_left costs.family (one.way ∷ []) [] s (omega (arith, lt, many)) in
       let back : get_or family n [] ≡ one.way
-      = got_back costs.family one.way n [] many in
+      = ap (λ k. get_or family k []) (sym many) ∙ get_or-append_seam costs.family one.way [] [] in
       let f = λ (s : ℕ). path_price net price s (get_or family s []) in
       let g = λ (s : ℕ). path_price net price s (get_or costs.family s []) in
       let split : total f (range_with_len 0 (n + 1)) ≡ total f (range_with_len 0 n ++ (0 + n) ∷ [])

@@ -4,9 +4,7 @@ pub mod Crossing
 pub mod Guarded
 pub mod LeastSums
 pub mod ListedPrices
-pub mod Numbered
-pub mod PlaceNumbers
 pub mod Rows
-pub mod Stored
 pub mod TieSums
 pub mod TollParts
+pub mod Written

@@ -9,7 +9,8 @@ use Rattle.std.proofs.lemmas.List.{get_or_past}
 use Rattle.pra_list.proofs.Truths.{true_false}
 use Rattle.pra_list.proofs.Options.{not_both}
 use Rattle.pra_base.specs.declared.ids.Place.{Place}
-use Rattle.pra_base.specs.Places.{number, place_count}
+use Rattle.pra_base.specs.Places.{number, place_count, place_at}
+use Rattle.pra_base.proofs.PlaceNumbers.{place_at-number, number-place_at, number_below}
 use Rattle.net_cost.specs.declared.weights.Weights.{Weights}
 use Rattle.net_cost.specs.Weights.{IsValid}
 use Rattle.net_form.specs.declared.net.Net.{Net}
@@ -19,6 +20,7 @@ use Rattle.net_form.specs.Cost.{way_cost, extras_cost}
 use Rattle.net_form.specs.Tables.{all_tables}
 use Rattle.net_form.proofs.Layers.{in_layers}
 use Rattle.net_laws.specs.Built.{IsBuilt}
+use Rattle.net_dual.specs.Leasts.{cost_at, IsLeastOf, IsCostWithin}
 use Rattle.net_dual.specs.Priced.{edge_price, cap_part, mem_part, exit_part, entry_part}
 use Rattle.net_dual.specs.Priced.{AreInRange}
 use Rattle.net_dual.specs.Paths.{path_price, IsPath, IsLeastCost, any_ends}
@@ -27,13 +29,11 @@ use Rattle.net_dual.specs.Small.{IsWithin, most_sum}
 use Rattle.net_dual.proofs.Duality.{anywhere}
 use Rattle.net_dual.proofs.Small.{part_is_small}
 use Rattle.cert_check.specs.Tolls.{edge, toll, way_price}
-use Rattle.cert_check.specs.Pass.{coming, LeadsTo, IsLeastTo, IsReached, IsRow, cost_at, place_at}
-use Rattle.cert_check.specs.Pass.{via, paid, IsLeastOf, IsCostWithin, HasPath}
-use Rattle.cert_check.specs.Pass.{IsRowBefore}
+use Rattle.cert_check.specs.Pass.{coming, LeadsTo, IsLeastTo, IsReached, IsRow, IsRowBefore}
+use Rattle.cert_check.specs.Pass.{via, paid, HasPath}
 use Rattle.cert_check.proofs.Coming.{All-one, comes, came_on, comes_on, price_on}
 use Rattle.cert_check.proofs.Coming.{nothing_before}
 use Rattle.cert_check.proofs.Guarded.{guarded, guarded_some, guarded_is}
-use Rattle.cert_check.proofs.PlaceNumbers.{place_at-number, number-place_at, number_below}
 use Rattle.std.proofs.Common.{length-append}
 
 in_parts : (a b : ℕ) (c m x y : ℤ)

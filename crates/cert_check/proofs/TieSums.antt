@@ -13,8 +13,8 @@ use Rattle.net_form.specs.declared.net.BlockEnd.{BlockEnd}
 use Rattle.net_form.specs.declared.prices.Prices.{Prices}
 use Rattle.net_dual.specs.Priced.{pay, slot_price, AreInRange}
 use Rattle.net_dual.specs.Small.{IsWithin}
+use Rattle.net_dual.proofs.Totals.{sum_more}
 use Rattle.cert_check.specs.Tolls.{strand_of, ties_sum, HasAdded, AreSumsWithin, AreNumbersWithin}
-use Rattle.cert_check.proofs.Numbered.{sum_more}
 
 -- ---- a whole tie
 

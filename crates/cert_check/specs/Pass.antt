@@ -3,33 +3,20 @@
 -- without cycles).
 use Rattle.std.specs.Prelude.{◌≡◌, ℕ, suc, ◌+◌, ◌<◌, ◌≤◌, if◌then◌else◌, ℤ, ◌+ℤ◌, ◌≤ℤ◌, List, []}
 use Rattle.std.specs.Prelude.{◌∷◌, ◌++◌, length, slice_index_or, All, Option, Some, None}
-use Rattle.std.specs.Prelude.{option_map, IsTrue, IfSome}
+use Rattle.std.specs.Prelude.{option_map, IsTrue}
 use Rattle.std.specs.List.{range_with_len}
 use Rattle.pra_base.specs.declared.ids.Place.{Place}
-use Rattle.pra_base.specs.declared.ids.Place.TheVariants.{Eax}
-use Rattle.pra_base.specs.Places.{number, all_places}
+use Rattle.pra_base.specs.Places.{number}
 use Rattle.net_cost.specs.declared.weights.Weights.{Weights}
 use Rattle.net_form.specs.declared.net.Net.{Net}
 use Rattle.net_form.specs.declared.prices.Prices.{Prices}
 use Rattle.net_form.specs.Admitted.{strand_at, in_mask, stays_across}
 use Rattle.net_form.specs.Flow.{Edge}
+use Rattle.net_dual.specs.Leasts.{cost_at, IsCostWithin}
 use Rattle.net_dual.specs.Paths.{path_edges, path_price, IsPath, IsLeast, any_ends, Anywhere}
 use Rattle.net_dual.specs.Priced.{total}
-use Rattle.net_dual.specs.Small.{IsWithin, most_sum}
+use Rattle.net_dual.specs.Small.{most_sum}
 use Rattle.cert_check.specs.Tolls.{edge, toll, way_price}
-
--- ---- the least of some numbers that may be there
-
--- of the first n
-abbrev pub IsLeastOf : (ℕ → Option ℤ) → ℕ → Option ℤ → Type 0
-IsLeastOf f n None = (k : ℕ) → k < n → f k ≡ None
-IsLeastOf f n (Some z) =
-    ((k : ℕ) × (k < n) × (f k ≡ Some z)) ×
-    ((k : ℕ) (d : ℤ) → k < n → f k ≡ Some d → z ≤ℤ d)
-
--- the place of a number
-abbrev pub place_at : ℕ → Place
-place_at k = slice_index_or all_places k Eax
 
 -- ---- ways to a place
 
@@ -57,13 +44,6 @@ IsReached net price s l q None = (before : List Place) → LeadsTo net s l q bef
 IsReached net price s l q (Some z) = IsLeastTo net price s l q z
 
 -- ---- rows
-
--- what a row has for a place
-abbrev pub cost_at : List (Option ℤ) → ℕ → Option ℤ
-cost_at row k = slice_index_or row k None
-
-abbrev pub IsCostWithin : ℕ → Option ℤ → Type 0
-IsCostWithin n cost = IfSome cost (IsWithin n)
 
 -- so small that sums with what is paid at a layer fit
 abbrev pub AreWithin : List (Option ℤ) → Type 0

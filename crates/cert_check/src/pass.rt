@@ -1,17 +1,16 @@
 // The pass over the layers of a strand.
 
 ghost use Rattle.std.specs.Prelude.{◌≡◌, ◌<◌, ◌+◌, ◌^◌, ℕ, ℤ, Option, Some, None, length};
-ghost use Rattle.pra_base.specs.Places.{place_count};
+ghost use Rattle.pra_base.specs.Places.{place_count, place_at};
 ghost use Rattle.net_cost.specs.Models.{Keeps, weights_of};
 ghost use Rattle.net_form.specs.Admitted.{strand_at};
+ghost use Rattle.net_dual.specs.Leasts.{IsLeastOf, IsCostWithin, cost_at};
 ghost use Rattle.net_dual.specs.Paths.{IsLeastCost, any_ends, Anywhere};
 ghost use Rattle.net_dual.specs.Priced.{edge_price};
 ghost use Rattle.net_dual.specs.Small.{IsWithin, most_sum};
 ghost use Rattle.net_laws.specs.Built.{IsBuilt};
 ghost use Rattle.cert_check.specs.Tolls.{AreTolls, IsSpot, way_price};
-ghost use Rattle.cert_check.specs.Pass.{IsLeastOf, IsRow, IsRowBefore, AreWithin, IsCostWithin};
-ghost use Rattle.cert_check.specs.Pass.{HasPath};
-ghost use Rattle.cert_check.specs.Pass.{cost_at, place_at, via, paid};
+ghost use Rattle.cert_check.specs.Pass.{IsRow, IsRowBefore, AreWithin, HasPath, via, paid};
 
 use crate::places::{PLACES, place_at};
 use crate::sums::{add, in_units};

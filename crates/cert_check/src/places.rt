@@ -1,8 +1,7 @@
 // Places by their numbers.
 
 ghost use Rattle.std.specs.Prelude.{◌≡◌, ◌<◌};
-ghost use Rattle.pra_base.specs.Places.{place_count};
-ghost use Rattle.cert_check.specs.Pass.{place_at};
+ghost use Rattle.pra_base.specs.Places.{place_count, place_at};
 
 use pra_base::Place;
 

@@ -30,6 +30,7 @@ use Rattle.pra_base.specs.declared.code.End.{End}
 use Rattle.pra_base.specs.declared.code.End.TheVariants.{Jump, Branch, Return}
 use Rattle.pra_base.specs.declared.code.Block.{Block}
 use Rattle.pra_base.specs.Places.{number, numbered}
+use Rattle.pra_base.proofs.PlaceNumbers.{numbered-number}
 use Rattle.ia_code.specs.DecodeTable.{cond_number}
 use Rattle.ia_code.specs.Reading.{cond_of}
 use Rattle.cert_form.specs.declared.table.Form.{Form}
@@ -411,25 +412,9 @@ place_small place.EbxM = omega arith
 place_small place.EsiM = omega arith
 place_small place.EdiM = omega arith
 
-place_back : (p : Place) → numbered (number p) ≡ Some p
-place_back place.Eax = refl
-place_back place.Ecx = refl
-place_back place.Edx = refl
-place_back place.Ebx = refl
-place_back place.Esi = refl
-place_back place.Edi = refl
-place_back place.Mem = refl
-place_back place.Const = refl
-place_back place.EaxM = refl
-place_back place.EcxM = refl
-place_back place.EdxM = refl
-place_back place.EbxM = refl
-place_back place.EsiM = refl
-place_back place.EdiM = refl
-
 place_read : (p : Place) → Unit {0} → place_of (place_data p) ≡ Some p
 place_read p h = one (natural_of (natural (number p))) (number p) numbered
-    (natural_read (number p) (place_small p)) ∙ place_back p
+    (natural_read (number p) (place_small p)) ∙ numbered-number p
 
 all_units : {A : Type 0} (xs : List A) → Each (λ (x : A). Unit {0}) xs
 all_units [] = tt

@@ -1,10 +1,11 @@
 -- Sums of signed numbers, in any order and by key.
 use Rattle.std.proofs.Common.{ℕ, zero, suc, ◌+◌, ◌*◌, ◌<◌, ◌≤◌, ◌≡◌, Bool, true, false, ◌&&◌, eqb}
 use Rattle.std.proofs.Common.{ℤ, pos, ◌+ℤ◌, ◌-ℤ◌, ◌≤ℤ◌}
-use Rattle.std.proofs.Common.{List, [], ◌∷◌, ◌++◌, length, get_or, count_by, sum_by, sum}
+use Rattle.std.proofs.Common.{List, [], ◌∷◌, ◌++◌, length, get_or, take, count_by, sum_by, sum}
 use Rattle.std.proofs.Common.{slice_index, IsPermutation, refl, sym, ap, ◌∙◌}
-use Rattle.std.proofs.Common.{All, arith, inl, inr, append_assoc, length-append}
+use Rattle.std.proofs.Common.{All, arith, inl, inr, append_assoc, length-append, length-take}
 use Rattle.std.proofs.lemmas.Int.{ints}
+use Rattle.std.proofs.lemmas.List.{take_more}
 use Rattle.std.proofs.lemmas.Bool.{cases_eq, eq-eqb, ne_eqb}
 use Rattle.std.proofs.lemmas.List.Elements.{All-head, All-tail}
 use Rattle.std.proofs.lemmas.List.Sums.{sum_by-cons}
@@ -13,6 +14,7 @@ use Rattle.std.proofs.Math.Seq.{get_or-append_seam}
 use Rattle.std.specs.List.{range_with_len, enumerate_from}
 use borrow.Author.Differences.{up, down}
 use Rattle.pra_list.proofs.Counts.{bit, count-cons}
+use Rattle.pra_list.proofs.Growing.{enumerate_more}
 use Rattle.net_dual.specs.Priced.{total, pay}
 
 pub total-append : {X : Type 0} (f : X → ℤ) → (xs ys : List X)
@@ -195,6 +197,20 @@ pub enumerated-range : {X : Type 0} (g : ℕ → ℤ) (k : ℕ) (xs : List X)
 enumerated-range g k [] = refl
 enumerated-range g k (x ∷ xs) = let more = enumerated-range g (k + 1) xs in
     omega (arith, ints, more)
+
+-- one element more of the first n, with its number
+pub sum_more : {X : Type 0} (g : (ℕ × X) → ℤ) (xs : List X) (n : ℕ) (d : X) → n < length xs
+    → total g (enumerate_from 0 (take (n + 1) xs))
+    ≡ total g (enumerate_from 0 (take n xs)) +ℤ g (n, get_or xs n d)
+sum_more g xs n d lt =
+    let y = get_or xs n d in
+    let more = ap (λ ys. total g (enumerate_from 0 ys)) (take_more xs n d lt) in
+    let grown = ap (total g) (enumerate_more 0 (take n xs) y) in
+    let sum = total-append g (enumerate_from 0 (take n xs)) ((0 + length (take n xs), y) ∷ []) in
+    let long = length-take n xs in
+    let at : 0 + length (take n xs) ≡ n = omega (arith, long, lt) in
+    let one : g (0 + length (take n xs), y) ≡ g (n, y) = ap (λ k. g (k, y)) at in
+    omega (arith, ints, more, grown, sum, one)
 
 pub sum_by-scale : {X : Type 0} (f : X → ℕ) → (xs : List X)
     → sum_by (λ x. 1024 * f x) xs ≡ 1024 * sum_by f xs

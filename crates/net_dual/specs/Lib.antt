@@ -1,3 +1,4 @@
+pub mod Leasts
 pub mod Paths
 pub mod Priced
 pub mod Small

@@ -10,10 +10,10 @@
 //! well chosen make the value rise; a step of prices follows what the least paths want.
 //!
 //! There is no code here: `specs/` has the definitions that calls above promise, and `laws` what is
-//! proved of them. Read specs/Priced, Paths, Value and Step, in this order, and specs/Small for how
-//! large sums get. What an edge costs is a function that definitions of paths take, so one record,
-//! `IsLeast`, serves least paths with prices and without, with ends that are fixed, and through
-//! what others leave.
+//! proved of them. Read specs/Priced, Paths, Value and Step, in this order, specs/Small for how
+//! large sums get, and specs/Leasts for the least of a row of costs. What an edge costs is a
+//! function that definitions of paths take, so one record, `IsLeast`, serves least paths with
+//! prices and without, with ends that are fixed, and through what others leave.
 #![tactic(auto)]
 
 pub mod laws;

@@ -2,25 +2,9 @@
 use Rattle.std.proofs.Common.{◌≡◌, ◌⊎◌, true, false, Option, Some, None, refl, sym, ap, ◌∙◌, inl, inr, unwrap_or, true≢false}
 use Rattle.std.proofs.lemmas.Bool.{eqb-true, eq-eqb, cases_Bool}
 use Rattle.pra_base.specs.declared.ids.Place.{Place}
-use Rattle.pra_base.specs.declared.ids.Place.TheVariants.{Eax, Ecx, Edx, Ebx, Esi, Edi, Mem, Const, EaxM, EcxM, EdxM, EbxM, EsiM, EdiM}
 use Rattle.pra_base.specs.Places.{number, numbered}
+use Rattle.pra_base.proofs.PlaceNumbers.{numbered-number}
 use Rattle.net_form.specs.Flow.{same_place, same_start}
-
-numbered-number : (p : Place) → numbered (number p) ≡ Some p
-numbered-number Eax = refl
-numbered-number Ecx = refl
-numbered-number Edx = refl
-numbered-number Ebx = refl
-numbered-number Esi = refl
-numbered-number Edi = refl
-numbered-number Mem = refl
-numbered-number Const = refl
-numbered-number EaxM = refl
-numbered-number EcxM = refl
-numbered-number EdxM = refl
-numbered-number EbxM = refl
-numbered-number EsiM = refl
-numbered-number EdiM = refl
 
 pub number-injective : (p q : Place) → number p ≡ number q → p ≡ q
 number-injective p q h =

@@ -11,8 +11,8 @@ use Rattle.net_path.specs.Ways.{at, IsShort, IsLeastWay}
 use Rattle.net_path.specs.Rests.{unreached, Terrain, IsFrom, IsRow, IsBest, IsSlack, AreRows}
 use Rattle.net_path.specs.Rows.{costs_at, cell_bound, slack_at, IsAbout, IsGround, IsCell, AreCells}
 use Rattle.net_path.specs.Rows.{IsPaid, IsRowWithin, IsPaidLayer}
-use Rattle.net_path.proofs.Numbers.{number_below, place_of}
 use Rattle.std.proofs.lemmas.Bool.{cases_eq}
+use Rattle.pra_base.proofs.PlaceNumbers.{number_below, place_of}
 use Rattle.net_path.proofs.Within.{parity, paid_within}
 use Rattle.net_path.proofs.LeastRests.{rest_more, nothing_left}
 

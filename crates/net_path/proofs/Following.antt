@@ -6,6 +6,7 @@ use Rattle.std.proofs.lemmas.Int.{ints}
 use Rattle.std.proofs.Math.Seq.{take-suc-set}
 use Rattle.pra_base.specs.declared.ids.Place.{Place}
 use Rattle.pra_base.specs.Places.{number}
+use Rattle.pra_base.proofs.PlaceNumbers.{number_below}
 use Rattle.net_form.proofs.PlaceEquality.{same_place-refl}
 use Rattle.net_path.specs.declared.crossbar.Ways.{Ways}
 use Rattle.net_path.specs.declared.path.Choice.{Choice}
@@ -13,7 +14,6 @@ use Rattle.net_path.specs.Ways.{at, step_price}
 use Rattle.net_path.specs.Rests.{Terrain, IsBest, Follows}
 use Rattle.net_path.specs.Rows.{IsGround}
 use Rattle.net_path.specs.Choices.{IsBestChoice, IsBestPlace, IsGoodStart}
-use Rattle.net_path.proofs.Numbers.{number_below}
 use Rattle.net_path.proofs.Within.{parity}
 use Rattle.net_path.proofs.Backward.{stays_best}
 

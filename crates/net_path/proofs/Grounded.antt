@@ -6,6 +6,7 @@ use Rattle.std.proofs.lemmas.Int.{ints}
 use Rattle.std.proofs.lemmas.Bool.{eq-eqb, ne_eqb}
 use Rattle.pra_base.specs.declared.ids.Place.{Place}
 use Rattle.pra_base.specs.Places.{number, has_register}
+use Rattle.pra_base.proofs.PlaceNumbers.{number_below}
 use Rattle.pl_moves.specs.Crossbar.{only_if, constant_event, crossbar}
 use Rattle.net_cost.specs.declared.weights.Weights.{Weights}
 use Rattle.net_cost.specs.Weights.{IsValid}
@@ -27,7 +28,6 @@ use Rattle.net_path.specs.declared.crossbar.Row.{Row}
 use Rattle.net_path.specs.Rests.{Terrain, IsBest, AreRows}
 use Rattle.net_path.specs.Rows.{IsGround, AreCells, slack_at}
 use Rattle.net_path.specs.Ways.{AreWays, start_price, step_price, step_of}
-use Rattle.net_path.proofs.Numbers.{number_below}
 use Rattle.net_path.proofs.Steps.{step_is_way, one}
 use Rattle.net_path.proofs.Turned.{turned, turned_ground, turned_cells}
 use Rattle.net_path.proofs.WholeCells.{there_about}

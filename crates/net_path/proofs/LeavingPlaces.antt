@@ -5,13 +5,13 @@ use Rattle.std.proofs.lemmas.Int.{ints}
 use Rattle.std.proofs.lemmas.Bool.{ne_eqb}
 use Rattle.std.proofs.lemmas.Bool.Decides.{nat_tests}
 use Rattle.pra_base.specs.Places.{number, has_register, register_of, needs_slot}
+use Rattle.pra_base.proofs.PlaceNumbers.{number_below}
 use Rattle.net_path.specs.declared.crossbar.Ways.{Ways}
 use Rattle.net_path.specs.declared.path.Choice.{Choice}
 use Rattle.net_path.specs.declared.path.Leaving.{Leaving}
 use Rattle.net_path.specs.Choices.{IsBestChoice}
 use Rattle.net_path.specs.Leaving.{IsLeaving, into_register, into_memory, leaving_price}
 use Rattle.net_path.specs.Ways.{at, bring_price, step_price}
-use Rattle.net_path.proofs.Numbers.{number_below}
 
 turned : (a b : ℕ) → eqb a b ≡ eqb b a
 turned a b = grind (arith, nat_tests)

@@ -16,7 +16,6 @@ pub mod LeastPath
 pub mod LeastRests
 pub mod LeavingPlaces
 pub mod Leasts
-pub mod Numbers
 pub mod OpenPlaces
 pub mod PaidExtras
 pub mod Placed
@@ -27,7 +26,6 @@ pub mod StagedRows
 pub mod Stages
 pub mod Staying
 pub mod Steps
-pub mod Stores
 pub mod TieSums
 pub mod Turned
 pub mod Unused

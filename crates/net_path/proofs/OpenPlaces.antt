@@ -9,9 +9,9 @@ use Rattle.std.proofs.lemmas.Nat.Bits.{bit_at_cat_low, bit_at_cat_high, bit_at-l
 use Rattle.pra_base.specs.declared.ids.Place.{Place}
 use Rattle.pra_base.specs.Places.{number, allows, mask_where, lies_in, only, without}
 use Rattle.pra_base.specs.Places.{has_register, register_of}
+use Rattle.pra_base.proofs.PlaceNumbers.{number_below}
 use Rattle.net_form.specs.Flow.{same_place}
 use Rattle.net_laws.proofs.Bits.{allows_meet}
-use Rattle.net_path.proofs.Numbers.{number_below}
 
 -- the bits below n of those that pass a test
 abbrev bits : (ℕ → Bool) → ℕ → ℕ

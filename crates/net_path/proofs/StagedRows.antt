@@ -6,6 +6,7 @@ use Rattle.std.proofs.lemmas.Int.{ints}
 use Rattle.std.proofs.lemmas.Bool.{cases_eq}
 use Rattle.pra_base.specs.declared.ids.Place.{Place}
 use Rattle.pra_base.specs.Places.{number}
+use Rattle.pra_base.proofs.PlaceNumbers.{place_of}
 use Rattle.net_cost.specs.declared.weights.Weights.{Weights}
 use Rattle.net_cost.specs.Weights.{IsValid}
 use Rattle.net_form.specs.declared.net.Net.{Net}
@@ -26,7 +27,6 @@ use Rattle.net_path.specs.Rows.{costs_at, no_row, IsAbout, IsCell, AreCellsWithi
 use Rattle.net_path.specs.Ties.{HaveTieRoom, ArePaidInAll, IsSumMore, exit_ties, entry_ties}
 use Rattle.net_path.specs.Ties.{tie_pay}
 use Rattle.net_path.specs.Ways.{at}
-use Rattle.net_path.proofs.Numbers.{place_of}
 use Rattle.net_path.proofs.Stages.{with_pairs, mem_about, exit_about, exits_pay, entries_pay}
 use Rattle.net_path.proofs.Stages.{cell_more, cell_same, room_of, whole_price}
 use Rattle.net_path.proofs.WholeCells.{no_exit, no_entry, alone_about, there_about}

@@ -1,7 +1,6 @@
 -- What several ties add.
-use Rattle.std.proofs.Common.{ℕ, zero, suc, ◌≡◌, ◌+◌, ◌*◌, ◌^◌, Bool, true, false, ℤ, pos, ◌+ℤ◌}
-use Rattle.std.proofs.Common.{◌-ℤ◌, List, [], ◌∷◌, ◌++◌, length, ap, ◌∙◌, inl, inr, arith}
-use Rattle.std.specs.List.{range_with_len}
+use Rattle.std.proofs.Common.{ℕ, ◌≡◌, ◌*◌, ◌^◌, Bool, true, false, ℤ, pos, ◌+ℤ◌, ◌-ℤ◌, List}
+use Rattle.std.proofs.Common.{[], ◌∷◌, length, inl, inr, arith}
 use Rattle.std.proofs.lemmas.Int.{ints}
 use Rattle.pra_base.specs.declared.ids.Place.{Place}
 use Rattle.pra_base.specs.Places.{number}
@@ -21,13 +20,6 @@ about_sum f (x ∷ xs) each =
     let one = each x in
     let more = about_sum f xs each in
     (omega (arith, ints, one, more), omega (arith, ints, one, more))
-
-pub last_range : (a n : ℕ) → range_with_len a (n + 1) ≡ range_with_len a n ++ (a + n) ∷ []
-last_range a zero = let e : a ≡ a + 0 = omega arith in ap (λ (k : ℕ). k ∷ []) e
-last_range a (suc n) = let e : a + 1 + n ≡ a + suc n = omega arith in
-    let g : suc n + 1 ≡ suc (n + 1) = omega arith in
-    rw g (ap (λ (xs : List ℕ). a ∷ xs)
-    (last_range (a + 1) n ∙ ap (λ (k : ℕ). range_with_len (a + 1) n ++ k ∷ []) e))
 
 -- nothing is added yet
 pub none_more : (costs : List ℤ) → ArePaidInAll (λ _. pos 0) costs costs

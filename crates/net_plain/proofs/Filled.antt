@@ -6,7 +6,8 @@ use Rattle.std.proofs.Common.{inr, arith}
 use Rattle.std.proofs.lemmas.Bool.{cases_eq, cases_lt}
 use Rattle.std.proofs.lemmas.List.{get_or_past, get_or-replicate}
 use Rattle.pra_base.specs.declared.ids.Place.{Place}
-use Rattle.pra_base.specs.Places.{number}
+use Rattle.pra_base.specs.Places.{number, place_at}
+use Rattle.pra_base.proofs.PlaceNumbers.{number_below, place_at-number}
 use Rattle.net_cost.specs.declared.weights.Weights.{Weights}
 use Rattle.net_cost.specs.Weights.{IsValid}
 use Rattle.net_form.specs.declared.net.Net.{Net}
@@ -16,10 +17,9 @@ use Rattle.net_form.specs.declared.taken.Taken.{Taken}
 use Rattle.net_form.specs.Admitted.{strand_at}
 use Rattle.net_laws.specs.Built.{IsBuilt}
 use Rattle.net_dual.specs.Priced.{AreInRange}
-use Rattle.net_plain.specs.Rows.{IsCostWithin, AreWithin, cost_at, place_at}
+use Rattle.net_dual.specs.Leasts.{IsCostWithin, cost_at}
+use Rattle.net_plain.specs.Rows.{AreWithin}
 use Rattle.net_plain.specs.Rests.{IsRest, AreRests}
-use Rattle.net_path.proofs.Numbers.{number_below}
-use Rattle.net_plain.proofs.PlaceNumbers.{place_at-number}
 use Rattle.net_plain.proofs.LeastRests.{nothing_more}
 use Rattle.net_plain.proofs.Whole.{rest_within}
 

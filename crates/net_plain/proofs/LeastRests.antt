@@ -6,7 +6,8 @@ use Rattle.std.proofs.lemmas.Int.{ints}
 use Rattle.std.proofs.lemmas.List.Elements.{All-nil, All-cons, All-head, All-tail}
 use Rattle.pra_list.proofs.Options.{not_both}
 use Rattle.pra_base.specs.declared.ids.Place.{Place}
-use Rattle.pra_base.specs.Places.{number}
+use Rattle.pra_base.specs.Places.{number, place_at}
+use Rattle.pra_base.proofs.PlaceNumbers.{number_below, place_at-number, number-place_at}
 use Rattle.net_cost.specs.declared.weights.Weights.{Weights}
 use Rattle.net_form.specs.declared.net.Net.{Net}
 use Rattle.net_form.specs.declared.prices.Prices.{Prices}
@@ -17,13 +18,12 @@ use Rattle.net_form.specs.Cost.{way_cost}
 use Rattle.net_form.specs.Flow.{edges}
 use Rattle.net_form.specs.Tables.{all_tables}
 use Rattle.net_dual.specs.Priced.{edge_price}
+use Rattle.net_dual.specs.Leasts.{IsLeastOf, cost_at}
 use Rattle.net_path.specs.Grounds.{edge, is_free, is_open, there_price}
-use Rattle.net_plain.specs.Rows.{IsLeastOf, place_at, cost_at, there, coming}
+use Rattle.net_plain.specs.Rows.{there, coming}
 use Rattle.net_plain.specs.Rests.{MayTake, Passes, rest_price, IsLong, IsCostOf, IsLeastRest}
 use Rattle.net_plain.specs.Rests.{IsRest}
 use Rattle.net_plain.proofs.Costs.{added_some, added_is, some_or_none}
-use Rattle.net_path.proofs.Numbers.{number_below}
-use Rattle.net_plain.proofs.PlaceNumbers.{place_at-number, number-place_at}
 
 module _ (net : Net) (w : Weights) (prices : Prices) (ends : Ends) (taken : Taken) (s : ℕ) where
   -- what an edge pays is what is paid there, and its way

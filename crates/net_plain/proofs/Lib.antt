@@ -2,8 +2,5 @@ pub mod Costs
 pub mod Filled
 pub mod Fronts
 pub mod LeastRests
-pub mod Numbered
 pub mod Pairs
-pub mod PlaceNumbers
-pub mod Stored
 pub mod Whole

@@ -17,12 +17,12 @@ use Rattle.net_laws.specs.Built.{IsBuilt}
 use Rattle.net_dual.specs.Priced.{most_price, edge_price, AreInRange}
 use Rattle.net_dual.specs.Paths.{MayGo, IsLeastCost, path_edges, path_price}
 use Rattle.net_dual.specs.Small.{IsWithin, most_sum}
+use Rattle.net_dual.specs.Leasts.{IsCostWithin}
 use Rattle.net_dual.proofs.Small.{edge_small, path_is_small}
 use Rattle.net_dual.proofs.Within.{within-more, within-add, within-pos}
 use Rattle.net_path.specs.Grounds.{edge, is_free}
 use Rattle.net_path.proofs.GoodPaths.{good_of, path_of}
 use Rattle.net_path.proofs.Unused.{to_free, from_free}
-use Rattle.net_plain.specs.Rows.{IsCostWithin}
 use Rattle.net_plain.specs.Rests.{Passes, rest_price, IsLong, IsCostOf, IsRest}
 
 most_if : (b : Bool) (n : ℕ) → cond b n 0 ≤ n

@@ -12,8 +12,9 @@ use Rattle.net_form.specs.declared.taken.Taken.{Taken}
 use Rattle.net_form.specs.Admitted.{strand_at, stays_across}
 use Rattle.net_form.specs.Flow.{Edge, edges}
 use Rattle.net_dual.specs.Priced.{total, edge_price}
+use Rattle.net_dual.specs.Leasts.{cost_at}
 use Rattle.net_path.specs.Grounds.{is_free, is_open}
-use Rattle.net_plain.specs.Rows.{AreWithin, cost_at}
+use Rattle.net_plain.specs.Rows.{AreWithin}
 
 -- an edge that a path of strand s may take
 abbrev pub MayTake : Net → Ends → Taken → ℕ → Edge → Type 0

@@ -1,10 +1,8 @@
 -- The layers of a strand, and numbers for their places.
 use Rattle.std.specs.Prelude.{◌≡◌, ℕ, ◌+◌, ◌*◌, ◌^◌, ◌<◌, ◌≤◌, Bool, if◌then◌else◌, ℤ, pos, ◌+ℤ◌}
-use Rattle.std.specs.Prelude.{◌≤ℤ◌}
-use Rattle.std.specs.Prelude.{List, length, slice_index_or, Option, Some, None, option_map, IfSome}
+use Rattle.std.specs.Prelude.{List, length, slice_index_or, Option, Some, None, option_map}
 use Rattle.pra_base.specs.declared.ids.Place.{Place}
-use Rattle.pra_base.specs.declared.ids.Place.TheVariants.{Eax}
-use Rattle.pra_base.specs.Places.{all_places, place_count}
+use Rattle.pra_base.specs.Places.{place_count, place_at}
 use Rattle.net_cost.specs.declared.weights.Weights.{Weights}
 use Rattle.net_form.specs.declared.net.Net.{Net}
 use Rattle.net_form.specs.declared.net.Tie.{Tie}
@@ -15,8 +13,8 @@ use Rattle.net_form.specs.Admitted.{strand_at, stays_across}
 use Rattle.net_form.specs.Cost.{way_cost}
 use Rattle.net_form.specs.Rooms.{tie_numbers}
 use Rattle.net_form.specs.Tables.{all_tables}
+use Rattle.net_dual.specs.Leasts.{cost_at, IsCostWithin}
 use Rattle.net_dual.specs.Priced.{price_unit}
-use Rattle.net_dual.specs.Small.{IsWithin}
 use Rattle.net_path.specs.Grounds.{edge, is_free, is_open, there_price}
 use Rattle.net_plain.specs.declared.open.Spot.{Spot}
 
@@ -38,29 +36,11 @@ abbrev pub number_in : List ℤ → ℕ → Option ℕ → ℤ
 number_in numbers tie None = pos 0
 number_in numbers tie (Some slot) = slice_index_or numbers (tie_numbers * tie + slot) (pos 0)
 
--- the place of a number
-abbrev pub place_at : ℕ → Place
-place_at k = slice_index_or all_places k Eax
-
 -- ---- numbers that may be there
-
--- the least of the first n
-abbrev pub IsLeastOf : (ℕ → Option ℤ) → ℕ → Option ℤ → Type 0
-IsLeastOf f n None = (k : ℕ) → k < n → f k ≡ None
-IsLeastOf f n (Some z) =
-    ((k : ℕ) × (k < n) × (f k ≡ Some z)) ×
-    ((k : ℕ) (d : ℤ) → k < n → f k ≡ Some d → z ≤ℤ d)
 
 -- z is added where the test holds, else nothing is left
 abbrev pub plus_if : Bool → ℤ → Option ℤ → Option ℤ
 plus_if b z o = if b then option_map (λ d. d +ℤ z) o else None
-
--- what a row has for the place of a number
-abbrev pub cost_at : List (Option ℤ) → ℕ → Option ℤ
-cost_at row k = slice_index_or row k None
-
-abbrev pub IsCostWithin : ℕ → Option ℤ → Type 0
-IsCostWithin n cost = IfSome cost (IsWithin n)
 
 abbrev pub AreWithin : ℕ → List (Option ℤ) → Type 0
 AreWithin n row = (k : ℕ) → IsCostWithin n (cost_at row k)

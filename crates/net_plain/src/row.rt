@@ -1,8 +1,8 @@
 // Places by their numbers, and the least of numbers that may be there.
 
 ghost use Rattle.std.specs.Prelude.{◌≡◌, ◌<◌, ◌+◌, ℕ, ℤ, Option};
-ghost use Rattle.pra_base.specs.Places.{place_count};
-ghost use Rattle.net_plain.specs.Rows.{IsLeastOf, place_at};
+ghost use Rattle.pra_base.specs.Places.{place_count, place_at};
+ghost use Rattle.net_dual.specs.Leasts.{IsLeastOf};
 
 use pra_base::Place;
 

@@ -1,15 +1,15 @@
 // One layer of a path: what it costs to come to a place there, to be there, and to go on.
 
 ghost use Rattle.std.specs.Prelude.{◌≡◌, ◌^◌, ℕ, suc, None, length};
-ghost use Rattle.pra_base.specs.Places.{place_count};
+ghost use Rattle.pra_base.specs.Places.{place_count, place_at};
 ghost use Rattle.net_cost.specs.Models.{Keeps, weights_of};
+ghost use Rattle.net_dual.specs.Leasts.{IsCostWithin, IsLeastOf, cost_at};
 ghost use Rattle.net_dual.specs.Priced.{AreInRange};
 ghost use Rattle.net_form.specs.Admitted.{stays_across};
 ghost use Rattle.net_form.specs.Rooms.{IsRoomOf};
 ghost use Rattle.net_laws.specs.Built.{IsBuilt};
 ghost use Rattle.net_path.specs.Grounds.{edge};
-ghost use Rattle.net_plain.specs.Rows.{IsSpot, IsCostWithin, AreWithin, IsLeastOf, place_at};
-ghost use Rattle.net_plain.specs.Rows.{cost_at, there, coming, IsRowOf};
+ghost use Rattle.net_plain.specs.Rows.{IsSpot, AreWithin, there, coming, IsRowOf};
 ghost use Rattle.net_plain.specs.Rests.{AreRests, IsRest};
 
 use crate::open::{Spot, is_open};

@@ -6,13 +6,13 @@ use Rattle.std.specs.Int.Signed.{mag}
 use Rattle.std.proofs.lemmas.Int.{ints}
 use Rattle.std.proofs.lemmas.Bool.{cases_eq}
 use Rattle.pra_list.proofs.Comprehensions.{All-range}
+use Rattle.pra_list.proofs.Growing.{last_range}
 use Rattle.net_form.specs.declared.net.Net.{Net}
 use Rattle.net_form.specs.declared.routes.Routes.{Routes}
 use Rattle.net_form.specs.Flow.{Edge}
 use Rattle.net_dual.specs.Priced.{total}
 use Rattle.net_dual.specs.Paths.{path_price, path_in, IsLeast, Anywhere, any_ends}
 use Rattle.net_dual.proofs.Totals.{total-append, total-agree}
-use Rattle.net_path.proofs.TieSums.{last_range}
 
 pub family_more : (net : Net) (price : Edge → ℤ) (old new : Routes) (k : ℕ)
     → ((s : ℕ) → s ≢ k → path_in new s ≡ path_in old s)

@@ -1,7 +1,8 @@
 -- The places where a value may stand, as numbers, and the readings of a number. All that is said of
 -- places goes through these.
 use Rattle.std.specs.Prelude.{ℕ, Bool, nat_eq, nat_lt, nat_le, ◌-◌, not, ◌&&◌, ◌||◌, ◌^◌}
-use Rattle.std.specs.Prelude.{if◌then◌else◌, List, [], ◌∷◌, Option, find, sum_by, bit_and, bit_or}
+use Rattle.std.specs.Prelude.{if◌then◌else◌, List, [], ◌∷◌, slice_index_or, Option, find, sum_by}
+use Rattle.std.specs.Prelude.{bit_and, bit_or}
 use Rattle.std.specs.List.{range_with_len}
 use Rattle.std.specs.Int.{bit_at}
 use Rattle.pra_base.specs.declared.ids.Place.{Place}
@@ -31,6 +32,10 @@ all_places =
 -- the place of a number
 abbrev pub numbered : ℕ → Option Place
 numbered p = find (λ place. nat_eq (number place) p) all_places
+
+-- the same, of a number that is one of a place
+abbrev pub place_at : ℕ → Place
+place_at p = slice_index_or all_places p Eax
 
 abbrev pub place_count : ℕ
 place_count = 14

@@ -4,6 +4,7 @@ pub mod Comprehensions
 pub mod Counts
 pub mod Each
 pub mod Elements
+pub mod Growing
 pub mod Mapped
 pub mod Options
 pub mod Results

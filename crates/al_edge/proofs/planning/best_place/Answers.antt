@@ -1,6 +1,6 @@
 use Rattle.pra_base.specs.declared.ids.Place.TheVariants.{Mem}
+use Rattle.pra_base.proofs.PlaceNumbers.{number_below}
 use Rattle.net_cost.specs.Models.{weights_of}
-use Rattle.net_path.proofs.Numbers.{number_below}
 use Rattle.al_edge.specs.Cheapest.{slot}
 use Rattle.al_edge.proofs.OpenPlaces.{memory_suits}
 use Rattle.al_edge.proofs.Sums.{best, some_weight}

@@ -2,7 +2,7 @@ use Rattle.std.proofs.Common.{◌≡◌, ◌∙◌, ℤ, pos, length-set, get_or
 use Rattle.std.proofs.Common.{to_z, of_z, arith}
 use Rattle.std.specs.Int.{w128}
 use Rattle.std.proofs.lemmas.Int.{ints, to_z-of_z}
-use Rattle.net_path.proofs.Stores.{stored}
+use Rattle.pra_list.proofs.Growing.{stored}
 use Rattle.al_edge.specs.Totals.{IsAdded, number_at}
 use Rattle.al_edge.proofs.weights.add_all.Goals as goal
 
@@ -25,7 +25,7 @@ loop-number-preserved c =
     } in record {
       long = omega (arith, length-set {A = ℤ}, c.loop-number.invariant.long);
       added = rw whole (stored (λ j z. IsAdded (number_at first j) (number_at costs j) z) totals
-          (pos 0) k c.add.result (omega (arith, c.loop-number.invariant.long))
+          k c.add.result (pos 0) (omega (arith, c.loop-number.invariant.long))
           c.loop-number.invariant.added here);
       left = λ j le. get_or-set_other totals k j _ (pos 0) (omega arith)
           ∙ c.loop-number.invariant.left j (omega arith);

@@ -3,10 +3,10 @@ use Rattle.std.proofs.Common.{refl, ap, sym, subst, ◌∙◌, arith}
 use Rattle.std.proofs.lemmas.Int.{ints}
 use Rattle.std.proofs.lemmas.List.{take_more, take_all}
 use Rattle.pra_base.specs.Places.{number}
+use Rattle.pra_base.proofs.PlaceNumbers.{number_below}
 use Rattle.net_cost.specs.Models.{weights_of}
 use Rattle.net_form.specs.declared.net.BlockEnd.TheVariants.{Entry}
 use Rattle.net_form.specs.declared.net.TieEnd.{TieEnd}
-use Rattle.net_path.proofs.Numbers.{number_below}
 use Rattle.al_edge.specs.GroupEnds.{ends_of, counts}
 use Rattle.al_edge.specs.Totals.{number_at}
 use Rattle.al_edge.specs.Weighed.{IsCostAt, IsSumAt}

@@ -1,7 +1,7 @@
 use Rattle.std.proofs.Common.{ℤ, Option, sym, subst, ◌∙◌}
 use Rattle.pra_base.specs.Places.{number}
+use Rattle.pra_base.proofs.PlaceNumbers.{number_below}
 use Rattle.net_cost.specs.Models.{weights_of}
-use Rattle.net_path.proofs.Numbers.{number_below}
 use Rattle.al_edge.specs.OpenPlaces.{suits_all}
 use Rattle.al_edge.specs.Totals.{opened, number_at}
 use Rattle.al_edge.specs.Weighed.{IsSlot, IsWeight}

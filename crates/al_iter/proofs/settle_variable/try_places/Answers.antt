@@ -4,10 +4,10 @@ use Rattle.std.proofs.lemmas.Bool.{cases_eq}
 use Rattle.pra_base.specs.declared.ids.Place.{Place}
 use Rattle.pra_base.specs.declared.ids.Place.TheVariants.{Mem}
 use Rattle.pra_base.specs.Places.{number}
+use Rattle.pra_base.proofs.PlaceNumbers.{number_below}
 use Rattle.net_cost.specs.Models.{weights_of}
 use Rattle.net_form.specs.declared.taken.Taken.{Taken}
 use Rattle.net_form.proofs.PlaceEquality.{number-injective}
-use Rattle.net_path.proofs.Numbers.{number_below}
 use Rattle.al_iter.specs.SettleSums.{PayAtLeast}
 use Rattle.al_iter.proofs.SettleShut.{pay_less, pay_untied}
 use Rattle.al_iter.proofs.SettleVariable.{sum_positive}

@@ -1,6 +1,7 @@
 use Rattle.std.proofs.Common.{◌∙◌, ◌^◌, ap, sym}
+use Rattle.pra_base.specs.Places.{place_at}
 use Rattle.net_cost.specs.Models.{weights_of}
-use Rattle.cert_check.specs.Pass.{via, place_at}
+use Rattle.cert_check.specs.Pass.{via}
 use Rattle.cert_check.proofs.pass.come_to.Goals as goal
 
 pub loop-at-preserved : goal.loop-at-preserved

@@ -1,6 +1,8 @@
 use Rattle.std.proofs.Common.{◌^◌}
+use Rattle.pra_base.specs.Places.{place_at}
 use Rattle.net_cost.specs.Models.{weights_of}
-use Rattle.cert_check.specs.Pass.{IsLeastOf, IsCostWithin, via, place_at}
+use Rattle.net_dual.specs.Leasts.{IsLeastOf, IsCostWithin}
+use Rattle.cert_check.specs.Pass.{via}
 use Rattle.cert_check.proofs.pass.come_to.Given as goal
 
 abbrev pub invariant-loop-at : goal.invariant-loop-at

@@ -1,10 +1,11 @@
 use Rattle.std.proofs.Common.{◌≡◌, ◌∙◌, Some, None, length-set, ap, sym, subst, arith}
+use Rattle.pra_list.proofs.Growing.{stored}
+use Rattle.pra_base.specs.Places.{place_at}
 use Rattle.net_cost.specs.Models.{weights_of}
 use Rattle.net_dual.specs.Priced.{edge_price}
 use Rattle.cert_check.specs.Tolls.{way_price}
-use Rattle.cert_check.specs.Pass.{IsReached, place_at, paid}
+use Rattle.cert_check.specs.Pass.{IsReached, paid}
 use Rattle.cert_check.proofs.Rows.{first_paid_at, row_of}
-use Rattle.cert_check.proofs.Stored.{stored}
 use Rattle.cert_check.proofs.pass.first_row.Goals as goal
 
 pub loop-at-preserved : goal.loop-at-preserved

@@ -5,8 +5,8 @@ use Rattle.net_form.specs.Admitted.{strand_at, no_strand}
 use Rattle.net_dual.specs.Priced.{edge_price}
 use Rattle.net_dual.specs.Paths.{IsLeastCost, any_ends, Anywhere}
 use Rattle.net_dual.specs.Small.{IsWithin, most_sum}
-use Rattle.cert_check.specs.Pass.{IsLeastOf, cost_at}
-use Rattle.cert_check.proofs.Crossing.{same_bits}
+use Rattle.net_dual.specs.Leasts.{IsLeastOf, cost_at}
+use Rattle.net_dual.proofs.Leasts.{same_bits}
 use Rattle.cert_check.proofs.Rows.{at_end, least_cost_of, some_least, least_within}
 use Rattle.cert_check.proofs.pass.least_cost.Goals as goal
 

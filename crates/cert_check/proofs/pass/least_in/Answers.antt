@@ -1,5 +1,5 @@
 use Rattle.std.proofs.Common.{refl}
-use Rattle.cert_check.specs.Pass.{cost_at}
+use Rattle.net_dual.specs.Leasts.{cost_at}
 use Rattle.cert_check.proofs.pass.least_in.Goals as goal
 
 pub loop-at-preserved : goal.loop-at-preserved

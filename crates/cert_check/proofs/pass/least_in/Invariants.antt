@@ -1,4 +1,4 @@
-use Rattle.cert_check.specs.Pass.{IsLeastOf, cost_at}
+use Rattle.net_dual.specs.Leasts.{IsLeastOf, cost_at}
 use Rattle.cert_check.proofs.pass.least_in.Given as goal
 
 abbrev pub invariant-loop-at : goal.invariant-loop-at

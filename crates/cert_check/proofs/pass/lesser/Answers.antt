@@ -1,7 +1,7 @@
 use Rattle.std.proofs.Common.{subst, ◌∙◌, arith}
 use Rattle.std.proofs.lemmas.Int.{ints}
-use Rattle.cert_check.specs.Pass.{IsLeastOf}
-use Rattle.cert_check.proofs.Guarded.{lower_more}
+use Rattle.net_dual.specs.Leasts.{IsLeastOf}
+use Rattle.net_dual.proofs.Leasts.{lower_more}
 use Rattle.cert_check.proofs.pass.lesser.Goals as goal
 
 pub returns-then-more-cost-clause-least : goal.returns-then-more-cost-clause-least

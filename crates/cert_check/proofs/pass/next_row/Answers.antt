@@ -1,9 +1,10 @@
 use Rattle.std.proofs.Common.{◌∙◌, None, length-set, sym, subst, arith}
+use Rattle.pra_list.proofs.Growing.{stored}
+use Rattle.pra_base.specs.Places.{place_at}
 use Rattle.net_cost.specs.Models.{weights_of}
 use Rattle.net_dual.specs.Priced.{edge_price}
-use Rattle.cert_check.specs.Pass.{IsReached, place_at}
+use Rattle.cert_check.specs.Pass.{IsReached}
 use Rattle.cert_check.proofs.Rows.{next_paid_at, row_of}
-use Rattle.cert_check.proofs.Stored.{stored}
 use Rattle.cert_check.proofs.pass.next_row.Goals as goal
 
 pub loop-at-preserved : goal.loop-at-preserved

@@ -1,8 +1,9 @@
 use Rattle.std.proofs.Common.{◌≡◌, ◌<◌, ℕ, length}
-use Rattle.pra_base.specs.Places.{place_count}
+use Rattle.pra_base.specs.Places.{place_count, place_at}
 use Rattle.net_cost.specs.Models.{weights_of}
 use Rattle.net_dual.specs.Priced.{edge_price}
-use Rattle.cert_check.specs.Pass.{IsReached, place_at, cost_at}
+use Rattle.net_dual.specs.Leasts.{cost_at}
+use Rattle.cert_check.specs.Pass.{IsReached}
 use Rattle.cert_check.proofs.pass.next_row.Given as goal
 
 abbrev pub invariant-loop-at : goal.invariant-loop-at

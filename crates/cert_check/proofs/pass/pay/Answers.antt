@@ -7,9 +7,9 @@ use Rattle.pra_base.specs.Places.{number, allows}
 use Rattle.net_cost.specs.Models.{weights_of}
 use Rattle.net_form.specs.declared.net.Strand.{Strand}
 use Rattle.net_form.specs.Admitted.{strand_at, no_strand, in_mask}
+use Rattle.net_dual.proofs.Leasts.{within_of, same_bits}
 use Rattle.cert_check.specs.Tolls.{edge, toll}
 use Rattle.cert_check.proofs.Guarded.{guarded_is}
-use Rattle.cert_check.proofs.Crossing.{within_of, same_bits}
 use Rattle.cert_check.proofs.pass.pay.Goals as goal
 
 pub add-requires-clause-one : goal.add-requires-clause-one

@@ -6,10 +6,11 @@ use Rattle.pra_base.specs.Places.{number}
 use Rattle.net_cost.specs.Models.{weights_of}
 use Rattle.net_form.specs.Admitted.{stays_across}
 use Rattle.net_dual.specs.Small.{most_sum}
+use Rattle.net_dual.specs.Leasts.{cost_at}
+use Rattle.net_dual.proofs.Leasts.{within_of, same_bits}
 use Rattle.cert_check.specs.Tolls.{edge, way_price}
-use Rattle.cert_check.specs.Pass.{cost_at}
 use Rattle.cert_check.proofs.Guarded.{guarded_is}
-use Rattle.cert_check.proofs.Crossing.{stays_same, stays_odd, within_of, same_bits}
+use Rattle.cert_check.proofs.Crossing.{stays_same, stays_odd}
 use Rattle.cert_check.proofs.pass.via.Goals.{else-spot-eq0-via-then-spot-eq0+else-number, else-spot-eq0-via-else-spot-eq0}
 use Rattle.cert_check.proofs.pass.via.Goals as goal
 

@@ -1,8 +1,8 @@
 use Rattle.std.proofs.Common.{◌≡◌, ◌+◌, ◌*◌, ◌<◌, ◌^◌, ◌++◌, ◌∙◌, ℤ, pos, List, length, get_or, take, drop, ap, sym, subst, arith}
 use Rattle.net_dual.specs.Small.{IsWithin}
 use Rattle.cert_check.specs.Tolls.{HasAdded, strand_of}
-use Rattle.cert_check.proofs.Numbered.{written_back}
 use Rattle.cert_check.proofs.TieSums.{ties_more}
+use Rattle.cert_check.proofs.Written.{written_back}
 use Rattle.cert_check.proofs.ties.ties_sums.Goals as goal
 
 pub loop-tie-preserved : goal.loop-tie-preserved

@@ -3,8 +3,8 @@ use Rattle.std.proofs.lemmas.Int.{ints}
 use Rattle.net_form.specs.declared.net.MemPair.{MemPair}
 use Rattle.net_form.specs.InUse.{no_pair}
 use Rattle.net_dual.specs.Priced.{pay, mem_price}
+use Rattle.net_dual.proofs.Totals.{sum_more}
 use Rattle.cert_check.specs.Tolls.{is_end}
-use Rattle.cert_check.proofs.Numbered.{sum_more}
 use Rattle.cert_check.proofs.tolls.end_prices.Goals as goal
 
 pub loop-pair-preserved : goal.loop-pair-preserved

@@ -4,7 +4,7 @@ use Rattle.net_cost.specs.Models.{weights_of}
 use Rattle.net_form.specs.declared.prices.Prices.{Prices}
 use Rattle.net_dual.specs.Priced.{AreInRange}
 use Rattle.net_dual.specs.Value.{IsLagrange}
-use Rattle.cert_check.proofs.Crossing.{same_bits}
+use Rattle.net_dual.proofs.Leasts.{same_bits}
 use Rattle.cert_check.proofs.LeastSums.{some_path, bound_test}
 use Rattle.cert_check.proofs.ListedPrices.{in_range}
 use Rattle.cert_check.proofs.value.has_bound.Goals as goal

@@ -6,6 +6,7 @@ use Rattle.std.proofs.lemmas.Bool.{eqb-true, and_parts}
 use Rattle.std.proofs.lemmas.Option.{slice_get_past}
 use Rattle.pra_base.specs.declared.ids.Place.{Place}
 use Rattle.pra_base.specs.Places.{number}
+use Rattle.pra_base.proofs.PlaceNumbers.{number_below}
 use Rattle.net_cost.specs.Models.{weights_of}
 use Rattle.net_cost.specs.Weights.{weight_of}
 use Rattle.net_form.specs.declared.net.Extra.{Extra}
@@ -15,7 +16,6 @@ use Rattle.net_form.proofs.ExtrasInOrder.{found}
 use Rattle.net_form.proofs.PlaceEquality.{number-injective}
 use Rattle.net_path.specs.Cells.{IsCellWith}
 use Rattle.net_path.specs.Ways.{at}
-use Rattle.net_path.proofs.Numbers.{number_below}
 use Rattle.net_path.proofs.PaidExtras.{none_so_far, one_more, all_paid}
 use Rattle.net_path.proofs.cells.pay_extras.Goals as goal
 

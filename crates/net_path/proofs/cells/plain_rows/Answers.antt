@@ -1,5 +1,6 @@
 use Rattle.std.proofs.Common.{ℕ, ◌≡◌, ◌+◌, arith, ap, subst, ◌∙◌}
 use Rattle.std.proofs.lemmas.List.{get_or_read}
+use Rattle.pra_list.proofs.Growing.{stored}
 use Rattle.net_form.specs.declared.net.Strand.{Strand}
 use Rattle.net_form.specs.Admitted.{no_strand}
 use Rattle.net_form.specs.Ordered.{first_extra}
@@ -8,7 +9,6 @@ use Rattle.net_path.specs.declared.crossbar.Row.{Row}
 use Rattle.net_path.specs.Cells.{ArePlainCells, layer_spot}
 use Rattle.net_path.specs.Grounds.{layer}
 use Rattle.net_path.specs.Rows.{no_row}
-use Rattle.net_path.proofs.Stores.{stored}
 use Rattle.net_path.proofs.cells.plain_rows.Goals as goal
 
 pub loop-at-preserved : goal.loop-at-preserved
@@ -31,6 +31,6 @@ loop-at-preserved g c =
     c.plain_row.new.row.costs) c.loop-at.invariant.extra one in
     record {
       extra = c.next_extra-extra.ensures ∙ ap (first_extra net s) next;
-      cells = stored Cells c.loop-at.rows no_row k c.plain_row.new.row
+      cells = stored Cells c.loop-at.rows k c.plain_row.new.row no_row
           (omega (arith, c.loop-at-test.true, c.loop-at.auto.rows)) c.loop-at.invariant.cells two;
     }

@@ -1,4 +1,4 @@
-use Rattle.net_path.proofs.Numbers.{numbered_is}
+use Rattle.pra_base.proofs.PlaceNumbers.{numbered_is}
 use Rattle.net_path.proofs.path.place_of.Goals as goal
 
 pub returns : goal.returns

@@ -3,9 +3,9 @@ use Rattle.std.proofs.Common.{length-set, ap, subst, arith, rules, w64, to_z, of
 use mir.Val.{SFits}
 use Rattle.std.proofs.lemmas.Int.{to_z-of_z}
 use Rattle.std.specs.Option.{MatchOption}
+use Rattle.pra_list.proofs.Growing.{stored}
 use Rattle.net_path.specs.Choices.{IsStart}
 use Rattle.net_path.specs.Ways.{at, start_price}
-use Rattle.net_path.proofs.Stores.{stored}
 use Rattle.net_path.proofs.path.start_costs.Goals as goal
 
 pub loop-number-preserved : goal.loop-number-preserved
@@ -21,7 +21,7 @@ loop-number-preserved c =
     to_z-of_z w64 choice.debt.cost fits in
     record {
       long = omega (arith, length-set {A = Option ℤ}, c.loop-number.invariant.long);
-      starts = stored (IsStart way costs) c.loop-number.costs None k c.reached.result
+      starts = stored (IsStart way costs) c.loop-number.costs k c.reached.result None
           (omega (arith, c.loop-number.invariant.long)) c.loop-number.invariant.starts
           (subst (λ (x : ℤ). MatchOption c.reached.result (pos (2 ^ 61) ≤ℤ x)
           (λ z. (z ≡ x) × (z <ℤ pos (2 ^ 61)))) cost

@@ -3,12 +3,13 @@ use Rattle.std.specs.List.{range_with_len}
 use Rattle.std.proofs.lemmas.Int.{ints}
 use Rattle.std.proofs.lemmas.List.{get_or_read}
 use Rattle.std.proofs.lemmas.List.FromFn.{length-range_with_len}
+use Rattle.pra_list.proofs.Growing.{last_range}
 use Rattle.net_dual.specs.Priced.{total}
 use Rattle.net_dual.proofs.Totals.{total-append}
 use Rattle.net_dual.proofs.Small.{tie_small}
 use Rattle.net_path.specs.Ties.{tie_pay}
 use Rattle.net_path.proofs.ExitTies.{exits_long, exits_order, exits_within, exits_few}
-use Rattle.net_path.proofs.TieSums.{about_sum, last_range, none_more, room_left, one_more}
+use Rattle.net_path.proofs.TieSums.{about_sum, none_more, room_left, one_more}
 use Rattle.net_path.proofs.TieSums.{pay_about}
 use Rattle.net_path.proofs.ties.pay_exits.Goals as goal
 

@@ -1,13 +1,13 @@
 use Rattle.std.proofs.Common.{ℕ, ◌≡◌, ℤ, pos, length-set, arith, refl, sym, subst, ◌∙◌, to_z, of_z}
 use Rattle.std.proofs.Common.{w64, get_or-set_other}
 use Rattle.std.proofs.lemmas.Int.{to_z-of_z}
+use Rattle.pra_list.proofs.Growing.{stored}
 use Rattle.pra_base.specs.declared.ids.Place.{Place}
 use Rattle.pra_base.specs.Places.{number}
+use Rattle.pra_base.proofs.PlaceNumbers.{number_below}
 use Rattle.net_form.proofs.PlaceEquality.{number-injective}
 use Rattle.net_path.specs.Ties.{IsMore, HasPayRoom, tie_pay}
 use Rattle.net_path.specs.Ways.{at}
-use Rattle.net_path.proofs.Numbers.{number_below}
-use Rattle.net_path.proofs.Stores.{stored}
 use Rattle.net_path.proofs.ties.pay_tie.Goals as goal
 
 pub cost_with-requires-clause-cost : goal.cost_with-requires-clause-cost
@@ -31,7 +31,7 @@ loop-p-preserved c =
     (tie_pay c.args.prices.now c.args.leaves c.args.tie place) z in
     record {
       long = omega (arith, length-set {A = ℤ}, c.loop-p.invariant.long);
-      more = rw whole (stored More c.loop-p.row.costs (pos 0) p c.cost_with.result
+      more = rw whole (stored More c.loop-p.row.costs p c.cost_with.result (pos 0)
           (omega (arith, c.loop-p.invariant.long)) c.loop-p.invariant.more
           (λ place is. subst (λ (z : ℤ). IsMore (at c.args.row.now.costs p) z c.cost_with.result)
           (subst (λ (q : Place). c.tie_pay-more.result ≡ tie_pay c.args.prices.now c.args.leaves

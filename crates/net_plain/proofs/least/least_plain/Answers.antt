@@ -7,8 +7,8 @@ use Rattle.net_form.specs.InUse.{UsesNothing}
 use Rattle.net_dual.specs.Priced.{edge_price}
 use Rattle.net_dual.specs.Paths.{IsLeastCost}
 use Rattle.net_dual.specs.Small.{IsWithin, most_sum}
+use Rattle.net_dual.proofs.Leasts.{same_bits}
 use Rattle.net_plain.specs.Rests.{IsRest}
-use Rattle.net_plain.proofs.Costs.{same_bits}
 use Rattle.net_plain.proofs.Whole.{least_path, least_small, no_path}
 use Rattle.net_plain.proofs.least.least_plain.Goals as goal
 

@@ -11,8 +11,8 @@ use Rattle.net_form.specs.InUse.{UsesNothing}
 use Rattle.net_dual.specs.Priced.{edge_price}
 use Rattle.net_dual.specs.Paths.{MayGo, path_price}
 use Rattle.net_dual.specs.Small.{IsWithin, most_sum}
+use Rattle.net_dual.proofs.Leasts.{same_bits}
 use Rattle.net_plain.specs.Rests.{IsCostOf}
-use Rattle.net_plain.proofs.Costs.{same_bits}
 use Rattle.net_plain.proofs.Whole.{long_of, as_long, price_is, price_small, may_not_go}
 use Rattle.net_plain.proofs.price.price_plain.Goals as goal
 

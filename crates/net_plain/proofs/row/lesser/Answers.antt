@@ -1,7 +1,7 @@
 use Rattle.std.proofs.Common.{subst, ◌∙◌, arith}
 use Rattle.std.proofs.lemmas.Int.{ints}
-use Rattle.net_plain.specs.Rows.{IsLeastOf}
-use Rattle.net_plain.proofs.Costs.{lower_more}
+use Rattle.net_dual.specs.Leasts.{IsLeastOf}
+use Rattle.net_dual.proofs.Leasts.{lower_more}
 use Rattle.net_plain.proofs.row.lesser.Goals as goal
 
 pub returns-then-more-cost : goal.returns-then-more-cost

@@ -5,8 +5,9 @@ use Rattle.net_cost.specs.Models.{weights_of}
 use Rattle.net_form.specs.Admitted.{stays_across}
 use Rattle.net_form.specs.Cost.{way_cost}
 use Rattle.net_form.specs.Tables.{all_tables}
+use Rattle.net_dual.proofs.Leasts.{within_of, same_bits}
 use Rattle.net_path.specs.Grounds.{edge}
-use Rattle.net_plain.proofs.Costs.{added_is, added_shut, within_of, same_bits}
+use Rattle.net_plain.proofs.Costs.{added_is, added_shut}
 use Rattle.net_plain.proofs.steps.coming.Goals as goal
 
 pub add-requires-clause-one : goal.add-requires-clause-one

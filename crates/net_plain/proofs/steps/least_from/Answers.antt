@@ -1,7 +1,8 @@
 use Rattle.std.proofs.Common.{◌≡◌, ◌∙◌, ap, sym, subst, arith}
-use Rattle.pra_base.specs.Places.{place_count}
+use Rattle.pra_base.specs.Places.{place_count, place_at}
 use Rattle.net_cost.specs.Models.{weights_of}
-use Rattle.net_plain.specs.Rows.{IsLeastOf, place_at, cost_at, coming}
+use Rattle.net_dual.specs.Leasts.{IsLeastOf, cost_at}
+use Rattle.net_plain.specs.Rows.{coming}
 use Rattle.net_plain.proofs.steps.least_from.Goals as goal
 
 pub loop-at-preserved : goal.loop-at-preserved

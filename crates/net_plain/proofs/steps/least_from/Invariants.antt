@@ -1,5 +1,7 @@
+use Rattle.pra_base.specs.Places.{place_at}
 use Rattle.net_cost.specs.Models.{weights_of}
-use Rattle.net_plain.specs.Rows.{IsLeastOf, place_at, cost_at, coming}
+use Rattle.net_dual.specs.Leasts.{IsLeastOf, cost_at}
+use Rattle.net_plain.specs.Rows.{coming}
 use Rattle.net_plain.proofs.steps.least_from.Given as goal
 
 abbrev pub invariant-loop-at : goal.invariant-loop-at

@@ -1,10 +1,10 @@
 use Rattle.std.proofs.Common.{◌<◌, ◌∙◌, Some, None, length, length-set, subst, arith}
+use Rattle.pra_list.proofs.Growing.{stored}
+use Rattle.pra_base.specs.Places.{place_at}
 use Rattle.net_cost.specs.Models.{weights_of}
-use Rattle.net_plain.specs.Rows.{place_at}
 use Rattle.net_plain.specs.Rests.{IsRest}
 use Rattle.net_plain.proofs.Filled.{rests_of}
 use Rattle.net_plain.proofs.LeastRests.{rest_more}
-use Rattle.net_plain.proofs.Stored.{stored}
 use Rattle.net_plain.proofs.steps.rests_before.Goals as goal
 
 pub loop-at-preserved : goal.loop-at-preserved

@@ -1,7 +1,7 @@
 use Rattle.std.proofs.Common.{◌≡◌, ◌<◌, ℕ, Some, length}
-use Rattle.pra_base.specs.Places.{place_count}
+use Rattle.pra_base.specs.Places.{place_count, place_at}
 use Rattle.net_cost.specs.Models.{weights_of}
-use Rattle.net_plain.specs.Rows.{place_at, cost_at}
+use Rattle.net_dual.specs.Leasts.{cost_at}
 use Rattle.net_plain.specs.Rests.{IsRest}
 use Rattle.net_plain.proofs.steps.rests_before.Given as goal
 

@@ -1,8 +1,10 @@
 use Rattle.std.proofs.Common.{◌≡◌, ◌^◌, ◌<◌, ◌∙◌, None, length, length-set, ap, arith}
+use Rattle.pra_list.proofs.Growing.{stored}
+use Rattle.pra_base.specs.Places.{place_at}
 use Rattle.net_cost.specs.Models.{weights_of}
-use Rattle.net_plain.specs.Rows.{place_at, cost_at, there}
+use Rattle.net_dual.specs.Leasts.{cost_at}
+use Rattle.net_plain.specs.Rows.{there}
 use Rattle.net_plain.proofs.Filled.{set_within}
-use Rattle.net_plain.proofs.Stored.{stored}
 use Rattle.net_plain.proofs.steps.row_of.Goals as goal
 
 pub loop-at-preserved : goal.loop-at-preserved

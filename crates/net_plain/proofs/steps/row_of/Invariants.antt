@@ -1,7 +1,8 @@
 use Rattle.std.proofs.Common.{◌≡◌, ◌^◌, ◌<◌, ℕ, length}
-use Rattle.pra_base.specs.Places.{place_count}
+use Rattle.pra_base.specs.Places.{place_count, place_at}
 use Rattle.net_cost.specs.Models.{weights_of}
-use Rattle.net_plain.specs.Rows.{AreWithin, place_at, cost_at, there}
+use Rattle.net_dual.specs.Leasts.{cost_at}
+use Rattle.net_plain.specs.Rows.{AreWithin, there}
 use Rattle.net_plain.proofs.steps.row_of.Given as goal
 
 abbrev pub invariant-loop-at : goal.invariant-loop-at

@@ -2,8 +2,9 @@ use Rattle.std.proofs.Common.{◌≡◌, ◌^◌, ◌∙◌, true, ◌+ℤ◌, S
 use Rattle.std.specs.Int.{w128}
 use Rattle.std.proofs.lemmas.Int.{ints, to_z-of_z}
 use Rattle.net_cost.specs.Models.{weights_of}
+use Rattle.net_dual.proofs.Leasts.{within_of, same_bits}
 use Rattle.net_path.specs.Grounds.{edge, is_free, is_open, there_price}
-use Rattle.net_plain.proofs.Costs.{added_is, within_of, same_bits}
+use Rattle.net_plain.proofs.Costs.{added_is}
 use Rattle.net_plain.proofs.steps.there.Goals as goal
 
 pub add-requires-clause-one : goal.add-requires-clause-one

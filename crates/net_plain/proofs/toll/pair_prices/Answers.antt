@@ -4,8 +4,8 @@ use Rattle.net_form.specs.declared.net.MemPair.{MemPair}
 use Rattle.net_form.specs.Admitted.{uses_memory}
 use Rattle.net_form.specs.InUse.{no_pair}
 use Rattle.net_dual.specs.Priced.{pay, mem_price}
+use Rattle.net_dual.proofs.Totals.{sum_more}
 use Rattle.net_path.specs.Grounds.{edge}
-use Rattle.net_plain.proofs.Numbered.{sum_more}
 use Rattle.net_plain.proofs.toll.pair_prices.Goals as goal
 
 pub loop-pair-preserved : goal.loop-pair-preserved
