@@ -1,5 +1,6 @@
 -- Where no strand has a path yet, and where each has.
-use Rattle.std.proofs.Common.{ℕ, zero, suc, ◌≡◌, ◌≤◌, List, [], length, replicate, count_by, slice_index, refl, sym, ap, ◌∙◌, arith}
+use Rattle.std.proofs.Common.{ℕ, zero, suc, ◌≡◌, ◌≤◌, List, [], length, replicate, count_by}
+use Rattle.std.proofs.Common.{slice_index, refl, sym, ap, ◌∙◌, arith}
 use Rattle.std.specs.Int.{bit_at}
 use Rattle.std.proofs.lemmas.List.{length-replicate}
 use Rattle.std.proofs.lemmas.Nat.Bits.{bit_at-zero}
@@ -18,12 +19,15 @@ use Rattle.al_edge.proofs.Whole.{are_routes, admitted, are_home}
 abbrev nothing : ℕ
 nothing = 0
 
-pub nobody_yet : (net : Net) (regs : List ℕ) (paths : List (List Place)) → regs ≡ replicate (layer_total net.blocks) 0 → paths ≡ [] → IsSoFar net regs paths 0
+pub nobody_yet : (net : Net) (regs : List ℕ) (paths : List (List Place)) →
+    regs ≡ replicate (layer_total net.blocks) 0 → paths ≡ [] → IsSoFar net regs paths 0
 nobody_yet net regs paths free none = record {
   room = ap length free ∙ length-replicate (layer_total net.blocks) nothing;
   count = ap length none;
-  marks = λ n r. ap (λ l. bit_at (slice_index l n) r) free ∙ ap (λ b. bit_at b r) (zeros (layer_total net.blocks) n) ∙ bit_at-zero r
-      ∙ sym (ap (count_by (uses_bundle net n r)) (ap (flow_from 0 net.strands) none ∙ no_paths 0 net.strands));
+  marks = λ n r. ap (λ l. bit_at (slice_index l n) r) free ∙ ap (λ b. bit_at b r)
+      (zeros (layer_total net.blocks) n) ∙ bit_at-zero r
+      ∙ sym (ap (count_by (uses_bundle net n r))
+      (ap (flow_from 0 net.strands) none ∙ no_paths 0 net.strands));
   placed = λ x lt. absurd (let z = ap length none in omega (arith, z, lt));
 }
   where
@@ -32,7 +36,8 @@ nobody_yet net regs paths free none = record {
     zeros (suc k) zero = refl
     zeros (suc k) (suc n) = zeros k n
 
-module _ (net : Net) (formed : IsFormed net) (room : HasRoom net) (regs : List ℕ) (paths : List (List Place)) (s : ℕ) (so : IsSoFar net regs paths s)
+module _ (net : Net) (formed : IsFormed net) (room : HasRoom net) (regs : List ℕ)
+    (paths : List (List Place)) (s : ℕ) (so : IsSoFar net regs paths s)
     (reached : length net.strands ≤ s) (within : s ≤ length net.strands) where
   every : length paths ≡ length net.strands
   every = let n = so.count in omega (arith, n, reached, within)

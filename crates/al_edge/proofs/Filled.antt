@@ -1,5 +1,6 @@
 -- A loop that fills a list place by place.
-use Rattle.std.proofs.Common.{ℕ, ◌≡◌, ◌<◌, ◌+◌, Bool, true, false, cond, ℤ, List, length, get_or, set}
+use Rattle.std.proofs.Common.{ℕ, ◌≡◌, ◌<◌, ◌+◌, Bool, true, false, cond, ℤ, List, length, get_or}
+use Rattle.std.proofs.Common.{set}
 use Rattle.std.proofs.Common.{get_or-set_same, get_or-set_other, Some, None, sym, subst, refl, ◌∙◌}
 use Rattle.std.proofs.Common.{pos, [], ◌∷◌}
 use Rattle.std.proofs.Common.{arith, inl, inr}

@@ -1,7 +1,11 @@
 -- The table of who gives way.
-use Rattle.std.proofs.Common.{ℕ, zero, suc, ◌≡◌, ◌+◌, ◌-◌, ◌<◌, ◌≤◌, Bool, true, false, ◌&&◌, ◌||◌, eqb, leb, List, [], length, get_or, set, take, replicate, map, refl, sym, ap, ◌∙◌, subst, arith, inl, inr, get_or-set_same, get_or-set_other, length-set}
+use Rattle.std.proofs.Common.{ℕ, zero, suc, ◌≡◌, ◌+◌, ◌-◌, ◌<◌, ◌≤◌, Bool, true, false, ◌&&◌, ◌||◌}
+use Rattle.std.proofs.Common.{eqb, leb, List, [], length, get_or, set, take, replicate, map, refl}
+use Rattle.std.proofs.Common.{sym, ap, ◌∙◌, subst, arith, inl, inr, get_or-set_same}
+use Rattle.std.proofs.Common.{get_or-set_other, length-set}
 use Rattle.std.specs.List.{list_any}
-use Rattle.std.proofs.lemmas.Bool.{cases_eq, and_parts, and_left, and_right, or_right, leb-true, eq-eqb, ne_eqb, and_from}
+use Rattle.std.proofs.lemmas.Bool.{cases_eq, and_parts, and_left, and_right, or_right, leb-true}
+use Rattle.std.proofs.lemmas.Bool.{eq-eqb, ne_eqb, and_from}
 use Rattle.std.proofs.lemmas.List.{get_or-map, length-map, take_all, length-replicate}
 use Rattle.std.proofs.lemmas.List.Folds.{list_any_more}
 use Rattle.net_form.specs.declared.net.MemPair.{MemPair}
@@ -13,10 +17,12 @@ use Rattle.net_laws.specs.Homes.{is_there, is_right, left_stays, yields_at}
 use Rattle.al_edge.specs.Yielding.{IsTable, row_of}
 
 pub bounds : (t : Strand) (l : ℕ) → is_there t l ≡ true → (t.first ≤ l) × (l ≤ t.last)
-bounds t l at = let p = and_parts (leb t.first l) (leb l t.last) at in (leb-true t.first l p.0, leb-true l t.last p.1)
+bounds t l at = let p = and_parts (leb t.first l) (leb l t.last) at in
+    (leb-true t.first l p.0, leb-true l t.last p.1)
 
 -- what the whole table says
-module _ (net : Net) (formed : IsFormed net) (table : List (List Bool)) (is : IsTable net (length net.pairs) table) (s l : ℕ) (s_lt : s < length net.strands)
+module _ (net : Net) (formed : IsFormed net) (table : List (List Bool))
+    (is : IsTable net (length net.pairs) table) (s l : ℕ) (s_lt : s < length net.strands)
     (there : is_there (strand_at net s) l ≡ true) where
   abbrev j : ℕ
   j = l - (strand_at net s).first
@@ -36,19 +42,27 @@ module _ (net : Net) (formed : IsFormed net) (table : List (List Bool)) (is : Is
       let n = is.entries s s_lt in
       let lt = inside in
       is.value s j s_lt (omega (arith, n, lt))
-      ∙ ap (λ k. list_any (λ m. is_right s k m && left_stays net m) (take (length net.pairs) net.pairs)) (let e : (strand_at net s).first + j ≡ l = omega (arith, lo) in e)
-      ∙ ap (list_any (λ m. is_right s l m && left_stays net m)) (take_all (length net.pairs) net.pairs (omega arith))
+      ∙ ap (λ k. list_any (λ m. is_right s k m && left_stays net m)
+      (take (length net.pairs) net.pairs))
+      (let e : (strand_at net s).first + j ≡ l = omega (arith, lo) in e)
+      ∙ ap (list_any (λ m. is_right s l m && left_stays net m))
+      (take_all (length net.pairs) net.pairs (omega arith))
 
 -- nobody gives way to the first 0 pairs
-pub none_yield : (net : Net) (table : List (List Bool)) → table ≡ map (λ (t : Strand). replicate (length t.masks) false) net.strands → IsTable net 0 table
+pub none_yield : (net : Net) (table : List (List Bool)) →
+    table ≡ map (λ (t : Strand). replicate (length t.masks) false) net.strands → IsTable net 0 table
 none_yield net table is = subst (IsTable net 0) (sym is) (record {
   rows = length-map net.strands (λ (t : Strand). replicate (length t.masks) false);
   entries = λ s lt. ap length (row s lt) ∙ length-replicate (length (strand_at net s).masks) false;
-  value = λ s j lt j_lt. ap (λ r. get_or r j false) (row s lt) ∙ none (length (strand_at net s).masks) j;
+  value = λ s j lt j_lt. ap (λ r. get_or r j false) (row s lt)
+      ∙ none (length (strand_at net s).masks) j;
 })
   where
-    row : (s : ℕ) → s < length net.strands → row_of (map (λ (t : Strand). replicate (length t.masks) false) net.strands) s ≡ replicate (length (strand_at net s).masks) false
-    row s lt = get_or-map (λ (t : Strand). replicate (length t.masks) false) net.strands s no_strand [] lt
+    row : (s : ℕ) → s < length net.strands →
+        row_of (map (λ (t : Strand). replicate (length t.masks) false) net.strands) s ≡
+        replicate (length (strand_at net s).masks) false
+    row s lt = get_or-map (λ (t : Strand). replicate (length t.masks) false) net.strands s no_strand
+        [] lt
 
     none : (n i : ℕ) → get_or (replicate n false) i false ≡ false
     none zero i = refl
@@ -60,7 +74,8 @@ or_nothing true = refl
 or_nothing false = refl
 
 -- one pair more
-module _ (net : Net) (formed : IsFormed net) (k : ℕ) (table : List (List Bool)) (is : IsTable net k table) (k_lt : k < length net.pairs) (d : MemPair) where
+module _ (net : Net) (formed : IsFormed net) (k : ℕ) (table : List (List Bool))
+    (is : IsTable net k table) (k_lt : k < length net.pairs) (d : MemPair) where
   abbrev m : MemPair
   m = get_or net.pairs k d
 
@@ -71,8 +86,10 @@ module _ (net : Net) (formed : IsFormed net) (k : ℕ) (table : List (List Bool)
   kept no_ = record {
     rows = is.rows;
     entries = is.entries;
-    value = λ s j lt j_lt. is.value s j lt j_lt ∙ sym (list_any_more (test s ((strand_at net s).first + j)) net.pairs k d k_lt
-        ∙ ap (λ t. list_any (test s ((strand_at net s).first + j)) (take k net.pairs) || t) (and_right (is_right s ((strand_at net s).first + j) m) (left_stays net m) no_)
+    value = λ s j lt j_lt. is.value s j lt j_lt
+        ∙ sym (list_any_more (test s ((strand_at net s).first + j)) net.pairs k d k_lt
+        ∙ ap (λ t. list_any (test s ((strand_at net s).first + j)) (take k net.pairs) || t)
+        (and_right (is_right s ((strand_at net s).first + j) m) (left_stays net m) no_)
         ∙ or_nothing (list_any (test s ((strand_at net s).first + j)) (take k net.pairs)));
   }
     where
@@ -80,16 +97,23 @@ module _ (net : Net) (formed : IsFormed net) (k : ℕ) (table : List (List Bool)
       or_nothing true = refl
       or_nothing false = refl
 
-  pub added : left_stays net m ≡ true → m.right < length net.strands → is_there (strand_at net m.right) m.right_layer ≡ true
-      → IsTable net (k + 1) (set table m.right (set (row_of table m.right) (m.right_layer - (strand_at net m.right).first) true))
+  pub added : left_stays net m ≡ true → m.right < length net.strands →
+      is_there (strand_at net m.right) m.right_layer ≡ true
+      → IsTable net (k + 1) (set table m.right
+      (set (row_of table m.right) (m.right_layer - (strand_at net m.right).first) true))
   added left r_lt there = record {
     rows = length-set table m.right new_row ∙ is.rows;
-    entries = λ s lt. elim (cases_eq s m.right) as (λ _. length (row_of (set table m.right new_row) s) ≡ length (strand_at net s).masks) [
-      | inl same ↦ subst (λ s. length (row_of (set table m.right new_row) s) ≡ length (strand_at net s).masks) (sym same)
-          (ap length (get_or-set_same table m.right new_row [] in_table) ∙ length-set (row_of table m.right) at true ∙ is.entries m.right r_lt)
-      | inr other ↦ ap length (get_or-set_other table m.right s new_row [] other) ∙ is.entries s lt
-    ];
-    value = λ s j lt j_lt. values s j lt j_lt ∙ sym (list_any_more (test s ((strand_at net s).first + j)) net.pairs k d k_lt);
+    entries = λ s lt. elim (cases_eq s m.right)
+        as (λ _. length (row_of (set table m.right new_row) s) ≡ length (strand_at net s).masks) [
+          | inl same ↦ subst (λ s. length (row_of (set table m.right new_row) s) ≡
+              length (strand_at net s).masks) (sym same)
+              (ap length (get_or-set_same table m.right new_row [] in_table)
+              ∙ length-set (row_of table m.right) at true ∙ is.entries m.right r_lt)
+          | inr other ↦ ap length (get_or-set_other table m.right s new_row [] other)
+              ∙ is.entries s lt
+        ];
+    value = λ s j lt j_lt. values s j lt j_lt
+        ∙ sym (list_any_more (test s ((strand_at net s).first + j)) net.pairs k d k_lt);
   }
     where
       at : ℕ
@@ -102,18 +126,43 @@ module _ (net : Net) (formed : IsFormed net) (k : ℕ) (table : List (List Bool)
       in_table = let n = is.rows in omega (arith, n, r_lt)
 
       values : (s i : ℕ) → s < length net.strands → i < length (strand_at net s).masks
-          → get_or (row_of (set table m.right new_row) s) i false ≡ (list_any (test s ((strand_at net s).first + i)) (take k net.pairs) || test s ((strand_at net s).first + i) m)
-      values s i lt i_lt = elim (cases_eq s m.right) as (λ _. get_or (row_of (set table m.right new_row) s) i false ≡ (list_any (test s ((strand_at net s).first + i)) (take k net.pairs) || test s ((strand_at net s).first + i) m)) [
-        | inl same ↦ elim (cases_eq i at) as (λ _. get_or (row_of (set table m.right new_row) s) i false ≡ (list_any (test s ((strand_at net s).first + i)) (take k net.pairs) || test s ((strand_at net s).first + i) m)) [
-          | inl here ↦ ap (λ r. get_or r i false) (row_same s same) ∙ ap (λ n. get_or new_row n false) here ∙ get_or-set_same (row_of table m.right) at true false in_row
-              ∙ sym (or_right (list_any (test s ((strand_at net s).first + i)) (take k net.pairs)) (test s ((strand_at net s).first + i) m) (passes s i same here))
-          | inr off ↦ ap (λ r. get_or r i false) (row_same s same) ∙ get_or-set_other (row_of table m.right) at i true false off ∙ ap (λ s. get_or (row_of table s) i false) (sym same)
-              ∙ is.value s i lt i_lt ∙ sym (fails s i (and_right (eqb m.right s) (eqb m.right_layer ((strand_at net s).first + i)) (ne_eqb m.right_layer ((strand_at net s).first + i) (λ e.
-              let f = ap (λ s. (strand_at net s).first) same in off (omega (arith, e, f))))))
-        ]
-        | inr other ↦ ap (λ r. get_or r i false) (get_or-set_other table m.right s new_row [] other) ∙ is.value s i lt i_lt
-            ∙ sym (fails s i (and_left (eqb m.right s) (eqb m.right_layer ((strand_at net s).first + i)) (ne_eqb m.right s (λ e. other (sym e)))))
-      ]
+          → get_or (row_of (set table m.right new_row) s) i false ≡
+          (list_any (test s ((strand_at net s).first + i)) (take k net.pairs) || test s
+          ((strand_at net s).first + i) m)
+      values s i lt i_lt = elim (cases_eq s m.right)
+          as (λ _. get_or (row_of (set table m.right new_row) s) i false ≡
+          (list_any (test s ((strand_at net s).first + i)) (take k net.pairs) || test s
+          ((strand_at net s).first + i) m)) [
+            | inl same ↦ elim (cases_eq i at) as (λ _. get_or (row_of (set table m.right new_row) s)
+                i
+                false ≡ (list_any (test s ((strand_at net s).first + i)) (take k net.pairs) || test
+                s
+                ((strand_at net s).first + i) m)) [
+                  | inl here ↦ ap (λ r. get_or r i false) (row_same s same)
+                      ∙ ap (λ n. get_or new_row n false) here ∙ get_or-set_same
+                      (row_of table m.right) at
+                      true false in_row
+                      ∙ sym (or_right (list_any (test s ((strand_at net s).first + i))
+                      (take k net.pairs))
+                      (test s ((strand_at net s).first + i) m) (passes s i same here))
+                  | inr off ↦ ap (λ r. get_or r i false) (row_same s same) ∙ get_or-set_other
+                      (row_of table m.right) at i true false off
+                      ∙ ap (λ s. get_or (row_of table s) i false)
+                      (sym same)
+                      ∙ is.value s i lt i_lt ∙
+                      sym (fails s i (and_right (eqb m.right s)
+                      (eqb m.right_layer ((strand_at net s).first + i))
+                      (ne_eqb m.right_layer ((strand_at net s).first + i) (λ e.
+                      let f = ap (λ s. (strand_at net s).first) same in
+                      off (omega (arith, e, f))))))
+                ]
+            | inr other ↦ ap (λ r. get_or r i false)
+                (get_or-set_other table m.right s new_row [] other)
+                ∙ is.value s i lt i_lt
+                ∙ sym (fails s i (and_left (eqb m.right s)
+                (eqb m.right_layer ((strand_at net s).first + i))
+                (ne_eqb m.right s (λ e. other (sym e)))))
+          ]
         where
           in_row : at < length (row_of table m.right)
           in_row =
@@ -125,14 +174,23 @@ module _ (net : Net) (formed : IsFormed net) (k : ℕ) (table : List (List Bool)
               omega (arith, lo, hi, n, long)
 
           row_same : (s : ℕ) → s ≡ m.right → row_of (set table m.right new_row) s ≡ new_row
-          row_same s same = ap (row_of (set table m.right new_row)) same ∙ get_or-set_same table m.right new_row [] in_table
+          row_same s same = ap (row_of (set table m.right new_row)) same
+              ∙ get_or-set_same table m.right new_row [] in_table
 
           passes : (s i : ℕ) → s ≡ m.right → i ≡ at → test s ((strand_at net s).first + i) m ≡ true
-          passes s i same here = and_from (is_right s ((strand_at net s).first + i) m) (left_stays net m)
-              (and_from (eqb m.right s) (eqb m.right_layer ((strand_at net s).first + i)) (eq-eqb m.right s (sym same))
-              (eq-eqb m.right_layer ((strand_at net s).first + i) (let lo = (bounds (strand_at net m.right) m.right_layer there).0 in let f = ap (λ s. (strand_at net s).first) same in omega (arith, lo, f, here)))) left
+          passes s i same here = and_from (is_right s ((strand_at net s).first + i) m)
+              (left_stays net m)
+              (and_from (eqb m.right s) (eqb m.right_layer ((strand_at net s).first + i))
+              (eq-eqb m.right s (sym same))
+              (eq-eqb m.right_layer ((strand_at net s).first + i)
+              (let lo = (bounds (strand_at net m.right) m.right_layer there).0 in let f =
+              ap (λ s. (strand_at net s).first) same in omega (arith, lo, f, here)))) left
 
           fails : (s i : ℕ) → is_right s ((strand_at net s).first + i) m ≡ false
-              → (list_any (test s ((strand_at net s).first + i)) (take k net.pairs) || test s ((strand_at net s).first + i) m) ≡ list_any (test s ((strand_at net s).first + i)) (take k net.pairs)
-          fails s i no_ = ap (λ t. list_any (test s ((strand_at net s).first + i)) (take k net.pairs) || t) (and_left (is_right s ((strand_at net s).first + i) m) (left_stays net m) no_)
+              → (list_any (test s ((strand_at net s).first + i)) (take k net.pairs) || test s
+              ((strand_at net s).first + i) m) ≡ list_any (test s ((strand_at net s).first + i))
+              (take k net.pairs)
+          fails s i no_ = ap (λ t. list_any (test s ((strand_at net s).first + i))
+              (take k net.pairs) || t)
+              (and_left (is_right s ((strand_at net s).first + i) m) (left_stays net m) no_)
               ∙ or_nothing (list_any (test s ((strand_at net s).first + i)) (take k net.pairs))

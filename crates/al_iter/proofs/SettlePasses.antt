@@ -1,5 +1,6 @@
 -- One more that has been asked, and those who need not be.
-use Rattle.std.proofs.Common.{◌≤◌, [], length, refl, ℕ, ◌≡◌, ◌+◌, ◌<◌, Bool, true, false, sym, subst, arith, inl, inr}
+use Rattle.std.proofs.Common.{◌≤◌, [], length, refl, ℕ, ◌≡◌, ◌+◌, ◌<◌, Bool, true, false, sym}
+use Rattle.std.proofs.Common.{subst, arith, inl, inr}
 use Rattle.std.proofs.lemmas.Bool.{cases_eq}
 use Rattle.pra_base.specs.declared.ids.Place.{Place}
 use Rattle.net_cost.specs.declared.weights.Weights.{Weights}

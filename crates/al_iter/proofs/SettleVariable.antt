@@ -54,7 +54,8 @@ module _ (net : Net) (routes draft : Routes) (has : AreRoutes net routes) (stran
   or_right true b h = refl
   or_right false b h = h
 
-  pub written_more : ((s : ℕ) → among (take i strands) s ≡ true → path_in routes s ≡ path_in draft s)
+  pub written_more : ((s : ℕ) → among (take i strands) s ≡ true → path_in routes s ≡
+      path_in draft s)
       → (s : ℕ) → among (take (i + 1) strands) s ≡ true
       → path_in (with_path routes this (path_in draft this)) s ≡ path_in draft s
   written_more mine s is = elim (cases_eq s this)

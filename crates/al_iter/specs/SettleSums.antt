@@ -1,5 +1,6 @@
 -- What the strands of a variable pay together, and what they pay at least.
-use Rattle.std.specs.Prelude.{◌≡◌, ℕ, ◌<◌, true, ℤ, ◌≤ℤ◌, List, length, slice_index, All, IsTrue, None}
+use Rattle.std.specs.Prelude.{◌≡◌, ℕ, ◌<◌, true, ℤ, ◌≤ℤ◌, List, length, slice_index, All, IsTrue}
+use Rattle.std.specs.Prelude.{None}
 use Rattle.pra_base.specs.declared.ids.Place.{Place}
 use Rattle.pra_base.specs.Places.{number, allows, has_register, register_of}
 use Rattle.net_cost.specs.declared.weights.Weights.{Weights}

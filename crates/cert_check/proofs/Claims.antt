@@ -95,7 +95,8 @@ module _ (c : Certificate) (p : ℕ) (cert : Cert) (all : MeetsAll c p cert) whe
       let code : HasCode (counts_in c.procs) p cert.code = all Code in
       let ways : OnNet cert.code (λ net. MeetsIn (weights_by c.cost) net cert Ways) = all Ways in
       let net = ways.net in
-      let priced : HasPrices net cert = meets_in c p cert net ways.is_net code Prices (all Prices) in
+      let priced : HasPrices net cert = meets_in c p cert net ways.is_net code Prices
+      (all Prices) in
       let total = meets_in c p cert net ways.is_net code Total (all Total) in
       let bound : HasBound (weights_by c.cost) net cert
       = meets_in c p cert net ways.is_net code Bound (all Bound) in

@@ -108,5 +108,6 @@ bound_test w net cert z b some value test = (
   ],
 )
 
-pub no_bound : (w : Weights) (net : Net) (cert : Cert) → cert.bound ≡ 0 → IsTrue true ↔ HasBound w net cert
+pub no_bound : (w : Weights) (net : Net) (cert : Cert) → cert.bound ≡ 0 →
+    IsTrue true ↔ HasBound w net cert
 no_bound w net cert none = (λ yes. inl none, λ has. refl)

@@ -13,7 +13,8 @@ use Rattle.cert_form.specs.declared.certificate.Cert.{Cert}
 use Rattle.cert_check.specs.Listed.{AreCaps, AreNumbers, HasPrices, with_caps, with_numbers}
 use Rattle.cert_check.specs.Listed.{prices_of}
 
-All-set : {X : Type 0} (P : X → Type 0) → (xs : List X) (k : ℕ) (x : X) → k < length xs → All P xs → P x
+All-set : {X : Type 0} (P : X → Type 0) → (xs : List X) (k : ℕ) (x : X) → k < length xs → All P xs →
+    P x
     → All P (set xs k x)
 All-set P xs k x there all here = λ j d lt.
     elim (cases_eq j k) as (λ _. P (get_or (set xs k x) j d)) [
@@ -23,7 +24,8 @@ All-set P xs k x there all here = λ j d lt.
           (all j d (let long = length-set xs k x in omega (arith, lt, long)))
     ]
 
-pub length-with_caps : (prices : List ℕ) (xs : List CapAt) → length (with_caps prices xs) ≡ length prices
+pub length-with_caps : (prices : List ℕ) (xs : List CapAt) → length (with_caps prices xs) ≡
+    length prices
 length-with_caps prices [] = refl
 length-with_caps prices (x ∷ xs) =
     length-with_caps (set prices x.at x.price) xs ∙ length-set prices x.at x.price

@@ -120,7 +120,8 @@ module _ (net : Net) (w : Weights) (prices : Prices) (s : ℕ) where
               least.least front leads,
             )
         by None is =
-            absurd (subst (IsReached net (edge_price net w prices) s l p) is (reached p) front leads)
+            absurd (subst (IsReached net (edge_price net w prices) s l p) is (reached p) front
+            leads)
 
     next_reached : (q : Place) (best : Option ℤ) (allowed : Bool)
         → IsLeastOf (λ k. via net w s (suc l) row (place_at k) q) place_count best

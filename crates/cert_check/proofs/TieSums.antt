@@ -22,7 +22,8 @@ pay_within : (b : Bool) (n : ℕ) (z : ℤ) → IsWithin n z → IsWithin n (pay
 pay_within true n z w = w
 pay_within false n z w = record { low = omega (arith, ints); high = omega (arith, ints) }
 
-pub sums_within : (old numbers new : List ℤ) (strand tie : ℕ) → HasAdded old numbers strand tie 13 new
+pub sums_within : (old numbers new : List ℤ) (strand tie : ℕ) →
+    HasAdded old numbers strand tie 13 new
     → AreSumsWithin tie old → AreNumbersWithin numbers → AreSumsWithin (tie + 1) new
 sums_within old numbers new strand tie added sums small k =
     let s = k / 13 in
@@ -34,7 +35,8 @@ sums_within old numbers new strand tie added sums small k =
     = ap (λ n. get_or new n (pos 0)) is in
     let at_old : get_or old (13 * s + j) (pos 0) ≡ get_or old k (pos 0)
     = ap (λ n. get_or old n (pos 0)) is in
-    let w = pay_within (nat_eq strand s && nat_lt j 13) (2 ^ 40) (get_or numbers (13 * tie + j) (pos 0))
+    let w = pay_within (nat_eq strand s && nat_lt j 13) (2 ^ 40)
+    (get_or numbers (13 * tie + j) (pos 0))
     (small (13 * tie + j)) in
     let o = sums k in
     let wl = w.low in

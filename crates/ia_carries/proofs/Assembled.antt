@@ -1,4 +1,5 @@
--- Placed code that was assembled: its image is faithful to it, and there is room for one procedure more.
+-- Placed code that was assembled: its image is faithful to it, and there is room for one procedure
+-- more.
 use Rattle.std.proofs.Common.{◌≡◌, ℕ, ◌+◌, ◌≤◌, List, ◌∷◌, ◌++◌, length, Some, arith}
 use Rattle.std.specs.Prelude.{slice_get}
 use Rattle.std.proofs.lemmas.List.Sums.{sum_by-append, sum_by-cons}
@@ -18,7 +19,8 @@ use Rattle.ia_simulation.proofs.Listed as listed
 use Rattle.pl_place.specs.declared.placed.LProc.{LProc}
 use Rattle.pl_place.specs.Valid.{ArePlaced, IsPlaced}
 
-module _ (procs : List LProc) (data_words : ℕ) (image : Image) (are : ArePlaced procs) (small : AreSmall procs) (is : IsImageOf procs data_words image) where
+module _ (procs : List LProc) (data_words : ℕ) (image : Image) (are : ArePlaced procs)
+    (small : AreSmall procs) (is : IsImageOf procs data_words image) where
   loaded : IsLoaded procs data_words image
   loaded = record {
     placed = are;
@@ -37,11 +39,15 @@ module _ (procs : List LProc) (data_words : ℕ) (image : Image) (are : ArePlace
       agrees = listed.agrees procs data_words image loaded input fits never;
       never_wrong = listed.never_wrong procs data_words image loaded input fits never;
     };
-    carries = λ routed behind. carries procs image is.listing routed behind.count (λ k r p one other. (behind.each k r p one other, are.each k p other));
+    carries = λ routed behind. carries procs image is.listing routed behind.count
+        (λ k r p one other. (behind.each k r p one other, are.each k p other));
   }
 
-pub room_for_one : (procs : List LProc) (p : LProc) (rest : List LProc) → ((k : ℕ) (x : LProc) → slice_get (procs ++ p ∷ rest) k ≡ Some x → IsPlaced x) → AreFew (procs ++ p ∷ rest) →
-    (data_words : ℕ) (a : Assembly) → IsAssembly procs data_words a → length a.code.items + size (emit_proc p) ≤ max_code_bytes
+pub room_for_one : (procs : List LProc) (p : LProc) (rest : List LProc) →
+    ((k : ℕ) (x : LProc) → slice_get (procs ++ p ∷ rest) k ≡ Some x → IsPlaced x) →
+    AreFew (procs ++ p ∷ rest) →
+    (data_words : ℕ) (a : Assembly) → IsAssembly procs data_words a →
+    length a.code.items + size (emit_proc p) ≤ max_code_bytes
 room_for_one procs p rest placed few data_words a is =
     let bytes : LProc → ℕ = λ p. size (emit_proc p) in
     let all = few_bytes (procs ++ p ∷ rest) few placed in

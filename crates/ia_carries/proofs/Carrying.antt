@@ -1,5 +1,6 @@
 -- The image of placed code carries the code and the flows that stand behind it.
-use Rattle.std.proofs.Common.{◌≡◌, ℕ, zero, suc, ◌+◌, Bool, List, [], ◌∷◌, ◌++◌, length, map, take, Some, refl, sym, ap, ◌∙◌, subst, arith, append_assoc}
+use Rattle.std.proofs.Common.{◌≡◌, ℕ, zero, suc, ◌+◌, Bool, List, [], ◌∷◌, ◌++◌, length, map, take}
+use Rattle.std.proofs.Common.{Some, refl, sym, ap, ◌∙◌, subst, arith, append_assoc}
 use Rattle.std.specs.Prelude.{slice_get, flat_map, Option, option_map}
 use Rattle.std.specs.List.{sum_by}
 use Rattle.std.proofs.lemmas.List.Concat.{flat_map-append}
@@ -13,9 +14,12 @@ use Rattle.ia_emit.specs.declared.item.Item.{Item}
 use Rattle.ia_emit.specs.declared.item.Item.TheVariants.{Plain, Jump, Branch, Call}
 use Rattle.ia_emit.specs.declared.item.Target.{Target}
 use Rattle.ia_emit.specs.declared.item.Target.TheVariants.{Block, Stub}
-use Rattle.ia_emit.specs.Carries.{framed, IsInstruction, IsBlockFrom, Part, IsPart, joined, items_of, goes_to, begins, parts_from, whole, Carries}
-use Rattle.ia_emit.specs.Code.{size, size_of, aimed, all_aimed, distance, front, first_entry, target_in, entry, code_from, code_of}
-use Rattle.ia_emit.specs.Emission.{reg_of, store, at, via_count, address_count, prologue, emit, emit_move, emit_op, emit_end, emit_block, emit_blocks, emit_proc}
+use Rattle.ia_emit.specs.Carries.{framed, IsInstruction, IsBlockFrom, Part, IsPart, joined}
+use Rattle.ia_emit.specs.Carries.{items_of, goes_to, begins, parts_from, whole, Carries}
+use Rattle.ia_emit.specs.Code.{size, size_of, aimed, all_aimed, distance, front, first_entry}
+use Rattle.ia_emit.specs.Code.{target_in, entry, code_from, code_of}
+use Rattle.ia_emit.specs.Emission.{reg_of, store, at, via_count, address_count, prologue, emit}
+use Rattle.ia_emit.specs.Emission.{emit_move, emit_op, emit_end, emit_block, emit_blocks, emit_proc}
 use Rattle.ia_emit.specs.Operands.{object_word, register_at}
 use Rattle.pl_moves.specs.declared.transfer.Move.{Move}
 use Rattle.pl_moves.specs.declared.transfer.Move.TheVariants as move
@@ -71,9 +75,11 @@ abbrev via_in : List Place → Reg
 via_in places = register_at (place_in places 0)
 
 abbrev index_in : Addr → List Place → Option (Reg × ℕ)
-index_in a places = option_map (λ (v : VarId). (register_at (place_in places (via_count a.base)), 4)) a.index
+index_in a places = option_map
+    (λ (v : VarId). (register_at (place_in places (via_count a.base)), 4)) a.index
 
-shell_ops : (p : LProc) (i : VInstr) (places : List Place) → emit_op (shell p) i places ≡ emit_op p i places
+shell_ops : (p : LProc) (i : VInstr) (places : List Place) → emit_op (shell p) i places ≡
+    emit_op p i places
 shell_ops p (instr.Set v n) places = refl
 shell_ops p (instr.Copy v s) places = refl
 shell_ops p (instr.Add v s) places = refl
@@ -88,9 +94,15 @@ shell_ops p (instr.CmpSet c v a b) places = refl
 shell_ops p (instr.DivMod q r a d) places = refl
 shell_ops p (instr.Check i n) places = refl
 shell_ops p (instr.CheckPos d) places = refl
-shell_ops p (instr.Load v a) places = ap (λ w. Plain (ins.MovRRm (reg_of (at p places v (address_count a))) (rm.Mem (w (via_in places) a.offset (index_in a places)))) ∷ []) (shell_words p a.base)
-shell_ops p (instr.Store a s) places = ap (λ w. Plain (store (w (via_in places) a.offset (index_in a places)) (at p places s (address_count a))) ∷ []) (shell_words p a.base)
-shell_ops p (instr.Addr v a) places = ap (λ w. Plain (ins.Lea (reg_of (at p places v (address_count a))) (w (via_in places) a.offset (index_in a places))) ∷ []) (shell_words p a.base)
+shell_ops p (instr.Load v a) places =
+    ap (λ w. Plain (ins.MovRRm (reg_of (at p places v (address_count a)))
+    (rm.Mem (w (via_in places) a.offset (index_in a places)))) ∷ []) (shell_words p a.base)
+shell_ops p (instr.Store a s) places =
+    ap (λ w. Plain (store (w (via_in places) a.offset (index_in a places))
+    (at p places s (address_count a))) ∷ []) (shell_words p a.base)
+shell_ops p (instr.Addr v a) places =
+    ap (λ w. Plain (ins.Lea (reg_of (at p places v (address_count a)))
+    (w (via_in places) a.offset (index_in a places))) ∷ []) (shell_words p a.base)
 shell_ops p (instr.Push s) places = refl
 shell_ops p (instr.Call q) places = refl
 shell_ops p (instr.Read v) places = refl
@@ -104,7 +116,13 @@ shell_ends p next (end.Branch c one other) = refl
 shell_ends p next end.Return = refl
 
 shell_is : (p : LProc) → Alike (shell p) p
-shell_is p = record { moves = shell_moves p; ops = shell_ops p; ends = shell_ends p; prologues = refl }
+shell_is p = record {
+  moves = shell_moves p;
+  ops = shell_ops p;
+  ends = shell_ends p;
+  prologues =
+      refl;
+}
 
 -- ---- the frame of code and flow is that of the placed code before them
 
@@ -116,18 +134,33 @@ same_vars [] = refl
 same_vars (v ∷ vs) = ap (λ l. v ∷ l) (same_vars vs)
 
 abbrev empty : ProcId → ℕ → ℕ → List VarKind → List VarId → Bool → LProc
-empty id args aggregates vars slots near = record { id = id; args = args; aggregates = aggregates; vars = vars; slots = slots; near = near; blocks = [] }
+empty id args aggregates vars slots near =
+    record {
+      id = id;
+      args = args;
+      aggregates = aggregates;
+      vars = vars;
+      slots = slots;
+      near = near;
+      blocks = [];
+    }
 
 module _ (r : Routed) (p : LProc) (is : IsBehind r p) (valid : IsPlaced p) where
   framed_is : framed r ≡ shell p
   framed_is =
       let c = r.code in
-      let slots_are : map var (slots_of r) ≡ p.slots = sym (ap (map var) is.slots) ∙ same_vars p.slots in
-      let near_is : near c.vars c.args ≡ p.near = ap (λ vs. near vs c.args) (sym is.vars) ∙ ap (near p.vars) (sym is.args) ∙ sym valid.numbers_in_range.near_is in
-      ap (λ id. empty id c.args c.aggregates c.vars (map var (slots_of r)) (near c.vars c.args)) (sym is.id)
-      ∙ ap (λ n. empty p.id n c.aggregates c.vars (map var (slots_of r)) (near c.vars c.args)) (sym is.args)
-      ∙ ap (λ n. empty p.id p.args n c.vars (map var (slots_of r)) (near c.vars c.args)) (sym is.aggregates)
-      ∙ ap (λ vs. empty p.id p.args p.aggregates vs (map var (slots_of r)) (near c.vars c.args)) (sym is.vars)
+      let slots_are : map var (slots_of r) ≡ p.slots = sym (ap (map var) is.slots)
+      ∙ same_vars p.slots in
+      let near_is : near c.vars c.args ≡ p.near = ap (λ vs. near vs c.args) (sym is.vars)
+      ∙ ap (near p.vars) (sym is.args) ∙ sym valid.numbers_in_range.near_is in
+      ap (λ id. empty id c.args c.aggregates c.vars (map var (slots_of r)) (near c.vars c.args))
+      (sym is.id)
+      ∙ ap (λ n. empty p.id n c.aggregates c.vars (map var (slots_of r)) (near c.vars c.args))
+      (sym is.args)
+      ∙ ap (λ n. empty p.id p.args n c.vars (map var (slots_of r)) (near c.vars c.args))
+      (sym is.aggregates)
+      ∙ ap (λ vs. empty p.id p.args p.aggregates vs (map var (slots_of r)) (near c.vars c.args))
+      (sym is.vars)
       ∙ ap (λ vs. empty p.id p.args p.aggregates p.vars vs (near c.vars c.args)) slots_are
       ∙ ap (λ b. empty p.id p.args p.aggregates p.vars p.slots b) near_is
 
@@ -142,28 +175,35 @@ module _ (r : Routed) (p : LProc) (same : Alike (framed r) p) where
 
   moves_are : (ms : List Move) → flat_map (emit p) (map placed.Move ms) ≡ moved ms
   moves_are [] = refl
-  moves_are (m ∷ ms) = ap (λ i. Plain i ∷ flat_map (emit p) (map placed.Move ms)) (sym (same.moves m)) ∙ ap (λ l. Plain (emit_move (framed r) m) ∷ l) (moves_are ms)
+  moves_are (m ∷ ms) = ap (λ i. Plain i ∷ flat_map (emit p) (map placed.Move ms))
+      (sym (same.moves m)) ∙ ap (λ l. Plain (emit_move (framed r) m) ∷ l) (moves_are ms)
 
   -- what moves and an instruction become, with what follows
   after_moves : (ms : List Move) (op : LInstr) (rest : List LInstr) (last : List Item) →
-      flat_map (emit p) (map placed.Move ms ++ op ∷ rest) ++ last ≡ moved ms ++ (emit p op ++ (flat_map (emit p) rest ++ last))
+      flat_map (emit p) (map placed.Move ms ++ op ∷ rest) ++ last ≡ moved ms
+      ++ (emit p op ++ (flat_map (emit p) rest ++ last))
   after_moves ms op rest last =
       ap (λ l. l ++ last) (flat_map-append (emit p) (map placed.Move ms) (op ∷ rest))
-      ∙ append_assoc (flat_map (emit p) (map placed.Move ms)) (emit p op ++ flat_map (emit p) rest) last
+      ∙ append_assoc (flat_map (emit p) (map placed.Move ms)) (emit p op ++ flat_map (emit p) rest)
+      last
       ∙ ap (λ l. l ++ ((emit p op ++ flat_map (emit p) rest) ++ last)) (moves_are ms)
       ∙ ap (λ l. moved ms ++ l) (append_assoc (emit p op) (flat_map (emit p) rest) last)
 
-  instruction_is : (b k : ℕ) (i : VInstr) (op : LInstr) → IsOp op i (operand_places r b k i) → IsInstruction r b k i (emit p op)
-  instruction_is b k i (placed.Op j places) is = (places.items, is.1, ap (λ i. emit_op p i places.items) is.0 ∙ sym (same.ops i places.items))
+  instruction_is : (b k : ℕ) (i : VInstr) (op : LInstr) → IsOp op i (operand_places r b k i) →
+      IsInstruction r b k i (emit p op)
+  instruction_is b k i (placed.Op j places) is =
+      (places.items, is.1, ap (λ i. emit_op p i places.items) is.0 ∙ sym (same.ops i places.items))
   instruction_is b k i (placed.Move m) is = absurd is
 
-  block_is : (b k : ℕ) (code : List VInstr) (left : List LInstr) → Lays r b k code left → (e : End) → e ≡ end_of r.code b →
+  block_is : (b k : ℕ) (code : List VInstr) (left : List LInstr) → Lays r b k code left →
+      (e : End) → e ≡ end_of r.code b →
       IsBlockFrom r b k code (flat_map (emit p) left ++ emit_end p (b + 1) e)
   block_is b k [] left lays e is =
       let last = emit_end p (b + 1) e in (
         moved lays.0,
         ap (λ l. flat_map (emit p) l ++ last) lays.1 ∙ ap (λ l. l ++ last) (moves_are lays.0)
-            ∙ ap (λ l. moved lays.0 ++ l) (sym (same.ends (b + 1) e) ∙ ap (emit_end (framed r) (b + 1)) is),
+            ∙ ap (λ l. moved lays.0 ++ l)
+            (sym (same.ends (b + 1) e) ∙ ap (emit_end (framed r) (b + 1)) is),
         (lays.0, refl, lays.2),
       )
   block_is b k (i ∷ code) left lays e is =
@@ -183,12 +223,14 @@ blocks_from : LProc → ℕ → List LBlock → List (List Item)
 blocks_from p k [] = []
 blocks_from p k (b ∷ bs) = emit_block p k b ∷ blocks_from p (k + 1) bs
 
-joined_is : (p : LProc) (k : ℕ) (bs : List LBlock) → joined (blocks_from p k bs) ≡ emit_blocks p k bs
+joined_is : (p : LProc) (k : ℕ) (bs : List LBlock) → joined (blocks_from p k bs) ≡
+    emit_blocks p k bs
 unfolding blocks_from
 joined_is p k [] = refl
 joined_is p k (b ∷ bs) = ap (λ l. emit_block p k b ++ l) (joined_is p (k + 1) bs)
 
-take_is : (p : LProc) (k n : ℕ) (bs : List LBlock) → take n (blocks_from p k bs) ≡ blocks_from p k (take n bs)
+take_is : (p : LProc) (k n : ℕ) (bs : List LBlock) → take n (blocks_from p k bs) ≡
+    blocks_from p k (take n bs)
 unfolding blocks_from
 take_is p k zero bs = refl
 take_is p k (suc n) [] = refl
@@ -199,11 +241,13 @@ unfolding blocks_from
 count_is p k [] = refl
 count_is p k (b ∷ bs) = ap suc (count_is p (k + 1) bs)
 
-block_at : (p : LProc) (k : ℕ) (bs : List LBlock) (j : ℕ) (items : List Item) → slice_get (blocks_from p k bs) j ≡ Some items →
+block_at : (p : LProc) (k : ℕ) (bs : List LBlock) (j : ℕ) (items : List Item) →
+    slice_get (blocks_from p k bs) j ≡ Some items →
     (block : LBlock) × (slice_get bs j ≡ Some block) × (emit_block p (k + j) block ≡ items)
 unfolding blocks_from
 block_at p k [] j items e = cc
-block_at p k (b ∷ bs) zero items e = let place : k + 0 ≡ k = omega arith in (b, refl, ap (λ n. emit_block p n b) place ∙ some_same (emit_block p k b) items e)
+block_at p k (b ∷ bs) zero items e = let place : k + 0 ≡ k = omega arith in
+    (b, refl, ap (λ n. emit_block p n b) place ∙ some_same (emit_block p k b) items e)
 block_at p k (b ∷ bs) (suc j) items e =
     let x = block_at p (k + 1) bs j items e in
     let place : k + suc j ≡ k + 1 + j = omega arith in
@@ -223,28 +267,34 @@ module _ (r : Routed) (p : LProc) (is : IsBehind r p) (valid : IsPlaced p) where
         let x = block_at p 0 p.blocks b items there in
         let place : b ≡ 0 + b = omega arith in
         subst (IsBlockFrom r b 0 (code_in r.code b)) (ap (λ n. emit_block p n x.0) place ∙ x.2)
-        (block_is r p same b 0 (code_in r.code b) x.0.code (is.lays b x.0 x.1) x.0.end (is.ends b x.0 x.1));
+        (block_is r p same b 0 (code_in r.code b) x.0.code (is.lays b x.0 x.1) x.0.end
+        (is.ends b x.0 x.1));
   }
 
   items_are : items_of (part_of r p) ≡ emit_proc p
-  items_are = ap (λ l. l ++ joined (blocks_from p 0 p.blocks)) same.prologues ∙ ap (λ l. prologue p ++ l) (joined_is p 0 p.blocks)
+  items_are = ap (λ l. l ++ joined (blocks_from p 0 p.blocks)) same.prologues
+      ∙ ap (λ l. prologue p ++ l) (joined_is p 0 p.blocks)
 
   goes : (at : ℕ) (t : Target) → goes_to (part_of r p) at t ≡ target_in p at t
   goes at (Block b) =
       ap (λ l. at + size l + size (joined (take b.0 (blocks_from p 0 p.blocks)))) same.prologues
-      ∙ ap (λ l. at + size (prologue p) + size l) (ap joined (take_is p 0 b.0 p.blocks) ∙ joined_is p 0 (take b.0 p.blocks))
+      ∙ ap (λ l. at + size (prologue p) + size l)
+      (ap joined (take_is p 0 b.0 p.blocks) ∙ joined_is p 0 (take b.0 p.blocks))
   goes at (Stub trap) = refl
 
 -- ---- the whole
 
 -- what is aimed at the same places is the same
-aimed_same : (t u : Target → ℕ) (e f : ℕ → ℕ) → ((x : Target) → t x ≡ u x) → ((k : ℕ) → e k ≡ f k) → (behind : ℕ) (i : Item) → aimed t e behind i ≡ aimed u f behind i
+aimed_same : (t u : Target → ℕ) (e f : ℕ → ℕ) → ((x : Target) → t x ≡ u x) → ((k : ℕ) → e k ≡ f k) →
+    (behind : ℕ) (i : Item) → aimed t e behind i ≡ aimed u f behind i
 aimed_same t u e f ts es behind (Plain i) = refl
 aimed_same t u e f ts es behind (Jump x) = ap (λ n. ins.Jmp (distance behind n)) (ts x)
 aimed_same t u e f ts es behind (Branch c x) = ap (λ n. ins.Jcc c (distance behind n)) (ts x)
 aimed_same t u e f ts es behind (Call q) = ap (λ n. ins.Call (distance behind n)) (es q.0)
 
-all_aimed_same : (t u : Target → ℕ) (e f : ℕ → ℕ) → ((x : Target) → t x ≡ u x) → ((k : ℕ) → e k ≡ f k) → (at : ℕ) (items : List Item) → all_aimed t e at items ≡ all_aimed u f at items
+all_aimed_same : (t u : Target → ℕ) (e f : ℕ → ℕ) → ((x : Target) → t x ≡ u x) →
+    ((k : ℕ) → e k ≡ f k) → (at : ℕ) (items : List Item) → all_aimed t e at items ≡
+    all_aimed u f at items
 all_aimed_same t u e f ts es at [] = refl
 all_aimed_same t u e f ts es at (i ∷ is) =
     ap (λ x. x ∷ all_aimed t e (at + size_of i) is) (aimed_same t u e f ts es (at + size_of i) i)
@@ -252,28 +302,33 @@ all_aimed_same t u e f ts es at (i ∷ is) =
 
 -- each of these stands behind the placed code of its number, which is valid
 abbrev pub Behind : List Routed → List LProc → Type 0
-Behind rs ps = (k : ℕ) (r : Routed) (p : LProc) → slice_get rs k ≡ Some r → slice_get ps k ≡ Some p → IsBehind r p × IsPlaced p
+Behind rs ps = (k : ℕ) (r : Routed) (p : LProc) → slice_get rs k ≡ Some r → slice_get ps k ≡
+    Some p → IsBehind r p × IsPlaced p
 
 parts_of : List Routed → List LProc → List Part
 parts_of [] ps = []
 parts_of (r ∷ rs) [] = []
 parts_of (r ∷ rs) (p ∷ ps) = part_of r p ∷ parts_of rs ps
 
-behind_are : (rs : List Routed) (ps : List LProc) → length rs ≡ length ps → map (λ (x : Part). x.behind) (parts_of rs ps) ≡ rs
+behind_are : (rs : List Routed) (ps : List LProc) → length rs ≡ length ps →
+    map (λ (x : Part). x.behind) (parts_of rs ps) ≡ rs
 unfolding parts_of
 behind_are [] ps e = refl
 behind_are (r ∷ rs) [] e = absurd (omega (arith, e))
 behind_are (r ∷ rs) (p ∷ ps) e = ap (λ l. r ∷ l) (behind_are rs ps (omega (arith, e)))
 
-each_is_part : (rs : List Routed) (ps : List LProc) → Behind rs ps → (k : ℕ) (x : Part) → slice_get (parts_of rs ps) k ≡ Some x → IsPart x
+each_is_part : (rs : List Routed) (ps : List LProc) → Behind rs ps → (k : ℕ) (x : Part) →
+    slice_get (parts_of rs ps) k ≡ Some x → IsPart x
 unfolding parts_of
 each_is_part [] ps b k x e = cc
 each_is_part (r ∷ rs) [] b k x e = cc
-each_is_part (r ∷ rs) (p ∷ ps) b zero x e = let z = b 0 r p refl refl in subst IsPart (some_same (part_of r p) x e) (is_part r p z.0 z.1)
+each_is_part (r ∷ rs) (p ∷ ps) b zero x e = let z = b 0 r p refl refl in
+    subst IsPart (some_same (part_of r p) x e) (is_part r p z.0 z.1)
 each_is_part (r ∷ rs) (p ∷ ps) b (suc k) x e = each_is_part rs ps (λ k. b (suc k)) k x e
 
 sizes_are : (rs : List Routed) (ps : List LProc) → length rs ≡ length ps → Behind rs ps → (k : ℕ) →
-    sum_by (λ x. size (items_of x)) (take k (parts_of rs ps)) ≡ sum_by (λ p. size (emit_proc p)) (take k ps)
+    sum_by (λ x. size (items_of x)) (take k (parts_of rs ps)) ≡ sum_by (λ p. size (emit_proc p))
+    (take k ps)
 unfolding parts_of
 sizes_are rs ps e b zero = refl
 sizes_are [] [] e b (suc k) = refl
@@ -282,11 +337,13 @@ sizes_are (r ∷ rs) [] e b (suc k) = absurd (omega (arith, e))
 sizes_are (r ∷ rs) (p ∷ ps) e b (suc k) =
     let z = b 0 r p refl refl in
     sum_by-cons (λ x. size (items_of x)) (part_of r p) (take k (parts_of rs ps))
-    ∙ ap (λ l. size l + sum_by (λ x. size (items_of x)) (take k (parts_of rs ps))) (items_are r p z.0 z.1)
+    ∙ ap (λ l. size l + sum_by (λ x. size (items_of x)) (take k (parts_of rs ps)))
+    (items_are r p z.0 z.1)
     ∙ ap (λ n. size (emit_proc p) + n) (sizes_are rs ps (omega (arith, e)) (λ k. b (suc k)) k)
     ∙ sym (sum_by-cons (λ p. size (emit_proc p)) p (take k ps))
 
-parts_are : (e f : ℕ → ℕ) → ((k : ℕ) → e k ≡ f k) → (at : ℕ) (rs : List Routed) (ps : List LProc) → length rs ≡ length ps → Behind rs ps →
+parts_are : (e f : ℕ → ℕ) → ((k : ℕ) → e k ≡ f k) → (at : ℕ) (rs : List Routed) (ps : List LProc) →
+    length rs ≡ length ps → Behind rs ps →
     parts_from e at (parts_of rs ps) ≡ code_from f at ps
 unfolding parts_of
 parts_are e f es at [] [] n b = refl
@@ -297,18 +354,26 @@ parts_are e f es at (r ∷ rs) (p ∷ ps) n b =
     let x = part_of r p in
     let items = items_are r p z.0 z.1 in
     ap (λ l. l ++ parts_from e (at + size (items_of x)) (parts_of rs ps))
-    (all_aimed_same (goes_to x at) (target_in p at) e f (goes r p z.0 z.1 at) es at (items_of x) ∙ ap (all_aimed (target_in p at) f at) items)
-    ∙ ap (λ l. all_aimed (target_in p at) f at (emit_proc p) ++ parts_from e (at + size l) (parts_of rs ps)) items
-    ∙ ap (λ l. all_aimed (target_in p at) f at (emit_proc p) ++ l) (parts_are e f es (at + size (emit_proc p)) rs ps (omega (arith, n)) (λ k. b (suc k)))
+    (all_aimed_same (goes_to x at) (target_in p at) e f (goes r p z.0 z.1 at) es at (items_of x)
+    ∙ ap (all_aimed (target_in p at) f at) items)
+    ∙ ap (λ l. all_aimed (target_in p at) f at (emit_proc p) ++ parts_from e (at + size l)
+    (parts_of rs ps)) items
+    ∙ ap (λ l. all_aimed (target_in p at) f at (emit_proc p) ++ l)
+    (parts_are e f es (at + size (emit_proc p)) rs ps (omega (arith, n)) (λ k. b (suc k)))
 
-pub carries : (procs : List LProc) (image : Image) → IsListing image.code (code_of procs) → (routed : List Routed) → length routed ≡ length procs → Behind routed procs → Carries image routed
+pub carries : (procs : List LProc) (image : Image) → IsListing image.code (code_of procs) →
+    (routed : List Routed) → length routed ≡ length procs → Behind routed procs →
+    Carries image routed
 carries procs image listing routed n b =
     let parts = parts_of routed procs in
-    let starts : (k : ℕ) → begins parts k ≡ entry procs k = λ k. ap (λ s. first_entry + s) (sizes_are routed procs n b k) in
+    let starts : (k : ℕ) → begins parts k ≡ entry procs k = λ k. ap (λ s. first_entry + s)
+    (sizes_are routed procs n b k) in
     let none : (t : Target) → 0 ≡ 0 = λ t. refl in
     let same : whole parts ≡ code_of procs =
-    ap (λ l. l ++ parts_from (begins parts) first_entry parts) (all_aimed_same (λ t. 0) (λ t. 0) (begins parts) (entry procs) none starts 0 front)
-    ∙ ap (λ l. all_aimed (λ t. 0) (entry procs) 0 front ++ l) (parts_are (begins parts) (entry procs) starts first_entry routed procs n b) in
+    ap (λ l. l ++ parts_from (begins parts) first_entry parts)
+    (all_aimed_same (λ t. 0) (λ t. 0) (begins parts) (entry procs) none starts 0 front)
+    ∙ ap (λ l. all_aimed (λ t. 0) (entry procs) 0 front ++ l)
+    (parts_are (begins parts) (entry procs) starts first_entry routed procs n b) in
     record {
       parts = parts;
       behind = behind_are routed procs n;

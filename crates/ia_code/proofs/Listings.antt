@@ -11,10 +11,12 @@ use Rattle.pra_list.proofs.Options.{some_same}
 use Rattle.ia_code.proofs.ReadingIsTable.{decoded-bytes_of}
 use Rattle.ia_code.proofs.EncodingSize.{code_of}
 
-pub bytes_of_all-append : (is js : List Ins) → bytes_of_all (is ++ js) ≡ bytes_of_all is ++ bytes_of_all js
+pub bytes_of_all-append : (is js : List Ins) → bytes_of_all (is ++ js) ≡ bytes_of_all is
+    ++ bytes_of_all js
 bytes_of_all-append [] js = refl
 bytes_of_all-append (i ∷ is) js =
-    ap (λ l. bytes_of i ++ l) (bytes_of_all-append is js) ∙ sym (append_assoc (bytes_of i) (bytes_of_all is) (bytes_of_all js))
+    ap (λ l. bytes_of i ++ l) (bytes_of_all-append is js)
+    ∙ sym (append_assoc (bytes_of i) (bytes_of_all is) (bytes_of_all js))
 
 -- the parts of a list of sound instructions are sound
 pub sound_front : (is js : List Ins) → AreSound (is ++ js) → AreSound is
@@ -36,12 +38,15 @@ some_bytes i rest sound e =
     let none : 0 ≡ length (bytes_of i ++ rest) = ap length e in
     omega (arith, length-append (bytes_of i) rest)
 
-first_same : (i j : Ins) (a b : List ℕ) → IsSound i → IsSound j → bytes_of i ++ a ≡ bytes_of j ++ b → (i ≡ j) × (a ≡ b)
+first_same : (i j : Ins) (a b : List ℕ) → IsSound i → IsSound j → bytes_of i ++ a ≡ bytes_of j
+    ++ b → (i ≡ j) × (a ≡ b)
 first_same i j a b si sj e =
-    let same = some_same (i, a) (j, b) (sym (one_spelling_of i si a) ∙ ap instruction_at e ∙ one_spelling_of j sj b) in
+    let same = some_same (i, a) (j, b)
+    (sym (one_spelling_of i si a) ∙ ap instruction_at e ∙ one_spelling_of j sj b) in
     (ap (λ t. t.0) same, ap (λ t. t.1) same)
 
-same_list : (is js : List Ins) → AreSound is → AreSound js → bytes_of_all is ≡ bytes_of_all js → is ≡ js
+same_list : (is js : List Ins) → AreSound is → AreSound js → bytes_of_all is ≡ bytes_of_all js →
+    is ≡ js
 same_list [] [] s t e = refl
 same_list [] (j ∷ js) s t e = absurd (some_bytes j (bytes_of_all js) t.0 e)
 same_list (i ∷ is) [] s t e = absurd (some_bytes i (bytes_of_all is) s.0 (sym e))
@@ -50,17 +55,20 @@ same_list (i ∷ is) (j ∷ js) s t e =
     ap (λ k. k ∷ is) same.0 ∙ ap (λ l. j ∷ l) (same_list is js s.1 t.1 same.1)
 
 -- bytes are those of one list
-pub one_listing : (bytes : List ℕ) (is js : List Ins) → IsListing bytes is → IsListing bytes js → is ≡ js
+pub one_listing : (bytes : List ℕ) (is js : List Ins) → IsListing bytes is → IsListing bytes js →
+    is ≡ js
 one_listing bytes is js p q = same_list is js p.sound q.sound (sym p.spelled ∙ q.spelled)
 
 -- what stands behind the first instructions
-pub listed_behind : (before behind : List Ins) → drop (length (bytes_of_all before)) (bytes_of_all (before ++ behind)) ≡ bytes_of_all behind
+pub listed_behind : (before behind : List Ins) → drop (length (bytes_of_all before))
+    (bytes_of_all (before ++ behind)) ≡ bytes_of_all behind
 listed_behind before behind =
     ap (drop (length (bytes_of_all before))) (bytes_of_all-append before behind)
     ∙ drop-append_seam (bytes_of_all before) (bytes_of_all behind)
 
 -- each instruction is decoded at its place
-pub decoded_at_place : (bytes : List ℕ) (before : List Ins) (i : Ins) (behind : List Ins) → IsListing bytes (before ++ i ∷ behind) →
+pub decoded_at_place : (bytes : List ℕ) (before : List Ins) (i : Ins) (behind : List Ins) →
+    IsListing bytes (before ++ i ∷ behind) →
     decoded (drop (length (bytes_of_all before)) bytes) ≡ Some (i, length (bytes_of i))
 decoded_at_place bytes before i behind p =
     let sound : IsSound i = (sound_behind before (i ∷ behind) p.sound).0 in

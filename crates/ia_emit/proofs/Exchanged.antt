@@ -1,12 +1,15 @@
--- Moves between registers are what their bytes say, so no moves with a place that is none pass for them.
-use Rattle.std.proofs.Common.{◌≡◌, ◌≢◌, ℕ, true, false, nat_eq, List, [], ◌∷◌, map, refl, sym, ap, subst, ◌∙◌, ⊎_elim, arith}
+-- Moves between registers are what their bytes say, so no moves with a place that is none pass for
+-- them.
+use Rattle.std.proofs.Common.{◌≡◌, ◌≢◌, ℕ, true, false, nat_eq, List, [], ◌∷◌, map, refl, sym, ap}
+use Rattle.std.proofs.Common.{subst, ◌∙◌, ⊎_elim, arith}
 use Rattle.std.proofs.lemmas.Bool.{cases_eq}
 use Rattle.std.proofs.lemmas.Bool.Decides.{nat_tests}
 use Rattle.pra_list.specs.Each.{Each}
 use Rattle.pra_list.proofs.Each.{each_of_all}
 use Rattle.pra_list.proofs.Options.{some_same}
 use Rattle.pra_base.specs.declared.ids.Place.{Place}
-use Rattle.pra_base.specs.declared.ids.Place.TheVariants.{Eax, Ecx, Edx, Ebx, Esi, Edi, Mem, Const, EaxM, EcxM, EdxM, EbxM, EsiM, EdiM}
+use Rattle.pra_base.specs.declared.ids.Place.TheVariants.{Eax, Ecx, Edx, Ebx, Esi, Edi, Mem, Const}
+use Rattle.pra_base.specs.declared.ids.Place.TheVariants.{EaxM, EcxM, EdxM, EbxM, EsiM, EdiM}
 use Rattle.pra_base.specs.Places.{number, is_register}
 use Rattle.ia_code.specs.declared.ins.Reg.{Reg}
 use Rattle.ia_code.specs.declared.ins.Reg.TheVariants as reg
@@ -39,13 +42,16 @@ other_register r a b c d =
     let is_d : nat_eq r 7 ≡ false = grind (arith, nat_tests) in
     simp (is_a, is_b, is_c, is_d)
 
-by_case : (r k : ℕ) → after (Register k) ≡ Register k → (r ≢ k → after (Register r) ≡ Register r) → after (Register r) ≡ Register r
+by_case : (r k : ℕ) → after (Register k) ≡ Register k → (r ≢ k → after (Register r) ≡ Register r) →
+    after (Register r) ≡ Register r
 by_case r k here other =
-    ⊎_elim (λ (e : r ≡ k). subst (λ n. after (Register n) ≡ Register n) (sym e) here) other (cases_eq r k)
+    ⊎_elim (λ (e : r ≡ k). subst (λ n. after (Register n) ≡ Register n) (sym e) here) other
+    (cases_eq r k)
 
 stays : (cell : Cell) → after cell ≡ cell
 stays (Register r) =
-    by_case r 0 refl (λ a. by_case r 1 refl (λ b. by_case r 6 refl (λ c. by_case r 7 refl (λ d. other_register r a b c d))))
+    by_case r 0 refl (λ a. by_case r 1 refl
+    (λ b. by_case r 6 refl (λ c. by_case r 7 refl (λ d. other_register r a b c d))))
 stays (Memory v) = refl
 stays (Fixed n) = refl
 
@@ -80,7 +86,8 @@ again EbxM e = cc
 again EsiM e = cc
 again EdiM e = cc
 
-same_place : (p q : Place) → is_register (number p) ≡ true → is_register (number q) ≡ true → place_reg p ≡ place_reg q → p ≡ q
+same_place : (p q : Place) → is_register (number p) ≡ true → is_register (number q) ≡ true →
+    place_reg p ≡ place_reg q → p ≡ q
 same_place p q one other e = sym (again p one) ∙ ap place_of e ∙ again q other
 
 -- exchanges of two registers
@@ -88,11 +95,13 @@ abbrev IsSwap : Move → Type 0
 IsSwap (Swap one other) = InRegisters (Swap one other)
 IsSwap m = ⊥
 
-same_swap : (p : LProc) (n m : Move) → IsSwap n → InRegisters m → emit_move p n ≡ emit_move p m → m ≡ n
+same_swap : (p : LProc) (n m : Move) → IsSwap n → InRegisters m → emit_move p n ≡ emit_move p m →
+    m ≡ n
 same_swap p (Swap a b) (Swap c d) is inside e =
     let first : place_reg c ≡ place_reg a = cc in
     let second : place_reg d ≡ place_reg b = cc in
-    ap (λ x. Swap x d) (same_place c a inside.0 is.0 first) ∙ ap (λ x. Swap a x) (same_place d b inside.1 is.1 second)
+    ap (λ x. Swap x d) (same_place c a inside.0 is.0 first) ∙ ap (λ x. Swap a x)
+    (same_place d b inside.1 is.1 second)
 same_swap p (Swap a b) (Copy to from) is inside e = cc
 same_swap p (Swap a b) (Load to v) is inside e = cc
 same_swap p (Swap a b) (Store v from) is inside e = cc
@@ -110,21 +119,26 @@ same_swaps p (n ∷ ns) [] is inside e = cc
 same_swaps p (n ∷ ns) (m ∷ ms) is inside e =
     let first : emit_move p n ≡ emit_move p m = cc in
     let rest : map (λ m. Plain (emit_move p m)) ns ≡ map (λ m. Plain (emit_move p m)) ms = cc in
-    ap (λ x. x ∷ ms) (same_swap p n m is.0 inside.0 first) ∙ ap (λ l. n ∷ l) (same_swaps p ns ms is.1 inside.1 rest)
+    ap (λ x. x ∷ ms) (same_swap p n m is.0 inside.0 first) ∙ ap (λ l. n ∷ l)
+    (same_swaps p ns ms is.1 inside.1 rest)
 
 -- the exchanges of the bytes do not leave EAX as it was
 rotates : Assigns rotation [] → ⊥
 rotates a =
-    let turned : Register 1 ≡ a.after (Register 0) = ap (λ (held : Cell → Cell). held (Register 0)) (some_same _ a.after a.runs) in
+    let turned : Register 1 ≡ a.after (Register 0) = ap (λ (held : Cell → Cell). held (Register 0))
+    (some_same _ a.after a.runs) in
     let same : Register 1 ≡ Register 0 = turned ∙ a.each (Register 0) in
     cc
 
 pub not_in_code : (r : Routed) (b l : ℕ) → MovesInto r b l exchanges → ⊥
-not_in_code r b l is = let first = (each_of_all InRegisters exchanges is.in_registers).0 in let no : false ≡ true = first.1 in cc
+not_in_code r b l is = let first = (each_of_all InRegisters exchanges is.in_registers).0 in
+    let no : false ≡ true = first.1 in cc
 
 pub not_in_bytes : (r : Routed) (b l : ℕ) → pairs_at r b l ≡ [] →
     AreMoves r b l (map (λ m. Plain (emit_move (framed r) m)) exchanges) → ⊥
 not_in_bytes r b l none are =
     let ms = are.0 in
-    let same : ms ≡ rotation = same_swaps (framed r) rotation ms ((refl, refl), ((refl, refl), ((refl, refl), ((refl, refl), tt)))) (each_of_all InRegisters ms are.2.in_registers) are.1 in
+    let same : ms ≡ rotation = same_swaps (framed r) rotation ms
+    ((refl, refl), ((refl, refl), ((refl, refl), ((refl, refl), tt))))
+    (each_of_all InRegisters ms are.2.in_registers) are.1 in
     rotates (subst (λ l. Assigns l []) same (subst (Assigns ms) none are.2.assigns))

@@ -1,11 +1,14 @@
 -- How many bytes placed code becomes at most.
-use Rattle.std.proofs.Common.{◌≡◌, ℕ, zero, suc, ◌+◌, ◌*◌, ◌≤◌, ◌<◌, Bool, true, false, List, [], ◌∷◌, ◌++◌, length, map, take, refl, arith, length-append, Option, Some, None, slice_get}
+use Rattle.std.proofs.Common.{◌≡◌, ℕ, zero, suc, ◌+◌, ◌*◌, ◌≤◌, ◌<◌, Bool, true, false, List, []}
+use Rattle.std.proofs.Common.{◌∷◌, ◌++◌, length, map, take, refl, arith, length-append, Option}
+use Rattle.std.proofs.Common.{Some, None, slice_get}
 use Rattle.std.specs.Prelude.{ℤ, pos, if◌then◌else◌, nat_eq, flat_map}
 use Rattle.std.specs.List.{sum_by, filter_map}
 use Rattle.std.proofs.lemmas.List.{length-map}
 use Rattle.std.proofs.lemmas.List.Sums.{sum_by-cons}
 use Rattle.std.specs.Int.{w8, cast_unsigned}
-use Rattle.ia_code.specs.DecodeTable.{reg_number, op_number, imm32, displacement, address, operand, bytes_of}
+use Rattle.ia_code.specs.DecodeTable.{reg_number, op_number, imm32, displacement, address, operand}
+use Rattle.ia_code.specs.DecodeTable.{bytes_of}
 use Rattle.ia_code.specs.Image.{max_code_bytes}
 use Rattle.ia_code.specs.declared.ins.Reg.{Reg}
 use Rattle.ia_code.specs.declared.ins.Reg.TheVariants.{Esp}
@@ -15,13 +18,19 @@ use Rattle.ia_code.specs.declared.ins.Rm.{Rm}
 use Rattle.ia_code.specs.declared.ins.Rm.TheVariants as rm
 use Rattle.ia_code.specs.declared.ins.AluOp.TheVariants as alu
 use Rattle.ia_code.specs.declared.ins.Ins.{Ins}
-use Rattle.ia_code.specs.declared.ins.Ins.TheVariants.{MovRmR, MovRRm, MovRI, MovRmI, AluRmR, AluRRm, AluRmI, AluRmB, ImulRRm, ImulI, ImulB, Neg, Idiv, Cdq, Lea, PushR, PopR, PushM, PushI, Call, Ret, RetI, Jmp, Jcc, Set, Movzx, Xchg, Test, Int}
+use Rattle.ia_code.specs.declared.ins.Ins.TheVariants.{MovRmR, MovRRm, MovRI, MovRmI, AluRmR}
+use Rattle.ia_code.specs.declared.ins.Ins.TheVariants.{AluRRm, AluRmI, AluRmB, ImulRRm, ImulI}
+use Rattle.ia_code.specs.declared.ins.Ins.TheVariants.{ImulB, Neg, Idiv, Cdq, Lea, PushR, PopR}
+use Rattle.ia_code.specs.declared.ins.Ins.TheVariants.{PushM, PushI, Call, Ret, RetI, Jmp, Jcc, Set}
+use Rattle.ia_code.specs.declared.ins.Ins.TheVariants.{Movzx, Xchg, Test, Int}
 use Rattle.ia_emit.specs.declared.item.Item.{Item}
 use Rattle.ia_emit.specs.declared.item.Item.TheVariants.{Plain, Jump, Branch}
 use Rattle.ia_emit.specs.declared.item.Item.TheVariants as item
 use Rattle.ia_emit.specs.declared.item.Target.TheVariants.{Block, Stub}
 use Rattle.ia_emit.specs.Operands.{locals, width_of, memory_at}
-use Rattle.ia_emit.specs.Emission.{rm_of, reg_of, at, bound, address_count, address as address_of, operation, emit_move, emit_op, emit, jump_to, return, leave, emit_end, emit_block, emit_blocks, lowered, prologue, emit_proc}
+use Rattle.ia_emit.specs.Emission.{rm_of, reg_of, at, bound, address_count, address as address_of}
+use Rattle.ia_emit.specs.Emission.{operation, emit_move, emit_op, emit, jump_to, return, leave}
+use Rattle.ia_emit.specs.Emission.{emit_end, emit_block, emit_blocks, lowered, prologue, emit_proc}
 use Rattle.ia_emit.specs.Code.{size_of, size, code_size}
 use Rattle.ia_emit.specs.Counts.{instruction_count, AreFew}
 use Rattle.ia_emit.proofs.Sizes.{size-cons, size-append}
@@ -50,7 +59,8 @@ few_displacement D0 d = omega arith
 few_displacement D8 d = omega arith
 few_displacement D32 d = omega arith
 
-few_address : (reg : ℕ) (b : Option Reg) (x : Option (Reg × ℕ)) (w : Width) (d : ℤ) → length (address reg b x w d) ≤ 6
+few_address : (reg : ℕ) (b : Option Reg) (x : Option (Reg × ℕ)) (w : Width) (d : ℤ) →
+    length (address reg b x w d) ≤ 6
 few_address reg None None w d = omega arith
 few_address reg None (Some x) w d = omega arith
 few_address reg (Some Esp) None w d = let few = few_displacement w d in omega (arith, few)
@@ -136,17 +146,22 @@ few_op p (instr.Cmp a b) places = single _
 few_op p (instr.CmpSet c v a b) places =
     let r = reg_of (at p places v 2) in
     let last : size (Plain (Set c r) ∷ Plain (Movzx r r) ∷ []) ≡ 6 = refl in
-    let both = size-append (operation p places alu.Cmp a b) (Plain (Set c r) ∷ Plain (Movzx r r) ∷ []) in
+    let both = size-append (operation p places alu.Cmp a b)
+    (Plain (Set c r) ∷ Plain (Movzx r r) ∷ []) in
     let first : size (operation p places alu.Cmp a b) ≤ 11 = one _ in
     omega (arith, first, last, both)
 few_op p (instr.DivMod q r a d) places =
     let all = size-cons (Plain Cdq) (Plain (Idiv (rm_of (at p places d 1))) ∷ []) in
     omega (arith, all, one (Idiv (rm_of (at p places d 1))))
-few_op p (instr.Check i n) places = omega (arith, two (bound (at p places i 0) n) (Branch cond.Ae (Stub Index)) 6 refl)
-few_op p (instr.CheckPos d) places = omega (arith, two (bound (at p places d 0) (pos 0)) (Branch cond.Le (Stub Divide)) 6 refl)
-few_op p (instr.Load v a) places = single (MovRRm (reg_of (at p places v (address_count a))) (rm.Mem (address_of p a places)))
+few_op p (instr.Check i n) places =
+    omega (arith, two (bound (at p places i 0) n) (Branch cond.Ae (Stub Index)) 6 refl)
+few_op p (instr.CheckPos d) places =
+    omega (arith, two (bound (at p places d 0) (pos 0)) (Branch cond.Le (Stub Divide)) 6 refl)
+few_op p (instr.Load v a) places =
+    single (MovRRm (reg_of (at p places v (address_count a))) (rm.Mem (address_of p a places)))
 few_op p (instr.Store a s) places = single _
-few_op p (instr.Addr v a) places = single (Lea (reg_of (at p places v (address_count a))) (address_of p a places))
+few_op p (instr.Addr v a) places =
+    single (Lea (reg_of (at p places v (address_count a))) (address_of p a places))
 few_op p (instr.Push s) places = single _
 few_op p (instr.Call q) places = let all = size-cons (item.Call q) [] in omega (arith, all)
 few_op p (instr.Read v) places = omega arith
@@ -171,7 +186,8 @@ abbrev ops : List LInstr → ℕ
 ops code = length (filter_map op_of code)
 
 -- with n moves directly before it
-few_code : (p : LProc) (n : ℕ) (code : List LInstr) → FewMoves n code → 6 * n + size (flat_map (emit p) code) ≤ 97 * ops code + 72
+few_code : (p : LProc) (n : ℕ) (code : List LInstr) → FewMoves n code →
+    6 * n + size (flat_map (emit p) code) ≤ 97 * ops code + 72
 few_code p n [] few = omega (arith, few)
 few_code p n (placed.Move m ∷ rest) few =
     let more = few_code p (suc n) rest few in
@@ -207,7 +223,8 @@ few_end p next end.Return =
         let front : List Item = take 5 (leave p) in
         size-append front (Plain (return p.args) ∷ [])
 
-few_block : (p : LProc) (k : ℕ) (b : LBlock) → FewMoves 0 b.code → size (emit_block p k b) ≤ 97 * ops b.code + 83
+few_block : (p : LProc) (k : ℕ) (b : LBlock) → FewMoves 0 b.code → size (emit_block p k b) ≤
+    97 * ops b.code + 83
 few_block p k b few =
     let both = size-append (flat_map (emit p) b.code) (emit_end p (k + 1) b.end) in
     omega (arith, both, few_code p 0 b.code few, few_end p (k + 1) b.end)
@@ -215,7 +232,8 @@ few_block p k b few =
 abbrev bare_ops : Bare → ℕ
 bare_ops b = length b.code
 
-few_blocks : (p : LProc) (k : ℕ) (bs : List LBlock) → ((j : ℕ) (b : LBlock) → slice_get bs j ≡ Some b → FewMoves 0 b.code) →
+few_blocks : (p : LProc) (k : ℕ) (bs : List LBlock) →
+    ((j : ℕ) (b : LBlock) → slice_get bs j ≡ Some b → FewMoves 0 b.code) →
     size (emit_blocks p k bs) ≤ 97 * sum_by bare_ops (map bare_block bs) + 83 * length bs
 few_blocks p k [] few = omega arith
 few_blocks p k (b ∷ bs) few =
@@ -237,7 +255,8 @@ few_prologue p =
     let both = size-append front (lowered (locals p)) in
     omega (arith, both, few_lowered (locals p))
 
-few_proc : (p : LProc) → IsPlaced p → size (emit_proc p) ≤ 97 * instruction_count p + 107 * length p.blocks
+few_proc : (p : LProc) → IsPlaced p → size (emit_proc p) ≤ 97 * instruction_count p + 107 * length
+    p.blocks
 few_proc p is =
     let some : 0 < length (bare p) = is.block_rules.last_return.there in
     let count = length-map p.blocks bare_block in
@@ -245,7 +264,8 @@ few_proc p is =
     omega (arith, both, some, count, few_prologue p, few_blocks p 0 p.blocks is.few_moves)
 
 few_procs : (procs : List LProc) → ((k : ℕ) (p : LProc) → slice_get procs k ≡ Some p → IsPlaced p) →
-    sum_by (λ p. size (emit_proc p)) procs ≤ 97 * sum_by instruction_count procs + 107 * sum_by (λ (p : LProc). length p.blocks) procs
+    sum_by (λ p. size (emit_proc p)) procs ≤ 97 * sum_by instruction_count procs + 107 * sum_by
+    (λ (p : LProc). length p.blocks) procs
 few_procs [] are = omega arith
 few_procs (p ∷ ps) are =
     let first = few_proc p (are 0 p refl) in
@@ -256,5 +276,7 @@ few_procs (p ∷ ps) are =
     omega (arith, first, more, size_sum, op_sum, block_sum)
 
 -- as many instructions and blocks as a module has are code that fits
-pub few_bytes : (procs : List LProc) → AreFew procs → ((k : ℕ) (p : LProc) → slice_get procs k ≡ Some p → IsPlaced p) → code_size procs ≤ max_code_bytes
+pub few_bytes : (procs : List LProc) → AreFew procs →
+    ((k : ℕ) (p : LProc) → slice_get procs k ≡ Some p → IsPlaced p) → code_size procs ≤
+    max_code_bytes
 few_bytes procs few are = omega (arith, few.instructions, few.blocks, few_procs procs are)

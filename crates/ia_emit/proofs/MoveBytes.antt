@@ -1,5 +1,6 @@
 -- How many bytes moves become.
-use Rattle.std.proofs.Common.{◌≡◌, ℕ, Bool, true, false, if◌then◌else◌, List, [], ◌∷◌, length, map, refl, arith}
+use Rattle.std.proofs.Common.{◌≡◌, ℕ, Bool, true, false, if◌then◌else◌, List, [], ◌∷◌, length, map}
+use Rattle.std.proofs.Common.{refl, arith}
 use Rattle.std.specs.Prelude.{ℤ, sum_by}
 use Rattle.std.proofs.lemmas.List.Sums.{sum_by-cons}
 use Rattle.ia_code.specs.declared.ins.Rm.TheVariants as rm
@@ -18,7 +19,8 @@ use Rattle.pl_moves.specs.Lengths.{with_displacement, move_bytes}
 use Rattle.pl_place.specs.declared.placed.LProc.{LProc}
 
 in_frame : (near : Bool) (opcode reg : ℕ) (d : ℤ) →
-    length (opcode ∷ operand reg (rm.Mem (frame_word (if near then D8 else D32) d))) ≡ with_displacement near
+    length (opcode ∷ operand reg (rm.Mem (frame_word (if near then D8 else D32) d))) ≡
+    with_displacement near
 in_frame true opcode reg d = omega arith
 in_frame false opcode reg d = omega arith
 

@@ -1,5 +1,6 @@
 -- Slots and argument cells lie within the displacements of their procedure: near ones in 8 bits.
-use Rattle.std.proofs.Common.{◌≡◌, ◌≢◌, true, ℕ, zero, suc, ◌≤◌, ◌<◌, List, [], ◌∷◌, length, Option, Some, None, refl, sym, ap, ◌∙◌, arith}
+use Rattle.std.proofs.Common.{◌≡◌, ◌≢◌, true, ℕ, zero, suc, ◌≤◌, ◌<◌, List, [], ◌∷◌, length, Option}
+use Rattle.std.proofs.Common.{Some, None, refl, sym, ap, ◌∙◌, arith}
 use Rattle.std.specs.Prelude.{pos, nat_le, slice_get, count_by}
 use Rattle.std.proofs.lemmas.Int.{ints}
 use Rattle.std.proofs.lemmas.Bool.Decides.{nat_tests}
@@ -27,7 +28,8 @@ without [] k = []
 without (x ∷ xs) zero = Param 0 ∷ xs
 without (x ∷ xs) (suc k) = x ∷ without xs k
 
-one_less : (xs : List VarKind) (k : ℕ) → slice_get xs k ≡ Some Plain → count_by is_plain xs ≡ suc (count_by is_plain (without xs k))
+one_less : (xs : List VarKind) (k : ℕ) → slice_get xs k ≡ Some Plain → count_by is_plain xs ≡
+    suc (count_by is_plain (without xs k))
 unfolding without
 one_less [] k e = cc
 one_less (x ∷ xs) zero e =
@@ -69,21 +71,27 @@ few_slots (u ∷ slots) vars plain apart =
 
 -- ---- displacements
 
-slot_holds : (p : LProc) (k : ℕ) → k ≤ 16383 → (p.near ≡ true → k ≤ 28) → Holds (width_of p) (slot_at k)
+slot_holds : (p : LProc) (k : ℕ) → k ≤ 16383 → (p.near ≡ true → k ≤ 28) →
+    Holds (width_of p) (slot_at k)
 slot_holds p k small few =
-    either (λ w. Holds w (slot_at k)) p.near D8 D32 (λ e. let low = few e in omega (arith, ints)) (λ _. omega (arith, ints))
+    either (λ w. Holds w (slot_at k)) p.near D8 D32 (λ e. let low = few e in omega (arith, ints))
+    (λ _. omega (arith, ints))
 
-argument_holds : (p : LProc) (args i : ℕ) → args ≤ 32 → (p.near ≡ true → args ≤ 30) → Holds (width_of p) (argument_at args i)
+argument_holds : (p : LProc) (args i : ℕ) → args ≤ 32 → (p.near ≡ true → args ≤ 30) →
+    Holds (width_of p) (argument_at args i)
 argument_holds p args i small few =
-    either (λ w. Holds w (argument_at args i)) p.near D8 D32 (λ e. let low = few e in omega (arith, ints)) (λ _. omega (arith, ints))
+    either (λ w. Holds w (argument_at args i)) p.near D8 D32
+    (λ e. let low = few e in omega (arith, ints)) (λ _. omega (arith, ints))
 
 nought_holds : (p : LProc) → Holds (width_of p) (pos 0)
-nought_holds p = either (λ w. Holds w (pos 0)) p.near D8 D32 (λ _. omega (arith, ints)) (λ _. omega (arith, ints))
+nought_holds p = either (λ w. Holds w (pos 0)) p.near D8 D32 (λ _. omega (arith, ints))
+    (λ _. omega (arith, ints))
 
 module _ (p : LProc) (small : IsSmall p) (is : IsPlaced p) where
   near_counts : p.near ≡ true → (count_by is_plain p.vars ≤ 29) × (p.args ≤ 30)
   near_counts e =
-      let both = and_true (nat_le (count_by is_plain p.vars) 29) (nat_le p.args 30) (sym is.numbers_in_range.near_is ∙ e) in
+      let both = and_true (nat_le (count_by is_plain p.vars) 29) (nat_le p.args 30)
+      (sym is.numbers_in_range.near_is ∙ e) in
       (grind (arith, nat_tests, both.0), grind (arith, nat_tests, both.1))
 
   slots_few : length p.slots ≤ count_by is_plain p.vars
@@ -94,7 +102,8 @@ module _ (p : LProc) (small : IsSmall p) (is : IsPlaced p) where
   spot_holds (Param i) slot within = argument_holds p p.args i small.args (λ e. (near_counts e).1)
   spot_holds Plain (Some k) within =
       let low = within k refl in
-      slot_holds p k (omega (arith, low, small.slots)) (λ e. let counts = near_counts e in omega (arith, low, slots_few, counts.0))
+      slot_holds p k (omega (arith, low, small.slots))
+      (λ e. let counts = near_counts e in omega (arith, low, slots_few, counts.0))
   spot_holds Plain None within = nought_holds p
   spot_holds (Constant n) slot within = nought_holds p
 

@@ -85,7 +85,8 @@ module _ (code : List ℕ) (words place : ℕ) (text : List ℕ) (l : IsListedTo
           );
           within = row_within code place size i l.within row;
           written = e ∙ ap (λ t. t ++ line place i) l.written
-              ∙ ap (λ p. text_of words l.ins ++ line p i) l.place_is ∙ sym (text-snoc words l.ins i);
+              ∙ ap (λ p. text_of words l.ins ++ line p i) l.place_is
+              ∙ sym (text-snoc words l.ins i);
         }
 
     pub listed_on : (next : ℕ) (longer : List ℕ) →

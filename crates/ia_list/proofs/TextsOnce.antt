@@ -260,7 +260,8 @@ module _ (image : Image) (text : List ℕ) (place : ℕ) (t : IsListText image t
       elim (cases_lt (length t.ins) (length s.ins)) as (λ _. ⊥) [
         | inl lt ↦ no_behind (code_begins t.ins s.ins [] s.rest t.listing.sound s.sound
             (omega (arith, lt)) (sym whole_code))
-        | inr le ↦ let b = code_begins s.ins t.ins s.rest [] s.sound t.listing.sound le whole_code in
+        | inr le ↦ let b = code_begins s.ins t.ins s.rest [] s.sound t.listing.sound le
+            whole_code in
             no_inside b.0 b.1 b.2
       ]
 

@@ -1,5 +1,7 @@
 -- CMP with a bound and a jump to the code of a trap.
-use Rattle.std.proofs.Common.{◌≡◌, ◌≢◌, ℕ, zero, suc, ◌+◌, ◌++◌, ◌^◌, ◌<◌, inl, Bool, true, false, List, [], ◌∷◌, length, map, Some, None, refl, sym, ap, ◌∙◌, subst, arith}
+use Rattle.std.proofs.Common.{◌≡◌, ◌≢◌, ℕ, zero, suc, ◌+◌, ◌++◌, ◌^◌, ◌<◌, inl, Bool, true, false}
+use Rattle.std.proofs.Common.{List, [], ◌∷◌, length, map, Some, None, refl, sym, ap, ◌∙◌, subst}
+use Rattle.std.proofs.Common.{arith}
 use Rattle.std.specs.Prelude.{ℤ, pos, negsuc, ◌≤ℤ◌, not, Ok, if◌then◌else◌, slice_get}
 use Rattle.std.proofs.lemmas.Bool.Decides.{nat_tests}
 use Rattle.pra_list.proofs.Truths.{itself}
@@ -71,7 +73,8 @@ use Rattle.ia_simulation.proofs.Computes as computes
 
 -- ---- the tests are the same
 
-in_range : (a : ℕ) (n : ℤ) → a < 2 ^ 32 → pos 0 ≤ℤ n → n ≤ℤ pos 2147483647 → compares cond.Ae a (word n) ≡ not (is_index a n)
+in_range : (a : ℕ) (n : ℤ) → a < 2 ^ 32 → pos 0 ≤ℤ n → n ≤ℤ pos 2147483647 →
+    compares cond.Ae a (word n) ≡ not (is_index a n)
 in_range a (pos n) l low high = grind (arith, nat_tests, ints)
 in_range a (negsuc n) l low high = absurd (omega (arith, ints, low))
 
@@ -79,15 +82,18 @@ above_0 : (a : ℕ) → a < 2 ^ 32 → compares cond.Le a (word (pos 0)) ≡ not
 above_0 a l = grind (arith, nat_tests, ints)
 
 -- an instruction is there without the moves too
-pub bare_has : (code : List LInstr) (k : ℕ) (i : VInstr) (places : _) → slice_get code k ≡ Some (placed.Op i places) → (j : ℕ) × (slice_get (filter_map op_of code) j ≡ Some i)
+pub bare_has : (code : List LInstr) (k : ℕ) (i : VInstr) (places : _) → slice_get code k ≡
+    Some (placed.Op i places) → (j : ℕ) × (slice_get (filter_map op_of code) j ≡ Some i)
 bare_has [] k i places e = cc
 bare_has (x ∷ code) zero i places e =
     let same : x ≡ placed.Op i places = some_same x (placed.Op i places) e in
     (0, ap (λ x. slice_get (filter_map op_of (x ∷ code)) 0) same)
 bare_has (placed.Move m ∷ code) (suc k) i places e = bare_has code k i places e
-bare_has (placed.Op i1 places1 ∷ code) (suc k) i places e = let rest = bare_has code k i places e in (suc rest.0, rest.1)
+bare_has (placed.Op i1 places1 ∷ code) (suc k) i places e = let rest = bare_has code k i places e in
+    (suc rest.0, rest.1)
 
-module _ (procs : List LProc) (data_words : ℕ) (ok : IsLoadable procs data_words) (s : State Cells) (r : Ran) (y : Realizes procs s r) (o : s.over ≡ None) where
+module _ (procs : List LProc) (data_words : ℕ) (ok : IsLoadable procs data_words) (s : State Cells)
+    (r : Ran) (y : Realizes procs s r) (o : s.over ≡ None) where
   abbrev p : LProc
   p = proc_of procs s.top.proc
 
@@ -97,18 +103,24 @@ module _ (procs : List LProc) (data_words : ℕ) (ok : IsLoadable procs data_wor
   abbrev T : ℕ → ℕ → Type 0
   T = TakesArgs (counts_of procs)
 
-  module _ (i : VInstr) (places : _) (more : List LInstr) (e : s.top.home.rest ≡ placed.Op i places ∷ more) where
+  module _ (i : VInstr) (places : _) (more : List LInstr)
+      (e : s.top.home.rest ≡ placed.Op i places ∷ more) where
     abbrev after_it : Activation Cells
     after_it = computes.after_it procs data_words ok s r y o i places more e
 
     placed_so : OperandsPlaced p i places.items
     placed_so = computes.placed_so procs data_words ok s r y o i places more e
 
-    lead_on : (length s.pushed ≡ 0) × PushesLead T 0 (filter_map op_of more) → PushesLead T (length s.pushed) (filter_map op_of more)
+    lead_on : (length s.pushed ≡ 0) × PushesLead T 0 (filter_map op_of more) →
+        PushesLead T (length s.pushed) (filter_map op_of more)
     lead_on = computes.lead_on procs data_words ok s r y o i places more e
 
-  module _ (i : VInstr) (places : _) (more : List LInstr) (e : s.top.home.rest ≡ placed.Op i places ∷ more) (from : Operand) (n : ℤ) (c : Cond) (trap : TrapKind)
-      (em : emit p (placed.Op i places) ≡ Plain (alu_number alu.Cmp from n) ∷ item.Branch c (Stub trap) ∷ []) (is : IsPlace from) (there : trap ≢ Input) (lead : PushesLead T (length s.pushed) (filter_map op_of more)) where
+  module _ (i : VInstr) (places : _) (more : List LInstr)
+      (e : s.top.home.rest ≡ placed.Op i places ∷ more) (from : Operand) (n : ℤ) (c : Cond)
+      (trap : TrapKind)
+      (em : emit p (placed.Op i places) ≡ Plain (alu_number alu.Cmp from n) ∷ item.Branch c
+      (Stub trap) ∷ []) (is : IsPlace from) (there : trap ≢ Input)
+      (lead : PushesLead T (length s.pushed) (filter_map op_of more)) where
     abbrev j : Ins
     j = alu_number alu.Cmp from n
 
@@ -149,12 +161,14 @@ module _ (procs : List LProc) (data_words : ℕ) (ok : IsLoadable procs data_wor
       items = steps.behind procs data_words ok s r y o l more e
 
       abbrev target : Target → ℕ
-      target = standing.target procs s.top.proc s.top.home.block s.top.home.rest s.top.home.end (length s.pushed) r.state.eip x.stands
+      target = standing.target procs s.top.proc s.top.home.block s.top.home.rest s.top.home.end
+          (length s.pushed) r.state.eip x.stands
 
       w1 : Walks procs m1 all target (here_is + size_of x0) (x1 ∷ items)
       w1 =
           goes_on procs ok.sound r.state all target here_is x0 (x1 ∷ items)
-          (steps.walks_here procs data_words ok s r y o l more e x0 (x1 ∷ []) em) r.state.regs (diff_flags a (word n)) refl
+          (steps.walks_here procs data_words ok s r y o l more e x0 (x1 ∷ []) em) r.state.regs
+          (diff_flags a (word n)) refl
 
       word_below : word n < 2 ^ 32
       word_below = computes.word_fits n (alu_fits alu.Cmp from n sound)
@@ -170,58 +184,85 @@ module _ (procs : List LProc) (data_words : ℕ) (ok : IsLoadable procs data_wor
       m2 = machine.at m1 (code_base + stub_start trap)
 
       w2 : Walks procs m2 all no_target (stub_start trap) (stub trap)
-      w2 = record { code = w1.code; going = w1.going; stack = w1.stack; small = w1.small; place = refl; items_at = stub_at procs trap there }
+      w2 = record {
+        code = w1.code;
+        going = w1.going;
+        stack = w1.stack;
+        small = w1.small;
+        place =
+            refl;
+        items_at = stub_at procs trap there;
+      }
 
       traps : compares c a (word n) ≡ true → Leads procs s r (ended s (Trapped trap))
       unfolding effect
       traps t =
           let inside = at.within procs target (here_is + size_of x0) (x1 ∷ items) w1.items_at in
           let size = size-cons x1 items in
-          let stubbed = at.within procs no_target (stub_start trap) (stub trap) (stub_at procs trap there) in
+          let stubbed = at.within procs no_target (stub_start trap) (stub trap)
+          (stub_at procs trap there) in
           let to : sum32 (m1.eip + size_of x1) (word d) ≡ code_base + stub_start trap =
-          ap (λ k. sum32 k (word d)) (omega (arith, w1.place)) ∙ aimed_at (here_is + size_of x0 + size_of x1) (stub_start trap) (omega (arith, inside, size, ok.short)) (omega (arith, stubbed, ok.short)) in
-          let reach : Reaches 1 m1 m2 = reaches procs ok.sound m1 all target (here_is + size_of x0) x1 items w1 m2
-          (ap (branch (machine.at m1 (m1.eip + size_of x1)) d) (condition ∙ ap Some t) ∙ ap (λ k. goes (machine.at m1 k)) to) in
-          traps_lead procs data_words ok s r y trap 2 m2 all (reach_on 1 1 r.state m1 m2 compared reach) w2 refl
+          ap (λ k. sum32 k (word d)) (omega (arith, w1.place))
+          ∙ aimed_at (here_is + size_of x0 + size_of x1) (stub_start trap)
+          (omega (arith, inside, size, ok.short)) (omega (arith, stubbed, ok.short)) in
+          let reach : Reaches 1 m1 m2 = reaches procs ok.sound m1 all target (here_is + size_of x0)
+          x1 items w1 m2
+          (ap (branch (machine.at m1 (m1.eip + size_of x1)) d) (condition ∙ ap Some t)
+          ∙ ap (λ k. goes (machine.at m1 k)) to) in
+          traps_lead procs data_words ok s r y trap 2 m2 all
+          (reach_on 1 1 r.state m1 m2 compared reach) w2 refl
 
       -- or it goes on
       abbrev m3 : machine.State
       m3 = machine.at m1 (m1.eip + size_of x1)
 
-      passes : compares c a (word n) ≡ false → Leads procs s r (with_top s (after_it i places more e))
+      passes : compares c a (word n) ≡ false →
+          Leads procs s r (with_top s (after_it i places more e))
       unfolding effect
       passes t =
-          let reach : Reaches 1 m1 m3 = reaches procs ok.sound m1 all target (here_is + size_of x0) x1 items w1 m3
+          let reach : Reaches 1 m1 m3 = reaches procs ok.sound m1 all target (here_is + size_of x0)
+          x1 items w1 m3
           (ap (branch (machine.at m1 (m1.eip + size_of x1)) d) (condition ∙ ap Some t)) in
           let both : Reaches 2 r.state m3 = reach_on 1 1 r.state m1 m3 compared reach in
           let long = ap size em in
           let one = size-cons x0 (x1 ∷ []) in
           let two = size-cons x1 [] in
-          let lies = lies_clobbered procs x.backs s.pushed s.top s.below s.globals r.state.regs r.state.stack r.state.storage i more x.lies in (
+          let lies = lies_clobbered procs x.backs s.pushed s.top s.below s.globals r.state.regs
+          r.state.stack r.state.storage i more x.lies in (
             2,
             inl (omega arith),
-            subst (Realizes procs (with_top s (after_it i places more e))) (sym (both.by r.events r.steps)) (record {
-              ending = y.ending;
-              events = y.events;
-              taken = y.taken;
-              going = λ _.
-                  steps.runs_on procs data_words ok s r y o l more e (after_it i places more e) None m1.flags m1.regs m1.stack m3.eip
-                  (steps.clobbered_same i more s.top) lead lies tt (omega (arith, long, one, two));
-            }),
+            subst (Realizes procs (with_top s (after_it i places more e)))
+                (sym (both.by r.events r.steps)) (record {
+                  ending = y.ending;
+                  events = y.events;
+                  taken = y.taken;
+                  going = λ _.
+                      steps.runs_on procs data_words ok s r y o l more e (after_it i places more e)
+                      None
+                      m1.flags m1.regs m1.stack m3.eip
+                      (steps.clobbered_same i more s.top) lead lies tt
+                      (omega (arith, long, one, two));
+                }),
           )
 
-      pub checked : (b : Bool) → compares c a (word n) ≡ not b → Leads procs s r (if b then with_top s (after_it i places more e) else ended s (Trapped trap))
+      pub checked : (b : Bool) → compares c a (word n) ≡ not b →
+          Leads procs s r (if b then with_top s (after_it i places more e) else ended s
+          (Trapped trap))
       checked true e = passes e
       checked false e = traps e
 
   -- what a check makes of the state, after nothing was written
-  acts : (i : VInstr) (places : _) (more : List LInstr) (e : s.top.home.rest ≡ placed.Op i places ∷ more) (b : Bool) (k : TrapKind) →
-      (if b then with_top s (after_it i places more e) else ended s (Trapped k)) ≡ apply (placed_machine procs) (λ xs. Some (after_it i places more e)) (if b then Some action.Nothing else Some (action.Trap k)) s
+  acts : (i : VInstr) (places : _) (more : List LInstr)
+      (e : s.top.home.rest ≡ placed.Op i places ∷ more) (b : Bool) (k : TrapKind) →
+      (if b then with_top s (after_it i places more e) else ended s (Trapped k)) ≡
+      apply (placed_machine procs) (λ xs. Some (after_it i places more e))
+      (if b then Some action.Nothing else Some (action.Trap k)) s
   acts i places more e true k = refl
   acts i places more e false k = refl
 
   module _ (v : VarId) (places : _) (more : List LInstr) where
-    pub checks_it : (n : ℤ) → s.top.home.rest ≡ placed.Op (instr.Check v n) places ∷ more → Led procs data_words ok s r y o (instr.Check v n) more places.items
+    pub checks_it : (n : ℤ) → s.top.home.rest ≡ placed.Op (instr.Check v n) places ∷ more →
+        Led procs data_words ok s r y o (instr.Check v n) more places.items
     checks_it n e =
         let i = instr.Check v n in
         let is = placed_so i places more e in
@@ -229,23 +270,36 @@ module _ (procs : List LProc) (data_words : ℕ) (ok : IsLoadable procs data_wor
         let a = t.0 in
         let is_l : OperandsPlaced p i (a ∷ []) = subst (OperandsPlaced p i) t.1 is in
         let from = emitted.operand p v.0 (number_of a) in
-        let place : IsPlace from = is_place p v.0 (line_writes (table i) v.0) a ((in_mask (table i) v.0 (number_of a) (allowed_at p i (a ∷ []) is_l 0 _ refl)).0 (itself v.0)) in
-        let em : emit p (placed.Op i places) ≡ Plain (alu_number alu.Cmp from n) ∷ item.Branch cond.Ae (Stub trap.Index) ∷ [] = ap (emit_op p i) t.1 in
-        let lead = lead_on i places more e (steps.lead procs data_words ok s r y o (placed.Op i places) more e) in
+        let place : IsPlace from = is_place p v.0 (line_writes (table i) v.0) a
+        ((in_mask (table i) v.0 (number_of a) (allowed_at p i (a ∷ []) is_l 0 _ refl)).0
+        (itself v.0)) in
+        let em : emit p (placed.Op i places) ≡ Plain (alu_number alu.Cmp from n) ∷ item.Branch
+        cond.Ae (Stub trap.Index) ∷ [] = ap (emit_op p i) t.1 in
+        let lead = lead_on i places more e
+        (steps.lead procs data_words ok s r y o (placed.Op i places) more e) in
         let x = steps.x procs data_words ok s r y o in
         let placed_code = ok.placed.each s.top.proc p x.stands.there in
-        let has = standing.instr_is procs s.top.proc s.top.home.block s.top.home.rest s.top.home.end (length s.pushed) r.state.eip x.stands (placed.Op i places) more e in
+        let has = standing.instr_is procs s.top.proc s.top.home.block s.top.home.rest s.top.home.end
+        (length s.pushed) r.state.eip x.stands (placed.Op i places) more e in
         let bare = bare_has has.0.code x.stands.index i places has.2 in
-        let range = placed_code.block_rules.check_range s.top.home.block bare.0 i (ap (λ l. slice_get l bare.0) (bare_there p.blocks s.top.home.block has.0 has.1) ∙ bare.1) v n refl in
+        let range = placed_code.block_rules.check_range s.top.home.block bare.0 i
+        (ap (λ l. slice_get l bare.0) (bare_there p.blocks s.top.home.block has.0 has.1)
+        ∙ bare.1) v n refl in
         let after : After Cells = behind p i (map number_of (a ∷ [])) more s.top in
         subst (Led procs data_words ok s r y o i more) (sym t.1) (λ ns.
-        ops.bound_ok procs data_words ok s r y o after (number (operand p s.top v.0 (number_of a))) (λ z. if is_index z n then Some action.Nothing else Some (action.Trap trap.Index)) ns (λ z ze _.
+        ops.bound_ok procs data_words ok s r y o after (number (operand p s.top v.0 (number_of a)))
+        (λ z. if is_index z n then Some action.Nothing else Some (action.Trap trap.Index)) ns
+        (λ z ze _.
         let now_is = now i places more e from n cond.Ae trap.Index em place (λ e. cc) lead in
-        let got = reads procs x.backs s.pushed s.top s.below s.globals now_is x.lies x.waiting (steps.few procs data_words ok s r y o) v.0 (number_of a) (Num z) (no_number from place) (number_is _ z ze) in
+        let got = reads procs x.backs s.pushed s.top s.below s.globals now_is x.lies x.waiting
+        (steps.few procs data_words ok s r y o) v.0 (number_of a) (Num z) (no_number from place)
+        (number_is _ z ze) in
         subst (Leads procs s r) (acts i places more e (is_index z n) trap.Index)
-        (checked i places more e from n cond.Ae trap.Index em place (λ e. cc) lead z (got.1 ∙ ap Ok got.2.0) got.2.1 (is_index z n) (in_range z n got.2.1 range.0 range.1))))
+        (checked i places more e from n cond.Ae trap.Index em place (λ e. cc) lead z
+        (got.1 ∙ ap Ok got.2.0) got.2.1 (is_index z n) (in_range z n got.2.1 range.0 range.1))))
 
-    pub checks_positive : s.top.home.rest ≡ placed.Op (instr.CheckPos v) places ∷ more → Led procs data_words ok s r y o (instr.CheckPos v) more places.items
+    pub checks_positive : s.top.home.rest ≡ placed.Op (instr.CheckPos v) places ∷ more →
+        Led procs data_words ok s r y o (instr.CheckPos v) more places.items
     checks_positive e =
         let i = instr.CheckPos v in
         let n = pos 0 in
@@ -254,14 +308,23 @@ module _ (procs : List LProc) (data_words : ℕ) (ok : IsLoadable procs data_wor
         let a = t.0 in
         let is_l : OperandsPlaced p i (a ∷ []) = subst (OperandsPlaced p i) t.1 is in
         let from = emitted.operand p v.0 (number_of a) in
-        let place : IsPlace from = is_place p v.0 (line_writes (table i) v.0) a ((in_mask (table i) v.0 (number_of a) (allowed_at p i (a ∷ []) is_l 0 _ refl)).0 (itself v.0)) in
-        let em : emit p (placed.Op i places) ≡ Plain (alu_number alu.Cmp from n) ∷ item.Branch cond.Le (Stub trap.Divide) ∷ [] = ap (emit_op p i) t.1 in
-        let lead = lead_on i places more e (steps.lead procs data_words ok s r y o (placed.Op i places) more e) in
+        let place : IsPlace from = is_place p v.0 (line_writes (table i) v.0) a
+        ((in_mask (table i) v.0 (number_of a) (allowed_at p i (a ∷ []) is_l 0 _ refl)).0
+        (itself v.0)) in
+        let em : emit p (placed.Op i places) ≡ Plain (alu_number alu.Cmp from n) ∷ item.Branch
+        cond.Le (Stub trap.Divide) ∷ [] = ap (emit_op p i) t.1 in
+        let lead = lead_on i places more e
+        (steps.lead procs data_words ok s r y o (placed.Op i places) more e) in
         let x = steps.x procs data_words ok s r y o in
         let after : After Cells = behind p i (map number_of (a ∷ [])) more s.top in
         subst (Led procs data_words ok s r y o i more) (sym t.1) (λ ns.
-        ops.bound_ok procs data_words ok s r y o after (number (operand p s.top v.0 (number_of a))) (λ z. if is_positive z then Some action.Nothing else Some (action.Trap trap.Divide)) ns (λ z ze _.
+        ops.bound_ok procs data_words ok s r y o after (number (operand p s.top v.0 (number_of a)))
+        (λ z. if is_positive z then Some action.Nothing else Some (action.Trap trap.Divide)) ns
+        (λ z ze _.
         let now_is = now i places more e from n cond.Le trap.Divide em place (λ e. cc) lead in
-        let got = reads procs x.backs s.pushed s.top s.below s.globals now_is x.lies x.waiting (steps.few procs data_words ok s r y o) v.0 (number_of a) (Num z) (no_number from place) (number_is _ z ze) in
+        let got = reads procs x.backs s.pushed s.top s.below s.globals now_is x.lies x.waiting
+        (steps.few procs data_words ok s r y o) v.0 (number_of a) (Num z) (no_number from place)
+        (number_is _ z ze) in
         subst (Leads procs s r) (acts i places more e (is_positive z) trap.Divide)
-        (checked i places more e from n cond.Le trap.Divide em place (λ e. cc) lead z (got.1 ∙ ap Ok got.2.0) got.2.1 (is_positive z) (above_0 z got.2.1))))
+        (checked i places more e from n cond.Le trap.Divide em place (λ e. cc) lead z
+        (got.1 ∙ ap Ok got.2.0) got.2.1 (is_positive z) (above_0 z got.2.1))))

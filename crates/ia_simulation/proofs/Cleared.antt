@@ -1,5 +1,6 @@
 -- CLEAR of placed code is the loop of the machine.
-use Rattle.std.proofs.Common.{◌≡◌, ◌≢◌, ℕ, zero, suc, ◌+◌, ◌*◌, ◌≤◌, ◌<◌, List, [], ◌∷◌, ◌++◌, length, None, refl, sym, ap, ◌∙◌, subst, arith, inl, length-append}
+use Rattle.std.proofs.Common.{◌≡◌, ◌≢◌, ℕ, zero, suc, ◌+◌, ◌*◌, ◌≤◌, ◌<◌, List, [], ◌∷◌, ◌++◌}
+use Rattle.std.proofs.Common.{length, None, refl, sym, ap, ◌∙◌, subst, arith, inl, length-append}
 use Rattle.std.specs.Prelude.{pos, slice_get, drop}
 use Rattle.std.specs.List.{filter_map}
 use Rattle.std.proofs.lemmas.Int.{ints}
@@ -30,7 +31,8 @@ use Rattle.pra_base.specs.Valid.{PushesLead, TakesArgs}
 use Rattle.pra_base.specs.Words.{word}
 use Rattle.vc_code.specs.Value.{Words}
 use Rattle.vc_code.specs.Machine.{Activation, State, depth, with_aggregates, with_cleared, zeroed}
-use Rattle.ia_simulation.specs.Frames.{Holds, WordsHold, Stacked, register_held, saved, rest_of, frames}
+use Rattle.ia_simulation.specs.Frames.{Holds, WordsHold, Stacked, register_held, saved, rest_of}
+use Rattle.ia_simulation.specs.Frames.{frames}
 use Rattle.ia_simulation.specs.Realizes.{IsLoadable, StandsBefore, RegistersHold, Runs, Realizes}
 use Rattle.ia_simulation.proofs.Checks.{bare_has}
 use Rattle.ia_simulation.proofs.Clears as clears
@@ -58,7 +60,9 @@ clears_items p = drop 1 (clear p)
 four_sizes : (p : LProc) → size (clears_items p) ≡ 20
 four_sizes p = refl
 
-module _ (procs : List LProc) (data_words : ℕ) (ok : IsLoadable procs data_words) (s : State Cells) (r : Ran) (y : Realizes procs s r) (o : s.over ≡ None) (places : _) (more : List LInstr) (e : s.top.home.rest ≡ placed.Op instr.Clear places ∷ more) where
+module _ (procs : List LProc) (data_words : ℕ) (ok : IsLoadable procs data_words) (s : State Cells)
+    (r : Ran) (y : Realizes procs s r) (o : s.over ≡ None) (places : _) (more : List LInstr)
+    (e : s.top.home.rest ≡ placed.Op instr.Clear places ∷ more) where
   abbrev p : LProc
   p = proc_of procs s.top.proc
 
@@ -81,14 +85,18 @@ module _ (procs : List LProc) (data_words : ℕ) (ok : IsLoadable procs data_wor
   ws = s.top.aggregates
 
   abbrev rest : Words
-  rest = s.top.home.slots ++ (saved procs x.backs s.below ++ (s.top.args ++ frames procs (rest_of x.backs) s.below))
+  rest = s.top.home.slots ++ (saved procs x.backs s.below
+      ++ (s.top.args ++ frames procs (rest_of x.backs) s.below))
 
   some_words : (n : ℕ) × (suc n ≡ length ws)
   some_words =
-      let has = standing.instr_is procs s.top.proc s.top.home.block s.top.home.rest s.top.home.end (length s.pushed) m.eip x.stands i more e in
+      let has = standing.instr_is procs s.top.proc s.top.home.block s.top.home.rest s.top.home.end
+      (length s.pushed) m.eip x.stands i more e in
       let bare = bare_has has.0.code x.stands.index instr.Clear places has.2 in
-      let rule = (ok.placed.each s.top.proc p x.stands.there).block_rules.clear_first s.top.home.block bare.0 in
-      let some = (rule.0 (ap (λ l. slice_get l bare.0) (bare_there p.blocks s.top.home.block has.0 has.1) ∙ bare.1)).0 in
+      let rule = (ok.placed.each s.top.proc p x.stands.there).block_rules.clear_first
+      s.top.home.block bare.0 in
+      let some = (rule.0 (ap (λ l. slice_get l bare.0)
+      (bare_there p.blocks s.top.home.block has.0 has.1) ∙ bare.1)).0 in
       pred_of (length ws) (λ none. some (sym x.lies.sizes.aggregates_long ∙ none))
     where
       pred_of : (n : ℕ) → n ≢ 0 → (k : ℕ) × (suc k ≡ n)
@@ -99,7 +107,8 @@ module _ (procs : List LProc) (data_words : ℕ) (ok : IsLoadable procs data_wor
   x0 = Plain (ins.MovRI Ecx (pos p.aggregates))
 
   abbrev target : Target → ℕ
-  target = standing.target procs s.top.proc s.top.home.block s.top.home.rest s.top.home.end (length s.pushed) m.eip x.stands
+  target = standing.target procs s.top.proc s.top.home.block s.top.home.rest s.top.home.end
+      (length s.pushed) m.eip x.stands
 
   abbrev from : ℕ
   from = steps.here procs data_words ok s r y o i more e
@@ -111,7 +120,8 @@ module _ (procs : List LProc) (data_words : ℕ) (ok : IsLoadable procs data_wor
   few_locals = let z = ok.small s.top.proc p x.stands.there in omega (arith, z.aggregates, z.slots)
 
   abbrev loop : List Item
-  loop = clears.loop procs ok.sound ok.short target rest (locals p) behind (from + size_of x0) few_locals
+  loop = clears.loop procs ok.sound ok.short target rest (locals p) behind (from + size_of x0)
+      few_locals
 
   words_are : s.pushed ++ frames procs x.backs (s.top ∷ s.below) ≡ ws ++ rest
   words_are = ap (λ l. l ++ frames procs x.backs (s.top ∷ s.below)) no_pushes
@@ -125,7 +135,14 @@ module _ (procs : List LProc) (data_words : ℕ) (ok : IsLoadable procs data_wor
   w0 : Walks procs m (ws ++ rest) target from (x0 ∷ loop)
   w0 =
       let w = steps.walks_here procs data_words ok s r y o i more e x0 (clears_items p) refl in
-      record { code = w.code; going = w.going; stack = stacked; small = w.small; place = w.place; items_at = w.items_at }
+      record {
+        code = w.code;
+        going = w.going;
+        stack = stacked;
+        small = w.small;
+        place = w.place;
+        items_at = w.items_at;
+      }
 
   abbrev n : ℕ
   n = word (pos p.aggregates)
@@ -141,29 +158,50 @@ module _ (procs : List LProc) (data_words : ℕ) (ok : IsLoadable procs data_wor
   r1 = steps.reaches procs data_words ok s r y o i more e x0 (clears_items p) refl s1 refl
 
   w1 : Walks procs s1 (ws ++ rest) target (from + size_of x0) loop
-  w1 = goes_on procs ok.sound m (ws ++ rest) target from x0 loop w0 (with_reg m.regs Ecx n) m.flags refl
+  w1 = goes_on procs ok.sound m (ws ++ rest) target from x0 loop w0 (with_reg m.regs Ecx n) m.flags
+      refl
 
   pub clears_it : Led procs data_words ok s r y o instr.Clear more places.items
   clears_it ns =
       let sizes = x.lies.sizes in
       let some = some_words in
       let l = length-append ws rest in
-      let z = clears.clears procs ok.sound ok.short target rest (locals p) behind (from + size_of x0) few_locals some.0 s1 ws some.1 (omega (arith, sizes.aggregates_long)) w1 (omega (arith, long, x.lies.deep)) (omega (arith, count, some.1, sizes.aggregates_long))
-      (omega (arith, x.lies.ebp, stacked.top, long, x.lies.deep, sizes.aggregates_long, sizes.slots_long, sizes.args_long)) in
+      let z = clears.clears procs ok.sound ok.short target rest (locals p) behind
+      (from + size_of x0) few_locals some.0 s1 ws some.1 (omega (arith, sizes.aggregates_long))
+      w1 (omega (arith, long, x.lies.deep))
+      (omega (arith, count, some.1, sizes.aggregates_long))
+      (omega (
+        arith,
+        x.lies.ebp,
+        stacked.top,
+        long,
+        x.lies.deep,
+        sizes.aggregates_long,
+        sizes.slots_long,
+        sizes.args_long,
+      )) in
       let t = z.1 in
       let v = z.3 in
       let c = ops.passed_by procs data_words ok s r y o instr.Clear places more e in
       let new : Activation Cells = with_aggregates c (zeroed ws) in
       let reach : Reaches (1 + z.0) m t = reach_on 1 z.0 m s1 t r1 z.2 in
-      let lies1 = lies_clobbered procs x.backs s.pushed s.top s.below s.globals m.regs m.stack m.storage instr.Clear more x.lies in
+      let lies1 = lies_clobbered procs x.backs s.pushed s.top s.below s.globals m.regs m.stack
+      m.storage instr.Clear more x.lies in
       let same_long = clears.zeroed_long ws in
       let k = v.regs.0 in
-      let words : Stacked (s.pushed ++ frames procs x.backs (new ∷ s.below)) t.regs.esp t.stack = subst (λ q. Stacked (q ++ frames procs x.backs (new ∷ s.below)) t.regs.esp t.stack) (sym no_pushes) v.walks.stack in
+      let words : Stacked (s.pushed ++ frames procs x.backs (new ∷ s.below)) t.regs.esp t.stack =
+      subst (λ q. Stacked (q ++ frames procs x.backs (new ∷ s.below)) t.regs.esp t.stack)
+      (sym no_pushes) v.walks.stack in
       let place : t.eip ≡ m.eip + size (emit p i) =
-      (let a0 = size-cons x0 (clears_items p) in let a1 = four_sizes p in omega (arith, v.walks.place, x.stands.place_is, a0, a1)) in
-      let kept : (q : ℕ) → q < 6 → Holds (register_held new.home.regs q) (get (with_reg m.regs Ecx k) (free_register q)) =
-      below_6 (λ q. Holds (register_held new.home.regs q) (get (with_reg m.regs Ecx k) (free_register q)))
-      (lies1.registers 0 (omega arith)) (subst (λ h. Holds h k) (sym (ecx_gone s.top.home.regs)) tt) (lies1.registers 2 (omega arith)) (lies1.registers 3 (omega arith)) (lies1.registers 4 (omega arith)) (lies1.registers 5 (omega arith)) in (
+      (let a0 = size-cons x0 (clears_items p) in let a1 = four_sizes p in
+      omega (arith, v.walks.place, x.stands.place_is, a0, a1)) in
+      let kept : (q : ℕ) → q < 6 → Holds (register_held new.home.regs q)
+      (get (with_reg m.regs Ecx k) (free_register q)) =
+      below_6 (λ q. Holds (register_held new.home.regs q)
+      (get (with_reg m.regs Ecx k) (free_register q)))
+      (lies1.registers 0 (omega arith)) (subst (λ h. Holds h k) (sym (ecx_gone s.top.home.regs)) tt)
+      (lies1.registers 2 (omega arith)) (lies1.registers 3 (omega arith))
+      (lies1.registers 4 (omega arith)) (lies1.registers 5 (omega arith)) in (
         1 + z.0,
         inl (omega arith),
         subst (Realizes procs (with_cleared s c)) (sym (reach.by r.events r.steps)) (record {
@@ -174,16 +212,28 @@ module _ (procs : List LProc) (data_words : ℕ) (ok : IsLoadable procs data_wor
             backs = x.backs;
             code = v.walks.code;
             stands =
-                subst (StandsBefore procs new.proc new.home.block new.home.rest new.home.end (length s.pushed)) (sym place)
-                (steps.stands_after procs data_words ok s r y o i more e new (length s.pushed) (record { proc = refl; block = refl; rest = refl; end = refl }) (plain_lead procs data_words ok s r y o (filter_map op_of more) (length s.pushed) lead));
+                subst (StandsBefore procs new.proc new.home.block new.home.rest new.home.end
+                (length s.pushed)) (sym place)
+                (steps.stands_after procs data_words ok s r y o i more e new (length s.pushed)
+                (record { proc = refl; block = refl; rest = refl; end = refl })
+                (plain_lead procs data_words ok s r y o (filter_map op_of more)
+                (length s.pushed) lead));
             waiting = x.waiting;
             lies = record {
-              sizes = record { aggregates_long = same_long ∙ sizes.aggregates_long; args_long = sizes.args_long; slots_long = sizes.slots_long; regs_long = lies1.sizes.regs_long };
+              sizes = record {
+                aggregates_long = same_long ∙ sizes.aggregates_long;
+                args_long =
+                    sizes.args_long;
+                slots_long = sizes.slots_long;
+                regs_long =
+                    lies1.sizes.regs_long;
+              };
               registers = subst (λ g. RegistersHold new.home.regs g) (sym v.regs.1) kept;
               words = words;
               ebp = ap (λ (g : Registers). g.ebp) v.regs.1 ∙ x.lies.ebp;
               deep = x.lies.deep;
-              globals_hold = subst (λ l. WordsHold s.globals l 0) (sym v.storage) x.lies.globals_hold;
+              globals_hold = subst (λ l. WordsHold s.globals l 0) (sym v.storage)
+                  x.lies.globals_hold;
               data_long = ap length v.storage ∙ x.lies.data_long;
               data_few = x.lies.data_few;
             };

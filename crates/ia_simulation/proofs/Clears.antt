@@ -1,5 +1,6 @@
 -- The loop that clears the aggregate words of a call.
-use Rattle.std.proofs.Common.{◌≡◌, ℕ, zero, suc, ◌+◌, ◌-◌, ◌*◌, ◌≤◌, ◌<◌, true, List, [], ◌∷◌, ◌++◌, length, Some, refl, sym, ap, ◌∙◌, subst, arith, length-append}
+use Rattle.std.proofs.Common.{◌≡◌, ℕ, zero, suc, ◌+◌, ◌-◌, ◌*◌, ◌≤◌, ◌<◌, true, List, [], ◌∷◌, ◌++◌}
+use Rattle.std.proofs.Common.{length, Some, refl, sym, ap, ◌∙◌, subst, arith, length-append}
 use Rattle.std.specs.Prelude.{pos, neg_ℤ, not, ◌==◌, slice_set}
 use Rattle.std.proofs.lemmas.Bool.Decides.{nat_tests}
 use Rattle.std.proofs.lemmas.Int.{ints}
@@ -59,10 +60,17 @@ unfolding wipe
 wiped [] = refl
 wiped (x ∷ xs) = wipe_cons (length xs) x xs ∙ ap (λ ys. zero_word ∷ ys) (wiped xs)
 
-module _ (procs : List LProc) (sound : AreSound (code_of procs)) (short : length (bytes_of_all (code_of procs)) ≤ max_code_bytes) (target : Target → ℕ) (rest : Words) (m : ℕ) (more : List Item) (from : ℕ) (few : m ≤ 100000) where
+module _ (procs : List LProc) (sound : AreSound (code_of procs))
+    (short : length (bytes_of_all (code_of procs)) ≤ max_code_bytes) (target : Target → ℕ)
+    (rest : Words) (m : ℕ) (more : List Item) (from : ℕ) (few : m ≤ 100000) where
   -- the word that ECX counts
   abbrev last_word : MemAddr
-  last_word = record { base = Some Ebp; index = Some (Ecx, 4); disp = neg_ℤ (pos (16 + 4 * m)); width = D32 }
+  last_word = record {
+    base = Some Ebp;
+    index = Some (Ecx, 4);
+    disp = neg_ℤ (pos (16 + 4 * m));
+    width = D32;
+  }
 
   abbrev y1 : Item
   y1 = Plain (ins.MovRmI (rm.Mem last_word) (pos 0))
@@ -78,27 +86,39 @@ module _ (procs : List LProc) (sound : AreSound (code_of procs)) (short : length
 
   -- in the midst of a turn
   record Half (s t : State) (j : ℕ) (ws : Words) : Type 0 where
-    walks : Walks procs t (slice_set ws j zero_word ++ rest) target (from + size_of y1 + size_of y2) (y3 ∷ more)
+    walks : Walks procs t (slice_set ws j zero_word ++ rest) target (from + size_of y1 + size_of y2)
+        (y3 ∷ more)
     flags : t.flags ≡ diff_flags (suc j) 1
     regs : t.regs ≡ with_reg s.regs Ecx j
     storage : t.storage ≡ s.storage
     input : t.input ≡ s.input
     taken : t.taken ≡ s.taken
 
-  half : (j : ℕ) (s : State) (ws : Words) → j < length ws → length ws ≤ m → Walks procs s (ws ++ rest) target from loop → 4 * length (ws ++ rest) ≤ stack_length → s.regs.ecx ≡ suc j → s.regs.ebp ≡ s.regs.esp + 4 * m + 12 →
+  half : (j : ℕ) (s : State) (ws : Words) → j < length ws → length ws ≤ m →
+      Walks procs s (ws ++ rest) target from loop → 4 * length (ws ++ rest) ≤ stack_length →
+      s.regs.ecx ≡ suc j → s.regs.ebp ≡ s.regs.esp + 4 * m + 12 →
       (t : State) × Reaches 2 s t × Half s t j ws
   unfolding effect mov operation read_rm write_rm
   half j s ws small fits w room ecx ebp =
       let cs = ws ++ rest in
       let a = address_of s.regs last_word in
       let l = length-append ws rest in
-      let spot : a ≡ s.regs.esp + 4 * j = omega (arith, ints, ecx, ebp, w.stack.top, fits, small, l, few) in
+      let spot : a ≡ s.regs.esp + 4 * j =
+      omega (arith, ints, ecx, ebp, w.stack.top, fits, small, l, few) in
       let s0 = at s (s.eip + size_of y1) in
-      let c = store_cell cs s0 w.stack w.small room j a (omega (arith, small, l)) spot zero_word 0 (refl, omega arith) in
-      let s1 : State = record s { stack = with_word s.stack (a - stack_base) 0; eip = s.eip + size_of y1 } in
-      let r1 : Reaches 1 s s1 = reaches procs sound s cs target from y1 (y2 ∷ y3 ∷ more) w s1 (ap (λ q. q >>= goes) c.0) in
-      let moved : slice_set cs j zero_word ≡ slice_set ws j zero_word ++ rest = set_front ws rest j zero_word small in
-      let w1 : Walks procs s1 (slice_set ws j zero_word ++ rest) target (from + size_of y1) (y2 ∷ y3 ∷ more) = record {
+      let c = store_cell cs s0 w.stack w.small room j a (omega (arith, small, l)) spot zero_word 0
+      (refl, omega arith) in
+      let s1 : State = record s {
+        stack = with_word s.stack (a - stack_base) 0;
+        eip =
+            s.eip + size_of y1;
+      } in
+      let r1 : Reaches 1 s s1 = reaches procs sound s cs target from y1 (y2 ∷ y3 ∷ more) w s1
+      (ap (λ q. q >>= goes) c.0) in
+      let moved : slice_set cs j zero_word ≡ slice_set ws j zero_word ++ rest =
+      set_front ws rest j zero_word small in
+      let w1 : Walks procs s1 (slice_set ws j zero_word ++ rest) target (from + size_of y1)
+      (y2 ∷ y3 ∷ more) = record {
         code = w.code;
         going = w.going;
         stack = subst (λ q. Stacked q s.regs.esp s1.stack) moved c.1;
@@ -109,12 +129,14 @@ module _ (procs : List LProc) (sound : AreSound (code_of procs)) (short : length
       let g : Registers = with_reg s.regs Ecx (diff32 s.regs.ecx 1) in
       let f = diff_flags s.regs.ecx 1 in
       let s2 : State = record s1 { regs = g; flags = f; eip = s1.eip + size_of y2 } in
-      let r2 : Reaches 1 s1 s2 = reaches procs sound s1 (slice_set ws j zero_word ++ rest) target (from + size_of y1) y2 (y3 ∷ more) w1 s2 refl in
+      let r2 : Reaches 1 s1 s2 = reaches procs sound s1 (slice_set ws j zero_word ++ rest) target
+      (from + size_of y1) y2 (y3 ∷ more) w1 s2 refl in
       let less : diff32 s.regs.ecx 1 ≡ j = omega (arith, ecx, small, fits, few) in (
         s2,
         reach_on 1 1 s s1 s2 r1 r2,
         record {
-          walks = goes_on procs sound s1 (slice_set ws j zero_word ++ rest) target (from + size_of y1) y2 (y3 ∷ more) w1 g f refl;
+          walks = goes_on procs sound s1 (slice_set ws j zero_word ++ rest) target
+              (from + size_of y1) y2 (y3 ∷ more) w1 g f refl;
           flags = ap (λ n. diff_flags n 1) ecx;
           regs = ap (λ n. with_reg s.regs Ecx n) less;
           storage = refl;
@@ -134,7 +156,9 @@ module _ (procs : List LProc) (sound : AreSound (code_of procs)) (short : length
     pub input : t.input ≡ s.input
     pub taken : t.taken ≡ s.taken
 
-  turns : (j : ℕ) (s : State) (ws : Words) → j < length ws → length ws ≤ m → Walks procs s (ws ++ rest) target from loop → 4 * length (ws ++ rest) ≤ stack_length → s.regs.ecx ≡ suc j → s.regs.ebp ≡ s.regs.esp + 4 * m + 12 →
+  turns : (j : ℕ) (s : State) (ws : Words) → j < length ws → length ws ≤ m →
+      Walks procs s (ws ++ rest) target from loop → 4 * length (ws ++ rest) ≤ stack_length →
+      s.regs.ecx ≡ suc j → s.regs.ebp ≡ s.regs.esp + 4 * m + 12 →
       (k : ℕ) × (t : State) × Reaches k s t × Wiped s t (wipe (suc j) ws ++ rest)
   unfolding wipe effect
   turns zero s ws small fits w room ecx ebp =
@@ -142,13 +166,17 @@ module _ (procs : List LProc) (sound : AreSound (code_of procs)) (short : length
       let t = h.0 in
       let x = h.2 in
       let u = at t (t.eip + size_of y3) in
-      let condition = ap (λ f. holds f cond.Ne) x.flags ∙ holds-diff_flags 1 1 (omega arith) (omega arith) cond.Ne in
-      let r : Reaches 1 t u = reaches procs sound t (slice_set ws zero zero_word ++ rest) target (from + size_of y1 + size_of y2) y3 more x.walks u (ap (branch u (neg_ℤ (pos 20))) condition) in (
+      let condition = ap (λ f. holds f cond.Ne) x.flags ∙ holds-diff_flags 1 1 (omega arith)
+      (omega arith) cond.Ne in
+      let r : Reaches 1 t u = reaches procs sound t (slice_set ws zero zero_word ++ rest) target
+      (from + size_of y1 + size_of y2) y3 more x.walks u
+      (ap (branch u (neg_ℤ (pos 20))) condition) in (
         3,
         u,
         reach_on 2 1 s t u h.1 r,
         record {
-          walks = goes_on procs sound t (slice_set ws zero zero_word ++ rest) target (from + size_of y1 + size_of y2) y3 more x.walks t.regs t.flags refl;
+          walks = goes_on procs sound t (slice_set ws zero zero_word ++ rest) target
+              (from + size_of y1 + size_of y2) y3 more x.walks t.regs t.flags refl;
           regs = (0, x.regs);
           storage = x.storage;
           input = x.input;
@@ -163,18 +191,32 @@ module _ (procs : List LProc) (sound : AreSound (code_of procs)) (short : length
       let near = here.within procs target from loop w.items_at in
       let e_now = t.eip + size_of y3 in
       let sizes : size_of y1 + size_of y2 + size_of y3 ≡ 20 = refl in
-      let to : sum32 e_now (word (neg_ℤ (pos 20))) ≡ s.eip = omega (arith, ints, x.walks.place, w.place, sizes, near, short) in
+      let to : sum32 e_now (word (neg_ℤ (pos 20))) ≡ s.eip =
+      omega (arith, ints, x.walks.place, w.place, sizes, near, short) in
       let u = at t s.eip in
       let other : not (suc (suc j) == 1) ≡ true = grind (arith, nat_tests) in
-      let condition = ap (λ f. holds f cond.Ne) x.flags ∙ holds-diff_flags (suc (suc j)) 1 (omega (arith, small, fits, few)) (omega arith) cond.Ne ∙ ap Some other in
-      let r : Reaches 1 t u = reaches procs sound t (ys ++ rest) target (from + size_of y1 + size_of y2) y3 more x.walks u
+      let condition = ap (λ f. holds f cond.Ne) x.flags ∙ holds-diff_flags (suc (suc j)) 1
+      (omega (arith, small, fits, few)) (omega arith) cond.Ne ∙ ap Some other in
+      let r : Reaches 1 t u = reaches procs sound t (ys ++ rest) target
+      (from + size_of y1 + size_of y2) y3 more x.walks u
       (ap (branch (at t e_now) (neg_ℤ (pos 20))) condition ∙ ap (λ n. goes (at t n)) to) in
       let long = length_set ws (suc j) zero_word in
-      let wu : Walks procs u (ys ++ rest) target from loop = record { code = x.walks.code; going = x.walks.going; stack = x.walks.stack; small = x.walks.small; place = w.place; items_at = w.items_at } in
-      let ebp_u : u.regs.ebp ≡ u.regs.esp + 4 * m + 12 = ap (λ (g : Registers). g.ebp) x.regs ∙ ebp ∙ ap (λ (g : Registers). g.esp + 4 * m + 12) (sym x.regs) in
+      let wu : Walks procs u (ys ++ rest) target from loop =
+      record {
+        code = x.walks.code;
+        going = x.walks.going;
+        stack = x.walks.stack;
+        small =
+            x.walks.small;
+        place = w.place;
+        items_at = w.items_at;
+      } in
+      let ebp_u : u.regs.ebp ≡ u.regs.esp + 4 * m + 12 = ap (λ (g : Registers). g.ebp) x.regs ∙ ebp
+      ∙ ap (λ (g : Registers). g.esp + 4 * m + 12) (sym x.regs) in
       let la = length-append ws rest in
       let lb = length-append ys rest in
-      let z = turns j u ys (omega (arith, small, long)) (omega (arith, fits, long)) wu (omega (arith, room, long, la, lb)) (ap (λ (g : Registers). g.ecx) x.regs) ebp_u in
+      let z = turns j u ys (omega (arith, small, long)) (omega (arith, fits, long)) wu
+      (omega (arith, room, long, la, lb)) (ap (λ (g : Registers). g.ecx) x.regs) ebp_u in
       let v = z.3 in (
         3 + z.0,
         z.1,
@@ -189,8 +231,15 @@ module _ (procs : List LProc) (sound : AreSound (code_of procs)) (short : length
       )
 
   -- all words are cleared
-  pub clears : (n : ℕ) (s : State) (ws : Words) → suc n ≡ length ws → length ws ≤ m → Walks procs s (ws ++ rest) target from loop → 4 * length (ws ++ rest) ≤ stack_length → s.regs.ecx ≡ suc n → s.regs.ebp ≡ s.regs.esp + 4 * m + 12 →
+  pub clears : (n : ℕ) (s : State) (ws : Words) → suc n ≡ length ws → length ws ≤ m →
+      Walks procs s (ws ++ rest) target from loop → 4 * length (ws ++ rest) ≤ stack_length →
+      s.regs.ecx ≡ suc n → s.regs.ebp ≡ s.regs.esp + 4 * m + 12 →
       (k : ℕ) × (t : State) × Reaches k s t × Wiped s t (zeroed ws ++ rest)
   clears n s ws count fits w room ecx ebp =
-      let z = turns n s ws (omega (arith, count)) fits w room ecx ebp in
-      (z.0, z.1, z.2, subst (λ q. Wiped s z.1 (q ++ rest)) (ap (λ k. wipe k ws) count ∙ wiped ws) z.3)
+      let z = turns n s ws (omega (arith, count)) fits w room ecx ebp in (
+        z.0,
+        z.1,
+        z.2,
+        subst (λ q. Wiped s z.1 (q ++ rest)) (ap (λ k. wipe k ws) count ∙ wiped ws)
+            z.3,
+      )

@@ -1,5 +1,7 @@
 -- Jumps and branches at a block's end.
-use Rattle.std.proofs.Common.{◌≡◌, ◌≢◌, ℕ, zero, suc, ◌+◌, ◌-◌, ◌^◌, ◌≤◌, ◌<◌, Bool, true, false, List, [], ◌∷◌, ◌++◌, length, Option, Some, None, refl, sym, ap, ◌∙◌, subst, arith, ◌⊎◌, inl, inr}
+use Rattle.std.proofs.Common.{◌≡◌, ◌≢◌, ℕ, zero, suc, ◌+◌, ◌-◌, ◌^◌, ◌≤◌, ◌<◌, Bool, true, false}
+use Rattle.std.proofs.Common.{List, [], ◌∷◌, ◌++◌, length, Option, Some, None, refl, sym, ap, ◌∙◌}
+use Rattle.std.proofs.Common.{subst, arith, ◌⊎◌, inl, inr}
 use Rattle.std.specs.Prelude.{nat_eq, if◌then◌else◌, slice_get, flat_map}
 use Rattle.std.specs.List.{filter_map}
 use Rattle.std.proofs.lemmas.List.Sums.{sum_by-cons}
@@ -35,7 +37,8 @@ use Rattle.pra_base.specs.Words.{word, sum32, compares}
 use Rattle.vc_code.specs.Value.{Words}
 use Rattle.vc_code.specs.Machine.{Activation, State, with_top, goes_to, branched}
 use Rattle.ia_simulation.specs.Frames.{frames}
-use Rattle.ia_simulation.specs.Realizes.{IsLoadable, StandsBefore, FlagsTell, Runs, Realizes, most, Leads}
+use Rattle.ia_simulation.specs.Realizes.{IsLoadable, StandsBefore, FlagsTell, Runs, Realizes, most}
+use Rattle.ia_simulation.specs.Realizes.{Leads}
 use Rattle.ia_simulation.proofs.Here.{AreAt}
 use Rattle.ia_simulation.proofs.Here as here
 use Rattle.ia_simulation.proofs.Places.{block_at}
@@ -48,18 +51,27 @@ use Rattle.ia_simulation.proofs.Walks.{Walks, aimed_at, reaches, goes_on}
 
 -- ---- the jump to a block, or none to the next one
 
-lands : (procs : List LProc) → AreSound (code_of procs) → length (bytes_of_all (code_of procs)) ≤ max_code_bytes → (p : LProc) (start : ℕ) (m : machine.State) (words : Words) (from next : ℕ) (b : BlockId) →
-    Walks procs m words (target_in p start) from (jump_to next b) → from + size (jump_to next b) ≡ block_start p start next → block_start p start b.0 ≤ max_code_bytes →
-    (k : ℕ) × Reaches k m (machine.at m (code_base + block_start p start b.0)) × ((0 < k) ⊎ (b.0 ≡ next))
+lands : (procs : List LProc) → AreSound (code_of procs) → length (bytes_of_all (code_of procs)) ≤
+    max_code_bytes → (p : LProc) (start : ℕ) (m : machine.State) (words : Words) (from next : ℕ)
+    (b : BlockId) →
+    Walks procs m words (target_in p start) from (jump_to next b) → from + size (jump_to next b) ≡
+    block_start p start next → block_start p start b.0 ≤ max_code_bytes →
+    (k : ℕ) × Reaches k m (machine.at m (code_base + block_start p start b.0)) ×
+    ((0 < k) ⊎ (b.0 ≡ next))
 unfolding effect
-lands procs sound short p start m words from next b w flows small = one (nat_eq b.0 next) refl w flows
+lands procs sound short p start m words from next b w flows small =
+    one (nat_eq b.0 next) refl w flows
   where
-    one : (c : Bool) → nat_eq b.0 next ≡ c → Walks procs m words (target_in p start) from (if c then [] else Jump (Block b) ∷ []) → from + size (if c then [] else Jump (Block b) ∷ []) ≡ block_start p start next →
-        (k : ℕ) × Reaches k m (machine.at m (code_base + block_start p start b.0)) × ((0 < k) ⊎ (b.0 ≡ next))
+    one : (c : Bool) → nat_eq b.0 next ≡ c → Walks procs m words (target_in p start) from
+        (if c then [] else Jump (Block b) ∷ []) →
+        from + size (if c then [] else Jump (Block b) ∷ []) ≡ block_start p start next →
+        (k : ℕ) × Reaches k m (machine.at m (code_base + block_start p start b.0)) ×
+        ((0 < k) ⊎ (b.0 ≡ next))
     one true e w flows =
         let same : b.0 ≡ next = nat_is b.0 next e in
         let starts = ap (block_start p start) same in
-        let there : m.eip ≡ code_base + block_start p start b.0 = omega (arith, w.place, flows, starts) in
+        let there : m.eip ≡ code_base + block_start p start b.0 =
+        omega (arith, w.place, flows, starts) in
         (0, subst (λ n. Reaches 0 m (machine.at m n)) there (reach_none m), inr same)
     one false e w flows =
         let x = Jump (Block b) in
@@ -68,8 +80,14 @@ lands procs sound short p start m words from next b w flows small = one (nat_eq 
         let n = from + size_of x in
         let d = distance n (block_start p start b.0) in
         let to : sum32 (m.eip + size_of x) (word d) ≡ code_base + block_start p start b.0 =
-        ap (λ k. sum32 k (word d)) (omega (arith, w.place)) ∙ aimed_at n (block_start p start b.0) (omega (arith, inside, s, short)) small in
-        (1, reaches procs sound m words (target_in p start) from x [] w (machine.at m (code_base + block_start p start b.0)) (ap (λ k. goes (machine.at m k)) to), inl (omega arith))
+        ap (λ k. sum32 k (word d)) (omega (arith, w.place)) ∙ aimed_at n (block_start p start b.0)
+        (omega (arith, inside, s, short)) small in (
+          1,
+          reaches procs sound m words (target_in p start) from x [] w
+              (machine.at m (code_base + block_start p start b.0))
+              (ap (λ k. goes (machine.at m k)) to),
+          inl (omega arith),
+        )
 
 -- ---- blocks
 
@@ -77,11 +95,13 @@ lands procs sound short p start m words from next b w flows small = one (nat_eq 
 abbrev moved_to : Activation Cells → ℕ → LBlock → Activation Cells
 moved_to c b x = record c { home = record c.home { block = b; rest = x.code; end = x.end } }
 
-block_is : (c d : Activation Cells) (b : ℕ) (x : Option LBlock) → at_block c b x ≡ Some d → (block : LBlock) × (x ≡ Some block) × (moved_to c b block ≡ d)
+block_is : (c d : Activation Cells) (b : ℕ) (x : Option LBlock) → at_block c b x ≡ Some d →
+    (block : LBlock) × (x ≡ Some block) × (moved_to c b block ≡ d)
 block_is c d b None e = cc
 block_is c d b (Some x) e = (x, refl, some_same (moved_to c b x) d e)
 
-few_blocks : (procs : List LProc) (q : ℕ) (p : LProc) → slice_get procs q ≡ Some p → length p.blocks ≤ most procs
+few_blocks : (procs : List LProc) (q : ℕ) (p : LProc) → slice_get procs q ≡ Some p →
+    length p.blocks ≤ most procs
 few_blocks [] q p e = cc
 few_blocks (c ∷ procs) zero p e =
     let same : c ≡ p = some_same c p e in
@@ -93,7 +113,8 @@ few_blocks (c ∷ procs) (suc q) p e =
     let sum = sum_by-cons (λ (p : LProc). length p.blocks) c procs in
     omega (arith, rest, sum)
 
-module _ (procs : List LProc) (data_words : ℕ) (ok : IsLoadable procs data_words) (s : State Cells) (r : Ran) (y : Realizes procs s r) (o : s.over ≡ None) (done : s.top.home.rest ≡ []) where
+module _ (procs : List LProc) (data_words : ℕ) (ok : IsLoadable procs data_words) (s : State Cells)
+    (r : Ran) (y : Realizes procs s r) (o : s.over ≡ None) (done : s.top.home.rest ≡ []) where
   abbrev m : machine.State
   m = r.state
 
@@ -113,24 +134,30 @@ module _ (procs : List LProc) (data_words : ℕ) (ok : IsLoadable procs data_wor
   target = target_in p start
 
   abbrev pub from : ℕ
-  from = standing.here procs s.top.proc s.top.home.block s.top.home.rest s.top.home.end (length s.pushed) m.eip x.stands
+  from = standing.here procs s.top.proc s.top.home.block s.top.home.rest s.top.home.end
+      (length s.pushed) m.eip x.stands
 
   abbrev pub words : Words
   words = s.pushed ++ frames procs x.backs (s.top ∷ s.below)
 
   pub none_pushed : length s.pushed ≡ 0
-  none_pushed = subst (λ rest. PushesLead (TakesArgs (counts_of procs)) (length s.pushed) (filter_map op_of rest)) done x.stands.pushes_lead
+  none_pushed = subst (λ rest. PushesLead (TakesArgs (counts_of procs)) (length s.pushed)
+      (filter_map op_of rest)) done x.stands.pushes_lead
 
   end_at : AreAt procs target from (emit_end p next s.top.home.end)
   end_at =
-      subst (λ rest. AreAt procs target from (flat_map (emit p) rest ++ emit_end p next s.top.home.end)) done
-      (standing.left_at procs s.top.proc s.top.home.block s.top.home.rest s.top.home.end (length s.pushed) m.eip x.stands)
+      subst (λ rest. AreAt procs target from
+      (flat_map (emit p) rest ++ emit_end p next s.top.home.end)) done
+      (standing.left_at procs s.top.proc s.top.home.block s.top.home.rest s.top.home.end
+      (length s.pushed) m.eip x.stands)
 
   flows : from + size (emit_end p next s.top.home.end) ≡ block_start p start next
   flows =
       let number : suc s.top.home.block ≡ next = omega arith in
-      subst (λ rest. from + size (flat_map (emit p) rest ++ emit_end p next s.top.home.end) ≡ block_start p start next) done
-      (standing.flows procs s.top.proc s.top.home.block s.top.home.rest s.top.home.end (length s.pushed) m.eip x.stands ∙ ap (block_start p start) number)
+      subst (λ rest. from + size (flat_map (emit p) rest ++ emit_end p next s.top.home.end) ≡
+      block_start p start next) done
+      (standing.flows procs s.top.proc s.top.home.block s.top.home.rest s.top.home.end
+      (length s.pushed) m.eip x.stands ∙ ap (block_start p start) number)
 
   pub walks : Walks procs m words target from (emit_end p next s.top.home.end)
   walks = record {
@@ -146,7 +173,9 @@ module _ (procs : List LProc) (data_words : ℕ) (ok : IsLoadable procs data_wor
   there b = machine.at m (code_base + block_start p start b)
 
   -- at the begin of a block the machine stands for the call there
-  arrived : (b : ℕ) (block : LBlock) (n : ℕ) → slice_get p.blocks b ≡ Some block → Realizes procs (with_top s (moved_to s.top b block)) (record { state = there b; events = r.events; steps = n })
+  arrived : (b : ℕ) (block : LBlock) (n : ℕ) → slice_get p.blocks b ≡ Some block →
+      Realizes procs (with_top s (moved_to s.top b block))
+      (record { state = there b; events = r.events; steps = n })
   arrived b block n has = record {
     ending = y.ending;
     events = y.events;
@@ -154,7 +183,9 @@ module _ (procs : List LProc) (data_words : ℕ) (ok : IsLoadable procs data_wor
     going = λ _. record {
       backs = x.backs;
       code = x.code;
-      stands = subst (λ k. StandsBefore procs s.top.proc b block.code block.end k (code_base + block_start p start b)) (sym none_pushed) (stands_at procs data_words ok s.top.proc b block _ x.stands.there has refl);
+      stands = subst (λ k. StandsBefore procs s.top.proc b block.code block.end k
+          (code_base + block_start p start b)) (sym none_pushed)
+          (stands_at procs data_words ok s.top.proc b block _ x.stands.there has refl);
       waiting = x.waiting;
       lies = record {
         sizes = x.lies.sizes;
@@ -172,15 +203,18 @@ module _ (procs : List LProc) (data_words : ℕ) (ok : IsLoadable procs data_wor
     };
   }
 
-  lower : (b k : ℕ) → (0 < k) ⊎ (b ≡ next) → (0 < k) ⊎ (most procs - b < most procs - s.top.home.block)
+  lower : (b k : ℕ) → (0 < k) ⊎ (b ≡ next) → (0 < k) ⊎
+      (most procs - b < most procs - s.top.home.block)
   lower b k (inl l) = inl l
   lower b k (inr same) =
       let inside = get_inside p.blocks s.top.home.block x.stands.code x.stands.in_block in
       let few = few_blocks procs s.top.proc p x.stands.there in
       inr (omega (arith, same, inside, few))
 
-  arrives : (b : ℕ) → ((block : LBlock) → slice_get p.blocks b ≡ Some block → (k : ℕ) × Reaches k m (there b) × ((0 < k) ⊎ (b ≡ next))) →
-      (goes_to (placed_machine procs) s b).over ≢ Some Wrong → Leads procs s r (goes_to (placed_machine procs) s b)
+  arrives : (b : ℕ) → ((block : LBlock) → slice_get p.blocks b ≡ Some block → (k : ℕ) ×
+      Reaches k m (there b) × ((0 < k) ⊎ (b ≡ next))) →
+      (goes_to (placed_machine procs) s b).over ≢ Some Wrong →
+      Leads procs s r (goes_to (placed_machine procs) s b)
   arrives b reach ns =
       found_ok (Leads procs s r) s (at_block s.top b (slice_get p.blocks b)) (with_top s) ns
       (λ c e _.
@@ -189,23 +223,30 @@ module _ (procs : List LProc) (data_words : ℕ) (ok : IsLoadable procs data_wor
       subst (λ c. Leads procs s r (with_top s c)) z.2 (
         g.0,
         lower b g.0 g.2,
-        subst (Realizes procs (with_top s (moved_to s.top b z.0))) (sym (g.1.by r.events r.steps)) (arrived b z.0 (r.steps + g.0) z.1),
+        subst (Realizes procs (with_top s (moved_to s.top b z.0))) (sym (g.1.by r.events r.steps))
+            (arrived b z.0 (r.steps + g.0) z.1),
       ))
 
-  block_small : (b : ℕ) (block : LBlock) → slice_get p.blocks b ≡ Some block → block_start p start b ≤ max_code_bytes
+  block_small : (b : ℕ) (block : LBlock) → slice_get p.blocks b ≡ Some block →
+      block_start p start b ≤ max_code_bytes
   block_small b block has =
-      let inside = here.within procs target (block_start p start b) (emit_block p b block) (block_at procs s.top.proc p x.stands.there b block has) in
+      let inside = here.within procs target (block_start p start b) (emit_block p b block)
+      (block_at procs s.top.proc p x.stands.there b block has) in
       omega (arith, inside, ok.short)
 
   -- a jump
-  pub jumps : (b : BlockId) → s.top.home.end ≡ end.Jump b → (goes_to (placed_machine procs) s b.0).over ≢ Some Wrong → Leads procs s r (goes_to (placed_machine procs) s b.0)
+  pub jumps : (b : BlockId) → s.top.home.end ≡ end.Jump b →
+      (goes_to (placed_machine procs) s b.0).over ≢ Some Wrong →
+      Leads procs s r (goes_to (placed_machine procs) s b.0)
   jumps b e =
       let w = subst (λ e. Walks procs m words target from (emit_end p next e)) e walks in
       let f = subst (λ e. from + size (emit_end p next e) ≡ block_start p start next) e flows in
-      arrives b.0 (λ block has. lands procs ok.sound ok.short p start m words from next b w f (block_small b.0 block has))
+      arrives b.0 (λ block has. lands procs ok.sound ok.short p start m words from next b w f
+      (block_small b.0 block has))
 
   -- a branch, where these were compared
-  module _ (c : Cond) (one other : BlockId) (e : s.top.home.end ≡ end.Branch c one other) (a b : ℕ) (tell : (m.flags ≡ diff_flags a b) × (a < 2 ^ 32) × (b < 2 ^ 32)) where
+  module _ (c : Cond) (one other : BlockId) (e : s.top.home.end ≡ end.Branch c one other) (a b : ℕ)
+      (tell : (m.flags ≡ diff_flags a b) × (a < 2 ^ 32) × (b < 2 ^ 32)) where
     abbrev x0 : Item
     x0 = Branch c (Block one)
 
@@ -218,7 +259,8 @@ module _ (procs : List LProc) (data_words : ℕ) (ok : IsLoadable procs data_wor
     condition : holds m.flags c ≡ Some (compares c a b)
     condition = ap (λ f. holds f c) tell.0 ∙ holds-diff_flags a b tell.1 tell.2 c
 
-    taken : compares c a b ≡ true → (block : LBlock) → slice_get p.blocks one.0 ≡ Some block → Reaches 1 m (there one.0)
+    taken : compares c a b ≡ true → (block : LBlock) → slice_get p.blocks one.0 ≡ Some block →
+        Reaches 1 m (there one.0)
     unfolding effect
     taken t block has =
         let n = from + size_of x0 in
@@ -226,9 +268,11 @@ module _ (procs : List LProc) (data_words : ℕ) (ok : IsLoadable procs data_wor
         let inside = here.within procs target from (x0 ∷ more) w.items_at in
         let s = size-cons x0 more in
         let to : sum32 (m.eip + size_of x0) (word d) ≡ code_base + block_start p start one.0 =
-        ap (λ k. sum32 k (word d)) (omega (arith, w.place)) ∙ aimed_at n (block_start p start one.0) (omega (arith, inside, s, ok.short)) (block_small one.0 block has) in
+        ap (λ k. sum32 k (word d)) (omega (arith, w.place)) ∙ aimed_at n (block_start p start one.0)
+        (omega (arith, inside, s, ok.short)) (block_small one.0 block has) in
         reaches procs ok.sound m words target from x0 more w (there one.0)
-        (ap (branch (machine.at m (m.eip + size_of x0)) d) (condition ∙ ap Some t) ∙ ap (λ k. goes (machine.at m k)) to)
+        (ap (branch (machine.at m (m.eip + size_of x0)) d) (condition ∙ ap Some t)
+        ∙ ap (λ k. goes (machine.at m k)) to)
 
     abbrev m1 : machine.State
     m1 = machine.at m (m.eip + size_of x0)
@@ -237,7 +281,8 @@ module _ (procs : List LProc) (data_words : ℕ) (ok : IsLoadable procs data_wor
     unfolding effect
     passed_by t =
         reaches procs ok.sound m words target from x0 more w m1
-        (ap (branch (machine.at m (m.eip + size_of x0)) (distance (from + size_of x0) (block_start p start one.0))) (condition ∙ ap Some t))
+        (ap (branch (machine.at m (m.eip + size_of x0))
+        (distance (from + size_of x0) (block_start p start one.0))) (condition ∙ ap Some t))
 
     w1 : Walks procs m1 words target (from + size_of x0) more
     w1 = goes_on procs ok.sound m words target from x0 more w m.regs m.flags refl
@@ -248,18 +293,25 @@ module _ (procs : List LProc) (data_words : ℕ) (ok : IsLoadable procs data_wor
         let s = size-cons x0 more in
         omega (arith, f, s)
 
-    pub branches : (goes_to (placed_machine procs) s (if compares c a b then one.0 else other.0)).over ≢ Some Wrong →
-        Leads procs s r (goes_to (placed_machine procs) s (if compares c a b then one.0 else other.0))
+    pub branches : (goes_to (placed_machine procs) s
+        (if compares c a b then one.0 else other.0)).over ≢ Some Wrong →
+        Leads procs s r (goes_to (placed_machine procs) s
+        (if compares c a b then one.0 else other.0))
     branches = choose (compares c a b) refl
       where
-        choose : (t : Bool) → compares c a b ≡ t → (goes_to (placed_machine procs) s (if t then one.0 else other.0)).over ≢ Some Wrong → Leads procs s r (goes_to (placed_machine procs) s (if t then one.0 else other.0))
+        choose : (t : Bool) → compares c a b ≡ t →
+            (goes_to (placed_machine procs) s (if t then one.0 else other.0)).over ≢ Some Wrong →
+            Leads procs s r (goes_to (placed_machine procs) s (if t then one.0 else other.0))
         choose true t = arrives one.0 (λ block has. (1, taken t block has, inl (omega arith)))
         choose false t =
             arrives other.0 (λ block has.
-            let l = lands procs ok.sound ok.short p start m1 words (from + size_of x0) next other w1 flows1 (block_small other.0 block has) in
+            let l = lands procs ok.sound ok.short p start m1 words (from + size_of x0) next other w1
+            flows1 (block_small other.0 block has) in
             (1 + l.0, reach_on 1 l.0 m m1 (there other.0) (passed_by t) l.1, inl (omega arith)))
 
-  pub branching : (c : Cond) (one other : BlockId) → s.top.home.end ≡ end.Branch c one other → (compared : Option (ℕ × ℕ)) → FlagsTell compared m.flags →
-      (branched (placed_machine procs) c one.0 other.0 compared s).over ≢ Some Wrong → Leads procs s r (branched (placed_machine procs) c one.0 other.0 compared s)
+  pub branching : (c : Cond) (one other : BlockId) → s.top.home.end ≡ end.Branch c one other →
+      (compared : Option (ℕ × ℕ)) → FlagsTell compared m.flags →
+      (branched (placed_machine procs) c one.0 other.0 compared s).over ≢ Some Wrong →
+      Leads procs s r (branched (placed_machine procs) c one.0 other.0 compared s)
   branching c one other e None tell ns = absurd (ns refl)
   branching c one other e (Some x) tell ns = branches c one other e x.0 x.1 tell ns

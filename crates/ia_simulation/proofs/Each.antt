@@ -23,7 +23,8 @@ use Rattle.ia_emit.specs.Sound.{OffsetsFit}
 use Rattle.ia_simulation.proofs.Simulated as simulated
 use Rattle.ia_simulation.proofs.Whole as whole
 
-op_carried : (i : VInstr) (places : _) → ((a : Addr) → address_of i ≡ Some a → FitsSigned w32 a.offset) → IsCarried (placed.Op i places)
+op_carried : (i : VInstr) (places : _) →
+    ((a : Addr) → address_of i ≡ Some a → FitsSigned w32 a.offset) → IsCarried (placed.Op i places)
 op_carried (instr.Set v n) places fits = whole.sets v n places
 op_carried (instr.Copy v s) places fits = whole.copies v s places
 op_carried (instr.Add v s) places fits = whole.adds v s places
@@ -49,17 +50,25 @@ op_carried instr.Line places fits = whole.lines places
 op_carried instr.Clear places fits = whole.clears places
 
 module _ (procs : List LProc) (fit : OffsetsFit procs) where
-  carried_at : (q : ℕ) (p : LProc) → slice_get procs q ≡ Some p → (b k : ℕ) (i : LInstr) → linstr_at p b k i → IsCarried i
+  carried_at : (q : ℕ) (p : LProc) → slice_get procs q ≡ Some p → (b k : ℕ) (i : LInstr) →
+      linstr_at p b k i → IsCarried i
   carried_at q p there b k (placed.Move move) is = whole.moves move
-  carried_at q p there b k (placed.Op i places) is = op_carried i places (fit q p there b k i places is)
+  carried_at q p there b k (placed.Op i places) is =
+      op_carried i places (fit q p there b k i places is)
 
   each : EachIsCarried procs
   each q p there b k i is = carried_at q p there b k i is
 
-pub carried : (procs : List LProc) (data_words : ℕ) → IsLoadable procs data_words → OffsetsFit procs → (image : Image) → image.code ≡ bytes_of_all (code_of procs) → image.data_words ≡ data_words → (input : List ℤ) → AreWords input →
-    ((k : ℕ) → (lrun procs data_words input k).ending ≢ Some Wrong) → Carried (lrun procs data_words input) (progress image input)
+pub carried : (procs : List LProc) (data_words : ℕ) → IsLoadable procs data_words →
+    OffsetsFit procs → (image : Image) → image.code ≡ bytes_of_all (code_of procs) →
+    image.data_words ≡ data_words → (input : List ℤ) → AreWords input →
+    ((k : ℕ) → (lrun procs data_words input k).ending ≢ Some Wrong) →
+    Carried (lrun procs data_words input) (progress image input)
 carried procs data_words ok fit = simulated.follows procs data_words ok (each procs fit)
 
-pub never_wrong : (procs : List LProc) (data_words : ℕ) → IsLoadable procs data_words → OffsetsFit procs → (image : Image) → image.code ≡ bytes_of_all (code_of procs) → image.data_words ≡ data_words → (input : List ℤ) → AreWords input →
-    ((k : ℕ) → (lrun procs data_words input k).ending ≢ Some Wrong) → (m : ℕ) → (progress image input m).ending ≢ Some Wrong
+pub never_wrong : (procs : List LProc) (data_words : ℕ) → IsLoadable procs data_words →
+    OffsetsFit procs → (image : Image) → image.code ≡ bytes_of_all (code_of procs) →
+    image.data_words ≡ data_words → (input : List ℤ) → AreWords input →
+    ((k : ℕ) → (lrun procs data_words input k).ending ≢ Some Wrong) → (m : ℕ) →
+    (progress image input m).ending ≢ Some Wrong
 never_wrong procs data_words ok fit = simulated.never_wrong procs data_words ok (each procs fit)

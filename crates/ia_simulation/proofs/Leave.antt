@@ -1,5 +1,6 @@
 -- A procedure ends: its frame goes, and the registers that it kept come back.
-use Rattle.std.proofs.Common.{◌≡◌, ℕ, zero, suc, ◌+◌, ◌-◌, ◌*◌, ◌≤◌, List, [], ◌∷◌, ◌++◌, length, refl, ap, ◌∙◌, arith, length-append}
+use Rattle.std.proofs.Common.{◌≡◌, ℕ, zero, suc, ◌+◌, ◌-◌, ◌*◌, ◌≤◌, List, [], ◌∷◌, ◌++◌, length}
+use Rattle.std.proofs.Common.{refl, ap, ◌∙◌, arith, length-append}
 use Rattle.std.specs.Prelude.{pos, neg_ℤ, Ok}
 use Rattle.std.proofs.lemmas.Int.{ints}
 use Rattle.pra_list.specs.Results.{◌>>=◌}
@@ -27,25 +28,31 @@ use Rattle.pra_base.specs.Words.{sum32}
 use Rattle.vc_code.specs.Value.{Held, Words}
 use Rattle.ia_simulation.specs.Frames.{Holds, Stacked}
 use Rattle.ia_simulation.proofs.Here as here
-use Rattle.ia_simulation.proofs.Walks.{Walks, drop_stacked, reaches, behind_pop, popped_holds, pops, pops_on}
+use Rattle.ia_simulation.proofs.Walks.{Walks, drop_stacked, reaches, behind_pop, popped_holds, pops}
+use Rattle.ia_simulation.proofs.Walks.{pops_on}
 
 -- what the caller finds again
-pub record Left (procs : List LProc) (m t : State) (cs : Words) (bx si di bp ret : Held) : Type 0 where
-  pub code : t.code ≡ bytes_of_all (code_of procs)
-  pub going : t.ending ≡ Going
-  pub stack : Stacked cs t.regs.esp t.stack
-  pub ebx : Holds bx t.regs.ebx
-  pub esi : Holds si t.regs.esi
-  pub edi : Holds di t.regs.edi
-  pub ebp : Holds bp t.regs.ebp
-  pub eip : Holds ret t.eip
-  pub storage : t.storage ≡ m.storage
-  pub input : t.input ≡ m.input
-  pub taken : t.taken ≡ m.taken
+pub record Left (procs : List LProc) (m t : State) (cs : Words) (bx si di bp ret : Held) : Type 0
+  where
+    pub code : t.code ≡ bytes_of_all (code_of procs)
+    pub going : t.ending ≡ Going
+    pub stack : Stacked cs t.regs.esp t.stack
+    pub ebx : Holds bx t.regs.ebx
+    pub esi : Holds si t.regs.esi
+    pub edi : Holds di t.regs.edi
+    pub ebp : Holds bp t.regs.ebp
+    pub eip : Holds ret t.eip
+    pub storage : t.storage ≡ m.storage
+    pub input : t.input ≡ m.input
+    pub taken : t.taken ≡ m.taken
 
-module _ (procs : List LProc) (sound : AreSound (code_of procs)) (p : LProc) (target : Target → ℕ) (from : ℕ) (m : State) (frame : Words) (bx si di bp ret : Held) (args cs : Words)
-    (args_are : length args ≡ p.args) (few : p.args ≤ 32) (w : Walks procs m (frame ++ (di ∷ si ∷ bx ∷ bp ∷ ret ∷ (args ++ cs))) target from (leave p))
-    (room : 4 * length (frame ++ (di ∷ si ∷ bx ∷ bp ∷ ret ∷ (args ++ cs))) ≤ stack_length) (ebp : m.regs.ebp ≡ m.regs.esp + 4 * length frame + 12) where
+module _ (procs : List LProc) (sound : AreSound (code_of procs)) (p : LProc) (target : Target → ℕ)
+    (from : ℕ) (m : State) (frame : Words) (bx si di bp ret : Held) (args cs : Words)
+    (args_are : length args ≡ p.args) (few : p.args ≤ 32)
+    (w : Walks procs m (frame ++ (di ∷ si ∷ bx ∷ bp ∷ ret ∷ (args ++ cs))) target from
+    (leave p))
+    (room : 4 * length (frame ++ (di ∷ si ∷ bx ∷ bp ∷ ret ∷ (args ++ cs))) ≤ stack_length)
+    (ebp : m.regs.ebp ≡ m.regs.esp + 4 * length frame + 12) where
   abbrev after : Words
   after = di ∷ si ∷ bx ∷ bp ∷ ret ∷ (args ++ cs)
 
@@ -69,9 +76,12 @@ module _ (procs : List LProc) (sound : AreSound (code_of procs)) (p : LProc) (ta
   to_s1 =
       let k = w.stack in
       reaches procs sound m (frame ++ after) target from x0 _ w s1
-      (ap (λ n. goes (with_register (at m (m.eip + size_of x0)) Esp n)) (omega (arith, ints, ebp, k.top, long_all, room)))
+      (ap (λ n. goes (with_register (at m (m.eip + size_of x0)) Esp n))
+      (omega (arith, ints, ebp, k.top, long_all, room)))
 
-  w1 : Walks procs s1 after target (from + size_of x0) (Plain (ins.PopR Edi) ∷ Plain (ins.PopR Esi) ∷ Plain (ins.PopR Ebx) ∷ Plain (ins.PopR Ebp) ∷ last ∷ [])
+  w1 : Walks procs s1 after target (from + size_of x0)
+      (Plain (ins.PopR Edi) ∷ Plain (ins.PopR Esi) ∷ Plain (ins.PopR Ebx) ∷ Plain
+      (ins.PopR Ebp) ∷ last ∷ [])
   w1 = record {
     code = w.code;
     going = w.going;
@@ -94,7 +104,8 @@ module _ (procs : List LProc) (sound : AreSound (code_of procs)) (p : LProc) (ta
   few1 = omega (arith, room, long_all)
 
   abbrev s2 : State
-  s2 = behind_pop procs sound s1 di (si ∷ bx ∷ bp ∷ ret ∷ (args ++ cs)) target (from + size_of x0) Edi more1 w1 few1
+  s2 = behind_pop procs sound s1 di (si ∷ bx ∷ bp ∷ ret ∷ (args ++ cs)) target (from + size_of x0)
+      Edi more1 w1 few1
 
   abbrev at2 : ℕ
   at2 = from + size_of x0 + size_of (Plain (ins.PopR Edi))
@@ -148,20 +159,26 @@ module _ (procs : List LProc) (sound : AreSound (code_of procs)) (p : LProc) (ta
   abbrev s6 : State
   s6 = record s5 { regs = with_reg s5.regs Esp esp6; eip = back }
 
-  returns : (n : ℕ) → n ≡ p.args → effect (at s5 (s5.eip + size_of (Plain (return n)))) (return n) ≡ Ok (s6, out.Going)
+  returns : (n : ℕ) → n ≡ p.args → effect (at s5 (s5.eip + size_of (Plain (return n)))) (return n) ≡
+      Ok (s6, out.Going)
   unfolding effect
   returns zero e =
       let s = at s5 (s5.eip + size_of (Plain (return zero))) in
       let k = w5.stack in
       let up : s5.regs.esp + 4 ≡ esp6 = omega (arith, e) in
-      ap (λ x. x >>= λ x. goes (at x.1 x.0)) (pop_here s w5.small (omega (arith, k.top)) (omega (arith, k.top, few4)) (omega (arith, k.top, k.long)) (omega (arith, k.top)))
+      ap (λ x. x >>= λ x. goes (at x.1 x.0))
+      (pop_here s w5.small (omega (arith, k.top)) (omega (arith, k.top, few4))
+      (omega (arith, k.top, k.long)) (omega (arith, k.top)))
       ∙ ap (λ n. goes (record s5 { regs = with_reg s5.regs Esp n; eip = back })) up
   returns (suc n) e =
       let s = at s5 (s5.eip + size_of (Plain (return (suc n)))) in
       let k = w5.stack in
       let la = length-append args cs in
-      let up : sum32 (s5.regs.esp + 4) (4 * suc n) ≡ esp6 = omega (arith, e, k.top, la, args_are, few) in
-      ap (λ x. x >>= λ x. goes (with_register (at x.1 x.0) Esp (sum32 x.1.regs.esp (4 * suc n)))) (pop_here s w5.small (omega (arith, k.top)) (omega (arith, k.top, few4)) (omega (arith, k.top, k.long)) (omega (arith, k.top)))
+      let up : sum32 (s5.regs.esp + 4) (4 * suc n) ≡ esp6 =
+      omega (arith, e, k.top, la, args_are, few) in
+      ap (λ x. x >>= λ x. goes (with_register (at x.1 x.0) Esp (sum32 x.1.regs.esp (4 * suc n))))
+      (pop_here s w5.small (omega (arith, k.top)) (omega (arith, k.top, few4))
+      (omega (arith, k.top, k.long)) (omega (arith, k.top)))
       ∙ ap (λ n. goes (record s5 { regs = with_reg s5.regs Esp n; eip = back })) up
 
   pub leaves : (t : State) × Reaches 6 m t × Left procs m t cs bx si di bp ret
@@ -169,19 +186,28 @@ module _ (procs : List LProc) (sound : AreSound (code_of procs)) (p : LProc) (ta
       let la = length-append args cs in (
         s6,
         reach_on 1 5 m s1 s6 to_s1
-            (reach_on 1 4 s1 s2 s6 (pops procs sound s1 di (si ∷ bx ∷ bp ∷ ret ∷ (args ++ cs)) target _ Edi more1 w1 few1)
-            (reach_on 1 3 s2 s3 s6 (pops procs sound s2 si (bx ∷ bp ∷ ret ∷ (args ++ cs)) target _ Esi more2 w2 few2)
-            (reach_on 1 2 s3 s4 s6 (pops procs sound s3 bx (bp ∷ ret ∷ (args ++ cs)) target _ Ebx more3 w3 few3)
-            (reach_on 1 1 s4 s5 s6 (pops procs sound s4 bp (ret ∷ (args ++ cs)) target _ Ebp (last ∷ []) w4 few4)
-            (reaches procs sound s5 (ret ∷ (args ++ cs)) target _ last [] w5 s6 (returns p.args refl)))))),
+            (reach_on 1 4 s1 s2 s6 (pops procs sound s1 di (si ∷ bx ∷ bp ∷ ret ∷ (args ++ cs))
+            target _ Edi more1 w1 few1)
+            (reach_on 1 3 s2 s3 s6 (pops procs sound s2 si (bx ∷ bp ∷ ret ∷ (args ++ cs)) target _
+            Esi more2 w2 few2)
+            (reach_on 1 2 s3 s4 s6 (pops procs sound s3 bx (bp ∷ ret ∷ (args ++ cs)) target _ Ebx
+            more3 w3 few3)
+            (reach_on 1 1 s4 s5 s6 (pops procs sound s4 bp (ret ∷ (args ++ cs)) target _ Ebp
+            (last ∷ []) w4 few4)
+            (reaches procs sound s5 (ret ∷ (args ++ cs)) target _ last [] w5 s6
+            (returns p.args refl)))))),
         record {
           code = w.code;
           going = w.going;
-          stack = drop_stacked (ret ∷ args) cs s5.regs.esp esp6 m.stack (omega (arith, args_are)) (omega (arith, la)) (omega (arith, few4)) w5.stack;
+          stack = drop_stacked (ret ∷ args) cs s5.regs.esp esp6 m.stack (omega (arith, args_are))
+              (omega (arith, la)) (omega (arith, few4)) w5.stack;
           ebx = popped_holds procs sound s3 bx (bp ∷ ret ∷ (args ++ cs)) target _ Ebx more3 w3 few3;
-          esi = popped_holds procs sound s2 si (bx ∷ bp ∷ ret ∷ (args ++ cs)) target _ Esi more2 w2 few2;
-          edi = popped_holds procs sound s1 di (si ∷ bx ∷ bp ∷ ret ∷ (args ++ cs)) target _ Edi more1 w1 few1;
-          ebp = popped_holds procs sound s4 bp (ret ∷ (args ++ cs)) target _ Ebp (last ∷ []) w4 few4;
+          esi = popped_holds procs sound s2 si (bx ∷ bp ∷ ret ∷ (args ++ cs)) target _ Esi more2 w2
+              few2;
+          edi = popped_holds procs sound s1 di (si ∷ bx ∷ bp ∷ ret ∷ (args ++ cs)) target _ Edi
+              more1 w1 few1;
+          ebp = popped_holds procs sound s4 bp (ret ∷ (args ++ cs)) target _ Ebp (last ∷ []) w4
+              few4;
           eip = w5.stack.held.0;
           storage = refl;
           input = refl;

@@ -14,22 +14,28 @@ use Rattle.vc_code.proofs.LongerRuns.{longer_runs_keep}
 use Rattle.ia_simulation.specs.Realizes.{IsLoadable, IsLoaded, AreWords}
 use Rattle.ia_simulation.proofs.Each as each
 
-module _ (procs : List LProc) (data_words : ℕ) (image : Image) (z : IsLoaded procs data_words image) where
-  pub loadable : IsLoadable procs data_words
-  loadable = record {
-    placed = z.placed;
-    small = z.small;
-    sound = z.listing.sound;
-    short = subst (λ bytes. length bytes ≤ max_code_bytes) z.listing.spelled z.valid.code;
-    few_data = subst (λ n. n ≤ max_data_words) z.words_are z.valid.data_words;
-  }
+module _ (procs : List LProc) (data_words : ℕ) (image : Image) (z : IsLoaded procs data_words image)
+  where
+    pub loadable : IsLoadable procs data_words
+    loadable = record {
+      placed = z.placed;
+      small = z.small;
+      sound = z.listing.sound;
+      short = subst (λ bytes. length bytes ≤ max_code_bytes) z.listing.spelled z.valid.code;
+      few_data = subst (λ n. n ≤ max_data_words) z.words_are z.valid.data_words;
+    }
 
-  module _ (input : List ℤ) (fits : AreWords input) (never : (k : ℕ) → (lrun procs data_words input k).ending ≢ Some Wrong) where
-    pub carried : Carried (lrun procs data_words input) (progress image input)
-    carried = each.carried procs data_words loadable z.offsets image z.listing.spelled z.words_are input fits never
+    module _ (input : List ℤ) (fits : AreWords input)
+        (never : (k : ℕ) → (lrun procs data_words input k).ending ≢ Some Wrong) where
+      pub carried : Carried (lrun procs data_words input) (progress image input)
+      carried = each.carried procs data_words loadable z.offsets image z.listing.spelled z.words_are
+          input fits never
 
-    pub never_wrong : (m : ℕ) → (progress image input m).ending ≢ Some Wrong
-    never_wrong = each.never_wrong procs data_words loadable z.offsets image z.listing.spelled z.words_are input fits never
+      pub never_wrong : (m : ℕ) → (progress image input m).ending ≢ Some Wrong
+      never_wrong = each.never_wrong procs data_words loadable z.offsets image z.listing.spelled
+          z.words_are input fits never
 
-    pub agrees : Agree (lrun procs data_words input) (progress image input)
-    agrees = agree (lrun procs data_words input) (progress image input) carried (longer_runs_keep (placed_machine procs) (start procs data_words input)) (progress_keeps image input)
+      pub agrees : Agree (lrun procs data_words input) (progress image input)
+      agrees = agree (lrun procs data_words input) (progress image input) carried
+          (longer_runs_keep (placed_machine procs) (start procs data_words input))
+          (progress_keeps image input)

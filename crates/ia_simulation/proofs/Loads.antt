@@ -1,5 +1,6 @@
 -- MOV from an object's word.
-use Rattle.std.proofs.Common.{◌≡◌, ℕ, ◌+◌, List, [], ◌∷◌, length, map, drop, Option, Some, None, refl, sym, ap, ◌∙◌, subst}
+use Rattle.std.proofs.Common.{◌≡◌, ℕ, ◌+◌, List, [], ◌∷◌, length, map, drop, Option, Some, None}
+use Rattle.std.proofs.Common.{refl, sym, ap, ◌∙◌, subst}
 use Rattle.std.specs.Prelude.{ℤ}
 use Rattle.std.specs.Int.{w32}
 use Rattle.std.specs.Int.RustNames.{FitsSigned}
@@ -50,10 +51,18 @@ use Rattle.ia_simulation.proofs.Steps.{found_ok}
 -- ---- what valid code says of the places of an address
 
 -- LEA has the same row
-located : (p : LProc) (v : VarId) (a : Addr) (l : List Place) → OperandsPlaced p (instr.Load v a) l → OperandsPlaced p (instr.Addr v a) l
-located p v a l is = record { count = is.count; allowed = is.allowed; in_place = is.in_place; pair = is.pair }
+located : (p : LProc) (v : VarId) (a : Addr) (l : List Place) →
+    OperandsPlaced p (instr.Load v a) l → OperandsPlaced p (instr.Addr v a) l
+located p v a l is = record {
+  count = is.count;
+  allowed = is.allowed;
+  in_place = is.in_place;
+  pair =
+      is.pair;
+}
 
-module _ (procs : List LProc) (data_words : ℕ) (ok : IsLoadable procs data_words) (s : State Cells) (r : Ran) (y : Realizes procs s r) (o : s.over ≡ None) where
+module _ (procs : List LProc) (data_words : ℕ) (ok : IsLoadable procs data_words) (s : State Cells)
+    (r : Ran) (y : Realizes procs s r) (o : s.over ≡ None) where
   abbrev p : LProc
   p = proc_of procs s.top.proc
 
@@ -63,7 +72,10 @@ module _ (procs : List LProc) (data_words : ℕ) (ok : IsLoadable procs data_wor
   abbrev T : ℕ → ℕ → Type 0
   T = TakesArgs (counts_of procs)
 
-  module _ (v : VarId) (b : Base) (off : ℤ) (x : Option VarId) (fits : FitsSigned w32 off) (places : _) (more : List LInstr) (e : s.top.home.rest ≡ placed_.Op (instr.Load v (record { base = b; offset = off; index = x })) places ∷ more) where
+  module _ (v : VarId) (b : Base) (off : ℤ) (x : Option VarId) (fits : FitsSigned w32 off)
+      (places : _) (more : List LInstr)
+      (e : s.top.home.rest ≡ placed_.Op
+      (instr.Load v (record { base = b; offset = off; index = x })) places ∷ more) where
     abbrev a : Addr
     a = record { base = b; offset = off; index = x }
 
@@ -89,7 +101,15 @@ module _ (procs : List LProc) (data_words : ℕ) (ok : IsLoadable procs data_wor
     so = places_are p v off b x l (located p v a l is_l)
 
     has : HasAddress this b x l
-    has = let z = so.has_address in record { long = z.long; via_is = z.via_is; via_there = z.via_there; index_is = z.index_is; index_there = z.index_there; cell_is = z.cell_is }
+    has = let z = so.has_address in
+        record {
+          long = z.long;
+          via_is = z.via_is;
+          via_there = z.via_there;
+          index_is = z.index_is;
+          index_there = z.index_there;
+          cell_is = z.cell_is;
+        }
 
     abbrev now : machine.State
     now = ops.now procs data_words ok s r y o this places more e j refl
@@ -97,7 +117,8 @@ module _ (procs : List LProc) (data_words : ℕ) (ok : IsLoadable procs data_wor
     abbrev held : List Held
     held = operands p s.top (read_by this) (map number_of l)
 
-    are : addresses.InRegisters procs (steps.x procs data_words ok s r y o).backs s.pushed s.top s.below s.globals now (steps.x procs data_words ok s r y o).lies b x l held
+    are : addresses.InRegisters procs (steps.x procs data_words ok s r y o).backs s.pushed s.top
+        s.below s.globals now (steps.x procs data_words ok s r y o).lies b x l held
     are = are_there procs data_words ok s r y o this places more e j refl b x has
 
     pub loads_it : Led procs data_words ok s r y o this more l
@@ -105,22 +126,33 @@ module _ (procs : List LProc) (data_words : ℕ) (ok : IsLoadable procs data_wor
     loads_it ns =
         let run_x = steps.x procs data_words ok s r y o in
         let after : After Cells = behind p this (map number_of l) more s.top in
-        ops.bound_ok procs data_words ok s r y o after (placed (addresses.here_is procs run_x.backs s.pushed s.top s.below s.globals now run_x.lies) a held) (λ t. Some (action.Load t.0 t.1)) ns (λ t te ns.
+        ops.bound_ok procs data_words ok s r y o after
+        (placed (addresses.here_is procs run_x.backs s.pushed s.top s.below s.globals now
+        run_x.lies) a held) (λ t. Some (action.Load t.0 t.1)) ns (λ t te ns.
         found_ok (Leads procs s r) s (number_in (shape procs) s t.0 t.1) _ ns (λ d de ns.
         found_ok (Leads procs s r) s (after (Num d ∷ [])) (with_top s) ns (λ c ce _.
-        let place_is = addresses.address_is procs run_x.backs s.pushed s.top s.below s.globals now run_x.lies b off x l held fits are t.0 t.1 te in
-        let got = loads_object procs run_x.backs s now run_x.lies run_x.waiting (steps.few procs data_words ok s r y o) t.0 t.1 d de in
+        let place_is = addresses.address_is procs run_x.backs s.pushed s.top s.below s.globals now
+        run_x.lies b off x l held fits are t.0 t.1 te in
+        let got = loads_object procs run_x.backs s now run_x.lies run_x.waiting
+        (steps.few procs data_words ok s r y o) t.0 t.1 d de in
         let n = got.0 in
         let reg = emitted.register_at (place_in l k) in
         let to_is : to ≡ at.Register reg = register_operand p v.0 (place_in l k) so.to_there in
         let long = so.long in
-        let last : drop (length (read_by this)) (map number_of l) ≡ place_in l k ∷ [] = ap (λ n. drop n (map number_of l)) so.read ∙ last_of l k long in
+        let last : drop (length (read_by this)) (map number_of l) ≡ place_in l k ∷ [] =
+        ap (λ n. drop n (map number_of l)) so.read ∙ last_of l k long in
         let after_it = ops.passed_by procs data_words ok s r y o this places more e in
         let put_it : put p after_it v.0 (place_in l k) (Some (Num d)) ≡ Some c =
-        put_done p (put p after_it v.0 (place_in l k) (Some (Num d))) [] [] c (ap (λ q. put_all p (Some after_it) (v.0 ∷ []) q (Num d ∷ [])) (sym last) ∙ ce) in
-        let wrote = subst (λ q. ops.Writes procs data_words ok s r y o this places more e j refl q n c) to_is (ops.writes_here procs data_words ok s r y o this places more e j refl v.0 (place_in l k) (Num d) n c put_it got.2) in
-        ops.gave procs data_words ok s r y o this places more e j refl (at.Register reg) n c now.flags wrote
-        (computes.lead_on procs data_words ok s r y o this places more e (steps.lead procs data_words ok s r y o (placed_.Op this places) more e))
+        put_done p (put p after_it v.0 (place_in l k) (Some (Num d))) [] [] c
+        (ap (λ q. put_all p (Some after_it) (v.0 ∷ []) q (Num d ∷ [])) (sym last) ∙ ce) in
+        let wrote = subst (λ q. ops.Writes procs data_words ok s r y o this places more e j refl q n
+        c) to_is (ops.writes_here procs data_words ok s r y o this places more e j refl v.0
+        (place_in l k) (Num d) n c put_it got.2) in
+        ops.gave procs data_words ok s r y o this places more e j refl (at.Register reg) n c
+        now.flags wrote
+        (computes.lead_on procs data_words ok s r y o this places more e
+        (steps.lead procs data_words ok s r y o (placed_.Op this places) more e))
         (ap (λ a. load now a >>= λ v. write_rm now (rm.Reg (reg_of to)) v >>= goes) place_is
         ∙ ap (λ v. v >>= λ v. write_rm now (rm.Reg (reg_of to)) v >>= goes) got.1
-        ∙ ap (λ q. write_rm now (rm.Reg (reg_of q)) n >>= goes) to_is ∙ ap (λ q. q >>= goes) wrote.is))))
+        ∙ ap (λ q. write_rm now (rm.Reg (reg_of q)) n >>= goes) to_is
+        ∙ ap (λ q. q >>= goes) wrote.is))))

@@ -1,5 +1,6 @@
 -- LEA.
-use Rattle.std.proofs.Common.{◌≡◌, ℕ, suc, ◌+◌, true, List, [], ◌∷◌, length, map, drop, Option, Some, None, refl, sym, ap, ◌∙◌, subst, arith}
+use Rattle.std.proofs.Common.{◌≡◌, ℕ, suc, ◌+◌, true, List, [], ◌∷◌, length, map, drop, Option}
+use Rattle.std.proofs.Common.{Some, None, refl, sym, ap, ◌∙◌, subst, arith}
 use Rattle.std.specs.Prelude.{ℤ, slice_index_or}
 use Rattle.std.specs.Int.{w32}
 use Rattle.std.specs.Int.RustNames.{FitsSigned}
@@ -62,7 +63,8 @@ module _ (p : LProc) (v : VarId) (off : ℤ) where
     pub long : length l ≡ suc (via_count b + index_count x)
     pub read : length (read_by (i b x)) ≡ via_count b + index_count x
 
-  pub places_are : (b : Base) (x : Option VarId) (l : List Place) → OperandsPlaced p (i b x) l → Placed b x l
+  pub places_are : (b : Base) (x : Option VarId) (l : List Place) → OperandsPlaced p (i b x) l →
+      Placed b x l
   places_are (base.Global g) None l is = record {
     has_address = record {
       long = let long = is.count in omega (arith, long);
@@ -72,7 +74,9 @@ module _ (p : LProc) (v : VarId) (off : ℤ) where
       index_there = λ w e. cc;
       cell_is = λ n e. ap cell_of e;
     };
-    to_there = is_register p v.0 true (slice_index_or l 0 place.Eax) ((in_mask (table (i (base.Global g) None)) v.0 (place_in l 0) (allowed_at p (i (base.Global g) None) l is 0 _ refl)).0 (itself v.0));
+    to_there = is_register p v.0 true (slice_index_or l 0 place.Eax)
+        ((in_mask (table (i (base.Global g) None)) v.0 (place_in l 0)
+        (allowed_at p (i (base.Global g) None) l is 0 _ refl)).0 (itself v.0));
     long = is.count;
     read = refl;
   }
@@ -82,10 +86,15 @@ module _ (p : LProc) (v : VarId) (off : ℤ) where
       via_is = λ w e. cc;
       via_there = λ w e. cc;
       index_is = λ w e. let same : z ≡ w = cc in ap (λ (u : VarId). Some u.0) same;
-      index_there = λ w e. is_register p z.0 (line_writes (table (i (base.Global g) (Some z))) z.0) (slice_index_or l 0 place.Eax) ((in_mask (table (i (base.Global g) (Some z))) z.0 (place_in l 0) (allowed_at p (i (base.Global g) (Some z)) l is 0 _ refl)).0 (itself z.0));
+      index_there = λ w e. is_register p z.0 (line_writes (table (i (base.Global g) (Some z))) z.0)
+          (slice_index_or l 0 place.Eax)
+          ((in_mask (table (i (base.Global g) (Some z))) z.0 (place_in l 0)
+          (allowed_at p (i (base.Global g) (Some z)) l is 0 _ refl)).0 (itself z.0));
       cell_is = λ n e. ap cell_of e;
     };
-    to_there = is_register p v.0 true (slice_index_or l 1 place.Eax) ((in_mask (table (i (base.Global g) (Some z))) v.0 (place_in l 1) (allowed_at p (i (base.Global g) (Some z)) l is 1 _ refl)).1.0 (itself v.0));
+    to_there = is_register p v.0 true (slice_index_or l 1 place.Eax)
+        ((in_mask (table (i (base.Global g) (Some z))) v.0 (place_in l 1)
+        (allowed_at p (i (base.Global g) (Some z)) l is 1 _ refl)).1.0 (itself v.0));
     long = is.count;
     read = refl;
   }
@@ -98,7 +107,9 @@ module _ (p : LProc) (v : VarId) (off : ℤ) where
       index_there = λ w e. cc;
       cell_is = λ n e. ap cell_of e;
     };
-    to_there = is_register p v.0 true (slice_index_or l 0 place.Eax) ((in_mask (table (i (base.Frame g) None)) v.0 (place_in l 0) (allowed_at p (i (base.Frame g) None) l is 0 _ refl)).0 (itself v.0));
+    to_there = is_register p v.0 true (slice_index_or l 0 place.Eax)
+        ((in_mask (table (i (base.Frame g) None)) v.0 (place_in l 0)
+        (allowed_at p (i (base.Frame g) None) l is 0 _ refl)).0 (itself v.0));
     long = is.count;
     read = refl;
   }
@@ -108,10 +119,15 @@ module _ (p : LProc) (v : VarId) (off : ℤ) where
       via_is = λ w e. cc;
       via_there = λ w e. cc;
       index_is = λ w e. let same : z ≡ w = cc in ap (λ (u : VarId). Some u.0) same;
-      index_there = λ w e. is_register p z.0 (line_writes (table (i (base.Frame g) (Some z))) z.0) (slice_index_or l 0 place.Eax) ((in_mask (table (i (base.Frame g) (Some z))) z.0 (place_in l 0) (allowed_at p (i (base.Frame g) (Some z)) l is 0 _ refl)).0 (itself z.0));
+      index_there = λ w e. is_register p z.0 (line_writes (table (i (base.Frame g) (Some z))) z.0)
+          (slice_index_or l 0 place.Eax)
+          ((in_mask (table (i (base.Frame g) (Some z))) z.0 (place_in l 0)
+          (allowed_at p (i (base.Frame g) (Some z)) l is 0 _ refl)).0 (itself z.0));
       cell_is = λ n e. ap cell_of e;
     };
-    to_there = is_register p v.0 true (slice_index_or l 1 place.Eax) ((in_mask (table (i (base.Frame g) (Some z))) v.0 (place_in l 1) (allowed_at p (i (base.Frame g) (Some z)) l is 1 _ refl)).1.0 (itself v.0));
+    to_there = is_register p v.0 true (slice_index_or l 1 place.Eax)
+        ((in_mask (table (i (base.Frame g) (Some z))) v.0 (place_in l 1)
+        (allowed_at p (i (base.Frame g) (Some z)) l is 1 _ refl)).1.0 (itself v.0));
     long = is.count;
     read = refl;
   }
@@ -124,7 +140,9 @@ module _ (p : LProc) (v : VarId) (off : ℤ) where
       index_there = λ w e. cc;
       cell_is = λ n e. ap cell_of e;
     };
-    to_there = is_register p v.0 true (slice_index_or l 0 place.Eax) ((in_mask (table (i (base.Cell g) None)) v.0 (place_in l 0) (allowed_at p (i (base.Cell g) None) l is 0 _ refl)).0 (itself v.0));
+    to_there = is_register p v.0 true (slice_index_or l 0 place.Eax)
+        ((in_mask (table (i (base.Cell g) None)) v.0 (place_in l 0)
+        (allowed_at p (i (base.Cell g) None) l is 0 _ refl)).0 (itself v.0));
     long = is.count;
     read = refl;
   }
@@ -134,10 +152,15 @@ module _ (p : LProc) (v : VarId) (off : ℤ) where
       via_is = λ w e. cc;
       via_there = λ w e. cc;
       index_is = λ w e. let same : z ≡ w = cc in ap (λ (u : VarId). Some u.0) same;
-      index_there = λ w e. is_register p z.0 (line_writes (table (i (base.Cell g) (Some z))) z.0) (slice_index_or l 0 place.Eax) ((in_mask (table (i (base.Cell g) (Some z))) z.0 (place_in l 0) (allowed_at p (i (base.Cell g) (Some z)) l is 0 _ refl)).0 (itself z.0));
+      index_there = λ w e. is_register p z.0 (line_writes (table (i (base.Cell g) (Some z))) z.0)
+          (slice_index_or l 0 place.Eax)
+          ((in_mask (table (i (base.Cell g) (Some z))) z.0 (place_in l 0)
+          (allowed_at p (i (base.Cell g) (Some z)) l is 0 _ refl)).0 (itself z.0));
       cell_is = λ n e. ap cell_of e;
     };
-    to_there = is_register p v.0 true (slice_index_or l 1 place.Eax) ((in_mask (table (i (base.Cell g) (Some z))) v.0 (place_in l 1) (allowed_at p (i (base.Cell g) (Some z)) l is 1 _ refl)).1.0 (itself v.0));
+    to_there = is_register p v.0 true (slice_index_or l 1 place.Eax)
+        ((in_mask (table (i (base.Cell g) (Some z))) v.0 (place_in l 1)
+        (allowed_at p (i (base.Cell g) (Some z)) l is 1 _ refl)).1.0 (itself v.0));
     long = is.count;
     read = refl;
   }
@@ -145,12 +168,17 @@ module _ (p : LProc) (v : VarId) (off : ℤ) where
     has_address = record {
       long = let long = is.count in omega (arith, long);
       via_is = λ w e. let same : u ≡ w = cc in ap (λ (u : VarId). Some u.0) same;
-      via_there = λ w e. is_register p u.0 (line_writes (table (i (base.Via u) None)) u.0) (slice_index_or l 0 place.Eax) ((in_mask (table (i (base.Via u) None)) u.0 (place_in l 0) (allowed_at p (i (base.Via u) None) l is 0 _ refl)).0 (itself u.0));
+      via_there = λ w e. is_register p u.0 (line_writes (table (i (base.Via u) None)) u.0)
+          (slice_index_or l 0 place.Eax)
+          ((in_mask (table (i (base.Via u) None)) u.0 (place_in l 0)
+          (allowed_at p (i (base.Via u) None) l is 0 _ refl)).0 (itself u.0));
       index_is = λ w e. cc;
       index_there = λ w e. cc;
       cell_is = λ n e. ap cell_of e;
     };
-    to_there = is_register p v.0 true (slice_index_or l 1 place.Eax) ((in_mask (table (i (base.Via u) None)) v.0 (place_in l 1) (allowed_at p (i (base.Via u) None) l is 1 _ refl)).1.0 (itself v.0));
+    to_there = is_register p v.0 true (slice_index_or l 1 place.Eax)
+        ((in_mask (table (i (base.Via u) None)) v.0 (place_in l 1)
+        (allowed_at p (i (base.Via u) None) l is 1 _ refl)).1.0 (itself v.0));
     long = is.count;
     read = refl;
   }
@@ -158,17 +186,26 @@ module _ (p : LProc) (v : VarId) (off : ℤ) where
     has_address = record {
       long = let long = is.count in omega (arith, long);
       via_is = λ w e. let same : u ≡ w = cc in ap (λ (u : VarId). Some u.0) same;
-      via_there = λ w e. is_register p u.0 (line_writes (table (i (base.Via u) (Some z))) u.0) (slice_index_or l 0 place.Eax) ((in_mask (table (i (base.Via u) (Some z))) u.0 (place_in l 0) (allowed_at p (i (base.Via u) (Some z)) l is 0 _ refl)).0 (itself u.0));
+      via_there = λ w e. is_register p u.0 (line_writes (table (i (base.Via u) (Some z))) u.0)
+          (slice_index_or l 0 place.Eax)
+          ((in_mask (table (i (base.Via u) (Some z))) u.0 (place_in l 0)
+          (allowed_at p (i (base.Via u) (Some z)) l is 0 _ refl)).0 (itself u.0));
       index_is = λ w e. let same : z ≡ w = cc in ap (λ (u : VarId). Some u.0) same;
-      index_there = λ w e. is_register p z.0 (line_writes (table (i (base.Via u) (Some z))) z.0) (slice_index_or l 1 place.Eax) ((in_mask (table (i (base.Via u) (Some z))) z.0 (place_in l 1) (allowed_at p (i (base.Via u) (Some z)) l is 1 _ refl)).1.0 (itself z.0));
+      index_there = λ w e. is_register p z.0 (line_writes (table (i (base.Via u) (Some z))) z.0)
+          (slice_index_or l 1 place.Eax)
+          ((in_mask (table (i (base.Via u) (Some z))) z.0 (place_in l 1)
+          (allowed_at p (i (base.Via u) (Some z)) l is 1 _ refl)).1.0 (itself z.0));
       cell_is = λ n e. ap cell_of e;
     };
-    to_there = is_register p v.0 true (slice_index_or l 2 place.Eax) ((in_mask (table (i (base.Via u) (Some z))) v.0 (place_in l 2) (allowed_at p (i (base.Via u) (Some z)) l is 2 _ refl)).1.1.0 (itself v.0));
+    to_there = is_register p v.0 true (slice_index_or l 2 place.Eax)
+        ((in_mask (table (i (base.Via u) (Some z))) v.0 (place_in l 2)
+        (allowed_at p (i (base.Via u) (Some z)) l is 2 _ refl)).1.1.0 (itself v.0));
     long = is.count;
     read = refl;
   }
 
-module _ (procs : List LProc) (data_words : ℕ) (ok : IsLoadable procs data_words) (s : State Cells) (r : Ran) (y : Realizes procs s r) (o : s.over ≡ None) where
+module _ (procs : List LProc) (data_words : ℕ) (ok : IsLoadable procs data_words) (s : State Cells)
+    (r : Ran) (y : Realizes procs s r) (o : s.over ≡ None) where
   abbrev p : LProc
   p = proc_of procs s.top.proc
 
@@ -178,7 +215,10 @@ module _ (procs : List LProc) (data_words : ℕ) (ok : IsLoadable procs data_wor
   abbrev T : ℕ → ℕ → Type 0
   T = TakesArgs (counts_of procs)
 
-  module _ (v : VarId) (b : Base) (off : ℤ) (x : Option VarId) (fits : FitsSigned w32 off) (places : _) (more : List LInstr) (e : s.top.home.rest ≡ placed_.Op (instr.Addr v (record { base = b; offset = off; index = x })) places ∷ more) where
+  module _ (v : VarId) (b : Base) (off : ℤ) (x : Option VarId) (fits : FitsSigned w32 off)
+      (places : _) (more : List LInstr)
+      (e : s.top.home.rest ≡ placed_.Op
+      (instr.Addr v (record { base = b; offset = off; index = x })) places ∷ more) where
     abbrev a : Addr
     a = record { base = b; offset = off; index = x }
 
@@ -209,7 +249,8 @@ module _ (procs : List LProc) (data_words : ℕ) (ok : IsLoadable procs data_wor
     abbrev held : List Held
     held = operands p s.top (read_by this) (map number_of l)
 
-    are : addresses.InRegisters procs (steps.x procs data_words ok s r y o).backs s.pushed s.top s.below s.globals now (steps.x procs data_words ok s r y o).lies b x l held
+    are : addresses.InRegisters procs (steps.x procs data_words ok s r y o).backs s.pushed s.top
+        s.below s.globals now (steps.x procs data_words ok s r y o).lies b x l held
     are = are_there procs data_words ok s r y o this places more e j refl b x so.has_address
 
     pub locates_it : Led procs data_words ok s r y o this more l
@@ -217,18 +258,29 @@ module _ (procs : List LProc) (data_words : ℕ) (ok : IsLoadable procs data_wor
     locates_it ns =
         let run_x = steps.x procs data_words ok s r y o in
         let after : After Cells = behind p this (map number_of l) more s.top in
-        ops.bound_ok procs data_words ok s r y o after (placed (addresses.here_is procs run_x.backs s.pushed s.top s.below s.globals now run_x.lies) a held) (λ t. Some (action.Give (At t.0 t.1))) ns (λ t te ns.
+        ops.bound_ok procs data_words ok s r y o after
+        (placed (addresses.here_is procs run_x.backs s.pushed s.top s.below s.globals now
+        run_x.lies) a held) (λ t. Some (action.Give (At t.0 t.1))) ns (λ t te ns.
         ops.gives_ok procs data_words ok s r y o after (At t.0 t.1) ns (λ c ce.
         let n = address_of now.regs (address p a l) in
-        let means : Means (At t.0 t.1) n = addresses.address_is procs run_x.backs s.pushed s.top s.below s.globals now run_x.lies b off x l held fits are t.0 t.1 te in
+        let means : Means (At t.0 t.1) n = addresses.address_is procs run_x.backs s.pushed s.top
+        s.below s.globals now run_x.lies b off x l held fits are t.0 t.1 te in
         let reg = emitted.register_at (place_in l k) in
         let to_is : to ≡ at.Register reg = register_operand p v.0 (place_in l k) so.to_there in
         let long = so.long in
-        let last : drop (length (read_by this)) (map number_of l) ≡ place_in l k ∷ [] = ap (λ n. drop n (map number_of l)) so.read ∙ last_of l k long in
+        let last : drop (length (read_by this)) (map number_of l) ≡ place_in l k ∷ [] =
+        ap (λ n. drop n (map number_of l)) so.read ∙ last_of l k long in
         let after_it = ops.passed_by procs data_words ok s r y o this places more e in
         let put_it : put p after_it v.0 (place_in l k) (Some (At t.0 t.1)) ≡ Some c =
-        put_done p (put p after_it v.0 (place_in l k) (Some (At t.0 t.1))) [] [] c (ap (λ q. put_all p (Some after_it) (v.0 ∷ []) q (At t.0 t.1 ∷ [])) (sym last) ∙ ce) in
-        let wrote = subst (λ q. ops.Writes procs data_words ok s r y o this places more e j refl q n c) to_is (ops.writes_here procs data_words ok s r y o this places more e j refl v.0 (place_in l k) (At t.0 t.1) n c put_it means) in
-        ops.gave procs data_words ok s r y o this places more e j refl (at.Register reg) n c now.flags wrote
-        (computes.lead_on procs data_words ok s r y o this places more e (steps.lead procs data_words ok s r y o (placed_.Op this places) more e))
-        (ap (λ q. goes (machine.with_register now (reg_of q) n)) to_is ∙ ap goes (ok_same (machine.with_register now reg n) (record now { regs = wrote.regs; stack = wrote.stack }) wrote.is))))
+        put_done p (put p after_it v.0 (place_in l k) (Some (At t.0 t.1))) [] [] c
+        (ap (λ q. put_all p (Some after_it) (v.0 ∷ []) q (At t.0 t.1 ∷ [])) (sym last) ∙ ce) in
+        let wrote = subst (λ q. ops.Writes procs data_words ok s r y o this places more e j refl q n
+        c) to_is (ops.writes_here procs data_words ok s r y o this places more e j refl v.0
+        (place_in l k) (At t.0 t.1) n c put_it means) in
+        ops.gave procs data_words ok s r y o this places more e j refl (at.Register reg) n c
+        now.flags wrote
+        (computes.lead_on procs data_words ok s r y o this places more e
+        (steps.lead procs data_words ok s r y o (placed_.Op this places) more e))
+        (ap (λ q. goes (machine.with_register now (reg_of q) n)) to_is
+        ∙ ap goes (ok_same (machine.with_register now reg n)
+        (record now { regs = wrote.regs; stack = wrote.stack }) wrote.is))))

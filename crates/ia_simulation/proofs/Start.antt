@@ -1,6 +1,7 @@
 -- The start: the first call of the code and the body's first instructions lead to where the body of
 -- placed code begins.
-use Rattle.std.proofs.Common.{◌≡◌, ℕ, zero, suc, ◌+◌, ◌*◌, ◌≤◌, ◌<◌, false, List, [], ◌∷◌, length, map, Some, None, refl, sym, ap, ◌∙◌, subst, arith, nat_lt, replicate}
+use Rattle.std.proofs.Common.{◌≡◌, ℕ, zero, suc, ◌+◌, ◌*◌, ◌≤◌, ◌<◌, false, List, [], ◌∷◌, length}
+use Rattle.std.proofs.Common.{map, Some, None, refl, sym, ap, ◌∙◌, subst, arith, nat_lt, replicate}
 use Rattle.std.specs.Prelude.{ℤ, slice_get, slice_index, slice_index_or}
 use Rattle.std.specs.List.{filter_map}
 use Rattle.std.proofs.lemmas.Bool.Decides.{nat_tests}
@@ -38,15 +39,18 @@ use Rattle.ia_simulation.proofs.Walks.{Walks, aimed_at, push_stacked, reaches}
 
 -- ---- what is there
 
-there_is : (procs : List LProc) (q : ℕ) (p d : LProc) → slice_get procs q ≡ Some p → slice_index_or procs q d ≡ p
+there_is : (procs : List LProc) (q : ℕ) (p d : LProc) → slice_get procs q ≡ Some p →
+    slice_index_or procs q d ≡ p
 there_is [] q p d e = cc
 there_is (c ∷ procs) zero p d e = cc
 there_is (c ∷ procs) (suc q) p d e = there_is procs q p d e
 
-pub proc_there : (procs : List LProc) (q : ℕ) (p : LProc) → slice_get procs q ≡ Some p → slice_get procs q ≡ Some (proc_of procs q)
+pub proc_there : (procs : List LProc) (q : ℕ) (p : LProc) → slice_get procs q ≡ Some p →
+    slice_get procs q ≡ Some (proc_of procs q)
 proc_there procs q p e = e ∙ ap Some (sym (there_is procs q p _ e))
 
-pub counted : (procs : List LProc) (q n : ℕ) → slice_get (counts_of procs) q ≡ Some n → (slice_get procs q ≡ Some (proc_of procs q)) × ((proc_of procs q).args ≡ n)
+pub counted : (procs : List LProc) (q n : ℕ) → slice_get (counts_of procs) q ≡ Some n →
+    (slice_get procs q ≡ Some (proc_of procs q)) × ((proc_of procs q).args ≡ n)
 counted [] q n e = cc
 counted (p ∷ procs) zero n e = (refl, some_number p.args n e)
   where
@@ -55,20 +59,25 @@ counted (p ∷ procs) zero n e = (refl, some_number p.args n e)
 counted (p ∷ procs) (suc q) n e = counted procs q n e
 
 -- the first block of a list that has one
-pub first_there : (blocks : List LBlock) → 0 < length (map bare_block blocks) → slice_get blocks 0 ≡ Some (slice_index_or blocks 0 no_block)
+pub first_there : (blocks : List LBlock) → 0 < length (map bare_block blocks) → slice_get blocks 0 ≡
+    Some (slice_index_or blocks 0 no_block)
 first_there [] l = absurd (omega (arith, l))
 first_there (b ∷ blocks) l = refl
 
 -- a block with its moves left out
-pub bare_there : (blocks : List LBlock) (b : ℕ) (x : LBlock) → slice_get blocks b ≡ Some x → (base.block_in (map bare_block blocks) b).code ≡ filter_map op_of x.code
+pub bare_there : (blocks : List LBlock) (b : ℕ) (x : LBlock) → slice_get blocks b ≡ Some x →
+    (base.block_in (map bare_block blocks) b).code ≡ filter_map op_of x.code
 bare_there [] b x e = cc
-bare_there (y ∷ blocks) zero x e = let same : y ≡ x = cc in ap (λ (z : LBlock). filter_map op_of z.code) same
+bare_there (y ∷ blocks) zero x e = let same : y ≡ x = cc in
+    ap (λ (z : LBlock). filter_map op_of z.code) same
 bare_there (y ∷ blocks) (suc b) x e = bare_there blocks b x e
 
 -- a call stands at the begin of a block
 module _ (procs : List LProc) (data_words : ℕ) (ok : IsLoadable procs data_words) where
-  pub stands_at : (q b : ℕ) (x : LBlock) (place : ℕ) → slice_get procs q ≡ Some (proc_of procs q) → slice_get (proc_of procs q).blocks b ≡ Some x →
-      place ≡ code_base + block_start (proc_of procs q) (entry procs q) b → StandsBefore procs q b x.code x.end 0 place
+  pub stands_at : (q b : ℕ) (x : LBlock) (place : ℕ) → slice_get procs q ≡ Some (proc_of procs q) →
+      slice_get (proc_of procs q).blocks b ≡ Some x →
+      place ≡ code_base + block_start (proc_of procs q) (entry procs q) b →
+      StandsBefore procs q b x.code x.end 0 place
   stands_at q b x place there has e = record {
     there = there;
     code = x;
@@ -77,7 +86,9 @@ module _ (procs : List LProc) (data_words : ℕ) (ok : IsLoadable procs data_wor
     rest_is = refl;
     end_is = refl;
     place_is = omega (arith, e);
-    pushes_lead = subst (PushesLead (TakesArgs (counts_of procs)) 0) (bare_there (proc_of procs q).blocks b x has) (ok.placed.pushes_before_calls q (proc_of procs q) there b);
+    pushes_lead = subst (PushesLead (TakesArgs (counts_of procs)) 0)
+        (bare_there (proc_of procs q).blocks b x has)
+        (ok.placed.pushes_before_calls q (proc_of procs q) there b);
   }
 
 -- ---- memory that is 0
@@ -101,7 +112,9 @@ zeros_long n = length-replicate n 0
 
 -- ---- the start
 
-module _ (procs : List LProc) (data_words : ℕ) (ok : IsLoadable procs data_words) (image : Image) (code : image.code ≡ bytes_of_all (code_of procs)) (words : image.data_words ≡ data_words) (input : List ℤ) (fits : AreWords input) where
+module _ (procs : List LProc) (data_words : ℕ) (ok : IsLoadable procs data_words) (image : Image)
+    (code : image.code ≡ bytes_of_all (code_of procs)) (words : image.data_words ≡ data_words)
+    (input : List ℤ) (fits : AreWords input) where
   abbrev m : machine.State
   m = machine.start image input
 
@@ -130,34 +143,51 @@ module _ (procs : List LProc) (data_words : ℕ) (ok : IsLoadable procs data_wor
   x0 = item.Call (record { 0 = 0 })
 
   abbrev m1 : machine.State
-  m1 = machine.at (pushed (machine.at m (m.eip + size_of x0)) (m.eip + size_of x0)) (code_base + entry procs 0)
+  m1 = machine.at (pushed (machine.at m (m.eip + size_of x0)) (m.eip + size_of x0))
+      (code_base + entry procs 0)
 
   w0 : Walks procs m [] no_target 0 front
-  w0 = record { code = code; going = refl; stack = stacked; small = omega (arith, data_long, ok.few_data); place = refl; items_at = front_at procs }
+  w0 = record {
+    code = code;
+    going = refl;
+    stack = stacked;
+    small =
+        omega (arith, data_long, ok.few_data);
+    place = refl;
+    items_at = front_at procs;
+  }
 
   calls : Reaches 1 m m1
   unfolding effect
   calls =
       let s = machine.at m (m.eip + size_of x0) in
       let in_front = here.within procs no_target 0 front (front_at procs) in
-      let in_proc = here.within procs _ (entry procs 0) (prologue p) (prologue_at procs 0 p body_there) in
-      let to : sum32 (m.eip + size_of x0) (word (distance 5 (entry procs 0))) ≡ code_base + entry procs 0 = aimed_at 5 (entry procs 0) (omega (arith, in_front, ok.short)) (omega (arith, in_proc, ok.short)) in
+      let in_proc = here.within procs _ (entry procs 0) (prologue p)
+      (prologue_at procs 0 p body_there) in
+      let to : sum32 (m.eip + size_of x0) (word (distance 5 (entry procs 0))) ≡
+      code_base + entry procs 0 = aimed_at 5 (entry procs 0) (omega (arith, in_front, ok.short))
+      (omega (arith, in_proc, ok.short)) in
       reaches procs ok.sound m [] no_target 0 x0 _ w0 m1
-      (ap (λ t. t >>= λ t. goes (jump t (distance 5 (entry procs 0)))) (push_here s w0.small (omega arith) (m.eip + size_of x0) (omega arith) (omega (arith, stacked.long)))
+      (ap (λ t. t >>= λ t. goes (jump t (distance 5 (entry procs 0))))
+      (push_here s w0.small (omega arith) (m.eip + size_of x0) (omega arith)
+      (omega (arith, stacked.long)))
       ∙ ap (λ k. goes (machine.at (pushed s (m.eip + size_of x0)) k)) to)
 
-  w1 : Walks procs m1 (Some (Num exit) ∷ []) (target_in p (entry procs 0)) (entry procs 0) (prologue p)
+  w1 : Walks procs m1 (Some (Num exit) ∷ []) (target_in p (entry procs 0)) (entry procs 0)
+      (prologue p)
   w1 = record {
     code = code;
     going = refl;
-    stack = push_stacked (Some (Num exit)) [] stack_top (m.eip + size_of x0) m.stack stacked (omega arith) (refl, omega arith);
+    stack = push_stacked (Some (Num exit)) [] stack_top (m.eip + size_of x0) m.stack stacked
+        (omega arith) (refl, omega arith);
     small = w0.small;
     place = refl;
     items_at = prologue_at procs 0 p body_there;
   }
 
   few_words : nat_lt stack_limit (depth (shape procs) (begun 0 p [] block ∷ [])) ≡ false
-  few_words = let s = ok.small 0 p body_there in below_limit _ (omega (arith, s.aggregates, s.slots, no_args))
+  few_words = let s = ok.small 0 p body_there in
+      below_limit _ (omega (arith, s.aggregates, s.slots, no_args))
     where
       below_limit : (d : ℕ) → d ≤ stack_limit → nat_lt stack_limit d ≡ false
       below_limit d l = grind (arith, nat_tests)
@@ -166,8 +196,10 @@ module _ (procs : List LProc) (data_words : ℕ) (ok : IsLoadable procs data_wor
   starts =
       let globals = replicate data_words (Some (Num 0)) in
       let long : length globals ≡ data_words = length-replicate data_words (Some (Num 0)) in
-      let b = begin_call.begins procs data_words ok 0 body_there block [] [] [] globals None None None None (Some (Num exit)) refl m1 w1 no_args tt (omega arith) tt tt tt tt
-      (zeros_hold data_words (image.data_words * 4) 0) (omega (arith, data_long, long)) (omega (arith, long, ok.few_data)) few_words in
+      let b = begin_call.begins procs data_words ok 0 body_there block [] [] [] globals None None
+      None None (Some (Num exit)) refl m1 w1 no_args tt (omega arith) tt tt tt tt
+      (zeros_hold data_words (image.data_words * 4) 0) (omega (arith, data_long, long))
+      (omega (arith, long, ok.few_data)) few_words in
       let t = b.1 in
       let z = b.3 in
       let all : Reaches (1 + b.0) m t = reach_on 1 b.0 m m1 t calls b.2 in (

@@ -1,5 +1,6 @@
 -- What stands at EIP is executed. Bytes are spoken of here, and not above.
-use Rattle.std.proofs.Common.{◌≡◌, ℕ, ◌+◌, ◌-◌, ◌^◌, ◌≤◌, ◌<◌, false, List, ◌++◌, length, drop, sym, ap, ◌∙◌, arith, length-append, append_assoc, nat_lt, nat_le}
+use Rattle.std.proofs.Common.{◌≡◌, ℕ, ◌+◌, ◌-◌, ◌^◌, ◌≤◌, ◌<◌, false, List, ◌++◌, length, drop, sym}
+use Rattle.std.proofs.Common.{ap, ◌∙◌, arith, length-append, append_assoc, nat_lt, nat_le}
 use Rattle.std.proofs.lemmas.Bool.{le-ltb}
 use Rattle.std.proofs.Math.Seq.{drop-append_seam}
 use Rattle.std.proofs.lemmas.Bool.Decides.{nat_tests}
@@ -66,7 +67,8 @@ within code place bytes is =
 
 -- a part of a list of instructions stands behind those before it
 pub part_is_at : (all before is behind : List Ins) → all ≡ before ++ (is ++ behind) → (place : ℕ) →
-    place ≡ code_base + length (bytes_of_all before) → IsAt (bytes_of_all all) place (bytes_of_all is)
+    place ≡ code_base + length (bytes_of_all before) → IsAt (bytes_of_all all) place
+    (bytes_of_all is)
 part_is_at all before is behind parts place counted = record {
   before = bytes_of_all before;
   behind = bytes_of_all behind;
@@ -81,7 +83,8 @@ not_le : (a b : ℕ) → b < a → nat_le a b ≡ false
 not_le a b h = grind (arith, nat_tests)
 
 -- the instruction i stands at EIP
-module _ (s : State) (i : Ins) (more : List ℕ) (sound : IsSound i) (is : IsAt s.code s.eip (bytes_of i ++ more)) where
+module _ (s : State) (i : Ins) (more : List ℕ) (sound : IsSound i)
+    (is : IsAt s.code s.eip (bytes_of i ++ more)) where
   some : 0 < length (bytes_of i)
   some = omega (arith, (code_of i sound).some)
 
@@ -100,13 +103,17 @@ module _ (s : State) (i : Ins) (more : List ℕ) (sound : IsSound i) (is : IsAt 
   unfolding fetch
   fetch_here =
       let low : nat_lt s.eip code_base ≡ false = le-ltb _ _ (omega (arith, is.counted)) in
-      let high : nat_le (code_base + length s.code) s.eip ≡ false = not_le _ s.eip (omega (arith, inside, some)) in
-      rw (low, high) (ap (next_to s.eip) (ap decoded stands ∙ decoded-bytes_of i sound (more ++ is.behind)))
+      let high : nat_le (code_base + length s.code) s.eip ≡ false =
+      not_le _ s.eip (omega (arith, inside, some)) in
+      rw (low, high) (ap (next_to s.eip)
+      (ap decoded stands ∙ decoded-bytes_of i sound (more ++ is.behind)))
 
   -- a machine that is going on executes it
-  pub step_here : s.ending ≡ Going → step s ≡ settled s (effect (at s (s.eip + length (bytes_of i))) i)
+  pub step_here : s.ending ≡ Going →
+      step s ≡ settled s (effect (at s (s.eip + length (bytes_of i))) i)
   unfolding step
-  step_here going = ap (step_from s) going ∙ ap (λ r. settled s (r >>= λ x. effect (at s x.1) x.0)) fetch_here
+  step_here going = ap (step_from s) going ∙ ap (λ r. settled s (r >>= λ x. effect (at s x.1) x.0))
+      fetch_here
 
 -- a jump from behind the instruction at n to t
 pub jump_to : (n t : ℕ) → n < 2 ^ 31 → t < 2 ^ 31 → sum32 n (cast_unsigned w32 (pos t -ℤ pos n)) ≡ t

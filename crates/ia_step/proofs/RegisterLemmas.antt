@@ -17,5 +17,6 @@ get-with_reg regs Ebp v = refl
 get-with_reg regs Esi v = refl
 get-with_reg regs Edi v = refl
 
-pub get-with_reg_other : (regs : Registers) (r q : Reg) (v : ℕ) → (reg_number q == reg_number r) ≡ false → get (with_reg regs r v) q ≡ get regs q
+pub get-with_reg_other : (regs : Registers) (r q : Reg) (v : ℕ) → (reg_number q == reg_number r) ≡
+    false → get (with_reg regs r v) q ≡ get regs q
 get-with_reg_other regs r q v other = grind arith

@@ -1,5 +1,6 @@
 -- Labels of ends, as ends are put under others and joined.
-use Rattle.std.proofs.Common.{ℕ, zero, suc, ◌≡◌, ◌+◌, ◌<◌, ◌≤◌, inl, inr, cond, eqb, List, length, get_or, set, refl, sym, ap, ◌∙◌, subst, arith, min, max}
+use Rattle.std.proofs.Common.{ℕ, zero, suc, ◌≡◌, ◌+◌, ◌<◌, ◌≤◌, inl, inr, cond, eqb, List, length}
+use Rattle.std.proofs.Common.{get_or, set, refl, sym, ap, ◌∙◌, subst, arith, min, max}
 use Rattle.std.specs.Prelude.{Contains}
 use Rattle.std.specs.List.{range_with_len}
 use Rattle.std.proofs.lemmas.Bool.{cases_eq, cases_lt, eq-eqb, ne_eqb}
@@ -10,7 +11,8 @@ use Rattle.net_build.specs.Labels.{parent, GoDown, AreLabels, merged, AreUnited}
 
 module _ (ps : List ℕ) (at v : ℕ) (within : at < length ps) where
   moved : (e : ℕ) → e ≡ at → parent (set ps at v) e ≡ v
-  moved e same = subst (λ (n : ℕ). get_or (set ps at v) n n ≡ v) (sym same) (get_or-set_same ps at v at within)
+  moved e same = subst (λ (n : ℕ). get_or (set ps at v) n n ≡ v) (sym same)
+      (get_or-set_same ps at v at within)
 
   pub kept : (e : ℕ) → (e ≡ at → ⊥) → parent (set ps at v) e ≡ parent ps e
   kept e other = get_or-set_other ps at e v e other
@@ -23,7 +25,8 @@ module _ (ps : List ℕ) (at v : ℕ) (within : at < length ps) where
   ]
 
   -- or under one with its own label
-  pub still_labels : (label : ℕ → ℕ) → AreLabels ps label → label v ≡ label at → (v ≡ at → ⊥) → AreLabels (set ps at v) label
+  pub still_labels : (label : ℕ → ℕ) → AreLabels ps label → label v ≡ label at → (v ≡ at → ⊥) →
+      AreLabels (set ps at v) label
   still_labels label is same_label apart = record {
     along = λ e. elim (cases_eq e at) as (λ _. label (parent (set ps at v) e) ≡ label e) [
       | inl same ↦ ap label (moved e same) ∙ same_label ∙ ap label (sym same)
@@ -47,12 +50,16 @@ module _ (ps : List ℕ) (at v : ℕ) (within : at < length ps) where
   has_old label e other = ap (λ b. cond b v (label e)) (ne_eqb (label e) at other)
 
   -- the label `at` and the label `v`, which is no greater, become one
-  pub merged_labels : (label : ℕ → ℕ) → AreLabels ps label → v ≤ at → label at ≡ at → label v ≡ v → AreLabels (set ps at v) (merged v at label)
+  pub merged_labels : (label : ℕ → ℕ) → AreLabels ps label → v ≤ at → label at ≡ at → label v ≡ v →
+      AreLabels (set ps at v) (merged v at label)
   merged_labels label is le at_own v_own = record {
-    along = λ e. elim (cases_eq e at) as (λ _. new_label label (parent (set ps at v) e) ≡ new_label label e) [
-      | inl same ↦ ap (new_label label) (moved e same) ∙ v_is ∙ sym (has_new label e (ap label same ∙ at_own))
-      | inr other ↦ ap (new_label label) (kept e other) ∙ ap (λ (n : ℕ). cond (eqb n at) v n) (is.along e)
-    ];
+    along = λ e. elim (cases_eq e at) as (λ _. new_label label (parent (set ps at v) e) ≡
+        new_label label e) [
+          | inl same ↦ ap (new_label label) (moved e same) ∙ v_is
+              ∙ sym (has_new label e (ap label same ∙ at_own))
+          | inr other ↦ ap (new_label label) (kept e other) ∙ ap (λ (n : ℕ). cond (eqb n at) v n)
+              (is.along e)
+        ];
     own = λ e top. elim (cases_eq e at) as (λ _. new_label label e ≡ e) [
       | inl same ↦ has_new label e (ap label same ∙ at_own) ∙ sym (moved e same) ∙ top
       | inr other ↦
@@ -63,13 +70,15 @@ module _ (ps : List ℕ) (at v : ℕ) (within : at < length ps) where
       | inl same ↦ let n = has_new label e same in let l = is.low e in omega (arith, n, l, le, same)
       | inr other ↦ let n = has_old label e other in let l = is.low e in omega (arith, n, l)
     ];
-    once = λ e. elim (cases_eq (label e) at) as (λ _. new_label label (new_label label e) ≡ new_label label e) [
-      | inl same ↦ ap (new_label label) (has_new label e same) ∙ v_is ∙ sym (has_new label e same)
-      | inr other ↦
-          ap (new_label label) (has_old label e other)
-          ∙ has_old label (label e) (λ a. other (sym (is.once e) ∙ a))
-          ∙ is.once e ∙ sym (has_old label e other)
-    ];
+    once = λ e. elim (cases_eq (label e) at) as (λ _. new_label label (new_label label e) ≡
+        new_label label e) [
+          | inl same ↦ ap (new_label label) (has_new label e same) ∙ v_is
+              ∙ sym (has_new label e same)
+          | inr other ↦
+              ap (new_label label) (has_old label e other)
+              ∙ has_old label (label e) (λ a. other (sym (is.once e) ∙ a))
+              ∙ is.once e ∙ sym (has_old label e other)
+        ];
   }
     where
       v_is : new_label label v ≡ v
@@ -91,21 +100,25 @@ module _ (ties : List Tie) where
 
   pub back : (e f : ℕ) → Joined ties e f → Joined ties f e
   back e _ here = here
-  back e _ (on m g t one in_ ends) = through g m e (on g m t here in_ (other_way t m g ends)) (back e m one)
+  back e _ (on m g t one in_ ends) = through g m e (on g m t here in_ (other_way t m g ends))
+      (back e m one)
 
   pub tied : (t : Tie) → Contains ties t → Joined ties (exit_end t.from) (entry_end t.to)
   tied t in_ = on (exit_end t.from) (entry_end t.to) t here in_ (inl (refl, refl))
 
-  module _ (label : ℕ → ℕ) (low : (e : ℕ) → label e ≤ e) (joined : (e : ℕ) → Joined ties e (label e)) where
+  module _ (label : ℕ → ℕ) (low : (e : ℕ) → label e ≤ e)
+      (joined : (e : ℕ) → Joined ties e (label e)) where
     -- ends that ties join have one label, if the ends of each tie have
-    same_label : ((t : Tie) → Contains ties t → label (exit_end t.from) ≡ label (entry_end t.to)) → (e f : ℕ) → Joined ties e f → label e ≡ label f
+    same_label : ((t : Tie) → Contains ties t → label (exit_end t.from) ≡ label (entry_end t.to)) →
+        (e f : ℕ) → Joined ties e f → label e ≡ label f
     same_label same e _ here = refl
     same_label same e _ (on m g t one in_ (inl p)) =
         same_label same e m one ∙ ap label p.0 ∙ same t in_ ∙ sym (ap label p.1)
     same_label same e _ (on m g t one in_ (inr p)) =
         same_label same e m one ∙ ap label p.1 ∙ sym (same t in_) ∙ sym (ap label p.0)
 
-    pub least : ((t : Tie) → Contains ties t → label (exit_end t.from) ≡ label (entry_end t.to)) → (e : ℕ) → IsLeastEnd ties e (label e)
+    pub least : ((t : Tie) → Contains ties t → label (exit_end t.from) ≡ label (entry_end t.to)) →
+        (e : ℕ) → IsLeastEnd ties e (label e)
     least same e = record {
       joined = joined e;
       least = λ f j. let one = same_label same e f j in let l = low f in omega (arith, one, l);
@@ -138,7 +151,8 @@ lesser_own label a b one two = elim (cases_lt a b) as (λ _. label (min a b) ≡
   | inr le ↦ let e : min a b ≡ b = omega (arith, le) in ap label e ∙ two ∙ sym e
 ]
 
-module _ (ties : List Tie) (i : ℕ) (ps new : List ℕ) (t : Tie) (lt_i : i < length ties) (is_t : get_or ties i t ≡ t) (u : AreUnited ties i ps) where
+module _ (ties : List Tie) (i : ℕ) (ps new : List ℕ) (t : Tie) (lt_i : i < length ties)
+    (is_t : get_or ties i t ≡ t) (u : AreUnited ties i ps) where
   abbrev one : ℕ
   one = u.label (exit_end t.from)
 
@@ -149,15 +163,18 @@ module _ (ties : List Tie) (i : ℕ) (ps new : List ℕ) (t : Tie) (lt_i : i < l
   now = merged (min one other) (max one other) u.label
 
   together : Joined ties one other
-  together = through ties one (exit_end t.from) other (back ties (exit_end t.from) one (u.joined (exit_end t.from)))
-      (through ties (exit_end t.from) (entry_end t.to) other (tied ties t (i, lt_i, is_t)) (u.joined (entry_end t.to)))
+  together = through ties one (exit_end t.from) other
+      (back ties (exit_end t.from) one (u.joined (exit_end t.from)))
+      (through ties (exit_end t.from) (entry_end t.to) other (tied ties t (i, lt_i, is_t))
+      (u.joined (entry_end t.to)))
 
   high_low : Joined ties (max one other) (min one other)
   high_low = elim (cases_lt one other) as (λ _. Joined ties (max one other) (min one other)) [
     | inl lt ↦
         let high : other ≡ max one other = omega (arith, lt) in
         let low : one ≡ min one other = omega (arith, lt) in
-        subst (λ h. Joined ties h (min one other)) high (subst (Joined ties other) low (back ties one other together))
+        subst (λ h. Joined ties h (min one other)) high
+        (subst (Joined ties other) low (back ties one other together))
     | inr le ↦
         let high : one ≡ max one other = omega (arith, le) in
         let low : other ≡ min one other = omega (arith, le) in
@@ -166,9 +183,14 @@ module _ (ties : List Tie) (i : ℕ) (ps new : List ℕ) (t : Tie) (lt_i : i < l
 
   now_joined : (e : ℕ) → Joined ties e (now e)
   now_joined e = elim (cases_eq (u.label e) (max one other)) as (λ _. Joined ties e (now e)) [
-    | inl same ↦ subst (Joined ties e) (sym (ap (λ b. cond b (min one other) (u.label e)) (eq-eqb (u.label e) (max one other) same)))
-        (through ties e (max one other) (min one other) (subst (Joined ties e) same (u.joined e)) high_low)
-    | inr apart ↦ subst (Joined ties e) (sym (ap (λ b. cond b (min one other) (u.label e)) (ne_eqb (u.label e) (max one other) apart))) (u.joined e)
+    | inl same ↦ subst (Joined ties e)
+        (sym (ap (λ b. cond b (min one other) (u.label e))
+        (eq-eqb (u.label e) (max one other) same)))
+        (through ties e (max one other) (min one other) (subst (Joined ties e) same (u.joined e))
+        high_low)
+    | inr apart ↦ subst (Joined ties e)
+        (sym (ap (λ b. cond b (min one other) (u.label e))
+        (ne_eqb (u.label e) (max one other) apart))) (u.joined e)
   ]
 
   pub united_more : AreLabels new now → AreUnited ties (i + 1) new
@@ -178,9 +200,12 @@ module _ (ties : List Tie) (i : ℕ) (ps new : List ℕ) (t : Tie) (lt_i : i < l
     joined = now_joined;
     same = λ k s lt is. elim (cases_eq k i) as (λ _. now (exit_end s.from) ≡ now (entry_end s.to)) [
       | inl same ↦
-          let this : s ≡ t = sym is ∙ ap (λ n. get_or ties n s) same ∙ get_or_default ties i s t lt_i ∙ is_t in
-          ap (λ (x : Tie). now (exit_end x.from)) this ∙ at_low one other ∙ sym (at_low_too one other) ∙ sym (ap (λ (x : Tie). now (entry_end x.to)) this)
-      | inr before ↦ ap (λ n. cond (eqb n (max one other)) (min one other) n) (u.same k s (omega (arith, lt, before)) is)
+          let this : s ≡ t = sym is ∙ ap (λ n. get_or ties n s) same
+          ∙ get_or_default ties i s t lt_i ∙ is_t in
+          ap (λ (x : Tie). now (exit_end x.from)) this ∙ at_low one other
+          ∙ sym (at_low_too one other) ∙ sym (ap (λ (x : Tie). now (entry_end x.to)) this)
+      | inr before ↦ ap (λ n. cond (eqb n (max one other)) (min one other) n)
+          (u.same k s (omega (arith, lt, before)) is)
     ];
   }
 
@@ -198,7 +223,8 @@ own_parent n e =
     let z : e ≡ 0 + e = omega arith in
     ap (get_or (range_with_len 0 n) e) z ∙ parent-range n 0 e ∙ sym z
 
-pub none_united : (ties : List Tie) (ps : List ℕ) → ((e : ℕ) → parent ps e ≡ e) → AreUnited ties 0 ps
+pub none_united : (ties : List Tie) (ps : List ℕ) → ((e : ℕ) → parent ps e ≡ e) →
+    AreUnited ties 0 ps
 none_united ties ps own = record {
   label = λ e. e;
   labels = record { along = own; own = λ e _. refl; low = λ e. omega arith; once = λ e. refl };
@@ -206,8 +232,10 @@ none_united ties ps own = record {
   same = λ k t lt. absurd (omega (arith, lt));
 }
 
-pub found : (ties : List Tie) (ps flat : List ℕ) → (u : AreUnited ties (length ties) ps) → ((e : ℕ) → parent flat e ≡ u.label e) → (e : ℕ) → IsLeastEnd ties e (parent flat e)
-found ties ps flat u is e = subst (IsLeastEnd ties e) (sym (is e)) (least ties u.label u.labels.low u.joined (λ t in_. u.same in_.0 t in_.1 in_.2) e)
+pub found : (ties : List Tie) (ps flat : List ℕ) → (u : AreUnited ties (length ties) ps) →
+    ((e : ℕ) → parent flat e ≡ u.label e) → (e : ℕ) → IsLeastEnd ties e (parent flat e)
+found ties ps flat u is e = subst (IsLeastEnd ties e) (sym (is e))
+    (least ties u.label u.labels.low u.joined (λ t in_. u.same in_.0 t in_.1 in_.2) e)
 
 pub least_below : (ties : List Tie) (e r : ℕ) → IsLeastEnd ties e r → r ≤ e
 least_below ties e r is = is.least e here

@@ -1,5 +1,6 @@
 -- What a liveness answers is where variables are live.
-use Rattle.std.proofs.Common.{ℕ, ◌≡◌, ◌<◌, ◌≤◌, ◌⊎◌, inl, inr, ◌↔◌, true, false, ◌&&◌, length, sym, ap, ◌∙◌, arith, true≢false}
+use Rattle.std.proofs.Common.{ℕ, ◌≡◌, ◌<◌, ◌≤◌, ◌⊎◌, inl, inr, ◌↔◌, true, false, ◌&&◌, length, sym}
+use Rattle.std.proofs.Common.{ap, ◌∙◌, arith, true≢false}
 use Rattle.std.specs.Prelude.{nat_lt}
 use Rattle.std.proofs.lemmas.Bool.{cases_lt, cases_Bool, lt-ltb, ltb-true, and_parts}
 use Rattle.pra_base.specs.declared.code.VProc.{VProc}
@@ -9,31 +10,41 @@ use Rattle.vc_live.specs.declared.liveness.Liveness.{Liveness}
 use Rattle.vc_live.specs.Rows.{live_at, IsLiveness, IsPast}
 
 module _ (code : VProc) (l : Liveness) (is : IsLiveness code l) where
-  within : (v b k : ℕ) → is_within code v b k ≡ true → (v < length code.vars) × (b < length code.blocks) × (k < layer_count code b)
+  within : (v b k : ℕ) → is_within code v b k ≡ true → (v < length code.vars) ×
+      (b < length code.blocks) × (k < layer_count code b)
   within v b k in_ =
-      let one = and_parts (nat_lt v (length code.vars) && nat_lt b (length code.blocks)) (nat_lt k (layer_count code b)) in_ in
-      let two = and_parts (nat_lt v (length code.vars)) (nat_lt b (length code.blocks)) one.0 in
-      (ltb-true v (length code.vars) two.0, ltb-true b (length code.blocks) two.1, ltb-true k (layer_count code b) one.1)
+      let one = and_parts (nat_lt v (length code.vars) && nat_lt b (length code.blocks))
+      (nat_lt k (layer_count code b)) in_ in
+      let two = and_parts (nat_lt v (length code.vars)) (nat_lt b (length code.blocks)) one.0 in (
+        ltb-true v (length code.vars) two.0,
+        ltb-true b (length code.blocks) two.1,
+        ltb-true k (layer_count code b) one.1,
+      )
 
   past : (v b k : ℕ) → is_within code v b k ≡ false → IsPast code v b k
-  past v b k out = by (cases_lt v (length code.vars)) (cases_lt b (length code.blocks)) (cases_lt k (layer_count code b))
+  past v b k out = by (cases_lt v (length code.vars)) (cases_lt b (length code.blocks))
+      (cases_lt k (layer_count code b))
     where
-      by : (v < length code.vars) ⊎ (length code.vars ≤ v) → (b < length code.blocks) ⊎ (length code.blocks ≤ b) → (k < layer_count code b) ⊎ (layer_count code b ≤ k) → IsPast code v b k
+      by : (v < length code.vars) ⊎ (length code.vars ≤ v) → (b < length code.blocks) ⊎
+          (length code.blocks ≤ b) → (k < layer_count code b) ⊎ (layer_count code b ≤ k) →
+          IsPast code v b k
       by (inr le) two three = inl le
       by (inl lt) (inr le) three = inr (inl le)
       by (inl lt) (inl lt2) (inr le) = inr (inr (omega (arith, le)))
       by (inl lt) (inl lt2) (inl lt3) = absurd (true≢false (sym
-          (ap (λ t. t && nat_lt b (length code.blocks) && nat_lt k (layer_count code b)) (lt-ltb v (length code.vars) lt)
+          (ap (λ t. t && nat_lt b (length code.blocks) && nat_lt k (layer_count code b))
+          (lt-ltb v (length code.vars) lt)
           ∙ ap (λ t. t && nat_lt k (layer_count code b)) (lt-ltb b (length code.blocks) lt2)
           ∙ lt-ltb k (layer_count code b) lt3) ∙ out))
 
   pub is_live : IsLive code (live_at l)
-  is_live v b k = elim (cases_Bool (is_within code v b k)) as (λ _. (live_at l v b k ≡ true) ↔ ((is_within code v b k ≡ true) × Live code v b k)) [
-    | inl in_ ↦
-        let w = within v b k in_ in
-        let here = is.exact v b k w.0 w.1 (let lt = w.2 in omega (arith, lt)) in
-        (λ t. (in_, here.0 t), λ p. here.1 p.1)
-    | inr out ↦
-        let none = is.past v b k (past v b k out) in
-        (λ t. absurd (true≢false (sym t ∙ none)), λ p. absurd (true≢false (sym p.0 ∙ out)))
-  ]
+  is_live v b k = elim (cases_Bool (is_within code v b k)) as (λ _. (live_at l v b k ≡ true) ↔
+      ((is_within code v b k ≡ true) × Live code v b k)) [
+        | inl in_ ↦
+            let w = within v b k in_ in
+            let here = is.exact v b k w.0 w.1 (let lt = w.2 in omega (arith, lt)) in
+            (λ t. (in_, here.0 t), λ p. here.1 p.1)
+        | inr out ↦
+            let none = is.past v b k (past v b k out) in
+            (λ t. absurd (true≢false (sym t ∙ none)), λ p. absurd (true≢false (sym p.0 ∙ out)))
+      ]

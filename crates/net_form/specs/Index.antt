@@ -1,6 +1,7 @@
 -- Where the lists of a network begin for each block and each strand.
 use Rattle.std.specs.Prelude.{ℕ, Bool, ◌+◌, max, nat_lt, nat_eq, ◌&&◌, ◌||◌, if◌then◌else◌, List}
-use Rattle.std.specs.Prelude.{[], ◌∷◌, ◌++◌, map, length, take, sum_by, count_by, Option, Some, None}
+use Rattle.std.specs.Prelude.{[], ◌∷◌, ◌++◌, map, length, take, sum_by, count_by, Option, Some}
+use Rattle.std.specs.Prelude.{None}
 use Rattle.std.specs.List.{range_with_len, flat_map, filter_map, enumerate_from}
 use Rattle.net_form.specs.declared.net.NetBlock.{NetBlock}
 use Rattle.net_form.specs.declared.net.Strand.{Strand}

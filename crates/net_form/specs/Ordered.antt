@@ -1,5 +1,6 @@
 -- The order of extras: by strand, then layer, then place; and where those of a layer begin.
-use Rattle.std.specs.Prelude.{◌≡◌, ℕ, ◌<◌, ◌≤◌, Bool, ◌&&◌, ◌||◌, nat_eq, nat_lt, if◌then◌else◌, All}
+use Rattle.std.specs.Prelude.{◌≡◌, ℕ, ◌<◌, ◌≤◌, Bool, ◌&&◌, ◌||◌, nat_eq, nat_lt, if◌then◌else◌}
+use Rattle.std.specs.Prelude.{All}
 use Rattle.std.specs.Prelude.{length, count_by, Option, Some, None}
 use Rattle.std.specs.List.{AllPairs}
 use Rattle.pra_base.specs.Places.{number}

@@ -166,7 +166,8 @@ module _ (step : ℕ → ℕ → ℤ) (short : (p q : ℕ) → IsShort (step p q
       ⊎ IsAbout (cell_bound n i) (at (costs_at initial i) p))
       → IsRowWithin (slack_at n j) (costs_at old j) → IsRowWithin (slack_at n i) (costs_at new i)
   small_more about small =
-      paid_within step short n i (first + suc i) (costs_at old (suc i)) (costs_at old i) (costs_at new i)
+      paid_within step short n i (first + suc i) (costs_at old (suc i)) (costs_at old i)
+      (costs_at new i)
       (omega arith) (rw left about)
       (subst (λ (j : ℕ). IsRowWithin (slack_at n j) (costs_at old j)) next small)
       (subst (λ (j : ℕ). IsPaidLayer step (first + j) (costs_at old j) (costs_at old i)

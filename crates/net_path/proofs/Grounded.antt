@@ -1,6 +1,7 @@
 -- The terrain of a strand is as its ways say, and where a path may begin.
 use Rattle.std.proofs.Common.{cond, ℕ, ◌≡◌, ◌+◌, ◌*◌, ◌%◌, Bool, true, false, ◌&&◌, ◌||◌, not, ℤ}
-use Rattle.std.proofs.Common.{pos, List, [], length, Option, Some, None, refl, sym, subst, ap, ◌∙◌, arith}
+use Rattle.std.proofs.Common.{pos, List, [], length, Option, Some, None, refl, sym, subst, ap, ◌∙◌}
+use Rattle.std.proofs.Common.{arith}
 use mathlib.Core.List.{reverse}
 use Rattle.std.proofs.lemmas.Int.{ints}
 use Rattle.std.proofs.lemmas.Bool.{eq-eqb, ne_eqb}
@@ -170,7 +171,8 @@ pub rows_ready : (net : Net) (built : IsBuilt net) (prices : Prices) (range : Ar
     (w : Weights) (valid : IsValid w) (ends : Ends) (free : Edge → Bool)
     (s n : ℕ) (long : (strand_at net s).first + n ≡ (strand_at net s).last + 1) (ways : Ways)
     (steps : Steps) (depth first m : ℕ) (constant : Bool) (row : ℕ → List ℤ) (cells : List Row)
-    → ((p q : ℕ) → step_of steps p q ≡ step_price ways p q) → AreWays w depth net.near ways → depth ≡ depth_at net s → first ≡ (strand_at net s).first
+    → ((p q : ℕ) → step_of steps p q ≡ step_price ways p q) → AreWays w depth net.near ways →
+    depth ≡ depth_at net s → first ≡ (strand_at net s).first
     → m ≡ n → constant ≡ (strand_at net s).constant
     → AreCells (terrain net w prices ends free s) cells
     → ((t : Terrain) → IsGround (step_of steps) first m t → AreCells t cells
@@ -184,7 +186,8 @@ rows_ready net built prices range w valid ends free s n long ways steps depth fi
     let ground2 : IsGround (step_of steps) first m t =
     subst (λ (k : ℕ). IsGround (step_of steps) first k t) (sym is_n)
     (subst (λ (f : ℕ). IsGround (step_of steps) f n t) (sym is_first)
-    (same_ground (step_of steps) (step_price ways) (strand_at net s).first n t same ground)) in record {
+    (same_ground (step_of steps) (step_price ways) (strand_at net s).first n t same ground)) in
+    record {
       rows = subst (λ (k : ℕ). AreRows t row (slack_at k) k 0) is_n (rows t ground2 paid);
       way = λ q. start_way net built prices range w valid ends free s n long ways ways_are q
           ∙ ap (λ (b : Bool). start_price ways b (number q)) (sym is_constant);

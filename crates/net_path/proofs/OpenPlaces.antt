@@ -1,5 +1,6 @@
 -- Masks of places, bit by bit.
-use Rattle.std.proofs.Common.{ℕ, zero, suc, ◌≡◌, ◌<◌, ◌+◌, ◌-◌, ◌*◌, ◌^◌, Bool, true, false, ◌&&◌, ◌||◌}
+use Rattle.std.proofs.Common.{ℕ, zero, suc, ◌≡◌, ◌<◌, ◌+◌, ◌-◌, ◌*◌, ◌^◌, Bool, true, false, ◌&&◌}
+use Rattle.std.proofs.Common.{◌||◌}
 use Rattle.std.proofs.Common.{not, cond, eqb, refl, sym, ap, subst, ◌∙◌, inl, inr, arith}
 use Rattle.std.specs.Int.{bit_at}
 use Rattle.std.proofs.Math.Nat.{pow-suc}
@@ -44,7 +45,8 @@ bit_is test (suc n) i lt = elim (cases_eq i n)
     digit false = refl
 
     top : (b : Bool) → bit_at (cond b (2 ^ n) 0 + bits test n) n ≡ cond b 1 0
-    top b = let first : n - n ≡ 0 = omega arith in ap (λ (m : ℕ). bit_at (m + bits test n) n) (scaled b)
+    top b = let first : n - n ≡ 0 = omega arith in ap (λ (m : ℕ). bit_at (m + bits test n) n)
+        (scaled b)
         ∙ bit_at_cat_high (cond b 1 0) n (bits test n) n (bits_below test n) (omega arith)
         ∙ ap (λ (k : ℕ). bit_at (cond b 1 0) k) first ∙ digit b
 

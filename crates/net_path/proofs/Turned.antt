@@ -126,7 +126,8 @@ module _ (t : Terrain) (n : ℕ) where
         tt,
       ) passes.2
 
-  pub passes_forth : (ps : List Place) → length ps ≡ n → ((q : Place) → IsTrue (t.may_come 0 None q))
+  pub passes_forth : (ps : List Place) → length ps ≡ n →
+      ((q : Place) → IsTrue (t.may_come 0 None q))
       → Passes u 0 None (reverse ps) → Passes t 0 None ps
   passes_forth [] e comes all = tt
   passes_forth (q ∷ qs) e comes all =
@@ -187,8 +188,11 @@ turned_ground step first n m t same ground = record {
   way_low = λ k p q. low_back t ground.way_low (step_layer n k) p q;
   way_high = λ k p q. high_back t ground.way_high (step_layer n k) p q;
   cells = λ k q lt opened.
-      let c = ground.cells (n - suc k) q (omega (arith, lt)) opened in
-      (let low = c.0 in omega (arith, ints, low, lt), let high = c.1 in omega (arith, ints, high, lt));
+      let c = ground.cells (n - suc k) q (omega (arith, lt)) opened in (
+        let low = c.0 in omega (arith, ints, low, lt),
+        let high = c.1 in
+            omega (arith, ints, high, lt),
+      );
 }
 
 -- ---- the rows

@@ -1,4 +1,5 @@
--- What least paths cost from each place at which a strand may begin, and to each at which it may end.
+-- What least paths cost from each place at which a strand may begin, and to each at which it may
+-- end.
 use Rattle.std.specs.Prelude.{ℕ, ◌<◌, ℤ, List, Option, Some, None, slice_index_or}
 use Rattle.std.specs.Option.{MatchOption}
 use Rattle.pra_base.specs.declared.ids.Place.{Place}
@@ -17,7 +18,8 @@ abbrev pub starting : Option Place → Place → Ends
 starting last p = record { first = Some p; last = last }
 
 -- what is least of the paths of strand s from place p, or that there is none
-abbrev pub IsCostFrom : Net → Weights → Prices → Taken → ℕ → Option Place → Place → Option ℤ → Type 0
+abbrev pub IsCostFrom : Net → Weights → Prices → Taken → ℕ → Option Place → Place → Option ℤ →
+    Type 0
 IsCostFrom net w prices taken s last p o =
     MatchOption o
     ((ps : List Place) → MayGo net (starting last p) (UsesNothing net taken) s ps → ⊥)

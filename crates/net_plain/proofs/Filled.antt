@@ -54,7 +54,8 @@ rests_of net built prices range w valid ends taken s lt l rests long each = reco
 
 -- behind the last layer nothing is left
 pub rests_at_end : (net : Net) (built : IsBuilt net) (prices : Prices)
-    (range : AreInRange net prices) (w : Weights) (valid : IsValid w) (ends : Ends) (taken : Taken) (s : ℕ)
+    (range : AreInRange net prices) (w : Weights) (valid : IsValid w) (ends : Ends) (taken : Taken)
+    (s : ℕ)
     → s < length net.strands → (l : ℕ) → l ≡ suc (strand_at net s).last
     → AreRests net w prices ends taken s l (replicate 14 (Some (pos 0)))
 rests_at_end net built prices range w valid ends taken s lt l behind =

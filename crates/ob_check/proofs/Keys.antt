@@ -1,5 +1,7 @@
 -- The names of a scope and of a record's fields, as the bytes that their keys point to.
-use Rattle.std.proofs.Common.{◌≡◌, ℕ, ◌+◌, Bool, true, false, not, cond, List, [], ◌∷◌, map, length, Option, Some, None, is_some, refl, ◌++◌, Result, Ok, Err, IfOk, sym, ap, ap₂, nat_lt, ◌∙◌, Bor, ◌||◌}
+use Rattle.std.proofs.Common.{◌≡◌, ℕ, ◌+◌, Bool, true, false, not, cond, List, [], ◌∷◌, map, length}
+use Rattle.std.proofs.Common.{Option, Some, None, is_some, refl, ◌++◌, Result, Ok, Err, IfOk, sym}
+use Rattle.std.proofs.Common.{ap, ap₂, nat_lt, ◌∙◌, Bor, ◌||◌}
 use Rattle.std.proofs.lemmas.List.{length-map}
 use Rattle.std.proofs.lemmas.List.{map_push}
 use Rattle.std.proofs.lemmas.Bool.{true≢false}
@@ -38,7 +40,8 @@ pub visible_lookup : (name : List ℕ) (es : List Entry) →
     visible name (shown_as es) ≡ flat (lookup (is_named name) es)
 visible_lookup name [] = refl
 visible_lookup name (e ∷ es) =
-    one_more_visible (is_named name e.0) e.1 (visible name (shown_as es)) (lookup (is_named name) es)
+    one_more_visible (is_named name e.0) e.1 (visible name (shown_as es))
+    (lookup (is_named name) es)
     (visible_lookup name es)
 
 one_more_declared : (t d : Bool) (m : Option Meaning) (l : Option (Option Meaning)) →

@@ -1,5 +1,6 @@
 -- A tree stands for one module, or there is one cause why it stands for none.
-use Rattle.std.proofs.Common.{◌≡◌, ◌≢◌, ◌⊎◌, inl, inr, ℕ, List, Option, Some, None, Result, Ok, Err, IfOk, IfErr, refl, ap, sym, ◌∙◌}
+use Rattle.std.proofs.Common.{◌≡◌, ◌≢◌, ◌⊎◌, inl, inr, ℕ, List, Option, Some, None, Result, Ok, Err}
+use Rattle.std.proofs.Common.{IfOk, IfErr, refl, ap, sym, ◌∙◌}
 use Rattle.std.specs.Prelude.{IsOkUnless}
 use Rattle.ob_syntax.specs.declared.checked.Checked.{Checked}
 use Rattle.ob_syntax.specs.declared.token.Token.{Token}
@@ -115,7 +116,8 @@ this_or_memory bytes tokens m f (Limit kind n) a h =
 this_or_memory bytes tokens m f OutOfMemory a h = inr refl
 
 pub fault_where : (bytes : List ℕ) (tokens : List Token) (m : Module)
-    (r : Result Checked CheckFault) → IsAnswer bytes tokens m r → (f : CheckFault) → IsCause bytes tokens m f
+    (r : Result Checked CheckFault) → IsAnswer bytes tokens m r → (f : CheckFault) →
+    IsCause bytes tokens m f
     → IsErrUnlessMemory r f
 fault_where bytes tokens m (Ok c) h f a = absurd (never_both bytes tokens m c f h a)
 fault_where bytes tokens m (Err g) h f a = this_or_memory bytes tokens m f g a h

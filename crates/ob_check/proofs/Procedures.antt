@@ -1,5 +1,6 @@
 -- What declarations and a procedure are read as, from what their parts are read as.
-use Rattle.std.proofs.Common.{◌≡◌, ℕ, ◌<◌, List, [], ◌∷◌, ◌++◌, length, get_or, map, drop, Ok, Err, refl, ap, ◌∙◌, drop-cons, append_assoc}
+use Rattle.std.proofs.Common.{◌≡◌, ℕ, ◌<◌, List, [], ◌∷◌, ◌++◌, length, get_or, map, drop, Ok, Err}
+use Rattle.std.proofs.Common.{refl, ap, ◌∙◌, drop-cons, append_assoc}
 use Rattle.std.proofs.Math.Seq.{set-append_seam}
 use Rattle.std.specs.Prelude.{slice_set}
 use Rattle.ob_syntax.specs.declared.checked.Draft.{Draft}
@@ -7,7 +8,10 @@ use Rattle.ob_syntax.specs.declared.checked.Param.{Param}
 use Rattle.ob_syntax.specs.declared.checked.RStmt.{RStmt}
 use Rattle.ob_syntax.specs.declared.tree.Decls.{Decls, out-Decls, fold_out-Decls}
 use Rattle.ob_syntax.specs.declared.tree.Proc.{Proc, out-Proc, fold_out-Proc}
-use Rattle.ob_syntax.specs.Declarations.{DeclsResult, ProcResult, Declared, all_constants, all_type_declarations, all_variables, all_procedures, closed, decls_step, declarations, drafted, heading, left, nodes_of, proc_step, procedure, with_nodes}
+use Rattle.ob_syntax.specs.Declarations.{DeclsResult, ProcResult, Declared, all_constants}
+use Rattle.ob_syntax.specs.Declarations.{all_type_declarations, all_variables, all_procedures}
+use Rattle.ob_syntax.specs.Declarations.{closed, decls_step, declarations, drafted, heading, left}
+use Rattle.ob_syntax.specs.Declarations.{nodes_of, proc_step, procedure, with_nodes}
 use Rattle.ob_syntax.specs.Names.{Fault, Judged, Place}
 use Rattle.ob_syntax.specs.Statements.{each, statement}
 use Rattle.pra_list.specs.Results.{◌>>=◌}

@@ -1,7 +1,8 @@
 -- What an expression of each form is worth, and how many signs and operators it has.
 use Rattle.std.proofs.Common.{◌≡◌, ℕ, ◌+◌, None, sym, ap, ◌∙◌}
 use Rattle.ob_syntax.specs.declared.checked.ROp.{ROp}
-use Rattle.ob_syntax.specs.declared.checked.RExpr.{RExpr, RExpr-F, roll-RExpr, map-RExpr, fold-RExpr, fold-roll-RExpr}
+use Rattle.ob_syntax.specs.declared.checked.RExpr.{RExpr, RExpr-F, roll-RExpr, map-RExpr}
+use Rattle.ob_syntax.specs.declared.checked.RExpr.{fold-RExpr, fold-roll-RExpr}
 use Rattle.ob_syntax.specs.declared.checked.RExpr.TheVariants as x
 use Rattle.ob_syntax.specs.declared.checked.RStep.{RStep}
 use Rattle.ob_syntax.specs.declared.checked.RVar.{RVar}
@@ -21,7 +22,8 @@ worth-Negate e = ap worth (sym (x.rolls-Negate e)) ∙ worth_roll (RExpr-F.Negat
 pub worth-Not : (e : RExpr) → worth (x.Not e) ≡ worth_of_one inverted (worth e)
 worth-Not e = ap worth (sym (x.rolls-Not e)) ∙ worth_roll (RExpr-F.Not e)
 
-pub worth-Binary : (op : ROp) (a b : RExpr) → worth (x.Binary op a b) ≡ worth_of_both op (worth a) (worth b)
+pub worth-Binary : (op : ROp) (a b : RExpr) → worth (x.Binary op a b) ≡ worth_of_both op (worth a)
+    (worth b)
 worth-Binary op a b = ap worth (sym (x.rolls-Binary op a b)) ∙ worth_roll (RExpr-F.Binary op a b)
 
 -- ---- signs and operators
@@ -38,7 +40,8 @@ pub operators : RExpr → ℕ
 operators = fold-RExpr ℕ (Unit {0}) (Unit {0}) operators_step (λ _. tt) (λ _. tt)
 
 operators_roll : (e : RExpr-F RExpr RStep RVar) → operators (roll-RExpr e) ≡
-    operators_step (map-RExpr RExpr RStep RVar ℕ (Unit {0}) (Unit {0}) operators (λ _. tt) (λ _. tt) e)
+    operators_step (map-RExpr RExpr RStep RVar ℕ (Unit {0}) (Unit {0}) operators (λ _. tt)
+    (λ _. tt) e)
 unfolding operators
 operators_roll = fold-roll-RExpr ℕ (Unit {0}) (Unit {0}) operators_step (λ _. tt) (λ _. tt)
 

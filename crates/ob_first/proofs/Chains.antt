@@ -1,5 +1,6 @@
 -- Chains of operators.
-use Rattle.std.proofs.Common.{◌≡◌, ℕ, ◌+◌, ◌<◌, ◌⊎◌, inl, inr, List, [], ◌∷◌, map, refl, ap, sym, subst, arith}
+use Rattle.std.proofs.Common.{◌≡◌, ℕ, ◌+◌, ◌<◌, ◌⊎◌, inl, inr, List, [], ◌∷◌, map, refl, ap, sym}
+use Rattle.std.proofs.Common.{subst, arith}
 use Rattle.std.specs.Prelude.{Ok, Err, nat_eq}
 use Rattle.ob_syntax.specs.declared.checked.ROp.{ROp}
 use Rattle.ob_syntax.specs.declared.checked.ROp.TheVariants as op
@@ -18,48 +19,61 @@ pub record Stands (i j : ℕ) (e : Phrase) (B : Place → Fault → Type 0) : Ty
   pub last : e.last + 1 ≡ j
   pub leads : (p : Place) → Leads i j (told (e.judge p)) (B p)
 
-pub of_type_at : (rule type_id token : ℕ) (e : Typed) (f : Fault) → of_type rule type_id token e ≡ Err f → f.1 ≡ token
-of_type_at rule type_id token e f h = by_test (nat_eq e.type_id type_id) (Ok e.expr) (Err (rule, token)) (Err f) (λ t is. cc) (λ t is. cc) h
+pub of_type_at : (rule type_id token : ℕ) (e : Typed) (f : Fault) → of_type rule type_id token e ≡
+    Err f → f.1 ≡ token
+of_type_at rule type_id token e f h = by_test (nat_eq e.type_id type_id) (Ok e.expr)
+    (Err (rule, token)) (Err f) (λ t is. cc) (λ t is. cc) h
 
-pub operand_at : (o : ROp) (token : ℕ) (e : Typed) (f : Fault) → operand o token e ≡ Err f → f.1 ≡ token
+pub operand_at : (o : ROp) (token : ℕ) (e : Typed) (f : Fault) → operand o token e ≡ Err f →
+    f.1 ≡ token
 operand_at op.Both token e f h = of_type_at 16 1 token e f h
 operand_at op.Either token e f h = of_type_at 16 1 token e f h
 operand_at _ token e f h = of_type_at 15 0 token e f h
 
-pub regroup : {X Y Z W V R : Type 0} (a : Judged X) (f : X → Judged Y) (b : Judged Z) (g : Z → Judged W) (h : Y → W → V) (k : V → Judged R)
-    → ((a >>= λ x. f x >>= λ l. b >>= λ y. g y >>= λ r. Ok (h l r)) >>= k) ≡ (a >>= λ x. f x >>= λ l. b >>= λ y. g y >>= λ r. k (h l r))
+pub regroup : {X Y Z W V R : Type 0} (a : Judged X) (f : X → Judged Y) (b : Judged Z)
+    (g : Z → Judged W) (h : Y → W → V) (k : V → Judged R)
+    → ((a >>= λ x. f x >>= λ l. b >>= λ y. g y >>= λ r. Ok (h l r)) >>= k) ≡
+    (a >>= λ x. f x >>= λ l. b >>= λ y. g y >>= λ r. k (h l r))
 regroup {X} {Y} {Z} {W} {V} {R} a f b g h k = first a
   where
     fourth : (l : Y) (d : Judged W) → ((d >>= λ r. Ok (h l r)) >>= k) ≡ (d >>= λ r. k (h l r))
     fourth l (Ok r) = refl
     fourth l (Err e) = refl
 
-    third : (l : Y) (c : Judged Z) → ((c >>= λ y. g y >>= λ r. Ok (h l r)) >>= k) ≡ (c >>= λ y. g y >>= λ r. k (h l r))
+    third : (l : Y) (c : Judged Z) → ((c >>= λ y. g y >>= λ r. Ok (h l r)) >>= k) ≡
+        (c >>= λ y. g y >>= λ r. k (h l r))
     third l (Ok y) = fourth l (g y)
     third l (Err e) = refl
 
-    second : (c : Judged Y) → ((c >>= λ l. b >>= λ y. g y >>= λ r. Ok (h l r)) >>= k) ≡ (c >>= λ l. b >>= λ y. g y >>= λ r. k (h l r))
+    second : (c : Judged Y) → ((c >>= λ l. b >>= λ y. g y >>= λ r. Ok (h l r)) >>= k) ≡
+        (c >>= λ l. b >>= λ y. g y >>= λ r. k (h l r))
     second (Ok l) = third l b
     second (Err e) = refl
 
-    first : (c : Judged X) → ((c >>= λ x. f x >>= λ l. b >>= λ y. g y >>= λ r. Ok (h l r)) >>= k) ≡ (c >>= λ x. f x >>= λ l. b >>= λ y. g y >>= λ r. k (h l r))
+    first : (c : Judged X) → ((c >>= λ x. f x >>= λ l. b >>= λ y. g y >>= λ r. Ok (h l r)) >>= k) ≡
+        (c >>= λ x. f x >>= λ l. b >>= λ y. g y >>= λ r. k (h l r))
     first (Ok x) = second (f x)
     first (Err e) = refl
 
 -- the same in two groups
-pub in_two : {X Y Z W V : Type 0} (a : Judged X) (f : X → Judged Y) (b : Judged Z) (g : Z → Judged W) (h : Y → W → V)
-    → ((a >>= f) >>= λ l. (b >>= g) >>= λ r. Ok (h l r)) ≡ (a >>= λ x. f x >>= λ l. b >>= λ y. g y >>= λ r. Ok (h l r))
+pub in_two : {X Y Z W V : Type 0} (a : Judged X) (f : X → Judged Y) (b : Judged Z)
+    (g : Z → Judged W) (h : Y → W → V)
+    → ((a >>= f) >>= λ l. (b >>= g) >>= λ r. Ok (h l r)) ≡
+    (a >>= λ x. f x >>= λ l. b >>= λ y. g y >>= λ r. Ok (h l r))
 in_two {X} {Y} {Z} {W} {V} a f b g h = first a
   where
-    third : (l : Y) (c : Judged Z) → ((c >>= g) >>= λ r. Ok (h l r)) ≡ (c >>= λ y. g y >>= λ r. Ok (h l r))
+    third : (l : Y) (c : Judged Z) → ((c >>= g) >>= λ r. Ok (h l r)) ≡
+        (c >>= λ y. g y >>= λ r. Ok (h l r))
     third l (Ok y) = refl
     third l (Err e) = refl
 
-    second : (c : Judged Y) → (c >>= λ l. (b >>= g) >>= λ r. Ok (h l r)) ≡ (c >>= λ l. b >>= λ y. g y >>= λ r. Ok (h l r))
+    second : (c : Judged Y) → (c >>= λ l. (b >>= g) >>= λ r. Ok (h l r)) ≡
+        (c >>= λ l. b >>= λ y. g y >>= λ r. Ok (h l r))
     second (Ok l) = third l b
     second (Err e) = refl
 
-    first : (c : Judged X) → ((c >>= f) >>= λ l. (b >>= g) >>= λ r. Ok (h l r)) ≡ (c >>= λ x. f x >>= λ l. b >>= λ y. g y >>= λ r. Ok (h l r))
+    first : (c : Judged X) → ((c >>= f) >>= λ l. (b >>= g) >>= λ r. Ok (h l r)) ≡
+        (c >>= λ x. f x >>= λ l. b >>= λ y. g y >>= λ r. Ok (h l r))
     first (Ok x) = second (f x)
     first (Err e) = refl
 
@@ -72,8 +86,10 @@ module _ {A : Type 0} (p : Place) (item : A → Next) (B : Place → A → Fault
   Item x i j = Stands i j (item x).1 (λ q f. B q x f)
 
   -- a chain behind what is read so far, at whose last token its test as a left operand is told
-  pub chain : (xs : List A) (i k j last : ℕ) (so_far : Judged Typed) (P : Fault → Type 0) → last + 1 ≡ k → i < k → Leads i k (told so_far) P → InOrder Item k xs j
-      → Leads i j (told (so_far >>= λ e. chained p last e (map item xs))) (λ f. P f ⊎ (AnyOf (B p) xs f ⊎ ChainFails p last so_far (map item xs) f))
+  pub chain : (xs : List A) (i k j last : ℕ) (so_far : Judged Typed) (P : Fault → Type 0) →
+      last + 1 ≡ k → i < k → Leads i k (told so_far) P → InOrder Item k xs j
+      → Leads i j (told (so_far >>= λ e. chained p last e (map item xs)))
+      (λ f. P f ⊎ (AnyOf (B p) xs f ⊎ ChainFails p last so_far (map item xs) f))
   chain [] i k j last so_far P end some h order =
       alike i j _ _ P (λ f. P f ⊎ (AnyOf (B p) [] f ⊎ ⊥)) (sym (told_unit so_far)) (λ f q. inl q)
       (λ f. elim [ inl q ↦ q | inr (inl (x, no_, b)) ↦ absurd no_ | inr (inr no_) ↦ absurd no_ ])
@@ -81,7 +97,8 @@ module _ {A : Type 0} (p : Place) (item : A → Next) (B : Place → A → Fault
   chain (x ∷ xs) i k j last so_far P end some h (k', l, at, one, order) =
       alike i j _ _ (λ f. Q f ⊎ (AnyOf (B p) xs f ⊎ ChainFails p e.last more (map item xs) f))
       (λ f. P f ⊎ (AnyOf (B p) (x ∷ xs) f ⊎ ChainFails p last so_far (map item (x ∷ xs)) f))
-      (ap told (regroup so_far (operand o last) (e.judge p) (operand o e.last) (binary o) (λ t. chained p e.last t (map item xs))))
+      (ap told (regroup so_far (operand o last) (e.judge p) (operand o e.last) (binary o)
+      (λ t. chained p e.last t (map item xs))))
       (λ f. elim [
         | inl (inl (inl q)) ↦ inl q
         | inl (inl (inr q)) ↦ inr (inr (inl q))
@@ -119,12 +136,19 @@ module _ {A : Type 0} (p : Place) (item : A → Next) (B : Place → A → Fault
       Q f = Left f ⊎ Right f
 
       left : Leads i k (told (so_far >>= operand o last)) Left
-      left = tested i k so_far (operand o last) P h (λ t f fails. let is = operand_at o last t f fails in (omega (arith, is), omega (arith, is)))
+      left = tested i k so_far (operand o last) P h
+          (λ t f fails. let is = operand_at o last t f fails in
+          (omega (arith, is), omega (arith, is)))
 
       right : Leads k l (told (e.judge p >>= operand o e.last)) Right
-      right = tested k l (e.judge p) (operand o e.last) (B p x) (wide k' l k l _ (B p x) at (omega arith) (one.leads p))
-          (λ t f fails. let is = operand_at o e.last t f fails in let end = one.last in (omega (arith, is, one.some), omega (arith, is)))
+      right = tested k l (e.judge p) (operand o e.last) (B p x)
+          (wide k' l k l _ (B p x) at (omega arith) (one.leads p))
+          (λ t f fails. let is = operand_at o e.last t f fails in let end = one.last in
+          (omega (arith, is, one.some), omega (arith, is)))
 
       whole : Leads i l (told more) Q
-      whole = alike i l _ _ Q Q (ap told (in_two so_far (operand o last) (e.judge p) (operand o e.last) (binary o))) (λ f q. q) (λ f q. q)
-          (joined i k l (so_far >>= operand o last) (e.judge p >>= operand o e.last) (binary o) Left Right left right (omega arith) (omega (arith, one.some)))
+      whole = alike i l _ _ Q Q
+          (ap told (in_two so_far (operand o last) (e.judge p) (operand o e.last) (binary o)))
+          (λ f q. q) (λ f q. q)
+          (joined i k l (so_far >>= operand o last) (e.judge p >>= operand o e.last) (binary o) Left
+          Right left right (omega arith) (omega (arith, one.some)))

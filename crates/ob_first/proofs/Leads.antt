@@ -1,5 +1,7 @@
--- What is told of a reading is the least of what is broken in it: how readings that follow one another keep this.
-use Rattle.std.proofs.Common.{◌≡◌, ℕ, ◌<◌, ◌≤◌, ◌⊎◌, inl, inr, List, [], ◌∷◌, Option, Some, None, refl, ap, sym, ◌∙◌, subst, arith}
+-- What is told of a reading is the least of what is broken in it: how readings that follow one
+-- another keep this.
+use Rattle.std.proofs.Common.{◌≡◌, ℕ, ◌<◌, ◌≤◌, ◌⊎◌, inl, inr, List, [], ◌∷◌, Option, Some, None}
+use Rattle.std.proofs.Common.{refl, ap, sym, ◌∙◌, subst, arith}
 use Rattle.std.specs.Prelude.{Ok, Err}
 use Rattle.ob_syntax.specs.Names.{Fault, Judged}
 use Rattle.ob_first.specs.Faults.{Fails, BothFail, Behind}
@@ -50,14 +52,16 @@ same_value r x y e e' = cc
 
 -- ---- the same of other words
 
-pub alike : (i j : ℕ) (t u : Option Fault) (B C : Fault → Type 0) → t ≡ u → ((f : Fault) → B f → C f) → ((f : Fault) → C f → B f) → Leads i j t B → Leads i j u C
+pub alike : (i j : ℕ) (t u : Option Fault) (B C : Fault → Type 0) → t ≡ u →
+    ((f : Fault) → B f → C f) → ((f : Fault) → C f → B f) → Leads i j t B → Leads i j u C
 alike i j t u B C e to from h = record {
   tells = λ f told_f. to f (h.tells f (e ∙ told_f));
   first = λ f c. subst (λ x. First x f) e (h.first f (from f c));
   lies = λ f c. h.lies f (from f c);
 }
 
-pub wide : (i j i' j' : ℕ) (t : Option Fault) (B : Fault → Type 0) → i' ≤ i → j ≤ j' → Leads i j t B → Leads i' j' t B
+pub wide : (i j i' j' : ℕ) (t : Option Fault) (B : Fault → Type 0) → i' ≤ i → j ≤ j' →
+    Leads i j t B → Leads i' j' t B
 wide i j i' j' t B low high h = record {
   tells = h.tells;
   first = h.first;
@@ -69,17 +73,27 @@ nothing i j = record { tells = λ f e. cc; first = λ f b. b; lies = λ f b. abs
 
 -- ---- one reading behind another
 
-pub after : {A B : Type 0} (i k j : ℕ) (a : Judged A) (g : A → Judged B) (P Q : Fault → Type 0) → Leads i k (told a) P
-    → ((x : A) → a ≡ Ok x → Leads k j (told (g x)) Q) → ((f : Fault) → Q f → Lies k j f) → i ≤ k → k ≤ j
+pub after : {A B : Type 0} (i k j : ℕ) (a : Judged A) (g : A → Judged B) (P Q : Fault → Type 0) →
+    Leads i k (told a) P
+    → ((x : A) → a ≡ Ok x → Leads k j (told (g x)) Q) → ((f : Fault) → Q f → Lies k j f) → i ≤ k →
+    k ≤ j
     → Leads i j (told (a >>= g)) (λ f. P f ⊎ Q f)
 after i k j (Ok x) g P Q front back lies low high = record {
   tells = λ f e. inr ((back x refl).tells f e);
   first = λ f. elim [ inl p ↦ absurd (front.first f p) | inr q ↦ (back x refl).first f q ];
-  lies = λ f. elim [ inl p ↦ absurd (front.first f p) | inr q ↦ let at = lies f q in (omega (arith, at.0), at.1) ];
+  lies = λ f. elim [
+    | inl p ↦ absurd (front.first f p)
+    | inr q ↦ let at = lies f q in
+        (omega (arith, at.0), at.1)
+  ];
 }
 after i k j (Err h) g P Q front back lies low high = record {
   tells = λ f e. inl (front.tells f e);
-  first = λ f. elim [ inl p ↦ front.first f p | inr q ↦ let at = front.lies h (front.tells h refl) in let at' = lies f q in inl (omega (arith, at.1, at'.0)) ];
+  first = λ f. elim [
+    | inl p ↦ front.first f p
+    | inr q ↦ let at =
+        front.lies h (front.tells h refl) in let at' = lies f q in inl (omega (arith, at.1, at'.0))
+  ];
   lies = λ f. elim [
     | inl p ↦ let at = front.lies f p in (at.0, omega (arith, at.1))
     | inr q ↦ let at = lies f q in (omega (arith, at.0), at.1)
@@ -87,11 +101,17 @@ after i k j (Err h) g P Q front back lies low high = record {
 }
 
 -- a phrase with the test of it
-pub tested : {A B : Type 0} (i j : ℕ) (a : Judged A) (t : A → Judged B) (P : Fault → Type 0) → Leads i j (told a) P
-    → ((x : A) (f : Fault) → t x ≡ Err f → Lies i j f) → Leads i j (told (a >>= t)) (λ f. P f ⊎ Fails a t f)
+pub tested : {A B : Type 0} (i j : ℕ) (a : Judged A) (t : A → Judged B) (P : Fault → Type 0) →
+    Leads i j (told a) P
+    → ((x : A) (f : Fault) → t x ≡ Err f → Lies i j f) →
+    Leads i j (told (a >>= t)) (λ f. P f ⊎ Fails a t f)
 tested i j (Ok x) t P front at = record {
   tells = λ f e. inr (x, refl, told_err (t x) f e);
-  first = λ f. elim [ inl p ↦ absurd (front.first f p) | inr (y, is, fails) ↦ err_first (t x) f (ap t (same_value (Ok x) x y refl is) ∙ fails) ];
+  first = λ f. elim [
+    | inl p ↦ absurd (front.first f p)
+    | inr (y, is, fails) ↦
+        err_first (t x) f (ap t (same_value (Ok x) x y refl is) ∙ fails)
+  ];
   lies = λ f. elim [ inl p ↦ front.lies f p | inr (y, is, fails) ↦ at y f fails ];
 }
 tested i j (Err h) t P front at = record {
@@ -101,13 +121,19 @@ tested i j (Err h) t P front at = record {
 }
 
 -- two phrases that are read apart and then tested together, at a token of the second
-pub both_tested : {A B C : Type 0} (i k j : ℕ) (a : Judged A) (b : Judged B) (t : A → B → Judged C) (P Q : Fault → Type 0) → Leads i k (told a) P → Leads k j (told b) Q → i ≤ k → k ≤ j
-    → ((x : A) (y : B) (f : Fault) → t x y ≡ Err f → Lies k j f) → Leads i j (told (a >>= λ x. b >>= λ y. t x y)) (λ f. P f ⊎ (Q f ⊎ BothFail a b t f))
+pub both_tested : {A B C : Type 0} (i k j : ℕ) (a : Judged A) (b : Judged B) (t : A → B → Judged C)
+    (P Q : Fault → Type 0) → Leads i k (told a) P → Leads k j (told b) Q → i ≤ k → k ≤ j
+    → ((x : A) (y : B) (f : Fault) → t x y ≡ Err f → Lies k j f) →
+    Leads i j (told (a >>= λ x. b >>= λ y. t x y)) (λ f. P f ⊎ (Q f ⊎ BothFail a b t f))
 both_tested {A} {B} i k j a b t P Q front back low high at =
     after i k j a (λ x. b >>= λ y. t x y) P (λ f. Q f ⊎ BothFail a b t f) front
     (λ x is. alike k j _ _ (λ f. Q f ⊎ Fails b (t x) f) (λ f. Q f ⊎ BothFail a b t f) refl
     (λ f. elim [ inl q ↦ inl q | inr (y, is', fails) ↦ inr (x, y, is, is', fails) ])
-    (λ f. elim [ inl q ↦ inl q | inr (x', y, is', is'', fails) ↦ inr (y, is'', ap (λ z. t z y) (same_value a x x' is is') ∙ fails) ])
+    (λ f. elim [
+      | inl q ↦ inl q
+      | inr (x', y, is', is'', fails) ↦
+          inr (y, is'', ap (λ z. t z y) (same_value a x x' is is') ∙ fails)
+    ])
     (tested k j b (t x) Q back (at x)))
     (λ f. elim [ inl q ↦ back.lies f q | inr (x, y, is, is', fails) ↦ at x y f fails ]) low high
 
@@ -117,11 +143,13 @@ pub told_joined : {A B : Type 0} (b : Judged A) (h : A → B) → told (b >>= λ
 told_joined (Ok y) h = refl
 told_joined (Err f) h = refl
 
-pub joined : {A B C : Type 0} (i k j : ℕ) (a : Judged A) (b : Judged B) (h : A → B → C) (P Q : Fault → Type 0) → Leads i k (told a) P → Leads k j (told b) Q → i ≤ k → k ≤ j
+pub joined : {A B C : Type 0} (i k j : ℕ) (a : Judged A) (b : Judged B) (h : A → B → C)
+    (P Q : Fault → Type 0) → Leads i k (told a) P → Leads k j (told b) Q → i ≤ k → k ≤ j
     → Leads i j (told (a >>= λ x. b >>= λ y. Ok (h x y))) (λ f. P f ⊎ Q f)
 joined i k j a b h P Q front back low high =
     after i k j a (λ x. b >>= λ y. Ok (h x y)) P Q front
-    (λ x is. alike k j _ _ Q Q (sym (told_joined b (h x))) (λ f q. q) (λ f q. q) back) back.lies low high
+    (λ x is. alike k j _ _ Q Q (sym (told_joined b (h x))) (λ f q. q) (λ f q. q) back) back.lies low
+    high
 
 -- ---- lists
 
@@ -137,8 +165,10 @@ one_some o x y e e' = cc
 
 -- what came of a step came of a value
 -- as `after`, where what breaks behind comes after what is told in front by other reasons
-pub behind : {A B : Type 0} (i j : ℕ) (a : Judged A) (g : A → Judged B) (P Q : Fault → Type 0) → Leads i j (told a) P
-    → ((x : A) → a ≡ Ok x → Leads i j (told (g x)) Q) → ((f : Fault) → Q f → Lies i j f) → ((h f : Fault) → a ≡ Err h → Q f → Precedes h f)
+pub behind : {A B : Type 0} (i j : ℕ) (a : Judged A) (g : A → Judged B) (P Q : Fault → Type 0) →
+    Leads i j (told a) P
+    → ((x : A) → a ≡ Ok x → Leads i j (told (g x)) Q) → ((f : Fault) → Q f → Lies i j f) →
+    ((h f : Fault) → a ≡ Err h → Q f → Precedes h f)
     → Leads i j (told (a >>= g)) (λ f. P f ⊎ Q f)
 behind i j (Ok x) g P Q front back lies later = record {
   tells = λ f e. inr ((back x refl).tells f e);
@@ -156,19 +186,27 @@ ok_err (Ok y) x f e e' = absurd (cc)
 ok_err (Err g) x f e e' = absurd (cc)
 
 -- two readings that tell the same
-pub as_told : {A B : Type 0} (r : Judged A) (q : Judged B) (f : Fault) → told r ≡ told q → r ≡ Err f → q ≡ Err f
+pub as_told : {A B : Type 0} (r : Judged A) (q : Judged B) (f : Fault) → told r ≡ told q →
+    r ≡ Err f → q ≡ Err f
 as_told r q f e h = told_err q f (sym e ∙ err_told r f h)
 
 -- what follows what has a reading
-pub after_behind : {A B : Type 0} (i k j : ℕ) (a : Judged A) (g : A → Judged B) (P : Fault → Type 0) (C : A → Fault → Type 0) → Leads i k (told a) P → ((x : A) → Leads k j (told (g x)) (C x)) → i ≤ k → k ≤ j
+pub after_behind : {A B : Type 0} (i k j : ℕ) (a : Judged A) (g : A → Judged B) (P : Fault → Type 0)
+    (C : A → Fault → Type 0) → Leads i k (told a) P → ((x : A) → Leads k j (told (g x)) (C x)) →
+    i ≤ k → k ≤ j
     → Leads i j (told (a >>= g)) (λ f. P f ⊎ Behind a C f)
 after_behind {A} i k j a g P C front back low high =
     after i k j a g P (λ f. Behind a C f) front
-    (λ x is. alike k j _ _ (C x) (λ f. Behind a C f) refl (λ f b. (x, is, b)) (λ f (y, is', b). subst (λ (z : A). C z f) (same_value a y x is' is) b) (back x))
+    (λ x is. alike k j _ _ (C x) (λ f. Behind a C f) refl (λ f b. (x, is, b))
+    (λ f (y, is', b). subst (λ (z : A). C z f) (same_value a y x is' is) b) (back x))
     (λ f (x, is, b). (back x).lies f b) low high
 
 -- what follows in a place that is known also where what makes it has no reading
-pub after_place : {A B : Type 0} (i k j : ℕ) (a : Judged A) (g : A → Judged B) (P : Fault → Type 0) (C : A → Fault → Type 0) (place : A) → Leads i k (told a) P → ((x : A) → a ≡ Ok x → x ≡ place)
-    → ((x : A) → Leads k j (told (g x)) (C x)) → i ≤ k → k ≤ j → Leads i j (told (a >>= g)) (λ f. P f ⊎ C place f)
+pub after_place : {A B : Type 0} (i k j : ℕ) (a : Judged A) (g : A → Judged B) (P : Fault → Type 0)
+    (C : A → Fault → Type 0) (place : A) → Leads i k (told a) P → ((x : A) → a ≡ Ok x → x ≡ place)
+    → ((x : A) → Leads k j (told (g x)) (C x)) → i ≤ k → k ≤ j →
+    Leads i j (told (a >>= g)) (λ f. P f ⊎ C place f)
 after_place {A} i k j a g P C place front same back low high =
-    after i k j a g P (C place) front (λ x is. subst (λ (z : A). Leads k j (told (g x)) (C z)) (same x is) (back x)) (back place).lies low high
+    after i k j a g P (C place) front
+    (λ x is. subst (λ (z : A). Leads k j (told (g x)) (C z)) (same x is) (back x))
+    (back place).lies low high

@@ -1,5 +1,6 @@
 -- One broken rule is told, and it is the first.
-use Rattle.std.proofs.Common.{◌≡◌, ℕ, ◌<◌, inl, inr, ◌↔◌, List, length, refl, ap, sym, ◌∙◌, subst, arith}
+use Rattle.std.proofs.Common.{◌≡◌, ℕ, ◌<◌, inl, inr, ◌↔◌, List, length, refl, ap, sym, ◌∙◌, subst}
+use Rattle.std.proofs.Common.{arith}
 use Rattle.std.specs.Prelude.{Ok, Err}
 use Rattle.ob_syntax.specs.declared.token.Kind.{Kind}
 use Rattle.ob_syntax.specs.declared.token.Token.{Token}
@@ -17,11 +18,16 @@ use Rattle.ob_first.proofs.Leads.{told, Precedes, Leads, First, err_told}
 use Rattle.ob_first.proofs.TreesStand.{module_stands}
 
 -- the module tells the first of what is broken in it, at one of its tokens
-module_leads : (ks : List Kind) (bytes : List ℕ) (tokens : List Token) (m : ModuleTree) → Derives Module ks m → Leads 0 (length ks) (told (reading bytes tokens m)) (λ f. InModule bytes tokens m f)
+module_leads : (ks : List Kind) (bytes : List ℕ) (tokens : List Token) (m : ModuleTree) →
+    Derives Module ks m → Leads 0 (length ks) (told (reading bytes tokens m))
+    (λ f. InModule bytes tokens m f)
 module_leads ks bytes tokens m (f, spelled, is) =
-    subst (λ (t : ModuleTree). Leads 0 (length ks) (told (reading bytes tokens t)) (λ f. InModule bytes tokens t f)) (sym is) (of_form f spelled)
+    subst (λ (t : ModuleTree). Leads 0 (length ks) (told (reading bytes tokens t))
+    (λ f. InModule bytes tokens t f)) (sym is) (of_form f spelled)
   where
-    of_form : (f : Form Module) → ks ≡ text Module f → Leads 0 (length ks) (told (reading bytes tokens (tree Module 0 f))) (λ g. InModule bytes tokens (tree Module 0 f) g)
+    of_form : (f : Form Module) → ks ≡ text Module f →
+        Leads 0 (length ks) (told (reading bytes tokens (tree Module 0 f)))
+        (λ g. InModule bytes tokens (tree Module 0 f) g)
     of_form (made _ a_module ps) spelled =
         let f = made Module a_module ps in
         let h = module_stands f bytes tokens in
@@ -44,7 +50,8 @@ equal_faults f g (inr a) (inr b) = pair f g (omega (arith, a.1, b.1)) a.0
     pair : (f g : Fault) → f.0 ≡ g.0 → f.1 ≡ g.1 → f ≡ g
     pair f g rule token = ap (λ k. fault k f.1) rule ∙ ap (λ t. fault g.0 t) token
 
-module _ (bytes : List ℕ) (tokens : List Token) (m : ModuleTree) (size : ℕ) (leads : Leads 0 size (told (reading bytes tokens m)) (λ f. InModule bytes tokens m f)) where
+module _ (bytes : List ℕ) (tokens : List Token) (m : ModuleTree) (size : ℕ)
+    (leads : Leads 0 size (told (reading bytes tokens m)) (λ f. InModule bytes tokens m f)) where
   told_first : (k t : ℕ) → IsBroken bytes tokens m k t → IsFirst bytes tokens m k t
   told_first k t h =
       let is = err_told (reading bytes tokens m) (k, t) h in
@@ -63,24 +70,35 @@ module _ (bytes : List ℕ) (tokens : List Token) (m : ModuleTree) (size : ℕ) 
           let here = h.first g.0 g.1 (leads.tells g (ap told is)) in
           is ∙ ap (λ (f : Fault). Err f) (equal_faults g (k, t) there here)
 
-  unbroken : (r : Reading) → IsWellFormed bytes tokens m r → (k t : ℕ) → Breaks bytes tokens m k t → ⊥
+  unbroken : (r : Reading) → IsWellFormed bytes tokens m r → (k t : ℕ) → Breaks bytes tokens m k t →
+      ⊥
   unbroken r is k t b = subst (λ r. First (told r) (k, t)) is (leads.first (k, t) b)
 
-  well_formed : ((k t : ℕ) → Breaks bytes tokens m k t → ⊥) → (r : Reading) × IsWellFormed bytes tokens m r
+  well_formed : ((k t : ℕ) → Breaks bytes tokens m k t → ⊥) → (r : Reading) ×
+      IsWellFormed bytes tokens m r
   well_formed none = by (reading bytes tokens m) refl
     where
-      by : (r : Judged Reading) → reading bytes tokens m ≡ r → (r : Reading) × IsWellFormed bytes tokens m r
+      by : (r : Judged Reading) → reading bytes tokens m ≡ r → (r : Reading) ×
+          IsWellFormed bytes tokens m r
       by (Ok x) is = (x, is)
       by (Err g) is = absurd (none g.0 g.1 (leads.tells g (ap told is)))
 
-pub one_told : (bytes : List ℕ) (tokens : List Token) (m : ModuleTree) (ks : List Kind) → Derives Module ks m → (k t : ℕ) → IsBroken bytes tokens m k t ↔ IsFirst bytes tokens m k t
+pub one_told : (bytes : List ℕ) (tokens : List Token) (m : ModuleTree) (ks : List Kind) →
+    Derives Module ks m → (k t : ℕ) → IsBroken bytes tokens m k t ↔ IsFirst bytes tokens m k t
 one_told bytes tokens m ks derives k t =
-    let h = module_leads ks bytes tokens m derives in (told_first bytes tokens m (length ks) h k t, first_told bytes tokens m (length ks) h k t)
+    let h = module_leads ks bytes tokens m derives in
+    (told_first bytes tokens m (length ks) h k t, first_told bytes tokens m (length ks) h k t)
 
-pub none_broken : (bytes : List ℕ) (tokens : List Token) (m : ModuleTree) (ks : List Kind) → Derives Module ks m
+pub none_broken : (bytes : List ℕ) (tokens : List Token) (m : ModuleTree) (ks : List Kind) →
+    Derives Module ks m
     → ((r : Reading) × IsWellFormed bytes tokens m r) ↔ ((k t : ℕ) → Breaks bytes tokens m k t → ⊥)
 none_broken bytes tokens m ks derives =
-    let h = module_leads ks bytes tokens m derives in (λ (r, is). unbroken bytes tokens m (length ks) h r is, well_formed bytes tokens m (length ks) h)
+    let h = module_leads ks bytes tokens m derives in (
+      λ (r, is). unbroken bytes tokens m (length ks) h r is,
+      well_formed bytes tokens m (length ks) h,
+    )
 
-pub at_a_token : (bytes : List ℕ) (tokens : List Token) (m : ModuleTree) (ks : List Kind) → Derives Module ks m → (k t : ℕ) → Breaks bytes tokens m k t → t < length ks
-at_a_token bytes tokens m ks derives k t b = ((module_leads ks bytes tokens m derives).lies (k, t) b).1
+pub at_a_token : (bytes : List ℕ) (tokens : List Token) (m : ModuleTree) (ks : List Kind) →
+    Derives Module ks m → (k t : ℕ) → Breaks bytes tokens m k t → t < length ks
+at_a_token bytes tokens m ks derives k t b =
+    ((module_leads ks bytes tokens m derives).lies (k, t) b).1

@@ -1,5 +1,6 @@
 -- Statements, production by production.
-use Rattle.std.proofs.Common.{◌≡◌, ℕ, ◌+◌, ◌<◌, ◌≤◌, ◌⊎◌, inl, inr, List, [], ◌∷◌, ◌++◌, map, refl, ap, sym, subst, ◌∙◌, arith}
+use Rattle.std.proofs.Common.{◌≡◌, ℕ, ◌+◌, ◌<◌, ◌≤◌, ◌⊎◌, inl, inr, List, [], ◌∷◌, ◌++◌, map, refl}
+use Rattle.std.proofs.Common.{ap, sym, subst, ◌∙◌, arith}
 use Rattle.std.specs.Prelude.{Ok, Err}
 use Rattle.pra_list.specs.Among.{Among}
 use Rattle.ob_syntax.specs.declared.checked.Meaning.{Meaning}
@@ -10,21 +11,33 @@ use Rattle.ob_syntax.specs.declared.checked.RStmt.TheVariants as made
 use Rattle.ob_syntax.specs.declared.checked.RVar.{RVar, out-RVar}
 use Rattle.ob_syntax.specs.declared.checked.Typed.{Typed}
 use Rattle.ob_syntax.specs.declared.tree.Arm.{Arm, out-Arm, roll-Arm, out-roll-Arm, fold-roll-Arm}
-use Rattle.ob_syntax.specs.declared.tree.Designator.{Designator, out-Designator, roll-Designator, out-roll-Designator, fold-roll-Designator}
+use Rattle.ob_syntax.specs.declared.tree.Designator.{Designator, out-Designator, roll-Designator}
+use Rattle.ob_syntax.specs.declared.tree.Designator.{out-roll-Designator, fold-roll-Designator}
 use Rattle.ob_syntax.specs.declared.tree.Expr.{Expr, out-Expr}
 use Rattle.ob_syntax.specs.declared.tree.Selector.{Selector}
 use Rattle.ob_syntax.specs.declared.tree.Span.{Span}
-use Rattle.ob_syntax.specs.declared.tree.Stmt.{Stmt, out-Stmt, roll-Stmt, out-roll-Stmt, fold-roll-Stmt}
-use Rattle.ob_syntax.specs.declared.tree.StmtForm.{StmtForm, StmtForm-F, out-StmtForm, out-roll-StmtForm, fold-StmtForm, fold-roll-StmtForm}
+use Rattle.ob_syntax.specs.declared.tree.Stmt.{Stmt, out-Stmt, roll-Stmt, out-roll-Stmt}
+use Rattle.ob_syntax.specs.declared.tree.Stmt.{fold-roll-Stmt}
+use Rattle.ob_syntax.specs.declared.tree.StmtForm.{StmtForm, StmtForm-F, out-StmtForm}
+use Rattle.ob_syntax.specs.declared.tree.StmtForm.{out-roll-StmtForm, fold-StmtForm}
+use Rattle.ob_syntax.specs.declared.tree.StmtForm.{fold-roll-StmtForm}
 use Rattle.ob_syntax.specs.declared.tree.StmtForm.TheVariants as form_is
-use Rattle.ob_syntax.specs.Expressions.{Phrase, Next, Selected, Selection, FactorResult, SelectorResult, factor_form, selector_form, designator, expr, factor, next_factor, next_term, relation, selector, simple_expr, term, boolean, of_type, are_alike, selected, variable, expression, one_selector, name_with_selectors}
+use Rattle.ob_syntax.specs.Expressions.{Phrase, Next, Selected, Selection, FactorResult}
+use Rattle.ob_syntax.specs.Expressions.{SelectorResult, factor_form, selector_form, designator}
+use Rattle.ob_syntax.specs.Expressions.{expr, factor, next_factor, next_term, relation, selector}
+use Rattle.ob_syntax.specs.Expressions.{simple_expr, term, boolean, of_type, are_alike, selected}
+use Rattle.ob_syntax.specs.Expressions.{variable, expression, one_selector, name_with_selectors}
 use Rattle.ob_syntax.specs.Names.{Fault, Judged, Place, used}
-use Rattle.ob_syntax.specs.Statements.{Judge, StmtResult, stmt_form, arm_step, stmt_step, target, assigned, condition, each, statement, arm}
+use Rattle.ob_syntax.specs.Statements.{Judge, StmtResult, stmt_form, arm_step, stmt_step, target}
+use Rattle.ob_syntax.specs.Statements.{assigned, condition, each, statement, arm}
 use Rattle.ob_first.specs.Faults.{BothFail, AnyOf, NameFails}
 use Rattle.ob_first.specs.InExpressions.{bare, SelectorsFail, InExpression, InSelector}
 use Rattle.ob_first.specs.InStatements as which
-use Rattle.ob_first.specs.InStatements.{TargetFails, AssignmentFails, InCondition, InCall, Layer, StatementFails, arms_in, statements_in, layer, InStatement, InArm}
-use Rattle.ob_first.proofs.Leads.{told, Leads, InOrder, alike, wide, after, tested, both_tested, joined, nothing, told_joined}
+use Rattle.ob_first.specs.InStatements.{TargetFails, AssignmentFails, InCondition, InCall, Layer}
+use Rattle.ob_first.specs.InStatements.{StatementFails, arms_in, statements_in, layer, InStatement}
+use Rattle.ob_first.specs.InStatements.{InArm}
+use Rattle.ob_first.proofs.Leads.{told, Leads, InOrder, alike, wide, after, tested, both_tested}
+use Rattle.ob_first.proofs.Leads.{joined, nothing, told_joined}
 use Rattle.ob_first.proofs.Chains.{of_type_at}
 use Rattle.ob_first.proofs.Selections.{SelectorAt, regrouped, ordered, named_selected}
 use Rattle.ob_first.proofs.Calls.{ExpressionAt, last_of, call_leads}
@@ -32,7 +45,8 @@ use Rattle.pra_list.proofs.Choices.{by_test}
 use Rattle.pra_list.specs.Results.{◌>>=◌}
 
 -- what is read at tokens i up to j
-pub record ReadsAt {A : Type 0} (i j : ℕ) (read : Place → Judged A) (B : Place → Fault → Type 0) : Type 0 where
+pub record ReadsAt {A : Type 0} (i j : ℕ) (read : Place → Judged A)
+    (B : Place → Fault → Type 0) : Type 0 where
   pub some : i ≤ j
   pub leads : (p : Place) → Leads i j (told (read p)) (B p)
 
@@ -44,16 +58,21 @@ module _ {X A : Type 0} (item : X → Judge A) (B : Place → X → Fault → Ty
 
   pub items_in_order : (xs : List X) (i j : ℕ) → InOrder ItemAt i xs j → i ≤ j
   items_in_order [] i j h = h
-  items_in_order (x ∷ xs) i j (k, l, low, one, order) = let some = one.some in let rest = items_in_order xs l j order in omega arith
+  items_in_order (x ∷ xs) i j (k, l, low, one, order) = let some = one.some in let rest =
+      items_in_order xs l j order in omega arith
 
-  pub each_leads : (p : Place) (xs : List X) (done : List A) (i j : ℕ) → InOrder ItemAt i xs j → Leads i j (told (each p done (map item xs))) (λ f. AnyOf (B p) xs f)
-  each_leads p [] done i j order = alike i j _ _ (λ f. ⊥) _ refl (λ f b. absurd b) (λ f b. b.1) (nothing i j)
+  pub each_leads : (p : Place) (xs : List X) (done : List A) (i j : ℕ) → InOrder ItemAt i xs j →
+      Leads i j (told (each p done (map item xs))) (λ f. AnyOf (B p) xs f)
+  each_leads p [] done i j order = alike i j _ _ (λ f. ⊥) _ refl (λ f b. absurd b) (λ f b. b.1)
+      (nothing i j)
   each_leads p (x ∷ xs) done i j (k, l, low, one, order) =
       alike i j _ _ (λ f. B p x f ⊎ AnyOf (B p) xs f) (λ f. AnyOf (B p) (x ∷ xs) f) refl
       (λ f. elim [ inl b ↦ (x, inl refl, b) | inr (y, is, b) ↦ (y, inr is, b) ])
       (λ f (y, is, b). one_or_other f y is b)
-      (after i l j (item x p) (λ one. each p (done ++ one ∷ []) (map item xs)) (B p x) (AnyOf (B p) xs)
-      (wide k l i l _ (B p x) low (omega arith) (one.leads p)) (λ y is. each_leads p xs (done ++ y ∷ []) l j order) (each_leads p xs done l j order).lies
+      (after i l j (item x p) (λ one. each p (done ++ one ∷ []) (map item xs)) (B p x)
+      (AnyOf (B p) xs)
+      (wide k l i l _ (B p x) low (omega arith) (one.leads p))
+      (λ y is. each_leads p xs (done ++ y ∷ []) l j order) (each_leads p xs done l j order).lies
       (let some = one.some in omega arith) (items_in_order xs l j order))
     where
       one_or_other : (f : Fault) (y : X) → Among y (x ∷ xs) → B p y f → B p x f ⊎ AnyOf (B p) xs f
@@ -62,33 +81,46 @@ module _ {X A : Type 0} (item : X → Judge A) (B : Place → X → Fault → Ty
 
 -- ---- conditions
 
-pub condition_leads : (p : Place) (e : Expr) (i j : ℕ) → ExpressionAt e i j → Leads i j (told (condition p e)) (λ f. InCondition p e f)
+pub condition_leads : (p : Place) (e : Expr) (i j : ℕ) → ExpressionAt e i j →
+    Leads i j (told (condition p e)) (λ f. InCondition p e f)
 condition_leads p e i j at =
-    tested i j ((expression e).judge p) (of_type 19 boolean (out-Expr e).span.last) (λ f. InExpression p e f) (at.leads p)
-    (λ x f h. let there = of_type_at 19 boolean (out-Expr e).span.last x f h in let is = last_of e in let end = at.last in let some = at.some in
+    tested i j ((expression e).judge p) (of_type 19 boolean (out-Expr e).span.last)
+    (λ f. InExpression p e f) (at.leads p)
+    (λ x f h. let there = of_type_at 19 boolean (out-Expr e).span.last x f h in let is =
+    last_of e in let end = at.last in let some = at.some in
     (omega (arith, there, is, end, some), omega (arith, there, is, end)))
 
 -- ---- assignments
 
-target_at : (p : Place) (k : ℕ) (m : Meaning) (f : Fault) → target p (bare k) m ≡ Err f → (f.1 ≡ k) × (6 ≤ f.0)
+target_at : (p : Place) (k : ℕ) (m : Meaning) (f : Fault) → target p (bare k) m ≡ Err f →
+    (f.1 ≡ k) × (6 ≤ f.0)
 target_at p k (Variable owner root t) f h = absurd (cc)
 target_at p k m f h = let at : f.1 ≡ k = cc in let rule : f.0 ≡ 10 = cc in (at, omega (arith, rule))
 
 target_parts : (p : Place) (d : Selected) (r : Judged Meaning)
-    → told ((r >>= target p (bare d.name)) >>= λ v. selected p [] (out-RVar v).type_id d.selectors) ≡ told (r >>= λ m. target p d m)
-target_parts p d (Ok (Variable owner root t)) = sym (told_joined (selected p [] t d.selectors) (λ steps. variable root steps))
+    → told ((r >>= target p (bare d.name)) >>= λ v. selected p [] (out-RVar v).type_id d.selectors)
+    ≡ told (r >>= λ m. target p d m)
+target_parts p d (Ok (Variable owner root t)) =
+    sym (told_joined (selected p [] t d.selectors) (λ steps. variable root steps))
 target_parts p d (Ok m) = refl
 target_parts p d (Err f) = refl
 
-assigned_at : (token : ℕ) (v : RVar) (e : Typed) (f : Fault) → assigned token v e ≡ Err f → f.1 ≡ token
-assigned_at token v e f h = by_test (are_alike (out-RVar v).type_id e.type_id) (Ok (made.Assign v e.expr)) (Err (18, token)) (Err f) (λ t is. cc) (λ t is. cc) h
+assigned_at : (token : ℕ) (v : RVar) (e : Typed) (f : Fault) → assigned token v e ≡ Err f →
+    f.1 ≡ token
+assigned_at token v e f h = by_test (are_alike (out-RVar v).type_id e.type_id)
+    (Ok (made.Assign v e.expr)) (Err (18, token)) (Err f) (λ t is. cc) (λ t is. cc) h
 
 -- a name with selectors that is assigned to
 target_leads : (p : Place) (k j : ℕ) (ss : List Selector) → InOrder SelectorAt (k + 1) ss j
-    → Leads k j (told (used p k >>= target p (record { name = k; selectors = map one_selector ss })))
-    (λ f. NameFails p k (target p (bare k)) f ⊎ (AnyOf (λ s f. InSelector p s f) ss f ⊎ ((v : RVar) × ((used p k >>= target p (bare k)) ≡ Ok v) × SelectorsFail p (out-RVar v).type_id ss f)))
+    → Leads k j (told (used p k >>= target p
+    (record { name = k; selectors = map one_selector ss })))
+    (λ f. NameFails p k (target p (bare k)) f ⊎
+    (AnyOf (λ s f. InSelector p s f) ss f ⊎
+    ((v : RVar) × ((used p k >>= target p (bare k)) ≡ Ok v) ×
+    SelectorsFail p (out-RVar v).type_id ss f)))
 target_leads p k j ss order =
-    alike k j _ _ _ _ (target_parts p (record { name = k; selectors = map one_selector ss }) (used p k)) (λ f b. b) (λ f b. b)
+    alike k j _ _ _ _ (target_parts p (record { name = k; selectors = map one_selector ss })
+    (used p k)) (λ f b. b) (λ f b. b)
     (named_selected p k j (target p (bare k)) (λ v. (out-RVar v).type_id) ss (target_at p k) order)
 
 -- ---- statements
@@ -103,7 +135,9 @@ abbrev pub ArmAt : Arm → ℕ → ℕ → Type 0
 ArmAt a i j = ReadsAt i j (arm a) (λ p f. InArm p a f)
 
 abbrev Parts : Place → ℕ → Layer → Fault → Type 0
-Parts p last y f = StatementFails p last y f ⊎ (AnyOf (λ a g. InArm p a g) (arms_in y) f ⊎ AnyOf (λ t g. InStatement p t g) (statements_in y) f)
+Parts p last y f = StatementFails p last y f ⊎
+    (AnyOf (λ a g. InArm p a g) (arms_in y) f ⊎ AnyOf (λ t g. InStatement p t g) (statements_in y)
+    f)
 
 -- a layer of readings
 abbrev map_layer : Layer → StmtForm-F StmtResult (Judge RArm) (Judge RStmt)
@@ -113,13 +147,18 @@ map_layer (StmtForm-F.If arms other) = StmtForm-F.If (map arm arms) (map stateme
 map_layer (StmtForm-F.While e body) = StmtForm-F.While e (map statement body)
 map_layer (StmtForm-F.Repeat body e) = StmtForm-F.Repeat (map statement body) e
 
-statement_stands : (s : Span) (g : StmtForm) (y : Layer) (i j : ℕ) → out-StmtForm g ≡ y → form_of g ≡ stmt_form (map_layer y) → i ≤ j → ((p : Place) → Leads i j (told (stmt_form (map_layer y) s.last p)) (λ f. Parts p s.last y f))
+statement_stands : (s : Span) (g : StmtForm) (y : Layer) (i j : ℕ) → out-StmtForm g ≡ y →
+    form_of g ≡ stmt_form (map_layer y) → i ≤ j →
+    ((p : Place) → Leads i j (told (stmt_form (map_layer y) s.last p)) (λ f. Parts p s.last y f))
     → StatementAt (roll-Stmt (record { span = s; form = g })) i j
 statement_stands s g y i j is reads some leads = record {
   some = some;
   leads = λ p. alike i j _ _ (Parts p s.last y) (λ f. InStatement p t f)
-      (ap (λ (r : Judge RStmt). told (r p)) (sym (fold-roll-Stmt StmtResult (Judge RArm) (Judge RStmt) stmt_form arm_step stmt_step (record { span = s; form = g }) ∙ ap (λ (r : StmtResult). r s.last) reads)))
-      (λ f b. outside p f (subst (λ z. Parts p s.last z f) (sym lays) b)) (λ f b. subst (λ z. Parts p s.last z f) lays (inside p f b)) (leads p);
+      (ap (λ (r : Judge RStmt). told (r p))
+      (sym (fold-roll-Stmt StmtResult (Judge RArm) (Judge RStmt) stmt_form arm_step stmt_step
+      (record { span = s; form = g }) ∙ ap (λ (r : StmtResult). r s.last) reads)))
+      (λ f b. outside p f (subst (λ z. Parts p s.last z f) (sym lays) b))
+      (λ f b. subst (λ z. Parts p s.last z f) lays (inside p f b)) (leads p);
 }
   where
     t : Stmt
@@ -132,30 +171,52 @@ statement_stands s g y i j is reads some leads = record {
     lays = ap (λ z. out-StmtForm z.form) (out-roll-Stmt (record { span = s; form = g })) ∙ is
 
     outside : (p : Place) (f : Fault) → Parts p s.last (layer t) f → InStatement p t f
-    outside p f (inl b) = which.itself t f (subst (λ z. StatementFails p z.span.last (layer t) f) (sym opens) b)
+    outside p f (inl b) = which.itself t f
+        (subst (λ z. StatementFails p z.span.last (layer t) f) (sym opens) b)
     outside p f (inr (inl (a, among, b))) = which.in_arm t f a among b
     outside p f (inr (inr (u, among, b))) = which.in_statement t f u among b
 
     inside : (p : Place) (f : Fault) → InStatement p t f → Parts p s.last (layer t) f
-    inside p f (which.itself _ _ b) = inl (subst (λ z. StatementFails p z.span.last (layer t) f) opens b)
+    inside p f (which.itself _ _ b) =
+        inl (subst (λ z. StatementFails p z.span.last (layer t) f) opens b)
     inside p f (which.in_arm _ _ a among b) = inr (inl (a, among, b))
     inside p f (which.in_statement _ _ u among b) = inr (inr (u, among, b))
 
-pub assignment_stands : (s t : Span) (k : ℕ) (ss : List Selector) (e : Expr) (l m j : ℕ) → s.last + 1 ≡ j → l ≤ m → InOrder SelectorAt (k + 1) ss l → ExpressionAt e m j
-    → StatementAt (roll-Stmt (record { span = s; form = form_is.Assign (roll-Designator (record { span = t; name = k; selectors = ss })) e })) k j
+pub assignment_stands : (s t : Span) (k : ℕ) (ss : List Selector) (e : Expr) (l m j : ℕ) →
+    s.last + 1 ≡ j → l ≤ m → InOrder SelectorAt (k + 1) ss l → ExpressionAt e m j
+    → StatementAt (roll-Stmt
+    (record {
+      span = s;
+      form =
+          form_is.Assign (roll-Designator (record { span = t; name = k; selectors = ss })) e;
+    })) k j
 assignment_stands s t k ss e l m j ends low order value =
     statement_stands s (form_is.Assign d e) (StmtForm-F.Assign d e) k j
     (ap out-StmtForm (sym (form_is.rolls-Assign d e)) ∙ out-roll-StmtForm (StmtForm-F.Assign d e))
-    (ap form_of (sym (form_is.rolls-Assign d e)) ∙ fold-roll-StmtForm StmtResult (Judge RArm) (Judge RStmt) stmt_form arm_step stmt_step (StmtForm-F.Assign d e))
+    (ap form_of (sym (form_is.rolls-Assign d e)) ∙ fold-roll-StmtForm StmtResult (Judge RArm)
+    (Judge RStmt) stmt_form arm_step stmt_step (StmtForm-F.Assign d e))
     (let first = ordered ss (k + 1) l order in let some = value.some in omega arith)
-    (λ p. alike k j _ _ (λ f. Named p k ss f ⊎ (InExpression p e f ⊎ BothFail (used p k >>= target p whole) ((expression e).judge p) (assigned s.last) f)) _
-    (ap told (regrouped (used p k) (target p whole) (λ v. (expression e).judge p >>= λ value. assigned s.last v value)
-    ∙ ap (λ (w : Selected). used p w.name >>= λ m. target p w m >>= λ v. (expression e).judge p >>= λ value. assigned s.last v value) (sym reads)))
-    (λ f b. inl (outside p f b)) (λ f. elim [ inl b ↦ inside p f b | inr (inl (a, is, b)) ↦ absurd is | inr (inr (a, is, b)) ↦ absurd is ])
-    (both_tested k l j (used p k >>= target p whole) ((expression e).judge p) (assigned s.last) (λ f. Named p k ss f) (λ f. InExpression p e f)
-    (target_leads p k l ss order) (wide m j l j _ (λ f. InExpression p e f) low (omega arith) (value.leads p))
+    (λ p. alike k j _ _ (λ f. Named p k ss f ⊎
+    (InExpression p e f ⊎ BothFail (used p k >>= target p whole) ((expression e).judge p)
+    (assigned s.last) f)) _
+    (ap told (regrouped (used p k) (target p whole)
+    (λ v. (expression e).judge p >>= λ value. assigned s.last v value)
+    ∙ ap (λ (w : Selected). used p w.name >>= λ m. target p w m >>= λ v. (expression e).judge p >>=
+    λ value. assigned s.last v value) (sym reads)))
+    (λ f b. inl (outside p f b))
+    (λ f. elim [
+      | inl b ↦ inside p f b
+      | inr (inl (a, is, b)) ↦
+          absurd is
+      | inr (inr (a, is, b)) ↦ absurd is
+    ])
+    (both_tested k l j (used p k >>= target p whole) ((expression e).judge p) (assigned s.last)
+    (λ f. Named p k ss f) (λ f. InExpression p e f)
+    (target_leads p k l ss order)
+    (wide m j l j _ (λ f. InExpression p e f) low (omega arith) (value.leads p))
     (let first = ordered ss (k + 1) l order in omega arith) (let some = value.some in omega arith)
-    (λ v x f h. let at = assigned_at s.last v x f h in let some = value.some in (omega (arith, at, some), omega (arith, at)))))
+    (λ v x f h. let at = assigned_at s.last v x f h in let some = value.some in
+    (omega (arith, at, some), omega (arith, at)))))
   where
     d : Designator
     d = roll-Designator (record { span = t; name = k; selectors = ss })
@@ -167,84 +228,136 @@ assignment_stands s t k ss e l m j ends low order value =
     opens = out-roll-Designator _
 
     reads : name_with_selectors d ≡ whole
-    reads = fold-roll-Designator FactorResult SelectorResult Selected Phrase Phrase Next Next Next Selection Phrase Phrase factor_form selector_form designator expr factor next_factor next_term relation selector simple_expr term _
+    reads = fold-roll-Designator FactorResult SelectorResult Selected Phrase Phrase Next Next Next
+        Selection Phrase Phrase factor_form selector_form designator expr factor next_factor
+        next_term relation selector simple_expr term _
 
     Named : Place → ℕ → List Selector → Fault → Type 0
-    Named p k ss f = NameFails p k (target p (bare k)) f ⊎ (AnyOf (λ s g. InSelector p s g) ss f ⊎ ((v : RVar) × ((used p k >>= target p (bare k)) ≡ Ok v) × SelectorsFail p (out-RVar v).type_id ss f))
+    Named p k ss f = NameFails p k (target p (bare k)) f ⊎
+        (AnyOf (λ s g. InSelector p s g) ss f ⊎
+        ((v : RVar) × ((used p k >>= target p (bare k)) ≡ Ok v) ×
+        SelectorsFail p (out-RVar v).type_id ss f))
 
     Sides : Place → Selected → Fault → Type 0
-    Sides p w f = BothFail (used p w.name >>= target p w) ((expression e).judge p) (assigned s.last) f
+    Sides p w f = BothFail (used p w.name >>= target p w) ((expression e).judge p) (assigned s.last)
+        f
 
-    outside : (p : Place) (f : Fault) → Named p k ss f ⊎ (InExpression p e f ⊎ Sides p whole f) → AssignmentFails p s.last d e f
+    outside : (p : Place) (f : Fault) → Named p k ss f ⊎ (InExpression p e f ⊎ Sides p whole f) →
+        AssignmentFails p s.last d e f
     outside p f (inl b) = inl (subst (λ z. Named p z.name z.selectors f) (sym opens) b)
     outside p f (inr (inl b)) = inr (inl b)
     outside p f (inr (inr b)) = inr (inr (subst (λ (w : Selected). Sides p w f) (sym reads) b))
 
-    inside : (p : Place) (f : Fault) → AssignmentFails p s.last d e f → Named p k ss f ⊎ (InExpression p e f ⊎ Sides p whole f)
+    inside : (p : Place) (f : Fault) → AssignmentFails p s.last d e f → Named p k ss f ⊎
+        (InExpression p e f ⊎ Sides p whole f)
     inside p f (inl b) = inl (subst (λ z. Named p z.name z.selectors f) opens b)
     inside p f (inr (inl b)) = inr (inl b)
     inside p f (inr (inr b)) = inr (inr (subst (λ (w : Selected). Sides p w f) reads b))
 
-pub call_stands : (s : Span) (k : ℕ) (es : List Expr) (j : ℕ) → s.last + 1 ≡ j → k < j → InOrder ExpressionAt (k + 1) es j → StatementAt (roll-Stmt (record { span = s; form = form_is.Call k es })) k j
+pub call_stands : (s : Span) (k : ℕ) (es : List Expr) (j : ℕ) → s.last + 1 ≡ j → k < j →
+    InOrder ExpressionAt (k + 1) es j →
+    StatementAt (roll-Stmt (record { span = s; form = form_is.Call k es })) k j
 call_stands s k es j ends some order =
     statement_stands s (form_is.Call k es) (StmtForm-F.Call k es) k j
     (ap out-StmtForm (sym (form_is.rolls-Call k es)) ∙ out-roll-StmtForm (StmtForm-F.Call k es))
-    (ap form_of (sym (form_is.rolls-Call k es)) ∙ fold-roll-StmtForm StmtResult (Judge RArm) (Judge RStmt) stmt_form arm_step stmt_step (StmtForm-F.Call k es))
+    (ap form_of (sym (form_is.rolls-Call k es)) ∙ fold-roll-StmtForm StmtResult (Judge RArm)
+    (Judge RStmt) stmt_form arm_step stmt_step (StmtForm-F.Call k es))
     (omega arith)
-    (λ p. alike k j _ _ (λ f. InCall p s.last k es f) _ refl (λ f b. inl b) (λ f. elim [ inl b ↦ b | inr (inl (a, is, b)) ↦ absurd is | inr (inr (a, is, b)) ↦ absurd is ])
+    (λ p. alike k j _ _ (λ f. InCall p s.last k es f) _ refl (λ f b. inl b)
+    (λ f. elim [
+      | inl b ↦ b
+      | inr (inl (a, is, b)) ↦ absurd is
+      | inr (inr (a, is, b)) ↦
+          absurd is
+    ])
     (call_leads p s.last k es j ends some order))
 
-pub if_stands : (s : Span) (xs : List Arm) (others : List Stmt) (i k l j m : ℕ) → i ≤ k → m ≤ j → InOrder ArmAt k xs l → InOrder StatementAt l others m
+pub if_stands : (s : Span) (xs : List Arm) (others : List Stmt) (i k l j m : ℕ) → i ≤ k → m ≤ j →
+    InOrder ArmAt k xs l → InOrder StatementAt l others m
     → StatementAt (roll-Stmt (record { span = s; form = form_is.If xs others })) i j
 if_stands s xs others i k l j m low high first rest =
     statement_stands s (form_is.If xs others) (StmtForm-F.If xs others) i j
-    (ap out-StmtForm (sym (form_is.rolls-If xs others)) ∙ out-roll-StmtForm (StmtForm-F.If xs others))
-    (ap form_of (sym (form_is.rolls-If xs others)) ∙ fold-roll-StmtForm StmtResult (Judge RArm) (Judge RStmt) stmt_form arm_step stmt_step (StmtForm-F.If xs others))
-    (let a = items_in_order arm (λ p x f. InArm p x f) xs k l first in let b = items_in_order statement (λ p x f. InStatement p x f) others l m rest in omega arith)
-    (λ p. alike i j _ _ (λ f. AnyOf (λ a g. InArm p a g) xs f ⊎ AnyOf (λ t g. InStatement p t g) others f) _ refl (λ f b. inr b) (λ f. elim [ inl b ↦ absurd b | inr b ↦ b ])
-    (wide k m i j _ (λ f. AnyOf (λ a g. InArm p a g) xs f ⊎ AnyOf (λ t g. InStatement p t g) others f) low high
-    (joined k l m (each p [] (map arm xs)) (each p [] (map statement others)) (λ choices otherwise. made.If choices otherwise) (λ f. AnyOf (λ a g. InArm p a g) xs f) (λ f. AnyOf (λ t g. InStatement p t g) others f)
-    (each_leads arm (λ p x f. InArm p x f) p xs [] k l first) (each_leads statement (λ p x f. InStatement p x f) p others [] l m rest)
-    (items_in_order arm (λ p x f. InArm p x f) xs k l first) (items_in_order statement (λ p x f. InStatement p x f) others l m rest))))
+    (ap out-StmtForm (sym (form_is.rolls-If xs others)) ∙ out-roll-StmtForm
+    (StmtForm-F.If xs others))
+    (ap form_of (sym (form_is.rolls-If xs others)) ∙ fold-roll-StmtForm StmtResult (Judge RArm)
+    (Judge RStmt) stmt_form arm_step stmt_step (StmtForm-F.If xs others))
+    (let a = items_in_order arm (λ p x f. InArm p x f) xs k l first in let b =
+    items_in_order statement (λ p x f. InStatement p x f) others l m rest in omega arith)
+    (λ p. alike i j _ _ (λ f. AnyOf (λ a g. InArm p a g) xs f ⊎
+    AnyOf (λ t g. InStatement p t g) others f) _ refl (λ f b. inr b)
+    (λ f. elim [ inl b ↦ absurd b | inr b ↦ b ])
+    (wide k m i j _ (λ f. AnyOf (λ a g. InArm p a g) xs f ⊎
+    AnyOf (λ t g. InStatement p t g) others f) low high
+    (joined k l m (each p [] (map arm xs)) (each p [] (map statement others))
+    (λ choices otherwise. made.If choices otherwise) (λ f. AnyOf (λ a g. InArm p a g) xs f)
+    (λ f. AnyOf (λ t g. InStatement p t g) others f)
+    (each_leads arm (λ p x f. InArm p x f) p xs [] k l first)
+    (each_leads statement (λ p x f. InStatement p x f) p others [] l m rest)
+    (items_in_order arm (λ p x f. InArm p x f) xs k l first)
+    (items_in_order statement (λ p x f. InStatement p x f) others l m rest))))
 
-pub while_stands : (s : Span) (e : Expr) (ss : List Stmt) (i k l n m j : ℕ) → i ≤ k → l ≤ n → m ≤ j → ExpressionAt e k l → InOrder StatementAt n ss m
+pub while_stands : (s : Span) (e : Expr) (ss : List Stmt) (i k l n m j : ℕ) → i ≤ k → l ≤ n →
+    m ≤ j → ExpressionAt e k l → InOrder StatementAt n ss m
     → StatementAt (roll-Stmt (record { span = s; form = form_is.While e ss })) i j
 while_stands s e ss i k l n m j low mid high first rest =
     statement_stands s (form_is.While e ss) (StmtForm-F.While e ss) i j
     (ap out-StmtForm (sym (form_is.rolls-While e ss)) ∙ out-roll-StmtForm (StmtForm-F.While e ss))
-    (ap form_of (sym (form_is.rolls-While e ss)) ∙ fold-roll-StmtForm StmtResult (Judge RArm) (Judge RStmt) stmt_form arm_step stmt_step (StmtForm-F.While e ss))
-    (let a = first.some in let b = items_in_order statement (λ p x f. InStatement p x f) ss n m rest in omega arith)
+    (ap form_of (sym (form_is.rolls-While e ss)) ∙ fold-roll-StmtForm StmtResult (Judge RArm)
+    (Judge RStmt) stmt_form arm_step stmt_step (StmtForm-F.While e ss))
+    (let a = first.some in let b = items_in_order statement (λ p x f. InStatement p x f) ss n m
+    rest in omega arith)
     (λ p. alike i j _ _ (λ f. InCondition p e f ⊎ AnyOf (λ t g. InStatement p t g) ss f) _ refl
-    (λ f. elim [ inl b ↦ inl b | inr b ↦ inr (inr b) ]) (λ f. elim [ inl b ↦ inl b | inr (inl (a, is, b)) ↦ absurd is | inr (inr b) ↦ inr b ])
-    (joined i l j (condition p e) (each p [] (map statement ss)) (λ c turn. made.While c turn) (λ f. InCondition p e f) (λ f. AnyOf (λ t g. InStatement p t g) ss f)
+    (λ f. elim [ inl b ↦ inl b | inr b ↦ inr (inr b) ])
+    (λ f. elim [ inl b ↦ inl b | inr (inl (a, is, b)) ↦ absurd is | inr (inr b) ↦ inr b ])
+    (joined i l j (condition p e) (each p [] (map statement ss)) (λ c turn. made.While c turn)
+    (λ f. InCondition p e f) (λ f. AnyOf (λ t g. InStatement p t g) ss f)
     (wide k l i l _ (λ f. InCondition p e f) low (omega arith) (condition_leads p e k l first))
-    (wide n m l j _ (λ f. AnyOf (λ t g. InStatement p t g) ss f) mid high (each_leads statement (λ p x f. InStatement p x f) p ss [] n m rest))
-    (let a = first.some in omega arith) (let b = items_in_order statement (λ p x f. InStatement p x f) ss n m rest in omega arith)))
+    (wide n m l j _ (λ f. AnyOf (λ t g. InStatement p t g) ss f) mid high
+    (each_leads statement (λ p x f. InStatement p x f) p ss [] n m rest))
+    (let a = first.some in omega arith)
+    (let b = items_in_order statement (λ p x f. InStatement p x f) ss n m rest in omega arith)))
 
-pub repeat_stands : (s : Span) (ss : List Stmt) (e : Expr) (i k l n j : ℕ) → i ≤ k → l ≤ n → InOrder StatementAt k ss l → ExpressionAt e n j
+pub repeat_stands : (s : Span) (ss : List Stmt) (e : Expr) (i k l n j : ℕ) → i ≤ k → l ≤ n →
+    InOrder StatementAt k ss l → ExpressionAt e n j
     → StatementAt (roll-Stmt (record { span = s; form = form_is.Repeat ss e })) i j
 repeat_stands s ss e i k l n j low mid first last =
     statement_stands s (form_is.Repeat ss e) (StmtForm-F.Repeat ss e) i j
     (ap out-StmtForm (sym (form_is.rolls-Repeat ss e)) ∙ out-roll-StmtForm (StmtForm-F.Repeat ss e))
-    (ap form_of (sym (form_is.rolls-Repeat ss e)) ∙ fold-roll-StmtForm StmtResult (Judge RArm) (Judge RStmt) stmt_form arm_step stmt_step (StmtForm-F.Repeat ss e))
-    (let a = last.some in let b = items_in_order statement (λ p x f. InStatement p x f) ss k l first in omega arith)
+    (ap form_of (sym (form_is.rolls-Repeat ss e)) ∙ fold-roll-StmtForm StmtResult (Judge RArm)
+    (Judge RStmt) stmt_form arm_step stmt_step (StmtForm-F.Repeat ss e))
+    (let a = last.some in let b = items_in_order statement (λ p x f. InStatement p x f) ss k l
+    first in omega arith)
     (λ p. alike i j _ _ (λ f. AnyOf (λ t g. InStatement p t g) ss f ⊎ InCondition p e f) _ refl
-    (λ f. elim [ inl b ↦ inr (inr b) | inr b ↦ inl b ]) (λ f. elim [ inl b ↦ inr b | inr (inl (a, is, b)) ↦ absurd is | inr (inr b) ↦ inl b ])
-    (joined i l j (each p [] (map statement ss)) (condition p e) (λ turn c. made.Repeat turn c) (λ f. AnyOf (λ t g. InStatement p t g) ss f) (λ f. InCondition p e f)
-    (wide k l i l _ (λ f. AnyOf (λ t g. InStatement p t g) ss f) low (omega arith) (each_leads statement (λ p x f. InStatement p x f) p ss [] k l first))
+    (λ f. elim [ inl b ↦ inr (inr b) | inr b ↦ inl b ])
+    (λ f. elim [ inl b ↦ inr b | inr (inl (a, is, b)) ↦ absurd is | inr (inr b) ↦ inl b ])
+    (joined i l j (each p [] (map statement ss)) (condition p e) (λ turn c. made.Repeat turn c)
+    (λ f. AnyOf (λ t g. InStatement p t g) ss f) (λ f. InCondition p e f)
+    (wide k l i l _ (λ f. AnyOf (λ t g. InStatement p t g) ss f) low (omega arith)
+    (each_leads statement (λ p x f. InStatement p x f) p ss [] k l first))
     (wide n j l j _ (λ f. InCondition p e f) mid (omega arith) (condition_leads p e n j last))
-    (let b = items_in_order statement (λ p x f. InStatement p x f) ss k l first in omega arith) (let a = last.some in omega arith)))
+    (let b = items_in_order statement (λ p x f. InStatement p x f) ss k l first in omega arith)
+    (let a = last.some in omega arith)))
 
-pub arm_stands : (e : Expr) (ss : List Stmt) (i k l n j : ℕ) → i ≤ k → l ≤ n → ExpressionAt e k l → InOrder StatementAt n ss j → ArmAt (roll-Arm (record { test = e; body = ss })) i j
+pub arm_stands : (e : Expr) (ss : List Stmt) (i k l n j : ℕ) → i ≤ k → l ≤ n → ExpressionAt e k l →
+    InOrder StatementAt n ss j → ArmAt (roll-Arm (record { test = e; body = ss })) i j
 arm_stands e ss i k l n j low mid first rest = record {
-  some = let a = first.some in let b = items_in_order statement (λ p x f. InStatement p x f) ss n j rest in omega arith;
-  leads = λ p. alike i j _ _ (λ f. InCondition p e f ⊎ AnyOf (λ t g. InStatement p t g) ss f) (λ f. InArm p a f)
-      (ap (λ (r : Judge RArm). told (r p)) (sym (fold-roll-Arm StmtResult (Judge RArm) (Judge RStmt) stmt_form arm_step stmt_step _)))
+  some = let a = first.some in let b = items_in_order statement (λ p x f. InStatement p x f) ss n j
+      rest in omega arith;
+  leads = λ p. alike i j _ _ (λ f. InCondition p e f ⊎ AnyOf (λ t g. InStatement p t g) ss f)
+      (λ f. InArm p a f)
+      (ap (λ (r : Judge RArm). told (r p))
+      (sym (fold-roll-Arm StmtResult (Judge RArm) (Judge RStmt) stmt_form arm_step stmt_step
+      _)))
       (λ f b. outside p f b) (λ f b. inside p f b)
-      (joined i l j (condition p e) (each p [] (map statement ss)) (λ c body. roll-RArm (record { test = c; body = body })) (λ f. InCondition p e f) (λ f. AnyOf (λ t g. InStatement p t g) ss f)
+      (joined i l j (condition p e) (each p [] (map statement ss))
+      (λ c body. roll-RArm (record { test = c; body = body })) (λ f. InCondition p e f)
+      (λ f. AnyOf (λ t g. InStatement p t g) ss f)
       (wide k l i l _ (λ f. InCondition p e f) low (omega arith) (condition_leads p e k l first))
-      (wide n j l j _ (λ f. AnyOf (λ t g. InStatement p t g) ss f) mid (omega arith) (each_leads statement (λ p x f. InStatement p x f) p ss [] n j rest))
-      (let a = first.some in omega arith) (let b = items_in_order statement (λ p x f. InStatement p x f) ss n j rest in omega arith));
+      (wide n j l j _ (λ f. AnyOf (λ t g. InStatement p t g) ss f) mid (omega arith)
+      (each_leads statement (λ p x f. InStatement p x f) p ss [] n j rest))
+      (let a = first.some in omega arith)
+      (let b = items_in_order statement (λ p x f. InStatement p x f) ss n j rest in
+      omega arith));
 }
   where
     a : Arm
@@ -253,10 +366,13 @@ arm_stands e ss i k l n j low mid first rest = record {
     opens : out-Arm a ≡ record { test = e; body = ss }
     opens = out-roll-Arm _
 
-    outside : (p : Place) (f : Fault) → InCondition p e f ⊎ AnyOf (λ t g. InStatement p t g) ss f → InArm p a f
+    outside : (p : Place) (f : Fault) → InCondition p e f ⊎ AnyOf (λ t g. InStatement p t g) ss f →
+        InArm p a f
     outside p f (inl b) = which.test a f (subst (λ z. InCondition p z.test f) (sym opens) b)
-    outside p f (inr (t, among, b)) = which.body a f t (subst (λ z. Among t z.body) (sym opens) among) b
+    outside p f (inr (t, among, b)) =
+        which.body a f t (subst (λ z. Among t z.body) (sym opens) among) b
 
-    inside : (p : Place) (f : Fault) → InArm p a f → InCondition p e f ⊎ AnyOf (λ t g. InStatement p t g) ss f
+    inside : (p : Place) (f : Fault) → InArm p a f → InCondition p e f ⊎
+        AnyOf (λ t g. InStatement p t g) ss f
     inside p f (which.test _ _ b) = inl (subst (λ z. InCondition p z.test f) opens b)
     inside p f (which.body _ _ t among b) = inr (t, subst (λ z. Among t z.body) opens among, b)

@@ -1,16 +1,22 @@
 -- How far a source is scanned.
-use Rattle.std.proofs.Common.{◌≡◌, ℕ, ◌+◌, ◌-◌, ◌<◌, ◌≤◌, List, [], ◌∷◌, ◌++◌, length, Option, Some, None, refl, sym, ap, subst, ◌∙◌, arith, append-nil, length-append, true, eqb-true, ◌==◌}
+use Rattle.std.proofs.Common.{◌≡◌, ℕ, ◌+◌, ◌-◌, ◌<◌, ◌≤◌, List, [], ◌∷◌, ◌++◌, length, Option, Some}
+use Rattle.std.proofs.Common.{None, refl, sym, ap, subst, ◌∙◌, arith, append-nil, length-append}
+use Rattle.std.proofs.Common.{true, eqb-true, ◌==◌}
 use Rattle.std.proofs.lemmas.List.{nil_from_length}
 use Rattle.ob_syntax.specs.declared.token.Kind.{Kind}
 use Rattle.ob_syntax.specs.declared.token.Token.{Token}
-use Rattle.ob_syntax.specs.Tokens.{Piece, space, comment, token, IsPiece, piece_text, ArePieces, pieces_text, tokens_from, Tokens, Fault, FirstFault, number_too_large, open_comment, bad_byte, BeginsFault}
-use Rattle.ob_syntax.proofs.Texts.{shorter_behind, pieces_text-push, ArePieces-push, tokens_from-push, total_width, length-pieces_text}
+use Rattle.ob_syntax.specs.Tokens.{Piece, space, comment, token, IsPiece, piece_text, ArePieces}
+use Rattle.ob_syntax.specs.Tokens.{pieces_text, tokens_from, Tokens, Fault, FirstFault}
+use Rattle.ob_syntax.specs.Tokens.{number_too_large, open_comment, bad_byte, BeginsFault}
+use Rattle.ob_syntax.proofs.Texts.{shorter_behind, pieces_text-push, ArePieces-push}
+use Rattle.ob_syntax.proofs.Texts.{tokens_from-push, total_width, length-pieces_text}
 use Rattle.ob_lex.specs.declared.scanner.LexFault.{LexFault}
 use Rattle.ob_lex.specs.declared.scanner.LexFault.TheVariants.{TokensOver}
 use Rattle.ob_lex.specs.Scanning.{BeginsPiece, kind_of, TellsFault, fault_at, IsCause}
 use Rattle.ob_syntax.specs.Source.{most_bytes, most_tokens}
 
--- the source is scanned up to rest: so many tokens stood before it, and these were kept, all of them up to the limit
+-- the source is scanned up to rest: so many tokens stood before it, and these were kept, all of
+-- them up to the limit
 pub record IsScannedTo (bytes rest : List ℕ) (kept : List Token) (count : ℕ) : Type 0 where
   pub pieces : List Piece
   pub are_pieces : ArePieces pieces rest
@@ -19,12 +25,22 @@ pub record IsScannedTo (bytes rest : List ℕ) (kept : List Token) (count : ℕ)
   pub all_kept : count ≤ most_tokens → kept ≡ tokens_from 0 pieces
 
 pub nothing_scanned : (bytes : List ℕ) → IsScannedTo bytes bytes [] 0
-nothing_scanned bytes = record { pieces = []; are_pieces = tt; text = refl; counted = refl; all_kept = λ _. refl }
+nothing_scanned bytes = record {
+  pieces = [];
+  are_pieces = tt;
+  text = refl;
+  counted = refl;
+  all_kept = λ _. refl;
+}
 
-pub behind_shorter : (text rest : List ℕ) (kind : Option Kind) → BeginsPiece text kind rest → length rest < length text
-behind_shorter text rest kind b = let shorter = shorter_behind b.piece rest b.is_piece in let size : length text ≡ length (piece_text b.piece rest) = ap length b.text_is in omega arith
+pub behind_shorter : (text rest : List ℕ) (kind : Option Kind) → BeginsPiece text kind rest →
+    length rest < length text
+behind_shorter text rest kind b = let shorter = shorter_behind b.piece rest b.is_piece in
+    let size : length text ≡ length (piece_text b.piece rest) = ap length b.text_is in omega arith
 
-module _ (bytes text rest : List ℕ) (kept : List Token) (count : ℕ) (s : IsScannedTo bytes text kept count) (p : Piece) (is : IsPiece p rest) (text_is : text ≡ piece_text p rest) where
+module _ (bytes text rest : List ℕ) (kept : List Token) (count : ℕ)
+    (s : IsScannedTo bytes text kept count) (p : Piece) (is : IsPiece p rest)
+    (text_is : text ≡ piece_text p rest) where
   abbrev longer : List Piece
   longer = s.pieces ++ p ∷ []
 
@@ -35,35 +51,69 @@ module _ (bytes text rest : List ℕ) (kept : List Token) (count : ℕ) (s : IsS
   longer_text = s.text ∙ ap (pieces_text s.pieces) text_is ∙ sym (pieces_text-push s.pieces p rest)
 
   -- behind a space or a comment
-  scanned_gap : tokens_from (0 + total_width s.pieces) (p ∷ []) ≡ [] → IsScannedTo bytes rest kept count
+  scanned_gap : tokens_from (0 + total_width s.pieces) (p ∷ []) ≡ [] →
+      IsScannedTo bytes rest kept count
   scanned_gap none =
-      let same : tokens_from 0 longer ≡ tokens_from 0 s.pieces = tokens_from-push s.pieces 0 p ∙ ap (λ ts. tokens_from 0 s.pieces ++ ts) none ∙ append-nil (tokens_from 0 s.pieces) in
-      record { pieces = longer; are_pieces = longer_are; text = longer_text; counted = s.counted ∙ ap length (sym same); all_kept = λ few. s.all_kept few ∙ sym same }
+      let same : tokens_from 0 longer ≡ tokens_from 0 s.pieces = tokens_from-push s.pieces 0 p
+      ∙ ap (λ ts. tokens_from 0 s.pieces ++ ts) none ∙ append-nil (tokens_from 0 s.pieces) in
+      record {
+        pieces = longer;
+        are_pieces = longer_are;
+        text = longer_text;
+        counted = s.counted
+            ∙ ap length (sym same);
+        all_kept = λ few. s.all_kept few ∙ sym same;
+      }
 
   -- behind a token
-  scanned_token : (t : Token) → tokens_from (0 + total_width s.pieces) (p ∷ []) ≡ t ∷ [] → (kept' : List Token) → (count < most_tokens → kept' ≡ kept ++ t ∷ []) → IsScannedTo bytes rest kept' (count + 1)
+  scanned_token : (t : Token) → tokens_from (0 + total_width s.pieces) (p ∷ []) ≡ t ∷ [] →
+      (kept' : List Token) → (count < most_tokens → kept' ≡ kept ++ t ∷ []) →
+      IsScannedTo bytes rest kept' (count + 1)
   scanned_token t one kept' pushed =
-      let same : tokens_from 0 longer ≡ tokens_from 0 s.pieces ++ t ∷ [] = tokens_from-push s.pieces 0 p ∙ ap (λ ts. tokens_from 0 s.pieces ++ ts) one in
-      let size : length (tokens_from 0 longer) ≡ length (tokens_from 0 s.pieces) + 1 = ap length same ∙ length-append (tokens_from 0 s.pieces) (t ∷ []) in
-      record { pieces = longer; are_pieces = longer_are; text = longer_text; counted = omega (arith, s.counted); all_kept = λ few. pushed (omega arith) ∙ ap (λ ts. ts ++ t ∷ []) (s.all_kept (omega arith)) ∙ sym same }
+      let same : tokens_from 0 longer ≡ tokens_from 0 s.pieces ++ t ∷ [] =
+      tokens_from-push s.pieces 0 p ∙ ap (λ ts. tokens_from 0 s.pieces ++ ts) one in
+      let size : length (tokens_from 0 longer) ≡ length (tokens_from 0 s.pieces) + 1 =
+      ap length same ∙ length-append (tokens_from 0 s.pieces) (t ∷ []) in
+      record {
+        pieces = longer;
+        are_pieces = longer_are;
+        text = longer_text;
+        counted =
+            omega (arith, s.counted);
+        all_kept = λ few. pushed (omega arith) ∙ ap (λ ts. ts ++ t ∷ [])
+            (s.all_kept (omega arith)) ∙ sym same;
+      }
 
   place_of : length bytes - length text ≡ total_width s.pieces
-  place_of = let size : length bytes ≡ length (pieces_text s.pieces text) = ap length s.text in let sum = length-pieces_text s.pieces text in omega arith
+  place_of = let size : length bytes ≡ length (pieces_text s.pieces text) = ap length s.text in
+      let sum = length-pieces_text s.pieces text in omega arith
 
-gap_behind : (bytes text rest : List ℕ) (kept : List Token) (count : ℕ) → IsScannedTo bytes text kept count → (p : Piece) → IsPiece p rest → text ≡ piece_text p rest → None ≡ kind_of p → IsScannedTo bytes rest kept count
-gap_behind bytes text rest kept count s (space b) is e k = scanned_gap bytes text rest kept count s (space b) is e refl
-gap_behind bytes text rest kept count s (comment c) is e k = scanned_gap bytes text rest kept count s (comment c) is e refl
+gap_behind : (bytes text rest : List ℕ) (kept : List Token) (count : ℕ) →
+    IsScannedTo bytes text kept count → (p : Piece) → IsPiece p rest → text ≡ piece_text p rest →
+    None ≡ kind_of p → IsScannedTo bytes rest kept count
+gap_behind bytes text rest kept count s (space b) is e k = scanned_gap bytes text rest kept count s
+    (space b) is e refl
+gap_behind bytes text rest kept count s (comment c) is e k =
+    scanned_gap bytes text rest kept count s (comment c) is e refl
 gap_behind bytes text rest kept count s (token kind w) is e k = cc
 
-pub behind_gap : (bytes text rest : List ℕ) (kept : List Token) (count : ℕ) → IsScannedTo bytes text kept count → BeginsPiece text None rest → IsScannedTo bytes rest kept count
-behind_gap bytes text rest kept count s b = gap_behind bytes text rest kept count s b.piece b.is_piece b.text_is b.kind_is
+pub behind_gap : (bytes text rest : List ℕ) (kept : List Token) (count : ℕ) →
+    IsScannedTo bytes text kept count → BeginsPiece text None rest →
+    IsScannedTo bytes rest kept count
+behind_gap bytes text rest kept count s b = gap_behind bytes text rest kept count s b.piece
+    b.is_piece b.text_is b.kind_is
 
 -- the token in front of a text, before rest
 abbrev pub token_at : List ℕ → List ℕ → List ℕ → Kind → Token
-token_at bytes text rest kind = record { kind = kind; from = length bytes - length text; to = length bytes - length rest }
+token_at bytes text rest kind =
+    record { kind = kind; from = length bytes - length text; to = length bytes - length rest }
 
-token_behind : (bytes text rest : List ℕ) (kept : List Token) (count : ℕ) → IsScannedTo bytes text kept count → (p : Piece) → IsPiece p rest → text ≡ piece_text p rest → (kind : Kind) → Some kind ≡ kind_of p
-    → (kept' : List Token) → (count < most_tokens → kept' ≡ kept ++ token_at bytes text rest kind ∷ []) → IsScannedTo bytes rest kept' (count + 1)
+token_behind : (bytes text rest : List ℕ) (kept : List Token) (count : ℕ) →
+    IsScannedTo bytes text kept count → (p : Piece) → IsPiece p rest → text ≡ piece_text p rest →
+    (kind : Kind) → Some kind ≡ kind_of p
+    → (kept' : List Token) →
+    (count < most_tokens → kept' ≡ kept ++ token_at bytes text rest kind ∷ []) →
+    IsScannedTo bytes rest kept' (count + 1)
 token_behind bytes text rest kept count s (space b) is e kind k = cc
 token_behind bytes text rest kept count s (comment c) is e kind k = cc
 token_behind bytes text rest kept count s (token kind' w) is e kind k = λ kept' pushed.
@@ -74,23 +124,43 @@ token_behind bytes text rest kept count s (token kind' w) is e kind k = λ kept'
     let from : 0 + total_width s.pieces ≡ length bytes - length text = omega arith in
     let to : (0 + total_width s.pieces) + length w ≡ length bytes - length rest = omega arith in
     let same : kind' ≡ kind = cc in
-    let t : Token = record { kind = kind'; from = 0 + total_width s.pieces; to = (0 + total_width s.pieces) + length w } in
-    let is_here : t ≡ token_at bytes text rest kind = λ i. record { kind = same i; from = from i; to = to i } in
-    scanned_token bytes text rest kept count s (token kind' w) is e (token_at bytes text rest kind) (ap (λ u. u ∷ []) is_here) kept' pushed
+    let t : Token = record {
+      kind = kind';
+      from = 0 + total_width s.pieces;
+      to =
+          (0 + total_width s.pieces) + length w;
+    } in
+    let is_here : t ≡ token_at bytes text rest kind =
+    λ i. record { kind = same i; from = from i; to = to i } in
+    scanned_token bytes text rest kept count s (token kind' w) is e (token_at bytes text rest kind)
+    (ap (λ u. u ∷ []) is_here) kept' pushed
 
-pub behind_token : (bytes text rest : List ℕ) (kept : List Token) (count : ℕ) → IsScannedTo bytes text kept count → (kind : Kind) → BeginsPiece text (Some kind) rest
-    → (kept' : List Token) → (count < most_tokens → kept' ≡ kept ++ token_at bytes text rest kind ∷ []) → IsScannedTo bytes rest kept' (count + 1)
-behind_token bytes text rest kept count s kind b = token_behind bytes text rest kept count s b.piece b.is_piece b.text_is kind b.kind_is
+pub behind_token : (bytes text rest : List ℕ) (kept : List Token) (count : ℕ) →
+    IsScannedTo bytes text kept count → (kind : Kind) → BeginsPiece text (Some kind) rest
+    → (kept' : List Token) →
+    (count < most_tokens → kept' ≡ kept ++ token_at bytes text rest kind ∷ []) →
+    IsScannedTo bytes rest kept' (count + 1)
+behind_token bytes text rest kept count s kind b = token_behind bytes text rest kept count s b.piece
+    b.is_piece b.text_is kind b.kind_is
 
 -- the end of the source
-module _ (bytes rest : List ℕ) (kept : List Token) (count : ℕ) (s : IsScannedTo bytes rest kept count) (over : true ≡ (length rest == 0)) where
+module _ (bytes rest : List ℕ) (kept : List Token) (count : ℕ)
+    (s : IsScannedTo bytes rest kept count) (over : true ≡ (length rest == 0)) where
   none_left : rest ≡ []
   none_left = nil_from_length rest (eqb-true (length rest) 0 (sym over))
 
   whole_list : Tokens bytes (tokens_from 0 s.pieces)
-  whole_list = record { pieces = s.pieces; are_pieces = subst (ArePieces s.pieces) none_left s.are_pieces; text = s.text ∙ ap (pieces_text s.pieces) none_left; tokens = refl }
+  whole_list = record {
+    pieces = s.pieces;
+    are_pieces =
+        subst (ArePieces s.pieces) none_left s.are_pieces;
+    text =
+        s.text ∙ ap (pieces_text s.pieces) none_left;
+    tokens = refl;
+  }
 
-  pub over_cause : length bytes ≤ most_bytes → most_tokens < count → IsCause bytes (TokensOver count)
+  pub over_cause : length bytes ≤ most_bytes → most_tokens < count →
+      IsCause bytes (TokensOver count)
   over_cause short many = record {
     short = short;
     tokens = tokens_from 0 s.pieces;
@@ -100,16 +170,32 @@ module _ (bytes rest : List ℕ) (kept : List Token) (count : ℕ) (s : IsScanne
   }
 
   pub kept_whole : count ≤ most_tokens → Tokens bytes kept × (length kept ≤ most_tokens)
-  kept_whole few = let same = s.all_kept few in let size = ap length same in (subst (Tokens bytes) (sym same) whole_list, omega (arith, s.counted))
+  kept_whole few = let same = s.all_kept few in let size = ap length same in
+      (subst (Tokens bytes) (sym same) whole_list, omega (arith, s.counted))
 
 -- the fault in front of the text that is left is the first one
-first_fault : (bytes text : List ℕ) (kept : List Token) (count : ℕ) → IsScannedTo bytes text kept count → (fault : Fault) → BeginsFault fault text → (at : ℕ) → at ≡ length bytes - length text → length text ≤ length bytes → FirstFault bytes fault at
-first_fault bytes text kept count s fault f at place le = record { pieces = s.pieces; rest = text; are_pieces = s.are_pieces; text = s.text; place = omega arith; begins = f }
+first_fault : (bytes text : List ℕ) (kept : List Token) (count : ℕ) →
+    IsScannedTo bytes text kept count → (fault : Fault) → BeginsFault fault text → (at : ℕ) →
+    at ≡ length bytes - length text → length text ≤ length bytes → FirstFault bytes fault at
+first_fault bytes text kept count s fault f at place le =
+    record {
+      pieces = s.pieces;
+      rest = text;
+      are_pieces = s.are_pieces;
+      text = s.text;
+      place =
+          omega arith;
+      begins = f;
+    }
 
-cause_of : (bytes : List ℕ) (fault : Fault) (at : ℕ) → FirstFault bytes fault at → IsCause bytes (fault_at fault at)
+cause_of : (bytes : List ℕ) (fault : Fault) (at : ℕ) → FirstFault bytes fault at →
+    IsCause bytes (fault_at fault at)
 cause_of bytes number_too_large at f = f
 cause_of bytes open_comment at f = f
 cause_of bytes bad_byte at f = f
 
-pub fault_told : (bytes text : List ℕ) (kept : List Token) (count : ℕ) (at : ℕ) (answer : LexFault) → IsScannedTo bytes text kept count → TellsFault text at answer → at ≡ length bytes - length text → length text ≤ length bytes → IsCause bytes answer
-fault_told bytes text kept count at answer s t place le = subst (IsCause bytes) (sym t.answer_is) (cause_of bytes t.fault at (first_fault bytes text kept count s t.fault t.begins at place le))
+pub fault_told : (bytes text : List ℕ) (kept : List Token) (count : ℕ) (at : ℕ)
+    (answer : LexFault) → IsScannedTo bytes text kept count → TellsFault text at answer →
+    at ≡ length bytes - length text → length text ≤ length bytes → IsCause bytes answer
+fault_told bytes text kept count at answer s t place le = subst (IsCause bytes) (sym t.answer_is)
+    (cause_of bytes t.fault at (first_fault bytes text kept count s t.fault t.begins at place le))

@@ -15,8 +15,10 @@ parts_of r = record {
   procs = r.procs;
 }
 
-pub excess-of_parts : (r : Reading) → first_excess (reading_of r.place.bytes r.place.tokens (parts_of r)) ≡ first_excess r
+pub excess-of_parts : (r : Reading) →
+    first_excess (reading_of r.place.bytes r.place.tokens (parts_of r)) ≡ first_excess r
 excess-of_parts r = refl
 
-pub resolved-of_parts : (m : Module) (r : Reading) → resolved m (reading_of r.place.bytes r.place.tokens (parts_of r)) ≡ resolved m r
+pub resolved-of_parts : (m : Module) (r : Reading) →
+    resolved m (reading_of r.place.bytes r.place.tokens (parts_of r)) ≡ resolved m r
 resolved-of_parts m r = refl

@@ -1,13 +1,31 @@
 -- At each place of a token list a phrase is read or refused, since prediction comes to an end: each
 -- phrase that is begun has fewer tokens left than the one around it, or as many and a smaller rank.
-use Rattle.std.proofs.Common.{◌≡◌, ℕ, zero, suc, ◌+◌, ◌-◌, ◌*◌, ◌≤◌, ◌<◌, Bool, true, false, ◌&&◌, ◌||◌, ◌⊎◌, inl, inr, List, [], ◌∷◌, length, Option, Some, None, nat_lt, refl, ap, ◌∙◌, sym, subst, arith, lit≤, lit<, add-one, drop}
+use Rattle.std.proofs.Common.{◌≡◌, ℕ, zero, suc, ◌+◌, ◌-◌, ◌*◌, ◌≤◌, ◌<◌, Bool, true, false, ◌&&◌}
+use Rattle.std.proofs.Common.{◌||◌, ◌⊎◌, inl, inr, List, [], ◌∷◌, length, Option, Some, None}
+use Rattle.std.proofs.Common.{nat_lt, refl, ap, ◌∙◌, sym, subst, arith, lit≤, lit<, add-one, drop}
 use Rattle.std.proofs.lemmas.Bool.{cases_lt}
 use Rattle.std.proofs.lemmas.Bool.Decides.{nat_tests}
 use Rattle.pra_list.proofs.Truths.{or_cases}
 use Rattle.ob_syntax.specs.declared.token.Kind.{Kind}
-use Rattle.ob_syntax.specs.declared.token.Kind.TheVariants.{Ident, KwArray, KwElse, KwElsif, KwIf, KwProcedure, KwRepeat, KwWhile, Period, Comma, Becomes, LeftParen, LeftBracket, Tilde}
-use Rattle.ob_syntax.specs.Grammar.{Nonterminal, Selectors, Selector, Factor, Factors, Term, Terms, Sign, SimpleExpression, Comparison, Expression, ArgumentList, Arguments, ActualParameters, Arm, Elsifs, Arms, Else, Action, Statement, Statements, StatementSequence, Idents, IdentList, NameList, FieldList, FieldLists, FieldSequence, TypeExpression, ByVar, Section, Sections, SectionList, FormalParameters, Procedure, Procedures, Constant, ConstantList, Constants, TypeDeclaration, TypeList, Types, VariableList, Variables, Declarations, Body, Module}
-use Rattle.ob_syntax.specs.Grammar.{Nesting, level, deeper, inner, Symbol, token, phrase, Rule, right, index, parenthesis, negation, arguments, next_argument, next_elsif, otherwise, if_statement, while_statement, repeat_statement, statement, field_list, array, next_constant, next_type, next_variables, next_procedure, assignment, call, no_selectors}
+use Rattle.ob_syntax.specs.declared.token.Kind.TheVariants.{Ident, KwArray, KwElse, KwElsif, KwIf}
+use Rattle.ob_syntax.specs.declared.token.Kind.TheVariants.{KwProcedure, KwRepeat, KwWhile, Period}
+use Rattle.ob_syntax.specs.declared.token.Kind.TheVariants.{Comma, Becomes, LeftParen, LeftBracket}
+use Rattle.ob_syntax.specs.declared.token.Kind.TheVariants.{Tilde}
+use Rattle.ob_syntax.specs.Grammar.{Nonterminal, Selectors, Selector, Factor, Factors, Term, Terms}
+use Rattle.ob_syntax.specs.Grammar.{Sign, SimpleExpression, Comparison, Expression, ArgumentList}
+use Rattle.ob_syntax.specs.Grammar.{Arguments, ActualParameters, Arm, Elsifs, Arms, Else, Action}
+use Rattle.ob_syntax.specs.Grammar.{Statement, Statements, StatementSequence, Idents, IdentList}
+use Rattle.ob_syntax.specs.Grammar.{NameList, FieldList, FieldLists, FieldSequence, TypeExpression}
+use Rattle.ob_syntax.specs.Grammar.{ByVar, Section, Sections, SectionList, FormalParameters}
+use Rattle.ob_syntax.specs.Grammar.{Procedure, Procedures, Constant, ConstantList, Constants}
+use Rattle.ob_syntax.specs.Grammar.{TypeDeclaration, TypeList, Types, VariableList, Variables}
+use Rattle.ob_syntax.specs.Grammar.{Declarations, Body, Module}
+use Rattle.ob_syntax.specs.Grammar.{Nesting, level, deeper, inner, Symbol, token, phrase, Rule}
+use Rattle.ob_syntax.specs.Grammar.{right, index, parenthesis, negation, arguments, next_argument}
+use Rattle.ob_syntax.specs.Grammar.{next_elsif, otherwise, if_statement, while_statement}
+use Rattle.ob_syntax.specs.Grammar.{repeat_statement, statement, field_list, array, next_constant}
+use Rattle.ob_syntax.specs.Grammar.{next_type, next_variables, next_procedure, assignment, call}
+use Rattle.ob_syntax.specs.Grammar.{no_selectors}
 use Rattle.ob_syntax.specs.Forms.{nest}
 use Rattle.ob_syntax.specs.ChosenRule.{first, by_first, behind_name, choose}
 use Rattle.ob_syntax.specs.Tree.{Tree, Values, tree_by}
@@ -19,9 +37,13 @@ use Rattle.ob_parse.specs.declared.cursor.ParseFault.TheVariants.{Grammar, TooDe
 use Rattle.ob_parse.specs.Reading.{left, place, IsNext, IsRead, GoesOn, Fails}
 use Rattle.ob_parse.proofs.KindsLeft.{below, gone}
 use Rattle.ob_parse.proofs.PhrasesAdvance.{no_longer, selector_shorter}
-use Rattle.ob_parse.proofs.PhraseUnderway.{Waits, Chooses, Inside, opened, after_token, after_phrase, as_deep, one_deeper, at_least_one, closed, refused, too_deep, begins_with, begins_inside, token_missing, phrase_fails}
+use Rattle.ob_parse.proofs.PhraseUnderway.{Waits, Chooses, Inside, opened, after_token}
+use Rattle.ob_parse.proofs.PhraseUnderway.{after_phrase, as_deep, one_deeper, at_least_one, closed}
+use Rattle.ob_parse.proofs.PhraseUnderway.{refused, too_deep, begins_with, begins_inside}
+use Rattle.ob_parse.proofs.PhraseUnderway.{token_missing, phrase_fails}
 use Rattle.ob_parse.proofs.AssignmentOrCall.{assigned, called, behind_target, behind_procedure}
-use Rattle.ob_parse.proofs.Choices.{expression_begins, statement_begins, names_begin, constant_begins, type_begins, procedure_begins}
+use Rattle.ob_parse.proofs.Choices.{expression_begins, statement_begins, names_begin}
+use Rattle.ob_parse.proofs.Choices.{constant_begins, type_begins, procedure_begins}
 
 -- ---- ranks
 
@@ -193,7 +215,8 @@ module _ {n : Nonterminal} {ss : List Symbol} {room : ℕ} {old mid : Parser} (s
       stops mid (place mid) (token_missing w low mid (Grammar (place mid)) (refl, refl, other))
 
   phrase_step : {m : Nonterminal} {d : Nesting} {within : ℕ}
-      {wrap : ℕ → Tree m × Values ss → Tree n} → Waits n (phrase d m ∷ ss) room wrap old mid → Inside d within room
+      {wrap : ℕ → Tree m × Values ss → Tree n} → Waits n (phrase d m ∷ ss) room wrap old mid →
+      Inside d within room
       → AreEnough steps (phrase d m ∷ ss) mid
       → ((q : Parser) (t : Tree m) → Waits n ss room (λ j v. wrap j (t, v)) old q
       → AreEnough steps ss q → Outcome n room old)

@@ -6,7 +6,8 @@ use Rattle.ob_syntax.specs.declared.token.Token.{Token}
 use Rattle.ob_syntax.specs.declared.tree.Module.{Module}
 use Rattle.ob_syntax.specs.Tokens.{Fault, FirstFault}
 use Rattle.ob_syntax.specs.Whole.{kinds, StopsAt, DeepensAt}
-use Rattle.ob_syntax.specs.Source.{most_bytes, most_tokens, byte_of, IsScanned, IsParsed, AreTooMany}
+use Rattle.ob_syntax.specs.Source.{most_bytes, most_tokens, byte_of, IsScanned, IsParsed}
+use Rattle.ob_syntax.specs.Source.{AreTooMany}
 use Rattle.ob_syntax.specs.WellFormed.{IsBroken}
 use Rattle.ob_lex.specs.Scanning.{fault_at}
 use Rattle.ob_check.specs.Checking.{IsBeyond}
@@ -15,7 +16,9 @@ use Rattle.ob_read.specs.declared.fault.LimitFault.TheVariants.{Count, Depth}
 use Rattle.ob_read.specs.declared.fault.ReadFault.{ReadFault}
 use Rattle.ob_read.specs.declared.fault.ReadFault.TheVariants.{Source, Limit}
 use Rattle.ob_read.specs.Ladder.{Stops}
-use Rattle.ob_read.specs.Source.{Scanned, HasTokens, HasNoTokens, AreFew, AreOver, HasTree, HasNoTree, HasReading, BreaksRule, HasTooMuch, IsUnparsed, IsUnreadable}
+use Rattle.ob_read.specs.Source.{Scanned, HasTokens, HasNoTokens, AreFew, AreOver, HasTree}
+use Rattle.ob_read.specs.Source.{HasNoTree, HasReading, BreaksRule, HasTooMuch, IsUnparsed}
+use Rattle.ob_read.specs.Source.{IsUnreadable}
 
 -- a source with too many tokens has no tree
 pub too_many : (bytes : List ℕ) (count : ℕ) → AreTooMany bytes count →

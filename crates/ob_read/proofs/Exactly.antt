@@ -10,7 +10,8 @@ use Rattle.ob_read.specs.declared.fault.ReadFault.{ReadFault}
 use Rattle.ob_read.specs.declared.fault.ReadFault.TheVariants.{Source, Limit, OutOfMemory}
 use Rattle.ob_read.specs.declared.reader.Parsed.{Parsed}
 use Rattle.ob_read.specs.Ladder.{IsRung}
-use Rattle.ob_read.specs.Source.{ParsedText, HasText, ReadText, IsRead, IsUnparsed, IsUnreadable, IsErrUnlessMemory}
+use Rattle.ob_read.specs.Source.{ParsedText, HasText, ReadText, IsRead, IsUnparsed, IsUnreadable}
+use Rattle.ob_read.specs.Source.{IsErrUnlessMemory}
 use Rattle.ob_read.proofs.Causes.{unread}
 
 module _ {A B : Type 0} (Climb : A → B → Type 0) (Stop : A → ReadFault → Type 0)

@@ -14,7 +14,9 @@ use Rattle.ob_first.proofs.OneIsTold.{one_told}
 use Rattle.ob_read.specs.declared.fault.SourceFault.TheVariants.{Rule}
 use Rattle.ob_read.specs.declared.fault.ReadFault.TheVariants.{Source}
 use Rattle.ob_read.specs.Ladder.{Stops}
-use Rattle.ob_read.specs.Source.{Scanned, ParsedText, HasTokens, HasNoTokens, AreFew, AreOver, HasTree, HasNoTree, HasReading, BreaksRule, HasTooMuch, IsUnreadable}
+use Rattle.ob_read.specs.Source.{Scanned, ParsedText, HasTokens, HasNoTokens, AreFew, AreOver}
+use Rattle.ob_read.specs.Source.{HasTree, HasNoTree, HasReading, BreaksRule, HasTooMuch}
+use Rattle.ob_read.specs.Source.{IsUnreadable}
 use Rattle.ob_read.specs.FirstRule.{BreaksFirst}
 use Rattle.ob_read.proofs.Causes.{broken}
 

@@ -1,5 +1,6 @@
 -- Each rung of a source is one, and so is the whole ladder.
-use Rattle.std.proofs.Common.{◌≡◌, ◌≢◌, inl, inr, ℕ, List, Ok, Err, Some, None, refl, sym, ap, ◌∙◌, subst, arith}
+use Rattle.std.proofs.Common.{◌≡◌, ◌≢◌, inl, inr, ℕ, List, Ok, Err, Some, None, refl, sym, ap, ◌∙◌}
+use Rattle.std.proofs.Common.{subst, arith}
 use Rattle.std.specs.declared.option.Option.{Option}
 use Rattle.ob_syntax.specs.Grammar.{Module}
 use Rattle.ob_syntax.specs.Whole.{kinds, most_nesting}
@@ -15,7 +16,10 @@ use Rattle.ob_read.specs.declared.fault.LimitFault.TheVariants.{Count, Depth}
 use Rattle.ob_read.specs.declared.fault.ReadFault.{ReadFault}
 use Rattle.ob_read.specs.declared.fault.ReadFault.TheVariants.{Source, Limit, OutOfMemory}
 use Rattle.ob_read.specs.Ladder.{Then, Stops, IsRung}
-use Rattle.ob_read.specs.Source.{IsShort, IsTooLong, Scanned, HasTokens, HasNoTokens, AreFew, AreOver, ParsedText, HasTree, HasNoModule, IsTooDeep, HasNoTree, WellFormedText, HasReading, BreaksRule, ReadText, StandsFor, HasTooMuch, HasText, IsRead, IsUnparsed, IsUnreadable}
+use Rattle.ob_read.specs.Source.{IsShort, IsTooLong, Scanned, HasTokens, HasNoTokens, AreFew}
+use Rattle.ob_read.specs.Source.{AreOver, ParsedText, HasTree, HasNoModule, IsTooDeep, HasNoTree}
+use Rattle.ob_read.specs.Source.{WellFormedText, HasReading, BreaksRule, ReadText, StandsFor}
+use Rattle.ob_read.specs.Source.{HasTooMuch, HasText, IsRead, IsUnparsed, IsUnreadable}
 use Rattle.ob_read.proofs.Rungs.{over, narrowed}
 use Rattle.ob_read.proofs.Fronts.{one_place, no_place, stops_or_deepens}
 

@@ -1,4 +1,5 @@
--- Rungs make rungs: two of them one after the other, with faults told as another type's, and with less
+-- Rungs make rungs: two of them one after the other, with faults told as another type's, and with
+-- less
 -- to climb.
 use Rattle.std.proofs.Common.{◌≡◌, inl, inr, subst, sym, ◌∙◌, ap}
 use Rattle.ob_read.specs.Ladder.{Then, Stops, ToldAs, IsRung}

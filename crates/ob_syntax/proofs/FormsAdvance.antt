@@ -10,4 +10,5 @@ mutual
   pub all_stay : (ss : List Symbol) (i : ℕ) (ps : Parts ss) → i ≤ ends ss i ps
   all_stay _ i done = omega arith
   all_stay _ i (taken k ss ps) = let a = all_stay ss (i + 1) ps in omega arith
-  all_stay _ i (part d m ss f ps) = let a = stays m i f in let b = all_stay ss (end m i f) ps in omega arith
+  all_stay _ i (part d m ss f ps) = let a = stays m i f in let b = all_stay ss (end m i f) ps in
+      omega arith

@@ -1,16 +1,62 @@
--- Every form of the grammar is the one that its tokens choose, where what stands behind it goes on with no part of it:
+-- Every form of the grammar is the one that its tokens choose, where what stands behind it goes on
+-- with no part of it:
 -- the grammar can be read by the next token.
-use Rattle.std.proofs.Common.{◌≡◌, ℕ, suc, ◌≤◌, ◌<◌, max, List, [], ◌∷◌, Some, Bool, true, false, refl, ap, subst, arith, lit≤}
+use Rattle.std.proofs.Common.{◌≡◌, ℕ, suc, ◌≤◌, ◌<◌, max, List, [], ◌∷◌, Some, Bool, true, false}
+use Rattle.std.proofs.Common.{refl, ap, subst, arith, lit≤}
 use Rattle.std.proofs.lemmas.Bool.{ltb-true}
 use Rattle.std.specs.Prelude.{IsTrue, nat_lt, if◌then◌else◌}
 use Rattle.ob_syntax.specs.declared.token.Kind.{Kind}
-use Rattle.ob_syntax.specs.declared.token.Kind.TheVariants.{Ident, Number, KwBegin, KwConst, KwDiv, KwElse, KwElsif, KwIf, KwMod, KwOr, KwProcedure, KwRepeat, KwType, KwVar, KwWhile, Period, Comma, Semicolon, Becomes, LeftParen, LeftBracket, Tilde, Times, Amp, Plus, Minus, Equal, Unequal, Less, LessEqual, Greater, GreaterEqual}
-use Rattle.ob_syntax.specs.Grammar.{MulOp, AddOp, RelationOp, mul_kind, add_kind, relation_kind, Nonterminal, Selectors, Selector, Factor, Factors, Term, Terms, Sign, SimpleExpression, Comparison, Expression, ArgumentList, Arguments, ActualParameters, Arm, Elsifs, Arms, Else, Action, Statement, Statements, StatementSequence, Idents, IdentList, NameList, FieldList, FieldLists, FieldSequence, TypeExpression, ByVar, Section, Sections, SectionList, FormalParameters, Procedure, Procedures, Constant, ConstantList, Constants, TypeDeclaration, TypeList, Types, VariableList, Variables, Declarations, Body, Module, times, quotient, remainder, both, plus, minus, either, equal, unequal, less, less_equal, greater, greater_equal, Symbol, token, phrase, Rule, no_selectors, next_selector, field, index, name, number, parenthesis, negation, no_factors, next_factor, term, no_terms, next_term, no_sign, plus_sign, minus_sign, simple_expression, no_comparison, comparison, expression, no_arguments, arguments, last_argument, next_argument, no_parameters, parameters, arm, no_elsif, next_elsif, arms, no_else, otherwise, assignment, call, if_statement, while_statement, repeat_statement, empty_statement, statement, last_statement, next_statement, statement_sequence, last_ident, next_ident, ident_list, name_list, empty_field_list, field_list, last_field_list, next_field_list, field_sequence, type_name, array, record_type, by_value, by_var, section, last_section, next_section, no_sections, sections, no_formals, formals, procedure, no_procedures, next_procedure, constant, last_constant, next_constant, no_constants, constants, type_declaration, last_type, next_type, no_types, types, last_variables, next_variables, no_variables, variables, declarations, no_body, body, a_module, right}
+use Rattle.ob_syntax.specs.declared.token.Kind.TheVariants.{Ident, Number, KwBegin, KwConst, KwDiv}
+use Rattle.ob_syntax.specs.declared.token.Kind.TheVariants.{KwElse, KwElsif, KwIf, KwMod, KwOr}
+use Rattle.ob_syntax.specs.declared.token.Kind.TheVariants.{KwProcedure, KwRepeat, KwType, KwVar}
+use Rattle.ob_syntax.specs.declared.token.Kind.TheVariants.{KwWhile, Period, Comma, Semicolon}
+use Rattle.ob_syntax.specs.declared.token.Kind.TheVariants.{Becomes, LeftParen, LeftBracket, Tilde}
+use Rattle.ob_syntax.specs.declared.token.Kind.TheVariants.{Times, Amp, Plus, Minus, Equal, Unequal}
+use Rattle.ob_syntax.specs.declared.token.Kind.TheVariants.{Less, LessEqual, Greater, GreaterEqual}
+use Rattle.ob_syntax.specs.Grammar.{MulOp, AddOp, RelationOp, mul_kind, add_kind, relation_kind}
+use Rattle.ob_syntax.specs.Grammar.{Nonterminal, Selectors, Selector, Factor, Factors, Term, Terms}
+use Rattle.ob_syntax.specs.Grammar.{Sign, SimpleExpression, Comparison, Expression, ArgumentList}
+use Rattle.ob_syntax.specs.Grammar.{Arguments, ActualParameters, Arm, Elsifs, Arms, Else, Action}
+use Rattle.ob_syntax.specs.Grammar.{Statement, Statements, StatementSequence, Idents, IdentList}
+use Rattle.ob_syntax.specs.Grammar.{NameList, FieldList, FieldLists, FieldSequence, TypeExpression}
+use Rattle.ob_syntax.specs.Grammar.{ByVar, Section, Sections, SectionList, FormalParameters}
+use Rattle.ob_syntax.specs.Grammar.{Procedure, Procedures, Constant, ConstantList, Constants}
+use Rattle.ob_syntax.specs.Grammar.{TypeDeclaration, TypeList, Types, VariableList, Variables}
+use Rattle.ob_syntax.specs.Grammar.{Declarations, Body, Module, times, quotient, remainder, both}
+use Rattle.ob_syntax.specs.Grammar.{plus, minus, either, equal, unequal, less, less_equal, greater}
+use Rattle.ob_syntax.specs.Grammar.{greater_equal, Symbol, token, phrase, Rule, no_selectors}
+use Rattle.ob_syntax.specs.Grammar.{next_selector, field, index, name, number, parenthesis}
+use Rattle.ob_syntax.specs.Grammar.{negation, no_factors, next_factor, term, no_terms, next_term}
+use Rattle.ob_syntax.specs.Grammar.{no_sign, plus_sign, minus_sign, simple_expression}
+use Rattle.ob_syntax.specs.Grammar.{no_comparison, comparison, expression, no_arguments, arguments}
+use Rattle.ob_syntax.specs.Grammar.{last_argument, next_argument, no_parameters, parameters, arm}
+use Rattle.ob_syntax.specs.Grammar.{no_elsif, next_elsif, arms, no_else, otherwise, assignment}
+use Rattle.ob_syntax.specs.Grammar.{call, if_statement, while_statement, repeat_statement}
+use Rattle.ob_syntax.specs.Grammar.{empty_statement, statement, last_statement, next_statement}
+use Rattle.ob_syntax.specs.Grammar.{statement_sequence, last_ident, next_ident, ident_list}
+use Rattle.ob_syntax.specs.Grammar.{name_list, empty_field_list, field_list, last_field_list}
+use Rattle.ob_syntax.specs.Grammar.{next_field_list, field_sequence, type_name, array, record_type}
+use Rattle.ob_syntax.specs.Grammar.{by_value, by_var, section, last_section, next_section}
+use Rattle.ob_syntax.specs.Grammar.{no_sections, sections, no_formals, formals, procedure}
+use Rattle.ob_syntax.specs.Grammar.{no_procedures, next_procedure, constant, last_constant}
+use Rattle.ob_syntax.specs.Grammar.{next_constant, no_constants, constants, type_declaration}
+use Rattle.ob_syntax.specs.Grammar.{last_type, next_type, no_types, types, last_variables}
+use Rattle.ob_syntax.specs.Grammar.{next_variables, no_variables, variables, declarations, no_body}
+use Rattle.ob_syntax.specs.Grammar.{body, a_module, right}
 use Rattle.ob_syntax.specs.Forms.{Form, Parts, made, done, taken, part, spell, spells}
 use Rattle.ob_syntax.specs.ChosenRule.{first, by_first, behind_name, choose, Ends, Follow}
-use Rattle.ob_syntax.proofs.TokensChoose.{by_value_first, mul_first, no_mul_first, add_first, no_add_first, relation_first, no_relation_first, no_selector, no_sign_at, no_argument_at, not_comma, not_left_paren, not_elsif, not_else, no_statement_at, no_statement_first, no_ident_first, no_list_first, no_field_first, no_section_at, no_section_first, no_formals_first, not_procedure, no_constant_first, not_const, no_type_first, not_type, no_variable_first, not_var, not_begin, no_assignment}
+use Rattle.ob_syntax.proofs.TokensChoose.{by_value_first, mul_first, no_mul_first, add_first}
+use Rattle.ob_syntax.proofs.TokensChoose.{no_add_first, relation_first, no_relation_first}
+use Rattle.ob_syntax.proofs.TokensChoose.{no_selector, no_sign_at, no_argument_at, not_comma}
+use Rattle.ob_syntax.proofs.TokensChoose.{not_left_paren, not_elsif, not_else, no_statement_at}
+use Rattle.ob_syntax.proofs.TokensChoose.{no_statement_first, no_ident_first, no_list_first}
+use Rattle.ob_syntax.proofs.TokensChoose.{no_field_first, no_section_at, no_section_first}
+use Rattle.ob_syntax.proofs.TokensChoose.{no_formals_first, not_procedure, no_constant_first}
+use Rattle.ob_syntax.proofs.TokensChoose.{not_const, no_type_first, not_type, no_variable_first}
+use Rattle.ob_syntax.proofs.TokensChoose.{not_var, not_begin, no_assignment}
 
--- How far out a token goes on with what stands before it: a token goes on only with phrases of at most its level.
+-- How far out a token goes on with what stands before it: a token goes on only with phrases of at
+-- most its level.
 abbrev level : Kind → ℕ
 level Period = 9
 level LeftBracket = 9
@@ -162,7 +208,8 @@ solids [] = false
 solids (token k ∷ ss) = true
 solids (phrase d m ∷ ss) = if solid m then true else solids ss
 
--- What may stand behind m stands behind it. (A name goes on with a list of declarations, and VAR ends it; behind an
+-- What may stand behind m stands behind it. (A name goes on with a list of declarations, and VAR
+-- ends it; behind an
 -- absent VAR it is the other way round, so that no order of levels has both.)
 abbrev followed : Nonterminal → List Symbol → ℕ → Bool
 followed ByVar (phrase d IdentList ∷ ss) b = true
@@ -175,7 +222,9 @@ tight (token k ∷ ss) b = tight ss b
 tight (phrase d m ∷ ss) b = if followed m ss b then tight ss b else false
 
 abbrev fits : (n : Nonterminal) → Rule n → Bool
-fits n r = if nat_lt (reach (right r) 0) (suc (head n)) then (if (if solid n then solids (right r) else true) then tight (right r) (bound n) else false) else false
+fits n r = if nat_lt (reach (right r) 0) (suc (head n)) then
+    (if (if solid n then solids (right r) else true) then tight (right r) (bound n) else false) else
+    false
 
 all_fit : (n : Nonterminal) (r : Rule n) → IsTrue (fits n r)
 all_fit _ no_selectors = refl
@@ -302,18 +351,22 @@ after_more false h x y b le = omega arith
 reach_more : (ss : List Symbol) (b : ℕ) → reach ss b ≤ max (reach ss 0) b
 reach_more [] b = omega arith
 reach_more (token k ∷ ss) b = omega arith
-reach_more (phrase d m ∷ ss) b = after_more (solid m) (head m) (reach ss 0) (reach ss b) b (reach_more ss b)
+reach_more (phrase d m ∷ ss) b = after_more (solid m) (head m) (reach ss 0) (reach ss b) b
+    (reach_more ss b)
 
-after_solid : (s : Bool) (h x y : ℕ) (rest : Bool) → IsTrue (if s then true else rest) → (IsTrue rest → y ≤ x) → after s h y ≤ after s h x
+after_solid : (s : Bool) (h x y : ℕ) (rest : Bool) → IsTrue (if s then true else rest) →
+    (IsTrue rest → y ≤ x) → after s h y ≤ after s h x
 after_solid true h x y rest t le = omega arith
 after_solid false h x y rest t le = let i = le t in omega arith
 
 reach_solid : (ss : List Symbol) (b : ℕ) → IsTrue (solids ss) → reach ss b ≤ reach ss 0
 reach_solid [] b t = absurd (no_truth t)
 reach_solid (token k ∷ ss) b t = omega arith
-reach_solid (phrase d m ∷ ss) b t = after_solid (solid m) (head m) (reach ss 0) (reach ss b) (solids ss) t (reach_solid ss b)
+reach_solid (phrase d m ∷ ss) b t = after_solid (solid m) (head m) (reach ss 0) (reach ss b)
+    (solids ss) t (reach_solid ss b)
 
-rule_after : (s : Bool) (ss : List Symbol) (h b : ℕ) → IsTrue (if s then solids ss else true) → reach ss 0 ≤ h → reach ss b ≤ after s h b
+rule_after : (s : Bool) (ss : List Symbol) (h b : ℕ) → IsTrue (if s then solids ss else true) →
+    reach ss 0 ≤ h → reach ss b ≤ after s h b
 rule_after true ss h b t le = let i = reach_solid ss b t in omega arith
 rule_after false ss h b t le = let i = reach_more ss b in omega arith
 
@@ -332,38 +385,53 @@ rule_tight n r =
     (both_of (if solid n then solids (right r) else true) (tight (right r) (bound n)) f.1).1
 
 mutual
-  starts : (n : Nonterminal) (f : Form n) (b : ℕ) (us : List Kind) → Below b us → Below (after (solid n) (head n) b) (spell n f us)
-  starts n (made _ r ps) b us h = weaker (reach (right r) b) (after (solid n) (head n) b) (spells (right r) ps us) (rule_reach n r b) (all_start (right r) ps b us h)
+  starts : (n : Nonterminal) (f : Form n) (b : ℕ) (us : List Kind) → Below b us →
+      Below (after (solid n) (head n) b) (spell n f us)
+  starts n (made _ r ps) b us h = weaker (reach (right r) b) (after (solid n) (head n) b)
+      (spells (right r) ps us) (rule_reach n r b) (all_start (right r) ps b us h)
 
-  all_start : (ss : List Symbol) (ps : Parts ss) (b : ℕ) (us : List Kind) → Below b us → Below (reach ss b) (spells ss ps us)
+  all_start : (ss : List Symbol) (ps : Parts ss) (b : ℕ) (us : List Kind) → Below b us →
+      Below (reach ss b) (spells ss ps us)
   all_start _ done b us h = h
   all_start _ (taken k ss ps) b us h = one_below (suc (level k)) k (spells ss ps us) (omega arith)
-  all_start _ (part d m ss f ps) b us h = starts m f (reach ss b) (spells ss ps us) (all_start ss ps b us h)
+  all_start _ (part d m ss f ps) b us h = starts m f (reach ss b) (spells ss ps us)
+      (all_start ss ps b us h)
 
 -- ---- what a production begins with
 
-selector_first : (f : Form Selector) (us : List Kind) → by_first Selectors (first (spell Selector f us)) ≡ Some next_selector
+selector_first : (f : Form Selector) (us : List Kind) →
+    by_first Selectors (first (spell Selector f us)) ≡ Some next_selector
 selector_first (made _ field (taken _ _ ps)) us = refl
 selector_first (made _ index (taken _ _ ps)) us = refl
 
-factor_first : (f : Form Factor) (us : List Kind) → (by_first ArgumentList (first (spell Factor f us)) ≡ Some arguments) × (by_first Sign (first (spell Factor f us)) ≡ Some no_sign)
+factor_first : (f : Form Factor) (us : List Kind) →
+    (by_first ArgumentList (first (spell Factor f us)) ≡ Some arguments) ×
+    (by_first Sign (first (spell Factor f us)) ≡ Some no_sign)
 factor_first (made _ name (taken _ _ ps)) us = (refl, refl)
 factor_first (made _ (number n) (taken _ _ ps)) us = (refl, refl)
 factor_first (made _ parenthesis (taken _ _ ps)) us = (refl, refl)
 factor_first (made _ negation (taken _ _ ps)) us = (refl, refl)
 
-term_first : (f : Form Term) (us : List Kind) → (by_first ArgumentList (first (spell Term f us)) ≡ Some arguments) × (by_first Sign (first (spell Term f us)) ≡ Some no_sign)
+term_first : (f : Form Term) (us : List Kind) →
+    (by_first ArgumentList (first (spell Term f us)) ≡ Some arguments) ×
+    (by_first Sign (first (spell Term f us)) ≡ Some no_sign)
 term_first (made _ term (part _ _ ss f ps)) us = factor_first f (spells ss ps us)
 
-simple_first : (f : Form SimpleExpression) (us : List Kind) → by_first ArgumentList (first (spell SimpleExpression f us)) ≡ Some arguments
-simple_first (made _ simple_expression (part _ _ _ (made _ no_sign done) (part _ _ ss t ps))) us = (term_first t (spells ss ps us)).0
-simple_first (made _ simple_expression (part _ _ _ (made _ plus_sign (taken _ _ done)) ps)) us = refl
-simple_first (made _ simple_expression (part _ _ _ (made _ minus_sign (taken _ _ done)) ps)) us = refl
+simple_first : (f : Form SimpleExpression) (us : List Kind) →
+    by_first ArgumentList (first (spell SimpleExpression f us)) ≡ Some arguments
+simple_first (made _ simple_expression (part _ _ _ (made _ no_sign done) (part _ _ ss t ps))) us =
+    (term_first t (spells ss ps us)).0
+simple_first (made _ simple_expression (part _ _ _ (made _ plus_sign (taken _ _ done)) ps)) us =
+    refl
+simple_first (made _ simple_expression (part _ _ _ (made _ minus_sign (taken _ _ done)) ps)) us =
+    refl
 
-expression_first : (f : Form Expression) (us : List Kind) → by_first ArgumentList (first (spell Expression f us)) ≡ Some arguments
+expression_first : (f : Form Expression) (us : List Kind) →
+    by_first ArgumentList (first (spell Expression f us)) ≡ Some arguments
 expression_first (made _ expression (part _ _ ss f ps)) us = simple_first f (spells ss ps us)
 
-action_first : (f : Form Action) (us : List Kind) → by_first Statement (first (spell Action f us)) ≡ Some statement
+action_first : (f : Form Action) (us : List Kind) → by_first Statement (first (spell Action f us)) ≡
+    Some statement
 action_first (made _ assignment (taken _ _ ps)) us = refl
 action_first (made _ call (taken _ _ ps)) us = refl
 action_first (made _ if_statement (taken _ _ ps)) us = refl
@@ -376,26 +444,34 @@ idents_first (made _ ident_list (taken _ _ ps)) us = refl
 names_first : (f : Form NameList) (us : List Kind) → first (spell NameList f us) ≡ Some Ident
 names_first (made _ name_list (part _ _ ss f ps)) us = idents_first f (spells ss ps us)
 
-section_first : (f : Form Section) (us : List Kind) → by_first SectionList (first (spell Section f us)) ≡ Some sections
-section_first (made _ section (part _ _ _ (made _ by_value done) (part _ _ ss f ps))) us = ap (by_first SectionList) (idents_first f (spells ss ps us))
+section_first : (f : Form Section) (us : List Kind) →
+    by_first SectionList (first (spell Section f us)) ≡ Some sections
+section_first (made _ section (part _ _ _ (made _ by_value done) (part _ _ ss f ps))) us =
+    ap (by_first SectionList) (idents_first f (spells ss ps us))
 section_first (made _ section (part _ _ _ (made _ by_var (taken _ _ done)) ps)) us = refl
 
 constant_first : (f : Form Constant) (us : List Kind) → first (spell Constant f us) ≡ Some Ident
 constant_first (made _ constant (taken _ _ ps)) us = refl
 
-type_first : (f : Form TypeDeclaration) (us : List Kind) → first (spell TypeDeclaration f us) ≡ Some Ident
+type_first : (f : Form TypeDeclaration) (us : List Kind) → first (spell TypeDeclaration f us) ≡
+    Some Ident
 type_first (made _ type_declaration (taken _ _ ps)) us = refl
 
-procedure_first : (f : Form Procedure) (us : List Kind) → first (spell Procedure f us) ≡ Some KwProcedure
+procedure_first : (f : Form Procedure) (us : List Kind) → first (spell Procedure f us) ≡
+    Some KwProcedure
 procedure_first (made _ procedure (taken _ _ ps)) us = refl
 
-target_first : (f : Form Selectors) (us : List Kind) → behind_name (first (spell Selectors f (Becomes ∷ us))) ≡ Some assignment
+target_first : (f : Form Selectors) (us : List Kind) →
+    behind_name (first (spell Selectors f (Becomes ∷ us))) ≡ Some assignment
 target_first (made _ no_selectors done) us = refl
 target_first (made _ next_selector (part _ _ _ (made _ field (taken _ _ qs)) ps)) us = refl
 target_first (made _ next_selector (part _ _ _ (made _ index (taken _ _ qs)) ps)) us = refl
 
-parameters_first : (f : Form ActualParameters) (us : List Kind) → Below 4 us → behind_name (first (spell ActualParameters f us)) ≡ Some call
-parameters_first (made _ no_parameters done) us h = no_assignment (first us) (absent h Period (lit≤ tt)) (absent h LeftBracket (lit≤ tt)) (absent h Becomes (lit≤ tt))
+parameters_first : (f : Form ActualParameters) (us : List Kind) → Below 4 us →
+    behind_name (first (spell ActualParameters f us)) ≡ Some call
+parameters_first (made _ no_parameters done) us h =
+    no_assignment (first us) (absent h Period (lit≤ tt)) (absent h LeftBracket (lit≤ tt))
+    (absent h Becomes (lit≤ tt))
 parameters_first (made _ parameters (taken _ _ ps)) us h = refl
 
 mul_level : (op : MulOp) → 8 ≤ level (mul_kind op)
@@ -411,8 +487,10 @@ relation_level equal = lit≤ tt
 relation_level _ = lit≤ tt
 
 -- each production is the one that its tokens choose
-chooses : (n : Nonterminal) (r : Rule n) (ps : Parts (right r)) (ks : List Kind) → Below (bound n) ks → choose n (spells (right r) ps ks) ≡ Some r
-chooses _ no_selectors done ks h = no_selector (first ks) (absent h Period (lit≤ tt)) (absent h LeftBracket (lit≤ tt))
+chooses : (n : Nonterminal) (r : Rule n) (ps : Parts (right r)) (ks : List Kind) →
+    Below (bound n) ks → choose n (spells (right r) ps ks) ≡ Some r
+chooses _ no_selectors done ks h = no_selector (first ks) (absent h Period (lit≤ tt))
+    (absent h LeftBracket (lit≤ tt))
 chooses _ next_selector (part _ _ ss f ps) ks h = selector_first f (spells ss ps ks)
 chooses _ field (taken _ _ ps) ks h = refl
 chooses _ index (taken _ _ ps) ks h = refl
@@ -420,20 +498,25 @@ chooses _ name (taken _ _ ps) ks h = refl
 chooses _ (number n) (taken _ _ ps) ks h = refl
 chooses _ parenthesis (taken _ _ ps) ks h = refl
 chooses _ negation (taken _ _ ps) ks h = refl
-chooses _ no_factors done ks h = no_mul_first (first ks) (λ op. absent h (mul_kind op) (mul_level op))
+chooses _ no_factors done ks h =
+    no_mul_first (first ks) (λ op. absent h (mul_kind op) (mul_level op))
 chooses _ (next_factor op) (taken _ _ ps) ks h = mul_first op
 chooses _ term ps ks h = refl
 chooses _ no_terms done ks h = no_add_first (first ks) (λ op. absent h (add_kind op) (add_level op))
 chooses _ (next_term op) (taken _ _ ps) ks h = add_first op
-chooses _ no_sign done ks h = no_sign_at (first ks) (absent h Plus (lit≤ tt)) (absent h Minus (lit≤ tt))
+chooses _ no_sign done ks h = no_sign_at (first ks) (absent h Plus (lit≤ tt))
+    (absent h Minus (lit≤ tt))
 chooses _ plus_sign (taken _ _ ps) ks h = refl
 chooses _ minus_sign (taken _ _ ps) ks h = refl
 chooses _ simple_expression ps ks h = refl
-chooses _ no_comparison done ks h = no_relation_first (first ks) (λ op. absent h (relation_kind op) (relation_level op))
+chooses _ no_comparison done ks h = no_relation_first (first ks)
+    (λ op. absent h (relation_kind op) (relation_level op))
 chooses _ (comparison op) (taken _ _ ps) ks h = relation_first op
 chooses _ expression ps ks h = refl
 chooses _ no_arguments done ks h =
-    no_argument_at (first ks) (absent h Plus (lit≤ tt)) (absent h Minus (lit≤ tt)) (absent h Ident (lit≤ tt)) (λ n. absent h (Number n) (lit≤ tt)) (absent h LeftParen (lit≤ tt)) (absent h Tilde (lit≤ tt))
+    no_argument_at (first ks) (absent h Plus (lit≤ tt)) (absent h Minus (lit≤ tt))
+    (absent h Ident (lit≤ tt)) (λ n. absent h (Number n) (lit≤ tt))
+    (absent h LeftParen (lit≤ tt)) (absent h Tilde (lit≤ tt))
 chooses _ arguments (part _ _ ss f ps) ks h = expression_first f (spells ss ps ks)
 chooses _ last_argument done ks h = not_comma (first ks) (absent h Comma (lit≤ tt))
 chooses _ next_argument (taken _ _ ps) ks h = refl
@@ -445,12 +528,14 @@ chooses _ next_elsif (taken _ _ ps) ks h = refl
 chooses _ arms ps ks h = refl
 chooses _ no_else done ks h = not_else (first ks) (absent h KwElse (lit≤ tt))
 chooses _ otherwise (taken _ _ ps) ks h = refl
-chooses _ assignment (taken _ _ (part _ _ _ f (taken _ ss ps))) ks h = target_first f (spells ss ps ks)
+chooses _ assignment (taken _ _ (part _ _ _ f (taken _ ss ps))) ks h =
+    target_first f (spells ss ps ks)
 chooses _ call (taken _ _ (part _ _ _ f done)) ks h = parameters_first f ks h
 chooses _ if_statement (taken _ _ ps) ks h = refl
 chooses _ while_statement (taken _ _ ps) ks h = refl
 chooses _ repeat_statement (taken _ _ ps) ks h = refl
-chooses _ empty_statement done ks h = no_statement_at (first ks) (absent h Ident (lit≤ tt)) (absent h KwIf (lit≤ tt)) (absent h KwWhile (lit≤ tt)) (absent h KwRepeat (lit≤ tt))
+chooses _ empty_statement done ks h = no_statement_at (first ks) (absent h Ident (lit≤ tt))
+    (absent h KwIf (lit≤ tt)) (absent h KwWhile (lit≤ tt)) (absent h KwRepeat (lit≤ tt))
 chooses _ statement (part _ _ ss f ps) ks h = action_first f (spells ss ps ks)
 chooses _ last_statement done ks h = no_statement_first (first ks) (absent h Semicolon (lit≤ tt))
 chooses _ next_statement (taken _ _ ps) ks h = refl
@@ -460,7 +545,8 @@ chooses _ next_ident (taken _ _ ps) ks h = refl
 chooses _ ident_list ps ks h = refl
 chooses _ name_list ps ks h = refl
 chooses _ empty_field_list done ks h = no_list_first (first ks) (absent h Ident (lit≤ tt))
-chooses _ field_list (part _ _ ss f ps) ks h = ap (by_first FieldList) (names_first f (spells ss ps ks))
+chooses _ field_list (part _ _ ss f ps) ks h =
+    ap (by_first FieldList) (names_first f (spells ss ps ks))
 chooses _ last_field_list done ks h = no_field_first (first ks) (absent h Semicolon (lit≤ tt))
 chooses _ next_field_list (taken _ _ ps) ks h = refl
 chooses _ field_sequence ps ks h = refl
@@ -472,25 +558,30 @@ chooses _ by_var (taken _ _ ps) ks h = refl
 chooses _ section ps ks h = refl
 chooses _ last_section done ks h = no_section_first (first ks) (absent h Semicolon (lit≤ tt))
 chooses _ next_section (taken _ _ ps) ks h = refl
-chooses _ no_sections done ks h = no_section_at (first ks) (absent h KwVar (lit≤ tt)) (absent h Ident (lit≤ tt))
+chooses _ no_sections done ks h = no_section_at (first ks) (absent h KwVar (lit≤ tt))
+    (absent h Ident (lit≤ tt))
 chooses _ sections (part _ _ ss f ps) ks h = section_first f (spells ss ps ks)
 chooses _ no_formals done ks h = no_formals_first (first ks) (absent h LeftParen (lit≤ tt))
 chooses _ formals (taken _ _ ps) ks h = refl
 chooses _ procedure ps ks h = refl
 chooses _ no_procedures done ks h = not_procedure (first ks) (absent h KwProcedure (lit≤ tt))
-chooses _ next_procedure (part _ _ ss f ps) ks h = ap (by_first Procedures) (procedure_first f (spells ss ps ks))
+chooses _ next_procedure (part _ _ ss f ps) ks h =
+    ap (by_first Procedures) (procedure_first f (spells ss ps ks))
 chooses _ constant ps ks h = refl
 chooses _ last_constant done ks h = no_constant_first (first ks) (absent h Ident (lit≤ tt))
-chooses _ next_constant (part _ _ ss f ps) ks h = ap (by_first ConstantList) (constant_first f (spells ss ps ks))
+chooses _ next_constant (part _ _ ss f ps) ks h =
+    ap (by_first ConstantList) (constant_first f (spells ss ps ks))
 chooses _ no_constants done ks h = not_const (first ks) (absent h KwConst (lit≤ tt))
 chooses _ constants (taken _ _ ps) ks h = refl
 chooses _ type_declaration ps ks h = refl
 chooses _ last_type done ks h = no_type_first (first ks) (absent h Ident (lit≤ tt))
-chooses _ next_type (part _ _ ss f ps) ks h = ap (by_first TypeList) (type_first f (spells ss ps ks))
+chooses _ next_type (part _ _ ss f ps) ks h =
+    ap (by_first TypeList) (type_first f (spells ss ps ks))
 chooses _ no_types done ks h = not_type (first ks) (absent h KwType (lit≤ tt))
 chooses _ types (taken _ _ ps) ks h = refl
 chooses _ last_variables done ks h = no_variable_first (first ks) (absent h Ident (lit≤ tt))
-chooses _ next_variables (part _ _ ss f ps) ks h = ap (by_first VariableList) (names_first f (spells ss ps ks))
+chooses _ next_variables (part _ _ ss f ps) ks h =
+    ap (by_first VariableList) (names_first f (spells ss ps ks))
 chooses _ no_variables done ks h = not_var (first ks) (absent h KwVar (lit≤ tt))
 chooses _ variables (taken _ _ ps) ks h = refl
 chooses _ declarations ps ks h = refl
@@ -498,21 +589,32 @@ chooses _ no_body done ks h = not_begin (first ks) (absent h KwBegin (lit≤ tt)
 chooses _ body (taken _ _ ps) ks h = refl
 chooses _ a_module ps ks h = refl
 
-by_value_ends : (f : Form ByVar) (g : Form IdentList) (us : List Kind) → Ends ByVar f (spell IdentList g us)
+by_value_ends : (f : Form ByVar) (g : Form IdentList) (us : List Kind) →
+    Ends ByVar f (spell IdentList g us)
 by_value_ends (made _ by_value done) g us = (ap (by_first ByVar) (idents_first g us), tt)
 by_value_ends (made _ by_var (taken _ _ done)) g us = (refl, tt)
 
 mutual
   settles : (n : Nonterminal) (f : Form n) (ks : List Kind) → Below (bound n) ks → Ends n f ks
-  settles n (made _ r ps) ks h = (chooses n r ps ks h, all_settle (right r) (bound n) (rule_tight n r) ps ks h)
+  settles n (made _ r ps) ks h =
+      (chooses n r ps ks h, all_settle (right r) (bound n) (rule_tight n r) ps ks h)
 
-  all_settle : (ss : List Symbol) (b : ℕ) → IsTrue (tight ss b) → (ps : Parts ss) (ks : List Kind) → Below b ks → Follow ss ps ks
+  all_settle : (ss : List Symbol) (b : ℕ) → IsTrue (tight ss b) → (ps : Parts ss) (ks : List Kind) →
+      Below b ks → Follow ss ps ks
   all_settle _ b t done ks h = tt
   all_settle _ b t (taken k ss ps) ks h = all_settle ss b t ps ks h
-  all_settle _ b t (part d ByVar _ f (part d' IdentList ss g ps)) ks h = (by_value_ends f g (spells ss ps ks), all_settle (phrase d' IdentList ∷ ss) b t (part d' IdentList ss g ps) ks h)
+  all_settle _ b t (part d ByVar _ f (part d' IdentList ss g ps)) ks h = (
+    by_value_ends f g (spells ss ps ks),
+    all_settle (phrase d' IdentList ∷ ss) b t
+        (part d' IdentList ss g ps) ks h,
+  )
   all_settle _ b t (part d m ss f ps) ks h =
-      let u = both_of (nat_lt (reach ss b) (suc (bound m))) (tight ss b) t in
-      (settles m f (spells ss ps ks) (weaker (reach ss b) (bound m) (spells ss ps ks) (below_of (reach ss b) (bound m) u.0) (all_start ss ps b ks h)), all_settle ss b u.1 ps ks h)
+      let u = both_of (nat_lt (reach ss b) (suc (bound m))) (tight ss b) t in (
+        settles m f (spells ss ps ks)
+            (weaker (reach ss b) (bound m) (spells ss ps ks) (below_of (reach ss b) (bound m) u.0)
+            (all_start ss ps b ks h)),
+        all_settle ss b u.1 ps ks h,
+      )
 
 -- where nothing stands behind it
 pub settled : (n : Nonterminal) (f : Form n) → Ends n f []

@@ -1,30 +1,41 @@
--- The numbers of tokens in a tree that tokens derive: each phrase's lie in the phrase around it, and a name is that of
+-- The numbers of tokens in a tree that tokens derive: each phrase's lie in the phrase around it,
+-- and a name is that of
 -- an identifier.
-use Rattle.std.proofs.Common.{◌≡◌, ℕ, ℤ, zero, suc, ◌+◌, ◌-◌, ◌≤◌, List, [], ◌∷◌, ◌++◌, length, map, drop, Option, Some, None, refl, ap, sym, ◌∙◌, subst, arith, add-one, length-append}
+use Rattle.std.proofs.Common.{◌≡◌, ℕ, ℤ, zero, suc, ◌+◌, ◌-◌, ◌≤◌, List, [], ◌∷◌, ◌++◌, length, map}
+use Rattle.std.proofs.Common.{drop, Option, Some, None, refl, ap, sym, ◌∙◌, subst, arith, add-one}
+use Rattle.std.proofs.Common.{length-append}
 use Rattle.std.specs.Prelude.{option_to_list, option_map, slice_get}
 use Rattle.std.specs.List.{AllByRecursion as Each}
 use Rattle.ob_syntax.specs.declared.token.Kind.{Kind}
 use Rattle.ob_syntax.specs.declared.tree.Arm.{Arm as ArmTree, roll-Arm, fold-roll-Arm}
 use Rattle.ob_syntax.specs.declared.tree.ConstDecl.{ConstDecl}
 use Rattle.ob_syntax.specs.declared.tree.Decls.{Decls, roll-Decls, fold-roll-Decls}
-use Rattle.ob_syntax.specs.declared.tree.Designator.{Designator, roll-Designator, fold-roll-Designator}
+use Rattle.ob_syntax.specs.declared.tree.Designator.{Designator, roll-Designator}
+use Rattle.ob_syntax.specs.declared.tree.Designator.{fold-roll-Designator}
 use Rattle.ob_syntax.specs.declared.tree.Expr.{Expr, roll-Expr, fold-roll-Expr}
-use Rattle.ob_syntax.specs.declared.tree.Factor.{Factor as FactorTree, roll-Factor, fold-roll-Factor, out-Factor, fold_out-Factor}
+use Rattle.ob_syntax.specs.declared.tree.Factor.{Factor as FactorTree, roll-Factor}
+use Rattle.ob_syntax.specs.declared.tree.Factor.{fold-roll-Factor, out-Factor, fold_out-Factor}
 use Rattle.ob_syntax.specs.declared.tree.FactorForm.{FactorForm-F, fold-roll-FactorForm}
 use Rattle.ob_syntax.specs.declared.tree.Module.{Module as ModuleTree}
-use Rattle.ob_syntax.specs.declared.tree.NameList.{NameList as Names, roll-NameList, fold-roll-NameList}
-use Rattle.ob_syntax.specs.declared.tree.NextFactor.{NextFactor, roll-NextFactor, fold-roll-NextFactor}
+use Rattle.ob_syntax.specs.declared.tree.NameList.{NameList as Names, roll-NameList}
+use Rattle.ob_syntax.specs.declared.tree.NameList.{fold-roll-NameList}
+use Rattle.ob_syntax.specs.declared.tree.NextFactor.{NextFactor, roll-NextFactor}
+use Rattle.ob_syntax.specs.declared.tree.NextFactor.{fold-roll-NextFactor}
 use Rattle.ob_syntax.specs.declared.tree.NextTerm.{NextTerm, roll-NextTerm, fold-roll-NextTerm}
 use Rattle.ob_syntax.specs.declared.tree.Proc.{Proc, roll-Proc, fold-roll-Proc}
 use Rattle.ob_syntax.specs.declared.tree.Relation.{Relation, roll-Relation, fold-roll-Relation}
 use Rattle.ob_syntax.specs.declared.tree.Section.{Section as SectionTree}
-use Rattle.ob_syntax.specs.declared.tree.Selector.{Selector as SelectorTree, roll-Selector, fold-roll-Selector}
+use Rattle.ob_syntax.specs.declared.tree.Selector.{Selector as SelectorTree, roll-Selector}
+use Rattle.ob_syntax.specs.declared.tree.Selector.{fold-roll-Selector}
 use Rattle.ob_syntax.specs.declared.tree.SelectorForm.{SelectorForm-F, fold-roll-SelectorForm}
-use Rattle.ob_syntax.specs.declared.tree.SimpleExpr.{SimpleExpr, roll-SimpleExpr, fold-roll-SimpleExpr, out-SimpleExpr, fold_out-SimpleExpr}
+use Rattle.ob_syntax.specs.declared.tree.SimpleExpr.{SimpleExpr, roll-SimpleExpr}
+use Rattle.ob_syntax.specs.declared.tree.SimpleExpr.{fold-roll-SimpleExpr, out-SimpleExpr}
+use Rattle.ob_syntax.specs.declared.tree.SimpleExpr.{fold_out-SimpleExpr}
 use Rattle.ob_syntax.specs.declared.tree.Span.{Span}
 use Rattle.ob_syntax.specs.declared.tree.Stmt.{Stmt, roll-Stmt, fold-roll-Stmt}
 use Rattle.ob_syntax.specs.declared.tree.StmtForm.{StmtForm-F, fold-roll-StmtForm}
-use Rattle.ob_syntax.specs.declared.tree.Term.{Term as TermTree, roll-Term, fold-roll-Term, out-Term, fold_out-Term}
+use Rattle.ob_syntax.specs.declared.tree.Term.{Term as TermTree, roll-Term, fold-roll-Term}
+use Rattle.ob_syntax.specs.declared.tree.Term.{out-Term, fold_out-Term}
 use Rattle.ob_syntax.specs.declared.tree.TypeDecl.{TypeDecl}
 use Rattle.ob_syntax.specs.declared.tree.TypeExpr.{TypeExpr, roll-TypeExpr, fold-roll-TypeExpr}
 use Rattle.ob_syntax.specs.declared.tree.TypeForm.{TypeForm-F, fold-roll-TypeForm}
@@ -32,90 +43,272 @@ use Rattle.ob_syntax.specs.declared.tree.FactorForm.TheVariants as factor
 use Rattle.ob_syntax.specs.declared.tree.SelectorForm.TheVariants as selector
 use Rattle.ob_syntax.specs.declared.tree.StmtForm.TheVariants as form
 use Rattle.ob_syntax.specs.declared.tree.TypeForm.TheVariants as shape
-use Rattle.ob_syntax.specs.Grammar.{Nonterminal, Selectors, Selector, Factor, Factors, Term, Terms, Sign, SimpleExpression, Comparison, Expression, ArgumentList, Arguments, ActualParameters, Arm, Elsifs, Arms, Else, Action, Statement, Statements, StatementSequence, Idents, IdentList, NameList, FieldList, FieldLists, FieldSequence, TypeExpression, ByVar, Section, Sections, SectionList, FormalParameters, Procedure, Procedures, Constant, ConstantList, Constants, TypeDeclaration, TypeList, Types, VariableList, Variables, Declarations, Body, Module, Symbol, token, phrase, Rule, no_selectors, next_selector, field, index, name, number, parenthesis, negation, no_factors, next_factor, term, no_terms, next_term, no_sign, plus_sign, minus_sign, simple_expression, no_comparison, comparison, expression, no_arguments, arguments, last_argument, next_argument, no_parameters, parameters, arm, no_elsif, next_elsif, arms, no_else, otherwise, assignment, call, if_statement, while_statement, repeat_statement, empty_statement, statement, last_statement, next_statement, statement_sequence, last_ident, next_ident, ident_list, name_list, empty_field_list, field_list, last_field_list, next_field_list, field_sequence, type_name, array, record_type, by_value, by_var, section, last_section, next_section, no_sections, sections, no_formals, formals, procedure, no_procedures, next_procedure, constant, last_constant, next_constant, no_constants, constants, type_declaration, last_type, next_type, no_types, types, last_variables, next_variables, no_variables, variables, declarations, no_body, body, a_module, right}
+use Rattle.ob_syntax.specs.Grammar.{Nonterminal, Selectors, Selector, Factor, Factors, Term, Terms}
+use Rattle.ob_syntax.specs.Grammar.{Sign, SimpleExpression, Comparison, Expression, ArgumentList}
+use Rattle.ob_syntax.specs.Grammar.{Arguments, ActualParameters, Arm, Elsifs, Arms, Else, Action}
+use Rattle.ob_syntax.specs.Grammar.{Statement, Statements, StatementSequence, Idents, IdentList}
+use Rattle.ob_syntax.specs.Grammar.{NameList, FieldList, FieldLists, FieldSequence, TypeExpression}
+use Rattle.ob_syntax.specs.Grammar.{ByVar, Section, Sections, SectionList, FormalParameters}
+use Rattle.ob_syntax.specs.Grammar.{Procedure, Procedures, Constant, ConstantList, Constants}
+use Rattle.ob_syntax.specs.Grammar.{TypeDeclaration, TypeList, Types, VariableList, Variables}
+use Rattle.ob_syntax.specs.Grammar.{Declarations, Body, Module, Symbol, token, phrase, Rule}
+use Rattle.ob_syntax.specs.Grammar.{no_selectors, next_selector, field, index, name, number}
+use Rattle.ob_syntax.specs.Grammar.{parenthesis, negation, no_factors, next_factor, term, no_terms}
+use Rattle.ob_syntax.specs.Grammar.{next_term, no_sign, plus_sign, minus_sign, simple_expression}
+use Rattle.ob_syntax.specs.Grammar.{no_comparison, comparison, expression, no_arguments, arguments}
+use Rattle.ob_syntax.specs.Grammar.{last_argument, next_argument, no_parameters, parameters, arm}
+use Rattle.ob_syntax.specs.Grammar.{no_elsif, next_elsif, arms, no_else, otherwise, assignment}
+use Rattle.ob_syntax.specs.Grammar.{call, if_statement, while_statement, repeat_statement}
+use Rattle.ob_syntax.specs.Grammar.{empty_statement, statement, last_statement, next_statement}
+use Rattle.ob_syntax.specs.Grammar.{statement_sequence, last_ident, next_ident, ident_list}
+use Rattle.ob_syntax.specs.Grammar.{name_list, empty_field_list, field_list, last_field_list}
+use Rattle.ob_syntax.specs.Grammar.{next_field_list, field_sequence, type_name, array, record_type}
+use Rattle.ob_syntax.specs.Grammar.{by_value, by_var, section, last_section, next_section}
+use Rattle.ob_syntax.specs.Grammar.{no_sections, sections, no_formals, formals, procedure}
+use Rattle.ob_syntax.specs.Grammar.{no_procedures, next_procedure, constant, last_constant}
+use Rattle.ob_syntax.specs.Grammar.{next_constant, no_constants, constants, type_declaration}
+use Rattle.ob_syntax.specs.Grammar.{last_type, next_type, no_types, types, last_variables}
+use Rattle.ob_syntax.specs.Grammar.{next_variables, no_variables, variables, declarations, no_body}
+use Rattle.ob_syntax.specs.Grammar.{body, a_module, right}
 use Rattle.ob_syntax.specs.Forms.{Form, Parts, made, done, taken, part, spell, spells, end, ends}
 use Rattle.ob_syntax.specs.Tree.{Tree, Values, tree, values, tree_by, span_to}
 use Rattle.ob_syntax.specs.Derives.{text, texts, Derives}
 use Rattle.ob_syntax.proofs.FormTokens.{spell_whole}
 use Rattle.ob_syntax.proofs.FormsAdvance.{stays, all_stay}
-use Rattle.ob_syntax.specs.Numbers.{Mark, Marks, none, both, all, maybe, named, spanned, factor_form_marks, in_factor_form, selector_form_marks, in_selector_form, designator_marks, in_designator, expression_marks, in_expression, factor_marks, in_factor, next_factor_marks, in_next_factor, next_term_marks, in_next_term, relation_marks, in_relation, selector_marks, in_selector, simple_expression_marks, in_simple_expression, term_marks, in_term, type_form_marks, in_type_form, name_list_marks, in_name_list, type_expression_marks, in_type_expression, statement_form_marks, in_statement_form, arm_marks, in_arm, statement_marks, in_statement, declarations_marks, in_declarations, procedure_marks, in_procedure, in_constant, in_type, in_section, in_module, IsMark, IsNumbered}
+use Rattle.ob_syntax.specs.Numbers.{Mark, Marks, none, both, all, maybe, named, spanned}
+use Rattle.ob_syntax.specs.Numbers.{factor_form_marks, in_factor_form, selector_form_marks}
+use Rattle.ob_syntax.specs.Numbers.{in_selector_form, designator_marks, in_designator}
+use Rattle.ob_syntax.specs.Numbers.{expression_marks, in_expression, factor_marks, in_factor}
+use Rattle.ob_syntax.specs.Numbers.{next_factor_marks, in_next_factor, next_term_marks}
+use Rattle.ob_syntax.specs.Numbers.{in_next_term, relation_marks, in_relation, selector_marks}
+use Rattle.ob_syntax.specs.Numbers.{in_selector, simple_expression_marks, in_simple_expression}
+use Rattle.ob_syntax.specs.Numbers.{term_marks, in_term, type_form_marks, in_type_form}
+use Rattle.ob_syntax.specs.Numbers.{name_list_marks, in_name_list, type_expression_marks}
+use Rattle.ob_syntax.specs.Numbers.{in_type_expression, statement_form_marks, in_statement_form}
+use Rattle.ob_syntax.specs.Numbers.{arm_marks, in_arm, statement_marks, in_statement}
+use Rattle.ob_syntax.specs.Numbers.{declarations_marks, in_declarations, procedure_marks}
+use Rattle.ob_syntax.specs.Numbers.{in_procedure, in_constant, in_type, in_section, in_module}
+use Rattle.ob_syntax.specs.Numbers.{IsMark, IsNumbered}
 
 -- ---- the marks of a tree, by its parts
 
-marks-Field : (s : Span) (k : ℕ) → in_selector (roll-Selector (record { span = s; form = selector.Field k })) ≡ spanned s (named k)
-marks-Field s k = fold-roll-Selector Marks Marks Marks Marks Marks Marks Marks Marks Marks Marks Marks factor_form_marks selector_form_marks designator_marks expression_marks factor_marks next_factor_marks next_term_marks relation_marks selector_marks simple_expression_marks term_marks _ ∙ ap (spanned s) (ap in_selector_form (sym (selector.rolls-Field k)) ∙ fold-roll-SelectorForm Marks Marks Marks Marks Marks Marks Marks Marks Marks Marks Marks factor_form_marks selector_form_marks designator_marks expression_marks factor_marks next_factor_marks next_term_marks relation_marks selector_marks simple_expression_marks term_marks (SelectorForm-F.Field k))
+marks-Field : (s : Span) (k : ℕ) →
+    in_selector (roll-Selector (record { span = s; form = selector.Field k })) ≡ spanned s (named k)
+marks-Field s k = fold-roll-Selector Marks Marks Marks Marks Marks Marks Marks Marks Marks Marks
+    Marks factor_form_marks selector_form_marks designator_marks expression_marks factor_marks
+    next_factor_marks next_term_marks relation_marks selector_marks simple_expression_marks
+    term_marks _ ∙ ap (spanned s)
+    (ap in_selector_form (sym (selector.rolls-Field k)) ∙ fold-roll-SelectorForm Marks Marks Marks
+    Marks Marks Marks Marks Marks Marks Marks Marks factor_form_marks selector_form_marks
+    designator_marks expression_marks factor_marks next_factor_marks next_term_marks relation_marks
+    selector_marks simple_expression_marks term_marks (SelectorForm-F.Field k))
 
-marks-Index : (s : Span) (e : Expr) → in_selector (roll-Selector (record { span = s; form = selector.Index e })) ≡ spanned s (in_expression e)
-marks-Index s e = fold-roll-Selector Marks Marks Marks Marks Marks Marks Marks Marks Marks Marks Marks factor_form_marks selector_form_marks designator_marks expression_marks factor_marks next_factor_marks next_term_marks relation_marks selector_marks simple_expression_marks term_marks _ ∙ ap (spanned s) (ap in_selector_form (sym (selector.rolls-Index e)) ∙ fold-roll-SelectorForm Marks Marks Marks Marks Marks Marks Marks Marks Marks Marks Marks factor_form_marks selector_form_marks designator_marks expression_marks factor_marks next_factor_marks next_term_marks relation_marks selector_marks simple_expression_marks term_marks (SelectorForm-F.Index e))
+marks-Index : (s : Span) (e : Expr) →
+    in_selector (roll-Selector (record { span = s; form = selector.Index e })) ≡
+    spanned s (in_expression e)
+marks-Index s e = fold-roll-Selector Marks Marks Marks Marks Marks Marks Marks Marks Marks Marks
+    Marks factor_form_marks selector_form_marks designator_marks expression_marks factor_marks
+    next_factor_marks next_term_marks relation_marks selector_marks simple_expression_marks
+    term_marks _ ∙ ap (spanned s)
+    (ap in_selector_form (sym (selector.rolls-Index e)) ∙ fold-roll-SelectorForm Marks Marks Marks
+    Marks Marks Marks Marks Marks Marks Marks Marks factor_form_marks selector_form_marks
+    designator_marks expression_marks factor_marks next_factor_marks next_term_marks relation_marks
+    selector_marks simple_expression_marks term_marks (SelectorForm-F.Index e))
 
-marks-Designator : (s : Span) (k : ℕ) (xs : List SelectorTree) → in_designator (roll-Designator (record { span = s; name = k; selectors = xs })) ≡ spanned s (both (named k) (all (map in_selector xs)))
-marks-Designator s k xs = fold-roll-Designator Marks Marks Marks Marks Marks Marks Marks Marks Marks Marks Marks factor_form_marks selector_form_marks designator_marks expression_marks factor_marks next_factor_marks next_term_marks relation_marks selector_marks simple_expression_marks term_marks _
+marks-Designator : (s : Span) (k : ℕ) (xs : List SelectorTree) →
+    in_designator (roll-Designator (record { span = s; name = k; selectors = xs })) ≡
+    spanned s (both (named k) (all (map in_selector xs)))
+marks-Designator s k xs = fold-roll-Designator Marks Marks Marks Marks Marks Marks Marks Marks Marks
+    Marks Marks factor_form_marks selector_form_marks designator_marks expression_marks factor_marks
+    next_factor_marks next_term_marks relation_marks selector_marks simple_expression_marks
+    term_marks _
 
-marks-Name : (s : Span) (d : Designator) → in_factor (roll-Factor (record { span = s; form = factor.Name d })) ≡ spanned s (in_designator d)
-marks-Name s d = fold-roll-Factor Marks Marks Marks Marks Marks Marks Marks Marks Marks Marks Marks factor_form_marks selector_form_marks designator_marks expression_marks factor_marks next_factor_marks next_term_marks relation_marks selector_marks simple_expression_marks term_marks _ ∙ ap (spanned s) (ap in_factor_form (sym (factor.rolls-Name d)) ∙ fold-roll-FactorForm Marks Marks Marks Marks Marks Marks Marks Marks Marks Marks Marks factor_form_marks selector_form_marks designator_marks expression_marks factor_marks next_factor_marks next_term_marks relation_marks selector_marks simple_expression_marks term_marks (FactorForm-F.Name d))
+marks-Name : (s : Span) (d : Designator) →
+    in_factor (roll-Factor (record { span = s; form = factor.Name d })) ≡
+    spanned s (in_designator d)
+marks-Name s d = fold-roll-Factor Marks Marks Marks Marks Marks Marks Marks Marks Marks Marks Marks
+    factor_form_marks selector_form_marks designator_marks expression_marks factor_marks
+    next_factor_marks next_term_marks relation_marks selector_marks simple_expression_marks
+    term_marks _ ∙ ap (spanned s)
+    (ap in_factor_form (sym (factor.rolls-Name d)) ∙ fold-roll-FactorForm Marks Marks Marks Marks
+    Marks Marks Marks Marks Marks Marks Marks factor_form_marks selector_form_marks designator_marks
+    expression_marks factor_marks next_factor_marks next_term_marks relation_marks selector_marks
+    simple_expression_marks term_marks (FactorForm-F.Name d))
 
-marks-Number : (s : Span) (n : ℤ) → in_factor (roll-Factor (record { span = s; form = factor.Number n })) ≡ spanned s (none)
-marks-Number s n = fold-roll-Factor Marks Marks Marks Marks Marks Marks Marks Marks Marks Marks Marks factor_form_marks selector_form_marks designator_marks expression_marks factor_marks next_factor_marks next_term_marks relation_marks selector_marks simple_expression_marks term_marks _ ∙ ap (spanned s) (ap in_factor_form (sym (factor.rolls-Number n)) ∙ fold-roll-FactorForm Marks Marks Marks Marks Marks Marks Marks Marks Marks Marks Marks factor_form_marks selector_form_marks designator_marks expression_marks factor_marks next_factor_marks next_term_marks relation_marks selector_marks simple_expression_marks term_marks (FactorForm-F.Number n))
+marks-Number : (s : Span) (n : ℤ) →
+    in_factor (roll-Factor (record { span = s; form = factor.Number n })) ≡ spanned s (none)
+marks-Number s n = fold-roll-Factor Marks Marks Marks Marks Marks Marks Marks Marks Marks Marks
+    Marks factor_form_marks selector_form_marks designator_marks expression_marks factor_marks
+    next_factor_marks next_term_marks relation_marks selector_marks simple_expression_marks
+    term_marks _ ∙ ap (spanned s)
+    (ap in_factor_form (sym (factor.rolls-Number n)) ∙ fold-roll-FactorForm Marks Marks Marks Marks
+    Marks Marks Marks Marks Marks Marks Marks factor_form_marks selector_form_marks designator_marks
+    expression_marks factor_marks next_factor_marks next_term_marks relation_marks selector_marks
+    simple_expression_marks term_marks (FactorForm-F.Number n))
 
-marks-Paren : (s : Span) (e : Expr) → in_factor (roll-Factor (record { span = s; form = factor.Paren e })) ≡ spanned s (in_expression e)
-marks-Paren s e = fold-roll-Factor Marks Marks Marks Marks Marks Marks Marks Marks Marks Marks Marks factor_form_marks selector_form_marks designator_marks expression_marks factor_marks next_factor_marks next_term_marks relation_marks selector_marks simple_expression_marks term_marks _ ∙ ap (spanned s) (ap in_factor_form (sym (factor.rolls-Paren e)) ∙ fold-roll-FactorForm Marks Marks Marks Marks Marks Marks Marks Marks Marks Marks Marks factor_form_marks selector_form_marks designator_marks expression_marks factor_marks next_factor_marks next_term_marks relation_marks selector_marks simple_expression_marks term_marks (FactorForm-F.Paren e))
+marks-Paren : (s : Span) (e : Expr) →
+    in_factor (roll-Factor (record { span = s; form = factor.Paren e })) ≡
+    spanned s (in_expression e)
+marks-Paren s e = fold-roll-Factor Marks Marks Marks Marks Marks Marks Marks Marks Marks Marks Marks
+    factor_form_marks selector_form_marks designator_marks expression_marks factor_marks
+    next_factor_marks next_term_marks relation_marks selector_marks simple_expression_marks
+    term_marks _ ∙ ap (spanned s)
+    (ap in_factor_form (sym (factor.rolls-Paren e)) ∙ fold-roll-FactorForm Marks Marks Marks Marks
+    Marks Marks Marks Marks Marks Marks Marks factor_form_marks selector_form_marks designator_marks
+    expression_marks factor_marks next_factor_marks next_term_marks relation_marks selector_marks
+    simple_expression_marks term_marks (FactorForm-F.Paren e))
 
-marks-Not : (s : Span) (f : FactorTree) → in_factor (roll-Factor (record { span = s; form = factor.Not f })) ≡ spanned s (in_factor f)
-marks-Not s f = fold-roll-Factor Marks Marks Marks Marks Marks Marks Marks Marks Marks Marks Marks factor_form_marks selector_form_marks designator_marks expression_marks factor_marks next_factor_marks next_term_marks relation_marks selector_marks simple_expression_marks term_marks _ ∙ ap (spanned s) (ap in_factor_form (sym (factor.rolls-Not f)) ∙ fold-roll-FactorForm Marks Marks Marks Marks Marks Marks Marks Marks Marks Marks Marks factor_form_marks selector_form_marks designator_marks expression_marks factor_marks next_factor_marks next_term_marks relation_marks selector_marks simple_expression_marks term_marks (FactorForm-F.Not f))
+marks-Not : (s : Span) (f : FactorTree) →
+    in_factor (roll-Factor (record { span = s; form = factor.Not f })) ≡ spanned s (in_factor f)
+marks-Not s f = fold-roll-Factor Marks Marks Marks Marks Marks Marks Marks Marks Marks Marks Marks
+    factor_form_marks selector_form_marks designator_marks expression_marks factor_marks
+    next_factor_marks next_term_marks relation_marks selector_marks simple_expression_marks
+    term_marks _ ∙ ap (spanned s)
+    (ap in_factor_form (sym (factor.rolls-Not f)) ∙ fold-roll-FactorForm Marks Marks Marks Marks
+    Marks Marks Marks Marks Marks Marks Marks factor_form_marks selector_form_marks designator_marks
+    expression_marks factor_marks next_factor_marks next_term_marks relation_marks selector_marks
+    simple_expression_marks term_marks (FactorForm-F.Not f))
 
-marks-Term : (s : Span) (f : FactorTree) (fs : List NextFactor) → in_term (roll-Term (record { span = s; first = f; rest = fs })) ≡ spanned s (both (in_factor f) (all (map in_next_factor fs)))
-marks-Term s f fs = fold-roll-Term Marks Marks Marks Marks Marks Marks Marks Marks Marks Marks Marks factor_form_marks selector_form_marks designator_marks expression_marks factor_marks next_factor_marks next_term_marks relation_marks selector_marks simple_expression_marks term_marks _
+marks-Term : (s : Span) (f : FactorTree) (fs : List NextFactor) →
+    in_term (roll-Term (record { span = s; first = f; rest = fs })) ≡
+    spanned s (both (in_factor f) (all (map in_next_factor fs)))
+marks-Term s f fs = fold-roll-Term Marks Marks Marks Marks Marks Marks Marks Marks Marks Marks Marks
+    factor_form_marks selector_form_marks designator_marks expression_marks factor_marks
+    next_factor_marks next_term_marks relation_marks selector_marks simple_expression_marks
+    term_marks _
 
-marks-NextFactor : (op : Kind) (f : FactorTree) → in_next_factor (roll-NextFactor (record { op = op; factor = f })) ≡ in_factor f
-marks-NextFactor op f = fold-roll-NextFactor Marks Marks Marks Marks Marks Marks Marks Marks Marks Marks Marks factor_form_marks selector_form_marks designator_marks expression_marks factor_marks next_factor_marks next_term_marks relation_marks selector_marks simple_expression_marks term_marks _
+marks-NextFactor : (op : Kind) (f : FactorTree) →
+    in_next_factor (roll-NextFactor (record { op = op; factor = f })) ≡ in_factor f
+marks-NextFactor op f = fold-roll-NextFactor Marks Marks Marks Marks Marks Marks Marks Marks Marks
+    Marks Marks factor_form_marks selector_form_marks designator_marks expression_marks factor_marks
+    next_factor_marks next_term_marks relation_marks selector_marks simple_expression_marks
+    term_marks _
 
-marks-SimpleExpr : (s : Span) (sign : Option Kind) (t : TermTree) (ts : List NextTerm) → in_simple_expression (roll-SimpleExpr (record { span = s; sign = sign; first = t; rest = ts })) ≡ spanned s (both (in_term t) (all (map in_next_term ts)))
-marks-SimpleExpr s sign t ts = fold-roll-SimpleExpr Marks Marks Marks Marks Marks Marks Marks Marks Marks Marks Marks factor_form_marks selector_form_marks designator_marks expression_marks factor_marks next_factor_marks next_term_marks relation_marks selector_marks simple_expression_marks term_marks _
+marks-SimpleExpr : (s : Span) (sign : Option Kind) (t : TermTree) (ts : List NextTerm) →
+    in_simple_expression (roll-SimpleExpr (record { span = s; sign = sign; first = t; rest = ts }))
+    ≡ spanned s (both (in_term t) (all (map in_next_term ts)))
+marks-SimpleExpr s sign t ts = fold-roll-SimpleExpr Marks Marks Marks Marks Marks Marks Marks Marks
+    Marks Marks Marks factor_form_marks selector_form_marks designator_marks expression_marks
+    factor_marks next_factor_marks next_term_marks relation_marks selector_marks
+    simple_expression_marks term_marks _
 
-marks-NextTerm : (op : Kind) (t : TermTree) → in_next_term (roll-NextTerm (record { op = op; term = t })) ≡ in_term t
-marks-NextTerm op t = fold-roll-NextTerm Marks Marks Marks Marks Marks Marks Marks Marks Marks Marks Marks factor_form_marks selector_form_marks designator_marks expression_marks factor_marks next_factor_marks next_term_marks relation_marks selector_marks simple_expression_marks term_marks _
+marks-NextTerm : (op : Kind) (t : TermTree) →
+    in_next_term (roll-NextTerm (record { op = op; term = t })) ≡ in_term t
+marks-NextTerm op t = fold-roll-NextTerm Marks Marks Marks Marks Marks Marks Marks Marks Marks Marks
+    Marks factor_form_marks selector_form_marks designator_marks expression_marks factor_marks
+    next_factor_marks next_term_marks relation_marks selector_marks simple_expression_marks
+    term_marks _
 
-marks-Expr : (s : Span) (e : SimpleExpr) (r : Option Relation) → in_expression (roll-Expr (record { span = s; left = e; relation = r })) ≡ spanned s (both (in_simple_expression e) (maybe (option_map in_relation r)))
-marks-Expr s e None = fold-roll-Expr Marks Marks Marks Marks Marks Marks Marks Marks Marks Marks Marks factor_form_marks selector_form_marks designator_marks expression_marks factor_marks next_factor_marks next_term_marks relation_marks selector_marks simple_expression_marks term_marks _
-marks-Expr s e (Some r) = fold-roll-Expr Marks Marks Marks Marks Marks Marks Marks Marks Marks Marks Marks factor_form_marks selector_form_marks designator_marks expression_marks factor_marks next_factor_marks next_term_marks relation_marks selector_marks simple_expression_marks term_marks _
+marks-Expr : (s : Span) (e : SimpleExpr) (r : Option Relation) →
+    in_expression (roll-Expr (record { span = s; left = e; relation = r })) ≡
+    spanned s (both (in_simple_expression e) (maybe (option_map in_relation r)))
+marks-Expr s e None = fold-roll-Expr Marks Marks Marks Marks Marks Marks Marks Marks Marks Marks
+    Marks factor_form_marks selector_form_marks designator_marks expression_marks factor_marks
+    next_factor_marks next_term_marks relation_marks selector_marks simple_expression_marks
+    term_marks _
+marks-Expr s e (Some r) = fold-roll-Expr Marks Marks Marks Marks Marks Marks Marks Marks Marks Marks
+    Marks factor_form_marks selector_form_marks designator_marks expression_marks factor_marks
+    next_factor_marks next_term_marks relation_marks selector_marks simple_expression_marks
+    term_marks _
 
-marks-Relation : (op : Kind) (e : SimpleExpr) → in_relation (roll-Relation (record { op = op; right = e })) ≡ in_simple_expression e
-marks-Relation op e = fold-roll-Relation Marks Marks Marks Marks Marks Marks Marks Marks Marks Marks Marks factor_form_marks selector_form_marks designator_marks expression_marks factor_marks next_factor_marks next_term_marks relation_marks selector_marks simple_expression_marks term_marks _
+marks-Relation : (op : Kind) (e : SimpleExpr) →
+    in_relation (roll-Relation (record { op = op; right = e })) ≡ in_simple_expression e
+marks-Relation op e = fold-roll-Relation Marks Marks Marks Marks Marks Marks Marks Marks Marks Marks
+    Marks factor_form_marks selector_form_marks designator_marks expression_marks factor_marks
+    next_factor_marks next_term_marks relation_marks selector_marks simple_expression_marks
+    term_marks _
 
-marks-TypeName : (s : Span) (k : ℕ) → in_type_expression (roll-TypeExpr (record { span = s; form = shape.Name k })) ≡ spanned s (named k)
-marks-TypeName s k = fold-roll-TypeExpr Marks Marks Marks type_form_marks name_list_marks type_expression_marks _ ∙ ap (spanned s) (ap in_type_form (sym (shape.rolls-Name k)) ∙ fold-roll-TypeForm Marks Marks Marks type_form_marks name_list_marks type_expression_marks (TypeForm-F.Name k))
+marks-TypeName : (s : Span) (k : ℕ) →
+    in_type_expression (roll-TypeExpr (record { span = s; form = shape.Name k })) ≡
+    spanned s (named k)
+marks-TypeName s k = fold-roll-TypeExpr Marks Marks Marks type_form_marks name_list_marks
+    type_expression_marks _ ∙ ap (spanned s)
+    (ap in_type_form (sym (shape.rolls-Name k)) ∙ fold-roll-TypeForm Marks Marks Marks
+    type_form_marks name_list_marks type_expression_marks (TypeForm-F.Name k))
 
-marks-Array : (s : Span) (e : Expr) (t : TypeExpr) → in_type_expression (roll-TypeExpr (record { span = s; form = shape.Array e t })) ≡ spanned s (both (in_expression e) (in_type_expression t))
-marks-Array s e t = fold-roll-TypeExpr Marks Marks Marks type_form_marks name_list_marks type_expression_marks _ ∙ ap (spanned s) (ap in_type_form (sym (shape.rolls-Array e t)) ∙ fold-roll-TypeForm Marks Marks Marks type_form_marks name_list_marks type_expression_marks (TypeForm-F.Array e t))
+marks-Array : (s : Span) (e : Expr) (t : TypeExpr) →
+    in_type_expression (roll-TypeExpr (record { span = s; form = shape.Array e t })) ≡
+    spanned s (both (in_expression e) (in_type_expression t))
+marks-Array s e t = fold-roll-TypeExpr Marks Marks Marks type_form_marks name_list_marks
+    type_expression_marks _ ∙ ap (spanned s)
+    (ap in_type_form (sym (shape.rolls-Array e t)) ∙ fold-roll-TypeForm Marks Marks Marks
+    type_form_marks name_list_marks type_expression_marks (TypeForm-F.Array e t))
 
-marks-Record : (s : Span) (fs : List Names) → in_type_expression (roll-TypeExpr (record { span = s; form = shape.Record fs })) ≡ spanned s (all (map in_name_list fs))
-marks-Record s fs = fold-roll-TypeExpr Marks Marks Marks type_form_marks name_list_marks type_expression_marks _ ∙ ap (spanned s) (ap in_type_form (sym (shape.rolls-Record fs)) ∙ fold-roll-TypeForm Marks Marks Marks type_form_marks name_list_marks type_expression_marks (TypeForm-F.Record fs))
+marks-Record : (s : Span) (fs : List Names) →
+    in_type_expression (roll-TypeExpr (record { span = s; form = shape.Record fs })) ≡
+    spanned s (all (map in_name_list fs))
+marks-Record s fs = fold-roll-TypeExpr Marks Marks Marks type_form_marks name_list_marks
+    type_expression_marks _ ∙ ap (spanned s)
+    (ap in_type_form (sym (shape.rolls-Record fs)) ∙ fold-roll-TypeForm Marks Marks Marks
+    type_form_marks name_list_marks type_expression_marks (TypeForm-F.Record fs))
 
-marks-NameList : (ks : List ℕ) (t : TypeExpr) → in_name_list (roll-NameList (record { names = ks; shape = t })) ≡ both (all (map named ks)) (in_type_expression t)
-marks-NameList ks t = fold-roll-NameList Marks Marks Marks type_form_marks name_list_marks type_expression_marks _
+marks-NameList : (ks : List ℕ) (t : TypeExpr) →
+    in_name_list (roll-NameList (record { names = ks; shape = t })) ≡ both (all (map named ks))
+    (in_type_expression t)
+marks-NameList ks t = fold-roll-NameList Marks Marks Marks type_form_marks name_list_marks
+    type_expression_marks _
 
-marks-Assign : (s : Span) (d : Designator) (e : Expr) → in_statement (roll-Stmt (record { span = s; form = form.Assign d e })) ≡ spanned s (both (in_designator d) (in_expression e))
-marks-Assign s d e = fold-roll-Stmt Marks Marks Marks statement_form_marks arm_marks statement_marks _ ∙ ap (spanned s) (ap in_statement_form (sym (form.rolls-Assign d e)) ∙ fold-roll-StmtForm Marks Marks Marks statement_form_marks arm_marks statement_marks (StmtForm-F.Assign d e))
+marks-Assign : (s : Span) (d : Designator) (e : Expr) →
+    in_statement (roll-Stmt (record { span = s; form = form.Assign d e })) ≡
+    spanned s (both (in_designator d) (in_expression e))
+marks-Assign s d e = fold-roll-Stmt Marks Marks Marks statement_form_marks arm_marks statement_marks
+    _ ∙ ap (spanned s) (ap in_statement_form (sym (form.rolls-Assign d e))
+    ∙ fold-roll-StmtForm Marks Marks Marks statement_form_marks arm_marks statement_marks
+    (StmtForm-F.Assign d e))
 
-marks-Call : (s : Span) (k : ℕ) (es : List Expr) → in_statement (roll-Stmt (record { span = s; form = form.Call k es })) ≡ spanned s (both (named k) (all (map in_expression es)))
-marks-Call s k es = fold-roll-Stmt Marks Marks Marks statement_form_marks arm_marks statement_marks _ ∙ ap (spanned s) (ap in_statement_form (sym (form.rolls-Call k es)) ∙ fold-roll-StmtForm Marks Marks Marks statement_form_marks arm_marks statement_marks (StmtForm-F.Call k es))
+marks-Call : (s : Span) (k : ℕ) (es : List Expr) →
+    in_statement (roll-Stmt (record { span = s; form = form.Call k es })) ≡
+    spanned s (both (named k) (all (map in_expression es)))
+marks-Call s k es = fold-roll-Stmt Marks Marks Marks statement_form_marks arm_marks statement_marks
+    _ ∙ ap (spanned s) (ap in_statement_form (sym (form.rolls-Call k es))
+    ∙ fold-roll-StmtForm Marks Marks Marks statement_form_marks arm_marks statement_marks
+    (StmtForm-F.Call k es))
 
-marks-If : (s : Span) (xs : List ArmTree) (others : List Stmt) → in_statement (roll-Stmt (record { span = s; form = form.If xs others })) ≡ spanned s (both (all (map in_arm xs)) (all (map in_statement others)))
-marks-If s xs others = fold-roll-Stmt Marks Marks Marks statement_form_marks arm_marks statement_marks _ ∙ ap (spanned s) (ap in_statement_form (sym (form.rolls-If xs others)) ∙ fold-roll-StmtForm Marks Marks Marks statement_form_marks arm_marks statement_marks (StmtForm-F.If xs others))
+marks-If : (s : Span) (xs : List ArmTree) (others : List Stmt) →
+    in_statement (roll-Stmt (record { span = s; form = form.If xs others })) ≡
+    spanned s (both (all (map in_arm xs)) (all (map in_statement others)))
+marks-If s xs others = fold-roll-Stmt Marks Marks Marks statement_form_marks arm_marks
+    statement_marks _ ∙ ap (spanned s) (ap in_statement_form (sym (form.rolls-If xs others))
+    ∙ fold-roll-StmtForm Marks Marks Marks statement_form_marks arm_marks statement_marks
+    (StmtForm-F.If xs others))
 
-marks-While : (s : Span) (e : Expr) (ss : List Stmt) → in_statement (roll-Stmt (record { span = s; form = form.While e ss })) ≡ spanned s (both (in_expression e) (all (map in_statement ss)))
-marks-While s e ss = fold-roll-Stmt Marks Marks Marks statement_form_marks arm_marks statement_marks _ ∙ ap (spanned s) (ap in_statement_form (sym (form.rolls-While e ss)) ∙ fold-roll-StmtForm Marks Marks Marks statement_form_marks arm_marks statement_marks (StmtForm-F.While e ss))
+marks-While : (s : Span) (e : Expr) (ss : List Stmt) →
+    in_statement (roll-Stmt (record { span = s; form = form.While e ss })) ≡
+    spanned s (both (in_expression e) (all (map in_statement ss)))
+marks-While s e ss = fold-roll-Stmt Marks Marks Marks statement_form_marks arm_marks statement_marks
+    _ ∙ ap (spanned s) (ap in_statement_form (sym (form.rolls-While e ss))
+    ∙ fold-roll-StmtForm Marks Marks Marks statement_form_marks arm_marks statement_marks
+    (StmtForm-F.While e ss))
 
-marks-Repeat : (s : Span) (ss : List Stmt) (e : Expr) → in_statement (roll-Stmt (record { span = s; form = form.Repeat ss e })) ≡ spanned s (both (all (map in_statement ss)) (in_expression e))
-marks-Repeat s ss e = fold-roll-Stmt Marks Marks Marks statement_form_marks arm_marks statement_marks _ ∙ ap (spanned s) (ap in_statement_form (sym (form.rolls-Repeat ss e)) ∙ fold-roll-StmtForm Marks Marks Marks statement_form_marks arm_marks statement_marks (StmtForm-F.Repeat ss e))
+marks-Repeat : (s : Span) (ss : List Stmt) (e : Expr) →
+    in_statement (roll-Stmt (record { span = s; form = form.Repeat ss e })) ≡
+    spanned s (both (all (map in_statement ss)) (in_expression e))
+marks-Repeat s ss e = fold-roll-Stmt Marks Marks Marks statement_form_marks arm_marks
+    statement_marks _ ∙ ap (spanned s)
+    (ap in_statement_form (sym (form.rolls-Repeat ss e)) ∙ fold-roll-StmtForm Marks Marks Marks
+    statement_form_marks arm_marks statement_marks (StmtForm-F.Repeat ss e))
 
-marks-Arm : (e : Expr) (ss : List Stmt) → in_arm (roll-Arm (record { test = e; body = ss })) ≡ both (in_expression e) (all (map in_statement ss))
+marks-Arm : (e : Expr) (ss : List Stmt) → in_arm (roll-Arm (record { test = e; body = ss })) ≡
+    both (in_expression e) (all (map in_statement ss))
 marks-Arm e ss = fold-roll-Arm Marks Marks Marks statement_form_marks arm_marks statement_marks _
 
-marks-Decls : (cs : List ConstDecl) (ts : List TypeDecl) (vs : List Names) (ps : List Proc) → in_declarations (roll-Decls (record { consts = cs; types = ts; vars = vs; procs = ps })) ≡ both (all (map in_constant cs)) (both (all (map in_type ts)) (both (all (map in_name_list vs)) (all (map in_procedure ps))))
+marks-Decls : (cs : List ConstDecl) (ts : List TypeDecl) (vs : List Names) (ps : List Proc) →
+    in_declarations (roll-Decls (record { consts = cs; types = ts; vars = vs; procs = ps })) ≡
+    both (all (map in_constant cs))
+    (both (all (map in_type ts)) (both (all (map in_name_list vs)) (all (map in_procedure ps))))
 marks-Decls cs ts vs ps = fold-roll-Decls Marks Marks declarations_marks procedure_marks _
 
-marks-Proc : (s : Span) (k : ℕ) (xs : List SectionTree) (ds : Decls) (ss : List Stmt) (close : ℕ) → in_procedure (roll-Proc (record { span = s; name = k; params = xs; decls = ds; body = ss; close = close })) ≡ spanned s (both (named k) (both (all (map in_section xs)) (both (in_declarations ds) (both (all (map in_statement ss)) (named close)))))
+marks-Proc : (s : Span) (k : ℕ) (xs : List SectionTree) (ds : Decls) (ss : List Stmt) (close : ℕ) →
+    in_procedure (roll-Proc (record {
+      span = s;
+      name = k;
+      params = xs;
+      decls = ds;
+      body = ss;
+      close = close;
+    })) ≡ spanned s
+    (both (named k) (both (all (map in_section xs))
+    (both (in_declarations ds) (both (all (map in_statement ss)) (named close)))))
 marks-Proc s k xs ds ss close = fold-roll-Proc Marks Marks declarations_marks procedure_marks _
 
 -- what a phrase of each nonterminal holds
@@ -169,20 +362,25 @@ marks_of Module t = spanned t.span (in_module t)
 
 -- ---- tokens in their list
 
-next_is : (ks : List Kind) (i : ℕ) (k : Kind) (rest : List Kind) → drop i ks ≡ k ∷ rest → (slice_get ks i ≡ Some k) × (drop (suc i) ks ≡ rest)
+next_is : (ks : List Kind) (i : ℕ) (k : Kind) (rest : List Kind) → drop i ks ≡ k ∷ rest →
+    (slice_get ks i ≡ Some k) × (drop (suc i) ks ≡ rest)
 next_is [] zero k rest e = cc
 next_is [] (suc i) k rest e = cc
 next_is (x ∷ ks) zero k rest e = (cc, cc)
 next_is (x ∷ ks) (suc i) k rest e = next_is ks i k rest e
 
 mutual
-  behind : (ks : List Kind) (n : Nonterminal) (f : Form n) (i : ℕ) (rest : List Kind) → drop i ks ≡ spell n f rest → drop (end n i f) ks ≡ rest
+  behind : (ks : List Kind) (n : Nonterminal) (f : Form n) (i : ℕ) (rest : List Kind) → drop i ks ≡
+      spell n f rest → drop (end n i f) ks ≡ rest
   behind ks n (made _ r ps) i rest e = all_behind ks (right r) ps i rest e
 
-  all_behind : (ks : List Kind) (ss : List Symbol) (ps : Parts ss) (i : ℕ) (rest : List Kind) → drop i ks ≡ spells ss ps rest → drop (ends ss i ps) ks ≡ rest
+  all_behind : (ks : List Kind) (ss : List Symbol) (ps : Parts ss) (i : ℕ) (rest : List Kind) →
+      drop i ks ≡ spells ss ps rest → drop (ends ss i ps) ks ≡ rest
   all_behind ks _ done i rest e = e
-  all_behind ks _ (taken k ss ps) i rest e = all_behind ks ss ps (i + 1) rest (rw add-one (next_is ks i k (spells ss ps rest) e).1)
-  all_behind ks _ (part d m ss f ps) i rest e = all_behind ks ss ps (end m i f) rest (behind ks m f i (spells ss ps rest) e)
+  all_behind ks _ (taken k ss ps) i rest e = all_behind ks ss ps (i + 1) rest
+      (rw add-one (next_is ks i k (spells ss ps rest) e).1)
+  all_behind ks _ (part d m ss f ps) i rest e = all_behind ks ss ps (end m i f) rest
+      (behind ks m f i (spells ss ps rest) e)
 
 mutual
   end_counts : (n : Nonterminal) (i : ℕ) (f : Form n) → end n i f ≡ i + length (text n f)
@@ -205,17 +403,21 @@ module _ (ks : List Kind) where
   abbrev Hold : Marks → Span → Type 0
   Hold f s = Each (IsMark ks) (f s)
 
-  each_append : (xs ys : List Mark) → Each (IsMark ks) xs → Each (IsMark ks) ys → Each (IsMark ks) (xs ++ ys)
+  each_append : (xs ys : List Mark) → Each (IsMark ks) xs → Each (IsMark ks) ys →
+      Each (IsMark ks) (xs ++ ys)
   each_append [] ys h g = g
   each_append (x ∷ xs) ys h g = (h.0, each_append xs ys h.1 g)
 
   hold_both : (f g : Marks) (s : Span) → Hold f s → Hold g s → Hold (both f g) s
   hold_both f g s a b = each_append (f s) (g s) a b
 
-  hold_one : {A : Type 0} (g : A → Marks) (x : A) (xs : List A) (s : Span) → Hold (g x) s → Hold (all (map g xs)) s → Hold (all (map g (x ∷ xs))) s
+  hold_one : {A : Type 0} (g : A → Marks) (x : A) (xs : List A) (s : Span) → Hold (g x) s →
+      Hold (all (map g xs)) s → Hold (all (map g (x ∷ xs))) s
   hold_one g x xs s a b = each_append (g x s) (all (map g xs) s) a b
 
-  hold_some : {A : Type 0} (g : A → Marks) (x : Option A) (xs : List A) (s : Span) → Hold (maybe (option_map g x)) s → Hold (all (map g xs)) s → Hold (all (map g (option_to_list x ++ xs))) s
+  hold_some : {A : Type 0} (g : A → Marks) (x : Option A) (xs : List A) (s : Span) →
+      Hold (maybe (option_map g x)) s → Hold (all (map g xs)) s →
+      Hold (all (map g (option_to_list x ++ xs))) s
   hold_some g None xs s a b = b
   hold_some g (Some x) xs s a b = hold_one g x xs s a b
 
@@ -232,25 +434,46 @@ module _ (ks : List Kind) where
   is f g s e h = subst (λ x. Hold x s) (sym e) h
 
   -- a phrase of these tokens, the first of which is there
-  hold_span : (f : Marks) (i j k : ℕ) (s : Span) → (i ≤ k) × (k ≤ j - 1) → s.first ≤ i → j ≤ s.last + 1 → Hold f (span_to i j) → Hold (spanned (span_to i j) f) s
+  hold_span : (f : Marks) (i j k : ℕ) (s : Span) → (i ≤ k) × (k ≤ j - 1) → s.first ≤ i →
+      j ≤ s.last + 1 → Hold f (span_to i j) → Hold (spanned (span_to i j) f) s
   hold_span f i j k s at low high h = ((omega (arith, at.0, at.1), low, omega arith), h)
 
-  factor_at : (f : FactorTree) (s : Span) → Hold (in_factor f) s → (k : ℕ) × (s.first ≤ k) × (k ≤ s.last)
-  factor_at f s h = first_at (subst (λ x. Hold x s) (fold_out-Factor Marks Marks Marks Marks Marks Marks Marks Marks Marks Marks Marks factor_form_marks selector_form_marks designator_marks expression_marks factor_marks next_factor_marks next_term_marks relation_marks selector_marks simple_expression_marks term_marks f) h)
+  factor_at : (f : FactorTree) (s : Span) → Hold (in_factor f) s → (k : ℕ) × (s.first ≤ k) ×
+      (k ≤ s.last)
+  factor_at f s h = first_at
+      (subst (λ x. Hold x s) (fold_out-Factor Marks Marks Marks Marks Marks Marks Marks Marks Marks
+      Marks Marks factor_form_marks selector_form_marks designator_marks expression_marks
+      factor_marks next_factor_marks next_term_marks relation_marks selector_marks
+      simple_expression_marks term_marks f) h)
     where
-      first_at : Hold (spanned (out-Factor f).span (in_factor_form (out-Factor f).form)) s → (k : ℕ) × (s.first ≤ k) × (k ≤ s.last)
+      first_at : Hold (spanned (out-Factor f).span (in_factor_form (out-Factor f).form)) s →
+          (k : ℕ) × (s.first ≤ k) × (k ≤ s.last)
       first_at p = ((out-Factor f).span.first, p.0.1, omega (arith, p.0.0, p.0.2))
 
   term_at : (t : TermTree) (s : Span) → Hold (in_term t) s → (k : ℕ) × (s.first ≤ k) × (k ≤ s.last)
-  term_at t s h = first_at (subst (λ x. Hold x s) (fold_out-Term Marks Marks Marks Marks Marks Marks Marks Marks Marks Marks Marks factor_form_marks selector_form_marks designator_marks expression_marks factor_marks next_factor_marks next_term_marks relation_marks selector_marks simple_expression_marks term_marks t) h)
+  term_at t s h = first_at
+      (subst (λ x. Hold x s) (fold_out-Term Marks Marks Marks Marks Marks Marks Marks Marks Marks
+      Marks Marks factor_form_marks selector_form_marks designator_marks expression_marks
+      factor_marks next_factor_marks next_term_marks relation_marks selector_marks
+      simple_expression_marks term_marks t) h)
     where
-      first_at : Hold (spanned (out-Term t).span (both (in_factor (out-Term t).first) (all (map in_next_factor (out-Term t).rest)))) s → (k : ℕ) × (s.first ≤ k) × (k ≤ s.last)
+      first_at : Hold (spanned (out-Term t).span
+          (both (in_factor (out-Term t).first) (all (map in_next_factor (out-Term t).rest)))) s →
+          (k : ℕ) × (s.first ≤ k) × (k ≤ s.last)
       first_at p = ((out-Term t).span.first, p.0.1, omega (arith, p.0.0, p.0.2))
 
-  simple_at : (e : SimpleExpr) (s : Span) → Hold (in_simple_expression e) s → (k : ℕ) × (s.first ≤ k) × (k ≤ s.last)
-  simple_at e s h = first_at (subst (λ x. Hold x s) (fold_out-SimpleExpr Marks Marks Marks Marks Marks Marks Marks Marks Marks Marks Marks factor_form_marks selector_form_marks designator_marks expression_marks factor_marks next_factor_marks next_term_marks relation_marks selector_marks simple_expression_marks term_marks e) h)
+  simple_at : (e : SimpleExpr) (s : Span) → Hold (in_simple_expression e) s → (k : ℕ) ×
+      (s.first ≤ k) × (k ≤ s.last)
+  simple_at e s h = first_at
+      (subst (λ x. Hold x s) (fold_out-SimpleExpr Marks Marks Marks Marks Marks Marks Marks Marks
+      Marks Marks Marks factor_form_marks selector_form_marks designator_marks expression_marks
+      factor_marks next_factor_marks next_term_marks relation_marks selector_marks
+      simple_expression_marks term_marks e) h)
     where
-      first_at : Hold (spanned (out-SimpleExpr e).span (both (in_term (out-SimpleExpr e).first) (all (map in_next_term (out-SimpleExpr e).rest)))) s → (k : ℕ) × (s.first ≤ k) × (k ≤ s.last)
+      first_at : Hold (spanned (out-SimpleExpr e).span
+          (both (in_term (out-SimpleExpr e).first)
+          (all (map in_next_term (out-SimpleExpr e).rest)))) s → (k : ℕ) × (s.first ≤ k) ×
+          (k ≤ s.last)
       first_at p = ((out-SimpleExpr e).span.first, p.0.1, omega (arith, p.0.0, p.0.2))
 
   low_own : (i : ℕ) → i ≤ i
@@ -261,54 +484,79 @@ module _ (ks : List Kind) where
 
   -- a token and a phrase, behind which another token stands, lie before it
   abbrev Front : (ss : List Symbol) → ℕ → Values ss → Type 0
-  Front (token k ∷ (phrase d m ∷ (token k' ∷ ss))) i v = Stands k v.0 (span_to i v.1.1.0) × Hold (marks_of m v.1.0) (span_to i v.1.1.0)
+  Front (token k ∷ (phrase d m ∷ (token k' ∷ ss))) i v = Stands k v.0 (span_to i v.1.1.0) ×
+      Hold (marks_of m v.1.0) (span_to i v.1.1.0)
   Front _ i v = Unit {0}
 
-  rule_holds : (n : Nonterminal) (r : Rule n) (i j : ℕ) (v : Values (right r)) (s : Span) → s.first ≤ i → j ≤ s.last + 1 → Front (right r) i v
-      → ((around : Span) → around.first ≤ i → j ≤ around.last + 1 → Holds (right r) v around) → Hold (marks_of n (tree_by r i j v)) s
+  rule_holds : (n : Nonterminal) (r : Rule n) (i j : ℕ) (v : Values (right r)) (s : Span) →
+      s.first ≤ i → j ≤ s.last + 1 → Front (right r) i v
+      → ((around : Span) → around.first ≤ i → j ≤ around.last + 1 → Holds (right r) v around) →
+      Hold (marks_of n (tree_by r i j v)) s
   rule_holds _ no_selectors i j v s low high front hold = tt
   rule_holds _ next_selector i j v s low high front hold =
       let h = hold s low high in hold_one in_selector v.0 v.1.0 s h.0 h.1.0
   rule_holds _ field i j v s low high front hold =
       let h = hold (span_to i j) (low_own i) (high_own j) in
-      is _ _ s (marks-Field (span_to i j) v.1.0) (hold_span (named v.1.0) i j _ s (h.0.0, h.0.1) low high (h.1.0, tt))
+      is _ _ s (marks-Field (span_to i j) v.1.0)
+      (hold_span (named v.1.0) i j _ s (h.0.0, h.0.1) low high (h.1.0, tt))
   rule_holds _ index i j v s low high front hold =
       let h = hold (span_to i j) (low_own i) (high_own j) in
-      is _ _ s (marks-Index (span_to i j) v.1.0) (hold_span (in_expression v.1.0) i j _ s (h.0.0, h.0.1) low high h.1.0)
+      is _ _ s (marks-Index (span_to i j) v.1.0)
+      (hold_span (in_expression v.1.0) i j _ s (h.0.0, h.0.1) low high h.1.0)
   rule_holds _ name i j v s low high front hold =
       let h = hold (span_to i j) (low_own i) (high_own j) in
-      let d = is _ _ (span_to i j) (marks-Designator (span_to i j) v.0 v.1.0) (hold_span (both (named v.0) (all (map in_selector v.1.0))) i j v.0 (span_to i j) (h.0.0, h.0.1) (low_own i) (high_own j) (hold_both (named v.0) (all (map in_selector v.1.0)) (span_to i j) (h.0, tt) h.1.0)) in
-      is _ _ s (marks-Name (span_to i j) _) (hold_span (in_designator (roll-Designator (record { span = span_to i j; name = v.0; selectors = v.1.0 }))) i j v.0 s (h.0.0, h.0.1) low high d)
+      let d = is _ _ (span_to i j) (marks-Designator (span_to i j) v.0 v.1.0)
+      (hold_span (both (named v.0) (all (map in_selector v.1.0))) i j v.0 (span_to i j)
+      (h.0.0, h.0.1) (low_own i) (high_own j)
+      (hold_both (named v.0) (all (map in_selector v.1.0)) (span_to i j) (h.0, tt) h.1.0)) in
+      is _ _ s (marks-Name (span_to i j) _)
+      (hold_span (in_designator
+      (roll-Designator (record { span = span_to i j; name = v.0; selectors = v.1.0 }))) i j v.0
+      s (h.0.0, h.0.1) low high d)
   rule_holds _ (number n) i j v s low high front hold =
       let h = hold (span_to i j) (low_own i) (high_own j) in
       is _ _ s (marks-Number (span_to i j) n) (hold_span (none) i j _ s (h.0.0, h.0.1) low high tt)
   rule_holds _ parenthesis i j v s low high front hold =
       let h = hold (span_to i j) (low_own i) (high_own j) in
-      is _ _ s (marks-Paren (span_to i j) v.1.0) (hold_span (in_expression v.1.0) i j _ s (h.0.0, h.0.1) low high h.1.0)
+      is _ _ s (marks-Paren (span_to i j) v.1.0)
+      (hold_span (in_expression v.1.0) i j _ s (h.0.0, h.0.1) low high h.1.0)
   rule_holds _ negation i j v s low high front hold =
       let h = hold (span_to i j) (low_own i) (high_own j) in
-      is _ _ s (marks-Not (span_to i j) v.1.0) (hold_span (in_factor v.1.0) i j _ s (h.0.0, h.0.1) low high h.1.0)
+      is _ _ s (marks-Not (span_to i j) v.1.0)
+      (hold_span (in_factor v.1.0) i j _ s (h.0.0, h.0.1) low high h.1.0)
   rule_holds _ term i j v s low high front hold =
       let h = hold (span_to i j) (low_own i) (high_own j) in
       let at = factor_at v.0 (span_to i j) h.0 in
-      is _ _ s (marks-Term (span_to i j) v.0 v.1.0) (hold_span (both (in_factor v.0) (all (map in_next_factor v.1.0))) i j at.0 s (at.1, at.2) low high (hold_both (in_factor v.0) (all (map in_next_factor v.1.0)) (span_to i j) h.0 h.1.0))
+      is _ _ s (marks-Term (span_to i j) v.0 v.1.0)
+      (hold_span (both (in_factor v.0) (all (map in_next_factor v.1.0))) i j at.0 s
+      (at.1, at.2) low high (hold_both (in_factor v.0) (all (map in_next_factor v.1.0))
+      (span_to i j) h.0 h.1.0))
   rule_holds _ no_factors i j v s low high front hold = tt
   rule_holds _ (next_factor op) i j v s low high front hold =
-      let h = hold s low high in hold_one in_next_factor _ v.1.1.0 s (is _ _ s (marks-NextFactor _ v.1.0) h.1.0) h.1.1.0
+      let h = hold s low high in hold_one in_next_factor _ v.1.1.0 s
+      (is _ _ s (marks-NextFactor _ v.1.0) h.1.0) h.1.1.0
   rule_holds _ simple_expression i j v s low high front hold =
       let h = hold (span_to i j) (low_own i) (high_own j) in
       let at = term_at v.1.0 (span_to i j) h.1.0 in
-      is _ _ s (marks-SimpleExpr (span_to i j) v.0 v.1.0 v.1.1.0) (hold_span (both (in_term v.1.0) (all (map in_next_term v.1.1.0))) i j at.0 s (at.1, at.2) low high (hold_both (in_term v.1.0) (all (map in_next_term v.1.1.0)) (span_to i j) h.1.0 h.1.1.0))
+      is _ _ s (marks-SimpleExpr (span_to i j) v.0 v.1.0 v.1.1.0)
+      (hold_span (both (in_term v.1.0) (all (map in_next_term v.1.1.0))) i j at.0 s
+      (at.1, at.2) low high (hold_both (in_term v.1.0) (all (map in_next_term v.1.1.0))
+      (span_to i j) h.1.0 h.1.1.0))
   rule_holds _ no_sign i j v s low high front hold = tt
   rule_holds _ plus_sign i j v s low high front hold = tt
   rule_holds _ minus_sign i j v s low high front hold = tt
   rule_holds _ no_terms i j v s low high front hold = tt
   rule_holds _ (next_term op) i j v s low high front hold =
-      let h = hold s low high in hold_one in_next_term _ v.1.1.0 s (is _ _ s (marks-NextTerm _ v.1.0) h.1.0) h.1.1.0
+      let h = hold s low high in hold_one in_next_term _ v.1.1.0 s
+      (is _ _ s (marks-NextTerm _ v.1.0) h.1.0) h.1.1.0
   rule_holds _ expression i j v s low high front hold =
       let h = hold (span_to i j) (low_own i) (high_own j) in
       let at = simple_at v.0 (span_to i j) h.0 in
-      is _ _ s (marks-Expr (span_to i j) v.0 v.1.0) (hold_span (both (in_simple_expression v.0) (maybe (option_map in_relation v.1.0))) i j at.0 s (at.1, at.2) low high (hold_both (in_simple_expression v.0) (maybe (option_map in_relation v.1.0)) (span_to i j) h.0 h.1.0))
+      is _ _ s (marks-Expr (span_to i j) v.0 v.1.0)
+      (hold_span (both (in_simple_expression v.0) (maybe (option_map in_relation v.1.0))) i j
+      at.0 s (at.1, at.2) low high
+      (hold_both (in_simple_expression v.0) (maybe (option_map in_relation v.1.0)) (span_to i j)
+      h.0 h.1.0))
   rule_holds _ no_comparison i j v s low high front hold = tt
   rule_holds _ (comparison op) i j v s low high front hold =
       let h = hold s low high in is _ _ s (marks-Relation _ v.1.0) h.1.0
@@ -325,19 +573,33 @@ module _ (ks : List Kind) where
       let k = v.1.1.0 in
       let target = roll-Designator (record { span = span_to i k; name = v.0; selectors = v.1.0 }) in
       let before = h.1.1.0.1 in
-      let d = is _ _ (span_to i j) (marks-Designator (span_to i k) v.0 v.1.0) (hold_span (both (named v.0) (all (map in_selector v.1.0))) i k v.0 (span_to i j) (front.0.0, front.0.1) (low_own i) (omega arith) (hold_both (named v.0) (all (map in_selector v.1.0)) (span_to i k) (front.0, tt) front.1)) in
-      is _ _ s (marks-Assign (span_to i j) target v.1.1.1.0) (hold_span (both (in_designator target) (in_expression v.1.1.1.0)) i j v.0 s (h.0.0, h.0.1) low high (hold_both (in_designator target) (in_expression v.1.1.1.0) (span_to i j) d h.1.1.1.0))
+      let d = is _ _ (span_to i j) (marks-Designator (span_to i k) v.0 v.1.0)
+      (hold_span (both (named v.0) (all (map in_selector v.1.0))) i k v.0 (span_to i j)
+      (front.0.0, front.0.1) (low_own i) (omega arith)
+      (hold_both (named v.0) (all (map in_selector v.1.0)) (span_to i k) (front.0, tt) front.1))
+      in
+      is _ _ s (marks-Assign (span_to i j) target v.1.1.1.0)
+      (hold_span (both (in_designator target) (in_expression v.1.1.1.0)) i j v.0 s
+      (h.0.0, h.0.1) low high (hold_both (in_designator target) (in_expression v.1.1.1.0)
+      (span_to i j) d h.1.1.1.0))
   rule_holds _ call i j v s low high front hold =
       let h = hold (span_to i j) (low_own i) (high_own j) in
-      is _ _ s (marks-Call (span_to i j) v.0 v.1.0) (hold_span (both (named v.0) (all (map in_expression v.1.0))) i j _ s (h.0.0, h.0.1) low high (hold_both (named v.0) (all (map in_expression v.1.0)) (span_to i j) (h.0, tt) h.1.0))
+      is _ _ s (marks-Call (span_to i j) v.0 v.1.0)
+      (hold_span (both (named v.0) (all (map in_expression v.1.0))) i j _ s (h.0.0, h.0.1) low
+      high (hold_both (named v.0) (all (map in_expression v.1.0)) (span_to i j)
+      (h.0, tt) h.1.0))
   rule_holds _ no_parameters i j v s low high front hold = tt
   rule_holds _ if_statement i j v s low high front hold =
       let h = hold (span_to i j) (low_own i) (high_own j) in
-      is _ _ s (marks-If (span_to i j) v.1.0 v.1.1.0) (hold_span (both (all (map in_arm v.1.0)) (all (map in_statement v.1.1.0))) i j _ s (h.0.0, h.0.1) low high (hold_both (all (map in_arm v.1.0)) (all (map in_statement v.1.1.0)) (span_to i j) h.1.0 h.1.1.0))
+      is _ _ s (marks-If (span_to i j) v.1.0 v.1.1.0)
+      (hold_span (both (all (map in_arm v.1.0)) (all (map in_statement v.1.1.0))) i j _ s
+      (h.0.0, h.0.1) low high (hold_both (all (map in_arm v.1.0))
+      (all (map in_statement v.1.1.0)) (span_to i j) h.1.0 h.1.1.0))
   rule_holds _ arms i j v s low high front hold =
       let h = hold s low high in hold_one in_arm v.0 v.1.0 s h.0 h.1.0
   rule_holds _ arm i j v s low high front hold =
-      let h = hold s low high in is _ _ s (marks-Arm v.0 v.1.1.0) (hold_both (in_expression v.0) (all (map in_statement v.1.1.0)) s h.0 h.1.1.0)
+      let h = hold s low high in is _ _ s (marks-Arm v.0 v.1.1.0)
+      (hold_both (in_expression v.0) (all (map in_statement v.1.1.0)) s h.0 h.1.1.0)
   rule_holds _ no_elsif i j v s low high front hold = tt
   rule_holds _ next_elsif i j v s low high front hold =
       let h = hold s low high in hold_one in_arm v.1.0 v.1.1.0 s h.1.0 h.1.1.0
@@ -346,10 +608,16 @@ module _ (ks : List Kind) where
       let h = hold s low high in h.1.0
   rule_holds _ while_statement i j v s low high front hold =
       let h = hold (span_to i j) (low_own i) (high_own j) in
-      is _ _ s (marks-While (span_to i j) v.1.0 v.1.1.1.0) (hold_span (both (in_expression v.1.0) (all (map in_statement v.1.1.1.0))) i j _ s (h.0.0, h.0.1) low high (hold_both (in_expression v.1.0) (all (map in_statement v.1.1.1.0)) (span_to i j) h.1.0 h.1.1.1.0))
+      is _ _ s (marks-While (span_to i j) v.1.0 v.1.1.1.0)
+      (hold_span (both (in_expression v.1.0) (all (map in_statement v.1.1.1.0))) i j _ s
+      (h.0.0, h.0.1) low high (hold_both (in_expression v.1.0)
+      (all (map in_statement v.1.1.1.0)) (span_to i j) h.1.0 h.1.1.1.0))
   rule_holds _ repeat_statement i j v s low high front hold =
       let h = hold (span_to i j) (low_own i) (high_own j) in
-      is _ _ s (marks-Repeat (span_to i j) v.1.0 v.1.1.1.0) (hold_span (both (all (map in_statement v.1.0)) (in_expression v.1.1.1.0)) i j _ s (h.0.0, h.0.1) low high (hold_both (all (map in_statement v.1.0)) (in_expression v.1.1.1.0) (span_to i j) h.1.0 h.1.1.1.0))
+      is _ _ s (marks-Repeat (span_to i j) v.1.0 v.1.1.1.0)
+      (hold_span (both (all (map in_statement v.1.0)) (in_expression v.1.1.1.0)) i j _ s
+      (h.0.0, h.0.1) low high (hold_both (all (map in_statement v.1.0))
+      (in_expression v.1.1.1.0) (span_to i j) h.1.0 h.1.1.1.0))
   rule_holds _ empty_statement i j v s low high front hold = tt
   rule_holds _ statement i j v s low high front hold =
       let h = hold s low high in h.0
@@ -365,17 +633,23 @@ module _ (ks : List Kind) where
       let h = hold s low high in hold_one named v.1.0 v.1.1.0 s (h.1.0, tt) h.1.1.0
   rule_holds _ type_name i j v s low high front hold =
       let h = hold (span_to i j) (low_own i) (high_own j) in
-      is _ _ s (marks-TypeName (span_to i j) v.0) (hold_span (named v.0) i j _ s (h.0.0, h.0.1) low high (h.0, tt))
+      is _ _ s (marks-TypeName (span_to i j) v.0)
+      (hold_span (named v.0) i j _ s (h.0.0, h.0.1) low high (h.0, tt))
   rule_holds _ array i j v s low high front hold =
       let h = hold (span_to i j) (low_own i) (high_own j) in
-      is _ _ s (marks-Array (span_to i j) v.1.0 v.1.1.1.0) (hold_span (both (in_expression v.1.0) (in_type_expression v.1.1.1.0)) i j _ s (h.0.0, h.0.1) low high (hold_both (in_expression v.1.0) (in_type_expression v.1.1.1.0) (span_to i j) h.1.0 h.1.1.1.0))
+      is _ _ s (marks-Array (span_to i j) v.1.0 v.1.1.1.0)
+      (hold_span (both (in_expression v.1.0) (in_type_expression v.1.1.1.0)) i j _ s
+      (h.0.0, h.0.1) low high (hold_both (in_expression v.1.0) (in_type_expression v.1.1.1.0)
+      (span_to i j) h.1.0 h.1.1.1.0))
   rule_holds _ record_type i j v s low high front hold =
       let h = hold (span_to i j) (low_own i) (high_own j) in
-      is _ _ s (marks-Record (span_to i j) v.1.0) (hold_span (all (map in_name_list v.1.0)) i j _ s (h.0.0, h.0.1) low high h.1.0)
+      is _ _ s (marks-Record (span_to i j) v.1.0)
+      (hold_span (all (map in_name_list v.1.0)) i j _ s (h.0.0, h.0.1) low high h.1.0)
   rule_holds _ field_sequence i j v s low high front hold =
       let h = hold s low high in hold_some in_name_list v.0 v.1.0 s h.0 h.1.0
   rule_holds _ name_list i j v s low high front hold =
-      let h = hold s low high in is _ _ s (marks-NameList v.0 v.1.1.0) (hold_both (all (map named v.0)) (in_type_expression v.1.1.0) s h.0 h.1.1.0)
+      let h = hold s low high in is _ _ s (marks-NameList v.0 v.1.1.0)
+      (hold_both (all (map named v.0)) (in_type_expression v.1.1.0) s h.0 h.1.1.0)
   rule_holds _ empty_field_list i j v s low high front hold = tt
   rule_holds _ field_list i j v s low high front hold =
       let h = hold s low high in h.0
@@ -383,7 +657,8 @@ module _ (ks : List Kind) where
   rule_holds _ next_field_list i j v s low high front hold =
       let h = hold s low high in hold_some in_name_list v.1.0 v.1.1.0 s h.1.0 h.1.1.0
   rule_holds _ section i j v s low high front hold =
-      let h = hold s low high in hold_both (all (map named v.1.0)) (in_type_expression v.1.1.1.0) s h.1.0 h.1.1.1.0
+      let h = hold s low high in hold_both (all (map named v.1.0)) (in_type_expression v.1.1.1.0) s
+      h.1.0 h.1.1.1.0
   rule_holds _ by_value i j v s low high front hold = tt
   rule_holds _ by_var i j v s low high front hold = tt
   rule_holds _ formals i j v s low high front hold =
@@ -396,13 +671,35 @@ module _ (ks : List Kind) where
       let h = hold s low high in hold_one in_section v.1.0 v.1.1.0 s h.1.0 h.1.1.0
   rule_holds _ procedure i j v s low high front hold =
       let h = hold (span_to i j) (low_own i) (high_own j) in
-      is _ _ s (marks-Proc (span_to i j) v.1.0 v.1.1.0 v.1.1.1.1.0 v.1.1.1.1.1.0 v.1.1.1.1.1.1.1.0) (hold_span (both (named v.1.0) (both (all (map in_section v.1.1.0)) (both (in_declarations v.1.1.1.1.0) (both (all (map in_statement v.1.1.1.1.1.0)) (named v.1.1.1.1.1.1.1.0))))) i j _ s (h.0.0, h.0.1) low high (hold_both (named v.1.0) (both (all (map in_section v.1.1.0)) (both (in_declarations v.1.1.1.1.0) (both (all (map in_statement v.1.1.1.1.1.0)) (named v.1.1.1.1.1.1.1.0)))) (span_to i j) (h.1.0, tt) (hold_both (all (map in_section v.1.1.0)) (both (in_declarations v.1.1.1.1.0) (both (all (map in_statement v.1.1.1.1.1.0)) (named v.1.1.1.1.1.1.1.0))) (span_to i j) h.1.1.0 (hold_both (in_declarations v.1.1.1.1.0) (both (all (map in_statement v.1.1.1.1.1.0)) (named v.1.1.1.1.1.1.1.0)) (span_to i j) h.1.1.1.1.0 (hold_both (all (map in_statement v.1.1.1.1.1.0)) (named v.1.1.1.1.1.1.1.0) (span_to i j) h.1.1.1.1.1.0 (h.1.1.1.1.1.1.1.0, tt))))))
+      is _ _ s (marks-Proc (span_to i j) v.1.0 v.1.1.0 v.1.1.1.1.0 v.1.1.1.1.1.0 v.1.1.1.1.1.1.1.0)
+      (hold_span (both (named v.1.0)
+      (both (all (map in_section v.1.1.0))
+      (both (in_declarations v.1.1.1.1.0)
+      (both (all (map in_statement v.1.1.1.1.1.0)) (named v.1.1.1.1.1.1.1.0))))) i j _ s
+      (h.0.0, h.0.1) low high (hold_both (named v.1.0)
+      (both (all (map in_section v.1.1.0))
+      (both (in_declarations v.1.1.1.1.0)
+      (both (all (map in_statement v.1.1.1.1.1.0)) (named v.1.1.1.1.1.1.1.0)))) (span_to i j)
+      (h.1.0, tt) (hold_both (all (map in_section v.1.1.0))
+      (both (in_declarations v.1.1.1.1.0)
+      (both (all (map in_statement v.1.1.1.1.1.0)) (named v.1.1.1.1.1.1.1.0))) (span_to i j)
+      h.1.1.0 (hold_both (in_declarations v.1.1.1.1.0)
+      (both (all (map in_statement v.1.1.1.1.1.0)) (named v.1.1.1.1.1.1.1.0)) (span_to i j)
+      h.1.1.1.1.0 (hold_both (all (map in_statement v.1.1.1.1.1.0)) (named v.1.1.1.1.1.1.1.0)
+      (span_to i j) h.1.1.1.1.1.0 (h.1.1.1.1.1.1.1.0, tt))))))
   rule_holds _ no_formals i j v s low high front hold = tt
   rule_holds _ no_body i j v s low high front hold = tt
   rule_holds _ body i j v s low high front hold =
       let h = hold s low high in h.1.0
   rule_holds _ declarations i j v s low high front hold =
-      let h = hold s low high in is _ _ s (marks-Decls v.0 v.1.0 v.1.1.0 v.1.1.1.0) (hold_both (all (map in_constant v.0)) (both (all (map in_type v.1.0)) (both (all (map in_name_list v.1.1.0)) (all (map in_procedure v.1.1.1.0)))) s h.0 (hold_both (all (map in_type v.1.0)) (both (all (map in_name_list v.1.1.0)) (all (map in_procedure v.1.1.1.0))) s h.1.0 (hold_both (all (map in_name_list v.1.1.0)) (all (map in_procedure v.1.1.1.0)) s h.1.1.0 h.1.1.1.0)))
+      let h = hold s low high in is _ _ s (marks-Decls v.0 v.1.0 v.1.1.0 v.1.1.1.0)
+      (hold_both (all (map in_constant v.0))
+      (both (all (map in_type v.1.0))
+      (both (all (map in_name_list v.1.1.0)) (all (map in_procedure v.1.1.1.0)))) s h.0
+      (hold_both (all (map in_type v.1.0))
+      (both (all (map in_name_list v.1.1.0)) (all (map in_procedure v.1.1.1.0))) s h.1.0
+      (hold_both (all (map in_name_list v.1.1.0)) (all (map in_procedure v.1.1.1.0)) s h.1.1.0
+      h.1.1.1.0)))
   rule_holds _ no_constants i j v s low high front hold = tt
   rule_holds _ constants i j v s low high front hold =
       let h = hold s low high in h.1.0
@@ -418,7 +715,8 @@ module _ (ks : List Kind) where
   rule_holds _ constant i j v s low high front hold =
       let h = hold s low high in hold_both (named v.0) (in_expression v.1.1.0) s (h.0, tt) h.1.1.0
   rule_holds _ type_declaration i j v s low high front hold =
-      let h = hold s low high in hold_both (named v.0) (in_type_expression v.1.1.0) s (h.0, tt) h.1.1.0
+      let h = hold s low high in hold_both (named v.0) (in_type_expression v.1.1.0) s
+      (h.0, tt) h.1.1.0
   rule_holds _ no_variables i j v s low high front hold = tt
   rule_holds _ variables i j v s low high front hold =
       let h = hold s low high in h.1.0
@@ -430,25 +728,46 @@ module _ (ks : List Kind) where
       let h = hold s low high in hold_one in_procedure v.0 v.1.1.0 s h.0 h.1.1.0
   rule_holds _ a_module i j v s low high front hold =
       let h = hold (span_to i j) (low_own i) (high_own j) in
-      hold_span (both (named v.1.0) (both (in_declarations v.1.1.1.0) (both (all (map in_statement v.1.1.1.1.0)) (named v.1.1.1.1.1.1.0)))) i j _ s (h.0.0, h.0.1) low high (hold_both (named v.1.0) (both (in_declarations v.1.1.1.0) (both (all (map in_statement v.1.1.1.1.0)) (named v.1.1.1.1.1.1.0))) (span_to i j) (h.1.0, tt) (hold_both (in_declarations v.1.1.1.0) (both (all (map in_statement v.1.1.1.1.0)) (named v.1.1.1.1.1.1.0)) (span_to i j) h.1.1.1.0 (hold_both (all (map in_statement v.1.1.1.1.0)) (named v.1.1.1.1.1.1.0) (span_to i j) h.1.1.1.1.0 (h.1.1.1.1.1.1.0, tt))))
+      hold_span (both (named v.1.0)
+      (both (in_declarations v.1.1.1.0)
+      (both (all (map in_statement v.1.1.1.1.0)) (named v.1.1.1.1.1.1.0)))) i j _ s
+      (h.0.0, h.0.1) low high (hold_both (named v.1.0)
+      (both (in_declarations v.1.1.1.0)
+      (both (all (map in_statement v.1.1.1.1.0)) (named v.1.1.1.1.1.1.0))) (span_to i j)
+      (h.1.0, tt) (hold_both (in_declarations v.1.1.1.0)
+      (both (all (map in_statement v.1.1.1.1.0)) (named v.1.1.1.1.1.1.0)) (span_to i j)
+      h.1.1.1.0 (hold_both (all (map in_statement v.1.1.1.1.0)) (named v.1.1.1.1.1.1.0)
+      (span_to i j) h.1.1.1.1.0 (h.1.1.1.1.1.1.0, tt))))
 
   mutual
-    form_holds : (n : Nonterminal) (f : Form n) (i : ℕ) (rest : List Kind) (s : Span) → drop i ks ≡ spell n f rest → s.first ≤ i → end n i f ≤ s.last + 1 → Hold (marks_of n (tree n i f)) s
+    form_holds : (n : Nonterminal) (f : Form n) (i : ℕ) (rest : List Kind) (s : Span) → drop i ks ≡
+        spell n f rest → s.first ≤ i → end n i f ≤ s.last + 1 → Hold (marks_of n (tree n i f)) s
     form_holds n (made _ r ps) i rest s at low high =
-        rule_holds n r i (ends (right r) i ps) (values (right r) i ps) s low high (front_holds (right r) ps i rest at) (λ around le ge. parts_hold (right r) ps i rest around at le ge)
+        rule_holds n r i (ends (right r) i ps) (values (right r) i ps) s low high
+        (front_holds (right r) ps i rest at)
+        (λ around le ge. parts_hold (right r) ps i rest around at le ge)
 
-    parts_hold : (ss : List Symbol) (ps : Parts ss) (i : ℕ) (rest : List Kind) (s : Span) → drop i ks ≡ spells ss ps rest → s.first ≤ i → ends ss i ps ≤ s.last + 1 → Holds ss (values ss i ps) s
+    parts_hold : (ss : List Symbol) (ps : Parts ss) (i : ℕ) (rest : List Kind) (s : Span) →
+        drop i ks ≡ spells ss ps rest → s.first ≤ i → ends ss i ps ≤ s.last + 1 →
+        Holds ss (values ss i ps) s
     parts_hold _ done i rest s at low high = tt
     parts_hold _ (taken k ss ps) i rest s at low high =
         let next = next_is ks i k (spells ss ps rest) at in
-        let more = all_stay ss (i + 1) ps in
-        ((low, omega arith, next.0), parts_hold ss ps (i + 1) rest s (rw add-one next.1) (omega arith) high)
+        let more = all_stay ss (i + 1) ps in (
+          (low, omega arith, next.0),
+          parts_hold ss ps (i + 1) rest s (rw add-one next.1)
+              (omega arith) high,
+        )
     parts_hold _ (part d m ss f ps) i rest s at low high =
         let more = all_stay ss (end m i f) ps in
-        let before = stays m i f in
-        (form_holds m f i (spells ss ps rest) s at low (omega arith), parts_hold ss ps (end m i f) rest s (behind ks m f i (spells ss ps rest) at) (omega arith) high)
+        let before = stays m i f in (
+          form_holds m f i (spells ss ps rest) s at low (omega arith),
+          parts_hold ss ps (end m i f) rest s (behind ks m f i (spells ss ps rest) at)
+              (omega arith) high,
+        )
 
-    front_holds : (ss : List Symbol) (ps : Parts ss) (i : ℕ) (rest : List Kind) → drop i ks ≡ spells ss ps rest → Front ss i (values ss i ps)
+    front_holds : (ss : List Symbol) (ps : Parts ss) (i : ℕ) (rest : List Kind) → drop i ks ≡
+        spells ss ps rest → Front ss i (values ss i ps)
     front_holds _ done i rest at = tt
     front_holds _ (part _ _ _ _ ps) i rest at = tt
     front_holds _ (taken _ _ done) i rest at = tt
@@ -457,8 +776,12 @@ module _ (ks : List Kind) where
     front_holds _ (taken _ _ (part _ _ _ _ (part _ _ _ _ ps))) i rest at = tt
     front_holds _ (taken k _ (part d m _ f (taken k' ss ps))) i rest at =
         let next = next_is ks i k (spell m f (k' ∷ spells ss ps rest)) at in
-        let before = stays m (i + 1) f in
-        ((low_own i, omega arith, next.0), form_holds m f (i + 1) (k' ∷ spells ss ps rest) (span_to i (end m (i + 1) f)) (rw add-one next.1) (omega arith) (high_own (end m (i + 1) f)))
+        let before = stays m (i + 1) f in (
+          (low_own i, omega arith, next.0),
+          form_holds m f (i + 1) (k' ∷ spells ss ps rest)
+              (span_to i (end m (i + 1) f)) (rw add-one next.1) (omega arith)
+              (high_own (end m (i + 1) f)),
+        )
 
   pub numbered : (t : ModuleTree) → Derives Module ks t → IsNumbered ks t
   numbered t (f, spelled, tree_is) = subst (IsNumbered ks) (sym tree_is) (whole f spelled)
@@ -470,4 +793,10 @@ module _ (ks : List Kind) where
           let last = ends_count (right a_module) 0 ps in
           let size = ap length spelled in
           let some = least_end ps in
-          record { first = refl; last = omega arith; marks = (form_holds Module f 0 [] (span_to 0 (end Module 0 f)) at (low_own 0) (high_own (end Module 0 f))).1 }
+          record {
+            first = refl;
+            last = omega arith;
+            marks =
+                (form_holds Module f 0 [] (span_to 0 (end Module 0 f)) at (low_own 0)
+                (high_own (end Module 0 f))).1;
+          }

@@ -1,5 +1,7 @@
 -- Which variables come to memory, strand by strand, and which have a slot.
-use Rattle.std.proofs.Common.{◌≡◌, ℕ, zero, suc, ◌+◌, ◌<◌, inl, inr, Bool, true, false, ◌&&◌, ◌||◌, List, [], ◌∷◌, ◌++◌, length, get_or, drop, filter, Option, Some, None, refl, sym, ap, ap₂, ◌∙◌, arith}
+use Rattle.std.proofs.Common.{◌≡◌, ℕ, zero, suc, ◌+◌, ◌<◌, inl, inr, Bool, true, false, ◌&&◌, ◌||◌}
+use Rattle.std.proofs.Common.{List, [], ◌∷◌, ◌++◌, length, get_or, drop, filter, Option, Some, None}
+use Rattle.std.proofs.Common.{refl, sym, ap, ap₂, ◌∙◌, arith}
 use Rattle.std.specs.Prelude.{nat_eq, slice_set}
 use Rattle.std.specs.List.{list_any, range_with_len}
 use Rattle.std.proofs.lemmas.Bool.{cases_eq, eq-eqb, ne_eqb}
@@ -15,24 +17,30 @@ use Rattle.pl_build.specs.Slots.{marked, comes_to_memory, only_if}
 
 -- some of the edges brings the variable to memory
 abbrev pub any_comes : Net → ℕ → List Edge → Bool
-any_comes net v es = list_any (λ (e : Edge). nat_eq (strand_at net e.strand).var.0 v && needs_slot (number e.to)) es
+any_comes net v es = list_any
+    (λ (e : Edge). nat_eq (strand_at net e.strand).var.0 v && needs_slot (number e.to)) es
 
-any_append : {X : Type 0} (p : X → Bool) (xs ys : List X) → list_any p (xs ++ ys) ≡ (list_any p xs || list_any p ys)
+any_append : {X : Type 0} (p : X → Bool) (xs ys : List X) → list_any p (xs ++ ys) ≡
+    (list_any p xs || list_any p ys)
 any_append p [] ys = refl
-any_append p (x ∷ xs) ys = or_next (p x) (list_any p (xs ++ ys)) (list_any p xs) (list_any p ys) (any_append p xs ys)
+any_append p (x ∷ xs) ys = or_next (p x) (list_any p (xs ++ ys)) (list_any p xs) (list_any p ys)
+    (any_append p xs ys)
   where
     or_next : (a b c d : Bool) → b ≡ (c || d) → (a || b) ≡ ((a || c) || d)
     or_next true b c d e = refl
     or_next false b c d e = e
 
-path_comes : (net : Net) (v s k : ℕ) (from : Option Place) (ps : List Place) → any_comes net v (edges s k from ps) ≡ (nat_eq (strand_at net s).var.0 v && comes_to_memory ps)
+path_comes : (net : Net) (v s k : ℕ) (from : Option Place) (ps : List Place) →
+    any_comes net v (edges s k from ps) ≡ (nat_eq (strand_at net s).var.0 v && comes_to_memory ps)
 path_comes net v s k from [] = no_more (nat_eq (strand_at net s).var.0 v)
   where
     no_more : (a : Bool) → false ≡ (a && false)
     no_more true = refl
     no_more false = refl
 path_comes net v s k from (q ∷ ps) =
-    spread (nat_eq (strand_at net s).var.0 v) (needs_slot (number q)) (any_comes net v (edges s (suc k) (Some q) ps)) (comes_to_memory ps) (path_comes net v s (suc k) (Some q) ps)
+    spread (nat_eq (strand_at net s).var.0 v) (needs_slot (number q))
+    (any_comes net v (edges s (suc k) (Some q) ps)) (comes_to_memory ps)
+    (path_comes net v s (suc k) (Some q) ps)
   where
     spread : (a b c d : Bool) → c ≡ (a && d) → ((a && b) || c) ≡ (a && (b || d))
     spread true b c d e = ap (λ x. b || x) e
@@ -43,9 +51,11 @@ or_moved true a b c = refl
 or_moved false a b c = refl
 
 -- the variables that are marked once strand i is taken too
-pub strand_comes : (net : Net) (rs : List (List Place)) (i v : ℕ) (old new : Bool) → i < length net.strands → i < length rs
+pub strand_comes : (net : Net) (rs : List (List Place)) (i v : ℕ) (old new : Bool) →
+    i < length net.strands → i < length rs
     → new ≡ (old || (nat_eq (strand_at net i).var.0 v && comes_to_memory (get_or rs i [])))
-    → (new || any_comes net v (flow_from (i + 1) (drop (i + 1) net.strands) (drop (i + 1) rs))) ≡ (old || any_comes net v (flow_from i (drop i net.strands) (drop i rs)))
+    → (new || any_comes net v (flow_from (i + 1) (drop (i + 1) net.strands) (drop (i + 1) rs))) ≡
+    (old || any_comes net v (flow_from i (drop i net.strands) (drop i rs)))
 strand_comes net rs i v old new one two is =
     let path = edges i (strand_at net i).first None (get_or rs i []) in
     let more = flow_from (i + 1) (drop (i + 1) net.strands) (drop (i + 1) rs) in
@@ -53,18 +63,26 @@ strand_comes net rs i v old new one two is =
     ap (λ b. b || any_comes net v more) is
     ∙ or_moved old here (any_comes net v more) false
     ∙ ap (λ b. old || b)
-    (ap (λ b. b || any_comes net v more) (sym (path_comes net v i (strand_at net i).first None (get_or rs i [])))
-    ∙ sym (any_append (λ (e : Edge). nat_eq (strand_at net e.strand).var.0 v && needs_slot (number e.to)) path more)
+    (ap (λ b. b || any_comes net v more)
+    (sym (path_comes net v i (strand_at net i).first None (get_or rs i [])))
+    ∙ sym (any_append (λ (e : Edge). nat_eq (strand_at net e.strand).var.0 v && needs_slot
+    (number e.to)) path more)
     ∙ ap (any_comes net v) (sym (flow_drop net.strands rs i no_strand [] one two)))
 
 -- a mark that is set
-pub set_mark : (marks : List Bool) (u v : ℕ) (comes : Bool) → u < length marks → comes ≡ true → marked (slice_set marks u true) v ≡ (marked marks v || (nat_eq u v && comes))
-set_mark marks u v comes lt is = elim (cases_eq v u) as (λ _. marked (slice_set marks u true) v ≡ (marked marks v || (nat_eq u v && comes))) [
-  | inl same ↦
-      ap (marked (slice_set marks u true)) same ∙ get_or-set_same marks u true false lt
-      ∙ sym (or_yes (marked marks v) (nat_eq u v && comes) (ap₂ (λ a b. a && b) (eq-eqb u v (sym same)) is))
-  | inr apart ↦ get_or-set_other marks u v true false apart ∙ sym (or_no (marked marks v) (nat_eq u v && comes) (ap (λ a. a && comes) (ne_eqb u v (λ e. apart (sym e)))))
-]
+pub set_mark : (marks : List Bool) (u v : ℕ) (comes : Bool) → u < length marks → comes ≡ true →
+    marked (slice_set marks u true) v ≡ (marked marks v || (nat_eq u v && comes))
+set_mark marks u v comes lt is =
+    elim (cases_eq v u) as (λ _. marked (slice_set marks u true) v ≡
+    (marked marks v || (nat_eq u v && comes))) [
+      | inl same ↦
+          ap (marked (slice_set marks u true)) same ∙ get_or-set_same marks u true false lt
+          ∙ sym (or_yes (marked marks v) (nat_eq u v && comes)
+          (ap₂ (λ a b. a && b) (eq-eqb u v (sym same)) is))
+      | inr apart ↦ get_or-set_other marks u v true false apart
+          ∙ sym (or_no (marked marks v) (nat_eq u v && comes)
+          (ap (λ a. a && comes) (ne_eqb u v (λ e. apart (sym e)))))
+    ]
   where
     or_yes : (a b : Bool) → b ≡ true → (a || b) ≡ true
     or_yes true b e = refl
@@ -89,7 +107,8 @@ range_next a (suc n) =
     ap (λ ks. a ∷ ks) (range_next (a + 1) n ∙ ap (λ k. range_with_len (a + 1) n ++ k ∷ []) e)
 
 -- one number more that passes, or not
-pub filter_next : (p : ℕ → Bool) (v : ℕ) → filter p (range_with_len 0 (v + 1)) ≡ filter p (range_with_len 0 v) ++ only_if (p v) v
+pub filter_next : (p : ℕ → Bool) (v : ℕ) → filter p (range_with_len 0 (v + 1)) ≡
+    filter p (range_with_len 0 v) ++ only_if (p v) v
 filter_next p v =
     let one : v + 1 ≡ suc v = omega arith in
     let same : 0 + v ≡ v = omega arith in

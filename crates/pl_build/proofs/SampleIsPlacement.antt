@@ -1,6 +1,8 @@
 -- A module whose procedure was placed: a variable in memory until it is written out, a constant as
 -- an immediate, a both place.
-use Rattle.std.proofs.Common.{◌≡◌, ℕ, ℤ, zero, suc, ◌<◌, ◌≤◌, ⊎_elim, Bool, true, false, ◌&&◌, ◌||◌, List, [], ◌∷◌, count_by, IsTrue, slice_get, Some, None, refl, subst, arith, lit≤}
+use Rattle.std.proofs.Common.{◌≡◌, ℕ, ℤ, zero, suc, ◌<◌, ◌≤◌, ⊎_elim, Bool, true, false, ◌&&◌, ◌||◌}
+use Rattle.std.proofs.Common.{List, [], ◌∷◌, count_by, IsTrue, slice_get, Some, None, refl, subst}
+use Rattle.std.proofs.Common.{arith, lit≤}
 use Rattle.std.specs.Prelude.{nat_eq, ◌↔◌, pos, ◌≤ℤ◌}
 use Rattle.std.proofs.lemmas.Bool.{cases_lt}
 use Rattle.std.proofs.lemmas.Bool.Decides.{nat_tests}
@@ -16,10 +18,14 @@ use Rattle.pra_base.specs.declared.code.VProc.{VProc}
 use Rattle.pra_base.specs.Code.{block_in, EachInstr, IsTarget}
 use Rattle.pra_base.specs.Live.{reads_at}
 use Rattle.pra_base.specs.Operands.{reads, writes, only_writes}
-use Rattle.pra_base.specs.Valid.{EntryBlock, LastReturn, CmpBeforeBranch, RolesApart, DivisionApart, KeepsConstant, ConstantsKept, LiveAtEntry, PushesBeforeCalls, TakesAny, TakesArgs, ClearFirst, ArgumentsApart, CheckRange, NamesCell, Names, counts_of, IsValid, IsSized, AreValid}
+use Rattle.pra_base.specs.Valid.{EntryBlock, LastReturn, CmpBeforeBranch, RolesApart, DivisionApart}
+use Rattle.pra_base.specs.Valid.{KeepsConstant, ConstantsKept, LiveAtEntry, PushesBeforeCalls}
+use Rattle.pra_base.specs.Valid.{TakesAny, TakesArgs, ClearFirst, ArgumentsApart, CheckRange}
+use Rattle.pra_base.specs.Valid.{NamesCell, Names, counts_of, IsValid, IsSized, AreValid}
 use Rattle.net_form.specs.declared.net.MemPair.{MemPair}
 use Rattle.net_form.specs.declared.net.Tie.{Tie}
-use Rattle.net_form.specs.Admitted.{in_mask, stays_across, uses_bundle, uses_memory, KeepsTie, IsAdmitted}
+use Rattle.net_form.specs.Admitted.{in_mask, stays_across, uses_bundle, uses_memory, KeepsTie}
+use Rattle.net_form.specs.Admitted.{IsAdmitted}
 use Rattle.net_form.specs.Examples.{set_add_write, set_add_write_live, set_add_write_net}
 use Rattle.net_form.specs.Flow.{Edge, flow}
 use Rattle.net_form.specs.Tables.{all_tables}
@@ -36,7 +42,8 @@ use Rattle.pl_build.specs.Placement.{IsPlacement, ArePlacements}
 abbrev code_is : List VInstr
 code_is = Set v0 (pos 3) ∷ Add v0 v1 ∷ Write v0 ∷ []
 
-each_instr : (P : VInstr → Type 0) → P (Set v0 (pos 3)) → P (Add v0 v1) → P (Write v0) → EachInstr set_add_write.blocks P
+each_instr : (P : VInstr → Type 0) → P (Set v0 (pos 3)) → P (Add v0 v1) → P (Write v0) →
+    EachInstr set_add_write.blocks P
 each_instr P a c d zero k i h = each_at (λ k i. P i) code_is (a, (c, (d, tt))) k i h
 each_instr P a c d (suc b) k i h = cc
 
@@ -68,20 +75,31 @@ pushes Takes zero = (refl, (refl, (refl, refl)))
 pushes Takes (suc b) = refl
 
 clears : ClearFirst 0 set_add_write.blocks
-clears b k = ((λ e. absurd (each_instr (λ i. i ≡ Clear → ⊥) (λ c. cc) (λ c. cc) (λ c. cc) b k Clear e refl)), (λ w. absurd (w.0 refl)))
+clears b k = (
+  (λ e. absurd (each_instr (λ i. i ≡ Clear → ⊥) (λ c. cc) (λ c. cc) (λ c. cc) b k Clear
+      e refl)),
+  (λ w. absurd (w.0 refl)),
+)
 
 checks : CheckRange set_add_write.blocks
-checks = each_instr (λ i. (v : VarId) (n : ℤ) → i ≡ Check v n → (pos 0 ≤ℤ n) × (n ≤ℤ pos 2147483647)) (λ v n e. cc) (λ v n e. cc) (λ v n e. cc)
+checks = each_instr (λ i. (v : VarId) (n : ℤ) → i ≡ Check v n → (pos 0 ≤ℤ n) ×
+    (n ≤ℤ pos 2147483647)) (λ v n e. cc) (λ v n e. cc) (λ v n e. cc)
 
 roles : RolesApart set_add_write.blocks
-roles = each_instr (λ i. (v : ℕ) → only_writes i v ≡ true → reads i v ≡ false) (λ v h. refl) (λ v h. cc) (λ v h. cc)
+roles = each_instr (λ i. (v : ℕ) → only_writes i v ≡ true → reads i v ≡ false) (λ v h. refl)
+    (λ v h. cc) (λ v h. cc)
 
 division : DivisionApart set_add_write
-division b k q r a d h = absurd (each_instr (λ i. i ≡ DivMod q r a d → ⊥) (λ c. cc) (λ c. cc) (λ c. cc) b k (DivMod q r a d) h refl)
+division b k q r a d h =
+    absurd (each_instr (λ i. i ≡ DivMod q r a d → ⊥) (λ c. cc) (λ c. cc) (λ c. cc) b k
+    (DivMod q r a d) h refl)
 
 constants : ConstantsKept set_add_write
 constants zero n e = cc
-constants (suc zero) n e = each_instr (KeepsConstant 1) (record { unwritten = refl; uncopied = λ t s e. cc }) (record { unwritten = refl; uncopied = λ t s e. cc }) (record { unwritten = refl; uncopied = λ t s e. cc })
+constants (suc zero) n e = each_instr (KeepsConstant 1)
+    (record { unwritten = refl; uncopied = λ t s e. cc })
+    (record { unwritten = refl; uncopied = λ t s e. cc })
+    (record { unwritten = refl; uncopied = λ t s e. cc })
 constants (suc (suc v)) n e = cc
 
 -- no instruction reads a variable past the end
@@ -113,7 +131,9 @@ entries (suc zero) lives = absurd (not_live ((set_add_write-is_live 1 0 0).1 (re
   where
     not_live : IsTrue (set_add_write_live 1 0 0) → ⊥
     not_live h = cc
-entries (suc (suc v)) lives = absurd (not_both (reads_at set_add_write (suc (suc v)) lives.to) lives.read (not_read (suc (suc v)) lives.to.block lives.to.index (omega arith)))
+entries (suc (suc v)) lives =
+    absurd (not_both (reads_at set_add_write (suc (suc v)) lives.to) lives.read
+    (not_read (suc (suc v)) lives.to.block lives.to.index (omega arith)))
 
 arguments : ArgumentsApart set_add_write.vars set_add_write.blocks
 arguments = record {
@@ -129,7 +149,14 @@ arguments = record {
 pub code_valid : IsValid set_add_write
 code_valid = record {
   entry_block = entry;
-  block_rules = record { last_return = last; cmp_before_branch = branches; pushes_before_calls = pushes TakesAny; clear_first = clears; check_range = checks };
+  block_rules = record {
+    last_return = last;
+    cmp_before_branch = branches;
+    pushes_before_calls =
+        pushes TakesAny;
+    clear_first = clears;
+    check_range = checks;
+  };
   roles_apart = roles;
   division_apart = division;
   constants_kept = constants;
@@ -139,26 +166,35 @@ code_valid = record {
 
 module_valid : AreValid (set_add_write ∷ [])
 module_valid = record {
-  each = λ p code h. each_at (λ p code. IsValid code) (set_add_write ∷ []) (code_valid, tt) p code h;
-  pushes_before_calls = λ p code h. each_at (λ p (code : VProc). PushesBeforeCalls (TakesArgs (counts_of (set_add_write ∷ []))) code.blocks) (set_add_write ∷ [])
+  each = λ p code h. each_at (λ p code. IsValid code) (set_add_write ∷ []) (code_valid, tt) p code
+      h;
+  pushes_before_calls = λ p code h. each_at
+      (λ p (code : VProc). PushesBeforeCalls (TakesArgs (counts_of (set_add_write ∷ [])))
+      code.blocks) (set_add_write ∷ [])
       (pushes (TakesArgs (counts_of (set_add_write ∷ []))), tt) p code h;
   body = refl;
 }
 
 -- ---- sized
 
-two_variables : (i : VInstr) → ((w : ℕ) → 2 ≤ w → reads i w ≡ false) → ((w : ℕ) → 2 ≤ w → writes i w ≡ false) → (v : ℕ) → Names i v → v < 2
+two_variables : (i : VInstr) → ((w : ℕ) → 2 ≤ w → reads i w ≡ false) →
+    ((w : ℕ) → 2 ≤ w → writes i w ≡ false) → (v : ℕ) → Names i v → v < 2
 two_variables i f g v names =
     ⊎_elim
     (λ (lt : v < 2). lt)
-    (λ (le : 2 ≤ v). ⊎_elim (λ (h : reads i v ≡ true). absurd (not_both (reads i v) h (f v le))) (λ (h : writes i v ≡ true). absurd (not_both (writes i v) h (g v le))) names)
+    (λ (le : 2 ≤ v). ⊎_elim (λ (h : reads i v ≡ true). absurd (not_both (reads i v) h (f v le)))
+    (λ (h : writes i v ≡ true). absurd (not_both (writes i v) h (g v le))) names)
     (cases_lt v 2)
 
 pub code_sized : IsSized set_add_write
 code_sized = record {
-  variables_in_range = each_instr (λ i. (v : ℕ) → Names i v → v < 2) (two_variables (Set v0 (pos 3)) (λ w h. refl) first_only) (two_variables (Add v0 v1) either in_place) (two_variables (Write v0) first_only (λ w h. refl));
+  variables_in_range = each_instr (λ i. (v : ℕ) → Names i v → v < 2)
+      (two_variables (Set v0 (pos 3)) (λ w h. refl) first_only)
+      (two_variables (Add v0 v1) either in_place)
+      (two_variables (Write v0) first_only (λ w h. refl));
   targets_in_range = targets;
-  cells_in_range = each_instr (λ j. (i : ℕ) → NamesCell j i → i < 0) (λ i e. cc) (λ i e. cc) (λ i e. cc);
+  cells_in_range = each_instr (λ j. (i : ℕ) → NamesCell j i → i < 0) (λ i e. cc) (λ i e. cc)
+      (λ i e. cc);
   params_in_range = params;
   depths = depths;
   instructions = lit≤ tt;
@@ -217,11 +253,15 @@ one_register n r =
 
 admitted : IsAdmitted set_add_write_net f
 admitted = record {
-  conserves = flow_conserves set_add_write_net.strands both_places_routes.places (λ k d lt. ((formed all_tables set_add_write set_add_write_net set_add_write-is_net code_sized).strands k d lt).order) (refl, (refl, tt));
-  masks = all_of_each (λ e. IsTrue (in_mask set_add_write_net e)) f (refl, (refl, (refl, (refl, (refl, tt)))));
+  conserves = flow_conserves set_add_write_net.strands both_places_routes.places
+      (λ k d lt. ((formed all_tables set_add_write set_add_write_net set_add_write-is_net
+      code_sized).strands k d lt).order) (refl, (refl, tt));
+  masks = all_of_each (λ e. IsTrue (in_mask set_add_write_net e)) f
+      (refl, (refl, (refl, (refl, (refl, tt)))));
   across = all_of_each (λ e. IsTrue (stays_across e)) f (refl, (refl, (refl, (refl, (refl, tt)))));
   bundles = one_register;
-  pairs = all_of_each (λ (m : MemPair). count_by (uses_memory m) f ≤ 1) set_add_write_net.pairs (lit≤ tt, tt);
+  pairs = all_of_each (λ (m : MemPair). count_by (uses_memory m) f ≤ 1) set_add_write_net.pairs
+      (lit≤ tt, tt);
   ties = all_of_each (λ (t : Tie). KeepsTie set_add_write_net f t) [] tt;
 }
 
@@ -239,10 +279,13 @@ pub placements : ArePlacements (set_add_write ∷ []) (in_memory ∷ [])
 placements = record {
   valid = module_valid;
   count = refl;
-  sized = λ n code e. each_at (λ n code. IsSized code) (set_add_write ∷ []) (code_sized, tt) n code e;
+  sized = λ n code e. each_at (λ n code. IsSized code) (set_add_write ∷ []) (code_sized, tt) n code
+      e;
   each = λ n code p e h. by_number n code p e h;
 }
   where
-    by_number : (n : ℕ) (code : VProc) (p : _) → slice_get (set_add_write ∷ []) n ≡ Some code → slice_get (in_memory ∷ []) n ≡ Some p → IsPlacement code p
-    by_number zero code p e h = let a : set_add_write ≡ code = cc in let c : in_memory ≡ p = cc in subst (λ x. IsPlacement x p) a (subst (IsPlacement set_add_write) c placement)
+    by_number : (n : ℕ) (code : VProc) (p : _) → slice_get (set_add_write ∷ []) n ≡ Some code →
+        slice_get (in_memory ∷ []) n ≡ Some p → IsPlacement code p
+    by_number zero code p e h = let a : set_add_write ≡ code = cc in let c : in_memory ≡ p = cc in
+        subst (λ x. IsPlacement x p) a (subst (IsPlacement set_add_write) c placement)
     by_number (suc n) code p e h = cc

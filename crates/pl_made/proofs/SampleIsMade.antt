@@ -1,5 +1,7 @@
--- Some placed code was made: a variable in memory until it is written out, where it is loaded into EAX beside it.
-use Rattle.std.proofs.Common.{◌≡◌, ℕ, zero, suc, Bool, true, false, nat_eq, if◌then◌else◌, List, [], ◌∷◌, slice_get, Some, inl, refl, sym, ap, subst, arith}
+-- Some placed code was made: a variable in memory until it is written out, where it is loaded into
+-- EAX beside it.
+use Rattle.std.proofs.Common.{◌≡◌, ℕ, zero, suc, Bool, true, false, nat_eq, if◌then◌else◌, List, []}
+use Rattle.std.proofs.Common.{◌∷◌, slice_get, Some, inl, refl, sym, ap, subst, arith}
 use Rattle.std.proofs.lemmas.Bool.Decides.{nat_tests}
 use Rattle.pra_list.proofs.Each.{all_of_each}
 use Rattle.pra_base.specs.declared.ids.Place.TheVariants.{Eax}
@@ -19,9 +21,11 @@ use Rattle.pl_made.specs.Made.{MovesAt, LaysMoves, IsMade}
 abbrev r : Routed
 r = sample.routed both_places_routes
 
-counted_none : (pairs : List Pair) → ((near : Bool) → Counted near [] pairs) → ((cell : Cell) → source pairs cell ≡ cell) → (l : ℕ) → pairs ≡ pairs_at r 0 l → MovesAt r 0 l []
+counted_none : (pairs : List Pair) → ((near : Bool) → Counted near [] pairs) →
+    ((cell : Cell) → source pairs cell ≡ cell) → (l : ℕ) → pairs ≡ pairs_at r 0 l → MovesAt r 0 l []
 counted_none pairs counted stays l e = subst (λ ps. MovesAt r 0 l []) e (record {
-  assigns = subst (Assigns []) e (record { after = λ c. c; runs = refl; each = λ c. sym (stays c) });
+  assigns = subst (Assigns []) e
+      (record { after = λ c. c; runs = refl; each = λ c. sym (stays c) });
   in_registers = all_of_each InRegisters [] tt;
   names = all_of_each (NamesMemory (pairs_at r 0 l)) [] tt;
   counted = λ near. subst (Counted near []) e (counted near);
@@ -46,23 +50,32 @@ added (Memory v) = refl
 added (Fixed n) = refl
 
 turned : (k n : ℕ) (x y : Cell) → (if nat_eq n k then x else y) ≡ (if nat_eq k n then x else y)
-turned k n x y = let e : nat_eq n k ≡ nat_eq k n = grind (arith, nat_tests) in ap (λ b. if b then x else y) e
+turned k n x y = let e : nat_eq n k ≡ nat_eq k n = grind (arith, nat_tests) in
+    ap (λ b. if b then x else y) e
 
-loads : (cell : Cell) → with_cell (λ c. c) (Register 0) (Memory 0) cell ≡ source (pairs_at r 0 5) cell
+loads : (cell : Cell) → with_cell (λ c. c) (Register 0) (Memory 0) cell ≡
+    source (pairs_at r 0 5) cell
 loads (Register n) = turned 0 n (Memory 0) (Register n)
 loads (Memory v) = refl
 loads (Fixed n) = refl
 
 loaded : MovesAt r 0 5 (Load Eax v0 ∷ [])
 loaded = record {
-  assigns = record { after = with_cell (λ c. c) (Register 0) (Memory 0); runs = refl; each = loads };
+  assigns = record {
+    after = with_cell (λ c. c) (Register 0) (Memory 0);
+    runs = refl;
+    each =
+        loads;
+  };
   in_registers = all_of_each InRegisters (Load Eax v0 ∷ []) (refl, tt);
-  names = all_of_each (NamesMemory (pairs_at r 0 5)) (Load Eax v0 ∷ []) ((0, _, omega arith, refl, (refl, inl refl)), tt);
+  names = all_of_each (NamesMemory (pairs_at r 0 5)) (Load Eax v0 ∷ [])
+      ((0, _, omega arith, refl, (refl, inl refl)), tt);
   counted = loaded_counted;
   few = omega arith;
 }
 
-at_zero : (P : ℕ → LBlock → Type 0) (first : LBlock) → P 0 first → (b : ℕ) (block : LBlock) → slice_get (first ∷ []) b ≡ Some block → P b block
+at_zero : (P : ℕ → LBlock → Type 0) (first : LBlock) → P 0 first → (b : ℕ) (block : LBlock) →
+    slice_get (first ∷ []) b ≡ Some block → P b block
 at_zero P first p zero block e = let is : first ≡ block = cc in subst (P 0) is p
 at_zero P first p (suc b) block e = cc
 
@@ -86,6 +99,14 @@ sample_is = record {
     refl,
     nothing 1 refl,
     (refl, refl),
-    ([], _, _, refl, counted_none (pairs_at r 0 3) added_counted added 3 refl, (refl, refl), (Load Eax v0 ∷ [], _, _, refl, loaded, (refl, refl), ([], refl, nothing 7 refl))),
+    (
+      [],
+      _,
+      _,
+      refl,
+      counted_none (pairs_at r 0 3) added_counted added 3 refl,
+      (refl, refl),
+      (Load Eax v0 ∷ [], _, _, refl, loaded, (refl, refl), ([], refl, nothing 7 refl)),
+    ),
   );
 }

@@ -1,7 +1,8 @@
 -- The register of a place, alone.
 use Rattle.std.proofs.Common.{◌≡◌, true, refl, ap}
 use Rattle.pra_base.specs.declared.ids.Place.{Place}
-use Rattle.pra_base.specs.declared.ids.Place.TheVariants.{Eax, Ecx, Edx, Ebx, Esi, Edi, Mem, Const, EaxM, EcxM, EdxM, EbxM, EsiM, EdiM}
+use Rattle.pra_base.specs.declared.ids.Place.TheVariants.{Eax, Ecx, Edx, Ebx, Esi, Edi, Mem, Const}
+use Rattle.pra_base.specs.declared.ids.Place.TheVariants.{EaxM, EcxM, EdxM, EbxM, EsiM, EdiM}
 use Rattle.pra_base.specs.Places.{number, has_register, is_register, register_of}
 use Rattle.pl_moves.specs.Meaning.{Register, reg}
 use Rattle.pl_moves.specs.Sequence.{alone}
@@ -41,7 +42,8 @@ register_of-alone EdiM = refl
 pub reg-alone : (p : Place) → reg (alone p) ≡ reg p
 reg-alone p = ap Register (register_of-alone p)
 
-pub is_register-alone : (p : Place) → has_register (number p) ≡ true → is_register (number (alone p)) ≡ true
+pub is_register-alone : (p : Place) → has_register (number p) ≡ true →
+    is_register (number (alone p)) ≡ true
 is_register-alone Eax h = refl
 is_register-alone Ecx h = refl
 is_register-alone Edx h = refl

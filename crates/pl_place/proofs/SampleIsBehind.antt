@@ -1,5 +1,6 @@
 -- Two routes of one code are behind the code that they place.
-use Rattle.std.proofs.Common.{◌≡◌, ℕ, zero, suc, Bool, true, false, nat_eq, if◌then◌else◌, [], ◌∷◌, slice_get, Some, refl, sym, ap, subst, arith}
+use Rattle.std.proofs.Common.{◌≡◌, ℕ, zero, suc, Bool, true, false, nat_eq, if◌then◌else◌, [], ◌∷◌}
+use Rattle.std.proofs.Common.{slice_get, Some, refl, sym, ap, subst, arith}
 use Rattle.std.proofs.lemmas.Bool.Decides.{nat_tests}
 use Rattle.net_form.specs.Examples.{in_register_routes}
 use Rattle.pra_list.proofs.Each.{all_of_each}
@@ -16,13 +17,15 @@ use Rattle.pl_place.specs.SampleRoutes.{routed, both_places_routes, in_register,
 
 -- ---- moves
 
-none : (r : Routed) (l : ℕ) → ((cell : Cell) → source (pairs_at r 0 l) cell ≡ cell) → MovesInto r 0 l []
+none : (r : Routed) (l : ℕ) → ((cell : Cell) → source (pairs_at r 0 l) cell ≡ cell) →
+    MovesInto r 0 l []
 none r l each = record {
   in_registers = all_of_each InRegisters [] tt;
   assigns = record { after = λ cell. cell; runs = refl; each = λ cell. sym (each cell) };
 }
 
-same : (b : Bool) (k r : ℕ) → (b ≡ true → k ≡ r) → (if b then Register k else Register r) ≡ Register r
+same : (b : Bool) (k r : ℕ) → (b ≡ true → k ≡ r) → (if b then Register k else Register r) ≡
+    Register r
 same true k r f = let e : k ≡ r = f refl in rw e refl
 same false k r f = refl
 
@@ -30,9 +33,11 @@ own : (k r : ℕ) → (if nat_eq k r then Register k else Register r) ≡ Regist
 own k r = same (nat_eq k r) k r (λ e. grind (arith, nat_tests))
 
 turned : (k r : ℕ) (x y : Cell) → (if nat_eq r k then x else y) ≡ (if nat_eq k r then x else y)
-turned k r x y = let e : nat_eq r k ≡ nat_eq k r = grind (arith, nat_tests) in ap (λ b. if b then x else y) e
+turned k r x y = let e : nat_eq r k ≡ nat_eq k r = grind (arith, nat_tests) in
+    ap (λ b. if b then x else y) e
 
-at_zero : (P : ℕ → LBlock → Type 0) (first : LBlock) → P 0 first → (b : ℕ) (block : LBlock) → slice_get (first ∷ []) b ≡ Some block → P b block
+at_zero : (P : ℕ → LBlock → Type 0) (first : LBlock) → P 0 first → (b : ℕ) (block : LBlock) →
+    slice_get (first ∷ []) b ≡ Some block → P b block
 at_zero P first p zero block e = let is : first ≡ block = cc in subst (P 0) is p
 at_zero P first p (suc b) block e = cc
 
@@ -67,7 +72,23 @@ register_is = record {
     refl,
     none one 1 (λ cell. refl),
     (refl, refl),
-    ([], _, _, refl, none one 3 eax_added, (refl, refl), ([], _, _, refl, none one 5 eax_written, (refl, refl), ([], refl, none one 7 (λ cell. refl)))),
+    (
+      [],
+      _,
+      _,
+      refl,
+      none one 3 eax_added,
+      (refl, refl),
+      (
+        [],
+        _,
+        _,
+        refl,
+        none one 5 eax_written,
+        (refl, refl),
+        ([], refl, none one 7 (λ cell. refl)),
+      ),
+    ),
   );
 }
 
@@ -111,6 +132,22 @@ memory_is = record {
     refl,
     none other 1 (λ cell. refl),
     (refl, refl),
-    ([], _, _, refl, none other 3 memory_added, (refl, refl), (Load Eax v0 ∷ [], _, _, refl, loading, (refl, refl), ([], refl, none other 7 (λ cell. refl)))),
+    (
+      [],
+      _,
+      _,
+      refl,
+      none other 3 memory_added,
+      (refl, refl),
+      (
+        Load Eax v0 ∷ [],
+        _,
+        _,
+        refl,
+        loading,
+        (refl, refl),
+        ([], refl, none other 7 (λ cell. refl)),
+      ),
+    ),
   );
 }

@@ -1,21 +1,27 @@
 -- The sample is valid placed code, rule by rule.
-use Rattle.std.proofs.Common.{◌≡◌, ◌≢◌, ℕ, zero, suc, ◌<◌, ◌⊎◌, inr, ⊎_elim, true, List, [], ◌∷◌, slice_get, Some, refl, arith, lit≤, lit<}
+use Rattle.std.proofs.Common.{◌≡◌, ◌≢◌, ℕ, zero, suc, ◌<◌, ◌⊎◌, inr, ⊎_elim, true, List, [], ◌∷◌}
+use Rattle.std.proofs.Common.{slice_get, Some, refl, arith, lit≤, lit<}
 use Rattle.std.specs.Prelude.{ℤ, ◌↔◌, pos, ◌≤ℤ◌}
 use Rattle.pra_base.specs.declared.ids.Place.{Place}
 use Rattle.pra_base.specs.declared.ids.Place.TheVariants.{Eax, Ecx, Mem, EaxM}
 use Rattle.pra_base.specs.declared.ids.VarId.{VarId}
 use Rattle.pra_base.specs.declared.code.VarKind.TheVariants.{Param, Plain}
 use Rattle.pra_base.specs.declared.code.VInstr.{VInstr}
-use Rattle.pra_base.specs.declared.code.VInstr.TheVariants.{Set, Push, Call, Load, Cmp, Clear, Check}
+use Rattle.pra_base.specs.declared.code.VInstr.TheVariants.{Set, Push, Call, Load, Cmp, Clear}
+use Rattle.pra_base.specs.declared.code.VInstr.TheVariants.{Check}
 use Rattle.pra_base.specs.declared.code.End.TheVariants.{Return}
 use Rattle.pra_base.specs.Code.{block_in, EachInstr, IsTarget}
 use Rattle.pra_base.specs.Places.{is_mem}
 use Rattle.pra_base.specs.Operands.{Role}
-use Rattle.pra_base.specs.Valid.{LastReturn, CmpBeforeBranch, PushesBeforeCalls, TakesAny, TakesArgs, ClearFirst, CheckRange, ArgumentsApart, Names, NamesCell}
+use Rattle.pra_base.specs.Valid.{LastReturn, CmpBeforeBranch, PushesBeforeCalls, TakesAny}
+use Rattle.pra_base.specs.Valid.{TakesArgs, ClearFirst, CheckRange, ArgumentsApart, Names}
+use Rattle.pra_base.specs.Valid.{NamesCell}
 use Rattle.pl_moves.specs.declared.transfer.Move.{Move}
 use Rattle.pl_moves.specs.Crossbar.{InRegisters}
 use Rattle.pl_place.specs.Placed.{place_in, bare}
-use Rattle.pl_place.specs.Valid.{EachOp, roles, OperandsPlaced, HasMemory, MoveHasMemory, MemoryThere, FewMoves, MoveNames, NumbersInRange, IsPlaced, counts_of, ArePlaced}
+use Rattle.pl_place.specs.Valid.{EachOp, roles, OperandsPlaced, HasMemory, MoveHasMemory}
+use Rattle.pl_place.specs.Valid.{MemoryThere, FewMoves, MoveNames, NumbersInRange, IsPlaced}
+use Rattle.pl_place.specs.Valid.{counts_of, ArePlaced}
 use Rattle.pl_place.specs.Sample.{v0, v1, callee, word_0, caller, called, sample}
 use Rattle.pra_list.specs.Each.{EachAt}
 use Rattle.pra_list.proofs.Each.{each_at}
@@ -28,18 +34,23 @@ caller_operands = each_op (OperandsPlaced caller) caller (
   (
     placed_at caller Clear [] refl tt tt tt,
     (
-      placed_at caller (Set v0 (pos 5)) (Eax ∷ []) refl (refl, tt) tt (((λ m n ne mem. cc), tt), tt),
+      placed_at caller (Set v0 (pos 5)) (Eax ∷ []) refl (refl, tt) tt
+          (((λ m n ne mem. cc), tt), tt),
       (
         tt,
         (
-          placed_at caller (Push v0) (EaxM ∷ []) refl (refl, tt) (tt, tt) (((λ m n ne mem. cc), tt), tt),
+          placed_at caller (Push v0) (EaxM ∷ []) refl (refl, tt) (tt, tt)
+              (((λ m n ne mem. cc), tt), tt),
           (
             placed_at caller (Call callee) [] refl tt tt tt,
             (
-              placed_at caller (Load v1 word_0) (Ecx ∷ []) refl (refl, tt) tt (((λ m n ne mem. cc), tt), tt),
+              placed_at caller (Load v1 word_0) (Ecx ∷ []) refl (refl, tt) tt
+                  (((λ m n ne mem. cc), tt), tt),
               (
-                placed_at caller (Cmp v1 v0) (Ecx ∷ Mem ∷ []) refl (refl, (refl, tt)) (tt, (tt, tt))
-                    (((λ m n ne mem. cc), ((λ m n ne mem. cc), tt)), (((λ m n ne mem. refl), ((λ m n ne mem. absurd (ne refl)), tt)), tt)),
+                placed_at caller (Cmp v1 v0) (Ecx ∷ Mem ∷ []) refl (refl, (refl, tt)) (tt, (tt, tt)) (
+                  ((λ m n ne mem. cc), ((λ m n ne mem. cc), tt)),
+                  (((λ m n ne mem. refl), ((λ m n ne mem. absurd (ne refl)), tt)), tt),
+                ),
                 tt,
               ),
             ),
@@ -56,32 +67,42 @@ slot_0 = inr (0, v0, refl, refl)
 
 caller_memory : MemoryThere caller
 caller_memory = record {
-  moves = each_move (MoveHasMemory caller) caller ((tt, (tt, (slot_0, (tt, (tt, (tt, (tt, tt))))))), (tt, tt));
-  operands_there = each_op (λ i places. (k : ℕ) (role : Role) → slice_get (roles i) k ≡ Some role → is_mem (place_in places k) ≡ true → HasMemory caller role.var) caller (
-    (
-      (λ k role h mem. cc),
-      (
-        (λ k role h. each_at (InMemory caller (Eax ∷ [])) (roles (Set v0 (pos 5))) ((λ mem. cc), tt) k role h),
+  moves = each_move (MoveHasMemory caller) caller (
+    (tt, (tt, (slot_0, (tt, (tt, (tt, (tt, tt))))))),
+    (tt, tt),
+  );
+  operands_there = each_op (λ i places. (k : ℕ) (role : Role) → slice_get (roles i) k ≡ Some role →
+      is_mem (place_in places k) ≡ true → HasMemory caller role.var) caller (
         (
-          tt,
+          (λ k role h mem. cc),
           (
-            (λ k role h. each_at (InMemory caller (EaxM ∷ [])) (roles (Push v0)) ((λ mem. cc), tt) k role h),
+            (λ k role h. each_at (InMemory caller (Eax ∷ [])) (roles (Set v0 (pos 5)))
+                ((λ mem. cc), tt)
+                k role h),
             (
-              (λ k role h mem. cc),
+              tt,
               (
-                (λ k role h. each_at (InMemory caller (Ecx ∷ [])) (roles (Load v1 word_0)) ((λ mem. cc), tt) k role h),
+                (λ k role h. each_at (InMemory caller (EaxM ∷ [])) (roles (Push v0))
+                    ((λ mem. cc), tt) k
+                    role h),
                 (
-                  (λ k role h. each_at (InMemory caller (Ecx ∷ Mem ∷ [])) (roles (Cmp v1 v0)) ((λ mem. cc), ((λ mem. slot_0), tt)) k role h),
-                  tt,
+                  (λ k role h mem. cc),
+                  (
+                    (λ k role h. each_at (InMemory caller (Ecx ∷ [])) (roles (Load v1 word_0))
+                        ((λ mem. cc), tt) k role h),
+                    (
+                      (λ k role h. each_at (InMemory caller (Ecx ∷ Mem ∷ [])) (roles (Cmp v1 v0))
+                          ((λ mem. cc), ((λ mem. slot_0), tt)) k role h),
+                      tt,
+                    ),
+                  ),
                 ),
               ),
             ),
           ),
         ),
-      ),
-    ),
-    (tt, tt),
-  );
+        (tt, tt),
+      );
   distinct = λ k j u a b.
       each_at (λ k u. slice_get caller.slots j ≡ Some u → k ≡ j) caller.slots
       ((λ c. each_at (λ j u. 0 ≡ j) caller.slots (refl, tt) j v0 c), tt) k u a b;
@@ -131,7 +152,9 @@ no_suc k h = omega arith
 caller_clear : ClearFirst 1 (bare caller)
 caller_clear zero zero = ((λ e. ((λ one. absurd (no_suc 0 one)), refl, refl)), (λ w. refl))
 caller_clear zero (suc k) = (
-  (λ e. absurd (each_at (λ j i. i ≢ Clear) (Set v0 (pos 5) ∷ Push v0 ∷ Call callee ∷ Load v1 word_0 ∷ Cmp v1 v0 ∷ []) ((λ c. cc), ((λ c. cc), ((λ c. cc), ((λ c. cc), ((λ c. cc), tt))))) k Clear e refl)),
+  (λ e. absurd (each_at (λ j i. i ≢ Clear)
+      (Set v0 (pos 5) ∷ Push v0 ∷ Call callee ∷ Load v1 word_0 ∷ Cmp v1 v0 ∷ [])
+      ((λ c. cc), ((λ c. cc), ((λ c. cc), ((λ c. cc), ((λ c. cc), tt))))) k Clear e refl)),
   (λ w. absurd (no_suc k w.2)),
 )
 caller_clear (suc zero) k = ((λ e. cc), (λ w. absurd (no_suc 0 w.1)))
@@ -157,7 +180,13 @@ of_called P zero k i h = cc
 of_called P (suc b) k i h = cc
 
 caller_checks : CheckRange (bare caller)
-caller_checks = of_caller InRange ((λ v n e. cc), ((λ v n e. cc), ((λ v n e. cc), ((λ v n e. cc), ((λ v n e. cc), ((λ v n e. cc), tt))))))
+caller_checks = of_caller InRange (
+  (λ v n e. cc),
+  (
+    (λ v n e. cc),
+    ((λ v n e. cc), ((λ v n e. cc), ((λ v n e. cc), ((λ v n e. cc), tt)))),
+  ),
+)
 
 -- ---- numbers
 
@@ -211,14 +240,21 @@ called_targets (suc b) t lt h = absurd (omega arith)
 
 caller_arguments : ArgumentsApart caller.vars (bare caller)
 caller_arguments = record {
-  params = λ v w i h g. each_at (λ v kind. kind ≡ Param i → v ≡ w) caller.vars ((λ e. cc), ((λ e. cc), tt)) v (Param i) h refl;
-  cells = of_caller (λ j. (v i : ℕ) → NamesCell j i → slice_get caller.vars v ≢ Some (Param i))
-      ((λ v i c. cc), ((λ v i c. cc), ((λ v i c. cc), ((λ v i c. cc), ((λ v i c. cc), ((λ v i c. cc), tt))))));
+  params = λ v w i h g. each_at (λ v kind. kind ≡ Param i → v ≡ w) caller.vars
+      ((λ e. cc), ((λ e. cc), tt)) v (Param i) h refl;
+  cells = of_caller (λ j. (v i : ℕ) → NamesCell j i → slice_get caller.vars v ≢ Some (Param i)) (
+    (λ v i c. cc),
+    (
+      (λ v i c. cc),
+      ((λ v i c. cc), ((λ v i c. cc), ((λ v i c. cc), ((λ v i c. cc), tt)))),
+    ),
+  );
 }
 
 called_arguments : ArgumentsApart called.vars (bare called)
 called_arguments = record {
-  params = λ v w i h g. each_at (λ v kind. slice_get called.vars w ≡ Some kind → v ≡ w) called.vars ((λ e. first w e), tt) v (Param i) h g;
+  params = λ v w i h g. each_at (λ v kind. slice_get called.vars w ≡ Some kind → v ≡ w) called.vars
+      ((λ e. first w e), tt) v (Param i) h g;
   cells = of_called (λ j. (v i : ℕ) → NamesCell j i → slice_get called.vars v ≢ Some (Param i));
 }
   where
@@ -229,12 +265,16 @@ called_arguments = record {
 caller_numbers : NumbersInRange caller
 caller_numbers = record {
   near_is = refl;
-  slots_plain = λ k u h. each_at (λ k u. slice_get caller.vars u.0 ≡ Some Plain) caller.slots (refl, tt) k u h;
+  slots_plain = λ k u h. each_at (λ k u. slice_get caller.vars u.0 ≡ Some Plain) caller.slots
+      (refl, tt) k u h;
   ops = caller_names;
-  moves = each_move MoveWithin caller ((tt, (tt, ((λ v h. zero_below v h), (tt, (tt, (tt, (tt, tt))))))), (tt, tt));
+  moves = each_move MoveWithin caller
+      ((tt, (tt, ((λ v h. zero_below v h), (tt, (tt, (tt, (tt, tt))))))), (tt, tt));
   targets = caller_targets;
-  cells = of_caller (λ j. (i : ℕ) → NamesCell j i → i < 0) ((λ i c. cc), ((λ i c. cc), ((λ i c. cc), ((λ i c. cc), ((λ i c. cc), ((λ i c. cc), tt))))));
-  params = λ v i h. each_at (λ v kind. kind ≡ Param i → i < 0) caller.vars ((λ e. cc), ((λ e. cc), tt)) v (Param i) h refl;
+  cells = of_caller (λ j. (i : ℕ) → NamesCell j i → i < 0)
+      ((λ i c. cc), ((λ i c. cc), ((λ i c. cc), ((λ i c. cc), ((λ i c. cc), ((λ i c. cc), tt))))));
+  params = λ v i h. each_at (λ v kind. kind ≡ Param i → i < 0) caller.vars
+      ((λ e. cc), ((λ e. cc), tt)) v (Param i) h refl;
   arguments_apart = caller_arguments;
 }
 
@@ -246,7 +286,8 @@ called_numbers = record {
   moves = each_move (λ m. (v : ℕ) → MoveNames m v → v < 1) called (tt, tt);
   targets = called_targets;
   cells = of_called (λ j. (i : ℕ) → NamesCell j i → i < 1);
-  params = λ v i h. each_at (λ v kind. kind ≡ Param i → i < 1) called.vars ((λ e. within i e), tt) v (Param i) h refl;
+  params = λ v i h. each_at (λ v kind. kind ≡ Param i → i < 1) called.vars ((λ e. within i e), tt) v
+      (Param i) h refl;
   arguments_apart = called_arguments;
 }
   where
@@ -266,9 +307,13 @@ caller_is = record {
     clear_first = caller_clear;
     check_range = caller_checks;
   };
-  in_registers = each_move InRegisters caller ((tt, (tt, (refl, (tt, (tt, (tt, (tt, tt))))))), (tt, tt));
+  in_registers = each_move InRegisters caller (
+    (tt, (tt, (refl, (tt, (tt, (tt, (tt, tt))))))),
+    (tt, tt),
+  );
   few_moves = λ b block h. each_at (λ b block. FewMoves 0 block.code) caller.blocks
-      ((lit≤ tt, (lit≤ tt, (lit≤ tt, (lit≤ tt, (lit≤ tt, (lit≤ tt, lit≤ tt)))))), (lit≤ tt, tt)) b block h;
+      ((lit≤ tt, (lit≤ tt, (lit≤ tt, (lit≤ tt, (lit≤ tt, (lit≤ tt, lit≤ tt)))))), (lit≤ tt, tt)) b
+      block h;
   numbers_in_range = caller_numbers;
 }
 
@@ -277,7 +322,8 @@ called_is = record {
   operands_placed = each_op (OperandsPlaced called) called (tt, tt);
   memory_there = record {
     moves = each_move (MoveHasMemory called) called (tt, tt);
-    operands_there = each_op (λ i places. (k : ℕ) (role : Role) → slice_get (roles i) k ≡ Some role → is_mem (place_in places k) ≡ true → HasMemory called role.var) called (tt, tt);
+    operands_there = each_op (λ i places. (k : ℕ) (role : Role) → slice_get (roles i) k ≡
+        Some role → is_mem (place_in places k) ≡ true → HasMemory called role.var) called (tt, tt);
     distinct = λ k j u a b. cc;
   };
   block_rules = record {
@@ -288,7 +334,8 @@ called_is = record {
     check_range = of_called InRange;
   };
   in_registers = each_move InRegisters called (tt, tt);
-  few_moves = λ b block h. each_at (λ b block. FewMoves 0 block.code) called.blocks (lit≤ tt, tt) b block h;
+  few_moves = λ b block h. each_at (λ b block. FewMoves 0 block.code) called.blocks (lit≤ tt, tt) b
+      block h;
   numbers_in_range = called_numbers;
 }
 
@@ -300,7 +347,8 @@ caller_takes (suc (suc b)) = refl
 pub sample_is : ArePlaced sample
 sample_is = record {
   each = λ p code h. each_at (λ p code. IsPlaced code) sample (caller_is, (called_is, tt)) p code h;
-  pushes_before_calls = λ p code h. each_at (λ p code. PushesBeforeCalls (TakesArgs (counts_of sample)) (bare code)) sample
+  pushes_before_calls = λ p code h. each_at
+      (λ p code. PushesBeforeCalls (TakesArgs (counts_of sample)) (bare code)) sample
       (caller_takes, (called_pushes (TakesArgs (counts_of sample)), tt)) p code h;
   body = refl;
 }

@@ -1,9 +1,11 @@
 -- Where the cells of a place get their values from, when pairs are moved at once.
-use Rattle.std.proofs.Common.{◌≡◌, ◌≢◌, ℕ, ℤ, ◌⊎◌, inl, inr, ⊎_elim, Bool, true, false, if◌then◌else◌, List, [], ◌∷◌, Option, refl, sym, ap, subst, ◌∙◌}
+use Rattle.std.proofs.Common.{◌≡◌, ◌≢◌, ℕ, ℤ, ◌⊎◌, inl, inr, ⊎_elim, Bool, true, false}
+use Rattle.std.proofs.Common.{if◌then◌else◌, List, [], ◌∷◌, Option, refl, sym, ap, subst, ◌∙◌}
 use Rattle.pra_list.proofs.Truths.{true_false}
 use Rattle.pra_list.specs.Among.{Among}
 use Rattle.pra_base.specs.declared.ids.Place.{Place}
-use Rattle.pra_base.specs.declared.ids.Place.TheVariants.{Eax, Ecx, Edx, Ebx, Esi, Edi, Mem, Const, EaxM, EcxM, EdxM, EbxM, EsiM, EdiM}
+use Rattle.pra_base.specs.declared.ids.Place.TheVariants.{Eax, Ecx, Edx, Ebx, Esi, Edi, Mem, Const}
+use Rattle.pra_base.specs.declared.ids.Place.TheVariants.{EaxM, EcxM, EdxM, EbxM, EsiM, EdiM}
 use Rattle.pra_base.specs.declared.code.VarKind.{VarKind}
 use Rattle.pra_base.specs.declared.code.VarKind.TheVariants.{Param, Plain, Constant}
 use Rattle.pra_base.specs.Places.{number, has_register, register_of, needs_slot}
@@ -18,24 +20,32 @@ use Rattle.pra_list.specs.Each.{Each}
 use Rattle.pl_routed.proofs.Lives.{changes}
 
 -- what one pair alone fills
-pub source_of : (pairs : List Pair) (cell : Cell) (x : Pair) → Among x pairs → fills x cell ≡ true → ((y : Pair) → Among y pairs → fills y cell ≡ true → y ≡ x) → source pairs cell ≡ origin x
+pub source_of : (pairs : List Pair) (cell : Cell) (x : Pair) → Among x pairs → fills x cell ≡ true →
+    ((y : Pair) → Among y pairs → fills y cell ≡ true → y ≡ x) → source pairs cell ≡ origin x
 source_of [] cell x i t one = absurd i
-source_of (y ∷ ys) cell x i t one = by_test (fills y cell) refl (λ more. source_of ys cell x more t (λ z j u. one z (inr j) u))
+source_of (y ∷ ys) cell x i t one = by_test (fills y cell) refl
+    (λ more. source_of ys cell x more t (λ z j u. one z (inr j) u))
   where
-    by_test : (b : Bool) → fills y cell ≡ b → (Among x ys → source ys cell ≡ origin x) → (if b then origin y else source ys cell) ≡ origin x
+    by_test : (b : Bool) → fills y cell ≡ b → (Among x ys → source ys cell ≡ origin x) →
+        (if b then origin y else source ys cell) ≡ origin x
     by_test true e ih = ap origin (one y (inl refl) e)
-    by_test false e ih = ⊎_elim (λ (same : x ≡ y). absurd (true_false (fills y cell) (sym (ap (λ z. fills z cell) same) ∙ t) e)) (λ (more : Among x ys). ih more) i
+    by_test false e ih = ⊎_elim
+        (λ (same : x ≡ y). absurd (true_false (fills y cell) (sym (ap (λ z. fills z cell) same) ∙ t)
+        e)) (λ (more : Among x ys). ih more) i
 
 -- what none fills keeps its own
-pub source_kept : (pairs : List Pair) (cell : Cell) → ((y : Pair) → Among y pairs → fills y cell ≡ false) → source pairs cell ≡ cell
+pub source_kept : (pairs : List Pair) (cell : Cell) →
+    ((y : Pair) → Among y pairs → fills y cell ≡ false) → source pairs cell ≡ cell
 source_kept [] cell none = refl
-source_kept (y ∷ ys) cell none = ap (λ b. if b then origin y else source ys cell) (none y (inl refl)) ∙ source_kept ys cell (λ z i. none z (inr i))
+source_kept (y ∷ ys) cell none = ap (λ b. if b then origin y else source ys cell)
+    (none y (inl refl)) ∙ source_kept ys cell (λ z i. none z (inr i))
 
 source_fixed : (pairs : List Pair) (n : ℤ) → source pairs (Fixed n) ≡ Fixed n
 source_fixed pairs n = source_kept pairs (Fixed n) (λ y i. refl)
 
 -- a Constant's number
-pub numbers_stay : (pairs : List Pair) (kind : VarKind) → Each (λ cell. Among (source pairs cell) (fixed kind)) (fixed kind)
+pub numbers_stay : (pairs : List Pair) (kind : VarKind) →
+    Each (λ cell. Among (source pairs cell) (fixed kind)) (fixed kind)
 numbers_stay pairs (Param i) = tt
 numbers_stay pairs Plain = tt
 numbers_stay pairs (Constant n) = (inl (source_fixed pairs n), tt)
@@ -43,14 +53,18 @@ numbers_stay pairs (Constant n) = (inl (source_fixed pairs n), tt)
 -- ---- the origin of a pair is a cell of its place
 
 abbrev pub origin_at : ℕ → Place → Option ℤ → Cell
-origin_at w f c = if has_register (number f) then reg f else (if needs_slot (number f) then Memory w else Fixed (number_of c))
+origin_at w f c = if has_register (number f) then reg f else
+    (if needs_slot (number f) then Memory w else Fixed (number_of c))
 
-number_among : (kind : VarKind) → changes kind ≡ false → Among (Fixed (number_of (constant kind))) (fixed kind)
+number_among : (kind : VarKind) → changes kind ≡ false → Among (Fixed (number_of (constant kind)))
+    (fixed kind)
 number_among (Param i) e = cc
 number_among Plain e = cc
 number_among (Constant n) e = inl refl
 
-pub origin_among : (p : LProc) (v w : ℕ) (c : Option ℤ) (f : Place) → w ≡ v → c ≡ constant (kind_of p v) → (f ≡ Const → changes (kind_of p v) ≡ false) → Among (origin_at w f c) (cells p v (number f))
+pub origin_among : (p : LProc) (v w : ℕ) (c : Option ℤ) (f : Place) → w ≡ v →
+    c ≡ constant (kind_of p v) → (f ≡ Const → changes (kind_of p v) ≡ false) →
+    Among (origin_at w f c) (cells p v (number f))
 origin_among p v w c Eax e g h = inl refl
 origin_among p v w c Ecx e g h = inl refl
 origin_among p v w c Edx e g h = inl refl
@@ -58,7 +72,8 @@ origin_among p v w c Ebx e g h = inl refl
 origin_among p v w c Esi e g h = inl refl
 origin_among p v w c Edi e g h = inl refl
 origin_among p v w c Mem e g h = inl (ap Memory e)
-origin_among p v w c Const e g h = subst (λ k. Among (Fixed (number_of k)) (fixed (kind_of p v))) (sym g) (number_among (kind_of p v) (h refl))
+origin_among p v w c Const e g h = subst (λ k. Among (Fixed (number_of k)) (fixed (kind_of p v)))
+    (sym g) (number_among (kind_of p v) (h refl))
 origin_among p v w c EaxM e g h = inl refl
 origin_among p v w c EcxM e g h = inl refl
 origin_among p v w c EdxM e g h = inl refl
@@ -66,7 +81,8 @@ origin_among p v w c EbxM e g h = inl refl
 origin_among p v w c EsiM e g h = inl refl
 origin_among p v w c EdiM e g h = inl refl
 
-pub memory_among : (p : LProc) (v : ℕ) (f : Place) → needs_slot (number f) ≡ true → Among (Memory v) (cells p v (number f))
+pub memory_among : (p : LProc) (v : ℕ) (f : Place) → needs_slot (number f) ≡ true →
+    Among (Memory v) (cells p v (number f))
 memory_among p v Eax e = cc
 memory_among p v Ecx e = cc
 memory_among p v Edx e = cc
@@ -85,7 +101,9 @@ memory_among p v EdiM e = inr (inl refl)
 -- ---- the cells of a place, part by part
 
 -- for each cell of a place that is no number
-pub each_cell : (P : Cell → Type 0) (p : LProc) (v : ℕ) (q : Place) → (q ≡ Const → ⊥) → (has_register (number q) ≡ true → P (Register (register_of (number q)))) → (needs_slot (number q) ≡ true → P (Memory v)) → Each P (cells p v (number q))
+pub each_cell : (P : Cell → Type 0) (p : LProc) (v : ℕ) (q : Place) → (q ≡ Const → ⊥) →
+    (has_register (number q) ≡ true → P (Register (register_of (number q)))) →
+    (needs_slot (number q) ≡ true → P (Memory v)) → Each P (cells p v (number q))
 each_cell P p v Eax ne f g = (f refl, tt)
 each_cell P p v Ecx ne f g = (f refl, tt)
 each_cell P p v Edx ne f g = (f refl, tt)
@@ -106,7 +124,8 @@ some_fixed (Param i) e = cc
 some_fixed Plain e = cc
 some_fixed (Constant n) e = λ x. cc
 
-pub some_cells : (p : LProc) (v : ℕ) (q : Place) → suits (constant (kind_of p v)) (number q) ≡ true → cells p v (number q) ≢ []
+pub some_cells : (p : LProc) (v : ℕ) (q : Place) → suits (constant (kind_of p v)) (number q) ≡
+    true → cells p v (number q) ≢ []
 some_cells p v Eax e = λ n. cc
 some_cells p v Ecx e = λ n. cc
 some_cells p v Edx e = λ n. cc

@@ -21,25 +21,47 @@ use Rattle.pl_run.proofs.Rows.{reads_are, writes_are, clobbers_are}
 
 -- the call without the registers that a mask destroys, before what is left
 abbrev pub without : List LProc → Call → ℕ → Activation Cells
-without procs c mask = with_regs (placed.passed (rest_from procs c (c.next + 1)) (call_of procs c)) (cleared mask 0 c.frame.regs)
+without procs c mask = with_regs (placed.passed (rest_from procs c (c.next + 1)) (call_of procs c))
+    (cleared mask 0 c.frame.regs)
 
 -- the frame once they are destroyed
-pub destroyed_is : (procs : List LProc) (c : Call) (mask : ℕ) (f : Frame) → f.regs ≡ cleared mask 0 c.frame.regs → f.slots ≡ c.frame.slots → f.args ≡ c.frame.args →
+pub destroyed_is : (procs : List LProc) (c : Call) (mask : ℕ) (f : Frame) →
+    f.regs ≡ cleared mask 0 c.frame.regs → f.slots ≡ c.frame.slots → f.args ≡ c.frame.args →
     with_frame (standing procs (record c { next = c.next + 1 })) f ≡ without procs c mask
 destroyed_is procs c mask f regs slots args =
     let a : Activation Cells = standing procs (record c { next = c.next + 1 }) in
-    ap (λ rs. record a { args = f.args.items; home = record a.home { regs = rs; slots = f.slots.items } }) regs
-    ∙ ap (λ ss. record a { args = f.args.items; home = record a.home { regs = cleared mask 0 c.frame.regs; slots = ss.items } }) slots
-    ∙ ap (λ ws. record a { args = ws.items; home = record a.home { regs = cleared mask 0 c.frame.regs; slots = c.frame.slots.items } }) args
+    ap (λ rs. record a {
+      args = f.args.items;
+      home =
+          record a.home { regs = rs; slots = f.slots.items };
+    }) regs
+    ∙ ap (λ ss. record a {
+      args = f.args.items;
+      home =
+          record a.home { regs = cleared mask 0 c.frame.regs; slots = ss.items };
+    }) slots
+    ∙ ap (λ ws. record a {
+      args = ws.items;
+      home =
+          record a.home { regs = cleared mask 0 c.frame.regs; slots = c.frame.slots.items };
+    }) args
 
-pub passed_is : (procs : List LProc) (c : Call) (p : LProc) (i : VInstr) (places written : List Place) (xs : List Value) (row : OperandRow) (reads : ℕ) (o : Option (Activation Cells)) →
+pub passed_is : (procs : List LProc) (c : Call) (p : LProc) (i : VInstr)
+    (places written : List Place) (xs : List Value) (row : OperandRow) (reads : ℕ)
+    (o : Option (Activation Cells)) →
     row_of row ≡ base.operands i → reads ≡ length row.reads.items → written ≡ drop reads places →
-    put_all p (Some (without procs c row.clobbers)) (map role_var row.writes.items) (map number written) xs ≡ o → passed procs c p i places xs ≡ o
+    put_all p (Some (without procs c row.clobbers)) (map role_var row.writes.items)
+    (map number written) xs ≡ o → passed procs c p i places xs ≡ o
 passed_is procs c p i places written xs row reads o is count drops done =
-    let counted : length (read_by i) ≡ reads = ap length (sym (reads_are row i is)) ∙ length-map row.reads.items role_var ∙ sym count in
+    let counted : length (read_by i) ≡ reads = ap length (sym (reads_are row i is))
+    ∙ length-map row.reads.items role_var ∙ sym count in
     let targets : drop (length (read_by i)) (map number places) ≡ map number written =
-    ap (λ n. drop n (map number places)) counted ∙ drop-map number reads places ∙ ap (map number) (sym drops) in
-    ap (λ mask. put_all p (Some (without procs c mask)) (written_by i) (drop (length (read_by i)) (map number places)) xs) (sym (clobbers_are row i is))
-    ∙ ap (λ vs. put_all p (Some (without procs c row.clobbers)) vs (drop (length (read_by i)) (map number places)) xs) (sym (writes_are row i is))
-    ∙ ap (λ qs. put_all p (Some (without procs c row.clobbers)) (map role_var row.writes.items) qs xs) targets
+    ap (λ n. drop n (map number places)) counted ∙ drop-map number reads places ∙ ap (map number)
+    (sym drops) in
+    ap (λ mask. put_all p (Some (without procs c mask)) (written_by i)
+    (drop (length (read_by i)) (map number places)) xs) (sym (clobbers_are row i is))
+    ∙ ap (λ vs. put_all p (Some (without procs c row.clobbers)) vs
+    (drop (length (read_by i)) (map number places)) xs) (sym (writes_are row i is))
+    ∙ ap (λ qs. put_all p (Some (without procs c row.clobbers)) (map role_var row.writes.items) qs
+    xs) targets
     ∙ done

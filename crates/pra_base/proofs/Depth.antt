@@ -7,7 +7,8 @@ use Rattle.pra_base.specs.declared.code.VInstr.TheVariants.{Clear}
 use Rattle.pra_base.specs.declared.code.End.{End}
 use Rattle.pra_base.specs.declared.code.End.TheVariants.{Return}
 use Rattle.pra_base.specs.Code.{block_in, EachInstr}
-use Rattle.pra_base.specs.Valid.{LastReturn, CmpBeforeBranch, EndsWithCmp, PushesLead, PushesBeforeCalls, ClearFirst, KeepsBlockRules, UpToDepth}
+use Rattle.pra_base.specs.Valid.{LastReturn, CmpBeforeBranch, EndsWithCmp, PushesLead}
+use Rattle.pra_base.specs.Valid.{PushesBeforeCalls, ClearFirst, KeepsBlockRules, UpToDepth}
 
 module _ (one other : List Block) (same : UpToDepth one other) where
   pub each_instr : (P : VInstr → Type 0) → EachInstr one P → EachInstr other P
@@ -18,21 +19,25 @@ module _ (one other : List Block) (same : UpToDepth one other) where
     there = subst (λ n. 0 < n) (sym same.count) r.there;
     exactly = λ b below.
         subst (λ n. ((block_in other b).end ≡ Return) ↔ (suc b ≡ n)) (sym same.count)
-        (subst (λ (e : End). (e ≡ Return) ↔ (suc b ≡ length one)) (sym (same.end b)) (r.exactly b (subst (λ n. b < n) same.count below)));
+        (subst (λ (e : End). (e ≡ Return) ↔ (suc b ≡ length one)) (sym (same.end b))
+        (r.exactly b (subst (λ n. b < n) same.count below)));
   }
 
   pub cmp_before_branch : CmpBeforeBranch one → CmpBeforeBranch other
   cmp_before_branch r b condition t u at =
       subst EndsWithCmp (sym (same.code b)) (r b condition t u (sym (same.end b) ∙ at))
 
-  pub pushes_before_calls : (Takes : ℕ → ℕ → Type 0) → PushesBeforeCalls Takes one → PushesBeforeCalls Takes other
+  pub pushes_before_calls : (Takes : ℕ → ℕ → Type 0) → PushesBeforeCalls Takes one →
+      PushesBeforeCalls Takes other
   pushes_before_calls Takes r b = subst (λ code. PushesLead Takes 0 code) (sym (same.code b)) (r b)
 
   pub clear_first : (aggregates : ℕ) → ClearFirst aggregates one → ClearFirst aggregates other
   clear_first aggregates r b k =
-      subst (λ code. (slice_get code k ≡ Some Clear) ↔ ((aggregates ≢ 0) × (b ≡ 0) × (k ≡ 0))) (sym (same.code b)) (r b k)
+      subst (λ code. (slice_get code k ≡ Some Clear) ↔ ((aggregates ≢ 0) × (b ≡ 0) × (k ≡ 0)))
+      (sym (same.code b)) (r b k)
 
-  pub block_rules : (aggregates : ℕ) → KeepsBlockRules aggregates one → KeepsBlockRules aggregates other
+  pub block_rules : (aggregates : ℕ) → KeepsBlockRules aggregates one →
+      KeepsBlockRules aggregates other
   block_rules aggregates r = record {
     last_return = last_return r.last_return;
     cmp_before_branch = cmp_before_branch r.cmp_before_branch;

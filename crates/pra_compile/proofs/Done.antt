@@ -1,5 +1,6 @@
 -- What was done of a module, one procedure after the other.
-use Rattle.std.proofs.Common.{◌≡◌, ℕ, zero, suc, ◌+◌, ◌<◌, List, [], ◌∷◌, ◌++◌, length, map, Some, refl, sym, ap, subst, ◌∙◌, arith}
+use Rattle.std.proofs.Common.{◌≡◌, ℕ, zero, suc, ◌+◌, ◌<◌, List, [], ◌∷◌, ◌++◌, length, map, Some}
+use Rattle.std.proofs.Common.{refl, sym, ap, subst, ◌∙◌, arith}
 use Rattle.std.specs.Prelude.{slice_get}
 use Rattle.std.proofs.lemmas.List.{length-map, length_push, map-append}
 use Rattle.pra_list.proofs.Options.{some_same}
@@ -23,7 +24,8 @@ use Rattle.vc_tidy.specs.Tidy.{IsTidy}
 use Rattle.vc_typed.specs.TypedModules.{IsSelectable}
 use Rattle.vc_typed.proofs.Lists.{got}
 use Rattle.pra_follow.specs.Follows.{DoesAsMeant}
-use Rattle.pra_follow.specs.Translation.{Translation, IsTranslation, AreTranslations, AreAdmittedIn, IsCodeOf, behind}
+use Rattle.pra_follow.specs.Translation.{Translation, IsTranslation, AreTranslations, AreAdmittedIn}
+use Rattle.pra_follow.specs.Translation.{IsCodeOf, behind}
 use Rattle.pra_follow.proofs.Followed.{follows_module}
 use Rattle.pra_follow.proofs.Room.{one_more}
 use Rattle.pra_follow.proofs.Sides.{mapped, both_mapped, same_maps}
@@ -35,13 +37,16 @@ use Rattle.pra_compile.specs.CompiledProcs.{IsTidied, IsKept, IsCompiledProc, Ar
 
 -- ---- one procedure
 
-pub there_is : {A : Type 0} (xs : List A) (k : ℕ) → k < length xs → (x : A) × (slice_get xs k ≡ Some x)
+pub there_is : {A : Type 0} (xs : List A) (k : ℕ) → k < length xs → (x : A) ×
+    (slice_get xs k ≡ Some x)
 there_is [] k lt = absurd (omega (arith, lt))
 there_is (x ∷ xs) zero lt = (x, refl)
 there_is (x ∷ xs) (suc k) lt = there_is xs k (omega (arith, lt))
 
 pub tidied : (program : Checked) (p : ℕ) (selected code : VProc) → p < length program.procs →
-    ((proc : CheckedProc) → slice_get program.procs p ≡ Some proc → IsSelected program p proc selected) → Preserves selected code → KeepsKinds selected code → IsTidy code → IsTidied program p code
+    ((proc : CheckedProc) → slice_get program.procs p ≡ Some proc →
+    IsSelected program p proc selected) → Preserves selected code → KeepsKinds selected code →
+    IsTidy code → IsTidied program p code
 tidied program p selected code lt is kept kinds tidy =
     let own = there_is program.procs p lt in
     record {
@@ -54,18 +59,41 @@ tidied program p selected code lt is kept kinds tidy =
       tidy = tidy;
     }
 
-pub compiled_so : (program : Checked) (wanted : Wanted) (p : ℕ) (net : Net) (compiled : CompiledProc) → IsTidied program p compiled.out.code → AreAdmittedIn compiled.out.code net compiled.out.routes → IsGranted wanted net compiled.out.routes compiled.out.prices compiled.out.lines → IsMade (routed compiled.out.code net compiled.out.routes) compiled.placed →
-    compiled.out.name ≡ name_of program p → compiled.out.frame ≡ frame_size compiled.placed → frame_size compiled.placed ≡ frame_of (routed compiled.out.code net compiled.out.routes) → IsCompiledProc program wanted p compiled
+pub compiled_so : (program : Checked) (wanted : Wanted) (p : ℕ) (net : Net)
+    (compiled : CompiledProc) → IsTidied program p compiled.out.code →
+    AreAdmittedIn compiled.out.code net compiled.out.routes →
+    IsGranted wanted net compiled.out.routes compiled.out.prices compiled.out.lines →
+    IsMade (routed compiled.out.code net compiled.out.routes) compiled.placed →
+    compiled.out.name ≡ name_of program p → compiled.out.frame ≡ frame_size compiled.placed →
+    frame_size compiled.placed ≡ frame_of (routed compiled.out.code net compiled.out.routes) →
+    IsCompiledProc program wanted p compiled
 compiled_so program wanted p net compiled is routes granted made name frame of_flow = record {
-  translation = record { made = is.is_selected.made; code = compiled.out.code; net = net; routes = compiled.out.routes; placed = compiled.placed };
-  is = translated program p is.proc is.selected compiled.out.code net compiled.out.routes compiled.placed is.there is.is_selected is.preserves is.kinds is.tidy routes made;
+  translation = record {
+    made = is.is_selected.made;
+    code = compiled.out.code;
+    net = net;
+    routes =
+        compiled.out.routes;
+    placed = compiled.placed;
+  };
+  is = translated program p is.proc is.selected compiled.out.code net compiled.out.routes
+      compiled.placed is.there is.is_selected is.preserves is.kinds is.tidy routes made;
   placed = refl;
-  kept = record { name = name; frame = frame; flow_frame = frame ∙ of_flow; code = refl; routes = refl; granted = granted };
+  kept = record {
+    name = name;
+    frame = frame;
+    flow_frame = frame ∙ of_flow;
+    code = refl;
+    routes =
+        refl;
+    granted = granted;
+  };
 }
 
 -- ---- all of them
 
-pub none_done : (program : Checked) (wanted : Wanted) (assembly : Assembly) → IsAssembly [] program.data_words assembly → AreDone program wanted 0 [] assembly
+pub none_done : (program : Checked) (wanted : Wanted) (assembly : Assembly) →
+    IsAssembly [] program.data_words assembly → AreDone program wanted 0 [] assembly
 none_done program wanted assembly is = record {
   translations = [];
   are = record { few = omega arith; each = λ p t e. cc };
@@ -75,7 +103,9 @@ none_done program wanted assembly is = record {
   assembled = is;
 }
 
-module _ (program : Checked) (wanted : Wanted) (n : ℕ) (procs : List ProcOut) (old new : Assembly) (done : AreDone program wanted n procs old) (compiled : CompiledProc) (is : IsCompiledProc program wanted n compiled) where
+module _ (program : Checked) (wanted : Wanted) (n : ℕ) (procs : List ProcOut) (old new : Assembly)
+    (done : AreDone program wanted n procs old) (compiled : CompiledProc)
+    (is : IsCompiledProc program wanted n compiled) where
   abbrev ts : List Translation
   ts = done.translations
 
@@ -85,7 +115,8 @@ module _ (program : Checked) (wanted : Wanted) (n : ℕ) (procs : List ProcOut) 
   pub more_are : AreTranslations program (ts ++ is.translation ∷ [])
   more_are = one_more program ts is.translation done.are translation_is
 
-  pub one_done : IsAssembly (map (λ (t : Translation). t.placed) ts ++ compiled.placed ∷ []) program.data_words new → AreDone program wanted (n + 1) (procs ++ compiled.out ∷ []) new
+  pub one_done : IsAssembly (map (λ (t : Translation). t.placed) ts ++ compiled.placed ∷ [])
+      program.data_words new → AreDone program wanted (n + 1) (procs ++ compiled.out ∷ []) new
   one_done assembled =
       let long = length_push ts is.translation in
       let many = length_push procs compiled.out in
@@ -105,56 +136,75 @@ module _ (program : Checked) (wanted : Wanted) (n : ℕ) (procs : List ProcOut) 
             (λ at same.
             got procs compiled.out out p f
             (λ less here. absurd (omega (arith, less, at, count, procs_count)))
-            (λ here other. subst (λ k. IsKept program wanted k t out) (omega (arith, at, count)) (subst (λ o. IsKept program wanted n t o) other (subst (λ u. IsKept program wanted n u compiled.out) same is.kept))));
+            (λ here other. subst (λ k. IsKept program wanted k t out) (omega (arith, at, count))
+            (subst (λ o. IsKept program wanted n t o) other
+            (subst (λ u. IsKept program wanted n u compiled.out) same is.kept))));
         assembled =
             subst (λ l. IsAssembly l program.data_words new)
-            (ap (λ p. map (λ (t : Translation). t.placed) ts ++ p ∷ []) (sym is.placed) ∙ sym (map-append (λ (t : Translation). t.placed) ts (is.translation ∷ [])))
+            (ap (λ p. map (λ (t : Translation). t.placed) ts ++ p ∷ []) (sym is.placed)
+            ∙ sym (map-append (λ (t : Translation). t.placed) ts (is.translation ∷ [])))
             assembled;
       }
 
 -- ---- the whole
 
-module _ (program : Checked) (wanted : Wanted) (selectable : IsSelectable program) (procs : List ProcOut) (assembly : Assembly) (done : AreDone program wanted (length program.procs) procs assembly) where
+module _ (program : Checked) (wanted : Wanted) (selectable : IsSelectable program)
+    (procs : List ProcOut) (assembly : Assembly)
+    (done : AreDone program wanted (length program.procs) procs assembly) where
   abbrev all : List Translation
   all = done.translations
 
-  same_frames : map (λ (t : Translation). frame_size t.placed) all ≡ map (λ (out : ProcOut). out.frame) procs
-  same_frames = same_maps (λ (t : Translation). frame_size t.placed) (λ (out : ProcOut). out.frame) all procs (done.procs_count ∙ sym done.count) (λ k t out e f. sym (done.kept k t out e f).frame)
+  same_frames : map (λ (t : Translation). frame_size t.placed) all ≡
+      map (λ (out : ProcOut). out.frame) procs
+  same_frames = same_maps (λ (t : Translation). frame_size t.placed) (λ (out : ProcOut). out.frame)
+      all procs (done.procs_count ∙ sym done.count)
+      (λ k t out e f. sym (done.kept k t out e f).frame)
 
   same_codes : map (λ (t : Translation). t.code) all ≡ map (λ (out : ProcOut). out.code) procs
-  same_codes = same_maps (λ (t : Translation). t.code) (λ (out : ProcOut). out.code) all procs (done.procs_count ∙ sym done.count) (λ k t out e f. sym (done.kept k t out e f).code)
+  same_codes = same_maps (λ (t : Translation). t.code) (λ (out : ProcOut). out.code) all procs
+      (done.procs_count ∙ sym done.count) (λ k t out e f. sym (done.kept k t out e f).code)
 
-  out_is : (p : ℕ) (proc : CheckedProc) (out : ProcOut) (r : Routed) → slice_get program.procs p ≡ Some proc → slice_get procs p ≡ Some out → slice_get (map behind all) p ≡ Some r → IsProcOut program wanted p proc out r
+  out_is : (p : ℕ) (proc : CheckedProc) (out : ProcOut) (r : Routed) → slice_get program.procs p ≡
+      Some proc → slice_get procs p ≡ Some out → slice_get (map behind all) p ≡ Some r →
+      IsProcOut program wanted p proc out r
   out_is p proc out r e f g =
       let x = mapped behind all p r g in
       let is = done.are.each p x.from x.there in
       let kept = done.kept p x.from out x.there f in
-      let code : IsCodeOf program p proc out.code = subst (λ c. IsCodeOf program p proc c) (sym kept.code) (subst (λ q. IsCodeOf program p q x.from.code) (some_same is.proc proc (sym is.there ∙ e)) is.code) in
+      let code : IsCodeOf program p proc out.code = subst (λ c. IsCodeOf program p proc c)
+      (sym kept.code) (subst (λ q. IsCodeOf program p q x.from.code)
+      (some_same is.proc proc (sym is.there ∙ e)) is.code) in
       record {
         name = kept.name;
         code = code;
         net = x.from.net;
-        routes = subst (λ c. AreAdmittedIn c x.from.net out.routes) (sym kept.code) (subst (λ rs. AreAdmittedIn x.from.code x.from.net rs) (sym kept.routes) is.routes);
+        routes = subst (λ c. AreAdmittedIn c x.from.net out.routes) (sym kept.code)
+            (subst (λ rs. AreAdmittedIn x.from.code x.from.net rs) (sym kept.routes) is.routes);
         allocated = kept.granted;
-        carried = sym x.is ∙ ap (λ c. routed c x.from.net x.from.routes) (sym kept.code) ∙ ap (λ rs. routed out.code x.from.net rs) (sym kept.routes);
+        carried = sym x.is ∙ ap (λ c. routed c x.from.net x.from.routes) (sym kept.code)
+            ∙ ap (λ rs. routed out.code x.from.net rs) (sym kept.routes);
         frame = kept.flow_frame ∙ ap frame_of x.is;
       }
 
   abbrev placed_codes : List LProc
   placed_codes = map (λ (t : Translation). t.placed) all
 
-  placed_is : (p : ℕ) (r : Routed) (l : LProc) → slice_get (map behind all) p ≡ Some r → slice_get placed_codes p ≡ Some l → IsMade r l
+  placed_is : (p : ℕ) (r : Routed) (l : LProc) → slice_get (map behind all) p ≡ Some r →
+      slice_get placed_codes p ≡ Some l → IsMade r l
   placed_is p r l e f =
       let x = both_mapped behind (λ (t : Translation). t.placed) all p r l e f in
-      subst (λ l. IsMade r l) x.other (subst (λ r. IsMade r x.from.placed) x.one (done.are.each p x.from x.there).placed)
+      subst (λ l. IsMade r l) x.other
+      (subst (λ r. IsMade r x.from.placed) x.one (done.are.each p x.from x.there).placed)
 
-  pub all_compiled : (image : Image) → IsImageOf (map (λ (t : Translation). t.placed) all) program.data_words image → IsCompiled program wanted (record { image = image; procs = procs })
+  pub all_compiled : (image : Image) → IsImageOf (map (λ (t : Translation). t.placed) all)
+      program.data_words image → IsCompiled program wanted (record { image = image; procs = procs })
   all_compiled image is =
       let follows = follows_module program all done.are selectable done.count image is in
       record {
         valid = follows.valid;
         data_words = follows.data_words;
-        does = λ input words. subst (λ frames. DoesAsMeant program frames image input) same_frames (follows.does input words);
+        does = λ input words. subst (λ frames. DoesAsMeant program frames image input) same_frames
+            (follows.does input words);
         codes = subst AreValid same_codes follows.codes;
         behind = map behind all;
         carries = follows.carries;
@@ -162,7 +212,8 @@ module _ (program : Checked) (wanted : Wanted) (selectable : IsSelectable progra
         behind_count = length-map all behind ∙ done.count ∙ sym done.procs_count;
         each = out_is;
         placed = placed_codes;
-        placed_count = length-map all (λ (t : Translation). t.placed) ∙ done.count ∙ sym done.procs_count;
+        placed_count = length-map all (λ (t : Translation). t.placed) ∙ done.count
+            ∙ sym done.procs_count;
         made = placed_is;
         assembled = is;
       }

@@ -1,5 +1,7 @@
 -- What the lines of a procedure say.
-use Rattle.std.proofs.Common.{◌≡◌, ℕ, zero, suc, ◌+◌, ◌-◌, ◌<◌, ◌≤◌, Bool, true, false, cond, List, [], ◌∷◌, length, take, Option, Some, None, refl, sym, ap, subst, ◌∙◌, arith, nat_le}
+use Rattle.std.proofs.Common.{◌≡◌, ℕ, zero, suc, ◌+◌, ◌-◌, ◌<◌, ◌≤◌, Bool, true, false, cond, List}
+use Rattle.std.proofs.Common.{[], ◌∷◌, length, take, Option, Some, None, refl, sym, ap, subst, ◌∙◌}
+use Rattle.std.proofs.Common.{arith, nat_le}
 use Rattle.std.specs.Prelude.{slice_get}
 use Rattle.std.specs.Option.{option_map_or}
 use Rattle.std.proofs.lemmas.Bool.Decides.{nat_tests}
@@ -26,13 +28,15 @@ use Rattle.pra_compile.proofs.Done.{there_is}
 
 -- ---- rounds that began with one line
 
-pub behind_one : (gap n : ℕ) (old new : List Line) → length old ≡ 1 → WasObeyed gap n old new → WasObeyed gap n (take 1 new) new
+pub behind_one : (gap n : ℕ) (old new : List Line) → length old ≡ 1 → WasObeyed gap n old new →
+    WasObeyed gap n (take 1 new) new
 behind_one gap n old new one is =
     let begins : take 1 new ≡ old = subst (λ k. take k new ≡ old) one is.went_on.begins in
     subst (λ l. WasObeyed gap n l new) (sym begins) is
 
 -- a verdict of Stop tells that the gap is reached
-reached : (cost bound gap : ℕ) (b : Bool) → nat_le (cost - bound) gap ≡ b → cond b Stop Go ≡ Stop → cost ≤ bound + gap
+reached : (cost bound gap : ℕ) (b : Bool) → nat_le (cost - bound) gap ≡ b → cond b Stop Go ≡ Stop →
+    cost ≤ bound + gap
 reached cost bound gap true is e = grind (arith, nat_tests)
 reached cost bound gap false is e = cc
 
@@ -40,7 +44,8 @@ one_long : (lines : List Line) → 1 ≤ length lines → length (take 1 lines) 
 one_long [] some = absurd (omega (arith, some))
 one_long (l ∷ ls) some = refl
 
-module _ (wanted : Wanted) (net : Net) (routes : Routes) (prices : Prices) (lines : List Line) (granted : IsGranted wanted net routes prices lines) where
+module _ (wanted : Wanted) (net : Net) (routes : Routes) (prices : Prices) (lines : List Line)
+    (granted : IsGranted wanted net routes prices lines) where
   abbrev last : Line
   last = granted.allocation.allocated.last
 
@@ -69,17 +74,21 @@ module _ (wanted : Wanted) (net : Net) (routes : Routes) (prices : Prices) (line
   pub some_line : 1 ≤ length lines
   some_line = are_lines.some
 
-  pub no_flow_less : (k : ℕ) (line : Line) (f : List Edge) → slice_get lines k ≡ Some line → IsAdmitted net f → line.bound ≤ cost_of net wanted.weights f
+  pub no_flow_less : (k : ℕ) (line : Line) (f : List Edge) → slice_get lines k ≡ Some line →
+      IsAdmitted net f → line.bound ≤ cost_of net wanted.weights f
   no_flow_less k line f there a = (are_lines.each k line there).holds f a
 
-  from_to : (n j : ℕ) (l m : Line) → slice_get lines j ≡ Some l → slice_get lines (n + j) ≡ Some m → (m.cost ≤ l.cost) × (l.bound ≤ m.bound)
+  from_to : (n j : ℕ) (l m : Line) → slice_get lines j ≡ Some l → slice_get lines (n + j) ≡ Some m →
+      (m.cost ≤ l.cost) × (l.bound ≤ m.bound)
   from_to zero j l m e f =
       let same : 0 + j ≡ j = omega arith in
       let here : slice_get lines j ≡ Some m = subst (λ k. slice_get lines k ≡ Some m) same f in
-      subst (λ (x : Line). (x.cost ≤ l.cost) × (l.bound ≤ x.bound)) (some_same l m (sym e ∙ here)) (omega arith, omega arith)
+      subst (λ (x : Line). (x.cost ≤ l.cost) × (l.bound ≤ x.bound)) (some_same l m (sym e ∙ here))
+      (omega arith, omega arith)
   from_to (suc n) j l m e f =
       let same : suc n + j ≡ n + suc j = omega arith in
-      let there : slice_get lines (n + suc j) ≡ Some m = subst (λ k. slice_get lines k ≡ Some m) same f in
+      let there : slice_get lines (n + suc j) ≡ Some m =
+      subst (λ k. slice_get lines k ≡ Some m) same f in
       let inside = slice_get_within lines (n + suc j) m there in
       let next = there_is lines (suc j) (omega (arith, inside)) in
       let cost = are_lines.costs j l next.0 e next.1 in
@@ -89,7 +98,8 @@ module _ (wanted : Wanted) (net : Net) (routes : Routes) (prices : Prices) (line
       let rest_bound = rest.1 in
       (omega (arith, cost, rest_cost), omega (arith, bound, rest_bound))
 
-  pub never_worse : (j k : ℕ) (l m : Line) → j ≤ k → slice_get lines j ≡ Some l → slice_get lines k ≡ Some m → (m.cost ≤ l.cost) × (l.bound ≤ m.bound)
+  pub never_worse : (j k : ℕ) (l m : Line) → j ≤ k → slice_get lines j ≡ Some l →
+      slice_get lines k ≡ Some m → (m.cost ≤ l.cost) × (l.bound ≤ m.bound)
   never_worse j k l m le e f =
       let same : k ≡ (k - j) + j = omega (arith, le) in
       from_to (k - j) j l m e (subst (λ n. slice_get lines n ≡ Some m) same f)
@@ -105,20 +115,27 @@ module _ (wanted : Wanted) (net : Net) (routes : Routes) (prices : Prices) (line
   stopped few =
       let one = one_long lines some_line in
       let stop = granted.obeyed.ended (omega (arith, few, one)) last is_last in
-      let close = reached last.cost last.bound wanted.gap (nat_le (last.cost - last.bound) wanted.gap) refl stop in
+      let close = reached last.cost last.bound wanted.gap
+      (nat_le (last.cost - last.bound) wanted.gap) refl stop in
       let cost = last_cost_is in
       let bound = last_bound_is in
       omega (arith, close, cost, bound)
 
 -- ---- of a procedure
 
-pub last_cost_carried : (program : Checked) (wanted : Wanted) (p : ℕ) (proc : CheckedProc) (out : ProcOut) (r : Routed) → IsProcOut program wanted p proc out r → last_cost out.lines ≡ cost_of r.net wanted.weights r.flow
+pub last_cost_carried : (program : Checked) (wanted : Wanted) (p : ℕ) (proc : CheckedProc)
+    (out : ProcOut) (r : Routed) → IsProcOut program wanted p proc out r → last_cost out.lines ≡
+    cost_of r.net wanted.weights r.flow
 last_cost_carried program wanted p proc out r is =
-    subst (λ (r : Routed). last_cost out.lines ≡ cost_of r.net wanted.weights r.flow) (sym is.carried)
+    subst (λ (r : Routed). last_cost out.lines ≡ cost_of r.net wanted.weights r.flow)
+    (sym is.carried)
     (last_cost_of wanted is.net out.routes out.prices out.lines is.allocated)
 
-pub bound_holds : (program : Checked) (wanted : Wanted) (p : ℕ) (proc : CheckedProc) (out : ProcOut) (r : Routed) (k : ℕ) (line : Line) (f : List Edge) →
-    IsProcOut program wanted p proc out r → slice_get out.lines k ≡ Some line → IsAdmitted r.net f → line.bound ≤ cost_of r.net wanted.weights f
+pub bound_holds : (program : Checked) (wanted : Wanted) (p : ℕ) (proc : CheckedProc) (out : ProcOut)
+    (r : Routed) (k : ℕ) (line : Line) (f : List Edge) →
+    IsProcOut program wanted p proc out r → slice_get out.lines k ≡ Some line → IsAdmitted r.net f →
+    line.bound ≤ cost_of r.net wanted.weights f
 bound_holds program wanted p proc out r k line f is there a =
-    subst (λ (r : Routed). IsAdmitted r.net f → line.bound ≤ cost_of r.net wanted.weights f) (sym is.carried)
+    subst (λ (r : Routed). IsAdmitted r.net f → line.bound ≤ cost_of r.net wanted.weights f)
+    (sym is.carried)
     (no_flow_less wanted is.net out.routes out.prices out.lines is.allocated k line f there) a

@@ -1,5 +1,6 @@
 -- What is kept of a module's procedures has totals.
-use Rattle.std.proofs.Common.{◌≡◌, ℕ, suc, ◌+◌, ◌-◌, ◌*◌, ◌^◌, ◌<◌, ◌≤◌, List, [], ◌∷◌, ◌++◌, length, get_or, All, Option, Some, None, refl, ap, sum_by, arith}
+use Rattle.std.proofs.Common.{◌≡◌, ℕ, suc, ◌+◌, ◌-◌, ◌*◌, ◌^◌, ◌<◌, ◌≤◌, List, [], ◌∷◌, ◌++◌}
+use Rattle.std.proofs.Common.{length, get_or, All, Option, Some, None, refl, ap, sum_by, arith}
 use Rattle.std.specs.Prelude.{slice_get}
 use Rattle.std.proofs.lemmas.List.{length-append}
 use Rattle.std.proofs.lemmas.List.Elements.{All-head, All-tail, All-from_get_or}
@@ -38,7 +39,8 @@ edges_many : (s l : ℕ) (p : Option Place) (ps : List Place) → length (edges 
 edges_many s l p [] = refl
 edges_many s l p (q ∷ qs) = ap suc (edges_many s (suc l) (Some q) qs)
 
-edges_few : (m s : ℕ) (ts : List Strand) (paths : List (List Place)) → HasPlaces ts paths → All (λ (t : Strand). t.last < m) ts → length (flow_from s ts paths) ≤ length ts * m
+edges_few : (m s : ℕ) (ts : List Strand) (paths : List (List Place)) → HasPlaces ts paths →
+    All (λ (t : Strand). t.last < m) ts → length (flow_from s ts paths) ≤ length ts * m
 edges_few m s [] paths has short = omega arith
 edges_few m s (t ∷ ts) [] has short = absurd has
 edges_few m s (t ∷ ts) (ps ∷ paths) has short =
@@ -46,14 +48,17 @@ edges_few m s (t ∷ ts) (ps ∷ paths) has short =
     let here = edges_many s t.first None ps in
     let long = has.0 in
     let last = All-head (λ (t : Strand). t.last < m) t ts short in
-    let rest = edges_few m (suc s) ts paths has.1 (All-tail (λ (t : Strand). t.last < m) t ts short) in
+    let rest = edges_few m (suc s) ts paths has.1 (All-tail (λ (t : Strand). t.last < m) t ts short)
+    in
     omega (arith, both, here, long, last, rest)
 
 -- ---- and what they cost
 
-module _ (net : Net) (is : IsBuilt net) (w : Weights) (valid : IsValid w) (routes : Routes) (has : AreRoutes net routes) where
+module _ (net : Net) (is : IsBuilt net) (w : Weights) (valid : IsValid w) (routes : Routes)
+    (has : AreRoutes net routes) where
   short_strands : All (λ (t : Strand). t.last < most_layers) net.strands
-  short_strands = All-from_get_or (λ (t : Strand). t.last < most_layers) net.strands no_strand (λ s lt.
+  short_strands = All-from_get_or (λ (t : Strand). t.last < most_layers) net.strands no_strand
+      (λ s lt.
       let inside = in_layers net is.formed s lt in
       let layers = is.formed.layers in
       omega (arith, inside, layers))
@@ -63,10 +68,12 @@ module _ (net : Net) (is : IsBuilt net) (w : Weights) (valid : IsValid w) (route
       let many = edges_few most_layers 0 net.strands routes.places has short_strands in
       let few = is.formed.few in
       let by_edges = cost_by_edges all_tables net w (flow net routes) in
-      let most = sum_by-le (edge_cost all_tables net w) (3 * most_weight) (flow net routes) (λ k d lt. cost_small net is w valid (get_or (flow net routes) k d)) in
+      let most = sum_by-le (edge_cost all_tables net w) (3 * most_weight) (flow net routes)
+      (λ k d lt. cost_small net is w valid (get_or (flow net routes) k d)) in
       omega (arith, many, few, by_edges, most)
 
-out_is_one : (program : Checked) (wanted : Wanted) (p : ℕ) (proc : CheckedProc) (out : ProcOut) (r : Routed) → IsValid wanted.weights → IsProcOut program wanted p proc out r → IsOfMany out
+out_is_one : (program : Checked) (wanted : Wanted) (p : ℕ) (proc : CheckedProc) (out : ProcOut)
+    (r : Routed) → IsValid wanted.weights → IsProcOut program wanted p proc out r → IsOfMany out
 out_is_one program wanted p proc out r valid is =
     let is_built = built out.code is.net is.routes.is_net is.code.valid is.code.sized in
     let few = cost_few is.net is_built wanted.weights valid out.routes is.routes.are_routes in
@@ -78,7 +85,9 @@ out_is_one program wanted p proc out r valid is =
       bound = omega (arith, few, same, within);
     }
 
-pub have_totals : (program : Checked) (wanted : Wanted) (compiled : Compiled) → IsCompiled program wanted compiled → IsValid wanted.weights → length program.procs ≤ most_procs → HaveTotals compiled.procs
+pub have_totals : (program : Checked) (wanted : Wanted) (compiled : Compiled) →
+    IsCompiled program wanted compiled → IsValid wanted.weights → length program.procs ≤
+    most_procs → HaveTotals compiled.procs
 have_totals program wanted compiled is valid few =
     let count = is.count in
     let behind_count = is.behind_count in
@@ -86,4 +95,5 @@ have_totals program wanted compiled is valid few =
     let proc = there_is program.procs p (omega (arith, lt, count)) in
     let r = there_is is.behind p (omega (arith, lt, behind_count)) in
     out_is_one program wanted p proc.0 (get_or compiled.procs p d) r.0 valid
-    (is.each p proc.0 (get_or compiled.procs p d) r.0 proc.1 (slice_get-get_or compiled.procs p d lt) r.1))
+    (is.each p proc.0 (get_or compiled.procs p d) r.0 proc.1
+    (slice_get-get_or compiled.procs p d lt) r.1))

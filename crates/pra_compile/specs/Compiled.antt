@@ -43,7 +43,8 @@ pub record Wanted : Type 0 where
 abbrev pub wanted_of : Weights → ℕ → ℕ → Wanted
 wanted_of weights rounds gap = record { weights = weights; rounds = rounds; gap = gap }
 
--- These are the routes, the prices and the lines that rounds leave of the network. After the line of
+-- These are the routes, the prices and the lines that rounds leave of the network. After the line
+-- of
 -- round 0 there are as many as were wanted, or the rounds stopped at the gap and no later.
 pub record IsGranted (wanted : Wanted) (net : Net) (routes : Routes) (prices : Prices)
     (lines : List Line) : Type 0 where

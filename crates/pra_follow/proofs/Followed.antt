@@ -1,5 +1,7 @@
--- The layers of a module whose procedures were translated, composed: from what is meant to selected code, to the code in its place, to placed code, to the image.
-use Rattle.std.proofs.Common.{◌≡◌, ◌≢◌, ℕ, ℤ, true, List, [], ◌∷◌, length, map, Some, sym, ap, subst, ◌∙◌}
+-- The layers of a module whose procedures were translated, composed: from what is meant to selected
+-- code, to the code in its place, to placed code, to the image.
+use Rattle.std.proofs.Common.{◌≡◌, ◌≢◌, ℕ, ℤ, true, List, [], ◌∷◌, length, map, Some, sym, ap}
+use Rattle.std.proofs.Common.{subst, ◌∙◌}
 use Rattle.std.specs.Prelude.{slice_get, option_map}
 use Rattle.std.proofs.lemmas.List.{length-map}
 use Rattle.std.proofs.lemmas.Option.{slice_get-map}
@@ -11,7 +13,8 @@ use Rattle.pra_base.specs.RunEnd.{Wrong}
 use Rattle.pra_base.specs.Words.{fits_word}
 use Rattle.pra_base.specs.declared.code.VModule.{VModule}
 use Rattle.pra_base.specs.declared.code.VProc.{VProc}
-use Rattle.pra_base.specs.Valid.{AreValid, IsValid, IsSized, PushesBeforeCalls, TakesArgs, counts_of}
+use Rattle.pra_base.specs.Valid.{AreValid, IsValid, IsSized, PushesBeforeCalls, TakesArgs}
+use Rattle.pra_base.specs.Valid.{counts_of}
 use Rattle.pra_base.proofs.Carried.{carried_on, agree}
 use Rattle.ob_syntax.specs.declared.checked.Checked.{Checked}
 use Rattle.ob_syntax.specs.declared.checked.CheckedProc.{CheckedProc}
@@ -52,7 +55,8 @@ use Rattle.pra_follow.proofs.Sides.{mapped, both_mapped, same_maps}
 
 pub words_fit : (input : List ℤ) → are_words input ≡ true → AreWords input
 words_fit [] e = tt
-words_fit (n ∷ ns) e = let both = and_true (fits_word n) (are_words ns) e in (fits_is n both.0, words_fit ns both.1)
+words_fit (n ∷ ns) e = let both = and_true (fits_word n) (are_words ns) e in
+    (fits_is n both.0, words_fit ns both.1)
 
 -- ---- the lists of a translated module
 
@@ -66,7 +70,8 @@ abbrev pub placed : List Translation → List LProc
 placed ts = map (λ (t : Translation). t.placed) ts
 
 module _ (program : Checked) (ts : List Translation) (are : AreTranslations program ts) where
-  pub placed_behind : (k : ℕ) (r : Routed) (p : LProc) → slice_get (map behind ts) k ≡ Some r → slice_get (placed ts) k ≡ Some p → IsBehind r p
+  pub placed_behind : (k : ℕ) (r : Routed) (p : LProc) → slice_get (map behind ts) k ≡ Some r →
+      slice_get (placed ts) k ≡ Some p → IsBehind r p
   placed_behind k r p e f =
       let x = both_mapped behind (λ (t : Translation). t.placed) ts k r p e f in
       let is = behind_of (behind x.from) x.from.placed (are.each k x.from x.there).placed in
@@ -89,13 +94,15 @@ module _ (program : Checked) (ts : List Translation) (are : AreTranslations prog
 
     same_counts : parameter_counts program ≡ counts_of (codes ts)
     same_counts =
-        same_maps (λ (proc : CheckedProc). length proc.params) (λ (code : VProc). code.args) program.procs (codes ts)
+        same_maps (λ (proc : CheckedProc). length proc.params) (λ (code : VProc). code.args)
+        program.procs (codes ts)
         (length-map ts (λ (t : Translation). t.code) ∙ all)
         (λ p proc code e f.
         let x = mapped (λ (t : Translation). t.code) ts p code f in
         let is = are.each p x.from x.there in
         let same = some_same is.proc proc (sym is.there ∙ e) in
-        ap (λ (q : CheckedProc). length q.params) (sym same) ∙ sym is.code.args ∙ ap (λ (c : VProc). c.args) x.is)
+        ap (λ (q : CheckedProc). length q.params) (sym same) ∙ sym is.code.args
+        ∙ ap (λ (c : VProc). c.args) x.is)
 
     body_takes : TakesArgs (parameter_counts program) 0 0
     body_takes =
@@ -111,19 +118,22 @@ module _ (program : Checked) (ts : List Translation) (are : AreTranslations prog
       pushes_before_calls = λ p code e.
           let x = mapped (λ (t : Translation). t.code) ts p code e in
           subst (λ counts. PushesBeforeCalls (TakesArgs counts) code.blocks) same_counts
-          (subst (λ (c : VProc). PushesBeforeCalls (TakesArgs (parameter_counts program)) c.blocks) x.is (are.each p x.from x.there).code.pushes);
+          (subst (λ (c : VProc). PushesBeforeCalls (TakesArgs (parameter_counts program)) c.blocks)
+          x.is (are.each p x.from x.there).code.pushes);
       body = subst (λ counts. TakesArgs counts 0 0) same_counts body_takes;
     }
 
     placements : ArePlacements (codes ts) (placed ts)
     placements = record {
       valid = are_valid;
-      count = length-map ts (λ (t : Translation). t.placed) ∙ sym (length-map ts (λ (t : Translation). t.code));
+      count = length-map ts (λ (t : Translation). t.placed)
+          ∙ sym (length-map ts (λ (t : Translation). t.code));
       sized = λ p code e.
           let x = mapped (λ (t : Translation). t.code) ts p code e in
           subst IsSized x.is (are.each p x.from x.there).code.sized;
       each = λ p code l e f.
-          let x = both_mapped (λ (t : Translation). t.code) (λ (t : Translation). t.placed) ts p code l e f in
+          let x = both_mapped (λ (t : Translation). t.code) (λ (t : Translation). t.placed) ts p
+          code l e f in
           let is = are.each p x.from x.there in
           let here : IsPlacement x.from.code x.from.placed = record {
             net = x.from.net;
@@ -133,7 +143,8 @@ module _ (program : Checked) (ts : List Translation) (are : AreTranslations prog
             admitted = is.routes.admitted;
             made = is.placed;
           } in
-          subst (λ q. IsPlacement code q) x.other (subst (λ c. IsPlacement c x.from.placed) x.one here);
+          subst (λ q. IsPlacement code q) x.other
+          (subst (λ c. IsPlacement c x.from.placed) x.one here);
     }
 
     routed : AreRouted (codes ts) (placed ts)
@@ -143,7 +154,8 @@ module _ (program : Checked) (ts : List Translation) (are : AreTranslations prog
     small k p e =
         let x = mapped (λ (t : Translation). t.placed) ts k p e in
         let is = are.each k x.from x.there in
-        subst IsSmall x.is (is_small (behind x.from) x.from.placed (behind_of (behind x.from) x.from.placed is.placed) is.code.sized)
+        subst IsSmall x.is (is_small (behind x.from) x.from.placed
+        (behind_of (behind x.from) x.from.placed is.placed) is.code.sized)
 
     -- ---- what is done
 
@@ -154,54 +166,69 @@ module _ (program : Checked) (ts : List Translation) (are : AreTranslations prog
       abbrev with_procs : List VProc → VModule
       with_procs procs = record { procs = procs; data_words = program.data_words }
 
-      meant_to_made : Carried (mean program frames input) (vrun (with_procs (mades ts)) frames input)
+      meant_to_made : Carried (mean program frames input)
+          (vrun (with_procs (mades ts)) frames input)
       meant_to_made = module_carried program (mades ts) frames input selectable embodied words
 
       made_well : RunsWell (with_procs (mades ts)) frames input
       made_well = module_well program (mades ts) frames input selectable embodied words
 
-      same_runs : (p : ℕ) (old new : VProc) → slice_get (mades ts) p ≡ Some old → slice_get (codes ts) p ≡ Some new → SameRuns old new
+      same_runs : (p : ℕ) (old new : VProc) → slice_get (mades ts) p ≡ Some old →
+          slice_get (codes ts) p ≡ Some new → SameRuns old new
       same_runs p old new e f =
-          let x = both_mapped (λ (t : Translation). t.made) (λ (t : Translation). t.code) ts p old new e f in
-          subst (λ c. SameRuns old c) x.other (subst (λ c. SameRuns c x.from.code) x.one (are.each p x.from x.there).runs)
+          let x = both_mapped (λ (t : Translation). t.made) (λ (t : Translation). t.code) ts p old
+          new e f in
+          subst (λ c. SameRuns old c) x.other
+          (subst (λ c. SameRuns c x.from.code) x.one (are.each p x.from x.there).runs)
 
       same_many : length (codes ts) ≡ length (mades ts)
-      same_many = length-map ts (λ (t : Translation). t.code) ∙ sym (length-map ts (λ (t : Translation). t.made))
+      same_many = length-map ts (λ (t : Translation). t.code)
+          ∙ sym (length-map ts (λ (t : Translation). t.made))
 
-      made_to_code : Carried (vrun (with_procs (mades ts)) frames input) (vrun (with_procs (codes ts)) frames input)
-      made_to_code = (all_replaced (with_procs (mades ts)) (codes ts) frames input same_many same_runs made_well).0
+      made_to_code : Carried (vrun (with_procs (mades ts)) frames input)
+          (vrun (with_procs (codes ts)) frames input)
+      made_to_code = (all_replaced (with_procs (mades ts)) (codes ts) frames input same_many
+          same_runs made_well).0
 
       code_well : RunsWell (with_procs (codes ts)) frames input
-      code_well = (all_replaced (with_procs (mades ts)) (codes ts) frames input same_many same_runs made_well).1
+      code_well = (all_replaced (with_procs (mades ts)) (codes ts) frames input same_many same_runs
+          made_well).1
 
-      code_to_placed : Carried (vrun (with_procs (codes ts)) frames input) (lrun (placed ts) program.data_words input)
+      code_to_placed : Carried (vrun (with_procs (codes ts)) frames input)
+          (lrun (placed ts) program.data_words input)
       code_to_placed = carries (with_procs (codes ts)) (placed ts) input routed code_well
 
       placed_well : (k : ℕ) → (lrun (placed ts) program.data_words input k).ending ≢ Some Wrong
       placed_well = never_stuck (with_procs (codes ts)) (placed ts) input routed code_well
 
-      meant_to_placed : Carried (mean program frames input) (lrun (placed ts) program.data_words input)
-      meant_to_placed = carried_on _ _ _ meant_to_made (carried_on _ _ _ made_to_code code_to_placed)
+      meant_to_placed : Carried (mean program frames input)
+          (lrun (placed ts) program.data_words input)
+      meant_to_placed = carried_on _ _ _ meant_to_made
+          (carried_on _ _ _ made_to_code code_to_placed)
 
-      does : (image : Image) → IsFaithful (placed ts) program.data_words image → DoesAsMeant program frames image input
+      does : (image : Image) → IsFaithful (placed ts) program.data_words image →
+          DoesAsMeant program frames image input
       does image is =
           let follows = is.follows input (words_fit input words) placed_well in
           let carried = carried_on _ _ _ meant_to_placed follows.carried in
           record {
             carried = carried;
-            agrees = agree (mean program frames input) (progress image input) carried (mean_keeps program frames input) (progress_keeps image input);
+            agrees = agree (mean program frames input) (progress image input) carried
+                (mean_keeps program frames input) (progress_keeps image input);
             never_wrong = follows.never_wrong;
           }
 
     -- ---- the image
 
-    pub follows_module : (image : Image) → IsImageOf (placed ts) program.data_words image → FollowsModule program ts image
+    pub follows_module : (image : Image) → IsImageOf (placed ts) program.data_words image →
+        FollowsModule program ts image
     follows_module image is =
         let same = faithful (placed ts) program.data_words image routed.placed small is in
         record {
           valid = is.valid;
           data_words = is.words_are;
-          does = λ input words. subst (λ frames. DoesAsMeant program frames image input) (map-map frame_size (λ (t : Translation). t.placed) ts) (does input words image same);
+          does = λ input words. subst (λ frames. DoesAsMeant program frames image input)
+              (map-map frame_size (λ (t : Translation). t.placed) ts) (does input words image same);
           codes = are_valid;
           carries = same.carries (map behind ts) all_behind;
         }

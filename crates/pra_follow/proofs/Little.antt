@@ -7,14 +7,20 @@ use Rattle.vc_typed.specs.TypedModules.{scalar_locals, IsLimited}
 use Rattle.vc_short.specs.Short.{IsShort}
 use Rattle.pra_follow.proofs.Sums.{sum_below}
 
-pub few_instructions : (program : Checked) → IsLimited program → IsShort program → sum_by (λ (proc : CheckedProc). 4 * proc.nodes + scalar_locals proc + 1) program.procs ≤ 262401
+pub few_instructions : (program : Checked) → IsLimited program → IsShort program →
+    sum_by (λ (proc : CheckedProc). 4 * proc.nodes + scalar_locals proc + 1) program.procs ≤ 262401
 few_instructions program limited short =
     let count = limited.count in
-    let all = sum_below (λ (proc : CheckedProc). 4 * proc.nodes + scalar_locals proc + 1) (λ (proc : CheckedProc). proc.nodes + scalar_locals proc) 4 1 (λ proc. omega arith) program.procs in
+    let all = sum_below (λ (proc : CheckedProc). 4 * proc.nodes + scalar_locals proc + 1)
+    (λ (proc : CheckedProc). proc.nodes + scalar_locals proc) 4 1 (λ proc. omega arith)
+    program.procs in
     omega (arith, count, all, short)
 
-pub few_blocks : (program : Checked) → IsLimited program → IsShort program → sum_by (λ (proc : CheckedProc). 2 * proc.nodes + 2) program.procs ≤ 131586
+pub few_blocks : (program : Checked) → IsLimited program → IsShort program →
+    sum_by (λ (proc : CheckedProc). 2 * proc.nodes + 2) program.procs ≤ 131586
 few_blocks program limited short =
     let count = limited.count in
-    let all = sum_below (λ (proc : CheckedProc). 2 * proc.nodes + 2) (λ (proc : CheckedProc). proc.nodes + scalar_locals proc) 2 2 (λ proc. omega arith) program.procs in
+    let all = sum_below (λ (proc : CheckedProc). 2 * proc.nodes + 2)
+    (λ (proc : CheckedProc). proc.nodes + scalar_locals proc) 2 2 (λ proc. omega arith)
+    program.procs in
     omega (arith, count, all, short)

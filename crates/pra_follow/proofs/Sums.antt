@@ -5,7 +5,8 @@ use Rattle.std.specs.List.{sum_by}
 use Rattle.std.proofs.lemmas.List.Sums.{sum_by-cons}
 
 -- where each element gives at most a times what another number is, and b more
-pub sum_below : {A : Type 0} (f g : A → ℕ) (a b : ℕ) → ((x : A) → f x ≤ a * g x + b) → (xs : List A) → sum_by f xs ≤ a * sum_by g xs + b * length xs
+pub sum_below : {A : Type 0} (f g : A → ℕ) (a b : ℕ) → ((x : A) → f x ≤ a * g x + b) →
+    (xs : List A) → sum_by f xs ≤ a * sum_by g xs + b * length xs
 sum_below f g a b le [] = omega arith
 sum_below f g a b le (x ∷ xs) =
     let one = le x in
@@ -18,8 +19,10 @@ sum_below f g a b le (x ∷ xs) =
     omega (arith, one, rest, whole, product, count, same)
 
 -- the elements of a list that goes along with the beginning of another give no more than those do
-pub sum_of_front : {X Y : Type 0} (f : X → ℕ) (g : Y → ℕ) (xs : List X) (ys : List Y) → length ys ≤ length xs →
-    ((k : ℕ) (x : X) (y : Y) → slice_get xs k ≡ Some x → slice_get ys k ≡ Some y → g y ≤ f x) → sum_by g ys ≤ sum_by f xs
+pub sum_of_front : {X Y : Type 0} (f : X → ℕ) (g : Y → ℕ) (xs : List X) (ys : List Y) → length ys ≤
+    length xs →
+    ((k : ℕ) (x : X) (y : Y) → slice_get xs k ≡ Some x → slice_get ys k ≡ Some y → g y ≤ f x) →
+    sum_by g ys ≤ sum_by f xs
 sum_of_front f g xs [] le each = omega arith
 sum_of_front f g [] (y ∷ ys) le each = absurd (omega (arith, le))
 sum_of_front f g (x ∷ xs) (y ∷ ys) le each =

@@ -1,5 +1,6 @@
 -- What selection, tidying, routing and placement answer for a procedure is a translation of it.
-use Rattle.std.proofs.Common.{◌≡◌, ℕ, suc, ◌+◌, ◌*◌, ◌≤◌, List, [], ◌∷◌, length, map, Some, refl, ap, ◌∙◌, arith}
+use Rattle.std.proofs.Common.{◌≡◌, ℕ, suc, ◌+◌, ◌*◌, ◌≤◌, List, [], ◌∷◌, length, map, Some, refl}
+use Rattle.std.proofs.Common.{ap, ◌∙◌, arith}
 use Rattle.std.specs.Prelude.{slice_get, slice_index_or, count_by}
 use Rattle.pra_base.specs.Code.{no_block, is_plain}
 use Rattle.pra_base.specs.declared.code.Block.{Block}
@@ -22,22 +23,30 @@ use Rattle.vc_typed.specs.TypedModules.{scalar_locals}
 use Rattle.pra_follow.specs.Translation.{IsCodeOf, AreAdmittedIn, IsTranslation}
 
 -- blocks that are as deep one by one are so in order
-same_depths : (xs ys : List Block) → length xs ≡ length ys → ((b : ℕ) → (slice_index_or xs b no_block).depth ≡ (slice_index_or ys b no_block).depth) → map (λ (b : Block). b.depth) xs ≡ map (λ (b : Block). b.depth) ys
+same_depths : (xs ys : List Block) → length xs ≡ length ys →
+    ((b : ℕ) → (slice_index_or xs b no_block).depth ≡ (slice_index_or ys b no_block).depth) →
+    map (λ (b : Block). b.depth) xs ≡ map (λ (b : Block). b.depth) ys
 same_depths [] [] long same = refl
 same_depths [] (y ∷ ys) long same = absurd (omega (arith, long))
 same_depths (x ∷ xs) [] long same = absurd (omega (arith, long))
 same_depths (x ∷ xs) (y ∷ ys) long same =
-    ap (λ d. d ∷ map (λ (b : Block). b.depth) xs) (same 0) ∙ ap (λ l. y.depth ∷ l) (same_depths xs ys (omega (arith, long)) (λ b. same (suc b)))
+    ap (λ d. d ∷ map (λ (b : Block). b.depth) xs) (same 0) ∙ ap (λ l. y.depth ∷ l)
+    (same_depths xs ys (omega (arith, long)) (λ b. same (suc b)))
 
-module _ (program : Checked) (p : ℕ) (proc : CheckedProc) (selected code : VProc) (is : IsSelected program p proc selected) (kept : Preserves selected code) (kinds : KeepsKinds selected code) (tidy : IsTidy code) where
+module _ (program : Checked) (p : ℕ) (proc : CheckedProc) (selected code : VProc)
+    (is : IsSelected program p proc selected) (kept : Preserves selected code)
+    (kinds : KeepsKinds selected code) (tidy : IsTidy code) where
   counts_of : KeepsCounts proc code
   counts_of =
-      let fewer : instruction_count code.blocks ≤ instruction_count selected.blocks = kept.instructions in
-      let most : instruction_count selected.blocks ≤ 4 * proc.nodes + scalar_locals proc + 1 = is.counts.instructions in
+      let fewer : instruction_count code.blocks ≤ instruction_count selected.blocks =
+      kept.instructions in
+      let most : instruction_count selected.blocks ≤ 4 * proc.nodes + scalar_locals proc + 1 =
+      is.counts.instructions in
       let same : length code.blocks ≡ length selected.blocks = kept.count in
       let few : length selected.blocks ≤ 2 * proc.nodes + 2 = is.counts.blocks in
       let plain = kinds.counts is_plain in
-      let locals : count_by is_plain selected.vars ≤ 3 * proc.nodes + scalar_locals proc = is.counts.locals in
+      let locals : count_by is_plain selected.vars ≤ 3 * proc.nodes + scalar_locals proc =
+      is.counts.locals in
       let constant = kinds.counts is_constant in
       let constants : count_by is_constant selected.vars ≤ 4 * proc.nodes = is.counts.constants in
       record {
@@ -60,8 +69,15 @@ module _ (program : Checked) (p : ℕ) (proc : CheckedProc) (selected code : VPr
     tidy = tidy;
   }
 
-  pub made_so : (net : Net) (routes : Routes) (placed : LProc) → slice_get program.procs p ≡ Some proc → AreAdmittedIn code net routes → IsMade (routed code net routes) placed →
-      IsTranslation program p (record { made = is.made; code = code; net = net; routes = routes; placed = placed })
+  pub made_so : (net : Net) (routes : Routes) (placed : LProc) → slice_get program.procs p ≡
+      Some proc → AreAdmittedIn code net routes → IsMade (routed code net routes) placed →
+      IsTranslation program p (record {
+        made = is.made;
+        code = code;
+        net = net;
+        routes = routes;
+        placed = placed;
+      })
   made_so net routes placed there admitted made = record {
     proc = proc;
     there = there;
@@ -72,7 +88,17 @@ module _ (program : Checked) (p : ℕ) (proc : CheckedProc) (selected code : VPr
     placed = made;
   }
 
-pub translated : (program : Checked) (p : ℕ) (proc : CheckedProc) (selected code : VProc) (net : Net) (routes : Routes) (placed : LProc) → slice_get program.procs p ≡ Some proc → (is : IsSelected program p proc selected) →
-    Preserves selected code → KeepsKinds selected code → IsTidy code → AreAdmittedIn code net routes → IsMade (routed code net routes) placed →
-    IsTranslation program p (record { made = is.made; code = code; net = net; routes = routes; placed = placed })
-translated program p proc selected code net routes placed there is kept kinds tidy admitted made = made_so program p proc selected code is kept kinds tidy net routes placed there admitted made
+pub translated : (program : Checked) (p : ℕ) (proc : CheckedProc) (selected code : VProc)
+    (net : Net) (routes : Routes) (placed : LProc) → slice_get program.procs p ≡ Some proc →
+    (is : IsSelected program p proc selected) →
+    Preserves selected code → KeepsKinds selected code → IsTidy code →
+    AreAdmittedIn code net routes → IsMade (routed code net routes) placed →
+    IsTranslation program p (record {
+      made = is.made;
+      code = code;
+      net = net;
+      routes = routes;
+      placed = placed;
+    })
+translated program p proc selected code net routes placed there is kept kinds tidy admitted made =
+    made_so program p proc selected code is kept kinds tidy net routes placed there admitted made

@@ -28,7 +28,10 @@ gives x n a r e f = f ∙ ap (λ s. s / 65536) e
 abbrev whole : Form → ℕ → ℕ → ℕ → Statement
 whole f j k l = record { form = f; target = j % 8; left = k % 8; right = l % 8 }
 
-pub statement_is : (x i j k l : ℕ) (f : Form) → f ≡ form_of (i % 4) → i ≡ draw x 1 → j ≡ draw x 2 → k ≡ draw x 3 → l ≡ draw x 4 → ◌≡◌ {A = Statement} (record { form = f; target = j % 8; left = k % 8; right = l % 8 }) (statement_from x)
+pub statement_is : (x i j k l : ℕ) (f : Form) → f ≡ form_of (i % 4) → i ≡ draw x 1 → j ≡ draw x 2 →
+    k ≡ draw x 3 → l ≡ draw x 4 →
+    ◌≡◌ {A = Statement} (record { form = f; target = j % 8; left = k % 8; right = l % 8 })
+    (statement_from x)
 statement_is x i j k l f ef ei ej ek el =
     ap (λ f. whole f j k l) (ef ∙ ap (λ i. form_of (i % 4)) ei)
     ∙ ap (λ j. whole (form_of (draw x 1 % 4)) j k l) ej

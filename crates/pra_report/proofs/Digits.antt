@@ -1,5 +1,6 @@
 -- The value of digits, read one after the other.
-use Rattle.std.proofs.Common.{◌≡◌, ℕ, ◌+◌, ◌-◌, ◌*◌, ◌<◌, ◌≤◌, Bool, true, false, Some, None, List, [], ◌∷◌, length, refl, arith, cond, ◌&&◌, ◌∙◌}
+use Rattle.std.proofs.Common.{◌≡◌, ℕ, ◌+◌, ◌-◌, ◌*◌, ◌<◌, ◌≤◌, Bool, true, false, Some, None, List}
+use Rattle.std.proofs.Common.{[], ◌∷◌, length, refl, arith, cond, ◌&&◌, ◌∙◌}
 use Rattle.std.specs.Prelude.{nat_le, slice_index}
 use Rattle.std.specs.Char.{is_ascii_digit, digit_value}
 use Rattle.std.specs.Str.{all_ascii_digits}
@@ -21,14 +22,17 @@ second_false true true n e = cc
 second_false true false n e = refl
 second_false false c n e = refl
 
-pub not_a_digit : (most value d : ℕ) (ds : List ℕ) → is_ascii_digit d ≡ false → digits_on most value (d ∷ ds) ≡ None
+pub not_a_digit : (most value d : ℕ) (ds : List ℕ) → is_ascii_digit d ≡ false →
+    digits_on most value (d ∷ ds) ≡ None
 not_a_digit most value d ds e =
-    first_false (is_ascii_digit d) (all_ascii_digits ds) (nat_le (digits_value_after 10 value (d ∷ ds)) most) _ e
+    first_false (is_ascii_digit d) (all_ascii_digits ds)
+    (nat_le (digits_value_after 10 value (d ∷ ds)) most) _ e
 
 pub value_of_digit : (d : ℕ) → is_ascii_digit d ≡ true → digit_value d ≡ d - 48
 value_of_digit d e = grind (arith, nat_tests)
 
-pub one_digit : (most value d : ℕ) (ds : List ℕ) → is_ascii_digit d ≡ true → digits_on most value (d ∷ ds) ≡ digits_on most (value * 10 + (d - 48)) ds
+pub one_digit : (most value d : ℕ) (ds : List ℕ) → is_ascii_digit d ≡ true →
+    digits_on most value (d ∷ ds) ≡ digits_on most (value * 10 + (d - 48)) ds
 one_digit most value d ds e = rw (e, value_of_digit d e) refl
 
 at_least : (value : ℕ) (ds : List ℕ) → value ≤ digits_value_after 10 value ds
@@ -38,12 +42,15 @@ at_least value (d ∷ ds) = omega (arith, at_least (value * 10 + digit_value d) 
 pub too_large : (most value : ℕ) (ds : List ℕ) → most < value → digits_on most value ds ≡ None
 too_large most value ds above =
     second_false (all_ascii_digits ds) (nat_le (digits_value_after 10 value ds) most) _
-    (let least : most < digits_value_after 10 value ds = omega (arith, at_least value ds) in grind (arith, nat_tests))
+    (let least : most < digits_value_after 10 value ds = omega (arith, at_least value ds) in
+    grind (arith, nat_tests))
 
 pub all_read : (most value : ℕ) → value ≤ most → digits_on most value [] ≡ Some value
 all_read most value within = grind (arith, nat_tests)
 
-pub too_large_next : (most value : ℕ) (rest : List ℕ) → 1 ≤ length rest → is_ascii_digit (slice_index rest 0) ≡ true → most < value * 10 + (slice_index rest 0 - 48) → digits_on most value rest ≡ None
+pub too_large_next : (most value : ℕ) (rest : List ℕ) → 1 ≤ length rest →
+    is_ascii_digit (slice_index rest 0) ≡ true → most < value * 10 + (slice_index rest 0 - 48) →
+    digits_on most value rest ≡ None
 too_large_next most value [] some is above = absurd (omega arith)
 too_large_next most value (d ∷ ds) some is above =
     one_digit most value d ds is ∙ too_large most (value * 10 + (d - 48)) ds above

@@ -1,5 +1,6 @@
 -- What the place of the first separator says of a text's parts.
-use Rattle.std.proofs.Common.{◌≡◌, ℕ, ◌+◌, ◌<◌, ◌≤◌, Bool, true, false, Some, None, List, [], ◌∷◌, length, take, drop, refl, ap, arith, cond, inl, inr, ◌∙◌, length-drop}
+use Rattle.std.proofs.Common.{◌≡◌, ℕ, ◌+◌, ◌<◌, ◌≤◌, Bool, true, false, Some, None, List, [], ◌∷◌}
+use Rattle.std.proofs.Common.{length, take, drop, refl, ap, arith, cond, inl, inr, ◌∙◌, length-drop}
 use Rattle.std.specs.Prelude.{nat_lt, position}
 use Rattle.std.specs.List.{position_or_len, slice_split}
 use Rattle.std.proofs.lemmas.List.{length-take-le}
@@ -17,7 +18,8 @@ none_where : (b : Bool) (n : ℕ) → cond b (Some n) None ≡ None → b ≡ fa
 none_where true n e = cc
 none_where false n e = refl
 
-pub found : (text : List ℕ) (at : ℕ) → position is_separator text ≡ Some at → IsFirstPart text (take at text) (drop (at + 1) text)
+pub found : (text : List ℕ) (at : ℕ) → position is_separator text ≡ Some at →
+    IsFirstPart text (take at text) (drop (at + 1) text)
 found text at e =
     let n : ℕ = position_or_len is_separator text in
     let where_it_is = some_where (nat_lt n (length text)) n at e in
@@ -32,9 +34,11 @@ found text at e =
 pub none_found : (text : List ℕ) → position is_separator text ≡ None → IsFirstPart text text []
 none_found text e =
     let n : ℕ = position_or_len is_separator text in
-    let past : length text ≤ n = ltb-false n (length text) (none_where (nat_lt n (length text)) n e) in
+    let past : length text ≤ n = ltb-false n (length text) (none_where (nat_lt n (length text)) n e)
+    in
     inr (record {
-      only = slice_split_none is_separator text (λ k d k<. fails_before_first is_separator text k d (omega arith));
+      only = slice_split_none is_separator text
+          (λ k d k<. fails_before_first is_separator text k d (omega arith));
       whole = refl;
       none = refl;
     })

@@ -1,8 +1,10 @@
 -- An input that is read up to some place.
-use Rattle.std.proofs.Common.{◌≡◌, ℕ, ◌+◌, ◌-◌, ◌<◌, Some, None, List, [], ◌∷◌, ◌++◌, length, refl, ap, arith, ◌∙◌, sym, append_assoc, inl, inr, append-nil}
+use Rattle.std.proofs.Common.{◌≡◌, ℕ, ◌+◌, ◌-◌, ◌<◌, Some, None, List, [], ◌∷◌, ◌++◌, length, refl}
+use Rattle.std.proofs.Common.{ap, arith, ◌∙◌, sym, append_assoc, inl, inr, append-nil}
 use Rattle.std.specs.Prelude.{ℤ, Result, Ok, Err}
 use Rattle.std.specs.List.{slice_split}
-use Rattle.pra_report.specs.Input.{is_separator, word_of, runs_from, with_word, numbers_of, input_words}
+use Rattle.pra_report.specs.Input.{is_separator, word_of, runs_from, with_word, numbers_of}
+use Rattle.pra_report.specs.Input.{input_words}
 use Rattle.pra_report.specs.Parts.{IsFirstPart}
 
 -- numbers in front of what is read behind them
@@ -27,12 +29,15 @@ behind-none (Err at) = refl
 pub nothing_read : (bytes : List ℕ) → IsReadTo bytes [] bytes
 nothing_read bytes = record { at = 0; place = omega arith; same = behind-none (input_words bytes) }
 
-pub all_read : (bytes : List ℕ) (words : List ℤ) → IsReadTo bytes words [] → input_words bytes ≡ Ok words
+pub all_read : (bytes : List ℕ) (words : List ℤ) → IsReadTo bytes words [] → input_words bytes ≡
+    Ok words
 all_read bytes words so_far = so_far.same ∙ ap Ok (append-nil words)
 
 -- ---- a part without bytes
 
-pub gap : (bytes : List ℕ) (words : List ℤ) (rest part others : List ℕ) → IsReadTo bytes words rest → IsFirstPart rest part others → length part ≡ 0 → IsReadTo bytes words others
+pub gap : (bytes : List ℕ) (words : List ℤ) (rest part others : List ℕ) →
+    IsReadTo bytes words rest → IsFirstPart rest part others → length part ≡ 0 →
+    IsReadTo bytes words others
 gap bytes words rest [] others so_far (inl p) none = record {
   at = so_far.at + 1;
   place = omega arith;
@@ -48,16 +53,21 @@ gap bytes words rest (b ∷ part) others so_far p none = absurd (omega arith)
 
 -- ---- a word
 
-word_first : (at : ℕ) (part : List ℕ) (parts : List (List ℕ)) (n : ℤ) → word_of part ≡ Some n → numbers_of (runs_from at (part ∷ parts)) ≡ with_word at (Some n) (numbers_of (runs_from (at + length part + 1) parts))
+word_first : (at : ℕ) (part : List ℕ) (parts : List (List ℕ)) (n : ℤ) → word_of part ≡ Some n →
+    numbers_of (runs_from at (part ∷ parts)) ≡ with_word at (Some n)
+    (numbers_of (runs_from (at + length part + 1) parts))
 word_first at [] parts n e = cc
 word_first at (b ∷ part) parts n e =
     ap (λ w. with_word at w (numbers_of (runs_from (at + length (b ∷ part) + 1) parts))) e
 
-behind-with_word : (words : List ℤ) (at : ℕ) (n : ℤ) (more : Result (List ℤ) ℕ) → behind words (with_word at (Some n) more) ≡ behind (words ++ n ∷ []) more
+behind-with_word : (words : List ℤ) (at : ℕ) (n : ℤ) (more : Result (List ℤ) ℕ) →
+    behind words (with_word at (Some n) more) ≡ behind (words ++ n ∷ []) more
 behind-with_word words at n (Ok numbers) = ap Ok (sym (append_assoc words (n ∷ []) numbers))
 behind-with_word words at n (Err place) = refl
 
-pub word : (bytes : List ℕ) (words : List ℤ) (rest part others : List ℕ) (n : ℤ) → IsReadTo bytes words rest → IsFirstPart rest part others → word_of part ≡ Some n → IsReadTo bytes (words ++ n ∷ []) others
+pub word : (bytes : List ℕ) (words : List ℤ) (rest part others : List ℕ) (n : ℤ) →
+    IsReadTo bytes words rest → IsFirstPart rest part others → word_of part ≡ Some n →
+    IsReadTo bytes (words ++ n ∷ []) others
 word bytes words rest part others n so_far (inl p) e = record {
   at = so_far.at + length part + 1;
   place = omega (arith, p.size);
@@ -76,19 +86,23 @@ word bytes words rest part others n so_far (inr p) e = record {
 
 -- ---- a run that is no word
 
-bad_first : (at : ℕ) (part : List ℕ) (parts : List (List ℕ)) → 0 < length part → word_of part ≡ None → numbers_of (runs_from at (part ∷ parts)) ≡ Err at
+bad_first : (at : ℕ) (part : List ℕ) (parts : List (List ℕ)) → 0 < length part → word_of part ≡
+    None → numbers_of (runs_from at (part ∷ parts)) ≡ Err at
 bad_first at [] parts some e = absurd (omega arith)
 bad_first at (b ∷ part) parts some e =
     ap (λ w. with_word at w (numbers_of (runs_from (at + length (b ∷ part) + 1) parts))) e
 
-bad_part : (at : ℕ) (rest part others : List ℕ) → IsFirstPart rest part others → 0 < length part → word_of part ≡ None → from_place at rest ≡ Err at
+bad_part : (at : ℕ) (rest part others : List ℕ) → IsFirstPart rest part others → 0 < length part →
+    word_of part ≡ None → from_place at rest ≡ Err at
 bad_part at rest part others (inl p) some e =
     ap (λ parts. numbers_of (runs_from at parts)) p.parts
     ∙ bad_first at part (slice_split is_separator others) some e
 bad_part at rest part others (inr p) some e =
     ap (λ parts. numbers_of (runs_from at parts)) p.only ∙ bad_first at part [] some e
 
-pub no_word : (bytes : List ℕ) (words : List ℤ) (rest part others : List ℕ) → IsReadTo bytes words rest → IsFirstPart rest part others → 0 < length part → word_of part ≡ None → input_words bytes ≡ Err (length bytes - length rest)
+pub no_word : (bytes : List ℕ) (words : List ℤ) (rest part others : List ℕ) →
+    IsReadTo bytes words rest → IsFirstPart rest part others → 0 < length part → word_of part ≡
+    None → input_words bytes ≡ Err (length bytes - length rest)
 no_word bytes words rest part others so_far p some e =
     so_far.same
     ∙ ap (behind words) (bad_part so_far.at rest part others p some e)

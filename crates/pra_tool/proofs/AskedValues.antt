@@ -1,5 +1,6 @@
 -- What was asked for lies within what the words may say.
-use Rattle.std.proofs.Common.{◌≡◌, ◌≢◌, ◌≤◌, ℕ, Bool, true, false, List, Option, Some, None, refl, sym, ap, ◌∙◌, subst, leb-true, arith}
+use Rattle.std.proofs.Common.{◌≡◌, ◌≢◌, ◌≤◌, ℕ, Bool, true, false, List, Option, Some, None, refl}
+use Rattle.std.proofs.Common.{sym, ap, ◌∙◌, subst, leb-true, arith}
 use Rattle.std.specs.Prelude.{Result, Ok, Err, nat_le, ◌&&◌, not, unwrap_or}
 use Rattle.std.specs.Option.{ok_or}
 use Rattle.std.specs.Str.{bytes_eq}
@@ -15,7 +16,9 @@ use Rattle.pra_words.specs.declared.words.Word.TheVariants as a_word
 use Rattle.pra_words.specs.declared.words.WordsFault.{WordsFault}
 use Rattle.pra_words.specs.declared.words.WordsFault.TheVariants.{Value}
 use Rattle.pra_words.specs.CommandLine.{Line, line_of}
-use Rattle.pra_words.specs.Words.{Asked, mode_of, file_of, cost_of, is_number, is_empty, number_within, value_of, writes_image, default_image, is_image, image_of, values_of, asked_in, asked_of}
+use Rattle.pra_words.specs.Words.{Asked, mode_of, file_of, cost_of, is_number, is_empty}
+use Rattle.pra_words.specs.Words.{number_within, value_of, writes_image, default_image, is_image}
+use Rattle.pra_words.specs.Words.{image_of, values_of, asked_in, asked_of}
 use Rattle.pra_tool.specs.Asking.{IsAnswerable}
 
 -- ---- values

@@ -26,7 +26,8 @@ use Rattle.pra_tool.specs.Ends.{Ends}
 use Rattle.pra_tool.specs.Ends as ends
 use Rattle.pra_tool.specs.Compiling.{MadeOf, weights_by}
 use Rattle.pra_tool.specs.Texts.{over_line, held_text}
-use Rattle.pra_tool.specs.Certified.{most_certificate, cost_by, CertifiesMade, IsCertified, IsHeld, IsUncertified, CheckMakes}
+use Rattle.pra_tool.specs.Certified.{most_certificate, cost_by, CertifiesMade, IsCertified, IsHeld}
+use Rattle.pra_tool.specs.Certified.{IsUncertified, CheckMakes}
 use Rattle.pra_tool.specs.Clause.{compiling, checking}
 use Rattle.pra_tool.proofs.CompilingModes.{longer}
 use Rattle.pra_tool.proofs.ModeAnswers.{is_memory}
@@ -41,7 +42,8 @@ same_weights word.Speed = refl
 few_procs : (asked : Asked) (source : List ℕ) (made : Made) → (made_of : MadeOf asked source made) →
     length made_of.text.checked.procs ≤ most_procs
 few_procs asked source made made_of =
-    let count = (selectable source _ _ made_of.text.checked made_of.read.1 made_of.read.2).limited.count
+    let count = (selectable source _ _ made_of.text.checked made_of.read.1
+    made_of.read.2).limited.count
     in omega (arith, count)
 
 -- what was compiled is certified, and the certificate holds

@@ -1,5 +1,6 @@
 -- Testing a certificate is a mode.
-use Rattle.std.proofs.Common.{◌≡◌, ◌<◌, ◌≤◌, ◌⊎◌, inl, inr, ⊎_elim, refl, sym, ap, ap₂, ◌∙◌, subst, ℕ, zero, suc, List, [], length, Some, Ok, Err, arith}
+use Rattle.std.proofs.Common.{◌≡◌, ◌<◌, ◌≤◌, ◌⊎◌, inl, inr, ⊎_elim, refl, sym, ap, ap₂, ◌∙◌, subst}
+use Rattle.std.proofs.Common.{ℕ, zero, suc, List, [], length, Some, Ok, Err, arith}
 use Rattle.std.specs.Prelude.{Option, slice_get}
 use Rattle.std.proofs.lemmas.Bool.{cases_lt}
 use Rattle.std.proofs.Math.Nat.{eq-or-lt_of_le}
@@ -7,7 +8,8 @@ use Rattle.cert_check.specs.declared.check.CertAnswer.{CertAnswer}
 use Rattle.cert_check.specs.declared.check.CertAnswer.TheVariants.{Yes, No}
 use Rattle.cert_check.specs.declared.check.Reason.{Reason}
 use Rattle.cert_check.specs.declared.check.Reason.TheVariants.{Code, Routes, Prices, Total, Bound}
-use Rattle.cert_check.specs.Reasons.{IsAnswerOf, AreBounded, FailsAt, FailsBy, HoldUpTo, MeetsAll, rank}
+use Rattle.cert_check.specs.Reasons.{IsAnswerOf, AreBounded, FailsAt, FailsBy, HoldUpTo, MeetsAll}
+use Rattle.cert_check.specs.Reasons.{rank}
 use Rattle.cert_form.specs.declared.certificate.Cert.{Cert}
 use Rattle.cert_form.specs.declared.certificate.Certificate.{Certificate}
 use Rattle.cert_form.specs.declared.text.CertFault.TheVariants as fault
@@ -18,7 +20,8 @@ use Rattle.pra_tool.specs.declared.certified.Uncertified.TheVariants as uncertif
 use Rattle.pra_tool.specs.Status.{IsDone, IsRefusal}
 use Rattle.pra_tool.specs.Writes.{Writes, names}
 use Rattle.pra_tool.specs.Modes.{IsKind, IsMode}
-use Rattle.pra_tool.specs.Certified.{most_certificate, IsTextOfCert, FailsIn, IsUncertified, uncertified_status, IsHeld, certificates}
+use Rattle.pra_tool.specs.Certified.{most_certificate, IsTextOfCert, FailsIn, IsUncertified}
+use Rattle.pra_tool.specs.Certified.{uncertified_status, IsHeld, certificates}
 use Rattle.pra_tool.specs.Clause.{checking}
 use Rattle.pra_tool.proofs.CompilingModes.{inputs_are_a_kind, not_read}
 

@@ -17,7 +17,8 @@ use Rattle.pra_tool.specs.Ends.{Ends}
 use Rattle.pra_tool.specs.Ends as ends
 use Rattle.pra_tool.specs.Interpreted.{units_of, interp_writes}
 use Rattle.pra_tool.specs.Modes.{IsInput}
-use Rattle.pra_tool.specs.Clause.{run_of, takes_input, run_writes, compile_writes, gen_writes, compiling, generating}
+use Rattle.pra_tool.specs.Clause.{run_of, takes_input, run_writes, compile_writes, gen_writes}
+use Rattle.pra_tool.specs.Clause.{compiling, generating}
 use Rattle.pra_tool.specs.Compiling.{MadeOf}
 use Rattle.pra_tool.proofs.ModeAnswers.{is_memory}
 
@@ -93,7 +94,8 @@ pub input_ends : (next : Then) → takes_input next ≡ true → (asked : Asked)
     Ends (compiling next asked) source old new s
 input_ends next reads asked fault old new s cause known told memory source = ⊎_elim
     (λ wanting. ends.wanting wanting (memory wanting))
-    (λ other. by_fault fault other cause (⊎_elim (λ e. e) (λ e. absurd (other e)) known) (told other))
+    (λ other. by_fault fault other cause (⊎_elim (λ e. e) (λ e. absurd (other e)) known)
+    (told other))
     (is_memory s)
   where
     by_fault : (f : InputFault) → s ≢ NoMemory → IsInputCause f old.input new.input →

@@ -1,5 +1,6 @@
 -- The modes that compile FILE are modes.
-use Rattle.std.proofs.Common.{◌≡◌, ◌≢◌, ◌⊎◌, ◌<◌, ◌+◌, inl, refl, sym, ap, ◌∙◌, subst, ℕ, ℤ, List, [], ◌∷◌, length, take, Some, None, replicate, arith, rules, ⊎_elim}
+use Rattle.std.proofs.Common.{◌≡◌, ◌≢◌, ◌⊎◌, ◌<◌, ◌+◌, inl, refl, sym, ap, ◌∙◌, subst, ℕ, ℤ, List}
+use Rattle.std.proofs.Common.{[], ◌∷◌, length, take, Some, None, replicate, arith, rules, ⊎_elim}
 use Rattle.std.proofs.lemmas.List.{length-map, length-replicate, length-append}
 use Rattle.std.specs.declared.option.Option.{Option}
 use Rattle.std.specs.Io.KnownBytes.{Keeps}
@@ -23,7 +24,8 @@ use Rattle.pra_words.specs.Words.{Asked}
 use Rattle.pra_tool.specs.declared.input.WrongInput.{WrongInput}
 use Rattle.pra_tool.specs.declared.input.WrongInput.TheVariants.{TooLong, NoWord}
 use Rattle.pra_tool.specs.declared.status.Status.{Status}
-use Rattle.pra_tool.specs.declared.status.Status.TheVariants.{Ended, Trapped, Going, OverLimit, NoMemory}
+use Rattle.pra_tool.specs.declared.status.Status.TheVariants.{Ended, Trapped, Going, OverLimit}
+use Rattle.pra_tool.specs.declared.status.Status.TheVariants.{NoMemory}
 use Rattle.pra_tool.specs.Ends.{NeverFaults}
 use Rattle.pra_tool.specs.Inputs.{HasNumbers, IsWrongInput, input_status}
 use Rattle.ob_interp.specs.declared.interpret.UnitEnding.{UnitEnding}
@@ -33,7 +35,8 @@ use Rattle.pra_tool.specs.Outside.{Seen, Untouched}
 use Rattle.pra_tool.specs.Writes.{FileText, Writes, IsOther, AreDifferent, names, LeftOff}
 use Rattle.pra_tool.proofs.Files.{one_file}
 use Rattle.pra_tool.specs.Modes.{IsKind, IsMode}
-use Rattle.pra_tool.specs.Clause.{makes, refuses, files_of, sources, inputs, compiling, fault_status, image_file}
+use Rattle.pra_tool.specs.Clause.{makes, refuses, files_of, sources, inputs, compiling}
+use Rattle.pra_tool.specs.Clause.{fault_status, image_file}
 
 -- the run of an image that was made of a source is no fault
 ending_along : (e : Ending) → (run_end e ≢ Some end.Wrong) → IsEnding e
@@ -214,11 +217,13 @@ longer n (Some (Some bytes)) h = (bytes, refl, h)
 
 -- and it is refused for that
 pub too_long : (file : Option (Option (List ℕ))) → IsLonger file 1048576 →
-    (source : List ℕ) × Holds file source × IsUnreadable source (read.Limit (Count limit.Source 1048577))
+    (source : List ℕ) × Holds file source ×
+    IsUnreadable source (read.Limit (Count limit.Source 1048577))
 too_long file h = let x = longer 1048576 file h in (x.0, x.1, inl (x.2, refl))
 
 -- the one file that is written differs from all others
-pub different : (name : List ℕ) (image : Image) (files : List FileText) → files ≡ image_file name image →
+pub different : (name : List ℕ) (image : Image) (files : List FileText) →
+    files ≡ image_file name image →
     AreDifferent files
 different name image files is = subst AreDifferent (sym is) (one_file _)
 

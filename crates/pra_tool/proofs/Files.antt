@@ -1,5 +1,6 @@
 -- Files written one after the other.
-use Rattle.std.proofs.Common.{◌≡◌, ◌≢◌, ℕ, ◌+◌, ◌<◌, ◌≤◌, List, [], ◌∷◌, ◌++◌, length, take, drop, refl, sym, ap, ◌∙◌, subst, arith, length-append, get_or, suc, add-one}
+use Rattle.std.proofs.Common.{◌≡◌, ◌≢◌, ℕ, ◌+◌, ◌<◌, ◌≤◌, List, [], ◌∷◌, ◌++◌, length, take, drop}
+use Rattle.std.proofs.Common.{refl, sym, ap, ◌∙◌, subst, arith, length-append, get_or, suc, add-one}
 use Rattle.std.proofs.lemmas.List.{take-append-drop}
 use Rattle.std.proofs.Math.Seq.{take-suc, drop-cons}
 use Rattle.std.proofs.Math.ListN.{get_or-map}
@@ -9,7 +10,8 @@ use Rattle.pra_io.specs.Contents.{Becomes}
 use Rattle.pra_tool.specs.Outside.{FolderSeen, SameFiles, NoneFell}
 use Rattle.pra_io.specs.declared.files.FileFault.{FileFault}
 use Rattle.pra_io.specs.declared.files.FileFault.TheVariants.{Failed, TooLong, OutOfMemory}
-use Rattle.pra_tool.specs.Writes.{FileText, IsOther, AreDifferent, OthersStay, Hold, Stored, FileFailed, FileLeft, FilesStopped}
+use Rattle.pra_tool.specs.Writes.{FileText, IsOther, AreDifferent, OthersStay, Hold, Stored}
+use Rattle.pra_tool.specs.Writes.{FileFailed, FileLeft, FilesStopped}
 
 -- ---- names
 
@@ -99,34 +101,35 @@ module _ (files : List FileText) (i : ℕ) (f : FileText) (within : i < length f
   new_name : AreDifferent files → IsOther f.name (take i files)
   new_name different = different (take i files) (drop (suc i) files) f order
 
-  module _ (a b c : FolderSeen) (different : AreDifferent files) (s : Stored (take i files) a b) where
-    pub stored_next : ((name : List ℕ) → name ≢ f.name → c.file name ≡ b.file name) →
-        Becomes (b.file f.name) (c.file f.name) f.bytes → Stored (take (i + 1) files) a c
-    stored_next others becomes = subst (λ (l : List FileText). Stored l a c) (sym one_more)
-        (stored_more a b c f others (take i files) s (new_name different) becomes)
+  module _ (a b c : FolderSeen) (different : AreDifferent files) (s : Stored (take i files) a b)
+    where
+      pub stored_next : ((name : List ℕ) → name ≢ f.name → c.file name ≡ b.file name) →
+          Becomes (b.file f.name) (c.file f.name) f.bytes → Stored (take (i + 1) files) a c
+      stored_next others becomes = subst (λ (l : List FileText). Stored l a c) (sym one_more)
+          (stored_more a b c f others (take i files) s (new_name different) becomes)
 
-    pub failed_next : ((name : List ℕ) → name ≢ f.name → c.file name ≡ b.file name) →
-        Rose (a.write_faults f.name) (c.write_faults f.name) → FileFailed files a c
-    failed_next others cause = failed_at a b c f others files (take i files) (drop (suc i) files)
-        order s (new_name different) cause
+      pub failed_next : ((name : List ℕ) → name ≢ f.name → c.file name ≡ b.file name) →
+          Rose (a.write_faults f.name) (c.write_faults f.name) → FileFailed files a c
+      failed_next others cause = failed_at a b c f others files (take i files) (drop (suc i) files)
+          order s (new_name different) cause
 
-    -- nothing changed
-    same_hold : SameFiles b c → (done : List FileText) → Hold done a b → Hold done a c
-    same_hold same [] h = tt
-    same_hold same (x ∷ xs) h = (
-      subst (λ held. Becomes (a.file x.name) held x.bytes) (sym (same x.name)) h.0,
-      same_hold same xs h.1,
-    )
+      -- nothing changed
+      same_hold : SameFiles b c → (done : List FileText) → Hold done a b → Hold done a c
+      same_hold same [] h = tt
+      same_hold same (x ∷ xs) h = (
+        subst (λ held. Becomes (a.file x.name) held x.bytes) (sym (same x.name)) h.0,
+        same_hold same xs h.1,
+      )
 
-    pub left_next : SameFiles b c → FileLeft files a c
-    left_next same = record {
-      before = i;
-      some_left = omega (arith, within);
-      stored = record {
-        hold = same_hold same (take i files) s.hold;
-        others = λ name other. same name ∙ s.others name other;
-      };
-    }
+      pub left_next : SameFiles b c → FileLeft files a c
+      left_next same = record {
+        before = i;
+        some_left = omega (arith, within);
+        stored = record {
+          hold = same_hold same (take i files) s.hold;
+          others = λ name other. same name ∙ s.others name other;
+        };
+      }
 
 -- a file of the code as one of the list
 pub file_of : {A : Type 0} (text : A → FileText) (files : List A) (i : ℕ) (x : A) →

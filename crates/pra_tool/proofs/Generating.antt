@@ -1,5 +1,6 @@
 -- `gen` is a mode.
-use Rattle.std.proofs.Common.{◌≡◌, ◌≢◌, ◌⊎◌, ◌≤◌, ◌<◌, ◌+◌, inl, inr, refl, sym, ap, ◌∙◌, subst, ℕ, zero, suc, List, [], ◌∷◌, ◌++◌, length, take, map, arith}
+use Rattle.std.proofs.Common.{◌≡◌, ◌≢◌, ◌⊎◌, ◌≤◌, ◌<◌, ◌+◌, inl, inr, refl, sym, ap, ◌∙◌, subst, ℕ}
+use Rattle.std.proofs.Common.{zero, suc, List, [], ◌∷◌, ◌++◌, length, take, map, arith}
 use Rattle.std.proofs.lemmas.List.{length-append}
 use Rattle.std.specs.Io.KnownBytes.{Keeps}
 use Rattle.pra_gen.specs.Module.{module_text}
@@ -66,7 +67,8 @@ stored_by zero f g a c le s = inl s
 stored_by (suc zero) f g a c le s = inr s
 stored_by (suc (suc n)) f g a c le s = absurd (omega (arith, le))
 
-pub gen_leaves : (asked : Asked) (source input : List ℕ) (w : Writes) (s : Status) (old new : Seen) →
+pub gen_leaves : (asked : Asked) (source input : List ℕ) (w : Writes) (s : Status)
+    (old new : Seen) →
     GenMakes asked source input w s → LeftOff w old new →
     Untouched old new ⊎ TextLeft asked.file (module_text asked.seed asked.size) old new
 gen_leaves asked source input w s old new made l = by_stored

@@ -1,5 +1,6 @@
 -- What `run` and `interp` make of one source and one input is the same, where both come to an end.
-use Rattle.std.proofs.Common.{◌≡◌, ◌≢◌, ◌+◌, ◌-◌, ℕ, ℤ, List, Option, Some, None, refl, sym, ap, ◌∙◌, subst, arith}
+use Rattle.std.proofs.Common.{◌≡◌, ◌≢◌, ◌+◌, ◌-◌, ℕ, ℤ, List, Option, Some, None, refl, sym, ap}
+use Rattle.std.proofs.Common.{◌∙◌, subst, arith}
 use Rattle.pra_base.specs.Agreement.{Progress}
 use Rattle.pra_base.specs.RunEnd as end
 use Rattle.pra_base.specs.declared.event.OutEvent.{OutEvent}
@@ -127,7 +128,8 @@ pub end_alike : (program : Checked) (frames : List ℕ) (image : Image) (input :
     t ≡ status_of_units (told (units_run program frames input units)).ending →
     s ≢ status.Going → t ≢ status.Going →
     (s ≡ t) ×
-    ((machine_run image input steps).events ≡ (told (units_run program frames input units)).events) ×
+    ((machine_run image input steps).events ≡ (told (units_run program frames input units)).events)
+    ×
     ((machine_run image input steps).reads ≡ (told (units_run program frames input units)).reads)
 end_alike program frames image input steps units s t does is was other another =
     let run = machine_run image input steps in

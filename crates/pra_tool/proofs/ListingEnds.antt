@@ -16,7 +16,8 @@ use Rattle.pra_tool.specs.Writes.{FileText, Writes, AreDifferent, IsOther, names
 use Rattle.pra_tool.specs.Modes.{Answers}
 use Rattle.pra_tool.specs.Ends.{Ends}
 use Rattle.pra_tool.specs.Ends as ends
-use Rattle.pra_tool.specs.Listings.{IsListed, ListMakes, IsTextOf, IsUnlisted, IsUnassembled, most_image}
+use Rattle.pra_tool.specs.Listings.{IsListed, ListMakes, IsTextOf, IsUnlisted, IsUnassembled}
+use Rattle.pra_tool.specs.Listings.{most_image}
 use Rattle.pra_tool.specs.Clause.{AsmMakes, asm_writes, listing, assembling, mode_by}
 use Rattle.pra_tool.proofs.CompilingModes.{longer}
 

@@ -21,7 +21,9 @@ use Rattle.pra_tool.specs.declared.listing.Unassembled.TheVariants as unassemble
 use Rattle.pra_tool.specs.Status.{IsDone, IsRefusal}
 use Rattle.pra_tool.specs.Writes.{Writes, names}
 use Rattle.pra_tool.specs.Modes.{IsKind, IsMode}
-use Rattle.pra_tool.specs.Listings.{most_image, IsListed, StopsIn, IsUnlisted, unlisted_by, unlisted_status, images, IsUnassembled, unassembled_status, listings}
+use Rattle.pra_tool.specs.Listings.{most_image, IsListed, StopsIn, IsUnlisted, unlisted_by}
+use Rattle.pra_tool.specs.Listings.{unlisted_status, images, IsUnassembled, unassembled_status}
+use Rattle.pra_tool.specs.Listings.{listings}
 use Rattle.pra_tool.specs.Clause.{listing, assembling}
 use Rattle.pra_tool.proofs.CompilingModes.{inputs_are_a_kind, not_read}
 

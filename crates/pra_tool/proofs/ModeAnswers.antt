@@ -1,15 +1,21 @@
 -- The answers of any mode, at each end of a call.
-use Rattle.std.proofs.Common.{◌≡◌, ◌≢◌, ◌⊎◌, ◌≤◌, inl, inr, ⊎_elim, refl, sym, ap, ◌∙◌, subst, ℕ, Bool, true, false, List, [], ◌∷◌, ◌++◌, Some, take, codes}
+use Rattle.std.proofs.Common.{◌≡◌, ◌≢◌, ◌⊎◌, ◌≤◌, inl, inr, ⊎_elim, refl, sym, ap, ◌∙◌, subst, ℕ}
+use Rattle.std.proofs.Common.{Bool, true, false, List, [], ◌∷◌, ◌++◌, Some, take, codes}
 use Rattle.std.proofs.lemmas.List.{map-append}
 use Rattle.std.specs.declared.option.Option.{Option}
 use Rattle.pra_io.specs.Causes.{Rose}
 use Rattle.pra_io.specs.Contents.{Holds, Becomes, IsAllOf}
 use Rattle.pra_tool.specs.declared.status.Status.{Status}
-use Rattle.pra_tool.specs.declared.status.Status.TheVariants.{Ended, Trapped, Going, BadSource, OverLimit, Fault, BadWords, BadInput, NoMemory}
+use Rattle.pra_tool.specs.declared.status.Status.TheVariants.{Ended, Trapped, Going, BadSource}
+use Rattle.pra_tool.specs.declared.status.Status.TheVariants.{OverLimit, Fault, BadWords, BadInput}
+use Rattle.pra_tool.specs.declared.status.Status.TheVariants.{NoMemory}
 use Rattle.pra_tool.specs.Status.{IsDone, IsRefusal}
 use Rattle.pra_tool.specs.Outside.{StreamSeen, Seen, SameFiles, Refused, Untouched}
-use Rattle.pra_tool.specs.Writes.{FileText, Writes, names, OthersStay, Hold, Stored, FileFailed, AllWritten, Stopped, LeftOff, Wrote, NoWriteFault}
-use Rattle.pra_tool.specs.Modes.{Mode, IsMode, IsInput, TellsInput, IsLeft, NoInputFault, source_told, IsDoneBy, SourceRight, MadeRefused, FileNotRead, Answers}
+use Rattle.pra_tool.specs.Writes.{FileText, Writes, names, OthersStay, Hold, Stored, FileFailed}
+use Rattle.pra_tool.specs.Writes.{AllWritten, Stopped, LeftOff, Wrote, NoWriteFault}
+use Rattle.pra_tool.specs.Modes.{Mode, IsMode, IsInput, TellsInput, IsLeft, NoInputFault}
+use Rattle.pra_tool.specs.Modes.{source_told, IsDoneBy, SourceRight, MadeRefused, FileNotRead}
+use Rattle.pra_tool.specs.Modes.{Answers}
 use Rattle.pra_tool.specs.Ends.{Ends}
 use Rattle.pra_tool.proofs.Files.{rose_after}
 use Rattle.pra_tool.specs.Ends as ends
@@ -89,15 +95,18 @@ module _ (m : Mode) (mode : IsMode m) (file : List ℕ) (old new : Seen) where
   module _ (source : List ℕ) (f : m.source.Wrong) (read : Holds (source_told m.own file old) source)
       (wrong : m.source.IsWrong source f) (left : Refused (m.source.line f) old new)
       (alone : new.input ≡ old.input) where
-    exactly : (other : List ℕ) (g : m.source.Wrong) → source_told m.own file old ≡ Some (Some other) →
+    exactly : (other : List ℕ) (g : m.source.Wrong) → source_told m.own file old ≡
+        Some (Some other) →
         m.source.IsWrong other g →
         (m.source.status f ≡ m.source.status g) × Refused (m.source.line g) old new
     exactly other g told h =
         let same : other ≡ source = held_same (source_told m.own file old) other source told read in
-        let one : f ≡ g = mode.source.one_wrong source f g wrong (subst (λ s. m.source.IsWrong s g) same h) in
+        let one : f ≡ g = mode.source.one_wrong source f g wrong
+        (subst (λ s. m.source.IsWrong s g) same h) in
         (ap m.source.status one, subst (λ x. Refused (m.source.line x) old new) one left)
 
-    no_right : (other : List ℕ) → source_told m.own file old ≡ Some (Some other) → m.source.IsRight other → ⊥
+    no_right : (other : List ℕ) → source_told m.own file old ≡ Some (Some other) →
+        m.source.IsRight other → ⊥
     no_right other told right =
         let same : other ≡ source = held_same (source_told m.own file old) other source told read in
         mode.source.never_both source f (subst m.source.IsRight same right) wrong
@@ -124,7 +133,8 @@ module _ (m : Mode) (mode : IsMode m) (file : List ℕ) (old new : Seen) where
     }
 
   -- a source that is refused, unless memory is wanting for its line
-  pub wrong_source : (source : List ℕ) (f : m.source.Wrong) (s : Status) → Holds (source_told m.own file old) source →
+  pub wrong_source : (source : List ℕ) (f : m.source.Wrong) (s : Status) →
+      Holds (source_told m.own file old) source →
       (s ≢ NoMemory → m.source.IsWrong source f) → (s ≡ m.source.status f) ⊎ (s ≡ NoMemory) →
       (s ≢ NoMemory → Refused (m.source.line f) old new) → (s ≡ NoMemory → m.Leaves old new) →
       new.input ≡ old.input → Answers m file old new s
@@ -142,7 +152,8 @@ module _ (m : Mode) (mode : IsMode m) (file : List ℕ) (old new : Seen) where
     of_source : SourceRight m file old
     of_source = record { source = source; read = read; right = right }
 
-    not_wrong : (other : List ℕ) (f : m.source.Wrong) → source_told m.own file old ≡ Some (Some other) →
+    not_wrong : (other : List ℕ) (f : m.source.Wrong) → source_told m.own file old ≡
+        Some (Some other) →
         m.source.IsWrong other f → ⊥
     not_wrong other f told h =
         let same : other ≡ source = held_same (source_told m.own file old) other source told read in
@@ -156,7 +167,13 @@ module _ (m : Mode) (mode : IsMode m) (file : List ℕ) (old new : Seen) where
       known = λ e. cc;
       performed = λ d. absurd d;
       refused = λ r. absurd r;
-      fault = λ e. inr (inl (record { source = of_source; reads = reads; cause = cause; left = left }));
+      fault = λ e. inr (inl (record {
+        source = of_source;
+        reads = reads;
+        cause = cause;
+        left =
+            left;
+      }));
       memory = λ e. absurd cc;
       refused_exactly = λ other f told h. absurd (not_wrong other f told h);
       input_exactly = λ other input f told r tells h. inr (inr cause);
@@ -172,10 +189,12 @@ module _ (m : Mode) (mode : IsMode m) (file : List ℕ) (old new : Seen) where
           (m.input.status f ≡ m.input.status g) × Refused (m.input.line g) old new
       input_exact told g tells h =
           let same : told ≡ input = input_same m.reads_input old.input told input tells taken in
-          let one : f ≡ g = mode.input.one_wrong input f g wrong (subst (λ s. m.input.IsWrong s g) same h) in
+          let one : f ≡ g = mode.input.one_wrong input f g wrong
+          (subst (λ s. m.input.IsWrong s g) same h) in
           (ap m.input.status one, subst (λ x. Refused (m.input.line x) old new) one left)
 
-      not_good : (told : List ℕ) → TellsInput m.reads_input old.input told → m.input.IsRight told → ⊥
+      not_good : (told : List ℕ) → TellsInput m.reads_input old.input told → m.input.IsRight told →
+          ⊥
       not_good told tells good =
           let same : told ≡ input = input_same m.reads_input old.input told input tells taken in
           mode.input.never_both input f (subst m.input.IsRight same good) wrong
@@ -340,8 +359,14 @@ some_rose : (w : Writes) (files : List (List ℕ)) (old new : Seen) → names w.
 some_rose w files old new same (inl f) well =
     let at = f.files in
     let order : files ≡ names at.before ++ at.at.name ∷ names at.after =
-    sym same ∙ ap names at.order ∙ map-append (λ (x : FileText). x.name) at.before (at.at ∷ at.after) in
-    well.files at.at.name (record { before = names at.before; after = names at.after; order = order })
+    sym same ∙ ap names at.order ∙ map-append (λ (x : FileText). x.name) at.before
+    (at.at ∷ at.after) in
+    well.files at.at.name (record {
+      before = names at.before;
+      after = names at.after;
+      order =
+          order;
+    })
     at.cause
 some_rose w files old new same (inr (inl o)) well = well.out o.cause
 some_rose w files old new same (inr (inr n)) well = well.notes n.cause
@@ -353,12 +378,21 @@ module _ (m : Mode) (mode : IsMode m) (file : List ℕ) (old mid new : Seen) (on
       (left : IsLeft m.reads_input old.input new.input) (w : Writes) (s : Status)
       (makes : m.Makes source input w s) where
     made : IsDoneBy m file old new w s
-    made = record { source = source; read = read; input = input; taken = taken; left = left; made = makes }
+    made = record {
+      source = source;
+      read = read;
+      input = input;
+      taken = taken;
+      left = left;
+      made =
+          makes;
+    }
 
     done : IsDone s
     done = mode.done source input w s makes
 
-    no_fault_in : (other : List ℕ) (f : m.source.Wrong) → source_told m.own file old ≡ Some (Some other) →
+    no_fault_in : (other : List ℕ) (f : m.source.Wrong) → source_told m.own file old ≡
+        Some (Some other) →
         m.source.IsWrong other f → ⊥
     no_fault_in = not_wrong m mode file old new source read right
 
@@ -366,7 +400,8 @@ module _ (m : Mode) (mode : IsMode m) (file : List ℕ) (old mid new : Seen) (on
         m.input.IsWrong told f → ⊥
     not_bad told f tells h =
         let same : told ≡ input = input_same m.reads_input old.input told input tells taken in
-        mode.input.never_both input f (mode.right source input w s makes).1 (subst (λ b. m.input.IsWrong b f) same h)
+        mode.input.never_both input f (mode.right source input w s makes).1
+        (subst (λ b. m.input.IsWrong b f) same h)
 
     all_done : AllWritten w mid new → Answers m file old new s
     all_done a = record {
@@ -392,13 +427,15 @@ module _ (m : Mode) (mode : IsMode m) (file : List ℕ) (old mid new : Seen) (on
           refused_exactly = λ other f told h. absurd (no_fault_in other f told h);
           input_exactly = λ other text f told r tells h. absurd (not_bad text f tells h);
           complete = λ other text told r tells good unread well written.
-              absurd (some_rose w m.files old new (mode.writes source input w s makes) since written);
+              absurd (some_rose w m.files old new (mode.writes source input w s makes) since
+              written);
         }
 
     by_result : (result : Status) → (LeftOff w old new → m.Leaves old new) →
         Wrote w s mid new result → (result ≡ s) ⊎ (result ≡ Fault) ⊎ (result ≡ NoMemory) →
         Answers m file old new result
-    by_result result leaves wrote (inl e) = subst (Answers m file old new) (sym e) (all_done (wrote.written e))
+    by_result result leaves wrote (inl e) = subst (Answers m file old new) (sym e)
+        (all_done (wrote.written e))
     by_result result leaves wrote (inr (inl e)) =
         subst (Answers m file old new) (sym e) (not_all (wrote.stopped e))
     by_result result leaves wrote (inr (inr e)) =
@@ -407,12 +444,14 @@ module _ (m : Mode) (mode : IsMode m) (file : List ℕ) (old mid new : Seen) (on
 
   -- what a call ends with that has compiled FILE
   pub right_source : (s : Status) →
-      ((input : List ℕ) (w : Writes) (s : Status) → m.Makes source input w s → LeftOff w old new → m.Leaves old new) →
+      ((input : List ℕ) (w : Writes) (s : Status) → m.Makes source input w s → LeftOff w old new →
+      m.Leaves old new) →
       (Untouched old new → m.Leaves old new) → Ends m source mid new s → Answers m file old new s
   right_source s left wanting (ends.refused input taken t) =
       subst (Answers m file old new) (sym t.status_is)
       (input_refused m mode file old new source read right input
-      (rw (sym only.input) taken) t.fault t.wrong (refused_since old mid new only (m.input.line t.fault) t.left))
+      (rw (sym only.input) taken) t.fault t.wrong
+      (refused_since old mid new only (m.input.line t.fault) t.left))
   right_source s left wanting (ends.unread reads is cause told) =
       input_unread m mode file old new source read right s reads is (rw (sym only.input) cause)
       (refused_since old mid new only (codes "fault read input\n") told)

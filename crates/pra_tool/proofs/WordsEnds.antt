@@ -27,7 +27,8 @@ pub refused_words : (asked : Result Asked WordsFault) (fault : WordsFault) (old 
     (s ≡ BadWords → Refused (words_lines fault) old new) →
     (s ≡ NoMemory → Untouched old new) → Promise asked old new s
 refused_words asked fault old new s refused known told memory = ⊎_elim
-    (λ (bad, read). subst (λ (a : Result Asked WordsFault). Promise a old new s) (sym (refused read))
+    (λ (bad, read). subst (λ (a : Result Asked WordsFault). Promise a old new s)
+    (sym (refused read))
     (record { known = inl bad; told = told; memory = memory }))
     (λ wanting. no_words asked old new s wanting (memory wanting))
     known

@@ -7,7 +7,8 @@ use Rattle.pra_tool.specs.declared.status.Status.{Status}
 use Rattle.pra_tool.specs.declared.status.Status.TheVariants.{Fault, NoMemory}
 use Rattle.pra_tool.specs.Status.{IsDone}
 use Rattle.pra_tool.specs.Outside.{FolderSeen, Seen, NoneFell, Told}
-use Rattle.pra_tool.specs.Writes.{FileText, Writes, Stored, FilesStopped, stop_status, AllWritten, Stopped, LeftOff, Wrote}
+use Rattle.pra_tool.specs.Writes.{FileText, Writes, Stored, FilesStopped, stop_status, AllWritten}
+use Rattle.pra_tool.specs.Writes.{Stopped, LeftOff, Wrote}
 
 module _ (w : Writes) (s : Status) (done : IsDone s) (old new : Seen)
     (counts : NoneFell old.folder new.folder) where
@@ -40,7 +41,8 @@ module _ (w : Writes) (s : Status) (done : IsDone s) (old new : Seen)
   }
 
   -- writing stopped at a file
-  pub file_end : (fault : FileFault) (result : Status) → FilesStopped w.files fault old.folder new.folder →
+  pub file_end : (fault : FileFault) (result : Status) →
+      FilesStopped w.files fault old.folder new.folder →
       Keeps old.out.bytes new.out.bytes → result ≡ stop_status fault →
       (result ≡ Fault → Told (codes "fault write file\n") old.notes new.notes) →
       (result ≡ NoMemory → Keeps old.notes.bytes new.notes.bytes) → Wrote w s old new result

@@ -43,8 +43,10 @@ pub record CertifiesMade (cost : Word) (made : Made) (text : List ℕ) : Type 0 
   pub again : 0 < length certificate.procs → AreNumbered 0 certificate.procs →
       IsReadAgain certificate text
 
--- The text is that of the certificate of what the source is compiled to, to which no reason applies,
--- and reading it answers that certificate. So the image that the source is compiled to does what that
+-- The text is that of the certificate of what the source is compiled to, to which no reason
+-- applies,
+-- and reading it answers that certificate. So the image that the source is compiled to does what
+-- that
 -- means, and carries the certificate's codes and flows, with lines that end with its totals and
 -- bounds; and no flow costs less than these bounds.
 pub record IsCertified (asked : Asked) (source text : List ℕ) : Type 0 where
@@ -107,7 +109,8 @@ uncertified_status uncertified.NotCertificate = BadSource
 uncertified_status (uncertified.Fails p r) = BadSource
 uncertified_status uncertified.OutOfMemory = NoMemory
 
--- The file is the text of a certificate to which no reason applies: the routes of each procedure are
+-- The file is the text of a certificate to which no reason applies: the routes of each procedure
+-- are
 -- admitted in the network of its code and cost its total, and no admitted flow costs less than its
 -- bound.
 pub record IsHeld (file : List ℕ) (c : Certificate) : Type 0 where

@@ -97,7 +97,8 @@ NoInputFault false old new = ⊤
 
 -- ---- all was well
 
--- The source was read whole, and so was the input where the mode reads it, and this was made of them.
+-- The source was read whole, and so was the input where the mode reads it, and this was made of
+-- them.
 pub record IsDoneBy (m : Mode) (file : List ℕ) (old new : Seen) (w : Writes) (s : Status)
     : Type 0 where
   pub source : List ℕ
@@ -152,7 +153,8 @@ pub record InputRefused (m : Mode) (file : List ℕ) (old new : Seen) (status : 
   pub taken : IsInput m.reads_input old.input input
   pub refused : TextRefused m.input input old new status
 
--- Nothing is wrong with the source and the input, which were read whole, and what is made of them is
+-- Nothing is wrong with the source and the input, which were read whole, and what is made of them
+-- is
 -- refused.
 pub record MadeRefused (m : Mode) (file : List ℕ) (old new : Seen) (status : Status)
     : Type 0 where

@@ -31,7 +31,8 @@ unfolding clap_on_literals
 is_plain = refl
 
 -- the values are the same, as the matches give them and as their rows do
-pub by_rows : (f : Found) → line_in (λ word. first_value f (word_name word)) ≡ line_of_rows (rows_of f)
+pub by_rows : (f : Found) → line_in (λ word. first_value f (word_name word)) ≡
+    line_of_rows (rows_of f)
 by_rows f = λ i. line_in (λ word. first_value-rows f (word_name word) i)
 
 texts_are_utf8 : (words : List (String Global)) → Each IsUtf8 (texts words)
@@ -39,16 +40,23 @@ texts_are_utf8 [] = tt
 texts_are_utf8 (w ∷ ws) = (IsUtf8-had (string_bytes w) w.ok, texts_are_utf8 ws)
 
 -- the words are taken
-pub taken : (words : List (String Global)) (a : App) → a ≡ command → fault_of a (texts words) ≡ [] → line_of_rows (matches_of a (texts words)) ≡ line_of (texts words)
+pub taken : (words : List (String Global)) (a : App) → a ≡ command → fault_of a (texts words) ≡ [] →
+    line_of_rows (matches_of a (texts words)) ≡ line_of (texts words)
 taken words a is e =
     ap (λ x. line_of_rows (matches_of x (texts words))) is
-    ∙ sym (ap (λ k. unless k (line_of_rows (matches_of command (texts words)))) (ap (λ x. fault_of x (texts words)) (sym is) ∙ e))
+    ∙ sym (ap (λ k. unless k (line_of_rows (matches_of command (texts words))))
+    (ap (λ x. fault_of x (texts words)) (sym is) ∙ e))
     ∙ line_read (texts words) (texts_are_utf8 words)
 
 -- the words are refused
-pub refused : (words : List (String Global)) (a : App) → a ≡ command → (e : Error) → HasKind (fault_of a (texts words)) e → kind_of e ≢ OutOfMemory → None ≡ line_of (texts words)
-refused words a is e has other = by (fault_of a (texts words)) (ap (λ x. fault_of x (texts words)) (sym is)) has ∙ line_read (texts words) (texts_are_utf8 words)
+pub refused : (words : List (String Global)) (a : App) → a ≡ command → (e : Error) →
+    HasKind (fault_of a (texts words)) e → kind_of e ≢ OutOfMemory → None ≡ line_of (texts words)
+refused words a is e has other = by (fault_of a (texts words))
+    (ap (λ x. fault_of x (texts words)) (sym is)) has ∙ line_read (texts words)
+    (texts_are_utf8 words)
   where
-    by : (x : Kinds) → fault_of command (texts words) ≡ x → HasKind x e → None ≡ unless (fault_of command (texts words)) (line_of_rows (matches_of command (texts words)))
+    by : (x : Kinds) → fault_of command (texts words) ≡ x → HasKind x e →
+        None ≡ unless (fault_of command (texts words))
+        (line_of_rows (matches_of command (texts words)))
     by [] q h = ⊎_elim (λ m. absurd (other m)) (λ n. absurd n) h
     by (y ∷ ys) q h = sym (ap (λ k. unless k (line_of_rows (matches_of command (texts words)))) q)

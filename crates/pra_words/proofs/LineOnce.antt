@@ -1,5 +1,7 @@
 -- No word has two values, where the values are given one after the other.
-use Rattle.std.proofs.Common.{◌≡◌, ◌∙◌, Bool, true, false, not, ◌&&◌, ◌||◌, if◌then◌else◌, List, [], ◌∷◌, ◌++◌, Option, Some, None, option_map, refl, sym, ap, ap₂, append_assoc}
+use Rattle.std.proofs.Common.{◌≡◌, ◌∙◌, Bool, true, false, not, ◌&&◌, ◌||◌, if◌then◌else◌, List, []}
+use Rattle.std.proofs.Common.{◌∷◌, ◌++◌, Option, Some, None, option_map, refl, sym, ap, ap₂}
+use Rattle.std.proofs.Common.{append_assoc}
 use Rattle.std.specs.Prelude.{option_and_then}
 use Rattle.std.specs.List.{list_any}
 use Rattle.std.specs.Str.{bytes_eq}
@@ -8,25 +10,30 @@ use Rattle.std.proofs.lemmas.Bool.Decides.{same_from_decides}
 use Rattle.std.proofs.lemmas.Slice.Eq.{bytes_eq-Decides}
 use Rattle.pra_words.specs.declared.words.Word.{Word}
 use Rattle.pra_words.specs.Texts.{word_name}
-use Rattle.pra_words.specs.CommandLine.{Text, Given, Next, Line, given, is_of, is_once, line_from, line_in, value_in}
+use Rattle.pra_words.specs.CommandLine.{Text, Given, Next, Line, given, is_of, is_once, line_from}
+use Rattle.pra_words.specs.CommandLine.{line_in, value_in}
 use Rattle.pra_words.proofs.LineRows.{by}
 
-same_name : (a b : Word) → bytes_eq (word_name a) (word_name b) ≡ bytes_eq (word_name b) (word_name a)
+same_name : (a b : Word) → bytes_eq (word_name a) (word_name b) ≡ bytes_eq (word_name b)
+    (word_name a)
 same_name a b = same_text (word_name a) (word_name b)
   where
     turned_back : (x y : Text) (r : Bool) → Decides r (y ≡ x) → Decides r (x ≡ y)
     turned_back x y r d = (λ e. sym (d.0 e), λ e. d.1 (sym e))
 
     same_text : (x y : Text) → bytes_eq x y ≡ bytes_eq y x
-    same_text x y = same_from_decides (bytes_eq x y) (bytes_eq y x) (bytes_eq-Decides x y) (turned_back x y (bytes_eq y x) (bytes_eq-Decides y x))
+    same_text x y = same_from_decides (bytes_eq x y) (bytes_eq y x) (bytes_eq-Decides x y)
+        (turned_back x y (bytes_eq y x) (bytes_eq-Decides y x))
 
 -- ---- a value at the end
 
-any_end : (p : Given → Bool) (gs : List Given) (g : Given) → p g ≡ false → list_any p gs ≡ false → list_any p (gs ++ g ∷ []) ≡ false
+any_end : (p : Given → Bool) (gs : List Given) (g : Given) → p g ≡ false → list_any p gs ≡ false →
+    list_any p (gs ++ g ∷ []) ≡ false
 any_end p [] g e f = ap (λ b. b || false) e
 any_end p (x ∷ gs) g e f = step (p x) (list_any p gs) f (any_end p gs g e)
   where
-    step : (a b : Bool) → (a || b) ≡ false → (b ≡ false → list_any p (gs ++ g ∷ []) ≡ false) → (a || list_any p (gs ++ g ∷ [])) ≡ false
+    step : (a b : Bool) → (a || b) ≡ false → (b ≡ false → list_any p (gs ++ g ∷ []) ≡ false) →
+        (a || list_any p (gs ++ g ∷ [])) ≡ false
     step true b f k = cc
     step false b f k = k f
 
@@ -38,20 +45,24 @@ neither : (a b : Bool) → (a || b) ≡ false → (a ≡ false) × (b ≡ false)
 neither true b e = cc
 neither false b e = (refl, e)
 
-pub once_more : (gs : List Given) (w : Word) (v : Text) → is_once gs ≡ true → list_any (is_of w) gs ≡ false → is_once (gs ++ by w v ∷ []) ≡ true
+pub once_more : (gs : List Given) (w : Word) (v : Text) → is_once gs ≡ true →
+    list_any (is_of w) gs ≡ false → is_once (gs ++ by w v ∷ []) ≡ true
 once_more [] w v once new = refl
 once_more (g ∷ gs) w v once new =
     let o = both (list_any (is_of g.word) gs) (is_once gs) once in
     let n = neither (is_of w g) (list_any (is_of w) gs) new in
-    ap₂ (λ a b. not a && b) (any_end (is_of g.word) gs (by w v) (same_name w g.word ∙ n.0) o.0) (once_more gs w v o.1 n.1)
+    ap₂ (λ a b. not a && b) (any_end (is_of g.word) gs (by w v) (same_name w g.word ∙ n.0) o.0)
+    (once_more gs w v o.1 n.1)
 
 -- ---- a second value of a word
 
-any_there : (p : Given → Bool) (gs : List Given) (g : Given) (rest : List Given) → p g ≡ true → list_any p (gs ++ g ∷ rest) ≡ true
+any_there : (p : Given → Bool) (gs : List Given) (g : Given) (rest : List Given) → p g ≡ true →
+    list_any p (gs ++ g ∷ rest) ≡ true
 any_there p [] g rest e = ap (λ b. b || list_any p rest) e
 any_there p (x ∷ gs) g rest e = step (p x) (any_there p gs g rest e)
   where
-    step : (a : Bool) → list_any p (gs ++ g ∷ rest) ≡ true → (a || list_any p (gs ++ g ∷ rest)) ≡ true
+    step : (a : Bool) → list_any p (gs ++ g ∷ rest) ≡ true → (a || list_any p (gs ++ g ∷ rest)) ≡
+        true
     step true e = refl
     step false e = e
 
@@ -59,12 +70,16 @@ and_false : (a b : Bool) → b ≡ false → (a && b) ≡ false
 and_false true b e = e
 and_false false b e = refl
 
-not_once : (gs : List Given) (w : Word) (v : Text) (rest : List Given) → list_any (is_of w) gs ≡ true → is_once (gs ++ by w v ∷ rest) ≡ false
+not_once : (gs : List Given) (w : Word) (v : Text) (rest : List Given) → list_any (is_of w) gs ≡
+    true → is_once (gs ++ by w v ∷ rest) ≡ false
 not_once [] w v rest old = cc
 not_once (g ∷ gs) w v rest old = step (is_of w g) refl old (λ o. not_once gs w v rest o)
   where
-    step : (a : Bool) → is_of w g ≡ a → (a || list_any (is_of w) gs) ≡ true → (list_any (is_of w) gs ≡ true → is_once (gs ++ by w v ∷ rest) ≡ false) → is_once (g ∷ gs ++ by w v ∷ rest) ≡ false
-    step true e o k = ap (λ a. not a && is_once (gs ++ by w v ∷ rest)) (any_there (is_of g.word) gs (by w v) rest (same_name w g.word ∙ e))
+    step : (a : Bool) → is_of w g ≡ a → (a || list_any (is_of w) gs) ≡ true →
+        (list_any (is_of w) gs ≡ true → is_once (gs ++ by w v ∷ rest) ≡ false) →
+        is_once (g ∷ gs ++ by w v ∷ rest) ≡ false
+    step true e o k = ap (λ a. not a && is_once (gs ++ by w v ∷ rest))
+        (any_there (is_of g.word) gs (by w v) rest (same_name w g.word ∙ e))
     step false e o k = and_false (not (list_any (is_of g.word) (gs ++ by w v ∷ rest))) _ (k o)
 
 -- ---- what is given from some place on, behind these values
@@ -73,25 +88,33 @@ abbrev pub after_given : List Given → Next → List Text → Option Line
 after_given gs s ws = option_and_then (λ more. line_from (gs ++ more)) (given s ws)
 
 abbrev pub turned : List Given → Option (List Given × Next) → List Text → Option Line
-turned gs o ws = option_and_then (λ more. line_from (gs ++ more)) (option_and_then (λ t. option_map (λ more. t.0 ++ more) (given t.1 ws)) o)
+turned gs o ws = option_and_then (λ more. line_from (gs ++ more))
+    (option_and_then (λ t. option_map (λ more. t.0 ++ more) (given t.1 ws)) o)
 
-pub turned_nothing : (gs : List Given) (t : Next) (ws : List Text) → after_given gs t ws ≡ turned gs (Some ([], t)) ws
+pub turned_nothing : (gs : List Given) (t : Next) (ws : List Text) → after_given gs t ws ≡
+    turned gs (Some ([], t)) ws
 turned_nothing gs t ws = step (given t ws)
   where
-    step : (o : Option (List Given)) → option_and_then (λ more. line_from (gs ++ more)) o ≡ option_and_then (λ more. line_from (gs ++ more)) (option_map (λ more. more) o)
+    step : (o : Option (List Given)) → option_and_then (λ more. line_from (gs ++ more)) o ≡
+        option_and_then (λ more. line_from (gs ++ more)) (option_map (λ more. more) o)
     step None = refl
     step (Some more) = refl
 
-pub turned_new : (gs : List Given) (g : Given) (t : Next) (ws : List Text) → after_given (gs ++ g ∷ []) t ws ≡ turned gs (Some (g ∷ [], t)) ws
+pub turned_new : (gs : List Given) (g : Given) (t : Next) (ws : List Text) →
+    after_given (gs ++ g ∷ []) t ws ≡ turned gs (Some (g ∷ [], t)) ws
 turned_new gs g t ws = step (given t ws)
   where
-    step : (o : Option (List Given)) → option_and_then (λ more. line_from ((gs ++ g ∷ []) ++ more)) o ≡ option_and_then (λ more. line_from (gs ++ more)) (option_map (λ more. g ∷ more) o)
+    step : (o : Option (List Given)) → option_and_then (λ more. line_from ((gs ++ g ∷ []) ++ more))
+        o ≡ option_and_then (λ more. line_from (gs ++ more)) (option_map (λ more. g ∷ more) o)
     step None = refl
     step (Some more) = ap line_from (append_assoc gs (g ∷ []) more)
 
-pub turned_again : (gs : List Given) (w : Word) (v : Text) (t : Next) (ws : List Text) → list_any (is_of w) gs ≡ true → None ≡ turned gs (Some (by w v ∷ [], t)) ws
+pub turned_again : (gs : List Given) (w : Word) (v : Text) (t : Next) (ws : List Text) →
+    list_any (is_of w) gs ≡ true → None ≡ turned gs (Some (by w v ∷ [], t)) ws
 turned_again gs w v t ws old = step (given t ws)
   where
-    step : (o : Option (List Given)) → None ≡ option_and_then (λ more. line_from (gs ++ more)) (option_map (λ more. by w v ∷ more) o)
+    step : (o : Option (List Given)) → None ≡ option_and_then (λ more. line_from (gs ++ more))
+        (option_map (λ more. by w v ∷ more) o)
     step None = refl
-    step (Some more) = sym (ap (λ b. if b then line_in (value_in (gs ++ by w v ∷ more)) else None) (not_once gs w v more old))
+    step (Some more) = sym (ap (λ b. if b then line_in (value_in (gs ++ by w v ∷ more)) else None)
+        (not_once gs w v more old))

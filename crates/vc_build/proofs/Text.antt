@@ -1,6 +1,8 @@
 -- Blocks in the order in which they are entered: parts one after the other, and blocks that are
 -- opened before they are entered.
-use Rattle.std.proofs.Common.{◌≡◌, ◌≢◌, ℕ, zero, suc, ◌+◌, ◌<◌, ◌≤◌, ◌⊎◌, List, [], ◌∷◌, ◌++◌, length, refl, sym, ap, ◌∙◌, subst, ⊎_elim, inl, inr, arith, append_assoc, append-nil, length-append}
+use Rattle.std.proofs.Common.{◌≡◌, ◌≢◌, ℕ, zero, suc, ◌+◌, ◌<◌, ◌≤◌, ◌⊎◌, List, [], ◌∷◌, ◌++◌}
+use Rattle.std.proofs.Common.{length, refl, sym, ap, ◌∙◌, subst, ⊎_elim, inl, inr, arith}
+use Rattle.std.proofs.Common.{append_assoc, append-nil, length-append}
 use Rattle.std.specs.Prelude.{nat_eq, if◌then◌else◌}
 use Rattle.std.proofs.lemmas.Bool.{cases_eq, cases_lt}
 use Rattle.pra_list.proofs.Truths.{false_from, nat_is, itself}
@@ -9,7 +11,8 @@ use Rattle.pra_base.specs.declared.ids.BlockId.{BlockId}
 use Rattle.pra_base.specs.declared.code.Block.{Block}
 use Rattle.pra_base.specs.declared.code.VProc.{VProc}
 use Rattle.vc_build.specs.Grow.{count, stand_in, IsOpen, Grows, GrowsAt, with_open_block}
-use Rattle.vc_build.specs.Text.{depth_at, is_one, times, below, HaveDepths, Enters, IsLast, ComesBefore, IsBack, AreInText, MayLead, GoesOn}
+use Rattle.vc_build.specs.Text.{depth_at, is_one, times, below, HaveDepths, Enters, IsLast}
+use Rattle.vc_build.specs.Text.{ComesBefore, IsBack, AreInText, MayLead, GoesOn}
 use Rattle.vc_build.proofs.Growth.{grows_same, opened_block, opened_count, opened_kept}
 
 -- ---- numbers and lists
@@ -29,24 +32,35 @@ below_next b k = let e : k + 1 ≡ suc k = omega arith in ap (below b) e
 
 pub below_out : (b n : ℕ) → n ≤ b → below b n ≡ 0
 below_out b zero le = refl
-below_out b (suc n) le = omega (arith, below_out b n (omega (arith, le)), one_off n b (λ e. omega (arith, e, le)))
+below_out b (suc n) le =
+    omega (arith, below_out b n (omega (arith, le)), one_off n b (λ e. omega (arith, e, le)))
 
 pub below_in : (b n : ℕ) → b < n → below b n ≡ 1
 below_in b zero lt = absurd (omega (arith, lt))
 below_in b (suc n) lt = ⊎_elim
-    (λ (e : n ≡ b). omega (arith, below_out b n (omega (arith, e)), ap (λ z. is_one z b) e, one_here b))
+    (λ (e : n ≡ b). omega (
+      arith,
+      below_out b n (omega (arith, e)),
+      ap (λ z. is_one z b) e,
+      one_here b,
+    ))
     (λ (d : n ≢ b). omega (arith, below_in b n (omega (arith, d, lt)), one_off n b d))
     (cases_eq n b)
 
 -- ---- depths
 
-pub have_later : (one two : VProc) → count one ≤ count two → ((b : ℕ) → b < count one → depth_at two b ≡ depth_at one b) → (bs : List BlockId) (ds : List ℕ) → HaveDepths one bs ds → HaveDepths two bs ds
+pub have_later : (one two : VProc) → count one ≤ count two →
+    ((b : ℕ) → b < count one → depth_at two b ≡ depth_at one b) →
+    (bs : List BlockId) (ds : List ℕ) → HaveDepths one bs ds → HaveDepths two bs ds
 have_later one two le kept [] [] h = tt
 have_later one two le kept [] (d ∷ ds) h = absurd h
 have_later one two le kept (b ∷ bs) [] h = absurd h
-have_later one two le kept (b ∷ bs) (d ∷ ds) h = (omega (arith, h.0, le), kept b.0 h.0 ∙ h.1, have_later one two le kept bs ds h.2)
+have_later one two le kept (b ∷ bs) (d ∷ ds) h =
+    (omega (arith, h.0, le), kept b.0 h.0 ∙ h.1, have_later one two le kept bs ds h.2)
 
-pub have_append : (code : VProc) (bs : List BlockId) (ds : List ℕ) (cs : List BlockId) (es : List ℕ) → HaveDepths code bs ds → HaveDepths code cs es → HaveDepths code (bs ++ cs) (ds ++ es)
+pub have_append : (code : VProc) (bs : List BlockId) (ds : List ℕ) (cs : List BlockId)
+    (es : List ℕ) → HaveDepths code bs ds → HaveDepths code cs es →
+    HaveDepths code (bs ++ cs) (ds ++ es)
 have_append code [] [] cs es h k = k
 have_append code [] (d ∷ ds) cs es h k = absurd h
 have_append code (b ∷ bs) [] cs es h k = absurd h
@@ -54,7 +68,8 @@ have_append code (b ∷ bs) (d ∷ ds) cs es h k = (h.0, h.1, have_append code b
 
 -- ---- parts one after the other
 
-pub enters_same : (old new : VProc) (order : List BlockId) → Grows old new → count new ≤ count old → Enters old new order order []
+pub enters_same : (old new : VProc) (order : List BlockId) → Grows old new → count new ≤ count old →
+    Enters old new order order []
 enters_same old new order grows none =
     let e : count new ≡ count old = omega (arith, none, grows.blocks) in
     record {
@@ -66,36 +81,45 @@ enters_same old new order grows none =
       kept = λ b lt. (grows.kept b lt).depth;
     }
 
-pub enters_on : (old one two : VProc) (o1 o2 o3 : List BlockId) (ds es : List ℕ) → Enters old one o1 o2 ds → Enters one two o2 o3 es → Enters old two o1 o3 (ds ++ es)
+pub enters_on : (old one two : VProc) (o1 o2 o3 : List BlockId) (ds es : List ℕ) →
+    Enters old one o1 o2 ds → Enters one two o2 o3 es → Enters old two o1 o3 (ds ++ es)
 enters_on old one two o1 o2 o3 ds es p q = record {
   more = p.more ++ q.more;
   is = q.is ∙ ap (λ l. l ++ q.more) p.is ∙ append_assoc o1 p.more q.more;
   once = λ b. omega (arith, times-append b p.more q.more, p.once b, q.once b);
-  have = have_append two p.more ds q.more es (have_later one two (omega (arith, q.blocks)) q.kept p.more ds p.have) q.have;
+  have = have_append two p.more ds q.more es
+      (have_later one two (omega (arith, q.blocks)) q.kept p.more ds p.have) q.have;
   blocks = omega (arith, p.blocks, q.blocks, length-append ds es);
   kept = λ b lt. q.kept b (omega (arith, lt, p.blocks)) ∙ p.kept b lt;
 }
 
-pub enters_after : (old mid new : VProc) (o1 o2 : List BlockId) (ds : List ℕ) → Enters old mid o1 o2 ds → Grows mid new → count new ≤ count mid → Enters old new o1 o2 ds
+pub enters_after : (old mid new : VProc) (o1 o2 : List BlockId) (ds : List ℕ) →
+    Enters old mid o1 o2 ds → Grows mid new → count new ≤ count mid → Enters old new o1 o2 ds
 enters_after old mid new o1 o2 ds p grows none =
-    subst (Enters old new o1 o2) (append-nil ds) (enters_on old mid new o1 o2 o2 ds [] p (enters_same mid new o2 grows none))
+    subst (Enters old new o1 o2) (append-nil ds)
+    (enters_on old mid new o1 o2 o2 ds [] p (enters_same mid new o2 grows none))
 
-pub enters_before : (old mid new : VProc) (o1 o2 : List BlockId) (ds : List ℕ) → Grows old mid → count mid ≤ count old → Enters mid new o1 o2 ds → Enters old new o1 o2 ds
-enters_before old mid new o1 o2 ds grows none p = enters_on old mid new o1 o1 o2 [] ds (enters_same old mid o1 grows none) p
+pub enters_before : (old mid new : VProc) (o1 o2 : List BlockId) (ds : List ℕ) → Grows old mid →
+    count mid ≤ count old → Enters mid new o1 o2 ds → Enters old new o1 o2 ds
+enters_before old mid new o1 o2 ds grows none p = enters_on old mid new o1 o1 o2 [] ds
+    (enters_same old mid o1 grows none) p
 
 pub last_is : (order : List BlockId) (b : BlockId) → IsLast (order ++ b ∷ []) b.0
 last_is order b = record { rest = order; last = b; is = refl; number = refl }
 
 -- ---- where blocks lead
 
-pub back_later : (old new : VProc) (b t : ℕ) → count old ≤ count new → ((k : ℕ) → k < count old → depth_at new k ≡ depth_at old k) → b < count old → IsBack old b t → IsBack new b t
+pub back_later : (old new : VProc) (b t : ℕ) → count old ≤ count new →
+    ((k : ℕ) → k < count old → depth_at new k ≡ depth_at old k) → b < count old → IsBack old b t →
+    IsBack new b t
 back_later old new b t le kept lt back = (
   omega (arith, back.0, le),
   omega (arith, kept t back.0, back.1),
   kept b lt ∙ back.2 ∙ sym (kept t back.0),
 )
 
-pub before_later : (order more : List BlockId) (b t : ℕ) → ComesBefore order b t → ComesBefore (order ++ more) b t
+pub before_later : (order more : List BlockId) (b t : ℕ) → ComesBefore order b t →
+    ComesBefore (order ++ more) b t
 before_later order more b t p = record {
   first = p.first;
   rest = p.rest ++ more;
@@ -104,13 +128,17 @@ before_later order more b t p = record {
   not_yet = p.not_yet;
 }
 
-either_later : (old new : VProc) (order more : List BlockId) (b t : ℕ) → count old ≤ count new → ((k : ℕ) → k < count old → depth_at new k ≡ depth_at old k) → b < count old →
+either_later : (old new : VProc) (order more : List BlockId) (b t : ℕ) → count old ≤ count new →
+    ((k : ℕ) → k < count old → depth_at new k ≡ depth_at old k) → b < count old →
     ComesBefore order b t ⊎ IsBack old b t → ComesBefore (order ++ more) b t ⊎ IsBack new b t
-either_later old new order more b t le kept lt p = ⊎_elim (λ x. inl (before_later order more b t x)) (λ x. inr (back_later old new b t le kept lt x)) p
+either_later old new order more b t le kept lt p = ⊎_elim (λ x. inl (before_later order more b t x))
+    (λ x. inr (back_later old new b t le kept lt x)) p
 
 -- blocks that are closed in later code were so before
-pub text_grown : (at : ℕ) (old new : VProc) (order : List BlockId) → count old ≤ count new → ((k : ℕ) → k < count old → depth_at new k ≡ depth_at old k) →
-    ((b : ℕ) → b < count new → end_of new b ≢ stand_in → (b < count old) × (end_of new b ≡ end_of old b)) → AreInText old order at → AreInText new order at
+pub text_grown : (at : ℕ) (old new : VProc) (order : List BlockId) → count old ≤ count new →
+    ((k : ℕ) → k < count old → depth_at new k ≡ depth_at old k) →
+    ((b : ℕ) → b < count new → end_of new b ≢ stand_in → (b < count old) ×
+    (end_of new b ≡ end_of old b)) → AreInText old order at → AreInText new order at
 text_grown at old new order le kept closed p = record {
   known = λ b ge. p.known b (omega (arith, ge, le));
   here = p.here;
@@ -125,13 +153,19 @@ module _ (at : ℕ) (old new : VProc) (order : List BlockId) (grows : GrowsAt at
   depths_kept k lt = (grows.grows.kept k lt).depth
 
   -- an open block is longer
-  pub text_same : count new ≤ count old → IsOpen new at → AreInText old order at → AreInText new order at
+  pub text_same : count new ≤ count old → IsOpen new at → AreInText old order at →
+      AreInText new order at
   text_same none o = text_grown at old new order grows.grows.blocks depths_kept (λ b lt real.
-      let within : b < count old = omega (arith, lt, none) in
-      (within, ap (λ (x : Block). x.end) (grows.others b within (λ e. real (ap (λ n. end_of new n) e ∙ o.1)))))
+      let within : b < count old = omega (arith, lt, none) in (
+        within,
+        ap (λ (x : Block). x.end)
+            (grows.others b within (λ e. real (ap (λ n. end_of new n) e ∙ o.1))),
+      ))
 
   -- an open block is closed
-  pub text_closed : count new ≤ count old → at < count old → ((t : ℕ) → IsTarget (end_of new at) t → MayLead old order at t) → AreInText old order at → AreInText new order at
+  pub text_closed : count new ≤ count old → at < count old →
+      ((t : ℕ) → IsTarget (end_of new at) t → MayLead old order at t) → AreInText old order at →
+      AreInText new order at
   text_closed none there may p = record {
     known = λ b ge. p.known b (omega (arith, ge, grows.grows.blocks));
     here = p.here;
@@ -139,46 +173,87 @@ module _ (at : ℕ) (old new : VProc) (order : List BlockId) (grows : GrowsAt at
         let within : b < count old = omega (arith, lt, none) in
         ⊎_elim
         (λ (e : b ≡ at). ⊎_elim
-        (λ (new_one : times t order ≡ 0). inl (record { first = order; rest = []; is = sym (append-nil order); there = subst (λ n. 0 < times n order) (sym e) p.here; not_yet = new_one }))
-        (λ (back : IsBack old at t). inr (back_later old new b t grows.grows.blocks depths_kept within (subst (λ n. IsBack old n t) (sym e) back)))
+        (λ (new_one : times t order ≡ 0). inl
+        (record {
+          first = order;
+          rest = [];
+          is = sym (append-nil order);
+          there =
+              subst (λ n. 0 < times n order) (sym e) p.here;
+          not_yet = new_one;
+        }))
+        (λ (back : IsBack old at t). inr
+        (back_later old new b t grows.grows.blocks depths_kept within
+        (subst (λ n. IsBack old n t) (sym e) back)))
         (may t (subst (λ n. IsTarget (end_of new n) t) e target)))
         (λ (d : b ≢ at).
-        let same : end_of new b ≡ end_of old b = ap (λ (x : Block). x.end) (grows.others b within d) in
-        ⊎_elim (λ x. inl x) (λ x. inr (back_later old new b t grows.grows.blocks depths_kept within x))
+        let same : end_of new b ≡ end_of old b =
+        ap (λ (x : Block). x.end) (grows.others b within d) in
+        ⊎_elim (λ x. inl x) (λ x. inr
+        (back_later old new b t grows.grows.blocks depths_kept within x))
         (p.lead b t within (λ e. real (same ∙ e)) (subst (λ e. IsTarget e t) same target)))
         (cases_eq b at);
   }
 
 -- a block is entered
-pub text_enters : (at : ℕ) (code : VProc) (order : List BlockId) (b : BlockId) → b.0 < count code → AreInText code order at → AreInText code (order ++ b ∷ []) b.0
+pub text_enters : (at : ℕ) (code : VProc) (order : List BlockId) (b : BlockId) → b.0 < count code →
+    AreInText code order at → AreInText code (order ++ b ∷ []) b.0
 text_enters at code order b lt p = record {
-  known = λ k ge. omega (arith, times-append k order (b ∷ []), p.known k ge, one_off b.0 k (λ e. omega (arith, e, lt, ge)));
+  known = λ k ge. omega (
+    arith,
+    times-append k order (b ∷ []),
+    p.known k ge,
+    one_off b.0 k (λ e. omega (arith, e, lt, ge)),
+  );
   here = omega (arith, times-append b.0 order (b ∷ []), one_here b.0);
-  lead = λ k t l real target. ⊎_elim (λ x. inl (before_later order (b ∷ []) k t x)) (λ x. inr x) (p.lead k t l real target);
+  lead = λ k t l real target. ⊎_elim (λ x. inl (before_later order (b ∷ []) k t x)) (λ x. inr x)
+      (p.lead k t l real target);
 }
 
 -- a block is opened
-pub text_opened : (at d : ℕ) (old : VProc) (order : List BlockId) → AreInText old order at → AreInText (with_open_block d old) order at
-text_opened at d old order = text_grown at old (with_open_block d old) order (omega (arith, opened_count d old)) (λ k lt. ap (λ (x : Block). x.depth) (opened_kept d old k lt)) (λ b lt real. ⊎_elim
+pub text_opened : (at d : ℕ) (old : VProc) (order : List BlockId) → AreInText old order at →
+    AreInText (with_open_block d old) order at
+text_opened at d old order = text_grown at old (with_open_block d old) order
+    (omega (arith, opened_count d old))
+    (λ k lt. ap (λ (x : Block). x.depth) (opened_kept d old k lt)) (λ b lt real. ⊎_elim
     (λ (before : b < count old). (before, ap (λ (x : Block). x.end) (opened_kept d old b before)))
     (λ (ge : count old ≤ b).
     let is : b ≡ count old = omega (arith, ge, lt, opened_count d old) in
-    absurd (real (ap (λ n. end_of (with_open_block d old) n) is ∙ ap (λ (x : Block). x.end) (opened_block d old))))
+    absurd (real (ap (λ n. end_of (with_open_block d old) n) is ∙ ap (λ (x : Block). x.end)
+    (opened_block d old))))
     (cases_lt b (count old)))
 
 -- only blocks that are new were entered
-pub entered_new : (old new : VProc) (o1 o2 : List BlockId) (ds : List ℕ) (b : ℕ) → Enters old new o1 o2 ds → b < count old → times b o2 ≡ times b o1
+pub entered_new : (old new : VProc) (o1 o2 : List BlockId) (ds : List ℕ) (b : ℕ) →
+    Enters old new o1 o2 ds → b < count old → times b o2 ≡ times b o1
 entered_new old new o1 o2 ds b p lt =
     let two : times b o2 ≡ times b (o1 ++ p.more) = ap (times b) p.is in
     let there : b < count new = omega (arith, lt, p.blocks) in
-    omega (arith, two, times-append b o1 p.more, p.once b, below_in b (count old) lt, below_in b (count new) there)
+    omega (
+      arith,
+      two,
+      times-append b o1 p.more,
+      p.once b,
+      below_in b (count old) lt,
+      below_in b (count new) there,
+    )
 
 -- ---- from one open block to another
 
-pub goes_same : (at : ℕ) (old new : VProc) (order : List BlockId) → GrowsAt at old new → at < count old → count new ≤ count old → IsOpen new at → GoesOn at at old new order order []
-goes_same at old new order grows lt none o = record { enters = enters_same old new order grows.grows none; last = λ l. l; depth = (grows.grows.kept at lt).depth; text = text_same at old new order grows none o }
+pub goes_same : (at : ℕ) (old new : VProc) (order : List BlockId) → GrowsAt at old new →
+    at < count old → count new ≤ count old → IsOpen new at → GoesOn at at old new order order []
+goes_same at old new order grows lt none o =
+    record {
+      enters = enters_same old new order grows.grows none;
+      last = λ l. l;
+      depth =
+          (grows.grows.kept at lt).depth;
+      text = text_same at old new order grows none o;
+    }
 
-pub goes_on : (from between to : ℕ) (old one two : VProc) (o1 o2 o3 : List BlockId) (ds es : List ℕ) → GoesOn from between old one o1 o2 ds → GoesOn between to one two o2 o3 es → GoesOn from to old two o1 o3 (ds ++ es)
+pub goes_on : (from between to : ℕ) (old one two : VProc) (o1 o2 o3 : List BlockId)
+    (ds es : List ℕ) → GoesOn from between old one o1 o2 ds → GoesOn between to one two o2 o3 es →
+    GoesOn from to old two o1 o3 (ds ++ es)
 goes_on from between to old one two o1 o2 o3 ds es p q = record {
   enters = enters_on old one two o1 o2 o3 ds es p.enters q.enters;
   last = λ l. q.last (p.last l);
@@ -186,7 +261,9 @@ goes_on from between to old one two o1 o2 o3 ds es p q = record {
   text = λ l. q.text (p.text l);
 }
 
-pub goes_after : (from to : ℕ) (old mid new : VProc) (o1 o2 : List BlockId) (ds : List ℕ) → GoesOn from to old mid o1 o2 ds → GrowsAt to mid new → count new ≤ count mid → IsOpen mid to → IsOpen new to → GoesOn from to old new o1 o2 ds
+pub goes_after : (from to : ℕ) (old mid new : VProc) (o1 o2 : List BlockId) (ds : List ℕ) →
+    GoesOn from to old mid o1 o2 ds → GrowsAt to mid new → count new ≤ count mid → IsOpen mid to →
+    IsOpen new to → GoesOn from to old new o1 o2 ds
 goes_after from to old mid new o1 o2 ds p grows none o still = record {
   enters = enters_after old mid new o1 o2 ds p.enters grows.grows none;
   last = p.last;
@@ -196,7 +273,8 @@ goes_after from to old mid new o1 o2 ds p grows none o still = record {
 
 -- ---- a block that is opened before it is entered
 
-module _ (d : ℕ) (old one : VProc) (x : BlockId) (made : one ≡ with_open_block d old) (number : x.0 ≡ count old) where
+module _ (d : ℕ) (old one : VProc) (x : BlockId) (made : one ≡ with_open_block d old)
+    (number : x.0 ≡ count old) where
   abbrev n : ℕ
   n = count old
 
@@ -207,32 +285,49 @@ module _ (d : ℕ) (old one : VProc) (x : BlockId) (made : one ≡ with_open_blo
   one_more b = omega (arith, ap (λ z. is_one z b) number, below_next b n, ap (below b) one_count)
 
   one_deep : depth_at one x.0 ≡ d
-  one_deep = ap (λ k. depth_at one k) number ∙ ap (λ (z : VProc). depth_at z n) made ∙ ap (λ (b : Block). b.depth) (opened_block d old)
+  one_deep = ap (λ k. depth_at one k) number ∙ ap (λ (z : VProc). depth_at z n) made
+      ∙ ap (λ (b : Block). b.depth) (opened_block d old)
 
   one_kept : (b : ℕ) → b < n → depth_at one b ≡ depth_at old b
-  one_kept b lt = ap (λ (z : VProc). depth_at z b) made ∙ ap (λ (k : Block). k.depth) (opened_kept d old b lt)
+  one_kept b lt = ap (λ (z : VProc). depth_at z b) made ∙ ap (λ (k : Block). k.depth)
+      (opened_kept d old b lt)
 
   -- between two parts
-  pub enters_between : (two new : VProc) (o1 o2 o3 : List BlockId) (ds es : List ℕ) → Enters one two o1 o2 ds → Enters two new (o2 ++ x ∷ []) o3 es → Enters old new o1 o3 (ds ++ d ∷ es)
+  pub enters_between : (two new : VProc) (o1 o2 o3 : List BlockId) (ds es : List ℕ) →
+      Enters one two o1 o2 ds → Enters two new (o2 ++ x ∷ []) o3 es →
+      Enters old new o1 o3 (ds ++ d ∷ es)
   enters_between two new o1 o2 o3 ds es p q =
       let lt : x.0 < count one = omega (arith, number, one_count) in
       let lt2 : x.0 < count two = omega (arith, lt, p.blocks) in record {
         more = p.more ++ x ∷ q.more;
-        is = q.is ∙ ap (λ l. (l ++ x ∷ []) ++ q.more) p.is ∙ append_assoc (o1 ++ p.more) (x ∷ []) q.more ∙ append_assoc o1 p.more (x ∷ q.more);
-        once = λ b. omega (arith, times-append b p.more (x ∷ q.more), p.once b, q.once b, one_more b);
+        is = q.is ∙ ap (λ l. (l ++ x ∷ []) ++ q.more) p.is ∙ append_assoc (o1 ++ p.more)
+            (x ∷ []) q.more ∙ append_assoc o1 p.more (x ∷ q.more);
+        once = λ b. omega (
+          arith,
+          times-append b p.more (x ∷ q.more),
+          p.once b,
+          q.once b,
+          one_more b,
+        );
         have = have_append new p.more ds (x ∷ q.more) (d ∷ es)
             (have_later two new (omega (arith, q.blocks)) q.kept p.more ds p.have)
             (omega (arith, lt2, q.blocks), q.kept x.0 lt2 ∙ p.kept x.0 lt ∙ one_deep, q.have);
         blocks = omega (arith, p.blocks, q.blocks, one_count, length-append ds (d ∷ es));
-        kept = λ b l. q.kept b (omega (arith, l, one_count, p.blocks)) ∙ p.kept b (omega (arith, l, one_count)) ∙ one_kept b l;
+        kept = λ b l. q.kept b (omega (arith, l, one_count, p.blocks))
+            ∙ p.kept b (omega (arith, l, one_count)) ∙ one_kept b l;
       }
 
   -- behind a part
-  pub enters_behind : (two new : VProc) (o1 o2 : List BlockId) (ds : List ℕ) → Enters one two o1 o2 ds → Grows two new → count new ≤ count two → Enters old new o1 (o2 ++ x ∷ []) (ds ++ d ∷ [])
-  enters_behind two new o1 o2 ds p grows none = enters_between two new o1 o2 (o2 ++ x ∷ []) ds [] p (enters_same two new (o2 ++ x ∷ []) grows none)
+  pub enters_behind : (two new : VProc) (o1 o2 : List BlockId) (ds : List ℕ) →
+      Enters one two o1 o2 ds → Grows two new → count new ≤ count two →
+      Enters old new o1 (o2 ++ x ∷ []) (ds ++ d ∷ [])
+  enters_behind two new o1 o2 ds p grows none = enters_between two new o1 o2 (o2 ++ x ∷ []) ds [] p
+      (enters_same two new (o2 ++ x ∷ []) grows none)
 
-  pub enters_behind_here : (new : VProc) (o1 o2 : List BlockId) (ds : List ℕ) → Enters one new o1 o2 ds → Enters old new o1 (o2 ++ x ∷ []) (ds ++ d ∷ [])
-  enters_behind_here new o1 o2 ds p = enters_behind new new o1 o2 ds p (grows_same new) (omega arith)
+  pub enters_behind_here : (new : VProc) (o1 o2 : List BlockId) (ds : List ℕ) →
+      Enters one new o1 o2 ds → Enters old new o1 (o2 ++ x ∷ []) (ds ++ d ∷ [])
+  enters_behind_here new o1 o2 ds p = enters_behind new new o1 o2 ds p (grows_same new)
+      (omega arith)
 
 -- ---- two blocks, and three
 
@@ -244,23 +339,33 @@ pub record Opens (old new : VProc) (more : List BlockId) (depths : List ℕ) : T
   pub kept : (b : ℕ) → b < count old → depth_at new b ≡ depth_at old b
 
 pub opens_none : (code : VProc) → Opens code code [] []
-opens_none code = record { once = λ b. omega arith; have = tt; blocks = omega arith; kept = λ b lt. refl }
+opens_none code = record {
+  once = λ b. omega arith;
+  have = tt;
+  blocks = omega arith;
+  kept =
+      λ b lt. refl;
+}
 
 -- the block that is opened last comes first in the list
-pub opens_more : (d : ℕ) (old mid new : VProc) (x : BlockId) (more : List BlockId) (ds : List ℕ) → Opens old mid more ds → new ≡ with_open_block d mid → x.0 ≡ count mid → Opens old new (x ∷ more) (d ∷ ds)
+pub opens_more : (d : ℕ) (old mid new : VProc) (x : BlockId) (more : List BlockId) (ds : List ℕ) →
+    Opens old mid more ds → new ≡ with_open_block d mid → x.0 ≡ count mid →
+    Opens old new (x ∷ more) (d ∷ ds)
 opens_more d old mid new x more ds p made number = record {
   once = λ b. omega (arith, p.once b, one_more d mid new x made number b);
   have = (
     omega (arith, number, one_count d mid new x made number),
     one_deep d mid new x made number,
-    have_later mid new (omega (arith, one_count d mid new x made number)) (one_kept d mid new x made number) more ds p.have,
+    have_later mid new (omega (arith, one_count d mid new x made number))
+        (one_kept d mid new x made number) more ds p.have,
   );
   blocks = omega (arith, p.blocks, one_count d mid new x made number);
   kept = λ b lt. one_kept d mid new x made number b (omega (arith, lt, p.blocks)) ∙ p.kept b lt;
 }
 
 -- the same blocks in other orders
-pub opens_turned : (old new : VProc) (x y : BlockId) (d e : ℕ) → Opens old new (x ∷ y ∷ []) (d ∷ e ∷ []) → Opens old new (y ∷ x ∷ []) (e ∷ d ∷ [])
+pub opens_turned : (old new : VProc) (x y : BlockId) (d e : ℕ) →
+    Opens old new (x ∷ y ∷ []) (d ∷ e ∷ []) → Opens old new (y ∷ x ∷ []) (e ∷ d ∷ [])
 opens_turned old new x y d e p = record {
   once = λ b. omega (arith, p.once b);
   have = (p.have.2.0, p.have.2.1, (p.have.0, p.have.1, tt));
@@ -268,7 +373,8 @@ opens_turned old new x y d e p = record {
   kept = p.kept;
 }
 
-pub opens_rotated : (old new : VProc) (x y z : BlockId) (d e f : ℕ) → Opens old new (x ∷ y ∷ z ∷ []) (d ∷ e ∷ f ∷ []) → Opens old new (y ∷ z ∷ x ∷ []) (e ∷ f ∷ d ∷ [])
+pub opens_rotated : (old new : VProc) (x y z : BlockId) (d e f : ℕ) → Opens old new (x ∷ y ∷ z ∷ [])
+    (d ∷ e ∷ f ∷ []) → Opens old new (y ∷ z ∷ x ∷ []) (e ∷ f ∷ d ∷ [])
 opens_rotated old new x y z d e f p = record {
   once = λ b. omega (arith, p.once b);
   have = (p.have.2.0, p.have.2.1, (p.have.2.2.0, p.have.2.2.1, (p.have.0, p.have.1, tt)));
@@ -276,7 +382,9 @@ opens_rotated old new x y z d e f p = record {
   kept = p.kept;
 }
 
-pub opens_behind_first : (old new : VProc) (x y z : BlockId) (d e f : ℕ) → Opens old new (x ∷ y ∷ z ∷ []) (d ∷ e ∷ f ∷ []) → Opens old new (x ∷ z ∷ y ∷ []) (d ∷ f ∷ e ∷ [])
+pub opens_behind_first : (old new : VProc) (x y z : BlockId) (d e f : ℕ) →
+    Opens old new (x ∷ y ∷ z ∷ []) (d ∷ e ∷ f ∷ []) → Opens old new (x ∷ z ∷ y ∷ [])
+    (d ∷ f ∷ e ∷ [])
 opens_behind_first old new x y z d e f p = record {
   once = λ b. omega (arith, p.once b);
   have = (p.have.0, p.have.1, (p.have.2.2.0, p.have.2.2.1, (p.have.2.0, p.have.2.1, tt)));
@@ -286,15 +394,19 @@ opens_behind_first old new x y z d e f p = record {
 
 -- Of the blocks that were opened some are entered before the first part, one behind each of the
 -- two parts.
-module _ (old one two three new : VProc) (head : List BlockId) (x y : BlockId) (fs : List ℕ) (d e : ℕ) (o1 o2 o3 : List BlockId) (ds es : List ℕ) (opens : Opens old one (x ∷ y ∷ head) (d ∷ e ∷ fs))
-    (p : Enters one two (o1 ++ head) o2 ds) (q : Enters two three (o2 ++ x ∷ []) o3 es) (grows : Grows three new) (none : count new ≤ count three) where
+module _ (old one two three new : VProc) (head : List BlockId) (x y : BlockId) (fs : List ℕ)
+    (d e : ℕ) (o1 o2 o3 : List BlockId) (ds es : List ℕ)
+    (opens : Opens old one (x ∷ y ∷ head) (d ∷ e ∷ fs))
+    (p : Enters one two (o1 ++ head) o2 ds) (q : Enters two three (o2 ++ x ∷ []) o3 es)
+    (grows : Grows three new) (none : count new ≤ count three) where
   far : Enters three new (o3 ++ y ∷ []) (o3 ++ y ∷ []) []
   far = enters_same three new (o3 ++ y ∷ []) grows none
 
   same_count : count new ≡ count three
   same_count = omega (arith, none, grows.blocks)
 
-  deep : (b : BlockId) (k : ℕ) → b.0 < count one → depth_at one b.0 ≡ k → (b.0 < count new) × (depth_at new b.0 ≡ k)
+  deep : (b : BlockId) (k : ℕ) → b.0 < count one → depth_at one b.0 ≡ k → (b.0 < count new) ×
+      (depth_at new b.0 ≡ k)
   deep b k l1 is =
       let l2 : b.0 < count two = omega (arith, l1, p.blocks) in
       let l3 : b.0 < count three = omega (arith, l2, q.blocks) in
@@ -304,27 +416,54 @@ module _ (old one two three new : VProc) (head : List BlockId) (x y : BlockId) (
   later_one [] [] h = tt
   later_one [] (k ∷ ks) h = absurd h
   later_one (b ∷ bs) [] h = absurd h
-  later_one (b ∷ bs) (k ∷ ks) h = let here = deep b k h.0 h.1 in (here.0, here.1, later_one bs ks h.2)
+  later_one (b ∷ bs) (k ∷ ks) h = let here = deep b k h.0 h.1 in
+      (here.0, here.1, later_one bs ks h.2)
 
   later_two : (bs : List BlockId) (ks : List ℕ) → HaveDepths two bs ks → HaveDepths new bs ks
-  later_two bs ks h = have_later three new (omega (arith, far.blocks)) far.kept bs ks (have_later two three (omega (arith, q.blocks)) q.kept bs ks h)
+  later_two bs ks h = have_later three new (omega (arith, far.blocks)) far.kept bs ks
+      (have_later two three (omega (arith, q.blocks)) q.kept bs ks h)
 
   order_is : o3 ++ y ∷ [] ≡ o1 ++ (head ++ (p.more ++ x ∷ (q.more ++ y ∷ [])))
   order_is =
-      ap (λ l. l ++ y ∷ []) q.is ∙ append_assoc (o2 ++ x ∷ []) q.more (y ∷ []) ∙ append_assoc o2 (x ∷ []) (q.more ++ y ∷ [])
-      ∙ ap (λ l. l ++ x ∷ (q.more ++ y ∷ [])) p.is ∙ append_assoc (o1 ++ head) p.more (x ∷ (q.more ++ y ∷ [])) ∙ append_assoc o1 head (p.more ++ x ∷ (q.more ++ y ∷ []))
+      ap (λ l. l ++ y ∷ []) q.is ∙ append_assoc (o2 ++ x ∷ []) q.more (y ∷ []) ∙ append_assoc o2
+      (x ∷ []) (q.more ++ y ∷ [])
+      ∙ ap (λ l. l ++ x ∷ (q.more ++ y ∷ [])) p.is ∙ append_assoc (o1 ++ head) p.more
+      (x ∷ (q.more ++ y ∷ [])) ∙ append_assoc o1 head (p.more ++ x ∷ (q.more ++ y ∷ []))
 
   pub enters_parts : Enters old new o1 (o3 ++ y ∷ []) (fs ++ (ds ++ d ∷ (es ++ e ∷ [])))
   enters_parts = record {
     more = head ++ (p.more ++ x ∷ (q.more ++ y ∷ []));
     is = order_is;
-    once = λ b. omega (arith, times-append b head (p.more ++ x ∷ (q.more ++ y ∷ [])), times-append b p.more (x ∷ (q.more ++ y ∷ [])), times-append b q.more (y ∷ []), p.once b, q.once b, ap (below b) same_count, opens.once b);
+    once = λ b. omega (
+      arith,
+      times-append b head (p.more ++ x ∷ (q.more ++ y ∷ [])),
+      times-append b p.more (x ∷ (q.more ++ y ∷ [])),
+      times-append b q.more (y ∷ []),
+      p.once b,
+      q.once b,
+      ap (below b) same_count,
+      opens.once b,
+    );
     have =
-        have_append new head fs (p.more ++ x ∷ (q.more ++ y ∷ [])) (ds ++ d ∷ (es ++ e ∷ [])) (later_one head fs opens.have.2.2)
-        (have_append new p.more ds (x ∷ (q.more ++ y ∷ [])) (d ∷ (es ++ e ∷ [])) (later_two p.more ds p.have)
-        (have_append new (x ∷ []) (d ∷ []) (q.more ++ y ∷ []) (es ++ e ∷ []) (later_one (x ∷ []) (d ∷ []) (opens.have.0, opens.have.1, tt))
-        (have_append new q.more es (y ∷ []) (e ∷ []) (have_later three new (omega (arith, far.blocks)) far.kept q.more es q.have) (later_one (y ∷ []) (e ∷ []) (opens.have.2.0, opens.have.2.1, tt)))));
-    blocks = omega (arith, far.blocks, q.blocks, p.blocks, opens.blocks, length-append fs (ds ++ d ∷ (es ++ e ∷ [])), length-append ds (d ∷ (es ++ e ∷ [])), length-append es (e ∷ []));
+        have_append new head fs (p.more ++ x ∷ (q.more ++ y ∷ [])) (ds ++ d ∷ (es ++ e ∷ []))
+        (later_one head fs opens.have.2.2)
+        (have_append new p.more ds (x ∷ (q.more ++ y ∷ [])) (d ∷ (es ++ e ∷ []))
+        (later_two p.more ds p.have)
+        (have_append new (x ∷ []) (d ∷ []) (q.more ++ y ∷ []) (es ++ e ∷ [])
+        (later_one (x ∷ []) (d ∷ []) (opens.have.0, opens.have.1, tt))
+        (have_append new q.more es (y ∷ []) (e ∷ [])
+        (have_later three new (omega (arith, far.blocks)) far.kept q.more es q.have)
+        (later_one (y ∷ []) (e ∷ []) (opens.have.2.0, opens.have.2.1, tt)))));
+    blocks = omega (
+      arith,
+      far.blocks,
+      q.blocks,
+      p.blocks,
+      opens.blocks,
+      length-append fs (ds ++ d ∷ (es ++ e ∷ [])),
+      length-append ds (d ∷ (es ++ e ∷ [])),
+      length-append es (e ∷ []),
+    );
     kept = λ b lt.
         let l1 : b < count one = omega (arith, lt, opens.blocks) in
         let l2 : b < count two = omega (arith, l1, p.blocks) in
@@ -333,11 +472,18 @@ module _ (old one two three new : VProc) (head : List BlockId) (x y : BlockId) (
   }
 
 -- one behind each of two parts
-pub enters_two : (old one two three new : VProc) (x y : BlockId) (d e : ℕ) (o1 o2 o3 : List BlockId) (ds es : List ℕ) → Opens old one (x ∷ y ∷ []) (d ∷ e ∷ []) → Enters one two o1 o2 ds → Enters two three (o2 ++ x ∷ []) o3 es → Grows three new → count new ≤ count three → Enters old new o1 (o3 ++ y ∷ []) (ds ++ d ∷ (es ++ e ∷ []))
+pub enters_two : (old one two three new : VProc) (x y : BlockId) (d e : ℕ) (o1 o2 o3 : List BlockId)
+    (ds es : List ℕ) → Opens old one (x ∷ y ∷ []) (d ∷ e ∷ []) → Enters one two o1 o2 ds →
+    Enters two three (o2 ++ x ∷ []) o3 es → Grows three new → count new ≤ count three →
+    Enters old new o1 (o3 ++ y ∷ []) (ds ++ d ∷ (es ++ e ∷ []))
 enters_two old one two three new x y d e o1 o2 o3 ds es opens p q grows none =
-    enters_parts old one two three new [] x y [] d e o1 o2 o3 ds es opens (subst (λ l. Enters one two l o2 ds) (sym (append-nil o1)) p) q grows none
+    enters_parts old one two three new [] x y [] d e o1 o2 o3 ds es opens
+    (subst (λ l. Enters one two l o2 ds) (sym (append-nil o1)) p) q grows none
 
 -- one before each of two parts, and one behind both
-pub enters_three : (old one two three new : VProc) (h x y : BlockId) (f d e : ℕ) (o1 o2 o3 : List BlockId) (ds es : List ℕ) → Opens old one (x ∷ y ∷ h ∷ []) (d ∷ e ∷ f ∷ []) → Enters one two (o1 ++ h ∷ []) o2 ds → Enters two three (o2 ++ x ∷ []) o3 es → Grows three new → count new ≤ count three → Enters old new o1 (o3 ++ y ∷ []) (f ∷ (ds ++ d ∷ (es ++ e ∷ [])))
+pub enters_three : (old one two three new : VProc) (h x y : BlockId) (f d e : ℕ)
+    (o1 o2 o3 : List BlockId) (ds es : List ℕ) → Opens old one (x ∷ y ∷ h ∷ []) (d ∷ e ∷ f ∷ []) →
+    Enters one two (o1 ++ h ∷ []) o2 ds → Enters two three (o2 ++ x ∷ []) o3 es → Grows three new →
+    count new ≤ count three → Enters old new o1 (o3 ++ y ∷ []) (f ∷ (ds ++ d ∷ (es ++ e ∷ [])))
 enters_three old one two three new h x y f d e o1 o2 o3 ds es opens p q grows none =
     enters_parts old one two three new (h ∷ []) x y (f ∷ []) d e o1 o2 o3 ds es opens p q grows none

@@ -1,5 +1,6 @@
 -- Instructions that test, and instructions that give two values, over all later code.
-use Rattle.std.proofs.Common.{◌≡◌, ◌≢◌, ℕ, suc, ◌<◌, ◌≤◌, [], ◌∷◌, length, Some, None, refl, ap, ◌∙◌, arith, length-append}
+use Rattle.std.proofs.Common.{◌≡◌, ◌≢◌, ℕ, suc, ◌<◌, ◌≤◌, [], ◌∷◌, length, Some, None, refl, ap}
+use Rattle.std.proofs.Common.{◌∙◌, arith, length-append}
 use Rattle.std.specs.Prelude.{slice_set, slice_index_or, if◌then◌else◌}
 use Rattle.std.proofs.lemmas.Bool.{lt-ltb}
 use Rattle.std.proofs.lemmas.List.{get_or-set_same, get_or-set_other, length-set}
@@ -22,7 +23,8 @@ use Rattle.vc_build.proofs.Growth.{put_code}
 use Rattle.vc_build.proofs.Steps.{performs}
 use Rattle.vc_expr.specs.Division.{Stays}
 
-module _ (w : Codes) (id at : ℕ) (old : VProc) (s : State Vars) (o : IsOpen old at) (stands : Stands old at s.top) (i : VInstr) (r : RunsIn w id (with_instr at i old) s) where
+module _ (w : Codes) (id at : ℕ) (old : VProc) (s : State Vars) (o : IsOpen old at)
+    (stands : Stands old at s.top) (i : VInstr) (r : RunsIn w id (with_instr at i old) s) where
   abbrev new : VProc
   new = with_instr at i old
 
@@ -32,7 +34,12 @@ module _ (w : Codes) (id at : ℕ) (old : VProc) (s : State Vars) (o : IsOpen ol
   stands_behind : (held : Words) → Stands new at (moved held)
   stands_behind held = record {
     block = stands.block;
-    index = omega (arith, stands.index, ap (λ l. length l) (put_code at i old o), length-append (code_of old at) (i ∷ []));
+    index = omega (
+      arith,
+      stands.index,
+      ap (λ l. length l) (put_code at i old o),
+      length-append (code_of old at) (i ∷ []),
+    );
   }
 
   -- a test that holds
@@ -40,7 +47,8 @@ module _ (w : Codes) (id at : ℕ) (old : VProc) (s : State Vars) (o : IsOpen ol
     passes_it : runs w 1 s ≡ with_top s (moved s.top.home.held)
     passes_it =
         performs w id at old s o stands i r
-        ∙ ap (λ a. apply (selected w.procs w.frames) (λ xs. written s.top (written_by i) xs) a s) acts
+        ∙ ap (λ a. apply (selected w.procs w.frames) (λ xs. written s.top (written_by i) xs) a s)
+        acts
         ∙ ap (λ vs. found s (written s.top vs []) (with_top s)) writes
 
     pub passes : (n : ℕ) → Reaches w s (Stays new at n s.top)
@@ -50,7 +58,14 @@ module _ (w : Codes) (id at : ℕ) (old : VProc) (s : State Vars) (o : IsOpen ol
       there = passes_it;
       good = record {
         stands = stands_behind s.top.home.held;
-        same = record { proc = refl; aggregates = refl; args = refl; room = refl; held = λ v lt. refl };
+        same = record {
+          proc = refl;
+          aggregates = refl;
+          args = refl;
+          room = refl;
+          held =
+              λ v lt. refl;
+        };
       };
     }
 
@@ -61,14 +76,18 @@ module _ (w : Codes) (id at : ℕ) (old : VProc) (s : State Vars) (o : IsOpen ol
     call = s.top;
     there =
         performs w id at old s o stands i r
-        ∙ ap (λ a. apply (selected w.procs w.frames) (λ xs. written s.top (written_by i) xs) a s) acts
+        ∙ ap (λ a. apply (selected w.procs w.frames) (λ xs. written s.top (written_by i) xs) a s)
+        acts
         ∙ ap (λ compared. ended (record s { compared = compared }) (Trapped k)) r.compared;
   }
 
   -- two values
-  module _ (u v : ℕ) (x y : Value) (writes : written_by i ≡ u ∷ v ∷ []) (acts : acted w i s ≡ Some (GiveBoth x y)) (apart : u ≢ v)
-      (u_declared : u < length (selected_code.code_of w.procs id).vars) (v_declared : v < length (selected_code.code_of w.procs id).vars)
-      (u_plain : kind_of (selected_code.code_of w.procs id) u ≡ Plain) (v_plain : kind_of (selected_code.code_of w.procs id) v ≡ Plain) where
+  module _ (u v : ℕ) (x y : Value) (writes : written_by i ≡ u ∷ v ∷ [])
+      (acts : acted w i s ≡ Some (GiveBoth x y)) (apart : u ≢ v)
+      (u_declared : u < length (selected_code.code_of w.procs id).vars)
+      (v_declared : v < length (selected_code.code_of w.procs id).vars)
+      (u_plain : kind_of (selected_code.code_of w.procs id) u ≡ Plain)
+      (v_plain : kind_of (selected_code.code_of w.procs id) v ≡ Plain) where
     abbrev held : Words
     held = s.top.home.held
 
@@ -87,13 +106,16 @@ module _ (w : Codes) (id at : ℕ) (old : VProc) (s : State Vars) (o : IsOpen ol
     writes_them : written s.top (written_by i) (x ∷ y ∷ []) ≡ Some (moved two)
     writes_them =
         ap (λ vs. written s.top vs (x ∷ y ∷ [])) writes
-        ∙ ap (λ b. behind s.top (put_all (if b then Some one else None) (v ∷ []) (y ∷ []))) (lt-ltb u (length held) u_there)
-        ∙ ap (λ b. behind s.top (put_all (if b then Some two else None) [] [])) (lt-ltb v (length one) v_there)
+        ∙ ap (λ b. behind s.top (put_all (if b then Some one else None) (v ∷ []) (y ∷ [])))
+        (lt-ltb u (length held) u_there)
+        ∙ ap (λ b. behind s.top (put_all (if b then Some two else None) [] []))
+        (lt-ltb v (length one) v_there)
 
     gives_them : runs w 1 s ≡ with_top s (moved two)
     gives_them =
         performs w id at old s o stands i r
-        ∙ ap (λ a. apply (selected w.procs w.frames) (λ xs. written s.top (written_by i) xs) a s) acts
+        ∙ ap (λ a. apply (selected w.procs w.frames) (λ xs. written s.top (written_by i) xs) a s)
+        acts
         ∙ ap (λ c. found s c (with_top s)) writes_them
 
     u_holds : read (kind_of (selected_code.code_of w.procs id)) two u ≡ Some x
@@ -103,10 +125,14 @@ module _ (w : Codes) (id at : ℕ) (old : VProc) (s : State Vars) (o : IsOpen ol
         ∙ get_or-set_same held u (Some x) None u_there
 
     v_holds : read (kind_of (selected_code.code_of w.procs id)) two v ≡ Some y
-    v_holds = ap (λ k. valued k (slice_index_or two v None)) v_plain ∙ get_or-set_same one v (Some y) None v_there
+    v_holds = ap (λ k. valued k (slice_index_or two v None)) v_plain ∙ get_or-set_same one v
+        (Some y) None v_there
 
     pub gives_two : (n : ℕ) (Q : Activation Vars → Type 0) → n ≤ u → n ≤ v →
-        ((c : Activation Vars) → Stays new at n s.top c → read (kind_of (selected_code.code_of w.procs id)) c.home.held u ≡ Some x → read (kind_of (selected_code.code_of w.procs id)) c.home.held v ≡ Some y → Q c) → Reaches w s Q
+        ((c : Activation Vars) → Stays new at n s.top c →
+        read (kind_of (selected_code.code_of w.procs id)) c.home.held u ≡ Some x →
+        read (kind_of (selected_code.code_of w.procs id)) c.home.held v ≡ Some y → Q c) →
+        Reaches w s Q
     gives_two n Q below_u below_v good = record {
       steps = 1;
       call = moved two;

@@ -1,5 +1,8 @@
 -- The machine of code whose blocks are in another order, beside that of the old code.
-use Rattle.std.proofs.Common.{◌≡◌, ◌≢◌, ℕ, ℤ, suc, ◌<◌, ◌⊎◌, inl, inr, Bool, true, false, nat_eq, nat_lt, if◌then◌else◌, List, [], ◌∷◌, length, map, slice_get, slice_set, slice_index_or, replicate, Option, Some, None, refl, sym, ap, ap₂, subst, ◌∙◌, arith}
+use Rattle.std.proofs.Common.{◌≡◌, ◌≢◌, ℕ, ℤ, suc, ◌<◌, ◌⊎◌, inl, inr, Bool, true, false, nat_eq}
+use Rattle.std.proofs.Common.{nat_lt, if◌then◌else◌, List, [], ◌∷◌, length, map, slice_get}
+use Rattle.std.proofs.Common.{slice_set, slice_index_or, replicate, Option, Some, None, refl, sym}
+use Rattle.std.proofs.Common.{ap, ap₂, subst, ◌∙◌, arith}
 use Rattle.std.proofs.lemmas.Bool.{cases_eq}
 use Rattle.std.proofs.lemmas.Bool.Decides.{nat_tests}
 use Rattle.std.proofs.lemmas.List.{length-set, get_or-set_same, get_or-set_other}
@@ -22,8 +25,11 @@ use Rattle.pra_base.specs.Operands.{read_by, written_by}
 use Rattle.vc_code.specs.Value.{Words}
 use Rattle.vc_code.specs.declared.value.Value.{Value}
 use Rattle.vc_code.specs.declared.value.Value.TheVariants.{Num}
-use Rattle.vc_code.specs.Machine.{Shape, Activation, State, Machine, first, step, act, act_on, view, cell, cell_words, is_home, last_get, last_set, returned, branched, goes_to, leave}
-use Rattle.vc_code.specs.Selected.{Vars, begun, selected, vrun, no_proc, shape, held_by, read, put_all, written, behind, at_point, at_block, next_of, RunsWell}
+use Rattle.vc_code.specs.Machine.{Shape, Activation, State, Machine, first, step, act, act_on, view}
+use Rattle.vc_code.specs.Machine.{cell, cell_words, is_home, last_get, last_set, returned, branched}
+use Rattle.vc_code.specs.Machine.{goes_to, leave}
+use Rattle.vc_code.specs.Selected.{Vars, begun, selected, vrun, no_proc, shape, held_by, read}
+use Rattle.vc_code.specs.Selected.{put_all, written, behind, at_point, at_block, next_of, RunsWell}
 use Rattle.vc_code.specs.Selected as selection
 use Rattle.vc_code.proofs.LongerRuns.{is_machine}
 use Rattle.vc_same.specs.SameRuns.{SameRuns, with_proc}
@@ -42,18 +48,23 @@ pub record IsMoved (to : Places) (old new : VProc) : Type 0 where
   pub some : nat_lt 0 (length old.blocks) ≡ true → nat_lt 0 (length new.blocks) ≡ true
   pub entry : to 0 ≡ 0
   pub first : block_of new 0 ≡ block_with to (block_of old 0)
-  pub blocks : (b : ℕ) (block : Block) → slice_get old.blocks b ≡ Some block → slice_get new.blocks (to b) ≡ Some (block_with to block)
+  pub blocks : (b : ℕ) (block : Block) → slice_get old.blocks b ≡ Some block →
+      slice_get new.blocks (to b) ≡ Some (block_with to block)
 
--- The calls stand at the same instruction of a block, which is the same but for the numbers of its targets.
+-- The calls stand at the same instruction of a block, which is the same but for the numbers of its
+-- targets.
 pub record Beside (olds news : List VProc) (to : ℕ → Places) (c d : Activation Vars) : Type 0 where
   pub proc : d.proc ≡ c.proc
   pub args : d.args ≡ c.args
   pub aggregates : d.aggregates ≡ c.aggregates
   pub index : d.home.index ≡ c.home.index
   pub held : d.home.held ≡ c.home.held
-  pub here : block_of (code_in news c.proc) d.home.block ≡ block_with (to c.proc) (block_of (code_in olds c.proc) c.home.block)
+  pub here : block_of (code_in news c.proc) d.home.block ≡ block_with (to c.proc)
+      (block_of (code_in olds c.proc) c.home.block)
 
-module _ (olds news : List VProc) (to : ℕ → Places) (frames : List ℕ) (long : length news ≡ length olds) (all : (p : ℕ) → IsMoved (to p) (code_in olds p) (code_in news p)) where
+module _ (olds news : List VProc) (to : ℕ → Places) (frames : List ℕ)
+    (long : length news ≡ length olds)
+    (all : (p : ℕ) → IsMoved (to p) (code_in olds p) (code_in news p)) where
   abbrev R : Activation Vars → Activation Vars → Type 0
   R = Beside olds news to
 
@@ -71,7 +82,10 @@ module _ (olds news : List VProc) (to : ℕ → Places) (frames : List ℕ) (lon
 
   same_cells : (c d : Activation Vars) → R c d → (i : ℕ) → cell other d i ≡ cell one c i
   same_cells c d r i =
-      let home : is_home (other d.proc) i ≡ is_home (one c.proc) i = ap (λ p. is_home (other p) i) r.proc ∙ ap (λ kinds. is_home (record { kinds = kinds; frame_size = slice_index_or frames c.proc 0 }) i) (all c.proc).vars in
+      let home : is_home (other d.proc) i ≡ is_home (one c.proc) i =
+      ap (λ p. is_home (other p) i) r.proc
+      ∙ ap (λ kinds. is_home (record
+      { kinds = kinds; frame_size = slice_index_or frames c.proc 0 }) i) (all c.proc).vars in
       ap₂ (λ (b : Bool) (args : Words). if b then [] else cell_words (last_get args i)) home r.args
 
   couples : Couples one other R
@@ -79,11 +93,27 @@ module _ (olds news : List VProc) (to : ℕ → Places) (frames : List ℕ) (lon
     frames = λ c d r. ap (λ p. slice_index_or frames p 0) r.proc;
     aggregates = λ c d r. r.aggregates;
     cells = same_cells;
-    set_aggregates = λ c d r words. record { proc = r.proc; args = r.args; aggregates = refl; index = r.index; held = r.held; here = r.here };
-    set_cell = λ c d r i h n. record { proc = r.proc; args = ap (λ (args : Words). last_set args i h) r.args; aggregates = r.aggregates; index = r.index; held = r.held; here = r.here };
+    set_aggregates = λ c d r words. record {
+      proc = r.proc;
+      args = r.args;
+      aggregates = refl;
+      index = r.index;
+      held = r.held;
+      here = r.here;
+    };
+    set_cell = λ c d r i h n. record {
+      proc = r.proc;
+      args = ap (λ (args : Words). last_set args i h) r.args;
+      aggregates =
+          r.aggregates;
+      index = r.index;
+      held = r.held;
+      here = r.here;
+    };
   }
 
-  begun_beside : (p : ℕ) (args : Words) → R (begun p (code_in olds p) args) (begun p (code_in news p) args)
+  begun_beside : (p : ℕ) (args : Words) → R (begun p (code_in olds p) args)
+      (begun p (code_in news p) args)
   begun_beside p args = record {
     proc = refl;
     args = refl;
@@ -95,14 +125,21 @@ module _ (olds news : List VProc) (to : ℕ → Places) (frames : List ℕ) (lon
 
   -- ---- calls
 
-  there_too : {A : Type 0} (xs ys : List A) (b : ℕ) (x d : A) → length ys ≡ length xs → slice_get xs b ≡ Some x → slice_get ys b ≡ Some (slice_index_or ys b d)
-  there_too xs ys b x d same e = let lt : b < length xs = slice_get_within xs b x e in slice_get-get_or ys b d (omega (arith, lt, same))
+  there_too : {A : Type 0} (xs ys : List A) (b : ℕ) (x d : A) → length ys ≡ length xs →
+      slice_get xs b ≡ Some x → slice_get ys b ≡ Some (slice_index_or ys b d)
+  there_too xs ys b x d same e = let lt : b < length xs = slice_get_within xs b x e in
+      slice_get-get_or ys b d (omega (arith, lt, same))
 
-  begins_by : (p : ℕ) (args : Words) (o : Option VProc) (x : Activation Vars) → selection.begin p o args ≡ Some x → (code : VProc) × (o ≡ Some code) × (nat_lt 0 (length code.blocks) ≡ true) × (x ≡ begun p code args)
+  begins_by : (p : ℕ) (args : Words) (o : Option VProc) (x : Activation Vars) →
+      selection.begin p o args ≡ Some x → (code : VProc) × (o ≡ Some code) ×
+      (nat_lt 0 (length code.blocks) ≡ true) × (x ≡ begun p code args)
   begins_by p args None x e = absurd (none_some e)
   begins_by p args (Some code) x e = by (nat_lt 0 (length code.blocks)) refl e
     where
-      by : (b : Bool) → nat_lt 0 (length code.blocks) ≡ b → (if b then Some (begun p code args) else None) ≡ Some x → (code' : VProc) × (Some code ≡ Some code') × (nat_lt 0 (length code'.blocks) ≡ true) × (x ≡ begun p code' args)
+      by : (b : Bool) → nat_lt 0 (length code.blocks) ≡ b →
+          (if b then Some (begun p code args) else None) ≡ Some x → (code' : VProc) ×
+          (Some code ≡ Some code') × (nat_lt 0 (length code'.blocks) ≡ true) ×
+          (x ≡ begun p code' args)
       by true t d = (code, refl, t, sym (some_same _ x d))
       by false t d = absurd (none_some d)
 
@@ -111,10 +148,13 @@ module _ (olds news : List VProc) (to : ℕ → Places) (frames : List ℕ) (lon
       let c = begins_by p args (slice_get olds p) x e in
       let same : code_in olds p ≡ c.0 = get_or_from_slice_get olds p c.0 no_proc c.1 in
       let there = there_too olds news p c.0 no_proc long c.1 in
-      let some : nat_lt 0 (length (code_in news p).blocks) ≡ true = (all p).some (ap (λ (code : VProc). nat_lt 0 (length code.blocks)) same ∙ c.2) in (
+      let some : nat_lt 0 (length (code_in news p).blocks) ≡ true =
+      (all p).some (ap (λ (code : VProc). nat_lt 0 (length code.blocks)) same ∙ c.2) in (
         begun p (code_in news p) args,
-        ap (λ o. selection.begin p o args) there ∙ ap (λ b. if b then Some (begun p (code_in news p) args) else None) some,
-        subst (λ z. R z (begun p (code_in news p) args)) (ap (λ code. begun p code args) same ∙ sym c.3) (begun_beside p args),
+        ap (λ o. selection.begin p o args) there
+            ∙ ap (λ b. if b then Some (begun p (code_in news p) args) else None) some,
+        subst (λ z. R z (begun p (code_in news p) args))
+            (ap (λ code. begun p code args) same ∙ sym c.3) (begun_beside p args),
       )
 
   -- ---- a step
@@ -135,7 +175,8 @@ module _ (olds news : List VProc) (to : ℕ → Places) (frames : List ℕ) (lon
     there_end : end_of new t.top.home.block ≡ end_with (to p) (end_of old s.top.home.block)
     there_end = ap (λ (b : Block). b.end) r.top.here
 
-    there_instr : instr_at (code_in news t.top.proc) t.top.home.block t.top.home.index ≡ instr_at old s.top.home.block s.top.home.index
+    there_instr : instr_at (code_in news t.top.proc) t.top.home.block t.top.home.index ≡
+        instr_at old s.top.home.block s.top.home.index
     there_instr =
         ap (λ q. instr_at (code_in news q) t.top.home.block t.top.home.index) r.top.proc
         ∙ ap₂ (λ code k. slice_get code k) there_code r.top.index
@@ -143,16 +184,27 @@ module _ (olds news : List VProc) (to : ℕ → Places) (frames : List ℕ) (lon
     goes_on : (vs : List ℕ) (xs : List Value) → Leads R (written s.top vs xs) (written t.top vs xs)
     goes_on vs xs x e = by (put_all (Some s.top.home.held) vs xs) refl e
       where
-        by : (o : Option Words) → put_all (Some s.top.home.held) vs xs ≡ o → behind s.top o ≡ Some x → (y : Activation Vars) × (written t.top vs xs ≡ Some y) × R x y
+        by : (o : Option Words) → put_all (Some s.top.home.held) vs xs ≡ o → behind s.top o ≡
+            Some x → (y : Activation Vars) × (written t.top vs xs ≡ Some y) × R x y
         by None f d = absurd (none_some d)
         by (Some held) f d = (
           at_point t.top t.top.home.block (suc t.top.home.index) held,
           ap (behind t.top) (ap (λ h. put_all (Some h) vs xs) r.top.held ∙ f),
-          subst (λ z. R z (at_point t.top t.top.home.block (suc t.top.home.index) held)) (some_same _ x d)
-              (record { proc = r.top.proc; args = r.top.args; aggregates = r.top.aggregates; index = ap suc r.top.index; held = refl; here = r.top.here }),
+          subst (λ z. R z (at_point t.top t.top.home.block (suc t.top.home.index) held))
+              (some_same _ x d)
+              (record {
+                proc = r.top.proc;
+                args = r.top.args;
+                aggregates = r.top.aggregates;
+                index =
+                    ap suc r.top.index;
+                held = refl;
+                here = r.top.here;
+              }),
         )
 
-    jumped : (b : ℕ) (o : Option Block) (x : Activation Vars) → at_block s.top b o ≡ Some x → (block : Block) × (o ≡ Some block) × (x ≡ at_point s.top b 0 s.top.home.held)
+    jumped : (b : ℕ) (o : Option Block) (x : Activation Vars) → at_block s.top b o ≡ Some x →
+        (block : Block) × (o ≡ Some block) × (x ≡ at_point s.top b 0 s.top.home.held)
     jumped b None x e = absurd (none_some e)
     jumped b (Some block) x e = (block, refl, sym (some_same _ x e))
 
@@ -161,7 +213,8 @@ module _ (olds news : List VProc) (to : ℕ → Places) (frames : List ℕ) (lon
         let a = jumped b (slice_get old.blocks b) x e in
         let there = (all p).blocks b a.0 a.1 in (
           at_point t.top (to p b) 0 t.top.home.held,
-          ap (λ q. at_block t.top (to p b) (slice_get (code_in news q).blocks (to p b))) r.top.proc ∙ ap (λ o. at_block t.top (to p b) o) there,
+          ap (λ q. at_block t.top (to p b) (slice_get (code_in news q).blocks (to p b))) r.top.proc
+              ∙ ap (λ o. at_block t.top (to p b) o) there,
           subst (λ z. R z (at_point t.top (to p b) 0 t.top.home.held)) (sym a.2) (record {
             proc = r.top.proc;
             args = r.top.args;
@@ -170,73 +223,125 @@ module _ (olds news : List VProc) (to : ℕ → Places) (frames : List ℕ) (lon
             held = r.top.held;
             here =
                 get_or_from_slice_get new.blocks (to p b) (block_with (to p) a.0) no_block there
-                ∙ ap (block_with (to p)) (sym (get_or_from_slice_get old.blocks b a.0 no_block a.1));
+                ∙ ap (block_with (to p))
+                (sym (get_or_from_slice_get old.blocks b a.0 no_block a.1));
           }),
         )
 
-    returns : (cs ds : List (Activation Vars)) → AllBeside R cs ds → Same R (returned s cs) (returned t ds)
+    returns : (cs ds : List (Activation Vars)) → AllBeside R cs ds →
+        Same R (returned s cs) (returned t ds)
     returns [] [] k = ended_same m n R couples s t Ended r
     returns [] (d ∷ ds) k = elim k [ ]
     returns (c ∷ cs) [] k = elim k [ ]
-    returns (c ∷ cs) (d ∷ ds) k = record { top = k.0; below = k.1; pushed = r.pushed; globals = r.globals; compared = λ ab e. cc; input = r.input; events = r.events; taken = r.taken; over = r.over }
+    returns (c ∷ cs) (d ∷ ds) k =
+        record {
+          top = k.0;
+          below = k.1;
+          pushed = r.pushed;
+          globals = r.globals;
+          compared =
+              λ ab e. cc;
+          input = r.input;
+          events = r.events;
+          taken = r.taken;
+          over = r.over;
+        }
 
-    goes : (b : ℕ) → (goes_to m s b).over ≢ Some Wrong → Same R (goes_to m s b) (goes_to n t (to p b))
-    goes b ok = found_same m n R couples R s t (m.jump b s.top) (n.jump (to p b) t.top) _ _ (jumps b) (λ x y _ k _. with_top_same m n R couples s t r x y k) ok
+    goes : (b : ℕ) → (goes_to m s b).over ≢ Some Wrong →
+        Same R (goes_to m s b) (goes_to n t (to p b))
+    goes b ok = found_same m n R couples R s t (m.jump b s.top) (n.jump (to p b) t.top) _ _
+        (jumps b) (λ x y _ k _. with_top_same m n R couples s t r x y k) ok
 
-    leaves : (e : End) (o : Option (ℕ × ℕ)) → s.compared ≡ o → (leave m e s).over ≢ Some Wrong → Same R (leave m e s) (leave n (end_with (to p) e) t)
+    leaves : (e : End) (o : Option (ℕ × ℕ)) → s.compared ≡ o → (leave m e s).over ≢ Some Wrong →
+        Same R (leave m e s) (leave n (end_with (to p) e) t)
     leaves (Jump b) o e ok = goes b.0 ok
     leaves Return o e ok = returns s.below t.below r.below
     leaves (Branch c a z) None e ok = absurd (ok (ap (λ o. (branched m c a.0 z.0 o s).over) e))
     leaves (Branch c a z) (Some (x, y)) e ok =
-        let up : branched m c a.0 z.0 s.compared s ≡ goes_to m s (if compares c x y then a.0 else z.0) = ap (λ o. branched m c a.0 z.0 o s) e in
-        let down : branched n c (to p a.0) (to p z.0) t.compared t ≡ goes_to n t (if compares c x y then to p a.0 else to p z.0) = ap (λ o. branched n c (to p a.0) (to p z.0) o t) (r.compared (x, y) e) in
-        rw (up, down ∙ ap (goes_to n t) (sym (chosen (compares c x y)))) (goes (if compares c x y then a.0 else z.0) (λ w. ok (ap (λ q. q.over) up ∙ w)))
+        let up : branched m c a.0 z.0 s.compared s ≡
+        goes_to m s (if compares c x y then a.0 else z.0) =
+        ap (λ o. branched m c a.0 z.0 o s) e in
+        let down : branched n c (to p a.0) (to p z.0) t.compared t ≡
+        goes_to n t (if compares c x y then to p a.0 else to p z.0) =
+        ap (λ o. branched n c (to p a.0) (to p z.0) o t) (r.compared (x, y) e) in
+        rw (up, down ∙ ap (goes_to n t) (sym (chosen (compares c x y))))
+        (goes (if compares c x y then a.0 else z.0) (λ w. ok (ap (λ q. q.over) up ∙ w)))
       where
-        chosen : (way : Bool) → to p (if way then a.0 else z.0) ≡ (if way then to p a.0 else to p z.0)
+        chosen : (way : Bool) → to p (if way then a.0 else z.0) ≡
+            (if way then to p a.0 else to p z.0)
         chosen true = refl
         chosen false = refl
 
-    acts : (o : Option VInstr) → instr_at old s.top.home.block s.top.home.index ≡ o → (act m (next_of old s.top o) s).over ≢ Some Wrong →
+    acts : (o : Option VInstr) → instr_at old s.top.home.block s.top.home.index ≡ o →
+        (act m (next_of old s.top o) s).over ≢ Some Wrong →
         Same R (act m (next_of old s.top o) s) (act n (next_of (code_in news t.top.proc) t.top o) t)
     acts None e ok =
         subst (λ z. Same R (leave m (end_of old s.top.home.block) s) (leave n z t))
         (sym (ap (λ q. end_of (code_in news q) t.top.home.block) r.top.proc ∙ there_end))
         (leaves (end_of old s.top.home.block) s.compared refl ok)
     acts (Some i) e ok =
-        performed m n R couples s t r (λ xs. written s.top (written_by i) xs) (λ xs. written t.top (written_by i) xs) (λ xs. goes_on (written_by i) xs) i
+        performed m n R couples s t r (λ xs. written s.top (written_by i) xs)
+        (λ xs. written t.top (written_by i) xs) (λ xs. goes_on (written_by i) xs) i
         (held_by old s.top (read_by i)) (held_by (code_in news t.top.proc) t.top (read_by i))
         (ap (λ q. held_by (code_in news q) t.top (read_by i)) r.top.proc
-        ∙ ap₂ (λ kinds held. map (read (λ v. slice_index_or kinds v Plain) held) (read_by i)) (all p).vars r.top.held)
+        ∙ ap₂ (λ kinds held. map (read (λ v. slice_index_or kinds v Plain) held) (read_by i))
+        (all p).vars r.top.held)
         (λ q _. begins q.0 s.pushed) ok
 
     moves : s.over ≡ None → (step m s).over ≢ Some Wrong → Same R (step m s) (step n t)
     moves going ok =
         let up : step m s ≡ act m (m.next s.top) s = ap (λ o. act_on m o s) going in
         let down : step n t ≡ act n (n.next t.top) t = ap (λ o. act_on n o t) (r.over ∙ going) in
-        let same : n.next t.top ≡ next_of (code_in news t.top.proc) t.top (instr_at old s.top.home.block s.top.home.index) = ap (next_of (code_in news t.top.proc) t.top) there_instr in
-        rw (up, down ∙ ap (λ z. act n z t) same) (acts (instr_at old s.top.home.block s.top.home.index) refl (λ w. ok (ap (λ q. q.over) up ∙ w)))
+        let same : n.next t.top ≡ next_of (code_in news t.top.proc) t.top
+        (instr_at old s.top.home.block s.top.home.index) =
+        ap (next_of (code_in news t.top.proc) t.top) there_instr in
+        rw (up, down ∙ ap (λ z. act n z t) same)
+        (acts (instr_at old s.top.home.block s.top.home.index) refl
+        (λ w. ok (ap (λ q. q.over) up ∙ w)))
 
   -- ---- whole runs
 
   simulates : Simulates (step m) view (step n) view Wrong 0 (λ s. 0) (Same R)
   simulates = record {
-    same = λ s t b. let over : t.over ≡ s.over = b.over in let events : t.events ≡ s.events = b.events in let taken : t.taken ≡ s.taken = b.taken in rw (over, events, taken) refl;
+    same = λ s t b. let over : t.over ≡ s.over = b.over in let events : t.events ≡ s.events =
+        b.events in let taken : t.taken ≡ s.taken = b.taken in rw (over, events, taken) refl;
     bounded = λ s. omega arith;
     moves = λ s t b going ok. (1, inl (omega arith), moves s t b going ok);
   }
 
-  begin_same : (globals : Words) (input : List ℤ) → Same R (first (begun 0 (code_in olds 0) []) globals input) (first (begun 0 (code_in news 0) []) globals input)
-  begin_same globals input = record { top = begun_beside 0 []; below = tt; pushed = refl; globals = refl; compared = λ ab e. e; input = refl; events = refl; taken = refl; over = refl }
+  begin_same : (globals : Words) (input : List ℤ) →
+      Same R (first (begun 0 (code_in olds 0) []) globals input)
+      (first (begun 0 (code_in news 0) []) globals input)
+  begin_same globals input =
+      record {
+        top = begun_beside 0 [];
+        below = tt;
+        pushed = refl;
+        globals = refl;
+        compared =
+            λ ab e. e;
+        input = refl;
+        events = refl;
+        taken = refl;
+        over = refl;
+      }
 
 abbrev zeros : ℕ → Words
 zeros k = replicate k (Some (Num 0))
 
-moved_carries : (module_ : VModule) (news : List VProc) (to : ℕ → Places) (frames : List ℕ) (input : List ℤ) → length news ≡ length module_.procs →
-    ((p : ℕ) → IsMoved (to p) (code_in module_.procs p) (code_in news p)) → RunsWell module_ frames input → Carried (vrun module_ frames input) (vrun (record module_ { procs = news }) frames input)
+moved_carries : (module_ : VModule) (news : List VProc) (to : ℕ → Places) (frames : List ℕ)
+    (input : List ℤ) → length news ≡ length module_.procs →
+    ((p : ℕ) → IsMoved (to p) (code_in module_.procs p) (code_in news p)) →
+    RunsWell module_ frames input → Carried (vrun module_ frames input)
+    (vrun (record module_ { procs = news }) frames input)
 moved_carries module_ news to frames input long all well =
     let olds = module_.procs in
-    carried (step (selected olds frames)) view (step (selected news frames)) view Wrong 0 (λ s. 0) (Same (Beside olds news to)) (is_machine (selected olds frames)) (simulates olds news to frames long all)
-    (first (begun 0 (code_in olds 0) []) (zeros module_.data_words) input) (first (begun 0 (code_in news 0) []) (zeros module_.data_words) input) (begin_same olds news to frames long all (zeros module_.data_words) input) well
+    carried (step (selected olds frames)) view (step (selected news frames)) view Wrong 0 (λ s. 0)
+    (Same (Beside olds news to)) (is_machine (selected olds frames))
+    (simulates olds news to frames long all)
+    (first (begun 0 (code_in olds 0) []) (zeros module_.data_words) input)
+    (first (begun 0 (code_in news 0) []) (zeros module_.data_words) input)
+    (begin_same olds news to frames long all (zeros module_.data_words) input) well
 
 -- ---- one procedure in the place of another
 
@@ -249,49 +354,85 @@ stays_block : (b : Block) → b ≡ block_with (λ k. k) b
 stays_block b = ap (λ e. record b { end = e }) (sym (stays_end b.end))
 
 itself : (code : VProc) → IsMoved (λ b. b) code code
-itself code = record { aggregates = refl; vars = refl; some = λ e. e; entry = refl; first = stays_block (block_of code 0); blocks = λ b block e. e ∙ ap Some (stays_block block) }
+itself code = record {
+  aggregates = refl;
+  vars = refl;
+  some = λ e. e;
+  entry = refl;
+  first =
+      stays_block (block_of code 0);
+  blocks = λ b block e. e ∙ ap Some (stays_block block);
+}
 
 module _ (to from : Places) (old new : VProc) (is : Reordered to from old new) where
   some_block : nat_lt 0 (length old.blocks) ≡ true → nat_lt 0 (length new.blocks) ≡ true
   some_block e = ap (nat_lt 0) is.count ∙ e
 
-  first_block : (blocks : List Block) → old.blocks ≡ blocks → block_of new 0 ≡ block_with to (block_of old 0)
+  first_block : (blocks : List Block) → old.blocks ≡ blocks → block_of new 0 ≡
+      block_with to (block_of old 0)
   first_block [] e =
       let none : new.blocks ≡ [] = empty new.blocks (is.count ∙ ap (λ bs. length bs) e) in
-      ap (λ bs. block_in bs 0) none ∙ ap (λ k. record no_block { end = Jump (record { 0 = k }) }) (sym is.entry) ∙ ap (λ bs. block_with to (block_in bs 0)) (sym e)
+      ap (λ bs. block_in bs 0) none ∙ ap (λ k. record no_block { end = Jump (record { 0 = k }) })
+      (sym is.entry) ∙ ap (λ bs. block_with to (block_in bs 0)) (sym e)
     where
       empty : (bs : List Block) → length bs ≡ 0 → bs ≡ []
       empty [] d = refl
       empty (b ∷ bs) d = absurd (omega (arith, d))
   first_block (b ∷ bs) e =
       let there = is.blocks 0 b (ap (λ xs. slice_get xs 0) e) in
-      get_or_from_slice_get new.blocks 0 (block_with to b) no_block (ap (slice_get new.blocks) (sym is.entry) ∙ there)
+      get_or_from_slice_get new.blocks 0 (block_with to b) no_block
+      (ap (slice_get new.blocks) (sym is.entry) ∙ there)
       ∙ ap (block_with to) (sym (ap (λ xs. block_in xs 0) e))
 
   moved : IsMoved to old new
-  moved = record { aggregates = is.aggregates; vars = is.vars; some = some_block; entry = is.entry; first = first_block old.blocks refl; blocks = is.blocks }
+  moved = record {
+    aggregates = is.aggregates;
+    vars = is.vars;
+    some = some_block;
+    entry = is.entry;
+    first = first_block old.blocks refl;
+    blocks = is.blocks;
+  }
 
 abbrev only_at : ℕ → Places → ℕ → Places
 only_at p to q = if nat_eq q p then to else (λ b. b)
 
 pub same_runs : (to from : Places) (old new : VProc) → Reordered to from old new → SameRuns old new
-same_runs to from old new is = record { carried = carries; runs_well = λ module_ p frames input at well. carried_well module_ (with_proc module_ p new) frames input (carries module_ p frames input at well) well }
+same_runs to from old new is =
+    record {
+      carried = carries;
+      runs_well = λ module_ p frames input at well. carried_well module_
+          (with_proc module_ p new) frames input (carries module_ p frames input at well) well;
+    }
   where
-    all_moved : (olds : List VProc) (p : ℕ) → slice_get olds p ≡ Some old → (q : ℕ) → IsMoved (only_at p to q) (code_in olds q) (code_in (slice_set olds p new) q)
+    all_moved : (olds : List VProc) (p : ℕ) → slice_get olds p ≡ Some old → (q : ℕ) →
+        IsMoved (only_at p to q) (code_in olds q) (code_in (slice_set olds p new) q)
     all_moved olds p at q = by (cases_eq q p)
       where
-        by : (q ≡ p) ⊎ (q ≢ p) → IsMoved (only_at p to q) (code_in olds q) (code_in (slice_set olds p new) q)
+        by : (q ≡ p) ⊎ (q ≢ p) → IsMoved (only_at p to q) (code_in olds q)
+            (code_in (slice_set olds p new) q)
         by (inl same) =
             let test : nat_eq q p ≡ true = grind (arith, nat_tests) in
-            let one : code_in olds q ≡ old = ap (code_in olds) same ∙ get_or_from_slice_get olds p old no_proc at in
-            let two : code_in (slice_set olds p new) q ≡ new = ap (code_in (slice_set olds p new)) same ∙ get_or-set_same olds p new no_proc (slice_get_within olds p old at) in
-            subst (λ b. IsMoved (if b then to else (λ k. k)) (code_in olds q) (code_in (slice_set olds p new) q)) (sym test)
-            (subst (λ z. IsMoved to z (code_in (slice_set olds p new) q)) (sym one) (subst (λ z. IsMoved to old z) (sym two) (moved to from old new is)))
+            let one : code_in olds q ≡ old = ap (code_in olds) same
+            ∙ get_or_from_slice_get olds p old no_proc at in
+            let two : code_in (slice_set olds p new) q ≡ new =
+            ap (code_in (slice_set olds p new)) same ∙ get_or-set_same olds p new no_proc
+            (slice_get_within olds p old at) in
+            subst (λ b. IsMoved (if b then to else (λ k. k)) (code_in olds q)
+            (code_in (slice_set olds p new) q)) (sym test)
+            (subst (λ z. IsMoved to z (code_in (slice_set olds p new) q)) (sym one)
+            (subst (λ z. IsMoved to old z) (sym two) (moved to from old new is)))
         by (inr apart) =
             let test : nat_eq q p ≡ false = grind (arith, nat_tests) in
-            let same : code_in (slice_set olds p new) q ≡ code_in olds q = get_or-set_other olds p q new no_proc apart in
-            subst (λ b. IsMoved (if b then to else (λ k. k)) (code_in olds q) (code_in (slice_set olds p new) q)) (sym test)
+            let same : code_in (slice_set olds p new) q ≡ code_in olds q =
+            get_or-set_other olds p q new no_proc apart in
+            subst (λ b. IsMoved (if b then to else (λ k. k)) (code_in olds q)
+            (code_in (slice_set olds p new) q)) (sym test)
             (subst (λ z. IsMoved (λ k. k) (code_in olds q) z) (sym same) (itself (code_in olds q)))
 
-    carries : (module_ : VModule) (p : ℕ) (frames : List ℕ) (input : List ℤ) → slice_get module_.procs p ≡ Some old → RunsWell module_ frames input → Carried (vrun module_ frames input) (vrun (with_proc module_ p new) frames input)
-    carries module_ p frames input at well = moved_carries module_ (slice_set module_.procs p new) (only_at p to) frames input (length-set module_.procs p new) (all_moved module_.procs p at) well
+    carries : (module_ : VModule) (p : ℕ) (frames : List ℕ) (input : List ℤ) →
+        slice_get module_.procs p ≡ Some old → RunsWell module_ frames input →
+        Carried (vrun module_ frames input) (vrun (with_proc module_ p new) frames input)
+    carries module_ p frames input at well = moved_carries module_ (slice_set module_.procs p new)
+        (only_at p to) frames input (length-set module_.procs p new) (all_moved module_.procs p at)
+        well

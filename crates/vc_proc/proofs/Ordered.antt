@@ -1,5 +1,6 @@
 -- Code in the order of the text whose last block is left by Return.
-use Rattle.std.proofs.Common.{◌≡◌, ◌≢◌, ℕ, suc, ◌<◌, inl, inr, ⊎_elim, ◌⊎◌, List, length, Some, refl, sym, ap, ◌∙◌, subst, arith}
+use Rattle.std.proofs.Common.{◌≡◌, ◌≢◌, ℕ, suc, ◌<◌, inl, inr, ⊎_elim, ◌⊎◌, List, length, Some}
+use Rattle.std.proofs.Common.{refl, sym, ap, ◌∙◌, subst, arith}
 use Rattle.std.specs.Prelude.{slice_get, slice_index_or}
 use Rattle.std.proofs.Math.Seq.{map-set_same}
 use Rattle.std.proofs.lemmas.Bool.{cases_eq}
@@ -21,7 +22,8 @@ use Rattle.vc_build.specs.Grow.{count, stand_in, IsOpen, with_end}
 use Rattle.vc_build.specs.Text.{depth_at, AreInText}
 use Rattle.vc_expr.specs.Rules.{ClosesWell, KeepsRules}
 use Rattle.vc_expr.proofs.Finished.{is_valid}
-use Rattle.vc_order.specs.Order.{Places, block_with, Reordered, IsInOrder, IsListing, LeadOn, depths}
+use Rattle.vc_order.specs.Order.{Places, block_with, Reordered, IsInOrder, IsListing, LeadOn}
+use Rattle.vc_order.specs.Order.{depths}
 use Rattle.vc_order.proofs.Kept.{rules_kept, certificate_moves, completes}
 use Rattle.vc_order.proofs.Listings.{ahead}
 use Rattle.vc_order.proofs.Beside.{same_runs}
@@ -34,33 +36,52 @@ left_by_return block = record { depth = block.depth; code = block.code; end = Re
 same_count : (last : ℕ) (code : VProc) → count (with_end last Return code) ≡ count code
 same_count last code = length-set code.blocks last (left_by_return (block_of code last))
 
-same_size : (last : ℕ) (code : VProc) → last < count code → instruction_count (with_end last Return code).blocks ≡ instruction_count code.blocks
-same_size last code lt = omega (arith, sum_by-set (λ (b : Block). length b.code) code.blocks last (left_by_return (block_of code last)) no_block lt)
+same_size : (last : ℕ) (code : VProc) → last < count code →
+    instruction_count (with_end last Return code).blocks ≡ instruction_count code.blocks
+same_size last code lt =
+    omega (
+      arith,
+      sum_by-set (λ (b : Block). length b.code) code.blocks last
+          (left_by_return (block_of code last)) no_block lt,
+    )
 
-last_block : (last : ℕ) (code : VProc) → last < count code → block_of (with_end last Return code) last ≡ left_by_return (block_of code last)
-last_block last code lt = get_or-set_same code.blocks last (left_by_return (block_of code last)) no_block lt
+last_block : (last : ℕ) (code : VProc) → last < count code →
+    block_of (with_end last Return code) last ≡ left_by_return (block_of code last)
+last_block last code lt = get_or-set_same code.blocks last (left_by_return (block_of code last))
+    no_block lt
 
-other_block : (last b : ℕ) (code : VProc) → b ≢ last → block_of (with_end last Return code) b ≡ block_of code b
-other_block last b code d = get_or-set_other code.blocks last b (left_by_return (block_of code last)) no_block d
+other_block : (last b : ℕ) (code : VProc) → b ≢ last → block_of (with_end last Return code) b ≡
+    block_of code b
+other_block last b code d = get_or-set_other code.blocks last b
+    (left_by_return (block_of code last)) no_block d
 
-same_code : (last b : ℕ) (code : VProc) → last < count code → code_of (with_end last Return code) b ≡ code_of code b
+same_code : (last b : ℕ) (code : VProc) → last < count code →
+    code_of (with_end last Return code) b ≡ code_of code b
 same_code last b code lt =
     ⊎_elim
-    (λ (e : b ≡ last). ap (code_of (with_end last Return code)) e ∙ ap (λ (x : Block). x.code) (last_block last code lt) ∙ ap (code_of code) (sym e))
+    (λ (e : b ≡ last). ap (code_of (with_end last Return code)) e ∙ ap (λ (x : Block). x.code)
+    (last_block last code lt) ∙ ap (code_of code) (sym e))
     (λ (d : b ≢ last). ap (λ (x : Block). x.code) (other_block last b code d))
     (cases_eq b last)
 
-same_depth : (last b : ℕ) (code : VProc) → last < count code → (block_of (with_end last Return code) b).depth ≡ (block_of code b).depth
+same_depth : (last b : ℕ) (code : VProc) → last < count code →
+    (block_of (with_end last Return code) b).depth ≡ (block_of code b).depth
 same_depth last b code lt =
     ⊎_elim
-    (λ (e : b ≡ last). ap (λ n. (block_of (with_end last Return code) n).depth) e ∙ ap (λ (x : Block). x.depth) (last_block last code lt) ∙ ap (λ n. (block_of code n).depth) (sym e))
+    (λ (e : b ≡ last). ap (λ n. (block_of (with_end last Return code) n).depth) e
+    ∙ ap (λ (x : Block). x.depth) (last_block last code lt) ∙ ap (λ n. (block_of code n).depth)
+    (sym e))
     (λ (d : b ≢ last). ap (λ (x : Block). x.depth) (other_block last b code d))
     (cases_eq b last)
 
 -- from rules that are kept, whatever block is left by Return
-module _ (counts : List ℕ) (last : ℕ) (code : VProc) (lt : last < count code) (rules : KeepsRules counts code) where
-  by : (b t : ℕ) → b < count code → IsTarget (end_of code b) t → ((block_of code b).end ≡ stand_in) ⊎ ClosesWell (count code) (block_of code b) → t < count code
-  by b t below target (inl e) = let entry : 0 ≡ t = subst (λ x. IsTarget x t) e target in omega (arith, below, entry)
+module _ (counts : List ℕ) (last : ℕ) (code : VProc) (lt : last < count code)
+    (rules : KeepsRules counts code) where
+  by : (b t : ℕ) → b < count code → IsTarget (end_of code b) t →
+      ((block_of code b).end ≡ stand_in) ⊎ ClosesWell (count code) (block_of code b) →
+      t < count code
+  by b t below target (inl e) = let entry : 0 ≡ t = subst (λ x. IsTarget x t) e target in
+      omega (arith, below, entry)
   by b t below target (inr w) = (w.targets t target).1
 
   targets_within : (b t : ℕ) → b < count code → IsTarget (end_of code b) t → t < count code
@@ -68,22 +89,29 @@ module _ (counts : List ℕ) (last : ℕ) (code : VProc) (lt : last < count code
 
   keeps_on : KeepsOn counts (with_end last Return code)
   keeps_on = record {
-    obeys = λ b k i e. rules.obeys b k i (ap (λ (is : List VInstr). slice_get is k) (sym (same_code last b code lt)) ∙ e);
-    pushes = λ b. subst (PushesLead (TakesArgs counts) 0) (sym (same_code last b code lt)) (rules.pushes_before_calls b);
+    obeys = λ b k i e. rules.obeys b k i
+        (ap (λ (is : List VInstr). slice_get is k) (sym (same_code last b code lt)) ∙ e);
+    pushes = λ b. subst (PushesLead (TakesArgs counts) 0) (sym (same_code last b code lt))
+        (rules.pushes_before_calls b);
     targets = λ b t l target.
         ⊎_elim
         (λ (e : b ≡ last).
-        let end : end_of (with_end last Return code) b ≡ Return = ap (end_of (with_end last Return code)) e ∙ ap (λ (x : Block). x.end) (last_block last code lt) in
+        let end : end_of (with_end last Return code) b ≡ Return =
+        ap (end_of (with_end last Return code)) e ∙ ap (λ (x : Block). x.end)
+        (last_block last code lt) in
         absurd (subst (λ x. IsTarget x t) end target))
         (λ (d : b ≢ last).
-        let end : end_of (with_end last Return code) b ≡ end_of code b = ap (λ (x : Block). x.end) (other_block last b code d) in
+        let end : end_of (with_end last Return code) b ≡ end_of code b =
+        ap (λ (x : Block). x.end) (other_block last b code d) in
         let below : b < count code = omega (arith, l, same_count last code) in
-        let there : t < count code = by b t below (subst (λ x. IsTarget x t) end target) (rules.ends b below) in
+        let there : t < count code = by b t below (subst (λ x. IsTarget x t) end target)
+        (rules.ends b below) in
         omega (arith, there, same_count last code))
         (cases_eq b last);
   }
 
-module _ (to from : Places) (old mid : VProc) (last : ℕ) (is : Reordered to from old mid) (o : IsOpen old last) (last_is : suc (to last) ≡ count old) where
+module _ (to from : Places) (old mid : VProc) (last : ℕ) (is : Reordered to from old mid)
+    (o : IsOpen old last) (last_is : suc (to last) ≡ count old) where
   abbrev made : VProc
   made = with_end last Return old
 
@@ -91,10 +119,12 @@ module _ (to from : Places) (old mid : VProc) (last : ℕ) (is : Reordered to fr
   new = with_end (to last) Return mid
 
   within : to last < count mid
-  within = let long : length mid.blocks ≡ length old.blocks = is.count in omega (arith, last_is, long)
+  within = let long : length mid.blocks ≡ length old.blocks = is.count in
+      omega (arith, last_is, long)
 
   last_there : block_of mid (to last) ≡ block_with to (block_of old last)
-  last_there = get_or_from_slice_get mid.blocks (to last) (block_with to (block_of old last)) no_block (is.blocks last (block_of old last) (slice_get-get_or old.blocks last no_block o.0))
+  last_there = get_or_from_slice_get mid.blocks (to last) (block_with to (block_of old last))
+      no_block (is.blocks last (block_of old last) (slice_get-get_or old.blocks last no_block o.0))
 
   ends_reordered : Reordered to from made new
   ends_reordered = record {
@@ -107,32 +137,42 @@ module _ (to from : Places) (old mid : VProc) (last : ℕ) (is : Reordered to fr
     blocks = λ b block e. by b block e (cases_eq b last);
     back = λ b lt. is.back b (omega (arith, lt, same_count last old));
     forth = λ c lt. is.forth c (omega (arith, lt, same_count last old));
-    within = λ c lt. let low = is.within c (omega (arith, lt, same_count last old)) in omega (arith, low, same_count last old);
+    within = λ c lt. let low = is.within c (omega (arith, lt, same_count last old)) in
+        omega (arith, low, same_count last old);
     instructions = same_size (to last) mid within ∙ is.instructions ∙ sym (same_size last old o.0);
   }
     where
-      by : (b : ℕ) (block : Block) → slice_get made.blocks b ≡ Some block → (b ≡ last) ⊎ (b ≢ last) → slice_get new.blocks (to b) ≡ Some (block_with to block)
+      by : (b : ℕ) (block : Block) → slice_get made.blocks b ≡ Some block → (b ≡ last) ⊎
+          (b ≢ last) → slice_get new.blocks (to b) ≡ Some (block_with to block)
       by b block e (inl same) =
-          let there : slice_get made.blocks b ≡ Some (left_by_return (block_of old last)) = ap (slice_get made.blocks) same ∙ got_set old.blocks last (left_by_return (block_of old last)) o.0 in
-          let block_is : left_by_return (block_of old last) ≡ block = some_same (left_by_return (block_of old last)) block (sym there ∙ e) in
+          let there : slice_get made.blocks b ≡ Some (left_by_return (block_of old last)) =
+          ap (slice_get made.blocks) same ∙ got_set old.blocks last
+          (left_by_return (block_of old last)) o.0 in
+          let block_is : left_by_return (block_of old last) ≡ block =
+          some_same (left_by_return (block_of old last)) block (sym there ∙ e) in
           ap (λ n. slice_get new.blocks (to n)) same
           ∙ got_set mid.blocks (to last) (left_by_return (block_of mid (to last))) within
           ∙ ap (λ z. Some (left_by_return z)) last_there
           ∙ ap (λ z. Some (block_with to z)) block_is
       by b block e (inr apart) =
-          let there : slice_get old.blocks b ≡ Some block = sym (got_unset old.blocks last b (left_by_return (block_of old last)) apart) ∙ e in
+          let there : slice_get old.blocks b ≡ Some block =
+          sym (got_unset old.blocks last b (left_by_return (block_of old last)) apart) ∙ e in
           let lt = slice_get_within old.blocks b block there in
-          got_unset mid.blocks (to last) (to b) (left_by_return (block_of mid (to last))) (λ d. apart (sym (is.back b lt) ∙ ap from d ∙ is.back last o.0))
+          got_unset mid.blocks (to last) (to b) (left_by_return (block_of mid (to last)))
+          (λ d. apart (sym (is.back b lt) ∙ ap from d ∙ is.back last o.0))
           ∙ is.blocks b block there
 
   from_entry : from 0 ≡ 0
   from_entry = ap from (sym is.entry) ∙ is.back 0 (omega (arith, o.0))
 
   depths_stay : depths new ≡ depths mid
-  depths_stay = map-set_same (λ (b : Block). b.depth) mid.blocks (to last) (left_by_return (block_of mid (to last))) no_block refl
+  depths_stay = map-set_same (λ (b : Block). b.depth) mid.blocks (to last)
+      (left_by_return (block_of mid (to last))) no_block refl
 
   -- where the blocks lead
-  module _ (ids : List BlockId) (order : IsInOrder old ids mid) (same_to : order.to ≡ to) (same_from : order.from ≡ from) (listing : IsListing (count old) ids) (text : AreInText old ids last)
+  module _ (ids : List BlockId) (order : IsInOrder old ids mid) (same_to : order.to ≡ to)
+      (same_from : order.from ≡ from) (listing : IsListing (count old) ids)
+      (text : AreInText old ids last)
       (closed : (b : ℕ) → b < count old → b ≢ last → end_of old b ≢ stand_in) where
     new_count : count new ≡ count old
     new_count = same_count (to last) mid ∙ is.count
@@ -140,15 +180,24 @@ module _ (to from : Places) (old mid : VProc) (last : ℕ) (is : Reordered to fr
     lead_on : (counts : List ℕ) → KeepsRules counts old → LeadOn new
     lead_on counts rules c t lt target = ⊎_elim
         (λ (e : c ≡ to last).
-        let end : end_of new c ≡ Return = ap (end_of new) e ∙ ap (λ (x : Block). x.end) (last_block (to last) mid within) in
+        let end : end_of new c ≡ Return = ap (end_of new) e ∙ ap (λ (x : Block). x.end)
+        (last_block (to last) mid within) in
         absurd (subst (λ x. IsTarget x t) end target))
         (λ (d : c ≢ to last).
-        let end : end_of new c ≡ end_of mid c = ap (λ (x : Block). x.end) (other_block (to last) c mid d) in
+        let end : end_of new c ≡ end_of mid c =
+        ap (λ (x : Block). x.end) (other_block (to last) c mid d) in
         let l : c < count old = omega (arith, lt, new_count) in
-        let other : order.from c ≢ last = λ e. d (sym (is.forth c l) ∙ ap to (sym (ap (λ (f : Places). f c) same_from) ∙ e)) in
+        let other : order.from c ≢ last =
+        λ e. d (sym (is.forth c l) ∙ ap to (sym (ap (λ (f : Places). f c) same_from) ∙ e)) in
         ⊎_elim (λ (z : c < t). inl z)
-        (λ (z : (0 < depth_at mid t) × (depth_at mid c ≡ depth_at mid t)). inr (omega (arith, z.0, same_depth (to last) t mid within), same_depth (to last) c mid within ∙ z.1 ∙ sym (same_depth (to last) t mid within)))
-        (ahead old mid ids last c t order listing text l (λ b u below goes. targets_within counts last old o.0 rules b u below goes) (closed (order.from c) (order.reordered.within c l) other) (subst (λ x. IsTarget x t) end target)))
+        (λ (z : (0 < depth_at mid t) × (depth_at mid c ≡ depth_at mid t)). inr (
+          omega (arith, z.0, same_depth (to last) t mid within),
+          same_depth (to last) c mid within ∙ z.1 ∙ sym (same_depth (to last) t mid within),
+        ))
+        (ahead old mid ids last c t order listing text l
+        (λ b u below goes. targets_within counts last old o.0 rules b u below goes)
+        (closed (order.from c) (order.reordered.within c l) other)
+        (subst (λ x. IsTarget x t) end target)))
         (cases_eq c (to last))
 
     -- what is left by Return at its new place
@@ -163,7 +212,8 @@ module _ (to from : Places) (old mid : VProc) (last : ℕ) (is : Reordered to fr
       instructions = same_size (to last) mid within ∙ is.instructions;
       depths = depths_stay ∙ order.depths;
       leads = lead_on;
-      keeps = λ counts rules. keeps_on counts (to last) mid within (rules_kept to from old mid is counts rules);
+      keeps = λ counts rules. keeps_on counts (to last) mid within
+          (rules_kept to from old mid is counts rules);
       valid = λ counts known rules certifies apart entry.
           is_valid counts (λ b v. known (from b) v) mid (to last)
           (rules_kept to from old mid is counts rules)

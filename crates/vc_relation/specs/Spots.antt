@@ -1,6 +1,7 @@
 -- Where each location is while a module runs: in a variable of a live call, or in a word of an
 -- object. It follows from the live calls and the frames of their procedures alone.
-use Rattle.std.specs.Prelude.{ℕ, suc, ◌+◌, ◌<◌, ⊤, nat_eq, if◌then◌else◌, List, [], ◌∷◌, length, Option}
+use Rattle.std.specs.Prelude.{ℕ, suc, ◌+◌, ◌<◌, ⊤, nat_eq, if◌then◌else◌, List, [], ◌∷◌, length}
+use Rattle.std.specs.Prelude.{Option}
 use Rattle.std.specs.Prelude.{Some, None, slice_get}
 use Rattle.pra_list.specs.Options.{◌>>=◌}
 use Rattle.ob_syntax.specs.declared.checked.Checked.{Checked}

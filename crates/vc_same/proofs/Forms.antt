@@ -1,4 +1,5 @@
--- Which form an instruction has under other names, and what the rules on lists of instructions make of it.
+-- Which form an instruction has under other names, and what the rules on lists of instructions make
+-- of it.
 use Rattle.std.proofs.Common.{◌≡◌, ℕ, zero, suc, ℤ, true, false, List, ◌∷◌, refl}
 use Rattle.std.specs.Prelude.{option_and_then}
 use Rattle.pra_base.specs.declared.ids.VarId.{VarId}
@@ -13,7 +14,8 @@ use Rattle.vc_same.specs.Pure.{is_pure}
 use Rattle.vc_same.specs.Renaming.{Names, var, base_of, renamed}
 
 module _ (to : Names) where
-  pub from_check : (x : VInstr) (v : VarId) (n : ℤ) → renamed to x ≡ instr.Check v n → (w : VarId) × (x ≡ instr.Check w n)
+  pub from_check : (x : VInstr) (v : VarId) (n : ℤ) → renamed to x ≡ instr.Check v n → (w : VarId) ×
+      (x ≡ instr.Check w n)
   from_check (instr.Set v' n') v n e = cc
   from_check (instr.Copy v' s') v n e = cc
   from_check (instr.Add v' s') v n e = cc
@@ -38,7 +40,8 @@ module _ (to : Names) where
   from_check instr.Line v n e = cc
   from_check instr.Clear v n e = cc
 
-  pub from_cmp : (x : VInstr) (a b : VarId) → renamed to x ≡ instr.Cmp a b → (c d : VarId) × (x ≡ instr.Cmp c d)
+  pub from_cmp : (x : VInstr) (a b : VarId) → renamed to x ≡ instr.Cmp a b → (c d : VarId) ×
+      (x ≡ instr.Cmp c d)
   from_cmp (instr.Set v' n') a b e = cc
   from_cmp (instr.Copy v' s') a b e = cc
   from_cmp (instr.Add v' s') a b e = cc
@@ -63,7 +66,8 @@ module _ (to : Names) where
   from_cmp instr.Line a b e = cc
   from_cmp instr.Clear a b e = cc
 
-  pub from_copy : (x : VInstr) (t s : VarId) → renamed to x ≡ instr.Copy t s → (v w : VarId) × (x ≡ instr.Copy v w) × (t ≡ var to v) × (s ≡ var to w)
+  pub from_copy : (x : VInstr) (t s : VarId) → renamed to x ≡ instr.Copy t s → (v w : VarId) ×
+      (x ≡ instr.Copy v w) × (t ≡ var to v) × (s ≡ var to w)
   from_copy (instr.Set v' n') t s e = cc
   from_copy (instr.Copy v' s') t s e = (v', s', refl, cc, cc)
   from_copy (instr.Add v' s') t s e = cc
@@ -88,7 +92,9 @@ module _ (to : Names) where
   from_copy instr.Line t s e = cc
   from_copy instr.Clear t s e = cc
 
-  pub from_division : (x : VInstr) (q r a d : VarId) → renamed to x ≡ instr.DivMod q r a d → (u v w z : VarId) × (x ≡ instr.DivMod u v w z) × (q ≡ var to u) × (r ≡ var to v) × (a ≡ var to w) × (d ≡ var to z)
+  pub from_division : (x : VInstr) (q r a d : VarId) → renamed to x ≡ instr.DivMod q r a d →
+      (u v w z : VarId) × (x ≡ instr.DivMod u v w z) × (q ≡ var to u) × (r ≡ var to v) ×
+      (a ≡ var to w) × (d ≡ var to z)
   from_division (instr.Set v' n') q r a d e = cc
   from_division (instr.Copy v' s') q r a d e = cc
   from_division (instr.Add v' s') q r a d e = cc
@@ -144,7 +150,8 @@ module _ (to : Names) where
   cell_same (base.Frame n) = refl
   cell_same (base.Cell n) = refl
 
-  pub cell_renamed : (x : VInstr) → option_and_then (λ (a : Addr). cell_of a.base) (address_of (renamed to x)) ≡ option_and_then (λ (a : Addr). cell_of a.base) (address_of x)
+  pub cell_renamed : (x : VInstr) → option_and_then (λ (a : Addr). cell_of a.base)
+      (address_of (renamed to x)) ≡ option_and_then (λ (a : Addr). cell_of a.base) (address_of x)
   cell_renamed (instr.Set v' n') = refl
   cell_renamed (instr.Copy v' s') = refl
   cell_renamed (instr.Add v' s') = refl
@@ -170,7 +177,9 @@ module _ (to : Names) where
   cell_renamed instr.Clear = refl
 
   -- a renamed instruction leads as it did, if the rest does
-  pub lead_renamed : (T : ℕ → ℕ → Type 0) (n : ℕ) (x : VInstr) (xs ys : List VInstr) → ((k : ℕ) → PushesLead T k xs → PushesLead T k ys) → PushesLead T n (x ∷ xs) → PushesLead T n (renamed to x ∷ ys)
+  pub lead_renamed : (T : ℕ → ℕ → Type 0) (n : ℕ) (x : VInstr) (xs ys : List VInstr) →
+      ((k : ℕ) → PushesLead T k xs → PushesLead T k ys) → PushesLead T n (x ∷ xs) →
+      PushesLead T n (renamed to x ∷ ys)
   lead_renamed T n (instr.Set v' n') xs ys f k = (k.0, f zero k.1)
   lead_renamed T n (instr.Copy v' s') xs ys f k = (k.0, f zero k.1)
   lead_renamed T n (instr.Add v' s') xs ys f k = (k.0, f zero k.1)
@@ -199,7 +208,8 @@ not_so : false ≡ true → ⊥
 not_so e = cc
 
 -- no Push and no Call is pure
-pub lead_pure : (T : ℕ → ℕ → Type 0) (n : ℕ) (x : VInstr) (xs : List VInstr) → is_pure x ≡ true → PushesLead T n (x ∷ xs) → (n ≡ 0) × PushesLead T 0 xs
+pub lead_pure : (T : ℕ → ℕ → Type 0) (n : ℕ) (x : VInstr) (xs : List VInstr) → is_pure x ≡ true →
+    PushesLead T n (x ∷ xs) → (n ≡ 0) × PushesLead T 0 xs
 lead_pure T n (instr.Set v' n') xs e k = k
 lead_pure T n (instr.Copy v' s') xs e k = k
 lead_pure T n (instr.Add v' s') xs e k = k

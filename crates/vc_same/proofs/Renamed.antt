@@ -1,6 +1,8 @@
 -- What other names do to the operands of an instruction, and that they do nothing to its action.
-use Rattle.std.proofs.Common.{◌≡◌, ℕ, ◌+◌, ◌*◌, ◌%◌, ◌^◌, true, List, [], ◌∷◌, ◌++◌, map, Option, Some, None, refl, sym, ap, ap₂, subst, ◌∙◌}
-use Rattle.pra_base.proofs.Roles.{roles_among, among_roles, reads_among, among_reads, writes_among, among_writes}
+use Rattle.std.proofs.Common.{◌≡◌, ℕ, ◌+◌, ◌*◌, ◌%◌, ◌^◌, true, List, [], ◌∷◌, ◌++◌, map, Option}
+use Rattle.std.proofs.Common.{Some, None, refl, sym, ap, ap₂, subst, ◌∙◌}
+use Rattle.pra_base.proofs.Roles.{roles_among, among_roles, reads_among, among_reads, writes_among}
+use Rattle.pra_base.proofs.Roles.{among_writes}
 use Rattle.pra_list.specs.Among.{Among}
 use Rattle.pra_list.specs.Options.{◌>>=◌}
 use Rattle.pra_list.proofs.Among.{in_map, of_map}
@@ -11,14 +13,16 @@ use Rattle.pra_base.specs.declared.code.Addr.{Addr}
 use Rattle.pra_base.specs.declared.code.VInstr.{VInstr}
 use Rattle.pra_base.specs.declared.code.VInstr.TheVariants as instr
 use Rattle.pra_base.specs.Words.{word}
-use Rattle.pra_base.specs.Operands.{Role, table, reads, writes, only_writes, read_by, written_by, var_of, via, index, role, R, K}
+use Rattle.pra_base.specs.Operands.{Role, table, reads, writes, only_writes, read_by, written_by}
+use Rattle.pra_base.specs.Operands.{var_of, via, index, role, R, K}
 use Rattle.pra_base.specs.Places.{◌∪◌}
 use Rattle.vc_code.specs.declared.value.Object.{Object}
 use Rattle.vc_code.specs.declared.value.Value.TheVariants.{At}
 use Rattle.vc_code.specs.declared.action.Here.{Here}
 use Rattle.vc_code.specs.declared.action.Action.TheVariants as action
 use Rattle.vc_code.specs.Value.{Held}
-use Rattle.vc_code.specs.Operation.{operate, placed, based, indexed, base_count, index_count, number_at}
+use Rattle.vc_code.specs.Operation.{operate, placed, based, indexed, base_count, index_count}
+use Rattle.vc_code.specs.Operation.{number_at}
 use Rattle.vc_same.specs.Renaming.{Names, var, base_of, index_of, address, renamed}
 
 -- ---- the tests of the table
@@ -26,8 +30,10 @@ use Rattle.vc_same.specs.Renaming.{Names, var, base_of, index_of, address, renam
 -- ---- the operands
 
 module _ (to : Names) where
-  address_names : (b : Base) (o : Option VarId) (xs ys : List Role) → map var_of ys ≡ map to (map var_of xs) →
-      map var_of ((via (base_of to b) ++ index (index_of to o)) ++ ys) ≡ map to (map var_of ((via b ++ index o) ++ xs))
+  address_names : (b : Base) (o : Option VarId) (xs ys : List Role) → map var_of ys ≡
+      map to (map var_of xs) →
+      map var_of ((via (base_of to b) ++ index (index_of to o)) ++ ys) ≡
+      map to (map var_of ((via b ++ index o) ++ xs))
   address_names (base.Via v) (Some w) xs ys e = ap (λ (l : List ℕ). to v.0 ∷ to w.0 ∷ l) e
   address_names (base.Via v) None xs ys e = ap (λ (l : List ℕ). to v.0 ∷ l) e
   address_names (base.Global n) (Some w) xs ys e = ap (λ (l : List ℕ). to w.0 ∷ l) e
@@ -37,7 +43,8 @@ module _ (to : Names) where
   address_names (base.Cell n) (Some w) xs ys e = ap (λ (l : List ℕ). to w.0 ∷ l) e
   address_names (base.Cell n) None xs ys e = e
 
-  alone : (b : Base) (o : Option VarId) → map var_of (via (base_of to b) ++ index (index_of to o)) ≡ map to (map var_of (via b ++ index o))
+  alone : (b : Base) (o : Option VarId) → map var_of (via (base_of to b) ++ index (index_of to o)) ≡
+      map to (map var_of (via b ++ index o))
   alone (base.Via v) (Some w) = refl
   alone (base.Via v) None = refl
   alone (base.Global n) (Some w) = refl
@@ -63,7 +70,8 @@ module _ (to : Names) where
   read_by_renamed (instr.Check v n) = refl
   read_by_renamed (instr.CheckPos v) = refl
   read_by_renamed (instr.Load v a) = alone a.base a.index
-  read_by_renamed (instr.Store a s) = address_names a.base a.index (role s (R ∪ K) ∷ []) (role (var to s) (R ∪ K) ∷ []) refl
+  read_by_renamed (instr.Store a s) = address_names a.base a.index (role s (R ∪ K) ∷ [])
+      (role (var to s) (R ∪ K) ∷ []) refl
   read_by_renamed (instr.Addr v a) = alone a.base a.index
   read_by_renamed (instr.Push s) = refl
   read_by_renamed (instr.Call p) = refl
@@ -97,7 +105,8 @@ module _ (to : Names) where
   written_by_renamed instr.Line = refl
   written_by_renamed instr.Clear = refl
 
-  pub only_written_renamed : (i : VInstr) → map var_of (table (renamed to i)).writes ≡ map to (map var_of (table i).writes)
+  pub only_written_renamed : (i : VInstr) → map var_of (table (renamed to i)).writes ≡
+      map to (map var_of (table i).writes)
   only_written_renamed (instr.Set v n) = refl
   only_written_renamed (instr.Copy v s) = refl
   only_written_renamed (instr.Add v s) = refl
@@ -123,20 +132,36 @@ module _ (to : Names) where
   only_written_renamed instr.Clear = refl
 
   pub reads_renamed : (i : VInstr) (v : ℕ) → reads i v ≡ true → reads (renamed to i) (to v) ≡ true
-  reads_renamed i v e = among_reads (renamed to i) (to v) (subst (λ l. Among (to v) l) (sym (read_by_renamed i)) (in_map to (read_by i) v (reads_among i v e)))
+  reads_renamed i v e = among_reads (renamed to i) (to v)
+      (subst (λ l. Among (to v) l) (sym (read_by_renamed i))
+      (in_map to (read_by i) v (reads_among i v e)))
 
-  pub writes_renamed : (i : VInstr) (v : ℕ) → writes i v ≡ true → writes (renamed to i) (to v) ≡ true
-  writes_renamed i v e = among_writes (renamed to i) (to v) (subst (λ l. Among (to v) l) (sym (written_by_renamed i)) (in_map to (written_by i) v (writes_among i v e)))
+  pub writes_renamed : (i : VInstr) (v : ℕ) → writes i v ≡ true → writes (renamed to i) (to v) ≡
+      true
+  writes_renamed i v e = among_writes (renamed to i) (to v)
+      (subst (λ l. Among (to v) l) (sym (written_by_renamed i))
+      (in_map to (written_by i) v (writes_among i v e)))
 
   -- a variable of the renamed instruction is the new name of one of the instruction
-  pub reads_from : (i : VInstr) (w : ℕ) → reads (renamed to i) w ≡ true → (v : ℕ) × (reads i v ≡ true) × (w ≡ to v)
-  reads_from i w e = let m = of_map to (read_by i) w (subst (λ l. Among w l) (read_by_renamed i) (reads_among (renamed to i) w e)) in (m.0, among_reads i m.0 m.1, m.2)
+  pub reads_from : (i : VInstr) (w : ℕ) → reads (renamed to i) w ≡ true → (v : ℕ) ×
+      (reads i v ≡ true) × (w ≡ to v)
+  reads_from i w e = let m =
+      of_map to (read_by i) w (subst (λ l. Among w l) (read_by_renamed i)
+      (reads_among (renamed to i) w e)) in (m.0, among_reads i m.0 m.1, m.2)
 
-  pub writes_from : (i : VInstr) (w : ℕ) → writes (renamed to i) w ≡ true → (v : ℕ) × (writes i v ≡ true) × (w ≡ to v)
-  writes_from i w e = let m = of_map to (written_by i) w (subst (λ l. Among w l) (written_by_renamed i) (writes_among (renamed to i) w e)) in (m.0, among_writes i m.0 m.1, m.2)
+  pub writes_from : (i : VInstr) (w : ℕ) → writes (renamed to i) w ≡ true → (v : ℕ) ×
+      (writes i v ≡ true) × (w ≡ to v)
+  writes_from i w e = let m =
+      of_map to (written_by i) w
+      (subst (λ l. Among w l) (written_by_renamed i) (writes_among (renamed to i) w e)) in
+      (m.0, among_writes i m.0 m.1, m.2)
 
-  pub only_writes_from : (i : VInstr) (w : ℕ) → only_writes (renamed to i) w ≡ true → (v : ℕ) × (only_writes i v ≡ true) × (w ≡ to v)
-  only_writes_from i w e = let m = of_map to (map var_of (table i).writes) w (subst (λ l. Among w l) (only_written_renamed i) (roles_among (table (renamed to i)).writes w e)) in (m.0, among_roles (table i).writes m.0 m.1, m.2)
+  pub only_writes_from : (i : VInstr) (w : ℕ) → only_writes (renamed to i) w ≡ true → (v : ℕ) ×
+      (only_writes i v ≡ true) × (w ≡ to v)
+  only_writes_from i w e = let m = of_map to (map var_of (table i).writes) w
+      (subst (λ l. Among w l) (only_written_renamed i)
+      (roles_among (table (renamed to i)).writes w e)) in
+      (m.0, among_roles (table i).writes m.0 m.1, m.2)
 
   -- ---- the action
 
@@ -163,9 +188,11 @@ module _ (to : Names) where
 
     placed_same : (a : Addr) → placed here (address to a) held ≡ placed here a held
     placed_same a =
-        ap₂ (λ (s : Option (Object × ℕ)) (i : Option ℕ). s >>= (λ start. i >>= (λ n. Some (start.0, (start.1 + word a.offset + 4 * n) % 2 ^ 32))))
+        ap₂ (λ (s : Option (Object × ℕ)) (i : Option ℕ). s >>=
+        (λ start. i >>= (λ n. Some (start.0, (start.1 + word a.offset + 4 * n) % 2 ^ 32))))
         (based_same a.base)
-        (indexed_same a.index (base_count (base_of to a.base)) ∙ ap (λ k. indexed a.index held k) (count_same a.base))
+        (indexed_same a.index (base_count (base_of to a.base)) ∙ ap (λ k. indexed a.index held k)
+        (count_same a.base))
 
     pub operate_renamed : (i : VInstr) → operate here (renamed to i) held ≡ operate here i held
     operate_renamed (instr.Set v n) = refl
@@ -182,10 +209,15 @@ module _ (to : Names) where
     operate_renamed (instr.DivMod q r a d) = refl
     operate_renamed (instr.Check v n) = refl
     operate_renamed (instr.CheckPos v) = refl
-    operate_renamed (instr.Load v a) = ap (λ (o : Option (Object × ℕ)). o >>= (λ at. Some (action.Load at.0 at.1))) (placed_same a)
+    operate_renamed (instr.Load v a) =
+        ap (λ (o : Option (Object × ℕ)). o >>= (λ at. Some (action.Load at.0 at.1))) (placed_same a)
     operate_renamed (instr.Store a s) =
-        ap₂ (λ (o : Option (Object × ℕ)) (k : ℕ). o >>= (λ at. number_at held k >>= (λ n. Some (action.Store at.0 at.1 n)))) (placed_same a) (ap₂ (λ x y. x + y) (count_same a.base) (index_same a.index))
-    operate_renamed (instr.Addr v a) = ap (λ (o : Option (Object × ℕ)). o >>= (λ at. Some (action.Give (At at.0 at.1)))) (placed_same a)
+        ap₂ (λ (o : Option (Object × ℕ)) (k : ℕ). o >>=
+        (λ at. number_at held k >>= (λ n. Some (action.Store at.0 at.1 n)))) (placed_same a)
+        (ap₂ (λ x y. x + y) (count_same a.base) (index_same a.index))
+    operate_renamed (instr.Addr v a) =
+        ap (λ (o : Option (Object × ℕ)). o >>= (λ at. Some (action.Give (At at.0 at.1))))
+        (placed_same a)
     operate_renamed (instr.Push s) = refl
     operate_renamed (instr.Call p) = refl
     operate_renamed (instr.Read v) = refl
@@ -205,7 +237,8 @@ same_index (Some v) = refl
 same_index None = refl
 
 same_address : (a : Addr) → address (λ v. v) a ≡ a
-same_address a = ap₂ (λ (b : Base) (o : Option VarId). record { base = b; offset = a.offset; index = o }) (same_base a.base) (same_index a.index)
+same_address a = ap₂ (λ (b : Base) (o : Option VarId). record
+    { base = b; offset = a.offset; index = o }) (same_base a.base) (same_index a.index)
 
 pub same_names : (i : VInstr) → renamed (λ v. v) i ≡ i
 same_names (instr.Set v n) = refl

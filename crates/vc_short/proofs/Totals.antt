@@ -8,7 +8,8 @@ abbrev pub added : List ℕ → ℕ
 added [] = 0
 added (n ∷ ns) = n + added ns
 
-pub added_append : {A : Type 0} (f : A → ℕ) (xs ys : List A) → added (map f (xs ++ ys)) ≡ added (map f xs) + added (map f ys)
+pub added_append : {A : Type 0} (f : A → ℕ) (xs ys : List A) → added (map f (xs ++ ys)) ≡
+    added (map f xs) + added (map f ys)
 added_append f [] ys = omega arith
 added_append f (x ∷ xs) ys = let rest = added_append f xs ys in omega (arith, rest)
 

@@ -1,6 +1,7 @@
 -- Blocks that are opened before control comes to them may read homes at their begin, and a jump
 -- leads there: code keeps the rules and a certificate.
-use Rattle.std.proofs.Common.{◌≡◌, ◌≢◌, ℕ, zero, suc, ◌<◌, ◌≤◌, Bool, true, false, List, [], ◌∷◌, length, Some, inl, inr, ⊎_elim, refl, sym, ap, ◌∙◌, subst, arith}
+use Rattle.std.proofs.Common.{◌≡◌, ◌≢◌, ℕ, zero, suc, ◌<◌, ◌≤◌, Bool, true, false, List, [], ◌∷◌}
+use Rattle.std.proofs.Common.{length, Some, inl, inr, ⊎_elim, refl, sym, ap, ◌∙◌, subst, arith}
 use Rattle.std.specs.Prelude.{◌||◌, nat_eq, slice_get, slice_index_or}
 use Rattle.std.proofs.lemmas.Bool.Decides.{nat_tests}
 use Rattle.pra_list.proofs.Truths.{or_cases}
@@ -27,7 +28,8 @@ use Rattle.vc_select.specs.declared.target.Setting.{Setting}
 use Rattle.vc_select.specs.Targets.{above_setting}
 use Rattle.vc_select.specs.Certified.{AddsNoParam, IsHome, IsReady, IsContinued, Awaits, Closes}
 use Rattle.vc_select.proofs.Ready.{home_below, cell_stays, ready_on}
-use Rattle.vc_select.proofs.ReadyTests.{with_entries, entries_before, entries_from, or_second, usable_empty, waits, closes}
+use Rattle.vc_select.proofs.ReadyTests.{with_entries, entries_before, entries_from, or_second}
+use Rattle.vc_select.proofs.ReadyTests.{usable_empty, waits, closes}
 use Rattle.vc_stmt.specs.Blocks.{deeper, with_arm, with_loop}
 use Rattle.vc_stmt.specs.Ready.{ReadsHomes}
 use Rattle.vc_stmt.proofs.Waiting.{open_beside}
@@ -56,51 +58,64 @@ at_is (home.Var u) v e = ap (λ n. home.Var (record { 0 = n })) (is_that u.0 v e
 at_is (home.Cell k) v e = absurd (cc)
 at_is (home.Frame k) v e = absurd (cc)
 
-found_home : (homes : List Home) (v : ℕ) → any_at homes v ≡ true → (k : ℕ) × (slice_get homes k ≡ Some (home.Var (record { 0 = v })))
+found_home : (homes : List Home) (v : ℕ) → any_at homes v ≡ true → (k : ℕ) ×
+    (slice_get homes k ≡ Some (home.Var (record { 0 = v })))
 found_home [] v e = absurd (cc)
 found_home (h ∷ hs) v e = ⊎_elim
     (λ (x : is_at h v ≡ true). (0, ap Some (at_is h v x)))
     (λ (x : any_at hs v ≡ true). let rest = found_home hs v x in (suc rest.0, rest.1))
     (or_cases (is_at h v) (any_at hs v) e)
 
-any_found : (homes : List Home) (k : ℕ) (v : VarId) → slice_get homes k ≡ Some (home.Var v) → any_at homes v.0 ≡ true
+any_found : (homes : List Home) (k : ℕ) (v : VarId) → slice_get homes k ≡ Some (home.Var v) →
+    any_at homes v.0 ≡ true
 any_found [] k v e = absurd (cc)
-any_found (h ∷ hs) zero v e = ap (λ x. x || any_at hs v.0) (ap (λ x. is_at x v.0) (some_same h (home.Var v) e) ∙ that_is v.0)
+any_found (h ∷ hs) zero v e = ap (λ x. x || any_at hs v.0)
+    (ap (λ x. is_at x v.0) (some_same h (home.Var v) e) ∙ that_is v.0)
 any_found (h ∷ hs) (suc k) v e = or_second (is_at h v.0) (any_at hs v.0) (any_found hs k v e)
 
 module _ (g : Setting) where
   home_is : (v : VarId) → is_home g v.0 ≡ true → IsHome g (home.Var v)
   home_is v e = ⊎_elim
-      (λ (x : any_at g.params.now v.0 ≡ true). let at = found_home g.params.now v.0 x in (at.0, inl at.1))
-      (λ (x : any_at g.locals.now v.0 ≡ true). let at = found_home g.locals.now v.0 x in (at.0, inr at.1))
+      (λ (x : any_at g.params.now v.0 ≡ true). let at = found_home g.params.now v.0 x in
+      (at.0, inl at.1))
+      (λ (x : any_at g.locals.now v.0 ≡ true). let at = found_home g.locals.now v.0 x in
+      (at.0, inr at.1))
       (or_cases (any_at g.params.now v.0) (any_at g.locals.now v.0) e)
 
   is_home_of : (v : VarId) → IsHome g (home.Var v) → is_home g v.0 ≡ true
   is_home_of v h = ⊎_elim
-      (λ (e : slice_get g.params.now h.0 ≡ Some (home.Var v)). ap (λ x. x || any_at g.locals.now v.0) (any_found g.params.now h.0 v e))
-      (λ (e : slice_get g.locals.now h.0 ≡ Some (home.Var v)). or_second (any_at g.params.now v.0) (any_at g.locals.now v.0) (any_found g.locals.now h.0 v e))
+      (λ (e : slice_get g.params.now h.0 ≡ Some (home.Var v)).
+      ap (λ x. x || any_at g.locals.now v.0) (any_found g.params.now h.0 v e))
+      (λ (e : slice_get g.locals.now h.0 ≡ Some (home.Var v)). or_second (any_at g.params.now v.0)
+      (any_at g.locals.now v.0) (any_found g.locals.now h.0 v e))
       h.1
 
   -- ---- what a block that reads homes awaits
 
-  pub reads_on : (known next : Entries) (old : VProc) (b : ℕ) → IsContinued known old next → b < count old → ReadsHomes g known b → ReadsHomes g next b
+  pub reads_on : (known next : Entries) (old : VProc) (b : ℕ) → IsContinued known old next →
+      b < count old → ReadsHomes g known b → ReadsHomes g next b
   reads_on known next old b same lt reads v is = reads v (sym (same b v.0 lt) ∙ is)
 
-  pub homes_awaited : (counts : List ℕ) (known : Entries) (code : VProc) (at b : ℕ) → above_setting g ≤ length code.vars → IsReady g counts known code at → ReadsHomes g known b → Awaits known b code at
+  pub homes_awaited : (counts : List ℕ) (known : Entries) (code : VProc) (at b : ℕ) →
+      above_setting g ≤ length code.vars → IsReady g counts known code at → ReadsHomes g known b →
+      Awaits known b code at
   homes_awaited counts known code at b low r reads v is =
       let h = reads (record { 0 = v }) is in
       (omega (arith, home_below g (record { 0 = v }) h, low), r.homes (record { 0 = v }) h)
 
 -- ---- one thing after the other
 
-module _ (g : Setting) (counts : List ℕ) (known : Entries) (a b c : VProc) (from at : ℕ) (p : Closes g counts known a b from) (q : Closes g counts p.next b c at) where
-  abbrev pub closes_on : ((n : ℕ) → n < count a → n ≢ from → n ≢ at) → count a ≤ count b → Closes g counts known a c from
+module _ (g : Setting) (counts : List ℕ) (known : Entries) (a b c : VProc) (from at : ℕ)
+    (p : Closes g counts known a b from) (q : Closes g counts p.next b c at) where
+  abbrev pub closes_on : ((n : ℕ) → n < count a → n ≢ from → n ≢ at) → count a ≤ count b →
+      Closes g counts known a c from
   closes_on apart wide = record {
     next = q.next;
     same = λ n v lt. q.same n v (omega (arith, lt, wide)) ∙ p.same n v lt;
     rules = q.rules;
     certifies = q.certifies;
-    waiting = λ n lt off r. q.waiting n (omega (arith, lt, wide)) (apart n lt off) (p.waiting n lt off r);
+    waiting = λ n lt off r. q.waiting n (omega (arith, lt, wide)) (apart n lt off)
+        (p.waiting n lt off r);
   }
 
 -- ---- blocks that are opened
@@ -134,28 +149,38 @@ opens_on from a b c p q = record {
   certified = λ known x. q.certified known (p.certified known x);
 }
 
-pub opens_beside : (from depth : ℕ) (old new : VProc) → new ≡ with_open_block depth old → Opens from old new
-opens_beside from depth old new made = subst (λ (z : VProc). Opens from old z) (sym made) (opens_one from depth old)
+pub opens_beside : (from depth : ℕ) (old new : VProc) → new ≡ with_open_block depth old →
+    Opens from old new
+opens_beside from depth old new made = subst (λ (z : VProc). Opens from old z) (sym made)
+    (opens_one from depth old)
 
 pub opens_arm : (from depth : ℕ) (old new : VProc) → new ≡ with_arm depth old → Opens from old new
 opens_arm from depth old new made =
     let one = with_open_block depth old in
-    subst (λ (z : VProc). Opens from old z) (sym made) (opens_on from old one (with_open_block depth one) (opens_one from depth old) (opens_one from depth one))
+    subst (λ (z : VProc). Opens from old z) (sym made)
+    (opens_on from old one (with_open_block depth one) (opens_one from depth old)
+    (opens_one from depth one))
 
-pub opens_two : (from depth inner : ℕ) (old : VProc) → Opens from old (with_open_block inner (with_open_block inner (with_open_block depth old)))
+pub opens_two : (from depth inner : ℕ) (old : VProc) →
+    Opens from old (with_open_block inner (with_open_block inner (with_open_block depth old)))
 opens_two from depth inner old =
     let one = with_open_block depth old in
     let two = with_open_block inner one in
-    opens_on from old one (with_open_block inner two) (opens_one from depth old) (opens_on from one two (with_open_block inner two) (opens_one from inner one) (opens_one from inner two))
+    opens_on from old one (with_open_block inner two) (opens_one from depth old)
+    (opens_on from one two (with_open_block inner two) (opens_one from inner one)
+    (opens_one from inner two))
 
 pub opens_loop : (from depth : ℕ) (old new : VProc) → new ≡ with_loop depth old → Opens from old new
-opens_loop from depth old new made = subst (λ (z : VProc). Opens from old z) (sym made) (opens_two from depth (deeper depth) old)
+opens_loop from depth old new made = subst (λ (z : VProc). Opens from old z) (sym made)
+    (opens_two from depth (deeper depth) old)
 
 -- a block that was open still is
-pub loop_still_open : (from depth : ℕ) (old new : VProc) → IsOpen old from → new ≡ with_loop depth old → IsOpen new from
+pub loop_still_open : (from depth : ℕ) (old new : VProc) → IsOpen old from →
+    new ≡ with_loop depth old → IsOpen new from
 loop_still_open from depth old new o made = (opens_loop from depth old new made).is_open from o
 
-module _ (g : Setting) (old new : VProc) (from : ℕ) (there : from < count old) (low : above_setting g ≤ length old.vars) (opens : Opens from old new) where
+module _ (g : Setting) (old new : VProc) (from : ℕ) (there : from < count old)
+    (low : above_setting g ≤ length old.vars) (opens : Opens from old new) where
   pub no_params : AddsNoParam old new
   no_params v k is = subst (λ (l : List VarKind). slice_get l v ≡ Some (Param k)) opens.vars is
 
@@ -173,16 +198,20 @@ module _ (g : Setting) (old new : VProc) (from : ℕ) (there : from < count old)
     behind b v le = entries_from (count old) (is_home g) known b v le
 
     pub certified : Certifies with_homes new
-    certified = opens.certified with_homes (certifies_other counts known with_homes old r.rules before r.certifies)
+    certified = opens.certified with_homes
+        (certifies_other counts known with_homes old r.rules before r.certifies)
 
     pub rules : KeepsRules counts new
     rules = opens.valid.stays counts r.rules
 
     usable_from : (v : ℕ) → usable known old from v ≡ true → usable with_homes new from v ≡ true
     usable_from v is =
-        ap (λ (l : List VarKind). is_constant (slice_index_or l v Plain) || readable (with_homes from v) (code_of new from) v) opens.vars
-        ∙ ap (λ (l : List VInstr). is_constant (kind_of old v) || readable (with_homes from v) l v) (opens.code from)
-        ∙ ap (λ e. is_constant (kind_of old v) || readable e (code_of old from) v) (before from v there)
+        ap (λ (l : List VarKind). is_constant (slice_index_or l v Plain) || readable
+        (with_homes from v) (code_of new from) v) opens.vars
+        ∙ ap (λ (l : List VInstr). is_constant (kind_of old v) || readable (with_homes from v) l v)
+        (opens.code from)
+        ∙ ap (λ e. is_constant (kind_of old v) || readable e (code_of old from) v)
+        (before from v there)
         ∙ is
 
     abbrev pub opened_closes : Closes g counts known old new from
@@ -191,11 +220,13 @@ module _ (g : Setting) (old new : VProc) (from : ℕ) (there : from < count old)
       same = before;
       rules = rules;
       certifies = certified;
-      waiting = waits g counts known with_homes old new from low before opens.grows no_params rules certified;
+      waiting = waits g counts known with_homes old new from low before opens.grows no_params rules
+          certified;
     }
 
     pub opened_from : IsReady g counts with_homes new from
-    opened_from = ready_on g counts known with_homes (length old.vars) old new from from low opens.grows.grows.args no_params r rules certified (λ v lt is. usable_from v is)
+    opened_from = ready_on g counts known with_homes (length old.vars) old new from from low
+        opens.grows.grows.args no_params r rules certified (λ v lt is. usable_from v is)
 
     -- a block that was opened
     module _ (b : ℕ) (le : count old ≤ b) where
@@ -206,13 +237,18 @@ module _ (g : Setting) (old new : VProc) (from : ℕ) (there : from < count old)
       opened_ready = record {
         rules = rules;
         certifies = certified;
-        homes = λ v h. usable_empty with_homes new b v.0 (empty b le) (behind b v.0 le ∙ is_home_of g v h);
-        cells = λ k h. cell_stays g counts known with_homes (length old.vars) old new from from low opens.grows.grows.args no_params k (r.cells k h);
+        homes = λ v h. usable_empty with_homes new b v.0 (empty b le)
+            (behind b v.0 le ∙ is_home_of g v h);
+        cells = λ k h. cell_stays g counts known with_homes (length old.vars) old new from from low
+            opens.grows.grows.args no_params k (r.cells k h);
       }
 
 -- ---- a jump to a block that reads homes
 
-module _ (g : Setting) (counts : List ℕ) (known : Entries) (code : VProc) (at : ℕ) (target : BlockId) (o : IsOpen code at) (low : above_setting g ≤ length code.vars) (r : IsReady g counts known code at) (reads : ReadsHomes g known target.0) (some : 0 < target.0) (there : target.0 < count code) where
+module _ (g : Setting) (counts : List ℕ) (known : Entries) (code : VProc) (at : ℕ)
+    (target : BlockId) (o : IsOpen code at) (low : above_setting g ≤ length code.vars)
+    (r : IsReady g counts known code at) (reads : ReadsHomes g known target.0) (some : 0 < target.0)
+    (there : target.0 < count code) where
   abbrev left : VProc
   left = with_end at (Jump target) code
 
@@ -224,10 +260,13 @@ module _ (g : Setting) (counts : List ℕ) (known : Entries) (code : VProc) (at 
   })
 
   jumped_certifies : Certifies known left
-  jumped_certifies = close_certifies known at (Jump target) code o r.certifies (λ t v e is. r.homes (record { 0 = v }) (reads (record { 0 = v }) (ap (λ n. known n v) e ∙ is)))
+  jumped_certifies = close_certifies known at (Jump target) code o r.certifies
+      (λ t v e is. r.homes (record { 0 = v })
+      (reads (record { 0 = v }) (ap (λ n. known n v) e ∙ is)))
 
   jumped : Closes g counts known code left at
-  jumped = closes g counts known known code left at low (λ b v lt. refl) (closed_grows at (Jump target) code o) (λ v k is. is) jumped_rules jumped_certifies
+  jumped = closes g counts known known code left at low (λ b v lt. refl)
+      (closed_grows at (Jump target) code o) (λ v k is. is) jumped_rules jumped_certifies
 
   pub jumps_ready : (new : VProc) → new ≡ left → Closes g counts known code new at
   jumps_ready new is = subst (λ (z : VProc). Closes g counts known code z at) (sym is) jumped

@@ -16,17 +16,29 @@ use Rattle.ob_mean.specs.declared.store.LiveCall.{LiveCall}
 use Rattle.vc_relation.specs.Spots.{param_of}
 use Rattle.vc_relation.specs.Layout.{Part, TypesInOrder, part_in, part_along, words_before, further}
 
-no_part : (shapes : List Shape) → TypesInOrder shapes → (t k : ℕ) → is_scalar t ≡ true → part_in (shape_of shapes t) k ≡ None
+no_part : (shapes : List Shape) → TypesInOrder shapes → (t k : ℕ) → is_scalar t ≡ true →
+    part_in (shape_of shapes t) k ≡ None
 no_part shapes ordered t k e =
     ⊎_elim
-    (λ (a : nat_eq t integer ≡ true). ap (λ z. part_in z k) (ap (shape_of shapes) (eqb-true t integer a) ∙ ap (λ o. unwrap_or o Integer) ordered.first))
-    (λ (b : nat_eq t boolean ≡ true). ap (λ z. part_in z k) (ap (shape_of shapes) (eqb-true t boolean b) ∙ ap (λ o. unwrap_or o Integer) ordered.second))
+    (λ (a : nat_eq t integer ≡ true). ap (λ z. part_in z k)
+    (ap (shape_of shapes) (eqb-true t integer a) ∙ ap (λ o. unwrap_or o Integer) ordered.first))
+    (λ (b : nat_eq t boolean ≡ true). ap (λ z. part_in z k)
+    (ap (shape_of shapes) (eqb-true t boolean b) ∙ ap (λ o. unwrap_or o Integer)
+    ordered.second))
     (or_cases (nat_eq t integer) (nat_eq t boolean) e)
 
-pub no_path : (shapes : List Shape) → TypesInOrder shapes → (t : ℕ) (path : List ℕ) (p : Part) → is_scalar t ≡ true → part_along shapes t path ≡ Some p → path ≡ []
+pub no_path : (shapes : List Shape) → TypesInOrder shapes → (t : ℕ) (path : List ℕ) (p : Part) →
+    is_scalar t ≡ true → part_along shapes t path ≡ Some p → path ≡ []
 no_path shapes ordered t [] p scalar e = refl
 no_path shapes ordered t (k ∷ path) p scalar e =
-    absurd (none_some (sym (ap (λ o. o >>= λ element. part_along shapes element path >>= λ q. Some (further (words_before shapes (shape_of shapes t) k) q)) (no_part shapes ordered t k scalar)) ∙ e))
+    absurd (none_some (sym (ap
+    (λ o. o >>= λ element. part_along shapes element path >>= λ q. Some
+    (further (words_before shapes (shape_of shapes t) k) q))
+    (no_part shapes ordered t k scalar)) ∙ e))
 
-pub param_found : (program : Checked) (call : LiveCall) (k : ℕ) (proc : CheckedProc) (param : Param) → slice_get program.procs call.proc.0 ≡ Some proc → slice_get proc.params k ≡ Some param → param_of program call k ≡ Some (proc, param)
-param_found program call k proc param e f = ap (λ o. o >>= λ p. slice_get p.params k >>= λ q. Some (p, q)) e ∙ ap (λ o. o >>= λ q. Some (proc, q)) f
+pub param_found : (program : Checked) (call : LiveCall) (k : ℕ) (proc : CheckedProc)
+    (param : Param) → slice_get program.procs call.proc.0 ≡ Some proc → slice_get proc.params k ≡
+    Some param → param_of program call k ≡ Some (proc, param)
+param_found program call k proc param e f =
+    ap (λ o. o >>= λ p. slice_get p.params k >>= λ q. Some (p, q)) e
+    ∙ ap (λ o. o >>= λ q. Some (proc, q)) f

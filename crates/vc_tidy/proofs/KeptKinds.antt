@@ -6,7 +6,11 @@ use Rattle.pra_base.specs.declared.code.VProc.{VProc}
 use Rattle.vc_tidy.specs.KindCounts.{KeepsKinds}
 
 pub same_kinds : (old new : VProc) → new.vars ≡ old.vars → KeepsKinds old new
-same_kinds old new same = record { counts = λ kind. let e = ap (λ (ks : List VarKind). count_by kind ks) same in omega (arith, e) }
+same_kinds old new same =
+    record {
+      counts = λ kind. let e = ap (λ (ks : List VarKind). count_by kind ks) same in
+          omega (arith, e);
+    }
 
 pub kinds_on : (old mid new : VProc) → KeepsKinds old mid → KeepsKinds mid new → KeepsKinds old new
 kinds_on old mid new one two = record {

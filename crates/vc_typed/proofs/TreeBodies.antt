@@ -35,8 +35,10 @@ ReadFrom tokens [] [] = Unit {0}
 ReadFrom tokens (b ∷ bs) (d ∷ ds) = BodyRead tokens b d × ReadFrom tokens bs ds
 ReadFrom tokens _ _ = ⊥
 
-pub read_append : (tokens : List Token) (bs cs : List (List Stmt)) (xs ys : List Draft) → ReadFrom tokens bs xs → ReadFrom tokens cs ys → ReadFrom tokens (bs ++ cs) (xs ++ ys)
+pub read_append : (tokens : List Token) (bs cs : List (List Stmt)) (xs ys : List Draft) →
+    ReadFrom tokens bs xs → ReadFrom tokens cs ys → ReadFrom tokens (bs ++ cs) (xs ++ ys)
 read_append tokens [] cs [] ys all more = more
 read_append tokens [] cs (x ∷ xs) ys all more = absurd all
 read_append tokens (b ∷ bs) cs [] ys all more = absurd all
-read_append tokens (b ∷ bs) cs (x ∷ xs) ys (one, rest) more = (one, read_append tokens bs cs xs ys rest more)
+read_append tokens (b ∷ bs) cs (x ∷ xs) ys (one, rest) more =
+    (one, read_append tokens bs cs xs ys rest more)

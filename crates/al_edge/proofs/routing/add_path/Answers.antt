@@ -11,7 +11,8 @@ pub take_path-requires-clause-path : goal.take_path-requires-clause-path
 take_path-requires-clause-path c =
     let net = c.args.net.now in
     let so = c.requires.paths in
-    let placed = path_placed net c.requires.net c.requires.room c.args.paths.now c.args.taken.now.regs so.marks so.placed c.args.strand c.requires.strand so.count in
+    let placed = path_placed net c.requires.net c.requires.room c.args.paths.now
+    c.args.taken.now.regs so.marks so.placed c.args.strand c.requires.strand so.count in
     let long = placed.long in
     let row = ap length (c.as_slice.ensures ∙ c.in_ok-path.ensures) in
     omega (arith, long, row)
@@ -21,6 +22,13 @@ returns-clause-paths c =
     let net = c.args.net.now in
     let so = c.requires.paths in
     let path = c.in_ok-path.path in
-    subst (λ (ps : List (List Place)). IsSoFar net c.take_path.new.self.regs ps (c.args.strand + 1)) (sym c.in_ok-push.ensures.ok)
-    (so_far_more net c.requires.net c.requires.room c.args.paths.now c.args.taken.now.regs c.take_path.new.self.regs c.args.strand path c.requires.strand so c.in_ok-path.ensures (let old = c.requires.taken.regs in let new = c.take_path.ensures.room.regs in omega (arith, old, new))
-    (λ n r. c.take_path.ensures.takes.registers n r ∙ ap (λ (ps : List Place). min 1 (mark c.args.taken.now.regs n r + uses net n r c.args.strand (strand_at net c.args.strand).first None ps)) c.as_slice.ensures))
+    subst (λ (ps : List (List Place)). IsSoFar net c.take_path.new.self.regs ps (c.args.strand + 1))
+    (sym c.in_ok-push.ensures.ok)
+    (so_far_more net c.requires.net c.requires.room c.args.paths.now c.args.taken.now.regs
+    c.take_path.new.self.regs c.args.strand path c.requires.strand so c.in_ok-path.ensures
+    (let old = c.requires.taken.regs in let new = c.take_path.ensures.room.regs in
+    omega (arith, old, new))
+    (λ n r. c.take_path.ensures.takes.registers n r
+    ∙ ap (λ (ps : List Place). min 1
+    (mark c.args.taken.now.regs n r + uses net n r c.args.strand
+    (strand_at net c.args.strand).first None ps)) c.as_slice.ensures))

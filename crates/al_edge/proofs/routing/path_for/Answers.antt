@@ -15,8 +15,10 @@ loop-j-preserved c =
     let j = c.loop-j.j in
     let f : ℕ → Place = place_for net c.args.regs.now s in
     let first = (strand_at net s).first in
-    let t = get_or_read net.strands s c.index.result.now c.requires.strand c.index.ensures no_strand in
+    let t = get_or_read net.strands s c.index.result.now c.requires.strand c.index.ensures
+    no_strand in
     c.in_ok-push.ensures.ok
     ∙ ap (λ (ps : List Place). ps ++ c.place_for.result ∷ []) c.loop-j.invariant
-    ∙ ap (λ (p : Place). map f (range_with_len first j) ++ p ∷ []) (c.place_for.ensures ∙ ap (λ (u : Strand). f (u.first + j)) t)
+    ∙ ap (λ (p : Place). map f (range_with_len first j) ++ p ∷ [])
+    (c.place_for.ensures ∙ ap (λ (u : Strand). f (u.first + j)) t)
     ∙ sym (map-range_with_len_more f first j (first + j) refl)

@@ -12,15 +12,18 @@ use Rattle.al_edge.proofs.yielding.add_pair.Goals as goal
 pub returns-then-not-left_stays : goal.returns-then-not-left_stays
 returns-then-not-left_stays c =
     let net = c.args.net.now in
-    let read = get_or_read net.pairs c.args.k c.index-pair.result.now c.requires.pair c.index-pair.ensures no_pair in
+    let read = get_or_read net.pairs c.args.k c.index-pair.result.now c.requires.pair
+    c.index-pair.ensures no_pair in
     kept net c.requires.net c.args.k c.args.table.now.items c.requires.table c.requires.pair no_pair
     (sym (ap (left_stays net) read) ∙ sym c.left_stays.ensures ∙ c.if-not-left_stays.true)
 
 pub set_true-requires-clause-row : goal.set_true-requires-clause-row
 set_true-requires-clause-row c =
     let net = c.args.net.now in
-    let read = get_or_read net.pairs c.args.k c.index-pair.result.now c.requires.pair c.index-pair.ensures no_pair in
-    let free : IsFreePair net c.index-pair.result.now = subst (IsFreePair net) (sym read) (c.requires.room.pairs c.args.k no_pair c.requires.pair) in
+    let read = get_or_read net.pairs c.args.k c.index-pair.result.now c.requires.pair
+    c.index-pair.ensures no_pair in
+    let free : IsFreePair net c.index-pair.result.now = subst (IsFreePair net) (sym read)
+    (c.requires.room.pairs c.args.k no_pair c.requires.pair) in
     let rows = c.requires.table.rows in
     let lt = free.right_strand in
     omega (arith, rows, lt)
@@ -28,10 +31,13 @@ set_true-requires-clause-row c =
 pub set_true-requires-clause-at : goal.set_true-requires-clause-at
 set_true-requires-clause-at c =
     let net = c.args.net.now in
-    let read = get_or_read net.pairs c.args.k c.index-pair.result.now c.requires.pair c.index-pair.ensures no_pair in
-    let free : IsFreePair net c.index-pair.result.now = subst (IsFreePair net) (sym read) (c.requires.room.pairs c.args.k no_pair c.requires.pair) in
+    let read = get_or_read net.pairs c.args.k c.index-pair.result.now c.requires.pair
+    c.index-pair.ensures no_pair in
+    let free : IsFreePair net c.index-pair.result.now = subst (IsFreePair net) (sym read)
+    (c.requires.room.pairs c.args.k no_pair c.requires.pair) in
     let s = c.index-pair.result.now.right in
-    let t = get_or_read net.strands s c.index.result.now free.right_strand c.index.ensures no_strand in
+    let t = get_or_read net.strands s c.index.result.now free.right_strand c.index.ensures
+    no_strand in
     let first = ap (λ (u : Strand). u.first) t in
     let b = bounds (strand_at net s) c.index-pair.result.now.right_layer free.right in
     let lo = b.0 in
@@ -46,11 +52,16 @@ returns c =
     let table = c.args.table.now.items in
     let pair = c.index-pair.result.now in
     let read = get_or_read net.pairs c.args.k pair c.requires.pair c.index-pair.ensures no_pair in
-    let free : IsFreePair net pair = subst (IsFreePair net) (sym read) (c.requires.room.pairs c.args.k no_pair c.requires.pair) in
+    let free : IsFreePair net pair = subst (IsFreePair net) (sym read)
+    (c.requires.room.pairs c.args.k no_pair c.requires.pair) in
     let mine = c.requires.room.pairs c.args.k no_pair c.requires.pair in
-    let t = get_or_read net.strands pair.right c.index.result.now free.right_strand c.index.ensures no_strand in
+    let t = get_or_read net.strands pair.right c.index.result.now free.right_strand c.index.ensures
+    no_strand in
     subst (IsTable net (c.args.k + 1)) (sym (c.set_true.ensures
-    ∙ ap (λ (u : Strand). set table pair.right (set (row_of table pair.right) (pair.right_layer - u.first) true)) t
-    ∙ ap (λ (m : MemPair). set table m.right (set (row_of table m.right) (m.right_layer - (strand_at net m.right).first) true)) read))
+    ∙ ap (λ (u : Strand). set table pair.right
+    (set (row_of table pair.right) (pair.right_layer - u.first) true)) t
+    ∙ ap (λ (m : MemPair). set table m.right
+    (set (row_of table m.right) (m.right_layer - (strand_at net m.right).first) true)) read))
     (added net c.requires.net c.args.k table c.requires.table c.requires.pair no_pair
-    (sym (ap (left_stays net) read) ∙ sym c.left_stays.ensures ∙ c.if-not-left_stays.false) mine.right_strand mine.right)
+    (sym (ap (left_stays net) read) ∙ sym c.left_stays.ensures ∙ c.if-not-left_stays.false)
+    mine.right_strand mine.right)

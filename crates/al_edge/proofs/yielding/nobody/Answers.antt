@@ -9,5 +9,7 @@ returns c =
     let net = c.args.net.now in
     let long = ap length c.as_slice-strand-items.ensures in
     none_yield net c.loop-strand.table.items
-    (c.loop-strand.invariant ∙ ap (λ (ts : List Strand). map (λ (t : Strand). replicate (length t.masks) false) ts)
-    (take_all c.loop-strand.strand-index net.strands (omega (arith, long, c.loop-strand-test.false))))
+    (c.loop-strand.invariant
+    ∙ ap (λ (ts : List Strand). map (λ (t : Strand). replicate (length t.masks) false) ts)
+    (take_all c.loop-strand.strand-index net.strands
+    (omega (arith, long, c.loop-strand-test.false))))

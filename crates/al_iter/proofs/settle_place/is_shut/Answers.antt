@@ -12,7 +12,8 @@ returns-then-not-may_be_at c = λ _ ps may.
     let net = c.args.net.now in
     let s = c.args.strand in
     let place = c.args.place in
-    let one = get_or_read net.strands s c.index.result.now c.requires.strand c.index.ensures no_strand
+    let one = get_or_read net.strands s c.index.result.now c.requires.strand c.index.ensures
+    no_strand
     in
     let two = get_or_read net.strands s c.index-2.result.now c.requires.strand c.index-2.ensures
     no_strand in

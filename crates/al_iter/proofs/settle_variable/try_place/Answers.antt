@@ -95,4 +95,5 @@ returns-clause-least g c =
     let positive = sum_positive net w draft strands in
     pay_less net w c.args.spare.now.taken strands c.args.place _ _
     (omega (arith, ints, positive, c.in-Some.ensures.sum, c.in-Some.ensures.less, c.requires.most))
-    (pay_all net w c.args.spare.now.taken strands c.args.place draft (c.in-Some.ensures.drafts refl))
+    (pay_all net w c.args.spare.now.taken strands c.args.place draft
+    (c.in-Some.ensures.drafts refl))

@@ -34,7 +34,8 @@ loop-number-preserved g c =
             (c.place_of-place.ensures ∙ sym same) in
             pay_less net w taken strands p _ c.try_place-least.result
             (omega (arith, ints, now.price, now.less, inv.less, positive, c.requires.most))
-            (subst (λ (q : Place). PayAtLeast net w taken strands q c.try_place-least.result) place here)
+            (subst (λ (q : Place). PayAtLeast net w taken strands q c.try_place-least.result) place
+            here)
         | inr other ↦ pay_less net w taken strands p _ _
             (omega (arith, ints, now.price, now.less, inv.less, positive, c.requires.most))
             (inv.least p (omega (arith, lt, other)))

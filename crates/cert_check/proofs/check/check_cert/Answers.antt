@@ -5,4 +5,5 @@ pub returns-in-Size-clause-bounded : goal.returns-in-Size-clause-bounded
 returns-in-Size-clause-bounded c = yes_ok c.args.c.now c.check_by.result c.check_by.ensures
 
 pub returns-in-Speed-clause-bounded : goal.returns-in-Speed-clause-bounded
-returns-in-Speed-clause-bounded c = yes_ok c.args.c.now c.check_by-in-Speed.result c.check_by-in-Speed.ensures
+returns-in-Speed-clause-bounded c = yes_ok c.args.c.now c.check_by-in-Speed.result
+    c.check_by-in-Speed.ensures

@@ -26,7 +26,8 @@ returns g c =
     let found : HasCode c.args.counts.now p cert.code × IsNet net cert.code
     = subst (IsNetworkOf c.args.counts.now p cert.code) c.in-Some.is c.in_ok-net.ensures in
     let code = subst (λ (counts : List ℕ). HasCode counts p cert.code) c.requires.counts found.0 in
-    let at = slice_get_read certificate.procs (length certificate.procs) p cert refl c.requires.number c.index-cert.ensures in
+    let at = slice_get_read certificate.procs (length certificate.procs) p cert refl
+    c.requires.number c.index-cert.ensures in
     if_ok (IsFirstIn w net cert) (IsFirstOf certificate p) c.first_in.result
     (λ found_reason is. first_of certificate p cert net found.1 code at found_reason
     (subst (λ (w : Weights). IsFirstIn w net cert found_reason) c.requires.weights is))

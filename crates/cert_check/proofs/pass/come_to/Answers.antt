@@ -15,5 +15,6 @@ loop-at-preserved g c =
       least = c.lesser-least.ensures.least (λ k. via net w s l row (place_at k) to) c.loop-at.at
           c.loop-at.invariant.least
           (ap (λ p. via net w s l row p to) (sym c.place_at.ensures) ∙ sym c.via.ensures.value);
-      within = c.lesser-least.ensures.within (2 ^ 61) c.loop-at.invariant.within c.via.ensures.within;
+      within = c.lesser-least.ensures.within (2 ^ 61) c.loop-at.invariant.within
+          c.via.ensures.within;
     }

@@ -22,12 +22,17 @@ returns-in-Some-clause-least g c =
     let before = inv.spot.before in
     let same = ap (λ t. (strand_at net t).last) inv.strand in
     let past = c.loop-spot-test.false in
-    let last : c.loop-spot.spot.layer ≡ (strand_at net s).last = omega (arith, one, before, same, past) in
-    let reached = at_end net w prices s c.loop-spot.spot.strand c.loop-spot.spot.layer row inv.strand last inv.is_row in
+    let last : c.loop-spot.spot.layer ≡ (strand_at net s).last =
+    omega (arith, one, before, same, past) in
+    let reached = at_end net w prices s c.loop-spot.spot.strand c.loop-spot.spot.layer row
+    inv.strand last inv.is_row in
     let order = (c.requires.net.formed.strands s no_strand c.requires.strand).order in
-    let least = least_cost_of net w prices s order row reached c.in-Some.cost (subst (IsLeastOf (cost_at row) place_count) c.in-Some.is c.least_in.ensures) in
-    let within = least_within net w prices s c.requires.net c.requires.kept.valid c.requires.tolls.prices c.requires.strand c.in-Some.cost least in
-    subst (IsLeastCost net (edge_price net w prices) any_ends Anywhere s) (sym (same_bits most_sum c.in-Some.cost (omega arith) within)) least
+    let least = least_cost_of net w prices s order row reached c.in-Some.cost
+    (subst (IsLeastOf (cost_at row) place_count) c.in-Some.is c.least_in.ensures) in
+    let within = least_within net w prices s c.requires.net c.requires.kept.valid
+    c.requires.tolls.prices c.requires.strand c.in-Some.cost least in
+    subst (IsLeastCost net (edge_price net w prices) any_ends Anywhere s)
+    (sym (same_bits most_sum c.in-Some.cost (omega arith) within)) least
 
 pub returns-in-Some-clause-within : goal.returns-in-Some-clause-within
 returns-in-Some-clause-within g c =
@@ -41,11 +46,15 @@ returns-in-Some-clause-within g c =
     let before = inv.spot.before in
     let same = ap (λ t. (strand_at net t).last) inv.strand in
     let past = c.loop-spot-test.false in
-    let last : c.loop-spot.spot.layer ≡ (strand_at net s).last = omega (arith, one, before, same, past) in
-    let reached = at_end net w prices s c.loop-spot.spot.strand c.loop-spot.spot.layer row inv.strand last inv.is_row in
+    let last : c.loop-spot.spot.layer ≡ (strand_at net s).last =
+    omega (arith, one, before, same, past) in
+    let reached = at_end net w prices s c.loop-spot.spot.strand c.loop-spot.spot.layer row
+    inv.strand last inv.is_row in
     let order = (c.requires.net.formed.strands s no_strand c.requires.strand).order in
-    let least = least_cost_of net w prices s order row reached c.in-Some.cost (subst (IsLeastOf (cost_at row) place_count) c.in-Some.is c.least_in.ensures) in
-    let within = least_within net w prices s c.requires.net c.requires.kept.valid c.requires.tolls.prices c.requires.strand c.in-Some.cost least in
+    let least = least_cost_of net w prices s order row reached c.in-Some.cost
+    (subst (IsLeastOf (cost_at row) place_count) c.in-Some.is c.least_in.ensures) in
+    let within = least_within net w prices s c.requires.net c.requires.kept.valid
+    c.requires.tolls.prices c.requires.strand c.in-Some.cost least in
     subst (IsWithin most_sum) (sym (same_bits most_sum c.in-Some.cost (omega arith) within)) within
 
 pub returns-in-None-clause-least : goal.returns-in-None-clause-least
@@ -60,7 +69,10 @@ returns-in-None-clause-least g c =
     let before = inv.spot.before in
     let same = ap (λ t. (strand_at net t).last) inv.strand in
     let past = c.loop-spot-test.false in
-    let last : c.loop-spot.spot.layer ≡ (strand_at net s).last = omega (arith, one, before, same, past) in
-    let reached = at_end net w prices s c.loop-spot.spot.strand c.loop-spot.spot.layer row inv.strand last inv.is_row in
+    let last : c.loop-spot.spot.layer ≡ (strand_at net s).last =
+    omega (arith, one, before, same, past) in
+    let reached = at_end net w prices s c.loop-spot.spot.strand c.loop-spot.spot.layer row
+    inv.strand last inv.is_row in
     let order = (c.requires.net.formed.strands s no_strand c.requires.strand).order in
-    absurd (some_least net w prices s order row reached c.requires.path (subst (IsLeastOf (cost_at row) place_count) c.in-None.is c.least_in.ensures))
+    absurd (some_least net w prices s order row reached c.requires.path
+    (subst (IsLeastOf (cost_at row) place_count) c.in-None.is c.least_in.ensures))

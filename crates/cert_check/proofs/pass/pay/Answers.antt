@@ -1,4 +1,5 @@
-use Rattle.std.proofs.Common.{◌≡◌, ◌-◌, ◌<◌, ◌^◌, ◌∙◌, true, ◌+ℤ◌, Some, None, length, ap, sym, arith}
+use Rattle.std.proofs.Common.{◌≡◌, ◌-◌, ◌<◌, ◌^◌, ◌∙◌, true, ◌+ℤ◌, Some, None, length, ap, sym}
+use Rattle.std.proofs.Common.{arith}
 use Rattle.std.specs.Prelude.{slice_index_or}
 use Rattle.std.specs.Int.{w128}
 use Rattle.std.proofs.lemmas.Int.{ints, to_z-of_z}
@@ -30,7 +31,8 @@ returns g c =
     let to = c.args.to in
     let cost = c.in-Some.cost in
     let t = c.index-strand.result.now in
-    let read : t ≡ strand_at net s = get_or_read net.strands s t c.requires.spot.strand c.index-strand.ensures no_strand in
+    let read : t ≡ strand_at net s = get_or_read net.strands s t c.requires.spot.strand
+    c.index-strand.ensures no_strand in
     let formed = c.requires.net.formed.strands s no_strand c.requires.spot.strand in
     let long = ap (λ (t : Strand). length t.masks) read in
     let first = ap (λ (t : Strand). t.first) read in
@@ -38,16 +40,19 @@ returns g c =
     let after = c.requires.spot.after in
     let before = c.requires.spot.before in
     let there : l - t.first < length t.masks = omega (arith, long, first, masks, after, before) in
-    let mask : c.index.result.now ≡ slice_index_or (strand_at net s).masks (l - (strand_at net s).first) 0
+    let mask : c.index.result.now ≡ slice_index_or (strand_at net s).masks
+    (l - (strand_at net s).first) 0
     = get_or_read t.masks (l - t.first) c.index.result.now there c.index.ensures 0
     ∙ ap (λ (t : Strand). slice_index_or t.masks (l - t.first) 0) read in
     let allowed : in_mask net (edge s l None to) ≡ true
     = ap (λ m. allows m (number to)) (sym mask) ∙ sym c.allows.ensures ∙ c.if-not-allows.false in
-    let exact_cost = same_bits (2 ^ 61) cost (omega arith) (within_of (2 ^ 61) c.args.cost cost c.in-Some.is c.requires.within) in
+    let exact_cost = same_bits (2 ^ 61) cost (omega arith)
+    (within_of (2 ^ 61) c.args.cost cost c.in-Some.is c.requires.within) in
     let exact_toll = to_z-of_z w128 c.toll.result (record { sfits = c.toll.type_inv }) in
     let sum = c.add.ensures in
     let paid = c.toll.ensures.value in
     let whole : c.add.result ≡ cost +ℤ toll net w prices s l to
     = omega (arith, ints, sum, exact_cost, exact_toll, paid) in
     rw (to_z-of_z w128 c.add.result (record { sfits = c.add.type_inv }))
-    (ap Some whole ∙ sym (guarded_is (in_mask net (edge s l None to)) (λ d. d +ℤ toll net w prices s l to) c.args.cost cost allowed c.in-Some.is))
+    (ap Some whole ∙ sym (guarded_is (in_mask net (edge s l None to))
+    (λ d. d +ℤ toll net w prices s l to) c.args.cost cost allowed c.in-Some.is))

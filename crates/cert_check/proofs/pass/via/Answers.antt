@@ -11,7 +11,8 @@ use Rattle.net_dual.proofs.Leasts.{within_of, same_bits}
 use Rattle.cert_check.specs.Tolls.{edge, way_price}
 use Rattle.cert_check.proofs.Guarded.{guarded_is}
 use Rattle.cert_check.proofs.Crossing.{stays_same, stays_odd}
-use Rattle.cert_check.proofs.pass.via.Goals.{else-spot-eq0-via-then-spot-eq0+else-number, else-spot-eq0-via-else-spot-eq0}
+use Rattle.cert_check.proofs.pass.via.Goals.{else-spot-eq0-via-then-spot-eq0+else-number}
+use Rattle.cert_check.proofs.pass.via.Goals.{else-spot-eq0-via-else-spot-eq0}
 use Rattle.cert_check.proofs.pass.via.Goals as goal
 
 pub returns-clause-value : goal.returns-clause-value
@@ -27,10 +28,13 @@ returns-clause-value g c =
     let at : cost_at row (number from) ≡ Some cost
     = subst (λ k. slice_index_or row k None ≡ Some cost) c.number-2.ensures.value c.in-Some.is in
     let stays : stays_across (edge s l (Some from) to) ≡ true = elim c.else-spot-eq0.branch [
-      | else-spot-eq0-via-then-spot-eq0+else-number w ↦ stays_same s l from to (sym w.number.ensures.value ∙ w.if-number.false ∙ w.number-then-spot-eq0.ensures.value)
+      | else-spot-eq0-via-then-spot-eq0+else-number w ↦
+          stays_same s l from to (sym w.number.ensures.value ∙ w.if-number.false
+          ∙ w.number-then-spot-eq0.ensures.value)
       | else-spot-eq0-via-else-spot-eq0 w ↦ stays_odd s l from to w.if-spot-eq0.false
     ] in
-    let old = within_of most_sum (cost_at row (number from)) cost at (c.requires.row (number from)) in
+    let old = within_of most_sum (cost_at row (number from)) cost at
+    (c.requires.row (number from)) in
     let exact_cost = same_bits most_sum cost (omega arith) old in
     let exact_way = to_z-of_z w128 c.in_units.result (record { sfits = c.in_units.type_inv }) in
     let way = c.in_units.ensures in
@@ -39,12 +43,14 @@ returns-clause-value g c =
     let whole : c.add.result ≡ cost +ℤ way_price net w s l (Some from) to
     = omega (arith, ints, sum, exact_cost, exact_way, way, is) in
     rw (to_z-of_z w128 c.add.result (record { sfits = c.add.type_inv }))
-    (ap Some whole ∙ sym (guarded_is (stays_across (edge s l (Some from) to)) (λ d. d +ℤ way_price net w s l (Some from) to) (cost_at row (number from)) cost stays at))
+    (ap Some whole ∙ sym (guarded_is (stays_across (edge s l (Some from) to))
+    (λ d. d +ℤ way_price net w s l (Some from) to) (cost_at row (number from)) cost stays at))
 
 pub returns-clause-within : goal.returns-clause-within
 returns-clause-within g c =
     let cost = c.in-Some.cost in
-    let old = within_of most_sum (slice_index_or c.args.row.now c.number-2.result None) cost c.in-Some.is (c.requires.row c.number-2.result) in
+    let old = within_of most_sum (slice_index_or c.args.row.now c.number-2.result None) cost
+    c.in-Some.is (c.requires.row c.number-2.result) in
     let exact_cost = same_bits most_sum cost (omega arith) old in
     let exact_way = to_z-of_z w128 c.in_units.result (record { sfits = c.in_units.type_inv }) in
     let way = c.in_units.ensures in
@@ -53,4 +59,8 @@ returns-clause-within g c =
     let low = old.low in
     let high = old.high in
     rw (to_z-of_z w128 c.add.result (record { sfits = c.add.type_inv }))
-    (record { low = omega (arith, ints, way, small, sum, exact_cost, exact_way, low); high = omega (arith, ints, way, small, sum, exact_cost, exact_way, high) })
+    (record {
+      low = omega (arith, ints, way, small, sum, exact_cost, exact_way, low);
+      high =
+          omega (arith, ints, way, small, sum, exact_cost, exact_way, high);
+    })

@@ -9,7 +9,8 @@ use Rattle.cert_check.proofs.routes.are_routes.Goals as goal
 
 pub returns-then-len : goal.returns-then-len
 returns-then-len c = refused (λ has.
-    c.if-len.true (c.len.ensures ∙ as_many c.args.net.now.strands c.args.routes.now.places has ∙ sym c.len-2.ensures))
+    c.if-len.true (c.len.ensures ∙ as_many c.args.net.now.strands c.args.routes.now.places has
+    ∙ sym c.len-2.ensures))
 
 pub returns-then-len-2 : goal.returns-then-len-2
 returns-then-len-2 c = refused (λ has.
@@ -19,8 +20,10 @@ returns-then-len-2 c = refused (λ has.
     let end = c.len-strand-end.ensures in
     let lt : s < length net.strands = omega (arith, end, c.loop-strand-test.true) in
     let many = as_many net.strands places has in
-    let path = ap length (get_or_read places s c.index.result.now (omega (arith, lt, many)) c.index.ensures []) in
-    let strand = get_or_read net.strands s c.index-in-loop-strand.result.now lt c.index-in-loop-strand.ensures no_strand in
+    let path = ap length (get_or_read places s c.index.result.now (omega (arith, lt, many))
+    c.index.ensures []) in
+    let strand = get_or_read net.strands s c.index-in-loop-strand.result.now lt
+    c.index-in-loop-strand.ensures no_strand in
     let masks = ap (λ (t : Strand). length t.masks) strand in
     let long = each_long net c.args.routes.now has s lt in
     let formed = (c.requires.strands s no_strand lt).masks in

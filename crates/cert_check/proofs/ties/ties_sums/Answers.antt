@@ -1,4 +1,5 @@
-use Rattle.std.proofs.Common.{◌≡◌, ◌+◌, ◌*◌, ◌<◌, ◌^◌, ◌++◌, ◌∙◌, ℤ, pos, List, length, get_or, take, drop, ap, sym, subst, arith}
+use Rattle.std.proofs.Common.{◌≡◌, ◌+◌, ◌*◌, ◌<◌, ◌^◌, ◌++◌, ◌∙◌, ℤ, pos, List, length, get_or}
+use Rattle.std.proofs.Common.{take, drop, ap, sym, subst, arith}
 use Rattle.net_dual.specs.Small.{IsWithin}
 use Rattle.cert_check.specs.Tolls.{HasAdded, strand_of}
 use Rattle.cert_check.proofs.TieSums.{ties_more}
@@ -20,13 +21,17 @@ loop-tie-preserved c =
     let value = c.deref_mut.ensures.value in
     let many : length new ≡ length old = c.add_tie.ensures.count ∙ ap length value in
     let whole : take c.loop-tie.sums.len (new ++ drop (length new) old) ≡ new
-    = written_back c.loop-tie.sums.len new old many (ap length (sym value) ∙ c.deref_mut.ensures.len) in
+    = written_back c.loop-tie.sums.len new old many
+    (ap length (sym value) ∙ c.deref_mut.ensures.len) in
     let added : HasAdded old prices.ties (strand_of end t) n 13 new
     = subst (λ (xs : List ℤ). HasAdded old xs (strand_of end t) n 13 new) c.as_slice.ensures
     (subst (λ k. HasAdded old c.as_slice.result.now k n 13 new) c.strand_of-strand.ensures
-    (subst (λ (xs : List ℤ). HasAdded xs c.as_slice.result.now c.strand_of-strand.result n 13 new) value c.add_tie.ensures.added)) in record {
+    (subst (λ (xs : List ℤ). HasAdded xs c.as_slice.result.now c.strand_of-strand.result n 13 new)
+    value c.add_tie.ensures.added)) in record {
       count = ap length whole ∙ many ∙ inv.count;
       each = λ s j there few. ap (λ (xs : List ℤ). get_or xs (13 * s + j) (pos 0)) whole
-          ∙ ties_more net.ties prices end old new n t lt c.index.ensures added s j few (inv.each s j there few);
-      within = λ k. subst (λ (xs : List ℤ). IsWithin (2 ^ 40 * (n + 1)) (get_or xs k (pos 0))) (sym whole) (c.add_tie.ensures.within k);
+          ∙ ties_more net.ties prices end old new n t lt c.index.ensures added s j few
+          (inv.each s j there few);
+      within = λ k. subst (λ (xs : List ℤ). IsWithin (2 ^ 40 * (n + 1)) (get_or xs k (pos 0)))
+          (sym whole) (c.add_tie.ensures.within k);
     }

@@ -21,4 +21,5 @@ returns-clause-value c =
     let l = c.args.spot.layer in
     c.end_prices.ensures.value
     ∙ sym (mem_part_is net prices s l c.args.place
-    ∙ ap (λ b. pay b (ends_sum net.pairs prices s l)) (sym c.is_mem.ensures ∙ c.if-not-is_mem.false))
+    ∙ ap (λ b. pay b (ends_sum net.pairs prices s l))
+    (sym c.is_mem.ensures ∙ c.if-not-is_mem.false))

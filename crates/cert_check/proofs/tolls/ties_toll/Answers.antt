@@ -20,21 +20,31 @@ returns-clause-value c =
     let l = c.args.spot.layer in
     let q = c.args.place in
     let t = c.index-strand.result.now in
-    let read : t ≡ strand_at net s = get_or_read net.strands s t c.requires.spot.strand c.index-strand.ensures no_strand in
+    let read : t ≡ strand_at net s = get_or_read net.strands s t c.requires.spot.strand
+    c.index-strand.ensures no_strand in
     let exit : c.end_toll-exit.result ≡ exit_part net prices (edge s l None q)
     = c.end_toll-exit.ensures.value
-    ∙ ap (λ (t : Strand). pay (nat_eq l t.last) (slot_at c.as_slice-exits.result.now s (tie_slot q))) read
-    ∙ ap (λ (xs : List ℤ). pay (nat_eq l (strand_at net s).last) (slot_at xs s (tie_slot q))) c.as_slice-exits.ensures
-    ∙ ap (pay (nat_eq l (strand_at net s).last)) (kept_sum net prices Exit tolls.exits s q c.requires.tolls.exits c.requires.spot.strand)
+    ∙ ap (λ (t : Strand). pay (nat_eq l t.last)
+    (slot_at c.as_slice-exits.result.now s (tie_slot q))) read
+    ∙ ap (λ (xs : List ℤ). pay (nat_eq l (strand_at net s).last) (slot_at xs s (tie_slot q)))
+    c.as_slice-exits.ensures
+    ∙ ap (pay (nat_eq l (strand_at net s).last))
+    (kept_sum net prices Exit tolls.exits s q c.requires.tolls.exits c.requires.spot.strand)
     ∙ sym (exit_part_is net prices s l q) in
     let entry : c.end_toll-entry.result ≡ entry_part net prices (edge s l None q)
     = c.end_toll-entry.ensures.value
-    ∙ ap (λ (t : Strand). pay (nat_eq l t.first) (slot_at c.as_slice-entries.result.now s (tie_slot q))) read
-    ∙ ap (λ (xs : List ℤ). pay (nat_eq l (strand_at net s).first) (slot_at xs s (tie_slot q))) c.as_slice-entries.ensures
-    ∙ ap (pay (nat_eq l (strand_at net s).first)) (kept_sum net prices Entry tolls.entries s q c.requires.tolls.entries c.requires.spot.strand)
+    ∙ ap (λ (t : Strand). pay (nat_eq l t.first)
+    (slot_at c.as_slice-entries.result.now s (tie_slot q))) read
+    ∙ ap (λ (xs : List ℤ). pay (nat_eq l (strand_at net s).first) (slot_at xs s (tie_slot q)))
+    c.as_slice-entries.ensures
+    ∙ ap (pay (nat_eq l (strand_at net s).first))
+    (kept_sum net prices Entry tolls.entries s q c.requires.tolls.entries
+    c.requires.spot.strand)
     ∙ sym (entry_part_is net prices s l q) in
-    let exact_exit = to_z-of_z w128 c.end_toll-exit.result (record { sfits = c.end_toll-exit.type_inv }) in
-    let exact_entry = to_z-of_z w128 c.end_toll-entry.result (record { sfits = c.end_toll-entry.type_inv }) in
+    let exact_exit = to_z-of_z w128 c.end_toll-exit.result
+    (record { sfits = c.end_toll-exit.type_inv }) in
+    let exact_entry = to_z-of_z w128 c.end_toll-entry.result
+    (record { sfits = c.end_toll-entry.type_inv }) in
     let rest = c.subtract.ensures in
     rw (to_z-of_z w128 c.subtract.result (record { sfits = c.subtract.type_inv }))
     (omega (arith, ints, rest, exact_exit, exact_entry, exit, entry))

@@ -13,10 +13,12 @@ pub value_of-requires-clause-prices : goal.value_of-requires-clause-prices
 value_of-requires-clause-prices g c =
     let net = c.args.net.now in
     let cert = c.args.cert.now in
-    subst (AreInRange net) (sym (c.listed.ensures net c.requires.zero)) (in_range net cert c.requires.prices)
+    subst (AreInRange net) (sym (c.listed.ensures net c.requires.zero))
+    (in_range net cert c.requires.prices)
 
 pub value_of-requires-clause-paths : goal.value_of-requires-clause-paths
-value_of-requires-clause-paths g c = λ s lt. some_path c.args.net.now c.args.cert.now.routes c.requires.routes s lt
+value_of-requires-clause-paths g c = λ s lt. some_path c.args.net.now c.args.cert.now.routes
+    c.requires.routes s lt
 
 pub returns : goal.returns
 returns g c =
@@ -26,5 +28,7 @@ returns g c =
     let value = c.in_ok-value.value in
     let b = c.is_carried.result in
     bound_test w net cert value b c.if-cert-eq0.false
-    (subst (λ (p : Prices). IsLagrange net w p value) (c.listed.ensures net c.requires.zero) c.in_ok-value.ensures.value)
-    (subst (λ z. IsTrue b ↔ ((pos (1024 * cert.bound) -ℤ pos 1023) ≤ℤ z)) (same_bits (2 ^ 125) value (omega arith) c.in_ok-value.ensures.within) c.is_carried.ensures)
+    (subst (λ (p : Prices). IsLagrange net w p value) (c.listed.ensures net c.requires.zero)
+    c.in_ok-value.ensures.value)
+    (subst (λ z. IsTrue b ↔ ((pos (1024 * cert.bound) -ℤ pos 1023) ≤ℤ z))
+    (same_bits (2 ^ 125) value (omega arith) c.in_ok-value.ensures.within) c.is_carried.ensures)

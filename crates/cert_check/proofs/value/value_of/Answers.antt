@@ -17,8 +17,10 @@ returns-clause-value g c =
     let exact_paid = to_z-of_z w128 paid (record { sfits = c.paid-paid.type_inv }) in
     let whole = to_z-of_z w128 c.subtract.result (record { sfits = c.subtract.type_inv }) in
     let rest = c.subtract.ensures in
-    let is : costs -ℤ paid ≡ to_z w128 (of_z w128 c.subtract.result) = omega (arith, ints, exact_costs, exact_paid, whole, rest) in
-    subst (IsLagrange net w prices) is (value_of_costs net w prices costs paid c.least_costs.ensures.sum c.paid-paid.ensures.value)
+    let is : costs -ℤ paid ≡ to_z w128 (of_z w128 c.subtract.result) =
+    omega (arith, ints, exact_costs, exact_paid, whole, rest) in
+    subst (IsLagrange net w prices) is
+    (value_of_costs net w prices costs paid c.least_costs.ensures.sum c.paid-paid.ensures.value)
 
 pub returns-clause-within : goal.returns-clause-within
 returns-clause-within g c =

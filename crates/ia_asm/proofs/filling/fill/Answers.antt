@@ -19,12 +19,14 @@ again n = cast_signed w32 (cast_unsigned w32 n)
 
 pub overflow_add-call : goal.overflow_add-call
 overflow_add-call c =
-    let here = within_at 0 (length c.args.code.now) c.args.calls.now c.loop-call.call-index past c.loop-call-test.true c.requires.within in
+    let here = within_at 0 (length c.args.code.now) c.args.calls.now c.loop-call.call-index past
+    c.loop-call-test.true c.requires.within in
     omega (arith, here, c.requires.short)
 
 pub overwrite-requires : goal.overwrite-requires
 overwrite-requires c =
-    let here = within_at 0 (length c.args.code.now) c.args.calls.now c.loop-call.call-index past c.loop-call-test.true c.requires.within in
+    let here = within_at 0 (length c.args.code.now) c.args.calls.now c.loop-call.call-index past
+    c.loop-call-test.true c.requires.within in
     omega (arith, here, c.loop-call.invariant.long)
 
 pub loop-call-preserved : goal.loop-call-preserved
@@ -33,11 +35,15 @@ loop-call-preserved c =
     let site : CallSite = get_or calls c.loop-call.call-index past in
     let starts = entry_in c.args.entries.now (length c.args.code.now) in
     let to : c.unwrap_or-to.result ≡ starts site.callee.0 = search rules in
-    let goes : c.distance.result ≡ distance (site.place + 4) (starts site.callee.0) = c.distance.ensures ∙ ap (distance (site.place + 4)) to in
-    let fits : FitsSigned w32 c.distance.result = subst (FitsSigned w32) (sym goes) (SFits-int_wrap w32 _) in
+    let goes : c.distance.result ≡ distance (site.place + 4) (starts site.callee.0) =
+    c.distance.ensures ∙ ap (distance (site.place + 4)) to in
+    let fits : FitsSigned w32 c.distance.result = subst (FitsSigned w32) (sym goes)
+    (SFits-int_wrap w32 _) in
     record {
       long = search rules;
       same =
-          filled_one_more starts _ c.loop-call.code c.overwrite.new.code calls c.loop-call.call-index past (again c.distance.result) c.loop-call-test.true c.loop-call.invariant.same
+          filled_one_more starts _ c.loop-call.code c.overwrite.new.code calls
+          c.loop-call.call-index past (again c.distance.result) c.loop-call-test.true
+          c.loop-call.invariant.same
           (to_z-of_z w32 c.distance.result fits ∙ goes) c.overwrite.ensures;
     }

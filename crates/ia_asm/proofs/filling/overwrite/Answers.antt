@@ -9,5 +9,7 @@ pub returns : goal.returns
 returns c =
     let place = c.args.place in
     let four : place + 4 - place ≡ 4 = omega arith in
-    part_is_overwritten place (place + 4 - place) (imm32 c.args.n) c.copy_from_slice.new.self c.args.code.now
-    (c.copy_from_slice.ensures.after ∙ c.to_le_bytes.ensures ∙ ap imm32 (to_z-of_z w32 c.args.n c.ranges.n)) four
+    part_is_overwritten place (place + 4 - place) (imm32 c.args.n) c.copy_from_slice.new.self
+    c.args.code.now
+    (c.copy_from_slice.ensures.after ∙ c.to_le_bytes.ensures
+    ∙ ap imm32 (to_z-of_z w32 c.args.n c.ranges.n)) four

@@ -11,14 +11,17 @@ loop-instruction-preserved c =
     let code = c.args.code.now in
     let k = c.loop-instruction.instruction-index in
     let i = c.instruction-item.result in
-    let there : slice_get code k ≡ Some i = slice_get_read code _ k i refl c.loop-instruction-test.true c.instruction-item.is in
+    let there : slice_get code k ≡ Some i =
+    slice_get_read code _ k i refl c.loop-instruction-test.true c.instruction-item.is in
     record {
       items = first_of (search rules, grind (arith, common_steps));
-      offsets = below_next OffsetFits code k i there c.emit.ensures.offset c.loop-instruction.invariant.offsets;
+      offsets = below_next OffsetFits code k i there c.emit.ensures.offset
+          c.loop-instruction.invariant.offsets;
     }
 
 pub returns-clause-offsets : goal.returns-clause-offsets
 returns-clause-offsets c = λ k i there.
     let code = c.args.code.now in
     let within = slice_get_within code k i there in
-    c.loop-instruction.invariant.offsets k i (omega (arith, within, c.loop-instruction-test.false)) there
+    c.loop-instruction.invariant.offsets k i (omega (arith, within, c.loop-instruction-test.false))
+    there

@@ -5,4 +5,5 @@ use Rattle.ia_emit.proofs.bytes.put_all.Given as goal
 
 abbrev pub invariant-loop-item : goal.invariant-loop-item
 invariant-loop-item l =
-    IsOpen (target_in l.layout.proc.now l.layout.at) l.layout.at (take l.item-index l.items) l.bytes.items l.calls.items
+    IsOpen (target_in l.layout.proc.now l.layout.at) l.layout.at (take l.item-index l.items)
+    l.bytes.items l.calls.items

@@ -13,17 +13,21 @@ places-requires-clause-sound c =
     let p = c.args.proc.now in
     let is = c.requires.placed in
     subst EachSound (sym (c.as_slice-items.ensures.value ∙ c.in_ok-body.ensures.items))
-    (proc_sound p (cells_hold p c.requires.small is) (λ j b m i places e f. is.operands_placed j m i places (b, e, f)))
+    (proc_sound p (cells_hold p c.requires.small is)
+    (λ j b m i places e f. is.operands_placed j m i places (b, e, f)))
 
 pub put_all-requires-clause-sound : goal.put_all-requires-clause-sound
 put_all-requires-clause-sound c =
     let p = c.args.proc.now in
     let is = c.requires.placed in
     subst EachSound (sym (c.as_slice-items.ensures.value ∙ c.in_ok-body.ensures.items))
-    (proc_sound p (cells_hold p c.requires.small is) (λ j b m i places e f. is.operands_placed j m i places (b, e, f)))
+    (proc_sound p (cells_hold p c.requires.small is)
+    (λ j b m i places e f. is.operands_placed j m i places (b, e, f)))
 
 pub returns-clause-open : goal.returns-clause-open
 returns-clause-open c =
     let p = c.args.proc.now in
     let at = c.args.at in
-    subst (λ items. IfOk c.put_all.result (λ (q : Piece). IsOpen (target_in p at) at items q.bytes.items q.calls.items)) (c.as_slice-items.ensures.value ∙ c.in_ok-body.ensures.items) c.put_all.ensures
+    subst (λ items. IfOk c.put_all.result
+    (λ (q : Piece). IsOpen (target_in p at) at items q.bytes.items q.calls.items))
+    (c.as_slice-items.ensures.value ∙ c.in_ok-body.ensures.items) c.put_all.ensures

@@ -8,4 +8,5 @@ use Rattle.net_build.proofs.beside.is_role.Goals as goal
 pub returns-in-Some : goal.returns-in-Some
 returns-in-Some c =
     c.has_role_beside.ensures
-    ∙ ap (λ (o : Option VInstr). list_any (is_role_of c.args.var) (roles_beside (is_before c.args.layer) operands o)) c.in-Some.ensures
+    ∙ ap (λ (o : Option VInstr). list_any (is_role_of c.args.var)
+    (roles_beside (is_before c.args.layer) operands o)) c.in-Some.ensures

@@ -1,4 +1,5 @@
-use Rattle.std.proofs.Common.{◌≡◌, ◌∙◌, ◌++◌, List, [], Option, None, Some, refl, ap, option_to_list, append_assoc}
+use Rattle.std.proofs.Common.{◌≡◌, ◌∙◌, ◌++◌, List, [], Option, None, Some, refl, ap}
+use Rattle.std.proofs.Common.{option_to_list, append_assoc}
 use Rattle.std.specs.List.{cons_option}
 use Rattle.net_form.specs.declared.net.Extra.{Extra}
 use Rattle.pra_base.specs.declared.ids.Place.TheVariants.{Mem, Const}
@@ -14,7 +15,8 @@ two (Some x) (Some y) = refl
 
 pub returns : goal.returns
 returns c =
-    let at = extra_at all_tables c.args.code.now c.args.number c.args.strand.now (c.args.layer, c.args.mask) in
+    let at = extra_at all_tables c.args.code.now c.args.number c.args.strand.now
+    (c.args.layer, c.args.mask) in
     c.in_ok-add_extra-2.ensures
     ∙ ap (λ (l : List Extra). l ++ option_to_list (at Const)) c.in_ok-add_extra.ensures
     ∙ append_assoc c.args.out.now (option_to_list (at Mem)) (option_to_list (at Const))

@@ -8,4 +8,5 @@ pub add_strand-requires-clause-few : goal.add_strand-requires-clause-few
 add_strand-requires-clause-few c =
     let t = c.index.result.now in
     small_strand c.args.code.now t c.requires.sized
-    (subst (IsStrandOf (map net_block c.args.code.now.blocks)) (sym c.index.ensures) (c.requires.strands c.loop-number.number t (omega arith)))
+    (subst (IsStrandOf (map net_block c.args.code.now.blocks)) (sym c.index.ensures)
+    (c.requires.strands c.loop-number.number t (omega arith)))

@@ -7,4 +7,5 @@ use Rattle.net_build.proofs.extras.extras_of.Given as goal
 
 abbrev pub invariant-loop-number : goal.invariant-loop-number
 invariant-loop-number l =
-    l.out ++ flat_map (strand_extras l.code) (enumerate_from l.number (drop l.number l.strands)) ≡ extras all_tables l.code l.strands
+    l.out ++ flat_map (strand_extras l.code) (enumerate_from l.number (drop l.number l.strands)) ≡
+    extras all_tables l.code l.strands

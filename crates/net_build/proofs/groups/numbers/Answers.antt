@@ -32,7 +32,15 @@ pub returns : goal.returns
 returns c =
     let p = leading c.args.tied.now c.args.least.now in
     let end = c.loop-end.end in
-    let all : end ≡ length c.args.least.now = omega (arith, c.loop-end-test.false, c.loop-end.auto.end-end, c.len-end-end.ensures, c.requires.few) in
-    c.in_ok-push-2.ensures.ok ∙ (λ i. c.loop-end.invariant.made i ++ c.loop-end.invariant.found i ∷ [])
+    let all : end ≡ length c.args.least.now =
+    omega (
+      arith,
+      c.loop-end-test.false,
+      c.loop-end.auto.end-end,
+      c.len-end-end.ensures,
+      c.requires.few,
+    ) in
+    c.in_ok-push-2.ensures.ok
+    ∙ (λ i. c.loop-end.invariant.made i ++ c.loop-end.invariant.found i ∷ [])
     ∙ sym (map_more (λ e. count_by p (range_with_len 0 e)) end)
     ∙ ap (λ (n : ℕ). map (λ e. count_by p (range_with_len 0 e)) (range_with_len 0 (n + 1))) all

@@ -6,6 +6,7 @@ use Rattle.net_build.proofs.groups.numbers.Given as goal
 
 abbrev pub invariant-loop-end : goal.invariant-loop-end
 invariant-loop-end l = record {
-  made : l.made ≡ map (λ e. count_by (leading l.tied l.least) (range_with_len 0 e)) (range_with_len 0 l.end);
+  made : l.made ≡ map (λ e. count_by (leading l.tied l.least) (range_with_len 0 e))
+      (range_with_len 0 l.end);
   found : l.found ≡ count_by (leading l.tied l.least) (range_with_len 0 l.end);
 }

@@ -11,18 +11,26 @@ ends_in_order-requires c =
     let owners = c.in_ok-members.members.owners in
     let ms = members c.args.strands.now in
     let count : length owners ≡ length c.in_ok-members.members.ends =
-    ap length c.in_ok-members.ensures.owners ∙ length-map ms (λ (m : Member). m.group) ∙ sym (length-map ms (λ (m : Member). m.at)) ∙ sym (ap length c.in_ok-members.ensures.ends) in
+    ap length c.in_ok-members.ensures.owners ∙ length-map ms (λ (m : Member). m.group)
+    ∙ sym (length-map ms (λ (m : Member). m.at))
+    ∙ sym (ap length c.in_ok-members.ensures.ends) in
     subst (λ (n : ℕ). All (λ (i : ℕ). i < n) c.in_ok-order.order) count
-    (subst (All (λ (i : ℕ). i < length owners)) (sym c.in_ok-order.ensures) (within owners c.args.groups))
+    (subst (All (λ (i : ℕ). i < length owners)) (sym c.in_ok-order.ensures)
+    (within owners c.args.groups))
 
 pub returns-clause-first : goal.returns-clause-first
 returns-clause-first c =
-    c.first.view_is ∙ c.in_ok-first.ensures ∙ ap (λ (l : List ℕ). beginnings (λ o. o) l c.args.groups) c.in_ok-members.ensures.owners
+    c.first.view_is ∙ c.in_ok-first.ensures
+    ∙ ap (λ (l : List ℕ). beginnings (λ o. o) l c.args.groups) c.in_ok-members.ensures.owners
     ∙ beginnings_of (λ (m : Member). m.group) (members c.args.strands.now) c.args.groups
 
 pub returns-clause-ends : goal.returns-clause-ends
 returns-clause-ends c =
     c.in_ok-ends_in_order.ensures
-    ∙ ap (map (end_at c.in_ok-members.members.ends)) (c.in_ok-order.ensures ∙ ap (λ (l : List ℕ). by_owner l c.args.groups) c.in_ok-members.ensures.owners)
-    ∙ ap (λ (l : List TieEnd). map (end_at l) (by_owner (map (λ (m : Member). m.group) (members c.args.strands.now)) c.args.groups)) c.in_ok-members.ensures.ends
+    ∙ ap (map (end_at c.in_ok-members.members.ends))
+    (c.in_ok-order.ensures ∙ ap (λ (l : List ℕ). by_owner l c.args.groups)
+    c.in_ok-members.ensures.owners)
+    ∙ ap (λ (l : List TieEnd). map (end_at l)
+    (by_owner (map (λ (m : Member). m.group) (members c.args.strands.now)) c.args.groups))
+    c.in_ok-members.ensures.ends
     ∙ group_list (members c.args.strands.now) c.args.groups

@@ -14,14 +14,22 @@ returns c =
     let count = c.len-strands.ensures in
     let masks = λ (k : ℕ) (lt : k < n). (c.requires.strands k no_strand lt).masks in
     let order = λ (k : ℕ). by_owner (end_owners l.pairs) k in
-    let extras = c.in_ok-extras.ensures ∙ (λ i. beginnings (λ o. o) (c.in_ok-owners.ensures i) (count i)) ∙ beginnings_of (λ (x : Extra). x.strand) l.extras n in
+    let extras = c.in_ok-extras.ensures
+    ∙ (λ i. beginnings (λ o. o) (c.in_ok-owners.ensures i) (count i))
+    ∙ beginnings_of (λ (x : Extra). x.strand) l.extras n in
     let pairs = c.in_ok-ends.ensures.first
     ∙ ap (λ (k : ℕ). beginnings (λ o. o) (map (owner_of (end_owners l.pairs)) (order k)) k) count
     ∙ end_beginnings l.strands l.pairs c.requires.pairs masks in
-    let ends = c.in_ok-ends.ensures.ends ∙ ap (λ (k : ℕ). map (pair_end l.pairs) (order k)) count ∙ end_list l.strands l.pairs c.requires.pairs masks in
-    let exits = c.in_ok-exits.ensures ∙ (λ i. beginnings (λ o. o) (c.in_ok-sources.ensures i) (count i)) ∙ beginnings_of (λ (t : Tie). t.from) l.ties n in
-    let entries = c.in_ok-entries.ensures ∙ (λ i. beginnings (λ o. o) (c.in_ok-targets.ensures i) (count i)) ∙ beginnings_of (λ (t : Tie). t.to) l.ties n in
-    let arrivals = c.in_ok-arrivals.ensures ∙ (λ i. by_owner (c.in_ok-targets.ensures i) (count i)) ∙ arrivals_are l.ties n in
+    let ends = c.in_ok-ends.ensures.ends ∙ ap (λ (k : ℕ). map (pair_end l.pairs) (order k)) count
+    ∙ end_list l.strands l.pairs c.requires.pairs masks in
+    let exits = c.in_ok-exits.ensures
+    ∙ (λ i. beginnings (λ o. o) (c.in_ok-sources.ensures i) (count i))
+    ∙ beginnings_of (λ (t : Tie). t.from) l.ties n in
+    let entries = c.in_ok-entries.ensures
+    ∙ (λ i. beginnings (λ o. o) (c.in_ok-targets.ensures i) (count i))
+    ∙ beginnings_of (λ (t : Tie). t.to) l.ties n in
+    let arrivals = c.in_ok-arrivals.ensures ∙ (λ i. by_owner (c.in_ok-targets.ensures i) (count i))
+    ∙ arrivals_are l.ties n in
     (λ i. record {
       layers = c.in_ok-layers.ensures i;
       strands = c.in_ok-places.ensures.blocks i;

@@ -6,5 +6,6 @@ abbrev pub invariant-loop-end : goal.invariant-loop-end
 invariant-loop-end l = record {
   count : length l.parents ≡ length l.initial.parents;
   later : (e : ℕ) → l.end ≤ e → parent l.parents e ≡ parent l.initial.parents e;
-  done : (label : ℕ → ℕ) → AreLabels l.initial.parents label → (e : ℕ) → e < l.end → parent l.parents e ≡ label e;
+  done : (label : ℕ → ℕ) → AreLabels l.initial.parents label → (e : ℕ) → e < l.end →
+      parent l.parents e ≡ label e;
 }

@@ -17,5 +17,7 @@ returns-clause-labels c = λ label is.
     let one_is = one.1 in
     let two_is = two.1 in
     let within : max a b < length ps = omega (arith, one_is, two_is) in
-    subst (λ s. AreLabels s (merged (min a b) (max a b) label)) (sym (c.set.ensures ∙ (λ i. set ps (high i) (low i))))
-    (merged_labels ps (max a b) (min a b) within label two.0 (omega arith) (greater_own label a b own_a own_b) (lesser_own label a b own_a own_b))
+    subst (λ s. AreLabels s (merged (min a b) (max a b) label))
+    (sym (c.set.ensures ∙ (λ i. set ps (high i) (low i))))
+    (merged_labels ps (max a b) (min a b) within label two.0 (omega arith)
+    (greater_own label a b own_a own_b) (lesser_own label a b own_a own_b))

@@ -11,11 +11,14 @@ unite-requires-clause-few c =
 
 pub unite-requires-clause-down : goal.unite-requires-clause-down
 unite-requires-clause-down c = λ e.
-    let own = ap (λ (ps : List ℕ). parent ps e) c.in_ok-parents.ensures ∙ own_parent c.args.ends e in omega (arith, own)
+    let own = ap (λ (ps : List ℕ). parent ps e) c.in_ok-parents.ensures
+    ∙ own_parent c.args.ends e in omega (arith, own)
 
 pub unite-requires-clause-ties : goal.unite-requires-clause-ties
 unite-requires-clause-ties c = λ k d lt.
-    subst (λ (n : ℕ). IsBelow n (get_or c.args.ties.now k d)) (sym (ap length c.in_ok-parents.ensures ∙ length-range_with_len 0 c.args.ends)) (c.requires k d lt)
+    subst (λ (n : ℕ). IsBelow n (get_or c.args.ties.now k d))
+    (sym (ap length c.in_ok-parents.ensures ∙ length-range_with_len 0 c.args.ends))
+    (c.requires k d lt)
 
 pub unite-requires-clause-alone : goal.unite-requires-clause-alone
 unite-requires-clause-alone c = none_united c.args.ties.now c.in_ok-parents.parents (λ e.
@@ -28,7 +31,8 @@ flatten-requires-clause-few c =
 
 pub returns-clause-count : goal.returns-clause-count
 returns-clause-count c =
-    c.flatten.ensures.count ∙ c.unite.ensures.count ∙ ap length c.in_ok-parents.ensures ∙ length-range_with_len 0 c.args.ends
+    c.flatten.ensures.count ∙ c.unite.ensures.count ∙ ap length c.in_ok-parents.ensures
+    ∙ length-range_with_len 0 c.args.ends
 
 pub returns-clause-least : goal.returns-clause-least
 returns-clause-least c =

@@ -8,7 +8,8 @@ invariant-loop-above l = record {
   above : l.above ≡ parent l.parents l.at;
   count : length l.parents ≡ length l.initial.parents;
   down : GoDown l.parents;
-  labels : (label : ℕ → ℕ) → AreLabels l.initial.parents label → AreLabels l.parents label × (label l.at ≡ label l.end);
+  labels : (label : ℕ → ℕ) → AreLabels l.initial.parents label → AreLabels l.parents label ×
+      (label l.at ≡ label l.end);
 }
 
 abbrev pub decreases-loop-above : goal.decreases-loop-above

@@ -32,11 +32,14 @@ ties_of-requires-clause-few c =
 
 pub extras_of-requires-clause-strands : goal.extras_of-requires-clause-strands
 extras_of-requires-clause-strands c =
-    subst (All (IsStrandOf (map net_block c.args.code.now.blocks))) (sym c.in_ok-strands.ensures) (strands_are_formed all_tables c.args.code.now (live_at c.args.live.now))
+    subst (All (IsStrandOf (map net_block c.args.code.now.blocks))) (sym c.in_ok-strands.ensures)
+    (strands_are_formed all_tables c.args.code.now (live_at c.args.live.now))
 
 pub ties_of-requires-clause-strands : goal.ties_of-requires-clause-strands
 ties_of-requires-clause-strands c =
-    subst (All (IsStrandOf (map net_block c.args.code.now.blocks))) (sym c.in_ok-strands.ensures) (strands_are_formed all_tables c.args.code.now (live_at c.args.live.now))
+    subst (All (IsStrandOf (map net_block c.args.code.now.blocks))) (sym c.in_ok-strands.ensures)
+    (strands_are_formed all_tables c.args.code.now (live_at c.args.live.now))
 
 pub ties_of-requires-clause-order : goal.ties_of-requires-clause-order
-ties_of-requires-clause-order c = subst AreInOrder (sym c.in_ok-strands.ensures) (strands_in_order c.args.code.now (live_at c.args.live.now))
+ties_of-requires-clause-order c = subst AreInOrder (sym c.in_ok-strands.ensures)
+    (strands_in_order c.args.code.now (live_at c.args.live.now))

@@ -1,4 +1,5 @@
-use Rattle.std.proofs.Common.{ℕ, ◌≡◌, ◌*◌, ◌<◌, ◌∙◌, List, length, map, All, count_by, subst, sym, ap, arith}
+use Rattle.std.proofs.Common.{ℕ, ◌≡◌, ◌*◌, ◌<◌, ◌∙◌, List, length, map, All, count_by, subst, sym}
+use Rattle.std.proofs.Common.{ap, arith}
 use Rattle.std.specs.List.{range_with_len, enumerate_from}
 use Rattle.net_form.specs.declared.net.Strand.{Strand}
 use Rattle.net_form.specs.declared.net.NetBlock.{NetBlock}
@@ -27,15 +28,20 @@ use Rattle.net_build.proofs.Whole.{same_leads, same_group, ties_below, few_layer
 use Rattle.net_build.proofs.network.build.Goals as goal
 
 -- the strands with their groups
-found_are : (code : VProc) (live : Lives) (l : Lists) (g : Groups) (ends : ℕ) (made : List Strand) → AreLists code live l → AreGroups l.ties ends g → AreNumbered g
+found_are : (code : VProc) (live : Lives) (l : Lists) (g : Groups) (ends : ℕ) (made : List Strand) →
+    AreLists code live l → AreGroups l.ties ends g → AreNumbered g
     → made ≡ map (grouped_in g) (enumerate_from 0 l.strands)
-    → made ≡ with_groups (ties code (strands all_tables code live)) (parent g.least) (strands all_tables code live)
+    → made ≡ with_groups (ties code (strands all_tables code live)) (parent g.least)
+    (strands all_tables code live)
 found_are code live l g ends made are groups_are numbered is =
     let group = same_group l.ties ends g groups_are numbered in
     let sp = are.strands_are in
     is
-    ∙ (λ i. map (λ (s : ℕ × Strand). record s.1 { entry_group = group (entry_end s.0) i; exit_group = group (exit_end s.0) i }) (enumerate_from 0 (sp i)))
-    ∙ ap (λ (t : List Tie). map (grouped t (parent g.least)) (enumerate_from 0 (strands all_tables code live))) (are.ties_are ∙ ap (ties code) sp)
+    ∙ (λ i. map (λ (s : ℕ × Strand). record s.1
+    { entry_group = group (entry_end s.0) i; exit_group = group (exit_end s.0) i })
+    (enumerate_from 0 (sp i)))
+    ∙ ap (λ (t : List Tie). map (grouped t (parent g.least))
+    (enumerate_from 0 (strands all_tables code live))) (are.ties_are ∙ ap (ties code) sp)
 
 pub index_of-requires : goal.index_of-requires
 index_of-requires c =
@@ -47,17 +53,23 @@ index_of-requires c =
     let ss = strands all_tables code live in
     let ts = ties code ss in
     let made = c.grouped.result in
-    let found = found_are code live l g (2 * c.len.result) made are c.in_ok-groups.ensures.groups c.in_ok-groups.ensures.numbered c.grouped.ensures in
+    let found = found_are code live l g (2 * c.len.result) made are c.in_ok-groups.ensures.groups
+    c.in_ok-groups.ensures.numbered c.grouped.ensures in
     let few = few_strands all_tables code live c.requires.sized in
     let same = ap length found ∙ as_many ts (parent g.least) ss in
-    let formed = still_of ts (parent g.least) ss (map net_block code.blocks) (strands_are_formed all_tables code live) in
-    let pp : l.pairs ≡ pairs all_tables code ss = are.pairs_are ∙ ap (pairs all_tables code) are.strands_are in
+    let formed = still_of ts (parent g.least) ss (map net_block code.blocks)
+    (strands_are_formed all_tables code live) in
+    let pp : l.pairs ≡ pairs all_tables code ss = are.pairs_are
+    ∙ ap (pairs all_tables code) are.strands_are in
     record {
       few = omega (arith, few, same);
-      layers = subst (λ (bs : List NetBlock). layer_total bs < 4294967296) (sym are.blocks_are) (few_layers code c.requires.sized);
-      strands = subst (λ (bs : List NetBlock). All (IsStrandOf bs) made) (sym are.blocks_are) (subst (All (IsStrandOf (map net_block code.blocks))) (sym found) formed);
+      layers = subst (λ (bs : List NetBlock). layer_total bs < 4294967296) (sym are.blocks_are)
+          (few_layers code c.requires.sized);
+      strands = subst (λ (bs : List NetBlock). All (IsStrandOf bs) made) (sym are.blocks_are)
+          (subst (All (IsStrandOf (map net_block code.blocks))) (sym found) formed);
       pairs = subst (λ (s : List Strand). ArePairs s l.pairs) (sym found)
-          (still_pairs ts (parent g.least) ss l.pairs (subst (ArePairs ss) (sym pp) (are_pairs all_tables code ss)));
+          (still_pairs ts (parent g.least) ss l.pairs
+          (subst (ArePairs ss) (sym pp) (are_pairs all_tables code ss)));
     }
 
 pub groups_of-requires : goal.groups_of-requires
@@ -71,7 +83,8 @@ groups_of-requires c =
     record {
       few = omega (arith, few, same, count);
       ties = subst (λ (n : ℕ). All (IsBelow (2 * n)) l.ties) (sym count)
-          (subst (All (IsBelow (2 * length l.strands))) (sym are.ties_are) (ties_below code l.strands));
+          (subst (All (IsBelow (2 * length l.strands))) (sym are.ties_are)
+          (ties_below code l.strands));
     }
 
 pub returns : goal.returns
@@ -88,10 +101,13 @@ returns c =
     let ts = ties code ss in
     let sp : l.strands ≡ ss = are.strands_are in
     let tp : l.ties ≡ ts = are.ties_are ∙ ap (ties code) sp in
-    let ep : l.extras ≡ extras all_tables code ss = are.extras_are ∙ ap (extras all_tables code) sp in
+    let ep : l.extras ≡ extras all_tables code ss = are.extras_are
+    ∙ ap (extras all_tables code) sp in
     let pp : l.pairs ≡ pairs all_tables code ss = are.pairs_are ∙ ap (pairs all_tables code) sp in
-    let found = found_are code live l g ends c.grouped.result are groups_are c.in_ok-groups.ensures.numbered c.grouped.ensures in
-    let count : length g.least ≡ 2 * length ss = groups_are.count ∙ ap (λ (n : ℕ). 2 * n) (c.len.ensures ∙ ap length sp) in
+    let found = found_are code live l g ends c.grouped.result are groups_are
+    c.in_ok-groups.ensures.numbered c.grouped.ensures in
+    let count : length g.least ≡ 2 * length ss = groups_are.count ∙ ap (λ (n : ℕ). 2 * n)
+    (c.len.ensures ∙ ap length sp) in
     let number = c.count-count.ensures
     ∙ (λ i. count_by (same_leads l.ties ends g groups_are i) (range_with_len 0 (count i)))
     ∙ ap (λ (t : List Tie). count_by (leads t least) (range_with_len 0 (2 * length ss))) tp in

@@ -11,5 +11,6 @@ returns-then-index-block c =
     let inv = c.loop-at.invariant in
     let lt : at < length ss = omega (arith, c.loop-at-test.true, inv.count) in
     starts_here ss c.args.block at c.requires.order inv.within inv.before (λ d _.
-    let here = ap (λ (u : Strand). u.block.0) (get_or_read ss at c.index.result.now lt c.index.ensures d) in
+    let here = ap (λ (u : Strand). u.block.0)
+    (get_or_read ss at c.index.result.now lt c.index.ensures d) in
     omega (arith, here, c.if-index-block.true))

@@ -15,7 +15,9 @@ loop-block-preserved c =
     let before = c.start_of-from.ensures.before in
     record {
       count = omega (arith, long, inv.count);
-      starts = subst (AreStarts ss) (sym new) (starts_pushed ss old at inv.starts (subst (λ n. StartsAt ss n at) (sym inv.count) c.start_of-from.ensures));
+      starts = subst (AreStarts ss) (sym new)
+          (starts_pushed ss old at inv.starts
+          (subst (λ n. StartsAt ss n at) (sym inv.count) c.start_of-from.ensures));
       from = c.start_of-from.ensures.within;
       before = λ k d lt. let b = before k d lt in omega (arith, b);
     }

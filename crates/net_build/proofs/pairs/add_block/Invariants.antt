@@ -8,7 +8,8 @@ use Rattle.net_build.proofs.pairs.add_block.Given as goal
 
 abbrev pub invariant-loop-rest : goal.invariant-loop-rest
 invariant-loop-rest l = record {
-  whole : l.out ++ filter_map (λ i. pair_of l.strands l.block (marked i.0 (operands i.1))) (enumerate_from l.index l.rest)
+  whole : l.out ++ filter_map (λ i. pair_of l.strands l.block (marked i.0 (operands i.1)))
+      (enumerate_from l.index l.rest)
       ≡ l.initial.out ++ block_pairs l.code l.strands l.block;
   index : l.index + length l.rest ≡ length (code_of l.code l.block);
 }

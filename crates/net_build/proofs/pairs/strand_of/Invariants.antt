@@ -6,7 +6,8 @@ use Rattle.net_build.proofs.pairs.strand_of.Given as goal
 abbrev pub invariant-loop-at : goal.invariant-loop-at
 invariant-loop-at l = record {
   within : l.at ≤ length l.strands;
-  others : (k : ℕ) (d : Strand) → k < l.at → stands_for l.var l.block l.layer (get_or l.strands k d) ≡ false;
+  others : (k : ℕ) (d : Strand) → k < l.at → stands_for l.var l.block l.layer
+      (get_or l.strands k d) ≡ false;
 }
 
 abbrev pub decreases-loop-at : goal.decreases-loop-at

@@ -6,4 +6,6 @@ use Rattle.vc_live.specs.Rows.{live_at}
 use Rattle.net_build.proofs.strands.add_block.Given as goal
 
 abbrev pub invariant-loop-layer : goal.invariant-loop-layer
-invariant-loop-layer l = l.out ≡ l.initial.out ++ flat_map (layer_strands all_tables l.code (live_at l.live) l.block) (range_with_len 0 l.layer)
+invariant-loop-layer l = l.out ≡ l.initial.out
+    ++ flat_map (layer_strands all_tables l.code (live_at l.live) l.block)
+    (range_with_len 0 l.layer)

@@ -1,4 +1,5 @@
-use Rattle.std.proofs.Common.{ℕ, ◌≡◌, ◌+◌, ◌-◌, ◌<◌, ◌≤◌, ◌∙◌, ◌++◌, List, length, None, sym, ap, arith}
+use Rattle.std.proofs.Common.{ℕ, ◌≡◌, ◌+◌, ◌-◌, ◌<◌, ◌≤◌, ◌∙◌, ◌++◌, List, length, None, sym, ap}
+use Rattle.std.proofs.Common.{arith}
 use Rattle.std.specs.List.{range_with_len, filter_map}
 use Rattle.net_form.specs.declared.net.Strand.{Strand}
 use Rattle.net_form.specs.Strands.{begun_strand}
@@ -20,10 +21,12 @@ loop-var-preserved c =
     let none : (x : ℕ) → from ≤ x → x < from + (var - from) → f x ≡ None = λ x le lt.
     none_at_entry code live x c.args.block
     (near.1 x le (omega (arith, lt, to, near.0.1)) (omega (arith, lt, to))) in
-    let between = sym (ap (λ (n : ℕ). filter_map f (range_with_len 0 n)) to) ∙ added_none f from (var - from) none in
+    let between = sym (ap (λ (n : ℕ). filter_map f (range_with_len 0 n)) to) ∙ added_none f from
+    (var - from) none in
     record {
       made = added_some f var c.args.out.now c.loop-var.out c.add_begun.new.out
-          (c.loop-var.invariant.made ∙ sym (ap (λ (l : List Strand). c.args.out.now ++ l) between)) c.in_ok-add_begun.ensures;
+          (c.loop-var.invariant.made ∙ sym (ap (λ (l : List Strand). c.args.out.now ++ l) between))
+          c.in_ok-add_begun.ensures;
       within = omega (arith, near.0.1, c.len-end.ensures);
       end = c.len-end.ensures;
     }
@@ -38,6 +41,8 @@ returns c =
     let far = c.in_default.ensures.least in
     let to : from + (n - from) ≡ n = omega (arith, c.loop-var.invariant.within) in
     let none : (x : ℕ) → from ≤ x → x < from + (n - from) → f x ≡ None = λ x le lt.
-    none_at_entry code live x c.args.block (far.1 x le (omega (arith, lt, to, c.len-end.ensures)) tt) in
-    let rest = sym (ap (λ (n : ℕ). filter_map f (range_with_len 0 n)) to) ∙ added_none f from (n - from) none in
+    none_at_entry code live x c.args.block
+    (far.1 x le (omega (arith, lt, to, c.len-end.ensures)) tt) in
+    let rest = sym (ap (λ (n : ℕ). filter_map f (range_with_len 0 n)) to) ∙ added_none f from
+    (n - from) none in
     c.loop-var.invariant.made ∙ sym (ap (λ (l : List Strand). c.args.out.now ++ l) rest)

@@ -5,4 +5,5 @@ use Rattle.net_form.specs.Strands.{is_before, roles_beside}
 use Rattle.net_build.proofs.strands.add_layer.Goals as goal
 
 pub add_roles-requires-clause-roles : goal.add_roles-requires-clause-roles
-add_roles-requires-clause-roles c = ap (λ (o : Option VInstr). roles_beside (is_before c.args.layer) operands o) c.in-None.ensures
+add_roles-requires-clause-roles c =
+    ap (λ (o : Option VInstr). roles_beside (is_before c.args.layer) operands o) c.in-None.ensures

@@ -7,7 +7,9 @@ use Rattle.net_build.proofs.strands.add_roles.Given as goal
 
 abbrev pub invariant-loop-var : goal.invariant-loop-var
 invariant-loop-var l = record {
-  made : l.out ≡ l.initial.out ++ filter_map (begun_strand all_tables l.code (live_at l.live) l.block l.layer) (range_with_len 0 l.from);
+  made : l.out ≡ l.initial.out
+      ++ filter_map (begun_strand all_tables l.code (live_at l.live) l.block l.layer)
+      (range_with_len 0 l.from);
   within : l.from ≤ length l.code.vars;
   end : l.end ≡ length l.code.vars;
 }

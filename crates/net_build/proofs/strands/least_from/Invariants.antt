@@ -8,7 +8,8 @@ abbrev pub invariant-loop-rest : goal.invariant-loop-rest
 invariant-loop-rest l = record {
   within : IfSome l.least (λ k. (l.from ≤ k) × (k < l.end));
   same : (v : ℕ) → l.from ≤ v → v < l.end → IsBelow v l.least
-      → list_any (λ role. nat_eq role.var.0 v) l.roles ≡ list_any (λ role. nat_eq role.var.0 v) l.rest;
+      → list_any (λ role. nat_eq role.var.0 v) l.roles ≡ list_any (λ role. nat_eq role.var.0 v)
+      l.rest;
 }
 
 abbrev pub decreases-loop-rest : goal.decreases-loop-rest

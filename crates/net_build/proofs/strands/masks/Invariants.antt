@@ -7,7 +7,8 @@ use Rattle.net_build.proofs.strands.masks.Given as goal
 -- what is done, joined with what is left, is the whole
 abbrev pub invariant-loop-layer : goal.invariant-loop-layer
 invariant-loop-layer l = record {
-  whole : l.masks ++ run_masks l.code (live_at l.live) l.var l.block l.layer ≡ run_masks l.code (live_at l.live) l.var l.block l.first;
+  whole : l.masks ++ run_masks l.code (live_at l.live) l.var l.block l.layer ≡
+      run_masks l.code (live_at l.live) l.var l.block l.first;
   within : l.layer ≤ l.end;
   end : l.end ≡ layer_count l.code l.block;
 }

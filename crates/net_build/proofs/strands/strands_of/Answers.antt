@@ -9,4 +9,5 @@ use Rattle.net_build.proofs.strands.strands_of.Goals as goal
 pub loop-block-preserved : goal.loop-block-preserved
 loop-block-preserved c =
     let f = block_strands all_tables c.args.code.now (live_at c.args.live.now) in
-    c.in_ok-add_block.ensures ∙ ap (λ (l : List Strand). l ++ f c.loop-block.block) c.loop-block.invariant ∙ sym (flat_map_more f c.loop-block.block)
+    c.in_ok-add_block.ensures ∙ ap (λ (l : List Strand). l ++ f c.loop-block.block)
+    c.loop-block.invariant ∙ sym (flat_map_more f c.loop-block.block)

@@ -6,4 +6,5 @@ use Rattle.vc_live.specs.Rows.{live_at}
 use Rattle.net_build.proofs.strands.strands_of.Given as goal
 
 abbrev pub invariant-loop-block : goal.invariant-loop-block
-invariant-loop-block l = l.out ≡ flat_map (block_strands all_tables l.code (live_at l.live)) (range_with_len 0 l.block)
+invariant-loop-block l = l.out ≡ flat_map (block_strands all_tables l.code (live_at l.live))
+    (range_with_len 0 l.block)

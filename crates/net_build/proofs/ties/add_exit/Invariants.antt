@@ -5,7 +5,8 @@ use Rattle.net_build.proofs.ties.add_exit.Given as goal
 
 abbrev pub invariant-loop-to : goal.invariant-loop-to
 invariant-loop-to l = record {
-  made : l.out ≡ l.initial.out ++ filter_map (tie_to l.strands l.end l.var l.number) (range_with_len 0 l.from);
+  made : l.out ≡ l.initial.out ++ filter_map (tie_to l.strands l.end l.var l.number)
+      (range_with_len 0 l.from);
   within : l.from ≤ length l.strands;
 }
 

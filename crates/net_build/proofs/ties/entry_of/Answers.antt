@@ -9,9 +9,12 @@ place_of-requires-clause-within c =
     let b = c.args.block in
     let lt : b < length starts = omega (arith, c.requires.block) in
     let low = get_or_read starts b c.index-low.result.now lt c.index-low.ensures 0 in
-    let high = get_or_read starts (b + 1) c.index-high.result.now c.requires.block c.index-high.ensures 0 in
-    let le = starts_in_order c.args.strands.now b _ _ (c.requires.starts b lt) (c.requires.starts (b + 1) c.requires.block) in
+    let high = get_or_read starts (b + 1) c.index-high.result.now c.requires.block
+    c.index-high.ensures 0 in
+    let le = starts_in_order c.args.strands.now b _ _ (c.requires.starts b lt)
+    (c.requires.starts (b + 1) c.requires.block) in
     omega (arith, low, high, le)
 
 pub returns : goal.returns
-returns c = λ k d lt same. one_place c.args.strands.now _ c.place_of.result k d c.requires.order c.place_of.ensures.place lt same
+returns c = λ k d lt same. one_place c.args.strands.now _ c.place_of.result k d c.requires.order
+    c.place_of.ensures.place lt same

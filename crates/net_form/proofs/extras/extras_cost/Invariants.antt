@@ -5,4 +5,5 @@ use Rattle.net_form.proofs.extras.extras_cost.Given as goal
 
 abbrev pub invariant-loop-next : goal.invariant-loop-next
 invariant-loop-next g l =
-    (k : ℕ) (d : Extra) → k < l.next → is_extra_at l.strand l.layer l.place (get_or l.net.extras k d) ≡ false
+    (k : ℕ) (d : Extra) → k < l.next → is_extra_at l.strand l.layer l.place
+    (get_or l.net.extras k d) ≡ false

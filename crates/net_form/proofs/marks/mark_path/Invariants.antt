@@ -13,8 +13,10 @@ invariant-loop-rest l =
       long : length l.regs ≡ length l.initial.regs;
       begun : base ≤ l.layer;
       layer : l.layer + length l.rest ≡ base + first + length l.path;
-      bound : (n r : ℕ) → uses l.net n r s (l.layer - base) None l.rest ≤ uses l.net n r s first None l.path;
-      marks : (n r : ℕ) → mark l.regs n r ≡ after l.used (mark l.initial.regs n r) (uses l.net n r s first None l.path - uses l.net n r s (l.layer - base) None l.rest);
+      bound : (n r : ℕ) → uses l.net n r s (l.layer - base) None l.rest ≤
+          uses l.net n r s first None l.path;
+      marks : (n r : ℕ) → mark l.regs n r ≡ after l.used (mark l.initial.regs n r)
+          (uses l.net n r s first None l.path - uses l.net n r s (l.layer - base) None l.rest);
     }
 
 abbrev pub decreases-loop-rest : goal.decreases-loop-rest

@@ -7,13 +7,19 @@ use Rattle.net_form.proofs.marks.mark_place.Goals as goal
 
 pub returns-then-not-has_register-clause-marks : goal.returns-then-not-has_register-clause-marks
 returns-then-not-has_register-clause-marks c = λ n r.
-    sym (after-none c.args.used _ (comes_to c.args.layer c.args.to n r) (mark-small c.args.regs.now n r)
-    (comes_nowhere c.args.layer c.args.to (sym c.has_register.ensures ∙ c.if-not-has_register.true) n r))
+    sym (after-none c.args.used _ (comes_to c.args.layer c.args.to n r)
+    (mark-small c.args.regs.now n r)
+    (comes_nowhere c.args.layer c.args.to (sym c.has_register.ensures ∙ c.if-not-has_register.true)
+    n r))
 
 pub returns-clause-marks : goal.returns-clause-marks
 returns-clause-marks c = λ n r.
-    let read = get_or_read c.args.regs.now c.args.layer c.index.result.now c.requires c.index.ensures 0 in
+    let read = get_or_read c.args.regs.now c.args.layer c.index.result.now c.requires
+    c.index.ensures 0 in
     ap (λ (l : List ℕ). mark l n r) c.set.ensures
-    ∙ place_marked c.args.used c.args.regs.now c.args.layer c.register.result c.with_bit.result c.requires
-    c.with_bit.ensures.same (λ q apart. c.with_bit.ensures.other q apart ∙ ap (λ (b : ℕ). bit_at b q) read)
-    c.args.to (sym c.has_register.ensures ∙ c.if-not-has_register.false) c.register.ensures.value n r
+    ∙ place_marked c.args.used c.args.regs.now c.args.layer c.register.result c.with_bit.result
+    c.requires
+    c.with_bit.ensures.same (λ q apart. c.with_bit.ensures.other q apart
+    ∙ ap (λ (b : ℕ). bit_at b q) read)
+    c.args.to (sym c.has_register.ensures ∙ c.if-not-has_register.false) c.register.ensures.value n
+    r

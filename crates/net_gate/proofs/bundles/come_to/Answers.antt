@@ -10,8 +10,10 @@ use Rattle.net_gate.proofs.bundles.come_to.Goals as goal
 
 pub returns-then-not-has_register-clause-stands : goal.returns-then-not-has_register-clause-stands
 returns-then-not-has_register-clause-stands c = λ uses stands.
-    stands_same uses (λ n r. uses n r + comes_to c.args.layer c.args.to n r) c.args.taken.now.regs c.args.clash
-    (λ n r. let none = comes_nowhere c.args.layer c.args.to (sym c.has_register.ensures ∙ c.if-not-has_register.true) n r in omega (arith, none)) stands
+    stands_same uses (λ n r. uses n r + comes_to c.args.layer c.args.to n r) c.args.taken.now.regs
+    c.args.clash
+    (λ n r. let none = comes_nowhere c.args.layer c.args.to
+    (sym c.has_register.ensures ∙ c.if-not-has_register.true) n r in omega (arith, none)) stands
 
 pub returns-then-uses_register-clause-stands : goal.returns-then-uses_register-clause-stands
 returns-then-uses_register-clause-stands c = λ uses stands.
@@ -20,12 +22,18 @@ returns-then-uses_register-clause-stands c = λ uses stands.
     let here = comes_here n c.args.to (sym c.has_register.ensures ∙ c.if-not-has_register.false) in
     let elsewhere = comes_elsewhere n c.args.to in
     let used : mark c.args.taken.now.regs n r ≡ 1 =
-    eqb-true (mark c.args.taken.now.regs n r) 1 (sym (c.uses_register.ensures ∙ ap (λ (q : ℕ). mark c.args.taken.now.regs n q == 1) c.register.ensures.value) ∙ c.if-uses_register.true) in
-    let earlier = subst (λ (q : ℕ). IsEarlier (option_map numbers c.args.clash) (n, q) (numbers c.earlier.result)) c.alone.ensures c.earlier.ensures in
+    eqb-true (mark c.args.taken.now.regs n r) 1
+    (sym (c.uses_register.ensures ∙ ap (λ (q : ℕ). mark c.args.taken.now.regs n q == 1)
+    c.register.ensures.value) ∙ c.if-uses_register.true) in
+    let earlier = subst (λ (q : ℕ). IsEarlier (option_map numbers c.args.clash) (n, q)
+    (numbers c.earlier.result)) c.alone.ensures c.earlier.ensures in
     let marks = stands.marks n r in
     record {
-      marks = marks_again uses (comes_to n c.args.to) n r here elsewhere c.args.taken.now.regs stands.marks used;
-      first = first_again uses (comes_to n c.args.to) n r here elsewhere (option_map numbers c.args.clash) (numbers c.earlier.result) (omega (arith, marks, used)) earlier stands.first;
+      marks = marks_again uses (comes_to n c.args.to) n r here elsewhere c.args.taken.now.regs
+          stands.marks used;
+      first = first_again uses (comes_to n c.args.to) n r here elsewhere
+          (option_map numbers c.args.clash) (numbers c.earlier.result) (omega (arith, marks, used))
+          earlier stands.first;
     }
 
 pub returns-clause-stands : goal.returns-clause-stands
@@ -35,9 +43,13 @@ returns-clause-stands c = λ uses stands.
     let here = comes_here n c.args.to (sym c.has_register.ensures ∙ c.if-not-has_register.false) in
     let elsewhere = comes_elsewhere n c.args.to in
     let free : mark c.args.taken.now.regs n r ≢ 1 =
-    eqb-false (mark c.args.taken.now.regs n r) 1 (sym (c.uses_register.ensures ∙ ap (λ (q : ℕ). mark c.args.taken.now.regs n q == 1) c.register.ensures.value) ∙ c.if-uses_register.false) in
+    eqb-false (mark c.args.taken.now.regs n r) 1
+    (sym (c.uses_register.ensures ∙ ap (λ (q : ℕ). mark c.args.taken.now.regs n q == 1)
+    c.register.ensures.value) ∙ c.if-uses_register.false) in
     let marks = stands.marks n r in
     record {
-      marks = λ m q. let old = stands.marks m q in let new = c.take_place.ensures.marks m q in omega (arith, old, new);
-      first = first_more uses (comes_to n c.args.to) n r here elsewhere (option_map numbers c.args.clash) (omega (arith, marks, free)) stands.first;
+      marks = λ m q. let old = stands.marks m q in let new = c.take_place.ensures.marks m q in
+          omega (arith, old, new);
+      first = first_more uses (comes_to n c.args.to) n r here elsewhere
+          (option_map numbers c.args.clash) (omega (arith, marks, free)) stands.first;
     }

@@ -8,8 +8,12 @@ abbrev pub invariant-loop-at : goal.invariant-loop-at
 invariant-loop-at l = record {
   long : length l.taken.regs ≡ length l.initial.taken.regs;
   mems : length l.taken.mems ≡ length l.initial.taken.mems;
-  bound : (n r : ℕ) → count_by (uses_bundle l.net n r) (flow_from l.at (drop l.at l.net.strands) (drop l.at l.routes.places)) ≤ count_by (uses_bundle l.net n r) (flow l.net l.routes);
+  bound : (n r : ℕ) → count_by (uses_bundle l.net n r)
+      (flow_from l.at (drop l.at l.net.strands) (drop l.at l.routes.places)) ≤
+      count_by (uses_bundle l.net n r) (flow l.net l.routes);
   stands : Stands
-      (λ n r. count_by (uses_bundle l.net n r) (flow l.net l.routes) - count_by (uses_bundle l.net n r) (flow_from l.at (drop l.at l.net.strands) (drop l.at l.routes.places)))
+      (λ n r. count_by (uses_bundle l.net n r) (flow l.net l.routes) - count_by
+      (uses_bundle l.net n r) (flow_from l.at (drop l.at l.net.strands)
+      (drop l.at l.routes.places)))
       l.taken.regs l.clash;
 }

@@ -14,9 +14,11 @@ invariant-loop-rest l =
       mems : l.taken.mems ≡ l.initial.taken.mems;
       after : base ≤ l.layer;
       layer : l.layer + length l.rest ≡ base + first + length l.path;
-      bound : (n r : ℕ) → uses l.net n r s (l.layer - base) None l.rest ≤ uses l.net n r s first None l.path;
+      bound : (n r : ℕ) → uses l.net n r s (l.layer - base) None l.rest ≤
+          uses l.net n r s first None l.path;
       stands : (c : ℕ → ℕ → ℕ) → Stands c l.initial.taken.regs l.initial.clash → Stands
-          (λ n r. c n r + (uses l.net n r s first None l.path - uses l.net n r s (l.layer - base) None l.rest)) l.taken.regs l.clash;
+          (λ n r. c n r + (uses l.net n r s first None l.path - uses l.net n r s (l.layer - base)
+          None l.rest)) l.taken.regs l.clash;
     }
 
 abbrev pub decreases-loop-rest : goal.decreases-loop-rest

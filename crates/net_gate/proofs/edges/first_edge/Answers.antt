@@ -16,7 +16,8 @@ index-requires c =
 
 pub first_layer-requires-clause-path : goal.first_layer-requires-clause-path
 first_layer-requires-clause-path c =
-    let long = places_at c.args.net.now.strands c.args.routes.now.places c.loop-at.at no_strand c.index.result.now c.requires.routes (omega arith) in
+    let long = places_at c.args.net.now.strands c.args.routes.now.places c.loop-at.at no_strand
+    c.index.result.now c.requires.routes (omega arith) in
     let row = ap length (c.as_slice-path.ensures ∙ c.index.ensures) in
     omega (arith, long, row)
 
@@ -26,9 +27,12 @@ returns-in-Some c =
     let rs = c.args.routes.now.places in
     let i = c.loop-at.at in
     let n = as_many net.strands rs c.requires.routes in
-    let row = c.as_slice-path.ensures ∙ get_or_read rs i c.index.result.now (omega (arith, n)) c.index.ensures [] in
+    let row = c.as_slice-path.ensures ∙ get_or_read rs i c.index.result.now (omega (arith, n))
+    c.index.ensures [] in
     first_here net c.args.rule c.args.routes.now c.requires.routes i c.in-Some.layer (omega arith)
-    (subst (λ (r : List Place). IsFirstLayer (λ l. count_by (breaks net c.args.rule i l) (edges i (strand_at net i).first None r)) (Some c.in-Some.layer)) row c.in-Some.ensures)
+    (subst (λ (r : List Place). IsFirstLayer
+    (λ l. count_by (breaks net c.args.rule i l) (edges i (strand_at net i).first None r))
+    (Some c.in-Some.layer)) row c.in-Some.ensures)
     c.loop-at.invariant
 
 pub loop-at-preserved : goal.loop-at-preserved
@@ -37,10 +41,14 @@ loop-at-preserved c =
     let rs = c.args.routes.now.places in
     let i = c.loop-at.at in
     let n = as_many net.strands rs c.requires.routes in
-    let row = c.as_slice-path.ensures ∙ get_or_read rs i c.index.result.now (omega (arith, n)) c.index.ensures [] in
+    let row = c.as_slice-path.ensures ∙ get_or_read rs i c.index.result.now (omega (arith, n))
+    c.index.ensures [] in
     none_here net c.args.rule c.args.routes.now c.requires.routes i (omega arith)
-    (subst (λ (r : List Place). IsFirstLayer (λ l. count_by (breaks net c.args.rule i l) (edges i (strand_at net i).first None r)) None) row c.in_default.ensures)
+    (subst (λ (r : List Place). IsFirstLayer
+    (λ l. count_by (breaks net c.args.rule i l) (edges i (strand_at net i).first None r)) None)
+    row c.in_default.ensures)
     c.loop-at.invariant
 
 pub returns : goal.returns
-returns c = λ s k. none_anywhere c.args.net.now c.args.rule c.args.routes.now c.requires.routes s (λ r k lt. c.loop-at.invariant r k (omega (arith, lt))) k
+returns c = λ s k. none_anywhere c.args.net.now c.args.rule c.args.routes.now c.requires.routes s
+    (λ r k lt. c.loop-at.invariant r k (omega (arith, lt))) k

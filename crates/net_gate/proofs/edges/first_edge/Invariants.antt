@@ -4,4 +4,5 @@ use Rattle.net_gate.specs.Broken.{breaks}
 use Rattle.net_gate.proofs.edges.first_edge.Given as goal
 
 abbrev pub invariant-loop-at : goal.invariant-loop-at
-invariant-loop-at l = (s k : ℕ) → s < l.at → count_by (breaks l.net l.rule s k) (flow l.net l.routes) ≡ 0
+invariant-loop-at l = (s k : ℕ) → s < l.at → count_by (breaks l.net l.rule s k)
+    (flow l.net l.routes) ≡ 0

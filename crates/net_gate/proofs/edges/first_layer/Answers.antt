@@ -18,16 +18,23 @@ overflow_add-layer c =
 
 pub returns-then-not-keeps_rule : goal.returns-then-not-keeps_rule
 returns-then-not-keeps_rule c =
-    let b = broken_rest c.args.net.now c.args.rule c.args.strand c.loop-rest.layer c.loop-rest.from c.loop-rest.rest.now Eax c.in-len1-up.len_at_least (sym c.keeps_rule.ensures ∙ c.if-not-keeps_rule.true) in
-    (subst (λ (n : ℕ). 0 < n) (c.loop-rest.invariant.same c.loop-rest.layer) b.0, λ k lt. sym (c.loop-rest.invariant.same k) ∙ b.1 k lt)
+    let b = broken_rest c.args.net.now c.args.rule c.args.strand c.loop-rest.layer c.loop-rest.from
+    c.loop-rest.rest.now Eax c.in-len1-up.len_at_least
+    (sym c.keeps_rule.ensures ∙ c.if-not-keeps_rule.true) in (
+      subst (λ (n : ℕ). 0 < n) (c.loop-rest.invariant.same c.loop-rest.layer) b.0,
+      λ k lt. sym (c.loop-rest.invariant.same k) ∙ b.1 k lt,
+    )
 
 pub loop-rest-preserved : goal.loop-rest-preserved
 loop-rest-preserved c = record {
-  same = λ k. kept_rest c.args.net.now c.args.rule c.args.strand c.loop-rest.layer c.loop-rest.from c.loop-rest.rest.now Eax c.in-len1-up.len_at_least (sym c.keeps_rule.ensures ∙ c.if-not-keeps_rule.false) k
+  same = λ k. kept_rest c.args.net.now c.args.rule c.args.strand c.loop-rest.layer c.loop-rest.from
+      c.loop-rest.rest.now Eax c.in-len1-up.len_at_least
+      (sym c.keeps_rule.ensures ∙ c.if-not-keeps_rule.false) k
       ∙ c.loop-rest.invariant.same k;
   first = omega arith;
   layer = omega arith;
 }
 
 pub returns : goal.returns
-returns c = λ k. sym (c.loop-rest.invariant.same k) ∙ nothing_left c.args.net.now c.args.rule c.args.strand c.loop-rest.layer c.loop-rest.from c.loop-rest.rest.now k c.in_default.len_below
+returns c = λ k. sym (c.loop-rest.invariant.same k) ∙ nothing_left c.args.net.now c.args.rule
+    c.args.strand c.loop-rest.layer c.loop-rest.from c.loop-rest.rest.now k c.in_default.len_below

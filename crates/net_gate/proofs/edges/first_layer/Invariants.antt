@@ -7,7 +7,8 @@ use Rattle.net_gate.proofs.edges.first_layer.Given as goal
 abbrev pub invariant-loop-rest : goal.invariant-loop-rest
 invariant-loop-rest l = record {
   same : (k : ℕ) → count_by (breaks l.net l.rule l.strand k) (edges l.strand l.layer l.from l.rest)
-      ≡ count_by (breaks l.net l.rule l.strand k) (edges l.strand (strand_at l.net l.strand).first None l.path);
+      ≡ count_by (breaks l.net l.rule l.strand k)
+      (edges l.strand (strand_at l.net l.strand).first None l.path);
   first : (strand_at l.net l.strand).first ≤ l.layer;
   layer : l.layer + length l.rest ≡ (strand_at l.net l.strand).first + length l.path;
 }

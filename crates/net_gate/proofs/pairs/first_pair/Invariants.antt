@@ -5,4 +5,5 @@ use Rattle.net_gate.specs.Broken.{KeepsPair}
 use Rattle.net_gate.proofs.pairs.first_pair.Given as goal
 
 abbrev pub invariant-loop-k : goal.invariant-loop-k
-invariant-loop-k l = (j : ℕ) (d : MemPair) → j < l.k → KeepsPair (flow l.net l.routes) (get_or l.net.pairs j d)
+invariant-loop-k l = (j : ℕ) (d : MemPair) → j < l.k → KeepsPair (flow l.net l.routes)
+    (get_or l.net.pairs j d)

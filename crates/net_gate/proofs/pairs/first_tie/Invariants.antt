@@ -5,4 +5,5 @@ use Rattle.net_form.specs.Admitted.{KeepsTie}
 use Rattle.net_gate.proofs.pairs.first_tie.Given as goal
 
 abbrev pub invariant-loop-k : goal.invariant-loop-k
-invariant-loop-k l = (j : ℕ) (d : Tie) → j < l.k → KeepsTie l.net (flow l.net l.routes) (get_or l.net.ties j d)
+invariant-loop-k l = (j : ℕ) (d : Tie) → j < l.k → KeepsTie l.net (flow l.net l.routes)
+    (get_or l.net.ties j d)

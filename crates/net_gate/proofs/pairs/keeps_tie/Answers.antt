@@ -13,5 +13,9 @@ returns c =
     let t = c.args.tie.now in
     let same = c.is_same.ensures
     ∙ ap (λ (o : Option Place). same_start o c.first_place-to.result) c.last_place-from.ensures
-    ∙ ap (same_start (place_at net routes t.from (strand_at net t.from).last)) c.first_place-to.ensures in
-    (λ is. tie_kept net routes c.requires t (sym same ∙ is), λ keeps. same ∙ kept_tie net routes c.requires t keeps)
+    ∙ ap (same_start (place_at net routes t.from (strand_at net t.from).last))
+    c.first_place-to.ensures in (
+      λ is. tie_kept net routes c.requires t (sym same ∙ is),
+      λ keeps. same
+          ∙ kept_tie net routes c.requires t keeps,
+    )

@@ -9,6 +9,7 @@ index-requires c = let long = exits_long c.args.net.now c.requires in omega (ari
 pub returns : goal.returns
 returns c =
     let long = exits_long c.args.net.now c.requires in
-    get_or_read c.args.net.now.index.exits c.len.result c.index.result.now (omega (arith, long)) c.index.ensures 0
+    get_or_read c.args.net.now.index.exits c.len.result c.index.result.now (omega (arith, long))
+    c.index.ensures 0
     ∙ ap (λ (n : ℕ). get_or c.args.net.now.index.exits n 0) c.len.ensures
     ∙ exits_end c.args.net.now c.requires

@@ -5,4 +5,5 @@ use Rattle.net_gate.proofs.places.first_place.Goals as goal
 
 pub returns-then-strand-len : goal.returns-then-strand-len
 returns-then-strand-len c =
-    sym (no_place c.args.net.now c.args.routes.now c.args.strand (strand_at c.args.net.now c.args.strand).first c.requires (omega arith))
+    sym (no_place c.args.net.now c.args.routes.now c.args.strand
+    (strand_at c.args.net.now c.args.strand).first c.requires (omega arith))

@@ -11,5 +11,6 @@ returns g c =
     let net = c.args.net.now in
     let w = weights_of c.args.model.now in
     ap (λ (n : ℕ). n + c.extras_cost.result) c.paths_cost.ensures.value
-    ∙ ap (λ (n : ℕ). sum_by (way_cost all_tables net w) (flow net c.args.routes.now) + n) c.extras_cost.ensures.value
+    ∙ ap (λ (n : ℕ). sum_by (way_cost all_tables net w) (flow net c.args.routes.now) + n)
+    c.extras_cost.ensures.value
     ∙ cost_of_routes all_tables net w c.args.routes.now c.requires.routes

@@ -9,8 +9,10 @@ use Rattle.net_gate.proofs.weigh.path_cost.Given as goal
 
 abbrev pub invariant-loop-rest : goal.invariant-loop-rest
 invariant-loop-rest g l = record {
-  whole : l.total + sum_by (way_cost all_tables l.net (weights_of l.model)) (edges l.strand l.layer l.from l.rest)
-      ≡ sum_by (way_cost all_tables l.net (weights_of l.model)) (edges l.strand (strand_at l.net l.strand).first None l.path);
+  whole : l.total + sum_by (way_cost all_tables l.net (weights_of l.model))
+      (edges l.strand l.layer l.from l.rest)
+      ≡ sum_by (way_cost all_tables l.net (weights_of l.model))
+      (edges l.strand (strand_at l.net l.strand).first None l.path);
   small : l.total + 2 * most_weight * length l.rest ≤ 2 * most_weight * length l.path;
   layer : l.layer + length l.rest ≡ (strand_at l.net l.strand).first + length l.path;
 }

@@ -17,7 +17,8 @@ index-requires g c =
 pub path_cost-requires-clause-few : goal.path_cost-requires-clause-few
 path_cost-requires-clause-few g c =
     let lt : c.loop-at.at < length c.args.net.now.strands = omega arith in
-    let few = path_few c.args.net.now c.args.routes.now c.loop-at.at c.index.result.now c.requires.net c.requires.routes lt in
+    let few = path_few c.args.net.now c.args.routes.now c.loop-at.at c.index.result.now
+    c.requires.net c.requires.routes lt in
     let row = ap length (c.as_slice.ensures ∙ c.index.ensures) in
     omega (arith, few, row)
 
@@ -31,7 +32,8 @@ loop-at-preserved g c =
     let n = as_many net.strands rs c.requires.routes in
     let step = sum_drop w net.strands rs i no_strand c.index.result.now lt (omega (arith, lt, n)) in
     let this = c.path_cost.ensures.value in
-    let moved = ap (λ (r : List Place). sum_by w (edges i (strand_at net i).first None r)) (c.as_slice.ensures ∙ c.index.ensures) in
+    let moved = ap (λ (r : List Place). sum_by w (edges i (strand_at net i).first None r))
+    (c.as_slice.ensures ∙ c.index.ensures) in
     record {
       whole = omega (arith, step, this, moved, c.loop-at.invariant.whole);
       small = omega (arith, c.path_cost.ensures.small, c.loop-at.invariant.small);

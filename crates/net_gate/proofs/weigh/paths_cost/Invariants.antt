@@ -9,7 +9,8 @@ use Rattle.net_gate.proofs.weigh.paths_cost.Given as goal
 
 abbrev pub invariant-loop-at : goal.invariant-loop-at
 invariant-loop-at g l = record {
-  whole : l.total + sum_by (way_cost all_tables l.net (weights_of l.model)) (flow_from l.at (drop l.at l.net.strands) (drop l.at l.routes.places))
+  whole : l.total + sum_by (way_cost all_tables l.net (weights_of l.model))
+      (flow_from l.at (drop l.at l.net.strands) (drop l.at l.routes.places))
       ≡ sum_by (way_cost all_tables l.net (weights_of l.model)) (flow l.net l.routes);
   small : l.total ≤ 2 * most_weight * most_layers * l.at;
 }

@@ -31,7 +31,8 @@ pay-requires-clause-cell g c =
 
 pub pay-requires-clause-rest : goal.pay-requires-clause-rest
 pay-requires-clause-rest g c =
-    least_is_debt (step_of c.args.steps.now) (step_short c.args.steps.now c.requires.steps) c.args.behind.now.costs c.loop-r.r
+    least_is_debt (step_of c.args.steps.now) (step_short c.args.steps.now c.requires.steps)
+    c.args.behind.now.costs c.loop-r.r
     c.debt_alone.result.cost c.requires.behind (omega (arith, c.loop-r-test.true))
     c.debt_alone.ensures
 
@@ -50,7 +51,8 @@ pay-requires-in-loop-r-clause-cell g c =
 
 pub pay-requires-in-loop-r-clause-rest : goal.pay-requires-in-loop-r-clause-rest
 pay-requires-in-loop-r-clause-rest g c =
-    least_is_debt (step_of c.args.steps.now) (step_short c.args.steps.now c.requires.steps) c.args.behind.now.costs (8 + c.loop-r.r)
+    least_is_debt (step_of c.args.steps.now) (step_short c.args.steps.now c.requires.steps)
+    c.args.behind.now.costs (8 + c.loop-r.r)
     c.debt_in_both.result.cost c.requires.behind (omega (arith, c.loop-r-test.true))
     c.debt_in_both.ensures
 
@@ -79,7 +81,8 @@ pay-requires-2-clause-cell g c =
 
 pub pay-requires-2-clause-rest : goal.pay-requires-2-clause-rest
 pay-requires-2-clause-rest g c =
-    least_is_debt (step_of c.args.steps.now) (step_short c.args.steps.now c.requires.steps) c.args.behind.now.costs 6
+    least_is_debt (step_of c.args.steps.now) (step_short c.args.steps.now c.requires.steps)
+    c.args.behind.now.costs 6
     c.debt_in_memory.result.cost c.requires.behind (omega arith)
     (c.debt_in_memory.ensures c.args.behind.now.costs c.bests_of-bests.ensures.are)
 
@@ -90,7 +93,8 @@ pay-requires-3-clause-cell g c =
 
 pub pay-requires-3-clause-rest : goal.pay-requires-3-clause-rest
 pay-requires-3-clause-rest g c =
-    least_is_debt (step_of c.args.steps.now) (step_short c.args.steps.now c.requires.steps) c.args.behind.now.costs 7
+    least_is_debt (step_of c.args.steps.now) (step_short c.args.steps.now c.requires.steps)
+    c.args.behind.now.costs 7
     c.debt_nowhere.result.cost c.requires.behind (omega arith)
     (c.debt_nowhere.ensures c.args.behind.now.costs c.bests_of-bests.ensures.are)
 

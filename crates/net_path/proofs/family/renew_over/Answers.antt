@@ -24,5 +24,6 @@ returns-in-Ok-clause-least g c =
     let at : path_in c.keep_path.new.family c.args.strand
     ≡ c.search_spread.new.path =
     ap (λ (rs : List (List Place)). get_or rs c.args.strand []) c.keep_path.ensures
-    ∙ get_or-set_same c.args.family.now.places c.args.strand c.search_spread.new.path [] (omega (arith, c.requires.family.many, c.requires.strand)) in
+    ∙ get_or-set_same c.args.family.now.places c.args.strand c.search_spread.new.path []
+    (omega (arith, c.requires.family.many, c.requires.strand)) in
     subst (λ (ps : List Place). IsLeast net price any_ends Anywhere c.args.strand ps) (sym at) found

@@ -10,7 +10,8 @@ abbrev pub invariant-loop-at : goal.invariant-loop-at
 invariant-loop-at l = record {
   some : 0 < l.at;
   within : l.at ≤ length l.rows;
-  follows : (t : Terrain) (rest : List Place) → IsGround (step_price l.ways) l.first (length l.rows) t
+  follows : (t : Terrain) (rest : List Place) → IsGround (step_price l.ways) l.first (length l.rows)
+      t
       → IsGoodStart t (costs_at l.rows 0) l.fn.start
       → Follows t (costs_at l.rows) l.at (Some l.from) rest
       → Follows t (costs_at l.rows) 0 None (take l.at l.path ++ rest);

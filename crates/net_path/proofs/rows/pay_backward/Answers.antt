@@ -24,7 +24,8 @@ loop-at-init c =
       small = small;
       debts = λ k le lt. let is : n - 1 ≡ k = omega (arith, le, lt) in
           subst (λ (k : ℕ). AreDebts (costs_at c.args.rows.now k)) is last;
-      paid = λ t ground cells. rows_last (step_of c.args.steps.now) c.args.first n t ground c.args.rows.now
+      paid = λ t ground cells. rows_last (step_of c.args.steps.now) c.args.first n t ground
+          c.args.rows.now
           (omega (arith, c.requires.some)) refl cells;
     }
 
@@ -59,11 +60,13 @@ loop-at-preserved c =
     let same : i + 1 ≡ j = omega (arith, c.loop-at-test.true) in
     let paid : IsPaidLayer (step_of c.args.steps.now) (c.args.first + j) (costs_at c.loop-at.rows j)
     (costs_at c.loop-at.rows i) (costs_at c.pay_layer.new.rows i) =
-    subst (λ (k : ℕ). IsPaidLayer (step_of c.args.steps.now) (c.args.first + j) (costs_at c.loop-at.rows k)
+    subst (λ (k : ℕ). IsPaidLayer (step_of c.args.steps.now) (c.args.first + j)
+    (costs_at c.loop-at.rows k)
     (costs_at c.loop-at.rows i) (costs_at c.pay_layer.new.rows i)) same
     c.pay_layer.ensures.paid in
     let small : IsRowWithin (slack_at n i) (costs_at c.pay_layer.new.rows i) =
-    small_more (step_of c.args.steps.now) (step_short c.args.steps.now c.requires.steps) c.args.first i j n next lt c.loop-at.rows
+    small_more (step_of c.args.steps.now) (step_short c.args.steps.now c.requires.steps)
+    c.args.first i j n next lt c.loop-at.rows
     c.pay_layer.new.rows c.args.rows.now refl c.pay_layer.ensures.others left paid (λ p below.
     c.requires.cells i p (omega (arith, lt)) below) (rw before at c.loop-at.invariant.small) in
     let debts : AreDebts (costs_at c.pay_layer.new.rows i) =
@@ -84,7 +87,8 @@ loop-at-preserved c =
           let g : IsGround (step_of c.args.steps.now) c.args.first n t = rw long at ground in
           let are : AreRows t (costs_at c.loop-at.rows) (slack_at n) n j =
           rw before at (c.loop-at.invariant.paid t (rw before g) cells) in
-          rw long (paid_more (step_of c.args.steps.now) (step_short c.args.steps.now c.requires.steps) c.args.first i j n next
+          rw long (paid_more (step_of c.args.steps.now)
+          (step_short c.args.steps.now c.requires.steps) c.args.first i j n next
           lt c.loop-at.rows c.pay_layer.new.rows c.args.rows.now refl c.pay_layer.ensures.others
           left paid t g cells are);
     }

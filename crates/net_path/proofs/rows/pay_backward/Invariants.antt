@@ -10,7 +10,8 @@ invariant-loop-at l = record {
   left : (k : ℕ) → k < l.at → costs_at l.rows k ≡ costs_at l.initial.rows k;
   small : IsRowWithin (slack_at (length l.rows) l.at) (costs_at l.rows l.at);
   debts : (k : ℕ) → l.at ≤ k → k < length l.rows → AreDebts (costs_at l.rows k);
-  paid : (t : Terrain) → IsGround (step_of l.steps) l.first (length l.rows) t → AreCells t l.initial.rows →
+  paid : (t : Terrain) → IsGround (step_of l.steps) l.first (length l.rows) t →
+      AreCells t l.initial.rows →
       AreRows t (costs_at l.rows) (slack_at (length l.rows)) (length l.rows) l.at;
 }
 

@@ -1,4 +1,5 @@
-use Rattle.std.proofs.Common.{refl, ℕ, ◌≡◌, ◌∙◌, length, sym, subst, ap, arith, rules, pos, ◌<ℤ◌, ◌^◌}
+use Rattle.std.proofs.Common.{refl, ℕ, ◌≡◌, ◌∙◌, length, sym, subst, ap, arith, rules, pos, ◌<ℤ◌}
+use Rattle.std.proofs.Common.{◌^◌}
 use Rattle.std.proofs.Common.{w64, to_z, of_z}
 use mir.Val.{SFits}
 use Rattle.std.proofs.lemmas.Int.{ints, to_z-of_z}
@@ -50,7 +51,8 @@ returns-then-start-ge-REACHED-clause-none g c =
     no_strand in
     let are = ready net c.requires.net c.args._prices.now c.requires.prices
     w c.requires.kept.valid c.args._ends (is_free net c.args._taken.now) s n c.requires.rows
-    c.ways_of-ways.result c.forwards.result c.depth.result c.index.result.now.first (length c.args.rows.now)
+    c.ways_of-ways.result c.forwards.result c.depth.result c.index.result.now.first
+    (length c.args.rows.now)
     c.index-2.result.now.constant (costs_at c.pay_backward.new.rows) c.args.rows.now
     c.start-start.result c.forwards.ensures.steps c.ways_of-ways.ensures.are c.depth.ensures.value
     (ap (λ (t : Strand). t.first) t) refl
@@ -100,7 +102,8 @@ returns-clause-found g c =
     no_strand in
     let are = ready net c.requires.net c.args._prices.now c.requires.prices
     w c.requires.kept.valid c.args._ends (is_free net c.args._taken.now) s n c.requires.rows
-    c.ways_of-ways.result c.forwards.result c.depth.result c.index.result.now.first (length c.args.rows.now)
+    c.ways_of-ways.result c.forwards.result c.depth.result c.index.result.now.first
+    (length c.args.rows.now)
     c.index-2.result.now.constant (costs_at c.pay_backward.new.rows) c.args.rows.now
     c.start-start.result c.forwards.ensures.steps c.ways_of-ways.ensures.are c.depth.ensures.value
     (ap (λ (t : Strand). t.first) t) refl
@@ -144,7 +147,8 @@ returns-clause-cost g c =
     no_strand in
     let are = ready net c.requires.net c.args._prices.now c.requires.prices
     w c.requires.kept.valid c.args._ends (is_free net c.args._taken.now) s n c.requires.rows
-    c.ways_of-ways.result c.forwards.result c.depth.result c.index.result.now.first (length c.args.rows.now)
+    c.ways_of-ways.result c.forwards.result c.depth.result c.index.result.now.first
+    (length c.args.rows.now)
     c.index-2.result.now.constant (costs_at c.pay_backward.new.rows) c.args.rows.now
     c.start-start.result c.forwards.ensures.steps c.ways_of-ways.ensures.are c.depth.ensures.value
     (ap (λ (t : Strand). t.first) t) refl

@@ -37,8 +37,10 @@ returns g c = λ p lt.
     let row = costs_at c.pay_backward.new.rows in
     let are = rows_ready net c.requires.net c.args._prices.now c.requires.prices
     w c.requires.kept.valid ends (is_free net c.args._taken.now) s n c.requires.rows
-    c.ways_of-ways.result c.forwards.result c.depth.result c.index.result.now.first (length c.args.rows.now)
-    constant row c.args.rows.now c.forwards.ensures.steps c.ways_of-ways.ensures.are c.depth.ensures.value
+    c.ways_of-ways.result c.forwards.result c.depth.result c.index.result.now.first
+    (length c.args.rows.now)
+    constant row c.args.rows.now c.forwards.ensures.steps c.ways_of-ways.ensures.are
+    c.depth.ensures.value
     (ap (λ (t : Strand). t.first) t) refl
     (ap (λ (t : Strand). t.constant) u) c.requires.cells c.pay_backward.ensures.rows in
     cost_from net c.requires.net c.args._prices.now c.requires.prices w c.requires.kept.valid

@@ -1,6 +1,8 @@
 -- What is left, behind what is done, gives what the whole gives.
 use Rattle.std.proofs.Common.{◌≡◌, [], drop, map}
-use Rattle.ob_syntax.specs.Expressions.{selected, chained, one_selector, following_term, following_factor, name_with_selectors, simple_expression, whole_term}
+use Rattle.ob_syntax.specs.Expressions.{selected, chained, one_selector, following_term}
+use Rattle.ob_syntax.specs.Expressions.{following_factor, name_with_selectors, simple_expression}
+use Rattle.ob_syntax.specs.Expressions.{whole_term}
 use Rattle.ob_check.specs.Judging.{known_at}
 use Rattle.ob_check.proofs.expression.+expression.Given as goal
 

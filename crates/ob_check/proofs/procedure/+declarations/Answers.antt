@@ -4,7 +4,8 @@ use Rattle.std.proofs.lemmas.Result.{err_from_is_err_and}
 use Rattle.ob_syntax.specs.declared.tree.Proc.{out-Proc}
 use Rattle.ob_syntax.specs.Declarations.{left, drafted}
 use Rattle.ob_check.specs.Judging.{known_at, told}
-use Rattle.ob_check.proofs.Procedures.{AreRead, finished, refused, procedure_is, in_its_place, noted}
+use Rattle.ob_check.proofs.Procedures.{AreRead, finished, refused, procedure_is, in_its_place}
+use Rattle.ob_check.proofs.Procedures.{noted}
 use Rattle.ob_check.proofs.procedure.+declarations.Goals as goal
 
 pub declarations-returns-in_err-procedure : goal.declarations-returns-in_err-procedure

@@ -5,4 +5,5 @@ use Rattle.ob_lex.proofs.spelling.kind_in.Given as goal
 
 -- no entry before this one has the word's spelling
 abbrev pub invariant-loop-kind : goal.invariant-loop-kind
-invariant-loop-kind l = (k : ℕ) → k < l.kind-index → (e : Kind × List ℕ) → (slice_index_or (spellings l.entries) k e).1 ≡ l.word → ⊥
+invariant-loop-kind l = (k : ℕ) → k < l.kind-index → (e : Kind × List ℕ) →
+    (slice_index_or (spellings l.entries) k e).1 ≡ l.word → ⊥

@@ -10,4 +10,5 @@ invariant-loop-draft l =
     let left = l.draft-iterator.rest.items in
     let place = place_of l.source.bytes.now l.source.tokens.now l.types.shapes in
     (l.procs.items ++ map (checked_proc place) left ≡ map (checked_proc place) l.fn.drafts)
-    × (first_above AggregateWords (map (aggregate_words l.types.shapes) left) ≡ first_above AggregateWords (map (aggregate_words l.types.shapes) l.fn.drafts))
+    × (first_above AggregateWords (map (aggregate_words l.types.shapes) left) ≡
+    first_above AggregateWords (map (aggregate_words l.types.shapes) l.fn.drafts))

@@ -8,4 +8,5 @@ use Rattle.ob_measure.proofs.quantities.parameters_within.Given as goal
 abbrev pub invariant-loop-draft : goal.invariant-loop-draft
 invariant-loop-draft l =
     let counts : List Draft → List ℕ = map (λ d. length d.params) in
-    first_above Parameters (counts (drop l.draft-index l.drafts)) ≡ first_above Parameters (counts l.drafts)
+    first_above Parameters (counts (drop l.draft-index l.drafts)) ≡ first_above Parameters
+    (counts l.drafts)

@@ -5,4 +5,5 @@ use Rattle.ob_measure.proofs.quantities.scalars.Given as goal
 
 abbrev pub invariant-loop-type_id : goal.invariant-loop-type_id
 invariant-loop-type_id l =
-    l.total + scalars (record l.draft { params = []; vars = drop l.type_id-index l.type_id-items }) ≡ scalars l.draft
+    l.total + scalars (record l.draft { params = []; vars = drop l.type_id-index l.type_id-items })
+    ≡ scalars l.draft

@@ -5,5 +5,6 @@ use Rattle.ob_measure.proofs.storage.aggregate_words.Given as goal
 
 abbrev pub invariant-loop-number : goal.invariant-loop-number
 invariant-loop-number l =
-    l.total + aggregate_words_from l.types.shapes (lent_in_body l.draft) l.number (drop l.number l.draft.vars)
+    l.total + aggregate_words_from l.types.shapes (lent_in_body l.draft) l.number
+    (drop l.number l.draft.vars)
     ≡ aggregate_words l.types.shapes l.draft

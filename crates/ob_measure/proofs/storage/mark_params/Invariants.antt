@@ -6,4 +6,5 @@ use Rattle.ob_measure.proofs.storage.mark_params.Given as goal
 abbrev pub invariant-loop-number : goal.invariant-loop-number
 invariant-loop-number l =
     let lent = lent_in_body l.draft in
-    l.params.items ++ marked_params lent l.number (drop l.number l.draft.params) ≡ marked_params lent 0 l.draft.params
+    l.params.items ++ marked_params lent l.number (drop l.number l.draft.params) ≡
+    marked_params lent 0 l.draft.params

@@ -14,7 +14,8 @@ abbrev pub decreases-procedure : goal.decreases-procedure
 decreases-procedure l = 3 * l.room + 2
 
 abbrev pub invariant-procedures-loop-all : goal.invariant-procedures-loop-all
-invariant-procedures-loop-all l = Waits Procedures (phrase level Procedures ∷ []) l.room (λ j v. l.all ++ v.0) l.fn.p l.p
+invariant-procedures-loop-all l = Waits Procedures (phrase level Procedures ∷ []) l.room
+    (λ j v. l.all ++ v.0) l.fn.p l.p
 
 abbrev pub decreases-procedures-loop-all : goal.decreases-procedures-loop-all
 decreases-procedures-loop-all l = length (left l.p)

@@ -5,7 +5,8 @@ use Rattle.ob_parse.proofs.PhraseUnderway.{Waits}
 use Rattle.ob_parse.proofs.declaration.type_list.Given as goal
 
 abbrev pub invariant-loop-all : goal.invariant-loop-all
-invariant-loop-all l = Waits TypeList (phrase level TypeList ∷ []) l.room (λ j v. l.all ++ v.0) l.fn.p l.p
+invariant-loop-all l = Waits TypeList (phrase level TypeList ∷ []) l.room (λ j v. l.all ++ v.0)
+    l.fn.p l.p
 
 abbrev pub decreases-loop-all : goal.decreases-loop-all
 decreases-loop-all l = length (left l.p)

@@ -6,22 +6,32 @@ use Rattle.ob_syntax.specs.Tree.{tree_by}
 use Rattle.ob_parse.specs.declared.cursor.Parser.{Parser}
 use Rattle.ob_parse.specs.Reading.{place, IsRead, IsNext}
 use Rattle.ob_parse.proofs.Choices.{not_type}
-use Rattle.ob_parse.proofs.PhraseUnderway.{Waits, opened, after_token, after_phrase, as_deep, closed, phrase_fails, exits}
+use Rattle.ob_parse.proofs.PhraseUnderway.{Waits, opened, after_token, after_phrase, as_deep}
+use Rattle.ob_parse.proofs.PhraseUnderway.{closed, phrase_fails, exits}
 use Rattle.ob_parse.proofs.declaration.types.Goals as goal
 
-wanted : (room : ℕ) (p q : Parser) → IsNext KwType p q → Waits Types (phrase level TypeList ∷ []) room (λ j v. tree_by types (place p) j (place p, v)) p q
-wanted room p q n = after_token (opened types room p (λ next same. ap (by_first Types) (same ∙ ap first n.from))) n
+wanted : (room : ℕ) (p q : Parser) → IsNext KwType p q →
+    Waits Types (phrase level TypeList ∷ []) room (λ j v. tree_by types (place p) j (place p, v)) p
+    q
+wanted room p q n = after_token
+    (opened types room p (λ next same. ap (by_first Types) (same ∙ ap first n.from))) n
 
 pub returns-then-not-accept : goal.returns-then-not-accept
 returns-then-not-accept c =
     let e = c.if-not-accept.ensures in
-    rw c.new.ensures (subst (λ q. IsRead Types c.args.room [] c.args.p.now q) (sym e.0) (closed (opened no_types c.args.room c.args.p.now (λ next same. ap (by_first Types) same ∙ not_type _ e.1))))
+    rw c.new.ensures (subst (λ q. IsRead Types c.args.room [] c.args.p.now q) (sym e.0)
+    (closed (opened no_types c.args.room c.args.p.now
+    (λ next same. ap (by_first Types) same ∙ not_type _ e.1))))
 
 pub returns-in_err-list : goal.returns-in_err-list
 returns-in_err-list c =
-    exits Types c.args.room c.args.p.now c.type_list.new.p c.from_residual.result c.in_err-list.field-0.0 c.from_residual.ensures.1
-    (phrase_fails (wanted c.args.room c.args.p.now c.accept.new.self c.if-not-accept.ensures) (as_deep c.args.room) (omega arith) c.type_list.new.p c.in_err-list.field-0.0 c.in_err-list.ensures)
+    exits Types c.args.room c.args.p.now c.type_list.new.p c.from_residual.result
+    c.in_err-list.field-0.0 c.from_residual.ensures.1
+    (phrase_fails (wanted c.args.room c.args.p.now c.accept.new.self c.if-not-accept.ensures)
+    (as_deep c.args.room) (omega arith) c.type_list.new.p c.in_err-list.field-0.0
+    c.in_err-list.ensures)
 
 pub returns : goal.returns
 returns c =
-    closed (after_phrase (wanted c.args.room c.args.p.now c.accept.new.self c.if-not-accept.ensures) (as_deep c.args.room) c.in_ok-list.ensures)
+    closed (after_phrase (wanted c.args.room c.args.p.now c.accept.new.self c.if-not-accept.ensures)
+    (as_deep c.args.room) c.in_ok-list.ensures)

@@ -32,19 +32,22 @@ abbrev pub decreases-selector : goal.decreases-selector
 decreases-selector l = 9 * l.room
 
 abbrev pub invariant-factors-loop-op : goal.invariant-factors-loop-op
-invariant-factors-loop-op l = Waits Factors (phrase level Factors ∷ []) l.room (λ j v. l.rest ++ v.0) l.fn.p l.p
+invariant-factors-loop-op l = Waits Factors (phrase level Factors ∷ []) l.room
+    (λ j v. l.rest ++ v.0) l.fn.p l.p
 
 abbrev pub decreases-factors-loop-op : goal.decreases-factors-loop-op
 decreases-factors-loop-op l = length (left l.p)
 
 abbrev pub invariant-terms-loop-op : goal.invariant-terms-loop-op
-invariant-terms-loop-op l = Waits Terms (phrase level Terms ∷ []) l.room (λ j v. l.rest ++ v.0) l.fn.p l.p
+invariant-terms-loop-op l = Waits Terms (phrase level Terms ∷ []) l.room (λ j v. l.rest ++ v.0)
+    l.fn.p l.p
 
 abbrev pub decreases-terms-loop-op : goal.decreases-terms-loop-op
 decreases-terms-loop-op l = length (left l.p)
 
 abbrev pub invariant-selectors-loop-p : goal.invariant-selectors-loop-p
-invariant-selectors-loop-p l = Waits Selectors (phrase level Selectors ∷ []) l.room (λ j v. l.all ++ v.0) l.fn.p l.p
+invariant-selectors-loop-p l = Waits Selectors (phrase level Selectors ∷ []) l.room
+    (λ j v. l.all ++ v.0) l.fn.p l.p
 
 abbrev pub decreases-selectors-loop-p : goal.decreases-selectors-loop-p
 decreases-selectors-loop-p l = length (left l.p)

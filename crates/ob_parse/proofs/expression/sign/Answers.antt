@@ -12,22 +12,32 @@ use Rattle.ob_parse.proofs.expression.sign.Goals as goal
 plus_read : (p q : Parser) (k : Kind) → k ≡ Plus → IsNext k p q → IsRead Sign 0 (Some k) p q
 plus_read p q k is n =
     let n = subst (λ k. IsNext k p q) is n in
-    rw is (closed (after_token (opened plus_sign 0 p (λ next same. ap (by_first Sign) (same ∙ ap first n.from))) n))
+    rw is (closed (after_token
+    (opened plus_sign 0 p (λ next same. ap (by_first Sign) (same ∙ ap first n.from))) n))
 
 minus_read : (p q : Parser) (k : Kind) → k ≡ Minus → IsNext k p q → IsRead Sign 0 (Some k) p q
 minus_read p q k is n =
     let n = subst (λ k. IsNext k p q) is n in
-    rw is (closed (after_token (opened minus_sign 0 p (λ next same. ap (by_first Sign) (same ∙ ap first n.from))) n))
+    rw is (closed (after_token
+    (opened minus_sign 0 p (λ next same. ap (by_first Sign) (same ∙ ap first n.from))) n))
 
 pub returns-in_err-kind : goal.returns-in_err-kind
 returns-in_err-kind c =
-    rw c.from_residual.ensures (closed (opened no_sign 0 c.args.p.now (λ next same. ap (by_first Sign) (same ∙ sym c.in_err-kind.ensures))))
+    rw c.from_residual.ensures
+    (closed (opened no_sign 0 c.args.p.now
+    (λ next same. ap (by_first Sign) (same ∙ sym c.in_err-kind.ensures))))
 
 pub returns-in-Plus : goal.returns-in-Plus
 returns-in-Plus c =
     let n = c.advance.ensures c.in_ok-kind.kind (sym c.in_ok-kind.ensures) in
-    elim c.in-Plus.is [ inl e ↦ plus_read c.args.p.now c.advance.new.self c.in_ok-kind.kind e n | inr e ↦ minus_read c.args.p.now c.advance.new.self c.in_ok-kind.kind e n ]
+    elim c.in-Plus.is [
+      | inl e ↦ plus_read c.args.p.now c.advance.new.self c.in_ok-kind.kind e n
+      | inr e ↦ minus_read c.args.p.now c.advance.new.self c.in_ok-kind.kind e n
+    ]
 
 pub returns-in_default : goal.returns-in_default
 returns-in_default c =
-    closed (opened no_sign 0 c.args.p.now (λ next same. ap (by_first Sign) (same ∙ sym c.in_ok-kind.ensures) ∙ no_sign_at (Some c.in_ok-kind.kind) (λ e. c.in_default.not-Plus cc) (λ e. c.in_default.not-Minus cc)))
+    closed (opened no_sign 0 c.args.p.now
+    (λ next same. ap (by_first Sign) (same ∙ sym c.in_ok-kind.ensures)
+    ∙ no_sign_at (Some c.in_ok-kind.kind) (λ e. c.in_default.not-Plus cc)
+    (λ e. c.in_default.not-Minus cc)))

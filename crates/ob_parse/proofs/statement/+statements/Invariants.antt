@@ -32,13 +32,15 @@ abbrev pub decreases-repeat_statement : goal.decreases-repeat_statement
 decreases-repeat_statement l = 6 * l.room + 4
 
 abbrev pub invariant-statement_sequence-loop-p : goal.invariant-statement_sequence-loop-p
-invariant-statement_sequence-loop-p l = Waits StatementSequence (phrase level Statements ∷ []) l.room (λ j v. l.all ++ v.0) l.fn.p l.p
+invariant-statement_sequence-loop-p l = Waits StatementSequence (phrase level Statements ∷ [])
+    l.room (λ j v. l.all ++ v.0) l.fn.p l.p
 
 abbrev pub decreases-statement_sequence-loop-p : goal.decreases-statement_sequence-loop-p
 decreases-statement_sequence-loop-p l = length (left l.p)
 
 abbrev pub invariant-arms-loop-p : goal.invariant-arms-loop-p
-invariant-arms-loop-p l = Waits Arms (phrase level Elsifs ∷ []) l.room (λ j v. l.all ++ v.0) l.fn.p l.p
+invariant-arms-loop-p l = Waits Arms (phrase level Elsifs ∷ []) l.room (λ j v. l.all ++ v.0) l.fn.p
+    l.p
 
 abbrev pub decreases-arms-loop-p : goal.decreases-arms-loop-p
 decreases-arms-loop-p l = length (left l.p)

@@ -17,7 +17,8 @@ abbrev pub decreases-name_list : goal.decreases-name_list
 decreases-name_list l = 4 * l.room + 4
 
 abbrev pub invariant-field_sequence-loop-p : goal.invariant-field_sequence-loop-p
-invariant-field_sequence-loop-p l = Waits FieldSequence (phrase level FieldLists ∷ []) l.room (λ j v. l.all ++ v.0) l.fn.p l.p
+invariant-field_sequence-loop-p l = Waits FieldSequence (phrase level FieldLists ∷ []) l.room
+    (λ j v. l.all ++ v.0) l.fn.p l.p
 
 abbrev pub decreases-field_sequence-loop-p : goal.decreases-field_sequence-loop-p
 decreases-field_sequence-loop-p l = length (left l.p)

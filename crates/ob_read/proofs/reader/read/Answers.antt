@@ -17,5 +17,6 @@ returns c =
           ok_where HasText IsUnparsed one_text_or_fault bytes r h.cause
           (record { bytes = bytes; tokens = tokens; tree = tree }) (refl, p);
       fault_where =
-          fault_where HasText IsUnparsed one_text_or_fault bytes r (text_in bytes r h.found) h.cause;
+          fault_where HasText IsUnparsed one_text_or_fault bytes r (text_in bytes r h.found)
+          h.cause;
     }

@@ -11,4 +11,5 @@ zero_fits : FitsSigned w32 (pos 0)
 zero_fits = omega (arith, ints)
 
 pub returns : goal.returns
-returns c = wrapping_sub_is w32 (pos 0) c.args.x zero_fits c.ranges.x ∙ ap wrapped (+ℤ_idl (neg_ℤ c.args.x))
+returns c = wrapping_sub_is w32 (pos 0) c.args.x zero_fits c.ranges.x
+    ∙ ap wrapped (+ℤ_idl (neg_ℤ c.args.x))

@@ -1,4 +1,5 @@
-use Rattle.std.proofs.Common.{ℕ, suc, ◌≡◌, ◌+◌, ◌-◌, ◌++◌, ◌∷◌, List, [], length, get_or, take, drop, Some, None, Option, refl, sym, ap, ap₂, ◌∙◌, arith}
+use Rattle.std.proofs.Common.{ℕ, suc, ◌≡◌, ◌+◌, ◌-◌, ◌++◌, ◌∷◌, List, [], length, get_or, take}
+use Rattle.std.proofs.Common.{drop, Some, None, Option, refl, sym, ap, ap₂, ◌∙◌, arith}
 use Rattle.std.specs.Prelude.{unwrap_or, ℤ, slice_set}
 use Rattle.std.proofs.lemmas.List.{get_or_read, length-set}
 use Rattle.pra_base.specs.declared.ids.Place.{Place}
@@ -42,22 +43,38 @@ loop-rest-preserved c =
     let room = c.requires.layers in
     let next : at + 1 - base ≡ suc (at - base) = omega (arith, after) in
     let e : Edge = record { strand = s; layer = at - base; from = c.loop-rest.from; to = q } in
-    let strand = get_or_read net.strands s c.index.result.now c.requires.strand c.index.ensures no_strand in
+    let strand = get_or_read net.strands s c.index.result.now c.requires.strand c.index.ensures
+    no_strand in
     let var : c.index.result.now.var ≡ t.var = ap (λ (u : Strand). u.var) strand in
     let number : c.constant-constant.result ≡ constant (kind_of code t.var.0) =
-    c.constant-constant.ensures ∙ ap constant (c.kind_of.ensures ∙ ap (λ (v : VarId). kind_of code v.0) var) in
-    let x : Pair = record { var = c.index.result.now.var; from = c.unwrap_or.result; to = q; constant = c.constant-constant.result } in
+    c.constant-constant.ensures
+    ∙ ap constant (c.kind_of.ensures ∙ ap (λ (v : VarId). kind_of code v.0) var) in
+    let x : Pair = record {
+      var = c.index.result.now.var;
+      from = c.unwrap_or.result;
+      to = q;
+      constant = c.constant-constant.result;
+    } in
     let same : x ≡ pair code net e =
-    ap₂ (λ (v : VarId) (p : Place). let y : Pair = record { var = v; from = p; to = q; constant = c.constant-constant.result } in y) var (c.unwrap_or.ensures ∙ from_as c.loop-rest.from)
-    ∙ ap (λ (n : Option ℤ). let y : Pair = record { var = t.var; from = from_place c.loop-rest.from; to = q; constant = n } in y) number in
+    ap₂ (λ (v : VarId) (p : Place). let y : Pair =
+    record { var = v; from = p; to = q; constant = c.constant-constant.result } in y) var
+    (c.unwrap_or.ensures ∙ from_as c.loop-rest.from)
+    ∙ ap (λ (n : Option ℤ). let y : Pair =
+    record { var = t.var; from = from_place c.loop-rest.from; to = q; constant = n } in y)
+    number in
     record {
-      long = ap length c.in_ok-put.ensures ∙ length-set layers at (layer layers at ++ x ∷ []) ∙ long;
+      long = ap length c.in_ok-put.ensures ∙ length-set layers at (layer layers at ++ x ∷ [])
+          ∙ long;
       after = omega (arith, after);
       until = omega (arith, until, some);
       adds = λ n.
-          ap (λ (ls : List (List Pair)). layer ls n ++ pairs_into code net n (edges s (at + 1 - base) (Some q) others)) c.in_ok-put.ensures
-          ∙ ap (λ (k : ℕ). layer (slice_set layers at (layer layers at ++ x ∷ [])) n ++ pairs_into code net n (edges s k (Some q) others)) next
-          ∙ put_first code net layers at e x (edges s (suc (at - base)) (Some q) others) (omega (arith, until, some, within, path, room, long)) (omega (arith, after)) same n
-          ∙ ap (λ (ps : List Pair). layer layers n ++ ps) (sym (path_step code net s (at - base) n c.loop-rest.from rest Eax some))
+          ap (λ (ls : List (List Pair)). layer ls n ++ pairs_into code net n
+          (edges s (at + 1 - base) (Some q) others)) c.in_ok-put.ensures
+          ∙ ap (λ (k : ℕ). layer (slice_set layers at (layer layers at ++ x ∷ [])) n
+          ++ pairs_into code net n (edges s k (Some q) others)) next
+          ∙ put_first code net layers at e x (edges s (suc (at - base)) (Some q) others)
+          (omega (arith, until, some, within, path, room, long)) (omega (arith, after)) same n
+          ∙ ap (λ (ps : List Pair). layer layers n ++ ps)
+          (sym (path_step code net s (at - base) n c.loop-rest.from rest Eax some))
           ∙ i.adds n;
     }

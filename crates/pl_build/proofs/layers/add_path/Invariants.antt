@@ -13,7 +13,8 @@ invariant-loop-rest l =
       long : length l.layers.items ≡ length l.initial.layers.items;
       after : base ≤ l.at;
       until : l.at + length l.rest ≡ base + first + length l.path;
-      adds : (n : ℕ) → layer l.layers.items n ++ pairs_into l.code l.net n (edges s (l.at - base) l.from l.rest)
+      adds : (n : ℕ) → layer l.layers.items n ++ pairs_into l.code l.net n
+          (edges s (l.at - base) l.from l.rest)
           ≡ layer l.initial.layers.items n ++ pairs_into l.code l.net n (edges s first None l.path);
     }
 

@@ -24,7 +24,8 @@ add_path-requires-clause-path c =
     let lt = c.loop-strand-test.true in
     let all = c.len-strand-end.ensures in
     let many = as_many ts rs c.requires.routes in
-    let path : c.as_slice-path.result.now ≡ get_or rs s [] = c.as_slice-path.ensures ∙ get_or_read rs s c.index.result.now (omega (arith, many, lt, all)) c.index.ensures [] in
+    let path : c.as_slice-path.result.now ≡ get_or rs s [] = c.as_slice-path.ensures
+    ∙ get_or_read rs s c.index.result.now (omega (arith, many, lt, all)) c.index.ensures [] in
     let long = ap length path in
     let places = places_at ts rs s no_strand [] c.requires.routes (omega (arith, lt, all)) in
     omega (arith, long, places)
@@ -38,11 +39,16 @@ loop-strand-preserved c =
     let lt = c.loop-strand-test.true in
     let all = c.len-strand-end.ensures in
     let many = as_many ts rs c.requires.routes in
-    let path : c.as_slice-path.result.now ≡ get_or rs s [] = c.as_slice-path.ensures ∙ get_or_read rs s c.index.result.now (omega (arith, many, lt, all)) c.index.ensures [] in
+    let path : c.as_slice-path.result.now ≡ get_or rs s [] = c.as_slice-path.ensures
+    ∙ get_or_read rs s c.index.result.now (omega (arith, many, lt, all)) c.index.ensures [] in
     record {
       long = c.in_ok-add_path.ensures.long ∙ c.loop-strand.invariant.long;
       pairs = λ n.
-          strand_step c.args.code.now net ts rs s n (layer c.loop-strand.layers.items n) (layer c.add_path.new.layers.items n) (omega (arith, lt, all)) (omega (arith, many, lt, all))
-          (c.in_ok-add_path.ensures.adds n ∙ ap (λ (ps : List Place). layer c.loop-strand.layers.items n ++ pairs_into c.args.code.now net n (edges s (strand_at net s).first None ps)) path)
+          strand_step c.args.code.now net ts rs s n (layer c.loop-strand.layers.items n)
+          (layer c.add_path.new.layers.items n) (omega (arith, lt, all))
+          (omega (arith, many, lt, all))
+          (c.in_ok-add_path.ensures.adds n
+          ∙ ap (λ (ps : List Place). layer c.loop-strand.layers.items n
+          ++ pairs_into c.args.code.now net n (edges s (strand_at net s).first None ps)) path)
           ∙ c.loop-strand.invariant.pairs n;
     }

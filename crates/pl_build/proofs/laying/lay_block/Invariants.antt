@@ -6,5 +6,6 @@ use Rattle.pl_build.specs.Laid.{AreLayers}
 use Rattle.pl_build.proofs.laying.lay_block.Given as goal
 
 abbrev pub invariant-loop-k : goal.invariant-loop-k
-invariant-loop-k l = (r : Routed) (b : ℕ) (more : List LInstr) → AreLayers r b l.code l.first l.layers →
+invariant-loop-k l = (r : Routed) (b : ℕ) (more : List LInstr) →
+    AreLayers r b l.code l.first l.layers →
     LaysMoves r b l.k (drop l.k l.code) more → LaysMoves r b 0 l.code (l.out.items ++ more)

@@ -20,5 +20,6 @@ returns c =
     ∙ ap (λ (r : base.Row). map var_of r.writes) c.operands-row.ensures ∙ writes_vars i in
     c.add_places-2.ensures
     ∙ ap₂ (λ (ps qs : List Place). ps ++ qs)
-    (c.add_places.ensures ∙ ap₂ (λ (ps : List Place) (vs : List ℕ). ps ++ places_by before vs) c.new-places.ensures reads)
+    (c.add_places.ensures ∙ ap₂ (λ (ps : List Place) (vs : List ℕ). ps ++ places_by before vs)
+    c.new-places.ensures reads)
     (ap (places_by behind) writes)

@@ -6,7 +6,8 @@ use Rattle.pl_build.proofs.Blocks.{vars_in}
 use Rattle.pl_build.proofs.placing.place.Goals as goal
 
 pub slots_of-requires-clause-vars : goal.slots_of-requires-clause-vars
-slots_of-requires-clause-vars c = vars_in c.args.code.now c.args.net.now c.args.routes.now c.requires.net c.requires.routes c.requires.admitted c.requires.sized
+slots_of-requires-clause-vars c = vars_in c.args.code.now c.args.net.now c.args.routes.now
+    c.requires.net c.requires.routes c.requires.admitted c.requires.sized
 
 pub returns-clause-made : goal.returns-clause-made
 returns-clause-made c = record {
@@ -22,7 +23,10 @@ returns-clause-made c = record {
 }
 
 pub returns-clause-behind : goal.returns-clause-behind
-returns-clause-behind c = behind_of (routed c.args.code.now c.args.net.now c.args.routes.now) _ (returns-clause-made c)
+returns-clause-behind c = behind_of (routed c.args.code.now c.args.net.now c.args.routes.now) _
+    (returns-clause-made c)
 
 pub returns-clause-placed : goal.returns-clause-placed
-returns-clause-placed c = λ valid. is_placed c.args.code.now c.args.net.now c.args.routes.now c.requires.net c.requires.routes c.requires.admitted valid c.requires.sized _ (returns-clause-made c)
+returns-clause-placed c = λ valid. is_placed c.args.code.now c.args.net.now c.args.routes.now
+    c.requires.net c.requires.routes c.requires.admitted valid c.requires.sized _
+    (returns-clause-made c)

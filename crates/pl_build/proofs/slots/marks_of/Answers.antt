@@ -22,13 +22,19 @@ loop-strand-preserved c =
     let lt = c.loop-strand-test.true in
     let all = c.len-strand-end.ensures in
     let many = as_many net.strands rs c.requires.routes in
-    let path : c.as_slice.result.now ≡ get_or rs s [] = c.as_slice.ensures ∙ get_or_read rs s c.index.result.now (omega (arith, many, lt, all)) c.index.ensures [] in
-    let strand = get_or_read net.strands s c.index-in-loop-strand.result.now (omega (arith, lt, all)) c.index-in-loop-strand.ensures no_strand in
-    let comes : c.comes_to_memory-comes.result ≡ comes_to_memory (get_or rs s []) = c.comes_to_memory-comes.ensures ∙ ap comes_to_memory path in
+    let path : c.as_slice.result.now ≡ get_or rs s [] = c.as_slice.ensures
+    ∙ get_or_read rs s c.index.result.now (omega (arith, many, lt, all)) c.index.ensures [] in
+    let strand = get_or_read net.strands s c.index-in-loop-strand.result.now
+    (omega (arith, lt, all)) c.index-in-loop-strand.ensures no_strand in
+    let comes : c.comes_to_memory-comes.result ≡ comes_to_memory (get_or rs s []) =
+    c.comes_to_memory-comes.ensures ∙ ap comes_to_memory path in
     record {
       long = c.mark.ensures.long ∙ c.loop-strand.invariant.long;
       marks = λ v in_vars.
-          strand_comes net rs s v (marked c.loop-strand.marks v) (marked c.mark.new.marks v) (omega (arith, lt, all)) (omega (arith, many, lt, all))
-          (c.mark.ensures.marks v ∙ ap₂ (λ (t : Strand) (b : Bool). marked c.loop-strand.marks v || (nat_eq t.var.0 v && b)) strand comes)
+          strand_comes net rs s v (marked c.loop-strand.marks v) (marked c.mark.new.marks v)
+          (omega (arith, lt, all)) (omega (arith, many, lt, all))
+          (c.mark.ensures.marks v ∙ ap₂
+          (λ (t : Strand) (b : Bool). marked c.loop-strand.marks v || (nat_eq t.var.0 v && b))
+          strand comes)
           ∙ c.loop-strand.invariant.marks v in_vars;
     }

@@ -10,6 +10,7 @@ abbrev pub invariant-loop-strand : goal.invariant-loop-strand
 invariant-loop-strand l = record {
   long : length l.marks ≡ length l.code.vars;
   marks : (v : ℕ) → v < length l.code.vars →
-      (marked l.marks v || any_comes l.net v (flow_from l.strand (drop l.strand l.net.strands) (drop l.strand l.routes.places)))
+      (marked l.marks v || any_comes l.net v
+      (flow_from l.strand (drop l.strand l.net.strands) (drop l.strand l.routes.places)))
       ≡ in_memory (routed l.code l.net l.routes) v;
 }

@@ -13,5 +13,7 @@ loop-v-preserved c =
     let lt = c.loop-v-test.true in
     let all = c.len-v-end.ensures in
     c.in_ok-add_slot.ensures
-    ∙ ap₂ (λ (us vs : List ℕ). us ++ vs) c.loop-v.invariant (ap (λ (b : Bool). only_if (is_plain (kind_of code v) && b) v) (c.in_ok-marks.ensures.marks v (omega (arith, lt, all))))
+    ∙ ap₂ (λ (us vs : List ℕ). us ++ vs) c.loop-v.invariant
+    (ap (λ (b : Bool). only_if (is_plain (kind_of code v) && b) v)
+    (c.in_ok-marks.ensures.marks v (omega (arith, lt, all))))
     ∙ sym (filter_next (has_slot (routed code c.args.net.now c.args.routes.now)) v)

@@ -19,21 +19,25 @@ pub returns-clause-in_registers : goal.returns-clause-in_registers
 returns-clause-in_registers c =
     let ps = c.args.pairs.now in
     let apart : Fit ps = fit ps c.requires in
-    subst (λ (ms : List Move). All InRegisters ms) (sym c.in_ok-in_order.ensures) (in_registers ps apart)
+    subst (λ (ms : List Move). All InRegisters ms) (sym c.in_ok-in_order.ensures)
+    (in_registers ps apart)
 
 pub returns-clause-names : goal.returns-clause-names
 returns-clause-names c =
     let ps = c.args.pairs.now in
     let apart : Fit ps = fit ps c.requires in
-    subst (λ (ms : List Move). All (NamesMemory ps) ms) (sym c.in_ok-in_order.ensures) (names ps apart)
+    subst (λ (ms : List Move). All (NamesMemory ps) ms) (sym c.in_ok-in_order.ensures)
+    (names ps apart)
 
 pub returns-clause-counted : goal.returns-clause-counted
 returns-clause-counted c =
     let ps = c.args.pairs.now in
-    subst (λ (ms : List Move). (near : Bool) → Counted near ms ps) (sym c.in_ok-in_order.ensures) (counted ps)
+    subst (λ (ms : List Move). (near : Bool) → Counted near ms ps) (sym c.in_ok-in_order.ensures)
+    (counted ps)
 
 pub returns-clause-few : goal.returns-clause-few
 returns-clause-few c =
     let ps = c.args.pairs.now in
     let apart : Fit ps = fit ps c.requires in
-    subst (λ (ms : List Move). length ms ≤ sum_by most_moves ps) (sym c.in_ok-in_order.ensures) (few ps apart)
+    subst (λ (ms : List Move). length ms ≤ sum_by most_moves ps) (sym c.in_ok-in_order.ensures)
+    (few ps apart)

@@ -11,8 +11,10 @@ sized a b c x y z e f g = omega arith
 
 frames : (r : Routed) (p : LProc) → IsBehind r p → frame_size p ≡ frame_of r
 frames r p is =
-    let many : length p.slots ≡ length (slots_of r) = sym (length-map p.slots (λ (u : VarId). u.0)) ∙ ap length is.slots in
-    sized p.args p.aggregates (length p.slots) r.code.args r.code.aggregates (length (slots_of r)) is.args is.aggregates many
+    let many : length p.slots ≡ length (slots_of r) = sym (length-map p.slots (λ (u : VarId). u.0))
+    ∙ ap length is.slots in
+    sized p.args p.aggregates (length p.slots) r.code.args r.code.aggregates (length (slots_of r))
+    is.args is.aggregates many
 
 pub returns : goal.returns
 returns c = λ r p is. frames r p is

@@ -2,7 +2,9 @@ use Rattle.pl_routed.proofs.Followed as followed
 use Rattle.pl_routed.proofs.laws.placement_follows.Goals as goal
 
 pub returns-clause-carried : goal.returns-clause-carried
-returns-clause-carried c = λ module_ procs input is never. followed.carries module_ procs input is never
+returns-clause-carried c = λ module_ procs input is never. followed.carries module_ procs input is
+    never
 
 pub returns-clause-never_stuck : goal.returns-clause-never_stuck
-returns-clause-never_stuck c = λ module_ procs input is never. followed.never_stuck module_ procs input is never
+returns-clause-never_stuck c = λ module_ procs input is never. followed.never_stuck module_ procs
+    input is never

@@ -7,14 +7,17 @@ use Rattle.pra_compile.proofs.Told.{behind_one}
 use Rattle.pra_compile.proofs.compiling.allocate.Goals as goal
 
 pub start-requires-clause-net : goal.start-requires-clause-net
-start-requires-clause-net g c = built c.args.code.now c.in_ok-net.net c.in_ok-net.ensures c.requires.valid c.requires.sized
+start-requires-clause-net g c = built c.args.code.now c.in_ok-net.net c.in_ok-net.ensures
+    c.requires.valid c.requires.sized
 
 pub grant-requires-clause-net : goal.grant-requires-clause-net
-grant-requires-clause-net g c = built c.args.code.now c.in_ok-net.net c.in_ok-net.ensures c.requires.valid c.requires.sized
+grant-requires-clause-net g c = built c.args.code.now c.in_ok-net.net c.in_ok-net.ensures
+    c.requires.valid c.requires.sized
 
 pub returns-clause-routes : goal.returns-clause-routes
 returns-clause-routes g c =
-    let allocation = c.into_allocation-allocation.ensures.allocation c.in_ok-net.net (weights_of c.args.model.now) c.in_ok-grant.ensures.rounds in
+    let allocation = c.into_allocation-allocation.ensures.allocation c.in_ok-net.net
+    (weights_of c.args.model.now) c.in_ok-grant.ensures.rounds in
     record {
       is_net = c.in_ok-net.ensures;
       are_routes = allocation.allocated.cost.are_routes;
@@ -25,8 +28,11 @@ pub returns-clause-granted : goal.returns-clause-granted
 returns-clause-granted g c =
     let gap = gap_of c.args.watch.now in
     let rounds = c.args.rounds in
-    let obeyed = behind_one gap rounds _ _ c.in_ok-granted.ensures.one c.in_ok-grant.ensures.obeyed in
+    let obeyed = behind_one gap rounds _ _ c.in_ok-granted.ensures.one c.in_ok-grant.ensures.obeyed
+    in
     record {
-      allocation = c.into_allocation-allocation.ensures.allocation c.in_ok-net.net (weights_of c.args.model.now) c.in_ok-grant.ensures.rounds;
-      obeyed = subst (λ (lines : List Line). WasObeyed gap rounds (take 1 lines) lines) (sym c.into_allocation-allocation.ensures.lines) obeyed;
+      allocation = c.into_allocation-allocation.ensures.allocation c.in_ok-net.net
+          (weights_of c.args.model.now) c.in_ok-grant.ensures.rounds;
+      obeyed = subst (λ (lines : List Line). WasObeyed gap rounds (take 1 lines) lines)
+          (sym c.into_allocation-allocation.ensures.lines) obeyed;
     }

@@ -7,4 +7,5 @@ use Rattle.pra_compile.proofs.compiling.compile.Given as goal
 
 abbrev pub invariant-loop-number : goal.invariant-loop-number
 invariant-loop-number g l =
-    AreDone l.checked (wanted_of (weights_of l.model) l.rounds (gap_of l.watch)) l.number l.procs l.assembly
+    AreDone l.checked (wanted_of (weights_of l.model) l.rounds (gap_of l.watch)) l.number l.procs
+    l.assembly

@@ -10,8 +10,13 @@ pub frame_bytes-frame-requires-clause-slots : goal.frame_bytes-frame-requires-cl
 frame_bytes-frame-requires-clause-slots g c =
     let code = c.in_ok-code.code in
     let r = routed code c.in_ok-net.field-0.net c.in_ok-net.field-0.allocation.routes in
-    (is_small r c.in_ok-placed.placed c.in_ok-placed.ensures.behind c.in_ok-code.ensures.preserves.is_sized).slots
+    (is_small r c.in_ok-placed.placed c.in_ok-placed.ensures.behind
+    c.in_ok-code.ensures.preserves.is_sized).slots
 
 pub returns : goal.returns
 returns g c =
-    compiled_so c.args.checked.now (wanted_of (weights_of c.args.model.now) c.args.rounds (gap_of c.args.watch.now)) c.args.number c.in_ok-net.field-0.net _ c.in_ok-code.ensures c.in_ok-net.ensures.routes c.in_ok-net.ensures.granted c.in_ok-placed.ensures.made c.in_ok-name.ensures c.frame_bytes-frame.ensures c.in_ok-placed.ensures.frame
+    compiled_so c.args.checked.now
+    (wanted_of (weights_of c.args.model.now) c.args.rounds (gap_of c.args.watch.now))
+    c.args.number c.in_ok-net.field-0.net _ c.in_ok-code.ensures c.in_ok-net.ensures.routes
+    c.in_ok-net.ensures.granted c.in_ok-placed.ensures.made c.in_ok-name.ensures
+    c.frame_bytes-frame.ensures c.in_ok-placed.ensures.frame

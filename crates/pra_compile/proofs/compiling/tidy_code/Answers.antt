@@ -12,4 +12,6 @@ tidy-requires-clause-sized c =
     (c.in_ok-code.ensures.selected own.0 own.1).sized
 
 pub returns-in-Ok : goal.returns-in-Ok
-returns-in-Ok c = tidied c.args.checked.now c.args.number c.in_ok-code.code c.in-Ok.code c.requires.there c.in_ok-code.ensures.selected c.in-Ok.ensures.preserves c.in-Ok.ensures.kinds c.in-Ok.ensures.tidy
+returns-in-Ok c = tidied c.args.checked.now c.args.number c.in_ok-code.code c.in-Ok.code
+    c.requires.there c.in_ok-code.ensures.selected c.in-Ok.ensures.preserves c.in-Ok.ensures.kinds
+    c.in-Ok.ensures.tidy

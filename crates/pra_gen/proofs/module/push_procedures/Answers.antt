@@ -8,15 +8,18 @@ abbrev procedure_of : ℕ → ℕ → List ℕ
 procedure_of seed k = procedure_text k (state_after seed (80 * k))
 
 pub loop-number-init : goal.loop-number-init
-loop-number-init c =
-    (none_yet (string_bytes c.args.text.now) (procedure_of c.args.seed), sym (state_after-zero c.args.seed))
+loop-number-init c = (
+  none_yet (string_bytes c.args.text.now) (procedure_of c.args.seed),
+  sym (state_after-zero c.args.seed),
+)
 
 pub loop-number-preserved : goal.loop-number-preserved
 loop-number-preserved c =
     let seed = c.args.seed in
     let n = c.loop-number.number in
     let so_far = c.loop-number.invariant in (
-      one_more (string_bytes c.args.text.now) (string_bytes c.loop-number.text) (string_bytes c.push_procedure.new.text)
+      one_more (string_bytes c.args.text.now) (string_bytes c.loop-number.text)
+          (string_bytes c.push_procedure.new.text)
           (procedure_of seed) n so_far.0
           (c.in_ok-push_procedure.ensures.text
           ∙ ap (λ s. string_bytes c.loop-number.text ++ procedure_text n s) so_far.1),

@@ -6,7 +6,8 @@ use Rattle.pra_words.specs.Written.{asked_by}
 use Rattle.pra_tool.specs.Clause.{compiling, fault_status}
 use Rattle.pra_tool.specs.Compiling.{MadeOf}
 use Rattle.pra_tool.proofs.ModeAnswers.{wrong_source, right_source}
-use Rattle.pra_tool.proofs.CompilingModes.{compiling_is_a_mode, modes_leave, never_faults, too_long, told_wrong, keeps_same}
+use Rattle.pra_tool.proofs.CompilingModes.{compiling_is_a_mode, modes_leave, never_faults, too_long}
+use Rattle.pra_tool.proofs.CompilingModes.{told_wrong, keeps_same}
 use Rattle.pra_tool.proofs.tool.compile_file.Goals as goal
 
 pub returns-in-Ok-compile_source-clause-answers : goal.returns-in-Ok-compile_source-clause-answers
@@ -16,7 +17,8 @@ returns-in-Ok-compile_source-clause-answers g c =
     let made : MadeOf asked source c.in-Ok-compile_source.made =
     subst (λ (s : List ℕ). MadeOf asked s c.in-Ok-compile_source.made) c.deref.ensures.value
     c.in-Ok-compile_source.ensures.made in
-    right_source (compiling c.args.then asked) (compiling_is_a_mode c.args.then asked) asked.file _ _ _
+    right_source (compiling c.args.then asked) (compiling_is_a_mode c.args.then asked) asked.file _
+    _ _
     (record {
       same = c.in-Ok.ensures.same;
       input = refl;
@@ -36,7 +38,8 @@ returns-clause-answers g c =
     let cause : f ≢ OutOfMemory → IsUnreadable c.in-Ok.source.items f =
     subst (λ (b : List ℕ). f ≢ OutOfMemory → IsUnreadable b f) c.deref.ensures.value
     c.in-Err.ensures.cause in
-    wrong_source (compiling c.args.then asked) (compiling_is_a_mode c.args.then asked) asked.file _ _
+    wrong_source (compiling c.args.then asked) (compiling_is_a_mode c.args.then asked) asked.file _
+    _
     c.in-Ok.source.items f _ c.in-Ok.ensures.bytes
     (told_wrong fault_status OutOfMemory refl f _ c.refuse_source-in-Err.ensures.known cause)
     c.refuse_source-in-Err.ensures.known
@@ -57,7 +60,8 @@ pub returns-in-Err-TooLong-clause-answers : goal.returns-in-Err-TooLong-clause-a
 returns-in-Err-TooLong-clause-answers g c =
     let asked = asked_by c.args.request.now in
     let x = too_long _ (c.in-Err-TooLong.ensures.too_long (search rules)) in
-    wrong_source (compiling c.args.then asked) (compiling_is_a_mode c.args.then asked) asked.file _ _ x.0 _ _ x.1
+    wrong_source (compiling c.args.then asked) (compiling_is_a_mode c.args.then asked) asked.file _
+    _ x.0 _ _ x.1
     (λ other. x.2)
     c.refuse_source.ensures.known
     (λ other. record {

@@ -1,5 +1,6 @@
 use Rattle.std.proofs.Common.{ap}
-use Rattle.pra_words.specs.declared.words.Mode.TheVariants.{Run, Compile, Gen, List, Asm, Interp, Cert, Check}
+use Rattle.pra_words.specs.declared.words.Mode.TheVariants.{Run, Compile, Gen, List, Asm, Interp}
+use Rattle.pra_words.specs.declared.words.Mode.TheVariants.{Cert, Check}
 use Rattle.pra_words.specs.Words.{writes_image}
 use Rattle.pra_words.specs.Written.{asked_by}
 use Rattle.pra_tool.specs.Outside.{stream_seen}

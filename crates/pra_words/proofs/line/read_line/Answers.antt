@@ -10,7 +10,8 @@ pub returns-in-Ok : goal.returns-in-Ok
 returns-in-Ok c =
     let rows = c.in-Ok.ensures.matches (ap is_simple c.in_ok-command.ensures ∙ is_plain) in
     let none = c.in-Ok.ensures.kinds (ap is_simple_and_free c.in_ok-command.ensures ∙ is_free) in
-    c.line_in.ensures ∙ by_rows (found_of c.in-Ok.matches) ∙ ap line_of_rows rows.0 ∙ taken c.args.words.now _ c.in_ok-command.ensures none
+    c.line_in.ensures ∙ by_rows (found_of c.in-Ok.matches) ∙ ap line_of_rows rows.0
+    ∙ taken c.args.words.now _ c.in_ok-command.ensures none
 
 pub returns : goal.returns
 returns c =

@@ -6,5 +6,7 @@ use Rattle.tests_compiled.proofs.chain.codes.Goals as goal
 
 pub loop-number-preserved : goal.loop-number-preserved
 loop-number-preserved c =
-    subst (λ (codes : List VProc). All (λ code. IsValid code × IsSized code) codes) (sym c.in_ok-push.ensures.items)
-    (All-push (λ code. IsValid code × IsSized code) c.loop-number.codes.items c.in_ok-code.code c.loop-number.invariant c.in_ok-code.ensures)
+    subst (λ (codes : List VProc). All (λ code. IsValid code × IsSized code) codes)
+    (sym c.in_ok-push.ensures.items)
+    (All-push (λ code. IsValid code × IsSized code) c.loop-number.codes.items c.in_ok-code.code
+    c.loop-number.invariant c.in_ok-code.ensures)

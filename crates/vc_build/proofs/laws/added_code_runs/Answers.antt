@@ -5,4 +5,5 @@ pub returns-clause-instruction : goal.returns-clause-instruction
 returns-clause-instruction c = λ w id at code i s o stands r. performs w id at code s o stands i r
 
 pub returns-clause-end : goal.returns-clause-end
-returns-clause-end c = λ w id at code end s o real stands r. leaves w id at code s o stands end real r
+returns-clause-end c = λ w id at code end s o real stands r. leaves w id at code s o stands end real
+    r

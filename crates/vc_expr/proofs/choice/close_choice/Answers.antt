@@ -25,11 +25,15 @@ returns-clause-closes c =
     let old = c.args.code.now in
     let kind = c.index-kind.result.now in
     let choice = c.args.choice in
-    let is : kind ≡ kind_of old c.args.v.0 = get_or_read old.vars c.args.v.0 kind c.requires.named c.index-kind.ensures Plain in
-    let made : c.close.new.code ≡ with_end at (Jump choice.behind) (with_instr at (first_of kind choice.target c.args.v) old) =
-    c.close.ensures ∙ ap (with_end at (Jump choice.behind)) (c.in_ok-put.ensures ∙ ap (λ i. with_instr at i old) c.first_of.ensures) in
+    let is : kind ≡ kind_of old c.args.v.0 = get_or_read old.vars c.args.v.0 kind c.requires.named
+    c.index-kind.ensures Plain in
+    let made : c.close.new.code ≡ with_end at (Jump choice.behind)
+    (with_instr at (first_of kind choice.target c.args.v) old) =
+    c.close.ensures ∙ ap (with_end at (Jump choice.behind))
+    (c.in_ok-put.ensures ∙ ap (λ i. with_instr at i old) c.first_of.ensures) in
     subst (λ (z : VProc). ClosesChoice at old z c.args.v.0 choice) (sym made)
-    (closes at old c.args.v choice kind (sym is) c.requires.is_open c.requires.named c.requires.target c.requires.plain c.requires.behind c.requires.no_entry)
+    (closes at old c.args.v choice kind (sym is) c.requires.is_open c.requires.named
+    c.requires.target c.requires.plain c.requires.behind c.requires.no_entry)
 
 pub returns-clause-valid : goal.returns-clause-valid
 returns-clause-valid c = λ apart.
@@ -37,11 +41,16 @@ returns-clause-valid c = λ apart.
     let old = c.args.code.now in
     let kind = c.index-kind.result.now in
     let choice = c.args.choice in
-    let is : kind ≡ kind_of old c.args.v.0 = get_or_read old.vars c.args.v.0 kind c.requires.named c.index-kind.ensures Plain in
-    let made : c.close.new.code ≡ with_end at (Jump choice.behind) (with_instr at (first_of kind choice.target c.args.v) old) =
-    c.close.ensures ∙ ap (with_end at (Jump choice.behind)) (c.in_ok-put.ensures ∙ ap (λ i. with_instr at i old) c.first_of.ensures) in
+    let is : kind ≡ kind_of old c.args.v.0 = get_or_read old.vars c.args.v.0 kind c.requires.named
+    c.index-kind.ensures Plain in
+    let made : c.close.new.code ≡ with_end at (Jump choice.behind)
+    (with_instr at (first_of kind choice.target c.args.v) old) =
+    c.close.ensures ∙ ap (with_end at (Jump choice.behind))
+    (c.in_ok-put.ensures ∙ ap (λ i. with_instr at i old) c.first_of.ensures) in
     subst (λ (z : VProc). StaysValid old z) (sym made)
-    (close_valid at old c.args.v choice.target choice.behind kind (sym is) c.requires.is_open c.requires.named c.requires.target c.requires.plain c.requires.behind c.requires.no_entry apart)
+    (close_valid at old c.args.v choice.target choice.behind kind (sym is) c.requires.is_open
+    c.requires.named c.requires.target c.requires.plain c.requires.behind c.requires.no_entry
+    apart)
 
 pub returns-clause-reads : goal.returns-clause-reads
 returns-clause-reads c =
@@ -49,9 +58,12 @@ returns-clause-reads c =
     let old = c.args.code.now in
     let kind = c.index-kind.result.now in
     let choice = c.args.choice in
-    let made : c.close.new.code ≡ with_end at (Jump choice.behind) (with_instr at (first_of kind choice.target c.args.v) old) =
-    c.close.ensures ∙ ap (with_end at (Jump choice.behind)) (c.in_ok-put.ensures ∙ ap (λ i. with_instr at i old) c.first_of.ensures) in
-    subst (λ (z : VProc). PublishesTo at old z c.args.v.0 choice.target.0 choice.behind.0) (sym made)
+    let made : c.close.new.code ≡ with_end at (Jump choice.behind)
+    (with_instr at (first_of kind choice.target c.args.v) old) =
+    c.close.ensures ∙ ap (with_end at (Jump choice.behind))
+    (c.in_ok-put.ensures ∙ ap (λ i. with_instr at i old) c.first_of.ensures) in
+    subst (λ (z : VProc). PublishesTo at old z c.args.v.0 choice.target.0 choice.behind.0)
+    (sym made)
     (close_publishes at old c.args.v choice.target choice.behind kind c.requires.is_open)
 
 pub returns-clause-counts : goal.returns-clause-counts
@@ -60,8 +72,10 @@ returns-clause-counts c =
     let old = c.args.code.now in
     let end = Jump c.args.choice.behind in
     let i = c.first_of.result in
-    let made : c.close.new.code ≡ with_end at end (with_instr at i old) = c.close.ensures ∙ ap (with_end at end) c.in_ok-put.ensures in
-    subst (λ (z : VProc). AddsAtMost 1 0 0 0 old z) (sym made) (put_close_adds at i end old c.requires.is_open)
+    let made : c.close.new.code ≡ with_end at end (with_instr at i old) = c.close.ensures
+    ∙ ap (with_end at end) c.in_ok-put.ensures in
+    subst (λ (z : VProc). AddsAtMost 1 0 0 0 old z) (sym made)
+    (put_close_adds at i end old c.requires.is_open)
 
 pub returns-clause-closed : goal.returns-clause-closed
 returns-clause-closed c =
@@ -69,9 +83,11 @@ returns-clause-closed c =
     let old = c.args.code.now in
     let end = Jump c.args.choice.behind in
     let i = c.first_of.result in
-    let made : c.close.new.code ≡ with_end at end (with_instr at i old) = c.close.ensures ∙ ap (with_end at end) c.in_ok-put.ensures in
+    let made : c.close.new.code ≡ with_end at end (with_instr at i old) = c.close.ensures
+    ∙ ap (with_end at end) c.in_ok-put.ensures in
     subst (λ (z : VProc). end_of z at ≢ stand_in) (sym made)
-    (closed_real at end (with_instr at i old) (put_open at i old c.requires.is_open) (jump_real c.args.choice.behind (λ is. omega (arith, is, c.requires.no_entry))))
+    (closed_real at end (with_instr at i old) (put_open at i old c.requires.is_open)
+    (jump_real c.args.choice.behind (λ is. omega (arith, is, c.requires.no_entry))))
 
 pub returns-clause-end : goal.returns-clause-end
 returns-clause-end c =
@@ -79,5 +95,7 @@ returns-clause-end c =
     let old = c.args.code.now in
     let end = Jump c.args.choice.behind in
     let i = c.first_of.result in
-    let made : c.close.new.code ≡ with_end at end (with_instr at i old) = c.close.ensures ∙ ap (with_end at end) c.in_ok-put.ensures in
-    ap (λ (z : VProc). end_of z at) made ∙ ap (λ (x : Block). x.end) (closed_block at end (with_instr at i old) (put_open at i old c.requires.is_open))
+    let made : c.close.new.code ≡ with_end at end (with_instr at i old) = c.close.ensures
+    ∙ ap (with_end at end) c.in_ok-put.ensures in
+    ap (λ (z : VProc). end_of z at) made ∙ ap (λ (x : Block). x.end)
+    (closed_block at end (with_instr at i old) (put_open at i old c.requires.is_open))

@@ -21,11 +21,14 @@ returns-clause-divides c =
     let r = c.in_ok-remainder.remainder in
     let i = DivMod q r c.args.dividend c.args.divisor in
     let one : c.declare.new.code ≡ with_variable Plain old = c.in_ok-quotient.ensures.made in
-    let r_new : r.0 ≡ length (with_variable Plain old).vars = c.in_ok-remainder.ensures.number ∙ ap (λ (z : VProc). length z.vars) one in
+    let r_new : r.0 ≡ length (with_variable Plain old).vars = c.in_ok-remainder.ensures.number
+    ∙ ap (λ (z : VProc). length z.vars) one in
     let made : c.put.new.code ≡ with_instr at i (with_variable Plain (with_variable Plain old)) =
-    c.in_ok-put.ensures ∙ ap (with_instr at i) (c.in_ok-remainder.ensures.made ∙ ap (with_variable Plain) one) in
+    c.in_ok-put.ensures ∙ ap (with_instr at i)
+    (c.in_ok-remainder.ensures.made ∙ ap (with_variable Plain) one) in
     subst (λ (z : VProc). Divides at old z c.args.dividend.0 c.args.divisor.0 q.0 r.0) (sym made)
-    (divides at old q r c.args.dividend c.args.divisor c.requires.is_open c.in_ok-quotient.ensures.number r_new)
+    (divides at old q r c.args.dividend c.args.divisor c.requires.is_open
+    c.in_ok-quotient.ensures.number r_new)
 
 pub returns-clause-valid : goal.returns-clause-valid
 returns-clause-valid c = λ plain apart.
@@ -35,11 +38,14 @@ returns-clause-valid c = λ plain apart.
     let r = c.in_ok-remainder.remainder in
     let i = DivMod q r c.args.dividend c.args.divisor in
     let one : c.declare.new.code ≡ with_variable Plain old = c.in_ok-quotient.ensures.made in
-    let r_new : r.0 ≡ length (with_variable Plain old).vars = c.in_ok-remainder.ensures.number ∙ ap (λ (z : VProc). length z.vars) one in
+    let r_new : r.0 ≡ length (with_variable Plain old).vars = c.in_ok-remainder.ensures.number
+    ∙ ap (λ (z : VProc). length z.vars) one in
     let made : c.put.new.code ≡ with_instr at i (with_variable Plain (with_variable Plain old)) =
-    c.in_ok-put.ensures ∙ ap (with_instr at i) (c.in_ok-remainder.ensures.made ∙ ap (with_variable Plain) one) in
+    c.in_ok-put.ensures ∙ ap (with_instr at i)
+    (c.in_ok-remainder.ensures.made ∙ ap (with_variable Plain) one) in
     subst (λ (z : VProc). StaysValid old z) (sym made)
-    (divide_valid at old q r c.args.dividend c.args.divisor c.requires.is_open c.in_ok-quotient.ensures.number r_new c.requires.dividend c.requires.divisor plain apart)
+    (divide_valid at old q r c.args.dividend c.args.divisor c.requires.is_open
+    c.in_ok-quotient.ensures.number r_new c.requires.dividend c.requires.divisor plain apart)
 
 pub returns-clause-reads : goal.returns-clause-reads
 returns-clause-reads c =
@@ -50,15 +56,21 @@ returns-clause-reads c =
     let i = DivMod q r c.args.dividend c.args.divisor in
     let one : c.declare.new.code ≡ with_variable Plain old = c.in_ok-quotient.ensures.made in
     let made : c.put.new.code ≡ with_instr at i (with_variable Plain (with_variable Plain old)) =
-    c.in_ok-put.ensures ∙ ap (with_instr at i) (c.in_ok-remainder.ensures.made ∙ ap (with_variable Plain) one) in
-    subst (λ (z : VProc). ReadsDivision at old z c.args.dividend.0 c.args.divisor.0 q.0 r.0) (sym made)
+    c.in_ok-put.ensures ∙ ap (with_instr at i)
+    (c.in_ok-remainder.ensures.made ∙ ap (with_variable Plain) one) in
+    subst (λ (z : VProc). ReadsDivision at old z c.args.dividend.0 c.args.divisor.0 q.0 r.0)
+    (sym made)
     (divide_reads at old q r c.args.dividend c.args.divisor c.requires.is_open)
 
 pub returns-clause-counts : goal.returns-clause-counts
 returns-clause-counts c =
     let old = c.args.code.now in
-    let i = DivMod c.in_ok-quotient.quotient c.in_ok-remainder.remainder c.args.dividend c.args.divisor in
+    let i = DivMod c.in_ok-quotient.quotient c.in_ok-remainder.remainder c.args.dividend
+    c.args.divisor in
     let one : c.declare.new.code ≡ with_variable Plain old = c.in_ok-quotient.ensures.made in
-    let made : c.put.new.code ≡ with_instr c.args.at.0 i (with_variable Plain (with_variable Plain old)) =
-    c.in_ok-put.ensures ∙ ap (with_instr c.args.at.0 i) (c.in_ok-remainder.ensures.made ∙ ap (with_variable Plain) one) in
-    subst (λ (z : VProc). AddsAtMost 1 2 0 0 old z) (sym made) (divide_adds c.args.at.0 i old c.requires.is_open)
+    let made : c.put.new.code ≡ with_instr c.args.at.0 i
+    (with_variable Plain (with_variable Plain old)) =
+    c.in_ok-put.ensures ∙ ap (with_instr c.args.at.0 i)
+    (c.in_ok-remainder.ensures.made ∙ ap (with_variable Plain) one) in
+    subst (λ (z : VProc). AddsAtMost 1 2 0 0 old z) (sym made)
+    (divide_adds c.args.at.0 i old c.requires.is_open)

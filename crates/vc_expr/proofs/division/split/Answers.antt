@@ -21,18 +21,26 @@ returns-clause-splits c =
     let zero = c.in_ok-zero.zero in
     let q = c.in_ok-quotient.quotient in
     let r = c.in_ok-quotient.remainder in
-    let less : Operates Less zero.0 at (with_variable (Constant (pos 0)) m2) c.select_relation.new.code r.0 zero.0 c.in_ok-negative.negative.0 =
-    subst (λ (z : VProc). Operates Less zero.0 at z c.select_relation.new.code r.0 zero.0 c.in_ok-negative.negative.0) c.in_ok-zero.ensures.made c.in_ok-negative.ensures.operates in
-    splits at c.args.code.now c.check_divisor.new.code m2 c.select_relation.new.code c.args.dividend.0 c.args.divisor.0 zero
+    let less : Operates Less zero.0 at (with_variable (Constant (pos 0)) m2)
+    c.select_relation.new.code r.0 zero.0 c.in_ok-negative.negative.0 =
+    subst (λ (z : VProc). Operates Less zero.0 at z c.select_relation.new.code r.0 zero.0
+    c.in_ok-negative.negative.0) c.in_ok-zero.ensures.made c.in_ok-negative.ensures.operates in
+    splits at c.args.code.now c.check_divisor.new.code m2 c.select_relation.new.code
+    c.args.dividend.0 c.args.divisor.0 zero
     (record { quotient = q; remainder = r; negative = c.in_ok-negative.negative })
-    c.in_ok-check_divisor.ensures.checks c.in_ok-quotient.ensures.divides c.in_ok-zero.ensures.number less c.requires.dividend c.requires.divisor
+    c.in_ok-check_divisor.ensures.checks c.in_ok-quotient.ensures.divides
+    c.in_ok-zero.ensures.number less c.requires.dividend c.requires.divisor
 
 pub returns-clause-valid : goal.returns-clause-valid
 returns-clause-valid c = λ plain apart.
     let m2 = c.divide.new.code in
-    split_valid c.args.at.0 c.args.code.now c.check_divisor.new.code m2 c.select_relation.new.code c.args.dividend.0 c.args.divisor.0
-    c.in_ok-check_divisor.ensures.valid (λ p. c.in_ok-quotient.ensures.valid p apart) (ap (λ (ks : List VarKind). slice_index_or ks c.args.dividend.0 Plain) c.in_ok-check_divisor.ensures.vars ∙ plain)
-    (subst (λ (z : VProc). StaysValid z c.select_relation.new.code) c.in_ok-zero.ensures.made c.in_ok-negative.ensures.valid)
+    split_valid c.args.at.0 c.args.code.now c.check_divisor.new.code m2 c.select_relation.new.code
+    c.args.dividend.0 c.args.divisor.0
+    c.in_ok-check_divisor.ensures.valid (λ p. c.in_ok-quotient.ensures.valid p apart)
+    (ap (λ (ks : List VarKind). slice_index_or ks c.args.dividend.0 Plain)
+    c.in_ok-check_divisor.ensures.vars ∙ plain)
+    (subst (λ (z : VProc). StaysValid z c.select_relation.new.code) c.in_ok-zero.ensures.made
+    c.in_ok-negative.ensures.valid)
 
 pub returns-clause-reads : goal.returns-clause-reads
 returns-clause-reads c =
@@ -41,13 +49,20 @@ returns-clause-reads c =
     let zero = c.in_ok-zero.zero in
     let q = c.in_ok-quotient.quotient in
     let r = c.in_ok-quotient.remainder in
-    let reads : ReadsOperands zero.0 at (with_variable (Constant (pos 0)) m2) c.select_relation.new.code r.0 zero.0 c.in_ok-negative.negative.0 =
-    subst (λ (z : VProc). ReadsOperands zero.0 at z c.select_relation.new.code r.0 zero.0 c.in_ok-negative.negative.0) c.in_ok-zero.ensures.made c.in_ok-negative.ensures.reads in
-    split_reads at c.args.code.now c.check_divisor.new.code m2 c.select_relation.new.code c.args.dividend.0 c.args.divisor.0 zero
+    let reads : ReadsOperands zero.0 at (with_variable (Constant (pos 0)) m2)
+    c.select_relation.new.code r.0 zero.0 c.in_ok-negative.negative.0 =
+    subst (λ (z : VProc). ReadsOperands zero.0 at z c.select_relation.new.code r.0 zero.0
+    c.in_ok-negative.negative.0) c.in_ok-zero.ensures.made c.in_ok-negative.ensures.reads in
+    split_reads at c.args.code.now c.check_divisor.new.code m2 c.select_relation.new.code
+    c.args.dividend.0 c.args.divisor.0 zero
     (record { quotient = q; remainder = r; negative = c.in_ok-negative.negative })
-    c.in_ok-check_divisor.ensures.vars c.in_ok-check_divisor.ensures.reads c.in_ok-quotient.ensures.reads c.in_ok-quotient.ensures.divides c.in_ok-zero.ensures.number reads c.requires.dividend c.requires.divisor
+    c.in_ok-check_divisor.ensures.vars c.in_ok-check_divisor.ensures.reads
+    c.in_ok-quotient.ensures.reads c.in_ok-quotient.ensures.divides c.in_ok-zero.ensures.number
+    reads c.requires.dividend c.requires.divisor
 
 pub returns-clause-counts : goal.returns-clause-counts
 returns-clause-counts c =
-    split_adds c.args.code.now c.check_divisor.new.code c.divide.new.code c.select_relation.new.code c.in_ok-check_divisor.ensures.counts c.in_ok-quotient.ensures.counts
-    (subst (λ (z : VProc). AddsAtMost 1 1 0 0 z c.select_relation.new.code) c.in_ok-zero.ensures.made c.in_ok-negative.ensures.counts)
+    split_adds c.args.code.now c.check_divisor.new.code c.divide.new.code c.select_relation.new.code
+    c.in_ok-check_divisor.ensures.counts c.in_ok-quotient.ensures.counts
+    (subst (λ (z : VProc). AddsAtMost 1 1 0 0 z c.select_relation.new.code)
+    c.in_ok-zero.ensures.made c.in_ok-negative.ensures.counts)

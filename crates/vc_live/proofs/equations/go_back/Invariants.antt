@@ -7,7 +7,8 @@ abbrev pub invariant-loop-left : goal.invariant-loop-left
 invariant-loop-left l = record {
   within : l.left ≤ length l.code;
   words : length l.set ≡ length l.initial.set;
-  members : (v : ℕ) → contains l.set v ≡ through (contains l.constants) (drop l.left l.code) (contains l.initial.set) v;
+  members : (v : ℕ) → contains l.set v ≡ through (contains l.constants) (drop l.left l.code)
+      (contains l.initial.set) v;
 }
 
 abbrev pub decreases-loop-left : goal.decreases-loop-left

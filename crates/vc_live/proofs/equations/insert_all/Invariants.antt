@@ -6,5 +6,6 @@ use Rattle.vc_live.proofs.equations.insert_all.Given as goal
 abbrev pub invariant-loop-role : goal.invariant-loop-role
 invariant-loop-role l = record {
   words : length l.set ≡ length l.initial.set;
-  members : (v : ℕ) → contains l.set v ≡ (named_in (take l.role-index l.roles) v || contains l.initial.set v);
+  members : (v : ℕ) → contains l.set v ≡
+      (named_in (take l.role-index l.roles) v || contains l.initial.set v);
 }

@@ -3,7 +3,15 @@ use Rattle.vc_live.proofs.Steps.{reads_named}
 use Rattle.vc_live.proofs.equations.mark_reads.Goals as goal
 
 pub insert_all-requires : goal.insert_all-requires
-insert_all-requires c = rw c.as_slice.ensures.value (λ v named. c.requires v (inl (sym (reads_named c.operands-marked.result c.args.instr.now c.operands-marked.ensures v) ∙ named)))
+insert_all-requires c = rw c.as_slice.ensures.value
+    (λ v named. c.requires v
+    (inl (sym (reads_named c.operands-marked.result c.args.instr.now c.operands-marked.ensures v)
+    ∙ named)))
 
 pub returns-clause-members : goal.returns-clause-members
-returns-clause-members c = λ v. rw (c.insert_all.ensures.members v, c.as_slice.ensures.value, reads_named c.operands-marked.result c.args.instr.now c.operands-marked.ensures v) refl
+returns-clause-members c =
+    λ v. rw (
+      c.insert_all.ensures.members v,
+      c.as_slice.ensures.value,
+      reads_named c.operands-marked.result c.args.instr.now c.operands-marked.ensures v,
+    ) refl

@@ -6,5 +6,7 @@ use Rattle.vc_live.proofs.equations.remove_all.Given as goal
 abbrev pub invariant-loop-role : goal.invariant-loop-role
 invariant-loop-role l = record {
   words : length l.set ≡ length l.initial.set;
-  members : (v : ℕ) → contains l.set v ≡ (contains l.initial.set v && (contains l.constants v || not (named_in (take l.role-index l.roles) v)));
+  members : (v : ℕ) → contains l.set v ≡
+      (contains l.initial.set v &&
+      (contains l.constants v || not (named_in (take l.role-index l.roles) v)));
 }

@@ -3,10 +3,16 @@ use Rattle.vc_live.proofs.Steps.{reads_named, writes_named, before_of}
 use Rattle.vc_live.proofs.equations.step_back.Goals as goal
 
 pub remove_all-requires : goal.remove_all-requires
-remove_all-requires c = rw c.as_slice.ensures.value (λ v named. c.requires v (inr (sym (writes_named c.operands-row.result c.args.instr.now c.operands-row.ensures v) ∙ named)))
+remove_all-requires c = rw c.as_slice.ensures.value
+    (λ v named. c.requires v
+    (inr (sym (writes_named c.operands-row.result c.args.instr.now c.operands-row.ensures v)
+    ∙ named)))
 
 pub insert_all-requires : goal.insert_all-requires
-insert_all-requires c = rw (c.as_slice-2.ensures.value, c.remove_all.ensures.words) (λ v named. c.requires v (inl (sym (reads_named c.operands-row.result c.args.instr.now c.operands-row.ensures v) ∙ named)))
+insert_all-requires c = rw (c.as_slice-2.ensures.value, c.remove_all.ensures.words)
+    (λ v named. c.requires v
+    (inl (sym (reads_named c.operands-row.result c.args.instr.now c.operands-row.ensures v)
+    ∙ named)))
 
 pub returns-clause-members : goal.returns-clause-members
 returns-clause-members c = λ v. rw (

@@ -11,4 +11,5 @@ pub add_entry-requires-clause-target : goal.add_entry-requires-clause-target
 add_entry-requires-clause-target c = (rw c.in-Branch.is at c.requires.targets).1
 
 pub add_entry-requires-clause-words : goal.add_entry-requires-clause-words
-add_entry-requires-clause-words c = λ b below. c.requires.words b below ∙ sym c.take_entry-in-Branch.ensures.words
+add_entry-requires-clause-words c = λ b below. c.requires.words b below
+    ∙ sym c.take_entry-in-Branch.ensures.words

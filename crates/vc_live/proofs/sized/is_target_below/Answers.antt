@@ -5,7 +5,9 @@ pub returns-in-Jump : goal.returns-in-Jump
 returns-in-Jump c = jump_below c.args.count c.args.end.now c.in-Jump.target c.in-Jump.is
 
 pub returns-then-one-count : goal.returns-then-one-count
-returns-then-one-count c = branch_below c.args.count c.args.end.now c.in-Branch.field-0 c.in-Branch.one c.in-Branch.other c.in-Branch.is c.if-one-count.true
+returns-then-one-count c = branch_below c.args.count c.args.end.now c.in-Branch.field-0
+    c.in-Branch.one c.in-Branch.other c.in-Branch.is c.if-one-count.true
 
 pub returns-else-one-count : goal.returns-else-one-count
-returns-else-one-count c = branch_past c.args.count c.args.end.now c.in-Branch.field-0 c.in-Branch.one c.in-Branch.other c.in-Branch.is c.if-one-count.false
+returns-else-one-count c = branch_past c.args.count c.args.end.now c.in-Branch.field-0
+    c.in-Branch.one c.in-Branch.other c.in-Branch.is c.if-one-count.false

@@ -7,7 +7,10 @@ pub loop-role-init : goal.loop-role-init
 loop-role-init c = λ v named. absurd (let h = named_none v in cc)
 
 pub returns-then-role-count : goal.returns-then-role-count
-returns-then-role-count c = refused (λ below. let h = below (get_or c.args.roles.now c.loop-role.role-index no_role).var.0 (named_at c.args.roles.now c.loop-role.role-index no_role c.loop-role-test.true) in omega arith)
+returns-then-role-count c =
+    refused (λ below. let h = below (get_or c.args.roles.now c.loop-role.role-index no_role).var.0
+    (named_at c.args.roles.now c.loop-role.role-index no_role c.loop-role-test.true) in omega arith)
 
 pub loop-role-preserved : goal.loop-role-preserved
-loop-role-preserved c = below_more c.args.roles.now c.loop-role.role-index c.args.count c.loop-role.invariant c.loop-role-test.true (omega arith)
+loop-role-preserved c = below_more c.args.roles.now c.loop-role.role-index c.args.count
+    c.loop-role.invariant c.loop-role-test.true (omega arith)

@@ -2,7 +2,9 @@ use Rattle.vc_module.proofs.Together.{all_replaced}
 use Rattle.vc_module.proofs.laws.procedures_are_replaced_together.Goals as goal
 
 pub returns-clause-carried : goal.returns-clause-carried
-returns-clause-carried c = λ module_ news frames input long same well. (all_replaced module_ news frames input long same well).0
+returns-clause-carried c = λ module_ news frames input long same well.
+    (all_replaced module_ news frames input long same well).0
 
 pub returns-clause-runs_well : goal.returns-clause-runs_well
-returns-clause-runs_well c = λ module_ news frames input long same well. (all_replaced module_ news frames input long same well).1
+returns-clause-runs_well c = λ module_ news frames input long same well.
+    (all_replaced module_ news frames input long same well).1

@@ -12,8 +12,12 @@ returns c =
     let order = c.in_ok-code.ensures in
     let ids = c.args.order.now in
     let last = c.args.last.0 in
-    let last_is = last_place c.args.code c.in_ok-code.code ids order c.requires.listing last c.requires.is_last in
+    let last_is = last_place c.args.code c.in_ok-code.code ids order c.requires.listing last
+    c.requires.is_last in
     let end : c.in_ok-end.end ≡ order.to last = omega (arith, c.in_ok-end.ensures, last_is) in
-    let new_is : c.close.new.code ≡ with_end (order.to last) Return c.in_ok-code.code = c.close.ensures ∙ ap (λ n. with_end n Return c.in_ok-code.code) end in
+    let new_is : c.close.new.code ≡ with_end (order.to last) Return c.in_ok-code.code =
+    c.close.ensures ∙ ap (λ n. with_end n Return c.in_ok-code.code) end in
     subst (IsFinished c.args.code last ids) (sym new_is)
-    (finished order.to order.from c.args.code c.in_ok-code.code last order.reordered c.requires.is_open last_is ids order refl refl c.requires.listing c.requires.text (only_open c.args.code last c.requires.no_other c.requires.is_open))
+    (finished order.to order.from c.args.code c.in_ok-code.code last order.reordered
+    c.requires.is_open last_is ids order refl refl c.requires.listing c.requires.text
+    (only_open c.args.code last c.requires.no_other c.requires.is_open))

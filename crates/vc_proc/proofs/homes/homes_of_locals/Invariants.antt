@@ -5,5 +5,7 @@ use Rattle.vc_proc.proofs.homes.homes_of_locals.Given as goal
 -- what is done, with what is left, is the whole
 abbrev pub invariant-loop-local : goal.invariant-loop-local
 invariant-loop-local l =
-    (l.homes.items ++ local_homes (length l.kinds.items) (drop l.local-index l.locals) ≡ local_homes (length l.fn.kinds.items) l.locals)
-    × (l.kinds.items ++ local_kinds (drop l.local-index l.locals) ≡ l.fn.kinds.items ++ local_kinds l.locals)
+    (l.homes.items ++ local_homes (length l.kinds.items) (drop l.local-index l.locals) ≡
+    local_homes (length l.fn.kinds.items) l.locals)
+    × (l.kinds.items ++ local_kinds (drop l.local-index l.locals) ≡ l.fn.kinds.items
+    ++ local_kinds l.locals)

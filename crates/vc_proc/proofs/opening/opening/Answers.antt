@@ -7,6 +7,7 @@ use Rattle.vc_proc.proofs.opening.opening.Goals as goal
 
 pub loop-v-preserved : goal.loop-v-preserved
 loop-v-preserved c =
-    let pushed : c.push-in-loop-v.new.self.items ≡ c.loop-v.code.items ++ Set (record { 0 = c.loop-v.v }) (pos 0) ∷ [] = c.in_ok-push-2.ensures.items in
+    let pushed : c.push-in-loop-v.new.self.items ≡ c.loop-v.code.items
+    ++ Set (record { 0 = c.loop-v.v }) (pos 0) ∷ [] = c.in_ok-push-2.ensures.items in
     ap (λ is. is ++ zeros (c.loop-v.v + 1) (c.args.end - (c.loop-v.v + 1))) pushed
     ∙ zeros_more c.loop-v.code.items _ c.loop-v.v c.args.end c.loop-v-test.true c.loop-v.invariant

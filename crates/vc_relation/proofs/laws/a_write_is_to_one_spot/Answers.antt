@@ -5,4 +5,5 @@ pub returns-clause-there : goal.returns-clause-there
 returns-clause-there c = λ t s x w old h there. content_written t s x w old h there
 
 pub returns-clause-others : goal.returns-clause-others
-returns-clause-others c = λ t s x w old h spot there apart. content_other t s x w old h there spot apart
+returns-clause-others c = λ t s x w old h spot there apart. content_other t s x w old h there spot
+    apart

@@ -17,35 +17,51 @@ use Rattle.vc_select.proofs.index.check.Goals as goal
 
 pub returns-clause-checks : goal.returns-clause-checks
 returns-clause-checks c =
-    let made : c.put_check.new.code ≡ with_instr c.args.at.0 (Check c.args.index (pos c.args.count)) c.args.code.now =
+    let made : c.put_check.new.code ≡ with_instr c.args.at.0 (Check c.args.index (pos c.args.count))
+    c.args.code.now =
     c.in_ok-put_check.ensures
-    ∙ ap (λ n. with_instr c.args.at.0 (Check c.args.index (signed (word n))) c.args.code.now) c.in_ok-bound.ensures.is
-    ∙ ap (λ n. with_instr c.args.at.0 (Check c.args.index n) c.args.code.now) (to_z-of_z w32 (pos c.args.count) (fits_count c.args.count c.in_ok-bound.ensures.small)) in
-    subst (λ (z : VProc). Checks c.args.at.0 c.args.code.now z c.args.index.0 c.args.count) (sym made)
+    ∙ ap (λ n. with_instr c.args.at.0 (Check c.args.index (signed (word n))) c.args.code.now)
+    c.in_ok-bound.ensures.is
+    ∙ ap (λ n. with_instr c.args.at.0 (Check c.args.index n) c.args.code.now)
+    (to_z-of_z w32 (pos c.args.count) (fits_count c.args.count c.in_ok-bound.ensures.small)) in
+    subst (λ (z : VProc). Checks c.args.at.0 c.args.code.now z c.args.index.0 c.args.count)
+    (sym made)
     (checks c.args.at.0 c.args.code.now c.args.index c.args.count c.requires)
 
 pub returns-clause-counts : goal.returns-clause-counts
 returns-clause-counts c =
-    let made : c.put_check.new.code ≡ with_instr c.args.at.0 (Check c.args.index (pos c.args.count)) c.args.code.now =
+    let made : c.put_check.new.code ≡ with_instr c.args.at.0 (Check c.args.index (pos c.args.count))
+    c.args.code.now =
     c.in_ok-put_check.ensures
-    ∙ ap (λ n. with_instr c.args.at.0 (Check c.args.index (signed (word n))) c.args.code.now) c.in_ok-bound.ensures.is
-    ∙ ap (λ n. with_instr c.args.at.0 (Check c.args.index n) c.args.code.now) (to_z-of_z w32 (pos c.args.count) (fits_count c.args.count c.in_ok-bound.ensures.small)) in
-    subst (λ (z : VProc). AddsAtMost 1 0 0 0 c.args.code.now z) (sym made) (put_adds c.args.at.0 (Check c.args.index (pos c.args.count)) c.args.code.now c.requires)
+    ∙ ap (λ n. with_instr c.args.at.0 (Check c.args.index (signed (word n))) c.args.code.now)
+    c.in_ok-bound.ensures.is
+    ∙ ap (λ n. with_instr c.args.at.0 (Check c.args.index n) c.args.code.now)
+    (to_z-of_z w32 (pos c.args.count) (fits_count c.args.count c.in_ok-bound.ensures.small)) in
+    subst (λ (z : VProc). AddsAtMost 1 0 0 0 c.args.code.now z) (sym made)
+    (put_adds c.args.at.0 (Check c.args.index (pos c.args.count)) c.args.code.now c.requires)
 
 pub returns-clause-valid : goal.returns-clause-valid
 returns-clause-valid c = λ named.
-    let made : c.put_check.new.code ≡ with_instr c.args.at.0 (Check c.args.index (pos c.args.count)) c.args.code.now =
+    let made : c.put_check.new.code ≡ with_instr c.args.at.0 (Check c.args.index (pos c.args.count))
+    c.args.code.now =
     c.in_ok-put_check.ensures
-    ∙ ap (λ n. with_instr c.args.at.0 (Check c.args.index (signed (word n))) c.args.code.now) c.in_ok-bound.ensures.is
-    ∙ ap (λ n. with_instr c.args.at.0 (Check c.args.index n) c.args.code.now) (to_z-of_z w32 (pos c.args.count) (fits_count c.args.count c.in_ok-bound.ensures.small)) in
+    ∙ ap (λ n. with_instr c.args.at.0 (Check c.args.index (signed (word n))) c.args.code.now)
+    c.in_ok-bound.ensures.is
+    ∙ ap (λ n. with_instr c.args.at.0 (Check c.args.index n) c.args.code.now)
+    (to_z-of_z w32 (pos c.args.count) (fits_count c.args.count c.in_ok-bound.ensures.small)) in
     subst (λ (z : VProc). StaysValid c.args.code.now z) (sym made)
-    (check_valid c.args.at.0 c.args.code.now c.args.index (pos c.args.count) c.requires named (count_in_range c.args.count c.in_ok-bound.ensures.small))
+    (check_valid c.args.at.0 c.args.code.now c.args.index (pos c.args.count) c.requires named
+    (count_in_range c.args.count c.in_ok-bound.ensures.small))
 
 pub returns-clause-reads : goal.returns-clause-reads
 returns-clause-reads c =
-    let made : c.put_check.new.code ≡ with_instr c.args.at.0 (Check c.args.index (pos c.args.count)) c.args.code.now =
+    let made : c.put_check.new.code ≡ with_instr c.args.at.0 (Check c.args.index (pos c.args.count))
+    c.args.code.now =
     c.in_ok-put_check.ensures
-    ∙ ap (λ n. with_instr c.args.at.0 (Check c.args.index (signed (word n))) c.args.code.now) c.in_ok-bound.ensures.is
-    ∙ ap (λ n. with_instr c.args.at.0 (Check c.args.index n) c.args.code.now) (to_z-of_z w32 (pos c.args.count) (fits_count c.args.count c.in_ok-bound.ensures.small)) in
-    subst (λ (z : VProc). ReadsOperands (length c.args.code.now.vars) c.args.at.0 c.args.code.now z c.args.index.0 c.args.index.0 c.args.index.0) (sym made)
+    ∙ ap (λ n. with_instr c.args.at.0 (Check c.args.index (signed (word n))) c.args.code.now)
+    c.in_ok-bound.ensures.is
+    ∙ ap (λ n. with_instr c.args.at.0 (Check c.args.index n) c.args.code.now)
+    (to_z-of_z w32 (pos c.args.count) (fits_count c.args.count c.in_ok-bound.ensures.small)) in
+    subst (λ (z : VProc). ReadsOperands (length c.args.code.now.vars) c.args.at.0 c.args.code.now z
+    c.args.index.0 c.args.index.0 c.args.index.0) (sym made)
     (check_reads c.args.at.0 c.args.code.now c.args.index (pos c.args.count) c.requires)

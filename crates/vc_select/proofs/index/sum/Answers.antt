@@ -11,22 +11,31 @@ use Rattle.vc_select.proofs.index.sum.Goals as goal
 
 pub returns-clause-sums : goal.returns-clause-sums
 returns-clause-sums c =
-    subst (λ (z : Option VarId). Sums c.args.first c.args.at.0 c.args.code.now c.select_arithmetic.new.code z c.args.index.0 c.in_ok-v.v.0) (sym c.in-Some.is)
-    (sums_on c.args.first c.args.at.0 c.args.code.now c.select_arithmetic.new.code c.in-Some.left c.args.index.0 c.in_ok-v.v.0 c.in_ok-v.ensures.operates)
+    subst (λ (z : Option VarId). Sums c.args.first c.args.at.0 c.args.code.now
+    c.select_arithmetic.new.code z c.args.index.0 c.in_ok-v.v.0) (sym c.in-Some.is)
+    (sums_on c.args.first c.args.at.0 c.args.code.now c.select_arithmetic.new.code c.in-Some.left
+    c.args.index.0 c.in_ok-v.v.0 c.in_ok-v.ensures.operates)
 
 pub returns-in_default-clause-counts : goal.returns-in_default-clause-counts
-returns-in_default-clause-counts c = adds_more 0 0 0 0 2 1 0 0 c.args.code.now c.args.code.now (omega arith) (omega arith) (omega arith) (omega arith) (adds_none c.args.code.now)
+returns-in_default-clause-counts c = adds_more 0 0 0 0 2 1 0 0 c.args.code.now c.args.code.now
+    (omega arith) (omega arith) (omega arith) (omega arith) (adds_none c.args.code.now)
 
 pub returns-in_default-clause-valid : goal.returns-in_default-clause-valid
 returns-in_default-clause-valid c = same_valid c.args.code.now
 
 pub returns-in_default-clause-reads : goal.returns-in_default-clause-reads
-returns-in_default-clause-reads c = subst (λ (z : Option VarId). ReadsIndex c.args.first c.args.at.0 c.args.code.now c.args.code.now z c.args.index.0 c.args.index.0) (sym c.in_default.is) (sum_none c.args.first c.args.at.0 c.args.code.now c.args.index.0)
+returns-in_default-clause-reads c =
+    subst (λ (z : Option VarId). ReadsIndex c.args.first c.args.at.0 c.args.code.now c.args.code.now
+    z c.args.index.0 c.args.index.0) (sym c.in_default.is)
+    (sum_none c.args.first c.args.at.0 c.args.code.now c.args.index.0)
 
 pub returns-clause-counts : goal.returns-clause-counts
-returns-clause-counts c = operation_most 1 0 0 c.args.first c.in-Some.left.0 c.args.code.now c.select_arithmetic.new.code c.in_ok-v.ensures.counts
+returns-clause-counts c = operation_most 1 0 0 c.args.first c.in-Some.left.0 c.args.code.now
+    c.select_arithmetic.new.code c.in_ok-v.ensures.counts
 
 pub returns-clause-reads : goal.returns-clause-reads
 returns-clause-reads c =
-    subst (λ (z : Option VarId). ReadsIndex c.args.first c.args.at.0 c.args.code.now c.select_arithmetic.new.code z c.args.index.0 c.in_ok-v.v.0) (sym c.in-Some.is)
-    (sum_some c.args.first c.args.at.0 c.args.code.now c.select_arithmetic.new.code c.in-Some.left c.args.index.0 c.in_ok-v.v.0 c.in_ok-v.ensures.operates.adds.above c.in_ok-v.ensures.reads)
+    subst (λ (z : Option VarId). ReadsIndex c.args.first c.args.at.0 c.args.code.now
+    c.select_arithmetic.new.code z c.args.index.0 c.in_ok-v.v.0) (sym c.in-Some.is)
+    (sum_some c.args.first c.args.at.0 c.args.code.now c.select_arithmetic.new.code c.in-Some.left
+    c.args.index.0 c.in_ok-v.v.0 c.in_ok-v.ensures.operates.adds.above c.in_ok-v.ensures.reads)

@@ -5,4 +5,5 @@ use Rattle.vc_select.proofs.operator.are_fields.Given as goal
 
 abbrev pub invariant-loop-step : goal.invariant-loop-step
 invariant-loop-step l = (AreFields (drop l.step-index l.steps) → AreFields l.steps)
-    × (all_safe (map needs_of_step l.steps) ≡ all_safe (map needs_of_step (drop l.step-index l.steps)))
+    × (all_safe (map needs_of_step l.steps) ≡
+    all_safe (map needs_of_step (drop l.step-index l.steps)))

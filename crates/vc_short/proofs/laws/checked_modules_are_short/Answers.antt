@@ -4,4 +4,5 @@ use Rattle.vc_short.proofs.Short.{module_short}
 use Rattle.vc_short.proofs.laws.checked_modules_are_short.Goals as goal
 
 pub returns : goal.returns
-returns c = λ bytes tokens m checked parsed is. subst IsShort (sym is.checked_is) (module_short bytes tokens m is.reading parsed is.well_formed)
+returns c = λ bytes tokens m checked parsed is. subst IsShort (sym is.checked_is)
+    (module_short bytes tokens m is.reading parsed is.well_formed)

@@ -18,10 +18,13 @@ invariant-loop-arg l =
     PassesAll l.setting l.ctx.code new l.ctx.at.0 to vs (drop l.arg-index l.args) →
     PassesAll l.setting l.fn.ctx.code new l.fn.ctx.at.0 to (l.values.items ++ vs) l.args)
     × (length l.values.items + length (drop l.arg-index l.args) ≡ length l.args)
-    × ((new : VProc) → AddsForArguments (drop l.arg-index l.args) l.ctx.code new → AddsForArguments l.args l.fn.ctx.code new)
+    × ((new : VProc) → AddsForArguments (drop l.arg-index l.args) l.ctx.code new →
+    AddsForArguments l.args l.fn.ctx.code new)
     × (length l.fn.ctx.code.blocks ≤ length l.ctx.code.blocks)
     × PassesReady l.setting l.fn.ctx.code l.ctx.code l.fn.ctx.at.0 l.ctx.at.0 l.values.items
     × ((new : VProc) (to : ℕ) (after : List BlockId) →
-    StaysInText (blocks_of_arguments (drop l.arg-index l.args)) l.ctx.at.0 to l.ctx.code new l.ctx.order after →
-    StaysInText (blocks_of_arguments l.args) l.fn.ctx.at.0 to l.fn.ctx.code new l.fn.ctx.order after)
+    StaysInText (blocks_of_arguments (drop l.arg-index l.args)) l.ctx.at.0 to l.ctx.code new
+    l.ctx.order after →
+    StaysInText (blocks_of_arguments l.args) l.fn.ctx.at.0 to l.fn.ctx.code new l.fn.ctx.order
+    after)
     × HandsOn l.fn.ctx.at.0 l.ctx.at.0 l.fn.ctx.code l.ctx.code

@@ -13,10 +13,12 @@ pub returns-clause-counts : goal.returns-clause-counts
 returns-clause-counts c = line_adds _ _ (one_put _ _ _ _ c.requires.is_open c.in_ok-put.ensures)
 
 pub returns-clause-ready : goal.returns-clause-ready
-returns-clause-ready c = line_ready c.args.setting.now _ _ _ _ c.requires.is_open c.in_ok-put.ensures
+returns-clause-ready c = line_ready c.args.setting.now _ _ _ _ c.requires.is_open
+    c.in_ok-put.ensures
 
 pub returns-clause-hands_on : goal.returns-clause-hands_on
 returns-clause-hands_on c = hands_put _ _ _ _ c.requires.is_open c.in_ok-put.ensures
 
 pub returns-clause-text : goal.returns-clause-text
-returns-clause-text c = text_put _ _ _ _ _ _ _ _ _ (text_none _ _ _ c.requires.is_open) c.requires.is_open c.in_ok-put.ensures
+returns-clause-text c = text_put _ _ _ _ _ _ _ _ _ (text_none _ _ _ c.requires.is_open)
+    c.requires.is_open c.in_ok-put.ensures

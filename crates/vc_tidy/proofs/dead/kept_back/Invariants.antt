@@ -7,7 +7,8 @@ invariant-loop-left l = record {
   within : l.left ≤ length l.code;
   count : length l.marks.items ≡ length l.fn.marks.items;
   thins : Thins (exit_of l.liveness l.fn.id.0 l.code) (drop l.left l.code) (reverse l.kept.items);
-  marks : AreMarked l.marks.items l.code (ahead (reverse l.kept.items) (exit_of l.liveness l.fn.id.0 l.code));
+  marks : AreMarked l.marks.items l.code
+      (ahead (reverse l.kept.items) (exit_of l.liveness l.fn.id.0 l.code));
 }
 
 abbrev pub decreases-loop-left : goal.decreases-loop-left

@@ -3,4 +3,5 @@ use Rattle.pra_base.specs.Valid.{instruction_count}
 use Rattle.vc_tidy.proofs.dead.total.Given as goal
 
 abbrev pub invariant-loop-block : goal.invariant-loop-block
-invariant-loop-block l = l.total + instruction_count (drop l.block-index l.blocks) ≡ instruction_count l.blocks
+invariant-loop-block l = l.total + instruction_count (drop l.block-index l.blocks) ≡
+    instruction_count l.blocks

@@ -8,7 +8,12 @@ pub loop-role-init : goal.loop-role-init
 loop-role-init c = record { count = refl; marks = λ v. rw (named_none v) refl }
 
 pub index_mut-requires : goal.index_mut-requires
-index_mut-requires c = omega (arith, c.requires (get_or c.args.roles.now c.loop-role.role-index no_role).var.0 (named_at c.args.roles.now c.loop-role.role-index no_role c.loop-role-test.true), c.loop-role.invariant.count)
+index_mut-requires c = omega (
+  arith,
+  c.requires (get_or c.args.roles.now c.loop-role.role-index no_role).var.0
+      (named_at c.args.roles.now c.loop-role.role-index no_role c.loop-role-test.true),
+  c.loop-role.invariant.count,
+)
 
 pub loop-role-preserved : goal.loop-role-preserved
 loop-role-preserved c =
@@ -16,6 +21,14 @@ loop-role-preserved c =
     record {
       count = length-set c.loop-role.marks.items i c.args.mark ∙ c.loop-role.invariant.count;
       marks = λ v.
-          marked_set c.loop-role.marks.items i v c.args.mark (omega (arith, c.requires i (named_at c.args.roles.now c.loop-role.role-index no_role c.loop-role-test.true), c.loop-role.invariant.count))
-          ∙ rw (named_more c.args.roles.now c.loop-role.role-index no_role c.loop-role-test.true v) (mark_more _ _ c.args.mark c.args.mark _ _ (c.loop-role.invariant.marks v) (λ e. refl));
+          marked_set c.loop-role.marks.items i v c.args.mark
+          (omega (
+            arith,
+            c.requires i
+                (named_at c.args.roles.now c.loop-role.role-index no_role c.loop-role-test.true),
+            c.loop-role.invariant.count,
+          ))
+          ∙ rw (named_more c.args.roles.now c.loop-role.role-index no_role c.loop-role-test.true v)
+          (mark_more _ _ c.args.mark c.args.mark _ _ (c.loop-role.invariant.marks v)
+          (λ e. refl));
     }

@@ -9,7 +9,12 @@ pub loop-role-init : goal.loop-role-init
 loop-role-init c = record { count = refl; marks = λ v. rw (named_none v) refl }
 
 pub index_mut-requires : goal.index_mut-requires
-index_mut-requires c = omega (arith, c.requires (get_or c.args.roles.now c.loop-role.role-index no_role).var.0 (named_at c.args.roles.now c.loop-role.role-index no_role c.loop-role-test.true), c.loop-role.invariant.count)
+index_mut-requires c = omega (
+  arith,
+  c.requires (get_or c.args.roles.now c.loop-role.role-index no_role).var.0
+      (named_at c.args.roles.now c.loop-role.role-index no_role c.loop-role-test.true),
+  c.loop-role.invariant.count,
+)
 
 pub loop-role-preserved : goal.loop-role-preserved
 loop-role-preserved c =
@@ -17,7 +22,16 @@ loop-role-preserved c =
     record {
       count = length-set c.loop-role.marks.items i c.at.result ∙ c.loop-role.invariant.count;
       marks = λ v.
-          marked_set c.loop-role.marks.items i v c.at.result (omega (arith, c.requires i (named_at c.args.roles.now c.loop-role.role-index no_role c.loop-role-test.true), c.loop-role.invariant.count))
+          marked_set c.loop-role.marks.items i v c.at.result
+          (omega (
+            arith,
+            c.requires i
+                (named_at c.args.roles.now c.loop-role.role-index no_role c.loop-role-test.true),
+            c.loop-role.invariant.count,
+          ))
           ∙ rw (named_more c.args.roles.now c.loop-role.role-index no_role c.loop-role-test.true v)
-          (mark_more _ _ c.at.result (live_at c.args.liveness.now v c.args.block.0 c.args.layer) _ _ (c.loop-role.invariant.marks v) (λ e. c.at.ensures ∙ same_at (λ u. live_at c.args.liveness.now u c.args.block.0 c.args.layer) i v e));
+          (mark_more _ _ c.at.result (live_at c.args.liveness.now v c.args.block.0 c.args.layer) _ _
+          (c.loop-role.invariant.marks v)
+          (λ e. c.at.ensures ∙ same_at
+          (λ u. live_at c.args.liveness.now u c.args.block.0 c.args.layer) i v e));
     }

@@ -8,5 +8,6 @@ abbrev pub invariant-loop-role : goal.invariant-loop-role
 invariant-loop-role l = record {
   count : length l.lists.items ≡ length l.initial.lists.items;
   kept : Keep l.initial.lists.items l.lists.items;
-  noted : (v : ℕ) → named_in (take l.role-index l.roles) v ≡ true → Contains (places_of l.lists.items v) l.place;
+  noted : (v : ℕ) → named_in (take l.role-index l.roles) v ≡ true →
+      Contains (places_of l.lists.items v) l.place;
 }

@@ -15,6 +15,7 @@ invariant-loop l = record {
 abbrev pub invariant-loop-b : goal.invariant-loop-b
 invariant-loop-b l = record {
   count : length l.marks.items ≡ length l.code.vars;
-  marked : (b k v : ℕ) (i : VInstr) → b < l.b → instr_at l.code b k ≡ Some i → Names i v → is_marked l.marks.items v ≡ true;
+  marked : (b k v : ℕ) (i : VInstr) → b < l.b → instr_at l.code b k ≡ Some i → Names i v →
+      is_marked l.marks.items v ≡ true;
   named : (v : ℕ) → is_marked l.marks.items v ≡ true → IsNamed l.code v;
 }

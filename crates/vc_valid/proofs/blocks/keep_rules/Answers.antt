@@ -7,12 +7,15 @@ use Rattle.vc_valid.proofs.OneInstruction.{in_code}
 use Rattle.vc_valid.proofs.blocks.keep_rules.Goals as goal
 
 pub loop-block-preserved : goal.loop-block-preserved
-loop-block-preserved c = λ b k i below at. elim (cases_eq b c.loop-block.block) as (λ _. KeepsRules c.args.code.now b k i) [
-  | inl same ↦
-      subst (λ n. KeepsRules c.args.code.now n k i) (sym same)
-      (c.if-not-keep_rules_in.ensures.0 refl k i (subst (λ n. instr_at c.args.code.now n k ≡ Some i) same at))
-  | inr other ↦ c.loop-block.invariant b k i (omega (arith, below, other)) at
-]
+loop-block-preserved c =
+    λ b k i below at. elim (cases_eq b c.loop-block.block)
+    as (λ _. KeepsRules c.args.code.now b k i) [
+      | inl same ↦
+          subst (λ n. KeepsRules c.args.code.now n k i) (sym same)
+          (c.if-not-keep_rules_in.ensures.0 refl k i
+          (subst (λ n. instr_at c.args.code.now n k ≡ Some i) same at))
+      | inr other ↦ c.loop-block.invariant b k i (omega (arith, below, other)) at
+    ]
 
 pub returns : goal.returns
 returns c = granted (λ b k i at.

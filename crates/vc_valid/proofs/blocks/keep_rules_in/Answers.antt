@@ -14,26 +14,34 @@ returns-then-not-keeps_rules c =
     let code = c.args.code.now in
     let b = c.args.block in
     let k = c.loop-index.index in
-    let same = c.as_slice-instrs.ensures ∙ ap (λ (x : Block). x.code) (get_or_read code.blocks b c.index.result.now c.requires.block c.index.ensures no_block) in
+    let same = c.as_slice-instrs.ensures ∙ ap (λ (x : Block). x.code)
+    (get_or_read code.blocks b c.index.result.now c.requires.block c.index.ensures no_block) in
     let long = ap length same in
     refused_by c.if-not-keeps_rules.ensures (λ each.
     subst (λ (xs : List VInstr). KeepsRules code b k (get_or xs k no_instr)) (sym same)
-    (each k (get_or (code_of code b) k no_instr) (slice_get-get_or (code_of code b) k no_instr (omega (arith, c.loop-index-test.true, long)))))
+    (each k (get_or (code_of code b) k no_instr)
+    (slice_get-get_or (code_of code b) k no_instr
+    (omega (arith, c.loop-index-test.true, long)))))
 
 pub loop-index-preserved : goal.loop-index-preserved
 loop-index-preserved c =
     let code = c.args.code.now in
     let b = c.args.block in
     let k = c.loop-index.index in
-    let same = c.as_slice-instrs.ensures ∙ ap (λ (x : Block). x.code) (get_or_read code.blocks b c.index.result.now c.requires.block c.index.ensures no_block) in
+    let same = c.as_slice-instrs.ensures ∙ ap (λ (x : Block). x.code)
+    (get_or_read code.blocks b c.index.result.now c.requires.block c.index.ensures no_block) in
     let long = ap length same in
-    one_more_read (KeepsRules code b) (code_of code b) k no_instr c.loop-index.invariant (omega (arith, c.loop-index-test.true, long))
-    (subst (λ (xs : List VInstr). KeepsRules code b k (get_or xs k no_instr)) same (c.if-not-keeps_rules.ensures.0 refl))
+    one_more_read (KeepsRules code b) (code_of code b) k no_instr c.loop-index.invariant
+    (omega (arith, c.loop-index-test.true, long))
+    (subst (λ (xs : List VInstr). KeepsRules code b k (get_or xs k no_instr)) same
+    (c.if-not-keeps_rules.ensures.0 refl))
 
 pub returns : goal.returns
 returns c =
     let code = c.args.code.now in
     let b = c.args.block in
-    let same = c.as_slice-instrs.ensures ∙ ap (λ (x : Block). x.code) (get_or_read code.blocks b c.index.result.now c.requires.block c.index.ensures no_block) in
+    let same = c.as_slice-instrs.ensures ∙ ap (λ (x : Block). x.code)
+    (get_or_read code.blocks b c.index.result.now c.requires.block c.index.ensures no_block) in
     let long = ap length same in
-    granted (of_each (KeepsRules code b) (code_of code b) c.loop-index.index c.loop-index.invariant (omega (arith, c.loop-index-test.false, long)))
+    granted (of_each (KeepsRules code b) (code_of code b) c.loop-index.index c.loop-index.invariant
+    (omega (arith, c.loop-index-test.false, long)))

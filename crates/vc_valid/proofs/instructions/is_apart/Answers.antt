@@ -10,7 +10,8 @@ pub returns : goal.returns
 returns c =
     let i = c.args.instr.now in
     let named : (v : ℕ) → named_in c.as_slice.result.now v ≡ writes i v
-    = λ v. ap (λ (rs : List Role). named_in rs v) c.as_slice.ensures.value ∙ writes_named c.operands-row.result i c.operands-row.ensures v in (
+    = λ v. ap (λ (rs : List Role). named_in rs v) c.as_slice.ensures.value
+    ∙ writes_named c.operands-row.result i c.operands-row.ensures v in (
       λ yes v only. c.are_apart.ensures.0 yes v (named v ∙ only_is_written i v only) only,
       λ apart. c.are_apart.ensures.1 (λ v is. apart v),
     )

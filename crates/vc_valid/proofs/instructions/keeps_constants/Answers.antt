@@ -12,18 +12,26 @@ pub returns-then-not-avoid_constants : goal.returns-then-not-avoid_constants
 returns-then-not-avoid_constants c =
     let i = c.args.instr.now in
     let named : (v : ℕ) → named_in c.as_slice.result.now v ≡ writes i v
-    = λ v. ap (λ (rs : List Role). named_in rs v) c.as_slice.ensures.value ∙ writes_named c.operands-row.result i c.operands-row.ensures v in
-    refused_by c.if-not-avoid_constants.ensures (λ keeps v is constant. true_false (writes i v) (sym (named v) ∙ is) (keeps v constant).unwritten)
+    = λ v. ap (λ (rs : List Role). named_in rs v) c.as_slice.ensures.value
+    ∙ writes_named c.operands-row.result i c.operands-row.ensures v in
+    refused_by c.if-not-avoid_constants.ensures
+    (λ keeps v is constant. true_false (writes i v) (sym (named v) ∙ is)
+    (keeps v constant).unwritten)
 
 pub returns : goal.returns
 returns c =
     let i = c.args.instr.now in
     let vars = c.args.vars.now in
     let named : (v : ℕ) → named_in c.as_slice.result.now v ≡ writes i v
-    = λ v. ap (λ (rs : List Role). named_in rs v) c.as_slice.ensures.value ∙ writes_named c.operands-row.result i c.operands-row.ensures v in (
+    = λ v. ap (λ (rs : List Role). named_in rs v) c.as_slice.ensures.value
+    ∙ writes_named c.operands-row.result i c.operands-row.ensures v in (
       λ yes v constant. record {
-        unwritten = false_from (writes i v) (λ is. c.avoid_constants.ensures.0 c.if-not-avoid_constants.false v (named v ∙ is) constant);
-        uncopied = λ t s is same. c.copies_no_constant.ensures.0 yes t s is (subst (IsConstantOf vars) (sym same) constant);
+        unwritten = false_from (writes i v)
+            (λ is. c.avoid_constants.ensures.0 c.if-not-avoid_constants.false v (named v ∙ is)
+            constant);
+        uncopied = λ t s is same. c.copies_no_constant.ensures.0 yes t s is
+            (subst (IsConstantOf vars) (sym same) constant);
       },
-      λ keeps. c.copies_no_constant.ensures.1 (λ t s is constant. (keeps s.0 constant).uncopied t s is refl),
+      λ keeps. c.copies_no_constant.ensures.1
+          (λ t s is constant. (keeps s.0 constant).uncopied t s is refl),
     )

@@ -14,13 +14,16 @@ fill-requires c =
     let is = c.requires.2 in
     let code = sym c.deref_mut.ensures.value in
     record {
-      within = subst (λ l. Within 0 (length l) c.deref.result.now) code (subst (Within 0 (length c.args.self.code.items)) (sym c.deref.ensures.value) is.within);
+      within = subst (λ l. Within 0 (length l) c.deref.result.now) code
+          (subst (Within 0 (length c.args.self.code.items)) (sym c.deref.ensures.value) is.within);
       short = subst (λ l. length l ≤ max_code_bytes) code is.short;
     }
 
 -- of equal lists the same is filled
-same_filled : (code code' : List ℕ) (calls calls' : List CallSite) (entries entries' : List ℕ) → code ≡ code' → calls ≡ calls' → entries ≡ entries' →
-    filled (entry_in entries (length code)) 0 calls code ≡ filled (entry_in entries' (length code')) 0 calls' code'
+same_filled : (code code' : List ℕ) (calls calls' : List CallSite) (entries entries' : List ℕ) →
+    code ≡ code' → calls ≡ calls' → entries ≡ entries' →
+    filled (entry_in entries (length code)) 0 calls code ≡ filled (entry_in entries' (length code'))
+    0 calls' code'
 same_filled code code' calls calls' entries entries' e f g =
     ap (λ l. filled (entry_in entries (length l)) 0 calls l) e
     ∙ ap (λ l. filled (entry_in entries (length code')) 0 l code') f
@@ -29,18 +32,26 @@ same_filled code code' calls calls' entries entries' e f g =
 pub returns-clause-valid : goal.returns-clause-valid
 returns-clause-valid c =
     let self = c.args.self in
-    let filled_in = c.fill.ensures ∙ same_filled _ self.code.items _ self.calls.items _ self.entries.items c.deref_mut.ensures.value c.deref.ensures.value c.deref-2.ensures.value in
-    let code : c.from_vec.result ≡ c.fill.new.code = c.from_vec.ensures ∙ take_at c.fill.new.code _ self.code.len (c.fill.auto.code ∙ c.deref_mut.ensures.len) in
-    finished_is_image c.requires.0 c.requires.1 self c.requires.2 c.fill.new.code filled_in _ code refl
+    let filled_in = c.fill.ensures ∙ same_filled _ self.code.items _ self.calls.items _
+    self.entries.items c.deref_mut.ensures.value c.deref.ensures.value c.deref-2.ensures.value
+    in
+    let code : c.from_vec.result ≡ c.fill.new.code = c.from_vec.ensures
+    ∙ take_at c.fill.new.code _ self.code.len (c.fill.auto.code ∙ c.deref_mut.ensures.len) in
+    finished_is_image c.requires.0 c.requires.1 self c.requires.2 c.fill.new.code filled_in _ code
+    refl
 
 pub returns-clause-image : goal.returns-clause-image
 returns-clause-image c = λ procs words is.
     let self = c.args.self in
-    let filled_in = c.fill.ensures ∙ same_filled _ self.code.items _ self.calls.items _ self.entries.items c.deref_mut.ensures.value c.deref.ensures.value c.deref-2.ensures.value in
-    let code : c.from_vec.result ≡ c.fill.new.code = c.from_vec.ensures ∙ take_at c.fill.new.code _ self.code.len (c.fill.auto.code ∙ c.deref_mut.ensures.len) in
+    let filled_in = c.fill.ensures ∙ same_filled _ self.code.items _ self.calls.items _
+    self.entries.items c.deref_mut.ensures.value c.deref.ensures.value c.deref-2.ensures.value
+    in
+    let code : c.from_vec.result ≡ c.fill.new.code = c.from_vec.ensures
+    ∙ take_at c.fill.new.code _ self.code.len (c.fill.auto.code ∙ c.deref_mut.ensures.len) in
     record {
       valid = finished_is_image procs words self is c.fill.new.code filled_in _ code refl;
-      listing = subst (λ l. IsListing l (code_of procs)) (sym code) (finished procs words self is c.fill.new.code filled_in);
+      listing = subst (λ l. IsListing l (code_of procs)) (sym code)
+          (finished procs words self is c.fill.new.code filled_in);
       words_are = is.words_are;
       offsets = is.offsets;
     }

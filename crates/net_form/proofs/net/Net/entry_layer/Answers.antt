@@ -8,7 +8,8 @@ use Rattle.net_form.proofs.net.Net.entry_layer.Goals as goal
 pub index-requires-2 : goal.index-requires-2
 index-requires-2 c =
     let net = c.args.self.now in
-    let t = get_or_read net.strands c.args.strand c.index.result.now c.requires.strand c.index.ensures no_strand in
+    let t = get_or_read net.strands c.args.strand c.index.result.now c.requires.strand
+    c.index.ensures no_strand in
     let b = ap (λ (u : Strand). u.block.0) t in
     let within = (c.requires.net.strands c.args.strand no_strand c.requires.strand).block in
     let long = layers_long net c.requires.net in
@@ -17,11 +18,13 @@ index-requires-2 c =
 pub returns-clause-value : goal.returns-clause-value
 returns-clause-value c =
     let net = c.args.self.now in
-    let t = get_or_read net.strands c.args.strand c.index.result.now c.requires.strand c.index.ensures no_strand in
+    let t = get_or_read net.strands c.args.strand c.index.result.now c.requires.strand
+    c.index.ensures no_strand in
     let b = ap (λ (u : Strand). u.block.0) t in
     let within = (c.requires.net.strands c.args.strand no_strand c.requires.strand).block in
     let long = layers_long net c.requires.net in
-    get_or_read net.index.layers c.index.result.now.block.0 c.index-2.result.now (omega (arith, b, within, long)) c.index-2.ensures 0
+    get_or_read net.index.layers c.index.result.now.block.0 c.index-2.result.now
+    (omega (arith, b, within, long)) c.index-2.ensures 0
     ∙ ap (λ (n : ℕ). get_or net.index.layers n 0) b
     ∙ layers_at net c.requires.net (get_or net.strands c.args.strand no_strand).block.0 within
 

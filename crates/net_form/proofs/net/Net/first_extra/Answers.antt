@@ -10,5 +10,6 @@ pub returns : goal.returns
 returns c =
     let net = c.args.self.now in
     let long = extras_long net c.requires.net in
-    get_or_read net.index.extras c.args.strand c.index.result.now (omega (arith, long)) c.index.ensures 0
+    get_or_read net.index.extras c.args.strand c.index.result.now (omega (arith, long))
+    c.index.ensures 0
     ∙ extras_begin net c.requires.net c.requires.extras c.args.strand c.requires.strand

@@ -5,4 +5,5 @@ use Rattle.net_form.proofs.net.Net.next_extra.Given as goal
 
 abbrev pub invariant-loop-next : goal.invariant-loop-next
 invariant-loop-next l =
-    (k : ℕ) (d : Extra) → k < l.next → is_earlier l.strand (l.layer + 1) (get_or l.self.extras k d) ≡ true
+    (k : ℕ) (d : Extra) → k < l.next → is_earlier l.strand (l.layer + 1)
+    (get_or l.self.extras k d) ≡ true

@@ -5,4 +5,5 @@ use Rattle.ob_check.proofs.scope.Scope.set.Goals as goal
 pub returns : goal.returns
 returns c =
     rw (← c.self.view_is)
-    (ap shown_as c.in_ok-insert.ensures.entries ∙ sym (with_name_entry c.args.name c.args.meaning c.self.inside.names.entries))
+    (ap shown_as c.in_ok-insert.ensures.entries
+    ∙ sym (with_name_entry c.args.name c.args.meaning c.self.inside.names.entries))

@@ -23,15 +23,18 @@ loop-root-preserved c =
           rw (w.params-is, w.locals-is) (
             so.0,
             so.1,
-            one_other Param left rest roots (Module w.in-Module.field-0) params here (λ k. refl) so.2,
-            one_other Local left rest roots (Module w.in-Module.field-0) locals here (λ k. refl) so.3,
+            one_other Param left rest roots (Module w.in-Module.field-0) params here
+                (λ k. refl) so.2,
+            one_other Local left rest roots (Module w.in-Module.field-0) locals here
+                (λ k. refl) so.3,
           )
       | in-Param w ↦
           let here = next (Param w.in-Param.number) w.in-Param.is in
           rw (w.params-is, w.locals-is) (
             w.mark.ensures.len ∙ so.0,
             so.1,
-            one_more Param left rest roots (Param w.in-Param.number) params w.mark.new.marks.items here w.mark.ensures.len w.mark.ensures.marked so.2,
+            one_more Param left rest roots (Param w.in-Param.number) params w.mark.new.marks.items
+                here w.mark.ensures.len w.mark.ensures.marked so.2,
             one_other Local left rest roots (Param w.in-Param.number) locals here (λ k. refl) so.3,
           )
       | in-Local w ↦
@@ -41,6 +44,7 @@ loop-root-preserved c =
             so.0,
             marked.ensures.len ∙ so.1,
             one_other Param left rest roots (Local w.in-Local.number) params here (λ k. refl) so.2,
-            one_more Local left rest roots (Local w.in-Local.number) locals marked.new.marks.items here marked.ensures.len marked.ensures.marked so.3,
+            one_more Local left rest roots (Local w.in-Local.number) locals marked.new.marks.items
+                here marked.ensures.len marked.ensures.marked so.3,
           )
     ]

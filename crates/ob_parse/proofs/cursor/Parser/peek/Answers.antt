@@ -6,4 +6,5 @@ use Rattle.ob_parse.proofs.cursor.Parser.peek.Goals as goal
 
 pub returns : goal.returns
 unfolding left
-returns c = let e = first_is c.args.self.now.tokens.now c.args.self.now.at in grind (arith, common_steps)
+returns c = let e = first_is c.args.self.now.tokens.now c.args.self.now.at in
+    grind (arith, common_steps)

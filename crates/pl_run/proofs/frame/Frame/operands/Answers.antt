@@ -12,6 +12,8 @@ returns c = λ a.
     let call = with_frame a c.args.self.now in
     let places = map number c.args.places.now in
     c.read_all.ensures a
-    ∙ ap (λ hs. hs ++ operands p call (map role_var c.as_slice.result.now) places) c.new-held.ensures
+    ∙ ap (λ hs. hs ++ operands p call (map role_var c.as_slice.result.now) places)
+    c.new-held.ensures
     ∙ ap (λ rs. operands p call (map role_var rs) places) c.as_slice.ensures.value
-    ∙ ap (λ vs. operands p call vs places) (reads_are c.operands-row.result c.args.i.now c.operands-row.ensures)
+    ∙ ap (λ vs. operands p call vs places)
+    (reads_are c.operands-row.result c.args.i.now c.operands-row.ensures)

@@ -9,5 +9,7 @@ pub returns-in-Some-get : goal.returns-in-Some-get
 returns-in-Some-get c =
     let procs = c.args.code.now.procs.now in
     let s = state_of procs c.args.self.now in
-    begins_there (λ t. Leaves procs c.call_there.result c.call_there.new.self t) s (λ callee. entered (shape procs) s callee (s.top ∷ s.below))
-    procs c.args.proc.0 s.pushed c.in-Some.callee.now _ c.in-Some.ensures c.in-Some-get.ensures.value c.call_there.ensures
+    begins_there (λ t. Leaves procs c.call_there.result c.call_there.new.self t) s
+    (λ callee. entered (shape procs) s callee (s.top ∷ s.below))
+    procs c.args.proc.0 s.pushed c.in-Some.callee.now _ c.in-Some.ensures
+    c.in-Some-get.ensures.value c.call_there.ensures

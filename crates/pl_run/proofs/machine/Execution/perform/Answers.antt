@@ -14,20 +14,35 @@ returns-in-None c =
     let procs = c.args.code.now.procs.now in
     let m = c.args.self.now in
     let s = state_of procs m in
-    let held : List Held = operands c.args.p.now (call_of procs m.top) (read_by c.args.i.now) (map number c.args.places.now.items) in
+    let held : List Held = operands c.args.p.now (call_of procs m.top) (read_by c.args.i.now)
+    (map number c.args.places.now.items) in
     let stuck : None ≡ operate (here (shape procs) s) c.args.i.now held =
     c.in-None.ensures ∙ ap (λ h. operate h c.args.i.now c.as_slice.result.now) c.in_ok-here.ensures
-    ∙ ap (λ ws. operate (here (shape procs) s) c.args.i.now ws) (c.as_slice.ensures.value ∙ c.operands-held.ensures (standing procs m.top) ∙ ap (λ ps. operands c.args.p.now (call_of procs m.top) (read_by c.args.i.now) (map number ps)) c.as_slice-places.ensures.value) in
-    subst (λ o. told m Stuck ≡ view (apply (placed_machine procs) (λ xs. passed procs m.top c.args.p.now c.args.i.now c.args.places.now.items xs) o s)) stuck refl
+    ∙ ap (λ ws. operate (here (shape procs) s) c.args.i.now ws)
+    (c.as_slice.ensures.value ∙ c.operands-held.ensures (standing procs m.top)
+    ∙ ap (λ ps. operands c.args.p.now (call_of procs m.top) (read_by c.args.i.now)
+    (map number ps)) c.as_slice-places.ensures.value) in
+    subst (λ o. told m Stuck ≡
+    view (apply (placed_machine procs)
+    (λ xs. passed procs m.top c.args.p.now c.args.i.now c.args.places.now.items xs) o s)) stuck
+    refl
 
 pub returns-in-Some : goal.returns-in-Some
 returns-in-Some c =
     let procs = c.args.code.now.procs.now in
     let m = c.args.self.now in
     let s = state_of procs m in
-    let held : List Held = operands c.args.p.now (call_of procs m.top) (read_by c.args.i.now) (map number c.args.places.now.items) in
+    let held : List Held = operands c.args.p.now (call_of procs m.top) (read_by c.args.i.now)
+    (map number c.args.places.now.items) in
     let action : Some c.in-Some.action ≡ operate (here (shape procs) s) c.args.i.now held =
     c.in-Some.ensures ∙ ap (λ h. operate h c.args.i.now c.as_slice.result.now) c.in_ok-here.ensures
-    ∙ ap (λ ws. operate (here (shape procs) s) c.args.i.now ws) (c.as_slice.ensures.value ∙ c.operands-held.ensures (standing procs m.top) ∙ ap (λ ps. operands c.args.p.now (call_of procs m.top) (read_by c.args.i.now) (map number ps)) c.as_slice-places.ensures.value) in
-    subst (λ o. Leaves procs c.apply.result c.apply.new.self (apply (placed_machine procs) (λ xs. passed procs m.top c.args.p.now c.args.i.now c.args.places.now.items xs) o s)) action
-    (subst (λ ps. Leaves procs c.apply.result c.apply.new.self (apply (placed_machine procs) (λ xs. passed procs m.top c.args.p.now c.args.i.now ps xs) (Some c.in-Some.action) s)) c.as_slice-places.ensures.value c.apply.ensures)
+    ∙ ap (λ ws. operate (here (shape procs) s) c.args.i.now ws)
+    (c.as_slice.ensures.value ∙ c.operands-held.ensures (standing procs m.top)
+    ∙ ap (λ ps. operands c.args.p.now (call_of procs m.top) (read_by c.args.i.now)
+    (map number ps)) c.as_slice-places.ensures.value) in
+    subst (λ o. Leaves procs c.apply.result c.apply.new.self
+    (apply (placed_machine procs)
+    (λ xs. passed procs m.top c.args.p.now c.args.i.now c.args.places.now.items xs) o s)) action
+    (subst (λ ps. Leaves procs c.apply.result c.apply.new.self
+    (apply (placed_machine procs) (λ xs. passed procs m.top c.args.p.now c.args.i.now ps xs)
+    (Some c.in-Some.action) s)) c.as_slice-places.ensures.value c.apply.ensures)

@@ -10,7 +10,8 @@ returns-in_ok-has-in-Aggregates c =
     rw c.in-Aggregates.is (
     c.aggregate.ensures
     ∙ ap (λ ws. word_at ws c.args.offset)
-    (aggregate_words procs (shape procs) c.args.self.now c.in-Aggregates.calls c.in-Aggregates.sum c.in_ok-has-in-Aggregates.has c.in_ok-has-in-Aggregates.ensures))
+    (aggregate_words procs (shape procs) c.args.self.now c.in-Aggregates.calls c.in-Aggregates.sum
+    c.in_ok-has-in-Aggregates.has c.in_ok-has-in-Aggregates.ensures))
 
 pub returns-in_ok-has-in-Cell : goal.returns-in_ok-has-in-Cell
 returns-in_ok-has-in-Cell c =
@@ -18,4 +19,5 @@ returns-in_ok-has-in-Cell c =
     rw c.in-Cell.is (
     c.argument.ensures
     ∙ ap (λ ws. word_at ws c.args.offset)
-    (cell_words procs (shape procs) c.args.self.now c.in-Cell.calls c.in-Cell.below c.in-Cell.argument c.in_ok-has-in-Cell.has c.in_ok-has-in-Cell.ensures))
+    (cell_words procs (shape procs) c.args.self.now c.in-Cell.calls c.in-Cell.below
+    c.in-Cell.argument c.in_ok-has-in-Cell.has c.in_ok-has-in-Cell.ensures))

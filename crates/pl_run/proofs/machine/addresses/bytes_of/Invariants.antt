@@ -5,4 +5,5 @@ use Rattle.pl_run.specs.Stands.{calls_of}
 use Rattle.pl_run.proofs.machine.addresses.bytes_of.Given as goal
 
 abbrev pub invariant-loop-call : goal.invariant-loop-call
-invariant-loop-call l = l.bytes ≡ depth (shape l.code.procs.now) (calls_of l.code.procs.now (take l.call-index l.calls))
+invariant-loop-call l = l.bytes ≡ depth (shape l.code.procs.now)
+    (calls_of l.code.procs.now (take l.call-index l.calls))

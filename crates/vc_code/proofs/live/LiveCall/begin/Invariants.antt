@@ -4,4 +4,5 @@ use Rattle.vc_code.proofs.live.LiveCall.begin.Given as goal
 
 -- the variables before this one have what they begin with
 abbrev pub invariant-loop-kind : goal.invariant-loop-kind
-invariant-loop-kind l = l.held.items ≡ map (argument l.arguments.items) (take l.kind-index l.kind-items)
+invariant-loop-kind l = l.held.items ≡ map (argument l.arguments.items)
+    (take l.kind-index l.kind-items)

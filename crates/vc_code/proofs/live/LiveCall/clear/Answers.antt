@@ -10,5 +10,7 @@ pub returns : goal.returns
 returns c =
     let zero : Held = Some (Num 0) in
     let old = c.args.self.now in
-    let words = c.fill.ensures.items (λ y same. search rules) ∙ ap (λ n. replicate n zero) old.aggregates.ok.0 ∙ replicate-map zero old.aggregates.items in
+    let words = c.fill.ensures.items (λ y same. search rules)
+    ∙ ap (λ n. replicate n zero) old.aggregates.ok.0
+    ∙ replicate-map zero old.aggregates.items in
     ap (λ ws. with_aggregates (call_of old) ws) words

@@ -4,4 +4,5 @@ use Rattle.vc_code.specs.Machine.{is_param}
 use Rattle.vc_code.proofs.machine.objects.is_named.Goals as goal
 
 pub returns : goal.returns
-returns c = ap (nat_lt 0) c.params_of.ensures ∙ any-count (is_param c.args.argument) c.args.code.now.vars
+returns c = ap (nat_lt 0) c.params_of.ensures ∙ any-count (is_param c.args.argument)
+    c.args.code.now.vars

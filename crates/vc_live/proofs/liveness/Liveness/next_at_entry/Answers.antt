@@ -11,8 +11,11 @@ loop-v-init c = record {
 }
 
 pub returns-then-at-clause-least : goal.returns-then-at-clause-least
-returns-then-at-clause-least c =
-    ((c.loop-v.invariant.above, c.loop-v-test.true), λ u from below less. c.loop-v.invariant.none u from less)
+returns-then-at-clause-least c = (
+  (c.loop-v.invariant.above, c.loop-v-test.true),
+  λ u from below less. c.loop-v.invariant.none u
+      from less,
+)
 
 pub loop-v-smaller : goal.loop-v-smaller
 loop-v-smaller c = omega (arith, c.loop-v-test.true, c.skip_at_entry-v.ensures.from)
@@ -26,10 +29,14 @@ loop-v-preserved c =
       none = λ u le lt. elim (cases_order u c.loop-v.v) as (λ _. live_at l u b 0 ≡ false) [
         | inl same ↦ rw same (sym c.at.ensures ∙ c.if-at.false)
         | inr (inl below) ↦ c.loop-v.invariant.none u le below
-        | inr (inr above) ↦ absent_at_entry l u b (c.skip_at_entry-v.ensures.none u (omega (arith, above)) lt)
+        | inr (inr above) ↦ absent_at_entry l u b
+            (c.skip_at_entry-v.ensures.none u (omega (arith, above)) lt)
       ];
     }
 
 pub returns-clause-least : goal.returns-clause-least
-returns-clause-least c =
-    (tt, λ v from below none. c.loop-v.invariant.none v from (omega (arith, below, c.loop-v-test.false)))
+returns-clause-least c = (
+  tt,
+  λ v from below none. c.loop-v.invariant.none v from
+      (omega (arith, below, c.loop-v-test.false)),
+)

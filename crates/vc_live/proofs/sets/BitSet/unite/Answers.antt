@@ -3,5 +3,8 @@ use Rattle.vc_live.proofs.SetLemmas.{united_all}
 use Rattle.vc_live.proofs.sets.BitSet.unite.Goals as goal
 
 pub returns-clause-members : goal.returns-clause-members
-returns-clause-members c = rw (← c.self.view_is, ← c.other.view_is) (united_all c.self.inside.words.items c.other.inside.words.items c.loop-i.self-inside.words.items
-    (rw (← c.self.view_is, ← c.other.view_is) at c.requires) c.loop-i.invariant.words (λ k below. c.loop-i.invariant.done k (omega arith)))
+returns-clause-members c = rw (← c.self.view_is, ← c.other.view_is)
+    (united_all c.self.inside.words.items c.other.inside.words.items
+    c.loop-i.self-inside.words.items
+    (rw (← c.self.view_is, ← c.other.view_is) at c.requires) c.loop-i.invariant.words
+    (λ k below. c.loop-i.invariant.done k (omega arith)))
