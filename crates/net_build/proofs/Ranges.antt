@@ -1,7 +1,7 @@
 -- Runs and ranges, one more.
 use Rattle.std.proofs.Common.{ℕ, zero, suc, ◌≡◌, ◌+◌, ◌-◌, ◌<◌, ◌≤◌, Bool, true, false, cond, List}
 use Rattle.std.proofs.Common.{[], ◌∷◌, ◌++◌, map, length, get_or, take, drop, refl, sym, ap, ◌∙◌}
-use Rattle.std.proofs.Common.{arith, add-one, append-nil, Some, None, Option, option_to_list}
+use Rattle.std.proofs.Common.{arith, append-nil, Some, None, Option, option_to_list}
 use Rattle.std.proofs.Common.{append_assoc}
 use Rattle.std.specs.Prelude.{count_by}
 use Rattle.std.specs.List.{range_with_len, flat_map, filter_map, prefix_len, cons_option}
@@ -11,6 +11,7 @@ use Rattle.std.proofs.lemmas.Grind.{flat_map-append}
 use Rattle.std.proofs.lemmas.List.Elements.{filter_map-append}
 use Rattle.std.proofs.lemmas.List.FromFn.{length-map-range_with_len, length-range_with_len}
 use Rattle.std.proofs.lemmas.List.Sums.{prefix_len-le-length, sum_by_push, count_by-le-length}
+use Rattle.pra_list.proofs.Growing.{last_range, range_next}
 
 -- ---- the run from l on of what passes, below n, each mapped
 module _ (p : ℕ → Bool) (m : ℕ → ℕ) (n : ℕ) where
@@ -64,22 +65,11 @@ module _ (p : ℕ → Bool) (m : ℕ → ℕ) (n : ℕ) where
 
 -- ---- comprehensions over the numbers below n, one more
 
-range_more : (a n : ℕ) → range_with_len a (n + 1) ≡ range_with_len a n ++ (a + n) ∷ []
-range_more a zero = ap (λ k. k ∷ []) (let e : a ≡ a + 0 = omega arith in e)
-range_more a (suc n) =
-    let more = rw (add-one n) at (range_more (a + 1) n) in
-    let e : a + 1 + n ≡ a + suc n = omega arith in
-    rw (add-one (suc n)) (ap (λ l. a ∷ l) (more ∙ ap (λ k. range_with_len (a + 1) n ++ k ∷ []) e))
-
-pub range_next : (n : ℕ) → range_with_len 0 (n + 1) ≡ range_with_len 0 n ++ n ∷ []
-range_next n = range_more 0 n ∙ ap (λ k. range_with_len 0 n ++ k ∷ [])
-    (let e : 0 + n ≡ n = omega arith in e)
-
 pub map_more : {A : Type 0} (f : ℕ → A) → (n : ℕ) → map f (range_with_len 0 (n + 1)) ≡
     map f (range_with_len 0 n) ++ f n ∷ []
 map_more f n =
     let e : 0 + n ≡ n = omega arith in
-    ap (map f) (range_more 0 n) ∙ map-append f (range_with_len 0 n) ((0 + n) ∷ [])
+    ap (map f) (last_range 0 n) ∙ map-append f (range_with_len 0 n) ((0 + n) ∷ [])
     ∙ ap (λ k. map f (range_with_len 0 n) ++ f k ∷ []) e
 
 -- how many numbers below n pass
@@ -98,7 +88,7 @@ pub flat_map_more : {A : Type 0} (f : ℕ → List A) → (n : ℕ) →
     flat_map f (range_with_len 0 (n + 1)) ≡ flat_map f (range_with_len 0 n) ++ f n
 flat_map_more f n =
     let e : 0 + n ≡ n = omega arith in
-    ap (flat_map f) (range_more 0 n) ∙ flat_map-append f (range_with_len 0 n) ((0 + n) ∷ [])
+    ap (flat_map f) (last_range 0 n) ∙ flat_map-append f (range_with_len 0 n) ((0 + n) ∷ [])
     ∙ ap (λ l. flat_map f (range_with_len 0 n) ++ l) (append-nil (f (0 + n)) ∙ ap f e)
 
 pub filter_map_more : {A : Type 0} (f : ℕ → Option A) → (n : ℕ) →
@@ -106,7 +96,7 @@ pub filter_map_more : {A : Type 0} (f : ℕ → Option A) → (n : ℕ) →
     (f n)
 filter_map_more f n =
     let e : 0 + n ≡ n = omega arith in
-    ap (filter_map f) (range_more 0 n) ∙ filter_map-append f (range_with_len 0 n) ((0 + n) ∷ [])
+    ap (filter_map f) (last_range 0 n) ∙ filter_map-append f (range_with_len 0 n) ((0 + n) ∷ [])
     ∙ ap (λ l. filter_map f (range_with_len 0 n) ++ l)
     (ap (λ k. filter_map f (k ∷ [])) e ∙ one (f n))
   where

@@ -1,12 +1,13 @@
 -- Which variables come to memory, strand by strand, and which have a slot.
-use Rattle.std.proofs.Common.{◌≡◌, ℕ, zero, suc, ◌+◌, ◌<◌, inl, inr, Bool, true, false, ◌&&◌, ◌||◌}
+use Rattle.std.proofs.Common.{◌≡◌, ℕ, suc, ◌+◌, ◌<◌, inl, inr, Bool, true, false, ◌&&◌, ◌||◌}
 use Rattle.std.proofs.Common.{List, [], ◌∷◌, ◌++◌, length, get_or, drop, filter, Option, Some, None}
-use Rattle.std.proofs.Common.{refl, sym, ap, ap₂, ◌∙◌, arith}
+use Rattle.std.proofs.Common.{refl, sym, ap, ap₂, ◌∙◌}
 use Rattle.std.specs.Prelude.{nat_eq, slice_set}
 use Rattle.std.specs.List.{list_any, range_with_len}
 use Rattle.std.proofs.lemmas.Bool.{cases_eq, eq-eqb, ne_eqb}
 use Rattle.std.proofs.lemmas.List.{get_or-set_same, get_or-set_other}
 use Rattle.std.proofs.lemmas.List.Elements.{filter-append}
+use Rattle.pra_list.proofs.Growing.{range_next}
 use Rattle.pra_base.specs.declared.ids.Place.{Place}
 use Rattle.pra_base.specs.Places.{number, needs_slot}
 use Rattle.net_form.specs.declared.net.Net.{Net}
@@ -100,18 +101,8 @@ keep_mark false false comes none = refl
 
 -- ---- slots
 
-range_next : (a n : ℕ) → range_with_len a (suc n) ≡ range_with_len a n ++ (a + n) ∷ []
-range_next a zero = let e : a ≡ a + 0 = omega arith in ap (λ k. k ∷ []) e
-range_next a (suc n) =
-    let e : a + 1 + n ≡ a + suc n = omega arith in
-    ap (λ ks. a ∷ ks) (range_next (a + 1) n ∙ ap (λ k. range_with_len (a + 1) n ++ k ∷ []) e)
-
 -- one number more that passes, or not
 pub filter_next : (p : ℕ → Bool) (v : ℕ) → filter p (range_with_len 0 (v + 1)) ≡
     filter p (range_with_len 0 v) ++ only_if (p v) v
 filter_next p v =
-    let one : v + 1 ≡ suc v = omega arith in
-    let same : 0 + v ≡ v = omega arith in
-    ap (λ n. filter p (range_with_len 0 n)) one
-    ∙ ap (filter p) (range_next 0 v ∙ ap (λ k. range_with_len 0 v ++ k ∷ []) same)
-    ∙ filter-append p (range_with_len 0 v) (v ∷ [])
+    ap (filter p) (range_next v) ∙ filter-append p (range_with_len 0 v) (v ∷ [])

@@ -7,7 +7,7 @@ ghost use Rattle.net_form.specs.Flow.{flow, AreRoutes};
 ghost use Rattle.net_form.specs.Network.{IsNet};
 ghost use Rattle.pl_made.specs.Made.{IsMade, LaysMoves};
 ghost use Rattle.pl_moves.specs.Assignment.{can_move};
-ghost use Rattle.pl_place.specs.Behind.{Routed, IsBehind, frame_of};
+ghost use Rattle.pl_place.specs.Behind.{Routed, IsBehind, flow_frame};
 ghost use Rattle.pl_place.specs.Placed.{frame_size};
 ghost use Rattle.pl_place.specs.Valid.{IsPlaced};
 ghost use Rattle.pl_routed.specs.Routed.{routed};
@@ -87,7 +87,7 @@ pub fn place(alloc: Global, code: &VProc, net: &Net, routes: &Routes) -> Result<
     ensures behind { IfOk result (IsBehind (routed code.now net.now routes.now)) }
     ensures placed { IsValid code.now → IfOk result IsPlaced }
     ensures frame { IfOk result (λ p.
-        frame_size p ≡ frame_of (routed code.now net.now routes.now)) }
+        frame_size p ≡ flow_frame (routed code.now net.now routes.now)) }
 {
     Ok(LProc {
         id: code.id,

@@ -99,8 +99,8 @@ abbrev pub slots_of : Routed → List ℕ
 slots_of r = filter (has_slot r) (range_with_len 0 (length r.code.vars))
 
 -- The bytes of a frame: arguments, return address and four saved registers, aggregates, slots.
-abbrev pub frame_of : Routed → ℕ
-frame_of r = 4 * (r.code.args + 5 + r.code.aggregates + length (slots_of r))
+abbrev pub flow_frame : Routed → ℕ
+flow_frame r = 4 * (r.code.args + 5 + r.code.aggregates + length (slots_of r))
 
 -- ---- the code
 

@@ -11,7 +11,7 @@ ghost use Rattle.pl_moves.specs.Crossbar.{events, Counted};
 ghost use Rattle.pl_moves.specs.Lengths.{move_bytes};
 ghost use Rattle.pl_moves.specs.declared.transfer.Move.{Move};
 ghost use Rattle.pl_moves.specs.declared.transfer.Pair.{Pair};
-ghost use Rattle.pl_place.specs.Behind.{Routed, IsBehind, frame_of};
+ghost use Rattle.pl_place.specs.Behind.{Routed, IsBehind, flow_frame};
 ghost use Rattle.pl_place.specs.Machine.{lrun};
 ghost use Rattle.pl_place.specs.Placed.{frame_size};
 ghost use Rattle.pl_place.specs.Sample.{sample};
@@ -32,15 +32,15 @@ pub fn some_code_is_placed()
 
 /// The frame of placed code has the bytes that the code and the flow behind it say.
 pub fn frames_are_of_the_flow()
-    ensures { (r : Routed) (p : LProc) → IsBehind r p → frame_size p ≡ frame_of r }
+    ensures { (r : Routed) (p : LProc) → IsBehind r p → frame_size p ≡ flow_frame r }
 {}
 
 /// Two routes of one code, each behind the code that they place.
 pub fn some_code_is_behind()
     ensures in_register { IsBehind (routed in_register_routes) in_register }
     ensures in_memory { IsBehind (routed both_places_routes) in_memory }
-    ensures small { frame_of (routed in_register_routes) ≡ 20 }
-    ensures with_slot { frame_of (routed both_places_routes) ≡ 24 }
+    ensures small { flow_frame (routed in_register_routes) ≡ 20 }
+    ensures with_slot { flow_frame (routed both_places_routes) ≡ 24 }
 {}
 
 /// Moves that are counted by the events of pairs have at most so many bytes as these events weigh

@@ -14,7 +14,7 @@ use Rattle.ia_code.specs.declared.image.Image.{Image}
 use Rattle.net_form.specs.declared.net.Net.{Net}
 use Rattle.pl_made.specs.Made.{IsMade}
 use Rattle.pl_place.specs.declared.placed.LProc.{LProc}
-use Rattle.pl_place.specs.Behind.{Routed, frame_of}
+use Rattle.pl_place.specs.Behind.{Routed, flow_frame}
 use Rattle.pl_place.specs.Placed.{frame_size}
 use Rattle.pl_routed.specs.Routed.{routed}
 use Rattle.vc_proc.specs.Selected.{IsSelected}
@@ -65,7 +65,7 @@ pub compiled_so : (program : Checked) (wanted : Wanted) (p : ℕ) (net : Net)
     IsGranted wanted net compiled.out.routes compiled.out.prices compiled.out.lines →
     IsMade (routed compiled.out.code net compiled.out.routes) compiled.placed →
     compiled.out.name ≡ name_of program p → compiled.out.frame ≡ frame_size compiled.placed →
-    frame_size compiled.placed ≡ frame_of (routed compiled.out.code net compiled.out.routes) →
+    frame_size compiled.placed ≡ flow_frame (routed compiled.out.code net compiled.out.routes) →
     IsCompiledProc program wanted p compiled
 compiled_so program wanted p net compiled is routes granted made name frame of_flow = record {
   translation = record {
@@ -82,7 +82,7 @@ compiled_so program wanted p net compiled is routes granted made name frame of_f
   kept = record {
     name = name;
     frame = frame;
-    flow_frame = frame ∙ of_flow;
+    of_flow = frame ∙ of_flow;
     code = refl;
     routes =
         refl;
@@ -183,7 +183,7 @@ module _ (program : Checked) (wanted : Wanted) (selectable : IsSelectable progra
         allocated = kept.granted;
         carried = sym x.is ∙ ap (λ c. routed c x.from.net x.from.routes) (sym kept.code)
             ∙ ap (λ rs. routed out.code x.from.net rs) (sym kept.routes);
-        frame = kept.flow_frame ∙ ap frame_of x.is;
+        frame = kept.of_flow ∙ ap flow_frame x.is;
       }
 
   abbrev placed_codes : List LProc

@@ -16,7 +16,7 @@ use Rattle.net_form.specs.declared.prices.Prices.{Prices}
 use Rattle.net_form.specs.declared.routes.Routes.{Routes}
 use Rattle.pl_made.specs.Made.{IsMade}
 use Rattle.pl_place.specs.declared.placed.LProc.{LProc}
-use Rattle.pl_place.specs.Behind.{Routed, frame_of}
+use Rattle.pl_place.specs.Behind.{Routed, flow_frame}
 use Rattle.pl_routed.specs.Routed.{routed}
 use Rattle.pra_compile.specs.declared.output.Compiled.{Compiled}
 use Rattle.pra_follow.specs.Follows.{DoesAsMeant}
@@ -63,7 +63,7 @@ pub record IsProcOut (program : Checked) (wanted : Wanted) (p : ℕ) (proc : Che
   pub routes : AreAdmittedIn out.code net out.routes
   pub allocated : IsGranted wanted net out.routes out.prices out.lines
   pub carried : r ≡ routed out.code net out.routes
-  pub frame : out.frame ≡ frame_of r
+  pub frame : out.frame ≡ flow_frame r
 
 -- The image is valid, has the module's data, and does on each input of words what the module means
 -- with the frames that are kept. Of each procedure in order something is kept, allocated as was

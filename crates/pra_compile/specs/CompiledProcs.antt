@@ -5,7 +5,7 @@ use Rattle.ob_syntax.specs.declared.checked.Checked.{Checked}
 use Rattle.ob_syntax.specs.declared.checked.CheckedProc.{CheckedProc}
 use Rattle.ia_asm.specs.declared.assembly.Assembly.{Assembly}
 use Rattle.ia_asm.specs.Assembly.{IsAssembly}
-use Rattle.pl_place.specs.Behind.{frame_of}
+use Rattle.pl_place.specs.Behind.{flow_frame}
 use Rattle.pl_place.specs.Placed.{frame_size}
 use Rattle.pra_compile.specs.declared.compiling.CompiledProc.{CompiledProc}
 use Rattle.pra_compile.specs.Compiled.{Wanted, IsGranted, name_of}
@@ -32,7 +32,7 @@ pub record IsKept (program : Checked) (wanted : Wanted) (p : ℕ) (t : Translati
     : Type 0 where
   pub name : out.name ≡ name_of program p
   pub frame : out.frame ≡ frame_size t.placed
-  pub flow_frame : out.frame ≡ frame_of (behind t)
+  pub of_flow : out.frame ≡ flow_frame (behind t)
   pub code : out.code ≡ t.code
   pub routes : out.routes ≡ t.routes
   pub granted : IsGranted wanted t.net out.routes out.prices out.lines

@@ -13,6 +13,11 @@ last_range a (suc n) =
     rw g (ap (λ (xs : List ℕ). a ∷ xs)
     (last_range (a + 1) n ∙ ap (λ (k : ℕ). range_with_len (a + 1) n ++ k ∷ []) e))
 
+pub range_next : (n : ℕ) → range_with_len 0 (n + 1) ≡ range_with_len 0 n ++ n ∷ []
+range_next n =
+    let e : 0 + n ≡ n = omega arith in
+    last_range 0 n ∙ ap (λ (k : ℕ). range_with_len 0 n ++ k ∷ []) e
+
 pub enumerate_more : {X : Type 0} (a : ℕ) (xs : List X) (y : X)
     → enumerate_from a (xs ++ y ∷ []) ≡ enumerate_from a xs ++ (a + length xs, y) ∷ []
 enumerate_more a [] y = ap (λ n. (n, y) ∷ []) (let e : a ≡ a + 0 = omega arith in e)

@@ -11,7 +11,7 @@ use Rattle.std.proofs.lemmas.List.Sums.{length-filter, count_by-le-length}
 use Rattle.pra_list.proofs.Options.{some_same}
 use Rattle.ia_list.specs.Reading.{digits_at}
 use Rattle.ia_list.proofs.NumbersRead.{decimal_read}
-use Rattle.pl_place.specs.Behind.{Routed, has_slot, frame_of}
+use Rattle.pl_place.specs.Behind.{Routed, has_slot}
 use Rattle.ob_syntax.specs.declared.checked.Checked.{Checked}
 use Rattle.ob_syntax.specs.declared.checked.CheckedProc.{CheckedProc}
 use Rattle.pra_compile.specs.declared.output.Compiled.{Compiled}

@@ -11,11 +11,11 @@ use Rattle.std.proofs.lemmas.Bool.{cases_eq}
 use Rattle.std.proofs.lemmas.List.{length-set, length-map, get_or-set_same, get_or-set_other}
 use Rattle.std.proofs.lemmas.List.Edits.{swap_is}
 use Rattle.std.proofs.lemmas.List.Sums.{sum_by-cons}
-use Rattle.std.proofs.lemmas.List.FromFn.{map-range_with_len_more}
 use Rattle.std.proofs.lemmas.List.Sorted.{IsPermutation-refl, IsPermutation-trans}
 use Rattle.std.proofs.lemmas.List.Sorted.{sum_by-IsPermutation}
 use Rattle.std.proofs.lemmas.Option.{slice_get-get_or, slice_get-map, slice_get_within}
 use Rattle.std.proofs.lemmas.Option.{get_or_from_slice_get}
+use Rattle.pra_list.proofs.Growing.{last_range}
 use Rattle.pra_list.proofs.Options.{some_same}
 use Rattle.pra_list.proofs.Comprehensions.{sum_by-map}
 use Rattle.pra_base.specs.declared.code.Block.{Block}
@@ -184,18 +184,10 @@ range_long : (m n : ℕ) → length (range_with_len m n) ≡ n
 range_long m zero = refl
 range_long m (suc n) = ap suc (range_long (m + 1) n)
 
-pub range_more : (m n : ℕ) → range_with_len m (n + 1) ≡ range_with_len m n ++ (m + n) ∷ []
-range_more m n = sym (map_same (range_with_len m (n + 1))) ∙ map-range_with_len_more (λ k. k) m n
-    (m + n) refl ∙ ap (λ l. l ++ (m + n) ∷ []) (map_same (range_with_len m n))
-  where
-    map_same : (xs : List ℕ) → map (λ k. k) xs ≡ xs
-    map_same [] = refl
-    map_same (x ∷ xs) = ap (λ l. x ∷ l) (map_same xs)
-
 pub one_more : (xs : List ℕ) (b : ℕ) → xs ≡ range_with_len 0 b → xs ++ b ∷ [] ≡
     range_with_len 0 (b + 1)
 one_more xs b e = let here : 0 + b ≡ b = omega arith in ap (λ l. l ++ b ∷ []) e
-    ∙ ap (λ z. range_with_len 0 b ++ z ∷ []) (sym here) ∙ sym (range_more 0 b)
+    ∙ ap (λ z. range_with_len 0 b ++ z ∷ []) (sym here) ∙ sym (last_range 0 b)
 
 pub same_is : (n : ℕ) → IsOrder n (range_with_len 0 n) (range_with_len 0 n)
 same_is n = record {

@@ -63,5 +63,5 @@ in_call =
     ∷ []
 
 -- the bytes of the frames of the body and of P
-abbrev pub frame_bytes : List ℕ
-frame_bytes = 20 ∷ 48 ∷ []
+abbrev pub sample_frames : List ℕ
+sample_frames = 20 ∷ 48 ∷ []

@@ -32,7 +32,7 @@ ghost use Rattle.vc_relation.specs.Spots.{IsBelow, param_of, placed};
 ghost use Rattle.vc_relation.specs.Relation.{SelectedModule, shapes_of, content, is_of_type};
 ghost use Rattle.vc_relation.specs.Relation.{IsAddressOf, Represents, SameButVariables, held_at};
 ghost use Rattle.vc_relation.specs.Relation.{homes_of};
-ghost use Rattle.vc_relation.specs.Sample.{sample, at, in_call, frame_bytes};
+ghost use Rattle.vc_relation.specs.Sample.{sample, at, in_call, sample_frames};
 
 /// The part to which a path leads lies within the variable.
 pub fn parts_lie_within()
@@ -133,19 +133,19 @@ pub fn var_parameters_have_addresses()
 /// Where the variables of a module with each kind of them are.
 pub fn locations_of_a_module()
     ensures laid { IsLaidOut sample }
-    ensures element { placed sample frame_bytes in_call (at (source.Module 1) (2 ∷ 1 ∷ []))
+    ensures element { placed sample sample_frames in_call (at (source.Module 1) (2 ∷ 1 ∷ []))
         ≡ Some (placed_at (InWord Data 6) 0) }
-    ensures lent { placed sample frame_bytes in_call (root_location in_call (root.Param 0))
+    ensures lent { placed sample sample_frames in_call (root_location in_call (root.Param 0))
         ≡ Some (placed_at (InWord Data 4) 0) }
-    ensures no_object { placed sample frame_bytes in_call (at (source.Param 2 0) []) ≡ None }
-    ensures value { placed sample frame_bytes in_call (at (source.Param 2 1) [])
+    ensures no_object { placed sample sample_frames in_call (at (source.Param 2 0) []) ≡ None }
+    ensures value { placed sample sample_frames in_call (at (source.Param 2 1) [])
         ≡ Some (placed_at (InVariable 2 1) 0) }
-    ensures argument { placed sample frame_bytes in_call (at (source.Param 2 2) [])
+    ensures argument { placed sample sample_frames in_call (at (source.Param 2 2) [])
         ≡ Some (placed_at (InWord (Cell 1 20 2) 0) 0) }
-    ensures local { placed sample frame_bytes in_call (at (source.Local 2 0) [])
+    ensures local { placed sample sample_frames in_call (at (source.Local 2 0) [])
         ≡ Some (placed_at (InVariable 2 2) 0) }
-    ensures field { placed sample frame_bytes in_call (at (source.Local 2 1) (1 ∷ []))
+    ensures field { placed sample sample_frames in_call (at (source.Local 2 1) (1 ∷ []))
         ≡ Some (placed_at (InWord (Aggregates 1 68) 1) 0) }
-    ensures addressed { placed sample frame_bytes in_call (at (source.Local 2 2) [])
+    ensures addressed { placed sample sample_frames in_call (at (source.Local 2 2) [])
         ≡ Some (placed_at (InWord (Aggregates 1 68) 2) 0) }
 {}

@@ -1,5 +1,5 @@
 use Rattle.std.proofs.Common.{◌∙◌, ◌∷◌, ◌++◌, [], ℕ, List, sym, ap}
-use Rattle.net_build.proofs.Ranges.{range_next}
+use Rattle.pra_list.proofs.Growing.{range_next}
 use Rattle.net_build.proofs.labels.alone.Goals as goal
 
 pub loop-end-preserved : goal.loop-end-preserved
