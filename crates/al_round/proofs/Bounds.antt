@@ -1,6 +1,6 @@
 -- What bounds are: rounded values, below the cost of every flow and not below the free bound.
 use Rattle.std.proofs.Common.{◌≡◌, ℕ, zero, suc, ◌*◌, ◌≤◌, List, length, Some}
-use Rattle.std.proofs.Common.{sym, subst, ◌∙◌, arith, sum_by, get_or}
+use Rattle.std.proofs.Common.{sym, subst, ◌∙◌, arith, sum_by, get_or, ⊎_elim}
 use Rattle.std.proofs.Common.{ℤ, pos, ◌≤ℤ◌}
 use Rattle.std.specs.Prelude.{slice_get}
 use Rattle.std.specs.List.{range_with_len}
@@ -24,7 +24,8 @@ use Rattle.net_dual.proofs.FreeBound.{free_path, free_bound}
 use Rattle.net_dual.proofs.Ranges.{zero_in_range, next_in_range}
 use Rattle.net_dual.proofs.Totals.{total-agree, total-scale}
 use Rattle.net_form.specs.Flow.{flow}
-use Rattle.al_round.specs.Stages.{Stage, AreStages, IsGreatest, IsBest, IsRoundedUp}
+use Rattle.al_round.specs.Stages.{Stage, AreStages, IsFirstGreatest, IsLastRaised, IsGreatest}
+use Rattle.al_round.specs.Stages.{IsBest, IsRoundedUp}
 use Rattle.al_round.proofs.Grown.{got_within}
 
 -- ---- rounding up
@@ -82,26 +83,65 @@ module _ (net : Net) (w : Weights) (stages : List Stage) (are : AreStages net w 
       (next_in_range net (flow net before.0.family) (step_of (suc k)) before.0.prices
       (stage_in_range k before.0 before.1))
 
+  pub raised_in_range : (k : ℕ) (s : Stage) → slice_get stages k ≡ Some s
+      → AreInRange net s.raised
+  raised_in_range zero s there = subst (AreInRange net) (sym (are.rise_from s there))
+      (zero_in_range net)
+  raised_in_range (suc k) t there =
+      let lt = slice_get_within stages (suc k) t there in
+      let before = got_within stages k (omega (arith, lt)) in
+      (are.rise k before.0 t before.1 there).in_range
+
   lagrange_at : (k : ℕ) (s : Stage) → slice_get stages k ≡ Some s
       → IsLagrange net w s.prices s.value
   lagrange_at k s there = record { family = s.family; value = are.values k s there }
 
   module _ (k : ℕ) (prices : Prices) (value : ℤ) (g : IsGreatest stages k prices value) where
+    first_in_range : IsFirstGreatest stages k prices value → AreInRange net prices
+    first_in_range f = subst (AreInRange net) (sym f.same_prices)
+        (stage_in_range f.at f.stage f.there)
+
+    last_in_range : IsLastRaised stages k prices value → AreInRange net prices
+    last_in_range r = subst (AreInRange net) (sym r.same_prices)
+        (raised_in_range k r.stage r.there)
+
+    pub greatest_in_range : AreInRange net prices
+    greatest_in_range = ⊎_elim first_in_range last_in_range g.one
+
+    first_value : IsFirstGreatest stages k prices value → IsLagrange net w prices value
+    first_value f = subst (IsLagrange net w prices) (sym f.same_value)
+        (subst (λ p. IsLagrange net w p f.stage.value) (sym f.same_prices)
+        (lagrange_at f.at f.stage f.there))
+
+    last_value : IsLastRaised stages k prices value → IsLagrange net w prices value
+    last_value r = subst (IsLagrange net w prices) (sym r.same_value)
+        (subst (λ p. IsLagrange net w p r.stage.raised_value) (sym r.same_prices)
+        (are.raised_values k r.stage r.there))
+
+    -- the value is that of the prices
+    pub greatest_value : IsLagrange net w prices value
+    greatest_value = ⊎_elim first_value last_value g.one
+
     -- no admitted flow costs less
     pub value_bounds : IsFormed net → (f : List Edge) → IsAdmitted net f
         → value ≤ℤ pos (1024 * cost_of net w f)
-    value_bounds formed f a = subst (λ v. v ≤ℤ pos (1024 * cost_of net w f)) (sym g.same_value)
-        (duality_of_weights net w g.stage.prices g.stage.value f formed
-        (stage_in_range g.at g.stage g.there) (lagrange_at g.at g.stage g.there) a)
+    value_bounds formed f a = duality_of_weights net w prices value f formed greatest_in_range
+        greatest_value a
 
-    pub greatest_in_range : AreInRange net prices
-    greatest_in_range = subst (AreInRange net) (sym g.same_prices)
-        (stage_in_range g.at g.stage g.there)
+    some_there : 1 ≤ length stages
+    some_there = ⊎_elim
+        (λ f.
+        let lt = slice_get_within stages f.at f.stage f.there in
+        omega (arith, lt))
+        (λ r.
+        let lt = slice_get_within stages k r.stage r.there in
+        omega (arith, lt))
+        g.one
 
     pub first_there : (s : Stage) × (slice_get stages 0 ≡ Some s)
     first_there =
-        let lt = slice_get_within stages g.at g.stage g.there in
-        got_within stages 0 (omega (arith, lt))
+        let some = some_there in
+        got_within stages 0 (omega (arith, some))
 
     -- the value of round 0 is not negative, and so no later one is
     pub not_negative : pos 0 ≤ℤ value

@@ -1,6 +1,7 @@
 pub mod Bounds
 pub mod Chain
 pub mod EmptyRoom
+pub mod GoneOn
 pub mod Granted
 pub mod Grown
 pub mod LinesGrown

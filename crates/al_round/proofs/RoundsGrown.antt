@@ -1,6 +1,6 @@
 -- Where rounds stand at first, and after one round more.
 use Rattle.std.proofs.Common.{◌≡◌, ℕ, zero, suc, ◌-◌, ◌≤◌, List, []}
-use Rattle.std.proofs.Common.{◌∷◌, ◌++◌, length, Some, refl, sym, subst}
+use Rattle.std.proofs.Common.{◌∷◌, ◌++◌, length, Some, refl, sym, subst, ◌∙◌, inl, ⊎_elim}
 use Rattle.std.proofs.Common.{ℤ, ◌≤ℤ◌, arith}
 use Rattle.std.specs.Prelude.{slice_get}
 use Rattle.std.proofs.lemmas.Int.{ints}
@@ -17,7 +17,7 @@ use Rattle.net_form.specs.Flow.{flow, AreRoutes}
 use Rattle.net_form.specs.Formed.{IsFormed}
 use Rattle.net_form.specs.Rooms.{zero_prices}
 use Rattle.net_dual.specs.Priced.{cost_by_weights}
-use Rattle.net_dual.specs.Value.{IsValue}
+use Rattle.net_dual.specs.Value.{IsValue, IsLagrange}
 use Rattle.al_laws.specs.Settled.{AreSettled}
 use Rattle.al_round.specs.Allocations.{IsAllocated, IsKept}
 use Rattle.al_round.specs.Candidates.{cost_in}
@@ -31,10 +31,16 @@ use Rattle.al_round.proofs.LinesGrown.{one_less, last_of_more, lines_more}
 -- ---- at first
 
 module _ (net : Net) (w : Weights) (t : Stage) (zero_at : t.prices ≡ zero_prices net)
-    (value : IsValue net (cost_by_weights net w) t.prices t.family t.value) where
+    (value : IsValue net (cost_by_weights net w) t.prices t.family t.value)
+    (raised_at : t.raised ≡ t.prices) (raised_value : t.raised_value ≡ t.value) where
   only : (k : ℕ) (s : Stage) → slice_get (t ∷ []) k ≡ Some s → t ≡ s
   only zero s there = some_same t s there
   only (suc k) s there = absurd (none_some there)
+
+  first_lagrange : IsLagrange net w t.raised t.raised_value
+  first_lagrange = subst (IsLagrange net w t.raised) (sym raised_value)
+      (subst (λ p. IsLagrange net w p t.value) (sym raised_at)
+      (record { family = t.family; value = value }))
 
   pub first_stage : AreStages net w (t ∷ [])
   first_stage = record {
@@ -43,18 +49,28 @@ module _ (net : Net) (w : Weights) (t : Stage) (zero_at : t.prices ≡ zero_pric
     values = λ k s there. subst
         (λ (u : Stage). IsValue net (cost_by_weights net w) u.prices u.family u.value)
         (only k s there) value;
+    rise_from = λ s there. subst (λ (u : Stage). u.raised ≡ zero_prices net) (only 0 s there)
+        (raised_at ∙ zero_at);
+    rise = λ k s u one two. absurd (none_some two);
+    raised_values = λ k s there. subst (λ (u : Stage). IsLagrange net w u.raised u.raised_value)
+        (only k s there) first_lagrange;
   }
 
   pub first_greatest : IsGreatest (t ∷ []) 0 t.prices t.value
   first_greatest = record {
-    at = 0;
-    until = omega arith;
-    stage = t;
-    there = refl;
-    same_prices = refl;
-    same_value = refl;
+    one = inl (record {
+      at = 0;
+      until = omega arith;
+      stage = t;
+      there = refl;
+      same_prices = refl;
+      same_value = refl;
+      first = λ j s before there. absurd (omega (arith, before));
+    });
     most = λ j s le there. subst (λ (u : Stage). u.value ≤ℤ t.value) (only j s there)
         (omega (arith, ints));
+    most_raised = λ s there. subst (λ (u : Stage). u.raised_value ≤ℤ t.value) (only 0 s there)
+        (omega (arith, ints, raised_value));
   }
 
   module _ (formed : IsFormed net) (routes : Routes) (are : AreRoutes net routes)
@@ -186,13 +202,24 @@ module _ (net : Net) (w : Weights) (formed : IsFormed net) (stages : List Stage)
         let less = is.less in
         omega (arith, old, new, less)
 
+    -- the old value, which is the greatest there was, is no greater
+    was_below : a.bound.value ≤ℤ value
+    was_below = ⊎_elim
+        (λ f.
+        let same = f.same_value in
+        let most = g.most f.at f.stage f.until f.there in
+        omega (arith, ints, same, most))
+        (λ r.
+        let same = r.same_value in
+        let most = g.most_raised r.stage r.there in
+        omega (arith, ints, same, most))
+        a.bound.greatest.one
+
     no_lower : a.last.bound ≤ line.bound
     no_lower =
-        let was = a.bound.greatest in
-        let same = was.same_value in
-        let most = g.most was.at was.stage was.until was.there in
+        let below = was_below in
         rounded_in_order a.bound.value top a.last.bound line.bound a.bound.rounded is.rounded
-        (omega (arith, ints, same, most, above))
+        (omega (arith, ints, below, above))
 
     pub allocated_more : IsAllocated net w more (lines ++ line ∷ []) found now
     allocated_more = record {

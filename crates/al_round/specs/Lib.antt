@@ -1,4 +1,5 @@
 pub mod Allocations
+pub mod Ascents
 pub mod Candidates
 pub mod Lines
 pub mod Rounds

@@ -41,6 +41,8 @@ fn take_cheaper<F: Fn(Event, u32) -> u32>(
     ensures least { cost_in net.now (weights_of model.now) best.new ≤
         cost_in net.now (weights_of model.now) candidate.now }
     ensures same { result ≡ false → best.new ≡ best.old }
+    ensures equal { cost_in net.now (weights_of model.now) best.old ≤
+        cost_in net.now (weights_of model.now) candidate.now → best.new ≡ best.old }
 {
     if cost(net, model, candidate) >= cost(net, model, best) {
         return false;

@@ -13,11 +13,12 @@ ghost use Rattle.net_form.specs.Formed.{IsFormed};
 ghost use Rattle.net_dual.specs.Priced.{AreInRange, cost_by_weights};
 ghost use Rattle.net_dual.specs.Step.{IsChain};
 ghost use Rattle.net_dual.specs.Value.{IsValue, IsFreeBound};
+ghost use Rattle.al_round.specs.Ascents.{IsAscent};
 ghost use Rattle.al_round.specs.Lines.{AreLines};
-ghost use Rattle.al_round.specs.Stages.{Stage, AreStages, IsRoundedUp, IsBest, chain_of};
+ghost use Rattle.al_round.specs.Stages.{Stage, AreStages, IsRoundedUp, IsBest, chain_of, ascent_of};
 
 /// A value in whole units, rounded up, is no more than what any admitted flow costs, also if the
-/// prices are the best of so many rounds.
+/// prices are the best of so many rounds, raised ones among them.
 pub fn bounds_hold()
     ensures value { (net : Net) (w : Weights) (prices : Prices) (family : Routes) (z : ℤ) (b : ℕ)
         (f : List Edge) → IsFormed net → AreInRange net prices →
@@ -43,4 +44,11 @@ pub fn bounds_are_above_the_free_bound()
 pub fn prices_are_a_chain()
     ensures { (net : Net) (w : Weights) (stages : List Stage) → AreStages net w stages →
         1 ≤ length stages → IsChain net w (chain_of stages) }
+{}
+
+/// The raised prices of rounds are those of nothing, and each next ones are raised from those
+/// before them.
+pub fn raised_prices_are_an_ascent()
+    ensures { (net : Net) (w : Weights) (stages : List Stage) → AreStages net w stages →
+        1 ≤ length stages → IsAscent net w (ascent_of stages) }
 {}

@@ -9,16 +9,17 @@ ghost use Rattle.net_laws.specs.Built.{IsBuilt};
 ghost use Rattle.net_dual.specs.Step.{IsNext};
 ghost use Rattle.al_edge.specs.HomeRoutes.{AreHome};
 ghost use Rattle.al_round.specs.Allocations.{IsAllocation};
-ghost use Rattle.al_round.specs.Rounds.{AreRounds, family_of, AreSame};
+ghost use Rattle.al_round.specs.Rounds.{AreRounds, HaveGoneOn, family_of, AreSame};
 ghost use Rattle.al_round.specs.Tried.{IsTried};
 ghost use Rattle.al_round.specs.Watches.{Keeps as IsWatch, gap_of, WasObeyed, WentOn};
 
 use crate::allocation::Allocation;
 use crate::copies::copy_prices;
 use crate::improving::improve;
+use crate::raised::Raised;
 use crate::tried::Tried;
 use crate::trying::{step_prices, try_prices};
-use crate::value::{keep_greater, rounded_up};
+use crate::value::{keep_greatest, rounded_up};
 use crate::watch::{Verdict, Watch};
 use al_edge::home;
 use al_kick::SearchRoom;
@@ -53,6 +54,7 @@ pub struct Rounds {
     /// What the last round tried.
     pub tried: Option<Tried>,
     pub(crate) best_value: i128,
+    pub(crate) raised: Raised,
     pub(crate) next: Prices,
     pub(crate) work: Work,
     pub(crate) spare: Spare,
@@ -90,6 +92,7 @@ impl Rounds {
         let best_prices = copy_prices(alloc, &spare.zero)?;
         let next = copy_prices(alloc, &spare.zero)?;
         let best_value = lagrange(&mut work, net, model, &prices);
+        let raised = Raised::start(alloc, net, model, &prices, best_value)?;
         let line = Line {
             round: 0,
             cost: cost(net, model, &best),
@@ -104,6 +107,7 @@ impl Rounds {
             lines,
             tried: None,
             best_value,
+            raised,
             next,
             work,
             spare,
@@ -127,6 +131,9 @@ impl Rounds {
         requires rounds { AreRounds net.now (weights_of model.now) self.old }
         requires few { length self.old.lines ≤ 4294967295 }
         ensures rounds { AreRounds net.now (weights_of model.now) self.new }
+        ensures gone_on { HaveGoneOn net.now (weights_of model.now) self.old self.new }
+        ensures next { OnOk result (IsNext net.now (family_of self.old) (length self.old.lines)
+            self.old.prices self.new.prices) }
         ensures line { IfOk result (λ line. self.new.lines ≡ self.old.lines ++ line ∷ []) }
         ensures same { OnErr result (AreSame self.old self.new) }
     {
@@ -158,12 +165,26 @@ impl Rounds {
             self.old.prices self.old.next }
         requires tried { IsTried net.now (weights_of model.now) self.old.next 0 tried }
         ensures rounds { AreRounds net.now (weights_of model.now) self.new }
+        ensures gone_on { HaveGoneOn net.now (weights_of model.now) self.old self.new }
+        ensures next { OnOk result (IsNext net.now (family_of self.old) (length self.old.lines)
+            self.old.prices self.new.prices) }
         ensures line { IfOk result (λ line. self.new.lines ≡ self.old.lines ++ line ∷ []) }
         ensures same { OnErr result (AreSame self.old self.new) }
     {
         let number = self.lines.len();
-        let bound = self.last_line().bound;
         self.lines.push(NO_LINE)?;
+        let value = lagrange(&mut self.work, net, model, &self.next);
+        mem::swap(&mut self.prices, &mut self.next);
+        self.raised.raise(&mut self.next, net, model, number as u32);
+        keep_greatest(
+            &mut self.best_value,
+            &mut self.best_prices,
+            value,
+            &self.prices,
+            self.raised.value,
+            &self.raised.prices,
+        );
+        let bound = rounded_up(self.best_value);
         improve(
             alloc,
             number > 1,
@@ -177,18 +198,10 @@ impl Rounds {
             number as u32,
             bound,
         );
-        let value = lagrange(&mut self.work, net, model, &self.next);
-        mem::swap(&mut self.prices, &mut self.next);
-        keep_greater(
-            &mut self.best_value,
-            &mut self.best_prices,
-            value,
-            &self.prices,
-        );
         let line = Line {
             round: number as u32,
             cost: cost(net, model, &self.best),
-            bound: rounded_up(self.best_value),
+            bound,
         };
         self.lines.set(number, line);
         self.tried = Some(tried);
@@ -214,6 +227,7 @@ impl Rounds {
         requires rounds { AreRounds net.now (weights_of model.now) self.old }
         requires few { length self.old.lines + n ≤ 4294967296 }
         ensures rounds { AreRounds net.now (weights_of model.now) self.new }
+        ensures gone_on { HaveGoneOn net.now (weights_of model.now) self.old self.new }
         ensures obeyed { OnOk result
             (WasObeyed (gap_of watch.now) n self.old.lines self.new.lines) }
         ensures kept { OnErr result

@@ -14,7 +14,7 @@ use Rattle.net_form.specs.Flow.{flow}
 use Rattle.net_dual.specs.Priced.{AreInRange}
 use Rattle.net_dual.specs.Value.{IsLagrange}
 use Rattle.al_round.specs.Stages.{IsBest, IsRoundedUp}
-use Rattle.al_round.proofs.Bounds.{greatest_in_range}
+use Rattle.al_round.proofs.Bounds.{greatest_in_range, greatest_value}
 use Rattle.pra_report.specs.declared.report.ProcOut.{ProcOut}
 use Rattle.pra_report.specs.Report.{last_cost, last_bound}
 use Rattle.pra_follow.specs.Translation.{IsCodeOf, AreAdmittedIn}
@@ -138,15 +138,9 @@ module _ (program : Checked) (wanted : Wanted) (compiled : Compiled) (c : Certif
         (sym (last_cost_of wanted net out.routes out.prices out.lines granted))
 
     lagrange : IsLagrange net wanted.weights out.prices best.value
-    lagrange =
-        let greatest = best.greatest in
-        let stage = greatest.stage in
-        subst (λ prices. IsLagrange net wanted.weights prices best.value) (sym greatest.same_prices)
-        (subst (λ z. IsLagrange net wanted.weights stage.prices z) (sym greatest.same_value)
-        (record {
-          family = stage.family;
-          value = granted.allocation.allocated.are_stages.values greatest.at stage greatest.there;
-        }))
+    lagrange = greatest_value net wanted.weights granted.allocation.stages
+        granted.allocation.allocated.are_stages (length out.lines - 1) out.prices best.value
+        best.greatest
 
     below : IsBelowValue (weights_by c.cost) net (made out)
     below = record {

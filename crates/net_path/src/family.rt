@@ -8,7 +8,7 @@ ghost use Rattle.net_form.specs.Rooms.{IsRoomOf, layer_total};
 ghost use Rattle.net_laws.specs.Built.{IsBuilt};
 ghost use Rattle.net_dual.specs.Priced.{AreInRange, edge_price};
 ghost use Rattle.net_dual.specs.Paths.{IsLeast, Anywhere, any_ends, path_price, path_in};
-ghost use Rattle.net_path.specs.Desk.{IsReservedFor, HasSizes};
+ghost use Rattle.net_path.specs.Desk.{IsReservedFor, HasSizes, path_of};
 
 use crate::crossbar::Row;
 use crate::search::search_spread;
@@ -121,7 +121,8 @@ fn renew_parts<F: Fn(Event, u32) -> u32>(
 
 /// Finds a least path of a strand, wherever it begins and ends and whatever is in use, and puts it
 /// into the family of the room. Its priced cost is answered, in units of 1/1024. Of its least paths
-/// it takes one that the other paths of the family overload least. It takes no memory.
+/// it takes one that the other paths of the family overload least. It takes no memory, and
+/// `work.path()` stays what it was.
 pub fn renew<F: Fn(Event, u32) -> u32>(
     work: &mut Work,
     net: &Net,
@@ -142,9 +143,10 @@ pub fn renew<F: Fn(Event, u32) -> u32>(
         (path_in work.new.family strand) }
     ensures others { (s : ℕ) → s ≢ strand →
         path_in work.new.family s ≡ path_in work.old.family s }
+    ensures path { path_of work.new ≡ path_of work.old }
     ensures reserved { IsReservedFor net.now work.new }
 {
-    let (rows, path, loads) = (&mut work.rows, &mut work.path, &mut work.loads);
+    let (rows, path, loads) = (&mut work.rows, &mut work.renewed, &mut work.loads);
     let (free, family) = (&work.free, &mut work.family);
     renew_parts(
         net,

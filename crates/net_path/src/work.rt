@@ -13,18 +13,21 @@ use pra_list::Seq;
 use std::alloc::Global;
 use std::mem;
 
-/// Room for the rows and the path of one strand at a time, and for a family of paths, one for each
-/// strand, with a count of those that are in each register. Of edges it keeps nothing.
+/// Room for the rows and the path of one strand at a time, for the path that was asked for last,
+/// and for a family of paths, one for each strand, with a count of those that are in each register.
+/// Of edges it keeps nothing.
 #[derive(Drop)]
 pub struct Work {
     pub(crate) rows: Vec<Row>,
     pub(crate) path: Vec<Place>,
     pub(crate) count: usize,
+    pub(crate) renewed: Vec<Place>,
     pub(crate) family: Routes,
     pub(crate) loads: Vec<Load>,
     pub(crate) free: Taken,
     pub(crate) alloc: Global,
     ghost as_long: { length path.items ≡ length rows.items },
+    ghost renewed_as_long: { length renewed.items ≡ length rows.items },
     ghost within: { count ≤ length path.items },
 }
 
@@ -58,7 +61,7 @@ pub(crate) fn keep_path(alloc: Global, family: &mut Routes, strand: usize, path:
 impl Work {
     ghost use Rattle.net_path.specs.Desk.{path_of, IsReservedFor};
 
-    /// The path that `least` found last.
+    /// The path that `least` found last. Nothing else changes it.
     pub fn path(&self) -> &[Place]
         ensures { result.now ≡ path_of self.now }
     {
@@ -94,6 +97,7 @@ impl Work {
             rows: vec![in alloc; empty; most]?,
             path: vec![in alloc; Place::Eax; most]?,
             count: 0,
+            renewed: vec![in alloc; Place::Eax; most]?,
             family: no_paths(alloc, net)?,
             loads: vec![in alloc; [0; 6]; free.regs.len()]?,
             free,

@@ -5,7 +5,7 @@ ghost use Rattle.net_cost.specs.Models.{Keeps, weights_of};
 ghost use Rattle.net_laws.specs.Built.{IsBuilt};
 ghost use Rattle.net_dual.specs.Priced.{AreInRange, cost_by_weights};
 ghost use Rattle.net_dual.specs.Value.{IsValue, all_paid};
-ghost use Rattle.net_path.specs.Desk.{IsReservedFor};
+ghost use Rattle.net_path.specs.Desk.{IsReservedFor, path_of};
 
 use net_cost::{CostModel, Event};
 use net_form::{Net, Prices};
@@ -53,7 +53,7 @@ fn less(total: i128, paid: i128) -> i128
 
 /// The Lagrange value of a network at prices, in units of 1/1024: what the strands cost at least,
 /// each alone, minus the sum of all cap and mem prices. `work.family()` is then a family of such
-/// least paths. It takes no memory.
+/// least paths. It takes no memory, and `work.path()` stays what it was.
 pub fn lagrange<F: Fn(Event, u32) -> u32>(
     work: &mut Work,
     net: &Net,
@@ -66,6 +66,7 @@ pub fn lagrange<F: Fn(Event, u32) -> u32>(
     requires prices { AreInRange net.now prices.now }
     ensures value { IsValue net.now (cost_by_weights net.now (weights_of model.now)) prices.now
         work.new.family result }
+    ensures path { path_of work.new ≡ path_of work.old }
     ensures reserved { IsReservedFor net.now work.new }
 {
     let mut total = 0i128;

@@ -17,13 +17,16 @@ use Rattle.net_form.specs.Admitted.{IsAdmitted}
 use Rattle.net_form.specs.Cost.{cost_of}
 use Rattle.net_form.specs.Flow.{Edge, flow}
 use Rattle.pl_place.specs.Behind.{Routed}
+use Rattle.al_laws.specs.Settled.{AreSettled}
 use Rattle.al_round.specs.Lines.{AreLines}
 use Rattle.al_round.specs.Watches.{WasObeyed, verdict_of}
 use Rattle.al_round.specs.declared.watch.Verdict.{Verdict}
 use Rattle.al_round.specs.declared.watch.Verdict.TheVariants.{Go, Stop}
 use Rattle.pra_report.specs.declared.report.ProcOut.{ProcOut}
 use Rattle.pra_report.specs.Report.{last_line, last_cost, last_bound}
+use Rattle.al_round.proofs.Chain.{are_a_chain, are_an_ascent}
 use Rattle.pra_compile.specs.Compiled.{Wanted, IsGranted, IsProcOut}
+use Rattle.pra_compile.specs.Mechanism.{ComeFromPrices, WereLaid}
 use Rattle.pra_compile.proofs.Done.{there_is}
 
 -- ---- rounds that began with one line
@@ -120,6 +123,44 @@ module _ (wanted : Wanted) (net : Net) (routes : Routes) (prices : Prices) (line
       let cost = last_cost_is in
       let bound = last_bound_is in
       omega (arith, close, cost, bound)
+
+  pub settled : 2 ≤ length lines → AreSettled net wanted.weights routes
+  settled two = granted.allocation.allocated.cost.settled (omega (arith, two))
+
+  pub some_stage : 1 ≤ length granted.allocation.stages
+  some_stage =
+      let many = are_lines.many in
+      let some = some_line in
+      omega (arith, many, some)
+
+  pub from_prices : ComeFromPrices net wanted.weights lines
+  from_prices =
+      let stages = granted.allocation.stages in
+      let are = granted.allocation.allocated.are_stages in
+      record {
+        stages = stages;
+        chain = are_a_chain net wanted.weights stages are some_stage;
+        ascent = are_an_ascent net wanted.weights stages are some_stage;
+        many = sym are_lines.many;
+        bounds = λ k line there.
+            ((are_lines.each k line there).prices, (are_lines.each k line there).bound);
+      }
+
+  pub laid : WereLaid net wanted.weights lines
+  laid =
+      let stages = granted.allocation.stages in
+      record {
+        stages = stages;
+        chain = are_a_chain net wanted.weights stages granted.allocation.allocated.are_stages
+            some_stage;
+        laid = λ k line some there. (are_lines.each k line there).tried some;
+      }
+
+  pub went_on : (k : ℕ) (line : Line) → k + 1 < length lines → slice_get lines k ≡ Some line →
+      verdict_of wanted.gap line ≡ Go
+  went_on k line inside there =
+      let one = one_long lines some_line in
+      granted.obeyed.went_on.went k line (omega (arith, one)) inside there
 
 -- ---- of a procedure
 

@@ -1,2 +1,3 @@
 pub mod Compiled
 pub mod CompiledProcs
+pub mod Mechanism

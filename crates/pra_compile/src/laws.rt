@@ -11,9 +11,13 @@ ghost use Rattle.net_form.specs.declared.routes.Routes.{Routes};
 ghost use Rattle.net_form.specs.Admitted.{IsAdmitted};
 ghost use Rattle.net_form.specs.Cost.{cost_of};
 ghost use Rattle.net_form.specs.Flow.{Edge};
+ghost use Rattle.al_laws.specs.Settled.{AreSettled};
+ghost use Rattle.al_round.specs.Watches.{verdict_of};
+ghost use Rattle.al_round.specs.declared.watch.Verdict.TheVariants.{Go};
 ghost use Rattle.pl_place.specs.Behind.{Routed};
 ghost use Rattle.pra_compile.specs.declared.output.Compiled.{Compiled};
 ghost use Rattle.pra_compile.specs.Compiled.{Wanted, IsGranted, IsProcOut, IsCompiled};
+ghost use Rattle.pra_compile.specs.Mechanism.{ComeFromPrices, WereLaid};
 ghost use Rattle.pra_report.specs.declared.report.ProcOut.{ProcOut};
 ghost use Rattle.pra_report.specs.Report.{last_cost, last_bound, most_procs, HaveTotals};
 
@@ -40,8 +44,27 @@ pub fn lines_never_worsen()
         (m.cost ≤ l.cost) × (l.bound ≤ m.bound) }
 {}
 
+/// The routes that are carried are settled, where there was a round.
+pub fn routes_are_settled()
+    ensures { (wanted : Wanted) (net : Net) (routes : Routes) (prices : Prices) (lines : List Line)
+        → IsGranted wanted net routes prices lines → 2 ≤ length lines →
+        AreSettled net wanted.weights routes }
+{}
+
+/// Bounds are the values of a price chain and of prices that were raised beside it.
+pub fn bounds_come_from_prices()
+    ensures { (wanted : Wanted) (net : Net) (routes : Routes) (prices : Prices) (lines : List Line)
+        → IsGranted wanted net routes prices lines → ComeFromPrices net wanted.weights lines }
+{}
+
+/// By the prices of each round routes were laid, or a strand was blocked, and no line costs more.
+pub fn rounds_lay_by_their_prices()
+    ensures { (wanted : Wanted) (net : Net) (routes : Routes) (prices : Prices) (lines : List Line)
+        → IsGranted wanted net routes prices lines → WereLaid net wanted.weights lines }
+{}
+
 /// There is a line, and no more rounds than were wanted. Where there were fewer, the last cost is
-/// at most the gap above the last bound.
+/// at most the gap above the last bound. No round stands behind a line at which the watch stops.
 pub fn rounds_are_as_wanted()
     ensures some { (wanted : Wanted) (net : Net) (routes : Routes) (prices : Prices)
         (lines : List Line) → IsGranted wanted net routes prices lines → 1 ≤ length lines }
@@ -51,6 +74,9 @@ pub fn rounds_are_as_wanted()
     ensures fewer { (wanted : Wanted) (net : Net) (routes : Routes) (prices : Prices)
         (lines : List Line) → IsGranted wanted net routes prices lines →
         length lines < wanted.rounds + 1 → last_cost lines ≤ last_bound lines + wanted.gap }
+    ensures went { (wanted : Wanted) (net : Net) (routes : Routes) (prices : Prices)
+        (lines : List Line) (k : ℕ) (line : Line) → IsGranted wanted net routes prices lines →
+        k + 1 < length lines → slice_get lines k ≡ Some line → verdict_of wanted.gap line ≡ Go }
 {}
 
 /// What is kept of the procedures of a module has totals, where there are no more than a module may

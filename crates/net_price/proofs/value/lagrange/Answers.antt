@@ -29,6 +29,7 @@ loop-strand-preserved g c =
     let low = inv.low in
     let high = inv.high in
     record {
+      path = c.renew.ensures.path ∙ inv.path;
       reserved = c.renew.ensures.reserved;
       least = family_least c.args.net.now price before after k others inv.least
           c.renew.ensures.least;

@@ -1,4 +1,5 @@
 use Rattle.std.proofs.Common.{List, take, sym, subst}
+use Rattle.std.proofs.lemmas.Result.{err_from_is_err_and}
 use Rattle.net_cost.specs.Models.{weights_of}
 use Rattle.net_form.specs.declared.prices.Line.{Line}
 use Rattle.net_laws.proofs.Built.{built}
@@ -36,3 +37,15 @@ returns-clause-granted g c =
       obeyed = subst (λ (lines : List Line). WasObeyed gap rounds (take 1 lines) lines)
           (sym c.into_allocation-allocation.ensures.lines) obeyed;
     }
+
+pub returns-in_err-grant-clause-routes : goal.returns-in_err-grant-clause-routes
+returns-in_err-grant-clause-routes g c =
+    let residual = c.from_residual-in_err-grant in
+    let p = err_from_is_err_and residual.result residual.ensures.1 in
+    rw p.1 tt
+
+pub returns-in_err-grant-clause-granted : goal.returns-in_err-grant-clause-granted
+returns-in_err-grant-clause-granted g c =
+    let residual = c.from_residual-in_err-grant in
+    let p = err_from_is_err_and residual.result residual.ensures.1 in
+    rw p.1 tt

@@ -1,5 +1,5 @@
 use Rattle.std.proofs.Common.{◌≡◌, ◌-◌, ℕ, suc, pos, ◌≤ℤ◌, List, [], ◌∷◌, ◌++◌, length, set, Some}
-use Rattle.std.proofs.Common.{rules, sym, ap, subst, ◌∙◌, to_z, of_z}
+use Rattle.std.proofs.Common.{arith, rules, refl, sym, ap, subst, ◌∙◌, to_z, of_z}
 use Rattle.std.specs.Int.{w128}
 use Rattle.std.proofs.lemmas.Int.{to_z-of_z}
 use Rattle.net_cost.specs.Models.{weights_of}
@@ -11,46 +11,89 @@ use Rattle.al_round.specs.Candidates.{cost_in}
 use Rattle.al_round.specs.Stages.{Stage, IsGreatest, IsRoundedUp}
 use Rattle.al_round.proofs.Bounds.{not_negative}
 use Rattle.al_round.proofs.LinesGrown.{one_less}
-use Rattle.al_round.proofs.NextRound.{set_last, tried_at, last_number, last_stage, next_stages}
-use Rattle.al_round.proofs.NextRound.{prices_in_range, best_in_range}
+use Rattle.al_round.proofs.NextRound.{set_last, candidate_of, tried_at, last_number, last_stage}
+use Rattle.al_round.proofs.NextRound.{next_stages, prices_in_range, best_in_range, rises}
+use Rattle.al_round.proofs.NextRound.{raised_more}
+use Rattle.al_round.proofs.GoneOn.{stands_still}
 use Rattle.al_round.proofs.RoundsGrown.{IsFound, allocated_more, kept_more}
 use Rattle.al_round.proofs.rounds.Rounds.finish.Goals as goal
 
-pub keep_greater-requires : goal.keep_greater-requires
-keep_greater-requires g c =
-    let net = c.args.net.now in
-    let are = c.requires.rounds in
-    let best = best_in_range net (weights_of c.args.model.now) c.args.self.now are in
-    let next = are.next in
-    let is : c.args.self.now.next ≡ c.swap.new.x = sym c.swap.ensures.x_after in
-    record {
-      caps = best.caps ∙ sym next.caps ∙ ap (λ (p : Prices). length p.caps) is;
-      mems = best.mems ∙ sym next.mems ∙ ap (λ (p : Prices). length p.mems) is;
-      ties = best.ties ∙ sym next.ties ∙ ap (λ (p : Prices). length p.ties) is;
-    }
+pub raise-requires-clause-has : goal.raise-requires-clause-has
+raise-requires-clause-has g c = c.requires.rounds.are.raised.has_value
 
-pub rounded_up-requires : goal.rounded_up-requires
-rounded_up-requires g c =
+pub raise-requires-clause-over : goal.raise-requires-clause-over
+raise-requires-clause-over g c =
     let net = c.args.net.now in
     let w = weights_of c.args.model.now in
     let r = c.args.self.now in
     let are = c.requires.rounds in
+    subst (AreInRange net) (sym c.swap.ensures.y_after)
+    (prices_in_range net w r are.stages are.are)
+
+pub keep_greatest-requires : goal.keep_greatest-requires
+keep_greatest-requires g c =
+    let net = c.args.net.now in
+    let w = weights_of c.args.model.now in
+    let r = c.args.self.now in
+    let are = c.requires.rounds in
+    let best = best_in_range net w r are.stages are.are in
+    let next = are.are.next in
+    let raised = c.raise.ensures.has.in_range in
+    let is : r.next ≡ c.swap.new.x = sym c.swap.ensures.x_after in
+    record {
+      caps = best.caps ∙ sym next.caps ∙ ap (λ (p : Prices). length p.caps) is;
+      mems = best.mems ∙ sym next.mems ∙ ap (λ (p : Prices). length p.mems) is;
+      ties = best.ties ∙ sym next.ties ∙ ap (λ (p : Prices). length p.ties) is;
+      raised_caps = best.caps ∙ sym raised.caps;
+      raised_mems = best.mems ∙ sym raised.mems;
+      raised_ties = best.ties ∙ sym raised.ties;
+    }
+
+pub rounded_up-bound-requires : goal.rounded_up-bound-requires
+rounded_up-bound-requires g c =
+    let net = c.args.net.now in
+    let w = weights_of c.args.model.now in
+    let r = c.args.self.now in
+    let stages = c.requires.rounds.stages in
+    let are = c.requires.rounds.are in
     let z = c.lagrange-value.result in
-    let top = c.keep_greater.new.best_value in
+    let top = c.keep_greatest.new.best_value in
     let t : Stage = record {
       prices = r.next;
       family = c.lagrange-value.new.work.family;
       value = z;
+      raised = c.raise.new.self.prices;
+      raised_value = c.raise.new.self.value;
     } in
-    let stages = next_stages net w r are t c.requires.next c.lagrange-value.ensures.value in
+    let more = next_stages net w r stages are t c.requires.next c.lagrange-value.ensures.value
+    c.raise.ensures.raised c.raise.ensures.has.value in
     let whole : z ≡ to_z w128 (of_z w128 z)
     = sym (to_z-of_z w128 z (record { sfits = c.lagrange-value.type_inv })) in
-    let greatest = c.keep_greater.ensures.greatest are.stages t (length r.lines - 1)
-    (last_stage net w r are) (sym c.swap.ensures.x_after) whole are.value in
+    let raised = c.raise.new.self.value in
+    let same : raised ≡ to_z w128 (of_z w128 raised) = sym (to_z-of_z w128 raised (search rules)) in
+    let greatest = c.keep_greatest.ensures.greatest stages t (length r.lines - 1)
+    (last_stage net w r stages are) (sym c.swap.ensures.x_after) whole refl same
+    (rises net w r stages are t c.raise.ensures.no_lower) are.value in
     let is : to_z w128 (of_z w128 top) ≡ top = to_z-of_z w128 top (search rules) in
     subst (λ v. pos 0 ≤ℤ v) (sym is)
-    (not_negative net w (are.stages ++ t ∷ []) stages (suc (length r.lines - 1))
-    c.keep_greater.new.best_prices top greatest)
+    (not_negative net w (stages ++ t ∷ []) more (suc (length r.lines - 1))
+    c.keep_greatest.new.best_prices top greatest)
+
+pub improve-requires-clause-settled : goal.improve-requires-clause-settled
+improve-requires-clause-settled g c = λ later.
+    let number = c.len-number.ensures in
+    c.requires.rounds.are.allocated.cost.settled (grind arith)
+
+pub improve-requires-clause-candidate : goal.improve-requires-clause-candidate
+improve-requires-clause-candidate g c = candidate_of c.args.net.now
+    (weights_of c.args.model.now) c.args.self.now.next 0 c.args.tried.plan c.args.tried.order
+    c.args.tried.outcome c.requires.tried.outcome
+
+pub returns-in_err-push-clause-gone_on : goal.returns-in_err-push-clause-gone_on
+returns-in_err-push-clause-gone_on g c = λ stages are.
+    let r = c.args.self.now in
+    stands_still c.args.net.now (weights_of c.args.model.now) stages r are c.push.new.self r.next
+    r.work c.in_err-push.ensures.err are.next are.work refl
 
 pub returns-clause-line : goal.returns-clause-line
 returns-clause-line g c =
@@ -59,45 +102,50 @@ returns-clause-line g c =
     let line : Line = record {
       round = c.len-number.result;
       cost = c.cost.result;
-      bound = c.rounded_up.result;
+      bound = c.rounded_up-bound.result;
     } in
     c.set.ensures
     ∙ ap (λ (ls : List Line). set ls c.len-number.result line) c.in_ok-push.ensures.ok
     ∙ ap (λ (n : ℕ). set (lines ++ none ∷ []) n line) c.len-number.ensures
     ∙ set_last lines none line
 
-pub returns-clause-rounds : goal.returns-clause-rounds
-returns-clause-rounds g c =
+pub returns-clause-gone_on : goal.returns-clause-gone_on
+returns-clause-gone_on g c = λ stages are.
     let net = c.args.net.now in
     let w = weights_of c.args.model.now in
     let r = c.args.self.now in
-    let are = c.requires.rounds in
     let z = c.lagrange-value.result in
-    let best_prices = c.keep_greater.new.best_prices in
-    let top = c.keep_greater.new.best_value in
+    let best_prices = c.keep_greatest.new.best_prices in
+    let top = c.keep_greatest.new.best_value in
     let found = c.improve.new.best in
     let t : Stage = record {
       prices = r.next;
       family = c.lagrange-value.new.work.family;
       value = z;
+      raised = c.raise.new.self.prices;
+      raised_value = c.raise.new.self.value;
     } in
-    let more = are.stages ++ t ∷ [] in
+    let more = stages ++ t ∷ [] in
     let line : Line = record {
       round = c.len-number.result;
       cost = c.cost.result;
-      bound = c.rounded_up.result;
+      bound = c.rounded_up-bound.result;
     } in
-    let stages = next_stages net w r are t c.requires.next c.lagrange-value.ensures.value in
+    let are_more = next_stages net w r stages are t c.requires.next c.lagrange-value.ensures.value
+    c.raise.ensures.raised c.raise.ensures.has.value in
     let whole : z ≡ to_z w128 (of_z w128 z)
     = sym (to_z-of_z w128 z (record { sfits = c.lagrange-value.type_inv })) in
     let top_is : to_z w128 (of_z w128 top) ≡ top = to_z-of_z w128 top (search rules) in
+    let raised = c.raise.new.self.value in
+    let same : raised ≡ to_z w128 (of_z w128 raised) = sym (to_z-of_z w128 raised (search rules)) in
     let greatest : IsGreatest more (length r.lines) best_prices top
-    = subst (λ n. IsGreatest more n best_prices top) (last_number net w r are)
-    (c.keep_greater.ensures.greatest are.stages t (length r.lines - 1) (last_stage net w r are)
-    (sym c.swap.ensures.x_after) whole are.value) in
+    = subst (λ n. IsGreatest more n best_prices top) (last_number net w r stages are)
+    (c.keep_greatest.ensures.greatest stages t (length r.lines - 1)
+    (last_stage net w r stages are) (sym c.swap.ensures.x_after) whole refl same
+    (rises net w r stages are t c.raise.ensures.no_lower) are.value) in
     let is : IsFound net w t r.best (length r.lines) top found c.args.tried line = record {
       number = c.len-number.ensures;
-      rounded = subst (λ v. IsRoundedUp v line.bound) top_is c.rounded_up.ensures;
+      rounded = subst (λ v. IsRoundedUp v line.bound) top_is c.rounded_up-bound.ensures;
       cost = c.cost.ensures;
       settled = c.improve.ensures.settled;
       less = c.improve.ensures.less;
@@ -105,23 +153,33 @@ returns-clause-rounds g c =
           c.improve.ensures.least;
     } in
     let lines : (r.lines ++ line ∷ []) ≡ c.set.new.self = sym (returns-clause-line g c) in
-    let formed = c.requires.net.formed in
-    record {
-      stages = more;
-      allocated = subst (λ ls. IsAllocated net w more ls found best_prices) lines
-          (allocated_more net w formed are.stages r.lines r.best r.best_prices are.allocated t
-          stages r.best_value are.value best_prices top greatest c.keep_greater.ensures.above
-          found c.args.tried line is);
-      kept = subst
-          (λ p. IsKept net w more (cost_in net w found) p t.family (Some c.args.tried))
-          (sym c.swap.ensures.x_after)
-          (kept_more net w formed are.stages r.lines r.best r.best_prices are.allocated t stages
-          r.best_value are.value best_prices top greatest c.keep_greater.ensures.above found
-          c.args.tried line is);
-      value = subst (λ (ls : List Line). IsGreatest more (length ls - 1) best_prices top) lines
-          (subst (λ n. IsGreatest more n best_prices top) (sym (one_less r.lines line)) greatest);
-      work = c.lagrange-value.ensures.reserved;
-      spare = c.improve.ensures.spare;
-      next = subst (AreInRange net) (sym c.swap.ensures.y_after)
-          (prices_in_range net w r are);
-    }
+    let formed = c.requires.net.formed in (
+      t ∷ [],
+      record {
+        allocated = subst (λ ls. IsAllocated net w more ls found best_prices) lines
+            (allocated_more net w formed stages r.lines r.best r.best_prices are.allocated t
+            are_more r.best_value are.value best_prices top greatest c.keep_greatest.ensures.above
+            found c.args.tried line is);
+        kept = subst
+            (λ p. IsKept net w more (cost_in net w found) p c.improve.new.work.family
+            (Some c.args.tried))
+            (sym c.swap.ensures.x_after)
+            (subst (λ f. IsKept net w more (cost_in net w found) t.prices f (Some c.args.tried))
+            (sym c.improve.ensures.family)
+            (kept_more net w formed stages r.lines r.best r.best_prices are.allocated t are_more
+            r.best_value are.value best_prices top greatest c.keep_greatest.ensures.above found
+            c.args.tried line is));
+        raised = raised_more net w r stages are t c.raise.new.self refl refl c.raise.ensures.has;
+        value = subst (λ (ls : List Line). IsGreatest more (length ls - 1) best_prices top) lines
+            (subst (λ n. IsGreatest more n best_prices top) (sym (one_less r.lines line)) greatest);
+        work = c.improve.ensures.reserved;
+        spare = c.improve.ensures.spare;
+        next = c.raise.ensures.over;
+      },
+    )
+
+pub returns-clause-rounds : goal.returns-clause-rounds
+returns-clause-rounds g c =
+    let rounds = c.requires.rounds in
+    let on = returns-clause-gone_on g c rounds.stages rounds.are in
+    record { stages = rounds.stages ++ on.0; are = on.1 }

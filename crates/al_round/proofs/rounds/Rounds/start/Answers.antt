@@ -60,12 +60,17 @@ returns-clause-rounds g c =
     = c.in_ok-next.ensures ∙ ap (λ (s : Spare). s.zero) c.in_ok-spare.ensures in
     let whole : to_z w128 (of_z w128 z) ≡ z
     = to_z-of_z w128 z (record { sfits = c.lagrange-best_value.type_inv }) in
+    let raised = c.in_ok-raised.raised in
     let t : Stage = record {
       prices = prices;
       family = c.lagrange-best_value.new.work.family;
       value = z;
+      raised = raised.prices;
+      raised_value = raised.value;
     } in
     let value = c.lagrange-best_value.ensures.value in
+    let same_prices : raised.prices ≡ prices = c.in_ok-raised.ensures.prices in
+    let same_value : raised.value ≡ z = c.in_ok-raised.ensures.value ∙ whole in
     let line : Line = record {
       round = 0;
       cost = c.cost.result;
@@ -77,26 +82,36 @@ returns-clause-rounds g c =
     let lines : (line ∷ []) ≡ c.in_ok-lines.lines = sym c.in_ok-lines.ensures in
     record {
       stages = t ∷ [];
-      allocated = subst (λ ls. IsAllocated net w (t ∷ []) ls c.in_ok-best.best best_prices) lines
-          (subst (IsAllocated net w (t ∷ []) (line ∷ []) c.in_ok-best.best) best_at
-          (first_allocated net w t zero_at value c.requires.net.formed c.in_ok-best.best
-          c.in_ok-best.ensures.routes c.in_ok-best.ensures.admitted line refl c.cost.ensures
-          rounded));
-      kept = record {
-        stage = t;
-        is_last = refl;
-        same_prices = refl;
-        same_family = refl;
-        was_tried = tt;
-        none = λ one. refl;
-        some = λ two. absurd (omega (arith, two));
+      are = record {
+        allocated = subst (λ ls. IsAllocated net w (t ∷ []) ls c.in_ok-best.best best_prices)
+            lines
+            (subst (IsAllocated net w (t ∷ []) (line ∷ []) c.in_ok-best.best) best_at
+            (first_allocated net w t zero_at value same_prices same_value
+            c.requires.net.formed c.in_ok-best.best c.in_ok-best.ensures.routes
+            c.in_ok-best.ensures.admitted line refl c.cost.ensures rounded));
+        kept = record {
+          stage = t;
+          is_last = refl;
+          same_prices = refl;
+          same_family = refl;
+          was_tried = tt;
+          none = λ one. refl;
+          some = λ two. absurd (omega (arith, two));
+        };
+        raised = record {
+          stage = t;
+          is_last = refl;
+          same_prices = refl;
+          same_value = refl;
+          has_value = c.in_ok-raised.ensures.has;
+        };
+        value = subst (λ (ls : List Line). IsGreatest (t ∷ []) (length ls - 1) best_prices
+            (to_z w128 (of_z w128 z))) lines
+            (subst (λ (v : ℤ). IsGreatest (t ∷ []) 0 best_prices v) (sym whole)
+            (subst (λ (p : Prices). IsGreatest (t ∷ []) 0 p z) best_at
+            (first_greatest net w t zero_at value same_prices same_value)));
+        work = c.lagrange-best_value.ensures.reserved;
+        spare = subst (IsSpareOf net) (sym c.in_ok-spare.ensures) (room_of net);
+        next = subst (AreInRange net) (sym next_at) (zero_in_range net);
       };
-      value = subst (λ (ls : List Line). IsGreatest (t ∷ []) (length ls - 1) best_prices
-          (to_z w128 (of_z w128 z))) lines
-          (subst (λ (v : ℤ). IsGreatest (t ∷ []) 0 best_prices v) (sym whole)
-          (subst (λ (p : Prices). IsGreatest (t ∷ []) 0 p z) best_at
-          (first_greatest net w t zero_at value)));
-      work = c.lagrange-best_value.ensures.reserved;
-      spare = subst (IsSpareOf net) (sym c.in_ok-spare.ensures) (room_of net);
-      next = subst (AreInRange net) (sym next_at) (zero_in_range net);
     }

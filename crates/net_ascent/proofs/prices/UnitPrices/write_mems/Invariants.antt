@@ -1,0 +1,9 @@
+use Rattle.std.proofs.Common.{◌≡◌, ◌≤◌, All, length}
+use Rattle.net_dual.specs.Priced.{most_price}
+use Rattle.net_ascent.proofs.prices.UnitPrices.write_mems.Given as goal
+
+abbrev pub invariant-loop-number : goal.invariant-loop-number
+invariant-loop-number l = record {
+  long : length l.mems ≡ length l.initial.mems;
+  most : All (λ p. p ≤ most_price) l.mems;
+}
