@@ -15,7 +15,7 @@ use crate::streams::{Failed, Sink, Source, append};
 use pra_base::OutOfMemory;
 use std::alloc::Global;
 use std::fs;
-use std::fs::OpenFile;
+use std::fs::{OpenFile, Permissions};
 use std::io::{ErrorKind, Read, Write};
 use std::os::unix::fs::MetadataExt;
 use std::rt::Files;
@@ -141,11 +141,13 @@ struct FileId {
 }
 
 /// The folder in which the program runs, with one count of faults for all names, for reading and
-/// for writing. A file that was read is never written over, under whatever name: that is a fault.
+/// for writing. A file that was read is never written over, under whatever name, nor is the one
+/// that standard input comes from, nor the one that was written last: that is a fault.
 #[derive(Drop)]
 pub struct HostFolder<'a, R> {
     rt: &'a R,
     read: Vec<FileId>,
+    written: Option<FileId>,
     faults: u64,
 }
 
@@ -160,6 +162,7 @@ impl<'a, R: Files> HostFolder<'a, R> {
         HostFolder {
             rt,
             read: Vec::new(alloc),
+            written: None,
             faults: 0,
         }
     }
@@ -172,6 +175,32 @@ impl<'a, R: Files> HostFolder<'a, R> {
             ⟦<HostFolder<'a, R> as Folder>⟧.write_faults self.now n ≡ result }
     {
         self.faults
+    }
+
+    // Whether the name stands for a file that is not to be written over.
+    fn is_kept(&self, name: &str) -> bool {
+        match found_at(self.rt, name) {
+            Some((id, _)) => {
+                self.read.contains(&id) || self.written == Some(id) || is_input(self.rt, id)
+            }
+            None => false,
+        }
+    }
+
+    // Makes the named file hold the bytes, where it may be written over, and says which file that
+    // is. An old one stays whole where there is no room for the new one, if its folder can have
+    // another file beside it and it is no link.
+    fn write_named(&self, alloc: Global, name: &str, bytes: &[u8]) -> Result<FileId, Failed> {
+        if self.is_kept(name) {
+            return Err(Failed);
+        }
+        if let Some(like) = replaceable(self.rt, name)
+            && let Ok(part) = format!(in alloc; "{name}{PART}")
+            && let Some(id) = replace(self.rt, name, &part, like, bytes)?
+        {
+            return Ok(id);
+        }
+        overwrite(self.rt, name, bytes)
     }
 }
 
@@ -239,24 +268,84 @@ fn remember(read: &mut Vec<FileId>, id: FileId) -> Result<(), OutOfMemory> {
     Ok(())
 }
 
-// Whether the name stands for a file that was read.
-fn was_read<R: Files>(rt: &R, read: &[FileId], name: &str) -> bool {
+/// The name under which a process finds the file that its standard input comes from.
+const STANDARD_INPUT: &str = "/dev/stdin";
+
+/// What is appended to a name, for the file that is to take that name's place.
+const PART: &str = ".part";
+
+// The file that the name stands for, through all links, and whether it is a regular one.
+fn found_at<R: Files>(rt: &R, name: &str) -> Option<(FileId, bool)> {
     match fs::metadata(rt, name) {
-        Ok(found) => read.contains(&FileId {
-            device: found.dev(),
-            inode: found.ino(),
-        }),
-        Err(_) => false,
+        Ok(found) => {
+            let id = FileId {
+                device: found.dev(),
+                inode: found.ino(),
+            };
+            Some((id, found.is_file()))
+        }
+        Err(_) => None,
     }
 }
 
-// Makes the named file hold the bytes, where it is none of those that were read.
-fn write_named<R: Files>(rt: &R, read: &[FileId], name: &str, bytes: &[u8]) -> Result<(), Failed> {
-    if was_read(rt, read, name) {
+// Whether this is the file that standard input comes from, where that is a regular one.
+fn is_input<R: Files>(rt: &R, id: FileId) -> bool {
+    found_at(rt, STANDARD_INPUT) == Some((id, true))
+}
+
+// Writes the bytes to a file that was just made.
+fn fill<F: OpenFile + Write>(
+    file: &mut F,
+    like: Permissions,
+    bytes: &[u8],
+) -> Result<FileId, Failed> {
+    if file.set_permissions(like).is_err() {
         return Err(Failed);
     }
+    write_whole(file, bytes)?;
+    id_of(file)
+}
+
+// Puts a file with these bytes in the place of one that is like this, which stays whole until then,
+// and says which file that is; or none, where the folder can't have another file beside it.
+fn replace<R: Files>(
+    rt: &R,
+    name: &str,
+    part: &str,
+    like: Permissions,
+    bytes: &[u8],
+) -> Result<Option<FileId>, Failed> {
+    let Ok(mut file) = fs::File::create_new(rt, part) else {
+        return Ok(None);
+    };
+    match fill(&mut file, like, bytes) {
+        Ok(id) if fs::rename(rt, part, name).is_ok() => Ok(Some(id)),
+        _ => {
+            let _ = fs::remove_file(rt, part);
+            Err(Failed)
+        }
+    }
+}
+
+// What a file may be used for, where the name is that of a regular one which may be written, and of
+// no link.
+fn replaceable<R: Files>(rt: &R, name: &str) -> Option<Permissions> {
+    match fs::symlink_metadata(rt, name) {
+        Ok(found) if found.is_file() => match fs::File::options().write(true).open(rt, name) {
+            Ok(_) => Some(found.permissions()),
+            Err(_) => None,
+        },
+        _ => None,
+    }
+}
+
+// Writes the bytes over what the name stands for.
+fn overwrite<R: Files>(rt: &R, name: &str, bytes: &[u8]) -> Result<FileId, Failed> {
     match fs::create(rt, name) {
-        Ok(mut file) => write_whole(&mut file, bytes),
+        Ok(mut file) => {
+            write_whole(&mut file, bytes)?;
+            id_of(&file)
+        }
         Err(_) => Err(Failed),
     }
 }
@@ -290,7 +379,7 @@ impl<'a, R: Files> Folder for HostFolder<'a, R> {
         }
     }
 
-    fn write_file(&mut self, _: Global, name: &str, bytes: &[u8]) -> Result<(), FileFault>
+    fn write_file(&mut self, alloc: Global, name: &str, bytes: &[u8]) -> Result<(), FileFault>
         ensures written { OnOk result (Becomes (untold name.now) (untold name.now) bytes.now) }
         ensures others { (n : List ℕ) → n ≢ name.now → untold n ≡ untold n }
         ensures never_long { IsErrOf result FileFault.TooLong → ⊥ }
@@ -299,10 +388,15 @@ impl<'a, R: Files> Folder for HostFolder<'a, R> {
             (λ _. self.old.faults) (λ _. self.new.faults) result }
         ensures counted { CountsFileFault self.old.faults self.new.faults result }
     {
-        let result = write_named(self.rt, &self.read, name, bytes);
-        if result.is_err() {
-            self.faults = one_more(self.faults);
+        match self.write_named(alloc, name, bytes) {
+            Ok(id) => {
+                self.written = Some(id);
+                Ok(())
+            }
+            Err(Failed) => {
+                self.faults = one_more(self.faults);
+                Err(FileFault::Failed)
+            }
         }
-        Ok(result?)
     }
 }

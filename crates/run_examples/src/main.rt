@@ -43,8 +43,8 @@ struct Ran {
 
 fn main(rt: HostRuntime) -> anyhow::Result<()> {
     let alloc = rt.alloc();
-    let mut folder = HostFolder::new(alloc, &rt);
     for line in EXAMPLES.lines() {
+        let mut folder = HostFolder::new(alloc, &rt);
         let (name, options) = line.split_once(' ').unwrap_or((line, ""));
         let words = words(alloc, name, options).map_err(|_| anyhow!("no memory"))?;
         let input = input(alloc, &mut folder, name)?;

@@ -141,17 +141,17 @@ fn a_host_folder_reads_what_it_wrote(rt: HostRuntime) -> Result<(), Fail> {
     const NAME: &str = "pra_io_test_file";
     let alloc = rt.alloc();
     let mut folder = HostFolder::new(rt.alloc(), &rt);
-    folder.write_file(alloc, NAME, b"123")?;
     folder.write_file(alloc, NAME, b"45")?;
+    assert_eq!(rt; folder.write_file(alloc, NAME, b"123"), Err(FileFault::Failed));
     assert_eq!(rt;
         folder.read_file(alloc, NAME, 2)?.as_slice(),
         b"45".as_slice()
     );
     assert_eq!(rt; folder.read_file(alloc, NAME, 1), Err(FileFault::TooLong));
-    assert_eq!(rt; folder.faults(), 0);
+    assert_eq!(rt; folder.faults(), 1);
     fs::remove_file(&rt, NAME)?;
     assert_eq!(rt; folder.read_file(alloc, NAME, 2), Err(FileFault::Failed));
-    assert_eq!(rt; folder.faults(), 1);
+    assert_eq!(rt; folder.faults(), 2);
     Ok(())
 }
 
