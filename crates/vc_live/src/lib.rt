@@ -13,6 +13,3 @@ mod solve;
 
 pub use liveness::{Liveness, live};
 pub use sized::is_sized;
-
-#[cfg(test)]
-mod tests;

@@ -1,0 +1,8 @@
+//! Tests of low crates whose own proof is long: liveness.
+//!
+//! Each module has tables, in which a row costs no proof, and the functions that read them. They
+//! stand here because a crate that has tests is proved twice. Nothing here is used by another crate.
+#![tactic(auto)]
+
+#[cfg(test)]
+mod liveness;
