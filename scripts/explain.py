@@ -1,0 +1,319 @@
+#!/usr/bin/env python3
+"""Tells a person what is wrong with a module, and where in its source.
+
+    explain.py FILE [--input NAME]    compiles FILE, and with --input runs it on that file
+    explain.py --notes FILE [--input NAME] < NOTES    tells what notes of another call mean
+
+NOTES is what the compiler wrote to standard error. Its last line that refuses, such as
+`fault rule 19 token 6 at 29`, becomes the place as FILE:LINE:COLUMN, what breaks the rule or the
+limit, the rule or limit in words, the line of the source, and a mark below the token; of a line on
+a trap the statement is found. The words of rules and limits are those of docs/LANGUAGE.md. The status
+is that of the call of the compiler, and with --notes 0 where something was explained, and else 1.
+"""
+
+import json
+import os
+import re
+import subprocess
+import sys
+import tempfile
+
+import grammar
+import offences
+import reasons
+import traps
+from places import Place, shown, token_end, tokens, word_end
+
+TOP = os.path.dirname(os.path.dirname(os.path.realpath(__file__)))
+LANGUAGE = f"{TOP}/docs/LANGUAGE.md"
+COMPILER = f"{TOP}/pra"
+NO_WORDS = 6  # the status where the words are none of these
+SOME = 8  # what may follow is told where it is no more than that
+
+
+# ---- the words of rules and limits
+
+
+def table(heading):
+    """The rows of the table below a heading of the document on the language."""
+    with open(LANGUAGE, encoding="utf-8") as text:
+        lines = text.read().splitlines()
+    rows, inside = [], False
+    for line in lines:
+        if line.startswith("## "):
+            inside = line[3:].strip() == heading
+        elif inside and line.startswith("|"):
+            rows.append([cell.strip() for cell in line.strip("|").split("|")])
+    return rows[2:]  # without the names of the columns and the rule below them
+
+
+def rule_words(number):
+    """What a rule demands, by its number."""
+    for row in table("Rules"):
+        if row[0] == number:
+            return row[-1].replace("`", "")
+    return "a rule of the language is broken"
+
+
+def limit_words(name):
+    """What a limit counts, by its name."""
+    for row in table("Limits"):
+        if row[0].strip("`") == name:
+            return row[-1].replace("`", "")
+    return name.replace("-", " ")
+
+
+# ---- what each line means
+
+
+def spelled(byte):
+    return f"'{chr(byte)}'" if 33 <= byte < 127 else f"of value {byte}"
+
+
+def lexical(name, source, kind, at):
+    if kind == "bad-byte":
+        words = f"the byte {spelled(source[at])} begins no token"
+        return Place(name, source, at, at + 1).tell(words)
+    if kind == "open-comment":
+        words = "this comment is opened and never closed"
+        return Place(name, source, at, at + 2).tell(words)
+    words = "this number is above 2147483647"
+    return Place(name, source, at, token_end(source, at)).tell(words)
+
+
+def at_token(name, source, at, words):
+    """Of a token that is there, or of the end of the source."""
+    if at < len(source):
+        return Place(name, source, at, token_end(source, at)).tell(words)
+    read = list(tokens(source))
+    if not read:
+        return [f"{name}:1:1: {words}"]
+    start, end = read[-1]
+    return Place(name, source, end - 1, end).tell(words)
+
+
+def hint(token, before, reserved, wanted):
+    """What was meant by a token that can't stand there, if that can be guessed."""
+    for it in [token, *before[-1:]]:
+        if told := offences.capitals(it, reserved):
+            return told
+    signs = {(":=", "="): "`:=` assigns, and `=` compares"}
+    signs["=", ":="] = "a value is assigned by `:=`"
+    if ("; " + token).strip("; ") in ("=", ":=") and (told := signs.get((token, wanted))):
+        return told
+    for it in [token, *before[-1:]]:
+        near = offences.near(it.upper(), reserved) if it.isalpha() and it not in reserved else ""
+        if near:
+            return f"`{it}`{near}"
+    return ""
+
+
+def wanted_sign(token, expected):
+    """The sign that stands for another one by mistake."""
+    other = {"=": ":=", ":=": "="}.get(token)
+    return other if other and f'"{other}"' in expected else ""
+
+
+def unexpected(name, source, at):
+    """What can't stand at a byte, what was read before it, and what was expected there."""
+    before = [shown(source[start:end]) for start, end in tokens(source[:at])]
+    rules, expected = grammar.behind(before)
+    wanted = grammar.in_words(rules, expected)
+    wanted = f"; expected: {wanted}" if wanted else "; nothing may follow the last period"
+    if at >= len(source):
+        if not before:
+            return at_token(name, source, at, "there is no token; a module begins with MODULE")
+        return at_token(name, source, at, f"the module does not end here{wanted}")
+    token = shown(source[at : token_end(source, at)])
+    last = f"behind `{before[-1]}`" if before else "at the begin of a module"
+    told = at_token(name, source, at, f"`{token}` can't stand here, {last}{wanted}")
+    meant = hint(token, before, rules.reserved, wanted_sign(token, expected))
+    return [*told, f"  {meant}"] if meant else told
+
+
+def broken(name, source, number, at):
+    """What breaks a rule at a byte, and the rule."""
+    told = offences.offence(int(number), source, at)
+    words = f"rule {number}: {rule_words(number)}"
+    return at_token(name, source, at, f"{told} ({words})" if told else words)
+
+
+def limit(name, source, kind, count, most):
+    words = limit_words(kind)
+    where = "the input" if kind == "input" else name
+    return [f"{where}: limit {kind}: {count} where at most {most} may be: {words}"]
+
+
+def input_word(given, at):
+    words = "this is no number from -2147483648 to 2147483647"
+    if given is None or at >= len(given):
+        return [f"the input, byte {at}: {words}"]
+    return Place("the input", given, at, word_end(given, at)).tell(words)
+
+
+# ---- images, their texts, and certificates
+
+IMAGE_FIELDS = {
+    "Length": "an image has a head of 16 bytes",
+    "Magic": "an image begins with the bytes PRAI",
+    "Version": "the version of an image is 1",
+    "CodeLength": "the length in the head is that of the code behind it, up to 41943040",
+    "DataWords": "an image has at most 4194304 data words",
+}
+
+REASONS = {
+    "code": "its code is not valid, or calls a procedure that the certificate does not have",
+    "routes": "its routes are not admitted in the network of its code",
+    "prices": "a price is out of range, 0, or not in the order of its index",
+    "total": "its routes cost another total",
+    "bound": "its prices do not show this bound",
+}
+
+
+def image_field(name, field, at):
+    return [f"{name}, byte {at}: this is no image: {IMAGE_FIELDS[field]}"]
+
+
+def text_line(name, source, number):
+    """A line of a text that is to be assembled; behind the last one there is nothing to mark."""
+    lines = source.split(b"\n")
+    words = "this is no line of an image's text"
+    if number > len(lines):
+        return [f"{name}:{number}:1: {words}"]
+    start = sum(len(line) + 1 for line in lines[: number - 1])
+    if start >= len(source):
+        return [f"{name}:{number}:1: {words}"]
+    return Place(name, source, start, start + len(lines[number - 1])).tell(words)
+
+
+def no_json(name, source):
+    """Where a reader of JSON stops; another one may stop a little before or behind."""
+    try:
+        json.loads(source.decode(errors="replace"))
+    except json.JSONDecodeError as stopped:
+        at = len(source.decode(errors="replace")[: stopped.pos].encode())
+        words = f"this is no JSON: {stopped.msg[:1].lower()}{stopped.msg[1:]}"
+        if at < len(source):
+            return Place(name, source, at, at + 1).tell(words)
+        return [f"{name}, byte {at}: {words}"]
+    except RecursionError:
+        pass
+    return [f"{name}: this is no JSON"]
+
+
+def of_other_files(line, name, source):
+    """The same of a line on an image, its text or a certificate."""
+    if found := re.fullmatch(r"fault image ([A-Za-z]+) at (\d+)", line):
+        return image_field(name, found[1], found[2])
+    if found := re.fullmatch(r"fault code at (\d+)", line):
+        at = int(found[1])
+        return [f"{name}, byte {at} of the code, {at + 16} of the file: no instruction begins here"]
+    if found := re.fullmatch(r"fault line (\d+)", line):
+        return text_line(name, source, int(found[1]))
+    if line == "fault empty":
+        return [f"{name}:1:1: no instruction follows the first line"]
+    if line == "fault json":
+        return no_json(name, source)
+    if line == "fault certificate form":
+        return [f"{name}: this is JSON, but no certificate: a key is missing or too many, or a value"
+                " is none that stands there (docs/CERTIFICATES.md)"]
+    if found := re.fullmatch(r"fault certificate procedure (\d+) ([a-z]+)", line):
+        return [f"{name}, procedure {found[1]}: the certificate does not hold: {REASONS[found[2]]}"]
+    return None
+
+
+FILES = {
+    "read file": "{} can't be read",
+    "read input": "the input can't be read",
+    "write file": "a file can't be written (the image, or the module of gen)",
+    "write out": "the output can't be written",
+}
+
+
+def explained(line, name, source, given):
+    """What a line of the notes means to a person, or None where it refuses nothing."""
+    if found := re.fullmatch(r"fault (bad-byte|open-comment|number-too-large) at (\d+)", line):
+        return lexical(name, source, found[1], int(found[2]))
+    if found := re.fullmatch(r"fault grammar token \d+ at (\d+)", line):
+        return unexpected(name, source, int(found[1]))
+    if found := re.fullmatch(r"fault rule (\d+) token \d+ at (\d+)", line):
+        return broken(name, source, found[1], int(found[2]))
+    if found := re.fullmatch(r"limit depth token \d+ at (\d+)", line):
+        words = f"limit depth: {limit_words('depth')}"
+        return at_token(name, source, int(found[1]), words)
+    if found := re.fullmatch(r"limit ([a-z-]+) count (\d+) maximum (\d+)", line):
+        return limit(name, source, found[1], int(found[2]), int(found[3]))
+    if found := re.fullmatch(r"fault input at (\d+)", line):
+        return input_word(given, int(found[1]))
+    if found := re.fullmatch(r"fault (read file|read input|write file|write out)", line):
+        return [FILES[found[1]].format(name)]
+    return of_other_files(line, name, source)
+
+
+def read(name):
+    try:
+        with open(name, "rb") as text:
+            return text.read()
+    except OSError:
+        return b""
+
+
+def told(notes, name, input_name=None):
+    """What the last line of notes that tells of a refusal or a trap means, line by line."""
+    source = read(name)
+    given = read(input_name) if input_name else None
+    for line in reversed(notes.splitlines()):
+        if traps.STEPS.fullmatch(line):
+            return traps.told(name, source, line, COMPILER, input_name)
+        if lines := explained(line, name, source, given):
+            return lines
+    return []
+
+
+def tried(name, input_name):
+    """The status of a call that compiles a module, and of one that runs it where there is an input,
+    and its notes."""
+    with tempfile.TemporaryDirectory(prefix="pra-explain-") as room:
+        mode = ["interp"] if input_name else ["compile", "--image", f"{room}/image"]
+        with open(input_name or os.devnull, "rb") as given:
+            command = [COMPILER, mode[0], name, "--rounds", "0", *mode[1:]]
+            ran = subprocess.run(command, stdin=given, capture_output=True, check=False)
+    return ran.returncode, ran.stderr.decode(errors="replace")
+
+
+def explain(name, input_name):
+    try:
+        status, notes = tried(name, input_name)
+    except OSError as error:
+        print(f"{input_name}: can't be read: {error.strerror}")
+        return 5
+    for line in notes.splitlines():
+        if line.startswith("pra: "):
+            print(line, file=sys.stderr)  # that it was not proved, where there is no terminal
+    lines = told(notes, name, input_name)
+    if not lines:
+        lines = [f"{name}: nothing is wrong"] if status == 0 else notes.splitlines()[-1:]
+    print("\n".join(lines))
+    return status
+
+
+def main(words):
+    input_name = None
+    if "--input" in words[:-1]:
+        at = words.index("--input")
+        input_name = words[at + 1]
+        words = words[:at] + words[at + 2 :]
+    if len(words) == 1 and not words[0].startswith("-"):
+        status = reasons.main(words[0])
+        return explain(words[0], input_name) if status == reasons.MODULE else status
+    if len(words) != 2 or words[0] != "--notes":
+        print("fault words\nusage: pra explain FILE [--input NAME]", file=sys.stderr)
+        return NO_WORDS
+    lines = told(sys.stdin.read(), words[1], input_name)
+    if lines:
+        print("\n".join(lines))
+    return 0 if lines else 1
+
+
+if __name__ == "__main__":
+    sys.exit(main(sys.argv[1:]))

@@ -1,0 +1,49 @@
+"""What tests need beside Python, and marks that leave them out where it is missing."""
+
+import functools
+import os
+import shutil
+import subprocess
+import unittest
+
+import unproved
+
+TOP = os.path.dirname(os.path.dirname(os.path.realpath(__file__)))
+BUILT = f"{TOP}/crates/pra/out/pra"
+
+
+@functools.cache
+def program():
+    """A compiler: the one that PRA names, what was built, or what is kept unproved, or None."""
+    for name in (os.environ.get("PRA"), BUILT):
+        if name and os.access(name, os.X_OK):
+            return os.path.abspath(name)
+    try:
+        return unproved.kept()
+    except (OSError, unproved.NoAnswer):
+        return None
+
+
+@functools.cache
+def has_gcc_32():
+    """Whether gcc is there and makes programs of 32 bits."""
+    if not shutil.which("gcc"):
+        return False
+    how = {"input": b"int main(void) { return 0; }", "capture_output": True, "check": False}
+    return not subprocess.run(["gcc", "-m32", "-x", "c", "-", "-o", "/dev/null"], **how).returncode
+
+
+def compiler(test):
+    return unittest.skipUnless(program(), "there is no compiler: ./pra build, or PRA=PROGRAM")(test)
+
+
+def gcc_32(test):
+    return unittest.skipUnless(has_gcc_32(), "gcc -m32 makes no program here")(test)
+
+
+def cbc(test):
+    return unittest.skipUnless(shutil.which("cbc"), "cbc, the solver of COIN-OR, is not here")(test)
+
+
+def chromium(test):
+    return unittest.skipUnless(shutil.which("chromium"), "the browser chromium is not here")(test)

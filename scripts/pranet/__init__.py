@@ -1,0 +1,18 @@
+"""What register allocation asks of a procedure, computed from a certificate's code alone.
+
+    from pranet import certificate, problem
+    from pranet.network import Network
+
+- `certificate`: reads and writes certificates: code, routes, prices, costs and bounds.
+- `operands`: what instructions ask of the places of their operands; what each event costs.
+- `network`: `Network(procedure)` has strands with their masks, extras, memory pairs and ties;
+  whether it admits routes, and what these cost, event by event.
+- `problem`: the network as a JSON value, for allocators in any language.
+- `dual`: the value that prices give, which no allocation costs less than, and steps that raise it.
+- `program`: the network as an integer program, as a text in the LP format.
+- `cbc`: the solver CBC, called as a program, and what it answers.
+- `solver`: the best routes that CBC finds, and prices made of the duals of the relaxation.
+- `compiler`: the compiler, called as a program.
+
+None of this is proved. What it writes is a certificate, and the mode `check` says whether it holds.
+"""

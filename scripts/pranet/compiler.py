@@ -1,0 +1,86 @@
+"""The compiler, called as a program."""
+
+import os
+import subprocess
+import tempfile
+
+from pranet import certificate
+from pranet.network import Network
+
+TOP = os.path.dirname(os.path.dirname(os.path.dirname(os.path.realpath(__file__))))
+ANY_BYTES = "surrogateescape"  # how bytes that are no text go through one
+DEFAULT = f"{TOP}/pra"  # which runs unproved, a minute or two a call, before it was built
+
+
+class Refused(Exception):
+    """A call of the compiler that did not end well: what it was, its status and what it said."""
+
+    def __init__(self, call, status, said):
+        super().__init__(f"{call} answers status {status}")
+        self.status, self.said = status, said
+
+
+def default_program():
+    """The program that the environment names, or ./pra."""
+    return os.environ.get("PRA", DEFAULT)
+
+
+class Compiler:
+    """The compiler, called as a program. A clock, if there is one, says at a terminal which call
+    takes how long."""
+
+    def __init__(self, program, clock=None):
+        self.program, self.clock = program, clock
+
+    def call(self, *words, given=subprocess.DEVNULL, good=(0,)):
+        """What a call writes to standard output and to standard error."""
+        how = {"stdin": given, "stdout": subprocess.PIPE, "stderr": subprocess.PIPE}
+        with subprocess.Popen([self.program, *words], **how) as it:
+            out, notes = self.outcome(it, words[0])
+        if it.returncode not in good:
+            raise Refused(f"pra {words[0]}", it.returncode, notes)
+        return out, notes
+
+    def outcome(self, process, mode):
+        """What a process writes, once it has ended."""
+        try:
+            while self.clock:
+                try:
+                    return process.communicate(timeout=1)
+                except subprocess.TimeoutExpired:
+                    self.clock.name = f"pra show, at {mode}"
+                    self.clock.show()
+            return process.communicate()
+        finally:
+            process.terminate()
+            if self.clock:
+                self.clock.clear()
+
+    def certificate(self, file, cost, rounds):
+        """The certificate of a module after so many rounds."""
+        text, _ = self.call("cert", file, "--cost", cost, "--rounds", str(rounds))
+        return certificate.read(text.decode())
+
+    def problem(self, file, cost, rounds=0):
+        """The certificate that a file holds, or that of the module that it holds, and whether it is
+        a module. No module begins with the brace that a certificate begins with."""
+        with open(file, "rb") as source:
+            held = source.read()
+        if held.lstrip()[:1] != b"{":
+            return self.certificate(file, cost, rounds), True
+        known = certificate.read(held.decode(errors="replace"))
+        for procedure in known.procedures:
+            try:
+                Network(procedure)
+            except (IndexError, KeyError, TypeError, ValueError) as error:
+                reason = f"procedure {procedure.number}: its code is not valid"
+                raise certificate.NoCertificate(reason) from error
+        return known, False
+
+    def check(self, text):
+        """The status of `check` for a certificate's text, and what it says."""
+        with tempfile.NamedTemporaryFile(suffix=".cert") as file:
+            file.write(text.encode(errors=ANY_BYTES))
+            file.flush()
+            ran = subprocess.run([self.program, "check", file.name], capture_output=True)
+        return ran.returncode, (ran.stdout + ran.stderr).decode(errors="replace")

@@ -1,0 +1,74 @@
+"""The words of a call: files and options with values, and how a call that can't be done ends."""
+
+import os
+import subprocess
+import sys
+
+from pranet.cbc import NoSolver
+from pranet.certificate import NoCertificate
+from pranet.compiler import TOP, Compiler, Refused, default_program
+
+WEIGHTS = ("size", "speed")
+NO_ANSWER = 70  # the status of what the compiler does not know
+
+
+class NoWords(Exception):
+    """The words are none that a program takes."""
+
+
+def read_words(words, options):
+    """The files, and the value of each option: of those given their default. An option that has a
+    number takes numbers alone."""
+    files, values, words = [], {"--compiler": default_program(), **options}, iter(words)
+    for word in words:
+        name, is_joined, value = word.partition("=")
+        if name in values:
+            value = value if is_joined else next(words, "")
+            if isinstance(values[name], int) and not (value.isdecimal() and value.isascii()):
+                raise NoWords
+            values[name] = int(value) if isinstance(values[name], int) else value
+        elif word.startswith("-"):
+            raise NoWords
+        else:
+            files.append(word)
+    if values.get("--cost", "size") not in WEIGHTS or "" in values.values():
+        raise NoWords
+    return files, values
+
+
+def read_problem(words):
+    """The certificate that the words of a call name, or that of the module which they name."""
+    files, values = read_words(words, {"--cost": "size"})
+    if len(files) != 1:
+        raise NoWords
+    return Compiler(values["--compiler"]).problem(files[0], values["--cost"])[0]
+
+
+def tell(file, said):
+    """Says what the compiler said, and on a terminal what that means."""
+    sys.stderr.buffer.write(said)
+    sys.stderr.flush()
+    if sys.stderr.isatty():
+        command = [sys.executable, f"{TOP}/scripts/explain.py", file]
+        subprocess.run(command, input=said, stdout=sys.stderr, check=False)
+
+
+def status_of(call, usage, file=""):
+    """The exit status of a call, which returns one or raises what can't be done, that is told."""
+    try:
+        return call()
+    except NoWords:
+        print(f"fault words\n{usage}", file=sys.stderr)
+        return 6
+    except Refused as refused:
+        tell(file, refused.said)
+        return refused.status
+    except BrokenPipeError:
+        os.dup2(os.open(os.devnull, os.O_WRONLY), sys.stdout.fileno())
+        return 5
+    except OSError as error:
+        print(f"pra: {error}", file=sys.stderr)
+        return 5
+    except (NoCertificate, NoSolver) as error:
+        print(f"pra: {error}", file=sys.stderr)
+        return NO_ANSWER

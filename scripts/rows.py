@@ -1,0 +1,97 @@
+#!/usr/bin/env python3
+"""Counts the rows of all tests, and tells what was lost since a commit.
+
+    rows.py [COMMIT]    COMMIT is one before, or else the last one
+
+Tests are the crates tests_* and the files tests.rt of others. Of each a line tells how many test
+functions, lines of text tables, tuples and assertions it has. A text table is a string of more than
+one line; a tuple stands on lines of its own in a list of cases. Below the sums stands each line of
+a table that was there and is no more, whichever crate has it now: `= ` before it counts for nothing.
+The status is 1 where there is such a line.
+"""
+
+import collections
+import os
+import re
+import subprocess
+import sys
+
+TOP = os.path.dirname(os.path.dirname(os.path.realpath(__file__)))
+TESTS = re.compile(r"crates/(tests_\w+)/src/.*\.rt$|crates/(\w+)/src/tests\.rt$")
+TOKEN = re.compile(r"""//[^\n]*|"((?:[^"\\]|\\.)*)"|'(?:\\.|[^'\\])'""", re.S)
+TEST = re.compile(r"#\[test\]")
+TUPLE = re.compile(r"^ *\(.*\),$", re.M)
+ASSERTION = re.compile(r"\bassert(?:_eq|_ne)?!")
+KINDS = ("tests", "lines", "tuples", "assertions")
+
+
+def git(*words):
+    return subprocess.run(
+        ["git", *words], cwd=TOP, check=True, capture_output=True, text=True
+    ).stdout
+
+
+def lines_of(source):
+    """The lines of the text tables of a file, without what joins two of them."""
+    found = []
+    for it in TOKEN.finditer(source):
+        if it[1] and "\n" in it[1]:
+            text = re.sub(r"\\\n\s*", "", it[1]).replace("\\n", "\n")
+            found += [line.strip().removeprefix("= ") for line in text.split("\n")]
+    return [line for line in found if line]
+
+
+def counted(sources):
+    """The counts by crate, and how often each line of a table is there, of files by path."""
+    counts, lines = collections.defaultdict(collections.Counter), collections.Counter()
+    for path, source in sources.items():
+        own = lines_of(source)
+        lines.update(own)
+        bare = TOKEN.sub(lambda it: '""' if it[1] is not None else "", source)
+        counts[crate_of(path)].update(
+            tests=len(TEST.findall(bare)),
+            lines=len(own),
+            tuples=len(TUPLE.findall(bare)),
+            assertions=len(ASSERTION.findall(bare)),
+        )
+    return counts, lines
+
+
+def crate_of(path):
+    found = TESTS.match(path)
+    return found and (found[1] or found[2])
+
+
+def now():
+    sources = {}
+    for folder, _, files in os.walk(f"{TOP}/crates"):
+        for name in files:
+            path = os.path.relpath(f"{folder}/{name}", TOP)
+            if crate_of(path):
+                with open(f"{TOP}/{path}", encoding="utf-8") as text:
+                    sources[path] = text.read()
+    return sources
+
+
+def before(commit):
+    paths = git("ls-tree", "-r", "--name-only", commit, "crates").split("\n")
+    return {path: git("show", f"{commit}:{path}") for path in paths if crate_of(path)}
+
+
+def main(words):
+    old, old_lines = counted(before(words[0] if words else "HEAD"))
+    new, new_lines = counted(now())
+    for crate in [*sorted({*old, *new}), "all"]:
+        was, is_now = (
+            sum(of.values(), collections.Counter()) if crate == "all" else of[crate]
+            for of in (old, new)
+        )
+        print(f"{crate}: " + ", ".join(f"{was[it]} -> {is_now[it]} {it}" for it in KINDS))
+    lost = old_lines - new_lines
+    for line, times in lost.items():
+        print(f"lost {times}: {line}")
+    return 1 if lost else 0
+
+
+if __name__ == "__main__":
+    sys.exit(main(sys.argv[1:]))

@@ -1,0 +1,99 @@
+#!/usr/bin/env python3
+"""Shows how a module was allocated, as a page for a browser.
+
+    show.py FILE [OTHER] [--rounds N] [--cost size|speed] [--input NAME] [--compiler PROGRAM]
+
+FILE.html is written, which needs no network and nothing else. It shows the source; for each
+procedure cost and bound round by round, beside what linear scan and graph colouring come to, its
+blocks and loops, where each variable is before and after each instruction and after which rounds,
+what moves and operands cost, what prices show the bound, and the machine instructions that it all
+became. With --input the module is run too, on the numbers that the file NAME holds. Options that
+are left out are the compiler's: 10 rounds, and size. FILE may be a certificate too, that is a text
+that begins with a brace; its page has what a certificate has. With OTHER the page has both side by
+side. The compiler is ./pra beside this file, or PROGRAM; it is asked for its report, the listing
+and the certificates, and no page is made of a certificate that it refuses. The status is that of
+the call that was refused, 5 where a file can't be read or written, 6 where the words are none of
+these, and 70 where the parts do not fit.
+"""
+
+import os
+import subprocess
+import sys
+
+import terminal
+from picture.listing import NotOfThisCode
+from picture.module import WEIGHTS, Module, OfCertificate
+from picture.page import page_of, side_by_side
+from picture.report import NoReport
+from pranet.certificate import NoCertificate
+from pranet.compiler import Compiler, Refused
+
+TOP = os.path.dirname(os.path.dirname(os.path.realpath(__file__)))
+USAGE = "usage: pra show FILE [OTHER] [--rounds N] [--cost size|speed] [--input NAME]"
+OPTIONS = {"--rounds": "10", "--cost": "size", "--input": None, "--compiler": f"{TOP}/pra"}
+
+
+def read_words(words):
+    """FILE, and OTHER if it is there, and the values of the options, or None."""
+    files, values, words = [], dict(OPTIONS), iter(words)
+    for word in words:
+        name, is_joined, value = word.partition("=")
+        if name in OPTIONS:
+            values[name] = value if is_joined else next(words, "")
+        else:
+            files.append(word)
+    is_good = 1 <= len(files) <= 2 and not any(it.startswith("-") for it in files)
+    is_good = is_good and values["--cost"] in WEIGHTS and values["--rounds"].isdecimal()
+    return (files, values) if is_good and values["--input"] != "" else None
+
+
+def is_certificate(file):
+    """Whether a file's text begins with a brace, as no module does."""
+    with open(file, "rb") as text:
+        return text.read(1 << 10).lstrip()[:1] == b"{"
+
+
+def shown(file, compiler, values):
+    """What is shown of a file."""
+    if is_certificate(file):
+        return OfCertificate(compiler, file)
+    return Module(compiler, file, values["--rounds"], values["--cost"], values["--input"])
+
+
+def tell(file, said):
+    """Says what the compiler said, and on a terminal what that means."""
+    sys.stderr.buffer.write(said)
+    sys.stderr.flush()
+    if sys.stderr.isatty():
+        command = [sys.executable, f"{TOP}/scripts/explain.py", "--notes", file]
+        subprocess.run(command, input=said, stdout=sys.stderr, check=False)
+
+
+def main(words):
+    known = read_words(words)
+    if known is None:
+        print(f"fault words\n{USAGE}", file=sys.stderr)
+        return 6
+    files, values = known
+    clock = terminal.Clock(2, "pra show") if sys.stderr.isatty() else None
+    compiler, pages = Compiler(values["--compiler"], clock), []
+    try:
+        for file in files:
+            pages.append(page_of(shown(file, compiler, values)))
+        with open(f"{files[0]}.html", "w", encoding="utf-8") as out:
+            out.write(pages[0] if len(pages) == 1 else side_by_side(files, pages))
+    except Refused as refused:
+        tell(file, refused.said)
+        return refused.status
+    except (OSError, UnicodeDecodeError) as error:
+        print(f"pra: {error}", file=sys.stderr)
+        return 5
+    except (NoCertificate, NoReport, NotOfThisCode) as error:
+        print(f"pra: no page: {error}", file=sys.stderr)
+        return 70
+    print(f"{files[0]}.html")
+    return 0
+
+
+if __name__ == "__main__":
+    sys.exit(main(sys.argv[1:]))

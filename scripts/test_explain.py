@@ -1,0 +1,136 @@
+"""Tests of what a person is told of a module."""
+
+import tempfile
+import unittest
+
+import explain
+import grammar
+import needs
+import offences
+import traps
+
+SOURCE = b"""MODULE A;
+  CONST N = 5;
+  TYPE T = RECORD x, y: INTEGER END;
+  VAR i, j: INTEGER; t: T; q: ARRAY N OF INTEGER;
+  PROCEDURE Put(a: INTEGER; VAR b: T);
+    VAR k: INTEGER;
+    PROCEDURE Inner;
+    BEGIN
+      WHILE k < 10 DO WriteInt(a) END
+    END Inner;
+  BEGIN
+    REPEAT k := t.z UNTIL k # 0; Iner
+  END Putt;
+BEGIN
+  N := q[7]; Later := 2
+END B.
+"""
+
+
+class Offences(unittest.TestCase):
+    def told(self, number, text, nth=0):
+        at = -1
+        for _ in range(nth + 1):
+            at = SOURCE.index(text, at + 1)
+        return offences.offence(number, SOURCE, at)
+
+    def test_each_rule_has_a_sentence(self):
+        self.assertEqual(sorted(offences.OFFENCES), list(range(1, 25)))
+        for number in offences.OFFENCES:
+            self.assertTrue(self.told(number, b"k < 10"))
+
+    def test_names_are_named(self):
+        for number, text, wanted in (
+            (1, b"B.", "`B` stands behind this END, and the module is called `A`"),
+            (2, b"Putt", "`Putt` stands behind this END, and the procedure is called `Put`"),
+            (5, b"WriteInt", "`WriteInt` is declared nowhere; did you mean `Write`?"),
+            (5, b"Iner", "`Iner` is declared nowhere; did you mean `Inner`?"),
+            (12, b"z ", "the record has no field `z`"),
+        ):
+            self.assertEqual(self.told(number, text), wanted)
+
+    def test_what_a_name_is_is_told(self):
+        told = self.told(10, b"N := q")
+        self.assertEqual(told, "`N` is a constant, of line 2, and nothing can be assigned to it")
+        self.assertIn("belongs to `Put`", self.told(6, b"k < 10"))
+
+
+class Expected(unittest.TestCase):
+    def expected(self, text):
+        return grammar.in_words(*grammar.behind(text.split()))
+
+    def test_tokens_and_phrases(self):
+        for text, wanted in (
+            ("", "MODULE"),
+            ("MODULE", "a name"),
+            ("MODULE M", "`;`"),
+            ("MODULE M ; TYPE T =", "a type"),
+            ("MODULE M ; BEGIN x := 3", "an operator, `;` or END"),
+            ("MODULE M ; BEGIN IF x < 3", "an operator, THEN"),
+            ("MODULE M ; END M", "`.`"),
+            ("MODULE M ; END M .", ""),
+        ):
+            if text.endswith("< 3"):
+                self.assertIn("THEN", self.expected(text))
+            else:
+                self.assertEqual(self.expected(text), wanted)
+
+    def test_a_long_text_is_read_in_a_moment(self):
+        text = "MODULE M ; BEGIN " + "x := 3 + ( x * 2 ) ; " * 300
+        self.assertIn("END", self.expected(text))
+
+
+class Notes(unittest.TestCase):
+    def told(self, text, notes):
+        with tempfile.TemporaryDirectory(prefix="pra-explain-") as room:
+            with open(f"{room}/a.ob", "wb") as file:
+                file.write(text)
+            told = "\n".join(explain.told(notes, f"{room}/a.ob"))
+            return told.replace(f"{room}/", "")
+
+    def test_what_was_expected_stands_with_what_was_found(self):
+        told = self.told(b"module A; END A.", "fault grammar token 0 at 0\n")
+        self.assertIn("a.ob:1:1: `module` can't stand here, at the begin of a module", told)
+        self.assertIn("expected: MODULE", told)
+        self.assertIn("`module`: reserved words are in capitals, MODULE", told)
+
+    def test_a_sign_of_assignment_is_told(self):
+        source = b"MODULE A; VAR x: INTEGER; BEGIN x = 3 END A."
+        told = self.told(source, "fault grammar token 9 at 34")
+        self.assertIn("a value is assigned by `:=`", told)
+
+    def test_the_end_of_a_text_is_a_place(self):
+        told = self.told(b"MODULE A; BEGIN", "fault grammar token 4 at 15")
+        self.assertIn("the module does not end here; expected: a statement", told)
+
+    def test_other_files(self):
+        self.assertIn("PRAI", self.told(b"x", "fault image Magic at 0\n"))
+        self.assertIn("a.ob:1:1: this is no line", self.told(b"x\n", "fault line 1\n"))
+        self.assertIn("no JSON", self.told(b"{", "fault json\n"))
+
+
+class Traps(unittest.TestCase):
+    def test_marks_stand_before_statements_and_behind_turns(self):
+        source = b"MODULE M; BEGIN WHILE x < 1 DO x := 2 END END M."
+        marks = list(traps.marks(source))
+        self.assertEqual([source[at : at + 3] for at, _ in marks], [b"WHI", b"x :", b"END"])
+        self.assertEqual(marks[2][1], marks[0][1])
+
+    def test_the_last_mark_is_that_of_the_trap(self):
+        self.assertEqual(traps.last_mark(b" 7 -2000000005 -3 -2000000012 8"), 12)
+        self.assertIsNone(traps.last_mark(b" 7"))
+
+    @needs.compiler
+    def test_a_trap_is_found_in_its_statement(self):
+        source = b"MODULE M;\nVAR x: INTEGER;\nBEGIN\n  x := 1;\n  x := x DIV (x - 1)\nEND M.\n"
+        with tempfile.TemporaryDirectory(prefix="pra-traps-") as room:
+            with open(f"{room}/a.ob", "wb") as file:
+                file.write(source)
+            name = f"{room}/a.ob"
+            told = traps.told(name, source, "trap Divide units 1 reads 0", needs.program(), None)
+        self.assertEqual(told[0].removeprefix(f"{room}/").split(" ")[0], "a.ob:5:3:")
+
+
+if __name__ == "__main__":
+    unittest.main()

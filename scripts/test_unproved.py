@@ -1,0 +1,137 @@
+"""Tests of the unproved program that is kept, without the kit."""
+
+import os
+import stat
+import subprocess
+import sys
+import tempfile
+import threading
+import unittest
+from unittest import mock
+
+import unproved
+
+SAYS = "#!/bin/sh\necho out; echo notes >&2; cat; exit 3\n"
+STOPS = "#!/bin/sh\nexit 70\n"
+
+
+class Kept(unittest.TestCase):
+    """A checkout in a folder of its own, whose program is a shell script."""
+
+    def setUp(self):
+        room = tempfile.TemporaryDirectory(prefix="pra-unproved-")
+        self.addCleanup(room.cleanup)
+        self.top, self.kit = room.name, f"{room.name}/rt"
+        os.makedirs(f"{self.top}/crates/pra/src")
+        for name in ("crates.txt", "crates/pra/src/main.rt"):
+            self.write(name, "pra: pra_base\n")
+        self.write("rt", "")
+        for name, value in (
+            ("TOP", self.top),
+            ("KEPT", f"{self.top}/.unproved"),
+            ("kit", lambda: self.kit),
+            ("sum_of_all", lambda: self.sum),
+        ):
+            patch = mock.patch.object(unproved, name, value)
+            patch.start()
+            self.addCleanup(patch.stop)
+        self.sum = "a" * 64
+        os.makedirs(unproved.KEPT)
+
+    def write(self, name, text):
+        with open(f"{self.top}/{name}", "w", encoding="utf-8") as file:
+            file.write(text)
+        return f"{self.top}/{name}"
+
+    def hand_in(self, text=SAYS):
+        """Keeps a program, as a build does."""
+        with tempfile.TemporaryDirectory(dir=unproved.KEPT) as room:
+            with open(f"{room}/pra", "w", encoding="utf-8") as file:
+                file.write(text)
+            os.chmod(f"{room}/pra", stat.S_IRWXU)
+            name = f"{unproved.KEPT}/pra-{self.sum[:16]}"
+            unproved.hand_in(f"{room}/pra", name, self.sum, room)
+        return name
+
+    def kept(self):
+        return unproved.kept(f"{unproved.KEPT}/pra")
+
+    def test_nothing_is_kept_at_first(self):
+        self.assertIsNone(self.kept())
+
+    def test_what_was_handed_in_is_kept(self):
+        name = self.hand_in()
+        self.assertEqual(self.kept(), name)
+
+    def test_a_source_that_was_touched_alone_asks_for_no_build(self):
+        name = self.hand_in()
+        later = os.stat(f"{unproved.KEPT}/pra.sum").st_mtime + 10
+        os.utime(f"{self.top}/crates/pra/src/main.rt", (later, later))
+        self.assertEqual(self.kept(), name)
+
+    def test_another_sum_asks_for_a_build(self):
+        self.hand_in()
+        later = os.stat(f"{unproved.KEPT}/pra.sum").st_mtime + 10
+        os.utime(f"{self.top}/crates/pra/src/main.rt", (later, later))
+        self.sum = "b" * 64
+        self.assertIsNone(self.kept())
+
+    def test_a_new_program_takes_the_place_of_the_old_one(self):
+        old = self.hand_in()
+        self.sum = "b" * 64
+        new = self.hand_in()
+        self.assertFalse(os.path.exists(old))
+        self.assertEqual(self.kept(), new)
+
+    def test_builds_at_once_leave_one_whole_program(self):
+        threads = [threading.Thread(target=self.hand_in) for _ in range(8)]
+        for it in threads:
+            it.start()
+        for it in threads:
+            it.join()
+        self.assertEqual(self.kept(), f"{unproved.KEPT}/pra-{self.sum[:16]}")
+        self.assertEqual(sorted(os.listdir(unproved.KEPT)), [f"pra-{self.sum[:16]}", "pra.sum"])
+
+
+class Runs(unittest.TestCase):
+    """unproved.run in a process of its own, with a shell script as the program."""
+
+    def call(self, text, words=()):
+        with tempfile.TemporaryDirectory(prefix="pra-unproved-") as room:
+            program = f"{room}/program"
+            with open(program, "w", encoding="utf-8") as file:
+                file.write(text)
+            os.chmod(program, stat.S_IRWXU)
+            code = (
+                "import os, sys; sys.path.insert(0, sys.argv[1]); import unproved\n"
+                "os.dup2(0, 3)\n"
+                "words = [os.fsencode(it) for it in sys.argv[3:]]\n"
+                "sys.exit(unproved.run(sys.argv[2], words))\n"
+            )
+            command = [sys.executable, "-c", code, os.path.dirname(unproved.__file__), program]
+            how = {"input": b"given", "capture_output": True, "check": False}
+            return subprocess.run([*command, *words], **how)
+
+    def test_streams_and_status_are_the_programs(self):
+        ran = self.call(SAYS)
+        self.assertEqual((ran.returncode, ran.stdout), (3, b"out\ngiven"))
+        self.assertEqual(ran.stderr, b"notes\n")
+
+    def test_words_are_handed_on_to_the_byte(self):
+        ran = self.call('#!/bin/sh\nprintf "%s|" "$@"\n', ["a b", "--x=", "\udcff"])
+        self.assertEqual(ran.stdout, b"a b|--x=|\xff|")
+
+    def test_a_check_that_stops_it_is_no_answer(self):
+        self.assertIn(b"NoAnswer", self.call(STOPS).stderr)
+        self.assertIn(b"NoAnswer", self.call("#!/bin/sh\nkill -ILL $$\n").stderr)
+
+
+class Reasons(unittest.TestCase):
+    def test_what_rt_try_says_is_told(self):
+        said = b"warning\nchecked: no-answer: the kit lacks a linker\nrun=none proved=no\n"
+        self.assertIn("the kit lacks a linker", unproved.why_not(said))
+        self.assertIn("error: x", unproved.why_not(b"error: x\n"))
+
+
+if __name__ == "__main__":
+    unittest.main()
