@@ -142,7 +142,10 @@ fn a_host_folder_reads_what_it_wrote(rt: HostRuntime) -> Result<(), Fail> {
     let alloc = rt.alloc();
     let mut folder = HostFolder::new(rt.alloc(), &rt);
     folder.write_file(alloc, NAME, b"45")?;
-    assert_eq!(rt; folder.write_file(alloc, NAME, b"123"), Err(FileFault::Failed));
+    assert_eq!(rt;
+        folder.write_file(alloc, NAME, b"123"),
+        Err(FileFault::Failed)
+    );
     assert_eq!(rt;
         folder.read_file(alloc, NAME, 2)?.as_slice(),
         b"45".as_slice()
