@@ -61,3 +61,26 @@ fn generated_modules_by_their_seeds(rt: HostRuntime) -> Result<(), Fail> {
     let options = "--cost speed --rounds 1 --seed 2147483647 --size 3";
     check_generated(&rt, alloc, options, 2_147_483_647, 3)
 }
+
+// As many rounds as may be asked for, of a module whose best cost stays above its bound.
+#[test]
+fn a_thousand_rounds(rt: HostRuntime) -> Result<(), Fail> {
+    check_generated(&rt, rt.alloc(), "--rounds 1000 --seed 8 --size 1", 8, 1)
+}
+
+// The greatest module that is made is the same at each call, to the byte, and so is its image.
+#[test]
+fn two_hundred_procedures_twice(rt: HostRuntime) -> Result<(), Fail> {
+    let alloc = rt.alloc();
+    let words = "gen G.ob --size 200 --rounds 1";
+    let first = call(alloc, words, b"", b"", ALL_WELL)?;
+    let second = call(alloc, words, b"", b"", ALL_WELL)?;
+    assert_eq!(rt; first.status, 0);
+    assert_eq!(rt; second.status, 0);
+    for name in ["G.ob", "out.pri"] {
+        assert!(rt; first.folder.file(name).is_some(), "{name}");
+        assert_eq!(rt; first.folder.file(name), second.folder.file(name), "{name}");
+    }
+    assert_eq!(rt; first.out.bytes(), second.out.bytes());
+    Ok(())
+}
