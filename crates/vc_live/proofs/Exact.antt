@@ -13,7 +13,7 @@ use Rattle.pra_base.specs.Live.{BetweenReads, ReadBeforeWritten, reads_at, passe
 use Rattle.vc_live.specs.Equations.{before, through, at_exit, at_targets, live_in, IsSound}
 use Rattle.vc_live.specs.Equations.{IsClosed}
 use Rattle.vc_live.specs.Rows.{has_at, constant_at, read_in, RowsOf, AllRows}
-use Rattle.vc_live.proofs.Sweeps.{block_read}
+use Rattle.vc_live.proofs.Made.{block_read}
 use Rattle.vc_live.proofs.Theory.{sound_from, complete_from}
 
 -- ---- reads of a list, and the instructions that make them

@@ -1,8 +1,10 @@
 pub mod SetLemmas
-pub mod Grown
 pub mod Steps
 pub mod Theory
-pub mod Sweeps
+pub mod Made
+pub mod Spreads
+pub mod Solved
+pub mod Sources
 pub mod RowLemmas
 pub mod Exact
 pub mod Past

@@ -1,13 +1,15 @@
 -- What the operations on words do to the members of a set.
 use Rattle.std.proofs.Common.{◌≡◌, ◌≢◌, ℕ, ◌-◌, ◌*◌, ◌/◌, ◌%◌, ◌^◌, ◌<◌, ◌≤◌, inl, inr, Bool, false}
-use Rattle.std.proofs.Common.{not, ◌&&◌, ◌||◌, nat_eq, List, length, get_or, set, bit_and, bit_or}
+use Rattle.std.proofs.Common.{◌+◌, subst, not, ◌&&◌, ◌||◌, nat_eq, [], List, length, get_or, set}
+use Rattle.std.proofs.Common.{bit_and, bit_or}
 use Rattle.std.proofs.Common.{replicate, refl, sym, ap, ◌∙◌, arith, get_or-set_same}
 use Rattle.std.proofs.Common.{get_or-set_other}
 use Rattle.std.specs.Int.{bit_at, bit_not}
 use Rattle.std.proofs.Common.{w64}
 use Rattle.std.proofs.lemmas.Bool.{cases_eq, cases_order}
 use Rattle.std.proofs.lemmas.Bool.Decides.{nat_tests}
-use Rattle.std.proofs.lemmas.List.{get_or_past, get_or_default, get_or-replicate, length-replicate}
+use Rattle.std.proofs.lemmas.List.{set-get_or, get_or_past, get_or_default, get_or-replicate}
+use Rattle.std.proofs.lemmas.List.{length-replicate}
 use Rattle.std.proofs.lemmas.Nat.{le_or_l, or_lt}
 use Rattle.std.proofs.lemmas.Nat.Bits.{bit_at_or, bit_at_and, bit_at_not, bit_at_set_same}
 use Rattle.std.proofs.lemmas.Nat.Bits.{bit_at_set_other, bit_at_clear_same, bit_at_clear_other}
@@ -128,6 +130,41 @@ grown_room xs i b within la lb other =
     let above = grown_word (get_or xs i 0) b la lb other in
     let sums = sum_by-set room_in xs i (bit_or (get_or xs i 0) b) 0 within in
     omega arith
+
+-- the bits of a word are taken in; x is the word there
+pub grown : (xs : List ℕ) (at x more : ℕ) → at < length xs → x ≡ get_or xs at x → (u : ℕ) →
+    contains (set xs at (bit_or x more)) u ≡
+    (contains xs u || (nat_eq (u / 64) at && bit more (u % 64)))
+unfolding contains
+grown xs at x more within read u = elim (cases_eq (u / 64) at) [
+  | inl same ↦
+      let word : x ≡ get_or xs at 0 = read ∙ get_or_default xs at x 0 within in
+      rw (same, get_or-set_same xs at (bit_or x more) 0 within, ← word, bit-or x more (u % 64))
+      (grind (arith, nat_tests))
+  | inr apart ↦ rw (get_or-set_other xs at (u / 64) (bit_or x more) 0 apart)
+      (grind (arith, nat_tests))
+]
+
+-- nothing new is in them
+pub not_grown : (xs : List ℕ) (at x more : ℕ) → at < length xs → x ≡ get_or xs at x →
+    bit_or x more ≡ x → (u : ℕ) →
+    contains xs u ≡ (contains xs u || (nat_eq (u / 64) at && bit more (u % 64)))
+not_grown xs at x more within read same u =
+    ap (λ ys. contains ys u) (sym (rw (same) (set-as_read xs at x read within)))
+    ∙ grown xs at x more within read u
+  where
+    set-as_read : (xs : List ℕ) (at x : ℕ) → x ≡ get_or xs at x → at < length xs → set xs at x ≡ xs
+    set-as_read xs at x read within = rw (read ∙ get_or_default xs at x 0 within)
+        (set-get_or xs at 0)
+
+pub grown_less : (xs : List ℕ) (at x more : ℕ) → at < length xs → x ≡ get_or xs at x →
+    x < 2 ^ 64 → more < 2 ^ 64 → bit_or x more ≢ x → room (set xs at (bit_or x more)) + 1 ≤ room xs
+grown_less xs at x more within read small also other =
+    let word : x ≡ get_or xs at 0 = read ∙ get_or_default xs at x 0 within in
+    let less : room (set xs at (bit_or (get_or xs at 0) more)) < room xs =
+    grown_room xs at more within (subst (λ z. z < 2 ^ 64) word small) also
+    (subst (λ z. bit_or z more ≢ z) word other) in
+    rw word (omega (arith, less))
 
 -- ---- the same, from what is known of each word of the set
 
@@ -257,3 +294,15 @@ confined_all xs ss bs zs same also long words small u = elim (cases_order (u / 6
       get_or_past xs (u / 64) 0 beyond,
       bit_at-zero (u % 64),
     ) refl
+
+-- ---- a word of one of some sets
+
+pub word_of : (sets : List (List ℕ)) (b at : ℕ) (set : List ℕ) (word v : ℕ) → b < length sets →
+    set ≡ get_or sets b set → word ≡ get_or set at 0 → v / 64 ≡ at →
+    bit word (v % 64) ≡ contains (get_or sets b []) v
+unfolding contains
+word_of sets b at set word v within read is here =
+    rw (is, here, ← get_or_default sets b set [] within, ← read) refl
+
+pub no_bits : (i : ℕ) → bit 0 i ≡ false
+no_bits i = rw (bit_at-zero i) refl

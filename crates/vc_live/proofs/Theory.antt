@@ -21,7 +21,7 @@ use Rattle.vc_live.specs.Equations.{IsClosed}
 -- ---- an end
 
 -- what is live at the targets is live at one of them
-target_of : (entries : List (List ℕ)) (end : End) (v : ℕ) → at_targets entries end v ≡ true →
+pub target_of : (entries : List (List ℕ)) (end : End) (v : ℕ) → at_targets entries end v ≡ true →
     (t : ℕ) × IsTarget end t × (contains (entry entries t) v ≡ true)
 target_of entries (Jump b) v e = (b.0, refl, e)
 target_of entries (Branch c one other) v e = chosen (contains (entry entries one.0) v) refl e
@@ -33,7 +33,7 @@ target_of entries (Branch c one other) v e = chosen (contains (entry entries one
     chosen false is e = (other.0, inr refl, e)
 target_of entries Return v e = cc
 
-to_target : (entries : List (List ℕ)) (end : End) (t v : ℕ) → IsTarget end t →
+pub to_target : (entries : List (List ℕ)) (end : End) (t v : ℕ) → IsTarget end t →
     contains (entry entries t) v ≡ true → at_targets entries end v ≡ true
 to_target entries (Jump b) t v at has = rw at has
 to_target entries (Branch c one other) t v (inl at) has = rw (at, has) refl

@@ -1,5 +1,5 @@
 -- The equations of liveness over blocks (Appel, Modern Compiler Implementation, section 10.1).
-use Rattle.std.specs.Prelude.{◌≡◌, ℕ, ◌+◌, ◌/◌, ◌<◌, ◌≤◌, sum_by, if◌then◌else◌, Bool, true, false}
+use Rattle.std.specs.Prelude.{◌≡◌, ℕ, ◌/◌, ◌<◌, sum_by, Bool, true, false}
 use Rattle.std.specs.Prelude.{not, ◌||◌, ◌&&◌, nat_eq, List, [], ◌∷◌, drop, length, slice_get}
 use Rattle.std.specs.Prelude.{slice_index_or, Some}
 use Rattle.std.specs.List.{list_any}
@@ -93,14 +93,3 @@ pub record Shape (words : ℕ) (code : VProc) (entries : List (List ℕ)) : Type
 -- how far the entries may still grow
 unfoldable pub total_room : List (List ℕ) → ℕ
 total_room entries = sum_by room entries
-
--- what has come of the entries after the blocks from b on were asked, where none has grown unless
--- `grown`
-pub record Swept (words : ℕ) (code : VProc) (constants : ℕ → Bool)
-    (start now : List (List ℕ)) (b : ℕ) (grown : Bool) : Type 0 where
-  pub shape : Shape words code now
-  pub sound : IsSound code constants start → IsSound code constants now
-  pub same : grown ≡ false → now ≡ start
-  pub closed : grown ≡ false → (c : ℕ) → b ≤ c → c < length code.blocks →
-      IsClosedAt code constants now c
-  pub room : total_room now + (if grown then 1 else 0) ≤ total_room start

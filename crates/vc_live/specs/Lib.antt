@@ -3,3 +3,4 @@ pub mod Least
 pub mod Rows
 pub mod Sets
 pub mod Sized
+pub mod Spreading

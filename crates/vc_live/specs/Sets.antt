@@ -5,6 +5,10 @@ use Rattle.std.specs.Int.{bit_at}
 unfoldable pub contains : List ℕ → ℕ → Bool
 contains set v = nat_eq (bit_at (slice_index set (v / 64)) (v % 64)) 1
 
+-- a word has the bit of this number
+abbrev pub has_bit : ℕ → ℕ → Bool
+has_bit word i = nat_eq (bit_at word i) 1
+
 -- how far the words are from their greatest value
 abbrev pub room_in : ℕ → ℕ
 room_in word = 2 ^ 64 - 1 - word

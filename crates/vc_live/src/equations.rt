@@ -4,7 +4,7 @@
 ghost use Rattle.std.specs.Prelude.{◌≡◌, ℕ, ◌+◌, ◌/◌, ◌<◌, ◌≤◌, ◌||◌, ◌&&◌, not, length, true};
 ghost use Rattle.std.specs.Prelude.{false, if◌then◌else◌, slice_get, Some};
 ghost use Rattle.pra_base.specs.Code.{block_in};
-ghost use Rattle.pra_base.specs.Operands.{reads};
+ghost use Rattle.pra_base.specs.Operands.{reads, writes};
 ghost use Rattle.vc_live.specs.Sets.{contains};
 ghost use Rattle.vc_live.specs.Equations.{named_in, before, through, at_exit, HasRoom, Fits};
 ghost use Rattle.vc_live.specs.Equations.{FitsEnd, HaveWords, entry, at_targets};
@@ -45,6 +45,16 @@ pub fn mark_reads(set: &mut BitSet, instr: &VInstr)
 {
     let marked = operands(instr);
     insert_all(set, marked.reads.as_slice());
+}
+
+/// Marks what the instruction writes.
+pub fn mark_writes(set: &mut BitSet, instr: &VInstr)
+    requires { HasRoom set.old instr.now }
+    ensures words { length set.new ≡ length set.old }
+    ensures members { (v : ℕ) → contains set.new v ≡ (writes instr.now v || contains set.old v) }
+{
+    let marked = operands(instr);
+    insert_all(set, marked.writes.as_slice());
 }
 
 /// From what is live after the instruction to what is live before it.

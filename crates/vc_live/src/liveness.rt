@@ -6,14 +6,14 @@ ghost use Rattle.pra_base.specs.Code.{end_of, code_of};
 ghost use Rattle.pra_base.specs.Valid.{IsSized};
 ghost use Rattle.vc_live.specs.Least.{IsLeastFrom};
 ghost use Rattle.vc_live.specs.Sets.{contains};
-ghost use Rattle.vc_live.specs.Equations.{InRange, Shape, IsSound, IsClosed, Fits, FitsEnd};
+ghost use Rattle.vc_live.specs.Equations.{InRange, Shape, Fits, FitsEnd};
 ghost use Rattle.vc_live.specs.Equations.{HaveWords, at_exit};
 ghost use Rattle.vc_live.specs.Rows.{AreConstants, AllRows, RowsBack, RowsOf, Confined};
 ghost use Rattle.vc_live.specs.Rows.{constant_at, live_at, has_at, IsLiveness};
 
 use crate::equations::{mark_reads, start_at_exit, step_back};
 use crate::sets::BitSet;
-use crate::solve::solve;
+use crate::solve::{Flow, flow_of, solve};
 use pra_base::{Block, BlockId, OutOfMemory, VProc, VarId, VarKind};
 use pra_list::Seq;
 use std::alloc::{AllocError, Global};
@@ -112,20 +112,6 @@ fn constants(alloc: Global, code: &VProc) -> Result<BitSet, AllocError>
         }
     }
     Ok(set)
-}
-
-// An empty set for each block.
-fn no_entries(alloc: Global, code: &VProc) -> Result<Vec<BitSet>, AllocError>
-    ensures shape { IfOk result (λ entries.
-        Shape (length code.now.vars / 64 + 1) code.now entries.items) }
-    ensures sound { IfOk result (λ entries. (constants : ℕ → Bool) →
-        IsSound code.now constants entries.items) }
-{
-    let mut entries = Vec::with_capacity(alloc, code.blocks.len())?;
-    for _ in 0..code.blocks.len() {
-        entries.push(BitSet::empty(alloc, code.vars.len())?)?;
-    }
-    Ok(entries)
 }
 
 // What is live at the points of a block, from its end to its begin; of the constants what is read
@@ -229,9 +215,10 @@ pub fn live(alloc: Global, code: &VProc) -> Result<Liveness, OutOfMemory>
     ensures { IfOk result (λ liveness. IsLiveness code.now liveness) }
 {
     let constants = constants(alloc, code)?;
-    let mut entries = no_entries(alloc, code)?;
+    let flow = flow_of(alloc, code, constants)?;
+    let entries = solve(alloc, code, &flow)?;
+    let Flow { constants, .. } = flow;
     let mut now = BitSet::empty(alloc, code.vars.len())?;
-    solve(&mut entries, &mut now, code, &constants);
     let blocks = all_rows(alloc, code, entries.as_slice(), &mut now, &constants)?;
     Ok(Liveness { constants, blocks })
 }

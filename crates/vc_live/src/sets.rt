@@ -2,7 +2,8 @@
 
 ghost use Rattle.std.specs.Prelude.{◌≡◌, ℕ, ◌+◌, ◌*◌, ◌/◌, ◌<◌, ◌≤◌, ◌||◌, ◌&&◌, not, nat_eq};
 ghost use Rattle.std.specs.Prelude.{length, IfOk, IsTrue, true, false, List, if◌then◌else◌};
-ghost use Rattle.vc_live.specs.Sets.{contains, room};
+ghost use Rattle.std.specs.Prelude.{◌%◌, slice_index};
+ghost use Rattle.vc_live.specs.Sets.{contains, has_bit, room};
 
 use std::alloc::{AllocError, Global};
 use std::marker::Model;
@@ -121,25 +122,36 @@ impl BitSet {
         }
     }
 
-    /// Takes in the numbers of another set, and says whether one of them is new.
-    pub fn grow(&mut self, other: &BitSet) -> bool
-        requires { length self.old ≡ length other.now }
+    /// How many words there are.
+    pub fn words(&self) -> usize
+        ensures { result ≡ length self.now }
+    {
+        self.words.len()
+    }
+
+    /// The word of this number.
+    pub fn word(&self, at: usize) -> u64
+        requires { at < length self.now }
+        ensures { result ≡ slice_index self.now at }
+    {
+        self.words[at]
+    }
+
+    /// Takes in the numbers that the bits of a word stand for, and says whether one of them is new.
+    pub fn grow(&mut self, at: usize, more: u64) -> bool
+        requires { at < length self.old }
         ensures words { length self.new ≡ length self.old }
-        ensures members { (u : ℕ) →
-            contains self.new u ≡ (contains self.old u || contains other.now u) }
+        ensures members { (u : ℕ) → contains self.new u ≡
+            (contains self.old u || (nat_eq (u / 64) at && has_bit more (u % 64))) }
         ensures same { result ≡ false → self.new ≡ self.old }
         ensures room { room self.new + (if result then 1 else 0) ≤ room self.old }
     {
-        let mut grown = false;
-        for i in 0..self.words.len() {
-            let old = self.words[i];
-            let more = other.words[i];
-            if old | more != old {
-                self.words[i] = old | more;
-                grown = true;
-            }
+        let old = self.words[at];
+        if old | more == old {
+            return false;
         }
-        grown
+        self.words[at] = old | more;
+        true
     }
 
     /// A set with the same numbers.

@@ -1,5 +1,5 @@
 use Rattle.std.proofs.Common.{◌≡◌, ◌<◌, length, get_or, ap, subst, refl, arith}
-use Rattle.vc_live.proofs.Sweeps.{fits_block}
+use Rattle.vc_live.proofs.Made.{fits_block}
 use Rattle.vc_live.proofs.liveness.all_rows.Goals as goal
 
 pub block_rows-requires-clause-code : goal.block_rows-requires-clause-code

@@ -1,0 +1,8 @@
+use Rattle.std.proofs.Common.{length}
+use Rattle.vc_live.specs.Sets.{contains}
+use Rattle.vc_live.specs.Spreading.{AreMade}
+use Rattle.vc_live.proofs.solve.made.Given as goal
+
+abbrev pub invariant-loop-block : goal.invariant-loop-block
+invariant-loop-block l = AreMade (length l.constants) l.code (contains l.constants) l.sets.items
+    l.block-index
