@@ -1,6 +1,6 @@
 -- DIV and MOD whole.
-use Rattle.std.proofs.Common.{◌≡◌, ℕ, ◌<◌, ◌≤◌, Bool, true, false, length, Ok, Err, refl, subst}
-use Rattle.std.proofs.Common.{arith}
+use Rattle.std.proofs.Common.{◌≡◌, ◌≢◌, ℕ, ◌<◌, ◌≤◌, Bool, true, false, length, Ok, Err, refl}
+use Rattle.std.proofs.Common.{subst, arith}
 use Rattle.std.specs.Prelude.{ℤ, pos, ◌<ℤ◌, int_lt, int_div, int_rem, if◌then◌else◌}
 use Rattle.std.specs.Int.{w32}
 use Rattle.std.specs.Int.RustNames.{FitsSigned}
@@ -9,7 +9,10 @@ use Rattle.pra_base.specs.Words.{word, floored_quotient, floored_remainder}
 use Rattle.pra_base.specs.declared.event.TrapKind.TheVariants.{Divide}
 use Rattle.pra_base.specs.declared.code.VProc.{VProc}
 use Rattle.ob_syntax.specs.Operators.{number}
-use Rattle.ob_syntax.specs.declared.checked.ROp.TheVariants.{Div, Mod, Sub}
+use Rattle.ob_syntax.specs.declared.checked.ROp.{ROp}
+use Rattle.ob_syntax.specs.declared.checked.ROp.TheVariants.{Mul, Div, Mod, Both, Add, Sub, Either}
+use Rattle.ob_syntax.specs.declared.checked.ROp.TheVariants.{Equal, Unequal, Less, LessEqual}
+use Rattle.ob_syntax.specs.declared.checked.ROp.TheVariants.{Greater, GreaterEqual}
 use Rattle.ob_syntax.specs.declared.checked.Value.{Value}
 use Rattle.ob_syntax.specs.declared.checked.Value.TheVariants.{Number, Truth}
 use Rattle.vc_code.specs.declared.value.Value.TheVariants.{Num}
@@ -20,7 +23,7 @@ use Rattle.vc_build.specs.Runs.{Codes, RunsIn, SameBelow, Reaches, Holds, Yields
 use Rattle.vc_build.proofs.Growth.{grows_at_again}
 use Rattle.vc_build.proofs.Steps.{same_on, reaches_on, runs_in_earlier, runs_in_on}
 use Rattle.vc_expr.specs.Operators.{Adds, Begins, HasValue, Gives, Operates}
-use Rattle.vc_expr.specs.Division.{Stays, HoldsParts, Splits, Rounds}
+use Rattle.vc_expr.specs.Division.{is_division, Stays, HoldsParts, Splits, Rounds}
 use Rattle.vc_expr.specs.declared.division.Parts.{Parts}
 use Rattle.vc_expr.proofs.Operations.{same_fewer}
 use Rattle.vc_expr.proofs.Divisions.{value_on}
@@ -171,3 +174,19 @@ module _ (first at : ℕ) (old m1 m2 : VProc) (left target right : ℕ) (parts :
           (rounding.means w id s (Number (int_rem (number x) (number d))) d
           (int_lt (int_rem (number x) (number d)) (pos 0)) run stands held.remainder negative
           hd)
+
+-- the other division
+pub not_mod : (op : ROp) → is_division op ≡ true → op ≢ Mod → Div ≡ op
+not_mod Div e n = refl
+not_mod Mod e n = absurd (n refl)
+not_mod Mul e n = absurd (cc)
+not_mod Both e n = absurd (cc)
+not_mod Add e n = absurd (cc)
+not_mod Sub e n = absurd (cc)
+not_mod Either e n = absurd (cc)
+not_mod Equal e n = absurd (cc)
+not_mod Unequal e n = absurd (cc)
+not_mod Less e n = absurd (cc)
+not_mod LessEqual e n = absurd (cc)
+not_mod Greater e n = absurd (cc)
+not_mod GreaterEqual e n = absurd (cc)

@@ -82,7 +82,7 @@ has_constant w id v c n fits kind =
 
 -- ---- the test of the divisor
 
-words_same : (a b : ℕ) → ◌≡◌ {A = Option Word} (Some (Num a)) (Some (Num b)) → a ≡ b
+pub words_same : (a b : ℕ) → ◌≡◌ {A = Option Word} (Some (Num a)) (Some (Num b)) → a ≡ b
 words_same a b e = cc
 
 module _ (at : ℕ) (old : VProc) (v : VarId) (o : IsOpen old at) where

@@ -11,6 +11,8 @@ pub mod Reaching
 pub mod Splitting
 pub mod Rounding
 pub mod Dividing
+pub mod Powers
+pub mod ByPowers
 pub mod Branching
 pub mod Choosing
 pub mod Rules

@@ -1,18 +1,18 @@
 -- What makes up for a negative remainder.
 use Rattle.std.proofs.Common.{◌≡◌, ◌≢◌, ℕ, ◌-◌, ◌^◌, ◌<◌, ◌≤◌, Bool, true, false, length, refl, sym}
-use Rattle.std.proofs.Common.{ap, ◌∙◌, subst, ⊎_elim, inl, inr, arith}
-use Rattle.std.specs.Prelude.{ℤ, pos, negsuc, ◌+ℤ◌, ◌-ℤ◌, ◌*ℤ◌, ◌<ℤ◌, int_lt, int_div, int_rem}
+use Rattle.std.proofs.Common.{ap, ◌∙◌, subst, ⊎_elim, inl, inr, Ok, arith}
+use Rattle.std.specs.Prelude.{ℤ, pos, negsuc, ◌+ℤ◌, ◌-ℤ◌, ◌*ℤ◌, ◌<ℤ◌, ◌⊎◌, int_lt, int_div, int_rem}
 use Rattle.std.specs.Prelude.{bit_and, if◌then◌else◌}
 use Rattle.std.specs.Int.{w32}
 use Rattle.std.specs.Int.RustNames.{FitsSigned, unsigned_abs}
 use Rattle.std.proofs.lemmas.Bool.Decides.{nat_tests}
-use Rattle.std.proofs.lemmas.Int.{ints, quot-rem, rem_below, quot_fits, int_wrap_fits}
-use Rattle.std.proofs.lemmas.Nat.{and_mask, and_comm}
-use Rattle.pra_base.specs.Words.{word, floored_quotient, floored_remainder}
+use Rattle.std.proofs.lemmas.Int.{ints, of_z-to_z, quot-rem, rem_below, quot_fits, int_wrap_fits}
+use Rattle.std.proofs.lemmas.Nat.{and_mask, and_comm, and_le_l}
+use Rattle.pra_base.specs.Words.{word, signed, floored_quotient, floored_remainder}
 use Rattle.pra_base.specs.declared.ids.VarId.{VarId}
 use Rattle.pra_base.specs.declared.code.VInstr.TheVariants.{And}
 use Rattle.pra_base.specs.declared.code.VProc.{VProc}
-use Rattle.ob_syntax.specs.Operators.{number, wrapped, negated}
+use Rattle.ob_syntax.specs.Operators.{Outcome, number, wrapped, negated}
 use Rattle.ob_syntax.specs.declared.checked.ROp.TheVariants.{Add}
 use Rattle.ob_syntax.specs.declared.checked.Value.{Value}
 use Rattle.ob_syntax.specs.declared.checked.Value.TheVariants.{Number, Truth}
@@ -23,18 +23,59 @@ use Rattle.vc_build.specs.Runs.{Codes, RunsIn, SameBelow, Reaches, Stands}
 use Rattle.vc_build.proofs.Growth.{grows_at_again}
 use Rattle.vc_build.proofs.Steps.{same_on, runs_in_earlier, runs_in_on}
 use Rattle.vc_expr.specs.Operators.{Begins, HasValue, Gives, Converts, Combines, Operates}
-use Rattle.vc_expr.specs.Division.{IsMask, masked, Rounds}
+use Rattle.vc_expr.specs.Division.{AnySides, common_bits, in_common, Rounds}
 use Rattle.vc_expr.proofs.Operations.{same_fewer, operates_adds, operates_where}
 use Rattle.vc_expr.proofs.Divisions.{value_on, given_value}
+use Rattle.vc_expr.proofs.Relations.{back}
 use Rattle.vc_expr.proofs.Reaching.{reaches_as, reaches_then}
 
--- ---- masks
-
-all_bits : (n : ℕ) → n < 2 ^ 32 → bit_and (2 ^ 32 - 1) n ≡ n
-all_bits n lt = and_comm (2 ^ 32 - 1) n ∙ and_mask n 32 ∙ omega (arith, lt)
+-- ---- bits
 
 word_below : (a : ℤ) → FitsSigned w32 a → word a < 2 ^ 32
 word_below a f = omega (arith, ints)
+
+bits_below : (x y : ℤ) → FitsSigned w32 x → bit_and (word x) (word y) < 2 ^ 32
+bits_below x y f = omega (arith, word_below x f, and_le_l (word x) (word y))
+
+signed_fits : (a : ℕ) → a < 2 ^ 32 → FitsSigned w32 (signed a)
+signed_fits a h = omega (arith, ints)
+
+module _ (first at : ℕ) (old mid : VProc) (left : ℕ) (target right : VarId)
+    (b : Begins first at old mid left target.0) (named : right.0 < length old.vars)
+    (low : first ≤ length old.vars) where
+  pub bits_combine : Combines AnySides in_common first at old
+      (with_instr at (And target right) mid) left right.0 target.0
+  bits_combine = record {
+    adds = operates_adds first at old mid left target right b named low (And target right) refl refl
+        AnySides in_common (λ x y. Number (common_bits (number x) (number y))) bit_and
+        (λ x y. refl)
+        (λ x y p f g. signed_fits (bit_and (word (number x)) (word (number y)))
+        (bits_below (number x) (number y) f))
+        (λ x y p f g. sym (of_z-to_z w32 (bit_and (word (number x)) (word (number y)))
+        (bits_below (number x) (number y) f))) (λ h a c. refl);
+    means = λ w id s x y r stands hx hy p.
+        operates_where first at old mid left target right b named low (And target right) refl refl
+        AnySides in_common (λ x y. Number (common_bits (number x) (number y))) bit_and
+        (λ x y. refl)
+        (λ x y p f g. signed_fits (bit_and (word (number x)) (word (number y)))
+        (bits_below (number x) (number y) f))
+        (λ x y p f g. sym (of_z-to_z w32 (bit_and (word (number x)) (word (number y)))
+        (bits_below (number x) (number y) f))) (λ h a c. refl)
+        w id s x y r stands hx hy p;
+  }
+
+-- ---- masks
+
+-- all bits are set, or none
+abbrev pub IsMask : Value → Value → Type 0
+IsMask x y = (number x ≡ negsuc 0) ⊎ (number x ≡ pos 0)
+
+-- what a mask leaves of a number
+abbrev pub masked : Value → Value → Outcome
+masked x y = Ok (Number (if int_lt (number x) (pos 0) then number y else pos 0))
+
+all_bits : (n : ℕ) → n < 2 ^ 32 → bit_and (2 ^ 32 - 1) n ≡ n
+all_bits n lt = and_comm (2 ^ 32 - 1) n ∙ and_mask n 32 ∙ omega (arith, lt)
 
 mask_at : (x y : Value) (m : ℤ) → number x ≡ m → bit_and (word m) (word (number y)) ≡
     word (if int_lt m (pos 0) then number y else pos 0) →
@@ -59,23 +100,18 @@ mask_fits false n f = omega (arith, ints)
 abbrev mask_value : Value → Value → Value
 mask_value x y = Number (if int_lt (number x) (pos 0) then number y else pos 0)
 
-module _ (first at : ℕ) (old mid : VProc) (left : ℕ) (target right : VarId)
-    (b : Begins first at old mid left target.0) (named : right.0 < length old.vars)
-    (low : first ≤ length old.vars) where
-  pub mask_combines : Combines IsMask masked first at old (with_instr at (And target right) mid)
-      left right.0 target.0
-  mask_combines = record {
-    adds = operates_adds first at old mid left target right b named low (And target right) refl refl
-        IsMask masked mask_value bit_and
-        (λ x y. refl) (λ x y p f g. mask_fits (int_lt (number x) (pos 0)) (number y) g)
-        (λ x y p f g. masks x y g p) (λ h a c. refl);
-    means = λ w id s x y r stands hx hy p.
-        operates_where first at old mid left target right b named low (And target right) refl refl
-        IsMask masked mask_value bit_and
-        (λ x y. refl) (λ x y p f g. mask_fits (int_lt (number x) (pos 0)) (number y) g)
-        (λ x y p f g. masks x y g p) (λ h a c. refl)
-        w id s x y r stands hx hy p;
-  }
+pub masks_combine : (first at : ℕ) (old new : VProc) (left right v : ℕ) →
+    Combines AnySides in_common first at old new left right v →
+    Combines IsMask masked first at old new left right v
+masks_combine first at old new left right v c = record {
+  adds = c.adds;
+  means = λ w id s x y r stands hx hy p.
+      subst (λ n. Reaches w s (Gives w id new at v first s.top (Number n)))
+      (ap signed (masks x y hy.fits p)
+      ∙ back (if int_lt (number x) (pos 0) then number y else pos 0)
+      (mask_fits (int_lt (number x) (pos 0)) (number y) hy.fits))
+      (c.means w id s x y r stands hx hy tt);
+}
 
 -- ---- the remainder that is rounded down
 

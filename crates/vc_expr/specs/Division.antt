@@ -1,6 +1,6 @@
 -- What the code of DIV and MOD does, part by part. The machine divides by a positive number,
 -- rounding toward zero.
-use Rattle.std.specs.Prelude.{◌≡◌, ◌≢◌, ℕ, ◌<◌, ◌⊎◌, ℤ, pos, negsuc, ◌+ℤ◌, ◌<ℤ◌}
+use Rattle.std.specs.Prelude.{◌≡◌, ◌≢◌, ℕ, ◌<◌, ◌^◌, ℤ, pos, ◌+ℤ◌, ◌<ℤ◌, bit_and}
 use Rattle.std.specs.Prelude.{int_lt, int_le, int_div, int_rem, Bool, true, false, if◌then◌else◌}
 use Rattle.std.specs.Prelude.{Result, Ok, Err, length}
 use Rattle.pra_base.specs.declared.event.TrapKind.{TrapKind}
@@ -8,6 +8,7 @@ use Rattle.pra_base.specs.declared.event.TrapKind.TheVariants.{Divide}
 use Rattle.pra_base.specs.declared.code.VarKind.{VarKind}
 use Rattle.pra_base.specs.declared.code.VarKind.TheVariants.{Constant}
 use Rattle.pra_base.specs.declared.code.VProc.{VProc}
+use Rattle.pra_base.specs.Words.{word, signed, floored_quotient, floored_remainder}
 use Rattle.ob_syntax.specs.Operators.{Outcome, number, wrapped}
 use Rattle.ob_syntax.specs.declared.checked.ROp.{ROp}
 use Rattle.ob_syntax.specs.declared.checked.ROp.TheVariants.{Div, Mod}
@@ -82,15 +83,20 @@ pub record Splits (at : ℕ) (old new : VProc) (dividend divisor : ℕ) (parts :
       HasValue w id parts.negative.0 c (Truth (int_lt (int_rem (number x) (number d)) (pos 0))))
       (positive (number d))
 
+-- ---- bits
+
+-- whatever the sides are
+abbrev pub AnySides : Value → Value → Type 0
+AnySides x y = Unit {0}
+
+-- the number whose word has the bits that two words have in common
+abbrev pub common_bits : ℤ → ℤ → ℤ
+common_bits x y = signed (bit_and (word x) (word y))
+
+abbrev pub in_common : Value → Value → Outcome
+in_common x y = Ok (Number (common_bits (number x) (number y)))
+
 -- ---- the remainder that is rounded down
-
--- all bits are set, or none
-abbrev pub IsMask : Value → Value → Type 0
-IsMask x y = (number x ≡ negsuc 0) ⊎ (number x ≡ pos 0)
-
--- what a mask leaves of a number
-abbrev pub masked : Value → Value → Outcome
-masked x y = Ok (Number (if int_lt (number x) (pos 0) then number y else pos 0))
 
 -- The added code gives the remainder, and the divisor more where it is negative.
 pub record Rounds (first at : ℕ) (old new : VProc) (remainder negative divisor v : ℕ) : Type 0 where
@@ -100,6 +106,21 @@ pub record Rounds (first at : ℕ) (old new : VProc) (remainder negative divisor
       HasValue w id negative s.top (Truth b) → HasValue w id divisor s.top d →
       Reaches w s (Gives w id new at v first s.top
       (Number (wrapped (number r +ℤ (if b then number d else pos 0)))))
+
+-- ---- powers of two
+
+-- a power of two of 32 bits
+pub record IsPower (n : ℤ) : Type 0 where
+  pub exponent : ℕ
+  pub small : exponent < 31
+  pub is : n ≡ pos (2 ^ exponent)
+
+-- DIV and MOD by a number
+abbrev pub quotient_by : ℤ → Value → Value
+quotient_by d x = Number (floored_quotient (number x) d)
+
+abbrev pub remainder_by : ℤ → Value → Value
+remainder_by d x = Number (floored_remainder (number x) d)
 
 -- ---- what is read
 

@@ -7,7 +7,7 @@ ghost use Rattle.pra_base.specs.declared.code.VarKind.TheVariants.{Constant};
 ghost use Rattle.vc_build.specs.Grow.{IsOpen};
 ghost use Rattle.vc_expr.specs.Operators.{Combines, Operates};
 ghost use Rattle.vc_expr.specs.Division.{is_division, is_tested, Checks, Divides, Splits};
-ghost use Rattle.vc_expr.specs.Division.{IsMask, masked, Rounds};
+ghost use Rattle.vc_expr.specs.Division.{AnySides, in_common, Rounds};
 ghost use Rattle.pra_base.specs.Code.{kind_of};
 ghost use Rattle.pra_base.specs.declared.code.VarKind.TheVariants.{Plain};
 ghost use Rattle.vc_expr.specs.Rules.{OperandsApart, StaysValid};
@@ -16,6 +16,7 @@ ghost use Rattle.vc_expr.specs.Division.{ReadsSplit, ReadsRounding};
 ghost use Rattle.vc_expr.specs.Counts.{AddsAtMost, OperationAdds};
 
 use crate::arithmetic::select_arithmetic;
+use crate::power::{power_of, select_by_power};
 use crate::relation::select_relation;
 use crate::sign::select_negation;
 use crate::start::start;
@@ -66,7 +67,11 @@ fn check_divisor(
 }
 
 /// Quotient and remainder, in new variables.
-fn divide(
+///
+/// # Errors
+///
+/// Where there is no memory; the code is of no use then.
+pub fn divide(
     alloc: Global,
     code: &mut VProc,
     at: BlockId,
@@ -132,30 +137,30 @@ fn split(
     })
 }
 
-/// What a mask leaves of a number: the start of the operation, and then And.
-fn select_mask(
+/// The bits that two operands have in common: the start of the operation, and then And.
+pub fn select_and(
     alloc: Global,
     code: &mut VProc,
     at: BlockId,
     first: u32,
-    mask: VarId,
-    number: VarId,
+    left: VarId,
+    right: VarId,
 ) -> Result<VarId, OutOfMemory>
     requires is_open { IsOpen code.old at.0 }
-    requires mask { mask.0 < length code.old.vars }
-    requires number { number.0 < length code.old.vars }
+    requires left { left.0 < length code.old.vars }
+    requires right { right.0 < length code.old.vars }
     requires first { first ≤ length code.old.vars }
     ensures is_open { OnOk result (IsOpen code.new at.0) }
     ensures vars { OnOk result (length code.old.vars ≤ length code.new.vars) }
     ensures combines { IfOk result (λ v.
-        Combines IsMask masked first at.0 code.old code.new mask.0 number.0 v.0) }
-    ensures counts { OnOk result (OperationAdds 1 0 0 first mask.0 code.old code.new) }
+        Combines AnySides in_common first at.0 code.old code.new left.0 right.0 v.0) }
+    ensures counts { OnOk result (OperationAdds 1 0 0 first left.0 code.old code.new) }
     ensures valid { OnOk result (StaysValid code.old code.new) }
     ensures reads { IfOk result (λ v.
-        ReadsOperands first at.0 code.old code.new mask.0 number.0 v.0) }
+        ReadsOperands first at.0 code.old code.new left.0 right.0 v.0) }
 {
-    let target = start(alloc, code, at, first, mask)?;
-    put(alloc, code, at, VInstr::And(target, number))?;
+    let target = start(alloc, code, at, first, left)?;
+    put(alloc, code, at, VInstr::And(target, right))?;
     Ok(target)
 }
 
@@ -184,7 +189,7 @@ fn round_remainder(
         ReadsRounding at.0 code.old code.new parts divisor.0 v.0) }
 {
     let mask = select_negation(alloc, code, at, parts.negative.0, parts.negative)?;
-    let added = select_mask(alloc, code, at, parts.negative.0, mask, divisor)?;
+    let added = select_and(alloc, code, at, parts.negative.0, mask, divisor)?;
     let rounded = select_arithmetic(
         alloc,
         code,
@@ -197,13 +202,9 @@ fn round_remainder(
     Ok(rounded)
 }
 
-/// DIV or MOD of two operands, rounded down: the start of the operation, quotient and remainder,
-/// and what makes up for a negative remainder.
-///
-/// # Errors
-///
-/// Where there is no memory; the code is of no use then.
-pub fn select_division(
+/// DIV or MOD by any divisor: the start of the operation, quotient and remainder, and what makes up
+/// for a negative remainder.
+fn select_floored(
     alloc: Global,
     code: &mut VProc,
     at: BlockId,
@@ -245,6 +246,47 @@ pub fn select_division(
                 parts.quotient,
                 parts.negative,
             )?;
+            Ok(rounded)
+        }
+    }
+}
+
+/// DIV or MOD of two operands, rounded down.
+///
+/// # Errors
+///
+/// Where there is no memory; the code is of no use then.
+pub fn select_division(
+    alloc: Global,
+    code: &mut VProc,
+    at: BlockId,
+    first: u32,
+    op: ROp,
+    left: VarId,
+    right: VarId,
+) -> Result<VarId, OutOfMemory>
+    requires is_open { IsOpen code.old at.0 }
+    requires left { left.0 < length code.old.vars }
+    requires right { right.0 < length code.old.vars }
+    requires first { first ≤ length code.old.vars }
+    requires op { is_division op ≡ true }
+    ensures is_open { OnOk result (IsOpen code.new at.0) }
+    ensures vars { OnOk result (length code.old.vars ≤ length code.new.vars) }
+    ensures operates { IfOk result (λ v.
+        Operates op first at.0 code.old code.new left.0 right.0 v.0) }
+    ensures counts { OnOk result (OperationAdds 6 3 1 first left.0 code.old code.new) }
+    ensures valid { OnOk result
+        (OperandsApart first left.0 right.0 → StaysValid code.old code.new) }
+    ensures reads { IfOk result (λ v. OperandsApart first left.0 right.0 →
+        ReadsOperands first at.0 code.old code.new left.0 right.0 v.0) }
+{
+    match power_of(code.vars[right.0 as usize], right) {
+        Some(power) => {
+            let exact = select_by_power(alloc, code, at, first, op, left, power)?;
+            Ok(exact)
+        }
+        None => {
+            let rounded = select_floored(alloc, code, at, first, op, left, right)?;
             Ok(rounded)
         }
     }

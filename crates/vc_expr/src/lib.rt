@@ -62,6 +62,15 @@
 //! x MOD y    the same up to cmpset   neg v8  and v8, y  add v6, v8
 //! ```
 //!
+//! By a constant that is a power of two the low bits of a word in two's complement are the
+//! remainder, also of a number below 0. Without them the word is that of a multiple, of which there
+//! is nothing to round, and DIV by 1 is its operand (`power`).
+//!
+//! ```text
+//! x MOD 8    copy v4, x  and v4, k5 = 7
+//! x DIV 8    copy v4, x  and v4, k5 = -8  divmod v6, v7, v4, k3 = 8
+//! ```
+//!
 //! # The start of an operation
 //!
 //! The processor's instructions compute in place. So an operation begins with its left or only
@@ -83,6 +92,7 @@ pub mod choice;
 pub mod division;
 pub mod laws;
 pub mod operator;
+pub mod power;
 pub mod relation;
 pub mod sign;
 pub mod start;

@@ -1,116 +1,27 @@
-use Rattle.std.proofs.Common.{◌≡◌, ◌≢◌, true, refl, sym, subst, arith}
-use Rattle.ob_syntax.specs.declared.checked.ROp.{ROp}
-use Rattle.ob_syntax.specs.declared.checked.ROp.TheVariants.{Mul, Div, Mod, Both, Add, Sub, Either}
-use Rattle.ob_syntax.specs.declared.checked.ROp.TheVariants.{Equal, Unequal, Less, LessEqual}
-use Rattle.ob_syntax.specs.declared.checked.ROp.TheVariants.{Greater, GreaterEqual}
+use Rattle.std.proofs.Common.{◌≡◌, sym, ap, ◌∙◌, subst}
+use Rattle.std.proofs.lemmas.List.{get_or_read}
+use Rattle.pra_base.specs.Code.{kind_of}
+use Rattle.pra_base.specs.declared.ids.VarId.{VarId}
+use Rattle.pra_base.specs.declared.code.VarKind.TheVariants.{Plain}
 use Rattle.vc_expr.specs.Operators.{Operates}
-use Rattle.vc_expr.specs.Division.{is_division}
-use Rattle.vc_expr.proofs.Dividing.{quotient_operates, remainder_operates}
-use Rattle.vc_expr.proofs.Added.{valid_on}
-use Rattle.vc_expr.proofs.Whole.{operands_apart, mod_reads, div_reads}
-use Rattle.vc_expr.proofs.Counting.{division_adds, on_temporary}
+use Rattle.vc_expr.specs.Readable.{ReadsOperands}
 use Rattle.vc_expr.proofs.division.select_division.Goals as goal
 
-other : (op : ROp) → is_division op ≡ true → op ≢ Mod → Div ≡ op
-other Div e n = refl
-other Mod e n = absurd (n refl)
-other Mul e n = absurd (cc)
-other Both e n = absurd (cc)
-other Add e n = absurd (cc)
-other Sub e n = absurd (cc)
-other Either e n = absurd (cc)
-other Equal e n = absurd (cc)
-other Unequal e n = absurd (cc)
-other Less e n = absurd (cc)
-other LessEqual e n = absurd (cc)
-other Greater e n = absurd (cc)
-other GreaterEqual e n = absurd (cc)
+pub select_by_power-requires-clause-kind : goal.select_by_power-requires-clause-kind
+select_by_power-requires-clause-kind c =
+    let old = c.args.code.now in
+    ap (λ (v : VarId). kind_of old v.0) c.in-Some.ensures.divisor
+    ∙ sym (get_or_read old.vars c.args.right.0 c.index.result.now c.requires.right c.index.ensures
+    Plain) ∙ c.in-Some.ensures.kind
 
-pub returns-in_ok-rounded-in-Mod-clause-operates : goal.returns-in_ok-rounded-in-Mod-clause-operates
-returns-in_ok-rounded-in-Mod-clause-operates c =
-    subst (λ op. Operates op c.args.first c.args.at.0 c.args.code.now c.round_remainder.new.code
-    c.args.left.0 c.args.right.0 c.in_ok-rounded-in-Mod.rounded.0) (sym c.in-Mod.is)
-    (remainder_operates c.args.first c.args.at.0 c.args.code.now c.start.new.code c.split.new.code
-    c.args.left.0 c.in_ok-dividend.dividend.0 c.args.right.0 c.in_ok-parts.parts
-    c.in_ok-dividend.ensures.begins c.in_ok-parts.ensures.splits c.requires.right c.requires.first
-    c.round_remainder.new.code c.in_ok-rounded-in-Mod.rounded.0
-    c.in_ok-rounded-in-Mod.ensures.rounds)
+pub returns-in_ok-exact-in-Some-clause-operates : goal.returns-in_ok-exact-in-Some-clause-operates
+returns-in_ok-exact-in-Some-clause-operates c =
+    subst (λ (v : VarId). Operates c.args.op c.args.first c.args.at.0 c.args.code.now
+    c.select_by_power.new.code c.args.left.0 v.0 c.in_ok-exact-in-Some.exact.0)
+    c.in-Some.ensures.divisor c.in_ok-exact-in-Some.ensures.operates
 
-pub returns-in_ok-rounded-in_default-clause-operates :
-    goal.returns-in_ok-rounded-in_default-clause-operates
-returns-in_ok-rounded-in_default-clause-operates c =
-    subst (λ op. Operates op c.args.first c.args.at.0 c.args.code.now c.select_arithmetic.new.code
-    c.args.left.0 c.args.right.0 c.in_ok-rounded-in_default.rounded.0)
-    (other c.args.op c.requires.op c.in_default.not-Mod)
-    (quotient_operates c.args.first c.args.at.0 c.args.code.now c.start.new.code c.split.new.code
-    c.args.left.0 c.in_ok-dividend.dividend.0 c.args.right.0 c.in_ok-parts.parts
-    c.in_ok-dividend.ensures.begins c.in_ok-parts.ensures.splits c.requires.right c.requires.first
-    c.select_arithmetic.new.code c.in_ok-rounded-in_default.rounded.0
-    c.in_ok-rounded-in_default.ensures.operates)
-
-pub returns-in_ok-rounded-in-Mod-clause-valid : goal.returns-in_ok-rounded-in-Mod-clause-valid
-returns-in_ok-rounded-in-Mod-clause-valid c = λ apart.
-    let begins = c.in_ok-dividend.ensures.begins in
-    valid_on c.args.code.now c.start.new.code c.round_remainder.new.code
-    c.in_ok-dividend.ensures.valid
-    (valid_on c.start.new.code c.split.new.code c.round_remainder.new.code
-    (c.in_ok-parts.ensures.valid begins.adds.plain
-    (operands_apart c.args.first c.args.at.0 c.args.code.now c.start.new.code c.args.left.0
-    c.in_ok-dividend.dividend.0 c.args.right.0 begins apart c.requires.right))
-    c.in_ok-rounded-in-Mod.ensures.valid)
-
-pub returns-in_ok-rounded-in-Mod-clause-reads : goal.returns-in_ok-rounded-in-Mod-clause-reads
-returns-in_ok-rounded-in-Mod-clause-reads c = λ apart.
-    let begins = c.in_ok-dividend.ensures.begins in
-    mod_reads c.args.first c.args.at.0 c.args.code.now c.start.new.code c.split.new.code
-    c.round_remainder.new.code c.args.left.0 c.in_ok-dividend.dividend.0 c.args.right.0
-    c.in_ok-parts.parts c.in_ok-rounded-in-Mod.rounded.0
-    begins c.in_ok-dividend.ensures.reads c.in_ok-parts.ensures.splits c.in_ok-parts.ensures.reads
-    c.in_ok-rounded-in-Mod.ensures.reads
-    (operands_apart c.args.first c.args.at.0 c.args.code.now c.start.new.code c.args.left.0
-    c.in_ok-dividend.dividend.0 c.args.right.0 begins apart c.requires.right) c.requires.right
-    c.requires.first
-
-pub returns-in_ok-rounded-in_default-clause-valid :
-    goal.returns-in_ok-rounded-in_default-clause-valid
-returns-in_ok-rounded-in_default-clause-valid c = λ apart.
-    let begins = c.in_ok-dividend.ensures.begins in
-    valid_on c.args.code.now c.start.new.code c.select_arithmetic.new.code
-    c.in_ok-dividend.ensures.valid
-    (valid_on c.start.new.code c.split.new.code c.select_arithmetic.new.code
-    (c.in_ok-parts.ensures.valid begins.adds.plain
-    (operands_apart c.args.first c.args.at.0 c.args.code.now c.start.new.code c.args.left.0
-    c.in_ok-dividend.dividend.0 c.args.right.0 begins apart c.requires.right))
-    c.in_ok-rounded-in_default.ensures.valid)
-
-pub returns-in_ok-rounded-in_default-clause-reads :
-    goal.returns-in_ok-rounded-in_default-clause-reads
-returns-in_ok-rounded-in_default-clause-reads c = λ apart.
-    let begins = c.in_ok-dividend.ensures.begins in
-    div_reads c.args.first c.args.at.0 c.args.code.now c.start.new.code c.split.new.code
-    c.select_arithmetic.new.code c.args.left.0 c.in_ok-dividend.dividend.0 c.args.right.0
-    c.in_ok-parts.parts c.in_ok-rounded-in_default.rounded.0
-    begins c.in_ok-dividend.ensures.reads c.in_ok-parts.ensures.splits c.in_ok-parts.ensures.reads
-    c.in_ok-rounded-in_default.ensures.reads
-    (operands_apart c.args.first c.args.at.0 c.args.code.now c.start.new.code c.args.left.0
-    c.in_ok-dividend.dividend.0 c.args.right.0 begins apart c.requires.right) c.requires.right
-    c.requires.first
-
-pub returns-in_ok-rounded-in-Mod-clause-counts : goal.returns-in_ok-rounded-in-Mod-clause-counts
-returns-in_ok-rounded-in-Mod-clause-counts c =
-    let splits = c.in_ok-parts.ensures.splits in
-    division_adds c.args.first c.args.left.0 c.args.code.now c.start.new.code c.split.new.code
-    c.round_remainder.new.code 3 (omega arith)
-    c.in_ok-dividend.ensures.counts c.in_ok-parts.ensures.counts
-    (c.in_ok-rounded-in-Mod.ensures.counts splits.negative.plain splits.remainder.plain)
-
-pub returns-in_ok-rounded-in_default-clause-counts :
-    goal.returns-in_ok-rounded-in_default-clause-counts
-returns-in_ok-rounded-in_default-clause-counts c =
-    let splits = c.in_ok-parts.ensures.splits in
-    let q = c.in_ok-parts.parts.quotient.0 in
-    division_adds c.args.first c.args.left.0 c.args.code.now c.start.new.code c.split.new.code
-    c.select_arithmetic.new.code 1 (omega arith)
-    c.in_ok-dividend.ensures.counts c.in_ok-parts.ensures.counts
-    (on_temporary 1 0 0 q q c.split.new.code c.select_arithmetic.new.code splits.quotient.plain
-    (omega arith) c.in_ok-rounded-in_default.ensures.counts)
+pub returns-in_ok-exact-in-Some-clause-reads : goal.returns-in_ok-exact-in-Some-clause-reads
+returns-in_ok-exact-in-Some-clause-reads c = λ apart.
+    subst (λ (v : VarId). ReadsOperands c.args.first c.args.at.0 c.args.code.now
+    c.select_by_power.new.code c.args.left.0 v.0 c.in_ok-exact-in-Some.exact.0)
+    c.in-Some.ensures.divisor c.in_ok-exact-in-Some.ensures.reads
