@@ -5,32 +5,26 @@
 // Who comes to a cell pays a penalty for each other strand there now, and the cell's history, which
 // grows as long as strands overlap there.
 
+use crate::lanes::heat_crowd;
 use crate::lists::Numbers;
 use crate::rows::FAR;
 use net_form::Net;
 use std::alloc::{AllocError, Global};
 
-/// The registers of a layer: how many strands are in each, the sum of their numbers, what was added
-/// for past overlaps, in scaled units, and in which there is some strand, and more than one.
+/// The registers of a layer: how many strands are in each, what was added for past overlaps, in
+/// scaled units, and the sum of the strands' numbers.
 #[derive(Clone, Copy)]
 pub(crate) struct Cell {
     pub count: [u32; 8],
     pub history: [u32; 8],
     strands: [u32; 8],
-    some: u8,
-    several: u8,
     hot: bool,
 }
 
 impl Cell {
-    /// The registers in which others are than the strand in these ones.
-    pub fn taken(&self, own: u8) -> u8 {
-        (self.some & !own) | self.several
-    }
-
     /// Whether more than one strand is in a register.
     pub fn is_crowded(&self, register: usize) -> bool {
-        (self.several >> (register % 8)) & 1 == 1
+        self.count[register % 8] > 1
     }
 
     /// A strand leaves a register. It says whether others stay there.
@@ -39,14 +33,7 @@ impl Cell {
         let count = self.count[r].wrapping_sub(1);
         self.count[r] = count;
         self.strands[r] = self.strands[r].wrapping_sub(strand);
-        if count == 0 {
-            self.some &= !(1 << r);
-            return false;
-        }
-        if count == 1 {
-            self.several &= !(1 << r);
-        }
-        true
+        count > 0
     }
 
     /// A strand comes to a register.
@@ -56,15 +43,10 @@ impl Cell {
         let other = self.strands[r];
         self.count[r] = count.wrapping_add(1);
         self.strands[r] = other.wrapping_add(strand);
-        self.some |= 1 << r;
-        if count == 0 {
-            return Met::Nobody;
-        }
-        self.several |= 1 << r;
-        if count == 1 {
-            Met::One(other)
-        } else {
-            Met::Several
+        match count {
+            0 => Met::Nobody,
+            1 => Met::One(other),
+            _ => Met::Several,
         }
     }
 }
@@ -81,8 +63,6 @@ const EMPTY: Cell = Cell {
     count: [0; 8],
     history: [0; 8],
     strands: [0; 8],
-    some: 0,
-    several: 0,
     hot: false,
 };
 
@@ -215,6 +195,24 @@ impl Cells {
         };
         if crowded {
             self.heat(layer, register, more);
+        }
+    }
+
+    /// All that more than one strand is in costs more from now on, so much for each of them.
+    pub fn heat_all(&mut self, more: u32) {
+        for layer in 0..self.layers.len() {
+            if let Some(cell) = self.layers.get_mut(layer) {
+                if heat_crowd(&cell.count, &mut cell.history, more) && !cell.hot {
+                    cell.hot = true;
+                    self.hot_layers.push(layer);
+                }
+            }
+        }
+        for pair in 0..self.pairs.len() {
+            let count = self.pair_count(pair);
+            if count > 1 {
+                self.heat_pair(pair, count.wrapping_mul(more));
+            }
         }
     }
 

@@ -23,6 +23,7 @@ mod congestion;
 mod draws;
 mod found;
 mod kicks;
+mod lanes;
 mod lists;
 mod negotiate;
 mod pieces;

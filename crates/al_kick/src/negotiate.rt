@@ -82,13 +82,6 @@ impl Search {
         }
     }
 
-    // What strands overlap in costs more from now on.
-    fn heat_all(&mut self, net: &Net) {
-        for strand in 0..self.spans.len() {
-            self.heat_overlaps(net, strand, thousandths(HISTORY));
-        }
-    }
-
     /// Makes routes from nothing, settles them, and keeps them, whatever those before them cost.
     /// Where they don't come about, those before them stay.
     pub(crate) fn negotiate(&mut self, net: &Net) {
@@ -99,7 +92,7 @@ impl Search {
                 break;
             }
             self.pass(net, number % 4 == 0, Penalty::of(thousandths(penalty)));
-            self.heat_all(net);
+            self.cells.heat_all(thousandths(HISTORY));
             penalty = penalty.saturating_mul(GROWTH) / 1000;
         }
         self.cells.cool();

@@ -17,13 +17,14 @@ const CLOSED: u64 = 1 << 60;
 fn first_of_least(sums: &Sums, turn: usize) -> usize {
     let mut best = MEMORY;
     let mut least = u64::MAX;
-    for step in 0..14usize {
-        let place = turn.wrapping_add(step) % 14;
+    let mut place = turn;
+    for _ in 0..14u8 {
         let sum = at(sums, place, CLOSED);
         if sum < least {
             least = sum;
             best = place;
         }
+        place = if place < 13 { place.wrapping_add(1) } else { 0 };
     }
     best
 }

@@ -1,18 +1,17 @@
 // A least path of one strand past all others, where it costs a penalty to come to a cell in which
 // others are.
 
-use crate::congestion::Cell;
+use crate::lanes::{
+    RegisterCosts, charges, counted, least_cost, least_place, most_of, next_place, open_row,
+    pay_back, pay_forth, row_of,
+};
 use crate::lists::{at, put};
 use crate::rates::{NO_WAYS, Ways};
-use crate::rows::{
-    FAR, MEMORY, Row, add, before, behind, close_others, has_register, least_cost, least_place,
-    next_place, row_of,
-};
+use crate::rows::{FAR, MEMORY, Row, close_others};
 use crate::search::{NO_EXTRA, Search};
 use crate::spans::{Span, range};
 use crate::strands::pair_end;
 use net_form::Net;
-use pra_base::Mask;
 
 /// No penalty is more, but FAR.
 pub(crate) const MOST_PENALTY: u32 = 1 << 22;
@@ -39,29 +38,6 @@ fn charge(each: u32, others: u32, history: u32) -> u32 {
     now.wrapping_add(history).min(FAR)
 }
 
-// Adds what is paid for each register of a layer.
-fn pay_cell(costs: &mut [u32; 8], cell: &Cell, each: u32) {
-    for r in 0..8usize {
-        let cost = charge(each, cell.count[r], cell.history[r]);
-        costs[r] = costs[r].wrapping_add(cost);
-    }
-}
-
-// The places of registers, alone and as both places.
-fn places_of(registers: u8) -> Mask {
-    let alone = Mask::from(registers);
-    alone | (alone << 8)
-}
-
-// The register of a place, as a set.
-fn register_set(place: usize) -> u8 {
-    if has_register(place) {
-        1 << (place % 8)
-    } else {
-        0
-    }
-}
-
 // Adds to what is paid at a place of a step.
 fn pay(rows: &mut [Row], step: usize, place: usize, more: u32) {
     if let Some(row) = rows.get_mut(step) {
@@ -82,15 +58,19 @@ impl Search {
             return;
         };
         for step in 0..span.steps() {
-            let mut costs = [0; 8];
+            let mut others = RegisterCosts::splat(0);
+            let mut history = RegisterCosts::splat(0);
             let (one, other) = span.pair_of(step);
             if let Some(cell) = cells.get(one) {
-                pay_cell(&mut costs, cell, each);
+                others = counted(&cell.count);
+                history = RegisterCosts::from_array(cell.history);
             }
             if let Some(cell) = cells.get(other) {
-                pay_cell(&mut costs, cell, each);
+                others += counted(&cell.count);
+                history += RegisterCosts::from_array(cell.history);
             }
-            put(&mut self.rows, step, row_of(at(masks, step, 0), &costs));
+            let costs = charges(each, others, history);
+            put(&mut self.rows, step, row_of(at(masks, step, 0), costs));
         }
     }
 
@@ -108,17 +88,20 @@ impl Search {
             return;
         };
         for step in 0..span.steps() {
-            let own = register_set(at(places, step, 6) as usize);
+            let mut count = RegisterCosts::splat(0);
             let (one, other) = span.pair_of(step);
-            let mut taken = 0;
             if let Some(cell) = cells.get(one) {
-                taken = cell.taken(own);
+                count = most_of(count, &cell.count);
             }
             if let Some(cell) = cells.get(other) {
-                taken |= cell.taken(own);
+                count = most_of(count, &cell.count);
             }
-            let mask = at(masks, step, 0) & !places_of(taken);
-            put(&mut self.rows, step, row_of(mask, &[0; 8]));
+            let own = u32::from(at(places, step, 6) % 8);
+            put(
+                &mut self.rows,
+                step,
+                open_row(at(masks, step, 0), count, own),
+            );
         }
     }
 
@@ -207,25 +190,13 @@ impl Search {
     /// From what is paid at each step to what is to be paid from there on.
     pub(crate) fn pay_back(&mut self, span: &Span) {
         let ways = self.ways(span);
-        let mut later = [0; 16];
-        for number in 1..=span.steps() {
-            if let Some(row) = self.rows.get_mut(span.steps().wrapping_sub(number)) {
-                add(row, &before(&ways, &later));
-                later = *row;
-            }
-        }
+        pay_back(&ways, &mut self.rows, span.steps());
     }
 
     /// From what is paid at each step to what is to be paid up to there.
     pub(crate) fn pay_forth(&mut self, span: &Span) {
         let ways = self.ways(span);
-        let mut earlier = [0; 16];
-        for step in 0..span.steps() {
-            if let Some(row) = self.rows.get_mut(step) {
-                add(row, &behind(&ways, &earlier));
-                earlier = *row;
-            }
-        }
+        pay_forth(&ways, &mut self.rows, span.steps());
     }
 
     /// The costs of a step.

@@ -4,10 +4,11 @@ ghost use Rattle.net_cost.specs.Models.{Keeps};
 
 use crate::congestion::Cells;
 use crate::draws::Draws;
+use crate::lanes::least_cost;
 use crate::lists::{Marks, Numbers, at, put};
 use crate::rates::{NO_RATE, Rate, price, rate_at, scaled};
 use crate::reroute::Penalty;
-use crate::rows::{Row, least_cost};
+use crate::rows::Row;
 use crate::spans::{NO_SPAN, Span, sizes, spans_of};
 use net_cost::{CostModel, Event};
 use net_form::{Extra, Net, Routes};

@@ -16,26 +16,27 @@ const SMALL: usize = 500;
 const MOST_PASSES: u32 = 20;
 
 impl Search {
-    // Whether the cell of a place that a strand had at a layer is free now.
-    fn is_freed(&self, span: &Span, layer: usize) -> bool {
-        let from = span.start().wrapping_add(span.step_of(layer));
-        let old = at(&self.paths.kept, from, 6) as usize;
-        if old == self.place(span, span.step_of(layer)) || old == CONSTANT {
-            return false;
-        }
-        old == MEMORY || self.cells.count(span.layer().wrapping_add(layer), old) == 0
+    // The place that a strand has left at a step, if what it left can be of use to others.
+    fn left_place(&self, span: &Span, step: usize) -> Option<usize> {
+        let old = at(&self.paths.kept, span.start().wrapping_add(step), 6) as usize;
+        (old != CONSTANT && old != self.place(span, step)).then_some(old)
     }
 
-    // From which layer of its block on to which one a strand freed cells.
+    // From which layer on to which one, among those of all blocks, a strand freed cells.
     fn freed(&self, span: &Span) -> (usize, usize) {
         let mut from = usize::MAX;
         let mut to = 0usize;
-        for layer in 0..span.len() {
-            if self.is_freed(span, layer) {
-                let here = span.first().wrapping_add(layer);
-                from = from.min(here);
-                to = here.wrapping_add(1);
+        let mut layers = span.first_layers();
+        for step in 0..span.steps() {
+            if let Some(old) = self.left_place(span, step) {
+                for layer in layers.from..layers.to {
+                    if old == MEMORY || self.cells.count(layer, old) == 0 {
+                        from = from.min(layer);
+                        to = layer.wrapping_add(1);
+                    }
+                }
             }
+            layers = layers.next();
         }
         (from, to)
     }
@@ -55,10 +56,10 @@ impl Search {
         let (from, to) = range(net.index.strands.as_slice(), block);
         for strand in from..to {
             let span = self.span(strand);
-            if span.first() >= between.1 {
+            if span.layer() >= between.1 {
                 return;
             }
-            if span.end() > between.0 {
+            if span.layer().wrapping_add(span.len()) > between.0 {
                 self.list_paying(strand);
             }
         }

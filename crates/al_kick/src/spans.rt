@@ -28,6 +28,26 @@ pub(crate) struct Span {
     pub constant: bool,
 }
 
+/// The layers of a step, from one on to another one, among those of all blocks; the layers of the
+/// strand end somewhere.
+#[derive(Clone, Copy)]
+pub(crate) struct Layers {
+    pub from: usize,
+    pub to: usize,
+    end: usize,
+}
+
+impl Layers {
+    /// Those of the next step.
+    pub fn next(self) -> Layers {
+        Layers {
+            from: self.to,
+            to: self.to.wrapping_add(2).min(self.end),
+            end: self.end,
+        }
+    }
+}
+
 impl Span {
     /// Where its first place lies among those of all strands.
     pub fn start(&self) -> usize {
@@ -54,6 +74,17 @@ impl Span {
         let double = step.wrapping_mul(2);
         let to = double.wrapping_add(2).wrapping_sub(self.shift());
         (double.saturating_sub(self.shift()), to.min(self.len()))
+    }
+
+    /// The layers of its first step.
+    pub fn first_layers(&self) -> Layers {
+        let end = self.layer().wrapping_add(self.len());
+        let to = self.layer().wrapping_add(2).wrapping_sub(self.shift());
+        Layers {
+            from: self.layer(),
+            to: to.min(end),
+            end,
+        }
     }
 
     /// The two layers that a step may have, counted from its first ones on; one that it has not is

@@ -47,18 +47,17 @@ impl Search {
     fn leave_registers(&mut self, strand: usize, span: &Span) {
         let number = short(strand);
         let mut left = 0u64;
+        let mut layers = span.first_layers();
         for step in 0..span.steps() {
             let place = at(&self.paths.now, span.start().wrapping_add(step), 6) as usize;
-            if !has_register(place) {
-                continue;
-            }
-            let (from, to) = span.layers_of(step);
-            for layer in from..to {
-                let layer = span.layer().wrapping_add(layer);
-                if let Some(cell) = self.cells.layers.get_mut(layer) {
-                    left = left.wrapping_add(u64::from(cell.leave(place, number)));
+            if has_register(place) {
+                for layer in layers.from..layers.to {
+                    if let Some(cell) = self.cells.layers.get_mut(layer) {
+                        left = left.wrapping_add(u64::from(cell.leave(place, number)));
+                    }
                 }
             }
+            layers = layers.next();
         }
         self.cells.overlaps = self.cells.overlaps.wrapping_sub(left);
     }
@@ -67,25 +66,24 @@ impl Search {
     fn enter_registers(&mut self, strand: usize, span: &Span) -> bool {
         let number = short(strand);
         let mut met = 0u64;
+        let mut layers = span.first_layers();
         for step in 0..span.steps() {
             let place = at(&self.paths.now, span.start().wrapping_add(step), 6) as usize;
-            if !has_register(place) {
-                continue;
-            }
-            let (from, to) = span.layers_of(step);
-            for layer in from..to {
-                let layer = span.layer().wrapping_add(layer);
-                if let Some(cell) = self.cells.layers.get_mut(layer) {
-                    match cell.enter(place, number) {
-                        Met::Nobody => {}
-                        Met::One(other) => {
-                            self.log.note_overlap(other as usize);
-                            met = met.wrapping_add(1);
+            if has_register(place) {
+                for layer in layers.from..layers.to {
+                    if let Some(cell) = self.cells.layers.get_mut(layer) {
+                        match cell.enter(place, number) {
+                            Met::Nobody => {}
+                            Met::One(other) => {
+                                self.log.note_overlap(other as usize);
+                                met = met.wrapping_add(1);
+                            }
+                            Met::Several => met = met.wrapping_add(1),
                         }
-                        Met::Several => met = met.wrapping_add(1),
                     }
                 }
             }
+            layers = layers.next();
         }
         self.cells.overlaps = self.cells.overlaps.wrapping_add(met);
         met > 0
@@ -192,27 +190,30 @@ impl Search {
     /// The cells of a path cost more from now on.
     pub(crate) fn heat_path(&mut self, strand: usize, more: u32) {
         let span = self.span(strand);
-        for layer in 0..span.len() {
-            let place = self.place(&span, span.step_of(layer));
+        let mut layers = span.first_layers();
+        for step in 0..span.steps() {
+            let place = self.place(&span, step);
             if has_register(place) {
-                self.cells
-                    .heat(span.layer().wrapping_add(layer), place, more);
+                for layer in layers.from..layers.to {
+                    self.cells.heat(layer, place, more);
+                }
             }
+            layers = layers.next();
         }
     }
 
     // The registers of a path in which it overlaps with others cost more from now on.
     fn heat_registers(&mut self, strand: usize, more: u32) {
         let span = self.span(strand);
+        let mut layers = span.first_layers();
         for step in 0..span.steps() {
             let place = self.place(&span, step);
             if has_register(place) {
-                let (from, to) = span.layers_of(step);
-                for layer in from..to {
-                    let layer = span.layer().wrapping_add(layer);
+                for layer in layers.from..layers.to {
                     self.cells.heat_crowded(layer, place, more);
                 }
             }
+            layers = layers.next();
         }
     }
 
