@@ -78,6 +78,38 @@ neg v0
 return
 = ####..##..
 = ##........
+# a way from the last block to the first one that reads: each learns it of the one before it
+proc 2 0 plain
+set v0 1
+jump 3
+write v0
+jump 4
+jump 1
+jump 2
+return
+= ..## ##.. ## ## ..
+# a loop with two ways in: what one of its blocks reads is live around it and before it
+proc 2 0 param 0 plain
+cmp v0 v0
+branch l 1 2
+cmp v0 v0
+branch l 2 3
+write v1
+jump 1
+write v0
+return
+= #### #### #### ##..
+= #### #### #### ....
+# what is written on one of two ways is live at the begin of the other one alone
+proc 2 0 param 0 plain
+cmp v0 v0
+branch l 1 2
+set v1 0
+jump 2
+write v1
+return
+= ##.. .... ....
+= #### ..## ##..
 # a parameter that is written first is dead at the entry
 proc 2 0 param 0 param 1
 read v0
