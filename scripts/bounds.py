@@ -13,6 +13,7 @@ passes, and one that raises nothing does not. The status is 1 where a bound is l
 import sys
 import tempfile
 
+import stopped
 from picture import report
 from pranet.compiler import TOP, Compiler
 from pranet.words import WEIGHTS, read_words, status_of
@@ -70,4 +71,4 @@ def main(words):
 
 
 if __name__ == "__main__":
-    sys.exit(status_of(lambda: main(sys.argv[1:]), USAGE))
+    sys.exit(stopped.status_of(lambda: status_of(lambda: main(sys.argv[1:]), USAGE)))

@@ -21,6 +21,7 @@ import tempfile
 import grammar
 import offences
 import reasons
+import stopped
 import traps
 from places import Place, shown, token_end, tokens, word_end
 
@@ -316,4 +317,4 @@ def main(words):
 
 
 if __name__ == "__main__":
-    sys.exit(main(sys.argv[1:]))
+    sys.exit(stopped.status_of(lambda: main(sys.argv[1:])))

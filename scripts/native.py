@@ -14,6 +14,7 @@ written, 6 where the words are none of these, 70 where gcc can't do it.
 import os
 import sys
 
+import stopped
 from processor.build import NO_LIMIT, Builder
 from processor.image import MAX_FILE_BYTES, Refused, image_of, names_in
 
@@ -92,4 +93,4 @@ def main(words):
 
 
 if __name__ == "__main__":
-    sys.exit(main(sys.argv[1:]))
+    sys.exit(stopped.status_of(lambda: main(sys.argv[1:])))

@@ -20,6 +20,7 @@ import os
 import subprocess
 import sys
 
+import stopped
 import terminal
 from picture.listing import NotOfThisCode
 from picture.module import WEIGHTS, Module, OfCertificate
@@ -96,4 +97,4 @@ def main(words):
 
 
 if __name__ == "__main__":
-    sys.exit(main(sys.argv[1:]))
+    sys.exit(stopped.status_of(lambda: main(sys.argv[1:])))
