@@ -67,13 +67,25 @@ def limit_words(name):
 # ---- what each line means
 
 
+# What a byte that begins no token means elsewhere.
+MEANT = {
+    '"': "; there are no strings here",
+    "'": "; there are no strings here",
+    "{": "; a comment stands between (* and *)",
+    "/": "; DIV divides, and a comment stands between (* and *)",
+    "%": "; MOD gives the remainder",
+    "!": "; # says not equal, and ~ is not",
+    "_": "; names have letters and digits alone",
+}
+
+
 def spelled(byte):
     return f"'{chr(byte)}'" if 33 <= byte < 127 else f"of value {byte}"
 
 
 def lexical(name, source, kind, at):
     if kind == "bad-byte":
-        words = f"the byte {spelled(source[at])} begins no token"
+        words = f"the byte {spelled(source[at])} begins no token{MEANT.get(chr(source[at]), '')}"
         return Place(name, source, at, at + 1).tell(words)
     if kind == "open-comment":
         words = "this comment is opened and never closed"

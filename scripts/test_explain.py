@@ -132,5 +132,13 @@ class Traps(unittest.TestCase):
         self.assertEqual(told[0].removeprefix(f"{room}/").split(" ")[0], "a.ob:5:3:")
 
 
+class Bytes(unittest.TestCase):
+    def test_what_was_meant_by_a_byte_is_told(self):
+        for text, meant in ((b'x := "5"', "no strings"), (b"x / y", "DIV divides"), (b"a_b", "names")):
+            at = next(at for at, it in enumerate(text) if chr(it) in explain.MEANT)
+            self.assertIn(meant, explain.lexical("a.ob", text, "bad-byte", at)[0])
+        self.assertTrue(explain.lexical("a.ob", b"x $", "bad-byte", 2)[0].endswith("no token"))
+
+
 if __name__ == "__main__":
     unittest.main()
