@@ -214,8 +214,27 @@ def no_json(name, source):
     return [f"{name}: this is no JSON"]
 
 
+# Who reads a file once more, where the line on it tells no more than where it is wrong.
+READERS = {
+    "fault code ": reasons.image,
+    "fault line ": reasons.listing,
+    "fault certificate ": reasons.certificate,
+}
+
+
+def by_reader(line, name, source):
+    """What a second reader finds in a file that is refused with a line, if it finds something."""
+    for begin, reader in READERS.items():
+        if line.startswith(begin):
+            status, lines = reader(name, source)
+            return lines if status == 3 else None
+    return None
+
+
 def of_other_files(line, name, source):
     """The same of a line on an image, its text or a certificate."""
+    if lines := by_reader(line, name, source):
+        return lines
     if found := re.fullmatch(r"fault image ([A-Za-z]+) at (\d+)", line):
         return image_field(name, found[1], found[2])
     if found := re.fullmatch(r"fault code at (\d+)", line):

@@ -106,7 +106,9 @@ class Notes(unittest.TestCase):
 
     def test_other_files(self):
         self.assertIn("PRAI", self.told(b"x", "fault image Magic at 0\n"))
-        self.assertIn("a.ob:1:1: this is no line", self.told(b"x\n", "fault line 1\n"))
+        self.assertIn("a.ob:1:1: the first line", self.told(b"x\n", "fault line 1\n"))
+        text = b"data 0\n00000000 foo eax\n"
+        self.assertIn("a.ob:2:1: no instruction has the name foo", self.told(text, "fault line 2\n"))
         self.assertIn("no JSON", self.told(b"{", "fault json\n"))
 
 
