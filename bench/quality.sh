@@ -1,7 +1,8 @@
 #!/bin/sh
 # Prints how far the code that rounds find is from the best there is (quality.py): of the modules in
 # the files, or else of generated modules 1 to 5 and 11 to 15, with 3 procedures each, and of those
-# in examples/. It takes so many rounds, or 200: quality.sh [ROUNDS [FILE..]]
+# in examples/. It takes so many rounds, or 200; PRA names a compiler that is not to be built:
+# [PRA=PROGRAM] quality.sh [ROUNDS [FILE..]]
 set -eu
 bench=$(cd "$(dirname "$0")" && pwd)
 rounds=${1:-200}
@@ -9,12 +10,16 @@ if [ $# -gt 0 ]; then shift; fi
 folder=$(mktemp -d)
 trap 'rm -rf "$folder"' EXIT
 
-"$bench/../pra" build
+if [ -z "${PRA-}" ]; then
+    "$bench/../pra" build
+    PRA=$bench/../crates/pra/out/pra
+fi
 if [ $# -eq 0 ]; then
-    generate=$("$bench/built.sh" bench_generate 1 1)
     for seed in 1 2 3 4 5 11 12 13 14 15; do
-        "$generate" "$seed" 3 >"$folder/generated_$seed.ob"
+        file=$folder/generated_$seed.ob
+        "$PRA" gen "$file" --seed "$seed" --size 3 --rounds 0 --image "$folder/out.pri" >"$folder/out" ||
+            [ $? -le 2 ]
     done
     set -- "$folder"/generated_*.ob "$bench"/../examples/*.ob
 fi
-python3 "$bench/quality.py" "$bench/../crates/pra/out/pra" "$rounds" "$@"
+python3 "$bench/quality.py" "$PRA" "$rounds" "$@"

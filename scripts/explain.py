@@ -21,6 +21,7 @@ import tempfile
 import grammar
 import offences
 import reasons
+import stopped
 import traps
 from places import Place, shown, token_end, tokens, word_end
 
@@ -66,13 +67,25 @@ def limit_words(name):
 # ---- what each line means
 
 
+# What a byte that begins no token means elsewhere.
+MEANT = {
+    '"': "; there are no strings here",
+    "'": "; there are no strings here",
+    "{": "; a comment stands between (* and *)",
+    "/": "; DIV divides, and a comment stands between (* and *)",
+    "%": "; MOD gives the remainder",
+    "!": "; # says not equal, and ~ is not",
+    "_": "; names have letters and digits alone",
+}
+
+
 def spelled(byte):
     return f"'{chr(byte)}'" if 33 <= byte < 127 else f"of value {byte}"
 
 
 def lexical(name, source, kind, at):
     if kind == "bad-byte":
-        words = f"the byte {spelled(source[at])} begins no token"
+        words = f"the byte {spelled(source[at])} begins no token{MEANT.get(chr(source[at]), '')}"
         return Place(name, source, at, at + 1).tell(words)
     if kind == "open-comment":
         words = "this comment is opened and never closed"
@@ -201,8 +214,27 @@ def no_json(name, source):
     return [f"{name}: this is no JSON"]
 
 
+# Who reads a file once more, where the line on it tells no more than where it is wrong.
+READERS = {
+    "fault code ": reasons.image,
+    "fault line ": reasons.listing,
+    "fault certificate ": reasons.certificate,
+}
+
+
+def by_reader(line, name, source):
+    """What a second reader finds in a file that is refused with a line, if it finds something."""
+    for begin, reader in READERS.items():
+        if line.startswith(begin):
+            status, lines = reader(name, source)
+            return lines if status == 3 else None
+    return None
+
+
 def of_other_files(line, name, source):
     """The same of a line on an image, its text or a certificate."""
+    if lines := by_reader(line, name, source):
+        return lines
     if found := re.fullmatch(r"fault image ([A-Za-z]+) at (\d+)", line):
         return image_field(name, found[1], found[2])
     if found := re.fullmatch(r"fault code at (\d+)", line):
@@ -316,4 +348,4 @@ def main(words):
 
 
 if __name__ == "__main__":
-    sys.exit(main(sys.argv[1:]))
+    sys.exit(stopped.status_of(lambda: main(sys.argv[1:])))

@@ -23,6 +23,7 @@ import subprocess
 import sys
 from dataclasses import dataclass, replace
 
+import stopped
 from picture.others import ALLOCATORS, best_routes
 from pranet import cbc, certificate
 from pranet.certificate import code_value
@@ -201,4 +202,4 @@ def main(words):
 
 
 if __name__ == "__main__":
-    sys.exit(main(sys.argv[1:]))
+    sys.exit(stopped.status_of(lambda: main(sys.argv[1:])))

@@ -10,6 +10,7 @@ docs/NETWORK.md says what rows and variables mean.
 
 import sys
 
+import stopped
 from pranet.network import Network
 from pranet.program import program_of_all
 from pranet.words import read_problem, status_of
@@ -29,4 +30,4 @@ def main(words):
 
 
 if __name__ == "__main__":
-    sys.exit(main(sys.argv[1:]))
+    sys.exit(stopped.status_of(lambda: main(sys.argv[1:])))

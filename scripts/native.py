@@ -14,6 +14,8 @@ written, 6 where the words are none of these, 70 where gcc can't do it.
 import os
 import sys
 
+import explain
+import stopped
 from processor.build import NO_LIMIT, Builder
 from processor.image import MAX_FILE_BYTES, Refused, image_of, names_in
 
@@ -87,9 +89,11 @@ def main(words):
         make(words)
     except Refused as refused:
         print(refused, file=sys.stderr)
+        if refused.status in (3, 4) and sys.stderr.isatty():
+            print(*explain.told(str(refused), read_words(words)[0]), sep="\n", file=sys.stderr)
         return refused.status
     return 0
 
 
 if __name__ == "__main__":
-    sys.exit(main(sys.argv[1:]))
+    sys.exit(stopped.status_of(lambda: main(sys.argv[1:])))

@@ -10,6 +10,7 @@ networks of its procedures are printed as one value, which docs/NETWORK.md expla
 import json
 import sys
 
+import stopped
 from pranet.problem import problem_of_all
 from pranet.words import read_problem, status_of
 
@@ -26,4 +27,4 @@ def main(words):
 
 
 if __name__ == "__main__":
-    sys.exit(main(sys.argv[1:]))
+    sys.exit(stopped.status_of(lambda: main(sys.argv[1:])))

@@ -10,7 +10,7 @@ what moves and operands cost, what prices show the bound, and the machine instru
 became. With --input the module is run too, on the numbers that the file NAME holds. Options that
 are left out are the compiler's: 10 rounds, and size. FILE may be a certificate too, that is a text
 that begins with a brace; its page has what a certificate has. With OTHER the page has both side by
-side. The compiler is ./pra beside this file, or PROGRAM; it is asked for its report, the listing
+side. The compiler is the one that PRA names, ./pra, or PROGRAM; it is asked for its report, the listing
 and the certificates, and no page is made of a certificate that it refuses. The status is that of
 the call that was refused, 5 where a file can't be read or written, 6 where the words are none of
 these, and 70 where the parts do not fit.
@@ -20,17 +20,18 @@ import os
 import subprocess
 import sys
 
+import stopped
 import terminal
 from picture.listing import NotOfThisCode
 from picture.module import WEIGHTS, Module, OfCertificate
 from picture.page import page_of, side_by_side
 from picture.report import NoReport
 from pranet.certificate import NoCertificate
-from pranet.compiler import Compiler, Refused
+from pranet.compiler import Compiler, Refused, default_program
 
 TOP = os.path.dirname(os.path.dirname(os.path.realpath(__file__)))
 USAGE = "usage: pra show FILE [OTHER] [--rounds N] [--cost size|speed] [--input NAME]"
-OPTIONS = {"--rounds": "10", "--cost": "size", "--input": None, "--compiler": f"{TOP}/pra"}
+OPTIONS = {"--rounds": "10", "--cost": "size", "--input": None, "--compiler": default_program()}
 
 
 def read_words(words):
@@ -96,4 +97,4 @@ def main(words):
 
 
 if __name__ == "__main__":
-    sys.exit(main(sys.argv[1:]))
+    sys.exit(stopped.status_of(lambda: main(sys.argv[1:])))

@@ -13,6 +13,7 @@ to standard error.
 
 import sys
 
+import stopped
 from picture.report import headings
 from pranet import certificate
 from pranet.cbc import MISSING, NoSolver, is_there
@@ -77,4 +78,4 @@ def main(words):
 
 
 if __name__ == "__main__":
-    sys.exit(main(sys.argv[1:]))
+    sys.exit(stopped.status_of(lambda: main(sys.argv[1:])))

@@ -106,7 +106,9 @@ class Notes(unittest.TestCase):
 
     def test_other_files(self):
         self.assertIn("PRAI", self.told(b"x", "fault image Magic at 0\n"))
-        self.assertIn("a.ob:1:1: this is no line", self.told(b"x\n", "fault line 1\n"))
+        self.assertIn("a.ob:1:1: the first line", self.told(b"x\n", "fault line 1\n"))
+        text = b"data 0\n00000000 foo eax\n"
+        self.assertIn("a.ob:2:1: no instruction has the name foo", self.told(text, "fault line 2\n"))
         self.assertIn("no JSON", self.told(b"{", "fault json\n"))
 
 
@@ -130,6 +132,14 @@ class Traps(unittest.TestCase):
             name = f"{room}/a.ob"
             told = traps.told(name, source, "trap Divide units 1 reads 0", needs.program(), None)
         self.assertEqual(told[0].removeprefix(f"{room}/").split(" ")[0], "a.ob:5:3:")
+
+
+class Bytes(unittest.TestCase):
+    def test_what_was_meant_by_a_byte_is_told(self):
+        for text, meant in ((b'x := "5"', "no strings"), (b"x / y", "DIV divides"), (b"a_b", "names")):
+            at = next(at for at, it in enumerate(text) if chr(it) in explain.MEANT)
+            self.assertIn(meant, explain.lexical("a.ob", text, "bad-byte", at)[0])
+        self.assertTrue(explain.lexical("a.ob", b"x $", "bad-byte", 2)[0].endswith("no token"))
 
 
 if __name__ == "__main__":

@@ -10,11 +10,15 @@ where none fails, and else 1.
 """
 
 import collections
+import contextlib
 import glob
 import importlib
 import os
 import sys
 import unittest
+
+import build
+import unproved
 
 HERE = os.path.dirname(os.path.realpath(__file__))
 PATTERNS = ("test_*.py", "*_tests.py", "*/test_*.py", "*/*_tests.py", "*/tests.py")
@@ -37,8 +41,18 @@ def each(suite):
             yield it
 
 
+def compiler():
+    """The program that the tests take, or None."""
+    built = f"{build.TOP}/crates/{build.COMPILER}/out/{build.COMPILER}"
+    with contextlib.suppress(OSError, unproved.NoAnswer):
+        return built if os.access(built, os.X_OK) else unproved.kept()
+    return None
+
+
 def main(words):
     sys.path.insert(0, HERE)
+    if "PRA" not in os.environ and (program := compiler()):
+        os.environ["PRA"] = program
     loader, suite = unittest.defaultTestLoader, unittest.TestSuite()
     for module in modules():
         for it in each(loader.loadTestsFromModule(module)):

@@ -5,16 +5,20 @@
 
 A command is a line of the tour that begins with four blanks and `$ `; what it writes are the lines
 of four blanks behind it. All run one after the other in one folder, which has ./pra and copies of
-examples/. With --write the tour gets what they write now. The compiler is ./pra, or PROGRAM. The
-status is 0 where nothing differs, and else 1.
+examples/. With --write the tour gets what they write now. The compiler is ./pra, or PROGRAM, which
+the words that scripts do are given too. The status is 0 where nothing differs, and else 1.
 """
 
 import difflib
 import os
+import shlex
 import shutil
 import subprocess
 import sys
 import tempfile
+
+import stopped
+import words as known_words
 
 TOP = os.path.dirname(os.path.dirname(os.path.realpath(__file__)))
 TOUR = f"{TOP}/docs/TOUR.md"
@@ -48,16 +52,32 @@ def written_by(command, room):
     return lines + ([f"status {ran.returncode}"] if ran.returncode else [])
 
 
+def make_pra(name, compiler):
+    """Writes a program that does what ./pra does, by a compiler."""
+    table, _ = known_words.table()
+    lines = ["#!/bin/sh", f"export PRA={shlex.quote(compiler)}", 'case "$1" in']
+    for it in table.values():
+        if it.script != "-":
+            script = shlex.quote(f"{TOP}/scripts/{it.script}")
+            lines.append(f'{it.name}) shift; exec python3 {script} "$@" ;;')
+    lines += ["esac", 'exec "$PRA" "$@"']
+    with open(name, "w", encoding="utf-8") as program:
+        print(*lines, sep="\n", file=program)
+    os.chmod(name, 0o755)
+
+
 def main(words):
     is_write = "--write" in words
     at = words.index("--compiler") + 1 if "--compiler" in words else 0
-    compiler = os.path.abspath(words[at]) if at else f"{TOP}/pra"
     with open(TOUR, encoding="utf-8") as text:
         lines = text.read().splitlines()
     told, end, differs = [], 0, False
     with tempfile.TemporaryDirectory(prefix="tour-") as room:
         shutil.copytree(f"{TOP}/examples", f"{room}/examples")
-        os.symlink(compiler, f"{room}/pra")
+        if at:
+            make_pra(f"{room}/pra", os.path.abspath(words[at]))
+        else:
+            os.symlink(f"{TOP}/pra", f"{room}/pra")
         for begin, command, first, last in steps(lines):
             print(f"$ {command}", flush=True)
             now = [f"{INDENT}{it}".rstrip() for it in written_by(command, room)]
@@ -75,4 +95,4 @@ def main(words):
 
 
 if __name__ == "__main__":
-    sys.exit(main(sys.argv[1:]))
+    sys.exit(stopped.status_of(lambda: main(sys.argv[1:])))

@@ -111,7 +111,7 @@ def main(words):
     except (OSError, UnicodeDecodeError) as error:
         print(f"pra: {plain[0]} can't be read: {error}", file=sys.stderr)
         return 5
-    except (TypeError, IndexError):
+    except (TypeError, LookupError, ValueError):
         print(f"pra: {plain[0]} is no page with a procedure {plain[1]}", file=sys.stderr)
         return 3
     tell = moves if "--moves" in options else others if "--others" in options else lines

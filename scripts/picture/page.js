@@ -358,7 +358,7 @@
     const exit = 2 * block.code.length + 1;
     out += gap(p, block, at, exit, heat, isLast);
     out += `<tr class="end">${layer(exit)}<td class="what">${escaped(block.end)}</td><td class="machine">${machineOf(block.ended)}</td>${cells(p, at, exit, before)}</tr>`;
-    return `<table class="grid" data-block="${number}"><thead><tr><th class="layer" scope="col" title="the number of the layer">layer</th>${heat.head}<th class="what" scope="col">instruction</th><th class="machine" scope="col">machine instructions</th>${head}</tr></thead><tbody>${out}</tbody></table>`;
+    return `<table class="grid" data-block="${number}"><thead><tr><th class="layer" scope="col" title="the number of the layer">layer</th>${heat.head}<th class="what" scope="col">instruction</th><th class="machine" scope="col">machine instructions${isLast ? "" : " <span class=\"faint\">(of the last round)</span>"}</th>${head}</tr></thead><tbody>${out}</tbody></table>`;
   }
 
   // ---- least priced paths
@@ -452,8 +452,9 @@
   // ---- the slider over rounds
 
   function stateWords(p) {
-    const state = p.states[shownState[p.number]];
-    const told = state.rounds === null ? "" : state.rounds === 1 ? "After 1 round: " : `After ${state.rounds} rounds: `;
+    const state = p.states[shownState[p.number]], made = p.rounds[page.cost].length - 1;
+    const rounds = Math.min(state.rounds, made), last = state.rounds > made ? ", the last" : "";
+    const told = state.rounds === null ? "" : `After ${rounds} round${rounds === 1 ? "" : "s"}${last}: `;
     return `${told}cost ${state.cost}, bound ${state.bound}`;
   }
 
@@ -520,7 +521,7 @@
     out += `${levelWords(p)}${roundsTable(p)}<h3>What each event cost</h3>${paidTable(p)}`;
     if (p.blocks.length > 1) out += `<h3>Blocks and loops</h3>${flow(p)}`;
     out += `<h3>Where variables are</h3>${priceWords(p)}`;
-    out += `<p><button type="button" class="tool only-narrow" data-machine>Show or hide machine instructions</button></p>`;
+    out += `<p><button type="button" class="tool only-narrow" data-machine>Show or hide prices and machine instructions</button></p>`;
     out += `<div class="bar">${slider(p)}<div class="marked-bar" aria-live="polite" hidden><span></span><button type="button" data-unmark>unmark</button></div></div>`;
     p.blocks.forEach((block, number) => {
       out += `<h3 id="p${p.number}b${number}">Block ${number}, ${loops(block.depth)}${linesOf(block)}</h3>`;

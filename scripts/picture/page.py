@@ -172,15 +172,17 @@ def events_table(drawn, cost):
 
 def procedures_table(module):
     heads = ["", "procedure", "#instructions", "#round 0", "#cost", "#bound", "#at most above"]
-    rows, cost = [], module.certificate.cost
+    rows, cost, first = [], module.certificate.cost, heads.index("#round 0")
     for it, reported in zip(module.drawn, module.reports[cost].procedures, strict=True):
         number = it.code.number
         link = f'<a href="#p{number}">{escape(reported.name)}</a>'
         count = sum(len(block.code) for block in it.code.blocks)
         total, bound = it.code.total, it.code.bound
         rows.append((number, link, count, reported.rounds[0][0], total, bound, total - bound))
-    sums = [sum(row[at] for row in rows) for at in range(2, 7)]
-    return table(heads, rows, ("", "the module", *sums))
+    lines = [heads, *rows, ("", "all", *(sum(row[at] for row in rows) for at in range(2, 7)))]
+    if not module.source:  # a certificate has no rounds
+        lines = [(*line[:first], *line[first + 1 :]) for line in lines]
+    return table(lines[0], lines[1:-1], lines[-1])
 
 
 def source_lines(source):
@@ -268,10 +270,11 @@ def page_of(module):
     sections = "\n".join(section(module, it) for it in range(len(module.drawn)))
     name = report.procedures[0].name if module.source else module.command.split(" ", 2)[2]
     whole = at_most(report.cost, report.bound, UNIT[cost])
+    kind = "module" if module.source else "certificate"
     return TEMPLATE.format(
         title=f"{escape(name)}: an allocation",
         css=asset("page.css"),
-        sentence=f"The allocation of the module {escape(name)}. {whole}",
+        sentence=f"The allocation of the {kind} {escape(name)}. {whole}",
         made=made_words(module),
         procedures=procedures_table(module),
         reading=READING.format(legend=legend(), unit=UNITS[cost]),

@@ -3,8 +3,8 @@
     [PRA=PROGRAM] python3 -m unittest picture.tests
 
 What other allocators come to is compared with docs/QUALITY.md where the compiler was built, or
-where PROGRAM is one, and the compiler's checker is asked whether their routes are admitted and cost
-that: ./pra unproved takes a minute or two for each of some 150 calls.
+where PROGRAM is one, and the compiler's checker is asked whether their routes are admitted and
+cost that.
 """
 
 import json

@@ -9,7 +9,7 @@ from pranet.network import Network
 
 TOP = os.path.dirname(os.path.dirname(os.path.dirname(os.path.realpath(__file__))))
 ANY_BYTES = "surrogateescape"  # how bytes that are no text go through one
-DEFAULT = f"{TOP}/pra"  # which runs unproved, a minute or two a call, before it was built
+DEFAULT = f"{TOP}/pra"  # which runs unproved before it was built
 
 
 class Refused(Exception):

@@ -3,7 +3,7 @@
     [PRA=PROGRAM] python3 -m unittest pranet.tests
 
 What needs the solver CBC is left out where it is not installed, and what needs the compiler where
-it was not built and PRA names none: ./pra unproved takes a minute or two a call.
+it was not built and PRA names none.
 """
 
 import io

@@ -30,7 +30,7 @@ COMPILER = os.environ.get("PRA", f"{TOP}/pra")
 WAYS = [(rounds, cost) for rounds in (0, 1, 10) for cost in ("size", "speed")]
 # What the modules of examples/ are run on.
 INPUTS = ("", "5", "25 7", "3 1 2", "10 9 8 7 6 5 4 3 2 1", "-2147483648 2147483647 0")
-SECONDS = 60  # that a program may take
+SECONDS = 600  # that a program may take, by the clock, on a machine that has other work
 MOST_STEPS = 10000000
 COUNTED_STEPS = 2000  # runs of at most so many steps are made once more, with the trap flag
 TOLD_FIRST = ("modules", "images", "runs", "comparisons", "steps", "steps of the trap flag")
