@@ -1,6 +1,6 @@
 -- The machine of code whose blocks are in another order, beside that of the old code.
-use Rattle.std.proofs.Common.{◌≡◌, ◌≢◌, ℕ, ℤ, suc, ◌<◌, ◌⊎◌, inl, inr, Bool, true, false, nat_eq}
-use Rattle.std.proofs.Common.{nat_lt, if◌then◌else◌, List, [], ◌∷◌, length, map, slice_get}
+use Rattle.std.proofs.Common.{◌≡◌, ◌≢◌, ℕ, ℤ, suc, ◌<◌, ◌⊎◌, inl, inr, Bool, true, false, not}
+use Rattle.std.proofs.Common.{⊎_elim, nat_eq, nat_lt, if◌then◌else◌, List, [], ◌∷◌, length, map, slice_get}
 use Rattle.std.proofs.Common.{slice_set, slice_index_or, replicate, Option, Some, None, refl, sym}
 use Rattle.std.proofs.Common.{ap, ap₂, subst, ◌∙◌, arith}
 use Rattle.std.proofs.lemmas.Bool.{cases_eq}
@@ -37,9 +37,19 @@ use Rattle.vc_same.proofs.Carried.{carried_well}
 use Rattle.vc_coupling.specs.Coupled.{Couples, AllBeside, Same, Leads}
 use Rattle.vc_coupling.proofs.Applied.{found_same, with_top_same, ended_same, performed}
 use Rattle.vc_order.specs.Order.{Places, end_with, block_with, Reordered}
+use Rattle.vc_order.specs.Turned.{opposite, turned_end, turned, IsTurned}
+use Rattle.vc_order.proofs.Turning.{negates}
 
 abbrev code_in : List VProc → ℕ → VProc
 code_in procs p = selection.code_of procs p
+
+-- a block under new numbers, maybe with its branch turned round
+abbrev pub Fits : Places → Block → Block → Type 0
+Fits to old new = (new ≡ block_with to old) ⊎ (new ≡ turned (block_with to old))
+
+-- a block of the new code stands there, and fits
+abbrev Stands : Places → VProc → ℕ → Block → Type 0
+Stands to new b old = (z : Block) × (slice_get new.blocks (to b) ≡ Some z) × Fits to old z
 
 -- the blocks of a procedure under new numbers; of each procedure there is one
 pub record IsMoved (to : Places) (old new : VProc) : Type 0 where
@@ -47,20 +57,20 @@ pub record IsMoved (to : Places) (old new : VProc) : Type 0 where
   pub vars : new.vars ≡ old.vars
   pub some : nat_lt 0 (length old.blocks) ≡ true → nat_lt 0 (length new.blocks) ≡ true
   pub entry : to 0 ≡ 0
-  pub first : block_of new 0 ≡ block_with to (block_of old 0)
+  pub first : Fits to (block_of old 0) (block_of new 0)
   pub blocks : (b : ℕ) (block : Block) → slice_get old.blocks b ≡ Some block →
-      slice_get new.blocks (to b) ≡ Some (block_with to block)
+      Stands to new b block
 
 -- The calls stand at the same instruction of a block, which is the same but for the numbers of its
--- targets.
+-- targets and the way in which it branches.
 pub record Beside (olds news : List VProc) (to : ℕ → Places) (c d : Activation Vars) : Type 0 where
   pub proc : d.proc ≡ c.proc
   pub args : d.args ≡ c.args
   pub aggregates : d.aggregates ≡ c.aggregates
   pub index : d.home.index ≡ c.home.index
   pub held : d.home.held ≡ c.home.held
-  pub here : block_of (code_in news c.proc) d.home.block ≡ block_with (to c.proc)
-      (block_of (code_in olds c.proc) c.home.block)
+  pub here : Fits (to c.proc) (block_of (code_in olds c.proc) c.home.block)
+      (block_of (code_in news c.proc) d.home.block)
 
 module _ (olds news : List VProc) (to : ℕ → Places) (frames : List ℕ)
     (long : length news ≡ length olds)
@@ -170,10 +180,8 @@ module _ (olds news : List VProc) (to : ℕ → Places) (frames : List ℕ)
     new = code_in news p
 
     there_code : code_of new t.top.home.block ≡ code_of old s.top.home.block
-    there_code = ap (λ (b : Block). b.code) r.top.here
-
-    there_end : end_of new t.top.home.block ≡ end_with (to p) (end_of old s.top.home.block)
-    there_end = ap (λ (b : Block). b.end) r.top.here
+    there_code = ⊎_elim (λ e. ap (λ (b : Block). b.code) e) (λ e. ap (λ (b : Block). b.code) e)
+        r.top.here
 
     there_instr : instr_at (code_in news t.top.proc) t.top.home.block t.top.home.index ≡
         instr_at old s.top.home.block s.top.home.index
@@ -214,17 +222,18 @@ module _ (olds news : List VProc) (to : ℕ → Places) (frames : List ℕ)
         let there = (all p).blocks b a.0 a.1 in (
           at_point t.top (to p b) 0 t.top.home.held,
           ap (λ q. at_block t.top (to p b) (slice_get (code_in news q).blocks (to p b))) r.top.proc
-              ∙ ap (λ o. at_block t.top (to p b) o) there,
+              ∙ ap (λ o. at_block t.top (to p b) o) there.1,
           subst (λ z. R z (at_point t.top (to p b) 0 t.top.home.held)) (sym a.2) (record {
             proc = r.top.proc;
             args = r.top.args;
             aggregates = r.top.aggregates;
             index = refl;
             held = r.top.held;
-            here =
-                get_or_from_slice_get new.blocks (to p b) (block_with (to p) a.0) no_block there
-                ∙ ap (block_with (to p))
-                (sym (get_or_from_slice_get old.blocks b a.0 no_block a.1));
+            here = subst (λ z. Fits (to p) z (block_of new (to p b)))
+                (sym (get_or_from_slice_get old.blocks b a.0 no_block a.1))
+                (subst (λ z. Fits (to p) a.0 z)
+                (sym (get_or_from_slice_get new.blocks (to p b) there.0 no_block there.1))
+                there.2);
           }),
         )
 
@@ -272,12 +281,35 @@ module _ (olds news : List VProc) (to : ℕ → Places) (frames : List ℕ)
         chosen true = refl
         chosen false = refl
 
+    -- a branch that was turned round goes the same way
+    turns : (e : End) → leave n (turned_end e) t ≡ leave n e t
+    turns (Jump b) = refl
+    turns Return = refl
+    turns (Branch c a z) = by t.compared
+      where
+        chosen : (way : Bool) → (if not way then z.0 else a.0) ≡ (if way then a.0 else z.0)
+        chosen true = refl
+        chosen false = refl
+
+        by : (o : Option (ℕ × ℕ)) → branched n (opposite c) z.0 a.0 o t ≡
+            branched n c a.0 z.0 o t
+        by None = refl
+        by (Some (x, y)) = ap (goes_to n t) (ap (λ way. if way then z.0 else a.0) (negates c x y)
+            ∙ chosen (compares c x y))
+
+    there_end : leave n (end_of (code_in news t.top.proc) t.top.home.block) t ≡
+        leave n (end_with (to p) (end_of old s.top.home.block)) t
+    there_end = ap (λ q. leave n (end_of (code_in news q) t.top.home.block) t) r.top.proc
+        ∙ ⊎_elim (λ e. ap (λ (b : Block). leave n b.end t) e)
+        (λ e. ap (λ (b : Block). leave n b.end t) e
+        ∙ turns (end_with (to p) (end_of old s.top.home.block)))
+        r.top.here
+
     acts : (o : Option VInstr) → instr_at old s.top.home.block s.top.home.index ≡ o →
         (act m (next_of old s.top o) s).over ≢ Some Wrong →
         Same R (act m (next_of old s.top o) s) (act n (next_of (code_in news t.top.proc) t.top o) t)
     acts None e ok =
-        subst (λ z. Same R (leave m (end_of old s.top.home.block) s) (leave n z t))
-        (sym (ap (λ q. end_of (code_in news q) t.top.home.block) r.top.proc ∙ there_end))
+        subst (λ z. Same R (leave m (end_of old s.top.home.block) s) z) (sym there_end)
         (leaves (end_of old s.top.home.block) s.compared refl ok)
     acts (Some i) e ok =
         performed m n R couples s t r (λ xs. written s.top (written_by i) xs)
@@ -353,15 +385,17 @@ stays_end Return = refl
 stays_block : (b : Block) → b ≡ block_with (λ k. k) b
 stays_block b = ap (λ e. record b { end = e }) (sym (stays_end b.end))
 
+numbered : (b c : Block) → (c ≡ b) ⊎ (c ≡ turned b) → Fits (λ k. k) b c
+numbered b c = ⊎_elim (λ e. inl (e ∙ stays_block b)) (λ e. inr (e ∙ ap turned (stays_block b)))
+
 itself : (code : VProc) → IsMoved (λ b. b) code code
 itself code = record {
   aggregates = refl;
   vars = refl;
   some = λ e. e;
   entry = refl;
-  first =
-      stays_block (block_of code 0);
-  blocks = λ b block e. e ∙ ap Some (stays_block block);
+  first = inl (stays_block (block_of code 0));
+  blocks = λ b block e. (block, e, inl (stays_block block));
 }
 
 module _ (to from : Places) (old new : VProc) (is : Reordered to from old new) where
@@ -390,15 +424,38 @@ module _ (to from : Places) (old new : VProc) (is : Reordered to from old new) w
     vars = is.vars;
     some = some_block;
     entry = is.entry;
-    first = first_block old.blocks refl;
-    blocks = is.blocks;
+    first = inl (first_block old.blocks refl);
+    blocks = λ b block e. (block_with to block, is.blocks b block e, inl refl);
+  }
+
+module _ (old new : VProc) (is : IsTurned old new) where
+  stays : (b : ℕ) (block : Block) → slice_get old.blocks b ≡ Some block →
+      Stands (λ k. k) new b block
+  stays b block e =
+      let lt = slice_get_within old.blocks b block e in (
+        block_of new b,
+        slice_get-get_or new.blocks b no_block (omega (arith, lt, is.count)),
+        numbered block (block_of new b)
+            (subst (λ (z : Block). (block_of new b ≡ z) ⊎ (block_of new b ≡ turned z))
+            (get_or_from_slice_get old.blocks b block no_block e) (is.blocks b)),
+      )
+
+  in_place : IsMoved (λ b. b) old new
+  in_place = record {
+    aggregates = is.aggregates;
+    vars = is.vars;
+    some = λ e. ap (nat_lt 0) is.count ∙ e;
+    entry = refl;
+    first = numbered (block_of old 0) (block_of new 0) (is.blocks 0);
+    blocks = stays;
   }
 
 abbrev only_at : ℕ → Places → ℕ → Places
 only_at p to q = if nat_eq q p then to else (λ b. b)
 
-pub same_runs : (to from : Places) (old new : VProc) → Reordered to from old new → SameRuns old new
-same_runs to from old new is =
+-- one procedure is another whose blocks have new numbers and maybe turned branches
+runs_moved : (to : Places) (old new : VProc) → IsMoved to old new → SameRuns old new
+runs_moved to old new is =
     record {
       carried = carries;
       runs_well = λ module_ p frames input at well. carried_well module_
@@ -421,7 +478,7 @@ same_runs to from old new is =
             subst (λ b. IsMoved (if b then to else (λ k. k)) (code_in olds q)
             (code_in (slice_set olds p new) q)) (sym test)
             (subst (λ z. IsMoved to z (code_in (slice_set olds p new) q)) (sym one)
-            (subst (λ z. IsMoved to old z) (sym two) (moved to from old new is)))
+            (subst (λ z. IsMoved to old z) (sym two) is))
         by (inr apart) =
             let test : nat_eq q p ≡ false = grind (arith, nat_tests) in
             let same : code_in (slice_set olds p new) q ≡ code_in olds q =
@@ -436,3 +493,9 @@ same_runs to from old new is =
     carries module_ p frames input at well = moved_carries module_ (slice_set module_.procs p new)
         (only_at p to) frames input (length-set module_.procs p new) (all_moved module_.procs p at)
         well
+
+pub same_runs : (to from : Places) (old new : VProc) → Reordered to from old new → SameRuns old new
+same_runs to from old new is = runs_moved to old new (moved to from old new is)
+
+pub turned_runs : (old new : VProc) → IsTurned old new → SameRuns old new
+turned_runs old new is = runs_moved (λ b. b) old new (in_place old new is)

@@ -1,3 +1,4 @@
+pub mod Turning
 pub mod Beside
 pub mod Kept
 pub mod Orders

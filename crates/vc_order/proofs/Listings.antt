@@ -1,13 +1,11 @@
 -- Lists of blocks, each once, as orders.
 use Rattle.std.proofs.Common.{◌≡◌, ◌≢◌, ℕ, zero, suc, ◌+◌, ◌<◌, ◌≤◌, ◌⊎◌, inl, inr, ⊎_elim, List}
-use Rattle.std.proofs.Common.{[], ◌∷◌, ◌++◌, length, map, drop, refl, sym, ap, ◌∙◌, subst, arith}
+use Rattle.std.proofs.Common.{[], ◌∷◌, ◌++◌, length, map, refl, sym, ap, ◌∙◌, subst, arith}
 use Rattle.std.proofs.Common.{length-append}
-use Rattle.std.specs.Prelude.{slice_index_or}
 use Rattle.std.specs.List.{swap}
 use Rattle.std.proofs.Math.ListN.{get_or, get_or-append}
 use Rattle.std.proofs.Math.Seq.{get_or-append_seam}
 use Rattle.std.proofs.lemmas.Bool.{cases_eq, cases_lt}
-use Rattle.std.proofs.lemmas.List.{length-map}
 use Rattle.std.proofs.lemmas.Option.{slice_get-get_or, slice_get_within}
 use Rattle.pra_base.specs.Code.{no_block, block_of, end_of, IsTarget}
 use Rattle.pra_base.specs.declared.ids.BlockId.{BlockId}
@@ -16,11 +14,11 @@ use Rattle.pra_base.specs.declared.code.End.{End}
 use Rattle.pra_base.specs.declared.code.End.TheVariants.{Jump, Branch, Return}
 use Rattle.pra_base.specs.declared.code.VProc.{VProc}
 use Rattle.vc_build.specs.Grow.{count, stand_in}
-use Rattle.vc_build.specs.Text.{depth_at, is_one, times, below, ComesBefore, IsBack, IsLast}
+use Rattle.vc_build.specs.Text.{depth_at, is_one, times, ComesBefore, IsBack, IsLast}
 use Rattle.vc_build.specs.Text.{AreInText}
 use Rattle.vc_build.proofs.Text.{one_here, one_off, below_in, below_out}
 use Rattle.vc_order.specs.Order.{Places, place_in, number_at, end_with, block_with, blocks_in}
-use Rattle.vc_order.specs.Order.{depths, IsOrder, IsListing, Reordered, IsInOrder}
+use Rattle.vc_order.specs.Order.{depths, IsOrder, IsListing, IsInOrder}
 use Rattle.vc_order.proofs.Kept.{block_is}
 use Rattle.vc_order.proofs.Orders.{any_default, swapped_first, swapped_second, swapped_other}
 use Rattle.vc_order.proofs.Orders.{reordered}

@@ -1,16 +1,20 @@
 // What holds of code whose blocks are in another order. Each function is a law: its contract is the
 // statement, and it does nothing.
 
-ghost use Rattle.std.specs.Prelude.{◌≡◌, ◌≢◌, ℕ, suc, ◌<◌, ◌≤◌, ◌⊎◌, List, Some, slice_get};
+ghost use Rattle.std.specs.Prelude.{◌≡◌, ◌≢◌, ℕ, suc, ◌<◌, ◌≤◌, ◌⊎◌, not, List, Some, slice_get};
 ghost use Rattle.pra_base.specs.Code.{block_of, end_of, IsTarget};
+ghost use Rattle.pra_base.specs.Valid.{IsValid, PushesBeforeCalls, TakesArgs, instruction_count};
+ghost use Rattle.pra_base.specs.Words.{compares};
 ghost use Rattle.pra_base.specs.declared.ids.BlockId.{BlockId};
+ghost use Rattle.pra_base.specs.declared.ids.Cond.{Cond};
 ghost use Rattle.pra_base.specs.declared.code.VProc.{VProc};
 ghost use Rattle.pra_base.specs.declared.code.VarKind.TheVariants.{Param};
 ghost use Rattle.vc_build.specs.Grow.{count, stand_in, IsOpen};
 ghost use Rattle.vc_expr.specs.Readable.{Entries, Certifies};
 ghost use Rattle.vc_expr.specs.Rules.{KeepsRules, IsComplete};
 ghost use Rattle.vc_build.specs.Text.{AreInText, depth_at};
-ghost use Rattle.vc_order.specs.Order.{IsInOrder, IsListing, Places, Reordered};
+ghost use Rattle.vc_order.specs.Order.{IsInOrder, IsListing, LeadOn, Places, Reordered, depths};
+ghost use Rattle.vc_order.specs.Turned.{IsTurned, opposite};
 ghost use Rattle.vc_same.specs.SameRuns.{SameRuns};
 
 /// Code with its blocks in another order carries every run of the old code that is never stuck, in
@@ -47,4 +51,28 @@ pub fn ahead_stays_ahead()
         ((b u : ℕ) → b < count code → IsTarget (end_of code b) u → u < count code) →
         c < count code → end_of code (order.from c) ≢ stand_in → IsTarget (end_of new c) t →
         (c < t) ⊎ ((0 < depth_at new t) × (depth_at new c ≡ depth_at new t)) }
+{}
+
+/// A condition holds where its opposite does not.
+pub fn opposite_conditions_negate()
+    ensures { (k : Cond) (a b : ℕ) → compares (opposite k) a b ≡ not (compares k a b) }
+{}
+
+/// Code with branches turned round carries every run of the old code that is never stuck, in every
+/// module, and is never stuck then.
+pub fn turned_branches_make_no_difference()
+    ensures { (old new : VProc) → IsTurned old new → SameRuns old new }
+{}
+
+/// Code with branches turned round keeps what the old code does: it is valid, calls with as many
+/// arguments, has the depths of the blocks and leads on as that does.
+pub fn turned_code_stays_valid()
+    ensures valid { (old new : VProc) → IsTurned old new → IsValid old → IsValid new }
+    ensures pushes { (counts : List ℕ) (old new : VProc) → IsTurned old new →
+        PushesBeforeCalls (TakesArgs counts) old.blocks →
+        PushesBeforeCalls (TakesArgs counts) new.blocks }
+    ensures instructions { (old new : VProc) → IsTurned old new →
+        instruction_count new.blocks ≡ instruction_count old.blocks }
+    ensures depths { (old new : VProc) → IsTurned old new → depths new ≡ depths old }
+    ensures leads { (old new : VProc) → IsTurned old new → LeadOn old → LeadOn new }
 {}

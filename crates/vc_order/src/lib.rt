@@ -15,10 +15,18 @@
 //! 0: .. cmp, branch 3, 2    3: a, jump 1    2: b, jump 1    1: c
 //! entered: 0, 3, 2, 1
 //! ```
+//!
+//! `take_short_ways` turns a branch round where the block to which it goes if its condition holds
+//! stands next, and the other does not: the condition is negated, and the targets are exchanged. So
+//! no branch is followed by a jump that it jumps over (`TakesShortWays` of `specs/Turned`). Such
+//! code does the same (the law `turned_branches_make_no_difference`), and stays valid
+//! (`turned_code_stays_valid`).
 #![tactic(auto)]
 
 pub mod laws;
 pub mod order;
 pub mod reorder;
+pub mod turn;
 
 pub use reorder::in_listed_order;
+pub use turn::take_short_ways;

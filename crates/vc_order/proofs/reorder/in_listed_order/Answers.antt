@@ -1,6 +1,6 @@
-use Rattle.std.proofs.Common.{◌≡◌, ◌<◌, ℕ, List, length, ap, ◌∙◌, subst, arith}
+use Rattle.std.proofs.Common.{◌≡◌, List, length, ap, ◌∙◌, subst, arith}
 use Rattle.pra_base.specs.declared.code.Block.{Block}
-use Rattle.vc_order.specs.Order.{IsOrder, IsListing, blocks_in, number_at, place_in}
+use Rattle.vc_order.specs.Order.{IsOrder, blocks_in}
 use Rattle.vc_order.proofs.Listings.{in_order}
 use Rattle.vc_order.proofs.reorder.in_listed_order.Goals as goal
 
