@@ -20,13 +20,16 @@ use Rattle.pra_base.specs.declared.code.VInstr.{VInstr}
 use Rattle.pra_base.specs.declared.code.VProc.{VProc}
 use Rattle.vc_build.specs.Grow.{count, stand_in, IsOpen, with_end}
 use Rattle.vc_build.specs.Text.{depth_at, AreInText}
-use Rattle.vc_expr.specs.Rules.{ClosesWell, KeepsRules}
+use Rattle.vc_expr.specs.Rules.{ClosesWell, KeepsRules, Obeys}
 use Rattle.vc_expr.proofs.Finished.{is_valid}
 use Rattle.vc_order.specs.Order.{Places, block_with, Reordered, IsInOrder, IsListing, LeadOn}
 use Rattle.vc_order.specs.Order.{depths}
 use Rattle.vc_order.proofs.Kept.{rules_kept, certificate_moves, completes}
 use Rattle.vc_order.proofs.Listings.{ahead}
-use Rattle.vc_order.proofs.Beside.{same_runs}
+use Rattle.vc_order.specs.Turned.{IsTurned}
+use Rattle.vc_order.proofs.Beside.{same_runs, turned_runs}
+use Rattle.vc_order.proofs.Turning as turning
+use Rattle.vc_same.proofs.Carried.{runs_on}
 use Rattle.vc_proc.specs.Finished.{KeepsOn, IsFinished}
 
 -- a block that is left by Return instead
@@ -222,4 +225,37 @@ module _ (to from : Places) (old mid : VProc) (last : ℕ) (is : Reordered to fr
           (λ v e.
           let i = entry v (ap (λ b. known b v) (sym from_entry) ∙ e) in
           (i.0, ap (λ (kinds : List VarKind). slice_index_or kinds v Plain) is.vars ∙ i.1));
+    }
+
+-- ---- with branches turned round
+
+pub turned_finished : (old : VProc) (last : ℕ) (ids : List BlockId) (mid new : VProc) →
+    IsFinished old last ids mid → IsTurned mid new → IsFinished old last ids new
+turned_finished old last ids mid new f is = record {
+  same = runs_on (with_end last Return old) mid new f.same (turned_runs mid new is);
+  id = is.id ∙ f.id;
+  args = is.args ∙ f.args;
+  aggregates = is.aggregates ∙ f.aggregates;
+  vars = is.vars ∙ f.vars;
+  count = is.count ∙ f.count;
+  instructions = turning.instructions_too mid new is ∙ f.instructions;
+  depths = turning.depths_too mid new is ∙ f.depths;
+  leads = λ counts rules. turning.lead_too mid new is (f.leads counts rules);
+  keeps = λ counts rules. keeps_too counts (f.keeps counts rules);
+  valid = λ counts known rules certifies apart entry.
+      turning.valid_too mid new is (f.valid counts known rules certifies apart entry);
+}
+  where
+    keeps_too : (counts : List ℕ) → KeepsOn counts mid → KeepsOn counts new
+    keeps_too counts k = record {
+      obeys = λ b n i e.
+          subst (λ (args : ℕ). Obeys args new.vars i) (sym is.args)
+          (subst (λ (vars : List VarKind). Obeys mid.args vars i) (sym is.vars)
+          (turning.each_too mid new is (Obeys mid.args mid.vars) k.obeys b n i e));
+      pushes = turning.pushes_too mid new is (TakesArgs counts) k.pushes;
+      targets = λ b t lt target.
+          let long : length new.blocks ≡ length mid.blocks = is.count in
+          let there = k.targets b t (omega (arith, lt, long))
+          (turning.same_target mid new is b t target) in
+          omega (arith, there, long);
     }

@@ -1,4 +1,5 @@
-// The last open block is left by Return, and the blocks are brought into the order of the text.
+// The last open block is left by Return, the blocks are brought into the order of the text, and
+// branches are turned round where the other way is shorter.
 
 ghost use Rattle.std.specs.Prelude.{◌≡◌, IfOk};
 ghost use Rattle.vc_build.specs.Grow.{IsOpen, count, open_blocks};
@@ -10,10 +11,11 @@ use crate::number::number_of;
 use pra_base::{BlockId, End, OutOfMemory, VProc};
 use std::alloc::Global;
 use vc_build::close;
-use vc_order::in_listed_order;
+use vc_order::{in_listed_order, take_short_ways};
 
 /// The code with its last open block, the only one, left by Return, and with its blocks in the
-/// order in which they were entered, which is that of the text.
+/// order in which they were entered, which is that of the text. In that order its branches take
+/// the short way.
 ///
 /// # Errors
 ///
@@ -34,5 +36,5 @@ pub fn finish(
     let end = number_of(code.blocks.len() - 1)?;
     let mut code = in_listed_order(alloc, code, order)?;
     close(alloc, &mut code, BlockId(end), End::Return);
-    Ok(code)
+    Ok(take_short_ways(code))
 }

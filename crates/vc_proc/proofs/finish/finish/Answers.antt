@@ -4,7 +4,7 @@ use Rattle.vc_build.specs.Grow.{with_end}
 use Rattle.vc_build.proofs.Open.{only_open}
 use Rattle.vc_order.proofs.Listings.{last_place}
 use Rattle.vc_proc.specs.Finished.{IsFinished}
-use Rattle.vc_proc.proofs.Ordered.{finished}
+use Rattle.vc_proc.proofs.Ordered.{finished, turned_finished}
 use Rattle.vc_proc.proofs.finish.finish.Goals as goal
 
 pub returns : goal.returns
@@ -17,7 +17,9 @@ returns c =
     let end : c.in_ok-end.end ≡ order.to last = omega (arith, c.in_ok-end.ensures, last_is) in
     let new_is : c.close.new.code ≡ with_end (order.to last) Return c.in_ok-code.code =
     c.close.ensures ∙ ap (λ n. with_end n Return c.in_ok-code.code) end in
-    subst (IsFinished c.args.code last ids) (sym new_is)
+    turned_finished c.args.code last ids c.close.new.code c.take_short_ways.result
+    (subst (IsFinished c.args.code last ids) (sym new_is)
     (finished order.to order.from c.args.code c.in_ok-code.code last order.reordered
     c.requires.is_open last_is ids order refl refl c.requires.listing c.requires.text
-    (only_open c.args.code last c.requires.no_other c.requires.is_open))
+    (only_open c.args.code last c.requires.no_other c.requires.is_open)))
+    c.take_short_ways.ensures.turned
