@@ -22,6 +22,14 @@ least - 1 -> 2147483647
 least MOD greatest -> 2147483646
 least DIV greatest -> -2
 least DIV 1 -> -2147483648
+y DIV 8 -> -1
+y MOD 8 -> 1
+y DIV 1 -> -7
+y MOD 1 -> 0
+least DIV 1073741824 -> -2
+least MOD 1073741824 -> 0
+greatest DIV 8 -> 268435455
+greatest MOD 8 -> 7
 least * least -> 0
 greatest * greatest -> 1
 r.x * r.x + k[1].x * minus -> -2147483647
@@ -71,6 +79,8 @@ k[3].a[1 MOD 0] -> trap Index
 a[x] DIV 0 -> trap Index
 x DIV a[3] -> trap Index
 (x DIV 0) MOD a[3] -> trap Divide
+a[3] DIV 1 -> trap Index
+a[3] MOD 1 -> trap Index
 a[3] * 0 -> trap Index";
 
 /// INTEGER variables.

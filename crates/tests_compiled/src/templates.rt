@@ -81,6 +81,49 @@ const ROWS: &[(ROp, Option<i32>, &str)] = &[
   return
 ",
     ),
+    (
+        ROp::Div,
+        Some(8),
+        "b0:
+  copy v3, v0
+  and v3, v2
+  divmod v4, v5, v3, v1
+  write v4
+  return
+",
+    ),
+    (
+        ROp::Div,
+        Some(1),
+        "b0:
+  copy v2, v0
+  write v2
+  return
+",
+    ),
+    (
+        ROp::Div,
+        Some(i32::MIN),
+        "b0:
+  copy v2, v0
+  checkpos v1
+  divmod v3, v4, v2, v1
+  cmpset L v6, v4, v5
+  sub v3, v6
+  write v3
+  return
+",
+    ),
+    (
+        ROp::Mod,
+        Some(8),
+        "b0:
+  copy v3, v0
+  and v3, v2
+  write v3
+  return
+",
+    ),
 ];
 
 #[test]
