@@ -32,8 +32,10 @@ use Rattle.pra_follow.proofs.Sides.{mapped, both_mapped, same_maps}
 use Rattle.pra_follow.proofs.Translated.{translated}
 use Rattle.pra_compile.specs.declared.compiling.CompiledProc.{CompiledProc}
 use Rattle.pra_report.specs.declared.report.ProcOut.{ProcOut}
-use Rattle.pra_compile.specs.Compiled.{Wanted, IsGranted, IsProcOut, IsCompiled, name_of}
-use Rattle.pra_compile.specs.CompiledProcs.{IsTidied, IsKept, IsCompiledProc, AreDone}
+use Rattle.pra_compile.specs.Compiled.{IsProcBy, IsCompiledBy, name_of}
+use Rattle.pra_compile.specs.CompiledProcs.{IsKept, IsCompiledProc, AreDone}
+use Rattle.pra_compile.specs.Leaving.{Leaving}
+use Rattle.pra_compile.specs.Tidied.{IsTidied, AreTidiedUpTo}
 
 -- ---- one procedure
 
@@ -59,15 +61,32 @@ tidied program p selected code lt is kept kinds tidy =
       tidy = tidy;
     }
 
-pub compiled_so : (program : Checked) (wanted : Wanted) (p : ℕ) (net : Net)
+pub none_tidied : (program : Checked) → AreTidiedUpTo program 0 []
+none_tidied program = record { count = refl; each = λ p code e. cc }
+
+pub one_tidied : (program : Checked) (n : ℕ) (codes : List VProc) (code : VProc) →
+    AreTidiedUpTo program n codes → IsTidied program n code →
+    AreTidiedUpTo program (n + 1) (codes ++ code ∷ [])
+one_tidied program n codes code are is =
+    let long = length_push codes code in
+    let count = are.count in
+    record {
+      count = omega (arith, long, count);
+      each = λ p c e.
+          got codes code c p e (λ lt there. are.each p c there)
+          (λ at same. subst (λ k. IsTidied program k c) (omega (arith, at, count))
+          (subst (λ d. IsTidied program n d) same is));
+    }
+
+pub compiled_so : (program : Checked) (leaves : Leaving) (p : ℕ) (net : Net)
     (compiled : CompiledProc) → IsTidied program p compiled.out.code →
     AreAdmittedIn compiled.out.code net compiled.out.routes →
-    IsGranted wanted net compiled.out.routes compiled.out.prices compiled.out.lines →
+    leaves p net compiled.out.routes compiled.out.prices compiled.out.lines →
     IsMade (routed compiled.out.code net compiled.out.routes) compiled.placed →
     compiled.out.name ≡ name_of program p → compiled.out.frame ≡ frame_size compiled.placed →
     frame_size compiled.placed ≡ flow_frame (routed compiled.out.code net compiled.out.routes) →
-    IsCompiledProc program wanted p compiled
-compiled_so program wanted p net compiled is routes granted made name frame of_flow = record {
+    IsCompiledProc program leaves p compiled
+compiled_so program leaves p net compiled is routes left made name frame of_flow = record {
   translation = record {
     made = is.is_selected.made;
     code = compiled.out.code;
@@ -86,15 +105,15 @@ compiled_so program wanted p net compiled is routes granted made name frame of_f
     code = refl;
     routes =
         refl;
-    granted = granted;
+    left = left;
   };
 }
 
 -- ---- all of them
 
-pub none_done : (program : Checked) (wanted : Wanted) (assembly : Assembly) →
-    IsAssembly [] program.data_words assembly → AreDone program wanted 0 [] assembly
-none_done program wanted assembly is = record {
+pub none_done : (program : Checked) (leaves : Leaving) (assembly : Assembly) →
+    IsAssembly [] program.data_words assembly → AreDone program leaves 0 [] assembly
+none_done program leaves assembly is = record {
   translations = [];
   are = record { few = omega arith; each = λ p t e. cc };
   count = refl;
@@ -103,9 +122,9 @@ none_done program wanted assembly is = record {
   assembled = is;
 }
 
-module _ (program : Checked) (wanted : Wanted) (n : ℕ) (procs : List ProcOut) (old new : Assembly)
-    (done : AreDone program wanted n procs old) (compiled : CompiledProc)
-    (is : IsCompiledProc program wanted n compiled) where
+module _ (program : Checked) (leaves : Leaving) (n : ℕ) (procs : List ProcOut) (old new : Assembly)
+    (done : AreDone program leaves n procs old) (compiled : CompiledProc)
+    (is : IsCompiledProc program leaves n compiled) where
   abbrev ts : List Translation
   ts = done.translations
 
@@ -116,7 +135,7 @@ module _ (program : Checked) (wanted : Wanted) (n : ℕ) (procs : List ProcOut) 
   more_are = one_more program ts is.translation done.are translation_is
 
   pub one_done : IsAssembly (map (λ (t : Translation). t.placed) ts ++ compiled.placed ∷ [])
-      program.data_words new → AreDone program wanted (n + 1) (procs ++ compiled.out ∷ []) new
+      program.data_words new → AreDone program leaves (n + 1) (procs ++ compiled.out ∷ []) new
   one_done assembled =
       let long = length_push ts is.translation in
       let many = length_push procs compiled.out in
@@ -136,9 +155,9 @@ module _ (program : Checked) (wanted : Wanted) (n : ℕ) (procs : List ProcOut) 
             (λ at same.
             got procs compiled.out out p f
             (λ less here. absurd (omega (arith, less, at, count, procs_count)))
-            (λ here other. subst (λ k. IsKept program wanted k t out) (omega (arith, at, count))
-            (subst (λ o. IsKept program wanted n t o) other
-            (subst (λ u. IsKept program wanted n u compiled.out) same is.kept))));
+            (λ here other. subst (λ k. IsKept program leaves k t out) (omega (arith, at, count))
+            (subst (λ o. IsKept program leaves n t o) other
+            (subst (λ u. IsKept program leaves n u compiled.out) same is.kept))));
         assembled =
             subst (λ l. IsAssembly l program.data_words new)
             (ap (λ p. map (λ (t : Translation). t.placed) ts ++ p ∷ []) (sym is.placed)
@@ -148,9 +167,9 @@ module _ (program : Checked) (wanted : Wanted) (n : ℕ) (procs : List ProcOut) 
 
 -- ---- the whole
 
-module _ (program : Checked) (wanted : Wanted) (selectable : IsSelectable program)
+module _ (program : Checked) (leaves : Leaving) (selectable : IsSelectable program)
     (procs : List ProcOut) (assembly : Assembly)
-    (done : AreDone program wanted (length program.procs) procs assembly) where
+    (done : AreDone program leaves (length program.procs) procs assembly) where
   abbrev all : List Translation
   all = done.translations
 
@@ -166,7 +185,7 @@ module _ (program : Checked) (wanted : Wanted) (selectable : IsSelectable progra
 
   out_is : (p : ℕ) (proc : CheckedProc) (out : ProcOut) (r : Routed) → slice_get program.procs p ≡
       Some proc → slice_get procs p ≡ Some out → slice_get (map behind all) p ≡ Some r →
-      IsProcOut program wanted p proc out r
+      IsProcBy program leaves p proc out r
   out_is p proc out r e f g =
       let x = mapped behind all p r g in
       let is = done.are.each p x.from x.there in
@@ -180,7 +199,7 @@ module _ (program : Checked) (wanted : Wanted) (selectable : IsSelectable progra
         net = x.from.net;
         routes = subst (λ c. AreAdmittedIn c x.from.net out.routes) (sym kept.code)
             (subst (λ rs. AreAdmittedIn x.from.code x.from.net rs) (sym kept.routes) is.routes);
-        allocated = kept.granted;
+        allocated = kept.left;
         carried = sym x.is ∙ ap (λ c. routed c x.from.net x.from.routes) (sym kept.code)
             ∙ ap (λ rs. routed out.code x.from.net rs) (sym kept.routes);
         frame = kept.of_flow ∙ ap flow_frame x.is;
@@ -197,7 +216,8 @@ module _ (program : Checked) (wanted : Wanted) (selectable : IsSelectable progra
       (subst (λ r. IsMade r x.from.placed) x.one (done.are.each p x.from x.there).placed)
 
   pub all_compiled : (image : Image) → IsImageOf (map (λ (t : Translation). t.placed) all)
-      program.data_words image → IsCompiled program wanted (record { image = image; procs = procs })
+      program.data_words image →
+      IsCompiledBy program leaves (record { image = image; procs = procs })
   all_compiled image is =
       let follows = follows_module program all done.are selectable done.count image is in
       record {

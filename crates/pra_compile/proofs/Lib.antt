@@ -1,3 +1,4 @@
+pub mod Codes
 pub mod Done
 pub mod Told
 pub mod Totals

@@ -1,6 +1,6 @@
 -- What the lines of a procedure say.
 use Rattle.std.proofs.Common.{◌≡◌, ℕ, zero, suc, ◌+◌, ◌-◌, ◌<◌, ◌≤◌, Bool, true, false, cond, List}
-use Rattle.std.proofs.Common.{[], ◌∷◌, length, take, Option, Some, None, refl, sym, ap, subst, ◌∙◌}
+use Rattle.std.proofs.Common.{[], ◌∷◌, length, take, Some, refl, sym, ap, subst, ◌∙◌}
 use Rattle.std.proofs.Common.{arith, nat_le}
 use Rattle.std.specs.Prelude.{slice_get}
 use Rattle.std.specs.Option.{option_map_or}
@@ -20,7 +20,6 @@ use Rattle.pl_place.specs.Behind.{Routed}
 use Rattle.al_laws.specs.Settled.{AreSettled}
 use Rattle.al_round.specs.Lines.{AreLines}
 use Rattle.al_round.specs.Watches.{WasObeyed, verdict_of}
-use Rattle.al_round.specs.declared.watch.Verdict.{Verdict}
 use Rattle.al_round.specs.declared.watch.Verdict.TheVariants.{Go, Stop}
 use Rattle.pra_report.specs.declared.report.ProcOut.{ProcOut}
 use Rattle.pra_report.specs.Report.{last_line, last_cost, last_bound}

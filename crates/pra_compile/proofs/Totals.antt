@@ -1,7 +1,6 @@
 -- What is kept of a module's procedures has totals.
-use Rattle.std.proofs.Common.{◌≡◌, ℕ, suc, ◌+◌, ◌-◌, ◌*◌, ◌^◌, ◌<◌, ◌≤◌, List, [], ◌∷◌, ◌++◌}
-use Rattle.std.proofs.Common.{length, get_or, All, Option, Some, None, refl, ap, sum_by, arith}
-use Rattle.std.specs.Prelude.{slice_get}
+use Rattle.std.proofs.Common.{◌≡◌, ℕ, suc, ◌*◌, ◌^◌, ◌<◌, ◌≤◌, List, [], ◌∷◌}
+use Rattle.std.proofs.Common.{length, get_or, All, Option, Some, None, refl, ap, arith}
 use Rattle.std.proofs.lemmas.List.{length-append}
 use Rattle.std.proofs.lemmas.List.Elements.{All-head, All-tail, All-from_get_or}
 use Rattle.std.proofs.lemmas.Option.{slice_get-get_or}
@@ -16,7 +15,7 @@ use Rattle.net_form.specs.declared.net.Strand.{Strand}
 use Rattle.net_form.specs.declared.routes.Routes.{Routes}
 use Rattle.net_form.specs.Admitted.{no_strand}
 use Rattle.net_form.specs.Cost.{edge_cost, cost_of}
-use Rattle.net_form.specs.Flow.{Edge, edges, flow_from, flow, HasPlaces, AreRoutes}
+use Rattle.net_form.specs.Flow.{edges, flow_from, flow, HasPlaces, AreRoutes}
 use Rattle.net_form.specs.Formed.{most_layers}
 use Rattle.net_form.specs.Tables.{all_tables}
 use Rattle.net_form.proofs.EdgeCosts.{cost_by_edges}
@@ -26,10 +25,12 @@ use Rattle.net_laws.proofs.Built.{built}
 use Rattle.net_dual.proofs.Small.{cost_small}
 use Rattle.pl_place.specs.Behind.{Routed}
 use Rattle.pra_report.specs.declared.report.ProcOut.{ProcOut}
-use Rattle.pra_report.specs.Report.{last_cost, last_bound, most_procs, HaveTotals, IsOfMany}
+use Rattle.pra_report.specs.Report.{most_procs, HaveTotals, IsOfMany}
 use Rattle.pra_report.proofs.Totals.{many_have_totals}
 use Rattle.pra_compile.specs.declared.output.Compiled.{Compiled}
-use Rattle.pra_compile.specs.Compiled.{Wanted, IsProcOut, IsCompiled}
+use Rattle.pra_compile.specs.Compiled.{Wanted, granted, IsProcBy, IsProcOut, IsCompiledBy}
+use Rattle.pra_compile.specs.Compiled.{IsCompiled}
+use Rattle.pra_compile.specs.Leaving.{Leaving}
 use Rattle.pra_compile.proofs.Done.{there_is}
 use Rattle.pra_compile.proofs.Told.{some_line, last_cost_of, last_within}
 
@@ -85,15 +86,25 @@ out_is_one program wanted p proc out r valid is =
       bound = omega (arith, few, same, within);
     }
 
-pub have_totals : (program : Checked) (wanted : Wanted) (compiled : Compiled) →
-    IsCompiled program wanted compiled → IsValid wanted.weights → length program.procs ≤
-    most_procs → HaveTotals compiled.procs
-have_totals program wanted compiled is valid few =
+-- a module has totals where each of its procedures is one of many
+pub all_total : (program : Checked) (leaves : Leaving) (compiled : Compiled) →
+    IsCompiledBy program leaves compiled →
+    ((p : ℕ) (proc : CheckedProc) (out : ProcOut) (r : Routed) →
+    IsProcBy program leaves p proc out r → IsOfMany out) → length program.procs ≤ most_procs →
+    HaveTotals compiled.procs
+all_total program leaves compiled is one few =
     let count = is.count in
     let behind_count = is.behind_count in
     many_have_totals compiled.procs (omega (arith, count, few)) (λ p d lt.
     let proc = there_is program.procs p (omega (arith, lt, count)) in
     let r = there_is is.behind p (omega (arith, lt, behind_count)) in
-    out_is_one program wanted p proc.0 (get_or compiled.procs p d) r.0 valid
+    one p proc.0 (get_or compiled.procs p d) r.0
     (is.each p proc.0 (get_or compiled.procs p d) r.0 proc.1
     (slice_get-get_or compiled.procs p d lt) r.1))
+
+pub have_totals : (program : Checked) (wanted : Wanted) (compiled : Compiled) →
+    IsCompiled program wanted compiled → IsValid wanted.weights → length program.procs ≤
+    most_procs → HaveTotals compiled.procs
+have_totals program wanted compiled is valid few =
+    all_total program (granted wanted) compiled is
+    (λ p proc out r. out_is_one program wanted p proc out r valid) few

@@ -1,20 +1,31 @@
 //! The whole compiler behind the checker.
 //!
-//! `compile` takes a checked module to an image: code is selected for each procedure in order of
-//! number and made tidy, its network is built, rounds find routes, placed code is made of both and
+//! From a checked module to its image there are two steps. `tidy_codes` has the code of each
+//! procedure selected and made tidy. `compile_codes` takes these codes in order of number: it asks
+//! an [`Allocator`] for routes through the network of the code, and placed code is made of both and
 //! assembled. Only one procedure's network stands at a time. What is kept of a procedure is its
-//! name, its frame, its code, the routes that the image carries, a line for each round, and the
-//! prices of the last bound.
+//! name, its frame, its code, the routes that the image carries, and what the allocator leaves
+//! beside them.
 //!
-//! `specs/Compiled` says what is promised (`IsCompiled`): the image does what the module means, on
-//! every input of words, with the frames that are kept, both ways and never at a fault; it carries
-//! the codes and the flows of the routes, which are admitted; and these are what the rounds that
-//! were wanted leave (`IsGranted`). `laws` has what the lines say of that.
+//! The allocator `Granted` finds routes by rounds and leaves a line for each, and the prices of the
+//! last bound; `compile` is both steps with it.
+//!
+//! `specs/Compiled` says what is promised (`IsCompiledBy`) for any allocator: the image does what
+//! the module means, on every input of words, with the frames that are kept, both ways and never at
+//! a fault; it carries the codes and the flows of the routes, which are admitted; and of routes,
+//! prices and lines stands what the allocator says of them (`leaves`). For rounds that is
+//! `IsGranted`, and `IsCompiled` is the whole. `laws` has what the lines say.
 #![tactic(auto)]
 
+mod allocator;
 mod compiling;
+mod granted;
 pub mod laws;
 mod output;
+mod tidied;
 
-pub use compiling::compile;
+pub use allocator::{Allocated, Allocator};
+pub use compiling::{compile, compile_codes};
+pub use granted::Granted;
 pub use output::Compiled;
+pub use tidied::tidy_codes;

@@ -5,7 +5,7 @@ use Rattle.net_form.specs.declared.prices.Line.{Line}
 use Rattle.net_laws.proofs.Built.{built}
 use Rattle.al_round.specs.Watches.{gap_of, WasObeyed}
 use Rattle.pra_compile.proofs.Told.{behind_one}
-use Rattle.pra_compile.proofs.compiling.allocate.Goals as goal
+use Rattle.pra_compile.proofs.granted.by_rounds.Goals as goal
 
 pub start-requires-clause-net : goal.start-requires-clause-net
 start-requires-clause-net g c = built c.args.code.now c.in_ok-net.net c.in_ok-net.ensures
@@ -17,7 +17,7 @@ grant-requires-clause-net g c = built c.args.code.now c.in_ok-net.net c.in_ok-ne
 
 pub returns-clause-routes : goal.returns-clause-routes
 returns-clause-routes g c =
-    let allocation = c.into_allocation-allocation.ensures.allocation c.in_ok-net.net
+    let allocation = c.into_allocation-routes.ensures.allocation c.in_ok-net.net
     (weights_of c.args.model.now) c.in_ok-grant.ensures.rounds in
     record {
       is_net = c.in_ok-net.ensures;
@@ -32,10 +32,10 @@ returns-clause-granted g c =
     let obeyed = behind_one gap rounds _ _ c.in_ok-granted.ensures.one c.in_ok-grant.ensures.obeyed
     in
     record {
-      allocation = c.into_allocation-allocation.ensures.allocation c.in_ok-net.net
+      allocation = c.into_allocation-routes.ensures.allocation c.in_ok-net.net
           (weights_of c.args.model.now) c.in_ok-grant.ensures.rounds;
       obeyed = subst (λ (lines : List Line). WasObeyed gap rounds (take 1 lines) lines)
-          (sym c.into_allocation-allocation.ensures.lines) obeyed;
+          (sym c.into_allocation-routes.ensures.lines) obeyed;
     }
 
 pub returns-in_err-grant-clause-routes : goal.returns-in_err-grant-clause-routes

@@ -1,5 +1,5 @@
 use Rattle.pra_compile.proofs.Done.{there_is, tidied}
-use Rattle.pra_compile.proofs.compiling.tidy_code.Goals as goal
+use Rattle.pra_compile.proofs.tidied.tidy_code.Goals as goal
 
 pub tidy-requires-clause-valid : goal.tidy-requires-clause-valid
 tidy-requires-clause-valid c =

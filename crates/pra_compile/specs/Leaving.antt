@@ -1,0 +1,10 @@
+-- What may be known of what an allocator leaves of a procedure.
+use Rattle.std.specs.Prelude.{ℕ, List}
+use Rattle.net_form.specs.declared.net.Net.{Net}
+use Rattle.net_form.specs.declared.prices.Line.{Line}
+use Rattle.net_form.specs.declared.prices.Prices.{Prices}
+use Rattle.net_form.specs.declared.routes.Routes.{Routes}
+
+-- a fact of a procedure's number and of its network, routes, prices and lines
+abbrev pub Leaving : Type 1
+Leaving = ℕ → Net → Routes → Prices → List Line → Type 0
