@@ -1,4 +1,6 @@
+pub mod Admitting
 pub mod Codes
 pub mod Done
+pub mod GivenLines
 pub mod Told
 pub mod Totals

@@ -1,5 +1,6 @@
 pub mod Compiled
 pub mod CompiledProcs
+pub mod Given
 pub mod Leaving
 pub mod Mechanism
 pub mod Tidied

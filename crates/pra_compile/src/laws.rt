@@ -10,13 +10,16 @@ ghost use Rattle.net_form.specs.declared.prices.Prices.{Prices};
 ghost use Rattle.net_form.specs.declared.routes.Routes.{Routes};
 ghost use Rattle.net_form.specs.Admitted.{IsAdmitted};
 ghost use Rattle.net_form.specs.Cost.{cost_of};
-ghost use Rattle.net_form.specs.Flow.{Edge};
+ghost use Rattle.net_form.specs.Flow.{Edge, flow};
 ghost use Rattle.al_laws.specs.Settled.{AreSettled};
 ghost use Rattle.al_round.specs.Watches.{verdict_of};
 ghost use Rattle.al_round.specs.declared.watch.Verdict.TheVariants.{Go};
 ghost use Rattle.pl_place.specs.Behind.{Routed};
 ghost use Rattle.pra_compile.specs.declared.output.Compiled.{Compiled};
+ghost use Rattle.pra_compile.specs.declared.given.GivenRoutes.{GivenRoutes};
 ghost use Rattle.pra_compile.specs.Compiled.{Wanted, IsGranted, IsProcOut, IsCompiled};
+ghost use Rattle.pra_compile.specs.Compiled.{IsProcBy, IsCompiledBy};
+ghost use Rattle.pra_compile.specs.Given.{given_by};
 ghost use Rattle.pra_compile.specs.Mechanism.{ComeFromPrices, WereLaid};
 ghost use Rattle.pra_report.specs.declared.report.ProcOut.{ProcOut};
 ghost use Rattle.pra_report.specs.Report.{last_cost, last_bound, most_procs, HaveTotals};
@@ -85,4 +88,29 @@ pub fn compiled_have_totals()
     ensures { (program : Checked) (wanted : Wanted) (compiled : Compiled) →
         IsCompiled program wanted compiled → IsValid wanted.weights →
         length program.procs ≤ most_procs → HaveTotals compiled.procs }
+{}
+
+/// Of a procedure whose routes were given the image carries the flow of these routes, and its line
+/// tells the cost and the bound that were given with them.
+pub fn given_routes_are_carried()
+    ensures flow { (program : Checked) (given : List GivenRoutes) (p : ℕ) (proc : CheckedProc)
+        (out : ProcOut) (r : Routed) (own : GivenRoutes) →
+        IsProcBy program (given_by given) p proc out r → slice_get given p ≡ Some own →
+        r.flow ≡ flow r.net own.routes }
+    ensures cost { (program : Checked) (given : List GivenRoutes) (p : ℕ) (proc : CheckedProc)
+        (out : ProcOut) (r : Routed) (own : GivenRoutes) →
+        IsProcBy program (given_by given) p proc out r → slice_get given p ≡ Some own →
+        last_cost out.lines ≡ own.cost }
+    ensures bound { (program : Checked) (given : List GivenRoutes) (p : ℕ) (proc : CheckedProc)
+        (out : ProcOut) (r : Routed) (own : GivenRoutes) →
+        IsProcBy program (given_by given) p proc out r → slice_get given p ≡ Some own →
+        last_bound out.lines ≡ own.bound }
+{}
+
+/// What is kept of procedures with given routes has totals, where there are no more than a module
+/// may have.
+pub fn given_have_totals()
+    ensures { (program : Checked) (given : List GivenRoutes) (compiled : Compiled) →
+        IsCompiledBy program (given_by given) compiled → length program.procs ≤ most_procs →
+        HaveTotals compiled.procs }
 {}
