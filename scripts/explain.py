@@ -23,6 +23,7 @@ import offences
 import reasons
 import stopped
 import traps
+from checker import images
 from places import Place, shown, token_end, tokens, word_end
 
 TOP = os.path.dirname(os.path.dirname(os.path.realpath(__file__)))
@@ -231,6 +232,15 @@ def by_reader(line, name, source):
     return None
 
 
+def machine_fault(name, kind):
+    """What a fault of the machine means, to which an image may come that was not compiled."""
+    for row in table("Other files"):
+        if row[0] == f"`{kind}`":
+            where = row[1].replace("`", "")
+            return [f"{name}: fault of the machine: the instruction pointer stands {where}"]
+    return None
+
+
 def of_other_files(line, name, source):
     """The same of a line on an image, its text or a certificate."""
     if lines := by_reader(line, name, source):
@@ -251,6 +261,8 @@ def of_other_files(line, name, source):
                 " is none that stands there (docs/CERTIFICATES.md)"]
     if found := re.fullmatch(r"fault certificate procedure (\d+) ([a-z]+)", line):
         return [f"{name}, procedure {found[1]}: the certificate does not hold: {REASONS[found[2]]}"]
+    if found := re.fullmatch(r"machine ([a-z]+) steps \d+ reads \d+", line):
+        return machine_fault(name, found[1])
     return None
 
 
@@ -295,7 +307,9 @@ def told(notes, name, input_name=None):
     source = read(name)
     given = read(input_name) if input_name else None
     for line in reversed(notes.splitlines()):
-        if traps.STEPS.fullmatch(line):
+        if found := traps.STEPS.fullmatch(line):
+            if source.startswith(images.MAGIC):
+                return [f"{name}: trap {found[1]}: {traps.KINDS[found[1]]}"]
             return traps.told(name, source, line, COMPILER, input_name)
         if lines := explained(line, name, source, given):
             return lines

@@ -111,6 +111,12 @@ class Notes(unittest.TestCase):
         self.assertIn("a.ob:2:1: no instruction has the name foo", self.told(text, "fault line 2\n"))
         self.assertIn("no JSON", self.told(b"{", "fault json\n"))
 
+    def test_an_image_may_come_to_a_fault_or_to_a_trap(self):
+        told = self.told(b"PRAI", "machine divide steps 3 reads 0\n")
+        self.assertIn("fault of the machine: the instruction pointer stands at an IDIV by 0", told)
+        told = self.told(b"PRAI", "trap Divide steps 3 reads 0\n")
+        self.assertEqual(told, "a.ob: trap Divide: the right side of DIV or MOD is 0 or less")
+
 
 class Traps(unittest.TestCase):
     def test_marks_stand_before_statements_and_behind_turns(self):

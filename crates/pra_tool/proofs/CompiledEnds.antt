@@ -16,9 +16,9 @@ use Rattle.pra_tool.specs.Inputs.{HasGiven, IsInputCause, input_fault_status, in
 use Rattle.pra_tool.specs.Ends.{Ends}
 use Rattle.pra_tool.specs.Ends as ends
 use Rattle.pra_tool.specs.Interpreted.{units_of, interp_writes}
-use Rattle.pra_tool.specs.Modes.{IsInput}
-use Rattle.pra_tool.specs.Clause.{run_of, takes_input, run_writes, compile_writes, gen_writes}
-use Rattle.pra_tool.specs.Clause.{compiling, generating}
+use Rattle.pra_tool.specs.Modes.{Kind, Mode, IsInput, TextRefused}
+use Rattle.pra_tool.specs.Clause.{run_of, run_writes, compile_writes, gen_writes}
+use Rattle.pra_tool.specs.Clause.{inputs, compiling, generating}
 use Rattle.pra_tool.specs.Compiling.{MadeOf}
 use Rattle.pra_tool.proofs.ModeAnswers.{is_memory}
 
@@ -85,14 +85,13 @@ gen_ends asked source made w s old new result alone text made_of is ended wrote 
       ended = ended;
     }) wrote
 
--- the input was not read, or is refused
-pub input_ends : (next : Then) → takes_input next ≡ true → (asked : Asked) (fault : InputFault)
+-- the input, of which a mode takes the numbers, was not read, or is refused
+pub input_ends : (m : Mode) → m.input ≡ inputs → m.reads_input ≡ true → (fault : InputFault)
     (old new : Seen) (s : Status) → IsInputCause fault old.input new.input →
     (s ≡ input_fault_status fault) ⊎ (s ≡ NoMemory) →
     (s ≢ NoMemory → Refused (input_fault_line fault) old new) →
-    (s ≡ NoMemory → Untouched old new) → (source : List ℕ) →
-    Ends (compiling next asked) source old new s
-input_ends next reads asked fault old new s cause known told memory source = ⊎_elim
+    (s ≡ NoMemory → Untouched old new) → (source : List ℕ) → Ends m source old new s
+input_ends m same reads fault old new s cause known told memory source = ⊎_elim
     (λ wanting. ends.wanting wanting (memory wanting))
     (λ other. by_fault fault other cause (⊎_elim (λ e. e) (λ e. absurd (other e)) known)
     (told other))
@@ -100,10 +99,11 @@ input_ends next reads asked fault old new s cause known told memory source = ⊎
   where
     by_fault : (f : InputFault) → s ≢ NoMemory → IsInputCause f old.input new.input →
         s ≡ input_fault_status f → Refused (input_fault_line f) old new →
-        Ends (compiling next asked) source old new s
+        Ends m source old new s
     by_fault (Wrong f) other c is left = ends.refused c.bytes
         (subst (λ (b : Bool). IsInput b old.input c.bytes) (sym reads) c.taken)
-        (record { fault = f; wrong = c.wrong; status_is = is; left = left })
+        (subst (λ (k : Kind). TextRefused k c.bytes old new s) (sym same)
+        (record { fault = f; wrong = c.wrong; status_is = is; left = left }))
     by_fault NotRead other c is left = ends.unread reads is c left
     by_fault OutOfMemory other c is left = absurd (other is)
 

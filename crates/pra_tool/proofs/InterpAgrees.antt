@@ -62,7 +62,7 @@ told_reads (Failed trap c) = refl
 told_reads (Stopped c) = refl
 
 -- the meaning at two budgets, by each of which it ends
-ends_once : (program : Checked) (frames : List ℕ) (input : List ℤ) (m n : ℕ) →
+pub ends_once : (program : Checked) (frames : List ℕ) (input : List ℤ) (m n : ℕ) →
     (mean program frames input m).ending ≢ None → (mean program frames input n).ending ≢ None →
     mean program frames input m ≡ mean program frames input n
 ends_once program frames input m n over more =
@@ -86,7 +86,7 @@ come_to_the_same program frames image input steps units does over more =
 
 -- ---- by their statuses
 
-run_over : (e : Ending) (s : Status) → IsStatusOf e s → s ≢ status.Going → run_end e ≢ None
+pub run_over : (e : Ending) (s : Status) → IsStatusOf e s → s ≢ status.Going → run_end e ≢ None
 run_over ending.Ended status.Ended is other = λ e. absurd (none_some (sym e))
 run_over (ending.Trap k) status.Trapped is other = λ e. absurd (none_some (sym e))
 run_over ending.Going status.Going is other = absurd (other refl)
@@ -148,7 +148,7 @@ end_alike program frames image input steps units s t does is was other another =
 -- ---- what is made of one source and one input
 
 -- one input has one list of numbers
-one_numbers : (input : List ℕ) (a b : List ℤ) → HasNumbers input a → HasNumbers input b → a ≡ b
+pub one_numbers : (input : List ℕ) (a b : List ℤ) → HasNumbers input a → HasNumbers input b → a ≡ b
 one_numbers input a b p q = let e = sym p.1 ∙ q.1 in cc
 
 pub interp_does_as_run : (asked other : Asked) (source input : List ℕ) (v w : Writes) (s t : Status)

@@ -10,6 +10,8 @@ mod SameFrames
 mod InterpAgrees
 mod ListingModes
 mod ListingEnds
+mod ExecModes
+mod ExecAgrees
 mod RoundTrip
 mod CertModes
 mod CertEnds

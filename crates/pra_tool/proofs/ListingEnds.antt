@@ -17,6 +17,7 @@ use Rattle.pra_tool.specs.Modes.{Answers}
 use Rattle.pra_tool.specs.Ends.{Ends}
 use Rattle.pra_tool.specs.Ends as ends
 use Rattle.pra_tool.specs.Listings.{IsListed, ListMakes, IsTextOf, IsUnlisted, IsUnassembled}
+use Rattle.pra_tool.specs.Listings.{IsUnloaded}
 use Rattle.pra_tool.specs.Listings.{most_image}
 use Rattle.pra_tool.specs.Clause.{AsmMakes, asm_writes, listing, assembling, mode_by}
 use Rattle.pra_tool.proofs.CompilingModes.{longer}
@@ -67,6 +68,10 @@ none_differ files is = subst AreDifferent (sym is) no_files
 pub too_long_image : (file : Option (Option (List ℕ))) → IsLonger file most_image →
     (held : List ℕ) × Holds file held × IsUnlisted held unlisted.TooLong
 too_long_image file h = longer most_image file h
+
+pub too_long_to_run : (file : Option (Option (List ℕ))) → IsLonger file most_image →
+    (held : List ℕ) × Holds file held × IsUnloaded held unlisted.TooLong
+too_long_to_run file h = longer most_image file h
 
 pub too_long_text : (file : Option (Option (List ℕ))) → IsLonger file max_text_bytes →
     (held : List ℕ) × Holds file held × IsUnassembled held unassembled.TooLong

@@ -23,7 +23,7 @@ use Rattle.pra_tool.specs.Writes.{Writes, names}
 use Rattle.pra_tool.specs.Modes.{IsKind, IsMode}
 use Rattle.pra_tool.specs.Listings.{most_image, IsListed, StopsIn, IsUnlisted, unlisted_by}
 use Rattle.pra_tool.specs.Listings.{unlisted_status, images, IsUnassembled, unassembled_status}
-use Rattle.pra_tool.specs.Listings.{listings}
+use Rattle.pra_tool.specs.Listings.{IsUnloaded, loadable, listings}
 use Rattle.pra_tool.specs.Clause.{listing, assembling}
 use Rattle.pra_tool.proofs.CompilingModes.{inputs_are_a_kind, not_read}
 
@@ -132,6 +132,34 @@ images_are_a_kind = record {
   never_both = never_unlisted;
   refuses = unlisted_refusal;
 }
+
+-- ---- images that run
+
+pub unloaded_is_unlisted : (file : List ℕ) (f : Unlisted) → IsUnloaded file f → IsUnlisted file f
+unloaded_is_unlisted file unlisted.TooLong h = h
+unloaded_is_unlisted file (unlisted.Broken field place) h = h
+unloaded_is_unlisted file (unlisted.Code place) h = absurd h
+unloaded_is_unlisted file (unlisted.LongText count) h = absurd h
+unloaded_is_unlisted file unlisted.OutOfMemory h = absurd h
+
+never_unloaded : (file : List ℕ) (f : Unlisted) → loadable.IsRight file → IsUnloaded file f → ⊥
+never_unloaded file unlisted.TooLong right h =
+    let le = short_file file right.0 right.1 in omega (arith, h, le)
+never_unloaded file (unlisted.Broken field place) right h =
+    not_broken file right.0 field place right.1 h.1
+never_unloaded file (unlisted.Code place) right h = h
+never_unloaded file (unlisted.LongText count) right h = h
+never_unloaded file unlisted.OutOfMemory right h = h
+
+pub loadable_is_a_kind : IsKind loadable
+loadable_is_a_kind = record {
+  one_wrong = λ file f g h k. one_unlisted file f g (unloaded_is_unlisted file f h)
+      (unloaded_is_unlisted file g k);
+  never_both = never_unloaded;
+  refuses = λ file f h. unlisted_refusal file f (unloaded_is_unlisted file f h);
+}
+
+-- ---- the mode that lists
 
 pub listing_is_a_mode : IsMode listing
 listing_is_a_mode = record {

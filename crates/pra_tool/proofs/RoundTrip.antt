@@ -43,14 +43,18 @@ bytes_in : List FileText → List ℕ
 bytes_in [] = []
 bytes_in (f ∷ fs) = f.bytes
 
+pub same_bytes : (name other a b : List ℕ) → one_file name a ≡ one_file other b → a ≡ b
+unfolding bytes_in
+same_bytes name other a b e = ap bytes_in e
+
 pub text_back : (asked : Asked) (text file : List ℕ) (v w : Writes) (s t : Status) →
     AsmMakes asked text [] v s → v.files ≡ one_file asked.image file → ListMakes file [] w t →
     w.out ≡ text
-unfolding bytes_in
 text_back asked text file v w s t made files list =
     let image = list.listed.image in
     let bytes : file ≡ image_bytes_of made.image =
-    ap bytes_in (sym files ∙ ap (λ (x : Writes). x.files) made.writes) in
+    same_bytes asked.image asked.image file (image_bytes_of made.image)
+    (sym files ∙ ap (λ (x : Writes). x.files) made.writes) in
     let same : made.image ≡ image = same_image file made.image image
     (made.listed.1, bytes) list.listed.held in
     ap (λ (x : Writes). x.out) list.writes

@@ -31,7 +31,8 @@ use Rattle.pra_tool.specs.Outside.{Seen, Refused, Untouched}
 use Rattle.pra_tool.specs.Writes.{FileText, Writes, Stored}
 use Rattle.pra_tool.specs.Modes.{Kind, Mode, Answers}
 use Rattle.pra_tool.specs.Interpreted.{InterpMakes}
-use Rattle.pra_tool.specs.Listings.{IsTextOf, images, listings, ListMakes}
+use Rattle.pra_tool.specs.Listings.{IsTextOf, images, loadable, listings, ListMakes}
+use Rattle.pra_tool.specs.Executed.{ExecMakes}
 use Rattle.pra_tool.specs.Certified.{CertMakes, CertOver, certificates, CheckMakes}
 use Rattle.pra_tool.specs.declared.tool.Then.{Then}
 use Rattle.pra_tool.specs.declared.tool.Then.TheVariants.{Run, Write, Interpret, Certify}
@@ -262,6 +263,19 @@ checking = record {
   Leaves = Untouched;
 }
 
+-- FILE is an image, which runs on the input
+abbrev pub executing : Asked → Mode
+executing asked = record {
+  source = loadable;
+  own = None;
+  input = inputs;
+  reads_input = true;
+  Makes = ExecMakes asked;
+  Refuses = λ source input line s. ⊥;
+  files = [];
+  Leaves = Untouched;
+}
+
 -- the mode of this word
 abbrev pub mode_by : Word → Asked → Mode
 mode_by word.Run asked = compiling Run asked
@@ -272,10 +286,12 @@ mode_by word.Asm asked = assembling asked
 mode_by word.Interp asked = compiling Interpret asked
 mode_by word.Cert asked = compiling Certify asked
 mode_by word.Check asked = checking
+mode_by word.Exec asked = executing asked
 
 abbrev pub reads_input : Word → Bool
 reads_input word.Run = true
 reads_input word.Interp = true
+reads_input word.Exec = true
 reads_input mode = false
 
 -- the mode that is asked for

@@ -10,5 +10,6 @@ pub mod Texts
 pub mod Interpreted
 pub mod Listings
 pub mod Certified
+pub mod Executed
 pub mod Clause
 pub mod Reports

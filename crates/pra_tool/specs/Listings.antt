@@ -52,6 +52,12 @@ IsUnlisted file (unlisted.Code place) = StopsIn file place
 IsUnlisted file (unlisted.LongText count) = IsLong file count
 IsUnlisted file unlisted.OutOfMemory = ⊥
 
+-- what is wrong with a file that is to run: it is none of an image
+abbrev pub IsUnloaded : List ℕ → Unlisted → Type 0
+IsUnloaded file unlisted.TooLong = IsUnlisted file unlisted.TooLong
+IsUnloaded file (unlisted.Broken field place) = IsUnlisted file (unlisted.Broken field place)
+IsUnloaded file fault = ⊥
+
 -- why an image has no text, as it is told
 abbrev pub unlisted_by : ListFault → Unlisted
 unlisted_by (list.NotInSubset place) = unlisted.Code place
@@ -72,6 +78,16 @@ images = record {
   line = unlisted_line;
   status = unlisted_status;
   IsRight = λ file. (text : List ℕ) × IsListed file text × (length text ≤ max_text_bytes);
+}
+
+-- the images that run: files of valid images
+abbrev pub loadable : Kind
+loadable = record {
+  Wrong = Unlisted;
+  IsWrong = IsUnloaded;
+  line = unlisted_line;
+  status = unlisted_status;
+  IsRight = λ file. (image : Image) × IsFileOf file image;
 }
 
 -- What `list` makes of an image's file; the input, which it does not read, counts as empty.

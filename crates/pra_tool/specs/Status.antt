@@ -47,6 +47,13 @@ IsStatusOf (ending.Trap k) Trapped = ⊤
 IsStatusOf ending.Going Going = ⊤
 IsStatusOf e status = ⊥
 
+-- the status of a run of any image, where a fault of the machine counts as a trap
+abbrev pub status_of_machine : Ending → Status
+status_of_machine ending.Ended = Ended
+status_of_machine (ending.Trap k) = Trapped
+status_of_machine ending.Going = Going
+status_of_machine (ending.Fault k) = Trapped
+
 -- the status of a run by the meaning
 abbrev pub status_of_units : UnitEnding → Status
 status_of_units unit.Ended = Ended

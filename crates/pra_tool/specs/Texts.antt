@@ -9,6 +9,8 @@ use Rattle.cert_form.specs.declared.certificate.Cert.{Cert}
 use Rattle.cert_form.specs.declared.certificate.Certificate.{Certificate}
 use Rattle.ia_step.specs.declared.out.Ending.{Ending}
 use Rattle.ia_step.specs.declared.out.Ending.TheVariants.{Going, Ended, Trap, Fault}
+use Rattle.ia_step.specs.declared.out.FaultKind.{FaultKind}
+use Rattle.ia_step.specs.declared.out.FaultKind.TheVariants as machine
 use Rattle.ia_step.specs.declared.out.RunOut.{RunOut}
 use Rattle.ob_interp.specs.declared.interpret.UnitEnding.{UnitEnding}
 use Rattle.ob_interp.specs.declared.interpret.UnitEnding.TheVariants as unit
@@ -39,12 +41,20 @@ trap_name trap.Divide = codes "Divide"
 trap_name trap.Input = codes "Input"
 trap_name trap.Stack = codes "Stack"
 
--- how a run ended; a fault is no ending of a compiled program and has no words
+abbrev pub fault_name : FaultKind → List ℕ
+fault_name machine.Fetch = codes "fetch"
+fault_name machine.Decode = codes "decode"
+fault_name machine.Access = codes "access"
+fault_name machine.Flag = codes "flag"
+fault_name machine.Divide = codes "divide"
+fault_name machine.Service = codes "service"
+
+-- how a run ended; with a fault of the machine no compiled program ends
 abbrev pub ending_words : Ending → List ℕ
 ending_words Going = codes "going"
 ending_words Ended = codes "ended"
 ending_words (Trap kind) = codes "trap " ++ trap_name kind
-ending_words (Fault kind) = []
+ending_words (Fault kind) = codes "machine " ++ fault_name kind
 
 -- how the run ended, the steps that it made, the last one included, and the input words that it
 -- took

@@ -1,6 +1,6 @@
 // The laws of what is promised.
 
-ghost use Rattle.std.specs.Prelude.{◌≡◌, ◌≢◌, ◌≤◌, ℕ, List, [], length};
+ghost use Rattle.std.specs.Prelude.{◌≡◌, ◌≢◌, ◌≤◌, ◌++◌, ℕ, List, [], length};
 ghost use Rattle.ia_code.specs.Image.{image_bytes_of};
 ghost use Rattle.ia_list.specs.ListText.{max_text_bytes};
 ghost use Rattle.pra_follow.specs.Follows.{DoesAsMeant};
@@ -11,10 +11,12 @@ ghost use Rattle.pra_tool.specs.declared.status.Status.{Status};
 ghost use Rattle.pra_tool.specs.Writes.{Writes};
 ghost use Rattle.pra_tool.specs.Modes.{IsMode};
 ghost use Rattle.pra_tool.specs.Compiling.{MadeOf};
-ghost use Rattle.pra_report.specs.Report.{procedure_lines};
+ghost use Rattle.pra_report.specs.Report.{procedure_lines, report_text};
+ghost use Rattle.pra_tool.specs.Executed.{ExecMakes};
 ghost use Rattle.pra_tool.specs.Interpreted.{InterpMakes, frames_of, units_of};
 ghost use Rattle.pra_tool.specs.Listings.{IsListed, ListMakes};
-ghost use Rattle.pra_tool.specs.Clause.{run_of, RunMakes, GenMakes, AsmMakes, one_file, mode_by};
+ghost use Rattle.pra_tool.specs.Clause.{run_of, RunMakes, CompileMakes, GenMakes, AsmMakes};
+ghost use Rattle.pra_tool.specs.Clause.{one_file, mode_by};
 
 /// What the answers of a mode rest on holds of each mode.
 pub fn all_are_modes()
@@ -45,6 +47,32 @@ pub fn interp_does_as_run()
         (s ≡ t) × (v.out ≡ w.out) ×
         ((run_of run.made.compiled.image run.numbers asked.steps).reads
         ≡ (units_of interp.made.checked interp.made.compiled interp.numbers other.steps).reads) }
+{}
+
+/// The image's file that `run` wrote, run by `exec` on the same input within as many steps, ends
+/// alike, writes the same output, and tells the same last line, whatever the status.
+pub fn exec_repeats_run()
+    ensures { (asked other : Asked) (source file input : List ℕ) (v w : Writes) (s t : Status) →
+        (run : RunMakes asked source input v s) → v.files ≡ one_file asked.image file →
+        ExecMakes other file input w t → asked.steps ≡ other.steps →
+        (s ≡ t) × (v.out ≡ w.out) × (v.notes ≡ report_text run.made.compiled.procs
+        (length run.made.compiled.image.code) ++ w.notes) }
+{}
+
+/// Where `run` and `compile` of one source tell the same lines of procedures, and `run`, and `exec`
+/// of the file that `compile` wrote, both come to an end or a trap on one input, they end alike,
+/// write the same output and take as many words: no image that was compiled comes to a fault.
+pub fn exec_does_as_run()
+    ensures { (asked other another : Asked) (source file input : List ℕ) (u v w : Writes)
+        (r s t : Status) → (run : RunMakes asked source input v s) →
+        (compiled : CompileMakes other source [] u r) →
+        (exec : ExecMakes another file input w t) → u.files ≡ one_file other.image file →
+        procedure_lines 0 run.made.compiled.procs
+        ≡ procedure_lines 0 compiled.made.compiled.procs →
+        s ≢ Status.Going → t ≢ Status.Going →
+        (s ≡ t) × (v.out ≡ w.out) ×
+        ((run_of run.made.compiled.image run.numbers asked.steps).reads
+        ≡ (run_of exec.image exec.numbers another.steps).reads) }
 {}
 
 /// Of what `list` printed of a file, `asm` writes that file again, to the byte; and of a file that

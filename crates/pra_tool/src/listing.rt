@@ -1,10 +1,11 @@
 // From the bytes of an image's file to its text, and from the text to the image.
 
 ghost use Rattle.std.specs.Prelude.{◌≡◌, ◌≢◌, ◌≤◌, length, IfOk, IfErr};
+ghost use Rattle.ia_asm.specs.Rules.{IsFileOf};
 ghost use Rattle.ia_code.specs.Image.{IsImage};
 ghost use Rattle.ia_list.specs.ListText.{IsListText, max_text_bytes};
 ghost use Rattle.pra_tool.specs.Listings.{most_image, IsListed, IsUnlisted};
-ghost use Rattle.pra_tool.specs.Listings.{unlisted_by, IsUnassembled};
+ghost use Rattle.pra_tool.specs.Listings.{IsUnloaded, unlisted_by, IsUnassembled};
 
 use ia_asm::{Field, ImageFault, image_of};
 use ia_code::Image;
@@ -15,7 +16,7 @@ use std::alloc::Global;
 /// The most bytes of an image's file.
 pub const MAX_IMAGE: usize = HEADER_BYTES + MAX_CODE_BYTES as usize;
 
-/// Why a file is not listed as the text of an image.
+/// Why a file is not listed as the text of an image; the first two say why it is none of an image.
 #[derive(Clone, Copy, Debug, PartialEq, Eq)]
 pub enum Unlisted {
     /// It has more than 41,943,056 bytes.
@@ -41,22 +42,36 @@ pub enum Unassembled {
     OutOfMemory,
 }
 
+/// The image that a file of at most 41,943,056 bytes holds.
+///
+/// # Errors
+///
+/// The first field that breaks its rule. And `OutOfMemory`.
+pub fn image_in(alloc: Global, file: &[u8]) -> Result<Image, Unlisted>
+    requires { length file.now ≤ most_image }
+    ensures held { IfOk result (IsFileOf file.now) }
+    ensures cause { IfErr result (λ f. f ≢ Unlisted.OutOfMemory → IsUnloaded file.now f) }
+{
+    match image_of(alloc, file) {
+        Ok(image) => Ok(image),
+        Err(ImageFault::BadImage(field, at)) => Err(Unlisted::Broken(field, at)),
+        Err(ImageFault::OutOfMemory) => Err(Unlisted::OutOfMemory),
+    }
+}
+
 /// The text of the image that a file of at most 41,943,056 bytes holds.
 ///
 /// # Errors
 ///
 /// The one thing that is wrong with the file. And `OutOfMemory`.
+#[tactic(auto, using(crate::proofs::ListingModes::unloaded_is_unlisted))]
 pub fn listing_of(alloc: Global, file: &[u8]) -> Result<Vec<u8>, Unlisted>
     requires { length file.now ≤ most_image }
     ensures listed { IfOk result (λ text. IsListed file.now text.items) }
     ensures few { IfOk result (λ text. length text.items ≤ max_text_bytes) }
     ensures cause { IfErr result (λ f. f ≢ Unlisted.OutOfMemory → IsUnlisted file.now f) }
 {
-    let image = match image_of(alloc, file) {
-        Ok(image) => image,
-        Err(ImageFault::BadImage(field, at)) => return Err(Unlisted::Broken(field, at)),
-        Err(ImageFault::OutOfMemory) => return Err(Unlisted::OutOfMemory),
-    };
+    let image = image_in(alloc, file)?;
     match text_length(alloc, &image) {
         Ok(count) if count > MAX_TEXT_BYTES => return Err(Unlisted::LongText(count as u64)),
         Ok(_) => {}

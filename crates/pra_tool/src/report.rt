@@ -4,7 +4,7 @@ ghost use Rattle.std.specs.Prelude.{◌≡◌, ◌++◌, [], true, codes, length
 ghost use Rattle.ia_code.specs.Image.{IsImage};
 ghost use Rattle.pra_report.specs.Report.{HaveTotals};
 ghost use Rattle.pra_words.specs.Written.{asked_by};
-ghost use Rattle.pra_tool.specs.Status.{IsDone, IsStatusOf, status_of_units};
+ghost use Rattle.pra_tool.specs.Status.{IsDone, IsStatusOf, status_of_machine, status_of_units};
 ghost use Rattle.pra_tool.specs.Outside.{StreamSeen, Seen, folder_seen, stream_seen, seen};
 ghost use Rattle.pra_tool.specs.Outside.{NoneFell, Told};
 ghost use Rattle.pra_tool.specs.Writes.{AreDifferent, FilesWritten, Wrote, stop_status};
@@ -12,6 +12,7 @@ ghost use Rattle.pra_tool.specs.Writes.{text_alone};
 ghost use Rattle.pra_tool.specs.Reports.{file_text, writes_of};
 ghost use Rattle.pra_tool.specs.Clause.{image_file, run_of, run_writes, compile_writes};
 ghost use Rattle.pra_tool.specs.Clause.{asm_writes, gen_writes, summary};
+ghost use Rattle.pra_tool.specs.Executed.{exec_writes};
 ghost use Rattle.pra_tool.specs.Interpreted.{frames_of, units_of, interp_writes};
 ghost use Rattle.pra_tool.specs.Ends.{NeverFaults};
 ghost use Rattle.vc_stmt.specs.Completes.{are_words};
@@ -124,6 +125,32 @@ pub(crate) fn interp_report<'a>(
     let mut notes = procedure_lines(alloc, made.compiled.procs.as_slice())?;
     let ending = units_line(alloc, &run)?;
     notes.extend_from_slice(&ending)?;
+    Ok(Report {
+        files: Vec::new(alloc),
+        out,
+        notes,
+        status,
+    })
+}
+
+/// Runs any image on the numbers of the input and makes the texts.
+pub(crate) fn exec_report<'a>(
+    alloc: Global,
+    image: &Image,
+    numbers: Vec<i32>,
+    steps: u32,
+) -> Result<Report<'a>, OutOfMemory>
+    requires { IsImage image.now }
+    ensures writes { IfOk result (λ r.
+        writes_of r ≡ exec_writes (run_of image.now numbers.items steps)) }
+    ensures ended { IfOk result (λ r. r.status
+        ≡ status_of_machine (run_of image.now numbers.items steps).ending) }
+    ensures done { IfOk result (λ r. IsDone r.status) }
+{
+    let run = run_image(alloc, image, numbers, steps)?;
+    let status = Status::of_machine(run.ending);
+    let out = output_text(alloc, run.events.as_slice())?;
+    let notes = ending_line(alloc, &run)?;
     Ok(Report {
         files: Vec::new(alloc),
         out,

@@ -2,7 +2,7 @@
 
 ghost use Rattle.std.specs.Prelude.{◌≡◌};
 ghost use Rattle.pra_tool.specs.Status.{exit_code, IsEnding, IsDone, IsStatusOf};
-ghost use Rattle.pra_tool.specs.Status.{status_of_units};
+ghost use Rattle.pra_tool.specs.Status.{status_of_machine, status_of_units};
 
 use ia_step::Ending;
 use ob_interp::UnitEnding;
@@ -12,7 +12,7 @@ use ob_interp::UnitEnding;
 pub enum Status {
     /// The image ended within the steps, or all was done without a run.
     Ended,
-    /// The image trapped.
+    /// The image trapped, or in `exec` came to a fault of the machine.
     Trapped,
     /// The image is still going after the steps.
     Going,
@@ -60,6 +60,18 @@ impl Status {
             Ending::Trap(_) => Status::Trapped,
             Ending::Going => Status::Going,
             Ending::Fault(_) => unreachable!(),
+        }
+    }
+
+    /// The status of a run of any image, by its ending.
+    pub(crate) fn of_machine(ending: Ending) -> Status
+        ensures is { result ≡ status_of_machine ending }
+        ensures done { IsDone result }
+    {
+        match ending {
+            Ending::Ended => Status::Ended,
+            Ending::Trap(_) | Ending::Fault(_) => Status::Trapped,
+            Ending::Going => Status::Going,
         }
     }
 

@@ -16,7 +16,7 @@ use cert_check::Reason;
 use cert_form::{Cert, Certificate, MAX_CERT_BYTES};
 use ia_asm::Field;
 use ia_list::MAX_TEXT_BYTES;
-use ia_step::{Ending, RunOut};
+use ia_step::{Ending, FaultKind, RunOut};
 use ob_interp::{UnitEnding, UnitOut};
 use ob_lex::LexFault;
 use ob_read::{LimitFault, ReadFault, SourceFault};
@@ -50,7 +50,12 @@ fn ending_words(ending: Ending) -> &'static str
         Ending::Trap(TrapKind::Divide) => "trap Divide",
         Ending::Trap(TrapKind::Input) => "trap Input",
         Ending::Trap(TrapKind::Stack) => "trap Stack",
-        Ending::Fault(_) => "",
+        Ending::Fault(FaultKind::Fetch) => "machine fetch",
+        Ending::Fault(FaultKind::Decode) => "machine decode",
+        Ending::Fault(FaultKind::Access) => "machine access",
+        Ending::Fault(FaultKind::Flag) => "machine flag",
+        Ending::Fault(FaultKind::Divide) => "machine divide",
+        Ending::Fault(FaultKind::Service) => "machine service",
     }
 }
 

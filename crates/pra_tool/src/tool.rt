@@ -1,6 +1,7 @@
 // The call that does all that the program does.
 
 ghost use Rattle.std.specs.Prelude.{◌≡◌, ◌≢◌, ◌⊎◌, false, ℕ, List, IsErr, codes, length};
+ghost use Rattle.ia_asm.specs.Rules.{IsFileOf};
 ghost use Rattle.ia_code.specs.Image.{IsImage};
 ghost use Rattle.pra_tool.specs.declared.tool.Then.TheVariants.{Run, Write, Interpret, Certify};
 ghost use Rattle.pra_words.specs.Texts.{words_lines};
@@ -20,7 +21,7 @@ ghost use Rattle.pra_tool.specs.Ends.{Ends, NeverFaults};
 ghost use Rattle.pra_tool.specs.Compiling.{MadeOf};
 ghost use Rattle.pra_tool.specs.Clause.{mode_of, reads_input, asks_input, fault_status, Promise};
 ghost use Rattle.pra_tool.specs.Clause.{compiling, takes_input, generating, listing, assembling};
-ghost use Rattle.pra_tool.specs.Clause.{checking};
+ghost use Rattle.pra_tool.specs.Clause.{checking, executing};
 ghost use Rattle.pra_tool.specs.Certified.{most_certificate, IsHeld, uncertified_status};
 ghost use Rattle.pra_tool.specs.Listings.{IsListed, IsTextOf};
 ghost use Rattle.pra_tool.specs.Listings.{unlisted_status, unassembled_status};
@@ -28,10 +29,10 @@ ghost use Rattle.pra_tool.specs.Listings.{unlisted_status, unassembled_status};
 use crate::certified::{Uncertified, certify, held_by};
 use crate::compiler::{Made, compile_source};
 use crate::input::{InputFault, WrongInput, read_numbers};
-use crate::listing::{MAX_IMAGE, Unassembled, Unlisted, image_by, listing_of};
+use crate::listing::{MAX_IMAGE, Unassembled, Unlisted, image_by, image_in, listing_of};
 use crate::report::{
-    asm_report, compile_report, gen_report, interp_report, refuse, run_report, text_report,
-    write_report,
+    asm_report, compile_report, exec_report, gen_report, interp_report, refuse, run_report,
+    text_report, write_report,
 };
 use crate::status::Status;
 use crate::texts::{
@@ -57,7 +58,8 @@ use std::alloc::Global;
 /// its text to out; with `asm` it reads FILE, which is the text of an image, and writes the image
 /// file. With `cert` it reads FILE, compiles it, and writes to out a certificate of its costs and
 /// bounds; with `check` it reads FILE, which is a certificate, tests it, and writes to out its
-/// costs and bounds.
+/// costs and bounds. With `exec` it reads FILE, which is an image, and the input, runs the image,
+/// and writes the output, and the ending line.
 ///
 /// `words` are those behind the program's name: MODE and FILE, and among them the options that
 /// `read_words` of pra_words reads. The answer is the exit status:
@@ -65,9 +67,11 @@ use std::alloc::Global;
 /// | Status | When | Line in notes |
 /// |---|---|---|
 /// | 0 | the run ended within the steps | `run`, `interp`: the report, the ending line |
+/// | 0 | the run ended within the steps | `exec`: the ending line |
 /// | 0 | what is to be written was made and written | none |
-/// | 1 | the run trapped | `run`, `interp`: the report, the ending line |
-/// | 2 | the run is still going after the steps | `run`, `interp`: the same |
+/// | 1 | the run trapped | the same |
+/// | 1 | the run came to a fault of the machine | `exec`: the ending line |
+/// | 2 | the run is still going after the steps | the same as at 0 |
 /// | 3 | FILE has a byte that begins no token | `fault bad-byte at A` |
 /// | 3 | FILE has a comment that is not closed | `fault open-comment at A` |
 /// | 3 | FILE has a number above the greatest | `fault number-too-large at A` |
@@ -190,6 +194,7 @@ fn perform<D: Folder, I: Source, O: Sink, N: Sink>(
         Mode::Interp => compile_file(alloc, request, Then::Interpret, folder, input, out, notes),
         Mode::Cert => compile_file(alloc, request, Then::Certify, folder, input, out, notes),
         Mode::Check => check_file(alloc, request, folder, out, notes),
+        Mode::Exec => exec_file(alloc, request, folder, input, out, notes),
     }
 }
 
@@ -529,7 +534,62 @@ fn list_file<D: Folder, O: Sink, N: Sink>(
     }
 }
 
-// Writes why an image's file is not listed.
+// Reads FILE, which is an image, and runs it.
+fn exec_file<D: Folder, I: Source, O: Sink, N: Sink>(
+    alloc: Global,
+    request: &Request,
+    folder: &mut D,
+    input: &mut I,
+    out: &mut O,
+    notes: &mut N,
+) -> Status
+    ensures { let look = seen_by D.file D.read_faults D.write_faults I.left I.faults
+        O.bytes O.faults N.bytes N.faults in
+        let old = look folder.old input.old out.old notes.old in
+        let new = look folder.new input.new out.new notes.new in
+        Answers (executing (asked_by request.now)) request.now.file.now old new result }
+{
+    let file = match folder.read_file(alloc, request.file, MAX_IMAGE) {
+        Ok(file) => file,
+        Err(FileFault::OutOfMemory) => return Status::NoMemory,
+        Err(FileFault::TooLong) => return refuse_image(alloc, notes, Unlisted::TooLong),
+        Err(FileFault::Failed) => return refuse(notes, Status::Fault, "fault read file\n"),
+    };
+    match image_in(alloc, &file) {
+        Ok(image) => exec_image(alloc, request, &image, folder, input, out, notes),
+        Err(fault) => refuse_image(alloc, notes, fault),
+    }
+}
+
+// Reads the input, runs the image, and writes.
+fn exec_image<D: Folder, I: Source, O: Sink, N: Sink>(
+    alloc: Global,
+    request: &Request,
+    image: &Image,
+    folder: &mut D,
+    input: &mut I,
+    out: &mut O,
+    notes: &mut N,
+) -> Status
+    requires { IsImage image.now }
+    ensures { (file : List ℕ) → IsFileOf file image.now →
+        let look = seen_by D.file D.read_faults D.write_faults I.left I.faults
+        O.bytes O.faults N.bytes N.faults in
+        let old = look folder.old input.old out.old notes.old in
+        let new = look folder.new input.new out.new notes.new in
+        Ends (executing (asked_by request.now)) file old new result }
+{
+    let numbers = match read_numbers(alloc, input) {
+        Ok(numbers) => numbers,
+        Err(fault) => return refuse_input(alloc, notes, fault),
+    };
+    match exec_report(alloc, image, numbers, request.steps) {
+        Ok(report) => write_report(alloc, &report, folder, out, notes),
+        Err(OutOfMemory) => Status::NoMemory,
+    }
+}
+
+// Writes why an image's file is not listed, or does not run.
 fn refuse_image<N: Sink>(alloc: Global, notes: &mut N, fault: Unlisted) -> Status
     ensures known { (result ≡ unlisted_status fault) ⊎ (result ≡ Status.NoMemory) }
     ensures told { result ≢ Status.NoMemory → Told (unlisted_line fault)

@@ -32,7 +32,8 @@ mode_of word =
     else (if bytes_eq word (codes "asm") then Some a_mode.Asm
     else (if bytes_eq word (codes "interp") then Some a_mode.Interp
     else (if bytes_eq word (codes "cert") then Some a_mode.Cert
-    else (if bytes_eq word (codes "check") then Some a_mode.Check else None)))))))
+    else (if bytes_eq word (codes "check") then Some a_mode.Check
+    else (if bytes_eq word (codes "exec") then Some a_mode.Exec else None))))))))
 
 -- whether the mode writes an image file
 abbrev pub writes_image : Mode → Bool
@@ -40,6 +41,7 @@ writes_image a_mode.List = false
 writes_image a_mode.Interp = false
 writes_image a_mode.Cert = false
 writes_image a_mode.Check = false
+writes_image a_mode.Exec = false
 writes_image mode = true
 
 abbrev pub is_empty : List ℕ → Bool

@@ -78,6 +78,8 @@ pub enum Mode {
     Cert,
     /// It is a certificate, and is tested.
     Check,
+    /// It is an image, and runs.
+    Exec,
 }
 
 impl Mode {
@@ -170,7 +172,7 @@ pub struct Request<'a> {
 ///
 /// | Word | Values | Where it is left out |
 /// |---|---|---|
-/// | MODE | `run`, `compile`, `gen`, `list`, `asm`, `interp`, `cert`, `check` | |
+/// | MODE | `run`, `compile`, `gen`, `list`, `asm`, `interp`, `cert`, `check`, `exec` | |
 /// | FILE | not empty | |
 /// | `--rounds` | 0 to 1000 | 10 |
 /// | `--cost` | `size`, `speed` | `size` |
@@ -254,6 +256,8 @@ fn mode_of(word: &str) -> Option<Mode>
         Some(Mode::Cert)
     } else if word == "check" {
         Some(Mode::Check)
+    } else if word == "exec" {
+        Some(Mode::Exec)
     } else {
         None
     }

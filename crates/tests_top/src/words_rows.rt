@@ -71,6 +71,7 @@ run2 M.ob|MODE
 interpret M.ob|MODE
 List M.ob|MODE
 Cert M.ob|MODE
+execute M.ob|MODE
 checks M.ob|MODE
 M.ob run --steps x|MODE
 run |FILE
@@ -80,6 +81,7 @@ list |FILE
 interp |FILE
 cert |FILE
 check |FILE
+exec |FILE
 run M.ob --rounds |--rounds
 run M.ob --rounds x|--rounds
 run M.ob --rounds=-1|--rounds
@@ -134,6 +136,7 @@ run M.ob --size 4294967297|--size
 list M.ob --rounds 1001|--rounds
 list M.ob --size 0|--size
 asm M.ob --seed x|--seed
+exec M.ob --rounds 1001|--rounds
 interp M.ob --gap x|--gap
 compile M.ob --size 201|--size
 run  --rounds 1001|FILE

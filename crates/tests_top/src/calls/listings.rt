@@ -1,4 +1,4 @@
-// Images and their texts, with what `list` and `asm` leave of them, worked by hand.
+// Images and their texts, with what `list`, `asm` and `exec` leave of them, worked by hand.
 
 pub(super) const ROWS: &str = "\
 # the image of a module without statements
@@ -157,4 +157,70 @@ data 0
 
 words asm M.ob
 = 3|-||fault line 2$
+# the image of a module that writes a number
+bytes 50524149 01000000 3f000000 00000000 e817000000 cd20 b801000000cd24 b802000000cd24 \
+    b804000000cd24 55 89e5 81fd0c040008 0f82eaffffff 535657 b807000000 cd21 cd22 \
+    8d65f4 5f5e5b5d c3
+words exec M.ob
+< 1 2
+= 0|-| 7$|ended steps 18 reads 0$
+words exec M.ob --steps 18 --image M.ob
+= 0|-| 7$|ended steps 18 reads 0$
+words exec M.ob --steps 17
+= 2|-| 7$|going steps 17 reads 0$
+words exec M.ob --steps 0
+= 2|-||going steps 0 reads 0$
+words exec M.ob
+fails out 1
+= 5|-||fault write out$
+fails notes 1
+= 5|-| 7$|
+fails folder 1
+= 5|-||fault read file$|1 2
+fails input 1
+= 5|-||fault read input$|1 2
+< 1 2147483648
+= 7|-||fault input at 2$
+< 1048580*0
+= 4|-||limit input count 1048577 maximum 1048576$|3*0
+# a number that is read and written, behind which the code ends
+bytes 50524149 01000000 06000000 00000000 cd23 cd21 cd22
+words exec M.ob
+< -5 7
+= 1|-| -5$|machine fetch steps 4 reads 1$
+<
+= 1|-||trap Input steps 1 reads 0$
+# code that is in no row of the table
+bytes 50524149 01000000 01000000 00000000 90
+words exec M.ob
+= 1|-||machine decode steps 1 reads 0$
+fails notes 1
+= 5|-||
+words exec M.ob --steps 0
+= 2|-||going steps 0 reads 0$
+# a word of data where there are none, behind a number
+bytes 50524149 01000000 0d000000 00000000 b807000000 cd21 8b0500000004
+words exec M.ob
+= 1|-| 7|machine access steps 3 reads 0$
+# a jump by a flag that is not known
+bytes 50524149 01000000 06000000 00000000 0f8200000000
+words exec M.ob
+= 1|-||machine flag steps 1 reads 0$
+# a division by zero
+bytes 50524149 01000000 02000000 00000000 f7f9
+words exec M.ob
+= 1|-||machine divide steps 1 reads 0$
+# a trap of no known number
+bytes 50524149 01000000 02000000 00000000 cd24
+words exec M.ob
+= 1|-||machine service steps 1 reads 0$
+# a trap
+bytes 50524149 01000000 07000000 00000000 b802000000 cd24
+words exec M.ob
+= 1|-||trap Divide steps 2 reads 0$
+# a file that is no image is refused before the input is read
+bytes 50524149 02000000 01000000 00000000 90
+words exec M.ob
+< x
+= 3|-||fault image Version at 4$|x
 ";

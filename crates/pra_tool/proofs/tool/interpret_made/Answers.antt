@@ -4,6 +4,7 @@ use Rattle.pra_tool.specs.declared.tool.Then.TheVariants.{Interpret}
 use Rattle.pra_words.specs.Written.{asked_by}
 use Rattle.pra_tool.specs.Interpreted.{units_of, interp_writes}
 use Rattle.pra_tool.specs.Status.{status_of_units}
+use Rattle.pra_tool.specs.Clause.{compiling}
 use Rattle.pra_tool.specs.Outside.{stream_seen}
 use Rattle.pra_tool.specs.Reports.{writes_of}
 use Rattle.pra_tool.specs.Writes.{Writes}
@@ -14,7 +15,7 @@ use Rattle.pra_tool.proofs.tool.interpret_made.Goals as goal
 
 pub returns-in-Err : goal.returns-in-Err
 returns-in-Err g c = λ source made.
-    input_ends Interpret refl (asked_by c.args.request.now) c.in-Err.fault _ _ _
+    input_ends (compiling Interpret (asked_by c.args.request.now)) refl refl c.in-Err.fault _ _ _
     c.in-Err.ensures.cause
     c.refuse_input.ensures.known
     (λ other. record {

@@ -1,6 +1,6 @@
 use Rattle.std.proofs.Common.{ap}
 use Rattle.pra_words.specs.declared.words.Mode.TheVariants.{Run, Compile, Gen, List, Asm, Interp}
-use Rattle.pra_words.specs.declared.words.Mode.TheVariants.{Cert, Check}
+use Rattle.pra_words.specs.declared.words.Mode.TheVariants.{Cert, Check, Exec}
 use Rattle.pra_words.specs.Words.{writes_image}
 use Rattle.pra_words.specs.Written.{asked_by}
 use Rattle.pra_tool.specs.Outside.{stream_seen}
@@ -54,3 +54,8 @@ returns-in-Check-clause-answers g c =
     answers_by Check (asked_by c.args.request.now) c.args.request.now.file.now _ _ _
     c.in-Check.is
     (c.check_file.ensures (stream_seen g.I.Source.left g.I.Source.faults c.args.input.now))
+
+pub returns-in-Exec-clause-answers : goal.returns-in-Exec-clause-answers
+returns-in-Exec-clause-answers g c =
+    answers_by Exec (asked_by c.args.request.now) c.args.request.now.file.now _ _ _
+    c.in-Exec.is c.exec_file.ensures

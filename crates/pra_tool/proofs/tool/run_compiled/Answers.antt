@@ -2,6 +2,7 @@ use Rattle.std.proofs.Common.{ap, refl, subst, sym}
 use Rattle.std.specs.Io.KnownBytes.{Keeps}
 use Rattle.pra_tool.specs.declared.tool.Then.TheVariants.{Run}
 use Rattle.pra_words.specs.Written.{asked_by}
+use Rattle.pra_tool.specs.Clause.{compiling}
 use Rattle.pra_tool.specs.Outside.{stream_seen}
 use Rattle.pra_tool.specs.Reports.{writes_of}
 use Rattle.pra_tool.specs.Writes.{Writes}
@@ -12,7 +13,7 @@ use Rattle.pra_tool.proofs.tool.run_compiled.Goals as goal
 
 pub returns-in-Err : goal.returns-in-Err
 returns-in-Err g c = λ source made.
-    input_ends Run refl (asked_by c.args.request.now) c.in-Err.fault _ _ _
+    input_ends (compiling Run (asked_by c.args.request.now)) refl refl c.in-Err.fault _ _ _
     c.in-Err.ensures.cause
     c.refuse_input.ensures.known
     (λ other. record {

@@ -1,0 +1,46 @@
+use Rattle.std.proofs.Common.{ap, refl, subst, sym}
+use Rattle.std.specs.Io.KnownBytes.{Keeps}
+use Rattle.pra_words.specs.Written.{asked_by}
+use Rattle.pra_tool.specs.Clause.{executing}
+use Rattle.pra_tool.specs.Outside.{stream_seen}
+use Rattle.pra_tool.specs.Reports.{writes_of}
+use Rattle.pra_tool.specs.Writes.{Writes}
+use Rattle.pra_tool.proofs.CompilingModes.{keeps_same}
+use Rattle.pra_tool.proofs.CompiledEnds.{input_ends}
+use Rattle.pra_tool.proofs.ListingEnds.{none_differ}
+use Rattle.pra_tool.proofs.ExecModes.{exec_ends}
+use Rattle.pra_tool.proofs.tool.exec_image.Goals as goal
+
+pub returns-in-Err : goal.returns-in-Err
+returns-in-Err g c = λ file held.
+    input_ends (executing (asked_by c.args.request.now)) refl refl c.in-Err.fault _ _ _
+    c.in-Err.ensures.cause
+    c.refuse_input.ensures.known
+    (λ other. record {
+      files = λ name. refl;
+      out = keeps_same (g.O.Sink.bytes c.args.out.now);
+      notes = c.refuse_input.ensures.told other;
+    })
+    (λ memory. record {
+      files = λ name. refl;
+      out = keeps_same (g.O.Sink.bytes c.args.out.now);
+      notes = subst (λ n. Keeps (g.N.Sink.bytes c.args.notes.now) (g.N.Sink.bytes n))
+          (sym (c.refuse_input.ensures.memory memory)) (keeps_same _);
+    })
+    file
+
+pub write_report-requires-clause-different : goal.write_report-requires-clause-different
+write_report-requires-clause-different g c =
+    none_differ _ (ap (λ (x : Writes). x.files) c.in-Ok-exec_report.ensures.writes)
+
+pub returns-in-Ok-exec_report : goal.returns-in-Ok-exec_report
+returns-in-Ok-exec_report g c = λ file held.
+    let report = c.in-Ok-exec_report.report in
+    exec_ends (asked_by c.args.request.now) c.args.image.now c.in-Ok.numbers.items
+    (writes_of report) report.status _ _ _
+    c.in-Ok.ensures.numbers
+    c.in-Ok-exec_report.ensures.writes
+    c.in-Ok-exec_report.ensures.ended
+    (c.write_report.ensures (stream_seen g.I.Source.left g.I.Source.faults c.args.input.now)
+    (stream_seen g.I.Source.left g.I.Source.faults c.read_numbers.new.input))
+    file held
