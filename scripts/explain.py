@@ -181,6 +181,7 @@ REASONS = {
     "prices": "a price is out of range, 0, or not in the order of its index",
     "total": "its routes cost another total",
     "bound": "its prices do not show this bound",
+    "module": "its code is not the tidy code of the module, which `./pra cert` prints",
 }
 
 
@@ -259,6 +260,8 @@ def of_other_files(line, name, source):
     if line == "fault certificate form":
         return [f"{name}: this is JSON, but no certificate: a key is missing or too many, or a value"
                 " is none that stands there (docs/CERTIFICATES.md)"]
+    if line == "fault certificate module":
+        return [f"{name}: it does not have an entry for each procedure of the module and its body"]
     if found := re.fullmatch(r"fault certificate procedure (\d+) ([a-z]+)", line):
         return [f"{name}, procedure {found[1]}: the certificate does not hold: {REASONS[found[2]]}"]
     if found := re.fullmatch(r"machine ([a-z]+) steps \d+ reads \d+", line):
@@ -302,7 +305,19 @@ def read(name):
         return b""
 
 
-def told(notes, name, input_name=None):
+def of_applied(line, name, given):
+    """The same of a line on the certificate that the mode apply has read from its input, whose name
+    and bytes are None where it can't be read again; None of another line."""
+    if not re.match(r"fault json|fault certificate|limit certificate", line):
+        return None
+    if given is not None:
+        return explained(line, name, given, None)
+    if line == "fault json":
+        return ["the certificate: this is no JSON"]
+    return explained(line, "the certificate", b"", None)
+
+
+def told(notes, name, input_name=None, mode=""):
     """What the last line of notes that tells of a refusal or a trap means, line by line."""
     source = read(name)
     given = read(input_name) if input_name else None
@@ -311,7 +326,8 @@ def told(notes, name, input_name=None):
             if source.startswith(images.MAGIC):
                 return [f"{name}: trap {found[1]}: {traps.KINDS[found[1]]}"]
             return traps.told(name, source, line, COMPILER, input_name)
-        if lines := explained(line, name, source, given):
+        lines = of_applied(line, input_name, given) if mode == "apply" else None
+        if lines := lines or explained(line, name, source, given):
             return lines
     return []
 

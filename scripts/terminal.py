@@ -95,10 +95,10 @@ def input_name():
     return name if os.path.isfile(name) else None
 
 
-def file_of(words):
-    """The second of the words that is no option and no option's value."""
+def mode_and_file(words):
+    """The first two of the words that are no option and no option's value."""
     plain, _, _ = known_words.parted(words, known_words.table()[1])
-    return plain[1] if len(plain) > 1 else ""
+    return [*plain, "", ""][:2]
 
 
 def meaning(words, status, notes):
@@ -108,7 +108,8 @@ def meaning(words, status, notes):
     if status == NO_WORDS:
         return [f"pra: {it}" for it in known_words.wrong(words)]
     if status == 1 or status in REFUSED:
-        return explain.told(notes.decode(errors="replace"), file_of(words), input_name())
+        mode, name = mode_and_file(words)
+        return explain.told(notes.decode(errors="replace"), name, input_name(), mode)
     return []
 
 

@@ -118,6 +118,29 @@ class Notes(unittest.TestCase):
         self.assertEqual(told, "a.ob: trap Divide: the right side of DIV or MOD is 0 or less")
 
 
+class Applied(unittest.TestCase):
+    def told(self, notes, certificate):
+        with tempfile.TemporaryDirectory(prefix="pra-explain-") as room:
+            with open(f"{room}/a.ob", "wb") as file:
+                file.write(b"MODULE A; END A.")
+            given = f"{room}/a.cert" if certificate is not None else None
+            if given:
+                with open(given, "wb") as file:
+                    file.write(certificate)
+            told = "\n".join(explain.told(notes, f"{room}/a.ob", given, "apply"))
+            return told.replace(f"{room}/", "")
+
+    def test_what_is_wrong_is_the_input(self):
+        self.assertIn("a.cert:1:2: this is no JSON", self.told("fault json\n", b"{x"))
+        told = self.told("fault certificate procedure 2 module\n", b"{}")
+        self.assertIn("a.cert, procedure 2: ", told)
+        self.assertEqual(self.told("fault json\n", None), "the certificate: this is no JSON")
+        self.assertIn("an entry for each", self.told("fault certificate module\n", None))
+
+    def test_or_it_is_the_module(self):
+        self.assertIn("a.ob:1:1: ", self.told("fault grammar token 0 at 0\n", b"{}"))
+
+
 class Traps(unittest.TestCase):
     def test_marks_stand_before_statements_and_behind_turns(self):
         source = b"MODULE M; BEGIN WHILE x < 1 DO x := 2 END END M."

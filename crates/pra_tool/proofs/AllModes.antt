@@ -12,6 +12,7 @@ use Rattle.pra_tool.proofs.Generating.{generating_is_a_mode}
 use Rattle.pra_tool.proofs.ListingModes.{listing_is_a_mode, assembling_is_a_mode}
 use Rattle.pra_tool.proofs.CertModes.{checking_is_a_mode}
 use Rattle.pra_tool.proofs.ExecModes.{executing_is_a_mode}
+use Rattle.pra_tool.proofs.ApplyModes.{applying_is_a_mode}
 
 pub all_are_modes : (mode : Word) (asked : Asked) → IsMode (mode_by mode asked)
 all_are_modes word.Run asked = compiling_is_a_mode Run asked
@@ -23,6 +24,7 @@ all_are_modes word.Asm asked = assembling_is_a_mode asked
 all_are_modes word.Cert asked = compiling_is_a_mode Certify asked
 all_are_modes word.Check asked = checking_is_a_mode
 all_are_modes word.Exec asked = executing_is_a_mode asked
+all_are_modes word.Apply asked = applying_is_a_mode asked
 
 -- where memory was wanting, each leaves everything as it was
 pub leaves_all : (mode : Word) (asked : Asked) (old new : Seen) → Untouched old new →
@@ -36,3 +38,4 @@ leaves_all word.Asm asked old new left = left
 leaves_all word.Cert asked old new left = left
 leaves_all word.Check asked old new left = left
 leaves_all word.Exec asked old new left = left
+leaves_all word.Apply asked old new left = left

@@ -1,6 +1,6 @@
 -- The ends of a call that has made a certificate or tested one.
 use Rattle.std.proofs.Common.{◌≡◌, ◌≢◌, ◌⊎◌, ⊎_elim, ◌<◌, ◌≤◌, ◌∙◌, refl, sym, ap, subst, ℕ, List}
-use Rattle.std.proofs.Common.{[], length, codes, arith}
+use Rattle.std.proofs.Common.{[], length, codes}
 use Rattle.std.specs.declared.option.Option.{Option}
 use Rattle.cert_check.specs.declared.check.CertAnswer.TheVariants.{Yes}
 use Rattle.cert_check.specs.Reasons.{IsAnswerOf, AreBounded, weights_by as cert_weights}
@@ -31,7 +31,7 @@ use Rattle.pra_tool.specs.Certified.{IsUncertified, CheckMakes}
 use Rattle.pra_tool.specs.Clause.{compiling, checking}
 use Rattle.pra_tool.proofs.CompilingModes.{longer}
 use Rattle.pra_tool.proofs.ModeAnswers.{is_memory}
-use Rattle.pra_tool.proofs.Sources.{selectable}
+use Rattle.pra_tool.proofs.Sources.{few_procs as module_few}
 
 -- the weights of a certificate are those by which the rounds were made
 same_weights : (cost : Word) → weights_by cost ≡ cert_weights (cost_by cost)
@@ -42,9 +42,8 @@ same_weights word.Speed = refl
 few_procs : (asked : Asked) (source : List ℕ) (made : Made) → (made_of : MadeOf asked source made) →
     length made_of.text.checked.procs ≤ most_procs
 few_procs asked source made made_of =
-    let count = (selectable source _ _ made_of.text.checked made_of.read.1
-    made_of.read.2).limited.count
-    in omega (arith, count)
+    module_few source made_of.text.checked
+    (record { text = made_of.text; read = made_of.read; is = refl })
 
 -- what was compiled is certified, and the certificate holds
 certified : (asked : Asked) (source text : List ℕ) (made : Made) → MadeOf asked source made →

@@ -20,8 +20,9 @@ use Rattle.pra_tool.specs.declared.certified.Uncertified.TheVariants as uncertif
 use Rattle.pra_tool.specs.Status.{IsDone, IsRefusal}
 use Rattle.pra_tool.specs.Writes.{Writes, names}
 use Rattle.pra_tool.specs.Modes.{IsKind, IsMode}
-use Rattle.pra_tool.specs.Certified.{most_certificate, IsTextOfCert, FailsIn, IsUncertified}
+use Rattle.pra_tool.specs.Certified.{IsTextOfCert, FailsIn, IsUncertified}
 use Rattle.pra_tool.specs.Certified.{uncertified_status, IsHeld, certificates}
+use Rattle.pra_tool.specs.Applied.{IsCertText, IsNoCertText, certificate_texts}
 use Rattle.pra_tool.specs.Clause.{checking}
 use Rattle.pra_tool.proofs.CompilingModes.{inputs_are_a_kind, not_read}
 
@@ -114,12 +115,21 @@ held_not_failing file c p r h k = yes_or_no c p r h.holds
     (same_certificate file k.certificate c k.read h.read) k.fails)
 
 -- what was read and answered Yes is held
-pub held : (file : List ℕ) (c : Certificate) → length file ≤ most_certificate →
-    IsTextOfCert file c → IsAnswerOf c Yes → (Yes ≡ Yes → AreBounded c) → IsHeld file c
-held file c few read holds bounded =
-    record { few = few; read = read; holds = holds; bounded = bounded refl }
+pub held : (file : List ℕ) (c : Certificate) → IsCertText file c → IsAnswerOf c Yes →
+    (Yes ≡ Yes → AreBounded c) → IsHeld file c
+held file c is holds bounded =
+    record { few = is.few; read = is.read; holds = holds; bounded = bounded refl }
 
 -- ---- certificates
+
+-- what is no text of a certificate is none of one that holds
+pub none_fits : (text : List ℕ) (f : Uncertified) → IsNoCertText text f →
+    IsUncertified text f
+none_fits text uncertified.TooLong h = h
+none_fits text uncertified.NotJson h = h
+none_fits text uncertified.NotCertificate h = h
+none_fits text (uncertified.Fails p r) h = absurd h
+none_fits text uncertified.OutOfMemory h = absurd h
 
 one_uncertified : (file : List ℕ) (f g : Uncertified) → IsUncertified file f →
     IsUncertified file g → f ≡ g
@@ -183,6 +193,26 @@ certificates_are_a_kind = record {
   never_both = never_uncertified;
   refuses = uncertified_refusal;
 }
+
+-- ---- texts of certificates, whatever these claim
+
+never_none : (text : List ℕ) (f : Uncertified) → certificate_texts.IsRight text →
+    IsNoCertText text f → ⊥
+never_none text uncertified.TooLong right h = let le = right.1.few in omega (arith, h, le)
+never_none text uncertified.NotJson right h = h.1 _ right.1.read.0
+never_none text uncertified.NotCertificate right h = of_none text right.0 h.1 right.1.read
+never_none text (uncertified.Fails p r) right h = h
+never_none text uncertified.OutOfMemory right h = h
+
+pub cert_texts_are_a_kind : IsKind certificate_texts
+cert_texts_are_a_kind = record {
+  one_wrong = λ text f g h k. one_uncertified text f g (none_fits text f h)
+      (none_fits text g k);
+  never_both = never_none;
+  refuses = λ text f h. uncertified_refusal text f (none_fits text f h);
+}
+
+-- ---- the mode that tests
 
 pub checking_is_a_mode : IsMode checking
 checking_is_a_mode = record {

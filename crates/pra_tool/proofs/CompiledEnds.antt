@@ -16,9 +16,9 @@ use Rattle.pra_tool.specs.Inputs.{HasGiven, IsInputCause, input_fault_status, in
 use Rattle.pra_tool.specs.Ends.{Ends}
 use Rattle.pra_tool.specs.Ends as ends
 use Rattle.pra_tool.specs.Interpreted.{units_of, interp_writes}
-use Rattle.pra_tool.specs.Modes.{Kind, Mode, IsInput, TextRefused}
+use Rattle.pra_tool.specs.Modes.{Mode, IsInput}
 use Rattle.pra_tool.specs.Clause.{run_of, run_writes, compile_writes, gen_writes}
-use Rattle.pra_tool.specs.Clause.{inputs, compiling, generating}
+use Rattle.pra_tool.specs.Clause.{compiling, generating}
 use Rattle.pra_tool.specs.Compiling.{MadeOf}
 use Rattle.pra_tool.proofs.ModeAnswers.{is_memory}
 
@@ -85,25 +85,24 @@ gen_ends asked source made w s old new result alone text made_of is ended wrote 
       ended = ended;
     }) wrote
 
--- the input, of which a mode takes the numbers, was not read, or is refused
-pub input_ends : (m : Mode) → m.input ≡ inputs → m.reads_input ≡ true → (fault : InputFault)
-    (old new : Seen) (s : Status) → IsInputCause fault old.input new.input →
-    (s ≡ input_fault_status fault) ⊎ (s ≡ NoMemory) →
-    (s ≢ NoMemory → Refused (input_fault_line fault) old new) →
+-- the input of a mode that takes it was not read, or is refused
+pub input_ends : (m : Mode) → m.reads_input ≡ true → (fault : InputFault m.input.Wrong)
+    (old new : Seen) (s : Status) → IsInputCause m.input fault old.input new.input →
+    (s ≡ input_fault_status m.input fault) ⊎ (s ≡ NoMemory) →
+    (s ≢ NoMemory → Refused (input_fault_line m.input fault) old new) →
     (s ≡ NoMemory → Untouched old new) → (source : List ℕ) → Ends m source old new s
-input_ends m same reads fault old new s cause known told memory source = ⊎_elim
+input_ends m reads fault old new s cause known told memory source = ⊎_elim
     (λ wanting. ends.wanting wanting (memory wanting))
     (λ other. by_fault fault other cause (⊎_elim (λ e. e) (λ e. absurd (other e)) known)
     (told other))
     (is_memory s)
   where
-    by_fault : (f : InputFault) → s ≢ NoMemory → IsInputCause f old.input new.input →
-        s ≡ input_fault_status f → Refused (input_fault_line f) old new →
-        Ends m source old new s
+    by_fault : (f : InputFault m.input.Wrong) → s ≢ NoMemory →
+        IsInputCause m.input f old.input new.input → s ≡ input_fault_status m.input f →
+        Refused (input_fault_line m.input f) old new → Ends m source old new s
     by_fault (Wrong f) other c is left = ends.refused c.bytes
         (subst (λ (b : Bool). IsInput b old.input c.bytes) (sym reads) c.taken)
-        (subst (λ (k : Kind). TextRefused k c.bytes old new s) (sym same)
-        (record { fault = f; wrong = c.wrong; status_is = is; left = left }))
+        (record { fault = f; wrong = c.wrong; status_is = is; left = left })
     by_fault NotRead other c is left = ends.unread reads is c left
     by_fault OutOfMemory other c is left = absurd (other is)
 

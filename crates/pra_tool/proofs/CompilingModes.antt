@@ -27,16 +27,17 @@ use Rattle.pra_tool.specs.declared.status.Status.{Status}
 use Rattle.pra_tool.specs.declared.status.Status.TheVariants.{Ended, Trapped, Going, OverLimit}
 use Rattle.pra_tool.specs.declared.status.Status.TheVariants.{NoMemory}
 use Rattle.pra_tool.specs.Ends.{NeverFaults}
-use Rattle.pra_tool.specs.Inputs.{HasNumbers, IsWrongInput, input_status}
+use Rattle.pra_tool.specs.Inputs.{HasNumbers, IsWrongInput, input_status, inputs}
 use Rattle.ob_interp.specs.declared.interpret.UnitEnding.{UnitEnding}
 use Rattle.ob_interp.specs.declared.interpret.UnitEnding.TheVariants as unit
 use Rattle.pra_tool.specs.Status.{IsDone, IsRefusal, IsEnding, IsStatusOf, status_of_units}
 use Rattle.pra_tool.specs.Outside.{Seen, Untouched}
 use Rattle.pra_tool.specs.Writes.{FileText, Writes, IsOther, AreDifferent, names, LeftOff}
+use Rattle.pra_tool.specs.Writes.{image_file}
 use Rattle.pra_tool.proofs.Files.{one_file}
 use Rattle.pra_tool.specs.Modes.{IsKind, IsMode}
-use Rattle.pra_tool.specs.Clause.{makes, refuses, files_of, sources, inputs, compiling}
-use Rattle.pra_tool.specs.Clause.{fault_status, image_file}
+use Rattle.pra_tool.specs.Clause.{makes, refuses, files_of, sources, compiling}
+use Rattle.pra_tool.specs.Clause.{fault_status}
 
 -- the run of an image that was made of a source is no fault
 ending_along : (e : Ending) → (run_end e ≢ Some end.Wrong) → IsEnding e

@@ -23,13 +23,13 @@ use Rattle.pra_report.specs.Texts.{output_text}
 use Rattle.pra_words.specs.Words.{Asked}
 use Rattle.pra_tool.specs.declared.status.Status.{Status}
 use Rattle.pra_tool.specs.declared.status.Status.TheVariants as status
-use Rattle.pra_tool.specs.Clause.{run_of, one_file, image_file, RunMakes, CompileMakes}
+use Rattle.pra_tool.specs.Clause.{run_of, RunMakes, CompileMakes}
 use Rattle.pra_tool.specs.Compiling.{wanted_by}
 use Rattle.pra_tool.specs.Executed.{ExecMakes}
 use Rattle.pra_tool.specs.Interpreted.{frames_of}
 use Rattle.pra_tool.specs.Status.{IsStatusOf, status_of_machine}
 use Rattle.pra_tool.specs.Texts.{ending_line}
-use Rattle.pra_tool.specs.Writes.{FileText, Writes}
+use Rattle.pra_tool.specs.Writes.{FileText, Writes, one_file, image_file}
 use Rattle.pra_tool.proofs.InputWords.{numbers_are_words}
 use Rattle.pra_tool.proofs.InterpAgrees.{run_over, ends_once, one_numbers}
 use Rattle.pra_tool.proofs.ListingModes.{same_image}

@@ -15,6 +15,9 @@ mod ExecAgrees
 mod RoundTrip
 mod CertModes
 mod CertEnds
+mod AppliedCerts
+mod ApplyModes
+mod ApplyAgrees
 mod AllModes
 mod WordsEnds
 mod CompiledEnds

@@ -11,9 +11,9 @@ use Rattle.pra_tool.specs.declared.compiler.Made.{Made}
 use Rattle.pra_words.specs.Words.{Asked}
 use Rattle.pra_tool.specs.declared.status.Status.{Status}
 use Rattle.pra_tool.specs.Compiling.{MadeOf}
-use Rattle.pra_tool.specs.Writes.{FileText, Writes}
+use Rattle.pra_tool.specs.Writes.{FileText, Writes, one_file, image_file}
 use Rattle.pra_tool.specs.Listings.{IsListed, ListMakes, IsTextOf}
-use Rattle.pra_tool.specs.Clause.{AsmMakes, one_file, image_file}
+use Rattle.pra_tool.specs.Clause.{AsmMakes}
 use Rattle.pra_tool.proofs.ListingModes.{same_image}
 
 -- the image whose text is assembled

@@ -1,5 +1,6 @@
 -- What the checker answers can be compiled, and its totals can be told.
-use Rattle.std.proofs.Common.{◌≡◌, ℕ, List, inl, inr, refl, sym, subst, leb-true, Bool, arith}
+use Rattle.std.proofs.Common.{◌≡◌, ◌≤◌, ℕ, List, length, inl, inr, refl, sym, subst, leb-true}
+use Rattle.std.proofs.Common.{Bool, arith}
 use Rattle.std.specs.Prelude.{nat_le}
 use Rattle.std.proofs.lemmas.List.Sums.{AllPass-from_list_all}
 use Rattle.net_cost.specs.Weights.{IsValid, size_weights, speed_weights}
@@ -13,10 +14,10 @@ use Rattle.ob_syntax.specs.declared.tree.Module.{Module}
 use Rattle.pra_compile.specs.Compiled.{IsCompiled}
 use Rattle.pra_compile.specs.declared.output.Compiled.{Compiled}
 use Rattle.pra_compile.proofs.Totals.{have_totals}
-use Rattle.pra_report.specs.Report.{HaveTotals}
+use Rattle.pra_report.specs.Report.{most_procs, HaveTotals}
 use Rattle.pra_words.specs.Words.{Asked}
 use Rattle.pra_tool.specs.declared.compiler.Made.{Made}
-use Rattle.pra_tool.specs.Compiling.{MadeOf, wanted_by, weights_by}
+use Rattle.pra_tool.specs.Compiling.{IsModuleOf, MadeOf, wanted_by, weights_by}
 use Rattle.vc_short.proofs.Short.{module_short}
 use Rattle.vc_short.specs.Short.{IsShort}
 use Rattle.vc_typed.proofs.BodyNodes.{module_nodes}
@@ -52,21 +53,33 @@ module _ (bytes : List ℕ) (tokens : List Token) (tree : Module) (program : Che
   short = subst IsShort (sym is.checked_is)
       (module_short bytes tokens tree is.reading parsed is.well_formed)
 
-  module _ (asked : Asked) (compiled : Compiled)
-      (to : IsCompiled program (wanted_by asked) compiled) where
-    pub totals : HaveTotals compiled.procs
-    totals = have_totals program (wanted_by asked) compiled to (valid_weights asked.cost)
-        (let few = selectable.limited.count in omega (arith, few))
+-- a module that is read of a source is fit for selection
+module _ (source : List ℕ) (program : Checked) (is : IsModuleOf source program) where
+  pub selectable_of : IsSelectable program
+  selectable_of = subst IsSelectable (sym is.is)
+      (selectable source _ _ is.text.checked is.read.1 is.read.2)
 
-    pub made_of : (made : Made) → made.checked ≡ program → made.compiled ≡ compiled →
-        MadeOf asked bytes made
-    made_of made checked same = record {
-      text = record {
-        text = record { bytes = bytes; tokens = tokens; tree = tree };
-        checked = program;
-      };
-      read = (refl, parsed, is);
-      checked = checked;
-      compiled_to =
-          subst (λ (c : Compiled). IsCompiled program (wanted_by asked) c) (sym same) to;
-    }
+  pub nodes_of : HaveTheirNodes program
+  nodes_of = subst HaveTheirNodes (sym is.is)
+      (nodes source _ _ is.text.checked is.read.1 is.read.2)
+
+  pub short_of : IsShort program
+  short_of = subst IsShort (sym is.is) (short source _ _ is.text.checked is.read.1 is.read.2)
+
+  pub few_procs : length program.procs ≤ most_procs
+  few_procs = let few = selectable_of.limited.count in omega (arith, few)
+
+  pub totals_of : (asked : Asked) (compiled : Compiled) →
+      IsCompiled program (wanted_by asked) compiled → HaveTotals compiled.procs
+  totals_of asked compiled to =
+      have_totals program (wanted_by asked) compiled to (valid_weights asked.cost) few_procs
+
+pub made_of : (asked : Asked) (source : List ℕ) (made : Made) → IsModuleOf source made.checked →
+    IsCompiled made.checked (wanted_by asked) made.compiled → MadeOf asked source made
+made_of asked source made is to = record {
+  text = is.text;
+  read = is.read;
+  checked = is.is;
+  compiled_to =
+      subst (λ (p : Checked). IsCompiled p (wanted_by asked) made.compiled) is.is to;
+}

@@ -3,7 +3,6 @@ use Rattle.std.specs.Prelude.{◌≡◌, ◌⊎◌, ℕ, ℤ, Bool, true, false,
 use Rattle.std.specs.Prelude.{None, Some, Result, Ok, Err}
 use Rattle.std.specs.Io.KnownBytes.{Keeps}
 use Rattle.ia_code.specs.declared.image.Image.{Image}
-use Rattle.ia_code.specs.Image.{image_bytes_of}
 use Rattle.ia_step.specs.declared.out.RunOut.{RunOut}
 use Rattle.ia_step.specs.Run.{machine_run}
 use Rattle.ob_read.specs.declared.fault.ReadFault.{ReadFault}
@@ -19,20 +18,20 @@ use Rattle.pra_words.specs.declared.words.WordsFault.{WordsFault}
 use Rattle.pra_words.specs.Texts.{words_lines}
 use Rattle.pra_words.specs.Words.{Asked}
 use Rattle.pra_tool.specs.declared.compiler.Made.{Made}
-use Rattle.pra_tool.specs.declared.input.WrongInput.{WrongInput}
 use Rattle.pra_tool.specs.declared.status.Status.{Status}
 use Rattle.pra_tool.specs.declared.status.Status.TheVariants.{Ended, BadSource, OverLimit}
 use Rattle.pra_tool.specs.declared.status.Status.TheVariants.{BadWords, NoMemory}
-use Rattle.pra_tool.specs.Inputs.{HasNumbers, IsWrongInput, input_status}
+use Rattle.pra_tool.specs.Inputs.{HasNumbers, inputs}
 use Rattle.pra_tool.specs.Compiling.{MadeOf}
 use Rattle.pra_tool.specs.Status.{IsStatusOf}
-use Rattle.pra_tool.specs.Texts.{ending_line, fault_line, input_line}
+use Rattle.pra_tool.specs.Texts.{ending_line, fault_line}
 use Rattle.pra_tool.specs.Outside.{Seen, Refused, Untouched}
-use Rattle.pra_tool.specs.Writes.{FileText, Writes, Stored}
+use Rattle.pra_tool.specs.Writes.{FileText, Writes, one_file, image_file, Stored}
 use Rattle.pra_tool.specs.Modes.{Kind, Mode, Answers}
 use Rattle.pra_tool.specs.Interpreted.{InterpMakes}
 use Rattle.pra_tool.specs.Listings.{IsTextOf, images, loadable, listings, ListMakes}
 use Rattle.pra_tool.specs.Executed.{ExecMakes}
+use Rattle.pra_tool.specs.Applied.{certificate_texts, ApplyMakes, ApplyRefuses}
 use Rattle.pra_tool.specs.Certified.{CertMakes, CertOver, certificates, CheckMakes}
 use Rattle.pra_tool.specs.declared.tool.Then.{Then}
 use Rattle.pra_tool.specs.declared.tool.Then.TheVariants.{Run, Write, Interpret, Certify}
@@ -42,13 +41,6 @@ use Rattle.pra_tool.specs.declared.tool.Then.TheVariants.{Run, Write, Interpret,
 -- the run of an image on an input within the steps
 abbrev pub run_of : Image → List ℤ → ℕ → RunOut
 run_of image input steps = machine_run image input steps
-
--- the one file that is written
-abbrev pub one_file : List ℕ → List ℕ → List FileText
-one_file name bytes = record { name = name; bytes = bytes } ∷ []
-
-abbrev pub image_file : List ℕ → Image → List FileText
-image_file name image = one_file name (image_bytes_of image)
 
 -- what `run` writes: the image, the output of its run within the steps, and as notes the report and
 -- the run's ending line
@@ -149,16 +141,6 @@ sources = record {
   line = fault_line;
   status = fault_status;
   IsRight = λ source. (text : ReadText) × IsRead source text;
-}
-
--- the inputs: the words of numbers
-abbrev pub inputs : Kind
-inputs = record {
-  Wrong = WrongInput;
-  IsWrong = IsWrongInput;
-  line = input_line;
-  status = input_status;
-  IsRight = λ input. (numbers : List ℤ) × HasNumbers input numbers;
 }
 
 -- ---- the modes
@@ -276,6 +258,19 @@ executing asked = record {
   Leaves = Untouched;
 }
 
+-- FILE is a source, which is compiled with the routes of the certificate that the input is
+abbrev pub applying : Asked → Mode
+applying asked = record {
+  source = sources;
+  own = None;
+  input = certificate_texts;
+  reads_input = true;
+  Makes = ApplyMakes asked;
+  Refuses = ApplyRefuses;
+  files = asked.image ∷ [];
+  Leaves = Untouched;
+}
+
 -- the mode of this word
 abbrev pub mode_by : Word → Asked → Mode
 mode_by word.Run asked = compiling Run asked
@@ -287,11 +282,13 @@ mode_by word.Interp asked = compiling Interpret asked
 mode_by word.Cert asked = compiling Certify asked
 mode_by word.Check asked = checking
 mode_by word.Exec asked = executing asked
+mode_by word.Apply asked = applying asked
 
 abbrev pub reads_input : Word → Bool
 reads_input word.Run = true
 reads_input word.Interp = true
 reads_input word.Exec = true
+reads_input word.Apply = true
 reads_input mode = false
 
 -- the mode that is asked for

@@ -3,6 +3,7 @@ use Rattle.std.specs.Prelude.{◌≡◌, ℕ, List}
 use Rattle.net_cost.specs.declared.weights.Weights.{Weights}
 use Rattle.net_cost.specs.Weights.{size_weights, speed_weights}
 use Rattle.ob_read.specs.Source.{ReadText, IsRead}
+use Rattle.ob_syntax.specs.declared.checked.Checked.{Checked}
 use Rattle.pra_compile.specs.Compiled.{Wanted, wanted_of, IsCompiled}
 use Rattle.pra_words.specs.declared.words.CostWord.{CostWord}
 use Rattle.pra_words.specs.declared.words.CostWord.TheVariants.{Size, Speed}
@@ -17,6 +18,12 @@ weights_by Speed = speed_weights
 -- what is wanted of each procedure's registers
 abbrev pub wanted_by : Asked → Wanted
 wanted_by asked = wanted_of (weights_by asked.cost) asked.rounds asked.gap
+
+-- The source is a text of this module.
+pub record IsModuleOf (source : List ℕ) (checked : Checked) : Type 0 where
+  pub text : ReadText
+  pub read : IsRead source text
+  pub is : checked ≡ text.checked
 
 -- The source is a text of a module, and this is what the module is compiled to: a valid image that
 -- does what the module means on each input of words, both ways, with the frames that are told of

@@ -11,7 +11,7 @@ use Rattle.pra_tool.specs.declared.input.InputFault.TheVariants.{Wrong, NotRead,
 use Rattle.pra_tool.specs.declared.status.Status.{Status}
 use Rattle.pra_tool.specs.declared.status.Status.TheVariants.{OverLimit, Fault, BadInput, NoMemory}
 use Rattle.pra_tool.specs.Texts.{input_line}
-use Rattle.pra_tool.specs.Modes.{IsInput, IsLeft}
+use Rattle.pra_tool.specs.Modes.{Kind, IsInput, IsLeft}
 use Rattle.pra_tool.specs.Outside.{StreamSeen}
 use Rattle.pra_io.specs.Causes.{Rose}
 
@@ -35,30 +35,40 @@ pub record HasGiven (old new : StreamSeen) (numbers : List ℤ) : Type 0 where
   pub left : IsLeft true old new
   pub has : HasNumbers bytes numbers
 
--- something is wrong with what the input had
-pub record HasGivenWrong (old : StreamSeen) (f : WrongInput) : Type 0 where
-  pub bytes : List ℕ
-  pub taken : IsInput true old bytes
-  pub wrong : IsWrongInput bytes f
-
--- why no numbers were read
-abbrev pub IsInputCause : InputFault → StreamSeen → StreamSeen → Type 0
-IsInputCause (Wrong f) old new = HasGivenWrong old f
-IsInputCause NotRead old new = Rose old.faults new.faults
-IsInputCause OutOfMemory old new = Unit {0}
-
--- ---- how it is told
-
 abbrev pub input_status : WrongInput → Status
 input_status TooLong = OverLimit
 input_status (NoWord at) = BadInput
 
-abbrev pub input_fault_status : InputFault → Status
-input_fault_status (Wrong f) = input_status f
-input_fault_status NotRead = Fault
-input_fault_status OutOfMemory = NoMemory
+-- the inputs: the words of numbers
+abbrev pub inputs : Kind
+inputs = record {
+  Wrong = WrongInput;
+  IsWrong = IsWrongInput;
+  line = input_line;
+  status = input_status;
+  IsRight = λ input. (numbers : List ℤ) × HasNumbers input numbers;
+}
 
-abbrev pub input_fault_line : InputFault → List ℕ
-input_fault_line (Wrong f) = input_line f
-input_fault_line NotRead = codes "fault read input\n"
-input_fault_line OutOfMemory = []
+-- ---- an input that is none of its kind, or fails
+
+-- something is wrong with what the input had
+pub record HasGivenWrong (kind : Kind) (old : StreamSeen) (f : kind.Wrong) : Type 0 where
+  pub bytes : List ℕ
+  pub taken : IsInput true old bytes
+  pub wrong : kind.IsWrong bytes f
+
+-- why nothing was read
+abbrev pub IsInputCause : (kind : Kind) → InputFault kind.Wrong → StreamSeen → StreamSeen → Type 0
+IsInputCause kind (Wrong f) old new = HasGivenWrong kind old f
+IsInputCause kind NotRead old new = Rose old.faults new.faults
+IsInputCause kind OutOfMemory old new = Unit {0}
+
+abbrev pub input_fault_status : (kind : Kind) → InputFault kind.Wrong → Status
+input_fault_status kind (Wrong f) = kind.status f
+input_fault_status kind NotRead = Fault
+input_fault_status kind OutOfMemory = NoMemory
+
+abbrev pub input_fault_line : (kind : Kind) → InputFault kind.Wrong → List ℕ
+input_fault_line kind (Wrong f) = kind.line f
+input_fault_line kind NotRead = codes "fault read input\n"
+input_fault_line kind OutOfMemory = []

@@ -11,5 +11,6 @@ pub mod Interpreted
 pub mod Listings
 pub mod Certified
 pub mod Executed
+pub mod Applied
 pub mod Clause
 pub mod Reports

@@ -32,6 +32,12 @@ use Rattle.pra_tool.specs.declared.listing.Unlisted.{Unlisted}
 use Rattle.pra_tool.specs.declared.listing.Unlisted.TheVariants as unlisted
 use Rattle.pra_tool.specs.declared.listing.Unassembled.{Unassembled}
 use Rattle.pra_tool.specs.declared.listing.Unassembled.TheVariants as unassembled
+use Rattle.net_form.specs.declared.prices.Line.{Line}
+use Rattle.pra_report.specs.declared.report.ProcOut.{ProcOut}
+use Rattle.pra_report.specs.Report.{total_line}
+use Rattle.pra_report.specs.Texts.{procedure_line}
+use Rattle.pra_tool.specs.declared.applied.Misapplied.{Misapplied}
+use Rattle.pra_tool.specs.declared.applied.Misapplied.TheVariants as misapplied
 use Rattle.pra_tool.specs.declared.certified.Uncertified.{Uncertified}
 use Rattle.pra_tool.specs.declared.certified.Uncertified.TheVariants as uncertified
 
@@ -167,3 +173,30 @@ uncertified_line uncertified.NotCertificate = codes "fault certificate form\n"
 uncertified_line (uncertified.Fails p r) =
     codes "fault certificate procedure " ++ decimal p ++ codes " " ++ reason_name r ++ codes "\n"
 uncertified_line uncertified.OutOfMemory = []
+
+-- ---- certificates that are applied
+
+abbrev pub misapplied_line : Misapplied → List ℕ
+misapplied_line misapplied.Count = codes "fault certificate module\n"
+misapplied_line (misapplied.Module p) =
+    codes "fault certificate procedure " ++ decimal p ++ codes " module\n"
+misapplied_line (misapplied.Fails p r) = uncertified_line (uncertified.Fails p r)
+misapplied_line misapplied.OutOfMemory = []
+
+-- what routes cost, and a bound
+abbrev pub routes_line : Line → List ℕ
+routes_line l =
+    codes "routes cost " ++ decimal l.cost ++ codes " bound " ++ decimal l.bound ++ codes "\n"
+
+abbrev pub routes_lines : List Line → List ℕ
+routes_lines [] = []
+routes_lines (l ∷ ls) = routes_line l ++ routes_lines ls
+
+-- procedures in their order, the first of which has this number
+abbrev pub applied_lines : ℕ → List ProcOut → List ℕ
+applied_lines number [] = []
+applied_lines number (p ∷ ps) =
+    procedure_line number p.name p.frame ++ routes_lines p.lines ++ applied_lines (number + 1) ps
+
+abbrev pub applied_text : List ProcOut → ℕ → List ℕ
+applied_text procs code = applied_lines 0 procs ++ total_line procs code

@@ -5,6 +5,8 @@ use Rattle.std.specs.Prelude.{length, ⊤}
 use Rattle.std.specs.Prelude.{codes, Result, MatchResult}
 use Rattle.std.specs.List.{AllByRecursion as Each}
 use Rattle.std.specs.Io.KnownBytes.{Keeps, Appends}
+use Rattle.ia_code.specs.declared.image.Image.{Image}
+use Rattle.ia_code.specs.Image.{image_bytes_of}
 use Rattle.pra_io.specs.declared.files.FileFault.{FileFault}
 use Rattle.pra_io.specs.declared.files.FileFault.TheVariants.{Failed, TooLong, OutOfMemory}
 use Rattle.pra_io.specs.Causes.{Rose}
@@ -25,6 +27,13 @@ pub record Writes : Type 0 where
 -- a text to out, and nothing else
 abbrev pub text_alone : List ℕ → Writes
 text_alone text = record { files = []; out = text; notes = [] }
+
+-- the one file that is written
+abbrev pub one_file : List ℕ → List ℕ → List FileText
+one_file name bytes = record { name = name; bytes = bytes } ∷ []
+
+abbrev pub image_file : List ℕ → Image → List FileText
+image_file name image = one_file name (image_bytes_of image)
 
 abbrev pub names : List FileText → List (List ℕ)
 names = map (λ f. f.name)

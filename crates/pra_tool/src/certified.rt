@@ -2,6 +2,7 @@
 // that holds.
 
 ghost use Rattle.std.specs.Prelude.{◌≡◌, ◌≢◌, ◌≤◌, length, IfOk, IfErr};
+ghost use Rattle.pra_tool.specs.Applied.{IsCertText, IsNoCertText};
 ghost use Rattle.pra_tool.specs.Certified.{cost_by, most_certificate, CertifiesMade};
 ghost use Rattle.pra_tool.specs.Certified.{IsHeld, IsUncertified};
 
@@ -52,23 +53,36 @@ pub fn certify(alloc: Global, cost: pra_words::CostWord, made: Made) -> Result<V
     Ok(text)
 }
 
+/// The certificate of which at most 16,777,216 bytes are the text.
+///
+/// # Errors
+///
+/// Why they are no text of one. And `OutOfMemory`.
+pub fn certificate_in(alloc: Global, text: &[u8]) -> Result<Certificate, Uncertified>
+    requires { length text.now ≤ most_certificate }
+    ensures is { IfOk result (IsCertText text.now) }
+    ensures cause { IfErr result (λ f. f ≢ Uncertified.OutOfMemory → IsNoCertText text.now f) }
+{
+    match cert_read(alloc, text) {
+        Ok(certificate) => Ok(certificate),
+        Err(CertFault::NotJson) => Err(Uncertified::NotJson),
+        Err(CertFault::NotCertificate) => Err(Uncertified::NotCertificate),
+        Err(CertFault::OutOfMemory) => Err(Uncertified::OutOfMemory),
+    }
+}
+
 /// The certificate of which a file of at most 16,777,216 bytes is the text, where it holds.
 ///
 /// # Errors
 ///
 /// The one thing that is wrong with the file. And `OutOfMemory`.
-#[tactic(auto, using(crate::proofs::CertModes::held))]
+#[tactic(auto, using(crate::proofs::CertModes::held, crate::proofs::CertModes::none_fits))]
 pub fn held_by(alloc: Global, file: &[u8]) -> Result<Certificate, Uncertified>
     requires { length file.now ≤ most_certificate }
     ensures held { IfOk result (IsHeld file.now) }
     ensures cause { IfErr result (λ f. f ≢ Uncertified.OutOfMemory → IsUncertified file.now f) }
 {
-    let certificate = match cert_read(alloc, file) {
-        Ok(certificate) => certificate,
-        Err(CertFault::NotJson) => return Err(Uncertified::NotJson),
-        Err(CertFault::NotCertificate) => return Err(Uncertified::NotCertificate),
-        Err(CertFault::OutOfMemory) => return Err(Uncertified::OutOfMemory),
-    };
+    let certificate = certificate_in(alloc, file)?;
     match check_cert(alloc, &certificate) {
         Ok(CertAnswer::Yes) => Ok(certificate),
         Ok(CertAnswer::No(procedure, reason)) => Err(Uncertified::Fails(procedure, reason)),

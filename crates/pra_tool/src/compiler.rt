@@ -4,12 +4,11 @@ ghost use Rattle.std.specs.Prelude.{◌≡◌, ◌≢◌, ◌≤◌, length, IfO
 ghost use Rattle.al_round.specs.Watches.{Keeps as IsWatch, gap_of, verdict_of};
 ghost use Rattle.net_cost.specs.Models.{Keeps, weights_of};
 ghost use Rattle.ob_read.specs.Source.{IsUnreadable};
-ghost use Rattle.ob_syntax.specs.Source.{most_bytes, IsParsed};
-ghost use Rattle.ob_syntax.specs.Tokens.{SlicesSource};
+ghost use Rattle.ob_syntax.specs.Source.{most_bytes};
 ghost use Rattle.pra_compile.specs.Compiled.{IsCompiled, wanted_of};
 ghost use Rattle.pra_report.specs.Report.{HaveTotals};
 ghost use Rattle.pra_words.specs.Written.{asked_by};
-ghost use Rattle.pra_tool.specs.Compiling.{MadeOf, wanted_by, weights_by};
+ghost use Rattle.pra_tool.specs.Compiling.{IsModuleOf, MadeOf, wanted_by, weights_by};
 ghost use Rattle.vc_short.specs.Short.{IsShort};
 ghost use Rattle.vc_typed.specs.Nodes.{HaveTheirNodes};
 ghost use Rattle.vc_typed.specs.TypedModules.{IsSelectable};
@@ -31,6 +30,22 @@ pub struct Made {
     pub compiled: Compiled,
 }
 
+/// The module that a source of at most 1,048,576 bytes is.
+///
+/// # Errors
+///
+/// The one thing that is wrong with the source. And `OutOfMemory`.
+pub fn resolve_source(alloc: Global, bytes: &[u8]) -> Result<Checked, ReadFault>
+    requires { length bytes.now ≤ most_bytes }
+    ensures module { IfOk result (IsModuleOf bytes.now) }
+    ensures cause { IfErr result (λ f. f ≢ ReadFault.OutOfMemory → IsUnreadable bytes.now f) }
+{
+    let parsed = read(alloc, bytes)?;
+    let Parsed { tokens, tree } = parsed;
+    let checked = resolve(alloc, bytes, &tokens, tree)?;
+    Ok(checked)
+}
+
 /// Compiles a source of at most 1,048,576 bytes, in so many rounds, by such costs and up to such a
 /// gap as are asked for.
 ///
@@ -44,26 +59,7 @@ pub fn compile_source(alloc: Global, bytes: &[u8], request: &Request) -> Result<
     ensures totals { IfOk result (λ made. HaveTotals made.compiled.procs) }
     ensures cause { IfErr result (λ f. f ≢ ReadFault.OutOfMemory → IsUnreadable bytes.now f) }
 {
-    let parsed = read(alloc, bytes)?;
-    compile_parsed(alloc, bytes, parsed, request)
-}
-
-// Compiles a source that was read.
-fn compile_parsed(
-    alloc: Global,
-    bytes: &[u8],
-    parsed: Parsed,
-    request: &Request,
-) -> Result<Made, ReadFault>
-    requires parsed { IsParsed bytes.now parsed.tokens.items parsed.tree }
-    requires spans { SlicesSource bytes.now parsed.tokens.items }
-    requires rounds { request.now.rounds ≤ 1000 }
-    ensures made { IfOk result (λ made. MadeOf (asked_by request.now) bytes.now made) }
-    ensures totals { IfOk result (λ made. HaveTotals made.compiled.procs) }
-    ensures cause { IfErr result (λ f. f ≢ ReadFault.OutOfMemory → IsUnreadable bytes.now f) }
-{
-    let Parsed { tokens, tree } = parsed;
-    let checked = resolve(alloc, bytes, &tokens, tree)?;
+    let checked = resolve_source(alloc, bytes)?;
     let compiled = compile_checked(alloc, &checked, request)?;
     Ok(Made { checked, compiled })
 }

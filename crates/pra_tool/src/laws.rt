@@ -1,22 +1,31 @@
 // The laws of what is promised.
 
-ghost use Rattle.std.specs.Prelude.{◌≡◌, ◌≢◌, ◌≤◌, ◌++◌, ℕ, List, [], length};
+ghost use Rattle.std.specs.Prelude.{◌≡◌, ◌≢◌, ◌≤◌, ◌++◌, ℕ, ℤ, List, [], length, slice_get};
+ghost use Rattle.std.specs.Prelude.{true, Some};
+ghost use Rattle.cert_check.specs.Reasons.{weights_by};
+ghost use Rattle.cert_form.specs.declared.certificate.Cert.{Cert};
 ghost use Rattle.ia_code.specs.Image.{image_bytes_of};
 ghost use Rattle.ia_list.specs.ListText.{max_text_bytes};
+ghost use Rattle.ob_syntax.specs.declared.checked.CheckedProc.{CheckedProc};
+ghost use Rattle.pl_place.specs.Behind.{Routed};
 ghost use Rattle.pra_follow.specs.Follows.{DoesAsMeant};
+ghost use Rattle.pra_report.specs.declared.report.ProcOut.{ProcOut};
 ghost use Rattle.pra_words.specs.declared.words.Mode.{Mode as Word};
 ghost use Rattle.pra_words.specs.Words.{Asked};
 ghost use Rattle.pra_tool.specs.declared.compiler.Made.{Made};
 ghost use Rattle.pra_tool.specs.declared.status.Status.{Status};
-ghost use Rattle.pra_tool.specs.Writes.{Writes};
+ghost use Rattle.pra_tool.specs.Writes.{Writes, one_file};
 ghost use Rattle.pra_tool.specs.Modes.{IsMode};
 ghost use Rattle.pra_tool.specs.Compiling.{MadeOf};
 ghost use Rattle.pra_report.specs.Report.{procedure_lines, report_text};
+ghost use Rattle.pra_tool.specs.Applied.{ApplyMakes, CarriesCert, AreAlike};
+ghost use Rattle.pra_tool.specs.Certified.{CertMakes};
 ghost use Rattle.pra_tool.specs.Executed.{ExecMakes};
+ghost use Rattle.vc_stmt.specs.Completes.{are_words};
 ghost use Rattle.pra_tool.specs.Interpreted.{InterpMakes, frames_of, units_of};
 ghost use Rattle.pra_tool.specs.Listings.{IsListed, ListMakes};
 ghost use Rattle.pra_tool.specs.Clause.{run_of, RunMakes, CompileMakes, GenMakes, AsmMakes};
-ghost use Rattle.pra_tool.specs.Clause.{one_file, mode_by};
+ghost use Rattle.pra_tool.specs.Clause.{mode_by};
 
 /// What the answers of a mode rest on holds of each mode.
 pub fn all_are_modes()
@@ -73,6 +82,40 @@ pub fn exec_does_as_run()
         (s ≡ t) × (v.out ≡ w.out) ×
         ((run_of run.made.compiled.image run.numbers asked.steps).reads
         ≡ (run_of exec.image exec.numbers another.steps).reads) }
+{}
+
+/// What `apply` makes does what the source means, with the frames that it prints: on every input of
+/// words the run of the image agrees with the meaning of the module, both ways.
+pub fn applied_does_as_meant()
+    ensures { (asked : Asked) (source input : List ℕ) (w : Writes) (s : Status) (words : List ℤ) →
+        (made : ApplyMakes asked source input w s) → are_words words ≡ true →
+        DoesAsMeant made.text.checked (frames_of made.compiled.procs) made.compiled.image words }
+{}
+
+/// And its image carries, procedure by procedure, the certificate's code and routes. By the weights
+/// of the certificate's own cost word they cost its total, and no flow that is admitted costs less
+/// than its bound; both are printed.
+pub fn certificates_are_carried()
+    ensures { (asked : Asked) (source input : List ℕ) (w : Writes) (s : Status) (p : ℕ)
+        (proc : CheckedProc) (cert : Cert) (out : ProcOut) (r : Routed) →
+        (made : ApplyMakes asked source input w s) →
+        slice_get made.text.checked.procs p ≡ Some proc →
+        slice_get made.certificate.procs p ≡ Some cert →
+        slice_get made.compiled.procs p ≡ Some out →
+        slice_get made.applied.compiled_to.behind p ≡ Some r →
+        CarriesCert (weights_by made.certificate.cost) cert out r }
+{}
+
+/// Where `cert` printed a certificate of a source, and `apply` made something of that text and the
+/// source, each procedure has the same name, frame, code and routes, and the same cost and bound.
+/// That the image is then the one of `compile` is not promised: routes say where values are, and not
+/// in which order they move.
+pub fn apply_repeats_cert()
+    ensures { (asked other : Asked) (source : List ℕ) (v w : Writes) (s t : Status) (p : ℕ)
+        (a b : ProcOut) → (cert : CertMakes asked source [] v s) →
+        (applied : ApplyMakes other source v.out w t) →
+        slice_get cert.certified.made.compiled.procs p ≡ Some a →
+        slice_get applied.compiled.procs p ≡ Some b → AreAlike a b }
 {}
 
 /// Of what `list` printed of a file, `asm` writes that file again, to the byte; and of a file that

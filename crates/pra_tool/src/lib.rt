@@ -9,12 +9,15 @@
 //! compiled to.
 #![tactic(auto)]
 
+pub mod applied;
+mod apply;
 pub mod certified;
 pub mod compiler;
 pub mod input;
 pub mod laws;
 pub mod listing;
 mod report;
+mod same;
 pub mod status;
 pub mod texts;
 pub mod tool;

@@ -8,10 +8,11 @@ ghost use Rattle.pra_tool.specs.Status.{IsDone, IsStatusOf, status_of_machine, s
 ghost use Rattle.pra_tool.specs.Outside.{StreamSeen, Seen, folder_seen, stream_seen, seen};
 ghost use Rattle.pra_tool.specs.Outside.{NoneFell, Told};
 ghost use Rattle.pra_tool.specs.Writes.{AreDifferent, FilesWritten, Wrote, stop_status};
-ghost use Rattle.pra_tool.specs.Writes.{text_alone};
+ghost use Rattle.pra_tool.specs.Writes.{image_file, text_alone};
 ghost use Rattle.pra_tool.specs.Reports.{file_text, writes_of};
-ghost use Rattle.pra_tool.specs.Clause.{image_file, run_of, run_writes, compile_writes};
+ghost use Rattle.pra_tool.specs.Clause.{run_of, run_writes, compile_writes};
 ghost use Rattle.pra_tool.specs.Clause.{asm_writes, gen_writes, summary};
+ghost use Rattle.pra_tool.specs.Applied.{apply_writes};
 ghost use Rattle.pra_tool.specs.Executed.{exec_writes};
 ghost use Rattle.pra_tool.specs.Interpreted.{frames_of, units_of, interp_writes};
 ghost use Rattle.pra_tool.specs.Ends.{NeverFaults};
@@ -19,7 +20,7 @@ ghost use Rattle.vc_stmt.specs.Completes.{are_words};
 
 use crate::compiler::Made;
 use crate::status::Status;
-use crate::texts::{ending_line, units_line};
+use crate::texts::{applied_text, ending_line, units_line};
 use ia_asm::image_bytes;
 use ia_code::Image;
 use ia_step::{Machine, RunOut};
@@ -262,6 +263,29 @@ pub(crate) fn text_report<'a>(alloc: Global, text: Vec<u8>) -> Report<'a>
         notes: Vec::new(alloc),
         status: Status::Ended,
     }
+}
+
+/// Makes the texts of a module that was compiled with the routes of a certificate.
+pub(crate) fn apply_report<'a>(
+    alloc: Global,
+    request: &Request<'a>,
+    compiled: &Compiled,
+) -> Result<Report<'a>, OutOfMemory>
+    requires valid { IsImage compiled.now.image }
+    requires totals { HaveTotals compiled.now.procs }
+    ensures writes { IfOk result (λ r.
+        writes_of r ≡ apply_writes (asked_by request.now) compiled.now) }
+    ensures done { IfOk result (λ r. r.status ≡ Status.Ended) }
+{
+    let code = code_length(&compiled.image);
+    let out = applied_text(alloc, compiled.procs.as_slice(), code)?;
+    let files = with_image(alloc, request, Vec::new(alloc), &compiled.image)?;
+    Ok(Report {
+        files,
+        out,
+        notes: Vec::new(alloc),
+        status: Status::Ended,
+    })
 }
 
 /// Makes the file of an image that was assembled.

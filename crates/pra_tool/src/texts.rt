@@ -7,8 +7,12 @@ ghost use Rattle.pra_tool.specs.Texts.{lexical_line};
 ghost use Rattle.pra_tool.specs.Texts.{place_text, over_line, count_line, fault_line, input_line};
 ghost use Rattle.pra_tool.specs.Texts.{field_name, unlisted_line, unassembled_line};
 ghost use Rattle.pra_tool.specs.Texts.{held_line, held_lines, held_text, reason_name};
-ghost use Rattle.pra_tool.specs.Texts.{uncertified_line};
+ghost use Rattle.pra_tool.specs.Texts.{uncertified_line, misapplied_line, routes_line};
+ghost use Rattle.pra_tool.specs.Texts.{routes_lines, applied_lines, applied_text};
+ghost use Rattle.pra_report.specs.Report.{HaveTotals};
+ghost use Rattle.pra_report.specs.Texts.{procedure_line};
 
+use crate::applied::Misapplied;
 use crate::certified::Uncertified;
 use crate::input::WrongInput;
 use crate::listing::{MAX_IMAGE, Unassembled, Unlisted};
@@ -17,10 +21,12 @@ use cert_form::{Cert, Certificate, MAX_CERT_BYTES};
 use ia_asm::Field;
 use ia_list::MAX_TEXT_BYTES;
 use ia_step::{Ending, FaultKind, RunOut};
+use net_form::Line;
 use ob_interp::{UnitEnding, UnitOut};
 use ob_lex::LexFault;
 use ob_read::{LimitFault, ReadFault, SourceFault};
 use pra_base::{LimitKind, OutOfMemory, TrapKind};
+use pra_report::{ProcOut, total_line};
 use std::alloc::{AllocError, Global};
 use std::fmt::Write;
 
@@ -307,4 +313,84 @@ fn reason_name(reason: Reason) -> &'static str
         Reason::Total => "total",
         Reason::Bound => "bound",
     }
+}
+
+/// The line that tells why a certificate is not applied to a module.
+///
+/// # Errors
+///
+/// Where there is no memory for the line.
+pub fn misapplied_line(alloc: Global, fault: Misapplied) -> Result<String, AllocError>
+    ensures { IfOk result (λ line. string_bytes line ≡ misapplied_line fault) }
+{
+    match fault {
+        Misapplied::Count => String::from_str(alloc, "fault certificate module\n"),
+        Misapplied::Module(procedure) => failing_line(alloc, procedure, "module"),
+        Misapplied::Fails(procedure, reason) => reason_line(alloc, procedure, reason),
+        Misapplied::OutOfMemory => Ok(String::new(alloc)),
+    }
+}
+
+/// What is told of procedures that carry the routes of a certificate, with so many bytes of code:
+/// for each its number, name and frame, and what its routes cost, and behind all of them the sums.
+///
+/// # Errors
+///
+/// Where there is no memory for the text.
+pub fn applied_text(alloc: Global, procs: &[ProcOut], code: u32) -> Result<Vec<u8>, OutOfMemory>
+    requires { HaveTotals procs.now }
+    ensures { IfOk result (λ text. text.items ≡ applied_text procs.now code) }
+{
+    let mut text = applied_lines(alloc, procs)?;
+    let total = total_line(alloc, procs, code)?;
+    text.extend_from_slice(&total)?;
+    Ok(text)
+}
+
+fn applied_lines(alloc: Global, procs: &[ProcOut]) -> Result<Vec<u8>, OutOfMemory>
+    ensures { IfOk result (λ text. text.items ≡ applied_lines 0 procs.now) }
+{
+    let mut text = Vec::new(alloc);
+    for (number, proc) in procs.iter().enumerate() {
+        let line = procedure_line(alloc, number, proc.name.as_slice(), proc.frame)?;
+        text.extend_from_slice(&line)?;
+        let routes = routes_lines(alloc, proc.lines.as_slice())?;
+        text.extend_from_slice(&routes)?;
+    }
+    Ok(text)
+}
+
+// The line on a procedure: its number, its name, and how many bytes its frame has.
+fn procedure_line(
+    alloc: Global,
+    number: usize,
+    name: &[u8],
+    frame: u32,
+) -> Result<Vec<u8>, OutOfMemory>
+    ensures { IfOk result (λ line. line.items ≡ procedure_line number name.now frame) }
+{
+    let mut line = format!(in alloc; "procedure {number} ")?.into_bytes();
+    line.extend_from_slice(name)?;
+    let end = format!(in alloc; " frame {frame}\n")?;
+    line.extend_from_slice(end.as_bytes())?;
+    Ok(line)
+}
+
+fn routes_lines(alloc: Global, lines: &[Line]) -> Result<Vec<u8>, OutOfMemory>
+    ensures { IfOk result (λ text. text.items ≡ routes_lines lines.now) }
+{
+    let mut text = Vec::new(alloc);
+    for line in lines {
+        let told = routes_line(alloc, *line)?;
+        text.extend_from_slice(&told)?;
+    }
+    Ok(text)
+}
+
+fn routes_line(alloc: Global, line: Line) -> Result<Vec<u8>, OutOfMemory>
+    ensures { IfOk result (λ text. text.items ≡ routes_line line) }
+{
+    let mut text = format!(in alloc; "routes cost {}", line.cost)?;
+    write!(text, " bound {}\n", line.bound)?;
+    Ok(text.into_bytes())
 }

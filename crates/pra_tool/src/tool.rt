@@ -15,7 +15,7 @@ ghost use Rattle.pra_tool.specs.Outside.{StreamSeen, Seen, folder_seen, stream_s
 ghost use Rattle.pra_tool.specs.Outside.{seen_by, Told};
 ghost use Rattle.pra_tool.specs.Texts.{fault_line, unlisted_line, unassembled_line};
 ghost use Rattle.pra_tool.specs.Texts.{over_line, uncertified_line};
-ghost use Rattle.pra_tool.specs.Inputs.{input_fault_status, input_fault_line};
+ghost use Rattle.pra_tool.specs.Inputs.{inputs, input_fault_status, input_fault_line};
 ghost use Rattle.pra_tool.specs.Modes.{Answers};
 ghost use Rattle.pra_tool.specs.Ends.{Ends, NeverFaults};
 ghost use Rattle.pra_tool.specs.Compiling.{MadeOf};
@@ -26,6 +26,7 @@ ghost use Rattle.pra_tool.specs.Certified.{most_certificate, IsHeld, uncertified
 ghost use Rattle.pra_tool.specs.Listings.{IsListed, IsTextOf};
 ghost use Rattle.pra_tool.specs.Listings.{unlisted_status, unassembled_status};
 
+use crate::apply::apply_file;
 use crate::certified::{Uncertified, certify, held_by};
 use crate::compiler::{Made, compile_source};
 use crate::input::{InputFault, WrongInput, read_numbers};
@@ -195,6 +196,7 @@ fn perform<D: Folder, I: Source, O: Sink, N: Sink>(
         Mode::Cert => compile_file(alloc, request, Then::Certify, folder, input, out, notes),
         Mode::Check => check_file(alloc, request, folder, out, notes),
         Mode::Exec => exec_file(alloc, request, folder, input, out, notes),
+        Mode::Apply => apply_file(alloc, request, folder, input, out, notes),
     }
 }
 
@@ -401,9 +403,9 @@ fn refuse_long<N: Sink>(alloc: Global, notes: &mut N, text: &[u8]) -> Status
 }
 
 // Writes why the input was not read.
-fn refuse_input<N: Sink>(alloc: Global, notes: &mut N, fault: InputFault) -> Status
-    ensures known { (result ≡ input_fault_status fault) ⊎ (result ≡ Status.NoMemory) }
-    ensures told { result ≢ Status.NoMemory → Told (input_fault_line fault)
+fn refuse_input<N: Sink>(alloc: Global, notes: &mut N, fault: InputFault<WrongInput>) -> Status
+    ensures known { (result ≡ input_fault_status inputs fault) ⊎ (result ≡ Status.NoMemory) }
+    ensures told { result ≢ Status.NoMemory → Told (input_fault_line inputs fault)
         (stream_seen N.bytes N.faults notes.old) (stream_seen N.bytes N.faults notes.new) }
     ensures memory { result ≡ Status.NoMemory → notes.new ≡ notes.old }
 {
@@ -422,14 +424,14 @@ fn refuse_input<N: Sink>(alloc: Global, notes: &mut N, fault: InputFault) -> Sta
     }
 }
 
-// What is told of a source that is too long: the count is one byte more than it may have.
-const SOURCE_OVER: ReadFault = ReadFault::Limit(LimitFault::Count(
+/// What is told of a source that is too long: the count is one byte more than it may have.
+pub(crate) const SOURCE_OVER: ReadFault = ReadFault::Limit(LimitFault::Count(
     LimitKind::Source,
     MAX_SOURCE as u64 + 1,
 ));
 
-// Writes what is wrong with a source.
-fn refuse_source<N: Sink>(alloc: Global, notes: &mut N, fault: ReadFault) -> Status
+/// Writes what is wrong with a source.
+pub(crate) fn refuse_source<N: Sink>(alloc: Global, notes: &mut N, fault: ReadFault) -> Status
     ensures known { (result ≡ fault_status fault) ⊎ (result ≡ Status.NoMemory) }
     ensures told { result ≢ Status.NoMemory → Told (fault_line fault)
         (stream_seen N.bytes N.faults notes.old) (stream_seen N.bytes N.faults notes.new) }
@@ -726,8 +728,8 @@ fn tell_held<D: Folder, O: Sink, N: Sink>(
     }
 }
 
-// Writes why a file is no certificate that holds.
-fn refuse_cert<N: Sink>(alloc: Global, notes: &mut N, fault: Uncertified) -> Status
+/// Writes why a text is none of a certificate, or of one that does not hold.
+pub(crate) fn refuse_cert<N: Sink>(alloc: Global, notes: &mut N, fault: Uncertified) -> Status
     ensures known { (result ≡ uncertified_status fault) ⊎ (result ≡ Status.NoMemory) }
     ensures told { result ≢ Status.NoMemory → Told (uncertified_line fault)
         (stream_seen N.bytes N.faults notes.old) (stream_seen N.bytes N.faults notes.new) }

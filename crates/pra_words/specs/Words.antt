@@ -33,7 +33,8 @@ mode_of word =
     else (if bytes_eq word (codes "interp") then Some a_mode.Interp
     else (if bytes_eq word (codes "cert") then Some a_mode.Cert
     else (if bytes_eq word (codes "check") then Some a_mode.Check
-    else (if bytes_eq word (codes "exec") then Some a_mode.Exec else None))))))))
+    else (if bytes_eq word (codes "exec") then Some a_mode.Exec
+    else (if bytes_eq word (codes "apply") then Some a_mode.Apply else None)))))))))
 
 -- whether the mode writes an image file
 abbrev pub writes_image : Mode → Bool

@@ -80,6 +80,8 @@ pub enum Mode {
     Check,
     /// It is an image, and runs.
     Exec,
+    /// It is compiled with the routes of a certificate.
+    Apply,
 }
 
 impl Mode {
@@ -87,7 +89,10 @@ impl Mode {
     fn writes_image(self) -> bool
         ensures { result ≡ writes_image self }
     {
-        matches!(self, Mode::Run | Mode::Compile | Mode::Gen | Mode::Asm)
+        matches!(
+            self,
+            Mode::Run | Mode::Compile | Mode::Gen | Mode::Asm | Mode::Apply
+        )
     }
 }
 
@@ -172,7 +177,7 @@ pub struct Request<'a> {
 ///
 /// | Word | Values | Where it is left out |
 /// |---|---|---|
-/// | MODE | `run`, `compile`, `gen`, `list`, `asm`, `interp`, `cert`, `check`, `exec` | |
+/// | MODE | `run`, `compile`, `gen`, `list`, `asm`, `interp`, `cert`, `check`, `exec`, `apply` | |
 /// | FILE | not empty | |
 /// | `--rounds` | 0 to 1000 | 10 |
 /// | `--cost` | `size`, `speed` | `size` |
@@ -258,6 +263,8 @@ fn mode_of(word: &str) -> Option<Mode>
         Some(Mode::Check)
     } else if word == "exec" {
         Some(Mode::Exec)
+    } else if word == "apply" {
+        Some(Mode::Apply)
     } else {
         None
     }

@@ -14,6 +14,7 @@
 // Of each report that is written whole the lines are also read as `report` says, and each run that
 // ends or traps is repeated by the meaning of the module, which has to leave the same.
 
+mod applied;
 mod certified;
 mod faults;
 mod inputs;
@@ -360,6 +361,11 @@ fn calls_over_certificates(rt: HostRuntime) -> Result<(), OutOfMemory> {
     check_rows(&rt, rt.alloc(), certified::ROWS)
 }
 
+#[test]
+fn calls_over_modules_and_certificates(rt: HostRuntime) -> Result<(), OutOfMemory> {
+    check_rows(&rt, rt.alloc(), applied::ROWS)
+}
+
 /// The text of the module of a row by its name.
 pub(crate) fn source_of(name: &str) -> &'static str {
     for row in worked::ROWS.split("# ") {
@@ -428,6 +434,76 @@ fn a_certificate_holds(rt: HostRuntime) -> Result<(), OutOfMemory> {
         assert_eq!(rt; held.status, 0, "{options}");
         let wanted = held_lines(alloc, report)?;
         assert_eq!(rt; held.out.bytes(), wanted.as_bytes(), "{options}");
+    }
+    Ok(())
+}
+
+// What `apply` tells of a certificate, by what `compile` tells of the module with as many rounds: of
+// each procedure the last round alone.
+fn applied_lines(alloc: Global, report: &str) -> Result<String, OutOfMemory> {
+    let mut text = String::new(alloc);
+    let mut last = "";
+    for line in report.lines() {
+        if line.starts_with("round ") {
+            last = line;
+            continue;
+        }
+        if !last.is_empty() {
+            let (_, costs) = split_at(last, " cost ");
+            write!(text, "routes cost {costs}\n")?;
+        }
+        last = "";
+        write!(text, "{line}\n")?;
+    }
+    Ok(text)
+}
+
+// The certificate of the module with all forms of statement is applied to it: the image is the one
+// that it was made beside, though by other options, and it runs as that does.
+#[test]
+fn a_certificate_is_applied(rt: HostRuntime) -> Result<(), OutOfMemory> {
+    let alloc = rt.alloc();
+    let source = source_of("all forms of statement").as_bytes();
+    for options in ["M.ob --rounds 3", "M.ob --rounds 3 --cost speed"] {
+        let words = format!(in alloc; "compile {options}")?;
+        let compiled = call(alloc, &words, source, b"", ALL_WELL)?;
+        let report = str::from_utf8(compiled.out.bytes()).unwrap_or("");
+        let words = format!(in alloc; "cert {options}")?;
+        let made = call(alloc, &words, source, b"", ALL_WELL)?;
+        let applied = call(alloc, "apply M.ob", source, made.out.bytes(), ALL_WELL)?;
+        assert_eq!(rt; applied.status, 0, "{options}");
+        let wanted = applied_lines(alloc, report)?;
+        assert_eq!(rt; applied.out.bytes(), wanted.as_bytes(), "{options}");
+        let image = applied.folder.file("out.pri");
+        assert_eq!(rt; image, compiled.folder.file("out.pri"), "{options}");
+        let image = image.unwrap_or(b"");
+        let ran = call(alloc, "run M.ob", source, b"3 -4", ALL_WELL)?;
+        let executed = call(alloc, "exec M.ob", image, b"3 -4", ALL_WELL)?;
+        assert_eq!(rt; executed.status, ran.status, "{options}");
+        assert_eq!(rt; executed.out.bytes(), ran.out.bytes(), "{options}");
+        assert_eq!(rt; executed.input.left(), ran.input.left(), "{options}");
+    }
+    Ok(())
+}
+
+// A certificate of one byte more than may be, which the input holds.
+#[test]
+fn the_limit_of_a_certificate_that_is_applied(rt: HostRuntime) -> Result<(), OutOfMemory> {
+    let alloc = rt.alloc();
+    for (length, status, notes) in [
+        (16_777_216, 3, "fault json\n"),
+        (
+            16_777_217,
+            4,
+            "limit certificate count 16777217 maximum 16777216\n",
+        ),
+    ] {
+        let mut input = Vec::new(alloc);
+        input.resize(length, b' ')?;
+        let left = call(alloc, "apply M.ob", b"MODULE M; END M.", &input, ALL_WELL)?;
+        assert_eq!(rt; left.notes.bytes(), notes.as_bytes(), "{length}");
+        assert_eq!(rt; left.status, status, "{length}");
+        assert!(rt; left.folder.file("out.pri").is_none(), "{length}");
     }
     Ok(())
 }

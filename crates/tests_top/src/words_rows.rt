@@ -72,6 +72,7 @@ interpret M.ob|MODE
 List M.ob|MODE
 Cert M.ob|MODE
 execute M.ob|MODE
+applies M.ob|MODE
 checks M.ob|MODE
 M.ob run --steps x|MODE
 run |FILE
@@ -82,6 +83,7 @@ interp |FILE
 cert |FILE
 check |FILE
 exec |FILE
+apply |FILE
 run M.ob --rounds |--rounds
 run M.ob --rounds x|--rounds
 run M.ob --rounds=-1|--rounds
@@ -137,6 +139,8 @@ list M.ob --rounds 1001|--rounds
 list M.ob --size 0|--size
 asm M.ob --seed x|--seed
 exec M.ob --rounds 1001|--rounds
+apply M.ob --rounds 1001|--rounds
+apply M.ob --image M.ob|--image
 interp M.ob --gap x|--gap
 compile M.ob --size 201|--size
 run  --rounds 1001|FILE

@@ -13,7 +13,7 @@ use Rattle.pra_tool.proofs.tool.exec_image.Goals as goal
 
 pub returns-in-Err : goal.returns-in-Err
 returns-in-Err g c = λ file held.
-    input_ends (executing (asked_by c.args.request.now)) refl refl c.in-Err.fault _ _ _
+    input_ends (executing (asked_by c.args.request.now)) refl c.in-Err.fault _ _ _
     c.in-Err.ensures.cause
     c.refuse_input.ensures.known
     (λ other. record {

@@ -15,7 +15,7 @@ use Rattle.pra_tool.proofs.tool.interpret_made.Goals as goal
 
 pub returns-in-Err : goal.returns-in-Err
 returns-in-Err g c = λ source made.
-    input_ends (compiling Interpret (asked_by c.args.request.now)) refl refl c.in-Err.fault _ _ _
+    input_ends (compiling Interpret (asked_by c.args.request.now)) refl c.in-Err.fault _ _ _
     c.in-Err.ensures.cause
     c.refuse_input.ensures.known
     (λ other. record {

@@ -1,6 +1,6 @@
 use Rattle.std.proofs.Common.{ap}
 use Rattle.pra_words.specs.declared.words.Mode.TheVariants.{Run, Compile, Gen, List, Asm, Interp}
-use Rattle.pra_words.specs.declared.words.Mode.TheVariants.{Cert, Check, Exec}
+use Rattle.pra_words.specs.declared.words.Mode.TheVariants.{Cert, Check, Exec, Apply}
 use Rattle.pra_words.specs.Words.{writes_image}
 use Rattle.pra_words.specs.Written.{asked_by}
 use Rattle.pra_tool.specs.Outside.{stream_seen}
@@ -59,3 +59,8 @@ pub returns-in-Exec-clause-answers : goal.returns-in-Exec-clause-answers
 returns-in-Exec-clause-answers g c =
     answers_by Exec (asked_by c.args.request.now) c.args.request.now.file.now _ _ _
     c.in-Exec.is c.exec_file.ensures
+
+pub returns-in-Apply-clause-answers : goal.returns-in-Apply-clause-answers
+returns-in-Apply-clause-answers g c =
+    answers_by Apply (asked_by c.args.request.now) c.args.request.now.file.now _ _ _
+    c.in-Apply.is c.apply_file.ensures
