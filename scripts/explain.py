@@ -225,7 +225,10 @@ READERS = {
 
 
 def by_reader(line, name, source):
-    """What a second reader finds in a file that is refused with a line, if it finds something."""
+    """What a second reader finds in a file that is refused with a line, if it finds something. It
+    knows no module, and reads nothing where the file can't be read again."""
+    if not source or line.endswith(" module"):
+        return None
     for begin, reader in READERS.items():
         if line.startswith(begin):
             status, lines = reader(name, source)

@@ -135,6 +135,8 @@ class Applied(unittest.TestCase):
         told = self.told("fault certificate procedure 2 module\n", b"{}")
         self.assertIn("a.cert, procedure 2: ", told)
         self.assertEqual(self.told("fault json\n", None), "the certificate: this is no JSON")
+        told = self.told("fault certificate form\n", b"{}")
+        self.assertIn("a.cert:1:1: the whole: the key procs is missing", told)
         self.assertIn("an entry for each", self.told("fault certificate module\n", None))
 
     def test_or_it_is_the_module(self):
