@@ -9,17 +9,15 @@ use Rattle.pra_list.proofs.Options.{some_same, none_some}
 use Rattle.pra_base.specs.declared.code.VProc.{VProc}
 use Rattle.net_form.specs.declared.net.Net.{Net}
 use Rattle.net_form.specs.declared.routes.Routes.{Routes}
-use Rattle.net_form.specs.Network.{IsNet}
 use Rattle.cert_check.specs.declared.check.CertAnswer.TheVariants.{Yes, No}
 use Rattle.cert_check.specs.declared.check.Reason.{Reason}
 use Rattle.cert_check.specs.declared.check.Reason.TheVariants.{Routes as Ways}
-use Rattle.cert_check.specs.Reasons.{IsAnswerOf, AreBounded, HasRoutes, OnNet}
+use Rattle.cert_check.specs.Reasons.{IsAnswerOf, HasRoutes, OnNet}
 use Rattle.cert_form.specs.declared.certificate.Cert.{Cert}
 use Rattle.cert_form.specs.declared.certificate.Certificate.{Certificate}
 use Rattle.ob_syntax.specs.declared.checked.Checked.{Checked}
 use Rattle.pra_compile.specs.declared.given.GivenRoutes.{GivenRoutes}
 use Rattle.pra_compile.specs.declared.output.Compiled.{Compiled}
-use Rattle.pra_compile.specs.Compiled.{codes_of}
 use Rattle.pra_compile.specs.Given.{AdmitsGiven, IsGiven}
 use Rattle.pra_compile.specs.Tidied.{AreTidied}
 use Rattle.pra_compile.proofs.GivenLines.{given_totals}

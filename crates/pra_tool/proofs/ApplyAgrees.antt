@@ -1,16 +1,14 @@
 -- What is applied carries the certificate's routes at its costs, and of a certificate that was
 -- printed those beside which it was made.
-use Rattle.std.proofs.Common.{◌≡◌, ◌≤◌, ⊎_elim, ℕ, List, [], Some, Ok, refl, sym, ap}
-use Rattle.std.proofs.Common.{◌∙◌, subst, ◌<◌, length, arith}
+use Rattle.std.proofs.Common.{◌≡◌, ◌≤◌, ⊎_elim, ℕ, List, [], Some, Ok, sym, ap}
+use Rattle.std.proofs.Common.{◌∙◌, subst, arith}
 use Rattle.std.specs.Prelude.{slice_get}
 use Rattle.pra_base.specs.declared.code.VProc.{VProc}
-use Rattle.pra_list.proofs.Options.{some_same}
-use Rattle.net_cost.specs.declared.weights.Weights.{Weights}
 use Rattle.net_form.specs.declared.net.Net.{Net}
 use Rattle.net_form.specs.declared.routes.Routes.{Routes}
 use Rattle.net_form.specs.Admitted.{IsAdmitted}
 use Rattle.net_form.specs.Cost.{cost_of}
-use Rattle.net_form.specs.Flow.{Edge, flow}
+use Rattle.net_form.specs.Flow.{flow}
 use Rattle.net_form.specs.Network.{IsNet}
 use Rattle.net_form.specs.Tables.{all_tables}
 use Rattle.net_form.proofs.OneNetwork.{one_network}
@@ -22,10 +20,9 @@ use Rattle.ob_syntax.specs.declared.checked.CheckedProc.{CheckedProc}
 use Rattle.ob_read.specs.Source.{ReadText}
 use Rattle.ob_read.proofs.Reading.{one_reading}
 use Rattle.pl_place.specs.Behind.{Routed, flow_frame}
-use Rattle.pl_routed.specs.Routed.{routed}
 use Rattle.pra_compile.specs.declared.output.Compiled.{Compiled}
 use Rattle.std.proofs.lemmas.Option.{slice_get_within}
-use Rattle.pra_compile.specs.Compiled.{name_of, IsProcBy, IsProcOut, IsCompiled}
+use Rattle.pra_compile.specs.Compiled.{IsProcBy, IsProcOut, IsCompiled}
 use Rattle.pra_compile.specs.Given.{given_by}
 use Rattle.pra_report.specs.declared.report.ProcOut.{ProcOut}
 use Rattle.pra_report.specs.Report.{last_cost, last_bound}
@@ -40,9 +37,14 @@ use Rattle.pra_tool.specs.Applied.{ApplyMakes}
 use Rattle.pra_compile.proofs.GivenLines.{cost_given, bound_given}
 use Rattle.pra_tool.proofs.AppliedCerts.{routes_at, carried_code, carried_routes}
 
+-- code with the flow of routes through its network
+abbrev with_flow : VProc → Net → Routes → Routed
+with_flow code net routes = record { code = code; net = net; flow = flow net routes }
+
 -- the flow that the image carries is the one that the certificate bounds
 same_flow : (code other : VProc) (net own : Net) (routes ways : Routes) → IsNet net code →
-    IsNet own other → code ≡ other → routes ≡ ways → routed code net routes ≡ routed other own ways
+    IsNet own other → code ≡ other → routes ≡ ways →
+    with_flow code net routes ≡ with_flow other own ways
 same_flow code other net own routes ways is_net is_own same ways_same =
     let nets : net ≡ own = one_network all_tables other net own
     (subst (λ (x : VProc). IsNet net x) same is_net) is_own in cc
@@ -58,7 +60,7 @@ module _ (program : Checked) (c : Certificate) (compiled : Compiled)
   bounds : IsBounded (weights_by c.cost) cert
   bounds = is.bounded p cert at
 
-  flow_is : r ≡ routed cert.code bounds.net cert.routes
+  flow_is : r ≡ with_flow cert.code bounds.net cert.routes
   flow_is = by.carried ∙ same_flow out.code cert.code by.net bounds.net out.routes cert.routes
       by.routes.is_net bounds.is_net (carried_code program c compiled is p cert out at there)
       (carried_routes program c compiled is p cert out at there by.allocated)

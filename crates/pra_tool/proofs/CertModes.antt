@@ -1,6 +1,6 @@
 -- Testing a certificate is a mode.
-use Rattle.std.proofs.Common.{◌≡◌, ◌<◌, ◌≤◌, ◌⊎◌, inl, inr, ⊎_elim, refl, sym, ap, ap₂, ◌∙◌, subst}
-use Rattle.std.proofs.Common.{ℕ, zero, suc, List, [], length, Some, Ok, Err, arith}
+use Rattle.std.proofs.Common.{◌≡◌, ◌<◌, ◌⊎◌, inl, inr, ⊎_elim, refl, sym, ap, ap₂, ◌∙◌, subst}
+use Rattle.std.proofs.Common.{ℕ, zero, suc, List, Some, Ok, Err, arith}
 use Rattle.std.specs.Prelude.{Option, slice_get}
 use Rattle.std.proofs.lemmas.Bool.{cases_lt}
 use Rattle.std.proofs.Math.Nat.{eq-or-lt_of_le}

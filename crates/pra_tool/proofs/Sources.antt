@@ -1,5 +1,5 @@
 -- What the checker answers can be compiled, and its totals can be told.
-use Rattle.std.proofs.Common.{◌≡◌, ◌≤◌, ℕ, List, length, inl, inr, refl, sym, subst, leb-true}
+use Rattle.std.proofs.Common.{◌≤◌, ℕ, List, length, inl, inr, refl, sym, subst, leb-true}
 use Rattle.std.proofs.Common.{Bool, arith}
 use Rattle.std.specs.Prelude.{nat_le}
 use Rattle.std.proofs.lemmas.List.Sums.{AllPass-from_list_all}

@@ -108,8 +108,8 @@ pub fn certificates_are_carried()
 
 /// Where `cert` printed a certificate of a source, and `apply` made something of that text and the
 /// source, each procedure has the same name, frame, code and routes, and the same cost and bound.
-/// That the image is then the one of `compile` is not promised: routes say where values are, and not
-/// in which order they move.
+/// That the image is then the one of `compile` is not promised: routes say where values are, not in
+/// which order they move.
 pub fn apply_repeats_cert()
     ensures { (asked other : Asked) (source : List ℕ) (v w : Writes) (s t : Status) (p : ℕ)
         (a b : ProcOut) → (cert : CertMakes asked source [] v s) →

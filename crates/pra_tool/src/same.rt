@@ -1,4 +1,5 @@
-// Whether codes are the same, to the last operand.
+// Whether codes are the same, to the last operand. The derived equality of instructions, which have
+// so many forms, is not proved to be equality; by cases it is.
 
 ghost use Rattle.std.specs.Prelude.{◌≡◌, ◌≢◌, MatchBool};
 
@@ -12,14 +13,14 @@ pub(crate) trait Same {
 }
 
 // Whether two lists are the same.
-fn are_same<T: Same>(list: &[T], other: &[T]) -> bool
+fn are_same<T: Same>(list: &[T], that: &[T]) -> bool
     ensures { MatchBool result (list.now ≡ that.now) (list.now ≢ that.now) }
 {
-    if list.len() != other.len() {
+    if list.len() != that.len() {
         return false;
     }
     for (index, item) in list.iter().enumerate() {
-        if !item.is_same(&other[index]) {
+        if !item.is_same(&that[index]) {
             return false;
         }
     }
