@@ -1,0 +1,73 @@
+#!/bin/sh
+# Prints how long the worst inputs take and how much memory is held at most, beside what each may
+# take: modules that keep all limits and have the largest networks (compiled with ten rounds and
+# with none), and small certificates about many live variables (checked). Seconds are of a
+# processor. The last line tells how many took more than they may; a compiler that is not named is
+# built: worst.sh [--compiler PROGRAM]
+set -eu
+bench=$(cd "$(dirname "$0")" && pwd)
+program=
+case "${1-}" in
+--compiler) program=$(readlink -f "$2") ;;
+"")
+    "$bench/../pra" build
+    program=$bench/../crates/pra/out/pra
+    ;;
+*)
+    echo "usage: worst.sh [--compiler PROGRAM]" >&2
+    exit 2
+    ;;
+esac
+folder=$(mktemp -d)
+trap 'rm -rf "$folder"' EXIT
+python3 "$bench/worst_inputs.py" "$folder"
+cd "$folder"
+
+# Runs a command and prints what it took: the seconds and megabytes that it may take, what it is
+# called, and its words. It is stopped where it takes ten times the one or four times the other.
+measured() {
+    python3 - "$@" <<'PYTHON'
+import os, resource, subprocess, sys, threading
+
+most_seconds, most_megabytes, name, *command = sys.argv[1:]
+memory = 4 * int(most_megabytes) << 20
+with open("told", "wb") as told:
+    child = subprocess.Popen(
+        command,
+        stdout=told,
+        stderr=subprocess.STDOUT,
+        preexec_fn=lambda: resource.setrlimit(resource.RLIMIT_AS, (memory, memory)),
+    )
+    stop = threading.Timer(10 * float(most_seconds), child.kill)
+    stop.start()
+    _, status, usage = os.wait4(child.pid, 0)
+    stop.cancel()
+seconds = usage.ru_utime + usage.ru_stime
+megabytes = usage.ru_maxrss / 1024
+with open("told", encoding="utf-8", errors="replace") as told:
+    last = (told.read().splitlines() or [""])[-1]
+over = seconds > float(most_seconds) or megabytes > float(most_megabytes)
+if os.WIFSIGNALED(status):
+    last = f"killed by signal {os.WTERMSIG(status)}"
+print(
+    f"{name:32} {os.path.getsize(name.split()[0]):7} bytes {seconds:8.2f} s of {most_seconds}"
+    f" {megabytes:7.0f} MB of {most_megabytes}{'  OVER' if over else ''}  {last}",
+    flush=True,
+)
+sys.exit(1 if over else 0)
+PYTHON
+}
+
+over=0
+for text in *.cert; do
+    measured 10 1024 "$text check" "$program" check "$text" || over=$((over + 1))
+done
+for text in *.ob; do
+    measured 2 300 "$text compile, 0 rounds" "$program" compile "$text" --rounds 0 ||
+        over=$((over + 1))
+done
+for text in *.ob; do
+    measured 60 1024 "$text compile, 10 rounds" "$program" compile "$text" --rounds 10 ||
+        over=$((over + 1))
+done
+echo "$over calls took more than they may"
