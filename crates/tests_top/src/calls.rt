@@ -438,54 +438,6 @@ fn a_certificate_holds(rt: HostRuntime) -> Result<(), OutOfMemory> {
     Ok(())
 }
 
-// What `apply` tells of a certificate, by what `compile` tells of the module with as many rounds: of
-// each procedure the last round alone.
-fn applied_lines(alloc: Global, report: &str) -> Result<String, OutOfMemory> {
-    let mut text = String::new(alloc);
-    let mut last = "";
-    for line in report.lines() {
-        if line.starts_with("round ") {
-            last = line;
-            continue;
-        }
-        if !last.is_empty() {
-            let (_, costs) = split_at(last, " cost ");
-            write!(text, "routes cost {costs}\n")?;
-        }
-        last = "";
-        write!(text, "{line}\n")?;
-    }
-    Ok(text)
-}
-
-// The certificate of the module with all forms of statement is applied to it: the image is the one
-// that it was made beside, though by other options, and it runs as that does.
-#[test]
-fn a_certificate_is_applied(rt: HostRuntime) -> Result<(), OutOfMemory> {
-    let alloc = rt.alloc();
-    let source = source_of("all forms of statement").as_bytes();
-    for options in ["M.ob --rounds 3", "M.ob --rounds 3 --cost speed"] {
-        let words = format!(in alloc; "compile {options}")?;
-        let compiled = call(alloc, &words, source, b"", ALL_WELL)?;
-        let report = str::from_utf8(compiled.out.bytes()).unwrap_or("");
-        let words = format!(in alloc; "cert {options}")?;
-        let made = call(alloc, &words, source, b"", ALL_WELL)?;
-        let applied = call(alloc, "apply M.ob", source, made.out.bytes(), ALL_WELL)?;
-        assert_eq!(rt; applied.status, 0, "{options}");
-        let wanted = applied_lines(alloc, report)?;
-        assert_eq!(rt; applied.out.bytes(), wanted.as_bytes(), "{options}");
-        let image = applied.folder.file("out.pri");
-        assert_eq!(rt; image, compiled.folder.file("out.pri"), "{options}");
-        let image = image.unwrap_or(b"");
-        let ran = call(alloc, "run M.ob", source, b"3 -4", ALL_WELL)?;
-        let executed = call(alloc, "exec M.ob", image, b"3 -4", ALL_WELL)?;
-        assert_eq!(rt; executed.status, ran.status, "{options}");
-        assert_eq!(rt; executed.out.bytes(), ran.out.bytes(), "{options}");
-        assert_eq!(rt; executed.input.left(), ran.input.left(), "{options}");
-    }
-    Ok(())
-}
-
 // A certificate of one byte more than may be, which the input holds.
 #[test]
 fn the_limit_of_a_certificate_that_is_applied(rt: HostRuntime) -> Result<(), OutOfMemory> {
