@@ -9,7 +9,7 @@
 
 use crate::lists::at;
 use crate::rates::Ways;
-use crate::rows::{FAR, MEMORY, Row};
+use crate::rows::{FAR, MEMORY, Row, close_others};
 use pra_base::Mask;
 use std::simd::{mask32x8, u32x4, u32x8, u32x16};
 
@@ -193,28 +193,55 @@ impl Lanes {
     }
 }
 
-/// From what is paid at each step to what is to be paid from there on.
-pub(crate) fn pay_back(ways: &Ways, rows: &mut [Row], steps: usize) {
+/// From what is paid at each of so many steps, in rows from one on, to what is to be paid from
+/// there on.
+pub(crate) fn pay_back(ways: &Ways, rows: &mut [Row], begin: usize, steps: usize) {
     let through = Through::back(ways);
+    let end = begin.wrapping_add(steps);
     let mut later = Lanes::free();
     for number in 1..=steps {
-        if let Some(row) = rows.get_mut(steps.wrapping_sub(number)) {
+        if let Some(row) = rows.get_mut(end.wrapping_sub(number)) {
             later = Lanes::of(row).paid_with(later.before(&through));
             *row = later.row();
         }
     }
 }
 
-/// From what is paid at each step to what is to be paid up to there.
-pub(crate) fn pay_forth(ways: &Ways, rows: &mut [Row], steps: usize) {
-    let through = Through::forth(ways);
-    let mut earlier = Lanes::free();
-    for step in 0..steps {
-        if let Some(row) = rows.get_mut(step) {
-            earlier = Lanes::of(row).paid_with(earlier.behind(&through));
-            *row = earlier.row();
-        }
+// A row of which all places are closed but one, if one is named.
+fn end_row(row: &Row, place: Option<usize>) -> Lanes {
+    let mut end = *row;
+    if let Some(place) = place {
+        close_others(&mut end, place);
     }
+    Lanes::of(&end).paid_with(Lanes::free())
+}
+
+/// What is to be paid from the first of these rows on, where the way ends at a place, if one is
+/// named.
+pub(crate) fn paid_back(ways: &Ways, rows: &[Row], end: Option<usize>) -> Row {
+    let through = Through::back(ways);
+    let Some((last, before)) = rows.split_last() else {
+        return [FAR; 16];
+    };
+    let mut later = end_row(last, end);
+    for row in before.iter().rev() {
+        later = Lanes::of(row).paid_with(later.before(&through));
+    }
+    later.row()
+}
+
+/// What is to be paid up to the last of these rows, where the way begins at a place, if one is
+/// named.
+pub(crate) fn paid_forth(ways: &Ways, rows: &[Row], begin: Option<usize>) -> Row {
+    let through = Through::forth(ways);
+    let Some((first, behind)) = rows.split_first() else {
+        return [FAR; 16];
+    };
+    let mut earlier = end_row(first, begin);
+    for row in behind {
+        earlier = Lanes::of(row).paid_with(earlier.behind(&through));
+    }
+    earlier.row()
 }
 
 /// The least of all costs.
@@ -287,10 +314,16 @@ pub(crate) fn heat_crowd(count: &[u32; 8], history: &mut [u32; 8], more: u32) ->
 pub(crate) fn row_of(mask: Mask, costs: RegisterCosts) -> Row {
     let (alone, both) = closed_outside(mask);
     Lanes {
-        alone: alone.select(u32x8::splat(FAR), costs),
-        both: both.select(u32x8::splat(FAR), costs),
+        alone: costs + far_at(alone),
+        both: costs + far_at(both),
     }
     .row()
+}
+
+// What is paid more at closed places.
+#[inline(always)]
+fn far_at(closed: mask32x8) -> u32x8 {
+    closed.select(u32x8::splat(FAR), u32x8::splat(0))
 }
 
 // Which registers alone, with memory and the constant itself, and which both places are in no mask.
@@ -317,11 +350,9 @@ pub(crate) fn open_row(mask: Mask, count: RegisterCosts, own: u32) -> Row {
     let registers = u32x8::from_array([0, 1, 2, 3, 4, 5, 6, 7]);
     let is_own = registers.simd_eq(u32x8::splat(own));
     let taken = count.simd_gt(is_own.select(u32x8::splat(1), u32x8::splat(0)));
-    let far = u32x8::splat(FAR);
-    let free = u32x8::splat(0);
     Lanes {
-        alone: (alone | taken).select(far, free),
-        both: (both | taken).select(far, free),
+        alone: far_at(alone | taken),
+        both: far_at(both | taken),
     }
     .row()
 }

@@ -42,7 +42,7 @@ impl Search {
         if !self.log.is_listed.add(strand) {
             return;
         }
-        self.gather(net, strand, usize::MAX);
+        self.gather_all(net, strand);
         for number in 0..self.piece.strands.count() {
             let other = self.piece.strands.at(number);
             self.log.is_listed.add(other);
@@ -88,7 +88,7 @@ impl Search {
         self.begin_kick();
         let mut penalty = PENALTY;
         for number in 0..MOST_PASSES {
-            if number > 0 && self.cells.overlaps == 0 {
+            if (number > 0 && self.cells.overlaps == 0) || self.is_spent() {
                 break;
             }
             self.pass(net, number % 4 == 0, Penalty::of(thousandths(penalty)));

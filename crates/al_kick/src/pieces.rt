@@ -2,7 +2,7 @@
 
 use crate::lists::{at, put};
 use crate::reroute::Penalty;
-use crate::rows::{FAR, MEMORY};
+use crate::rows::{FAR, MEMORY, Row};
 use crate::search::Search;
 use crate::spans::{Span, range};
 use net_form::Net;
@@ -68,38 +68,6 @@ impl Search {
         groups
     }
 
-    // How many strands are at a tie group.
-    fn group_size(&self, net: &Net, group: Option<usize>) -> usize {
-        let Some(group) = group else {
-            return 0;
-        };
-        let (from, to) = range(net.index.groups.as_slice(), group);
-        to.saturating_sub(from)
-    }
-
-    /// The piece becomes the variable of a strand, with all its tie groups there, and it says
-    /// whether that has no more layers than this.
-    pub(crate) fn gather_small(&mut self, net: &Net, strand: usize, most: usize) -> bool {
-        self.begin_piece();
-        self.add_strand(strand);
-        let mut size = 0usize;
-        for number in 0..self.spans.len() {
-            if number >= self.piece.strands.count() {
-                return true;
-            }
-            let span = self.span(self.piece.strands.at(number));
-            size = size.saturating_add(span.len());
-            for group in [span.entry(), span.exit()] {
-                size = size.max(self.group_size(net, group));
-                if size > most {
-                    return false;
-                }
-                self.add_if(net, group, 0, 1);
-            }
-        }
-        true
-    }
-
     /// The piece becomes a strand and so many tie groups around it at most.
     pub(crate) fn gather(&mut self, net: &Net, strand: usize, most: usize) {
         self.begin_piece();
@@ -115,6 +83,30 @@ impl Search {
         }
     }
 
+    /// The piece becomes the variable of a strand, with all its tie groups.
+    pub(crate) fn gather_all(&mut self, net: &Net, strand: usize) {
+        self.gather(net, strand, usize::MAX);
+    }
+
+    /// Learns of each strand how many layers its variable has.
+    pub(crate) fn measure_variables(&mut self, net: &Net) {
+        for strand in 0..self.spans.len() {
+            if at(&self.variables, strand, 0) > 0 {
+                continue;
+            }
+            self.gather_all(net, strand);
+            let mut layers = 0u32;
+            for number in 0..self.piece.strands.count() {
+                let span = self.span(self.piece.strands.at(number));
+                layers = layers.saturating_add(u32::try_from(span.len()).unwrap_or(u32::MAX));
+            }
+            for number in 0..self.piece.strands.count() {
+                let other = self.piece.strands.at(number);
+                put(&mut self.variables, other, layers);
+            }
+        }
+    }
+
     fn has_group(&self, group: Option<usize>) -> bool {
         match group {
             Some(group) => self.piece.groups.has(group),
@@ -127,43 +119,38 @@ impl Search {
         (self.has_group(span.entry()), self.has_group(span.exit()))
     }
 
-    // What is to be paid at a place of a step, in units.
-    fn units(&self, span: &Span, step: usize, place: usize) -> u64 {
-        let cost = at(&self.row(step), place, FAR);
+    // What is to be paid at a place, in units, by costs of a strand.
+    fn units(&self, span: &Span, row: &Row, place: usize) -> u64 {
+        let cost = at(row, place, FAR);
         if cost < FAR {
-            u64::from(cost).saturating_mul(self.times(span))
+            u64::from(cost).wrapping_mul(self.times(span))
         } else {
             CLOSED
         }
     }
 
-    // Adds what is to be paid at each place of a step, in units.
-    fn add_costs(&self, span: &Span, step: usize, sums: &mut Sums) {
+    // Adds what is to be paid at each place, in units.
+    fn add_costs(&self, span: &Span, row: &Row, sums: &mut Sums) {
         let times = self.times(span);
-        let row = self.row(step);
         for p in 0..16usize {
-            let more = u64::from(row[p]).saturating_mul(times);
+            let more = u64::from(row[p]).wrapping_mul(times);
             sums[p] = sums[p].saturating_add(if row[p] < FAR { more } else { CLOSED });
         }
     }
 
     // Adds what a strand with one moving end pays, by the place of that end.
-    fn add_one_end(&mut self, net: &Net, strand: usize, penalty: Penalty, sums: &mut Sums) {
+    fn add_one_end(&mut self, net: &Net, strand: usize, begin: usize, sums: &mut Sums) {
         let span = self.span(strand);
         let (first, last) = self.end_places(&span);
         let (entry, exit) = self.moves(&span);
         if entry && exit {
             self.close_sums(net, strand, sums);
         } else if entry {
-            self.fill_rows(net, strand, penalty);
-            self.fix(span.last_step(), last);
-            self.pay_back(&span);
-            self.add_costs(&span, 0, sums);
+            let row = self.cost_by_entry(&span, begin, last);
+            self.add_costs(&span, &row, sums);
         } else if exit {
-            self.fill_rows(net, strand, penalty);
-            self.fix(0, first);
-            self.pay_forth(&span);
-            self.add_costs(&span, span.last_step(), sums);
+            let row = self.cost_by_exit(&span, begin, first);
+            self.add_costs(&span, &row, sums);
         }
     }
 
@@ -186,58 +173,57 @@ impl Search {
         }
     }
 
-    // Adds what the strands pay at least both of whose ends move, by the place of their entries.
-    fn add_bounds(&mut self, net: &Net, penalty: Penalty, bounds: &mut Sums) {
+    // What the strands with one moving end pay, by the place of that end.
+    fn sums_of_one_end(&mut self, net: &Net) -> Sums {
+        let mut sums = [0u64; 16];
+        let mut begin = 0usize;
         for number in 0..self.piece.strands.count() {
             let strand = self.piece.strands.at(number);
-            let span = self.span(strand);
+            self.add_one_end(net, strand, begin, &mut sums);
+            begin = begin.wrapping_add(self.span(strand).steps());
+        }
+        sums
+    }
+
+    // Adds what the strands pay at least both of whose ends move, by the place of their entries.
+    fn add_bounds(&mut self, bounds: &mut Sums) {
+        let mut begin = 0usize;
+        for number in 0..self.piece.strands.count() {
+            let span = self.span(self.piece.strands.at(number));
             if self.moves(&span) == (true, true) {
-                self.fill_rows(net, strand, penalty);
-                self.pay_back(&span);
-                self.add_costs(&span, 0, bounds);
+                let row = self.cost_by_entry(&span, begin, None);
+                self.add_costs(&span, &row, bounds);
             }
+            begin = begin.wrapping_add(span.steps());
         }
     }
 
     // What the strands pay both of whose ends move, at a place; so much at least where it is no
     // less than the least so far.
-    fn both_ends(
-        &mut self,
-        net: &Net,
-        penalty: Penalty,
-        place: usize,
-        begun: u64,
-        least: u64,
-    ) -> u64 {
+    fn both_ends(&mut self, place: usize, begun: u64, least: u64) -> u64 {
         let mut sum = begun;
+        let mut begin = 0usize;
         for number in 0..self.piece.strands.count() {
             if sum >= least {
                 return sum;
             }
-            let strand = self.piece.strands.at(number);
-            let span = self.span(strand);
+            let span = self.span(self.piece.strands.at(number));
             if self.moves(&span) == (true, true) {
-                self.fill_rows(net, strand, penalty);
-                self.fix(0, Some(place));
-                self.fix(span.last_step(), Some(place));
-                self.pay_back(&span);
-                sum = sum.saturating_add(self.units(&span, 0, place));
+                let row = self.cost_by_entry(&span, begin, Some(place));
+                sum = sum.saturating_add(self.units(&span, &row, place));
             }
+            begin = begin.wrapping_add(span.steps());
         }
         sum
     }
 
     // The place at which the piece pays least where its groups are all there, and what it pays, or
-    // so much where it pays no less anywhere. Places are asked by what they cost at least, and none
-    // that costs too much by that alone.
-    fn choose_place(&mut self, net: &Net, penalty: Penalty, most: u64) -> (usize, u64) {
-        let mut sums = [0u64; 16];
-        for number in 0..self.piece.strands.count() {
-            let strand = self.piece.strands.at(number);
-            self.add_one_end(net, strand, penalty, &mut sums);
-        }
+    // so much where it pays no less anywhere, by its rows. Places are asked by what they cost at
+    // least, and none that costs too much by that alone.
+    fn choose_place(&mut self, net: &Net, most: u64) -> (usize, u64) {
+        let sums = self.sums_of_one_end(net);
         let mut bounds = sums;
-        self.add_bounds(net, penalty, &mut bounds);
+        self.add_bounds(&mut bounds);
         let turn = self.draws.below(14);
         let mut best = first_of_least(&bounds, turn);
         let mut least = most;
@@ -247,7 +233,7 @@ impl Search {
                 break;
             }
             put(&mut bounds, place, CLOSED);
-            let sum = self.both_ends(net, penalty, place, at(&sums, place, CLOSED), least);
+            let sum = self.both_ends(place, at(&sums, place, CLOSED), least);
             if sum < least {
                 least = sum;
                 best = place;
@@ -256,26 +242,29 @@ impl Search {
         (best, least)
     }
 
-    // Gives the strands of the piece, which are in no cell, least paths with its groups at a place.
-    fn route_at(&mut self, net: &Net, place: Option<usize>, penalty: Penalty) {
+    // Gives the strands of the piece, which are in no cell, least paths with its groups at a place,
+    // by its rows.
+    fn lay_at(&mut self, place: usize) {
+        let mut begin = 0usize;
         for number in 0..self.piece.strands.count() {
-            let strand = self.piece.strands.at(number);
-            let span = self.span(strand);
+            let span = self.span(self.piece.strands.at(number));
             let (first, last) = self.end_places(&span);
             let (entry, exit) = self.moves(&span);
             let ends = (
-                if entry { place } else { first },
-                if exit { place } else { last },
+                if entry { Some(place) } else { first },
+                if exit { Some(place) } else { last },
             );
-            self.route(net, strand, ends, penalty);
+            self.lay_path(&span, begin, ends);
+            begin = begin.wrapping_add(span.steps());
         }
     }
 
     /// Gives the strands of the piece, which are in no cell, least paths with its groups at one
     /// place.
     pub(crate) fn route_piece(&mut self, net: &Net, penalty: Penalty) {
-        let (place, _) = self.choose_place(net, penalty, u64::MAX);
-        self.route_at(net, Some(place), penalty);
+        self.fill_piece(net, penalty);
+        let (place, _) = self.choose_place(net, u64::MAX);
+        self.lay_at(place);
     }
 
     // What the strands of the piece pay, and how much more than they would alone.
@@ -297,12 +286,14 @@ impl Search {
         if excess == 0 {
             return false;
         }
-        let (place, least) = self.choose_place(net, Penalty::Closed, worth);
+        self.fill_piece(net, Penalty::Closed);
+        let (place, least) = self.choose_place(net, worth);
         if least >= worth {
             return false;
         }
         self.release_piece(net);
-        self.route_at(net, Some(place), Penalty::Closed);
+        self.fill_piece(net, Penalty::Closed);
+        self.lay_at(place);
         self.take_piece(net);
         true
     }

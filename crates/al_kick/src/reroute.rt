@@ -3,7 +3,7 @@
 
 use crate::lanes::{
     RegisterCosts, charges, counted, least_cost, least_place, most_of, next_place, open_row,
-    pay_back, pay_forth, row_of,
+    paid_back, paid_forth, pay_back, row_of,
 };
 use crate::lists::{at, put};
 use crate::rates::{NO_WAYS, Ways};
@@ -32,6 +32,9 @@ impl Penalty {
     }
 }
 
+/// The places of a strand's entry and of its exit, if they are named.
+pub(crate) type Ends = (Option<usize>, Option<usize>);
+
 // What so many others cost, and what was added for those of the past.
 fn charge(each: u32, others: u32, history: u32) -> u32 {
     let now = others.min(255).wrapping_mul(each);
@@ -48,7 +51,7 @@ fn pay(rows: &mut [Row], step: usize, place: usize, more: u32) {
 
 impl Search {
     // What is paid for the registers at all steps of a strand, where each other one costs so much.
-    fn pay_registers(&mut self, span: &Span, each: u32) {
+    fn pay_registers(&mut self, span: &Span, each: u32, begin: usize) {
         let to = span.layer().wrapping_add(span.len());
         let Some(cells) = self.cells.layers.get(span.layer()..to) else {
             return;
@@ -70,12 +73,13 @@ impl Search {
                 history += RegisterCosts::from_array(cell.history);
             }
             let costs = charges(each, others, history);
-            put(&mut self.rows, step, row_of(at(masks, step, 0), costs));
+            let row = row_of(at(masks, step, 0), costs);
+            put(&mut self.rows, begin.wrapping_add(step), row);
         }
     }
 
     // The places at the steps of a strand at which no other one is.
-    fn close_registers(&mut self, span: &Span) {
+    fn close_registers(&mut self, span: &Span, begin: usize) {
         let to = span.layer().wrapping_add(span.len());
         let Some(cells) = self.cells.layers.get(span.layer()..to) else {
             return;
@@ -97,22 +101,19 @@ impl Search {
                 count = most_of(count, &cell.count);
             }
             let own = u32::from(at(places, step, 6) % 8);
-            put(
-                &mut self.rows,
-                step,
-                open_row(at(masks, step, 0), count, own),
-            );
+            let row = open_row(at(masks, step, 0), count, own);
+            put(&mut self.rows, begin.wrapping_add(step), row);
         }
     }
 
     // And for extras.
-    fn pay_extras(&mut self, net: &Net, strand: usize) {
+    fn pay_extras(&mut self, net: &Net, strand: usize, begin: usize) {
         let (from, to) = range(net.index.extras.as_slice(), strand);
         for number in from..to {
             let extra = at(&self.extras, number, NO_EXTRA);
             pay(
                 &mut self.rows,
-                extra.step as usize,
+                begin.wrapping_add(extra.step as usize),
                 extra.place as usize,
                 extra.scaled,
             );
@@ -134,46 +135,55 @@ impl Search {
     }
 
     // And for memory pairs.
-    fn pay_pairs(&mut self, net: &Net, strand: usize, span: &Span, penalty: Penalty) {
+    fn pay_pairs(&mut self, net: &Net, strand: usize, span: &Span, penalty: Penalty, begin: usize) {
         let (from, to) = range(net.index.pairs.as_slice(), strand);
         for number in from..to {
             if let Some(end) = pair_end(net, number) {
                 let step = span.step_of((end.layer as usize).wrapping_sub(span.first()));
                 let more = self.pair_cost(span, step, end.pair as usize, penalty);
-                pay(&mut self.rows, step, MEMORY, more);
+                pay(&mut self.rows, begin.wrapping_add(step), MEMORY, more);
             }
         }
     }
 
     // A constant that begins in a register is made there.
-    fn pay_constant(&mut self, span: &Span) {
+    fn pay_constant(&mut self, span: &Span, begin: usize) {
         if !span.constant {
             return;
         }
         let set = self.ways(span).set;
         for r in 0..6usize {
-            pay(&mut self.rows, 0, r, set);
-            pay(&mut self.rows, 0, r.wrapping_add(8), set);
+            pay(&mut self.rows, begin, r, set);
+            pay(&mut self.rows, begin, r.wrapping_add(8), set);
         }
     }
 
-    /// What is paid at each place of each step of a strand.
-    pub(crate) fn fill_rows(&mut self, net: &Net, strand: usize, penalty: Penalty) {
+    /// What is paid at each place of each step of a strand, in rows from one on.
+    pub(crate) fn fill_rows(&mut self, net: &Net, strand: usize, penalty: Penalty, begin: usize) {
         let span = self.span(strand);
-        self.visits = self.visits.saturating_add(span.len() as u64);
         match penalty {
-            Penalty::Closed => self.close_registers(&span),
-            Penalty::Each(each) => self.pay_registers(&span, each),
+            Penalty::Closed => self.close_registers(&span, begin),
+            Penalty::Each(each) => self.pay_registers(&span, each, begin),
         }
-        self.pay_extras(net, strand);
-        self.pay_pairs(net, strand, &span, penalty);
-        self.pay_constant(&span);
+        self.pay_extras(net, strand, begin);
+        self.pay_pairs(net, strand, &span, penalty, begin);
+        self.pay_constant(&span, begin);
     }
 
-    /// Closes all places of a step but one.
-    pub(crate) fn fix(&mut self, step: usize, place: Option<usize>) {
+    /// The same of each strand of the piece, one behind the other.
+    pub(crate) fn fill_piece(&mut self, net: &Net, penalty: Penalty) {
+        let mut begin = 0usize;
+        for number in 0..self.piece.strands.count() {
+            let strand = self.piece.strands.at(number);
+            self.fill_rows(net, strand, penalty, begin);
+            begin = begin.wrapping_add(self.span(strand).steps());
+        }
+    }
+
+    // Closes all places of a row but one, if one is named.
+    fn fix(&mut self, row: usize, place: Option<usize>) {
         if let Some(place) = place {
-            if let Some(row) = self.rows.get_mut(step) {
+            if let Some(row) = self.rows.get_mut(row) {
                 close_others(row, place);
             }
         }
@@ -187,32 +197,52 @@ impl Search {
         }
     }
 
-    /// From what is paid at each step to what is to be paid from there on.
-    pub(crate) fn pay_back(&mut self, span: &Span) {
-        let ways = self.ways(span);
-        pay_back(&ways, &mut self.rows, span.steps());
+    // The rows of a strand, from one on.
+    fn filled(&self, span: &Span, begin: usize) -> &[Row] {
+        match self.rows.get(begin..begin.wrapping_add(span.steps())) {
+            Some(rows) => rows,
+            None => &[],
+        }
     }
 
-    /// From what is paid at each step to what is to be paid up to there.
-    pub(crate) fn pay_forth(&mut self, span: &Span) {
-        let ways = self.ways(span);
-        pay_forth(&ways, &mut self.rows, span.steps());
+    /// What a strand is to pay from each place of its first step on, whose rows begin there, where
+    /// it ends at a place, if one is named. Its layers are visited.
+    pub(crate) fn cost_by_entry(&mut self, span: &Span, begin: usize, end: Option<usize>) -> Row {
+        self.visit(span);
+        paid_back(&self.ways(span), self.filled(span, begin), end)
     }
 
-    /// The costs of a step.
-    pub(crate) fn row(&self, step: usize) -> Row {
-        at(&self.rows, step, [FAR; 16])
+    /// What it is to pay up to each place of its last step, where it begins at a place, if one is
+    /// named.
+    pub(crate) fn cost_by_exit(&mut self, span: &Span, begin: usize, entry: Option<usize>) -> Row {
+        self.visit(span);
+        paid_forth(&self.ways(span), self.filled(span, begin), entry)
+    }
+
+    // A least path goes over the layers of a strand.
+    fn visit(&mut self, span: &Span) {
+        self.visits = self.visits.saturating_add(span.len() as u64);
+    }
+
+    // From what is paid at each step of a strand to what is to be paid from there on, between these
+    // ends.
+    fn pay_between(&mut self, span: &Span, begin: usize, ends: Ends) {
+        self.visit(span);
+        self.fix(begin, ends.0);
+        self.fix(begin.wrapping_add(span.last_step()), ends.1);
+        let ways = self.ways(span);
+        pay_back(&ways, &mut self.rows, begin, span.steps());
     }
 
     // Goes along a least path, by what is to be paid from each step on.
-    fn read_path(&mut self, span: &Span) {
+    fn read_path(&mut self, span: &Span, begin: usize) {
         let Some(rate) = self.rates.get(span.depth() as usize) else {
             return;
         };
         let turn = self.draws.below(14);
         let mut place = MEMORY;
         for step in 0..span.steps() {
-            if let Some(row) = self.rows.get(step) {
+            if let Some(row) = self.rows.get(begin.wrapping_add(step)) {
                 place = if step == 0 {
                     least_place(row, turn)
                 } else {
@@ -227,34 +257,28 @@ impl Search {
         }
     }
 
+    /// Gives a strand, whose rows begin there, a least path between these ends.
+    pub(crate) fn lay_path(&mut self, span: &Span, begin: usize, ends: Ends) {
+        self.pay_between(span, begin, ends);
+        self.read_path(span, begin);
+    }
+
     /// Gives a strand a least path between these ends.
-    pub(crate) fn route(
-        &mut self,
-        net: &Net,
-        strand: usize,
-        ends: (Option<usize>, Option<usize>),
-        penalty: Penalty,
-    ) {
-        let span = self.span(strand);
-        self.fill_rows(net, strand, penalty);
-        self.fix(0, ends.0);
-        self.fix(span.last_step(), ends.1);
-        self.pay_back(&span);
-        self.read_path(&span);
+    pub(crate) fn route(&mut self, net: &Net, strand: usize, ends: Ends, penalty: Penalty) {
+        self.fill_rows(net, strand, penalty, 0);
+        self.lay_path(&self.span(strand), 0, ends);
     }
 
     /// Gives a strand a cheaper path past all others that keeps its tied ends, if there is one.
     pub(crate) fn settle_strand(&mut self, net: &Net, strand: usize) {
         let span = self.span(strand);
         let ends = self.end_places(&span);
-        self.fill_rows(net, strand, Penalty::Closed);
-        self.fix(0, ends.0);
-        self.fix(span.last_step(), ends.1);
-        self.pay_back(&span);
-        let least = u64::from(least_cost(&self.row(0)));
+        self.fill_rows(net, strand, Penalty::Closed, 0);
+        self.pay_between(&span, 0, ends);
+        let least = u64::from(least_cost(&at(&self.rows, 0, [FAR; 16])));
         if least.saturating_mul(self.times(&span)) < self.worth(strand) {
             self.release(net, strand);
-            self.read_path(&span);
+            self.read_path(&span, 0);
             self.take(net, strand);
         }
     }

@@ -8,7 +8,7 @@ ghost use Rattle.net_form.specs.Formed.{IsFormed};
 ghost use Rattle.net_form.specs.Rooms.{IsRoomOf};
 
 use crate::found::write_routes;
-use crate::search::Search;
+use crate::search::{MOST_VISITS, Search};
 use net_cost::{CostModel, Event};
 use net_form::{Net, Routes, Taken};
 use net_gate::admitted;
@@ -22,11 +22,8 @@ const VISITS: u64 = 20;
 // The same of the first round, where most is to be gained.
 const FIRST_VISITS: u64 = 80;
 
-// Visits of a round at most, so that a round of the largest procedures ends in seconds.
-const MOST_VISITS: u64 = 100_000_000;
-
-// Visits for each layer of each strand that routes from nothing may take.
-const VISITS_FROM_NOTHING: u64 = 100;
+// Visits for each layer of each strand that routes from nothing take, about.
+const VISITS_FROM_NOTHING: u64 = 50;
 
 // From this round on every other one begins from nothing.
 const BEGIN_ANEW: u32 = 4;

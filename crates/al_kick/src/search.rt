@@ -7,13 +7,17 @@ use crate::draws::Draws;
 use crate::lanes::least_cost;
 use crate::lists::{Marks, Numbers, at, put};
 use crate::rates::{NO_RATE, Rate, price, rate_at, scaled};
-use crate::reroute::Penalty;
+use crate::reroute::{Ends, Penalty};
 use crate::rows::Row;
-use crate::spans::{NO_SPAN, Span, sizes, spans_of};
+use crate::spans::{NO_SPAN, Span, longest_variable, sizes, spans_of};
 use net_cost::{CostModel, Event};
 use net_form::{Extra, Net, Routes};
 use pra_base::{Mask, OutOfMemory};
 use std::alloc::{AllocError, Global};
+
+/// Visits at most of a round, and of routes from nothing in it, so that a round of the largest
+/// procedures ends in seconds.
+pub(crate) const MOST_VISITS: u64 = 10_000_000;
 
 /// Paths of all strands, one behind the other, as numbers of the places at their steps: those now,
 /// and those that were kept last. What each strand pays now, what it would pay at least if it were
@@ -78,13 +82,14 @@ pub(crate) const NO_EXTRA: ExtraCost = ExtraCost {
     scaled: 0,
 };
 
-/// Room for a search on one network: among others where strands may be at each of their steps, and
-/// how many layers they have together.
+/// Room for a search on one network: among others where strands may be at each of their steps, how
+/// many layers they have together, and of each how many its variable has.
 #[derive(Drop)]
 pub struct Search {
     pub(crate) spans: Vec<Span>,
     pub(crate) masks: Vec<Mask>,
     pub(crate) layers: u64,
+    pub(crate) variables: Vec<u32>,
     pub(crate) rates: Vec<Rate>,
     pub(crate) extras: Vec<ExtraCost>,
     pub(crate) rows: Vec<Row>,
@@ -159,12 +164,14 @@ impl Search {
     /// Where there is no memory for it.
     pub fn reserve(alloc: Global, net: &Net) -> Result<Search, OutOfMemory> {
         let spans = spans_of(alloc, net)?;
-        let (layers, steps, longest) = sizes(&spans);
+        let (layers, steps) = sizes(&spans);
+        let longest = longest_variable(alloc, net, &spans)?;
         let strands = spans.len();
         let groups = net.groups as usize;
-        Ok(Search {
+        let mut search = Search {
             masks: masks_of(alloc, net, &spans, steps)?,
             layers: layers as u64,
+            variables: vec![in alloc; 0; strands]?,
             spans,
             rates: vec![in alloc; NO_RATE; 6]?,
             extras: vec![in alloc; NO_EXTRA; net.extras.len()]?,
@@ -175,7 +182,14 @@ impl Search {
             log: log_of(alloc, strands, groups)?,
             draws: Draws::of_seed(0),
             visits: 0,
-        })
+        };
+        search.measure_variables(net);
+        Ok(search)
+    }
+
+    /// Whether all visits were made that a round may make.
+    pub(crate) fn is_spent(&self) -> bool {
+        self.visits >= MOST_VISITS
     }
 
     pub(crate) fn span(&self, strand: usize) -> Span {
@@ -206,7 +220,7 @@ impl Search {
     }
 
     /// Where a strand is tied at its entry and at its exit, if it is.
-    pub(crate) fn end_places(&self, span: &Span) -> (Option<usize>, Option<usize>) {
+    pub(crate) fn end_places(&self, span: &Span) -> Ends {
         let first = self.place(span, 0);
         let last = self.place(span, span.last_step());
         (
@@ -255,9 +269,8 @@ impl Search {
     fn learn_floors(&mut self, net: &Net) {
         for strand in 0..self.spans.len() {
             let span = self.span(strand);
-            self.fill_rows(net, strand, Penalty::Closed);
-            self.pay_back(&span);
-            let least = u64::from(least_cost(&self.row(0)));
+            self.fill_rows(net, strand, Penalty::Closed, 0);
+            let least = u64::from(least_cost(&self.cost_by_entry(&span, 0, None)));
             let floor = least.saturating_mul(self.times(&span));
             put(&mut self.paths.floor, strand, floor);
         }

@@ -105,9 +105,11 @@ impl Search {
     // Settles the variable of a strand, if it has no more layers than this, unless it was asked
     // since anything changed.
     fn settle_variable(&mut self, net: &Net, strand: usize, most: usize) {
-        if self.log.asked.has(strand) || !self.gather_small(net, strand, most) {
+        let layers = at(&self.variables, strand, 0) as usize;
+        if self.log.asked.has(strand) || layers > most {
             return;
         }
+        self.gather_all(net, strand);
         if self.settle_piece(net) {
             self.log.asked.clear();
             return;
@@ -124,6 +126,9 @@ impl Search {
             let strand = self.log.list.at(number);
             let span = self.span(strand);
             let is_tied = span.entry().is_some() || span.exit().is_some();
+            if self.is_spent() {
+                return;
+            }
             if is_tied && self.excess(strand) > 0 {
                 self.settle_variable(net, strand, most);
             }
@@ -158,7 +163,7 @@ impl Search {
             self.settle_strands(net);
             self.settle_groups(net);
             self.settle_variables(net, usize::MAX);
-            if self.paths.total == before {
+            if self.paths.total == before || self.is_spent() {
                 return;
             }
         }

@@ -5,7 +5,7 @@
 // has one place there, so paths and costs go by steps. Who shares a register is asked for each
 // layer.
 
-use crate::lists::at;
+use crate::lists::{at, put};
 use net_form::{Net, Strand};
 use std::alloc::{AllocError, Global};
 
@@ -204,17 +204,38 @@ pub(crate) fn spans_of(alloc: Global, net: &Net) -> Result<Vec<Span>, AllocError
     Ok(spans)
 }
 
-/// How many layers all strands have, how many steps, and how many steps the longest one.
-pub(crate) fn sizes(spans: &[Span]) -> (usize, usize, usize) {
+/// How many layers all strands have, and how many steps.
+pub(crate) fn sizes(spans: &[Span]) -> (usize, usize) {
     let mut layers = 0usize;
     let mut steps = 0usize;
-    let mut longest = 0usize;
     for span in spans {
         layers = layers.wrapping_add(span.len());
         steps = steps.wrapping_add(span.steps());
-        longest = longest.max(span.steps());
     }
-    (layers, steps, longest)
+    (layers, steps)
+}
+
+/// How many steps the strands of one variable have at most.
+pub(crate) fn longest_variable(
+    alloc: Global,
+    net: &Net,
+    spans: &[Span],
+) -> Result<usize, AllocError> {
+    let mut variables = 0usize;
+    for strand in net.strands.as_slice() {
+        variables = variables.max((strand.var.0 as usize).saturating_add(1));
+    }
+    let mut steps = vec![in alloc; 0usize; variables]?;
+    let mut longest = 0usize;
+    for number in 0..spans.len() {
+        if let Some(strand) = net.strands.get(number) {
+            let more = at(spans, number, NO_SPAN).steps();
+            let sum = at(&steps, strand.var.0 as usize, 0).wrapping_add(more);
+            put(&mut steps, strand.var.0 as usize, sum);
+            longest = longest.max(sum);
+        }
+    }
+    Ok(longest)
 }
 
 /// From where to where the numbers lie that belong to a strand, a block or a tie group.
