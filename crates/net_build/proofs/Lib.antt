@@ -1,5 +1,6 @@
 pub mod Begun
 pub mod Comprehended
+pub mod Fits
 pub mod GoesOn
 pub mod InOrder
 pub mod Indexing

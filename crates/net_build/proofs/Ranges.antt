@@ -21,7 +21,7 @@ module _ (p : ℕ → Bool) (m : ℕ → ℕ) (n : ℕ) where
   abbrev pub run : ℕ → List ℕ
   run l = map m (range_with_len l (count l))
 
-  count_more : (l : ℕ) → l < n → p l ≡ true → count l ≡ suc (count (l + 1))
+  pub count_more : (l : ℕ) → l < n → p l ≡ true → count l ≡ suc (count (l + 1))
   count_more l lt is =
       let left : n - l ≡ suc (n - (l + 1)) = omega (arith, lt) in
       ap (λ k. prefix_len p (range_with_len l k)) left ∙ ap (λ b. cond b (1 + count (l + 1)) 0) is
@@ -53,6 +53,17 @@ module _ (p : ℕ → Bool) (m : ℕ → ℕ) (n : ℕ) where
 
   pub length-run : (l : ℕ) → length (run l) ≡ count l
   length-run l = length-map-range_with_len m l (count l)
+
+  pub count_past : (l : ℕ) → n ≤ l → count l ≡ 0
+  count_past l le =
+      let left : n - l ≡ 0 = omega (arith, le) in
+      ap (λ k. prefix_len p (range_with_len l k)) left
+
+  pub count_none : (l : ℕ) → l < n → p l ≡ false → count l ≡ 0
+  count_none l lt is =
+      let left : n - l ≡ suc (n - (l + 1)) = omega (arith, lt) in
+      ap (λ k. prefix_len p (range_with_len l k)) left
+      ∙ ap (λ b. cond b (1 + count (l + 1)) 0) is
 
   pub count_short : (l : ℕ) → count l ≤ n - l
   count_short l =

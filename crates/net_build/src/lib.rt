@@ -22,6 +22,9 @@
 //! next one of its owner. Memory pairs are in the order of their instructions
 //! (proofs/PairsInOrder), so the ends of one strand come by their layers.
 //!
+//! `has_places` tells whether lists of places fit the strands without making these, in the order in
+//! which they would be made (specs/Fitting).
+//!
 //! Read specs/Lists first, then specs/Labels, Grouped and Owners. A layer above hands in sized code
 //! with its liveness, and gets the network of the code.
 #![tactic(auto)]
@@ -29,6 +32,7 @@
 mod beside;
 mod extra_columns;
 mod extras;
+mod fitting;
 mod groups;
 mod index;
 mod labels;
@@ -43,6 +47,7 @@ mod strands;
 mod ties;
 
 pub use extras::extras_of;
+pub use fitting::has_places;
 pub use lists::{Lists, lists_of};
 pub use network::build;
 pub use pairs::pairs_of;

@@ -58,7 +58,7 @@ fn masks(
 }
 
 // Whether a run of the variable begins at the layer.
-fn begins(code: &VProc, live: &Liveness, block: u32, layer: u32, var: u32) -> bool
+pub(crate) fn begins(code: &VProc, live: &Liveness, block: u32, layer: u32, var: u32) -> bool
     requires { block < length code.now.blocks }
     ensures { result ≡ begins all_tables code.now (live_at live.now) var block layer }
 {
@@ -152,7 +152,7 @@ pub(crate) fn nearer(least: Option<u32>, var: u32, from: u32, end: u32) -> Optio
 }
 
 // The least variable from this one on and below the end that has one of the roles.
-fn least_from(roles: &[Role], from: u32, end: u32) -> Option<u32>
+pub(crate) fn least_from(roles: &[Role], from: u32, end: u32) -> Option<u32>
     ensures { IsLeastFrom (λ v. list_any (λ role. nat_eq role.var.0 v) roles.now) from end result }
 {
     let mut least = None;
