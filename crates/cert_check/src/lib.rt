@@ -28,6 +28,3 @@ mod tolls;
 mod value;
 
 pub use check::{CertAnswer, Reason, check_cert};
-
-#[cfg(test)]
-mod tests;

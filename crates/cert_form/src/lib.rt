@@ -20,6 +20,3 @@ mod writing;
 
 pub use certificate::{CapAt, Cert, Certificate, CostWord, TieAt};
 pub use text::{CertFault, MAX_CERT_BYTES, cert_read, cert_text};
-
-#[cfg(test)]
-mod tests;

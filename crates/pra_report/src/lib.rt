@@ -11,8 +11,6 @@
 mod input;
 pub mod laws;
 mod report;
-#[cfg(test)]
-mod tests;
 mod text;
 
 pub use input::{InputFault, input_words};

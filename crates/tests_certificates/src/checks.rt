@@ -1,6 +1,6 @@
 // Certificates, right and wrong, and what a check answers. In all of them `'` is a quotation mark.
 
-use crate::{CertAnswer, Reason, check_cert};
+use cert_check::{CertAnswer, Reason, check_cert};
 use cert_form::cert_read;
 use std::alloc::{AllocError, Global};
 use std::process::Abort;

@@ -2,7 +2,7 @@
 // texts that are no JSON. In all of them `'` is a quotation mark, `$` the end of a line, and `~`
 // the byte 255.
 
-use crate::{CertFault, Certificate, CostWord, cert_read, cert_text};
+use cert_form::{CertFault, Certificate, CostWord, cert_read, cert_text};
 use std::alloc::{AllocError, Global};
 use std::process::Abort;
 use std::test::Fail;

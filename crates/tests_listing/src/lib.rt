@@ -1,6 +1,8 @@
-//! Tests of the listing and the assembler: texts and images that were worked out from the tables of
-//! instructions, and texts that are refused.
+//! Tests of texts: the listing and the assembler, by texts and images that were worked out from the
+//! tables of instructions and texts that are refused; what a program reads and writes, and reports.
 #![tactic(auto)]
 
 #[cfg(test)]
 mod listing_tests;
+#[cfg(test)]
+mod reports;

@@ -2,13 +2,13 @@
 
 ghost use Rattle.std.specs.Prelude.{◌≡◌, ◌≤◌, [], ◌∷◌, ◌++◌, length, IfOk};
 
-use crate::{
-    InputFault, ProcOut, generated_line, input_words, output_line, output_text, procedure_lines,
-    report_text,
-};
 use net_form::{Line, Prices, Routes};
 use pra_base::{OutEvent, OutOfMemory, ProcId, VProc};
 use pra_list::Seq;
+use pra_report::{
+    InputFault, ProcOut, generated_line, input_words, output_line, output_text, procedure_lines,
+    report_text,
+};
 use std::alloc::Global;
 use std::process::Abort;
 

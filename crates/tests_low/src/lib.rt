@@ -1,8 +1,10 @@
-//! Tests of low crates whose own proof is long: liveness.
+//! Tests of low crates: lists and owned values, liveness.
 //!
 //! Each module has tables, in which a row costs no proof, and the functions that read them. They
 //! stand here because a crate that has tests is proved twice. Nothing here is used by another crate.
 #![tactic(auto)]
 
+#[cfg(test)]
+mod lists;
 #[cfg(test)]
 mod liveness;
