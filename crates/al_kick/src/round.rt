@@ -8,7 +8,7 @@ ghost use Rattle.net_form.specs.Formed.{IsFormed};
 ghost use Rattle.net_form.specs.Rooms.{IsRoomOf};
 
 use crate::found::write_routes;
-use crate::search::{MOST_VISITS, Search};
+use crate::search::Search;
 use net_cost::{CostModel, Event};
 use net_form::{Net, Routes, Taken};
 use net_gate::admitted;
@@ -31,16 +31,17 @@ const BEGIN_ANEW: u32 = 4;
 // Units of a weight of 1.
 const WHOLE: u128 = 1024;
 
-// Whether a round begins with routes from nothing, where so many layers of strands allow it.
-fn begins_anew(round: u32, size: u64) -> bool {
-    let allowed = VISITS_FROM_NOTHING.saturating_mul(size) <= MOST_VISITS;
+// Whether a round of so many visits at most begins with routes from nothing, where so many layers
+// of strands allow it.
+fn begins_anew(round: u32, size: u64, most: u64) -> bool {
+    let allowed = VISITS_FROM_NOTHING.saturating_mul(size) <= most;
     allowed && (round == 1 || (round >= BEGIN_ANEW && round % 2 == 0))
 }
 
-// How many visits a round has, by so many layers of strands.
-fn visits_of(round: u32, size: u64) -> u64 {
+// How many visits a round has, by so many layers of strands, and at most.
+fn visits_of(round: u32, size: u64, most: u64) -> u64 {
     let each = if round == 1 { FIRST_VISITS } else { VISITS };
-    each.saturating_mul(size).min(MOST_VISITS)
+    each.saturating_mul(size).min(most)
 }
 
 // Kicks from the best routes or from new ones, until the visits of a round are used up, or nothing
@@ -58,11 +59,11 @@ fn search_from<F: Fn(Event, u32) -> u32>(
     search.begin(net, model, best, round);
     let before = search.paths.total;
     let size = search.layers;
-    if begins_anew(round, size) {
+    if begins_anew(round, size, search.most_visits) {
         search.negotiate(net);
     }
     search.visits = 0;
-    let most = visits_of(round, size);
+    let most = visits_of(round, size, search.most_visits);
     let least = bound.saturating_mul(WHOLE);
     for _ in 0..most {
         if search.visits >= most || search.paths.total as u128 <= least {
@@ -115,14 +116,15 @@ impl Model for SearchRoom {
 }
 
 impl SearchRoom {
-    /// Room for the strands of a network.
+    /// Room for the strands of a network, in which a round makes so many visits at most: each layer
+    /// that a least path goes over is one.
     ///
     /// # Errors
     ///
     /// Where there is no memory for it.
-    pub fn reserve(alloc: Global, net: &Net) -> Result<SearchRoom, OutOfMemory> {
+    pub fn reserve(alloc: Global, net: &Net, most_visits: u64) -> Result<SearchRoom, OutOfMemory> {
         Ok(SearchRoom {
-            search: Search::reserve(alloc, net)?,
+            search: Search::reserve(alloc, net, most_visits)?,
         })
     }
 }

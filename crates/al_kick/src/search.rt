@@ -15,10 +15,6 @@ use net_form::{Extra, Net, Routes};
 use pra_base::{Mask, OutOfMemory};
 use std::alloc::{AllocError, Global};
 
-/// Visits at most of a round, and of routes from nothing in it, so that a round of the largest
-/// procedures ends in seconds.
-pub(crate) const MOST_VISITS: u64 = 10_000_000;
-
 /// Paths of all strands, one behind the other, as numbers of the places at their steps: those now,
 /// and those that were kept last. What each strand pays now, what it would pay at least if it were
 /// alone, and what all of them pay, in units.
@@ -83,7 +79,8 @@ pub(crate) const NO_EXTRA: ExtraCost = ExtraCost {
 };
 
 /// Room for a search on one network: among others where strands may be at each of their steps, how
-/// many layers they have together, and of each how many its variable has.
+/// many layers they have together, and of each how many its variable has. A round makes so many
+/// visits at most.
 #[derive(Drop)]
 pub struct Search {
     pub(crate) spans: Vec<Span>,
@@ -99,6 +96,7 @@ pub struct Search {
     pub(crate) log: Log,
     pub(crate) draws: Draws,
     pub(crate) visits: u64,
+    pub(crate) most_visits: u64,
 }
 
 fn paths_of(alloc: Global, steps: usize, strands: usize) -> Result<Paths, AllocError> {
@@ -157,12 +155,12 @@ fn masks_of(
 }
 
 impl Search {
-    /// Room for the strands of a network.
+    /// Room for the strands of a network, and for rounds of so many visits at most.
     ///
     /// # Errors
     ///
     /// Where there is no memory for it.
-    pub fn reserve(alloc: Global, net: &Net) -> Result<Search, OutOfMemory> {
+    pub fn reserve(alloc: Global, net: &Net, most_visits: u64) -> Result<Search, OutOfMemory> {
         let spans = spans_of(alloc, net)?;
         let (layers, steps) = sizes(&spans);
         let longest = longest_variable(alloc, net, &spans)?;
@@ -182,6 +180,7 @@ impl Search {
             log: log_of(alloc, strands, groups)?,
             draws: Draws::of_seed(0),
             visits: 0,
+            most_visits,
         };
         search.measure_variables(net);
         Ok(search)
@@ -189,7 +188,7 @@ impl Search {
 
     /// Whether all visits were made that a round may make.
     pub(crate) fn is_spent(&self) -> bool {
-        self.visits >= MOST_VISITS
+        self.visits >= self.most_visits
     }
 
     pub(crate) fn span(&self, strand: usize) -> Span {

@@ -69,7 +69,8 @@ impl Rounds {
         self.work.family()
     }
 
-    /// Round 0: prices of nothing, home routes and their cost, and the value of no prices.
+    /// Round 0: prices of nothing, home routes and their cost, and the value of no prices. The
+    /// search of a round makes so many visits at most (al_kick).
     ///
     /// # Errors
     ///
@@ -78,6 +79,7 @@ impl Rounds {
         alloc: Global,
         net: &Net,
         model: &CostModel<F>,
+        most_visits: u64,
     ) -> Result<Rounds, OutOfMemory>
         requires kept { Keeps F.Fn model.now }
         requires net { IsBuilt net.now }
@@ -99,7 +101,7 @@ impl Rounds {
             bound: rounded_up(best_value),
         };
         let lines = Seq::from_slice(alloc, &[line])?;
-        let search = SearchRoom::reserve(alloc, net)?;
+        let search = SearchRoom::reserve(alloc, net, most_visits)?;
         Ok(Rounds {
             best,
             prices,

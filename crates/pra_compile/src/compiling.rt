@@ -16,6 +16,7 @@ use crate::allocator::{Allocated, Allocator};
 use crate::granted::Granted;
 use crate::output::Compiled;
 use crate::tidied::tidy_codes;
+use crate::visits::shared_visits;
 use al_round::{Verdict, Watch};
 use ia_asm::Assembly;
 use net_cost::{CostModel, Event};
@@ -139,10 +140,12 @@ pub fn compile<F: Fn(Event, u32) -> u32, G: Fn(Line) -> Verdict>(
         (wanted_of (weights_of model.now) rounds (gap_of watch.now)) compiled) }
 {
     let codes = tidy_codes(alloc, checked)?;
+    let visits = shared_visits(alloc, codes.as_slice())?;
     let allocator = Granted {
         rounds,
         model,
         watch,
+        visits: visits.as_slice(),
     };
     compile_codes(alloc, checked, codes, &allocator)
 }

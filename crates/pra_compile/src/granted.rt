@@ -21,6 +21,7 @@ fn by_rounds<F: Fn(Event, u32) -> u32, G: Fn(Line) -> Verdict>(
     rounds: u32,
     model: &CostModel<F>,
     watch: &Watch<G>,
+    most_visits: u64,
 ) -> Result<Allocated, OutOfMemory>
     requires valid { IsValid code.now }
     requires sized { IsSized code.now }
@@ -33,7 +34,7 @@ fn by_rounds<F: Fn(Event, u32) -> u32, G: Fn(Line) -> Verdict>(
         a.prices a.lines) }
 {
     let net = network_of(alloc, code)?;
-    let mut granted = Rounds::start(alloc, &net, model)?;
+    let mut granted = Rounds::start(alloc, &net, model, most_visits)?;
     granted.grant(alloc, &net, model, rounds, watch)?;
     let Allocation {
         routes,
@@ -48,12 +49,14 @@ fn by_rounds<F: Fn(Event, u32) -> u32, G: Fn(Line) -> Verdict>(
     })
 }
 
-/// Routes by so many rounds at most for each procedure, or as many as the watch wants.
+/// Routes by so many rounds at most for each procedure, or as many as the watch wants. The search of
+/// a round makes so many visits at most, which stand here by number of procedure.
 #[derive(Drop)]
 pub struct Granted<'a, F: Fn(Event, u32) -> u32, G: Fn(Line) -> Verdict> {
     pub rounds: u32,
     pub model: &'a CostModel<F>,
     pub watch: &'a Watch<G>,
+    pub visits: &'a [u64],
 }
 
 impl<'a, F: Fn(Event, u32) -> u32, G: Fn(Line) -> Verdict> Allocator for Granted<'a, F, G> {
@@ -68,12 +71,11 @@ impl<'a, F: Fn(Event, u32) -> u32, G: Fn(Line) -> Verdict> Allocator for Granted
     ghost leaves = { λ by. granted (wanted_of (weights_of by.model.now) by.rounds
         (gap_of by.watch.now)) };
 
-    fn allocate(
-        &self,
-        alloc: Global,
-        _number: u32,
-        code: &VProc,
-    ) -> Result<Allocated, OutOfMemory> {
-        by_rounds(alloc, code, self.rounds, self.model, self.watch)
+    fn allocate(&self, alloc: Global, number: u32, code: &VProc) -> Result<Allocated, OutOfMemory> {
+        let visits = match self.visits.get(number as usize) {
+            Some(visits) => *visits,
+            None => 0,
+        };
+        by_rounds(alloc, code, self.rounds, self.model, self.watch, visits)
     }
 }

@@ -27,6 +27,7 @@ mod granted;
 pub mod laws;
 mod output;
 mod tidied;
+mod visits;
 
 pub use allocator::{Allocated, Allocator};
 pub use compiling::{compile, compile_codes};

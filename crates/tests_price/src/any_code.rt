@@ -10,6 +10,7 @@ ghost use Rattle.net_laws.specs.Built.{IsBuilt};
 ghost use Rattle.net_path.specs.Desk.{IsReservedFor};
 
 use crate::compared::differing;
+use crate::rounded::VISITS;
 use al_edge::{home, plan};
 use al_round::Rounds;
 use al_simul::sweep;
@@ -61,7 +62,7 @@ fn first_bound<F: Fn(Event, u32) -> u32>(
     requires kept { Keeps F.Fn model.now }
     requires net { IsBuilt net.now }
 {
-    let rounds = Rounds::start(alloc, net, model)?;
+    let rounds = Rounds::start(alloc, net, model, VISITS)?;
     match rounds.lines.get(0) {
         Some(line) => Ok(Some(line.bound)),
         None => Ok(None),

@@ -19,6 +19,9 @@ use std::alloc::Global;
 // How many rounds are granted.
 const MOST: u32 = 20;
 
+/// How many visits the search of a round makes at most.
+pub(crate) const VISITS: u64 = 10_000_000;
+
 /// The lines of rounds, and whether there was memory for each that was wanted.
 #[derive(Drop)]
 struct Granted {
@@ -47,7 +50,7 @@ fn grant<F: Fn(Event, u32) -> u32>(
     requires net { IsBuilt net.now }
 {
     let watch = Watch::keep(0, |line: Line| verdict(line));
-    let mut rounds = Rounds::start(alloc, net, model)?;
+    let mut rounds = Rounds::start(alloc, net, model, VISITS)?;
     let is_whole = rounds.grant(alloc, net, model, MOST, &watch).is_ok();
     let Allocation { lines, .. } = rounds.into_allocation();
     Ok(Granted { lines, is_whole })
@@ -168,7 +171,7 @@ fn first_round<F: Fn(Event, u32) -> u32>(
     requires kept { Keeps F.Fn model.now }
     requires net { IsBuilt net.now }
 {
-    let mut rounds = Rounds::start(alloc, net, model)?;
+    let mut rounds = Rounds::start(alloc, net, model, VISITS)?;
     told_next(alloc, net, model, &mut rounds)
 }
 

@@ -1,0 +1,37 @@
+// How far the search of a round goes, so that a round of any module ends in seconds.
+
+use pra_base::{OutOfMemory, VProc};
+use std::alloc::Global;
+
+// Visits at most of a round of all procedures together.
+const MODULE_VISITS: u64 = 40_000_000;
+
+// The same of one of them.
+const PROCEDURE_VISITS: u64 = 10_000_000;
+
+// As many layers as the network of a procedure has at most, about: all variables at each place.
+fn size_of(code: &VProc) -> u64 {
+    let mut instructions: u64 = 1;
+    for block in code.blocks.as_slice() {
+        instructions = instructions.saturating_add(block.code.len() as u64);
+    }
+    instructions.saturating_mul(code.vars.len() as u64)
+}
+
+/// How many visits a round of each procedure makes at most: those of the module, shared out by size.
+///
+/// # Errors
+///
+/// Where there is no memory for it.
+pub fn shared_visits(alloc: Global, codes: &[VProc]) -> Result<Vec<u64>, OutOfMemory> {
+    let mut all: u64 = 1;
+    for code in codes {
+        all = all.saturating_add(size_of(code));
+    }
+    let mut visits = Vec::with_capacity(alloc, codes.len())?;
+    for code in codes {
+        let share = MODULE_VISITS.saturating_mul(size_of(code)) / all;
+        visits.push(share.min(PROCEDURE_VISITS))?;
+    }
+    Ok(visits)
+}
