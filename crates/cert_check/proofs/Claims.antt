@@ -1,7 +1,8 @@
 -- From what holds on the network of a code to the reasons against a certificate.
 use Rattle.std.proofs.Common.{◌≡◌, ℕ, ◌+◌, ◌*◌, ◌<◌, ◌≤◌, inl, inr, ℤ, pos, ◌-ℤ◌, ◌≤ℤ◌}
 use Rattle.std.proofs.Common.{Option, Some, None, sym, ◌∙◌, subst}
-use Rattle.std.proofs.Common.{arith}
+use Rattle.std.proofs.Common.{arith, List, [], ◌∷◌, map}
+use Rattle.std.specs.List.{enumerate_from}
 use Rattle.std.specs.Prelude.{slice_get, Result, Ok, Err, IfOk}
 use Rattle.pra_base.specs.declared.event.OutOfMemory.{OutOfMemory}
 use Rattle.cert_check.specs.declared.check.CertAnswer.{CertAnswer}
@@ -10,9 +11,14 @@ use Rattle.std.proofs.lemmas.Bool.{cases_eq}
 use Rattle.pra_list.proofs.Options.{some_same}
 use Rattle.net_form.specs.declared.net.Net.{Net}
 use Rattle.net_form.specs.Cost.{cost_of}
-use Rattle.net_form.specs.Network.{IsNet}
+use Rattle.net_form.specs.declared.net.Strand.{Strand}
+use Rattle.net_form.specs.declared.net.Tie.{Tie}
+use Rattle.net_form.specs.declared.routes.Routes.{Routes}
+use Rattle.net_form.specs.Flow.{HasPlaces}
+use Rattle.net_form.specs.Network.{IsNet, grouped, ties}
+use Rattle.net_form.specs.Strands.{Lives, IsLive, strands}
 use Rattle.net_form.specs.Tables.{all_tables}
-use Rattle.net_form.proofs.OneNetwork.{one_network}
+use Rattle.net_form.proofs.OneNetwork.{one_live, one_network}
 use Rattle.net_form.proofs.NetworkFormed.{formed}
 use Rattle.net_dual.proofs.Duality.{duality_of_weights}
 use Rattle.cert_form.specs.declared.certificate.Cert.{Cert}
@@ -22,8 +28,11 @@ use Rattle.cert_check.specs.declared.check.Reason.TheVariants.{Code, Routes as W
 use Rattle.cert_check.specs.declared.check.Reason.TheVariants.{Bound}
 use Rattle.cert_check.specs.declared.check.CertAnswer.TheVariants.{Yes}
 use Rattle.cert_check.specs.Listed.{HasPrices, prices_of}
-use Rattle.cert_check.specs.Reasons.{HasCode, HasBound, OnNet, MeetsIn, Meets, MeetsAll}
-use Rattle.cert_check.specs.Reasons.{rank, HoldUpTo, IsFirstIn, IsFirstOf}
+use Rattle.pra_base.specs.declared.ids.Place.{Place}
+use Rattle.pra_base.specs.declared.code.VProc.{VProc}
+use Rattle.cert_check.specs.declared.code.Found.TheVariants.{Fails}
+use Rattle.cert_check.specs.Reasons.{HasCode, HasRoutes, HasBound, OnNet, MeetsIn, Meets, MeetsAll}
+use Rattle.cert_check.specs.Reasons.{rank, HoldUpTo, IsFirstIn, IsFirstOf, IsFound}
 use Rattle.cert_check.specs.Reasons.{IsAnswerOf, IsBounded, AreBounded, counts_in, weights_by}
 use Rattle.cert_check.proofs.ListedPrices.{in_range}
 
@@ -74,6 +83,50 @@ fails_code c p cert at fails = record {
   is = at;
   fails = record { holds = fails; first = λ q before. absurd (code_first q before) };
 }
+
+-- what was found before a network was looked at holds first
+pub fails_found : (c : Certificate) (p : ℕ) (cert : Cert) (r : Reason) →
+    slice_get c.procs p ≡ Some cert → IsFound (counts_in c.procs) p cert (Fails r) →
+    IsFirstOf c p (Some r)
+fails_found c p cert Code at found = fails_code c p cert at found
+fails_found c p cert Ways at found = record {
+  cert = cert;
+  is = at;
+  fails = record {
+    holds = λ is. found.1 is.net is.is_net is.holds;
+    first = λ q before. only_code q before;
+  };
+}
+  where
+    only_code : (q : Reason) → rank q < rank Ways → Meets c p cert q
+    only_code Code before = found.0
+    only_code Ways before = absurd (omega (arith, before))
+    only_code Prices before = absurd (omega (arith, before))
+    only_code Total before = absurd (omega (arith, before))
+    only_code Bound before = absurd (omega (arith, before))
+fails_found c p cert Prices at found = absurd found
+fails_found c p cert Total at found = absurd found
+fails_found c p cert Bound at found = absurd found
+
+-- routes of the network are lists of places for the strands, whatever their groups are
+same_places : (ts : List Tie) (least : ℕ → ℕ) (ss : List Strand) (lists : List (List Place))
+    (k : ℕ) → HasPlaces (map (grouped ts least) (enumerate_from k ss)) lists → HasPlaces ss lists
+same_places ts least [] [] k has = tt
+same_places ts least [] (r ∷ rs) k has = absurd has
+same_places ts least (s ∷ ss) [] k has = absurd has
+same_places ts least (s ∷ ss) (r ∷ rs) k has =
+    (has.0, same_places ts least ss rs (k + 1) has.1)
+
+-- where lists of places do not fit the strands, there are no routes in the network
+pub no_routes : (code : VProc) (live : Lives) (routes : Routes) → IsLive code live →
+    (HasPlaces (strands all_tables code live) routes.places → ⊥) → (net : Net) →
+    IsNet net code → HasRoutes net routes → ⊥
+no_routes code live routes is_live unfit net is has =
+    unfit (subst (λ (l : Lives). HasPlaces (strands all_tables code l) routes.places)
+    (one_live code is.live live is.is_live is_live)
+    (same_places (ties code (strands all_tables code is.live)) is.least
+    (strands all_tables code is.live) routes.places 0
+    (subst (λ (n : Net). HasPlaces n.strands routes.places) is.is has.places)))
 
 -- one procedure more
 pub holds_more : (c : Certificate) (n : ℕ) → HoldUpTo c n → IsFirstOf c n None → HoldUpTo c (n + 1)

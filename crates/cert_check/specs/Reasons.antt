@@ -21,6 +21,8 @@ use Rattle.cert_check.specs.declared.check.CertAnswer.TheVariants.{Yes, No}
 use Rattle.cert_check.specs.declared.check.Reason.{Reason}
 use Rattle.cert_check.specs.declared.check.Reason.TheVariants.{Code, Routes as Ways, Prices, Total}
 use Rattle.cert_check.specs.declared.check.Reason.TheVariants.{Bound}
+use Rattle.cert_check.specs.declared.code.Found.{Found}
+use Rattle.cert_check.specs.declared.code.Found.TheVariants.{Fails, Made}
 use Rattle.cert_check.specs.Listed.{HasPrices, prices_of}
 
 abbrev pub weights_by : CostWord → Weights
@@ -116,9 +118,14 @@ IsAnswerOf c (No p r) = HoldUpTo c p × FailsAt c p r
 
 -- ---- what is found on the way to the answer
 
-abbrev pub IsNetworkOf : List ℕ → ℕ → VProc → Option Net → Type 0
-IsNetworkOf counts p code None = HasCode counts p code → ⊥
-IsNetworkOf counts p code (Some net) = HasCode counts p code × IsNet net code
+-- the code or the routes fail whatever the network is, or this is the network
+abbrev pub IsFound : List ℕ → ℕ → Cert → Found → Type 0
+IsFound counts p cert (Fails Code) = HasCode counts p cert.code → ⊥
+IsFound counts p cert (Fails Ways) =
+    HasCode counts p cert.code ×
+    ((net : Net) → IsNet net cert.code → HasRoutes net cert.routes → ⊥)
+IsFound counts p cert (Fails r) = ⊥
+IsFound counts p cert (Made net) = HasCode counts p cert.code × IsNet net cert.code
 
 -- the first reason that holds on the network, or that none does
 pub record FailsIn (w : Weights) (net : Net) (cert : Cert) (r : Reason) : Type 0 where

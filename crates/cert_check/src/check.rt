@@ -6,7 +6,7 @@ ghost use Rattle.net_laws.specs.Built.{IsBuilt};
 ghost use Rattle.cert_check.specs.Reasons.{weights_by, counts_in, IsFirstIn, IsFirstOf};
 ghost use Rattle.cert_check.specs.Reasons.{IsAnswerOf, AreBounded};
 
-use crate::code::{counts_of, network_of};
+use crate::code::{Found, counts_of, network_of};
 use crate::listed::has_prices;
 use crate::routes::has_routes;
 use crate::value::has_bound;
@@ -88,10 +88,10 @@ fn first_of<F: Fn(Event, u32) -> u32>(
     ensures { IfOk result (IsFirstOf c.now number) }
 {
     let cert = &c.procs[number as usize];
-    let Some(net) = network_of(alloc, counts, number, &cert.code)? else {
-        return Ok(Some(Reason::Code));
-    };
-    first_in(alloc, model, &net, cert)
+    match network_of(alloc, counts, number, cert)? {
+        Found::Fails(reason) => Ok(Some(reason)),
+        Found::Made(net) => first_in(alloc, model, &net, cert),
+    }
 }
 
 // The answer by a model.

@@ -1,12 +1,14 @@
-// The reason Code: whether a procedure has code that its list can run.
+// The reason Code, whether a procedure has code that its list can run, and the first part of the
+// reason Routes, for which no network is needed.
 
 ghost use Rattle.std.specs.Prelude.{◌≡◌, IfOk};
-ghost use Rattle.cert_check.specs.Reasons.{counts_in, IsNetworkOf};
+ghost use Rattle.cert_check.specs.Reasons.{counts_in, IsFound};
 
+use crate::check::Reason;
 use cert_form::Cert;
-use net_build::build;
+use net_build::{build, has_places};
 use net_form::Net;
-use pra_base::{OutOfMemory, VProc};
+use pra_base::OutOfMemory;
 use pra_list::Seq;
 use std::alloc::Global;
 use vc_live::{is_sized, live};
@@ -23,27 +25,42 @@ pub(crate) fn counts_of(alloc: Global, procs: &[Cert]) -> Result<Seq<u32>, OutOf
     Ok(Seq::from_vec(counts))
 }
 
-/// The network of the code of procedure `number`, or None where the code is not what it has to be.
+/// What is found of a procedure before a network is looked at.
+#[derive(Debug, Drop)]
+pub(crate) enum Found {
+    /// Why no network is needed: its code is not what it has to be, or its routes have not one
+    /// place for each strand and layer.
+    Fails(Reason),
+    /// The network of its code.
+    Made(Net),
+}
+
+/// What is found of procedure `number`. A network is made only where there is a place in the
+/// certificate for each of its layers, so it is no larger than the text was.
 pub(crate) fn network_of(
     alloc: Global,
     counts: &[u32],
     number: u32,
-    code: &VProc,
-) -> Result<Option<Net>, OutOfMemory>
-    ensures { IfOk result (IsNetworkOf counts.now number code.now) }
+    cert: &Cert,
+) -> Result<Found, OutOfMemory>
+    ensures { IfOk result (IsFound counts.now number cert.now) }
 {
+    let code = &cert.code;
     if code.id.0 != number {
-        return Ok(None);
+        return Ok(Found::Fails(Reason::Code));
     }
     if !is_sized(code) {
-        return Ok(None);
+        return Ok(Found::Fails(Reason::Code));
     }
     let live = live(alloc, code)?;
     if !is_valid(code, &live) {
-        return Ok(None);
+        return Ok(Found::Fails(Reason::Code));
     }
     if !is_counted(code, counts) {
-        return Ok(None);
+        return Ok(Found::Fails(Reason::Code));
     }
-    Ok(Some(build(alloc, code, &live)?))
+    if !has_places(code, &live, cert.routes.places.as_slice()) {
+        return Ok(Found::Fails(Reason::Routes));
+    }
+    Ok(Found::Made(build(alloc, code, &live)?))
 }

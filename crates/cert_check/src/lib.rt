@@ -12,6 +12,9 @@
 //! certificate, and no code. What ties ask is summed up once for all strands (`ties`), what else is
 //! paid at a place is asked layer by layer (`tolls`).
 //!
+//! A text may be small and its network large. So the places of routes are counted against the code
+//! before a network is made (net_build, `has_places`), and a network is no larger than its text.
+//!
 //! Read specs/Reasons: what is claimed of a procedure, and the answer; then specs/Listed and, for
 //! the pass, specs/Tolls and specs/Pass.
 #![tactic(auto)]

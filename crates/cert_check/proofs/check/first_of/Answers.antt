@@ -4,27 +4,42 @@ use Rattle.net_cost.specs.Models.{weights_of}
 use Rattle.net_cost.specs.declared.weights.Weights.{Weights}
 use Rattle.net_form.specs.Network.{IsNet}
 use Rattle.net_laws.proofs.Built.{built}
-use Rattle.cert_check.specs.Reasons.{HasCode, IsNetworkOf, IsFirstIn, IsFirstOf}
-use Rattle.cert_check.proofs.Claims.{first_of, if_ok}
+use Rattle.cert_check.specs.declared.code.Found.TheVariants.{Fails}
+use Rattle.cert_check.specs.Reasons.{HasCode, IsFound, IsFirstIn, IsFirstOf}
+use Rattle.cert_check.proofs.Claims.{fails_found, first_of, if_ok}
 use Rattle.cert_check.proofs.check.first_of.Goals as goal
 
-pub first_in-requires-clause-net : goal.first_in-requires-clause-net
-first_in-requires-clause-net g c =
-    let code = c.index-cert.result.now.code in
-    let net = c.in-Some.net in
-    let found : HasCode c.args.counts.now c.args.number code × IsNet net code
-    = subst (IsNetworkOf c.args.counts.now c.args.number code) c.in-Some.is c.in_ok-net.ensures in
-    built code net found.1 found.0.valid found.0.sized
-
-pub returns : goal.returns
-returns g c =
+pub returns-in-Fails : goal.returns-in-Fails
+returns-in-Fails g c =
     let certificate = c.args.c.now in
     let p = c.args.number in
     let cert = c.index-cert.result.now in
-    let net = c.in-Some.net in
+    let reason = c.in-Fails.reason in
+    let found : IsFound c.args.counts.now p cert (Fails reason)
+    = subst (IsFound c.args.counts.now p cert) c.in-Fails.is c.in_ok-network_of.ensures in
+    fails_found certificate p cert reason
+    (slice_get_read certificate.procs (length certificate.procs) p cert refl
+    c.requires.number c.index-cert.ensures)
+    (subst (λ (counts : List ℕ). IsFound counts p cert (Fails reason)) c.requires.counts found)
+
+pub first_in-requires-clause-net : goal.first_in-requires-clause-net
+first_in-requires-clause-net g c =
+    let cert = c.index-cert.result.now in
+    let net = c.in-Made.net in
+    let found : HasCode c.args.counts.now c.args.number cert.code × IsNet net cert.code
+    = subst (IsFound c.args.counts.now c.args.number cert) c.in-Made.is
+    c.in_ok-network_of.ensures in
+    built cert.code net found.1 found.0.valid found.0.sized
+
+pub returns-in-Made : goal.returns-in-Made
+returns-in-Made g c =
+    let certificate = c.args.c.now in
+    let p = c.args.number in
+    let cert = c.index-cert.result.now in
+    let net = c.in-Made.net in
     let w = weights_of c.args.model.now in
     let found : HasCode c.args.counts.now p cert.code × IsNet net cert.code
-    = subst (IsNetworkOf c.args.counts.now p cert.code) c.in-Some.is c.in_ok-net.ensures in
+    = subst (IsFound c.args.counts.now p cert) c.in-Made.is c.in_ok-network_of.ensures in
     let code = subst (λ (counts : List ℕ). HasCode counts p cert.code) c.requires.counts found.0 in
     let at = slice_get_read certificate.procs (length certificate.procs) p cert refl
     c.requires.number c.index-cert.ensures in
