@@ -126,6 +126,67 @@ class Runs(unittest.TestCase):
         self.assertIn(b"NoAnswer", self.call("#!/bin/sh\nkill -ILL $$\n").stderr)
 
 
+TRANSLATION = b"""\
+target triple = "x86_64-unknown-linux-gnu"
+@static.0 = private unnamed_addr constant [1 x i8] c"\\15", align 1
+declare void @"write"(ptr)
+define internal noundef i32 @"pra::main"(ptr noundef %a0) #0 {
+  call void @"rattle-llvm-checks::index"(ptr %a0)
+  %x = call i32 @"pra::words"(ptr %a0)
+  ret i32 %x
+}
+define internal i32 @"pra::words"(ptr %a0) #0 {
+  ret i32 1
+}
+define i32 @main() #1 {
+  ret i32 0
+}
+attributes #0 = { nounwind sanitize_address "frame-pointer"="all" }
+attributes #1 = { "probe-stack"="inline-asm" sanitize_address }
+!llvm.ident = !{!0}
+"""
+
+
+class Parts(unittest.TestCase):
+    """What a translation is compiled in."""
+
+    def parts(self, count):
+        lines = unproved.without_watch(TRANSLATION.splitlines(keepends=True))
+        with tempfile.TemporaryDirectory(prefix="pra-unproved-") as room:
+            names = unproved.write_parts(lines, count, room)
+            self.assertEqual(len(names), count)
+            texts = []
+            for name in names:
+                with open(f"{room}/{name}.ll", encoding="utf-8") as text:
+                    texts.append(text.read())
+        return texts
+
+    def test_each_function_is_defined_once_and_known_everywhere(self):
+        for count in 1, 2, 3, 5:
+            texts = self.parts(count)
+            for name in '@"pra::main"(', '@"pra::words"(', "@main(":
+                heads = [
+                    [line for line in text.splitlines() if name in line and line[0] == "d"]
+                    for text in texts
+                ]
+                self.assertEqual([len(it) for it in heads], [1] * count)
+                defined = [it for it, in heads if it.startswith("define ")]
+                self.assertEqual(len(defined), 1)
+                self.assertEqual([it for it, in heads if "internal" in it], [])
+
+    def test_each_part_has_constants_and_attributes(self):
+        for text in self.parts(2):
+            lines = text.splitlines()
+            self.assertEqual(len([it for it in lines if it.startswith("@static.0 = private")]), 1)
+            self.assertIn('declare void @"write"(ptr)', lines)
+            self.assertEqual(len([it for it in lines if it.startswith("attributes #")]), 2)
+
+    def test_nothing_is_left_of_the_watch(self):
+        text = "".join(self.parts(2))
+        for word in "rattle-llvm-checks", "sanitize_address", "frame-pointer", "probe-stack":
+            self.assertNotIn(word, text)
+
+
 class Reasons(unittest.TestCase):
     def test_what_rt_try_says_is_told(self):
         said = b"warning\nchecked: no-answer: the kit lacks a linker\nrun=none proved=no\n"
