@@ -3,5 +3,5 @@
 # much memory is held at most.
 set -eu
 cd "$(dirname "$0")"
-program=$(./built.sh bench_assemble)
-./best_of_five.sh "$program"
+program=$(./built.sh bench generate 1 1)
+./best_of_five.sh "$program" assemble

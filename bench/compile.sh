@@ -6,12 +6,12 @@
 # user time of five runs counts, and the ratio of both. Then both programs write the same.
 set -eu
 bench=$(cd "$(dirname "$0")" && pwd)
-generate=$("$bench/built.sh" bench_generate 1 1)
+generate=$("$bench/built.sh" bench generate 1 1)
 folder=$(mktemp -d)
 trap 'rm -rf "$folder"' EXIT
 cd "$folder"
 
-"$generate" 1 200 >G.ob
+"$generate" generate 1 200 >G.ob
 "$bench/../pra" build
 program=$bench/../crates/pra/out/pra
 for rounds in 0 10; do

@@ -3,5 +3,5 @@
 # and how much memory is held at most.
 set -eu
 cd "$(dirname "$0")"
-program=$(./built.sh bench_live)
-./best_of_five.sh "$program"
+program=$(./built.sh bench generate 1 1)
+./best_of_five.sh "$program" live

@@ -6,8 +6,8 @@
 # strand by plain loops, once, which takes most of a minute. Then how much memory the liveness takes, and how much the network beside it.
 set -eu
 cd "$(dirname "$0")"
-program=$(./built.sh bench_network)
-for word in least least least least plain; do "$program" "$word" 2>&1; done | awk '
+program=$(./built.sh bench generate 1 1)
+for word in least least least least plain; do "$program" network "$word" 2>&1; done | awk '
     $3 == "ms" {
         if (!($1 in least)) { least[$1] = $2; parts[++count] = $1 }
         else if ($2 < least[$1]) least[$1] = $2
@@ -23,10 +23,10 @@ for word in least least least least plain; do "$program" "$word" 2>&1; done | aw
         printf "plain loops: %.0f ns for each of %d layers\n", least["plain"] * 1e6 / layers, layers
     }'
 
-live=$(./peak.sh "$program" live)
-build=$(./peak.sh "$program" build)
-all=$(./peak.sh "$program" lagrange)
-masks=$("$program" valid 2>&1 >/dev/null | awk '$1 == "masks" { print $2 }')
+live=$(./peak.sh "$program" network live)
+build=$(./peak.sh "$program" network build)
+all=$(./peak.sh "$program" network lagrange)
+masks=$("$program" network valid 2>&1 >/dev/null | awk '$1 == "masks" { print $2 }')
 each=$(((build - live) * 1024 / masks))
 echo "liveness: $((live / 1024)) MB at most; with the network $((build / 1024)) MB," \
     "$each bytes more for each of $masks masks; with all parts $((all / 1024)) MB"

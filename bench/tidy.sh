@@ -3,5 +3,5 @@
 # it, and how much memory is held at most.
 set -eu
 cd "$(dirname "$0")"
-program=$(./built.sh bench_tidy)
-./best_of_five.sh "$program"
+program=$(./built.sh bench generate 1 1)
+./best_of_five.sh "$program" tidy

@@ -1,6 +1,0 @@
--- the room stays one for this network
-use Rattle.net_path.specs.Desk.{IsReservedFor}
-use Rattle.bench_network.proofs.parts.find_each.Given as goal
-
-abbrev pub invariant-loop-strand : goal.invariant-loop-strand
-invariant-loop-strand g l = IsReservedFor l.net l.room
