@@ -16,12 +16,12 @@ use Rattle.net_laws.specs.Homes.{home_of, passes, allowed, needs_register}
 abbrev pub six : List Place
 six = Eax ∷ Ecx ∷ Edx ∷ Ebx ∷ Esi ∷ Edi ∷ []
 
-abbrev pub is_open : ℕ → ℕ → Place → Bool
-is_open mask busy p = allows mask (number p) && not (nat_eq (bit_at busy (number p)) 1)
+abbrev pub may_pick : ℕ → ℕ → Place → Bool
+may_pick mask busy p = allows mask (number p) && not (nat_eq (bit_at busy (number p)) 1)
 
 -- the first register of the mask that is not among the busy ones, or EAX where there is none
 abbrev pub pick : ℕ → ℕ → Place
-pick mask busy = unwrap_or (find (is_open mask busy) six) Eax
+pick mask busy = unwrap_or (find (may_pick mask busy) six) Eax
 
 -- the layer of a strand, where the layers of all blocks are counted together
 abbrev pub layer_in : Net → ℕ → ℕ → ℕ

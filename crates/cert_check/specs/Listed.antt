@@ -54,14 +54,14 @@ abbrev pub with_caps : List ℕ → List CapAt → List ℕ
 with_caps prices [] = prices
 with_caps prices (x ∷ xs) = with_caps (slice_set prices x.at x.price) xs
 
-abbrev pub with_numbers : List ℤ → List TieAt → List ℤ
-with_numbers numbers [] = numbers
-with_numbers numbers (x ∷ xs) = with_numbers (slice_set numbers x.at x.number) xs
+abbrev pub with_tie_numbers : List ℤ → List TieAt → List ℤ
+with_tie_numbers numbers [] = numbers
+with_tie_numbers numbers (x ∷ xs) = with_tie_numbers (slice_set numbers x.at x.number) xs
 
 -- what has no entry is 0
 abbrev pub prices_of : Net → Cert → Prices
 prices_of net cert = record {
   caps = with_caps (replicate (cap_count net) 0) cert.caps;
   mems = with_caps (replicate (mem_count net) 0) cert.mems;
-  ties = with_numbers (replicate (number_count net) (pos 0)) cert.ties;
+  ties = with_tie_numbers (replicate (number_count net) (pos 0)) cert.ties;
 }

@@ -104,7 +104,7 @@ HoldUpTo c n =
     (p : ℕ) (cert : Cert) → p < n → slice_get c.procs p ≡ Some cert → MeetsAll c p cert
 
 -- procedure p is there, and fails by the reason
-pub record FailsAt (c : Certificate) (p : ℕ) (r : Reason) : Type 0 where
+pub record FailsProc (c : Certificate) (p : ℕ) (r : Reason) : Type 0 where
   pub cert : Cert
   pub is : slice_get c.procs p ≡ Some cert
   pub fails : FailsBy c p cert r
@@ -112,7 +112,7 @@ pub record FailsAt (c : Certificate) (p : ℕ) (r : Reason) : Type 0 where
 -- all procedures hold, or this is the first that does not
 abbrev pub IsAnswerOf : Certificate → CertAnswer → Type 0
 IsAnswerOf c Yes = (p : ℕ) (cert : Cert) → slice_get c.procs p ≡ Some cert → MeetsAll c p cert
-IsAnswerOf c (No p r) = HoldUpTo c p × FailsAt c p r
+IsAnswerOf c (No p r) = HoldUpTo c p × FailsProc c p r
 
 -- ---- what is found on the way to the answer
 
@@ -132,7 +132,7 @@ IsFirstIn w net cert (Some r) = FailsIn w net cert r
 -- the first reason that holds of procedure p, or that none does
 abbrev pub IsFirstOf : Certificate → ℕ → Option Reason → Type 0
 IsFirstOf c p None = (cert : Cert) → slice_get c.procs p ≡ Some cert → MeetsAll c p cert
-IsFirstOf c p (Some r) = FailsAt c p r
+IsFirstOf c p (Some r) = FailsProc c p r
 
 -- ---- what yes says
 

@@ -11,7 +11,7 @@ use Rattle.net_form.proofs.PlaceEquality.{same_place-refl}
 use Rattle.net_path.specs.declared.crossbar.Ways.{Ways}
 use Rattle.net_path.specs.declared.path.Choice.{Choice}
 use Rattle.net_path.specs.Ways.{at, step_price}
-use Rattle.net_path.specs.Rests.{Terrain, IsBest, Follows}
+use Rattle.net_path.specs.Rests.{Terrain, IsLowest, Follows}
 use Rattle.net_path.specs.Rows.{IsGround}
 use Rattle.net_path.specs.Choices.{IsBestChoice, IsBestPlace, IsGoodStart}
 use Rattle.net_path.proofs.Within.{parity}
@@ -27,7 +27,7 @@ module _ (ways : Ways) (first n : ℕ) (t : Terrain) (ground : IsGround (step_pr
     (row : ℕ → List ℤ) (k : ℕ) (from next : Place) where
   abbrev Goes : Type 0
   Goes = IsTrue (t.may_come k (Some from) next)
-      × IsBest t k (Some from) (row k) (t.way k (Some from) next +ℤ at (row k) (number next))
+      × IsLowest t k (Some from) (row k) (t.way k (Some from) next +ℤ at (row k) (number next))
 
   goes_across : (first + k) % 2 ≡ 0 → next ≡ from → Goes
   goes_across even same =
@@ -36,9 +36,9 @@ module _ (ways : Ways) (first n : ℕ) (t : Terrain) (ground : IsGround (step_pr
       let best = stays_best (step_price ways) first n t ground k (row k) from even in
       let is : at (row k) (number from) ≡ t.way k (Some from) from +ℤ at (row k) (number from) =
       omega (arith, ints, way) in
-      subst (λ (q : Place). IsTrue (t.may_come k (Some from) q) × IsBest t k (Some from) (row k)
+      subst (λ (q : Place). IsTrue (t.may_come k (Some from) q) × IsLowest t k (Some from) (row k)
       (t.way k (Some from) q +ℤ at (row k) (number q))) (sym same)
-      (comes, subst (λ (z : ℤ). IsBest t k (Some from) (row k) z) is best)
+      (comes, subst (λ (z : ℤ). IsLowest t k (Some from) (row k) z) is best)
 
   goes_over : (first + k) % 2 ≡ 1 → IsBestPlace (step_price ways (number from)) (row k) next → Goes
   goes_over odd best =

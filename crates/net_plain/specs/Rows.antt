@@ -42,8 +42,8 @@ number_in numbers tie (Some slot) = slice_index_or numbers (tie_numbers * tie + 
 abbrev pub plus_if : Bool → ℤ → Option ℤ → Option ℤ
 plus_if b z o = if b then option_map (λ d. d +ℤ z) o else None
 
-abbrev pub AreWithin : ℕ → List (Option ℤ) → Type 0
-AreWithin n row = (k : ℕ) → IsCostWithin n (cost_at row k)
+abbrev pub AreCostsWithin : ℕ → List (Option ℤ) → Type 0
+AreCostsWithin n row = (k : ℕ) → IsCostWithin n (cost_at row k)
 
 -- ---- a layer
 
@@ -66,4 +66,4 @@ pub record IsRowOf (net : Net) (w : Weights) (prices : Prices) (ends : Ends) (ta
   pub long : length row ≡ place_count
   pub each : (k : ℕ) → k < place_count →
       cost_at row k ≡ there net w prices ends taken s l (place_at k) (cost_at rests k)
-  pub within : AreWithin (2 ^ 108) row
+  pub within : AreCostsWithin (2 ^ 108) row

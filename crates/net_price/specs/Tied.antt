@@ -16,12 +16,12 @@ no_tie = record { from = 0; to = 0 }
 abbrev pub tie_at : Net → ℕ → Tie
 tie_at net i = slice_index_or net.ties i no_tie
 
-abbrev pub place_at : ℕ → Place
-place_at j = slice_index_or tied_places j Eax
+abbrev pub slot_place : ℕ → Place
+slot_place j = slice_index_or tied_places j Eax
 
 -- what number k becomes
 abbrev pub next_number : Net → List Edge → ℕ → ℕ → ℤ → ℤ
 next_number net f s k old =
     let tie = tie_at net (k / tie_numbers) in
-    let place = place_at (k % tie_numbers) in
+    let place = slot_place (k % tie_numbers) in
     tied_price s old (count_by (exits_at net tie place) f) (count_by (enters_at net tie place) f)

@@ -40,7 +40,7 @@ use Rattle.pl_place.specs.declared.placed.LBlock.{LBlock}
 use Rattle.pl_place.specs.declared.placed.LProc.{LProc}
 use Rattle.pl_place.specs.Placed.{kind_of, bare, bare_block}
 use Rattle.pl_moves.specs.Assignment.{suits}
-use Rattle.pl_place.specs.Behind.{Routed, strand_of, comes_to, constant, from_place, pair_of}
+use Rattle.pl_place.specs.Behind.{Routed, strand_by, comes_at, constant, from_place, pair_of}
 use Rattle.pl_place.specs.Behind.{in_memory, has_slot, slots_of, pairs_at}
 use Rattle.pl_place.specs.Machine.{no_block}
 use Rattle.pl_place.specs.Valid.{linstr_at, EachOp, EachMove, FewMoves, HasMemory, MoveHasMemory}
@@ -156,12 +156,12 @@ module _ (code : VProc) (net : Net) (routes : Routes) (is : IsNet net code)
       base.kind_of code v ≡ Plain → Among v (map (λ (u : VarId). u.0) p.slots)
   slotted_in b l v e at h plain =
       let inside = edge_inside all_tables code net is routes has admitted b l v e at in
-      let var : (strand_of r e).var.0 ≡ v = ap (λ (t : Strand). t.var.0)
+      let var : (strand_by r e).var.0 ≡ v = ap (λ (t : Strand). t.var.0)
       (its_strand all_tables code net is routes has admitted e at.route) ∙ at.covers.var in
       let here : in_memory r v ≡ true = any_in _ (flow net routes) e
       (in_the_flow all_tables code net is routes has admitted b l v e at)
-      (both (nat_eq (strand_of r e).var.0 v) (needs_slot (number e.to))
-      (same_nat (strand_of r e).var.0 v var) h) in
+      (both (nat_eq (strand_by r e).var.0 v) (needs_slot (number e.to))
+      (same_nat (strand_by r e).var.0 v var) h) in
       let slot : has_slot r v ≡ true = both (is_plain (base.kind_of code v)) (in_memory r v)
       (ap is_plain plain) here in
       subst (Among v) (sym made.slots)
@@ -202,10 +202,10 @@ module _ (code : VProc) (net : Net) (routes : Routes) (is : IsNet net code)
       HasMemory p y.var.0 × (y.var.0 < length code.vars)
   pair_memory b k y i h =
       let d = of_map (pair_of r) _ y i in
-      let f = of_filter (comes_to r b (2 * k + 1)) (flow net routes) d.0 d.1 in
-      let v = (strand_of r d.0).var.0 in
+      let f = of_filter (comes_at r b (2 * k + 1)) (flow net routes) d.0 d.1 in
+      let v = (strand_by r d.0).var.0 in
       let at = brings_edge all_tables code net is routes has admitted b (2 * k + 1) v d.0 f.0
-      (both (nat_eq v v) (comes_to r b (2 * k + 1) d.0) (same_nat v v refl) f.1) in
+      (both (nat_eq v v) (comes_at r b (2 * k + 1) d.0) (same_nat v v refl) f.1) in
       let inside = edge_inside all_tables code net is routes has admitted b (2 * k + 1) v d.0 at in
       let there : HasMemory p v =
       ⊎_elim

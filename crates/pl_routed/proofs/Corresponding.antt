@@ -41,7 +41,7 @@ use Rattle.pl_place.specs.declared.placed.LBlock.{LBlock}
 use Rattle.pl_place.specs.declared.placed.LProc.{LProc}
 use Rattle.pl_place.specs.Placed.{kind_of, slot_of}
 use Rattle.pl_place.specs.Machine.{spot, spot_as, slotted, Slot, Argument, no_block}
-use Rattle.pl_place.specs.Behind.{Routed, strand_of, constant, pairs_at, operand_places, in_memory}
+use Rattle.pl_place.specs.Behind.{Routed, strand_by, constant, pairs_at, operand_places, in_memory}
 use Rattle.pl_place.specs.Behind.{has_slot, IsOp, Lays, IsBehind}
 use Rattle.pl_place.specs.Valid.{linstr_at, HasMemory, MoveHasMemory, MoveNames, IsPlaced}
 use Rattle.pra_list.specs.Each.{Each}
@@ -226,12 +226,12 @@ module _ (code : VProc) (net : Net) (is : IsNet net code) (routes : Routes)
       let inside = edge_inside all_tables code net is routes has admitted b l v e at in
       memory_of code p sized behind.vars behind.args v inside.var (base.kind_of code v) refl
       (λ plain.
-      let var : (strand_of r e).var.0 ≡ v = ap (λ (t : Strand). t.var.0)
+      let var : (strand_by r e).var.0 ≡ v = ap (λ (t : Strand). t.var.0)
       (its_strand all_tables code net is routes has admitted e at.route) ∙ at.covers.var in
       let here : in_memory r v ≡ true = any_in _ (flow net routes) e
       (in_the_flow all_tables code net is routes has admitted b l v e at)
-      (both (nat_eq (strand_of r e).var.0 v) (needs_slot (number e.to))
-      (same_nat (strand_of r e).var.0 v var) h) in
+      (both (nat_eq (strand_by r e).var.0 v) (needs_slot (number e.to))
+      (same_nat (strand_by r e).var.0 v var) h) in
       let slot : has_slot r v ≡ true = both (is_plain (base.kind_of code v)) (in_memory r v)
       (ap is_plain plain) here in
       subst (Among v) (sym behind.slots)
