@@ -20,7 +20,7 @@ use Rattle.net_dual.specs.Priced.{cost_by_weights}
 use Rattle.net_dual.specs.Value.{IsValue, IsLagrange}
 use Rattle.al_laws.specs.Settled.{AreSettled}
 use Rattle.al_round.specs.Allocations.{IsAllocated, IsLatest}
-use Rattle.al_round.specs.Candidates.{cost_in}
+use Rattle.net_form.specs.Cost.{cost_in}
 use Rattle.al_round.specs.Lines.{IsCost, IsLine}
 use Rattle.al_round.specs.Stages.{Stage, AreStages, IsBest, IsGreatest, IsRoundedUp}
 use Rattle.al_round.specs.Tried.{IsTried}

@@ -8,7 +8,7 @@ use Rattle.net_cost.specs.Weights.{size_weights, speed_weights}
 use Rattle.net_form.specs.declared.net.Net.{Net}
 use Rattle.net_form.specs.declared.routes.Routes.{Routes}
 use Rattle.net_form.specs.Admitted.{IsAdmitted}
-use Rattle.net_form.specs.Cost.{cost_of}
+use Rattle.net_form.specs.Cost.{cost_of, cost_in}
 use Rattle.net_form.specs.Flow.{Edge, flow, AreRoutes}
 use Rattle.net_form.specs.Network.{IsNet}
 use Rattle.net_dual.specs.Value.{IsLagrange}
@@ -47,7 +47,7 @@ pub record HasRoutes (net : Net) (routes : Routes) : Type 0 where
   pub admitted : IsAdmitted net (flow net routes)
 
 abbrev pub HasTotal : Weights → Net → Cert → Type 0
-HasTotal w net cert = cost_of net w (flow net cert.routes) ≡ cert.total
+HasTotal w net cert = cost_in net w cert.routes ≡ cert.total
 
 -- The bound is in whole units, the value z in units of 1/1024: rounded up, z is at least the bound.
 pub record IsBelowValue (w : Weights) (net : Net) (cert : Cert) : Type 0 where
@@ -142,7 +142,7 @@ pub record IsBounded (w : Weights) (cert : Cert) : Type 0 where
   pub net : Net
   pub is_net : IsNet net cert.code
   pub admitted : IsAdmitted net (flow net cert.routes)
-  pub cost : cost_of net w (flow net cert.routes) ≡ cert.total
+  pub cost : cost_in net w cert.routes ≡ cert.total
   pub least : (f : List Edge) → IsAdmitted net f → cert.bound ≤ cost_of net w f
 
 abbrev pub AreBounded : Certificate → Type 0

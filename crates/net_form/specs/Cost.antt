@@ -45,6 +45,10 @@ cost_by tables net w f =
 abbrev pub cost_of : Net → Weights → List Edge → ℕ
 cost_of net w f = cost_by all_tables net w f
 
+-- what the flow of routes costs
+abbrev pub cost_in : Net → Weights → Routes → ℕ
+cost_in net w routes = cost_of net w (flow net routes)
+
 -- ---- the same, edge by edge
 
 -- an extra of strand s at place p of layer l

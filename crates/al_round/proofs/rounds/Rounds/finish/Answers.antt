@@ -7,7 +7,7 @@ use Rattle.net_form.specs.declared.prices.Line.{Line}
 use Rattle.net_form.specs.declared.prices.Prices.{Prices}
 use Rattle.net_dual.specs.Priced.{AreInRange}
 use Rattle.al_round.specs.Allocations.{IsAllocated, IsLatest}
-use Rattle.al_round.specs.Candidates.{cost_in}
+use Rattle.net_form.specs.Cost.{cost_in}
 use Rattle.al_round.specs.Stages.{Stage, IsGreatest, IsRoundedUp}
 use Rattle.al_round.proofs.Bounds.{not_negative}
 use Rattle.al_round.proofs.LinesGrown.{one_less}
