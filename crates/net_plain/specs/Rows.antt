@@ -5,7 +5,6 @@ use Rattle.pra_base.specs.declared.ids.Place.{Place}
 use Rattle.pra_base.specs.Places.{place_count, place_at}
 use Rattle.net_cost.specs.declared.weights.Weights.{Weights}
 use Rattle.net_form.specs.declared.net.Net.{Net}
-use Rattle.net_form.specs.declared.net.Tie.{Tie}
 use Rattle.net_form.specs.declared.prices.Prices.{Prices}
 use Rattle.net_form.specs.declared.routes.Ends.{Ends}
 use Rattle.net_form.specs.declared.taken.Taken.{Taken}
@@ -23,13 +22,6 @@ pub record IsSpot (net : Net) (spot : Spot) : Type 0 where
   pub strand : spot.strand < length net.strands
   pub after : (strand_at net spot.strand).first ≤ spot.layer
   pub before : spot.layer ≤ (strand_at net spot.strand).last
-
--- where there is no tie
-abbrev pub no_tie : Tie
-no_tie = record { from = 0; to = 0 }
-
-abbrev pub tie_at : Net → ℕ → Tie
-tie_at net k = slice_index_or net.ties k no_tie
 
 -- the number of a tie among those of all, thirteen for each; a constant has none
 abbrev pub number_in : List ℤ → ℕ → Option ℕ → ℤ

@@ -13,11 +13,11 @@ use Rattle.pra_base.specs.declared.ids.Place.TheVariants.{Eax}
 use Rattle.net_form.specs.declared.net.Net.{Net}
 use Rattle.net_form.specs.declared.prices.Prices.{Prices}
 use Rattle.net_form.specs.Flow.{Edge}
-use Rattle.net_form.specs.Admitted.{exits_at, enters_at}
+use Rattle.net_form.specs.Admitted.{no_tie, tie_at, exits_at, enters_at}
 use Rattle.net_dual.specs.Priced.{most_price, tie_slot, tie_price, slot_price}
 use Rattle.net_dual.specs.Step.{used_price, tied_price, tied_places, next_tie, next}
 use Rattle.net_price.specs.Raised.{raised, AreWords}
-use Rattle.net_price.specs.Tied.{no_tie, tie_at, slot_place, next_number}
+use Rattle.net_price.specs.Tied.{slot_place, next_number}
 
 pub words_of : (prices : List ℕ) → All (λ p. p ≤ most_price) prices → AreWords prices
 words_of prices most k = elim (cases_lt k (length prices)) [

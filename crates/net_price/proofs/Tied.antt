@@ -15,7 +15,7 @@ use Rattle.net_form.specs.declared.net.Strand.{Strand}
 use Rattle.net_form.specs.declared.net.Net.{Net}
 use Rattle.net_form.specs.declared.routes.Routes.{Routes}
 use Rattle.net_form.specs.Flow.{flow, arrives, same_place, same_start, AreRoutes}
-use Rattle.net_form.specs.Admitted.{strand_at, no_strand}
+use Rattle.net_form.specs.Admitted.{strand_at, no_strand, tie_at, no_tie}
 use Rattle.net_form.specs.Cost.{place_on}
 use Rattle.net_form.proofs.RoutesCost.{flow_at}
 use Rattle.net_laws.specs.Built.{IsBuilt}
@@ -23,7 +23,6 @@ use Rattle.net_dual.specs.Paths.{path_in}
 use Rattle.net_dual.specs.Priced.{most_price}
 use Rattle.net_dual.specs.Step.{clamp, tied_price}
 use Rattle.net_dual.proofs.Strands.{each_long}
-use Rattle.net_price.specs.Tied.{tie_at, no_tie}
 
 -- a step up, a step down, both or neither
 steps : (s : ℕ) (a b : Bool) → pos s *ℤ (pos (bit a) -ℤ pos (bit b))

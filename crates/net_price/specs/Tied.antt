@@ -3,18 +3,10 @@ use Rattle.std.specs.Prelude.{ℕ, ◌/◌, ◌%◌, ℤ, List, count_by, slice_
 use Rattle.pra_base.specs.declared.ids.Place.{Place}
 use Rattle.pra_base.specs.declared.ids.Place.TheVariants.{Eax}
 use Rattle.net_form.specs.declared.net.Net.{Net}
-use Rattle.net_form.specs.declared.net.Tie.{Tie}
 use Rattle.net_form.specs.Flow.{Edge}
-use Rattle.net_form.specs.Admitted.{exits_at, enters_at}
+use Rattle.net_form.specs.Admitted.{tie_at, exits_at, enters_at}
 use Rattle.net_form.specs.Rooms.{tie_numbers}
 use Rattle.net_dual.specs.Step.{tied_price, tied_places}
-
--- where there is no tie
-abbrev pub no_tie : Tie
-no_tie = record { from = 0; to = 0 }
-
-abbrev pub tie_at : Net → ℕ → Tie
-tie_at net i = slice_index_or net.ties i no_tie
 
 abbrev pub slot_place : ℕ → Place
 slot_place j = slice_index_or tied_places j Eax

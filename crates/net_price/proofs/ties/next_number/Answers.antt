@@ -6,10 +6,10 @@ use Rattle.pra_base.specs.declared.ids.Place.{Place}
 use Rattle.pra_list.proofs.Counts.{bit}
 use Rattle.net_form.specs.declared.net.Strand.{Strand}
 use Rattle.net_form.specs.declared.net.Tie.{Tie}
-use Rattle.net_form.specs.Admitted.{no_strand, exits_at, enters_at}
+use Rattle.net_form.specs.Admitted.{no_strand, no_tie, tie_at, exits_at, enters_at}
 use Rattle.net_form.specs.Flow.{flow, arrives}
 use Rattle.net_dual.specs.Step.{tied_price}
-use Rattle.net_price.specs.Tied.{no_tie, tie_at, slot_place}
+use Rattle.net_price.specs.Tied.{slot_place}
 use Rattle.net_price.proofs.Tied.{leads_within}
 use Rattle.net_price.proofs.ties.next_number.Goals as goal
 
