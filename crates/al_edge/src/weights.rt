@@ -15,7 +15,7 @@ ghost use Rattle.net_path.specs.Desk.{IsReservedFor};
 ghost use Rattle.al_edge.specs.OpenPlaces.{is_unmarked, may_be, suits_all, IsInMasks};
 ghost use Rattle.al_edge.specs.Weighed.{IsCostAt, AreWeights};
 ghost use Rattle.al_edge.specs.Totals.{AreOpenBelow, AreInMasks, AreCostsBelow, AreKnown, AreWide};
-ghost use Rattle.al_edge.specs.Totals.{AreAdded, AreTotals};
+ghost use Rattle.al_edge.specs.Totals.{AreCostsAdded, AreTotals};
 
 use crate::cheapest::{PlaceWeights, place_of};
 use crate::members::{counts, ends_of, enters_alone, group_ends, layer_of, leaves_alone, mask_of};
@@ -290,7 +290,7 @@ fn add(total: i128, cost: i64) -> i128
 // Adds what a strand costs at each place.
 fn add_all(totals: &mut [i128; 14], costs: &[i64; 14])
     requires wide { AreWide (2 ^ 99) totals.old }
-    ensures { AreAdded totals.old costs.now totals.new }
+    ensures { AreCostsAdded totals.old costs.now totals.new }
 {
     for number in 0..14usize {
         totals[number] = add(totals[number], costs[number]);

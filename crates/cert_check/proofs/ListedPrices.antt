@@ -10,7 +10,7 @@ use Rattle.net_dual.proofs.Ranges.{zero_in_range}
 use Rattle.cert_form.specs.declared.certificate.CapAt.{CapAt}
 use Rattle.cert_form.specs.declared.certificate.TieAt.{TieAt}
 use Rattle.cert_form.specs.declared.certificate.Cert.{Cert}
-use Rattle.cert_check.specs.Listed.{AreCaps, AreNumbers, HasPrices, with_caps, with_tie_numbers}
+use Rattle.cert_check.specs.Listed.{AreCaps, AreTieNumbers, HasPrices, with_caps, with_tie_numbers}
 use Rattle.cert_check.specs.Listed.{prices_of}
 
 All-set : {X : Type 0} (P : X → Type 0) → (xs : List X) (k : ℕ) (x : X) → k < length xs → All P xs →
@@ -47,7 +47,7 @@ caps_most count from prices (x ∷ xs) long are all =
     (All-set (λ c. c ≤ most_price) prices x.at x.price (omega (arith, there, long)) all are.1.most)
 
 numbers_most : (count from : ℕ) (numbers : List ℤ) (xs : List TieAt) → count ≡ length numbers
-    → AreNumbers count from xs → All (λ z. z ≤ℤ pos most_price) numbers
+    → AreTieNumbers count from xs → All (λ z. z ≤ℤ pos most_price) numbers
     → All (λ z. z ≤ℤ pos most_price) (with_tie_numbers numbers xs)
 numbers_most count from numbers [] long are all = all
 numbers_most count from numbers (x ∷ xs) long are all =
@@ -58,7 +58,7 @@ numbers_most count from numbers (x ∷ xs) long are all =
     are.1.most)
 
 numbers_least : (count from : ℕ) (numbers : List ℤ) (xs : List TieAt) → count ≡ length numbers
-    → AreNumbers count from xs → All (λ z. (pos 0 -ℤ pos most_price) ≤ℤ z) numbers
+    → AreTieNumbers count from xs → All (λ z. (pos 0 -ℤ pos most_price) ≤ℤ z) numbers
     → All (λ z. (pos 0 -ℤ pos most_price) ≤ℤ z) (with_tie_numbers numbers xs)
 numbers_least count from numbers [] long are all = all
 numbers_least count from numbers (x ∷ xs) long are all =

@@ -28,9 +28,10 @@ abbrev pub AreCaps : ℕ → ℕ → List CapAt → Type 0
 AreCaps count from [] = ⊤
 AreCaps count from (x ∷ xs) = (from ≤ x.at) × IsCap count x × AreCaps count (suc x.at) xs
 
-abbrev pub AreNumbers : ℕ → ℕ → List TieAt → Type 0
-AreNumbers count from [] = ⊤
-AreNumbers count from (x ∷ xs) = (from ≤ x.at) × IsNumber count x × AreNumbers count (suc x.at) xs
+abbrev pub AreTieNumbers : ℕ → ℕ → List TieAt → Type 0
+AreTieNumbers count from [] = ⊤
+AreTieNumbers count from (x ∷ xs) =
+    (from ≤ x.at) × IsNumber count x × AreTieNumbers count (suc x.at) xs
 
 -- how many prices a network has of each kind
 abbrev pub cap_count : Net → ℕ
@@ -45,7 +46,7 @@ number_count net = tie_numbers * length net.ties
 pub record HasPrices (net : Net) (cert : Cert) : Type 0 where
   pub caps : AreCaps (cap_count net) 0 cert.caps
   pub mems : AreCaps (mem_count net) 0 cert.mems
-  pub ties : AreNumbers (number_count net) 0 cert.ties
+  pub ties : AreTieNumbers (number_count net) 0 cert.ties
 
 -- ---- the prices that are listed
 

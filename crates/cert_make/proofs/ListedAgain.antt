@@ -4,7 +4,7 @@ use Rattle.std.proofs.Common.{List, [], ◌∷◌, length, replicate, set, All, 
 use Rattle.std.proofs.lemmas.Int.{ints}
 use Rattle.std.proofs.lemmas.List.Elements.{All-head, All-tail}
 use Rattle.net_dual.specs.Priced.{most_price}
-use Rattle.cert_check.specs.Listed.{AreCaps, AreNumbers, with_caps, with_tie_numbers}
+use Rattle.cert_check.specs.Listed.{AreCaps, AreTieNumbers, with_caps, with_tie_numbers}
 use Rattle.cert_make.specs.Made.{caps_from, numbers_from}
 
 -- ---- prices
@@ -58,7 +58,7 @@ IsLeastNumber number = (pos 0 -ℤ pos most_price) ≤ℤ number
 
 pub are_numbers : (count from at : ℕ) (numbers : List ℤ) → from ≤ at → at + length numbers ≤ count
     → All IsMostNumber numbers → All IsLeastNumber numbers
-    → AreNumbers count from (numbers_from at numbers)
+    → AreTieNumbers count from (numbers_from at numbers)
 are_numbers count from at [] after within most least = tt
 are_numbers count from at (pos zero ∷ numbers) after within most least =
     are_numbers count from (suc at) numbers (omega (arith, after)) (omega (arith, within))

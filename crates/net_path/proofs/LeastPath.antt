@@ -19,7 +19,7 @@ use Rattle.net_dual.specs.Paths.{MayGo, IsLeast, path_edges, path_price}
 use Rattle.net_dual.proofs.Small.{path_is_small}
 use Rattle.net_path.specs.Grounds.{layer, terrain, is_free}
 use Rattle.net_path.specs.Rests.{Terrain, Passes, rest_price, IsLowest, IsLeastRest, AreRows}
-use Rattle.net_path.specs.Rests.{Follows}
+use Rattle.net_path.specs.Rests.{AreBest}
 use Rattle.net_path.specs.Rows.{slack_at}
 use Rattle.net_path.proofs.Bridges.{to_edges, from_edges, price_is}
 use Rattle.net_path.proofs.GoodPaths.{good_of, path_of}
@@ -94,7 +94,7 @@ module _ (net : Net) (built : IsBuilt net)
         absurd (omega (arith, ints, far, le, price, small))
 
     -- the path is a least one, at this price
-    pub least_path : (ps : List Place) → z <ℤ pos (2 ^ 61) → length ps ≡ n → Follows t row 0 None ps
+    pub least_path : (ps : List Place) → z <ℤ pos (2 ^ 61) → length ps ≡ n → AreBest t row 0 None ps
         → IsLeast net (edge_price net w prices) ends (UsesNothing net taken) s ps
         × (z ≡ path_price net (edge_price net w prices) s ps)
     least_path ps near size follows =

@@ -9,7 +9,7 @@ use Rattle.pra_base.specs.declared.ids.Place.{Place}
 use Rattle.pra_base.specs.Places.{number}
 use Rattle.net_path.specs.Ways.{at}
 use Rattle.net_path.specs.Rests.{unreached, Terrain, Passes, rest_price, IsLeastRest, IsPaidThere}
-use Rattle.net_path.specs.Rests.{IsFrom, IsRow, IsLowest, Follows, IsSlack, AreRows}
+use Rattle.net_path.specs.Rests.{IsFrom, IsRow, IsLowest, AreBest, IsSlack, AreRows}
 
 -- behind the last layer nothing is left
 pub nothing_left : (t : Terrain) (l : ℕ) (p : Option Place) (slack : ℕ)
@@ -133,7 +133,7 @@ module _ (t : Terrain) (row : ℕ → List ℤ) (slack : ℕ → ℕ) (end : ℕ
   ]
 
   pub followed : (n l : ℕ) (p : Option Place) (qs : List Place) (z : ℤ) → length qs ≡ n → n + l
-      ≡ end → AreRows t row slack end l → Follows t row l p qs → IsLeastRest t n l p (slack l) z
+      ≡ end → AreRows t row slack end l → AreBest t row l p qs → IsLeastRest t n l p (slack l) z
       → (z +ℤ pos (slack l)) <ℤ unreached → Passes t l p qs × (rest_price t l p qs ≤ℤ z)
   followed n l p [] z long e are follows least small = (
     tt,

@@ -10,7 +10,7 @@ ghost use Rattle.std.specs.Prelude.{◌<ℤ◌, pos};
 ghost use Rattle.std.specs.Option.{MatchOption};
 ghost use Rattle.net_path.specs.Choices.{IsChoice, IsBestChoice, IsBestPlace, IsGoodStart};
 ghost use Rattle.net_path.specs.Choices.{AreStartCosts};
-ghost use Rattle.net_path.specs.Rests.{Terrain, Follows};
+ghost use Rattle.net_path.specs.Rests.{Terrain, AreBest};
 ghost use Rattle.net_path.specs.Rows.{costs_at, IsGround};
 
 use crate::crossbar::{Debt, Row, Ways, debt_at, with_way};
@@ -273,7 +273,7 @@ pub(crate) fn follow(
     requires room { length rows.now ≤ length path.old }
     ensures { (t : Terrain) → IsGround (step_price ways.now) first (length rows.now) t →
         IsGoodStart t (costs_at rows.now 0) start →
-        Follows t (costs_at rows.now) 0 None (take (length rows.now) path.new) }
+        AreBest t (costs_at rows.now) 0 None (take (length rows.now) path.new) }
 {
     path[0] = start;
     let mut from = start;

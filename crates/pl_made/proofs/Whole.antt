@@ -24,7 +24,7 @@ use Rattle.pl_place.specs.declared.placed.LInstr.TheVariants as placed
 use Rattle.pl_place.specs.declared.placed.LProc.{LProc}
 use Rattle.pl_place.specs.Placed.{place_in}
 use Rattle.pl_place.specs.Behind.{where_is, operand_places}
-use Rattle.pl_place.specs.Valid.{linstr_at, EachOp, roles, HasMemory, OperandsPlaced, IsPlaced}
+use Rattle.pl_place.specs.Valid.{linstr_at, EachOp, roles, HasCell, OperandsPlaced, IsPlaced}
 use Rattle.pl_routed.specs.Routed.{routed}
 use Rattle.pra_list.proofs.Among.{in_at, at_most_one}
 use Rattle.pl_routed.proofs.Masks.{both_allow}
@@ -247,7 +247,7 @@ module _ (code : VProc) (net : Net) (routes : Routes) (is : IsNet net code)
       }
 
   pub operands_there : EachOp p (λ i places. (n : ℕ) (role : Role) → slice_get (roles i) n ≡
-      Some role → is_mem (place_in places n) ≡ true → HasMemory p role.var)
+      Some role → is_mem (place_in places n) ≡ true → HasCell p role.var)
   operands_there b k i places at n role e mem =
       let o = op_here b k i places at in
       let x = side code net routes is has admitted b o.index i o.here o.inside places.items o.same n

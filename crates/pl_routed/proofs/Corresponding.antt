@@ -43,9 +43,9 @@ use Rattle.pl_place.specs.Placed.{kind_of, slot_of}
 use Rattle.pl_place.specs.Machine.{spot, spot_as, slotted, Slot, Argument, no_block}
 use Rattle.pl_place.specs.Behind.{Routed, strand_by, constant, pairs_at, operand_places, in_memory}
 use Rattle.pl_place.specs.Behind.{has_slot, IsOp, Lays, IsBehind}
-use Rattle.pl_place.specs.Valid.{linstr_at, HasMemory, MoveHasMemory, MoveNames, IsPlaced}
+use Rattle.pl_place.specs.Valid.{linstr_at, HasCell, MoveHasMemory, MoveNames, IsPlaced}
 use Rattle.pra_list.specs.Each.{Each}
-use Rattle.pl_simulation.specs.Correspondence.{Allocation, InFrame, IsCell, InCells, Fits, IsOpAt}
+use Rattle.pl_simulation.specs.Correspondence.{Allocation, InFrame, IsCell, InCells, FitsAt, IsOpAt}
 use Rattle.pl_simulation.specs.Correspondence.{InstrCorresponds, EndCorresponds, Comes, Corresponds}
 use Rattle.pl_routed.specs.Routed.{routed}
 use Rattle.pra_list.proofs.Among.{in_at, at_in, in_left, in_right, in_map, in_filter, in_range}
@@ -170,7 +170,7 @@ each_of P (m ∷ ms) f = (f m (inl refl), each_of P ms (λ x i. f x (inr i)))
 
 -- a move of valid placed code is within the frame
 module _ (p : LProc) (is : IsPlaced p) where
-  has_cell : (v : ℕ) → v < length p.vars → HasMemory p v → IsCell p (Memory v)
+  has_cell : (v : ℕ) → v < length p.vars → HasCell p v → IsCell p (Memory v)
   has_cell v lt has =
       ⊎_elim
       (λ (param : (i : ℕ) × (kind_of p v ≡ Param i)).
@@ -312,7 +312,8 @@ module _ (code : VProc) (net : Net) (is : IsNet net code) (routes : Routes)
             (moves_in b block e k l.moves
             (l.op ∷ rest_at r b 0 (code_of code b) block.code (behind.lays b block e) (suc k))
             l.parts) assigns;
-        fits = subst (λ n. Fits p i (map number o.0) (where_ b (2 * k + 1)) (where_ b n)) layer fit;
+        fits = subst (λ n. FitsAt p i (map number o.0) (where_ b (2 * k + 1)) (where_ b n)) layer
+            fit;
       }
 
   end_corresponds : (b : ℕ) → b < length code.blocks →

@@ -36,7 +36,7 @@ use Rattle.pl_place.specs.Machine.{cells, fixed}
 use Rattle.pl_place.specs.Behind.{Routed, where_is}
 use Rattle.pra_list.specs.Each.{Each}
 use Rattle.pl_simulation.specs.Correspondence.{Allocation, IsCell, AllRead, Written, AllWritten}
-use Rattle.pl_simulation.specs.Correspondence.{is_destroyed, Stays, Fits}
+use Rattle.pl_simulation.specs.Correspondence.{is_destroyed, Stays, FitsAt}
 use Rattle.pl_routed.proofs.Present.{r as routed, live as live_of, edge_of_place, edge_inside}
 use Rattle.pl_routed.proofs.Present.{edge_mask, edge_from, From, edge_stays, edge_apart, is_nat}
 use Rattle.pl_routed.proofs.Present.From.{Begins, Goes}
@@ -272,7 +272,7 @@ module _ (code : VProc) (net : Net) (is : IsNet net code) (routes : Routes)
 
     pub fits : (qs : List Place) → map Some qs ≡ map (where_is r b (2 * k + 1)) (read_by i)
         ++ map (where_is r b (2 * k + 2)) (written_by i) →
-        Fits p i (map number qs) (where_ b (2 * k + 1)) (where_ b (2 * k + 2))
+        FitsAt p i (map number qs) (where_ b (2 * k + 1)) (where_ b (2 * k + 2))
     fits qs e =
         let w = written_part (where_is r b (2 * k + 1)) (where_is r b (2 * k + 2)) (read_by i)
         (written_by i) qs e in

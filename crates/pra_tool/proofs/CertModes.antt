@@ -20,7 +20,7 @@ use Rattle.pra_tool.specs.declared.certified.Uncertified.TheVariants as uncertif
 use Rattle.pra_tool.specs.Status.{IsDone, IsRefusal}
 use Rattle.pra_tool.specs.Writes.{Writes, names}
 use Rattle.pra_tool.specs.Modes.{IsKind, IsMode}
-use Rattle.pra_tool.specs.Certified.{IsTextOfCert, FailsIn, IsUncertified}
+use Rattle.pra_tool.specs.Certified.{IsTextOfCert, FileFails, IsUncertified}
 use Rattle.pra_tool.specs.Certified.{uncertified_status, IsHeld, certificates}
 use Rattle.pra_tool.specs.Applied.{IsCertText, IsNoCertText, certificate_texts}
 use Rattle.pra_tool.specs.Clause.{checking}
@@ -102,14 +102,14 @@ of_none : (file : List ℕ) (c : Certificate) → Reads file (Err fault.NotCerti
     IsTextOfCert file c → ⊥
 of_none file c none h = none.2 c h.1 (same_some _ _ _ none.1.1 h.0.1)
 
-one_failing : (file : List ℕ) (p q : ℕ) (r t : Reason) → FailsIn file p r → FailsIn file q t →
+one_failing : (file : List ℕ) (p q : ℕ) (r t : Reason) → FileFails file p r → FileFails file q t →
     uncertified.Fails p r ≡ uncertified.Fails q t
 one_failing file p q r t h k = one_answer h.certificate p q r t h.fails
     (subst (λ (c : Certificate). IsAnswerOf c (No q t))
     (same_certificate file k.certificate h.certificate k.read h.read) k.fails)
 
 held_not_failing : (file : List ℕ) (c : Certificate) (p : ℕ) (r : Reason) → IsHeld file c →
-    FailsIn file p r → ⊥
+    FileFails file p r → ⊥
 held_not_failing file c p r h k = yes_or_no c p r h.holds
     (subst (λ (x : Certificate). IsAnswerOf x (No p r))
     (same_certificate file k.certificate c k.read h.read) k.fails)

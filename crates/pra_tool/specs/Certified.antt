@@ -86,7 +86,7 @@ IsTextOfCert file c = Reads file (Ok c)
 
 -- The file is the text of a certificate, of which this is the first procedure that fails, by this
 -- reason.
-pub record FailsIn (file : List ℕ) (p : ℕ) (r : Reason) : Type 0 where
+pub record FileFails (file : List ℕ) (p : ℕ) (r : Reason) : Type 0 where
   pub certificate : Certificate
   pub read : IsTextOfCert file certificate
   pub fails : IsAnswerOf certificate (No p r)
@@ -99,7 +99,7 @@ IsUncertified file uncertified.NotJson =
 IsUncertified file uncertified.NotCertificate =
     (length file ≤ most_certificate) × Reads file (Err fault.NotCertificate)
 IsUncertified file (uncertified.Fails p r) =
-    (length file ≤ most_certificate) × FailsIn file p r
+    (length file ≤ most_certificate) × FileFails file p r
 IsUncertified file uncertified.OutOfMemory = ⊥
 
 abbrev pub uncertified_status : Uncertified → Status
