@@ -75,8 +75,7 @@ abbrev pub Outranks : (Place → ℤ) → Place → Place → Type 0
 Outranks weight p q = (weight p <ℤ weight q) ⊎ ((weight p ≡ weight q) × (number p ≤ number q))
 
 -- Each group has the open place of least weight: the sum, over the strands with an end in it, of
--- the
--- least priced cost of a path with these ends at the place and the other end free.
+-- the least priced cost of a path with these ends at the place and the other end free.
 pub record IsGreedy (net : Net) (w : Weights) (prices : Prices) (plan : Plan) : Type 0 where
   pub many : length plan.places ≡ net.groups
   pub least : ℕ → Place → ℕ → ℤ

@@ -154,8 +154,7 @@ pub record InputRefused (m : Mode) (file : List ℕ) (old new : Seen) (status : 
   pub refused : TextRefused m.input input old new status
 
 -- Nothing is wrong with the source and the input, which were read whole, and what is made of them
--- is
--- refused.
+-- is refused.
 pub record MadeRefused (m : Mode) (file : List ℕ) (old new : Seen) (status : Status)
     : Type 0 where
   pub source : List ℕ
