@@ -30,7 +30,8 @@ use Rattle.net_laws.specs.Homes.{HasRoom, is_there, passes, allowed, home_of, ne
 use Rattle.net_laws.specs.Homes.{registers, shares, contends, is_rival}
 use Rattle.net_laws.proofs.Few.{few}
 use Rattle.net_laws.proofs.Found.{first_that}
-use Rattle.al_edge.specs.Choice.{layer_in, busy_at}
+use Rattle.al_laws.specs.Parts.{layer_at}
+use Rattle.al_edge.specs.Choice.{busy_at}
 use Rattle.al_edge.specs.HomePaths.{IsHomePath}
 use Rattle.al_edge.proofs.Uses.{held_is, uses_at, uses_below, counted, one_layer}
 
@@ -86,7 +87,7 @@ module _ (net : Net) (formed : IsFormed net) (room : HasRoom net) (rs : List (Li
     is : in_register r (get_or (path x) (m - (t x).first) Mem) ≡ true
 
   abbrev holds : ℕ → ℕ → ℕ → Bool
-  holds r m x = ltb 0 (uses net (layer_in net s m) r x (t x).first None (path x))
+  holds r m x = ltb 0 (uses net (layer_at net s m) r x (t x).first None (path x))
 
   bounds : (x m : ℕ) → is_there (t x) m ≡ true → ((t x).first ≤ m) × (m ≤ (t x).last)
   bounds x m at = let p = and_parts (leb (t x).first m) (leb m (t x).last) at in
@@ -95,14 +96,14 @@ module _ (net : Net) (formed : IsFormed net) (room : HasRoom net) (rs : List (Li
   it_holds : (r m x : ℕ) → x < length rs → is_there (t s) m ≡ true → holds r m x ≡ true →
       Holds r m x
   it_holds r m x x_lt at_s some =
-      let more = ltb-true 0 (uses net (layer_in net s m) r x (t x).first None (path x)) some in
+      let more = ltb-true 0 (uses net (layer_at net s m) r x (t x).first None (path x)) some in
       let base = first_layer net.blocks (t x).block.0 in
-      elim (cases_lt (layer_in net s m) base) as (λ _. Holds r m x) [
-        | inl below ↦ absurd (let none = uses_below net x r None (path x) (layer_in net s m)
+      elim (cases_lt (layer_at net s m) base) as (λ _. Holds r m x) [
+        | inl below ↦ absurd (let none = uses_below net x r None (path x) (layer_at net s m)
             (t x).first below in omega (arith, none, more))
         | inr from ↦
-            let l' = layer_in net s m - base in
-            let e : layer_in net s m ≡ base + l' = omega (arith, from) in
+            let l' = layer_at net s m - base in
+            let e : layer_at net s m ≡ base + l' = omega (arith, from) in
             let count = sym (ap (λ n. uses net n r x (t x).first None (path x)) e) in
             let is_held = uses_at net x r None (path x) l' (t x).first in
             let h = held_is (in_register r) (path x) (t x).first l'
@@ -225,11 +226,11 @@ module _ (net : Net) (formed : IsFormed net) (room : HasRoom net) (rs : List (Li
 
   -- ---- where all registers are busy, each has its holder
 
-  some_holds : (r m : ℕ) → mark regs (layer_in net s m) r ≡ 1 →
+  some_holds : (r m : ℕ) → mark regs (layer_at net s m) r ≡ 1 →
       list_any (holds r m) (range_with_len 0 (length rs)) ≡ true
   some_holds r m used =
-      let count = marks (layer_in net s m) r in
-      let c = counted (uses_bundle net (layer_in net s m) r) 0 net.strands rs
+      let count = marks (layer_at net s m) r in
+      let c = counted (uses_bundle net (layer_at net s m) r) 0 net.strands rs
       (omega (arith, count, used)) in
       let n = length-range_with_len 0 (length rs) in
       let x_lt = c.within in
@@ -238,8 +239,8 @@ module _ (net : Net) (formed : IsFormed net) (room : HasRoom net) (rs : List (Li
       ∙ (let e : 0 + c.at ≡ c.at = omega arith in e) in
       list_any_at (holds r m) (range_with_len 0 (length rs)) c.at 0 (omega (arith, n, x_lt))
       (ap (holds r m) is ∙ lt-ltb 0
-      (uses net (layer_in net s m) r c.at (t c.at).first None (path c.at))
-      (subst (λ k. 0 < count_by (uses_bundle net (layer_in net s m) r)
+      (uses net (layer_at net s m) r c.at (t c.at).first None (path c.at))
+      (subst (λ k. 0 < count_by (uses_bundle net (layer_at net s m) r)
       (edges k (t c.at).first None (path c.at))) (let e : 0 + c.at ≡ c.at = omega arith in e)
       c.some))
 
@@ -257,8 +258,8 @@ module _ (net : Net) (formed : IsFormed net) (room : HasRoom net) (rs : List (Li
   some_holder r busy = elim (cases_Bool (passes (t s) l))
       as (λ _. list_any (holder r) (range_with_len 0 (length rs)) ≡ true) [
         | inl pass ↦
-            let one = slice_index regs (layer_in net s l) in
-            let two = slice_index regs (layer_in net s (across l)) in
+            let one = slice_index regs (layer_at net s l) in
+            let two = slice_index regs (layer_at net s (across l)) in
             let both : bit_at (bit_or one two) r ≡ 1 =
             sym (ap (λ b. bit_at (cond b (bit_or one two) one) r) pass) ∙ busy in
             let most = bit_at_or one two r in
@@ -277,8 +278,8 @@ module _ (net : Net) (formed : IsFormed net) (room : HasRoom net) (rs : List (Li
         | inr alone ↦ any_weaker (holds r l) (holder r) (range_with_len 0 (length rs))
             (λ x h. or_left (holds r l x) (passes (t s) l && holds r (across l) x) h)
             (some_holds r l (sym (ap
-            (λ b. bit_at (cond b (bit_or (slice_index regs (layer_in net s l))
-            (slice_index regs (layer_in net s (across l)))) (slice_index regs (layer_in net s l)))
+            (λ b. bit_at (cond b (bit_or (slice_index regs (layer_at net s l))
+            (slice_index regs (layer_at net s (across l)))) (slice_index regs (layer_at net s l)))
             r) alone) ∙ busy))
       ]
 

@@ -15,36 +15,36 @@ use Rattle.net_form.specs.declared.net.TieEnd.{TieEnd}
 use Rattle.net_form.specs.Admitted.{strand_at, in_register}
 use Rattle.net_form.specs.InUse.{mark}
 use Rattle.net_laws.specs.Built.{IsBuilt}
-use Rattle.al_laws.specs.Greedy.{IsEnd, IsOpen, MayEnd, clash, mask_at, group_ends}
+use Rattle.al_laws.specs.Greedy.{IsEnd, IsOpen, MayEnd, clash, mask_on, group_ends}
 use Rattle.al_laws.specs.Greedy.IsEnd.{entry, exit}
 use Rattle.al_laws.specs.Parts.{layer_at}
 use Rattle.al_laws.proofs.EndsAnywhere.{open_ends, memory_open}
 use Rattle.al_edge.specs.GroupEnds.{ends_of, end_layer}
-use Rattle.al_edge.specs.OpenPlaces.{is_free, suits, suits_all, whole_layer, IsInMasks}
+use Rattle.al_edge.specs.OpenPlaces.{is_unmarked, may_be, suits_all, whole_layer, IsInMasks}
 use Rattle.al_edge.specs.OpenPlaces.{AreMarked}
 use Rattle.al_edge.proofs.GroupMembers.{IsMember, all_members, each_end, this_in}
 
 -- ---- what the test says of each end
 
 module _ (net : Net) (regs : List ℕ) (g : ℕ) (p : Place) (all : suits_all net regs g p ≡ true) where
-  each : All (λ (e : TieEnd). suits net regs p e ≡ true) (ends_of net g)
-  each = AllPass-from_list_all (suits net regs p) (ends_of net g) all
+  each : All (λ (e : TieEnd). may_be net regs p e ≡ true) (ends_of net g)
+  each = AllPass-from_list_all (may_be net regs p) (ends_of net g) all
 
   suits_end : (s : ℕ) → s < length net.strands → (l : ℕ) → IsEnd net g s l
-      → (allows (mask_at net s l) (number p) && is_free regs (layer_at net s l) p) ≡ true
-  suits_end s lt l (entry is) = (each_end net g (λ (e : TieEnd). suits net regs p e ≡ true) each s
+      → (allows (mask_on net s l) (number p) && is_unmarked regs (layer_at net s l) p) ≡ true
+  suits_end s lt l (entry is) = (each_end net g (λ (e : TieEnd). may_be net regs p e ≡ true) each s
       lt).0 (this_in g (strand_at net s).entry_group is)
-  suits_end s lt l (exit is) = (each_end net g (λ (e : TieEnd). suits net regs p e ≡ true) each s
+  suits_end s lt l (exit is) = (each_end net g (λ (e : TieEnd). may_be net regs p e ≡ true) each s
       lt).1 (this_in g (strand_at net s).exit_group is)
 
   pub in_masks : IsInMasks net g p
-  in_masks s l lt end = (and_true (allows (mask_at net s l) (number p))
-      (is_free regs (layer_at net s l) p) (suits_end s lt l end)).0
+  in_masks s l lt end = (and_true (allows (mask_on net s l) (number p))
+      (is_unmarked regs (layer_at net s l) p) (suits_end s lt l end)).0
 
   pub frees : (s l : ℕ) → s < length net.strands → IsEnd net g s l
-      → is_free regs (layer_at net s l) p ≡ true
-  frees s l lt end = (and_true (allows (mask_at net s l) (number p))
-      (is_free regs (layer_at net s l) p) (suits_end s lt l end)).1
+      → is_unmarked regs (layer_at net s l) p ≡ true
+  frees s l lt end = (and_true (allows (mask_on net s l) (number p))
+      (is_unmarked regs (layer_at net s l) p) (suits_end s lt l end)).1
 
 -- ---- places that are in one register
 
@@ -85,7 +85,7 @@ clash_turned p q none = elim (cases_Bool (clash q p)) as (λ _. clash q p ≡ fa
 ]
 
 not_free : (regs : List ℕ) (n : ℕ) (p : Place) → has_register (number p) ≡ true
-    → mark regs n (register_of (number p)) ≡ 1 → is_free regs n p ≡ false
+    → mark regs n (register_of (number p)) ≡ 1 → is_unmarked regs n p ≡ false
 not_free regs n p has is = ap not (and_from (has_register (number p))
     (eqb (mark regs n (register_of (number p))) 1) has
     (eq-eqb (mark regs n (register_of (number p))) 1 is))
@@ -120,10 +120,10 @@ module _ (net : Net) (places : List Place) (regs : List ℕ) (marked : AreMarked
   }
 
   free_there : IsOpen net (record { places = places }) (length places) p → (e : TieEnd)
-      → IsMember net (length places) e → is_free regs (whole_layer net e) p ≡ true
+      → IsMember net (length places) e → is_unmarked regs (whole_layer net e) p ≡ true
   free_there opened e member = elim (cases_Bool (has_register (number p) && eqb
       (mark regs (whole_layer net e) (register_of (number p))) 1))
-      as (λ _. is_free regs (whole_layer net e) p ≡ true) [
+      as (λ _. is_unmarked regs (whole_layer net e) p ≡ true) [
         | inl yes_ ↦
             let both = and_true (has_register (number p))
             (eqb (mark regs (whole_layer net e) (register_of (number p))) 1) yes_ in
@@ -138,10 +138,10 @@ module _ (net : Net) (places : List Place) (regs : List ℕ) (marked : AreMarked
 
   pub opened_suits : IsOpen net (record { places = places }) (length places) p
       → suits_all net regs (length places) p ≡ true
-  opened_suits opened = list_all-from_AllPass (suits net regs p) (ends_of net (length places))
-      (All-weaker (IsMember net (length places)) (λ (e : TieEnd). suits net regs p e ≡ true)
-      (λ e member. and_from (allows (mask_at net e.strand (end_layer net e)) (number p))
-      (is_free regs (whole_layer net e) p)
+  opened_suits opened = list_all-from_AllPass (may_be net regs p) (ends_of net (length places))
+      (All-weaker (IsMember net (length places)) (λ (e : TieEnd). may_be net regs p e ≡ true)
+      (λ e member. and_from (allows (mask_on net e.strand (end_layer net e)) (number p))
+      (is_unmarked regs (whole_layer net e) p)
       (opened.mask e.strand (end_layer net e) member.there member.end)
       (free_there opened e member)) (ends_of net (length places)) (all_members net (length places)))
 
@@ -150,10 +150,10 @@ pub memory_suits : (net : Net) → IsBuilt net → (regs : List ℕ) (g : ℕ)
     → suits_all net regs g Mem ≡ true
 memory_suits net built regs g =
     let opened = memory_open net built (record { places = [] }) g in
-    list_all-from_AllPass (suits net regs Mem) (ends_of net g)
-    (All-weaker (IsMember net g) (λ (e : TieEnd). suits net regs Mem e ≡ true)
-    (λ e member. and_from (allows (mask_at net e.strand (end_layer net e)) (number Mem))
-    (is_free regs (whole_layer net e) Mem)
+    list_all-from_AllPass (may_be net regs Mem) (ends_of net g)
+    (All-weaker (IsMember net g) (λ (e : TieEnd). may_be net regs Mem e ≡ true)
+    (λ e member. and_from (allows (mask_on net e.strand (end_layer net e)) (number Mem))
+    (is_unmarked regs (whole_layer net e) Mem)
     (opened.mask e.strand (end_layer net e) member.there member.end) refl)
     (ends_of net g) (all_members net g))
 

@@ -9,7 +9,7 @@ use Rattle.std.proofs.lemmas.List.Elements.{All-nil, All-cons, All-head, All-tai
 use Rattle.pra_base.specs.declared.ids.Place.{Place}
 use Rattle.pra_base.specs.declared.ids.Place.TheVariants.{Eax, Ecx, Edx, Ebx, Esi, Edi}
 use Rattle.pra_base.specs.Places.{number, allows, is_register}
-use Rattle.al_edge.specs.Choice.{six, is_open, pick}
+use Rattle.al_edge.specs.Choice.{six, may_pick, pick}
 
 record IsFound (f : Place → Bool) (P : Place → Type 0) (p : Place) : Type 0 where
   passes : f p ≡ true
@@ -39,7 +39,7 @@ pub record IsPicked (mask busy : ℕ) (p : Place) : Type 0 where
 abbrev IsFull : ℕ → ℕ → Place → Type 0
 IsFull mask busy p = allows mask (number p) ≡ true → bit_at busy (number p) ≡ 1
 
-closed : (mask busy : ℕ) (p : Place) → is_open mask busy p ≡ false → IsFull mask busy p
+closed : (mask busy : ℕ) (p : Place) → may_pick mask busy p ≡ false → IsFull mask busy p
 closed mask busy p no_ has =
     elim (and_cases (allows mask (number p)) (not (eqb (bit_at busy (number p)) 1)) no_)
     as (λ _. bit_at busy (number p) ≡ 1) [
@@ -51,7 +51,7 @@ closed mask busy p no_ has =
 -- a register is picked, or all of the mask are busy
 pub picked : (mask busy : ℕ) → IsPicked mask busy (pick mask busy) ⊎
     ((r : ℕ) → r < 6 → allows mask r ≡ true → bit_at busy r ≡ 1)
-picked mask busy = by (found (is_open mask busy) (λ p. is_register (number p) ≡ true) six Eax
+picked mask busy = by (found (may_pick mask busy) (λ p. is_register (number p) ≡ true) six Eax
     registers)
   where
     P : Place → Type 0
@@ -65,7 +65,7 @@ picked mask busy = by (found (is_open mask busy) (λ p. is_register (number p) �
         (All-cons (λ p. is_register (number p) ≡ true) Esi (Edi ∷ []) refl
         (All-cons (λ p. is_register (number p) ≡ true) Edi [] refl (All-nil _))))))
 
-    full : All (λ p. is_open mask busy p ≡ false) six → (r : ℕ) → r < 6 → allows mask r ≡ true →
+    full : All (λ p. may_pick mask busy p ≡ false) six → (r : ℕ) → r < 6 → allows mask r ≡ true →
         bit_at busy r ≡ 1
     full none zero lt = closed mask busy Eax (none 0 Eax (omega arith))
     full none (suc zero) lt = closed mask busy Ecx (none 1 Eax (omega arith))
@@ -76,8 +76,8 @@ picked mask busy = by (found (is_open mask busy) (λ p. is_register (number p) �
         closed mask busy Edi (none 5 Eax (omega arith))
     full none (suc (suc (suc (suc (suc (suc r)))))) lt = absurd (omega (arith, lt))
 
-    by : IsFound (is_open mask busy) (λ p. is_register (number p) ≡ true) (pick mask busy) ⊎
-        All (λ p. is_open mask busy p ≡ false) six
+    by : IsFound (may_pick mask busy) (λ p. is_register (number p) ≡ true) (pick mask busy) ⊎
+        All (λ p. may_pick mask busy p ≡ false) six
         → IsPicked mask busy (pick mask busy) ⊎
         ((r : ℕ) → r < 6 → allows mask r ≡ true → bit_at busy r ≡ 1)
     by (inl f) = inl (record {

@@ -25,13 +25,13 @@ use Rattle.net_form.specs.InUse.{mark}
 use Rattle.net_form.specs.Rooms.{IsRoomOf}
 use Rattle.net_form.proofs.Marking.{mark-small}
 use Rattle.net_laws.proofs.Found.{first_that}
-use Rattle.al_laws.specs.Greedy.{IsEnd, IsOpen, has_end, Precedes, IsGreedy}
+use Rattle.al_laws.specs.Greedy.{IsEnd, IsOpen, has_end, Outranks, IsGreedy}
 use Rattle.al_laws.specs.Greedy.IsEnd.{entry, exit}
 use Rattle.al_laws.specs.Parts.{layer_at}
 use Rattle.al_edge.specs.GroupEnds.{ends_of, end_layer}
 use Rattle.al_edge.specs.OpenPlaces.{suits_all, whole_layer, comes_there, IsUsedBy, AreMarked}
 use Rattle.al_edge.specs.Planned.{IsChosen, ArePlanned}
-use Rattle.al_edge.specs.Weighed.{IsCostAt, IsBest, group_sum}
+use Rattle.al_edge.specs.Weighed.{IsCostAt, IsLightest, group_sum}
 use Rattle.al_edge.proofs.GroupMembers.{IsMember, all_members, each_end, this_in}
 use Rattle.al_edge.proofs.OpenPlaces.{opens, opened_suits}
 
@@ -190,7 +190,7 @@ module _ (net : Net) (places : List Place) (p : Place) (old new : List ℕ)
 
 module _ (net : Net) (w : Weights) (prices : Prices) where
   new_chosen : (places : List Place) (regs : List ℕ) (p : Place) → AreMarked net places regs
-      → IsBest net w prices (suits_all net regs (length places)) (length places) p
+      → IsLightest net w prices (suits_all net regs (length places)) (length places) p
       → IsChosen net w prices (record { places = places }) (length places) p
   new_chosen places regs p marked best = record {
     least = best.least;
@@ -201,7 +201,7 @@ module _ (net : Net) (w : Weights) (prices : Prices) where
 
   pub planned_more : (old new : Taken) (g : ℕ) (places : List Place) (p : Place)
       → ArePlanned net w prices old g places
-      → IsBest net w prices (suits_all net old.regs g) g p → IsRoomOf net new
+      → IsLightest net w prices (suits_all net old.regs g) g p → IsRoomOf net new
       → ((n r : ℕ) → mark new.regs n r ≡ min 1 (mark old.regs n r + count_by
       (comes_there net n r p) (ends_of net g)))
       → ArePlanned net w prices new (g + 1) (places ++ p ∷ [])
@@ -227,7 +227,7 @@ module _ (net : Net) (w : Weights) (prices : Prices) where
               (length places)) same
               (chosen_more net places p (length places) (omega arith) w prices p
               (new_chosen places old.regs p are.marked
-              (subst (λ k. IsBest net w prices (suits_all net old.regs k) k p) (sym are.many)
+              (subst (λ k. IsLightest net w prices (suits_all net old.regs k) k p) (sym are.many)
               best))))
         ];
   }
@@ -250,11 +250,11 @@ module _ (net : Net) (w : Weights) (prices : Prices) where
     costs_of (Some r) each p is = (each r refl).costs
 
     first_of : (o : Option Place) (each : Each o) (p : Place) → o ≡ Some p → (q : Place)
-        → IsOpen net plan g q → Precedes (λ q. group_sum net g (least_of o each q)) p q
+        → IsOpen net plan g q → Outranks (λ q. group_sum net g (least_of o each q)) p q
     unfolding least_of
     first_of None each p is = absurd (none_some is)
     first_of (Some r) each p is = subst (λ p. (q : Place) → IsOpen net plan g q
-        → Precedes (λ q. group_sum net g ((each r refl).least q)) p q) (some_same r p is)
+        → Outranks (λ q. group_sum net g ((each r refl).least q)) p q) (some_same r p is)
         (each r refl).first
 
   pub greedy : (used : Taken) (places : List Place)

@@ -26,7 +26,8 @@ use Rattle.net_form.specs.InUse.{mark}
 use Rattle.net_form.proofs.PathUses.{uses}
 use Rattle.net_laws.specs.Homes.{HasRoom, is_there, passes, mask_in, allowed, has_home, home_of}
 use Rattle.net_laws.specs.Homes.{yields_at, yields, needs_register}
-use Rattle.al_edge.specs.Choice.{layer_in, busy_at, pick, place_for, path_for}
+use Rattle.al_laws.specs.Parts.{layer_at}
+use Rattle.al_edge.specs.Choice.{busy_at, pick, place_for, path_for}
 use Rattle.al_edge.proofs.Uses.{held_is, held_once, uses_at, uses_below, count_push}
 use Rattle.al_edge.proofs.Picked.{picked, IsPicked}
 use Rattle.al_edge.proofs.Free.{home_apart, register_number, not_full}
@@ -100,7 +101,7 @@ module _ (net : Net) (regs : List ℕ) (s l : ℕ) (there : is_there (strand_at 
 
   same_busy : busy_at net regs s l ≡ busy_at net regs s (across l)
   same_busy =
-      let at : ℕ → ℕ = λ k. slice_index regs (layer_in net s k) in
+      let at : ℕ → ℕ = λ k. slice_index regs (layer_at net s k) in
       ap (λ t. cond t (bit_or (at l) (at (across l))) (at l)) pass
       ∙ or_comm (at l) (at (across l))
       ∙ ap (λ k. bit_or (at (across l)) (at k)) (sym back)
@@ -164,11 +165,11 @@ module _ (net : Net) (formed : IsFormed net) (room : HasRoom net) (rs : List (Li
       ]
 
   free_at : (l r : ℕ) → is_there t l ≡ true → in_register r (place_for net regs s l) ≡ true →
-      mark regs (layer_in net s l) r ≡ 0
+      mark regs (layer_at net s l) r ≡ 0
   free_at l r there is =
       let p = place_for net regs s l in
       let parts = and_parts (has_register (number p)) (eqb (register_of (number p)) r) is in
-      elim (cases_Bool (needs_register net s l)) as (λ _. mark regs (layer_in net s l) r ≡ 0) [
+      elim (cases_Bool (needs_register net s l)) as (λ _. mark regs (layer_at net s l) r ≡ 0) [
         | inr no_ ↦ absurd (both_ways (has_register (number p))
             (ap (λ q. has_register (number q)) (is_home l no_) ∙ home_apart t) parts.0)
         | inl need ↦
@@ -178,11 +179,11 @@ module _ (net : Net) (formed : IsFormed net) (room : HasRoom net) (rs : List (Li
             sym (register_number (number (pick (allowed t l) (busy_at net regs s l)))
             g.register) ∙ sym (ap (λ q. register_of (number q)) same)
             ∙ eqb-true (register_of (number p)) r parts.1 in
-            let one = slice_index regs (layer_in net s l) in
+            let one = slice_index regs (layer_at net s l) in
             let small = bit_at-lt one r in
             let not_one : bit_at one r ≡ 1 → ⊥ =
             λ e. g.free (ap (bit_at (busy_at net regs s l)) at_r ∙ busy (passes t l) one
-            (slice_index regs (layer_in net s (across l))) r e) in
+            (slice_index regs (layer_at net s (across l))) r e) in
             omega (arith, small, not_one)
       ]
     where

@@ -17,12 +17,12 @@ use Rattle.net_form.specs.declared.prices.Prices.{Prices}
 use Rattle.net_form.specs.Admitted.{strand_at}
 use Rattle.net_dual.specs.Priced.{pay}
 use Rattle.net_dual.proofs.Totals.{total-append, total-agree}
-use Rattle.al_laws.specs.Greedy.{is_group, has_end, Precedes}
+use Rattle.al_laws.specs.Greedy.{is_group, has_end, Outranks}
 use Rattle.al_edge.specs.GroupEnds.{ends_of, counts}
 use Rattle.al_edge.specs.OpenPlaces.{suits_all}
 use Rattle.al_edge.specs.Cheapest.{slot, IsCheapest}
 use Rattle.al_edge.specs.Weighed.{IsCostAt, IsSumAt, IsWeight, group_sum, IsSlot, AreWeights}
-use Rattle.al_edge.specs.Weighed.{IsBest}
+use Rattle.al_edge.specs.Weighed.{IsLightest}
 use Rattle.al_edge.proofs.GroupMembers.{each_end, sums_agree}
 
 module _ (net : Net) (w : Weights) (prices : Prices) (g : ℕ) (p : Place) where
@@ -170,7 +170,7 @@ module _ (net : Net) (w : Weights) (prices : Prices) (regs : List ℕ) (g : ℕ)
   least : Place → ℕ → ℤ
   least q s = cost_of q (slot weights q) (here q) s
 
-  pub best : IsBest net w prices (suits_all net regs g) g p
+  pub best : IsLightest net w prices (suits_all net regs g) g p
   unfolding least
   best = record {
     least = least;
@@ -181,7 +181,7 @@ module _ (net : Net) (w : Weights) (prices : Prices) (regs : List ℕ) (g : ℕ)
         let mine = sum_is p (slot weights p) (here p) cheap.weight cheap.is in
         let other = sum_is q (slot weights q) (here q) some.0 some.1 in
         elim (cheap.first q some.0 some.1)
-        as (λ _. Precedes (λ q. group_sum net g (least q)) p q) [
+        as (λ _. Outranks (λ q. group_sum net g (least q)) p q) [
           | inl less ↦ inl (omega (arith, ints, less, mine, other))
           | inr same ↦ inr (mine ∙ same.0 ∙ sym other, same.1)
         ];

@@ -29,7 +29,7 @@ use Rattle.net_form.specs.Flow.{same_start}
 use Rattle.net_form.specs.Strands.{across}
 use Rattle.net_form.specs.Admitted.{strand_at, no_strand, in_mask, stays_across, is_across}
 use Rattle.net_form.specs.Admitted.{uses_bundle, uses_memory, KeepsTie, IsAdmitted}
-use Rattle.net_form.specs.Cost.{place_at}
+use Rattle.net_form.specs.Cost.{route_at}
 use Rattle.net_form.specs.Formed.{IsFormed, IsStrandOf}
 use Rattle.net_form.proofs.PlaceEquality.{same_place-refl, same_place-true, same_start-refl}
 use Rattle.net_form.proofs.RoutesConserve.{flow_conserves}
@@ -191,7 +191,7 @@ module _ (net : Net) (formed : IsFormed net) (room : HasRoom net) (rs : List (Li
 
   -- ---- places
 
-  at_place : (x l : ℕ) → x < length rs → is_there (t x) l ≡ true → place_at net routes x l ≡
+  at_place : (x l : ℕ) → x < length rs → is_there (t x) l ≡ true → route_at net routes x l ≡
       Some (place x l)
   at_place x l lt there =
       let p = and_parts (leb (t x).first l) (leb l (t x).last) there in
@@ -255,7 +255,7 @@ module _ (net : Net) (formed : IsFormed net) (room : HasRoom net) (rs : List (Li
       gives)))
 
   arrives_at : (x l : ℕ) → x < length rs → is_there (t x) l ≡ true → (b : Bool) →
-      same_start (place_at net routes x l) (Some Mem) ≡ b → (b ≡ true → place x l ≡ Mem)
+      same_start (route_at net routes x l) (Some Mem) ≡ b → (b ≡ true → place x l ≡ Mem)
   arrives_at x l lt there b is yes_ = same_place-true (place x l) Mem
       (sym (ap (λ o. same_start o (Some Mem)) (at_place x l lt there)) ∙ is ∙ yes_)
 
@@ -275,11 +275,11 @@ module _ (net : Net) (formed : IsFormed net) (room : HasRoom net) (rs : List (Li
         | inl same ↦ let one = one_end m same (flow net routes) in omega (arith, one, small_a)
         | inr two ↦
             let sum = two_ends m two (flow net routes) in
-            elim (cases_Bool (same_start (place_at net routes m.left m.left_layer) (Some Mem)))
+            elim (cases_Bool (same_start (route_at net routes m.left m.left_layer) (Some Mem)))
             as (λ _. count_by (uses_memory m) (flow net routes) ≤ 1) [
               | inr no_ ↦ let z = ap bit no_ in omega (arith, sum, a, z, small_b)
               | inl left ↦ elim (cases_Bool
-                  (same_start (place_at net routes m.right m.right_layer) (Some Mem)))
+                  (same_start (route_at net routes m.right m.right_layer) (Some Mem)))
                   as (λ _. count_by (uses_memory m) (flow net routes) ≤ 1) [
                     | inr no_ ↦ let z = ap bit no_ in omega (arith, sum, b, z, small_a)
                     | inl right ↦ absurd (not_both i d i_lt
@@ -314,11 +314,11 @@ module _ (net : Net) (formed : IsFormed net) (room : HasRoom net) (rs : List (Li
       let b = at_place tie.to (t tie.to).first (omega (arith, every, to_lt)) starts
       ∙ ap Some (((placed tie.to (omega (arith, every, to_lt))).good (t tie.to).first
       starts).kept (room.entries i d i_lt)) in
-      let same : place_at net routes tie.from (t tie.from).last ≡ place_at net routes tie.to
+      let same : route_at net routes tie.from (t tie.from).last ≡ route_at net routes tie.to
       (t tie.to).first = a ∙ ap (λ c. Some (cond c Const Mem)) (room.alike i d i_lt) ∙ sym b in
       tie_kept net routes are_routes tie
-      (ap (λ o. same_start o (place_at net routes tie.to (t tie.to).first)) same
-      ∙ same_start-refl (place_at net routes tie.to (t tie.to).first))
+      (ap (λ o. same_start o (route_at net routes tie.to (t tie.to).first)) same
+      ∙ same_start-refl (route_at net routes tie.to (t tie.to).first))
 
   pub admitted : IsAdmitted net (flow net routes)
   admitted = record {
@@ -340,7 +340,7 @@ module _ (net : Net) (formed : IsFormed net) (room : HasRoom net) (rs : List (Li
     there : is_there (t x) l ≡ true
     is : p ≡ place x l
 
-  where_is : (x l : ℕ) (p : Place) → place_at net routes x l ≡ Some p → IsThere x l p
+  where_is : (x l : ℕ) (p : Place) → route_at net routes x l ≡ Some p → IsThere x l p
   where_is x l p at = elim (cases_Bool (leb (t x).first l)) as (λ _. IsThere x l p) [
     | inr early ↦ absurd (none_some
         (sym (ap (λ b. cond b (slice_get (path x) (l - (t x).first)) None) early) ∙ at))

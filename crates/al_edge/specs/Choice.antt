@@ -10,29 +10,25 @@ use Rattle.pra_base.specs.Places.{number, allows}
 use Rattle.net_form.specs.declared.net.Net.{Net}
 use Rattle.net_form.specs.Strands.{across}
 use Rattle.net_form.specs.Admitted.{strand_at}
-use Rattle.net_form.specs.Index.{first_layer}
 use Rattle.net_laws.specs.Homes.{home_of, passes, allowed, needs_register}
+use Rattle.al_laws.specs.Parts.{layer_at}
 
 abbrev pub six : List Place
 six = Eax ∷ Ecx ∷ Edx ∷ Ebx ∷ Esi ∷ Edi ∷ []
 
-abbrev pub is_open : ℕ → ℕ → Place → Bool
-is_open mask busy p = allows mask (number p) && not (nat_eq (bit_at busy (number p)) 1)
+abbrev pub may_pick : ℕ → ℕ → Place → Bool
+may_pick mask busy p = allows mask (number p) && not (nat_eq (bit_at busy (number p)) 1)
 
 -- the first register of the mask that is not among the busy ones, or EAX where there is none
 abbrev pub pick : ℕ → ℕ → Place
-pick mask busy = unwrap_or (find (is_open mask busy) six) Eax
-
--- the layer of a strand, where the layers of all blocks are counted together
-abbrev pub layer_in : Net → ℕ → ℕ → ℕ
-layer_in net s l = first_layer net.blocks (strand_at net s).block.0 + l
+pick mask busy = unwrap_or (find (may_pick mask busy) six) Eax
 
 -- the registers in use where the strand would be
 abbrev pub busy_at : Net → List ℕ → ℕ → ℕ → ℕ
 busy_at net regs s l =
-    let here = slice_index regs (layer_in net s l) in
+    let here = slice_index regs (layer_at net s l) in
     if passes (strand_at net s) l
-    then bit_or here (slice_index regs (layer_in net s (across l))) else here
+    then bit_or here (slice_index regs (layer_at net s (across l))) else here
 
 abbrev pub place_for : Net → List ℕ → ℕ → ℕ → Place
 place_for net regs s l =

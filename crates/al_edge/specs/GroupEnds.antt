@@ -13,13 +13,13 @@ use Rattle.al_laws.specs.Greedy.{is_group}
 abbrev pub ends_of : Net → ℕ → List TieEnd
 ends_of net g = ends_in (members net.strands) g
 
-abbrev pub layer_of : Strand → BlockEnd → ℕ
-layer_of t Entry = t.first
-layer_of t Exit = t.last
+abbrev pub layer_at_end : Strand → BlockEnd → ℕ
+layer_at_end t Entry = t.first
+layer_at_end t Exit = t.last
 
 -- the layer of the end, within its block
 abbrev pub end_layer : Net → TieEnd → ℕ
-end_layer net e = layer_of (strand_at net e.strand) e.end
+end_layer net e = layer_at_end (strand_at net e.strand) e.end
 
 -- it is the first end of its strand that is in the group
 abbrev pub is_first : ℕ → Strand → BlockEnd → Bool

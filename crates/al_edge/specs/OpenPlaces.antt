@@ -8,13 +8,13 @@ use Rattle.net_form.specs.declared.net.Net.{Net}
 use Rattle.net_form.specs.declared.net.TieEnd.{TieEnd}
 use Rattle.net_form.specs.Admitted.{in_register}
 use Rattle.net_form.specs.InUse.{mark}
-use Rattle.al_laws.specs.Greedy.{IsEnd, mask_at}
+use Rattle.al_laws.specs.Greedy.{IsEnd, mask_on}
 use Rattle.al_laws.specs.Parts.{layer_at}
 use Rattle.al_edge.specs.GroupEnds.{ends_of, end_layer}
 
 -- the place is in no register that is marked at layer n
-abbrev pub is_free : List ℕ → ℕ → Place → Bool
-is_free regs n p =
+abbrev pub is_unmarked : List ℕ → ℕ → Place → Bool
+is_unmarked regs n p =
     not (has_register (number p) && nat_eq (mark regs n (register_of (number p))) 1)
 
 -- the layer of an end, where the layers of all blocks are counted together
@@ -22,20 +22,20 @@ abbrev pub whole_layer : Net → TieEnd → ℕ
 whole_layer net e = layer_at net e.strand (end_layer net e)
 
 -- the end may be at the place
-abbrev pub suits : Net → List ℕ → Place → TieEnd → Bool
-suits net regs p e =
-    allows (mask_at net e.strand (end_layer net e)) (number p) &&
-    is_free regs (whole_layer net e) p
+abbrev pub may_be : Net → List ℕ → Place → TieEnd → Bool
+may_be net regs p e =
+    allows (mask_on net e.strand (end_layer net e)) (number p) &&
+    is_unmarked regs (whole_layer net e) p
 
 -- and all ends of the group may
 abbrev pub suits_all : Net → List ℕ → ℕ → Place → Bool
-suits_all net regs g p = list_all (suits net regs p) (ends_of net g)
+suits_all net regs g p = list_all (may_be net regs p) (ends_of net g)
 
 -- the place is in the masks of the group's ends
 abbrev pub IsInMasks : Net → ℕ → Place → Type 0
 IsInMasks net g p =
     (s l : ℕ) → s < length net.strands → IsEnd net g s l →
-    IsTrue (allows (mask_at net s l) (number p))
+    IsTrue (allows (mask_on net s l) (number p))
 
 -- ---- what is marked
 

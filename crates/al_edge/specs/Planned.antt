@@ -7,7 +7,7 @@ use Rattle.net_form.specs.declared.prices.Prices.{Prices}
 use Rattle.net_form.specs.declared.routes.Plan.{Plan}
 use Rattle.net_form.specs.declared.taken.Taken.{Taken}
 use Rattle.net_form.specs.Rooms.{IsRoomOf}
-use Rattle.al_laws.specs.Greedy.{IsOpen, has_end, Precedes}
+use Rattle.al_laws.specs.Greedy.{IsOpen, has_end, Outranks}
 use Rattle.al_edge.specs.OpenPlaces.{AreMarked}
 use Rattle.al_edge.specs.Weighed.{IsCostAt, group_sum}
 
@@ -18,7 +18,7 @@ pub record IsChosen (net : Net) (w : Weights) (prices : Prices) (plan : Plan) (g
   pub costs : (q : Place) (s : ℕ) → IsOpen net plan g q → s < length net.strands →
       has_end net g s ≡ true → IsCostAt net w prices g q s (least q s)
   pub opened : IsOpen net plan g p
-  pub first : (q : Place) → IsOpen net plan g q → Precedes (λ q. group_sum net g (least q)) p q
+  pub first : (q : Place) → IsOpen net plan g q → Outranks (λ q. group_sum net g (least q)) p q
 
 -- so many groups have their places, and the registers of these are marked
 pub record ArePlanned (net : Net) (w : Weights) (prices : Prices) (used : Taken) (g : ℕ)

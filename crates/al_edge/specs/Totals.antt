@@ -41,14 +41,14 @@ AreWide b xs =
     (k : ℕ) → k < 14 → (pos 0 ≤ℤ (number_at xs k +ℤ pos b)) × (number_at xs k ≤ℤ pos b)
 
 -- fourteen numbers of 64 bits are added
-pub record IsAdded (old cost new : ℤ) : Type 0 where
+pub record IsCostAdded (old cost new : ℤ) : Type 0 where
   pub sum : new ≡ old +ℤ cost
   pub low : old ≤ℤ (new +ℤ pos (2 ^ 63))
   pub high : new ≤ℤ (old +ℤ pos (2 ^ 63))
 
-abbrev pub AreAdded : List ℤ → List ℤ → List ℤ → Type 0
-AreAdded old costs new =
-    (k : ℕ) → k < 14 → IsAdded (number_at old k) (number_at costs k) (number_at new k)
+abbrev pub AreCostsAdded : List ℤ → List ℤ → List ℤ → Type 0
+AreCostsAdded old costs new =
+    (k : ℕ) → k < 14 → IsCostAdded (number_at old k) (number_at costs k) (number_at new k)
 
 -- of each open place what it costs the strands of the group
 abbrev pub AreTotals : Net → Weights → Prices → ℕ → List Bool → List ℤ → Type 0

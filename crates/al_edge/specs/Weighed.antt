@@ -11,7 +11,7 @@ use Rattle.net_form.specs.declared.net.TieEnd.{TieEnd}
 use Rattle.net_form.specs.declared.prices.Prices.{Prices}
 use Rattle.net_dual.specs.Paths.{Anywhere, IsLeastCost}
 use Rattle.net_dual.specs.Priced.{total, pay, edge_price}
-use Rattle.al_laws.specs.Greedy.{has_end, group_ends, Precedes}
+use Rattle.al_laws.specs.Greedy.{has_end, group_ends, Outranks}
 use Rattle.al_edge.specs.Cheapest.{slot}
 use Rattle.al_edge.specs.GroupEnds.{counts}
 use Rattle.al_edge.specs.OpenPlaces.{suits_all}
@@ -56,10 +56,10 @@ pub record AreWeights (net : Net) (w : Weights) (prices : Prices) (regs : List �
   pub each : (p : Place) → number p < k → IsSlot net w prices regs g p (slot weights p)
 
 -- of the places that are open, place p costs the strands of the group least
-pub record IsBest (net : Net) (w : Weights) (prices : Prices) (is_open : Place → Bool) (g : ℕ)
+pub record IsLightest (net : Net) (w : Weights) (prices : Prices) (is_open : Place → Bool) (g : ℕ)
     (p : Place) : Type 0 where
   pub least : Place → ℕ → ℤ
   pub costs : (q : Place) (s : ℕ) → is_open q ≡ true → s < length net.strands →
       has_end net g s ≡ true → IsCostAt net w prices g q s (least q s)
   pub opened : is_open p ≡ true
-  pub first : (q : Place) → is_open q ≡ true → Precedes (λ q. group_sum net g (least q)) p q
+  pub first : (q : Place) → is_open q ≡ true → Outranks (λ q. group_sum net g (least q)) p q

@@ -1,21 +1,21 @@
 // The first register of a mask that is free.
 
 ghost use Rattle.std.specs.Prelude.{◌≡◌, find};
-ghost use Rattle.al_edge.specs.Choice.{is_open, pick};
+ghost use Rattle.al_edge.specs.Choice.{may_pick, pick};
 
 use pra_base::places::allows;
 use pra_base::{Mask, Place};
 
 // Whether a register is in the mask and not among the busy ones.
 fn is_open(mask: Mask, busy: u8, place: Place) -> bool
-    ensures { result ≡ is_open mask busy place }
+    ensures { result ≡ may_pick mask busy place }
 {
     allows(mask, place) && !allows(Mask::from(busy), place)
 }
 
 // The first of some registers that is open.
 fn first_open(places: &[Place], mask: Mask, busy: u8) -> Option<Place>
-    ensures { result ≡ find (is_open mask busy) places.now }
+    ensures { result ≡ find (may_pick mask busy) places.now }
 {
     places
         .iter()

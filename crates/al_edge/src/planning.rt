@@ -12,7 +12,7 @@ ghost use Rattle.al_laws.specs.Greedy.{IsGreedy};
 ghost use Rattle.al_edge.specs.GroupEnds.{ends_of};
 ghost use Rattle.al_edge.specs.OpenPlaces.{comes_there, suits_all};
 ghost use Rattle.al_edge.specs.Planned.{ArePlanned};
-ghost use Rattle.al_edge.specs.Weighed.{IsBest};
+ghost use Rattle.al_edge.specs.Weighed.{IsLightest};
 
 use crate::cheapest::cheapest;
 use crate::members::{ends_of, layer_of};
@@ -56,7 +56,7 @@ fn best_place<F: Fn(Event, u32) -> u32>(
     requires free { StandsFor net.now free.now [] }
     requires used { IsRoomOf net.now used.now }
     requires group { group < net.now.groups }
-    ensures best { IsBest net.now (weights_of model.now) prices.now
+    ensures best { IsLightest net.now (weights_of model.now) prices.now
         (suits_all net.now used.now.regs group) group result }
     ensures family { work.new.family ≡ work.old.family }
     ensures reserved { IsReservedFor net.now work.new }

@@ -12,10 +12,10 @@ ghost use Rattle.net_form.specs.Rooms.{IsRoomOf};
 ghost use Rattle.net_laws.specs.Built.{IsBuilt};
 ghost use Rattle.net_dual.specs.Priced.{AreInRange};
 ghost use Rattle.net_path.specs.Desk.{IsReservedFor};
-ghost use Rattle.al_edge.specs.OpenPlaces.{is_free, suits, suits_all, IsInMasks};
+ghost use Rattle.al_edge.specs.OpenPlaces.{is_unmarked, may_be, suits_all, IsInMasks};
 ghost use Rattle.al_edge.specs.Weighed.{IsCostAt, AreWeights};
 ghost use Rattle.al_edge.specs.Totals.{AreOpenBelow, AreInMasks, AreCostsBelow, AreKnown, AreWide};
-ghost use Rattle.al_edge.specs.Totals.{AreAdded, AreTotals};
+ghost use Rattle.al_edge.specs.Totals.{AreCostsAdded, AreTotals};
 
 use crate::cheapest::{PlaceWeights, place_of};
 use crate::members::{counts, ends_of, enters_alone, group_ends, layer_of, leaves_alone, mask_of};
@@ -28,7 +28,7 @@ use pra_base::places::allows;
 // Whether the place is in no register that is in use at the layer.
 fn is_free(used: &Taken, layer: u32, place: Place) -> bool
     requires layer { layer < length used.now.regs }
-    ensures { result ≡ is_free used.now.regs layer place }
+    ensures { result ≡ is_unmarked used.now.regs layer place }
 {
     if place.has_register() {
         !used.uses_register(layer, place.register())
@@ -42,7 +42,7 @@ fn suits(net: &Net, used: &Taken, end: TieEnd, place: Place) -> bool
     requires net { IsFormed net.now }
     requires used { IsRoomOf net.now used.now }
     requires strand { end.strand < length net.now.strands }
-    ensures { result ≡ suits net.now used.now.regs place end }
+    ensures { result ≡ may_be net.now used.now.regs place end }
 {
     allows(mask_of(net, end), place) && is_free(used, layer_of(net, end), place)
 }
@@ -290,7 +290,7 @@ fn add(total: i128, cost: i64) -> i128
 // Adds what a strand costs at each place.
 fn add_all(totals: &mut [i128; 14], costs: &[i64; 14])
     requires wide { AreWide (2 ^ 99) totals.old }
-    ensures { AreAdded totals.old costs.now totals.new }
+    ensures { AreCostsAdded totals.old costs.now totals.new }
 {
     for number in 0..14usize {
         totals[number] = add(totals[number], costs[number]);

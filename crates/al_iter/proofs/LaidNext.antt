@@ -30,7 +30,7 @@ use Rattle.net_dual.specs.Priced.{edge_price}
 use Rattle.net_dual.proofs.Strands.{has_places}
 use Rattle.net_path.specs.Desk.{HasSizes}
 use Rattle.net_path.proofs.Renewed.{renewed_at, renewed_other, renewed_sizes}
-use Rattle.al_laws.specs.Laid.{AreLaid, AreLaidBefore, is_before, plan_ends}
+use Rattle.al_laws.specs.Laid.{AreLaid, AreLaidBefore, was_laid, plan_ends}
 use Rattle.al_laws.specs.Parts.{ClearOf, part}
 use Rattle.al_laws.proofs.Laid.{laid_admitted}
 use Rattle.al_laws.proofs.Once.{path_register_once, path_pair_once}
@@ -124,42 +124,42 @@ module _ (net : Net) (built : IsBuilt net) (w : Weights) (prices : Prices) (plan
     other : (x : ℕ) → x ≢ s → path_in now x ≡ path_in routes x
     other = renewed_other net routes now s ps so_far.sizes lt size refl
 
-    itself : (j : ℕ) → j ≤ k → is_before order j s ≡ false
+    itself : (j : ℕ) → j ≤ k → was_laid order j s ≡ false
     itself j le = not_before (length net.strands) order each j k s le is_next
 
-    differs : (j x : ℕ) → j ≤ k → is_before order j x ≡ true → x ≢ s
-    differs j x le before same = both_ways (is_before order j x)
-        (ap (is_before order j) same ∙ itself j le) before
+    differs : (j x : ℕ) → j ≤ k → was_laid order j x ≡ true → x ≢ s
+    differs j x le before same = both_ways (was_laid order j x)
+        (ap (was_laid order j) same ∙ itself j le) before
 
     -- what those before use is what it was
     before_same : (j : ℕ) → j ≤ k → (g : Edge → ℕ)
-        → sum_by g (part net (is_before order j) routes) ≡ sum_by g
-        (part net (is_before order j) now)
-    before_same j le = parts_agree net (is_before order j) routes now was_routes are_routes
+        → sum_by g (part net (was_laid order j) routes) ≡ sum_by g
+        (part net (was_laid order j) now)
+    before_same j le = parts_agree net (was_laid order j) routes now was_routes are_routes
         (λ x before. sym (other x (differs j x le before)))
 
     -- and with it there is its path
-    joined : (g : Edge → ℕ) → sum_by g (part net (is_before order (k + 1)) now)
-        ≡ sum_by g (path_edges net s ps) + sum_by g (part net (is_before order k) routes)
+    joined : (g : Edge → ℕ) → sum_by g (part net (was_laid order (k + 1)) now)
+        ≡ sum_by g (path_edges net s ps) + sum_by g (part net (was_laid order k) routes)
     joined g =
-        let whole = part_sum net now are_routes (is_before order (k + 1)) g in
+        let whole = part_sum net now are_routes (was_laid order (k + 1)) g in
         let rows = sum_by-agree
-        (λ x. cond (is_before order (k + 1) x) (path_sum net g now x) 0)
+        (λ x. cond (was_laid order (k + 1) x) (path_sum net g now x) 0)
         (λ x. cond (eqb x s) (path_sum net g now x) 0
-        + cond (is_before order k x) (path_sum net g routes x) 0) (numbers net now)
+        + cond (was_laid order k x) (path_sum net g routes x) 0) (numbers net now)
         (λ i d in_. row (get_or (numbers net now) i d)) in
         let both = sum_by-plus (λ x. cond (eqb x s) (path_sum net g now x) 0)
-        (λ x. cond (is_before order k x) (path_sum net g routes x) 0) (numbers net now) in
+        (λ x. cond (was_laid order k x) (path_sum net g routes x) 0) (numbers net now) in
         let one = sum_only (path_sum net g now) s 0 (length net.strands) (omega arith)
         (let l = lt in omega (arith, l)) in
         let own = ap (λ qs. sum_by g (path_edges net s qs)) at in
-        let old = part_sum net routes was_routes (is_before order k) g in
+        let old = part_sum net routes was_routes (was_laid order k) g in
         omega (arith, whole, rows, both, one, own, old)
       where
-        row : (x : ℕ) → cond (is_before order (k + 1) x) (path_sum net g now x) 0
+        row : (x : ℕ) → cond (was_laid order (k + 1) x) (path_sum net g now x) 0
             ≡ cond (eqb x s) (path_sum net g now x) 0
-            + cond (is_before order k x) (path_sum net g routes x) 0
-        row x = join_row (is_before order k x) (eqb x s) (is_before order (k + 1) x)
+            + cond (was_laid order k x) (path_sum net g routes x) 0
+        row x = join_row (was_laid order k x) (eqb x s) (was_laid order (k + 1) x)
             (path_sum net g now x) (path_sum net g routes x) (path_sum net g now x)
             (before_next order k s x is_next)
             (λ before same. differs k x (omega arith) before (eqb-true x s same))
@@ -171,7 +171,7 @@ module _ (net : Net) (built : IsBuilt net) (w : Weights) (prices : Prices) (plan
     path = path_edges net s ps
 
     abbrev before : List Edge
-    before = part net (is_before order k) routes
+    before = part net (was_laid order k) routes
 
     path_once : UsesOnce net path
     path_once = record {
@@ -186,53 +186,53 @@ module _ (net : Net) (built : IsBuilt net) (w : Weights) (prices : Prices) (plan
         (apart_from_nothing net taken path before so_far.stands least.goes.is_clear)
 
     pub stands_next : (new : Taken) → Takes net path taken new
-        → StandsFor net new (part net (is_before order (k + 1)) now)
+        → StandsFor net new (part net (was_laid order (k + 1)) now)
     stands_next new takes = stands_too net (path ++ before)
-        (part net (is_before order (k + 1)) now)
+        (part net (was_laid order (k + 1)) now)
         (λ p. let sum = joined (λ e. cond (p e) 1 0) in
         let parts = count-append p path before in
         omega (arith, sum, parts)) new
         (takes_more net taken new path before so_far.stands once takes)
 
     laid_at : (x : ℕ) → x ≡ s → IsLeast net (edge_price net w prices) (plan_ends net plan x)
-        (ClearOf net (part net (is_before order k) now)) x (path_in now x)
+        (ClearOf net (part net (was_laid order k) now)) x (path_in now x)
     laid_at x same = subst (λ x. IsLeast net (edge_price net w prices) (plan_ends net plan x)
-        (ClearOf net (part net (is_before order k) now)) x (path_in now x)) (sym same)
+        (ClearOf net (part net (was_laid order k) now)) x (path_in now x)) (sym same)
         (subst (IsLeast net (edge_price net w prices) (plan_ends net plan s)
-        (ClearOf net (part net (is_before order k) now)) s) (sym at)
+        (ClearOf net (part net (was_laid order k) now)) s) (sym at)
         (least_past net (edge_price net w prices) (plan_ends net plan s) (UsesNothing net taken)
-        (ClearOf net (part net (is_before order k) now)) s
-        (λ f nothing. apart_too net before (part net (is_before order k) now)
+        (ClearOf net (part net (was_laid order k) now)) s
+        (λ f nothing. apart_too net before (part net (was_laid order k) now)
         (λ p. before_same k (omega arith) (λ e. cond (p e) 1 0)) f
         (apart_from_nothing net taken f before so_far.stands nothing))
         (λ f apart. nothing_from_apart net taken f before so_far.stands
-        (apart_too net (part net (is_before order k) now) before
+        (apart_too net (part net (was_laid order k) now) before
         (λ p. sym (before_same k (omega arith) (λ e. cond (p e) 1 0))) f apart)) ps least))
 
     laid_before : (j x : ℕ) → j < k → slice_get order j ≡ Some x
         → IsLeast net (edge_price net w prices) (plan_ends net plan x)
-        (ClearOf net (part net (is_before order j) now)) x (path_in now x)
+        (ClearOf net (part net (was_laid order j) now)) x (path_in now x)
     laid_before j x less is =
         let apart = others (length net.strands) order each j k x s less is is_next in
         subst (IsLeast net (edge_price net w prices) (plan_ends net plan x)
-        (ClearOf net (part net (is_before order j) now)) x) (sym (other x apart))
+        (ClearOf net (part net (was_laid order j) now)) x) (sym (other x apart))
         (least_past net (edge_price net w prices) (plan_ends net plan x)
-        (ClearOf net (part net (is_before order j) routes))
-        (ClearOf net (part net (is_before order j) now)) x
-        (λ f. apart_too net (part net (is_before order j) routes)
-        (part net (is_before order j) now)
+        (ClearOf net (part net (was_laid order j) routes))
+        (ClearOf net (part net (was_laid order j) now)) x
+        (λ f. apart_too net (part net (was_laid order j) routes)
+        (part net (was_laid order j) now)
         (λ p. before_same j (omega (arith, less)) (λ e. cond (p e) 1 0)) f)
-        (λ f. apart_too net (part net (is_before order j) now)
-        (part net (is_before order j) routes)
+        (λ f. apart_too net (part net (was_laid order j) now)
+        (part net (was_laid order j) routes)
         (λ p. sym (before_same j (omega (arith, less)) (λ e. cond (p e) 1 0))) f)
         (path_in routes x) (so_far.laid j x less is))
 
     pub laid_next : AreLaidBefore net w prices plan order (k + 1) now
     laid_next j x less is = elim (cases_eq j k) as (λ _. IsLeast net (edge_price net w prices)
-        (plan_ends net plan x) (ClearOf net (part net (is_before order j) now)) x
+        (plan_ends net plan x) (ClearOf net (part net (was_laid order j) now)) x
         (path_in now x)) [
           | inl here ↦ subst (λ i. IsLeast net (edge_price net w prices) (plan_ends net plan x)
-              (ClearOf net (part net (is_before order i) now)) x (path_in now x)) (sym here)
+              (ClearOf net (part net (was_laid order i) now)) x (path_in now x)) (sym here)
               (laid_at x (some_same x s (sym is ∙ ap (slice_get order) here ∙ is_next)))
           | inr not ↦ laid_before j x (omega (arith, less, not)) is
         ]
@@ -261,10 +261,10 @@ module _ (net : Net) (built : IsBuilt net) (w : Weights) (prices : Prices) (plan
     (order : List ℕ) (taken : Taken) (room : IsRoomOf net taken) (free : StandsFor net taken [])
   where
     nobody : (p : Edge → Bool) → count_by p [] ≡ count_by p
-        (part net (is_before order 0) (some_routes net))
+        (part net (was_laid order 0) (some_routes net))
     nobody p =
         let sum = part_sum net (some_routes net)
-        (sized_routes net (some_routes net) built (some_sizes net)) (is_before order 0)
+        (sized_routes net (some_routes net) built (some_sizes net)) (was_laid order 0)
         (λ e. cond (p e) 1 0) in
         let none = sum_zero (λ s. 0) 0 (length net.strands) (λ i le. refl) in
         sym (sum ∙ none)
@@ -274,7 +274,7 @@ module _ (net : Net) (built : IsBuilt net) (w : Weights) (prices : Prices) (plan
       sizes = some_sizes net;
       laid = λ k s lt is. absurd (omega (arith, lt));
       room = room;
-      stands = stands_too net [] (part net (is_before order 0) (some_routes net)) nobody taken free;
+      stands = stands_too net [] (part net (was_laid order 0) (some_routes net)) nobody taken free;
     }
 
 -- everybody is laid

@@ -10,7 +10,7 @@ use Rattle.net_form.specs.declared.taken.Taken.{Taken}
 use Rattle.net_form.specs.InUse.{StandsFor}
 use Rattle.net_form.specs.Rooms.{IsRoomOf}
 use Rattle.net_path.specs.Desk.{HasSizes}
-use Rattle.al_laws.specs.Laid.{AreLaidBefore, IsBlocked, is_before}
+use Rattle.al_laws.specs.Laid.{AreLaidBefore, IsBlocked, was_laid}
 use Rattle.al_laws.specs.Parts.{part}
 use Rattle.al_iter.specs.declared.laying.LayFault.{LayFault}
 use Rattle.al_iter.specs.declared.laying.LayFault.TheVariants.{Blocked, OutOfMemory}
@@ -22,7 +22,7 @@ pub record IsLaidSoFar (net : Net) (w : Weights) (prices : Prices) (plan : Plan)
   pub sizes : HasSizes net routes
   pub laid : AreLaidBefore net w prices plan order k routes
   pub room : IsRoomOf net taken
-  pub stands : StandsFor net taken (part net (is_before order k) routes)
+  pub stands : StandsFor net taken (part net (was_laid order k) routes)
 
 -- A strand of the network is blocked, and what is taken is of the network's size.
 pub record IsBlockedStrand (net : Net) (w : Weights) (prices : Prices) (plan : Plan)

@@ -11,7 +11,7 @@ use Rattle.al_laws.specs.Parts.{rest, of_variable}
 use Rattle.al_iter.specs.Room.{IsSpareOf}
 
 -- admitted routes, all that they use marked
-pub record IsKept (net : Net) (spare : Spare) (routes : Routes) : Type 0 where
+pub record AreMarkedRoutes (net : Net) (spare : Spare) (routes : Routes) : Type 0 where
   pub room : IsSpareOf net spare
   pub are_routes : AreRoutes net routes
   pub admitted : IsAdmitted net (flow net routes)

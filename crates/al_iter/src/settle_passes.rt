@@ -12,7 +12,7 @@ ghost use Rattle.net_laws.specs.Built.{IsBuilt};
 ghost use Rattle.net_path.specs.Desk.{IsReservedFor};
 ghost use Rattle.al_laws.specs.Settled.{AreSettled, NoneCheaper, NoneCheaperAt};
 ghost use Rattle.al_iter.specs.Room.{IsSpareOf};
-ghost use Rattle.al_iter.specs.SettleState.{IsKept};
+ghost use Rattle.al_iter.specs.SettleState.{AreMarkedRoutes};
 
 use crate::settle_rows::path_at;
 use crate::settle_strand::change_strand;
@@ -47,8 +47,8 @@ fn change_strands<F: Fn(Event, u32) -> u32>(
     requires kept { Keeps F.Fn model.now }
     requires net { IsBuilt net.now }
     requires work { IsReservedFor net.now work.old }
-    requires state { IsKept net.now spare.old routes.old }
-    ensures state { IsKept net.now spare.new routes.new }
+    requires state { AreMarkedRoutes net.now spare.old routes.old }
+    ensures state { AreMarkedRoutes net.now spare.new routes.new }
     ensures lower { IsTrue result → cost_of net.now (weights_of model.now)
         (flow net.now routes.new) < cost_of net.now (weights_of model.now)
         (flow net.now routes.old) }
@@ -78,8 +78,8 @@ fn change_variables<F: Fn(Event, u32) -> u32>(
     requires kept { Keeps F.Fn model.now }
     requires net { IsBuilt net.now }
     requires work { IsReservedFor net.now work.old }
-    requires state { IsKept net.now spare.old routes.old }
-    ensures state { IsKept net.now spare.new routes.new }
+    requires state { AreMarkedRoutes net.now spare.old routes.old }
+    ensures state { AreMarkedRoutes net.now spare.new routes.new }
     ensures lower { IsTrue result → cost_of net.now (weights_of model.now)
         (flow net.now routes.new) < cost_of net.now (weights_of model.now)
         (flow net.now routes.old) }
@@ -110,8 +110,8 @@ fn change_any<F: Fn(Event, u32) -> u32>(
     requires kept { Keeps F.Fn model.now }
     requires net { IsBuilt net.now }
     requires work { IsReservedFor net.now work.old }
-    requires state { IsKept net.now spare.old routes.old }
-    ensures state { IsKept net.now spare.new routes.new }
+    requires state { AreMarkedRoutes net.now spare.old routes.old }
+    ensures state { AreMarkedRoutes net.now spare.new routes.new }
     ensures lower { IsTrue result → cost_of net.now (weights_of model.now)
         (flow net.now routes.new) < cost_of net.now (weights_of model.now)
         (flow net.now routes.old) }

@@ -15,7 +15,7 @@ ghost use Rattle.net_path.specs.Desk.{path_of, IsReservedFor};
 ghost use Rattle.al_laws.specs.Parts.{rest, only_strand};
 ghost use Rattle.al_laws.specs.Settled.{block_ends, NoneCheaper};
 ghost use Rattle.al_iter.specs.Room.{IsSpareOf};
-ghost use Rattle.al_iter.specs.SettleState.{IsKept};
+ghost use Rattle.al_iter.specs.SettleState.{AreMarkedRoutes};
 
 use crate::settle_price::price_now;
 use crate::settle_rows::{path_at, write_path};
@@ -109,9 +109,9 @@ pub(crate) fn change_strand<F: Fn(Event, u32) -> u32>(
     requires kept { Keeps F.Fn model.now }
     requires net { IsBuilt net.now }
     requires work { IsReservedFor net.now work.old }
-    requires state { IsKept net.now spare.old routes.old }
+    requires state { AreMarkedRoutes net.now spare.old routes.old }
     requires strand { strand < length net.now.strands }
-    ensures state { IsKept net.now spare.new routes.new }
+    ensures state { AreMarkedRoutes net.now spare.new routes.new }
     ensures lower { IsTrue result → cost_of net.now (weights_of model.now)
         (flow net.now routes.new) < cost_of net.now (weights_of model.now)
         (flow net.now routes.old) }

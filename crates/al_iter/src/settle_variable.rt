@@ -13,7 +13,7 @@ ghost use Rattle.net_laws.specs.Built.{IsBuilt};
 ghost use Rattle.net_dual.specs.Paths.{path_in};
 ghost use Rattle.net_path.specs.Desk.{IsReservedFor};
 ghost use Rattle.al_laws.specs.Settled.{NoneCheaperAt};
-ghost use Rattle.al_iter.specs.SettleState.{among, AreStrands, AreOfOne, IsKept, IsAside};
+ghost use Rattle.al_iter.specs.SettleState.{among, AreStrands, AreOfOne, AreMarkedRoutes, IsAside};
 ghost use Rattle.al_iter.specs.SettleSums.{IsUntied, PayAtLeast, sum_of};
 
 use crate::settle_place::{are_shut, draft_strands};
@@ -161,9 +161,9 @@ pub(crate) fn change_variable<F: Fn(Event, u32) -> u32>(
     requires kept { Keeps F.Fn model.now }
     requires net { IsBuilt net.now }
     requires work { IsReservedFor net.now work.old }
-    requires state { IsKept net.now spare.old routes.old }
+    requires state { AreMarkedRoutes net.now spare.old routes.old }
     requires var { var + 1 < length net.now.index.vars }
-    ensures state { IsKept net.now spare.new routes.new }
+    ensures state { AreMarkedRoutes net.now spare.new routes.new }
     ensures lower { IsTrue result → cost_of net.now (weights_of model.now)
         (flow net.now routes.new) < cost_of net.now (weights_of model.now)
         (flow net.now routes.old) }

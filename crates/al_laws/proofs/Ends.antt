@@ -10,7 +10,7 @@ use Rattle.net_form.specs.declared.net.Net.{Net}
 use Rattle.net_form.specs.declared.routes.Routes.{Routes}
 use Rattle.net_form.specs.Flow.{AreRoutes}
 use Rattle.net_form.specs.Admitted.{strand_at, no_strand}
-use Rattle.net_form.specs.Cost.{place_at}
+use Rattle.net_form.specs.Cost.{route_at}
 use Rattle.net_form.specs.Formed.{IsFormed}
 use Rattle.net_dual.specs.Paths.{path_in}
 use Rattle.net_dual.proofs.Strands.{each_long}
@@ -26,7 +26,7 @@ module _ (net : Net) (formed : IsFormed net) (routes : Routes) (has : AreRoutes 
   long : (strand_at net s).first + length (path_in routes s) ≡ (strand_at net s).last + 1
   long = each_long net routes has s lt
 
-  pub at_last : place_at net routes s (strand_at net s).last ≡ slice_get (path_in routes s)
+  pub at_last : route_at net routes s (strand_at net s).last ≡ slice_get (path_in routes s)
       (length (path_in routes s) - 1)
   at_last =
       let o = order in
@@ -38,7 +38,7 @@ module _ (net : Net) (formed : IsFormed net) (routes : Routes) (has : AreRoutes 
       (let e : (strand_at net s).last - (strand_at net s).first ≡ length (path_in routes s) -
       1 = omega (arith, o, l) in e)
 
-  pub at_first : place_at net routes s (strand_at net s).first ≡ slice_get (path_in routes s) 0
+  pub at_first : route_at net routes s (strand_at net s).first ≡ slice_get (path_in routes s) 0
   at_first =
       ap (λ b. cond b
       (slice_get (path_in routes s) ((strand_at net s).first - (strand_at net s).first)) None)

@@ -30,7 +30,7 @@ use Rattle.net_laws.specs.Built.{IsBuilt, IsBlockTie}
 use Rattle.net_dual.specs.Paths.{path_edges, path_in, IsPath, IsLeast}
 use Rattle.net_dual.specs.Priced.{edge_price}
 use Rattle.net_dual.proofs.Strands.{has_places}
-use Rattle.al_laws.specs.Laid.{planned, plan_ends, is_before, AreLaid}
+use Rattle.al_laws.specs.Laid.{planned, plan_ends, was_laid, AreLaid}
 use Rattle.al_laws.specs.Parts.{ClearOf, part}
 use Rattle.al_laws.proofs.Ends.{held, at_last, at_first}
 use Rattle.al_laws.proofs.Once.{path_register_once, path_pair_once, sum_few}
@@ -65,7 +65,7 @@ module _ (net : Net) (built : IsBuilt net) (w : Weights) (prices : Prices) (plan
 
   way : (s : ℕ) (lt : s < length net.strands)
       → IsLeast net (edge_price net w prices) (plan_ends net plan s)
-      (ClearOf net (part net (is_before order (position s lt).0) routes)) s (path_in routes s)
+      (ClearOf net (part net (was_laid order (position s lt).0) routes)) s (path_in routes s)
   way s lt = let p = position s lt in laid p.0 s p.1
 
   path_of : (s : ℕ) → s < length net.strands → IsPath net s (path_in routes s)
@@ -91,7 +91,7 @@ module _ (net : Net) (built : IsBuilt net) (w : Weights) (prices : Prices) (plan
       ap (λ b. cond b (path_sum net (λ e. cond (p e) 1 0) routes s) 0) is in
       omega (arith, sum, le, here, own)
 
-  before : (i j x : ℕ) → i < j → slice_get order i ≡ Some x → is_before order j x ≡ true
+  before : (i j x : ℕ) → i < j → slice_get order i ≡ Some x → was_laid order j x ≡ true
   before i j x lt is =
       let in_ = slice_get_within order i x is in
       let long = length-take j order in
@@ -102,7 +102,7 @@ module _ (net : Net) (built : IsBuilt net) (w : Weights) (prices : Prices) (plan
   -- of two strands the later one is clear of the earlier one
   clear : (p : Edge → Bool) → ((s : ℕ) (lt : s < length net.strands)
       → (count_by p (path_edges net s (path_in routes s)) ≡ 0)
-      ⊎ (count_by p (part net (is_before order (position s lt).0) routes) ≡ 0))
+      ⊎ (count_by p (part net (was_laid order (position s lt).0) routes) ≡ 0))
       → (x y : ℕ) → x ≢ y → x < length net.strands → y < length net.strands
       → 0 < count_by p (path_edges net x (path_in routes x))
       → 0 < count_by p (path_edges net y (path_in routes y)) → ⊥
@@ -111,9 +111,9 @@ module _ (net : Net) (built : IsBuilt net) (w : Weights) (prices : Prices) (plan
       let j = position y y_lt in
       elim (cases_order i.0 j.0) as (λ _. ⊥) [
         | inl same ↦ other (some_same x y (sym i.1 ∙ ap (slice_get order) same ∙ j.1))
-        | inr (inl lt) ↦ later (part_has (is_before order j.0) p x x_lt (before i.0 j.0 x lt i.1))
+        | inr (inl lt) ↦ later (part_has (was_laid order j.0) p x x_lt (before i.0 j.0 x lt i.1))
             one two (apart y y_lt)
-        | inr (inr lt) ↦ later (part_has (is_before order i.0) p y y_lt (before j.0 i.0 y lt j.1))
+        | inr (inr lt) ↦ later (part_has (was_laid order i.0) p y y_lt (before j.0 i.0 y lt j.1))
             two one (apart x x_lt)
       ]
     where
@@ -124,7 +124,7 @@ module _ (net : Net) (built : IsBuilt net) (w : Weights) (prices : Prices) (plan
   once : (p : Edge → Bool) → ((s : ℕ) → count_by p (path_edges net s (path_in routes s)) ≤ 1)
       → ((s : ℕ) (lt : s < length net.strands)
       → (count_by p (path_edges net s (path_in routes s)) ≡ 0)
-      ⊎ (count_by p (part net (is_before order (position s lt).0) routes) ≡ 0))
+      ⊎ (count_by p (part net (was_laid order (position s lt).0) routes) ≡ 0))
       → count_by p (flow net routes) ≤ 1
   once p few apart =
       let g : Edge → ℕ = λ e. cond (p e) 1 0 in

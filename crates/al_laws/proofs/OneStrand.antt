@@ -12,7 +12,7 @@ use Rattle.net_form.specs.declared.net.Net.{Net}
 use Rattle.net_form.specs.declared.routes.Routes.{Routes}
 use Rattle.net_form.specs.Flow.{Edge, flow, AreRoutes}
 use Rattle.net_form.specs.Admitted.{strand_at, uses_bundle, uses_memory, KeepsTie, IsAdmitted}
-use Rattle.net_form.specs.Cost.{place_of, place_at, cost_of}
+use Rattle.net_form.specs.Cost.{place_on, route_at, cost_of}
 use Rattle.net_form.specs.InUse.{AreApart, pair_at, no_pair}
 use Rattle.net_form.specs.Formed.{IsFormed}
 use Rattle.net_form.specs.Tables.{all_tables}
@@ -108,13 +108,13 @@ module _ (net : Net) (formed : IsFormed net) (routes : Routes) (has : AreRoutes 
     ends_new = subst (HasEnds (block_ends net routes s)) (sym here) ends
 
     exit_same : (r : ℕ) → r < length net.strands → is_at_exit net r ≡ true
-        → place_at net new r (strand_at net r).last ≡ place_at net routes r (strand_at net r).last
+        → route_at net new r (strand_at net r).last ≡ route_at net routes r (strand_at net r).last
     exit_same r r_lt at = elim (cases_eq r s)
-        as (λ _. place_at net new r (strand_at net r).last ≡ place_at net routes r
+        as (λ _. route_at net new r (strand_at net r).last ≡ route_at net routes r
         (strand_at net r).last) [
-          | inr other ↦ ap (λ qs. place_of qs (strand_at net r).first (strand_at net r).last)
+          | inr other ↦ ap (λ qs. place_on qs (strand_at net r).first (strand_at net r).last)
               (elsewhere r other)
-          | inl same ↦ subst (λ k. place_at net new k (strand_at net k).last ≡ place_at net routes k
+          | inl same ↦ subst (λ k. route_at net new k (strand_at net k).last ≡ route_at net routes k
               (strand_at net k).last) (sym same)
               (at_last net formed new goes s lt
               ∙ held (λ p. slice_get (path_in new s) (length (path_in new s) - 1) ≡ Some p)
@@ -125,13 +125,13 @@ module _ (net : Net) (formed : IsFormed net) (routes : Routes) (has : AreRoutes 
         ]
 
     entry_same : (r : ℕ) → r < length net.strands → is_at_entry net r ≡ true
-        → place_at net new r (strand_at net r).first ≡ place_at net routes r (strand_at net r).first
+        → route_at net new r (strand_at net r).first ≡ route_at net routes r (strand_at net r).first
     entry_same r r_lt at = elim (cases_eq r s)
-        as (λ _. place_at net new r (strand_at net r).first ≡ place_at net routes r
+        as (λ _. route_at net new r (strand_at net r).first ≡ route_at net routes r
         (strand_at net r).first) [
-          | inr other ↦ ap (λ qs. place_of qs (strand_at net r).first (strand_at net r).first)
+          | inr other ↦ ap (λ qs. place_on qs (strand_at net r).first (strand_at net r).first)
               (elsewhere r other)
-          | inl same ↦ subst (λ k. place_at net new k (strand_at net k).first ≡ place_at net routes
+          | inl same ↦ subst (λ k. route_at net new k (strand_at net k).first ≡ route_at net routes
               k
               (strand_at net k).first) (sym same)
               (at_first net formed new goes s lt

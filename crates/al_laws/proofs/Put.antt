@@ -13,7 +13,7 @@ use Rattle.net_form.specs.declared.routes.Routes.{Routes}
 use Rattle.net_form.specs.Flow.{Edge, same_start, arrives, flow, AreRoutes}
 use Rattle.net_form.specs.Admitted.{strand_at, no_strand, in_mask, stays_across, uses_bundle}
 use Rattle.net_form.specs.Admitted.{uses_memory, KeepsTie, IsAdmitted}
-use Rattle.net_form.specs.Cost.{place_at}
+use Rattle.net_form.specs.Cost.{route_at}
 use Rattle.net_form.specs.InUse.{AreApart, UsesOnce, pair_at, no_pair}
 use Rattle.net_form.specs.Formed.{IsFormed}
 use Rattle.net_form.proofs.PlaceEquality.{same_start-true, same_start-refl}
@@ -94,11 +94,11 @@ module _ (net : Net) (routes : Routes) (has : AreRoutes net routes) where
   -- as often as the path is there
   pub comes : (s l : ℕ) (q : Place)
       → count_by (arrives s l q) (flow net routes) ≡ bit
-      (same_start (place_at net routes s l) (Some q))
+      (same_start (route_at net routes s l) (Some q))
   comes s l q = flow_at net.strands routes.places has s l q no_strand
 
   pub tie_kept : (t : Tie)
-      → place_at net routes t.from (strand_at net t.from).last ≡ place_at net routes t.to
+      → route_at net routes t.from (strand_at net t.from).last ≡ route_at net routes t.to
       (strand_at net t.to).first → KeepsTie net (flow net routes) t
   tie_kept t same p = comes t.from (strand_at net t.from).last p
       ∙ ap (λ o. bit (same_start o (Some p))) same
@@ -110,13 +110,13 @@ module _ (net : Net) (routes : Routes) (has : AreRoutes net routes) where
 
   -- a tie that is kept has one place at both of its ends
   pub kept_tie : (t : Tie) (p : Place) → KeepsTie net (flow net routes) t
-      → place_at net routes t.from (strand_at net t.from).last ≡ Some p
-      → place_at net routes t.to (strand_at net t.to).first ≡ Some p
+      → route_at net routes t.from (strand_at net t.from).last ≡ Some p
+      → route_at net routes t.to (strand_at net t.to).first ≡ Some p
   kept_tie t p keeps at =
       let here = ap (λ o. bit (same_start o (Some p))) at in
       let yes = ap bit (same_start-refl (Some p)) in
       let there = comes t.to (strand_at net t.to).first p in
       let out = comes t.from (strand_at net t.from).last p in
       let same = keeps p in
-      same_start-true (place_at net routes t.to (strand_at net t.to).first) (Some p)
+      same_start-true (route_at net routes t.to (strand_at net t.to).first) (Some p)
       (one_bit _ (omega (arith, here, yes, there, out, same)))

@@ -17,7 +17,7 @@ use Rattle.net_form.specs.declared.routes.Routes.{Routes}
 use Rattle.net_form.specs.InUse.{AreApart, pair_at}
 use Rattle.net_form.specs.Flow.{Edge, flow, AreRoutes}
 use Rattle.net_form.specs.Admitted.{strand_at, uses_bundle, uses_memory, KeepsTie, IsAdmitted}
-use Rattle.net_form.specs.Cost.{place_of, cost_of}
+use Rattle.net_form.specs.Cost.{place_on, cost_of}
 use Rattle.net_form.specs.Rooms.{zero_prices}
 use Rattle.net_form.specs.Tables.{all_tables}
 use Rattle.net_form.proofs.EdgeCosts.{cost_by_edges}
@@ -138,9 +138,9 @@ module _ (net : Net) (built : IsBuilt net) (v : ℕ) (routes new : Routes)
           let there = at_last net built.formed routes has t.from from
           ∙ last_is net built.formed routes has t.from from in
           tie_kept net new goes t
-          (ap (λ qs. place_of qs (strand_at net t.from).first (strand_at net t.from).last)
+          (ap (λ qs. place_on qs (strand_at net t.from).first (strand_at net t.from).last)
           (agree t.from other) ∙ there
-          ∙ sym (ap (λ qs. place_of qs (strand_at net t.to).first (strand_at net t.to).first)
+          ∙ sym (ap (λ qs. place_on qs (strand_at net t.to).first (strand_at net t.to).first)
           (agree t.to (other_variable other))
           ∙ kept_tie net routes has t (last_place net built.formed routes has t.from from)
           (a.ties k d in_) there))

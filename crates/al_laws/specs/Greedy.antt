@@ -44,8 +44,8 @@ group_ends net g p s =
 
 -- ---- open places
 
-abbrev pub mask_at : Net → ℕ → ℕ → ℕ
-mask_at net s l =
+abbrev pub mask_on : Net → ℕ → ℕ → ℕ
+mask_on net s l =
     let t = strand_at net s in slice_index_or t.masks (l - t.first) 0
 
 -- both places are in one register
@@ -58,7 +58,7 @@ clash p q =
 -- group is in, where both groups have an end at one layer.
 pub record IsOpen (net : Net) (plan : Plan) (g : ℕ) (p : Place) : Type 0 where
   pub mask : (s l : ℕ) → s < length net.strands → IsEnd net g s l →
-      IsTrue (allows (mask_at net s l) (number p))
+      IsTrue (allows (mask_on net s l) (number p))
   pub free : (s l h r k : ℕ) (q : Place) → s < length net.strands → r < length net.strands →
       h < g → slice_get plan.places h ≡ Some q → IsEnd net g s l → IsEnd net h r k →
       layer_at net s l ≡ layer_at net r k → clash p q ≡ false
@@ -71,12 +71,11 @@ weight net least g p =
     total (λ s. pay (has_end net g s) (least g p s)) (range_with_len 0 (length net.strands))
 
 -- by weight, and of equal weight by number
-abbrev pub Precedes : (Place → ℤ) → Place → Place → Type 0
-Precedes weight p q = (weight p <ℤ weight q) ⊎ ((weight p ≡ weight q) × (number p ≤ number q))
+abbrev pub Outranks : (Place → ℤ) → Place → Place → Type 0
+Outranks weight p q = (weight p <ℤ weight q) ⊎ ((weight p ≡ weight q) × (number p ≤ number q))
 
 -- Each group has the open place of least weight: the sum, over the strands with an end in it, of
--- the
--- least priced cost of a path with these ends at the place and the other end free.
+-- the least priced cost of a path with these ends at the place and the other end free.
 pub record IsGreedy (net : Net) (w : Weights) (prices : Prices) (plan : Plan) : Type 0 where
   pub many : length plan.places ≡ net.groups
   pub least : ℕ → Place → ℕ → ℤ
@@ -85,7 +84,7 @@ pub record IsGreedy (net : Net) (w : Weights) (prices : Prices) (plan : Plan) : 
       IsLeastCost net (edge_price net w prices) (group_ends net g p s) Anywhere s (least g p s)
   pub open_places : (g : ℕ) (p : Place) → slice_get plan.places g ≡ Some p → IsOpen net plan g p
   pub chosen : (g : ℕ) (p q : Place) → slice_get plan.places g ≡ Some p → IsOpen net plan g q →
-      Precedes (weight net least g) p q
+      Outranks (weight net least g) p q
 
 -- ---- where a strand may begin and end
 
@@ -93,7 +92,7 @@ pub record IsGreedy (net : Net) (w : Weights) (prices : Prices) (plan : Plan) : 
 pub record MayEnd (net : Net) (s : ℕ) (ends : Ends) : Type 0 where
   pub first : IfSome ends.first
       (λ p. (is_at_entry net s ≡ true) ×
-      IsTrue (allows (mask_at net s (strand_at net s).first) (number p)))
+      IsTrue (allows (mask_on net s (strand_at net s).first) (number p)))
   pub last : IfSome ends.last
       (λ p. (is_at_exit net s ≡ true) ×
-      IsTrue (allows (mask_at net s (strand_at net s).last) (number p)))
+      IsTrue (allows (mask_on net s (strand_at net s).last) (number p)))

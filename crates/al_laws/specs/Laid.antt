@@ -28,21 +28,21 @@ plan_ends net plan s = record {
 }
 
 -- strand s is among the first k of the order
-abbrev pub is_before : List ℕ → ℕ → ℕ → Bool
-is_before order k s = list_any (nat_eq s) (take k order)
+abbrev pub was_laid : List ℕ → ℕ → ℕ → Bool
+was_laid order k s = list_any (nat_eq s) (take k order)
 
 abbrev pub AreLaid : Net → Weights → Prices → Plan → List ℕ → Routes → Type 0
 AreLaid net w prices plan order routes =
     (k s : ℕ) → slice_get order k ≡ Some s →
     IsLeast net (edge_price net w prices) (plan_ends net plan s)
-    (ClearOf net (part net (is_before order k) routes)) s (path_in routes s)
+    (ClearOf net (part net (was_laid order k) routes)) s (path_in routes s)
 
 -- the first n strands of the order are laid
 abbrev pub AreLaidBefore : Net → Weights → Prices → Plan → List ℕ → ℕ → Routes → Type 0
 AreLaidBefore net w prices plan order n routes =
     (k s : ℕ) → k < n → slice_get order k ≡ Some s →
     IsLeast net (edge_price net w prices) (plan_ends net plan s)
-    (ClearOf net (part net (is_before order k) routes)) s (path_in routes s)
+    (ClearOf net (part net (was_laid order k) routes)) s (path_in routes s)
 
 -- Strand s has no path with the plan's ends past what is taken, which is what the strands before it
 -- in the order use, laid each through what those before it left.
@@ -52,6 +52,6 @@ pub record IsBlocked (net : Net) (w : Weights) (prices : Prices) (plan : Plan) (
   pub is_next : slice_get order at ≡ Some s
   pub routes : Routes
   pub laid : AreLaidBefore net w prices plan order at routes
-  pub kept : StandsFor net taken (part net (is_before order at) routes)
+  pub kept : StandsFor net taken (part net (was_laid order at) routes)
   pub none : (ps : List Place) →
       MayGo net (plan_ends net plan s) (UsesNothing net taken) s ps → ⊥

@@ -10,7 +10,7 @@ use Rattle.net_form.specs.declared.routes.Ends.{Ends}
 use Rattle.net_form.specs.declared.routes.Routes.{Routes}
 use Rattle.net_form.specs.Flow.{Edge, flow, AreRoutes}
 use Rattle.net_form.specs.Admitted.{strand_at, IsAdmitted}
-use Rattle.net_form.specs.Cost.{cost_of}
+use Rattle.net_form.specs.Cost.{cost_in}
 use Rattle.net_form.specs.Formed.{no_block}
 use Rattle.net_form.specs.InUse.{pair_at, register_uses, pair_uses}
 use Rattle.net_form.specs.Rooms.{zero_prices}
@@ -42,7 +42,7 @@ abbrev pub IsStrandSettled : Net → Weights → Routes → ℕ → Type 0
 IsStrandSettled net w routes s =
     (ps : List Place) → IsPath net s ps → HasEnds (block_ends net routes s) ps →
     IsAdmitted net (flow net (with_path routes s ps)) →
-    cost_of net w (flow net routes) ≤ cost_of net w (flow net (with_path routes s ps))
+    cost_in net w routes ≤ cost_in net w (with_path routes s ps)
 
 -- place p at each end of the strand that is in a tie group
 abbrev pub tied_ends : Net → Place → ℕ → Ends
@@ -59,7 +59,7 @@ IsVariableSettled net w routes v =
     (new : Routes) (p : Place) → AreRoutes net new → AgreeBut (of_variable net v) new routes →
     ((s : ℕ) → s < length net.strands → of_variable net v s ≡ true →
     HasEnds (tied_ends net p s) (path_in new s)) →
-    IsAdmitted net (flow net new) → cost_of net w (flow net routes) ≤ cost_of net w (flow net new)
+    IsAdmitted net (flow net new) → cost_in net w routes ≤ cost_in net w new
 
 pub record AreSettled (net : Net) (w : Weights) (routes : Routes) : Type 0 where
   pub are_routes : AreRoutes net routes

@@ -11,7 +11,7 @@ use Rattle.net_form.specs.Flow.{flow}
 use Rattle.net_dual.specs.Priced.{AreInRange}
 use Rattle.net_path.specs.Desk.{IsReservedFor}
 use Rattle.net_path.specs.declared.work.Work.{Work}
-use Rattle.al_round.specs.Allocations.{IsAllocated, IsKept}
+use Rattle.al_round.specs.Allocations.{IsAllocated, IsLatest}
 use Rattle.al_round.specs.Rounds.{AreRoundsOf, HaveGoneOn}
 use Rattle.al_round.specs.Stages.{Stage, IsGreatest}
 use Rattle.al_round.specs.declared.rounds.Rounds.{Rounds}
@@ -52,7 +52,7 @@ module _ (net : Net) (w : Weights) where
         allocated = subst (λ ls. IsAllocated net w stages ls r.best r.best_prices) (sym same)
             are.allocated;
         kept = subst
-            (λ f. IsKept net w stages (cost_of net w (flow net r.best)) r.prices f r.tried)
+            (λ f. IsLatest net w stages (cost_of net w (flow net r.best)) r.prices f r.tried)
             (sym family) are.kept;
         raised = are.raised;
         value = subst

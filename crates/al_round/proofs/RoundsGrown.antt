@@ -19,8 +19,8 @@ use Rattle.net_form.specs.Rooms.{zero_prices}
 use Rattle.net_dual.specs.Priced.{cost_by_weights}
 use Rattle.net_dual.specs.Value.{IsValue, IsLagrange}
 use Rattle.al_laws.specs.Settled.{AreSettled}
-use Rattle.al_round.specs.Allocations.{IsAllocated, IsKept}
-use Rattle.al_round.specs.Candidates.{cost_in}
+use Rattle.al_round.specs.Allocations.{IsAllocated, IsLatest}
+use Rattle.net_form.specs.Cost.{cost_in}
 use Rattle.al_round.specs.Lines.{IsCost, IsLine}
 use Rattle.al_round.specs.Stages.{Stage, AreStages, IsBest, IsGreatest, IsRoundedUp}
 use Rattle.al_round.specs.Tried.{IsTried}
@@ -232,7 +232,7 @@ module _ (net : Net) (w : Weights) (formed : IsFormed net) (stages : List Stage)
       bound = subst (λ k. IsBest more k now line.bound) (sym (one_less lines line)) new_bound;
     }
 
-    pub kept_more : IsKept net w more (cost_in net w found) t.prices t.family (Some tried)
+    pub kept_more : IsLatest net w more (cost_in net w found) t.prices t.family (Some tried)
     kept_more =
         let many = length_push stages t in
         let some = a.are_lines.some in

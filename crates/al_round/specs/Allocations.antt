@@ -29,7 +29,7 @@ pub record IsAllocation (net : Net) (w : Weights) (lines : List Line) (routes : 
   pub allocated : IsAllocated net w stages lines routes prices
 
 -- The last round's prices are kept, with their family, and what it tried, where there was one.
-pub record IsKept (net : Net) (w : Weights) (stages : List Stage) (least : ℕ) (prices : Prices)
+pub record IsLatest (net : Net) (w : Weights) (stages : List Stage) (least : ℕ) (prices : Prices)
     (family : Routes) (tried : Option Tried) : Type 0 where
   pub stage : Stage
   pub is_last : slice_get stages (length stages - 1) ≡ Some stage

@@ -2,16 +2,11 @@
 use Rattle.std.specs.Prelude.{ℕ, ◌≤◌, ⊤}
 use Rattle.net_cost.specs.declared.weights.Weights.{Weights}
 use Rattle.net_form.specs.declared.net.Net.{Net}
-use Rattle.net_form.specs.declared.routes.Routes.{Routes}
 use Rattle.net_form.specs.Flow.{flow, AreRoutes}
 use Rattle.net_form.specs.Admitted.{IsAdmitted}
-use Rattle.net_form.specs.Cost.{cost_of}
+use Rattle.net_form.specs.Cost.{cost_in}
 use Rattle.al_round.specs.declared.tried.Outcome.{Outcome}
 use Rattle.al_round.specs.declared.tried.Outcome.TheVariants.{Laid, Blocked}
-
--- what routes cost
-abbrev pub cost_in : Net → Weights → Routes → ℕ
-cost_in net w routes = cost_of net w (flow net routes)
 
 -- what was laid is admitted routes
 abbrev pub IsCandidate : Net → Outcome → Type 0

@@ -8,7 +8,7 @@ use Rattle.net_form.specs.declared.prices.Prices.{Prices}
 use Rattle.net_form.specs.declared.routes.Routes.{Routes}
 use Rattle.net_form.specs.Flow.{Edge, flow, AreRoutes}
 use Rattle.net_form.specs.Admitted.{IsAdmitted}
-use Rattle.net_form.specs.Cost.{cost_of}
+use Rattle.net_form.specs.Cost.{cost_of, cost_in}
 use Rattle.al_laws.specs.Settled.{AreSettled}
 use Rattle.al_round.specs.Stages.{Stage, IsBest}
 use Rattle.al_round.specs.Tried.{IsTried}
@@ -18,7 +18,7 @@ use Rattle.al_round.specs.declared.tried.Tried.{Tried}
 pub record IsCost (net : Net) (w : Weights) (k cost : ℕ) (routes : Routes) : Type 0 where
   pub are_routes : AreRoutes net routes
   pub admitted : IsAdmitted net (flow net routes)
-  pub is : cost ≡ cost_of net w (flow net routes)
+  pub is : cost ≡ cost_in net w routes
   pub settled : 1 ≤ k → AreSettled net w routes
 
 -- no admitted flow, of whatever edges, costs less

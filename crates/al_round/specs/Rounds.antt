@@ -3,13 +3,12 @@ use Rattle.std.specs.Prelude.{◌≡◌, ◌-◌, List, length, ◌++◌, slice_
 use Rattle.net_cost.specs.declared.weights.Weights.{Weights}
 use Rattle.net_form.specs.declared.net.Net.{Net}
 use Rattle.net_form.specs.declared.routes.Routes.{Routes}
-use Rattle.net_form.specs.Cost.{cost_of}
-use Rattle.net_form.specs.Flow.{flow}
+use Rattle.net_form.specs.Cost.{cost_in}
 use Rattle.net_path.specs.Desk.{IsReservedFor}
 use Rattle.net_dual.specs.Priced.{AreInRange}
 use Rattle.net_dual.specs.Value.{IsLagrange}
 use Rattle.al_iter.specs.Room.{IsSpareOf}
-use Rattle.al_round.specs.Allocations.{IsAllocated, IsKept}
+use Rattle.al_round.specs.Allocations.{IsAllocated, IsLatest}
 use Rattle.al_round.specs.Stages.{Stage, IsGreatest}
 use Rattle.al_round.specs.declared.raised.Raised.{Raised}
 use Rattle.al_round.specs.declared.rounds.Rounds.{Rounds}
@@ -37,7 +36,7 @@ pub record AreKeptRaised (net : Net) (w : Weights) (stages : List Stage) (raised
 pub record AreRoundsOf (net : Net) (w : Weights) (stages : List Stage) (rounds : Rounds)
     : Type 0 where
   pub allocated : IsAllocated net w stages rounds.lines rounds.best rounds.best_prices
-  pub kept : IsKept net w stages (cost_of net w (flow net rounds.best)) rounds.prices
+  pub kept : IsLatest net w stages (cost_in net w rounds.best) rounds.prices
       (family_of rounds) rounds.tried
   pub raised : AreKeptRaised net w stages rounds.raised
   pub value : IsGreatest stages (length rounds.lines - 1) rounds.best_prices rounds.best_value

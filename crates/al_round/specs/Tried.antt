@@ -8,7 +8,7 @@ use Rattle.net_form.specs.declared.routes.Plan.{Plan}
 use Rattle.net_form.specs.declared.routes.Routes.{Routes}
 use Rattle.net_form.specs.Flow.{flow, AreRoutes}
 use Rattle.net_form.specs.Admitted.{IsAdmitted}
-use Rattle.net_form.specs.Cost.{cost_of}
+use Rattle.net_form.specs.Cost.{cost_in}
 use Rattle.al_laws.specs.Greedy.{IsGreedy}
 use Rattle.al_laws.specs.Laid.{AreLaid, IsBlocked}
 use Rattle.al_laws.specs.Order.{IsPricedOrder}
@@ -22,7 +22,7 @@ pub record AreTriedRoutes (net : Net) (w : Weights) (prices : Prices) (plan : Pl
   pub laid : AreLaid net w prices plan order routes
   pub are_routes : AreRoutes net routes
   pub admitted : IsAdmitted net (flow net routes)
-  pub cost : least ≤ cost_of net w (flow net routes)
+  pub cost : least ≤ cost_in net w routes
 
 -- they are, or the strand is blocked by what those before it took
 abbrev pub IsOutcome : Net → Weights → Prices → Plan → List ℕ → ℕ → Outcome → Type 0

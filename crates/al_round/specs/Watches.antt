@@ -12,7 +12,7 @@ abbrev pub verdict_of : ℕ → Line → Verdict
 verdict_of gap line = if nat_le (line.cost - line.bound) gap then Stop else Go
 
 -- the function may be asked of every line whose bound is at most its cost, and answers the verdict
-pub record Answers {G : Type 0} (calls : Shared G (Line × Unit {0}) Verdict) (gap : ℕ) (g : G)
+pub record AnswersByGap {G : Type 0} (calls : Shared G (Line × Unit {0}) Verdict) (gap : ℕ) (g : G)
     : Type 0 where
   pub callable : (line : Line) → line.bound ≤ line.cost → calls.pre g (line, tt)
   pub answers : (line : Line) (v : Verdict) → line.bound ≤ line.cost →
@@ -22,8 +22,8 @@ abbrev pub gap_of : {G : Type 0} → Watch G → ℕ
 gap_of watch = watch.gap
 
 -- the watch keeps a function that answers by its gap
-abbrev pub Keeps : {G : Type 0} → Shared G (Line × Unit {0}) Verdict → Watch G → Type 0
-Keeps calls watch = Answers calls watch.gap watch.function
+abbrev pub IsWatch : {G : Type 0} → Shared G (Line × Unit {0}) Verdict → Watch G → Type 0
+IsWatch calls watch = AnswersByGap calls watch.gap watch.function
 
 -- ---- how many rounds a watch lets go
 

@@ -3,11 +3,12 @@
 ghost use Rattle.std.specs.Prelude.{◌≡◌, ◌≤◌, true, false};
 ghost use Rattle.net_cost.specs.Models.{Keeps, weights_of};
 ghost use Rattle.net_form.specs.Admitted.{IsAdmitted};
+ghost use Rattle.net_form.specs.Cost.{cost_in};
 ghost use Rattle.net_form.specs.Flow.{flow, AreRoutes};
 ghost use Rattle.net_laws.specs.Built.{IsBuilt};
 ghost use Rattle.net_path.specs.Desk.{IsReservedFor};
 ghost use Rattle.al_laws.specs.Settled.{AreSettled};
-ghost use Rattle.al_round.specs.Candidates.{cost_in, IsCandidate, CostsAtLeast};
+ghost use Rattle.al_round.specs.Candidates.{IsCandidate, CostsAtLeast};
 ghost use Rattle.al_iter.specs.Room.{IsSpareOf};
 
 use crate::copies::overwrite_routes;

@@ -11,7 +11,7 @@ ghost use Rattle.al_edge.specs.HomeRoutes.{AreHome};
 ghost use Rattle.al_round.specs.Allocations.{IsAllocation};
 ghost use Rattle.al_round.specs.Rounds.{AreRounds, HaveGoneOn, family_of, AreSame};
 ghost use Rattle.al_round.specs.Tried.{IsTried};
-ghost use Rattle.al_round.specs.Watches.{Keeps as IsWatch, gap_of, WasObeyed, WentOn};
+ghost use Rattle.al_round.specs.Watches.{IsWatch, gap_of, WasObeyed, WentOn};
 
 use crate::allocation::Allocation;
 use crate::copies::copy_prices;

@@ -1,7 +1,7 @@
 // Whether more rounds are wanted.
 
 ghost use Rattle.std.specs.Prelude.{◌≡◌, ◌≤◌};
-ghost use Rattle.al_round.specs.Watches.{Answers, Keeps, gap_of, verdict_of};
+ghost use Rattle.al_round.specs.Watches.{AnswersByGap, IsWatch, gap_of, verdict_of};
 
 use net_form::Line;
 
@@ -23,8 +23,8 @@ impl<G: Fn(Line) -> Verdict> Watch<G> {
     /// Keeps a function that says Stop exactly of lines whose cost is at most the gap above their
     /// bound. It need not answer lines whose bound is above their cost.
     pub fn keep(gap: u64, function: G) -> Watch<G>
-        requires answers { Answers G.Fn gap function }
-        ensures kept { Keeps G.Fn result }
+        requires answers { AnswersByGap G.Fn gap function }
+        ensures kept { IsWatch G.Fn result }
         ensures gap { gap_of result ≡ gap }
     {
         Watch { gap, function }
@@ -32,7 +32,7 @@ impl<G: Fn(Line) -> Verdict> Watch<G> {
 
     /// What the function says of a line.
     pub(crate) fn ask(&self, line: Line) -> Verdict
-        requires kept { Keeps G.Fn self.now }
+        requires kept { IsWatch G.Fn self.now }
         requires within { line.bound ≤ line.cost }
         ensures { result ≡ verdict_of (gap_of self.now) line }
     {

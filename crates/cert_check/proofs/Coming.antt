@@ -13,7 +13,7 @@ use Rattle.net_dual.specs.Priced.{total}
 use Rattle.net_dual.specs.Paths.{path_edges, path_price}
 use Rattle.net_dual.proofs.Totals.{total-append}
 use Rattle.cert_check.specs.Tolls.{edge}
-use Rattle.cert_check.specs.Pass.{coming, LeadsTo}
+use Rattle.cert_check.specs.Pass.{way_to, LeadsTo}
 
 -- the last place, or the one before all
 abbrev last_of : Option Place → List Place → Option Place
@@ -21,12 +21,12 @@ last_of p [] = p
 last_of p (q ∷ qs) = last_of (Some q) qs
 
 last_of_coming : (o : Option Place) (before : List Place) (p : Place)
-    → last_of o (coming before p) ≡ Some p
+    → last_of o (way_to before p) ≡ Some p
 last_of_coming o [] p = refl
 last_of_coming o (x ∷ xs) p = last_of_coming (Some x) xs p
 
 edges_more : (s l : ℕ) (p : Option Place) (ps : List Place) (q : Place)
-    → edges s l p (coming ps q)
+    → edges s l p (way_to ps q)
     ≡ edges s l p ps ++ edge s (l + length ps) (last_of p ps) q ∷ []
 edges_more s l p [] q = ap (λ n. edge s n p q ∷ []) (let e : l ≡ l + 0 = omega arith in e)
 edges_more s l p (x ∷ ps) q =
@@ -51,7 +51,7 @@ All-one P x h = All-cons P x [] h (All-nil P)
 pub record Comes (ps : List Place) : Type 0 where
   pub before : List Place
   pub to : Place
-  pub is : ps ≡ coming before to
+  pub is : ps ≡ way_to before to
 
 pub comes : (x : Place) (xs : List Place) → Comes (x ∷ xs)
 comes x [] = record { before = []; to = x; is = refl }
@@ -61,24 +61,24 @@ comes x (y ∷ ys) =
 
 module _ (net : Net) (s : ℕ) where
   edges_at : (l : ℕ) (front : List Place) (p q : Place) → (strand_at net s).first + length front ≡ l
-      → path_edges net s (coming (coming front p) q)
-      ≡ path_edges net s (coming front p) ++ edge s (suc l) (Some p) q ∷ []
+      → path_edges net s (way_to (way_to front p) q)
+      ≡ path_edges net s (way_to front p) ++ edge s (suc l) (Some p) q ∷ []
   edges_at l front p q long =
       let first = (strand_at net s).first in
       let two = length-append front (p ∷ []) in
-      let at : first + length (coming front p) ≡ suc l = omega (arith, long, two) in
-      edges_more s first None (coming front p) q
-      ∙ ap (λ n. path_edges net s (coming front p)
-      ++ edge s n (last_of None (coming front p)) q ∷ []) at
-      ∙ ap (λ o. path_edges net s (coming front p) ++ edge s (suc l) o q ∷ [])
+      let at : first + length (way_to front p) ≡ suc l = omega (arith, long, two) in
+      edges_more s first None (way_to front p) q
+      ∙ ap (λ n. path_edges net s (way_to front p)
+      ++ edge s n (last_of None (way_to front p)) q ∷ []) at
+      ∙ ap (λ o. path_edges net s (way_to front p) ++ edge s (suc l) o q ∷ [])
       (last_of_coming None front p)
 
   pub price_on : (price : Edge → ℤ) (l : ℕ) (front : List Place) (p q : Place)
       → (strand_at net s).first + length front ≡ l
-      → path_price net price s (coming (coming front p) q)
-      ≡ path_price net price s (coming front p) +ℤ price (edge s (suc l) (Some p) q)
+      → path_price net price s (way_to (way_to front p) q)
+      ≡ path_price net price s (way_to front p) +ℤ price (edge s (suc l) (Some p) q)
   price_on price l front p q long =
-      let es = path_edges net s (coming front p) in
+      let es = path_edges net s (way_to front p) in
       let e = edge s (suc l) (Some p) q in
       let is = ap (total price) (edges_at l front p q long) in
       let sum = total-append price es (e ∷ []) in
@@ -86,9 +86,9 @@ module _ (net : Net) (s : ℕ) where
 
   pub comes_on : (l : ℕ) (front : List Place) (p q : Place) → LeadsTo net s l p front
       → IsTrue (in_mask net (edge s (suc l) (Some p) q))
-      → IsTrue (stays_across (edge s (suc l) (Some p) q)) → LeadsTo net s (suc l) q (coming front p)
+      → IsTrue (stays_across (edge s (suc l) (Some p) q)) → LeadsTo net s (suc l) q (way_to front p)
   comes_on l front p q leads mask stays =
-      let es = path_edges net s (coming front p) in
+      let es = path_edges net s (way_to front p) in
       let e = edge s (suc l) (Some p) q in
       let two = length-append front (p ∷ []) in
       let long = leads.long in
@@ -106,15 +106,15 @@ module _ (net : Net) (s : ℕ) where
   pub record Came (l : ℕ) (q : Place) (before : List Place) : Type 0 where
     pub front : List Place
     pub from : Place
-    pub is : before ≡ coming front from
+    pub is : before ≡ way_to front from
     pub leads : LeadsTo net s l from front
     pub mask : IsTrue (in_mask net (edge s (suc l) (Some from) q))
     pub stays : IsTrue (stays_across (edge s (suc l) (Some from) q))
 
-  came_from : (l : ℕ) (q p : Place) (front : List Place) → LeadsTo net s (suc l) q (coming front p)
-      → Came l q (coming front p)
+  came_from : (l : ℕ) (q p : Place) (front : List Place) → LeadsTo net s (suc l) q (way_to front p)
+      → Came l q (way_to front p)
   came_from l q p front leads =
-      let es = path_edges net s (coming front p) in
+      let es = path_edges net s (way_to front p) in
       let e = edge s (suc l) (Some p) q in
       let two = length-append front (p ∷ []) in
       let whole = leads.long in

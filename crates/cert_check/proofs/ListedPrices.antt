@@ -10,7 +10,7 @@ use Rattle.net_dual.proofs.Ranges.{zero_in_range}
 use Rattle.cert_form.specs.declared.certificate.CapAt.{CapAt}
 use Rattle.cert_form.specs.declared.certificate.TieAt.{TieAt}
 use Rattle.cert_form.specs.declared.certificate.Cert.{Cert}
-use Rattle.cert_check.specs.Listed.{AreCaps, AreNumbers, HasPrices, with_caps, with_numbers}
+use Rattle.cert_check.specs.Listed.{AreCaps, AreTieNumbers, HasPrices, with_caps, with_tie_numbers}
 use Rattle.cert_check.specs.Listed.{prices_of}
 
 All-set : {X : Type 0} (P : X → Type 0) → (xs : List X) (k : ℕ) (x : X) → k < length xs → All P xs →
@@ -31,7 +31,7 @@ length-with_caps prices (x ∷ xs) =
     length-with_caps (set prices x.at x.price) xs ∙ length-set prices x.at x.price
 
 pub length-with_numbers : (numbers : List ℤ) (xs : List TieAt)
-    → length (with_numbers numbers xs) ≡ length numbers
+    → length (with_tie_numbers numbers xs) ≡ length numbers
 length-with_numbers numbers [] = refl
 length-with_numbers numbers (x ∷ xs) =
     length-with_numbers (set numbers x.at x.number) xs ∙ length-set numbers x.at x.number
@@ -47,8 +47,8 @@ caps_most count from prices (x ∷ xs) long are all =
     (All-set (λ c. c ≤ most_price) prices x.at x.price (omega (arith, there, long)) all are.1.most)
 
 numbers_most : (count from : ℕ) (numbers : List ℤ) (xs : List TieAt) → count ≡ length numbers
-    → AreNumbers count from xs → All (λ z. z ≤ℤ pos most_price) numbers
-    → All (λ z. z ≤ℤ pos most_price) (with_numbers numbers xs)
+    → AreTieNumbers count from xs → All (λ z. z ≤ℤ pos most_price) numbers
+    → All (λ z. z ≤ℤ pos most_price) (with_tie_numbers numbers xs)
 numbers_most count from numbers [] long are all = all
 numbers_most count from numbers (x ∷ xs) long are all =
     let there = are.1.within in
@@ -58,8 +58,8 @@ numbers_most count from numbers (x ∷ xs) long are all =
     are.1.most)
 
 numbers_least : (count from : ℕ) (numbers : List ℤ) (xs : List TieAt) → count ≡ length numbers
-    → AreNumbers count from xs → All (λ z. (pos 0 -ℤ pos most_price) ≤ℤ z) numbers
-    → All (λ z. (pos 0 -ℤ pos most_price) ≤ℤ z) (with_numbers numbers xs)
+    → AreTieNumbers count from xs → All (λ z. (pos 0 -ℤ pos most_price) ≤ℤ z) numbers
+    → All (λ z. (pos 0 -ℤ pos most_price) ≤ℤ z) (with_tie_numbers numbers xs)
 numbers_least count from numbers [] long are all = all
 numbers_least count from numbers (x ∷ xs) long are all =
     let there = are.1.within in

@@ -28,8 +28,8 @@ use Rattle.net_dual.specs.Paths.{Anywhere}
 use Rattle.net_dual.specs.Small.{IsWithin, most_sum}
 use Rattle.net_dual.proofs.Duality.{anywhere}
 use Rattle.net_dual.proofs.Small.{part_is_small}
-use Rattle.cert_check.specs.Tolls.{edge, toll, way_price}
-use Rattle.cert_check.specs.Pass.{coming, LeadsTo, IsLeastTo, IsReached, IsRow, IsRowBefore}
+use Rattle.cert_check.specs.Tolls.{edge, toll, way_toll}
+use Rattle.cert_check.specs.Pass.{way_to, LeadsTo, IsLeastTo, IsReached, IsPassRow, IsRowBefore}
 use Rattle.cert_check.specs.Pass.{via, paid, HasPath}
 use Rattle.cert_check.proofs.Coming.{All-one, comes, came_on, comes_on, price_on}
 use Rattle.cert_check.proofs.Coming.{nothing_before}
@@ -45,7 +45,7 @@ module _ (net : Net) (w : Weights) (prices : Prices) (s : ℕ) where
   -- the price of an edge is that of its way and its toll
   pub price_is : (l : ℕ) (from : Option Place) (q : Place)
       → edge_price net w prices (edge s l from q)
-      ≡ way_price net w s l from q +ℤ toll net w prices s l q
+      ≡ way_toll net w s l from q +ℤ toll net w prices s l q
   price_is l from q =
       let e = edge s l from q in
       in_parts (way_cost all_tables net w e) (extras_cost net w s l q) (cap_part net prices e)
@@ -57,13 +57,13 @@ module _ (net : Net) (w : Weights) (prices : Prices) (s : ℕ) where
       → in_mask net (edge s (strand_at net s).first None q) ≡ allowed
       → IsReached net (edge_price net w prices) s (strand_at net s).first q
       (guarded allowed (λ d. d +ℤ toll net w prices s (strand_at net s).first q)
-      (Some (way_price net w s (strand_at net s).first None q)))
+      (Some (way_toll net w s (strand_at net s).first None q)))
   first_reached q true mask =
       let l = (strand_at net s).first in
       let e = edge s l None q in
       let price = price_is l None q in
-      let sum : path_price net (edge_price net w prices) s (coming [] q)
-      ≡ way_price net w s l None q +ℤ toll net w prices s l q
+      let sum : path_price net (edge_price net w prices) s (way_to [] q)
+      ≡ way_toll net w s l None q +ℤ toll net w prices s l q
       = (let none : edge_price net w prices e +ℤ pos 0 ≡ edge_price net w prices e
       = omega (arith, ints) in none) ∙ price in
       record {
@@ -79,7 +79,7 @@ module _ (net : Net) (w : Weights) (prices : Prices) (s : ℕ) where
             let none = nothing_before net s q other leads in
             let same = sum
             ∙ ap (λ (d : ℤ). d) refl in
-            let here = ap (λ ps. path_price net (edge_price net w prices) s (coming ps q)) none in
+            let here = ap (λ ps. path_price net (edge_price net w prices) s (way_to ps q)) none in
             omega (arith, ints, same, here);
       }
   first_reached q false mask = λ before leads.
@@ -91,7 +91,7 @@ module _ (net : Net) (w : Weights) (prices : Prices) (s : ℕ) where
   pub first_paid : (q : Place)
       → IsReached net (edge_price net w prices) s (strand_at net s).first q
       (paid net w prices s (strand_at net s).first q
-      (Some (way_price net w s (strand_at net s).first None q)))
+      (Some (way_toll net w s (strand_at net s).first None q)))
   first_paid q = first_reached q (in_mask net (edge s (strand_at net s).first None q)) refl
 
   -- ---- the next layer
@@ -102,20 +102,20 @@ module _ (net : Net) (w : Weights) (prices : Prices) (s : ℕ) where
     -- what it costs from a place that can be come to
     from_there : (p q : Place) (front : List Place) → LeadsTo net s l p front
         → IsTrue (stays_across (edge s (suc l) (Some p) q))
-        → (d : ℤ) × (via net w s (suc l) row p q ≡ Some (d +ℤ way_price net w s (suc l) (Some p) q))
-        × (d ≤ℤ path_price net (edge_price net w prices) s (coming front p))
+        → (d : ℤ) × (via net w s (suc l) row p q ≡ Some (d +ℤ way_toll net w s (suc l) (Some p) q))
+        × (d ≤ℤ path_price net (edge_price net w prices) s (way_to front p))
     from_there p q front leads stays = by (cost_at row (number p)) refl
       where
         by : (o : Option ℤ) → cost_at row (number p) ≡ o
             → (d : ℤ) × (via net w s (suc l) row p q
-            ≡ Some (d +ℤ way_price net w s (suc l) (Some p) q))
-            × (d ≤ℤ path_price net (edge_price net w prices) s (coming front p))
+            ≡ Some (d +ℤ way_toll net w s (suc l) (Some p) q))
+            × (d ≤ℤ path_price net (edge_price net w prices) s (way_to front p))
         by (Some d) is =
             let least : IsLeastTo net (edge_price net w prices) s l p d
             = subst (IsReached net (edge_price net w prices) s l p) is (reached p) in (
               d,
               guarded_is (stays_across (edge s (suc l) (Some p) q))
-                  (λ d. d +ℤ way_price net w s (suc l) (Some p) q) (cost_at row (number p)) d
+                  (λ d. d +ℤ way_toll net w s (suc l) (Some p) q) (cost_at row (number p)) d
                   stays is,
               least.least front leads,
             )
@@ -135,14 +135,14 @@ module _ (net : Net) (w : Weights) (prices : Prices) (s : ℕ) where
         let came = came_on net s l q before after leads in
         let there = from_there came.from q came.front came.leads came.stays in
         not_both (via net w s (suc l) row came.from q)
-        (there.0 +ℤ way_price net w s (suc l) (Some came.from) q)
+        (there.0 +ℤ way_toll net w s (suc l) (Some came.from) q)
         (subst (λ p. via net w s (suc l) row p q ≡ None) (place_at-number came.from)
         (least (number came.from) (number_below came.from))) there.1
     next_reached q (Some z) true least mask =
         let k = least.0.0 in
         let p = place_at k in
         let found = guarded_some (stays_across (edge s (suc l) (Some p) q))
-        (λ d. d +ℤ way_price net w s (suc l) (Some p) q) (cost_at row (number p)) z
+        (λ d. d +ℤ way_toll net w s (suc l) (Some p) q) (cost_at row (number p)) z
         least.0.2 in
         let best : IsLeastTo net (edge_price net w prices) s l p found.old
         = subst (IsReached net (edge_price net w prices) s l p) found.was (reached p) in
@@ -151,14 +151,14 @@ module _ (net : Net) (w : Weights) (prices : Prices) (s : ℕ) where
         let same = found.is in
         let cost = best.is in
         record {
-          before = coming best.before p;
+          before = way_to best.before p;
           leads = comes_on net s l best.before p q best.leads mask found.test;
           is = omega (arith, ints, on, split, same, cost);
           least = λ other leads.
               let came = came_on net s l q other after leads in
               let there = from_there came.from q came.front came.leads came.stays in
               let no_more = least.1 (number came.from)
-              (there.0 +ℤ way_price net w s (suc l) (Some came.from) q)
+              (there.0 +ℤ way_toll net w s (suc l) (Some came.from) q)
               (number_below came.from)
               (ap (λ p. via net w s (suc l) row p q) (place_at-number came.from)
               ∙ there.1) in
@@ -166,7 +166,7 @@ module _ (net : Net) (w : Weights) (prices : Prices) (s : ℕ) where
               came.leads.long in
               let parts = price_is (suc l) (Some came.from) q in
               let below = there.2 in
-              let here = ap (λ ps. path_price net (edge_price net w prices) s (coming ps q))
+              let here = ap (λ ps. path_price net (edge_price net w prices) s (way_to ps q))
               came.is in
               omega (arith, ints, no_more, longer, parts, below, here);
         }
@@ -179,9 +179,9 @@ module _ (net : Net) (w : Weights) (prices : Prices) (s : ℕ) where
 
   pub first_paid_at : (l : ℕ) → l ≡ (strand_at net s).first → (q : Place)
       → IsReached net (edge_price net w prices) s l q
-      (paid net w prices s l q (Some (way_price net w s l None q)))
+      (paid net w prices s l q (Some (way_toll net w s l None q)))
   first_paid_at l is q = subst (λ l. IsReached net (edge_price net w prices) s l q
-      (paid net w prices s l q (Some (way_price net w s l None q)))) (sym is) (first_paid q)
+      (paid net w prices s l q (Some (way_toll net w s l None q)))) (sym is) (first_paid q)
 
   pub next_paid_at : (l : ℕ) (row : List (Option ℤ))
       → IsRowBefore net (edge_price net w prices) s l row → (q : Place) (best : Option ℤ)
@@ -200,7 +200,7 @@ module _ (net : Net) (w : Weights) (prices : Prices) (s : ℕ) where
       (reached : (p : Place) → IsReached net (edge_price net w prices) s (strand_at net s).last p
       (cost_at row (number p))) where
     as_path : (q : Place) (before : List Place) → LeadsTo net s (strand_at net s).last q before
-        → IsPath net s (coming before q)
+        → IsPath net s (way_to before q)
     as_path q before leads =
         let one = length-append before (q ∷ []) in
         let long = leads.long in
@@ -213,7 +213,7 @@ module _ (net : Net) (w : Weights) (prices : Prices) (s : ℕ) where
     of_path [] path = absurd (let long = path.long in omega (arith, order, long))
     of_path (x ∷ xs) path =
         let way = comes x xs in
-        let here : IsPath net s (coming way.before way.to)
+        let here : IsPath net s (way_to way.before way.to)
         = subst (IsPath net s) way.is path in
         let one = length-append way.before (way.to ∷ []) in
         let whole = here.long in
@@ -224,7 +224,7 @@ module _ (net : Net) (w : Weights) (prices : Prices) (s : ℕ) where
         } in
         by way.to way.before way.is leads (cost_at row (number way.to)) refl
       where
-        by : (p : Place) (before : List Place) → x ∷ xs ≡ coming before p
+        by : (p : Place) (before : List Place) → x ∷ xs ≡ way_to before p
             → LeadsTo net s (strand_at net s).last p before
             → (o : Option ℤ) → cost_at row (number p) ≡ o
             → (p : Place) × (d : ℤ) × (cost_at row (number p) ≡ Some d)
@@ -255,9 +255,9 @@ module _ (net : Net) (w : Weights) (prices : Prices) (s : ℕ) where
         (reached p) in
         let cost = best.is in
         record {
-          way = coming best.before p;
+          way = way_to best.before p;
           is_least = record {
-            goes = anywhere net s (coming best.before p) (as_path p best.before best.leads);
+            goes = anywhere net s (way_to best.before p) (as_path p best.before best.leads);
             least = λ qs goes.
                 let found = of_path qs goes.path in
                 let no_more = least.1 (number found.0) found.1 (number_below found.0) found.2 in
@@ -276,7 +276,7 @@ module _ (net : Net) (w : Weights) (prices : Prices) (s : ℕ) where
 
   -- the row of the last layer, where that is known by equations
   pub at_end : (t l : ℕ) (row : List (Option ℤ)) → t ≡ s → l ≡ (strand_at net s).last
-      → IsRow net (edge_price net w prices) t l row → (p : Place)
+      → IsPassRow net (edge_price net w prices) t l row → (p : Place)
       → IsReached net (edge_price net w prices) s (strand_at net s).last p (cost_at row (number p))
   at_end t l row same last is_row p =
       subst (λ l. IsReached net (edge_price net w prices) s l p (cost_at row (number p))) last
@@ -308,14 +308,14 @@ module _ (net : Net) (w : Weights) (prices : Prices) (s : ℕ) where
           let within = in_layers net built.formed s there in
           let layers = built.formed.layers in
           subst (IsWithin most_sum) least.is
-          (part_is_small net w prices s (coming least.before q) built valid range
+          (part_is_small net w prices s (way_to least.before q) built valid range
           (omega (arith, one, long, before, within, layers)))
 
       -- a row whose numbers are those of its places
       pub row_of : (row : List (Option ℤ)) → length row ≡ place_count
           → ((k : ℕ) → k < place_count
           → IsReached net (edge_price net w prices) s l (place_at k) (cost_at row k))
-          → IsRow net (edge_price net w prices) s l row
+          → IsPassRow net (edge_price net w prices) s l row
       row_of row long each = record {
         reached = λ q. subst (λ p. IsReached net (edge_price net w prices) s l p
             (cost_at row (number q))) (place_at-number q) (each (number q) (number_below q));

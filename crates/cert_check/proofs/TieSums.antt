@@ -14,7 +14,7 @@ use Rattle.net_form.specs.declared.prices.Prices.{Prices}
 use Rattle.net_dual.specs.Priced.{pay, slot_price, AreInRange}
 use Rattle.net_dual.specs.Small.{IsWithin}
 use Rattle.net_dual.proofs.Totals.{sum_more}
-use Rattle.cert_check.specs.Tolls.{strand_of, ties_sum, HasAdded, AreSumsWithin, AreNumbersWithin}
+use Rattle.cert_check.specs.Tolls.{tied_strand, ties_sum, HasAdded, AreSumsWithin, AreNumbersWithin}
 
 -- ---- a whole tie
 
@@ -65,20 +65,20 @@ numbers_within net prices range k = elim (cases_lt k (length prices.ties))
 pub ties_more : (ties : List Tie) (prices : Prices) (end : BlockEnd) (old new : List ℤ) (n : ℕ)
     (t : Tie)
     → n < length ties → t ≡ get_or ties n t
-    → HasAdded old prices.ties (strand_of end t) n 13 new
+    → HasAdded old prices.ties (tied_strand end t) n 13 new
     → (s j : ℕ) → j < 13
     → get_or old (13 * s + j) (pos 0) ≡ ties_sum (take n ties) prices end s j
     → get_or new (13 * s + j) (pos 0) ≡ ties_sum (take (n + 1) ties) prices end s j
 ties_more ties prices end old new n t lt read added s j few was =
-    let more = sum_more (λ (t : ℕ × Tie). pay (nat_eq (strand_of end t.1) s)
+    let more = sum_more (λ (t : ℕ × Tie). pay (nat_eq (tied_strand end t.1) s)
     (slot_price prices t.0 (Some j))) ties n t lt in
     let a = added s j few in
-    let test : (nat_eq (strand_of end t) s && nat_lt j 13) ≡ nat_eq (strand_of end t) s
-    = within_thirteen (nat_eq (strand_of end t) s) j few in
+    let test : (nat_eq (tied_strand end t) s && nat_lt j 13) ≡ nat_eq (tied_strand end t) s
+    = within_thirteen (nat_eq (tied_strand end t) s) j few in
     let here = ap (λ b. pay b (get_or prices.ties (13 * n + j) (pos 0))) test in
-    let same : pay (nat_eq (strand_of end t) s) (get_or prices.ties (13 * n + j) (pos 0))
-    ≡ pay (nat_eq (strand_of end (get_or ties n t)) s) (get_or prices.ties (13 * n + j) (pos 0))
-    = ap (λ (t : Tie). pay (nat_eq (strand_of end t) s) (get_or prices.ties (13 * n + j) (pos 0)))
+    let same : pay (nat_eq (tied_strand end t) s) (get_or prices.ties (13 * n + j) (pos 0))
+    ≡ pay (nat_eq (tied_strand end (get_or ties n t)) s) (get_or prices.ties (13 * n + j) (pos 0))
+    = ap (λ (t : Tie). pay (nat_eq (tied_strand end t) s) (get_or prices.ties (13 * n + j) (pos 0)))
     read in
     omega (arith, ints, more, a, here, same, was)
   where

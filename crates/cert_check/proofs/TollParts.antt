@@ -23,8 +23,8 @@ use Rattle.net_form.specs.declared.prices.Prices.{Prices}
 use Rattle.net_form.specs.Admitted.{strand_at}
 use Rattle.net_dual.specs.Priced.{total, pay, mem_price, slot_price, tie_slot, mem_part, exit_part}
 use Rattle.net_dual.specs.Priced.{entry_part}
-use Rattle.cert_check.specs.Tolls.{edge, strand_of, slot_sum, place_sum, slot_at, is_end}
-use Rattle.cert_check.specs.Tolls.{ends_sum, AreTiesSums}
+use Rattle.cert_check.specs.Tolls.{edge, tied_strand, slot_sum, place_sum, slot_at, is_end}
+use Rattle.cert_check.specs.Tolls.{mems_sum, AreTiesSums}
 
 pay_nothing : (b : Bool) → pay b (pos 0) ≡ pos 0
 pay_nothing true = refl
@@ -56,64 +56,64 @@ module _ (net : Net) (prices : Prices) (s l : ℕ) where
       omega (arith, ints, one, more, sum)
 
   pub mem_part_is : (q : Place) → mem_part net prices (edge s l None q)
-      ≡ pay (is_mem (number q)) (ends_sum net.pairs prices s l)
+      ≡ pay (is_mem (number q)) (mems_sum net.pairs prices s l)
   mem_part_is q = if_memory (is_mem (number q)) (enumerate_from 0 net.pairs)
 
   -- ---- ties
 
   module _ (end : BlockEnd) (at : Strand → ℕ) where
     one_end : (t : Tie) (z : ℤ)
-        → pay (nat_eq s (strand_of end t) && nat_eq l (at (strand_at net (strand_of end t)))) z
-        ≡ pay (nat_eq l (at (strand_at net s))) (pay (nat_eq (strand_of end t) s) z)
-    one_end t z = elim (cases_eq (strand_of end t) s) as (λ _.
-        pay (nat_eq s (strand_of end t) && nat_eq l (at (strand_at net (strand_of end t)))) z
-        ≡ pay (nat_eq l (at (strand_at net s))) (pay (nat_eq (strand_of end t) s) z)) [
+        → pay (nat_eq s (tied_strand end t) && nat_eq l (at (strand_at net (tied_strand end t)))) z
+        ≡ pay (nat_eq l (at (strand_at net s))) (pay (nat_eq (tied_strand end t) s) z)
+    one_end t z = elim (cases_eq (tied_strand end t) s) as (λ _.
+        pay (nat_eq s (tied_strand end t) && nat_eq l (at (strand_at net (tied_strand end t)))) z
+        ≡ pay (nat_eq l (at (strand_at net s))) (pay (nat_eq (tied_strand end t) s) z)) [
           | inl is ↦
-              let one : nat_eq s (strand_of end t) ≡ true = grind (arith, nat_tests, is) in
-              let other : nat_eq (strand_of end t) s ≡ true = grind (arith, nat_tests, is) in
-              ap (λ b. pay (b && nat_eq l (at (strand_at net (strand_of end t)))) z) one
+              let one : nat_eq s (tied_strand end t) ≡ true = grind (arith, nat_tests, is) in
+              let other : nat_eq (tied_strand end t) s ≡ true = grind (arith, nat_tests, is) in
+              ap (λ b. pay (b && nat_eq l (at (strand_at net (tied_strand end t)))) z) one
               ∙ ap (λ k. pay (nat_eq l (at (strand_at net k))) z) is
               ∙ sym (ap (λ b. pay (nat_eq l (at (strand_at net s))) (pay b z)) other)
           | inr not_it ↦
-              let one : nat_eq s (strand_of end t) ≡ false = grind (arith, nat_tests, not_it) in
-              let other : nat_eq (strand_of end t) s ≡ false = grind (arith, nat_tests, not_it) in
-              ap (λ b. pay (b && nat_eq l (at (strand_at net (strand_of end t)))) z) one
+              let one : nat_eq s (tied_strand end t) ≡ false = grind (arith, nat_tests, not_it) in
+              let other : nat_eq (tied_strand end t) s ≡ false = grind (arith, nat_tests, not_it) in
+              ap (λ b. pay (b && nat_eq l (at (strand_at net (tied_strand end t)))) z) one
               ∙ sym (pay_nothing (nat_eq l (at (strand_at net s))))
               ∙ sym (ap (λ b. pay (nat_eq l (at (strand_at net s))) (pay b z)) other)
         ]
 
     all_ends : (o : Option ℕ) (ts : List (ℕ × Tie))
-        → total (λ t. pay (nat_eq s (strand_of end t.1)
-        && nat_eq l (at (strand_at net (strand_of end t.1)))) (slot_price prices t.0 o)) ts
+        → total (λ t. pay (nat_eq s (tied_strand end t.1)
+        && nat_eq l (at (strand_at net (tied_strand end t.1)))) (slot_price prices t.0 o)) ts
         ≡ pay (nat_eq l (at (strand_at net s)))
-        (total (λ t. pay (nat_eq (strand_of end t.1) s) (slot_price prices t.0 o)) ts)
+        (total (λ t. pay (nat_eq (tied_strand end t.1) s) (slot_price prices t.0 o)) ts)
     all_ends o [] = sym (pay_nothing (nat_eq l (at (strand_at net s))))
     all_ends o (t ∷ ts) =
         let z = slot_price prices t.0 o in
         let one = one_end t.1 z in
         let more = all_ends o ts in
-        let sum = pay_sum (nat_eq l (at (strand_at net s))) (pay (nat_eq (strand_of end t.1) s) z)
-        (total (λ t. pay (nat_eq (strand_of end t.1) s) (slot_price prices t.0 o)) ts) in
+        let sum = pay_sum (nat_eq l (at (strand_at net s))) (pay (nat_eq (tied_strand end t.1) s) z)
+        (total (λ t. pay (nat_eq (tied_strand end t.1) s) (slot_price prices t.0 o)) ts) in
         omega (arith, ints, one, more, sum)
 
     nothing_paid : (ts : List (ℕ × Tie))
-        → total (λ t. pay (nat_eq (strand_of end t.1) s) (pos 0)) ts ≡ pos 0
+        → total (λ t. pay (nat_eq (tied_strand end t.1) s) (pos 0)) ts ≡ pos 0
     nothing_paid [] = refl
     nothing_paid (t ∷ ts) =
-        let one = pay_nothing (nat_eq (strand_of end t.1) s) in
+        let one = pay_nothing (nat_eq (tied_strand end t.1) s) in
         let more = nothing_paid ts in
         omega (arith, ints, one, more)
 
     slots : (o : Option ℕ)
-        → total (λ t. pay (nat_eq (strand_of end t.1) s) (slot_price prices t.0 o))
+        → total (λ t. pay (nat_eq (tied_strand end t.1) s) (slot_price prices t.0 o))
         (enumerate_from 0 net.ties)
         ≡ slot_sum net.ties prices end s o
     slots None = nothing_paid (enumerate_from 0 net.ties)
     slots (Some j) = refl
 
     pub part_is : (o : Option ℕ)
-        → total (λ t. pay (nat_eq s (strand_of end t.1)
-        && nat_eq l (at (strand_at net (strand_of end t.1)))) (slot_price prices t.0 o))
+        → total (λ t. pay (nat_eq s (tied_strand end t.1)
+        && nat_eq l (at (strand_at net (tied_strand end t.1)))) (slot_price prices t.0 o))
         (enumerate_from 0 net.ties)
         ≡ pay (nat_eq l (at (strand_at net s))) (slot_sum net.ties prices end s o)
     part_is o = all_ends o (enumerate_from 0 net.ties)

@@ -28,9 +28,10 @@ abbrev pub AreCaps : ℕ → ℕ → List CapAt → Type 0
 AreCaps count from [] = ⊤
 AreCaps count from (x ∷ xs) = (from ≤ x.at) × IsCap count x × AreCaps count (suc x.at) xs
 
-abbrev pub AreNumbers : ℕ → ℕ → List TieAt → Type 0
-AreNumbers count from [] = ⊤
-AreNumbers count from (x ∷ xs) = (from ≤ x.at) × IsNumber count x × AreNumbers count (suc x.at) xs
+abbrev pub AreTieNumbers : ℕ → ℕ → List TieAt → Type 0
+AreTieNumbers count from [] = ⊤
+AreTieNumbers count from (x ∷ xs) =
+    (from ≤ x.at) × IsNumber count x × AreTieNumbers count (suc x.at) xs
 
 -- how many prices a network has of each kind
 abbrev pub cap_count : Net → ℕ
@@ -45,7 +46,7 @@ number_count net = tie_numbers * length net.ties
 pub record HasPrices (net : Net) (cert : Cert) : Type 0 where
   pub caps : AreCaps (cap_count net) 0 cert.caps
   pub mems : AreCaps (mem_count net) 0 cert.mems
-  pub ties : AreNumbers (number_count net) 0 cert.ties
+  pub ties : AreTieNumbers (number_count net) 0 cert.ties
 
 -- ---- the prices that are listed
 
@@ -54,14 +55,14 @@ abbrev pub with_caps : List ℕ → List CapAt → List ℕ
 with_caps prices [] = prices
 with_caps prices (x ∷ xs) = with_caps (slice_set prices x.at x.price) xs
 
-abbrev pub with_numbers : List ℤ → List TieAt → List ℤ
-with_numbers numbers [] = numbers
-with_numbers numbers (x ∷ xs) = with_numbers (slice_set numbers x.at x.number) xs
+abbrev pub with_tie_numbers : List ℤ → List TieAt → List ℤ
+with_tie_numbers numbers [] = numbers
+with_tie_numbers numbers (x ∷ xs) = with_tie_numbers (slice_set numbers x.at x.number) xs
 
 -- what has no entry is 0
 abbrev pub prices_of : Net → Cert → Prices
 prices_of net cert = record {
   caps = with_caps (replicate (cap_count net) 0) cert.caps;
   mems = with_caps (replicate (mem_count net) 0) cert.mems;
-  ties = with_numbers (replicate (number_count net) (pos 0)) cert.ties;
+  ties = with_tie_numbers (replicate (number_count net) (pos 0)) cert.ties;
 }

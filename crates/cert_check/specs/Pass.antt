@@ -16,27 +16,27 @@ use Rattle.net_dual.specs.Leasts.{cost_at, IsCostWithin}
 use Rattle.net_dual.specs.Paths.{path_edges, path_price, IsPath, IsLeast, any_ends, Anywhere}
 use Rattle.net_dual.specs.Priced.{total}
 use Rattle.net_dual.specs.Small.{most_sum}
-use Rattle.cert_check.specs.Tolls.{edge, toll, way_price}
+use Rattle.cert_check.specs.Tolls.{edge, toll, way_toll}
 
 -- ---- ways to a place
 
 -- the places of a path that comes to q behind these
-abbrev pub coming : List Place → Place → List Place
-coming before q = before ++ q ∷ []
+abbrev pub way_to : List Place → Place → List Place
+way_to before q = before ++ q ∷ []
 
 -- strand s may come to q at layer l by these places before it
 pub record LeadsTo (net : Net) (s l : ℕ) (q : Place) (before : List Place) : Type 0 where
   pub long : (strand_at net s).first + length before ≡ l
-  pub masks : All (λ e. IsTrue (in_mask net e)) (path_edges net s (coming before q))
-  pub across : All (λ e. IsTrue (stays_across e)) (path_edges net s (coming before q))
+  pub masks : All (λ e. IsTrue (in_mask net e)) (path_edges net s (way_to before q))
+  pub across : All (λ e. IsTrue (stays_across e)) (path_edges net s (way_to before q))
 
 -- z is what that costs at least
 pub record IsLeastTo (net : Net) (price : Edge → ℤ) (s l : ℕ) (q : Place) (z : ℤ) : Type 0 where
   pub before : List Place
   pub leads : LeadsTo net s l q before
-  pub is : path_price net price s (coming before q) ≡ z
+  pub is : path_price net price s (way_to before q) ≡ z
   pub least : (other : List Place) → LeadsTo net s l q other →
-      z ≤ℤ path_price net price s (coming other q)
+      z ≤ℤ path_price net price s (way_to other q)
 
 -- what it costs at least, if the strand can come there at all
 abbrev pub IsReached : Net → (Edge → ℤ) → ℕ → ℕ → Place → Option ℤ → Type 0
@@ -46,13 +46,13 @@ IsReached net price s l q (Some z) = IsLeastTo net price s l q z
 -- ---- rows
 
 -- so small that sums with what is paid at a layer fit
-abbrev pub AreWithin : List (Option ℤ) → Type 0
-AreWithin row = (k : ℕ) → IsCostWithin most_sum (cost_at row k)
+abbrev pub IsSmallRow : List (Option ℤ) → Type 0
+IsSmallRow row = (k : ℕ) → IsCostWithin most_sum (cost_at row k)
 
 -- a number for each place of a layer
-pub record IsRow (net : Net) (price : Edge → ℤ) (s l : ℕ) (row : List (Option ℤ)) : Type 0 where
+pub record IsPassRow (net : Net) (price : Edge → ℤ) (s l : ℕ) (row : List (Option ℤ)) : Type 0 where
   pub reached : (q : Place) → IsReached net price s l q (cost_at row (number q))
-  pub within : AreWithin row
+  pub within : IsSmallRow row
 
 -- of the layer before layer l, which the strand has too
 pub record IsRowBefore (net : Net) (price : Edge → ℤ) (s l : ℕ) (row : List (Option ℤ)) : Type 0
@@ -60,7 +60,7 @@ pub record IsRowBefore (net : Net) (price : Edge → ℤ) (s l : ℕ) (row : Lis
     pub layer : ℕ
     pub next : suc layer ≡ l
     pub after : (strand_at net s).first ≤ layer
-    pub is_row : IsRow net price s layer row
+    pub is_row : IsPassRow net price s layer row
 
 -- the strand has some path
 pub record HasPath (net : Net) (s : ℕ) : Type 0 where
@@ -71,7 +71,7 @@ pub record HasPath (net : Net) (s : ℕ) : Type 0 where
 abbrev pub via : Net → Weights → ℕ → ℕ → List (Option ℤ) → Place → Place → Option ℤ
 via net w s l row p q =
     if stays_across (edge s l (Some p) q)
-    then option_map (λ d. d +ℤ way_price net w s l (Some p) q) (cost_at row (number p))
+    then option_map (λ d. d +ℤ way_toll net w s l (Some p) q) (cost_at row (number p))
     else None
 
 -- with the toll of a place that is in the strand's mask

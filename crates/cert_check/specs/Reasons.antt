@@ -8,7 +8,7 @@ use Rattle.net_cost.specs.Weights.{size_weights, speed_weights}
 use Rattle.net_form.specs.declared.net.Net.{Net}
 use Rattle.net_form.specs.declared.routes.Routes.{Routes}
 use Rattle.net_form.specs.Admitted.{IsAdmitted}
-use Rattle.net_form.specs.Cost.{cost_of}
+use Rattle.net_form.specs.Cost.{cost_of, cost_in}
 use Rattle.net_form.specs.Flow.{Edge, flow, AreRoutes}
 use Rattle.net_form.specs.Network.{IsNet}
 use Rattle.net_dual.specs.Value.{IsLagrange}
@@ -49,7 +49,7 @@ pub record HasRoutes (net : Net) (routes : Routes) : Type 0 where
   pub admitted : IsAdmitted net (flow net routes)
 
 abbrev pub HasTotal : Weights → Net → Cert → Type 0
-HasTotal w net cert = cost_of net w (flow net cert.routes) ≡ cert.total
+HasTotal w net cert = cost_in net w cert.routes ≡ cert.total
 
 -- The bound is in whole units, the value z in units of 1/1024: rounded up, z is at least the bound.
 pub record IsBelowValue (w : Weights) (net : Net) (cert : Cert) : Type 0 where
@@ -106,7 +106,7 @@ HoldUpTo c n =
     (p : ℕ) (cert : Cert) → p < n → slice_get c.procs p ≡ Some cert → MeetsAll c p cert
 
 -- procedure p is there, and fails by the reason
-pub record FailsAt (c : Certificate) (p : ℕ) (r : Reason) : Type 0 where
+pub record FailsProc (c : Certificate) (p : ℕ) (r : Reason) : Type 0 where
   pub cert : Cert
   pub is : slice_get c.procs p ≡ Some cert
   pub fails : FailsBy c p cert r
@@ -114,7 +114,7 @@ pub record FailsAt (c : Certificate) (p : ℕ) (r : Reason) : Type 0 where
 -- all procedures hold, or this is the first that does not
 abbrev pub IsAnswerOf : Certificate → CertAnswer → Type 0
 IsAnswerOf c Yes = (p : ℕ) (cert : Cert) → slice_get c.procs p ≡ Some cert → MeetsAll c p cert
-IsAnswerOf c (No p r) = HoldUpTo c p × FailsAt c p r
+IsAnswerOf c (No p r) = HoldUpTo c p × FailsProc c p r
 
 -- ---- what is found on the way to the answer
 
@@ -139,7 +139,7 @@ IsFirstIn w net cert (Some r) = FailsIn w net cert r
 -- the first reason that holds of procedure p, or that none does
 abbrev pub IsFirstOf : Certificate → ℕ → Option Reason → Type 0
 IsFirstOf c p None = (cert : Cert) → slice_get c.procs p ≡ Some cert → MeetsAll c p cert
-IsFirstOf c p (Some r) = FailsAt c p r
+IsFirstOf c p (Some r) = FailsProc c p r
 
 -- ---- what yes says
 
@@ -149,7 +149,7 @@ pub record IsBounded (w : Weights) (cert : Cert) : Type 0 where
   pub net : Net
   pub is_net : IsNet net cert.code
   pub admitted : IsAdmitted net (flow net cert.routes)
-  pub cost : cost_of net w (flow net cert.routes) ≡ cert.total
+  pub cost : cost_in net w cert.routes ≡ cert.total
   pub least : (f : List Edge) → IsAdmitted net f → cert.bound ≤ cost_of net w f
 
 abbrev pub AreBounded : Certificate → Type 0

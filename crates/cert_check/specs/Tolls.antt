@@ -34,21 +34,21 @@ toll net w prices s l to =
     (exit_part net prices e -ℤ entry_part net prices e)
 
 -- and its way
-abbrev pub way_price : Net → Weights → ℕ → ℕ → Option Place → Place → ℤ
-way_price net w s l from to =
+abbrev pub way_toll : Net → Weights → ℕ → ℕ → Option Place → Place → ℤ
+way_toll net w s l from to =
     pos (price_unit * way_cost all_tables net w (edge s l from to))
 
 -- ---- ties
 
 -- the strand that has this end of a tie: a tie goes from an exit to an entry
-abbrev pub strand_of : BlockEnd → Tie → ℕ
-strand_of Entry t = t.to
-strand_of Exit t = t.from
+abbrev pub tied_strand : BlockEnd → Tie → ℕ
+tied_strand Entry t = t.to
+tied_strand Exit t = t.from
 
 -- the sum of number j of all ties that strand s has this end of
 abbrev pub ties_sum : List Tie → Prices → BlockEnd → ℕ → ℕ → ℤ
 ties_sum ties prices end s j =
-    total (λ t. pay (nat_eq (strand_of end t.1) s) (slot_price prices t.0 (Some j)))
+    total (λ t. pay (nat_eq (tied_strand end t.1) s) (slot_price prices t.0 (Some j)))
     (enumerate_from 0 ties)
 
 -- a list of these sums, thirteen for each strand
@@ -96,8 +96,8 @@ is_end s l m =
     (nat_eq s m.left && nat_eq l m.left_layer) || (nat_eq s m.right && nat_eq l m.right_layer)
 
 -- the prices of the pairs of which the strand has an end there
-abbrev pub ends_sum : List MemPair → Prices → ℕ → ℕ → ℤ
-ends_sum pairs prices s l =
+abbrev pub mems_sum : List MemPair → Prices → ℕ → ℕ → ℤ
+mems_sum pairs prices s l =
     total (λ m. pay (is_end s l m.1) (pos (mem_price prices m.0))) (enumerate_from 0 pairs)
 
 pub record AreTolls (net : Net) (tolls : Tolls) : Type 0 where

@@ -3,8 +3,8 @@
 ghost use Rattle.std.specs.Prelude.{◌≡◌, ◌↔◌, pos, ℕ, IsTrue, length, replicate};
 ghost use Rattle.net_form.specs.declared.net.Net.{Net as AnyNet};
 ghost use Rattle.net_form.specs.Rooms.{zero_prices};
-ghost use Rattle.cert_check.specs.Listed.{IsCap, IsNumber, AreCaps, AreNumbers, HasPrices};
-ghost use Rattle.cert_check.specs.Listed.{with_caps, with_numbers, prices_of};
+ghost use Rattle.cert_check.specs.Listed.{IsCap, IsNumber, AreCaps, AreTieNumbers, HasPrices};
+ghost use Rattle.cert_check.specs.Listed.{with_caps, with_tie_numbers, prices_of};
 
 use cert_form::{CapAt, Cert, TieAt};
 use net_form::Prices;
@@ -62,7 +62,7 @@ fn is_number(entry: &TieAt, count: usize) -> bool
 
 // The same of a list of so many numbers of ties.
 fn are_numbers(entries: &[TieAt], count: usize) -> bool
-    ensures { IsTrue result ↔ AreNumbers count 0 entries.now }
+    ensures { IsTrue result ↔ AreTieNumbers count 0 entries.now }
 {
     let mut from = 0u64;
     let mut rest = entries;
@@ -107,8 +107,8 @@ fn put_caps(mut prices: Seq<u64>, entries: &[CapAt]) -> Seq<u64>
 }
 
 fn put_numbers(mut numbers: Seq<i64>, entries: &[TieAt]) -> Seq<i64>
-    requires { AreNumbers (length numbers) 0 entries.now }
-    ensures { result ≡ with_numbers numbers entries.now }
+    requires { AreTieNumbers (length numbers) 0 entries.now }
+    ensures { result ≡ with_tie_numbers numbers entries.now }
 {
     let mut rest = entries;
     while let [entry, others @ ..] = rest {

@@ -9,8 +9,8 @@ ghost use Rattle.net_dual.specs.Paths.{IsLeastCost, any_ends, Anywhere};
 ghost use Rattle.net_dual.specs.Priced.{edge_price};
 ghost use Rattle.net_dual.specs.Small.{IsWithin, most_sum};
 ghost use Rattle.net_laws.specs.Built.{IsBuilt};
-ghost use Rattle.cert_check.specs.Tolls.{AreTolls, IsSpot, way_price};
-ghost use Rattle.cert_check.specs.Pass.{IsRow, IsRowBefore, AreWithin, HasPath, via, paid};
+ghost use Rattle.cert_check.specs.Tolls.{AreTolls, IsSpot, way_toll};
+ghost use Rattle.cert_check.specs.Pass.{IsPassRow, IsRowBefore, IsSmallRow, HasPath, via, paid};
 
 use crate::places::{PLACES, place_at};
 use crate::sums::{add, in_units};
@@ -64,7 +64,7 @@ fn via<F: Fn(Event, u32) -> u32>(
     requires kept { Keeps F.Fn model.now }
     requires net { IsBuilt net.now }
     requires spot { IsSpot net.now spot }
-    requires row { AreWithin row.now }
+    requires row { IsSmallRow row.now }
     ensures value { result ≡
         via net.now (weights_of model.now) spot.strand spot.layer row.now from to }
     ensures within { IsCostWithin (2 ^ 61) result }
@@ -90,7 +90,7 @@ fn come_to<F: Fn(Event, u32) -> u32>(
     requires kept { Keeps F.Fn model.now }
     requires net { IsBuilt net.now }
     requires spot { IsSpot net.now spot }
-    requires row { AreWithin row.now }
+    requires row { IsSmallRow row.now }
     ensures least { IsLeastOf
         (λ k. via net.now (weights_of model.now) spot.strand spot.layer row.now (place_at k) to)
         place_count result }
@@ -143,7 +143,7 @@ fn begin<F: Fn(Event, u32) -> u32>(
     requires tolls { AreTolls net.now tolls.now }
     requires spot { IsSpot net.now spot }
     ensures { result ≡ paid net.now (weights_of model.now) tolls.now.prices spot.strand spot.layer
-        to (Some (way_price net.now (weights_of model.now) spot.strand spot.layer None to)) }
+        to (Some (way_toll net.now (weights_of model.now) spot.strand spot.layer None to)) }
 {
     let way = way_cost(net, model, spot.strand, spot.layer, None, to);
     pay(net, model, tolls, spot, to, Some(in_units(way)))
@@ -162,7 +162,7 @@ fn first_row<F: Fn(Event, u32) -> u32>(
     requires spot { IsSpot net.now spot }
     requires first { spot.layer ≡ (strand_at net.now spot.strand).first }
     ensures long { length result ≡ place_count }
-    ensures row { IsRow net.now (edge_price net.now (weights_of model.now) tolls.now.prices)
+    ensures row { IsPassRow net.now (edge_price net.now (weights_of model.now) tolls.now.prices)
         spot.strand spot.layer result }
 {
     let mut row = [None; 14];
@@ -187,7 +187,7 @@ fn next_row<F: Fn(Event, u32) -> u32>(
     requires row { IsRowBefore net.now (edge_price net.now (weights_of model.now) tolls.now.prices)
         spot.strand spot.layer row.now }
     ensures long { length result ≡ place_count }
-    ensures row { IsRow net.now (edge_price net.now (weights_of model.now) tolls.now.prices)
+    ensures row { IsPassRow net.now (edge_price net.now (weights_of model.now) tolls.now.prices)
         spot.strand spot.layer result }
 {
     let mut next = [None; 14];

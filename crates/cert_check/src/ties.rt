@@ -6,7 +6,7 @@ ghost use Rattle.net_dual.specs.Priced.{AreInRange};
 ghost use Rattle.net_dual.specs.Small.{IsWithin};
 ghost use Rattle.net_laws.specs.Built.{IsBuilt};
 ghost use Rattle.cert_check.specs.Tolls.{AreTiesSums, AreSumsWithin, AreNumbersWithin, HasAdded};
-ghost use Rattle.cert_check.specs.Tolls.{strand_of};
+ghost use Rattle.cert_check.specs.Tolls.{tied_strand};
 
 use net_form::{BlockEnd, Net, Prices, Tie};
 use pra_base::OutOfMemory;
@@ -18,7 +18,7 @@ pub(crate) const TIE_NUMBERS: usize = 13;
 
 // The strand that has this end of a tie.
 fn strand_of(end: BlockEnd, tie: &Tie) -> u32
-    ensures { result ≡ strand_of end tie.now }
+    ensures { result ≡ tied_strand end tie.now }
 {
     match end {
         BlockEnd::Entry => tie.to,

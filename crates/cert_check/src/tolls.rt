@@ -8,7 +8,7 @@ ghost use Rattle.net_dual.specs.Priced.{tie_slot, mem_price};
 ghost use Rattle.net_dual.specs.Small.{IsWithin};
 ghost use Rattle.net_form.specs.InUse.{pair_at};
 ghost use Rattle.net_laws.specs.Built.{IsBuilt};
-ghost use Rattle.cert_check.specs.Tolls.{AreTolls, IsSpot, edge, toll, is_end, ends_sum};
+ghost use Rattle.cert_check.specs.Tolls.{AreTolls, IsSpot, edge, toll, is_end, mems_sum};
 ghost use Rattle.cert_check.specs.Tolls.{slot_at};
 
 use crate::sums::{add, in_units, subtract};
@@ -76,7 +76,7 @@ fn end_price(net: &Net, prices: &Prices, spot: Spot, pair: usize) -> u64
 fn end_prices(net: &Net, prices: &Prices, spot: Spot) -> u128
     requires prices { AreInRange net.now prices.now }
     ensures value { pos result ≡
-        ends_sum net.now.pairs prices.now spot.strand spot.layer }
+        mems_sum net.now.pairs prices.now spot.strand spot.layer }
     ensures small { result ≤ 2 ^ 104 }
 {
     let mut total = 0u128;

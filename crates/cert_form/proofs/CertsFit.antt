@@ -21,7 +21,7 @@ use Rattle.cert_form.specs.declared.certificate.Certificate.{Certificate}
 use Rattle.cert_form.specs.Reading.{natural_under, long_under, list_under, kind_of, block_of}
 use Rattle.cert_form.specs.Reading.{path_of}
 use Rattle.cert_form.specs.Reading.{cap_of, tie_of, code_of, cert_of, numbered_cert, certs_of}
-use Rattle.cert_form.specs.Reading.{cost_at}
+use Rattle.cert_form.specs.Reading.{cost_word_at}
 use Rattle.cert_form.specs.Reading.{certificate_of}
 use Rattle.cert_form.specs.Whole.{IsNatural, IsLong, KindFits, BlockFits, CapFits, TieFits}
 use Rattle.cert_form.specs.Whole.{CertFits}
@@ -145,7 +145,7 @@ certificate_fits : (d : Data) → IfSome (certificate_of d) AreItsOwn
 certificate_fits d =
     let made = λ (w : CostWord) (ps : List Cert).
     let c : Certificate = record { cost = w; procs = ps } in c in
-    of_any AreItsOwn (cost_at d) (λ w. get (codes "procs") d >>= as_array >>= (λ ds.
+    of_any AreItsOwn (cost_word_at d) (λ w. get (codes "procs") d >>= as_array >>= (λ ds.
     certs_of 0 ds >>= (λ ps. Some (made w ps)))) (λ w.
     of_any AreItsOwn (get (codes "procs") d >>= as_array) (λ ds. certs_of 0 ds >>= (λ ps.
     Some (made w ps))) (λ ds.

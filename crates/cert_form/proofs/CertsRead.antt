@@ -21,7 +21,7 @@ use Rattle.cert_form.specs.Form.{natural, list, kind_data, block_data, path_data
 use Rattle.cert_form.specs.Form.{tie_data, cert_data, cost_name, certificate_data}
 use Rattle.cert_form.specs.Reading.{long_natural, natural_of, list_of, kind_of, block_of, path_of}
 use Rattle.cert_form.specs.Reading.{cap_of, tie_of, code_of, cert_of, numbered_cert, certs_of}
-use Rattle.cert_form.specs.Reading.{cost_of, certificate_of}
+use Rattle.cert_form.specs.Reading.{cost_word_of, certificate_of}
 use Rattle.cert_form.specs.Whole.{IsNatural, KindFits, BlockFits, CapFits, TieFits, CertFits}
 use Rattle.cert_form.specs.Whole.{AreNumbered, IsWhole}
 use Rattle.cert_form.proofs.PartsRead.{two, three, four, natural_read, long_natural_read, each_read}
@@ -82,7 +82,7 @@ certs_back n (c ∷ cs) h f =
     two (numbered_cert n (cert_data c)) (certs_of (suc n) (items_of (map cert_data cs))) c cs
     (λ y ys. Some (y ∷ ys)) (numbered_back n c h.0 h.1 f.0) (certs_back (suc n) cs h.2 f.1)
 
-cost_back : (c : CostWord) → cost_of (cost_name c) ≡ Some c
+cost_back : (c : CostWord) → cost_word_of (cost_name c) ≡ Some c
 cost_back Size = refl
 cost_back Speed = refl
 
@@ -90,8 +90,8 @@ cost_back Speed = refl
 pub certificate_back : (c : Certificate) → IsWhole c →
     certificate_of (certificate_data c) ≡ Some c
 certificate_back c h =
-    two (cost_of (cost_name c.cost)) (certs_of 0 (items_of (map cert_data c.procs))) c.cost c.procs
-    (λ w ps. let made : Certificate = record { cost = w; procs = ps } in Some made)
+    two (cost_word_of (cost_name c.cost)) (certs_of 0 (items_of (map cert_data c.procs)))
+    c.cost c.procs (λ w ps. let made : Certificate = record { cost = w; procs = ps } in Some made)
     (cost_back c.cost) (certs_back 0 c.procs h.numbered h.fits)
 
 -- nothing is read

@@ -31,7 +31,7 @@ use Rattle.cert_form.specs.declared.certificate.CapAt.{CapAt}
 use Rattle.cert_form.specs.declared.certificate.TieAt.{TieAt}
 use Rattle.cert_form.specs.Table.{form_named}
 use Rattle.cert_form.specs.Form.{base_number}
-use Rattle.cert_form.specs.Reading.{long_natural, natural_of, is_long, long_integer, is_short}
+use Rattle.cert_form.specs.Reading.{long_natural, natural_of, fits_i64, long_integer, fits_i32}
 use Rattle.cert_form.specs.Reading.{integer_of, natural_at, integer_at, variable_at, word_at}
 use Rattle.cert_form.specs.Reading.{condition_at, each, list_of, natural_under, long_under}
 use Rattle.cert_form.specs.Reading.{list_under}
@@ -89,21 +89,21 @@ natural_fits d =
     of_any IsNatural (long_natural d) (λ n. if nat_lt n 4294967296 then Some n else None)
     (λ n. guarded IsNatural (nat_lt n 4294967296) (Some n) (ltb-true n 4294967296))
 
-long_here : (z : ℤ) → is_long z ≡ true → FitsSigned w64 z
+long_here : (z : ℤ) → fits_i64 z ≡ true → FitsSigned w64 z
 long_here z e = grind (arith, ints, nat_tests)
 
 long_integer_fits : (d : Data) → IfSome (long_integer d) (FitsSigned w64)
 long_integer_fits d =
-    of_any (FitsSigned w64) (as_number d >>= as_i64) (λ z. if is_long z then Some z else None)
-    (λ z. guarded (FitsSigned w64) (is_long z) (Some z) (long_here z))
+    of_any (FitsSigned w64) (as_number d >>= as_i64) (λ z. if fits_i64 z then Some z else None)
+    (λ z. guarded (FitsSigned w64) (fits_i64 z) (Some z) (long_here z))
 
-short_here : (z : ℤ) → is_short z ≡ true → FitsSigned w32 z
+short_here : (z : ℤ) → fits_i32 z ≡ true → FitsSigned w32 z
 short_here z e = grind (arith, ints, nat_tests)
 
 integer_fits : (d : Data) → IfSome (integer_of d) (FitsSigned w32)
 integer_fits d =
-    of_any (FitsSigned w32) (long_integer d) (λ z. if is_short z then Some z else None)
-    (λ z. guarded (FitsSigned w32) (is_short z) (Some z) (short_here z))
+    of_any (FitsSigned w32) (long_integer d) (λ z. if fits_i32 z then Some z else None)
+    (λ z. guarded (FitsSigned w32) (fits_i32 z) (Some z) (short_here z))
 
 -- Parts of a list.
 

@@ -41,7 +41,7 @@ use Rattle.cert_form.specs.Table.{name, form_of, form_named}
 use Rattle.cert_form.specs.Form.{natural, integer, list, kind_data, base_name, base_number}
 use Rattle.cert_form.specs.Form.{index_data, address_data, instruction_data, end_data, block_data}
 use Rattle.cert_form.specs.Form.{place_data, path_data, cap_data, tie_data}
-use Rattle.cert_form.specs.Reading.{long_natural, natural_of, is_long, long_integer, is_short}
+use Rattle.cert_form.specs.Reading.{long_natural, natural_of, fits_i64, long_integer, fits_i32}
 use Rattle.cert_form.specs.Reading.{integer_of, natural_at, integer_at}
 use Rattle.cert_form.specs.Reading.{variable_at, condition_at, each, list_of, kind_of, base_of}
 use Rattle.cert_form.specs.Reading.{index_of, address_of, address_at, made, instruction_of, end_of}
@@ -89,25 +89,25 @@ signed_read (pos n) f =
     if_true (nat_lt n (2 ^ 63)) (Some (pos n)) None (lt-ltb n (2 ^ 63) below)
 signed_read (negsuc n) f = refl
 
-long_in_range : (z : ℤ) → FitsSigned w64 z → is_long z ≡ true
+long_in_range : (z : ℤ) → FitsSigned w64 z → fits_i64 z ≡ true
 long_in_range z f = grind (arith, ints, nat_tests)
 
 pub long_read : (z : ℤ) → FitsSigned w64 z → long_integer (integer z) ≡ Some z
 long_read z f =
-    one (as_i64 (of_integer z)) z (λ y. if is_long y then Some y else None) (signed_read z f)
-    ∙ if_true (is_long z) (Some z) None (long_in_range z f)
+    one (as_i64 (of_integer z)) z (λ y. if fits_i64 y then Some y else None) (signed_read z f)
+    ∙ if_true (fits_i64 z) (Some z) None (long_in_range z f)
 
 fits_long : (z : ℤ) → FitsSigned w32 z → FitsSigned w64 z
 fits_long z f = omega (arith, ints)
 
-in_range : (z : ℤ) → FitsSigned w32 z → is_short z ≡ true
+in_range : (z : ℤ) → FitsSigned w32 z → fits_i32 z ≡ true
 in_range z f = grind (arith, ints, nat_tests)
 
 pub integer_read : (z : ℤ) → FitsSigned w32 z → integer_of (integer z) ≡ Some z
 integer_read z f =
-    one (long_integer (integer z)) z (λ y. if is_short y then Some y else None)
+    one (long_integer (integer z)) z (λ y. if fits_i32 y then Some y else None)
     (long_read z (fits_long z f))
-    ∙ if_true (is_short z) (Some z) None (in_range z f)
+    ∙ if_true (fits_i32 z) (Some z) None (in_range z f)
 
 -- Parts of a list.
 

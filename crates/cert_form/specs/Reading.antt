@@ -44,21 +44,21 @@ natural_of d = do
   n ← long_natural d
   if nat_lt n 4294967296 then Some n else None
 
-abbrev pub is_long : ℤ → Bool
-is_long z = int_le (neg_ℤ (pos 9223372036854775808)) z && int_le z (pos 9223372036854775807)
+abbrev pub fits_i64 : ℤ → Bool
+fits_i64 z = int_le (neg_ℤ (pos 9223372036854775808)) z && int_le z (pos 9223372036854775807)
 
 abbrev pub long_integer : Data → Option ℤ
 long_integer d = do
   z ← as_number d >>= as_i64
-  if is_long z then Some z else None
+  if fits_i64 z then Some z else None
 
-abbrev pub is_short : ℤ → Bool
-is_short z = int_le (neg_ℤ (pos 2147483648)) z && int_le z (pos 2147483647)
+abbrev pub fits_i32 : ℤ → Bool
+fits_i32 z = int_le (neg_ℤ (pos 2147483648)) z && int_le z (pos 2147483647)
 
 abbrev pub integer_of : Data → Option ℤ
 integer_of d = do
   z ← long_integer d
-  if is_short z then Some z else None
+  if fits_i32 z then Some z else None
 
 -- The same of an item of a list, by its index.
 
@@ -335,20 +335,20 @@ certs_of n (item d ds) = do
   cs ← certs_of (suc n) ds
   Some (c ∷ cs)
 
-abbrev pub cost_of : List ℕ → Option CostWord
-cost_of word =
+abbrev pub cost_word_of : List ℕ → Option CostWord
+cost_word_of word =
     if bytes_eq word (codes "size") then Some Size
     else if bytes_eq word (codes "speed") then Some Speed
     else None
 
-abbrev pub cost_at : Data → Option CostWord
-cost_at d = do
+abbrev pub cost_word_at : Data → Option CostWord
+cost_word_at d = do
   word ← get (codes "cost") d >>= as_str
-  cost_of word
+  cost_word_of word
 
 abbrev pub certificate_of : Data → Option Certificate
 certificate_of d = do
-  cost ← cost_at d
+  cost ← cost_word_at d
   parts ← get (codes "procs") d >>= as_array
   procs ← certs_of 0 parts
   Some (record { cost = cost; procs = procs })

@@ -11,8 +11,8 @@ ghost use Rattle.cert_form.specs.Reading.{kind_named, kind_of, base_of};
 ghost use Rattle.cert_form.specs.Reading.{index_of, address_of, address_at, made, instruction_of};
 ghost use Rattle.cert_form.specs.Reading.{end_named, end_of, block_of, place_of, path_of, cap_of};
 ghost use Rattle.cert_form.specs.Reading.{tie_of, code_of, cert_of, numbered_cert, certs_of};
-ghost use Rattle.cert_form.specs.Reading.{cost_of};
-ghost use Rattle.cert_form.specs.Reading.{cost_at, certificate_of};
+ghost use Rattle.cert_form.specs.Reading.{cost_word_of};
+ghost use Rattle.cert_form.specs.Reading.{cost_word_at, certificate_of};
 ghost use Rattle.cert_form.specs.declared.reading.Misread.TheVariants as misread;
 
 use crate::certificate::{CapAt, Cert, Certificate, CostWord, TieAt};
@@ -498,7 +498,7 @@ fn certs(alloc: Global, values: &[Value]) -> Result<Seq<Cert>, Misread>
 }
 
 fn cost(word: &str) -> Option<CostWord>
-    ensures { result ≡ cost_of word.now }
+    ensures { result ≡ cost_word_of word.now }
 {
     if word == "size" {
         Some(CostWord::Size)
@@ -510,7 +510,7 @@ fn cost(word: &str) -> Option<CostWord>
 }
 
 fn cost_word(value: &Value) -> Option<CostWord>
-    ensures { result ≡ cost_at (view value.now) }
+    ensures { result ≡ cost_word_at (view value.now) }
 {
     let word = value.get("cost")?.as_str()?;
     cost(word)

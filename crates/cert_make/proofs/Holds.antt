@@ -29,7 +29,7 @@ use Rattle.cert_check.specs.declared.check.Reason.{Reason}
 use Rattle.cert_check.specs.declared.check.Reason.TheVariants.{Code, Routes as Ways}
 use Rattle.cert_check.specs.declared.check.Reason.TheVariants.{Prices as Listed, Total, Bound}
 use Rattle.cert_check.specs.declared.check.CertAnswer.TheVariants.{Yes}
-use Rattle.cert_check.specs.Listed.{HasPrices, prices_of, with_caps, with_numbers}
+use Rattle.cert_check.specs.Listed.{HasPrices, prices_of, with_caps, with_tie_numbers}
 use Rattle.cert_check.specs.Reasons.{weights_by, counts_in, HasCode, IsBelowValue, MeetsIn}
 use Rattle.cert_check.specs.Reasons.{Meets, MeetsAll, IsAnswerOf}
 use Rattle.cert_make.specs.Made.{caps_from, numbers_from, IsCertOf, IsCertificateOf}
@@ -80,7 +80,7 @@ module _ (net : Net) (out : ProcOut) (in_range : AreInRange net out.prices) wher
       ≡ out.prices.caps) in_range.caps (caps_again out.prices.caps) in
       let mems = subst (λ n. with_caps (replicate n 0) (caps_from 0 out.prices.mems)
       ≡ out.prices.mems) in_range.mems (caps_again out.prices.mems) in
-      let ties = subst (λ n. with_numbers (replicate n (pos 0)) (numbers_from 0 out.prices.ties)
+      let ties = subst (λ n. with_tie_numbers (replicate n (pos 0)) (numbers_from 0 out.prices.ties)
       ≡ out.prices.ties) in_range.ties (numbers_again out.prices.ties) in
       λ i. record { caps = caps i; mems = mems i; ties = ties i }
 

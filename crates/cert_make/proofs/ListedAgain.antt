@@ -4,7 +4,7 @@ use Rattle.std.proofs.Common.{List, [], ◌∷◌, length, replicate, set, All, 
 use Rattle.std.proofs.lemmas.Int.{ints}
 use Rattle.std.proofs.lemmas.List.Elements.{All-head, All-tail}
 use Rattle.net_dual.specs.Priced.{most_price}
-use Rattle.cert_check.specs.Listed.{AreCaps, AreNumbers, with_caps, with_numbers}
+use Rattle.cert_check.specs.Listed.{AreCaps, AreTieNumbers, with_caps, with_tie_numbers}
 use Rattle.cert_make.specs.Made.{caps_from, numbers_from}
 
 -- ---- prices
@@ -58,7 +58,7 @@ IsLeastNumber number = (pos 0 -ℤ pos most_price) ≤ℤ number
 
 pub are_numbers : (count from at : ℕ) (numbers : List ℤ) → from ≤ at → at + length numbers ≤ count
     → All IsMostNumber numbers → All IsLeastNumber numbers
-    → AreNumbers count from (numbers_from at numbers)
+    → AreTieNumbers count from (numbers_from at numbers)
 are_numbers count from at [] after within most least = tt
 are_numbers count from at (pos zero ∷ numbers) after within most least =
     are_numbers count from (suc at) numbers (omega (arith, after)) (omega (arith, within))
@@ -90,8 +90,8 @@ are_numbers count from at (negsuc n ∷ numbers) after within most least = (
 )
 
 number_before : (at : ℕ) (first : ℤ) (rest numbers : List ℤ)
-    → with_numbers (first ∷ rest) (numbers_from (suc at) numbers)
-    ≡ first ∷ with_numbers rest (numbers_from at numbers)
+    → with_tie_numbers (first ∷ rest) (numbers_from (suc at) numbers)
+    ≡ first ∷ with_tie_numbers rest (numbers_from at numbers)
 number_before at first rest [] = refl
 number_before at first rest (pos zero ∷ numbers) = number_before (suc at) first rest numbers
 number_before at first rest (pos (suc n) ∷ numbers) =
@@ -100,7 +100,7 @@ number_before at first rest (negsuc n ∷ numbers) =
     number_before (suc at) first (set rest at (negsuc n)) numbers
 
 pub numbers_again : (numbers : List ℤ)
-    → with_numbers (replicate (length numbers) (pos 0)) (numbers_from 0 numbers) ≡ numbers
+    → with_tie_numbers (replicate (length numbers) (pos 0)) (numbers_from 0 numbers) ≡ numbers
 numbers_again [] = refl
 numbers_again (pos zero ∷ numbers) =
     number_before 0 (pos 0) (replicate (length numbers) (pos 0)) numbers

@@ -13,7 +13,7 @@ use Rattle.pra_list.proofs.Options.{some_same}
 use Rattle.pra_base.specs.declared.ids.Place.{Place}
 use Rattle.net_form.specs.declared.net.Strand.{Strand}
 use Rattle.net_form.specs.Flow.{HasPlaces}
-use Rattle.net_build.specs.Fitting.{is_long, behind}
+use Rattle.net_build.specs.Fitting.{is_placed, behind}
 
 -- ---- some strands, and more behind them
 
@@ -21,7 +21,7 @@ pub went_on : (ss ts : List Strand) (lists : List (List Place)) (k n : ℕ) →
     Some n ≡ behind ss lists k → behind (ss ++ ts) lists k ≡ behind ts lists n
 unfolding behind
 went_on [] ts lists k n went = ap (behind ts lists) (sym (some_same n k went))
-went_on (s ∷ ss) ts lists k n went = by_first (is_long s (slice_get lists k)) went
+went_on (s ∷ ss) ts lists k n went = by_first (is_placed s (slice_get lists k)) went
     (λ rest. went_on ss ts lists (k + 1) n rest)
   where
     by_first : (long : Bool) → Some n ≡ (if long then behind ss lists (k + 1) else None) →
@@ -35,7 +35,7 @@ pub stopped : (ss ts : List Strand) (lists : List (List Place)) (k : ℕ) →
     None ≡ behind ss lists k → None ≡ behind (ss ++ ts) lists k
 unfolding behind
 stopped [] ts lists k stop = cc
-stopped (s ∷ ss) ts lists k stop = by_first (is_long s (slice_get lists k)) stop
+stopped (s ∷ ss) ts lists k stop = by_first (is_placed s (slice_get lists k)) stop
     (λ rest. stopped ss ts lists (k + 1) rest)
   where
     by_first : (long : Bool) → None ≡ (if long then behind ss lists (k + 1) else None) →
@@ -49,12 +49,12 @@ unfolding behind
 none_behind lists k = refl
 
 one_behind : (s : Strand) (lists : List (List Place)) (k : ℕ) →
-    is_long s (slice_get lists k) ≡ true → Some (k + 1) ≡ behind (s ∷ []) lists k
+    is_placed s (slice_get lists k) ≡ true → Some (k + 1) ≡ behind (s ∷ []) lists k
 unfolding behind
 one_behind s lists k long = rw long refl
 
 not_behind : (s : Strand) (lists : List (List Place)) (k : ℕ) →
-    is_long s (slice_get lists k) ≡ false → None ≡ behind (s ∷ []) lists k
+    is_placed s (slice_get lists k) ≡ false → None ≡ behind (s ∷ []) lists k
 unfolding behind
 not_behind s lists k short = rw short refl
 
@@ -63,20 +63,20 @@ pub long_behind : (s : Strand) (lists : List (List Place)) (k : ℕ) (list : Lis
     k < length lists → list ≡ get_or lists k list → s.first + length list ≡ s.last + 1 →
     Some (k + 1) ≡ behind (s ∷ []) lists k
 long_behind s lists k list within read same = one_behind s lists k
-    (ap (is_long s) (slice_get_read lists (length lists) k list refl within read)
+    (ap (is_placed s) (slice_get_read lists (length lists) k list refl within read)
     ∙ eq-eqb (s.first + length list) (s.last + 1) same)
 
 pub short_behind : (s : Strand) (lists : List (List Place)) (k : ℕ) (list : List Place) →
     k < length lists → list ≡ get_or lists k list → s.first + length list ≢ s.last + 1 →
     None ≡ behind (s ∷ []) lists k
 short_behind s lists k list within read apart = not_behind s lists k
-    (ap (is_long s) (slice_get_read lists (length lists) k list refl within read)
+    (ap (is_placed s) (slice_get_read lists (length lists) k list refl within read)
     ∙ ne_eqb (s.first + length list) (s.last + 1) apart)
 
 pub past_behind : (s : Strand) (lists : List (List Place)) (k : ℕ) → length lists ≤ k →
     None ≡ behind (s ∷ []) lists k
 past_behind s lists k past = not_behind s lists k
-    (ap (is_long s) (nothing_left lists k (drop_all k lists past)))
+    (ap (is_placed s) (nothing_left lists k (drop_all k lists past)))
 
 -- ---- what is left of the numbers below n, one number less
 
@@ -210,7 +210,7 @@ fits lists [] (r ∷ rs) k left at_end = absurd
     some_there (y ∷ ys) zero x at end = cc
     some_there (y ∷ ys) (suc k) x at end = some_there ys k x at (omega (arith, end))
 fits lists (s ∷ ss) [] k left at_end =
-    absurd (stuck (is_long s (slice_get lists k)) (ap (is_long s) (nothing_left lists k left))
+    absurd (stuck (is_placed s (slice_get lists k)) (ap (is_placed s) (nothing_left lists k left))
     at_end)
   where
     stuck : (long : Bool) → long ≡ false → Some (length lists) ≡
@@ -219,7 +219,7 @@ fits lists (s ∷ ss) [] k left at_end =
     stuck false e went = cc
 fits lists (s ∷ ss) (r ∷ rs) k left at_end =
     let here = left_begins lists rs k r left in
-    by_first (is_long s (slice_get lists k)) (ap (is_long s) here.0) at_end
+    by_first (is_placed s (slice_get lists k)) (ap (is_placed s) here.0) at_end
     (λ went. fits lists ss rs (k + 1) (let e : k + 1 ≡ suc k = omega arith in
     ap (λ m. drop m lists) e ∙ here.1) went)
   where

@@ -20,7 +20,7 @@ use Rattle.net_form.specs.Admitted.{no_strand}
 use Rattle.net_form.specs.Index.{is_end}
 use Rattle.net_form.specs.Network.{stands_for, strand_of, marked_roles, marked, pair_of, pairs}
 use Rattle.net_form.specs.Tables.{PlaceTables}
-use Rattle.net_build.specs.Owners.{IsPairOf, EndsBefore, ArePairs}
+use Rattle.net_build.specs.Owners.{IsPairOf, PairEndsBefore, ArePairs}
 use Rattle.net_build.proofs.Comprehended.{filter_map-map, by_number}
 use Rattle.net_build.proofs.InOrder.{pairs-flat_map, pairs-filter_map, from_some}
 
@@ -197,18 +197,18 @@ module _ (tables : PlaceTables) (code : VProc) (ss : List Strand) where
   all_in b = subst (All (IsIn b)) (sym (by_index b))
       (All-filter_map (IsIn b) (pair_at b) (range_with_len 0 (length (code_of code b)))
       (All-range (λ i. IfSome (pair_at b i) (IsIn b)) 0 (length (code_of code b))
-      (λ i _ _. from_some (EndsBefore ss) (IsIn b) (pair_at b i)
+      (λ i _ _. from_some (PairEndsBefore ss) (IsIn b) (pair_at b i)
       (λ m is. record { index = i; is = there b i m is }))))
 
-  block_in_order : (b : ℕ) → AllPairs (EndsBefore ss) (of_block b)
-  block_in_order b = subst (AllPairs (EndsBefore ss)) (sym (by_index b))
-      (pairs-filter_map (EndsBefore ss) (pair_at b) (λ i j m n lt one two s x y in_ at_m at_n.
+  block_in_order : (b : ℕ) → AllPairs (PairEndsBefore ss) (of_block b)
+  block_in_order b = subst (AllPairs (PairEndsBefore ss)) (sym (by_index b))
+      (pairs-filter_map (PairEndsBefore ss) (pair_at b) (λ i j m n lt one two s x y in_ at_m at_n.
       let p = (end_of ss b i s x m (there b i m one) in_ at_m).high in
       let q = (end_of ss b j s y n (there b j n two) in_ at_n).low in
       omega (arith, p, q, lt)) 0 (length (code_of code b)))
 
-  in_order : AllPairs (EndsBefore ss) (pairs tables code ss)
-  in_order = pairs-flat_map (EndsBefore ss) of_block block_in_order
+  in_order : AllPairs (PairEndsBefore ss) (pairs tables code ss)
+  in_order = pairs-flat_map (PairEndsBefore ss) of_block block_in_order
       (λ i j lt k d in_one m e in_two s x y in_ at_m at_n.
       let one = all_in i k d in_one in
       let two = all_in j m e in_two in

@@ -18,7 +18,7 @@ use Rattle.net_form.specs.Network.{net_block, ties, ties_from, is_joined}
 use Rattle.net_form.specs.Rooms.{layer_total}
 use Rattle.net_build.specs.declared.groups.Groups.{Groups}
 use Rattle.net_build.specs.Labels.{parent, IsBelow}
-use Rattle.net_build.specs.Grouped.{leading, AreNumbered, AreGroups, group_in}
+use Rattle.net_build.specs.Grouped.{leading, AreGroupNumbers, AreGroups, group_in}
 
 -- ---- groups
 
@@ -26,7 +26,7 @@ module _ (ts : List Tie) (ends : ℕ) (g : Groups) (are : AreGroups ts ends g) w
   pub same_leads : leading g.tied g.least ≡ leads ts (parent g.least)
   same_leads = λ i e. are.tied e i && eqb (parent g.least e) e
 
-  pub same_group : AreNumbered g → (e : ℕ) → group_in g e ≡ group_of ts (parent g.least) e
+  pub same_group : AreGroupNumbers g → (e : ℕ) → group_in g e ≡ group_of ts (parent g.least) e
   same_group numbered e = by (cases_Bool (get_or g.tied e false))
     where
       by : (get_or g.tied e false ≡ true) ⊎ (get_or g.tied e false ≡ false) → group_in g e ≡

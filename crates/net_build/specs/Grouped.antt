@@ -22,7 +22,7 @@ numbers_of tied least =
     map (λ e. count_by (leading tied least) (range_with_len 0 e))
     (range_with_len 0 (length least + 1))
 
-pub record AreNumbered (g : Groups) : Type 0 where
+pub record AreGroupNumbers (g : Groups) : Type 0 where
   pub down : GoDown g.least
   pub count : length g.tied ≡ length g.least
   pub numbers : g.numbers ≡ numbers_of g.tied g.least

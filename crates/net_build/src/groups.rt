@@ -6,7 +6,7 @@ ghost use Rattle.std.specs.Prelude.{count_by, All, IfOk};
 ghost use Rattle.std.specs.List.{range_with_len, enumerate_from};
 ghost use Rattle.net_form.specs.Groups.{is_tied};
 ghost use Rattle.net_build.specs.Labels.{parent, GoDown, IsBelow};
-ghost use Rattle.net_build.specs.Grouped.{joins, leading, numbers_of, AreNumbered, AreGroups};
+ghost use Rattle.net_build.specs.Grouped.{joins, leading, numbers_of, AreGroupNumbers, AreGroups};
 ghost use Rattle.net_build.specs.Grouped.{group_in, grouped_in};
 
 use crate::labels::{entry_end, exit_end, least_ends, parent};
@@ -94,7 +94,7 @@ pub(crate) fn groups_of(
     requires few { strands < 2 ^ 32 }
     requires ties { All (IsBelow (2 * strands)) ties.now }
     ensures groups { IfOk result (AreGroups ties.now (2 * strands)) }
-    ensures numbered { IfOk result AreNumbered }
+    ensures numbered { IfOk result AreGroupNumbers }
     ensures few { IfOk result (λ groups. length groups.least < 2 ^ 32) }
 {
     let ends = u32::try_from(2 * strands).map_err(|_| OutOfMemory)?;
@@ -111,7 +111,7 @@ pub(crate) fn groups_of(
 impl Groups {
     /// How many groups there are.
     pub(crate) fn count(&self) -> u32
-        requires { AreNumbered self.now }
+        requires { AreGroupNumbers self.now }
         ensures { result ≡ count_by (leading self.now.tied self.now.least)
             (range_with_len 0 (length self.now.least)) }
     {
@@ -120,7 +120,7 @@ impl Groups {
 
     // The group of an end, if a tie joins it.
     fn of(&self, end: u32) -> Option<u32>
-        requires groups { AreNumbered self.now }
+        requires groups { AreGroupNumbers self.now }
         requires end { end < length self.now.least }
         ensures { result ≡ group_in self.now end }
     {
@@ -134,7 +134,7 @@ impl Groups {
 
 /// Gives the ends of strands their groups, in place.
 pub(crate) fn grouped(strands: Seq<Strand>, groups: &Groups) -> Seq<Strand>
-    requires groups { AreNumbered groups.now }
+    requires groups { AreGroupNumbers groups.now }
     requires ends { length groups.now.least ≡ 2 * length strands }
     requires few { length groups.now.least < 2 ^ 32 }
     ensures { result ≡ map (grouped_in groups.now) (enumerate_from 0 strands) }

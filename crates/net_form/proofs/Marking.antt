@@ -8,27 +8,27 @@ use Rattle.std.proofs.lemmas.Nat.Bits.{bit_at-lt}
 use Rattle.pra_base.specs.declared.ids.Place.{Place}
 use Rattle.pra_base.specs.Places.{number, has_register, register_of}
 use Rattle.net_form.specs.Admitted.{in_register}
-use Rattle.net_form.specs.InUse.{mark, pair_mark, comes_to, after}
+use Rattle.net_form.specs.InUse.{mark, pair_mark, lands_in, after}
 use Rattle.pra_list.proofs.Counts.{bit}
 
 -- ---- what one more comes to
 
 pub comes_nowhere : (n : ℕ) (p : Place) → has_register (number p) ≡ false → (m q : ℕ) →
-    comes_to n p m q ≡ 0
+    lands_in n p m q ≡ 0
 comes_nowhere n p no_register m q =
     ap bit (and_right (eqb n m) (in_register q p)
     (and_left (has_register (number p)) (eqb (register_of (number p)) q) no_register))
 
 pub comes_here : (n : ℕ) (p : Place) → has_register (number p) ≡ true →
-    comes_to n p n (register_of (number p)) ≡ 1
+    lands_in n p n (register_of (number p)) ≡ 1
 comes_here n p register =
     ap bit (ap (λ b. b && in_register (register_of (number p)) p) (eq-eqb n n refl)
     ∙ ap (λ b. b && eqb (register_of (number p)) (register_of (number p))) register
     ∙ eq-eqb (register_of (number p)) (register_of (number p)) refl)
 
 pub comes_elsewhere : (n : ℕ) (p : Place) (m q : ℕ) → ¬ ((m ≡ n) × (q ≡ register_of (number p))) →
-    comes_to n p m q ≡ 0
-comes_elsewhere n p m q other = elim (cases_eq m n) as (λ _. comes_to n p m q ≡ 0) [
+    lands_in n p m q ≡ 0
+comes_elsewhere n p m q other = elim (cases_eq m n) as (λ _. lands_in n p m q ≡ 0) [
   | inl same ↦ ap bit (and_right (eqb n m) (in_register q p)
       (and_right (has_register (number p)) (eqb (register_of (number p)) q)
       (ne_eqb (register_of (number p)) q (λ e. other (same, sym e)))))
@@ -71,27 +71,27 @@ module _ (used : Bool) (regs : List ℕ) (layer r byte : ℕ) (lt : layer < leng
     pub place_marked : (to : Place) → has_register (number to) ≡ true →
         r ≡ register_of (number to) →
         (n q : ℕ)
-        → mark (set regs layer byte) n q ≡ after used (mark regs n q) (comes_to layer to n q)
+        → mark (set regs layer byte) n q ≡ after used (mark regs n q) (lands_in layer to n q)
     place_marked to comes is n q =
         elim (cases_eq n layer) as (λ _. mark (set regs layer byte) n q ≡ after used (mark regs n q)
-        (comes_to layer to n q)) [
+        (lands_in layer to n q)) [
           | inr apart ↦
               ap (λ b. bit_at b q) (get_or-set_other regs layer n byte 0 apart)
-              ∙ sym (after-none used (mark regs n q) (comes_to layer to n q) (mark-small regs n q)
+              ∙ sym (after-none used (mark regs n q) (lands_in layer to n q) (mark-small regs n q)
               (comes_elsewhere layer to n q (λ e. apart e.0)))
           | inl same ↦ ap (λ k. mark (set regs layer byte) k q) same ∙ ap (λ b. bit_at b q)
               (get_or-set_same regs layer byte 0 lt)
               ∙ elim (cases_eq q r) as (λ _. bit_at byte q ≡ after used (mark regs n q)
-              (comes_to layer to n q)) [
+              (lands_in layer to n q)) [
                 | inl at ↦
-                    let once = ap (λ k. comes_to layer to k q) same ∙ ap (comes_to layer to layer)
+                    let once = ap (λ k. lands_in layer to k q) same ∙ ap (lands_in layer to layer)
                     (at ∙ is) ∙ comes_here layer to comes in
                     ap (bit_at byte) at ∙ here
-                    ∙ sym (after-some used (mark regs n q) (comes_to layer to n q)
+                    ∙ sym (after-some used (mark regs n q) (lands_in layer to n q)
                     (mark-small regs n q) (omega (arith, once)))
                 | inr apart ↦
                     others q apart ∙ ap (λ k. mark regs k q) (sym same)
-                    ∙ sym (after-none used (mark regs n q) (comes_to layer to n q)
+                    ∙ sym (after-none used (mark regs n q) (lands_in layer to n q)
                     (mark-small regs n q)
                     (comes_elsewhere layer to n q (λ e. apart (e.1 ∙ sym is))))
               ]

@@ -9,7 +9,7 @@ use Rattle.net_form.specs.Admitted.{strand_at, uses_bundle}
 use Rattle.net_form.specs.Flow.{edges}
 use Rattle.net_form.specs.Index.{first_layer}
 use Rattle.pra_list.proofs.Counts.{count-cons}
-use Rattle.net_form.specs.InUse.{comes_to}
+use Rattle.net_form.specs.InUse.{lands_in}
 
 -- where a path comes from is all the same to the registers that it is in
 module _ (net : Net) (n r : ℕ) where
@@ -28,13 +28,13 @@ module _ (net : Net) (n r : ℕ) where
   -- the first place of a path, and the others
   pub uses_step : (s k layer : ℕ) (xs : List Place) (d : Place) → 1 ≤ length xs →
       first_layer net.blocks (strand_at net s).block.0 + k ≡ layer
-      → uses s k None xs ≡ comes_to layer (get_or xs 0 d) n r + uses s (k + 1) None
+      → uses s k None xs ≡ lands_in layer (get_or xs 0 d) n r + uses s (k + 1) None
       (take (length xs - 1) (drop 1 xs))
   uses_step s k layer [] d some at = absurd (omega (arith, some))
   uses_step s k layer (x ∷ xs) d some at =
       let a = count-cons (uses_bundle net n r)
       (record { strand = s; layer = k; from = None; to = x }) (edges s (suc k) (Some x) xs) in
-      let here = ap (λ l. comes_to l x n r) at in
+      let here = ap (λ l. lands_in l x n r) at in
       let more = uses_from s (suc k) (Some x) None xs
       ∙ sym (ap (λ l. uses s l None xs) (add-one k))
       ∙ sym (ap (uses s (k + 1) None) (take_all (suc (length xs) - 1) xs (omega arith))) in

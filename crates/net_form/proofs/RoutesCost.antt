@@ -16,7 +16,7 @@ use Rattle.net_form.specs.declared.routes.Routes.{Routes}
 use Rattle.net_form.specs.Flow.{Edge, is_at, same_place, same_start, arrives, edges, flow_of, flow}
 use Rattle.net_form.specs.Flow.{HasPlaces, AreRoutes}
 use Rattle.net_form.specs.Admitted.{no_strand}
-use Rattle.net_form.specs.Cost.{cost_by, routes_cost, way_cost, extra_cost, meets, place_of, is_met}
+use Rattle.net_form.specs.Cost.{cost_by, routes_cost, way_cost, extra_cost, meets, place_on, is_met}
 use Rattle.net_form.specs.Tables.{PlaceTables}
 use Rattle.pra_list.proofs.Counts.{bit, count-none}
 use Rattle.net_form.proofs.Paths.{none_earlier, first_only, later_layer}
@@ -25,23 +25,23 @@ use Rattle.net_form.proofs.RoutesConserve.{own_count, edges_are, as_many}
 
 -- ---- the place of a path at a layer
 
-place_of-early : (ps : List Place) (k l : ℕ) → l < k → place_of ps k l ≡ None
+place_of-early : (ps : List Place) (k l : ℕ) → l < k → place_on ps k l ≡ None
 place_of-early ps k l lt = ap (λ b. cond b (slice_get ps (l - k)) None) (lt-leb k l lt)
 
-place_of-here : (x : Place) (ps : List Place) (k : ℕ) → place_of (x ∷ ps) k k ≡ Some x
+place_of-here : (x : Place) (ps : List Place) (k : ℕ) → place_on (x ∷ ps) k k ≡ Some x
 place_of-here x ps k =
     ap (λ b. cond b (slice_get (x ∷ ps) (k - k)) None) (le-leb k k (omega arith))
     ∙ ap (λ n. slice_get (x ∷ ps) n) (let e : k - k ≡ 0 = omega arith in e)
 
 place_of-later : (x : Place) (ps : List Place) (k l : ℕ) → k < l
-    → place_of (x ∷ ps) k l ≡ place_of ps (suc k) l
+    → place_on (x ∷ ps) k l ≡ place_on ps (suc k) l
 place_of-later x ps k l lt =
     ap (λ b. cond b (slice_get (x ∷ ps) (l - k)) None) (le-leb k l (omega (arith, lt)))
     ∙ ap (λ n. slice_get (x ∷ ps) n) (let e : l - k ≡ suc (l - suc k) = omega (arith, lt) in e)
     ∙ sym (ap (λ b. cond b (slice_get ps (l - suc k)) None) (le-leb (suc k) l (omega (arith, lt))))
 
-pub place_of-nil : (k l : ℕ) → place_of [] k l ≡ None
-place_of-nil k l = elim (cases_lt l k) as (λ _. place_of [] k l ≡ None) [
+pub place_of-nil : (k l : ℕ) → place_on [] k l ≡ None
+place_of-nil k l = elim (cases_lt l k) as (λ _. place_on [] k l ≡ None) [
   | inl lt ↦ place_of-early [] k l lt
   | inr le ↦ ap (λ b. cond b (slice_get [] (l - k)) None) (le-leb k l le) ∙ slice_get_past []
       (l - k) (omega arith)
@@ -50,7 +50,7 @@ place_of-nil k l = elim (cases_lt l k) as (λ _. place_of [] k l ≡ None) [
 -- the statement for one path
 abbrev IsCounted : ℕ → ℕ → Option Place → List Place → ℕ → Place → Type 0
 IsCounted s k p ps l q = count_by (arrives s l q) (edges s k p ps) ≡
-    bit (same_start (place_of ps k l) (Some q))
+    bit (same_start (place_on ps k l) (Some q))
 
 from_here : (s k : ℕ) (p : Option Place) (x : Place) (ps : List Place) (l : ℕ) (q : Place) → k ≤ l
     → IsCounted s (suc k) (Some x) ps l q → (l ≡ k) ⊎ (l ≡ k → ⊥) → IsCounted s k p (x ∷ ps) l q
@@ -64,7 +64,7 @@ from_here s k p x ps l q le more (inr other) =
 
 -- a path comes to a place at a layer once, where that is its place there, and else not
 pub path_at : (s k : ℕ) (p : Option Place) (ps : List Place) (l : ℕ) (q : Place)
-    → count_by (arrives s l q) (edges s k p ps) ≡ bit (same_start (place_of ps k l) (Some q))
+    → count_by (arrives s l q) (edges s k p ps) ≡ bit (same_start (place_on ps k l) (Some q))
 path_at s k p [] l q = sym (ap (λ o. bit (same_start o (Some q))) (place_of-nil k l))
 path_at s k p (x ∷ ps) l q = elim (cases_lt l k) as (λ _. IsCounted s k p (x ∷ ps) l q) [
   | inl lt ↦ none_earlier s k p (x ∷ ps) l (λ e. same_place e.to q) lt
@@ -79,19 +79,19 @@ module _ (us : List Strand) (rs : List (List Place)) (has : HasPlaces us rs) (s 
   -- with the strand that is looked up
   there : (t d : Strand) → slice_get us s ≡ Some t →
       count_by (arrives s l q) (flow_of us rs) ≡
-      bit (same_start (place_of (slice_index_or rs s []) (slice_index_or us s d).first l)
+      bit (same_start (place_on (slice_index_or rs s []) (slice_index_or us s d).first l)
       (Some q))
   there t d is =
       subst (λ x. count_by (arrives s l q) (flow_of us x) ≡ count_by (arrives s l q)
       (edges s t.first None (get_or rs s []))) (set-get_or rs s [])
       (own_count us rs s t has is l (λ e. same_place e.to q) (get_or rs s []))
       ∙ path_at s t.first None (get_or rs s []) l q
-      ∙ ap (λ (u : Strand). bit (same_start (place_of (get_or rs s []) u.first l) (Some q)))
+      ∙ ap (λ (u : Strand). bit (same_start (place_on (get_or rs s []) u.first l) (Some q)))
       (sym (get_or_from_slice_get us s t d is))
 
   nowhere : (d : Strand) → length us ≤ s →
       count_by (arrives s l q) (flow_of us rs) ≡
-      bit (same_start (place_of (slice_index_or rs s []) (slice_index_or us s d).first l)
+      bit (same_start (place_on (slice_index_or rs s []) (slice_index_or us s d).first l)
       (Some q))
   nowhere d le =
       count-none (arrives s l q) (flow_of us rs) (λ k x lt.
@@ -102,7 +102,7 @@ module _ (us : List Strand) (rs : List (List Place)) (has : HasPlaces us rs) (s 
       and_left (is_at s l e) (same_place e.to q)
       (and_left (eqb e.strand s) (eqb e.layer l) (ne_eqb e.strand s (λ same.
       none_some (sym (slice_get_past us e.strand (omega (arith, same, le))) ∙ m.is)))))
-      ∙ sym (ap (λ r. bit (same_start (place_of r (slice_index_or us s d).first l) (Some q)))
+      ∙ sym (ap (λ r. bit (same_start (place_on r (slice_index_or us s d).first l) (Some q)))
       (past rs s (let n = as_many us rs has in omega (arith, n, le)))
       ∙ ap (λ o. bit (same_start o (Some q))) (place_of-nil (slice_index_or us s d).first l))
     where
@@ -113,9 +113,9 @@ module _ (us : List Strand) (rs : List (List Place)) (has : HasPlaces us rs) (s 
 
   -- the flow comes to a place as often as the routes have the strand there
   pub flow_at : (d : Strand) → count_by (arrives s l q) (flow_of us rs) ≡
-      bit (same_start (place_of (slice_index_or rs s []) (slice_index_or us s d).first l) (Some q))
+      bit (same_start (place_on (slice_index_or rs s []) (slice_index_or us s d).first l) (Some q))
   flow_at d = elim ((slice_get_cases us s).1) as (λ _. count_by (arrives s l q) (flow_of us rs) ≡
-      bit (same_start (place_of (slice_index_or rs s []) (slice_index_or us s d).first l) (Some q))) [
+      bit (same_start (place_on (slice_index_or rs s []) (slice_index_or us s d).first l) (Some q))) [
         | inl some ↦ there some.0 d some.2
         | inr none ↦ nowhere d none.0
       ]

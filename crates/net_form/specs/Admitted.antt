@@ -26,6 +26,13 @@ no_strand = record {
 abbrev pub strand_at : Net → ℕ → Strand
 strand_at net s = slice_index_or net.strands s no_strand
 
+-- a tie, and one of strand 0 where there is none
+abbrev pub no_tie : Tie
+no_tie = record { from = 0; to = 0 }
+
+abbrev pub tie_at : Net → ℕ → Tie
+tie_at net i = slice_index_or net.ties i no_tie
+
 -- the layer at which an edge arrives, where the layers of all blocks are counted together
 abbrev pub layer_of : Net → Edge → ℕ
 layer_of net e = first_layer net.blocks (strand_at net e.strand).block.0 + e.layer

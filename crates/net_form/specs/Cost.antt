@@ -45,6 +45,10 @@ cost_by tables net w f =
 abbrev pub cost_of : Net → Weights → List Edge → ℕ
 cost_of net w f = cost_by all_tables net w f
 
+-- what the flow of routes costs
+abbrev pub cost_in : Net → Weights → Routes → ℕ
+cost_in net w routes = cost_of net w (flow net routes)
+
 -- ---- the same, edge by edge
 
 -- an extra of strand s at place p of layer l
@@ -63,14 +67,14 @@ edge_cost tables net w e = way_cost tables net w e + extras_cost net w e.strand 
 -- ---- the cost of routes: the ways of their paths, and each extra whose place is met
 
 -- the place of strand s at layer l, if the strand is there
-abbrev pub place_of : List Place → ℕ → ℕ → Option Place
-place_of path first l = if nat_le first l then slice_get path (l - first) else None
+abbrev pub place_on : List Place → ℕ → ℕ → Option Place
+place_on path first l = if nat_le first l then slice_get path (l - first) else None
 
-abbrev pub place_at : Net → Routes → ℕ → ℕ → Option Place
-place_at net routes s l = place_of (slice_index_or routes.places s []) (strand_at net s).first l
+abbrev pub route_at : Net → Routes → ℕ → ℕ → Option Place
+route_at net routes s l = place_on (slice_index_or routes.places s []) (strand_at net s).first l
 
 abbrev pub is_met : Net → Routes → Extra → Bool
-is_met net routes x = same_start (place_at net routes x.strand x.layer) (Some x.place)
+is_met net routes x = same_start (route_at net routes x.strand x.layer) (Some x.place)
 
 abbrev pub met_cost : Net → Weights → Routes → Extra → ℕ
 met_cost net w routes x = if is_met net routes x then extra_cost net w x else 0

@@ -11,8 +11,7 @@ use Rattle.net_cost.specs.declared.event.Event.TheVariants.{E6, E8, E10}
 use Rattle.net_form.specs.declared.net.Net.{Net}
 use Rattle.net_form.specs.declared.routes.Routes.{Routes}
 use Rattle.net_cost.specs.declared.weights.Weights.{Weights}
-use Rattle.net_form.specs.Cost.{cost_of}
-use Rattle.net_form.specs.Flow.{flow}
+use Rattle.net_form.specs.Cost.{cost_in}
 use Rattle.net_form.specs.Strands.{Lives}
 
 -- a procedure of one block that ends with Return
@@ -140,5 +139,4 @@ in_memory_routes = record { places = (Mem ∷ Mem ∷ Mem ∷ Eax ∷ []) ∷ (C
 
 -- what routes cost in it
 abbrev pub set_add_write_cost : Weights → Routes → ℕ
-set_add_write_cost weights routes =
-    cost_of set_add_write_net weights (flow set_add_write_net routes)
+set_add_write_cost weights routes = cost_in set_add_write_net weights routes

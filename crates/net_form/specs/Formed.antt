@@ -1,5 +1,6 @@
 -- What every network of sized code is, as far as numbers go.
 use Rattle.std.specs.Prelude.{◌≡◌, ℕ, ◌+◌, ◌<◌, ◌≤◌, List, length, slice_index_or, All, ◌^◌}
+use Rattle.net_cost.specs.Weights.{deepest}
 use Rattle.net_form.specs.declared.net.NetBlock.{NetBlock}
 use Rattle.net_form.specs.declared.net.Strand.{Strand}
 use Rattle.net_form.specs.declared.net.Net.{Net}
@@ -17,18 +18,15 @@ pub record IsStrandOf (blocks : List NetBlock) (t : Strand) : Type 0 where
   pub masks : t.first + length t.masks ≡ t.last + 1
   pub within : t.last < (slice_index_or blocks t.block.0 no_block).layers
 
--- the layers of the greatest procedure, and how many loops a block stands in at most
+-- the layers of the greatest procedure
 abbrev pub most_layers : ℕ
 most_layers = 24838
-
-abbrev pub most_depth : ℕ
-most_depth = 5
 
 pub record IsFormed (net : Net) : Type 0 where
   pub strands : All (IsStrandOf net.blocks) net.strands
   pub few : length net.strands < 2 ^ 32
   pub layers : layer_total net.blocks ≤ most_layers
-  pub depths : All (λ b. b.depth ≤ most_depth) net.blocks
+  pub depths : All (λ b. b.depth ≤ deepest) net.blocks
   -- an instruction has one memory pair at most, and its layers are more
   pub pairs : length net.pairs ≤ most_layers
   pub ties : All (λ t. t.from < length net.strands) net.ties

@@ -23,8 +23,8 @@ abbrev pub pair_mark : List Bool → ℕ → ℕ
 pair_mark mems k = if slice_index_or mems k false then 1 else 0
 
 -- 1 where who comes to that place at that layer is in register r of layer n, else 0
-abbrev pub comes_to : ℕ → Place → ℕ → ℕ → ℕ
-comes_to layer to n r = if nat_eq layer n && in_register r to then 1 else 0
+abbrev pub lands_in : ℕ → Place → ℕ → ℕ → ℕ
+lands_in layer to n r = if nat_eq layer n && in_register r to then 1 else 0
 
 -- where there is no memory pair
 abbrev pub no_pair : MemPair

@@ -5,7 +5,7 @@ ghost use Rattle.std.specs.Int.{bit_at};
 ghost use Rattle.net_form.specs.Admitted.{strand_at};
 ghost use Rattle.net_form.specs.Flow.{edges};
 ghost use Rattle.net_form.specs.Formed.{IsFormed};
-ghost use Rattle.net_form.specs.InUse.{mark, pair_mark, comes_to, after, in_memory, brings_end};
+ghost use Rattle.net_form.specs.InUse.{mark, pair_mark, lands_in, after, in_memory, brings_end};
 ghost use Rattle.net_form.specs.InUse.{register_uses, pair_uses};
 ghost use Rattle.net_form.specs.Rooms.{layer_total};
 
@@ -31,7 +31,7 @@ pub(crate) fn mark_place(regs: &mut Seq<u8>, layer: usize, to: Place, used: bool
     requires { layer < length regs.old }
     ensures long { length regs.new ≡ length regs.old }
     ensures marks { (n r : ℕ) →
-        mark regs.new n r ≡ after used (mark regs.old n r) (comes_to layer to n r) }
+        mark regs.new n r ≡ after used (mark regs.old n r) (lands_in layer to n r) }
 {
     if !to.has_register() {
         return;

@@ -6,7 +6,7 @@ ghost use Rattle.net_form.specs.declared.net.Net.{Net as AnyNet};
 ghost use Rattle.net_form.specs.Admitted.{strand_at};
 ghost use Rattle.net_form.specs.Flow.{edges};
 ghost use Rattle.net_form.specs.Formed.{IsFormed};
-ghost use Rattle.net_form.specs.InUse.{mark, comes_to, Takes, Releases, StandsFor};
+ghost use Rattle.net_form.specs.InUse.{mark, lands_in, Takes, Releases, StandsFor};
 ghost use Rattle.net_form.specs.Rooms.{layer_total, empty_taken, zero_prices, some_routes};
 ghost use Rattle.net_form.specs.Rooms.{empty_spare, IsRoomOf};
 
@@ -89,7 +89,7 @@ impl Taken {
         ensures long { length self.new.regs ≡ length self.old.regs }
         ensures mems { self.new.mems ≡ self.old.mems }
         ensures marks { (n r : ℕ) → mark self.new.regs n r ≡
-            min 1 (mark self.old.regs n r + comes_to layer to n r) }
+            min 1 (mark self.old.regs n r + lands_in layer to n r) }
     {
         mark_place(&mut self.regs, layer as usize, to, true);
     }

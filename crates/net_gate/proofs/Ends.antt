@@ -15,7 +15,7 @@ use Rattle.net_form.specs.declared.net.Net.{Net}
 use Rattle.net_form.specs.declared.routes.Routes.{Routes}
 use Rattle.net_form.specs.Flow.{Edge, is_at, arrives, flow, AreRoutes, same_start}
 use Rattle.net_form.specs.Admitted.{strand_at, no_strand, uses_memory, KeepsTie}
-use Rattle.net_form.specs.Cost.{place_at}
+use Rattle.net_form.specs.Cost.{route_at}
 use Rattle.net_form.specs.Formed.{IsFormed}
 use Rattle.net_form.specs.declared.net.NetIndex.{NetIndex}
 use Rattle.pra_list.proofs.Counts.{bit, count-cons, count-yes, count-agree}
@@ -25,12 +25,12 @@ use Rattle.net_form.proofs.RoutesCost.{flow_at}
 module _ (net : Net) (routes : Routes) (has : AreRoutes net routes) where
   -- the flow comes to a place as often as the routes have the strand there
   pub arrivals : (s l : ℕ) (q : Place) → count_by (arrives s l q) (flow net routes) ≡
-      bit (same_start (place_at net routes s l) (Some q))
+      bit (same_start (route_at net routes s l) (Some q))
   arrivals s l q = flow_at net.strands routes.places has s l q no_strand
 
   pub arrivals_small : (s l : ℕ) (q : Place) → count_by (arrives s l q) (flow net routes) ≤ 1
   arrivals_small s l q = let is = arrivals s l q in let small =
-      bit_small (same_start (place_at net routes s l) (Some q)) in omega (arith, is, small)
+      bit_small (same_start (route_at net routes s l) (Some q)) in omega (arith, is, small)
     where
       bit_small : (b : Bool) → bit b ≤ 1
       bit_small true = omega arith
@@ -38,8 +38,8 @@ module _ (net : Net) (routes : Routes) (has : AreRoutes net routes) where
 
   -- ---- ties
 
-  pub tie_kept : (t : Tie) → same_start (place_at net routes t.from (strand_at net t.from).last)
-      (place_at net routes t.to (strand_at net t.to).first) ≡ true
+  pub tie_kept : (t : Tie) → same_start (route_at net routes t.from (strand_at net t.from).last)
+      (route_at net routes t.to (strand_at net t.to).first) ≡ true
       → KeepsTie net (flow net routes) t
   tie_kept t same q =
       arrivals t.from (strand_at net t.from).last q
@@ -47,10 +47,10 @@ module _ (net : Net) (routes : Routes) (has : AreRoutes net routes) where
       ∙ sym (arrivals t.to (strand_at net t.to).first q)
 
   pub kept_tie : (t : Tie) → KeepsTie net (flow net routes) t
-      → same_start (place_at net routes t.from (strand_at net t.from).last)
-      (place_at net routes t.to (strand_at net t.to).first) ≡ true
-  kept_tie t keeps = agree (place_at net routes t.from (strand_at net t.from).last)
-      (place_at net routes t.to (strand_at net t.to).first) (λ q.
+      → same_start (route_at net routes t.from (strand_at net t.from).last)
+      (route_at net routes t.to (strand_at net t.to).first) ≡ true
+  kept_tie t keeps = agree (route_at net routes t.from (strand_at net t.from).last)
+      (route_at net routes t.to (strand_at net t.to).first) (λ q.
       sym (arrivals t.from (strand_at net t.from).last q) ∙ keeps q
       ∙ arrivals t.to (strand_at net t.to).first q)
     where

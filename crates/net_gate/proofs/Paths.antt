@@ -10,7 +10,7 @@ use Rattle.net_form.specs.declared.net.Net.{Net}
 use Rattle.net_form.specs.declared.routes.Routes.{Routes}
 use Rattle.net_form.specs.Admitted.{strand_at, no_strand}
 use Rattle.net_form.specs.declared.net.Extra.{Extra}
-use Rattle.net_form.specs.Cost.{place_of, place_at, is_met}
+use Rattle.net_form.specs.Cost.{place_on, route_at, is_met}
 use Rattle.net_form.specs.Flow.{Edge, edges, flow_from, HasPlaces, AreRoutes, same_start}
 use Rattle.net_form.proofs.RoutesConserve.{as_many}
 use Rattle.net_form.proofs.RoutesCost.{place_of-nil}
@@ -61,10 +61,10 @@ path_few net routes s e formed has lt =
 
 -- where there is no strand, there is no place
 pub no_place : (net : Net) (routes : Routes) (s l : ℕ) → AreRoutes net routes → length net.strands ≤
-    s → place_at net routes s l ≡ None
+    s → route_at net routes s l ≡ None
 no_place net routes s l has le =
     let n = as_many net.strands routes.places has in
-    ap (λ r. place_of r (strand_at net s).first l) (past routes.places s (omega (arith, n, le)))
+    ap (λ r. place_on r (strand_at net s).first l) (past routes.places s (omega (arith, n, le)))
     ∙ place_of-nil (strand_at net s).first l
   where
     past : (rs : List (List Place)) (s : ℕ) → length rs ≤ s → get_or rs s [] ≡ []

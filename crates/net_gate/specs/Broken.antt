@@ -56,11 +56,11 @@ numbers (Tie k) = (k, 0)
 abbrev pub IsBefore : ℕ × ℕ → ℕ × ℕ → Type 0
 IsBefore a b = (a.0 < b.0) ⊎ ((a.0 ≡ b.0) × (a.1 < b.1))
 
-abbrev pub Precedes : Broken → Broken → Type 0
-Precedes a b = (kind a < kind b) ⊎ ((kind a ≡ kind b) × IsBefore (numbers a) (numbers b))
+abbrev pub IsEarlierBroken : Broken → Broken → Type 0
+IsEarlierBroken a b = (kind a < kind b) ⊎ ((kind a ≡ kind b) × IsBefore (numbers a) (numbers b))
 
 abbrev pub IsFirstBroken : Net → List Edge → Broken → Type 0
-IsFirstBroken net f b = IsBroken net f b × ((a : Broken) → Precedes a b → ¬ IsBroken net f a)
+IsFirstBroken net f b = IsBroken net f b × ((a : Broken) → IsEarlierBroken a b → ¬ IsBroken net f a)
 
 -- ---- the first of some places, by what is counted at each
 

@@ -7,7 +7,7 @@ ghost use Rattle.pra_base.specs.Places.{number, has_register, register_of};
 ghost use Rattle.net_form.specs.Admitted.{strand_at, uses_bundle};
 ghost use Rattle.net_form.specs.Flow.{edges, flow, AreRoutes};
 ghost use Rattle.net_form.specs.Formed.{IsFormed};
-ghost use Rattle.net_form.specs.InUse.{comes_to};
+ghost use Rattle.net_form.specs.InUse.{lands_in};
 ghost use Rattle.net_form.specs.Rooms.{layer_total, IsRoomOf};
 ghost use Rattle.net_gate.specs.Broken.{IsFirstAbove, IsBefore};
 ghost use Rattle.net_gate.specs.InUse.{Stands, numbers, IsEarlier};
@@ -71,7 +71,7 @@ fn come_to(taken: &mut Taken, clash: Option<Bundle>, layer: u32, to: Place) -> O
     ensures long { length taken.new.regs ≡ length taken.old.regs }
     ensures mems { taken.new.mems ≡ taken.old.mems }
     ensures stands { (uses : ℕ → ℕ → ℕ) → Stands uses taken.old.regs clash →
-        Stands (λ n r. uses n r + comes_to layer to n r) taken.new.regs result }
+        Stands (λ n r. uses n r + lands_in layer to n r) taken.new.regs result }
 {
     if !to.has_register() {
         return clash;

@@ -2,7 +2,7 @@
 
 ghost use Rattle.std.specs.Prelude.{◌≡◌, ◌<◌, Some, length};
 ghost use Rattle.net_form.specs.Admitted.{strand_at};
-ghost use Rattle.net_form.specs.Cost.{place_at};
+ghost use Rattle.net_form.specs.Cost.{route_at};
 ghost use Rattle.net_form.specs.Flow.{AreRoutes, same_start};
 
 use net_form::{Net, Routes};
@@ -12,7 +12,7 @@ use pra_base::Place;
 fn place_within(net: &Net, routes: &Routes, strand: usize, layer: u32) -> Option<Place>
     requires strand { strand < length net.now.strands }
     requires path { strand < length routes.now.places }
-    ensures { result ≡ place_at net.now routes.now strand layer }
+    ensures { result ≡ route_at net.now routes.now strand layer }
 {
     let first = net.strands[strand].first;
     if layer < first {
@@ -25,7 +25,7 @@ fn place_within(net: &Net, routes: &Routes, strand: usize, layer: u32) -> Option
 // Where a strand is at a layer, if there is one of this number, and it is there.
 pub(crate) fn place_at(net: &Net, routes: &Routes, strand: usize, layer: u32) -> Option<Place>
     requires { AreRoutes net.now routes.now }
-    ensures { result ≡ place_at net.now routes.now strand layer }
+    ensures { result ≡ route_at net.now routes.now strand layer }
 {
     if strand >= net.strands.len() {
         return None;
@@ -36,7 +36,7 @@ pub(crate) fn place_at(net: &Net, routes: &Routes, strand: usize, layer: u32) ->
 // Where a strand ends, if there is one of this number.
 pub(crate) fn last_place(net: &Net, routes: &Routes, strand: usize) -> Option<Place>
     requires { AreRoutes net.now routes.now }
-    ensures { result ≡ place_at net.now routes.now strand (strand_at net.now strand).last }
+    ensures { result ≡ route_at net.now routes.now strand (strand_at net.now strand).last }
 {
     if strand >= net.strands.len() {
         return None;
@@ -47,7 +47,7 @@ pub(crate) fn last_place(net: &Net, routes: &Routes, strand: usize) -> Option<Pl
 // Where a strand begins, if there is one of this number.
 pub(crate) fn first_place(net: &Net, routes: &Routes, strand: usize) -> Option<Place>
     requires { AreRoutes net.now routes.now }
-    ensures { result ≡ place_at net.now routes.now strand (strand_at net.now strand).first }
+    ensures { result ≡ route_at net.now routes.now strand (strand_at net.now strand).first }
 {
     if strand >= net.strands.len() {
         return None;

@@ -22,7 +22,7 @@ use Rattle.net_form.specs.Strands.{Lives, IsLive, exit_layer, strands}
 use Rattle.net_form.specs.Network.{ties, leads_to, net_block, net_of}
 use Rattle.net_form.specs.Admitted.{strand_at, no_strand}
 use Rattle.net_form.specs.Formed.{no_block}
-use Rattle.net_laws.specs.Built.{IsBlockTie, IsGroupedStrand, goes_from, comes_to}
+use Rattle.net_laws.specs.Built.{IsBlockTie, IsGroupedStrand, goes_from, comes_in}
 use Rattle.net_laws.specs.Homes.{is_there, mask_in}
 use Rattle.net_laws.proofs.TiedMemory.{entry_memory, exit_memory}
 use Rattle.net_laws.specs.Ordered.{TieBefore}
@@ -90,7 +90,7 @@ module _ (code : VProc) (live : Lives) (least : ℕ → ℕ) where
   goes_to s b t = eqb t.from s && eqb (at t.to).block.0 b
 
   one_entry : (s b : ℕ) (t u : Tie) → TieBefore t u → IsJoin code live least t
-      → IsJoin code live least u → comes_to n s b t ≡ true → comes_to n s b u ≡ true → ⊥
+      → IsJoin code live least u → comes_in n s b t ≡ true → comes_in n s b u ≡ true → ⊥
   one_entry s b t u before x y one two =
       let p = and_parts (eqb t.to s) (eqb (at t.from).block.0 b) one in
       let q = and_parts (eqb u.to s) (eqb (at u.from).block.0 b) two in
@@ -111,8 +111,8 @@ module _ (code : VProc) (live : Lives) (least : ℕ → ℕ) where
           (λ same. omega (arith, same, less)) var block
           rt (omega arith) (omega (arith, ru, last)) (omega (arith, last))
 
-  pub entries : (s b : ℕ) → count_by (comes_to n s b) n.ties ≤ 1
-  entries s b = count_few (comes_to n s b) n.ties (λ i j d lt in_. one_entry s b (get_or n.ties i d)
+  pub entries : (s b : ℕ) → count_by (comes_in n s b) n.ties ≤ 1
+  entries s b = count_few (comes_in n s b) n.ties (λ i j d lt in_. one_entry s b (get_or n.ties i d)
       (get_or n.ties j d)
       (ties_in_order code (strands all_tables code live) i j d lt in_)
       (all_joins code live least i d (omega (arith, lt, in_)))

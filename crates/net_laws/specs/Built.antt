@@ -50,8 +50,8 @@ pub record IsGroupedStrand (net : Net) (t : Strand) : Type 0 where
 abbrev pub goes_from : ℕ → Tie → Bool
 goes_from s t = nat_eq t.from s
 
-abbrev pub comes_to : Net → ℕ → ℕ → Tie → Bool
-comes_to net s b t = nat_eq t.to s && nat_eq (strand_at net t.from).block.0 b
+abbrev pub comes_in : Net → ℕ → ℕ → Tie → Bool
+comes_in net s b t = nat_eq t.to s && nat_eq (strand_at net t.from).block.0 b
 
 -- a block is followed by two at most
 abbrev pub most_following : ℕ
@@ -77,4 +77,4 @@ pub record IsBuilt (net : Net) : Type 0 where
   pub ties : All (IsBlockTie net) net.ties
   pub groups : All (IsGroupedStrand net) net.strands
   pub exits : (s : ℕ) → count_by (goes_from s) net.ties ≤ most_following
-  pub entries : (s b : ℕ) → count_by (comes_to net s b) net.ties ≤ 1
+  pub entries : (s b : ℕ) → count_by (comes_in net s b) net.ties ≤ 1

@@ -8,7 +8,7 @@ use Rattle.pra_base.specs.Places.{number}
 use Rattle.net_form.proofs.PlaceEquality.{same_place-true, same_place-refl}
 use Rattle.net_path.specs.declared.crossbar.Row.{Row}
 use Rattle.net_path.specs.Ways.{at, IsShort, IsLeastWay}
-use Rattle.net_path.specs.Rests.{unreached, Terrain, IsFrom, IsRow, IsBest, IsSlack, AreRows}
+use Rattle.net_path.specs.Rests.{unreached, Terrain, IsFrom, IsRow, IsLowest, IsSlack, AreRows}
 use Rattle.net_path.specs.Rows.{costs_at, cell_bound, slack_at, IsAbout, IsGround, IsCell, AreCells}
 use Rattle.net_path.specs.Rows.{IsPaid, IsRowWithin, IsPaidLayer}
 use Rattle.std.proofs.lemmas.Bool.{cases_eq}
@@ -29,7 +29,7 @@ module _ (step : ℕ → ℕ → ℤ) (first n : ℕ) (t : Terrain) (ground : Is
 
   -- across an instruction a value stays
   pub stays_best : (k : ℕ) (costs : List ℤ) (q : Place) → (first + k) % 2 ≡ 0
-      → IsBest t k (Some q) costs (at costs (number q))
+      → IsLowest t k (Some q) costs (at costs (number q))
   stays_best k costs q even = record {
     below = λ r comes.
         let same = same_place-true q r (sym (ground.across k q r even).0 ∙ comes) in
@@ -44,7 +44,7 @@ module _ (step : ℕ → ℕ → ℤ) (first n : ℕ) (t : Terrain) (ground : Is
 
   -- and before a crossbar what was found is the least
   pub crossed_best : (k : ℕ) (behind : List ℤ) (z : ℤ) (q : Place) → (first + k) % 2 ≡ 1
-      → IsLeastWay (step (number q)) behind z → IsBest t k (Some q) behind z
+      → IsLeastWay (step (number q)) behind z → IsLowest t k (Some q) behind z
   crossed_best k behind z q odd least =
       let to = place_of least.met.place least.met.within in record {
         below = λ r comes. let way = (ground.crossbar k q r odd).1 in
@@ -73,7 +73,7 @@ module _ (step : ℕ → ℕ → ℤ) (first n : ℕ) (t : Terrain) (ground : Is
   -- what is paid at a place, and then the best of what is left
   pub record IsPaidBest (k : ℕ) (behind : List ℤ) (q : Place) (cell z : ℤ) : Type 0 where
     pub rest : ℤ
-    pub best : IsBest t k (Some q) behind rest
+    pub best : IsLowest t k (Some q) behind rest
     pub paid : IsPaid cell rest z
 
   pub paid_best : (k : ℕ) (behind cells costs : List ℤ) (q : Place)

@@ -5,7 +5,7 @@ use Rattle.std.proofs.lemmas.Int.{ints}
 use Rattle.net_path.specs.declared.crossbar.Steps.{Steps}
 use Rattle.net_path.specs.declared.crossbar.Bests.{Bests}
 use Rattle.net_path.specs.declared.crossbar.Onward.{Onward}
-use Rattle.net_path.specs.Ways.{at, step_of, AreStepsWithin, AreBests, IsLeastOfFour, IsLeastWay}
+use Rattle.net_path.specs.Ways.{at, step_by, AreStepsWithin, AreBests, IsLeastOfFour, IsLeastWay}
 use Rattle.net_path.specs.Ways.{IsLeastElsewhere, IsMet}
 use Rattle.net_path.proofs.Classes.{Class, class_of}
 use Rattle.net_path.proofs.Classes.Class.{alone, memory, constant, both}
@@ -110,7 +110,7 @@ least_anywhere way costs z least = record {
 }
 
 module _ (steps : Steps) (within : AreStepsWithin steps) where
-  pub alone_bounds : (r : ℕ) → r < 6 → Bounds (step_of steps r) r steps.alone
+  pub alone_bounds : (r : ℕ) → r < 6 → Bounds (step_by steps r) r steps.alone
   alone_bounds r lr = record {
     to_alone = λ s ls. let e = alone_alone steps r s lr ls in
         let m = moved_within r s (pos 0 +ℤ pos 0) steps.alone.alone within.alone.alone.0 in
@@ -127,7 +127,7 @@ module _ (steps : Steps) (within : AreStepsWithin steps) where
         ∙ moved_other r s (steps.kept +ℤ pos 0) steps.alone.both (λ e. ne (sym e));
   }
 
-  pub both_bounds : (r : ℕ) → Bounds (step_of steps (8 + r)) r steps.both
+  pub both_bounds : (r : ℕ) → Bounds (step_by steps (8 + r)) r steps.both
   both_bounds r = record {
     to_alone = λ s ls. let e = both_alone steps r s ls in
         let less = within.left_less in
@@ -144,7 +144,7 @@ module _ (steps : Steps) (within : AreStepsWithin steps) where
         ∙ moved_other r s (pos 0 +ℤ pos 0) steps.both.both (λ e. ne (sym e));
   }
 
-  pub memory_bounds : (r : ℕ) → Bounds (step_of steps 6) r steps.memory
+  pub memory_bounds : (r : ℕ) → Bounds (step_by steps 6) r steps.memory
   memory_bounds r = record {
     to_alone = λ s ls. let e = memory_alone steps s ls in omega (arith, ints, e);
     to_both = λ s ls. let e = memory_both steps s in omega (arith, ints, e);
@@ -154,7 +154,7 @@ module _ (steps : Steps) (within : AreStepsWithin steps) where
     other_both = λ s ls ne. memory_both steps s;
   }
 
-  pub constant_bounds : (r : ℕ) → Bounds (step_of steps 7) r steps.constant
+  pub constant_bounds : (r : ℕ) → Bounds (step_by steps 7) r steps.constant
   constant_bounds r = record {
     to_alone = λ s ls. let e = constant_alone steps s ls in omega (arith, ints, e);
     to_both = λ s ls. let e = constant_both steps s in omega (arith, ints, e);

@@ -11,7 +11,7 @@ use Rattle.net_form.proofs.PlaceEquality.{same_place-refl}
 use Rattle.net_path.specs.declared.crossbar.Ways.{Ways}
 use Rattle.net_path.specs.declared.path.Choice.{Choice}
 use Rattle.net_path.specs.Ways.{at, step_price}
-use Rattle.net_path.specs.Rests.{Terrain, IsBest, Follows}
+use Rattle.net_path.specs.Rests.{Terrain, IsLowest, AreBest}
 use Rattle.net_path.specs.Rows.{IsGround}
 use Rattle.net_path.specs.Choices.{IsBestChoice, IsBestPlace, IsGoodStart}
 use Rattle.net_path.proofs.Within.{parity}
@@ -27,7 +27,7 @@ module _ (ways : Ways) (first n : ℕ) (t : Terrain) (ground : IsGround (step_pr
     (row : ℕ → List ℤ) (k : ℕ) (from next : Place) where
   abbrev Goes : Type 0
   Goes = IsTrue (t.may_come k (Some from) next)
-      × IsBest t k (Some from) (row k) (t.way k (Some from) next +ℤ at (row k) (number next))
+      × IsLowest t k (Some from) (row k) (t.way k (Some from) next +ℤ at (row k) (number next))
 
   goes_across : (first + k) % 2 ≡ 0 → next ≡ from → Goes
   goes_across even same =
@@ -36,9 +36,9 @@ module _ (ways : Ways) (first n : ℕ) (t : Terrain) (ground : IsGround (step_pr
       let best = stays_best (step_price ways) first n t ground k (row k) from even in
       let is : at (row k) (number from) ≡ t.way k (Some from) from +ℤ at (row k) (number from) =
       omega (arith, ints, way) in
-      subst (λ (q : Place). IsTrue (t.may_come k (Some from) q) × IsBest t k (Some from) (row k)
+      subst (λ (q : Place). IsTrue (t.may_come k (Some from) q) × IsLowest t k (Some from) (row k)
       (t.way k (Some from) q +ℤ at (row k) (number q))) (sym same)
-      (comes, subst (λ (z : ℤ). IsBest t k (Some from) (row k) z) is best)
+      (comes, subst (λ (z : ℤ). IsLowest t k (Some from) (row k) z) is best)
 
   goes_over : (first + k) % 2 ≡ 1 → IsBestPlace (step_price ways (number from)) (row k) next → Goes
   goes_over odd best =
@@ -57,17 +57,17 @@ module _ (ways : Ways) (first n : ℕ) (t : Terrain) (ground : IsGround (step_pr
 
   pub goes_on : ((first + k) % 2 ≡ 0 → next ≡ from)
       → ((first + k) % 2 ≡ 1 → IsBestPlace (step_price ways (number from)) (row k) next)
-      → (rest : List Place) → Follows t row (suc k) (Some next) rest
-      → Follows t row k (Some from) (next ∷ rest)
+      → (rest : List Place) → AreBest t row (suc k) (Some next) rest
+      → AreBest t row k (Some from) (next ∷ rest)
   goes_on across crossbar rest follows =
-      elim (parity (first + k)) as (λ _. Follows t row k (Some from) (next ∷ rest)) [
+      elim (parity (first + k)) as (λ _. AreBest t row k (Some from) (next ∷ rest)) [
         | inl even ↦ let g = goes_across even (across even) in (g.0, g.1, follows)
         | inr odd ↦ let g = goes_over odd (crossbar odd) in (g.0, g.1, follows)
       ]
 
 pub begins : (t : Terrain) (row : ℕ → List ℤ) (start : Place) (rest : List Place)
-    → IsGoodStart t (row 0) start → Follows t row 1 (Some start) rest
-    → Follows t row 0 None (start ∷ rest)
+    → IsGoodStart t (row 0) start → AreBest t row 1 (Some start) rest
+    → AreBest t row 0 None (start ∷ rest)
 begins t row start rest good follows = (good.comes, good.best, follows)
 
 pub put_behind : (path : List Place) (i : ℕ) (q : Place) (rest : List Place) → i < length path

@@ -12,7 +12,7 @@ use Rattle.net_form.specs.Flow.{Edge, edges, same_place}
 use Rattle.net_form.specs.Admitted.{strand_at, stays_across}
 use Rattle.net_form.proofs.PlaceEquality.{same_place-true, same_place-refl}
 use Rattle.net_dual.specs.Paths.{IsPath, HasEnds, path_edges}
-use Rattle.net_path.specs.Grounds.{edge, suits, suits_ends, is_open}
+use Rattle.net_path.specs.Grounds.{edge, wants, suits_ends, is_open}
 
 implied : (b c : Bool) → (b ≡ true → c ≡ true) → (not b || c) ≡ true
 implied true c h = h refl
@@ -34,12 +34,12 @@ second_of : (a b : Bool) → (a && b) ≡ true → b ≡ true
 second_of true b h = h
 second_of false b h = absurd (false≢true h)
 
-suits_of : (o : Option Place) (q : Place) → IfSome o (λ p. Some q ≡ Some p) → suits o q ≡ true
+suits_of : (o : Option Place) (q : Place) → IfSome o (λ p. Some q ≡ Some p) → wants o q ≡ true
 suits_of None q h = refl
 suits_of (Some p) q h = let e : q ≡ p = (cc) in
     subst (λ (r : Place). same_place p r ≡ true) (sym e) (same_place-refl p)
 
-suits_to : (o : Option Place) (q : Place) → suits o q ≡ true → IfSome o (λ p. Some q ≡ Some p)
+suits_to : (o : Option Place) (q : Place) → wants o q ≡ true → IfSome o (λ p. Some q ≡ Some p)
 suits_to None q h = tt
 suits_to (Some p) q h = ap (λ (r : Place). Some r) (sym (same_place-true p q h))
 
@@ -54,12 +54,12 @@ module _ (ends : Ends) (t : Strand) (s : ℕ) where
   Suits : Edge → Type 0
   Suits e = suits_ends ends t e ≡ true
 
-  suits_head : (l : ℕ) (p : Option Place) (q : Place) → (l ≡ t.first → suits ends.first q ≡ true)
-      → (l ≡ t.last → suits ends.last q ≡ true) → suits_ends ends t (edge s l p q) ≡ true
+  suits_head : (l : ℕ) (p : Option Place) (q : Place) → (l ≡ t.first → wants ends.first q ≡ true)
+      → (l ≡ t.last → wants ends.last q ≡ true) → suits_ends ends t (edge s l p q) ≡ true
   suits_head l p q first last =
-      both (not (eqb l t.first) || suits ends.first q) (not (eqb l t.last) || suits ends.last q)
-      (implied (eqb l t.first) (suits ends.first q) (λ e. first (eqb-true l t.first e)))
-      (implied (eqb l t.last) (suits ends.last q) (λ e. last (eqb-true l t.last e)))
+      both (not (eqb l t.first) || wants ends.first q) (not (eqb l t.last) || wants ends.last q)
+      (implied (eqb l t.first) (wants ends.first q) (λ e. first (eqb-true l t.first e)))
+      (implied (eqb l t.last) (wants ends.last q) (λ e. last (eqb-true l t.last e)))
 
   pub all_suit : (l : ℕ) (p : Option Place) (qs : List Place) → l + length qs ≡ t.last + 1
       → t.first ≤ l → (l ≡ t.first → IfSome ends.first (λ p. slice_get qs 0 ≡ Some p))
@@ -80,16 +80,16 @@ module _ (ends : Ends) (t : Strand) (s : ℕ) where
 
   -- and back
   suits_first : (l : ℕ) (p : Option Place) (q : Place) → suits_ends ends t (edge s l p q) ≡ true
-      → l ≡ t.first → suits ends.first q ≡ true
-  suits_first l p q h e = implies (eqb l t.first) (suits ends.first q)
-      (first_of (not (eqb l t.first) || suits ends.first q)
-      (not (eqb l t.last) || suits ends.last q) h) (eq-eqb l t.first e)
+      → l ≡ t.first → wants ends.first q ≡ true
+  suits_first l p q h e = implies (eqb l t.first) (wants ends.first q)
+      (first_of (not (eqb l t.first) || wants ends.first q)
+      (not (eqb l t.last) || wants ends.last q) h) (eq-eqb l t.first e)
 
   suits_last : (l : ℕ) (p : Option Place) (q : Place) → suits_ends ends t (edge s l p q) ≡ true
-      → l ≡ t.last → suits ends.last q ≡ true
-  suits_last l p q h e = implies (eqb l t.last) (suits ends.last q)
-      (second_of (not (eqb l t.first) || suits ends.first q)
-      (not (eqb l t.last) || suits ends.last q) h) (eq-eqb l t.last e)
+      → l ≡ t.last → wants ends.last q ≡ true
+  suits_last l p q h e = implies (eqb l t.last) (wants ends.last q)
+      (second_of (not (eqb l t.first) || wants ends.first q)
+      (not (eqb l t.last) || wants ends.last q) h) (eq-eqb l t.last e)
 
   pub begins_right : (l : ℕ) (p : Option Place) (qs : List Place)
       → 0 < length qs → l ≡ t.first → All (λ e. suits_ends ends t e ≡ true) (edges s l p qs)

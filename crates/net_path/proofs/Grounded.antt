@@ -26,9 +26,9 @@ use Rattle.net_path.specs.declared.path.Choice.{Choice}
 use Rattle.net_path.specs.Choices.{IsBestChoice, IsGoodStart}
 use Rattle.net_path.specs.Grounds.{edge, layer, terrain}
 use Rattle.net_path.specs.declared.crossbar.Row.{Row}
-use Rattle.net_path.specs.Rests.{Terrain, IsBest, AreRows}
+use Rattle.net_path.specs.Rests.{Terrain, IsLowest, AreRows}
 use Rattle.net_path.specs.Rows.{IsGround, AreCells, slack_at}
-use Rattle.net_path.specs.Ways.{AreWays, start_price, step_price, step_of}
+use Rattle.net_path.specs.Ways.{AreWays, start_price, step_price, step_by}
 use Rattle.net_path.proofs.Steps.{step_is_way, one}
 use Rattle.net_path.proofs.Turned.{turned, turned_ground, turned_cells}
 use Rattle.net_path.proofs.WholeCells.{there_about}
@@ -87,7 +87,7 @@ module _ (net : Net) (built : IsBuilt net) (prices : Prices) (range : AreInRange
 
   pub best_of_start : (costs : List ℤ) (start : Choice)
       → IsBestChoice (start_price ways (strand_at net s).constant) costs 14 start
-      → IsBest t 0 None costs start.debt.cost
+      → IsLowest t 0 None costs start.debt.cost
   best_of_start costs start best = record {
     below = λ q comes. let way = start_way q in let b = best.below (number q) (number_below q) in
         omega (arith, ints, way, b);
@@ -103,7 +103,7 @@ module _ (net : Net) (built : IsBuilt net) (prices : Prices) (range : AreInRange
       → IsGoodStart t costs start.place
   good_start costs start best = record {
     comes = start_comes start.place;
-    best = subst (λ (z : ℤ). IsBest t 0 None costs z) (let way = start_way start.place in
+    best = subst (λ (z : ℤ). IsLowest t 0 None costs z) (let way = start_way start.place in
         let is = best.is in omega (arith, ints, way, is)) (best_of_start costs start best);
   }
 
@@ -125,18 +125,18 @@ pub record Ready (net : Net) (prices : Prices) (w : Weights) (ends : Ends) (free
   pub ground : IsGround (step_price ways) (strand_at net s).first n
       (terrain net w prices ends free s)
   pub rows : AreRows (terrain net w prices ends free s) row (slack_at n) n 0
-  pub best : IsBest (terrain net w prices ends free s) 0 None (row 0) start.debt.cost
+  pub best : IsLowest (terrain net w prices ends free s) 0 None (row 0) start.debt.cost
   pub good : IsGoodStart (terrain net w prices ends free s) (row 0) start.place
 
 pub ready : (net : Net) (built : IsBuilt net) (prices : Prices) (range : AreInRange net prices)
     (w : Weights) (valid : IsValid w) (ends : Ends) (free : Edge → Bool)
     (s n : ℕ) (long : (strand_at net s).first + n ≡ (strand_at net s).last + 1) (ways : Ways)
     (steps : Steps) (depth first m : ℕ) (constant : Bool) (row : ℕ → List ℤ) (cells : List Row)
-    (start : Choice) → ((p q : ℕ) → step_of steps p q ≡ step_price ways p q)
+    (start : Choice) → ((p q : ℕ) → step_by steps p q ≡ step_price ways p q)
     → AreWays w depth net.near ways → depth ≡ depth_at net s → first ≡ (strand_at net s).first
     → m ≡ n → constant ≡ (strand_at net s).constant
     → AreCells (terrain net w prices ends free s) cells
-    → ((t : Terrain) → IsGround (step_of steps) first m t → AreCells t cells
+    → ((t : Terrain) → IsGround (step_by steps) first m t → AreCells t cells
     → AreRows t row (slack_at m) m 0)
     → IsBestChoice (start_price ways constant) (row 0) 14 start
     → Ready net prices w ends free s n ways row start
@@ -145,10 +145,10 @@ ready net built prices range w valid ends free s n long ways steps depth first m
     let t = terrain net w prices ends free s in
     let ways_are = subst (λ (d : ℕ). AreWays w d net.near ways) is_depth are in
     let ground = grounded net built prices range w valid ends free s n long ways ways_are in
-    let ground2 : IsGround (step_of steps) first m t =
-    subst (λ (k : ℕ). IsGround (step_of steps) first k t) (sym is_n)
-    (subst (λ (f : ℕ). IsGround (step_of steps) f n t) (sym is_first)
-    (same_ground (step_of steps) (step_price ways) (strand_at net s).first n t same ground)) in
+    let ground2 : IsGround (step_by steps) first m t =
+    subst (λ (k : ℕ). IsGround (step_by steps) first k t) (sym is_n)
+    (subst (λ (f : ℕ). IsGround (step_by steps) f n t) (sym is_first)
+    (same_ground (step_by steps) (step_price ways) (strand_at net s).first n t same ground)) in
     let chosen =
     subst (λ (b : Bool). IsBestChoice (start_price ways b) (row 0) 14 start) is_constant best in
     record {
@@ -171,11 +171,11 @@ pub rows_ready : (net : Net) (built : IsBuilt net) (prices : Prices) (range : Ar
     (w : Weights) (valid : IsValid w) (ends : Ends) (free : Edge → Bool)
     (s n : ℕ) (long : (strand_at net s).first + n ≡ (strand_at net s).last + 1) (ways : Ways)
     (steps : Steps) (depth first m : ℕ) (constant : Bool) (row : ℕ → List ℤ) (cells : List Row)
-    → ((p q : ℕ) → step_of steps p q ≡ step_price ways p q) → AreWays w depth net.near ways →
+    → ((p q : ℕ) → step_by steps p q ≡ step_price ways p q) → AreWays w depth net.near ways →
     depth ≡ depth_at net s → first ≡ (strand_at net s).first
     → m ≡ n → constant ≡ (strand_at net s).constant
     → AreCells (terrain net w prices ends free s) cells
-    → ((t : Terrain) → IsGround (step_of steps) first m t → AreCells t cells
+    → ((t : Terrain) → IsGround (step_by steps) first m t → AreCells t cells
     → AreRows t row (slack_at m) m 0)
     → ReadyRows net prices w ends free s n ways constant row
 rows_ready net built prices range w valid ends free s n long ways steps depth first m constant row
@@ -183,10 +183,10 @@ rows_ready net built prices range w valid ends free s n long ways steps depth fi
     let t = terrain net w prices ends free s in
     let ways_are = subst (λ (d : ℕ). AreWays w d net.near ways) is_depth are in
     let ground = grounded net built prices range w valid ends free s n long ways ways_are in
-    let ground2 : IsGround (step_of steps) first m t =
-    subst (λ (k : ℕ). IsGround (step_of steps) first k t) (sym is_n)
-    (subst (λ (f : ℕ). IsGround (step_of steps) f n t) (sym is_first)
-    (same_ground (step_of steps) (step_price ways) (strand_at net s).first n t same ground)) in
+    let ground2 : IsGround (step_by steps) first m t =
+    subst (λ (k : ℕ). IsGround (step_by steps) first k t) (sym is_n)
+    (subst (λ (f : ℕ). IsGround (step_by steps) f n t) (sym is_first)
+    (same_ground (step_by steps) (step_price ways) (strand_at net s).first n t same ground)) in
     record {
       rows = subst (λ (k : ℕ). AreRows t row (slack_at k) k 0) is_n (rows t ground2 paid);
       way = λ q. start_way net built prices range w valid ends free s n long ways ways_are q
@@ -198,10 +198,10 @@ pub rows_back : (net : Net) (built : IsBuilt net) (prices : Prices) (range : Are
     (w : Weights) (valid : IsValid w) (ends : Ends) (free : Edge → Bool)
     (s n : ℕ) (long : (strand_at net s).first + n ≡ (strand_at net s).last + 1) (ways : Ways)
     (steps : Steps) (depth first m : ℕ) (row : ℕ → List ℤ) (cells : List Row)
-    → ((p q : ℕ) → step_of steps p q ≡ step_price ways q p) → AreWays w depth net.near ways
+    → ((p q : ℕ) → step_by steps p q ≡ step_price ways q p) → AreWays w depth net.near ways
     → depth ≡ depth_at net s → first % 2 ≡ ((strand_at net s).last + 1) % 2 → m ≡ n
     → length cells ≡ n → AreCells (terrain net w prices ends free s) cells
-    → ((t : Terrain) → IsGround (step_of steps) first m t → AreCells t (reverse cells)
+    → ((t : Terrain) → IsGround (step_by steps) first m t → AreCells t (reverse cells)
     → AreRows t row (slack_at m) m 0)
     → AreRows (turned (terrain net w prices ends free s) n) row (slack_at n) n 0
 rows_back net built prices range w valid ends free s n long ways steps depth first m row cells same
@@ -211,9 +211,9 @@ rows_back net built prices range w valid ends free s n long ways steps depth fir
     let ground = grounded net built prices range w valid ends free s n long ways ways_are in
     let back = turned_ground (step_price ways) (strand_at net s).first n first t
     (omega (arith, is_first, long)) ground in
-    let ground2 : IsGround (step_of steps) first m (turned t n) =
-    subst (λ (k : ℕ). IsGround (step_of steps) first k (turned t n)) (sym is_m)
-    (same_ground (step_of steps) (λ p q. step_price ways q p) first n (turned t n) same back) in
+    let ground2 : IsGround (step_by steps) first m (turned t n) =
+    subst (λ (k : ℕ). IsGround (step_by steps) first k (turned t n)) (sym is_m)
+    (same_ground (step_by steps) (λ p q. step_price ways q p) first n (turned t n) same back) in
     let turned_paid : AreCells (turned t n) (reverse cells) =
     subst (λ (k : ℕ). AreCells (turned t k) (reverse cells)) is_n (turned_cells cells t paid) in
     subst (λ (k : ℕ). AreRows (turned t n) row (slack_at k) k 0) is_m

@@ -18,7 +18,8 @@ use Rattle.net_dual.specs.Priced.{edge_price, AreInRange}
 use Rattle.net_dual.specs.Paths.{MayGo, IsLeast, path_edges, path_price}
 use Rattle.net_dual.proofs.Small.{path_is_small}
 use Rattle.net_path.specs.Grounds.{layer, terrain, is_free}
-use Rattle.net_path.specs.Rests.{Terrain, Passes, rest_price, IsBest, IsLeastRest, AreRows, Follows}
+use Rattle.net_path.specs.Rests.{Terrain, Passes, rest_price, IsLowest, IsLeastRest, AreRows}
+use Rattle.net_path.specs.Rests.{AreBest}
 use Rattle.net_path.specs.Rows.{slack_at}
 use Rattle.net_path.proofs.Bridges.{to_edges, from_edges, price_is}
 use Rattle.net_path.proofs.GoodPaths.{good_of, path_of}
@@ -76,7 +77,7 @@ module _ (net : Net) (built : IsBuilt net)
   module _ (row : ℕ → List ℤ)
       (rows : AreRows (terrain net w prices ends (is_free net taken) s) row (slack_at n) n 0)
       (z : ℤ)
-      (best : IsBest (terrain net w prices ends (is_free net taken) s) 0 None (row 0) z) where
+      (best : IsLowest (terrain net w prices ends (is_free net taken) s) 0 None (row 0) z) where
     found : IsLeastRest t n 0 None (slack_at n 0) z
     found = subst (λ (m : ℕ). IsLeastRest t m 0 None (slack_at n 0) z)
         (let e : suc (n - 1) ≡ n = omega (arith, long, order) in e)
@@ -93,7 +94,7 @@ module _ (net : Net) (built : IsBuilt net)
         absurd (omega (arith, ints, far, le, price, small))
 
     -- the path is a least one, at this price
-    pub least_path : (ps : List Place) → z <ℤ pos (2 ^ 61) → length ps ≡ n → Follows t row 0 None ps
+    pub least_path : (ps : List Place) → z <ℤ pos (2 ^ 61) → length ps ≡ n → AreBest t row 0 None ps
         → IsLeast net (edge_price net w prices) ends (UsesNothing net taken) s ps
         × (z ≡ path_price net (edge_price net w prices) s ps)
     least_path ps near size follows =

@@ -9,7 +9,7 @@ use Rattle.pra_base.specs.declared.ids.Place.{Place}
 use Rattle.pra_base.specs.Places.{number}
 use Rattle.net_path.specs.Ways.{at}
 use Rattle.net_path.specs.Rests.{unreached, Terrain, Passes, rest_price, IsLeastRest, IsPaidThere}
-use Rattle.net_path.specs.Rests.{IsFrom, IsRow, IsBest, Follows, IsSlack, AreRows}
+use Rattle.net_path.specs.Rests.{IsFrom, IsRow, IsLowest, AreBest, IsSlack, AreRows}
 
 -- behind the last layer nothing is left
 pub nothing_left : (t : Terrain) (l : ℕ) (p : Option Place) (slack : ℕ)
@@ -32,7 +32,7 @@ module _ (t : Terrain) (n l before behind : ℕ) (p : Option Place) (costs : Lis
   paid q true e h = subst (λ (b : Bool). IsFrom b t n l q behind (at costs (number q))) e (row q)
   paid q false e h = absurd (false≢true h)
 
-  least : (z : ℤ) → IsBest t l p costs z → (qs : List Place) → length qs ≡ suc n → Passes t l p qs
+  least : (z : ℤ) → IsLowest t l p costs z → (qs : List Place) → length qs ≡ suc n → Passes t l p qs
       → z ≤ℤ rest_price t l p qs
   least z best [] e passes = absurd (omega arith)
   least z best (q ∷ qs) e passes =
@@ -86,7 +86,7 @@ module _ (t : Terrain) (n l before behind : ℕ) (p : Option Place) (costs : Lis
       let room = slack.room in omega (arith, ints, shut, room)
 
   -- one layer more
-  pub rest_more : (z : ℤ) → IsBest t l p costs z → IsLeastRest t (suc n) l p before z
+  pub rest_more : (z : ℤ) → IsLowest t l p costs z → IsLeastRest t (suc n) l p before z
   rest_more z best = record {
     least = least z best;
     met = met_at z best.met.place best.met.comes best.met.met (t.is_open l best.met.place) refl;
@@ -118,7 +118,7 @@ rows_behind t row slack end l are = record {
 module _ (t : Terrain) (row : ℕ → List ℤ) (slack : ℕ → ℕ) (end : ℕ) where
   -- what was found for the first of n layers is the least
   pub best_is_least : (n l : ℕ) (p : Option Place) (z : ℤ) → suc (n + l) ≡ end
-      → AreRows t row slack end l → IsBest t l p (row l) z → IsLeastRest t (suc n) l p (slack l) z
+      → AreRows t row slack end l → IsLowest t l p (row l) z → IsLeastRest t (suc n) l p (slack l) z
   best_is_least n l p z e are best =
       rest_more t n l (slack l) (slack (suc l)) p (row l) (are.slacks l (omega arith) (omega arith))
       (are.rows n l (omega arith) e) z best
@@ -133,7 +133,7 @@ module _ (t : Terrain) (row : ℕ → List ℤ) (slack : ℕ → ℕ) (end : ℕ
   ]
 
   pub followed : (n l : ℕ) (p : Option Place) (qs : List Place) (z : ℤ) → length qs ≡ n → n + l
-      ≡ end → AreRows t row slack end l → Follows t row l p qs → IsLeastRest t n l p (slack l) z
+      ≡ end → AreRows t row slack end l → AreBest t row l p qs → IsLeastRest t n l p (slack l) z
       → (z +ℤ pos (slack l)) <ℤ unreached → Passes t l p qs × (rest_price t l p qs ≤ℤ z)
   followed n l p [] z long e are follows least small = (
     tt,

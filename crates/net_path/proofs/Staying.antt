@@ -4,7 +4,7 @@ use Rattle.std.proofs.Common.{inr, pos, ◌∙◌}
 use Rattle.std.proofs.lemmas.Int.{ints}
 use Rattle.std.proofs.lemmas.Bool.{cases_eq}
 use Rattle.net_path.specs.declared.crossbar.Steps.{Steps}
-use Rattle.net_path.specs.Ways.{at, step_of, IsLeastWay, IsLeastElsewhere, IsMet}
+use Rattle.net_path.specs.Ways.{at, step_by, IsLeastWay, IsLeastElsewhere, IsMet}
 use Rattle.net_path.proofs.Steps.{moved_same, alone_alone, alone_both, both_alone, both_both}
 
 module _ (way : ℕ → ℤ) (r : ℕ) (costs : List ℤ) where
@@ -35,15 +35,15 @@ module _ (steps : Steps) (r : ℕ) (lr : r < 6) (costs : List ℤ) (kept s z e :
   -- from the register alone
   pub stays_alone : (stored : ℤ) → kept ≡ at costs r → stored ≡ steps.kept +ℤ at costs (8 + r)
       → s ≤ℤ kept → s ≤ℤ stored → (s ≡ kept) ⊎ (s ≡ stored)
-      → IsLeastElsewhere (step_of steps r) r costs e → z ≤ℤ e → z ≤ℤ s → (z ≡ e) ⊎ (z ≡ s)
-      → IsLeastWay (step_of steps r) costs z
+      → IsLeastElsewhere (step_by steps r) r costs e → z ≤ℤ e → z ≤ℤ s → (z ≡ e) ⊎ (z ≡ s)
+      → IsLeastWay (step_by steps r) costs z
   stays_alone stored is_kept is_stored sk ss met else ze zs zmet =
       let a = alone_alone steps r r lr lr
       ∙ moved_same r (pos 0 +ℤ pos 0) steps.alone.alone in
       let b = alone_both steps r r lr lr ∙ moved_same r (steps.kept +ℤ pos 0) steps.alone.both in
-      least_with_stay (step_of steps r) r costs e s z else ze zs zmet
+      least_with_stay (step_by steps r) r costs e s z else ze zs zmet
       (omega (arith, ints, a)) (omega (arith, ints, b))
-      (elim met as (λ _. IsMet (step_of steps r) costs s) [
+      (elim met as (λ _. IsMet (step_by steps r) costs s) [
         | inl is ↦ record { place = r; within = omega arith; met = omega (arith, ints, a) }
         | inr is ↦ record { place = 8 + r; within = omega arith; met = omega (arith, ints, b) }
       ])
@@ -51,14 +51,14 @@ module _ (steps : Steps) (r : ℕ) (lr : r < 6) (costs : List ℤ) (kept s z e :
   -- from its both place
   pub stays_in_both : (left : ℤ) → kept ≡ at costs (8 + r) → left ≡ steps.left +ℤ at costs r
       → s ≤ℤ kept → s ≤ℤ left → (s ≡ kept) ⊎ (s ≡ left)
-      → IsLeastElsewhere (step_of steps (8 + r)) r costs e
-      → z ≤ℤ e → z ≤ℤ s → (z ≡ e) ⊎ (z ≡ s) → IsLeastWay (step_of steps (8 + r)) costs z
+      → IsLeastElsewhere (step_by steps (8 + r)) r costs e
+      → z ≤ℤ e → z ≤ℤ s → (z ≡ e) ⊎ (z ≡ s) → IsLeastWay (step_by steps (8 + r)) costs z
   stays_in_both left is_kept is_left sk sl met else ze zs zmet =
       let a = both_alone steps r r lr ∙ moved_same r (pos 0 +ℤ steps.left) steps.both.alone in
       let b = both_both steps r r ∙ moved_same r (pos 0 +ℤ pos 0) steps.both.both in
-      least_with_stay (step_of steps (8 + r)) r costs e s z else ze zs zmet
+      least_with_stay (step_by steps (8 + r)) r costs e s z else ze zs zmet
       (omega (arith, ints, a)) (omega (arith, ints, b))
-      (elim met as (λ _. IsMet (step_of steps (8 + r)) costs s) [
+      (elim met as (λ _. IsMet (step_by steps (8 + r)) costs s) [
         | inl is ↦ record { place = 8 + r; within = omega arith; met = omega (arith, ints, b) }
         | inr is ↦ record { place = r; within = omega arith; met = omega (arith, ints, a) }
       ])

@@ -15,7 +15,7 @@ use Rattle.net_path.specs.declared.crossbar.Onward.{Onward}
 use Rattle.net_path.specs.declared.crossbar.Steps.{Steps}
 use Rattle.net_path.specs.declared.crossbar.Ways.{Ways}
 use Rattle.net_path.specs.Ways.{step_price, way_price, event_price, AreWays}
-use Rattle.net_path.specs.Ways.{IsShort, IsOnward, AreStepsWithin, step_of, stays, staying, onward}
+use Rattle.net_path.specs.Ways.{IsShort, IsOnward, AreStepsWithin, step_by, stays, staying, onward}
 use Rattle.net_path.specs.Ways.{onward_from, IsFromAlone, IsFromBoth, IsFromMemory, IsFromConstant}
 use Rattle.net_path.specs.Ways.{IsToAlone, IsToBoth, IsToMemory, IsToConstant}
 use Rattle.net_path.proofs.Classes.{alone_has, alone_slot, alone_register, both_has, both_slot}
@@ -27,7 +27,7 @@ moved r s kept other = cond (eqb r s) kept other
 
 module _ (steps : Steps) where
   pub alone_alone : (r s : ℕ) → r < 6 → s < 6
-      → step_of steps r s ≡ moved r s (pos 0 +ℤ pos 0) steps.alone.alone
+      → step_by steps r s ≡ moved r s (pos 0 +ℤ pos 0) steps.alone.alone
   alone_alone r s lr ls = rw (
     alone_has s ls,
     alone_slot s ls,
@@ -38,7 +38,7 @@ module _ (steps : Steps) where
   ) refl
 
   pub alone_both : (r s : ℕ) → r < 6 → s < 6
-      → step_of steps r (8 + s) ≡ moved r s (steps.kept +ℤ pos 0) steps.alone.both
+      → step_by steps r (8 + s) ≡ moved r s (steps.kept +ℤ pos 0) steps.alone.both
   alone_both r s lr ls = rw (
     both_has s,
     both_slot s,
@@ -48,14 +48,14 @@ module _ (steps : Steps) where
     both_register s,
   ) refl
 
-  pub alone_memory : (r : ℕ) → r < 6 → step_of steps r 6 ≡ steps.alone.memory
+  pub alone_memory : (r : ℕ) → r < 6 → step_by steps r 6 ≡ steps.alone.memory
   alone_memory r lr = rw (alone_slot r lr, alone_has r lr) refl
 
-  pub alone_constant : (r : ℕ) → r < 6 → step_of steps r 7 ≡ steps.alone.constant
+  pub alone_constant : (r : ℕ) → r < 6 → step_by steps r 7 ≡ steps.alone.constant
   alone_constant r lr = rw (alone_slot r lr, alone_has r lr) refl
 
   pub both_alone : (r s : ℕ) → s < 6
-      → step_of steps (8 + r) s ≡ moved r s (pos 0 +ℤ steps.left) steps.both.alone
+      → step_by steps (8 + r) s ≡ moved r s (pos 0 +ℤ steps.left) steps.both.alone
   both_alone r s ls = rw (
     alone_has s ls,
     alone_slot s ls,
@@ -66,26 +66,26 @@ module _ (steps : Steps) where
   ) refl
 
   pub both_both : (r s : ℕ)
-      → step_of steps (8 + r) (8 + s) ≡ moved r s (pos 0 +ℤ pos 0) steps.both.both
+      → step_by steps (8 + r) (8 + s) ≡ moved r s (pos 0 +ℤ pos 0) steps.both.both
   both_both r s =
       rw (both_has s, both_slot s, both_slot r, both_has r, both_register r, both_register s) refl
 
-  pub both_memory : (r : ℕ) → step_of steps (8 + r) 6 ≡ steps.both.memory
+  pub both_memory : (r : ℕ) → step_by steps (8 + r) 6 ≡ steps.both.memory
   both_memory r = rw (both_slot r, both_has r) refl
 
-  pub both_constant : (r : ℕ) → step_of steps (8 + r) 7 ≡ steps.both.constant
+  pub both_constant : (r : ℕ) → step_by steps (8 + r) 7 ≡ steps.both.constant
   both_constant r = rw (both_slot r, both_has r) refl
 
-  pub memory_alone : (s : ℕ) → s < 6 → step_of steps 6 s ≡ steps.memory.alone
+  pub memory_alone : (s : ℕ) → s < 6 → step_by steps 6 s ≡ steps.memory.alone
   memory_alone s ls = rw (alone_has s ls, alone_slot s ls) refl
 
-  pub memory_both : (s : ℕ) → step_of steps 6 (8 + s) ≡ steps.memory.both
+  pub memory_both : (s : ℕ) → step_by steps 6 (8 + s) ≡ steps.memory.both
   memory_both s = rw (both_has s, both_slot s) refl
 
-  pub constant_alone : (s : ℕ) → s < 6 → step_of steps 7 s ≡ steps.constant.alone
+  pub constant_alone : (s : ℕ) → s < 6 → step_by steps 7 s ≡ steps.constant.alone
   constant_alone s ls = rw (alone_has s ls, alone_slot s ls) refl
 
-  pub constant_both : (s : ℕ) → step_of steps 7 (8 + s) ≡ steps.constant.both
+  pub constant_both : (s : ℕ) → step_by steps 7 (8 + s) ≡ steps.constant.both
   constant_both s = rw (both_has s, both_slot s) refl
 
 pub moved_same : (r : ℕ) (kept other : ℤ) → moved r r kept other ≡ kept
@@ -126,7 +126,7 @@ module _ (steps : Steps) (within : AreStepsWithin steps) where
   from_short false false q =
       onward_short steps.constant within.constant (has_register q) (needs_slot q)
 
-  pub step_short : (p q : ℕ) → IsShort (step_of steps p q)
+  pub step_short : (p q : ℕ) → IsShort (step_by steps p q)
   step_short p q = by (stays p q) where
     by : (b : Bool) → IsShort (cond b (staying steps p q) (onward_from steps p q))
     by true = stays_short (needs_slot p) (needs_slot q)
@@ -188,7 +188,7 @@ module _ (ways : Ways) (steps : Steps) (are : AreForwards ways steps) where
   forwards_by false false false true same = omega (arith, ints, are.constant.memory)
   forwards_by false false false false same = omega (arith, ints, are.constant.constant)
 
-  pub forwards_are : (p q : ℕ) → step_of steps p q ≡ step_price ways p q
+  pub forwards_are : (p q : ℕ) → step_by steps p q ≡ step_price ways p q
   forwards_are p q = forwards_by (has_register p) (needs_slot p) (has_register q) (needs_slot q)
       (eqb (register_of p) (register_of q))
 
@@ -219,7 +219,7 @@ module _ (ways : Ways) (steps : Steps) (are : AreBackwards ways steps) where
   turned : (a b : ℕ) → eqb a b ≡ eqb b a
   turned a b = grind (arith, nat_tests)
 
-  pub backwards_are : (p q : ℕ) → step_of steps p q ≡ step_price ways q p
+  pub backwards_are : (p q : ℕ) → step_by steps p q ≡ step_price ways q p
   backwards_are p q = backwards_by (has_register p) (needs_slot p) (has_register q) (needs_slot q)
       (eqb (register_of p) (register_of q))
       ∙ ap (price_of ways (has_register q) (needs_slot q) (has_register p) (needs_slot p))

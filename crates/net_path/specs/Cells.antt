@@ -39,8 +39,8 @@ abbrev pub is_open_alone : Net → Ends → Taken → Edge → Bool
 is_open_alone net ends taken e = is_open net ends (register_free net taken) e.strand e
 
 -- the price of the register of place p, where these are the prices of the six
-abbrev pub cap_of : List ℕ → ℕ → ℤ
-cap_of caps p = if has_register p then pos (slice_index caps (register_of p)) else pos 0
+abbrev pub price_in : List ℕ → ℕ → ℤ
+price_in caps p = if has_register p then pos (slice_index caps (register_of p)) else pos 0
 
 -- what the extras of the layer cost at a place, in units of 1/1024
 abbrev pub spot_extras : Net → Weights → Spot → Place → ℤ
@@ -49,7 +49,7 @@ spot_extras net w spot place = pos (price_unit * extras_cost net w spot.strand s
 -- what is paid at a place of a layer, where these places are open and extras cost so much
 pub record IsCellWith (open_places : ℕ) (caps : List ℕ) (extras : ℤ) (place : Place) (z : ℤ)
     : Type 0 where
-  pub is : IsCell (allows open_places (number place)) (extras +ℤ cap_of caps (number place)) z
+  pub is : IsCell (allows open_places (number place)) (extras +ℤ price_in caps (number place)) z
   pub within : (z ≡ unreached) ⊎ IsAbout (2 ^ 43) z
 
 abbrev pub AreCellsWith : ℕ → List ℕ → (Place → ℤ) → List ℤ → Type 0

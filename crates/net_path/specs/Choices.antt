@@ -6,7 +6,7 @@ use Rattle.pra_base.specs.declared.ids.Place.{Place}
 use Rattle.pra_base.specs.Places.{number, place_count}
 use Rattle.net_path.specs.declared.path.Choice.{Choice}
 use Rattle.net_path.specs.Ways.{at}
-use Rattle.net_path.specs.Rests.{Terrain, IsBest}
+use Rattle.net_path.specs.Rests.{Terrain, IsLowest}
 
 -- to come to this place, where the way costs so much and the row has what is paid from there on
 pub record IsChoice (way : ℕ → ℤ) (costs : List ℤ) (to : Place) (choice : Choice) : Type 0 where
@@ -25,7 +25,7 @@ pub record IsBestPlace (way : ℕ → ℤ) (costs : List ℤ) (to : Place) : Typ
 -- a path may begin there, and none of the places is better
 pub record IsGoodStart (t : Terrain) (costs : List ℤ) (start : Place) : Type 0 where
   pub comes : IsTrue (t.may_come 0 None start)
-  pub best : IsBest t 0 None costs (t.way 0 None start +ℤ at costs (number start))
+  pub best : IsLowest t 0 None costs (t.way 0 None start +ℤ at costs (number start))
 
 -- what is paid from a place where the path begins, or that it is too much for any path
 abbrev pub IsStart : (ℕ → ℤ) → List ℤ → ℕ → Option ℤ → Type 0
@@ -34,6 +34,6 @@ IsStart way costs p o =
     (λ z. (z ≡ way p +ℤ at costs p) × (z <ℤ pos (2 ^ 61)))
 
 -- of the first n places
-abbrev pub AreStarts : (ℕ → ℤ) → List ℤ → ℕ → List (Option ℤ) → Type 0
-AreStarts way costs n starts =
+abbrev pub AreStartCosts : (ℕ → ℤ) → List ℤ → ℕ → List (Option ℤ) → Type 0
+AreStartCosts way costs n starts =
     (p : ℕ) → p < n → IsStart way costs p (slice_index_or starts p None)

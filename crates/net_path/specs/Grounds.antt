@@ -23,15 +23,15 @@ abbrev pub edge : ℕ → ℕ → Option Place → Place → Edge
 edge s l p q = record { strand = s; layer = l; from = p; to = q }
 
 -- the place is the one that is wanted, if any is
-abbrev pub suits : Option Place → Place → Bool
-suits None q = true
-suits (Some p) q = same_place p q
+abbrev pub wants : Option Place → Place → Bool
+wants None q = true
+wants (Some p) q = same_place p q
 
 -- where the strand begins and ends it is where that is wanted
 abbrev pub suits_ends : Ends → Strand → Edge → Bool
 suits_ends ends t e =
-    (not (nat_eq e.layer t.first) || suits ends.first e.to) &&
-    (not (nat_eq e.layer t.last) || suits ends.last e.to)
+    (not (nat_eq e.layer t.first) || wants ends.first e.to) &&
+    (not (nat_eq e.layer t.last) || wants ends.last e.to)
 
 -- nothing that the edge comes to is in use
 abbrev pub register_free : Net → Taken → Edge → Bool

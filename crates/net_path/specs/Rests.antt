@@ -59,16 +59,16 @@ pub record IsMetBy (t : Terrain) (l : ℕ) (p : Option Place) (costs : List ℤ)
   pub comes : IsTrue (t.may_come l p place)
   pub met : (t.way l p place +ℤ at costs (number place)) ≤ℤ z
 
-pub record IsBest (t : Terrain) (l : ℕ) (p : Option Place) (costs : List ℤ) (z : ℤ) : Type 0 where
+pub record IsLowest (t : Terrain) (l : ℕ) (p : Option Place) (costs : List ℤ) (z : ℤ) : Type 0 where
   pub below : (q : Place) → IsTrue (t.may_come l p q) → z ≤ℤ (t.way l p q +ℤ at costs (number q))
   pub met : IsMetBy t l p costs z
 
 -- each place is a best one to come to from the place before it
-abbrev pub Follows : Terrain → (ℕ → List ℤ) → ℕ → Option Place → List Place → Type 0
-Follows t row l p [] = ⊤
-Follows t row l p (q ∷ qs) =
-    IsTrue (t.may_come l p q) × IsBest t l p (row l) (t.way l p q +ℤ at (row l) (number q)) ×
-    Follows t row (suc l) (Some q) qs
+abbrev pub AreBest : Terrain → (ℕ → List ℤ) → ℕ → Option Place → List Place → Type 0
+AreBest t row l p [] = ⊤
+AreBest t row l p (q ∷ qs) =
+    IsTrue (t.may_come l p q) × IsLowest t l p (row l) (t.way l p q +ℤ at (row l) (number q)) ×
+    AreBest t row (suc l) (Some q) qs
 
 -- what is paid at a layer fits between this slack and that of the layer behind it
 pub record IsSlack (t : Terrain) (l before behind : ℕ) : Type 0 where

@@ -65,7 +65,7 @@ abbrev pub AreDebts : List ℤ → Type 0
 AreDebts costs = (p : ℕ) → p < place_count → IsDebt (at costs p)
 
 -- z is the least of n costs, of which the first is number i
-pub record IsLeastOf (costs : List ℤ) (i n : ℕ) (z : ℤ) : Type 0 where
+pub record IsLeastFrom (costs : List ℤ) (i n : ℕ) (z : ℤ) : Type 0 where
   pub below : (k : ℕ) → k < n → z ≤ℤ at costs (i + k)
   pub place : ℕ
   pub within : place < n
@@ -81,8 +81,8 @@ pub record IsLeastOfFour (a b c d z : ℤ) : Type 0 where
 
 -- the least of the six registers alone, of the six both places, and memory and the constant itself
 pub record AreBests (costs : List ℤ) (bests : Bests) : Type 0 where
-  pub alone : IsLeastOf costs 0 6 bests.alone.cost
-  pub both : IsLeastOf costs 8 6 bests.both.cost
+  pub alone : IsLeastFrom costs 0 6 bests.alone.cost
+  pub both : IsLeastFrom costs 8 6 bests.both.cost
   pub memory : bests.memory.cost ≡ at costs 6
   pub constant : bests.constant.cost ≡ at costs 7
 
@@ -193,8 +193,8 @@ staying steps p q =
     (if needs_slot q && not (needs_slot p) then steps.kept else pos 0) +ℤ
     (if needs_slot p && not (needs_slot q) then steps.left else pos 0)
 
-abbrev pub step_of : Steps → ℕ → ℕ → ℤ
-step_of steps p q = if stays p q then staying steps p q else onward_from steps p q
+abbrev pub step_by : Steps → ℕ → ℕ → ℤ
+step_by steps p q = if stays p q then staying steps p q else onward_from steps p q
 
 -- steps are short, and to stay in a register costs no more than to come to another one
 pub record AreStepsWithin (steps : Steps) : Type 0 where

@@ -10,9 +10,9 @@ ghost use Rattle.net_form.specs.Rooms.{IsRoomOf};
 ghost use Rattle.net_dual.specs.Priced.{AreInRange};
 ghost use Rattle.pra_base.specs.Places.{number, allows};
 ghost use Rattle.pra_base.specs.declared.ids.Place.{Place as AnyPlace};
-ghost use Rattle.net_path.specs.Grounds.{suits, suits_ends, edge, is_free, terrain};
+ghost use Rattle.net_path.specs.Grounds.{wants, suits_ends, edge, is_free, terrain};
 ghost use Rattle.net_path.specs.Cells.{IsSpot, ArePlainCells, ArePlainRows, is_open_alone};
-ghost use Rattle.net_path.specs.Cells.{spot_edge, cap_of, spot_extras, IsCellWith, AreCellsWith};
+ghost use Rattle.net_path.specs.Cells.{spot_edge, price_in, spot_extras, IsCellWith, AreCellsWith};
 ghost use Rattle.net_path.specs.Rows.{IsAbout, AreCells, AreCellsWithin};
 ghost use Rattle.net_laws.specs.Built.{IsBuilt};
 
@@ -29,7 +29,7 @@ use pra_base::{Mask, Place};
 
 // The places that suit an end: every one, or the one that is wanted.
 fn wanted(place: Option<Place>) -> Mask
-    ensures { (q : AnyPlace) → allows result (number q) ≡ suits place q }
+    ensures { (q : AnyPlace) → allows result (number q) ≡ wants place q }
 {
     match place {
         None => EVERY,
@@ -47,7 +47,7 @@ pub(crate) struct Spot {
 
 // The same where the end is, and every place where it is not.
 fn wanted_if(here: bool, place: Option<Place>) -> Mask
-    ensures { (q : AnyPlace) → allows result (number q) ≡ (not here || suits place q) }
+    ensures { (q : AnyPlace) → allows result (number q) ≡ (not here || wants place q) }
 {
     if here { wanted(place) } else { EVERY }
 }
@@ -94,7 +94,7 @@ fn caps_at(prices: &Prices, layer: usize) -> &[u64]
 fn cap_price(caps: &[u64], place: Place) -> i64
     requires six { length caps.now ≡ 6 }
     requires most { All (λ c. c ≤ 2 ^ 40) caps.now }
-    ensures value { result ≡ cap_of caps.now (number place) }
+    ensures value { result ≡ price_in caps.now (number place) }
     ensures about { IsAbout (2 ^ 40) result }
 {
     if !place.has_register() {

@@ -7,9 +7,9 @@
 // in its register.
 
 ghost use Rattle.std.specs.Prelude.{◌≡◌, ◌⊎◌, ◌≤ℤ◌, ◌+ℤ◌, ◌+◌, ◌^◌, ◌≤◌, ◌<◌, ℕ, ℤ, List};
-ghost use Rattle.net_path.specs.Ways.{at, IsLeastOf, IsLeastOfFour, AreBests, AreBestsWithin};
+ghost use Rattle.net_path.specs.Ways.{at, IsLeastFrom, IsLeastOfFour, AreBests, AreBestsWithin};
 ghost use Rattle.net_path.specs.Ways.{IsLeastWay, IsLeastElsewhere, AreStepsWithin, IsDebt};
-ghost use Rattle.net_path.specs.Ways.{AreDebts, step_of, IsOnward, IsShort};
+ghost use Rattle.net_path.specs.Ways.{AreDebts, step_by, IsOnward, IsShort};
 ghost use Rattle.net_path.specs.Rows.{IsCellWithin, AreCostsCells, IsRowWithin, IsPaid, IsPaidAt};
 ghost use Rattle.net_path.specs.Rows.{ArePaidOver};
 
@@ -117,7 +117,7 @@ pub(crate) fn debt_at<const SECONDS: bool>(row: &Row, place: usize) -> Debt
 #[inline(always)]
 fn least_of_six<const SECONDS: bool>(row: &Row, from: usize) -> Debt
     requires { from + 6 ≤ 16 }
-    ensures { IsLeastOf row.now.costs from 6 result.cost }
+    ensures { IsLeastFrom row.now.costs from 6 result.cost }
 {
     let mut least = debt_at::<SECONDS>(row, from);
     for k in 1..6usize {
@@ -172,7 +172,7 @@ fn elsewhere_from_alone<const SECONDS: bool>(steps: &Steps, bests: &Bests) -> De
     requires steps { AreStepsWithin steps.now }
     requires bests { AreBestsWithin bests.now }
     ensures { (costs : List ℤ) (r : ℕ) → AreBests costs bests.now → r < 6 →
-        IsLeastElsewhere (step_of steps.now r) r costs result.cost }
+        IsLeastElsewhere (step_by steps.now r) r costs result.cost }
 {
     going_on::<SECONDS>(bests, steps.alone)
 }
@@ -183,7 +183,7 @@ fn elsewhere_from_both<const SECONDS: bool>(steps: &Steps, bests: &Bests) -> Deb
     requires steps { AreStepsWithin steps.now }
     requires bests { AreBestsWithin bests.now }
     ensures { (costs : List ℤ) (r : ℕ) → AreBests costs bests.now → r < 6 →
-        IsLeastElsewhere (step_of steps.now (8 + r)) r costs result.cost }
+        IsLeastElsewhere (step_by steps.now (8 + r)) r costs result.cost }
 {
     going_on::<SECONDS>(bests, steps.both)
 }
@@ -194,7 +194,7 @@ fn debt_in_memory<const SECONDS: bool>(steps: &Steps, bests: &Bests) -> Debt
     requires steps { AreStepsWithin steps.now }
     requires bests { AreBestsWithin bests.now }
     ensures { (costs : List ℤ) → AreBests costs bests.now →
-        IsLeastWay (step_of steps.now 6) costs result.cost }
+        IsLeastWay (step_by steps.now 6) costs result.cost }
 {
     going_on::<SECONDS>(bests, steps.memory)
 }
@@ -205,7 +205,7 @@ fn debt_nowhere<const SECONDS: bool>(steps: &Steps, bests: &Bests) -> Debt
     requires steps { AreStepsWithin steps.now }
     requires bests { AreBestsWithin bests.now }
     ensures { (costs : List ℤ) → AreBests costs bests.now →
-        IsLeastWay (step_of steps.now 7) costs result.cost }
+        IsLeastWay (step_by steps.now 7) costs result.cost }
 {
     going_on::<SECONDS>(bests, steps.constant)
 }
@@ -216,8 +216,8 @@ fn debt_alone<const SECONDS: bool>(steps: &Steps, row: &Row, r: usize, elsewhere
     requires steps { AreStepsWithin steps.now }
     requires row { AreDebts row.now.costs }
     requires register { r < 6 }
-    requires elsewhere { IsLeastElsewhere (step_of steps.now r) r row.now.costs elsewhere.cost }
-    ensures { IsLeastWay (step_of steps.now r) row.now.costs result.cost }
+    requires elsewhere { IsLeastElsewhere (step_by steps.now r) r row.now.costs elsewhere.cost }
+    ensures { IsLeastWay (step_by steps.now r) row.now.costs result.cost }
 {
     let stored = with_way(debt_at::<SECONDS>(row, 8 + r), steps.kept);
     lesser::<SECONDS>(
@@ -232,9 +232,9 @@ fn debt_in_both<const SECONDS: bool>(steps: &Steps, row: &Row, r: usize, elsewhe
     requires steps { AreStepsWithin steps.now }
     requires row { AreDebts row.now.costs }
     requires register { r < 6 }
-    requires elsewhere { IsLeastElsewhere (step_of steps.now (8 + r)) r row.now.costs
+    requires elsewhere { IsLeastElsewhere (step_by steps.now (8 + r)) r row.now.costs
         elsewhere.cost }
-    ensures { IsLeastWay (step_of steps.now (8 + r)) row.now.costs result.cost }
+    ensures { IsLeastWay (step_by steps.now (8 + r)) row.now.costs result.cost }
 {
     let left = with_way(debt_at::<SECONDS>(row, r), steps.left);
     lesser::<SECONDS>(
@@ -277,7 +277,7 @@ pub(crate) fn pay_crossbar<const SECONDS: bool>(steps: &Steps, cells: &mut Row, 
     requires steps { AreStepsWithin steps.now }
     requires cells { AreCostsCells cells.old.costs }
     requires behind { IsRowWithin (2 ^ 60 + 2 ^ 59) behind.now.costs }
-    ensures { ArePaidOver (step_of steps.now) behind.now.costs cells.old.costs cells.new.costs }
+    ensures { ArePaidOver (step_by steps.now) behind.now.costs cells.old.costs cells.new.costs }
 {
     let bests = bests_of::<SECONDS>(behind);
     let alone = elsewhere_from_alone::<SECONDS>(steps, &bests);

@@ -1,7 +1,7 @@
 // What the steps of a crossbar cost, in the order of the layers and against it.
 
 ghost use Rattle.std.specs.Prelude.{◌≡◌, ℕ};
-ghost use Rattle.net_path.specs.Ways.{AreWaysWithin, AreStepsWithin, IsOnward, step_of, step_price};
+ghost use Rattle.net_path.specs.Ways.{AreWaysWithin, AreStepsWithin, IsOnward, step_by, step_price};
 ghost use Rattle.net_path.specs.Ways.{IsFromAlone, IsFromBoth, IsFromMemory, IsFromConstant};
 ghost use Rattle.net_path.specs.Ways.{IsToAlone, IsToBoth, IsToMemory, IsToConstant};
 
@@ -62,7 +62,7 @@ fn from_constant(ways: &Ways) -> Onward
 /// The steps from a layer to the one behind it.
 pub(crate) fn forwards(ways: &Ways) -> Steps
     requires { AreWaysWithin ways.now }
-    ensures steps { (p q : ℕ) → step_of result p q ≡ step_price ways.now p q }
+    ensures steps { (p q : ℕ) → step_by result p q ≡ step_price ways.now p q }
     ensures within { AreStepsWithin result }
 {
     Steps {
@@ -130,7 +130,7 @@ fn to_constant() -> Onward
 /// The steps from a layer to the one before it: what it costs to have come from there.
 pub(crate) fn backwards(ways: &Ways) -> Steps
     requires { AreWaysWithin ways.now }
-    ensures steps { (p q : ℕ) → step_of result p q ≡ step_price ways.now q p }
+    ensures steps { (p q : ℕ) → step_by result p q ≡ step_price ways.now q p }
     ensures within { AreStepsWithin result }
 {
     Steps {

@@ -9,8 +9,8 @@ ghost use Rattle.net_path.specs.Leaving.{IsLeaving, into_register, into_memory, 
 ghost use Rattle.std.specs.Prelude.{◌<ℤ◌, pos};
 ghost use Rattle.std.specs.Option.{MatchOption};
 ghost use Rattle.net_path.specs.Choices.{IsChoice, IsBestChoice, IsBestPlace, IsGoodStart};
-ghost use Rattle.net_path.specs.Choices.{AreStarts};
-ghost use Rattle.net_path.specs.Rests.{Terrain, Follows};
+ghost use Rattle.net_path.specs.Choices.{AreStartCosts};
+ghost use Rattle.net_path.specs.Rests.{Terrain, AreBest};
 ghost use Rattle.net_path.specs.Rows.{costs_at, IsGround};
 
 use crate::crossbar::{Debt, Row, Ways, debt_at, with_way};
@@ -206,7 +206,7 @@ fn reached(cost: i64) -> Option<i64>
 pub(crate) fn start_costs(ways: &Ways, constant: bool, row: &Row) -> [Option<i64>; 14]
     requires ways { AreWaysWithin ways.now }
     requires row { AreDebts row.now.costs }
-    ensures { AreStarts (start_price ways.now constant) row.now.costs place_count result }
+    ensures { AreStartCosts (start_price ways.now constant) row.now.costs place_count result }
 {
     let mut costs = [None; 14];
     for number in 0..14u8 {
@@ -273,7 +273,7 @@ pub(crate) fn follow(
     requires room { length rows.now ≤ length path.old }
     ensures { (t : Terrain) → IsGround (step_price ways.now) first (length rows.now) t →
         IsGoodStart t (costs_at rows.now 0) start →
-        Follows t (costs_at rows.now) 0 None (take (length rows.now) path.new) }
+        AreBest t (costs_at rows.now) 0 None (take (length rows.now) path.new) }
 {
     path[0] = start;
     let mut from = start;

@@ -2,7 +2,7 @@
 // paid from there on, from the last layer to the first.
 
 ghost use Rattle.std.specs.Prelude.{◌≡◌, ◌≢◌, ◌+◌, ◌-◌, ◌*◌, ◌≤◌, ◌<◌, ◌^◌, ℕ, length};
-ghost use Rattle.net_path.specs.Ways.{AreStepsWithin, AreDebts, step_of};
+ghost use Rattle.net_path.specs.Ways.{AreStepsWithin, AreDebts, step_by};
 ghost use Rattle.net_path.specs.Rests.{Terrain, AreRows};
 ghost use Rattle.net_path.specs.Rows.{costs_at, slack_at, AreCellsWithin, IsGround, AreCells};
 ghost use Rattle.net_path.specs.Rows.{ArePaid, AreCostsCells, IsRowWithin, IsPaidLayer};
@@ -31,7 +31,7 @@ fn pay_row(steps: &Steps, layer: u32, cells: &mut Row, behind: &Row, seconds: bo
     requires steps { AreStepsWithin steps.now }
     requires cells { AreCostsCells cells.old.costs }
     requires behind { IsRowWithin (2 ^ 60 + 2 ^ 59) behind.now.costs }
-    ensures { IsPaidLayer (step_of steps.now) layer behind.now.costs cells.old.costs cells.new.costs }
+    ensures { IsPaidLayer (step_by steps.now) layer behind.now.costs cells.old.costs cells.new.costs }
 {
     match (layer % 2 == 0, seconds) {
         (true, false) => pay_across::<false>(cells, behind),
@@ -49,7 +49,7 @@ fn pay_layer(steps: &Steps, behind: u32, rows: &mut [Row], at: usize, seconds: b
     requires behind { IsRowWithin (2 ^ 60 + 2 ^ 59) (costs_at rows.old (at + 1)) }
     ensures long { length rows.new ≡ length rows.old }
     ensures others { (k : ℕ) → k ≢ at → costs_at rows.new k ≡ costs_at rows.old k }
-    ensures paid { IsPaidLayer (step_of steps.now) behind (costs_at rows.old (at + 1)) (costs_at rows.old at)
+    ensures paid { IsPaidLayer (step_by steps.now) behind (costs_at rows.old (at + 1)) (costs_at rows.old at)
         (costs_at rows.new at) }
 {
     let (front, back) = rows.split_at_mut(at + 1);
@@ -65,7 +65,7 @@ pub(crate) fn pay_backward(steps: &Steps, first: u32, rows: &mut [Row], seconds:
     requires cells { AreCellsWithin rows.old }
     ensures long { length rows.new ≡ length rows.old }
     ensures debts { (k : ℕ) → k < length rows.new → AreDebts (costs_at rows.new k) }
-    ensures rows { (t : Terrain) → IsGround (step_of steps.now) first (length rows.old) t →
+    ensures rows { (t : Terrain) → IsGround (step_by steps.now) first (length rows.old) t →
         AreCells t rows.old →
         AreRows t (costs_at rows.new) (slack_at (length rows.old)) (length rows.old) 0 }
 {

@@ -18,13 +18,13 @@ use Rattle.net_form.specs.Admitted.{strand_at}
 use Rattle.net_laws.specs.Built.{IsBuilt}
 use Rattle.net_dual.specs.Priced.{AreInRange}
 use Rattle.net_dual.specs.Leasts.{IsCostWithin, cost_at}
-use Rattle.net_plain.specs.Rows.{AreWithin}
+use Rattle.net_plain.specs.Rows.{AreCostsWithin}
 use Rattle.net_plain.specs.Rests.{IsRest, AreRests}
 use Rattle.net_plain.proofs.LeastRests.{nothing_more}
 use Rattle.net_plain.proofs.Whole.{rest_within}
 
 pub set_within : (n : ℕ) (row : List (Option ℤ)) (at : ℕ) (x : Option ℤ) → at < length row
-    → AreWithin n row → IsCostWithin n x → AreWithin n (set row at x)
+    → AreCostsWithin n row → IsCostWithin n x → AreCostsWithin n (set row at x)
 set_within n row at x lt within here k =
     elim (cases_eq k at) as (λ _. IsCostWithin n (get_or (set row at x) k None)) [
       | inl is ↦ subst (λ k. IsCostWithin n (get_or (set row at x) k None)) (sym is)

@@ -21,7 +21,7 @@ use Rattle.net_dual.specs.Priced.{edge_price}
 use Rattle.net_dual.specs.Leasts.{IsLeastOf, cost_at}
 use Rattle.net_path.specs.Grounds.{edge, is_free, is_open, there_price}
 use Rattle.net_plain.specs.Rows.{there, coming}
-use Rattle.net_plain.specs.Rests.{MayTake, Passes, rest_price, IsLong, IsCostOf, IsLeastRest}
+use Rattle.net_plain.specs.Rests.{MayTake, Passes, rest_price, GoToEnd, IsCostOf, IsLeastRest}
 use Rattle.net_plain.specs.Rests.{IsRest}
 use Rattle.net_plain.proofs.Costs.{added_some, added_is, some_or_none}
 
@@ -125,7 +125,7 @@ module _ (net : Net) (w : Weights) (prices : Prices) (ends : Ends) (taken : Take
     is = refl;
     least = none;
   } where
-    none : (qs : List Place) → IsLong net s l qs → Passes net ends taken s l p qs
+    none : (qs : List Place) → GoToEnd net s l qs → Passes net ends taken s l p qs
         → pos 0 ≤ℤ rest_price net w prices s l p qs
     none [] long passes = omega (arith, ints)
     none (q ∷ qs) long passes = absurd (omega (arith, long, behind))
@@ -147,7 +147,7 @@ module _ (net : Net) (w : Weights) (prices : Prices) (ends : Ends) (taken : Take
         ∙ ap (λ (r : Place). onward l p r (cost_at rests (number q))) (place_at-number q)
 
     -- what is left behind a place of a path
-    some_left : (q : Place) (qs : List Place) → IsLong net s l (q ∷ qs)
+    some_left : (q : Place) (qs : List Place) → GoToEnd net s l (q ∷ qs)
         → Passes net ends taken s l p (q ∷ qs) → (o : Option ℤ)
         → IsRest net w prices ends taken s (suc l) (Some q) o
         → (z : ℤ) × (o ≡ Some z) × (z ≤ℤ rest_price net w prices s (suc l) (Some q) qs)
@@ -157,7 +157,7 @@ module _ (net : Net) (w : Weights) (prices : Prices) (ends : Ends) (taken : Take
         (z, refl, least.least qs (omega (arith, long)) (tail_passes l p q qs passes))
 
     -- a path has a way to its first place and on
-    some_way : (q : Place) (qs : List Place) → IsLong net s l (q ∷ qs)
+    some_way : (q : Place) (qs : List Place) → GoToEnd net s l (q ∷ qs)
         → Passes net ends taken s l p (q ∷ qs)
         → (z : ℤ) × (f (number q) ≡ Some z) × (z ≤ℤ rest_price net w prices s l p (q ∷ qs))
     some_way q qs long passes =
@@ -169,14 +169,14 @@ module _ (net : Net) (w : Weights) (prices : Prices) (ends : Ends) (taken : Take
           omega (arith, ints, le),
         )
 
-    none_goes : IsLeastOf f 14 None → (qs : List Place) → IsLong net s l qs
+    none_goes : IsLeastOf f 14 None → (qs : List Place) → GoToEnd net s l qs
         → Passes net ends taken s l p qs → ⊥
     none_goes none [] long passes = absurd (omega (arith, long, last))
     none_goes none (q ∷ qs) long passes =
         let way = some_way q qs long passes in
         not_both (f (number q)) way.0 (none (number q) (number_below q)) way.1
 
-    no_less : (z : ℤ) → IsLeastOf f 14 (Some z) → (qs : List Place) → IsLong net s l qs
+    no_less : (z : ℤ) → IsLeastOf f 14 (Some z) → (qs : List Place) → GoToEnd net s l qs
         → Passes net ends taken s l p qs → z ≤ℤ rest_price net w prices s l p qs
     no_less z least [] long passes = absurd (omega (arith, long, last))
     no_less z least (q ∷ qs) long passes =

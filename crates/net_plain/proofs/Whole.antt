@@ -23,7 +23,7 @@ use Rattle.net_dual.proofs.Within.{within-more, within-add, within-pos}
 use Rattle.net_path.specs.Grounds.{edge, is_free}
 use Rattle.net_path.proofs.GoodPaths.{good_of, path_of}
 use Rattle.net_path.proofs.Unused.{to_free, from_free}
-use Rattle.net_plain.specs.Rests.{Passes, rest_price, IsLong, IsCostOf, IsRest}
+use Rattle.net_plain.specs.Rests.{Passes, rest_price, GoToEnd, IsCostOf, IsRest}
 
 most_if : (b : Bool) (n : ℕ) → cond b n 0 ≤ n
 most_if true n = omega arith
@@ -55,7 +55,7 @@ module _ (net : Net) (built : IsBuilt net) (prices : Prices) (range : AreInRange
     few = let layers = built.formed.layers in let within = in_layers net built.formed s lt in
         omega (arith, within, layers)
 
-    long_within : (l : ℕ) (p : Option Place) (qs : List Place) → IsLong net s l qs
+    long_within : (l : ℕ) (p : Option Place) (qs : List Place) → GoToEnd net s l qs
         → IsWithin (2 ^ 68) (rest_price net w prices s l p qs)
     long_within l p qs long = let f = few in
         within-more (2 ^ 53 * length qs) (2 ^ 68)
@@ -72,7 +72,7 @@ module _ (net : Net) (built : IsBuilt net) (prices : Prices) (range : AreInRange
         record { low = omega (arith, ints, is, low); high = omega (arith, ints, is, high) }
 
     pub cost_within : (l : ℕ) (p : Option Place) (qs : List Place) (o : Option ℤ)
-        → IsLong net s l qs → IsCostOf net w prices ends taken s l p qs o → IsCostWithin (2 ^ 68) o
+        → GoToEnd net s l qs → IsCostOf net w prices ends taken s l p qs o → IsCostWithin (2 ^ 68) o
     cost_within l p qs None long none = tt
     cost_within l p qs (Some z) long cost =
         let is = cost.1 in
@@ -91,7 +91,7 @@ module _ (net : Net) (built : IsBuilt net) (prices : Prices) (range : AreInRange
     passes_of ps goes = good_of net ends (is_free net taken) s order ps goes.path goes.has_ends
         (to_free net taken (path_edges net s ps) goes.is_clear)
 
-    goes_of : (ps : List Place) → IsLong net s (strand_at net s).first ps
+    goes_of : (ps : List Place) → GoToEnd net s (strand_at net s).first ps
         → Passes net ends taken s (strand_at net s).first None ps
         → MayGo net ends (UsesNothing net taken) s ps
     goes_of ps long passes =
@@ -134,11 +134,11 @@ module _ (net : Net) (built : IsBuilt net) (prices : Prices) (range : AreInRange
 
     -- it has a place for each layer where it is as long as the masks
     pub long_of : (ps : List Place) → length ps ≡ length (strand_at net s).masks
-        → IsLong net s (strand_at net s).first ps
+        → GoToEnd net s (strand_at net s).first ps
     long_of ps same = let masks = (built.formed.strands s no_strand lt).masks in
         omega (arith, same, masks)
 
-    pub as_long : (ps : List Place) → IsLong net s (strand_at net s).first ps
+    pub as_long : (ps : List Place) → GoToEnd net s (strand_at net s).first ps
         → length ps ≡ length (strand_at net s).masks
     as_long ps long = let masks = (built.formed.strands s no_strand lt).masks in
         omega (arith, long, masks)
@@ -148,13 +148,13 @@ module _ (net : Net) (built : IsBuilt net) (prices : Prices) (range : AreInRange
         → MayGo net ends (UsesNothing net taken) s ps → ⊥
     may_not_go ps none goes = none (passes_of ps goes)
 
-    pub price_is : (ps : List Place) (z : ℤ) → IsLong net s (strand_at net s).first ps
+    pub price_is : (ps : List Place) (z : ℤ) → GoToEnd net s (strand_at net s).first ps
         → IsCostOf net w prices ends taken s (strand_at net s).first None ps (Some z)
         → MayGo net ends (UsesNothing net taken) s ps
         × (z ≡ path_price net (edge_price net w prices) s ps)
     price_is ps z long cost = (goes_of ps long cost.0, cost.1)
 
-    pub price_small : (ps : List Place) (z : ℤ) → IsLong net s (strand_at net s).first ps
+    pub price_small : (ps : List Place) (z : ℤ) → GoToEnd net s (strand_at net s).first ps
         → IsCostOf net w prices ends taken s (strand_at net s).first None ps (Some z)
         → IsWithin most_sum z
     price_small ps z long cost =

@@ -14,7 +14,7 @@ use Rattle.net_form.specs.Flow.{Edge, edges}
 use Rattle.net_dual.specs.Priced.{total, edge_price}
 use Rattle.net_dual.specs.Leasts.{cost_at}
 use Rattle.net_path.specs.Grounds.{is_free, is_open}
-use Rattle.net_plain.specs.Rows.{AreWithin}
+use Rattle.net_plain.specs.Rows.{AreCostsWithin}
 
 -- an edge that a path of strand s may take
 abbrev pub MayTake : Net → Ends → Taken → ℕ → Edge → Type 0
@@ -30,8 +30,8 @@ abbrev pub rest_price : Net → Weights → Prices → ℕ → ℕ → Option Pl
 rest_price net w prices s l p qs = total (edge_price net w prices) (edges s l p qs)
 
 -- these places are for the layers from l to the last
-abbrev pub IsLong : Net → ℕ → ℕ → List Place → Type 0
-IsLong net s l qs = l + length qs ≡ (strand_at net s).last + 1
+abbrev pub GoToEnd : Net → ℕ → ℕ → List Place → Type 0
+GoToEnd net s l qs = l + length qs ≡ (strand_at net s).last + 1
 
 -- what these places cost, if the strand may go through them
 abbrev pub IsCostOf : Net → Weights → Prices → Ends → Taken → ℕ → ℕ → Option Place → List Place →
@@ -44,17 +44,17 @@ IsCostOf net w prices ends taken s l p qs (Some z) =
 pub record IsLeastRest (net : Net) (w : Weights) (prices : Prices) (ends : Ends) (taken : Taken)
     (s l : ℕ) (p : Option Place) (z : ℤ) : Type 0 where
   pub way : List Place
-  pub long : IsLong net s l way
+  pub long : GoToEnd net s l way
   pub passes : Passes net ends taken s l p way
   pub is : z ≡ rest_price net w prices s l p way
-  pub least : (qs : List Place) → IsLong net s l qs → Passes net ends taken s l p qs →
+  pub least : (qs : List Place) → GoToEnd net s l qs → Passes net ends taken s l p qs →
       z ≤ℤ rest_price net w prices s l p qs
 
 -- the same, if there are any
 abbrev pub IsRest
     : Net → Weights → Prices → Ends → Taken → ℕ → ℕ → Option Place → Option ℤ → Type 0
 IsRest net w prices ends taken s l p None =
-    (qs : List Place) → IsLong net s l qs → Passes net ends taken s l p qs → ⊥
+    (qs : List Place) → GoToEnd net s l qs → Passes net ends taken s l p qs → ⊥
 IsRest net w prices ends taken s l p (Some z) = IsLeastRest net w prices ends taken s l p z
 
 -- for each place before layer l
@@ -63,7 +63,7 @@ pub record AreRests (net : Net) (w : Weights) (prices : Prices) (ends : Ends) (t
   pub long : length rests ≡ place_count
   pub each : (p : Place) →
       IsRest net w prices ends taken s l (Some p) (cost_at rests (number p))
-  pub within : AreWithin (2 ^ 68) rests
+  pub within : AreCostsWithin (2 ^ 68) rests
 
 -- the place before one of a path, if it is not the first
 abbrev pub place_before : List Place → ℕ → Option Place

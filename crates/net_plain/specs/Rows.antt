@@ -5,7 +5,6 @@ use Rattle.pra_base.specs.declared.ids.Place.{Place}
 use Rattle.pra_base.specs.Places.{place_count, place_at}
 use Rattle.net_cost.specs.declared.weights.Weights.{Weights}
 use Rattle.net_form.specs.declared.net.Net.{Net}
-use Rattle.net_form.specs.declared.net.Tie.{Tie}
 use Rattle.net_form.specs.declared.prices.Prices.{Prices}
 use Rattle.net_form.specs.declared.routes.Ends.{Ends}
 use Rattle.net_form.specs.declared.taken.Taken.{Taken}
@@ -24,13 +23,6 @@ pub record IsSpot (net : Net) (spot : Spot) : Type 0 where
   pub after : (strand_at net spot.strand).first ≤ spot.layer
   pub before : spot.layer ≤ (strand_at net spot.strand).last
 
--- where there is no tie
-abbrev pub no_tie : Tie
-no_tie = record { from = 0; to = 0 }
-
-abbrev pub tie_at : Net → ℕ → Tie
-tie_at net k = slice_index_or net.ties k no_tie
-
 -- the number of a tie among those of all, thirteen for each; a constant has none
 abbrev pub number_in : List ℤ → ℕ → Option ℕ → ℤ
 number_in numbers tie None = pos 0
@@ -42,8 +34,8 @@ number_in numbers tie (Some slot) = slice_index_or numbers (tie_numbers * tie + 
 abbrev pub plus_if : Bool → ℤ → Option ℤ → Option ℤ
 plus_if b z o = if b then option_map (λ d. d +ℤ z) o else None
 
-abbrev pub AreWithin : ℕ → List (Option ℤ) → Type 0
-AreWithin n row = (k : ℕ) → IsCostWithin n (cost_at row k)
+abbrev pub AreCostsWithin : ℕ → List (Option ℤ) → Type 0
+AreCostsWithin n row = (k : ℕ) → IsCostWithin n (cost_at row k)
 
 -- ---- a layer
 
@@ -66,4 +58,4 @@ pub record IsRowOf (net : Net) (w : Weights) (prices : Prices) (ends : Ends) (ta
   pub long : length row ≡ place_count
   pub each : (k : ℕ) → k < place_count →
       cost_at row k ≡ there net w prices ends taken s l (place_at k) (cost_at rests k)
-  pub within : AreWithin (2 ^ 108) row
+  pub within : AreCostsWithin (2 ^ 108) row

@@ -5,7 +5,7 @@ ghost use Rattle.net_form.specs.Admitted.{strand_at, in_mask, uses_memory};
 ghost use Rattle.net_form.specs.Formed.{IsFormed};
 ghost use Rattle.net_form.specs.InUse.{pair_at};
 ghost use Rattle.net_form.specs.Rooms.{IsRoomOf};
-ghost use Rattle.net_path.specs.Grounds.{edge, suits, suits_ends, register_free, pairs_free};
+ghost use Rattle.net_path.specs.Grounds.{edge, wants, suits_ends, register_free, pairs_free};
 ghost use Rattle.net_path.specs.Grounds.{is_free, is_open};
 ghost use Rattle.net_plain.specs.Rows.{IsSpot};
 
@@ -32,7 +32,7 @@ fn is_in_mask(net: &Net, spot: Spot, place: Place) -> bool
 
 // Whether the place is the one that is wanted, if any is.
 fn suits(wanted: Option<Place>, place: Place) -> bool
-    ensures { result ≡ suits wanted place }
+    ensures { result ≡ wants wanted place }
 {
     match wanted {
         None => true,

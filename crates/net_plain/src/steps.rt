@@ -9,7 +9,7 @@ ghost use Rattle.net_form.specs.Admitted.{stays_across};
 ghost use Rattle.net_form.specs.Rooms.{IsRoomOf};
 ghost use Rattle.net_laws.specs.Built.{IsBuilt};
 ghost use Rattle.net_path.specs.Grounds.{edge};
-ghost use Rattle.net_plain.specs.Rows.{IsSpot, AreWithin, there, coming, IsRowOf};
+ghost use Rattle.net_plain.specs.Rows.{IsSpot, AreCostsWithin, there, coming, IsRowOf};
 ghost use Rattle.net_plain.specs.Rests.{AreRests, IsRest};
 
 use crate::open::{Spot, is_open};
@@ -106,7 +106,7 @@ fn row_of<F: Fn(Event, u32) -> u32>(
     requires taken { IsRoomOf net.now taken.now }
     requires spot { IsSpot net.now spot }
     requires long { length rests.now ≡ place_count }
-    requires within { AreWithin (2 ^ 68) rests.now }
+    requires within { AreCostsWithin (2 ^ 68) rests.now }
     ensures { IsRowOf net.now (weights_of model.now) prices.now ends taken.now spot.strand
         spot.layer rests.now result }
 {
@@ -138,7 +138,7 @@ fn least_from<F: Fn(Event, u32) -> u32>(
     requires net { IsBuilt net.now }
     requires spot { IsSpot net.now spot }
     requires long { length row.now ≡ place_count }
-    requires within { AreWithin (2 ^ 108) row.now }
+    requires within { AreCostsWithin (2 ^ 108) row.now }
     ensures { IsLeastOf
         (λ k. coming net.now (weights_of model.now) spot.strand spot.layer from (place_at k)
         (cost_at row.now k)) place_count result }

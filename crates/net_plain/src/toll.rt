@@ -6,12 +6,12 @@ ghost use Rattle.net_cost.specs.Models.{Keeps, weights_of};
 ghost use Rattle.net_dual.specs.Priced.{AreInRange, pay, cap_part, mem_part, exit_part, entry_part};
 ghost use Rattle.net_dual.specs.Priced.{tie_slot, tie_price, mem_price, exits, enters};
 ghost use Rattle.net_dual.specs.Small.{IsWithin};
-ghost use Rattle.net_form.specs.Admitted.{uses_memory};
+ghost use Rattle.net_form.specs.Admitted.{tie_at, uses_memory};
 ghost use Rattle.net_form.specs.Cost.{is_extra_at, extra_cost, extras_cost};
 ghost use Rattle.net_form.specs.InUse.{pair_at};
 ghost use Rattle.net_laws.specs.Built.{IsBuilt};
 ghost use Rattle.net_path.specs.Grounds.{edge, there_price};
-ghost use Rattle.net_plain.specs.Rows.{IsSpot, number_in, tie_at};
+ghost use Rattle.net_plain.specs.Rows.{IsSpot, number_in};
 
 use crate::open::{Spot, uses_memory};
 use crate::sums::{add, in_units, subtract};

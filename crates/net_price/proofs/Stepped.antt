@@ -13,11 +13,11 @@ use Rattle.pra_base.specs.declared.ids.Place.TheVariants.{Eax}
 use Rattle.net_form.specs.declared.net.Net.{Net}
 use Rattle.net_form.specs.declared.prices.Prices.{Prices}
 use Rattle.net_form.specs.Flow.{Edge}
-use Rattle.net_form.specs.Admitted.{exits_at, enters_at}
+use Rattle.net_form.specs.Admitted.{no_tie, tie_at, exits_at, enters_at}
 use Rattle.net_dual.specs.Priced.{most_price, tie_slot, tie_price, slot_price}
 use Rattle.net_dual.specs.Step.{used_price, tied_price, tied_places, next_tie, next}
 use Rattle.net_price.specs.Raised.{raised, AreWords}
-use Rattle.net_price.specs.Tied.{no_tie, tie_at, place_at, next_number}
+use Rattle.net_price.specs.Tied.{slot_place, next_number}
 
 pub words_of : (prices : List ℕ) → All (λ p. p ≤ most_price) prices → AreWords prices
 words_of prices most k = elim (cases_lt k (length prices)) [
@@ -51,7 +51,7 @@ module _ {X : Type 0} (s : ℕ) (price uses : ℕ × X → ℕ) (xs : List X) (d
 
 -- ---- ties
 
-slot_of : (j : ℕ) → j < 13 → tie_slot (place_at j) ≡ Some j
+slot_of : (j : ℕ) → j < 13 → tie_slot (slot_place j) ≡ Some j
 slot_of j lt =
     let all : map tie_slot tied_places ≡ map Some (range_with_len 0 13) = refl in
     sym (get_or-map tie_slot tied_places j Eax None lt)
@@ -92,8 +92,8 @@ module _ (net : Net) (f : List Edge) (s : ℕ) (old : Prices) where
       let zero_more : 0 + i ≡ i = omega arith in
       let whole : 13 * i + j ≡ k = omega arith in
       let t = tie_at net i in
-      let number = λ (z : ℤ). tied_price s z (count_by (exits_at net t (place_at j)) f)
-      (count_by (enters_at net t (place_at j)) f) in
+      let number = λ (z : ℤ). tied_price s z (count_by (exits_at net t (slot_place j)) f)
+      (count_by (enters_at net t (slot_place j)) f) in
       row_at (next_tie net f s old) (λ x. refl) (enumerate_from 0 net.ties) k (0, no_tie)
       (omega (arith, lt, many))
       ∙ ap (λ x. get_or (next_tie net f s old x) j (pos 0))

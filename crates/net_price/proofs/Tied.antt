@@ -15,15 +15,14 @@ use Rattle.net_form.specs.declared.net.Strand.{Strand}
 use Rattle.net_form.specs.declared.net.Net.{Net}
 use Rattle.net_form.specs.declared.routes.Routes.{Routes}
 use Rattle.net_form.specs.Flow.{flow, arrives, same_place, same_start, AreRoutes}
-use Rattle.net_form.specs.Admitted.{strand_at, no_strand}
-use Rattle.net_form.specs.Cost.{place_of}
+use Rattle.net_form.specs.Admitted.{strand_at, no_strand, tie_at, no_tie}
+use Rattle.net_form.specs.Cost.{place_on}
 use Rattle.net_form.proofs.RoutesCost.{flow_at}
 use Rattle.net_laws.specs.Built.{IsBuilt}
 use Rattle.net_dual.specs.Paths.{path_in}
 use Rattle.net_dual.specs.Priced.{most_price}
 use Rattle.net_dual.specs.Step.{clamp, tied_price}
 use Rattle.net_dual.proofs.Strands.{each_long}
-use Rattle.net_price.specs.Tied.{tie_at, no_tie}
 
 -- a step up, a step down, both or neither
 steps : (s : ℕ) (a b : Bool) → pos s *ℤ (pos (bit a) -ℤ pos (bit b))
@@ -50,7 +49,7 @@ count_there net family has s l p q lt after before is =
     let path = path_in family s in
     let first = (strand_at net s).first in
     let long = each_long net family has s lt in
-    let some : place_of path first l ≡ Some p
+    let some : place_on path first l ≡ Some p
     = ap (λ b. cond b (slice_get path (l - first)) None) (le-leb first l after)
     ∙ slice_get-get_or path (l - first) p (omega (arith, long, after, before))
     ∙ ap Some (sym is) in

@@ -3,25 +3,17 @@ use Rattle.std.specs.Prelude.{ℕ, ◌/◌, ◌%◌, ℤ, List, count_by, slice_
 use Rattle.pra_base.specs.declared.ids.Place.{Place}
 use Rattle.pra_base.specs.declared.ids.Place.TheVariants.{Eax}
 use Rattle.net_form.specs.declared.net.Net.{Net}
-use Rattle.net_form.specs.declared.net.Tie.{Tie}
 use Rattle.net_form.specs.Flow.{Edge}
-use Rattle.net_form.specs.Admitted.{exits_at, enters_at}
+use Rattle.net_form.specs.Admitted.{tie_at, exits_at, enters_at}
 use Rattle.net_form.specs.Rooms.{tie_numbers}
 use Rattle.net_dual.specs.Step.{tied_price, tied_places}
 
--- where there is no tie
-abbrev pub no_tie : Tie
-no_tie = record { from = 0; to = 0 }
-
-abbrev pub tie_at : Net → ℕ → Tie
-tie_at net i = slice_index_or net.ties i no_tie
-
-abbrev pub place_at : ℕ → Place
-place_at j = slice_index_or tied_places j Eax
+abbrev pub slot_place : ℕ → Place
+slot_place j = slice_index_or tied_places j Eax
 
 -- what number k becomes
 abbrev pub next_number : Net → List Edge → ℕ → ℕ → ℤ → ℤ
 next_number net f s k old =
     let tie = tie_at net (k / tie_numbers) in
-    let place = place_at (k % tie_numbers) in
+    let place = slot_place (k % tie_numbers) in
     tied_price s old (count_by (exits_at net tie place) f) (count_by (enters_at net tie place) f)

@@ -7,7 +7,7 @@ ghost use Rattle.net_form.specs.Flow.{arrives, flow, AreRoutes};
 ghost use Rattle.net_laws.specs.Built.{IsBuilt};
 ghost use Rattle.net_dual.specs.Priced.{most_price};
 ghost use Rattle.net_dual.specs.Step.{clamp, tied_price};
-ghost use Rattle.net_price.specs.Tied.{place_at, next_number};
+ghost use Rattle.net_price.specs.Tied.{slot_place, next_number};
 
 use net_form::{Net, Routes};
 use pra_base::Place;
@@ -16,7 +16,7 @@ use pra_list::Seq;
 // The place of a number, of those that ties have numbers for.
 fn tied_place(number: usize) -> Place
     requires { number < 13 }
-    ensures { result ≡ place_at number }
+    ensures { result ≡ slot_place number }
 {
     match number {
         0 => Place::Eax,

@@ -20,7 +20,7 @@ use Rattle.net_form.specs.Flow.{Edge, flow, AreRoutes}
 use Rattle.net_form.specs.Admitted.{in_register, IsAdmitted}
 use Rattle.pl_moves.specs.declared.transfer.Pair.{Pair}
 use Rattle.pl_moves.specs.Assignment.{suits, suits_pair, share_register, are_apart, can_move}
-use Rattle.pl_place.specs.Behind.{Routed, strand_of, comes_to, constant, from_place, pair_of}
+use Rattle.pl_place.specs.Behind.{Routed, strand_by, comes_at, constant, from_place, pair_of}
 use Rattle.pl_place.specs.Behind.{pairs_at}
 use Rattle.pl_routed.specs.Routed.{routed}
 use Rattle.pra_list.proofs.Among.{of_filter}
@@ -73,13 +73,13 @@ module _ (code : VProc) (net : Net) (routes : Routes) (is : IsNet net code)
   EdgeIs m v e = At code net is routes has admitted b m v e
 
   abbrev var : Edge → ℕ
-  var e = (strand_of r e).var.0
+  var e = (strand_by r e).var.0
 
-  edge_in : (e : Edge) → Among e (filter (comes_to r b l) (flow net routes)) → EdgeIs l (var e) e
+  edge_in : (e : Edge) → Among e (filter (comes_at r b l) (flow net routes)) → EdgeIs l (var e) e
   edge_in e i =
-      let f = of_filter (comes_to r b l) (flow net routes) e i in
+      let f = of_filter (comes_at r b l) (flow net routes) e i in
       brings_edge all_tables code net is routes has admitted b l (var e) e f.0
-      (both_true (nat_eq (var e) (var e)) (comes_to r b l e) (is_itself (var e)) f.1)
+      (both_true (nat_eq (var e) (var e)) (comes_at r b l e) (is_itself (var e)) f.1)
 
   -- where its variable was: at a place of the layer before, or nowhere
   data Was (v : ℕ) (e : Edge) : Type 0 where
@@ -102,7 +102,7 @@ module _ (code : VProc) (net : Net) (routes : Routes) (is : IsNet net code)
 
   -- ---- places that suit
 
-  suits_it : (e : Edge) → Among e (filter (comes_to r b l) (flow net routes)) →
+  suits_it : (e : Edge) → Among e (filter (comes_at r b l) (flow net routes)) →
       suits_pair (pair_of r e) ≡ true
   suits_it e i =
       let at = edge_in e i in
@@ -163,8 +163,8 @@ module _ (code : VProc) (net : Net) (routes : Routes) (is : IsNet net code)
   not_all : (a c d : Bool) → a ≡ false → c ≡ false → d ≡ false → (not a && not c && not d) ≡ true
   not_all a c d e f g = rw (e, f, g) refl
 
-  apart : (e d : Edge) → Among e (filter (comes_to r b l) (flow net routes)) →
-      Among d (filter (comes_to r b l) (flow net routes)) → Differ e d →
+  apart : (e d : Edge) → Among e (filter (comes_at r b l) (flow net routes)) →
+      Among d (filter (comes_at r b l) (flow net routes)) → Differ e d →
       are_apart (pair_of r e) (pair_of r d) ≡ true
   apart e d i j differ =
       let at = edge_in e i in
@@ -183,14 +183,14 @@ module _ (code : VProc) (net : Net) (routes : Routes) (is : IsNet net code)
 
   -- the edges of the layer
   abbrev pub layer_edges : List Edge
-  layer_edges = filter (comes_to r b l) (flow net routes)
+  layer_edges = filter (comes_at r b l) (flow net routes)
 
   pub edges_suit : (e : Edge) → Among e layer_edges → suits_pair (pair_of r e) ≡ true
   edges_suit e i = suits_it e i
 
   pub edges_apart : EachTwo (λ e d. are_apart (pair_of r e) (pair_of r d) ≡ true) layer_edges
   edges_apart = two_weaker Differ (λ e d. are_apart (pair_of r e) (pair_of r d) ≡ true) layer_edges
-      apart (two_filter Differ (comes_to r b l) (flow net routes)
+      apart (two_filter Differ (comes_at r b l) (flow net routes)
       (flow_apart 0 net.strands routes.places))
 
   pub can_move_at : can_move (pairs_at r b l) ≡ true

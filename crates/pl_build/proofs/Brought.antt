@@ -28,7 +28,7 @@ use Rattle.net_form.specs.Network.{IsNet}
 use Rattle.net_form.specs.Strands.{Lives, is_within, is_before, is_present, layer_count, roles_at}
 use Rattle.net_form.specs.Tables.{all_tables}
 use Rattle.pl_moves.specs.declared.transfer.Pair.{Pair}
-use Rattle.pl_place.specs.Behind.{Routed, strand_of, comes_to, brings, place_at, pair_of, pairs_at}
+use Rattle.pl_place.specs.Behind.{Routed, strand_by, comes_at, brings, where_is, pair_of, pairs_at}
 use Rattle.pl_place.specs.Behind.{operand_places}
 use Rattle.pl_routed.specs.Routed.{routed}
 use Rattle.pl_routed.proofs.Present.{live as live_of, edge_there, place_of_edge}
@@ -39,36 +39,36 @@ use Rattle.pl_build.specs.Laid.{brought, or_eax, places_by, operands_by}
 -- ---- the pair of a variable is its edge
 
 found : (r : Routed) (b l v : ℕ) (f : List Edge) →
-    brought (map (pair_of r) (filter (comes_to r b l) f)) v ≡ option_map (λ (e : Edge). e.to)
+    brought (map (pair_of r) (filter (comes_at r b l) f)) v ≡ option_map (λ (e : Edge). e.to)
     (find (brings r b l v) f)
 found r b l v [] = refl
-found r b l v (e ∷ f) = by_tests (comes_to r b l e) (nat_eq (strand_of r e).var.0 v) refl refl
+found r b l v (e ∷ f) = by_tests (comes_at r b l e) (nat_eq (strand_by r e).var.0 v) refl refl
     (found r b l v f)
   where
-    by_tests : (here same : Bool) → comes_to r b l e ≡ here → nat_eq (strand_of r e).var.0 v ≡ same
-        → brought (map (pair_of r) (filter (comes_to r b l) f)) v ≡ option_map (λ (d : Edge). d.to)
+    by_tests : (here same : Bool) → comes_at r b l e ≡ here → nat_eq (strand_by r e).var.0 v ≡ same
+        → brought (map (pair_of r) (filter (comes_at r b l) f)) v ≡ option_map (λ (d : Edge). d.to)
         (find (brings r b l v) f)
         → brought (map (pair_of r)
-        (cond here (e ∷ filter (comes_to r b l) f) (filter (comes_to r b l) f))) v ≡
+        (cond here (e ∷ filter (comes_at r b l) f) (filter (comes_at r b l) f))) v ≡
         option_map (λ (d : Edge). d.to) (cond (same && here) (Some e) (find (brings r b l v) f))
     by_tests true true h s more =
         ap (λ t. option_map (λ (p : Pair). p.to)
         (cond t (Some (pair_of r e))
-        (find (λ (p : Pair). nat_eq p.var.0 v) (map (pair_of r) (filter (comes_to r b l) f))))) s
+        (find (λ (p : Pair). nat_eq p.var.0 v) (map (pair_of r) (filter (comes_at r b l) f))))) s
     by_tests true false h s more =
         ap (λ t. option_map (λ (p : Pair). p.to)
         (cond t (Some (pair_of r e))
-        (find (λ (p : Pair). nat_eq p.var.0 v) (map (pair_of r) (filter (comes_to r b l) f))))) s
+        (find (λ (p : Pair). nat_eq p.var.0 v) (map (pair_of r) (filter (comes_at r b l) f))))) s
         ∙ more
     by_tests false true h s more = more
     by_tests false false h s more = more
 
-pub brought_is : (r : Routed) (b l v : ℕ) → brought (pairs_at r b l) v ≡ place_at r b l v
+pub brought_is : (r : Routed) (b l v : ℕ) → brought (pairs_at r b l) v ≡ where_is r b l v
 brought_is r b l v = found r b l v r.flow
 
 all_places : (r : Routed) (b l : ℕ) (vs : List ℕ) →
-    ((v : ℕ) → Among v vs → (q : Place) × (place_at r b l v ≡ Some q)) →
-    map Some (places_by (pairs_at r b l) vs) ≡ map (place_at r b l) vs
+    ((v : ℕ) → Among v vs → (q : Place) × (where_is r b l v ≡ Some q)) →
+    map Some (places_by (pairs_at r b l) vs) ≡ map (where_is r b l) vs
 all_places r b l [] there = refl
 all_places r b l (v ∷ vs) there =
     let q = there v (inl refl) in
@@ -146,7 +146,7 @@ module _ (code : VProc) (net : Net) (routes : Routes) (is : IsNet net code)
     k_in : k < length (code_of code b)
     k_in = slice_get_within (code_of code b) k i here
 
-    read_there : (v : ℕ) → Among v (read_by i) → (q : Place) × (place_at r b (2 * k + 1) v ≡ Some q)
+    read_there : (v : ℕ) → Among v (read_by i) → (q : Place) × (where_is r b (2 * k + 1) v ≡ Some q)
     read_there v among =
         let reads_it : reads i v ≡ true = any_role (table i).reads v among in
         let v_in = sized.variables_in_range b k i here v (inl reads_it) in
@@ -171,7 +171,7 @@ module _ (code : VProc) (net : Net) (routes : Routes) (is : IsNet net code)
         three_true x y z e f g = rw (e, f, g) refl
 
     written_there : (v : ℕ) → Among v (written_by i) → (q : Place) ×
-        (place_at r b (2 * k + 2) v ≡ Some q)
+        (where_is r b (2 * k + 2) v ≡ Some q)
     written_there v among =
         let writes_it : writes i v ≡ true = among_writes i v among in
         let v_in = sized.variables_in_range b k i here v (inr writes_it) in

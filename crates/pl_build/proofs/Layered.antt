@@ -23,7 +23,7 @@ use Rattle.net_form.specs.Network.{net_block, IsNet}
 use Rattle.net_form.specs.Rooms.{layer_total}
 use Rattle.net_form.specs.Strands.{layer_count}
 use Rattle.net_form.specs.Tables.{all_tables}
-use Rattle.pl_place.specs.Behind.{Routed, comes_to, pair_of, pairs_at}
+use Rattle.pl_place.specs.Behind.{Routed, comes_at, pair_of, pairs_at}
 use Rattle.pl_routed.specs.Routed.{routed}
 use Rattle.pl_routed.proofs.Present.{brings_edge}
 use Rattle.pl_routed.proofs.Present as present
@@ -115,7 +115,7 @@ module _ (code : VProc) (net : Net) (routes : Routes) (is : IsNet net code) (for
       let v = (strand_at net e.strand).var.0 in
       let b = (strand_at net e.strand).block.0 in
       let at = brings_edge all_tables code net is routes has admitted b e.layer v e i
-      (both_true (nat_eq v v) (comes_to r b e.layer e) (eq-eqb v v refl)
+      (both_true (nat_eq v v) (comes_at r b e.layer e) (eq-eqb v v refl)
       (both_true (nat_eq b b) (nat_eq e.layer e.layer) (eq-eqb b b refl)
       (eq-eqb e.layer e.layer refl))) in
       let inside = present.edge_inside all_tables code net is routes has admitted b e.layer v e
@@ -125,10 +125,10 @@ module _ (code : VProc) (net : Net) (routes : Routes) (is : IsNet net code) (for
       omega (arith, lt, long)
 
   comes : (b l : ℕ) → b < length code.blocks → l < layer_count code b → (e : Edge) →
-      Among e (flow net routes) → comes_into net (first_layer net.blocks b + l) e ≡ comes_to r b l e
+      Among e (flow net routes) → comes_into net (first_layer net.blocks b + l) e ≡ comes_at r b l e
   comes b l b_in l_in e i =
       let c = (strand_at net e.strand).block.0 in
-      same_bool (comes_into net (first_layer net.blocks b + l) e) (comes_to r b l e)
+      same_bool (comes_into net (first_layer net.blocks b + l) e) (comes_at r b l e)
       (λ t.
       let long = layers_of_block b b_in in
       let one = one_layer net.blocks c b e.layer l (edge_within e i) (omega (arith, long, l_in))
@@ -144,4 +144,4 @@ module _ (code : VProc) (net : Net) (routes : Routes) (is : IsNet net code) (for
       pairs_into code net (first_layer net.blocks b + l) (flow net routes) ≡ pairs_at r b l
   layer_pairs b l b_in l_in =
       ap (map (pair_of r)) (filter_agrees (comes_into net (first_layer net.blocks b + l))
-      (comes_to r b l) (flow net routes) (comes b l b_in l_in))
+      (comes_at r b l) (flow net routes) (comes b l b_in l_in))

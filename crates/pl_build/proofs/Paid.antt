@@ -37,7 +37,7 @@ use Rattle.pl_place.specs.declared.placed.LInstr.{LInstr}
 use Rattle.pl_place.specs.declared.placed.LInstr.TheVariants as placed
 use Rattle.pl_place.specs.declared.placed.LBlock.{LBlock}
 use Rattle.pl_place.specs.declared.placed.LProc.{LProc}
-use Rattle.pl_place.specs.Behind.{Routed, strand_of, comes_to, constant, from_place, pair_of}
+use Rattle.pl_place.specs.Behind.{Routed, strand_by, comes_at, constant, from_place, pair_of}
 use Rattle.pl_place.specs.Behind.{pairs_at, operand_places, IsOp}
 use Rattle.net_form.specs.Network.{ties}
 use Rattle.net_form.specs.Strands.{strands}
@@ -184,7 +184,7 @@ module _ (code : VProc) (net : Net) (routes : Routes) (is : IsNet net code)
     l = 2 * k + 1
 
     abbrev var : Edge → ℕ
-    var e = (strand_of r e).var.0
+    var e = (strand_by r e).var.0
 
     odd : (e : Edge) → e.layer ≡ l → is_across e ≡ false
     odd e at = let one : e.layer % 2 ≡ 1 = omega (arith, at) in
@@ -223,11 +223,11 @@ module _ (code : VProc) (net : Net) (routes : Routes) (is : IsNet net code)
             ∙ begins_as net.near e.to place
             ∙ ap (λ c. begun c e.to) (sym flag)
 
-    edge_weighs : (e : Edge) → Among e (flow net routes) → comes_to r b l e ≡ true →
+    edge_weighs : (e : Edge) → Among e (flow net routes) → comes_at r b l e ≡ true →
         events_weight size_weights 0 (pair_events e) ≡ w e
     edge_weighs e i t =
         let at = brings_edge all_tables code net is routes has admitted b l (var e) e i
-        (both_true (nat_eq (var e) (var e)) (comes_to r b l e) (eq-eqb (var e) (var e) refl) t)
+        (both_true (nat_eq (var e) (var e)) (comes_at r b l e) (eq-eqb (var e) (var e) refl) t)
         in
         ap (events_weight size_weights 0) (way_events e e.from refl at)
         ∙ sym (any_depth (depth_at net e.strand) (events_from all_tables net e e.from))
@@ -247,17 +247,17 @@ module _ (code : VProc) (net : Net) (routes : Routes) (is : IsNet net code)
         let more = edges_weigh es (λ d i. each d (inr i)) in
         omega (arith, one, two, first, more)
 
-    ways_weigh : ways r b net.near k ≡ taken w (comes_to r b l) (flow net routes)
-    ways_weigh = edges_weigh (filter (comes_to r b l) (flow net routes))
-        (λ e i. let f = of_filter (comes_to r b l) (flow net routes) e i in edge_weighs e f.0 f.1)
+    ways_weigh : ways r b net.near k ≡ taken w (comes_at r b l) (flow net routes)
+    ways_weigh = edges_weigh (filter (comes_at r b l) (flow net routes))
+        (λ e i. let f = of_filter (comes_at r b l) (flow net routes) e i in edge_weighs e f.0 f.1)
 
   -- ---- all blocks
 
   abbrev in_block : ℕ → Edge → Bool
-  in_block b e = nat_eq (strand_of r e).block.0 b
+  in_block b e = nat_eq (strand_by r e).block.0 b
 
   -- an edge goes into one layer of its block
-  one_way : (b n : ℕ) (e : Edge) (v : ℕ) → sum_by (λ k. cond (comes_to r b (2 * k + 1) e) v 0)
+  one_way : (b n : ℕ) (e : Edge) (v : ℕ) → sum_by (λ k. cond (comes_at r b (2 * k + 1) e) v 0)
       (range_with_len 0 n) ≤ cond (in_block b e) v 0
   one_way b n e v = by_test (in_block b e)
     where
@@ -273,16 +273,16 @@ module _ (code : VProc) (net : Net) (routes : Routes) (is : IsNet net code)
       (flow net routes)
   block_ways b n =
       let less = sum_less (ways r b net.near)
-      (λ k. taken w (comes_to r b (2 * k + 1)) (flow net routes)) 0 n
+      (λ k. taken w (comes_at r b (2 * k + 1)) (flow net routes)) 0 n
       (λ k. let same = ways_weigh b k in omega (arith, same)) in
-      let all = spread w (λ k. comes_to r b (2 * k + 1)) (in_block b) 0 n (flow net routes)
+      let all = spread w (λ k. comes_at r b (2 * k + 1)) (in_block b) 0 n (flow net routes)
       (one_way b n) in
       omega (arith, less, all)
 
   one_block : (n : ℕ) (e : Edge) (v : ℕ) → sum_by (λ b. cond (in_block b e) v 0)
       (range_with_len 0 n) ≤ v
   one_block n e v = one_bit (λ b. in_block b e) v 0 n
-      (λ i j x y. sym (eqb-true (strand_of r e).block.0 i x) ∙ eqb-true (strand_of r e).block.0 j y)
+      (λ i j x y. sym (eqb-true (strand_by r e).block.0 i x) ∙ eqb-true (strand_by r e).block.0 j y)
 
   all_blocks : (n : ℕ) → sum_by (λ b. taken w (in_block b) (flow net routes)) (range_with_len 0 n) ≤
       sum_by w (flow net routes)

@@ -30,7 +30,7 @@ use Rattle.net_form.specs.Network.{IsNet}
 use Rattle.net_form.specs.Flow.{Edge, flow, AreRoutes}
 use Rattle.net_form.specs.Admitted.{IsAdmitted}
 use Rattle.pl_place.specs.Placed.{place_in}
-use Rattle.pl_place.specs.Behind.{Routed, place_at, operand_places}
+use Rattle.pl_place.specs.Behind.{Routed, where_is, operand_places}
 use Rattle.pl_place.specs.Valid.{roles}
 use Rattle.pl_routed.specs.Routed.{routed}
 use Rattle.pra_list.proofs.Among.{in_at}
@@ -158,10 +158,10 @@ module _ (code : VProc) (net : Net) (routes : Routes) (is : IsNet net code)
   EdgeIs l v e = At code net is routes has admitted b l v e
 
   abbrev before : ℕ → Option Place
-  before v = place_at r b (2 * k + 1) v
+  before v = where_is r b (2 * k + 1) v
 
   abbrev after : ℕ → Option Place
-  after v = place_at r b (2 * k + 2) v
+  after v = where_is r b (2 * k + 2) v
 
   by_roles : map Some places ≡ map before (map var_of (operands i).reads)
       ++ map after (map var_of (operands i).writes)
@@ -178,7 +178,7 @@ module _ (code : VProc) (net : Net) (routes : Routes) (is : IsNet net code)
   pub place_is : (n : ℕ) (q : Place) → slice_get places n ≡ Some q → place_in places n ≡ number q
   place_is n q e = ap number (get_or_from_slice_get places n q Eax e)
 
-  pub edge_for : (l v : ℕ) (q : Place) → place_at r b l v ≡ Some q → (e : Edge) × EdgeIs l v e ×
+  pub edge_for : (l v : ℕ) (q : Place) → where_is r b l v ≡ Some q → (e : Edge) × EdgeIs l v e ×
       (e.to ≡ q)
   edge_for l v q e = edge_of_place all_tables code net is routes has admitted b l v q e
 
@@ -186,7 +186,7 @@ module _ (code : VProc) (net : Net) (routes : Routes) (is : IsNet net code)
   itself v = grind (arith, nat_tests)
 
   allowed_at : (l : ℕ) (role : Role) (q : Place) → Among role (roles_at all_tables code b l) →
-      comes_in_memory code role.var b l ≡ false → place_at r b l role.var ≡ Some q →
+      comes_in_memory code role.var b l ≡ false → where_is r b l role.var ≡ Some q →
       allows (meet role.mask (own_places (base.kind_of code role.var))) (number q) ≡ true
   allowed_at l role q k_in later e =
       let x = edge_for l role.var q e in

@@ -40,10 +40,10 @@ use Rattle.pl_place.specs.declared.placed.LBlock.{LBlock}
 use Rattle.pl_place.specs.declared.placed.LProc.{LProc}
 use Rattle.pl_place.specs.Placed.{kind_of, bare, bare_block}
 use Rattle.pl_moves.specs.Assignment.{suits}
-use Rattle.pl_place.specs.Behind.{Routed, strand_of, comes_to, constant, from_place, pair_of}
+use Rattle.pl_place.specs.Behind.{Routed, strand_by, comes_at, constant, from_place, pair_of}
 use Rattle.pl_place.specs.Behind.{in_memory, has_slot, slots_of, pairs_at}
 use Rattle.pl_place.specs.Machine.{no_block}
-use Rattle.pl_place.specs.Valid.{linstr_at, EachOp, EachMove, FewMoves, HasMemory, MoveHasMemory}
+use Rattle.pl_place.specs.Valid.{linstr_at, EachOp, EachMove, FewMoves, HasCell, MoveHasMemory}
 use Rattle.pl_place.specs.Valid.{MoveNames, NumbersInRange}
 use Rattle.pl_routed.specs.Routed.{routed}
 use Rattle.pra_list.proofs.Among.{in_at, at_in, in_map, in_filter, in_range, of_map, of_filter}
@@ -156,12 +156,12 @@ module _ (code : VProc) (net : Net) (routes : Routes) (is : IsNet net code)
       base.kind_of code v ≡ Plain → Among v (map (λ (u : VarId). u.0) p.slots)
   slotted_in b l v e at h plain =
       let inside = edge_inside all_tables code net is routes has admitted b l v e at in
-      let var : (strand_of r e).var.0 ≡ v = ap (λ (t : Strand). t.var.0)
+      let var : (strand_by r e).var.0 ≡ v = ap (λ (t : Strand). t.var.0)
       (its_strand all_tables code net is routes has admitted e at.route) ∙ at.covers.var in
       let here : in_memory r v ≡ true = any_in _ (flow net routes) e
       (in_the_flow all_tables code net is routes has admitted b l v e at)
-      (both (nat_eq (strand_of r e).var.0 v) (needs_slot (number e.to))
-      (same_nat (strand_of r e).var.0 v var) h) in
+      (both (nat_eq (strand_by r e).var.0 v) (needs_slot (number e.to))
+      (same_nat (strand_by r e).var.0 v var) h) in
       let slot : has_slot r v ≡ true = both (is_plain (base.kind_of code v)) (in_memory r v)
       (ap is_plain plain) here in
       subst (Among v) (sym made.slots)
@@ -178,10 +178,10 @@ module _ (code : VProc) (net : Net) (routes : Routes) (is : IsNet net code)
       true_false false h e = cc
 
   pub has_memory : (b l v : ℕ) (e : Edge) → EdgeIs b l v e → needs_slot (number e.to) ≡ true →
-      HasMemory p v
+      HasCell p v
   has_memory b l v e at h = by_kind (base.kind_of code v) refl
     where
-      by_kind : (kind : VarKind) → base.kind_of code v ≡ kind → HasMemory p v
+      by_kind : (kind : VarKind) → base.kind_of code v ≡ kind → HasCell p v
       by_kind (Param i) k = inl (i, kind_is v ∙ k)
       by_kind Plain k =
           let u = of_map (λ (u : VarId). u.0) p.slots v (slotted_in b l v e at h k) in
@@ -199,15 +199,15 @@ module _ (code : VProc) (net : Net) (routes : Routes) (is : IsNet net code)
 
   -- a pair that comes from memory or goes there is of a variable that has it
   pair_memory : (b k : ℕ) (y : Pair) → Among y (pairs_at r b (2 * k + 1)) → crossbar.HasMemory y →
-      HasMemory p y.var.0 × (y.var.0 < length code.vars)
+      HasCell p y.var.0 × (y.var.0 < length code.vars)
   pair_memory b k y i h =
       let d = of_map (pair_of r) _ y i in
-      let f = of_filter (comes_to r b (2 * k + 1)) (flow net routes) d.0 d.1 in
-      let v = (strand_of r d.0).var.0 in
+      let f = of_filter (comes_at r b (2 * k + 1)) (flow net routes) d.0 d.1 in
+      let v = (strand_by r d.0).var.0 in
       let at = brings_edge all_tables code net is routes has admitted b (2 * k + 1) v d.0 f.0
-      (both (nat_eq v v) (comes_to r b (2 * k + 1) d.0) (same_nat v v refl) f.1) in
+      (both (nat_eq v v) (comes_at r b (2 * k + 1) d.0) (same_nat v v refl) f.1) in
       let inside = edge_inside all_tables code net is routes has admitted b (2 * k + 1) v d.0 at in
-      let there : HasMemory p v =
+      let there : HasCell p v =
       ⊎_elim
       (λ (from : needs_slot (number y.from) ≡ true). by_from d.0 v
       (ap (λ (z : Pair). needs_slot (number z.from)) (sym d.2) ∙ from)
@@ -215,25 +215,25 @@ module _ (code : VProc) (net : Net) (routes : Routes) (is : IsNet net code)
       (λ (to : needs_slot (number y.to) ≡ true). has_memory b (2 * k + 1) v d.0 at
       (ap (λ (z : Pair). needs_slot (number z.to)) (sym d.2) ∙ to))
       h in
-      subst (λ (z : Pair). HasMemory p z.var.0 × (z.var.0 < length code.vars)) (sym d.2)
+      subst (λ (z : Pair). HasCell p z.var.0 × (z.var.0 < length code.vars)) (sym d.2)
       (there, inside.var)
     where
       const_none : needs_slot (number Const) ≡ true → ⊥
       const_none e = cc
 
       by_from : (d : Edge) (v : ℕ) → needs_slot (number (from_place d.from)) ≡ true →
-          From all_tables code net is routes has admitted b (2 * k + 1) v d → HasMemory p v
+          From all_tables code net is routes has admitted b (2 * k + 1) v d → HasCell p v
       by_from d v h (Begins none before) =
           absurd (const_none (ap (λ o. needs_slot (number (from_place o))) (sym none) ∙ h))
       by_from d v h (Goes m x one there same) =
           has_memory b m v x there (ap (λ o. needs_slot (number (from_place o))) (sym same) ∙ h)
 
-  named : (b k : ℕ) (u : VarId) → InMemory (pairs_at r b (2 * k + 1)) u → HasMemory p u.0 ×
+  named : (b k : ℕ) (u : VarId) → InMemory (pairs_at r b (2 * k + 1)) u → HasCell p u.0 ×
       (u.0 < length code.vars)
   named b k u a =
       let y = any_in_list (λ (x : Pair). (x.var ≡ u) × crossbar.HasMemory x)
       (pairs_at r b (2 * k + 1)) a in
-      subst (λ (w : VarId). HasMemory p w.0 × (w.0 < length code.vars)) y.2.0
+      subst (λ (w : VarId). HasCell p w.0 × (w.0 < length code.vars)) y.2.0
       (pair_memory b k y.0 y.1 y.2.1)
 
   move_memory : (b k : ℕ) (m : Move) → NamesMemory (pairs_at r b (2 * k + 1)) m → MoveHasMemory p m

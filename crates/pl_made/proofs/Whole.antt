@@ -23,8 +23,8 @@ use Rattle.net_form.specs.Admitted.{IsAdmitted}
 use Rattle.pl_place.specs.declared.placed.LInstr.TheVariants as placed
 use Rattle.pl_place.specs.declared.placed.LProc.{LProc}
 use Rattle.pl_place.specs.Placed.{place_in}
-use Rattle.pl_place.specs.Behind.{place_at, operand_places}
-use Rattle.pl_place.specs.Valid.{linstr_at, EachOp, roles, HasMemory, OperandsPlaced, IsPlaced}
+use Rattle.pl_place.specs.Behind.{where_is, operand_places}
+use Rattle.pl_place.specs.Valid.{linstr_at, EachOp, roles, HasCell, OperandsPlaced, IsPlaced}
 use Rattle.pl_routed.specs.Routed.{routed}
 use Rattle.pra_list.proofs.Among.{in_at, at_most_one}
 use Rattle.pl_routed.proofs.Masks.{both_allow}
@@ -70,8 +70,8 @@ module _ (code : VProc) (net : Net) (routes : Routes) (is : IsNet net code)
     EdgeIs l v e = At code net is routes has admitted b l v e
 
     pub found : (n : ℕ) (role : Role) → slice_get (roles i) n ≡ Some role →
-        RoleAt (λ v. place_at (routed code net routes) b (2 * k + 1) v)
-        (λ v. place_at (routed code net routes) b (2 * k + 2) v) (operands i).reads
+        RoleAt (λ v. where_is (routed code net routes) b (2 * k + 1) v)
+        (λ v. where_is (routed code net routes) b (2 * k + 2) v) (operands i).reads
         (operands i).writes places n role
     found n role e = find_role code net routes is has admitted b k i here places same n role e
 
@@ -86,8 +86,8 @@ module _ (code : VProc) (net : Net) (routes : Routes) (is : IsNet net code)
     pub side : (n : ℕ) (role : Role) → slice_get (roles i) n ≡ Some role → Side n role
     side n role e = by_role (found n role e)
       where
-        by_role : RoleAt (λ v. place_at (routed code net routes) b (2 * k + 1) v)
-            (λ v. place_at (routed code net routes) b (2 * k + 2) v) (operands i).reads
+        by_role : RoleAt (λ v. where_is (routed code net routes) b (2 * k + 1) v)
+            (λ v. where_is (routed code net routes) b (2 * k + 2) v) (operands i).reads
             (operands i).writes places n role → Side n role
         by_role (Read q at in_reads f) =
             let x = edge_for code net routes is has admitted b k i here places same
@@ -167,8 +167,8 @@ module _ (code : VProc) (net : Net) (routes : Routes) (is : IsNet net code)
             (cases_eq one.var other.var)
 
     abbrev Found : ℕ → Role → Type 0
-    Found m role = RoleAt (λ v. place_at (routed code net routes) b (2 * k + 1) v)
-        (λ v. place_at (routed code net routes) b (2 * k + 2) v) (operands i).reads
+    Found m role = RoleAt (λ v. where_is (routed code net routes) b (2 * k + 1) v)
+        (λ v. where_is (routed code net routes) b (2 * k + 2) v) (operands i).reads
         (operands i).writes places m role
 
     pub place_rule : (n j : ℕ) (read write : Role) → slice_get (operands i).reads n ≡ Some read →
@@ -192,7 +192,7 @@ module _ (code : VProc) (net : Net) (routes : Routes) (is : IsNet net code)
             place_in places (length (operands i).reads + j)
         by_role (Read q at in_reads g) (Write s m too at_j in_writes h) =
             let same_place : q ≡ s = stays_place code net routes is has admitted b k i here places
-            same read.var q s g (ap (λ v. place_at (routed code net routes) b (2 * k + 2) v) var
+            same read.var q s g (ap (λ v. where_is (routed code net routes) b (2 * k + 2) v) var
             ∙ h) in
             place_is code net routes is has admitted b k i here places same n q at
             ∙ ap number same_place ∙ sym (place_is code net routes is has admitted b k i here
@@ -247,7 +247,7 @@ module _ (code : VProc) (net : Net) (routes : Routes) (is : IsNet net code)
       }
 
   pub operands_there : EachOp p (λ i places. (n : ℕ) (role : Role) → slice_get (roles i) n ≡
-      Some role → is_mem (place_in places n) ≡ true → HasMemory p role.var)
+      Some role → is_mem (place_in places n) ≡ true → HasCell p role.var)
   operands_there b k i places at n role e mem =
       let o = op_here b k i places at in
       let x = side code net routes is has admitted b o.index i o.here o.inside places.items o.same n

@@ -17,7 +17,7 @@ use Rattle.pl_place.specs.declared.placed.LInstr.TheVariants as placed
 use Rattle.pl_place.specs.declared.placed.LBlock.{LBlock}
 use Rattle.pl_place.specs.declared.placed.LProc.{LProc}
 use Rattle.pl_place.specs.Placed.{kind_of, place_in}
-use Rattle.pl_place.specs.Valid.{linstr_at, EachOp, EachMove, roles, OperandsPlaced, HasMemory}
+use Rattle.pl_place.specs.Valid.{linstr_at, EachOp, EachMove, roles, OperandsPlaced, HasCell}
 use Rattle.pra_list.specs.Each.{Each, EachAt}
 use Rattle.pra_list.proofs.Each.{each_at}
 use Rattle.pra_list.proofs.Truths.{or_cases}
@@ -93,7 +93,7 @@ placed_at p i places count allowed same pairs = record {
 }
 
 abbrev pub InMemory : LProc → List Place → ℕ → Role → Type 0
-InMemory p places k role = is_mem (place_in places k) ≡ true → HasMemory p role.var
+InMemory p places k role = is_mem (place_in places k) ≡ true → HasCell p role.var
 
 -- ---- names
 

@@ -19,7 +19,7 @@ use Rattle.pra_base.specs.Valid.{NamesCell}
 use Rattle.pl_moves.specs.declared.transfer.Move.{Move}
 use Rattle.pl_moves.specs.Crossbar.{InRegisters}
 use Rattle.pl_place.specs.Placed.{place_in, bare}
-use Rattle.pl_place.specs.Valid.{EachOp, roles, OperandsPlaced, HasMemory, MoveHasMemory}
+use Rattle.pl_place.specs.Valid.{EachOp, roles, OperandsPlaced, HasCell, MoveHasMemory}
 use Rattle.pl_place.specs.Valid.{MemoryThere, FewMoves, MoveNames, NumbersInRange, IsPlaced}
 use Rattle.pl_place.specs.Valid.{counts_of, ArePlaced}
 use Rattle.pl_place.specs.Sample.{v0, v1, callee, word_0, caller, called, sample}
@@ -62,7 +62,7 @@ caller_operands = each_op (OperandsPlaced caller) caller (
   (tt, tt),
 )
 
-slot_0 : HasMemory caller 0
+slot_0 : HasCell caller 0
 slot_0 = inr (0, v0, refl, refl)
 
 caller_memory : MemoryThere caller
@@ -72,7 +72,7 @@ caller_memory = record {
     (tt, tt),
   );
   operands_there = each_op (λ i places. (k : ℕ) (role : Role) → slice_get (roles i) k ≡ Some role →
-      is_mem (place_in places k) ≡ true → HasMemory caller role.var) caller (
+      is_mem (place_in places k) ≡ true → HasCell caller role.var) caller (
         (
           (λ k role h mem. cc),
           (
@@ -323,7 +323,7 @@ called_is = record {
   memory_there = record {
     moves = each_move (MoveHasMemory called) called (tt, tt);
     operands_there = each_op (λ i places. (k : ℕ) (role : Role) → slice_get (roles i) k ≡
-        Some role → is_mem (place_in places k) ≡ true → HasMemory called role.var) called (tt, tt);
+        Some role → is_mem (place_in places k) ≡ true → HasCell called role.var) called (tt, tt);
     distinct = λ k j u a b. cc;
   };
   block_rules = record {

@@ -32,28 +32,28 @@ pub record Routed : Type 0 where
   pub net : Net
   pub flow : List Edge
 
-abbrev pub strand_of : Routed → Edge → Strand
-strand_of r e = strand_at r.net e.strand
+abbrev pub strand_by : Routed → Edge → Strand
+strand_by r e = strand_at r.net e.strand
 
 -- ---- where a variable is
 
 -- the edge comes to this layer of the block
-abbrev pub comes_to : Routed → ℕ → ℕ → Edge → Bool
-comes_to r b l e = nat_eq (strand_of r e).block.0 b && nat_eq e.layer l
+abbrev pub comes_at : Routed → ℕ → ℕ → Edge → Bool
+comes_at r b l e = nat_eq (strand_by r e).block.0 b && nat_eq e.layer l
 
 abbrev pub brings : Routed → ℕ → ℕ → ℕ → Edge → Bool
-brings r b l v e = nat_eq (strand_of r e).var.0 v && comes_to r b l e
+brings r b l v e = nat_eq (strand_by r e).var.0 v && comes_at r b l e
 
 -- Where an edge brings the variable at this layer of the block, or None where it is not present. An
 -- admitted flow has one edge there at most.
-abbrev pub place_at : Routed → ℕ → ℕ → ℕ → Option Place
-place_at r b l v = option_map (λ (e : Edge). e.to) (find (brings r b l v) r.flow)
+abbrev pub where_is : Routed → ℕ → ℕ → ℕ → Option Place
+where_is r b l v = option_map (λ (e : Edge). e.to) (find (brings r b l v) r.flow)
 
 -- the places of the operands of instruction k: before it those that it reads, after it those that
 -- it writes
 abbrev pub operand_places : Routed → ℕ → ℕ → VInstr → List (Option Place)
 operand_places r b k i =
-    map (place_at r b (2 * k + 1)) (read_by i) ++ map (place_at r b (2 * k + 2)) (written_by i)
+    map (where_is r b (2 * k + 1)) (read_by i) ++ map (where_is r b (2 * k + 2)) (written_by i)
 
 -- ---- what moves
 
@@ -68,7 +68,7 @@ from_place (Some p) = p
 
 abbrev pub pair_of : Routed → Edge → Pair
 pair_of r e =
-    let v = (strand_of r e).var in record {
+    let v = (strand_by r e).var in record {
       var = v;
       from = from_place e.from;
       to = e.to;
@@ -77,7 +77,7 @@ pair_of r e =
 
 -- what goes over the crossbar into this layer of the block, from the layer before
 abbrev pub pairs_at : Routed → ℕ → ℕ → List Pair
-pairs_at r b l = map (pair_of r) (filter (comes_to r b l) r.flow)
+pairs_at r b l = map (pair_of r) (filter (comes_at r b l) r.flow)
 
 -- Moves that are the simultaneous assignment of what moves into this layer. Their places are
 -- registers: no other place is a cell of the machine.
@@ -89,7 +89,7 @@ pub record MovesInto (r : Routed) (b l : ℕ) (ms : List Move) : Type 0 where
 
 -- some edge brings the variable to memory, alone or beside a register
 abbrev pub in_memory : Routed → ℕ → Bool
-in_memory r v = list_any (λ e. nat_eq (strand_of r e).var.0 v && needs_slot (number e.to)) r.flow
+in_memory r v = list_any (λ e. nat_eq (strand_by r e).var.0 v && needs_slot (number e.to)) r.flow
 
 abbrev pub has_slot : Routed → ℕ → Bool
 has_slot r v = is_plain (kind_of r.code v) && in_memory r v

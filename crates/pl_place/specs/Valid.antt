@@ -50,14 +50,14 @@ pub record OperandsPlaced (p : LProc) (i : VInstr) (places : List Place) : Type 
       is_mem (place_in places k) ≡ true → is_mem (place_in places j) ≡ false
 
 -- the variable has memory: an argument cell, or a slot
-abbrev pub HasMemory : LProc → ℕ → Type 0
-HasMemory p v =
+abbrev pub HasCell : LProc → ℕ → Type 0
+HasCell p v =
     ((i : ℕ) × (kind_of p v ≡ Param i))
     ⊎ ((k : ℕ) × (u : VarId) × (slice_get p.slots k ≡ Some u) × (u.0 ≡ v))
 
 abbrev pub MoveHasMemory : LProc → Move → Type 0
-MoveHasMemory p (Load r v) = HasMemory p v.0
-MoveHasMemory p (Store v r) = HasMemory p v.0
+MoveHasMemory p (Load r v) = HasCell p v.0
+MoveHasMemory p (Store v r) = HasCell p v.0
 MoveHasMemory p _ = Unit {0}
 
 -- A variable that a Load or Store of the moves names, or that an operand has in memory, is a Param
@@ -65,7 +65,7 @@ MoveHasMemory p _ = Unit {0}
 pub record MemoryThere (p : LProc) : Type 0 where
   pub moves : EachMove p (MoveHasMemory p)
   pub operands_there : EachOp p (λ i places. (k : ℕ) (role : Role) →
-      slice_get (roles i) k ≡ Some role → is_mem (place_in places k) ≡ true → HasMemory p role.var)
+      slice_get (roles i) k ≡ Some role → is_mem (place_in places k) ≡ true → HasCell p role.var)
   pub distinct : (k j : ℕ) (u : VarId) →
       slice_get p.slots k ≡ Some u → slice_get p.slots j ≡ Some u → k ≡ j
 

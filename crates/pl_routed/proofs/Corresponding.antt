@@ -41,11 +41,11 @@ use Rattle.pl_place.specs.declared.placed.LBlock.{LBlock}
 use Rattle.pl_place.specs.declared.placed.LProc.{LProc}
 use Rattle.pl_place.specs.Placed.{kind_of, slot_of}
 use Rattle.pl_place.specs.Machine.{spot, spot_as, slotted, Slot, Argument, no_block}
-use Rattle.pl_place.specs.Behind.{Routed, strand_of, constant, pairs_at, operand_places, in_memory}
+use Rattle.pl_place.specs.Behind.{Routed, strand_by, constant, pairs_at, operand_places, in_memory}
 use Rattle.pl_place.specs.Behind.{has_slot, IsOp, Lays, IsBehind}
-use Rattle.pl_place.specs.Valid.{linstr_at, HasMemory, MoveHasMemory, MoveNames, IsPlaced}
+use Rattle.pl_place.specs.Valid.{linstr_at, HasCell, MoveHasMemory, MoveNames, IsPlaced}
 use Rattle.pra_list.specs.Each.{Each}
-use Rattle.pl_simulation.specs.Correspondence.{Allocation, InFrame, IsCell, InCells, Fits, IsOpAt}
+use Rattle.pl_simulation.specs.Correspondence.{Allocation, InFrame, IsCell, InCells, FitsAt, IsOpAt}
 use Rattle.pl_simulation.specs.Correspondence.{InstrCorresponds, EndCorresponds, Comes, Corresponds}
 use Rattle.pl_routed.specs.Routed.{routed}
 use Rattle.pra_list.proofs.Among.{in_at, at_in, in_left, in_right, in_map, in_filter, in_range}
@@ -170,7 +170,7 @@ each_of P (m ∷ ms) f = (f m (inl refl), each_of P ms (λ x i. f x (inr i)))
 
 -- a move of valid placed code is within the frame
 module _ (p : LProc) (is : IsPlaced p) where
-  has_cell : (v : ℕ) → v < length p.vars → HasMemory p v → IsCell p (Memory v)
+  has_cell : (v : ℕ) → v < length p.vars → HasCell p v → IsCell p (Memory v)
   has_cell v lt has =
       ⊎_elim
       (λ (param : (i : ℕ) × (kind_of p v ≡ Param i)).
@@ -226,12 +226,12 @@ module _ (code : VProc) (net : Net) (is : IsNet net code) (routes : Routes)
       let inside = edge_inside all_tables code net is routes has admitted b l v e at in
       memory_of code p sized behind.vars behind.args v inside.var (base.kind_of code v) refl
       (λ plain.
-      let var : (strand_of r e).var.0 ≡ v = ap (λ (t : Strand). t.var.0)
+      let var : (strand_by r e).var.0 ≡ v = ap (λ (t : Strand). t.var.0)
       (its_strand all_tables code net is routes has admitted e at.route) ∙ at.covers.var in
       let here : in_memory r v ≡ true = any_in _ (flow net routes) e
       (in_the_flow all_tables code net is routes has admitted b l v e at)
-      (both (nat_eq (strand_of r e).var.0 v) (needs_slot (number e.to))
-      (same_nat (strand_of r e).var.0 v var) h) in
+      (both (nat_eq (strand_by r e).var.0 v) (needs_slot (number e.to))
+      (same_nat (strand_by r e).var.0 v var) h) in
       let slot : has_slot r v ≡ true = both (is_plain (base.kind_of code v)) (in_memory r v)
       (ap is_plain plain) here in
       subst (Among v) (sym behind.slots)
@@ -312,7 +312,8 @@ module _ (code : VProc) (net : Net) (is : IsNet net code) (routes : Routes)
             (moves_in b block e k l.moves
             (l.op ∷ rest_at r b 0 (code_of code b) block.code (behind.lays b block e) (suc k))
             l.parts) assigns;
-        fits = subst (λ n. Fits p i (map number o.0) (where_ b (2 * k + 1)) (where_ b n)) layer fit;
+        fits = subst (λ n. FitsAt p i (map number o.0) (where_ b (2 * k + 1)) (where_ b n)) layer
+            fit;
       }
 
   end_corresponds : (b : ℕ) → b < length code.blocks →

@@ -33,10 +33,10 @@ use Rattle.pl_moves.specs.Meaning.{Cell, Register, Memory, Fixed, same_cell}
 use Rattle.pl_place.specs.declared.placed.LProc.{LProc}
 use Rattle.pl_place.specs.Placed.{kind_of}
 use Rattle.pl_place.specs.Machine.{cells, fixed}
-use Rattle.pl_place.specs.Behind.{Routed, place_at}
+use Rattle.pl_place.specs.Behind.{Routed, where_is}
 use Rattle.pra_list.specs.Each.{Each}
 use Rattle.pl_simulation.specs.Correspondence.{Allocation, IsCell, AllRead, Written, AllWritten}
-use Rattle.pl_simulation.specs.Correspondence.{is_destroyed, Stays, Fits}
+use Rattle.pl_simulation.specs.Correspondence.{is_destroyed, Stays, FitsAt}
 use Rattle.pl_routed.proofs.Present.{r as routed, live as live_of, edge_of_place, edge_inside}
 use Rattle.pl_routed.proofs.Present.{edge_mask, edge_from, From, edge_stays, edge_apart, is_nat}
 use Rattle.pl_routed.proofs.Present.From.{Begins, Goes}
@@ -153,26 +153,26 @@ module _ (code : VProc) (net : Net) (is : IsNet net code) (routes : Routes)
   where_ b l = alloc code net is routes has admitted b l
 
   all_read : (b l : ℕ) (vs : List ℕ) (qs : List Place) (rest : List (Option Place)) → map Some qs ≡
-      map (place_at r b l) vs ++ rest → AllRead (where_ b l) vs (map number qs)
+      map (where_is r b l) vs ++ rest → AllRead (where_ b l) vs (map number qs)
   all_read b l [] qs rest e = tt
   all_read b l (v ∷ vs) [] rest e = absurd (nil_cons _ _ e)
   all_read b l (v ∷ vs) (q ∷ qs) rest e = (
     ap (option_map number) (sym
-        (head_same (Some q) (place_at r b l v) (map Some qs) (map (place_at r b l) vs ++ rest) e)),
-    all_read b l vs qs rest (tail_same (Some q) (place_at r b l v) (map Some qs)
-        (map (place_at r b l) vs ++ rest) e),
+        (head_same (Some q) (where_is r b l v) (map Some qs) (map (where_is r b l) vs ++ rest) e)),
+    all_read b l vs qs rest (tail_same (Some q) (where_is r b l v) (map Some qs)
+        (map (where_is r b l) vs ++ rest) e),
   )
 
-  all_written : (b l : ℕ) (ws : List ℕ) (qs : List Place) → map Some qs ≡ map (place_at r b l) ws →
-      ((w : ℕ) (q : Place) → Among w ws → place_at r b l w ≡ Some q →
+  all_written : (b l : ℕ) (ws : List ℕ) (qs : List Place) → map Some qs ≡ map (where_is r b l) ws →
+      ((w : ℕ) (q : Place) → Among w ws → where_is r b l w ≡ Some q →
       Written p (where_ b l) w (number q)) → AllWritten p (where_ b l) ws (map number qs)
   all_written b l [] qs e f = tt
   all_written b l (w ∷ ws) [] e f = absurd (nil_cons _ _ e)
   all_written b l (w ∷ ws) (q ∷ qs) e f = (
-    f w q (inl refl) (sym (head_same (Some q) (place_at r b l w) (map Some qs)
-        (map (place_at r b l) ws) e)),
-    all_written b l ws qs (tail_same (Some q) (place_at r b l w) (map Some qs)
-        (map (place_at r b l) ws) e) (λ u x k. f u x (inr k)),
+    f w q (inl refl) (sym (head_same (Some q) (where_is r b l w) (map Some qs)
+        (map (where_is r b l) ws) e)),
+    all_written b l ws qs (tail_same (Some q) (where_is r b l w) (map Some qs)
+        (map (where_is r b l) ws) e) (λ u x k. f u x (inr k)),
   )
 
   module _ (b k : ℕ) (i : VInstr) (here : instr_at code b k ≡ Some i)
@@ -270,15 +270,15 @@ module _ (code : VProc) (net : Net) (is : IsNet net code) (routes : Routes)
                   (const_or e.to);
             }
 
-    pub fits : (qs : List Place) → map Some qs ≡ map (place_at r b (2 * k + 1)) (read_by i)
-        ++ map (place_at r b (2 * k + 2)) (written_by i) →
-        Fits p i (map number qs) (where_ b (2 * k + 1)) (where_ b (2 * k + 2))
+    pub fits : (qs : List Place) → map Some qs ≡ map (where_is r b (2 * k + 1)) (read_by i)
+        ++ map (where_is r b (2 * k + 2)) (written_by i) →
+        FitsAt p i (map number qs) (where_ b (2 * k + 1)) (where_ b (2 * k + 2))
     fits qs e =
-        let w = written_part (place_at r b (2 * k + 1)) (place_at r b (2 * k + 2)) (read_by i)
+        let w = written_part (where_is r b (2 * k + 1)) (where_is r b (2 * k + 2)) (read_by i)
         (written_by i) qs e in
         record {
           reads = all_read b (2 * k + 1) (read_by i) qs
-              (map (place_at r b (2 * k + 2)) (written_by i)) e;
+              (map (where_is r b (2 * k + 2)) (written_by i)) e;
           writes = subst (AllWritten p (where_ b l) (written_by i)) (sym w.1)
               (all_written b l (written_by i) w.0 w.2
               (λ u q k_in at.

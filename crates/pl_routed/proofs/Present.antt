@@ -31,7 +31,7 @@ use Rattle.net_form.specs.Admitted.{stays_from, stays_across, in_register, uses_
 use Rattle.net_form.specs.Admitted.{enters_at, KeepsTie, IsAdmitted}
 use Rattle.net_form.specs.Index.{first_layer}
 use Rattle.net_form.proofs.PlaceEquality.{same_place-true, same_place-refl}
-use Rattle.pl_place.specs.Behind.{Routed, strand_of, brings, place_at}
+use Rattle.pl_place.specs.Behind.{Routed, strand_by, brings, where_is}
 use Rattle.pra_list.proofs.Among.{in_all, in_at, at_in, in_flat, in_filter_map, some_counted, finds}
 use Rattle.pra_list.proofs.Among.{found_in, one_passes}
 use Rattle.pl_routed.proofs.Edges.{path_after, path_one, path_from, path_at, Behind, OfRoute}
@@ -198,7 +198,7 @@ module _ (tables : PlaceTables) (code : VProc) (net : Net) (is : IsNetBy tables 
     edge_brings : (b l v : ℕ) (e : Edge) → EdgeAt b l v e → brings r b l v e ≡ true
     edge_brings b l v e at =
         let same = its_strand e at.route in
-        all_true (nat_eq (strand_of r e).var.0 v) (nat_eq (strand_of r e).block.0 b)
+        all_true (nat_eq (strand_by r e).var.0 v) (nat_eq (strand_by r e).block.0 b)
         (nat_eq e.layer l)
         (is_nat _ v (ap (λ (t : Strand). t.var.0) same ∙ at.covers.var))
         (is_nat _ b (ap (λ (t : Strand). t.block.0) same ∙ at.covers.block))
@@ -209,7 +209,7 @@ module _ (tables : PlaceTables) (code : VProc) (net : Net) (is : IsNetBy tables 
     brings_edge b l v e i t =
         let o = of_flow 0 net.strands routes.places e i in
         let same = its_strand e o in
-        let x = both_true (nat_eq (strand_of r e).var.0 v) (nat_eq (strand_of r e).block.0 b)
+        let x = both_true (nat_eq (strand_by r e).var.0 v) (nat_eq (strand_by r e).block.0 b)
         (nat_eq e.layer l) t in
         let at : e.layer ≡ l = nat_is e.layer l x.2 in
         let p = path_after (0 + o.number) o.strand.first None o.path e o.in_path in
@@ -248,7 +248,7 @@ module _ (tables : PlaceTables) (code : VProc) (net : Net) (is : IsNetBy tables 
         path_one (0 + a.route.number) a.route.strand.first None a.route.path e d a.route.in_path
         (same_route e d a.route c.route n) (a.layer ∙ sym c.layer)
 
-    pub place_of_edge : (b l v : ℕ) (e : Edge) → EdgeAt b l v e → place_at r b l v ≡ Some e.to
+    pub place_of_edge : (b l v : ℕ) (e : Edge) → EdgeAt b l v e → where_is r b l v ≡ Some e.to
     place_of_edge b l v e at =
         let f = finds (brings r b l v) (flow net routes) e (in_the_flow b l v e at)
         (edge_brings b l v e at) in
@@ -256,7 +256,7 @@ module _ (tables : PlaceTables) (code : VProc) (net : Net) (is : IsNetBy tables 
         let same : f.0 ≡ e = one_edge b l v f.0 e (brings_edge b l v f.0 g.0 g.1) at in
         ap (option_map (λ (x : Edge). x.to)) f.1 ∙ ap (λ (x : Edge). Some x.to) same
 
-    pub edge_of_place : (b l v : ℕ) (q : Place) → place_at r b l v ≡ Some q → (e : Edge) ×
+    pub edge_of_place : (b l v : ℕ) (q : Place) → where_is r b l v ≡ Some q → (e : Edge) ×
         EdgeAt b l v e × (e.to ≡ q)
     edge_of_place b l v q is = of_found (find (brings r b l v) (flow net routes)) refl is
       where
@@ -564,7 +564,7 @@ module _ (tables : PlaceTables) (code : VProc) (net : Net) (is : IsNetBy tables 
         let layer : x.layer ≡ 0 = nat_is _ _ parts.1 ∙ ap (λ (y : Strand). y.first) second_strand
         ∙ starts in
         let there : brings r t 0 v x ≡ true =
-        all_true (nat_eq (strand_of r x).var.0 v) (nat_eq (strand_of r x).block.0 t)
+        all_true (nat_eq (strand_by r x).var.0 v) (nat_eq (strand_by r x).block.0 t)
         (nat_eq x.layer 0)
         (is_nat _ _ (ap (λ (y : Strand). y.var.0) strand ∙ c.covers.var))
         (is_nat _ _ (ap (λ (y : Strand). y.block.0) strand ∙ c.covers.block))

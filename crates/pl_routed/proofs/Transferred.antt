@@ -27,7 +27,7 @@ use Rattle.pl_moves.specs.Assignment.{suits, into_memory, fills, origin, source,
 use Rattle.pl_place.specs.declared.placed.LProc.{LProc}
 use Rattle.pl_place.specs.Placed.{kind_of}
 use Rattle.pl_place.specs.Machine.{cells}
-use Rattle.pl_place.specs.Behind.{Routed, strand_of, comes_to, place_at, constant, from_place}
+use Rattle.pl_place.specs.Behind.{Routed, strand_by, comes_at, where_is, constant, from_place}
 use Rattle.pl_place.specs.Behind.{pair_of, pairs_at}
 use Rattle.pra_list.specs.Each.{Each}
 use Rattle.pl_simulation.specs.Correspondence.{Allocation, InCells, ComesFrom, Brings, Transfers}
@@ -57,11 +57,11 @@ module _ (code : VProc) (net : Net) (is : IsNet net code) (routes : Routes)
 
   -- where the variables are at a layer
   abbrev pub alloc : ℕ → ℕ → Allocation
-  alloc b l v = option_map number (place_at r b l v)
+  alloc b l v = option_map number (where_is r b l v)
 
   pub edge_of : (b l v n : ℕ) → alloc b l v ≡ Some n → (e : Edge) × At b l v e × (number e.to ≡ n)
   edge_of b l v n e =
-      let q = mapped_some (place_at r b l v) n e in
+      let q = mapped_some (where_is r b l v) n e in
       let x = edge_of_place all_tables code net is routes has admitted b l v q.0 q.1 in
       (x.0, x.1, ap number x.2 ∙ q.2)
 
@@ -95,11 +95,11 @@ module _ (code : VProc) (net : Net) (is : IsNet net code) (routes : Routes)
       abbrev from : Place
       from = from_place e.from
 
-      var : (strand_of r e).var.0 ≡ v
+      var : (strand_by r e).var.0 ≡ v
       var = ap (λ (t : Strand). t.var.0)
           (its_strand all_tables code net is routes has admitted e at.route) ∙ at.covers.var
 
-      block : (strand_of r e).block.0 ≡ b
+      block : (strand_by r e).block.0 ≡ b
       block = ap (λ (t : Strand). t.block.0)
           (its_strand all_tables code net is routes has admitted e at.route) ∙ at.covers.block
 
@@ -108,29 +108,29 @@ module _ (code : VProc) (net : Net) (is : IsNet net code) (routes : Routes)
 
       is_in : Among x pairs
       is_in = in_map (pair_of r) _ e
-          (in_filter (comes_to r b (2 * k + 1)) (flow net routes) e
+          (in_filter (comes_at r b (2 * k + 1)) (flow net routes) e
           (in_the_flow all_tables code net is routes has admitted b (2 * k + 1) v e at)
-          (both_true (nat_eq (strand_of r e).block.0 b) (nat_eq e.layer (2 * k + 1))
-          (is_nat all_tables code net is routes has admitted (strand_of r e).block.0 b block)
+          (both_true (nat_eq (strand_by r e).block.0 b) (nat_eq e.layer (2 * k + 1))
+          (is_nat all_tables code net is routes has admitted (strand_by r e).block.0 b block)
           (is_nat all_tables code net is routes has admitted e.layer (2 * k + 1) at.layer)))
 
       -- a pair of this layer is of an edge of it
       edge_of_pair : (y : Pair) → Among y pairs → (d : Edge) × (y ≡ pair_of r d) ×
-          At b (2 * k + 1) (strand_of r d).var.0 d
+          At b (2 * k + 1) (strand_by r d).var.0 d
       edge_of_pair y i =
           let d = of_map (pair_of r) _ y i in
-          let f = of_filter (comes_to r b (2 * k + 1)) (flow net routes) d.0 d.1 in (
+          let f = of_filter (comes_at r b (2 * k + 1)) (flow net routes) d.0 d.1 in (
             d.0,
             d.2,
             brings_edge all_tables code net is routes has admitted b (2 * k + 1)
-                (strand_of r d.0).var.0 d.0 f.0
-                (both_true (nat_eq (strand_of r d.0).var.0 (strand_of r d.0).var.0)
-                (comes_to r b (2 * k + 1) d.0)
-                (is_nat all_tables code net is routes has admitted (strand_of r d.0).var.0
-                (strand_of r d.0).var.0 refl) f.1),
+                (strand_by r d.0).var.0 d.0 f.0
+                (both_true (nat_eq (strand_by r d.0).var.0 (strand_by r d.0).var.0)
+                (comes_at r b (2 * k + 1) d.0)
+                (is_nat all_tables code net is routes has admitted (strand_by r d.0).var.0
+                (strand_by r d.0).var.0 refl) f.1),
           )
 
-      same_edge : (d : Edge) → At b (2 * k + 1) (strand_of r d).var.0 d → (strand_of r d).var.0 ≡
+      same_edge : (d : Edge) → At b (2 * k + 1) (strand_by r d).var.0 d → (strand_by r d).var.0 ≡
           v → d ≡ e
       same_edge d c same = one_edge all_tables code net is routes has admitted b (2 * k + 1) v d e
           (subst (λ w. At b (2 * k + 1) w d) same c) at
@@ -148,14 +148,14 @@ module _ (code : VProc) (net : Net) (is : IsNet net code) (routes : Routes)
           let there : in_register (register_of (number e.to)) d.0.to ≡ true =
           ap (λ (z : Pair). fills z (Register (register_of (number e.to)))) (sym d.1) ∙ t in
           let same = edge_apart all_tables code net is routes has admitted b (2 * k + 1)
-          (strand_of r d.0).var.0 v (register_of (number e.to)) d.0 e d.2 at there here in
+          (strand_by r d.0).var.0 v (register_of (number e.to)) d.0 e d.2 at there here in
           d.1 ∙ ap (pair_of r) (same_edge d.0 d.2 same)
 
       memory_var : (y : Pair) → Among y pairs → fills y (Memory v) ≡ true → y ≡ x
       memory_var y i t =
           let d = edge_of_pair y i in
           let parts = split (into_memory y) (nat_eq y.var.0 v) t in
-          let same : (strand_of r d.0).var.0 ≡ v = ap (λ (z : Pair). z.var.0) (sym d.1)
+          let same : (strand_by r d.0).var.0 ≡ v = ap (λ (z : Pair). z.var.0) (sym d.1)
           ∙ nat_is all_tables code net is routes has admitted y.var.0 v parts.1 in
           d.1 ∙ ap (pair_of r) (same_edge d.0 d.2 same)
         where

@@ -27,7 +27,7 @@ use Rattle.pl_place.specs.Machine.{first_held, cleared, clobbered, in_spot, Spot
 use Rattle.pl_place.specs.Machine.{Nowhere}
 use Rattle.pra_list.specs.Each.{Each}
 use Rattle.pl_simulation.specs.Correspondence.{Allocation, AllRead, Written, AllWritten}
-use Rattle.pl_simulation.specs.Correspondence.{is_destroyed, Stays, Fits}
+use Rattle.pl_simulation.specs.Correspondence.{is_destroyed, Stays, FitsAt}
 use Rattle.pl_simulation.proofs.Cells.{is_own, ParamsApart, HasCells, write, written_cell, same_is}
 use Rattle.pl_simulation.proofs.Cells.{put_is, still_there, stay, Alike, alike_itself, alike_then}
 use Rattle.pl_simulation.proofs.Cells.{alike}
@@ -255,7 +255,7 @@ behind_is c t (Some new) e = (new, refl, sym (some_same _ _ e))
 -- match at the allocation behind it.
 pub matches_behind : (p : LProc) (params : ParamsApart p) (i : VInstr) (rest : List LInstr)
     (places : List ℕ) (before after : Allocation) (c t : Activation Vars) (d : Activation Cells) →
-    Fits p i places before after → Matches p before c d → (xs : List Value) →
+    FitsAt p i places before after → Matches p before c d → (xs : List Value) →
     behind c (selected.put_all (Some c.home.held) (written_by i) xs) ≡ Some t →
     (u : Activation Cells) ×
     (put_all p (Some (clobbered i rest d)) (written_by i) (drop (length (read_by i)) places)

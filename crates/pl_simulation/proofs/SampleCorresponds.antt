@@ -28,7 +28,8 @@ use Rattle.pl_place.specs.Machine.{cells}
 use Rattle.pl_place.specs.Sample.{v0, v1, op}
 use Rattle.pl_place.specs.SampleRoutes.{in_memory}
 use Rattle.pra_list.specs.Each.{Each}
-use Rattle.pl_simulation.specs.Correspondence.{Allocation, Transfers, Brings, Written, Stays, Fits}
+use Rattle.pl_simulation.specs.Correspondence.{Allocation, Transfers, Brings, Written, Stays}
+use Rattle.pl_simulation.specs.Correspondence.{FitsAt}
 use Rattle.pl_simulation.specs.Correspondence.{InstrCorresponds, EndCorresponds, Corresponds}
 use Rattle.pl_simulation.specs.Correspondence.{AllCorrespond}
 use Rattle.pl_simulation.proofs.Simulated.{no_moves}
@@ -150,13 +151,13 @@ add_stays : (v q : ℕ) → at 6 v ≡ Some q → Among v (0 ∷ []) ⊎ Stays p
 add_stays zero q e = inl (inl refl)
 add_stays (suc v) q e = cc
 
-sets : Fits p (Set v0 (pos 3)) (6 ∷ []) none (at 6)
+sets : FitsAt p (Set v0 (pos 3)) (6 ∷ []) none (at 6)
 sets = record { reads = tt; writes = (written, tt); stays = set_stays }
 
-adds : Fits p (Add v0 v1) (6 ∷ 7 ∷ 6 ∷ []) with_constant (at 6)
+adds : FitsAt p (Add v0 v1) (6 ∷ 7 ∷ 6 ∷ []) with_constant (at 6)
 adds = record { reads = (refl, (refl, tt)); writes = (written, tt); stays = add_stays }
 
-writes : Fits p (Write v0) (8 ∷ []) (at 8) none
+writes : FitsAt p (Write v0) (8 ∷ []) (at 8) none
 writes = record { reads = (refl, tt); writes = tt; stays = λ v q e. cc }
 
 instrs : (b k : ℕ) (i : VInstr) → instr_at set_add_write b k ≡ Some i →

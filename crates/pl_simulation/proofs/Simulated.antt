@@ -42,7 +42,7 @@ use Rattle.pl_place.specs.Machine.{Cells, Spot, Slot, Argument, Nowhere, spot, i
 use Rattle.pl_place.specs.Machine.{cells, clobbered, operands, put_all, nothing}
 use Rattle.pl_place.specs.Machine as low
 use Rattle.pra_list.specs.Each.{Each}
-use Rattle.pl_simulation.specs.Correspondence.{Allocation, InFrame, Transfers, Fits, IsOpAt}
+use Rattle.pl_simulation.specs.Correspondence.{Allocation, InFrame, Transfers, FitsAt, IsOpAt}
 use Rattle.pl_simulation.specs.Correspondence.{InstrCorresponds, EndCorresponds, Comes, Corresponds}
 use Rattle.vc_coupling.specs.Coupled.{AllBeside, Couples, Same, Leads}
 use Rattle.vc_coupling.proofs.Applied.{found_same, with_top_same, ended_same, performed}
@@ -223,7 +223,7 @@ module _ (codes_list : List VProc) (frames : List ℕ) (list : List LProc) (coun
             is_op = subst (λ k. IsOpAt l.op k l.places) (some_same i j (sym is ∙ e)) l.is_op;
             at = l.at;
             transfers = no_moves (procs c.proc) l.at (λ v q f. (matches.located v q f).some);
-            fits = subst (λ k. Fits (procs c.proc) k l.places l.at
+            fits = subst (λ k. FitsAt (procs c.proc) k l.places l.at
                 ((all c.proc).before c.home.block (suc c.home.index))) (some_same i j (sym is ∙ e))
                 l.fits;
           };
@@ -236,7 +236,7 @@ module _ (codes_list : List VProc) (frames : List ℕ) (list : List LProc) (coun
         c.proc < count → c.home.block < length (codes c.proc).blocks →
         instr_at (codes c.proc) c.home.block c.home.index ≡ Some i →
         let p = procs c.proc in let rest = (all c.proc).rest c.home.block (suc c.home.index) in
-        Fits p i places at ((all c.proc).before c.home.block (suc c.home.index)) →
+        FitsAt p i places at ((all c.proc).before c.home.block (suc c.home.index)) →
         Matches p at c u → (xs : List Value) →
         Leads R (behind c (selected.put_all (Some c.home.held) (written_by i) xs))
         (put_all p (Some (clobbered i rest u)) (written_by i) (drop (length (read_by i)) places)

@@ -109,7 +109,7 @@ pub record Stays (p : LProc) (i : VInstr) (before : Allocation) (v place : ℕ) 
 
 -- The operands are where the allocations before and after the instruction have them, and what else
 -- is present after it stays.
-pub record Fits (p : LProc) (i : VInstr) (places : List ℕ) (before after : Allocation) :
+pub record FitsAt (p : LProc) (i : VInstr) (places : List ℕ) (before after : Allocation) :
     Type 0 where
   pub reads : AllRead before (read_by i) places
   pub writes : AllWritten p after (written_by i) (drop (length (read_by i)) places)
@@ -133,7 +133,7 @@ pub record InstrCorresponds (p : LProc) (i : VInstr) (left rest : List LInstr)
   pub is_op : IsOpAt op i places
   pub at : Allocation
   pub transfers : Transfers p moves from at
-  pub fits : Fits p i places at to
+  pub fits : FitsAt p i places at to
 
 -- What is left before the end: moves.
 pub record EndCorresponds (p : LProc) (left : List LInstr) (from to : Allocation) : Type 0 where

@@ -33,7 +33,7 @@ use Rattle.pra_follow.proofs.Translated.{translated}
 use Rattle.pra_compile.specs.declared.compiling.CompiledProc.{CompiledProc}
 use Rattle.pra_report.specs.declared.report.ProcOut.{ProcOut}
 use Rattle.pra_compile.specs.Compiled.{IsProcBy, IsCompiledBy, name_of}
-use Rattle.pra_compile.specs.CompiledProcs.{IsKept, IsCompiledProc, AreDone}
+use Rattle.pra_compile.specs.CompiledProcs.{IsProcOut, IsCompiledProc, AreDone}
 use Rattle.pra_compile.specs.Leaving.{Leaving}
 use Rattle.pra_compile.specs.Tidied.{IsTidied, AreTidiedUpTo}
 
@@ -155,9 +155,9 @@ module _ (program : Checked) (leaves : Leaving) (n : ℕ) (procs : List ProcOut)
             (λ at same.
             got procs compiled.out out p f
             (λ less here. absurd (omega (arith, less, at, count, procs_count)))
-            (λ here other. subst (λ k. IsKept program leaves k t out) (omega (arith, at, count))
-            (subst (λ o. IsKept program leaves n t o) other
-            (subst (λ u. IsKept program leaves n u compiled.out) same is.kept))));
+            (λ here other. subst (λ k. IsProcOut program leaves k t out) (omega (arith, at, count))
+            (subst (λ o. IsProcOut program leaves n t o) other
+            (subst (λ u. IsProcOut program leaves n u compiled.out) same is.kept))));
         assembled =
             subst (λ l. IsAssembly l program.data_words new)
             (ap (λ p. map (λ (t : Translation). t.placed) ts ++ p ∷ []) (sym is.placed)

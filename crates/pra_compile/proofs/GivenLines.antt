@@ -12,12 +12,12 @@ use Rattle.pra_report.specs.Report.{last_cost, last_bound, most_procs, HaveTotal
 use Rattle.pra_compile.specs.declared.given.GivenRoutes.{GivenRoutes}
 use Rattle.pra_compile.specs.declared.output.Compiled.{Compiled}
 use Rattle.pra_compile.specs.Compiled.{IsProcBy, IsCompiledBy}
-use Rattle.pra_compile.specs.Given.{IsGiven, given_by}
+use Rattle.pra_compile.specs.Given.{IsOfGiven, given_by}
 use Rattle.pra_compile.proofs.Totals.{all_total}
 
 module _ (program : Checked) (given : List GivenRoutes) (p : ℕ) (proc : CheckedProc)
     (out : ProcOut) (r : Routed) (is : IsProcBy program (given_by given) p proc out r) where
-  abbrev is_given : IsGiven given p out.routes out.prices out.lines
+  abbrev is_given : IsOfGiven given p out.routes out.prices out.lines
   is_given = is.allocated
 
   module _ (own : GivenRoutes) (there : slice_get given p ≡ Some own) where

@@ -14,8 +14,8 @@ use Rattle.pra_follow.specs.Translation.{behind}
 use Rattle.pra_report.specs.declared.report.ProcOut.{ProcOut}
 
 -- what is kept of procedure p is that of its translation, and what the allocator left
-pub record IsKept (program : Checked) (leaves : Leaving) (p : ℕ) (t : Translation) (out : ProcOut)
-    : Type 0 where
+pub record IsProcOut (program : Checked) (leaves : Leaving) (p : ℕ) (t : Translation)
+    (out : ProcOut) : Type 0 where
   pub name : out.name ≡ name_of program p
   pub frame : out.frame ≡ frame_size t.placed
   pub of_flow : out.frame ≡ flow_frame (behind t)
@@ -29,7 +29,7 @@ pub record IsCompiledProc (program : Checked) (leaves : Leaving) (p : ℕ) (comp
   pub translation : Translation
   pub is : IsTranslation program p translation
   pub placed : translation.placed ≡ compiled.placed
-  pub kept : IsKept program leaves p translation compiled.out
+  pub kept : IsProcOut program leaves p translation compiled.out
 
 -- The first n procedures were translated: this is kept of them, and their placed code is assembled.
 pub record AreDone (program : Checked) (leaves : Leaving) (n : ℕ) (procs : List ProcOut)
@@ -39,7 +39,7 @@ pub record AreDone (program : Checked) (leaves : Leaving) (n : ℕ) (procs : Lis
   pub count : length translations ≡ n
   pub procs_count : length procs ≡ n
   pub kept : (p : ℕ) (t : Translation) (out : ProcOut) → slice_get translations p ≡ Some t →
-      slice_get procs p ≡ Some out → IsKept program leaves p t out
+      slice_get procs p ≡ Some out → IsProcOut program leaves p t out
   pub assembled : IsAssembly (map (λ (t : Translation). t.placed) translations)
       program.data_words assembly
 

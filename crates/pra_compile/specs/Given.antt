@@ -27,11 +27,11 @@ pub record IsLeftWith (own : GivenRoutes) (routes : Routes) (prices : Prices) (l
   pub small_bound : own.bound < 2 ^ 64
 
 -- what is left with the routes that are given for procedure p
-pub record IsGiven (given : List GivenRoutes) (p : ℕ) (routes : Routes) (prices : Prices)
+pub record IsOfGiven (given : List GivenRoutes) (p : ℕ) (routes : Routes) (prices : Prices)
     (lines : List Line) : Type 0 where
   pub own : GivenRoutes
   pub there : slice_get given p ≡ Some own
   pub left : IsLeftWith own routes prices lines
 
 abbrev pub given_by : List GivenRoutes → Leaving
-given_by given p net routes prices lines = IsGiven given p routes prices lines
+given_by given p net routes prices lines = IsOfGiven given p routes prices lines

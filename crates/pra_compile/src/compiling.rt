@@ -1,7 +1,7 @@
 // One procedure after the other, from tidy code to image.
 
 ghost use Rattle.std.specs.Prelude.{◌≡◌, ◌<◌, ◌≤◌, ℕ, length, map, slice_get, Some, IfOk};
-ghost use Rattle.al_round.specs.Watches.{Keeps as IsWatch, gap_of};
+ghost use Rattle.al_round.specs.Watches.{IsWatch, gap_of};
 ghost use Rattle.net_cost.specs.Models.{Keeps, weights_of};
 ghost use Rattle.pra_base.specs.declared.code.VProc.{VProc};
 ghost use Rattle.pra_compile.specs.Compiled.{IsCompiled, IsCompiledBy, codes_of, name_of};

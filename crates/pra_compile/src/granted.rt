@@ -1,7 +1,7 @@
 // Routes that rounds find.
 
 ghost use Rattle.std.specs.Prelude.{◌≤◌, IfOk};
-ghost use Rattle.al_round.specs.Watches.{Keeps as IsWatch, gap_of};
+ghost use Rattle.al_round.specs.Watches.{IsWatch, gap_of};
 ghost use Rattle.net_cost.specs.Models.{Keeps, weights_of};
 ghost use Rattle.pra_base.specs.Valid.{IsSized, IsValid};
 ghost use Rattle.pra_compile.specs.Compiled.{IsGranted, wanted_of};
@@ -61,7 +61,7 @@ pub struct Granted<'a, F: Fn(Event, u32) -> u32, G: Fn(Line) -> Verdict> {
 
 impl<'a, F: Fn(Event, u32) -> u32, G: Fn(Line) -> Verdict> Allocator for Granted<'a, F, G> {
     ghost use Rattle.std.specs.Prelude.{◌≤◌};
-    ghost use Rattle.al_round.specs.Watches.{Keeps as IsWatch, gap_of};
+    ghost use Rattle.al_round.specs.Watches.{IsWatch, gap_of};
     ghost use Rattle.net_cost.specs.Models.{Keeps, weights_of};
     ghost use Rattle.pra_compile.specs.Compiled.{granted, wanted_of};
 

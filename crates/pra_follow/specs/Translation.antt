@@ -22,8 +22,7 @@ use Rattle.vc_stmt.specs.Procedures.{Embodies}
 use Rattle.vc_tidy.specs.Tidy.{IsTidy}
 
 -- Tidy code of procedure p, valid alone and in its module, with the counts that selection keeps.
--- Its
--- blocks stand in the order of the text, each in as many loops as what it is made for.
+-- Its blocks stand in the order of the text, each in as many loops as what it is made for.
 pub record IsCodeOf (program : Checked) (p : ℕ) (proc : CheckedProc) (code : VProc)
     : Type 0 where
   pub id : code.id.0 ≡ p

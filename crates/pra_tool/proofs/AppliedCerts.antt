@@ -18,7 +18,7 @@ use Rattle.cert_form.specs.declared.certificate.Certificate.{Certificate}
 use Rattle.ob_syntax.specs.declared.checked.Checked.{Checked}
 use Rattle.pra_compile.specs.declared.given.GivenRoutes.{GivenRoutes}
 use Rattle.pra_compile.specs.declared.output.Compiled.{Compiled}
-use Rattle.pra_compile.specs.Given.{AdmitsGiven, IsGiven}
+use Rattle.pra_compile.specs.Given.{AdmitsGiven, IsOfGiven}
 use Rattle.pra_compile.specs.Tidied.{AreTidied}
 use Rattle.pra_compile.proofs.GivenLines.{given_totals}
 use Rattle.pra_report.specs.declared.report.ProcOut.{ProcOut}
@@ -119,7 +119,7 @@ module _ (program : Checked) (c : Certificate) (compiled : Compiled)
       some_same out.code cert.code (sym own ∙ ap (λ (xs : List VProc). slice_get xs p) is.codes
       ∙ code_at c.procs p cert at)
 
-  module _ (left : IsGiven (routes_in c) p out.routes out.prices out.lines) where
+  module _ (left : IsOfGiven (routes_in c) p out.routes out.prices out.lines) where
     own_is : left.own ≡ routes_of cert
     own_is = some_same left.own (routes_of cert) (sym left.there ∙ routes_at c p cert at)
 

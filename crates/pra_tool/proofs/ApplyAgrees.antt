@@ -32,7 +32,7 @@ use Rattle.pra_tool.specs.declared.status.Status.{Status}
 use Rattle.pra_tool.specs.Certified.{CertMakes, IsCertified, IsTextOfCert}
 use Rattle.pra_tool.specs.Compiling.{wanted_by}
 use Rattle.pra_tool.specs.Writes.{Writes}
-use Rattle.pra_tool.specs.Applied.{routes_of, routes_in, IsApplied, CarriesCert, AreAlike}
+use Rattle.pra_tool.specs.Applied.{routes_of, routes_in, IsApplied, CarriesCert, AreSameButRounds}
 use Rattle.pra_tool.specs.Applied.{ApplyMakes}
 use Rattle.pra_compile.proofs.GivenLines.{cost_given, bound_given}
 use Rattle.pra_tool.proofs.AppliedCerts.{routes_at, carried_code, carried_routes}
@@ -94,7 +94,7 @@ kept_alike : (program : Checked) (asked : Asked) (c : Certificate) (p : ℕ)
     IsProcBy program (given_by (routes_in c)) p proc b q →
     a.code ≡ cert.code → a.routes ≡ cert.routes → cert.total ≡ last_cost a.lines →
     cert.bound ≡ last_bound a.lines → b.code ≡ cert.code → b.routes ≡ cert.routes →
-    last_cost b.lines ≡ cert.total → last_bound b.lines ≡ cert.bound → AreAlike a b
+    last_cost b.lines ≡ cert.total → last_bound b.lines ≡ cert.bound → AreSameButRounds a b
 kept_alike program asked c p proc cert a b r q first second code routes total bound own ways
     cost least =
     let flows : q ≡ r = second.carried ∙ same_flow b.code a.code second.net first.net b.routes
@@ -112,7 +112,7 @@ kept_alike program asked c p proc cert a b r q first second code routes total bo
 pub apply_repeats_cert : (asked other : Asked) (source : List ℕ) (v w : Writes) (s t : Status)
     (cert : CertMakes asked source [] v s) (applied : ApplyMakes other source v.out w t) (p : ℕ)
     (a b : ProcOut) → slice_get cert.certified.made.compiled.procs p ≡ Some a →
-    slice_get applied.compiled.procs p ≡ Some b → AreAlike a b
+    slice_get applied.compiled.procs p ≡ Some b → AreSameButRounds a b
 apply_repeats_cert asked other source v w s t cert applied p a b at there =
     let made = cert.certified in
     let compiled = made.made.compiled in

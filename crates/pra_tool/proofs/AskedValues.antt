@@ -16,7 +16,7 @@ use Rattle.pra_words.specs.declared.words.Word.TheVariants as a_word
 use Rattle.pra_words.specs.declared.words.WordsFault.{WordsFault}
 use Rattle.pra_words.specs.declared.words.WordsFault.TheVariants.{Value}
 use Rattle.pra_words.specs.CommandLine.{Line, line_of}
-use Rattle.pra_words.specs.Words.{Asked, mode_of, file_of, cost_of, is_number, is_empty}
+use Rattle.pra_words.specs.Words.{Asked, mode_of, file_of, cost_word_of, is_number, is_empty}
 use Rattle.pra_words.specs.Words.{number_within, value_of, writes_image, default_image, is_image}
 use Rattle.pra_words.specs.Words.{image_of, values_of, asked_in, asked_of}
 use Rattle.pra_tool.specs.Asking.{IsAnswerable}
@@ -116,7 +116,7 @@ with_cost line mode file rounds cost =
 
 abbrev with_rounds : Line → Mode → List ℕ → ℕ → Result Asked WordsFault
 with_rounds line mode file rounds =
-    ok_or (cost_of line.cost) (Value a_word.Cost) >>= with_cost line mode file rounds
+    ok_or (cost_word_of line.cost) (Value a_word.Cost) >>= with_cost line mode file rounds
 
 abbrev with_file : Line → Mode → List ℕ → Result Asked WordsFault
 with_file line mode file =
@@ -132,7 +132,7 @@ values_are line asked e =
     asked mode.2 in
     let rounds = came_of (ok_or (value_of 10 0 1000 line.rounds) (Value a_word.Rounds))
     (with_rounds line mode.0 file.0) asked file.2 in
-    let cost = came_of (ok_or (cost_of line.cost) (Value a_word.Cost))
+    let cost = came_of (ok_or (cost_word_of line.cost) (Value a_word.Cost))
     (with_cost line mode.0 file.0 rounds.0) asked rounds.2 in
     let steps = came_of (ok_or (value_of 10000000 0 200000000 line.steps) (Value a_word.Steps))
     (with_steps line mode.0 file.0 rounds.0 cost.0) asked cost.2 in

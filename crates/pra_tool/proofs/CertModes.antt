@@ -8,7 +8,7 @@ use Rattle.cert_check.specs.declared.check.CertAnswer.{CertAnswer}
 use Rattle.cert_check.specs.declared.check.CertAnswer.TheVariants.{Yes, No}
 use Rattle.cert_check.specs.declared.check.Reason.{Reason}
 use Rattle.cert_check.specs.declared.check.Reason.TheVariants.{Code, Routes, Prices, Total, Bound}
-use Rattle.cert_check.specs.Reasons.{IsAnswerOf, AreBounded, FailsAt, FailsBy, HoldUpTo, MeetsAll}
+use Rattle.cert_check.specs.Reasons.{IsAnswerOf, AreBounded, FailsProc, FailsBy, HoldUpTo, MeetsAll}
 use Rattle.cert_check.specs.Reasons.{rank}
 use Rattle.cert_form.specs.declared.certificate.Cert.{Cert}
 use Rattle.cert_form.specs.declared.certificate.Certificate.{Certificate}
@@ -20,7 +20,7 @@ use Rattle.pra_tool.specs.declared.certified.Uncertified.TheVariants as uncertif
 use Rattle.pra_tool.specs.Status.{IsDone, IsRefusal}
 use Rattle.pra_tool.specs.Writes.{Writes, names}
 use Rattle.pra_tool.specs.Modes.{IsKind, IsMode}
-use Rattle.pra_tool.specs.Certified.{IsTextOfCert, FailsIn, IsUncertified}
+use Rattle.pra_tool.specs.Certified.{IsTextOfCert, FileFails, IsUncertified}
 use Rattle.pra_tool.specs.Certified.{uncertified_status, IsHeld, certificates}
 use Rattle.pra_tool.specs.Applied.{IsCertText, IsNoCertText, certificate_texts}
 use Rattle.pra_tool.specs.Clause.{checking}
@@ -64,7 +64,7 @@ one_reason c p cert r t h k = ⊎_elim (λ e. one_rank r t e)
     (same_or_less (rank r) (rank t))
 
 -- whoever fails does not hold
-fails_not_holds : (c : Certificate) (p : ℕ) (r : Reason) → FailsAt c p r →
+fails_not_holds : (c : Certificate) (p : ℕ) (r : Reason) → FailsProc c p r →
     ((cert : Cert) → slice_get c.procs p ≡ Some cert → MeetsAll c p cert) → ⊥
 fails_not_holds c p r h all = h.fails.holds (all h.cert h.is r)
 
@@ -72,7 +72,7 @@ same_cert : (c : Certificate) (p : ℕ) (a b : Cert) → slice_get c.procs p ≡
     slice_get c.procs p ≡ Some b → b ≡ a
 same_cert c p a b h k = let e = sym k ∙ h in cc
 
-same_place : (c : Certificate) (p : ℕ) (r t : Reason) → FailsAt c p r → FailsAt c p t → r ≡ t
+same_place : (c : Certificate) (p : ℕ) (r t : Reason) → FailsProc c p r → FailsProc c p t → r ≡ t
 same_place c p r t h k = one_reason c p h.cert r t h.fails
     (subst (λ (cert : Cert). FailsBy c p cert t) (same_cert c p h.cert k.cert h.is k.is) k.fails)
 
@@ -83,7 +83,7 @@ one_answer : (c : Certificate) (p q : ℕ) (r t : Reason) → IsAnswerOf c (No p
     IsAnswerOf c (No q t) → uncertified.Fails p r ≡ uncertified.Fails q t
 one_answer c p q r t h k = ⊎_elim
     (λ e. ap₂ (λ n x. uncertified.Fails n x) e
-    (same_place c q r t (subst (λ (n : ℕ). FailsAt c n r) e h.1) k.1))
+    (same_place c q r t (subst (λ (n : ℕ). FailsProc c n r) e h.1) k.1))
     (λ other. ⊎_elim
     (λ lt. absurd (fails_not_holds c p r h.1 (λ cert is. k.0 p cert lt is)))
     (λ lt. absurd (fails_not_holds c q t k.1 (λ cert is. h.0 q cert lt is))) other)
@@ -102,14 +102,14 @@ of_none : (file : List ℕ) (c : Certificate) → Reads file (Err fault.NotCerti
     IsTextOfCert file c → ⊥
 of_none file c none h = none.2 c h.1 (same_some _ _ _ none.1.1 h.0.1)
 
-one_failing : (file : List ℕ) (p q : ℕ) (r t : Reason) → FailsIn file p r → FailsIn file q t →
+one_failing : (file : List ℕ) (p q : ℕ) (r t : Reason) → FileFails file p r → FileFails file q t →
     uncertified.Fails p r ≡ uncertified.Fails q t
 one_failing file p q r t h k = one_answer h.certificate p q r t h.fails
     (subst (λ (c : Certificate). IsAnswerOf c (No q t))
     (same_certificate file k.certificate h.certificate k.read h.read) k.fails)
 
 held_not_failing : (file : List ℕ) (c : Certificate) (p : ℕ) (r : Reason) → IsHeld file c →
-    FailsIn file p r → ⊥
+    FileFails file p r → ⊥
 held_not_failing file c p r h k = yes_or_no c p r h.holds
     (subst (λ (x : Certificate). IsAnswerOf x (No p r))
     (same_certificate file k.certificate c k.read h.read) k.fails)

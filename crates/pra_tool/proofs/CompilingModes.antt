@@ -32,7 +32,7 @@ use Rattle.ob_interp.specs.declared.interpret.UnitEnding.{UnitEnding}
 use Rattle.ob_interp.specs.declared.interpret.UnitEnding.TheVariants as unit
 use Rattle.pra_tool.specs.Status.{IsDone, IsRefusal, IsEnding, IsStatusOf, status_of_units}
 use Rattle.pra_tool.specs.Outside.{Seen, Untouched}
-use Rattle.pra_tool.specs.Writes.{FileText, Writes, IsOther, AreDifferent, names, LeftOff}
+use Rattle.pra_tool.specs.Writes.{FileText, Writes, IsOther, NamesDiffer, names, LeftOff}
 use Rattle.pra_tool.specs.Writes.{image_file}
 use Rattle.pra_tool.proofs.Files.{one_file}
 use Rattle.pra_tool.specs.Modes.{IsKind, IsMode}
@@ -225,8 +225,8 @@ too_long file h = let x = longer 1048576 file h in (x.0, x.1, inl (x.2, refl))
 -- the one file that is written differs from all others
 pub different : (name : List ℕ) (image : Image) (files : List FileText) →
     files ≡ image_file name image →
-    AreDifferent files
-different name image files is = subst AreDifferent (sym is) (one_file _)
+    NamesDiffer files
+different name image files is = subst NamesDiffer (sym is) (one_file _)
 
 pub keeps_same : (o : Option (List ℕ)) → Keeps o o
 keeps_same o = search rules

@@ -10,7 +10,7 @@ use Rattle.pra_io.specs.Contents.{Becomes}
 use Rattle.pra_tool.specs.Outside.{FolderSeen, SameFiles, NoneFell}
 use Rattle.pra_io.specs.declared.files.FileFault.{FileFault}
 use Rattle.pra_io.specs.declared.files.FileFault.TheVariants.{Failed, TooLong, OutOfMemory}
-use Rattle.pra_tool.specs.Writes.{FileText, IsOther, AreDifferent, OthersStay, Hold, Stored}
+use Rattle.pra_tool.specs.Writes.{FileText, IsOther, NamesDiffer, OthersStay, Hold, Stored}
 use Rattle.pra_tool.specs.Writes.{FileFailed, FileLeft, FilesStopped}
 
 -- ---- names
@@ -98,10 +98,10 @@ module _ (files : List FileText) (i : ℕ) (f : FileText) (within : i < length f
       sym (take-append-drop i files) ∙ ap (λ l. take i files ++ l) (drop-cons files i f within) ∙
       ap (λ (x : FileText). take i files ++ x ∷ drop (suc i) files) (sym is)
 
-  new_name : AreDifferent files → IsOther f.name (take i files)
+  new_name : NamesDiffer files → IsOther f.name (take i files)
   new_name different = different (take i files) (drop (suc i) files) f order
 
-  module _ (a b c : FolderSeen) (different : AreDifferent files) (s : Stored (take i files) a b)
+  module _ (a b c : FolderSeen) (different : NamesDiffer files) (s : Stored (take i files) a b)
     where
       pub stored_next : ((name : List ℕ) → name ≢ f.name → c.file name ≡ b.file name) →
           Becomes (b.file f.name) (c.file f.name) f.bytes → Stored (take (i + 1) files) a c

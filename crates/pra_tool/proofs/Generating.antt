@@ -7,7 +7,7 @@ use Rattle.pra_gen.specs.Module.{module_text}
 use Rattle.pra_words.specs.Words.{Asked}
 use Rattle.pra_tool.specs.declared.status.Status.{Status}
 use Rattle.pra_tool.specs.Outside.{FolderSeen, Seen, Untouched}
-use Rattle.pra_tool.specs.Writes.{FileText, Writes, IsOther, AreDifferent, names, Stored, LeftOff}
+use Rattle.pra_tool.specs.Writes.{FileText, Writes, IsOther, NamesDiffer, names, Stored, LeftOff}
 use Rattle.pra_tool.specs.Modes.{IsMode}
 use Rattle.pra_tool.specs.Clause.{GenMakes, TextLeft, generating}
 use Rattle.pra_tool.proofs.CompilingModes.{sources_are_a_kind, inputs_are_a_kind, not_read, done_of}
@@ -43,7 +43,7 @@ name_at zero (f ∷ fs) = f.name
 name_at (suc n) (f ∷ fs) = name_at n fs
 
 -- files of two names are different
-pub two_differ : (f g : FileText) → g.name ≢ f.name → AreDifferent (f ∷ g ∷ [])
+pub two_differ : (f g : FileText) → g.name ≢ f.name → NamesDiffer (f ∷ g ∷ [])
 unfolding name_at
 two_differ f g apart [] after h e = tt
 two_differ f g apart (x ∷ []) after h e = (
@@ -54,9 +54,9 @@ two_differ f g apart (x ∷ y ∷ xs) after h e = absurd (no_third f g x y h xs 
 
 pub gen_differ : (name other text bytes : List ℕ) (files : List FileText) → other ≢ name →
     files ≡ record { name = name; bytes = text } ∷ record { name = other; bytes = bytes } ∷ [] →
-    AreDifferent files
+    NamesDiffer files
 gen_differ name other text bytes files apart is =
-    subst AreDifferent (sym is) (two_differ _ _ apart)
+    subst NamesDiffer (sym is) (two_differ _ _ apart)
 
 -- ---- where memory was wanting
 

@@ -12,7 +12,7 @@ use Rattle.std.specs.declared.option.Option.{Option}
 use Rattle.pra_tool.specs.declared.status.Status.{Status}
 use Rattle.pra_tool.specs.declared.status.Status.TheVariants.{Ended}
 use Rattle.pra_tool.specs.Outside.{Seen}
-use Rattle.pra_tool.specs.Writes.{FileText, Writes, AreDifferent, IsOther, names, text_alone, Wrote}
+use Rattle.pra_tool.specs.Writes.{FileText, Writes, NamesDiffer, IsOther, names, text_alone, Wrote}
 use Rattle.pra_tool.specs.Modes.{Answers}
 use Rattle.pra_tool.specs.Ends.{Ends}
 use Rattle.pra_tool.specs.Ends as ends
@@ -61,8 +61,8 @@ no_files before after f e = absurd (
     let none = ap length e in
     let count = length-append before (f ∷ after) in omega (arith, none, count))
 
-pub none_differ : (files : List FileText) → files ≡ [] → AreDifferent files
-none_differ files is = subst AreDifferent (sym is) no_files
+pub none_differ : (files : List FileText) → files ≡ [] → NamesDiffer files
+none_differ files is = subst NamesDiffer (sym is) no_files
 
 -- a file that is too long is refused for that
 pub too_long_image : (file : Option (Option (List ℕ))) → IsLonger file most_image →

@@ -12,7 +12,7 @@ use Rattle.pra_tool.specs.declared.status.Status.TheVariants.{NoMemory}
 use Rattle.pra_tool.specs.Status.{IsDone, IsRefusal}
 use Rattle.pra_tool.specs.Outside.{StreamSeen, Seen, SameFiles, Refused, Untouched}
 use Rattle.pra_tool.specs.Writes.{FileText, Writes, names, OthersStay, Hold, Stored, FileFailed}
-use Rattle.pra_tool.specs.Writes.{AllWritten, Stopped, LeftOff, Wrote, NoWriteFault}
+use Rattle.pra_tool.specs.Writes.{WroteAll, Stopped, LeftOff, Wrote, NoWriteFault}
 use Rattle.pra_tool.specs.Modes.{Mode, IsMode, IsInput, TellsInput, IsLeft, NoInputFault}
 use Rattle.pra_tool.specs.Modes.{source_told, IsDoneBy, SourceRight, MadeRefused, FileNotRead}
 use Rattle.pra_tool.specs.Modes.{Answers}
@@ -288,7 +288,7 @@ module _ (old mid new : Seen) (only : OnlyRead old mid) where
   stored_since files s =
       record { hold = hold_since files s.hold; others = others_since files s.others }
 
-  all_since : (w : Writes) → AllWritten w mid new → AllWritten w old new
+  all_since : (w : Writes) → WroteAll w mid new → WroteAll w old new
   all_since w a = record {
     files = stored_since w.files a.files;
     out = rw (sym only.out) a.out;
@@ -403,7 +403,7 @@ module _ (m : Mode) (mode : IsMode m) (file : List ℕ) (old mid new : Seen) (on
         mode.input.never_both input f (mode.right source input w s makes).1
         (subst (λ b. m.input.IsWrong b f) same h)
 
-    all_done : AllWritten w mid new → Answers m file old new s
+    all_done : WroteAll w mid new → Answers m file old new s
     all_done a = record {
       known = λ e. done_is_no_end s BadWords done e;
       performed = λ d. record { writes = w; made = made; written = all_since old mid new only w a };

@@ -7,7 +7,7 @@ use Rattle.pra_tool.specs.declared.status.Status.{Status}
 use Rattle.pra_tool.specs.declared.status.Status.TheVariants.{Fault, NoMemory}
 use Rattle.pra_tool.specs.Status.{IsDone}
 use Rattle.pra_tool.specs.Outside.{FolderSeen, Seen, NoneFell, Told}
-use Rattle.pra_tool.specs.Writes.{FileText, Writes, Stored, FilesStopped, stop_status, AllWritten}
+use Rattle.pra_tool.specs.Writes.{FileText, Writes, Stored, FilesStopped, stop_status, WroteAll}
 use Rattle.pra_tool.specs.Writes.{Stopped, LeftOff, Wrote}
 
 module _ (w : Writes) (s : Status) (done : IsDone s) (old new : Seen)
@@ -31,7 +31,7 @@ module _ (w : Writes) (s : Status) (done : IsDone s) (old new : Seen)
     counts = counts;
   })
 
-  pub all_end : AllWritten w old new → Wrote w s old new s
+  pub all_end : WroteAll w old new → Wrote w s old new s
   all_end a = record {
     known = inl refl;
     written = λ e. a;

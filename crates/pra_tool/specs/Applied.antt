@@ -104,7 +104,7 @@ pub record CarriesCert (w : Weights) (cert : Cert) (out : ProcOut) (r : Routed) 
 
 -- The same is kept of a procedure, but for the rounds and the prices: name, frame, code and routes,
 -- and the last cost and bound.
-pub record AreAlike (out other : ProcOut) : Type 0 where
+pub record AreSameButRounds (out other : ProcOut) : Type 0 where
   pub name : other.name ≡ out.name
   pub frame : other.frame ≡ out.frame
   pub code : other.code ≡ out.code

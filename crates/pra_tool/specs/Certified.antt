@@ -44,11 +44,9 @@ pub record CertifiesMade (cost : Word) (made : Made) (text : List ℕ) : Type 0 
       IsReadAgain certificate text
 
 -- The text is that of the certificate of what the source is compiled to, to which no reason
--- applies,
--- and reading it answers that certificate. So the image that the source is compiled to does what
--- that
--- means, and carries the certificate's codes and flows, with lines that end with its totals and
--- bounds; and no flow costs less than these bounds.
+-- applies, and reading it answers that certificate. So the image that the source is compiled to
+-- does what that means, and carries the certificate's codes and flows, with lines that end with its
+-- totals and bounds; and no flow costs less than these bounds.
 pub record IsCertified (asked : Asked) (source text : List ℕ) : Type 0 where
   pub made : Made
   pub made_of : MadeOf asked source made
@@ -86,7 +84,7 @@ IsTextOfCert file c = Reads file (Ok c)
 
 -- The file is the text of a certificate, of which this is the first procedure that fails, by this
 -- reason.
-pub record FailsIn (file : List ℕ) (p : ℕ) (r : Reason) : Type 0 where
+pub record FileFails (file : List ℕ) (p : ℕ) (r : Reason) : Type 0 where
   pub certificate : Certificate
   pub read : IsTextOfCert file certificate
   pub fails : IsAnswerOf certificate (No p r)
@@ -99,7 +97,7 @@ IsUncertified file uncertified.NotJson =
 IsUncertified file uncertified.NotCertificate =
     (length file ≤ most_certificate) × Reads file (Err fault.NotCertificate)
 IsUncertified file (uncertified.Fails p r) =
-    (length file ≤ most_certificate) × FailsIn file p r
+    (length file ≤ most_certificate) × FileFails file p r
 IsUncertified file uncertified.OutOfMemory = ⊥
 
 abbrev pub uncertified_status : Uncertified → Status
@@ -110,9 +108,8 @@ uncertified_status (uncertified.Fails p r) = BadSource
 uncertified_status uncertified.OutOfMemory = NoMemory
 
 -- The file is the text of a certificate to which no reason applies: the routes of each procedure
--- are
--- admitted in the network of its code and cost its total, and no admitted flow costs less than its
--- bound.
+-- are admitted in the network of its code and cost its total, and no admitted flow costs less than
+-- its bound.
 pub record IsHeld (file : List ℕ) (c : Certificate) : Type 0 where
   pub few : length file ≤ most_certificate
   pub read : IsTextOfCert file c

@@ -37,7 +37,7 @@ pub record StopsIn (file : List ℕ) (place : ℕ) : Type 0 where
   pub stops : StopsAt image.code place
 
 -- The file is that of a valid image, whose text has so many bytes, which are too many.
-pub record IsLong (file : List ℕ) (count : ℕ) : Type 0 where
+pub record IsTextLong (file : List ℕ) (count : ℕ) : Type 0 where
   pub text : List ℕ
   pub listed : IsListed file text
   pub count_is : count ≡ length text
@@ -49,7 +49,7 @@ IsUnlisted file unlisted.TooLong = most_image < length file
 IsUnlisted file (unlisted.Broken field place) =
     (length file ≤ most_image) × IsFault file (BadImage field place)
 IsUnlisted file (unlisted.Code place) = StopsIn file place
-IsUnlisted file (unlisted.LongText count) = IsLong file count
+IsUnlisted file (unlisted.LongText count) = IsTextLong file count
 IsUnlisted file unlisted.OutOfMemory = ⊥
 
 -- what is wrong with a file that is to run: it is none of an image

@@ -9,7 +9,7 @@ use Rattle.pra_tool.specs.declared.status.Status.{Status}
 use Rattle.pra_tool.specs.declared.status.Status.TheVariants.{Fault, BadWords, NoMemory}
 use Rattle.pra_tool.specs.Status.{IsDone, IsRefusal}
 use Rattle.pra_tool.specs.Outside.{StreamSeen, Seen, Refused}
-use Rattle.pra_tool.specs.Writes.{Writes, names, AllWritten, Stopped, NoWriteFault}
+use Rattle.pra_tool.specs.Writes.{Writes, names, WroteAll, Stopped, NoWriteFault}
 
 -- What may be wrong with a text, when it is, the line that tells it, and its status; and when
 -- nothing is.
@@ -112,7 +112,7 @@ pub record IsDoneBy (m : Mode) (file : List ℕ) (old new : Seen) (w : Writes) (
 pub record Performed (m : Mode) (file : List ℕ) (old new : Seen) (status : Status) : Type 0 where
   pub writes : Writes
   pub made : IsDoneBy m file old new writes status
-  pub written : AllWritten writes old new
+  pub written : WroteAll writes old new
 
 -- Writing what was made stopped, and what is before that stands whole.
 pub record NotWritten (m : Mode) (file : List ℕ) (old new : Seen) : Type 0 where
@@ -154,8 +154,7 @@ pub record InputRefused (m : Mode) (file : List ℕ) (old new : Seen) (status : 
   pub refused : TextRefused m.input input old new status
 
 -- Nothing is wrong with the source and the input, which were read whole, and what is made of them
--- is
--- refused.
+-- is refused.
 pub record MadeRefused (m : Mode) (file : List ℕ) (old new : Seen) (status : Status)
     : Type 0 where
   pub source : List ℕ

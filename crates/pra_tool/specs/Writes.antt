@@ -46,8 +46,8 @@ IsOther name [] = ⊤
 IsOther name (f ∷ fs) = (name ≢ f.name) × IsOther name fs
 
 -- no two files have one name
-abbrev pub AreDifferent : List FileText → Type 0
-AreDifferent files = (before after : List FileText) (f : FileText) →
+abbrev pub NamesDiffer : List FileText → Type 0
+NamesDiffer files = (before after : List FileText) (f : FileText) →
     files ≡ before ++ f ∷ after → IsOther f.name before
 
 -- no name but the files' changed
@@ -99,7 +99,7 @@ stop_status OutOfMemory = NoMemory
 -- ---- all that a call writes
 
 -- all was written
-pub record AllWritten (w : Writes) (old new : Seen) : Type 0 where
+pub record WroteAll (w : Writes) (old new : Seen) : Type 0 where
   pub files : Stored w.files old.folder new.folder
   pub out : Appends old.out.bytes new.out.bytes w.out
   pub notes : Appends old.notes.bytes new.notes.bytes w.notes
@@ -140,7 +140,7 @@ pub record LeftOff (w : Writes) (old new : Seen) : Type 0 where
 -- What is left by writing all this, where all is well to end with the status.
 pub record Wrote (w : Writes) (status : Status) (old new : Seen) (result : Status) : Type 0 where
   pub known : (result ≡ status) ⊎ (result ≡ Fault) ⊎ (result ≡ NoMemory)
-  pub written : result ≡ status → AllWritten w old new
+  pub written : result ≡ status → WroteAll w old new
   pub stopped : result ≡ Fault → Stopped w old new
   pub left_off : result ≡ NoMemory → LeftOff w old new
   pub counts : NoneFell old.folder new.folder

@@ -1,7 +1,7 @@
 // From the bytes of a source to its image.
 
 ghost use Rattle.std.specs.Prelude.{◌≡◌, ◌≢◌, ◌≤◌, length, IfOk, IfErr};
-ghost use Rattle.al_round.specs.Watches.{Keeps as IsWatch, gap_of, verdict_of};
+ghost use Rattle.al_round.specs.Watches.{IsWatch, gap_of, verdict_of};
 ghost use Rattle.net_cost.specs.Models.{Keeps, weights_of};
 ghost use Rattle.ob_read.specs.Source.{IsUnreadable};
 ghost use Rattle.ob_syntax.specs.Source.{most_bytes};

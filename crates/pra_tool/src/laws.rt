@@ -18,7 +18,7 @@ ghost use Rattle.pra_tool.specs.Writes.{Writes, one_file};
 ghost use Rattle.pra_tool.specs.Modes.{IsMode};
 ghost use Rattle.pra_tool.specs.Compiling.{MadeOf};
 ghost use Rattle.pra_report.specs.Report.{procedure_lines, report_text};
-ghost use Rattle.pra_tool.specs.Applied.{ApplyMakes, CarriesCert, AreAlike};
+ghost use Rattle.pra_tool.specs.Applied.{ApplyMakes, CarriesCert, AreSameButRounds};
 ghost use Rattle.pra_tool.specs.Certified.{CertMakes};
 ghost use Rattle.pra_tool.specs.Executed.{ExecMakes};
 ghost use Rattle.vc_stmt.specs.Completes.{are_words};
@@ -115,7 +115,7 @@ pub fn apply_repeats_cert()
         (a b : ProcOut) → (cert : CertMakes asked source [] v s) →
         (applied : ApplyMakes other source v.out w t) →
         slice_get cert.certified.made.compiled.procs p ≡ Some a →
-        slice_get applied.compiled.procs p ≡ Some b → AreAlike a b }
+        slice_get applied.compiled.procs p ≡ Some b → AreSameButRounds a b }
 {}
 
 /// Of what `list` printed of a file, `asm` writes that file again, to the byte; and of a file that

@@ -7,7 +7,7 @@ ghost use Rattle.pra_words.specs.Written.{asked_by};
 ghost use Rattle.pra_tool.specs.Status.{IsDone, IsStatusOf, status_of_machine, status_of_units};
 ghost use Rattle.pra_tool.specs.Outside.{StreamSeen, Seen, folder_seen, stream_seen, seen};
 ghost use Rattle.pra_tool.specs.Outside.{NoneFell, Told};
-ghost use Rattle.pra_tool.specs.Writes.{AreDifferent, FilesWritten, Wrote, stop_status};
+ghost use Rattle.pra_tool.specs.Writes.{NamesDiffer, FilesWritten, Wrote, stop_status};
 ghost use Rattle.pra_tool.specs.Writes.{image_file, text_alone};
 ghost use Rattle.pra_tool.specs.Reports.{file_text, writes_of};
 ghost use Rattle.pra_tool.specs.Clause.{run_of, run_writes, compile_writes};
@@ -348,7 +348,7 @@ fn write_files<D: Folder>(
     files: &[NamedFile],
     folder: &mut D,
 ) -> Result<(), FileFault>
-    requires { AreDifferent (map file_text files.now) }
+    requires { NamesDiffer (map file_text files.now) }
     ensures written { FilesWritten (map file_text files.now) result
         (folder_seen D.file D.read_faults D.write_faults folder.old)
         (folder_seen D.file D.read_faults D.write_faults folder.new) }
@@ -373,7 +373,7 @@ pub(crate) fn write_report<D: Folder, O: Sink, N: Sink>(
     notes: &mut N,
 ) -> Status
     requires done { IsDone report.now.status }
-    requires different { AreDifferent (map file_text report.now.files.items) }
+    requires different { NamesDiffer (map file_text report.now.files.items) }
     ensures { (input_old input_new : StreamSeen) →
         let old : Seen = seen (folder_seen D.file D.read_faults D.write_faults folder.old)
         input_old (stream_seen O.bytes O.faults out.old) (stream_seen N.bytes N.faults notes.old) in

@@ -75,9 +75,9 @@ cost_word word =
     else (if bytes_eq word (codes "speed") then Some a_cost.Speed else None)
 
 -- that, or its size where the words don't say
-abbrev pub cost_of : Option (List ℕ) → Option CostWord
-cost_of None = Some a_cost.Size
-cost_of (Some word) = cost_word word
+abbrev pub cost_word_of : Option (List ℕ) → Option CostWord
+cost_word_of None = Some a_cost.Size
+cost_word_of (Some word) = cost_word word
 
 -- the name of the image's file where the words don't say
 abbrev pub default_image : List ℕ
@@ -115,7 +115,7 @@ values_of line = do
   mode ← ok_or (mode_of line.mode) (Value a_word.Mode)
   file ← ok_or (file_of line.file) (Value a_word.File)
   rounds ← ok_or (value_of 10 0 1000 line.rounds) (Value a_word.Rounds)
-  cost ← ok_or (cost_of line.cost) (Value a_word.Cost)
+  cost ← ok_or (cost_word_of line.cost) (Value a_word.Cost)
   steps ← ok_or (value_of 10000000 0 200000000 line.steps) (Value a_word.Steps)
   gap ← ok_or (value_of 0 0 4294967295 line.gap) (Value a_word.Gap)
   image ← ok_or (image_of mode file line.image) (Value a_word.Image)

@@ -4,7 +4,7 @@ ghost use Rattle.std.specs.Prelude.{◌≡◌, ◌≢◌, Ok, Err, MatchResult, 
 ghost use Rattle.std.specs.Option.{ok_or};
 ghost use Rattle.std.specs.Str.{all_ascii_digits};
 ghost use Rattle.pra_words.specs.Words.{texts, mode_of, file_of, is_number, number_within};
-ghost use Rattle.pra_words.specs.Words.{value_of, cost_word, cost_of, image_of};
+ghost use Rattle.pra_words.specs.Words.{value_of, cost_word, cost_word_of, image_of};
 ghost use Rattle.pra_words.specs.Texts.{word_name};
 ghost use Rattle.pra_words.specs.Words.{writes_image, is_image, values_of, asked_of};
 ghost use Rattle.pra_words.specs.Written.{asked_by, text_in, written};
@@ -277,7 +277,7 @@ fn file_of(word: &str) -> Option<&str>
 }
 
 fn cost_of(word: Option<&str>) -> Option<CostWord>
-    ensures { result ≡ cost_of (text_in word.entry) }
+    ensures { result ≡ cost_word_of (text_in word.entry) }
 {
     match word {
         Some(word) => cost_word(word),

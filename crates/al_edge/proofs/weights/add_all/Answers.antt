@@ -3,7 +3,7 @@ use Rattle.std.proofs.Common.{to_z, of_z, arith}
 use Rattle.std.specs.Int.{w128}
 use Rattle.std.proofs.lemmas.Int.{ints, to_z-of_z}
 use Rattle.pra_list.proofs.Growing.{stored}
-use Rattle.al_edge.specs.Totals.{IsAdded, number_at}
+use Rattle.al_edge.specs.Totals.{IsCostAdded, number_at}
 use Rattle.al_edge.proofs.weights.add_all.Goals as goal
 
 pub loop-number-preserved : goal.loop-number-preserved
@@ -18,13 +18,13 @@ loop-number-preserved c =
     let more = c.add.ensures.more in
     let low = c.add.ensures.low in
     let high = c.add.ensures.high in
-    let here : IsAdded (number_at first k) (number_at costs k) c.add.result = record {
+    let here : IsCostAdded (number_at first k) (number_at costs k) c.add.result = record {
       sum = omega (arith, ints, same, more);
       low = omega (arith, ints, same, low);
       high = omega (arith, ints, same, high);
     } in record {
       long = omega (arith, length-set {A = ℤ}, c.loop-number.invariant.long);
-      added = rw whole (stored (λ j z. IsAdded (number_at first j) (number_at costs j) z) totals
+      added = rw whole (stored (λ j z. IsCostAdded (number_at first j) (number_at costs j) z) totals
           k c.add.result (pos 0) (omega (arith, c.loop-number.invariant.long))
           c.loop-number.invariant.added here);
       left = λ j le. get_or-set_other totals k j _ (pos 0) (omega arith)

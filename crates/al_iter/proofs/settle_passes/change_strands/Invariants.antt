@@ -4,12 +4,12 @@ use Rattle.net_form.specs.Cost.{cost_of}
 use Rattle.net_form.specs.Flow.{flow}
 use Rattle.net_path.specs.Desk.{IsReservedFor}
 use Rattle.al_laws.specs.Settled.{NoneCheaper}
-use Rattle.al_iter.specs.SettleState.{IsKept}
+use Rattle.al_iter.specs.SettleState.{AreMarkedRoutes}
 use Rattle.al_iter.proofs.settle_passes.change_strands.Given as goal
 
 abbrev pub invariant-loop-strand : goal.invariant-loop-strand
 invariant-loop-strand g l = record {
-  state : IsKept l.net l.spare l.routes;
+  state : AreMarkedRoutes l.net l.spare l.routes;
   most : cost_of l.net (weights_of l.model) (flow l.net l.routes)
       ≤ cost_of l.net (weights_of l.model) (flow l.net l.initial.routes);
   lower : IsTrue l.changed → cost_of l.net (weights_of l.model) (flow l.net l.routes)

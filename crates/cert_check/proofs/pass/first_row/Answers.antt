@@ -3,7 +3,7 @@ use Rattle.pra_list.proofs.Growing.{stored}
 use Rattle.pra_base.specs.Places.{place_at}
 use Rattle.net_cost.specs.Models.{weights_of}
 use Rattle.net_dual.specs.Priced.{edge_price}
-use Rattle.cert_check.specs.Tolls.{way_price}
+use Rattle.cert_check.specs.Tolls.{way_toll}
 use Rattle.cert_check.specs.Pass.{IsReached, paid}
 use Rattle.cert_check.proofs.Rows.{first_paid_at, row_of}
 use Rattle.cert_check.proofs.pass.first_row.Goals as goal
@@ -19,8 +19,8 @@ loop-at-preserved g c =
     let inv = c.loop-at.invariant in
     let long = inv.long in
     let is : c.begin.result ≡ paid net w prices s l (place_at at)
-    (Some (way_price net w s l None (place_at at)))
-    = c.begin.ensures ∙ ap (λ p. paid net w prices s l p (Some (way_price net w s l None p)))
+    (Some (way_toll net w s l None (place_at at)))
+    = c.begin.ensures ∙ ap (λ p. paid net w prices s l p (Some (way_toll net w s l None p)))
     c.place_at.ensures in record {
       long = length-set c.loop-at.row at c.begin.result ∙ inv.long;
       each = stored (λ k o. IsReached net (edge_price net w prices) s l (place_at k) o)

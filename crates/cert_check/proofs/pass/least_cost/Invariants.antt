@@ -4,7 +4,7 @@ use Rattle.net_cost.specs.Models.{weights_of}
 use Rattle.net_form.specs.Admitted.{strand_at}
 use Rattle.net_dual.specs.Priced.{edge_price}
 use Rattle.cert_check.specs.Tolls.{IsSpot}
-use Rattle.cert_check.specs.Pass.{IsRow}
+use Rattle.cert_check.specs.Pass.{IsPassRow}
 use Rattle.cert_check.proofs.pass.least_cost.Given as goal
 
 abbrev pub invariant-loop-spot : goal.invariant-loop-spot
@@ -13,7 +13,7 @@ invariant-loop-spot g l = record {
   strand : l.spot.strand ≡ l.strand;
   spot : IsSpot l.net l.spot;
   long : length l.row ≡ place_count;
-  is_row : IsRow l.net (edge_price l.net (weights_of l.model) l.tolls.prices) l.spot.strand
+  is_row : IsPassRow l.net (edge_price l.net (weights_of l.model) l.tolls.prices) l.spot.strand
       l.spot.layer l.row;
 }
 

@@ -8,7 +8,7 @@ use Rattle.net_form.specs.Admitted.{stays_across}
 use Rattle.net_dual.specs.Small.{most_sum}
 use Rattle.net_dual.specs.Leasts.{cost_at}
 use Rattle.net_dual.proofs.Leasts.{within_of, same_bits}
-use Rattle.cert_check.specs.Tolls.{edge, way_price}
+use Rattle.cert_check.specs.Tolls.{edge, way_toll}
 use Rattle.cert_check.proofs.Guarded.{guarded_is}
 use Rattle.cert_check.proofs.Crossing.{stays_same, stays_odd}
 use Rattle.cert_check.proofs.pass.via.Goals.{else-spot-eq0-via-then-spot-eq0+else-number}
@@ -40,11 +40,11 @@ returns-clause-value g c =
     let way = c.in_units.ensures in
     let is = c.way_cost-way.ensures.value in
     let sum = c.add.ensures in
-    let whole : c.add.result ≡ cost +ℤ way_price net w s l (Some from) to
+    let whole : c.add.result ≡ cost +ℤ way_toll net w s l (Some from) to
     = omega (arith, ints, sum, exact_cost, exact_way, way, is) in
     rw (to_z-of_z w128 c.add.result (record { sfits = c.add.type_inv }))
     (ap Some whole ∙ sym (guarded_is (stays_across (edge s l (Some from) to))
-    (λ d. d +ℤ way_price net w s l (Some from) to) (cost_at row (number from)) cost stays at))
+    (λ d. d +ℤ way_toll net w s l (Some from) to) (cost_at row (number from)) cost stays at))
 
 pub returns-clause-within : goal.returns-clause-within
 returns-clause-within g c =

@@ -1,7 +1,7 @@
 use Rattle.std.proofs.Common.{◌≡◌, ◌+◌, ◌*◌, ◌<◌, ◌^◌, ◌++◌, ◌∙◌, ℤ, pos, List, length, get_or}
 use Rattle.std.proofs.Common.{take, drop, ap, sym, subst, arith}
 use Rattle.net_dual.specs.Small.{IsWithin}
-use Rattle.cert_check.specs.Tolls.{HasAdded, strand_of}
+use Rattle.cert_check.specs.Tolls.{HasAdded, tied_strand}
 use Rattle.cert_check.proofs.TieSums.{ties_more}
 use Rattle.cert_check.proofs.Written.{written_back}
 use Rattle.cert_check.proofs.ties.ties_sums.Goals as goal
@@ -23,8 +23,8 @@ loop-tie-preserved c =
     let whole : take c.loop-tie.sums.len (new ++ drop (length new) old) ≡ new
     = written_back c.loop-tie.sums.len new old many
     (ap length (sym value) ∙ c.deref_mut.ensures.len) in
-    let added : HasAdded old prices.ties (strand_of end t) n 13 new
-    = subst (λ (xs : List ℤ). HasAdded old xs (strand_of end t) n 13 new) c.as_slice.ensures
+    let added : HasAdded old prices.ties (tied_strand end t) n 13 new
+    = subst (λ (xs : List ℤ). HasAdded old xs (tied_strand end t) n 13 new) c.as_slice.ensures
     (subst (λ k. HasAdded old c.as_slice.result.now k n 13 new) c.strand_of-strand.ensures
     (subst (λ (xs : List ℤ). HasAdded xs c.as_slice.result.now c.strand_of-strand.result n 13 new)
     value c.add_tie.ensures.added)) in record {

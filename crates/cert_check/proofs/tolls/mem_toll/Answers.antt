@@ -1,6 +1,6 @@
 use Rattle.std.proofs.Common.{◌∙◌, ap, sym}
 use Rattle.net_dual.specs.Priced.{pay}
-use Rattle.cert_check.specs.Tolls.{ends_sum}
+use Rattle.cert_check.specs.Tolls.{mems_sum}
 use Rattle.cert_check.proofs.TollParts.{mem_part_is}
 use Rattle.cert_check.proofs.tolls.mem_toll.Goals as goal
 
@@ -11,7 +11,7 @@ returns-then-not-is_mem-clause-value c =
     let s = c.args.spot.strand in
     let l = c.args.spot.layer in
     sym (mem_part_is net prices s l c.args.place
-    ∙ ap (λ b. pay b (ends_sum net.pairs prices s l)) (sym c.is_mem.ensures ∙ c.if-not-is_mem.true))
+    ∙ ap (λ b. pay b (mems_sum net.pairs prices s l)) (sym c.is_mem.ensures ∙ c.if-not-is_mem.true))
 
 pub returns-clause-value : goal.returns-clause-value
 returns-clause-value c =
@@ -21,5 +21,5 @@ returns-clause-value c =
     let l = c.args.spot.layer in
     c.end_prices.ensures.value
     ∙ sym (mem_part_is net prices s l c.args.place
-    ∙ ap (λ b. pay b (ends_sum net.pairs prices s l))
+    ∙ ap (λ b. pay b (mems_sum net.pairs prices s l))
     (sym c.is_mem.ensures ∙ c.if-not-is_mem.false))

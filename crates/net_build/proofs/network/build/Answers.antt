@@ -18,7 +18,7 @@ use Rattle.net_form.specs.Strands.{Lives}
 use Rattle.net_build.specs.declared.lists.Lists.{Lists}
 use Rattle.net_build.specs.declared.groups.Groups.{Groups}
 use Rattle.net_build.specs.Lists.{AreLists}
-use Rattle.net_build.specs.Grouped.{AreGroups, AreNumbered, grouped_in}
+use Rattle.net_build.specs.Grouped.{AreGroups, AreGroupNumbers, grouped_in}
 use Rattle.net_build.specs.Labels.{parent, IsBelow}
 use Rattle.net_build.specs.Owners.{ArePairs}
 use Rattle.net_build.proofs.Indexing.{with_groups, as_many, still_of, still_pairs}
@@ -29,7 +29,7 @@ use Rattle.net_build.proofs.network.build.Goals as goal
 
 -- the strands with their groups
 found_are : (code : VProc) (live : Lives) (l : Lists) (g : Groups) (ends : ℕ) (made : List Strand) →
-    AreLists code live l → AreGroups l.ties ends g → AreNumbered g
+    AreLists code live l → AreGroups l.ties ends g → AreGroupNumbers g
     → made ≡ map (grouped_in g) (enumerate_from 0 l.strands)
     → made ≡ with_groups (ties code (strands all_tables code live)) (parent g.least)
     (strands all_tables code live)

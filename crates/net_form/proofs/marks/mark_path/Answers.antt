@@ -5,7 +5,7 @@ use Rattle.net_form.specs.declared.net.Strand.{Strand}
 use Rattle.pra_base.specs.declared.ids.Place.TheVariants.{Eax}
 use Rattle.net_form.specs.Admitted.{strand_at, no_strand}
 use Rattle.net_form.specs.Index.{first_layer}
-use Rattle.net_form.specs.InUse.{mark, comes_to, after}
+use Rattle.net_form.specs.InUse.{mark, lands_in, after}
 use Rattle.net_form.proofs.Marking.{after-none, after-twice, mark-small}
 use Rattle.net_form.proofs.PathUses.{uses, uses_step, uses_none}
 use Rattle.net_form.proofs.marks.mark_path.Goals as goal
@@ -47,10 +47,10 @@ loop-rest-preserved c =
     let rest = c.loop-rest.rest.now in
     let others = take (length rest - 1) (drop 1 rest) in
     let step : (n r : ℕ) → uses net n r s (layer - base) None rest ≡
-    comes_to layer (get_or rest 0 Eax) n r + uses net n r s (layer + 1 - base) None others =
+    lands_in layer (get_or rest 0 Eax) n r + uses net n r s (layer + 1 - base) None others =
     λ n r. uses_step net n r s (layer - base) layer rest Eax c.in-len1-up.len_at_least
     (omega (arith, c.loop-rest.invariant.begun))
-    ∙ ap (λ (k : ℕ). comes_to layer (get_or rest 0 Eax) n r + uses net n r s k None others)
+    ∙ ap (λ (k : ℕ). lands_in layer (get_or rest 0 Eax) n r + uses net n r s k None others)
     (let e : layer - base + 1 ≡ layer + 1 - base = omega (arith, c.loop-rest.invariant.begun) in e)
     in
     record {
@@ -65,7 +65,7 @@ loop-rest-preserved c =
           let m : ℕ = mark c.args.regs.now n r in
           let done : ℕ = uses net n r s first None c.args.path.now - uses net n r s (layer - base)
           None rest in
-          let more : ℕ = comes_to layer (get_or rest 0 Eax) n r in
+          let more : ℕ = lands_in layer (get_or rest 0 Eax) n r in
           let sum : done + more ≡ uses net n r s first None c.args.path.now - uses net n r s
           (layer + 1 - base) None others = omega (arith, now, was) in
           c.mark_place.ensures.marks n r

@@ -2,7 +2,7 @@ use Rattle.std.proofs.Common.{ℕ, ◌≡◌, ◌≢◌, ◌==◌, ◌+◌, ◌�
 use Rattle.std.specs.Prelude.{option_map}
 use Rattle.std.proofs.lemmas.Bool.{eqb-true, eqb-false}
 use Rattle.pra_base.specs.Places.{number, register_of}
-use Rattle.net_form.specs.InUse.{mark, comes_to}
+use Rattle.net_form.specs.InUse.{mark, lands_in}
 use Rattle.net_gate.specs.InUse.{numbers, IsEarlier}
 use Rattle.net_form.proofs.Marking.{comes_nowhere, comes_here, comes_elsewhere}
 use Rattle.net_gate.proofs.Occupied.{stands_same, first_more, marks_again, first_again}
@@ -10,7 +10,7 @@ use Rattle.net_gate.proofs.bundles.come_to.Goals as goal
 
 pub returns-then-not-has_register-clause-stands : goal.returns-then-not-has_register-clause-stands
 returns-then-not-has_register-clause-stands c = λ uses stands.
-    stands_same uses (λ n r. uses n r + comes_to c.args.layer c.args.to n r) c.args.taken.now.regs
+    stands_same uses (λ n r. uses n r + lands_in c.args.layer c.args.to n r) c.args.taken.now.regs
     c.args.clash
     (λ n r. let none = comes_nowhere c.args.layer c.args.to
     (sym c.has_register.ensures ∙ c.if-not-has_register.true) n r in omega (arith, none)) stands
@@ -29,9 +29,9 @@ returns-then-uses_register-clause-stands c = λ uses stands.
     (numbers c.earlier.result)) c.alone.ensures c.earlier.ensures in
     let marks = stands.marks n r in
     record {
-      marks = marks_again uses (comes_to n c.args.to) n r here elsewhere c.args.taken.now.regs
+      marks = marks_again uses (lands_in n c.args.to) n r here elsewhere c.args.taken.now.regs
           stands.marks used;
-      first = first_again uses (comes_to n c.args.to) n r here elsewhere
+      first = first_again uses (lands_in n c.args.to) n r here elsewhere
           (option_map numbers c.args.clash) (numbers c.earlier.result) (omega (arith, marks, used))
           earlier stands.first;
     }
@@ -50,6 +50,6 @@ returns-clause-stands c = λ uses stands.
     record {
       marks = λ m q. let old = stands.marks m q in let new = c.take_place.ensures.marks m q in
           omega (arith, old, new);
-      first = first_more uses (comes_to n c.args.to) n r here elsewhere
+      first = first_more uses (lands_in n c.args.to) n r here elsewhere
           (option_map numbers c.args.clash) (omega (arith, marks, free)) stands.first;
     }

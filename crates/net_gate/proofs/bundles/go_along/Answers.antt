@@ -2,7 +2,7 @@ use Rattle.std.proofs.Common.{ℕ, ◌≡◌, ◌+◌, ◌-◌, ◌∙◌, lengt
 use Rattle.pra_base.specs.declared.ids.Place.TheVariants.{Eax}
 use Rattle.net_form.specs.Admitted.{strand_at}
 use Rattle.net_form.specs.Index.{first_layer}
-use Rattle.net_form.specs.InUse.{comes_to}
+use Rattle.net_form.specs.InUse.{lands_in}
 use Rattle.net_form.proofs.PathUses.{uses, uses_step, uses_none}
 use Rattle.net_gate.proofs.Occupied.{stands_same}
 use Rattle.net_gate.proofs.bundles.go_along.Goals as goal
@@ -17,10 +17,10 @@ loop-rest-preserved c =
     let rest = c.loop-rest.rest.now in
     let others = take (length rest - 1) (drop 1 rest) in
     let step : (n r : ℕ) → uses net n r s (layer - base) None rest ≡
-    comes_to layer (get_or rest 0 Eax) n r + uses net n r s (layer + 1 - base) None others =
+    lands_in layer (get_or rest 0 Eax) n r + uses net n r s (layer + 1 - base) None others =
     λ n r. uses_step net n r s (layer - base) layer rest Eax c.in-len1-up.len_at_least
     (omega (arith, c.loop-rest.invariant.after))
-    ∙ ap (λ (k : ℕ). comes_to layer (get_or rest 0 Eax) n r + uses net n r s k None others)
+    ∙ ap (λ (k : ℕ). lands_in layer (get_or rest 0 Eax) n r + uses net n r s k None others)
     (let e : layer - base + 1 ≡ layer + 1 - base = omega (arith, c.loop-rest.invariant.after) in e)
     in
     record {
@@ -32,7 +32,7 @@ loop-rest-preserved c =
           omega (arith, now, was);
       stands = λ d stood.
           stands_same (λ n r. d n r + (uses net n r s first None c.args.path.now - uses net n r s
-          (layer - base) None rest) + comes_to layer (get_or rest 0 Eax) n r)
+          (layer - base) None rest) + lands_in layer (get_or rest 0 Eax) n r)
           (λ n r. d n r + (uses net n r s first None c.args.path.now - uses net n r s
           (layer + 1 - base) None others)) c.come_to-clash.new.taken.regs c.come_to-clash.result
           (λ n r. let now = step n r in let was = c.loop-rest.invariant.bound n r in

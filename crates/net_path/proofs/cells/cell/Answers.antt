@@ -1,7 +1,7 @@
 use Rattle.std.proofs.Common.{◌≡◌, Bool, ◌+ℤ◌, w64, to_z, of_z, sym, subst, ◌∙◌, inr, arith}
 use Rattle.std.proofs.lemmas.Int.{ints}
 use Rattle.pra_base.specs.Places.{number}
-use Rattle.net_path.specs.Cells.{cap_of}
+use Rattle.net_path.specs.Cells.{price_in}
 use Rattle.net_path.specs.Rows.{IsCell}
 use Rattle.net_path.proofs.cells.cell.Goals as goal
 
@@ -9,7 +9,7 @@ pub returns-then-allows : goal.returns-then-allows
 returns-then-allows c =
     let z = to_z w64 (of_z w64 (to_z w64 (of_z w64 c.args.extras)
     +ℤ to_z w64 (of_z w64 c.cap_price.result))) in
-    let cap = cap_of c.args.caps.now (number c.args.place) in
+    let cap = price_in c.args.caps.now (number c.args.place) in
     let value = c.cap_price.ensures.value in
     let about = c.cap_price.ensures.about in
     let is : z ≡ c.args.extras +ℤ cap = omega (arith, ints, c.requires.extras, about, value) in

@@ -1,5 +1,5 @@
 use Rattle.std.proofs.Common.{ℕ, ◌≡◌, ◌+◌, ◌∙◌, ℤ, sym, subst, refl, arith}
-use Rattle.net_path.specs.Ways.{at, step_of}
+use Rattle.net_path.specs.Ways.{at, step_by}
 use Rattle.net_path.specs.Rows.{IsCellWithin, IsPaidOver}
 use Rattle.net_path.proofs.Placed.{HavePaid, paid_two, paid_all, over}
 use Rattle.net_path.proofs.Steps.{step_short}
@@ -31,7 +31,7 @@ pay-requires-clause-cell g c =
 
 pub pay-requires-clause-rest : goal.pay-requires-clause-rest
 pay-requires-clause-rest g c =
-    least_is_debt (step_of c.args.steps.now) (step_short c.args.steps.now c.requires.steps)
+    least_is_debt (step_by c.args.steps.now) (step_short c.args.steps.now c.requires.steps)
     c.args.behind.now.costs c.loop-r.r
     c.debt_alone.result.cost c.requires.behind (omega (arith, c.loop-r-test.true))
     c.debt_alone.ensures
@@ -51,7 +51,7 @@ pay-requires-in-loop-r-clause-cell g c =
 
 pub pay-requires-in-loop-r-clause-rest : goal.pay-requires-in-loop-r-clause-rest
 pay-requires-in-loop-r-clause-rest g c =
-    least_is_debt (step_of c.args.steps.now) (step_short c.args.steps.now c.requires.steps)
+    least_is_debt (step_by c.args.steps.now) (step_short c.args.steps.now c.requires.steps)
     c.args.behind.now.costs (8 + c.loop-r.r)
     c.debt_in_both.result.cost c.requires.behind (omega (arith, c.loop-r-test.true))
     c.debt_in_both.ensures
@@ -64,15 +64,15 @@ loop-r-preserved g c =
     let old = c.loop-r.cells.costs in
     let mid = c.pay.new.cells.costs in
     let new = c.pay-in-loop-r.new.cells.costs in
-    let P = λ (p : ℕ). IsPaidOver (step_of steps p) behind in
+    let P = λ (p : ℕ). IsPaidOver (step_by steps p) behind in
     paid_two P c.args.cells.now.costs r c.loop-r-test.true old mid new
     c.debt_alone.result.cost c.debt_in_both.result.cost c.loop-r.invariant
     c.pay.ensures c.pay-in-loop-r.ensures
     (subst (P r (at old r)) (sym (c.pay-in-loop-r.ensures.others r (omega arith)))
-    (over (step_of steps r) behind (at old r) c.debt_alone.result.cost (at mid r)
+    (over (step_by steps r) behind (at old r) c.debt_alone.result.cost (at mid r)
     c.debt_alone.ensures c.pay.ensures.here))
     (subst (λ (z : ℤ). P (8 + r) z (at new (8 + r))) (c.pay.ensures.others (8 + r) (omega arith))
-    (over (step_of steps (8 + r)) behind (at mid (8 + r)) c.debt_in_both.result.cost
+    (over (step_by steps (8 + r)) behind (at mid (8 + r)) c.debt_in_both.result.cost
     (at new (8 + r)) c.debt_in_both.ensures c.pay-in-loop-r.ensures.here))
 
 pub pay-requires-2-clause-cell : goal.pay-requires-2-clause-cell
@@ -81,7 +81,7 @@ pay-requires-2-clause-cell g c =
 
 pub pay-requires-2-clause-rest : goal.pay-requires-2-clause-rest
 pay-requires-2-clause-rest g c =
-    least_is_debt (step_of c.args.steps.now) (step_short c.args.steps.now c.requires.steps)
+    least_is_debt (step_by c.args.steps.now) (step_short c.args.steps.now c.requires.steps)
     c.args.behind.now.costs 6
     c.debt_in_memory.result.cost c.requires.behind (omega arith)
     (c.debt_in_memory.ensures c.args.behind.now.costs c.bests_of-bests.ensures.are)
@@ -93,7 +93,7 @@ pay-requires-3-clause-cell g c =
 
 pub pay-requires-3-clause-rest : goal.pay-requires-3-clause-rest
 pay-requires-3-clause-rest g c =
-    least_is_debt (step_of c.args.steps.now) (step_short c.args.steps.now c.requires.steps)
+    least_is_debt (step_by c.args.steps.now) (step_short c.args.steps.now c.requires.steps)
     c.args.behind.now.costs 7
     c.debt_nowhere.result.cost c.requires.behind (omega arith)
     (c.debt_nowhere.ensures c.args.behind.now.costs c.bests_of-bests.ensures.are)
@@ -105,15 +105,15 @@ returns g c =
     let old = c.loop-r.cells.costs in
     let mid = c.pay-2.new.cells.costs in
     let new = c.pay-3.new.cells.costs in
-    let P = λ (p : ℕ). IsPaidOver (step_of steps p) behind in
+    let P = λ (p : ℕ). IsPaidOver (step_by steps p) behind in
     let end : c.loop-r.r ≡ 6 = omega arith in
     let have : HavePaid P c.args.cells.now.costs 6 old = rw end at c.loop-r.invariant in
     let are = c.bests_of-bests.ensures.are in
     paid_all P c.args.cells.now.costs old mid new c.debt_in_memory.result.cost
     c.debt_nowhere.result.cost have c.pay-2.ensures c.pay-3.ensures
     (subst (P 6 (at old 6)) (sym (c.pay-3.ensures.others 6 (omega arith)))
-    (over (step_of steps 6) behind (at old 6) c.debt_in_memory.result.cost (at mid 6)
+    (over (step_by steps 6) behind (at old 6) c.debt_in_memory.result.cost (at mid 6)
     (c.debt_in_memory.ensures behind are) c.pay-2.ensures.here))
     (subst (λ (z : ℤ). P 7 z (at new 7)) (c.pay-2.ensures.others 7 (omega arith))
-    (over (step_of steps 7) behind (at mid 7) c.debt_nowhere.result.cost (at new 7)
+    (over (step_by steps 7) behind (at mid 7) c.debt_nowhere.result.cost (at new 7)
     (c.debt_nowhere.ensures behind are) c.pay-3.ensures.here))

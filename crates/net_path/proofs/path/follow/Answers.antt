@@ -1,7 +1,7 @@
 use Rattle.std.proofs.Common.{suc, ◌≡◌, ◌∷◌, [], length, Some, arith, add-one, append-nil, ◌<◌}
 use Rattle.std.proofs.Common.{length-set}
 use Rattle.pra_base.specs.declared.ids.Place.{Place}
-use Rattle.net_path.specs.Rests.{Follows}
+use Rattle.net_path.specs.Rests.{AreBest}
 use Rattle.net_path.specs.Rows.{costs_at}
 use Rattle.net_path.proofs.Following.{goes_on, begins, put_behind, put_first}
 use Rattle.net_path.proofs.path.follow.Goals as goal
@@ -31,7 +31,7 @@ loop-at-preserved c = record {
         length-set {A = Place},
       ) in
       let is = put_behind c.loop-at.path i q rest lt in
-      let behind : Follows t (costs_at c.args.rows.now) (suc i) (Some q) rest =
+      let behind : AreBest t (costs_at c.args.rows.now) (suc i) (Some q) rest =
       rw (← add-one i) follows in
       rw is (c.loop-at.invariant.follows t (q ∷ rest) ground good
       (goes_on c.args.ways.now c.args.first (length c.args.rows.now) t ground

@@ -1,7 +1,7 @@
 use Rattle.std.proofs.Common.{ℕ, suc, ◌≡◌, ◌<◌, ◌+◌, ◌-◌, List, length, arith, sym, subst, ◌∙◌}
 use Rattle.std.proofs.Common.{refl, ℤ, inl, inr}
 use Rattle.std.proofs.lemmas.Bool.{cases_eq}
-use Rattle.net_path.specs.Ways.{AreDebts, step_of}
+use Rattle.net_path.specs.Ways.{AreDebts, step_by}
 use Rattle.net_path.specs.Rests.{AreRows}
 use Rattle.net_path.specs.Rows.{costs_at, slack_at, IsRowWithin, IsGround, IsPaidLayer}
 use Rattle.net_path.proofs.Within.{cells_within, costs_are_cells, row_is_wide, wide_is_debts}
@@ -24,7 +24,7 @@ loop-at-init c =
       small = small;
       debts = λ k le lt. let is : n - 1 ≡ k = omega (arith, le, lt) in
           subst (λ (k : ℕ). AreDebts (costs_at c.args.rows.now k)) is last;
-      paid = λ t ground cells. rows_last (step_of c.args.steps.now) c.args.first n t ground
+      paid = λ t ground cells. rows_last (step_by c.args.steps.now) c.args.first n t ground
           c.args.rows.now
           (omega (arith, c.requires.some)) refl cells;
     }
@@ -58,14 +58,14 @@ loop-at-preserved c =
     let left : costs_at c.loop-at.rows i ≡ costs_at c.args.rows.now i =
     c.loop-at.invariant.left i (omega (arith, c.loop-at-test.true)) in
     let same : i + 1 ≡ j = omega (arith, c.loop-at-test.true) in
-    let paid : IsPaidLayer (step_of c.args.steps.now) (c.args.first + j) (costs_at c.loop-at.rows j)
+    let paid : IsPaidLayer (step_by c.args.steps.now) (c.args.first + j) (costs_at c.loop-at.rows j)
     (costs_at c.loop-at.rows i) (costs_at c.pay_layer.new.rows i) =
-    subst (λ (k : ℕ). IsPaidLayer (step_of c.args.steps.now) (c.args.first + j)
+    subst (λ (k : ℕ). IsPaidLayer (step_by c.args.steps.now) (c.args.first + j)
     (costs_at c.loop-at.rows k)
     (costs_at c.loop-at.rows i) (costs_at c.pay_layer.new.rows i)) same
     c.pay_layer.ensures.paid in
     let small : IsRowWithin (slack_at n i) (costs_at c.pay_layer.new.rows i) =
-    small_more (step_of c.args.steps.now) (step_short c.args.steps.now c.requires.steps)
+    small_more (step_by c.args.steps.now) (step_short c.args.steps.now c.requires.steps)
     c.args.first i j n next lt c.loop-at.rows
     c.pay_layer.new.rows c.args.rows.now refl c.pay_layer.ensures.others left paid (λ p below.
     c.requires.cells i p (omega (arith, lt)) below) (rw before at c.loop-at.invariant.small) in
@@ -84,10 +84,10 @@ loop-at-preserved c =
             (omega (arith, le, other)) (omega (arith, in_, long, before)))
       ];
       paid = λ t ground cells.
-          let g : IsGround (step_of c.args.steps.now) c.args.first n t = rw long at ground in
+          let g : IsGround (step_by c.args.steps.now) c.args.first n t = rw long at ground in
           let are : AreRows t (costs_at c.loop-at.rows) (slack_at n) n j =
           rw before at (c.loop-at.invariant.paid t (rw before g) cells) in
-          rw long (paid_more (step_of c.args.steps.now)
+          rw long (paid_more (step_by c.args.steps.now)
           (step_short c.args.steps.now c.requires.steps) c.args.first i j n next
           lt c.loop-at.rows c.pay_layer.new.rows c.args.rows.now refl c.pay_layer.ensures.others
           left paid t g cells are);

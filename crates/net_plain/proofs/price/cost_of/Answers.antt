@@ -4,7 +4,7 @@ use Rattle.pra_base.specs.declared.ids.Place.TheVariants.{Eax}
 use Rattle.net_cost.specs.Models.{weights_of}
 use Rattle.net_form.specs.Admitted.{strand_at}
 use Rattle.net_plain.specs.Rows.{coming}
-use Rattle.net_plain.specs.Rests.{IsLong, IsCostOf, place_before}
+use Rattle.net_plain.specs.Rests.{GoToEnd, IsCostOf, place_before}
 use Rattle.net_plain.proofs.Fronts.{IsCostFrom, one_before}
 use Rattle.net_plain.proofs.LeastRests.{onward}
 use Rattle.net_plain.proofs.Whole.{cost_within}
@@ -24,7 +24,7 @@ there-behind-requires-clause-left g c =
     let first = inv.is_first in
     let whole = c.requires.long in
     let left = length-drop k path in
-    let long : IsLong net s l (drop k path) = omega (arith, within, first, whole, left) in
+    let long : GoToEnd net s l (drop k path) = omega (arith, within, first, whole, left) in
     cost_within net c.requires.net prices c.requires.prices w c.requires.kept.valid c.args.ends
     c.args.taken.now s c.requires.strand l (place_before path k) (drop k path) c.loop-at.left long
     inv.cost

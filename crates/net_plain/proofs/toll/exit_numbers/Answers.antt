@@ -5,7 +5,7 @@ use Rattle.net_form.specs.declared.net.Tie.{Tie}
 use Rattle.net_dual.specs.Priced.{pay, tie_price, exits}
 use Rattle.net_dual.proofs.Totals.{sum_more}
 use Rattle.net_path.specs.Grounds.{edge}
-use Rattle.net_plain.specs.Rows.{no_tie}
+use Rattle.net_form.specs.Admitted.{no_tie}
 use Rattle.net_plain.proofs.toll.exit_numbers.Goals as goal
 
 pub loop-tie-preserved : goal.loop-tie-preserved

@@ -6,8 +6,8 @@ use Rattle.net_cost.specs.Models.{weights_of}
 use Rattle.net_form.specs.declared.prices.Line.{Line}
 use Rattle.net_form.specs.declared.prices.Prices.{Prices}
 use Rattle.net_dual.specs.Priced.{AreInRange}
-use Rattle.al_round.specs.Allocations.{IsAllocated, IsKept}
-use Rattle.al_round.specs.Candidates.{cost_in}
+use Rattle.al_round.specs.Allocations.{IsAllocated, IsLatest}
+use Rattle.net_form.specs.Cost.{cost_in}
 use Rattle.al_round.specs.Stages.{Stage, IsGreatest, IsRoundedUp}
 use Rattle.al_round.proofs.Bounds.{not_negative}
 use Rattle.al_round.proofs.LinesGrown.{one_less}
@@ -161,10 +161,10 @@ returns-clause-gone_on g c = λ stages are.
             are_more r.best_value are.value best_prices top greatest c.keep_greatest.ensures.above
             found c.args.tried line is);
         kept = subst
-            (λ p. IsKept net w more (cost_in net w found) p c.improve.new.work.family
+            (λ p. IsLatest net w more (cost_in net w found) p c.improve.new.work.family
             (Some c.args.tried))
             (sym c.swap.ensures.x_after)
-            (subst (λ f. IsKept net w more (cost_in net w found) t.prices f (Some c.args.tried))
+            (subst (λ f. IsLatest net w more (cost_in net w found) t.prices f (Some c.args.tried))
             (sym c.improve.ensures.family)
             (kept_more net w formed stages r.lines r.best r.best_prices are.allocated t are_more
             r.best_value are.value best_prices top greatest c.keep_greatest.ensures.above found
