@@ -1,4 +1,4 @@
-//! Tests of the public calls at the top: the outside, and whole calls of the tool.
+//! Tests of whole calls of the tool.
 //!
 //! `outside` makes a whole call over objects in memory. `calls` has rows of modules with what is
 //! left by calls of many kinds, `table` modules of every kind with a run of each, and `words_rows`
@@ -10,15 +10,7 @@
 #[cfg(test)]
 mod calls;
 #[cfg(test)]
-mod fake_files;
-#[cfg(test)]
-mod fake_streams;
-#[cfg(test)]
 mod generated;
-#[cfg(test)]
-mod host_tests;
-#[cfg(test)]
-mod memory_tests;
 #[cfg(test)]
 mod outside;
 #[cfg(test)]
