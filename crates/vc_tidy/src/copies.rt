@@ -115,10 +115,11 @@ fn join_pair(
     let one = classes.names[t as usize];
     let other = classes.names[s as usize];
     if is_plain(code, other) {
-        join_classes(alloc, classes, code, liveness, places, one, other)
-    } else {
-        join_classes(alloc, classes, code, liveness, places, other, one)
+        let joined = join_classes(alloc, classes, code, liveness, places, one, other)?;
+        return Ok(joined);
     }
+    let joined = join_classes(alloc, classes, code, liveness, places, other, one)?;
+    Ok(joined)
 }
 
 fn try_instr(
