@@ -86,6 +86,7 @@ nothing_reduced to = record {
   fewer =
       omega arith;
   constants = λ v w n e named. absurd (nowhere named.0 named.1 named.2 named.3);
+  entry = λ v needed. refl;
   count = refl;
   depths = λ b. refl;
   ends = λ b. refl;
@@ -194,6 +195,7 @@ itself code = record {
   fewer =
       omega arith;
   constants = λ v w n e one other same. same;
+  entry = λ v needed. refl;
   count = refl;
   depths = λ b. refl;
   ends = λ b. refl;
@@ -205,9 +207,10 @@ itself code = record {
     all_stay b k (i ∷ xs) = stays
         (record {
           is = sym (same_names i);
-          kinds = λ v named. refl;
+          kinds = λ v named. inl refl;
           in_range = λ v named lt. lt;
-          apart = λ v w named same other. same;
+          one_each = λ v w one other same. same;
+          apart = λ v w over needed same. same;
         }) (all_stay b (suc k) xs)
 
 -- the names of one procedure, and none of the others

@@ -17,7 +17,7 @@ use Rattle.pra_base.specs.Live as live
 use Rattle.pra_base.specs.Live.Goes.{over, leaves}
 use Rattle.pra_base.specs.Live.Path.{stays as at_once, then as then_on}
 use Rattle.vc_same.specs.Renaming.{Names, renamed}
-use Rattle.vc_same.specs.Reduction.{Needed, Stays, LeftOut, Part, Reduced}
+use Rattle.vc_same.specs.Reduction.{Needed, StandsFor, Stays, LeftOut, Part, Reduced}
 use Rattle.vc_same.specs.Reduction.LeftOut.{dead, copied}
 use Rattle.vc_same.specs.Reduction.Part.{ends, stays, left_out}
 use Rattle.vc_same.proofs.Renamed.{reads_from, writes_renamed}
@@ -93,11 +93,11 @@ module _ (to : Names) (old new : VProc) (b : ℕ) where
 
   -- ---- what is needed
 
-  -- a variable with this new name, and of its kind, is needed in the old code
+  -- a variable that may have this new name, and has it, is needed in the old code
   pub record Found (k v : ℕ) : Type 0 where
     pub name : ℕ
     pub is : to name ≡ v
-    pub kind : kind_of new v ≡ kind_of old name
+    pub kind : StandsFor (kind_of new v) (kind_of old name)
     pub needed : Needed old b k name
 
   -- over an instruction that is left out
@@ -113,13 +113,14 @@ module _ (to : Names) (old new : VProc) (b : ℕ) where
         needed =
             needed_over old b k f.name x is free f.needed;
       }
-  found_out k j v x is (copied {t = t} {s = s} same names kinds) needed f =
+  found_out k j v x is (copied {t = t} {s = s} same names stands) needed f =
       let is_copy : instr_at old b k ≡ Some (instr.Copy t s) = is ∙ ap Some same in
       ⊎_elim
       (λ (e : f.name ≡ t.0). record {
         name = s.0;
         is = sym names ∙ sym (ap to e) ∙ f.is;
-        kind = f.kind ∙ ap (λ u. kind_of old u) e ∙ kinds;
+        kind = subst (λ u. StandsFor (kind_of new u) (kind_of old s.0))
+            (sym names ∙ sym (ap to e) ∙ f.is) stands;
         needed = needed_read old b k s.0 (instr.Copy t s) is_copy
             (among_reads (instr.Copy t s) s.0 (inl refl));
       })
@@ -181,7 +182,8 @@ module _ (to : Names) (old new : VProc) (reduced : Reduced to old new) where
       record {
         name = from.0;
         is = sym from.2;
-        kind = ap (λ u. kind_of new u) from.2 ∙ st.kinds from.0 (inl from.1);
+        kind = subst (λ u. StandsFor (kind_of new u) (kind_of old from.0)) (sym from.2)
+            (st.kinds from.0 (inl from.1));
         needed = needed_read old p.block l from.0 x (left_begins (code_of old p.block) us l x g).0
             from.1;
       })

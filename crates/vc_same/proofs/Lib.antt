@@ -1,6 +1,7 @@
 pub mod Carried
 pub mod Forms
 pub mod Kept
+pub mod OtherKinds
 pub mod Paths
 pub mod Put
 pub mod Renamed

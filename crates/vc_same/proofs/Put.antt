@@ -14,6 +14,8 @@ use Rattle.vc_code.specs.declared.value.Value.{Value}
 use Rattle.vc_code.specs.Value.{Held, Words}
 use Rattle.vc_code.specs.Selected.{read, valued, put, put_all}
 use Rattle.vc_same.specs.Renaming.{Names}
+use Rattle.vc_same.specs.Reduction.{StandsFor}
+use Rattle.vc_same.proofs.OtherKinds.{stands_valued}
 use Rattle.pra_list.specs.Among.{Among}
 
 put_inside : (held : Words) (w : ℕ) (h : Held) → w < length held → put held w h ≡
@@ -80,7 +82,7 @@ put_one held new w x e =
 -- ---- two machines: what is good holds the same
 
 module _ (to : Names) (old new : VProc) (Good : ℕ → Type 0)
-    (kinds : (v : ℕ) → Good v → kind_of new (to v) ≡ kind_of old v) where
+    (kinds : (v : ℕ) → Good v → StandsFor (kind_of new (to v)) (kind_of old v)) where
   -- the new variable holds what the old one holds
   abbrev pub Both : Words → Words → ℕ → Type 0
   Both held there v = read (kind_of new) there (to v) ≡ read (kind_of old) held v
@@ -100,7 +102,8 @@ module _ (to : Names) (old new : VProc) (Good : ℕ → Type 0)
       (Some x) =
       subst (λ u. read (kind_of old) (slice_set held w (Some x)) u ≡ valued (kind_of old u)
       (Some x)) (sym same) (read_put_same (kind_of old) held w (Some x) lt) in
-      inr (new_value ∙ ap (λ k. valued k (Some x)) (kinds v good) ∙ sym old_value))
+      inr (new_value ∙ stands_valued (kind_of new (to v)) (kind_of old v) (Some x) (kinds v good)
+      ∙ sym old_value))
       (λ (other : v ≢ w). later other was)
       (cases_eq v w)
     where

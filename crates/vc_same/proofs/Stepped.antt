@@ -16,8 +16,6 @@ use Rattle.pra_base.specs.RunEnd.{Ended, Wrong}
 use Rattle.pra_base.specs.Words.{compares, is_positive}
 use Rattle.pra_base.specs.declared.ids.VarId.{VarId}
 use Rattle.pra_base.specs.declared.ids.ProcId.{ProcId}
-use Rattle.pra_base.specs.declared.code.VarKind.{VarKind}
-use Rattle.pra_base.specs.declared.code.VarKind.TheVariants as kind
 use Rattle.pra_base.specs.declared.code.VInstr.{VInstr}
 use Rattle.pra_base.specs.declared.code.VInstr.TheVariants as instr
 use Rattle.pra_base.specs.declared.code.End.{End}
@@ -41,13 +39,14 @@ use Rattle.vc_code.specs.Selected.{next_of, put_all, begun, selected}
 use Rattle.vc_code.specs.Selected as selection
 use Rattle.vc_same.specs.Pure.{is_pure}
 use Rattle.vc_same.specs.Renaming.{Names, renamed}
-use Rattle.vc_same.specs.Reduction.{Needed, Stays, LeftOut, Part, Reduced}
+use Rattle.vc_same.specs.Reduction.{Needed, StandsFor, Stays, LeftOut, Part, Reduced}
 use Rattle.vc_same.specs.Reduction.LeftOut.{dead, copied}
 use Rattle.vc_same.specs.Reduction.Part.{ends, stays, left_out}
 use Rattle.vc_coupling.specs.Coupled.{AllBeside, Same, Leads}
 use Rattle.vc_coupling.proofs.Applied.{found_same, with_top_same, ended_same, performed}
 use Rattle.vc_same.proofs.Renamed.{read_by_renamed, written_by_renamed, reads_renamed, writes_from}
 use Rattle.vc_same.proofs.Renamed.{operate_renamed}
+use Rattle.vc_same.proofs.OtherKinds.{valued_twice, overwrites_written}
 use Rattle.vc_same.proofs.Put.{put_rest, put_one, put_both}
 use Rattle.vc_same.proofs.Paths.{needed_read, needed_over, needed_leave}
 use Rattle.vc_same.proofs.Tracked.{Counts, Tracks, couples, begun_tracks}
@@ -150,17 +149,6 @@ copy_goes_on m after s (Some v) ok = let r = went_on s (after (v ∷ [])) (λ x.
 
 -- ---- values
 
-valued_twice : (k l : VarKind) (h : Held) → k ≡ l → valued k (valued l h) ≡ valued l h
-valued_twice (kind.Param i) (kind.Param j) h e = refl
-valued_twice kind.Plain kind.Plain h e = refl
-valued_twice (kind.Constant n) (kind.Constant m) h e = ap (λ l. valued l h) e
-valued_twice (kind.Param i) kind.Plain h e = cc
-valued_twice (kind.Param i) (kind.Constant n) h e = cc
-valued_twice kind.Plain (kind.Param i) h e = cc
-valued_twice kind.Plain (kind.Constant n) h e = cc
-valued_twice (kind.Constant n) (kind.Param i) h e = cc
-valued_twice (kind.Constant n) kind.Plain h e = cc
-
 each_read : (to : Names) (old new : VProc) (held beside : Words) (vs : List ℕ) →
     ((v : ℕ) → Among v vs → read (kind_of new) beside (to v) ≡ read (kind_of old) held v) →
     map (read (kind_of new) beside) (map to vs) ≡ map (read (kind_of old) held) vs
@@ -259,7 +247,8 @@ module _ (olds news : List VProc) (to : ℕ → Names) (frames : List ℕ)
         written_there e =
             let from = writes_from (to p) i (to p v) (subst (λ x. writes x (to p v) ≡ true) st.is e)
             in
-            let same : v ≡ from.0 = st.apart from.0 v (inr from.1) from.2 (inr counts.here) in
+            let same : v ≡ from.0 = st.apart from.0 v (overwrites_written i from.0 from.1)
+            counts.here from.2 in
             true_false (writes i v) (subst (λ u. writes i u ≡ true) (sym same) from.1) free
 
     go_on : (values : List Value) → Leads R (written s.top (written_by i) values)
@@ -270,8 +259,8 @@ module _ (olds news : List VProc) (to : ℕ → Names) (frames : List ℕ)
         (λ v. Counts (to p) (old p) (new p) b (suc k) (suc l) v) (λ v counts. counts.kind)
         (written_by i) values s.top.home.held w.0 t.top.home.held r.top.held r.top.beside
         (λ v among. st.in_range v (inr (among_writes i v among)))
-        (λ v u among counts same. st.apart v u (inr (among_writes i v among)) same
-        (inr counts.here))
+        (λ v u among counts same. st.apart v u (overwrites_written i v (among_writes i v among))
+        counts.here same)
         (λ v counts. ⊎_elim
         (λ (wr : writes i v ≡ true). inl (writes_among i v wr))
         (λ (free : writes i v ≡ false). inr (r.top.agrees v (counts_before v counts free)))
@@ -407,32 +396,43 @@ module _ (olds news : List VProc) (to : ℕ → Names) (frames : List ℕ)
         ∙ ap (λ h. valued (kind_of (old p') v) h)
         (sym (kept.1 v (λ among. true_false (writes i v) (among_writes i v among) free))))))
 
-    copy_step : (a c : VarId) → i ≡ instr.Copy a c → to p' a.0 ≡ to p' c.0 → kind_of (old p') a.0 ≡
-        kind_of (old p') c.0 →
+    -- what the target of a copy holds behind it, if both may have one name
+    copied_value : (a c : VarId) (after : Words) (x : Value) →
+        StandsFor (kind_of (new p') (to p' c.0)) (kind_of (old p') a.0) →
+        StandsFor (kind_of (new p') (to p' c.0)) (kind_of (old p') c.0) →
+        slice_index_or after a.0 None ≡ Some x →
+        read (kind_of (old p')) s.top.home.held c.0 ≡ Some x →
+        read (kind_of (old p')) after a.0 ≡ read (kind_of (old p')) s.top.home.held c.0
+    copied_value a c after x target source held value =
+        ap (λ h. valued (kind_of (old p') a.0) h) (held ∙ sym value)
+        ∙ valued_twice (kind_of (new p') (to p' c.0)) (kind_of (old p') a.0) (kind_of (old p') c.0)
+        (slice_index_or s.top.home.held c.0 None) target source
+
+    copy_step : (a c : VarId) → i ≡ instr.Copy a c → to p' a.0 ≡ to p' c.0 →
+        StandsFor (kind_of (new p') (to p' c.0)) (kind_of (old p') c.0) →
         (act m (next_of (old p') s.top (Some (instr.Copy a c))) s).over ≢ Some Wrong →
         Done (act m (next_of (old p') s.top (Some (instr.Copy a c))) s)
-    copy_step a c same names kinds ok =
+    copy_step a c same names stands ok =
         let is_copy : instr_at (old p') b' k' ≡ Some (instr.Copy a c) = is_here ∙ ap Some same in
         let q = copy_goes_on m (λ vs. written s.top (a.0 ∷ []) vs) s
         (read (kind_of (old p')) s.top.home.held c.0) ok in
         let w = behind_is s.top q.1 (put_all (Some s.top.home.held) (a.0 ∷ []) (q.0 ∷ [])) q.3 in
         let kept = put_rest (a.0 ∷ []) (q.0 ∷ []) s.top.home.held w.0 w.1 in
-        let value : read (kind_of (old p')) w.0 a.0 ≡ read (kind_of (old p')) s.top.home.held c.0 =
-        ap (λ h. valued (kind_of (old p') a.0) h)
-        (put_one s.top.home.held w.0 a.0 q.0 w.1 ∙ sym q.2)
-        ∙ valued_twice (kind_of (old p') a.0) (kind_of (old p') c.0)
-        (slice_index_or s.top.home.held c.0 None) kinds in
         subst Done (sym q.4) (quiet_same q.1 w.0 w.2 (behind_tracks q.1 w.0 w.2 kept.0
         (λ v counts.
         ⊎_elim
         (λ (e : v ≡ a.0).
         let source : Counts (to p') (old p') (new p') b' k' l' c.0 = record {
-          kind = ap (λ u. kind_of (new p') u) (sym names ∙ sym (ap (to p') e)) ∙ counts.kind
-              ∙ ap (λ u. kind_of (old p') u) e ∙ kinds;
+          kind = stands;
           here = needed_read (old p') b' k' c.0 (instr.Copy a c) is_copy
               (among_reads (instr.Copy a c) c.0 (inl refl));
           there = subst (λ u. Needed (new p') b' l' u) (ap (to p') e ∙ names) counts.there;
         } in
+        let target : StandsFor (kind_of (new p') (to p' c.0)) (kind_of (old p') a.0) =
+        subst (λ u. StandsFor (kind_of (new p') u) (kind_of (old p') a.0)) names
+        (subst (λ u. StandsFor (kind_of (new p') (to p' u)) (kind_of (old p') u)) e counts.kind) in
+        let value : read (kind_of (old p')) w.0 a.0 ≡ read (kind_of (old p')) s.top.home.held c.0 =
+        copied_value a c w.0 q.0 target stands (put_one s.top.home.held w.0 a.0 q.0 w.1) q.2 in
         ap (λ u. read (kind_of (new p')) t.top.home.held u) (ap (to p') e ∙ names)
         ∙ r.top.agrees c.0 source ∙ sym value ∙ ap (λ u. read (kind_of (old p')) w.0 u) (sym e))
         (λ (other : v ≢ a.0).
@@ -458,9 +458,9 @@ module _ (olds news : List VProc) (to : ℕ → Names) (frames : List ℕ)
             (act m (next_of (old p') s.top (Some i)) s).over ≢ Some Wrong →
             Done (act m (next_of (old p') s.top (Some i)) s)
         by (dead pure unneeded) ok = dead_step ok pure unneeded
-        by (copied {t = a} {s = c} same names kinds) ok =
+        by (copied {t = a} {s = c} same names stands) ok =
             subst (λ j. Done (act m (next_of (old p') s.top (Some j)) s)) (sym same)
-            (copy_step a c same names kinds
+            (copy_step a c same names stands
             (subst (λ j. (act m (next_of (old p') s.top (Some j)) s).over ≢ Some Wrong) same
             ok))
 

@@ -11,13 +11,13 @@ use Rattle.vc_code.specs.Machine.{Shape, Activation, last_get, last_set, is_home
 use Rattle.vc_code.specs.Selected.{Vars, read, valued, argument, begun, shape}
 use Rattle.vc_code.specs.Selected as selected
 use Rattle.vc_same.specs.Renaming.{Names}
-use Rattle.vc_same.specs.Reduction.{Needed, Part, Reduced}
+use Rattle.vc_same.specs.Reduction.{Needed, StandsFor, Part, Reduced}
 use Rattle.vc_coupling.specs.Coupled.{Couples}
 
 -- a variable that has to hold the same in both, before place k of the old block and place j of the
 -- new one
 pub record Counts (to : Names) (old new : VProc) (b k j v : ℕ) : Type 0 where
-  pub kind : kind_of new (to v) ≡ kind_of old v
+  pub kind : StandsFor (kind_of new (to v)) (kind_of old v)
   pub here : Needed old b k v
   pub there : Needed new b j (to v)
 
@@ -110,6 +110,6 @@ module _ (olds news : List VProc) (to : ℕ → Names) (frames : List ℕ)
         beside = length-map new.vars (argument args);
         agrees = λ v counts.
             ap (λ h. valued (kind_of new (to p v)) h) (begun_read args new.vars (to p v))
-            ∙ ap (λ k. valued k (argument args k)) counts.kind
+            ∙ ap (λ k. valued k (argument args k)) ((all p).entry v counts.here)
             ∙ sym (ap (λ h. valued (kind_of old v) h) (begun_read args old.vars v));
       }

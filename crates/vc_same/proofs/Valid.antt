@@ -24,7 +24,8 @@ use Rattle.pra_base.specs.Valid.{IsValid, IsSized, instruction_count}
 use Rattle.vc_code.specs.Machine.{is_param}
 use Rattle.vc_same.specs.Pure.{is_pure}
 use Rattle.vc_same.specs.Renaming.{Names, var, renamed}
-use Rattle.vc_same.specs.Reduction.{Needed, LeftOut, Part, Reduced, ParamsApart}
+use Rattle.vc_same.specs.Reduction.{Needed, StandsFor, overwrites, LeftOut, Part, Reduced}
+use Rattle.vc_same.specs.Reduction.{ParamsApart}
 use Rattle.vc_same.specs.Reduction.LeftOut.{dead, copied}
 use Rattle.vc_same.specs.Reduction.Part.{ends, stays, left_out}
 use Rattle.vc_same.proofs.Renamed.{reads_from, writes_from, only_writes_from}
@@ -33,6 +34,7 @@ use Rattle.vc_same.proofs.Forms.{lead_renamed, lead_pure}
 use Rattle.vc_same.specs.SameRuns.{Preserves}
 use Rattle.vc_same.proofs.Carried.{same_runs, runs_on, runs_itself}
 use Rattle.vc_same.proofs.Kept.{Origin, origin, needed_from, reads_here}
+use Rattle.vc_same.proofs.OtherKinds.{stands_constant, stands_live, overwrites_dividend}
 
 -- ---- parameters
 
@@ -90,7 +92,7 @@ module _ (to : Names) (old new : VProc) (b : ℕ) where
 
   out_pure : (j : ℕ) (x : VInstr) → LeftOut to old new b j x → is_pure x ≡ true
   out_pure j x (dead pure unneeded) = pure
-  out_pure j x (copied same names kinds) = ap is_pure same
+  out_pure j x (copied same names stands) = ap is_pure same
 
   leads : (T : ℕ → ℕ → Type 0) (k j n : ℕ) (xs ys : List VInstr) → Part to old new b k j xs ys →
       PushesLead T n xs → PushesLead T n ys
@@ -232,8 +234,8 @@ module _ (to : Names) (old new : VProc) (r : Reduced to old new) where
       let w = only_writes_from to o.instr v (subst (λ z. only_writes z v ≡ true) o.stays.is only) in
       false_from (reads y v) (λ read.
       let u = reads_from to o.instr v (subst (λ z. reads z v ≡ true) o.stays.is read) in
-      let same : u.0 ≡ w.0 = o.stays.apart w.0 u.0 (only_names o.instr w.0 w.1) (sym u.2 ∙ w.2)
-      (inl (names_read o.instr u.0 u.1)) in
+      let same : u.0 ≡ w.0 = o.stays.one_each w.0 u.0 (only_names o.instr w.0 w.1)
+      (names_read o.instr u.0 u.1) (sym u.2 ∙ w.2) in
       true_false (reads o.instr w.0) (subst (λ z. reads o.instr z ≡ true) same u.1)
       (apart b o.place o.instr (from_is b j y is) w.0 w.1))
 
@@ -250,9 +252,10 @@ module _ (to : Names) (old new : VProc) (r : Reduced to old new) where
       by (Constant n) is l = absurd (omega (arith, l.from))
       by Plain is l =
           let f = needed_from to old new r 0 0 0 v (r.code 0) l in
-          let plain : kind_of old f.name ≡ Plain = sym f.kind ∙ is in
-          let p = at_entry f.name (live_as f.name Plain refl plain f.needed) in
-          (p.0, f.kind ∙ p.1)
+          let kept : kind_of new v ≡ kind_of old f.name = ap (λ u. kind_of new u) (sym f.is)
+          ∙ r.entry f.name f.needed in
+          let p = at_entry f.name (live_as f.name Plain refl (sym kept ∙ is) f.needed) in
+          (p.0, kept ∙ p.1)
 
   -- an instruction of the new code that reads a variable behind place j reads it in the old code
   -- behind the same
@@ -289,21 +292,22 @@ module _ (to : Names) (old new : VProc) (r : Reduced to old new) where
   dividend_dead : (b j k : ℕ) (q m a d : VarId) → instr_at old b k ≡ Some (instr.DivMod q m a d) →
       Part to old new b (suc k) (suc j) (drop (suc k) (code_of old b))
       (drop (suc j) (code_of new b)) →
-      kind_of new (to a.0) ≡ kind_of old a.0 →
-      ((w : ℕ) → to w ≡ to a.0 → Needed old b (suc k) w → w ≡ a.0) →
+      StandsFor (kind_of new (to a.0)) (kind_of old a.0) →
+      ((w : ℕ) → Needed old b (suc k) w → to w ≡ to a.0 → w ≡ a.0) →
       ((last : ℕ) → j < last → reads_at new (to a.0) (record { block = b; index = last }) ≡ true →
       (l u : ℕ) × (x : VInstr) × (k < l) × (instr_at old b l ≡ Some x) × (reads x u ≡ true) ×
       (to a.0 ≡ to u)) →
       (Live old a.0 b (2 * k + 2) → ⊥) → Live new (to a.0) b (2 * j + 2) → ⊥
-  dividend_dead b j k q m a d is rest kind apart later dead_before is_live =
-      by (kind_of new (to a.0)) refl is_live
+  dividend_dead b j k q m a d is rest stands apart later dead_before is_live =
+      by (kind_of old a.0) refl
+      (stands_live (kind_of new (to a.0)) (kind_of old a.0) new (to a.0) b (2 * j + 2) stands
+      is_live)
     where
       behind : (n : ℕ) → (2 * n + 2) / 2 ≡ suc n
       behind n = omega arith
 
-      as_kind : (z : VarKind) → kind_of new (to a.0) ≡ z → LiveAs z old a.0 b (2 * k + 2) → ⊥
-      as_kind z e l = dead_before
-          (subst (λ y. LiveAs y old a.0 b (2 * k + 2)) (sym (sym kind ∙ e)) l)
+      as_kind : (z : VarKind) → kind_of old a.0 ≡ z → LiveAs z old a.0 b (2 * k + 2) → ⊥
+      as_kind z e l = dead_before (subst (λ y. LiveAs y old a.0 b (2 * k + 2)) (sym e) l)
 
       needed_too : ReadBeforeWritten new (to a.0) (record { block = b; index = (2 * j + 2) / 2 }) →
           ReadBeforeWritten old a.0 (record { block = b; index = (2 * k + 2) / 2 })
@@ -311,15 +315,15 @@ module _ (to : Names) (old new : VProc) (r : Reduced to old new) where
           let f = needed_from to old new r b (suc k) (suc j) (to a.0) rest
           (subst (λ n. Needed new b n (to a.0)) (behind j) l) in
           subst (λ n. Needed old b n a.0) (sym (behind k))
-          (subst (λ w. Needed old b (suc k) w) (apart f.name f.is f.needed) f.needed)
+          (subst (λ w. Needed old b (suc k) w) (apart f.name f.needed f.is) f.needed)
 
-      by : (z : VarKind) → kind_of new (to a.0) ≡ z → LiveAs z new (to a.0) b (2 * j + 2) → ⊥
+      by : (z : VarKind) → kind_of old a.0 ≡ z → LiveAs z new (to a.0) b (2 * j + 2) → ⊥
       by (Param i) e l = as_kind (Param i) e (needed_too l)
       by Plain e l = as_kind Plain e (needed_too l)
       by (Constant n) e l =
           let last_behind : 2 * j + 2 ≤ 2 * l.last + 1 = l.to in
           let x = later l.last (omega (arith, last_behind)) l.reads_last in
-          let same : x.1 ≡ a.0 = r.constants a.0 x.1 n (sym kind ∙ e) (
+          let same : x.1 ≡ a.0 = r.constants a.0 x.1 n e (
             b,
             k,
             instr.DivMod q m a d,
@@ -352,8 +356,9 @@ module _ (to : Names) (old new : VProc) (r : Reduced to old new) where
       let old_apart = apart b o.place q r a d was in
       let named : (v w : VarId) → valid.Names (instr.DivMod q r a d) v.0 →
       valid.Names (instr.DivMod q r a d) w.0 → var to v ≡ var to w → v ≡ w = λ v w nv nw e.
-      let same : v.0 ≡ w.0 = o.stays.apart w.0 v.0 (subst (λ i. valid.Names i w.0) (sym f.4) nw)
-      (ap (λ (x : VarId). x.0) e) (inl (subst (λ i. valid.Names i v.0) (sym f.4) nv)) in
+      let same : v.0 ≡ w.0 = o.stays.one_each w.0 v.0
+      (subst (λ i. valid.Names i w.0) (sym f.4) nw) (subst (λ i. valid.Names i v.0) (sym f.4) nv)
+      (ap (λ (x : VarId). x.0) e) in
       ap (λ n. record { 0 = n }) same in
       let nq : valid.Names (instr.DivMod q r a d) q.0 =
       inr (among_writes (instr.DivMod q r a d) q.0 (inl refl)) in
@@ -373,8 +378,8 @@ module _ (to : Names) (old new : VProc) (r : Reduced to old new) where
         dead = λ l. dividend_dead b j o.place q r a d was
             (rest_is b j (instr.DivMod q' r' a' d') is)
             (o.stays.kinds a.0 (subst (λ i. valid.Names i a.0) (sym f.4) na))
-            (λ w e needed. o.stays.apart a.0 w (subst (λ i. valid.Names i a.0) (sym f.4) na) e
-            (inr needed))
+            (λ w needed e. o.stays.apart a.0 w
+            (subst (λ i. overwrites i a.0 ≡ true) (sym f.4) (overwrites_dividend q r a d)) needed e)
             (λ last lt read. later_read b j (instr.DivMod q' r' a' d') is last (to a.0) lt read)
             old_apart.dead (subst (λ (v : VarId). Live new v.0 b (2 * j + 2)) f.7 l);
       }
@@ -386,8 +391,9 @@ module _ (to : Names) (old new : VProc) (r : Reduced to old new) where
       record {
         unwritten = false_from (writes y v) (λ e.
             let w = writes_from to o.instr v (subst (λ z. writes z v ≡ true) o.stays.is e) in
-            let old_kind : kind_of old w.0 ≡ Constant n = sym (o.stays.kinds w.0 (inr w.1))
-            ∙ ap (λ u. kind_of new u) (sym w.2) ∙ kind in
+            let old_kind : kind_of old w.0 ≡ Constant n =
+            stands_constant (kind_of new (to w.0)) (kind_of old w.0) n
+            (o.stays.kinds w.0 (inr w.1)) (ap (λ u. kind_of new u) (sym w.2) ∙ kind) in
             true_false (writes o.instr w.0) w.1
             (kept w.0 n old_kind b o.place o.instr was).unwritten);
         uncopied = λ t s e same.
@@ -395,8 +401,9 @@ module _ (to : Names) (old new : VProc) (r : Reduced to old new) where
             let reads_it : reads o.instr f.1.0 ≡ true = subst (λ i. reads i f.1.0 ≡ true) (sym f.2)
             (among_reads (instr.Copy f.0 f.1) f.1.0 (inl refl)) in
             let source : to f.1.0 ≡ v = sym (ap (λ (x : VarId). x.0) f.4) ∙ same in
-            let old_kind : kind_of old f.1.0 ≡ Constant n = sym (o.stays.kinds f.1.0 (inl reads_it))
-            ∙ ap (λ u. kind_of new u) source ∙ kind in
+            let old_kind : kind_of old f.1.0 ≡ Constant n =
+            stands_constant (kind_of new (to f.1.0)) (kind_of old f.1.0) n
+            (o.stays.kinds f.1.0 (inl reads_it)) (ap (λ u. kind_of new u) source ∙ kind) in
             (kept f.1.0 n old_kind b o.place o.instr was).uncopied f.0 f.1 f.2 refl;
       }
 

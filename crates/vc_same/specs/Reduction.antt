@@ -1,13 +1,14 @@
 -- When code is other code reduced: instructions without effect are left out, and variables have
--- other names, some of them one name. Nothing here speaks of runs.
-use Rattle.std.specs.Prelude.{◌≡◌, ℕ, suc, ◌<◌, ◌≤◌, ◌⊎◌, ℤ, Bool, true, ◌||◌, nat_eq, List, [], ◌∷◌}
-use Rattle.std.specs.Prelude.{length, slice_get, Some}
+-- other names, some of them one name, also variables that hold the same and are needed at once.
+-- Nothing here speaks of runs.
+use Rattle.std.specs.Prelude.{◌≡◌, ℕ, suc, ◌<◌, ◌≤◌, ◌⊎◌, ℤ, Bool, true, ◌||◌, nat_eq, List, []}
+use Rattle.std.specs.Prelude.{◌∷◌, length, slice_get, Some}
 use Rattle.std.specs.List.{list_any}
 use Rattle.pra_base.specs.declared.ids.VarId.{VarId}
 use Rattle.pra_base.specs.declared.code.VInstr.{VInstr}
 use Rattle.pra_base.specs.declared.code.VInstr.TheVariants.{Copy, DivMod}
 use Rattle.pra_base.specs.declared.code.VarKind.{VarKind}
-use Rattle.pra_base.specs.declared.code.VarKind.TheVariants.{Param, Constant, Plain}
+use Rattle.pra_base.specs.declared.code.VarKind.TheVariants.{Param, Plain, Constant}
 use Rattle.pra_base.specs.declared.code.VProc.{VProc}
 use Rattle.pra_base.specs.Code.{kind_of, block_of, code_of, end_of, instr_at}
 use Rattle.pra_base.specs.Operands.{writes}
@@ -21,8 +22,8 @@ use Rattle.vc_same.specs.Renaming.{Names, renamed}
 abbrev pub Needed : VProc → ℕ → ℕ → ℕ → Type 0
 Needed code b k v = ReadBeforeWritten code v (record { block = b; index = k })
 
--- A variable of the new kind may stand for one of the old kind: they are one kind, or the old one is
--- Plain and the new one an argument's.
+-- A variable of the old kind may have a name of the new kind: both are one kind, or a Plain
+-- variable has the name of an argument's.
 abbrev pub StandsFor : VarKind → VarKind → Type 0
 StandsFor new old = (new ≡ old) ⊎ ((old ≡ Plain) × ((i : ℕ) × (new ≡ Param i)))
 
@@ -32,9 +33,9 @@ abbrev pub overwrites : VInstr → ℕ → Bool
 overwrites (DivMod q r a d) v = writes (DivMod q r a d) v || nat_eq a.0 v
 overwrites i v = writes i v
 
--- An instruction that stays, under the new names, at place k of the old block. Its new variables
--- may stand for the old ones, and are as many. What it overwrites shares its new name with no other
--- variable that is needed behind it.
+-- An instruction that stays, under the new names, at place k of the old block. Its variables may
+-- have their new names, and no two of them have one. What it overwrites shares its new name with no
+-- other variable that is needed behind it.
 pub record Stays (to : Names) (old new : VProc) (b k : ℕ) (i j : VInstr) : Type 0 where
   pub is : j ≡ renamed to i
   pub kinds : (v : ℕ) → valid.Names i v → StandsFor (kind_of new (to v)) (kind_of old v)
