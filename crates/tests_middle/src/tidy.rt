@@ -102,6 +102,96 @@ left   jump b1
 left b1:
 left   return
 = 0
+# an argument and a copy of it that changes when the argument is not live
+proc 1 0 param 0 plain
+copy v1 v0
+neg v1
+write v1
+return
+left b0:
+left   neg v0
+left   write v0
+left   return
+= 1
+# the argument is live behind the change
+proc 1 0 param 0 plain
+copy v1 v0
+neg v1
+write v1
+write v0
+return
+left b0:
+left   copy v1, v0
+left   neg v1
+left   write v1
+left   write v0
+left   return
+= 2
+# both are live behind the copies, and equal while they are
+proc 0 0 plain plain plain
+read v0
+copy v1 v0
+copy v2 v1
+write v1
+write v0
+neg v2
+write v2
+return
+left b0:
+left   read v0
+left   write v0
+left   write v0
+left   neg v0
+left   write v0
+left   return
+= 1
+# two arguments stay two, and what is copied from both becomes one of them
+proc 2 0 param 0 param 1 plain
+copy v2 v0
+write v2
+copy v2 v1
+write v2
+return
+left b0:
+left   write v0
+left   copy v0, v1
+left   write v0
+left   return
+= 2
+# one instruction has both
+proc 0 0 plain plain
+read v0
+copy v1 v0
+add v1 v0
+write v1
+return
+left b0:
+left   read v0
+left   copy v1, v0
+left   add v1, v0
+left   write v1
+left   return
+= 2
+# a dividend is gone behind its division, and its equal is not
+proc 0 0 plain plain plain plain plain
+read v0
+read v1
+checkpos v1
+copy v2 v0
+divmod v3 v4 v2 v1
+write v3
+write v0
+return
+left b0:
+left   read v0
+left   read v1
+left   checkpos v1
+left   copy v2, v0
+left   divmod v3, v4, v2, v1
+left   write v3
+left   write v0
+left   return
+= 5
 ";
 
 fn tidied(alloc: Global, code: VProc) -> Result<VProc, Fail> {

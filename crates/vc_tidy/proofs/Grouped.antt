@@ -1,6 +1,6 @@
 -- Classes of variables: how they begin, how two are joined, and what names of classes make of code.
-use Rattle.std.proofs.Common.{◌≡◌, ◌≢◌, ℕ, ◌+◌, ◌<◌, ◌≤◌, ◌⊎◌, inl, inr, ⊎_elim, ℤ, Bool, true}
-use Rattle.std.proofs.Common.{false, ◌||◌, ◌&&◌, nat_eq, if◌then◌else◌, List, [], ◌∷◌, ◌++◌, length}
+use Rattle.std.proofs.Common.{◌≡◌, ◌≢◌, ℕ, suc, ◌+◌, ◌<◌, ◌≤◌, ◌⊎◌, inl, inr, ⊎_elim, ℤ, Bool}
+use Rattle.std.proofs.Common.{true, false, ◌||◌, ◌&&◌, nat_eq, if◌then◌else◌, List, [], ◌∷◌, ◌++◌, length}
 use Rattle.std.proofs.Common.{All, Contains, get_or, slice_set, Some, refl, sym, ap, subst, ◌∙◌}
 use Rattle.std.proofs.Common.{arith}
 use Rattle.std.proofs.lemmas.Bool.{cases_eq, cases_lt}
@@ -14,21 +14,25 @@ use Rattle.pra_base.proofs.Roles.{among_reads, among_writes}
 use Rattle.pra_list.proofs.Truths.{true_false, truth, nat_is}
 use Rattle.pra_list.proofs.Options.{some_same}
 use Rattle.pra_base.specs.declared.ids.VarId.{VarId}
-use Rattle.pra_base.specs.declared.code.VarKind.TheVariants.{Plain, Constant}
+use Rattle.pra_base.specs.declared.code.VarKind.{VarKind}
+use Rattle.pra_base.specs.declared.code.VarKind.TheVariants.{Param, Plain, Constant}
 use Rattle.pra_base.specs.declared.code.VInstr.{VInstr}
 use Rattle.pra_base.specs.declared.code.VInstr.TheVariants as instr
 use Rattle.pra_base.specs.declared.code.VProc.{VProc}
 use Rattle.pra_base.specs.Code.{kind_of, code_of, instr_at}
 use Rattle.pra_base.specs.Operands.{reads}
-use Rattle.pra_base.specs.Valid.{IsSized, IsValid}
+use Rattle.pra_base.specs.Valid.{IsSized, IsValid, Names}
+use Rattle.vc_same.specs.Reduction.{Needed, StandsFor, overwrites}
 use Rattle.vc_same.specs.SameRuns.{Preserves}
-use Rattle.vc_tidy.specs.Tidy.{is_between, CanBeOne, NoCopyAt}
-use Rattle.vc_tidy.specs.Joined.{name, is_joined, joined_code, AreNames, IsPlain, Meets, SomeMeet}
-use Rattle.vc_tidy.specs.Joined.{NoneMeet, group_of, IsLike, AreClasses, AreAlone, AreTried}
-use Rattle.vc_tidy.specs.Joined.{IsFound, IsNoCopy}
+use Rattle.vc_tidy.specs.Tidy.{is_between, AreApart, CanMerge, can_merge, NoCopyAt}
+use Rattle.vc_tidy.specs.Joined.{name, varies, is_joined, joined_code, AreNames, IsPlain}
+use Rattle.vc_tidy.specs.Joined.{IsJoinable, Meets, SomeMeet, NoneMeet, group_of, IsLike, AreClasses}
+use Rattle.vc_tidy.specs.Joined.{AreAlone, AreTried, IsFound, IsNoCopy}
 use Rattle.vc_tidy.specs.declared.classes.Classes.{Classes}
 use Rattle.vc_tidy.proofs.Joining.{Joins, joined_preserves}
-use Rattle.vc_tidy.proofs.Meeting.{in_block, meeting_cant, meeting_back_cant}
+use Rattle.vc_tidy.proofs.Meeting.{in_block, varying_live, apart_back, meeting_cant}
+use Rattle.vc_tidy.proofs.Meeting.{meeting_back_cant}
+use Rattle.vc_tidy.proofs.Overwriting.{overwritten_named}
 
 eq_true : (a b : ℕ) → a ≡ b → nat_eq a b ≡ true
 eq_true a b e = grind (arith, nat_tests)
@@ -67,39 +71,96 @@ alone_classes code classes alone = record {
   apart = λ v w other same. absurd (other (sym (alone.names v) ∙ same ∙ alone.names w));
 }
 
-module _ (code : VProc) (classes : Classes) (alone : AreAlone code classes) (t s : ℕ)
-    (t_plain : IsPlain code t) (s_plain : IsPlain code s) (one other : ℕ)
-    (one_is : one ≡ name classes.names.items t) (other_is : other ≡ name classes.names.items s)
-  where
-    group_t : group_of classes.groups.items one ≡ t ∷ []
-    group_t = ap (λ c. group_of classes.groups.items c) (one_is ∙ alone.names t)
-        ∙ alone.groups t t_plain.0
+pub alone_name : (code : VProc) (classes : Classes) → AreAlone code classes → (v c : ℕ) →
+    c ≡ name classes.names.items v → c ≡ v
+alone_name code classes alone v c e = e ∙ alone.names v
 
-    group_s : group_of classes.groups.items other ≡ s ∷ []
-    group_s = ap (λ c. group_of classes.groups.items c) (other_is ∙ alone.names s)
-        ∙ alone.groups s s_plain.0
+meet_one : (code : VProc) (x y : List ℕ) (a b : ℕ) → x ≡ a ∷ [] → y ≡ b ∷ [] → SomeMeet code x y →
+    Meets code a b
+meet_one code x y a b ex ey m =
+    let v_is = in_one a m.0 (subst (λ (g : List ℕ). Contains g m.0) ex m.2) in
+    let w_is = in_one b m.1 (subst (λ (g : List ℕ). Contains g m.1) ey m.3) in
+    subst (λ v. Meets code v b) v_is (subst (λ w. Meets code m.0 w) w_is m.4)
 
-    pub alone_same : one ≡ other → t ≡ s
-    alone_same e = sym (one_is ∙ alone.names t) ∙ e ∙ other_is ∙ alone.names s
+-- variables that are alone and meet can't be one
+pub alone_cant : (code : VProc) (classes : Classes) → AreAlone code classes → (t s : ℕ) →
+    IsJoinable code t → IsJoinable code s →
+    SomeMeet code (group_of classes.groups.items t) (group_of classes.groups.items s) ⊎
+    SomeMeet code (group_of classes.groups.items s) (group_of classes.groups.items t) →
+    AreApart code t s → ⊥
+alone_cant code classes alone t s jt js (inl m) = meeting_cant code t s js
+    (meet_one code _ _ t s (alone.groups t jt.0) (alone.groups s js.0) m)
+alone_cant code classes alone t s jt js (inr m) = meeting_back_cant code t s jt
+    (meet_one code _ _ s t (alone.groups s js.0) (alone.groups t jt.0) m)
 
-    meet_one : (x y : List ℕ) (a b : ℕ) → x ≡ a ∷ [] → y ≡ b ∷ [] → SomeMeet code x y →
-        Meets code a b
-    meet_one x y a b ex ey m =
-        let v_is = in_one a m.0 (subst (λ (g : List ℕ). Contains g m.0) ex m.2) in
-        let w_is = in_one b m.1 (subst (λ (g : List ℕ). Contains g m.1) ey m.3) in
-        subst (λ v. Meets code v b) v_is (subst (λ w. Meets code m.0 w) w_is m.4)
+-- ---- kinds of which one can be the name of the other
 
-    pub alone_cant : SomeMeet code (group_of classes.groups.items one)
-        (group_of classes.groups.items other) ⊎ SomeMeet code (group_of classes.groups.items other)
-        (group_of classes.groups.items one) → CanBeOne code t s → ⊥
-    alone_cant (inl m) = meeting_cant code t s t_plain s_plain (meet_one _ _ t s group_t group_s m)
-    alone_cant (inr m) = meeting_back_cant code t s t_plain s_plain
-        (meet_one _ _ s t group_s group_t m)
+no_truth : false ≡ true → ⊥
+no_truth e = cc
+
+stands : (new old : VarKind) → varies new ≡ true → old ≡ Plain → StandsFor new old
+stands Plain old e plain = inl (sym plain)
+stands (Param i) old e plain = inr (plain, (i, refl))
+stands (Constant n) old e plain = absurd (no_truth e)
+
+merge_left : (k l : VarKind) → can_merge k l ≡ true → varies k ≡ true
+merge_left Plain l e = refl
+merge_left (Param i) l e = refl
+merge_left (Constant n) l e = absurd (no_truth e)
+
+merge_right : (k l : VarKind) → can_merge k l ≡ true → varies l ≡ true
+merge_right k Plain e = refl
+merge_right k (Param i) e = refl
+merge_right Plain (Constant n) e = absurd (no_truth e)
+merge_right (Param i) (Constant n) e = absurd (no_truth e)
+merge_right (Constant m) (Constant n) e = absurd (no_truth e)
+
+merge_plain : (k l : VarKind) → can_merge k l ≡ true → (l ≡ Plain → ⊥) → k ≡ Plain
+merge_plain Plain l e other = refl
+merge_plain (Param i) Plain e other = absurd (other refl)
+merge_plain (Param i) (Param j) e other = absurd (no_truth e)
+merge_plain (Param i) (Constant n) e other = absurd (no_truth e)
+merge_plain (Constant m) l e other = absurd (no_truth e)
+
+-- two variables that can merge: the second one is Plain, or the first one is
+merge_named : (code : VProc) (t s : ℕ) → t < length code.vars → IsPlain code s →
+    CanMerge code t s → IsJoinable code t × IsPlain code s
+merge_named code t s tl plain can = ((tl, merge_left (kind_of code t) (kind_of code s) can), plain)
+
+merge_turned : (code : VProc) (t s : ℕ) → t < length code.vars → s < length code.vars →
+    (IsPlain code s → ⊥) → CanMerge code t s → IsJoinable code s × IsPlain code t
+merge_turned code t s tl sl other can = (
+  (sl, merge_right (kind_of code t) (kind_of code s) can),
+  (tl, merge_plain (kind_of code t) (kind_of code s) can (λ e. other (sl, e))),
+)
+
+pub plain_joinable : (code : VProc) (v : ℕ) → IsPlain code v → IsJoinable code v
+plain_joinable code v plain = (plain.0, ap varies plain.1)
+
+-- two names are kept apart with cause
+abbrev pub Cant : VProc → ℕ → ℕ → Type 0
+Cant code to from = to ≢ from → IsJoinable code to → IsPlain code from → AreApart code to from → ⊥
+
+-- the same of variables that are alone, by their names
+pub pair_cant : (code : VProc) (t s one other : ℕ) → one ≡ t → other ≡ s → Cant code one other →
+    IsPlain code other → t ≢ s → t < length code.vars → CanMerge code t s → AreApart code t s → ⊥
+pair_cant code t s one other one_t other_s cant plain ne tl can apart =
+    let m = merge_named code t s tl (subst (λ u. IsPlain code u) other_s plain) can in
+    subst (λ y. Cant code t y) other_s (subst (λ x. Cant code x other) one_t cant) ne m.0 m.1 apart
+
+pub pair_turned : (code : VProc) (t s one other : ℕ) → one ≡ t → other ≡ s →
+    Cant code other one → (IsPlain code other → ⊥) → t ≢ s → t < length code.vars →
+    s < length code.vars → CanMerge code t s → AreApart code t s → ⊥
+pair_turned code t s one other one_t other_s cant varying ne tl sl can apart =
+    let m = merge_turned code t s tl sl
+    (λ p. varying (subst (λ u. IsPlain code u) (sym other_s) p)) can in
+    subst (λ y. Cant code s y) one_t (subst (λ x. Cant code x one) other_s cant)
+    (λ e. ne (sym e)) m.0 m.1 (apart_back code t s apart)
 
 -- ---- two classes are joined
 
 module _ (code : VProc) (old new : Classes) (are : AreClasses code old) (to from : ℕ)
-    (differ : to ≢ from) (to_plain : IsPlain code to) (from_plain : IsPlain code from)
+    (differ : to ≢ from) (to_joinable : IsJoinable code to) (from_plain : IsPlain code from)
     (count_ : length new.names.items ≡ length old.names.items)
     (names_ : (v : ℕ) → v < length old.names.items → name new.names.items v ≡
     (if nat_eq (name old.names.items v) from then to else name old.names.items v))
@@ -152,36 +213,40 @@ module _ (code : VProc) (old new : Classes) (are : AreClasses code old) (to from
   member v c e lt = subst (λ u. Contains (group u) v) e
       (are.members v (in_range v (subst (λ u. u < n) (sym e) lt)))
 
-  like : (v c : ℕ) → was v ≡ c → c < n → IsLike code c v
-  like v c e lt = All-contains (IsLike code c) (group c) v (are.kinds c) (member v c e lt)
-
   at_to : group_of new.groups.items to ≡ group to ++ group from
   at_to = ap (λ (gs : List (List ℕ)). group_of gs to) groups_ ∙ get_or-set_same old.groups.items to
-      (group to ++ group from) [] (let count = are.count in let lt = to_plain.0 in
+      (group to ++ group from) [] (let count = are.count in let lt = to_joinable.0 in
       omega (arith, count, lt))
 
   elsewhere : (c : ℕ) → c ≢ to → group_of new.groups.items c ≡ group c
   elsewhere c other = ap (λ (gs : List (List ℕ)). group_of gs c) groups_
       ∙ get_or-set_other old.groups.items to c (group to ++ group from) [] other
 
+  was_plain : (v : ℕ) → was v ≡ from → kind_of code v ≡ Plain
+  was_plain v e =
+      ⊎_elim
+      (λ (same : was v ≡ v). ap (λ u. kind_of code u) (sym same ∙ e) ∙ from_plain.1)
+      (λ (other : was v ≢ v). (are.names.plain v other).0)
+      (cases_eq (was v) v)
+
   names_are : AreNames code new.names.items
   names_are = record {
     count = count_ ∙ are.names.count;
     within = λ v lt.
         ⊎_elim
-        (λ (h : (was v ≡ from) × (now v ≡ to)). subst (λ u. u < n) (sym h.1) to_plain.0)
+        (λ (h : (was v ≡ from) × (now v ≡ to)). subst (λ u. u < n) (sym h.1) to_joinable.0)
         (λ (h : (was v ≢ from) × (now v ≡ was v)). subst (λ u. u < n) (sym h.1)
         (are.names.within v lt))
         (how v);
     plain = λ v other.
         ⊎_elim
         (λ (h : (was v ≡ from) × (now v ≡ to)). (
-          (like v from h.0 from_plain.0).1 ∙ from_plain.1,
-          ap (λ u. kind_of code u) h.1 ∙ to_plain.1,
+          was_plain v h.0,
+          ap (λ u. varies (kind_of code u)) h.1 ∙ to_joinable.1,
         ))
         (λ (h : (was v ≢ from) × (now v ≡ was v)).
         let p = are.names.plain v (λ e. other (h.1 ∙ e)) in
-        (p.0, ap (λ u. kind_of code u) h.1 ∙ p.1))
+        (p.0, ap (λ u. varies (kind_of code u)) h.1 ∙ p.1))
         (how v);
   }
 
@@ -196,7 +261,7 @@ module _ (code : VProc) (old new : Classes) (are : AreClasses code old) (to from
       ⊎_elim
       (λ (e : was v ≡ to). subst (λ u. Contains (group_of new.groups.items u) v) (sym (h.1 ∙ e))
       (subst (λ (g : List ℕ). Contains g v) (sym at_to)
-      (Contains-append_left (group to) (group from) v (member v to e to_plain.0))))
+      (Contains-append_left (group to) (group from) v (member v to e to_joinable.0))))
       (λ (ne : was v ≢ to). subst (λ u. Contains (group_of new.groups.items u) v) (sym h.1)
       (subst (λ (g : List ℕ). Contains g v) (sym (elsewhere (was v) ne)) (are.members v lt)))
       (cases_eq (was v) to))
@@ -210,7 +275,7 @@ module _ (code : VProc) (old new : Classes) (are : AreClasses code old) (to from
       (subst (λ (g : List ℕ). All (IsLike code to) g) (sym at_to)
       (All-append (IsLike code to) (group to) (group from) (are.kinds to)
       (All-weaker (IsLike code from) (IsLike code to)
-      (λ v p. (p.0, p.1 ∙ from_plain.1 ∙ sym to_plain.1)) (group from) (are.kinds from)))))
+      (λ v p. (p.0, p.1 ∙ ap varies from_plain.1 ∙ sym to_joinable.1)) (group from) (are.kinds from)))))
       (λ (ne : c ≢ to). subst (λ (g : List ℕ). All (IsLike code c) g) (sym (elsewhere c ne))
       (are.kinds c))
       (cases_eq c to)
@@ -237,9 +302,9 @@ module _ (code : VProc) (old new : Classes) (are : AreClasses code old) (to from
           ((was v ≢ from) × (now v ≡ was v)) → ((was w ≡ from) × (now w ≡ to)) ⊎
           ((was w ≢ from) × (now w ≡ was w)) → Meets code v w → ⊥
       by v w other same (inl h) (inl g) = are.apart v w other (h.0 ∙ sym g.0)
-      by v w other same (inl h) (inr g) = free from to from_plain.0 to_plain.0 back v w h.0
+      by v w other same (inl h) (inr g) = free from to from_plain.0 to_joinable.0 back v w h.0
           (sym g.1 ∙ sym same ∙ h.1)
-      by v w other same (inr h) (inl g) = free to from to_plain.0 from_plain.0 there v w
+      by v w other same (inr h) (inl g) = free to from to_joinable.0 from_plain.0 there v w
           (sym h.1 ∙ same ∙ g.1) g.0
       by v w other same (inr h) (inr g) = are.apart v w other (sym h.1 ∙ same ∙ g.1)
 
@@ -252,50 +317,31 @@ module _ (code : VProc) (old new : Classes) (are : AreClasses code old) (to from
       by (inr h) (inl g) = h.1 ∙ et ∙ sym g.1
       by (inr h) (inr g) = absurd (g.0 es)
 
--- the class of a Plain variable is named by one
-pub name_plain : (code : VProc) (classes : Classes) → AreClasses code classes → (v c : ℕ) →
-    c ≡ name classes.names.items v → IsPlain code v → IsPlain code c
-name_plain code classes are v c e plain =
-    subst (λ u. IsPlain code u) (sym e) (
-      are.names.within v plain.0,
-      ⊎_elim
-          (λ (same : name classes.names.items v ≡ v). ap (λ u. kind_of code u) same ∙ plain.1)
-          (λ (other : name classes.names.items v ≢ v). (are.names.plain v other).1)
-          (cases_eq (name classes.names.items v) v),
-    )
+-- the group of a name that varies, as it is read
+pub group_is : (code : VProc) (classes : Classes) → AreClasses code classes → (c : ℕ) →
+    IsJoinable code c → (g x : List ℕ) → x ≡ get_or classes.groups.items c x → g ≡ x →
+    g ≡ group_of classes.groups.items c
+group_is code classes are c joinable g x x_is g_is =
+    let lt : c < length classes.groups.items =
+    (let count = are.count in let l = joinable.0 in omega (arith, count, l)) in
+    g_is ∙ x_is ∙ some_same _ _
+    (sym (slice_get-get_or classes.groups.items c x lt)
+    ∙ slice_get-get_or classes.groups.items c [] lt)
 
-pub group_plain : (code : VProc) (classes : Classes) → AreClasses code classes → (c : ℕ) →
-    IsPlain code c → All (IsPlain code) (group_of classes.groups.items c)
-group_plain code classes are c plain =
-    All-weaker (IsLike code c) (IsPlain code) (λ v p. (p.0, p.1 ∙ plain.1))
-    (group_of classes.groups.items c) (are.kinds c)
+pub group_joinable : (code : VProc) (classes : Classes) → AreClasses code classes → (c : ℕ) →
+    IsJoinable code c → (g x : List ℕ) → x ≡ get_or classes.groups.items c x → g ≡ x →
+    All (IsJoinable code) g
+group_joinable code classes are c joinable g x x_is g_is =
+    subst (λ (h : List ℕ). All (IsJoinable code) h)
+    (sym (group_is code classes are c joinable g x x_is g_is))
+    (All-weaker (IsLike code c) (IsJoinable code) (λ v p. (p.0, p.1 ∙ joinable.1))
+    (group_of classes.groups.items c) (are.kinds c))
 
--- the name and the group of a Plain variable, as they are read
-module _ (code : VProc) (classes : Classes) (are : AreClasses code classes) (v c : ℕ)
-    (plain : IsPlain code v) (c_is : c ≡ get_or classes.names.items v c) where
-  pub class_is : c ≡ name classes.names.items v
-  class_is =
-      let lt : v < length classes.names.items =
-      (let count = are.names.count in let l = plain.0 in omega (arith, count, l)) in
-      c_is ∙ some_same _ _ (sym (slice_get-get_or classes.names.items v c lt)
-      ∙ slice_get-get_or classes.names.items v v lt)
-
-  pub class_plain : IsPlain code c
-  class_plain = name_plain code classes are v c class_is plain
-
-  pub group_is : (g x : List ℕ) → x ≡ get_or classes.groups.items c x → g ≡ x →
-      g ≡ group_of classes.groups.items c
-  group_is g x x_is g_is =
-      let lt : c < length classes.groups.items =
-      (let count = are.count in let l = class_plain.0 in omega (arith, count, l)) in
-      g_is ∙ x_is ∙ some_same _ _
-      (sym (slice_get-get_or classes.groups.items c x lt)
-      ∙ slice_get-get_or classes.groups.items c [] lt)
-
-  pub group_all_plain : (g x : List ℕ) → x ≡ get_or classes.groups.items c x → g ≡ x →
-      All (IsPlain code) g
-  group_all_plain g x x_is g_is = subst (λ (h : List ℕ). All (IsPlain code) h)
-      (sym (group_is g x x_is g_is)) (group_plain code classes are c class_plain)
+-- the name of a variable, as it is read
+pub class_is : (names : List ℕ) (v c : ℕ) → v < length names → c ≡ get_or names v c →
+    c ≡ name names v
+class_is names v c lt c_is =
+    c_is ∙ some_same _ _ (sym (slice_get-get_or names v c lt) ∙ slice_get-get_or names v v lt)
 
 -- ---- one more instruction is tried
 
@@ -337,17 +383,13 @@ copy_apart code b k t s valid_ is e =
 
 pub no_copy_here : (code : VProc) (b k : ℕ) (i : VInstr) → IsValid code → IsSized code →
     instr_at code b k ≡ Some i → IsNoCopy code i → NoCopyAt code b k
-no_copy_here code b k i valid_ sized is none t s at pt ps =
+no_copy_here code b k i valid_ sized is none t s at can =
     let i_is : i ≡ instr.Copy t s = some_same i (instr.Copy t s) (sym is ∙ at) in
-    none t s i_is (copy_apart code b k t s valid_ at) (
-      sized.variables_in_range b k (instr.Copy t s) at t.0
-          (inr (among_writes (instr.Copy t s) t.0 (inl refl))),
-      pt,
-    ) (
-      sized.variables_in_range b k (instr.Copy t s) at s.0
-          (inl (among_reads (instr.Copy t s) s.0 (inl refl))),
-      ps,
-    )
+    none t s i_is (copy_apart code b k t s valid_ at)
+    (sized.variables_in_range b k (instr.Copy t s) at t.0
+    (inr (among_writes (instr.Copy t s) t.0 (inl refl))))
+    (sized.variables_in_range b k (instr.Copy t s) at s.0
+    (inl (among_reads (instr.Copy t s) s.0 (inl refl)))) can
 
 pub no_copy_more : (code : VProc) (b n : ℕ) → NoCopyAt code b n →
     ((k : ℕ) → k < n → NoCopyAt code b k) → (k : ℕ) → k < n + 1 → NoCopyAt code b k
@@ -425,30 +467,56 @@ module _ (code : VProc) (names : List ℕ) (valid_ : IsValid code) (sized : IsSi
   not_constant : (n : ℤ) → Plain ≡ Constant n → ⊥
   not_constant n e = cc
 
+  not_argument : (i : ℕ) → Plain ≡ Param i → ⊥
+  not_argument i e = cc
+
+  constant_fixed : (k : VarKind) (n : ℤ) → varies k ≡ true → k ≡ Constant n → ⊥
+  constant_fixed k n e is = true_false (varies k) e (ap varies is)
+
+  -- what meets has other names
+  one_named : (b k v w : ℕ) (i : VInstr) → instr_at code b k ≡ Some i → is_joined names i ≡ false →
+      name names w ≡ name names v → Names i v →
+      Names i w ⊎ ((overwrites i v ≡ true) × Needed code b (suc k) w) → w ≡ v
+  one_named b k v w i is kept same first second =
+      ⊎_elim
+      (λ (e : w ≡ v). e)
+      (λ (ne : w ≢ v).
+      ⊎_elim
+      (λ (yes_ : is_between v w i ≡ true).
+      absurd (true_false (is_joined names i) (between_joined names v w i (sym same) yes_)
+      kept))
+      (λ (no_ : is_between v w i ≡ false).
+      absurd (found.apart v w (λ e. ne (sym e)) (sym same)
+      (b, k, record { instr = i; is = is; other = no_; first = first; second = second })))
+      (truth (is_between v w i)))
+      (cases_eq w v)
+
+  at_entry : (v : ℕ) → Needed code 0 0 v → kind_of code (name names v) ≡ kind_of code v
+  at_entry v needed =
+      ⊎_elim
+      (λ (same : name names v ≡ v). ap (λ u. kind_of code u) same)
+      (λ (other : name names v ≢ v).
+      let plain = (found.names_are.plain v other).0 in
+      let argument = valid_.live_at_entry v
+      (varying_live code v 0 0 0 (ap varies plain) (omega arith) needed) in
+      absurd (not_argument argument.0 (sym plain ∙ argument.1)))
+      (cases_eq (name names v) v)
+
   joins : Joins code names code.vars
   joins = record {
     homes = λ i. refl;
     fewer = omega arith;
     kinds = λ v named.
         ⊎_elim
-        (λ (same : name names v ≡ v). ap (λ u. kind_of code u) same)
-        (λ (other : name names v ≢ v). let p = found.names_are.plain v other in p.1 ∙ sym p.0)
+        (λ (same : name names v ≡ v). inl (ap (λ u. kind_of code u) same))
+        (λ (other : name names v ≢ v). let p = found.names_are.plain v other in
+        stands (kind_of code (name names v)) (kind_of code v) p.1 p.0)
         (cases_eq (name names v) v);
     in_range = λ v named. found.names_are.within v
         (sized.variables_in_range named.0 named.1 named.2 named.3 v named.4);
-    apart = λ b k i is kept v w named same other.
-        ⊎_elim
-        (λ (e : w ≡ v). e)
-        (λ (ne : w ≢ v).
-        ⊎_elim
-        (λ (yes_ : is_between v w i ≡ true).
-        absurd (true_false (is_joined names i) (between_joined names v w i (sym same) yes_)
-        kept))
-        (λ (no_ : is_between v w i ≡ false).
-        absurd (found.apart v w (λ e. ne (sym e)) (sym same)
-        (b, k, record { instr = i; is = is; other = no_; first = named; second = other })))
-        (truth (is_between v w i)))
-        (cases_eq w v);
+    one_each = λ b k i is kept v w one other same. one_named b k v w i is kept same one (inl other);
+    apart = λ b k i is kept v w over needed same. one_named b k v w i is kept same
+        (overwritten_named i v over) (inr (over, needed));
     constants = λ v w n kind one other same.
         let v_own : name names v ≡ v = ⊎_elim (λ (e : name names v ≡ v). e)
         (λ (ne : name names v ≢ v).
@@ -456,9 +524,10 @@ module _ (code : VProc) (names : List ℕ) (valid_ : IsValid code) (sized : IsSi
         (cases_eq (name names v) v) in
         let w_own : name names w ≡ w = ⊎_elim (λ (e : name names w ≡ w). e)
         (λ (ne : name names w ≢ w).
-        absurd (not_constant n (sym (found.names_are.plain w ne).1 ∙ ap (λ u. kind_of code u)
-        (same ∙ v_own) ∙ kind))) (cases_eq (name names w) w) in
+        absurd (constant_fixed (kind_of code (name names w)) n (found.names_are.plain w ne).1
+        (ap (λ u. kind_of code u) (same ∙ v_own) ∙ kind))) (cases_eq (name names w) w) in
         sym w_own ∙ same ∙ v_own;
+    entry = at_entry;
   }
 
   pub found_preserves : Preserves code (joined_code names code.vars code)

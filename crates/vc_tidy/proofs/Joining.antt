@@ -7,7 +7,7 @@ use Rattle.std.specs.List.{list_any}
 use Rattle.std.proofs.lemmas.Bool.Decides.{nat_tests}
 use Rattle.std.proofs.lemmas.List.{length-map, drop_more, drop_all}
 use Rattle.vc_tidy.proofs.Thin.{count_more}
-use Rattle.pra_base.proofs.Roles.{among_reads, among_writes}
+use Rattle.pra_base.proofs.Roles.{among_reads}
 use Rattle.pra_list.proofs.Elements.{left_begins}
 use Rattle.pra_list.proofs.Truths.{truth, if_true, if_false}
 use Rattle.pra_list.proofs.Options.{some_same, not_both}
@@ -22,7 +22,8 @@ use Rattle.pra_base.specs.Code.{kind_of, block_in, code_of, instr_at, no_block}
 use Rattle.pra_base.specs.Valid.{Names, IsValid, IsSized, instruction_count}
 use Rattle.vc_code.specs.Machine.{is_param}
 use Rattle.vc_same.specs.Renaming.{renamed}
-use Rattle.vc_same.specs.Reduction.{Needed, Part, Reduced, ParamsApart, IsNamed}
+use Rattle.vc_same.specs.Reduction.{Needed, Part, Reduced, ParamsApart, IsNamed, StandsFor}
+use Rattle.vc_same.specs.Reduction.{overwrites}
 use Rattle.vc_same.specs.Reduction.LeftOut.{copied}
 use Rattle.vc_same.specs.Reduction.Part.{ends, stays, left_out}
 use Rattle.vc_same.specs.SameRuns.{Preserves}
@@ -102,18 +103,22 @@ join_done names code new whole n le was =
 
 -- ---- the code
 
--- What other names must keep, so that the code under them is the code reduced. Variables that a
--- copy is left out between have one name, and then the kinds of both are that of the name.
+-- What other names must keep, so that the code under them is the code reduced.
 pub record Joins (code : VProc) (names : List ℕ) (vars : List VarKind) : Type 0 where
   pub homes : (i : ℕ) → list_any (is_param i) vars ≡ list_any (is_param i) code.vars
   pub fewer : length vars ≤ length code.vars
-  pub kinds : (v : ℕ) → IsNamed code v → slice_index_or vars (name names v) Plain ≡ kind_of code v
+  pub kinds : (v : ℕ) → IsNamed code v →
+      StandsFor (slice_index_or vars (name names v) Plain) (kind_of code v)
   pub in_range : (v : ℕ) → IsNamed code v → name names v < length vars
+  pub one_each : (b k : ℕ) (i : VInstr) → instr_at code b k ≡ Some i → is_joined names i ≡ false →
+      (v w : ℕ) → Names i v → Names i w → name names w ≡ name names v → w ≡ v
   pub apart : (b k : ℕ) (i : VInstr) → instr_at code b k ≡ Some i → is_joined names i ≡ false →
-      (v w : ℕ) → Names i v → name names w ≡ name names v → Names i w ⊎ Needed code b (suc k) w →
-      w ≡ v
+      (v w : ℕ) → overwrites i v ≡ true → Needed code b (suc k) w →
+      name names w ≡ name names v → w ≡ v
   pub constants : (v w : ℕ) (n : ℤ) → kind_of code v ≡ Constant n → IsNamed code v →
       IsNamed code w → name names w ≡ name names v → w ≡ v
+  pub entry : (v : ℕ) → Needed code 0 0 v →
+      slice_index_or vars (name names v) Plain ≡ kind_of code v
 
 module _ (code : VProc) (names : List ℕ) (vars : List VarKind) (joins : Joins code names vars) where
   abbrev to : ℕ → ℕ
@@ -122,24 +127,15 @@ module _ (code : VProc) (names : List ℕ) (vars : List VarKind) (joins : Joins 
   abbrev new : VProc
   new = joined_code names vars code
 
-  copy_kinds : (b k : ℕ) (t s : VarId) → instr_at code b k ≡ Some (instr.Copy t s) →
-      to t.0 ≡ to s.0 → kind_of code t.0 ≡ kind_of code s.0
-  copy_kinds b k t s is e =
-      sym (joins.kinds t.0 (
-        b,
-        k,
-        instr.Copy t s,
-        is,
-        inr (among_writes (instr.Copy t s) t.0 (inl refl)),
-      ))
-      ∙ ap (λ u. slice_index_or vars u Plain) e
-      ∙ joins.kinds s.0 (
-        b,
-        k,
-        instr.Copy t s,
-        is,
-        inl (among_reads (instr.Copy t s) s.0 (inl refl)),
-      )
+  source_kind : (b k : ℕ) (t s : VarId) → instr_at code b k ≡ Some (instr.Copy t s) →
+      StandsFor (slice_index_or vars (to s.0) Plain) (kind_of code s.0)
+  source_kind b k t s is = joins.kinds s.0 (
+    b,
+    k,
+    instr.Copy t s,
+    is,
+    inl (among_reads (instr.Copy t s) s.0 (inl refl)),
+  )
 
   parts : (b k j : ℕ) (xs : List VInstr) → drop k (code_of code b) ≡ xs →
       Part to code new b k j xs (joined names xs)
@@ -151,7 +147,7 @@ module _ (code : VProc) (names : List ℕ) (vars : List VarKind) (joins : Joins 
       let c = the_copy names x yes_ in
       subst (λ ys. Part to code new b k j (x ∷ xs) ys)
       (sym (joined_more names x xs ∙ if_true (is_joined names x) _ _ yes_))
-      (left_out (copied c.2 c.3 (copy_kinds b k c.0 c.1 (begins.0 ∙ ap Some c.2) c.3))
+      (left_out (copied c.2 c.3 (source_kind b k c.0 c.1 (begins.0 ∙ ap Some c.2)))
       (parts b (suc k) j xs begins.1)))
       (λ (no_ : is_joined names x ≡ false).
       subst (λ ys. Part to code new b k j (x ∷ xs) ys)
@@ -162,6 +158,8 @@ module _ (code : VProc) (names : List ℕ) (vars : List VarKind) (joins : Joins 
         kinds = λ v named. joins.kinds v (b, k, x, begins.0, named);
         in_range =
             λ v named lt. joins.in_range v (b, k, x, begins.0, named);
+        one_each =
+            joins.one_each b k x begins.0 no_;
         apart =
             joins.apart b k x begins.0 no_;
       })
@@ -182,6 +180,7 @@ module _ (code : VProc) (names : List ℕ) (vars : List VarKind) (joins : Joins 
     homes = joins.homes;
     fewer = joins.fewer;
     constants = joins.constants;
+    entry = joins.entry;
     count = length-map code.blocks (joined_block names);
     depths = λ b. ap (λ (x : Block). x.depth) (block_is code.blocks b);
     ends = λ b. ap (λ (x : Block). x.end) (block_is code.blocks b);

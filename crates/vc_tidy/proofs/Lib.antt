@@ -5,5 +5,6 @@ pub mod Marking
 pub mod Meeting
 pub mod Noted
 pub mod Numbered
+pub mod Overwriting
 pub mod Stepping
 pub mod Thin

@@ -29,6 +29,7 @@ use Rattle.vc_tidy.specs.Thinned.{is_marked, IsIn}
 use Rattle.vc_tidy.specs.Joined.{name, joined_code}
 use Rattle.vc_tidy.specs.Unused.{AreNamed, AreNumbers, is_argument, is_kept}
 use Rattle.vc_tidy.proofs.Joining.{Joins, joined_preserves}
+use Rattle.vc_tidy.proofs.Overwriting.{overwritten_named}
 
 or_none : (a b : Bool) → (a || b) ≡ false → b ≡ false
 or_none true b e = cc
@@ -261,22 +262,23 @@ module _ (code : VProc) (marks : List Bool) (names : List ℕ) (vars : List VarK
   needed_named b k w needed = let r = reads_here code w needed.to needed.read in
       (needed.to.block, needed.to.index, r.0, r.1, inl r.2)
 
+  kept_kind : (v : ℕ) → IsNamed code v → slice_index_or vars (name names v) Plain ≡ kind_of code v
+  kept_kind v m = (are.kinds v (in_range v m) (named_kept v m)).1
+
   joins : Joins code names vars
   joins = record {
     homes = λ i. are.homes i ∙ ap (λ (ks : List VarKind). list_any (is_param i) ks)
         (take_all (length code.vars) code.vars (omega arith));
     fewer = are.fewer;
-    kinds = λ v m. (are.kinds v (in_range v m) (named_kept v m)).1;
+    kinds = λ v m. inl (kept_kind v m);
     in_range = λ v m. (are.kinds v (in_range v m) (named_kept v m)).0;
-    apart = λ b k i is kept v w named same other. one_number v w (b, k, i, is, named)
-        (by b k i is w other) same;
+    one_each = λ b k i is kept v w one other same. one_number v w (b, k, i, is, one)
+        (b, k, i, is, other) same;
+    apart = λ b k i is kept v w over needed same. one_number v w
+        (b, k, i, is, overwritten_named i v over) (needed_named b (suc k) w needed) same;
     constants = λ v w n kind one other same. one_number v w one other same;
+    entry = λ v needed. kept_kind v (needed_named 0 0 v needed);
   }
-    where
-      by : (b k : ℕ) (i : VInstr) → instr_at code b k ≡ Some i → (w : ℕ) → Names i w ⊎
-          Needed code b (suc k) w → IsNamed code w
-      by b k i is w (inl m) = (b, k, i, is, m)
-      by b k i is w (inr needed) = needed_named b (suc k) w needed
 
   params : ParamsApart (joined_code names vars code)
   params v w i ev ew =

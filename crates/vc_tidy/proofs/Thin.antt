@@ -306,11 +306,13 @@ module _ (code : VProc) (l : Liveness) (valid_ : IsValid code) (sized : IsSized 
         (record {
           is = sym (same_names x);
           kinds =
-              λ v named. ap (λ (ks : List VarKind). slice_index_or ks v Plain) vars_;
+              λ v named. inl (ap (λ (ks : List VarKind). slice_index_or ks v Plain) vars_);
           in_range =
               λ v named lt. subst (λ (ks : List VarKind). v < length ks) (sym vars_) lt;
+          one_each =
+              λ v w one other same. same;
           apart =
-              λ v w named same other. same;
+              λ v w over needed same. same;
         })
         (parts b (suc k) (suc j) xs ys t (left_begins (code_of code b) xs k x e).1
         (left_begins (code_of new b) ys j x f).1 bl)
@@ -340,6 +342,7 @@ module _ (code : VProc) (l : Liveness) (valid_ : IsValid code) (sized : IsSized 
       fewer = let same : length new.vars ≡ length code.vars = ap length vars_ in
           omega (arith, same);
       constants = λ v w n kind one other same. same;
+      entry = λ v needed. ap (λ (ks : List VarKind). slice_index_or ks v Plain) vars_;
       count = thin.count;
       depths = λ b. ⊎_elim (λ (lt : b < length code.blocks). (thin.each b lt).depth)
           (λ (le : length code.blocks ≤ b). ap (λ (x : Block). x.depth) (both_past b le))

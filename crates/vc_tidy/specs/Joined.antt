@@ -5,13 +5,13 @@ use Rattle.std.specs.Prelude.{slice_index_or, All, Contains, Option, Some, None}
 use Rattle.pra_base.specs.declared.ids.VarId.{VarId}
 use Rattle.pra_base.specs.declared.code.Block.{Block}
 use Rattle.pra_base.specs.declared.code.VarKind.{VarKind}
-use Rattle.pra_base.specs.declared.code.VarKind.TheVariants.{Plain}
+use Rattle.pra_base.specs.declared.code.VarKind.TheVariants.{Constant, Plain}
 use Rattle.pra_base.specs.declared.code.VInstr.{VInstr}
-use Rattle.pra_base.specs.declared.code.VInstr.TheVariants.{Copy}
+use Rattle.pra_base.specs.declared.code.VInstr.TheVariants.{Copy, DivMod}
 use Rattle.pra_base.specs.declared.code.VProc.{VProc}
 use Rattle.pra_base.specs.Code.{kind_of, instr_at}
 use Rattle.pra_base.specs.Valid.{Names, IsValid, IsSized, instruction_count}
-use Rattle.vc_same.specs.Reduction.{Needed}
+use Rattle.vc_same.specs.Reduction.{Needed, overwrites}
 use Rattle.vc_same.specs.Renaming.{renamed}
 use Rattle.vc_same.specs.SameRuns.{Preserves}
 use Rattle.vc_code.specs.declared.row.OperandRow.{OperandRow}
@@ -19,7 +19,7 @@ use Rattle.vc_live.specs.declared.liveness.Liveness.{Liveness}
 use Rattle.vc_live.specs.Equations.{named_in}
 use Rattle.vc_live.specs.Rows.{live_at, IsLiveness}
 use Rattle.vc_tidy.specs.KindCounts.{KeepsKinds}
-use Rattle.vc_tidy.specs.Tidy.{is_between, CanBeOne, NoCopy}
+use Rattle.vc_tidy.specs.Tidy.{is_between, AreApart, CanMerge, NoCopy}
 use Rattle.vc_tidy.specs.declared.places.Place.{Place}
 use Rattle.vc_tidy.specs.declared.classes.Classes.{Classes}
 
@@ -35,12 +35,17 @@ pub record IsKnown (code : VProc) (l : Liveness) : Type 0 where
 abbrev pub name : List ℕ → ℕ → ℕ
 name names v = slice_index_or names v v
 
--- Only Plain variables have another name than their own, which is that of a Plain variable.
+-- a kind that can be the name of others: Plain or an argument's
+abbrev pub varies : VarKind → Bool
+varies (Constant n) = false
+varies _ = true
+
+-- Only Plain variables have another name than their own, that of a Plain variable or an argument's.
 pub record AreNames (code : VProc) (names : List ℕ) : Type 0 where
   pub count : length names ≡ length code.vars
   pub within : (v : ℕ) → v < length code.vars → name names v < length code.vars
   pub plain : (v : ℕ) → name names v ≢ v →
-      (kind_of code v ≡ Plain) × (kind_of code (name names v) ≡ Plain)
+      (kind_of code v ≡ Plain) × (varies (kind_of code (name names v)) ≡ true)
 
 -- a copy between two variables of one name
 abbrev pub is_joined : List ℕ → VInstr → Bool
@@ -71,14 +76,14 @@ HasJoined code names =
 
 -- ---- interference
 
--- Instruction k of block b, which is no copy between the two, has the first variable, while it has
--- the second one too, or that is needed behind it.
+-- Instruction k of block b, which is no copy between the two, has both variables, or it overwrites
+-- the first one where the second one is needed behind it.
 pub record MeetsAt (code : VProc) (b k v w : ℕ) : Type 0 where
   pub instr : VInstr
   pub is : instr_at code b k ≡ Some instr
   pub other : is_between v w instr ≡ false
   pub first : Names instr v
-  pub second : Names instr w ⊎ Needed code b (suc k) w
+  pub second : Names instr w ⊎ ((overwrites instr v ≡ true) × Needed code b (suc k) w)
 
 abbrev pub Meets : VProc → ℕ → ℕ → Type 0
 Meets code v w = (b k : ℕ) × MeetsAt code b k v w
@@ -88,21 +93,30 @@ abbrev pub AllApart : VProc → List ℕ → Type 0
 AllApart code names =
     (v w : ℕ) → v ≢ w → name names v ≡ name names w → Meets code v w → ⊥
 
+-- the dividend of a division
+abbrev pub is_dividend : VInstr → ℕ → Bool
+is_dividend (DivMod q r a d) v = nat_eq a.0 v
+is_dividend _ v = false
+
 -- the same of an instruction with these operands, by a liveness
 abbrev pub is_met : Liveness → VInstr → OperandRow → ℕ → ℕ → ℕ → ℕ → Bool
 is_met l i row b k v w =
     not (is_between v w i) && (named_in row.reads.items w || named_in row.writes.items w
-    || live_at l w b (2 * k + 2))
+    || ((named_in row.writes.items v || is_dividend i v) && live_at l w b (2 * k + 2)))
 
 -- a Plain variable of the code
 abbrev pub IsPlain : VProc → ℕ → Type 0
 IsPlain code v = (v < length code.vars) × (kind_of code v ≡ Plain)
 
--- the instruction is no copy between two Plain variables that can be one
+-- a variable of the code that is Plain or an argument's
+abbrev pub IsJoinable : VProc → ℕ → Type 0
+IsJoinable code v = (v < length code.vars) × (varies (kind_of code v) ≡ true)
+
+-- the instruction is no copy between two variables of the code that may be one
 abbrev pub IsNoCopy : VProc → VInstr → Type 0
 IsNoCopy code i =
-    (t s : VarId) → i ≡ Copy t s → t.0 ≢ s.0 → IsPlain code t.0 → IsPlain code s.0 →
-    CanBeOne code t.0 s.0 → ⊥
+    (t s : VarId) → i ≡ Copy t s → t.0 ≢ s.0 → t.0 < length code.vars →
+    s.0 < length code.vars → CanMerge code t.0 s.0 → AreApart code t.0 s.0 → ⊥
 
 -- some variable of one list meets one of another
 abbrev pub SomeMeet : VProc → List ℕ → List ℕ → Type 0
@@ -128,11 +142,12 @@ HasPlaces code places =
 abbrev pub group_of : List (List ℕ) → ℕ → List ℕ
 group_of groups c = slice_index_or groups c []
 
--- a variable of the code that is of the kind of another
+-- a variable of the code that is a constant where the other is
 abbrev pub IsLike : VProc → ℕ → ℕ → Type 0
-IsLike code c v = (v < length code.vars) × (kind_of code v ≡ kind_of code c)
+IsLike code c v = (v < length code.vars) × (varies (kind_of code v) ≡ varies (kind_of code c))
 
--- The variables of one name stand in its group, are of one kind and do not meet.
+-- The variables of one name stand in its group and do not meet, and none in the group of one that
+-- varies is a constant.
 pub record AreClasses (code : VProc) (classes : Classes) : Type 0 where
   pub names : AreNames code classes.names.items
   pub count : length classes.groups.items ≡ length code.vars
@@ -147,6 +162,12 @@ pub record AreAlone (code : VProc) (classes : Classes) : Type 0 where
   pub groups_count : length classes.groups.items ≡ length code.vars
   pub names : (v : ℕ) → name classes.names.items v ≡ v
   pub groups : (v : ℕ) → v < length code.vars → group_of classes.groups.items v ≡ v ∷ []
+
+-- the variables of two names have one now
+abbrev pub AreJoined : Classes → Classes → ℕ → ℕ → Type 0
+AreJoined old new one other =
+    (v w : ℕ) → name old.names.items v ≡ one → name old.names.items w ≡ other →
+    name new.names.items v ≡ name new.names.items w
 
 -- what is known of classes: some copy is joined, or all variables are alone
 pub record AreTried (code : VProc) (now : Classes) (joined : Bool) : Type 0 where

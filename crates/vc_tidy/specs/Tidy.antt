@@ -1,19 +1,18 @@
 -- When code is tidy: nothing dead, no copy that could be saved, no variable without use.
-use Rattle.std.specs.Prelude.{◌≡◌, ℕ, ◌+◌, ◌*◌, ◌<◌, ◌≤◌, ◌⊎◌, Bool, true, false, not, ◌||◌, ◌&&◌}
-use Rattle.std.specs.Prelude.{nat_eq, if◌then◌else◌, length, map, filter, Some}
+use Rattle.std.specs.Prelude.{◌≡◌, ℕ, ◌+◌, ◌*◌, ◌<◌, ◌⊎◌, Bool, true, false, ◌||◌, ◌&&◌, nat_eq}
+use Rattle.std.specs.Prelude.{length, Some}
 use Rattle.pra_base.specs.declared.ids.VarId.{VarId}
 use Rattle.pra_base.specs.declared.code.VInstr.{VInstr}
 use Rattle.pra_base.specs.declared.code.VInstr.TheVariants.{Copy}
+use Rattle.pra_base.specs.declared.code.VarKind.{VarKind}
 use Rattle.pra_base.specs.declared.code.VarKind.TheVariants.{Param, Plain}
-use Rattle.pra_base.specs.declared.code.Block.{Block}
 use Rattle.pra_base.specs.declared.code.VProc.{VProc}
-use Rattle.pra_base.specs.Code.{kind_of, code_of, instr_at}
+use Rattle.pra_base.specs.Code.{kind_of, instr_at}
 use Rattle.pra_base.specs.Operands.{writes}
-use Rattle.pra_base.specs.Live.{Live, writes_at}
-use Rattle.pra_base.specs.Valid.{RolesApart, DivisionApart}
+use Rattle.pra_base.specs.Live.{Live}
+use Rattle.pra_base.specs.Valid.{Names}
 use Rattle.vc_same.specs.Pure.{is_pure}
-use Rattle.vc_same.specs.Reduction.{IsNamed}
-use Rattle.vc_same.specs.Renaming.{renamed}
+use Rattle.vc_same.specs.Reduction.{IsNamed, overwrites}
 
 -- ---- dead instructions
 
@@ -28,50 +27,47 @@ NoDead code = (b k : ℕ) (i : VInstr) → instr_at code b k ≡ Some i → is_p
 
 -- ---- copies between variables that can be one
 
--- The variable is present at a layer of a block: it is live there, or the layer is the one after an
--- instruction that writes it.
-abbrev pub IsPresent : VProc → ℕ → ℕ → ℕ → Type 0
-IsPresent code v b layer = Live code v b layer
-    ⊎ ((k : ℕ) × (layer ≡ 2 * k + 2) × (writes_at code v (record { block = b; index = k }) ≡ true))
-
--- The live ranges of two variables do not interfere: at no layer are both present. That one is a
--- copy of the other makes no exception.
-abbrev pub AreApart : VProc → ℕ → ℕ → Type 0
-AreApart code v w =
-    (b layer : ℕ) → b < length code.blocks → layer ≤ 2 * length (code_of code b) + 1 →
-    IsPresent code v b layer → IsPresent code w b layer → ⊥
-
 -- a copy from one to the other or back
 abbrev pub is_between : ℕ → ℕ → VInstr → Bool
 is_between v w (Copy t s) =
     (nat_eq t.0 v && nat_eq s.0 w) || (nat_eq t.0 w && nat_eq s.0 v)
 is_between v w _ = false
 
--- the first variable's number in the place of the second one's
-abbrev pub in_place : ℕ → ℕ → ℕ → ℕ
-in_place v w u = if nat_eq u w then v else u
+-- Chaitin's interference: some instruction overwrites one variable where the other one is live
+-- behind it, and is no copy between the two.
+abbrev pub Interferes : VProc → ℕ → ℕ → Type 0
+Interferes code v w =
+    (b k : ℕ) × (i : VInstr) × (instr_at code b k ≡ Some i) × (is_between v w i ≡ false)
+    × (overwrites i v ≡ true) × Live code w b (2 * k + 2)
 
--- the code with one variable in the place of the other, without the copies between them
-abbrev pub block_as_one : ℕ → ℕ → Block → Block
-block_as_one v w block = record block {
-  code = map (renamed (in_place v w)) (filter (λ i. not (is_between v w i)) block.code);
-}
+-- no instruction but copies between the two has both
+abbrev pub OneEach : VProc → ℕ → ℕ → Type 0
+OneEach code v w =
+    (b k : ℕ) (i : VInstr) → instr_at code b k ≡ Some i → Names i v → Names i w →
+    is_between v w i ≡ false → ⊥
 
-abbrev pub as_one : ℕ → ℕ → VProc → VProc
-as_one v w code = record code { blocks = map (block_as_one v w) code.blocks }
+-- Two variables that may be one: where both are live they are equal, since neither is overwritten
+-- there but by a copy of the other.
+pub record AreApart (code : VProc) (v w : ℕ) : Type 0 where
+  pub there : Interferes code v w → ⊥
+  pub back : Interferes code w v → ⊥
+  pub one_each : OneEach code v w
 
--- Two variables can be one where they do not interfere and the code with one in the place of the
--- other keeps the rules on the operands of an instruction.
-pub record CanBeOne (code : VProc) (v w : ℕ) : Type 0 where
-  pub apart : AreApart code v w
-  pub roles_apart : RolesApart (as_one v w code).blocks
-  pub division_apart : DivisionApart (as_one v w code)
+-- the kinds of two variables that may be one: both are Plain, or one is Plain and one an argument's
+abbrev pub can_merge : VarKind → VarKind → Bool
+can_merge Plain Plain = true
+can_merge Plain (Param i) = true
+can_merge (Param i) Plain = true
+can_merge _ _ = false
 
--- instruction k of block b is no copy between two Plain variables that can be one
+abbrev pub CanMerge : VProc → ℕ → ℕ → Type 0
+CanMerge code v w = can_merge (kind_of code v) (kind_of code w) ≡ true
+
+-- instruction k of block b is no copy between two variables that may be one
 abbrev pub NoCopyAt : VProc → ℕ → ℕ → Type 0
 NoCopyAt code b k =
-    (t s : VarId) → instr_at code b k ≡ Some (Copy t s) → kind_of code t.0 ≡ Plain →
-    kind_of code s.0 ≡ Plain → CanBeOne code t.0 s.0 → ⊥
+    (t s : VarId) → instr_at code b k ≡ Some (Copy t s) → CanMerge code t.0 s.0 →
+    AreApart code t.0 s.0 → ⊥
 
 abbrev pub NoCopy : VProc → Type 0
 NoCopy code = (b k : ℕ) → NoCopyAt code b k

@@ -2,8 +2,9 @@
 
 ghost use Rattle.std.specs.Prelude.{◌≡◌, ◌≢◌, ℕ, ◌<◌, length, IfOk, MatchOption, true, false};
 ghost use Rattle.vc_tidy.specs.Joined.{AreAlone, AreClasses, AreTried, HasPlaces, IsFound};
-ghost use Rattle.vc_tidy.specs.Joined.{IsJoined, IsKnown, IsNoCopy, IsPlain, is_joined, name};
-ghost use Rattle.vc_tidy.specs.Tidy.{CanBeOne, NoCopy, NoCopyAt};
+ghost use Rattle.vc_tidy.specs.Joined.{AreJoined, IsJoinable, IsJoined, IsKnown, IsNoCopy, IsPlain};
+ghost use Rattle.vc_tidy.specs.Joined.{is_joined, name};
+ghost use Rattle.vc_tidy.specs.Tidy.{AreApart, CanMerge, NoCopy, NoCopyAt};
 
 use crate::classes::{Classes, all_alone};
 use crate::join::joined_code;
@@ -28,7 +29,62 @@ fn is_plain(code: &VProc, v: u32) -> bool
     }
 }
 
-// Joins the classes of two Plain variables that never meet, and says whether it has.
+// Whether a variable is Plain or an argument's.
+fn is_joinable(code: &VProc, v: u32) -> bool
+    ensures joinable { result ≡ true → IsJoinable code.now v }
+    ensures other { result ≡ false → IsJoinable code.now v → ⊥ }
+{
+    let at = v as usize;
+    if at >= code.vars.len() {
+        return false;
+    }
+    match code.vars[at] {
+        VarKind::Constant(_) => false,
+        _ => true,
+    }
+}
+
+// Joins two classes under the name of the first one, if that may vary, the second one is named by a
+// Plain variable, and no members meet. Says whether it has.
+fn join_classes(
+    alloc: Global,
+    classes: &mut Classes,
+    code: &VProc,
+    liveness: &Liveness,
+    places: &[Seq<Place>],
+    to: u32,
+    from: u32,
+) -> Result<bool, AllocError>
+    requires known { IsKnown code.now liveness.now }
+    requires places { HasPlaces code.now places.now }
+    requires classes { AreClasses code.now classes.old }
+    ensures classes { IfOk result (λ joined. AreClasses code.now classes.new) }
+    ensures joined { IfOk result (λ joined. joined ≡ true → AreJoined classes.old classes.new to from) }
+    ensures same { IfOk result (λ joined. joined ≡ false → classes.new ≡ classes.old) }
+    ensures apart { IfOk result (λ joined. joined ≡ false → AreAlone code.now classes.old →
+        to ≢ from → IsJoinable code.now to → IsPlain code.now from →
+        AreApart code.now to from → ⊥) }
+{
+    if to == from {
+        return Ok(false);
+    }
+    if !is_joinable(code, to) {
+        return Ok(false);
+    }
+    if !is_plain(code, from) {
+        return Ok(false);
+    }
+    let first = classes.groups[to as usize].as_slice();
+    let second = classes.groups[from as usize].as_slice();
+    if either_meets(code, liveness, places, first, second) {
+        return Ok(false);
+    }
+    classes.join(alloc, to, from)?;
+    Ok(true)
+}
+
+// Joins the classes of two variables where they may be one, and says whether it has. An argument's
+// number stays the name of its class.
 fn join_pair(
     alloc: Global,
     classes: &mut Classes,
@@ -46,26 +102,24 @@ fn join_pair(
         name classes.new.names.items t ≡ name classes.new.names.items s) }
     ensures same { IfOk result (λ joined. joined ≡ false → classes.new ≡ classes.old) }
     ensures apart { IfOk result (λ joined. joined ≡ false → AreAlone code.now classes.old → t ≢ s →
-        IsPlain code.now t → IsPlain code.now s → CanBeOne code.now t s → ⊥) }
+        t < length code.now.vars → s < length code.now.vars → CanMerge code.now t s →
+        AreApart code.now t s → ⊥) }
 {
-    if !is_plain(code, t) {
+    let count = classes.names.len();
+    if t as usize >= count {
         return Ok(false);
     }
-    if !is_plain(code, s) {
+    if s as usize >= count {
         return Ok(false);
     }
     let one = classes.names[t as usize];
     let other = classes.names[s as usize];
-    if one == other {
-        return Ok(false);
+    if is_plain(code, other) {
+        let joined = join_classes(alloc, classes, code, liveness, places, one, other)?;
+        return Ok(joined);
     }
-    let first = classes.groups[one as usize].as_slice();
-    let second = classes.groups[other as usize].as_slice();
-    if either_meets(code, liveness, places, first, second) {
-        return Ok(false);
-    }
-    classes.join(alloc, one, other)?;
-    Ok(true)
+    let joined = join_classes(alloc, classes, code, liveness, places, other, one)?;
+    Ok(joined)
 }
 
 fn try_instr(

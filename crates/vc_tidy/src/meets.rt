@@ -1,11 +1,12 @@
-// Which variables meet: where an instruction has one while it has the other or that is live behind
-// it.
+// Which variables meet: where an instruction has both, or overwrites one while the other is live
+// behind it, and is no copy between the two. That a variable is only read where the other is live
+// keeps them not apart, since then they are equal.
 
 ghost use Rattle.std.specs.Prelude.{◌≡◌, ℕ, ◌<◌, ◌⊎◌, ◌||◌, false, true, All, Contains};
 ghost use Rattle.pra_base.specs.Valid.{most_instructions};
 ghost use Rattle.vc_live.specs.Equations.{named_in};
-ghost use Rattle.vc_tidy.specs.Joined.{HasPlaces, IsKnown, IsPlain, Meets, MeetsAt, NoneMeet};
-ghost use Rattle.vc_tidy.specs.Joined.{SomeMeet, is_met};
+ghost use Rattle.vc_tidy.specs.Joined.{HasPlaces, IsJoinable, IsKnown, Meets, MeetsAt, NoneMeet};
+ghost use Rattle.vc_tidy.specs.Joined.{SomeMeet, is_dividend, is_met};
 ghost use Rattle.vc_tidy.specs.Tidy.{is_between};
 
 use crate::places::Place;
@@ -41,8 +42,18 @@ fn is_between(v: u32, w: u32, instr: VInstr) -> bool
     }
 }
 
-// Whether the second variable is had by the instruction at the place or live behind it, where that
-// is no copy between the two.
+// Whether the instruction divides the variable. Placed code leaves nothing in the dividend's place.
+fn is_dividend(instr: VInstr, v: u32) -> bool
+    ensures { result ≡ is_dividend instr v }
+{
+    match instr {
+        VInstr::DivMod(_, _, a, _) => a.0 == v,
+        _ => false,
+    }
+}
+
+// Whether the second variable is had by the instruction at the place, or is live behind it where
+// that overwrites the first one. A copy between the two is none.
 fn is_met(
     liveness: &Liveness,
     instr: VInstr,
@@ -57,13 +68,17 @@ fn is_met(
     if is_between(v, w, instr) {
         return false;
     }
-    is_in_row(row, w) || liveness.at(VarId(w), BlockId(place.block), 2 * place.index + 2)
+    if is_in_row(row, w) {
+        return true;
+    }
+    let overwritten = is_in(row.writes.as_slice(), v) || is_dividend(instr, v);
+    overwritten && liveness.at(VarId(w), BlockId(place.block), 2 * place.index + 2)
 }
 
 // Whether a variable meets one of the others at a place.
 fn meets_at(code: &VProc, liveness: &Liveness, place: Place, v: u32, others: &[u32]) -> bool
     requires known { IsKnown code.now liveness.now }
-    requires others { All (IsPlain code.now) others.now }
+    requires others { All (IsJoinable code.now) others.now }
     ensures some { result ≡ true → (w : ℕ) × Contains others.now w × Meets code.now v w }
     ensures none { result ≡ false →
         All (λ w. MeetsAt code.now place.block place.index v w → ⊥) others.now }
@@ -93,7 +108,7 @@ fn meets_at(code: &VProc, liveness: &Liveness, place: Place, v: u32, others: &[u
 // Whether a variable meets one of the others at one of its places.
 fn meets(code: &VProc, liveness: &Liveness, places: &[Place], v: u32, others: &[u32]) -> bool
     requires known { IsKnown code.now liveness.now }
-    requires others { All (IsPlain code.now) others.now }
+    requires others { All (IsJoinable code.now) others.now }
     ensures some { result ≡ true → (w : ℕ) × Contains others.now w × Meets code.now v w }
     ensures none { result ≡ false →
         All (λ p. All (λ w. MeetsAt code.now p.block p.index v w → ⊥) others.now) places.now }
@@ -116,8 +131,8 @@ fn groups_meet(
 ) -> bool
     requires known { IsKnown code.now liveness.now }
     requires places { HasPlaces code.now places.now }
-    requires one { All (IsPlain code.now) one.now }
-    requires other { All (IsPlain code.now) other.now }
+    requires one { All (IsJoinable code.now) one.now }
+    requires other { All (IsJoinable code.now) other.now }
     ensures some { result ≡ true → SomeMeet code.now one.now other.now }
     ensures none { result ≡ false → NoneMeet code.now one.now other.now }
 {
@@ -143,8 +158,8 @@ pub fn either_meets(
 ) -> bool
     requires known { IsKnown code.now liveness.now }
     requires places { HasPlaces code.now places.now }
-    requires one { All (IsPlain code.now) one.now }
-    requires other { All (IsPlain code.now) other.now }
+    requires one { All (IsJoinable code.now) one.now }
+    requires other { All (IsJoinable code.now) other.now }
     ensures some { result ≡ true →
         SomeMeet code.now one.now other.now ⊎ SomeMeet code.now other.now one.now }
     ensures there { result ≡ false → NoneMeet code.now one.now other.now }
