@@ -1,5 +1,5 @@
 -- Code under other names: how it is made, that it is the code reduced, and that it is shorter.
-use Rattle.std.proofs.Common.{◌≡◌, ℕ, zero, suc, ◌+◌, ◌<◌, ◌≤◌, ◌⊎◌, inl, inr, ⊎_elim, ℤ, Bool}
+use Rattle.std.proofs.Common.{◌≡◌, ℕ, zero, suc, ◌+◌, ◌<◌, ◌≤◌, inl, ⊎_elim, ℤ, Bool}
 use Rattle.std.proofs.Common.{true, false, nat_eq, if◌then◌else◌, List, [], ◌∷◌, ◌++◌, drop, get_or}
 use Rattle.std.proofs.Common.{append_assoc, append-nil, length, map, slice_get, slice_index_or}
 use Rattle.std.proofs.Common.{Some, None, refl, sym, ap, subst, ◌∙◌, arith}
