@@ -243,6 +243,6 @@ END Samples.
 = 0|..| 175 3 4$ 3$|procedure 0 Samples frame ..$~procedure 1 Multiply frame ..$~\
     procedure 2 Divide frame ..$~procedure 3 Find frame ..$~ended steps .. reads 10$
 words run M.ob --rounds 0
-= 0|987| 175 3 4$ 3$|procedure 0 Samples frame ..$~procedure 1 Multiply frame ..$~\
-    procedure 2 Divide frame ..$~procedure 3 Find frame ..$~ended steps 639 reads 10$
+= 0|975| 175 3 4$ 3$|procedure 0 Samples frame ..$~procedure 1 Multiply frame ..$~\
+    procedure 2 Divide frame ..$~procedure 3 Find frame ..$~ended steps 627 reads 10$
 ";
