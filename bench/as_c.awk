@@ -1,7 +1,8 @@
 # Writes a generated module as a program in C that writes the same. It knows the lines of generated
-# modules alone. Signed sums wrap where the program is compiled with -fwrapv.
+# modules alone. Signed sums wrap where the program is compiled with -fwrapv. It includes no headers,
+# since those for 32 bits may be missing where gcc -m32 compiles.
 /^MODULE/ {
-    print "#include <stdint.h>\n#include <stdio.h>"
+    print "typedef int int32_t;\nint printf(const char *, ...);\nint putchar(int);"
     print "/* DIV by a number above 0 is rounded down. */"
     print "static inline int32_t quotient(int32_t x, int32_t y) { return x / y - (x % y < 0); }"
     next
