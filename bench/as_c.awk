@@ -1,6 +1,6 @@
 # Writes a generated module as a program in C that writes the same. It knows the lines of generated
-# modules alone. Signed sums wrap where the program is compiled with -fwrapv. It includes no headers,
-# since those for 32 bits may be missing where gcc -m32 compiles.
+# modules alone. Signed sums wrap where the program is compiled with -fwrapv. No header is included:
+# where gcc -m32 compiles, those for 32 bits may be missing.
 /^MODULE/ {
     print "typedef int int32_t;\nint printf(const char *, ...);\nint putchar(int);"
     print "/* DIV by a number above 0 is rounded down. */"

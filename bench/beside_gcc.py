@@ -82,7 +82,7 @@ def made(command):
 
 def ending(line):
     """How a run ended and after how many steps, by its last line."""
-    found = re.fullmatch(r"(ended|trap (\w+)) steps (\d+) reads \d+", line)
+    found = re.fullmatch(r"(ended|trap (Index|Divide|Input)) steps (\d+) reads \d+", line)
     if not found:
         raise Refused(f"our run: {line}")
     return TRAPS[found[2]] if found[2] else 0, int(found[3])
