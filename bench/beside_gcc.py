@@ -10,7 +10,7 @@ Modules are FILEs, which are run without input, or else generated ones of 20 pro
 program has to write and end as ours do before its figures are told. The last rows are sums.
 
 Bytes are, of ours, those of the whole code, as `code N` of the report: with the call of the body,
-INT 20h and the stubs of three traps, 28 bytes in all, and with 15 bytes a procedure in which the
+INT 20h and the stubs of three traps, 28 bytes in all, and with 12 bytes a procedure in which the
 stack is tested. Of gcc they are the code sections of the object file, with what aligns functions
 and loops at -O2, and without the functions that read, write and trap, which are INT in ours.
 
@@ -20,7 +20,6 @@ the instructions that hand over a number to be written, and an INT is one as a c
 """
 
 import argparse
-import contextlib
 import glob
 import os
 import re
@@ -45,6 +44,7 @@ LEFT_OUT = {
     "overflow": "it ends where the stack is full, which C does not test",
 }
 MOST_STEPS = "200000000"
+RAN = 2  # the greatest status with which a run's module was compiled
 PLAIN = "-fno-pie -fno-stack-protector -fcf-protection=none -fno-asynchronous-unwind-tables"
 FLAGS = ["-m32", "-ffreestanding", "-fwrapv", *PLAIN.split()]
 SUPPLIED = {"read_number", "write_number", "write_line", "trap"}  # what a module calls
@@ -72,10 +72,10 @@ def called(command, text=""):
     return done.stdout, done.stderr.decode(errors="replace"), done.returncode
 
 
-def made(command):
-    """Calls a tool that has to do its work, and gives what it writes."""
+def made(command, most=0):
+    """Calls a tool that has to end with this status or a lower one, and gives what it writes."""
     out, notes, status = called(command)
-    if status:
+    if not 0 <= status <= most:
         raise Refused(f"{command[0]}: {notes.strip().splitlines()[-1:]}")
     return out.decode()
 
@@ -166,7 +166,7 @@ def modules(program, folder):
     for seed in SEEDS:
         file = f"{folder}/{seed}.ob"
         words = ["--seed", str(seed), "--size", str(SIZE), "--rounds", "0"]
-        made([program, "gen", file, *words, "--image", f"{folder}/out.pri"])
+        made([program, "gen", file, *words, "--image", f"{folder}/out.pri"], RAN)
         yield f"generated {seed}", file
     for file in sorted(glob.glob(f"{TOP}/examples/*.ob")):
         yield os.path.basename(file).removesuffix(".ob"), file
@@ -197,6 +197,9 @@ def words_of(given):
     words = parser.parse_args(given)
     named = words.compiler or [f"pra={TOP}/crates/pra/out/pra"]
     words.compiler = [(it.partition("=")[0], os.path.abspath(it.partition("=")[2])) for it in named]
+    for name, program in words.compiler:
+        if not os.access(program, os.X_OK) or os.path.isdir(program):
+            parser.error(f"{name}: there is no program {program}")
     return words
 
 
@@ -204,7 +207,7 @@ def main(given):
     words, rows = words_of(given), []
     with tempfile.TemporaryDirectory() as folder:
         gcc = Gcc(folder)
-        all_of_them = [(os.path.basename(it), it) for it in words.files]
+        all_of_them = [(os.path.basename(it).removesuffix(".ob"), it) for it in words.files]
         for name, file in all_of_them or modules(words.compiler[-1][1], folder):
             if name in LEFT_OUT:
                 print(f"{name} is left out: {LEFT_OUT[name]}", file=sys.stderr)
@@ -222,5 +225,7 @@ def main(given):
 
 
 if __name__ == "__main__":
-    with contextlib.suppress(BrokenPipeError):
+    try:
         sys.exit(main(sys.argv[1:]))
+    except (Refused, OSError) as why:
+        sys.exit(f"beside_gcc.py: {why}")

@@ -33,7 +33,7 @@ trap 'rm -rf "$folder"' EXIT
 cd "$folder"
 
 for seed in $seeds; do
-    "$program" gen "$seed.ob" --seed "$seed" --size 200 --rounds 0 >/dev/null
+    "$program" gen "$seed.ob" --seed "$seed" --size 200 --rounds 0 >/dev/null || [ $? -le 2 ]
     awk -f "$bench/as_c.awk" "$seed.ob" >"$seed.c"
 done
 first=${seeds%% *}

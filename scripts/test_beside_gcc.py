@@ -36,7 +36,8 @@ def gcc_works():
     """Whether gcc makes objects for IA-32, and the kernel runs their programs."""
     if shutil.which("gcc") is None:
         return False
-    with tempfile.TemporaryDirectory() as folder, contextlib.suppress(Exception):
+    problems = beside_gcc.Refused, OSError, LookupError, ValueError
+    with tempfile.TemporaryDirectory() as folder, contextlib.suppress(*problems):
         told = beside_gcc.Gcc(folder).figures(in_c.in_c(b"MODULE M; END M."), "-O0", "")
         return told[2] == (b"", 0)
     return False
