@@ -1,5 +1,4 @@
-// Prints the module that is generated of a seed and a size, its two words: the source that
-// bench/compile.sh compiles.
+// Prints the module that is generated of a seed and a size, as the mode gen writes it.
 
 use anyhow::{anyhow, ensure};
 use pra_gen::generate;
