@@ -30,7 +30,8 @@ pub fn shared_visits(alloc: Global, codes: &[VProc]) -> Result<Vec<u64>, OutOfMe
     }
     let mut visits = Vec::with_capacity(alloc, codes.len())?;
     for code in codes {
-        let share = MODULE_VISITS.saturating_mul(size_of(code)) / all;
+        let part = MODULE_VISITS.saturating_mul(size_of(code));
+        let share = part.checked_div(all).unwrap_or(0);
         visits.push(share.min(PROCEDURE_VISITS))?;
     }
     Ok(visits)

@@ -16,7 +16,7 @@ returns-in-Fails g c =
     let cert = c.index-cert.result.now in
     let reason = c.in-Fails.reason in
     let found : IsFound c.args.counts.now p cert (Fails reason)
-    = subst (IsFound c.args.counts.now p cert) c.in-Fails.is c.in_ok-network_of.ensures in
+    = subst (IsFound c.args.counts.now p cert) c.in-Fails.is c.in_ok-reason.ensures in
     fails_found certificate p cert reason
     (slice_get_read certificate.procs (length certificate.procs) p cert refl
     c.requires.number c.index-cert.ensures)
@@ -28,7 +28,7 @@ first_in-requires-clause-net g c =
     let net = c.in-Made.net in
     let found : HasCode c.args.counts.now c.args.number cert.code × IsNet net cert.code
     = subst (IsFound c.args.counts.now c.args.number cert) c.in-Made.is
-    c.in_ok-network_of.ensures in
+    c.in_ok-reason.ensures in
     built cert.code net found.1 found.0.valid found.0.sized
 
 pub returns-in-Made : goal.returns-in-Made
@@ -39,7 +39,7 @@ returns-in-Made g c =
     let net = c.in-Made.net in
     let w = weights_of c.args.model.now in
     let found : HasCode c.args.counts.now p cert.code × IsNet net cert.code
-    = subst (IsFound c.args.counts.now p cert) c.in-Made.is c.in_ok-network_of.ensures in
+    = subst (IsFound c.args.counts.now p cert) c.in-Made.is c.in_ok-reason.ensures in
     let code = subst (λ (counts : List ℕ). HasCode counts p cert.code) c.requires.counts found.0 in
     let at = slice_get_read certificate.procs (length certificate.procs) p cert refl
     c.requires.number c.index-cert.ensures in

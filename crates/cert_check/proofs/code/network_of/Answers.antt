@@ -13,7 +13,7 @@ returns-then-not-has_places c =
     let code = c.args.cert.now.code in
     let live = c.in_ok-live.live in (
       record {
-        id = c.if-id-number.false;
+        id = c.if-code-number.false;
         sized = c.is_sized.ensures.0 c.if-not-is_sized.false;
         valid = c.is_valid.ensures.0 c.if-not-is_valid.false;
         calls = c.is_counted.ensures.0 c.if-not-is_counted.false;
