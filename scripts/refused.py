@@ -108,7 +108,7 @@ class Bench:
         if status or (image == BEFORE) == (call.mode in WRITES):
             print(f"{call.mode}: status {status} {notes.decode(errors='replace')[:60].strip()}")
             return None
-        return left, int(self.load("count"))
+        return left, int(self.load("count").split()[0])
 
 
 def numbers(count, most):
