@@ -1,7 +1,7 @@
 // Runs a loop of ten million steps on the machine and prints what came of it: the work behind
 // bench/step.sh.
 
-use anyhow::anyhow;
+use anyhow::bail;
 use ia_code::Image;
 use ia_step::Machine;
 use pra_list::Seq;
@@ -34,12 +34,12 @@ pub fn measure(rt: &HostRuntime) -> anyhow::Result<()> {
         code: Seq::from_vec(CODE.to_vec(rt.alloc())?),
         data_words: 1,
     };
-    let mut machine = Machine::load(rt.alloc(), &image, Vec::new(rt.alloc())).map_err(|_| anyhow!(
-        "no memory"
-    ))?;
-    let out = machine
-        .run(rt.alloc(), MOST_STEPS)
-        .map_err(|_| anyhow!("no memory"))?;
+    let Ok(mut machine) = Machine::load(rt.alloc(), &image, Vec::new(rt.alloc())) else {
+        bail!("no memory");
+    };
+    let Ok(out) = machine.run(rt.alloc(), MOST_STEPS) else {
+        bail!("no memory");
+    };
     println!(rt; "{:?} after {} steps", out.ending, out.steps)?;
     for event in out.events.as_slice() {
         println!(rt; "{event:?}")?;
