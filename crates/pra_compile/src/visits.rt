@@ -6,8 +6,10 @@ use std::alloc::Global;
 // Visits at most of a round of all procedures together.
 const MODULE_VISITS: u64 = 40_000_000;
 
-// The same of one of them.
+// The same of one of them, and what each may make, however small a part it is.
 const PROCEDURE_VISITS: u64 = 10_000_000;
+
+const LEAST_VISITS: u64 = 200_000;
 
 // As many layers as the network of a procedure has at most, about: all variables at each place.
 fn size_of(code: &VProc) -> u64 {
@@ -32,7 +34,7 @@ pub fn shared_visits(alloc: Global, codes: &[VProc]) -> Result<Vec<u64>, OutOfMe
     for code in codes {
         let part = MODULE_VISITS.saturating_mul(size_of(code));
         let share = part.checked_div(all).unwrap_or(0);
-        visits.push(share.min(PROCEDURE_VISITS))?;
+        visits.push(share.clamp(LEAST_VISITS, PROCEDURE_VISITS))?;
     }
     Ok(visits)
 }
