@@ -11,7 +11,7 @@ use Rattle.net_form.specs.declared.net.Tie.{Tie}
 use Rattle.net_form.specs.declared.net.Net.{Net}
 use Rattle.net_form.specs.declared.net.BlockEnd.{BlockEnd}
 use Rattle.net_form.specs.declared.prices.Prices.{Prices}
-use Rattle.net_dual.specs.Priced.{pay, slot_price, AreInRange}
+use Rattle.net_dual.specs.Priced.{pay, number_at_slot, AreInRange}
 use Rattle.net_dual.specs.Small.{IsWithin}
 use Rattle.net_dual.proofs.Totals.{sum_more}
 use Rattle.cert_check.specs.Tolls.{tied_strand, ties_sum, HasAdded, AreSumsWithin, AreNumbersWithin}
@@ -71,7 +71,7 @@ pub ties_more : (ties : List Tie) (prices : Prices) (end : BlockEnd) (old new : 
     → get_or new (13 * s + j) (pos 0) ≡ ties_sum (take (n + 1) ties) prices end s j
 ties_more ties prices end old new n t lt read added s j few was =
     let more = sum_more (λ (t : ℕ × Tie). pay (nat_eq (tied_strand end t.1) s)
-    (slot_price prices t.0 (Some j))) ties n t lt in
+    (number_at_slot prices.ties t.0 (Some j))) ties n t lt in
     let a = added s j few in
     let test : (nat_eq (tied_strand end t) s && nat_lt j 13) ≡ nat_eq (tied_strand end t) s
     = within_thirteen (nat_eq (tied_strand end t) s) j few in

@@ -21,9 +21,9 @@ use Rattle.net_form.specs.declared.net.BlockEnd.{BlockEnd}
 use Rattle.net_form.specs.declared.net.BlockEnd.TheVariants.{Entry, Exit}
 use Rattle.net_form.specs.declared.prices.Prices.{Prices}
 use Rattle.net_form.specs.Admitted.{strand_at}
-use Rattle.net_dual.specs.Priced.{total, pay, mem_price, slot_price, tie_slot, mem_part, exit_part}
-use Rattle.net_dual.specs.Priced.{entry_part}
-use Rattle.cert_check.specs.Tolls.{edge, tied_strand, slot_sum, place_sum, slot_at, is_end}
+use Rattle.net_dual.specs.Priced.{total, pay, mem_price, number_at_slot, tie_slot, mem_part}
+use Rattle.net_dual.specs.Priced.{exit_part, entry_part}
+use Rattle.cert_check.specs.Tolls.{edge, tied_strand, slot_sum, place_sum, is_end}
 use Rattle.cert_check.specs.Tolls.{mems_sum, AreTiesSums}
 
 pay_nothing : (b : Bool) → pay b (pos 0) ≡ pos 0
@@ -84,16 +84,17 @@ module _ (net : Net) (prices : Prices) (s l : ℕ) where
 
     all_ends : (o : Option ℕ) (ts : List (ℕ × Tie))
         → total (λ t. pay (nat_eq s (tied_strand end t.1)
-        && nat_eq l (at (strand_at net (tied_strand end t.1)))) (slot_price prices t.0 o)) ts
+        && nat_eq l (at (strand_at net (tied_strand end t.1))))
+        (number_at_slot prices.ties t.0 o)) ts
         ≡ pay (nat_eq l (at (strand_at net s)))
-        (total (λ t. pay (nat_eq (tied_strand end t.1) s) (slot_price prices t.0 o)) ts)
+        (total (λ t. pay (nat_eq (tied_strand end t.1) s) (number_at_slot prices.ties t.0 o)) ts)
     all_ends o [] = sym (pay_nothing (nat_eq l (at (strand_at net s))))
     all_ends o (t ∷ ts) =
-        let z = slot_price prices t.0 o in
+        let z = number_at_slot prices.ties t.0 o in
         let one = one_end t.1 z in
         let more = all_ends o ts in
         let sum = pay_sum (nat_eq l (at (strand_at net s))) (pay (nat_eq (tied_strand end t.1) s) z)
-        (total (λ t. pay (nat_eq (tied_strand end t.1) s) (slot_price prices t.0 o)) ts) in
+        (total (λ t. pay (nat_eq (tied_strand end t.1) s) (number_at_slot prices.ties t.0 o)) ts) in
         omega (arith, ints, one, more, sum)
 
     nothing_paid : (ts : List (ℕ × Tie))
@@ -105,7 +106,7 @@ module _ (net : Net) (prices : Prices) (s l : ℕ) where
         omega (arith, ints, one, more)
 
     slots : (o : Option ℕ)
-        → total (λ t. pay (nat_eq (tied_strand end t.1) s) (slot_price prices t.0 o))
+        → total (λ t. pay (nat_eq (tied_strand end t.1) s) (number_at_slot prices.ties t.0 o))
         (enumerate_from 0 net.ties)
         ≡ slot_sum net.ties prices end s o
     slots None = nothing_paid (enumerate_from 0 net.ties)
@@ -113,7 +114,7 @@ module _ (net : Net) (prices : Prices) (s l : ℕ) where
 
     pub part_is : (o : Option ℕ)
         → total (λ t. pay (nat_eq s (tied_strand end t.1)
-        && nat_eq l (at (strand_at net (tied_strand end t.1)))) (slot_price prices t.0 o))
+        && nat_eq l (at (strand_at net (tied_strand end t.1)))) (number_at_slot prices.ties t.0 o))
         (enumerate_from 0 net.ties)
         ≡ pay (nat_eq l (at (strand_at net s))) (slot_sum net.ties prices end s o)
     part_is o = all_ends o (enumerate_from 0 net.ties)
@@ -146,10 +147,10 @@ slot_below EdiM j is = let e : 12 ≡ j = some_same 12 j is in omega (arith, e)
 -- what is kept for a place is the sum of its numbers
 pub kept_sum : (net : Net) (prices : Prices) (end : BlockEnd) (sums : List ℤ) (s : ℕ) (q : Place)
     → AreTiesSums net prices end sums → s < length net.strands
-    → slot_at sums s (tie_slot q) ≡ place_sum net.ties prices end s q
+    → number_at_slot sums s (tie_slot q) ≡ place_sum net.ties prices end s q
 kept_sum net prices end sums s q are lt = by (tie_slot q) refl
   where
     by : (o : Option ℕ) → tie_slot q ≡ o
-        → slot_at sums s o ≡ slot_sum net.ties prices end s o
+        → number_at_slot sums s o ≡ slot_sum net.ties prices end s o
     by None is = refl
     by (Some j) is = are.each s j lt (slot_below q j is)

@@ -17,7 +17,7 @@ use Rattle.net_form.specs.Ordered.{first_extra}
 use Rattle.net_form.specs.Rooms.{tie_numbers}
 use Rattle.net_form.specs.Tables.{all_tables}
 use Rattle.net_dual.specs.Priced.{total, pay, price_unit, cap_part, mem_part, exit_part}
-use Rattle.net_dual.specs.Priced.{entry_part, slot_price, tie_slot, mem_price, AreInRange}
+use Rattle.net_dual.specs.Priced.{entry_part, number_at_slot, tie_slot, mem_price, AreInRange}
 use Rattle.net_dual.specs.Small.{IsWithin}
 use Rattle.cert_check.specs.declared.tolls.Spot.{Spot}
 use Rattle.cert_check.specs.declared.tolls.Tolls.{Tolls}
@@ -48,7 +48,7 @@ tied_strand Exit t = t.from
 -- the sum of number j of all ties that strand s has this end of
 abbrev pub ties_sum : List Tie → Prices → BlockEnd → ℕ → ℕ → ℤ
 ties_sum ties prices end s j =
-    total (λ t. pay (nat_eq (tied_strand end t.1) s) (slot_price prices t.0 (Some j)))
+    total (λ t. pay (nat_eq (tied_strand end t.1) s) (number_at_slot prices.ties t.0 (Some j)))
     (enumerate_from 0 ties)
 
 -- a list of these sums, thirteen for each strand
@@ -82,11 +82,6 @@ HasAdded old numbers strand tie n new =
     slice_index_or new (tie_numbers * s + j) (pos 0) ≡
     slice_index_or old (tie_numbers * s + j) (pos 0) +ℤ
     pay (nat_eq strand s && nat_lt j n) (slice_index_or numbers (tie_numbers * tie + j) (pos 0))
-
--- the number of a strand
-abbrev pub slot_at : List ℤ → ℕ → Option ℕ → ℤ
-slot_at sums s None = pos 0
-slot_at sums s (Some j) = slice_index_or sums (tie_numbers * s + j) (pos 0)
 
 -- ---- what is at hand
 

@@ -4,12 +4,11 @@ ghost use Rattle.std.specs.Prelude.{◌≡◌, ◌≤◌, ◌<◌, ◌+◌, ◌*
 ghost use Rattle.std.specs.Prelude.{slice_index_or};
 ghost use Rattle.net_cost.specs.Models.{Keeps, weights_of};
 ghost use Rattle.net_dual.specs.Priced.{AreInRange, pay, cap_part, mem_part, exit_part, entry_part};
-ghost use Rattle.net_dual.specs.Priced.{tie_slot, mem_price};
+ghost use Rattle.net_dual.specs.Priced.{tie_slot, number_at_slot, mem_price};
 ghost use Rattle.net_dual.specs.Small.{IsWithin};
 ghost use Rattle.net_form.specs.InUse.{pair_at};
 ghost use Rattle.net_laws.specs.Built.{IsBuilt};
 ghost use Rattle.cert_check.specs.Tolls.{AreTolls, IsSpot, edge, toll, is_end, mems_sum};
-ghost use Rattle.cert_check.specs.Tolls.{slot_at};
 
 use crate::sums::{add, in_units, subtract};
 use crate::ties::TIE_NUMBERS;
@@ -118,7 +117,7 @@ fn tie_slot(place: Place) -> Option<usize>
 fn end_toll(sums: &[i128], strand: usize, place: Place, is_there: bool) -> i128
     requires strand { 13 * strand + 13 ≤ length sums.now }
     requires within { (k : ℕ) → IsWithin (2 ^ 105) (slice_index_or sums.now k (pos 0)) }
-    ensures value { result ≡ pay is_there (slot_at sums.now strand (tie_slot place)) }
+    ensures value { result ≡ pay is_there (number_at_slot sums.now strand (tie_slot place)) }
     ensures small { IsWithin (2 ^ 105) result }
 {
     if !is_there {

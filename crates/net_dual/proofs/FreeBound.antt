@@ -15,8 +15,8 @@ use Rattle.net_form.specs.Flow.{Edge}
 use Rattle.net_form.specs.Admitted.{uses_memory}
 use Rattle.net_form.specs.Rooms.{layer_total, zero_prices}
 use Rattle.net_form.specs.Bundles.{bundle_of}
-use Rattle.net_dual.specs.Priced.{total, pay, in_any_register, exits, enters, tie_slot, slot_price}
-use Rattle.net_dual.specs.Priced.{cap_part, mem_part, exit_part, entry_part, priced}
+use Rattle.net_dual.specs.Priced.{total, pay, in_any_register, exits, enters, tie_slot}
+use Rattle.net_dual.specs.Priced.{number_at_slot, cap_part, mem_part, exit_part, entry_part, priced}
 use Rattle.net_dual.specs.Priced.{cost_by_weights}
 use Rattle.net_dual.specs.Paths.{path_edges, path_price, path_in, AreLeast}
 use Rattle.net_dual.specs.Value.{routes_price, all_paid, IsLagrange, IsFreeBound}
@@ -38,7 +38,7 @@ total-none f xs none = total-agree f (λ x. pos 0) xs (λ k d lt. none (get_or x
     ∙ total-nothing xs
 
 module _ (net : Net) where
-  slot_free : (i : ℕ) (o : Option ℕ) → slot_price (zero_prices net) i o ≡ pos 0
+  slot_free : (i : ℕ) (o : Option ℕ) → number_at_slot (zero_prices net).ties i o ≡ pos 0
   slot_free i None = refl
   slot_free i (Some j) = replicated (13 * length net.ties) (13 * i + j) (pos 0)
 

@@ -40,7 +40,7 @@ use Rattle.net_laws.proofs.PairsApart.{count_few}
 use Rattle.net_laws.proofs.Arrivals.{few_arrivals, leads_to_strand}
 use Rattle.net_laws.proofs.TieCounts.{count_either}
 use Rattle.net_dual.specs.Priced.{total, pay, most_price, cap_price, mem_price, tie_price, tie_slot}
-use Rattle.net_dual.specs.Priced.{slot_price, in_any_register, exits, enters}
+use Rattle.net_dual.specs.Priced.{number_at_slot, in_any_register, exits, enters}
 use Rattle.net_dual.specs.Priced.{cap_part, mem_part, exit_part, entry_part, cost_by_weights}
 use Rattle.net_dual.specs.Priced.{edge_price, AreInRange}
 use Rattle.net_dual.specs.Paths.{path_edges, path_price, IsPath}
@@ -173,10 +173,10 @@ module _ (net : Net) (built : IsBuilt net) (prices : Prices) (range : AreInRange
   pub tie_small : (i : ℕ) (p : Place) → IsWithin most_price (tie_price prices i p)
   tie_small i p = by (tie_slot p)
     where
-      by : (o : Option ℕ) → IsWithin most_price (slot_price prices i o)
+      by : (o : Option ℕ) → IsWithin most_price (number_at_slot prices.ties i o)
       by None = within-pos 0 most_price (omega arith)
       by (Some j) = elim (cases_lt (13 * i + j) (length prices.ties))
-          as (λ _. IsWithin most_price (slot_price prices i (Some j))) [
+          as (λ _. IsWithin most_price (number_at_slot prices.ties i (Some j))) [
             | inl lt ↦ record {
               low = range.least_tie (13 * i + j) (pos 0) lt;
               high = range.most_tie

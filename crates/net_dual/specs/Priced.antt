@@ -62,13 +62,15 @@ abbrev pub tie_slot : Place → Option ℕ
 tie_slot Const = None
 tie_slot p = Some (if is_both (number p) then number p - 1 else number p)
 
-abbrev pub slot_price : Prices → ℕ → Option ℕ → ℤ
-slot_price prices i None = pos 0
-slot_price prices i (Some j) = slice_index_or prices.ties (tie_numbers * i + j) (pos 0)
+-- of a list that has thirteen numbers for each tie or strand, that of row i at such a number; a
+-- constant has none
+abbrev pub number_at_slot : List ℤ → ℕ → Option ℕ → ℤ
+number_at_slot numbers i None = pos 0
+number_at_slot numbers i (Some j) = slice_index_or numbers (tie_numbers * i + j) (pos 0)
 
 -- the number that tie i has for a place
 abbrev pub tie_price : Prices → ℕ → Place → ℤ
-tie_price prices i p = slot_price prices i (tie_slot p)
+tie_price prices i p = number_at_slot prices.ties i (tie_slot p)
 
 -- ---- what an edge pays
 

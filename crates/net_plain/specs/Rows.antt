@@ -1,6 +1,6 @@
 -- The layers of a strand, and numbers for their places.
-use Rattle.std.specs.Prelude.{◌≡◌, ℕ, ◌+◌, ◌*◌, ◌^◌, ◌<◌, ◌≤◌, Bool, if◌then◌else◌, ℤ, pos, ◌+ℤ◌}
-use Rattle.std.specs.Prelude.{List, length, slice_index_or, Option, Some, None, option_map}
+use Rattle.std.specs.Prelude.{◌≡◌, ℕ, ◌*◌, ◌^◌, ◌<◌, ◌≤◌, Bool, if◌then◌else◌, ℤ, pos, ◌+ℤ◌}
+use Rattle.std.specs.Prelude.{List, length, Option, None, option_map}
 use Rattle.pra_base.specs.declared.ids.Place.{Place}
 use Rattle.pra_base.specs.Places.{place_count, place_at}
 use Rattle.net_cost.specs.declared.weights.Weights.{Weights}
@@ -10,7 +10,6 @@ use Rattle.net_form.specs.declared.routes.Ends.{Ends}
 use Rattle.net_form.specs.declared.taken.Taken.{Taken}
 use Rattle.net_form.specs.Admitted.{strand_at, stays_across}
 use Rattle.net_form.specs.Cost.{way_cost}
-use Rattle.net_form.specs.Rooms.{tie_numbers}
 use Rattle.net_form.specs.Tables.{all_tables}
 use Rattle.net_dual.specs.Leasts.{cost_at, IsCostWithin}
 use Rattle.net_dual.specs.Priced.{price_unit}
@@ -22,11 +21,6 @@ pub record IsSpot (net : Net) (spot : Spot) : Type 0 where
   pub strand : spot.strand < length net.strands
   pub after : (strand_at net spot.strand).first ≤ spot.layer
   pub before : spot.layer ≤ (strand_at net spot.strand).last
-
--- the number of a tie among those of all, thirteen for each; a constant has none
-abbrev pub number_in : List ℤ → ℕ → Option ℕ → ℤ
-number_in numbers tie None = pos 0
-number_in numbers tie (Some slot) = slice_index_or numbers (tie_numbers * tie + slot) (pos 0)
 
 -- ---- numbers that may be there
 

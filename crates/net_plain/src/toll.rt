@@ -4,14 +4,15 @@ ghost use Rattle.std.specs.Prelude.{◌≡◌, ◌≤◌, ◌<◌, ◌+◌, ◌*
 ghost use Rattle.std.specs.Prelude.{if◌then◌else◌};
 ghost use Rattle.net_cost.specs.Models.{Keeps, weights_of};
 ghost use Rattle.net_dual.specs.Priced.{AreInRange, pay, cap_part, mem_part, exit_part, entry_part};
-ghost use Rattle.net_dual.specs.Priced.{tie_slot, tie_price, mem_price, exits, enters};
+ghost use Rattle.net_dual.specs.Priced.{tie_slot, number_at_slot, tie_price, mem_price, exits};
+ghost use Rattle.net_dual.specs.Priced.{enters};
 ghost use Rattle.net_dual.specs.Small.{IsWithin};
 ghost use Rattle.net_form.specs.Admitted.{tie_at, uses_memory};
 ghost use Rattle.net_form.specs.Cost.{is_extra_at, extra_cost, extras_cost};
 ghost use Rattle.net_form.specs.InUse.{pair_at};
 ghost use Rattle.net_laws.specs.Built.{IsBuilt};
 ghost use Rattle.net_path.specs.Grounds.{edge, there_price};
-ghost use Rattle.net_plain.specs.Rows.{IsSpot, number_in};
+ghost use Rattle.net_plain.specs.Rows.{IsSpot};
 
 use crate::open::{Spot, uses_memory};
 use crate::sums::{add, in_units, subtract};
@@ -128,7 +129,7 @@ fn tie_slot(place: Place) -> Option<usize>
 // The number that a tie has for the place, among those of all ties, thirteen for each.
 fn number_in(numbers: &[i64], place: Place, tie: usize) -> i64
     requires { 13 * tie + 13 ≤ length numbers.now }
-    ensures { result ≡ number_in numbers.now tie (tie_slot place) }
+    ensures { result ≡ number_at_slot numbers.now tie (tie_slot place) }
 {
     match tie_slot(place) {
         None => 0,

@@ -14,7 +14,7 @@ use Rattle.net_form.specs.declared.net.Net.{Net}
 use Rattle.net_form.specs.declared.prices.Prices.{Prices}
 use Rattle.net_form.specs.Flow.{Edge}
 use Rattle.net_form.specs.Admitted.{no_tie, tie_at, exits_at, enters_at}
-use Rattle.net_dual.specs.Priced.{most_price, tie_slot, tie_price, slot_price}
+use Rattle.net_dual.specs.Priced.{most_price, tie_slot, tie_price, number_at_slot}
 use Rattle.net_dual.specs.Step.{used_price, tied_price, tied_places, next_tie, next}
 use Rattle.net_price.specs.Raised.{raised, AreWords}
 use Rattle.net_price.specs.Tied.{slot_place, next_number}
@@ -101,7 +101,7 @@ module _ (net : Net) (f : List Edge) (s : ℕ) (old : Prices) where
       ∙ ap (λ n. get_or (next_tie net f s old (n, t)) j (pos 0)) zero_more
       ∙ get_or-map (λ p. tied_price s (tie_price old i p) (count_by (exits_at net t p) f)
       (count_by (enters_at net t p) f)) tied_places j Eax (pos 0) inside
-      ∙ ap (λ o. number (slot_price old i o)) (slot_of j inside)
+      ∙ ap (λ o. number (number_at_slot old.ties i o)) (slot_of j inside)
       ∙ ap (λ n. number (get_or old.ties n (pos 0))) whole
 
   pub tied_list : (new : List ℤ) → length new ≡ 13 * length net.ties

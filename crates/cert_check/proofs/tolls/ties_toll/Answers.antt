@@ -6,8 +6,8 @@ use Rattle.std.proofs.lemmas.List.{get_or_read}
 use Rattle.net_form.specs.declared.net.Strand.{Strand}
 use Rattle.net_form.specs.declared.net.BlockEnd.TheVariants.{Entry, Exit}
 use Rattle.net_form.specs.Admitted.{strand_at, no_strand}
-use Rattle.net_dual.specs.Priced.{pay, tie_slot, exit_part, entry_part}
-use Rattle.cert_check.specs.Tolls.{edge, slot_at}
+use Rattle.net_dual.specs.Priced.{pay, tie_slot, number_at_slot, exit_part, entry_part}
+use Rattle.cert_check.specs.Tolls.{edge}
 use Rattle.cert_check.proofs.TollParts.{exit_part_is, entry_part_is, kept_sum}
 use Rattle.cert_check.proofs.tolls.ties_toll.Goals as goal
 
@@ -25,8 +25,8 @@ returns-clause-value c =
     let exit : c.end_toll-exit.result ≡ exit_part net prices (edge s l None q)
     = c.end_toll-exit.ensures.value
     ∙ ap (λ (t : Strand). pay (nat_eq l t.last)
-    (slot_at c.as_slice-exits.result.now s (tie_slot q))) read
-    ∙ ap (λ (xs : List ℤ). pay (nat_eq l (strand_at net s).last) (slot_at xs s (tie_slot q)))
+    (number_at_slot c.as_slice-exits.result.now s (tie_slot q))) read
+    ∙ ap (λ (xs : List ℤ). pay (nat_eq l (strand_at net s).last) (number_at_slot xs s (tie_slot q)))
     c.as_slice-exits.ensures
     ∙ ap (pay (nat_eq l (strand_at net s).last))
     (kept_sum net prices Exit tolls.exits s q c.requires.tolls.exits c.requires.spot.strand)
@@ -34,8 +34,9 @@ returns-clause-value c =
     let entry : c.end_toll-entry.result ≡ entry_part net prices (edge s l None q)
     = c.end_toll-entry.ensures.value
     ∙ ap (λ (t : Strand). pay (nat_eq l t.first)
-    (slot_at c.as_slice-entries.result.now s (tie_slot q))) read
-    ∙ ap (λ (xs : List ℤ). pay (nat_eq l (strand_at net s).first) (slot_at xs s (tie_slot q)))
+    (number_at_slot c.as_slice-entries.result.now s (tie_slot q))) read
+    ∙ ap (λ (xs : List ℤ). pay (nat_eq l (strand_at net s).first)
+    (number_at_slot xs s (tie_slot q)))
     c.as_slice-entries.ensures
     ∙ ap (pay (nat_eq l (strand_at net s).first))
     (kept_sum net prices Entry tolls.entries s q c.requires.tolls.entries
