@@ -65,7 +65,7 @@ abbrev pub AreDebts : List ℤ → Type 0
 AreDebts costs = (p : ℕ) → p < place_count → IsDebt (at costs p)
 
 -- z is the least of n costs, of which the first is number i
-pub record IsLeastFrom (costs : List ℤ) (i n : ℕ) (z : ℤ) : Type 0 where
+pub record IsLeastAmong (costs : List ℤ) (i n : ℕ) (z : ℤ) : Type 0 where
   pub below : (k : ℕ) → k < n → z ≤ℤ at costs (i + k)
   pub place : ℕ
   pub within : place < n
@@ -81,8 +81,8 @@ pub record IsLeastOfFour (a b c d z : ℤ) : Type 0 where
 
 -- the least of the six registers alone, of the six both places, and memory and the constant itself
 pub record AreBests (costs : List ℤ) (bests : Bests) : Type 0 where
-  pub alone : IsLeastFrom costs 0 6 bests.alone.cost
-  pub both : IsLeastFrom costs 8 6 bests.both.cost
+  pub alone : IsLeastAmong costs 0 6 bests.alone.cost
+  pub both : IsLeastAmong costs 8 6 bests.both.cost
   pub memory : bests.memory.cost ≡ at costs 6
   pub constant : bests.constant.cost ≡ at costs 7
 

@@ -7,7 +7,7 @@
 // in its register.
 
 ghost use Rattle.std.specs.Prelude.{◌≡◌, ◌⊎◌, ◌≤ℤ◌, ◌+ℤ◌, ◌+◌, ◌^◌, ◌≤◌, ◌<◌, ℕ, ℤ, List};
-ghost use Rattle.net_path.specs.Ways.{at, IsLeastFrom, IsLeastOfFour, AreBests, AreBestsWithin};
+ghost use Rattle.net_path.specs.Ways.{at, IsLeastAmong, IsLeastOfFour, AreBests, AreBestsWithin};
 ghost use Rattle.net_path.specs.Ways.{IsLeastWay, IsLeastElsewhere, AreStepsWithin, IsDebt};
 ghost use Rattle.net_path.specs.Ways.{AreDebts, step_by, IsOnward, IsShort};
 ghost use Rattle.net_path.specs.Rows.{IsCellWithin, AreCostsCells, IsRowWithin, IsPaid, IsPaidAt};
@@ -117,7 +117,7 @@ pub(crate) fn debt_at<const SECONDS: bool>(row: &Row, place: usize) -> Debt
 #[inline(always)]
 fn least_of_six<const SECONDS: bool>(row: &Row, from: usize) -> Debt
     requires { from + 6 ≤ 16 }
-    ensures { IsLeastFrom row.now.costs from 6 result.cost }
+    ensures { IsLeastAmong row.now.costs from 6 result.cost }
 {
     let mut least = debt_at::<SECONDS>(row, from);
     for k in 1..6usize {
