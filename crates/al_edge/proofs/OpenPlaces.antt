@@ -15,7 +15,8 @@ use Rattle.net_form.specs.declared.net.TieEnd.{TieEnd}
 use Rattle.net_form.specs.Admitted.{strand_at, in_register}
 use Rattle.net_form.specs.InUse.{mark}
 use Rattle.net_laws.specs.Built.{IsBuilt}
-use Rattle.al_laws.specs.Greedy.{IsEnd, IsOpen, MayEnd, clash, mask_on, group_ends}
+use Rattle.net_laws.specs.Homes.{mask_in}
+use Rattle.al_laws.specs.Greedy.{IsEnd, IsOpen, MayEnd, clash, group_ends}
 use Rattle.al_laws.specs.Greedy.IsEnd.{entry, exit}
 use Rattle.al_laws.specs.Parts.{layer_at}
 use Rattle.al_laws.proofs.EndsAnywhere.{open_ends, memory_open}
@@ -31,19 +32,20 @@ module _ (net : Net) (regs : List ℕ) (g : ℕ) (p : Place) (all : suits_all ne
   each = AllPass-from_list_all (may_be net regs p) (ends_of net g) all
 
   suits_end : (s : ℕ) → s < length net.strands → (l : ℕ) → IsEnd net g s l
-      → (allows (mask_on net s l) (number p) && is_unmarked regs (layer_at net s l) p) ≡ true
+      → (allows (mask_in (strand_at net s) l) (number p)
+      && is_unmarked regs (layer_at net s l) p) ≡ true
   suits_end s lt l (entry is) = (each_end net g (λ (e : TieEnd). may_be net regs p e ≡ true) each s
       lt).0 (this_in g (strand_at net s).entry_group is)
   suits_end s lt l (exit is) = (each_end net g (λ (e : TieEnd). may_be net regs p e ≡ true) each s
       lt).1 (this_in g (strand_at net s).exit_group is)
 
   pub in_masks : IsInMasks net g p
-  in_masks s l lt end = (and_true (allows (mask_on net s l) (number p))
+  in_masks s l lt end = (and_true (allows (mask_in (strand_at net s) l) (number p))
       (is_unmarked regs (layer_at net s l) p) (suits_end s lt l end)).0
 
   pub frees : (s l : ℕ) → s < length net.strands → IsEnd net g s l
       → is_unmarked regs (layer_at net s l) p ≡ true
-  frees s l lt end = (and_true (allows (mask_on net s l) (number p))
+  frees s l lt end = (and_true (allows (mask_in (strand_at net s) l) (number p))
       (is_unmarked regs (layer_at net s l) p) (suits_end s lt l end)).1
 
 -- ---- places that are in one register
@@ -140,7 +142,7 @@ module _ (net : Net) (places : List Place) (regs : List ℕ) (marked : AreMarked
       → suits_all net regs (length places) p ≡ true
   opened_suits opened = list_all-from_AllPass (may_be net regs p) (ends_of net (length places))
       (All-weaker (IsMember net (length places)) (λ (e : TieEnd). may_be net regs p e ≡ true)
-      (λ e member. and_from (allows (mask_on net e.strand (end_layer net e)) (number p))
+      (λ e member. and_from (allows (mask_in (strand_at net e.strand) (end_layer net e)) (number p))
       (is_unmarked regs (whole_layer net e) p)
       (opened.mask e.strand (end_layer net e) member.there member.end)
       (free_there opened e member)) (ends_of net (length places)) (all_members net (length places)))
@@ -152,7 +154,7 @@ memory_suits net built regs g =
     let opened = memory_open net built (record { places = [] }) g in
     list_all-from_AllPass (may_be net regs Mem) (ends_of net g)
     (All-weaker (IsMember net g) (λ (e : TieEnd). may_be net regs Mem e ≡ true)
-    (λ e member. and_from (allows (mask_on net e.strand (end_layer net e)) (number Mem))
+    (λ e member. and_from (allows (mask_in (strand_at net e.strand) (end_layer net e)) (number Mem))
     (is_unmarked regs (whole_layer net e) Mem)
     (opened.mask e.strand (end_layer net e) member.there member.end) refl)
     (ends_of net g) (all_members net g))

@@ -6,9 +6,10 @@ use Rattle.pra_base.specs.declared.ids.Place.{Place}
 use Rattle.pra_base.specs.Places.{number, allows, has_register, register_of}
 use Rattle.net_form.specs.declared.net.Net.{Net}
 use Rattle.net_form.specs.declared.net.TieEnd.{TieEnd}
-use Rattle.net_form.specs.Admitted.{in_register}
+use Rattle.net_form.specs.Admitted.{strand_at, in_register}
 use Rattle.net_form.specs.InUse.{mark}
-use Rattle.al_laws.specs.Greedy.{IsEnd, mask_on}
+use Rattle.net_laws.specs.Homes.{mask_in}
+use Rattle.al_laws.specs.Greedy.{IsEnd}
 use Rattle.al_laws.specs.Parts.{layer_at}
 use Rattle.al_edge.specs.GroupEnds.{ends_of, end_layer}
 
@@ -24,7 +25,7 @@ whole_layer net e = layer_at net e.strand (end_layer net e)
 -- the end may be at the place
 abbrev pub may_be : Net → List ℕ → Place → TieEnd → Bool
 may_be net regs p e =
-    allows (mask_on net e.strand (end_layer net e)) (number p) &&
+    allows (mask_in (strand_at net e.strand) (end_layer net e)) (number p) &&
     is_unmarked regs (whole_layer net e) p
 
 -- and all ends of the group may
@@ -35,7 +36,7 @@ suits_all net regs g p = list_all (may_be net regs p) (ends_of net g)
 abbrev pub IsInMasks : Net → ℕ → Place → Type 0
 IsInMasks net g p =
     (s l : ℕ) → s < length net.strands → IsEnd net g s l →
-    IsTrue (allows (mask_on net s l) (number p))
+    IsTrue (allows (mask_in (strand_at net s) l) (number p))
 
 -- ---- what is marked
 

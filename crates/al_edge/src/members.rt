@@ -6,7 +6,8 @@ ghost use Rattle.pra_base.specs.declared.ids.Place.{Place as AnyPlace};
 ghost use Rattle.net_form.specs.Admitted.{strand_at};
 ghost use Rattle.net_form.specs.Formed.{IsFormed};
 ghost use Rattle.net_form.specs.Rooms.{layer_total};
-ghost use Rattle.al_laws.specs.Greedy.{is_group, group_ends, mask_on};
+ghost use Rattle.net_laws.specs.Homes.{mask_in};
+ghost use Rattle.al_laws.specs.Greedy.{is_group, group_ends};
 ghost use Rattle.al_laws.specs.Parts.{layer_at};
 ghost use Rattle.al_edge.specs.GroupEnds.{ends_of, end_layer, counts};
 
@@ -60,7 +61,7 @@ pub(crate) fn layer_of(net: &Net, end: TieEnd) -> u32
 pub(crate) fn mask_of(net: &Net, end: TieEnd) -> Mask
     requires net { IsFormed net.now }
     requires strand { end.strand < length net.now.strands }
-    ensures { result ≡ mask_on net.now end.strand (end_layer net.now end) }
+    ensures { result ≡ mask_in (strand_at net.now end.strand) (end_layer net.now end) }
 {
     let strand = &net.strands[end.strand as usize];
     strand.masks[(end_layer(net, end) - strand.first) as usize]

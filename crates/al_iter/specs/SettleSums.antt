@@ -8,11 +8,12 @@ use Rattle.net_form.specs.declared.net.Net.{Net}
 use Rattle.net_form.specs.declared.net.Strand.{Strand}
 use Rattle.net_form.specs.declared.routes.Routes.{Routes}
 use Rattle.net_form.specs.declared.taken.Taken.{Taken}
+use Rattle.net_form.specs.Admitted.{strand_at}
 use Rattle.net_form.specs.InUse.{mark, UsesNothing}
 use Rattle.net_form.specs.Rooms.{zero_prices}
+use Rattle.net_laws.specs.Homes.{mask_in}
 use Rattle.net_dual.specs.Paths.{MayGo, path_price, path_in}
 use Rattle.net_dual.specs.Priced.{total, edge_price}
-use Rattle.al_laws.specs.Greedy.{mask_on}
 use Rattle.al_laws.specs.Parts.{layer_at}
 use Rattle.al_laws.specs.Settled.{tied_ends}
 
@@ -52,7 +53,7 @@ pub record IsShut (net : Net) (taken : Taken) (strands : List ℕ) (p : Place) :
 
 -- the place is in the mask of strand s at layer l, and its register is not marked there
 pub record IsOpenAt (net : Net) (taken : Taken) (s l : ℕ) (p : Place) : Type 0 where
-  pub mask : IsTrue (allows (mask_on net s l) (number p))
+  pub mask : IsTrue (allows (mask_in (strand_at net s) l) (number p))
   pub free : has_register (number p) ≡ true →
       mark taken.regs (layer_at net s l) (register_of (number p)) ≡ 0
 

@@ -16,8 +16,9 @@ use Rattle.net_form.specs.Admitted.{strand_at, no_strand, in_mask, is_across, st
 use Rattle.net_form.specs.Admitted.{stays_across}
 use Rattle.net_form.specs.Formed.{no_block}
 use Rattle.net_laws.specs.Built.{IsBuilt}
+use Rattle.net_laws.specs.Homes.{mask_in}
 use Rattle.net_dual.specs.Paths.{IsPath, MayGo, Anywhere}
-use Rattle.al_laws.specs.Greedy.{IsEnd, is_group, group_ends, mask_on, IsOpen, MayEnd}
+use Rattle.al_laws.specs.Greedy.{IsEnd, is_group, group_ends, IsOpen, MayEnd}
 use Rattle.al_laws.specs.Greedy.IsEnd.{entry, exit}
 use Rattle.al_laws.specs.Laid.{plan_ends, planned}
 use Rattle.al_laws.specs.Settled.{is_at_entry, is_at_exit}
@@ -188,7 +189,7 @@ module _ (net : Net) (built : IsBuilt net) (s : ℕ) (lt : s < length net.strand
       where
         first_mask : (o : Option Place)
             → IfSome o (λ p. (is_at_entry net s ≡ true)
-            × IsTrue (allows (mask_on net s (strand_at net s).first) (number p)))
+            × IsTrue (allows (mask_in (strand_at net s) (strand_at net s).first) (number p)))
             → IfSome o (λ p. in_mask net
             (record { strand = s; layer = (strand_at net s).first; from = None; to = p })
             ≡ true)
@@ -197,14 +198,14 @@ module _ (net : Net) (built : IsBuilt net) (s : ℕ) (lt : s < length net.strand
 
         first_entry : (o : Option Place)
             → IfSome o (λ p. (is_at_entry net s ≡ true)
-            × IsTrue (allows (mask_on net s (strand_at net s).first) (number p)))
+            × IsTrue (allows (mask_in (strand_at net s) (strand_at net s).first) (number p)))
             → IfSome o (λ p. (strand_at net s).first ≡ 0)
         first_entry None h = tt
         first_entry (Some p) h = eqb-true (strand_at net s).first 0 h.0
 
     changed_path : (o : Option Place)
         → IfSome o (λ p. (is_at_exit net s ≡ true)
-        × IsTrue (allows (mask_on net s (strand_at net s).last) (number p)))
+        × IsTrue (allows (mask_in (strand_at net s) (strand_at net s).last) (number p)))
         → IsPath net s (end_at o begun)
     changed_path None h = begun_path
     changed_path (Some p) h = record {
@@ -223,9 +224,9 @@ module _ (net : Net) (built : IsBuilt net) (s : ℕ) (lt : s < length net.strand
     -- whoever begins at an entry and ends at an exit has two layers at least
     first_kept : (a b : Option Place)
         → IfSome a (λ p. (is_at_entry net s ≡ true)
-        × IsTrue (allows (mask_on net s (strand_at net s).first) (number p)))
+        × IsTrue (allows (mask_in (strand_at net s) (strand_at net s).first) (number p)))
         → IfSome b (λ p. (is_at_exit net s ≡ true)
-        × IsTrue (allows (mask_on net s (strand_at net s).last) (number p)))
+        × IsTrue (allows (mask_in (strand_at net s) (strand_at net s).last) (number p)))
         → IfSome a (λ p. slice_get (end_at b (begin_at a ps)) 0 ≡ Some p)
     first_kept None b h k = tt
     first_kept (Some p) None h k = begins p ps (let same = length-begin ends.first ps in let some =
@@ -282,37 +283,40 @@ module _ (net : Net) (built : IsBuilt net) (s : ℕ) (lt : s < length net.strand
     where
       first_of : (o : Option ℕ) → (strand_at net s).entry_group ≡ o
           → IfSome (cond (is_group g o) (Some p) None) (λ p. (is_at_entry net s ≡ true)
-          × IsTrue (allows (mask_on net s (strand_at net s).first) (number p)))
+          × IsTrue (allows (mask_in (strand_at net s) (strand_at net s).first) (number p)))
       first_of None is = tt
       first_of (Some h) is = elim (cases_Bool (eqb h g))
           as (λ _. IfSome (cond (eqb h g) (Some p) None) (λ p. (is_at_entry net s ≡ true)
-          × IsTrue (allows (mask_on net s (strand_at net s).first) (number p)))) [
+          × IsTrue (allows (mask_in (strand_at net s) (strand_at net s).first) (number p)))) [
             | inl same ↦ subst (λ b. IfSome (cond b (Some p) None) (λ p. (is_at_entry net s ≡ true)
-                × IsTrue (allows (mask_on net s (strand_at net s).first) (number p)))) (sym same) (
+                × IsTrue (allows (mask_in (strand_at net s) (strand_at net s).first) (number p))))
+                (sym same) (
                   at_entry h is,
                   open_.mask s (strand_at net s).first lt
                       (entry (is ∙ ap Some (eqb-true h g same))),
                 )
             | inr other ↦ subst (λ b. IfSome (cond b (Some p) None) (λ p. (is_at_entry net s ≡ true)
-                × IsTrue (allows (mask_on net s (strand_at net s).first) (number p)))) (sym other)
-                tt
+                × IsTrue (allows (mask_in (strand_at net s) (strand_at net s).first) (number p))))
+                (sym other) tt
           ]
 
       last_of : (o : Option ℕ) → (strand_at net s).exit_group ≡ o
           → IfSome (cond (is_group g o) (Some p) None) (λ p. (is_at_exit net s ≡ true)
-          × IsTrue (allows (mask_on net s (strand_at net s).last) (number p)))
+          × IsTrue (allows (mask_in (strand_at net s) (strand_at net s).last) (number p)))
       last_of None is = tt
       last_of (Some h) is = elim (cases_Bool (eqb h g))
           as (λ _. IfSome (cond (eqb h g) (Some p) None) (λ p. (is_at_exit net s ≡ true)
-          × IsTrue (allows (mask_on net s (strand_at net s).last) (number p)))) [
+          × IsTrue (allows (mask_in (strand_at net s) (strand_at net s).last) (number p)))) [
             | inl same ↦ subst (λ b. IfSome (cond b (Some p) None) (λ p. (is_at_exit net s ≡ true)
-                × IsTrue (allows (mask_on net s (strand_at net s).last) (number p)))) (sym same) (
+                × IsTrue (allows (mask_in (strand_at net s) (strand_at net s).last) (number p))))
+                (sym same) (
                   at_exit h is,
                   open_.mask s (strand_at net s).last lt
                       (exit (is ∙ ap Some (eqb-true h g same))),
                 )
             | inr other ↦ subst (λ b. IfSome (cond b (Some p) None) (λ p. (is_at_exit net s ≡ true)
-                × IsTrue (allows (mask_on net s (strand_at net s).last) (number p)))) (sym other) tt
+                × IsTrue (allows (mask_in (strand_at net s) (strand_at net s).last) (number p))))
+                (sym other) tt
           ]
 
   -- and the ends that a plan of open places gives
@@ -326,7 +330,7 @@ module _ (net : Net) (built : IsBuilt net) (s : ℕ) (lt : s < length net.strand
       first_at : (g : ℕ) → (strand_at net s).entry_group ≡ Some g → (o : Option Place)
           → slice_get plan.places g ≡ o
           → IfSome o (λ p. (is_at_entry net s ≡ true)
-          × IsTrue (allows (mask_on net s (strand_at net s).first) (number p)))
+          × IsTrue (allows (mask_in (strand_at net s) (strand_at net s).first) (number p)))
       first_at g is None none = tt
       first_at g is (Some p) some = (
         at_entry g is,
@@ -336,14 +340,14 @@ module _ (net : Net) (built : IsBuilt net) (s : ℕ) (lt : s < length net.strand
 
       first_of : (o : Option ℕ) → (strand_at net s).entry_group ≡ o
           → IfSome (planned plan o) (λ p. (is_at_entry net s ≡ true)
-          × IsTrue (allows (mask_on net s (strand_at net s).first) (number p)))
+          × IsTrue (allows (mask_in (strand_at net s) (strand_at net s).first) (number p)))
       first_of None is = tt
       first_of (Some g) is = first_at g is (slice_get plan.places g) refl
 
       last_at : (g : ℕ) → (strand_at net s).exit_group ≡ Some g → (o : Option Place)
           → slice_get plan.places g ≡ o
           → IfSome o (λ p. (is_at_exit net s ≡ true)
-          × IsTrue (allows (mask_on net s (strand_at net s).last) (number p)))
+          × IsTrue (allows (mask_in (strand_at net s) (strand_at net s).last) (number p)))
       last_at g is None none = tt
       last_at g is (Some p) some = (
         at_exit g is,
@@ -353,7 +357,7 @@ module _ (net : Net) (built : IsBuilt net) (s : ℕ) (lt : s < length net.strand
 
       last_of : (o : Option ℕ) → (strand_at net s).exit_group ≡ o
           → IfSome (planned plan o) (λ p. (is_at_exit net s ≡ true)
-          × IsTrue (allows (mask_on net s (strand_at net s).last) (number p)))
+          × IsTrue (allows (mask_in (strand_at net s) (strand_at net s).last) (number p)))
       last_of None is = tt
       last_of (Some g) is = last_at g is (slice_get plan.places g) refl
 
@@ -365,10 +369,10 @@ memory_open net built plan g = record {
 }
   where
     by : (s : ℕ) (lt : s < length net.strands) (l : ℕ) → IsEnd net g s l
-        → IsTrue (allows (mask_on net s l) (number Mem))
+        → IsTrue (allows (mask_in (strand_at net s) l) (number Mem))
     by s lt l (entry is) = held
-        (λ g. IsTrue (allows (mask_on net s (strand_at net s).first) (number Mem)))
+        (λ g. IsTrue (allows (mask_in (strand_at net s) (strand_at net s).first) (number Mem)))
         (strand_at net s).entry_group g (built.groups s no_strand lt).entry_memory is
     by s lt l (exit is) = held
-        (λ g. IsTrue (allows (mask_on net s (strand_at net s).last) (number Mem)))
+        (λ g. IsTrue (allows (mask_in (strand_at net s) (strand_at net s).last) (number Mem)))
         (strand_at net s).exit_group g (built.groups s no_strand lt).exit_memory is

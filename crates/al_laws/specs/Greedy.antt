@@ -1,8 +1,7 @@
 -- A place for each tie group, chosen group by group: the open place that costs the strands of the
 -- group least, each alone.
-use Rattle.std.specs.Prelude.{◌≡◌, ◌⊎◌, ℕ, ◌-◌, ◌<◌, ◌≤◌, ◌&&◌, ◌||◌, Bool, true, false}
-use Rattle.std.specs.Prelude.{nat_eq}
-use Rattle.std.specs.Prelude.{if◌then◌else◌, ℤ, ◌<ℤ◌, length, slice_get, slice_index_or}
+use Rattle.std.specs.Prelude.{◌≡◌, ◌⊎◌, ℕ, ◌<◌, ◌≤◌, ◌&&◌, ◌||◌, Bool, true, false, nat_eq}
+use Rattle.std.specs.Prelude.{if◌then◌else◌, ℤ, ◌<ℤ◌, length, slice_get}
 use Rattle.std.specs.Prelude.{Option, Some, None, IsTrue, IfSome}
 use Rattle.std.specs.List.{range_with_len}
 use Rattle.pra_base.specs.declared.ids.Place.{Place}
@@ -13,6 +12,7 @@ use Rattle.net_form.specs.declared.prices.Prices.{Prices}
 use Rattle.net_form.specs.declared.routes.Ends.{Ends}
 use Rattle.net_form.specs.declared.routes.Plan.{Plan}
 use Rattle.net_form.specs.Admitted.{strand_at}
+use Rattle.net_laws.specs.Homes.{mask_in}
 use Rattle.net_dual.specs.Paths.{Anywhere, IsLeastCost}
 use Rattle.net_dual.specs.Priced.{total, pay, edge_price}
 use Rattle.al_laws.specs.Parts.{layer_at}
@@ -44,10 +44,6 @@ group_ends net g p s =
 
 -- ---- open places
 
-abbrev pub mask_on : Net → ℕ → ℕ → ℕ
-mask_on net s l =
-    let t = strand_at net s in slice_index_or t.masks (l - t.first) 0
-
 -- both places are in one register
 abbrev pub clash : Place → Place → Bool
 clash p q =
@@ -58,7 +54,7 @@ clash p q =
 -- group is in, where both groups have an end at one layer.
 pub record IsOpen (net : Net) (plan : Plan) (g : ℕ) (p : Place) : Type 0 where
   pub mask : (s l : ℕ) → s < length net.strands → IsEnd net g s l →
-      IsTrue (allows (mask_on net s l) (number p))
+      IsTrue (allows (mask_in (strand_at net s) l) (number p))
   pub free : (s l h r k : ℕ) (q : Place) → s < length net.strands → r < length net.strands →
       h < g → slice_get plan.places h ≡ Some q → IsEnd net g s l → IsEnd net h r k →
       layer_at net s l ≡ layer_at net r k → clash p q ≡ false
@@ -92,7 +88,7 @@ pub record IsGreedy (net : Net) (w : Weights) (prices : Prices) (plan : Plan) : 
 pub record MayEnd (net : Net) (s : ℕ) (ends : Ends) : Type 0 where
   pub first : IfSome ends.first
       (λ p. (is_at_entry net s ≡ true) ×
-      IsTrue (allows (mask_on net s (strand_at net s).first) (number p)))
+      IsTrue (allows (mask_in (strand_at net s) (strand_at net s).first) (number p)))
   pub last : IfSome ends.last
       (λ p. (is_at_exit net s ≡ true) ×
-      IsTrue (allows (mask_on net s (strand_at net s).last) (number p)))
+      IsTrue (allows (mask_in (strand_at net s) (strand_at net s).last) (number p)))
