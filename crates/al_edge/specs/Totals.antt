@@ -2,7 +2,7 @@
 use Rattle.std.specs.Prelude.{◌≡◌, ℕ, ◌^◌, ◌<◌, Bool, true, false, ℤ, pos, ◌+ℤ◌, ◌≤ℤ◌, List}
 use Rattle.std.specs.Prelude.{Option, None, unwrap_or, slice_index_or}
 use Rattle.pra_base.specs.declared.ids.Place.{Place}
-use Rattle.pra_base.specs.Places.{number}
+use Rattle.pra_base.specs.Places.{number, place_count}
 use Rattle.net_cost.specs.declared.weights.Weights.{Weights}
 use Rattle.net_form.specs.declared.net.Net.{Net}
 use Rattle.net_form.specs.declared.prices.Prices.{Prices}
@@ -35,12 +35,12 @@ abbrev pub AreKnown : List (Option ℤ) → ℕ → List ℤ → Type 0
 AreKnown found k costs =
     (i : ℕ) → i < k → number_at costs i ≡ unwrap_or (slice_index_or found i None) (pos 0)
 
--- each of fourteen numbers is about so great at most
+-- each of the numbers of places is about so great at most
 abbrev pub AreWide : ℕ → List ℤ → Type 0
 AreWide b xs =
-    (k : ℕ) → k < 14 → (pos 0 ≤ℤ (number_at xs k +ℤ pos b)) × (number_at xs k ≤ℤ pos b)
+    (k : ℕ) → k < place_count → (pos 0 ≤ℤ (number_at xs k +ℤ pos b)) × (number_at xs k ≤ℤ pos b)
 
--- fourteen numbers of 64 bits are added
+-- a number of 64 bits is added
 pub record IsCostAdded (old cost new : ℤ) : Type 0 where
   pub sum : new ≡ old +ℤ cost
   pub low : old ≤ℤ (new +ℤ pos (2 ^ 63))
@@ -48,7 +48,7 @@ pub record IsCostAdded (old cost new : ℤ) : Type 0 where
 
 abbrev pub AreCostsAdded : List ℤ → List ℤ → List ℤ → Type 0
 AreCostsAdded old costs new =
-    (k : ℕ) → k < 14 → IsCostAdded (number_at old k) (number_at costs k) (number_at new k)
+    (k : ℕ) → k < place_count → IsCostAdded (number_at old k) (number_at costs k) (number_at new k)
 
 -- of each open place what it costs the strands of the group
 abbrev pub AreTotals : Net → Weights → Prices → ℕ → List Bool → List ℤ → Type 0

@@ -332,8 +332,8 @@ fn totals<F: Fn(Event, u32) -> u32>(
 
 // The totals of the open places.
 fn of_open(opens: &[bool; 14], totals: &[i128; 14]) -> PlaceWeights
-    ensures long { length result ≡ 14 }
-    ensures each { (k : ℕ) → k < 14 → slice_index_or result k None ≡
+    ensures long { length result ≡ place_count }
+    ensures each { (k : ℕ) → k < place_count → slice_index_or result k None ≡
         (if slice_index_or opens.now k false then Some (slice_index_or totals.now k (pos 0))
         else None) }
 {

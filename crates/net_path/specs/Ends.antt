@@ -2,6 +2,8 @@
 use Rattle.std.specs.Prelude.{◌≡◌, ◌≢◌, ℕ, ◌+◌, ◌^◌, ◌<◌, nat_eq, ℤ, pos, ◌+ℤ◌, ◌<ℤ◌, List, length}
 use Rattle.std.specs.Prelude.{slice_index_or, false, map}
 use Rattle.std.specs.List.{range_with_len, flat_map}
+use Rattle.pra_base.specs.declared.ids.Place.TheVariants.{Mem}
+use Rattle.pra_base.specs.Places.{number}
 use Rattle.net_form.specs.declared.net.Net.{Net}
 use Rattle.net_form.specs.Admitted.{strand_at}
 use Rattle.net_form.specs.Index.{ends_at}
@@ -43,8 +45,8 @@ pub record IsMemory (prices : Prices) (taken : Taken) (l : ℕ) (es : List PairE
 -- memory alone changes, at each of n layers
 pub record IsMemoryRow (prices : Prices) (taken : Taken) (l : ℕ) (es : List PairEnd)
     (old new : List ℤ) : Type 0 where
-  pub others : (q : ℕ) → q ≢ 6 → at new q ≡ at old q
-  pub memory : IsMemory prices taken l es (at old 6) (at new 6)
+  pub others : (q : ℕ) → q ≢ number Mem → at new q ≡ at old q
+  pub memory : IsMemory prices taken l es (at old (number Mem)) (at new (number Mem))
 
 abbrev pub AreMemoryRows : Prices → Taken → ℕ → List PairEnd → List Row → List Row → Type 0
 AreMemoryRows prices taken first es old new =

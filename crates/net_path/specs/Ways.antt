@@ -1,7 +1,9 @@
 -- The ways of a crossbar at a strand's block, and what is least over all ways from a place.
 use Rattle.std.specs.Prelude.{◌≡◌, ◌≢◌, ◌⊎◌, ℕ, ◌+◌, ◌*◌, ◌^◌, ◌<◌, Bool, ◌&&◌, not, nat_eq}
 use Rattle.std.specs.Prelude.{if◌then◌else◌, ℤ, pos, ◌+ℤ◌, ◌≤ℤ◌, List, slice_index_or}
-use Rattle.pra_base.specs.Places.{has_register, register_of, needs_slot, place_count}
+use Rattle.pra_base.specs.declared.ids.Place.TheVariants.{Eax, Mem, Const, EaxM}
+use Rattle.pra_base.specs.Places.{number, has_register, register_of, needs_slot, place_count}
+use Rattle.pra_base.specs.Places.{register_count}
 use Rattle.pl_moves.specs.Crossbar.{crossbar, register_event, load_event, store_event}
 use Rattle.pl_moves.specs.Crossbar.{constant_event}
 use Rattle.net_cost.specs.declared.weights.Weights.{Weights}
@@ -53,6 +55,10 @@ step_price ways p q =
 abbrev pub start_price : Ways → Bool → ℕ → ℤ
 start_price ways constant q = if constant && has_register q then ways.set else pos 0
 
+-- the both place of register r
+abbrev pub both_place : ℕ → ℕ
+both_place r = number EaxM + r
+
 -- what is to be paid from place q on
 abbrev pub at : List ℤ → ℕ → ℤ
 at costs q = slice_index_or costs q (pos 0)
@@ -81,10 +87,10 @@ pub record IsLeastOfFour (a b c d z : ℤ) : Type 0 where
 
 -- the least of the six registers alone, of the six both places, and memory and the constant itself
 pub record AreBests (costs : List ℤ) (bests : Bests) : Type 0 where
-  pub alone : IsLeastAmong costs 0 6 bests.alone.cost
-  pub both : IsLeastAmong costs 8 6 bests.both.cost
-  pub memory : bests.memory.cost ≡ at costs 6
-  pub constant : bests.constant.cost ≡ at costs 7
+  pub alone : IsLeastAmong costs (number Eax) register_count bests.alone.cost
+  pub both : IsLeastAmong costs (number EaxM) register_count bests.both.cost
+  pub memory : bests.memory.cost ≡ at costs (number Mem)
+  pub constant : bests.constant.cost ≡ at costs (number Const)
 
 pub record AreBestsWithin (bests : Bests) : Type 0 where
   pub alone : IsDebt bests.alone.cost
@@ -105,7 +111,8 @@ pub record IsLeastWay (way : ℕ → ℤ) (costs : List ℤ) (z : ℤ) : Type 0 
 
 -- the same over all places but those of register r
 pub record IsLeastElsewhere (way : ℕ → ℤ) (r : ℕ) (costs : List ℤ) (z : ℤ) : Type 0 where
-  pub below : (q : ℕ) → q < place_count → q ≢ r → q ≢ 8 + r → z ≤ℤ (way q +ℤ at costs q)
+  pub below : (q : ℕ) → q < place_count → q ≢ r → q ≢ both_place r →
+      z ≤ℤ (way q +ℤ at costs q)
   pub met : IsMet way costs z
 
 -- ---- what it costs to go on from a class of places to another

@@ -7,9 +7,11 @@
 // in its register.
 
 ghost use Rattle.std.specs.Prelude.{◌≡◌, ◌⊎◌, ◌≤ℤ◌, ◌+ℤ◌, ◌+◌, ◌^◌, ◌≤◌, ◌<◌, ℕ, ℤ, List};
+ghost use Rattle.pra_base.specs.declared.ids.Place.TheVariants.{Mem, Const};
+ghost use Rattle.pra_base.specs.Places.{number, register_count};
 ghost use Rattle.net_path.specs.Ways.{at, IsLeastAmong, IsLeastOfFour, AreBests, AreBestsWithin};
 ghost use Rattle.net_path.specs.Ways.{IsLeastWay, IsLeastElsewhere, AreStepsWithin, IsDebt};
-ghost use Rattle.net_path.specs.Ways.{AreDebts, step_by, IsOnward, IsShort};
+ghost use Rattle.net_path.specs.Ways.{AreDebts, both_place, step_by, IsOnward, IsShort};
 ghost use Rattle.net_path.specs.Rows.{IsCellWithin, AreCostsCells, IsRowWithin, IsPaid, IsPaidAt};
 ghost use Rattle.net_path.specs.Rows.{ArePaidOver};
 
@@ -116,8 +118,8 @@ pub(crate) fn debt_at<const SECONDS: bool>(row: &Row, place: usize) -> Debt
 // The least of the six debts from a place on.
 #[inline(always)]
 fn least_of_six<const SECONDS: bool>(row: &Row, from: usize) -> Debt
-    requires { from + 6 ≤ 16 }
-    ensures { IsLeastAmong row.now.costs from 6 result.cost }
+    requires { from + register_count ≤ 16 }
+    ensures { IsLeastAmong row.now.costs from register_count result.cost }
 {
     let mut least = debt_at::<SECONDS>(row, from);
     for k in 1..6usize {
@@ -171,7 +173,7 @@ fn going_on<const SECONDS: bool>(bests: &Bests, by: Onward) -> Debt
 fn elsewhere_from_alone<const SECONDS: bool>(steps: &Steps, bests: &Bests) -> Debt
     requires steps { AreStepsWithin steps.now }
     requires bests { AreBestsWithin bests.now }
-    ensures { (costs : List ℤ) (r : ℕ) → AreBests costs bests.now → r < 6 →
+    ensures { (costs : List ℤ) (r : ℕ) → AreBests costs bests.now → r < register_count →
         IsLeastElsewhere (step_by steps.now r) r costs result.cost }
 {
     going_on::<SECONDS>(bests, steps.alone)
@@ -182,8 +184,8 @@ fn elsewhere_from_alone<const SECONDS: bool>(steps: &Steps, bests: &Bests) -> De
 fn elsewhere_from_both<const SECONDS: bool>(steps: &Steps, bests: &Bests) -> Debt
     requires steps { AreStepsWithin steps.now }
     requires bests { AreBestsWithin bests.now }
-    ensures { (costs : List ℤ) (r : ℕ) → AreBests costs bests.now → r < 6 →
-        IsLeastElsewhere (step_by steps.now (8 + r)) r costs result.cost }
+    ensures { (costs : List ℤ) (r : ℕ) → AreBests costs bests.now → r < register_count →
+        IsLeastElsewhere (step_by steps.now (both_place r)) r costs result.cost }
 {
     going_on::<SECONDS>(bests, steps.both)
 }
@@ -194,7 +196,7 @@ fn debt_in_memory<const SECONDS: bool>(steps: &Steps, bests: &Bests) -> Debt
     requires steps { AreStepsWithin steps.now }
     requires bests { AreBestsWithin bests.now }
     ensures { (costs : List ℤ) → AreBests costs bests.now →
-        IsLeastWay (step_by steps.now 6) costs result.cost }
+        IsLeastWay (step_by steps.now (number Mem)) costs result.cost }
 {
     going_on::<SECONDS>(bests, steps.memory)
 }
@@ -205,7 +207,7 @@ fn debt_nowhere<const SECONDS: bool>(steps: &Steps, bests: &Bests) -> Debt
     requires steps { AreStepsWithin steps.now }
     requires bests { AreBestsWithin bests.now }
     ensures { (costs : List ℤ) → AreBests costs bests.now →
-        IsLeastWay (step_by steps.now 7) costs result.cost }
+        IsLeastWay (step_by steps.now (number Const)) costs result.cost }
 {
     going_on::<SECONDS>(bests, steps.constant)
 }
@@ -215,7 +217,7 @@ fn debt_nowhere<const SECONDS: bool>(steps: &Steps, bests: &Bests) -> Debt
 fn debt_alone<const SECONDS: bool>(steps: &Steps, row: &Row, r: usize, elsewhere: Debt) -> Debt
     requires steps { AreStepsWithin steps.now }
     requires row { AreDebts row.now.costs }
-    requires register { r < 6 }
+    requires register { r < register_count }
     requires elsewhere { IsLeastElsewhere (step_by steps.now r) r row.now.costs elsewhere.cost }
     ensures { IsLeastWay (step_by steps.now r) row.now.costs result.cost }
 {
@@ -231,10 +233,10 @@ fn debt_alone<const SECONDS: bool>(steps: &Steps, row: &Row, r: usize, elsewhere
 fn debt_in_both<const SECONDS: bool>(steps: &Steps, row: &Row, r: usize, elsewhere: Debt) -> Debt
     requires steps { AreStepsWithin steps.now }
     requires row { AreDebts row.now.costs }
-    requires register { r < 6 }
-    requires elsewhere { IsLeastElsewhere (step_by steps.now (8 + r)) r row.now.costs
+    requires register { r < register_count }
+    requires elsewhere { IsLeastElsewhere (step_by steps.now (both_place r)) r row.now.costs
         elsewhere.cost }
-    ensures { IsLeastWay (step_by steps.now (8 + r)) row.now.costs result.cost }
+    ensures { IsLeastWay (step_by steps.now (both_place r)) row.now.costs result.cost }
 {
     let left = with_way(debt_at::<SECONDS>(row, r), steps.left);
     lesser::<SECONDS>(

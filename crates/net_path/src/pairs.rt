@@ -1,6 +1,8 @@
 // What memory pairs add to the costs of a strand in memory.
 
 ghost use Rattle.std.specs.Prelude.{◌≡◌, ◌≢◌, ◌≤◌, ◌<◌, ◌+◌, ◌^◌, ℕ, pos, length, if◌then◌else◌};
+ghost use Rattle.pra_base.specs.declared.ids.Place.TheVariants.{Mem};
+ghost use Rattle.pra_base.specs.Places.{number};
 ghost use Rattle.net_form.specs.Admitted.{strand_at};
 ghost use Rattle.net_form.specs.Rooms.{IsRoomOf};
 ghost use Rattle.net_laws.specs.Built.{IsBuilt};
@@ -30,9 +32,9 @@ fn with_pair(cost: i64, price: u64, taken: bool) -> i64
 // Pays a memory pair at a layer.
 fn pay_pair(row: &mut Row, price: u64, taken: bool)
     requires { price ≤ 2 ^ 40 }
-    ensures others { (q : ℕ) → q ≢ 6 → at row.new.costs q ≡ at row.old.costs q }
-    ensures memory { IsOneEnd (if taken then pos 1 else pos 0) (pos price) (at row.old.costs 6)
-        (at row.new.costs 6) }
+    ensures others { (q : ℕ) → q ≢ number Mem → at row.new.costs q ≡ at row.old.costs q }
+    ensures memory { IsOneEnd (if taken then pos 1 else pos 0) (pos price)
+        (at row.old.costs (number Mem)) (at row.new.costs (number Mem)) }
 {
     row.costs[6] = with_pair(row.costs[6], price, taken);
 }

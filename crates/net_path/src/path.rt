@@ -150,7 +150,7 @@ fn choose<const SECONDS: bool>(leaving: &Leaving, row: &Row, to: Place) -> Choic
 fn best_choice<const SECONDS: bool>(ways: &Ways, row: &Row, from: Place) -> Choice
     requires ways { AreWaysWithin ways.now }
     requires row { AreDebts row.now.costs }
-    ensures { IsBestChoice (step_price ways.now (number from)) row.now.costs 14 result }
+    ensures { IsBestChoice (step_price ways.now (number from)) row.now.costs place_count result }
 {
     let leaving = leave(ways, from);
     let mut best = choose::<SECONDS>(&leaving, row, from);
@@ -182,7 +182,7 @@ fn begin_at<const SECONDS: bool>(ways: &Ways, constant: bool, row: &Row, to: Pla
 fn best_start<const SECONDS: bool>(ways: &Ways, constant: bool, row: &Row) -> Choice
     requires ways { AreWaysWithin ways.now }
     requires row { AreDebts row.now.costs }
-    ensures { IsBestChoice (start_price ways.now constant) row.now.costs 14 result }
+    ensures { IsBestChoice (start_price ways.now constant) row.now.costs place_count result }
 {
     let mut best = begin_at::<SECONDS>(ways, constant, row, Place::Mem);
     for number in 0..14u8 {
@@ -220,7 +220,7 @@ pub(crate) fn start_costs(ways: &Ways, constant: bool, row: &Row) -> [Option<i64
 pub(crate) fn start(ways: &Ways, constant: bool, row: &Row, seconds: bool) -> Choice
     requires ways { AreWaysWithin ways.now }
     requires row { AreDebts row.now.costs }
-    ensures { IsBestChoice (start_price ways.now constant) row.now.costs 14 result }
+    ensures { IsBestChoice (start_price ways.now constant) row.now.costs place_count result }
 {
     if seconds {
         best_start::<true>(ways, constant, row)
@@ -233,7 +233,7 @@ pub(crate) fn start(ways: &Ways, constant: bool, row: &Row, seconds: bool) -> Ch
 fn chosen(ways: &Ways, row: &Row, from: Place, seconds: bool) -> Choice
     requires ways { AreWaysWithin ways.now }
     requires row { AreDebts row.now.costs }
-    ensures { IsBestChoice (step_price ways.now (number from)) row.now.costs 14 result }
+    ensures { IsBestChoice (step_price ways.now (number from)) row.now.costs place_count result }
 {
     if seconds {
         best_choice::<true>(ways, row, from)
