@@ -11,8 +11,8 @@
 // `^` a bar, `3*a` is `aaa`, and in out and notes `..` is any number and `~` any lines of rounds
 // and of totals.
 //
-// Of each report that is written whole the lines are also read as `report` says, and each run that
-// ends or traps is repeated by the meaning of the module, which has to leave the same.
+// Of each report that is written whole the lines are also read (`code_length` of told), and each
+// run that ends or traps is repeated by the meaning of the module, which has to leave the same.
 
 mod applied;
 mod certified;
@@ -22,13 +22,15 @@ mod listings;
 mod meant;
 mod worked;
 
-use crate::outside::{ALL_WELL, Left, Outside, call};
-use crate::report::{Limits, code_length, procedure_lines};
+use outside::{ALL_WELL, Left, Outside, call};
 use pra_base::OutOfMemory;
 use std::alloc::Global;
 use std::fmt::Write;
 use std::process::Abort;
-use std::str::Split;
+use told::{
+    Limits, code_length, field, fits, hexadecimal, last_line, procedure_lines, push_hexadecimal,
+    split_at, unfolded,
+};
 
 /// A row as far as it was read.
 #[derive(Drop)]
@@ -92,117 +94,6 @@ impl<'a> Row<'a> {
     }
 }
 
-/// The next field of a line, which is empty past its end.
-pub(crate) fn field<'a>(fields: &mut Split<'a, char>) -> &'a str {
-    fields.next().unwrap_or("")
-}
-
-/// The bytes that a field stands for: `$` is the end of a line, `^` a bar, and `3*a` is `aaa`.
-pub(crate) fn unfolded(alloc: Global, field: &str) -> Result<Vec<u8>, OutOfMemory> {
-    let (times, part) = match field.split_once('*') {
-        Some((count, part)) => match count.parse::<usize>() {
-            Ok(times) => (times, part),
-            Err(_) => (1, field),
-        },
-        None => (1, field),
-    };
-    let mut bytes = Vec::new(alloc);
-    for _ in 0..times {
-        for byte in part.as_bytes() {
-            bytes.push(match *byte {
-                b'$' => b'\n',
-                b'^' => b'|',
-                other => other,
-            })?;
-        }
-    }
-    Ok(bytes)
-}
-
-// The bytes that are written in hexadecimal, with blanks between any of them.
-fn push_hexadecimal(bytes: &mut Vec<u8>, text: &str) -> Result<(), OutOfMemory> {
-    let mut high = None;
-    for digit in text.chars() {
-        let Some(value) = digit.to_digit(16) else {
-            continue;
-        };
-        high = match high {
-            Some(first) => {
-                if let Ok(byte) = u8::try_from(first << 4 | value) {
-                    bytes.push(byte)?;
-                }
-                None
-            }
-            None => Some(value),
-        };
-    }
-    Ok(())
-}
-
-// What stands behind the digits with which a text begins.
-fn behind_digits(text: &[u8]) -> &[u8] {
-    for index in 0..text.len() {
-        if !text[index].is_ascii_digit() {
-            return &text[index..];
-        }
-    }
-    &text[text.len()..]
-}
-
-// What stands behind the lines of rounds and totals with which a text begins.
-fn behind_rounds(text: &[u8]) -> &[u8] {
-    let lines = str::from_utf8(text).unwrap_or("");
-    let mut rest = text;
-    for line in lines.lines() {
-        if !line.starts_with("round ") && !line.starts_with("total ") {
-            return rest;
-        }
-        rest = rest.strip_prefix(line.as_bytes()).unwrap_or(rest);
-        rest = rest.strip_prefix(b"\n").unwrap_or(rest);
-    }
-    rest
-}
-
-// What stands behind the pattern with which a text begins; `..` is any number.
-fn behind<'a>(pattern: &str, text: &'a [u8]) -> Option<&'a [u8]> {
-    let mut rest = text;
-    let mut inside = false;
-    for piece in pattern.split("..") {
-        if inside {
-            rest = behind_digits(rest);
-        }
-        rest = rest.strip_prefix(piece.as_bytes())?;
-        inside = true;
-    }
-    Some(rest)
-}
-
-// Whether a text is as the pattern says, in which `~` is any lines of rounds and totals.
-fn fits(pattern: &str, text: &[u8]) -> bool {
-    let mut rest = text;
-    let mut inside = false;
-    for piece in pattern.split('~') {
-        if inside {
-            rest = behind_rounds(rest);
-        }
-        let Some(after) = behind(piece, rest) else {
-            return false;
-        };
-        rest = after;
-        inside = true;
-    }
-    rest.is_empty()
-}
-
-// The bytes of a file in hexadecimal.
-fn hexadecimal(alloc: Global, bytes: &[u8]) -> Result<String, OutOfMemory> {
-    let mut text = String::new(alloc);
-    for byte in bytes {
-        write!(text, "{byte:02x}")?;
-    }
-    Ok(text)
-}
-
 // The text is as the pattern of the row says.
 fn check_text(
     rt: &impl Abort,
@@ -249,16 +140,6 @@ fn check_report(rt: &impl Abort, row: &Row, report: &[u8], image: &[u8]) {
     assert_eq!(rt; code, Ok(length), "{name}: {words}");
 }
 
-// The last line of notes, without its end.
-pub(crate) fn last_line(notes: &[u8]) -> &str {
-    let lines = notes.strip_suffix(b"\n").unwrap_or(notes);
-    let text = str::from_utf8(lines).unwrap_or("");
-    match text.rsplit_once('\n') {
-        Some((_, last)) => last,
-        None => text,
-    }
-}
-
 // The module by its meaning does what its image did.
 fn check_meant(rt: &impl Abort, alloc: Global, row: &Row, ran: &Left) -> Result<(), OutOfMemory> {
     let (_, rest) = row.words.split_once(' ').unwrap_or(("", ""));
@@ -280,11 +161,6 @@ fn check_meant(rt: &impl Abort, alloc: Global, row: &Row, ran: &Left) -> Result<
     let (_, wanted_reads) = split_at(wanted_rest, " ");
     assert_eq!(rt; reads, wanted_reads, "{name}: {words}");
     Ok(())
-}
-
-// What stands before a part of a line and behind it; nothing behind it where it is none.
-fn split_at<'a>(line: &'a str, part: &str) -> (&'a str, &'a str) {
-    line.split_once(part).unwrap_or((line, ""))
 }
 
 // Makes the row's next call, and compares what it leaves.
@@ -435,73 +311,5 @@ fn a_certificate_holds(rt: HostRuntime) -> Result<(), OutOfMemory> {
         let wanted = held_lines(alloc, report)?;
         assert_eq!(rt; held.out.bytes(), wanted.as_bytes(), "{options}");
     }
-    Ok(())
-}
-
-// A certificate of one byte more than may be, which the input holds.
-#[test]
-fn the_limit_of_a_certificate_that_is_applied(rt: HostRuntime) -> Result<(), OutOfMemory> {
-    let alloc = rt.alloc();
-    for (length, status, notes) in [
-        (16_777_216, 3, "fault json\n"),
-        (
-            16_777_217,
-            4,
-            "limit certificate count 16777217 maximum 16777216\n",
-        ),
-    ] {
-        let mut input = Vec::new(alloc);
-        input.resize(length, b' ')?;
-        let left = call(alloc, "apply M.ob", b"MODULE M; END M.", &input, ALL_WELL)?;
-        assert_eq!(rt; left.notes.bytes(), notes.as_bytes(), "{length}");
-        assert_eq!(rt; left.status, status, "{length}");
-        assert!(rt; left.folder.file("out.pri").is_none(), "{length}");
-    }
-    Ok(())
-}
-
-// Files of the most bytes and of one more, and an image whose text is too long.
-#[test]
-fn limits_of_files(rt: HostRuntime) -> Result<(), OutOfMemory> {
-    let alloc = rt.alloc();
-    for (words, length, status, notes) in [
-        ("list M.ob", 41_943_056, 3, "fault image Magic at 0\n"),
-        (
-            "list M.ob",
-            41_943_057,
-            4,
-            "limit image count 41943057 maximum 41943056\n",
-        ),
-        ("asm M.ob", 67_108_864, 3, "fault line 1\n"),
-        (
-            "asm M.ob",
-            67_108_865,
-            4,
-            "limit listing count 67108865 maximum 67108864\n",
-        ),
-        ("check M.ob", 16_777_216, 3, "fault json\n"),
-        (
-            "check M.ob",
-            16_777_217,
-            4,
-            "limit certificate count 16777217 maximum 16777216\n",
-        ),
-    ] {
-        let mut file = Vec::new(alloc);
-        file.resize(length, 0)?;
-        let left = call(alloc, words, &file, b"", ALL_WELL)?;
-        assert_eq!(rt; left.notes.bytes(), notes.as_bytes(), "{words}: {length}");
-        assert_eq!(rt; left.status, status, "{words}: {length}");
-    }
-    let mut image = Vec::new(alloc);
-    push_hexadecimal(&mut image, "50524149 01000000 2cc54e00 00000000")?;
-    image.resize(16 + 5_162_284, 0x99)?;
-    let left = call(alloc, "list M.ob", &image, b"", ALL_WELL)?;
-    assert_eq!(rt;
-        left.notes.bytes(),
-        b"limit listing count 67109699 maximum 67108864\n".as_slice()
-    );
-    assert_eq!(rt; left.status, 4);
-    assert!(rt; left.out.bytes().is_empty());
     Ok(())
 }

@@ -1,11 +1,11 @@
 // What rounds make of modules: the lines of the report, and the code that is left.
 
-use crate::calls::{last_line, source_of};
-use crate::outside::{ALL_WELL, Left, call};
-use crate::report::{Limits, code_length, rounds_of};
+use crate::calls::source_of;
+use outside::{ALL_WELL, Left, call};
 use pra_base::OutOfMemory;
 use std::alloc::{Alloc, Global};
 use std::process::Abort;
+use told::{Limits, code_length, last_line, rounds_of};
 
 /// A module with eight scalars that live over a division, in six registers.
 const EIGHT: &str = "more values than registers, and a division";

@@ -1,11 +1,10 @@
 // Modules that the tool generates, and what a run of each leaves.
 
-use crate::calls::last_line;
-use crate::outside::{ALL_WELL, call};
-use crate::report::{Limits, code_length};
+use outside::{ALL_WELL, call};
 use std::alloc::{Alloc, Global};
 use std::process::Abort;
 use std::test::Fail;
+use told::{Limits, code_length, last_line};
 
 // The module that is made with these options runs as it ran when it was made, from the same image.
 fn check_generated(

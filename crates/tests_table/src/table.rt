@@ -4,12 +4,11 @@ mod long;
 mod modules;
 mod rules;
 
-use crate::calls::{field, last_line, unfolded};
-use crate::outside::{ALL_WELL, call};
-use crate::report::{Limits, code_length};
+use outside::{ALL_WELL, call};
 use pra_base::OutOfMemory;
 use std::alloc::{Alloc, Global};
 use std::process::Abort;
+use told::{Limits, code_length, field, last_line, unfolded};
 
 /// The words of a call over a module.
 const WORDS: &str = "run M.ob --rounds 1";

@@ -3,7 +3,7 @@
 // A line of a table is a row. Its first field is the words, between which one blank stands each, so
 // that two blanks have an empty word between them. An empty line has no words.
 
-use crate::outside::{ALL_WELL, call};
+use outside::{ALL_WELL, call};
 use pra_io::{Folder, HostFolder, MemSink, MemSource};
 use pra_tool::run_tool;
 use std::alloc::{Alloc, Global};

@@ -11,7 +11,7 @@ use std::str::Split;
 /// What ends the rounds of a procedure: so many of them behind round 0, or a cost that is at most
 /// the gap above its bound.
 #[derive(Clone, Copy, Debug)]
-pub(crate) struct Limits {
+pub struct Limits {
     pub rounds: u64,
     pub gap: u64,
 }
@@ -21,7 +21,7 @@ const DEFAULT: Limits = Limits { rounds: 10, gap: 0 };
 
 /// What a line of a round says.
 #[derive(Clone, Copy, Debug, PartialEq, Eq)]
-pub(crate) struct Round {
+pub struct Round {
     pub number: u64,
     pub cost: u64,
     pub bound: u64,
@@ -29,7 +29,7 @@ pub(crate) struct Round {
 
 /// What is wrong with a report.
 #[derive(Clone, Copy, Debug, PartialEq, Eq)]
-pub(crate) enum Fault {
+pub enum Fault {
     /// A line is none of a report, or stands at a place where it can't.
     Form,
     /// A cost is below its bound, or above an earlier one of the procedure, or a bound below one.
@@ -52,7 +52,7 @@ struct Reader {
 
 impl Limits {
     /// The limits that words set: the option's value stands behind its name.
-    pub(crate) fn of_words(words: &str) -> Limits {
+    pub fn of_words(words: &str) -> Limits {
         Limits {
             rounds: option_value(words, "--rounds", DEFAULT.rounds),
             gap: option_value(words, "--gap", DEFAULT.gap),
@@ -177,7 +177,7 @@ impl Reader {
 /// # Errors
 ///
 /// What is wrong with it.
-pub(crate) fn code_length(report: &[u8], limits: Limits) -> Result<u64, Fault> {
+pub fn code_length(report: &[u8], limits: Limits) -> Result<u64, Fault> {
     let text = str::from_utf8(report).map_err(|_| Fault::Form)?;
     let mut reader = Reader {
         limits,
@@ -199,11 +199,7 @@ pub(crate) fn code_length(report: &[u8], limits: Limits) -> Result<u64, Fault> {
 }
 
 /// The lines of the rounds of the procedure of this number, as far as they are such lines.
-pub(crate) fn rounds_of(
-    alloc: Global,
-    report: &[u8],
-    procedure: u64,
-) -> Result<Vec<Round>, OutOfMemory> {
+pub fn rounds_of(alloc: Global, report: &[u8], procedure: u64) -> Result<Vec<Round>, OutOfMemory> {
     let text = str::from_utf8(report).unwrap_or("");
     let mut rounds = Vec::new(alloc);
     let mut here = false;
@@ -221,7 +217,7 @@ pub(crate) fn rounds_of(
 }
 
 /// The lines of the procedures alone.
-pub(crate) fn procedure_lines(alloc: Global, report: &[u8]) -> Result<String, OutOfMemory> {
+pub fn procedure_lines(alloc: Global, report: &[u8]) -> Result<String, OutOfMemory> {
     let text = str::from_utf8(report).unwrap_or("");
     let mut lines = String::new(alloc);
     for line in text.lines() {

@@ -7,7 +7,7 @@ use std::alloc::Global;
 
 /// What a call left.
 #[derive(Drop)]
-pub(crate) struct Left {
+pub struct Left {
     pub status: u8,
     pub input: MemSource,
     pub out: MemSink,
@@ -18,7 +18,7 @@ pub(crate) struct Left {
 /// How the outside of a call is made: which call of each object fails, none where it is 0, how many
 /// bytes streams move at once, and how many out takes.
 #[derive(Clone, Copy, Drop)]
-pub(crate) struct Outside {
+pub struct Outside {
     pub folder_fails: u64,
     pub input_fails: u64,
     pub out_fails: u64,
@@ -27,7 +27,7 @@ pub(crate) struct Outside {
     pub room: usize,
 }
 
-pub(crate) const ALL_WELL: Outside = Outside {
+pub const ALL_WELL: Outside = Outside {
     folder_fails: 0,
     input_fails: 0,
     out_fails: 0,
@@ -54,7 +54,7 @@ fn one(alloc: Global, number: u64) -> Result<Vec<u64>, OutOfMemory> {
 }
 
 /// Calls the tool with the words of a line, where the file M.ob holds the source.
-pub(crate) fn call(
+pub fn call(
     alloc: Global,
     line: &str,
     source: &[u8],
