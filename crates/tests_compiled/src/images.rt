@@ -13,10 +13,10 @@ ghost use Rattle.vc_short.specs.Short.{IsShort};
 ghost use Rattle.vc_typed.specs.Nodes.{HaveTheirNodes};
 ghost use Rattle.vc_typed.specs.TypedModules.{IsSelectable};
 
-use crate::chain::{checked, code_of, tidied_code};
 use crate::image_rows;
 use al_edge::home;
 use al_round::{Verdict, Watch};
+use chain::{checked, code_of, tidied_code};
 use ia_asm::image_bytes;
 use ia_sketch::PlacedModule;
 use net_build::build;

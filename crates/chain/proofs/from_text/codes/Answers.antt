@@ -2,7 +2,7 @@ use Rattle.std.proofs.Common.{List, All, sym, subst}
 use Rattle.std.proofs.lemmas.List.Elements.{All-push}
 use Rattle.pra_base.specs.Valid.{IsSized, IsValid}
 use Rattle.pra_base.specs.declared.code.VProc.{VProc}
-use Rattle.tests_compiled.proofs.chain.codes.Goals as goal
+use Rattle.chain.proofs.from_text.codes.Goals as goal
 
 pub loop-number-preserved : goal.loop-number-preserved
 loop-number-preserved c =

@@ -1,9 +1,9 @@
 // Expressions, variables and conditions: what their selected code and their tidy code come to,
 // beside what the row says and what the meaning gives.
 
-use crate::chain::{checked, selected, tidied};
 use crate::expression_rows;
 use crate::shown::{shows, shows_meaning};
+use chain::{checked, selected, tidied};
 use ob_interp::interpret::interpret;
 use ob_syntax::Checked;
 use pra_base::{OutOfMemory, VModule};

@@ -1,8 +1,8 @@
 // Each row of the tables is run by its selected code and by its tidy code.
 
-use crate::chain::{checked, selected, tidied};
 use crate::module_rows;
 use crate::shown::shows;
+use chain::{checked, selected, tidied};
 use pra_base::{OutOfMemory, VModule, VProc};
 use std::alloc::Global;
 use std::process::Abort;

@@ -38,7 +38,7 @@ fn checked_bytes(alloc: Global, bytes: &[u8]) -> Result<Checked, ReadFault>
 /// # Errors
 ///
 /// What is wrong with the text. And want of memory.
-pub(crate) fn checked(alloc: Global, text: &str) -> Result<Checked, Fail>
+pub fn checked(alloc: Global, text: &str) -> Result<Checked, Fail>
     ensures selectable { IfOk result IsSelectable }
     ensures nodes { IfOk result HaveTheirNodes }
     ensures short { IfOk result IsShort }
@@ -56,7 +56,7 @@ pub(crate) fn checked(alloc: Global, text: &str) -> Result<Checked, Fail>
 /// # Errors
 ///
 /// Where there is no memory.
-pub(crate) fn code_of(alloc: Global, checked: &Checked, number: u32) -> Result<VProc, OutOfMemory>
+pub fn code_of(alloc: Global, checked: &Checked, number: u32) -> Result<VProc, OutOfMemory>
     requires selectable { IsSelectable checked.now }
     requires nodes { HaveTheirNodes checked.now }
     requires there { number < length checked.now.procs }
@@ -85,7 +85,7 @@ fn codes(alloc: Global, checked: &Checked) -> Result<Vec<VProc>, OutOfMemory>
 /// # Errors
 ///
 /// Where there is no memory.
-pub(crate) fn selected(alloc: Global, checked: &Checked) -> Result<VModule, OutOfMemory>
+pub fn selected(alloc: Global, checked: &Checked) -> Result<VModule, OutOfMemory>
     requires selectable { IsSelectable checked.now }
     requires nodes { HaveTheirNodes checked.now }
     ensures { IfOk result (λ m. All (λ code. IsValid code × IsSized code) m.procs) }
@@ -102,7 +102,7 @@ pub(crate) fn selected(alloc: Global, checked: &Checked) -> Result<VModule, OutO
 /// # Errors
 ///
 /// Where there is no memory.
-pub(crate) fn tidied_code(alloc: Global, code: VProc) -> Result<VProc, OutOfMemory>
+pub fn tidied_code(alloc: Global, code: VProc) -> Result<VProc, OutOfMemory>
     requires valid { IsValid code }
     requires sized { IsSized code }
     ensures valid { IfOk result IsValid }
@@ -119,7 +119,7 @@ pub(crate) fn tidied_code(alloc: Global, code: VProc) -> Result<VProc, OutOfMemo
 /// # Errors
 ///
 /// Where there is no memory.
-pub(crate) fn tidied(alloc: Global, selected: VModule) -> Result<VModule, OutOfMemory>
+pub fn tidied(alloc: Global, selected: VModule) -> Result<VModule, OutOfMemory>
     requires { All (λ code. IsValid code × IsSized code) selected.procs }
 {
     let VModule { procs, data_words } = selected;

@@ -1,6 +1,6 @@
 -- What is selected is valid and sized.
 use Rattle.vc_proc.proofs.Gets.{got_some}
-use Rattle.tests_compiled.proofs.chain.code_of.Goals as goal
+use Rattle.chain.proofs.from_text.code_of.Goals as goal
 
 pub returns : goal.returns
 returns c =
