@@ -5,8 +5,8 @@
 // for each variable, with a mark for each layer of a block, `#` where the variable is live, and the
 // blocks beside one another; or that the code is not sized.
 
-use pl_sketch::Sketch;
 use pra_base::{BlockId, VProc, VarId};
+use sketch::Sketch;
 use std::alloc::{AllocError, Global};
 use std::mem;
 use std::process::Abort;

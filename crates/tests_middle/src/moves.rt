@@ -3,8 +3,8 @@
 ghost use Rattle.std.specs.Prelude.{◌<◌};
 
 use pl_moves::{Move, Pair, can_move, moves};
-use pl_sketch::place;
 use pra_base::{Place, VarId};
+use sketch::place;
 use std::alloc::Global;
 use std::process::Abort;
 use std::test::Fail;

@@ -3,9 +3,9 @@
 
 use crate::verdicts::{home_routes, verdict};
 use net_form::Routes;
-use pl_sketch::{Sketch, path, place};
 use pra_base::{OutOfMemory, Place, VModule, VProc};
 use pra_list::Seq;
+use sketch::{Sketch, path, place};
 use std::alloc::{AllocError, Global};
 use std::mem;
 use std::process::Abort;

@@ -3,9 +3,9 @@
 
 use net_build::build;
 use net_form::{Net, Strand};
-use pl_sketch::Sketch;
 use pra_base::{OutOfMemory, VProc};
 use pra_list::Seq;
+use sketch::Sketch;
 use std::alloc::{AllocError, Global};
 use std::process::Abort;
 use std::test::Fail;

@@ -1,12 +1,12 @@
 // The operand table, a line an instruction, and procedures that are near.
 
-use pl_sketch::instruction;
 use pra_base::{Mask, OutOfMemory, VarKind};
+use sketch::instruction;
+use sketch::selected::procedure;
 use std::alloc::Global;
 use std::process::Abort;
 use std::test::Fail;
 use vc_code::{OperandRow, Role, is_near, operands};
-use vc_sketch::procedure;
 
 // The letters of a mask: a to f are EAX, ECX, EDX, EBX, ESI and EDI, M is memory, K is a constant,
 // and A to F are the both places of the registers. Behind `=` stands what is read, behind `>` what

@@ -2,13 +2,13 @@
 // ending, and how many words of the input were taken.
 
 use pl_moves::Move;
-use pl_sketch::Step::{Op, Shift};
-use pl_sketch::{Frame, Step};
 use pra_base::Place::{Const, Eax, EaxM, Ebx, Ecx, Edx, Mem};
 use pra_base::VInstr::{
     Add, Call, Check, Clear, Cmp, DivMod, Line, Load, Push, Read, Set, Store, Write,
 };
 use pra_base::{Addr, Base, BlockId, Cond, End, ProcId, VInstr, VarId, VarKind};
+use sketch::placed::Step::{Op, Shift};
+use sketch::placed::{Frame, Step};
 
 /// A block: its instructions and moves, and its end.
 pub type Lines<'a> = (&'a [Step<'a>], End);

@@ -2,7 +2,8 @@
 
 use crate::placed_rows::Row;
 use crate::placing::{frames, placed_module, run, selected};
-use pl_sketch::{Sketch, print};
+use sketch::Sketch;
+use sketch::placed::print;
 use std::alloc::Global;
 use std::mem;
 use std::process::Abort;

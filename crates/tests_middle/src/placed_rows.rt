@@ -1,8 +1,8 @@
 // Rows of a table: codes of procedures with what they are run with, a line each.
 
-use pl_sketch::{Given, Sketch, end, instruction, path};
 use pra_base::{OutOfMemory, Place};
 use pra_list::Seq;
+use sketch::{Given, Sketch, end, instruction, path};
 use std::alloc::{AllocError, Global};
 
 /// An instruction, by the number of its procedure and block and its place in the block.

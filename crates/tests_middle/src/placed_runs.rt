@@ -3,8 +3,9 @@
 use crate::placed_cases::{CASES, Case, Procedure};
 use pl_place::LProc;
 use pl_run::run_placed;
-use pl_sketch::{block, print, print_outcome, procedure};
 use pra_base::OutOfMemory;
+use sketch::placed::{block, print, procedure};
+use sketch::print_outcome;
 use std::alloc::Global;
 use std::process::Abort;
 

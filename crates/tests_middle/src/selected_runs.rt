@@ -1,7 +1,7 @@
 // Runs of selected code, each compared with what its text says.
 
-use pl_sketch::{Given, Sketch, print_outcome};
 use pra_base::OutOfMemory;
+use sketch::{Given, Sketch, print_outcome};
 use std::alloc::Global;
 use std::mem;
 use std::process::Abort;

@@ -3,14 +3,14 @@
 // A row begins with its name behind `#` and has the code of a procedure; what is left stands on
 // lines behind `left`, and behind `=` how many variables it has.
 
-use pl_sketch::Sketch;
 use pra_base::{BlockId, VProc, VarId};
+use sketch::Sketch;
+use sketch::selected::print;
 use std::alloc::Global;
 use std::mem;
 use std::process::Abort;
 use std::test::Fail;
 use vc_live::{is_sized, live};
-use vc_sketch::print;
 use vc_tidy::tidy;
 use vc_valid::is_valid;
 

@@ -9,8 +9,8 @@ use net_cost::{CostModel, Event};
 use net_form::{Net, Routes, Spare};
 use net_gate::{admitted, cost};
 use net_path::Work;
-use pl_sketch::has_places;
 use pra_base::OutOfMemory;
+use sketch::has_places;
 use std::alloc::Global;
 
 /// What routes cost, and once they are settled.

@@ -5,11 +5,11 @@ ghost use Rattle.vc_build.specs.Grow.{count, IsOpen};
 
 use ob_syntax::checked::ROp;
 use pra_base::{BlockId, End, OutOfMemory, VInstr, VProc, VarId, VarKind};
+use sketch::selected::{block, print, procedure};
 use std::alloc::Global;
 use std::process::Abort;
 use vc_build::{close, put};
 use vc_expr::select_operator;
-use vc_sketch::{block, print, procedure};
 
 const ENTRY: BlockId = BlockId(0);
 

@@ -2,8 +2,8 @@
 use Rattle.std.specs.Prelude.{◌≡◌, ◌≤◌, length}
 use Rattle.pl_place.specs.declared.placed.LInstr.{LInstr}
 use Rattle.pl_place.specs.declared.placed.LInstr.TheVariants as placed
-use Rattle.pl_sketch.specs.declared.build.Step.{Step}
-use Rattle.pl_sketch.specs.declared.build.Step.TheVariants as step
+use Rattle.sketch.specs.declared.placed.build.Step.{Step}
+use Rattle.sketch.specs.declared.placed.build.Step.TheVariants as step
 
 -- an instruction has five operands at most
 abbrev pub IsSketched : Step → LInstr → Type 0

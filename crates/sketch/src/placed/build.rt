@@ -1,7 +1,7 @@
 // Placed code by short calls.
 
 ghost use Rattle.std.specs.Prelude.{◌≡◌, IfOk, length};
-ghost use Rattle.pl_sketch.specs.Sketch.{IsSketched};
+ghost use Rattle.sketch.specs.Sketch.{IsSketched};
 
 use arrayvec::ArrayVec;
 use pl_moves::Move;

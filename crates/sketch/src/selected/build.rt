@@ -1,18 +1,10 @@
 // Procedures and modules of selected code by short calls.
 
-ghost use Rattle.std.specs.Prelude.{◌≡◌, ◌∷◌, [], IfOk};
-ghost use Rattle.pra_base.specs.declared.code.End.TheVariants as end;
+ghost use Rattle.std.specs.Prelude.{◌≡◌, IfOk};
 
-use pra_base::{Block, End, ProcId, VInstr, VModule, VProc, VarId, VarKind};
+use pra_base::{Block, End, ProcId, VInstr, VModule, VProc, VarKind};
 use pra_list::Seq;
 use std::alloc::{AllocError, Global};
-
-/// The variable of this number.
-pub fn v(number: u32) -> VarId
-    ensures { result ≡ record { 0 = number } }
-{
-    VarId(number)
-}
 
 /// A block of these instructions, in no loop.
 ///
@@ -57,25 +49,6 @@ pub fn procedure(
         vars: Seq::from_slice(alloc, vars)?,
         blocks: Seq::from_vec(blocks),
     })
-}
-
-/// A body of one block that returns.
-///
-/// # Errors
-///
-/// Where there is no memory for it.
-pub fn straight(alloc: Global, vars: &[VarKind], code: &[VInstr]) -> Result<VProc, AllocError>
-    ensures { IfOk result (λ body. body ≡ record {
-      id = record { 0 = 0 };
-      args = 0;
-      aggregates = 0;
-      vars = vars.now;
-      blocks = record { depth = 0; code = code.now; end = end.Return } ∷ [];
-    }) }
-{
-    let mut blocks = Vec::new(alloc);
-    blocks.push(block(alloc, code, End::Return)?)?;
-    procedure(alloc, 0, 0, 0, vars, blocks)
 }
 
 /// A module of these procedures, its body first.

@@ -1,5 +1,5 @@
 use Rattle.std.proofs.Common.{◌≡◌, length}
-use Rattle.pl_sketch.proofs.build.block.Given as goal
+use Rattle.sketch.proofs.placed.build.block.Given as goal
 
 abbrev pub invariant-loop-step : goal.invariant-loop-step
 invariant-loop-step l = length l.code ≡ l.step-index

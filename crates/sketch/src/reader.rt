@@ -2,13 +2,13 @@
 // address its base, an offset in bytes and a variable that counts words, as
 // `load v1 frame 2 8 v3`.
 
+use crate::selected::{block, by, cell, frame, global, module, plus, procedure, via};
 use pra_base::{
     Addr, Block, BlockId, Cond, End, OutOfMemory, ProcId, VInstr, VModule, VProc, VarId, VarKind,
 };
 use std::alloc::Global;
 use std::mem;
 use std::str::Split;
-use vc_sketch::{block, by, cell, frame, global, module, plus, procedure, via};
 
 fn number(word: Option<&str>) -> Option<u32> {
     word?.parse::<u32>().ok()

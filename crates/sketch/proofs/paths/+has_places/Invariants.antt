@@ -1,6 +1,6 @@
 -- Each call looks at one strand less.
 use Rattle.std.proofs.Common.{length}
-use Rattle.pl_sketch.proofs.paths.+has_places.Given as goal
+use Rattle.sketch.proofs.paths.+has_places.Given as goal
 
 abbrev pub decreases-has_places : goal.decreases-has_places
 decreases-has_places l = length l.strands.now
