@@ -1,8 +1,7 @@
-// Modules whose text was made by another program.
+// Modules made from a seed, whose text was made by another program, and the random numbers in them.
 
-use crate::draws::Draws;
-use crate::generate;
 use pra_base::OutOfMemory;
+use pra_gen::{Draws, generate};
 
 // The module of seed 1 and size 1.
 const ONE: &str = "\
