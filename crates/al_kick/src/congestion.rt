@@ -2,17 +2,18 @@
 // come there too (McMurchie and Ebeling, PathFinder: A Negotiation-Based Performance-Driven Router
 // for FPGAs, FPGA 1995).
 //
-// Who comes to a cell pays a penalty for each other strand there now, and the cell's history, which
-// grows as long as strands overlap there.
+// Who comes to a cell pays a penalty for each other strand there now, and the cell's history. That
+// begins at the cell's price, a multiplier of the Lagrangian relaxation, and grows as long as
+// strands overlap there.
 
 use crate::lanes::heat_crowd;
-use crate::lists::Numbers;
+use crate::lists::{Numbers, at, put};
 use crate::rows::FAR;
 use net_form::Net;
 use std::alloc::{AllocError, Global};
 
-/// The registers of a layer: how many strands are in each, what was added for past overlaps, in
-/// scaled units, and the sum of the strands' numbers.
+/// The registers of a layer: how many strands are in each, the price of each with what was added
+/// for past overlaps, in scaled units, and the sum of the strands' numbers.
 #[derive(Clone, Copy)]
 pub(crate) struct Cell {
     pub count: [u32; 8],
@@ -51,7 +52,8 @@ impl Cell {
     }
 }
 
-/// A memory pair: how many of its ends are in memory, and what was added for past overlaps.
+/// A memory pair: how many of its ends are in memory, and its price with what was added for past
+/// overlaps.
 #[derive(Clone, Copy)]
 pub(crate) struct PairCell {
     pub count: u32,
@@ -82,11 +84,17 @@ pub(crate) enum Met {
     Several,
 }
 
-/// All cells, those with a history, and how many strands are too many.
+/// What registers cost at a layer before anybody overlaps there, in scaled units.
+pub(crate) type RegisterPrices = [u32; 8];
+
+/// All cells and their prices, those whose history is more than that, and how many strands are too
+/// many.
 #[derive(Drop)]
 pub(crate) struct Cells {
     pub layers: Vec<Cell>,
     pub pairs: Vec<PairCell>,
+    pub prices: Vec<RegisterPrices>,
+    pub pair_prices: Vec<u32>,
     hot_layers: Numbers,
     hot_pairs: Numbers,
     pub overlaps: u64,
@@ -107,19 +115,23 @@ impl Cells {
         Ok(Cells {
             layers: vec![in alloc; EMPTY; total]?,
             pairs: vec![in alloc; NO_PAIR; net.pairs.len()]?,
+            prices: vec![in alloc; [0; 8]; total]?,
+            pair_prices: vec![in alloc; 0; net.pairs.len()]?,
             hot_layers: Numbers::reserve(alloc, total)?,
             hot_pairs: Numbers::reserve(alloc, net.pairs.len())?,
             overlaps: 0,
         })
     }
 
-    /// Nobody is anywhere.
+    /// Nobody is anywhere, and each cell costs its price.
     pub fn clear(&mut self) {
-        for layer in self.layers.iter_mut() {
-            *layer = EMPTY;
+        for number in 0..self.layers.len() {
+            put(&mut self.layers, number, EMPTY);
+            self.cool_layer(number);
         }
-        for pair in self.pairs.iter_mut() {
-            *pair = NO_PAIR;
+        for number in 0..self.pairs.len() {
+            put(&mut self.pairs, number, NO_PAIR);
+            self.cool_pair(number);
         }
         self.hot_layers.clear();
         self.hot_pairs.clear();
@@ -228,19 +240,31 @@ impl Cells {
         }
     }
 
-    /// All history is forgotten.
-    pub fn cool(&mut self) {
-        for at in 0..self.hot_layers.count() {
-            if let Some(cell) = self.layers.get_mut(self.hot_layers.at(at)) {
-                cell.history = [0; 8];
-                cell.hot = false;
-            }
+    // The registers of a layer cost their prices alone.
+    fn cool_layer(&mut self, layer: usize) {
+        if let Some(cell) = self.layers.get_mut(layer) {
+            cell.history = at(&self.prices, layer, [0; 8]);
+            cell.hot = false;
         }
-        for at in 0..self.hot_pairs.count() {
-            if let Some(cell) = self.pairs.get_mut(self.hot_pairs.at(at)) {
-                cell.history = 0;
-                cell.hot = false;
-            }
+    }
+
+    // Memory costs an end of a pair its price alone.
+    fn cool_pair(&mut self, pair: usize) {
+        if let Some(cell) = self.pairs.get_mut(pair) {
+            cell.history = at(&self.pair_prices, pair, 0);
+            cell.hot = false;
+        }
+    }
+
+    /// What was added for past overlaps is forgotten.
+    pub fn cool(&mut self) {
+        for number in 0..self.hot_layers.count() {
+            let layer = self.hot_layers.at(number);
+            self.cool_layer(layer);
+        }
+        for number in 0..self.hot_pairs.count() {
+            let pair = self.hot_pairs.at(number);
+            self.cool_pair(pair);
         }
         self.hot_layers.clear();
         self.hot_pairs.clear();

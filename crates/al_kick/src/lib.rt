@@ -8,8 +8,12 @@
 //! room and the whole costs no more, the change stays. Wires are routed so (McMurchie and Ebeling,
 //! PathFinder, FPGA 1995).
 //!
-//! `negotiate` makes routes from nothing, with which some rounds begin: kicks change little, and
-//! from other routes they lead elsewhere. `kicks` has pieces and windows and how others make room,
+//! Who comes to a register or to memory pays its price too, whoever is there: the search is led by
+//! the multipliers of the Lagrangian relaxation that the bound is of (`prices`). By them each strand
+//! alone goes nearly where it is in the best routes.
+//!
+//! `negotiate` makes routes from nothing, with which rounds begin: kicks change little, and from
+//! other routes they lead elsewhere. `kicks` has pieces and windows and how others make room,
 //! `pieces` and `reroute` have the least paths of pieces and strands past what is paid, `settling`
 //! what is settled around a change, and `draws` the random numbers.
 //!
@@ -27,6 +31,7 @@ mod lanes;
 mod lists;
 mod negotiate;
 mod pieces;
+mod prices;
 mod rates;
 mod reroute;
 mod round;

@@ -1,18 +1,20 @@
-// Routes from nothing: all variables take least paths again and again, and pay for cells in which
-// others are, more with each pass, until nobody overlaps (McMurchie and Ebeling, PathFinder: A
-// Negotiation-Based Performance-Driven Router for FPGAs, FPGA 1995).
+// Routes from nothing: all variables take least paths again and again, and pay for cells by their
+// prices, and where others are, more with each pass, until nobody overlaps (McMurchie and Ebeling,
+// PathFinder: A Negotiation-Based Performance-Driven Router for FPGAs, FPGA 1995).
 
 use crate::rates::WHOLE;
 use crate::reroute::{MOST_PENALTY, Penalty};
 use crate::search::Search;
 use net_form::Net;
 
-// Passes over all variables at most.
+// Passes over all strands at most, and of how many one is over whole variables.
 const MOST_PASSES: u32 = 60;
+
+const WHOLE_PASS: u32 = 2;
 
 // A penalty at first, in thousandths of a unit, and by how many thousandths it grows with each
 // pass.
-const PENALTY: u64 = 50;
+const PENALTY: u64 = 25;
 
 const GROWTH: u64 = 1200;
 
@@ -91,7 +93,11 @@ impl Search {
             if (number > 0 && self.cells.overlaps == 0) || self.is_spent() {
                 break;
             }
-            self.pass(net, number % 4 == 0, Penalty::of(thousandths(penalty)));
+            self.pass(
+                net,
+                number % WHOLE_PASS == 0,
+                Penalty::of(thousandths(penalty)),
+            );
             self.cells.heat_all(thousandths(HISTORY));
             penalty = penalty.saturating_mul(GROWTH) / 1000;
         }

@@ -10,32 +10,28 @@ ghost use Rattle.net_form.specs.Rooms.{IsRoomOf};
 use crate::found::write_routes;
 use crate::search::Search;
 use net_cost::{CostModel, Event};
-use net_form::{Net, Routes, Taken};
+use net_form::{Net, Prices, Routes, Taken};
 use net_gate::admitted;
 use pra_base::OutOfMemory;
 use std::alloc::Global;
 use std::marker::Model;
 
 // Visits of a round for each layer of each strand: each layer that a least path goes over is one.
-const VISITS: u64 = 20;
+const VISITS: u64 = 10;
 
 // The same of the first round, where most is to be gained.
-const FIRST_VISITS: u64 = 80;
+const FIRST_VISITS: u64 = 40;
 
 // Visits for each layer of each strand that routes from nothing take, about.
-const VISITS_FROM_NOTHING: u64 = 50;
-
-// From this round on every other one begins from nothing.
-const BEGIN_ANEW: u32 = 4;
+const VISITS_FROM_NOTHING: u64 = 25;
 
 // Units of a weight of 1.
 const WHOLE: u128 = 1024;
 
-// Whether a round of so many visits at most begins with routes from nothing, where so many layers
+// Whether a round of so many visits at most begins with routes from nothing: where so many layers
 // of strands allow it.
-fn begins_anew(round: u32, size: u64, most: u64) -> bool {
-    let allowed = VISITS_FROM_NOTHING.saturating_mul(size) <= most;
-    allowed && (round == 1 || (round >= BEGIN_ANEW && round % 2 == 0))
+fn begins_anew(size: u64, most: u64) -> bool {
+    VISITS_FROM_NOTHING.saturating_mul(size) <= most
 }
 
 // How many visits a round has, by so many layers of strands, and at most.
@@ -51,15 +47,16 @@ fn search_from<F: Fn(Event, u32) -> u32>(
     net: &Net,
     model: &CostModel<F>,
     best: &Routes,
+    prices: &Prices,
     round: u32,
     bound: u128,
 ) -> bool
     requires kept { Keeps F.Fn model.now }
 {
-    search.begin(net, model, best, round);
+    search.begin(net, model, best, prices, round);
     let before = search.paths.total;
     let size = search.layers;
-    if begins_anew(round, size, search.most_visits) {
+    if begins_anew(size, search.most_visits) {
         search.negotiate(net);
     }
     search.visits = 0;
@@ -83,6 +80,7 @@ fn kick_in<F: Fn(Event, u32) -> u32>(
     net: &Net,
     model: &CostModel<F>,
     best: &Routes,
+    prices: &Prices,
     round: u32,
     bound: u128,
 ) -> bool
@@ -94,7 +92,7 @@ fn kick_in<F: Fn(Event, u32) -> u32>(
     ensures found { AreRoutes net.now found.new }
     ensures admitted { result ≡ true → IsAdmitted net.now (flow net.now found.new) }
 {
-    if !search_from(search, net, model, best, round, bound) {
+    if !search_from(search, net, model, best, prices, round, bound) {
         return false;
     }
     write_routes(alloc, found, net, &search.spans, &search.paths.kept);
@@ -129,9 +127,9 @@ impl SearchRoom {
     }
 }
 
-/// Looks for routes that cost less than the best ones, whose bound is this, and says whether it
-/// found some. The number of the round decides where it looks: the same call finds the same. It
-/// takes no memory.
+/// Looks for routes that cost less than the best ones, whose bound is this, led by these prices, and
+/// says whether it found some. The number of the round decides where it looks: the same call finds
+/// the same. It takes no memory.
 pub fn kick<F: Fn(Event, u32) -> u32>(
     alloc: Global,
     room: &mut SearchRoom,
@@ -140,6 +138,7 @@ pub fn kick<F: Fn(Event, u32) -> u32>(
     net: &Net,
     model: &CostModel<F>,
     best: &Routes,
+    prices: &Prices,
     round: u32,
     bound: u128,
 ) -> bool
@@ -152,5 +151,7 @@ pub fn kick<F: Fn(Event, u32) -> u32>(
     ensures admitted { result ≡ true → IsAdmitted net.now (flow net.now found.new) }
 {
     let search = &mut room.search;
-    kick_in(alloc, search, taken, found, net, model, best, round, bound)
+    kick_in(
+        alloc, search, taken, found, net, model, best, prices, round, bound,
+    )
 }

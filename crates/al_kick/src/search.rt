@@ -11,7 +11,7 @@ use crate::reroute::{Ends, Penalty};
 use crate::rows::Row;
 use crate::spans::{NO_SPAN, Span, longest_variable, sizes, spans_of};
 use net_cost::{CostModel, Event};
-use net_form::{Extra, Net, Routes};
+use net_form::{Extra, Net, Prices, Routes};
 use pra_base::{Mask, OutOfMemory};
 use std::alloc::{AllocError, Global};
 
@@ -195,12 +195,17 @@ impl Search {
         at(&self.spans, strand, NO_SPAN)
     }
 
-    /// How many units a scaled unit is where a strand is.
-    pub(crate) fn times(&self, span: &Span) -> u64 {
-        match self.rates.get(span.depth() as usize) {
+    /// How many units a scaled unit is in blocks of a loop depth.
+    pub(crate) fn times_at(&self, depth: u32) -> u64 {
+        match self.rates.get(depth as usize) {
             Some(rate) => rate.times,
             None => 1,
         }
+    }
+
+    /// The same where a strand is.
+    pub(crate) fn times(&self, span: &Span) -> u64 {
+        self.times_at(span.depth())
     }
 
     pub(crate) fn worth(&self, strand: usize) -> u64 {
@@ -293,12 +298,13 @@ impl Search {
         }
     }
 
-    /// Begins a round at routes: nothing of an earlier one is left.
+    /// Begins a round at routes and prices: nothing of an earlier one is left.
     pub(crate) fn begin<F: Fn(Event, u32) -> u32>(
         &mut self,
         net: &Net,
         model: &CostModel<F>,
         routes: &Routes,
+        prices: &Prices,
         round: u32,
     )
         requires kept { Keeps F.Fn model.now }
@@ -306,6 +312,7 @@ impl Search {
         self.draws = Draws::of_seed(round as u64);
         self.learn_rates(net, model);
         self.learn_extras(net, model);
+        self.learn_prices(net, prices);
         self.cells.clear();
         self.learn_floors(net);
         self.visits = 0;

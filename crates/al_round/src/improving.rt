@@ -16,7 +16,7 @@ use crate::tried::Outcome;
 use al_iter::settle;
 use al_kick::{SearchRoom, kick};
 use net_cost::{CostModel, Event};
-use net_form::{Net, Routes, Spare};
+use net_form::{Net, Prices, Routes, Spare};
 use net_gate::cost;
 use net_path::Work;
 use std::alloc::Global;
@@ -87,6 +87,7 @@ fn look<F: Fn(Event, u32) -> u32>(
     net: &Net,
     model: &CostModel<F>,
     best: &Routes,
+    prices: &Prices,
     round: u32,
     bound: u128,
 ) -> bool
@@ -99,10 +100,12 @@ fn look<F: Fn(Event, u32) -> u32>(
 {
     let taken = &mut spare.taken;
     let found = &mut spare.routes;
-    kick(alloc, search, taken, found, net, model, best, round, bound)
+    kick(
+        alloc, search, taken, found, net, model, best, prices, round, bound,
+    )
 }
 
-// Takes what the search finds from the best routes, which have this bound.
+// Takes what the search finds from the best routes, led by prices, which give this bound.
 fn take_kicked<F: Fn(Event, u32) -> u32>(
     alloc: Global,
     best: &mut Routes,
@@ -110,6 +113,7 @@ fn take_kicked<F: Fn(Event, u32) -> u32>(
     spare: &mut Spare,
     net: &Net,
     model: &CostModel<F>,
+    prices: &Prices,
     round: u32,
     bound: u128,
 ) -> bool
@@ -125,7 +129,7 @@ fn take_kicked<F: Fn(Event, u32) -> u32>(
     ensures same { result ≡ false → best.new ≡ best.old }
     ensures spare { IsSpareOf net.now spare.new }
 {
-    if !look(alloc, search, spare, net, model, best, round, bound) {
+    if !look(alloc, search, spare, net, model, best, prices, round, bound) {
         return false;
     }
     take_cheaper(alloc, best, net, model, &spare.routes)
@@ -161,8 +165,9 @@ fn settle_unless<F: Fn(Event, u32) -> u32>(
 }
 
 /// Takes what was laid in place of the best routes where it costs less, then what the search finds
-/// from there, and settles what is best then. `settled` says that the best routes were; the number
-/// of the round decides where the search looks, and it looks no further than this bound.
+/// from there, led by prices, and settles what is best then. `settled` says that the best routes
+/// were; the number of the round decides where the search looks, and it looks no further than the
+/// bound of these prices.
 pub(crate) fn improve<F: Fn(Event, u32) -> u32>(
     alloc: Global,
     settled: bool,
@@ -173,6 +178,7 @@ pub(crate) fn improve<F: Fn(Event, u32) -> u32>(
     best: &mut Routes,
     outcome: &Outcome,
     search: &mut SearchRoom,
+    prices: &Prices,
     round: u32,
     bound: u128,
 )
@@ -194,6 +200,6 @@ pub(crate) fn improve<F: Fn(Event, u32) -> u32>(
     ensures reserved { IsReservedFor net.now work.new }
 {
     let laid = take_laid(alloc, best, net, model, outcome);
-    let kicked = take_kicked(alloc, best, search, spare, net, model, round, bound);
+    let kicked = take_kicked(alloc, best, search, spare, net, model, prices, round, bound);
     settle_unless(settled && !laid && !kicked, work, spare, net, model, best);
 }

@@ -5,8 +5,8 @@
 //! [`round`](Rounds::round) changes the prices of registers, memory pairs and ties by how often a
 //! family of least paths wants them, and makes routes by these prices: a greedy plan for the ties,
 //! the strands in the order of what they pay, each laid through what those before it left. From the
-//! cheapest routes seen a search goes on that lets strands overlap for a while (al_kick). What is
-//! cheapest then is settled, so that no change of one strand or one variable makes it cheaper, and
+//! cheapest routes seen a search goes on that lets strands overlap for a while (al_kick), led by the
+//! prices of the bound. What is cheapest then is settled, so that no change of one strand or one variable makes it cheaper, and
 //! kept where it costs no more than what was before. The Lagrange value of prices bounds the cost
 //! of every admitted flow. Beside the prices that routes are made by, a round raises others, for the
 //! sake of that value alone (net_ascent), and keeps them where it is no lower. The line of a round

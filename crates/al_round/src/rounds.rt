@@ -197,6 +197,7 @@ impl Rounds {
             &mut self.best,
             &tried.outcome,
             &mut self.search,
+            &self.best_prices,
             number as u32,
             bound,
         );
