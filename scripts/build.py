@@ -29,7 +29,7 @@ MEMORY_OF_ONE = 4 << 20  # kilobytes that the proof of one crate may take
 COMPILER = "pra"  # the program that is built where none is named
 NO_WORDS = 6  # the status where the words are none of these
 NOT_BUILT = 70  # the status where the program was not built
-FROM_NOTHING = "two or three hours of processor time"  # README.md says the same
+FROM_NOTHING = "two to four hours of processor time"  # README.md says the same
 
 
 def crates():
