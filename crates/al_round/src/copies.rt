@@ -20,7 +20,7 @@ pub(crate) fn copy_prices(alloc: Global, prices: &Prices) -> Result<Prices, OutO
     Ok(Prices {
         caps: Seq::from_slice(alloc, prices.caps.as_slice())?,
         mems: Seq::from_slice(alloc, prices.mems.as_slice())?,
-        ties: Seq::from_slice(alloc, prices.ties.as_slice())?,
+        ties: prices.ties.copy(alloc)?,
     })
 }
 
@@ -33,7 +33,7 @@ pub(crate) fn overwrite_prices(to: &mut Prices, from: &Prices)
 {
     to.caps.overwrite(from.caps.as_slice());
     to.mems.overwrite(from.mems.as_slice());
-    to.ties.overwrite(from.ties.as_slice());
+    to.ties.overwrite(&from.ties);
 }
 
 // Writes paths over others, each as long.

@@ -7,7 +7,7 @@ ghost use Rattle.cert_check.specs.Listed.{IsCap, IsNumber, AreCaps, AreTieNumber
 ghost use Rattle.cert_check.specs.Listed.{with_caps, with_tie_numbers, prices_of};
 
 use cert_form::{CapAt, Cert, TieAt};
-use net_form::Prices;
+use net_form::{Prices, TieNumbers};
 use pra_list::Seq;
 
 const MOST_PRICE: u64 = 1 << 40;
@@ -106,13 +106,13 @@ fn put_caps(mut prices: Seq<u64>, entries: &[CapAt]) -> Seq<u64>
     prices
 }
 
-fn put_numbers(mut numbers: Seq<i64>, entries: &[TieAt]) -> Seq<i64>
+fn put_numbers(mut numbers: TieNumbers, entries: &[TieAt]) -> TieNumbers
     requires { AreTieNumbers (length numbers) 0 entries.now }
     ensures { result ≡ with_tie_numbers numbers entries.now }
 {
     let mut rest = entries;
     while let [entry, others @ ..] = rest {
-        numbers.set(entry.at as usize, entry.number);
+        numbers.set_at(entry.at as usize, entry.number);
         rest = others;
     }
     numbers

@@ -8,7 +8,7 @@ ghost use Rattle.net_laws.specs.Built.{IsBuilt};
 ghost use Rattle.cert_check.specs.Tolls.{AreTiesSums, AreSumsWithin, AreNumbersWithin, HasAdded};
 ghost use Rattle.cert_check.specs.Tolls.{tied_strand};
 
-use net_form::{BlockEnd, Net, Prices, Tie};
+use net_form::{BlockEnd, Net, Prices, Tie, TieNumbers};
 use pra_base::OutOfMemory;
 use pra_list::Seq;
 use std::alloc::Global;
@@ -36,7 +36,7 @@ fn add_at(sums: &mut [i128], at: usize, number: i64)
 }
 
 // Adds the numbers of a tie to those of a strand.
-fn add_tie(sums: &mut [i128], strand: usize, numbers: &[i64], tie: usize)
+fn add_tie(sums: &mut [i128], strand: usize, numbers: &TieNumbers, tie: usize)
     requires strand { 13 * strand + 13 ≤ length sums.old }
     requires tie { 13 * tie + 13 ≤ length numbers.now }
     requires numbers { AreNumbersWithin numbers.now }
@@ -46,11 +46,8 @@ fn add_tie(sums: &mut [i128], strand: usize, numbers: &[i64], tie: usize)
     ensures within { AreSumsWithin (tie + 1) sums.new }
 {
     for slot in 0..TIE_NUMBERS {
-        add_at(
-            sums,
-            TIE_NUMBERS * strand + slot,
-            numbers[TIE_NUMBERS * tie + slot],
-        );
+        let number = numbers.number(tie, slot);
+        add_at(sums, TIE_NUMBERS * strand + slot, number);
     }
 }
 
@@ -73,7 +70,7 @@ pub(crate) fn ties_sums(
     let mut sums = vec![in alloc; 0i128; count]?;
     for tie in 0..net.ties.len() {
         let strand = strand_of(end, &net.ties[tie]) as usize;
-        add_tie(&mut sums, strand, prices.ties.as_slice(), tie);
+        add_tie(&mut sums, strand, &prices.ties, tie);
     }
     Ok(Seq::from_vec(sums))
 }

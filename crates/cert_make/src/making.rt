@@ -5,7 +5,7 @@ ghost use Rattle.pra_report.specs.Report.{last_cost, last_bound};
 ghost use Rattle.cert_make.specs.Made.{caps_from, numbers_from, IsCertOf, IsCertificateOf};
 
 use cert_form::{CapAt, Cert, Certificate, CostWord, TieAt};
-use net_form::Line;
+use net_form::{Line, TieNumbers};
 use pra_base::OutOfMemory;
 use pra_list::Seq;
 use pra_report::ProcOut;
@@ -25,19 +25,17 @@ fn caps_of(alloc: Global, prices: &[u64]) -> Result<Seq<CapAt>, OutOfMemory>
     Ok(caps)
 }
 
-fn numbers_of(alloc: Global, numbers: &[i64]) -> Result<Seq<TieAt>, OutOfMemory>
+fn numbers_of(alloc: Global, numbers: &TieNumbers) -> Result<Seq<TieAt>, OutOfMemory>
     ensures { IfOk result (λ ties. ties ≡ numbers_from 0 numbers.now) }
 {
     let mut ties = Seq::new(alloc);
-    for (index, number) in numbers.iter().enumerate() {
-        if *number == 0 {
+    for index in 0..numbers.len() {
+        let number = numbers.at(index);
+        if number == 0 {
             continue;
         }
         let at = u32::try_from(index).map_err(|_| OutOfMemory)?;
-        ties.push(TieAt {
-            at,
-            number: *number,
-        })?;
+        ties.push(TieAt { at, number })?;
     }
     Ok(ties)
 }
@@ -69,7 +67,7 @@ fn cert_of(alloc: Global, out: ProcOut) -> Result<Cert, OutOfMemory>
     } = out;
     let caps = caps_of(alloc, prices.caps.as_slice())?;
     let mems = caps_of(alloc, prices.mems.as_slice())?;
-    let ties = numbers_of(alloc, prices.ties.as_slice())?;
+    let ties = numbers_of(alloc, &prices.ties)?;
     let last = last_of(lines.as_slice());
     let total = u64::try_from(last.cost).map_err(|_| OutOfMemory)?;
     let bound = u64::try_from(last.bound).map_err(|_| OutOfMemory)?;

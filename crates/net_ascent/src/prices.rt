@@ -1,12 +1,12 @@
 // Prices in units of the ascent, read from those of a network and written back.
 
-ghost use Rattle.std.specs.Prelude.{◌≡◌, ◌≤◌, pos, ◌-ℤ◌, ◌≤ℤ◌, All, length};
+ghost use Rattle.std.specs.Prelude.{◌≡◌, ◌≤◌, ◌+◌, ◌*◌, pos, ◌-ℤ◌, ◌≤ℤ◌, All, length};
 ghost use Rattle.net_dual.specs.Priced.{AreInRange, most_price};
 
 use crate::lists::{at, put};
 use crate::pace::GREATEST;
 use crate::rows::{CONSTANT, NOTHING, Registers, Row};
-use net_form::{Net, Prices};
+use net_form::{Net, Prices, TieNumbers};
 use pra_list::Seq;
 use std::alloc::{AllocError, Global};
 
@@ -64,6 +64,36 @@ fn tie_units_of(number: i32, shift: u32) -> i64
     number
 }
 
+// The numbers of a tie in units of the ascent, by places.
+fn row_of(ties: &TieNumbers, tie: usize, shift: u32) -> Row {
+    let mut row = NOTHING;
+    if tie >= ties.ties() || ties.is_zero(tie) {
+        return row;
+    }
+    for slot in 0..13usize {
+        put(
+            &mut row,
+            place_of(slot),
+            number_of(ties.number(tie, slot), shift),
+        );
+    }
+    row
+}
+
+// Gives a tie its numbers.
+fn write_tie(ties: &mut TieNumbers, tie: usize, row: &Row, shift: u32)
+    requires tie { 13 * tie + 13 ≤ length ties.old }
+    requires most { All (λ z. z ≤ℤ pos most_price) ties.old }
+    requires least { All (λ z. (pos 0 -ℤ pos most_price) ≤ℤ z) ties.old }
+    ensures long { length ties.new ≡ length ties.old }
+    ensures most { All (λ z. z ≤ℤ pos most_price) ties.new }
+    ensures least { All (λ z. (pos 0 -ℤ pos most_price) ≤ℤ z) ties.new }
+{
+    for slot in 0..13usize {
+        ties.set(tie, slot, tie_units_of(at(row, place_of(slot), 0), shift));
+    }
+}
+
 impl UnitPrices {
     pub fn reserve(alloc: Global, net: &Net, layers: usize) -> Result<UnitPrices, AllocError> {
         Ok(UnitPrices {
@@ -88,13 +118,7 @@ impl UnitPrices {
             put(&mut self.pairs, pair, price_of(price, shift));
         }
         for tie in 0..self.ties.len() {
-            let mut all = NOTHING;
-            for slot in 0..13usize {
-                let number = tie.wrapping_mul(13).wrapping_add(slot);
-                let units = at(prices.ties.as_slice(), number, 0);
-                put(&mut all, place_of(slot), number_of(units, shift));
-            }
-            put(&mut self.ties, tie, all);
+            put(&mut self.ties, tie, row_of(&prices.ties, tie, shift));
         }
     }
 
@@ -114,11 +138,6 @@ impl UnitPrices {
 
     fn cap(&self, number: usize) -> i32 {
         at(&self.registers, number / 6, [0; 8])[number % 6]
-    }
-
-    fn tie(&self, number: usize) -> i32 {
-        let numbers = at(&self.ties, number / 13, NOTHING);
-        at(&numbers, place_of(number % 13), 0)
     }
 
     fn write_caps(&self, caps: &mut Seq<u64>, shift: u32)
@@ -141,15 +160,19 @@ impl UnitPrices {
         }
     }
 
-    fn write_ties(&self, ties: &mut Seq<i64>, shift: u32)
+    fn write_ties(&self, ties: &mut TieNumbers, shift: u32)
         requires most { All (λ z. z ≤ℤ pos most_price) ties.old }
         requires least { All (λ z. (pos 0 -ℤ pos most_price) ≤ℤ z) ties.old }
         ensures long { length ties.new ≡ length ties.old }
         ensures most { All (λ z. z ≤ℤ pos most_price) ties.new }
         ensures least { All (λ z. (pos 0 -ℤ pos most_price) ≤ℤ z) ties.new }
     {
-        for number in 0..ties.len() {
-            ties.set(number, tie_units_of(self.tie(number), shift));
+        for tie in 0..ties.ties() {
+            let row = at(&self.ties, tie, NOTHING);
+            if ties.is_zero(tie) && row == NOTHING {
+                continue;
+            }
+            write_tie(ties, tie, &row, shift);
         }
     }
 

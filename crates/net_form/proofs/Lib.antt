@@ -16,4 +16,5 @@ pub mod Paths
 pub mod PlaceEquality
 pub mod RoutesConserve
 pub mod RoutesCost
+pub mod SparseNumbers
 pub mod TakenFlows

@@ -11,5 +11,6 @@ pub mod Index
 pub mod Network
 pub mod Ordered
 pub mod Rooms
+pub mod Sparse
 pub mod Strands
 pub mod Tables

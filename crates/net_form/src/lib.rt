@@ -107,6 +107,7 @@ mod net;
 mod prices;
 mod routes;
 mod taken;
+mod tie_numbers;
 mod ways;
 
 pub use extras::extras_cost;
@@ -114,4 +115,5 @@ pub use net::{BlockEnd, Extra, MemPair, Net, NetBlock, NetIndex, PairEnd, Strand
 pub use prices::{Line, Prices};
 pub use routes::{Ends, Plan, Routes};
 pub use taken::{Spare, Taken};
+pub use tie_numbers::TieNumbers;
 pub use ways::{begun_cost, crossbar_cost, way_cost};

@@ -14,6 +14,7 @@ use crate::marks::{mark_pairs, mark_path, mark_place};
 use crate::net::Net;
 use crate::prices::Prices;
 use crate::routes::Routes;
+use crate::tie_numbers::TieNumbers;
 use pra_base::{OutOfMemory, Place};
 use pra_list::Seq;
 use std::alloc::Global;
@@ -28,7 +29,7 @@ pub struct Taken {
 }
 
 /// Room to work in.
-#[derive(Debug, PartialEq, Eq, Drop)]
+#[derive(Debug, Drop)]
 pub struct Spare {
     pub taken: Taken,
     pub routes: Routes,
@@ -140,18 +141,23 @@ impl Taken {
     }
 }
 
-// Prices of nothing.
-fn zero_prices(alloc: Global, net: &Net) -> Result<Prices, OutOfMemory>
-    ensures { IfOk result (λ prices. prices ≡ zero_prices net.now) }
-{
-    let total = layer_total(net).ok_or(OutOfMemory)?;
-    let caps = total.checked_mul(6).ok_or(OutOfMemory)?;
-    let ties = net.ties.len().checked_mul(13).ok_or(OutOfMemory)?;
-    Ok(Prices {
-        caps: Seq::from_vec(vec![in alloc; 0u64; caps]?),
-        mems: Seq::from_vec(vec![in alloc; 0u64; net.pairs.len()]?),
-        ties: Seq::from_vec(vec![in alloc; 0i64; ties]?),
-    })
+impl Prices {
+    /// Prices of nothing.
+    ///
+    /// # Errors
+    ///
+    /// Where there is no memory for them.
+    pub fn zero(alloc: Global, net: &Net) -> Result<Prices, OutOfMemory>
+        ensures { IfOk result (λ prices. prices ≡ zero_prices net.now) }
+    {
+        let total = layer_total(net).ok_or(OutOfMemory)?;
+        let caps = total.checked_mul(6).ok_or(OutOfMemory)?;
+        Ok(Prices {
+            caps: Seq::from_vec(vec![in alloc; 0u64; caps]?),
+            mems: Seq::from_vec(vec![in alloc; 0u64; net.pairs.len()]?),
+            ties: TieNumbers::zeros(alloc, net.ties.len())?,
+        })
+    }
 }
 
 // Some place for each layer of each strand.
@@ -179,7 +185,7 @@ impl Spare {
         Ok(Spare {
             taken: Taken::empty(alloc, net)?,
             routes: some_routes(alloc, net)?,
-            zero: zero_prices(alloc, net)?,
+            zero: Prices::zero(alloc, net)?,
         })
     }
 }

@@ -30,7 +30,7 @@ fn tie_number(prices: &Prices, tie: usize, place: Place) -> i64
     }
     let number = place.number() as usize;
     let slot = if place.is_both() { number - 1 } else { number };
-    prices.ties[13 * tie + slot]
+    prices.ties.number(tie, slot)
 }
 
 // What is paid with so much more, unless it is closed.
@@ -63,7 +63,7 @@ fn tie_pay(prices: &Prices, leaves: bool, tie: usize, place: Place) -> i64
     if leaves { number } else { -number }
 }
 
-// Pays the numbers of a tie.
+// Pays the numbers of a tie, which are mostly all 0.
 fn pay_tie(row: &mut Row, prices: &Prices, leaves: bool, tie: usize)
     requires row { HavePayRoom row.old.costs }
     requires small { tie < 2 ^ 32 }
@@ -72,6 +72,9 @@ fn pay_tie(row: &mut Row, prices: &Prices, leaves: bool, tie: usize)
     requires least { All (λ z. (pos 0 -ℤ pos (2 ^ 40)) ≤ℤ z) prices.now.ties }
     ensures { ArePaidMore (tie_pay prices.now leaves tie) row.old.costs row.new.costs }
 {
+    if prices.ties.is_zero(tie) {
+        return;
+    }
     for p in 0..14u8 {
         let more = tie_pay(prices, leaves, tie, place_of(p));
         row.costs[p as usize] = cost_with(row, p as usize, more);

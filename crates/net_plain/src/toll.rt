@@ -17,7 +17,7 @@ ghost use Rattle.net_plain.specs.Rows.{IsSpot};
 use crate::open::{Spot, uses_memory};
 use crate::sums::{add, in_units, subtract};
 use net_cost::{CostModel, Event};
-use net_form::{Extra, Net, Prices};
+use net_form::{Extra, Net, Prices, TieNumbers};
 use pra_base::Place;
 
 // What an extra weighs, if it is one of the strand at the place of the layer.
@@ -127,13 +127,13 @@ fn tie_slot(place: Place) -> Option<usize>
 }
 
 // The number that a tie has for the place, among those of all ties, thirteen for each.
-fn number_in(numbers: &[i64], place: Place, tie: usize) -> i64
+fn number_in(numbers: &TieNumbers, place: Place, tie: usize) -> i64
     requires { 13 * tie + 13 ≤ length numbers.now }
     ensures { result ≡ number_at_slot numbers.now tie (tie_slot place) }
 {
     match tie_slot(place) {
         None => 0,
-        Some(slot) => numbers[13 * tie + slot],
+        Some(slot) => numbers.number(tie, slot),
     }
 }
 
@@ -144,7 +144,7 @@ fn tie_number(net: &Net, prices: &Prices, place: Place, tie: usize) -> i64
     ensures value { result ≡ tie_price prices.now tie place }
     ensures small { IsWithin (2 ^ 40) result }
 {
-    number_in(prices.ties.as_slice(), place, tie)
+    number_in(&prices.ties, place, tie)
 }
 
 // The same, if the tie leaves from there.

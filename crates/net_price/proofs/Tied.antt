@@ -1,12 +1,13 @@
 -- The numbers of ties after a step, one by one.
-use Rattle.std.proofs.Common.{ℕ, ◌≡◌, ◌+◌, ◌-◌, ◌<◌, ◌≤◌, Bool, true, false, cond, ℤ, pos, negsuc}
-use Rattle.std.proofs.Common.{◌+ℤ◌, ◌-ℤ◌, ◌*ℤ◌, ◌≤ℤ◌, ◌^◌, List, length, get_or, set, slice_get}
+use Rattle.std.proofs.Common.{ℕ, ◌≡◌, ◌+◌, ◌-◌, ◌*◌, ◌/◌, ◌%◌, ◌<◌, ◌≤◌, Bool, true, false, cond}
+use Rattle.std.proofs.Common.{ℤ, pos, negsuc, min, All}
+use Rattle.std.proofs.Common.{◌+ℤ◌, ◌-ℤ◌, ◌*ℤ◌, ◌≤ℤ◌, ◌^◌, List, length, get_or, slice_get}
 use Rattle.std.proofs.Common.{count_by}
 use Rattle.std.proofs.Common.{None, Some, sym, ap, ◌∙◌, arith, inl, inr}
 use Rattle.std.specs.Int.Signed.{mag}
 use Rattle.std.proofs.lemmas.Int.{ints}
-use Rattle.std.proofs.lemmas.Bool.{cases_eq, cases_lt, le-leb}
-use Rattle.std.proofs.lemmas.List.{get_or-set_same, get_or-set_other, get_or_past}
+use Rattle.std.proofs.lemmas.Bool.{cases_lt, le-leb}
+use Rattle.std.proofs.lemmas.List.{get_or_past}
 use Rattle.std.proofs.lemmas.Option.{slice_get-get_or}
 use Rattle.pra_base.specs.declared.ids.Place.{Place}
 use Rattle.pra_list.proofs.Counts.{bit}
@@ -14,8 +15,8 @@ use Rattle.pra_list.proofs.Options.{none_some}
 use Rattle.net_form.specs.declared.net.Strand.{Strand}
 use Rattle.net_form.specs.declared.net.Net.{Net}
 use Rattle.net_form.specs.declared.routes.Routes.{Routes}
-use Rattle.net_form.specs.Flow.{flow, arrives, same_place, same_start, AreRoutes}
-use Rattle.net_form.specs.Admitted.{strand_at, no_strand, tie_at, no_tie}
+use Rattle.net_form.specs.Flow.{Edge, flow, arrives, same_place, same_start, AreRoutes}
+use Rattle.net_form.specs.Admitted.{strand_at, no_strand, tie_at, no_tie, exits_at, enters_at}
 use Rattle.net_form.specs.Cost.{place_on}
 use Rattle.net_form.proofs.RoutesCost.{flow_at}
 use Rattle.net_laws.specs.Built.{IsBuilt}
@@ -23,6 +24,7 @@ use Rattle.net_dual.specs.Paths.{path_in}
 use Rattle.net_dual.specs.Priced.{most_price}
 use Rattle.net_dual.specs.Step.{clamp, tied_price}
 use Rattle.net_dual.proofs.Strands.{each_long}
+use Rattle.net_price.specs.Tied.{slot_place, moved_number, next_number}
 
 -- a step up, a step down, both or neither
 steps : (s : ℕ) (a b : Bool) → pos s *ℤ (pos (bit a) -ℤ pos (bit b))
@@ -73,28 +75,73 @@ pub small_number : (z old : ℤ) → z ≡ old → (pos 0 -ℤ pos most_price) �
 small_number (pos n) old same low high = omega (arith, ints, same, high)
 small_number (negsuc n) old same low high = omega (arith, ints, same, low)
 
--- one number more is done
-module _ (next : ℕ → ℤ → ℤ) (initial ties : List ℤ) (at : ℕ) (number : ℤ)
-    (within : at < length ties)
-    (left : (k : ℕ) → at ≤ k → get_or ties k (pos 0) ≡ get_or initial k (pos 0)) where
-  pub more_done : ((k : ℕ) → k < at → get_or ties k (pos 0) ≡ next k (get_or initial k (pos 0)))
-      → number ≡ next at (get_or ties at (pos 0)) → (k : ℕ) → k < at + 1
-      → get_or (set ties at number) k (pos 0) ≡ next k (get_or initial k (pos 0))
-  more_done done is k lt =
-      elim (cases_eq k at)
-      as (λ _. get_or (set ties at number) k (pos 0) ≡ next k (get_or initial k (pos 0))) [
-        | inl same ↦
-            ap (λ n. get_or (set ties at number) n (pos 0)) same
-            ∙ get_or-set_same ties at number (pos 0) within
-            ∙ is ∙ ap (next at) (left at (omega arith))
-            ∙ ap (λ n. next n (get_or initial n (pos 0))) (sym same)
-        | inr apart ↦
-            get_or-set_other ties at k number (pos 0) apart
-            ∙ done k (omega (arith, lt, apart))
-      ]
+-- ---- what stays
 
-  pub less_left : (k : ℕ) → at + 1 ≤ k
-      → get_or (set ties at number) k (pos 0) ≡ get_or initial k (pos 0)
-  less_left k le =
-      get_or-set_other ties at k number (pos 0) (λ same. omega (arith, same, le))
-      ∙ left k (omega (arith, le))
+clamp_stays : (z : ℤ) → (pos 0 -ℤ pos most_price) ≤ℤ z → z ≤ℤ pos most_price → clamp z ≡ z
+clamp_stays (pos n) low high =
+    let e : min n most_price ≡ n = omega (arith, ints, high) in ap pos e
+clamp_stays (negsuc n) low high =
+    let e : min n (most_price - 1) ≡ n = omega (arith, ints, low) in ap negsuc e
+
+-- where the family leaves and enters, or does neither
+no_step : (s : ℕ) (z : ℤ) (a : Bool) → z +ℤ (pos s *ℤ (pos (bit a) -ℤ pos (bit a))) ≡ z
+no_step s z true = grind (arith, ints)
+no_step s z false = grind (arith, ints)
+
+pub stays : (s : ℕ) (z : ℤ) (a b : Bool) → a ≡ b → (pos 0 -ℤ pos most_price) ≤ℤ z
+    → z ≤ℤ pos most_price → tied_price s z (bit a) (bit b) ≡ z
+stays s z a b same low high =
+    ap (λ b. tied_price s z (bit a) (bit b)) (sym same)
+    ∙ ap clamp (no_step s z a) ∙ clamp_stays z low high
+
+-- each number of such a list, and what is read behind it, is in range
+pub in_range : (zs : List ℤ) → All (λ z. (pos 0 -ℤ pos most_price) ≤ℤ z) zs
+    → All (λ z. z ≤ℤ pos most_price) zs → (k : ℕ)
+    → ((pos 0 -ℤ pos most_price) ≤ℤ get_or zs k (pos 0)) × (get_or zs k (pos 0) ≤ℤ pos most_price)
+in_range zs least most k =
+    elim (cases_lt k (length zs)) [
+      | inl lt ↦ (least k (pos 0) lt, most k (pos 0) lt)
+      | inr past ↦
+          let none = get_or_past zs k (pos 0) past in
+          (omega (arith, ints, none), omega (arith, ints, none))
+    ]
+
+-- what a number of a tie becomes, by where the family leaves and enters
+pub moved_is_next : (net : Net) (f : List Edge) (s t slot : ℕ) (left entered : Place) (z : ℤ)
+    → slot < 13
+    → ((q : Place) → bit (same_place left q) ≡ count_by (exits_at net (tie_at net t) q) f)
+    → ((q : Place) → bit (same_place entered q) ≡ count_by (enters_at net (tie_at net t) q) f)
+    → moved_number s left entered slot z ≡ next_number net f s (13 * t + slot) z
+moved_is_next net f s t slot left entered z small leaves enters =
+    let place = slot_place slot in
+    let at : (13 * t + slot) / 13 ≡ t = omega (arith, small) in
+    let part : (13 * t + slot) % 13 ≡ slot = omega (arith, small) in
+    let price = λ (i j : ℕ). tied_price s z
+    (count_by (exits_at net (tie_at net i) (slot_place j)) f)
+    (count_by (enters_at net (tie_at net i) (slot_place j)) f) in
+    ap (λ n. tied_price s z n (bit (same_place entered place))) (leaves place)
+    ∙ ap (tied_price s z (count_by (exits_at net (tie_at net t) place) f)) (enters place)
+    ∙ ap (λ i. price i slot) (sym at) ∙ ap (price ((13 * t + slot) / 13)) (sym part)
+
+-- ---- one number after the other
+
+-- the numbers of one tie more are done
+pub tie_done : (next : ℕ → ℤ → ℤ) (initial ties new : List ℤ) (t : ℕ)
+    → ((k : ℕ) → k < 13 * t → get_or ties k (pos 0) ≡ next k (get_or initial k (pos 0)))
+    → ((k : ℕ) → 13 * t ≤ k → get_or ties k (pos 0) ≡ get_or initial k (pos 0))
+    → ((k : ℕ) → k < 13 * t → get_or new k (pos 0) ≡ get_or ties k (pos 0))
+    → ((j : ℕ) → j < 13 → get_or new (13 * t + j) (pos 0)
+    ≡ next (13 * t + j) (get_or ties (13 * t + j) (pos 0)))
+    → (k : ℕ) → k < 13 * (t + 1) → get_or new k (pos 0) ≡ next k (get_or initial k (pos 0))
+tie_done next initial ties new t done left before moved k lt =
+    elim (cases_lt k (13 * t))
+    as (λ _. get_or new k (pos 0) ≡ next k (get_or initial k (pos 0))) [
+      | inl low ↦ before k low ∙ done k low
+      | inr high ↦
+          let j : ℕ = k - 13 * t in
+          let is : 13 * t + j ≡ k = omega (arith, high) in
+          ap (λ n. get_or new n (pos 0)) (sym is)
+          ∙ moved j (omega (arith, lt, high))
+          ∙ ap (λ n. next n (get_or ties n (pos 0))) is
+          ∙ ap (next k) (left k high)
+    ]

@@ -5,7 +5,7 @@ ghost use Rattle.pra_compile.specs.Given.{IsLeftWith};
 ghost use Rattle.pra_compile.specs.Leaving.{no_prices, lines_of};
 
 use crate::allocator::{Allocated, Allocator, network_of};
-use net_form::{Line, Net, Prices, Routes};
+use net_form::{Line, Net, Prices, Routes, TieNumbers};
 use pra_base::{OutOfMemory, VProc};
 use pra_list::Seq;
 use std::alloc::Global;
@@ -42,7 +42,7 @@ fn no_prices(alloc: Global) -> Prices
     Prices {
         caps: Seq::new(alloc),
         mems: Seq::new(alloc),
-        ties: Seq::new(alloc),
+        ties: TieNumbers::new(alloc),
     }
 }
 

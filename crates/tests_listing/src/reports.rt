@@ -2,7 +2,7 @@
 
 ghost use Rattle.std.specs.Prelude.{◌≡◌, ◌≤◌, [], ◌∷◌, ◌++◌, length, IfOk};
 
-use net_form::{Line, Prices, Routes};
+use net_form::{Line, Prices, Routes, TieNumbers};
 use pra_base::{OutEvent, OutOfMemory, ProcId, VProc};
 use pra_list::Seq;
 use pra_report::{
@@ -76,7 +76,7 @@ fn proc(alloc: Global, name: u8, line: Line) -> Result<ProcOut, OutOfMemory>
         prices: Prices {
             caps: Seq::new(alloc),
             mems: Seq::new(alloc),
-            ties: Seq::new(alloc),
+            ties: TieNumbers::new(alloc),
         },
         lines: Seq::from_vec(lines),
     })
@@ -99,7 +99,7 @@ fn line(round: u32, cost: u128, bound: u128) -> Line
 }
 
 #[test]
-fn reports(rt: HostRuntime) -> Result<(), OutOfMemory> {
+fn reports_on_one_procedure(rt: HostRuntime) -> Result<(), OutOfMemory> {
     let alloc = rt.alloc();
     // MODULE M; BEGIN Write(7); WriteLn END M.
     let one_number = [proc(alloc, b'M', line(0, 5, 5))?];
@@ -115,6 +115,12 @@ fn reports(rt: HostRuntime) -> Result<(), OutOfMemory> {
         text.as_slice(),
         b"procedure 0 M frame 20\nround 0 cost 0 bound 0\ntotal cost 0 bound 0 code 54\n".as_slice()
     );
+    Ok(())
+}
+
+#[test]
+fn a_report_on_two_procedures(rt: HostRuntime) -> Result<(), OutOfMemory> {
+    let alloc = rt.alloc();
     // MODULE M; PROCEDURE P; BEGIN Write(1); P END P; BEGIN P END M.
     let stack_trap = [
         proc(alloc, b'M', line(0, 0, 0))?,

@@ -40,7 +40,7 @@ fn put_tie_number(_net: &Net, prices: &mut Prices, at: usize, number: i64)
     requires least { (pos 0 -ℤ pos (2 ^ 40)) ≤ℤ number }
     ensures { AreInRange _net.now prices.new }
 {
-    prices.ties.set(at, number);
+    prices.ties.set_at(at, number);
 }
 
 // Puts prices of registers, and says whether all are in range.

@@ -24,10 +24,9 @@ loop-tie-preserved c =
     = written_back c.loop-tie.sums.len new old many
     (ap length (sym value) ∙ c.deref_mut.ensures.len) in
     let added : HasAdded old prices.ties (tied_strand end t) n 13 new
-    = subst (λ (xs : List ℤ). HasAdded old xs (tied_strand end t) n 13 new) c.as_slice.ensures
-    (subst (λ k. HasAdded old c.as_slice.result.now k n 13 new) c.strand_of-strand.ensures
-    (subst (λ (xs : List ℤ). HasAdded xs c.as_slice.result.now c.strand_of-strand.result n 13 new)
-    value c.add_tie.ensures.added)) in record {
+    = subst (λ k. HasAdded old prices.ties k n 13 new) c.strand_of-strand.ensures
+    (subst (λ (xs : List ℤ). HasAdded xs prices.ties c.strand_of-strand.result n 13 new)
+    value c.add_tie.ensures.added) in record {
       count = ap length whole ∙ many ∙ inv.count;
       each = λ s j there few. ap (λ (xs : List ℤ). get_or xs (13 * s + j) (pos 0)) whole
           ∙ ties_more net.ties prices end old new n t lt c.index.ensures added s j few

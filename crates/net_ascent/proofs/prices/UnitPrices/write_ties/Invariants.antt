@@ -2,8 +2,8 @@ use Rattle.std.proofs.Common.{◌≡◌, pos, ◌-ℤ◌, ◌≤ℤ◌, All, len
 use Rattle.net_dual.specs.Priced.{most_price}
 use Rattle.net_ascent.proofs.prices.UnitPrices.write_ties.Given as goal
 
-abbrev pub invariant-loop-number : goal.invariant-loop-number
-invariant-loop-number l = record {
+abbrev pub invariant-loop-tie : goal.invariant-loop-tie
+invariant-loop-tie l = record {
   long : length l.ties ≡ length l.initial.ties;
   most : All (λ z. z ≤ℤ pos most_price) l.ties;
   least : All (λ z. (pos 0 -ℤ pos most_price) ≤ℤ z) l.ties;

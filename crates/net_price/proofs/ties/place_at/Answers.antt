@@ -1,15 +1,13 @@
-use Rattle.std.proofs.Common.{ℕ, ◌≡◌, ◌-◌, ◌∙◌, List, [], length, get_or, eqb, ap, arith}
+use Rattle.std.proofs.Common.{ℕ, ◌≡◌, ◌-◌, ◌∙◌, List, [], length, get_or, ap, arith}
 use Rattle.std.proofs.lemmas.List.{get_or_read}
 use Rattle.pra_base.specs.declared.ids.Place.{Place}
-use Rattle.pra_base.specs.Places.{number}
-use Rattle.pra_list.proofs.Counts.{bit}
 use Rattle.net_form.specs.declared.net.Strand.{Strand}
 use Rattle.net_form.specs.Admitted.{strand_at, no_strand}
 use Rattle.net_form.proofs.RoutesConserve.{as_many}
 use Rattle.net_dual.specs.Paths.{path_in}
 use Rattle.net_dual.proofs.Strands.{each_long}
 use Rattle.net_price.proofs.Tied.{count_there}
-use Rattle.net_price.proofs.ties.is_there.Goals as goal
+use Rattle.net_price.proofs.ties.place_at.Goals as goal
 
 pub index-requires-2 : goal.index-requires-2
 index-requires-2 c =
@@ -30,12 +28,11 @@ index-requires-3 c =
     omega (arith, first, size, long, c.requires.first, c.requires.last)
 
 pub returns : goal.returns
-returns c =
+returns c q =
     let net = c.args.net.now in
     let family = c.args.family.now in
     let s = c.args.strand in
     let l = c.args.layer in
-    let q = c.args.place in
     let p = c.index-3.result.now in
     let many = as_many net.strands family.places c.requires.family in
     let first = ap (λ (u : Strand). u.first) (get_or_read net.strands s c.index.result.now
@@ -47,7 +44,5 @@ returns c =
     = c.index-3.ensures
     ∙ ap (λ (n : ℕ). get_or c.index-2.result.now n p) at
     ∙ ap (λ (ps : List Place). get_or ps (l - (strand_at net s).first) p) path in
-    ap (λ (n : ℕ). bit (eqb n c.number-2.result)) c.number.ensures.value
-    ∙ ap (λ (n : ℕ). bit (eqb (number p) n)) c.number-2.ensures.value
-    ∙ count_there net family c.requires.family s l p q c.requires.strand c.requires.first
+    count_there net family c.requires.family s l p q c.requires.strand c.requires.first
     c.requires.last is
