@@ -12,6 +12,7 @@ pub mod ExitTies
 pub mod Following
 pub mod GoodPaths
 pub mod Grounded
+pub mod InMemory
 pub mod LeastPath
 pub mod LeastRests
 pub mod LeavingPlaces

@@ -4,6 +4,7 @@ pub mod Desk
 pub mod Ends
 pub mod Grounds
 pub mod Leaving
+pub mod Passing
 pub mod Rests
 pub mod Rows
 pub mod Starts

@@ -73,14 +73,25 @@
 //! there, mostly none or one, are paid at their places. Rows are moved by `costs_to` alone, which
 //! turns them round.
 //!
+//! # Strands that pass by
+//!
+//! Most strands of a large procedure have nothing to do in most of its blocks. Where a strand is no
+//! constant, no extra and no memory pair concerns it, memory is in each of its masks, and its ties
+//! ask no more of memory than of other places, the path that stays in memory is a least one, at
+//! the price of its ties: all other costs are at least 0. It is then written without any row. It
+//! is the path that the rows would lead to, since they begin in memory, and stay, where that is as
+//! good; in `renew` too, unless an end may be drawn to a register that costs nothing. Other seconds
+//! below 0 are of registers with a price, through which no path goes at that cost.
+//!
 //! # Where it is
 //!
 //! `ways` of the crossbar's moves and the step over rows are in `crossbar`, what steps cost in
 //! either direction in `directions`; the costs of the places of one layer (masks, ends, what is
 //! taken, prices, extras) in `cells`, with the pairs' in `pairs` and the ties' in `ties`; `spread`
 //! has the seconds and the counts that they come from; `rows` goes over the layers, `path` reads
-//! the path, `search` puts them together, `family` renews one path of a family, `starts` has the
-//! costs from each place and `stops` those to each. No cost of an edge is ever stored.
+//! the path, `passing` finds the paths that need no rows, `search` puts them together, `family`
+//! renews one path of a family, `starts` has the costs from each place and `stops` those to each.
+//! No cost of an edge is ever stored.
 #![tactic(auto)]
 
 mod cells;
@@ -88,6 +99,7 @@ mod crossbar;
 mod directions;
 mod family;
 mod pairs;
+mod passing;
 mod path;
 mod rows;
 mod search;

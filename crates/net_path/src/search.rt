@@ -18,6 +18,7 @@ ghost use Rattle.net_path.specs.Ways.{AreWays, AreWaysWithin, IsWay, event_price
 use crate::cells::fill_cells;
 use crate::crossbar::{Row, Ways};
 use crate::directions::forwards;
+use crate::passing::{pass_by, pass_by_apart};
 use crate::path::{follow, start};
 use crate::rows::{REACHED, pay_backward};
 use crate::spread::{Load, spread};
@@ -139,6 +140,9 @@ pub(crate) fn search<F: Fn(Event, u32) -> u32>(
     ensures none { OnErr result ((ps : List AnyPlace) →
         MayGo net.now ends (UsesNothing net.now taken.now) strand ps → ⊥) }
 {
+    if let Some(cost) = pass_by(net, prices, strand, ends, path) {
+        return Ok(cost);
+    }
     fill_cells(net, model, prices, ends, taken, strand, rows);
     find(net, model, prices, strand, ends, taken, rows, path, false)
 }
@@ -175,6 +179,9 @@ pub(crate) fn search_spread<F: Fn(Event, u32) -> u32>(
     ensures none { OnErr result ((ps : List AnyPlace) →
         MayGo net.now any_ends (UsesNothing net.now taken.now) strand ps → ⊥) }
 {
+    if let Some(cost) = pass_by_apart(net, prices, family, strand, path) {
+        return Ok(cost);
+    }
     let ends = Ends {
         first: None,
         last: None,

@@ -186,3 +186,65 @@ pub(crate) fn spread(
     draw_exits(net, family, strand, rows);
     draw_entries(net, family, strand, rows);
 }
+
+// Whether an end may be drawn to a place of this layer, counted over all blocks: to a register that
+// costs nothing there. Who pays for a register is on no least path, if to stay in memory is one.
+fn may_draw(prices: &Prices, layer: usize, there: Option<Place>) -> bool
+    requires small { layer < 2 ^ 32 }
+    requires layer { 6 * layer + 6 ≤ length prices.now.caps }
+{
+    let Some(there) = there else {
+        return false;
+    };
+    if !there.has_register() {
+        return false;
+    }
+    caps_from(prices, layer)[there.register() as usize] == 0
+}
+
+// Whether the last layer of a strand may be drawn to where one that follows begins.
+fn exit_may_be_drawn(net: &Net, prices: &Prices, family: &Routes, strand: usize) -> bool
+    requires net { IsBuilt net.now }
+    requires prices { AreInRange net.now prices.now }
+    requires strand { strand < length net.now.strands }
+{
+    let layer = (net.entry_layer(strand) + net.strands[strand].last) as usize;
+    let start = net.index.exits[strand];
+    let stop = net.index.exits[strand + 1];
+    for tie in start..stop {
+        if may_draw(prices, layer, entry_of(family, net.ties[tie as usize].to)) {
+            return true;
+        }
+    }
+    false
+}
+
+// Whether the first layer of a strand may be drawn to where one before it ends.
+fn entry_may_be_drawn(net: &Net, prices: &Prices, family: &Routes, strand: usize) -> bool
+    requires net { IsBuilt net.now }
+    requires prices { AreInRange net.now prices.now }
+    requires strand { strand < length net.now.strands }
+{
+    let layer = (net.entry_layer(strand) + net.strands[strand].first) as usize;
+    let start = net.index.entries[strand];
+    let stop = net.index.entries[strand + 1];
+    for at in start..stop {
+        let tie = net.index.arrivals[at as usize];
+        if may_draw(prices, layer, exit_of(family, net.ties[tie as usize].from)) {
+            return true;
+        }
+    }
+    false
+}
+
+/// Whether seconds leave a strand in memory, where to stay there is a least path. They are below 0
+/// only for registers that have a price, which is more than that path pays, and for an end that is
+/// drawn to a place.
+pub(crate) fn is_quiet(net: &Net, prices: &Prices, family: &Routes, strand: usize) -> bool
+    requires net { IsBuilt net.now }
+    requires prices { AreInRange net.now prices.now }
+    requires strand { strand < length net.now.strands }
+{
+    !exit_may_be_drawn(net, prices, family, strand)
+        && !entry_may_be_drawn(net, prices, family, strand)
+}
