@@ -25,9 +25,10 @@
 //! of all ends before any path is looked for. What an open place costs is the sum over the strands
 //! with an end in the group of a least path with these ends at the place: each strand once, alone
 //! in the network (`costs_at` in `weights`). A strand with one end in the group takes one search
-//! for all places; one with both, as in a block that is its own loop, takes one for each. The open
-//! place that costs least is taken, and of equal ones the first. Memory is open to every group, so
-//! there is always one.
+//! for all places; one with both, as in a block that is its own loop, takes one for each open
+//! place. So does every strand where one place alone is open, which is memory once the registers
+//! are in use: there a search that ends in it is the cheaper one. The open place that costs least
+//! is taken, and of equal ones the first. Memory is open to every group, so there is always one.
 //!
 //! ```text
 //!   block 0 ends at its exit           block 1 begins at its entry

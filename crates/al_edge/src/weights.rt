@@ -1,10 +1,12 @@
 // What a tie group's places cost its strands.
 
-ghost use Rattle.std.specs.Prelude.{◌≡◌, ◌<◌, ◌^◌, ℕ, ℤ, pos, ◌+ℤ◌, ◌≤ℤ◌, [], length, true, false};
+ghost use Rattle.std.specs.Prelude.{◌≡◌, ◌<◌, ◌^◌, ◌&&◌, ℕ, ℤ, pos, ◌+ℤ◌, ◌≤ℤ◌, [], length};
+ghost use Rattle.std.specs.Prelude.{true, false};
 ghost use Rattle.std.specs.Prelude.{None, Some, slice_index_or, if◌then◌else◌};
 ghost use Rattle.net_form.specs.Admitted.{strand_at};
 ghost use Rattle.al_laws.specs.Greedy.{is_group};
-ghost use Rattle.pra_base.specs.Places.{place_count};
+ghost use Rattle.pra_base.specs.declared.ids.Place.{Place as AnyPlace};
+ghost use Rattle.pra_base.specs.Places.{number, allows, place_count};
 ghost use Rattle.net_cost.specs.Models.{Keeps, weights_of};
 ghost use Rattle.net_form.specs.Formed.{IsFormed};
 ghost use Rattle.net_form.specs.InUse.{StandsFor};
@@ -12,7 +14,7 @@ ghost use Rattle.net_form.specs.Rooms.{IsRoomOf};
 ghost use Rattle.net_laws.specs.Built.{IsBuilt};
 ghost use Rattle.net_dual.specs.Priced.{AreInRange};
 ghost use Rattle.net_path.specs.Desk.{IsReservedFor};
-ghost use Rattle.al_edge.specs.OpenPlaces.{is_unmarked, may_be, suits_all, IsInMasks};
+ghost use Rattle.al_edge.specs.OpenPlaces.{may_be, suits_all, IsInMasks};
 ghost use Rattle.al_edge.specs.Weighed.{IsCostAt, AreWeights};
 ghost use Rattle.al_edge.specs.Totals.{AreOpenBelow, AreInMasks, AreCostsBelow, AreKnown, AreWide};
 ghost use Rattle.al_edge.specs.Totals.{AreCostsAdded, AreTotals};
@@ -22,44 +24,34 @@ use crate::members::{counts, ends_of, enters_alone, group_ends, layer_of, leaves
 use net_cost::{CostModel, Event};
 use net_form::{Net, Prices, Taken, TieEnd};
 use net_path::{Work, costs_from, costs_to, least};
-use pra_base::Place;
-use pra_base::places::allows;
+use pra_base::places::{EVERY, allows, meet, without};
+use pra_base::{Mask, Place};
 
-// Whether the place is in no register that is in use at the layer.
-fn is_free(used: &Taken, layer: u32, place: Place) -> bool
-    requires layer { layer < length used.now.regs }
-    ensures { result ≡ is_unmarked used.now.regs layer place }
-{
-    if place.has_register() {
-        !used.uses_register(layer, place.register())
-    } else {
-        true
-    }
-}
-
-// Whether the end may be at the place.
-fn suits(net: &Net, used: &Taken, end: TieEnd, place: Place) -> bool
+// The places of a mask at which the end may be too.
+fn narrowed(net: &Net, used: &Taken, end: TieEnd, places: Mask) -> Mask
     requires net { IsFormed net.now }
     requires used { IsRoomOf net.now used.now }
     requires strand { end.strand < length net.now.strands }
-    ensures { result ≡ may_be net.now used.now.regs place end }
+    ensures { (p : AnyPlace) → allows result (number p) ≡
+        (allows places (number p) && may_be net.now used.now.regs p end) }
 {
-    allows(mask_of(net, end), place) && is_free(used, layer_of(net, end), place)
+    let busy = used.regs[layer_of(net, end) as usize];
+    meet(places, without(mask_of(net, end), busy))
 }
 
-// Whether all ends of the group may.
-fn suits_all(net: &Net, used: &Taken, group: u32, place: Place) -> bool
+// The places at which all ends of the group may be.
+fn places_for_all(net: &Net, used: &Taken, group: u32) -> Mask
     requires net { IsFormed net.now }
     requires used { IsRoomOf net.now used.now }
     requires group { group < net.now.groups }
-    ensures { result ≡ suits_all net.now used.now.regs group place }
+    ensures { (p : AnyPlace) → allows result (number p) ≡
+        suits_all net.now used.now.regs group p }
 {
+    let mut places = EVERY;
     for end in ends_of(net, group) {
-        if !suits(net, used, *end, place) {
-            return false;
-        }
+        places = narrowed(net, used, *end, places);
     }
-    true
+    places
 }
 
 // What a strand costs at least with its ends in the group at the place.
@@ -92,16 +84,17 @@ fn cost_at<F: Fn(Event, u32) -> u32>(
     }
 }
 
-// The places at which all ends of the group may be.
+// The same, place by place.
 fn open_places(net: &Net, used: &Taken, group: u32) -> [bool; 14]
     requires net { IsFormed net.now }
     requires used { IsRoomOf net.now used.now }
     requires group { group < net.now.groups }
     ensures { AreOpenBelow net.now used.now.regs group place_count result }
 {
+    let places = places_for_all(net, used, group);
     let mut opens = [false; 14];
     for number in 0..14u8 {
-        opens[number as usize] = suits_all(net, used, group, place_of(number));
+        opens[number as usize] = allows(places, place_of(number));
     }
     opens
 }
@@ -244,7 +237,21 @@ fn costs_by_exit<F: Fn(Event, u32) -> u32>(
     known(&found)
 }
 
-// What a strand costs at least at each open place, with its ends in the group there.
+// Whether one place is open at most.
+fn is_one_open(opens: &[bool; 14]) -> bool {
+    let mut is_found = false;
+    for number in 0..14usize {
+        if opens[number] && is_found {
+            return false;
+        }
+        is_found = is_found || opens[number];
+    }
+    true
+}
+
+// What a strand costs at least at each open place, with its ends in the group there. Where one
+// place alone is open, as is memory once the registers are in use, a search for it takes less time
+// than one for all.
 fn costs_at<F: Fn(Event, u32) -> u32>(
     work: &mut Work,
     net: &Net,
@@ -268,7 +275,9 @@ fn costs_at<F: Fn(Event, u32) -> u32>(
     ensures family { work.new.family ≡ work.old.family }
     ensures reserved { IsReservedFor net.now work.new }
 {
-    if enters_alone(net, group, strand) {
+    if is_one_open(opens) {
+        costs_by_place(work, net, model, prices, free, group, opens, strand)
+    } else if enters_alone(net, group, strand) {
         costs_by_entry(work, net, model, prices, free, group, opens, strand)
     } else if leaves_alone(net, group, strand) {
         costs_by_exit(work, net, model, prices, free, group, opens, strand)
