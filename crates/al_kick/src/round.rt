@@ -34,10 +34,10 @@ fn begins_anew(size: u64, most: u64) -> bool {
     VISITS_FROM_NOTHING.saturating_mul(size) <= most
 }
 
-// How many visits a round has, by so many layers of strands, and at most.
-fn visits_of(round: u32, size: u64, most: u64) -> u64 {
+// How many visits a round would make by so many layers of strands.
+fn wanted_visits(round: u32, size: u64) -> u64 {
     let each = if round == 1 { FIRST_VISITS } else { VISITS };
-    each.saturating_mul(size).min(most)
+    each.saturating_mul(size)
 }
 
 // Kicks from the best routes or from new ones, until the visits of a round are used up, or nothing
@@ -53,14 +53,18 @@ fn search_from<F: Fn(Event, u32) -> u32>(
 ) -> bool
     requires kept { Keeps F.Fn model.now }
 {
+    let size = search.layers;
+    let wanted = wanted_visits(round, size);
+    let most = search.allowed_visits(wanted);
+    if most == 0 {
+        return false;
+    }
     search.begin(net, model, best, prices, round);
     let before = search.paths.total;
-    let size = search.layers;
     if begins_anew(size, search.most_visits) {
         search.negotiate(net);
     }
     search.visits = 0;
-    let most = visits_of(round, size, search.most_visits);
     let least = bound.saturating_mul(WHOLE);
     for _ in 0..most {
         if search.visits >= most || search.paths.total as u128 <= least {
@@ -68,7 +72,9 @@ fn search_from<F: Fn(Event, u32) -> u32>(
         }
         search.kick_once(net);
     }
-    search.paths.total < before
+    let is_found = search.paths.total < before;
+    search.note_round(is_found, wanted);
+    is_found
 }
 
 // The same, and what was found becomes routes, if the gate admits them.
@@ -128,7 +134,8 @@ impl SearchRoom {
 }
 
 /// Looks for routes that cost less than the best ones, whose bound is this, led by these prices, and
-/// says whether it found some. The number of the round decides where it looks: the same call finds
+/// says whether it found some. The number of the round decides where it looks, and in a network that
+/// is large for its visits, how many rounds before it found nothing, how long: the same calls find
 /// the same. It takes no memory.
 pub fn kick<F: Fn(Event, u32) -> u32>(
     alloc: Global,

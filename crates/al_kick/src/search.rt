@@ -80,7 +80,7 @@ pub(crate) const NO_EXTRA: ExtraCost = ExtraCost {
 
 /// Room for a search on one network: among others where strands may be at each of their steps, how
 /// many layers they have together, and of each how many its variable has. A round makes so many
-/// visits at most.
+/// visits at most; so many rounds in a row would have made more and found nothing.
 #[derive(Drop)]
 pub struct Search {
     pub(crate) spans: Vec<Span>,
@@ -97,6 +97,7 @@ pub struct Search {
     pub(crate) draws: Draws,
     pub(crate) visits: u64,
     pub(crate) most_visits: u64,
+    pub(crate) fruitless: u32,
 }
 
 fn paths_of(alloc: Global, steps: usize, strands: usize) -> Result<Paths, AllocError> {
@@ -181,9 +182,30 @@ impl Search {
             draws: Draws::of_seed(0),
             visits: 0,
             most_visits,
+            fruitless: 0,
         };
         search.measure_variables(net);
         Ok(search)
+    }
+
+    /// How many visits a round makes that would make so many: where that is more than it may, half
+    /// as many as it may for each such round just before it that found nothing, and none where that
+    /// would be less than one for each eighth layer.
+    pub(crate) fn allowed_visits(&self, wanted: u64) -> u64 {
+        if wanted <= self.most_visits {
+            return wanted;
+        }
+        let share = self.most_visits.checked_shr(self.fruitless).unwrap_or(0);
+        if share < self.layers / 8 { 0 } else { share }
+    }
+
+    /// Notes that a round that would have made so many visits found something, or nothing.
+    pub(crate) fn note_round(&mut self, is_found: bool, wanted: u64) {
+        self.fruitless = if is_found || wanted <= self.most_visits {
+            0
+        } else {
+            self.fruitless.saturating_add(1)
+        };
     }
 
     /// Whether all visits were made that a round may make.

@@ -1,5 +1,5 @@
 -- Rounds, with the room that they work in.
-use Rattle.std.specs.Prelude.{◌≡◌, ◌-◌, List, length, ◌++◌, slice_get, Some}
+use Rattle.std.specs.Prelude.{◌≡◌, ◌-◌, List, length, ◌++◌, slice_get, Some, IfSome}
 use Rattle.net_cost.specs.declared.weights.Weights.{Weights}
 use Rattle.net_form.specs.declared.net.Net.{Net}
 use Rattle.net_form.specs.declared.routes.Routes.{Routes}
@@ -11,17 +11,23 @@ use Rattle.al_iter.specs.Room.{IsSpareOf}
 use Rattle.al_round.specs.Allocations.{IsAllocated, IsLatest}
 use Rattle.al_round.specs.Stages.{Stage, IsGreatest}
 use Rattle.al_round.specs.declared.raised.Raised.{Raised}
+use Rattle.al_round.specs.declared.room.RoundRoom.{RoundRoom}
 use Rattle.al_round.specs.declared.rounds.Rounds.{Rounds}
 
 -- the family of the last round
 abbrev pub family_of : Rounds → Routes
 family_of rounds = rounds.work.family
 
--- prices in range, with their value and the room to raise them in
+-- prices in range, with their value
 pub record HasItsValue (net : Net) (w : Weights) (raised : Raised) : Type 0 where
   pub in_range : AreInRange net raised.prices
   pub value : IsLagrange net w raised.prices raised.value
-  pub work : IsReservedFor net raised.work
+
+-- room that a round works in
+pub record IsRoundRoom (net : Net) (room : RoundRoom) : Type 0 where
+  pub next : AreInRange net room.next
+  pub work : IsReservedFor net room.work
+  pub spare : IsSpareOf net room.spare
 
 -- the raised prices of the last round are kept, with their value
 pub record AreKeptRaised (net : Net) (w : Weights) (stages : List Stage) (raised : Raised)
@@ -41,8 +47,7 @@ pub record AreRoundsOf (net : Net) (w : Weights) (stages : List Stage) (rounds :
   pub raised : AreKeptRaised net w stages rounds.raised
   pub value : IsGreatest stages (length rounds.lines - 1) rounds.best_prices rounds.best_value
   pub work : IsReservedFor net rounds.work
-  pub spare : IsSpareOf net rounds.spare
-  pub next : AreInRange net rounds.next
+  pub room : IfSome rounds.room (IsRoundRoom net)
 
 -- by some stages
 pub record AreRounds (net : Net) (w : Weights) (rounds : Rounds) : Type 0 where

@@ -1,6 +1,6 @@
 // What becomes of the best routes in a round.
 
-ghost use Rattle.std.specs.Prelude.{◌≡◌, ◌≤◌, true, false};
+ghost use Rattle.std.specs.Prelude.{◌≡◌, ◌≤◌, true};
 ghost use Rattle.net_cost.specs.Models.{Keeps, weights_of};
 ghost use Rattle.net_form.specs.Admitted.{IsAdmitted};
 ghost use Rattle.net_form.specs.Cost.{cost_in};
@@ -21,35 +21,36 @@ use net_gate::cost;
 use net_path::Work;
 use std::alloc::Global;
 
-// Takes a candidate in place of the best routes if it costs less, and says whether it does.
+// Takes a candidate in place of the best routes, which cost so much, if it costs less, and answers
+// what the best ones cost then.
 fn take_cheaper<F: Fn(Event, u32) -> u32>(
     alloc: Global,
     best: &mut Routes,
     net: &Net,
     model: &CostModel<F>,
     candidate: &Routes,
-) -> bool
+    now: u128,
+) -> u128
     requires kept { Keeps F.Fn model.now }
     requires net { IsBuilt net.now }
     requires routes { AreRoutes net.now best.old }
     requires admitted { IsAdmitted net.now (flow net.now best.old) }
+    requires cost { now ≡ cost_in net.now (weights_of model.now) best.old }
     requires candidate { AreRoutes net.now candidate.now }
     requires may { IsAdmitted net.now (flow net.now candidate.now) }
     ensures routes { AreRoutes net.now best.new }
     ensures admitted { IsAdmitted net.now (flow net.now best.new) }
-    ensures less { cost_in net.now (weights_of model.now) best.new ≤
-        cost_in net.now (weights_of model.now) best.old }
-    ensures least { cost_in net.now (weights_of model.now) best.new ≤
-        cost_in net.now (weights_of model.now) candidate.now }
-    ensures same { result ≡ false → best.new ≡ best.old }
-    ensures equal { cost_in net.now (weights_of model.now) best.old ≤
-        cost_in net.now (weights_of model.now) candidate.now → best.new ≡ best.old }
+    ensures cost { result ≡ cost_in net.now (weights_of model.now) best.new }
+    ensures less { result ≤ now }
+    ensures least { result ≤ cost_in net.now (weights_of model.now) candidate.now }
+    ensures same { result ≡ now → best.new ≡ best.old }
 {
-    if cost(net, model, candidate) >= cost(net, model, best) {
-        return false;
+    let cost = cost(net, model, candidate);
+    if cost >= now {
+        return now;
     }
     overwrite_routes(alloc, best, net, candidate);
-    true
+    cost
 }
 
 // The same with what was laid, if anything was.
@@ -59,23 +60,24 @@ fn take_laid<F: Fn(Event, u32) -> u32>(
     net: &Net,
     model: &CostModel<F>,
     outcome: &Outcome,
-) -> bool
+    now: u128,
+) -> u128
     requires kept { Keeps F.Fn model.now }
     requires net { IsBuilt net.now }
     requires routes { AreRoutes net.now best.old }
     requires admitted { IsAdmitted net.now (flow net.now best.old) }
+    requires cost { now ≡ cost_in net.now (weights_of model.now) best.old }
     requires candidate { IsCandidate net.now outcome.now }
     ensures routes { AreRoutes net.now best.new }
     ensures admitted { IsAdmitted net.now (flow net.now best.new) }
-    ensures less { cost_in net.now (weights_of model.now) best.new ≤
-        cost_in net.now (weights_of model.now) best.old }
-    ensures least { CostsAtLeast net.now (weights_of model.now)
-        (cost_in net.now (weights_of model.now) best.new) outcome.now }
-    ensures same { result ≡ false → best.new ≡ best.old }
+    ensures cost { result ≡ cost_in net.now (weights_of model.now) best.new }
+    ensures less { result ≤ now }
+    ensures least { CostsAtLeast net.now (weights_of model.now) result outcome.now }
+    ensures same { result ≡ now → best.new ≡ best.old }
 {
     match outcome {
-        Outcome::Laid(routes) => take_cheaper(alloc, best, net, model, routes),
-        Outcome::Blocked(_, _) => false,
+        Outcome::Laid(routes) => take_cheaper(alloc, best, net, model, routes, now),
+        Outcome::Blocked(_, _) => now,
     }
 }
 
@@ -105,7 +107,8 @@ fn look<F: Fn(Event, u32) -> u32>(
     )
 }
 
-// Takes what the search finds from the best routes, led by prices, which give this bound.
+// Takes what the search finds from the best routes, which cost so much, led by prices, which give
+// this bound, and answers what the best ones cost then.
 fn take_kicked<F: Fn(Event, u32) -> u32>(
     alloc: Global,
     best: &mut Routes,
@@ -116,58 +119,31 @@ fn take_kicked<F: Fn(Event, u32) -> u32>(
     prices: &Prices,
     round: u32,
     bound: u128,
-) -> bool
+    now: u128,
+) -> u128
     requires kept { Keeps F.Fn model.now }
     requires net { IsBuilt net.now }
     requires spare { IsSpareOf net.now spare.old }
     requires routes { AreRoutes net.now best.old }
     requires admitted { IsAdmitted net.now (flow net.now best.old) }
+    requires cost { now ≡ cost_in net.now (weights_of model.now) best.old }
     ensures routes { AreRoutes net.now best.new }
     ensures admitted { IsAdmitted net.now (flow net.now best.new) }
-    ensures less { cost_in net.now (weights_of model.now) best.new ≤
-        cost_in net.now (weights_of model.now) best.old }
-    ensures same { result ≡ false → best.new ≡ best.old }
+    ensures cost { result ≡ cost_in net.now (weights_of model.now) best.new }
+    ensures less { result ≤ now }
+    ensures same { result ≡ now → best.new ≡ best.old }
     ensures spare { IsSpareOf net.now spare.new }
 {
     if !look(alloc, search, spare, net, model, best, prices, round, bound) {
-        return false;
+        return now;
     }
-    take_cheaper(alloc, best, net, model, &spare.routes)
-}
-
-// Settles routes, unless they are.
-fn settle_unless<F: Fn(Event, u32) -> u32>(
-    settled: bool,
-    work: &mut Work,
-    spare: &mut Spare,
-    net: &Net,
-    model: &CostModel<F>,
-    routes: &mut Routes,
-)
-    requires kept { Keeps F.Fn model.now }
-    requires net { IsBuilt net.now }
-    requires work { IsReservedFor net.now work.old }
-    requires spare { IsSpareOf net.now spare.old }
-    requires routes { AreRoutes net.now routes.old }
-    requires admitted { IsAdmitted net.now (flow net.now routes.old) }
-    requires settled { settled ≡ true → AreSettled net.now (weights_of model.now) routes.old }
-    ensures settled { AreSettled net.now (weights_of model.now) routes.new }
-    ensures less { cost_in net.now (weights_of model.now) routes.new ≤
-        cost_in net.now (weights_of model.now) routes.old }
-    ensures spare { IsSpareOf net.now spare.new }
-    ensures family { work.new.family ≡ work.old.family }
-    ensures reserved { IsReservedFor net.now work.new }
-{
-    if settled {
-        return;
-    }
-    settle(work, spare, net, model, routes);
+    take_cheaper(alloc, best, net, model, &spare.routes, now)
 }
 
 /// Takes what was laid in place of the best routes where it costs less, then what the search finds
 /// from there, led by prices, and settles what is best then. `settled` says that the best routes
-/// were; the number of the round decides where the search looks, and it looks no further than the
-/// bound of these prices.
+/// were, and `now` what they cost; the number of the round decides where the search looks, and it
+/// looks no further than the bound of these prices. What the best routes cost in the end is answered.
 pub(crate) fn improve<F: Fn(Event, u32) -> u32>(
     alloc: Global,
     settled: bool,
@@ -181,7 +157,8 @@ pub(crate) fn improve<F: Fn(Event, u32) -> u32>(
     prices: &Prices,
     round: u32,
     bound: u128,
-)
+    now: u128,
+) -> u128
     requires kept { Keeps F.Fn model.now }
     requires net { IsBuilt net.now }
     requires work { IsReservedFor net.now work.old }
@@ -190,7 +167,9 @@ pub(crate) fn improve<F: Fn(Event, u32) -> u32>(
     requires admitted { IsAdmitted net.now (flow net.now best.old) }
     requires settled { settled ≡ true → AreSettled net.now (weights_of model.now) best.old }
     requires candidate { IsCandidate net.now outcome.now }
+    requires cost { now ≡ cost_in net.now (weights_of model.now) best.old }
     ensures settled { AreSettled net.now (weights_of model.now) best.new }
+    ensures cost { result ≡ cost_in net.now (weights_of model.now) best.new }
     ensures less { cost_in net.now (weights_of model.now) best.new ≤
         cost_in net.now (weights_of model.now) best.old }
     ensures least { CostsAtLeast net.now (weights_of model.now)
@@ -199,7 +178,13 @@ pub(crate) fn improve<F: Fn(Event, u32) -> u32>(
     ensures family { work.new.family ≡ work.old.family }
     ensures reserved { IsReservedFor net.now work.new }
 {
-    let laid = take_laid(alloc, best, net, model, outcome);
-    let kicked = take_kicked(alloc, best, search, spare, net, model, prices, round, bound);
-    settle_unless(settled && !laid && !kicked, work, spare, net, model, best);
+    let laid = take_laid(alloc, best, net, model, outcome, now);
+    let kicked = take_kicked(
+        alloc, best, search, spare, net, model, prices, round, bound, laid,
+    );
+    if settled && kicked == now {
+        return now;
+    }
+    settle(work, spare, net, model, best);
+    cost(net, model, best)
 }

@@ -9,7 +9,8 @@ ghost use Rattle.net_laws.specs.Built.{IsBuilt};
 ghost use Rattle.net_dual.specs.Step.{IsNext};
 ghost use Rattle.al_edge.specs.HomeRoutes.{AreHome};
 ghost use Rattle.al_round.specs.Allocations.{IsAllocation};
-ghost use Rattle.al_round.specs.Rounds.{AreRounds, HaveGoneOn, family_of, AreSame};
+ghost use Rattle.al_round.specs.Rounds.{AreRounds, HaveGoneOn, IsRoundRoom, AreSame};
+ghost use Rattle.al_round.specs.Rounds.{family_of};
 ghost use Rattle.al_round.specs.Tried.{IsTried};
 ghost use Rattle.al_round.specs.Watches.{IsWatch, gap_of, WasObeyed, WentOn};
 
@@ -17,14 +18,14 @@ use crate::allocation::Allocation;
 use crate::copies::copy_prices;
 use crate::improving::improve;
 use crate::raised::Raised;
+use crate::room::{RoundRoom, room_for};
 use crate::tried::Tried;
 use crate::trying::{step_prices, try_prices};
 use crate::value::{keep_greatest, rounded_up};
 use crate::watch::{Verdict, Watch};
 use al_edge::home;
-use al_kick::SearchRoom;
 use net_cost::{CostModel, Event};
-use net_form::{Line, Net, Prices, Routes, Spare};
+use net_form::{Line, Net, Prices, Routes};
 use net_gate::cost;
 use net_path::Work;
 use net_price::lagrange;
@@ -55,10 +56,9 @@ pub struct Rounds {
     pub tried: Option<Tried>,
     pub(crate) best_value: i128,
     pub(crate) raised: Raised,
-    pub(crate) next: Prices,
     pub(crate) work: Work,
-    pub(crate) spare: Spare,
-    pub(crate) search: SearchRoom,
+    pub(crate) most_visits: u64,
+    pub(crate) room: Option<RoundRoom>,
 }
 
 impl Rounds {
@@ -70,7 +70,8 @@ impl Rounds {
     }
 
     /// Round 0: prices of nothing, home routes and their cost, and the value of no prices. The
-    /// search of a round makes so many visits at most (al_kick).
+    /// search of a round makes so many visits at most (al_kick), and so do the sweeps that raise
+    /// prices, but for the first.
     ///
     /// # Errors
     ///
@@ -87,21 +88,18 @@ impl Rounds {
         ensures one { IfOk result (λ rounds. length rounds.lines ≡ 1) }
         ensures home { IfOk result (λ rounds. AreHome net.now rounds.best) }
     {
+        let prices = Prices::zero(alloc, net)?;
+        let best_prices = copy_prices(alloc, &prices)?;
         let mut work = Work::reserve(alloc, net, model)?;
-        let spare = Spare::empty(alloc, net)?;
         let best = home(alloc, net)?;
-        let prices = copy_prices(alloc, &spare.zero)?;
-        let best_prices = copy_prices(alloc, &spare.zero)?;
-        let next = copy_prices(alloc, &spare.zero)?;
         let best_value = lagrange(&mut work, net, model, &prices);
-        let raised = Raised::start(alloc, net, model, &prices, best_value)?;
+        let raised = Raised::start(alloc, net, &prices, best_value, most_visits)?;
         let line = Line {
             round: 0,
             cost: cost(net, model, &best),
             bound: rounded_up(best_value),
         };
         let lines = Seq::from_slice(alloc, &[line])?;
-        let search = SearchRoom::reserve(alloc, net, most_visits)?;
         Ok(Rounds {
             best,
             prices,
@@ -110,10 +108,9 @@ impl Rounds {
             tried: None,
             best_value,
             raised,
-            next,
             work,
-            spare,
-            search,
+            most_visits,
+            room: None,
         })
     }
 
@@ -140,15 +137,17 @@ impl Rounds {
         ensures same { OnErr result (AreSame self.old self.new) }
     {
         let number = self.lines.len() as u32;
+        let left = self.room.take();
+        let mut room = room_for(alloc, left, net, model, &self.prices, self.most_visits)?;
         step_prices(
-            &mut self.next,
+            &mut room.next,
             &self.prices,
             net,
             self.work.family(),
             number,
         );
-        let tried = try_prices(alloc, &mut self.work, net, model, &self.next)?;
-        self.finish(alloc, net, model, tried)
+        let tried = try_prices(alloc, &mut self.work, net, model, &room.next)?;
+        self.finish(alloc, net, model, room, tried)
     }
 
     // What is left to do once the next prices are made and tried.
@@ -157,15 +156,17 @@ impl Rounds {
         alloc: Global,
         net: &Net,
         model: &CostModel<F>,
+        mut room: RoundRoom,
         tried: Tried,
     ) -> Result<Line, OutOfMemory>
         requires kept { Keeps F.Fn model.now }
         requires net { IsBuilt net.now }
         requires rounds { AreRounds net.now (weights_of model.now) self.old }
         requires few { length self.old.lines ≤ 4294967295 }
+        requires room { IsRoundRoom net.now room }
         requires next { IsNext net.now (family_of self.old) (length self.old.lines)
-            self.old.prices self.old.next }
-        requires tried { IsTried net.now (weights_of model.now) self.old.next 0 tried }
+            self.old.prices room.next }
+        requires tried { IsTried net.now (weights_of model.now) room.next 0 tried }
         ensures rounds { AreRounds net.now (weights_of model.now) self.new }
         ensures gone_on { HaveGoneOn net.now (weights_of model.now) self.old self.new }
         ensures next { OnOk result (IsNext net.now (family_of self.old) (length self.old.lines)
@@ -174,10 +175,11 @@ impl Rounds {
         ensures same { OnErr result (AreSame self.old self.new) }
     {
         let number = self.lines.len();
+        let now = self.last_line().cost;
         self.lines.push(NO_LINE)?;
-        let value = lagrange(&mut self.work, net, model, &self.next);
-        mem::swap(&mut self.prices, &mut self.next);
-        self.raised.raise(&mut self.next, net, model, number as u32);
+        let value = lagrange(&mut self.work, net, model, &room.next);
+        mem::swap(&mut self.prices, &mut room.next);
+        self.raised.raise(&mut room, net, model, number as u32);
         keep_greatest(
             &mut self.best_value,
             &mut self.best_prices,
@@ -187,27 +189,29 @@ impl Rounds {
             &self.raised.prices,
         );
         let bound = rounded_up(self.best_value);
-        improve(
+        let cost = improve(
             alloc,
             number > 1,
             &mut self.work,
-            &mut self.spare,
+            &mut room.spare,
             net,
             model,
             &mut self.best,
             &tried.outcome,
-            &mut self.search,
+            &mut room.search,
             &self.best_prices,
             number as u32,
             bound,
+            now,
         );
         let line = Line {
             round: number as u32,
-            cost: cost(net, model, &self.best),
+            cost,
             bound,
         };
         self.lines.set(number, line);
         self.tried = Some(tried);
+        self.room = Some(room);
         Ok(line)
     }
 

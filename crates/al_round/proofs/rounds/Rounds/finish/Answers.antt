@@ -21,14 +21,18 @@ use Rattle.al_round.proofs.rounds.Rounds.finish.Goals as goal
 pub raise-requires-clause-has : goal.raise-requires-clause-has
 raise-requires-clause-has g c = c.requires.rounds.are.raised.has_value
 
-pub raise-requires-clause-over : goal.raise-requires-clause-over
-raise-requires-clause-over g c =
+pub raise-requires-clause-room : goal.raise-requires-clause-room
+raise-requires-clause-room g c =
     let net = c.args.net.now in
     let w = weights_of c.args.model.now in
     let r = c.args.self.now in
     let are = c.requires.rounds in
-    subst (AreInRange net) (sym c.swap.ensures.y_after)
-    (prices_in_range net w r are.stages are.are)
+    record {
+      next = subst (AreInRange net) (sym c.swap.ensures.y_after)
+          (prices_in_range net w r are.stages are.are);
+      work = c.requires.room.work;
+      spare = c.requires.room.spare;
+    }
 
 pub keep_greatest-requires : goal.keep_greatest-requires
 keep_greatest-requires g c =
@@ -37,9 +41,9 @@ keep_greatest-requires g c =
     let r = c.args.self.now in
     let are = c.requires.rounds in
     let best = best_in_range net w r are.stages are.are in
-    let next = are.are.next in
+    let next = c.requires.room.next in
     let raised = c.raise.ensures.has.in_range in
-    let is : r.next ≡ c.swap.new.x = sym c.swap.ensures.x_after in
+    let is : c.args.room.next ≡ c.swap.new.x = sym c.swap.ensures.x_after in
     record {
       caps = best.caps ∙ sym next.caps ∙ ap (λ (p : Prices). length p.caps) is;
       mems = best.mems ∙ sym next.mems ∙ ap (λ (p : Prices). length p.mems) is;
@@ -59,7 +63,7 @@ rounded_up-bound-requires g c =
     let z = c.lagrange-value.result in
     let top = c.keep_greatest.new.best_value in
     let t : Stage = record {
-      prices = r.next;
+      prices = c.args.room.next;
       family = c.lagrange-value.new.work.family;
       value = z;
       raised = c.raise.new.self.prices;
@@ -79,21 +83,21 @@ rounded_up-bound-requires g c =
     (not_negative net w (stages ++ t ∷ []) more (suc (length r.lines - 1))
     c.keep_greatest.new.best_prices top greatest)
 
-pub improve-requires-clause-settled : goal.improve-requires-clause-settled
-improve-requires-clause-settled g c = λ later.
+pub improve-cost-requires-clause-settled : goal.improve-cost-requires-clause-settled
+improve-cost-requires-clause-settled g c = λ later.
     let number = c.len-number.ensures in
     c.requires.rounds.are.allocated.cost.settled (grind arith)
 
-pub improve-requires-clause-candidate : goal.improve-requires-clause-candidate
-improve-requires-clause-candidate g c = candidate_of c.args.net.now
-    (weights_of c.args.model.now) c.args.self.now.next 0 c.args.tried.plan c.args.tried.order
+pub improve-cost-requires-clause-candidate : goal.improve-cost-requires-clause-candidate
+improve-cost-requires-clause-candidate g c = candidate_of c.args.net.now
+    (weights_of c.args.model.now) c.args.room.next 0 c.args.tried.plan c.args.tried.order
     c.args.tried.outcome c.requires.tried.outcome
 
 pub returns-in_err-push-clause-gone_on : goal.returns-in_err-push-clause-gone_on
 returns-in_err-push-clause-gone_on g c = λ stages are.
     let r = c.args.self.now in
-    stands_still c.args.net.now (weights_of c.args.model.now) stages r are c.push.new.self r.next
-    r.work c.in_err-push.ensures.err are.next are.work refl
+    stands_still c.args.net.now (weights_of c.args.model.now) stages r are c.push.new.self r.work
+    r.room c.in_err-push.ensures.err are.work refl are.room
 
 pub returns-clause-line : goal.returns-clause-line
 returns-clause-line g c =
@@ -101,7 +105,7 @@ returns-clause-line g c =
     let none : Line = record { round = 0; cost = 0; bound = 0 } in
     let line : Line = record {
       round = c.len-number.result;
-      cost = c.cost.result;
+      cost = c.improve-cost.result;
       bound = c.rounded_up-bound.result;
     } in
     c.set.ensures
@@ -117,9 +121,9 @@ returns-clause-gone_on g c = λ stages are.
     let z = c.lagrange-value.result in
     let best_prices = c.keep_greatest.new.best_prices in
     let top = c.keep_greatest.new.best_value in
-    let found = c.improve.new.best in
+    let found = c.improve-cost.new.best in
     let t : Stage = record {
-      prices = r.next;
+      prices = c.args.room.next;
       family = c.lagrange-value.new.work.family;
       value = z;
       raised = c.raise.new.self.prices;
@@ -128,7 +132,7 @@ returns-clause-gone_on g c = λ stages are.
     let more = stages ++ t ∷ [] in
     let line : Line = record {
       round = c.len-number.result;
-      cost = c.cost.result;
+      cost = c.improve-cost.result;
       bound = c.rounded_up-bound.result;
     } in
     let are_more = next_stages net w r stages are t c.requires.next c.lagrange-value.ensures.value
@@ -146,11 +150,11 @@ returns-clause-gone_on g c = λ stages are.
     let is : IsFound net w t r.best (length r.lines) top found c.args.tried line = record {
       number = c.len-number.ensures;
       rounded = subst (λ v. IsRoundedUp v line.bound) top_is c.rounded_up-bound.ensures;
-      cost = c.cost.ensures;
-      settled = c.improve.ensures.settled;
-      less = c.improve.ensures.less;
+      cost = c.improve-cost.ensures.cost;
+      settled = c.improve-cost.ensures.settled;
+      less = c.improve-cost.ensures.less;
       was_tried = tried_at net w t.prices (cost_in net w found) c.args.tried c.requires.tried
-          c.improve.ensures.least;
+          c.improve-cost.ensures.least;
     } in
     let lines : (r.lines ++ line ∷ []) ≡ c.set.new.self = sym (returns-clause-line g c) in
     let formed = c.requires.net.formed in (
@@ -161,20 +165,23 @@ returns-clause-gone_on g c = λ stages are.
             are_more r.best_value are.value best_prices top greatest c.keep_greatest.ensures.above
             found c.args.tried line is);
         kept = subst
-            (λ p. IsLatest net w more (cost_in net w found) p c.improve.new.work.family
+            (λ p. IsLatest net w more (cost_in net w found) p c.improve-cost.new.work.family
             (Some c.args.tried))
             (sym c.swap.ensures.x_after)
             (subst (λ f. IsLatest net w more (cost_in net w found) t.prices f (Some c.args.tried))
-            (sym c.improve.ensures.family)
+            (sym c.improve-cost.ensures.family)
             (kept_more net w formed stages r.lines r.best r.best_prices are.allocated t are_more
             r.best_value are.value best_prices top greatest c.keep_greatest.ensures.above found
             c.args.tried line is));
         raised = raised_more net w r stages are t c.raise.new.self refl refl c.raise.ensures.has;
         value = subst (λ (ls : List Line). IsGreatest more (length ls - 1) best_prices top) lines
             (subst (λ n. IsGreatest more n best_prices top) (sym (one_less r.lines line)) greatest);
-        work = c.improve.ensures.reserved;
-        spare = c.improve.ensures.spare;
-        next = c.raise.ensures.over;
+        work = c.improve-cost.ensures.reserved;
+        room = record {
+          next = c.raise.ensures.room.next;
+          work = c.raise.ensures.room.work;
+          spare = c.improve-cost.ensures.spare;
+        };
       },
     )
 

@@ -1,28 +1,24 @@
-use Rattle.std.proofs.Common.{◌≡◌, ◌-◌, ℤ, pos, ◌≤ℤ◌, List, [], ◌∷◌, length, refl, sym, ap}
+use Rattle.std.proofs.Common.{◌≡◌, ◌-◌, ℤ, pos, ◌≤ℤ◌, List, [], ◌∷◌, length, refl, sym}
 use Rattle.std.proofs.Common.{subst, ◌∙◌, arith, to_z, of_z}
 use Rattle.std.specs.Int.{w128}
 use Rattle.std.proofs.lemmas.Int.{to_z-of_z}
 use Rattle.net_cost.specs.Models.{weights_of}
 use Rattle.net_form.specs.declared.prices.Line.{Line}
 use Rattle.net_form.specs.declared.prices.Prices.{Prices}
-use Rattle.net_form.specs.declared.taken.Spare.{Spare}
 use Rattle.net_form.specs.Rooms.{zero_prices}
 use Rattle.net_dual.specs.Priced.{AreInRange}
 use Rattle.net_dual.specs.Value.{IsLagrange}
 use Rattle.net_dual.proofs.Ranges.{zero_in_range}
 use Rattle.al_round.specs.Allocations.{IsAllocated}
-use Rattle.al_iter.specs.Room.{IsSpareOf}
 use Rattle.al_round.specs.Stages.{Stage, IsGreatest, IsRoundedUp}
 use Rattle.al_round.proofs.Bounds.{some_value}
-use Rattle.al_round.proofs.EmptyRoom.{room_of}
 use Rattle.al_round.proofs.RoundsGrown.{first_greatest, first_allocated}
 use Rattle.al_round.proofs.rounds.Rounds.start.Goals as goal
 
 pub lagrange-best_value-requires : goal.lagrange-best_value-requires
 lagrange-best_value-requires g c =
     let net = c.args.net.now in
-    let zero_at : c.in_ok-prices.prices ≡ zero_prices net
-    = c.in_ok-prices.ensures ∙ ap (λ (s : Spare). s.zero) c.in_ok-spare.ensures in
+    let zero_at : c.in_ok-prices.prices ≡ zero_prices net = c.in_ok-prices.ensures in
     record {
       kept = c.requires.kept;
       net = c.requires.net;
@@ -35,8 +31,7 @@ rounded_up-requires g c =
     let net = c.args.net.now in
     let w = weights_of c.args.model.now in
     let z = c.lagrange-best_value.result in
-    let zero_at : c.in_ok-prices.prices ≡ zero_prices net
-    = c.in_ok-prices.ensures ∙ ap (λ (s : Spare). s.zero) c.in_ok-spare.ensures in
+    let zero_at : c.in_ok-prices.prices ≡ zero_prices net = c.in_ok-prices.ensures in
     let whole : to_z w128 (of_z w128 z) ≡ z
     = to_z-of_z w128 z (record { sfits = c.lagrange-best_value.type_inv }) in
     subst (λ v. pos 0 ≤ℤ v) (sym whole)
@@ -52,12 +47,9 @@ returns-clause-rounds g c =
     let w = weights_of c.args.model.now in
     let z = c.lagrange-best_value.result in
     let prices = c.in_ok-prices.prices in
-    let zero_at : prices ≡ zero_prices net
-    = c.in_ok-prices.ensures ∙ ap (λ (s : Spare). s.zero) c.in_ok-spare.ensures in
+    let zero_at : prices ≡ zero_prices net = c.in_ok-prices.ensures in
     let best_at : prices ≡ c.in_ok-best_prices.best_prices
-    = c.in_ok-prices.ensures ∙ sym c.in_ok-best_prices.ensures in
-    let next_at : c.in_ok-next.next ≡ zero_prices net
-    = c.in_ok-next.ensures ∙ ap (λ (s : Spare). s.zero) c.in_ok-spare.ensures in
+    = sym c.in_ok-best_prices.ensures in
     let whole : to_z w128 (of_z w128 z) ≡ z
     = to_z-of_z w128 z (record { sfits = c.lagrange-best_value.type_inv }) in
     let raised = c.in_ok-raised.raised in
@@ -103,7 +95,12 @@ returns-clause-rounds g c =
           is_last = refl;
           same_prices = refl;
           same_value = refl;
-          has_value = c.in_ok-raised.ensures.has;
+          has_value = record {
+            in_range = subst (AreInRange net) (sym (same_prices ∙ zero_at)) (zero_in_range net);
+            value = subst (IsLagrange net w raised.prices) (sym same_value)
+                (subst (λ p. IsLagrange net w p z) (sym same_prices)
+                (record { family = c.lagrange-best_value.new.work.family; value = value }));
+          };
         };
         value = subst (λ (ls : List Line). IsGreatest (t ∷ []) (length ls - 1) best_prices
             (to_z w128 (of_z w128 z))) lines
@@ -111,7 +108,6 @@ returns-clause-rounds g c =
             (subst (λ (p : Prices). IsGreatest (t ∷ []) 0 p z) best_at
             (first_greatest net w t zero_at value same_prices same_value)));
         work = c.lagrange-best_value.ensures.reserved;
-        spare = subst (IsSpareOf net) (sym c.in_ok-spare.ensures) (room_of net);
-        next = subst (AreInRange net) (sym next_at) (zero_in_range net);
+        room = tt;
       };
     }

@@ -4,7 +4,7 @@ use Rattle.std.proofs.lemmas.Int.{to_z-of_z}
 use Rattle.net_cost.specs.Models.{weights_of}
 use Rattle.net_dual.specs.Priced.{AreInRange}
 use Rattle.net_dual.specs.Value.{IsLagrange}
-use Rattle.al_round.proofs.raised.Raised.raise.Goals as goal
+use Rattle.al_round.proofs.raised.Raised.sweep.Goals as goal
 
 pub returns-clause-has : goal.returns-clause-has
 returns-clause-has g c =
@@ -21,5 +21,4 @@ returns-clause-has g c =
             family = c.lagrange-value.new.work.family;
             value = c.lagrange-value.ensures.value;
           }));
-      work = c.lagrange-value.ensures.reserved;
     }
