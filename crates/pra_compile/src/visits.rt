@@ -4,10 +4,10 @@ use pra_base::{OutOfMemory, VProc};
 use std::alloc::Global;
 
 // Visits at most of a round of all procedures together.
-const MODULE_VISITS: u64 = 40_000_000;
+const MODULE_VISITS: u64 = 20_000_000;
 
 // The same of one of them, and what each may make, however small a part it is.
-const PROCEDURE_VISITS: u64 = 10_000_000;
+const PROCEDURE_VISITS: u64 = 5_000_000;
 
 const LEAST_VISITS: u64 = 200_000;
 
