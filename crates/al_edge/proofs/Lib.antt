@@ -7,6 +7,7 @@ pub mod LeastPlace
 pub mod OpenPlaces
 pub mod Picked
 pub mod Plans
+pub mod SomeLeast
 pub mod Step
 pub mod Sums
 pub mod Tables

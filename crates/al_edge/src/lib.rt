@@ -26,9 +26,9 @@
 //! with an end in the group of a least path with these ends at the place: each strand once, alone
 //! in the network (`costs_at` in `weights`). A strand with one end in the group takes one search
 //! for all places; one with both, as in a block that is its own loop, takes one for each open
-//! place. So does every strand where one place alone is open, which is memory once the registers
-//! are in use: there a search that ends in it is the cheaper one. The open place that costs least
-//! is taken, and of equal ones the first. Memory is open to every group, so there is always one.
+//! place. The open place that costs least is taken, and of equal ones the first. Memory is open to
+//! every group, so there is always one. Where it is the only one, as once the registers are in use,
+//! it is taken and no path is looked for.
 //!
 //! ```text
 //!   block 0 ends at its exit           block 1 begins at its entry

@@ -16,7 +16,7 @@ ghost use Rattle.al_edge.specs.Weighed.{IsLightest};
 
 use crate::cheapest::cheapest;
 use crate::members::{ends_of, layer_of};
-use crate::weights::weights;
+use crate::weights::{is_memory_alone, weights};
 use net_cost::{CostModel, Event};
 use net_form::{Net, Plan, Prices, Taken};
 use net_path::Work;
@@ -38,7 +38,8 @@ fn take_group(net: &Net, used: &mut Taken, group: u32, place: Place)
     }
 }
 
-// The place that costs a group least, of those that the groups before it leave open.
+// The place that costs a group least, of those that the groups before it leave open. Where that is
+// memory alone, no path is looked for.
 fn best_place<F: Fn(Event, u32) -> u32>(
     work: &mut Work,
     net: &Net,
@@ -61,6 +62,9 @@ fn best_place<F: Fn(Event, u32) -> u32>(
     ensures family { work.new.family ≡ work.old.family }
     ensures reserved { IsReservedFor net.now work.new }
 {
+    if is_memory_alone(net, used, group) {
+        return Place::Mem;
+    }
     cheapest(&weights(work, net, model, prices, free, used, group))
 }
 

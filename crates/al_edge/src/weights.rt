@@ -6,6 +6,7 @@ ghost use Rattle.std.specs.Prelude.{None, Some, slice_index_or, if◌then◌else
 ghost use Rattle.net_form.specs.Admitted.{strand_at};
 ghost use Rattle.al_laws.specs.Greedy.{is_group};
 ghost use Rattle.pra_base.specs.declared.ids.Place.{Place as AnyPlace};
+ghost use Rattle.pra_base.specs.declared.ids.Place.TheVariants.{Mem};
 ghost use Rattle.pra_base.specs.Places.{number, allows, place_count};
 ghost use Rattle.net_cost.specs.Models.{Keeps, weights_of};
 ghost use Rattle.net_form.specs.Formed.{IsFormed};
@@ -24,7 +25,7 @@ use crate::members::{counts, ends_of, enters_alone, group_ends, layer_of, leaves
 use net_cost::{CostModel, Event};
 use net_form::{Net, Prices, Taken, TieEnd};
 use net_path::{Work, costs_from, costs_to, least};
-use pra_base::places::{EVERY, allows, meet, without};
+use pra_base::places::{EVERY, MEMORY, allows, meet, without};
 use pra_base::{Mask, Place};
 
 // The places of a mask at which the end may be too.
@@ -52,6 +53,17 @@ fn places_for_all(net: &Net, used: &Taken, group: u32) -> Mask
         places = narrowed(net, used, *end, places);
     }
     places
+}
+
+/// Whether no place but memory is open to the group.
+pub(crate) fn is_memory_alone(net: &Net, used: &Taken, group: u32) -> bool
+    requires net { IsFormed net.now }
+    requires used { IsRoomOf net.now used.now }
+    requires group { group < net.now.groups }
+    ensures { result ≡ true → (p : AnyPlace) →
+        suits_all net.now used.now.regs group p ≡ true → p ≡ Mem }
+{
+    places_for_all(net, used, group) == MEMORY
 }
 
 // What a strand costs at least with its ends in the group at the place.
@@ -84,7 +96,7 @@ fn cost_at<F: Fn(Event, u32) -> u32>(
     }
 }
 
-// The same, place by place.
+// Whether all ends of the group may be at it, for each place.
 fn open_places(net: &Net, used: &Taken, group: u32) -> [bool; 14]
     requires net { IsFormed net.now }
     requires used { IsRoomOf net.now used.now }
@@ -99,7 +111,7 @@ fn open_places(net: &Net, used: &Taken, group: u32) -> [bool; 14]
     opens
 }
 
-// The same, if this place is open.
+// What a strand costs at least with its ends there, if this place is open.
 fn cost_if_open<F: Fn(Event, u32) -> u32>(
     work: &mut Work,
     net: &Net,
@@ -237,21 +249,7 @@ fn costs_by_exit<F: Fn(Event, u32) -> u32>(
     known(&found)
 }
 
-// Whether one place is open at most.
-fn is_one_open(opens: &[bool; 14]) -> bool {
-    let mut is_found = false;
-    for number in 0..14usize {
-        if opens[number] && is_found {
-            return false;
-        }
-        is_found = is_found || opens[number];
-    }
-    true
-}
-
-// What a strand costs at least at each open place, with its ends in the group there. Where one
-// place alone is open, as is memory once the registers are in use, a search for it takes less time
-// than one for all.
+// What a strand costs at least at each open place, with its ends in the group there.
 fn costs_at<F: Fn(Event, u32) -> u32>(
     work: &mut Work,
     net: &Net,
@@ -275,9 +273,7 @@ fn costs_at<F: Fn(Event, u32) -> u32>(
     ensures family { work.new.family ≡ work.old.family }
     ensures reserved { IsReservedFor net.now work.new }
 {
-    if is_one_open(opens) {
-        costs_by_place(work, net, model, prices, free, group, opens, strand)
-    } else if enters_alone(net, group, strand) {
+    if enters_alone(net, group, strand) {
         costs_by_entry(work, net, model, prices, free, group, opens, strand)
     } else if leaves_alone(net, group, strand) {
         costs_by_exit(work, net, model, prices, free, group, opens, strand)

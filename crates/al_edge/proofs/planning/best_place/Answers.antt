@@ -3,6 +3,7 @@ use Rattle.pra_base.proofs.PlaceNumbers.{number_below}
 use Rattle.net_cost.specs.Models.{weights_of}
 use Rattle.al_edge.specs.Cheapest.{slot}
 use Rattle.al_edge.proofs.OpenPlaces.{memory_suits}
+use Rattle.al_edge.proofs.SomeLeast.{memory_alone}
 use Rattle.al_edge.proofs.Sums.{best, some_weight}
 use Rattle.al_edge.proofs.planning.best_place.Goals as goal
 
@@ -20,3 +21,8 @@ pub returns-clause-best : goal.returns-clause-best
 returns-clause-best g c = best c.args.net.now (weights_of c.args.model.now) c.args.prices.now
     c.args.used.now.regs c.args.group c.weights.result c.weights.ensures.weights c.cheapest.result
     c.cheapest.ensures
+
+pub returns-then-is_memory_alone-clause-best : goal.returns-then-is_memory_alone-clause-best
+returns-then-is_memory_alone-clause-best g c =
+    memory_alone c.args.net.now c.requires.net (weights_of c.args.model.now) c.args.prices.now
+    c.args.used.now.regs c.args.group (c.is_memory_alone.ensures c.if-is_memory_alone.true)
