@@ -11,5 +11,6 @@ pub mod SettleRows
 pub mod SettleShut
 pub mod SettleStrand
 pub mod SettleSums
+pub mod SettleUsers
 pub mod SettleVariable
 pub mod Unused

@@ -133,6 +133,57 @@ fn draft_strand<F: Fn(Event, u32) -> u32>(
     }
 }
 
+// Whether a strand has an extra.
+fn has_extras(net: &Net, strand: usize) -> bool
+    requires net { IsBuilt net.now }
+    requires strand { strand < length net.now.strands }
+{
+    let first = net.first_extra(strand);
+    first < net.extras.len() && net.extras[first].strand as usize == strand
+}
+
+// Whether those of these strands that have extras pay a price or more already, at a place wherever
+// they are tied, or one of them cannot go so at all.
+fn users_pay<F: Fn(Event, u32) -> u32>(
+    work: &mut Work,
+    spare: &mut Spare,
+    net: &Net,
+    model: &CostModel<F>,
+    strands: &[u32],
+    place: Place,
+    price: i128,
+) -> bool
+    requires kept { Keeps F.Fn model.now }
+    requires net { IsBuilt net.now }
+    requires work { IsReservedFor net.now work.old }
+    requires spare { IsSpareOf net.now spare.old }
+    requires strands { AreStrands net.now strands.now }
+    requires least { pos 0 <ℤ price }
+    requires most { price ≤ℤ pos (2 ^ 124) }
+    ensures spare { IsSpareOf net.now spare.new }
+    ensures taken { spare.new.taken ≡ spare.old.taken }
+    ensures pay { IsTrue result →
+        PayAtLeast net.now (weights_of model.now) spare.old.taken strands.now place price }
+    ensures family { work.new.family ≡ work.old.family }
+    ensures reserved { IsReservedFor net.now work.new }
+{
+    let mut total = 0i128;
+    for at in 0..strands.len() {
+        let strand = strands[at] as usize;
+        if !has_extras(net, strand) {
+            continue;
+        }
+        let Some(cost) = draft_strand(work, spare, net, model, strand, place) else {
+            return true;
+        };
+        total += cost as i128;
+        if total >= price {
+            return true;
+        }
+    }
+    false
+}
+
 /// Drafts least paths of the strands of a variable, at a place wherever it is tied, and answers
 /// what they pay together. There is none where they cannot pay less than a price.
 pub(crate) fn draft_strands<F: Fn(Event, u32) -> u32>(
@@ -163,6 +214,10 @@ pub(crate) fn draft_strands<F: Fn(Event, u32) -> u32>(
     ensures family { work.new.family ≡ work.old.family }
     ensures reserved { IsReservedFor net.now work.new }
 {
+    // most strands only pass by and pay nothing, so those that do pay are asked first
+    if users_pay(work, spare, net, model, strands, place, price) {
+        return None;
+    }
     let mut total = 0i128;
     for at in 0..strands.len() {
         let cost = draft_strand(work, spare, net, model, strands[at] as usize, place)?;

@@ -8,12 +8,12 @@ use Rattle.al_iter.proofs.settle_place.draft_strands.Given as goal
 abbrev pub invariant-loop-at : goal.invariant-loop-at
 invariant-loop-at g l = record {
   spare : IsSpareOf l.net l.spare;
-  taken : l.spare.taken ≡ l.initial.spare.taken;
-  drafts : (k : ℕ) → k < l.at → IsDraft l.net (weights_of l.model) l.initial.spare.taken l.place
+  taken : l.spare.taken ≡ l.fn.spare.taken;
+  drafts : (k : ℕ) → k < l.at → IsDraft l.net (weights_of l.model) l.fn.spare.taken l.place
       l.spare.routes (get_or l.strands k 0);
   sum : l.total ≡ sum_of l.net (weights_of l.model) l.spare.routes (take l.at l.strands);
   least : pos 0 ≤ℤ l.total;
   less : l.total <ℤ l.price;
-  family : l.work.family ≡ l.initial.work.family;
+  family : l.work.family ≡ l.fn.work.family;
   reserved : IsReservedFor l.net l.work;
 }
