@@ -133,6 +133,19 @@ fn log_of(alloc: Global, strands: usize, groups: usize) -> Result<Log, AllocErro
     })
 }
 
+// A round searches only where it may make a visit for so many layers at least.
+const MOST_LAYERS_A_VISIT: u64 = 4;
+
+// The strands to be searched: none where a round may make too few visits for so many.
+fn searched(alloc: Global, net: &Net, most_visits: u64) -> Result<Vec<Span>, AllocError> {
+    let spans = spans_of(alloc, net)?;
+    let (layers, _) = sizes(&spans);
+    if most_visits < layers as u64 / MOST_LAYERS_A_VISIT {
+        return Ok(Vec::new(alloc));
+    }
+    Ok(spans)
+}
+
 // Where each strand may be at each of its steps: where it may be at all layers there.
 fn masks_of(
     alloc: Global,
@@ -156,13 +169,14 @@ fn masks_of(
 }
 
 impl Search {
-    /// Room for the strands of a network, and for rounds of so many visits at most.
+    /// Room for the strands of a network, and for rounds of so many visits at most. Where these are
+    /// too few for the network no strand is searched, and there is no room for any.
     ///
     /// # Errors
     ///
     /// Where there is no memory for it.
     pub fn reserve(alloc: Global, net: &Net, most_visits: u64) -> Result<Search, OutOfMemory> {
-        let spans = spans_of(alloc, net)?;
+        let spans = searched(alloc, net, most_visits)?;
         let (layers, steps) = sizes(&spans);
         let longest = longest_variable(alloc, net, &spans)?;
         let strands = spans.len();
@@ -190,13 +204,17 @@ impl Search {
 
     /// How many visits a round makes that would make so many: where that is more than it may, half
     /// as many as it may for each such round just before it that found nothing, and none where that
-    /// would be less than one for each eighth layer.
+    /// would be too few.
     pub(crate) fn allowed_visits(&self, wanted: u64) -> u64 {
         if wanted <= self.most_visits {
             return wanted;
         }
         let share = self.most_visits.checked_shr(self.fruitless).unwrap_or(0);
-        if share < self.layers / 8 { 0 } else { share }
+        if share < self.layers / MOST_LAYERS_A_VISIT {
+            0
+        } else {
+            share
+        }
     }
 
     /// Notes that a round that would have made so many visits found something, or nothing.
