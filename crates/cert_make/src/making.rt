@@ -65,6 +65,8 @@ fn cert_of(alloc: Global, out: ProcOut) -> Result<Cert, OutOfMemory>
         lines,
         ..
     } = out;
+    let routes = routes.unpacked(alloc)?;
+    let prices = prices.unpacked(alloc)?;
     let caps = caps_of(alloc, prices.caps.as_slice())?;
     let mems = caps_of(alloc, prices.mems.as_slice())?;
     let ties = numbers_of(alloc, &prices.ties)?;

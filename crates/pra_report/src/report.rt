@@ -8,7 +8,8 @@ ghost use Rattle.pra_report.specs.Report.{report_text, generated_line, output_li
 ghost use Rattle.pra_report.specs.Report.{procedure_lines};
 
 use crate::text::procedure_line;
-use net_form::{Line, Prices, Routes};
+use net_form::Line;
+use net_kept::{KeptPrices, KeptRoutes};
 use pra_base::{OutOfMemory, VProc};
 use pra_list::Seq;
 use std::alloc::Global;
@@ -24,9 +25,9 @@ pub struct ProcOut {
     /// Its selected code.
     pub code: VProc,
     /// The routes that the image carries.
-    pub routes: Routes,
+    pub routes: KeptRoutes,
     /// The prices that the last bound stands on.
-    pub prices: Prices,
+    pub prices: KeptPrices,
     /// A line for round 0, and one for each round that ran.
     pub lines: Seq<Line>,
 }

@@ -3,6 +3,7 @@
 ghost use Rattle.std.specs.Prelude.{◌≡◌, ◌≤◌, [], ◌∷◌, ◌++◌, length, IfOk};
 
 use net_form::{Line, Prices, Routes, TieNumbers};
+use net_kept::{KeptPrices, KeptRoutes};
 use pra_base::{OutEvent, OutOfMemory, ProcId, VProc};
 use pra_list::Seq;
 use pra_report::{
@@ -66,18 +67,20 @@ fn proc(alloc: Global, name: u8, line: Line) -> Result<ProcOut, OutOfMemory>
     bytes.push(name)?;
     let mut lines = Vec::new(alloc);
     lines.push(line)?;
+    let routes = Routes {
+        places: Seq::new(alloc),
+    };
+    let prices = Prices {
+        caps: Seq::new(alloc),
+        mems: Seq::new(alloc),
+        ties: TieNumbers::new(alloc),
+    };
     Ok(ProcOut {
         name: Seq::from_vec(bytes),
         frame: 20,
         code: no_code(alloc),
-        routes: Routes {
-            places: Seq::new(alloc),
-        },
-        prices: Prices {
-            caps: Seq::new(alloc),
-            mems: Seq::new(alloc),
-            ties: TieNumbers::new(alloc),
-        },
+        routes: KeptRoutes::of(alloc, &routes)?,
+        prices: KeptPrices::of(alloc, prices)?,
         lines: Seq::from_vec(lines),
     })
 }
