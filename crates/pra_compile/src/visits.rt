@@ -3,7 +3,8 @@
 use pra_base::{OutOfMemory, VProc};
 use std::alloc::Global;
 
-// Visits at most of a round of all procedures together.
+// Visits at most of a round of all procedures together. What a round does whether or not it
+// searches goes over each layer too, and counts as one.
 const MODULE_VISITS: u64 = 20_000_000;
 
 // The same of one of them, and what each may make, however small a part it is.
@@ -20,7 +21,8 @@ fn size_of(code: &VProc) -> u64 {
     instructions.saturating_mul(code.vars.len() as u64)
 }
 
-/// How many visits a round of each procedure makes at most: those of the module, shared out by size.
+/// How many visits a round of each procedure makes at most: those of the module, shared out by
+/// size.
 ///
 /// # Errors
 ///
@@ -31,8 +33,9 @@ pub fn shared_visits(alloc: Global, codes: &[VProc]) -> Result<Vec<u64>, OutOfMe
         all = all.saturating_add(size_of(code));
     }
     let mut visits = Vec::with_capacity(alloc, codes.len())?;
+    let left = MODULE_VISITS.saturating_sub(all);
     for code in codes {
-        let part = MODULE_VISITS.saturating_mul(size_of(code));
+        let part = left.saturating_mul(size_of(code));
         let share = part.checked_div(all).unwrap_or(0);
         visits.push(share.clamp(LEAST_VISITS, PROCEDURE_VISITS))?;
     }
