@@ -1,6 +1,6 @@
 -- The numbers of ties by those that are not 0.
-use Rattle.std.specs.Prelude.{◌≡◌, ℕ, ℤ, pos, ◌*◌, ◌<◌, ◌≤◌, List, replicate}
-use Rattle.std.specs.Prelude.{slice_set, slice_index_or}
+use Rattle.std.specs.Prelude.{◌≡◌, ℕ, ℤ, pos, ◌*◌, ◌<◌, ◌≤◌, List, [], ◌∷◌, ◌++◌, length}
+use Rattle.std.specs.Prelude.{replicate, slice_set, slice_index_or}
 use Rattle.std.specs.List.{fold, All}
 use Rattle.net_kept.specs.declared.prices.NumberAt.{NumberAt}
 
@@ -22,3 +22,20 @@ pub record ArePackedTo (ties done : ℕ) (numbers : List ℤ) (entries : List Nu
   pub same : (k : ℕ) → k < done
       → slice_index_or (spread ties entries) k (pos 0) ≡ slice_index_or numbers k (pos 0)
   pub zero : (k : ℕ) → done ≤ k → slice_index_or (spread ties entries) k (pos 0) ≡ pos 0
+
+-- entries, by their indexes and their numbers
+abbrev pub joined : List ℕ → List ℤ → List NumberAt
+joined [] numbers = []
+joined (i ∷ is) [] = []
+joined (i ∷ is) (z ∷ zs) = record { index = i; number = z } ∷ joined is zs
+
+-- an entry more
+pub record IsAdded (is : List ℕ) (zs : List ℤ) (entry : NumberAt) (js : List ℕ) (ys : List ℤ)
+    : Type 0 where
+  pub long : length js ≡ length ys
+  pub same : joined js ys ≡ joined is zs ++ entry ∷ []
+
+-- what is kept of the numbers of so many ties
+pub record AreKept (ties : ℕ) (is : List ℕ) (zs : List ℤ) : Type 0 where
+  pub long : length is ≡ length zs
+  pub within : AreWithin ties (joined is zs)

@@ -1,7 +1,8 @@
 // Prices, packed.
 
-ghost use Rattle.std.specs.Prelude.{◌≡◌, ◌<◌, ◌+◌, ◌*◌, ℕ, length, IfOk};
-ghost use Rattle.net_kept.specs.Numbers.{put_number, spread, AreWithin, ArePackedTo};
+ghost use Rattle.std.specs.Prelude.{◌≡◌, ◌<◌, ◌+◌, ◌*◌, ℕ, pos, length, slice_index_or, IfOk};
+ghost use Rattle.net_kept.specs.Numbers.{put_number, spread, joined, AreWithin, ArePackedTo};
+ghost use Rattle.net_kept.specs.Numbers.{IsAdded};
 
 use net_form::{Prices, TieNumbers};
 use pra_base::OutOfMemory;
@@ -26,7 +27,8 @@ pub struct KeptPrices {
     mems: Seq<u64>,
     // How many ties have numbers.
     ties: usize,
-    numbers: Vec<NumberAt>,
+    indexes: Vec<u32>,
+    numbers: Vec<i64>,
 }
 
 impl Model for KeptPrices {
@@ -34,15 +36,15 @@ impl Model for KeptPrices {
 
     ghost Value = { Prices };
 
-    ghost use Rattle.net_kept.specs.Numbers.{spread, AreWithin};
+    ghost use Rattle.net_kept.specs.Numbers.{spread, joined, AreKept};
 
     ghost view = { λ kept. record {
       caps = kept.caps;
       mems = kept.mems;
-      ties = spread kept.ties kept.numbers.items;
+      ties = spread kept.ties (joined kept.indexes.items kept.numbers.items);
     } };
 
-    ghost invariant = { λ kept. AreWithin kept.ties kept.numbers.items };
+    ghost invariant = { λ kept. AreKept kept.ties kept.indexes.items kept.numbers.items };
 }
 
 // Adds the numbers of one tie that are not 0.
@@ -85,6 +87,68 @@ fn packed(alloc: Global, numbers: &TieNumbers) -> Result<Vec<NumberAt>, OutOfMem
     Ok(entries)
 }
 
+// An index in 32 bits.
+fn short(index: usize) -> Result<u32, OutOfMemory>
+    ensures { IfOk result (λ short. short ≡ index) }
+{
+    u32::try_from(index).map_err(|_| OutOfMemory)
+}
+
+// Adds the index and the number of an entry.
+fn add_apart(
+    indexes: &mut Vec<u32>,
+    numbers: &mut Vec<i64>,
+    entry: NumberAt,
+) -> Result<(), OutOfMemory>
+    requires { length indexes.old.items ≡ length numbers.old.items }
+    ensures { IfOk result (λ _. IsAdded indexes.old.items numbers.old.items entry
+        indexes.new.items numbers.new.items) }
+{
+    let NumberAt { index, number } = entry;
+    indexes.push(short(index)?)?;
+    numbers.push(number)?;
+    Ok(())
+}
+
+// The indexes of entries and their numbers, each in a list.
+fn apart(alloc: Global, entries: &[NumberAt]) -> Result<(Vec<u32>, Vec<i64>), OutOfMemory>
+    ensures long { IfOk result (λ lists. length lists.0.items ≡ length lists.1.items) }
+    ensures same { IfOk result (λ lists. joined lists.0.items lists.1.items ≡ entries.now) }
+{
+    let mut indexes = Vec::with_capacity(alloc, entries.len())?;
+    let mut numbers = Vec::with_capacity(alloc, entries.len())?;
+    for entry in entries {
+        add_apart(&mut indexes, &mut numbers, *entry)?;
+    }
+    Ok((indexes, numbers))
+}
+
+fn entry_at(indexes: &[u32], numbers: &[i64], at: usize) -> NumberAt
+    requires index { at < length indexes.now }
+    requires number { at < length numbers.now }
+    ensures { result ≡ record {
+      index = slice_index_or indexes.now at 0;
+      number = slice_index_or numbers.now at (pos 0);
+    } }
+{
+    NumberAt {
+        index: indexes[at] as usize,
+        number: numbers[at],
+    }
+}
+
+// Entries of these indexes and numbers.
+fn together(alloc: Global, indexes: &[u32], numbers: &[i64]) -> Result<Vec<NumberAt>, OutOfMemory>
+    requires { length indexes.now ≡ length numbers.now }
+    ensures { IfOk result (λ entries. entries.items ≡ joined indexes.now numbers.now) }
+{
+    let mut entries = Vec::with_capacity(alloc, indexes.len())?;
+    for at in 0..indexes.len() {
+        entries.push(entry_at(indexes, numbers, at))?;
+    }
+    Ok(entries)
+}
+
 // Puts a number in its place.
 fn put(numbers: &mut TieNumbers, entry: NumberAt)
     requires { entry.index < length numbers.old }
@@ -115,11 +179,13 @@ impl KeptPrices {
         ensures { IfOk result (λ kept. kept ≡ prices) }
     {
         let Prices { caps, mems, ties } = prices;
-        let numbers = packed(alloc, &ties)?;
+        let entries = packed(alloc, &ties)?;
+        let (indexes, numbers) = apart(alloc, &entries)?;
         Ok(KeptPrices {
             caps,
             mems,
             ties: ties.ties(),
+            indexes,
             numbers,
         })
     }
@@ -136,9 +202,11 @@ impl KeptPrices {
             caps,
             mems,
             ties,
+            indexes,
             numbers,
         } = self;
-        let ties = spread_out(alloc, ties, numbers.as_slice())?;
+        let entries = together(alloc, &indexes, &numbers)?;
+        let ties = spread_out(alloc, ties, &entries)?;
         Ok(Prices { caps, mems, ties })
     }
 }
