@@ -105,6 +105,7 @@ def main():
         "repeats.ob": module("REPEAT UNTIL b", 2),
         "repeats_15.ob": module("REPEAT UNTIL b", 2, 15),
         "whiles.ob": module("WHILE b DO END", 2),
+        "whiles_13.ob": module("WHILE b DO END", 2, 13),
         "ifs.ob": module("IF b THEN END", 2),
         "calls.ob": module("WriteLn", 1),
         "everywhere_400.cert": certificate(everywhere(400)),
