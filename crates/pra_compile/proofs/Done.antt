@@ -90,27 +90,27 @@ pub compiled_so : (program : Checked) (leaves : Leaving) (p : ℕ) (net : Net) (
     IsCompiledProc program leaves p compiled
 compiled_so program leaves p net routes prices compiled same_routes same_prices is admitted left
     made name frame of_flow = record {
-  translation = record {
-    made = is.is_selected.made;
-    code = compiled.out.code;
-    net = net;
-    routes = routes;
-    placed = compiled.placed;
-  };
-  is = translated program p is.proc is.selected compiled.out.code net routes compiled.placed
-      is.there is.is_selected is.preserves is.kinds is.tidy admitted made;
-  placed = refl;
-  kept = record {
-    name = name;
-    frame = frame;
-    of_flow = frame ∙ of_flow;
-    code = refl;
-    routes = same_routes;
-    left = subst (λ (r : Routes). leaves p net r compiled.out.prices compiled.out.lines)
-        (sym same_routes) (subst (λ (q : Prices). leaves p net routes q compiled.out.lines)
-        (sym same_prices) left);
-  };
-}
+      translation = record {
+        made = is.is_selected.made;
+        code = compiled.out.code;
+        net = net;
+        routes = routes;
+        placed = compiled.placed;
+      };
+      is = translated program p is.proc is.selected compiled.out.code net routes compiled.placed
+          is.there is.is_selected is.preserves is.kinds is.tidy admitted made;
+      placed = refl;
+      kept = record {
+        name = name;
+        frame = frame;
+        of_flow = frame ∙ of_flow;
+        code = refl;
+        routes = same_routes;
+        left = subst (λ (r : Routes). leaves p net r compiled.out.prices compiled.out.lines)
+            (sym same_routes) (subst (λ (q : Prices). leaves p net routes q compiled.out.lines)
+            (sym same_prices) left);
+      };
+    }
 
 -- ---- all of them
 

@@ -68,5 +68,10 @@ fn prices(rt: HostRuntime) -> Result<(), Fail> {
     check_prices(&rt, alloc, 3, &[])?;
     check_prices(&rt, alloc, 1, &[(0, 7), (12, -1)])?;
     check_prices(&rt, alloc, 4, &[(13, -5), (25, 1 << 40), (51, i64::MIN)])?;
-    check_prices(&rt, alloc, 4, &[(14, 6), (14, 0), (30, 0), (50, 2), (50, 3)])
+    check_prices(
+        &rt,
+        alloc,
+        4,
+        &[(14, 6), (14, 0), (30, 0), (50, 2), (50, 3)],
+    )
 }
