@@ -174,7 +174,8 @@ impl KeptPrices {
     ///
     /// # Errors
     ///
-    /// Where there is no memory for the numbers that are not 0.
+    /// Where there is no memory for the numbers that are not 0. One of them at an index that 32
+    /// bits don't hold is taken for that too: no sized code has it.
     pub fn of(alloc: Global, prices: Prices) -> Result<KeptPrices, OutOfMemory>
         ensures { IfOk result (λ kept. kept ≡ prices) }
     {

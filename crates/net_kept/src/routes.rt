@@ -60,7 +60,8 @@ impl KeptRoutes {
     ///
     /// # Errors
     ///
-    /// Where there is no memory, and where a strand has 2^32 places or more.
+    /// Where there is no memory. A strand of 2^32 places or more is taken for that too: no sized
+    /// code has it.
     pub fn of(alloc: Global, routes: &Routes) -> Result<KeptRoutes, OutOfMemory>
         ensures { IfOk result (λ kept. kept ≡ routes.now) }
     {
