@@ -7,7 +7,7 @@
 // and Sotomayor 1986): there are least ones and greatest ones, and those between on a line are such
 // prices too.
 
-use crate::lists::at;
+use crate::lists::{at, short};
 use crate::pace::{MUST, Pace};
 use crate::rows::{CLOSED, CONSTANT, MEMORY, Registers, Row, is_closed};
 
@@ -18,6 +18,11 @@ pub(crate) type Bids = [i32; 8];
 type Holders = [usize; 8];
 
 const NOBODY: usize = usize::MAX;
+
+// Which register each came from. The last two numbers are of no register.
+type Origins = [u32; 8];
+
+const NOWHERE: u32 = u32::MAX;
 
 // A bid that is never taken.
 const REFUSED: i32 = -CLOSED;
@@ -80,20 +85,22 @@ fn bids_by(bids: &[Bids], strand: usize) -> Bids {
 #[derive(Clone, Copy)]
 struct Ousting {
     lost: Bids,
-    from: Holders,
+    from: Origins,
 }
 
-// The holder of register r goes on to others, where that loses less.
+// The holder of register r goes on to others, where that loses less. All eight are computed without
+// a condition for any of them, so that they are lanes of vectors.
 fn oust(ousting: &mut Ousting, holder: &Bids, r: usize) -> bool {
-    let base = ousting.lost[r % 8].wrapping_add(holder[r % 8]);
+    let old = *ousting;
+    let base = old.lost[r % 8].wrapping_add(holder[r % 8]);
+    let register = short(r);
     let mut changed = false;
     for q in 0..8usize {
         let lost = base.wrapping_sub(holder[q]);
-        if lost < ousting.lost[q] {
-            ousting.lost[q] = lost;
-            ousting.from[q] = r;
-            changed = true;
-        }
+        let is_less = lost < old.lost[q];
+        ousting.lost[q] = if is_less { lost } else { old.lost[q] };
+        ousting.from[q] = if is_less { register } else { old.from[q] };
+        changed |= is_less;
     }
     changed
 }
@@ -107,7 +114,7 @@ fn ousting_of(bids: &[Bids], holders: &Holders, strand: usize) -> Ousting {
     }
     let mut ousting = Ousting {
         lost,
-        from: [NOBODY; 8],
+        from: [NOWHERE; 8],
     };
     for _ in 0..STEPS {
         let mut changed = false;
@@ -147,11 +154,11 @@ fn hand_on(holders: &mut Holders, ousting: &Ousting, end: usize, strand: usize) 
     let mut register = end;
     for _ in 0..6u8 {
         let from = ousting.from[register % 8];
-        if from == NOBODY {
+        if from == NOWHERE {
             break;
         }
-        holders[register % 8] = holders[from % 8];
-        register = from;
+        holders[register % 8] = holders[from as usize % 8];
+        register = from as usize;
     }
     holders[register % 8] = strand;
 }
