@@ -7,7 +7,7 @@ use Rattle.std.proofs.lemmas.List.{get_or_default, get_or_append_left, length-ap
 use Rattle.net_form.specs.declared.net.Strand.{Strand}
 use Rattle.net_form.specs.Admitted.{no_strand}
 use Rattle.net_build.specs.Order.{Key, key_of, Precedes, block, first, var, AreInOrder, IsBetween}
-use Rattle.net_build.specs.Order.{StartsAt, AreStarts}
+use Rattle.net_build.specs.Order.{StartsAt, AreStarts, IsEntry}
 
 pub trans : (a b c : Key) → Precedes a b → Precedes b c → Precedes a c
 trans a b c (block x) (block y) = block (omega (arith, x, y))
@@ -67,6 +67,21 @@ one_place ss place n k d order bounds lt same = by (cases_lt k n) (cases_lt n k)
     by (inr le) (inl more) =
         absurd (bounds.behind n d (omega arith) (omega (arith, more, lt))
         (subst (Precedes (key_of (get_or ss n d))) same (order n k d more lt)))
+    by (inr le) (inr ge) = omega (arith, le, ge)
+
+pub one_entry : (ss : List Strand) (b v n k : ℕ) (d : Strand) → AreInOrder ss → IsEntry ss b v n →
+    k < length ss → key_of (get_or ss k d) ≡ (b, 0, v) → n ≡ k
+one_entry ss b v n k d order here lt same = by (cases_lt k n) (cases_lt n k)
+  where
+    twice : (a c : Key) → a ≡ (b, 0, v) → c ≡ (b, 0, v) → Precedes a c → ⊥
+    twice a c p q before = irreflexive (b, 0, v) (b, 0, v) refl refl refl
+        (subst (Precedes (b, 0, v)) q (subst (λ x. Precedes x c) p before))
+
+    by : (k < n) ⊎ (n ≤ k) → (n < k) ⊎ (k ≤ n) → n ≡ k
+    by (inl less) more = absurd (twice (key_of (get_or ss k d)) (key_of (get_or ss n d)) same
+        (here.key d) (order k n d less here.within))
+    by (inr le) (inl more) = absurd (twice (key_of (get_or ss n d)) (key_of (get_or ss k d))
+        (here.key d) same (order n k d more lt))
     by (inr le) (inr ge) = omega (arith, le, ge)
 
 -- ---- where the strands of a block begin

@@ -2,16 +2,19 @@
 use Rattle.std.proofs.Common.{ℕ, zero, suc, ◌≡◌, ◌+◌, ◌-◌, ◌<◌, ◌≤◌, Bool, true, false, cond, List}
 use Rattle.std.proofs.Common.{[], ◌∷◌, ◌++◌, map, length, get_or, take, drop, refl, sym, ap, ◌∙◌}
 use Rattle.std.proofs.Common.{arith, append-nil, Some, None, Option, option_to_list}
-use Rattle.std.proofs.Common.{append_assoc}
+use Rattle.std.proofs.Common.{append_assoc, ◌⊎◌, inl, inr, min, max}
 use Rattle.std.specs.Prelude.{count_by}
 use Rattle.std.specs.List.{range_with_len, flat_map, filter_map, prefix_len, cons_option}
 use Rattle.std.specs.List.{enumerate_from}
+use Rattle.std.proofs.lemmas.Bool.{cases_lt, lt-ltb, le-ltb}
 use Rattle.std.proofs.lemmas.List.{take_all, map-append}
 use Rattle.std.proofs.lemmas.Grind.{flat_map-append}
 use Rattle.std.proofs.lemmas.List.Elements.{filter_map-append}
 use Rattle.std.proofs.lemmas.List.FromFn.{length-map-range_with_len, length-range_with_len}
 use Rattle.std.proofs.lemmas.List.Sums.{prefix_len-le-length, sum_by_push, count_by-le-length}
 use Rattle.pra_list.proofs.Growing.{last_range, range_next}
+use Rattle.net_build.specs.Order.{within}
+use Rattle.net_build.proofs.Comprehended.{filter_map-empty}
 
 -- ---- the run from l on of what passes, below n, each mapped
 module _ (p : ℕ → Bool) (m : ℕ → ℕ) (n : ℕ) where
@@ -144,6 +147,99 @@ added_none {A} f n (suc k) none =
     (none (n + k) (omega arith) (omega arith))
     ∙ append-nil (filter_map f (range_with_len 0 (n + k)))
     ∙ added_none f n k (λ x le lt. none x le (omega (arith, lt)))
+
+-- where something is made of one number at most, or of two
+within_below : {A : Type 0} (f : ℕ → Option A) (n k : ℕ) → k < n → within f n k ≡ f k
+within_below f n k lt = ap (λ b. cond b (f k) None) (lt-ltb k n lt)
+
+pub within_past : {A : Type 0} (f : ℕ → Option A) (n k : ℕ) → n ≤ k → within f n k ≡ None
+within_past f n k le = ap (λ b. cond b (f k) None) (le-ltb k n le)
+
+-- what is made of the numbers up to one, where nothing is made of those behind it
+last_made : {A : Type 0} (f : ℕ → Option A) (n a : ℕ) → a < n →
+    ((k : ℕ) → a < k → k < n → f k ≡ None) → filter_map f (range_with_len 0 n) ≡
+    filter_map f (range_with_len 0 a) ++ option_to_list (f a)
+last_made f n a lt none =
+    let long : a + 1 + (n - (a + 1)) ≡ n = omega (arith, lt) in
+    sym (ap (λ m. filter_map f (range_with_len 0 m)) long)
+    ∙ added_none f (a + 1) (n - (a + 1))
+    (λ k le lt2. none k (omega (arith, le)) (omega (arith, lt2, long)))
+    ∙ filter_map_more f a
+
+nothing_made : {A : Type 0} (f : ℕ → Option A) (n : ℕ) → ((k : ℕ) → k < n → f k ≡ None) →
+    filter_map f (range_with_len 0 n) ≡ []
+nothing_made f n none = filter_map-empty f n 0 (λ k le lt. none k (omega (arith, lt)))
+
+pub made_of_none : {A : Type 0} (f : ℕ → Option A) (n : ℕ) (out : List A) →
+    ((k : ℕ) → k < n → f k ≡ None) → out ≡ out ++ filter_map f (range_with_len 0 n)
+made_of_none f n out none = sym (ap (λ l. out ++ l) (nothing_made f n none) ∙ append-nil out)
+
+made_of_one : {A : Type 0} (f : ℕ → Option A) (n a : ℕ) →
+    ((k : ℕ) → k < n → (a ≡ k → ⊥) → f k ≡ None) → filter_map f (range_with_len 0 n) ≡
+    option_to_list (within f n a)
+made_of_one {A} f n a none = by (cases_lt a n)
+  where
+    by : (a < n) ⊎ (n ≤ a) → filter_map f (range_with_len 0 n) ≡ option_to_list (within f n a)
+    by (inl lt) =
+        last_made f n a lt (λ k more lt2. none k lt2 (λ e. omega (arith, e, more)))
+        ∙ ap (λ l. l ++ option_to_list (f a)) (nothing_made f a
+        (λ k less. none k (omega (arith, less, lt)) (λ e. omega (arith, e, less))))
+        ∙ sym (ap (λ o. option_to_list o) (within_below f n a lt))
+    by (inr le) = nothing_made f n (λ k lt. none k lt (λ e. omega (arith, e, lt, le)))
+        ∙ sym (ap (λ o. option_to_list o) (within_past f n a le))
+
+made_of_two : {A : Type 0} (f : ℕ → Option A) (n a b : ℕ) → a < b →
+    ((k : ℕ) → k < n → (a ≡ k → ⊥) → (b ≡ k → ⊥) → f k ≡ None) →
+    filter_map f (range_with_len 0 n) ≡
+    option_to_list (within f n a) ++ option_to_list (within f n b)
+made_of_two {A} f n a b less none = by (cases_lt b n)
+  where
+    by : (b < n) ⊎ (n ≤ b) → filter_map f (range_with_len 0 n) ≡ option_to_list (within f n a) ++
+        option_to_list (within f n b)
+    by (inl lt) =
+        last_made f n b lt (λ k more lt2. none k lt2 (λ e. omega (arith, e, more, less))
+        (λ e. omega (arith, e, more)))
+        ∙ ap (λ l. l ++ option_to_list (f b)) (made_of_one f b a
+        (λ k lt2 other. none k (omega (arith, lt, lt2)) other (λ e. omega (arith, e, lt2))))
+        ∙ ap (λ o. option_to_list o ++ option_to_list (f b)) (within_below f b a less ∙ sym
+        (within_below f n a (omega (arith, less, lt))))
+        ∙ sym (ap (λ o. option_to_list (within f n a) ++ option_to_list o) (within_below f n b lt))
+    by (inr le) =
+        made_of_one f n a
+        (λ k lt other. none k lt other (λ e. omega (arith, e, lt, le)))
+        ∙ sym (append-nil (option_to_list (within f n a)))
+        ∙ sym (ap (λ o. option_to_list (within f n a) ++ option_to_list o) (within_past f n b le))
+
+-- the same of two numbers in any order, which may be one
+module _ {A : Type 0} (f : ℕ → Option A) (n one other : ℕ)
+    (none : (k : ℕ) → k < n → (one ≡ k → ⊥) → (other ≡ k → ⊥) → f k ≡ None) (start : List A) where
+  pub made_of_same : (a : ℕ) (new : List A) → a ≡ one → one ≡ other →
+      new ≡ start ++ option_to_list (within f n a) →
+      new ≡ start ++ filter_map f (range_with_len 0 n)
+  made_of_same a new e same step = step ∙ ap (λ l. start ++ l) (sym (made_of_one f n a
+      (λ k lt apart. none k lt (λ p. apart (e ∙ p)) (λ p. apart (e ∙ same ∙ p)))))
+
+  pub made_of_both : (a b : ℕ) (out new : List A) → a ≡ min one other → b ≡ max one other →
+      (one ≡ other → ⊥) → out ≡ start ++ option_to_list (within f n a) →
+      new ≡ out ++ option_to_list (within f n b) →
+      new ≡ start ++ filter_map f (range_with_len 0 n)
+  made_of_both a b out new low high apart first second =
+      second ∙ ap (λ l. l ++ option_to_list (within f n b)) first
+      ∙ append_assoc start (option_to_list (within f n a)) (option_to_list (within f n b))
+      ∙ ap (λ l. start ++ l) (sym (made_of_two f n a b (omega (arith, low, high, apart))
+      (λ k lt p q. none k lt (λ e. is_one k e p q) (λ e. is_other k e p q))))
+    where
+      is_one : (k : ℕ) → one ≡ k → (a ≡ k → ⊥) → (b ≡ k → ⊥) → ⊥
+      is_one k e p q = elim (cases_lt one other) as (λ _. ⊥) [
+        | inl lt ↦ p (omega (arith, low, lt, e))
+        | inr ge ↦ q (omega (arith, high, ge, e))
+      ]
+
+      is_other : (k : ℕ) → other ≡ k → (a ≡ k → ⊥) → (b ≡ k → ⊥) → ⊥
+      is_other k e p q = elim (cases_lt one other) as (λ _. ⊥) [
+        | inl lt ↦ q (omega (arith, high, lt, e))
+        | inr ge ↦ p (omega (arith, low, ge, e))
+      ]
 
 -- ---- comprehensions over what is left of a list
 

@@ -1,6 +1,6 @@
 -- The order of strands: by block, then first layer, then variable.
-use Rattle.std.specs.Prelude.{◌≡◌, ℕ, ◌<◌, ◌≤◌, Bool, ◌&&◌, nat_eq, if◌then◌else◌, List, length}
-use Rattle.std.specs.Prelude.{slice_index_or, Option, Some, None}
+use Rattle.std.specs.Prelude.{◌≡◌, ℕ, ◌<◌, ◌≤◌, Bool, ◌&&◌, nat_eq, nat_lt}
+use Rattle.std.specs.Prelude.{if◌then◌else◌, List, length, slice_index_or, Option, Some, None}
 use Rattle.std.specs.List.{AllPairs}
 use Rattle.pra_base.specs.declared.code.End.{End}
 use Rattle.net_form.specs.declared.net.Strand.{Strand}
@@ -40,6 +40,11 @@ pub record StartsAt (ss : List Strand) (b at : ℕ) : Type 0 where
   pub behind : (k : ℕ) (d : Strand) → at ≤ k → k < length ss →
       b ≤ (slice_index_or ss k d).block.0
 
+-- the strand of this number is the variable's at the entry of the block
+pub record IsEntry (ss : List Strand) (b v k : ℕ) : Type 0 where
+  pub within : k < length ss
+  pub key : (d : Strand) → key_of (slice_index_or ss k d) ≡ (b, 0, v)
+
 -- for each block the number of its first strand, or of the first one of a later block
 abbrev pub AreStarts : List Strand → List ℕ → Type 0
 AreStarts ss starts = (b : ℕ) → b < length starts → StartsAt ss b (slice_index_or starts b 0)
@@ -49,3 +54,7 @@ abbrev pub tie_to : List Strand → End → ℕ → ℕ → ℕ → Option Tie
 tie_to ss end v from k =
     if goes_on end v (slice_index_or ss k no_strand) then Some (record { from = from; to = k })
     else None
+
+-- what is made of number k, where this is below n
+abbrev pub within : {A : Type 0} → (ℕ → Option A) → ℕ → ℕ → Option A
+within f n k = if nat_lt k n then f k else None

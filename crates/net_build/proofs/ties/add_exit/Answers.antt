@@ -1,41 +1,42 @@
-use Rattle.std.proofs.Common.{ℕ, ◌≡◌, ◌+◌, ◌-◌, ◌<◌, ◌≤◌, ◌∙◌, ◌++◌, List, length, None, sym, ap}
-use Rattle.std.proofs.Common.{arith}
-use Rattle.std.specs.List.{range_with_len, filter_map}
-use Rattle.net_form.specs.declared.net.Tie.{Tie}
+use Rattle.std.proofs.Common.{inl, inr, length, refl, sym, subst}
+use Rattle.pra_base.specs.declared.code.End.{End}
+use Rattle.pra_base.specs.Code.{IsTarget}
 use Rattle.net_build.specs.Order.{tie_to}
-use Rattle.net_build.proofs.GoesOn.{no_tie}
-use Rattle.net_build.proofs.Ranges.{added_none, added_some}
+use Rattle.net_build.proofs.GoesOn.{no_tie, not_jump, not_branch, not_return}
+use Rattle.net_build.proofs.Ranges.{made_of_none}
 use Rattle.net_build.proofs.ties.add_exit.Goals as goal
 
-pub loop-to-preserved : goal.loop-to-preserved
-loop-to-preserved c =
-    let f = tie_to c.args.strands.now c.args.end.now c.args.var c.args.number in
-    let from = c.loop-to.from in
-    let to = c.in-Some.to in
-    let near = c.in-Some.ensures in
-    let end : from + (to - from) ≡ to = omega (arith, near.0.0) in
-    let none : (x : ℕ) → from ≤ x → x < from + (to - from) → f x ≡ None = λ x le lt.
-    no_tie c.args.strands.now c.args.end.now c.args.var c.args.number x
-    (near.1 x le (omega (arith, lt, end, near.0.1)) (omega (arith, lt, end))) in
-    let between = sym (ap (λ (n : ℕ). filter_map f (range_with_len 0 n)) end) ∙ added_none f from
-    (to - from) none in
-    record {
-      made = added_some f to c.args.out.now c.loop-to.out c.add_tie.new.out
-          (c.loop-to.invariant.made ∙ sym (ap (λ (l : List Tie). c.args.out.now ++ l) between))
-          c.in_ok-add_tie.ensures;
-      within = omega (arith, near.0.1);
-    }
+pub entry_of-to-requires-clause-block : goal.entry_of-to-requires-clause-block
+entry_of-to-requires-clause-block c =
+    c.requires.targets c.in-Jump.target.0
+    (subst (λ (e : End). IsTarget e c.in-Jump.target.0) (sym c.in-Jump.is) refl)
 
-pub returns : goal.returns
-returns c =
-    let f = tie_to c.args.strands.now c.args.end.now c.args.var c.args.number in
-    let from = c.loop-to.from in
-    let n = length c.args.strands.now in
-    let far = c.in_default.ensures in
-    let end : from + (n - from) ≡ n = omega (arith, c.loop-to.invariant.within) in
-    let none : (x : ℕ) → from ≤ x → x < from + (n - from) → f x ≡ None = λ x le lt.
-    no_tie c.args.strands.now c.args.end.now c.args.var c.args.number x
-    (far.1 x le (omega (arith, lt, end)) tt) in
-    let rest = sym (ap (λ (n : ℕ). filter_map f (range_with_len 0 n)) end) ∙ added_none f from
-    (n - from) none in
-    c.loop-to.invariant.made ∙ sym (ap (λ (l : List Tie). c.args.out.now ++ l) rest)
+pub entry_of-first-requires-clause-block : goal.entry_of-first-requires-clause-block
+entry_of-first-requires-clause-block c =
+    c.requires.targets c.in-Branch.one.0
+    (subst (λ (e : End). IsTarget e c.in-Branch.one.0) (sym c.in-Branch.is) (inl refl))
+
+pub entry_of-second-requires-clause-block : goal.entry_of-second-requires-clause-block
+entry_of-second-requires-clause-block c =
+    c.requires.targets c.in-Branch.other.0
+    (subst (λ (e : End). IsTarget e c.in-Branch.other.0) (sym c.in-Branch.is) (inr refl))
+
+pub add_both-requires : goal.add_both-requires
+add_both-requires c = λ k lt one other.
+    no_tie c.args.strands.now c.args.end.now c.args.var c.args.number k
+    (not_jump c.args.strands.now c.args.var k lt c.args.end.now c.in-Jump.target
+    c.entry_of-to.result c.in-Jump.is c.entry_of-to.ensures one)
+
+pub add_both-requires-in-Branch : goal.add_both-requires-in-Branch
+add_both-requires-in-Branch c = λ k lt one other.
+    no_tie c.args.strands.now c.args.end.now c.args.var c.args.number k
+    (not_branch c.args.strands.now c.args.var k lt c.args.end.now c.in-Branch.field-0
+    c.in-Branch.one c.in-Branch.other c.entry_of-first.result c.entry_of-second.result
+    c.in-Branch.is c.entry_of-first.ensures c.entry_of-second.ensures one other)
+
+pub returns-in-Return : goal.returns-in-Return
+returns-in-Return c =
+    made_of_none (tie_to c.args.strands.now c.args.end.now c.args.var c.args.number)
+    (length c.args.strands.now) c.args.out.now
+    (λ k lt. no_tie c.args.strands.now c.args.end.now c.args.var c.args.number k
+    (not_return c.args.strands.now c.args.var k lt c.args.end.now c.in-Return.is))

@@ -1,6 +1,6 @@
 use Rattle.std.proofs.Common.{◌+◌, ◌<◌, length, arith}
 use Rattle.std.proofs.lemmas.List.{get_or_read}
-use Rattle.net_build.proofs.Places.{one_place, starts_in_order}
+use Rattle.net_build.proofs.Places.{one_entry, one_place, starts_in_order}
 use Rattle.net_build.proofs.ties.entry_of.Goals as goal
 
 pub place_of-requires-clause-within : goal.place_of-requires-clause-within
@@ -14,6 +14,10 @@ place_of-requires-clause-within c =
     let le = starts_in_order c.args.strands.now b _ _ (c.requires.starts b lt)
     (c.requires.starts (b + 1) c.requires.block) in
     omega (arith, low, high, le)
+
+pub returns-then-is_entry : goal.returns-then-is_entry
+returns-then-is_entry c = λ k d lt same. one_entry c.args.strands.now c.args.block c.args.var _ k d
+    c.requires.order (c.is_entry.ensures c.if-is_entry.true) lt same
 
 pub returns : goal.returns
 returns c = λ k d lt same. one_place c.args.strands.now _ c.place_of.result k d c.requires.order
