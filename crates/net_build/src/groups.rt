@@ -71,7 +71,7 @@ fn numbers(alloc: Global, tied: &Seq<bool>, least: &Seq<u32>) -> Result<Seq<u32>
     requires count { length tied.now ≡ length least.now }
     ensures { IfOk result (λ made. made ≡ numbers_of tied.now least.now) }
 {
-    let mut made = Seq::new(alloc);
+    let mut made = Seq::from_vec(Vec::with_capacity(alloc, least.len() + 1)?);
     let mut found = 0u32;
     for end in 0..least.len() as u32 {
         made.push(found)?;

@@ -167,7 +167,7 @@ fn pair_ends(
     requires { All (λ e. e < 2 * length pairs.now) order.now }
     ensures { IfOk result (λ ends. ends ≡ map (pair_end pairs.now) order.now) }
 {
-    let mut ends = Seq::new(alloc);
+    let mut ends = Seq::from_vec(Vec::with_capacity(alloc, order.len())?);
     for end in order.as_slice() {
         ends.push(pair_end(pairs, *end))?;
     }

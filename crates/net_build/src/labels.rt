@@ -103,7 +103,7 @@ fn flatten(parents: &mut Seq<u32>)
 fn alone(alloc: Global, ends: u32) -> Result<Seq<u32>, AllocError>
     ensures { IfOk result (λ parents. parents ≡ range_with_len 0 ends) }
 {
-    let mut parents = Seq::new(alloc);
+    let mut parents = Seq::from_vec(Vec::with_capacity(alloc, ends as usize)?);
     for end in 0..ends {
         parents.push(end)?;
     }

@@ -34,7 +34,7 @@ fn blocks_of(alloc: Global, code: &VProc) -> Result<Seq<NetBlock>, AllocError>
     requires { IsSized code.now }
     ensures { IfOk result (λ blocks. blocks ≡ map net_block code.now.blocks) }
 {
-    let mut blocks = Seq::new(alloc);
+    let mut blocks = Seq::from_vec(Vec::with_capacity(alloc, code.blocks.len())?);
     for block in 0..code.blocks.len() as u32 {
         blocks.push(NetBlock {
             depth: code.blocks[block as usize].depth,

@@ -61,7 +61,7 @@ pub(crate) fn ends_in_order(
     requires { All (λ i. i < length ends.now) order.now }
     ensures { IfOk result (λ made. made ≡ map (end_at ends.now) order.now) }
 {
-    let mut made = Seq::new(alloc);
+    let mut made = Seq::from_vec(Vec::with_capacity(alloc, order.len())?);
     for item in order.as_slice() {
         made.push(ends[*item as usize])?;
     }

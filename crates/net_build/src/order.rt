@@ -88,7 +88,7 @@ pub(crate) fn starts_of(
     ensures count { IfOk result (λ starts. length starts ≡ blocks + 1) }
     ensures starts { IfOk result (λ starts. AreStarts strands.now starts) }
 {
-    let mut starts = Seq::new(alloc);
+    let mut starts = Seq::from_vec(Vec::with_capacity(alloc, blocks as usize + 1)?);
     let mut from = 0;
     for block in 0..blocks + 1 {
         from = start_of(strands, from, block);

@@ -10,7 +10,7 @@ overflow_add-found c =
     let p = leading c.args.tied.now c.args.least.now in
     let end = c.loop-end.end in
     let found = c.loop-end.invariant.found in
-    let one = c.leading-found.ensures in
+    let one = c.leading.ensures in
     let more = counted_more p end in
     let few = counted_few p (end + 1) in
     omega (arith, found, one, more, few)
@@ -20,7 +20,7 @@ loop-end-preserved c =
     let p = leading c.args.tied.now c.args.least.now in
     let end = c.loop-end.end in
     let found = c.loop-end.invariant.found in
-    let one = c.leading-found.ensures in
+    let one = c.leading.ensures in
     let more = counted_more p end in
     record {
       made = c.in_ok-push.ensures.ok ∙ (λ i. c.loop-end.invariant.made i ++ found i ∷ [])
