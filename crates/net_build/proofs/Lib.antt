@@ -11,6 +11,7 @@ pub mod MemberLists
 pub mod PairEnds
 pub mod PairsInOrder
 pub mod Places
+pub mod Presence
 pub mod Ranges
 pub mod Roles
 pub mod Sizes

@@ -1,7 +1,9 @@
 // Instructions beside layers: the roles there, what is present, and where it may be.
 
-ghost use Rattle.std.specs.Prelude.{◌≡◌, ◌<◌, ◌&&◌, length, fold, nat_eq, Some, if◌then◌else◌};
+ghost use Rattle.std.specs.Prelude.{◌≡◌, ◌<◌, ◌&&◌, ◌||◌, not, length, fold, nat_eq, Some, None};
+ghost use Rattle.std.specs.Prelude.{if◌then◌else◌};
 ghost use Rattle.std.specs.List.{list_any};
+ghost use Rattle.std.specs.Option.{option_copied};
 ghost use Rattle.pra_base.specs.Code.{kind_of};
 ghost use Rattle.pra_base.specs.Operands.{is_role_of, meets, own_places};
 ghost use Rattle.net_form.specs.Strands.{beside, across, is_before, is_present, roles_at, mask_at};
@@ -11,6 +13,7 @@ ghost use Rattle.pra_base.specs.Places.{without};
 ghost use Rattle.net_form.specs.Tables.{all_tables};
 ghost use Rattle.vc_code.specs.Rows.{roles_of, row_of};
 ghost use Rattle.vc_live.specs.Rows.{live_at};
+ghost use Rattle.net_build.specs.Runs.{present_mask};
 
 use crate::naming::has_role_beside;
 use pra_base::places::{BOTH_PLACES, CONSTANT, MEMORY, REGISTERS, meet, without};
@@ -19,9 +22,9 @@ use vc_code::{OperandRow, Role, operands};
 use vc_live::Liveness;
 
 // The instruction beside a layer; the entry and the exit have none.
-pub(crate) fn beside(code: &VProc, block: u32, layer: u32) -> Option<VInstr>
+pub(crate) fn beside(code: &VProc, block: u32, layer: u32) -> Option<&VInstr>
     requires { block < length code.now.blocks }
-    ensures { result ≡ beside code.now block layer }
+    ensures { option_copied result ≡ beside code.now block layer }
 {
     if layer == 0 {
         return None;
@@ -29,7 +32,6 @@ pub(crate) fn beside(code: &VProc, block: u32, layer: u32) -> Option<VInstr>
     code.blocks[block as usize]
         .code
         .get(((layer - 1) / 2) as usize)
-        .copied()
 }
 
 // The layer on the other side of the instruction.
@@ -63,7 +65,7 @@ pub(crate) fn is_role(code: &VProc, block: u32, layer: u32, var: u32) -> bool
 {
     match beside(code, block, layer) {
         None => false,
-        Some(instr) => has_role_beside(&instr, layer, var),
+        Some(instr) => has_role_beside(instr, layer, var),
     }
 }
 
@@ -114,13 +116,15 @@ fn comes_in_memory(kind: VarKind, block: u32, layer: u32) -> bool
     }
 }
 
-// A variable's own places, met with the masks of its roles beside an instruction. Most variables
-// have none there, and the operand table is not asked.
-fn met_beside(instr: &VInstr, layer: u32, var: u32, own: Mask) -> Mask
+// A variable's own places, met with the masks of its roles beside an instruction, where it is told
+// whether it has any. Most variables have none there, and the operand table is not asked.
+fn met_beside(instr: &VInstr, layer: u32, var: u32, own: Mask, named: bool) -> Mask
+    requires { named ≡ list_any (is_role_of var)
+        (roles_beside (is_before layer) table.operands (Some instr.now)) }
     ensures { result ≡
         fold (meets var) own (roles_beside (is_before layer) table.operands (Some instr.now)) }
 {
-    if has_role_beside(instr, layer, var) {
+    if named {
         let row = operands(instr);
         met_mask(side(&row, layer), var, own)
     } else {
@@ -164,7 +168,7 @@ fn clobbered_beside(
     }
 }
 
-// The mask beside an instruction.
+// The mask beside an instruction, where it is told whether the variable has a role there.
 fn mask_beside(
     code: &VProc,
     live: &Liveness,
@@ -172,32 +176,74 @@ fn mask_beside(
     layer: u32,
     var: u32,
     instr: &VInstr,
+    named: bool,
 ) -> Mask
     requires block { block < length code.now.blocks }
     requires var { var < length code.now.vars }
     requires layer { layer < 100000 }
     requires instr { beside code.now block layer ≡ Some instr.now }
+    requires named { named ≡ list_any (is_role_of var)
+        (roles_beside (is_before layer) table.operands (Some instr.now)) }
     ensures { result ≡ without (met_mask all_tables code.now var block layer)
         (clobbered all_tables code.now (live_at live.now) var block layer) }
 {
-    let met = met_beside(instr, layer, var, own_places(code.vars[var as usize]));
+    let own = own_places(code.vars[var as usize]);
+    let met = met_beside(instr, layer, var, own, named);
     let clobbered = clobbered_beside(code, live, block, layer, var, instr);
     without(met, clobbered)
 }
 
-// Where the variable may be at a layer.
-pub(crate) fn mask_at(code: &VProc, live: &Liveness, block: u32, layer: u32, var: u32) -> Mask
-    requires block { block < length code.now.blocks }
+// The mask at a layer that has no instruction beside it.
+fn mask_alone(code: &VProc, live: &Liveness, block: u32, layer: u32, var: u32) -> Mask
     requires var { var < length code.now.vars }
-    requires layer { layer < 100000 }
+    requires instr { beside code.now block layer ≡ None }
     ensures { result ≡ mask_at all_tables code.now (live_at live.now) var block layer }
 {
     let kind = code.vars[var as usize];
     if comes_in_memory(kind, block, layer) {
         return MEMORY;
     }
+    without(own_places(kind), 0)
+}
+
+// Whether the variable is present, by whether it is live and whether it has a role.
+fn is_there(is_live: bool, layer: u32, named: bool) -> bool
+    ensures { result ≡ (is_live || (not (is_before layer) && named)) }
+{
+    if is_live {
+        return true;
+    }
+    layer % 2 == 0 && named
+}
+
+// Where the variable may be at a layer, if it is present. It is told whether it is live there.
+pub(crate) fn present_mask(
+    code: &VProc,
+    live: &Liveness,
+    block: u32,
+    layer: u32,
+    var: u32,
+    is_live: bool,
+) -> Option<Mask>
+    requires block { block < length code.now.blocks }
+    requires var { var < length code.now.vars }
+    requires layer { layer < 100000 }
+    requires live { is_live ≡ live_at live.now var block layer }
+    ensures { result ≡ present_mask code.now (live_at live.now) var block layer }
+{
     match beside(code, block, layer) {
-        None => without(own_places(kind), 0),
-        Some(instr) => mask_beside(code, live, block, layer, var, &instr),
+        None => {
+            if !is_live {
+                return None;
+            }
+            Some(mask_alone(code, live, block, layer, var))
+        }
+        Some(instr) => {
+            let named = has_role_beside(instr, layer, var);
+            if !is_there(is_live, layer, named) {
+                return None;
+            }
+            Some(mask_beside(code, live, block, layer, var, instr, named))
+        }
     }
 }

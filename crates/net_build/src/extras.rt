@@ -1,16 +1,15 @@
 // Extras: what an operand costs more at a place than in a register.
 
 ghost use Rattle.std.specs.Prelude.{◌≡◌, ◌++◌, ◌<◌, ◌+◌, ◌^◌, length, All, map, IfOk, OnOk};
-ghost use Rattle.std.specs.Prelude.{option_to_list, None, Some};
+ghost use Rattle.std.specs.Prelude.{option_to_list};
 ghost use Rattle.std.specs.List.{filter_map, flat_map, enumerate_from};
 ghost use Rattle.pra_base.specs.Code.{kind_of};
 ghost use Rattle.pra_base.specs.Valid.{IsSized, near as near_code};
 ghost use Rattle.net_form.specs.Formed.{IsStrandOf};
-ghost use Rattle.net_form.specs.Strands.{beside};
-ghost use Rattle.net_form.specs.Network.{event_at, event_beside, extra_at, priced_places, extras};
-ghost use Rattle.net_form.specs.Network.{net_block};
+ghost use Rattle.net_form.specs.Network.{event_at, extras, net_block};
 ghost use Rattle.net_form.specs.Tables.{all_tables};
-ghost use Rattle.net_build.specs.Extras.{layer_extras, strand_extras};
+ghost use Rattle.net_build.specs.Extras.{allowed_extra, layer_extras, operand_extras};
+ghost use Rattle.net_build.specs.Extras.{strand_extras};
 
 use crate::beside::beside;
 use crate::extra_columns::{constant_event, extra_columns_of, memory_event, plays};
@@ -45,49 +44,22 @@ fn event_at(code: &VProc, near: bool, var: u32, instr: &VInstr, place: Place) ->
     }
 }
 
-// What a variable costs at a place, beside the instruction of a layer.
-fn event_beside(
-    code: &VProc,
-    near: bool,
-    var: u32,
-    block: u32,
-    layer: u32,
-    place: Place,
-) -> Option<Event>
-    requires near { near ≡ near_code code.now.vars code.now.args }
-    requires block { block < length code.now.blocks }
-    ensures { result ≡
-        event_beside all_tables code.now var layer place (beside code.now block layer) }
-{
-    let instr = beside(code, block, layer)?;
-    if plays(&instr, layer, var) {
-        event_at(code, near, var, &instr, place)
-    } else {
-        None
-    }
-}
-
-// Adds the extra of a strand at a layer and a place, if there is one.
+// Adds the extra of a strand at a layer and a place, if there is an event and the place is allowed.
 fn add_extra(
-    code: &VProc,
-    near: bool,
     number: u32,
-    strand: &Strand,
     layer: u32,
     mask: Mask,
     place: Place,
+    event: Option<Event>,
     out: &mut Seq<Extra>,
 ) -> Result<(), AllocError>
-    requires near { near ≡ near_code code.now.vars code.now.args }
-    requires block { strand.now.block.0 < length code.now.blocks }
     ensures { OnOk result (out.new ≡ out.old ++
-        option_to_list (extra_at all_tables code.now number strand.now (layer, mask) place)) }
+        option_to_list (allowed_extra number layer mask place event)) }
 {
     if !allows(mask, place) {
         return Ok(());
     }
-    let found = event_beside(code, near, strand.var.0, strand.block.0, layer, place);
-    if let Some(event) = found {
+    if let Some(event) = event {
         out.push(Extra {
             strand: number,
             layer,
@@ -98,7 +70,29 @@ fn add_extra(
     Ok(())
 }
 
-// Adds the extras of a strand at a layer.
+// Adds the extras of a strand at the layer, of whose instruction its variable is an operand there.
+fn add_operand(
+    code: &VProc,
+    near: bool,
+    number: u32,
+    var: u32,
+    layer: u32,
+    mask: Mask,
+    instr: &VInstr,
+    out: &mut Seq<Extra>,
+) -> Result<(), AllocError>
+    requires near { near ≡ near_code code.now.vars code.now.args }
+    ensures { OnOk result (out.new ≡ out.old ++
+        operand_extras code.now number var layer mask instr.now) }
+{
+    let event = event_at(code, near, var, instr, Place::Mem);
+    add_extra(number, layer, mask, Place::Mem, event, out)?;
+    let event = event_at(code, near, var, instr, Place::Const);
+    add_extra(number, layer, mask, Place::Const, event, out)?;
+    Ok(())
+}
+
+// Adds the extras of a strand at a layer. At most layers its variable is no operand.
 fn add_layer(
     code: &VProc,
     near: bool,
@@ -113,8 +107,13 @@ fn add_layer(
     ensures { OnOk result
         (out.new ≡ out.old ++ layer_extras code.now number strand.now (layer, mask)) }
 {
-    add_extra(code, near, number, strand, layer, mask, Place::Mem, out)?;
-    add_extra(code, near, number, strand, layer, mask, Place::Const, out)?;
+    let Some(instr) = beside(code, strand.block.0, layer) else {
+        return Ok(());
+    };
+    if !plays(instr, layer, strand.var.0) {
+        return Ok(());
+    }
+    add_operand(code, near, number, strand.var.0, layer, mask, instr, out)?;
     Ok(())
 }
 

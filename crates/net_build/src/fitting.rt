@@ -138,7 +138,7 @@ fn pass_layer(
     match beside(code, block, layer) {
         None => pass_roles(code, live, block, layer, &[], lists, number),
         Some(instr) => {
-            let row = operands(&instr);
+            let row = operands(instr);
             pass_roles(code, live, block, layer, side(&row, layer), lists, number)
         }
     }

@@ -9,7 +9,8 @@
 //! block. Strands are in order (proofs/InOrder), so the strand that a tie goes to is found by
 //! bisection among those of its block, where it does not stand as far behind the first of them as
 //! the one that the tie comes from does in its own block. Most variables have no role at most
-//! layers: there the operand table is not asked for its masks (`naming`).
+//! layers: there the operand table is not asked for its masks (`naming`). What is live behind an
+//! instruction is so before the next one (proofs/LiveAt), so liveness is asked once for both.
 //!
 //! Then the tie groups. Ends that ties join are put under each other, always the greater under the
 //! lesser, and each end that is looked up is put under its grandparent; so the top of a group is

@@ -1,7 +1,8 @@
 // The strands: for each variable the runs of layers of a block at which it is present.
 
-ghost use Rattle.std.specs.Prelude.{◌≡◌, ◌≢◌, ℕ, ◌++◌, ◌<◌, ◌≤◌, ◌+◌, ◌-◌, ◌&&◌, not, nat_eq};
-ghost use Rattle.std.specs.Prelude.{nat_lt, length, map, true, IfOk, IfSome, OnOk, option_to_list};
+ghost use Rattle.std.specs.Prelude.{◌≡◌, ◌≢◌, ℕ, ◌++◌, ◌<◌, ◌≤◌, ◌+◌, ◌-◌, ◌%◌, ◌&&◌, not, nat_eq};
+ghost use Rattle.std.specs.Prelude.{nat_lt, length, map, true, IfOk, IfSome, IsTrue, OnOk};
+ghost use Rattle.std.specs.Prelude.{option_to_list};
 ghost use Rattle.std.specs.List.{range_with_len, list_any};
 ghost use Rattle.pra_base.specs.Code.{kind_of};
 ghost use Rattle.pra_base.specs.Valid.{IsSized};
@@ -14,7 +15,7 @@ ghost use Rattle.vc_live.specs.Rows.{live_at};
 ghost use Rattle.net_build.specs.Runs.{run_masks};
 ghost use Rattle.vc_live.specs.Least.{IsBelow, IsLeastFrom};
 
-use crate::beside::{beside, is_present, mask_at, side};
+use crate::beside::{beside, is_present, present_mask, side};
 use net_form::Strand;
 use pra_base::{BlockId, Mask, VProc, VarId, VarKind};
 use pra_list::Seq;
@@ -32,7 +33,29 @@ pub(crate) fn layer_count(code: &VProc, block: u32) -> u32
     2 * code.blocks[block as usize].code.len() as u32 + 2
 }
 
-// Where the variable may be at each layer of a run.
+// Whether the variable is live at the layer; not asked where it is known to be.
+fn is_live_at(live: &Liveness, block: u32, layer: u32, var: u32, known: bool) -> bool
+    requires { IsTrue known → live_at live.now var block layer ≡ true }
+    ensures { result ≡ live_at live.now var block layer }
+{
+    if known {
+        return true;
+    }
+    live.at(VarId(var), BlockId(block), layer)
+}
+
+// Whether it is known by this layer that the variable is live at the next one: what is live behind
+// an instruction is so before the next instruction too.
+fn stays_live(is_live: bool, layer: u32) -> bool
+    ensures { IsTrue result → IsTrue is_live × (layer % 2 ≡ 0) }
+{
+    if layer % 2 == 1 {
+        return false;
+    }
+    is_live
+}
+
+// Where the variable may be at each layer of a run. It may be known to be live at the first one.
 fn masks(
     alloc: Global,
     code: &VProc,
@@ -40,18 +63,26 @@ fn masks(
     block: u32,
     first: u32,
     var: u32,
+    known: bool,
 ) -> Result<Seq<Mask>, AllocError>
     requires sized { IsSized code.now }
     requires block { block < length code.now.blocks }
     requires var { var < length code.now.vars }
     requires first { first < layer_count code.now block }
+    requires known { IsTrue known → live_at live.now var block first ≡ true }
     ensures { IfOk result (λ masks. masks ≡ run_masks code.now (live_at live.now) var block first) }
 {
     let mut masks = Seq::new(alloc);
     let end = layer_count(code, block);
     let mut layer = first;
-    while layer < end && is_present(code, live, block, layer, var) {
-        masks.push(mask_at(code, live, block, layer, var))?;
+    let mut known = known;
+    while layer < end {
+        let is_live = is_live_at(live, block, layer, var, known);
+        let Some(mask) = present_mask(code, live, block, layer, var, is_live) else {
+            return Ok(masks);
+        };
+        masks.push(mask)?;
+        known = stays_live(is_live, layer);
         layer += 1;
     }
     Ok(masks)
@@ -83,7 +114,7 @@ fn last_of(first: u32, count: usize) -> u32
     first + (count - 1) as u32
 }
 
-// The strand of the variable that begins at the layer.
+// The strand of the variable that begins at the layer, where it may be known to be live.
 fn strand(
     alloc: Global,
     code: &VProc,
@@ -91,16 +122,18 @@ fn strand(
     block: u32,
     first: u32,
     var: u32,
+    known: bool,
 ) -> Result<Strand, AllocError>
     requires sized { IsSized code.now }
     requires block { block < length code.now.blocks }
     requires var { var < length code.now.vars }
     requires first { first < layer_count code.now block }
     requires begins { begins all_tables code.now (live_at live.now) var block first ≡ true }
+    requires known { IsTrue known → live_at live.now var block first ≡ true }
     ensures { IfOk result (λ made.
         made ≡ strand all_tables code.now (live_at live.now) var block first) }
 {
-    let masks = masks(alloc, code, live, block, first, var)?;
+    let masks = masks(alloc, code, live, block, first, var, known)?;
     Ok(Strand {
         var: VarId(var),
         block: BlockId(block),
@@ -131,8 +164,28 @@ fn add_begun(
         option_to_list (begun_strand all_tables code.now (live_at live.now) block layer var)) }
 {
     if begins(code, live, block, layer, var) {
-        out.push(strand(alloc, code, live, block, layer, var)?)?;
+        out.push(strand(alloc, code, live, block, layer, var, false)?)?;
     }
+    Ok(())
+}
+
+// Adds the strand of a variable that is live at the entry of a block.
+fn add_live(
+    alloc: Global,
+    code: &VProc,
+    live: &Liveness,
+    block: u32,
+    var: u32,
+    out: &mut Seq<Strand>,
+) -> Result<(), AllocError>
+    requires sized { IsSized code.now }
+    requires block { block < length code.now.blocks }
+    requires var { var < length code.now.vars }
+    requires live { live_at live.now var block 0 ≡ true }
+    ensures { OnOk result (out.new ≡ out.old ++
+        option_to_list (begun_strand all_tables code.now (live_at live.now) block 0 var)) }
+{
+    out.push(strand(alloc, code, live, block, 0, var, true)?)?;
     Ok(())
 }
 
@@ -180,7 +233,7 @@ fn add_entry(
     let end = code.vars.len() as u32;
     let mut from = 0;
     while let Some(var) = live.next_at_entry(BlockId(block), from, end) {
-        add_begun(alloc, code, live, block, 0, var, out)?;
+        add_live(alloc, code, live, block, var, out)?;
         from = var + 1;
     }
     Ok(())
@@ -236,7 +289,7 @@ fn add_layer(
     match beside(code, block, layer) {
         None => add_roles(alloc, code, live, block, layer, &[], out),
         Some(instr) => {
-            let row = operands(&instr);
+            let row = operands(instr);
             add_roles(alloc, code, live, block, layer, side(&row, layer), out)
         }
     }

@@ -24,9 +24,9 @@ loop-var-preserved c =
     let between = sym (ap (λ (n : ℕ). filter_map f (range_with_len 0 n)) to) ∙ added_none f from
     (var - from) none in
     record {
-      made = added_some f var c.args.out.now c.loop-var.out c.add_begun.new.out
+      made = added_some f var c.args.out.now c.loop-var.out c.add_live.new.out
           (c.loop-var.invariant.made ∙ sym (ap (λ (l : List Strand). c.args.out.now ++ l) between))
-          c.in_ok-add_begun.ensures;
+          c.in_ok-add_live.ensures;
       within = omega (arith, near.0.1, c.len-end.ensures);
       end = c.len-end.ensures;
     }

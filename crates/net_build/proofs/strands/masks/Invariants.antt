@@ -1,4 +1,4 @@
-use Rattle.std.proofs.Common.{◌-◌, ◌≡◌, ◌≤◌, ◌++◌}
+use Rattle.std.proofs.Common.{◌-◌, ◌≡◌, ◌≤◌, ◌++◌, true}
 use Rattle.net_form.specs.Strands.{layer_count}
 use Rattle.vc_live.specs.Rows.{live_at}
 use Rattle.net_build.specs.Runs.{run_masks}
@@ -11,6 +11,7 @@ invariant-loop-layer l = record {
       run_masks l.code (live_at l.live) l.var l.block l.first;
   within : l.layer ≤ l.end;
   end : l.end ≡ layer_count l.code l.block;
+  known : l.known ≡ true → live_at l.live l.var l.block l.layer ≡ true;
 }
 
 abbrev pub decreases-loop-layer : goal.decreases-loop-layer
