@@ -81,7 +81,7 @@ pub(crate) fn is_present(code: &VProc, live: &Liveness, block: u32, layer: u32, 
 }
 
 // A variable's own places.
-fn own_places(kind: VarKind) -> Mask
+pub(crate) fn own_places(kind: VarKind) -> Mask
     ensures { result ≡ own_places kind }
 {
     match kind {
@@ -168,7 +168,8 @@ fn clobbered_beside(
     }
 }
 
-// The mask beside an instruction, where it is told whether the variable has a role there.
+// The mask beside an instruction, where it is told whether the variable has a role there, and which
+// places are its own.
 fn mask_beside(
     code: &VProc,
     live: &Liveness,
@@ -177,33 +178,33 @@ fn mask_beside(
     var: u32,
     instr: &VInstr,
     named: bool,
+    own: Mask,
 ) -> Mask
     requires block { block < length code.now.blocks }
-    requires var { var < length code.now.vars }
     requires layer { layer < 100000 }
+    requires own { own ≡ table.own_places (kind_of code.now var) }
     requires instr { beside code.now block layer ≡ Some instr.now }
     requires named { named ≡ list_any (is_role_of var)
         (roles_beside (is_before layer) table.operands (Some instr.now)) }
     ensures { result ≡ without (met_mask all_tables code.now var block layer)
         (clobbered all_tables code.now (live_at live.now) var block layer) }
 {
-    let own = own_places(code.vars[var as usize]);
     let met = met_beside(instr, layer, var, own, named);
     let clobbered = clobbered_beside(code, live, block, layer, var, instr);
     without(met, clobbered)
 }
 
-// The mask at a layer that has no instruction beside it.
-fn mask_alone(code: &VProc, live: &Liveness, block: u32, layer: u32, var: u32) -> Mask
+// The mask at a layer that has no instruction beside it, where it is told which places are its own.
+fn mask_alone(code: &VProc, live: &Liveness, block: u32, layer: u32, var: u32, own: Mask) -> Mask
     requires var { var < length code.now.vars }
     requires instr { beside code.now block layer ≡ None }
+    requires own { own ≡ table.own_places (kind_of code.now var) }
     ensures { result ≡ mask_at all_tables code.now (live_at live.now) var block layer }
 {
-    let kind = code.vars[var as usize];
-    if comes_in_memory(kind, block, layer) {
+    if comes_in_memory(code.vars[var as usize], block, layer) {
         return MEMORY;
     }
-    without(own_places(kind), 0)
+    without(own, 0)
 }
 
 // Whether the variable is present, by whether it is live and whether it has a role.
@@ -216,7 +217,8 @@ fn is_there(is_live: bool, layer: u32, named: bool) -> bool
     layer % 2 == 0 && named
 }
 
-// Where the variable may be at a layer, if it is present. It is told whether it is live there.
+// Where the variable may be at a layer, if it is present. It is told whether it is live there, and
+// which places are its own.
 pub(crate) fn present_mask(
     code: &VProc,
     live: &Liveness,
@@ -224,11 +226,13 @@ pub(crate) fn present_mask(
     layer: u32,
     var: u32,
     is_live: bool,
+    own: Mask,
 ) -> Option<Mask>
     requires block { block < length code.now.blocks }
     requires var { var < length code.now.vars }
     requires layer { layer < 100000 }
     requires live { is_live ≡ live_at live.now var block layer }
+    requires own { own ≡ table.own_places (kind_of code.now var) }
     ensures { result ≡ present_mask code.now (live_at live.now) var block layer }
 {
     match beside(code, block, layer) {
@@ -236,14 +240,14 @@ pub(crate) fn present_mask(
             if !is_live {
                 return None;
             }
-            Some(mask_alone(code, live, block, layer, var))
+            Some(mask_alone(code, live, block, layer, var, own))
         }
         Some(instr) => {
             let named = has_role_beside(instr, layer, var);
             if !is_there(is_live, layer, named) {
                 return None;
             }
-            Some(mask_beside(code, live, block, layer, var, instr, named))
+            Some(mask_beside(code, live, block, layer, var, instr, named, own))
         }
     }
 }

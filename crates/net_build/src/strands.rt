@@ -15,7 +15,7 @@ ghost use Rattle.vc_live.specs.Rows.{live_at};
 ghost use Rattle.net_build.specs.Runs.{run_masks};
 ghost use Rattle.vc_live.specs.Least.{IsBelow, IsLeastFrom};
 
-use crate::beside::{beside, is_present, present_mask, side};
+use crate::beside::{beside, is_present, own_places, present_mask, side};
 use net_form::Strand;
 use pra_base::{BlockId, Mask, VProc, VarId, VarKind};
 use pra_list::Seq;
@@ -73,12 +73,13 @@ fn masks(
     ensures { IfOk result (λ masks. masks ≡ run_masks code.now (live_at live.now) var block first) }
 {
     let mut masks = Seq::new(alloc);
+    let own = own_places(code.vars[var as usize]);
     let end = layer_count(code, block);
     let mut layer = first;
     let mut known = known;
     while layer < end {
         let is_live = is_live_at(live, block, layer, var, known);
-        let Some(mask) = present_mask(code, live, block, layer, var, is_live) else {
+        let Some(mask) = present_mask(code, live, block, layer, var, is_live, own) else {
             return Ok(masks);
         };
         masks.push(mask)?;
@@ -146,6 +147,30 @@ fn strand(
     })
 }
 
+// Adds the strand of the variable that begins at the layer, where it may be known to be live.
+fn add_strand(
+    alloc: Global,
+    code: &VProc,
+    live: &Liveness,
+    block: u32,
+    layer: u32,
+    var: u32,
+    known: bool,
+    out: &mut Seq<Strand>,
+) -> Result<(), AllocError>
+    requires sized { IsSized code.now }
+    requires block { block < length code.now.blocks }
+    requires var { var < length code.now.vars }
+    requires layer { layer < layer_count code.now block }
+    requires begins { begins all_tables code.now (live_at live.now) var block layer ≡ true }
+    requires known { IsTrue known → live_at live.now var block layer ≡ true }
+    ensures { OnOk result (out.new ≡ out.old ++
+        option_to_list (begun_strand all_tables code.now (live_at live.now) block layer var)) }
+{
+    out.push(strand(alloc, code, live, block, layer, var, known)?)?;
+    Ok(())
+}
+
 // Adds the strand of the variable that begins at the layer, if there is one.
 fn add_begun(
     alloc: Global,
@@ -164,28 +189,8 @@ fn add_begun(
         option_to_list (begun_strand all_tables code.now (live_at live.now) block layer var)) }
 {
     if begins(code, live, block, layer, var) {
-        out.push(strand(alloc, code, live, block, layer, var, false)?)?;
+        add_strand(alloc, code, live, block, layer, var, false, out)?;
     }
-    Ok(())
-}
-
-// Adds the strand of a variable that is live at the entry of a block.
-fn add_live(
-    alloc: Global,
-    code: &VProc,
-    live: &Liveness,
-    block: u32,
-    var: u32,
-    out: &mut Seq<Strand>,
-) -> Result<(), AllocError>
-    requires sized { IsSized code.now }
-    requires block { block < length code.now.blocks }
-    requires var { var < length code.now.vars }
-    requires live { live_at live.now var block 0 ≡ true }
-    ensures { OnOk result (out.new ≡ out.old ++
-        option_to_list (begun_strand all_tables code.now (live_at live.now) block 0 var)) }
-{
-    out.push(strand(alloc, code, live, block, 0, var, true)?)?;
     Ok(())
 }
 
@@ -233,7 +238,7 @@ fn add_entry(
     let end = code.vars.len() as u32;
     let mut from = 0;
     while let Some(var) = live.next_at_entry(BlockId(block), from, end) {
-        add_live(alloc, code, live, block, var, out)?;
+        add_strand(alloc, code, live, block, 0, var, true, out)?;
         from = var + 1;
     }
     Ok(())

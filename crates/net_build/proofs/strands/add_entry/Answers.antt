@@ -6,8 +6,13 @@ use Rattle.net_form.specs.Strands.{begun_strand}
 use Rattle.net_form.specs.Tables.{all_tables}
 use Rattle.vc_live.specs.Rows.{live_at}
 use Rattle.net_build.proofs.Begun.{none_at_entry}
+use Rattle.net_build.proofs.Presence.{begins_at_entry}
 use Rattle.net_build.proofs.Ranges.{added_none, added_some}
 use Rattle.net_build.proofs.strands.add_entry.Goals as goal
+
+pub add_strand-requires-clause-begins : goal.add_strand-requires-clause-begins
+add_strand-requires-clause-begins c = begins_at_entry c.args.code.now (live_at c.args.live.now)
+    c.in-Some.var c.args.block c.in-Some.ensures.live
 
 pub loop-var-preserved : goal.loop-var-preserved
 loop-var-preserved c =
@@ -24,9 +29,9 @@ loop-var-preserved c =
     let between = sym (ap (λ (n : ℕ). filter_map f (range_with_len 0 n)) to) ∙ added_none f from
     (var - from) none in
     record {
-      made = added_some f var c.args.out.now c.loop-var.out c.add_live.new.out
+      made = added_some f var c.args.out.now c.loop-var.out c.add_strand.new.out
           (c.loop-var.invariant.made ∙ sym (ap (λ (l : List Strand). c.args.out.now ++ l) between))
-          c.in_ok-add_live.ensures;
+          c.in_ok-add_strand.ensures;
       within = omega (arith, near.0.1, c.len-end.ensures);
       end = c.len-end.ensures;
     }
