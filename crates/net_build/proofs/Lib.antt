@@ -5,7 +5,6 @@ pub mod GoesOn
 pub mod InOrder
 pub mod Indexing
 pub mod Joining
-pub mod Linking
 pub mod LiveAt
 pub mod MemberLists
 pub mod PairEnds
@@ -15,4 +14,5 @@ pub mod Presence
 pub mod Ranges
 pub mod Roles
 pub mod Sizes
+pub mod Sorted
 pub mod Whole

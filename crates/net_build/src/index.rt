@@ -11,7 +11,7 @@ ghost use Rattle.net_build.specs.Owners.{owner_of, by_owner, end_owners, pair_en
 
 use crate::lists::Lists;
 use crate::members::{Members, ends_in_order, members_of};
-use crate::owners::{beginnings, by_owner, linked, owners_in};
+use crate::owners::{beginnings, by_owner, owners_in};
 use net_form::{Extra, MemPair, NetBlock, NetIndex, PairEnd, Strand, Tie, TieEnd};
 use pra_base::OutOfMemory;
 use pra_list::Seq;
@@ -122,10 +122,11 @@ fn by_place(
     let blocks = strand_beginnings(alloc, &owners, block_count)?;
     let owners = strand_vars(alloc, strands)?;
     let vars = strand_beginnings(alloc, &owners, count)?;
+    let of_vars = items_by_owner(alloc, &owners, &vars, count)?;
     Ok(ByPlace {
         blocks,
         vars,
-        of_vars: items_by_owner(alloc, owners, count)?,
+        of_vars,
     })
 }
 
@@ -189,23 +190,27 @@ fn ends_of(alloc: Global, pairs: &Seq<MemPair>, strands: u32) -> Result<Ends, Ou
         map (pair_end pairs.now) (by_owner (end_owners pairs.now) strands)) }
 {
     let owners = end_owners(alloc, pairs)?;
-    let _few = u32::try_from(owners.len()).map_err(|_| OutOfMemory)?;
-    let links = linked(alloc, owners, strands)?;
-    let order = by_owner(alloc, &links)?;
-    let owners = owners_in(alloc, &links.owners, &order)?;
+    let first = strand_beginnings(alloc, &owners, strands)?;
+    let order = items_by_owner(alloc, &owners, &first, strands)?;
+    let owners = owners_in(alloc, &owners, &order)?;
     Ok(Ends {
         first: strand_beginnings(alloc, &owners, strands)?,
         ends: pair_ends(alloc, pairs, &order)?,
     })
 }
 
-// The numbers of items by their owners, of which there are so many.
-fn items_by_owner(alloc: Global, owners: Seq<u32>, count: u32) -> Result<Seq<u32>, OutOfMemory>
-    ensures { IfOk result (λ made. made ≡ by_owner owners count) }
+// The numbers of items by their owners, of which there are so many, and whose items begin there.
+fn items_by_owner(
+    alloc: Global,
+    owners: &Seq<u32>,
+    first: &Seq<u32>,
+    count: u32,
+) -> Result<Seq<u32>, OutOfMemory>
+    requires { first.now ≡ beginnings (λ o. o) owners.now count }
+    ensures { IfOk result (λ made. made ≡ by_owner owners.now count) }
 {
     let _few = u32::try_from(owners.len()).map_err(|_| OutOfMemory)?;
-    let links = linked(alloc, owners, count)?;
-    Ok(by_owner(alloc, &links)?)
+    Ok(by_owner(alloc, owners, first, count)?)
 }
 
 // The ends that ties join, by their groups, and where those of each group begin.
@@ -225,7 +230,7 @@ fn by_group(alloc: Global, strands: &Seq<Strand>, groups: u32) -> Result<Grouped
     let members = members_of(alloc, strands)?;
     let Members { owners, ends } = members;
     let first = strand_beginnings(alloc, &owners, groups)?;
-    let order = items_by_owner(alloc, owners, groups)?;
+    let order = items_by_owner(alloc, &owners, &first, groups)?;
     Ok(Grouped {
         first,
         ends: ends_in_order(alloc, &ends, &order)?,
@@ -255,7 +260,7 @@ pub(crate) fn index_of(alloc: Global, lists: &Lists, groups: u32) -> Result<NetI
     let exits = strand_beginnings(alloc, &sources, strands)?;
     let targets = tie_targets(alloc, &lists.ties)?;
     let entries = strand_beginnings(alloc, &targets, strands)?;
-    let arrivals = items_by_owner(alloc, targets, strands)?;
+    let arrivals = items_by_owner(alloc, &targets, &entries, strands)?;
     let members = by_group(alloc, &lists.strands, groups)?;
     Ok(NetIndex {
         layers,

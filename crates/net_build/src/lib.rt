@@ -20,8 +20,8 @@
 //!
 //! Last the index, in time linear in the lists. Where each strand's items begin is counted. Strands
 //! by their variables, ties by the strands that they go to, ends of memory pairs by their strands
-//! and ends of strands by their tie groups are taken in one pass over links from each item to the
-//! next one of its owner. Memory pairs are in the order of their instructions
+//! and ends of strands by their tie groups are then put in one pass, each behind those of its owner
+//! (specs/Owners, `ArePut`). Memory pairs are in the order of their instructions
 //! (proofs/PairsInOrder), so the ends of one strand come by their layers.
 //!
 //! `has_places` tells whether lists of places fit the strands without making these, in the order in
