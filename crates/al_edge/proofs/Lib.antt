@@ -1,3 +1,4 @@
+pub mod AtHome
 pub mod Costs
 pub mod Ends
 pub mod Filled

@@ -1,12 +1,12 @@
 -- The table of who gives way.
-use Rattle.std.proofs.Common.{ℕ, zero, suc, ◌≡◌, ◌+◌, ◌-◌, ◌<◌, ◌≤◌, Bool, true, false, ◌&&◌, ◌||◌}
-use Rattle.std.proofs.Common.{eqb, leb, List, [], length, get_or, set, take, replicate, map, refl}
-use Rattle.std.proofs.Common.{sym, ap, ◌∙◌, subst, arith, inl, inr, get_or-set_same}
-use Rattle.std.proofs.Common.{get_or-set_other, length-set}
+use Rattle.std.proofs.Common.{ℕ, zero, suc, ◌≡◌, ◌≢◌, ◌+◌, ◌-◌, ◌<◌, ◌≤◌, Bool, true, false, ◌&&◌}
+use Rattle.std.proofs.Common.{◌||◌, eqb, leb, List, [], ◌∷◌, length, get_or, set, take}
+use Rattle.std.proofs.Common.{replicate, refl, sym, ap, ◌∙◌, subst, arith, inl, inr}
+use Rattle.std.proofs.Common.{get_or-set_same, get_or-set_other, length-set}
 use Rattle.std.specs.List.{list_any}
-use Rattle.std.proofs.lemmas.Bool.{cases_eq, and_parts, and_left, and_right, or_right, leb-true}
-use Rattle.std.proofs.lemmas.Bool.{eq-eqb, ne_eqb, and_from}
-use Rattle.std.proofs.lemmas.List.{get_or-map, length-map, take_all, length-replicate}
+use Rattle.std.proofs.lemmas.Bool.{cases_eq, and_parts, and_left, and_right, or_right}
+use Rattle.std.proofs.lemmas.Bool.{leb-true, eq-eqb, ne_eqb, and_from}
+use Rattle.std.proofs.lemmas.List.{take_all, length-replicate, get_or-replicate}
 use Rattle.std.proofs.lemmas.List.Folds.{list_any_more}
 use Rattle.net_form.specs.declared.net.MemPair.{MemPair}
 use Rattle.net_form.specs.declared.net.Strand.{Strand}
@@ -14,7 +14,7 @@ use Rattle.net_form.specs.declared.net.Net.{Net}
 use Rattle.net_form.specs.Admitted.{strand_at, no_strand}
 use Rattle.net_form.specs.Formed.{IsFormed}
 use Rattle.net_laws.specs.Homes.{is_there, is_right, left_stays, yields_at}
-use Rattle.al_edge.specs.Yielding.{IsTable, row_of}
+use Rattle.al_edge.specs.Yielding.{IsTable, full_row, row_of}
 
 pub bounds : (t : Strand) (l : ℕ) → is_there t l ≡ true → (t.first ≤ l) × (l ≤ t.last)
 bounds t l at = let p = and_parts (leb t.first l) (leb l t.last) at in
@@ -27,47 +27,51 @@ module _ (net : Net) (formed : IsFormed net) (table : List (List Bool))
   abbrev j : ℕ
   j = l - (strand_at net s).first
 
-  pub inside : j < length (row_of table s)
-  inside =
+  pub entry : get_or (row_of table s) j false ≡ yields_at net s l
+  entry =
       let b = bounds (strand_at net s) l there in
       let lo = b.0 in
       let hi = b.1 in
-      let n = is.entries s s_lt in
       let long = (formed.strands s no_strand s_lt).masks in
-      omega (arith, lo, hi, n, long)
-
-  pub entry : get_or (row_of table s) j false ≡ yields_at net s l
-  entry =
-      let lo = (bounds (strand_at net s) l there).0 in
-      let n = is.entries s s_lt in
-      let lt = inside in
-      is.value s j s_lt (omega (arith, n, lt))
+      is.value s j s_lt (omega (arith, lo, hi, long))
       ∙ ap (λ k. list_any (λ m. is_right s k m && left_stays net m)
       (take (length net.pairs) net.pairs))
       (let e : (strand_at net s).first + j ≡ l = omega (arith, lo) in e)
       ∙ ap (list_any (λ m. is_right s l m && left_stays net m))
       (take_all (length net.pairs) net.pairs (omega arith))
 
+-- ---- rows, of which some are empty
+
+none_true : (n i : ℕ) → get_or (replicate n false) i false ≡ false
+none_true zero i = refl
+none_true (suc n) zero = refl
+none_true (suc n) (suc i) = none_true n i
+
+pub full_entry : (n : ℕ) (row : List Bool) (i : ℕ)
+    → get_or (full_row n row) i false ≡ get_or row i false
+full_entry n [] i = none_true n i
+full_entry n (first ∷ others) i = refl
+
+pub full_other : (n : ℕ) (row : List Bool) → row ≢ [] → full_row n row ≡ row
+full_other n [] some = absurd (some refl)
+full_other n (first ∷ others) some = refl
+
+full_long : (n : ℕ) (row : List Bool) → length row ≡ n → length (full_row n row) ≡ n
+full_long n [] long = length-replicate n false
+full_long n (first ∷ others) long = long
+
 -- nobody gives way to the first 0 pairs
 pub none_yield : (net : Net) (table : List (List Bool)) →
-    table ≡ map (λ (t : Strand). replicate (length t.masks) false) net.strands → IsTable net 0 table
+    table ≡ replicate (length net.strands) [] → IsTable net 0 table
 none_yield net table is = subst (IsTable net 0) (sym is) (record {
-  rows = length-map net.strands (λ (t : Strand). replicate (length t.masks) false);
-  entries = λ s lt. ap length (row s lt) ∙ length-replicate (length (strand_at net s).masks) false;
-  value = λ s j lt j_lt. ap (λ r. get_or r j false) (row s lt)
-      ∙ none (length (strand_at net s).masks) j;
+  rows = length-replicate (length net.strands) [];
+  entries = λ s lt. ap (λ r. length (full_row (length (strand_at net s).masks) r)) (row s lt)
+      ∙ length-replicate (length (strand_at net s).masks) false;
+  value = λ s j lt j_lt. ap (λ r. get_or r j false) (row s lt);
 })
   where
-    row : (s : ℕ) → s < length net.strands →
-        row_of (map (λ (t : Strand). replicate (length t.masks) false) net.strands) s ≡
-        replicate (length (strand_at net s).masks) false
-    row s lt = get_or-map (λ (t : Strand). replicate (length t.masks) false) net.strands s no_strand
-        [] lt
-
-    none : (n i : ℕ) → get_or (replicate n false) i false ≡ false
-    none zero i = refl
-    none (suc n) zero = refl
-    none (suc n) (suc i) = none n i
+    row : (s : ℕ) → s < length net.strands → row_of (replicate (length net.strands) []) s ≡ []
+    row s lt = get_or-replicate (length net.strands) s [] [] lt
 
 or_nothing : (x : Bool) → (x || false) ≡ x
 or_nothing true = refl
@@ -100,16 +104,21 @@ module _ (net : Net) (formed : IsFormed net) (k : ℕ) (table : List (List Bool)
   pub added : left_stays net m ≡ true → m.right < length net.strands →
       is_there (strand_at net m.right) m.right_layer ≡ true
       → IsTable net (k + 1) (set table m.right
-      (set (row_of table m.right) (m.right_layer - (strand_at net m.right).first) true))
+      (set (full_row (length (strand_at net m.right).masks) (row_of table m.right))
+      (m.right_layer - (strand_at net m.right).first) true))
   added left r_lt there = record {
     rows = length-set table m.right new_row ∙ is.rows;
     entries = λ s lt. elim (cases_eq s m.right)
-        as (λ _. length (row_of (set table m.right new_row) s) ≡ length (strand_at net s).masks) [
-          | inl same ↦ subst (λ s. length (row_of (set table m.right new_row) s) ≡
-              length (strand_at net s).masks) (sym same)
+        as (λ _. length (full_row (length (strand_at net s).masks)
+        (row_of (set table m.right new_row) s)) ≡ length (strand_at net s).masks) [
+          | inl same ↦ subst (λ s. length (full_row (length (strand_at net s).masks)
+              (row_of (set table m.right new_row) s)) ≡ length (strand_at net s).masks) (sym same)
+              (full_long (length (strand_at net m.right).masks)
+              (row_of (set table m.right new_row) m.right)
               (ap length (get_or-set_same table m.right new_row [] in_table)
-              ∙ length-set (row_of table m.right) at true ∙ is.entries m.right r_lt)
-          | inr other ↦ ap length (get_or-set_other table m.right s new_row [] other)
+              ∙ length-set full at true ∙ is.entries m.right r_lt))
+          | inr other ↦ ap (λ r. length (full_row (length (strand_at net s).masks) r))
+              (get_or-set_other table m.right s new_row [] other)
               ∙ is.entries s lt
         ];
     value = λ s j lt j_lt. values s j lt j_lt
@@ -119,8 +128,11 @@ module _ (net : Net) (formed : IsFormed net) (k : ℕ) (table : List (List Bool)
       at : ℕ
       at = m.right_layer - (strand_at net m.right).first
 
+      full : List Bool
+      full = full_row (length (strand_at net m.right).masks) (row_of table m.right)
+
       new_row : List Bool
-      new_row = set (row_of table m.right) at true
+      new_row = set full at true
 
       in_table : m.right < length table
       in_table = let n = is.rows in omega (arith, n, r_lt)
@@ -139,14 +151,14 @@ module _ (net : Net) (formed : IsFormed net) (k : ℕ) (table : List (List Bool)
                 s
                 ((strand_at net s).first + i) m)) [
                   | inl here ↦ ap (λ r. get_or r i false) (row_same s same)
-                      ∙ ap (λ n. get_or new_row n false) here ∙ get_or-set_same
-                      (row_of table m.right) at
-                      true false in_row
+                      ∙ ap (λ n. get_or new_row n false) here
+                      ∙ get_or-set_same full at true false in_row
                       ∙ sym (or_right (list_any (test s ((strand_at net s).first + i))
                       (take k net.pairs))
                       (test s ((strand_at net s).first + i) m) (passes s i same here))
-                  | inr off ↦ ap (λ r. get_or r i false) (row_same s same) ∙ get_or-set_other
-                      (row_of table m.right) at i true false off
+                  | inr off ↦ ap (λ r. get_or r i false) (row_same s same)
+                      ∙ get_or-set_other full at i true false off
+                      ∙ full_entry (length (strand_at net m.right).masks) (row_of table m.right) i
                       ∙ ap (λ s. get_or (row_of table s) i false)
                       (sym same)
                       ∙ is.value s i lt i_lt ∙
@@ -164,7 +176,7 @@ module _ (net : Net) (formed : IsFormed net) (k : ℕ) (table : List (List Bool)
                 (ne_eqb m.right s (λ e. other (sym e)))))
           ]
         where
-          in_row : at < length (row_of table m.right)
+          in_row : at < length full
           in_row =
               let b = bounds (strand_at net m.right) m.right_layer there in
               let lo = b.0 in

@@ -13,6 +13,9 @@
 //! that no strand before it has where it is. That there is always one is a law of the networks of
 //! valid code (`HasRoom` of net_laws), which `home` asks for beside that the network is formed.
 //!
+//! Most strands have their home in all their masks and give way nowhere. These are at home
+//! throughout, and neither their layers nor what is in use is asked (`stays_home` in `yielding`).
+//!
 //! Read specs/HomeRoutes: `AreHome` and its causes are what a layer above may use. specs/Choice,
 //! Yielding and Placed are inner: the place that is chosen, the table of who gives way in a memory
 //! pair, and what holds while strands are given their paths.

@@ -1,11 +1,12 @@
 // Home routes, a strand after the other.
 
-ghost use Rattle.std.specs.Prelude.{◌≡◌, ◌<◌, ◌+◌, true, length, IfOk, OnOk};
+ghost use Rattle.std.specs.Prelude.{◌≡◌, ◌<◌, ◌+◌, ◌++◌, [], ◌∷◌, true, length, replicate};
+ghost use Rattle.std.specs.Prelude.{IfOk, OnOk};
 ghost use Rattle.net_form.specs.Admitted.{strand_at, IsAdmitted};
 ghost use Rattle.net_form.specs.Flow.{flow, AreRoutes};
 ghost use Rattle.net_form.specs.Formed.{IsFormed};
 ghost use Rattle.net_form.specs.Rooms.{layer_total, IsRoomOf};
-ghost use Rattle.net_laws.specs.Homes.{HasRoom, is_there};
+ghost use Rattle.net_laws.specs.Homes.{HasRoom, home_of, is_there};
 ghost use Rattle.al_edge.specs.Choice.{busy_at, place_for, path_for};
 ghost use Rattle.al_edge.specs.HomeRoutes.{AreHome};
 ghost use Rattle.al_edge.specs.HomePaths.{IsSoFar};
@@ -13,7 +14,7 @@ ghost use Rattle.al_edge.specs.Yielding.{IsTable};
 
 use crate::choice::pick;
 use crate::side::{across, allowed, home_of, passes};
-use crate::yielding::{needs_register, yielding};
+use crate::yielding::{needs_register, stays_home, yielding};
 use net_form::{Net, Routes, Taken};
 use pra_base::{OutOfMemory, Place};
 use pra_list::Seq;
@@ -76,7 +77,25 @@ fn path_for(
     Ok(path)
 }
 
-// The path of one strand more.
+// The path of a strand that is at home at all its layers.
+fn add_home(
+    alloc: Global,
+    net: &Net,
+    paths: &mut Seq<Seq<Place>>,
+    strand: usize,
+) -> Result<(), OutOfMemory>
+    requires strand { strand < length net.now.strands }
+    ensures { OnOk result (paths.new ≡ paths.old ++
+        replicate (length (strand_at net.now strand).masks) (home_of (strand_at net.now strand))
+        ∷ []) }
+{
+    let t = &net.strands[strand];
+    let path = vec![in alloc; home_of(t); t.masks.len()]?;
+    paths.push(Seq::from_vec(path))?;
+    Ok(())
+}
+
+// The path of one strand more. One that is at home throughout uses no register.
 fn add_path(
     alloc: Global,
     net: &Net,
@@ -94,6 +113,10 @@ fn add_path(
     ensures taken { OnOk result (IsRoomOf net.now taken.new) }
     ensures paths { OnOk result (IsSoFar net.now taken.new.regs paths.new (strand + 1)) }
 {
+    if stays_home(net, table, strand) {
+        add_home(alloc, net, paths, strand)?;
+        return Ok(());
+    }
     let path = path_for(alloc, net, &taken.regs, table, strand)?;
     taken.take_path(net, strand, path.as_slice());
     paths.push(path)?;

@@ -4,6 +4,7 @@ use Rattle.net_form.specs.Admitted.{strand_at}
 use Rattle.net_form.specs.InUse.{mark}
 use Rattle.net_form.proofs.PathUses.{uses}
 use Rattle.al_edge.specs.HomePaths.{IsSoFar}
+use Rattle.al_edge.proofs.AtHome.{home_more}
 use Rattle.al_edge.proofs.Step.{path_placed, so_far_more}
 use Rattle.al_edge.proofs.routing.add_path.Goals as goal
 
@@ -32,3 +33,12 @@ returns-clause-paths c =
     ∙ ap (λ (ps : List Place). min 1
     (mark c.args.taken.now.regs n r + uses net n r c.args.strand
     (strand_at net c.args.strand).first None ps)) c.as_slice.ensures))
+
+pub returns-then-stays_home-clause-paths : goal.returns-then-stays_home-clause-paths
+returns-then-stays_home-clause-paths c =
+    let net = c.args.net.now in
+    let regs = c.args.taken.now.regs in
+    subst (λ (ps : List (List Place)). IsSoFar net regs ps (c.args.strand + 1))
+    (sym c.in_ok-add_home.ensures)
+    (home_more net c.requires.net c.args.strand c.requires.strand c.requires.room c.args.paths.now
+    regs c.requires.paths (c.stays_home.ensures c.if-stays_home.true))
