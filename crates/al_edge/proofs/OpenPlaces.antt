@@ -1,8 +1,11 @@
 -- The test of a place tells whether it is open.
-use Rattle.std.proofs.Common.{ℕ, ◌≡◌, ◌<◌, true, false, not, ◌&&◌, eqb, List, [], length}
-use Rattle.std.proofs.Common.{All, refl, sym, ap, ◌∙◌, inl, inr}
-use Rattle.std.proofs.lemmas.Bool.{cases_Bool, eqb-true, eq-eqb, false≢true, and_from}
+use Rattle.std.proofs.Common.{ℕ, ◌≡◌, ◌<◌, ◌+◌, Bool, true, false, not, ◌&&◌, eqb, List, [], length}
+use Rattle.std.proofs.Common.{take, drop, get_or, All, refl, sym, ap, ◌∙◌, inl, inr, arith}
+use Rattle.std.specs.List.{list_all}
+use Rattle.std.proofs.lemmas.Bool.{cases_Bool, eqb-true, eq-eqb, false≢true, and_from, and_left}
+use Rattle.std.proofs.lemmas.List.{take-append-drop}
 use Rattle.std.proofs.lemmas.List.Elements.{All-weaker}
+use Rattle.std.proofs.lemmas.List.Folds.{list_all-append, list_all_more}
 use Rattle.std.proofs.lemmas.List.Sums.{AllPass-from_list_all, list_all-from_AllPass}
 use Rattle.std.proofs.lemmas.Option.{slice_get_within}
 use Rattle.pra_list.proofs.Choices.{and_true}
@@ -22,7 +25,7 @@ use Rattle.al_laws.specs.Parts.{layer_at}
 use Rattle.al_laws.proofs.EndsAnywhere.{open_ends, memory_open}
 use Rattle.al_edge.specs.GroupEnds.{ends_of, end_layer}
 use Rattle.al_edge.specs.OpenPlaces.{is_unmarked, may_be, suits_all, whole_layer, IsInMasks}
-use Rattle.al_edge.specs.OpenPlaces.{AreMarked}
+use Rattle.al_edge.specs.OpenPlaces.{AreForAll, AreMarked}
 use Rattle.al_edge.proofs.GroupMembers.{IsMember, all_members, each_end, this_in}
 
 -- ---- what the test says of each end
@@ -158,6 +161,44 @@ memory_suits net built regs g =
     (is_unmarked regs (whole_layer net e) Mem)
     (opened.mask e.strand (end_layer net e) member.there member.end) refl)
     (ends_of net g) (all_members net g))
+
+-- a mask of the first ends, and of one more
+pub masked_more : (net : Net) (regs : List ℕ) (g i : ℕ) (es : List TieEnd) → es ≡ ends_of net g
+    → (d : TieEnd) → i < length es → (old new : ℕ)
+    → ((p : Place) → allows old (number p)
+    ≡ list_all (may_be net regs p) (take i (ends_of net g)))
+    → ((p : Place) → allows new (number p)
+    ≡ (allows old (number p) && may_be net regs p (get_or es i d)))
+    → (p : Place) → allows new (number p)
+    ≡ list_all (may_be net regs p) (take (i + 1) (ends_of net g))
+masked_more net regs g i es is d lt old new first more p =
+    let test = may_be net regs p in
+    let long = ap length is in
+    more p
+    ∙ ap (λ (b : Bool). b && test (get_or es i d)) (first p)
+    ∙ ap (λ (xs : List TieEnd). list_all test (take i (ends_of net g)) && test (get_or xs i d)) is
+    ∙ sym (list_all_more test (ends_of net g) i d (omega (arith, long, lt)))
+
+-- so where a mask of the first ends has memory alone, it is that of all
+module _ (net : Net) (built : IsBuilt net) (regs : List ℕ) (g i mask : ℕ)
+    (alone : (p : Place) → allows mask (number p) ≡ true → p ≡ Mem)
+    (first : (p : Place) → allows mask (number p)
+    ≡ list_all (may_be net regs p) (take i (ends_of net g))) where
+  none_left : (p : Place) → allows mask (number p) ≡ false → suits_all net regs g p ≡ false
+  none_left p no_ =
+      let es = ends_of net g in
+      ap (list_all (may_be net regs p)) (sym (take-append-drop i es))
+      ∙ list_all-append (may_be net regs p) (take i es) (drop i es)
+      ∙ and_left (list_all (may_be net regs p) (take i es)) (list_all (may_be net regs p)
+      (drop i es)) (sym (first p) ∙ no_)
+
+  pub memory_left : AreForAll net regs g mask
+  memory_left p = elim (cases_Bool (allows mask (number p)))
+      as (λ _. allows mask (number p) ≡ suits_all net regs g p) [
+        | inl in_ ↦ in_ ∙ sym (ap (suits_all net regs g) (alone p in_)
+            ∙ memory_suits net built regs g)
+        | inr no_ ↦ no_ ∙ sym (none_left p no_)
+      ]
 
 -- ---- where strands may end
 

@@ -32,6 +32,11 @@ may_be net regs p e =
 abbrev pub suits_all : Net → List ℕ → ℕ → Place → Bool
 suits_all net regs g p = list_all (may_be net regs p) (ends_of net g)
 
+-- the mask has just these places
+abbrev pub AreForAll : Net → List ℕ → ℕ → ℕ → Type 0
+AreForAll net regs g mask =
+    (p : Place) → allows mask (number p) ≡ suits_all net regs g p
+
 -- the place is in the masks of the group's ends
 abbrev pub IsInMasks : Net → ℕ → Place → Type 0
 IsInMasks net g p =

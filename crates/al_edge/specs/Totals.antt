@@ -2,11 +2,11 @@
 use Rattle.std.specs.Prelude.{◌≡◌, ℕ, ◌^◌, ◌<◌, Bool, true, false, ℤ, pos, ◌+ℤ◌, ◌≤ℤ◌, List}
 use Rattle.std.specs.Prelude.{Option, None, unwrap_or, slice_index_or}
 use Rattle.pra_base.specs.declared.ids.Place.{Place}
-use Rattle.pra_base.specs.Places.{number, place_count}
+use Rattle.pra_base.specs.Places.{number, allows, place_count}
 use Rattle.net_cost.specs.declared.weights.Weights.{Weights}
 use Rattle.net_form.specs.declared.net.Net.{Net}
 use Rattle.net_form.specs.declared.prices.Prices.{Prices}
-use Rattle.al_edge.specs.OpenPlaces.{IsInMasks, suits_all}
+use Rattle.al_edge.specs.OpenPlaces.{IsInMasks}
 use Rattle.al_edge.specs.Weighed.{IsCostAt, IsWeight}
 
 -- whether place number k is open
@@ -17,9 +17,9 @@ abbrev pub number_at : List ℤ → ℕ → ℤ
 number_at xs k = slice_index_or xs k (pos 0)
 
 -- for the places of lower numbers than k
-abbrev pub AreOpenBelow : Net → List ℕ → ℕ → ℕ → List Bool → Type 0
-AreOpenBelow net regs g k opens =
-    (p : Place) → number p < k → opened opens (number p) ≡ suits_all net regs g p
+abbrev pub AreOpenBelow : ℕ → ℕ → List Bool → Type 0
+AreOpenBelow mask k opens =
+    (p : Place) → number p < k → opened opens (number p) ≡ allows mask (number p)
 
 abbrev pub AreInMasks : Net → ℕ → List Bool → Type 0
 AreInMasks net g opens = (p : Place) → opened opens (number p) ≡ true → IsInMasks net g p

@@ -16,7 +16,7 @@ ghost use Rattle.al_edge.specs.Weighed.{IsLightest};
 
 use crate::cheapest::cheapest;
 use crate::members::{ends_of, layer_of};
-use crate::weights::{is_memory_alone, weights};
+use crate::weights::{is_memory_alone, places_for_all, weights};
 use net_cost::{CostModel, Event};
 use net_form::{Net, Plan, Prices, Taken};
 use net_path::Work;
@@ -24,7 +24,7 @@ use pra_base::{OutOfMemory, Place};
 use pra_list::Seq;
 use std::alloc::Global;
 
-// Marks the register of a group's place at the layers of its ends.
+// Marks the register of a group's place, if it has one, at the layers of its ends.
 fn take_group(net: &Net, used: &mut Taken, group: u32, place: Place)
     requires net { IsFormed net.now }
     requires group { group < net.now.groups }
@@ -33,6 +33,9 @@ fn take_group(net: &Net, used: &mut Taken, group: u32, place: Place)
     ensures marks { (n r : ℕ) → mark used.new.regs n r ≡ min 1 (mark used.old.regs n r +
         count_by (comes_there net.now n r place) (ends_of net.now group)) }
 {
+    if !place.has_register() {
+        return;
+    }
     for end in ends_of(net, group) {
         used.take_place(layer_of(net, *end), place);
     }
@@ -62,10 +65,11 @@ fn best_place<F: Fn(Event, u32) -> u32>(
     ensures family { work.new.family ≡ work.old.family }
     ensures reserved { IsReservedFor net.now work.new }
 {
-    if is_memory_alone(net, used, group) {
+    let places = places_for_all(net, used, group);
+    if is_memory_alone(places) {
         return Place::Mem;
     }
-    cheapest(&weights(work, net, model, prices, free, used, group))
+    cheapest(&weights(work, net, model, prices, free, used, group, places))
 }
 
 // The place of one group more.

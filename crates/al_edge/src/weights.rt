@@ -15,7 +15,7 @@ ghost use Rattle.net_form.specs.Rooms.{IsRoomOf};
 ghost use Rattle.net_laws.specs.Built.{IsBuilt};
 ghost use Rattle.net_dual.specs.Priced.{AreInRange};
 ghost use Rattle.net_path.specs.Desk.{IsReservedFor};
-ghost use Rattle.al_edge.specs.OpenPlaces.{may_be, suits_all, IsInMasks};
+ghost use Rattle.al_edge.specs.OpenPlaces.{may_be, AreForAll, IsInMasks};
 ghost use Rattle.al_edge.specs.Weighed.{IsCostAt, AreWeights};
 ghost use Rattle.al_edge.specs.Totals.{AreOpenBelow, AreInMasks, AreCostsBelow, AreKnown, AreWide};
 ghost use Rattle.al_edge.specs.Totals.{AreCostsAdded, AreTotals};
@@ -40,30 +40,29 @@ fn narrowed(net: &Net, used: &Taken, end: TieEnd, places: Mask) -> Mask
     meet(places, without(mask_of(net, end), busy))
 }
 
-// The places at which all ends of the group may be.
-fn places_for_all(net: &Net, used: &Taken, group: u32) -> Mask
-    requires net { IsFormed net.now }
+/// Whether a mask has no place but memory.
+pub(crate) fn is_memory_alone(places: Mask) -> bool
+    ensures { result ≡ true → (p : AnyPlace) → allows places (number p) ≡ true → p ≡ Mem }
+{
+    places == MEMORY
+}
+
+/// The places at which all ends of the group may be. Memory is always among them, so the ends that
+/// are left are not asked once it is alone.
+pub(crate) fn places_for_all(net: &Net, used: &Taken, group: u32) -> Mask
+    requires net { IsBuilt net.now }
     requires used { IsRoomOf net.now used.now }
     requires group { group < net.now.groups }
-    ensures { (p : AnyPlace) → allows result (number p) ≡
-        suits_all net.now used.now.regs group p }
+    ensures { AreForAll net.now used.now.regs group result }
 {
     let mut places = EVERY;
     for end in ends_of(net, group) {
         places = narrowed(net, used, *end, places);
+        if is_memory_alone(places) {
+            return places;
+        }
     }
     places
-}
-
-/// Whether no place but memory is open to the group.
-pub(crate) fn is_memory_alone(net: &Net, used: &Taken, group: u32) -> bool
-    requires net { IsFormed net.now }
-    requires used { IsRoomOf net.now used.now }
-    requires group { group < net.now.groups }
-    ensures { result ≡ true → (p : AnyPlace) →
-        suits_all net.now used.now.regs group p ≡ true → p ≡ Mem }
-{
-    places_for_all(net, used, group) == MEMORY
 }
 
 // What a strand costs at least with its ends in the group at the place.
@@ -96,14 +95,10 @@ fn cost_at<F: Fn(Event, u32) -> u32>(
     }
 }
 
-// Whether all ends of the group may be at it, for each place.
-fn open_places(net: &Net, used: &Taken, group: u32) -> [bool; 14]
-    requires net { IsFormed net.now }
-    requires used { IsRoomOf net.now used.now }
-    requires group { group < net.now.groups }
-    ensures { AreOpenBelow net.now used.now.regs group place_count result }
+// Whether it is in the mask, for each place.
+fn open_places(places: Mask) -> [bool; 14]
+    ensures { AreOpenBelow places place_count result }
 {
-    let places = places_for_all(net, used, group);
     let mut opens = [false; 14];
     for number in 0..14u8 {
         opens[number as usize] = allows(places, place_of(number));
@@ -351,15 +346,17 @@ fn of_open(opens: &[bool; 14], totals: &[i128; 14]) -> PlaceWeights
     weights
 }
 
-/// What each place costs the strands of a group, and None where it is not open.
+/// What each place costs the strands of a group, and None where it is not open. The open places are
+/// those at which all its ends may be.
 pub(crate) fn weights<F: Fn(Event, u32) -> u32>(
     work: &mut Work,
     net: &Net,
     model: &CostModel<F>,
     prices: &Prices,
     free: &Taken,
-    used: &Taken,
+    _used: &Taken,
     group: u32,
+    places: Mask,
 ) -> PlaceWeights
     requires kept { Keeps F.Fn model.now }
     requires net { IsBuilt net.now }
@@ -367,14 +364,15 @@ pub(crate) fn weights<F: Fn(Event, u32) -> u32>(
     requires prices { AreInRange net.now prices.now }
     requires room { IsRoomOf net.now free.now }
     requires free { StandsFor net.now free.now [] }
-    requires used { IsRoomOf net.now used.now }
+    requires used { IsRoomOf net.now _used.now }
     requires group { group < net.now.groups }
-    ensures weights { AreWeights net.now (weights_of model.now) prices.now used.now.regs group
+    requires places { AreForAll net.now _used.now.regs group places }
+    ensures weights { AreWeights net.now (weights_of model.now) prices.now _used.now.regs group
         place_count result }
     ensures family { work.new.family ≡ work.old.family }
     ensures reserved { IsReservedFor net.now work.new }
 {
-    let opens = open_places(net, used, group);
+    let opens = open_places(places);
     let totals = totals(work, net, model, prices, free, group, &opens);
     of_open(&opens, &totals)
 }

@@ -1,3 +1,4 @@
+use Rattle.std.proofs.Common.{◌∙◌}
 use Rattle.pra_base.specs.declared.ids.Place.TheVariants.{Mem}
 use Rattle.pra_base.proofs.PlaceNumbers.{number_below}
 use Rattle.net_cost.specs.Models.{weights_of}
@@ -25,4 +26,6 @@ returns-clause-best g c = best c.args.net.now (weights_of c.args.model.now) c.ar
 pub returns-then-is_memory_alone-clause-best : goal.returns-then-is_memory_alone-clause-best
 returns-then-is_memory_alone-clause-best g c =
     memory_alone c.args.net.now c.requires.net (weights_of c.args.model.now) c.args.prices.now
-    c.args.used.now.regs c.args.group (c.is_memory_alone.ensures c.if-is_memory_alone.true)
+    c.args.used.now.regs c.args.group (λ p suits.
+    c.is_memory_alone.ensures c.if-is_memory_alone.true p
+    (c.places_for_all-places.ensures p ∙ suits))
