@@ -96,3 +96,9 @@ module _ (net : Net) (g s : ℕ) (p : Place) where
   pub exit_ends : is_group g (strand_at net s).entry_group ≡ false
       → is_group g (strand_at net s).exit_group ≡ true → group_ends net g p s ≡ stopping None p
   exit_ends entry exit = rw (entry, exit) refl
+
+  -- both are
+  pub both_ends : is_group g (strand_at net s).entry_group ≡ true
+      → is_group g (strand_at net s).exit_group ≡ true
+      → group_ends net g p s ≡ starting (Some p) p
+  both_ends entry exit = rw (entry, exit) refl

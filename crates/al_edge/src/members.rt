@@ -109,6 +109,16 @@ pub(crate) fn leaves_alone(net: &Net, group: u32, strand: u32) -> bool
     !is_in(group, strand.entry_group) && is_in(group, strand.exit_group) && !strand.constant
 }
 
+/// Whether both ends of a strand are in the group.
+pub(crate) fn goes_round(net: &Net, group: u32, strand: u32) -> bool
+    requires strand { strand < length net.now.strands }
+    ensures { result ≡ (is_group group (strand_at net.now strand).entry_group &&
+        is_group group (strand_at net.now strand).exit_group) }
+{
+    let strand = &net.strands[strand as usize];
+    is_in(group, strand.entry_group) && is_in(group, strand.exit_group)
+}
+
 fn wanted(group: u32, place: Place, of_end: Option<u32>) -> Option<Place>
     ensures { result ≡ (if is_group group of_end then Some place else None) }
 {

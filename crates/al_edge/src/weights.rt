@@ -2,7 +2,7 @@
 
 ghost use Rattle.std.specs.Prelude.{◌≡◌, ◌<◌, ◌^◌, ◌&&◌, ℕ, ℤ, pos, ◌+ℤ◌, ◌≤ℤ◌, [], length};
 ghost use Rattle.std.specs.Prelude.{true, false};
-ghost use Rattle.std.specs.Prelude.{None, Some, slice_index_or, if◌then◌else◌};
+ghost use Rattle.std.specs.Prelude.{None, Some, slice_index_or, unwrap_or, if◌then◌else◌};
 ghost use Rattle.net_form.specs.Admitted.{strand_at};
 ghost use Rattle.al_laws.specs.Greedy.{is_group};
 ghost use Rattle.pra_base.specs.declared.ids.Place.{Place as AnyPlace};
@@ -21,7 +21,9 @@ ghost use Rattle.al_edge.specs.Totals.{AreOpenBelow, AreInMasks, AreCostsBelow, 
 ghost use Rattle.al_edge.specs.Totals.{AreCostsAdded, AreTotals};
 
 use crate::cheapest::{PlaceWeights, place_of};
-use crate::members::{counts, ends_of, enters_alone, group_ends, layer_of, leaves_alone, mask_of};
+use crate::members::{
+    counts, ends_of, enters_alone, goes_round, group_ends, layer_of, leaves_alone, mask_of,
+};
 use net_cost::{CostModel, Event};
 use net_form::{Net, Prices, Taken, TieEnd};
 use net_path::{Work, costs_from, costs_to, least};
@@ -106,7 +108,45 @@ fn open_places(places: Mask) -> [bool; 14]
     opens
 }
 
-// What a strand costs at least with its ends there, if this place is open.
+// The cost that was found for a place, and 0 where none was.
+fn known_at(found: &[Option<i64>; 14], place: Place) -> i64
+    ensures { result ≡ unwrap_or (slice_index_or found.now (number place) None) (pos 0) }
+{
+    found[place.number() as usize].unwrap_or(0)
+}
+
+// What a strand with both ends in the group costs at least with them at the place. No path has to
+// be read back for it.
+fn cost_around<F: Fn(Event, u32) -> u32>(
+    work: &mut Work,
+    net: &Net,
+    model: &CostModel<F>,
+    prices: &Prices,
+    free: &Taken,
+    group: u32,
+    place: Place,
+    strand: u32,
+) -> i64
+    requires kept { Keeps F.Fn model.now }
+    requires net { IsBuilt net.now }
+    requires work { IsReservedFor net.now work.old }
+    requires prices { AreInRange net.now prices.now }
+    requires room { IsRoomOf net.now free.now }
+    requires free { StandsFor net.now free.now [] }
+    requires place { IsInMasks net.now group place }
+    requires strand { strand < length net.now.strands }
+    requires entry { is_group group (strand_at net.now strand).entry_group ≡ true }
+    requires exit { is_group group (strand_at net.now strand).exit_group ≡ true }
+    ensures cost { IsCostAt net.now (weights_of model.now) prices.now group place strand result }
+    ensures family { work.new.family ≡ work.old.family }
+    ensures reserved { IsReservedFor net.now work.new }
+{
+    let found = costs_from(work, net, model, prices, strand, Some(place), free);
+    known_at(&found, place)
+}
+
+// What a strand costs at least with its ends there, if this place is open. In memory most strands
+// pass by, which the search for a path sees at once.
 fn cost_if_open<F: Fn(Event, u32) -> u32>(
     work: &mut Work,
     net: &Net,
@@ -131,11 +171,13 @@ fn cost_if_open<F: Fn(Event, u32) -> u32>(
     ensures family { work.new.family ≡ work.old.family }
     ensures reserved { IsReservedFor net.now work.new }
 {
-    if opened {
-        cost_at(work, net, model, prices, free, group, place, strand)
-    } else {
-        0
+    if !opened {
+        return 0;
     }
+    if place.is_mem() || !goes_round(net, group, strand) {
+        return cost_at(work, net, model, prices, free, group, place, strand);
+    }
+    cost_around(work, net, model, prices, free, group, place, strand)
 }
 
 // What a strand costs at each open place, by a search for each.
