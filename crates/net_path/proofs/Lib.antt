@@ -9,6 +9,7 @@ pub mod EndSums
 pub mod EndsThere
 pub mod EntryTies
 pub mod ExitTies
+pub mod FilledRows
 pub mod Following
 pub mod GoodPaths
 pub mod Grounded

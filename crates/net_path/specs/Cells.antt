@@ -1,6 +1,6 @@
 -- What is paid at a layer of a strand.
-use Rattle.std.specs.Prelude.{◌≡◌, ◌⊎◌, ℕ, ◌*◌, ◌^◌, ◌<◌, ◌≤◌, Bool, ℤ, pos, ◌+ℤ◌, List, length}
-use Rattle.std.specs.Prelude.{None, if◌then◌else◌, slice_index}
+use Rattle.std.specs.Prelude.{◌≡◌, ◌≢◌, ◌⊎◌, ℕ, ◌*◌, ◌^◌, ◌<◌, ◌≤◌, Bool, ℤ, pos, ◌+ℤ◌, List}
+use Rattle.std.specs.Prelude.{length, None, if◌then◌else◌, slice_index}
 use Rattle.pra_base.specs.declared.ids.Place.{Place}
 use Rattle.pra_base.specs.Places.{number, allows, has_register, register_of}
 use Rattle.net_cost.specs.declared.weights.Weights.{Weights}
@@ -56,6 +56,16 @@ abbrev pub AreCellsWith : ℕ → List ℕ → (Place → ℤ) → List ℤ → 
 AreCellsWith open_places caps extras costs =
     (place : Place) →
     IsCellWith open_places caps (extras place) place (at costs (number place))
+
+-- the price of the place of number p, where these places are open
+pub record IsPriceIf (open_places p : ℕ) (price z : ℤ) : Type 0 where
+  pub is : IsCell (allows open_places p) price z
+  pub within : (z ≡ unreached) ⊎ IsAbout (2 ^ 43) z
+
+-- it is put into a row, at that place alone
+pub record IsPriceAt (open_places p : ℕ) (price : ℤ) (old new : List ℤ) : Type 0 where
+  pub others : (q : ℕ) → q ≢ p → at new q ≡ at old q
+  pub here : IsPriceIf open_places p price (at new p)
 
 pub record IsPlainCell (net : Net) (w : Weights) (prices : Prices) (ends : Ends) (taken : Taken)
     (spot : Spot) (place : Place) (z : ℤ) : Type 0 where

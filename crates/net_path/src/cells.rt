@@ -8,17 +8,17 @@ ghost use Rattle.net_form.specs.Formed.{IsFormed};
 ghost use Rattle.net_form.specs.Ordered.{AreExtras};
 ghost use Rattle.net_form.specs.Rooms.{IsRoomOf};
 ghost use Rattle.net_dual.specs.Priced.{AreInRange};
-ghost use Rattle.pra_base.specs.Places.{number, allows};
+ghost use Rattle.pra_base.specs.Places.{number, allows, place_count, register_count};
 ghost use Rattle.pra_base.specs.declared.ids.Place.{Place as AnyPlace};
 ghost use Rattle.net_path.specs.Grounds.{wants, suits_ends, edge, is_free, terrain};
 ghost use Rattle.net_path.specs.Cells.{IsSpot, ArePlainCells, ArePlainRows, is_open_alone};
 ghost use Rattle.net_path.specs.Cells.{spot_edge, price_in, spot_extras, IsCellWith, AreCellsWith};
+ghost use Rattle.net_path.specs.Cells.{IsPriceIf, IsPriceAt};
 ghost use Rattle.net_path.specs.Rows.{IsAbout, AreCells, AreCellsWithin};
 ghost use Rattle.net_laws.specs.Built.{IsBuilt};
 
 use crate::crossbar::Row;
 use crate::pairs::pay_pairs;
-use crate::path::place_of;
 use crate::rows::UNREACHED;
 use crate::search::price_of;
 use crate::ties::{pay_entries, pay_exits};
@@ -117,15 +117,56 @@ fn cell(places: Mask, caps: &[u64], place: Place, extras: i64) -> i64
     }
 }
 
-// What is paid at the places of a layer without extras.
+// The price of a register, of these six.
+#[inline(always)]
+fn register_price(caps: &[u64], register: u8) -> i64
+    requires six { length caps.now ≡ 6 }
+    requires most { All (λ c. c ≤ 2 ^ 40) caps.now }
+    requires register { register < register_count }
+    ensures value { result ≡ pos (slice_index caps.now register) }
+    ensures about { IsAbout (2 ^ 40) result }
+{
+    caps[register as usize] as i64
+}
+
+// A price where the place of a number is open, and that it is closed where it is not: a choice of
+// two numbers that are there already.
+#[inline(always)]
+fn price_if(places: Mask, place: u8, price: i64) -> i64
+    requires place { place < place_count }
+    requires price { IsAbout (2 ^ 40) price }
+    ensures { IsPriceIf places place price result }
+{
+    if (places >> place) & 1 == 1 {
+        price
+    } else {
+        UNREACHED
+    }
+}
+
+// Puts what is paid at the place of a number.
+#[inline(always)]
+fn put_price(row: &mut Row, places: Mask, place: u8, price: i64)
+    requires place { place < place_count }
+    requires price { IsAbout (2 ^ 40) price }
+    ensures { IsPriceAt places place price row.old.costs row.new.costs }
+{
+    row.costs[place as usize] = price_if(places, place, price);
+}
+
+// What is paid at the places of a layer without extras: a register's price at both its places.
 fn fill_row(places: Mask, caps: &[u64], row: &mut Row)
     requires six { length caps.now ≡ 6 }
     requires most { All (λ c. c ≤ 2 ^ 40) caps.now }
     ensures { AreCellsWith places caps.now (λ place. pos 0) row.new.costs }
 {
-    for p in 0..14u8 {
-        row.costs[p as usize] = cell(places, caps, place_of(p), 0);
+    for register in 0..6u8 {
+        let price = register_price(caps, register);
+        put_price(row, places, register, price);
+        put_price(row, places, 8 + register, price);
     }
+    put_price(row, places, 6, 0);
+    put_price(row, places, 7, 0);
 }
 
 // Pays the extras of a layer, each at its place.

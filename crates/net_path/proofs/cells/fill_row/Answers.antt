@@ -1,29 +1,34 @@
-use Rattle.std.proofs.Common.{ℕ, ◌≡◌, ℤ, pos, length-set, arith, refl, sym, subst, ◌∙◌, to_z, of_z}
-use Rattle.std.proofs.Common.{w64}
+use Rattle.std.proofs.Common.{◌≡◌, ◌+◌, ◌∙◌, ℕ, ℤ, pos, subst, arith, to_z, of_z, w64}
 use Rattle.std.proofs.lemmas.Int.{to_z-of_z}
-use Rattle.pra_list.proofs.Growing.{stored}
-use Rattle.pra_base.specs.declared.ids.Place.{Place}
-use Rattle.pra_base.specs.Places.{number}
-use Rattle.pra_base.proofs.PlaceNumbers.{number_below}
-use Rattle.net_form.proofs.PlaceEquality.{number-injective}
-use Rattle.net_path.specs.Cells.{IsCellWith}
+use Rattle.std.specs.Prelude.{slice_index}
+use Rattle.net_path.specs.Cells.{IsPriceAt}
+use Rattle.net_path.proofs.FilledRows.{AreFilled, filled_two, filled_all}
 use Rattle.net_path.proofs.cells.fill_row.Goals as goal
 
-pub loop-p-preserved : goal.loop-p-preserved
-loop-p-preserved c =
-    let whole : to_z w64 (of_z w64 c.cell.result) ≡ c.cell.result =
-    to_z-of_z w64 c.cell.result (record { sfits = c.cell.type_inv }) in
-    let Cell = λ (k : ℕ) (z : ℤ). (place : Place) → number place ≡ k
-    → IsCellWith c.args.places c.args.caps.now (pos 0) place z in
-    record {
-      long = omega (arith, length-set {A = ℤ}, c.loop-p.invariant.long);
-      cells = rw whole (stored Cell c.loop-p.row.costs c.loop-p.p c.cell.result (pos 0)
-          (omega (arith, c.loop-p.invariant.long)) c.loop-p.invariant.cells
-          (λ place is. subst (λ (q : Place). IsCellWith c.args.places c.args.caps.now (pos 0) q
-          c.cell.result)
-          (number-injective c.place_of.result place (c.place_of.ensures ∙ sym is)) c.cell.ensures));
-    }
+pub loop-register-init : goal.loop-register-init
+loop-register-init c = λ k lt. absurd (omega (arith, lt))
+
+pub loop-register-preserved : goal.loop-register-preserved
+loop-register-preserved c =
+    let r = c.loop-register.register in
+    let old = c.loop-register.row.costs in
+    let mid = c.put_price.new.row.costs in
+    let new = c.put_price-in-loop-register.new.row.costs in
+    let price = c.register_price-price.result in
+    let is : to_z w64 (of_z w64 price) ≡ pos (slice_index c.args.caps.now r) =
+    to_z-of_z w64 price (record { sfits = c.register_price-price.type_inv })
+    ∙ c.register_price-price.ensures.value in
+    filled_two c.args.places c.args.caps.now r old mid new
+    (omega (arith, c.loop-register-test.true)) c.loop-register.invariant
+    (subst (λ (z : ℤ). IsPriceAt c.args.places r z old mid) is c.put_price.ensures)
+    (subst (λ (z : ℤ). IsPriceAt c.args.places (8 + r) z mid new) is
+    c.put_price-in-loop-register.ensures)
 
 pub returns : goal.returns
-returns c = λ place.
-    c.loop-p.invariant.cells (number place) (let b = number_below place in omega arith) place refl
+returns c =
+    let six : c.loop-register.register ≡ 6 =
+    omega (arith, c.loop-register-test.false, c.loop-register.auto.register-end) in
+    filled_all c.args.places c.args.caps.now c.loop-register.row.costs c.put_price-2.new.row.costs
+    c.put_price-3.new.row.costs
+    (subst (λ (n : ℕ). AreFilled c.args.places c.args.caps.now n c.loop-register.row.costs) six
+    c.loop-register.invariant) c.put_price-2.ensures c.put_price-3.ensures
