@@ -1,6 +1,7 @@
 // A family of least paths, one for each strand.
 
 ghost use Rattle.std.specs.Prelude.{◌≡◌, ◌≢◌, ◌≤◌, ◌<◌, ℕ, [], length, slice_index_or, IfOk};
+ghost use Rattle.std.specs.Prelude.{true};
 ghost use Rattle.net_cost.specs.Models.{Keeps, weights_of};
 ghost use Rattle.net_form.specs.Admitted.{strand_at};
 ghost use Rattle.net_form.specs.InUse.{StandsFor};
@@ -9,6 +10,7 @@ ghost use Rattle.net_laws.specs.Built.{IsBuilt};
 ghost use Rattle.net_dual.specs.Priced.{AreInRange, edge_price};
 ghost use Rattle.net_dual.specs.Paths.{IsLeast, Anywhere, any_ends, path_price, path_in};
 ghost use Rattle.net_path.specs.Desk.{IsReservedFor, HasSizes, path_of};
+ghost use Rattle.net_path.specs.Passing.{PassesBy};
 
 use crate::crossbar::Row;
 use crate::search::search_spread;
@@ -40,6 +42,7 @@ fn renew_over<F: Fn(Event, u32) -> u32>(
     model: &CostModel<F>,
     prices: &Prices,
     strand: usize,
+    passes: bool,
     free: &Taken,
     rows: &mut [Row],
     path: &mut [Place],
@@ -51,6 +54,7 @@ fn renew_over<F: Fn(Event, u32) -> u32>(
     requires net { IsBuilt net.now }
     requires prices { AreInRange net.now prices.now }
     requires strand { strand < length net.now.strands }
+    requires passes { passes ≡ true → PassesBy net.now strand }
     requires room { IsRoomOf net.now free.now }
     requires free { StandsFor net.now free.now [] }
     requires rows { length rows.old ≡ length (strand_at net.now strand).masks }
@@ -67,7 +71,9 @@ fn renew_over<F: Fn(Event, u32) -> u32>(
     ensures sizes { HasSizes net.now family.new }
 {
     count(loads, family.places[strand].as_slice(), false);
-    match search_spread(net, model, prices, strand, free, family, loads, rows, path) {
+    match search_spread(
+        net, model, prices, strand, passes, free, family, loads, rows, path,
+    ) {
         Err(_) => 0,
         Ok(cost) => {
             count(loads, path, true);
@@ -83,6 +89,7 @@ fn renew_parts<F: Fn(Event, u32) -> u32>(
     model: &CostModel<F>,
     prices: &Prices,
     strand: usize,
+    passes: bool,
     free: &Taken,
     rows: &mut [Row],
     path: &mut [Place],
@@ -94,6 +101,7 @@ fn renew_parts<F: Fn(Event, u32) -> u32>(
     requires net { IsBuilt net.now }
     requires prices { AreInRange net.now prices.now }
     requires strand { strand < length net.now.strands }
+    requires passes { passes ≡ true → PassesBy net.now strand }
     requires room { IsRoomOf net.now free.now }
     requires free { StandsFor net.now free.now [] }
     requires rows { length (strand_at net.now strand).masks ≤ length rows.old }
@@ -115,7 +123,7 @@ fn renew_parts<F: Fn(Event, u32) -> u32>(
     let path = &mut path[..layers];
     let loads = &mut loads[first..first + layers];
     renew_over(
-        net, model, prices, strand, free, rows, path, loads, alloc, family,
+        net, model, prices, strand, passes, free, rows, path, loads, alloc, family,
     )
 }
 
@@ -146,6 +154,7 @@ pub fn renew<F: Fn(Event, u32) -> u32>(
     ensures path { path_of work.new ≡ path_of work.old }
     ensures reserved { IsReservedFor net.now work.new }
 {
+    let passes = work.passing[strand as usize];
     let (rows, path, loads) = (&mut work.rows, &mut work.renewed, &mut work.loads);
     let (free, family) = (&work.free, &mut work.family);
     renew_parts(
@@ -153,6 +162,7 @@ pub fn renew<F: Fn(Event, u32) -> u32>(
         model,
         prices,
         strand as usize,
+        passes,
         free,
         rows,
         path,

@@ -83,6 +83,9 @@
 //! good; in `renew` too, unless an end may be drawn to a register that costs nothing. Other seconds
 //! below 0 are of registers with a price, through which no path goes at that cost.
 //!
+//! All of that but the ties depends on the network alone, and [`Work::reserve`] notes it of each
+//! strand. So a search asks for a note and for the ties, which mostly have no number but 0.
+//!
 //! # Where it is
 //!
 //! `ways` of the crossbar's moves and the step over rows are in `crossbar`, what steps cost in

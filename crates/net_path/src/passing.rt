@@ -5,7 +5,8 @@
 // path that stays in memory then pays its ties alone. So it is a least path, whatever registers
 // cost, where the ties ask no more of memory than of other places, and it is found without rows.
 
-ghost use Rattle.std.specs.Prelude.{◌≡◌, ◌≤ℤ◌, ◌<◌, ◌+◌, length, All, IsTrue, IfSome, true, pos};
+ghost use Rattle.std.specs.Prelude.{◌≡◌, ◌≤ℤ◌, ◌<◌, ◌+◌, length, All, IsTrue, IfSome, IfOk, true};
+ghost use Rattle.std.specs.Prelude.{pos, slice_index};
 ghost use Rattle.std.specs.Option.{MatchOption};
 ghost use Rattle.pra_base.specs.declared.ids.Place.{Place as AnyPlace};
 ghost use Rattle.pra_base.specs.declared.ids.Place.TheVariants.{Mem};
@@ -14,16 +15,17 @@ ghost use Rattle.net_form.specs.Admitted.{strand_at};
 ghost use Rattle.net_laws.specs.Built.{IsBuilt};
 ghost use Rattle.net_dual.specs.Priced.{AreInRange};
 ghost use Rattle.net_dual.specs.Paths.{any_ends};
-ghost use Rattle.net_path.specs.Passing.{PassesBy, AsksLeast, AsksLeastInAll, IsLeastAnyhow};
-ghost use Rattle.net_path.specs.Passing.{exit_pay, entry_pay};
+ghost use Rattle.net_path.specs.Passing.{PassesBy, ArePassing, AsksLeast, AsksLeastInAll};
+ghost use Rattle.net_path.specs.Passing.{IsLeastAnyhow, exit_pay, entry_pay};
 ghost use Rattle.net_path.specs.Ways.{at};
 
 use crate::crossbar::Row;
 use crate::spread::is_quiet;
-use crate::ties::{pay_entries, pay_exits};
+use crate::ties::{are_entries_free, are_exits_free, pay_entries, pay_exits};
 use net_form::{Ends, Net, Prices, Routes};
 use pra_base::places::allows;
-use pra_base::{Mask, Place};
+use pra_base::{Mask, OutOfMemory, Place};
+use std::alloc::Global;
 
 // Whether memory is in each of the masks.
 fn may_stay(masks: &[Mask]) -> bool
@@ -37,22 +39,39 @@ fn may_stay(masks: &[Mask]) -> bool
     true
 }
 
+// Whether a list goes on with the number that stands here.
+fn goes_on_alike(list: &[u32], at: usize) -> bool
+    ensures { result ≡ true → slice_index list.now (at + 1) ≡ slice_index list.now at }
+{
+    at < list.len() && at + 1 < list.len() && list[at + 1] == list[at]
+}
+
 // Whether a strand pays nothing in memory but what its ties ask.
 fn passes_by(net: &Net, strand: usize) -> bool
-    requires net { IsBuilt net.now }
     requires strand { strand < length net.now.strands }
     ensures { result ≡ true → PassesBy net.now strand }
 {
     if net.strands[strand].constant {
         return false;
     }
-    if net.index.extras[strand + 1] != net.index.extras[strand] {
+    if !goes_on_alike(net.index.extras.as_slice(), strand) {
         return false;
     }
-    if net.index.pairs[strand + 1] != net.index.pairs[strand] {
+    if !goes_on_alike(net.index.pairs.as_slice(), strand) {
         return false;
     }
     may_stay(net.strands[strand].masks.as_slice())
+}
+
+/// Of each strand whether it passes by, as far as that depends on the network alone.
+pub(crate) fn passing_strands(alloc: Global, net: &Net) -> Result<Vec<bool>, OutOfMemory>
+    ensures { IfOk result (λ v. ArePassing net.now v.items) }
+{
+    let mut passing = Vec::with_capacity(alloc, net.strands.len())?;
+    for strand in 0..net.strands.len() {
+        passing.push(passes_by(net, strand))?;
+    }
+    Ok(passing)
 }
 
 // Whether a row has nothing less than what it has for memory.
@@ -85,6 +104,16 @@ fn asked(row: &Row, end: Option<Place>) -> Option<i64>
     }
 }
 
+// What an end pays in memory where it pays nothing anywhere, if it may be there.
+fn asked_nothing(end: Option<Place>) -> Option<i64>
+    ensures { IfSome result (AsksLeast end (λ q. pos 0)) }
+{
+    match end {
+        None | Some(Place::Mem) => Some(0),
+        Some(_) => None,
+    }
+}
+
 fn unpaid_row() -> Row
     ensures { (q : AnyPlace) → at result.costs (number q) ≡ pos 0 }
 {
@@ -94,13 +123,16 @@ fn unpaid_row() -> Row
     }
 }
 
-// What the ties that go from a strand ask of it in memory.
+// What the ties that go from a strand ask of it in memory. Their numbers are mostly 0.
 fn asked_at_exit(net: &Net, prices: &Prices, strand: usize, end: Option<Place>) -> Option<i64>
     requires net { IsBuilt net.now }
     requires prices { AreInRange net.now prices.now }
     requires strand { strand < length net.now.strands }
     ensures { IfSome result (AsksLeast end (exit_pay net.now prices.now strand)) }
 {
+    if are_exits_free(net, prices, strand) {
+        return asked_nothing(end);
+    }
     let mut row = unpaid_row();
     pay_exits(net, prices, strand, &mut row);
     asked(&row, end)
@@ -113,6 +145,9 @@ fn asked_at_entry(net: &Net, prices: &Prices, strand: usize, end: Option<Place>)
     requires strand { strand < length net.now.strands }
     ensures { IfSome result (AsksLeast end (entry_pay net.now prices.now strand)) }
 {
+    if are_entries_free(net, prices, strand) {
+        return asked_nothing(end);
+    }
     let mut row = unpaid_row();
     pay_entries(net, prices, strand, &mut row);
     asked(&row, end)
@@ -140,25 +175,42 @@ fn stay_in_memory(path: &mut [Place])
     }
 }
 
+// Whether an end may be in memory.
+fn suits_memory(end: Option<Place>) -> bool {
+    match end {
+        None | Some(Place::Mem) => true,
+        Some(_) => false,
+    }
+}
+
+// Whether the strand passes by, and no end of its path is wanted elsewhere.
+fn may_pass(passes: bool, ends: Ends) -> bool
+    ensures { result ≡ true → passes ≡ true }
+{
+    passes && suits_memory(ends.first) && suits_memory(ends.last)
+}
+
 /// Writes the path that stays in memory and answers what it costs, where the strand passes by and
 /// its ends ask no more of memory than of other places.
 pub(crate) fn pass_by(
     net: &Net,
     prices: &Prices,
     strand: usize,
+    passes: bool,
     ends: Ends,
     path: &mut [Place],
 ) -> Option<i64>
     requires net { IsBuilt net.now }
     requires prices { AreInRange net.now prices.now }
     requires strand { strand < length net.now.strands }
+    requires passes { passes ≡ true → PassesBy net.now strand }
     requires path { (strand_at net.now strand).first + length path.old ≡
         (strand_at net.now strand).last + 1 }
     ensures long { length path.new ≡ length path.old }
     ensures least { MatchOption result (path.new ≡ path.old)
         (IsLeastAnyhow net.now prices.now ends strand path.new) }
 {
-    if !passes_by(net, strand) {
+    if !may_pass(passes, ends) {
         return None;
     }
     match asked_in_all(net, prices, strand, ends) {
@@ -176,11 +228,13 @@ pub(crate) fn pass_by_apart(
     prices: &Prices,
     family: &Routes,
     strand: usize,
+    passes: bool,
     path: &mut [Place],
 ) -> Option<i64>
     requires net { IsBuilt net.now }
     requires prices { AreInRange net.now prices.now }
     requires strand { strand < length net.now.strands }
+    requires passes { passes ≡ true → PassesBy net.now strand }
     requires path { (strand_at net.now strand).first + length path.old ≡
         (strand_at net.now strand).last + 1 }
     ensures long { length path.new ≡ length path.old }
@@ -191,8 +245,8 @@ pub(crate) fn pass_by_apart(
         first: None,
         last: None,
     };
-    if !is_quiet(net, prices, family, strand) {
+    if !passes || !is_quiet(net, prices, family, strand) {
         return None;
     }
-    pass_by(net, prices, strand, ends, path)
+    pass_by(net, prices, strand, passes, ends, path)
 }

@@ -1,6 +1,7 @@
 // The least priced path of a strand.
 
 ghost use Rattle.std.specs.Prelude.{◌≡◌, ◌≤◌, ◌<◌, ◌+◌, length, take, List, OnOk, OnErr, IfOk};
+ghost use Rattle.std.specs.Prelude.{true};
 ghost use Rattle.pra_base.specs.declared.ids.Place.{Place as AnyPlace};
 ghost use Rattle.net_cost.specs.Models.{Keeps, weights_of};
 ghost use Rattle.net_cost.specs.Weights.{deepest, number as event_number};
@@ -13,6 +14,7 @@ ghost use Rattle.net_dual.specs.Paths.{IsLeast, MayGo, any_ends, path_price};
 ghost use Rattle.net_path.specs.Grounds.{terrain, is_free};
 ghost use Rattle.net_path.specs.Rows.{AreCells, AreCellsWithin};
 ghost use Rattle.net_path.specs.Desk.{path_of, IsReservedFor};
+ghost use Rattle.net_path.specs.Passing.{PassesBy};
 ghost use Rattle.net_path.specs.Ways.{AreWays, AreWaysWithin, IsWay, event_price};
 
 use crate::cells::fill_cells;
@@ -117,6 +119,7 @@ pub(crate) fn search<F: Fn(Event, u32) -> u32>(
     model: &CostModel<F>,
     prices: &Prices,
     strand: usize,
+    passes: bool,
     ends: Ends,
     taken: &Taken,
     rows: &mut [Row],
@@ -127,6 +130,7 @@ pub(crate) fn search<F: Fn(Event, u32) -> u32>(
     requires prices { AreInRange net.now prices.now }
     requires taken { IsRoomOf net.now taken.now }
     requires strand { strand < length net.now.strands }
+    requires passes { passes ≡ true → PassesBy net.now strand }
     requires rows { (strand_at net.now strand).first + length rows.old ≡
         (strand_at net.now strand).last + 1 }
     requires path { length path.old ≡ length rows.old }
@@ -140,7 +144,7 @@ pub(crate) fn search<F: Fn(Event, u32) -> u32>(
     ensures none { OnErr result ((ps : List AnyPlace) →
         MayGo net.now ends (UsesNothing net.now taken.now) strand ps → ⊥) }
 {
-    if let Some(cost) = pass_by(net, prices, strand, ends, path) {
+    if let Some(cost) = pass_by(net, prices, strand, passes, ends, path) {
         return Ok(cost);
     }
     fill_cells(net, model, prices, ends, taken, strand, rows);
@@ -155,6 +159,7 @@ pub(crate) fn search_spread<F: Fn(Event, u32) -> u32>(
     model: &CostModel<F>,
     prices: &Prices,
     strand: usize,
+    passes: bool,
     taken: &Taken,
     family: &Routes,
     loads: &[Load],
@@ -166,6 +171,7 @@ pub(crate) fn search_spread<F: Fn(Event, u32) -> u32>(
     requires prices { AreInRange net.now prices.now }
     requires taken { IsRoomOf net.now taken.now }
     requires strand { strand < length net.now.strands }
+    requires passes { passes ≡ true → PassesBy net.now strand }
     requires loads { length loads.now ≡ length rows.old }
     requires rows { (strand_at net.now strand).first + length rows.old ≡
         (strand_at net.now strand).last + 1 }
@@ -179,7 +185,7 @@ pub(crate) fn search_spread<F: Fn(Event, u32) -> u32>(
     ensures none { OnErr result ((ps : List AnyPlace) →
         MayGo net.now any_ends (UsesNothing net.now taken.now) strand ps → ⊥) }
 {
-    if let Some(cost) = pass_by_apart(net, prices, family, strand, path) {
+    if let Some(cost) = pass_by_apart(net, prices, family, strand, passes, path) {
         return Ok(cost);
     }
     let ends = Ends {
@@ -197,6 +203,7 @@ pub(crate) fn search_front<F: Fn(Event, u32) -> u32>(
     model: &CostModel<F>,
     prices: &Prices,
     strand: usize,
+    passes: bool,
     ends: Ends,
     taken: &Taken,
     layers: usize,
@@ -208,6 +215,7 @@ pub(crate) fn search_front<F: Fn(Event, u32) -> u32>(
     requires prices { AreInRange net.now prices.now }
     requires taken { IsRoomOf net.now taken.now }
     requires strand { strand < length net.now.strands }
+    requires passes { passes ≡ true → PassesBy net.now strand }
     requires layers { layers ≡ length (strand_at net.now strand).masks }
     requires rows { layers ≤ length rows.old }
     requires path { layers ≤ length path.old }
@@ -223,7 +231,7 @@ pub(crate) fn search_front<F: Fn(Event, u32) -> u32>(
 {
     let rows = &mut rows[..layers];
     let path = &mut path[..layers];
-    search(net, model, prices, strand, ends, taken, rows, path)
+    search(net, model, prices, strand, passes, ends, taken, rows, path)
 }
 
 /// Finds a least priced path of a strand, among those that begin and end where `ends` wants it and
@@ -263,8 +271,11 @@ pub fn least<F: Fn(Event, u32) -> u32>(
 {
     let strand = strand as usize;
     let layers = net.strands[strand].masks.len();
+    let passes = work.passing[strand];
     let (rows, path) = (&mut work.rows, &mut work.path);
-    let result = search_front(net, model, prices, strand, ends, taken, layers, rows, path);
+    let result = search_front(
+        net, model, prices, strand, passes, ends, taken, layers, rows, path,
+    );
     if result.is_ok() {
         work.count = layers;
     }

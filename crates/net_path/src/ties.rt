@@ -9,6 +9,8 @@ ghost use Rattle.net_path.specs.Rows.{IsAbout};
 ghost use Rattle.net_path.specs.Ways.{at};
 ghost use Rattle.net_path.specs.Ties.{IsMore, HasPayRoom, HavePayRoom, tie_pay, ArePaidMore};
 ghost use Rattle.net_path.specs.Ties.{HaveTieRoom, ArePaidInAll, exit_ties, entry_ties};
+ghost use Rattle.net_path.specs.Passing.{exit_pay, entry_pay};
+ghost use Rattle.pra_base.specs.declared.ids.Place.{Place as AnyPlace};
 
 use crate::crossbar::Row;
 use crate::path::place_of;
@@ -79,6 +81,50 @@ fn pay_tie(row: &mut Row, prices: &Prices, leaves: bool, tie: usize)
         let more = tie_pay(prices, leaves, tie, place_of(p));
         row.costs[p as usize] = cost_with(row, p as usize, more);
     }
+}
+
+// Whether all numbers of a tie are known to be 0.
+fn is_free(prices: &Prices, tie: usize) -> bool
+    requires { 13 * tie + 13 ≤ length prices.now.ties }
+    ensures { result ≡ true → (q : AnyPlace) → tie_price prices.now tie q ≡ pos 0 }
+{
+    prices.ties.is_zero(tie)
+}
+
+/// Whether the numbers of the ties that go from a strand are known to be 0, of which no row is
+/// needed.
+pub(crate) fn are_exits_free(net: &Net, prices: &Prices, strand: usize) -> bool
+    requires net { IsBuilt net.now }
+    requires prices { AreInRange net.now prices.now }
+    requires strand { strand < length net.now.strands }
+    ensures { result ≡ true → (q : AnyPlace) → exit_pay net.now prices.now strand q ≡ pos 0 }
+{
+    let start = net.index.exits[strand];
+    let stop = net.index.exits[strand + 1];
+    for tie in start..stop {
+        if !is_free(prices, tie as usize) {
+            return false;
+        }
+    }
+    true
+}
+
+/// The same, of the ties that go to a strand.
+pub(crate) fn are_entries_free(net: &Net, prices: &Prices, strand: usize) -> bool
+    requires net { IsBuilt net.now }
+    requires prices { AreInRange net.now prices.now }
+    requires strand { strand < length net.now.strands }
+    ensures { result ≡ true → (q : AnyPlace) → entry_pay net.now prices.now strand q ≡ pos 0 }
+{
+    let start = net.index.entries[strand];
+    let stop = net.index.entries[strand + 1];
+    for at in start..stop {
+        let tie = net.index.arrivals[at as usize];
+        if !is_free(prices, tie as usize) {
+            return false;
+        }
+    }
+    true
 }
 
 /// Pays the numbers of the ties that go from a strand.

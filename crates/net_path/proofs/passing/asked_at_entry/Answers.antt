@@ -1,4 +1,4 @@
-use Rattle.std.proofs.Common.{ℕ, ℤ, ◌∙◌, ◌-ℤ◌, pos, false, ap}
+use Rattle.std.proofs.Common.{ℕ, ℤ, ◌∙◌, ◌-ℤ◌, pos, false, ap, refl, sym}
 use Rattle.pra_base.specs.Places.{number}
 use Rattle.net_dual.specs.Priced.{total}
 use Rattle.net_path.specs.Passing.{entry_pay}
@@ -8,6 +8,11 @@ use Rattle.net_path.proofs.EntryTies.{entry_sum}
 use Rattle.net_path.proofs.InMemory.{sum_of_none, same_asks}
 use Rattle.net_path.proofs.TieSums.{total_pay}
 use Rattle.net_path.proofs.passing.asked_at_entry.Goals as goal
+
+pub returns-then-are_entries_free : goal.returns-then-are_entries_free
+returns-then-are_entries_free c =
+    same_asks c.args.end (λ q. pos 0) (entry_pay c.args.net.now c.args.prices.now c.args.strand)
+    c.asked_nothing.result (λ q. sym (c.if-are_entries_free.ensures refl q)) c.asked_nothing.ensures
 
 pub returns : goal.returns
 returns c =

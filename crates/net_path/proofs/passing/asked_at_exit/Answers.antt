@@ -1,4 +1,4 @@
-use Rattle.std.proofs.Common.{ℕ, ◌∙◌, true}
+use Rattle.std.proofs.Common.{ℕ, ◌∙◌, true, pos, refl, sym}
 use Rattle.pra_base.specs.Places.{number}
 use Rattle.net_dual.specs.Priced.{total}
 use Rattle.net_path.specs.Passing.{exit_pay}
@@ -7,6 +7,11 @@ use Rattle.net_path.specs.Ways.{at}
 use Rattle.net_path.proofs.ExitTies.{exit_sum}
 use Rattle.net_path.proofs.InMemory.{sum_of_none, same_asks}
 use Rattle.net_path.proofs.passing.asked_at_exit.Goals as goal
+
+pub returns-then-are_exits_free : goal.returns-then-are_exits_free
+returns-then-are_exits_free c =
+    same_asks c.args.end (λ q. pos 0) (exit_pay c.args.net.now c.args.prices.now c.args.strand)
+    c.asked_nothing.result (λ q. sym (c.if-are_exits_free.ensures refl q)) c.asked_nothing.ensures
 
 pub returns : goal.returns
 returns c =
