@@ -274,24 +274,26 @@ pub(crate) fn pay<const SECONDS: bool>(cells: &mut Row, place: usize, rest: Debt
 }
 
 /// What is paid at each place before a crossbar and from there on, from what is to be paid behind
-/// it.
+/// it. The steps are copied, so that what is written to a row can't change them, and none is read
+/// again for each register.
 pub(crate) fn pay_crossbar<const SECONDS: bool>(steps: &Steps, cells: &mut Row, behind: &Row)
     requires steps { AreStepsWithin steps.now }
     requires cells { AreCostsCells cells.old.costs }
     requires behind { IsRowWithin (2 ^ 60 + 2 ^ 59) behind.now.costs }
     ensures { ArePaidOver (step_by steps.now) behind.now.costs cells.old.costs cells.new.costs }
 {
+    let steps = *steps;
     let bests = bests_of::<SECONDS>(behind);
-    let alone = elsewhere_from_alone::<SECONDS>(steps, &bests);
-    let both = elsewhere_from_both::<SECONDS>(steps, &bests);
+    let alone = elsewhere_from_alone::<SECONDS>(&steps, &bests);
+    let both = elsewhere_from_both::<SECONDS>(&steps, &bests);
     for r in 0..6usize {
-        pay::<SECONDS>(cells, r, debt_alone::<SECONDS>(steps, behind, r, alone));
+        pay::<SECONDS>(cells, r, debt_alone::<SECONDS>(&steps, behind, r, alone));
         pay::<SECONDS>(
             cells,
             8 + r,
-            debt_in_both::<SECONDS>(steps, behind, r, both),
+            debt_in_both::<SECONDS>(&steps, behind, r, both),
         );
     }
-    pay::<SECONDS>(cells, 6, debt_in_memory::<SECONDS>(steps, &bests));
-    pay::<SECONDS>(cells, 7, debt_nowhere::<SECONDS>(steps, &bests));
+    pay::<SECONDS>(cells, 6, debt_in_memory::<SECONDS>(&steps, &bests));
+    pay::<SECONDS>(cells, 7, debt_nowhere::<SECONDS>(&steps, &bests));
 }
