@@ -7,7 +7,7 @@ use Rattle.net_form.specs.Admitted.{strand_at}
 use Rattle.net_form.specs.InUse.{StandsFor}
 use Rattle.net_form.specs.Rooms.{IsRoomOf, layer_total}
 use Rattle.net_path.specs.declared.work.Work.{Work}
-use Rattle.net_path.specs.Passing.{ArePassing}
+use Rattle.net_path.specs.Passing.{AreNotes}
 
 -- the path that was found last
 abbrev pub path_of : Work → List Place
@@ -20,7 +20,7 @@ pub record HasSizes (net : Net) (family : Routes) : Type 0 where
       length (slice_index_or family.places s []) ≡ length (strand_at net s).masks
 
 -- there is room for the rows of each strand, a family of paths, counts of those at each layer, a
--- room with nothing in use, and it is known of each strand whether it passes by
+-- room with nothing in use, and a note of each strand
 pub record IsReservedFor (net : Net) (work : Work) : Type 0 where
   pub rows : (s : ℕ) → s < length net.strands →
       length (strand_at net s).masks ≤ length work.rows.items
@@ -28,4 +28,4 @@ pub record IsReservedFor (net : Net) (work : Work) : Type 0 where
   pub loads : length work.loads.items ≡ layer_total net.blocks
   pub room : IsRoomOf net work.free
   pub free : StandsFor net work.free []
-  pub passing : ArePassing net work.passing.items
+  pub notes : AreNotes net work.notes.items

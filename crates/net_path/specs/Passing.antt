@@ -1,6 +1,6 @@
 -- Strands that pass by in memory, and what that costs.
-use Rattle.std.specs.Prelude.{◌≡◌, ℕ, ◌+◌, ◌<◌, Bool, true, false, ℤ, pos, ◌+ℤ◌, ◌-ℤ◌, ◌≤ℤ◌, List}
-use Rattle.std.specs.Prelude.{All, IsTrue, Option, None, slice_index, slice_index_or, length}
+use Rattle.std.specs.Prelude.{◌≡◌, ℕ, ◌+◌, ◌<◌, false, ℤ, pos, ◌+ℤ◌, ◌-ℤ◌, ◌≤ℤ◌, List}
+use Rattle.std.specs.Prelude.{All, IsTrue, Option, None, slice_index, length}
 use Rattle.pra_base.specs.declared.ids.Place.{Place}
 use Rattle.pra_base.specs.declared.ids.Place.TheVariants.{Mem}
 use Rattle.pra_base.specs.Places.{number, allows}
@@ -23,11 +23,14 @@ pub record PassesBy (net : Net) (s : ℕ) : Type 0 where
   pub pairs : slice_index net.index.pairs (s + 1) ≡ slice_index net.index.pairs s
   pub masks : All (λ m. IsTrue (allows m (number Mem))) (strand_at net s).masks
 
--- marked of strands that pass by alone
-pub record ArePassing (net : Net) (marks : List Bool) : Type 0 where
-  pub long : length marks ≡ length net.strands
-  pub each : (s : ℕ) → s < length net.strands → slice_index_or marks s false ≡ true →
-      PassesBy net s
+-- the layers of a strand that passes by; 0 says nothing
+pub record IsNote (net : Net) (s note : ℕ) : Type 0 where
+  pub by : 0 < note → PassesBy net s
+  pub layers : 0 < note → note ≡ length (strand_at net s).masks
+
+pub record AreNotes (net : Net) (notes : List ℕ) : Type 0 where
+  pub long : length notes ≡ length net.strands
+  pub each : (s : ℕ) → s < length net.strands → IsNote net s (slice_index notes s)
 
 -- what its ties have a strand pay at its last layer, and at its first
 abbrev pub exit_pay : Net → Prices → ℕ → Place → ℤ

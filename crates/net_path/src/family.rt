@@ -1,7 +1,6 @@
 // A family of least paths, one for each strand.
 
 ghost use Rattle.std.specs.Prelude.{◌≡◌, ◌≢◌, ◌≤◌, ◌<◌, ℕ, [], length, slice_index_or, IfOk};
-ghost use Rattle.std.specs.Prelude.{true};
 ghost use Rattle.net_cost.specs.Models.{Keeps, weights_of};
 ghost use Rattle.net_form.specs.Admitted.{strand_at};
 ghost use Rattle.net_form.specs.InUse.{StandsFor};
@@ -10,7 +9,7 @@ ghost use Rattle.net_laws.specs.Built.{IsBuilt};
 ghost use Rattle.net_dual.specs.Priced.{AreInRange, edge_price};
 ghost use Rattle.net_dual.specs.Paths.{IsLeast, Anywhere, any_ends, path_price, path_in};
 ghost use Rattle.net_path.specs.Desk.{IsReservedFor, HasSizes, path_of};
-ghost use Rattle.net_path.specs.Passing.{PassesBy};
+ghost use Rattle.net_path.specs.Passing.{IsNote};
 
 use crate::crossbar::Row;
 use crate::search::search_spread;
@@ -42,7 +41,7 @@ fn renew_over<F: Fn(Event, u32) -> u32>(
     model: &CostModel<F>,
     prices: &Prices,
     strand: usize,
-    passes: bool,
+    note: u16,
     free: &Taken,
     rows: &mut [Row],
     path: &mut [Place],
@@ -54,7 +53,7 @@ fn renew_over<F: Fn(Event, u32) -> u32>(
     requires net { IsBuilt net.now }
     requires prices { AreInRange net.now prices.now }
     requires strand { strand < length net.now.strands }
-    requires passes { passes ≡ true → PassesBy net.now strand }
+    requires note { IsNote net.now strand note }
     requires room { IsRoomOf net.now free.now }
     requires free { StandsFor net.now free.now [] }
     requires rows { length rows.old ≡ length (strand_at net.now strand).masks }
@@ -72,7 +71,7 @@ fn renew_over<F: Fn(Event, u32) -> u32>(
 {
     count(loads, family.places[strand].as_slice(), false);
     match search_spread(
-        net, model, prices, strand, passes, free, family, loads, rows, path,
+        net, model, prices, strand, note, free, family, loads, rows, path,
     ) {
         Err(_) => 0,
         Ok(cost) => {
@@ -89,7 +88,7 @@ fn renew_parts<F: Fn(Event, u32) -> u32>(
     model: &CostModel<F>,
     prices: &Prices,
     strand: usize,
-    passes: bool,
+    note: u16,
     free: &Taken,
     rows: &mut [Row],
     path: &mut [Place],
@@ -101,7 +100,7 @@ fn renew_parts<F: Fn(Event, u32) -> u32>(
     requires net { IsBuilt net.now }
     requires prices { AreInRange net.now prices.now }
     requires strand { strand < length net.now.strands }
-    requires passes { passes ≡ true → PassesBy net.now strand }
+    requires note { IsNote net.now strand note }
     requires room { IsRoomOf net.now free.now }
     requires free { StandsFor net.now free.now [] }
     requires rows { length (strand_at net.now strand).masks ≤ length rows.old }
@@ -123,7 +122,7 @@ fn renew_parts<F: Fn(Event, u32) -> u32>(
     let path = &mut path[..layers];
     let loads = &mut loads[first..first + layers];
     renew_over(
-        net, model, prices, strand, passes, free, rows, path, loads, alloc, family,
+        net, model, prices, strand, note, free, rows, path, loads, alloc, family,
     )
 }
 
@@ -154,7 +153,7 @@ pub fn renew<F: Fn(Event, u32) -> u32>(
     ensures path { path_of work.new ≡ path_of work.old }
     ensures reserved { IsReservedFor net.now work.new }
 {
-    let passes = work.passing[strand as usize];
+    let note = work.notes[strand as usize];
     let (rows, path, loads) = (&mut work.rows, &mut work.renewed, &mut work.loads);
     let (free, family) = (&work.free, &mut work.family);
     renew_parts(
@@ -162,7 +161,7 @@ pub fn renew<F: Fn(Event, u32) -> u32>(
         model,
         prices,
         strand as usize,
-        passes,
+        note,
         free,
         rows,
         path,

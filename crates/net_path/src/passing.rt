@@ -15,7 +15,7 @@ ghost use Rattle.net_form.specs.Admitted.{strand_at};
 ghost use Rattle.net_laws.specs.Built.{IsBuilt};
 ghost use Rattle.net_dual.specs.Priced.{AreInRange};
 ghost use Rattle.net_dual.specs.Paths.{any_ends};
-ghost use Rattle.net_path.specs.Passing.{PassesBy, ArePassing, AsksLeast, AsksLeastInAll};
+ghost use Rattle.net_path.specs.Passing.{PassesBy, IsNote, AreNotes, AsksLeast, AsksLeastInAll};
 ghost use Rattle.net_path.specs.Passing.{IsLeastAnyhow, exit_pay, entry_pay};
 ghost use Rattle.net_path.specs.Ways.{at};
 
@@ -63,15 +63,42 @@ fn passes_by(net: &Net, strand: usize) -> bool
     may_stay(net.strands[strand].masks.as_slice())
 }
 
-/// Of each strand whether it passes by, as far as that depends on the network alone.
-pub(crate) fn passing_strands(alloc: Global, net: &Net) -> Result<Vec<bool>, OutOfMemory>
-    ensures { IfOk result (λ v. ArePassing net.now v.items) }
+// The layers of a strand that passes by, if they are few enough for a note, and 0 of any other.
+fn note_of(net: &Net, strand: usize) -> u16
+    requires strand { strand < length net.now.strands }
+    ensures { IsNote net.now strand result }
 {
-    let mut passing = Vec::with_capacity(alloc, net.strands.len())?;
-    for strand in 0..net.strands.len() {
-        passing.push(passes_by(net, strand))?;
+    let layers = net.strands[strand].masks.len();
+    if layers < 1 << 16 && passes_by(net, strand) {
+        layers as u16
+    } else {
+        0
     }
-    Ok(passing)
+}
+
+/// A note of each strand: its layers, if it passes by as far as that depends on the network alone,
+/// or else 0.
+pub(crate) fn notes_of(alloc: Global, net: &Net) -> Result<Vec<u16>, OutOfMemory>
+    ensures { IfOk result (λ notes. AreNotes net.now notes.items) }
+{
+    let mut notes = Vec::with_capacity(alloc, net.strands.len())?;
+    for strand in 0..net.strands.len() {
+        notes.push(note_of(net, strand))?;
+    }
+    Ok(notes)
+}
+
+/// How many layers a strand has, of which there is this note.
+pub(crate) fn layers_by(net: &Net, strand: usize, note: u16) -> usize
+    requires strand { strand < length net.now.strands }
+    requires note { IsNote net.now strand note }
+    ensures { result ≡ length (strand_at net.now strand).masks }
+{
+    if note > 0 {
+        note as usize
+    } else {
+        net.strands[strand].masks.len()
+    }
 }
 
 // Whether a row has nothing less than what it has for memory.
@@ -183,11 +210,11 @@ fn suits_memory(end: Option<Place>) -> bool {
     }
 }
 
-// Whether the strand passes by, and no end of its path is wanted elsewhere.
-fn may_pass(passes: bool, ends: Ends) -> bool
-    ensures { result ≡ true → passes ≡ true }
+// Whether a strand of this note passes by, and no end of its path is wanted elsewhere.
+fn may_pass(note: u16, ends: Ends) -> bool
+    ensures { result ≡ true → 0 < note }
 {
-    passes && suits_memory(ends.first) && suits_memory(ends.last)
+    note > 0 && suits_memory(ends.first) && suits_memory(ends.last)
 }
 
 /// Writes the path that stays in memory and answers what it costs, where the strand passes by and
@@ -196,21 +223,21 @@ pub(crate) fn pass_by(
     net: &Net,
     prices: &Prices,
     strand: usize,
-    passes: bool,
+    note: u16,
     ends: Ends,
     path: &mut [Place],
 ) -> Option<i64>
     requires net { IsBuilt net.now }
     requires prices { AreInRange net.now prices.now }
     requires strand { strand < length net.now.strands }
-    requires passes { passes ≡ true → PassesBy net.now strand }
+    requires note { IsNote net.now strand note }
     requires path { (strand_at net.now strand).first + length path.old ≡
         (strand_at net.now strand).last + 1 }
     ensures long { length path.new ≡ length path.old }
     ensures least { MatchOption result (path.new ≡ path.old)
         (IsLeastAnyhow net.now prices.now ends strand path.new) }
 {
-    if !may_pass(passes, ends) {
+    if !may_pass(note, ends) {
         return None;
     }
     match asked_in_all(net, prices, strand, ends) {
@@ -228,13 +255,13 @@ pub(crate) fn pass_by_apart(
     prices: &Prices,
     family: &Routes,
     strand: usize,
-    passes: bool,
+    note: u16,
     path: &mut [Place],
 ) -> Option<i64>
     requires net { IsBuilt net.now }
     requires prices { AreInRange net.now prices.now }
     requires strand { strand < length net.now.strands }
-    requires passes { passes ≡ true → PassesBy net.now strand }
+    requires note { IsNote net.now strand note }
     requires path { (strand_at net.now strand).first + length path.old ≡
         (strand_at net.now strand).last + 1 }
     ensures long { length path.new ≡ length path.old }
@@ -245,8 +272,8 @@ pub(crate) fn pass_by_apart(
         first: None,
         last: None,
     };
-    if !passes || !is_quiet(net, prices, family, strand) {
+    if note == 0 || !is_quiet(net, prices, family, strand) {
         return None;
     }
-    pass_by(net, prices, strand, passes, ends, path)
+    pass_by(net, prices, strand, note, ends, path)
 }

@@ -1,7 +1,6 @@
 // The least priced path of a strand.
 
 ghost use Rattle.std.specs.Prelude.{◌≡◌, ◌≤◌, ◌<◌, ◌+◌, length, take, List, OnOk, OnErr, IfOk};
-ghost use Rattle.std.specs.Prelude.{true};
 ghost use Rattle.pra_base.specs.declared.ids.Place.{Place as AnyPlace};
 ghost use Rattle.net_cost.specs.Models.{Keeps, weights_of};
 ghost use Rattle.net_cost.specs.Weights.{deepest, number as event_number};
@@ -14,13 +13,13 @@ ghost use Rattle.net_dual.specs.Paths.{IsLeast, MayGo, any_ends, path_price};
 ghost use Rattle.net_path.specs.Grounds.{terrain, is_free};
 ghost use Rattle.net_path.specs.Rows.{AreCells, AreCellsWithin};
 ghost use Rattle.net_path.specs.Desk.{path_of, IsReservedFor};
-ghost use Rattle.net_path.specs.Passing.{PassesBy};
+ghost use Rattle.net_path.specs.Passing.{IsNote};
 ghost use Rattle.net_path.specs.Ways.{AreWays, AreWaysWithin, IsWay, event_price};
 
 use crate::cells::fill_cells;
 use crate::crossbar::{Row, Ways};
 use crate::directions::forwards;
-use crate::passing::{pass_by, pass_by_apart};
+use crate::passing::{layers_by, pass_by, pass_by_apart};
 use crate::path::{follow, start};
 use crate::rows::{REACHED, pay_backward};
 use crate::spread::{Load, spread};
@@ -119,7 +118,7 @@ pub(crate) fn search<F: Fn(Event, u32) -> u32>(
     model: &CostModel<F>,
     prices: &Prices,
     strand: usize,
-    passes: bool,
+    note: u16,
     ends: Ends,
     taken: &Taken,
     rows: &mut [Row],
@@ -130,7 +129,7 @@ pub(crate) fn search<F: Fn(Event, u32) -> u32>(
     requires prices { AreInRange net.now prices.now }
     requires taken { IsRoomOf net.now taken.now }
     requires strand { strand < length net.now.strands }
-    requires passes { passes ≡ true → PassesBy net.now strand }
+    requires note { IsNote net.now strand note }
     requires rows { (strand_at net.now strand).first + length rows.old ≡
         (strand_at net.now strand).last + 1 }
     requires path { length path.old ≡ length rows.old }
@@ -144,7 +143,7 @@ pub(crate) fn search<F: Fn(Event, u32) -> u32>(
     ensures none { OnErr result ((ps : List AnyPlace) →
         MayGo net.now ends (UsesNothing net.now taken.now) strand ps → ⊥) }
 {
-    if let Some(cost) = pass_by(net, prices, strand, passes, ends, path) {
+    if let Some(cost) = pass_by(net, prices, strand, note, ends, path) {
         return Ok(cost);
     }
     fill_cells(net, model, prices, ends, taken, strand, rows);
@@ -159,7 +158,7 @@ pub(crate) fn search_spread<F: Fn(Event, u32) -> u32>(
     model: &CostModel<F>,
     prices: &Prices,
     strand: usize,
-    passes: bool,
+    note: u16,
     taken: &Taken,
     family: &Routes,
     loads: &[Load],
@@ -171,7 +170,7 @@ pub(crate) fn search_spread<F: Fn(Event, u32) -> u32>(
     requires prices { AreInRange net.now prices.now }
     requires taken { IsRoomOf net.now taken.now }
     requires strand { strand < length net.now.strands }
-    requires passes { passes ≡ true → PassesBy net.now strand }
+    requires note { IsNote net.now strand note }
     requires loads { length loads.now ≡ length rows.old }
     requires rows { (strand_at net.now strand).first + length rows.old ≡
         (strand_at net.now strand).last + 1 }
@@ -185,7 +184,7 @@ pub(crate) fn search_spread<F: Fn(Event, u32) -> u32>(
     ensures none { OnErr result ((ps : List AnyPlace) →
         MayGo net.now any_ends (UsesNothing net.now taken.now) strand ps → ⊥) }
 {
-    if let Some(cost) = pass_by_apart(net, prices, family, strand, passes, path) {
+    if let Some(cost) = pass_by_apart(net, prices, family, strand, note, path) {
         return Ok(cost);
     }
     let ends = Ends {
@@ -203,7 +202,7 @@ pub(crate) fn search_front<F: Fn(Event, u32) -> u32>(
     model: &CostModel<F>,
     prices: &Prices,
     strand: usize,
-    passes: bool,
+    note: u16,
     ends: Ends,
     taken: &Taken,
     layers: usize,
@@ -215,7 +214,7 @@ pub(crate) fn search_front<F: Fn(Event, u32) -> u32>(
     requires prices { AreInRange net.now prices.now }
     requires taken { IsRoomOf net.now taken.now }
     requires strand { strand < length net.now.strands }
-    requires passes { passes ≡ true → PassesBy net.now strand }
+    requires note { IsNote net.now strand note }
     requires layers { layers ≡ length (strand_at net.now strand).masks }
     requires rows { layers ≤ length rows.old }
     requires path { layers ≤ length path.old }
@@ -231,7 +230,7 @@ pub(crate) fn search_front<F: Fn(Event, u32) -> u32>(
 {
     let rows = &mut rows[..layers];
     let path = &mut path[..layers];
-    search(net, model, prices, strand, passes, ends, taken, rows, path)
+    search(net, model, prices, strand, note, ends, taken, rows, path)
 }
 
 /// Finds a least priced path of a strand, among those that begin and end where `ends` wants it and
@@ -270,11 +269,11 @@ pub fn least<F: Fn(Event, u32) -> u32>(
     ensures reserved { IsReservedFor net.now work.new }
 {
     let strand = strand as usize;
-    let layers = net.strands[strand].masks.len();
-    let passes = work.passing[strand];
+    let note = work.notes[strand];
+    let layers = layers_by(net, strand, note);
     let (rows, path) = (&mut work.rows, &mut work.path);
     let result = search_front(
-        net, model, prices, strand, passes, ends, taken, layers, rows, path,
+        net, model, prices, strand, note, ends, taken, layers, rows, path,
     );
     if result.is_ok() {
         work.count = layers;

@@ -5,7 +5,7 @@ ghost use Rattle.net_form.specs.Admitted.{strand_at};
 
 use crate::crossbar::Row;
 use crate::family::no_paths;
-use crate::passing::passing_strands;
+use crate::passing::notes_of;
 use crate::spread::Load;
 use net_cost::{CostModel, Event};
 use net_form::{Net, Routes, Taken};
@@ -16,7 +16,7 @@ use std::mem;
 
 /// Room for the rows and the path of one strand at a time, for the path that was asked for last,
 /// and for a family of paths, one for each strand, with a count of those that are in each register.
-/// It knows of each strand whether it passes by. Of edges it keeps nothing.
+/// It notes of each strand whether it passes by. Of edges it keeps nothing.
 #[derive(Drop)]
 pub struct Work {
     pub(crate) rows: Vec<Row>,
@@ -26,7 +26,7 @@ pub struct Work {
     pub(crate) family: Routes,
     pub(crate) loads: Vec<Load>,
     pub(crate) free: Taken,
-    pub(crate) passing: Vec<bool>,
+    pub(crate) notes: Vec<u16>,
     pub(crate) alloc: Global,
     ghost as_long: { length path.items ≡ length rows.items },
     ghost renewed_as_long: { length renewed.items ≡ length rows.items },
@@ -103,7 +103,7 @@ impl Work {
             family: no_paths(alloc, net)?,
             loads: vec![in alloc; [0; 6]; free.regs.len()]?,
             free,
-            passing: passing_strands(alloc, net)?,
+            notes: notes_of(alloc, net)?,
             alloc,
         })
     }

@@ -19,4 +19,4 @@ returns-in-Some-clause-least c =
     subst (λ (z : ℤ). IsLeastAnyhow net c.args.prices.now c.args.ends s path z) (sym whole)
     (least_anyhow net c.requires.net c.args.prices.now c.requires.prices c.args.ends s c.requires.strand
     path c.in-Some.cost long c.stay_in_memory.ensures.memory
-    (c.requires.passes (c.if-not-may_pass.ensures refl)) (c.in-Some.ensures))
+    (c.requires.note.by (c.if-not-may_pass.ensures refl)) (c.in-Some.ensures))
