@@ -13,7 +13,7 @@ ghost use Rattle.net_path.specs.Passing.{IsNote};
 
 use crate::crossbar::Row;
 use crate::search::search_spread;
-use crate::spread::{Load, count};
+use crate::spread::{Load, Sides, count, put_sides};
 use crate::work::{Work, keep_path};
 use net_cost::{CostModel, Event};
 use net_form::{Net, Prices, Routes, Taken};
@@ -46,6 +46,7 @@ fn renew_over<F: Fn(Event, u32) -> u32>(
     rows: &mut [Row],
     path: &mut [Place],
     loads: &mut [Load],
+    sides: &mut [Sides],
     alloc: Global,
     family: &mut Routes,
 ) -> i64
@@ -71,11 +72,12 @@ fn renew_over<F: Fn(Event, u32) -> u32>(
 {
     count(loads, family.places[strand].as_slice(), false);
     match search_spread(
-        net, model, prices, strand, note, free, family, loads, rows, path,
+        net, model, prices, strand, note, free, sides, loads, rows, path,
     ) {
         Err(_) => 0,
         Ok(cost) => {
             count(loads, path, true);
+            put_sides(sides, strand, path);
             keep_path(alloc, family, strand, path);
             cost
         }
@@ -93,6 +95,7 @@ fn renew_parts<F: Fn(Event, u32) -> u32>(
     rows: &mut [Row],
     path: &mut [Place],
     loads: &mut [Load],
+    sides: &mut [Sides],
     alloc: Global,
     family: &mut Routes,
 ) -> i64
@@ -122,7 +125,7 @@ fn renew_parts<F: Fn(Event, u32) -> u32>(
     let path = &mut path[..layers];
     let loads = &mut loads[first..first + layers];
     renew_over(
-        net, model, prices, strand, note, free, rows, path, loads, alloc, family,
+        net, model, prices, strand, note, free, rows, path, loads, sides, alloc, family,
     )
 }
 
@@ -166,6 +169,7 @@ pub fn renew<F: Fn(Event, u32) -> u32>(
         rows,
         path,
         loads,
+        &mut work.sides,
         work.alloc,
         family,
     )

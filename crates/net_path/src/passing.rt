@@ -20,9 +20,9 @@ ghost use Rattle.net_path.specs.Passing.{IsLeastAnyhow, exit_pay, entry_pay};
 ghost use Rattle.net_path.specs.Ways.{at};
 
 use crate::crossbar::Row;
-use crate::spread::is_quiet;
+use crate::spread::{Sides, is_quiet};
 use crate::ties::{are_entries_free, are_exits_free, pay_entries, pay_exits};
-use net_form::{Ends, Net, Prices, Routes};
+use net_form::{Ends, Net, Prices};
 use pra_base::places::allows;
 use pra_base::{Mask, OutOfMemory, Place};
 use std::alloc::Global;
@@ -253,7 +253,7 @@ pub(crate) fn pass_by(
 pub(crate) fn pass_by_apart(
     net: &Net,
     prices: &Prices,
-    family: &Routes,
+    sides: &[Sides],
     strand: usize,
     note: u16,
     path: &mut [Place],
@@ -272,7 +272,7 @@ pub(crate) fn pass_by_apart(
         first: None,
         last: None,
     };
-    if note == 0 || !is_quiet(net, prices, family, strand) {
+    if note == 0 || !is_quiet(net, prices, sides, strand) {
         return None;
     }
     pass_by(net, prices, strand, note, ends, path)

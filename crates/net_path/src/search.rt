@@ -22,10 +22,10 @@ use crate::directions::forwards;
 use crate::passing::{layers_by, pass_by, pass_by_apart};
 use crate::path::{follow, start};
 use crate::rows::{REACHED, pay_backward};
-use crate::spread::{Load, spread};
+use crate::spread::{Load, Sides, spread};
 use crate::work::Work;
 use net_cost::{CostModel, Event};
-use net_form::{Ends, Net, Prices, Routes, Taken};
+use net_form::{Ends, Net, Prices, Taken};
 use pra_base::Place;
 
 /// There is no path.
@@ -160,7 +160,7 @@ pub(crate) fn search_spread<F: Fn(Event, u32) -> u32>(
     strand: usize,
     note: u16,
     taken: &Taken,
-    family: &Routes,
+    sides: &[Sides],
     loads: &[Load],
     rows: &mut [Row],
     path: &mut [Place],
@@ -184,7 +184,7 @@ pub(crate) fn search_spread<F: Fn(Event, u32) -> u32>(
     ensures none { OnErr result ((ps : List AnyPlace) →
         MayGo net.now any_ends (UsesNothing net.now taken.now) strand ps → ⊥) }
 {
-    if let Some(cost) = pass_by_apart(net, prices, family, strand, note, path) {
+    if let Some(cost) = pass_by_apart(net, prices, sides, strand, note, path) {
         return Ok(cost);
     }
     let ends = Ends {
@@ -192,7 +192,7 @@ pub(crate) fn search_spread<F: Fn(Event, u32) -> u32>(
         last: None,
     };
     fill_cells(net, model, prices, ends, taken, strand, rows);
-    spread(net, prices, family, strand, loads, rows);
+    spread(net, prices, sides, strand, loads, rows);
     find(net, model, prices, strand, ends, taken, rows, path, true)
 }
 

@@ -14,7 +14,7 @@ ghost use Rattle.net_dual.specs.Priced.{AreInRange};
 ghost use Rattle.net_path.specs.Rows.{HaveSameCosts};
 
 use crate::crossbar::Row;
-use net_form::{Net, Prices, Routes};
+use net_form::{Net, Prices};
 use pra_base::Place;
 
 /// How many paths of a family are in each of the six registers at a layer.
@@ -114,27 +114,36 @@ fn draw(rows: &mut [Row], at: usize, there: Option<Place>)
     }
 }
 
-fn entry_of(family: &Routes, strand: u32) -> Option<Place> {
-    family
-        .places
-        .get(strand as usize)?
-        .as_slice()
-        .first()
-        .copied()
+/// Where a path of the family begins and ends. All sides lie together, so that those of the strands
+/// that ties lead to are found without their paths.
+#[derive(Clone, Copy, Debug)]
+pub(crate) struct Sides {
+    pub first: Place,
+    pub last: Place,
 }
 
-fn exit_of(family: &Routes, strand: u32) -> Option<Place> {
-    family
-        .places
-        .get(strand as usize)?
-        .as_slice()
-        .last()
-        .copied()
+/// Notes where the path of a strand begins and ends.
+pub(crate) fn put_sides(sides: &mut [Sides], strand: usize, path: &[Place]) {
+    if path.is_empty() || strand >= sides.len() {
+        return;
+    }
+    sides[strand] = Sides {
+        first: path[0],
+        last: path[path.len() - 1],
+    };
+}
+
+fn entry_of(sides: &[Sides], strand: u32) -> Option<Place> {
+    Some(sides.get(strand as usize)?.first)
+}
+
+fn exit_of(sides: &[Sides], strand: u32) -> Option<Place> {
+    Some(sides.get(strand as usize)?.last)
 }
 
 // Draws the last layer of a strand to where the strands that follow begin.
 #[tactic(auto, using(crate::proofs::Seconds::unchanged, crate::proofs::Seconds::after))]
-fn draw_exits(net: &Net, family: &Routes, strand: usize, rows: &mut [Row])
+fn draw_exits(net: &Net, sides: &[Sides], strand: usize, rows: &mut [Row])
     requires net { IsBuilt net.now }
     requires strand { strand < length net.now.strands }
     requires rows { 0 < length rows.old }
@@ -144,13 +153,13 @@ fn draw_exits(net: &Net, family: &Routes, strand: usize, rows: &mut [Row])
     let start = net.index.exits[strand];
     let stop = net.index.exits[strand + 1];
     for tie in start..stop {
-        draw(rows, last, entry_of(family, net.ties[tie as usize].to));
+        draw(rows, last, entry_of(sides, net.ties[tie as usize].to));
     }
 }
 
 // Draws the first layer of a strand to where the strands before it end.
 #[tactic(auto, using(crate::proofs::Seconds::unchanged, crate::proofs::Seconds::after))]
-fn draw_entries(net: &Net, family: &Routes, strand: usize, rows: &mut [Row])
+fn draw_entries(net: &Net, sides: &[Sides], strand: usize, rows: &mut [Row])
     requires net { IsBuilt net.now }
     requires strand { strand < length net.now.strands }
     requires rows { 0 < length rows.old }
@@ -160,7 +169,7 @@ fn draw_entries(net: &Net, family: &Routes, strand: usize, rows: &mut [Row])
     let stop = net.index.entries[strand + 1];
     for at in start..stop {
         let tie = net.index.arrivals[at as usize];
-        draw(rows, 0, exit_of(family, net.ties[tie as usize].from));
+        draw(rows, 0, exit_of(sides, net.ties[tie as usize].from));
     }
 }
 
@@ -169,7 +178,7 @@ fn draw_entries(net: &Net, family: &Routes, strand: usize, rows: &mut [Row])
 pub(crate) fn spread(
     net: &Net,
     prices: &Prices,
-    family: &Routes,
+    sides: &[Sides],
     strand: usize,
     loads: &[Load],
     rows: &mut [Row],
@@ -183,8 +192,8 @@ pub(crate) fn spread(
     ensures { HaveSameCosts rows.old rows.new }
 {
     crowd(net, prices, strand, loads, rows);
-    draw_exits(net, family, strand, rows);
-    draw_entries(net, family, strand, rows);
+    draw_exits(net, sides, strand, rows);
+    draw_entries(net, sides, strand, rows);
 }
 
 // Whether an end may be drawn to a place of this layer, counted over all blocks: to a register that
@@ -203,7 +212,7 @@ fn may_draw(prices: &Prices, layer: usize, there: Option<Place>) -> bool
 }
 
 // Whether the last layer of a strand may be drawn to where one that follows begins.
-fn exit_may_be_drawn(net: &Net, prices: &Prices, family: &Routes, strand: usize) -> bool
+fn exit_may_be_drawn(net: &Net, prices: &Prices, sides: &[Sides], strand: usize) -> bool
     requires net { IsBuilt net.now }
     requires prices { AreInRange net.now prices.now }
     requires strand { strand < length net.now.strands }
@@ -212,7 +221,7 @@ fn exit_may_be_drawn(net: &Net, prices: &Prices, family: &Routes, strand: usize)
     let start = net.index.exits[strand];
     let stop = net.index.exits[strand + 1];
     for tie in start..stop {
-        if may_draw(prices, layer, entry_of(family, net.ties[tie as usize].to)) {
+        if may_draw(prices, layer, entry_of(sides, net.ties[tie as usize].to)) {
             return true;
         }
     }
@@ -220,7 +229,7 @@ fn exit_may_be_drawn(net: &Net, prices: &Prices, family: &Routes, strand: usize)
 }
 
 // Whether the first layer of a strand may be drawn to where one before it ends.
-fn entry_may_be_drawn(net: &Net, prices: &Prices, family: &Routes, strand: usize) -> bool
+fn entry_may_be_drawn(net: &Net, prices: &Prices, sides: &[Sides], strand: usize) -> bool
     requires net { IsBuilt net.now }
     requires prices { AreInRange net.now prices.now }
     requires strand { strand < length net.now.strands }
@@ -230,7 +239,7 @@ fn entry_may_be_drawn(net: &Net, prices: &Prices, family: &Routes, strand: usize
     let stop = net.index.entries[strand + 1];
     for at in start..stop {
         let tie = net.index.arrivals[at as usize];
-        if may_draw(prices, layer, exit_of(family, net.ties[tie as usize].from)) {
+        if may_draw(prices, layer, exit_of(sides, net.ties[tie as usize].from)) {
             return true;
         }
     }
@@ -240,11 +249,11 @@ fn entry_may_be_drawn(net: &Net, prices: &Prices, family: &Routes, strand: usize
 /// Whether seconds leave a strand in memory, where to stay there is a least path. They are below 0
 /// only for registers that have a price, which is more than that path pays, and for an end that is
 /// drawn to a place.
-pub(crate) fn is_quiet(net: &Net, prices: &Prices, family: &Routes, strand: usize) -> bool
+pub(crate) fn is_quiet(net: &Net, prices: &Prices, sides: &[Sides], strand: usize) -> bool
     requires net { IsBuilt net.now }
     requires prices { AreInRange net.now prices.now }
     requires strand { strand < length net.now.strands }
 {
-    !exit_may_be_drawn(net, prices, family, strand)
-        && !entry_may_be_drawn(net, prices, family, strand)
+    !exit_may_be_drawn(net, prices, sides, strand)
+        && !entry_may_be_drawn(net, prices, sides, strand)
 }

@@ -6,7 +6,7 @@ ghost use Rattle.net_form.specs.Admitted.{strand_at};
 use crate::crossbar::Row;
 use crate::family::no_paths;
 use crate::passing::notes_of;
-use crate::spread::Load;
+use crate::spread::{Load, Sides};
 use net_cost::{CostModel, Event};
 use net_form::{Net, Routes, Taken};
 use pra_base::{OutOfMemory, Place};
@@ -15,8 +15,8 @@ use std::alloc::Global;
 use std::mem;
 
 /// Room for the rows and the path of one strand at a time, for the path that was asked for last,
-/// and for a family of paths, one for each strand, with a count of those that are in each register.
-/// It notes of each strand whether it passes by. Of edges it keeps nothing.
+/// and for a family of paths, one for each strand, with their ends and a count of those that are in
+/// each register. It notes of each strand whether it passes by. Of edges it keeps nothing.
 #[derive(Drop)]
 pub struct Work {
     pub(crate) rows: Vec<Row>,
@@ -25,6 +25,7 @@ pub struct Work {
     pub(crate) renewed: Vec<Place>,
     pub(crate) family: Routes,
     pub(crate) loads: Vec<Load>,
+    pub(crate) sides: Vec<Sides>,
     pub(crate) free: Taken,
     pub(crate) notes: Vec<u16>,
     pub(crate) alloc: Global,
@@ -94,6 +95,10 @@ impl Work {
             costs: [0; 16],
             seconds: [0; 16],
         };
+        let nowhere = Sides {
+            first: Place::Const,
+            last: Place::Const,
+        };
         let free = Taken::empty(alloc, net)?;
         Ok(Work {
             rows: vec![in alloc; empty; most]?,
@@ -102,6 +107,7 @@ impl Work {
             renewed: vec![in alloc; Place::Eax; most]?,
             family: no_paths(alloc, net)?,
             loads: vec![in alloc; [0; 6]; free.regs.len()]?,
+            sides: vec![in alloc; nowhere; net.strands.len()]?,
             free,
             notes: notes_of(alloc, net)?,
             alloc,
