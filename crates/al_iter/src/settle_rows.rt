@@ -1,6 +1,6 @@
 // The paths of routes, read and written over.
 
-ghost use Rattle.std.specs.Prelude.{◌≡◌, ◌<◌, ◌+◌, length, slice_set};
+ghost use Rattle.std.specs.Prelude.{◌≡◌, ◌<◌, ◌+◌, length, slice_set, IsTrue};
 ghost use Rattle.net_form.specs.Admitted.{strand_at};
 ghost use Rattle.net_form.specs.Flow.{AreRoutes};
 ghost use Rattle.net_dual.specs.Paths.{path_in};
@@ -35,7 +35,21 @@ fn overwrite(routes: &mut Routes, strand: usize, path: &[Place])
     });
 }
 
-/// Writes a path over that of a strand, in its memory.
+// Whether two paths of as many layers are one path.
+fn is_same_path(path: &[Place], other: &[Place]) -> bool
+    requires { length path.now ≡ length other.now }
+    ensures { IsTrue result → path.now ≡ other.now }
+{
+    for at in 0..path.len() {
+        if path[at].number() != other[at].number() {
+            return false;
+        }
+    }
+    true
+}
+
+/// Writes a path over that of a strand, in its memory. Nearly always it is the one that stands
+/// there, since most strands stay in memory; then nothing is written.
 pub(crate) fn write_path(_net: &Net, routes: &mut Routes, strand: usize, path: &[Place])
     requires routes { AreRoutes _net.now routes.old }
     requires strand { strand < length _net.now.strands }
@@ -44,5 +58,8 @@ pub(crate) fn write_path(_net: &Net, routes: &mut Routes, strand: usize, path: &
     ensures path { routes.new ≡ with_path routes.old strand path.now }
     ensures routes { AreRoutes _net.now routes.new }
 {
+    if is_same_path(path, path_at(_net, routes, strand)) {
+        return;
+    }
     overwrite(routes, strand, path);
 }

@@ -1,4 +1,5 @@
-use Rattle.std.proofs.Common.{◌≡◌, List, arith, ap, subst, sym}
+use Rattle.std.proofs.Common.{◌≡◌, List, [], arith, ap, subst, sym, ◌∙◌}
+use Rattle.std.proofs.lemmas.List.{set-get_or}
 use Rattle.pra_base.specs.declared.ids.Place.{Place}
 use Rattle.net_form.specs.declared.routes.Routes.{Routes}
 use Rattle.net_form.specs.Flow.{AreRoutes}
@@ -6,6 +7,20 @@ use Rattle.net_dual.proofs.Strands.{each_long}
 use Rattle.al_laws.specs.Parts.{with_path}
 use Rattle.al_iter.proofs.SettleRows.{in_places, still_routes}
 use Rattle.al_iter.proofs.settle_rows.write_path.Goals as goal
+
+pub is_same_path-requires : goal.is_same_path-requires
+is_same_path-requires c = let long = c.path_at.ensures.long in
+    omega (arith, long, c.requires.path)
+
+-- what is there already
+pub returns-then-is_same_path-clause-path : goal.returns-then-is_same_path-clause-path
+returns-then-is_same_path-clause-path c =
+    let routes : Routes = c.args.routes.now in
+    let s = c.args.strand in
+    sym (ap (λ (ps : List Place). with_path routes s ps)
+    (c.is_same_path.ensures c.if-is_same_path.true ∙ c.path_at.ensures.path)
+    ∙ ap (λ (rs : List (List Place)). record { places = rs })
+    (set-get_or routes.places s []))
 
 pub overwrite-requires-clause-strand : goal.overwrite-requires-clause-strand
 overwrite-requires-clause-strand c = in_places c.args._net.now c.args.routes.now c.requires.routes
