@@ -13,4 +13,5 @@ pub mod SettleStrand
 pub mod SettleSums
 pub mod SettleUsers
 pub mod SettleVariable
+pub mod StaysFree
 pub mod Unused

@@ -16,6 +16,7 @@ ghost use Rattle.al_iter.specs.SettleState.{AreStrands};
 ghost use Rattle.al_iter.specs.SettleSums.{MayGoTied, PayAtLeast, IsDraft, IsShut, IsOpenAt};
 ghost use Rattle.al_iter.specs.SettleSums.{free_price, sum_of};
 
+use crate::settle_price::has_extras;
 use crate::settle_rows::write_path;
 use net_cost::{CostModel, Event};
 use net_form::{Ends, Net, Spare, Taken};
@@ -131,15 +132,6 @@ fn draft_strand<F: Fn(Event, u32) -> u32>(
             Some(cost)
         }
     }
-}
-
-// Whether a strand has an extra.
-fn has_extras(net: &Net, strand: usize) -> bool
-    requires net { IsBuilt net.now }
-    requires strand { strand < length net.now.strands }
-{
-    let first = net.first_extra(strand);
-    first < net.extras.len() && net.extras[first].strand as usize == strand
 }
 
 // Whether those of these strands that have extras pay a price or more already, at a place wherever

@@ -1,6 +1,8 @@
 // What paths pay.
 
 ghost use Rattle.std.specs.Prelude.{◌≡◌, ◌≤◌, ◌<◌, ◌+◌, ◌*◌, ◌^◌, length, sum_by, pos, ◌≤ℤ◌};
+ghost use Rattle.std.specs.Prelude.{All, IsTrue, IsFalse, slice_index};
+ghost use Rattle.pra_base.specs.declared.ids.Place.TheVariants.{Mem};
 ghost use Rattle.net_cost.specs.Models.{Keeps, weights_of};
 ghost use Rattle.net_cost.specs.Weights.{most_weight};
 ghost use Rattle.net_form.specs.Admitted.{strand_at};
@@ -14,7 +16,29 @@ use net_cost::{CostModel, Event};
 use net_form::{Net, extras_cost, way_cost};
 use pra_base::Place;
 
-// What a path of a strand weighs.
+/// Whether a strand has an extra.
+pub(crate) fn has_extras(net: &Net, strand: usize) -> bool
+    requires net { IsBuilt net.now }
+    requires strand { strand < length net.now.strands }
+    ensures { IsFalse result → slice_index net.now.index.extras (strand + 1) ≡
+        slice_index net.now.index.extras strand }
+{
+    net.index.extras[strand + 1] != net.index.extras[strand]
+}
+
+/// Whether a path stays in memory.
+pub(crate) fn is_in_memory(path: &[Place]) -> bool
+    ensures { IsTrue result → All (λ p. p ≡ Mem) path.now }
+{
+    for at in 0..path.len() {
+        if path[at].number() != Place::Mem.number() {
+            return false;
+        }
+    }
+    true
+}
+
+// What a path of a strand weighs. One that stays in memory and meets no extra weighs nothing.
 fn path_cost<F: Fn(Event, u32) -> u32>(
     net: &Net,
     model: &CostModel<F>,
@@ -29,6 +53,9 @@ fn path_cost<F: Fn(Event, u32) -> u32>(
         (path_edges net.now strand path.now) }
     ensures small { result ≤ 3 * most_weight * most_layers }
 {
+    if !has_extras(net, strand) && is_in_memory(path) {
+        return 0;
+    }
     let mut total = 0u64;
     let mut from = None;
     let mut layer = net.strands[strand].first;
