@@ -33,8 +33,8 @@ fn may_be_at(net: &Net, taken: &Taken, strand: usize, layer: u32, place: Place) 
     requires before { layer ≤ (strand_at net.now strand).last }
     ensures { IsFalse result → IsOpenAt net.now taken.now strand layer place → ⊥ }
 {
-    let first = net.strands[strand].first;
-    let mask = net.strands[strand].masks[(layer - first) as usize];
+    let own = &net.strands[strand];
+    let mask = own.masks[(layer - own.first) as usize];
     if !allows(mask, place) {
         return false;
     }
@@ -52,12 +52,11 @@ fn is_shut(net: &Net, taken: &Taken, strand: usize, place: Place) -> bool
     ensures { IsTrue result → (ps : List AnyPlace) →
         MayGoTied net.now taken.now place strand ps → ⊥ }
 {
-    let first = net.strands[strand].first;
-    if net.strands[strand].entry_group.is_some() && !may_be_at(net, taken, strand, first, place) {
+    let own = &net.strands[strand];
+    if own.entry_group.is_some() && !may_be_at(net, taken, strand, own.first, place) {
         return true;
     }
-    let last = net.strands[strand].last;
-    if net.strands[strand].exit_group.is_some() && !may_be_at(net, taken, strand, last, place) {
+    if own.exit_group.is_some() && !may_be_at(net, taken, strand, own.last, place) {
         return true;
     }
     false

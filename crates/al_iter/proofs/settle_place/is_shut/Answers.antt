@@ -12,16 +12,13 @@ returns-then-not-may_be_at c = λ _ ps may.
     let net = c.args.net.now in
     let s = c.args.strand in
     let place = c.args.place in
-    let one = get_or_read net.strands s c.index.result.now c.requires.strand c.index.ensures
-    no_strand
-    in
-    let two = get_or_read net.strands s c.index-2.result.now c.requires.strand c.index-2.ensures
+    let own = get_or_read net.strands s c.index-own.result.now c.requires.strand c.index-own.ensures
     no_strand in
     let tied : is_some (strand_at net s).entry_group ≡ true =
-    ap (λ (t : Strand). is_some t.entry_group) (sym two) ∙ sym c.is_some.ensures
+    ap (λ (t : Strand). is_some t.entry_group) (sym own) ∙ sym c.is_some.ensures
     ∙ c.if-is_some.true in
     c.may_be_at.ensures c.if-not-may_be_at.true
-    (subst (λ (t : Strand). IsOpenAt net c.args.taken.now s t.first place) (sym one)
+    (subst (λ (t : Strand). IsOpenAt net c.args.taken.now s t.first place) (sym own)
     (open_first net c.args.taken.now place s ps may tied))
 
 pub returns-then-not-may_be_at-2 : goal.returns-then-not-may_be_at-2
@@ -29,13 +26,11 @@ returns-then-not-may_be_at-2 c = λ _ ps may.
     let net = c.args.net.now in
     let s = c.args.strand in
     let place = c.args.place in
-    let one = get_or_read net.strands s c.index-3.result.now c.requires.strand c.index-3.ensures
-    no_strand in
-    let two = get_or_read net.strands s c.index-4.result.now c.requires.strand c.index-4.ensures
+    let own = get_or_read net.strands s c.index-own.result.now c.requires.strand c.index-own.ensures
     no_strand in
     let tied : is_some (strand_at net s).exit_group ≡ true =
-    ap (λ (t : Strand). is_some t.exit_group) (sym two) ∙ sym c.is_some-2.ensures
+    ap (λ (t : Strand). is_some t.exit_group) (sym own) ∙ sym c.is_some-2.ensures
     ∙ c.if-is_some-2.true in
     c.may_be_at-then-is_some-2.ensures c.if-not-may_be_at-2.true
-    (subst (λ (t : Strand). IsOpenAt net c.args.taken.now s t.last place) (sym one)
+    (subst (λ (t : Strand). IsOpenAt net c.args.taken.now s t.last place) (sym own)
     (open_last net c.args.taken.now place s ps may tied))
