@@ -3,3 +3,4 @@ pub mod LaidSoFar
 pub mod Room
 pub mod SettleState
 pub mod SettleSums
+pub mod Staying

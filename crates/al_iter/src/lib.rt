@@ -34,6 +34,7 @@ mod settle_passes;
 mod settle_place;
 mod settle_price;
 mod settle_rows;
+mod settle_stay;
 mod settle_strand;
 mod settle_strands;
 mod settle_variable;

@@ -16,8 +16,8 @@ ghost use Rattle.al_iter.specs.SettleState.{AreStrands};
 ghost use Rattle.al_iter.specs.SettleSums.{MayGoTied, PayAtLeast, IsDraft, IsShut, IsOpenAt};
 ghost use Rattle.al_iter.specs.SettleSums.{free_price, sum_of};
 
-use crate::settle_price::has_extras;
 use crate::settle_rows::write_path;
+use crate::settle_stay::{has_extras, stays_free};
 use net_cost::{CostModel, Event};
 use net_form::{Ends, Net, Spare, Taken};
 use net_path::{Work, least};
@@ -116,6 +116,9 @@ fn draft_strand<F: Fn(Event, u32) -> u32>(
     ensures reserved { IsReservedFor net.now work.new }
 {
     let ends = tied_ends(net, strand, place);
+    if stays_free(net, &spare.routes, strand, ends) {
+        return Some(0);
+    }
     match least(
         work,
         net,

@@ -1,8 +1,6 @@
 // What paths pay.
 
 ghost use Rattle.std.specs.Prelude.{◌≡◌, ◌≤◌, ◌<◌, ◌+◌, ◌*◌, ◌^◌, length, sum_by, pos, ◌≤ℤ◌};
-ghost use Rattle.std.specs.Prelude.{All, IsTrue, IsFalse, slice_index};
-ghost use Rattle.pra_base.specs.declared.ids.Place.TheVariants.{Mem};
 ghost use Rattle.net_cost.specs.Models.{Keeps, weights_of};
 ghost use Rattle.net_cost.specs.Weights.{most_weight};
 ghost use Rattle.net_form.specs.Admitted.{strand_at};
@@ -12,31 +10,10 @@ ghost use Rattle.net_laws.specs.Built.{IsBuilt};
 ghost use Rattle.net_dual.specs.Paths.{path_edges, path_price};
 ghost use Rattle.net_dual.specs.Priced.{cost_by_weights, edge_price};
 
+use crate::settle_stay::{has_extras, is_in_memory};
 use net_cost::{CostModel, Event};
 use net_form::{Net, extras_cost, way_cost};
 use pra_base::Place;
-
-/// Whether a strand has an extra.
-pub(crate) fn has_extras(net: &Net, strand: usize) -> bool
-    requires net { IsBuilt net.now }
-    requires strand { strand < length net.now.strands }
-    ensures { IsFalse result → slice_index net.now.index.extras (strand + 1) ≡
-        slice_index net.now.index.extras strand }
-{
-    net.index.extras[strand + 1] != net.index.extras[strand]
-}
-
-/// Whether a path stays in memory.
-pub(crate) fn is_in_memory(path: &[Place]) -> bool
-    ensures { IsTrue result → All (λ p. p ≡ Mem) path.now }
-{
-    for at in 0..path.len() {
-        if path[at].number() != Place::Mem.number() {
-            return false;
-        }
-    }
-    true
-}
 
 // What a path of a strand weighs. One that stays in memory and meets no extra weighs nothing.
 fn path_cost<F: Fn(Event, u32) -> u32>(

@@ -9,9 +9,46 @@ use Rattle.net_form.specs.InUse.{UsesNothing}
 use Rattle.net_dual.specs.Paths.{MayGo, path_in, path_price}
 use Rattle.net_dual.specs.Priced.{edge_price}
 use Rattle.net_path.specs.Desk.{path_of}
+use Rattle.net_dual.proofs.Strands.{each_long}
+use Rattle.al_laws.specs.Settled.{tied_ends}
 use Rattle.al_iter.specs.SettleSums.{MayGoTied, free_price}
+use Rattle.al_iter.specs.Staying.{StaysFree}
+use Rattle.al_iter.proofs.StaysFree.{stays_least}
 use Rattle.al_iter.proofs.SettleRows.{sizes_routes, routes_sizes, there}
 use Rattle.al_iter.proofs.settle_place.draft_strand.Goals as goal
+
+pub stays_free-requires-clause-routes : goal.stays_free-requires-clause-routes
+stays_free-requires-clause-routes g c = sizes_routes c.args.net.now c.requires.net.formed
+    c.args.spare.now.routes c.requires.spare.routes
+
+-- one that stays in memory for nothing
+pub returns-then-stays_free-clause-draft : goal.returns-then-stays_free-clause-draft
+returns-then-stays_free-clause-draft g c = λ _.
+    let net = c.args.net.now in
+    let w = weights_of c.args.model.now in
+    let s = c.args.strand in
+    let has = sizes_routes net c.requires.net.formed c.args.spare.now.routes c.requires.spare.routes
+    in
+    let ps = path_in c.args.spare.now.routes s in
+    let free = subst (λ (ends : Ends). StaysFree net ends s ps) c.tied_ends-ends.ensures
+    (c.stays_free.ensures c.if-stays_free.true) in
+    let least = (stays_least net c.requires.net (tied_ends net c.args.place s) s c.requires.strand
+    ps (each_long net c.args.spare.now.routes has s c.requires.strand) free).least w
+    c.args.spare.now.taken c.requires.kept.valid in
+    record { goes = least.goes; least = least.least }
+
+pub returns-then-stays_free-clause-cost : goal.returns-then-stays_free-clause-cost
+returns-then-stays_free-clause-cost g c =
+    let net = c.args.net.now in
+    let s = c.args.strand in
+    let has = sizes_routes net c.requires.net.formed c.args.spare.now.routes c.requires.spare.routes
+    in
+    let ps = path_in c.args.spare.now.routes s in
+    let free = subst (λ (ends : Ends). StaysFree net ends s ps) c.tied_ends-ends.ensures
+    (c.stays_free.ensures c.if-stays_free.true) in
+    (stays_least net c.requires.net (tied_ends net c.args.place s) s c.requires.strand ps
+    (each_long net c.args.spare.now.routes has s c.requires.strand) free).cost
+    (weights_of c.args.model.now) c.requires.kept.valid
 
 pub write_path-requires-clause-routes : goal.write_path-requires-clause-routes
 write_path-requires-clause-routes g c = sizes_routes c.args.net.now c.requires.net.formed

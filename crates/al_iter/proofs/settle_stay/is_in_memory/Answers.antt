@@ -4,7 +4,7 @@ use Rattle.std.proofs.lemmas.Bool.Decides.{nat_tests}
 use Rattle.std.proofs.lemmas.List.{get_or_default}
 use Rattle.pra_base.specs.declared.ids.Place.TheVariants.{Mem, Eax}
 use Rattle.net_form.proofs.PlaceEquality.{number-injective}
-use Rattle.al_iter.proofs.settle_price.is_in_memory.Goals as goal
+use Rattle.al_iter.proofs.settle_stay.is_in_memory.Goals as goal
 
 pub loop-at-preserved : goal.loop-at-preserved
 loop-at-preserved c = λ k d lt.

@@ -2,7 +2,7 @@ use Rattle.std.proofs.Common.{◌≡◌, ◌+◌, ◌∙◌, sym, arith}
 use Rattle.std.proofs.lemmas.Bool.Decides.{nat_tests}
 use Rattle.std.proofs.lemmas.List.{get_or_read}
 use Rattle.net_form.proofs.ExtrasInOrder.{extras_long}
-use Rattle.al_iter.proofs.settle_price.has_extras.Goals as goal
+use Rattle.al_iter.proofs.settle_stay.has_extras.Goals as goal
 
 pub index-requires : goal.index-requires
 index-requires c = let long = extras_long c.args.net.now c.requires.net.formed in
