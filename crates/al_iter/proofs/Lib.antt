@@ -15,3 +15,4 @@ pub mod SettleUsers
 pub mod SettleVariable
 pub mod StaysFree
 pub mod Unused
+pub mod UsesNone

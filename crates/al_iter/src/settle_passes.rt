@@ -14,7 +14,7 @@ ghost use Rattle.al_laws.specs.Settled.{AreSettled, NoneCheaper, NoneCheaperAt};
 ghost use Rattle.al_iter.specs.Room.{IsSpareOf};
 ghost use Rattle.al_iter.specs.SettleState.{AreMarkedRoutes};
 
-use crate::settle_rows::path_at;
+use crate::settle_marks::take_strand;
 use crate::settle_strand::change_strand;
 use crate::settle_variable::change_variable;
 use net_cost::{CostModel, Event};
@@ -32,7 +32,7 @@ fn mark_routes(taken: &mut Taken, net: &Net, routes: &Routes)
 {
     taken.clear();
     for strand in 0..net.strands.len() {
-        taken.take_path(net, strand, path_at(net, routes, strand));
+        take_strand(taken, net, routes, strand);
     }
 }
 

@@ -4,6 +4,7 @@ ghost use Rattle.std.specs.Prelude.{◌≡◌, ◌<◌, ◌+◌, length, slice_i
 ghost use Rattle.pra_base.specs.declared.ids.Place.TheVariants.{Mem};
 ghost use Rattle.pra_base.specs.Places.{number, allows};
 ghost use Rattle.net_form.specs.Flow.{AreRoutes};
+ghost use Rattle.net_form.specs.Formed.{IsFormed};
 ghost use Rattle.net_laws.specs.Built.{IsBuilt};
 ghost use Rattle.net_dual.specs.Paths.{path_in};
 ghost use Rattle.net_path.specs.Grounds.{wants};
@@ -23,6 +24,16 @@ pub(crate) fn has_extras(net: &Net, strand: usize) -> bool
         slice_index net.now.index.extras strand }
 {
     net.index.extras[strand + 1] != net.index.extras[strand]
+}
+
+/// Whether a strand has an end of a memory pair.
+pub(crate) fn has_pairs(net: &Net, strand: usize) -> bool
+    requires net { IsFormed net.now }
+    requires strand { strand < length net.now.strands }
+    ensures { IsFalse result → slice_index net.now.index.pairs (strand + 1) ≡
+        slice_index net.now.index.pairs strand }
+{
+    net.index.pairs[strand + 1] != net.index.pairs[strand]
 }
 
 /// Whether a path stays in memory.
@@ -58,7 +69,7 @@ fn passes_by(net: &Net, strand: usize) -> bool
     if has_extras(net, strand) {
         return false;
     }
-    if net.index.pairs[strand + 1] != net.index.pairs[strand] {
+    if has_pairs(net, strand) {
         return false;
     }
     let own = &net.strands[strand];

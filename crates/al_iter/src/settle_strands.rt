@@ -13,6 +13,7 @@ ghost use Rattle.al_laws.specs.Parts.{rest};
 ghost use Rattle.al_iter.specs.SettleState.{among, AreStrands, AreStrandsOf};
 ghost use Rattle.al_iter.specs.SettleSums.{sum_of};
 
+use crate::settle_marks::{release_strand, take_strand};
 use crate::settle_price::price_now;
 use crate::settle_rows::path_at;
 use net_cost::{CostModel, Event};
@@ -75,7 +76,7 @@ pub(crate) fn release_paths(taken: &mut Taken, net: &Net, routes: &Routes, stran
 {
     for at in 0..strands.len() {
         let strand = strands[at] as usize;
-        taken.release_path(net, strand, path_at(net, routes, strand));
+        release_strand(taken, net, routes, strand);
     }
 }
 
@@ -92,6 +93,6 @@ pub(crate) fn take_paths(taken: &mut Taken, net: &Net, routes: &Routes, strands:
 {
     for at in 0..strands.len() {
         let strand = strands[at] as usize;
-        taken.take_path(net, strand, path_at(net, routes, strand));
+        take_strand(taken, net, routes, strand);
     }
 }

@@ -1,9 +1,7 @@
-use Rattle.std.proofs.Common.{◌+◌, ◌<◌, ◌≤◌, List, length, sym, subst, ◌∙◌, arith}
-use Rattle.pra_base.specs.declared.ids.Place.{Place}
+use Rattle.std.proofs.Common.{◌+◌, ◌<◌, ◌≤◌, length, sym, subst, ◌∙◌, arith}
 use Rattle.net_form.specs.Flow.{flow}
-use Rattle.net_form.specs.InUse.{StandsFor, Takes}
+use Rattle.net_form.specs.InUse.{StandsFor}
 use Rattle.net_form.proofs.TakenFlows.{admitted_once}
-use Rattle.net_dual.specs.Paths.{path_edges}
 use Rattle.al_iter.proofs.SettleMarks.{below, part_none, one_below_more, taken_again, all_below}
 use Rattle.al_iter.proofs.settle_passes.mark_routes.Goals as goal
 
@@ -24,13 +22,12 @@ loop-strand-preserved c =
     let s = c.loop-strand.strand in
     let lt : s < length net.strands = omega arith in
     record {
-      room = c.take_path.ensures.room;
+      room = c.take_strand.ensures.room;
       marked = taken_again net c.args.routes.now c.requires.routes s lt (below s) (below (s + 1))
-          (one_below_more s) c.loop-strand.taken c.take_path.new.self
+          (one_below_more s) c.loop-strand.taken c.take_strand.new.taken
           (admitted_once net (flow net c.args.routes.now) c.requires.admitted)
           c.loop-strand.invariant.marked
-          (subst (λ (ps : List Place). Takes net (path_edges net s ps) c.loop-strand.taken
-          c.take_path.new.self) c.path_at.ensures.path c.take_path.ensures.takes);
+          c.take_strand.ensures.takes;
     }
 
 pub returns-clause-marked : goal.returns-clause-marked

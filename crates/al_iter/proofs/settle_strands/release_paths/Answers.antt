@@ -1,8 +1,6 @@
 use Rattle.std.proofs.Common.{◌<◌, ◌≤◌, ◌+◌, ℕ, not, List, length, get_or, take, sym, subst, arith}
 use Rattle.std.proofs.lemmas.List.{take_all}
-use Rattle.pra_base.specs.declared.ids.Place.{Place}
-use Rattle.net_form.specs.InUse.{StandsFor, Releases}
-use Rattle.net_dual.specs.Paths.{path_edges}
+use Rattle.net_form.specs.InUse.{StandsFor}
 use Rattle.al_laws.specs.Parts.{rest}
 use Rattle.al_iter.specs.SettleState.{among}
 use Rattle.al_iter.proofs.SettleMarks.{part_all, released, one_out_more}
@@ -23,13 +21,11 @@ loop-at-preserved c =
     let s = get_or strands i 0 in
     let lt : i < length strands = omega arith in
     record {
-      room = c.release_path.ensures.room;
+      room = c.release_strand.ensures.room;
       marked = released net c.args.routes.now c.requires.routes s (c.requires.strands.there i 0 lt)
           (λ s. not (among (take (i + 1) strands) s)) (λ s. not (among (take i strands) s))
           (one_out_more strands i c.requires.strands.rising lt) c.loop-at.taken
-          c.release_path.new.self c.loop-at.invariant.marked
-          (subst (λ (ps : List Place). Releases net (path_edges net s ps) c.loop-at.taken
-          c.release_path.new.self) c.path_at.ensures.path c.release_path.ensures.releases);
+          c.release_strand.new.taken c.loop-at.invariant.marked c.release_strand.ensures.releases;
     }
 
 pub returns-clause-marked : goal.returns-clause-marked

@@ -1,11 +1,9 @@
 use Rattle.std.proofs.Common.{◌<◌, ◌≤◌, ◌+◌, ℕ, not, List, length, get_or, drop, ◌∙◌, ap, subst}
 use Rattle.std.proofs.Common.{arith}
 use Rattle.std.proofs.lemmas.List.{drop_all}
-use Rattle.pra_base.specs.declared.ids.Place.{Place}
-use Rattle.net_form.specs.InUse.{StandsFor, Takes}
+use Rattle.net_form.specs.InUse.{StandsFor}
 use Rattle.net_form.proofs.TakenFlows.{admitted_once}
 use Rattle.net_form.specs.Flow.{Edge, flow}
-use Rattle.net_dual.specs.Paths.{path_edges}
 use Rattle.al_laws.specs.Parts.{rest}
 use Rattle.al_iter.specs.SettleState.{among}
 use Rattle.al_iter.proofs.SettleMarks.{part_all, taken_again, one_in_more}
@@ -19,16 +17,15 @@ loop-at-preserved c =
     let s = get_or strands i 0 in
     let lt : i < length strands = omega arith in
     record {
-      room = c.take_path.ensures.room;
+      room = c.take_strand.ensures.room;
       marked = taken_again net c.args.routes.now c.requires.routes s
           (c.requires.strands.there i 0 lt) (λ s. not (among (drop i strands) s))
           (λ s. not (among (drop (i + 1) strands) s))
           (one_in_more strands i c.requires.strands.rising lt) c.loop-at.taken
-          c.take_path.new.self
+          c.take_strand.new.taken
           (admitted_once net (flow net c.args.routes.now) c.requires.admitted)
           c.loop-at.invariant.marked
-          (subst (λ (ps : List Place). Takes net (path_edges net s ps) c.loop-at.taken
-          c.take_path.new.self) c.path_at.ensures.path c.take_path.ensures.takes);
+          c.take_strand.ensures.takes;
     }
 
 pub returns-clause-marked : goal.returns-clause-marked

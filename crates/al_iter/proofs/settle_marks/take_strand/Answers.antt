@@ -1,0 +1,22 @@
+use Rattle.std.proofs.Common.{List, subst}
+use Rattle.pra_base.specs.declared.ids.Place.{Place}
+use Rattle.net_form.specs.InUse.{Takes}
+use Rattle.net_dual.specs.Paths.{path_edges}
+use Rattle.al_iter.proofs.UsesNone.{takes_nothing}
+use Rattle.al_iter.proofs.settle_marks.take_strand.Goals as goal
+
+pub returns-then-uses_nothing-clause-takes : goal.returns-then-uses_nothing-clause-takes
+returns-then-uses_nothing-clause-takes c =
+    let net = c.args.net.now in
+    let taken = c.args.taken.now in
+    let s = c.args.strand in
+    subst (λ (ps : List Place). Takes net (path_edges net s ps) taken taken)
+    c.path_at-path.ensures.path
+    (takes_nothing net (path_edges net s c.path_at-path.result.now) taken
+    (c.uses_nothing.ensures c.if-uses_nothing.true))
+
+pub returns-clause-takes : goal.returns-clause-takes
+returns-clause-takes c =
+    let net = c.args.net.now in
+    subst (λ (ps : List Place). Takes net (path_edges net c.args.strand ps) c.args.taken.now
+    c.take_path.new.self) c.path_at-path.ensures.path c.take_path.ensures.takes
