@@ -62,7 +62,9 @@ pub(crate) fn keep_path(alloc: Global, family: &mut Routes, strand: usize, path:
 }
 
 impl Work {
+    ghost use Rattle.std.specs.Prelude.{IsTrue};
     ghost use Rattle.net_path.specs.Desk.{path_of, IsReservedFor};
+    ghost use Rattle.net_path.specs.Passing.{PassesBy};
 
     /// The path that `least` found last. Nothing else changes it.
     pub fn path(&self) -> &[Place]
@@ -76,6 +78,15 @@ impl Work {
         ensures { result.now ≡ self.now.family }
     {
         &self.family
+    }
+
+    /// Whether a strand is known to pay nothing in memory but what its ties ask, whatever is taken.
+    pub fn passes_by(&self, _net: &Net, strand: usize) -> bool
+        requires reserved { IsReservedFor _net.now self.now }
+        requires strand { strand < length _net.now.strands }
+        ensures { IsTrue result → PassesBy _net.now strand }
+    {
+        self.notes[strand] != 0
     }
 
     /// Room for the strands of a network.
