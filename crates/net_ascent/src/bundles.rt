@@ -7,9 +7,10 @@
 // and Sotomayor 1986): there are least ones and greatest ones, and those between on a line are such
 // prices too.
 
-use crate::lists::{at, short};
+use crate::lists::at;
 use crate::pace::{MUST, Pace};
 use crate::rows::{CLOSED, CONSTANT, MEMORY, Registers, Row, is_closed};
+use std::simd::i32x8;
 
 /// What a strand would pay for each register. The last two numbers are of no register.
 pub(crate) type Bids = [i32; 8];
@@ -19,10 +20,8 @@ type Holders = [usize; 8];
 
 const NOBODY: usize = usize::MAX;
 
-// Which register each came from. The last two numbers are of no register.
-type Origins = [u32; 8];
-
-const NOWHERE: u32 = u32::MAX;
+// The number of no register.
+const NOWHERE: i32 = -1;
 
 // A bid that is never taken.
 const REFUSED: i32 = -CLOSED;
@@ -81,40 +80,32 @@ fn bids_by(bids: &[Bids], strand: usize) -> Bids {
 }
 
 // What is lost at least where a strand comes to each register, and whose register the one that
-// leaves it came from.
+// leaves it came from: lanes of vectors, computed side by side without a condition for any of them.
 #[derive(Clone, Copy)]
 struct Ousting {
-    lost: Bids,
-    from: Origins,
+    lost: i32x8,
+    from: i32x8,
 }
 
-// The holder of register r goes on to others, where that loses less. All eight are computed without
-// a condition for any of them, so that they are lanes of vectors.
+// The holder of register r goes on to others, where that loses less.
+#[inline(always)]
 fn oust(ousting: &mut Ousting, holder: &Bids, r: usize) -> bool {
-    let old = *ousting;
-    let base = old.lost[r % 8].wrapping_add(holder[r % 8]);
-    let register = short(r);
-    let mut changed = false;
-    for q in 0..8usize {
-        let lost = base.wrapping_sub(holder[q]);
-        let is_less = lost < old.lost[q];
-        ousting.lost[q] = if is_less { lost } else { old.lost[q] };
-        ousting.from[q] = if is_less { register } else { old.from[q] };
-        changed |= is_less;
-    }
-    changed
+    let holder = i32x8::from_array(*holder);
+    let base = (ousting.lost + holder).to_array()[r % 8];
+    let lost = i32x8::splat(base) - holder;
+    let is_less = lost.simd_lt(ousting.lost);
+    let register = i32::try_from(r).unwrap_or(NOWHERE);
+    ousting.from = is_less.select(i32x8::splat(register), ousting.from);
+    ousting.lost = lost.simd_min(ousting.lost);
+    is_less.any()
 }
 
 // What it loses to let a strand have each register.
 fn ousting_of(bids: &[Bids], holders: &Holders, strand: usize) -> Ousting {
-    let own = bids_by(bids, strand);
-    let mut lost = [0; 8];
-    for r in 0..8usize {
-        lost[r] = own[r].wrapping_neg();
-    }
+    let own = i32x8::from_array(bids_by(bids, strand));
     let mut ousting = Ousting {
-        lost,
-        from: [NOWHERE; 8],
+        lost: i32x8::splat(0) - own,
+        from: i32x8::splat(NOWHERE),
     };
     for _ in 0..STEPS {
         let mut changed = false;
@@ -134,10 +125,11 @@ fn ousting_of(bids: &[Bids], holders: &Holders, strand: usize) -> Ousting {
 // Where the way of a strand ends that gains most: in a register that is free, or whose holder goes
 // without.
 fn best_end(bids: &[Bids], holders: &Holders, ousting: &Ousting) -> Option<usize> {
+    let lost_at = ousting.lost.to_array();
     let mut best = 0;
     let mut end = None;
     for r in 0..6usize {
-        let mut lost = ousting.lost[r];
+        let mut lost = lost_at[r];
         if holders[r] != NOBODY {
             lost = lost.wrapping_add(bids_by(bids, holders[r])[r]);
         }
@@ -151,14 +143,14 @@ fn best_end(bids: &[Bids], holders: &Holders, ousting: &Ousting) -> Option<usize
 
 // Each on the way to that register hands its own to the next, and the strand takes the first.
 fn hand_on(holders: &mut Holders, ousting: &Ousting, end: usize, strand: usize) {
+    let origins = ousting.from.to_array();
     let mut register = end;
     for _ in 0..6u8 {
-        let from = ousting.from[register % 8];
-        if from == NOWHERE {
+        let Ok(from) = usize::try_from(origins[register % 8]) else {
             break;
-        }
-        holders[register % 8] = holders[from as usize % 8];
-        register = from as usize;
+        };
+        holders[register % 8] = holders[from % 8];
+        register = from;
     }
     holders[register % 8] = strand;
 }
@@ -219,12 +211,10 @@ fn limit(least: &mut Registers, greatest: &mut Registers, bid: &Bids, r: usize) 
         changed = true;
     }
     let base = least[r % 8].wrapping_sub(bid[r % 8]);
-    for q in 0..8usize {
-        let other = base.wrapping_add(bid[q]);
-        changed |= other > least[q];
-        least[q] = least[q].max(other);
-    }
-    changed
+    let others = i32x8::splat(base) + i32x8::from_array(*bid);
+    let old = i32x8::from_array(*least);
+    *least = old.simd_max(others).to_array();
+    changed || others.simd_gt(old).any()
 }
 
 /// Prices of the six registers at which whoever bids is content, and the sum of their bids is
