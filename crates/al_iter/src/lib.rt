@@ -31,6 +31,7 @@
 mod laying;
 mod order;
 mod settle_marks;
+mod settle_open;
 mod settle_passes;
 mod settle_place;
 mod settle_price;

@@ -1,81 +1,24 @@
 // What the strands of a variable pay at one place wherever it is tied.
 
-ghost use Rattle.std.specs.Prelude.{◌≡◌, ◌≢◌, ◌<◌, ◌≤◌, ◌≤ℤ◌, ◌<ℤ◌, ◌^◌, ℕ, List, length, pos, All};
-ghost use Rattle.std.specs.Prelude.{None, IsTrue, IsFalse, IsSome, IfSome};
+ghost use Rattle.std.specs.Prelude.{◌≡◌, ◌≢◌, ◌<◌, ◌≤ℤ◌, ◌<ℤ◌, ◌^◌, ℕ, List, length, pos, All};
+ghost use Rattle.std.specs.Prelude.{None, IsTrue, IsSome, IfSome};
 ghost use Rattle.pra_base.specs.declared.ids.Place.{Place as AnyPlace};
 ghost use Rattle.net_cost.specs.Models.{Keeps, weights_of};
-ghost use Rattle.net_form.specs.Admitted.{strand_at};
-ghost use Rattle.net_form.specs.Formed.{IsFormed};
-ghost use Rattle.net_form.specs.Rooms.{IsRoomOf};
 ghost use Rattle.net_laws.specs.Built.{IsBuilt};
 ghost use Rattle.net_dual.specs.Paths.{path_in};
 ghost use Rattle.net_path.specs.Desk.{IsReservedFor};
 ghost use Rattle.al_laws.specs.Settled.{tied_ends};
 ghost use Rattle.al_iter.specs.Room.{IsSpareOf};
 ghost use Rattle.al_iter.specs.SettleState.{AreStrands};
-ghost use Rattle.al_iter.specs.SettleSums.{MayGoTied, PayAtLeast, IsDraft, IsShut, IsOpenAt};
+ghost use Rattle.al_iter.specs.SettleSums.{MayGoTied, PayAtLeast, IsDraft};
 ghost use Rattle.al_iter.specs.SettleSums.{free_price, sum_of};
 
 use crate::settle_rows::write_path;
 use crate::settle_stay::{has_extras, stays_free};
 use net_cost::{CostModel, Event};
-use net_form::{Ends, Net, Spare, Taken};
+use net_form::{Ends, Net, Spare};
 use net_path::{Work, least};
 use pra_base::Place;
-use pra_base::places::allows;
-
-// Whether a strand may be at a place at a layer, past what is taken.
-fn may_be_at(net: &Net, taken: &Taken, strand: usize, layer: u32, place: Place) -> bool
-    requires net { IsFormed net.now }
-    requires room { IsRoomOf net.now taken.now }
-    requires strand { strand < length net.now.strands }
-    requires after { (strand_at net.now strand).first ≤ layer }
-    requires before { layer ≤ (strand_at net.now strand).last }
-    ensures { IsFalse result → IsOpenAt net.now taken.now strand layer place → ⊥ }
-{
-    let own = &net.strands[strand];
-    let mask = own.masks[(layer - own.first) as usize];
-    if !allows(mask, place) {
-        return false;
-    }
-    if !place.has_register() {
-        return true;
-    }
-    !taken.uses_register(net.entry_layer(strand) + layer, place.register())
-}
-
-// Whether a strand cannot be at a place where it is tied.
-fn is_shut(net: &Net, taken: &Taken, strand: usize, place: Place) -> bool
-    requires net { IsFormed net.now }
-    requires room { IsRoomOf net.now taken.now }
-    requires strand { strand < length net.now.strands }
-    ensures { IsTrue result → (ps : List AnyPlace) →
-        MayGoTied net.now taken.now place strand ps → ⊥ }
-{
-    let own = &net.strands[strand];
-    if own.entry_group.is_some() && !may_be_at(net, taken, strand, own.first, place) {
-        return true;
-    }
-    if own.exit_group.is_some() && !may_be_at(net, taken, strand, own.last, place) {
-        return true;
-    }
-    false
-}
-
-/// Whether one of these strands cannot be at a place where it is tied: most places fall here.
-pub(crate) fn are_shut(net: &Net, taken: &Taken, strands: &[u32], place: Place) -> bool
-    requires net { IsFormed net.now }
-    requires room { IsRoomOf net.now taken.now }
-    requires strands { AreStrands net.now strands.now }
-    ensures { IsTrue result → IsShut net.now taken.now strands.now place }
-{
-    for at in 0..strands.len() {
-        if is_shut(net, taken, strands[at] as usize, place) {
-            return true;
-        }
-    }
-    false
-}
 
 // The place at each end of a strand that is tied.
 fn tied_ends(net: &Net, strand: usize, place: Place) -> Ends

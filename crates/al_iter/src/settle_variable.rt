@@ -4,7 +4,7 @@ ghost use Rattle.std.specs.Prelude.{◌≡◌, ◌<◌, ◌≤ℤ◌, ◌<ℤ◌
 ghost use Rattle.std.specs.Prelude.{All};
 ghost use Rattle.std.specs.Prelude.{None, IsTrue, IsFalse};
 ghost use Rattle.pra_base.specs.declared.ids.Place.{Place as AnyPlace};
-ghost use Rattle.pra_base.specs.Places.{number, place_count};
+ghost use Rattle.pra_base.specs.Places.{number, allows, place_count};
 ghost use Rattle.net_cost.specs.Models.{Keeps, weights_of};
 ghost use Rattle.net_form.specs.Admitted.{strand_at};
 ghost use Rattle.net_form.specs.Cost.{cost_of};
@@ -14,15 +14,17 @@ ghost use Rattle.net_dual.specs.Paths.{path_in};
 ghost use Rattle.net_path.specs.Desk.{IsReservedFor};
 ghost use Rattle.al_laws.specs.Settled.{NoneCheaperAt};
 ghost use Rattle.al_iter.specs.SettleState.{among, AreStrands, AreOfOne, AreMarkedRoutes, IsAside};
-ghost use Rattle.al_iter.specs.SettleSums.{IsUntied, PayAtLeast, sum_of};
+ghost use Rattle.al_iter.specs.SettleSums.{IsShut, IsUntied, PayAtLeast, sum_of};
 
-use crate::settle_place::{are_shut, draft_strands};
+use crate::settle_open::open_places;
+use crate::settle_place::draft_strands;
 use crate::settle_rows::{path_at, write_path};
 use crate::settle_strands::{release_paths, strands_of, sum_now, take_paths};
 use net_cost::{CostModel, Event};
 use net_form::{Net, Routes, Spare};
 use net_path::Work;
-use pra_base::Place;
+use pra_base::places::allows;
+use pra_base::{Mask, Place};
 
 // Writes the paths of a draft over those of these strands.
 fn write_paths(net: &Net, routes: &mut Routes, draft: &Routes, strands: &[u32])
@@ -42,7 +44,7 @@ fn write_paths(net: &Net, routes: &mut Routes, draft: &Routes, strands: &[u32])
 }
 
 // Lets the strands of a variable, which pay so much, go cheaper ways that are at one place wherever
-// it is tied, if there are some, and answers what they pay then.
+// it is tied, if that is one of these places and there are some, and answers what they pay then.
 fn try_place<F: Fn(Event, u32) -> u32>(
     work: &mut Work,
     spare: &mut Spare,
@@ -50,6 +52,7 @@ fn try_place<F: Fn(Event, u32) -> u32>(
     model: &CostModel<F>,
     routes: &mut Routes,
     strands: &[u32],
+    places: Mask,
     place: Place,
     price: i128,
 ) -> i128
@@ -58,6 +61,8 @@ fn try_place<F: Fn(Event, u32) -> u32>(
     requires work { IsReservedFor net.now work.old }
     requires strands { AreOfOne net.now strands.now }
     requires aside { IsAside net.now strands.now spare.old routes.old }
+    requires places { IsFalse (allows places (number place)) →
+        IsShut net.now spare.old.taken strands.now place }
     requires price { price ≡ sum_of net.now (weights_of model.now) routes.old strands.now }
     requires most { price ≤ℤ pos (2 ^ 124) }
     ensures aside { IsAside net.now strands.now spare.new routes.new }
@@ -75,7 +80,7 @@ fn try_place<F: Fn(Event, u32) -> u32>(
     if price == 0 {
         return price;
     }
-    if are_shut(net, &spare.taken, strands, place) {
+    if !allows(places, place) {
         return price;
     }
     let draft = draft_strands(work, spare, net, model, strands, place, price);
@@ -137,13 +142,19 @@ fn try_places<F: Fn(Event, u32) -> u32>(
     ensures family { work.new.family ≡ work.old.family }
     ensures reserved { IsReservedFor net.now work.new }
 {
+    let places = open_places(net, &spare.taken, strands);
     if !are_tied(net, strands) {
-        return try_place(work, spare, net, model, routes, strands, Place::Mem, price);
+        let place = Place::Mem;
+        return try_place(
+            work, spare, net, model, routes, strands, places, place, price,
+        );
     }
     let mut least = price;
     for number in 0..14u8 {
         let place = place_of(number);
-        least = try_place(work, spare, net, model, routes, strands, place, least);
+        least = try_place(
+            work, spare, net, model, routes, strands, places, place, least,
+        );
     }
     least
 }

@@ -1,4 +1,4 @@
-use Rattle.std.proofs.Common.{◌≡◌, ℕ, true, List, pos, refl, sym, subst, arith}
+use Rattle.std.proofs.Common.{◌≡◌, ℕ, true, List, pos, refl, sym, ◌∙◌, subst, arith}
 use Rattle.pra_base.specs.declared.ids.Place.{Place}
 use Rattle.std.proofs.lemmas.Int.{ints}
 use Rattle.net_cost.specs.Models.{weights_of}
@@ -21,14 +21,14 @@ returns-then-price-eq0-clause-least g c =
     (pay_nothing c.args.net.now (weights_of c.args.model.now) c.args.spare.now.taken
     c.args.strands.now c.args.place)
 
-pub returns-then-are_shut-clause-least : goal.returns-then-are_shut-clause-least
-returns-then-are_shut-clause-least g c =
+pub returns-then-not-allows-clause-least : goal.returns-then-not-allows-clause-least
+returns-then-not-allows-clause-least g c =
     let positive = sum_positive c.args.net.now (weights_of c.args.model.now) c.args.routes.now
     c.args.strands.now in
     shut_pay c.args.net.now (weights_of c.args.model.now) c.args.spare.now.taken
     c.args.strands.now c.args.place _
     (omega (arith, ints, c.requires.price, c.requires.most, positive))
-    (c.are_shut.ensures c.if-are_shut.true)
+    (c.requires.places (sym c.allows.ensures ∙ c.if-not-allows.true))
 
 pub draft_strands-draft-requires-clause-least : goal.draft_strands-draft-requires-clause-least
 draft_strands-draft-requires-clause-least g c =

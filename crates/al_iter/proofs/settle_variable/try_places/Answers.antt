@@ -8,10 +8,18 @@ use Rattle.pra_base.proofs.PlaceNumbers.{number_below}
 use Rattle.net_cost.specs.Models.{weights_of}
 use Rattle.net_form.specs.declared.taken.Taken.{Taken}
 use Rattle.net_form.proofs.PlaceEquality.{number-injective}
-use Rattle.al_iter.specs.SettleSums.{PayAtLeast}
+use Rattle.al_iter.specs.SettleSums.{PayAtLeast, IsShut}
 use Rattle.al_iter.proofs.SettleShut.{pay_less, pay_untied}
 use Rattle.al_iter.proofs.SettleVariable.{sum_positive}
 use Rattle.al_iter.proofs.settle_variable.try_places.Goals as goal
+
+pub try_place-requires-clause-places : goal.try_place-requires-clause-places
+try_place-requires-clause-places g c = λ no. c.open_places-places.ensures Mem no
+
+pub try_place-least-requires-clause-places : goal.try_place-least-requires-clause-places
+try_place-least-requires-clause-places g c = λ no.
+    subst (λ (t : Taken). IsShut c.args.net.now t c.args.strands.now c.place_of-place.result)
+    (sym c.loop-number.invariant.taken) (c.open_places-places.ensures c.place_of-place.result no)
 
 pub loop-number-preserved : goal.loop-number-preserved
 loop-number-preserved g c =
