@@ -59,7 +59,7 @@ fn draft_strand<F: Fn(Event, u32) -> u32>(
     ensures reserved { IsReservedFor net.now work.new }
 {
     let ends = tied_ends(net, strand, place);
-    if stays_free(net, &spare.routes, strand, ends) {
+    if stays_free(work, net, &spare.routes, strand, ends) {
         return Some(0);
     }
     match least(

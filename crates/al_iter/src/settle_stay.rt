@@ -2,19 +2,18 @@
 
 ghost use Rattle.std.specs.Prelude.{◌≡◌, ◌<◌, ◌+◌, length, slice_index, All, IsTrue, IsFalse};
 ghost use Rattle.pra_base.specs.declared.ids.Place.TheVariants.{Mem};
-ghost use Rattle.pra_base.specs.Places.{number, allows};
 ghost use Rattle.net_form.specs.Flow.{AreRoutes};
 ghost use Rattle.net_form.specs.Formed.{IsFormed};
 ghost use Rattle.net_laws.specs.Built.{IsBuilt};
 ghost use Rattle.net_dual.specs.Paths.{path_in};
 ghost use Rattle.net_path.specs.Grounds.{wants};
-ghost use Rattle.net_path.specs.Passing.{PassesBy};
+ghost use Rattle.net_path.specs.Desk.{IsReservedFor};
 ghost use Rattle.al_iter.specs.Staying.{StaysFree};
 
 use crate::settle_rows::path_at;
 use net_form::{Ends, Net, Routes};
-use pra_base::places::allows;
-use pra_base::{Mask, Place};
+use net_path::Work;
+use pra_base::Place;
 
 /// Whether a strand has an extra.
 pub(crate) fn has_extras(net: &Net, strand: usize) -> bool
@@ -48,37 +47,6 @@ pub(crate) fn is_in_memory(path: &[Place]) -> bool
     true
 }
 
-// Whether memory is in each of the masks.
-fn may_stay(masks: &[Mask]) -> bool
-    ensures { IsTrue result → All (λ m. IsTrue (allows m (number Mem))) masks.now }
-{
-    for at in 0..masks.len() {
-        if !allows(masks[at], Place::Mem) {
-            return false;
-        }
-    }
-    true
-}
-
-// Whether a strand pays nothing in memory but what its ties ask, whatever is taken.
-fn passes_by(net: &Net, strand: usize) -> bool
-    requires net { IsBuilt net.now }
-    requires strand { strand < length net.now.strands }
-    ensures { IsTrue result → PassesBy net.now strand }
-{
-    if has_extras(net, strand) {
-        return false;
-    }
-    if has_pairs(net, strand) {
-        return false;
-    }
-    let own = &net.strands[strand];
-    if own.constant {
-        return false;
-    }
-    may_stay(own.masks.as_slice())
-}
-
 // Whether an end of a path may be in memory.
 fn suits_memory(end: Option<Place>) -> bool
     ensures { IsTrue result → IsTrue (wants end Mem) }
@@ -91,8 +59,8 @@ fn suits_memory(end: Option<Place>) -> bool
 
 /// Whether the path of a strand stays in memory, may begin and end there, and pays nothing but what
 /// its ties ask, whatever is taken.
-pub(crate) fn stays_free(net: &Net, routes: &Routes, strand: usize, ends: Ends) -> bool
-    requires net { IsBuilt net.now }
+pub(crate) fn stays_free(work: &Work, net: &Net, routes: &Routes, strand: usize, ends: Ends) -> bool
+    requires work { IsReservedFor net.now work.now }
     requires routes { AreRoutes net.now routes.now }
     requires strand { strand < length net.now.strands }
     ensures { IsTrue result → StaysFree net.now ends strand (path_in routes.now strand) }
@@ -103,7 +71,7 @@ pub(crate) fn stays_free(net: &Net, routes: &Routes, strand: usize, ends: Ends) 
     if !suits_memory(ends.last) {
         return false;
     }
-    if !passes_by(net, strand) {
+    if !work.passes_by(net, strand) {
         return false;
     }
     is_in_memory(path_at(net, routes, strand))
