@@ -18,6 +18,7 @@ use crate::yielding::{needs_register, stays_home, yielding};
 use net_form::{Net, Routes, Taken};
 use pra_base::{OutOfMemory, Place};
 use pra_list::Seq;
+use pra_packed::Packed;
 use std::alloc::Global;
 
 // The registers in use where the strand would be.
@@ -78,20 +79,14 @@ fn path_for(
 }
 
 // The path of a strand that is at home at all its layers.
-fn add_home(
-    alloc: Global,
-    net: &Net,
-    paths: &mut Seq<Seq<Place>>,
-    strand: usize,
-) -> Result<(), OutOfMemory>
+fn add_home(net: &Net, paths: &mut Packed<Place>, strand: usize) -> Result<(), OutOfMemory>
     requires strand { strand < length net.now.strands }
     ensures { OnOk result (paths.new ≡ paths.old ++
         replicate (length (strand_at net.now strand).masks) (home_of (strand_at net.now strand))
         ∷ []) }
 {
     let t = &net.strands[strand];
-    let path = vec![in alloc; home_of(t); t.masks.len()]?;
-    paths.push(Seq::from_vec(path))?;
+    paths.push_filled(home_of(t), t.masks.len())?;
     Ok(())
 }
 
@@ -101,7 +96,7 @@ fn add_path(
     net: &Net,
     table: &[Seq<bool>],
     taken: &mut Taken,
-    paths: &mut Seq<Seq<Place>>,
+    paths: &mut Packed<Place>,
     strand: usize,
 ) -> Result<(), OutOfMemory>
     requires net { IsFormed net.now }
@@ -114,12 +109,12 @@ fn add_path(
     ensures paths { OnOk result (IsSoFar net.now taken.new.regs paths.new (strand + 1)) }
 {
     if stays_home(net, table, strand) {
-        add_home(alloc, net, paths, strand)?;
+        add_home(net, paths, strand)?;
         return Ok(());
     }
     let path = path_for(alloc, net, &taken.regs, table, strand)?;
     taken.take_path(net, strand, path.as_slice());
-    paths.push(path)?;
+    paths.push(path.as_slice())?;
     Ok(())
 }
 
@@ -138,7 +133,7 @@ pub fn home(alloc: Global, net: &Net) -> Result<Routes, OutOfMemory>
 {
     let table = yielding(alloc, net)?;
     let mut taken = Taken::empty(alloc, net)?;
-    let mut paths = Seq::from_vec(Vec::with_capacity(alloc, net.strands.len())?);
+    let mut paths = Packed::with_capacity(alloc, net.strands.len())?;
     for strand in 0..net.strands.len() {
         add_path(alloc, net, table.as_slice(), &mut taken, &mut paths, strand)?;
     }

@@ -19,7 +19,7 @@ use net_cost::{CostModel, Event};
 use net_form::{Net, Plan, Prices, Routes, Taken};
 use net_path::{NoPath, Work, least};
 use pra_base::{OutOfMemory, Place};
-use pra_list::Seq;
+use pra_packed::Packed;
 use std::alloc::Global;
 use thiserror::Error;
 
@@ -43,12 +43,12 @@ impl From<OutOfMemory> for LayFault {
 }
 
 // Some place for each layer of each strand.
-fn some_paths(alloc: Global, net: &Net) -> Result<Vec<Seq<Place>>, OutOfMemory>
-    ensures { IfOk result (λ paths. paths.items ≡ (some_routes net.now).places) }
+fn some_paths(alloc: Global, net: &Net) -> Result<Packed<Place>, OutOfMemory>
+    ensures { IfOk result (λ paths. paths ≡ (some_routes net.now).places) }
 {
-    let mut paths = Vec::with_capacity(alloc, net.strands.len())?;
+    let mut paths = Packed::with_capacity(alloc, net.strands.len())?;
     for strand in net.strands.as_slice() {
-        paths.push(Seq::from_vec(vec![in alloc; Place::Eax; strand.masks.len()]?))?;
+        paths.push_filled(Place::Eax, strand.masks.len())?;
     }
     Ok(paths)
 }
@@ -63,7 +63,7 @@ fn lay_next<F: Fn(Event, u32) -> u32>(
     order: &[u32],
     at: usize,
     taken: &mut Taken,
-    paths: &mut [Seq<Place>],
+    paths: &mut Packed<Place>,
 ) -> Result<(), NoPath>
     requires kept { Keeps F.Fn model.now }
     requires net { IsBuilt net.now }
@@ -85,7 +85,7 @@ fn lay_next<F: Fn(Event, u32) -> u32>(
     least(work, net, model, prices, strand, ends, taken)?;
     let path = work.path();
     taken.take_path(net, strand as usize, path);
-    paths[strand as usize].overwrite(path);
+    paths.overwrite(strand as usize, path);
     Ok(())
 }
 
@@ -129,9 +129,7 @@ pub fn lay_in<F: Fn(Event, u32) -> u32>(
             return Err(LayFault::Blocked(order[at], taken));
         }
     }
-    Ok(Routes {
-        places: Seq::from_vec(paths),
-    })
+    Ok(Routes { places: paths })
 }
 
 /// The same in a room of its own.

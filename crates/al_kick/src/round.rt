@@ -79,7 +79,6 @@ fn search_from<F: Fn(Event, u32) -> u32>(
 
 // The same, and what was found becomes routes, if the gate admits them.
 fn kick_in<F: Fn(Event, u32) -> u32>(
-    alloc: Global,
     search: &mut Search,
     taken: &mut Taken,
     found: &mut Routes,
@@ -101,7 +100,7 @@ fn kick_in<F: Fn(Event, u32) -> u32>(
     if !search_from(search, net, model, best, prices, round, bound) {
         return false;
     }
-    write_routes(alloc, found, net, &search.spans, &search.paths.kept);
+    write_routes(found, net, &search.spans, &search.paths.kept);
     admitted(taken, net, found).is_ok()
 }
 
@@ -138,7 +137,6 @@ impl SearchRoom {
 /// is large for its visits, how many rounds before it found nothing, how long: the same calls find
 /// the same. It takes no memory.
 pub fn kick<F: Fn(Event, u32) -> u32>(
-    alloc: Global,
     room: &mut SearchRoom,
     taken: &mut Taken,
     found: &mut Routes,
@@ -158,7 +156,5 @@ pub fn kick<F: Fn(Event, u32) -> u32>(
     ensures admitted { result ≡ true → IsAdmitted net.now (flow net.now found.new) }
 {
     let search = &mut room.search;
-    kick_in(
-        alloc, search, taken, found, net, model, best, prices, round, bound,
-    )
+    kick_in(search, taken, found, net, model, best, prices, round, bound)
 }

@@ -324,9 +324,10 @@ impl Search {
     fn read_routes(&mut self, routes: &Routes) {
         for strand in 0..self.spans.len() {
             let span = self.span(strand);
-            let Some(path) = routes.places.get(strand) else {
+            if strand >= routes.places.len() {
                 return;
-            };
+            }
+            let path = routes.places.at(strand);
             for step in 0..span.steps() {
                 let (layer, _) = span.layers_of(step);
                 if let Some(place) = path.get(layer) {

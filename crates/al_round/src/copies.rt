@@ -1,13 +1,12 @@
 // Prices and routes written over others, in their memory.
 
-ghost use Rattle.std.specs.Prelude.{◌≡◌, ◌<◌, ℕ, [], length, slice_index_or, IfOk};
+ghost use Rattle.std.specs.Prelude.{◌≡◌, length, IfOk};
 ghost use Rattle.net_form.specs.Flow.{AreRoutes};
 
 use net_form::{Net, Prices, Routes};
-use pra_base::{OutOfMemory, Place};
+use pra_base::OutOfMemory;
 use pra_list::Seq;
 use std::alloc::Global;
-use std::mem;
 
 /// A copy of prices.
 ///
@@ -36,25 +35,11 @@ pub(crate) fn overwrite_prices(to: &mut Prices, from: &Prices)
     to.ties.overwrite(&from.ties);
 }
 
-// Writes paths over others, each as long.
-fn overwrite_paths(to: &mut [Seq<Place>], from: &[Seq<Place>])
-    requires many { length to.old ≡ length from.now }
-    requires long { (s : ℕ) → s < length from.now →
-        length (slice_index_or to.old s []) ≡ length (slice_index_or from.now s []) }
-    ensures { to.new ≡ from.now }
-{
-    for at in 0..from.len() {
-        to[at].overwrite(from[at].as_slice());
-    }
-}
-
 /// Writes the routes of a network over others.
-pub(crate) fn overwrite_routes(alloc: Global, to: &mut Routes, net: &Net, from: &Routes)
+pub(crate) fn overwrite_routes(to: &mut Routes, net: &Net, from: &Routes)
     requires to { AreRoutes net.now to.old }
     requires from { AreRoutes net.now from.now }
     ensures { to.new ≡ from.now }
 {
-    let mut paths = mem::replace(&mut to.places, Seq::new(alloc)).into_vec();
-    overwrite_paths(&mut paths, from.places.as_slice());
-    to.places = Seq::from_vec(paths);
+    to.places.overwrite_all(&from.places);
 }

@@ -19,12 +19,10 @@ use net_cost::{CostModel, Event};
 use net_form::{Net, Prices, Routes, Spare};
 use net_gate::cost;
 use net_path::Work;
-use std::alloc::Global;
 
 // Takes a candidate in place of the best routes, which cost so much, if it costs less, and answers
 // what the best ones cost then.
 fn take_cheaper<F: Fn(Event, u32) -> u32>(
-    alloc: Global,
     best: &mut Routes,
     net: &Net,
     model: &CostModel<F>,
@@ -49,13 +47,12 @@ fn take_cheaper<F: Fn(Event, u32) -> u32>(
     if cost >= now {
         return now;
     }
-    overwrite_routes(alloc, best, net, candidate);
+    overwrite_routes(best, net, candidate);
     cost
 }
 
 // The same with what was laid, if anything was.
 fn take_laid<F: Fn(Event, u32) -> u32>(
-    alloc: Global,
     best: &mut Routes,
     net: &Net,
     model: &CostModel<F>,
@@ -76,14 +73,13 @@ fn take_laid<F: Fn(Event, u32) -> u32>(
     ensures same { result ≡ now → best.new ≡ best.old }
 {
     match outcome {
-        Outcome::Laid(routes) => take_cheaper(alloc, best, net, model, routes, now),
+        Outcome::Laid(routes) => take_cheaper(best, net, model, routes, now),
         Outcome::Blocked(_, _) => now,
     }
 }
 
 // Looks for routes that cost less than the best ones, and leaves them in the room.
 fn look<F: Fn(Event, u32) -> u32>(
-    alloc: Global,
     search: &mut SearchRoom,
     spare: &mut Spare,
     net: &Net,
@@ -102,15 +98,12 @@ fn look<F: Fn(Event, u32) -> u32>(
 {
     let taken = &mut spare.taken;
     let found = &mut spare.routes;
-    kick(
-        alloc, search, taken, found, net, model, best, prices, round, bound,
-    )
+    kick(search, taken, found, net, model, best, prices, round, bound)
 }
 
 // Takes what the search finds from the best routes, which cost so much, led by prices, which give
 // this bound, and answers what the best ones cost then.
 fn take_kicked<F: Fn(Event, u32) -> u32>(
-    alloc: Global,
     best: &mut Routes,
     search: &mut SearchRoom,
     spare: &mut Spare,
@@ -134,10 +127,10 @@ fn take_kicked<F: Fn(Event, u32) -> u32>(
     ensures same { result ≡ now → best.new ≡ best.old }
     ensures spare { IsSpareOf net.now spare.new }
 {
-    if !look(alloc, search, spare, net, model, best, prices, round, bound) {
+    if !look(search, spare, net, model, best, prices, round, bound) {
         return now;
     }
-    take_cheaper(alloc, best, net, model, &spare.routes, now)
+    take_cheaper(best, net, model, &spare.routes, now)
 }
 
 /// Takes what was laid in place of the best routes where it costs less, then what the search finds
@@ -145,7 +138,6 @@ fn take_kicked<F: Fn(Event, u32) -> u32>(
 /// were, and `now` what they cost; the number of the round decides where the search looks, and it
 /// looks no further than the bound of these prices. What the best routes cost in the end is answered.
 pub(crate) fn improve<F: Fn(Event, u32) -> u32>(
-    alloc: Global,
     settled: bool,
     work: &mut Work,
     spare: &mut Spare,
@@ -178,10 +170,8 @@ pub(crate) fn improve<F: Fn(Event, u32) -> u32>(
     ensures family { work.new.family ≡ work.old.family }
     ensures reserved { IsReservedFor net.now work.new }
 {
-    let laid = take_laid(alloc, best, net, model, outcome, now);
-    let kicked = take_kicked(
-        alloc, best, search, spare, net, model, prices, round, bound, laid,
-    );
+    let laid = take_laid(best, net, model, outcome, now);
+    let kicked = take_kicked(best, search, spare, net, model, prices, round, bound, laid);
     if settled && kicked == now {
         return now;
     }

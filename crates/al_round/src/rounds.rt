@@ -147,13 +147,12 @@ impl Rounds {
             number,
         );
         let tried = try_prices(alloc, &mut self.work, net, model, &room.next)?;
-        self.finish(alloc, net, model, room, tried)
+        self.finish(net, model, room, tried)
     }
 
     // What is left to do once the next prices are made and tried.
     fn finish<F: Fn(Event, u32) -> u32>(
         &mut self,
-        alloc: Global,
         net: &Net,
         model: &CostModel<F>,
         mut room: RoundRoom,
@@ -190,7 +189,6 @@ impl Rounds {
         );
         let bound = rounded_up(self.best_value);
         let cost = improve(
-            alloc,
             number > 1,
             &mut self.work,
             &mut room.spare,

@@ -4,7 +4,6 @@ use Rattle.std.proofs.lemmas.List.{length-map, get_or-map}
 use Rattle.pra_base.specs.declared.ids.Place.{Place}
 use Rattle.net_form.specs.declared.net.Net.{Net}
 use Rattle.net_form.specs.declared.net.Strand.{Strand}
-use Rattle.net_form.specs.declared.routes.Routes.{Routes}
 use Rattle.net_form.specs.Admitted.{no_strand}
 use Rattle.net_form.specs.Flow.{AreRoutes}
 use Rattle.net_form.specs.Formed.{IsFormed}

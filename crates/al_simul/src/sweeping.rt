@@ -17,6 +17,7 @@ use net_form::{Net, Plan, Prices, Routes, Taken};
 use net_gate::admitted;
 use pra_base::{OutOfMemory, Place};
 use pra_list::Seq;
+use pra_packed::Packed;
 use std::alloc::{AllocError, Global};
 
 // So many places from one on, by their numbers.
@@ -41,16 +42,14 @@ fn routes_of(alloc: Global, net: &Net, places: &[u8]) -> Result<Routes, AllocErr
     requires net { IsFormed net.now }
     ensures { IfOk result (AreRoutes net.now) }
 {
-    let mut paths = Vec::with_capacity(alloc, net.strands.len())?;
+    let mut paths = Packed::with_capacity(alloc, net.strands.len())?;
     let mut start = 0usize;
     for strand in net.strands.as_slice() {
         let count = strand.masks.len();
-        paths.push(path_of(alloc, places, start, count)?)?;
+        paths.push(path_of(alloc, places, start, count)?.as_slice())?;
         start = start.saturating_add(count);
     }
-    Ok(Routes {
-        places: Seq::from_vec(paths),
-    })
+    Ok(Routes { places: paths })
 }
 
 // What the sweep of each block comes to, whether it is admitted or not.

@@ -59,7 +59,7 @@ pub(crate) fn network_of(
     if !is_counted(code, counts) {
         return Ok(Found::Fails(Reason::Code));
     }
-    if !has_places(code, &live, cert.routes.places.as_slice()) {
+    if !has_places(code, &live, &cert.routes.places) {
         return Ok(Found::Fails(Reason::Routes));
     }
     Ok(Found::Made(build(alloc, code, &live)?))

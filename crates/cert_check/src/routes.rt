@@ -18,7 +18,7 @@ fn are_routes(net: &Net, routes: &Routes) -> bool
         return false;
     }
     for strand in 0..net.strands.len() {
-        if routes.places[strand].len() != net.strands[strand].masks.len() {
+        if routes.places.at(strand).len() != net.strands[strand].masks.len() {
             return false;
         }
     }

@@ -22,6 +22,7 @@ use pra_base::{
     Addr, Base, Block, BlockId, Cond, End, Place, ProcId, VInstr, VProc, VarId, VarKind,
 };
 use pra_list::Seq;
+use pra_packed::Packed;
 use serde_json::Value;
 use std::alloc::{AllocError, AllocFailed, Global};
 
@@ -455,7 +456,8 @@ fn cert(alloc: Global, number: u32, value: &Value) -> Result<Cert, Misread>
     ensures err { IfErr result (λ e. e ≡ misread.Form → cert_of number (view value.now) ≡ None) }
 {
     let code = code(alloc, number, value)?;
-    let places = list_under(alloc, value, "routes")?;
+    let lists: Seq<Seq<Place>> = list_under(alloc, value, "routes")?;
+    let places = Packed::of(alloc, lists.as_slice())?;
     let caps = list_under(alloc, value, "caps")?;
     let mems = list_under(alloc, value, "mems")?;
     let ties = list_under(alloc, value, "ties")?;

@@ -18,7 +18,7 @@ ghost use Rattle.cert_form.specs.Building.{NumbersFit, ListsFit, PricesFit};
 use crate::certificate::{CapAt, Cert, Certificate, CostWord, TieAt};
 use crate::table::{Operand, name, row};
 use pra_base::{Addr, Base, Block, Cond, End, Place, VInstr, VarId, VarKind};
-use pra_list::Seq;
+use pra_packed::Packed;
 use serde_json::{Map, Value, json, put};
 use std::alloc::{AllocError, Global};
 
@@ -207,16 +207,6 @@ impl Written for Place {
     }
 }
 
-impl Written for Seq<Place> {
-    ghost form = { path_data };
-
-    ghost fits = { λ ps. ⊤ };
-
-    fn value(&self, alloc: Global) -> Result<Value, AllocError> {
-        list_value(alloc, self.as_slice())
-    }
-}
-
 impl Written for CapAt {
     ghost form = { cap_data };
 
@@ -264,6 +254,17 @@ fn put_numbers(map: &mut Map<String, Value>, alloc: Global, c: &Cert) -> Result<
     Ok(())
 }
 
+// The list of the lists of places.
+fn paths_value(alloc: Global, paths: &Packed<Place>) -> Result<Value, AllocError>
+    ensures { IfOk result (λ v. view v ≡ list path_data paths.now) }
+{
+    let mut values = Vec::with_capacity(alloc, paths.len())?;
+    for at in 0..paths.len() {
+        values.push(list_value(alloc, paths.at(at))?)?;
+    }
+    Ok(Value::from(values))
+}
+
 // Adds those of its code and routes.
 fn put_lists(map: &mut Map<String, Value>, alloc: Global, c: &Cert) -> Result<(), AllocError>
     ensures is { OnOk result (members_view map.new.entries
@@ -272,7 +273,7 @@ fn put_lists(map: &mut Map<String, Value>, alloc: Global, c: &Cert) -> Result<()
 {
     let blocks = list_value(alloc, c.code.blocks.as_slice())?;
     put(map, alloc, "blocks", blocks)?;
-    let routes = list_value(alloc, c.routes.places.as_slice())?;
+    let routes = paths_value(alloc, &c.routes.places)?;
     put(map, alloc, "routes", routes)?;
     let vars = list_value(alloc, c.code.vars.as_slice())?;
     put(map, alloc, "vars", vars)?;

@@ -2,7 +2,7 @@
 //!
 //! `certificate_of` makes it of what the compiler keeps of each procedure: the code, the routes
 //! that the image carries, an entry for each price of the last bound that is not 0, and the cost
-//! and the bound of the last line. Codes are moved; routes and prices are unpacked.
+//! and the bound of the last line. Codes and routes are moved; prices are unpacked.
 //!
 //! Promised is what it has of each procedure (`IsCertificateOf` of `specs/Made`). The law
 //! `certificates_hold` says that such a certificate of a compiled module holds: no reason against

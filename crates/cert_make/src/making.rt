@@ -65,7 +65,6 @@ fn cert_of(alloc: Global, out: ProcOut) -> Result<Cert, OutOfMemory>
         lines,
         ..
     } = out;
-    let routes = routes.unpacked(alloc)?;
     let prices = prices.unpacked(alloc)?;
     let caps = caps_of(alloc, prices.caps.as_slice())?;
     let mems = caps_of(alloc, prices.mems.as_slice())?;
@@ -84,12 +83,12 @@ fn cert_of(alloc: Global, out: ProcOut) -> Result<Cert, OutOfMemory>
     })
 }
 
-/// The certificate of these procedures, whose costs are counted by these weights. Codes are
-/// moved, routes and prices unpacked, and all else is made in one pass over the prices.
+/// The certificate of these procedures, whose costs are counted by these weights. Codes and
+/// routes are moved, prices unpacked, and all else is made in one pass over the prices.
 ///
 /// # Errors
 ///
-/// Where there is no memory for routes, prices or their entries. A price at an index that 32 bits
+/// Where there is no memory for prices or their entries. A price at an index that 32 bits
 /// don't hold, and a cost or a bound that 64 bits don't hold, are taken for that too: no sized code
 /// has them.
 pub fn certificate_of(

@@ -18,7 +18,7 @@ use net_form::{Net, Routes};
 use pl_build::place;
 use pl_place::LProc;
 use pra_base::{Block, OutOfMemory, Place, VProc};
-use pra_list::Seq;
+use pra_packed::Packed;
 use std::alloc::Global;
 use std::marker::Model;
 
@@ -78,12 +78,7 @@ impl PlacedModule {
     /// # Errors
     ///
     /// The first rule that the code or the paths break; nothing has changed then.
-    pub fn add(
-        &mut self,
-        alloc: Global,
-        code: &VProc,
-        paths: Seq<Seq<Place>>,
-    ) -> Result<(), Refusal>
+    pub fn add(&mut self, alloc: Global, code: &VProc, paths: Packed<Place>) -> Result<(), Refusal>
         ensures added { OnOk result (IsAdded code.now self.old self.new) }
         ensures refused { OnErr result (self.new ≡ self.old) }
     {

@@ -12,7 +12,7 @@ use net_build::build;
 use net_form::{Net, Routes, Taken};
 use net_gate::admitted;
 use pra_base::{Place, VProc};
-use pra_list::Seq;
+use pra_packed::Packed;
 use sketch::has_places;
 use std::alloc::Global;
 use vc_live::{is_sized, live};
@@ -38,13 +38,13 @@ pub(crate) fn network(alloc: Global, code: &VProc) -> Result<Net, Refusal>
 pub(crate) fn given_routes(
     alloc: Global,
     net: &Net,
-    paths: Seq<Seq<Place>>,
+    paths: Packed<Place>,
 ) -> Result<Routes, Refusal>
     requires { IsFormed net.now }
     ensures routes { IfOk result (AreRoutes net.now) }
     ensures admitted { IfOk result (λ routes. IsAdmitted net.now (flow net.now routes)) }
 {
-    if !has_places(net.strands.as_slice(), paths.as_slice()) {
+    if !has_places(net.strands.as_slice(), &paths) {
         return Err(Refusal::Paths);
     }
     let routes = Routes { places: paths };

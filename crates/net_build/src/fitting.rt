@@ -14,7 +14,7 @@ ghost use Rattle.net_build.specs.Fitting.{behind};
 use crate::beside::{beside, is_present, side};
 use crate::strands::{begins, layer_count, least_from};
 use pra_base::{BlockId, Place, VProc};
-use pra_list::Seq;
+use pra_packed::Packed;
 use vc_code::{Role, operands};
 use vc_live::Liveness;
 
@@ -41,7 +41,7 @@ fn pass_begun(
     block: u32,
     layer: u32,
     var: u32,
-    lists: &[Seq<Place>],
+    lists: &Packed<Place>,
     number: usize,
 ) -> Option<usize>
     requires sized { IsSized code.now }
@@ -58,7 +58,7 @@ fn pass_begun(
     if number >= lists.len() {
         return None;
     }
-    if lists[number].len() != run_from(code, live, block, layer, var) as usize {
+    if lists.at(number).len() != run_from(code, live, block, layer, var) as usize {
         return None;
     }
     Some(number + 1)
@@ -69,7 +69,7 @@ fn pass_entry(
     code: &VProc,
     live: &Liveness,
     block: u32,
-    lists: &[Seq<Place>],
+    lists: &Packed<Place>,
     number: usize,
 ) -> Option<usize>
     requires sized { IsSized code.now }
@@ -94,7 +94,7 @@ fn pass_roles(
     block: u32,
     layer: u32,
     roles: &[Role],
-    lists: &[Seq<Place>],
+    lists: &Packed<Place>,
     number: usize,
 ) -> Option<usize>
     requires sized { IsSized code.now }
@@ -122,7 +122,7 @@ fn pass_layer(
     live: &Liveness,
     block: u32,
     layer: u32,
-    lists: &[Seq<Place>],
+    lists: &Packed<Place>,
     number: usize,
 ) -> Option<usize>
     requires sized { IsSized code.now }
@@ -149,7 +149,7 @@ fn pass_block(
     code: &VProc,
     live: &Liveness,
     block: u32,
-    lists: &[Seq<Place>],
+    lists: &Packed<Place>,
     number: usize,
 ) -> Option<usize>
     requires sized { IsSized code.now }
@@ -166,7 +166,7 @@ fn pass_block(
 }
 
 // The number of the list behind those of all strands.
-fn pass_all(code: &VProc, live: &Liveness, lists: &[Seq<Place>]) -> Option<usize>
+fn pass_all(code: &VProc, live: &Liveness, lists: &Packed<Place>) -> Option<usize>
     requires sized { IsSized code.now }
     requires live { IsLive code.now (live_at live.now) }
     ensures { result ≡ behind (strands all_tables code.now (live_at live.now)) lists.now 0 }
@@ -182,7 +182,7 @@ fn pass_all(code: &VProc, live: &Liveness, lists: &[Seq<Place>]) -> Option<usize
 /// each of its layers.
 ///
 /// It takes no memory. From the first list that does not fit on nothing is looked at.
-pub fn has_places(code: &VProc, live: &Liveness, lists: &[Seq<Place>]) -> bool
+pub fn has_places(code: &VProc, live: &Liveness, lists: &Packed<Place>) -> bool
     requires sized { IsSized code.now }
     requires live { IsLiveness code.now live.now }
     ensures { IsTrue result ↔

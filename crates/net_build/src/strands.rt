@@ -16,8 +16,8 @@ ghost use Rattle.net_build.specs.Runs.{run_masks};
 ghost use Rattle.vc_live.specs.Least.{IsBelow, IsLeastFrom};
 
 use crate::beside::{beside, is_present, own_places, present_mask, side};
-use net_form::Strand;
-use pra_base::{BlockId, Mask, VProc, VarId, VarKind};
+use net_form::{Masks, Strand};
+use pra_base::{BlockId, VProc, VarId, VarKind};
 use pra_list::Seq;
 use std::alloc::{AllocError, Global};
 use vc_code::{Role, operands};
@@ -64,7 +64,7 @@ fn masks(
     first: u32,
     var: u32,
     known: bool,
-) -> Result<Seq<Mask>, AllocError>
+) -> Result<Masks, AllocError>
     requires sized { IsSized code.now }
     requires block { block < length code.now.blocks }
     requires var { var < length code.now.vars }
@@ -72,7 +72,7 @@ fn masks(
     requires known { IsTrue known → live_at live.now var block first ≡ true }
     ensures { IfOk result (λ masks. masks ≡ run_masks code.now (live_at live.now) var block first) }
 {
-    let mut masks = Seq::new(alloc);
+    let mut masks = Masks::new(alloc);
     let own = own_places(code.vars[var as usize]);
     let end = layer_count(code, block);
     let mut layer = first;

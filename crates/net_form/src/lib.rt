@@ -93,9 +93,11 @@
 //! # What lies where
 //!
 //! Least paths ask for the mask and the extras of one strand layer by layer, for every strand,
-//! round after round. So the masks of a strand lie together, and `NetIndex` leads from a strand to
-//! its extras, its ends of memory pairs and its ties, from a block to its first layer and its first
-//! strand, from a variable to its strands, and from a tie group to its ends, without a search.
+//! round after round. So the masks of a strand lie together, in the strand itself where they are no
+//! more than eight, and `NetIndex` leads from a strand to its extras, its ends of memory pairs and
+//! its ties, from a block to its first layer and its first strand, from a variable to its strands,
+//! and from a tie group to its ends, without a search. The places of all paths of routes lie in one
+//! list, one strand's behind the other's.
 //!
 //! Read specs/Strands, Network, Flow, Admitted and Cost, in this order.
 #![tactic(auto)]
@@ -111,7 +113,9 @@ mod tie_numbers;
 mod ways;
 
 pub use extras::extras_cost;
-pub use net::{BlockEnd, Extra, MemPair, Net, NetBlock, NetIndex, PairEnd, Strand, Tie, TieEnd};
+pub use net::{
+    BlockEnd, Extra, Masks, MemPair, Net, NetBlock, NetIndex, PairEnd, Strand, Tie, TieEnd,
+};
 pub use prices::{Line, Prices};
 pub use routes::{Ends, Plan, Routes};
 pub use taken::{Spare, Taken};

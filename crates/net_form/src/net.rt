@@ -11,6 +11,7 @@ ghost use Rattle.net_form.specs.Rooms.{layer_total};
 use net_cost::Event;
 use pra_base::{BlockId, Mask, Place, VarId};
 use pra_list::Seq;
+use pra_packed::Few;
 
 /// A block, as the network sees it.
 #[derive(Clone, Copy, Debug, PartialEq, Eq, Drop)]
@@ -20,6 +21,9 @@ pub struct NetBlock {
     /// How many layers it has: two for each instruction, its entry and its exit.
     pub layers: u32,
 }
+
+/// Where a strand may be, for each of its layers from the first on.
+pub type Masks = Few<Mask, 8>;
 
 /// A variable at consecutive layers of one block, at each of which it is present.
 #[derive(Debug, PartialEq, Eq, Drop)]
@@ -32,7 +36,7 @@ pub struct Strand {
     /// Whether the variable is a constant.
     pub constant: bool,
     /// Where it may be, for each of its layers from the first on.
-    pub masks: Seq<Mask>,
+    pub masks: Masks,
     /// The tie group of its end at the block's entry.
     pub entry_group: Option<u32>,
     /// The tie group of its end at the block's exit.

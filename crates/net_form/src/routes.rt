@@ -2,11 +2,12 @@
 
 use pra_base::Place;
 use pra_list::Seq;
+use pra_packed::Packed;
 
 /// A path for each strand: a place for each of its layers.
 #[derive(Debug, PartialEq, Eq, Drop)]
 pub struct Routes {
-    pub places: Seq<Seq<Place>>,
+    pub places: Packed<Place>,
 }
 
 /// A place for each tie group.

@@ -17,6 +17,7 @@ use crate::routes::Routes;
 use crate::tie_numbers::TieNumbers;
 use pra_base::{OutOfMemory, Place};
 use pra_list::Seq;
+use pra_packed::Packed;
 use std::alloc::Global;
 
 /// What is in use.
@@ -164,13 +165,11 @@ impl Prices {
 fn some_routes(alloc: Global, net: &Net) -> Result<Routes, OutOfMemory>
     ensures { IfOk result (λ routes. routes ≡ some_routes net.now) }
 {
-    let mut places = Vec::with_capacity(alloc, net.strands.len())?;
+    let mut places = Packed::with_capacity(alloc, net.strands.len())?;
     for strand in net.strands.as_slice() {
-        places.push(Seq::from_vec(vec![in alloc; Place::Eax; strand.masks.len()]?))?;
+        places.push_filled(Place::Eax, strand.masks.len())?;
     }
-    Ok(Routes {
-        places: Seq::from_vec(places),
-    })
+    Ok(Routes { places })
 }
 
 impl Spare {

@@ -127,7 +127,7 @@ pub(crate) fn first_bundle(taken: &mut Taken, net: &Net, routes: &Routes) -> Opt
     taken.clear();
     let mut clash = None;
     for at in 0..net.strands.len() {
-        clash = go_along(taken, clash, net, at, routes.places[at].as_slice());
+        clash = go_along(taken, clash, net, at, routes.places.at(at));
     }
     clash
 }

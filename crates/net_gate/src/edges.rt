@@ -90,7 +90,7 @@ pub(crate) fn first_edge(rule: EdgeRule, net: &Net, routes: &Routes) -> Option<(
         (λ s l. count_by (breaks net.now rule s l) (flow net.now routes.now)) result }
 {
     for at in 0..net.strands.len() {
-        let path = routes.places[at].as_slice();
+        let path = routes.places.at(at);
         if let Some(layer) = first_layer(rule, net, at, path) {
             return Some((at as u32, layer));
         }

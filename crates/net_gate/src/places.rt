@@ -18,7 +18,7 @@ fn place_within(net: &Net, routes: &Routes, strand: usize, layer: u32) -> Option
     if layer < first {
         return None;
     }
-    let path = routes.places[strand].as_slice();
+    let path = routes.places.at(strand);
     path.get((layer - first) as usize).copied()
 }
 

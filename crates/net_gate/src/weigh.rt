@@ -53,7 +53,7 @@ fn paths_cost<F: Fn(Event, u32) -> u32>(net: &Net, model: &CostModel<F>, routes:
 {
     let mut total = 0u128;
     for at in 0..net.strands.len() {
-        total += path_cost(net, model, at, routes.places[at].as_slice()) as u128;
+        total += path_cost(net, model, at, routes.places.at(at)) as u128;
     }
     total
 }

@@ -14,24 +14,22 @@ ghost use Rattle.net_path.specs.Passing.{IsNote};
 use crate::crossbar::Row;
 use crate::search::search_spread;
 use crate::spread::{Load, Sides, count, put_sides};
-use crate::work::{Work, keep_path};
+use crate::work::Work;
 use net_cost::{CostModel, Event};
 use net_form::{Net, Prices, Routes, Taken};
 use pra_base::{OutOfMemory, Place};
-use pra_list::Seq;
+use pra_packed::Packed;
 use std::alloc::Global;
 
 /// A family of which no path is in a register.
 pub(crate) fn no_paths(alloc: Global, net: &Net) -> Result<Routes, OutOfMemory>
     ensures { IfOk result (HasSizes net.now) }
 {
-    let mut places = Vec::with_capacity(alloc, net.strands.len())?;
+    let mut places = Packed::with_capacity(alloc, net.strands.len())?;
     for strand in net.strands.as_slice() {
-        places.push(Seq::from_vec(vec![in alloc; Place::Const; strand.masks.len()]?))?;
+        places.push_filled(Place::Const, strand.masks.len())?;
     }
-    Ok(Routes {
-        places: Seq::from_vec(places),
-    })
+    Ok(Routes { places })
 }
 
 // The same, with the parts of the room that belong to the strand: a row, a place and a count for
@@ -47,7 +45,6 @@ fn renew_over<F: Fn(Event, u32) -> u32>(
     path: &mut [Place],
     loads: &mut [Load],
     sides: &mut [Sides],
-    alloc: Global,
     family: &mut Routes,
 ) -> i64
     requires kept { Keeps F.Fn model.now }
@@ -70,7 +67,7 @@ fn renew_over<F: Fn(Event, u32) -> u32>(
     ensures others { (s : ℕ) → s ≢ strand → path_in family.new s ≡ path_in family.old s }
     ensures sizes { HasSizes net.now family.new }
 {
-    count(loads, family.places[strand].as_slice(), false);
+    count(loads, family.places.at(strand), false);
     match search_spread(
         net, model, prices, strand, note, free, sides, loads, rows, path,
     ) {
@@ -78,7 +75,7 @@ fn renew_over<F: Fn(Event, u32) -> u32>(
         Ok(cost) => {
             count(loads, path, true);
             put_sides(sides, strand, path);
-            keep_path(alloc, family, strand, path);
+            family.places.overwrite(strand, path);
             cost
         }
     }
@@ -96,7 +93,6 @@ fn renew_parts<F: Fn(Event, u32) -> u32>(
     path: &mut [Place],
     loads: &mut [Load],
     sides: &mut [Sides],
-    alloc: Global,
     family: &mut Routes,
 ) -> i64
     requires kept { Keeps F.Fn model.now }
@@ -125,7 +121,7 @@ fn renew_parts<F: Fn(Event, u32) -> u32>(
     let path = &mut path[..layers];
     let loads = &mut loads[first..first + layers];
     renew_over(
-        net, model, prices, strand, note, free, rows, path, loads, sides, alloc, family,
+        net, model, prices, strand, note, free, rows, path, loads, sides, family,
     )
 }
 
@@ -170,7 +166,6 @@ pub fn renew<F: Fn(Event, u32) -> u32>(
         path,
         loads,
         &mut work.sides,
-        work.alloc,
         family,
     )
 }

@@ -1,6 +1,6 @@
 // Room to work in.
 
-ghost use Rattle.std.specs.Prelude.{◌≡◌, ◌≤◌, ◌<◌, ℕ, [], length, IfOk, slice_index_or, slice_set};
+ghost use Rattle.std.specs.Prelude.{◌≡◌, ◌≤◌, ◌<◌, ℕ, length, IfOk};
 ghost use Rattle.net_form.specs.Admitted.{strand_at};
 
 use crate::crossbar::Row;
@@ -10,9 +10,7 @@ use crate::spread::{Load, Sides};
 use net_cost::{CostModel, Event};
 use net_form::{Net, Routes, Taken};
 use pra_base::{OutOfMemory, Place};
-use pra_list::Seq;
 use std::alloc::Global;
-use std::mem;
 
 /// Room for the rows and the path of one strand at a time, for the path that was asked for last,
 /// and for a family of paths, one for each strand, with their ends and a count of those that are in
@@ -28,7 +26,6 @@ pub struct Work {
     pub(crate) sides: Vec<Sides>,
     pub(crate) free: Taken,
     pub(crate) notes: Vec<u16>,
-    pub(crate) alloc: Global,
     ghost as_long: { length path.items ≡ length rows.items },
     ghost renewed_as_long: { length renewed.items ≡ length rows.items },
     ghost within: { count ≤ length path.items },
@@ -44,21 +41,6 @@ fn longest(net: &Net) -> usize
         most = most.max(strand.masks.len());
     }
     most
-}
-
-/// Puts a path into a family, in its own memory.
-pub(crate) fn keep_path(alloc: Global, family: &mut Routes, strand: usize, path: &[Place])
-    requires strand { strand < length family.old.places }
-    requires path { length path.now ≡ length (slice_index_or family.old.places strand []) }
-    ensures { family.new.places ≡ slice_set family.old.places strand path.now }
-{
-    let empty = Routes {
-        places: Seq::new(alloc),
-    };
-    let kept = mem::replace(family, empty);
-    let mut places = kept.places.into_vec();
-    places[strand].overwrite(path);
-    family.places = Seq::from_vec(places);
 }
 
 impl Work {
@@ -121,7 +103,6 @@ impl Work {
             sides: vec![in alloc; nowhere; net.strands.len()]?,
             free,
             notes: notes_of(alloc, net)?,
-            alloc,
         })
     }
 }

@@ -62,6 +62,6 @@ pub(crate) fn raise_mems(mems: &mut Seq<u64>, net: &Net, family: &Routes, s: u64
         (flow net.now family.now)) mems.old mems.new }
 {
     for strand in 0..net.strands.len() {
-        raise_ends(mems, net, strand, family.places[strand].as_slice(), s);
+        raise_ends(mems, net, strand, family.places.at(strand), s);
     }
 }

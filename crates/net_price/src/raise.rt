@@ -83,6 +83,6 @@ pub(crate) fn raise_caps(caps: &mut Seq<u64>, net: &Net, family: &Routes, s: u64
         (flow net.now family.now)) caps.old caps.new }
 {
     for strand in 0..net.strands.len() {
-        raise_path(caps, net, strand, family.places[strand].as_slice(), s);
+        raise_path(caps, net, strand, family.places.at(strand), s);
     }
 }

@@ -45,7 +45,7 @@ fn place_at(net: &Net, family: &Routes, strand: usize, layer: u32) -> Place
         count_by (arrives strand layer place) (flow net.now family.now) }
 {
     let at = layer - net.strands[strand].first;
-    family.places[strand][at as usize]
+    family.places.at(strand)[at as usize]
 }
 
 // Where the family is when it leaves by a tie.

@@ -112,7 +112,7 @@ pub(crate) fn layers_of(
 {
     let mut layers = empty_layers(alloc, net)?;
     for strand in 0..net.strands.len() {
-        let path = routes.places[strand].as_slice();
+        let path = routes.places.at(strand);
         add_path(code, net, &mut layers, strand, path)?;
     }
     Ok(layers)

@@ -48,7 +48,7 @@ fn marks_of(
 {
     let mut marks = Seq::from_vec(vec![in alloc; false; code.vars.len()]?);
     for strand in 0..net.strands.len() {
-        let comes = comes_to_memory(routes.places[strand].as_slice());
+        let comes = comes_to_memory(routes.places.at(strand));
         mark(&mut marks, net.strands[strand].var, comes);
     }
     Ok(marks)

@@ -13,7 +13,6 @@ use Rattle.ia_asm.specs.Assembly.{IsAssembly, IsImageOf}
 use Rattle.ia_code.specs.declared.image.Image.{Image}
 use Rattle.net_form.specs.declared.net.Net.{Net}
 use Rattle.net_form.specs.declared.prices.Prices.{Prices}
-use Rattle.net_form.specs.declared.routes.Routes.{Routes}
 use Rattle.pl_made.specs.Made.{IsMade}
 use Rattle.pl_place.specs.declared.placed.LProc.{LProc}
 use Rattle.pl_place.specs.Behind.{Routed, flow_frame}
@@ -80,35 +79,35 @@ one_tidied program n codes code are is =
           (subst (λ d. IsTidied program n d) same is));
     }
 
-pub compiled_so : (program : Checked) (leaves : Leaving) (p : ℕ) (net : Net) (routes : Routes)
-    (prices : Prices) (compiled : CompiledProc) → compiled.out.routes ≡ routes →
-    compiled.out.prices ≡ prices → IsTidied program p compiled.out.code →
-    AreAdmittedIn compiled.out.code net routes → leaves p net routes prices compiled.out.lines →
-    IsMade (routed compiled.out.code net routes) compiled.placed →
+pub compiled_so : (program : Checked) (leaves : Leaving) (p : ℕ) (net : Net) (prices : Prices)
+    (compiled : CompiledProc) → compiled.out.prices ≡ prices →
+    IsTidied program p compiled.out.code →
+    AreAdmittedIn compiled.out.code net compiled.out.routes →
+    leaves p net compiled.out.routes prices compiled.out.lines →
+    IsMade (routed compiled.out.code net compiled.out.routes) compiled.placed →
     compiled.out.name ≡ name_of program p → compiled.out.frame ≡ frame_size compiled.placed →
-    frame_size compiled.placed ≡ flow_frame (routed compiled.out.code net routes) →
+    frame_size compiled.placed ≡ flow_frame (routed compiled.out.code net compiled.out.routes) →
     IsCompiledProc program leaves p compiled
-compiled_so program leaves p net routes prices compiled same_routes same_prices is admitted left
-    made name frame of_flow = record {
+compiled_so program leaves p net prices compiled same_prices is admitted left made name frame
+    of_flow = record {
       translation = record {
         made = is.is_selected.made;
         code = compiled.out.code;
         net = net;
-        routes = routes;
+        routes = compiled.out.routes;
         placed = compiled.placed;
       };
-      is = translated program p is.proc is.selected compiled.out.code net routes compiled.placed
-          is.there is.is_selected is.preserves is.kinds is.tidy admitted made;
+      is = translated program p is.proc is.selected compiled.out.code net compiled.out.routes
+          compiled.placed is.there is.is_selected is.preserves is.kinds is.tidy admitted made;
       placed = refl;
       kept = record {
         name = name;
         frame = frame;
         of_flow = frame ∙ of_flow;
         code = refl;
-        routes = same_routes;
-        left = subst (λ (r : Routes). leaves p net r compiled.out.prices compiled.out.lines)
-            (sym same_routes) (subst (λ (q : Prices). leaves p net routes q compiled.out.lines)
-            (sym same_prices) left);
+        routes = refl;
+        left = subst (λ (q : Prices). leaves p net compiled.out.routes q compiled.out.lines)
+            (sym same_prices) left;
       };
     }
 

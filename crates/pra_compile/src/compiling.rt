@@ -21,7 +21,7 @@ use al_round::{Verdict, Watch};
 use ia_asm::Assembly;
 use net_cost::{CostModel, Event};
 use net_form::Line;
-use net_kept::{KeptPrices, KeptRoutes};
+use net_kept::KeptPrices;
 use ob_syntax::Checked;
 use pl_build::place;
 use pl_place::{LProc, frame_bytes};
@@ -52,7 +52,7 @@ fn name_of(alloc: Global, checked: &Checked, number: u32) -> Result<Seq<u8>, Out
 }
 
 // A procedure, from its tidy code up to its placed code. Its network does not outlast it, and its
-// routes and prices are packed.
+// prices are packed.
 fn compile_procedure<A: Allocator>(
     alloc: Global,
     checked: &Checked,
@@ -75,7 +75,6 @@ fn compile_procedure<A: Allocator>(
     } = allocator.allocate(alloc, number, &code)?;
     let placed = place(alloc, &code, &net, &routes)?;
     let frame = frame_bytes(&placed);
-    let routes = KeptRoutes::of(alloc, &routes)?;
     let prices = KeptPrices::of(alloc, prices)?;
     let out = ProcOut {
         name,

@@ -28,11 +28,9 @@ pub struct Given<'a> {
 fn copied(alloc: Global, routes: &Routes) -> Result<Routes, OutOfMemory>
     ensures { IfOk result (λ copy. copy ≡ routes.now) }
 {
-    let mut places = Seq::from_vec(Vec::with_capacity(alloc, routes.places.len())?);
-    for path in routes.places.as_slice() {
-        places.push(Seq::from_slice(alloc, path.as_slice())?)?;
-    }
-    Ok(Routes { places })
+    Ok(Routes {
+        places: routes.places.copy(alloc)?,
+    })
 }
 
 // Whoever gave the routes has the prices too.

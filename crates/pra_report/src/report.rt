@@ -8,8 +8,8 @@ ghost use Rattle.pra_report.specs.Report.{report_text, generated_line, output_li
 ghost use Rattle.pra_report.specs.Report.{procedure_lines};
 
 use crate::text::procedure_line;
-use net_form::Line;
-use net_kept::{KeptPrices, KeptRoutes};
+use net_form::{Line, Routes};
+use net_kept::KeptPrices;
 use pra_base::{OutOfMemory, VProc};
 use pra_list::Seq;
 use std::alloc::Global;
@@ -25,7 +25,7 @@ pub struct ProcOut {
     /// Its selected code.
     pub code: VProc,
     /// The routes that the image carries.
-    pub routes: KeptRoutes,
+    pub routes: Routes,
     /// The prices that the last bound stands on.
     pub prices: KeptPrices,
     /// A line for round 0, and one for each round that ran.

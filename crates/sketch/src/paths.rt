@@ -1,11 +1,12 @@
 // Places from text, and routes of them.
 
-ghost use Rattle.std.specs.Prelude.{IsTrue};
+ghost use Rattle.std.specs.Prelude.{◌≤◌, drop, length, IsTrue};
 ghost use Rattle.net_form.specs.Flow.{HasPlaces};
 
 use net_form::Strand;
 use pra_base::{OutOfMemory, Place};
 use pra_list::Seq;
+use pra_packed::Packed;
 use std::alloc::Global;
 
 const PLACES: &[(&str, Place)] = &[
@@ -51,19 +52,27 @@ pub fn path(alloc: Global, line: &str) -> Result<Option<Seq<Place>>, OutOfMemory
     Ok(Some(path))
 }
 
-/// Whether each strand has a place for each of its layers.
-pub fn has_places(strands: &[Strand], places: &[Seq<Place>]) -> bool
-    ensures { IsTrue result → HasPlaces strands.now places.now }
+// Whether each strand has a place for each of its layers, the first of them in list `at`.
+fn has_places_from(strands: &[Strand], places: &Packed<Place>, at: usize) -> bool
+    requires { at ≤ length places.now }
+    ensures { IsTrue result → HasPlaces strands.now (drop at places.now) }
 {
     let Some((strand, strands)) = strands.split_first() else {
-        return places.is_empty();
+        return at == places.len();
     };
-    let Some((path, places)) = places.split_first() else {
+    if at == places.len() {
         return false;
-    };
-    let behind = u128::from(strand.first) + path.len() as u128;
+    }
+    let behind = u128::from(strand.first) + places.at(at).len() as u128;
     if behind == 0 || behind - 1 != u128::from(strand.last) {
         return false;
     }
-    has_places(strands, places)
+    has_places_from(strands, places, at + 1)
+}
+
+/// Whether each strand has a place for each of its layers.
+pub fn has_places(strands: &[Strand], places: &Packed<Place>) -> bool
+    ensures { IsTrue result → HasPlaces strands.now places.now }
+{
+    has_places_from(strands, places, 0)
 }

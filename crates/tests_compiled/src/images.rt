@@ -104,8 +104,7 @@ fn check_procedure(
     let net = build(alloc, code, &liveness)?;
     let routes = home_routes(alloc, code, &net)?;
     check_admitted(rt, alloc, code, &net, &routes)?;
-    let kept = out.routes.unpacked(alloc)?;
-    assert_eq!(rt; &routes, &kept);
+    assert_eq!(rt; &routes, &out.routes);
     assert_eq!(rt; code, &out.code);
     let made = placed_by(alloc, code, &net, &routes)?;
     check_next(rt, alloc, placed, code, routes, &made)

@@ -1,36 +1,11 @@
 // What is kept of a procedure comes back as it was.
 
-use net_form::{Prices, Routes, TieNumbers};
-use net_kept::{KeptPrices, KeptRoutes};
-use pra_base::Place::{self, Const, Eax, EdiM, Mem};
+use net_form::{Prices, TieNumbers};
+use net_kept::KeptPrices;
 use pra_list::Seq;
 use std::alloc::Global;
 use std::process::Abort;
 use std::test::Fail;
-
-// For each procedure its paths.
-const ROUTES: &[&[&[Place]]] = &[
-    &[],
-    &[&[]],
-    &[&[Eax, Mem, Mem], &[], &[Const], &[EdiM, Eax]],
-    &[&[], &[], &[Mem, Eax, Mem, EdiM], &[]],
-];
-
-#[test]
-fn routes(rt: HostRuntime) -> Result<(), Fail> {
-    for row in ROUTES {
-        let mut paths = Vec::new(rt.alloc());
-        for path in *row {
-            paths.push(Seq::from_slice(rt.alloc(), path)?)?;
-        }
-        let routes = Routes {
-            places: Seq::from_vec(paths),
-        };
-        let kept = KeptRoutes::of(rt.alloc(), &routes)?;
-        assert_eq!(rt; kept.unpacked(rt.alloc())?, routes);
-    }
-    Ok(())
-}
 
 // Keeps prices of so many ties, after numbers were put at indexes one by one.
 fn check_prices(

@@ -3,9 +3,10 @@
 ghost use Rattle.std.specs.Prelude.{◌≡◌, ◌≤◌, [], ◌∷◌, ◌++◌, length, IfOk};
 
 use net_form::{Line, Prices, Routes, TieNumbers};
-use net_kept::{KeptPrices, KeptRoutes};
+use net_kept::KeptPrices;
 use pra_base::{OutEvent, OutOfMemory, ProcId, VProc};
 use pra_list::Seq;
+use pra_packed::Packed;
 use pra_report::{
     InputFault, ProcOut, generated_line, input_words, output_line, output_text, procedure_lines,
     report_text,
@@ -67,9 +68,6 @@ fn proc(alloc: Global, name: u8, line: Line) -> Result<ProcOut, OutOfMemory>
     bytes.push(name)?;
     let mut lines = Vec::new(alloc);
     lines.push(line)?;
-    let routes = Routes {
-        places: Seq::new(alloc),
-    };
     let prices = Prices {
         caps: Seq::new(alloc),
         mems: Seq::new(alloc),
@@ -79,7 +77,9 @@ fn proc(alloc: Global, name: u8, line: Line) -> Result<ProcOut, OutOfMemory>
         name: Seq::from_vec(bytes),
         frame: 20,
         code: no_code(alloc),
-        routes: KeptRoutes::of(alloc, &routes)?,
+        routes: Routes {
+            places: Packed::new(alloc),
+        },
         prices: KeptPrices::of(alloc, prices)?,
         lines: Seq::from_vec(lines),
     })

@@ -19,6 +19,7 @@ use ia_step::{Ending, Machine, RunOut};
 use pl_run::run_placed;
 use pra_base::{OutEvent, OutOfMemory, Place, VModule, VProc};
 use pra_list::Seq;
+use pra_packed::Packed;
 use sketch::{Given, Sketch, path, print_outcome};
 use std::alloc::{AllocError, Global};
 use std::mem;
@@ -150,7 +151,7 @@ fn add_to(
     module: &mut PlacedModule,
     alloc: Global,
     code: &VProc,
-    paths: Seq<Seq<Place>>,
+    paths: Packed<Place>,
     at_home: bool,
 ) -> Result<(), Refusal> {
     if at_home {
@@ -166,6 +167,7 @@ impl Row {
         let mut paths = mem::replace(&mut self.paths, Vec::new(self.alloc)).into_iter();
         for (number, proc) in code.procs.as_slice().iter().enumerate() {
             let own = paths.next().unwrap_or(Seq::new(self.alloc));
+            let own = Packed::of(self.alloc, own.as_slice())?;
             let added = add_to(&mut module, self.alloc, proc, own, self.at_home);
             let name = self.name.as_str();
             assert_eq!(rt; added, Ok(()), "{name}: procedure {number}");

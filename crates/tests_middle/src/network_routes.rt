@@ -5,6 +5,7 @@ use crate::verdicts::{home_routes, verdict};
 use net_form::Routes;
 use pra_base::{OutOfMemory, Place, VModule, VProc};
 use pra_list::Seq;
+use pra_packed::Packed;
 use sketch::{Sketch, path, place};
 use std::alloc::{AllocError, Global};
 use std::mem;
@@ -304,13 +305,13 @@ fn routes(alloc: Global, paths: &[Seq<Place>], text: &str) -> Result<Routes, All
             changes.push(change)?;
         }
     }
-    let mut places = Seq::new(alloc);
+    let mut places = Packed::new(alloc);
     for (strand, path) in paths.iter().enumerate() {
-        let mut new = Seq::new(alloc);
+        let mut new = Vec::new(alloc);
         for (at, place) in path.as_slice().iter().enumerate() {
             new.push(changed(&changes, strand, at, *place))?;
         }
-        places.push(new)?;
+        places.push(&new)?;
     }
     Ok(Routes { places })
 }

@@ -12,6 +12,7 @@ use pl_place::{LProc, frame_bytes};
 use pl_run::run_placed;
 use pra_base::{OutOfMemory, Place, VModule, VProc};
 use pra_list::Seq;
+use pra_packed::Packed;
 use sketch::{Given, has_places, print_outcome};
 use std::alloc::{AllocError, Global};
 use vc_code::run_selected;
@@ -28,7 +29,7 @@ pub(crate) fn by_routes(
     requires sized { IsSized code.now }
     requires net { IsNet net.now code.now }
 {
-    if !has_places(net.strands.as_slice(), routes.places.as_slice()) {
+    if !has_places(net.strands.as_slice(), &routes.places) {
         return Ok(None);
     }
     let mut taken = Taken::empty(alloc, net)?;
@@ -36,15 +37,6 @@ pub(crate) fn by_routes(
         return Ok(None);
     }
     Ok(Some(place(alloc, code, net, routes)?))
-}
-
-// Routes of these paths.
-fn routes_of(alloc: Global, paths: &Seq<Seq<Place>>) -> Result<Routes, AllocError> {
-    let mut places = Seq::new(alloc);
-    for path in paths.as_slice() {
-        places.push(Seq::from_slice(alloc, path.as_slice())?)?;
-    }
-    Ok(Routes { places })
 }
 
 // What a code becomes by these paths, or by home routes where there are none; None where the code
@@ -65,7 +57,9 @@ fn placed(
     let routes = if paths.is_empty() {
         home(alloc, &net)?
     } else {
-        routes_of(alloc, paths)?
+        Routes {
+            places: Packed::of(alloc, paths.as_slice())?,
+        }
     };
     by_routes(alloc, code, &net, &routes)
 }

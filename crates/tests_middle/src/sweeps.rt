@@ -12,7 +12,7 @@ use net_form::{Net, Routes, Strand};
 use pl_place::LProc;
 use pra_base::places::{allows, meet};
 use pra_base::{Mask, Place, VProc};
-use pra_list::Seq;
+use pra_packed::Packed;
 use sketch::Given;
 use std::alloc::{AllocError, Global};
 use std::mem;
@@ -516,22 +516,15 @@ fn product(choices: &[Vec<Place>]) -> usize {
     product
 }
 
-// A path that has this place on both sides of the instruction.
-fn path_with(
-    alloc: Global,
-    strand: &Strand,
-    site: Site,
-    path: &[Place],
-    place: Place,
-) -> Result<Seq<Place>, AllocError> {
-    let mut new = Seq::new(alloc);
+// Changes a path so that it has this place on both sides of the instruction.
+fn put_beside(path: &mut [Place], strand: &Strand, site: Site, place: Place) {
     let mut layer = strand.first;
     for old in path {
-        let is_beside = layer == before(site) || layer == before(site).saturating_add(1);
-        new.push(if is_beside { place } else { *old })?;
+        if layer == before(site) || layer == before(site).saturating_add(1) {
+            *old = place;
+        }
         layer = layer.saturating_add(1);
     }
-    Ok(new)
 }
 
 // Choice n of all choices, as a number whose digits are the choices of the strands.
@@ -543,17 +536,20 @@ fn chosen(
     site: Site,
     n: usize,
 ) -> Result<Routes, AllocError> {
-    let mut paths = Seq::new(alloc);
+    let mut paths = Packed::new(alloc);
     let mut left = n;
     let strands = net.strands.as_slice().iter();
-    for ((strand, path), places) in strands.zip(home.places.as_slice()).zip(choices) {
+    for (strand, (at, places)) in strands.zip(choices.iter().enumerate()) {
+        if at >= home.places.len() {
+            break;
+        }
         let count = places.len().max(1);
-        let new = match places.get(left % count) {
-            Some(place) => path_with(alloc, strand, site, path.as_slice(), *place)?,
-            None => Seq::from_slice(alloc, path.as_slice())?,
-        };
+        let mut path = Vec::from_slice(alloc, home.places.at(at))?;
+        if let Some(place) = places.get(left % count) {
+            put_beside(&mut path, strand, site, *place);
+        }
         left /= count;
-        paths.push(new)?;
+        paths.push(&path)?;
     }
     Ok(Routes { places: paths })
 }

@@ -38,7 +38,7 @@ fn speed_cost(net: &Net, routes: &Routes) -> u128
 fn said(alloc: Global, net: &Net, routes: &Routes) -> Result<String, OutOfMemory>
     requires { IsFormed net.now }
 {
-    if !has_places(net.strands.as_slice(), routes.places.as_slice()) {
+    if !has_places(net.strands.as_slice(), &routes.places) {
         return Ok(String::from_str(alloc, "other places")?);
     }
     let mut taken = Taken::empty(alloc, net)?;

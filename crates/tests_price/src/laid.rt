@@ -95,10 +95,10 @@ fn verdict<F: Fn(Event, u32) -> u32>(
     let mut taken = Taken::empty(alloc, net)?;
     for strand in found.order.as_slice() {
         let strand = *strand;
-        let Some(path) = routes.places.get(strand as usize) else {
+        if strand as usize >= routes.places.len() {
             return Ok(String::from_str(alloc, "no path")?);
-        };
-        let path = path.as_slice();
+        }
+        let path = routes.places.at(strand as usize);
         if strand as usize >= net.strands.len() || !is_long(net, strand, path) {
             return Ok(String::from_str(alloc, "another strand")?);
         }

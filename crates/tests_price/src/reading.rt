@@ -4,7 +4,7 @@
 
 use net_form::{Ends, Routes};
 use pra_base::{OutOfMemory, Place};
-use pra_list::Seq;
+use pra_packed::Packed;
 use std::alloc::Global;
 
 /// What stands behind the word on the first line that begins with it; nothing where no line does.
@@ -49,7 +49,7 @@ fn place_of(digit: u8) -> Option<Place> {
 /// Paths, each a word with a digit for each of its places, as `0888 44`. What is no digit leaves a
 /// path too short.
 pub(crate) fn paths(alloc: Global, text: &str) -> Result<Routes, OutOfMemory> {
-    let mut paths = Vec::new(alloc);
+    let mut places = Packed::new(alloc);
     for word in text.split(' ') {
         if !word.is_empty() {
             let mut path = Vec::new(alloc);
@@ -58,12 +58,10 @@ pub(crate) fn paths(alloc: Global, text: &str) -> Result<Routes, OutOfMemory> {
                     path.push(place)?;
                 }
             }
-            paths.push(Seq::from_vec(path))?;
+            places.push(&path)?;
         }
     }
-    Ok(Routes {
-        places: Seq::from_vec(paths),
-    })
+    Ok(Routes { places })
 }
 
 // The place at a digit of a text; none where there is no digit.

@@ -120,8 +120,8 @@ fn told_outcome(alloc: Global, outcome: &Outcome) -> Result<String, OutOfMemory>
             text.push_str(format!(in alloc; " {strand} is blocked")?.as_str())?;
         }
         Outcome::Laid(routes) => {
-            for path in routes.places.as_slice() {
-                let numbers = numbers_of(alloc, path.as_slice())?;
+            for strand in 0..routes.places.len() {
+                let numbers = numbers_of(alloc, routes.places.at(strand))?;
                 text.push_str(format!(in alloc; " {:?}", numbers.as_slice())?.as_str())?;
             }
         }

@@ -31,7 +31,7 @@ fn settled<F: Fn(Event, u32) -> u32>(
     requires net { IsBuilt net.now }
 {
     let mut spare = Spare::empty(alloc, net)?;
-    if !has_places(net.strands.as_slice(), routes.places.as_slice())
+    if !has_places(net.strands.as_slice(), &routes.places)
         || admitted(&mut spare.taken, net, routes).is_err()
     {
         return Ok(None);

@@ -1,4 +1,5 @@
-use Rattle.std.proofs.Common.{List, ◌+◌, min, length, None, subst, sym, ap, ◌∙◌, arith}
+use Rattle.std.proofs.Common.{List, [], ◌∷◌, ◌++◌, ◌+◌, ◌∙◌, min, length, None, subst, sym, ap}
+use Rattle.std.proofs.Common.{arith}
 use Rattle.pra_base.specs.declared.ids.Place.{Place}
 use Rattle.net_form.specs.Admitted.{strand_at}
 use Rattle.net_form.specs.InUse.{mark}
@@ -24,7 +25,8 @@ returns-clause-paths c =
     let so = c.requires.paths in
     let path = c.in_ok-path.path in
     subst (λ (ps : List (List Place)). IsSoFar net c.take_path.new.self.regs ps (c.args.strand + 1))
-    (sym c.in_ok-push.ensures.ok)
+    (sym (c.in_ok-push.ensures.ok
+    ∙ ap (λ (ps : List Place). c.args.paths.now ++ ps ∷ []) c.as_slice-2.ensures))
     (so_far_more net c.requires.net c.requires.room c.args.paths.now c.args.taken.now.regs
     c.take_path.new.self.regs c.args.strand path c.requires.strand so c.in_ok-path.ensures
     (let old = c.requires.taken.regs in let new = c.take_path.ensures.room.regs in

@@ -1,4 +1,4 @@
-use Rattle.std.proofs.Common.{ap, ◌∙◌, arith}
+use Rattle.std.proofs.Common.{ap, arith}
 use Rattle.net_form.specs.declared.taken.Taken.{Taken}
 use Rattle.al_edge.proofs.Ends.{nobody_yet, whole_routes, whole_admitted, whole_home}
 use Rattle.al_edge.proofs.routing.home.Goals as goal
@@ -6,9 +6,9 @@ use Rattle.al_edge.proofs.routing.home.Goals as goal
 pub loop-strand-init : goal.loop-strand-init
 loop-strand-init c = record {
   taken = c.in_ok-taken.ensures.room;
-  paths = nobody_yet c.args.net.now c.in_ok-taken.taken.regs c.from_vec-paths.result
+  paths = nobody_yet c.args.net.now c.in_ok-taken.taken.regs c.in_ok-paths.paths
       (ap (λ (t : Taken). t.regs) c.in_ok-taken.ensures.value)
-      (c.from_vec-paths.ensures ∙ c.in_ok-with_capacity.ensures.items);
+      c.in_ok-paths.ensures;
 }
 
 pub returns-clause-routes : goal.returns-clause-routes

@@ -7,7 +7,7 @@ use Rattle.al_iter.proofs.laying.lay_in.Given as goal
 abbrev pub invariant-loop-at : goal.invariant-loop-at
 invariant-loop-at g l = record {
   laid : IsLaidSoFar l.net (weights_of l.model) l.prices l.plan l.order l.at
-      (routes_of l.paths.items) l.taken;
+      (routes_of l.paths) l.taken;
   family : l.work.family ≡ l.fn.work.family;
   reserved : IsReservedFor l.net l.work;
 }

@@ -1,6 +1,5 @@
-use Rattle.std.proofs.Common.{◌∙◌, ◌+◌, [], length, slice_index_or}
+use Rattle.std.proofs.Common.{◌∙◌, ◌+◌, length, slice_index_or}
 use Rattle.std.proofs.Common.{slice_set, Result, Ok, Err, OnErr, sym, ap, subst, arith}
-use Rattle.std.proofs.lemmas.List.{get_or_default}
 use Rattle.std.proofs.lemmas.Option.{slice_get-get_or}
 use Rattle.net_cost.specs.Models.{weights_of}
 use Rattle.net_form.specs.InUse.{Takes}
@@ -30,8 +29,8 @@ take_path-requires-clause-strand g c = below (length c.args.net.now.strands) c.a
     c.requires.order c.args.at (slice_index_or c.args.order.now c.args.at 0)
     (slice_get-get_or c.args.order.now c.args.at 0 c.requires.at)
 
-pub bounds-paths-strand : goal.bounds-paths-strand
-bounds-paths-strand g c =
+pub overwrite-requires-clause-at : goal.overwrite-requires-clause-at
+overwrite-requires-clause-at g c =
     let lt = below (length c.args.net.now.strands) c.args.order.now c.requires.order c.args.at
     (slice_index_or c.args.order.now c.args.at 0)
     (slice_get-get_or c.args.order.now c.args.at 0 c.requires.at) in
@@ -47,8 +46,8 @@ returns-in_err-least-clause-blocked g c =
     (routes_of c.args.paths.now) c.args.taken.now c.requires.laid
     (rw c.plan_ends-ends.ensures at c.in_err-least.ensures.none))
 
-pub overwrite-requires : goal.overwrite-requires
-overwrite-requires g c =
+pub overwrite-requires-clause-long : goal.overwrite-requires-clause-long
+overwrite-requires-clause-long g c =
     let net = c.args.net.now in
     let s = slice_index_or c.args.order.now c.args.at 0 in
     let is = slice_get-get_or c.args.order.now c.args.at 0 c.requires.at in
@@ -57,10 +56,7 @@ overwrite-requires g c =
     c.args.plan.now c.args.order.now c.requires.order c.args.at s is (routes_of c.args.paths.now)
     c.args.taken.now c.requires.laid (path_of c.least.new.work)
     (rw c.plan_ends-ends.ensures at c.in_ok-least.ensures.found) in
-    let many = c.requires.laid.sizes.many in
-    let long = ap length (get_or_default c.args.paths.now s [] c.index-paths-strand.result
-    (omega (arith, lt, many))) in
-    ap length c.path-path.ensures ∙ masks ∙ sym (c.requires.laid.sizes.each s lt) ∙ long
+    ap length c.path-path.ensures ∙ masks ∙ sym (c.requires.laid.sizes.each s lt)
 
 pub returns-clause-laid : goal.returns-clause-laid
 returns-clause-laid g c =
@@ -71,9 +67,9 @@ returns-clause-laid g c =
     let path = path_of c.least.new.work in
     let takes : Takes net (path_edges net s path) c.args.taken.now c.take_path.new.self =
     rw c.path-path.ensures at c.take_path.ensures.takes in
-    subst (λ ps. IsLaidSoFar net w c.args.prices.now c.args.plan.now c.args.order.now
-    (c.args.at + 1) (routes_of (slice_set c.args.paths.now s ps)) c.take_path.new.self)
-    (sym (c.overwrite.ensures ∙ c.path-path.ensures))
+    subst (λ rs. IsLaidSoFar net w c.args.prices.now c.args.plan.now c.args.order.now
+    (c.args.at + 1) (routes_of rs) c.take_path.new.self)
+    (sym (c.overwrite.ensures ∙ ap (slice_set c.args.paths.now s) c.path-path.ensures))
     (so_far_next net c.requires.net w c.args.prices.now c.args.plan.now c.args.order.now
     c.requires.order c.args.at s is (routes_of c.args.paths.now) c.args.taken.now c.requires.laid
     path (rw c.plan_ends-ends.ensures at c.in_ok-least.ensures.found) c.take_path.new.self

@@ -5,5 +5,5 @@ use Rattle.al_iter.proofs.laying.some_paths.Given as goal
 
 abbrev pub invariant-loop-strand : goal.invariant-loop-strand
 invariant-loop-strand l =
-    l.paths.items ≡ map (λ (t : Strand). replicate (length t.masks) Eax)
+    l.paths ≡ map (λ (t : Strand). replicate (length t.masks) Eax)
     (take l.strand-index l.strand-items)

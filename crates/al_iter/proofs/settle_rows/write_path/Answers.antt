@@ -22,12 +22,12 @@ returns-then-is_same_path-clause-path c =
     ∙ ap (λ (rs : List (List Place)). record { places = rs })
     (set-get_or routes.places s []))
 
-pub overwrite-requires-clause-strand : goal.overwrite-requires-clause-strand
-overwrite-requires-clause-strand c = in_places c.args._net.now c.args.routes.now c.requires.routes
+pub overwrite-requires-clause-at : goal.overwrite-requires-clause-at
+overwrite-requires-clause-at c = in_places c.args._net.now c.args.routes.now c.requires.routes
     c.args.strand c.requires.strand
 
-pub overwrite-requires-clause-path : goal.overwrite-requires-clause-path
-overwrite-requires-clause-path c =
+pub overwrite-requires-clause-long : goal.overwrite-requires-clause-long
+overwrite-requires-clause-long c =
     let long = each_long c.args._net.now c.args.routes.now c.requires.routes c.args.strand
     c.requires.strand in
     omega (arith, long, c.requires.path)
@@ -39,7 +39,7 @@ returns-clause-path c =
 pub returns-clause-routes : goal.returns-clause-routes
 returns-clause-routes c =
     let routes : Routes = c.args.routes.now in
-    let is : ◌≡◌ {A = Routes} (record { places = c.overwrite.new.routes.places })
+    let is : ◌≡◌ {A = Routes} (record { places = c.overwrite.new.self })
     (with_path routes c.args.strand c.args.path.now) =
     ap (λ (rs : List (List Place)). record { places = rs }) c.overwrite.ensures in
     subst (AreRoutes c.args._net.now) (sym is)

@@ -1,8 +1,6 @@
-use Rattle.std.proofs.Common.{◌∙◌, ap, List, length, map, subst, sym, arith}
+use Rattle.std.proofs.Common.{◌∙◌, ap, List, length, map, arith}
 use Rattle.std.proofs.lemmas.List.{take_all}
-use Rattle.pra_base.specs.declared.ids.Place.{Place}
 use Rattle.net_form.specs.declared.net.Strand.{Strand}
-use Rattle.net_form.specs.Flow.{AreRoutes}
 use Rattle.al_simul.proofs.Sized.{sized_routes}
 use Rattle.al_simul.proofs.sweeping.routes_of.Goals as goal
 
@@ -13,6 +11,4 @@ returns c =
     let all = take_all c.loop-strand.strand-index items (omega (arith, c.loop-strand-test.false)) in
     let here = ap (λ (ts : List Strand). map (λ (t : Strand). length t.masks) ts)
     (all ∙ c.as_slice-strand-items.ensures) in
-    subst (λ (ps : List (List Place)). AreRoutes net (record { places = ps }))
-    (sym c.from_vec.ensures)
-    (sized_routes net c.loop-strand.paths.items c.requires.net (c.loop-strand.invariant ∙ here))
+    sized_routes net c.loop-strand.paths c.requires.net (c.loop-strand.invariant ∙ here)

@@ -19,9 +19,7 @@ returns-then-not-has_places c =
         calls = c.is_counted.ensures.0 c.if-not-is_counted.false;
       },
       no_routes code (live_at live) c.args.cert.now.routes (is_live code live c.in_ok-live.ensures)
-          (λ has. not_both c.if-not-has_places.true (c.has_places.ensures.1
-          (subst (HasPlaces (strands all_tables code (live_at live))) (sym c.as_slice.ensures)
-          has))),
+          (λ has. not_both c.if-not-has_places.true (c.has_places.ensures.1 has)),
     )
   where
     false_true : false ≡ true → ⊥

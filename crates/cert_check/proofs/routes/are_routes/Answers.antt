@@ -12,24 +12,21 @@ returns-then-len c = refused (λ has.
     c.if-len.true (c.len.ensures ∙ as_many c.args.net.now.strands c.args.routes.now.places has
     ∙ sym c.len-2.ensures))
 
-pub returns-then-len-2 : goal.returns-then-len-2
-returns-then-len-2 c = refused (λ has.
+pub returns-then-at-len : goal.returns-then-at-len
+returns-then-at-len c = refused (λ has.
     let net = c.args.net.now in
     let places = c.args.routes.now.places in
     let s = c.loop-strand.strand in
     let end = c.len-strand-end.ensures in
     let lt : s < length net.strands = omega (arith, end, c.loop-strand-test.true) in
-    let many = as_many net.strands places has in
-    let path = ap length (get_or_read places s c.index.result.now (omega (arith, lt, many))
-    c.index.ensures []) in
-    let strand = get_or_read net.strands s c.index-in-loop-strand.result.now lt
-    c.index-in-loop-strand.ensures no_strand in
+    let path = ap length c.at.ensures in
+    let strand = get_or_read net.strands s c.index.result.now lt
+    c.index.ensures no_strand in
     let masks = ap (λ (t : Strand). length t.masks) strand in
     let long = each_long net c.args.routes.now has s lt in
     let formed = (c.requires.strands s no_strand lt).masks in
     let one = c.len-in-loop-strand.ensures in
-    let two = c.len-in-loop-strand-2.ensures in
-    c.if-len-2.true (omega (arith, path, masks, long, formed, one, two)))
+    c.if-at-len.true (omega (arith, path, masks, long, formed, one)))
 
 pub returns : goal.returns
 returns c =

@@ -17,11 +17,12 @@ returns-in-Some c =
     let lists = c.args.lists.now in
     let ss = strands all_tables c.args.code.now (live_at c.args.live.now) in
     let number = c.in-Some.number in
+    let many = c.len.ensures in
     let went = sym c.in-Some.is ∙ c.pass_all.ensures in (
       λ yes. fits lists ss lists 0 refl
-          (ap Some (sym (eqb-true number (length lists) yes)) ∙ went),
-      λ has. eq-eqb number (length lists) (some_same number (length lists)
-          (went ∙ sym (fits_back lists ss lists 0 refl (omega arith) has))),
+          (ap Some (sym (eqb-true number c.len.result yes ∙ many)) ∙ went),
+      λ has. eq-eqb number c.len.result (some_same number (length lists)
+          (went ∙ sym (fits_back lists ss lists 0 refl (omega arith) has)) ∙ sym many),
     )
 
 pub returns-in-None : goal.returns-in-None

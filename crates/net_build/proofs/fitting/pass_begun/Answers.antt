@@ -1,9 +1,10 @@
 use Rattle.std.proofs.Common.{ℕ, ◌≡◌, ◌<◌, ◌∙◌, true, false}
 use Rattle.std.proofs.Common.{Some, None}
 use Rattle.std.proofs.Common.{length, option_to_list, ap, sym}
-use Rattle.std.proofs.Common.{arith}
+use Rattle.std.proofs.Common.{arith, []}
 use Rattle.std.proofs.Common.{if◌then◌else◌}
 use Rattle.std.proofs.lemmas.Bool.{and_parts}
+use Rattle.std.proofs.lemmas.List.{get_or_default}
 use Rattle.pra_base.specs.declared.code.VProc.{VProc}
 use Rattle.net_form.specs.Strands.{Lives, layer_count, is_present, begins, begun_strand, run_from}
 use Rattle.net_form.specs.Strands.{strand, mask_at}
@@ -34,23 +35,28 @@ returns-then-not-begins c = none_behind c.args.lists.now c.args.number
     (sym (none c.args.code.now (live_at c.args.live.now) c.args.var c.args.block c.args.layer
     (sym c.begins.ensures ∙ c.if-not-begins.true)))
 
-pub returns-then-number-lists : goal.returns-then-number-lists
-returns-then-number-lists c = past_behind
+pub returns-then-number-len : goal.returns-then-number-len
+returns-then-number-len c = past_behind
     (strand all_tables c.args.code.now (live_at c.args.live.now) c.args.var c.args.block
-    c.args.layer) c.args.lists.now c.args.number c.if-number-lists.true
+    c.args.layer) c.args.lists.now c.args.number
+    (omega (arith, c.if-number-len.true, c.len.ensures))
     ∙ ap (λ o. behind (option_to_list o) c.args.lists.now c.args.number)
     (sym (begun c.args.code.now (live_at c.args.live.now) c.args.var c.args.block c.args.layer
     (sym c.begins.ensures ∙ c.if-not-begins.false)))
 
-pub returns-then-len-run_from : goal.returns-then-len-run_from
-returns-then-len-run_from c =
+pub returns-then-at-run_from : goal.returns-then-at-run_from
+returns-then-at-run_from c =
     let code = c.args.code.now in
     let live = live_at c.args.live.now in
+    let list = c.at.result.now in
+    let within : c.args.number < length c.args.lists.now =
+    omega (arith, c.if-number-len.false, c.len.ensures) in
     let is = sym c.begins.ensures ∙ c.if-not-begins.false in
     let more = some code live c.args.var c.args.block c.args.layer c.requires.layer is in
     short_behind (strand all_tables code live c.args.var c.args.block c.args.layer)
-    c.args.lists.now c.args.number c.index-lists-number.result (omega arith) c.index-lists-number.is
-    (λ same. c.if-len-run_from.true (c.len.ensures ∙ (let e : length c.index-lists-number.result ≡
+    c.args.lists.now c.args.number list within
+    (c.at.ensures ∙ get_or_default c.args.lists.now c.args.number [] list within)
+    (λ same. c.if-at-run_from.true ((let e : length list ≡
     run_from all_tables code live c.args.var c.args.block c.args.layer = omega (arith, same, more)
     in e) ∙ sym c.run_from.ensures))
     ∙ ap (λ o. behind (option_to_list o) c.args.lists.now c.args.number)
@@ -60,13 +66,16 @@ pub returns : goal.returns
 returns c =
     let code = c.args.code.now in
     let live = live_at c.args.live.now in
+    let list = c.at.result.now in
+    let within : c.args.number < length c.args.lists.now =
+    omega (arith, c.if-number-len.false, c.len.ensures) in
     let is = sym c.begins.ensures ∙ c.if-not-begins.false in
     let more = some code live c.args.var c.args.block c.args.layer c.requires.layer is in
-    let same : length c.index-lists-number.result ≡
-    run_from all_tables code live c.args.var c.args.block c.args.layer =
-    sym c.len.ensures ∙ c.if-len-run_from.false ∙ c.run_from.ensures in
+    let same : length list ≡ run_from all_tables code live c.args.var c.args.block c.args.layer =
+    c.if-at-run_from.false ∙ c.run_from.ensures in
     long_behind (strand all_tables code live c.args.var c.args.block c.args.layer)
-    c.args.lists.now c.args.number c.index-lists-number.result (omega arith) c.index-lists-number.is
+    c.args.lists.now c.args.number list within
+    (c.at.ensures ∙ get_or_default c.args.lists.now c.args.number [] list within)
     (omega (arith, same, more))
     ∙ ap (λ o. behind (option_to_list o) c.args.lists.now c.args.number)
     (sym (begun code live c.args.var c.args.block c.args.layer is))

@@ -5,5 +5,5 @@ use Rattle.net_form.proofs.taken.some_routes.Given as goal
 
 abbrev pub invariant-loop-strand : goal.invariant-loop-strand
 invariant-loop-strand l =
-    l.places.items ≡ map (λ (t : Strand). replicate (length t.masks) Eax)
+    l.places ≡ map (λ (t : Strand). replicate (length t.masks) Eax)
     (take l.strand-index l.strand-items)

@@ -1,6 +1,6 @@
 use Rattle.std.proofs.Common.{ℕ, ◌≡◌, ◌+◌, ◌-◌, ◌∙◌, List, [], length, drop, count_by, cond, None}
 use Rattle.std.proofs.Common.{refl, sym, ap, arith}
-use Rattle.std.proofs.lemmas.List.{get_or_read, drop_all}
+use Rattle.std.proofs.lemmas.List.{drop_all}
 use Rattle.pra_base.specs.declared.ids.Place.{Place}
 use Rattle.net_form.specs.declared.net.Strand.{Strand}
 use Rattle.net_form.specs.Admitted.{no_strand, strand_at, uses_bundle}
@@ -10,16 +10,16 @@ use Rattle.net_gate.proofs.Paths.{places_at, sum_drop}
 use Rattle.net_gate.proofs.Occupied.{stands_same}
 use Rattle.net_gate.proofs.bundles.first_bundle.Goals as goal
 
-pub index-requires : goal.index-requires
-index-requires c =
+pub at-requires : goal.at-requires
+at-requires c =
     let n = as_many c.args.net.now.strands c.args.routes.now.places c.requires.routes in
     omega (arith, n)
 
 pub go_along-clash-requires-clause-path : goal.go_along-clash-requires-clause-path
 go_along-clash-requires-clause-path c =
     let long = places_at c.args.net.now.strands c.args.routes.now.places c.loop-at.at no_strand
-    c.index.result.now c.requires.routes (omega arith) in
-    let row = ap length (c.as_slice.ensures ∙ c.index.ensures) in
+    [] c.requires.routes (omega arith) in
+    let row = ap length c.at.ensures in
     omega (arith, long, row)
 
 pub loop-at-init : goal.loop-at-init
@@ -40,13 +40,12 @@ loop-at-preserved c =
     let rs = c.args.routes.now.places in
     let i = c.loop-at.at in
     let n = as_many net.strands rs c.requires.routes in
-    let row = c.as_slice.ensures ∙ get_or_read rs i c.index.result.now (omega (arith, n))
-    c.index.ensures [] in
+    let row = c.at.ensures in
     let all : ℕ → ℕ → ℕ = λ n r. count_by (uses_bundle net n r) (flow net c.args.routes.now) in
     let left : ℕ → ℕ → ℕ → ℕ = λ i n r. count_by (uses_bundle net n r)
     (flow_from i (drop i net.strands) (drop i rs)) in
     let path : ℕ → ℕ → ℕ = λ n r. count_by (uses_bundle net n r)
-    (edges i (strand_at net i).first None c.as_slice.result.now) in
+    (edges i (strand_at net i).first None c.at.result.now) in
     let step : (n r : ℕ) → left i n r ≡ path n r + left (i + 1) n r =
     λ n r. sum_drop (λ (e : Edge). cond (uses_bundle net n r e) 1 0) net.strands rs i no_strand []
     (omega arith) (omega (arith, as_many net.strands rs c.requires.routes))

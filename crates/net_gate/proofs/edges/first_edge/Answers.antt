@@ -1,5 +1,4 @@
-use Rattle.std.proofs.Common.{◌∙◌, List, [], length, subst, ap, arith, count_by, None, Some}
-use Rattle.std.proofs.lemmas.List.{get_or_read}
+use Rattle.std.proofs.Common.{List, [], length, subst, ap, arith, count_by, None, Some}
 use Rattle.pra_base.specs.declared.ids.Place.{Place}
 use Rattle.net_form.specs.Admitted.{strand_at, no_strand}
 use Rattle.net_form.specs.Flow.{edges}
@@ -9,16 +8,16 @@ use Rattle.net_gate.proofs.Paths.{places_at}
 use Rattle.net_gate.proofs.EdgeRules.{first_here, none_here, none_anywhere}
 use Rattle.net_gate.proofs.edges.first_edge.Goals as goal
 
-pub index-requires : goal.index-requires
-index-requires c =
+pub at-path-requires : goal.at-path-requires
+at-path-requires c =
     let n = as_many c.args.net.now.strands c.args.routes.now.places c.requires.routes in
     omega (arith, n)
 
 pub first_layer-requires-clause-path : goal.first_layer-requires-clause-path
 first_layer-requires-clause-path c =
     let long = places_at c.args.net.now.strands c.args.routes.now.places c.loop-at.at no_strand
-    c.index.result.now c.requires.routes (omega arith) in
-    let row = ap length (c.as_slice-path.ensures ∙ c.index.ensures) in
+    [] c.requires.routes (omega arith) in
+    let row = ap length c.at-path.ensures in
     omega (arith, long, row)
 
 pub returns-in-Some : goal.returns-in-Some
@@ -26,9 +25,7 @@ returns-in-Some c =
     let net = c.args.net.now in
     let rs = c.args.routes.now.places in
     let i = c.loop-at.at in
-    let n = as_many net.strands rs c.requires.routes in
-    let row = c.as_slice-path.ensures ∙ get_or_read rs i c.index.result.now (omega (arith, n))
-    c.index.ensures [] in
+    let row = c.at-path.ensures in
     first_here net c.args.rule c.args.routes.now c.requires.routes i c.in-Some.layer (omega arith)
     (subst (λ (r : List Place). IsFirstLayer
     (λ l. count_by (breaks net c.args.rule i l) (edges i (strand_at net i).first None r))
@@ -40,9 +37,7 @@ loop-at-preserved c =
     let net = c.args.net.now in
     let rs = c.args.routes.now.places in
     let i = c.loop-at.at in
-    let n = as_many net.strands rs c.requires.routes in
-    let row = c.as_slice-path.ensures ∙ get_or_read rs i c.index.result.now (omega (arith, n))
-    c.index.ensures [] in
+    let row = c.at-path.ensures in
     none_here net c.args.rule c.args.routes.now c.requires.routes i (omega arith)
     (subst (λ (r : List Place). IsFirstLayer
     (λ l. count_by (breaks net c.args.rule i l) (edges i (strand_at net i).first None r)) None)

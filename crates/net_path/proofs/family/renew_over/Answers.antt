@@ -21,9 +21,9 @@ returns-in-Ok-clause-least g c =
     let price = edge_price net (weights_of c.args.model.now) c.args.prices.now in
     let found = least_anywhere net c.args.free.now c.requires.free price c.args.strand _
     c.in-Ok.ensures.found in
-    let at : path_in c.keep_path.new.family c.args.strand
+    let at : path_in (record { places = c.overwrite.new.self }) c.args.strand
     ≡ c.search_spread.new.path =
-    ap (λ (rs : List (List Place)). get_or rs c.args.strand []) c.keep_path.ensures
+    ap (λ (rs : List (List Place)). get_or rs c.args.strand []) c.overwrite.ensures
     ∙ get_or-set_same c.args.family.now.places c.args.strand c.search_spread.new.path []
     (omega (arith, c.requires.family.many, c.requires.strand)) in
     subst (λ (ps : List Place). IsLeast net price any_ends Anywhere c.args.strand ps) (sym at) found

@@ -1,19 +1,18 @@
-use Rattle.std.proofs.Common.{ℕ, ◌≡◌, ◌+◌, ◌<◌, ◌∙◌, List, [], length, get_or, count_by, sym}
+use Rattle.std.proofs.Common.{ℕ, ◌+◌, ◌<◌, ◌∙◌, List, length, get_or, count_by, sym}
 use Rattle.std.proofs.Common.{arith, ap}
-use Rattle.std.proofs.lemmas.List.{get_or_read}
 use Rattle.pra_base.specs.declared.ids.Place.{Place}
 use Rattle.net_form.specs.Admitted.{strand_at, uses_memory}
 use Rattle.net_form.proofs.RoutesConserve.{as_many}
 use Rattle.net_form.specs.InUse.{pair_at}
-use Rattle.net_dual.specs.Paths.{path_edges, path_in}
+use Rattle.net_dual.specs.Paths.{path_edges}
 use Rattle.net_dual.proofs.Strands.{each_long}
 use Rattle.net_price.specs.Raised.{raised}
 use Rattle.net_price.proofs.Raised.{raised-twice, raised-none, words_raised}
 use Rattle.net_price.proofs.Raised.{left, left_next, left_none}
 use Rattle.net_price.proofs.mems.raise_mems.Goals as goal
 
-pub index-requires : goal.index-requires
-index-requires c =
+pub at-requires : goal.at-requires
+at-requires c =
     let many = as_many c.args.net.now.strands c.args.family.now.places c.requires.family in
     let test = c.loop-strand-test.true in
     let end = c.len-strand-end.ensures in
@@ -28,16 +27,12 @@ raise_ends-requires c =
     let test = c.loop-strand-test.true in
     let end = c.len-strand-end.ensures in
     let lt : s < length net.strands = omega (arith, test, end) in
-    let many = as_many net.strands family.places c.requires.family in
-    let path : c.as_slice.result.now ≡ path_in family s = c.as_slice.ensures
-    ∙ get_or_read family.places s c.index.result.now (omega (arith, many, lt))
-    c.index.ensures [] in
     record {
       mems = inv.long ∙ c.requires.mems;
       words = inv.words;
       net = c.requires.net;
       strand = lt;
-      path = ap (λ (ps : List Place). (strand_at net s).first + length ps) path
+      path = ap (λ (ps : List Place). (strand_at net s).first + length ps) c.at.ensures
           ∙ each_long net family c.requires.family s lt;
     }
 
@@ -50,12 +45,8 @@ loop-strand-preserved c =
     let test = c.loop-strand-test.true in
     let end = c.len-strand-end.ensures in
     let lt : s < length net.strands = omega (arith, test, end) in
-    let many = as_many net.strands family.places c.requires.family in
-    let path : c.as_slice.result.now ≡ path_in family s = c.as_slice.ensures
-    ∙ get_or_read family.places s c.index.result.now (omega (arith, many, lt))
-    c.index.ensures [] in
     let uses = λ (k : ℕ). count_by (uses_memory (pair_at net k))
-    (path_edges net s c.as_slice.result.now) in
+    (path_edges net s c.at.result.now) in
     record {
       long = c.raise_ends.ensures.long ∙ inv.long;
       words = words_raised c.args.s uses c.loop-strand.mems c.raise_ends.new.mems
@@ -69,7 +60,7 @@ loop-strand-preserved c =
           (c.raise_ends.ensures.raised k (omega (arith, in_, long)))
           ∙ raised-twice c.args.s old (uses k) more
           ∙ ap (λ (ps : List Place). raised c.args.s old
-          (count_by p (path_edges net s ps) + more)) path
+          (count_by p (path_edges net s ps) + more)) c.at.ensures
           ∙ ap (raised c.args.s old) (sym (left_next p net family s c.requires.family lt))
           ∙ inv.raised k in_;
     }

@@ -1,6 +1,7 @@
-use Rattle.std.proofs.Common.{ℕ, ◌≡◌, ◌-◌, ◌∙◌, List, [], length, get_or, ap, arith}
-use Rattle.std.proofs.lemmas.List.{get_or_read}
+use Rattle.std.proofs.Common.{ℕ, ◌≡◌, ◌-◌, ◌∙◌, List, length, get_or, ap, arith}
+use Rattle.std.proofs.lemmas.List.{get_or_read, get_or_default}
 use Rattle.pra_base.specs.declared.ids.Place.{Place}
+use Rattle.pra_base.specs.declared.ids.Place.TheVariants.{Eax}
 use Rattle.net_form.specs.declared.net.Strand.{Strand}
 use Rattle.net_form.specs.Admitted.{strand_at, no_strand}
 use Rattle.net_form.proofs.RoutesConserve.{as_many}
@@ -9,21 +10,19 @@ use Rattle.net_dual.proofs.Strands.{each_long}
 use Rattle.net_price.proofs.Tied.{count_there}
 use Rattle.net_price.proofs.ties.place_at.Goals as goal
 
-pub index-requires-2 : goal.index-requires-2
-index-requires-2 c =
+pub at-requires : goal.at-requires
+at-requires c =
     let many = as_many c.args.net.now.strands c.args.family.now.places c.requires.family in
     omega (arith, many, c.requires.strand)
 
-pub index-requires-3 : goal.index-requires-3
-index-requires-3 c =
+pub bounds-at-at : goal.bounds-at-at
+bounds-at-at c =
     let net = c.args.net.now in
     let family = c.args.family.now in
     let s = c.args.strand in
-    let many = as_many net.strands family.places c.requires.family in
     let first = ap (λ (u : Strand). u.first) (get_or_read net.strands s c.index.result.now
     c.requires.strand c.index.ensures no_strand) in
-    let size = ap (λ (ps : List Place). length ps) (get_or_read family.places s
-    c.index-2.result.now (omega (arith, many, c.requires.strand)) c.index-2.ensures []) in
+    let size = ap (λ (ps : List Place). length ps) c.at.ensures in
     let long = each_long net family c.requires.family s c.requires.strand in
     omega (arith, first, size, long, c.requires.first, c.requires.last)
 
@@ -33,16 +32,15 @@ returns c q =
     let family = c.args.family.now in
     let s = c.args.strand in
     let l = c.args.layer in
-    let p = c.index-3.result.now in
-    let many = as_many net.strands family.places c.requires.family in
     let first = ap (λ (u : Strand). u.first) (get_or_read net.strands s c.index.result.now
     c.requires.strand c.index.ensures no_strand) in
-    let path : c.index-2.result.now ≡ path_in family s = get_or_read family.places s
-    c.index-2.result.now (omega (arith, many, c.requires.strand)) c.index-2.ensures [] in
+    let long = each_long net family c.requires.family s c.requires.strand in
     let at : l - c.index.result.now.first ≡ l - (strand_at net s).first = omega (arith, first) in
+    let p = get_or c.at.result.now (l - c.index.result.now.first) Eax in
     let is : p ≡ get_or (path_in family s) (l - (strand_at net s).first) p
-    = c.index-3.ensures
-    ∙ ap (λ (n : ℕ). get_or c.index-2.result.now n p) at
-    ∙ ap (λ (ps : List Place). get_or ps (l - (strand_at net s).first) p) path in
+    = ap (λ (n : ℕ). get_or c.at.result.now n Eax) at
+    ∙ ap (λ (ps : List Place). get_or ps (l - (strand_at net s).first) Eax) c.at.ensures
+    ∙ get_or_default (path_in family s) (l - (strand_at net s).first) Eax p
+    (omega (arith, long, c.requires.first, c.requires.last)) in
     count_there net family c.requires.family s l p q c.requires.strand c.requires.first
     c.requires.last is

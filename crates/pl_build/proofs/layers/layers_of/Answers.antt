@@ -1,5 +1,4 @@
 use Rattle.std.proofs.Common.{◌≡◌, ◌++◌, List, [], length, get_or, None, ap, ◌∙◌, arith}
-use Rattle.std.proofs.lemmas.List.{get_or_read}
 use Rattle.pra_base.specs.declared.ids.Place.{Place}
 use Rattle.net_form.specs.Admitted.{strand_at, no_strand}
 use Rattle.net_form.specs.Flow.{edges}
@@ -9,8 +8,8 @@ use Rattle.pl_build.specs.Layers.{layer, pairs_into}
 use Rattle.pl_build.proofs.Gathered.{strand_step}
 use Rattle.pl_build.proofs.layers.layers_of.Goals as goal
 
-pub index-requires : goal.index-requires
-index-requires c =
+pub at-path-requires : goal.at-path-requires
+at-path-requires c =
     let many = as_many c.args.net.now.strands c.args.routes.now.places c.requires.routes in
     let lt = c.loop-strand-test.true in
     let all = c.len-strand-end.ensures in
@@ -24,8 +23,7 @@ add_path-requires-clause-path c =
     let lt = c.loop-strand-test.true in
     let all = c.len-strand-end.ensures in
     let many = as_many ts rs c.requires.routes in
-    let path : c.as_slice-path.result.now ≡ get_or rs s [] = c.as_slice-path.ensures
-    ∙ get_or_read rs s c.index.result.now (omega (arith, many, lt, all)) c.index.ensures [] in
+    let path : c.at-path.result.now ≡ get_or rs s [] = c.at-path.ensures in
     let long = ap length path in
     let places = places_at ts rs s no_strand [] c.requires.routes (omega (arith, lt, all)) in
     omega (arith, long, places)
@@ -39,8 +37,7 @@ loop-strand-preserved c =
     let lt = c.loop-strand-test.true in
     let all = c.len-strand-end.ensures in
     let many = as_many ts rs c.requires.routes in
-    let path : c.as_slice-path.result.now ≡ get_or rs s [] = c.as_slice-path.ensures
-    ∙ get_or_read rs s c.index.result.now (omega (arith, many, lt, all)) c.index.ensures [] in
+    let path : c.at-path.result.now ≡ get_or rs s [] = c.at-path.ensures in
     record {
       long = c.in_ok-add_path.ensures.long ∙ c.loop-strand.invariant.long;
       pairs = λ n.

@@ -7,8 +7,8 @@ use Rattle.pl_build.specs.Slots.{marked, comes_to_memory}
 use Rattle.pl_build.proofs.Marked.{strand_comes}
 use Rattle.pl_build.proofs.slots.marks_of.Goals as goal
 
-pub index-requires : goal.index-requires
-index-requires c =
+pub at-requires : goal.at-requires
+at-requires c =
     let many = as_many c.args.net.now.strands c.args.routes.now.places c.requires.routes in
     let lt = c.loop-strand-test.true in
     let all = c.len-strand-end.ensures in
@@ -22,10 +22,9 @@ loop-strand-preserved c =
     let lt = c.loop-strand-test.true in
     let all = c.len-strand-end.ensures in
     let many = as_many net.strands rs c.requires.routes in
-    let path : c.as_slice.result.now ≡ get_or rs s [] = c.as_slice.ensures
-    ∙ get_or_read rs s c.index.result.now (omega (arith, many, lt, all)) c.index.ensures [] in
-    let strand = get_or_read net.strands s c.index-in-loop-strand.result.now
-    (omega (arith, lt, all)) c.index-in-loop-strand.ensures no_strand in
+    let path : c.at.result.now ≡ get_or rs s [] = c.at.ensures in
+    let strand = get_or_read net.strands s c.index.result.now
+    (omega (arith, lt, all)) c.index.ensures no_strand in
     let comes : c.comes_to_memory-comes.result ≡ comes_to_memory (get_or rs s []) =
     c.comes_to_memory-comes.ensures ∙ ap comes_to_memory path in
     record {

@@ -13,7 +13,7 @@ frame_bytes-frame-requires-clause-slots g c =
 pub returns-clause-compiled : goal.returns-clause-compiled
 returns-clause-compiled g c =
     compiled_so c.args.checked.now (g.A.Allocator.leaves c.args.allocator.now)
-    c.args.number c.in_ok-net.field-0.net c.in_ok-net.field-0.routes c.in_ok-net.field-0.prices _
-    c.in_ok-routes.ensures c.in_ok-prices.ensures c.requires.tidied c.in_ok-net.ensures.routes
+    c.args.number c.in_ok-net.field-0.net c.in_ok-net.field-0.prices _
+    c.in_ok-prices.ensures c.requires.tidied c.in_ok-net.ensures.routes
     c.in_ok-net.ensures.left c.in_ok-placed.ensures.made c.in_ok-name.ensures
     c.frame_bytes-frame.ensures c.in_ok-placed.ensures.frame

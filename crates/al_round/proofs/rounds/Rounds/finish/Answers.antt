@@ -8,6 +8,7 @@ use Rattle.net_form.specs.declared.prices.Prices.{Prices}
 use Rattle.net_dual.specs.Priced.{AreInRange}
 use Rattle.al_round.specs.Allocations.{IsAllocated, IsLatest}
 use Rattle.net_form.specs.Cost.{cost_in}
+use Rattle.al_round.specs.Rounds.{AreRounds}
 use Rattle.al_round.specs.Stages.{Stage, IsGreatest, IsRoundedUp}
 use Rattle.al_round.proofs.Bounds.{not_negative}
 use Rattle.al_round.proofs.LinesGrown.{one_less}
@@ -33,6 +34,25 @@ raise-requires-clause-room g c =
       work = c.requires.room.work;
       spare = c.requires.room.spare;
     }
+
+-- there is no memory for a line more: nothing has changed
+pub returns-in_err-push-clause-rounds : goal.returns-in_err-push-clause-rounds
+returns-in_err-push-clause-rounds g c =
+    let net = c.args.net.now in
+    let w = weights_of c.args.model.now in
+    let r = c.args.self.now in
+    subst (λ (ls : List Line). AreRounds net w (record {
+      best = r.best;
+      prices = r.prices;
+      best_prices = r.best_prices;
+      lines = ls;
+      tried = r.tried;
+      best_value = r.best_value;
+      raised = r.raised;
+      work = r.work;
+      most_visits = r.most_visits;
+      room = r.room;
+    })) (sym c.in_err-push.ensures.err) c.requires.rounds
 
 pub keep_greatest-requires : goal.keep_greatest-requires
 keep_greatest-requires g c =
