@@ -1,7 +1,7 @@
 // The strands: for each variable the runs of layers of a block at which it is present.
 
 ghost use Rattle.std.specs.Prelude.{◌≡◌, ◌≢◌, ℕ, ◌++◌, ◌<◌, ◌≤◌, ◌+◌, ◌-◌, ◌%◌, ◌&&◌, not, nat_eq};
-ghost use Rattle.std.specs.Prelude.{nat_lt, length, map, true, IfOk, IfSome, IsTrue, OnOk};
+ghost use Rattle.std.specs.Prelude.{[], nat_lt, length, map, true, IfOk, IfSome, IsTrue, OnOk};
 ghost use Rattle.std.specs.Prelude.{option_to_list};
 ghost use Rattle.std.specs.List.{range_with_len, list_any};
 ghost use Rattle.pra_base.specs.Code.{kind_of};
@@ -320,13 +320,43 @@ fn add_block(
     Ok(())
 }
 
+// How many strands begin at the entry of a block.
+fn entering(code: &VProc, live: &Liveness, block: u32) -> usize
+    requires { IsSized code.now }
+{
+    let end = code.vars.len() as u32;
+    let mut from = 0;
+    let mut count = 0usize;
+    while let Some(var) = live.next_at_entry(BlockId(block), from, end) {
+        count = count.saturating_add(1);
+        from = var + 1;
+    }
+    count
+}
+
+// Room for all strands: those that begin at entries, and two for each instruction. What is beyond
+// is never touched; but a list that is as long as it has to be from the first has memory that was
+// used before, where one that grows is moved to new pages.
+fn room_for(alloc: Global, code: &VProc, live: &Liveness) -> Result<Seq<Strand>, AllocError>
+    requires { IsSized code.now }
+    ensures { IfOk result (λ made. made ≡ []) }
+{
+    let mut most = 0usize;
+    for block in 0..code.blocks.len() as u32 {
+        let instructions = code.blocks[block as usize].code.len();
+        most = most.saturating_add(entering(code, live, block));
+        most = most.saturating_add(instructions.saturating_mul(2));
+    }
+    Ok(Seq::from_vec(Vec::with_capacity(alloc, most)?))
+}
+
 // All strands, without their groups.
 pub fn strands_of(alloc: Global, code: &VProc, live: &Liveness) -> Result<Seq<Strand>, AllocError>
     requires sized { IsSized code.now }
     requires live { IsLive code.now (live_at live.now) }
     ensures { IfOk result (λ made. made ≡ strands all_tables code.now (live_at live.now)) }
 {
-    let mut out = Seq::new(alloc);
+    let mut out = room_for(alloc, code, live)?;
     for block in 0..code.blocks.len() as u32 {
         add_block(alloc, code, live, block, &mut out)?;
     }
