@@ -11,7 +11,7 @@ use crate::room::RoundRoom;
 use crate::sweeps::Sweeps;
 use net_ascent::ascend;
 use net_cost::{CostModel, Event};
-use net_form::{Net, Prices};
+use net_form::{Net, Prices, Routes};
 use net_price::lagrange;
 use pra_base::OutOfMemory;
 use std::alloc::Global;
@@ -29,14 +29,15 @@ pub struct Raised {
 }
 
 impl Raised {
-    /// Prices of nothing, which have this value. A round is to visit so many layers at most.
+    /// Prices of nothing, which have this value. These are routes of the network, and a round is to
+    /// visit so many layers at most.
     ///
     /// # Errors
     ///
     /// Where there is no memory for them.
     pub(crate) fn start(
         alloc: Global,
-        net: &Net,
+        routes: &Routes,
         zero: &Prices,
         value: i128,
         most_visits: u64,
@@ -47,7 +48,7 @@ impl Raised {
         Ok(Raised {
             prices: copy_prices(alloc, zero)?,
             value,
-            sweeps: Sweeps::start(net, zero, most_visits),
+            sweeps: Sweeps::start(routes, zero, most_visits),
         })
     }
 

@@ -93,7 +93,7 @@ impl Rounds {
         let mut work = Work::reserve(alloc, net, model)?;
         let best = home(alloc, net)?;
         let best_value = lagrange(&mut work, net, model, &prices);
-        let raised = Raised::start(alloc, net, &prices, best_value, most_visits)?;
+        let raised = Raised::start(alloc, &best, &prices, best_value, most_visits)?;
         let line = Line {
             round: 0,
             cost: cost(net, model, &best),

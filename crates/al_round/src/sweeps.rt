@@ -1,6 +1,6 @@
 // How many sweeps the ascent of a round makes.
 
-use net_form::{Net, Prices};
+use net_form::{Prices, Routes};
 
 // So many sweeps raise prices in round 1, and so many in each round after it.
 const FIRST_SWEEPS: u32 = 10;
@@ -23,28 +23,29 @@ pub struct Sweeps {
     fruitless: u32,
 }
 
-// The layers of all strands, each of which a sweep visits once.
-fn layers_of(net: &Net) -> u64 {
+// The layers of all strands, each of which a sweep visits once: routes have a place for each.
+fn layers_of(routes: &Routes) -> u64 {
     let mut layers = 0u64;
-    for strand in net.strands.as_slice() {
-        layers = layers.saturating_add(strand.masks.len() as u64);
+    for strand in 0..routes.places.len() {
+        layers = layers.saturating_add(routes.places.at(strand).len() as u64);
     }
     layers
 }
 
 // As many sweeps as so many visits of layers are enough for.
-fn most_sweeps(net: &Net, most_visits: u64) -> u32 {
-    let layers = layers_of(net).max(1);
+fn most_sweeps(routes: &Routes, most_visits: u64) -> u32 {
+    let layers = layers_of(routes).max(1);
     u32::try_from(most_visits / layers).unwrap_or(u32::MAX)
 }
 
 impl Sweeps {
-    /// None was made. A round is to visit so many layers at most.
-    pub(crate) fn start(net: &Net, prices: &Prices, most_visits: u64) -> Sweeps {
+    /// None was made. These are routes of the network, and a round is to visit so many layers at
+    /// most.
+    pub(crate) fn start(routes: &Routes, prices: &Prices, most_visits: u64) -> Sweeps {
         let is_small = prices.caps.len() <= SMALL_CAPS;
         Sweeps {
             first: if is_small { SMALL_SWEEPS } else { FIRST_SWEEPS },
-            most: most_sweeps(net, most_visits),
+            most: most_sweeps(routes, most_visits),
             made: 0,
             fruitless: 0,
         }

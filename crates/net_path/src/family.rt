@@ -32,6 +32,19 @@ pub(crate) fn no_paths(alloc: Global, net: &Net) -> Result<Routes, OutOfMemory>
     Ok(Routes { places })
 }
 
+/// The layers of the longest strand, which are the places of the longest path.
+pub(crate) fn longest(_net: &Net, family: &Routes) -> usize
+    requires { HasSizes _net.now family.now }
+    ensures { (s : ℕ) → s < length _net.now.strands →
+        length (strand_at _net.now s).masks ≤ result }
+{
+    let mut most = 0usize;
+    for at in 0..family.places.len() {
+        most = most.max(family.places.at(at).len());
+    }
+    most
+}
+
 // The same, with the parts of the room that belong to the strand: a row, a place and a count for
 // each of its layers.
 fn renew_over<F: Fn(Event, u32) -> u32>(

@@ -1,10 +1,9 @@
 // Room to work in.
 
-ghost use Rattle.std.specs.Prelude.{◌≡◌, ◌≤◌, ◌<◌, ℕ, length, IfOk};
-ghost use Rattle.net_form.specs.Admitted.{strand_at};
+ghost use Rattle.std.specs.Prelude.{◌≡◌, ◌≤◌, ◌<◌, length, IfOk};
 
 use crate::crossbar::Row;
-use crate::family::no_paths;
+use crate::family::{longest, no_paths};
 use crate::passing::notes_of;
 use crate::spread::{Load, Sides};
 use net_cost::{CostModel, Event};
@@ -29,18 +28,6 @@ pub struct Work {
     ghost as_long: { length path.items ≡ length rows.items },
     ghost renewed_as_long: { length renewed.items ≡ length rows.items },
     ghost within: { count ≤ length path.items },
-}
-
-// The layers of the longest strand.
-fn longest(net: &Net) -> usize
-    ensures { (s : ℕ) → s < length net.now.strands →
-        length (strand_at net.now s).masks ≤ result }
-{
-    let mut most = 0usize;
-    for strand in net.strands.as_slice() {
-        most = most.max(strand.masks.len());
-    }
-    most
 }
 
 impl Work {
@@ -83,7 +70,8 @@ impl Work {
     ) -> Result<Work, OutOfMemory>
         ensures { IfOk result (IsReservedFor net.now) }
     {
-        let most = longest(net);
+        let family = no_paths(alloc, net)?;
+        let most = longest(net, &family);
         let empty = Row {
             costs: [0; 16],
             seconds: [0; 16],
@@ -98,7 +86,7 @@ impl Work {
             path: vec![in alloc; Place::Eax; most]?,
             count: 0,
             renewed: vec![in alloc; Place::Eax; most]?,
-            family: no_paths(alloc, net)?,
+            family,
             loads: vec![in alloc; [0; 6]; free.regs.len()]?,
             sides: vec![in alloc; nowhere; net.strands.len()]?,
             free,
