@@ -3,7 +3,8 @@
 
 import sys
 
+import stopped
 from picture.facts import main
 
 if __name__ == "__main__":
-    sys.exit(main(sys.argv[1:]))
+    sys.exit(stopped.status_of(lambda: main(sys.argv[1:])))

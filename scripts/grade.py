@@ -16,6 +16,7 @@ values. The status is 0 where all are admitted, 3 where one is not.
 
 import csv
 import hashlib
+import io
 import json
 import os
 import shlex
@@ -24,6 +25,7 @@ import sys
 from dataclasses import dataclass, replace
 
 import stopped
+import writing
 from picture.others import ALLOCATORS, best_routes
 from pranet import cbc, certificate
 from pranet.certificate import code_value
@@ -64,10 +66,14 @@ def entry_of_command(command, problem):
     return Entry(ran.stdout)
 
 
+def certificate_name(folder, file):
+    """The name of the certificate that a folder has for a module."""
+    return f"{folder}/{os.path.basename(file).removesuffix('.ob')}.cert"
+
+
 def entry_of_folder(folder, file):
-    name = os.path.basename(file).removesuffix(".ob")
     try:
-        with open(f"{folder}/{name}.cert", encoding="utf-8", errors=ANY_BYTES) as text:
+        with open(certificate_name(folder, file), encoding="utf-8", errors=ANY_BYTES) as text:
             return Entry(text.read())
     except OSError as error:
         return Entry(fault=error.strerror)
@@ -178,22 +184,34 @@ def print_table(rows):
         print("  ".join(cells).rstrip())
 
 
-def write_table(name, rows):
-    with open(name, "w", encoding="utf-8", newline="") as out:
-        csv.writer(out, lineterminator="\n").writerows([COLUMNS, *map(cells_of, rows)])
+def write_table(name, rows, read):
+    """Writes the table to a file of that name, which is none of those that were read."""
+    text = io.StringIO()
+    csv.writer(text, lineterminator="\n").writerows([COLUMNS, *map(cells_of, rows)])
+    writing.write(name, text.getvalue().encode(), read)
+
+
+def files_read(files, values):
+    """The names of the files that a call reads, and of those that its command may read."""
+    if values["--command"]:
+        return [OPTIMA, *files, *shlex.split(values["--command"])]
+    return [OPTIMA, *files, *(certificate_name(values["--folder"], it) for it in files)]
 
 
 def call(words):
     files, values = read_words(words, OPTIONS)
     if not files or bool(values["--command"]) == bool(values["--folder"]):
         raise NoWords
+    read = files_read(files, values)
+    if values["--csv"]:
+        writing.check(values["--csv"], read)
     compiler, rows = Compiler(values["--compiler"]), []
     for file in files:
         rows.append(row_of(compiler, file, values))
     rows.append(sum_of(rows))
     print_table(rows)
     if values["--csv"]:
-        write_table(values["--csv"], rows)
+        write_table(values["--csv"], rows, read)
     return 0 if all(it["verdict"] == ADMITTED for it in rows[:-1]) else 3
 
 

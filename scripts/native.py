@@ -5,10 +5,10 @@
 
 The program is written to NAME, or to IMAGE's name without its ending .pri. It reads and writes what
 `run` does, and has its statuses. It runs without end, or, with --steps here or among its own words,
-makes at most M steps and counts them. Each procedure is a symbol for a debugger, with its name where REPORT is what `compile` wrote
-of this image. gcc is asked to compile and link, with -m32. The status is 0, or that of the line on
-standard error: 3 and 4 where IMAGE is no image, as `list` says it, 5 where a file can't be read or
-written, 6 where the words are none of these, 70 where gcc can't do it.
+makes at most M steps and counts them. Each procedure is a symbol for a debugger, with its name where
+REPORT is what `compile` wrote of this image. gcc is asked to compile and link, with -m32. The status
+is 0, or that of the line on standard error: 3 and 4 where IMAGE is no image, as `list` says it, 5
+where a file can't be read or written, 6 where the words are none of these, 70 where gcc can't do it.
 """
 
 import os
@@ -16,6 +16,7 @@ import sys
 
 import explain
 import stopped
+import writing
 from processor.build import NO_LIMIT, Builder
 from processor.image import MAX_FILE_BYTES, Refused, image_of, names_in
 
@@ -23,21 +24,21 @@ USAGE = "usage: pra native IMAGE [-o NAME] [--steps M] [--report REPORT]"
 OPTIONS = ("-o", "--steps", "--report")
 MOST_STEPS = 200000000
 ENDING = ".pri"
-FILES, WORDS = 5, 6  # statuses
+WORDS = 6  # the status
 
 
 def read_words(words):
     """IMAGE and the values of the options; Refused where the words are none of these."""
-    files, values, words = [], {}, iter(words)
+    plain, values, words = [], {}, iter(words)
     for word in words:
         name, is_joined, value = word.partition("=")
         if name in OPTIONS and name not in values:
             values[name] = value if is_joined else next(words, "")
         else:
-            files.append(word)
-    if len(files) != 1 or files[0].startswith("-") or not all([files[0], *values.values()]):
+            plain.append(word)
+    if len(plain) != 1 or plain[0].startswith("-") or not all([plain[0], *values.values()]):
         raise Refused(WORDS, f"fault words\n{USAGE}")
-    return files[0], values
+    return plain[0], values
 
 
 def steps_of(values):
@@ -61,11 +62,7 @@ def read(name, most=-1):
         with open(name, "rb") as file:
             return file.read(most)
     except OSError as error:
-        raise Refused(FILES, "fault read file") from error
-
-
-def is_one_file(name, other):
-    return os.path.exists(name) and os.path.exists(other) and os.path.samefile(name, other)
+        raise Refused(writing.FAULT, "fault read file") from error
 
 
 def make(words):
@@ -74,14 +71,14 @@ def make(words):
     image = image_of(read(name, MAX_FILE_BYTES + 1))
     report = read(values["--report"]) if "--report" in values else b""
     sources = [name, *(values[it] for it in values if it == "--report")]
-    if any(is_one_file(program, it) for it in sources):
-        raise Refused(FILES, "fault write file")
+    writing.check(program, sources)
     with Builder() as builder:
+        made = f"{builder.room.name}/made"
         try:
-            names = names_in(report.decode(errors="replace"))
-            builder.build(image, program, names, steps)
+            builder.build(image, made, names_in(report.decode(errors="replace")), steps)
         except OSError as error:
-            raise Refused(FILES, "fault write file") from error
+            raise Refused(writing.FAULT, "fault write file") from error
+        writing.write(program, read(made), sources, is_program=True)
 
 
 def main(words):

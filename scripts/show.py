@@ -22,6 +22,7 @@ import sys
 
 import stopped
 import terminal
+import writing
 from picture.listing import NotOfThisCode
 from picture.module import WEIGHTS, Module, OfCertificate
 from picture.page import page_of, side_by_side
@@ -76,13 +77,15 @@ def main(words):
         print(f"fault words\n{USAGE}", file=sys.stderr)
         return 6
     files, values = known
+    name, read = f"{files[0]}.html", [*files, *filter(None, [values["--input"]])]
+    writing.check(name, read)
     clock = terminal.Clock(2, "pra show") if sys.stderr.isatty() else None
     compiler, pages = Compiler(values["--compiler"], clock), []
     try:
         for file in files:
             pages.append(page_of(shown(file, compiler, values)))
-        with open(f"{files[0]}.html", "w", encoding="utf-8") as out:
-            out.write(pages[0] if len(pages) == 1 else side_by_side(files, pages))
+        text = pages[0] if len(pages) == 1 else side_by_side(files, pages)
+        writing.write(name, text.encode(), read)
     except Refused as refused:
         tell(file, refused.said)
         return refused.status
@@ -92,7 +95,7 @@ def main(words):
     except (NoCertificate, NoReport, NotOfThisCode) as error:
         print(f"pra: no page: {error}", file=sys.stderr)
         return 70
-    print(f"{files[0]}.html")
+    print(name)
     return 0
 
 

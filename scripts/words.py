@@ -13,6 +13,8 @@ import sys
 import textwrap
 from dataclasses import dataclass
 
+import stopped
+
 HERE = os.path.dirname(os.path.realpath(__file__))
 WIDE = 98  # columns of a screen
 STATUS = (
@@ -212,4 +214,4 @@ def main(words):
 
 
 if __name__ == "__main__":
-    sys.exit(main(sys.argv[1:]))
+    sys.exit(stopped.status_of(lambda: main(sys.argv[1:])))

@@ -17,6 +17,7 @@ import subprocess
 import sys
 import tempfile
 
+import stopped
 from checker import vectors, verdict
 from picture import report
 from pranet.compiler import Compiler
@@ -135,4 +136,4 @@ def main(words):
 
 
 if __name__ == "__main__":
-    sys.exit(status_of(lambda: main(sys.argv[1:]), USAGE))
+    sys.exit(stopped.status_of(lambda: status_of(lambda: main(sys.argv[1:]), USAGE)))

@@ -1,6 +1,5 @@
 """The words of a call: files and options with values, and how a call that can't be done ends."""
 
-import os
 import subprocess
 import sys
 
@@ -63,9 +62,6 @@ def status_of(call, usage, file=""):
     except Refused as refused:
         tell(file, refused.said)
         return refused.status
-    except BrokenPipeError:
-        os.dup2(os.open(os.devnull, os.O_WRONLY), sys.stdout.fileno())
-        return 5
     except OSError as error:
         print(f"pra: {error}", file=sys.stderr)
         return 5
