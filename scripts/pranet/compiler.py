@@ -1,9 +1,13 @@
 """The compiler, called as a program."""
 
 import os
+import signal
 import subprocess
+import sys
 import tempfile
+import threading
 
+import stopped
 from pranet import certificate
 from pranet.network import Network
 
@@ -27,30 +31,55 @@ def default_program():
 
 class Compiler:
     """The compiler, called as a program. A clock, if there is one, says at a terminal which call
-    takes how long."""
+    takes how long. What ./pra says of itself, as that nothing was proved, is said once for all
+    calls, and at once."""
+
+    said = set()  # the lines of ./pra on itself that were said
 
     def __init__(self, program, clock=None):
         self.program, self.clock = program, clock
 
     def call(self, *words, given=subprocess.DEVNULL, good=(0,)):
         """What a call writes to standard output and to standard error."""
-        how = {"stdin": given, "stdout": subprocess.PIPE, "stderr": subprocess.PIPE}
-        with subprocess.Popen([self.program, *words], **how) as it:
-            out, notes = self.outcome(it, words[0])
-        if it.returncode not in good:
-            raise Refused(f"pra {words[0]}", it.returncode, notes)
+        status, out, notes = self.ran(*words, given=given)
+        if status not in good:
+            raise Refused(f"pra {words[0]}", status, notes)
         return out, notes
 
-    def outcome(self, process, mode):
-        """What a process writes, once it has ended."""
+    def ran(self, *words, given=subprocess.DEVNULL):
+        """The status of a call, and what it writes to standard output and to standard error."""
+        how = {"stdin": given, "stdout": subprocess.PIPE, "stderr": subprocess.PIPE}
+        how["env"] = {**os.environ, "PRA_NOTES": "stderr"}
+        how["preexec_fn"] = stopped.ends_with_parent(signal.SIGTERM)
+        notes = []
+        with subprocess.Popen([self.program, *words], **how) as it:
+            stream, it.stderr = it.stderr, None
+            hearing = threading.Thread(target=self.hear, args=(stream, notes))
+            hearing.start()
+            out = self.output(it, words[0])
+            hearing.join()
+        return it.returncode, out, b"".join(notes)
+
+    def hear(self, stream, notes):
+        """Takes the lines of a stream as notes, but for those of ./pra on itself."""
+        with stream:
+            for line in stream:
+                if not line.startswith(b"pra: "):
+                    notes.append(line)
+                elif line not in self.said:
+                    self.said.add(line)
+                    print(line.decode(errors="replace"), end="", file=sys.stderr, flush=True)
+
+    def output(self, process, mode):
+        """What a process writes to standard output, once it has ended."""
         try:
             while self.clock:
                 try:
-                    return process.communicate(timeout=1)
+                    return process.communicate(timeout=1)[0]
                 except subprocess.TimeoutExpired:
                     self.clock.name = f"pra show, at {mode}"
                     self.clock.show()
-            return process.communicate()
+            return process.communicate()[0]
         finally:
             process.terminate()
             if self.clock:
@@ -82,5 +111,5 @@ class Compiler:
         with tempfile.NamedTemporaryFile(suffix=".cert") as file:
             file.write(text.encode(errors=ANY_BYTES))
             file.flush()
-            ran = subprocess.run([self.program, "check", file.name], capture_output=True)
-        return ran.returncode, (ran.stdout + ran.stderr).decode(errors="replace")
+            status, out, notes = self.ran("check", file.name)
+        return status, (out + notes).decode(errors="replace")

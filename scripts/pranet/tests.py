@@ -15,6 +15,7 @@ import sys
 import tempfile
 import unittest
 from contextlib import redirect_stderr, redirect_stdout
+from unittest import mock
 
 import grade
 import lp as lp_script
@@ -22,7 +23,7 @@ import network as network_script
 import solve as solve_script
 from pranet import cbc, certificate
 from pranet.certificate import Certificate, Prices
-from pranet.compiler import ANY_BYTES, TOP, Compiler
+from pranet.compiler import ANY_BYTES, TOP, Compiler, Refused
 from pranet.dual import Dual, in_range, tie_index, whole
 from pranet.network import Network, bits
 from pranet.problem import problem_of, problem_of_all
@@ -336,6 +337,35 @@ class AnyCompiler:
 
     def check(self, _):
         return self.answer
+
+
+UNPROVED = b"pra: this run is NOT PROVED\n"
+SAYING = """#!/bin/sh
+[ "$PRA_NOTES" = stderr ] && echo "pra: this run is NOT PROVED" >&2
+echo "answer of $1"
+echo "note of $1" >&2
+exit $#
+"""
+
+
+class Notes(unittest.TestCase):
+    """A compiler that says of itself that nothing was proved."""
+
+    def test_it_is_said_once_and_is_no_note_of_a_call(self):
+        with tempfile.TemporaryDirectory(prefix="pra-compiler-") as room:
+            with open(f"{room}/pra", "w", encoding="utf-8") as file:
+                file.write(SAYING)
+            os.chmod(f"{room}/pra", 0o755)
+            compiler = Compiler(f"{room}/pra")
+            with redirect_stderr(io.StringIO()) as told, mock.patch.object(Compiler, "said", set()):
+                ran = compiler.ran("cert")
+                checked = compiler.check(worked())
+                with self.assertRaises(Refused) as refused:
+                    compiler.call("list", "x")
+        self.assertEqual(ran, (1, b"answer of cert\n", b"note of cert\n"))
+        self.assertEqual(checked, (2, "answer of check\nnote of check\n"))
+        self.assertEqual((refused.exception.status, refused.exception.said), (2, b"note of list\n"))
+        self.assertEqual(told.getvalue().encode(), UNPROVED)
 
 
 class Grades(unittest.TestCase):
