@@ -1,15 +1,18 @@
 """What tests need beside Python, and marks that leave them out where it is missing."""
 
+import contextlib
 import functools
 import os
 import shutil
 import subprocess
+import time
 import unittest
 
 import unproved
 
 TOP = os.path.dirname(os.path.dirname(os.path.realpath(__file__)))
 BUILT = f"{TOP}/crates/pra/out/pra"
+PATIENCE, LOOK = 30, 0.02  # seconds that a test waits for something, and between two looks
 
 
 @functools.cache
@@ -31,6 +34,32 @@ def has_gcc_32():
         return False
     how = {"input": b"int main(void) { return 0; }", "capture_output": True, "check": False}
     return not subprocess.run(["gcc", "-m32", "-x", "c", "-", "-o", "/dev/null"], **how).returncode
+
+
+def process_in(name):
+    """The number of a process that it writes into a file, which is removed."""
+    end = time.monotonic() + PATIENCE
+    while time.monotonic() < end:
+        with contextlib.suppress(OSError, ValueError), open(name, encoding="utf-8") as file:
+            number = int(file.read())
+            os.remove(name)
+            return number
+        time.sleep(LOOK)
+    raise TimeoutError(name)
+
+
+def has_ended(process):
+    """Whether a process ends, soon."""
+    end = time.monotonic() + PATIENCE
+    while time.monotonic() < end:
+        try:
+            with open(f"/proc/{process}/stat", encoding="utf-8") as file:
+                if file.read().rpartition(")")[2].split()[0] == "Z":
+                    return True
+        except OSError:
+            return True
+        time.sleep(LOOK)
+    return False
 
 
 def compiler(test):

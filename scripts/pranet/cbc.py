@@ -6,6 +6,8 @@ import subprocess
 import tempfile
 from dataclasses import dataclass
 
+import stopped
+
 PROGRAM = "cbc"
 MISSING = "the solver cbc is not installed (Debian: apt-get install coinor-cbc)"
 GRACE = 30  # seconds more than it was given, until it is ended
@@ -65,6 +67,7 @@ def solve(program, seconds, is_relaxed=False, below=None):
         words += [*(RELAXED if is_relaxed else ("-solve",)), "-printingOptions", "all"]
         words += ["-solution", found]
         how = {"stdin": subprocess.DEVNULL, "capture_output": True, "timeout": seconds + GRACE}
+        how["preexec_fn"] = stopped.ends_with_parent()
         try:
             said = subprocess.run(words, **how).stdout.decode(errors="replace")
         except subprocess.TimeoutExpired:

@@ -10,6 +10,7 @@ import io
 import json
 import os
 import re
+import signal
 import subprocess
 import sys
 import tempfile
@@ -19,6 +20,7 @@ from unittest import mock
 
 import grade
 import lp as lp_script
+import needs
 import network as network_script
 import solve as solve_script
 from pranet import cbc, certificate
@@ -318,6 +320,39 @@ class Optima(unittest.TestCase):
         for line in notes.getvalue().splitlines():
             self.assertIn(line, told)
         self.assertEqual(Compiler(PROGRAM).check(out.getvalue())[0], 0)
+
+
+LASTING = """#!/bin/sh
+echo $$ >"$(dirname "$0")/lasting"
+exec sleep 60
+"""
+
+
+class Stops(unittest.TestCase):
+    """A call of `solve` that is stopped while its solver is at work."""
+
+    def test_the_solver_ends_with_it_however_it_ends(self):
+        with tempfile.TemporaryDirectory(prefix="pra-solve-") as room:
+            known = certificate.read(worked())
+            known.procedures[0].prices = Prices()
+            for name, text in (("cbc", LASTING), ("it.cert", certificate.write(known))):
+                with open(f"{room}/{name}", "w", encoding="utf-8") as file:
+                    file.write(text)
+            os.chmod(f"{room}/cbc", 0o755)
+            how = {"env": {**os.environ, "PATH": f"{room}:{os.environ['PATH']}", "TMPDIR": room}}
+            how.update(stdout=subprocess.PIPE, stderr=subprocess.STDOUT, stdin=subprocess.DEVNULL)
+            command = [sys.executable, f"{TOP}/scripts/solve.py", f"{room}/it.cert"]
+            for number in (signal.SIGHUP, signal.SIGTERM, signal.SIGINT, signal.SIGKILL):
+                with subprocess.Popen(command, **how) as it:
+                    solver = needs.process_in(f"{room}/lasting")
+                    it.send_signal(number)
+                    said = it.communicate(timeout=60)[0].decode()
+                self.assertEqual(said, "")
+                wanted = -number if number == signal.SIGKILL else 128 + number
+                self.assertEqual(it.returncode, wanted)
+                self.assertTrue(needs.has_ended(solver), number)
+                left = [it for it in os.listdir(room) if it.startswith("pra-cbc-")]
+                self.assertEqual(len(left), number == signal.SIGKILL)
 
 
 class Allocators(unittest.TestCase):
