@@ -142,7 +142,8 @@ struct FileId {
 
 /// The folder in which the program runs, with one count of faults for all names, for reading and
 /// for writing. A file that was read is never written over, under whatever name, nor is the one
-/// that standard input comes from, nor the one that was written last: that is a fault.
+/// that standard input comes from, nor the one that was written last: that is a fault. So it is of
+/// each file that is there, where the system does not tell which one standard input comes from.
 #[derive(Drop)]
 pub struct HostFolder<'a, R> {
     rt: &'a R,
@@ -180,23 +181,25 @@ impl<'a, R: Files> HostFolder<'a, R> {
     // Whether the name stands for a file that is not to be written over.
     fn is_kept(&self, name: &str) -> bool {
         match found_at(self.rt, name) {
-            Some((id, _)) => {
-                self.read.contains(&id) || self.written == Some(id) || is_input(self.rt, id)
+            Some((id, is_regular)) => {
+                self.read.contains(&id)
+                    || self.written == Some(id)
+                    || (is_regular && may_be_input(self.rt, id))
             }
             None => false,
         }
     }
 
     // Makes the named file hold the bytes, where it may be written over, and says which file that
-    // is. An old one stays whole where there is no room for the new one, if its folder can have
-    // another file beside it and it is no link.
+    // is. A regular one is whole at each moment, the old one or the new one, if its folder can have
+    // another file beside it.
     fn write_named(&self, alloc: Global, name: &str, bytes: &[u8]) -> Result<FileId, Failed> {
         if self.is_kept(name) {
             return Err(Failed);
         }
-        if let Some(like) = replaceable(self.rt, name)
-            && let Ok(part) = format!(in alloc; "{name}{PART}")
-            && let Some(id) = replace(self.rt, name, &part, like, bytes)?
+        if let Some(like) = replaceable(self.rt, name)?
+            && let Ok(path) = self.rt.canonicalize(alloc, name)
+            && let Some(id) = replace(self.rt, alloc, path.as_path().as_str(), like, bytes)?
         {
             return Ok(id);
         }
@@ -268,10 +271,13 @@ fn remember(read: &mut Vec<FileId>, id: FileId) -> Result<(), OutOfMemory> {
     Ok(())
 }
 
-/// The name under which a process finds the file that its standard input comes from.
-const STANDARD_INPUT: &str = "/dev/stdin";
+/// The folder in which a process finds the files that its open streams come from.
+const STREAMS: &str = "/proc/self/fd";
 
-/// What is appended to a name, for the file that is to take that name's place.
+/// The one of these that is its standard input.
+const STANDARD_INPUT: &str = "/proc/self/fd/0";
+
+/// What is appended to a name, before a number, for the file that is to take that name's place.
 const PART: &str = ".part";
 
 // The file that the name stands for, through all links, and whether it is a regular one.
@@ -288,9 +294,14 @@ fn found_at<R: Files>(rt: &R, name: &str) -> Option<(FileId, bool)> {
     }
 }
 
-// Whether this is the file that standard input comes from, where that is a regular one.
-fn is_input<R: Files>(rt: &R, id: FileId) -> bool {
-    found_at(rt, STANDARD_INPUT) == Some((id, true))
+// Whether this may be the file that standard input comes from: where the system tells which one
+// that is, only that one, and none where it tells of the other streams but not of this one, which
+// is closed then.
+fn may_be_input<R: Files>(rt: &R, id: FileId) -> bool {
+    match found_at(rt, STANDARD_INPUT) {
+        Some((input, is_regular)) => is_regular && input == id,
+        None => fs::metadata(rt, STREAMS).is_err(),
+    }
 }
 
 // Writes the bytes to a file that was just made.
@@ -306,36 +317,56 @@ fn fill<F: OpenFile + Write>(
     id_of(file)
 }
 
-// Puts a file with these bytes in the place of one that is like this, which stays whole until then,
-// and says which file that is; or none, where the folder can't have another file beside it.
+// A new file beside the one of this path, under a name that no other call has, and that name; or
+// none, where the folder can't have another file.
+fn beside<R: Files>(rt: &R, alloc: Global, path: &str) -> Option<(String, R::File)> {
+    for number in 0..u64::MAX {
+        let Ok(part) = format!(in alloc; "{path}{PART}{number}") else {
+            return None;
+        };
+        match fs::File::create_new(rt, part.as_str()) {
+            Ok(file) => return Some((part, file)),
+            Err(error) if error.kind() == ErrorKind::AlreadyExists => {}
+            Err(_) => return None,
+        }
+    }
+    None
+}
+
+// Puts a file with these bytes in the place of the one of this path, which may be used for the same
+// and stays whole until then, and says which file that is; or none, where the folder can't have
+// another file beside it.
 fn replace<R: Files>(
     rt: &R,
-    name: &str,
-    part: &str,
+    alloc: Global,
+    path: &str,
     like: Permissions,
     bytes: &[u8],
 ) -> Result<Option<FileId>, Failed> {
-    let Ok(mut file) = fs::File::create_new(rt, part) else {
+    let Some((part, mut file)) = beside(rt, alloc, path) else {
         return Ok(None);
     };
     match fill(&mut file, like, bytes) {
-        Ok(id) if fs::rename(rt, part, name).is_ok() => Ok(Some(id)),
+        Ok(id) if fs::rename(rt, part.as_str(), path).is_ok() => Ok(Some(id)),
         _ => {
-            let _ = fs::remove_file(rt, part);
+            let _ = fs::remove_file(rt, part.as_str());
             Err(Failed)
         }
     }
 }
 
-// What a file may be used for, where the name is that of a regular one which may be written, and of
-// no link.
-fn replaceable<R: Files>(rt: &R, name: &str) -> Option<Permissions> {
-    match fs::symlink_metadata(rt, name) {
-        Ok(found) if found.is_file() => match fs::File::options().write(true).open(rt, name) {
-            Ok(_) => Some(found.permissions()),
-            Err(_) => None,
-        },
-        _ => None,
+// What the regular file may be used for that the name stands for, through all links, which is made
+// where it is not there; or none, where the name is that of something else.
+//
+// Where that file may not be written this is a fault.
+fn replaceable<R: Files>(rt: &R, name: &str) -> Result<Option<Permissions>, Failed> {
+    if let Some((_, false)) = found_at(rt, name) {
+        return Ok(None);
+    }
+    let opened = fs::File::options().write(true).create(true).open(rt, name);
+    match opened.and_then(|file| file.metadata()) {
+        Ok(found) => Ok(Some(found.permissions()).filter(|_| found.is_file())),
+        Err(_) => Err(Failed),
     }
 }
 

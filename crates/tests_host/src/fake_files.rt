@@ -8,9 +8,11 @@ use std::io;
 use std::io::{ErrorKind, Read, Seek, SeekFrom, Write};
 use std::rt::Files;
 
-/// Each name holds these bytes. How many bytes were written to all files is counted.
+/// Each name holds these bytes. Of some names the system tells that they are there, all as one
+/// regular file. How many bytes were written to all files is counted.
 #[derive(Drop)]
 pub(crate) struct FakeFiles<'a> {
+    pub told: &'a [&'a str],
     pub bytes: &'a [u8],
     pub reads: &'a [Answer],
     pub writes: &'a [Answer],
@@ -92,8 +94,10 @@ impl<'a> Files for FakeFiles<'a> {
         unsupported()
     }
 
-    // No name is known, so that each may be written.
-    fn metadata(&self, _: &str) -> io::Result<Metadata> {
+    fn metadata(&self, name: &str) -> io::Result<Metadata> {
+        if self.told.contains(&name) {
+            return Ok(Metadata::of_file(0));
+        }
         Err(io::Error::from(ErrorKind::NotFound))
     }
 

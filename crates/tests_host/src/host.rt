@@ -7,6 +7,7 @@ use pra_io::{
 };
 use std::cell::Cell;
 use std::fs;
+use std::os::unix::fs::symlink;
 use std::test::Fail;
 
 const ONE: Answer = Answer::AtMost(1);
@@ -98,6 +99,7 @@ fn a_file_is_read_whole_or_not_at_all(rt: HostRuntime) -> Result<(), Fail> {
     ];
     for (reads, want) in cases {
         let files = FakeFiles {
+            told: &[],
             bytes: b"abc",
             reads,
             writes: &[],
@@ -123,6 +125,7 @@ fn a_file_that_is_written_in_part_is_a_fault(rt: HostRuntime) -> Result<(), Fail
     for (writes, want, count) in cases {
         let written = Cell::new(0);
         let files = FakeFiles {
+            told: &[],
             bytes: b"",
             reads: &[],
             writes,
@@ -183,6 +186,55 @@ fn a_file_that_was_read_is_never_written_over(rt: HostRuntime) -> Result<(), Fai
     );
     fs::remove_file(&rt, LINK)?;
     fs::remove_file(&rt, NAME)?;
+    Ok(())
+}
+
+#[test]
+fn a_file_that_may_be_the_input_is_never_written_over(rt: HostRuntime) -> Result<(), Fail> {
+    const STREAMS: &str = "/proc/self/fd";
+    const INPUT: &str = "/proc/self/fd/0";
+    let cases: [(&[&str], Result<(), FileFault>); 4] = [
+        (&["a"], Err(FileFault::Failed)),
+        (&["a", STREAMS, INPUT], Err(FileFault::Failed)),
+        (&["a", STREAMS], Ok(())),
+        (&[], Ok(())),
+    ];
+    for (told, want) in cases {
+        let written = Cell::new(0);
+        let files = FakeFiles {
+            told,
+            bytes: b"",
+            reads: &[],
+            writes: &[],
+            written: &written,
+        };
+        let mut folder = HostFolder::new(rt.alloc(), &files);
+        assert_eq!(rt; folder.write_file(rt.alloc(), "a", b"abc"), want);
+        assert_eq!(rt; written.get(), if want.is_ok() { 3 } else { 0 });
+    }
+    Ok(())
+}
+
+#[test]
+fn a_file_is_replaced_and_not_written_over(rt: HostRuntime) -> Result<(), Fail> {
+    const NAME: &str = "pra_io_test_image";
+    const OLD: &str = "pra_io_test_old";
+    const LINK: &str = "pra_io_test_image_link";
+    const LEFT: &str = "pra_io_test_image.part0";
+    let alloc = rt.alloc();
+    for (name, bytes) in [(NAME, b"old".as_slice()), (LEFT, b"left")] {
+        HostFolder::new(alloc, &rt).write_file(alloc, name, bytes)?;
+    }
+    fs::hard_link(&rt, NAME, OLD)?;
+    symlink(&rt, NAME, LINK)?;
+    HostFolder::new(alloc, &rt).write_file(alloc, LINK, b"new")?;
+    let mut folder = HostFolder::new(alloc, &rt);
+    for (name, bytes) in [(NAME, b"new".as_slice()), (OLD, b"old"), (LEFT, b"left")] {
+        assert_eq!(rt; folder.read_file(alloc, name, 9)?.as_slice(), bytes);
+    }
+    for name in [NAME, OLD, LINK, LEFT] {
+        fs::remove_file(&rt, name)?;
+    }
     Ok(())
 }
 
