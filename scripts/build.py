@@ -24,6 +24,8 @@ import tempfile
 import threading
 import time
 
+import stopped
+
 TOP = os.path.dirname(os.path.dirname(os.path.realpath(__file__)))
 MEMORY_OF_ONE = 4 << 20  # kilobytes that the proof of one crate may take
 COMPILER = "pra"  # the program that is built where none is named
@@ -112,33 +114,38 @@ class Commands:
     def __init__(self):
         self.running, self.is_ended, self.turn = [], False, threading.Lock()
 
-    def ran(self, command, folder, at_first_line):
-        """The status of a command, and what it said; calls at_first_line once it says any."""
-        # (in a session of its own, so that what it has started ends with it)
-        how = {"cwd": folder, "stdin": subprocess.DEVNULL, "errors": "replace"}
-        how.update(stdout=subprocess.PIPE, stderr=subprocess.STDOUT, start_new_session=True)
+    def ran(self, command, folder, at_first_line=lambda: None, limit=None, **how):
+        """The status of a command, and what it said; calls at_first_line once it says any. After so
+        many seconds it is ended."""
+        given = {"cwd": folder, "stdin": subprocess.DEVNULL, "stdout": subprocess.PIPE}
+        given.update({"stderr": subprocess.STDOUT, **how})
         said = []
-        with self.turn:
-            if self.is_ended:
-                return NOT_BUILT, ""
-            it = subprocess.Popen(command, **how)
-            self.running.append(it)
-        with it:
+        with contextlib.ExitStack() as call:
+            with self.turn:
+                if self.is_ended:
+                    return NOT_BUILT, ""
+                # (so that what it has started ends with it, and with this process)
+                it = call.enter_context(stopped.session(command, **given))
+                self.running.append(it)
+            clock = threading.Timer(limit or 0, stopped.end_session, (it, signal.SIGKILL))
+            if limit:
+                clock.start()
             for line in it.stdout:
                 if not said:
                     at_first_line()
                 said.append(line)
-        with self.turn:
-            self.running.remove(it)
-        return it.returncode, "".join(said)
+            it.wait()
+            clock.cancel()
+            with self.turn:
+                self.running.remove(it)
+        return it.returncode, b"".join(said).decode(errors="replace")
 
     def end(self):
         """Ends what is running, and lets nothing begin."""
         with self.turn:
             self.is_ended = True
             for it in self.running:
-                with contextlib.suppress(ProcessLookupError):
-                    os.killpg(it.pid, signal.SIGTERM)
+                stopped.end_session(it)
 
 
 class Build:
@@ -302,7 +309,7 @@ def main(words):
     if is_sum:
         print(sum_of_sources(name))
         return 0
-    signal.signal(signal.SIGTERM, lambda number, _: sys.exit(128 + number))
+    stopped.by_signals()
     try:
         return build(name)
     except KeyboardInterrupt:

@@ -8,7 +8,8 @@ import subprocess
 import time
 import unittest
 
-import unproved
+import kept
+import translation
 
 TOP = os.path.dirname(os.path.dirname(os.path.realpath(__file__)))
 BUILT = f"{TOP}/crates/pra/out/pra"
@@ -22,8 +23,8 @@ def program():
         if name and os.access(name, os.X_OK):
             return os.path.abspath(name)
     try:
-        return unproved.kept()
-    except (OSError, unproved.NoAnswer):
+        return kept.program("pra")
+    except (OSError, translation.NoAnswer):
         return None
 
 

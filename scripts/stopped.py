@@ -1,9 +1,11 @@
 """How a script ends that is stopped from outside: as an exception that it meets where it is, so that
 what it has called ends with it and its files are removed, and without a trace at Ctrl-C."""
 
+import contextlib
 import ctypes
 import os
 import signal
+import subprocess
 import sys
 
 import writing
@@ -30,6 +32,29 @@ def ends_with_parent(number=signal.SIGKILL):
             os._exit(128 + number)
 
     return prepare
+
+
+def end_session(process, number=signal.SIGTERM):
+    """Ends all that is left of the session that a process began."""
+    with contextlib.suppress(ProcessLookupError):
+        os.killpg(process.pid, number)
+
+
+@contextlib.contextmanager
+def session(command, **how):
+    """A command in a session of its own, which is told to end when this block does, or this process,
+    however that ends."""
+    ending = {"stdin": subprocess.PIPE, "stdout": subprocess.DEVNULL, "stderr": subprocess.DEVNULL}
+    how.update(start_new_session=True, preexec_fn=ends_with_parent(signal.SIGTERM))
+    with subprocess.Popen(command, **how) as it:
+        # (reads the end of a pipe of this process alone, once it has ended)
+        words = ["sh", "-c", 'read _; kill -TERM -- "-$1"', "sh", str(it.pid)]
+        with subprocess.Popen(words, start_new_session=True, **ending) as watcher:
+            try:
+                yield it
+            finally:
+                watcher.kill()
+                end_session(it)
 
 
 def status_of(call):

@@ -1,4 +1,4 @@
-"""Tests of the unproved program that is kept, without the kit."""
+"""Tests of the unproved programs that are kept, without the kit."""
 
 import os
 import stat
@@ -9,6 +9,10 @@ import threading
 import unittest
 from unittest import mock
 
+import build
+import kept
+import needs
+import translation
 import unproved
 
 SAYS = "#!/bin/sh\necho out; echo notes >&2; cat; exit 3\n"
@@ -26,17 +30,17 @@ class Kept(unittest.TestCase):
         for name in ("crates.txt", "crates/pra/src/main.rt"):
             self.write(name, "pra: pra_base\n")
         self.write("rt", "")
-        for name, value in (
-            ("TOP", self.top),
-            ("KEPT", f"{self.top}/.unproved"),
-            ("kit", lambda: self.kit),
-            ("sum_of_all", lambda: self.sum),
+        for module, name, value in (
+            (build, "TOP", self.top),
+            (kept, "KEPT", f"{self.top}/.unproved"),
+            (translation, "kit", lambda: self.kit),
+            (kept, "sum_of", lambda _: self.sum),
         ):
-            patch = mock.patch.object(unproved, name, value)
+            patch = mock.patch.object(module, name, value)
             patch.start()
             self.addCleanup(patch.stop)
         self.sum = "a" * 64
-        os.makedirs(unproved.KEPT)
+        os.makedirs(kept.KEPT)
 
     def write(self, name, text):
         with open(f"{self.top}/{name}", "w", encoding="utf-8") as file:
@@ -45,16 +49,14 @@ class Kept(unittest.TestCase):
 
     def hand_in(self, text=SAYS):
         """Keeps a program, as a build does."""
-        with tempfile.TemporaryDirectory(dir=unproved.KEPT) as room:
+        with tempfile.TemporaryDirectory(dir=kept.KEPT) as room:
             with open(f"{room}/pra", "w", encoding="utf-8") as file:
                 file.write(text)
             os.chmod(f"{room}/pra", stat.S_IRWXU)
-            name = f"{unproved.KEPT}/pra-{self.sum[:16]}"
-            unproved.hand_in(f"{room}/pra", name, self.sum, room)
-        return name
+            return kept.hand_in(f"{room}/pra", "pra", self.sum, room)
 
     def kept(self):
-        return unproved.kept(f"{unproved.KEPT}/pra")
+        return kept.program("pra")
 
     def test_nothing_is_kept_at_first(self):
         self.assertIsNone(self.kept())
@@ -65,13 +67,13 @@ class Kept(unittest.TestCase):
 
     def test_a_source_that_was_touched_alone_asks_for_no_build(self):
         name = self.hand_in()
-        later = os.stat(f"{unproved.KEPT}/pra.sum").st_mtime + 10
+        later = os.stat(f"{kept.KEPT}/pra.sum").st_mtime + 10
         os.utime(f"{self.top}/crates/pra/src/main.rt", (later, later))
         self.assertEqual(self.kept(), name)
 
     def test_another_sum_asks_for_a_build(self):
         self.hand_in()
-        later = os.stat(f"{unproved.KEPT}/pra.sum").st_mtime + 10
+        later = os.stat(f"{kept.KEPT}/pra.sum").st_mtime + 10
         os.utime(f"{self.top}/crates/pra/src/main.rt", (later, later))
         self.sum = "b" * 64
         self.assertIsNone(self.kept())
@@ -89,8 +91,8 @@ class Kept(unittest.TestCase):
             it.start()
         for it in threads:
             it.join()
-        self.assertEqual(self.kept(), f"{unproved.KEPT}/pra-{self.sum[:16]}")
-        self.assertEqual(sorted(os.listdir(unproved.KEPT)), [f"pra-{self.sum[:16]}", "pra.sum"])
+        self.assertEqual(self.kept(), f"{kept.KEPT}/pra-{self.sum[:16]}")
+        self.assertEqual(sorted(os.listdir(kept.KEPT)), [f"pra-{self.sum[:16]}", "pra.sum"])
 
 
 class Runs(unittest.TestCase):
@@ -138,8 +140,13 @@ define internal noundef i32 @"pra::main"(ptr noundef %a0) #0 {
 define internal i32 @"pra::words"(ptr %a0) #0 {
   ret i32 1
 }
+define internal void @never() #0 {
+  call void @"pra::words"(ptr null)
+  ret void
+}
 define i32 @main() #1 {
-  ret i32 0
+  %x = call i32 @"pra::main"(ptr @static.0)
+  ret i32 %x
 }
 attributes #0 = { nounwind sanitize_address "frame-pointer"="all" }
 attributes #1 = { "probe-stack"="inline-asm" sanitize_address }
@@ -151,9 +158,9 @@ class Parts(unittest.TestCase):
     """What a translation is compiled in."""
 
     def parts(self, count):
-        lines = unproved.without_watch(TRANSLATION.splitlines(keepends=True))
+        lines = translation.without_watch(TRANSLATION.splitlines(keepends=True))
         with tempfile.TemporaryDirectory(prefix="pra-unproved-") as room:
-            names = unproved.write_parts(lines, count, room)
+            names = translation.write_parts(lines, count, room)
             self.assertEqual(len(names), count)
             texts = []
             for name in names:
@@ -174,6 +181,9 @@ class Parts(unittest.TestCase):
                 self.assertEqual(len(defined), 1)
                 self.assertEqual([it for it, in heads if "internal" in it], [])
 
+    def test_what_is_never_called_is_left_out(self):
+        self.assertNotIn("@never", "".join(self.parts(3)))
+
     def test_each_part_has_constants_and_attributes(self):
         for text in self.parts(2):
             lines = text.splitlines()
@@ -190,8 +200,8 @@ class Parts(unittest.TestCase):
 class Reasons(unittest.TestCase):
     def test_what_rt_try_says_is_told(self):
         said = b"warning\nchecked: no-answer: the kit lacks a linker\nrun=none proved=no\n"
-        self.assertIn("the kit lacks a linker", unproved.why_not(said))
-        self.assertIn("error: x", unproved.why_not(b"error: x\n"))
+        self.assertIn("the kit lacks a linker", translation.why_not(said))
+        self.assertIn("error: x", translation.why_not(b"error: x\n"))
 
 
 if __name__ == "__main__":
