@@ -1,12 +1,14 @@
 #!/usr/bin/env python3
 """Runs all tests of the scripts.
 
-    [PRA=PROGRAM] tests.py [WORD ..]    those alone whose names have one of the words
+    [PRA=PROGRAM] tests.py [--module NAME] [WORD ..]
+
+With NAME those of that module alone, and with words those alone whose names have one of them.
 
 Tests stand beside what they try, in files test_*.py, *_tests.py and tests.py. Those that need a
 compiler take PROGRAM, the one that was built, or the unproved one that is kept, if it is of these
-sources. Those for which something is missing are left out, and a line says why. The status is 0
-where none fails, and else 1.
+sources. Those for which something is missing are left out, and a line says why. The last line is
+`N passed, N failed`. The status is 0 where none fails, and else 1.
 """
 
 import collections
@@ -18,18 +20,18 @@ import sys
 import unittest
 
 import build
-import unproved
+import kept
+import translation
 
 HERE = os.path.dirname(os.path.realpath(__file__))
 PATTERNS = ("test_*.py", "*_tests.py", "*/test_*.py", "*/*_tests.py", "*/tests.py")
 
 
-def modules():
-    """The modules that hold tests."""
+def names_of_modules():
+    """The names of the modules that hold tests."""
     for pattern in PATTERNS:
         for file in sorted(glob.glob(f"{HERE}/{pattern}")):
-            name = os.path.relpath(file, HERE).removesuffix(".py").replace(os.sep, ".")
-            yield importlib.import_module(name)
+            yield os.path.relpath(file, HERE).removesuffix(".py").replace(os.sep, ".")
 
 
 def each(suite):
@@ -44,26 +46,35 @@ def each(suite):
 def compiler():
     """The program that the tests take, or None."""
     built = f"{build.TOP}/crates/{build.COMPILER}/out/{build.COMPILER}"
-    with contextlib.suppress(OSError, unproved.NoAnswer):
-        return built if os.access(built, os.X_OK) else unproved.kept()
+    with contextlib.suppress(OSError, translation.NoAnswer):
+        return built if os.access(built, os.X_OK) else kept.program(build.COMPILER)
     return None
+
+
+def suite_of(module, words):
+    """The tests of a module, or of all, that have one of the words in their names."""
+    loader, suite = unittest.defaultTestLoader, unittest.TestSuite()
+    for name in [module] if module else names_of_modules():
+        for it in each(loader.loadTestsFromModule(importlib.import_module(name))):
+            if not words or any(word in it.id() for word in words):
+                suite.addTest(it)
+    return suite
 
 
 def main(words):
     sys.path.insert(0, HERE)
     if "PRA" not in os.environ and (program := compiler()):
         os.environ["PRA"] = program
-    loader, suite = unittest.defaultTestLoader, unittest.TestSuite()
-    for module in modules():
-        for it in each(loader.loadTestsFromModule(module)):
-            if not words or any(word in it.id() for word in words):
-                suite.addTest(it)
-    if not suite.countTestCases():
+    module = words[1] if words[:1] == ["--module"] else ""
+    suite = suite_of(module, words[2:] if module else words)
+    if not module and not suite.countTestCases():
         print("there is no such test", file=sys.stderr)
         return 1
     ran = unittest.TextTestRunner(verbosity=1).run(suite)
     for reason, count in collections.Counter(reason for _, reason in ran.skipped).items():
         print(f"left out {count}: {reason}", file=sys.stderr)
+    failed = len({it for it, _ in ran.failures + ran.errors})
+    print(f"{ran.testsRun - failed - len(ran.skipped)} passed, {failed} failed", flush=True)
     return 0 if ran.wasSuccessful() else 1
 
 
