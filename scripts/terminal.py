@@ -15,6 +15,7 @@ import sys
 import time
 
 import explain
+import stopped
 import words as known_words
 
 TOP = os.path.dirname(os.path.dirname(os.path.realpath(__file__)))
@@ -75,7 +76,12 @@ def watched(command, clock, **how):
                         continue
                     if key.fileobj is it.stderr:
                         notes += data
-                    write_all(streams[key.fileobj], data)
+                    try:
+                        write_all(streams[key.fileobj], data)
+                    except OSError:  # the terminal is gone, and so is this stream for the call
+                        ready.unregister(key.fileobj)
+                        del streams[key.fileobj]
+                        key.fileobj.close()
                 clock.show()
             it.wait()
         except KeyboardInterrupt:
@@ -121,8 +127,21 @@ def is_open(stream):
     return True
 
 
+def ready_child(has_input):
+    """What a call does before its program begins."""
+    ends_with_parent = stopped.ends_with_parent(signal.SIGTERM)
+
+    def prepare():
+        ends_with_parent()
+        if not has_input:
+            os.close(0)
+
+    return prepare
+
+
 def main(words):
-    how = {"stdin": INPUT} if is_open(INPUT) else {"preexec_fn": lambda: os.close(0)}
+    how = {"stdin": INPUT} if is_open(INPUT) else {}
+    how["preexec_fn"] = ready_child(bool(how))
     clock = Clock(2, " ".join(["pra", *words[:1]]))
     status, notes = watched([f"{TOP}/pra", *words], clock, **how)
     if status < 0:
@@ -133,5 +152,5 @@ def main(words):
 
 
 if __name__ == "__main__":
-    signal.signal(signal.SIGTERM, lambda number, _: sys.exit(128 + number))
+    stopped.by_signals()
     sys.exit(main(sys.argv[1:]))
