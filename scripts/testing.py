@@ -5,8 +5,9 @@
 
 The tests of all crates, and the programs that have a wanted output, are made of sources of which
 nothing is proved (translation.py), and run; so are the tests of the scripts, with the compiler that
-was made with them, and the worst inputs, against what they may take. All that is side by side, a
-processor each, and what takes longest comes first. What was made is kept in .unproved/ until its
+was made with them, and the worst inputs, against what they may take; these only where they have not
+kept to that with the same program before. All that is side by side, a processor each, and what
+takes longest comes first. What was made is kept in .unproved/ until its
 sources or the kit change. With WORD those alone are tried whose names have it.
 
 A line tells of each, and the last one is `N passed, N failed`. The status is 0 where none failed,
@@ -16,6 +17,7 @@ tried.
 
 import concurrent.futures
 import contextlib
+import hashlib
 import os
 import re
 import shutil
@@ -39,6 +41,7 @@ PATIENCE = 600  # seconds that a test may take at most
 WORST = "worst inputs"
 WORST_PATIENCE = 3600  # seconds for all of these
 SLOWER = 3  # times as long as the proved program an unproved one may take
+HELD = f"{kept.KEPT}/worst"  # the sum of a compiler and of the worst inputs, and their number
 TIMES = f"{kept.KEPT}/seconds"  # a line for each job that was run: the seconds and its name
 TEST = re.compile(r"#\[test\]\s*(?:#\[[^\]]*\]\s*)*fn (\w+)")
 NAMED = re.compile(r"^ *(class|def) (\w+)", re.M)
@@ -190,9 +193,26 @@ def script_jobs(word, compiler):
         yield Job(module, command, by_last_line, PATIENCE, how)
 
 
-def worst_job(compiler):
+def worst_job(compiler, when_held):
+    """The worst inputs; calls when_held where each kept its limits."""
+
+    def judge(status, said):
+        passed, failed, told = by_measures(status, said)
+        if not failed:
+            when_held(compiler, passed)
+        return passed, failed, told
+
     command = [f"{build.TOP}/bench/worst.sh", "--compiler", compiler]
-    return Job(WORST, command, by_measures, WORST_PATIENCE)
+    return Job(WORST, command, judge, WORST_PATIENCE)
+
+
+def sum_of_worst(compiler):
+    """A sum of a compiler and of the worst inputs."""
+    total = hashlib.sha256()
+    for name in (compiler, f"{build.TOP}/bench/worst.sh", f"{build.TOP}/bench/worst_inputs.py"):
+        with open(name, "rb") as file:
+            total.update(hashlib.sha256(file.read()).digest())
+    return total.hexdigest()
 
 
 class Run:
@@ -212,6 +232,24 @@ class Run:
                 seconds, name = line.rstrip("\n").split(" ", 1)
                 known[name] = float(seconds)
         return known
+
+    @staticmethod
+    def hold(compiler, count):
+        """Notes that so many worst inputs have kept their limits with this compiler."""
+        with open(HELD, "w", encoding="utf-8") as text:
+            print(sum_of_worst(compiler), count, file=text)
+
+    def held(self, compiler):
+        """Whether these worst inputs have kept their limits with this very compiler, which is said
+        then: they take minutes, and would take the same."""
+        with contextlib.suppress(OSError, ValueError), open(HELD, encoding="utf-8") as text:
+            total, count = text.read().split()
+            if total == sum_of_worst(compiler):
+                told = f"{WORST}: {count} passed with this program in an earlier run"
+                self.say(f"{told}; ./pra test worst runs them again")
+                self.passed += int(count)
+                return True
+        return False
 
     def keep_times(self):
         with contextlib.suppress(OSError), open(TIMES, "w", encoding="utf-8") as text:
@@ -285,7 +323,8 @@ class Run:
                 compiler = program if kept_name(suite) == build.COMPILER else compiler
         if compiler:
             jobs += script_jobs(self.word, compiler)
-            jobs += [worst_job(compiler)] if self.word in WORST else []
+        if compiler and self.word in WORST and not (self.word == "" and self.held(compiler)):
+            jobs.append(worst_job(compiler, self.hold))
         jobs.sort(key=lambda it: self.times.get(it.name, it.limit), reverse=True)
         for _ in self.at_once(self.run, jobs):
             pass
