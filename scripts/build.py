@@ -13,6 +13,7 @@ proved, and for how long. The status is 0 where all is built, 6 where NAME is no
 """
 
 import contextlib
+import glob
 import hashlib
 import os
 import re
@@ -29,6 +30,7 @@ import stopped
 TOP = os.path.dirname(os.path.dirname(os.path.realpath(__file__)))
 MEMORY_OF_ONE = 4 << 20  # kilobytes that the proof of one crate may take
 COMPILER = "pra"  # the program that is built where none is named
+COPIES = "copies-"  # how the folders of copies begin
 NO_WORDS = 6  # the status where the words are none of these
 NOT_BUILT = 70  # the status where the program was not built
 FROM_NOTHING = "two to four hours of processor time"  # README.md says the same
@@ -290,12 +292,16 @@ def build(name):
     os.makedirs(out, exist_ok=True)
     say(f"proving and building what is not built; from nothing that is {FROM_NOTHING},")
     say("a share of it for each processor; Ctrl-C ends it, and what is proved by then stays")
-    total = sum_of_sources(name)
-    with tempfile.TemporaryDirectory(prefix="copies-", dir=out) as room:
-        status = Build(name, room).run()
-    if not status:
-        with open(f"{out}/{name}.sources", "w", encoding="utf-8") as file:
-            print(total, file=file)
+    total, lock = sum_of_sources(name), f"{TOP}/crates/{COMPILER}/out/lock"
+    os.makedirs(os.path.dirname(lock), exist_ok=True)
+    with stopped.turn(lock, lambda: say("another build goes on; this one waits for it")):
+        for it in glob.glob(f"{TOP}/crates/*/out/{COPIES}*"):  # of builds that were killed
+            shutil.rmtree(it, ignore_errors=True)
+        with tempfile.TemporaryDirectory(prefix=COPIES, dir=out) as room:
+            status = Build(name, room).run()
+        if not status:
+            with open(f"{out}/{name}.sources", "w", encoding="utf-8") as file:
+                print(total, file=file)
     return status
 
 

@@ -8,7 +8,6 @@ The program of a crate's tests is kept as CRATE.tests, and that of a crate as CR
 """
 
 import contextlib
-import fcntl
 import functools
 import glob
 import hashlib
@@ -110,12 +109,7 @@ def one_build(if_waiting):
     """The right to build, once each build before has ended, however it did; calls if_waiting where
     one goes on. Ends with this process at the latest."""
     os.makedirs(KEPT, exist_ok=True)
-    with open(f"{KEPT}/lock", "ab") as lock:
-        try:
-            fcntl.flock(lock, fcntl.LOCK_EX | fcntl.LOCK_NB)
-        except BlockingIOError:
-            if_waiting()
-            fcntl.flock(lock, fcntl.LOCK_EX)
+    with stopped.turn(f"{KEPT}/lock", if_waiting):
         clear()
         yield
 

@@ -13,6 +13,7 @@ import translation
 
 TOP = os.path.dirname(os.path.dirname(os.path.realpath(__file__)))
 BUILT = f"{TOP}/crates/pra/out/pra"
+OTHER_ROOT = ["unshare", "--user", "--map-root-user", "chroot"]  # a command, before its folder
 PATIENCE, LOOK = 30, 0.02  # seconds that a test waits for something, and between two looks
 
 
@@ -61,6 +62,19 @@ def has_ended(process):
             return True
         time.sleep(LOOK)
     return False
+
+
+@functools.cache
+def has_other_root():
+    """Whether a call can have a folder as its root, without what the system tells of processes."""
+    words = [*OTHER_ROOT, "/", "true"]
+    if not all(map(shutil.which, ("unshare", "chroot"))):
+        return False
+    return not subprocess.run(words, capture_output=True, check=False).returncode
+
+
+def other_root(test):
+    return unittest.skipUnless(has_other_root(), "no call can have another root here")(test)
 
 
 def compiler(test):

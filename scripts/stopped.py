@@ -3,6 +3,7 @@ what it has called ends with it and its files are removed, and without a trace a
 
 import contextlib
 import ctypes
+import fcntl
 import os
 import signal
 import subprocess
@@ -55,6 +56,19 @@ def session(command, **how):
             finally:
                 watcher.kill()
                 end_session(it)
+
+
+@contextlib.contextmanager
+def turn(file, if_waiting):
+    """The turn of this process, where one at a time has it: by a lock on a file, which ends with the
+    process at the latest. Calls if_waiting where another one has it."""
+    with open(file, "ab") as lock:
+        try:
+            fcntl.flock(lock, fcntl.LOCK_EX | fcntl.LOCK_NB)
+        except BlockingIOError:
+            if_waiting()
+            fcntl.flock(lock, fcntl.LOCK_EX)
+        yield
 
 
 def status_of(call):

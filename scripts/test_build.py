@@ -7,8 +7,9 @@ import stat
 import subprocess
 import sys
 import tempfile
-import time
 import unittest
+
+import needs
 
 # As lib it leaves a library, as run the program's usage; it fails or lasts in a crate that says so.
 KIT = """#!/bin/sh
@@ -101,20 +102,25 @@ class Builds(unittest.TestCase):
 
     def test_a_signal_ends_all_that_was_begun(self):
         self.write("crates/high/src/lib.rt", "// it lasts\n")
-        for number in (signal.SIGINT, signal.SIGTERM):
+        for number in (signal.SIGINT, signal.SIGTERM, signal.SIGHUP, signal.SIGKILL):
             with self.begin("program") as it:
-                end = time.time() + SECONDS
-                while not os.path.exists(f"{self.top}/lasting") and time.time() < end:
-                    time.sleep(0.05)
+                kit = needs.process_in(f"{self.top}/lasting")
                 it.send_signal(number)
                 said, _ = it.communicate(timeout=SECONDS)
-            self.assertEqual((it.returncode, self.left()), (128 + number, []), said)
+            wanted = -number if number == signal.SIGKILL else 128 + number
+            self.assertEqual(it.returncode, wanted, said)
+            self.assertEqual(len(self.left()), number == signal.SIGKILL)
             self.assertNotIn("Traceback", said)
-            with open(f"{self.top}/lasting", encoding="utf-8") as file:
-                process = int(file.read())
-            self.assertFalse(os.path.exists(f"/proc/{process}/fd/1"), "it goes on")
-            os.remove(f"{self.top}/lasting")
+            self.assertTrue(needs.has_ended(kit), "it goes on")
         self.assertTrue(os.path.isfile(f"{self.top}/crates/middle/out/rlib/stamp"), "that stays")
+        self.write("crates/high/src/lib.rt", "// it is proved\n")
+        self.assertEqual((self.call("program")[0], self.left()), (0, []))
+
+    def test_builds_at_once_come_one_after_the_other(self):
+        calls = [self.begin("program") for _ in range(2)]
+        said = [it.communicate(timeout=SECONDS)[0] for it in calls]
+        self.assertEqual([it.returncode for it in calls], [0, 0], said)
+        self.assertEqual("".join(said).count("another build goes on"), 1, said)
 
 
 if __name__ == "__main__":
