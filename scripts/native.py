@@ -3,12 +3,13 @@
 
     native.py IMAGE [-o NAME] [--steps M] [--report REPORT]
 
-The program is written to NAME, or to IMAGE's name without its ending .pri. It reads and writes what
-`run` does, and has its statuses. It runs without end, or, with --steps here or among its own words,
-makes at most M steps and counts them. Each procedure is a symbol for a debugger, with its name where
-REPORT is what `compile` wrote of this image. gcc is asked to compile and link, with -m32. The status
-is 0, or that of the line on standard error: 3 and 4 where IMAGE is no image, as `list` says it, 5
-where a file can't be read or written, 6 where the words are none of these, 70 where gcc can't do it.
+The program is written to NAME, or to IMAGE's name without its ending .pri. It reads and writes
+what `run` does, and has its statuses. It runs without end, or, with --steps here or among its own
+words, makes at most M steps and counts them. Each procedure is a symbol for a debugger, with its
+name where REPORT is what `compile` wrote of this image. gcc is asked to compile and link, with
+-m32. The status is 0, or that of the line on standard error: 3 and 4 where IMAGE is no image, as
+`list` says it, 5 where a file can't be read or written, 6 where the words are none of these, 70
+where gcc can't do it.
 """
 
 import os

@@ -1,5 +1,5 @@
-"""How a script ends that is stopped from outside: as an exception that it meets where it is, so that
-what it has called ends with it and its files are removed, and without a trace at Ctrl-C."""
+"""How a script ends that is stopped from outside: as an exception that it meets where it is, so
+that what it has called ends with it and its files are removed, and without a trace at Ctrl-C."""
 
 import contextlib
 import ctypes
@@ -23,8 +23,8 @@ def by_signals():
 
 
 def ends_with_parent(number=signal.SIGKILL):
-    """What a child does before its program begins, so that it ends when its parent does, however that
-    ends: as preexec_fn of a Popen, in a thread that lasts as long as the child."""
+    """What a child does before its program begins, so that it ends when its parent does, however
+    that ends: as preexec_fn of a Popen, in a thread that lasts as long as the child."""
     system, parent = ctypes.CDLL(None), os.getpid()
 
     def prepare():
@@ -43,8 +43,8 @@ def end_session(process, number=signal.SIGTERM):
 
 @contextlib.contextmanager
 def session(command, **how):
-    """A command in a session of its own, which is told to end when this block does, or this process,
-    however that ends."""
+    """A command in a session of its own, which is told to end when this block does, or this
+    process, however that ends."""
     ending = {"stdin": subprocess.PIPE, "stdout": subprocess.DEVNULL, "stderr": subprocess.DEVNULL}
     how.update(start_new_session=True, preexec_fn=ends_with_parent(signal.SIGTERM))
     with subprocess.Popen(command, **how) as it:
@@ -60,8 +60,8 @@ def session(command, **how):
 
 @contextlib.contextmanager
 def turn(file, if_waiting):
-    """The turn of this process, where one at a time has it: by a lock on a file, which ends with the
-    process at the latest. Calls if_waiting where another one has it."""
+    """The turn of this process, where one at a time has it: by a lock on a file, which ends with
+    the process at the latest. Calls if_waiting where another one has it."""
     with open(file, "ab") as lock:
         try:
             fcntl.flock(lock, fcntl.LOCK_EX | fcntl.LOCK_NB)

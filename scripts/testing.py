@@ -73,8 +73,8 @@ class Suite:
 
 @dataclass
 class Job:
-    """Something to run; `judge` has its status and what it said, and tells how many passed, how many
-    failed, and what to say of these."""
+    """Something to run; `judge` has its status and what it said, and tells how many passed, how
+    many failed, and what to say of these."""
 
     name: str
     command: list

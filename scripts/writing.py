@@ -73,8 +73,8 @@ def write_beside(target, data, old, is_program):
 
 
 def write(name, data, read=(), is_program=False):
-    """Makes a file hold these bytes. `read` names the files that the call has read. WriteFault where
-    it can't be done; the old file is then as it was, if it is a regular one."""
+    """Makes a file hold these bytes. `read` names the files that the call has read. WriteFault
+    where it can't be done; the old file is then as it was, if it is a regular one."""
     old = check(name, read)
     try:
         if old:  # (where that may not be written, its folder might still let it be replaced)
@@ -130,8 +130,8 @@ def keep_closed_streams(*streams):
 
 def text_stream(number):
     raw = Stream(number)
-    how = {"encoding": "utf-8", "errors": "surrogateescape" if number == OUT else "backslashreplace"}
-    how["line_buffering"] = number == NOTES or raw.isatty()
+    errors = "surrogateescape" if number == OUT else "backslashreplace"
+    how = {"encoding": "utf-8", "errors": errors, "line_buffering": number == NOTES or raw.isatty()}
     return io.TextIOWrapper(io.BufferedWriter(raw), **how)
 
 
