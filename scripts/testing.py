@@ -15,9 +15,10 @@ A line tells of each, and the last one is `N passed, N failed`. The status is 0 
 tried.
 """
 
-import concurrent.futures
 import contextlib
 import hashlib
+import heapq
+import itertools
 import os
 import re
 import shutil
@@ -35,11 +36,13 @@ import tests
 import translation
 
 USAGE = "usage: pra test [WORD]"
+BEFORE_TESTS = 1000  # seconds that a program to be made counts for, more than a test
 NOTHING = "nothing is proved by this, and what runs is unproved; rt ci proves and runs all"
 FAILED, NO_WORDS, NO_ANSWER = 1, 6, 70  # statuses
 PATIENCE = 600  # seconds that a test may take at most
 WORST = "worst inputs"
 WORST_PATIENCE = 3600  # seconds for all of these
+GRACE = 5  # seconds for what is stopped to end
 SLOWER = 3  # times as long as the proved program an unproved one may take
 HELD = f"{kept.KEPT}/worst"  # the sum of a compiler and of the worst inputs, and their number
 TIMES = f"{kept.KEPT}/seconds"  # a line for each job that was run: the seconds and its name
@@ -215,13 +218,64 @@ def sum_of_worst(compiler):
     return total.hexdigest()
 
 
+class Work:
+    """Things to be done side by side, which may add further ones; what lasts longest goes first."""
+
+    def __init__(self):
+        self.waiting, self.at_work, self.errors = [], 0, []
+        self.turn, self.numbers = threading.Condition(), itertools.count()
+
+    def add(self, seconds, call):
+        with self.turn:
+            heapq.heappush(self.waiting, (-seconds, next(self.numbers), call))
+            self.turn.notify()
+
+    def next(self):
+        """The next thing, or None where nothing is left and nothing can come."""
+        with self.turn:
+            while not self.waiting and self.at_work:
+                self.turn.wait()
+            if not self.waiting or self.errors:
+                return None
+            self.at_work += 1
+            return heapq.heappop(self.waiting)[-1]
+
+    def be_busy(self):
+        while call := self.next():
+            try:
+                call()
+            except BaseException as error:
+                self.errors.append(error)
+            with self.turn:
+                self.at_work -= 1
+                self.turn.notify_all()
+
+    def do(self, count, end):
+        """Does it all, so many at once; calls end where this is stopped."""
+        workers = [threading.Thread(target=self.be_busy, daemon=True) for _ in range(count)]
+        for it in workers:
+            it.start()
+        try:
+            for it in workers:
+                it.join()
+        except BaseException as error:
+            self.errors.append(error)
+            end()
+            for it in workers:
+                it.join(GRACE)
+            raise
+        if self.errors:
+            raise self.errors[0]
+
+
 class Run:
     """A run of all, with what has passed and failed so far."""
 
     def __init__(self, word):
         self.word, self.passed, self.failed = word, 0, []
         self.makes = 0  # how many programs are to be made
-        self.commands, self.turn, self.begun = build.Commands(), threading.Lock(), time.time()
+        self.commands, self.work = build.Commands(), Work()
+        self.turn, self.begun = threading.Lock(), time.time()
         self.times = self.known_times()
 
     @staticmethod
@@ -269,17 +323,8 @@ class Run:
             elif passed:
                 self.say(f"{name}: {passed} passed")
 
-    def at_once(self, work, items):
-        """Does something with each item, as many at once as there are processors."""
-        with concurrent.futures.ThreadPoolExecutor(kept.processors()) as pool:
-            try:
-                yield from zip(items, pool.map(work, items))
-            except BaseException:
-                self.commands.end()
-                raise
-
-    def make(self, suite):
-        """Has a suite made, where it is not kept; the program, or None."""
+    def made(self, suite):
+        """The program of a suite, which is made where it is not kept; or None."""
         name = kept_name(suite)
         if not (found := kept.program(name)):
             parts = max(1, kept.processors() // max(1, self.makes))
@@ -292,14 +337,18 @@ class Run:
             self.say(f"{name}: made")
         return found
 
-    def made(self, all_suites):
-        """The suites with their programs."""
-        with kept.one_build(lambda: self.say("another call builds; this one waits for that")):
-            missing = [it for it in all_suites if not kept.program(kept_name(it))]
-            self.makes = len(missing)
-            if missing:
-                self.say(f"{len(missing)} of {len(all_suites)} programs are made, some minutes")
-            return list(self.at_once(self.make, all_suites))
+    def take(self, suite):
+        """Has a suite made, and what it is to run done later; of the compiler also what asks it."""
+        if not (program := self.made(suite)):
+            return
+        jobs = list(test_jobs(suite, program, self.word))
+        if kept_name(suite) == build.COMPILER:
+            jobs += script_jobs(self.word, program)
+            if self.word in WORST and not (self.word == "" and self.held(program)):
+                jobs.append(worst_job(program, self.hold))
+        for it in jobs:
+            seconds = it.limit if it.name == WORST else self.times.get(it.name, it.limit)
+            self.work.add(seconds, lambda job=it: self.run(job))
 
     def run(self, job):
         """Runs a job in a folder of its own."""
@@ -315,19 +364,16 @@ class Run:
         self.count(job.name, *job.judge(*ran))
 
     def all(self):
-        all_suites = sorted(suites(self.word), key=Suite.weight, reverse=True)
-        jobs, compiler = [], None
-        for suite, program in self.made(all_suites):
-            if program:
-                jobs += test_jobs(suite, program, self.word)
-                compiler = program if kept_name(suite) == build.COMPILER else compiler
-        if compiler:
-            jobs += script_jobs(self.word, compiler)
-        if compiler and self.word in WORST and not (self.word == "" and self.held(compiler)):
-            jobs.append(worst_job(compiler, self.hold))
-        jobs.sort(key=lambda it: self.times.get(it.name, it.limit), reverse=True)
-        for _ in self.at_once(self.run, jobs):
-            pass
+        all_suites = sorted(suites(self.word), key=Suite.weight)
+        with contextlib.ExitStack() as held:
+            if not all(kept.program(kept_name(it)) for it in all_suites):
+                held.enter_context(kept.one_build(lambda: self.say("another call builds; waiting")))
+            self.makes = sum(not kept.program(kept_name(it)) for it in all_suites)
+            if self.makes:
+                self.say(f"{self.makes} of {len(all_suites)} programs are made, some minutes")
+            for number, suite in enumerate(all_suites):
+                self.work.add(BEFORE_TESTS + number, lambda it=suite: self.take(it))
+            self.work.do(kept.processors(), self.commands.end)
         self.keep_times()
 
 
