@@ -11,7 +11,8 @@ ghost use Rattle.net_laws.specs.Built.{IsBuilt};
 ghost use Rattle.net_dual.specs.Priced.{AreInRange};
 ghost use Rattle.net_path.specs.Desk.{IsReservedFor};
 ghost use Rattle.al_laws.specs.Laid.{AreLaid};
-ghost use Rattle.al_iter.specs.LaidSoFar.{IsBlockedStrand, IsLaidSoFar, IsLayFault, routes_of};
+ghost use Rattle.al_iter.specs.LaidSoFar.{IsBlockedStrand, IsBlockedWith, IsLaidSoFar};
+ghost use Rattle.al_iter.specs.LaidSoFar.{IsLayFault, IsLayRoom, routes_of};
 ghost use Rattle.al_iter.specs.declared.laying.LayFault.TheVariants as fault;
 
 use crate::order::plan_ends;
@@ -23,15 +24,30 @@ use pra_packed::Packed;
 use std::alloc::Global;
 use thiserror::Error;
 
+/// A strand that has no path with the plan's ends past what is taken, which is what the strands
+/// before it in the order use.
+#[derive(Debug, PartialEq, Eq, Drop)]
+pub struct BlockedStrand {
+    pub strand: u32,
+    pub taken: Taken,
+}
+
 /// Why there are no routes.
 #[derive(Debug, PartialEq, Eq, Drop, Error)]
 pub enum LayFault {
-    /// This strand has no path with the plan's ends past what is taken, which is what the strands
-    /// before it in the order use.
+    /// This strand is blocked by what is taken.
     #[error("strand {0} has no path left")]
     Blocked(u32, Taken),
     #[error("out of memory")]
     OutOfMemory,
+}
+
+impl From<BlockedStrand> for LayFault {
+    ghost from_gives = { λ blocked told. told ≡ fault.Blocked blocked.strand blocked.taken };
+
+    fn from(blocked: BlockedStrand) -> Self {
+        LayFault::Blocked(blocked.strand, blocked.taken)
+    }
 }
 
 impl From<OutOfMemory> for LayFault {
@@ -51,6 +67,29 @@ fn some_paths(alloc: Global, net: &Net) -> Result<Packed<Place>, OutOfMemory>
         paths.push_filled(Place::Eax, strand.masks.len())?;
     }
     Ok(paths)
+}
+
+/// All memory that laying takes beside the room for least paths: paths, and what they use.
+#[derive(Drop)]
+pub struct LayRoom {
+    paths: Packed<Place>,
+    taken: Taken,
+}
+
+impl LayRoom {
+    /// Room for the strands of a network.
+    ///
+    /// # Errors
+    ///
+    /// Where there is no memory for it.
+    pub fn reserve(alloc: Global, net: &Net) -> Result<LayRoom, OutOfMemory>
+        ensures { IfOk result (IsLayRoom net.now) }
+    {
+        Ok(LayRoom {
+            paths: some_paths(alloc, net)?,
+            taken: Taken::empty(alloc, net)?,
+        })
+    }
 }
 
 // Lays the strand that is next in the order, where it has a path left.
@@ -90,20 +129,22 @@ fn lay_next<F: Fn(Event, u32) -> u32>(
 }
 
 /// Lays the strands in the order: each gets a path of least priced cost with the plan's ends, among
-/// those that use nothing which the paths before it use. It takes no memory but that of its answer.
+/// those that use nothing which the paths before it use. All memory was taken before, so a strand
+/// that has no path left is the only reason for which there are no routes.
 ///
 /// # Errors
 ///
-/// `Blocked` where a strand has no path left, with what is taken then.
+/// The strand that has no path left, with what is taken then.
 pub fn lay_in<F: Fn(Event, u32) -> u32>(
-    alloc: Global,
+    room: LayRoom,
     work: &mut Work,
     net: &Net,
     model: &CostModel<F>,
     prices: &Prices,
     plan: &Plan,
     order: &[u32],
-) -> Result<Routes, LayFault>
+) -> Result<Routes, BlockedStrand>
+    requires room { IsLayRoom net.now room }
     requires kept { Keeps F.Fn model.now }
     requires net { IsBuilt net.now }
     requires work { IsReservedFor net.now work.old }
@@ -114,19 +155,24 @@ pub fn lay_in<F: Fn(Event, u32) -> u32>(
         order.now) }
     ensures routes { IfOk result (AreRoutes net.now) }
     ensures admitted { IfOk result (λ routes. IsAdmitted net.now (flow net.now routes)) }
-    ensures fault { IfErr result (IsLayFault net.now (weights_of model.now) prices.now plan.now
-        order.now) }
+    ensures blocked { IfErr result (IsBlockedWith net.now (weights_of model.now) prices.now
+        plan.now order.now) }
     ensures family { work.new.family ≡ work.old.family }
     ensures reserved { IsReservedFor net.now work.new }
 {
-    let mut paths = some_paths(alloc, net)?;
-    let mut taken = Taken::empty(alloc, net)?;
+    let LayRoom {
+        mut paths,
+        mut taken,
+    } = room;
     for at in 0..order.len() {
         let next = lay_next(
             work, net, model, prices, plan, order, at, &mut taken, &mut paths,
         );
         if next.is_err() {
-            return Err(LayFault::Blocked(order[at], taken));
+            return Err(BlockedStrand {
+                strand: order[at],
+                taken,
+            });
         }
     }
     Ok(Routes { places: paths })
@@ -136,7 +182,8 @@ pub fn lay_in<F: Fn(Event, u32) -> u32>(
 ///
 /// # Errors
 ///
-/// As of [`lay_in`].
+/// `Blocked` where a strand has no path left, with what is taken then, and `OutOfMemory` where
+/// there is no memory for the room.
 pub fn lay<F: Fn(Event, u32) -> u32>(
     alloc: Global,
     net: &Net,
@@ -157,6 +204,8 @@ pub fn lay<F: Fn(Event, u32) -> u32>(
     ensures fault { IfErr result (IsLayFault net.now (weights_of model.now) prices.now plan.now
         order.now) }
 {
+    let room = LayRoom::reserve(alloc, net)?;
     let mut work = Work::reserve(alloc, net, model)?;
-    lay_in(alloc, &mut work, net, model, prices, plan, order)
+    let routes = lay_in(room, &mut work, net, model, prices, plan, order)?;
+    Ok(routes)
 }

@@ -16,8 +16,8 @@
 //!   strand 1  Const      .  .  .  .  .  .   strand 0    Eax  .  .  .  .  .
 //! ```
 //!
-//! [`lay_in`] is the same in a room that is there already: it takes no memory but that of its
-//! answer.
+//! [`lay_in`] is the same in room that was made before ([`LayRoom`]): it takes no memory, so its
+//! answer is routes or a strand that is blocked, and nothing else.
 //!
 //! # Settling
 //!
@@ -41,6 +41,6 @@ mod settle_strand;
 mod settle_strands;
 mod settle_variable;
 
-pub use laying::{LayFault, lay, lay_in};
+pub use laying::{BlockedStrand, LayFault, LayRoom, lay, lay_in};
 pub use order::priced_order;
 pub use settle_passes::settle;

@@ -170,3 +170,31 @@ module _ (net : Net) (w : Weights) (stages : List Stage) (are : AreStages net w 
     pub bound_above_free : (free : ℕ) → IsFreeBound net w free → free ≤ b
     bound_above_free free is_free = rounded_above best.value b free best.rounded
         (above_free k prices best.value best.greatest free is_free)
+
+  -- round 0 has no prices but those of nothing
+  module _ (prices : Prices) (b : ℕ) (best : IsBest stages 0 prices b) where
+    first_prices : IsFirstGreatest stages 0 prices best.value → prices ≡ zero_prices net
+    first_prices f =
+        let until = f.until in
+        let at : f.at ≡ 0 = omega (arith, until) in
+        f.same_prices
+        ∙ are.starts f.stage (subst (λ n. slice_get stages n ≡ Some f.stage) at f.there)
+
+    last_prices : IsLastRaised stages 0 prices best.value → prices ≡ zero_prices net
+    last_prices r = r.same_prices ∙ are.rise_from r.stage r.there
+
+    -- so its bound is what these are worth
+    pub first_bound : (z : ℤ) → IsLagrange net w (zero_prices net) z → IsRoundedUp z b
+    first_bound z is =
+        let none = ⊎_elim first_prices last_prices best.greatest.one in
+        let same = one_lagrange net w (zero_prices net) best.value z
+        (subst (λ p. IsLagrange net w p best.value) none
+        (greatest_value 0 prices best.value best.greatest)) is in
+        subst (λ v. IsRoundedUp v b) same best.rounded
+
+    pub first_is_free : (free : ℕ) → IsFreeBound net w free → b ≡ free
+    first_is_free free is_free =
+        let up = first_bound (pos (1024 * free)) ((free_bound net w free).0 is_free) in
+        let below = rounded_below (pos (1024 * free)) b free up (omega (arith, ints)) in
+        let above = rounded_above (pos (1024 * free)) b free up (omega (arith, ints)) in
+        omega (arith, below, above)

@@ -2,6 +2,7 @@ pub mod Allocations
 pub mod Ascents
 pub mod Candidates
 pub mod Lines
+pub mod Noted
 pub mod Rounds
 pub mod Stages
 pub mod Tried

@@ -1,9 +1,10 @@
 // Prices that are raised beside those of the price steps, for the sake of the bound.
 
-ghost use Rattle.std.specs.Prelude.{◌≡◌, ◌≤ℤ◌, IfOk};
+ghost use Rattle.std.specs.Prelude.{◌≡◌, true, false, pos, ◌+ℤ◌, ◌≤ℤ◌, ◌<ℤ◌, IfOk};
 ghost use Rattle.net_cost.specs.Models.{Keeps, weights_of};
 ghost use Rattle.net_laws.specs.Built.{IsBuilt};
 ghost use Rattle.al_round.specs.Ascents.{AreRaisedPrices};
+ghost use Rattle.al_round.specs.Noted.{HasNoted};
 ghost use Rattle.al_round.specs.Rounds.{HasItsValue, IsRoundRoom};
 
 use crate::copies::{copy_prices, overwrite_prices};
@@ -19,6 +20,17 @@ use std::mem;
 
 // What a value has to rise by to count as gained: a unit of cost.
 const UNIT: i128 = 1024;
+
+// Whether a value rose by so much.
+fn is_gained(before: i128, now: i128) -> bool
+    ensures rose { result ≡ true → (before +ℤ pos 1024) ≤ℤ now }
+    ensures stayed { result ≡ false → now <ℤ (before +ℤ pos 1024) }
+{
+    if now < i128::MIN + UNIT {
+        return false;
+    }
+    now - UNIT >= before
+}
 
 /// Raised prices, their Lagrange value in units of 1/1024, and how often they are swept.
 #[derive(Drop)]
@@ -53,7 +65,8 @@ impl Raised {
     }
 
     /// Tries to raise the prices, in a round of this number. They are replaced where the ascent
-    /// says that their value is no lower and their exact value is not. It takes no memory.
+    /// says that their value is no lower and their exact value is not. How many sweeps were made,
+    /// and whether the value rose by a unit of cost, is noted for later rounds. It takes no memory.
     pub(crate) fn raise<F: Fn(Event, u32) -> u32>(
         &mut self,
         room: &mut RoundRoom,
@@ -70,6 +83,7 @@ impl Raised {
         ensures raised { AreRaisedPrices net.now (weights_of model.now) self.old.prices
             self.new.prices }
         ensures no_lower { self.old.value ≤ℤ self.new.value }
+        ensures noted { HasNoted self.old self.new }
     {
         let sweeps = self.sweeps.in_round(round);
         if sweeps == 0 {
@@ -77,8 +91,8 @@ impl Raised {
         }
         let before = self.value;
         self.sweep(room, net, model, sweeps);
-        let is_gained = self.value.saturating_sub(before) >= UNIT;
-        self.sweeps.note(sweeps, is_gained);
+        let gained = is_gained(before, self.value);
+        self.sweeps.note(sweeps, gained);
     }
 
     // The same by so many sweeps.
@@ -98,6 +112,7 @@ impl Raised {
         ensures raised { AreRaisedPrices net.now (weights_of model.now) self.old.prices
             self.new.prices }
         ensures no_lower { self.old.value ≤ℤ self.new.value }
+        ensures sweeps { self.new.sweeps ≡ self.old.sweeps }
     {
         let first = self.sweeps.made();
         overwrite_prices(&mut room.next, &self.prices);

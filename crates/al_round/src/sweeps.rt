@@ -1,5 +1,8 @@
 // How many sweeps the ascent of a round makes.
 
+ghost use Rattle.std.specs.Prelude.{◌≡◌};
+ghost use Rattle.al_round.specs.Noted.{noted};
+
 use net_form::{Prices, Routes};
 
 // So many sweeps raise prices in round 1, and so many in each round after it.
@@ -71,7 +74,9 @@ impl Sweeps {
     }
 
     /// Notes that so many more were made, and whether something was gained by them.
-    pub(crate) fn note(&mut self, sweeps: u32, is_gained: bool) {
+    pub(crate) fn note(&mut self, sweeps: u32, is_gained: bool)
+        ensures { self.new ≡ noted self.old sweeps is_gained }
+    {
         self.made = self.made.saturating_add(sweeps);
         self.fruitless = if is_gained {
             0

@@ -8,12 +8,13 @@ ghost use Rattle.net_laws.specs.Built.{IsBuilt};
 ghost use Rattle.net_dual.specs.Priced.{AreInRange};
 ghost use Rattle.net_dual.specs.Step.{IsNext};
 ghost use Rattle.net_path.specs.Desk.{IsReservedFor};
+ghost use Rattle.al_iter.specs.LaidSoFar.{IsLayRoom};
 ghost use Rattle.al_round.specs.Tried.{IsOutcome, IsTried};
 
 use crate::copies::overwrite_prices;
 use crate::tried::{Outcome, Tried};
 use al_edge::plan_in;
-use al_iter::{LayFault, lay_in, priced_order};
+use al_iter::{BlockedStrand, LayRoom, lay_in, priced_order};
 use net_cost::{CostModel, Event};
 use net_form::{Net, Plan, Prices, Routes};
 use net_path::Work;
@@ -36,31 +37,32 @@ pub(crate) fn step_prices(next: &mut Prices, prices: &Prices, net: &Net, family:
     step(next, net, family, k);
 }
 
-// What laying by a plan and an order comes to.
+// What laying by a plan and an order comes to. All memory was taken before, so there is no answer
+// for want of it.
 fn lay_by<F: Fn(Event, u32) -> u32>(
-    alloc: Global,
+    room: LayRoom,
     work: &mut Work,
     net: &Net,
     model: &CostModel<F>,
     prices: &Prices,
     plan: &Plan,
     order: &[u32],
-) -> Result<Outcome, OutOfMemory>
+) -> Outcome
+    requires room { IsLayRoom net.now room }
     requires kept { Keeps F.Fn model.now }
     requires net { IsBuilt net.now }
     requires work { IsReservedFor net.now work.old }
     requires prices { AreInRange net.now prices.now }
     requires order { IsPermutation (range_with_len 0 (length net.now.strands)) order.now }
     requires many { length plan.now.places ≡ net.now.groups }
-    ensures outcome { IfOk result (IsOutcome net.now (weights_of model.now) prices.now plan.now
-        order.now 0) }
+    ensures outcome { IsOutcome net.now (weights_of model.now) prices.now plan.now order.now 0
+        result }
     ensures family { work.new.family ≡ work.old.family }
     ensures reserved { IsReservedFor net.now work.new }
 {
-    match lay_in(alloc, work, net, model, prices, plan, order) {
-        Ok(routes) => Ok(Outcome::Laid(routes)),
-        Err(LayFault::Blocked(strand, taken)) => Ok(Outcome::Blocked(strand, taken)),
-        Err(LayFault::OutOfMemory) => Err(OutOfMemory),
+    match lay_in(room, work, net, model, prices, plan, order) {
+        Ok(routes) => Outcome::Laid(routes),
+        Err(BlockedStrand { strand, taken }) => Outcome::Blocked(strand, taken),
     }
 }
 
@@ -69,7 +71,7 @@ fn lay_by<F: Fn(Event, u32) -> u32>(
 ///
 /// # Errors
 ///
-/// Where there is no memory for it.
+/// Where there is no memory for it. A strand that is blocked is an outcome, and no fault.
 pub(crate) fn try_prices<F: Fn(Event, u32) -> u32>(
     alloc: Global,
     work: &mut Work,
@@ -87,7 +89,8 @@ pub(crate) fn try_prices<F: Fn(Event, u32) -> u32>(
 {
     let plan = plan_in(alloc, work, net, model, prices)?;
     let order = priced_order(alloc, work, net, model, prices, &plan)?;
-    let outcome = lay_by(alloc, work, net, model, prices, &plan, order.as_slice())?;
+    let room = LayRoom::reserve(alloc, net)?;
+    let outcome = lay_by(room, work, net, model, prices, &plan, order.as_slice());
     Ok(Tried {
         plan,
         order: Seq::from_vec(order),

@@ -10,7 +10,10 @@ use net_form::{Net, Prices};
 
 /// Raises prices by so many sweeps, of which the first has this number; fewer, where no more is
 /// gained. The number decides how far prices move, so sweeps that go on from earlier ones go on
-/// with their numbers. The same call gives the same prices; it takes no memory.
+/// with their numbers. It takes no memory.
+///
+/// All that is read of the room is made anew, so the same call gives the same prices, whatever the
+/// room served before. No clause says so; it is tested.
 ///
 /// What comes back is the ascent's own sum of what the network is worth at the new prices, in
 /// units of 1/1024. It is exact where no cost was cut short, but nothing rests on it.

@@ -18,14 +18,15 @@ use Rattle.net_form.specs.Cost.{cost_of}
 use Rattle.net_form.specs.Flow.{Edge, flow}
 use Rattle.pl_place.specs.Behind.{Routed}
 use Rattle.al_laws.specs.Settled.{AreSettled}
-use Rattle.al_round.specs.Lines.{AreLines}
+use Rattle.al_round.specs.Lines.{AreLines, IsCost}
 use Rattle.al_round.specs.Watches.{WasObeyed, verdict_of}
 use Rattle.al_round.specs.declared.watch.Verdict.TheVariants.{Go, Stop}
 use Rattle.pra_report.specs.declared.report.ProcOut.{ProcOut}
 use Rattle.pra_report.specs.Report.{last_line, last_cost, last_bound}
 use Rattle.al_round.proofs.Chain.{are_a_chain, are_an_ascent}
 use Rattle.pra_compile.specs.Compiled.{Wanted, IsGranted, IsProcOut}
-use Rattle.pra_compile.specs.Mechanism.{ComeFromPrices, WereLaid}
+use Rattle.pra_compile.specs.Mechanism.{ComeFromStages, WereLaidBy, ComeFromPrices, WereLaid}
+use Rattle.pra_compile.specs.Mechanism.{HaveOneChain}
 use Rattle.pra_compile.proofs.Done.{there_is}
 
 -- ---- rounds that began with one line
@@ -80,6 +81,11 @@ module _ (wanted : Wanted) (net : Net) (routes : Routes) (prices : Prices) (line
       IsAdmitted net f → line.bound ≤ cost_of net wanted.weights f
   no_flow_less k line f there a = (are_lines.each k line there).holds f a
 
+  pub cost_of_routes : (k : ℕ) (line : Line) → slice_get lines k ≡ Some line →
+      (best : Routes) × IsCost net wanted.weights k line.cost best
+  cost_of_routes k line there =
+      ((are_lines.each k line there).routes, (are_lines.each k line there).cost)
+
   from_to : (n j : ℕ) (l m : Line) → slice_get lines j ≡ Some l → slice_get lines (n + j) ≡ Some m →
       (m.cost ≤ l.cost) × (l.bound ≤ m.bound)
   from_to zero j l m e f =
@@ -132,28 +138,33 @@ module _ (wanted : Wanted) (net : Net) (routes : Routes) (prices : Prices) (line
       let some = some_line in
       omega (arith, many, some)
 
-  pub from_prices : ComeFromPrices net wanted.weights lines
-  from_prices =
+  come : ComeFromStages net wanted.weights granted.allocation.stages lines
+  come =
       let stages = granted.allocation.stages in
       let are = granted.allocation.allocated.are_stages in
       record {
-        stages = stages;
         chain = are_a_chain net wanted.weights stages are some_stage;
         ascent = are_an_ascent net wanted.weights stages are some_stage;
+        are_stages = are;
         many = sym are_lines.many;
         bounds = λ k line there.
             ((are_lines.each k line there).prices, (are_lines.each k line there).bound);
       }
 
+  laid_by : WereLaidBy net wanted.weights granted.allocation.stages lines
+  laid_by = record {
+    chain = come.chain;
+    laid = λ k line some there. (are_lines.each k line there).tried some;
+  }
+
+  pub from_prices : ComeFromPrices net wanted.weights lines
+  from_prices = record { stages = granted.allocation.stages; come = come }
+
   pub laid : WereLaid net wanted.weights lines
-  laid =
-      let stages = granted.allocation.stages in
-      record {
-        stages = stages;
-        chain = are_a_chain net wanted.weights stages granted.allocation.allocated.are_stages
-            some_stage;
-        laid = λ k line some there. (are_lines.each k line there).tried some;
-      }
+  laid = record { stages = granted.allocation.stages; laid = laid_by }
+
+  pub one_chain : HaveOneChain net wanted.weights lines
+  one_chain = record { stages = granted.allocation.stages; come = come; laid = laid_by }
 
   pub went_on : (k : ℕ) (line : Line) → k + 1 < length lines → slice_get lines k ≡ Some line →
       verdict_of wanted.gap line ≡ Go

@@ -4,3 +4,4 @@ pub mod Given
 pub mod Leaving
 pub mod Mechanism
 pub mod Tidied
+pub mod Visits

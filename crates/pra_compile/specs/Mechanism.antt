@@ -8,22 +8,40 @@ use Rattle.net_form.specs.declared.prices.Prices.{Prices}
 use Rattle.net_dual.specs.Step.{IsChain}
 use Rattle.al_round.specs.Ascents.{IsAscent}
 use Rattle.al_round.specs.Lines.{WasTried}
-use Rattle.al_round.specs.Stages.{Stage, IsBest, chain_of, ascent_of}
+use Rattle.al_round.specs.Stages.{Stage, AreStages, IsBest, chain_of, ascent_of}
 
--- There are a price chain and an ascent, round for round, such that the bound of each line is the
--- greatest value of the chain until then and of the ascent there, rounded up.
-pub record ComeFromPrices (net : Net) (w : Weights) (lines : List Line) : Type 0 where
-  pub stages : List Stage
+-- The prices of these stages are a chain, and those that were raised an ascent. Each stage has the
+-- Lagrange values of both, and the bound of its line is the greatest value of the chain until then
+-- and of the ascent there, rounded up.
+pub record ComeFromStages (net : Net) (w : Weights) (stages : List Stage) (lines : List Line)
+    : Type 0 where
   pub chain : IsChain net w (chain_of stages)
   pub ascent : IsAscent net w (ascent_of stages)
+  pub are_stages : AreStages net w stages
   pub many : length stages ≡ length lines
   pub bounds : (k : ℕ) (line : Line) → slice_get lines k ≡ Some line →
       (prices : Prices) × IsBest stages k prices line.bound
 
--- There is a price chain by whose prices, for each line from the first round on, a greedy plan, its
--- priced order and what laying came to were tried; what was laid costs the line's cost at least.
-pub record WereLaid (net : Net) (w : Weights) (lines : List Line) : Type 0 where
-  pub stages : List Stage
+-- By the prices of these stages, for each line from the first round on, a greedy plan, its priced
+-- order and what laying came to were tried; what was laid costs the line's cost at least.
+pub record WereLaidBy (net : Net) (w : Weights) (stages : List Stage) (lines : List Line)
+    : Type 0 where
   pub chain : IsChain net w (chain_of stages)
   pub laid : (k : ℕ) (line : Line) → 1 ≤ k → slice_get lines k ≡ Some line →
       WasTried net w stages k line.cost
+
+-- there are stages that bounds come from
+pub record ComeFromPrices (net : Net) (w : Weights) (lines : List Line) : Type 0 where
+  pub stages : List Stage
+  pub come : ComeFromStages net w stages lines
+
+-- there are stages that were laid by
+pub record WereLaid (net : Net) (w : Weights) (lines : List Line) : Type 0 where
+  pub stages : List Stage
+  pub laid : WereLaidBy net w stages lines
+
+-- and they are the same
+pub record HaveOneChain (net : Net) (w : Weights) (lines : List Line) : Type 0 where
+  pub stages : List Stage
+  pub come : ComeFromStages net w stages lines
+  pub laid : WereLaidBy net w stages lines

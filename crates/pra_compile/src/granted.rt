@@ -49,8 +49,8 @@ fn by_rounds<F: Fn(Event, u32) -> u32, G: Fn(Line) -> Verdict>(
     })
 }
 
-/// Routes by so many rounds at most for each procedure, or as many as the watch wants. The search of
-/// a round makes so many visits at most, which stand here by number of procedure.
+/// Routes by so many rounds at most for each procedure, or as many as the watch wants. The search
+/// of a round makes so many visits at most, which stand here by number of procedure.
 #[derive(Drop)]
 pub struct Granted<'a, F: Fn(Event, u32) -> u32, G: Fn(Line) -> Verdict> {
     pub rounds: u32,
@@ -60,22 +60,19 @@ pub struct Granted<'a, F: Fn(Event, u32) -> u32, G: Fn(Line) -> Verdict> {
 }
 
 impl<'a, F: Fn(Event, u32) -> u32, G: Fn(Line) -> Verdict> Allocator for Granted<'a, F, G> {
-    ghost use Rattle.std.specs.Prelude.{◌≤◌};
+    ghost use Rattle.std.specs.Prelude.{◌≤◌, ◌<◌, length};
     ghost use Rattle.al_round.specs.Watches.{IsWatch, gap_of};
     ghost use Rattle.net_cost.specs.Models.{Keeps, weights_of};
     ghost use Rattle.pra_compile.specs.Compiled.{granted, wanted_of};
 
     ghost takes = { λ by p code. Keeps F.Fn by.model.now × IsWatch G.Fn by.watch.now
-        × (by.rounds ≤ 1000) };
+        × (by.rounds ≤ 1000) × (p < length by.visits.now) };
 
     ghost leaves = { λ by. granted (wanted_of (weights_of by.model.now) by.rounds
         (gap_of by.watch.now)) };
 
     fn allocate(&self, alloc: Global, number: u32, code: &VProc) -> Result<Allocated, OutOfMemory> {
-        let visits = match self.visits.get(number as usize) {
-            Some(visits) => *visits,
-            None => 0,
-        };
+        let visits = self.visits[number as usize];
         by_rounds(alloc, code, self.rounds, self.model, self.watch, visits)
     }
 }

@@ -1,5 +1,8 @@
 // How far the search of a round goes, so that a round of any module ends in seconds.
 
+ghost use Rattle.std.specs.Prelude.{◌≤◌, length, IfOk};
+ghost use Rattle.pra_compile.specs.Visits.{AreShares};
+
 use pra_base::{OutOfMemory, VProc};
 use std::alloc::Global;
 
@@ -21,23 +24,40 @@ fn size_of(code: &VProc) -> u64 {
     instructions.saturating_mul(code.vars.len() as u64)
 }
 
+// The sizes of all procedures together, and one.
+fn size_of_all(codes: &[VProc]) -> u64 {
+    let mut all: u64 = 1;
+    for code in codes {
+        all = all.saturating_add(size_of(code));
+    }
+    all
+}
+
+// The share of a procedure of this size in the visits that are left of the module's, where all
+// sizes come to so much.
+fn share_of(size: u64, left: u64, all: u64) -> u64
+    ensures least { 200000 ≤ result }
+    ensures most { result ≤ 5000000 }
+{
+    let part = left.saturating_mul(size);
+    let share = part.checked_div(all).unwrap_or(0);
+    share.clamp(LEAST_VISITS, PROCEDURE_VISITS)
+}
+
 /// How many visits a round of each procedure makes at most: those of the module, shared out by
 /// size.
 ///
 /// # Errors
 ///
 /// Where there is no memory for it.
-pub fn shared_visits(alloc: Global, codes: &[VProc]) -> Result<Vec<u64>, OutOfMemory> {
-    let mut all: u64 = 1;
-    for code in codes {
-        all = all.saturating_add(size_of(code));
-    }
-    let mut visits = Vec::with_capacity(alloc, codes.len())?;
+pub fn shared_visits(alloc: Global, codes: &[VProc]) -> Result<Vec<u64>, OutOfMemory>
+    ensures { IfOk result (λ visits. AreShares (length codes.now) visits.items) }
+{
+    let all = size_of_all(codes);
     let left = MODULE_VISITS.saturating_sub(all);
+    let mut visits = Vec::with_capacity(alloc, codes.len())?;
     for code in codes {
-        let part = left.saturating_mul(size_of(code));
-        let share = part.checked_div(all).unwrap_or(0);
-        visits.push(share.clamp(LEAST_VISITS, PROCEDURE_VISITS))?;
+        visits.push(share_of(size_of(code), left, all))?;
     }
     Ok(visits)
 }

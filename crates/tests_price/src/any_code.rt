@@ -1,6 +1,6 @@
 // What holds of the network of any code: home routes and swept ones are admitted, line 0 has the
-// value at prices of nothing for its bound, and the search finds what plain loops find at the
-// prices of rounds.
+// value at prices of nothing for its bound, the search finds what plain loops find at the prices
+// of rounds, and an ascent finds the same once more.
 
 ghost use Rattle.std.specs.Prelude.{◌≤◌};
 ghost use Rattle.net_cost.specs.Models.{Keeps};
@@ -10,6 +10,7 @@ ghost use Rattle.net_laws.specs.Built.{IsBuilt};
 ghost use Rattle.net_path.specs.Desk.{IsReservedFor};
 
 use crate::compared::differing;
+use crate::raised::is_raised_again;
 use crate::rounded::VISITS;
 use al_edge::{home, plan};
 use al_round::Rounds;
@@ -158,10 +159,12 @@ pub(crate) fn differs_from_any<F: Fn(Event, u32) -> u32>(
     let swept = sweep_is_admitted(alloc, net, model)?;
     let valued = starts_at_value(alloc, net, model)?;
     let differing = differing_round(alloc, net, model)?;
-    if home && swept && valued && differing.is_none() {
+    let again = is_raised_again(alloc, net, model)?;
+    if home && swept && valued && again && differing.is_none() {
         return Ok(None);
     }
     let mut text = format!(in alloc; "home {home} swept {swept}")?;
+    text.push_str(format!(in alloc; " raised again {again}")?.as_str())?;
     text.push_str(format!(in alloc; " valued {valued} differing {differing:?}")?.as_str())?;
     Ok(Some(text))
 }

@@ -4,8 +4,9 @@
 //! `at_prices` asks `priced` for values and least paths, `planned` for plans, orders and how laying
 //! ends, `laid` for paths that are laid or are not, and `compared` holds least paths against plain
 //! loops. `settled` has what settling makes of routes, `rounded` what rounds come to, and
-//! `any_code` what holds of each code, whatever its row says. `reading`, `putting` and `made` are
-//! what all share. Nothing here is used by another crate.
+//! `any_code` what holds of each code, whatever its row says, with `raised` for what an ascent
+//! finds. `reading`, `putting` and `made` are what all share. Nothing here is used by another
+//! crate.
 #![tactic(auto)]
 
 #[cfg(test)]
@@ -24,6 +25,8 @@ mod planned;
 mod priced;
 #[cfg(test)]
 mod putting;
+#[cfg(test)]
+mod raised;
 #[cfg(test)]
 mod reading;
 #[cfg(test)]

@@ -90,9 +90,18 @@ fn lines_twice<F: Fn(Event, u32) -> u32>(
     Ok(Some(lines))
 }
 
+// Whether the bound of round 1 is above that of round 0.
+fn does_bound_rise(lines: &[Line]) -> bool {
+    match (lines.get(0), lines.get(1)) {
+        (Some(none), Some(first)) => first.bound > none.bound,
+        _ => false,
+    }
+}
+
 // Whether lines are those that a row wants: as many as were granted, unless the last cost is the
 // bound; with the least cost of all between bound and cost, and at the cost where it is `reached`;
-// and with a last cost below the first one where costs `fall`.
+// with a last cost below the first one where costs `fall`, and with a bound that round 1 raises
+// where bounds `rise`.
 fn are_wanted(lines: &[Line], row: &str) -> bool {
     let (Some(first), Some(last)) = (lines.first(), lines.last()) else {
         return false;
@@ -101,6 +110,9 @@ fn are_wanted(lines: &[Line], row: &str) -> bool {
         return false;
     }
     if field(row, "costs ") == "fall" && last.cost >= first.cost {
+        return false;
+    }
+    if field(row, "bounds ") == "rise" && !does_bound_rise(lines) {
         return false;
     }
     match least_of(row) {

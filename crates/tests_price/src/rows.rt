@@ -4,9 +4,10 @@
 // A row is lines, and what it does not say is not asked. Behind its name stand its code, what it is
 // weighed by (`size`, `speed` or `both`), and the least cost of all routes that are admitted;
 // `reached` stands there where rounds come to it. Costs `fall` where rounds end below the home
-// routes, and `first` is what the first round has: its cost and bound, the plan and the order that
-// it tried, and the paths that were laid. Then lines of routes, what they cost, and whether a
-// strand or a variable has a cheaper way (`loose`) or none has (`settled`).
+// routes, and bounds `rise` where round 1 raises the bound. `first` is what the first round has:
+// its cost and bound, the plan and the order that it tried, and the paths that were laid. Then
+// lines of routes, what they cost, and whether a strand or a variable has a cheaper way (`loose`)
+// or none has (`settled`).
 //
 // What stands behind `@` is found at prices, of which those that are 0 are left out; without it a
 // row is asked at prices of nothing. `value` is that of the network. A `path` is a least one, of a

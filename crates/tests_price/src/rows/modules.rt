@@ -16,6 +16,7 @@ add v23 v1; add v23 v2; add v23 v3; add v23 v4; add v23 v5; add v23 v6; add v23 
 write v23; return
 weights both
 costs fall
+bounds rise
 # the body of a module that calls three procedures
 code proc 0 0 plain plain plain plain plain plain plain plain plain plain plain plain plain 0 \
 plain plain plain plain plain 1 plain plain plain plain plain plain; read v0; store v0 global 2; \

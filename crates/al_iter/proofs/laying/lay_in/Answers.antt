@@ -11,11 +11,12 @@ pub loop-at-init : goal.loop-at-init
 loop-at-init g c =
     let net = c.args.net.now in
     let w = weights_of c.args.model.now in
+    let taken = c.args.room.taken in
     record {
       laid = subst (λ ps. IsLaidSoFar net w c.args.prices.now c.args.plan.now c.args.order.now 0
-          (routes_of ps) c.in_ok-taken.taken) (sym c.in_ok-paths.ensures)
+          (routes_of ps) taken) (sym c.requires.room.paths)
           (none_so_far net c.requires.net w c.args.prices.now c.args.plan.now c.args.order.now
-          c.in_ok-taken.taken c.in_ok-taken.ensures.room c.in_ok-taken.ensures.nothing);
+          taken c.requires.room.taken c.requires.room.nothing);
       family = refl;
       reserved = c.requires.work;
     }
