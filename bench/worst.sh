@@ -28,21 +28,21 @@ cd "$folder"
 # called, and its words. It is stopped where it takes ten times the one or four times the other.
 measured() {
     python3 - "$@" <<'PYTHON'
-import os, resource, subprocess, sys, threading
+import os, resource, subprocess, sys
 
 most_seconds, most_megabytes, name, *command = sys.argv[1:]
-memory = 4 * int(most_megabytes) << 20
+
+
+def confine():
+    memory, seconds = 4 * int(most_megabytes) << 20, 10 * int(most_seconds)
+    resource.setrlimit(resource.RLIMIT_AS, (memory, memory))
+    resource.setrlimit(resource.RLIMIT_CPU, (seconds, seconds))
+    resource.setrlimit(resource.RLIMIT_CORE, (0, 0))
+
+
 with open("told", "wb") as told:
-    child = subprocess.Popen(
-        command,
-        stdout=told,
-        stderr=subprocess.STDOUT,
-        preexec_fn=lambda: resource.setrlimit(resource.RLIMIT_AS, (memory, memory)),
-    )
-    stop = threading.Timer(10 * float(most_seconds), child.kill)
-    stop.start()
+    child = subprocess.Popen(command, stdout=told, stderr=subprocess.STDOUT, preexec_fn=confine)
     _, status, usage = os.wait4(child.pid, 0)
-    stop.cancel()
 seconds = usage.ru_utime + usage.ru_stime
 megabytes = usage.ru_maxrss / 1024
 with open("told", encoding="utf-8", errors="replace") as told:
