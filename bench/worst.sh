@@ -1,9 +1,10 @@
 #!/bin/sh
 # Prints how long the worst inputs take and how much memory is held at most, beside what each may
 # take: modules that keep all limits and have the largest networks (compiled with ten rounds and
-# with none), and small certificates about many live variables (checked). Seconds are of a
-# processor. The last line tells how many took more than they may; a compiler that is not named is
-# built: worst.sh [--compiler PROGRAM]
+# with none) or nest deepest (in little stack), one whose units are the longest (run by its
+# meaning), small certificates about many live variables, and large ones that are refused (both
+# checked). Seconds are of a processor. The last line tells how many took more than they may; a
+# compiler that is not named is built: worst.sh [--compiler PROGRAM]
 set -eu
 bench=$(cd "$(dirname "$0")" && pwd)
 program=
@@ -27,30 +28,30 @@ cd "$folder"
 # called, and its words. It is stopped where it takes ten times the one or four times the other.
 measured() {
     python3 - "$@" <<'PYTHON'
-import os, resource, subprocess, sys, threading
+import os, resource, subprocess, sys
 
 most_seconds, most_megabytes, name, *command = sys.argv[1:]
-memory = 4 * int(most_megabytes) << 20
+
+
+def confine():
+    memory, seconds = 4 * int(most_megabytes) << 20, 10 * int(most_seconds)
+    resource.setrlimit(resource.RLIMIT_AS, (memory, memory))
+    resource.setrlimit(resource.RLIMIT_CPU, (seconds, seconds))
+    resource.setrlimit(resource.RLIMIT_CORE, (0, 0))
+
+
 with open("told", "wb") as told:
-    child = subprocess.Popen(
-        command,
-        stdout=told,
-        stderr=subprocess.STDOUT,
-        preexec_fn=lambda: resource.setrlimit(resource.RLIMIT_AS, (memory, memory)),
-    )
-    stop = threading.Timer(10 * float(most_seconds), child.kill)
-    stop.start()
+    child = subprocess.Popen(command, stdout=told, stderr=subprocess.STDOUT, preexec_fn=confine)
     _, status, usage = os.wait4(child.pid, 0)
-    stop.cancel()
 seconds = usage.ru_utime + usage.ru_stime
 megabytes = usage.ru_maxrss / 1024
 with open("told", encoding="utf-8", errors="replace") as told:
     last = (told.read().splitlines() or [""])[-1]
 over = seconds > float(most_seconds) or megabytes > float(most_megabytes)
 if os.WIFSIGNALED(status):
-    last = f"killed by signal {os.WTERMSIG(status)}"
+    over, last = True, f"killed by signal {os.WTERMSIG(status)}"
 print(
-    f"{name:32} {os.path.getsize(name.split()[0]):7} bytes {seconds:8.2f} s of {most_seconds}"
+    f"{name:32} {os.path.getsize(name.split()[0]):8} bytes {seconds:8.2f} s of {most_seconds}"
     f" {megabytes:7.0f} MB of {most_megabytes}{'  OVER' if over else ''}  {last}",
     flush=True,
 )
@@ -58,14 +59,26 @@ sys.exit(1 if over else 0)
 PYTHON
 }
 
+# A certificate that holds may take its network; what is refused may not.
 over=0
 for text in *.cert; do
-    measured 10 1024 "$text check" "$program" check "$text" || over=$((over + 1))
+    most="2 300"
+    [ "$text" != backwards.cert ] || most="10 1024"
+    measured $most "$text check" "$program" check "$text" || over=$((over + 1))
 done
 for text in *.ob; do
     measured 2 300 "$text compile, 0 rounds" "$program" compile "$text" --rounds 0 ||
         over=$((over + 1))
 done
+for text in deep_*.ob; do
+    for mode in compile run interp; do
+        measured 2 300 "$text $mode, 640 KiB of stack" \
+            sh -c 'ulimit -s 640 && exec "$@"' sh "$program" $mode "$text" </dev/null ||
+            over=$((over + 1))
+    done
+done
+measured 5 300 "long_turns.ob interp, 10000 units" "$program" interp long_turns.ob --steps 10000 ||
+    over=$((over + 1))
 for text in *.ob; do
     measured 60 1024 "$text compile, 10 rounds" "$program" compile "$text" --rounds 10 ||
         over=$((over + 1))

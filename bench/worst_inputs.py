@@ -1,10 +1,14 @@
 """Writes inputs that take a compiler as long, or as much memory, as anybody could think of:
 worst_inputs.py FOLDER.
 
-Each module keeps all limits of the language: a procedure has as many empty statements as its nodes
-have room for, around which 126 variables live, so that its network is as large as one can be. The
-certificates are small texts about code with many live variables; but for one of them they claim no
-routes, or routes without a place, so that a checker may refuse them without a network.
+Each module keeps all limits of the language. A procedure has as many empty statements as its nodes
+have room for, or as many remainders, around which 126 variables live, so that its network is as
+large as one can be; or a chain of dead copies over many blocks; or operands that nest as deep as
+phrases may, for the stack. One runs long by the units that `interp` counts.
+
+Certificates are small texts about code with many live variables; but for one of them they claim no
+routes, or routes without a place, so that a checker may refuse them without a network. The large
+ones are JSON of 16 MiB: objects that no certificate has, and lists of its smallest parts.
 """
 
 import json
@@ -14,6 +18,8 @@ NODES = 2048
 LOCALS = 126
 VARIABLES = 16383
 BLOCKS = 4098
+DEEPEST = 62  # statements and operands that nest in the module's body
+MAX_BYTES = 16 << 20  # of a certificate
 
 
 def procedure(number, statement, nodes):
@@ -28,11 +34,70 @@ def procedure(number, statement, nodes):
     )
 
 
-def module(statement, nodes, procedures=1):
-    """A module of such procedures, each called once; a statement takes so many nodes."""
-    made = "".join(procedure(number, statement, nodes) for number in range(procedures))
-    calls = "; ".join(f"P{number}(s, c)" for number in range(procedures))
+def called(procedures):
+    """A module of procedures, each called once."""
+    calls = "; ".join(f"P{number}(s, c)" for number in range(len(procedures)))
+    made = "".join(procedures)
     return f"MODULE M;\nVAR s: INTEGER; c: BOOLEAN;\n{made}BEGIN {calls}; Write(s) END M.\n"
+
+
+def module(statement, nodes, procedures=1):
+    """A module of such procedures; a statement takes so many nodes."""
+    return called([procedure(number, statement, nodes) for number in range(procedures)])
+
+
+def remainders(number):
+    """A procedure of remainders by all of its variables, which live until they are summed up."""
+    names = [f"v{local}" for local in range(LOCALS)]
+    room = NODES - 2 * LOCALS - 14
+    body = []
+    while room > 5:
+        divisors = names[: min(LOCALS, room // 2 - 1)]
+        body.append(" MOD ".join(["r := r", *divisors]))
+        room -= 2 + 2 * len(divisors)
+    body.append(" + ".join(["r := r", *names]))
+    return (
+        f"PROCEDURE P{number}(VAR r: INTEGER; b: BOOLEAN);\n"
+        f"VAR {', '.join(names)}: INTEGER;\n"
+        "BEGIN\n" + ";\n".join(body) + f"\nEND P{number};\n"
+    )
+
+
+def copies(number):
+    """A procedure whose locals are copied into the next one, with blocks between; the last one is
+    read by nobody, so all copies are dead."""
+    names = [f"v{local}" for local in range(LOCALS)]
+    body = [
+        f"{to} := {first}; IF b & b & b & b THEN END" for first, to in zip(names, names[1:])
+    ]
+    return (
+        f"PROCEDURE P{number}(VAR r: INTEGER; b: BOOLEAN);\n"
+        f"VAR {', '.join(names)}: BOOLEAN;\n"
+        "BEGIN\n" + ";\n".join(body) + f"\nEND P{number};\n"
+    )
+
+
+def nested(first, last, inner="y", levels=DEEPEST):
+    """An operand around which a text stands as often as phrases may nest."""
+    return first * levels + inner + last * levels
+
+
+def deep(body):
+    """A module of one statement."""
+    variables = "x, y: INTEGER; b: BOOLEAN; a: ARRAY 5 OF INTEGER"
+    return f"MODULE M;\nVAR {variables};\nBEGIN {body} END M.\n"
+
+
+def deep_ifs(levels):
+    """Conditional statements in one another, the last one of a deep condition."""
+    condition = nested("1 + 1 * a[", "]", levels=DEEPEST - levels)
+    return deep(nested("IF b THEN ", " END", f"IF y = {condition} THEN END", levels))
+
+
+def long_turns():
+    """A loop without an end, whose test has as many nodes as a statement of the module may."""
+    terms = " + ".join(["s"] * (NODES // 2 - 2))
+    return f"MODULE M;\nVAR s: INTEGER;\nBEGIN REPEAT UNTIL {terms} # 0 END M.\n"
 
 
 def jump(block, *code):
@@ -99,23 +164,65 @@ def long_block(instructions):
     return [jump(2), jump(1, *code), [0, [], ["return"]]]
 
 
-def main():
-    folder = sys.argv[1]
-    texts = {
+def filled(part, before, behind):
+    """A text of so many bytes as a certificate may have: a list of one part again and again."""
+    room = MAX_BYTES - len(before) - len(behind)
+    return before + ",".join([part] * ((room + 1) // (len(part) + 1))) + behind
+
+
+def large():
+    """Texts of 16 MiB that are refused: lists of objects that no certificate has, and certificates
+    with a long list of small parts, whose bound is above their cost."""
+    whole = certificate([[0, [], ["return"]]], variables=1).replace('"bound":0', '"bound":1')
+    lists = {
+        "lines": ('["line"]', "[[0,[", "[[0,[]"),
+        "plains": ('["plain"]', '"vars":[', '"vars":[["plain"]'),
+        "caps": ("[0,0]", '"caps":[', '"caps":['),
+        "routes": ("[6]", '"routes":[', '"routes":['),
+        "paths": ("[]", '"routes":[', '"routes":['),
+        "blocks": ('[0,[],["return"]]', '"blocks":[', '"blocks":[[0,[],["return"]]'),
+    }
+    texts = {}
+    for name, (part, opens, stands) in lists.items():
+        at = whole.index(stands)
+        behind = whole[at + len(opens) :]
+        if stands.endswith(part):
+            behind = behind[len(part) :]
+        texts[f"large_{name}.cert"] = filled(part, whole[:at] + opens, behind)
+    texts["large_objects.cert"] = filled('{"":0}', "[", "]")
+    texts["large_nested.cert"] = filled('{"":' * 100 + "0" + "}" * 100, "[", "]")
+    texts["large_rows.cert"] = filled('["line"]', "[", "]")
+    return texts
+
+
+def all_texts():
+    """All inputs, by the names of their files."""
+    return {
         "repeats.ob": module("REPEAT UNTIL b", 2),
         "repeats_15.ob": module("REPEAT UNTIL b", 2, 15),
         "whiles.ob": module("WHILE b DO END", 2),
         "whiles_13.ob": module("WHILE b DO END", 2, 13),
         "ifs.ob": module("IF b THEN END", 2),
         "calls.ob": module("WriteLn", 1),
+        "remainders.ob": called([remainders(0)]),
+        "remainders_28.ob": called([remainders(number) for number in range(28)]),
+        "copies.ob": called([copies(0)]),
+        "copies_27.ob": called([copies(number) for number in range(27)]),
+        "deep_indexes.ob": deep("x := " + nested("1 + 1 * a[", "]")),
+        "deep_ifs.ob": deep_ifs(DEEPEST - 4),
+        "long_turns.ob": long_turns(),
         "everywhere_400.cert": certificate(everywhere(400)),
         "everywhere_4090.cert": certificate(everywhere(4090)),
         "backwards.cert": certificate(backwards(), [[6, 6]] * (BLOCKS - 2), 4),
         "leaps.cert": certificate(leaps()),
         "long.cert": certificate(long_block(8300), [[]] * VARIABLES),
+        **large(),
     }
-    for name, text in texts.items():
-        with open(f"{folder}/{name}", "w", encoding="ascii") as out:
+
+
+def main():
+    for name, text in all_texts().items():
+        with open(f"{sys.argv[1]}/{name}", "w", encoding="ascii") as out:
             out.write(text)
 
 
