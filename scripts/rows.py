@@ -3,26 +3,34 @@
 
     rows.py [COMMIT]    COMMIT is one before, or else the last one
 
-Tests are the crates tests_* and the files tests.rt of others. Of each a line tells how many test
-functions, lines of text tables, tuples and assertions it has. A text table is a string of more than
-one line; a tuple stands on lines of its own in a list of cases. Below the sums stands each line of
-a table that was there and is no more, whichever crate has it now: `= ` before it counts for nothing.
-The status is 1 where there is such a line.
+Tests are the crates tests_*, the files tests.rt of others, and the files of rows in tests/. Of each
+a line tells how many test functions, lines of text tables, tuples, assertions and calls it has. A
+text table is a string of more than one line; a tuple stands on lines of its own in a list of cases;
+calls are those of rows. Below the sums stands each line of a table and each call that was there and
+is no more, whichever crate or file has it now: `= ` before a line counts for nothing. The status is
+1 where there is such a line or call.
 """
 
 import collections
+import dataclasses
+import hashlib
 import os
+import pickle
 import re
 import subprocess
 import sys
 
+from calls import reader
+
 TOP = os.path.dirname(os.path.dirname(os.path.realpath(__file__)))
-TESTS = re.compile(r"crates/(tests_\w+)/src/.*\.rt$|crates/(\w+)/src/tests\.rt$")
+TESTS = re.compile(
+    r"crates/(tests_\w+)/src/.*\.rt$|crates/(\w+)/src/tests\.rt$|(tests/\w+\.rows)$"
+)
 TOKEN = re.compile(r"""//[^\n]*|"((?:[^"\\]|\\.)*)"|'(?:\\.|[^'\\])'""", re.S)
 TEST = re.compile(r"#\[test\]")
 TUPLE = re.compile(r"^ *\(.*\),$", re.M)
 ASSERTION = re.compile(r"\bassert(?:_eq|_ne)?!")
-KINDS = ("tests", "lines", "tuples", "assertions")
+KINDS = ("tests", "lines", "tuples", "assertions", "calls")
 
 
 def git(*words):
@@ -41,10 +49,24 @@ def lines_of(source):
     return [line for line in found if line]
 
 
+def calls_of(source):
+    """Of each call in a file of rows its row and its words, and a sum of all that is said of it."""
+    for row in reader.rows_of(source.encode()):
+        for call in row.calls:
+            said = hashlib.sha256(pickle.dumps(dataclasses.astuple(call))).hexdigest()
+            yield f"{row.name}: {' '.join(call.words)} ({said[:8]})"
+
+
 def counted(sources):
-    """The counts by crate, and how often each line of a table is there, of files by path."""
+    """The counts by crate or file of rows, and how often each line of a table and each call is
+    there, of files by path."""
     counts, lines = collections.defaultdict(collections.Counter), collections.Counter()
     for path, source in sources.items():
+        if path.endswith(".rows"):
+            own = list(calls_of(source))
+            lines.update(own)
+            counts[crate_of(path)]["calls"] += len(own)
+            continue
         own = lines_of(source)
         lines.update(own)
         bare = TOKEN.sub(lambda it: '""' if it[1] is not None else "", source)
@@ -59,22 +81,23 @@ def counted(sources):
 
 def crate_of(path):
     found = TESTS.match(path)
-    return found and (found[1] or found[2])
+    return found and found[found.lastindex]
 
 
 def now():
     sources = {}
-    for folder, _, files in os.walk(f"{TOP}/crates"):
-        for name in files:
-            path = os.path.relpath(f"{folder}/{name}", TOP)
-            if crate_of(path):
-                with open(f"{TOP}/{path}", encoding="utf-8") as text:
-                    sources[path] = text.read()
+    for top in ("crates", "tests"):
+        for folder, _, files in os.walk(f"{TOP}/{top}"):
+            for name in files:
+                path = os.path.relpath(f"{folder}/{name}", TOP)
+                if crate_of(path):
+                    with open(f"{TOP}/{path}", encoding="utf-8") as text:
+                        sources[path] = text.read()
     return sources
 
 
 def before(commit):
-    paths = git("ls-tree", "-r", "--name-only", commit, "crates").split("\n")
+    paths = git("ls-tree", "-r", "--name-only", commit, "crates", "tests").split("\n")
     return {path: git("show", f"{commit}:{path}") for path in paths if crate_of(path)}
 
 
@@ -86,7 +109,8 @@ def main(words):
             sum(of.values(), collections.Counter()) if crate == "all" else of[crate]
             for of in (old, new)
         )
-        print(f"{crate}: " + ", ".join(f"{was[it]} -> {is_now[it]} {it}" for it in KINDS))
+        told = (f"{was[it]} -> {is_now[it]} {it}" for it in KINDS if was[it] or is_now[it])
+        print(f"{crate}: " + ", ".join(told))
     lost = old_lines - new_lines
     for line, times in lost.items():
         print(f"lost {times}: {line}")

@@ -15,7 +15,7 @@ class Kinds(unittest.TestCase):
         for words, folder, kind in (
             ("build --crate-name ob_lex src/lib.rt", "/r/crates/ob_lex", ("ob_lex", "proof")),
             ("check --crate-name pra src/main.rt", "/r/crates/pra", ("pra", "proof")),
-            ("build --crate-name tests_top --test", "/r/crates/tests_top", ("tests_top", "tests")),
+            ("build --crate-name tests_low --test", "/r/crates/tests_low", ("tests_low", "tests")),
             ("build --crate-name pra --crate-checked c", "/r/crates/pra", ("pra", "programs")),
             ("check --crate-name a --incremental /t/seed", "/t/rt-edit-7-x", ("a", "seed")),
             ("check --crate-name a --incremental /t/0", "/t/rt-edit-7-x", ("a", "edits")),
@@ -26,8 +26,8 @@ class Kinds(unittest.TestCase):
 
     def test_tools_and_runs(self):
         for words, kind in (
-            ("/kit/bin/rattle-test --seconds 60 /t/rt-run-7-x/bin/tests_top_tests",
-             ("tests_top", "tests")),
+            ("/kit/bin/rattle-test --seconds 60 /t/rt-run-7-x/bin/tests_low_tests",
+             ("tests_low", "tests")),
             ("sh -c true /t/rt-run-7-x/bin/pra", None),
             ("/t/rt-run-7-x/bin/pra", ("pra", "programs")),
             ("/kit/bin/rattle-link -o out/pra", ("a", "programs")),

@@ -42,10 +42,23 @@ class Rows(unittest.TestCase):
         self.assertEqual(lines["..##"], 2)
 
     def test_files_of_tests(self):
-        self.assertEqual(rows.crate_of("crates/tests_top/src/calls/worked.rt"), "tests_top")
+        self.assertEqual(rows.crate_of("crates/tests_low/src/a/lists.rt"), "tests_low")
         self.assertEqual(rows.crate_of("crates/pra_list/src/tests.rt"), "pra_list")
+        self.assertEqual(rows.crate_of("tests/words.rows"), "tests/words.rows")
         self.assertIsNone(rows.crate_of("crates/pra_list/src/seq.rt"))
-        self.assertIsNone(rows.crate_of("crates/tests_top/specs/Lib.antt"))
+        self.assertIsNone(rows.crate_of("crates/tests_low/specs/Lib.antt"))
+
+    def test_calls_of_rows(self):
+        both = "A file.\n\n# a row\n    MODULE M;\n$ run M.ob\n$ list M.ob\n= 3\n! fault\n"
+        counts, calls = rows.counted({"tests/a.rows": both, "tests/b.rows": both})
+        self.assertEqual(counts["tests/a.rows"], {"calls": 2})
+        self.assertEqual(sum(calls.values()), 4)
+        for changed in (both.replace("M;", "N;"), both.replace("= 3", "= 4")):
+            _, other = rows.counted({"tests/a.rows": changed})
+            self.assertEqual(len(calls - other), 2)
+        lost = calls - rows.counted({"tests/c.rows": both.replace("$ list M.ob\n", "")})[1]
+        self.assertEqual([it.rpartition(" (")[0] for it in lost if "list" in it],
+                         ["a row: list M.ob"])
 
 
 class Cited(unittest.TestCase):

@@ -1,49 +1,21 @@
-// All that a row says at prices, and that the search finds there what plain loops find.
+// All that a row says at prices.
 
 ghost use Rattle.net_cost.specs.Models.{Keeps};
 ghost use Rattle.net_dual.specs.Priced.{AreInRange};
 ghost use Rattle.net_laws.specs.Built.{IsBuilt};
 
-use crate::compared::differing;
 use crate::laid::differs_on_paths;
 use crate::planned::{differs_from_found, find_at, is_blocked};
 use crate::priced::differs_on_costs;
 use crate::putting::{prices_of, taken_of};
 use crate::reading::field;
 use net_cost::{CostModel, Event};
-use net_form::{Net, Plan, Prices, Taken};
+use net_form::{Net, Plan, Prices};
 use pra_base::OutOfMemory;
 use std::alloc::Global;
 
-// Whether a strand is blocked past what a row says is taken, and plain loops find what the search
-// finds there.
-fn agrees_past<F: Fn(Event, u32) -> u32>(
-    alloc: Global,
-    net: &Net,
-    model: &CostModel<F>,
-    prices: &Prices,
-    plan: &Plan,
-    text: &str,
-) -> Result<bool, OutOfMemory>
-    requires kept { Keeps F.Fn model.now }
-    requires net { IsBuilt net.now }
-    requires prices { AreInRange net.now prices.now }
-{
-    let (strand, in_use) = text.split_once('=').unwrap_or(("", text));
-    let (registers, pairs) = in_use.split_once('=').unwrap_or((in_use, ""));
-    let strand = strand.parse::<u32>().unwrap_or(u32::MAX);
-    let Some(taken) = taken_of(alloc, net, registers, pairs)? else {
-        return Ok(false);
-    };
-    if strand as usize >= net.strands.len() {
-        return Ok(false);
-    }
-    let is = is_blocked(alloc, net, model, prices, plan, strand, &taken)?;
-    Ok(is && differing(alloc, net, model, prices, &taken)?.is_none())
-}
-
-// The same of what is found where nothing is taken, and where a row says what is.
-fn agrees_with_plain<F: Fn(Event, u32) -> u32>(
+// Whether a strand is blocked past what a row says is taken, where it says so.
+fn is_blocked_so<F: Fn(Event, u32) -> u32>(
     alloc: Global,
     net: &Net,
     model: &CostModel<F>,
@@ -55,12 +27,20 @@ fn agrees_with_plain<F: Fn(Event, u32) -> u32>(
     requires net { IsBuilt net.now }
     requires prices { AreInRange net.now prices.now }
 {
-    let free = Taken::empty(alloc, net)?;
-    if differing(alloc, net, model, prices, &free)?.is_some() {
+    let text = field(at, "blocked ");
+    if text.is_empty() {
+        return Ok(true);
+    }
+    let (strand, in_use) = text.split_once('=').unwrap_or(("", text));
+    let (registers, pairs) = in_use.split_once('=').unwrap_or((in_use, ""));
+    let strand = strand.parse::<u32>().unwrap_or(u32::MAX);
+    let Some(taken) = taken_of(alloc, net, registers, pairs)? else {
+        return Ok(false);
+    };
+    if strand as usize >= net.strands.len() {
         return Ok(false);
     }
-    let text = field(at, "blocked ");
-    Ok(text.is_empty() || agrees_past(alloc, net, model, prices, plan, text)?)
+    is_blocked(alloc, net, model, prices, plan, strand, &taken)
 }
 
 // What differs from what a row says at prices that it has, if anything.
@@ -79,8 +59,8 @@ fn differs_for<F: Fn(Event, u32) -> u32>(
     if let Some(text) = differs_from_found(alloc, &found, at)? {
         return Ok(Some(text));
     }
-    if !agrees_with_plain(alloc, net, model, prices, &found.plan, at)? {
-        return Ok(Some(String::from_str(alloc, "plain loops differ")?));
+    if !is_blocked_so(alloc, net, model, prices, &found.plan, at)? {
+        return Ok(Some(String::from_str(alloc, "a strand is not blocked")?));
     }
     if let Some(text) = differs_on_costs(alloc, net, model, prices, at)? {
         return Ok(Some(text));
