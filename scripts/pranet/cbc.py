@@ -4,6 +4,7 @@ import os
 import shutil
 import subprocess
 import tempfile
+import time
 from dataclasses import dataclass
 
 import stopped
@@ -11,6 +12,7 @@ import stopped
 PROGRAM = "cbc"
 MISSING = "the solver cbc is not installed (Debian: apt-get install coinor-cbc)"
 GRACE = 30  # seconds more than it was given, until it is ended
+LEFT = 0.1  # of its time: what has to be left where it says that there is nothing
 RELAXED = ("-presolve", "more", "-dualSimplex")
 
 
@@ -23,6 +25,7 @@ class Answer:
     ended: str  # in CBC's words, as "Optimal" or "Stopped on time"
     values: dict  # of variables that are not 0, by name
     duals: dict  # of rows, by name
+    had_time: bool = True  # whether time was left when it ended
 
     @property
     def is_optimal(self):
@@ -30,8 +33,9 @@ class Answer:
 
     @property
     def is_settled(self):
-        """Whether these values are the best, or there are none below what was asked for."""
-        return self.is_optimal or "infeasible" in self.ended.lower()
+        """Whether these values are the best, or there are none below what was asked for. Where time
+        runs out CBC may say that there are none although it has not looked everywhere."""
+        return self.is_optimal or (self.had_time and "infeasible" in self.ended.lower())
 
 
 def is_there():
@@ -68,11 +72,15 @@ def solve(program, seconds, is_relaxed=False, below=None):
         words += ["-solution", found]
         how = {"stdin": subprocess.DEVNULL, "capture_output": True, "timeout": seconds + GRACE}
         how["preexec_fn"] = stopped.ends_with_parent()
+        begun = time.monotonic()
         try:
             said = subprocess.run(words, **how).stdout.decode(errors="replace")
         except subprocess.TimeoutExpired:
             return Answer("Stopped on time", {}, {})
+        taken = time.monotonic() - begun
         if not os.path.exists(found):
             raise NoSolver(f"{PROGRAM} gave no answer: {said[-200:].strip()}")
         with open(found, encoding="ascii") as text:
-            return read(text.read(), set(program.variables()))
+            answer = read(text.read(), set(program.variables()))
+        answer.had_time = taken <= (1 - LEFT) * seconds
+        return answer

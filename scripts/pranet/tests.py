@@ -15,7 +15,7 @@ import subprocess
 import sys
 import tempfile
 import unittest
-from contextlib import redirect_stderr, redirect_stdout
+from contextlib import contextmanager, redirect_stderr, redirect_stdout
 from unittest import mock
 
 import grade
@@ -39,6 +39,18 @@ needs_compiler = unittest.skipUnless(
     os.access(PROGRAM, os.X_OK), "no compiler was built, and PRA names none"
 )
 needs_solver = unittest.skipUnless(cbc.is_there(), cbc.MISSING)
+
+
+@contextmanager
+def solver_that_says(word):
+    """A program in place of cbc that takes 0.3 seconds to say how it ended."""
+    with tempfile.TemporaryDirectory() as folder:
+        with open(f"{folder}/cbc", "w", encoding="ascii") as file:
+            file.write("#!/bin/sh\nsleep 0.3\nfor last; do :; done\n")
+            file.write(f'echo "{word} - objective value 0" >"$last"\n')
+        os.chmod(f"{folder}/cbc", 0o755)
+        with mock.patch.dict(os.environ, PATH=f"{folder}:{os.environ['PATH']}"):
+            yield
 
 
 def code(variables, *blocks, args=0):
@@ -288,6 +300,16 @@ class Programs(unittest.TestCase):
         self.assertEqual(answer.duals, {"cap_1_0": -2.0})
         self.assertFalse(cbc.read("Stopped on time - objective value 9\n", ()).is_settled)
         self.assertTrue(cbc.read("Infeasible - objective value 0\n", ()).is_settled)
+
+    def test_nothing_settles_where_time_ran_out_but_the_best(self):
+        for said, seconds, is_settled in (
+            ("Infeasible", 60, True),
+            ("Infeasible", 0.2, False),
+            ("Optimal", 0.2, True),
+        ):
+            with self.subTest(said=said, seconds=seconds), solver_that_says(said):
+                answer = cbc.solve(program_of(Network(loop()), "size"), seconds)
+                self.assertEqual((answer.ended, answer.is_settled), (said, is_settled))
 
 
 class Optima(unittest.TestCase):

@@ -22,6 +22,12 @@ const VISITS: u64 = 10;
 // The same of the first round, where most is to be gained.
 const FIRST_VISITS: u64 = 40;
 
+// A round that may make many visits for each layer makes more: up to so many times as many, and as
+// many as if there were one layer for so many visits that it may make.
+const MOST_TIMES: u64 = 4;
+
+const VISITS_A_LAYER: u64 = 480;
+
 // Visits for each layer of each strand that routes from nothing take, about.
 const VISITS_FROM_NOTHING: u64 = 25;
 
@@ -34,10 +40,11 @@ fn begins_anew(size: u64, most: u64) -> bool {
     VISITS_FROM_NOTHING.saturating_mul(size) <= most
 }
 
-// How many visits a round would make by so many layers of strands.
-fn wanted_visits(round: u32, size: u64) -> u64 {
+// How many visits a round would make by so many layers of strands, where it may make so many.
+fn wanted_visits(round: u32, size: u64, most: u64) -> u64 {
     let each = if round == 1 { FIRST_VISITS } else { VISITS };
-    each.saturating_mul(size)
+    let layers = (most / VISITS_A_LAYER).min(MOST_TIMES.saturating_mul(size));
+    each.saturating_mul(layers.max(size))
 }
 
 // Kicks from the best routes or from new ones, until the visits of a round are used up, or nothing
@@ -54,7 +61,7 @@ fn search_from<F: Fn(Event, u32) -> u32>(
     requires kept { Keeps F.Fn model.now }
 {
     let size = search.layers;
-    let wanted = wanted_visits(round, size);
+    let wanted = wanted_visits(round, size, search.most_visits);
     let most = search.allowed_visits(wanted);
     if most == 0 {
         return false;

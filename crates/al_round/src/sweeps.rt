@@ -6,9 +6,9 @@ ghost use Rattle.al_round.specs.Noted.{noted};
 use net_form::{Prices, Routes};
 
 // So many sweeps raise prices in round 1, and so many in each round after it.
-const FIRST_SWEEPS: u32 = 10;
+const FIRST_SWEEPS: u32 = 20;
 
-const LATER_SWEEPS: u32 = 5;
+const LATER_SWEEPS: u32 = 8;
 
 // A procedure is small where it has at most so many prices of registers (100 layers). There round 1
 // makes at most so many sweeps: they end where nothing more is gained.
