@@ -1,7 +1,7 @@
 #!/usr/bin/env python3
 """Prints how far the code that rounds find is from the best there is.
 
-    quality.py PRA ROUNDS FILE..    PRA is the compiler, built: crates/pra/out/pra
+    quality.py PRA ROUNDS [--csv NAME] FILE..    PRA is the compiler, built: crates/pra/out/pra
 
 For each procedure of the modules in the files, and by both lists of weights, a line of a table: the
 optimum, the cost after 0, 1, 5, 10, 20, 50, .. of so many rounds and by how many per cent it is
@@ -13,9 +13,11 @@ their bound, so that it is known to be the least.
 The optimum of a procedure is the least value of its network as an integer program. It is read from
 optima.txt beside this file, which names modules by the sums of their text: it holds for the code and
 the networks of the day when it was found, and a cost below it, which is told, shows that they have
-changed since. Where it is not known the cells hold a dash.
+changed since. Where it is not known the cells hold a dash. With --csv the file NAME gets a row for
+each procedure: weights, module, number, optimum, and cost and bound after so many rounds.
 """
 
+import csv
 import hashlib
 import os
 import re
@@ -135,10 +137,26 @@ def print_table(told, rows, what):
     print(flush=True)
 
 
+def write_csv(name, told, rows):
+    """Writes the rows of procedures, each with its weights."""
+    with open(name, "w", encoding="utf-8", newline="") as file:
+        out = csv.writer(file, lineterminator="\n")
+        parts = [f"{part} {at}" for part in ("cost", "bound") for at in told]
+        out.writerow(["weights", "module", "procedure", "optimum", *parts])
+        for weights, row in rows:
+            module, number = row.name.rsplit(" ", 1)
+            values = [part[at] for part in (row.cost, row.bound) for at in told]
+            out.writerow([weights, module, number, row.optimum, *values])
+
+
 def main():
     pra, rounds, files = sys.argv[1], int(sys.argv[2]), sys.argv[3:]
+    table = None
+    if files[:1] == ["--csv"]:
+        table, files = files[1], files[2:]
     known = known_optima()
     told = [at for at in TOLD if at <= rounds]
+    written = []
     for weights in ("size", "speed"):
         print(f"By {weights}, at rounds {', '.join(str(at) for at in told)}; % from round 1 on; "
               f"ms are those of {TIMED} rounds:\n")
@@ -146,12 +164,15 @@ def main():
         for path in files:
             rows, module = rows_of(pra, path, weights, rounds, known)
             all_rows += rows
+            written += [(weights, it) for it in rows]
             modules.append(module)
         print_table(told, all_rows, "Procedure")
         modules.append(total("all", all_rows, told))
         print_table(told, modules, "Module")
         closed = (sum(row.cost[at] == row.bound[at] for row in all_rows) for at in told)
         print(f"Closed, of {len(all_rows)}: {', '.join(map(str, closed))}\n", flush=True)
+    if table:
+        write_csv(table, told, written)
 
 
 main()

@@ -2,7 +2,7 @@
 # Prints how far the code that rounds find is from the best there is (quality.py): of the modules in
 # the files, or else of generated modules 1 to 5 and 11 to 15, with 3 procedures each, and of those
 # in examples/. It takes so many rounds, or 200; PRA names a compiler that is not to be built:
-# [PRA=PROGRAM] quality.sh [ROUNDS [FILE..]]
+# [PRA=PROGRAM] [CSV=NAME] quality.sh [ROUNDS [FILE..]]. With CSV, NAME gets a row for each procedure.
 set -eu
 bench=$(cd "$(dirname "$0")" && pwd)
 rounds=${1:-200}
@@ -22,4 +22,4 @@ if [ $# -eq 0 ]; then
     done
     set -- "$folder"/generated_*.ob "$bench"/../examples/*.ob
 fi
-python3 "$bench/quality.py" "$PRA" "$rounds" "$@"
+python3 "$bench/quality.py" "$PRA" "$rounds" ${CSV:+--csv "$CSV"} "$@"

@@ -2,11 +2,12 @@
 
     [PRA=PROGRAM] python3 -m unittest picture.tests
 
-What other allocators come to is compared with docs/QUALITY.md where the compiler was built, or
+What other allocators come to is compared with bench/others.csv where the compiler was built, or
 where PROGRAM is one, and the compiler's checker is asked whether their routes are admitted and
 cost that.
 """
 
+import csv
 import json
 import os
 import tempfile
@@ -165,20 +166,14 @@ class Others(unittest.TestCase):
 
 @unittest.skipUnless(os.access(PROGRAM, os.X_OK), "no compiler was built, and PRA names none")
 class BesideOthers(unittest.TestCase):
-    """The tables of docs/QUALITY.md, row by row."""
+    """The table bench/others.csv, row by row."""
 
     def rows(self):
-        """The weights of a table, the name of a row, layers, home and what each comes to."""
-        with open(f"{TOP}/docs/QUALITY.md", encoding="utf-8") as text:
-            cost = None
-            for line in text:
-                cells = [it.strip() for it in line.strip().strip("|").split("|")]
-                if cells[1:6] == ["N", "home", *ALLOCATORS]:
-                    cost = cells[0].removeprefix("By ")
-                elif not line.startswith("|"):
-                    cost = None
-                elif cost and cells[1].isdecimal():
-                    yield cost, cells[0], [int(it) for it in cells[1:6]]
+        """The weights of a row, its module, layers, home and what each comes to."""
+        with open(f"{TOP}/bench/others.csv", encoding="utf-8", newline="") as table:
+            for row in csv.DictReader(table):
+                figures = [int(row[it]) for it in ("layers", "home", *ALLOCATORS)]
+                yield row["weights"], row["module"], figures
 
     def found(self, compiler, name, cost, room):
         """The same of a module. The compiler has to say yes to the routes of each."""
