@@ -5,7 +5,7 @@
 
 A command is a line of a page that begins with four blanks and `$ `; what it writes are the lines of
 four blanks behind it. There `..` within a line stands for any text, and a line `..` for any lines.
-The commands of a page run one after the other in one folder, which has ./pra, the scripts, and
+The commands of a page run one after the other in one folder, which has ./pra, scripts, crates, and
 copies of examples/. Where a program is missing that a command asks for, it is left out, with all
 that stand behind it under one heading; so are proofs (`rt`), since they take long. With --write the
 page gets what they write now, but where `..` stands. The compiler is ./pra, or PROGRAM, which the
@@ -118,7 +118,8 @@ def make_pra(name, compiler):
 def furnish(room, compiler):
     """Puts into a folder what commands find there."""
     shutil.copytree(f"{TOP}/examples", f"{room}/examples")
-    os.symlink(f"{TOP}/scripts", f"{room}/scripts")
+    for name in ("crates", "scripts"):
+        os.symlink(f"{TOP}/{name}", f"{room}/{name}")
     if compiler:
         make_pra(f"{room}/pra", os.path.abspath(compiler))
     else:

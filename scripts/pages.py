@@ -7,9 +7,10 @@
 
 With WORDs only lines that have all of them are printed, in letters of either case. In a crate
 `src/` has code and tests, `specs/` definitions and `proofs/` lemmas; lists of modules (`Lib.antt`)
-are left out. A law is a public function of a module `laws`, whose contract is a statement.
+are left out. A law is a public function of a module `laws`, or `.._laws`, whose contract is a statement.
 """
 
+import glob
 import os
 import re
 import sys
@@ -81,11 +82,12 @@ def files(crate):
 
 def laws(crate):
     """The laws of a crate: name and first sentence of each."""
-    file = f"{TOP}/crates/{crate}/src/laws.rt"
-    if not os.path.isfile(file):
-        return []
-    with open(file, encoding="utf-8") as text:
-        return [(name, sentence(comment(said.splitlines()))) for said, name in LAW.findall(text.read())]
+    found = []
+    for file in sorted(glob.glob(f"{TOP}/crates/{crate}/src/*laws.rt")):
+        with open(file, encoding="utf-8") as text:
+            for said, name in LAW.findall(text.read()):
+                found.append((name, sentence(comment(said.splitlines()))))
+    return found
 
 
 def layer_of(crate):
@@ -116,11 +118,11 @@ def crates_table():
 
 
 def laws_table():
-    rows = ["| Crate | Its laws |", "|---|---|"]
-    for _, crates in by_layers():
-        for it in crates:
-            if found := laws(it):
-                rows.append(f"| {it} | {', '.join(f'`{name}`' for name, _ in found)} |")
+    rows = ["| Layer | Its laws, by crate |", "|---|---|"]
+    for title, crates in by_layers():
+        found = [(it, ", ".join(f"`{name}`" for name, _ in laws(it))) for it in crates]
+        told = "; ".join(f"**{crate}** {names}" for crate, names in found if names)
+        rows += [f"| {title} | {told} |"] * bool(told)
     return rows
 
 
@@ -154,7 +156,8 @@ def main(words):
     known = list(build.crates())
     if words[:1] == ["files"]:
         named = (it for crate in known for it in files(crate))
-        print_lines((f"{os.path.relpath(it, f'{TOP}/crates')}: {about(it)}" for it in named), words[1:])
+        lines = (f"{os.path.relpath(it, f'{TOP}/crates')}: {about(it)}" for it in named)
+        print_lines(lines, words[1:])
     elif words[:1] == ["laws"]:
         found = ((crate, *it) for crate in known for it in laws(crate))
         print_lines((f"{crate} {name}: {said}" for crate, name, said in found), words[1:])
