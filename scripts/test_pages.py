@@ -1,5 +1,6 @@
 """Tests of README and docs/: what they name is there, and what a script can read is as it is read."""
 
+import csv
 import glob
 import os
 import re
@@ -97,6 +98,77 @@ class Names(unittest.TestCase):
         for name in re.findall(r"law\w* ((?:`\w+`(?:, )?)+)", text):
             for it in TERM.findall(name):
                 self.assertIn(it, known)
+
+
+class Figures(unittest.TestCase):
+    """What pages count, where a script can count it."""
+
+    def told(self, page, pattern):
+        """The figures that a page tells by a pattern, each once."""
+        found = {tuple(map(int, it.groups())) for it in re.finditer(pattern, text_of(f"{TOP}/{page}"))}
+        self.assertTrue(found, pattern)
+        return found
+
+    def test_vectors(self):
+        wanted = {(len(glob.glob(f"{TOP}/docs/vectors/*.cert")),)}
+        for page in ("docs/DECISIONS.md", "docs/CERTIFICATES.md"):
+            self.assertEqual(self.told(page, r"(\d+) vectors"), wanted)
+
+    def test_wrong_bodies(self):
+        counts = [len(glob.glob(f"{TOP}/crates/*/{it}/*.edit")) for it in ("edits", "must-fail")]
+        told = self.told("docs/DECISIONS.md", r"(\d+) stand in `edits/` and (\d+) in\s+`must-fail/`")
+        self.assertEqual(told, {tuple(counts)})
+
+    def test_crates_of_many_functions(self):
+        head = re.compile(r"^\s*(?:pub(?:\(\w+\))? )?(?:const )?fn \w+", re.M)
+        many = set()
+        for crate in crates():
+            sources = (it for it in pages.files(crate) if f"/{crate}/src/" in it)
+            if sum(len(head.findall(text_of(it))) for it in sources) > 100:
+                many.add(crate)
+        text = text_of(f"{TOP}/docs/DECISIONS.md")
+        part = text[text.index("more than a hundred functions") :].split("\n- ")[0]
+        self.assertEqual(set(re.findall(r"\w+_\w+", part)), many)
+
+    def quality(self, weights, seeds, part, rounds):
+        """The sum of a column of bench/quality.csv over generated modules."""
+        with open(f"{TOP}/bench/quality.csv", encoding="utf-8", newline="") as table:
+            names = {f"generated_{it}" for it in seeds}
+            rows = [it for it in csv.DictReader(table) if it["module"] in names]
+        return sum(int(it[f"{part} {rounds}"]) for it in rows if it["weights"] == weights)
+
+    def test_costs_and_bounds(self):
+        text = text_of(f"{TOP}/docs/QUALITY.md")
+        for title, seeds in (("1 to 5", range(1, 6)), ("11 to 15", range(11, 16))):
+            table = text[text.index(f"| Modules {title}, rounds") :].split("\n\n")[0]
+            rows = [it.strip("| ").split(" | ") for it in table.splitlines()[2:]]
+            self.assertEqual(len(rows), 7)
+            for rounds, *cells in rows:
+                for weights, (cost, _, bound, _) in (("size", cells[:4]), ("speed", cells[4:])):
+                    found = [self.quality(weights, seeds, it, rounds) for it in ("cost", "bound")]
+                    self.assertEqual([int(cost), int(bound)], found)
+
+    def test_other_allocators(self):
+        """The sums of bench/others.csv, and of its costs those of bench/quality.csv."""
+        text = text_of(f"{TOP}/docs/QUALITY.md")
+        with open(f"{TOP}/bench/others.csv", encoding="utf-8", newline="") as table:
+            for row in csv.DictReader(table):
+                if row["module"] == "all five":
+                    found = [
+                        self.quality(row["weights"], range(1, 6), "cost", it) for it in (1, 10, 20)
+                    ]
+                    rounds = ("1 round", "10 rounds", "20 rounds")
+                    self.assertEqual([int(row[it]) for it in rounds], found)
+                if row["module"].startswith("all "):
+                    names = ("home", "linear scan", "with holes", "colouring", "1 round")
+                    self.assertIn(" | ".join(row[it] for it in names) + ",", text)
+
+    def test_code_beside_gcc(self):
+        text = text_of(f"{TOP}/docs/QUALITY.md")
+        with open(f"{TOP}/bench/beside_gcc.csv", encoding="utf-8", newline="") as table:
+            for row in csv.reader(table):
+                if row[1].startswith("all "):
+                    self.assertIn(f"| {' | '.join(row[2:])} |", text)
 
 
 class Form(unittest.TestCase):
