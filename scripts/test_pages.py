@@ -11,7 +11,12 @@ import words
 from build import TOP, crates
 
 PAGES = sorted([f"{TOP}/README.md", *glob.glob(f"{TOP}/docs/*.md")])
-NAMED = re.compile(r"`?(\w+)`? `((?:specs|src|proofs)/[\w/]+)`|`(\w+)/((?:specs|src|proofs)/[\w/]+)`")
+PART = r"((?:specs|src|proofs)/[\w/]+)`"
+NAMED = [  # a file of a crate, in three forms: the crate and the part, one way round or the other
+    (re.compile(rf"\b(\w+)`?,? `{PART}"), 1),
+    (re.compile(rf"`(\w+)/{PART}"), 1),
+    (re.compile(rf"`{PART} of (\w+)"), 2),
+]
 FILE = re.compile(r"`((?:docs|scripts|bench|examples)/[\w./-]+)`(?<!.html`)")  # but pages that are made
 TERM = re.compile(r"`([A-Za-z]\w*[A-Za-z0-9])`")
 # What defines a name that a page may cite: a clause, a function, a type, a field, a definition.
@@ -67,12 +72,16 @@ class Names(unittest.TestCase):
     """What pages name is there."""
 
     def test_files_of_crates(self):
+        count = 0
         for page in PAGES:
-            for crate, part, other, place in NAMED.findall(text_of(page)):
-                crate, part = crate or other, part or place
-                if crate in crates():
-                    names = glob.glob(f"{TOP}/crates/{crate}/{part.rstrip('/')}*")
-                    self.assertTrue(names, f"{page}: {crate} {part}")
+            for pattern, crate_at in NAMED:
+                for found in pattern.finditer(" ".join(text_of(page).split())):
+                    crate, part = found[crate_at], found[3 - crate_at]
+                    if crate in crates():
+                        count += 1
+                        names = glob.glob(f"{TOP}/crates/{crate}/{part.rstrip('/')}*")
+                        self.assertTrue(names, f"{page}: {crate} {part}")
+        self.assertGreater(count, 100)
 
     def test_files_beside_the_crates(self):
         for page in PAGES:
@@ -162,6 +171,17 @@ class Figures(unittest.TestCase):
                 if row["module"].startswith("all "):
                     names = ("home", "linear scan", "with holes", "colouring", "1 round")
                     self.assertIn(" | ".join(row[it] for it in names) + ",", text)
+
+    def test_exercises(self):
+        """What COURSE says is to be reached is what others and rounds come to."""
+        text = text_of(f"{TOP}/docs/COURSE.md")
+        with open(f"{TOP}/bench/others.csv", encoding="utf-8", newline="") as table:
+            five = [it for it in csv.DictReader(table) if it["module"] == "all five"]
+        names = ("home", None, "linear scan", "with holes", "colouring", "1 round", "10 rounds")
+        for number, name in enumerate(names, 1):
+            told = re.search(rf"^\| {number} \| .* \| ([\d,]+) \| ([\d,]+) \|$", text, re.M).groups()
+            if name:
+                self.assertEqual([it.replace(",", "") for it in told], [it[name] for it in five])
 
     def test_code_beside_gcc(self):
         text = text_of(f"{TOP}/docs/QUALITY.md")
