@@ -18,6 +18,7 @@ NAMED = [  # a file of a crate, in three forms: the crate and the part, one way 
     (re.compile(rf"`{PART} of (\w+)"), 2),
 ]
 FILE = re.compile(r"`((?:docs|scripts|bench|examples)/[\w./-]+)`(?<!.html`)")  # but pages that are made
+LIMIT = re.compile(r"^limit_maximum (\w+) = (\d+)$", re.M)
 TERM = re.compile(r"`([A-Za-z]\w*[A-Za-z0-9])`")
 # What defines a name that a page may cite: a clause, a function, a type, a field, a definition.
 DEFINED = re.compile(
@@ -138,6 +139,39 @@ class Figures(unittest.TestCase):
         text = text_of(f"{TOP}/docs/DECISIONS.md")
         part = text[text.index("more than a hundred functions") :].split("\n- ")[0]
         self.assertEqual(set(re.findall(r"\w+_\w+", part)), many)
+
+    def test_options(self):
+        """README has each option with its default and the values that it may have."""
+        rows = [it for it in text_of(f"{TOP}/README.md").splitlines() if it.startswith("| `--")]
+        for option in words.table()[1].values():
+            (row,) = (it for it in rows if f"`{option.name} {option.value}`" in it)
+            self.assertIn(option.default, row.split("|")[-2])
+            if " to " in option.values:
+                self.assertIn(option.values, row)
+
+    def test_words_of_the_program(self):
+        """README and the pages name each word of ./pra."""
+        text = " ".join(map(text_of, PAGES))
+        for name in words.table()[0]:
+            self.assertTrue(f"./pra {name}" in text or f"`{name}`" in text, name)
+
+    def test_rules(self):
+        """LANGUAGE has the rules of the checker, in their order."""
+        source = text_of(f"{TOP}/crates/ob_check/src/rules.rt")
+        body = source[source.index("pub enum Rule {") :].split("\n}")[0]
+        known = re.findall(r"^    (\w+),$", body, re.M)
+        table = text_of(f"{TOP}/docs/LANGUAGE.md")
+        told = re.findall(r"^\| (\d+) \| (\w+) \|", table[table.index("## Rules") :], re.M)
+        self.assertEqual(told[: len(known)], [(str(at), it) for at, it in enumerate(known, 1)])
+
+    def test_limits(self):
+        """LANGUAGE has the limits of the definition, with their maxima."""
+        known = dict(LIMIT.findall(text_of(f"{TOP}/crates/pra_base/specs/Limits.antt")))
+        self.assertTrue(known)
+        table = text_of(f"{TOP}/docs/LANGUAGE.md")
+        told = re.findall(r"^\| ([a-z-]+) \| (\d+) \|", table[table.index("## Limits") :], re.M)
+        told = {"".join(it.title().split("-")): most for it, most in told}
+        self.assertEqual({it: told[it] for it in known}, known)
 
     def quality(self, weights, seeds, part, rounds):
         """The sum of a column of bench/quality.csv over generated modules."""
