@@ -3,10 +3,10 @@
 //! `run_tool` is all that the program calls, and `specs/Clause` is its promise: read there what
 //! `run` and `compile` make of a source, and `gen` of a seed, in `specs/Interpreted` what `interp`
 //! makes, in `specs/Listings` what `list` makes of an image, of what an image is made by `asm`, and
-//! what both refuse, in `specs/Certified` the same of `cert` and `check`, in `specs/Executed` what
-//! `exec` makes of an image, in `specs/Modes` what any mode answers, in `specs/Writes` what is left
-//! where all was written or where writing stopped, and in `specs/Compiling` what a source is
-//! compiled to.
+//! what both refuse, in `specs/Certified` the same of `cert` and `check`, in `specs/Applied` what
+//! `apply` makes of a source and a certificate, in `specs/Executed` what `exec` makes of an image,
+//! in `specs/Modes` what any mode answers, in `specs/Writes` what is left where all was written or
+//! where writing stopped, and in `specs/Compiling` what a source is compiled to.
 #![tactic(auto)]
 
 pub mod applied;

@@ -60,7 +60,9 @@ use std::alloc::Global;
 /// file. With `cert` it reads FILE, compiles it, and writes to out a certificate of its costs and
 /// bounds; with `check` it reads FILE, which is a certificate, tests it, and writes to out its
 /// costs and bounds. With `exec` it reads FILE, which is an image, and the input, runs the image,
-/// and writes the output, and the ending line.
+/// and writes the output, and the ending line. With `apply` it reads FILE, and of the input a
+/// certificate, compiles FILE with the routes of that, and writes the image file, and to out the
+/// frames with the certificate's costs and bounds.
 ///
 /// `words` are those behind the program's name: MODE and FILE, and among them the options that
 /// `read_words` of pra_words reads. The answer is the exit status:
@@ -82,16 +84,18 @@ use std::alloc::Global;
 /// | 3 | at A of the image's code no instruction begins | `fault code at A` |
 /// | 3 | line N of FILE, from 1, is none of an image's text | `fault line N` |
 /// | 3 | FILE is the first line of a text alone | `fault empty` |
-/// | 3 | FILE is no JSON | `fault json` |
-/// | 3 | FILE is JSON, and no certificate | `fault certificate form` |
-/// | 3 | FILE is a certificate, and procedure P fails by R | `fault certificate procedure P R` |
+/// | 3 | FILE, or the input of `apply`, is no JSON | `fault json` |
+/// | 3 | it is JSON, and no certificate | `fault certificate form` |
+/// | 3 | `apply`: it has another number of procedures than FILE | `fault certificate module` |
+/// | 3 | `apply`: its code of P is not FILE's | `fault certificate procedure P module` |
+/// | 3 | it is a certificate, and procedure P fails by R | `fault certificate procedure P R` |
 /// | 4 | FILE is too long | `limit source count 1048577 maximum 1048576` |
 /// | 4 | FILE nests too deep | `limit depth token T at A` |
 /// | 4 | FILE has too much of one thing | `limit NAME count C maximum L` |
 /// | 4 | FILE is too long for an image | `limit image count 41943057 maximum 41943056` |
 /// | 4 | FILE is too long for a text | `limit listing count 67108865 maximum 67108864` |
 /// | 4 | the image's text is too long | `limit listing count C maximum 67108864` |
-/// | 4 | FILE is too long for a certificate | `limit certificate count 16777217 maximum 16777216` |
+/// | 4 | a certificate is too long | `limit certificate count 16777217 maximum 16777216` |
 /// | 4 | the certificate that was made is too long | `limit certificate count C maximum 16777216` |
 /// | 4 | the input is too long | `limit input count 1048577 maximum 1048576` |
 /// | 5 | reading FILE or the input failed | `fault read file`, `fault read input` |
