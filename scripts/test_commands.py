@@ -92,10 +92,14 @@ class Shown(unittest.TestCase):
     """What README and docs/ show is what their commands write."""
 
     def test_pages(self):
+        left_out = []
         for page in commands.pages_with_commands():
             with self.subTest(page=os.path.basename(page)):
                 said = []
                 self.assertTrue(commands.check(page, PROGRAM, say=said.append), "\n".join(said))
+                left_out += [it for it in said if "for want of" in it and "proofs" not in it]
+        if left_out:
+            self.skipTest(f"some commands of pages are {left_out[0].partition(':')[0]}")
 
 
 if __name__ == "__main__":
