@@ -17,7 +17,8 @@ NAMED = [  # a file of a crate, in three forms: the crate and the part, one way 
     (re.compile(rf"`(\w+)/{PART}"), 1),
     (re.compile(rf"`{PART} of (\w+)"), 2),
 ]
-FILE = re.compile(r"`((?:docs|scripts|bench|examples)/[\w./-]+)`(?<!.html`)")  # but pages that are made
+# A file beside the crates, but no page that is made.
+FILE = re.compile(r"`((?:docs|scripts|bench|examples)/[\w./-]+)`(?<!.html`)")
 LIMIT = re.compile(r"^limit_maximum (\w+) = (\d+)$", re.M)
 TERM = re.compile(r"`([A-Za-z]\w*[A-Za-z0-9])`")
 # What defines a name that a page may cite: a clause, a function, a type, a field, a definition.
@@ -83,6 +84,13 @@ class Names(unittest.TestCase):
                         names = glob.glob(f"{TOP}/crates/{crate}/{part.rstrip('/')}*")
                         self.assertTrue(names, f"{page}: {crate} {part}")
         self.assertGreater(count, 100)
+
+    def test_wrong_bodies_that_are_cited(self):
+        text = text_of(f"{TOP}/docs/PROVED.md")
+        found = re.findall(r"(\w+) `((?:edits|must-fail)/\w+)`", text)
+        self.assertTrue(found)
+        for crate, name in found:
+            self.assertTrue(os.path.isfile(f"{TOP}/crates/{crate}/{name}.edit"), f"{crate} {name}")
 
     def test_files_beside_the_crates(self):
         for page in PAGES:
