@@ -199,6 +199,20 @@ class Figures(unittest.TestCase):
                     found = [self.quality(weights, seeds, it, rounds) for it in ("cost", "bound")]
                     self.assertEqual([int(cost), int(bound)], found)
 
+    def test_closed_procedures(self):
+        """In how many of the 40 procedures the cost is the bound."""
+        with open(f"{TOP}/bench/quality.csv", encoding="utf-8", newline="") as table:
+            rows = [it for it in csv.DictReader(table) if it["module"].startswith("generated")]
+        text = " ".join(text_of(f"{TOP}/docs/QUALITY.md").split())
+        for weights, behind in (("size", " of these 40 procedures by size"), ("speed", " by speed")):
+            each = [it for it in rows if it["weights"] == weights]
+            self.assertEqual(len(each), 40)
+            counts = [
+                sum(it[f"cost {at}"] == it[f"bound {at}"] for it in each)
+                for at in (1, 5, 10, 20, 50, 200)
+            ]
+            self.assertIn(", ".join(map(str, counts)) + behind, text)
+
     def test_other_allocators(self):
         """The sums of bench/others.csv, and of its costs those of bench/quality.csv."""
         text = text_of(f"{TOP}/docs/QUALITY.md")
