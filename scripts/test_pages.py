@@ -148,20 +148,19 @@ class Figures(unittest.TestCase):
         part = text[text.index("more than a hundred functions") :].split("\n- ")[0]
         self.assertEqual(set(re.findall(r"\w+_\w+", part)), many)
 
-    def test_options(self):
-        """README has each option with its default and the values that it may have."""
-        rows = [it for it in text_of(f"{TOP}/README.md").splitlines() if it.startswith("| `--")]
-        for option in words.table()[1].values():
+    def test_words_and_options_of_the_compiler(self):
+        """README has each word, and each option with its default and the values it may have."""
+        text, (known, options) = text_of(f"{TOP}/README.md"), words.table()
+        own = [it for it in known.values() if it.script == "-"]
+        rows = [it for it in text.splitlines() if it.startswith("| `--")]
+        for word in own:
+            self.assertIn(f"./pra {word.name} ", text)
+        for name in {it for word in own for it in word.options}:
+            option = options[f"--{name}"]
             (row,) = (it for it in rows if f"`{option.name} {option.value}`" in it)
             self.assertIn(option.default, row.split("|")[-2])
             if " to " in option.values:
                 self.assertIn(option.values, row)
-
-    def test_words_of_the_program(self):
-        """README and the pages name each word of ./pra."""
-        text = " ".join(map(text_of, PAGES))
-        for name in words.table()[0]:
-            self.assertTrue(f"./pra {name}" in text or f"`{name}`" in text, name)
 
     def test_rules(self):
         """LANGUAGE has the rules of the checker, in their order."""
