@@ -73,7 +73,9 @@ def is_there(need):
     with tempfile.TemporaryDirectory(prefix="pra-gcc-") as room:
         make = ["gcc", "-m32", "-x", "c", "-", "-o", f"{room}/it"]
         made = subprocess.run(make, input=PROGRAM_IN_C, capture_output=True)
-        return made.returncode == 0 and not subprocess.run([f"{room}/it"], capture_output=True).returncode
+        if made.returncode:
+            return False
+        return subprocess.run([f"{room}/it"], capture_output=True).returncode == 0
 
 
 def missing(command):
@@ -127,7 +129,7 @@ def furnish(room, compiler):
 
 
 def run_page(name, lines, room, say):
-    """Runs the commands of a page. The lines as they are to be now, and whether something differs."""
+    """Runs a page's commands. The lines as they are to be now, and whether something differs."""
     told, end, differs, left_out = [], 0, False, None
     for begin, command, first, last in steps(lines):
         heading = heading_of(lines, begin)

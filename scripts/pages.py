@@ -3,11 +3,12 @@
 
     pages.py files [WORD ..]    a line for each file: the first sentence of its head
     pages.py laws [WORD ..]     a line for each law: the sentence before it
-    pages.py write              puts crates into docs/ARCHITECTURE.md and laws into docs/PROVED.md
+    pages.py write              puts crates into docs/ARCHITECTURE.md, laws into docs/PROVED.md, and
+                                what is counted into the pages that tell how many there are
 
 With WORDs only lines that have all of them are printed, in letters of either case. In a crate
 `src/` has code and tests, `specs/` definitions and `proofs/` lemmas; lists of modules (`Lib.antt`)
-are left out. A law is a public function of a module `laws`, or `.._laws`, whose contract is a statement.
+are left out. A law is a public function of a module `laws`, or `.._laws`: its contract says it.
 """
 
 import glob
@@ -40,6 +41,8 @@ PARTS = {  # what stands between two marks of a page
     "docs/ARCHITECTURE.md": "crates",
     "docs/PROVED.md": "laws",
 }
+
+COUNTING = ("docs/DECISIONS.md", "docs/CERTIFICATES.md")  # pages that tell how many there are
 
 
 def comment(lines):
@@ -146,6 +149,21 @@ def page_now(page):
     return text, with_part(text, PARTS[page], table())
 
 
+def with_counts(text):
+    """A page's text with how many vectors and wrong bodies there are now."""
+    vectors = len(glob.glob(f"{TOP}/docs/vectors/*.cert"))
+    kinds = ("edits", "must-fail")
+    edits, must_fail = (len(glob.glob(f"{TOP}/crates/*/{it}/*.edit")) for it in kinds)
+    text = re.sub(r"\d+( vectors)", rf"{vectors}\1", text)
+    told = r"\d+( stand in `edits/` and )\d+( in\s+`must-fail/`)"
+    return re.sub(told, rf"{edits}\g<1>{must_fail}\g<2>", text)
+
+
+def write(page, text):
+    with open(f"{TOP}/{page}", "w", encoding="utf-8") as file:
+        file.write(text)
+
+
 def print_lines(lines, words):
     for line in lines:
         if all(it.lower() in line.lower() for it in words):
@@ -163,9 +181,11 @@ def main(words):
         print_lines((f"{crate} {name}: {said}" for crate, name, said in found), words[1:])
     elif words == ["write"]:
         for page in PARTS:
-            _, text = page_now(page)
-            with open(f"{TOP}/{page}", "w", encoding="utf-8") as file:
-                file.write(text)
+            write(page, page_now(page)[1])
+        for page in COUNTING:
+            with open(f"{TOP}/{page}", encoding="utf-8") as file:
+                text = file.read()
+            write(page, with_counts(text))
     else:
         print(__doc__, file=sys.stderr)
         return 2

@@ -82,7 +82,8 @@ class Pages(unittest.TestCase):
     def test_words_of_scripts_are_done_by_scripts(self):
         with tempfile.TemporaryDirectory(prefix="pra-tour-") as room:
             commands.make_pra(f"{room}/pra", "/bin/echo")
-            for words, wanted in ((["help", "run"], "usage: pra run FILE"), (["run", "x"], "run x")):
+            cases = ((["help", "run"], "usage: pra run FILE"), (["run", "x"], "run x"))
+            for words, wanted in cases:
                 ran = subprocess.run([f"{room}/pra", *words], capture_output=True, text=True)
                 self.assertIn(wanted, ran.stdout)
 

@@ -1,4 +1,4 @@
-"""Tests of README and docs/: what they name is there, and what a script can read is as it is read."""
+"""Tests of README and docs/: what they name is there, and what a script can read is as they say."""
 
 import csv
 import glob
@@ -35,7 +35,7 @@ def text_of(page):
 
 
 def defined():
-    """All names that the crates' code and definitions define, those of crates, and words of ./pra."""
+    """All names that code and definitions of crates define, those of crates, and words of ./pra."""
     found = {*crates(), *words.table()[0]}
     for crate in crates():
         for file in pages.files(crate):
@@ -59,7 +59,8 @@ class Parts(unittest.TestCase):
     def test_a_part_is_put_between_its_marks(self):
         first, last = pages.marks("laws")
         text = f"a\n{first}\nold\n{last}\nb\n"
-        self.assertEqual(pages.with_part(text, "laws", ["new"]), f"a\n{first}\n\nnew\n\n{last}\nb\n")
+        wanted = f"a\n{first}\n\nnew\n\n{last}\nb\n"
+        self.assertEqual(pages.with_part(text, "laws", ["new"]), wanted)
 
     def test_the_first_sentence_of_a_head(self):
         head = ["//! Lists. (Short", "//! ones.)", "//!", "//! More."]
@@ -100,7 +101,8 @@ class Names(unittest.TestCase):
     def test_links(self):
         for page in PAGES:
             for target in re.findall(r"\]\(([^)#]+)", text_of(page)):
-                self.assertTrue(os.path.exists(f"{os.path.dirname(page)}/{target}"), f"{page}: {target}")
+                name = f"{os.path.dirname(page)}/{target}"
+                self.assertTrue(os.path.exists(name), f"{page}: {target}")
 
     def test_clauses_and_laws_that_are_cited(self):
         """What PROVED and README's part on proofs name is defined."""
@@ -121,21 +123,17 @@ class Names(unittest.TestCase):
 class Figures(unittest.TestCase):
     """What pages count, where a script can count it."""
 
-    def told(self, page, pattern):
-        """The figures that a page tells by a pattern, each once."""
-        found = {tuple(map(int, it.groups())) for it in re.finditer(pattern, text_of(f"{TOP}/{page}"))}
-        self.assertTrue(found, pattern)
-        return found
+    def test_vectors_and_wrong_bodies(self):
+        for page in pages.COUNTING:
+            text = text_of(f"{TOP}/{page}")
+            how = f"{page}: python3 scripts/pages.py write"
+            self.assertEqual(text, pages.with_counts(text), how)
 
-    def test_vectors(self):
-        wanted = {(len(glob.glob(f"{TOP}/docs/vectors/*.cert")),)}
-        for page in ("docs/DECISIONS.md", "docs/CERTIFICATES.md"):
-            self.assertEqual(self.told(page, r"(\d+) vectors"), wanted)
-
-    def test_wrong_bodies(self):
-        counts = [len(glob.glob(f"{TOP}/crates/*/{it}/*.edit")) for it in ("edits", "must-fail")]
-        told = self.told("docs/DECISIONS.md", r"(\d+) stand in `edits/` and (\d+) in\s+`must-fail/`")
-        self.assertEqual(told, {tuple(counts)})
+    def test_counts_are_put_where_others_stood(self):
+        text = "7 vectors, 1 stand in `edits/` and 2 in\n`must-fail/`"
+        told = re.findall(r"\d+", pages.with_counts(text))
+        known = ("docs/vectors/*.cert", "crates/*/edits/*", "crates/*/must-fail/*")
+        self.assertEqual(told, [str(len(glob.glob(f"{TOP}/{it}"))) for it in known])
 
     def test_crates_of_many_functions(self):
         head = re.compile(r"^\s*(?:pub(?:\(\w+\))? )?(?:const )?fn \w+", re.M)
@@ -203,7 +201,8 @@ class Figures(unittest.TestCase):
         with open(f"{TOP}/bench/quality.csv", encoding="utf-8", newline="") as table:
             rows = [it for it in csv.DictReader(table) if it["module"].startswith("generated")]
         text = " ".join(text_of(f"{TOP}/docs/QUALITY.md").split())
-        for weights, behind in (("size", " of these 40 procedures by size"), ("speed", " by speed")):
+        ends = (("size", " of these 40 procedures by size"), ("speed", " by speed"))
+        for weights, behind in ends:
             each = [it for it in rows if it["weights"] == weights]
             self.assertEqual(len(each), 40)
             counts = [
@@ -234,7 +233,8 @@ class Figures(unittest.TestCase):
             five = [it for it in csv.DictReader(table) if it["module"] == "all five"]
         names = ("home", None, "linear scan", "with holes", "colouring", "1 round", "10 rounds")
         for number, name in enumerate(names, 1):
-            told = re.search(rf"^\| {number} \| .* \| ([\d,]+) \| ([\d,]+) \|$", text, re.M).groups()
+            row = rf"^\| {number} \| .* \| ([\d,]+) \| ([\d,]+) \|$"
+            told = re.search(row, text, re.M).groups()
             if name:
                 self.assertEqual([it.replace(",", "") for it in told], [it[name] for it in five])
 
