@@ -18,7 +18,7 @@ NAMED = [  # a file of a crate, in three forms: the crate and the part, one way 
     (re.compile(rf"`{PART} of (\w+)"), 2),
 ]
 # A file beside the crates, but no page that is made.
-FILE = re.compile(r"`((?:docs|scripts|bench|examples)/[\w./-]+)`(?<!.html`)")
+FILE = re.compile(r"`((?:docs|scripts|bench|examples|tests)/[\w./-]+)`(?<!.html`)")
 LIMIT = re.compile(r"^limit_maximum (\w+) = (\d+)$", re.M)
 TERM = re.compile(r"`([A-Za-z]\w*[A-Za-z0-9])`")
 # What defines a name that a page may cite: a clause, a function, a type, a field, a definition.
