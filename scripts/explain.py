@@ -20,6 +20,7 @@ import tempfile
 
 import grammar
 import offences
+import reading
 import reasons
 import stopped
 import traps
@@ -273,7 +274,6 @@ def of_other_files(line, name, source):
 
 
 FILES = {
-    "read file": "{} can't be read",
     "read input": "the input can't be read",
     "write file": "a file can't be written (the image, or the module of gen)",
     "write out": "the output can't be written",
@@ -295,7 +295,9 @@ def explained(line, name, source, given):
         return limit(name, source, found[1], int(found[2]), int(found[3]))
     if found := re.fullmatch(r"fault input at (\d+)", line):
         return input_word(given, int(found[1]))
-    if found := re.fullmatch(r"fault (read file|read input|write file|write out)", line):
+    if line == reading.LINE:
+        return [reading.why(name) or f"{name}: can't be read"]
+    if found := re.fullmatch(r"fault (read input|write file|write out)", line):
         return [FILES[found[1]].format(name)]
     return of_other_files(line, name, source)
 
@@ -350,7 +352,7 @@ def explain(name, input_name):
     try:
         status, notes = tried(name, input_name)
     except OSError as error:
-        print(f"{input_name}: can't be read: {error.strerror}")
+        print(reading.reason(input_name, error))
         return 5
     for line in notes.splitlines():
         if line.startswith("pra: "):

@@ -22,6 +22,7 @@ import os
 import sys
 
 import explain
+import reading
 import stopped
 import writing
 from picture import report
@@ -78,7 +79,8 @@ def read(name, most=-1):
         with open(name, "rb") as file:
             return file.read(most)
     except OSError as error:
-        raise Refused(writing.FAULT, "fault read file") from error
+        told = f"{reading.LINE}\n{reading.reason(name, error)}"
+        raise Refused(reading.FAULT, told) from error
 
 
 def make_program(image, name, names, steps, sources):

@@ -20,6 +20,7 @@ import os
 import subprocess
 import sys
 
+import reading
 import stopped
 import terminal
 import writing
@@ -90,8 +91,7 @@ def main(words):
         tell(file, refused.said)
         return refused.status
     except (OSError, UnicodeDecodeError) as error:
-        print(f"pra: {error}", file=sys.stderr)
-        return 5
+        return reading.tell(error, file)
     except (NoCertificate, NoReport, NotOfThisCode) as error:
         print(f"pra: no page: {error}", file=sys.stderr)
         return 70

@@ -12,6 +12,7 @@ import json
 import re
 import sys
 
+import reading
 from pranet.certificate import place_name
 
 DATA = re.compile(r'<script type="application/json" id="data(?:-(\d+))?">(.*?)</script>', re.S)
@@ -109,8 +110,7 @@ def main(words):
             value = value_of(text.read())
         value["procedures"][int(plain[1])]
     except (OSError, UnicodeDecodeError) as error:
-        print(f"pra: {plain[0]} can't be read: {error}", file=sys.stderr)
-        return 5
+        return reading.tell(error, plain[0])
     except (TypeError, LookupError, ValueError):
         print(f"pra: {plain[0]} is no page with a procedure {plain[1]}", file=sys.stderr)
         return 3
