@@ -84,7 +84,7 @@ def reasons(it, status, notes, name):
     if is_told or (status != 1 and status not in terminal.REFUSED):
         return []
     given = None if it.takes_input() else terminal.input_name()
-    told = explain.told(notes.decode(errors="replace"), name, given, it.mode)
+    told = explain.all_told(notes.decode(errors="replace"), name, given, it.mode)
     return [line.replace(name, STDIN) for line in told] if it.takes_input() else told
 
 

@@ -171,7 +171,7 @@ def meaning(words, status, notes):
         return [f"pra: {it}" for it in known_words.wrong(words)]
     if status == 1 or status in REFUSED:
         mode, name = mode_and_file(words)
-        return explain.told(notes.decode(errors="replace"), name, input_name(), mode)
+        return explain.all_told(notes.decode(errors="replace"), name, input_name(), mode)
     return []
 
 
