@@ -4,8 +4,8 @@ The compiler tells the first error of a module. Where that is in a statement the
 out of a copy, or its condition is replaced, or a semicolon that is missing is put in, and the
 compiler is asked again. No other line of the module changes by that, so what it says of another
 line of the copy is wrong in the module too. Errors that share a line with one before are not told,
-nor is twice that a name is declared nowhere, and nothing is guessed behind an error in a declaration
-or in how statements nest.
+nor is twice that a name is declared nowhere. Nothing is guessed behind an error in a declaration or
+in how statements nest.
 """
 
 import difflib

@@ -23,6 +23,7 @@ import sys
 import reading
 import stopped
 import terminal
+import version
 import writing
 from picture.listing import NotOfThisCode
 from picture.module import WEIGHTS, Module, OfCertificate
@@ -84,7 +85,8 @@ def main(words):
     compiler, pages = Compiler(values["--compiler"], clock), []
     try:
         for file in files:
-            pages.append(page_of(shown(file, compiler, values)))
+            warned = version.not_proved(compiler.program)
+            pages.append(page_of(shown(file, compiler, values), warned))
         text = pages[0] if len(pages) == 1 else side_by_side(files, pages)
         writing.write(name, text.encode(), read)
     except Refused as refused:

@@ -1,4 +1,4 @@
-"""Tests of what else is told of a module behind its first error, and of modules that always trap."""
+"""Tests of what else is told of a module behind its first error, and of traps of every input."""
 
 import re
 import tempfile
@@ -59,7 +59,8 @@ class Edits(unittest.TestCase):
         self.assertIsNone(edited(text, b"INTEGR", 0, "fault rule 8"))
         self.assertIsNone(edited(text, b"Q", 0, "fault rule 2"))
         self.assertIsNone(edited(self.body(b"x := 1; IF x ; x := 2"), b"; x := 2"))
-        self.assertIsNone(edited(b"MODULE M; PROCEDURE P; BEGIN END; BEGIN END M.", b"; BEGIN END M"))
+        text = b"MODULE M; PROCEDURE P; BEGIN END; BEGIN END M."
+        self.assertIsNone(edited(text, b"; BEGIN END M"))
         self.assertIsNone(edited(b"MODULE M; BEGIN x := 1 M.", b"M."))
 
 

@@ -1,4 +1,4 @@
-"""Which sources these are, and whether the compiler was proved and built of them: ./pra --version."""
+"""Which sources these are, and whether the compiler was proved of them: ./pra --version."""
 
 import os
 import subprocess
@@ -6,6 +6,7 @@ import subprocess
 import build
 
 PROGRAM = f"{build.TOP}/crates/{build.COMPILER}/out/{build.COMPILER}"
+PROVED = "proved and built of these sources"
 FORMATS = "images of version 1, certificates of version 1"
 
 
@@ -15,7 +16,8 @@ def said(command):
         ran = subprocess.run(command, capture_output=True, cwd=build.TOP, check=False)
     except OSError:
         return ""
-    return ran.stdout.decode(errors="replace").strip().partition("\n")[0] if not ran.returncode else ""
+    told = ran.stdout.decode(errors="replace").strip().partition("\n")[0]
+    return told if not ran.returncode else ""
 
 
 def commit():
@@ -36,7 +38,24 @@ def state(total):
         return "not built: calls run unproved (./pra build proves)"
     if built != total:
         return "sources have changed since the compiler was built: calls run unproved"
-    return "proved and built of these sources"
+    return PROVED
+
+
+def not_proved(program):
+    """Why what a program says was not proved, in a sentence, or nothing where it was."""
+    if os.path.realpath(program) == f"{build.TOP}/pra" or is_same(program, PROGRAM):
+        told = state(build.sum_of_sources(build.COMPILER))
+        if told == PROVED:
+            return ""
+        why = told.partition(":")[0]
+        return f"What made this page was not proved ({why}): it claims nothing."
+    if os.path.basename(os.path.dirname(os.path.realpath(program))) == ".unproved":
+        return "What made this page was not proved (an unproved build): it claims nothing."
+    return "Whether the program that made this page was proved is not known here."
+
+
+def is_same(one, other):
+    return os.path.exists(one) and os.path.exists(other) and os.path.samefile(one, other)
 
 
 def lines():

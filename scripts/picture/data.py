@@ -111,6 +111,7 @@ class Drawn:
             block["caps"], block["mems"] = caps, mems
         return {
             "number": self.code.number,
+            "name": next(iter(reported.values())).name,
             "total": self.code.total,
             "bound": self.code.bound,
             "value": prices.value,

@@ -33,8 +33,8 @@ def kept_rounds(most):
 class Shown:
     """All that a page shows."""
 
-    def __init__(self, command):
-        self.command = command
+    def __init__(self, file, options=""):
+        self.file, self.command = file, f"pra show {file}{options}"
         self.reports, self.source, self.headings = {}, b"", []
         self.certificate, self.drawn = None, []
 
@@ -49,7 +49,7 @@ class OfCertificate(Shown):
     """A certificate by itself: there is no source, no report and no image."""
 
     def __init__(self, compiler, file):
-        super().__init__(f"pra show {file}")
+        super().__init__(file)
         compiler.call("check", file)
         with open(file, encoding="utf-8") as text:
             self.certificate = certificate.read(text.read())
@@ -70,7 +70,8 @@ class Module(Shown):
 
     def __init__(self, compiler, file, rounds, cost, given=None):
         told = f" --input {given}" if given else ""
-        super().__init__(f"pra show {file} --rounds {rounds} --cost {cost}{told}")
+        super().__init__(file, f" --rounds {rounds} --cost {cost}{told}")
+        self.rounds = int(rounds)
         with tempfile.TemporaryDirectory(prefix="pra-show-") as room:
             image = f"{room}/out.pri"
             for word in sorted(WEIGHTS, key=lambda it: it == cost):
@@ -91,6 +92,7 @@ class Module(Shown):
         source = lines.Source(self.source)
         for it in self.drawn:
             self.test_states(it)
+            it.states = self.made_states(it)
             it.lines = lines.lines_of_blocks(source, it.code.number, it.code.blocks)
 
     @staticmethod
@@ -113,6 +115,12 @@ class Module(Shown):
                     f"procedure {drawn.code.number} costs {total} after {rounds} rounds by its"
                     f" certificate, {paid} by its routes, and {told[0]} is reported"
                 )
+
+    def made_states(self, drawn):
+        """The states of a procedure up to the one behind its last round."""
+        made = len(self.reports[self.certificate.cost].procedures[drawn.code.number].rounds) - 1
+        before = [it for it in drawn.states if it[0] < made]
+        return [*before, (made, *drawn.states[len(before)][1:])]
 
     def draw(self, listed):
         """Each procedure, with the machine instructions that it became."""

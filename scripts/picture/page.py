@@ -15,6 +15,7 @@ HERE = os.path.dirname(os.path.realpath(__file__))
 UNIT = {"size": "bytes", "speed": "units of time"}
 LONG_SOURCE = 60  # lines that are shown without being asked for
 LONG_CODE = 200  # instructions of a procedure that is
+SHORT_TABLE = 12  # procedures whose table is open
 
 TEMPLATE = """<!DOCTYPE html>
 <html lang="en">
@@ -31,21 +32,22 @@ TEMPLATE = """<!DOCTYPE html>
 <h1>{title}</h1>
 <p class="lead">{sentence}</p>
 <p class="faint">{made}</p>
-</header>
+{not_proved}</header>
 <noscript>
 <p>Grids and curves are drawn by a script in this page, which needs no network.</p>
 </noscript>
 <main>
 <h2 id="procedures">Procedures</h2>
 {procedures}
-<p><button type="button" class="tool" data-open>Open all procedures</button></p>
-<h2 id="reading">How to read this page</h2>
-{reading}
-<h2 id="events">What each event cost in the module</h2>
-{events}
+<p><button type="button" class="tool" data-open>Open all procedures</button>
+<a href="#reading">How to read this page</a></p>
+{sections}
 <h2 id="source">Source</h2>
 {source}
-{sections}
+<h2 id="events">What each event cost in the module</h2>
+{events}
+<h2 id="reading">How to read this page</h2>
+{reading}
 </main>
 {data}
 <script>
@@ -140,19 +142,21 @@ def legend():
     return "".join(out)
 
 
-def table(heads, rows, foot=None):
-    """Rows of cells as HTML; a head that begins with # is of a column of numbers."""
+def table(name, heads, rows, foot=None):
+    """Rows of cells as HTML, with a name for those who hear it; a head that begins with # is of a
+    column of numbers."""
     numbers = [it.startswith("#") for it in heads]
 
-    def cells(row, tag):
-        kinds = (f"<{tag} class=number>" if it else f"<{tag}>" for it in numbers)
+    def cells(row, tag, more=""):
+        kinds = (f"<{tag}{more} class=number>" if it else f"<{tag}{more}>" for it in numbers)
         return "".join(f"{kind}{it}</{tag}>" for kind, it in zip(kinds, row, strict=True))
 
-    head = cells([it.lstrip("#") for it in heads], "th")
+    head = cells([it.lstrip("#") for it in heads], "th", ' scope="col"')
     body = "".join(f"<tr>{cells(row, 'td')}</tr>" for row in rows)
     last = f"<tfoot><tr>{cells(foot, 'td')}</tr></tfoot>" if foot else ""
     return (
-        f'<div class="wide"><table class="plain"><thead><tr>{head}</tr></thead>'
+        f'<div class="wide"><table class="plain"><caption class="heard">{escape(name)}</caption>'
+        f"<thead><tr>{head}</tr></thead>"
         f"<tbody>{body}</tbody>{last}</table></div>"
     )
 
@@ -166,7 +170,7 @@ def events_table(drawn, cost):
     foot = ("", "in all", "", sum(row[3] for row in rows), sum(row[4] for row in rows))
     note = ", eight times as much for each loop around it" if cost == "speed" else ""
     return f"<p>An event costs its weight each time that it comes{note}.</p>" + table(
-        heads, rows, foot
+        "What each event cost in the module", heads, rows, foot
     )
 
 
@@ -182,7 +186,10 @@ def procedures_table(module):
     lines = [heads, *rows, ("", "all", *(sum(row[at] for row in rows) for at in range(2, 7)))]
     if not module.source:  # a certificate has no rounds
         lines = [(*line[:first], *line[first + 1 :]) for line in lines]
-    return table(lines[0], lines[1:-1], lines[-1])
+    made = table("Procedures, their costs and bounds", lines[0], lines[1:-1], lines[-1])
+    if len(rows) <= SHORT_TABLE:
+        return made
+    return f"<details><summary>All {len(rows)} procedures</summary>{made}</details>"
 
 
 def source_lines(source):
@@ -264,18 +271,29 @@ def data_of(module):
     return "\n".join(script_data(*it) for it in [("data", page), *named])
 
 
-def page_of(module):
-    """The page of a module as text."""
+def title_of(module):
+    """A name of the page, which another page of the module has not: by weight and rounds."""
+    cost, report = module.certificate.cost, module.reports[module.certificate.cost]
+    if not module.source:
+        return f"{module.file} by {cost}"
+    rounds = f"{module.rounds} round{'s' * (module.rounds != 1)}"
+    return f"{report.procedures[0].name} by {cost}, {rounds}"
+
+
+def page_of(module, not_proved=""):
+    """The page of a module as text; not_proved says why what made it was not proved."""
     cost, report = module.certificate.cost, module.reports[module.certificate.cost]
     sections = "\n".join(section(module, it) for it in range(len(module.drawn)))
-    name = report.procedures[0].name if module.source else module.command.split(" ", 2)[2]
+    name = report.procedures[0].name if module.source else module.file
     whole = at_most(report.cost, report.bound, UNIT[cost])
     kind = "module" if module.source else "certificate"
+    warned = f'<p class="warned">{escape(not_proved)}</p>\n' if not_proved else ""
     return TEMPLATE.format(
-        title=f"{escape(name)}: an allocation",
+        title=escape(title_of(module)),
         css=asset("page.css"),
         sentence=f"The allocation of the {kind} {escape(name)}. {whole}",
         made=made_words(module),
+        not_proved=warned,
         procedures=procedures_table(module),
         reading=READING.format(legend=legend(), unit=UNITS[cost]),
         events=events_table(module.drawn, cost),
