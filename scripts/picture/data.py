@@ -1,5 +1,7 @@
 """What the page's script draws: a JSON value for each procedure."""
 
+from dataclasses import dataclass, field
+
 from picture.prices import Prices
 from pranet.certificate import end_text, instruction_text
 from pranet.network import Network
@@ -26,6 +28,19 @@ def names_of(procedure, heading):
     return names, words
 
 
+@dataclass
+class State:
+    """Routes of a procedure that a page shows: those after some rounds, or of a certificate."""
+
+    rounds: int | None
+    routes: list
+    cost: int
+    bound: int
+    name: str = ""  # of the certificate
+    reasons: list = field(default_factory=list)  # why that is refused
+    wrong: list = field(default_factory=list)  # block, variable, layer of a cell, and why
+
+
 def lines_of(lines):
     return [[f"{place:08x}", text] for place, text in lines]
 
@@ -39,7 +54,8 @@ class Drawn:
         self.names, self.words = names_of(procedure, heading)
         self.machine = None  # its machine instructions, where they are known
         self.lines = []  # of each block the lines of the source that it came from
-        self.states = []  # number of rounds, routes, cost and bound, of those that were kept
+        self.states = []  # those that were kept
+        self.total = procedure.total
         self.paid = self.network.paid(procedure.routes, cost)
 
     def name(self, v):
@@ -89,12 +105,37 @@ class Drawn:
     def kept_states(self):
         """The states, each with those blocks alone in which routes differ from the state before."""
         kept, last = [], {}
-        for rounds, routes, cost, bound in self.states:
-            now = dict(enumerate(self.drawn_routes(routes)))
+        for state in self.states:
+            now = dict(enumerate(self.drawn_routes(state.routes)))
             changed = {at: it for at, it in now.items() if it != last.get(at)}
-            kept.append({"rounds": rounds, "cost": cost, "bound": bound, "blocks": changed})
+            kept.append({"rounds": state.rounds, "cost": state.cost, "bound": state.bound})
+            kept[-1]["blocks"] = changed
+            if state.name:
+                kept[-1] |= {"name": state.name, "reasons": state.reasons, "wrong": state.wrong}
             last = now
         return kept
+
+    def costs_of(self, routes):
+        """What moves and operands cost, by block and variable."""
+        costs = {}
+        for it in [*self.network.moves(routes), *self.network.met(routes)]:
+            events = it.events if hasattr(it, "events") else [it.event]
+            key = it.block, self.network.strands[it.strand].var
+            costs[key] = costs.get(key, 0) + sum(self.weight(e, it.block) for e in events)
+        return costs
+
+    def differences(self):
+        """Where states differ from the first one: state, block, variable, and what that costs in
+        the first and in it."""
+        first, found = self.states[0], []
+        costs = self.costs_of(first.routes)
+        for number, state in enumerate(self.states[1:], 1):
+            others = self.costs_of(state.routes)
+            strands = zip(self.network.strands, first.routes, state.routes, strict=True)
+            keys = {(it.block, it.var) for it, one, two in strands if one != two}
+            for key in sorted(keys):
+                found.append([number, *key, costs.get(key, 0), others.get(key, 0)])
+        return found
 
     def value(self, reported, others, masks):
         """The whole of it; reported has the rounds by each weight, others what other allocators
@@ -112,7 +153,7 @@ class Drawn:
         return {
             "number": self.code.number,
             "name": next(iter(reported.values())).name,
-            "total": self.code.total,
+            "total": self.total,
             "bound": self.code.bound,
             "value": prices.value,
             "ways": prices.ways(),
@@ -124,6 +165,7 @@ class Drawn:
             "prologue": lines_of(self.machine.prologue) if self.machine else [],
             "blocks": blocks,
             "states": self.kept_states(),
+            "differs": self.differences() if self.states[0].name else [],
             "paid": [[event, *counts] for event, counts in self.paid.items()],
         }
 

@@ -12,9 +12,22 @@
   function procedureOf(number) {
     if (!known[number]) {
       known[number] = JSON.parse(document.getElementById(`data-${number}`).textContent);
-      shownState[number] = known[number].states.length - 1;
+      shownState[number] = isNamed(known[number]) ? 0 : known[number].states.length - 1;
     }
     return known[number];
+  }
+
+  // Whether states are certificates, and not rounds.
+  function isNamed(p) {
+    return Boolean(p.states[0].name);
+  }
+
+  // The state that the shown one is held against: the one before, or of certificates the first or
+  // the second one.
+  function besides(p) {
+    const state = shownState[p.number];
+    if (!isNamed(p)) return state - 1;
+    return state > 0 ? 0 : p.states.length > 1 ? 1 : -1;
   }
 
   function numberOf(section) {
@@ -271,11 +284,14 @@
     const drawn = [];
     for (const [column, place] of at.rows[layer]) {
       const v = at.columns[column], extra = at.extras.get(layer + " " + column);
-      const words = `${p.names[v]} at layer ${layer}: ${placeName(place)}` +
+      let words = `${p.names[v]} at layer ${layer}: ${placeName(place)}` +
         (extra ? `; ${page.events[extra[2]]} (event ${extra[2]}): ${cost(extra[3])}` : "");
-      const isNew = before && before.rows[layer].get(column) !== place;
-      const kind = `p${place.toString(16)}${place > 7 ? " both" : ""}${isNew ? " changed" : ""}`;
-      const mark = extra ? `<span class="extra" data-e="${extra[2]}">${cost(extra[3])}</span>` : "";
+      const old = before ? before.rows[layer].get(column) : place, isNew = old !== place, why = at.wrong.get(layer + " " + column);
+      const kind = `p${place.toString(16)}${place > 7 ? " both" : ""}${isNew ? " changed" : ""}${why ? " wrong" : ""}`;
+      let mark = extra ? `<span class="extra" data-e="${extra[2]}">${cost(extra[3])}</span>` : "";
+      if (isNew && before.name) mark += `<span class="was">${placeText(old)}</span>`;
+      if (isNew && before.name) words += `; in ${before.name}: ${placeName(old)}`;
+      if (why) words += `; wrong: ${why}`;
       drawn.push([column, `<td data-v="${v}" data-l="${layer}" class="${kind}" tabindex="-1" title="${escaped(words)}">${placeText(place)}${mark}</td>`]);
     }
     return row(drawn, at.columns.length);
@@ -342,8 +358,12 @@
   function grid(p, number, some) {
     const state = shownState[p.number], block = p.blocks[number], columns = some || variables(p, block);
     const at = layers(block, columns, drawnIn(p, state, number), p.kinds), isLast = state === p.states.length - 1;
-    const isSame = state === 0 || drawnIn(p, state - 1, number) === drawnIn(p, state, number);
-    const before = isSame ? null : layers(block, columns, drawnIn(p, state - 1, number), p.kinds);
+    const other = besides(p), isSame = other < 0 || drawnIn(p, other, number) === drawnIn(p, state, number);
+    const before = isSame ? null : layers(block, columns, drawnIn(p, other, number), p.kinds);
+    const wrong = new Map((p.states[state].wrong || []).filter((it) => it[0] === number)
+      .map(([, v, layer, why]) => [layer + " " + columns.indexOf(v), why]));
+    if (before) before.name = isNamed(p) ? p.states[other].name : "";
+    at.wrong = wrong;
     const heat = heatOf(p, block, at), mems = new Map(block.mems);
     const machineOf = (lines) => machine(isLast ? lines : []);
     let head = "";
@@ -366,7 +386,7 @@
     const exit = 2 * block.code.length + 1;
     out += gap(p, block, at, exit, heat, isLast);
     out += `<tr class="end">${layer(exit)}<td class="what">${escaped(block.end)}</td><td class="machine">${machineOf(block.ended)}</td>${cells(p, at, exit, before)}</tr>`;
-    return `<table class="grid" data-block="${number}">${caption(`Where variables are in block ${number} of ${p.name}`)}<thead><tr><th class="layer" scope="col" title="the number of the layer">layer</th>${heat.head}<th class="what" scope="col">instruction</th><th class="machine" scope="col">machine instructions${isLast ? "" : " <span class=\"faint\">(of the last round)</span>"}</th>${head}</tr></thead><tbody>${out}</tbody></table>`;
+    return `<table class="grid${block.machine ? "" : " no-machine"}" data-block="${number}">${caption(`Where variables are in block ${number} of ${p.name}`)}<thead><tr><th class="layer" scope="col" title="the number of the layer">layer</th>${heat.head}<th class="what" scope="col">instruction</th><th class="machine" scope="col">machine instructions${isLast || isNamed(p) ? "" : " <span class=\"faint\">(of the last round)</span>"}</th>${head}</tr></thead><tbody>${out}</tbody></table>`;
   }
 
   // ---- least priced paths
@@ -460,13 +480,24 @@
   // ---- the slider over rounds
 
   function stateWords(p) {
+    if (isNamed(p)) {
+      const { name, cost: paid, bound, reasons } = p.states[shownState[p.number]];
+      return `${name}: cost ${paid}, ${reasons.length ? "refused" : `bound ${bound}`}`;
+    }
     const state = p.states[shownState[p.number]], made = p.rounds[page.cost].length - 1;
     const rounds = state.rounds, last = rounds === made ? ", the last" : "";
     const told = state.rounds === null ? "" : `After ${rounds} round${rounds === 1 ? "" : "s"}${last}: `;
     return `${told}cost ${state.cost}, bound ${state.bound}`;
   }
 
+  // Of certificates a button each.
+  function choices(p) {
+    const buttons = p.states.map((it, i) => `<button type="button" data-choice="${i}" aria-pressed="${i === shownState[p.number]}">${escaped(it.name)}</button>`);
+    return `<p class="slider" role="group" aria-label="Which certificate is shown">${buttons.join(" ")} <output data-state="${shownState[p.number]}">${escaped(stateWords(p))}</output></p>`;
+  }
+
   function slider(p) {
+    if (isNamed(p)) return choices(p);
     if (p.states.length < 2) return "";
     const ticks = p.states.map((it, i) => `<option value="${i}" label="${it.rounds}"></option>`).join("");
     return `<p class="slider"><label for="slider${p.number}">Rounds</label> ` +
@@ -477,9 +508,12 @@
   function slide(section, state) {
     const p = procedureOf(numberOf(section)), input = section.querySelector("[data-slider]");
     shownState[p.number] = Math.max(0, Math.min(state, p.states.length - 1));
-    if (!input) return;
-    input.value = shownState[p.number];
-    input.setAttribute("aria-valuetext", stateWords(p));
+    if (input) {
+      input.value = shownState[p.number];
+      input.setAttribute("aria-valuetext", stateWords(p));
+    }
+    section.querySelectorAll("[data-choice]").forEach((it) => it.setAttribute("aria-pressed", String(Number(it.dataset.choice) === shownState[p.number])));
+    if (!section.querySelector("output")) return;
     const output = section.querySelector("output");
     output.textContent = stateWords(p);
     output.dataset.state = shownState[p.number];
@@ -490,6 +524,32 @@
       [box.scrollLeft, box.scrollTop] = scrolled;
       begin(box);
     });
+  }
+
+  // ---- certificates beside each other
+
+  // Why certificates are refused.
+  function reasons(p) {
+    return p.states.filter((it) => (it.reasons || []).length).map((it) =>
+      `<p>${escaped(it.name)} is refused:</p><ul class="reasons">${it.reasons.map((why) => `<li>${escaped(why)}</li>`).join("")}</ul>`).join("");
+  }
+
+  // Which variables go other ways in other certificates, block by block, and what that costs.
+  function differences(p) {
+    if (!isNamed(p) || p.states.length < 2) return "";
+    if (!p.differs.length) return `<h3>What differs</h3><p>Nothing: all routes of this procedure are the same.</p>`;
+    const rows = p.differs.map(([state, block, v, one, two]) => {
+      const more = two - one, told = more === 0 ? "as much" : more > 0 ? `${more} more` : `${-more} less`;
+      return `<tr><td><button type="button" data-mark="${v}">${escaped(p.names[v])}</button></td><td><a href="#p${p.number}b${block}">block ${block}</a></td><td class="number">${one}</td><td class="number">${two}</td><td>${told} in ${escaped(p.states[state].name)}</td></tr>`;
+    });
+    const first = escaped(p.states[0].name);
+    return `<h3>What differs, and what it costs</h3><p class="faint">A cell that differs shows small where the variable is in the other certificate.</p><div class="wide"><table class="plain">${caption("What differs in " + p.name)}<thead><tr><th scope="col">variable</th><th scope="col">where</th><th scope="col" class="number">in ${first}</th><th scope="col" class="number">in the other</th><th scope="col">which costs</th></tr></thead><tbody>${rows.join("")}</tbody></table></div>`;
+  }
+
+  function costsTable(p) {
+    const rows = p.states.map((it) => `<tr><td>${escaped(it.name)}</td><td class="number">${it.cost}</td><td class="number">${it.reasons.length ? "refused" : it.bound}</td></tr>`);
+    for (const [name, value] of Object.entries(p.others[page.cost] || {})) rows.push(`<tr><td>${name}</td><td class="number">${value ?? "none"}</td><td></td></tr>`);
+    return `<div class="wide"><table class="plain">${caption("Costs and bounds of " + p.name)}<thead><tr><th scope="col">certificate</th><th scope="col" class="number">cost</th><th scope="col" class="number">bound</th></tr></thead><tbody>${rows.join("")}</tbody></table></div>`;
   }
 
   // ---- procedures
@@ -537,7 +597,8 @@
     body.dataset.drawn = "yes";
     body.style.minHeight = "";
     const p = procedureOf(numberOf(section));
-    let out = `<h3>Cost and bound, round by round</h3><div class="curves"></div>`;
+    let out = reasons(p);
+    out += isNamed(p) ? `<h3>Cost and bound</h3>${costsTable(p)}` : `<h3>Cost and bound, round by round</h3><div class="curves"></div>`;
     if (p.blocks.length > 1) out += `<h3>Blocks and loops</h3>${flow(p)}`;
     out += `<h3>Where variables are</h3>`;
     out += `<p><button type="button" class="tool only-narrow" data-machine>Show or hide prices and machine instructions</button></p>`;
@@ -546,7 +607,7 @@
       out += `<h3 id="p${p.number}b${number}">Block ${number}, ${loops(block.depth)}${linesOf(block)}</h3>`;
       out += `<div class="grid-box" data-grid="${number}" tabindex="0" role="region" aria-label="Grid of block ${number}" style="min-height: ${Math.min(560, 60 + 40 * block.code.length)}px"></div>`;
     });
-    out += `<h3>What each event cost</h3>${paidTable(p)}${roundsTable(p)}${priceWords(p)}${levelWords(p)}`;
+    out += `${differences(p)}<h3>What each event cost</h3>${paidTable(p)}${isNamed(p) ? "" : roundsTable(p)}${priceWords(p)}${levelWords(p)}`;
     body.innerHTML = out;
     drawCurves(section);
     section.querySelectorAll("[data-grid]").forEach((box) => sight.observe(box));
@@ -605,6 +666,8 @@
     const section = event.target.closest("section.procedure");
     if (event.target.closest("[data-open]")) return openAll();
     if (!section) return undefined;
+    const choice = event.target.closest("[data-choice]");
+    if (choice) return slide(section, Number(choice.dataset.choice));
     if (event.target.closest("[data-unmark]")) return mark(section, marks[section.id]);
     if (event.target.closest("[data-machine]")) return section.classList.toggle("with-machine");
     const cell = event.target.closest("[data-v], [data-mark]");

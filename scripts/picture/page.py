@@ -174,22 +174,47 @@ def events_table(drawn, cost):
     )
 
 
+def compared_table(module):
+    """The costs of each procedure by several certificates."""
+    names = [it.name for it in module.read]
+    heads = ["", "procedure", "#instructions", *(f"#{escape(it)}" for it in names), "#bound"]
+    rows = []
+    for it, reported in zip(module.drawn, reports_of(module), strict=True):
+        link = f'<a href="#p{it.code.number}">{escape(reported.name)}</a>'
+        count = sum(len(block.code) for block in it.code.blocks)
+        costs = [state.cost for state in it.states]
+        rows.append((it.code.number, link, count, *costs, it.code.bound))
+    foot = ("", "all", *(sum(row[at] for row in rows) for at in range(2, len(heads))))
+    return folded(table("Procedures, and what they cost by each certificate", heads, rows, foot), rows)
+
+
+def reports_of(module):
+    return module.reports[module.certificate.cost].procedures
+
+
+def folded(made, rows):
+    """A table of procedures, which is closed at first where it is long."""
+    if len(rows) <= SHORT_TABLE:
+        return made
+    return f"<details><summary>All {len(rows)} procedures</summary>{made}</details>"
+
+
 def procedures_table(module):
+    if module.is_compared:
+        return compared_table(module)
     heads = ["", "procedure", "#instructions", "#round 0", "#cost", "#bound", "#at most above"]
     rows, cost, first = [], module.certificate.cost, heads.index("#round 0")
     for it, reported in zip(module.drawn, module.reports[cost].procedures, strict=True):
         number = it.code.number
         link = f'<a href="#p{number}">{escape(reported.name)}</a>'
         count = sum(len(block.code) for block in it.code.blocks)
-        total, bound = it.code.total, it.code.bound
+        total, bound = it.total, it.code.bound
         rows.append((number, link, count, reported.rounds[0][0], total, bound, total - bound))
     lines = [heads, *rows, ("", "all", *(sum(row[at] for row in rows) for at in range(2, 7)))]
     if not module.source:  # a certificate has no rounds
         lines = [(*line[:first], *line[first + 1 :]) for line in lines]
     made = table("Procedures, their costs and bounds", lines[0], lines[1:-1], lines[-1])
-    if len(rows) <= SHORT_TABLE:
-        return made
-    return f"<details><summary>All {len(rows)} procedures</summary>{made}</details>"
+    return folded(made, rows)
 
 
 def source_lines(source):
@@ -214,7 +239,9 @@ def where_from(module, number):
 def section(module, number):
     drawn, cost = module.drawn[number], module.certificate.cost
     reported = module.reports[cost].procedures[number]
-    words = at_most(drawn.code.total, drawn.code.bound, UNIT[cost])
+    words = at_most(drawn.total, drawn.code.bound, UNIT[cost])
+    if drawn.states[0].reasons:
+        words = f"Its routes come to {drawn.total} {UNIT[cost]}, and are refused."
     frame = f" takes {reported.frame} bytes of stack a call." if reported.frame is not None else "."
     return (
         f'<section class="procedure" id="p{number}" data-number="{number}"><details>'
@@ -224,7 +251,18 @@ def section(module, number):
     )
 
 
+def made_of_certificates(module):
+    """Which certificates a page is of, and whether they hold."""
+    told = []
+    for it in module.read:
+        how = f"is refused: <code>{escape(it.line)}</code>" if it.line else "was tested and holds"
+        told.append(f"The certificate {escape(it.name)} {how}.")
+    return f"By <code>{escape(module.command)}</code>. {' '.join(told)}"
+
+
 def made_words(module):
+    if not module.source:
+        return made_of_certificates(module)
     cost, command = module.certificate.cost, escape(module.command)
     report = module.reports[cost]
     ran = f" The run: <code>{escape(report.ending)}</code>." if report.ending else ""
@@ -238,10 +276,23 @@ def made_words(module):
 def first_open(module):
     """The procedure that is open at first: the one with the dearest round 0, but no huge one."""
     reported = module.reports[module.certificate.cost].procedures
+    if not module.source:
+        return first_to_look_at(module.drawn)
     sizes = [sum(len(block.code) for block in it.code.blocks) for it in module.drawn]
     most = max(LONG_CODE, min(sizes))
     small = (at for at, size in enumerate(sizes) if size <= most)
     return max(small, key=lambda it: reported[it].rounds[0][0])
+
+
+def first_to_look_at(drawn):
+    """Of certificates the procedure that is refused, or else where they differ most, or the dearest."""
+
+    def weight(at):
+        states = drawn[at].states
+        costs = [it.cost for it in states]
+        return any(it.reasons for it in states), max(costs) - min(costs), costs[0], -at
+
+    return max(range(len(drawn)), key=weight)
 
 
 def script_data(name, value):
@@ -275,23 +326,36 @@ def title_of(module):
     """A name of the page, which another page of the module has not: by weight and rounds."""
     cost, report = module.certificate.cost, module.reports[module.certificate.cost]
     if not module.source:
-        return f"{module.file} by {cost}"
+        return f"{' and '.join(it.name for it in module.read)} by {cost}"
     rounds = f"{module.rounds} round{'s' * (module.rounds != 1)}"
     return f"{report.procedures[0].name} by {cost}, {rounds}"
+
+
+def sentence_of(module, report, unit):
+    """What the page is of, and how good that is."""
+    whole = at_most(report.cost, report.bound, unit)
+    if module.source:
+        return f"The allocation of the module {escape(report.procedures[0].name)}. {whole}"
+    names = [escape(it.name) for it in module.read]
+    if module.is_compared:
+        sums = [sum(it.states[at].cost for it in module.drawn) for at in range(len(names))]
+        told = ", ".join(f"{name} costs {it} {unit}" for name, it in zip(names, sums, strict=True))
+        return f"Certificates of one module: {told}. No allocation costs less than {report.bound}."
+    if module.refused:
+        return f"The certificate {names[0]}, which is refused: what is wrong is marked."
+    return f"The allocation of the certificate {names[0]}. {whole}"
 
 
 def page_of(module, not_proved=""):
     """The page of a module as text; not_proved says why what made it was not proved."""
     cost, report = module.certificate.cost, module.reports[module.certificate.cost]
     sections = "\n".join(section(module, it) for it in range(len(module.drawn)))
-    name = report.procedures[0].name if module.source else module.file
-    whole = at_most(report.cost, report.bound, UNIT[cost])
-    kind = "module" if module.source else "certificate"
+    sentence = sentence_of(module, report, UNIT[cost])
     warned = f'<p class="warned">{escape(not_proved)}</p>\n' if not_proved else ""
     return TEMPLATE.format(
         title=escape(title_of(module)),
         css=asset("page.css"),
-        sentence=f"The allocation of the {kind} {escape(name)}. {whole}",
+        sentence=sentence,
         made=made_words(module),
         not_proved=warned,
         procedures=procedures_table(module),
