@@ -8,23 +8,25 @@ from pranet.network import Network
 from pranet.operands import EVENTS, weight
 
 
-def names_of(procedure, heading):
-    """What the variables of a procedure are called, and what each is, in words."""
+def names_of(procedure, heading, known):
+    """What the variables of a procedure are called, and what each is, in words. Known are the names
+    of some locals, by variable."""
     names, words, used = [], [], set()
     for v, it in enumerate(procedure.variables):
         if it.kind == "constant":
             names.append(str(it.value))
             words.append(f"the constant {it.value}")
             continue
-        known = it.kind == "param" and it.value < len(heading.parameters)
-        name, by_var = heading.parameters[it.value] if known else (f"v{v}", False)
+        is_told = it.kind == "param" and it.value < len(heading.parameters)
+        name, by_var = heading.parameters[it.value] if is_told else (known.get(v, f"v{v}"), False)
         names.append(name if name not in used else f"{name}.{v}")
         used.add(name)
         if it.kind == "param":
             holds = f"the address of {name}, which is VAR" if by_var else f"the parameter {name}"
             words.append(f"{holds}: argument {it.value}")
         else:
-            words.append("a local variable or an intermediate value")
+            kind = "the local variable" if v in known else "a local variable or an intermediate value"
+            words.append(f"{kind} {name}" if v in known else kind)
     return names, words
 
 
@@ -48,10 +50,10 @@ def lines_of(lines):
 class Drawn:
     """One procedure as the page has it."""
 
-    def __init__(self, cost, procedure, heading):
+    def __init__(self, cost, procedure, heading, known=None):
         self.cost, self.code = cost, procedure
         self.network = Network(procedure)
-        self.names, self.words = names_of(procedure, heading)
+        self.names, self.words = names_of(procedure, heading, known or {})
         self.machine = None  # its machine instructions, where they are known
         self.lines = []  # of each block the lines of the source that it came from
         self.states = []  # those that were kept

@@ -4,7 +4,7 @@ import os
 import tempfile
 from dataclasses import replace
 
-from picture import lines, listing, report, wrong
+from picture import lines, listing, local_names, report, wrong
 from picture.data import Drawn, State
 from pranet import certificate
 from pranet.certificate import code_value
@@ -223,9 +223,10 @@ class Module(Shown):
     def draw(self, listed):
         """Each procedure, with the machine instructions that it became."""
         reader, cost = listing.Reader(listing.read(listed)), self.certificate.cost
-        drawn = []
+        drawn, source = [], local_names.Named(self.source)
         for procedure, heading in zip(self.certificate.procedures, self.headings, strict=True):
-            it = Drawn(cost, procedure, heading)
+            known = local_names.names_of(source, procedure.number, procedure)
+            it = Drawn(cost, procedure, heading, known)
             it.machine = reader.procedure(it.network, procedure.routes)
             drawn.append(it)
         if reader.at != len(reader.instructions):

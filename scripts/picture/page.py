@@ -83,8 +83,9 @@ with prices, and for each other place what the cheapest way through that place c
 than its own.</p>
 <p>Lines beside the head of a block are those of the source from which its calls, comparisons,
 divisions, tests of indexes, reads and writes come: the scripts find them again by their order.</p>
-<p>Parameters have the names of the source. The others are called v and a number: the compiler has
-parted, merged and copied the variables of the source before it allocates them.</p>
+<p>Parameters have the names of the source, and so have locals where the scripts find them again by
+the order of words. The others are called v and a number: the compiler has parted, merged and copied
+the variables of the source before it allocates them.</p>
 <p>The <em>cost</em> is the sum of all events: moves, memory operands and immediates. {unit} What
 every allocation has to pay, such as the instructions themselves, is left out. The <em>bound</em> is
 a number below which no allocation of this code can go, whatever it is; the compiler's checker has
