@@ -31,7 +31,7 @@ OWN = ("--explain", "--json", "--help", "-h", "--version")
 TO_OUTPUT = ("compile", "gen", "apply", "check")  # the modes whose report is their output
 REPORTS = (*TO_OUTPUT, "run", "interp", "exec")
 NAME_THEIR_FILE = ("explain", "show")  # the words that tell the name of FILE
-WITHOUT_FILE = ("gen", "grade", "help", "build", "man", "completion")
+WITHOUT_FILE = ("gen", "grade", "help", "build", "test", "man", "completion")
 
 
 class Words:
