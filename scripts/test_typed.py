@@ -10,41 +10,53 @@ from unittest import mock
 
 import terminal
 
-ECHO = "import sys, time; text = sys.stdin.read(); time.sleep({}); print(text, file=sys.stderr)"
+ECHO = "import sys; text = sys.stdin.read(); print(text, file=sys.stderr)"
+
+
+class Recorder:
+    """A clock that keeps what it was asked for."""
+
+    def __init__(self):
+        self.asked = []
+
+    def show(self):
+        self.asked.append("show")
+
+    def restart(self):
+        self.asked.append("restart")
+
+    def clear(self):
+        pass
 
 
 class Typed(unittest.TestCase):
-    """A command that reads what a person types on a terminal, and then works for a while."""
+    """A command that reads what a person types on a terminal."""
 
-    def watch(self, seconds_typed, seconds_worked):
-        """What is shown while it is typed, and in all."""
+    def test_the_clock_is_shown_and_counts_from_where_typing_ends(self):
         master, typed = pty.openpty()
-        shown, to = os.pipe()
-        self.addCleanup(lambda: [os.close(it) for it in (master, typed, shown, to)])
-        os.set_blocking(shown, False)
-        while_typed = []
+        self.addCleanup(lambda: [os.close(it) for it in (master, typed)])
+        clock, while_typed = Recorder(), []
 
         def person():
             os.write(master, b"1 2\n")
-            time.sleep(seconds_typed)
-            while_typed.append(read(shown))
+            time.sleep(2.5)
+            while_typed.extend(clock.asked)
             os.write(master, b"\x04")
 
-        command = [sys.executable, "-c", ECHO.format(seconds_worked)]
         hand = threading.Thread(target=person)
         hand.start()
-        with mock.patch.object(terminal, "PATIENCE", 1):
-            with mock.patch.object(terminal, "write_all", only_to(to)):
-                status, notes = terminal.watched(command, terminal.Clock(to, "pra run"), typed)
+        with mock.patch.object(terminal, "write_all", not_to_standard_streams()):
+            status, notes = terminal.watched([sys.executable, "-c", ECHO], clock, typed)
         hand.join()
         self.assertEqual((status, notes), (0, b"1 2\n\n"))
-        return while_typed[0], read(shown)
+        self.assertEqual(while_typed, [])
+        self.assertEqual(clock.asked[0], "restart")
 
-    def test_the_clock_counts_from_where_typing_ends(self):
-        while_typed, behind = self.watch(2.5, 1.5)
-        self.assertEqual(while_typed, b"")
-        self.assertIn(b"pra: pra run, 0 min 1 s", behind)
-        self.assertNotIn(b"0 min 3 s", behind)
+    def test_a_clock_that_begins_anew_counts_from_there(self):
+        clock = terminal.Clock(2, "pra run")
+        clock.begun -= 1000
+        clock.restart()
+        self.assertLess(time.monotonic() - clock.begun, 500)
 
     def test_what_waits_for_input_says_so(self):
         master, typed = pty.openpty()
@@ -60,17 +72,10 @@ class Typed(unittest.TestCase):
             self.assertIsNone(terminal.typed_for("run"))
 
 
-def read(stream):
-    try:
-        return os.read(stream, 1 << 16)
-    except BlockingIOError:
-        return b""
-
-
-def only_to(stream):
-    """Writes to standard error are left out, so that tests are quiet."""
+def not_to_standard_streams():
+    """Writes to output and notes are left out, so that tests are quiet."""
     plain = terminal.write_all
-    return lambda to, data: plain(to, data) if to not in (1, 2) or to == stream else None
+    return lambda to, data: None if to in (1, 2) else plain(to, data)
 
 
 if __name__ == "__main__":
