@@ -63,7 +63,7 @@ class Row:
 
 
 def llvms(procedures):
-    """What LLVM's allocators come to, by name and weights, a list for the procedures of a module."""
+    """What LLVM's allocators come to, by name and weights, a list for a module's procedures."""
     if not beside_llvm.is_there():
         return {}
     found = {it: beside_llvm.allocated(procedures, it) for it in beside_llvm.ALLOCATORS}

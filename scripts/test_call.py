@@ -1,4 +1,4 @@
-"""Tests of what stands around a call of ./pra: options of any word, and FILE from standard input."""
+"""Tests of what stands around a call of ./pra: options of any word, FILE from standard input."""
 
 import json
 import os

@@ -16,12 +16,14 @@ from picture.compare import CHROMIUM, PATIENCE
 SHOW = f"{needs.TOP}/scripts/show.py"
 # Opens all procedures, and has the page ready for paper; what is there then is told at the root.
 PROBE = """<script>
-const count = (selector) => document.querySelectorAll(selector).length, told = document.documentElement.dataset;
+const count = (selector) => document.querySelectorAll(selector).length;
+const told = document.documentElement.dataset;
 document.querySelector("[data-open]").click();
 told.drawn = `${count("[data-drawn]")} of ${count("section.procedure")}`;
 document.querySelectorAll("section.procedure details").forEach((it, at) => { it.open = at === 1; });
 window.dispatchEvent(new Event("beforeprint"));
-told.paper = `${count("section.is-open")} open ${count(".is-open [data-grid]:not([data-printed])")} blank`;
+const blank = count(".is-open [data-grid]:not([data-printed])");
+told.paper = `${count("section.is-open")} open ${blank} blank`;
 </script></body>"""
 
 

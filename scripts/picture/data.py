@@ -25,8 +25,8 @@ def names_of(procedure, heading, known):
             holds = f"the address of {name}, which is VAR" if by_var else f"the parameter {name}"
             words.append(f"{holds}: argument {it.value}")
         else:
-            kind = "the local variable" if v in known else "a local variable or an intermediate value"
-            words.append(f"{kind} {name}" if v in known else kind)
+            told = f"the local variable {name}" if v in known else None
+            words.append(told or "a local variable or an intermediate value")
     return names, words
 
 

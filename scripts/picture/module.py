@@ -88,7 +88,7 @@ class Read:
 
 
 def names_of(files):
-    """What certificates are called on a page: by their files, without folders where that will do."""
+    """What certificates are called on a page: by their files, without folders if that will do."""
     names = [os.path.basename(it) for it in files]
     return names if len(set(names)) == len(names) else list(files)
 

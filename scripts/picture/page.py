@@ -186,7 +186,8 @@ def compared_table(module):
         costs = [state.cost for state in it.states]
         rows.append((it.code.number, link, count, *costs, it.code.bound))
     foot = ("", "all", *(sum(row[at] for row in rows) for at in range(2, len(heads))))
-    return folded(table("Procedures, and what they cost by each certificate", heads, rows, foot), rows)
+    name = "Procedures, and what they cost by each certificate"
+    return folded(table(name, heads, rows, foot), rows)
 
 
 def reports_of(module):
@@ -286,7 +287,7 @@ def first_open(module):
 
 
 def first_to_look_at(drawn):
-    """Of certificates the procedure that is refused, or else where they differ most, or the dearest."""
+    """Of certificates the procedure that is refused, or where they differ most, or the dearest."""
 
     def weight(at):
         states = drawn[at].states

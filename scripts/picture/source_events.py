@@ -13,8 +13,8 @@ CONST, TEMP = ("constant", None), ("value", None)  # what an expression comes to
 
 
 class Statements:
-    """Reads the statements of one procedure. Variables are the names that are variables of the code;
-    constants have no place; procedures give their number and which parameters are VAR."""
+    """Reads the statements of one procedure. Variables are the names that are variables of the
+    code; constants have no place; procedures give their number and which parameters are VAR."""
 
     def __init__(self, words, at, variables, constants, procedures):
         self.words, self.at = words, at
