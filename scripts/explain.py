@@ -18,13 +18,16 @@ import subprocess
 import sys
 import tempfile
 
+import further
 import grammar
 import offences
+import reading
 import reasons
 import stopped
 import traps
 from checker import images
 from places import Place, shown, token_end, tokens, word_end
+from pranet.compiler import default_program
 
 TOP = os.path.dirname(os.path.dirname(os.path.realpath(__file__)))
 LANGUAGE = f"{TOP}/docs/LANGUAGE.md"
@@ -116,8 +119,7 @@ def hint(token, before, reserved, wanted):
     if ("; " + token).strip("; ") in ("=", ":=") and (told := signs.get((token, wanted))):
         return told
     for it in [token, *before[-1:]]:
-        near = offences.near(it.upper(), reserved) if it.isalpha() and it not in reserved else ""
-        if near:
+        if near := further.reserved_near(it, before, reserved):
             return f"`{it}`{near}"
     return ""
 
@@ -141,7 +143,10 @@ def unexpected(name, source, at):
     token = shown(source[at : token_end(source, at)])
     last = f"behind `{before[-1]}`" if before else "at the begin of a module"
     told = at_token(name, source, at, f"`{token}` can't stand here, {last}{wanted}")
-    meant = hint(token, before, rules.reserved, wanted_sign(token, expected))
+    meant = ""
+    if '";"' in expected and further.Text(source).lacks_semicolon(len(before)):
+        meant = f"a `;` is missing behind `{before[-1]}`"
+    meant = meant or hint(token, before, rules.reserved, wanted_sign(token, expected))
     return [*told, f"  {meant}"] if meant else told
 
 
@@ -273,7 +278,6 @@ def of_other_files(line, name, source):
 
 
 FILES = {
-    "read file": "{} can't be read",
     "read input": "the input can't be read",
     "write file": "a file can't be written (the image, or the module of gen)",
     "write out": "the output can't be written",
@@ -295,7 +299,9 @@ def explained(line, name, source, given):
         return limit(name, source, found[1], int(found[2]), int(found[3]))
     if found := re.fullmatch(r"fault input at (\d+)", line):
         return input_word(given, int(found[1]))
-    if found := re.fullmatch(r"fault (read file|read input|write file|write out)", line):
+    if line == reading.LINE:
+        return [reading.why(name) or f"{name}: can't be read"]
+    if found := re.fullmatch(r"fault (read input|write file|write out)", line):
         return [FILES[found[1]].format(name)]
     return of_other_files(line, name, source)
 
@@ -335,6 +341,14 @@ def told(notes, name, input_name=None, mode=""):
     return []
 
 
+def all_told(notes, name, input_name=None, mode=""):
+    """The same, and of a module behind it what else is wrong with it."""
+    lines, line = told(notes, name, input_name, mode), (notes.splitlines() or [""])[-1]
+    if lines and further.FAULT.fullmatch(line):
+        lines = lines + further.told(default_program(), name, read(name), line, explained)
+    return lines
+
+
 def tried(name, input_name):
     """The status of a call that compiles a module, and of one that runs it where there is an input,
     and its notes."""
@@ -346,16 +360,27 @@ def tried(name, input_name):
     return ran.returncode, ran.stderr.decode(errors="replace")
 
 
+def of_traps(name):
+    """The status and what is told of a module that traps whatever its input is, or 0 and nothing."""
+    line = further.always_traps(COMPILER, name)
+    if not line:
+        return 0, []
+    place, *marked = traps.told(name, read(name), line, COMPILER, None)
+    return 1, [f"{place}; that is so with every input", *marked]
+
+
 def explain(name, input_name):
     try:
         status, notes = tried(name, input_name)
     except OSError as error:
-        print(f"{input_name}: can't be read: {error.strerror}")
+        print(reading.reason(input_name, error))
         return 5
     for line in notes.splitlines():
         if line.startswith("pra: "):
             print(line, file=sys.stderr)  # that it was not proved, where there is no terminal
-    lines = told(notes, name, input_name)
+    lines = all_told(notes, name, input_name)
+    if not lines and status == 0 and not input_name:
+        status, lines = of_traps(name)
     if not lines:
         lines = [f"{name}: nothing is wrong"] if status == 0 else notes.splitlines()[-1:]
     print("\n".join(lines))
@@ -374,7 +399,7 @@ def main(words):
     if len(words) != 2 or words[0] != "--notes":
         print("fault words\nusage: pra explain FILE [--input NAME]", file=sys.stderr)
         return NO_WORDS
-    lines = told(sys.stdin.read(), words[1], input_name)
+    lines = all_told(sys.stdin.read(), words[1], input_name)
     if lines:
         print("\n".join(lines))
     return 0 if lines else 1

@@ -5,6 +5,7 @@ import functools
 import os
 import shutil
 import subprocess
+import tempfile
 import time
 import unittest
 
@@ -36,6 +37,21 @@ def has_gcc_32():
         return False
     how = {"input": b"int main(void) { return 0; }", "capture_output": True, "check": False}
     return not subprocess.run(["gcc", "-m32", "-x", "c", "-", "-o", "/dev/null"], **how).returncode
+
+
+@functools.cache
+def has_libc_32():
+    """Whether programs of 32 bits with the library of C are made and run here."""
+    if not has_gcc_32():
+        return False
+    text = b"#include <stdio.h>\nint main(void) { return printf(\"\") != 0; }"
+    with tempfile.TemporaryDirectory() as room:
+        command = ["gcc", "-m32", "-x", "c", "-", "-o", f"{room}/tried"]
+        if subprocess.run(command, input=text, capture_output=True, check=False).returncode:
+            return False
+        with contextlib.suppress(OSError):
+            return subprocess.run([f"{room}/tried"], check=False).returncode == 0
+    return False
 
 
 def process_in(name):
@@ -83,6 +99,11 @@ def compiler(test):
 
 def gcc_32(test):
     return unittest.skipUnless(has_gcc_32(), "gcc -m32 makes no program here")(test)
+
+
+def gcc_libc_32(test):
+    reason = "gcc -m32 makes no program with the library of C here (Debian: gcc-multilib)"
+    return unittest.skipUnless(has_libc_32(), reason)(test)
 
 
 def cbc(test):

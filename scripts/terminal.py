@@ -4,7 +4,8 @@
     terminal.py WORD .. 3<INPUT
 
 Output and status are those of the call ./pra WORD .. <INPUT. A call that lasts says how long it has
-been going, in a line that goes again; a refusal ends with what it means.
+been going, in a line that goes again; one that waits for what is typed says so first, and counts
+from where that ends; a refusal ends with what it means.
 """
 
 import os
@@ -25,6 +26,8 @@ PIECE = 1 << 16  # bytes that are handed on at once
 REFUSED = range(3, 8)  # statuses of refusals that have a line
 NO_WORDS = 6
 CLEAR = b"\r\x1b[K"
+READ_INPUT = {"apply": "a certificate"}  # what a mode reads from standard input
+READ_INPUT |= dict.fromkeys(("run", "interp", "exec"), "the program's numbers")
 
 
 class Clock:
@@ -33,6 +36,9 @@ class Clock:
     def __init__(self, stream, name):
         self.stream, self.name = stream, name
         self.begun, self.is_shown = time.monotonic(), False
+
+    def restart(self):
+        self.begun = time.monotonic()
 
     def show(self):
         seconds = int(time.monotonic() - self.begun)
@@ -52,44 +58,94 @@ def write_all(stream, data):
         data = data[os.write(stream, data) :]
 
 
-def watched(command, clock, **how):
-    """Runs a command whose notes go to the terminal, with the clock below what it writes. Gives its
-    status, below 0 for a signal, and its notes."""
-    notes, streams = bytearray(), {}
+class Watch:
+    """A command that runs, whose output and notes go to the terminal with the clock below them, and
+    which gets what is typed until that ends. Without a clock nothing is counted."""
+
+    def __init__(self, process, clock, typed):
+        self.process, self.clock, self.typed = process, clock, typed
+        self.notes, self.streams = bytearray(), {}
+        self.ready = selectors.DefaultSelector()
+        for pipe, stream in ((process.stdout, 1), (process.stderr, 2)):
+            if pipe:
+                self.streams[pipe] = stream
+                self.ready.register(pipe, selectors.EVENT_READ)
+        if typed is not None:
+            self.ready.register(typed, selectors.EVENT_READ)
+
+    def hand_in(self):
+        """Gives the command what was typed, or its end, from which on the clock counts."""
+        data = os.read(self.typed, PIECE)
+        try:
+            write_all(self.process.stdin.fileno(), data)
+        except BrokenPipeError:
+            data = b""
+        if not data:
+            self.ready.unregister(self.typed)
+            self.process.stdin.close()
+            self.typed = None
+            if self.clock:
+                self.clock.restart()
+
+    def tell(self, pipe):
+        data = os.read(pipe.fileno(), PIECE)
+        if self.clock:
+            self.clock.clear()
+        if not data:
+            self.ready.unregister(pipe)
+            del self.streams[pipe]
+            return
+        if pipe is self.process.stderr:
+            self.notes += data
+        try:
+            write_all(self.streams[pipe], data)
+        except OSError:  # the terminal is gone, and so is this stream for the call
+            self.ready.unregister(pipe)
+            del self.streams[pipe]
+            pipe.close()
+
+    def run(self):
+        with self.ready:
+            while self.streams:
+                for key, _ in self.ready.select(1):
+                    if key.fileobj == self.typed:
+                        self.hand_in()
+                    else:
+                        self.tell(key.fileobj)
+                if self.clock and self.typed is None:
+                    self.clock.show()
+        self.process.wait()
+
+
+def watched(command, clock, typed=None, **how):
+    """Runs a command for a person, who may type what it reads. Gives its status, below 0 for a
+    signal, and its notes."""
     how.setdefault("stdin", subprocess.DEVNULL)
     how["stderr"] = subprocess.PIPE
     if os.isatty(1):
         how["stdout"] = subprocess.PIPE
-    with subprocess.Popen(command, **how) as it, selectors.DefaultSelector() as ready:
-        for pipe, stream in ((it.stdout, 1), (it.stderr, 2)):
-            if pipe:
-                streams[pipe] = stream
-                ready.register(pipe, selectors.EVENT_READ)
+    if typed is not None:
+        how["stdin"] = subprocess.PIPE
+    with subprocess.Popen(command, env={**os.environ, "PRA_CLOCK": "yes"}, **how) as it:
+        watch = Watch(it, clock, typed)
         try:
-            while streams:
-                for key, _ in ready.select(1):
-                    data = os.read(key.fd, PIECE)
-                    clock.clear()
-                    if not data:
-                        ready.unregister(key.fileobj)
-                        del streams[key.fileobj]
-                        continue
-                    if key.fileobj is it.stderr:
-                        notes += data
-                    try:
-                        write_all(streams[key.fileobj], data)
-                    except OSError:  # the terminal is gone, and so is this stream for the call
-                        ready.unregister(key.fileobj)
-                        del streams[key.fileobj]
-                        key.fileobj.close()
-                clock.show()
-            it.wait()
+            watch.run()
         except KeyboardInterrupt:
             it.wait()  # it has had the same signal
         finally:
-            clock.clear()
+            if clock:
+                clock.clear()
             it.terminate()
-    return it.returncode, bytes(notes)
+    return it.returncode, bytes(watch.notes)
+
+
+def typed_for(mode):
+    """The stream on which a person types what a mode reads, if it is a terminal; that is said."""
+    if mode not in READ_INPUT or not is_open(INPUT) or not os.isatty(INPUT):
+        return None
+    told = f"pra: {mode} waits for {READ_INPUT[mode]}: type, and end with Ctrl-D\n"
+    write_all(2, told.encode())
+    return INPUT
 
 
 def input_name():
@@ -115,7 +171,7 @@ def meaning(words, status, notes):
         return [f"pra: {it}" for it in known_words.wrong(words)]
     if status == 1 or status in REFUSED:
         mode, name = mode_and_file(words)
-        return explain.told(notes.decode(errors="replace"), name, input_name(), mode)
+        return explain.all_told(notes.decode(errors="replace"), name, input_name(), mode)
     return []
 
 
@@ -139,11 +195,16 @@ def ready_child(has_input):
     return prepare
 
 
+def given():
+    """How a call gets its standard input, and ends with this one."""
+    has_input = is_open(INPUT)
+    how = {"stdin": INPUT} if has_input else {}
+    return {**how, "preexec_fn": ready_child(has_input)}
+
+
 def main(words):
-    how = {"stdin": INPUT} if is_open(INPUT) else {}
-    how["preexec_fn"] = ready_child(bool(how))
-    clock = Clock(2, " ".join(["pra", *words[:1]]))
-    status, notes = watched([f"{TOP}/pra", *words], clock, **how)
+    clock, typed = Clock(2, " ".join(["pra", *words[:1]])), typed_for(mode_and_file(words)[0])
+    status, notes = watched([f"{TOP}/pra", *words], clock, typed, **given())
     if status < 0:
         return 128 - status
     for line in meaning(words, status, notes):

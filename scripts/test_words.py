@@ -19,12 +19,17 @@ class Table(unittest.TestCase):
         """Default, least and most stand in the compiler's own table too."""
         with open(f"{TOP}/crates/pra_words/src/words.rt", encoding="utf-8") as text:
             rows = re.findall(r"^/// \| `(--\w+)` \| (.*) \| (.*) \|$", text.read(), re.M)
-        known = {it.name: it for it in words.table()[1].values()}
+        known = words.of_compiler(*words.table())
         self.assertEqual({name for name, *_ in rows}, set(known))
         for name, values, default in rows:
             self.assertEqual(known[name].default, default.strip("`"))
             if " to " in values:
                 self.assertEqual(known[name].values, values)
+
+    def test_options_of_words_are_in_the_table(self):
+        known, options = words.table()
+        for it in known.values():
+            self.assertLessEqual(set(it.names), set(options), it.name)
 
     def test_screens_fit_into_a_hundred_columns(self):
         known, options = words.table()

@@ -23,6 +23,9 @@ STATUS = (
     " 8 no memory, 70 no answer of the scripts"
 )
 NO_WORDS = 6  # the status where words are none of these
+COMPILER = "-"  # stands for what the compiler does
+NONE = "none"  # stands for no value
+EVERYWHERE = ("--explain", "--json", "--help", "--version")  # options of ./pra itself
 
 
 @dataclass
@@ -37,14 +40,23 @@ class Word:
     def call(self):
         return f"pra {self.name} {self.follows}".rstrip()
 
+    @property
+    def names(self):
+        """Its options, with their dashes."""
+        return [f"--{it}" if len(it) > 1 else f"-{it}" for it in self.options]
+
 
 @dataclass
 class Option:
-    name: str  # with the two dashes
-    value: str  # what its value is called
+    name: str  # with its dashes
+    value: str  # what its value is called, or nothing where it has none
     default: str
     values: str  # which it may have
     does: str
+
+    @property
+    def call(self):
+        return f"{self.name} {self.value}".rstrip()
 
 
 def table():
@@ -53,13 +65,19 @@ def table():
     with open(f"{HERE}/words.txt", encoding="utf-8") as text:
         for line in text:
             cells = [it.strip() for it in line.split("|")]
-            if line.startswith("--"):
-                name, value = cells[0].split()
+            if line.startswith("-"):
+                name, _, value = cells[0].partition(" ")
                 options[name] = Option(name, value, *cells[1:])
             elif not line.startswith("#") and len(cells) == 5:
                 name, follows, script, takes, does = cells
                 words[name] = Word(name, follows, script, takes.split(), does)
     return words, options
+
+
+def of_compiler(words, options):
+    """The options that the compiler takes."""
+    names = {name for it in words.values() if it.script == COMPILER for name in it.names}
+    return {name: it for name, it in options.items() if name in names}
 
 
 # ---- screens
@@ -72,14 +90,25 @@ def beside(left, right, width):
     return "\n".join([*first, *(" " * width + it for it in lines)])
 
 
+def option_words(it):
+    """What an option does, and which values it may have."""
+    without = f"; without it {it.default}" if it.default != NONE else ""
+    return f"{it.does} ({it.values}{without})" if it.value else it.does
+
+
 def option_line(it):
-    told = f"{it.does} ({it.values}; without it {it.default})"
-    return beside(f"  {it.name} {it.value}", told, 17)
+    return beside(f"  {it.call}", option_words(it), 17)
+
+
+def word_line(it, options):
+    """What a word does; of a script also which options it takes."""
+    taken = "" if it.script == COMPILER else ", ".join(options[name].call for name in it.names)
+    return beside(f"  {it.call}", f"{it.does} ({taken})" if taken else it.does, 24)
 
 
 def usage(call, options):
     """The line of usage, broken where it is long, but not within an option."""
-    taken = [f"[{it.name} {it.value}]".replace(" ", "\0") for it in options]
+    taken = [f"[{it.call}]".replace(" ", "\0") for it in options]
     line = " ".join([f"usage: {call}", *taken])
     wrapped = textwrap.wrap(line, WIDE, subsequent_indent=" " * 11, break_on_hyphens=False)
     return "\n".join(wrapped).replace("\0", " ")
@@ -88,21 +117,29 @@ def usage(call, options):
 def screen():
     """All words and options."""
     words, options = table()
-    yield usage("pra MODE FILE", options.values())
+    known = of_compiler(words, options)
+    yield usage("pra MODE FILE", known.values())
     yield ""
     for it in words.values():
-        yield beside(f"  {it.call}", it.does, 24)
+        yield word_line(it, options)
     yield ""
-    yield from map(option_line, options.values())
+    yield from map(option_line, known.values())
+    yield ""
+    yield ANY_WORD
+    for name in EVERYWHERE:
+        yield option_line(options[name])
     yield ""
     yield "\n".join(textwrap.wrap(STATUS, WIDE))
     yield ""
     yield "  echo 25 7 | pra run examples/samples.ob"
 
 
+ANY_WORD = "of any word (and - for FILE is standard input, where that is not the program's input):"
+
+
 def screen_of(it, options):
     """What one word does and takes."""
-    taken = [options[f"--{name}"] for name in it.options]
+    taken = [options[name] for name in it.names]
     yield usage(it.call, taken)
     yield ""
     yield "\n".join(textwrap.wrap(f"{it.does[0].upper()}{it.does[1:]}.", WIDE))
@@ -124,6 +161,11 @@ def number_range(option):
     """The least and the greatest value of an option of numbers, or None."""
     least, _, most = option.values.partition(" to ")
     return (int(least), int(most)) if least.isdecimal() and most.isdecimal() else None
+
+
+def is_number(option):
+    """Whether an option has a number as its value."""
+    return number_range(option) is not None or option.values == "a number"
 
 
 def wrong_value(option, value, words):
@@ -155,6 +197,9 @@ def parted(words, options):
             continue
         if not word.startswith("-") or word == "-":
             plain.append(word)
+            continue
+        if name in options and not options[name].value and not is_joined:
+            given[name] = ""
             continue
         is_value = not is_joined and words and (not words[0].startswith("-") or words[0] == "-")
         value = words.pop(0) if is_value else value if is_joined else None
@@ -188,7 +233,8 @@ def wrong_plain(plain, modes):
 def wrong(words):
     """What is wrong with the words of a call, a line each."""
     known, options = table()
-    modes = [it.name for it in known.values() if it.script == "-"]
+    options = of_compiler(known, options)
+    modes = [it.name for it in known.values() if it.script == COMPILER]
     plain, given, faults = parted(words, options)
     yield from wrong_plain(plain, modes)
     yield from faults

@@ -123,7 +123,9 @@ def theme_faults(known):
 
 
 def shown_by_values(procedure, state):
-    """Routes, cost and bound of a state, and what its moves and extras add up to."""
+    """Routes, cost and bound of a state, and what its moves and extras add up to. A procedure has
+    no states behind that of its last round."""
+    state = min(state, len(procedure["states"]) - 1)
     blocks, told = in_state(procedure, state), procedure["states"][state]
     routes = [
         [int(digit, 16) for digit in path] for block in blocks for *_, path in block["strands"]

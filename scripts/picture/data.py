@@ -1,29 +1,46 @@
 """What the page's script draws: a JSON value for each procedure."""
 
+from dataclasses import dataclass, field
+
 from picture.prices import Prices
 from pranet.certificate import end_text, instruction_text
 from pranet.network import Network
 from pranet.operands import EVENTS, weight
 
 
-def names_of(procedure, heading):
-    """What the variables of a procedure are called, and what each is, in words."""
+def names_of(procedure, heading, known):
+    """What the variables of a procedure are called, and what each is, in words. Known are the names
+    of some locals, by variable."""
     names, words, used = [], [], set()
     for v, it in enumerate(procedure.variables):
         if it.kind == "constant":
             names.append(str(it.value))
             words.append(f"the constant {it.value}")
             continue
-        known = it.kind == "param" and it.value < len(heading.parameters)
-        name, by_var = heading.parameters[it.value] if known else (f"v{v}", False)
+        is_told = it.kind == "param" and it.value < len(heading.parameters)
+        name, by_var = heading.parameters[it.value] if is_told else (known.get(v, f"v{v}"), False)
         names.append(name if name not in used else f"{name}.{v}")
         used.add(name)
         if it.kind == "param":
             holds = f"the address of {name}, which is VAR" if by_var else f"the parameter {name}"
             words.append(f"{holds}: argument {it.value}")
         else:
-            words.append("a local variable or an intermediate value")
+            told = f"the local variable {name}" if v in known else None
+            words.append(told or "a local variable or an intermediate value")
     return names, words
+
+
+@dataclass
+class State:
+    """Routes of a procedure that a page shows: those after some rounds, or of a certificate."""
+
+    rounds: int | None
+    routes: list
+    cost: int
+    bound: int
+    name: str = ""  # of the certificate
+    reasons: list = field(default_factory=list)  # why that is refused
+    wrong: list = field(default_factory=list)  # block, variable, layer of a cell, and why
 
 
 def lines_of(lines):
@@ -33,13 +50,14 @@ def lines_of(lines):
 class Drawn:
     """One procedure as the page has it."""
 
-    def __init__(self, cost, procedure, heading):
+    def __init__(self, cost, procedure, heading, known=None):
         self.cost, self.code = cost, procedure
         self.network = Network(procedure)
-        self.names, self.words = names_of(procedure, heading)
+        self.names, self.words = names_of(procedure, heading, known or {})
         self.machine = None  # its machine instructions, where they are known
         self.lines = []  # of each block the lines of the source that it came from
-        self.states = []  # number of rounds, routes, cost and bound, of those that were kept
+        self.states = []  # those that were kept
+        self.total = procedure.total
         self.paid = self.network.paid(procedure.routes, cost)
 
     def name(self, v):
@@ -89,12 +107,37 @@ class Drawn:
     def kept_states(self):
         """The states, each with those blocks alone in which routes differ from the state before."""
         kept, last = [], {}
-        for rounds, routes, cost, bound in self.states:
-            now = dict(enumerate(self.drawn_routes(routes)))
+        for state in self.states:
+            now = dict(enumerate(self.drawn_routes(state.routes)))
             changed = {at: it for at, it in now.items() if it != last.get(at)}
-            kept.append({"rounds": rounds, "cost": cost, "bound": bound, "blocks": changed})
+            kept.append({"rounds": state.rounds, "cost": state.cost, "bound": state.bound})
+            kept[-1]["blocks"] = changed
+            if state.name:
+                kept[-1] |= {"name": state.name, "reasons": state.reasons, "wrong": state.wrong}
             last = now
         return kept
+
+    def costs_of(self, routes):
+        """What moves and operands cost, by block and variable."""
+        costs = {}
+        for it in [*self.network.moves(routes), *self.network.met(routes)]:
+            events = it.events if hasattr(it, "events") else [it.event]
+            key = it.block, self.network.strands[it.strand].var
+            costs[key] = costs.get(key, 0) + sum(self.weight(e, it.block) for e in events)
+        return costs
+
+    def differences(self):
+        """Where states differ from the first one: state, block, variable, and what that costs in
+        the first and in it."""
+        first, found = self.states[0], []
+        costs = self.costs_of(first.routes)
+        for number, state in enumerate(self.states[1:], 1):
+            others = self.costs_of(state.routes)
+            strands = zip(self.network.strands, first.routes, state.routes, strict=True)
+            keys = {(it.block, it.var) for it, one, two in strands if one != two}
+            for key in sorted(keys):
+                found.append([number, *key, costs.get(key, 0), others.get(key, 0)])
+        return found
 
     def value(self, reported, others, masks):
         """The whole of it; reported has the rounds by each weight, others what other allocators
@@ -111,7 +154,8 @@ class Drawn:
             block["caps"], block["mems"] = caps, mems
         return {
             "number": self.code.number,
-            "total": self.code.total,
+            "name": next(iter(reported.values())).name,
+            "total": self.total,
             "bound": self.code.bound,
             "value": prices.value,
             "ways": prices.ways(),
@@ -123,6 +167,7 @@ class Drawn:
             "prologue": lines_of(self.machine.prologue) if self.machine else [],
             "blocks": blocks,
             "states": self.kept_states(),
+            "differs": self.differences() if self.states[0].name else [],
             "paid": [[event, *counts] for event, counts in self.paid.items()],
         }
 

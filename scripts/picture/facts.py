@@ -5,22 +5,30 @@
 The lines tell cost and bound, how often each event comes and what it costs, and of each variable
 (of those that are named, or of all but constants) at how many layers of which places it is, and
 what its moves and operands cost. With --moves they tell instead how each of them moves, and with
---others what allocators of the literature come to.
+--others what allocators of the literature come to. A page of certificates has these of the first
+one; in front stand the cost and bound of each and why it is refused, and behind them where the
+others differ and what that costs, block by block. A variable may be named by v and its number too.
 """
 
 import json
 import re
 import sys
 
+import reading
 from pranet.certificate import place_name
 
 DATA = re.compile(r'<script type="application/json" id="data(?:-(\d+))?">(.*?)</script>', re.S)
 
 
-def in_state(procedure, at=-1):
+def is_named(procedure):
+    """Whether states are certificates, and not rounds."""
+    return bool(procedure["states"][0].get("name"))
+
+
+def in_state(procedure, at=None):
     """The blocks of a procedure with routes, moves and extras of one of its states."""
     states = procedure["states"]
-    last = range(len(states))[at]
+    last = at if at is not None else 0 if is_named(procedure) else len(states) - 1
     blocks = []
     for number, block in enumerate(procedure["blocks"]):
         has = (it["blocks"].get(str(number)) for it in reversed(states[: last + 1]))
@@ -65,12 +73,35 @@ def paid(procedure, v):
 def wanted(procedure, names):
     """The variables of these names, or all but constants where there are none."""
     for v, name in enumerate(procedure["names"]):
-        if name in names or (not names and procedure["kinds"][v] != "co"):
+        if f"v{v}" in names and name not in names:
+            yield v, f"v{v}"
+        elif name in names or (not names and procedure["kinds"][v] != "co"):
             yield v, name
+
+
+def certificates(procedure):
+    """What certificates come to, and why they are refused."""
+    for it in procedure["states"] if is_named(procedure) else []:
+        yield f"{it['name']}: cost {it['cost']} bound {it['bound']}"
+        yield from (f"{it['name']} is refused, {why}" for why in it["reasons"])
+        for block, v, layer, why in it["wrong"]:
+            name = procedure["names"][v]
+            yield f"{it['name']}: {name} in block {block} at layer {layer} is wrong: {why}"
+
+
+def differences(procedure, names):
+    """Where other certificates than the first differ from it."""
+    variables = dict(wanted(procedure, names))
+    for state, block, v, one, other in procedure.get("differs", ()):
+        if v in variables or not names:
+            file, name = procedure["states"][state]["name"], procedure["names"][v]
+            told = f"{other - one:+d}" if other != one else "as much"
+            yield f"{name} differs in block {block} of {file}: {one}, {other}, {told}"
 
 
 def lines(page, number, names):
     procedure = page["procedures"][number]
+    yield from certificates(procedure)
     yield f"cost {procedure['total']} bound {procedure['bound']}"
     for event, count, total in procedure["paid"]:
         yield f"e{event} {page['events'][event]}: {count} time{'s' * (count > 1)}, {total}"
@@ -78,6 +109,7 @@ def lines(page, number, names):
         where = ", ".join(f"{place} {count}" for place, count in layers(procedure, v))
         if where:
             yield f"{name}: {where}; pays {paid(procedure, v)}"
+    yield from differences(procedure, names)
 
 
 def moves(page, number, names):
@@ -109,8 +141,7 @@ def main(words):
             value = value_of(text.read())
         value["procedures"][int(plain[1])]
     except (OSError, UnicodeDecodeError) as error:
-        print(f"pra: {plain[0]} can't be read: {error}", file=sys.stderr)
-        return 5
+        return reading.tell(error, plain[0])
     except (TypeError, LookupError, ValueError):
         print(f"pra: {plain[0]} is no page with a procedure {plain[1]}", file=sys.stderr)
         return 3

@@ -1,10 +1,15 @@
 """What the compiler says of a module: its report by both weights, certificate and listing."""
 
+import os
 import tempfile
+from dataclasses import replace
 
-from picture import lines, listing, report
-from picture.data import Drawn
+from picture import lines, listing, local_names, report, wrong
+from picture.data import Drawn, State
 from pranet import certificate
+from pranet.certificate import code_value
+from pranet.compiler import Refused
+from pranet.network import Network
 
 WEIGHTS = ("size", "speed")
 
@@ -33,36 +38,128 @@ def kept_rounds(most):
 class Shown:
     """All that a page shows."""
 
-    def __init__(self, command):
-        self.command = command
+    def __init__(self, file, options=""):
+        self.file, self.command = file, f"pra show {file}{options}"
         self.reports, self.source, self.headings = {}, b"", []
         self.certificate, self.drawn = None, []
 
-    def take_states(self, certificates):
-        """Gives each procedure the routes that certificates of other numbers of rounds have."""
-        for rounds, known in certificates:
-            for drawn, it in zip(self.drawn, known.procedures, strict=True):
-                drawn.states.append((rounds, it.routes, it.total, it.bound))
+    refused = None  # the refusal of what is shown
+
+    @property
+    def is_compared(self):
+        """Whether it is of several certificates."""
+        return False
 
 
-class OfCertificate(Shown):
-    """A certificate by itself: there is no source, no report and no image."""
+class NotOneModule(Exception):
+    """Certificates are of other code, or by other weights."""
 
-    def __init__(self, compiler, file):
-        super().__init__(f"pra show {file}")
-        compiler.call("check", file)
-        with open(file, encoding="utf-8") as text:
-            self.certificate = certificate.read(text.read())
-        procedures, cost = self.certificate.procedures, self.certificate.cost
+
+REFUSED = 3  # the status of a certificate that does not hold
+
+
+class Read:
+    """A certificate that was read and tested: its name on the page, and what speaks against it."""
+
+    def __init__(self, compiler, file, name):
+        self.name, self.line, self.reasons = name, "", {}
+        with open(file, "rb") as held:
+            data = held.read()
+        status, out, notes = compiler.ran("check", file)
+        if status:
+            self.line = (notes or out).decode(errors="replace").strip().rpartition("\n")[2]
+            self.refused = Refused("pra check", status, notes)
+            if status != REFUSED:
+                raise self.refused
+            try:
+                self.reasons = wrong.reasons(data)
+            except wrong.NoPicture as error:
+                raise self.refused from error
+        self.known = certificate.read(data.decode(errors="replace"))
+
+    def state(self, drawn, number):
+        """What a page shows of one of its procedures."""
+        it = self.known.procedures[number]
+        paid = sum(total for _, total in drawn.network.paid(it.routes, drawn.cost).values())
+        against = self.reasons.get(number, ())
+        told = [f"{reason}: {each}" for reason, words in against for each in words]
+        marks = wrong.Marks(drawn.network, it.routes, drawn.name).all() if told else []
+        return State(None, it.routes, paid, it.bound, self.name, told, marks)
+
+
+def names_of(files):
+    """What certificates are called on a page: by their files, without folders if that will do."""
+    names = [os.path.basename(it) for it in files]
+    return names if len(set(names)) == len(names) else list(files)
+
+
+class OfCertificates(Shown):
+    """Certificates of one module by themselves: there is no source, no report and no image. One
+    that is refused is shown as far as it can be."""
+
+    def __init__(self, compiler, files):
+        super().__init__(" ".join(files))
+        self.read = [Read(compiler, *it) for it in zip(files, names_of(files), strict=True)]
+        self.certificate = self.read[0].known
+        self.test_code()
+        cost, count = self.certificate.cost, len(self.certificate.procedures)
+        self.headings = [report.Heading(None, None, []) for _ in range(count)]
+        try:
+            self.test_codes_are_valid()
+            self.drawn = [self.draw(number) for number in range(count)]
+        except wrong.NoPicture as error:
+            raise self.refused from error
         told = [
-            report.Reported(f"procedure {it.number}", None, [(it.total, it.bound)])
-            for it in procedures
+            report.Reported(f"procedure {n}", None, [(it.states[0].cost, it.code.bound)])
+            for n, it in enumerate(self.drawn)
         ]
-        sums = sum(it.total for it in procedures), sum(it.bound for it in procedures)
+        sums = sum(it.states[0].cost for it in self.drawn), sum(it.code.bound for it in self.drawn)
         self.reports = {cost: report.Report(told, *sums, None, "")}
-        self.headings = [report.Heading(None, None, []) for _ in procedures]
-        self.drawn = [Drawn(cost, *it) for it in zip(procedures, self.headings, strict=True)]
-        self.take_states([(None, self.certificate)])
+
+    @property
+    def is_compared(self):
+        return len(self.read) > 1
+
+    @property
+    def refused(self):
+        """The refusal of the first certificate that is refused, or None."""
+        return next((it.refused for it in self.read if it.line), None)
+
+    def test_code(self):
+        known = [it.known for it in self.read]
+        codes = [[code_value(it) for it in one.procedures] for one in known]
+        if any(it != codes[0] for it in codes) or len({it.cost for it in known}) > 1:
+            raise NotOneModule("these certificates are of other code, or by other weights")
+
+    def test_codes_are_valid(self):
+        for it in self.read:
+            for number, told in it.reasons.items():
+                if told[0][0] == "code":
+                    raise wrong.NoPicture(f"procedure {number}: its code is not valid")
+
+    def draw(self, number):
+        """A procedure with its states, and the prices of the highest bound that holds."""
+        entries = [it.known.procedures[number] for it in self.read]
+        network = Network(entries[0])
+        if not all(wrong.can_be_drawn(network, it.routes) for it in entries):
+            raise wrong.NoPicture(f"procedure {number} has not one place for each strand and layer")
+        good = [
+            it.known.procedures[number]
+            for it in self.read
+            if not {"prices", "bound"} & {reason for reason, _ in it.reasons.get(number, ())}
+        ]
+        code = max(good, key=lambda it: it.bound, default=entries[0])
+        if not good:
+            wrong.without_prices(code)
+        drawn = Drawn(self.certificate.cost, code, self.headings[number])
+        drawn.states = [it.state(drawn, number) for it in self.read]
+        drawn.total = drawn.states[0].cost
+        drawn.paid = drawn.network.paid(drawn.states[0].routes, drawn.cost)
+        return drawn
+
+
+def state_of(rounds, procedure):
+    return State(rounds, procedure.routes, procedure.total, procedure.bound)
 
 
 class Module(Shown):
@@ -70,7 +167,8 @@ class Module(Shown):
 
     def __init__(self, compiler, file, rounds, cost, given=None):
         told = f" --input {given}" if given else ""
-        super().__init__(f"pra show {file} --rounds {rounds} --cost {cost}{told}")
+        super().__init__(file, f" --rounds {rounds} --cost {cost}{told}")
+        self.rounds = int(rounds)
         with tempfile.TemporaryDirectory(prefix="pra-show-") as room:
             image = f"{room}/out.pri"
             for word in sorted(WEIGHTS, key=lambda it: it == cost):
@@ -87,10 +185,12 @@ class Module(Shown):
         self.certificate = known[-1][1]
         self.headings = report.headings(self.source)
         self.drawn = self.draw(listed.decode())
-        self.take_states(known)
+        for number, it in enumerate(self.drawn):
+            it.states = [state_of(rounds, each.procedures[number]) for rounds, each in known]
         source = lines.Source(self.source)
         for it in self.drawn:
             self.test_states(it)
+            it.states = self.made_states(it)
             it.lines = lines.lines_of_blocks(source, it.code.number, it.code.blocks)
 
     @staticmethod
@@ -105,21 +205,28 @@ class Module(Shown):
     def test_states(self, drawn):
         """Asks whether certificates of fewer rounds are those of the reported rounds."""
         reported = self.reports[self.certificate.cost].procedures[drawn.code.number].rounds
-        for rounds, routes, total, bound in drawn.states:
-            told = reported[min(rounds, len(reported) - 1)]
-            paid = sum(it for _, it in drawn.network.paid(routes, drawn.cost).values())
-            if not told == (total, bound) == (paid, bound):
+        for it in drawn.states:
+            told = reported[min(it.rounds, len(reported) - 1)]
+            paid = sum(each for _, each in drawn.network.paid(it.routes, drawn.cost).values())
+            if not told == (it.cost, it.bound) == (paid, it.bound):
                 raise certificate.NoCertificate(
-                    f"procedure {drawn.code.number} costs {total} after {rounds} rounds by its"
+                    f"procedure {drawn.code.number} costs {it.cost} after {it.rounds} rounds by its"
                     f" certificate, {paid} by its routes, and {told[0]} is reported"
                 )
+
+    def made_states(self, drawn):
+        """The states of a procedure up to the one behind its last round."""
+        made = len(self.reports[self.certificate.cost].procedures[drawn.code.number].rounds) - 1
+        before = [it for it in drawn.states if it.rounds < made]
+        return [*before, replace(drawn.states[len(before)], rounds=made)]
 
     def draw(self, listed):
         """Each procedure, with the machine instructions that it became."""
         reader, cost = listing.Reader(listing.read(listed)), self.certificate.cost
-        drawn = []
+        drawn, source = [], local_names.Named(self.source)
         for procedure, heading in zip(self.certificate.procedures, self.headings, strict=True):
-            it = Drawn(cost, procedure, heading)
+            known = local_names.names_of(source, procedure.number, procedure)
+            it = Drawn(cost, procedure, heading, known)
             it.machine = reader.procedure(it.network, procedure.routes)
             drawn.append(it)
         if reader.at != len(reader.instructions):

@@ -5,16 +5,29 @@
   const page = JSON.parse(document.getElementById("data").textContent);
   const REGISTERS = ["eax", "ecx", "edx", "ebx", "esi", "edi"];
   const UNIT = { size: "bytes", speed: "units of time" };
-  const PLACES = 14;
+  const PLACES = 14, ON_PAPER = 9; // columns of variables that a page of paper has room for
   const marks = {}, known = [], shownState = [];
 
   // The value of a procedure, which is read when it is asked for.
   function procedureOf(number) {
     if (!known[number]) {
       known[number] = JSON.parse(document.getElementById(`data-${number}`).textContent);
-      shownState[number] = known[number].states.length - 1;
+      shownState[number] = isNamed(known[number]) ? 0 : known[number].states.length - 1;
     }
     return known[number];
+  }
+
+  // Whether states are certificates, and not rounds.
+  function isNamed(p) {
+    return Boolean(p.states[0].name);
+  }
+
+  // The state that the shown one is held against: the one before, or of certificates the first or
+  // the second one.
+  function besides(p) {
+    const state = shownState[p.number];
+    if (!isNamed(p)) return state - 1;
+    return state > 0 ? 0 : p.states.length > 1 ? 1 : -1;
   }
 
   function numberOf(section) {
@@ -151,11 +164,16 @@
       : `<p class="faint">What other allocators come to was not worked out here, since the module is too large for that.</p>`;
   }
 
+  // The name of a table, for those who hear it.
+  function caption(words) {
+    return `<caption class="heard">${escaped(words)}</caption>`;
+  }
+
   function roundsTable(p) {
     const words = Object.keys(p.rounds), rounds = p.rounds;
     const longest = Math.max(...words.map((w) => rounds[w].length));
-    let out = `<details><summary>The same as numbers</summary><div class="wide"><table class="plain"><thead><tr><th class="number">round</th>`;
-    for (const w of words) out += `<th class="number">cost by ${w}</th><th class="number">bound</th>`;
+    let out = `<details><summary>Cost and bound as numbers</summary><div class="wide"><table class="plain">${caption("Cost and bound of " + p.name + ", round by round")}<thead><tr><th scope="col" class="number">round</th>`;
+    for (const w of words) out += `<th scope="col" class="number">cost by ${w}</th><th scope="col" class="number">bound</th>`;
     out += "</tr></thead><tbody>";
     for (let k = 0; k < longest; k++) {
       out += `<tr><td class="number">${k}</td>`;
@@ -231,20 +249,24 @@
   }
 
   // What is at each layer of a block: the places by column, in their order, moves and extras.
-  function layers(block, columns, drawn) {
+  function layers(block, columns, drawn, kinds) {
     const column = new Map(columns.map((v, at) => [v, at]));
     const rows = Array.from({ length: 2 * block.code.length + 2 }, () => new Map());
-    const moves = new Map(), extras = new Map();
-    const strands = block.strands.map((s, i) => [column.get(s[0]), s[1], drawn.paths[i]]);
-    for (const [at, first, path] of strands.sort((x, y) => x[0] - y[0])) {
+    const moves = new Map(), extras = new Map(), sums = new Map(), live = rows.map(() => 0);
+    const strands = block.strands.map((s, i) => [column.get(s[0]), s[1], drawn.paths[i], s[0]]);
+    for (const [, first, path, v] of strands) {
+      if (kinds[v] !== "co") for (let i = 0; i < path.length; i++) live[first + i]++;
+    }
+    for (const [at, first, path] of strands.filter((s) => s[0] !== undefined).sort((x, y) => x[0] - y[0])) {
       [...path].forEach((digit, i) => rows[first + i].set(at, parseInt(digit, 16)));
     }
     for (const move of drawn.moves) {
       if (!moves.has(move[0])) moves.set(move[0], new Map());
       moves.get(move[0]).set(column.get(move[1]), move);
+      sums.set(move[0], (sums.get(move[0]) || 0) + move[5]);
     }
     for (const extra of drawn.extras) extras.set(extra[0] + " " + column.get(extra[1]), extra);
-    return { columns, rows, moves, extras };
+    return { columns, rows, moves, extras, sums, live };
   }
 
   // A row of cells: those that are drawn, by column, and one for each stretch between them.
@@ -262,11 +284,14 @@
     const drawn = [];
     for (const [column, place] of at.rows[layer]) {
       const v = at.columns[column], extra = at.extras.get(layer + " " + column);
-      const words = `${p.names[v]} at layer ${layer}: ${placeName(place)}` +
+      let words = `${p.names[v]} at layer ${layer}: ${placeName(place)}` +
         (extra ? `; ${page.events[extra[2]]} (event ${extra[2]}): ${cost(extra[3])}` : "");
-      const isNew = before && before.rows[layer].get(column) !== place;
-      const kind = `p${place.toString(16)}${place > 7 ? " both" : ""}${isNew ? " changed" : ""}`;
-      const mark = extra ? `<span class="extra" data-e="${extra[2]}">${cost(extra[3])}</span>` : "";
+      const old = before ? before.rows[layer].get(column) : place, isNew = old !== place, why = at.wrong.get(layer + " " + column);
+      const kind = `p${place.toString(16)}${place > 7 ? " both" : ""}${isNew ? " changed" : ""}${why ? " wrong" : ""}`;
+      let mark = extra ? `<span class="extra" data-e="${extra[2]}">${cost(extra[3])}</span>` : "";
+      if (isNew && before.name) mark += `<span class="was">${placeText(old)}</span>`;
+      if (isNew && before.name) words += `; in ${before.name}: ${placeName(old)}`;
+      if (why) words += `; wrong: ${why}`;
       drawn.push([column, `<td data-v="${v}" data-l="${layer}" class="${kind}" tabindex="-1" title="${escaped(words)}">${placeText(place)}${mark}</td>`]);
     }
     return row(drawn, at.columns.length);
@@ -285,7 +310,7 @@
       return `<td class="heat" data-cap="${layer} ${register} ${price}" style="--hot: ${share}%" title="${REGISTERS[register]} at layer ${layer}: price ${told}"></td>`;
     };
     const live = (layer) => {
-      const count = [...at.rows[layer].keys()].filter((column) => p.kinds[at.columns[column]] !== "co").length;
+      const count = at.live[layer];
       return `<td class="live${count > 6 ? " tight" : ""}" data-live="${count}">${count}</td>`;
     };
     const six = [0, 1, 2, 3, 4, 5];
@@ -304,7 +329,6 @@
   function gap(p, block, at, layer, heat, isLast) {
     const moves = at.moves.get(layer);
     if (!moves) return "";
-    let sum = 0;
     const drawn = [];
     for (const [column, place] of at.rows[layer]) {
       const v = at.columns[column], move = moves.get(column);
@@ -314,13 +338,12 @@
         continue;
       }
       const [, , from, to, events, price] = move;
-      sum += price;
       const named = events.map((e) => `${page.events[e]} (event ${e})`).join(", ") || "no event";
       const words = `${p.names[v]} goes from ${placeName(from)} to ${placeName(to)}: ${named}: ${cost(price)}`;
       const marks = events.length ? ` <span class="faint">e${events.join(",")}</span>` : "";
       drawn.push([column, `<td data-v="${v}" data-m="${events.join(",")}" data-w="${price}" class="goes" title="${escaped(words)}">↓${cost(price)}${marks}</td>`]);
     }
-    return `<tr class="gap"><td class="layer"></td>${heat.empty}<td class="what">moves, ${cost(sum)}</td><td class="machine">${machine(isLast && block.moved ? block.moved[layer] : [])}</td>${row(drawn, at.columns.length)}</tr>`;
+    return `<tr class="gap"><td class="layer"></td>${heat.empty}<td class="what">moves, ${cost(at.sums.get(layer))}</td><td class="machine">${machine(isLast && block.moved ? block.moved[layer] : [])}</td>${row(drawn, at.columns.length)}</tr>`;
   }
 
   // Where else the source says what a block does.
@@ -331,11 +354,16 @@
     return ` <span class="faint lines">line${lines.length > 1 ? "s" : ""} ${links}</span>`;
   }
 
-  function grid(p, number) {
-    const state = shownState[p.number], block = p.blocks[number], columns = variables(p, block);
-    const at = layers(block, columns, drawnIn(p, state, number)), isLast = state === p.states.length - 1;
-    const isSame = state === 0 || drawnIn(p, state - 1, number) === drawnIn(p, state, number);
-    const before = isSame ? null : layers(block, columns, drawnIn(p, state - 1, number));
+  // The grid of a block, with all of its columns or with some of them.
+  function grid(p, number, some) {
+    const state = shownState[p.number], block = p.blocks[number], columns = some || variables(p, block);
+    const at = layers(block, columns, drawnIn(p, state, number), p.kinds), isLast = state === p.states.length - 1;
+    const other = besides(p), isSame = other < 0 || drawnIn(p, other, number) === drawnIn(p, state, number);
+    const before = isSame ? null : layers(block, columns, drawnIn(p, other, number), p.kinds);
+    const wrong = new Map((p.states[state].wrong || []).filter((it) => it[0] === number)
+      .map(([, v, layer, why]) => [layer + " " + columns.indexOf(v), why]));
+    if (before) before.name = isNamed(p) ? p.states[other].name : "";
+    at.wrong = wrong;
     const heat = heatOf(p, block, at), mems = new Map(block.mems);
     const machineOf = (lines) => machine(isLast ? lines : []);
     let head = "";
@@ -358,7 +386,7 @@
     const exit = 2 * block.code.length + 1;
     out += gap(p, block, at, exit, heat, isLast);
     out += `<tr class="end">${layer(exit)}<td class="what">${escaped(block.end)}</td><td class="machine">${machineOf(block.ended)}</td>${cells(p, at, exit, before)}</tr>`;
-    return `<table class="grid" data-block="${number}"><thead><tr><th class="layer" scope="col" title="the number of the layer">layer</th>${heat.head}<th class="what" scope="col">instruction</th><th class="machine" scope="col">machine instructions${isLast ? "" : " <span class=\"faint\">(of the last round)</span>"}</th>${head}</tr></thead><tbody>${out}</tbody></table>`;
+    return `<table class="grid${block.machine ? "" : " no-machine"}" data-block="${number}">${caption(`Where variables are in block ${number} of ${p.name}`)}<thead><tr><th class="layer" scope="col" title="the number of the layer">layer</th>${heat.head}<th class="what" scope="col">instruction</th><th class="machine" scope="col">machine instructions${isLast || isNamed(p) ? "" : " <span class=\"faint\">(of the last round)</span>"}</th>${head}</tr></thead><tbody>${out}</tbody></table>`;
   }
 
   // ---- least priced paths
@@ -441,7 +469,7 @@
   // ---- what each event cost
 
   function paidTable(p) {
-    let out = `<div class="wide"><table class="plain paid"><thead><tr><th>event</th><th>what happens</th><th class="number">times</th><th class="number">cost</th></tr></thead><tbody>`;
+    let out = `<div class="wide"><table class="plain paid">${caption("What each event cost in " + p.name)}<thead><tr><th scope="col">event</th><th scope="col">what happens</th><th scope="col" class="number">times</th><th scope="col" class="number">cost</th></tr></thead><tbody>`;
     for (const [event, count, total] of p.paid) {
       out += `<tr><td>e${event}</td><td>${page.events[event]}</td><td class="number">${count}</td><td class="number">${total}</td></tr>`;
     }
@@ -452,13 +480,24 @@
   // ---- the slider over rounds
 
   function stateWords(p) {
+    if (isNamed(p)) {
+      const { name, cost: paid, bound, reasons } = p.states[shownState[p.number]];
+      return `${name}: cost ${paid}, ${reasons.length ? "refused" : `bound ${bound}`}`;
+    }
     const state = p.states[shownState[p.number]], made = p.rounds[page.cost].length - 1;
-    const rounds = Math.min(state.rounds, made), last = state.rounds > made ? ", the last" : "";
+    const rounds = state.rounds, last = rounds === made ? ", the last" : "";
     const told = state.rounds === null ? "" : `After ${rounds} round${rounds === 1 ? "" : "s"}${last}: `;
     return `${told}cost ${state.cost}, bound ${state.bound}`;
   }
 
+  // Of certificates a button each.
+  function choices(p) {
+    const buttons = p.states.map((it, i) => `<button type="button" data-choice="${i}" aria-pressed="${i === shownState[p.number]}">${escaped(it.name)}</button>`);
+    return `<p class="slider" role="group" aria-label="Which certificate is shown">${buttons.join(" ")} <output data-state="${shownState[p.number]}">${escaped(stateWords(p))}</output></p>`;
+  }
+
   function slider(p) {
+    if (isNamed(p)) return choices(p);
     if (p.states.length < 2) return "";
     const ticks = p.states.map((it, i) => `<option value="${i}" label="${it.rounds}"></option>`).join("");
     return `<p class="slider"><label for="slider${p.number}">Rounds</label> ` +
@@ -469,9 +508,12 @@
   function slide(section, state) {
     const p = procedureOf(numberOf(section)), input = section.querySelector("[data-slider]");
     shownState[p.number] = Math.max(0, Math.min(state, p.states.length - 1));
-    if (!input) return;
-    input.value = shownState[p.number];
-    input.setAttribute("aria-valuetext", stateWords(p));
+    if (input) {
+      input.value = shownState[p.number];
+      input.setAttribute("aria-valuetext", stateWords(p));
+    }
+    section.querySelectorAll("[data-choice]").forEach((it) => it.setAttribute("aria-pressed", String(Number(it.dataset.choice) === shownState[p.number])));
+    if (!section.querySelector("output")) return;
     const output = section.querySelector("output");
     output.textContent = stateWords(p);
     output.dataset.state = shownState[p.number];
@@ -482,6 +524,32 @@
       [box.scrollLeft, box.scrollTop] = scrolled;
       begin(box);
     });
+  }
+
+  // ---- certificates beside each other
+
+  // Why certificates are refused.
+  function reasons(p) {
+    return p.states.filter((it) => (it.reasons || []).length).map((it) =>
+      `<p>${escaped(it.name)} is refused:</p><ul class="reasons">${it.reasons.map((why) => `<li>${escaped(why)}</li>`).join("")}</ul>`).join("");
+  }
+
+  // Which variables go other ways in other certificates, block by block, and what that costs.
+  function differences(p) {
+    if (!isNamed(p) || p.states.length < 2) return "";
+    if (!p.differs.length) return `<h3>What differs</h3><p>Nothing: all routes of this procedure are the same.</p>`;
+    const rows = p.differs.map(([state, block, v, one, two]) => {
+      const more = two - one, told = more === 0 ? "as much" : more > 0 ? `${more} more` : `${-more} less`;
+      return `<tr><td><button type="button" data-mark="${v}">${escaped(p.names[v])}</button></td><td><a href="#p${p.number}b${block}">block ${block}</a></td><td class="number">${one}</td><td class="number">${two}</td><td>${told} in ${escaped(p.states[state].name)}</td></tr>`;
+    });
+    const first = escaped(p.states[0].name);
+    return `<h3>What differs, and what it costs</h3><p class="faint">A cell that differs shows small where the variable is in the other certificate.</p><div class="wide"><table class="plain">${caption("What differs in " + p.name)}<thead><tr><th scope="col">variable</th><th scope="col">where</th><th scope="col" class="number">in ${first}</th><th scope="col" class="number">in the other</th><th scope="col">which costs</th></tr></thead><tbody>${rows.join("")}</tbody></table></div>`;
+  }
+
+  function costsTable(p) {
+    const rows = p.states.map((it) => `<tr><td>${escaped(it.name)}</td><td class="number">${it.cost}</td><td class="number">${it.reasons.length ? "refused" : it.bound}</td></tr>`);
+    for (const [name, value] of Object.entries(p.others[page.cost] || {})) rows.push(`<tr><td>${name}</td><td class="number">${value ?? "none"}</td><td></td></tr>`);
+    return `<div class="wide"><table class="plain">${caption("Costs and bounds of " + p.name)}<thead><tr><th scope="col">certificate</th><th scope="col" class="number">cost</th><th scope="col" class="number">bound</th></tr></thead><tbody>${rows.join("")}</tbody></table></div>`;
   }
 
   // ---- procedures
@@ -500,6 +568,16 @@
     begin(box);
   }
 
+  // Fills a box with grids that have as many columns as a page is wide.
+  function printed(box) {
+    const p = procedureOf(numberOf(box.closest("section.procedure"))), number = Number(box.dataset.grid);
+    const columns = variables(p, p.blocks[number]), parts = [];
+    for (let at = 0; at === 0 || at < columns.length; at += ON_PAPER) parts.push(columns.slice(at, at + ON_PAPER));
+    box.dataset.printed = "yes";
+    box.style.minHeight = "";
+    box.innerHTML = parts.map((some) => grid(p, number, some)).join("");
+  }
+
   const sight = new IntersectionObserver((entries) => {
     for (const it of entries) if (it.isIntersecting) { sight.unobserve(it.target); fill(it.target); }
   }, { rootMargin: "600px" });
@@ -514,19 +592,22 @@
 
   function draw(section) {
     const body = section.querySelector(".body");
+    inSight.unobserve(body);
     if (body.dataset.drawn) return;
     body.dataset.drawn = "yes";
+    body.style.minHeight = "";
     const p = procedureOf(numberOf(section));
-    let out = `<h3>Cost and bound, round by round</h3><div class="curves"></div>`;
-    out += `${levelWords(p)}${roundsTable(p)}<h3>What each event cost</h3>${paidTable(p)}`;
+    let out = reasons(p);
+    out += isNamed(p) ? `<h3>Cost and bound</h3>${costsTable(p)}` : `<h3>Cost and bound, round by round</h3><div class="curves"></div>`;
     if (p.blocks.length > 1) out += `<h3>Blocks and loops</h3>${flow(p)}`;
-    out += `<h3>Where variables are</h3>${priceWords(p)}`;
+    out += `<h3>Where variables are</h3>`;
     out += `<p><button type="button" class="tool only-narrow" data-machine>Show or hide prices and machine instructions</button></p>`;
     out += `<div class="bar">${slider(p)}<div class="marked-bar" aria-live="polite" hidden><span></span><button type="button" data-unmark>unmark</button></div></div>`;
     p.blocks.forEach((block, number) => {
       out += `<h3 id="p${p.number}b${number}">Block ${number}, ${loops(block.depth)}${linesOf(block)}</h3>`;
       out += `<div class="grid-box" data-grid="${number}" tabindex="0" role="region" aria-label="Grid of block ${number}" style="min-height: ${Math.min(560, 60 + 40 * block.code.length)}px"></div>`;
     });
+    out += `${differences(p)}<h3>What each event cost</h3>${paidTable(p)}${isNamed(p) ? "" : roundsTable(p)}${priceWords(p)}${levelWords(p)}`;
     body.innerHTML = out;
     drawCurves(section);
     section.querySelectorAll("[data-grid]").forEach((box) => sight.observe(box));
@@ -585,6 +666,8 @@
     const section = event.target.closest("section.procedure");
     if (event.target.closest("[data-open]")) return openAll();
     if (!section) return undefined;
+    const choice = event.target.closest("[data-choice]");
+    if (choice) return slide(section, Number(choice.dataset.choice));
     if (event.target.closest("[data-unmark]")) return mark(section, marks[section.id]);
     if (event.target.closest("[data-machine]")) return section.classList.toggle("with-machine");
     const cell = event.target.closest("[data-v], [data-mark]");
@@ -654,14 +737,29 @@
     draw(section);
   }
 
-  function openAll() {
-    sections.forEach(open);
+  // A procedure that is open is drawn when it comes into sight; until then it has about its room.
+  const inSight = new IntersectionObserver((entries) => {
+    for (const it of entries) if (it.isIntersecting) draw(it.target.closest("section.procedure"));
+  }, { rootMargin: "800px" });
+
+  function awaitSight(section) {
+    const body = section.querySelector(".body");
+    if (body.dataset.drawn) return;
+    body.style.minHeight = "90vh";
+    inSight.observe(body);
   }
 
-  // All procedures with all grids, in one of their states, as paper and tests want them.
-  function drawAll(state) {
-    openAll();
+  function openAll() {
     sections.forEach((section) => {
+      section.querySelector("details").open = true;
+      awaitSight(section);
+    });
+  }
+
+  // All procedures with all grids, in one of their states, as tests want them.
+  function drawAll(state) {
+    sections.forEach((section) => {
+      open(section);
       section.querySelectorAll("[data-grid]").forEach(fill);
       if (state !== undefined) slide(section, state);
     });
@@ -683,14 +781,25 @@
 
   sections.forEach((section) => {
     section.querySelector("details").addEventListener("toggle", (event) => {
-      if (event.target.open) draw(section);
+      section.classList.toggle("is-open", event.target.open);
+      if (event.target.open) awaitSight(section);
     });
   });
   if (sections.length) open(sections.length > 1 && page.first !== undefined ? sections[page.first] : sections[0]);
   window.addEventListener("hashchange", follow);
   window.addEventListener("resize", () => sections.forEach(drawCurves));
-  window.addEventListener("beforeprint", () => sections.forEach((s) => {
-    if (s.querySelector("details").open) { draw(s); s.querySelectorAll("[data-grid]").forEach(fill); }
+  // Paper has the open procedures alone, with all grids, and of a wide one some columns at a time.
+  window.addEventListener("beforeprint", () => sections.forEach((section) => {
+    const isOpen = section.querySelector("details").open;
+    section.classList.toggle("is-open", isOpen);
+    if (!isOpen) return;
+    draw(section);
+    section.querySelectorAll("[data-grid]").forEach((box) => printed(box));
+  }));
+  window.addEventListener("afterprint", () => document.querySelectorAll("[data-printed]").forEach((box) => {
+    box.removeAttribute("data-printed");
+    box.innerHTML = "";
+    fill(box);
   }));
   follow();
   document.documentElement.dataset.ready = "yes";

@@ -15,6 +15,7 @@ HERE = os.path.dirname(os.path.realpath(__file__))
 UNIT = {"size": "bytes", "speed": "units of time"}
 LONG_SOURCE = 60  # lines that are shown without being asked for
 LONG_CODE = 200  # instructions of a procedure that is
+SHORT_TABLE = 12  # procedures whose table is open
 
 TEMPLATE = """<!DOCTYPE html>
 <html lang="en">
@@ -31,21 +32,22 @@ TEMPLATE = """<!DOCTYPE html>
 <h1>{title}</h1>
 <p class="lead">{sentence}</p>
 <p class="faint">{made}</p>
-</header>
+{not_proved}</header>
 <noscript>
 <p>Grids and curves are drawn by a script in this page, which needs no network.</p>
 </noscript>
 <main>
 <h2 id="procedures">Procedures</h2>
 {procedures}
-<p><button type="button" class="tool" data-open>Open all procedures</button></p>
-<h2 id="reading">How to read this page</h2>
-{reading}
-<h2 id="events">What each event cost in the module</h2>
-{events}
+<p><button type="button" class="tool" data-open>Open all procedures</button>
+<a href="#reading">How to read this page</a></p>
+{sections}
 <h2 id="source">Source</h2>
 {source}
-{sections}
+<h2 id="events">What each event cost in the module</h2>
+{events}
+<h2 id="reading">How to read this page</h2>
+{reading}
 </main>
 {data}
 <script>
@@ -81,8 +83,9 @@ with prices, and for each other place what the cheapest way through that place c
 than its own.</p>
 <p>Lines beside the head of a block are those of the source from which its calls, comparisons,
 divisions, tests of indexes, reads and writes come: the scripts find them again by their order.</p>
-<p>Parameters have the names of the source. The others are called v and a number: the compiler has
-parted, merged and copied the variables of the source before it allocates them.</p>
+<p>Parameters have the names of the source, and so have locals where the scripts find them again by
+the order of words. The others are called v and a number: the compiler has parted, merged and copied
+the variables of the source before it allocates them.</p>
 <p>The <em>cost</em> is the sum of all events: moves, memory operands and immediates. {unit} What
 every allocation has to pay, such as the instructions themselves, is left out. The <em>bound</em> is
 a number below which no allocation of this code can go, whatever it is; the compiler's checker has
@@ -140,19 +143,21 @@ def legend():
     return "".join(out)
 
 
-def table(heads, rows, foot=None):
-    """Rows of cells as HTML; a head that begins with # is of a column of numbers."""
+def table(name, heads, rows, foot=None):
+    """Rows of cells as HTML, with a name for those who hear it; a head that begins with # is of a
+    column of numbers."""
     numbers = [it.startswith("#") for it in heads]
 
-    def cells(row, tag):
-        kinds = (f"<{tag} class=number>" if it else f"<{tag}>" for it in numbers)
+    def cells(row, tag, more=""):
+        kinds = (f"<{tag}{more} class=number>" if it else f"<{tag}{more}>" for it in numbers)
         return "".join(f"{kind}{it}</{tag}>" for kind, it in zip(kinds, row, strict=True))
 
-    head = cells([it.lstrip("#") for it in heads], "th")
+    head = cells([it.lstrip("#") for it in heads], "th", ' scope="col"')
     body = "".join(f"<tr>{cells(row, 'td')}</tr>" for row in rows)
     last = f"<tfoot><tr>{cells(foot, 'td')}</tr></tfoot>" if foot else ""
     return (
-        f'<div class="wide"><table class="plain"><thead><tr>{head}</tr></thead>'
+        f'<div class="wide"><table class="plain"><caption class="heard">{escape(name)}</caption>'
+        f"<thead><tr>{head}</tr></thead>"
         f"<tbody>{body}</tbody>{last}</table></div>"
     )
 
@@ -166,23 +171,52 @@ def events_table(drawn, cost):
     foot = ("", "in all", "", sum(row[3] for row in rows), sum(row[4] for row in rows))
     note = ", eight times as much for each loop around it" if cost == "speed" else ""
     return f"<p>An event costs its weight each time that it comes{note}.</p>" + table(
-        heads, rows, foot
+        "What each event cost in the module", heads, rows, foot
     )
 
 
+def compared_table(module):
+    """The costs of each procedure by several certificates."""
+    names = [it.name for it in module.read]
+    heads = ["", "procedure", "#instructions", *(f"#{escape(it)}" for it in names), "#bound"]
+    rows = []
+    for it, reported in zip(module.drawn, reports_of(module), strict=True):
+        link = f'<a href="#p{it.code.number}">{escape(reported.name)}</a>'
+        count = sum(len(block.code) for block in it.code.blocks)
+        costs = [state.cost for state in it.states]
+        rows.append((it.code.number, link, count, *costs, it.code.bound))
+    foot = ("", "all", *(sum(row[at] for row in rows) for at in range(2, len(heads))))
+    name = "Procedures, and what they cost by each certificate"
+    return folded(table(name, heads, rows, foot), rows)
+
+
+def reports_of(module):
+    return module.reports[module.certificate.cost].procedures
+
+
+def folded(made, rows):
+    """A table of procedures, which is closed at first where it is long."""
+    if len(rows) <= SHORT_TABLE:
+        return made
+    return f"<details><summary>All {len(rows)} procedures</summary>{made}</details>"
+
+
 def procedures_table(module):
+    if module.is_compared:
+        return compared_table(module)
     heads = ["", "procedure", "#instructions", "#round 0", "#cost", "#bound", "#at most above"]
     rows, cost, first = [], module.certificate.cost, heads.index("#round 0")
     for it, reported in zip(module.drawn, module.reports[cost].procedures, strict=True):
         number = it.code.number
         link = f'<a href="#p{number}">{escape(reported.name)}</a>'
         count = sum(len(block.code) for block in it.code.blocks)
-        total, bound = it.code.total, it.code.bound
+        total, bound = it.total, it.code.bound
         rows.append((number, link, count, reported.rounds[0][0], total, bound, total - bound))
     lines = [heads, *rows, ("", "all", *(sum(row[at] for row in rows) for at in range(2, 7)))]
     if not module.source:  # a certificate has no rounds
         lines = [(*line[:first], *line[first + 1 :]) for line in lines]
-    return table(lines[0], lines[1:-1], lines[-1])
+    made = table("Procedures, their costs and bounds", lines[0], lines[1:-1], lines[-1])
+    return folded(made, rows)
 
 
 def source_lines(source):
@@ -207,7 +241,9 @@ def where_from(module, number):
 def section(module, number):
     drawn, cost = module.drawn[number], module.certificate.cost
     reported = module.reports[cost].procedures[number]
-    words = at_most(drawn.code.total, drawn.code.bound, UNIT[cost])
+    words = at_most(drawn.total, drawn.code.bound, UNIT[cost])
+    if drawn.states[0].reasons:
+        words = f"Its routes come to {drawn.total} {UNIT[cost]}, and are refused."
     frame = f" takes {reported.frame} bytes of stack a call." if reported.frame is not None else "."
     return (
         f'<section class="procedure" id="p{number}" data-number="{number}"><details>'
@@ -217,7 +253,18 @@ def section(module, number):
     )
 
 
+def made_of_certificates(module):
+    """Which certificates a page is of, and whether they hold."""
+    told = []
+    for it in module.read:
+        how = f"is refused: <code>{escape(it.line)}</code>" if it.line else "was tested and holds"
+        told.append(f"The certificate {escape(it.name)} {how}.")
+    return f"By <code>{escape(module.command)}</code>. {' '.join(told)}"
+
+
 def made_words(module):
+    if not module.source:
+        return made_of_certificates(module)
     cost, command = module.certificate.cost, escape(module.command)
     report = module.reports[cost]
     ran = f" The run: <code>{escape(report.ending)}</code>." if report.ending else ""
@@ -231,10 +278,23 @@ def made_words(module):
 def first_open(module):
     """The procedure that is open at first: the one with the dearest round 0, but no huge one."""
     reported = module.reports[module.certificate.cost].procedures
+    if not module.source:
+        return first_to_look_at(module.drawn)
     sizes = [sum(len(block.code) for block in it.code.blocks) for it in module.drawn]
     most = max(LONG_CODE, min(sizes))
     small = (at for at, size in enumerate(sizes) if size <= most)
     return max(small, key=lambda it: reported[it].rounds[0][0])
+
+
+def first_to_look_at(drawn):
+    """Of certificates the procedure that is refused, or where they differ most, or the dearest."""
+
+    def weight(at):
+        states = drawn[at].states
+        costs = [it.cost for it in states]
+        return any(it.reasons for it in states), max(costs) - min(costs), costs[0], -at
+
+    return max(range(len(drawn)), key=weight)
 
 
 def script_data(name, value):
@@ -264,18 +324,42 @@ def data_of(module):
     return "\n".join(script_data(*it) for it in [("data", page), *named])
 
 
-def page_of(module):
-    """The page of a module as text."""
+def title_of(module):
+    """A name of the page, which another page of the module has not: by weight and rounds."""
+    cost, report = module.certificate.cost, module.reports[module.certificate.cost]
+    if not module.source:
+        return f"{' and '.join(it.name for it in module.read)} by {cost}"
+    rounds = f"{module.rounds} round{'s' * (module.rounds != 1)}"
+    return f"{report.procedures[0].name} by {cost}, {rounds}"
+
+
+def sentence_of(module, report, unit):
+    """What the page is of, and how good that is."""
+    whole = at_most(report.cost, report.bound, unit)
+    if module.source:
+        return f"The allocation of the module {escape(report.procedures[0].name)}. {whole}"
+    names = [escape(it.name) for it in module.read]
+    if module.is_compared:
+        sums = [sum(it.states[at].cost for it in module.drawn) for at in range(len(names))]
+        told = ", ".join(f"{name} costs {it} {unit}" for name, it in zip(names, sums, strict=True))
+        return f"Certificates of one module: {told}. No allocation costs less than {report.bound}."
+    if module.refused:
+        return f"The certificate {names[0]}, which is refused: what is wrong is marked."
+    return f"The allocation of the certificate {names[0]}. {whole}"
+
+
+def page_of(module, not_proved=""):
+    """The page of a module as text; not_proved says why what made it was not proved."""
     cost, report = module.certificate.cost, module.reports[module.certificate.cost]
     sections = "\n".join(section(module, it) for it in range(len(module.drawn)))
-    name = report.procedures[0].name if module.source else module.command.split(" ", 2)[2]
-    whole = at_most(report.cost, report.bound, UNIT[cost])
-    kind = "module" if module.source else "certificate"
+    sentence = sentence_of(module, report, UNIT[cost])
+    warned = f'<p class="warned">{escape(not_proved)}</p>\n' if not_proved else ""
     return TEMPLATE.format(
-        title=f"{escape(name)}: an allocation",
+        title=escape(title_of(module)),
         css=asset("page.css"),
-        sentence=f"The allocation of the {kind} {escape(name)}. {whole}",
+        sentence=sentence,
         made=made_words(module),
+        not_proved=warned,
         procedures=procedures_table(module),
         reading=READING.format(legend=legend(), unit=UNITS[cost]),
         events=events_table(module.drawn, cost),

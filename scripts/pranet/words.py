@@ -3,6 +3,7 @@
 import subprocess
 import sys
 
+import reading
 from pranet.cbc import NoSolver
 from pranet.certificate import NoCertificate
 from pranet.compiler import TOP, Compiler, Refused, default_program
@@ -63,8 +64,7 @@ def status_of(call, usage, file=""):
         tell(file, refused.said)
         return refused.status
     except OSError as error:
-        print(f"pra: {error}", file=sys.stderr)
-        return 5
+        return reading.tell(error, file)
     except (NoCertificate, NoSolver) as error:
         print(f"pra: {error}", file=sys.stderr)
         return NO_ANSWER

@@ -80,6 +80,16 @@ def with_image(program, image):
     return data + code
 
 
+def assembled(text):
+    """The bytes of the object that gcc makes of a text for the assembler."""
+    with tempfile.TemporaryDirectory(prefix="pra-object-") as room:
+        with open(f"{room}/object.s", "w", encoding="utf-8") as file:
+            file.write(text)
+        called(["gcc", "-m32", "-c", f"{room}/object.s", "-o", f"{room}/object.o"])
+        with open(f"{room}/object.o", "rb") as file:
+            return file.read()
+
+
 class Builder:
     """The runtime, compiled once, and programs of it; a folder that is gone at the end."""
 
