@@ -1,22 +1,30 @@
 #!/usr/bin/env python3
-"""Prints the code of compilers of ours beside that of gcc -m32, in two tables by module.
+"""Prints the code of compilers of ours beside that of gcc -m32, in tables by module.
 
-    beside_gcc.py [--compiler NAME=PROGRAM].. [--rounds N] [FILE..]
+    beside_gcc.py [--compiler NAME=PROGRAM].. [--rounds N] [--time] [FILE..]
 
-The one table has bytes of code and the other executed instructions: of each compiler by both words
-of cost, and of gcc at -O0, -Os and -O2 of the same module as C (in_c.py has what is tested there).
-Modules are FILEs, which are run without input, or else generated ones of 20 procedures of the seeds
-1, 7 and 9 and those of examples/. Without a compiler that is named, the built one is taken. gcc's
-program has to write and end as ours do before its figures are told. The last rows are sums.
+One table has bytes of code, another executed instructions, and with --time a third one seconds: of
+each compiler by both words of cost, and of gcc at -O0, -O1, -Os and -O2 of the same module as C
+(in_c.py has what is tested there). Modules are FILEs, which are run without input, or else
+generated ones of 20 procedures of the seeds 1, 7 and 9, those of examples/ and those of
+bench/programs/. Without a compiler that is named, the built one is taken. gcc's program has to
+write and end as ours do before its figures are told. Sums stand below.
 
 Bytes are, of ours, those of the whole code, as `code N` of the report: with the call of the body,
 INT 20h and the stubs of three traps, 28 bytes in all, and with 12 bytes a procedure in which the
-stack is tested. Of gcc they are the code sections of the object file, with what aligns functions
-and loops at -O2, and without the functions that read, write and trap, which are INT in ours.
+stack is tested. Of gcc they are the code sections of the object file and the tables of its jumps,
+with what aligns functions and loops at -O2, and without the functions that read, write and trap,
+which are INT in ours.
 
 Executed are, of ours, the steps that `run` tells. Of gcc's program they are counted by single steps
 where the code of the module alone stands: not in what it calls to read, write and trap. Both count
 the instructions that hand over a number to be written, and an INT is one as a call is.
+
+Seconds are those of a processor that native programs take, the least of five runs of all of them in
+turn. The body of the module is run again and again, for some LONG instructions of ours; what it
+writes has to be the same. A service of ours is a signal of the system in a native program, so that
+modules which write often (a number or line in fewer than APART instructions) are left out, as are
+those that read or trap.
 """
 
 import argparse
@@ -27,11 +35,11 @@ import subprocess
 import sys
 import tempfile
 
-from in_c import TOP, in_c
+from in_c import TOP, in_c, repeated
 
 HERE = os.path.dirname(os.path.realpath(__file__))
 COSTS = ("size", "speed")
-LEVELS = ("-O0", "-Os", "-O2")
+LEVELS = ("-O0", "-O1", "-Os", "-O2")
 SEEDS, SIZE = (1, 7, 9), 20
 INPUTS = {
     "magic": "9",
@@ -44,6 +52,8 @@ LEFT_OUT = {
     "overflow": "it ends where the stack is full, which C does not test",
 }
 MOST_STEPS = "200000000"
+LONG, APART = 1000000000, 300
+TURNS = 5
 RAN = 2  # the greatest status with which a run's module was compiled
 PLAIN = "-fno-pie -fno-stack-protector -fcf-protection=none -fno-asynchronous-unwind-tables"
 FLAGS = ["-m32", "-ffreestanding", "-fwrapv", *PLAIN.split()]
@@ -101,8 +111,9 @@ def ours(program, file, text, words, folder):
 
 
 def code_bytes(sizes):
-    """The bytes of the code sections, of what `size -A` tells."""
-    return sum(int(it) for it in re.findall(r"^\.text\S*\s+(\d+)\s", sizes, re.M))
+    """The bytes of the code sections and of the tables beside them, of what `size -A` tells. A
+    module has no other constants."""
+    return sum(int(it) for it in re.findall(r"^\.(?:text|rodata)\S*\s+(\d+)\s", sizes, re.M))
 
 
 def limits(symbols):
@@ -146,7 +157,8 @@ class Gcc:
 
 
 def row(compilers, gcc, file, given, rounds):
-    """Bytes and steps of a module, for each column; all have to write and end the same."""
+    """Bytes and steps of a module, for each column; all have to write and end the same. Beside them
+    what was written and how it ended."""
     found = [
         ours(program, file, given, ["--rounds", rounds, "--cost", cost], gcc.folder)
         for _, program in compilers
@@ -158,7 +170,68 @@ def row(compilers, gcc, file, given, rounds):
     for it in found:
         if it[2] != found[0][2]:
             raise Refused("one of the programs writes or ends otherwise")
-    return [it[:2] for it in found]
+    return [it[:2] for it in found], found[0][2]
+
+
+# ---- seconds
+
+
+def seconds_of(program, out):
+    """Seconds of a processor that a program takes, which has to end well."""
+    with open(out, "wb") as file:
+        child = subprocess.Popen([program], stdin=subprocess.DEVNULL, stdout=file, stderr=file)
+        _, status, usage = os.wait4(child.pid, 0)
+        child.returncode = status
+    if status:
+        raise Refused(f"a program that is timed ended with {status}")
+    return usage.ru_utime
+
+
+def native(compiler, file, words, name):
+    """Makes the native program of a module by one of our compilers."""
+    image = f"{name}.pri"
+    made([compiler, "compile", file, "--image", image, *words])
+    made([sys.executable, f"{TOP}/scripts/native.py", image, "-o", name])
+    return name
+
+
+def programs(compilers, gcc, source, rounds):
+    """The programs of a module, for each column."""
+    file = f"{gcc.folder}/long.ob"
+    with open(file, "wb") as out:
+        out.write(source)
+    for number, (_, compiler) in enumerate(compilers):
+        for cost in COSTS:
+            words = ["--rounds", rounds, "--cost", cost]
+            yield native(compiler, file, words, f"{gcc.folder}/native_{number}_{cost}")
+    for level in LEVELS:
+        gcc.program(in_c(source), level)
+        os.rename(f"{gcc.folder}/program", f"{gcc.folder}/program{level}")
+        yield f"{gcc.folder}/program{level}"
+
+
+def written(name):
+    """What a program wrote, without the line on how ours ended."""
+    with open(name, "rb") as file:
+        return re.sub(rb"ended reads \d+\n\Z", b"", file.read())
+
+
+def seconds(compilers, gcc, source, rounds, steps, told):
+    """The least seconds of each column's program of a module that is run again and again; steps are
+    those of one run, and told is what that writes and how it ends."""
+    out, status = told
+    long = repeated(source, max(1, LONG // max(steps, 1)))
+    if status or long is None or b"Read" in source:
+        raise Refused("it reads, traps or has no body, and is not timed")
+    if steps < APART * len(out.split()):
+        raise Refused("it writes too often to be timed")
+    them, least = list(programs(compilers, gcc, long, rounds)), {}
+    for _ in range(TURNS):
+        for it in them:
+            least[it] = min(least.get(it, 1e9), seconds_of(it, f"{it}.out"))
+    if len({written(f"{it}.out") for it in them}) > 1:
+        raise Refused("one of the programs that are timed writes otherwise")
+    return [(it,) for it in least.values()]
 
 
 def modules(program, folder):
@@ -168,21 +241,31 @@ def modules(program, folder):
         words = ["--seed", str(seed), "--size", str(SIZE), "--rounds", "0"]
         made([program, "gen", file, *words, "--image", f"{folder}/out.pri"], RAN)
         yield f"generated {seed}", file
-    for file in sorted(glob.glob(f"{TOP}/examples/*.ob")):
+    found = [sorted(glob.glob(f"{it}/*.ob")) for it in (f"{TOP}/examples", f"{HERE}/programs")]
+    for file in sum(found, []):
         yield os.path.basename(file).removesuffix(".ob"), file
 
 
+def group_of(name):
+    """What a module is counted among."""
+    if name.startswith("generated"):
+        return "all generated"
+    if os.path.exists(f"{HERE}/programs/{name}.ob"):
+        return "all programs"
+    return "all others"
+
+
 def table(title, columns, rows, which):
-    """The lines of a table with one of the two figures, and its sums."""
+    """The lines of a table with one of the figures, and its sums."""
     yield f"| {title} | {' | '.join(columns)} |"
     yield "|---|" + "--:|" * len(columns)
-    groups = {
-        "all generated": [it for name, it in rows if name.startswith("generated")],
-        "all others": [it for name, it in rows if not name.startswith("generated")],
-    }
+    groups = {}
+    for name, found in rows:
+        groups.setdefault(group_of(name), []).append(found)
     sums = [(name, sum_of(them)) for name, them in groups.items() if len(them) > 1]
     for name, found in [*rows, *sums]:
-        yield f"| {name} | {' | '.join(str(it[which]) for it in found)} |"
+        cells = (f"{it[which]:.2f}" if isinstance(it[which], float) else it[which] for it in found)
+        yield f"| {name} | {' | '.join(map(str, cells))} |"
 
 
 def sum_of(rows):
@@ -193,6 +276,7 @@ def words_of(given):
     parser = argparse.ArgumentParser(usage=__doc__, add_help=False)
     parser.add_argument("--compiler", action="append", default=[])
     parser.add_argument("--rounds", default="10")
+    parser.add_argument("--time", action="store_true")
     parser.add_argument("files", nargs="*")
     words = parser.parse_args(given)
     named = words.compiler or [f"pra={TOP}/crates/pra/out/pra"]
@@ -203,24 +287,38 @@ def words_of(given):
     return words
 
 
+def compared(words, gcc):
+    """The rows of bytes and steps, and those of seconds."""
+    rows, timed = [], []
+    all_of_them = [(os.path.basename(it).removesuffix(".ob"), it) for it in words.files]
+    for name, file in all_of_them or modules(words.compiler[-1][1], gcc.folder):
+        if name in LEFT_OUT:
+            print(f"{name} is left out: {LEFT_OUT[name]}", file=sys.stderr)
+            continue
+        given = "" if words.files else INPUTS.get(name, "")
+        try:
+            found, told = row(words.compiler, gcc, file, given, words.rounds)
+            rows.append((name, found))
+            if words.time:
+                with open(file, "rb") as text:
+                    source = text.read()
+                how = words.compiler, gcc, source, words.rounds, found[0][1], told
+                timed.append((name, seconds(*how)))
+        except Refused as why:
+            print(f"{name} is left out: {why}", file=sys.stderr)
+    return rows, timed
+
+
 def main(given):
-    words, rows = words_of(given), []
+    words = words_of(given)
     with tempfile.TemporaryDirectory() as folder:
-        gcc = Gcc(folder)
-        all_of_them = [(os.path.basename(it).removesuffix(".ob"), it) for it in words.files]
-        for name, file in all_of_them or modules(words.compiler[-1][1], folder):
-            if name in LEFT_OUT:
-                print(f"{name} is left out: {LEFT_OUT[name]}", file=sys.stderr)
-                continue
-            try:
-                text = "" if words.files else INPUTS.get(name, "")
-                rows.append((name, row(words.compiler, gcc, file, text, words.rounds)))
-            except Refused as why:
-                print(f"{name} is left out: {why}", file=sys.stderr)
+        rows, timed = compared(words, Gcc(folder))
     columns = [f"{name}, {cost}" for name, _ in words.compiler for cost in COSTS]
     columns += [f"gcc {level}" for level in LEVELS]
     print("\n".join(table("Bytes of code", columns, rows, 0)), end="\n\n")
     print("\n".join(table("Executed instructions", columns, rows, 1)))
+    if timed:
+        print("", *table("Seconds", columns, timed, 0), sep="\n")
     return 0
 
 

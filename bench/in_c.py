@@ -6,7 +6,8 @@
 Each procedure is a function that is compiled by itself (noipa), as ours are, and the body is
 module_body. DIV and MOD are rounded down and an index is tested, with calls of trap; sums wrap
 where gcc is told -fwrapv. DIV and MOD by a power of two are a shift and an And: from the general
-form gcc makes more. A full stack is not tested, and arguments are evaluated in gcc's order, which
+form gcc makes more. A test stands where it is needed, as a macro, so that -O0 passes nothing to
+functions for it. A full stack is not tested, and arguments are evaluated in gcc's order, which
 shows only in which of two traps is met. What gcc is to link are read_number, write_number,
 write_line and trap.
 """
@@ -26,29 +27,20 @@ number read_number(void);
 void write_number(number value);
 void write_line(void);
 __attribute__((noreturn)) void trap(int kind);
-#define INLINE static inline __attribute__((always_inline))
 
-INLINE number element(number index, number length)
-{
-    if ((unsigned)index >= (unsigned)length)
-        trap(1);
-    return index;
-}
-
-INLINE number quotient(number x, number y)
-{
-    if (y <= 0)
-        trap(2);
-    return x / y - (x % y < 0);
-}
-
-INLINE number remainder_of(number x, number y)
-{
-    if (y <= 0)
-        trap(2);
-    number rest = x % y;
-    return rest < 0 ? rest + y : rest;
-}
+#define element(index, length) \\
+    ({ number at_ = (index); \\
+       if ((unsigned)at_ >= (unsigned)(length)) trap(1); \\
+       at_; })
+#define quotient(x, y) \\
+    ({ number x_ = (x), y_ = (y); \\
+       if (y_ <= 0) trap(2); \\
+       x_ / y_ - (x_ % y_ < 0); })
+#define remainder_of(x, y) \\
+    ({ number x_ = (x), y_ = (y); \\
+       if (y_ <= 0) trap(2); \\
+       number rest_ = x_ % y_; \\
+       rest_ < 0 ? rest_ + y_ : rest_; })
 """
 SIMPLE = {"+": "+", "-": "-", "*": "*", "&": "&&", "OR": "||"}
 RELATIONS = {"=": "==", "#": "!=", "<": "<", "<=": "<=", ">": ">", ">=": ">="}
@@ -413,6 +405,31 @@ class Translator:
 def in_c(source):
     """The text in C of a module's bytes."""
     return Translator(source).module()
+
+
+def unused(name, words):
+    """A name that is none of these words."""
+    names = (f"{name}{number}" for number in range(len(words) + 1))
+    return next(it for it in names if it not in words)
+
+
+def repeated(source, times):
+    """The module with its body run so often, one run behind the other; None where it has none."""
+    at = list(tokens(source))
+    words = [source[begin:end].decode() for begin, end in at]
+    is_behind_procedure = words[-6:-5] == ["END"] and words[-5].isalnum() and words[-4] == ";"
+    if "BEGIN" not in words or is_behind_procedure:
+        return None
+    begin = max(number for number, word in enumerate(words) if word == "BEGIN")
+    once, again, left = (unused(it, words) for it in ("Once", "Again", "left"))
+    body = source[at[begin][0] : at[-3][0]].decode()
+    front, name = source[: at[begin][0]].decode(), words[-2]
+    return (
+        f"{front}PROCEDURE {once};\n{body}\nEND {once};\nPROCEDURE {again};\n"
+        f"VAR {left}: INTEGER;\nBEGIN {left} := {times};\n"
+        f"WHILE {left} > 0 DO {once}; {left} := {left} - 1 END\nEND {again};\n"
+        f"BEGIN {again} END {name}.\n"
+    ).encode()
 
 
 def main(words):

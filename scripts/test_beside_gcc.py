@@ -75,6 +75,7 @@ class Figures(unittest.TestCase):
     def test_code_sections_alone_count(self):
         told = "section size addr\n.text 18 0\n.text.unlikely 5 0\n.data 4 0\n.comment 9 0\n"
         self.assertEqual(beside_gcc.code_bytes(told), 23)
+        self.assertEqual(beside_gcc.code_bytes(f"{told}.rodata 16 0\n"), 39)
 
     def test_endings(self):
         self.assertEqual(beside_gcc.ending("ended steps 32 reads 0"), (0, 32))
@@ -88,6 +89,19 @@ class Figures(unittest.TestCase):
         told = list(beside_gcc.table("Bytes", ["a"], rows, 1))
         names = "| generated 1 | 10 |", "| generated 7 | 20 |", "| sort | 50 |"
         self.assertEqual(told[2:], [*names, "| all generated | 30 |"])
+
+
+class Repeated(unittest.TestCase):
+    def test_a_body_is_run_so_often(self):
+        source = b"MODULE M; VAR Once0: INTEGER; BEGIN Write(Once0) END M."
+        told = in_c.repeated(source, 3).decode()
+        self.assertIn("PROCEDURE Once1;\nBEGIN Write(Once0) \nEND Once1;", told)
+        self.assertIn("left0 := 3;", told)
+        self.assertTrue(told.endswith("BEGIN Again0 END M.\n"))
+
+    def test_a_module_without_a_body_is_not(self):
+        for source in (b"MODULE M; END M.", b"MODULE M; PROCEDURE P; BEGIN END P; END M."):
+            self.assertIsNone(in_c.repeated(source, 3))
 
 
 @unittest.skipUnless(GCC_WORKS, "no programs for IA-32 are made and run here")
@@ -104,6 +118,16 @@ class Running(unittest.TestCase):
     def test_traps(self):
         for given, status in (("4", 11), ("-1", 11), ("1", 12), ("", 13)):
             self.assertEqual(self.figures(CALLS, "-O2", given)[2][1], status, given)
+
+    def test_a_repeated_module_writes_again(self):
+        source = "MODULE M; VAR n: INTEGER; BEGIN n := n + 1; Write(n) END M."
+        again = in_c.repeated(source.encode(), 3).decode()
+        self.assertEqual(self.figures(again, "-O1", "")[2], (b" 1 2 3", 0))
+
+    def test_at_O0_a_test_is_no_call_with_parameters(self):
+        plain = "MODULE M; VAR i: INTEGER; a: ARRAY 4 OF INTEGER; BEGIN Write({}) END M."
+        tested, known = (self.figures(plain.format(it), "-O0", "")[1] for it in ("a[i]", "i"))
+        self.assertLessEqual(tested - known, 7)
 
     def test_the_steps_of_the_module_alone_count(self):
         """The numbers that are written are in the same steps, whatever they are."""
