@@ -13,56 +13,21 @@ to be read.
 import re
 import sys
 
-from checker import form, images, json_text, verdict
+from checker import given, images
 
 MODULE = 100  # the status where FILE is none of these
 MOST_CERTIFICATE = 16777216  # bytes
-MOST_TOLD = 10  # of the words of one reason
 BLANKS = b" \t\n\r"
 
 
 # ---- certificates
 
 
-def told(words, what):
-    """The words of one reason, of which no more than MOST_TOLD are told."""
-    more = len(words) - MOST_TOLD
-    return words[:MOST_TOLD] + ([f"and {more} more {what}"] if more > 0 else [])
-
-
-def in_text(name, text, at, words):
-    line, column = json_text.line_and_column(text, at)
-    return f"{name}:{line}:{column}: {words}"
-
-
-def form_line(name, text, complaint):
-    at = json_text.position(text, complaint.path)
-    words = complaint.words(json_text.spelled(text, at))
-    return in_text(name, text, at, f"{form.place_words(complaint.path)}: {words}")
-
-
-def certificate_lines(name, data):
-    """What speaks against a certificate, a line each."""
-    try:
-        text, value = json_text.read(data)
-    except json_text.NoJson as error:
-        return [in_text(name, data.decode(errors="replace"), error.at, f"this is no JSON: {error}")]
-    complaints = form.complaints(value)
-    if complaints:
-        lines = [form_line(name, text, it) for it in complaints[:MOST_TOLD]]
-        return lines + told(complaints, "of this kind")[MOST_TOLD:]
-    return [
-        f"{name}, procedure {it.procedure}, {it.reason}: {words}"
-        for it in verdict.verdict(*form.claims(value))
-        for words in told(it.words, f"against its {it.reason}")
-    ]
-
-
 def certificate(name, data):
     """The status of a certificate, and what to print."""
     if len(data) > MOST_CERTIFICATE:
         return 4, [f"{name}: it has more than {MOST_CERTIFICATE} bytes"]
-    lines = certificate_lines(name, data)
+    lines = given.lines_of(name, data)
     if not lines:
         return 0, [f"{name}: nothing is wrong with this certificate; ./pra check proves it"]
     return 3, lines
