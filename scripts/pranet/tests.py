@@ -27,6 +27,7 @@ from pranet import cbc, certificate
 from pranet.certificate import Certificate, Prices
 from pranet.compiler import ANY_BYTES, TOP, Compiler, Refused
 from pranet.dual import Dual, in_range, tie_index, whole
+from pranet.home import home_routes
 from pranet.network import Network, bits
 from pranet.problem import problem_of, problem_of_all
 from pranet.program import classes_of, program_of, program_of_all, relaxation_of, routes_of
@@ -89,6 +90,16 @@ def allocated(procedure, cost="size"):
     command = [sys.executable, ALLOCATOR]
     ran = subprocess.run(command, input=json.dumps(problem), capture_output=True, text=True)
     return certificate.read(ran.stdout).procedures[0]
+
+
+def called(main, words, text):
+    """Status, output and notes of a call with a file that holds a text."""
+    out, notes = io.StringIO(), io.StringIO()
+    with tempfile.NamedTemporaryFile("w", suffix=".cert") as file:
+        file.write(text)
+        file.flush()
+        with redirect_stdout(out), redirect_stderr(notes):
+            return main([file.name, *words]), out.getvalue(), notes.getvalue()
 
 
 class Pages(unittest.TestCase):
@@ -312,6 +323,22 @@ class Programs(unittest.TestCase):
                 self.assertEqual((answer.ended, answer.is_settled), (said, is_settled))
 
 
+class Homes(unittest.TestCase):
+    def test_all_are_at_home_where_the_network_admits_it(self):
+        for procedure in (loop(), certificate.read(worked()).procedures[0]):
+            network = Network(procedure)
+            routes = home_routes(network)
+            self.assertTrue(network.admits(routes))
+            away = [it for route in routes for it in route if it not in (MEM, CONST)]
+            self.assertLess(len(away), sum(map(len, routes)) / 2)
+
+    def test_what_strands_pay_is_what_all_pay(self):
+        network = Network(loop())
+        routes = home_routes(network)
+        total = sum(it for _, it in network.paid(routes, "speed").values())
+        self.assertEqual(sum(network.paid_by_strand(routes, "speed")), total)
+
+
 class Optima(unittest.TestCase):
     @needs_solver
     def test_the_worked_example_is_solved_from_home(self):
@@ -502,23 +529,54 @@ class Words(unittest.TestCase):
             self.assertRegex(notes.getvalue(), r"\Afault words\nusage: pra ")
 
     def test_code_that_is_not_valid_is_told(self):
-        for old, new in (('"add",0,1', '"add",0,7'), ('"jump",1', '"jump",4'), ('"total":4,', "")):
-            with tempfile.NamedTemporaryFile("w", suffix=".cert") as file:
-                file.write(worked().replace(old, new))
-                file.flush()
-                notes = io.StringIO()
-                with redirect_stderr(notes):
-                    self.assertEqual(network_script.main([file.name]), 70, new)
-            self.assertRegex(notes.getvalue(), r"\Apra: (procedure 0: its code|it is no cert)")
+        """By all who take a certificate in the place of a module, with the rule."""
+        for old, new, words in (
+            ('"add",0,1', '"add",0,7', "names variable 7, of 2 \\(rule 2\\)"),
+            ('"add",0,1', '"shl",0,1', "the name of an instruction is wanted"),
+            ('"add",0,1', '"cmpset",10,0,1,1', "a condition is wanted"),
+            ('"jump",1', '"jump",0', "leads to block 0, the entry, .*\\(rule 1\\)"),
+            ('["read",1]', '["line"]', "variable 1 may be read before .*\\(rule 6\\)"),
+            ('"total":4,', "", "the key total is missing"),
+            ('"total":4,', '"total":4', "this is no JSON"),
+        ):
+            for main in (network_script.main, lp_script.main, solve_script.main):
+                status, _, said = called(main, [], worked().replace(old, new))
+                self.assertEqual(status, 3, new)
+                self.assertRegex(said, words)
+
+    def test_the_cost_of_a_call_goes_before_that_of_a_certificate(self):
+        for words, cost, move in (
+            ([], "size", 2),
+            (["--cost", "size"], "size", 2),
+            (["--cost", "speed"], "speed", 1),
+        ):
+            problem = json.loads(called(network_script.main, words, worked())[1])
+            self.assertEqual((problem["cost"], problem["procs"][0]["moves"][0][1]), (cost, move))
+        text = called(lp_script.main, ["--cost", "speed"], worked())[1]
+        self.assertIn(" p0_go_0_2_r_1 ", text.partition("Subject To")[0])
+        self.assertNotIn("2 p0_go_0_2", text.partition("Subject To")[0])
+
+    @needs_solver
+    def test_a_certificate_without_routes_is_solved(self):
+        value = json.loads(worked())
+        value["procs"][0] |= {"routes": [], "caps": [], "ties": [], "bound": 0, "total": 0}
+        for words, cost in (([], 4), (["--cost", "speed"], 2)):
+            status, out, _ = called(solve_script.main, words, json.dumps(value))
+            procedure = certificate.read(out).procedures[0]
+            self.assertEqual((status, procedure.total, procedure.bound), (0, cost, cost))
+        status, out, _ = called(network_script.main, [], json.dumps(value))
+        self.assertEqual(json.loads(out), json.loads(called(network_script.main, [], worked())[1]))
+
+    def test_routes_that_are_not_admitted_are_told(self):
+        text = worked().replace("[0,0],[1,1,1,0]", "[0,0],[2,1,1,0]")
+        status, _, said = called(solve_script.main, [], text)
+        self.assertEqual(status, 3)
+        self.assertIn("enters its block at 2 (edx) (rule 4, ties)", said)
 
     def test_a_certificate_stands_for_its_module(self):
-        with tempfile.NamedTemporaryFile("w", suffix=".cert") as file:
-            file.write(worked())
-            file.flush()
-            out = io.StringIO()
-            with redirect_stdout(out):
-                self.assertEqual(network_script.main([file.name]), 0)
-        problem = json.loads(out.getvalue())["procs"][0]
+        status, out, _ = called(network_script.main, [], worked())
+        self.assertEqual(status, 0)
+        problem = json.loads(out)["procs"][0]
         masks = [list(map(list, map(bits, it["masks"]))) for it in problem["strands"]]
         self.assertEqual(masks[2][3], [EAX, EAX_M])
 
