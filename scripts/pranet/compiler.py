@@ -8,7 +8,7 @@ import tempfile
 import threading
 
 import stopped
-from checker import given
+from checker.given import known_of
 from pranet import certificate
 
 TOP = os.path.dirname(os.path.dirname(os.path.dirname(os.path.realpath(__file__))))
@@ -98,7 +98,7 @@ class Compiler:
             held = source.read()
         if held.lstrip()[:1] != b"{":
             return self.certificate(file, cost or "size", rounds), True
-        known = given.known_of(file, held)
+        known = known_of(file, held)
         known.cost = cost or known.cost
         return known, False
 
