@@ -147,14 +147,23 @@ class Priced:
         return [self.least(number, it) for number, it in enumerate(self.network.strands)]
 
 
+def shared(claim):
+    """What is handed out once: the prices of registers and pairs."""
+    return sum(price for key in (claim.caps, claim.mems) for _, price in key)
+
+
+def value(rooms, claim, cost):
+    """The value that the prices give, in units of 1/1024."""
+    return sum(Priced(rooms, claim, cost).all_least()) - shared(claim)
+
+
 def bound_reasons(rooms, claim, cost):
     """Whether the prices show the bound, and what they show."""
     bound = claim.procedure.bound
     if bound == 0:
         return []
     least = Priced(rooms, claim, cost).all_least()
-    shared = sum(price for key in (claim.caps, claim.mems) for _, price in key)
-    found = sum(least) - shared
+    found = sum(least) - shared(claim)
     if UNITS * bound - (UNITS - 1) <= found:
         return []
     shown = max(0, -(-found // UNITS))
@@ -162,5 +171,5 @@ def bound_reasons(rooms, claim, cost):
     return [
         f"{told}, and its bound says {bound}",
         f"least priced costs by strand, in units of 1/{UNITS}: {by_strand(least)}",
-        f"less the prices of registers and pairs, {shared}",
+        f"less the prices of registers and pairs, {shared(claim)}",
     ]

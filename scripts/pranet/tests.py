@@ -1,4 +1,4 @@
-"""Tests of certificates, problems, prices, integer programs, the solver and grades.
+"""Tests of certificates, problems, prices, integer programs and the solver.
 
     [PRA=PROGRAM] python3 -m unittest pranet.tests
 
@@ -18,14 +18,13 @@ import unittest
 from contextlib import contextmanager, redirect_stderr, redirect_stdout
 from unittest import mock
 
-import grade
 import lp as lp_script
 import needs
 import network as network_script
 import solve as solve_script
 from pranet import cbc, certificate
 from pranet.certificate import Certificate, Prices
-from pranet.compiler import ANY_BYTES, TOP, Compiler, Refused
+from pranet.compiler import TOP, Compiler, Refused
 from pranet.dual import Dual, in_range, tie_index, whole
 from pranet.home import home_routes
 from pranet.network import Network, bits
@@ -413,104 +412,6 @@ class Allocators(unittest.TestCase):
         self.assertLess(at_home, sum(map(len, procedure.routes)) / 2)
 
 
-class AnyCompiler:
-    """One that takes each certificate, or none."""
-
-    def __init__(self, status=0, said=""):
-        self.answer = status, said
-
-    def check(self, _):
-        return self.answer
-
-
-UNPROVED = b"pra: this run is NOT PROVED\n"
-SAYING = """#!/bin/sh
-[ "$PRA_NOTES" = stderr ] && echo "pra: this run is NOT PROVED" >&2
-echo "answer of $1"
-echo "note of $1" >&2
-exit $#
-"""
-
-
-class Notes(unittest.TestCase):
-    """A compiler that says of itself that nothing was proved."""
-
-    def test_it_is_said_once_and_is_no_note_of_a_call(self):
-        with tempfile.TemporaryDirectory(prefix="pra-compiler-") as room:
-            with open(f"{room}/pra", "w", encoding="utf-8") as file:
-                file.write(SAYING)
-            os.chmod(f"{room}/pra", 0o755)
-            compiler = Compiler(f"{room}/pra")
-            with redirect_stderr(io.StringIO()) as told, mock.patch.object(Compiler, "said", set()):
-                ran = compiler.ran("cert")
-                checked = compiler.check(worked())
-                with self.assertRaises(Refused) as refused:
-                    compiler.call("list", "x")
-        self.assertEqual(ran, (1, b"answer of cert\n", b"note of cert\n"))
-        self.assertEqual(checked, (2, "answer of check\nnote of check\n"))
-        self.assertEqual((refused.exception.status, refused.exception.said), (2, b"note of list\n"))
-        self.assertEqual(told.getvalue().encode(), UNPROVED)
-
-
-class Grades(unittest.TestCase):
-    wanted = certificate.read(worked())
-
-    def verdict(self, text, compiler=AnyCompiler()):
-        return grade.judge(compiler, grade.Entry(text), self.wanted)
-
-    def test_what_holds_of_the_code_is_admitted_at_its_cost(self):
-        self.assertEqual(self.verdict(worked()), ("admitted", 4))
-
-    def test_the_compilers_reason_is_the_verdict(self):
-        refusing = AnyCompiler(3, "fault certificate procedure 0 routes\n")
-        reason = "fault certificate procedure 0 routes"
-        self.assertEqual(self.verdict(worked(), refusing), (reason, None))
-
-    def test_certificates_of_other_code_are_not_admitted(self):
-        value = json.loads(worked())
-        easier = value | {"procs": [value["procs"][0] | {"vars": [["plain"]] * 3}]}
-        for text, reason in {
-            json.dumps(easier): "procedure 0 has another code",
-            json.dumps(value | {"procs": value["procs"] * 2}): "it is of another module",
-            json.dumps(value | {"cost": "speed"}): "costs are by speed",
-        }.items():
-            self.assertEqual(self.verdict(text), (reason, None))
-
-    def test_commands_that_fail_hand_in_nothing(self):
-        entry = grade.entry_of_command(f"{sys.executable} -c 'raise SystemExit(2)'", "")
-        self.assertEqual((entry.text, entry.fault), ("", "status 2"))
-        self.assertEqual(grade.entry_of_command("cat", "x").text, "x")
-        no_text = grade.entry_of_command("printf '\\377'", "").text
-        self.assertEqual(no_text.encode(errors=ANY_BYTES), b"\xff")
-        missing = grade.entry_of_folder("/nowhere", "m.ob")
-        self.assertEqual(missing.fault, "No such file or directory")
-
-    def test_sums_stand_where_each_module_has_a_number(self):
-        rows = [dict.fromkeys((*grade.COLUMNS, "best"), 3) | {"verdict": "admitted"}]
-        rows.append(rows[0] | {"cost": None, "verdict": "none", "optimum": None, "best": 2})
-        total = grade.sum_of(rows)
-        self.assertEqual((total["verdict"], total["cost"], total["home"]), ("1 of 2", None, 6))
-        self.assertEqual(grade.cells_of(total)[2:4], ["-", "<= 5"])
-
-    @needs_compiler
-    def test_the_example_and_a_folder_are_graded(self):
-        file, out = f"{TOP}/examples/sums.ob", io.StringIO()
-        compiler = ["--compiler", PROGRAM]
-        with tempfile.TemporaryDirectory(prefix="pra-grade-") as room, redirect_stdout(out):
-            known = Compiler(PROGRAM).certificate(file, "size", 10)
-            with open(f"{room}/sums.cert", "w", encoding="utf-8") as text:
-                text.write(certificate.write(known))
-            words = ["--folder", room, file, "--csv", f"{room}/t.csv", *compiler]
-            self.assertEqual(grade.main(words), 0)
-            with open(f"{room}/t.csv", encoding="utf-8") as text:
-                rows = [it.split(",") for it in text.read().splitlines()]
-            command = f"{sys.executable} {ALLOCATOR}"
-            self.assertEqual(grade.main(["--command", command, file, *compiler]), 0)
-        self.assertEqual(rows[0], list(grade.COLUMNS))
-        self.assertEqual(rows[1], ["sums", "admitted", *["10"] * 3, "27", *["10"] * 3])
-        self.assertIn("1 of 1", out.getvalue())
-
-
 class Words(unittest.TestCase):
     def test_words_that_are_none_end_with_the_usage(self):
         for main, words in (
@@ -518,9 +419,6 @@ class Words(unittest.TestCase):
             (lp_script.main, ["a", "b"]),
             (network_script.main, ["a", "--cost", "both"]),
             (network_script.main, ["a", "--cots", "size"]),
-            (grade.main, ["m.ob"]),
-            (grade.main, ["m.ob", "--command", "a", "--folder", "b"]),
-            (grade.main, ["m.ob", "--command", "a", "--seconds", "x"]),
             (solve_script.main, ["a", "b"]),
         ):
             notes = io.StringIO()
