@@ -2,8 +2,8 @@
 """Tells a person what is wrong with a module, and where in its source.
 
     explain.py FILE [--input NAME]    compiles FILE, and with --input runs it on that file
-    explain.py FILE [--module NAME]   tells what is wrong with a certificate, and with --module where
-                                      its code is not that of the module
+    explain.py FILE [--module NAME]   tells what is wrong with a certificate, and with --module
+                                      where its code is not that of the module
     explain.py --notes FILE [--input NAME] < NOTES    tells what notes of another call mean
 
 NOTES is what the compiler wrote to standard error. Its last line that refuses, such as

@@ -15,11 +15,11 @@ seen, the same ones for the same SEED, in place of FILEs or besides.
 A line for each module has the verdict, cost and bound, and beside them the optimum, and what 10
 rounds, home, linear scan without and with holes, and colouring cost. Below stand the reasons of
 those that are not admitted, and a note where a certificate is byte for byte that of `cert` or
-`solve`. The optimum is the one that bench/optima.txt knows, that is proved, or that `solve` finds in
-N seconds for each step (--solve; without it it is not asked), or is marked by `<=` as the best that
-is known here. --points names a file of thresholds (grading/points.py has its form). With --csv all
-is written to the file NAME, as comma-separated values. The status is 0 where all are admitted, 3
-where one is not.
+`solve`. The optimum is the one that bench/optima.txt knows, that is proved, or that `solve` finds
+in N seconds for each step (--solve; without it it is not asked), or is marked by `<=` as the best
+that is known here. --points names a file of thresholds (grading/points.py has its form). With --csv
+all is written to the file NAME, as comma-separated values. The status is 0 where all are admitted,
+3 where one is not.
 """
 
 import hashlib

@@ -6,9 +6,9 @@
 Of a certificate it tells, for each procedure, all that speaks against it: by a second checker, of
 which nothing is proved (`./pra check` decides). Where the module stands beside it under the same
 name, with the ending .ob, variables of arguments have the names of its source. What FILE is, its
-name's ending or its first bytes tell. The status is that of `./pra check`, `list` or `asm`: 0 where nothing is wrong, 3 where
-something is, 4 where FILE is too long; and 100, without a word, where it is none of these or is not
-to be read.
+name's ending or its first bytes tell. The status is that of `./pra check`, `list` or `asm`: 0 where
+nothing is wrong, 3 where something is, 4 where FILE is too long; and 100, without a word, where it
+is none of these or is not to be read.
 """
 
 import os
@@ -57,7 +57,7 @@ class Module:
 
 
 def module_beside(name):
-    """The module whose file stands beside that of a certificate under the same name, if one does."""
+    """The module whose file stands beside a certificate under the same name, if one does."""
     try:
         return Module(f"{os.path.splitext(name)[0]}.ob")
     except OSError:

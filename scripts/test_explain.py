@@ -214,8 +214,8 @@ class OfModules(unittest.TestCase):
             ("vars", [["param", 0]], "it has 1 variable, and 2 are in the module"),
             ("blocks", value["blocks"][:1], "it has 1 block, and 2 are in the module"),
             ("blocks", [[1, [], ["return"]]], "instruction 0 of block 0 is missing, and the modul"),
-            ("blocks", [[2, *value["blocks"][0][1:]]], "block 0 has 2 loops round it, and 1 in the"),
-            ("blocks", [[1, value["blocks"][0][1], ["jump", 1]]], "the end of block 0 is `go on wi"),
+            ("blocks", [[2, *value["blocks"][0][1:]]], "block 0 has 2 loops round it, and 1 in"),
+            ("blocks", [[1, value["blocks"][0][1], ["jump", 1]]], "the end of block 0 is `go on"),
         ):
             self.assertIn(words, beside.difference(code_of(value | {key: part}), wanted))
 

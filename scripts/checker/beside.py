@@ -1,4 +1,4 @@
-"""Where the code of a procedure is not that of the module's, and what a source calls its variables."""
+"""Where a procedure's code is not the module's, and what a source calls its variables."""
 
 from itertools import zip_longest
 

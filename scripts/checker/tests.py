@@ -128,7 +128,8 @@ class Words(unittest.TestCase):
     def test_routes_are_told_by_strand_layer_and_instruction(self):
         one = "strand 3 of variable 0 (argument 0) in block 1, layers 0 to 3"
         other = "strand 4 of variable 1 (argument 1) in block 1, layers 0 to 3"
-        where = "instruction 0 of block 1, `compare v0, v1`, which has one operand there at most (rule 4, pairs)"
+        where = "instruction 0 of block 1, `compare v0, v1`, which has one operand there at most"
+        where += " (rule 4, pairs)"
         both = f"x, procedure 1, routes: {one}, and {other}, are both in memory in {where}"
         self.assertEqual(self.told("routes-two-operands-in-memory"), [both])
         one = "strand 5 of variable 3 in block 1, layers 0 to 3, leaves its block at 2 (edx)"
@@ -138,7 +139,8 @@ class Words(unittest.TestCase):
         rule = "across an instruction"
         across = "across instruction 1 of block 2, `v2 := v2 * v1`"
         one = "strand 9 of variable 2 in block 2, layers 2 to 5"
-        moved = f"x, procedure 1, routes: {one}, goes from 1 (ecx) to 3 (ebx) {across} (rule 2, {rule})"
+        moved = f"x, procedure 1, routes: {one}, goes from 1 (ecx) to 3 (ebx) {across}"
+        moved += f" (rule 2, {rule})"
         self.assertEqual(self.told("routes-across-an-instruction"), [moved])
 
     def test_two_in_one_register_are_told_once(self):
@@ -149,7 +151,8 @@ class Words(unittest.TestCase):
 
     def test_a_place_is_told_with_those_that_are_allowed(self):
         strand = "strand 0 of variable 0 (argument 0) in block 0, layers 0 to 3"
-        where = "is at 0 (eax) at layer 0, the entry of block 0, and may be at 6 (memory) (rule 1, masks)"
+        where = "is at 0 (eax) at layer 0, the entry of block 0, and may be at 6 (memory)"
+        where += " (rule 1, masks)"
         self.assertEqual(
             self.told("routes-not-in-its-mask"), [f"x, procedure 1, routes: {strand}, {where}"]
         )

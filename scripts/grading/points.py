@@ -9,7 +9,9 @@ are met, and the most of those on the bound. What stands behind a # is for the r
 import re
 from dataclasses import dataclass
 
-LINE = re.compile(r"(\d+(?:\.\d+)?)\s+(cost|bound)\s+(?:(?:(\d+(?:\.\d+)?)%\s+)?([a-z0-9 ]*[a-z])|(\d+))")
+NUMBER = r"(\d+(?:\.\d+)?)"
+COLUMN = rf"(?:{NUMBER}%\s+)?([a-z0-9 ]*[a-z])"
+LINE = re.compile(rf"{NUMBER}\s+(cost|bound)\s+(?:{COLUMN}|(\d+))")
 
 
 class NoPoints(Exception):

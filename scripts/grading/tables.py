@@ -1,4 +1,4 @@
-"""Tables of grades: a row for each module, and a table of the best where there are many students."""
+"""Tables of grades: a row for each module, and a table of the best of many students."""
 
 import csv
 import io
@@ -74,7 +74,8 @@ def order_of(total):
 def print_best(students):
     """The best first: students are their names and rows, the last of which is that of all."""
     ordered = sorted(students, key=lambda it: order_of(it[1][-1]))
-    columns = [it for it in columns_of(ordered[0][1]) if it in ("verdict", "points", "cost", "bound")]
+    told = ("verdict", "points", "cost", "bound")
+    columns = [it for it in columns_of(ordered[0][1]) if it in told]
     lines = [["", "student", *columns]]
     for place, (name, rows) in enumerate(ordered, 1):
         lines.append([str(place), name, *cells_of(rows[-1], columns)])

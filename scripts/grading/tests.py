@@ -1,4 +1,4 @@
-"""Tests of grades: verdicts, commands, points, tables, and whole calls where there is a compiler."""
+"""Tests of grades: verdicts, commands, points, tables, and calls where there is a compiler."""
 
 import io
 import json
@@ -57,7 +57,7 @@ class Verdicts(unittest.TestCase):
         for text, word, reason in (
             (json.dumps(easier), "other code", "procedure 0: it has 3 variables, and 2 are in the"),
             (json.dumps(value | {"procs": value["procs"] * 2}), "other code", "2 procedures, and"),
-            (json.dumps(value | {"cost": "speed"}), "other cost", "its costs are by speed, and not"),
+            (json.dumps(value | {"cost": "speed"}), "other cost", "its costs are by speed, and"),
         ):
             found = self.verdict(text)
             self.assertEqual((found.word, found.cost), (word, None))
@@ -109,7 +109,8 @@ class Commands(unittest.TestCase):
 
 
 class Points(unittest.TestCase):
-    text = "# of a module\n1 cost home\n2.5 cost 120% optimum  # near\n4 cost 100\n3 bound 90% optimum\n"
+    text = "# of a module\n1 cost home\n2.5 cost 120% optimum  # near\n4 cost 100\n"
+    text += "3 bound 90% optimum\n"
     columns = ("optimum", "home", "linear scan")
 
     def points(self, **row):

@@ -1,5 +1,5 @@
-"""Verdicts on what is handed in. The compiler's `check` decides, and the code is to be the module's;
-the reasons are in the words of the second checker."""
+"""Verdicts on what is handed in. The compiler's `check` decides, and the code is to be the
+module's; the reasons are in the words of the second checker."""
 
 from dataclasses import dataclass
 
