@@ -3,9 +3,9 @@
 
     allocate.py <NETWORK.json >NAME.cert
 
-Copy this file, and fill the gap: `routes_of`. The rest is what all allocators need: the reader, what
-routes cost, which rule they break, and the writer. docs/NETWORK.md has the fields of the JSON, and
-docs/COURSE.md the exercises. allocate.py beside this file fills the gap for the first two.
+Copy this file, and fill the gap: `routes_of`. The rest is what all allocators need: the reader,
+what routes cost, which rule they break, and the writer. docs/NETWORK.md has the fields of the JSON,
+and docs/COURSE.md the exercises. allocate.py beside this file fills the gap for the first two.
 """
 
 import json
@@ -65,7 +65,7 @@ class Problem:
     # ---- what routes cost
 
     def stop_cost(self, number, stop, place):
-        """What a strand pays for a place at a stop, where it is not the move that brings it there."""
+        """What a strand pays for a place at a stop, without the move that brings it there."""
         first = self.strands[number]["first"]
         cost = sum(self.extras.get((number, first + step, place), 0) for step in stop)
         if stop[0] == 0 and self.is_constant(number) and place != CONST:
@@ -96,7 +96,8 @@ class Problem:
                 cell = self.layer(number, step), register_of(place)
                 other = taken.setdefault(cell, number)
                 if cell[1] is not None and other != number:
-                    yield f"rule 3: strands {other} and {number} are in {cell[1]} at layer {cell[0]}"
+                    both = f"strands {other} and {number}"
+                    yield f"rule 3: {both} are in {cell[1]} at layer {cell[0]}"
         if len(routes) != len(self.strands):
             yield f"there are {len(routes)} routes for {len(self.strands)} strands"
         else:
@@ -123,7 +124,7 @@ def answer(routes_of, prices_of=None):
             print(f"procedure {number}: {fault}", file=sys.stderr)
         total = sum(problem.cost(it, route) for it, route in enumerate(routes))
         prices = {"caps": [], "mems": [], "ties": [], "bound": 0}
-        prices |= prices_of(problem) if prices_of else {}
+        prices |= prices_of(problem, routes) if prices_of else {}
         procedures.append({**value["code"], **prices, "routes": routes, "total": total})
     head = {"kind": "pra-certificate", "version": 1, "cost": network["cost"]}
     print(json.dumps({**head, "procs": procedures}))
