@@ -2,6 +2,8 @@
 """Tells a person what is wrong with a module, and where in its source.
 
     explain.py FILE [--input NAME]    compiles FILE, and with --input runs it on that file
+    explain.py FILE [--module NAME]   tells what is wrong with a certificate, and with --module
+                                      where its code is not that of the module
     explain.py --notes FILE [--input NAME] < NOTES    tells what notes of another call mean
 
 NOTES is what the compiler wrote to standard error. Its last line that refuses, such as
@@ -26,12 +28,15 @@ import reasons
 import stopped
 import traps
 from checker import images
+from pranet.certificate import NoCertificate
+from pranet.compiler import Refused
 from places import Place, shown, token_end, tokens, word_end
 from pranet.compiler import default_program
 
 TOP = os.path.dirname(os.path.dirname(os.path.realpath(__file__)))
 LANGUAGE = f"{TOP}/docs/LANGUAGE.md"
 COMPILER = f"{TOP}/pra"
+USAGE = "usage: pra explain FILE [--input NAME] [--module NAME]"
 NO_WORDS = 6  # the status where the words are none of these
 SOME = 8  # what may follow is told where it is no more than that
 
@@ -314,16 +319,25 @@ def read(name):
         return b""
 
 
-def of_applied(line, name, given):
+def of_applied(line, file, name, given):
     """The same of a line on the certificate that the mode apply has read from its input, whose name
-    and bytes are None where it can't be read again; None of another line."""
+    and bytes are None where it can't be read again, for a module's file; None of another line."""
     if not re.match(r"fault json|fault certificate|limit certificate", line):
         return None
     if given is not None:
-        return explained(line, name, given, None)
+        lines = explained(line, name, given, None)
+        return lines + (not_of_module(file, name, given) if line.endswith(" module") else [])
     if line == "fault json":
         return ["the certificate: this is no JSON"]
     return explained(line, "the certificate", b"", None)
+
+
+def not_of_module(name, input_name, given):
+    """Where the code of a certificate is not that of a module, procedure by procedure."""
+    try:
+        return reasons.Module(name).lines(input_name, given)
+    except (OSError, Refused, NoCertificate):
+        return []
 
 
 def told(notes, name, input_name=None, mode=""):
@@ -335,7 +349,7 @@ def told(notes, name, input_name=None, mode=""):
             if source.startswith(images.MAGIC):
                 return [f"{name}: trap {found[1]}: {traps.KINDS[found[1]]}"]
             return traps.told(name, source, line, COMPILER, input_name)
-        lines = of_applied(line, input_name, given) if mode == "apply" else None
+        lines = of_applied(line, name, input_name, given) if mode == "apply" else None
         if lines := lines or explained(line, name, source, given):
             return lines
     return []
@@ -387,17 +401,34 @@ def explain(name, input_name):
     return status
 
 
+def without(words, option):
+    """The words without an option, and its value or None."""
+    if option not in words[:-1]:
+        return words, None
+    at = words.index(option)
+    return words[:at] + words[at + 2 :], words[at + 1]
+
+
+def of_file(name, input_name, module_name):
+    """The status of a file, which is no module where a module is named for it."""
+    try:
+        status = reasons.main(name, module_name)
+    except Refused as refused:
+        print("\n".join(told(refused.said.decode(errors="replace"), module_name)))
+        return refused.status
+    except OSError as error:
+        print(f"{module_name}: can't be read: {error.strerror}")
+        return 5
+    return explain(name, input_name) if status == reasons.MODULE else status
+
+
 def main(words):
-    input_name = None
-    if "--input" in words[:-1]:
-        at = words.index("--input")
-        input_name = words[at + 1]
-        words = words[:at] + words[at + 2 :]
+    words, input_name = without(words, "--input")
+    words, module_name = without(words, "--module")
     if len(words) == 1 and not words[0].startswith("-"):
-        status = reasons.main(words[0])
-        return explain(words[0], input_name) if status == reasons.MODULE else status
+        return of_file(words[0], input_name, module_name)
     if len(words) != 2 or words[0] != "--notes":
-        print("fault words\nusage: pra explain FILE [--input NAME]", file=sys.stderr)
+        print(f"fault words\n{USAGE}", file=sys.stderr)
         return NO_WORDS
     lines = all_told(sys.stdin.read(), words[1], input_name)
     if lines:

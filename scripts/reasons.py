@@ -4,67 +4,77 @@
     reasons.py FILE
 
 Of a certificate it tells, for each procedure, all that speaks against it: by a second checker, of
-which nothing is proved (`./pra check` decides). What FILE is, its name's ending or its first bytes
-tell. The status is that of `./pra check`, `list` or `asm`: 0 where nothing is wrong, 3 where
-something is, 4 where FILE is too long; and 100, without a word, where it is none of these or is not
-to be read.
+which nothing is proved (`./pra check` decides). Where the module stands beside it under the same
+name, with the ending .ob, variables of arguments have the names of its source. What FILE is, its
+name's ending or its first bytes tell. The status is that of `./pra check`, `list` or `asm`: 0 where
+nothing is wrong, 3 where something is, 4 where FILE is too long; and 100, without a word, where it
+is none of these or is not to be read.
 """
 
+import os
 import re
 import sys
 
-from checker import form, images, json_text, verdict
+from checker import beside, form, given, images
+from picture import report
+from pranet.compiler import Compiler, default_program
 
 MODULE = 100  # the status where FILE is none of these
 MOST_CERTIFICATE = 16777216  # bytes
-MOST_TOLD = 10  # of the words of one reason
 BLANKS = b" \t\n\r"
 
 
 # ---- certificates
 
 
-def told(words, what):
-    """The words of one reason, of which no more than MOST_TOLD are told."""
-    more = len(words) - MOST_TOLD
-    return words[:MOST_TOLD] + ([f"and {more} more {what}"] if more > 0 else [])
+class Module:
+    """A module that a certificate may be of, by the name of its file."""
+
+    def __init__(self, name):
+        self.name = name
+        with open(name, "rb") as source:
+            self.headings = report.headings(source.read())
+
+    def name_variables(self, procedures):
+        beside.name_arguments(procedures, self.headings)
+
+    def lines(self, name, data):
+        """Where the code of a certificate is not the module's, a line for each procedure."""
+        try:
+            known, _ = form.claims(given.value_of(name, data))
+        except given.Broken:
+            return []
+        wanted = Compiler(default_program()).certificate(self.name, known.cost, 0)
+        self.name_variables(known.procedures)
+        self.name_variables(wanted.procedures)
+        if len(known.procedures) != len(wanted.procedures):
+            counts = f"{len(known.procedures)} procedures, and {self.name} {len(wanted.procedures)}"
+            return [f"{name}: it has {counts} with its body"]
+        return [
+            f"{name}, procedure {number}, module: {words}"
+            for number, words in beside.differences(known, wanted)
+        ]
 
 
-def in_text(name, text, at, words):
-    line, column = json_text.line_and_column(text, at)
-    return f"{name}:{line}:{column}: {words}"
-
-
-def form_line(name, text, complaint):
-    at = json_text.position(text, complaint.path)
-    words = complaint.words(json_text.spelled(text, at))
-    return in_text(name, text, at, f"{form.place_words(complaint.path)}: {words}")
-
-
-def certificate_lines(name, data):
-    """What speaks against a certificate, a line each."""
+def module_beside(name):
+    """The module whose file stands beside a certificate under the same name, if one does."""
     try:
-        text, value = json_text.read(data)
-    except json_text.NoJson as error:
-        return [in_text(name, data.decode(errors="replace"), error.at, f"this is no JSON: {error}")]
-    complaints = form.complaints(value)
-    if complaints:
-        lines = [form_line(name, text, it) for it in complaints[:MOST_TOLD]]
-        return lines + told(complaints, "of this kind")[MOST_TOLD:]
-    return [
-        f"{name}, procedure {it.procedure}, {it.reason}: {words}"
-        for it in verdict.verdict(*form.claims(value))
-        for words in told(it.words, f"against its {it.reason}")
-    ]
+        return Module(f"{os.path.splitext(name)[0]}.ob")
+    except OSError:
+        return None
 
 
-def certificate(name, data):
-    """The status of a certificate, and what to print."""
+def certificate(name, data, module=None):
+    """The status of a certificate, and what to print. A module is asked whether this is its code,
+    and one that stands beside it for the names of its arguments alone."""
     if len(data) > MOST_CERTIFICATE:
         return 4, [f"{name}: it has more than {MOST_CERTIFICATE} bytes"]
-    lines = certificate_lines(name, data)
+    at_hand = module or module_beside(name)
+    lines = given.lines_of(name, data, *([at_hand.name_variables] if at_hand else []))
+    lines += module.lines(name, data) if module else []
     if not lines:
-        return 0, [f"{name}: nothing is wrong with this certificate; ./pra check proves it"]
+        of = f", and its code is that of {module.name}" if module else ""
+        return 0, [f"{name}: nothing is wrong with this certificate{of}; ./pra check proves it"]
     return 3, lines
 
 
@@ -104,7 +114,9 @@ def reader_of(name, data):
     return listing if re.match(rb"data [0-9]|[0-9a-f]{8} ", data) else None
 
 
-def main(name):
+def main(name, module_name=None):
+    """The status of a file, whose findings are printed. Of a certificate also the difference from
+    the code of the module of that name, if one is given."""
     try:
         with open(name, "rb") as file:
             data = file.read()
@@ -113,7 +125,8 @@ def main(name):
     reader = reader_of(name, data)
     if reader is None:
         return MODULE
-    status, lines = reader(name, data)
+    known = [Module(module_name)] if module_name and reader is certificate else []
+    status, lines = reader(name, data, *known)
     print("\n".join(lines))
     return status
 

@@ -3,8 +3,9 @@
 
     solve.py FILE [--cost size|speed] [--seconds N] [--compiler PROGRAM]
 
-FILE is a module, or a certificate, of which code, cost word, routes and prices are taken. Of a
-module the beginning are 200 rounds. A certificate is written to standard output, which `check`
+FILE is a module, or a certificate, of which code, cost word, routes and prices are taken; --cost
+goes before its cost word, and where it has no routes all variables are at home. Of a module the
+beginning are 200 rounds. A certificate is written to standard output, which `check`
 takes: its prices come of the duals of the relaxation, and its routes are those of the rounds where
 that proves them to be the best, and else those that CBC finds, in at most N seconds of the clock
 for each of the two, and for each procedure (60). A line for each procedure, and one for all, goes
@@ -23,7 +24,7 @@ from pranet.solver import BY_CBC, OPEN, PROVED, solve
 from pranet.words import NoWords, read_words, status_of
 
 USAGE = "usage: pra solve FILE [--cost size|speed] [--seconds N]"
-OPTIONS = {"--cost": "size", "--seconds": 60}
+OPTIONS = {"--cost": None, "--seconds": 60}
 ROUNDS = 200
 
 

@@ -1,13 +1,20 @@
 """Tests of what a person is told of a module."""
 
+import io
+import os
 import tempfile
 import unittest
+from contextlib import redirect_stdout
+from unittest import mock
 
 import explain
 import grammar
 import needs
 import offences
 import traps
+from checker import beside
+from pranet.certificate import code_of
+from pranet.compiler import Compiler
 
 SOURCE = b"""MODULE A;
   CONST N = 5;
@@ -118,6 +125,17 @@ class Notes(unittest.TestCase):
         self.assertEqual(told, "a.ob: trap Divide: the right side of DIV or MOD is 0 or less")
 
 
+def certified(room):
+    """The file of a module in a folder, and the text of its certificate, where all is at home."""
+    text = "MODULE A; PROCEDURE P(depth: INTEGER); VAR k: INTEGER;\nBEGIN k := 5;"
+    text += " WHILE depth < k DO k := k - depth END; Write(k) END P;\nBEGIN P(1) END A.\n"
+    file = f"{room}/a.ob"
+    with open(file, "w", encoding="utf-8") as out:
+        out.write(text)
+    text, _ = Compiler(needs.program()).call("cert", file, "--rounds", "0")
+    return file, text.decode()
+
+
 class Applied(unittest.TestCase):
     def told(self, notes, certificate):
         with tempfile.TemporaryDirectory(prefix="pra-explain-") as room:
@@ -139,8 +157,67 @@ class Applied(unittest.TestCase):
         self.assertIn("a.cert:1:1: the whole: the key procs is missing", told)
         self.assertIn("an entry for each", self.told("fault certificate module\n", None))
 
+    @needs.compiler
+    def test_where_the_code_is_another_one_is_told(self):
+        with tempfile.TemporaryDirectory(prefix="pra-explain-") as room:
+            file, text = certified(room)
+            other = text.replace('["set",1,5]', '["set",1,6]')
+            with open(f"{room}/b.cert", "w", encoding="utf-8") as out:
+                out.write(other)
+            notes = "fault certificate procedure 1 module\n"
+            with mock.patch.dict(os.environ, {"PRA": needs.program()}):
+                told = explain.told(notes, file, f"{room}/b.cert", "apply")
+        where = "instruction 0 of block 0 is `v1 := 6`, and the module's is `v1 := 5`"
+        self.assertEqual(told[1], f"{room}/b.cert, procedure 1, module: {where}")
+
     def test_or_it_is_the_module(self):
         self.assertIn("a.ob:1:1: ", self.told("fault grammar token 0 at 0\n", b"{}"))
+
+
+class OfModules(unittest.TestCase):
+    """Certificates whose module is at hand."""
+
+    def told(self, words):
+        out = io.StringIO()
+        with mock.patch.dict(os.environ, {"PRA": needs.program()}), redirect_stdout(out):
+            return explain.main(words), out.getvalue()
+
+    @needs.compiler
+    def test_arguments_have_their_names_and_other_code_is_told(self):
+        with tempfile.TemporaryDirectory(prefix="pra-explain-") as room:
+            file, text = certified(room)
+            for name, old, new in (
+                ("a", '"routes":[[6', '"routes":[[0'),
+                ("b", '["set",1,5]', '["set",1,6]'),
+                ("c", "", ""),
+            ):
+                with open(f"{room}/{name}.cert", "w", encoding="utf-8") as out:
+                    out.write(text.replace(old, new))
+            named = self.told([f"{room}/a.cert"])
+            told = self.told([f"{room}/b.cert", "--module", file])
+            right = self.told([f"{room}/c.cert", "--module", file])
+        self.assertEqual((named[0], told[0], right[0]), (3, 3, 0))
+        self.assertIn("strand 0 of variable 0 (`depth`, argument 0) in block 0", named[1])
+        where = "procedure 1, module: instruction 0 of block 0 is `v1 := 6`, and the module's is"
+        self.assertIn(where, told[1])
+        self.assertIn(f"its code is that of {file}; ./pra check proves it", right[1])
+
+    def test_each_part_of_code_that_differs_is_told(self):
+        value = {"args": 1, "aggregates": 0, "vars": [["param", 0], ["constant", 3]]}
+        value["blocks"] = [[1, [["cmp", 0, 1]], ["branch", 4, 1, 1]], [0, [], ["return"]]]
+        wanted = code_of(value)
+        self.assertIsNone(beside.difference(code_of(value), wanted))
+        for key, part, words in (
+            ("args", 2, "it has 2 arguments, and 1 are in the module"),
+            ("vars", [["param", 0], ["constant", 4]], "the number 4, and the module's is the numb"),
+            ("vars", [["param", 0], ["plain"]], "neither argument nor number, and the module's is"),
+            ("vars", [["param", 0]], "it has 1 variable, and 2 are in the module"),
+            ("blocks", value["blocks"][:1], "it has 1 block, and 2 are in the module"),
+            ("blocks", [[1, [], ["return"]]], "instruction 0 of block 0 is missing, and the modul"),
+            ("blocks", [[2, *value["blocks"][0][1:]]], "block 0 has 2 loops round it, and 1 in"),
+            ("blocks", [[1, value["blocks"][0][1], ["jump", 1]]], "the end of block 0 is `go on"),
+        ):
+            self.assertIn(words, beside.difference(code_of(value | {key: part}), wanted))
 
 
 class Traps(unittest.TestCase):

@@ -5,6 +5,7 @@ strand, from the first to the last: for each place of a layer the least that a p
 """
 
 from checker.parts import CONST, MEM, PLACES, REGISTERS, place_name, register_of, weight
+from checker.routes import by_strand
 from checker.words import Names
 
 MOST = 1 << 40  # that a price is, and that a number of a tie is on both sides of 0
@@ -141,14 +142,19 @@ class Priced:
                     row[place] = come + self.toll(number, strand, layer, place)
         return min(row.values(), default=0)
 
-    def value(self):
-        """The value that the prices give, in units of 1/1024."""
-        paths = sum(self.least(number, it) for number, it in enumerate(self.network.strands))
-        return paths - sum(self.caps.values())
+    def all_least(self):
+        """What a path of each strand costs at least."""
+        return [self.least(number, it) for number, it in enumerate(self.network.strands)]
+
+
+def shared(claim):
+    """What is handed out once: the prices of registers and pairs."""
+    return sum(price for key in (claim.caps, claim.mems) for _, price in key)
 
 
 def value(rooms, claim, cost):
-    return Priced(rooms, claim, cost).value() - sum(price for _, price in claim.mems)
+    """The value that the prices give, in units of 1/1024."""
+    return sum(Priced(rooms, claim, cost).all_least()) - shared(claim)
 
 
 def bound_reasons(rooms, claim, cost):
@@ -156,9 +162,14 @@ def bound_reasons(rooms, claim, cost):
     bound = claim.procedure.bound
     if bound == 0:
         return []
-    found = value(rooms, claim, cost)
+    least = Priced(rooms, claim, cost).all_least()
+    found = sum(least) - shared(claim)
     if UNITS * bound - (UNITS - 1) <= found:
         return []
     shown = max(0, -(-found // UNITS))
     told = f"its prices give the value {found}/{UNITS}, which shows a bound of {shown} by {cost}"
-    return [f"{told}, and its bound says {bound}"]
+    return [
+        f"{told}, and its bound says {bound}",
+        f"least priced costs by strand, in units of 1/{UNITS}: {by_strand(least)}",
+        f"less the prices of registers and pairs, {shared(claim)}",
+    ]

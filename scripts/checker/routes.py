@@ -3,6 +3,14 @@
 from checker.parts import CONST, EVENTS, MEM, REGISTERS, has_memory, register_of
 from checker.words import Names, place_words, places_words
 
+# The rules that routes keep, by the numbers that docs/NETWORK.md gives them.
+MASK = "rule 1, masks"
+ACROSS = "rule 2, across an instruction"
+REGISTER = "rule 3, one strand a register"
+PAIR = "rule 4, pairs"
+TIE = "rule 4, ties"
+MOST_STRANDS = 400  # of which a line tells the costs
+
 
 def counted(strands, routes):
     return f"{len(routes)} lists are there for {strands} strands"
@@ -32,7 +40,7 @@ def masks(network, names):
                 where = names.layer(strand.block, strand.first + step)
                 allowed = f"may be at {places_words(mask)}{why(network, strand, place)}"
                 at = f"{names.strand(number, strand)}, is at {place_words(place)}"
-                yield f"{at} at {where}, and {allowed}"
+                yield f"{at} at {where}, and {allowed} ({MASK})"
 
 
 def why(network, strand, place):
@@ -51,7 +59,7 @@ def crossings(network, names):
             if layer % 2 == 0 and places[step - 1] != places[step]:
                 way = f"{place_words(places[step - 1])} to {place_words(places[step])}"
                 across = names.instruction(strand.block, layer // 2 - 1)
-                yield f"{names.strand(number, strand)}, goes from {way} across {across}"
+                yield f"{names.strand(number, strand)}, goes from {way} across {across} ({ACROSS})"
 
 
 def sharings(network, names):
@@ -70,7 +78,8 @@ def sharings(network, names):
         first, second = (names.strand(it, network.strands[it]) for it in (other, number))
         where = names.layer(network.strands[number].block, layers[0])
         more = f", and at {len(layers) - 1} more layers" if len(layers) > 1 else ""
-        yield f"{first}, and {second}, are both in {REGISTERS[register]} at {where}{more}"
+        both = f"{first}, and {second}, are both in {REGISTERS[register]}"
+        yield f"{both} at {where}{more} ({REGISTER})"
 
 
 def pairs(network, names):
@@ -82,7 +91,7 @@ def pairs(network, names):
             first, second = (names.strand(it, strands[it]) for it, _ in ends)
             where = names.instruction(strands[left].block, (one - 1) // 2)
             both = f"{first}, and {second}, are both in memory in {where}"
-            yield f"{both}, which has one operand there at most"
+            yield f"{both}, which has one operand there at most ({PAIR})"
 
 
 def ties(network, names):
@@ -93,7 +102,7 @@ def ties(network, names):
         if left != came:
             leaving = f"{names.strand(one, strands[one])}, leaves its block at {place_words(left)}"
             entering = f"{names.strand(to, strands[to])}, enters its block at {place_words(came)}"
-            yield f"{leaving}, and {entering}"
+            yield f"{leaving}, and {entering} ({TIE})"
 
 
 def reasons(network):
@@ -114,4 +123,18 @@ def total_reasons(network, cost):
         return []
     parts = [f"{count} x {EVENTS[event]} = {total}" for event, (count, total) in paid.items()]
     told = f": {'; '.join(parts)}" if parts else ""
-    return [f"its routes cost {found} by {cost}, and its total says {claimed}{told}"]
+    costs = network.paid_by_strand(network.code.routes, cost)
+    return [
+        f"its routes cost {found} by {cost}, and its total says {claimed}{told}",
+        f"costs by strand: {by_strand(costs)}",
+    ]
+
+
+def by_strand(costs):
+    """The costs of strands, which are given by their numbers, in words."""
+    told = [f"{number} costs {it}" for number, it in enumerate(costs) if it]
+    more = f", and {len(told) - MOST_STRANDS} more" if len(told) > MOST_STRANDS else ""
+    if not told:
+        return "none costs anything"
+    rest = "; all others nothing" if len(told) < len(costs) else ""
+    return ", ".join(told[:MOST_STRANDS]) + more + rest

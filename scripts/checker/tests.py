@@ -10,12 +10,13 @@ import contextlib
 import io
 import json
 import os
+import re
 import subprocess
 import tempfile
 import unittest
 
 import reasons
-from checker import form, images, json_text, vectors, verdict
+from checker import form, given, images, json_text, vectors, verdict
 from checker.instructions import NoInstruction, decode, encode
 
 PROGRAM = os.environ.get("PRA", f"{vectors.TOP}/crates/pra/out/pra")
@@ -128,44 +129,54 @@ class Words(unittest.TestCase):
         one = "strand 3 of variable 0 (argument 0) in block 1, layers 0 to 3"
         other = "strand 4 of variable 1 (argument 1) in block 1, layers 0 to 3"
         where = "instruction 0 of block 1, `compare v0, v1`, which has one operand there at most"
+        where += " (rule 4, pairs)"
         both = f"x, procedure 1, routes: {one}, and {other}, are both in memory in {where}"
         self.assertEqual(self.told("routes-two-operands-in-memory"), [both])
         one = "strand 5 of variable 3 in block 1, layers 0 to 3, leaves its block at 2 (edx)"
         other = "strand 14 of variable 3 in block 3, layers 0 to 1, enters its block at 0 (eax)"
-        self.assertEqual(self.told("routes-tie"), [f"x, procedure 1, routes: {one}, and {other}"])
+        wanted = f"x, procedure 1, routes: {one}, and {other} (rule 4, ties)"
+        self.assertEqual(self.told("routes-tie"), [wanted])
+        rule = "across an instruction"
         across = "across instruction 1 of block 2, `v2 := v2 * v1`"
         one = "strand 9 of variable 2 in block 2, layers 2 to 5"
         moved = f"x, procedure 1, routes: {one}, goes from 1 (ecx) to 3 (ebx) {across}"
+        moved += f" (rule 2, {rule})"
         self.assertEqual(self.told("routes-across-an-instruction"), [moved])
 
     def test_two_in_one_register_are_told_once(self):
         (line,) = self.told("routes-register-of-two")
         where = "layer 2, right after instruction 0 of block 2, `v2 := v0`, and at 3 more layers"
-        self.assertTrue(line.endswith(f"are both in eax at {where}"), line)
+        wanted = f"are both in eax at {where} (rule 3, one strand a register)"
+        self.assertTrue(line.endswith(wanted), line)
 
     def test_a_place_is_told_with_those_that_are_allowed(self):
         strand = "strand 0 of variable 0 (argument 0) in block 0, layers 0 to 3"
         where = "is at 0 (eax) at layer 0, the entry of block 0, and may be at 6 (memory)"
+        where += " (rule 1, masks)"
         self.assertEqual(
             self.told("routes-not-in-its-mask"), [f"x, procedure 1, routes: {strand}, {where}"]
         )
 
     def test_total_and_bound_are_told_as_claimed_and_as_found(self):
         cost = "its routes cost 4 by size, and its total says 5: 1 x long immediate = 4"
-        self.assertEqual(self.told("total-one-more"), [f"x, procedure 0, total: {cost}"])
+        strands = "costs by strand: 2 costs 4; all others nothing"
+        wanted = [f"x, procedure 0, total: {it}" for it in (cost, strands)]
+        self.assertEqual(self.told("total-one-more"), wanted)
         value = "its prices give the value 4984/1024, which shows a bound of 5 by size"
-        self.assertEqual(
-            self.told("bound-one-more"),
-            [f"x, procedure 1, bound: {value}, and its bound says 6"],
-        )
+        first, least, less = self.told("bound-one-more")
+        self.assertEqual(first, f"x, procedure 1, bound: {value}, and its bound says 6")
+        costs = [int(it) for it in re.findall(r" costs (-?\d+)", least)]
+        self.assertTrue(less.endswith(f"the prices of registers and pairs, {sum(costs) - 4984}"))
 
     def test_all_procedures_and_all_reasons_are_told(self):
         lines = self.told("order-first-procedure")
         self.assertEqual(
-            [it.split(":")[0] for it in lines], ["x, procedure 0, total", "x, procedure 1, bound"]
+            list(dict.fromkeys(it.split(":")[0] for it in lines)),
+            ["x, procedure 0, total", "x, procedure 1, bound"],
         )
         lines = self.told("order-routes-before-bound")
-        self.assertEqual([it.split(":")[0][16:] for it in lines], ["routes", "bound"])
+        reasons_told = list(dict.fromkeys(it.split(":")[0][16:] for it in lines))
+        self.assertEqual(reasons_told, ["routes", "bound"])
 
     def test_an_index_of_a_price_is_told_by_what_it_stands_for(self):
         (line,) = self.told("prices-zero")
@@ -204,7 +215,7 @@ class Words(unittest.TestCase):
     def test_few_of_many_are_told(self):
         text = vectors.text_of(vectors.edited(vectors.NUMBER, {("procs",): [{}] * 30}))
         _, lines = reasons.certificate("x", text)
-        self.assertEqual(len(lines), reasons.MOST_TOLD + 1)
+        self.assertEqual(len(lines), given.MOST_TOLD + 1)
         self.assertEqual(lines[-1], "and 290 more of this kind")
 
 

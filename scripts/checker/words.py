@@ -27,9 +27,12 @@ class Names:
         return str(it.value) if it.kind == "constant" else f"v{v}"
 
     def variable(self, v):
+        """A variable by its number, with what it is called in a source and what it holds."""
         it = self.code.variables[v]
-        kinds = {"constant": f" (the number {it.value})", "param": f" (argument {it.value})"}
-        return f"variable {v}{kinds.get(it.kind, '')}"
+        kinds = {"constant": f"the number {it.value}", "param": f"argument {it.value}"}
+        words = [f"`{self.code.called[v]}`"] if v in self.code.called else []
+        words += [kinds[it.kind]] if it.kind in kinds else []
+        return f"variable {v} ({', '.join(words)})" if words else f"variable {v}"
 
     def instruction(self, block, i):
         text = instruction_text(self.code.blocks[block].code[i], self.short)

@@ -11,6 +11,7 @@
 - `dual`: the value that prices give, which no allocation costs less than, and steps that raise it.
 - `program`: the network as an integer program, as a text in the LP format.
 - `cbc`: the solver CBC, called as a program, and what it answers.
+- `home`: routes with which all variables are at home.
 - `solver`: the best routes that CBC finds, and prices made of the duals of the relaxation.
 - `compiler`: the compiler, called as a program.
 

@@ -94,6 +94,7 @@ class Procedure:
     total: int
     bound: int
     prices: Prices = field(default_factory=Prices)
+    called: dict = field(default_factory=dict)  # what a source calls variables, where that is known
 
     @property
     def is_near(self):

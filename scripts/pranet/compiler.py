@@ -8,8 +8,8 @@ import tempfile
 import threading
 
 import stopped
+from checker.given import known_of
 from pranet import certificate
-from pranet.network import Network
 
 TOP = os.path.dirname(os.path.dirname(os.path.dirname(os.path.realpath(__file__))))
 ANY_BYTES = "surrogateescape"  # how bytes that are no text go through one
@@ -92,18 +92,14 @@ class Compiler:
 
     def problem(self, file, cost, rounds=0):
         """The certificate that a file holds, or that of the module that it holds, and whether it is
-        a module. No module begins with the brace that a certificate begins with."""
+        a module. No module begins with the brace that a certificate begins with. The cost is what
+        both are to be paid by; without one that of the certificate, or `size`."""
         with open(file, "rb") as source:
             held = source.read()
         if held.lstrip()[:1] != b"{":
-            return self.certificate(file, cost, rounds), True
-        known = certificate.read(held.decode(errors="replace"))
-        for procedure in known.procedures:
-            try:
-                Network(procedure)
-            except (IndexError, KeyError, TypeError, ValueError) as error:
-                reason = f"procedure {procedure.number}: its code is not valid"
-                raise certificate.NoCertificate(reason) from error
+            return self.certificate(file, cost or "size", rounds), True
+        known = known_of(file, held)
+        known.cost = cost or known.cost
         return known, False
 
     def check(self, text):

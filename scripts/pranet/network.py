@@ -311,6 +311,15 @@ class Network:
             if routes[number][layer - strand.first] == place:
                 yield Met(number, strand.block, layer, event)
 
+    def paid_by_strand(self, routes, cost):
+        """What each strand pays."""
+        paid = [0] * len(self.strands)
+        for it in [*self.moves(routes), *self.met(routes)]:
+            depth = self.code.blocks[it.block].depth
+            for event in it.events if isinstance(it, Move) else [it.event]:
+                paid[it.strand] += weight(cost, event, depth)
+        return paid
+
     def paid(self, routes, cost):
         """How often each event comes, and what it costs in all."""
         paid = {}

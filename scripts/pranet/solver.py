@@ -9,9 +9,11 @@ places alone that such routes may have: by the prices, all others cost too much.
 
 from dataclasses import dataclass
 
+from checker.given import MOST_TOLD, Broken
+from checker.routes import reasons
 from pranet import cbc
-from pranet.certificate import NoCertificate
 from pranet.dual import UNIT, Dual, in_range, whole
+from pranet.home import home_routes
 from pranet.program import prices_of, program_of, relaxation_of, routes_of
 
 STEPS = 100  # along the gradient, at most
@@ -33,14 +35,13 @@ def cost_of(network, routes, cost):
 
 
 def begin(network, cost):
-    """Has the procedure's cost and bound be what its routes cost and its prices prove."""
+    """Has the procedure's cost and bound be what its routes cost and its prices prove. Where there
+    are no routes all variables are at home."""
     procedure = network.code
-    try:
-        is_admitted = network.admits(procedure.routes)
-    except (ValueError, IndexError):  # of another network, by their numbers
-        is_admitted = False
-    if not is_admitted:
-        raise NoCertificate(f"procedure {procedure.number}: its routes are not admitted")
+    if not procedure.routes:
+        procedure.routes = home_routes(network)
+    if wrong := reasons(network):
+        raise Broken([f"procedure {procedure.number}, routes: {it}" for it in wrong[:MOST_TOLD]])
     procedure.total = cost_of(network, procedure.routes, cost)
     procedure.prices = in_range(procedure.prices)
     procedure.bound = whole(Dual(network, cost).value(procedure.prices))

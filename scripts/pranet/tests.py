@@ -1,4 +1,4 @@
-"""Tests of certificates, problems, prices, integer programs, the solver and grades.
+"""Tests of certificates, problems, prices, integer programs and the solver.
 
     [PRA=PROGRAM] python3 -m unittest pranet.tests
 
@@ -18,15 +18,15 @@ import unittest
 from contextlib import contextmanager, redirect_stderr, redirect_stdout
 from unittest import mock
 
-import grade
 import lp as lp_script
 import needs
 import network as network_script
 import solve as solve_script
 from pranet import cbc, certificate
 from pranet.certificate import Certificate, Prices
-from pranet.compiler import ANY_BYTES, TOP, Compiler, Refused
+from pranet.compiler import TOP, Compiler, Refused
 from pranet.dual import Dual, in_range, tie_index, whole
+from pranet.home import home_routes
 from pranet.network import Network, bits
 from pranet.problem import problem_of, problem_of_all
 from pranet.program import classes_of, program_of, program_of_all, relaxation_of, routes_of
@@ -89,6 +89,16 @@ def allocated(procedure, cost="size"):
     command = [sys.executable, ALLOCATOR]
     ran = subprocess.run(command, input=json.dumps(problem), capture_output=True, text=True)
     return certificate.read(ran.stdout).procedures[0]
+
+
+def called(main, words, text):
+    """Status, output and notes of a call with a file that holds a text."""
+    out, notes = io.StringIO(), io.StringIO()
+    with tempfile.NamedTemporaryFile("w", suffix=".cert") as file:
+        file.write(text)
+        file.flush()
+        with redirect_stdout(out), redirect_stderr(notes):
+            return main([file.name, *words]), out.getvalue(), notes.getvalue()
 
 
 class Pages(unittest.TestCase):
@@ -312,6 +322,22 @@ class Programs(unittest.TestCase):
                 self.assertEqual((answer.ended, answer.is_settled), (said, is_settled))
 
 
+class Homes(unittest.TestCase):
+    def test_all_are_at_home_where_the_network_admits_it(self):
+        for procedure in (loop(), certificate.read(worked()).procedures[0]):
+            network = Network(procedure)
+            routes = home_routes(network)
+            self.assertTrue(network.admits(routes))
+            away = [it for route in routes for it in route if it not in (MEM, CONST)]
+            self.assertLess(len(away), sum(map(len, routes)) / 2)
+
+    def test_what_strands_pay_is_what_all_pay(self):
+        network = Network(loop())
+        routes = home_routes(network)
+        total = sum(it for _, it in network.paid(routes, "speed").values())
+        self.assertEqual(sum(network.paid_by_strand(routes, "speed")), total)
+
+
 class Optima(unittest.TestCase):
     @needs_solver
     def test_the_worked_example_is_solved_from_home(self):
@@ -386,104 +412,6 @@ class Allocators(unittest.TestCase):
         self.assertLess(at_home, sum(map(len, procedure.routes)) / 2)
 
 
-class AnyCompiler:
-    """One that takes each certificate, or none."""
-
-    def __init__(self, status=0, said=""):
-        self.answer = status, said
-
-    def check(self, _):
-        return self.answer
-
-
-UNPROVED = b"pra: this run is NOT PROVED\n"
-SAYING = """#!/bin/sh
-[ "$PRA_NOTES" = stderr ] && echo "pra: this run is NOT PROVED" >&2
-echo "answer of $1"
-echo "note of $1" >&2
-exit $#
-"""
-
-
-class Notes(unittest.TestCase):
-    """A compiler that says of itself that nothing was proved."""
-
-    def test_it_is_said_once_and_is_no_note_of_a_call(self):
-        with tempfile.TemporaryDirectory(prefix="pra-compiler-") as room:
-            with open(f"{room}/pra", "w", encoding="utf-8") as file:
-                file.write(SAYING)
-            os.chmod(f"{room}/pra", 0o755)
-            compiler = Compiler(f"{room}/pra")
-            with redirect_stderr(io.StringIO()) as told, mock.patch.object(Compiler, "said", set()):
-                ran = compiler.ran("cert")
-                checked = compiler.check(worked())
-                with self.assertRaises(Refused) as refused:
-                    compiler.call("list", "x")
-        self.assertEqual(ran, (1, b"answer of cert\n", b"note of cert\n"))
-        self.assertEqual(checked, (2, "answer of check\nnote of check\n"))
-        self.assertEqual((refused.exception.status, refused.exception.said), (2, b"note of list\n"))
-        self.assertEqual(told.getvalue().encode(), UNPROVED)
-
-
-class Grades(unittest.TestCase):
-    wanted = certificate.read(worked())
-
-    def verdict(self, text, compiler=AnyCompiler()):
-        return grade.judge(compiler, grade.Entry(text), self.wanted)
-
-    def test_what_holds_of_the_code_is_admitted_at_its_cost(self):
-        self.assertEqual(self.verdict(worked()), ("admitted", 4))
-
-    def test_the_compilers_reason_is_the_verdict(self):
-        refusing = AnyCompiler(3, "fault certificate procedure 0 routes\n")
-        reason = "fault certificate procedure 0 routes"
-        self.assertEqual(self.verdict(worked(), refusing), (reason, None))
-
-    def test_certificates_of_other_code_are_not_admitted(self):
-        value = json.loads(worked())
-        easier = value | {"procs": [value["procs"][0] | {"vars": [["plain"]] * 3}]}
-        for text, reason in {
-            json.dumps(easier): "procedure 0 has another code",
-            json.dumps(value | {"procs": value["procs"] * 2}): "it is of another module",
-            json.dumps(value | {"cost": "speed"}): "costs are by speed",
-        }.items():
-            self.assertEqual(self.verdict(text), (reason, None))
-
-    def test_commands_that_fail_hand_in_nothing(self):
-        entry = grade.entry_of_command(f"{sys.executable} -c 'raise SystemExit(2)'", "")
-        self.assertEqual((entry.text, entry.fault), ("", "status 2"))
-        self.assertEqual(grade.entry_of_command("cat", "x").text, "x")
-        no_text = grade.entry_of_command("printf '\\377'", "").text
-        self.assertEqual(no_text.encode(errors=ANY_BYTES), b"\xff")
-        missing = grade.entry_of_folder("/nowhere", "m.ob")
-        self.assertEqual(missing.fault, "No such file or directory")
-
-    def test_sums_stand_where_each_module_has_a_number(self):
-        rows = [dict.fromkeys((*grade.COLUMNS, "best"), 3) | {"verdict": "admitted"}]
-        rows.append(rows[0] | {"cost": None, "verdict": "none", "optimum": None, "best": 2})
-        total = grade.sum_of(rows)
-        self.assertEqual((total["verdict"], total["cost"], total["home"]), ("1 of 2", None, 6))
-        self.assertEqual(grade.cells_of(total)[2:4], ["-", "<= 5"])
-
-    @needs_compiler
-    def test_the_example_and_a_folder_are_graded(self):
-        file, out = f"{TOP}/examples/sums.ob", io.StringIO()
-        compiler = ["--compiler", PROGRAM]
-        with tempfile.TemporaryDirectory(prefix="pra-grade-") as room, redirect_stdout(out):
-            known = Compiler(PROGRAM).certificate(file, "size", 10)
-            with open(f"{room}/sums.cert", "w", encoding="utf-8") as text:
-                text.write(certificate.write(known))
-            words = ["--folder", room, file, "--csv", f"{room}/t.csv", *compiler]
-            self.assertEqual(grade.main(words), 0)
-            with open(f"{room}/t.csv", encoding="utf-8") as text:
-                rows = [it.split(",") for it in text.read().splitlines()]
-            command = f"{sys.executable} {ALLOCATOR}"
-            self.assertEqual(grade.main(["--command", command, file, *compiler]), 0)
-        self.assertEqual(rows[0], list(grade.COLUMNS))
-        self.assertEqual(rows[1], ["sums", "admitted", *["10"] * 3, "27", *["10"] * 3])
-        self.assertIn("1 of 1", out.getvalue())
-
-
 class Words(unittest.TestCase):
     def test_words_that_are_none_end_with_the_usage(self):
         for main, words in (
@@ -491,9 +419,6 @@ class Words(unittest.TestCase):
             (lp_script.main, ["a", "b"]),
             (network_script.main, ["a", "--cost", "both"]),
             (network_script.main, ["a", "--cots", "size"]),
-            (grade.main, ["m.ob"]),
-            (grade.main, ["m.ob", "--command", "a", "--folder", "b"]),
-            (grade.main, ["m.ob", "--command", "a", "--seconds", "x"]),
             (solve_script.main, ["a", "b"]),
         ):
             notes = io.StringIO()
@@ -502,23 +427,54 @@ class Words(unittest.TestCase):
             self.assertRegex(notes.getvalue(), r"\Afault words\nusage: pra ")
 
     def test_code_that_is_not_valid_is_told(self):
-        for old, new in (('"add",0,1', '"add",0,7'), ('"jump",1', '"jump",4'), ('"total":4,', "")):
-            with tempfile.NamedTemporaryFile("w", suffix=".cert") as file:
-                file.write(worked().replace(old, new))
-                file.flush()
-                notes = io.StringIO()
-                with redirect_stderr(notes):
-                    self.assertEqual(network_script.main([file.name]), 70, new)
-            self.assertRegex(notes.getvalue(), r"\Apra: (procedure 0: its code|it is no cert)")
+        """By all who take a certificate in the place of a module, with the rule."""
+        for old, new, words in (
+            ('"add",0,1', '"add",0,7', "names variable 7, of 2 \\(rule 2\\)"),
+            ('"add",0,1', '"shl",0,1', "the name of an instruction is wanted"),
+            ('"add",0,1', '"cmpset",10,0,1,1', "a condition is wanted"),
+            ('"jump",1', '"jump",0', "leads to block 0, the entry, .*\\(rule 1\\)"),
+            ('["read",1]', '["line"]', "variable 1 may be read before .*\\(rule 6\\)"),
+            ('"total":4,', "", "the key total is missing"),
+            ('"total":4,', '"total":4', "this is no JSON"),
+        ):
+            for main in (network_script.main, lp_script.main, solve_script.main):
+                status, _, said = called(main, [], worked().replace(old, new))
+                self.assertEqual(status, 3, new)
+                self.assertRegex(said, words)
+
+    def test_the_cost_of_a_call_goes_before_that_of_a_certificate(self):
+        for words, cost, move in (
+            ([], "size", 2),
+            (["--cost", "size"], "size", 2),
+            (["--cost", "speed"], "speed", 1),
+        ):
+            problem = json.loads(called(network_script.main, words, worked())[1])
+            self.assertEqual((problem["cost"], problem["procs"][0]["moves"][0][1]), (cost, move))
+        text = called(lp_script.main, ["--cost", "speed"], worked())[1]
+        self.assertIn(" p0_go_0_2_r_1 ", text.partition("Subject To")[0])
+        self.assertNotIn("2 p0_go_0_2", text.partition("Subject To")[0])
+
+    @needs_solver
+    def test_a_certificate_without_routes_is_solved(self):
+        value = json.loads(worked())
+        value["procs"][0] |= {"routes": [], "caps": [], "ties": [], "bound": 0, "total": 0}
+        for words, cost in (([], 4), (["--cost", "speed"], 2)):
+            status, out, _ = called(solve_script.main, words, json.dumps(value))
+            procedure = certificate.read(out).procedures[0]
+            self.assertEqual((status, procedure.total, procedure.bound), (0, cost, cost))
+        status, out, _ = called(network_script.main, [], json.dumps(value))
+        self.assertEqual(json.loads(out), json.loads(called(network_script.main, [], worked())[1]))
+
+    def test_routes_that_are_not_admitted_are_told(self):
+        text = worked().replace("[0,0],[1,1,1,0]", "[0,0],[2,1,1,0]")
+        status, _, said = called(solve_script.main, [], text)
+        self.assertEqual(status, 3)
+        self.assertIn("enters its block at 2 (edx) (rule 4, ties)", said)
 
     def test_a_certificate_stands_for_its_module(self):
-        with tempfile.NamedTemporaryFile("w", suffix=".cert") as file:
-            file.write(worked())
-            file.flush()
-            out = io.StringIO()
-            with redirect_stdout(out):
-                self.assertEqual(network_script.main([file.name]), 0)
-        problem = json.loads(out.getvalue())["procs"][0]
+        status, out, _ = called(network_script.main, [], worked())
+        self.assertEqual(status, 0)
+        problem = json.loads(out)["procs"][0]
         masks = [list(map(list, map(bits, it["masks"]))) for it in problem["strands"]]
         self.assertEqual(masks[2][3], [EAX, EAX_M])
 

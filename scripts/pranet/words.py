@@ -4,6 +4,7 @@ import subprocess
 import sys
 
 import reading
+from checker.given import Broken
 from pranet.cbc import NoSolver
 from pranet.certificate import NoCertificate
 from pranet.compiler import TOP, Compiler, Refused, default_program
@@ -31,14 +32,14 @@ def read_words(words, options):
             raise NoWords
         else:
             files.append(word)
-    if values.get("--cost", "size") not in WEIGHTS or "" in values.values():
+    if values.get("--cost") not in (None, *WEIGHTS) or "" in values.values():
         raise NoWords
     return files, values
 
 
 def read_problem(words):
     """The certificate that the words of a call name, or that of the module which they name."""
-    files, values = read_words(words, {"--cost": "size"})
+    files, values = read_words(words, {"--cost": None})
     if len(files) != 1:
         raise NoWords
     return Compiler(values["--compiler"]).problem(files[0], values["--cost"])[0]
@@ -65,6 +66,9 @@ def status_of(call, usage, file=""):
         return refused.status
     except OSError as error:
         return reading.tell(error, file)
+    except Broken as broken:
+        print(broken, file=sys.stderr)
+        return 3
     except (NoCertificate, NoSolver) as error:
         print(f"pra: {error}", file=sys.stderr)
         return NO_ANSWER
