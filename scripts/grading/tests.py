@@ -232,7 +232,7 @@ class Calls(unittest.TestCase):
             file.write(worked())
             file.flush()
             status, out, _ = self.graded("--command", f"{PYTHON} {ALLOCATOR}", file.name)
-        self.assertEqual((status, out.splitlines()[1].split()[2]), (0, "4"))
+        self.assertEqual((status, out.splitlines()[1].split()[2]), (0, "7"))
 
     @needs.compiler
     def test_that_nothing_was_proved_is_said_once_and_is_no_verdict(self):
