@@ -5,8 +5,9 @@
 
 Of a certificate it tells, for each procedure, all that speaks against it: by a second checker, of
 which nothing is proved (`./pra check` decides). Where the module stands beside it under the same
-name, with the ending .ob, variables of arguments have the names of its source. What FILE is, its
-name's ending or its first bytes tell. The status is that of `./pra check`, `list` or `asm`: 0 where
+name, with the ending .ob, arguments have the names of its source, and locals have them where these
+are found again by the text (picture/local_names.py). What FILE is, its name's ending or its first
+bytes tell. The status is that of `./pra check`, `list` or `asm`: 0 where
 nothing is wrong, 3 where something is, 4 where FILE is too long; and 100, without a word, where it
 is none of these or is not to be read.
 """
@@ -16,7 +17,7 @@ import re
 import sys
 
 from checker import beside, form, given, images
-from picture import report
+from picture import local_names, report
 from pranet.compiler import Compiler, default_program
 
 MODULE = 100  # the status where FILE is none of these
@@ -32,11 +33,17 @@ class Module:
 
     def __init__(self, name):
         self.name = name
-        with open(name, "rb") as source:
-            self.headings = report.headings(source.read())
+        with open(name, "rb") as file:
+            source = file.read()
+        self.headings, self.named = report.headings(source), local_names.Named(source)
 
     def name_variables(self, procedures):
+        """Gives variables the names that the source has for them, if it has as many procedures."""
         beside.name_arguments(procedures, self.headings)
+        if len(procedures) == len(self.headings):
+            for number, it in enumerate(procedures):
+                for v, name in local_names.names_of(self.named, number, it).items():
+                    it.called.setdefault(v, name)
 
     def lines(self, name, data):
         """Where the code of a certificate is not the module's, a line for each procedure."""

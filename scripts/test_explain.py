@@ -2,6 +2,7 @@
 
 import io
 import os
+import shutil
 import tempfile
 import unittest
 from contextlib import redirect_stdout
@@ -11,6 +12,7 @@ import explain
 import grammar
 import needs
 import offences
+import reasons
 import traps
 from checker import beside
 from pranet.certificate import code_of
@@ -201,6 +203,19 @@ class OfModules(unittest.TestCase):
         where = "procedure 1, module: instruction 0 of block 0 is `v1 := 6`, and the module's is"
         self.assertIn(where, told[1])
         self.assertIn(f"its code is that of {file}; ./pra check proves it", right[1])
+
+    @needs.compiler
+    def test_locals_have_their_names(self):
+        """But `hi`, which is one variable with the argument `n`."""
+        with tempfile.TemporaryDirectory(prefix="pra-explain-") as room:
+            file = f"{room}/samples.ob"
+            shutil.copy(f"{needs.TOP}/examples/samples.ob", file)
+            known = Compiler(needs.program()).certificate(file, "size", 1)
+            reasons.Module(file).name_variables(known.procedures)
+        called = [set(it.called.values()) for it in known.procedures]
+        self.assertLessEqual({"x", "y"}, called[1])
+        self.assertLessEqual({"w", "x", "y"}, called[2])
+        self.assertLessEqual({"lo", "m", "n"}, called[3])
 
     def test_each_part_of_code_that_differs_is_told(self):
         value = {"args": 1, "aggregates": 0, "vars": [["param", 0], ["constant", 3]]}
