@@ -39,6 +39,7 @@ module _ (procs : List LProc) (data_words : ℕ) (image : Image) (are : ArePlace
       agrees = listed.agrees procs data_words image loaded input fits never;
       never_wrong = listed.never_wrong procs data_words image loaded input fits never;
     };
+    until = listed.until procs data_words image loaded;
     carries = λ routed behind. carries procs image is.listing routed behind.count
         (λ k r p one other. (behind.each k r p one other, are.each k p other));
   }

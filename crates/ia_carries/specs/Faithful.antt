@@ -9,7 +9,7 @@ use Rattle.ia_step.specs.Run.{progress}
 use Rattle.pl_place.specs.declared.placed.LProc.{LProc}
 use Rattle.pl_place.specs.Behind.{Routed, IsBehind}
 use Rattle.pl_place.specs.Machine.{lrun}
-use Rattle.pra_base.specs.Agreement.{Agree, Carried}
+use Rattle.pra_base.specs.Agreement.{Agree, Carried, ReachesUntil}
 use Rattle.pra_base.specs.RunEnd.{Wrong}
 
 abbrev pub AreSmall : List LProc → Type 0
@@ -29,11 +29,13 @@ pub record Follows (procs : List LProc) (data_words : ℕ) (image : Image) (inpu
   pub agrees : Agree (lrun procs data_words input) (progress image input)
   pub never_wrong : (m : ℕ) → (progress image input m).ending ≢ Some Wrong
 
--- The image is valid, follows the placed code on each input on which that is never stuck, and
--- carries the codes and the flows that stand behind it.
+-- The image is valid, follows the placed code on each input on which that is never stuck, and on
+-- any until it gets stuck, and carries the codes and the flows that stand behind it.
 pub record IsFaithful (procs : List LProc) (data_words : ℕ) (image : Image) : Type 0 where
   pub valid : IsImage image
   pub follows : (input : List ℤ) → AreWords input →
       ((k : ℕ) → (lrun procs data_words input k).ending ≢ Some Wrong) →
       Follows procs data_words image input
+  pub until : (input : List ℤ) → AreWords input →
+      ReachesUntil Wrong (lrun procs data_words input) (progress image input)
   pub carries : (routed : List Routed) → AreBehind routed procs → Carries image routed

@@ -17,8 +17,8 @@ ghost use Rattle.pl_place.specs.Behind.{Routed, IsBehind};
 ghost use Rattle.pl_place.specs.Valid.{ArePlaced, IsPlaced};
 ghost use Rattle.pra_base.specs.Valid.{IsSized, instruction_count as count_of};
 
-/// The image that the assembler makes of valid placed code is valid, does what the code does, and
-/// carries the code and the flow that stand behind each procedure.
+/// The image that the assembler makes of valid placed code is valid, does what the code does until
+/// that gets stuck, if ever, and carries the code and the flow that stand behind each procedure.
 pub fn assembled_code_is_faithful()
     ensures { (procs : List LProc) (data_words : ℕ) (image : Image) →
         ArePlaced procs → AreSmall procs → IsImageOf procs data_words image →

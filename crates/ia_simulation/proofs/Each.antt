@@ -12,7 +12,7 @@ use Rattle.pl_place.specs.declared.placed.LInstr.TheVariants as placed
 use Rattle.pl_place.specs.declared.placed.LProc.{LProc}
 use Rattle.pl_place.specs.Machine.{lrun}
 use Rattle.pl_place.specs.Valid.{linstr_at}
-use Rattle.pra_base.specs.Agreement.{Carried}
+use Rattle.pra_base.specs.Agreement.{Carried, ReachesUntil}
 use Rattle.pra_base.specs.Code.{address_of}
 use Rattle.pra_base.specs.declared.code.Addr.{Addr}
 use Rattle.pra_base.specs.declared.code.VInstr.{VInstr}
@@ -72,3 +72,9 @@ pub never_wrong : (procs : List LProc) (data_words : ℕ) → IsLoadable procs d
     ((k : ℕ) → (lrun procs data_words input k).ending ≢ Some Wrong) → (m : ℕ) →
     (progress image input m).ending ≢ Some Wrong
 never_wrong procs data_words ok fit = simulated.never_wrong procs data_words ok (each procs fit)
+
+pub until : (procs : List LProc) (data_words : ℕ) → IsLoadable procs data_words →
+    OffsetsFit procs → (image : Image) → image.code ≡ bytes_of_all (code_of procs) →
+    image.data_words ≡ data_words → (input : List ℤ) → AreWords input →
+    ReachesUntil Wrong (lrun procs data_words input) (progress image input)
+until procs data_words ok fit = simulated.until procs data_words ok (each procs fit)

@@ -7,7 +7,7 @@ use Rattle.ia_step.specs.Run.{progress}
 use Rattle.ia_step.proofs.Runs.{progress_keeps}
 use Rattle.pl_place.specs.declared.placed.LProc.{LProc}
 use Rattle.pl_place.specs.Machine.{lrun, placed_machine, start}
-use Rattle.pra_base.specs.Agreement.{Agree, Carried}
+use Rattle.pra_base.specs.Agreement.{Agree, Carried, ReachesUntil}
 use Rattle.pra_base.specs.RunEnd.{Wrong}
 use Rattle.pra_base.proofs.Carried.{agree}
 use Rattle.vc_code.proofs.LongerRuns.{longer_runs_keep}
@@ -24,6 +24,10 @@ module _ (procs : List LProc) (data_words : ℕ) (image : Image) (z : IsLoaded p
       short = subst (λ bytes. length bytes ≤ max_code_bytes) z.listing.spelled z.valid.code;
       few_data = subst (λ n. n ≤ max_data_words) z.words_are z.valid.data_words;
     }
+
+    pub until : (input : List ℤ) → AreWords input →
+        ReachesUntil Wrong (lrun procs data_words input) (progress image input)
+    until = each.until procs data_words loadable z.offsets image z.listing.spelled z.words_are
 
     module _ (input : List ℤ) (fits : AreWords input)
         (never : (k : ℕ) → (lrun procs data_words input k).ending ≢ Some Wrong) where

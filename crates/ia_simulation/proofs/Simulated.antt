@@ -13,11 +13,11 @@ use Rattle.pl_place.specs.Machine.{Cells, lrun, placed_machine, start}
 use Rattle.pra_base.specs.declared.code.End.{End}
 use Rattle.pra_base.specs.declared.code.End.TheVariants as end
 use Rattle.pra_base.specs.declared.event.OutEvent.{OutEvent}
-use Rattle.pra_base.specs.Agreement.{Progress, Carried}
+use Rattle.pra_base.specs.Agreement.{Progress, Carried, ReachesUntil}
 use Rattle.pra_base.specs.RunEnd.{RunEnd, Wrong}
 use Rattle.pra_base.specs.System.{run, Simulates}
 use Rattle.pra_base.proofs.Carried.{agree}
-use Rattle.pra_base.proofs.Simulation.{carried, run_more}
+use Rattle.pra_base.proofs.Simulation.{carried, reaches_until, run_more}
 use Rattle.vc_code.specs.Machine.{State, step}
 use Rattle.vc_code.specs.Machine as low
 use Rattle.vc_code.proofs.LongerRuns.{is_machine, longer_runs_keep}
@@ -41,6 +41,11 @@ carried_later a b c k later z = record {
             (k + x.0, omega (arith, x.1), sym (later x.0) ∙ x.2),
       );
 }
+
+-- and so is what is reached until a is stuck
+until_later : {E F : Type 0} (stuck : F) (a b c : ℕ → Progress E F) (k : ℕ) →
+    ((m : ℕ) → c m ≡ b (k + m)) → ReachesUntil stuck a c → ReachesUntil stuck a b
+until_later stuck a b c k later z n ok = let x = z n ok in (k + x.0, sym (later x.0) ∙ x.1)
 
 module _ (procs : List LProc) (data_words : ℕ) (ok : IsLoadable procs data_words)
     (each : EachIsCarried procs) where
@@ -90,6 +95,18 @@ module _ (procs : List LProc) (data_words : ℕ) (ok : IsLoadable procs data_wor
         (measure procs) (Realizes procs) (is_machine (placed_machine procs)) simulates s
         (ran m z.0) z.1 never in
         carried_later (lrun procs data_words input) (progress image input)
+        (λ n. view (run advance n (ran m z.0))) z.0
+        (λ n. ap view (sym (run_more advance z.0 n (begin m)))) later
+
+    pub until : ReachesUntil Wrong (lrun procs data_words input) (progress image input)
+    until =
+        let m = machine.start image input in
+        let s = start procs data_words input in
+        let z = starts procs data_words ok image code words input fits in
+        let later = reaches_until (step (placed_machine procs)) low.view advance view Wrong
+        (most procs) (measure procs) (Realizes procs) (is_machine (placed_machine procs)) simulates
+        s (ran m z.0) z.1 in
+        until_later Wrong (lrun procs data_words input) (progress image input)
         (λ n. view (run advance n (ran m z.0))) z.0
         (λ n. ap view (sym (run_more advance z.0 n (begin m)))) later
 

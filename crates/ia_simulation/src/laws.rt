@@ -15,7 +15,7 @@ ghost use Rattle.pl_place.specs.Sample.{sample};
 ghost use Rattle.pl_moves.specs.declared.transfer.Move.{Move};
 ghost use Rattle.pl_place.specs.declared.placed.LInstr.TheVariants.{Move as Moves, Op};
 ghost use Rattle.pra_base.specs.declared.code.VInstr.TheVariants as instr;
-ghost use Rattle.pra_base.specs.Agreement.{Agree, Carried};
+ghost use Rattle.pra_base.specs.Agreement.{Agree, Carried, ReachesUntil};
 ghost use Rattle.pra_base.specs.RunEnd.{Wrong};
 ghost use Rattle.pra_base.specs.declared.code.Addr.{Addr};
 ghost use Rattle.pra_base.specs.declared.code.End.TheVariants as end;
@@ -105,7 +105,7 @@ pub fn clearing_is_carried()
 {}
 
 /// The machine carries the steps of valid placed code that is never stuck, from the loaded image
-/// on, and never meets a fault.
+/// on, and never meets a fault. Code that may get stuck is followed until then.
 pub fn image_follows()
     ensures carried { (procs : List LProc) (data_words : ℕ) → IsLoadable procs data_words →
         OffsetsFit procs → (image : Image) → image.code ≡ bytes_of_all (code_of procs) →
@@ -117,11 +117,16 @@ pub fn image_follows()
         image.data_words ≡ data_words → (input : List ℤ) → AreWords input →
         ((k : ℕ) → (lrun procs data_words input k).ending ≢ Some Wrong) →
         (m : ℕ) → (progress image input m).ending ≢ Some Wrong }
+    ensures until { (procs : List LProc) (data_words : ℕ) → IsLoadable procs data_words →
+        OffsetsFit procs → (image : Image) → image.code ≡ bytes_of_all (code_of procs) →
+        image.data_words ≡ data_words → (input : List ℤ) → AreWords input →
+        ReachesUntil Wrong (lrun procs data_words input) (progress image input) }
 {}
 
 /// The image that the assembler makes of valid placed code does what the code does, on each input
 /// on which the code is never stuck: it carries each step, never meets a fault, ends as the code
-/// ends, and goes on for ever where the code does.
+/// ends, and goes on for ever where the code does. On any input it follows the code until that gets
+/// stuck.
 pub fn listed_code_follows()
     ensures carried { (procs : List LProc) (data_words : ℕ) (image : Image) →
         IsLoaded procs data_words image → (input : List ℤ) → AreWords input →
@@ -135,6 +140,9 @@ pub fn listed_code_follows()
         IsLoaded procs data_words image → (input : List ℤ) → AreWords input →
         ((k : ℕ) → (lrun procs data_words input k).ending ≢ Some Wrong) →
         Agree (lrun procs data_words input) (progress image input) }
+    ensures until { (procs : List LProc) (data_words : ℕ) (image : Image) →
+        IsLoaded procs data_words image → (input : List ℤ) → AreWords input →
+        ReachesUntil Wrong (lrun procs data_words input) (progress image input) }
 {}
 
 /// Code with each kind of thing that the rules of valid placed code speak of can be loaded, and has

@@ -1,6 +1,6 @@
 -- The procedures of a module together.
 use Rattle.std.proofs.Common.{◌≢◌, ℕ, ℤ, List, map, Some}
-use Rattle.pra_base.specs.Agreement.{Carried}
+use Rattle.pra_base.specs.Agreement.{Carried, ReachesUntil}
 use Rattle.pra_base.specs.RunEnd.{Wrong}
 use Rattle.pra_base.specs.declared.code.VModule.{VModule}
 use Rattle.pra_base.specs.declared.code.VProc.{VProc}
@@ -37,3 +37,10 @@ pub never_stuck : (module_ : VModule) (procs : List LProc) (input : List ℤ) �
     (lrun procs module_.data_words input k).ending ≢ Some Wrong
 never_stuck module_ procs input is never = simulation.never_stuck module_ procs input
     (all_correspond module_.procs procs is) never
+
+pub reaches_until : (module_ : VModule) (procs : List LProc) (input : List ℤ) →
+    AreRouted module_.procs procs →
+    ReachesUntil Wrong (vrun module_ (map frame_size procs) input)
+    (lrun procs module_.data_words input)
+reaches_until module_ procs input is = simulation.placed_until module_ procs input
+    (all_correspond module_.procs procs is)

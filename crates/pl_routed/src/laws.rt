@@ -2,7 +2,7 @@
 // and it does nothing.
 
 ghost use Rattle.std.specs.Prelude.{◌≢◌, ℕ, ℤ, List, Some, map};
-ghost use Rattle.pra_base.specs.Agreement.{Carried};
+ghost use Rattle.pra_base.specs.Agreement.{Carried, ReachesUntil};
 ghost use Rattle.pra_base.specs.RunEnd.{Wrong};
 ghost use Rattle.pra_base.specs.declared.code.VModule.{VModule};
 ghost use Rattle.pra_base.specs.declared.code.VProc.{VProc};
@@ -21,7 +21,7 @@ pub fn routed_code_corresponds()
 
 /// So it carries the steps of the selected code with the frames that it has, for any admitted
 /// routes and every input, where the selected code is never stuck; and then it is never stuck
-/// either.
+/// either. Code that may get stuck is followed until then.
 pub fn placement_follows()
     ensures carried { (module_ : VModule) (procs : List LProc) (input : List ℤ) →
         AreRouted module_.procs procs → RunsWell module_ (map frame_size procs) input →
@@ -30,4 +30,8 @@ pub fn placement_follows()
     ensures never_stuck { (module_ : VModule) (procs : List LProc) (input : List ℤ) →
         AreRouted module_.procs procs → RunsWell module_ (map frame_size procs) input →
         (k : ℕ) → (lrun procs module_.data_words input k).ending ≢ Some Wrong }
+    ensures until { (module_ : VModule) (procs : List LProc) (input : List ℤ) →
+        AreRouted module_.procs procs →
+        ReachesUntil Wrong (vrun module_ (map frame_size procs) input)
+        (lrun procs module_.data_words input) }
 {}

@@ -3,7 +3,7 @@
 //! `specs/Routed` says what is asked: the code is valid and sized, the routes are admitted in its
 //! network, code and flow stand behind the placed code, and that is valid. `laws` says what
 //! follows: it corresponds to the selected code, so its machine carries every step of the selected
-//! code's.
+//! code's, of code that gets stuck until then.
 //!
 //! The proof goes from the network to values: a variable that is present at a layer is in one
 //! strand there (`proofs/Strands`), which one edge brings to one place (`proofs/Present`); what

@@ -10,10 +10,10 @@ use Rattle.std.proofs.lemmas.Option.{slice_get-map, slice_get-get_or, slice_get_
 use Rattle.std.proofs.lemmas.Option.{get_or_from_slice_get}
 use Rattle.pra_list.proofs.Truths.{if_true}
 use Rattle.pra_list.proofs.Options.{some_same}
-use Rattle.pra_base.specs.Agreement.{Progress, Carried}
+use Rattle.pra_base.specs.Agreement.{Progress, Carried, ReachesUntil}
 use Rattle.pra_base.specs.System.{Simulates}
 use Rattle.pra_base.specs.RunEnd.{RunEnd, Wrong}
-use Rattle.pra_base.proofs.Simulation.{carried}
+use Rattle.pra_base.proofs.Simulation.{carried, reaches_until}
 use Rattle.pra_base.proofs.Carried.{agree}
 use Rattle.pra_base.specs.declared.event.OutEvent.{OutEvent}
 use Rattle.pra_base.specs.declared.code.VInstr.{VInstr}
@@ -223,6 +223,19 @@ placed_carries module_ procs input is never =
     (first (body codes procs is) (zeros module_.data_words) input)
     (first (low_body codes procs is) (zeros module_.data_words) input)
     (begin_same codes procs is (zeros module_.data_words) input) never
+
+pub placed_until : (module_ : VModule) (procs : List LProc) (input : List ℤ) →
+    AllCorrespond module_.procs procs →
+    ReachesUntil Wrong (vrun module_ (map frame_size procs) input)
+    (lrun procs module_.data_words input)
+placed_until module_ procs input is =
+    let codes = module_.procs in
+    let frames = map frame_size procs in
+    reaches_until (step (selected codes frames)) view (step (placed_machine procs)) view Wrong 0
+    (λ s. 0) (B codes procs is) (is_machine (selected codes frames)) (simulates codes procs is)
+    (first (body codes procs is) (zeros module_.data_words) input)
+    (first (low_body codes procs is) (zeros module_.data_words) input)
+    (begin_same codes procs is (zeros module_.data_words) input)
 
 pub never_stuck : (module_ : VModule) (procs : List LProc) (input : List ℤ) →
     AllCorrespond module_.procs procs →

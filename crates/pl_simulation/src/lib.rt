@@ -7,8 +7,9 @@
 //! instruction.
 //!
 //! `laws` has what follows: the machine of placed code carries every step of the machine of
-//! selected code that is never stuck, and is then never stuck itself. The invariant is that the
-//! value of each present variable is in every cell of its place (`proofs/Located`, `Matches`).
+//! selected code that is never stuck, and is then never stuck itself; code that gets stuck is
+//! followed until then. The invariant is that the value of each present variable is in every cell
+//! of its place (`proofs/Located`, `Matches`).
 #![tactic(auto)]
 
 pub mod laws;

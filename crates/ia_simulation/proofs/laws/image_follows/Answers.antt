@@ -6,3 +6,6 @@ returns-clause-carried c = each.carried
 
 pub returns-clause-never_wrong : goal.returns-clause-never_wrong
 returns-clause-never_wrong c = each.never_wrong
+
+pub returns-clause-until : goal.returns-clause-until
+returns-clause-until c = each.until

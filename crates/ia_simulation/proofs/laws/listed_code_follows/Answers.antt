@@ -9,3 +9,6 @@ returns-clause-never_wrong c = listed.never_wrong
 
 pub returns-clause-agrees : goal.returns-clause-agrees
 returns-clause-agrees c = listed.agrees
+
+pub returns-clause-until : goal.returns-clause-until
+returns-clause-until c = listed.until

@@ -8,3 +8,6 @@ returns-clause-carried c = λ module_ procs input is never. carried.placed_carri
 pub returns-clause-never_stuck : goal.returns-clause-never_stuck
 returns-clause-never_stuck c = λ module_ procs input is never. carried.never_stuck module_ procs
     input is never
+
+pub returns-clause-until : goal.returns-clause-until
+returns-clause-until c = λ module_ procs input is. carried.placed_until module_ procs input is
