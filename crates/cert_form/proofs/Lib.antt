@@ -1,9 +1,12 @@
 pub mod Answered
 pub mod CertsFit
 pub mod CertsRead
+pub mod Forms
 pub mod LineFeed
 pub mod Lists
 pub mod PartsFit
 pub mod PartsRead
 pub mod Plain
+pub mod ProcsFit
+pub mod ProcsRead
 pub mod Texts

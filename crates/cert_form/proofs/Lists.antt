@@ -7,8 +7,7 @@ use Rattle.serde_json.specs.Data.{Data, Items, item}
 use Rattle.serde_json.specs.View.{view, items_view}
 use Rattle.serde_json.specs.declared.value.Value.{Value}
 use Rattle.pra_list.specs.Options.{◌>>=◌}
-use Rattle.cert_form.specs.declared.certificate.Cert.{Cert}
-use Rattle.cert_form.specs.Reading.{certs_of, numbered_cert}
+use Rattle.cert_form.specs.Reading.{each_numbered, numbered}
 
 -- with what was read before
 abbrev pub joined : {A : Type 0} → List A → Option (List A) → Option (List A)
@@ -19,12 +18,12 @@ regroup : {A : Type 0} (xs : List A) (x : A) (o : Option (List A)) →
 regroup xs x None = refl
 regroup xs x (Some ys) = ap (λ zs. Some zs) (sym (append_assoc xs (x ∷ []) ys))
 
-pub one_cert : (n : ℕ) (d : Data) (x : Cert) (ds : Items) (xs : List Cert) →
-    numbered_cert n d ≡ Some x →
-    joined xs (certs_of n (item d ds)) ≡ joined (xs ++ x ∷ []) (certs_of (suc n) ds)
-one_cert n d x ds xs e =
-    ap (λ o. joined xs (o >>= (λ y. certs_of (suc n) ds >>= (λ ys. Some (y ∷ ys))))) e
-    ∙ regroup xs x (certs_of (suc n) ds)
+pub one_numbered : {A : Type 0} (f : ℕ → Data → Option A) (n : ℕ) (d : Data) (x : A) (ds : Items)
+    (xs : List A) → numbered f n d ≡ Some x →
+    joined xs (each_numbered f n (item d ds)) ≡ joined (xs ++ x ∷ []) (each_numbered f (suc n) ds)
+one_numbered f n d x ds xs e =
+    ap (λ o. joined xs (o >>= (λ y. each_numbered f (suc n) ds >>= (λ ys. Some (y ∷ ys))))) e
+    ∙ regroup xs x (each_numbered f (suc n) ds)
 
 pub one_longer : {A : Type 0} (xs ys : List A) (x : A) (n : ℕ) → ys ≡ xs ++ x ∷ [] →
     length xs ≡ n → length ys ≡ n + 1
@@ -38,11 +37,15 @@ drop_next vs i v h e =
     drop-cons vs i v h ∙ ap (λ w. w ∷ drop (suc i) vs) (sym e)
     ∙ ap (λ k. v ∷ drop k vs) (sym (add-one i))
 
-pub cert_next : (vs : List Value) (i : ℕ) (v : Value) (x : Cert) (xs : List Cert) →
-    i < length vs → v ≡ get_or vs i v → numbered_cert i (view v) ≡ Some x →
-    joined xs (certs_of i (items_view (drop i vs)))
-    ≡ joined (xs ++ x ∷ []) (certs_of (i + 1) (items_view (drop (i + 1) vs)))
-cert_next vs i v x xs h e g =
-    ap (λ l. joined xs (certs_of i (items_view l))) (drop_next vs i v h e)
-    ∙ one_cert i (view v) x (items_view (drop (i + 1) vs)) xs g
-    ∙ ap (λ k. joined (xs ++ x ∷ []) (certs_of k (items_view (drop (i + 1) vs)))) (sym (add-one i))
+-- one more part is read of the value at an index
+pub numbered_next : {A : Type 0} (f : ℕ → Data → Option A) (vs : List Value) (i : ℕ) (v : Value)
+    (x : A) (xs ys : List A) → ys ≡ xs ++ x ∷ [] → i < length vs → v ≡ get_or vs i v →
+    numbered f i (view v) ≡ Some x →
+    joined ys (each_numbered f (i + 1) (items_view (drop (i + 1) vs)))
+    ≡ joined xs (each_numbered f i (items_view (drop i vs)))
+numbered_next f vs i v x xs ys longer h e g =
+    let rest = items_view (drop (i + 1) vs) in
+    ap (λ l. joined l (each_numbered f (i + 1) rest)) longer
+    ∙ ap (λ k. joined (xs ++ x ∷ []) (each_numbered f k rest)) (add-one i)
+    ∙ sym (one_numbered f i (view v) x rest xs g)
+    ∙ ap (λ l. joined xs (each_numbered f i (items_view l))) (sym (drop_next vs i v h e))

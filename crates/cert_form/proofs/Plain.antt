@@ -3,7 +3,8 @@ use Rattle.std.proofs.Common.{◌≡◌, ℕ, suc, ◌≤◌, ◌||◌, Bool, tr
 use Rattle.std.proofs.Common.{Option, Some, None, refl, arith, codes}
 use Rattle.std.specs.Prelude.{ℤ, pos, negsuc}
 use Rattle.serde_json.specs.Data.{Data, string, object, Items, no_items, item}
-use Rattle.serde_json.specs.Data.{Members, no_members, member, depth, items_depth, members_depth}
+use Rattle.serde_json.specs.Data.{Members, no_members, member, items_depth, members_depth}
+use Rattle.serde_json.specs.Read.{max_depth}
 use Rattle.serde_json.specs.View.{items_of}
 use Rattle.serde_json.specs.Written.{has_float, items_have_float, members_have_float}
 use Rattle.pra_list.specs.Each.{Each}
@@ -17,6 +18,7 @@ use Rattle.pra_base.specs.declared.code.VInstr.{VInstr}
 use Rattle.pra_base.specs.declared.code.End.{End}
 use Rattle.pra_base.specs.declared.code.End.TheVariants.{Jump, Branch, Return}
 use Rattle.pra_base.specs.declared.code.Block.{Block}
+use Rattle.pra_base.specs.declared.code.VProc.{VProc}
 use Rattle.cert_form.specs.declared.table.Operand.{Operand}
 use Rattle.cert_form.specs.declared.table.Operand.TheVariants.{Variable, Number, Address, Condition}
 use Rattle.cert_form.specs.declared.table.Operand.TheVariants.{Procedure}
@@ -28,11 +30,8 @@ use Rattle.cert_form.specs.Table.{name, form_of, operands_of}
 use Rattle.cert_form.specs.Form.{natural, integer, row, list, kind_data, base_name, base_number}
 use Rattle.cert_form.specs.Form.{index_data, address_data, operand_data, instruction_data, end_data}
 use Rattle.cert_form.specs.Form.{block_data, place_data, path_data, cap_data, tie_data, cert_data}
-use Rattle.cert_form.specs.Form.{certificate_data}
-
-pub record IsPlain (n : ℕ) (d : Data) : Type 0 where
-  pub whole : has_float d ≡ false
-  pub shallow : depth d ≤ n
+use Rattle.cert_form.specs.Form.{code_members, file_members, cost_name, certificate_data}
+use Rattle.cert_form.specs.Plain.{IsPlain}
 
 record ArePlain (n : ℕ) (ds : Items) : Type 0 where
   whole : items_have_float ds ≡ false
@@ -185,24 +184,43 @@ short_plain : {A : Type 0} (f : A → Data) → ((x : A) → IsPlain 1 (f x)) �
     IsPlain 5 (list f xs)
 short_plain f p xs = deeper 2 5 (list f xs) (omega arith) (list_plain 1 f p xs)
 
+code_plain : (c : VProc) (between : Members → Members) →
+    ((ms : Members) → ArePlainMembers 5 ms → ArePlainMembers 5 (between ms)) →
+    ArePlainMembers 5 (code_members c between)
+code_plain c between keep =
+    one_member 5 _ _ _ (natural_plain 5 c.aggregates) (
+    one_member 5 _ _ _ (natural_plain 5 c.args) (
+    one_member 5 _ _ _ (list_plain 4 block_data block_plain c.blocks) (
+    keep (member (codes "vars") (list kind_data c.vars) no_members) (
+    one_member 5 _ _ _ (short_plain kind_data kind_plain c.vars) (no_member 5)))))
+
 cert_plain : (c : Cert) → IsPlain 6 (cert_data c)
 cert_plain c =
-    of_members 5 _ (
-    one_member 5 _ _ _ (natural_plain 5 c.code.aggregates) (
-    one_member 5 _ _ _ (natural_plain 5 c.code.args) (
-    one_member 5 _ _ _ (list_plain 4 block_data block_plain c.code.blocks) (
+    of_members 5 _ (code_plain c.code (λ (vars : Members).
+    member (codes "bound") (natural c.bound)
+    (member (codes "caps") (list cap_data c.caps)
+    (member (codes "mems") (list cap_data c.mems)
+    (member (codes "routes") (list path_data c.routes.places)
+    (member (codes "ties") (list tie_data c.ties)
+    (member (codes "total") (natural c.total) vars)))))) (λ vars p.
     one_member 5 _ _ _ (natural_plain 5 c.bound) (
     one_member 5 _ _ _ (short_plain cap_data cap_plain c.caps) (
     one_member 5 _ _ _ (short_plain cap_data cap_plain c.mems) (
     one_member 5 _ _ _ (short_plain path_data path_plain c.routes.places) (
     one_member 5 _ _ _ (short_plain tie_data tie_plain c.ties) (
-    one_member 5 _ _ _ (natural_plain 5 c.total) (
-    one_member 5 _ _ _ (short_plain kind_data kind_plain c.code.vars) (no_member 5)))))))))))
+    one_member 5 _ _ _ (natural_plain 5 c.total) p)))))))
 
-pub certificate_plain : (c : Certificate) → IsPlain 8 (certificate_data c)
+whole_plain : {A : Type 0} (key kind : List ℕ) (first : Data) (f : A → Data) → IsPlain 7 first →
+    ((x : A) → IsPlain 6 (f x)) → (xs : List A) →
+    IsPlain max_depth (object (member key first (file_members kind f xs)))
+whole_plain key kind first f h p xs =
+    deeper 8 max_depth _ (omega arith) (of_members 7 _ (
+    one_member 7 _ _ _ h (
+    one_member 7 _ _ _ (string_plain 7 kind) (
+    one_member 7 _ _ _ (list_plain 6 f p xs) (
+    one_member 7 _ _ _ (natural_plain 7 1) (no_member 7))))))
+
+pub certificate_plain : (c : Certificate) → IsPlain max_depth (certificate_data c)
 certificate_plain c =
-    of_members 7 _ (
-    one_member 7 _ _ _ (string_plain 7 _) (
-    one_member 7 _ _ _ (string_plain 7 _) (
-    one_member 7 _ _ _ (list_plain 6 cert_data cert_plain c.procs) (
-    one_member 7 _ _ _ (natural_plain 7 1) (no_member 7)))))
+    whole_plain (codes "cost") (codes "pra-certificate") (string (cost_name c.cost)) cert_data
+    (string_plain 7 (cost_name c.cost)) cert_plain c.procs

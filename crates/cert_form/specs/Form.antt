@@ -2,7 +2,7 @@
 -- or an exponent; the members of an object stand in the order of the bytes of their keys.
 use Rattle.std.specs.Prelude.{ℕ, ℤ, List, [], ◌∷◌, ◌++◌, map, Option, Some, None, codes}
 use Rattle.serde_json.specs.Data.{Data, null, number, unsigned, string, array, object}
-use Rattle.serde_json.specs.Data.{member, no_members}
+use Rattle.serde_json.specs.Data.{Members, member, no_members}
 use Rattle.serde_json.specs.Find.{of_integer}
 use Rattle.serde_json.specs.View.{items_of}
 use Rattle.serde_json.specs.Written.{compact_text}
@@ -17,6 +17,7 @@ use Rattle.pra_base.specs.declared.code.VInstr.{VInstr}
 use Rattle.pra_base.specs.declared.code.End.{End}
 use Rattle.pra_base.specs.declared.code.End.TheVariants.{Jump, Branch, Return}
 use Rattle.pra_base.specs.declared.code.Block.{Block}
+use Rattle.pra_base.specs.declared.code.VProc.{VProc}
 use Rattle.pra_base.specs.Places as places
 use Rattle.ia_code.specs.DecodeTable.{cond_number}
 use Rattle.cert_form.specs.declared.table.Operand.{Operand}
@@ -111,32 +112,45 @@ cap_data c = row (natural c.at ∷ natural c.price ∷ [])
 abbrev pub tie_data : TieAt → Data
 tie_data t = row (natural t.at ∷ integer t.number ∷ [])
 
+-- The members of code, with others between that of its blocks and that of its variables.
+abbrev pub code_members : VProc → (Members → Members) → Members
+code_members code between =
+    member (codes "aggregates") (natural code.aggregates)
+    (member (codes "args") (natural code.args)
+    (member (codes "blocks") (list block_data code.blocks)
+    (between (member (codes "vars") (list kind_data code.vars) no_members))))
+
 -- Procedures, and the whole.
 
 abbrev pub cert_data : Cert → Data
 cert_data c =
-    object (member (codes "aggregates") (natural c.code.aggregates)
-    (member (codes "args") (natural c.code.args)
-    (member (codes "blocks") (list block_data c.code.blocks)
-    (member (codes "bound") (natural c.bound)
+    object (code_members c.code (λ vars.
+    member (codes "bound") (natural c.bound)
     (member (codes "caps") (list cap_data c.caps)
     (member (codes "mems") (list cap_data c.mems)
     (member (codes "routes") (list path_data c.routes.places)
     (member (codes "ties") (list tie_data c.ties)
-    (member (codes "total") (natural c.total)
-    (member (codes "vars") (list kind_data c.code.vars) no_members))))))))))
+    (member (codes "total") (natural c.total) vars)))))))
 
 abbrev pub cost_name : CostWord → List ℕ
 cost_name Size = codes "size"
 cost_name Speed = codes "speed"
 
+-- The last members of a whole: its kind, its procedures, and the version of these forms.
+abbrev pub file_members : {A : Type 0} → List ℕ → (A → Data) → List A → Members
+file_members kind proc_data procs =
+    member (codes "kind") (string kind)
+    (member (codes "procs") (list proc_data procs)
+    (member (codes "version") (natural 1) no_members))
+
 abbrev pub certificate_data : Certificate → Data
 certificate_data c =
     object (member (codes "cost") (string (cost_name c.cost))
-    (member (codes "kind") (string (codes "pra-certificate"))
-    (member (codes "procs") (list cert_data c.procs)
-    (member (codes "version") (natural 1) no_members))))
+    (file_members (codes "pra-certificate") cert_data c.procs))
 
--- the text: the value without a blank, and the line's end
+-- the text of a value: without a blank, and the line's end
+abbrev pub line_text : Data → List ℕ
+line_text d = compact_text d ++ 10 ∷ []
+
 unfoldable pub certificate_text : Certificate → List ℕ
-certificate_text c = compact_text (certificate_data c) ++ 10 ∷ []
+certificate_text c = line_text (certificate_data c)

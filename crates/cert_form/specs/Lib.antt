@@ -3,3 +3,4 @@ pub mod Form
 pub mod Reading
 pub mod Whole
 pub mod Building
+pub mod Plain

@@ -19,7 +19,7 @@ use Rattle.pra_base.specs.declared.code.End.{End}
 use Rattle.pra_base.specs.declared.code.End.TheVariants.{Jump, Branch, Return}
 use Rattle.pra_base.specs.declared.code.Block.{Block}
 use Rattle.pra_base.specs.declared.code.VProc.{VProc}
-use Rattle.pra_base.specs.Places.{numbered}
+use Rattle.pra_base.specs.Places as places
 use Rattle.ia_code.specs.Reading.{cond_of}
 use Rattle.pra_list.specs.Options.{◌>>=◌}
 use Rattle.cert_form.specs.declared.table.Form.{Form}
@@ -271,7 +271,7 @@ block_of d = do
 -- Paths and entries of prices.
 
 abbrev pub place_of : Data → Option Place
-place_of d = natural_of d >>= numbered
+place_of d = natural_of d >>= places.numbered
 
 abbrev pub path_of : Data → Option (List Place)
 path_of = list_of place_of
@@ -323,17 +323,21 @@ cert_of n d = do
     bound = bound;
   })
 
--- Procedures, numbered from n on. A number is one of 32 bits.
+-- Parts of one kind, numbered from n on. A number is one of 32 bits.
 
-abbrev pub numbered_cert : ℕ → Data → Option Cert
-numbered_cert n d = if nat_lt n 4294967296 then cert_of n d else None
+abbrev pub numbered : {A : Type 0} → (ℕ → Data → Option A) → ℕ → Data → Option A
+numbered f n d = if nat_lt n 4294967296 then f n d else None
 
-abbrev pub certs_of : ℕ → Items → Option (List Cert)
-certs_of n no_items = Some []
-certs_of n (item d ds) = do
-  c ← numbered_cert n d
-  cs ← certs_of (suc n) ds
-  Some (c ∷ cs)
+abbrev pub each_numbered : {A : Type 0} → (ℕ → Data → Option A) → ℕ → Items → Option (List A)
+each_numbered f n no_items = Some []
+each_numbered f n (item d ds) = do
+  x ← numbered f n d
+  xs ← each_numbered f (suc n) ds
+  Some (x ∷ xs)
+
+-- The procedures of a certificate.
+abbrev pub procs_of : {A : Type 0} → (ℕ → Data → Option A) → Data → Option (List A)
+procs_of f d = get (codes "procs") d >>= as_array >>= each_numbered f 0
 
 abbrev pub cost_word_of : List ℕ → Option CostWord
 cost_word_of word =
@@ -349,6 +353,5 @@ cost_word_at d = do
 abbrev pub certificate_of : Data → Option Certificate
 certificate_of d = do
   cost ← cost_word_at d
-  parts ← get (codes "procs") d >>= as_array
-  procs ← certs_of 0 parts
+  procs ← procs_of cert_of d
   Some (record { cost = cost; procs = procs })

@@ -12,6 +12,7 @@ use Rattle.pra_base.specs.declared.code.VInstr.{VInstr}
 use Rattle.pra_base.specs.declared.code.End.{End}
 use Rattle.pra_base.specs.declared.code.End.TheVariants.{Jump, Branch, Return}
 use Rattle.pra_base.specs.declared.code.Block.{Block}
+use Rattle.pra_base.specs.declared.code.VProc.{VProc}
 use Rattle.cert_form.specs.declared.table.Operand.{Operand}
 use Rattle.cert_form.specs.declared.table.Operand.TheVariants.{Variable, Number, Address, Condition}
 use Rattle.cert_form.specs.declared.table.Operand.TheVariants.{Procedure}
@@ -66,21 +67,28 @@ CapFits c = IsNatural c.at × IsLong c.price
 abbrev pub TieFits : TieAt → Type 0
 TieFits t = IsNatural t.at × FitsSigned w64 t.number
 
+pub record CodeFits (c : VProc) : Type 0 where
+  pub args : IsNatural c.args
+  pub aggregates : IsNatural c.aggregates
+  pub vars : Each KindFits c.vars
+  pub blocks : Each BlockFits c.blocks
+
 pub record CertFits (c : Cert) : Type 0 where
-  pub args : IsNatural c.code.args
-  pub aggregates : IsNatural c.code.aggregates
-  pub vars : Each KindFits c.code.vars
-  pub blocks : Each BlockFits c.code.blocks
+  pub code : CodeFits c.code
   pub caps : Each CapFits c.caps
   pub mems : Each CapFits c.mems
   pub ties : Each TieFits c.ties
   pub total : IsLong c.total
   pub bound : IsLong c.bound
 
--- The id of each code is its number, one of 32 bits; they are numbered from n on.
+-- The id of the code of each part is its number, one of 32 bits; they are numbered from n on.
+abbrev pub CodesAreNumbered : {A : Type 0} → (A → VProc) → ℕ → List A → Type 0
+CodesAreNumbered code n [] = Unit {0}
+CodesAreNumbered code n (x ∷ xs) =
+    ((code x).id.0 ≡ n) × IsNatural n × CodesAreNumbered code (suc n) xs
+
 abbrev pub AreNumbered : ℕ → List Cert → Type 0
-AreNumbered n [] = Unit {0}
-AreNumbered n (c ∷ cs) = (c.code.id.0 ≡ n) × IsNatural n × AreNumbered (suc n) cs
+AreNumbered n cs = CodesAreNumbered (λ (c : Cert). c.code) n cs
 
 -- what a text may hold
 pub record IsWhole (c : Certificate) : Type 0 where

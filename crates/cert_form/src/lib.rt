@@ -13,6 +13,7 @@
 
 mod certificate;
 pub mod laws;
+mod line;
 mod reading;
 mod table;
 mod text;

@@ -10,7 +10,8 @@ ghost use Rattle.cert_form.specs.Reading.{list_under};
 ghost use Rattle.cert_form.specs.Reading.{kind_named, kind_of, base_of};
 ghost use Rattle.cert_form.specs.Reading.{index_of, address_of, address_at, made, instruction_of};
 ghost use Rattle.cert_form.specs.Reading.{end_named, end_of, block_of, place_of, path_of, cap_of};
-ghost use Rattle.cert_form.specs.Reading.{tie_of, code_of, cert_of, numbered_cert, certs_of};
+ghost use Rattle.cert_form.specs.Reading.{tie_of, code_of, cert_of, numbered, each_numbered};
+ghost use Rattle.cert_form.specs.Reading.{procs_of};
 ghost use Rattle.cert_form.specs.Reading.{cost_word_of};
 ghost use Rattle.cert_form.specs.Reading.{cost_word_at, certificate_of};
 ghost use Rattle.cert_form.specs.declared.reading.Misread.TheVariants as misread;
@@ -64,6 +65,18 @@ pub(crate) trait Readable: Drop {
     fn of_value(alloc: Global, value: &Value) -> Result<Self, Misread>
         ensures ok { IfOk result (λ x. of (view value.now) ≡ Some x) }
         ensures err { IfErr result (λ e. e ≡ misread.Form → of (view value.now) ≡ None) };
+}
+
+/// A procedure that is read of its number and of a JSON value.
+trait Numbered: Drop {
+    ghost use Rattle.serde_json.specs.Data.{Data};
+    ghost use Rattle.std.specs.Prelude.{ℕ, Option};
+
+    ghost of: { ℕ → Data → Option Self };
+
+    fn of_numbered(alloc: Global, number: u32, value: &Value) -> Result<Self, Misread>
+        ensures ok { IfOk result (λ x. of number (view value.now) ≡ Some x) }
+        ensures err { IfErr result (λ e. e ≡ misread.Form → of number (view value.now) ≡ None) };
 }
 
 /// The list of some parts.
@@ -474,29 +487,50 @@ fn cert(alloc: Global, number: u32, value: &Value) -> Result<Cert, Misread>
     })
 }
 
-fn numbered_cert(alloc: Global, number: usize, value: &Value) -> Result<Cert, Misread>
-    ensures ok { IfOk result (λ c. numbered_cert number (view value.now) ≡ Some c) }
+impl Numbered for Cert {
+    ghost of = { cert_of };
+
+    fn of_numbered(alloc: Global, number: u32, value: &Value) -> Result<Cert, Misread> {
+        cert(alloc, number, value)
+    }
+}
+
+fn one_numbered<T: Numbered>(alloc: Global, number: usize, value: &Value) -> Result<T, Misread>
+    ensures ok { IfOk result (λ x. numbered T.of number (view value.now) ≡ Some x) }
     ensures err { IfErr result (λ e. e ≡ misread.Form
-        → numbered_cert number (view value.now) ≡ None) }
+        → numbered T.of number (view value.now) ≡ None) }
 {
     if number < 4294967296 {
-        cert(alloc, number as u32, value)
+        T::of_numbered(alloc, number as u32, value)
     } else {
         Err(Misread::Form)
     }
 }
 
-fn certs(alloc: Global, values: &[Value]) -> Result<Seq<Cert>, Misread>
-    ensures ok { IfOk result (λ cs. certs_of 0 (items_view values.now) ≡ Some cs) }
+fn all_numbered<T: Numbered>(alloc: Global, values: &[Value]) -> Result<Seq<T>, Misread>
+    ensures ok { IfOk result (λ xs. each_numbered T.of 0 (items_view values.now) ≡ Some xs) }
     ensures err { IfErr result (λ e. e ≡ misread.Form
-        → certs_of 0 (items_view values.now) ≡ None) }
+        → each_numbered T.of 0 (items_view values.now) ≡ None) }
 {
     let mut procs = Vec::with_capacity(alloc, values.len())?;
     for item in values {
         let number = procs.len();
-        procs.push(numbered_cert(alloc, number, item)?)?;
+        procs.push(one_numbered(alloc, number, item)?)?;
     }
     Ok(Seq::from_vec(procs))
+}
+
+/// The procedures of a certificate.
+fn procs_under<T: Numbered>(alloc: Global, value: &Value) -> Result<Seq<T>, Misread>
+    ensures ok { IfOk result (λ xs. procs_of T.of (view value.now) ≡ Some xs) }
+    ensures err { IfErr result (λ e. e ≡ misread.Form → procs_of T.of (view value.now) ≡ None) }
+{
+    let values = value
+        .get("procs")
+        .ok_or(Misread::Form)?
+        .as_array()
+        .ok_or(Misread::Form)?;
+    all_numbered(alloc, values.as_slice())
 }
 
 fn cost(word: &str) -> Option<CostWord>
@@ -524,11 +558,6 @@ pub(crate) fn certificate(alloc: Global, value: &Value) -> Result<Certificate, M
     ensures err { IfErr result (λ e. e ≡ misread.Form → certificate_of (view value.now) ≡ None) }
 {
     let cost = cost_word(value).ok_or(Misread::Form)?;
-    let values = value
-        .get("procs")
-        .ok_or(Misread::Form)?
-        .as_array()
-        .ok_or(Misread::Form)?;
-    let procs = certs(alloc, values.as_slice())?;
+    let procs = procs_under(alloc, value)?;
     Ok(Certificate { cost, procs })
 }

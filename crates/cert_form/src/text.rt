@@ -1,9 +1,6 @@
 // The text of a certificate, and back.
 
-ghost use Rattle.std.specs.Prelude.{◌≡◌, ◌↔◌, ◌<◌, ◌≤◌, length, true, IfOk, IfErr, Some, Err};
-ghost use Rattle.std.specs.Str.{bytes_eq};
-ghost use Rattle.serde_json.specs.Data.{depth};
-ghost use Rattle.serde_json.specs.Read.{max_depth};
+ghost use Rattle.std.specs.Prelude.{◌≡◌, ◌<◌, length, IfOk, IfErr, Some};
 ghost use Rattle.serde_json.specs.View.{view};
 ghost use Rattle.cert_form.specs.Form.{certificate_data, certificate_text};
 ghost use Rattle.cert_form.specs.Reading.{certificate_of};
@@ -13,8 +10,8 @@ ghost use Rattle.cert_form.specs.declared.reading.Misread.TheVariants as misread
 ghost use Rattle.cert_form.specs.declared.text.CertFault.TheVariants as fault;
 
 use crate::certificate::Certificate;
+use crate::line::{Unread, is_of, line, read_value};
 use crate::reading::{Misread, certificate};
-use crate::writing::certificate_value;
 use pra_base::OutOfMemory;
 use serde_json::Value;
 use std::alloc::{AllocError, Global};
@@ -56,28 +53,8 @@ pub fn cert_text(alloc: Global, c: &Certificate) -> Result<Vec<u8>, OutOfMemory>
     ensures again { IfOk result (λ t. 0 < length c.now.procs → AreNumbered 0 c.now.procs
         → IsReadAgain c.now t.items) }
 {
-    let value = certificate_value(alloc, c)?;
-    let mut text = value.to_vec(alloc)?;
-    text.push(b'\n')?;
+    let text = line(alloc, c)?;
     Ok(text)
-}
-
-// The value that some bytes are read as.
-fn read_value(alloc: Global, bytes: &[u8]) -> Result<Value, CertFault>
-    ensures ok { IfOk result (λ v. IsReadAs bytes.now (view v)) }
-    ensures nests { IfOk result (λ v. depth (view v) ≤ max_depth) }
-    ensures err { IfErr result (λ e. Reads bytes.now (Err e)) }
-{
-    match Value::from_slice(alloc, bytes) {
-        Ok(value) => Ok(value),
-        Err(e) => {
-            if e.is_memory() {
-                Err(CertFault::OutOfMemory)
-            } else {
-                Err(CertFault::NotJson)
-            }
-        }
-    }
 }
 
 // The only certificate that a value can be of.
@@ -96,24 +73,6 @@ fn find(alloc: Global, value: &Value) -> Result<Certificate, Misread>
     Ok(found)
 }
 
-fn are_same(a: &[u8], b: &[u8]) -> bool
-    ensures { result ≡ bytes_eq a.now b.now }
-{
-    a == b
-}
-
-// Whether a value is that of a certificate: whether the two are written alike.
-fn is_of(alloc: Global, value: Value, c: &Certificate) -> Result<bool, AllocError>
-    requires { depth (view value) ≤ max_depth }
-    ensures { IfOk result (λ same. (same ≡ true) ↔ (view value ≡ certificate_data c.now)) }
-{
-    let text = value.to_vec(alloc)?;
-    drop(value);
-    let other = certificate_value(alloc, c)?;
-    let again = other.to_vec(alloc)?;
-    Ok(are_same(text.as_slice(), again.as_slice()))
-}
-
 /// The certificate that some bytes are the text of; blanks and the order of keys are free.
 ///
 /// # Errors
@@ -126,7 +85,8 @@ pub fn cert_read(alloc: Global, bytes: &[u8]) -> Result<Certificate, CertFault>
 {
     let value = match read_value(alloc, bytes) {
         Ok(value) => value,
-        Err(fault) => return Err(fault),
+        Err(Unread::NotJson) => return Err(CertFault::NotJson),
+        Err(Unread::OutOfMemory) => return Err(CertFault::OutOfMemory),
     };
     let found = match find(alloc, &value) {
         Ok(found) => found,

@@ -11,13 +11,13 @@ ghost use Rattle.cert_form.specs.Form.{block_data, place_data, path_data, cap_da
 ghost use Rattle.cert_form.specs.Form.{cert_data, cost_name, certificate_data, list};
 ghost use Rattle.cert_form.specs.Whole.{IsNatural, IsLong, KindFits, AddressFits, OperandFits};
 ghost use Rattle.cert_form.specs.Whole.{InstructionFits, EndFits};
-ghost use Rattle.cert_form.specs.Whole.{BlockFits, CapFits, TieFits, CertFits};
-ghost use Rattle.cert_form.specs.Building.{with_numbers, with_lists, with_prices, with_all};
-ghost use Rattle.cert_form.specs.Building.{NumbersFit, ListsFit, PricesFit};
+ghost use Rattle.cert_form.specs.Whole.{BlockFits, CapFits, TieFits, CodeFits, CertFits};
+ghost use Rattle.cert_form.specs.Building.{with_code, with_claims, with_prices, with_file};
+ghost use Rattle.cert_form.specs.Building.{ClaimsFit, PricesFit};
 
 use crate::certificate::{CapAt, Cert, Certificate, CostWord, TieAt};
 use crate::table::{Operand, name, row};
-use pra_base::{Addr, Base, Block, Cond, End, Place, VInstr, VarId, VarKind};
+use pra_base::{Addr, Base, Block, Cond, End, Place, VInstr, VProc, VarId, VarKind};
 use pra_packed::Packed;
 use serde_json::{Map, Value, json, put};
 use std::alloc::{AllocError, Global};
@@ -241,16 +241,18 @@ fn long_value(n: u64) -> Value
     Value::from(n)
 }
 
-// Adds the members of a procedure that are numbers to an object.
-fn put_numbers(map: &mut Map<String, Value>, alloc: Global, c: &Cert) -> Result<(), AllocError>
+// Adds the members of code to an object.
+fn put_code(map: &mut Map<String, Value>, alloc: Global, code: &VProc) -> Result<(), AllocError>
     ensures is { OnOk result (members_view map.new.entries
-        ≡ with_numbers c.now (members_view map.old.entries)) }
-    ensures range { OnOk result (NumbersFit c.now) }
+        ≡ with_code code.now (members_view map.old.entries)) }
+    ensures range { OnOk result (CodeFits code.now) }
 {
-    put(map, alloc, "aggregates", natural_value(c.code.aggregates))?;
-    put(map, alloc, "args", natural_value(c.code.args))?;
-    put(map, alloc, "bound", long_value(c.bound))?;
-    put(map, alloc, "total", long_value(c.total))?;
+    put(map, alloc, "aggregates", natural_value(code.aggregates))?;
+    put(map, alloc, "args", natural_value(code.args))?;
+    let blocks = list_value(alloc, code.blocks.as_slice())?;
+    put(map, alloc, "blocks", blocks)?;
+    let vars = list_value(alloc, code.vars.as_slice())?;
+    put(map, alloc, "vars", vars)?;
     Ok(())
 }
 
@@ -265,22 +267,20 @@ fn paths_value(alloc: Global, paths: &Packed<Place>) -> Result<Value, AllocError
     Ok(Value::from(values))
 }
 
-// Adds those of its code and routes.
-fn put_lists(map: &mut Map<String, Value>, alloc: Global, c: &Cert) -> Result<(), AllocError>
+// Adds what is claimed of a procedure: its routes, and what they and all others cost.
+fn put_claims(map: &mut Map<String, Value>, alloc: Global, c: &Cert) -> Result<(), AllocError>
     ensures is { OnOk result (members_view map.new.entries
-        ≡ with_lists c.now (members_view map.old.entries)) }
-    ensures range { OnOk result (ListsFit c.now) }
+        ≡ with_claims c.now (members_view map.old.entries)) }
+    ensures range { OnOk result (ClaimsFit c.now) }
 {
-    let blocks = list_value(alloc, c.code.blocks.as_slice())?;
-    put(map, alloc, "blocks", blocks)?;
+    put(map, alloc, "bound", long_value(c.bound))?;
     let routes = paths_value(alloc, &c.routes.places)?;
     put(map, alloc, "routes", routes)?;
-    let vars = list_value(alloc, c.code.vars.as_slice())?;
-    put(map, alloc, "vars", vars)?;
+    put(map, alloc, "total", long_value(c.total))?;
     Ok(())
 }
 
-// Adds those of its prices.
+// Adds its prices.
 fn put_prices(map: &mut Map<String, Value>, alloc: Global, c: &Cert) -> Result<(), AllocError>
     ensures is { OnOk result (members_view map.new.entries
         ≡ with_prices c.now (members_view map.old.entries)) }
@@ -297,12 +297,12 @@ fn put_prices(map: &mut Map<String, Value>, alloc: Global, c: &Cert) -> Result<(
 
 fn cert_value(alloc: Global, c: &Cert) -> Result<Value, AllocError>
     ensures is { IfOk result (λ v. view v
-        ≡ object (with_prices c.now (with_lists c.now (with_numbers c.now no_members)))) }
+        ≡ object (with_prices c.now (with_claims c.now (with_code c.now.code no_members)))) }
     ensures range { OnOk result (CertFits c.now) }
 {
     let mut map = Map::new(alloc);
-    put_numbers(&mut map, alloc, c)?;
-    put_lists(&mut map, alloc, c)?;
+    put_code(&mut map, alloc, &c.code)?;
+    put_claims(&mut map, alloc, c)?;
     put_prices(&mut map, alloc, c)?;
     Ok(Value::Object(map))
 }
@@ -326,43 +326,34 @@ fn cost_name(cost: CostWord) -> &'static str
     }
 }
 
-// Adds the members of a certificate to an object.
-fn put_all(map: &mut Map<String, Value>, alloc: Global, c: &Certificate) -> Result<(), AllocError>
+// Adds the last members of a whole to an object: its kind, its procedures and the version.
+fn put_file<T: Written>(
+    map: &mut Map<String, Value>,
+    alloc: Global,
+    kind: &str,
+    procs: &[T],
+) -> Result<(), AllocError>
     ensures is { OnOk result (members_view map.new.entries
-        ≡ with_all c.now (members_view map.old.entries)) }
-    ensures range { OnOk result (Each CertFits c.now.procs) }
+        ≡ with_file kind.now T.form procs.now (members_view map.old.entries)) }
+    ensures range { OnOk result (Each T.fits procs.now) }
 {
-    put(
-        map,
-        alloc,
-        "cost",
-        Value::try_from_str(alloc, cost_name(c.cost))?,
-    )?;
-    put(
-        map,
-        alloc,
-        "kind",
-        Value::try_from_str(alloc, "pra-certificate")?,
-    )?;
-    let procs = list_value(alloc, c.procs.as_slice())?;
+    put(map, alloc, "kind", Value::try_from_str(alloc, kind)?)?;
+    let procs = list_value(alloc, procs)?;
     put(map, alloc, "procs", procs)?;
     put(map, alloc, "version", Value::from(1u32))?;
     Ok(())
 }
 
-fn members_value(alloc: Global, c: &Certificate) -> Result<Value, AllocError>
-    ensures is { IfOk result (λ v. view v ≡ object (with_all c.now no_members)) }
-    ensures range { OnOk result (Each CertFits c.now.procs) }
-{
-    let mut map = Map::new(alloc);
-    put_all(&mut map, alloc, c)?;
-    Ok(Value::Object(map))
-}
+impl Written for Certificate {
+    ghost form = { certificate_data };
 
-/// The value of a certificate.
-pub(crate) fn certificate_value(alloc: Global, c: &Certificate) -> Result<Value, AllocError>
-    ensures is { IfOk result (λ v. view v ≡ certificate_data c.now) }
-    ensures range { OnOk result (Each CertFits c.now.procs) }
-{
-    members_value(alloc, c)
+    ghost fits = { λ c. Each CertFits c.procs };
+
+    fn value(&self, alloc: Global) -> Result<Value, AllocError> {
+        let mut map = Map::new(alloc);
+        let cost = Value::try_from_str(alloc, cost_name(self.cost))?;
+        put(&mut map, alloc, "cost", cost)?;
+        put_file(&mut map, alloc, "pra-certificate", self.procs.as_slice())?;
+        Ok(Value::Object(map))
+    }
 }
