@@ -1,9 +1,13 @@
 pub mod Answered
 pub mod CertsFit
 pub mod CertsRead
+pub mod CodesAnswered
+pub mod CodesFit
+pub mod CodesRead
 pub mod Forms
 pub mod LineFeed
 pub mod Lists
+pub mod NamesAreText
 pub mod PartsFit
 pub mod PartsRead
 pub mod Plain

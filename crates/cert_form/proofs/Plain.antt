@@ -1,8 +1,8 @@
--- The value of a certificate has no float, and nests at most eight deep.
+-- The values of a certificate and of a code file have no float, and nest at most eight deep.
 use Rattle.std.proofs.Common.{◌≡◌, ℕ, suc, ◌≤◌, ◌||◌, Bool, true, false, List, [], ◌∷◌, map}
 use Rattle.std.proofs.Common.{Option, Some, None, refl, arith, codes}
-use Rattle.std.specs.Prelude.{ℤ, pos, negsuc}
-use Rattle.serde_json.specs.Data.{Data, string, object, Items, no_items, item}
+use Rattle.std.specs.Prelude.{ℤ, pos, negsuc, if◌then◌else◌}
+use Rattle.serde_json.specs.Data.{Data, null, string, object, Items, no_items, item}
 use Rattle.serde_json.specs.Data.{Members, no_members, member, items_depth, members_depth}
 use Rattle.serde_json.specs.Read.{max_depth}
 use Rattle.serde_json.specs.View.{items_of}
@@ -26,11 +26,14 @@ use Rattle.cert_form.specs.declared.certificate.CapAt.{CapAt}
 use Rattle.cert_form.specs.declared.certificate.TieAt.{TieAt}
 use Rattle.cert_form.specs.declared.certificate.Cert.{Cert}
 use Rattle.cert_form.specs.declared.certificate.Certificate.{Certificate}
+use Rattle.cert_form.specs.declared.codes.NamedCode.{NamedCode}
+use Rattle.cert_form.specs.declared.codes.CodeFile.{CodeFile}
 use Rattle.cert_form.specs.Table.{name, form_of, operands_of}
 use Rattle.cert_form.specs.Form.{natural, integer, row, list, kind_data, base_name, base_number}
 use Rattle.cert_form.specs.Form.{index_data, address_data, operand_data, instruction_data, end_data}
 use Rattle.cert_form.specs.Form.{block_data, place_data, path_data, cap_data, tie_data, cert_data}
 use Rattle.cert_form.specs.Form.{code_members, file_members, cost_name, certificate_data}
+use Rattle.cert_form.specs.CodeForm.{is_name, name_data, code_data, file_data}
 use Rattle.cert_form.specs.Plain.{IsPlain}
 
 record ArePlain (n : ℕ) (ds : Items) : Type 0 where
@@ -210,6 +213,16 @@ cert_plain c =
     one_member 5 _ _ _ (short_plain tie_data tie_plain c.ties) (
     one_member 5 _ _ _ (natural_plain 5 c.total) p)))))))
 
+name_plain : (name : List ℕ) (b : Bool) → IsPlain 5 (if b then string name else null)
+name_plain name true = string_plain 5 name
+name_plain name false = record { whole = refl; shallow = omega arith }
+
+named_plain : (p : NamedCode) → IsPlain 6 (code_data p)
+named_plain p =
+    of_members 5 _ (
+    code_plain p.code (λ (vars : Members). member (codes "name") (name_data p.name) vars)
+    (λ vars h. one_member 5 _ _ _ (name_plain p.name (is_name p.name)) h))
+
 whole_plain : {A : Type 0} (key kind : List ℕ) (first : Data) (f : A → Data) → IsPlain 7 first →
     ((x : A) → IsPlain 6 (f x)) → (xs : List A) →
     IsPlain max_depth (object (member key first (file_members kind f xs)))
@@ -224,3 +237,8 @@ pub certificate_plain : (c : Certificate) → IsPlain max_depth (certificate_dat
 certificate_plain c =
     whole_plain (codes "cost") (codes "pra-certificate") (string (cost_name c.cost)) cert_data
     (string_plain 7 (cost_name c.cost)) cert_plain c.procs
+
+pub code_file_plain : (f : CodeFile) → IsPlain max_depth (file_data f)
+code_file_plain f =
+    whole_plain (codes "data_words") (codes "pra-code") (natural f.data_words) code_data
+    (natural_plain 7 f.data_words) named_plain f.procs

@@ -4,3 +4,6 @@ pub mod Reading
 pub mod Whole
 pub mod Building
 pub mod Plain
+pub mod CodeForm
+pub mod CodeReading
+pub mod CodeWhole

@@ -335,7 +335,7 @@ each_numbered f n (item d ds) = do
   xs ← each_numbered f (suc n) ds
   Some (x ∷ xs)
 
--- The procedures of a certificate.
+-- The procedures of a certificate or of a code file.
 abbrev pub procs_of : {A : Type 0} → (ℕ → Data → Option A) → Data → Option (List A)
 procs_of f d = get (codes "procs") d >>= as_array >>= each_numbered f 0
 

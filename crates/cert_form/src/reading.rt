@@ -1,4 +1,4 @@
-// Finds the one certificate that a JSON value can be of.
+// Finds the one certificate that a JSON value can be of, and the parts that code files share.
 
 ghost use Rattle.std.specs.Prelude.{◌≡◌, Some, None, IfOk, IfErr, option_map};
 ghost use Rattle.serde_json.specs.View.{view, items_view};
@@ -68,7 +68,7 @@ pub(crate) trait Readable: Drop {
 }
 
 /// A procedure that is read of its number and of a JSON value.
-trait Numbered: Drop {
+pub(crate) trait Numbered: Drop {
     ghost use Rattle.serde_json.specs.Data.{Data};
     ghost use Rattle.std.specs.Prelude.{ℕ, Option};
 
@@ -416,7 +416,7 @@ fn tie(list: &Value) -> Option<TieAt>
 }
 
 // The number of a key.
-fn natural_under(value: &Value, key: &str) -> Result<u32, Misread>
+pub(crate) fn natural_under(value: &Value, key: &str) -> Result<u32, Misread>
     ensures ok { IfOk result (λ n. natural_under key.now (view value.now) ≡ Some n) }
     ensures err { IfErr result (λ e. e ≡ misread.Form
         → natural_under key.now (view value.now) ≡ None) }
@@ -445,7 +445,7 @@ fn list_under<T: Readable>(alloc: Global, value: &Value, key: &str) -> Result<Se
 }
 
 /// The code of the procedure of a number.
-fn code(alloc: Global, number: u32, value: &Value) -> Result<VProc, Misread>
+pub(crate) fn code(alloc: Global, number: u32, value: &Value) -> Result<VProc, Misread>
     ensures ok { IfOk result (λ c. code_of number (view value.now) ≡ Some c) }
     ensures err { IfErr result (λ e. e ≡ misread.Form → code_of number (view value.now) ≡ None) }
 {
@@ -520,8 +520,8 @@ fn all_numbered<T: Numbered>(alloc: Global, values: &[Value]) -> Result<Seq<T>, 
     Ok(Seq::from_vec(procs))
 }
 
-/// The procedures of a certificate.
-fn procs_under<T: Numbered>(alloc: Global, value: &Value) -> Result<Seq<T>, Misread>
+/// The procedures of a certificate or of a code file.
+pub(crate) fn procs_under<T: Numbered>(alloc: Global, value: &Value) -> Result<Seq<T>, Misread>
     ensures ok { IfOk result (λ xs. procs_of T.of (view value.now) ≡ Some xs) }
     ensures err { IfErr result (λ e. e ≡ misread.Form → procs_of T.of (view value.now) ≡ None) }
 {

@@ -241,8 +241,12 @@ fn long_value(n: u64) -> Value
     Value::from(n)
 }
 
-// Adds the members of code to an object.
-fn put_code(map: &mut Map<String, Value>, alloc: Global, code: &VProc) -> Result<(), AllocError>
+/// Adds the members of code to an object.
+pub(crate) fn put_code(
+    map: &mut Map<String, Value>,
+    alloc: Global,
+    code: &VProc,
+) -> Result<(), AllocError>
     ensures is { OnOk result (members_view map.new.entries
         ≡ with_code code.now (members_view map.old.entries)) }
     ensures range { OnOk result (CodeFits code.now) }
@@ -326,8 +330,8 @@ fn cost_name(cost: CostWord) -> &'static str
     }
 }
 
-// Adds the last members of a whole to an object: its kind, its procedures and the version.
-fn put_file<T: Written>(
+/// Adds the last members of a whole to an object: its kind, its procedures and the version.
+pub(crate) fn put_file<T: Written>(
     map: &mut Map<String, Value>,
     alloc: Global,
     kind: &str,
