@@ -31,7 +31,8 @@ use Rattle.cert_check.specs.Listed.{HasPrices, prices_of}
 use Rattle.pra_base.specs.declared.ids.Place.{Place}
 use Rattle.pra_base.specs.declared.code.VProc.{VProc}
 use Rattle.cert_check.specs.declared.code.Found.TheVariants.{Fails}
-use Rattle.cert_check.specs.Reasons.{HasCode, HasRoutes, HasBound, OnNet, MeetsIn, Meets, MeetsAll}
+use Rattle.vc_valid.specs.Listed.{HasCode}
+use Rattle.cert_check.specs.Reasons.{HasRoutes, HasBound, OnNet, MeetsIn, Meets, MeetsAll}
 use Rattle.cert_check.specs.Reasons.{rank, HoldUpTo, IsFirstIn, IsFirstOf, IsFound}
 use Rattle.cert_check.specs.Reasons.{IsAnswerOf, IsBounded, AreBounded, counts_in, weights_by}
 use Rattle.cert_check.proofs.ListedPrices.{in_range}

@@ -2,7 +2,6 @@
 use Rattle.std.specs.Prelude.{◌≡◌, ◌⊎◌, ℕ, ◌*◌, ◌<◌, ◌≤◌, ℤ, pos, ◌-ℤ◌, ◌≤ℤ◌, List, map, Some}
 use Rattle.std.specs.Prelude.{slice_get, Option, None, ⊤}
 use Rattle.pra_base.specs.declared.code.VProc.{VProc}
-use Rattle.pra_base.specs.Valid.{IsValid, IsSized, PushesBeforeCalls, TakesArgs}
 use Rattle.net_cost.specs.declared.weights.Weights.{Weights}
 use Rattle.net_cost.specs.Weights.{size_weights, speed_weights}
 use Rattle.net_form.specs.declared.net.Net.{Net}
@@ -16,6 +15,7 @@ use Rattle.cert_form.specs.declared.certificate.Cert.{Cert}
 use Rattle.cert_form.specs.declared.certificate.Certificate.{Certificate}
 use Rattle.cert_form.specs.declared.certificate.CostWord.{CostWord}
 use Rattle.cert_form.specs.declared.certificate.CostWord.TheVariants.{Size, Speed}
+use Rattle.vc_valid.specs.Listed.{HasCode}
 use Rattle.cert_check.specs.declared.check.CertAnswer.{CertAnswer}
 use Rattle.cert_check.specs.declared.check.CertAnswer.TheVariants.{Yes, No}
 use Rattle.cert_check.specs.declared.check.Reason.{Reason}
@@ -34,14 +34,6 @@ abbrev pub counts_in : List Cert → List ℕ
 counts_in procs = map (λ (cert : Cert). cert.code.args) procs
 
 -- ---- what is claimed of one procedure
-
--- Its id is its number; it is valid and sized; and it calls procedures of the list alone, each
--- behind one Push for each argument.
-pub record HasCode (counts : List ℕ) (p : ℕ) (code : VProc) : Type 0 where
-  pub id : code.id.0 ≡ p
-  pub sized : IsSized code
-  pub valid : IsValid code
-  pub calls : PushesBeforeCalls (TakesArgs counts) code.blocks
 
 -- one place for each strand and layer, and admitted
 pub record HasRoutes (net : Net) (routes : Routes) : Type 0 where

@@ -11,8 +11,7 @@ use net_form::Net;
 use pra_base::OutOfMemory;
 use pra_list::Seq;
 use std::alloc::Global;
-use vc_live::{is_sized, live};
-use vc_valid::{is_counted, is_valid};
+use vc_valid::liveness_of_valid;
 
 /// How many arguments each procedure takes.
 pub(crate) fn counts_of(alloc: Global, procs: &[Cert]) -> Result<Seq<u32>, OutOfMemory>
@@ -46,19 +45,9 @@ pub(crate) fn network_of(
     ensures { IfOk result (IsFound counts.now number cert.now) }
 {
     let code = &cert.code;
-    if code.id.0 != number {
+    let Some(live) = liveness_of_valid(alloc, counts, number, code)? else {
         return Ok(Found::Fails(Reason::Code));
-    }
-    if !is_sized(code) {
-        return Ok(Found::Fails(Reason::Code));
-    }
-    let live = live(alloc, code)?;
-    if !is_valid(code, &live) {
-        return Ok(Found::Fails(Reason::Code));
-    }
-    if !is_counted(code, counts) {
-        return Ok(Found::Fails(Reason::Code));
-    }
+    };
     if !has_places(code, &live, &cert.routes.places) {
         return Ok(Found::Fails(Reason::Routes));
     }

@@ -5,7 +5,8 @@ use Rattle.net_cost.specs.declared.weights.Weights.{Weights}
 use Rattle.net_form.specs.Network.{IsNet}
 use Rattle.net_laws.proofs.Built.{built}
 use Rattle.cert_check.specs.declared.code.Found.TheVariants.{Fails}
-use Rattle.cert_check.specs.Reasons.{HasCode, IsFound, IsFirstIn, IsFirstOf}
+use Rattle.vc_valid.specs.Listed.{HasCode}
+use Rattle.cert_check.specs.Reasons.{IsFound, IsFirstIn, IsFirstOf}
 use Rattle.cert_check.proofs.Claims.{fails_found, first_of, if_ok}
 use Rattle.cert_check.proofs.check.first_of.Goals as goal
 
