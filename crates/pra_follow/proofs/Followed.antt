@@ -1,43 +1,28 @@
 -- The layers of a module whose procedures were translated, composed: from what is meant to selected
--- code, to the code in its place, to placed code, to the image.
-use Rattle.std.proofs.Common.{◌≡◌, ◌≢◌, ℕ, ℤ, true, List, [], ◌∷◌, length, map, Some, sym, ap}
+-- code, and to the code in its place, which the image follows.
+use Rattle.std.proofs.Common.{◌≡◌, ℕ, ℤ, true, List, length, map, Some, sym, ap}
 use Rattle.std.proofs.Common.{subst, ◌∙◌}
 use Rattle.std.specs.Prelude.{slice_get, option_map}
 use Rattle.std.proofs.lemmas.List.{length-map}
 use Rattle.std.proofs.lemmas.Option.{slice_get-map}
 use Rattle.std.proofs.lemmas.Simd.{map-map}
-use Rattle.pra_list.proofs.Choices.{and_true}
 use Rattle.pra_list.proofs.Options.{some_same}
 use Rattle.pra_base.specs.Agreement.{Carried}
-use Rattle.pra_base.specs.RunEnd.{Wrong}
-use Rattle.pra_base.specs.Words.{fits_word}
 use Rattle.pra_base.specs.declared.code.VModule.{VModule}
 use Rattle.pra_base.specs.declared.code.VProc.{VProc}
-use Rattle.pra_base.specs.Valid.{AreValid, IsValid, IsSized, PushesBeforeCalls, TakesArgs}
-use Rattle.pra_base.specs.Valid.{counts_of}
+use Rattle.pra_base.specs.Valid.{AreValid, IsValid, PushesBeforeCalls, TakesArgs, counts_of}
 use Rattle.pra_base.proofs.Carried.{carried_on, agree}
 use Rattle.ob_syntax.specs.declared.checked.Checked.{Checked}
 use Rattle.ob_syntax.specs.declared.checked.CheckedProc.{CheckedProc}
 use Rattle.ob_mean.specs.Program.{mean}
 use Rattle.ob_mean.proofs.Budgets.{mean_keeps}
 use Rattle.ia_asm.specs.Assembly.{IsImageOf}
-use Rattle.ia_carries.specs.Faithful.{AreSmall, AreBehind, IsFaithful}
-use Rattle.ia_carries.proofs.Few.{is_small}
 use Rattle.ia_code.specs.declared.image.Image.{Image}
-use Rattle.ia_emit.specs.Operands.{IsSmall}
-use Rattle.ia_simulation.specs.Realizes.{AreWords}
+use Rattle.ia_emit.specs.Carries.{Carries}
 use Rattle.ia_step.specs.Run.{progress}
-use Rattle.ia_step.proofs.Conditions.{fits_is}
 use Rattle.ia_step.proofs.Runs.{progress_keeps}
-use Rattle.pl_build.specs.Placement.{IsPlacement, ArePlacements}
-use Rattle.pl_build.proofs.Followed.{all_routed}
-use Rattle.pl_made.proofs.Parts.{behind_of}
 use Rattle.pl_place.specs.declared.placed.LProc.{LProc}
-use Rattle.pl_place.specs.Behind.{Routed, IsBehind}
-use Rattle.pl_place.specs.Machine.{lrun}
 use Rattle.pl_place.specs.Placed.{frame_size}
-use Rattle.pl_routed.specs.Routed.{AreRouted}
-use Rattle.pl_routed.proofs.Followed.{carries, never_stuck}
 use Rattle.vc_code.specs.Selected.{vrun, RunsWell}
 use Rattle.vc_module.proofs.Followed.{module_carried, module_well}
 use Rattle.vc_module.proofs.Together.{all_replaced}
@@ -46,17 +31,13 @@ use Rattle.vc_same.specs.SameRuns.{SameRuns}
 use Rattle.vc_stmt.specs.Completes.{are_words}
 use Rattle.vc_stmt.specs.Procedures.{Embodies, AreEmbodied}
 use Rattle.vc_typed.specs.TypedModules.{IsSelectable}
+use Rattle.pra_follow.specs.Codes.{Carriage, IsCarriage, AreCarriages, FollowsUntilStuck}
+use Rattle.pra_follow.specs.Codes.{FollowsCodes, behind}
 use Rattle.pra_follow.specs.Follows.{DoesAsMeant, FollowsModule}
-use Rattle.pra_follow.specs.Translation.{Translation, AreTranslations, behind}
-use Rattle.ia_carries.proofs.Assembled.{faithful}
+use Rattle.pra_follow.specs.Translation.{Translation, AreTranslations}
+use Rattle.pra_follow.proofs.Carriages.{carriage_of, carriage_is}
+use Rattle.pra_follow.proofs.Codes.{follows_codes}
 use Rattle.pra_follow.proofs.Sides.{mapped, both_mapped, same_maps}
-
--- ---- words
-
-pub words_fit : (input : List ℤ) → are_words input ≡ true → AreWords input
-words_fit [] e = tt
-words_fit (n ∷ ns) e = let both = and_true (fits_word n) (are_words ns) e in
-    (fits_is n both.0, words_fit ns both.1)
 
 -- ---- the lists of a translated module
 
@@ -70,18 +51,12 @@ abbrev pub placed : List Translation → List LProc
 placed ts = map (λ (t : Translation). t.placed) ts
 
 module _ (program : Checked) (ts : List Translation) (are : AreTranslations program ts) where
-  pub placed_behind : (k : ℕ) (r : Routed) (p : LProc) → slice_get (map behind ts) k ≡ Some r →
-      slice_get (placed ts) k ≡ Some p → IsBehind r p
-  placed_behind k r p e f =
-      let x = both_mapped behind (λ (t : Translation). t.placed) ts k r p e f in
-      let is = behind_of (behind x.from) x.from.placed (are.each k x.from x.there).placed in
-      subst (λ q. IsBehind r q) x.other (subst (λ s. IsBehind s x.from.placed) x.one is)
+  abbrev carriages : List Carriage
+  carriages = map carriage_of ts
 
-  pub all_behind : AreBehind (map behind ts) (placed ts)
-  all_behind = record {
-    count = length-map ts behind ∙ sym (length-map ts (λ (t : Translation). t.placed));
-    each = placed_behind;
-  }
+  are_carriages : AreCarriages carriages
+  are_carriages k c e = let x = mapped carriage_of ts k c e in
+      subst IsCarriage x.is (carriage_is program k x.from (are.each k x.from x.there))
 
   module _ (selectable : IsSelectable program) (all : length ts ≡ length program.procs) where
     embodied : AreEmbodied program (mades ts)
@@ -123,48 +98,22 @@ module _ (program : Checked) (ts : List Translation) (are : AreTranslations prog
       body = subst (λ counts. TakesArgs counts 0 0) same_counts body_takes;
     }
 
-    placements : ArePlacements (codes ts) (placed ts)
-    placements = record {
-      valid = are_valid;
-      count = length-map ts (λ (t : Translation). t.placed)
-          ∙ sym (length-map ts (λ (t : Translation). t.code));
-      sized = λ p code e.
-          let x = mapped (λ (t : Translation). t.code) ts p code e in
-          subst IsSized x.is (are.each p x.from x.there).code.sized;
-      each = λ p code l e f.
-          let x = both_mapped (λ (t : Translation). t.code) (λ (t : Translation). t.placed) ts p
-          code l e f in
-          let is = are.each p x.from x.there in
-          let here : IsPlacement x.from.code x.from.placed = record {
-            net = x.from.net;
-            routes = x.from.routes;
-            is_net = is.routes.is_net;
-            are_routes = is.routes.are_routes;
-            admitted = is.routes.admitted;
-            made = is.placed;
-          } in
-          subst (λ q. IsPlacement code q) x.other
-          (subst (λ c. IsPlacement c x.from.placed) x.one here);
-    }
+    abbrev with_procs : List VProc → VModule
+    with_procs procs = record { procs = procs; data_words = program.data_words }
 
-    routed : AreRouted (codes ts) (placed ts)
-    routed = all_routed (codes ts) (placed ts) placements
-
-    small : AreSmall (placed ts)
-    small k p e =
-        let x = mapped (λ (t : Translation). t.placed) ts k p e in
-        let is = are.each k x.from x.there in
-        subst IsSmall x.is (is_small (behind x.from) x.from.placed
-        (behind_of (behind x.from) x.from.placed is.placed) is.code.sized)
+    codes_followed : (image : Image) → IsImageOf (placed ts) program.data_words image →
+        FollowsCodes (with_procs (codes ts)) carriages image
+    codes_followed image is =
+        follows_codes (with_procs (codes ts)) carriages are_valid
+        (map-map (λ (c : Carriage). c.code) carriage_of ts) are_carriages image
+        (subst (λ l. IsImageOf l program.data_words image)
+        (sym (map-map (λ (c : Carriage). c.placed) carriage_of ts)) is)
 
     -- ---- what is done
 
     module _ (input : List ℤ) (words : are_words input ≡ true) where
       abbrev frames : List ℕ
-      frames = map frame_size (placed ts)
-
-      abbrev with_procs : List VProc → VModule
-      with_procs procs = record { procs = procs; data_words = program.data_words }
+      frames = map (λ (t : Translation). frame_size t.placed) ts
 
       meant_to_made : Carried (mean program frames input)
           (vrun (with_procs (mades ts)) frames input)
@@ -194,28 +143,16 @@ module _ (program : Checked) (ts : List Translation) (are : AreTranslations prog
       code_well = (all_replaced (with_procs (mades ts)) (codes ts) frames input same_many same_runs
           made_well).1
 
-      code_to_placed : Carried (vrun (with_procs (codes ts)) frames input)
-          (lrun (placed ts) program.data_words input)
-      code_to_placed = carries (with_procs (codes ts)) (placed ts) input routed code_well
-
-      placed_well : (k : ℕ) → (lrun (placed ts) program.data_words input k).ending ≢ Some Wrong
-      placed_well = never_stuck (with_procs (codes ts)) (placed ts) input routed code_well
-
-      meant_to_placed : Carried (mean program frames input)
-          (lrun (placed ts) program.data_words input)
-      meant_to_placed = carried_on _ _ _ meant_to_made
-          (carried_on _ _ _ made_to_code code_to_placed)
-
-      does : (image : Image) → IsFaithful (placed ts) program.data_words image →
+      does : (image : Image) → FollowsUntilStuck (with_procs (codes ts)) frames image input →
           DoesAsMeant program frames image input
-      does image is =
-          let follows = is.follows input (words_fit input words) placed_well in
-          let carried = carried_on _ _ _ meant_to_placed follows.carried in
+      does image follows =
+          let carried = carried_on _ _ _ meant_to_made
+          (carried_on _ _ _ made_to_code (follows.carried code_well)) in
           record {
             carried = carried;
             agrees = agree (mean program frames input) (progress image input) carried
                 (mean_keeps program frames input) (progress_keeps image input);
-            never_wrong = follows.never_wrong;
+            never_wrong = follows.never_wrong code_well;
           }
 
     -- ---- the image
@@ -223,12 +160,14 @@ module _ (program : Checked) (ts : List Translation) (are : AreTranslations prog
     pub follows_module : (image : Image) → IsImageOf (placed ts) program.data_words image →
         FollowsModule program ts image
     follows_module image is =
-        let same = faithful (placed ts) program.data_words image routed.placed small is in
+        let follows = codes_followed image is in
         record {
-          valid = is.valid;
-          data_words = is.words_are;
-          does = λ input words. subst (λ frames. DoesAsMeant program frames image input)
-              (map-map frame_size (λ (t : Translation). t.placed) ts) (does input words image same);
+          valid = follows.valid;
+          data_words = follows.data_words;
+          does = λ input words. does input words image
+              (subst (λ frames. FollowsUntilStuck (with_procs (codes ts)) frames image input)
+              (map-map (λ (c : Carriage). frame_size c.placed) carriage_of ts)
+              (follows.does input words));
           codes = are_valid;
-          carries = same.carries (map behind ts) all_behind;
+          carries = subst (Carries image) (map-map behind carriage_of ts) follows.carries;
         }

@@ -1,3 +1,5 @@
+pub mod Carriages
+pub mod Codes
 pub mod Followed
 pub mod Little
 pub mod Room

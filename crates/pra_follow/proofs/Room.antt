@@ -10,14 +10,13 @@ use Rattle.ob_syntax.specs.declared.checked.Checked.{Checked}
 use Rattle.ob_syntax.specs.declared.checked.CheckedProc.{CheckedProc}
 use Rattle.ia_asm.specs.declared.assembly.Assembly.{Assembly}
 use Rattle.ia_asm.specs.Assembly.{IsAssembly}
-use Rattle.ia_carries.proofs.Few.{is_small, same_instructions}
+use Rattle.ia_carries.proofs.Few.{same_instructions}
 use Rattle.ia_code.specs.Image.{max_code_bytes}
 use Rattle.ia_emit.specs.Code.{size}
 use Rattle.ia_emit.specs.Counts.{instruction_count, AreFew}
 use Rattle.ia_emit.specs.Emission.{emit_proc}
 use Rattle.ia_emit.specs.Operands.{IsSmall}
 use Rattle.pl_made.proofs.Parts.{behind_of}
-use Rattle.pl_made.proofs.Whole.{is_placed}
 use Rattle.pl_place.specs.declared.placed.LProc.{LProc}
 use Rattle.pl_place.specs.Valid.{IsPlaced}
 use Rattle.vc_typed.specs.TypedModules.{scalar_locals, IsLimited}
@@ -25,6 +24,7 @@ use Rattle.vc_typed.proofs.Lists.{got}
 use Rattle.vc_short.specs.Short.{IsShort}
 use Rattle.pra_follow.specs.Translation.{Translation, IsTranslation, AreTranslations, behind}
 use Rattle.ia_carries.proofs.Assembled.{room_for_one}
+use Rattle.pra_follow.proofs.Carriages.{carriage_of, carriage_is, carriage_placed, carriage_small}
 use Rattle.pra_follow.proofs.Little.{few_instructions, few_blocks}
 use Rattle.pra_follow.proofs.Sides.{mapped}
 use Rattle.pra_follow.proofs.Sums.{sum_of_front}
@@ -33,13 +33,11 @@ use Rattle.pra_follow.proofs.Sums.{sum_of_front}
 
 pub placed_is : (program : Checked) (p : ℕ) (t : Translation) → IsTranslation program p t →
     IsPlaced t.placed
-placed_is program p t is = is_placed t.code t.net t.routes is.routes.is_net is.routes.are_routes
-    is.routes.admitted is.code.valid is.code.sized t.placed is.placed
+placed_is program p t is = carriage_placed (carriage_of t) (carriage_is program p t is)
 
 pub small_is : (program : Checked) (p : ℕ) (t : Translation) → IsTranslation program p t →
     IsSmall t.placed
-small_is program p t is = is_small (behind t) t.placed (behind_of (behind t) t.placed is.placed)
-    is.code.sized
+small_is program p t is = carriage_small (carriage_of t) (carriage_is program p t is)
 
 -- ---- one more
 

@@ -7,9 +7,6 @@ use Rattle.ob_syntax.specs.declared.checked.Checked.{Checked}
 use Rattle.ob_syntax.specs.declared.checked.CheckedProc.{CheckedProc}
 use Rattle.net_form.specs.declared.net.Net.{Net}
 use Rattle.net_form.specs.declared.routes.Routes.{Routes}
-use Rattle.net_form.specs.Admitted.{IsAdmitted}
-use Rattle.net_form.specs.Flow.{flow, AreRoutes}
-use Rattle.net_form.specs.Network.{IsNet}
 use Rattle.pl_made.specs.Made.{IsMade}
 use Rattle.pl_place.specs.declared.placed.LProc.{LProc}
 use Rattle.pl_place.specs.Behind.{Routed}
@@ -20,6 +17,7 @@ use Rattle.vc_proc.specs.Selected.{KeepsCounts, parameter_counts}
 use Rattle.vc_same.specs.SameRuns.{SameRuns}
 use Rattle.vc_stmt.specs.Procedures.{Embodies}
 use Rattle.vc_tidy.specs.Tidy.{IsTidy}
+pub use Rattle.pra_follow.specs.Codes.{AreAdmittedIn}
 
 -- Tidy code of procedure p, valid alone and in its module, with the counts that selection keeps.
 -- Its blocks stand in the order of the text, each in as many loops as what it is made for.
@@ -34,12 +32,6 @@ pub record IsCodeOf (program : Checked) (p : ℕ) (proc : CheckedProc) (code : V
   pub counts : KeepsCounts proc code
   pub depths : depths code ≡ 0 ∷ depths_of_all proc.body 0
   pub tidy : IsTidy code
-
--- the network of the code, and routes that it admits
-pub record AreAdmittedIn (code : VProc) (net : Net) (routes : Routes) : Type 0 where
-  pub is_net : IsNet net code
-  pub are_routes : AreRoutes net routes
-  pub admitted : IsAdmitted net (flow net routes)
 
 -- Code as selection made it, the code that stands in its place, with its network and routes, and
 -- placed code.

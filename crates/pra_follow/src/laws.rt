@@ -1,5 +1,5 @@
-// What holds of a whole module that was translated. Each function is a law: its contract is the
-// statement, and it does nothing.
+// What holds of valid code that was placed, and of a whole module that was translated. Each
+// function is a law: its contract is the statement, and it does nothing.
 
 ghost use Rattle.std.specs.Prelude.{◌≡◌, ℕ, ◌+◌, ◌*◌, ◌≤◌, List, [], ◌∷◌, ◌++◌, length, map};
 ghost use Rattle.std.specs.Prelude.{slice_get, sum_by, Some};
@@ -18,16 +18,36 @@ ghost use Rattle.pl_made.specs.Made.{IsMade};
 ghost use Rattle.pl_place.specs.declared.placed.LProc.{LProc};
 ghost use Rattle.pl_place.specs.Valid.{IsPlaced};
 ghost use Rattle.pl_routed.specs.Routed.{routed};
+ghost use Rattle.pra_base.specs.declared.code.VModule.{VModule};
 ghost use Rattle.pra_base.specs.declared.code.VProc.{VProc};
+ghost use Rattle.pra_base.specs.Valid.{AreValid};
+ghost use Rattle.pra_follow.specs.Codes.{AreAdmittedIn, Carriage, IsCarriage, AreCarriages};
+ghost use Rattle.pra_follow.specs.Codes.{FollowsCodes};
 ghost use Rattle.pra_follow.specs.Follows.{FollowsModule};
 ghost use Rattle.vc_short.specs.Short.{IsShort};
 ghost use Rattle.pra_follow.specs.Translation.{Translation, IsTranslation, AreTranslations};
-ghost use Rattle.pra_follow.specs.Translation.{AreAdmittedIn};
 ghost use Rattle.vc_proc.specs.Selected.{IsSelected};
 ghost use Rattle.vc_same.specs.SameRuns.{Preserves};
 ghost use Rattle.vc_tidy.specs.KindCounts.{KeepsKinds};
 ghost use Rattle.vc_tidy.specs.Tidy.{IsTidy};
 ghost use Rattle.vc_typed.specs.TypedModules.{scalar_locals, IsLimited, IsSelectable};
+
+/// Where valid code was placed, whatever it does, with any admitted routes, an image that was
+/// assembled of the placed code follows it, on each input of words, until it gets stuck, and
+/// carries the codes and the flows.
+pub fn placed_codes_are_followed()
+    ensures { (module_ : VModule) (cs : List Carriage) (image : Image) →
+        AreValid module_.procs → map (λ (c : Carriage). c.code) cs ≡ module_.procs →
+        AreCarriages cs →
+        IsImageOf (map (λ (c : Carriage). c.placed) cs) module_.data_words image →
+        FollowsCodes module_ cs image }
+{}
+
+/// What was placed of one code more can be assembled: it is valid and small.
+pub fn placed_codes_can_be_assembled()
+    ensures placed { (c : Carriage) → IsCarriage c → IsPlaced c.placed }
+    ensures small { (c : Carriage) → IsCarriage c → IsSmall c.placed }
+{}
 
 /// Where all procedures of a module were translated, with any admitted routes, an image that was
 /// assembled of their placed code follows the module: it does what the module means, on each input

@@ -1,5 +1,10 @@
 //! The layers of a whole module, composed: from what it means to the bytes of an image.
 //!
+//! Of valid code, whoever made it and whatever it does, `specs/Codes` says what carries it into an
+//! image (`Carriage`): any admitted routes of its network, and placed code that was made of them.
+//! An image that was assembled of such placed code follows the codes until they get stuck
+//! (`placed_codes_are_followed`). What a module means comes on top of that.
+//!
 //! What becomes of a procedure is its *translation* (`specs/Translation`): code as selection makes
 //! it, the tidy code that stands in its place, any admitted routes of the network of that, and the
 //! placed code that was made of both. `laws` says that where all procedures were translated, the
