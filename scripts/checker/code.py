@@ -1,7 +1,8 @@
 """The reason `code`: what speaks against a procedure's code, rule by rule, in words.
 
 The rules and their numbers are those of docs/CERTIFICATES.md. Of code that names what is not there,
-or is larger than a procedure may be, the other rules are not asked.
+or is larger than a procedure may be, the other rules are not asked. A network is made of code that
+keeps them all, and of no other.
 """
 
 from checker.parts import DEEPEST, Network, bits, row_of
@@ -197,31 +198,30 @@ class Outline(Network):
             before = present
 
 
-def network_of(procedure):
-    """The network of code that names nothing absent; its outline where it has many strands and
-    routes are another number: so a short text takes no long time."""
-    if len(procedure.blocks) * len(procedure.variables) > MANY:
-        outline = Outline(procedure)
-        if outline.count > MANY and outline.count != len(procedure.routes):
-            return outline
-    return Network(procedure)
-
-
-def reasons(procedure, counts):
-    """What speaks against the code of a procedure, and its network where nothing does, else None.
-    counts has for each procedure of the certificate how many arguments it takes."""
+def reasons_and_outline(procedure, counts):
+    """What speaks against the code of a procedure, and its outline where nothing does, else None.
+    counts has for each procedure beside it, by number, how many arguments it takes."""
     names = Names(procedure)
     found = [*sizes(procedure), *absent(procedure, names)]
     if found:
         return found, None
-    network = network_of(procedure)
+    outline = Outline(procedure)
     found = [
         *ends(procedure, names),
         *operands(procedure, names),
         *parameters(procedure),
         *clears(procedure, names),
         *calls(procedure, counts, names),
-        *divisions(procedure, network, names),
-        *entry(procedure, network, names),
+        *divisions(procedure, outline, names),
+        *entry(procedure, outline, names),
     ]
-    return found, None if found else network
+    return found, None if found else outline
+
+
+def reasons(procedure, counts):
+    """The same with the network of the procedure, or its outline where it has many strands and its
+    routes are another number: so a short text takes no long time."""
+    found, outline = reasons_and_outline(procedure, counts)
+    if outline is None or (outline.count > MANY and outline.count != len(procedure.routes)):
+        return found, outline
+    return found, Network(procedure)
