@@ -1,4 +1,5 @@
-"""The form of a certificate: which JSON values are one, and what stands in place of what was to be.
+"""The form of certificates and code files: which JSON values are one, and what stands in place of
+what was to be.
 
 A complaint is a path of keys and numbers into the value, and words: what was to stand there, and
 what does.
@@ -7,7 +8,7 @@ what does.
 import json
 from dataclasses import dataclass
 
-from checker.parts import PLACES, Certificate, code_of
+from checker.parts import MOST_DATA, MOST_NAME, NAME, PLACES, Certificate, code_of
 
 CONDITIONS = (2, 3, 4, 5, 6, 7, 8, 9, 12, 13, 14, 15)
 NATURAL = 0, (1 << 32) - 1  # the least and the greatest of each type of number
@@ -43,7 +44,7 @@ BASES = ("global", "frame", "cell", "via")
 CODE_KEYS = ("aggregates", "args", "blocks", "vars")
 PROCEDURE_KEYS = (*CODE_KEYS, "bound", "caps", "mems", "routes", "ties", "total")
 KEYS = ("cost", "kind", "procs", "version")
-
+CODE_FILE_KEYS = ("data_words", "kind", "procs", "version")
 
 NOTHING = object()  # in the place of a value, where a complaint is of none
 
@@ -176,15 +177,13 @@ class Reader:
             for step, place in enumerate(self.items((*path, strand), places, "places")):
                 self.number((*path, strand, step), place, PLACE, "a place")
 
-    def procedure(self, path, value):
-        if not self.keys(path, value, PROCEDURE_KEYS):
+    def parts(self, path, value, keys, others):
+        """A procedure with these keys; others has the readers of those that are not its code's."""
+        if not self.keys(path, value, keys):
             return
         readers = {
             **dict.fromkeys(("args", "aggregates"), lambda *it: self.number(*it, NATURAL)),
-            **dict.fromkeys(("total", "bound"), lambda *it: self.number(*it, LONG_NATURAL)),
-            **dict.fromkeys(("caps", "mems"), lambda *it: self.entries(*it, LONG_NATURAL)),
-            "ties": lambda *it: self.entries(*it, LONG_INTEGER),
-            "routes": self.routes,
+            **others,
             "vars": lambda *it: self.list_of(*it, "variables", self.variable),
             "blocks": lambda *it: self.list_of(*it, "blocks", self.block),
         }
@@ -192,28 +191,64 @@ class Reader:
             if key in value:
                 reader((*path, key), value[key])
 
+    def procedure(self, path, value):
+        others = {
+            **dict.fromkeys(("total", "bound"), lambda *it: self.number(*it, LONG_NATURAL)),
+            **dict.fromkeys(("caps", "mems"), lambda *it: self.entries(*it, LONG_NATURAL)),
+            "ties": lambda *it: self.entries(*it, LONG_INTEGER),
+            "routes": self.routes,
+        }
+        self.parts(path, value, PROCEDURE_KEYS, others)
+
+    def named_procedure(self, path, value):
+        self.parts(path, value, (*CODE_KEYS, "name"), {"name": self.name})
+
+    def name(self, path, value):
+        if not isinstance(value, str) or not NAME.fullmatch(value) or len(value) > MOST_NAME:
+            wanted = f"a name is wanted, a letter and then letters and digits, {MOST_NAME} at most"
+            self.complain(path, wanted, value)
+
     def list_of(self, path, value, words, reader):
         for at, item in enumerate(self.items(path, value, words)):
             reader((*path, at), item)
 
-    def certificate(self, value):
-        if not self.keys((), value, KEYS):
-            return
-        for key, wanted in (("cost", ("size", "speed")), ("kind", ("pra-certificate",))):
-            if key in value and not (isinstance(value[key], str) and value[key] in wanted):
-                self.complain((key,), " or ".join(map(shown, wanted)) + " is wanted", value[key])
+    def one_of(self, value, key, wanted):
+        if key in value and not (isinstance(value[key], str) and value[key] in wanted):
+            self.complain((key,), " or ".join(map(shown, wanted)) + " is wanted", value[key])
+
+    def whole(self, value, kind, reader):
+        """What a value of a kind has beside its own keys."""
+        self.one_of(value, "kind", (kind,))
         if "version" in value and (type(value["version"]) is not int or value["version"] != 1):
             self.complain(("version",), "the version 1 is wanted", value["version"])
         if "procs" in value:
             if value["procs"] == []:
                 self.complain(("procs",), "one procedure at least is wanted", [])
-            self.list_of(("procs",), value["procs"], "procedures", self.procedure)
+            self.list_of(("procs",), value["procs"], "procedures", reader)
+
+    def certificate(self, value):
+        if self.keys((), value, KEYS):
+            self.one_of(value, "cost", ("size", "speed"))
+            self.whole(value, "pra-certificate", self.procedure)
+
+    def code_file(self, value):
+        if self.keys((), value, CODE_FILE_KEYS):
+            if "data_words" in value:
+                self.number(("data_words",), value["data_words"], (0, MOST_DATA))
+            self.whole(value, "pra-code", self.named_procedure)
 
 
 def complaints(value):
-    """What is wrong with the form of a value, in the order of its parts."""
+    """What is wrong with the form of a value as a certificate, in the order of its parts."""
     reader = Reader()
     reader.certificate(value)
+    return reader.complaints
+
+
+def complaints_of_code(value):
+    """The same as a code file."""
+    reader = Reader()
+    reader.code_file(value)
     return reader.complaints
 
 

@@ -15,6 +15,7 @@ from pranet.certificate import (
     place_name,
     register_of,
 )
+from pranet.code_file import MOST_DATA, MOST_NAME, NAME
 from pranet.network import Network, bits
 from pranet.operands import DEEPEST, EVENTS, row_of, weight
 
@@ -24,6 +25,9 @@ __all__ = [
     "DEEPEST",
     "EVENTS",
     "MEM",
+    "MOST_DATA",
+    "MOST_NAME",
+    "NAME",
     "PLACES",
     "REGISTERS",
     "Certificate",

@@ -8,12 +8,13 @@ import tempfile
 import threading
 
 import stopped
-from checker.given import known_of
-from pranet import certificate
+from checker import given as checked
+from pranet import certificate, code_file
 
 TOP = os.path.dirname(os.path.dirname(os.path.dirname(os.path.realpath(__file__))))
 ANY_BYTES = "surrogateescape"  # how bytes that are no text go through one
 DEFAULT = f"{TOP}/pra"  # which runs unproved before it was built
+TAKE_CODE = ("run", "compile", "interp", "cert", "apply")  # the modes that have --from
 
 
 class Refused(Exception):
@@ -27,6 +28,13 @@ class Refused(Exception):
 def default_program():
     """The program that the environment names, or ./pra."""
     return os.environ.get("PRA", DEFAULT)
+
+
+def with_source(words):
+    """The words of a call, which say so where FILE is a code file. That is decided here alone, by
+    what the file holds."""
+    is_code = len(words) > 1 and words[0] in TAKE_CODE and code_file.holds_code(words[1])
+    return [*words[:2], "--from", "code", *words[2:]] if is_code else list(words)
 
 
 class Compiler:
@@ -52,7 +60,7 @@ class Compiler:
         how["env"] = {**os.environ, "PRA_NOTES": "stderr"}
         how["preexec_fn"] = stopped.ends_with_parent(signal.SIGTERM)
         notes = []
-        with subprocess.Popen([self.program, *words], **how) as it:
+        with subprocess.Popen([self.program, *with_source(words)], **how) as it:
             stream, it.stderr = it.stderr, None
             hearing = threading.Thread(target=self.hear, args=(stream, notes))
             hearing.start()
@@ -91,16 +99,18 @@ class Compiler:
         return certificate.read(text.decode())
 
     def problem(self, file, cost, rounds=0):
-        """The certificate that a file holds, or that of the module that it holds, and whether it is
-        a module. No module begins with the brace that a certificate begins with. The cost is what
-        both are to be paid by; without one that of the certificate, or `size`."""
+        """The certificate that a file holds, or that of the module or the code which it holds, and
+        whether it is one of these two. No module begins with the brace that the others begin with.
+        The cost is what all are to be paid by; without one that of the certificate, or `size`."""
         with open(file, "rb") as source:
             held = source.read()
-        if held.lstrip()[:1] != b"{":
-            return self.certificate(file, cost or "size", rounds), True
-        known = known_of(file, held)
-        known.cost = cost or known.cost
-        return known, False
+        if code_file.is_code(held):
+            checked.code_of(file, held)  # so that what breaks a rule is told in words
+        elif code_file.begins_with_brace(held):
+            known = checked.known_of(file, held)
+            known.cost = cost or known.cost
+            return known, False
+        return self.certificate(file, cost or "size", rounds), True
 
     def check(self, text):
         """The status of `check` for a certificate's text, and what it says."""

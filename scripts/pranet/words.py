@@ -14,16 +14,21 @@ NO_ANSWER = 70  # the status of what the compiler does not know
 
 
 class NoWords(Exception):
-    """The words are none that a program takes."""
+    """The words are none that a program takes. Its text is what is told before the usage."""
+
+    def __init__(self, told="fault words"):
+        super().__init__(told)
 
 
 def read_words(words, options):
     """The files, and the value of each option: of those given their default. An option that has a
-    number takes numbers alone."""
+    number takes numbers alone, and one that has False takes no value."""
     files, values, words = [], {"--compiler": default_program(), **options}, iter(words)
     for word in words:
         name, is_joined, value = word.partition("=")
-        if name in values:
+        if options.get(word) is False:
+            values[word] = True
+        elif name in values and not isinstance(values[name], bool):
             value = value if is_joined else next(words, "")
             if isinstance(values[name], int) and not (value.isdecimal() and value.isascii()):
                 raise NoWords
@@ -38,7 +43,8 @@ def read_words(words, options):
 
 
 def read_problem(words):
-    """The certificate that the words of a call name, or that of the module which they name."""
+    """The certificate that the words of a call name, or that of the module or code which they
+    name."""
     files, values = read_words(words, {"--cost": None})
     if len(files) != 1:
         raise NoWords
@@ -58,8 +64,8 @@ def status_of(call, usage, file=""):
     """The exit status of a call, which returns one or raises what can't be done, that is told."""
     try:
         return call()
-    except NoWords:
-        print(f"fault words\n{usage}", file=sys.stderr)
+    except NoWords as error:
+        print(f"{error}\n{usage}", file=sys.stderr)
         return 6
     except Refused as refused:
         tell(file, refused.said)
@@ -68,7 +74,7 @@ def status_of(call, usage, file=""):
         return reading.tell(error, file)
     except Broken as broken:
         print(broken, file=sys.stderr)
-        return 3
+        return broken.status
     except (NoCertificate, NoSolver) as error:
         print(f"pra: {error}", file=sys.stderr)
         return NO_ANSWER
