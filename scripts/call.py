@@ -30,7 +30,7 @@ STDIN = "<stdin>"  # what FILE is called where it is standard input
 OWN = ("--explain", "--json", "--help", "-h", "--version")
 TO_OUTPUT = ("compile", "gen", "apply", "check")  # the modes whose report is their output
 REPORTS = (*TO_OUTPUT, "run", "interp", "exec")
-NAME_THEIR_FILE = ("explain", "show")  # the words that tell the name of FILE
+NAME_THEIR_FILE = ("explain", "show", "code", "network", "lp")  # the words that tell FILE's name
 WITHOUT_FILE = ("gen", "grade", "help", "build", "test", "man", "completion")
 
 
@@ -142,7 +142,7 @@ def watched(it, words, name, how):
         typed = terminal.typed_for(it.mode) if clock else None
         return terminal.watched(command_of(it, words), clock, typed, **how)
     ran = subprocess.run(command_of(it, words), check=False, capture_output=True, **how)
-    sys.stderr.buffer.write(ran.stderr)
+    sys.stderr.buffer.write(ran.stderr.replace(name.encode(), STDIN.encode()))
     out = ran.stdout
     if it.mode == "show" and not ran.returncode:
         with open(f"{name}.html", "rb") as page:

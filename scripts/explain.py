@@ -2,15 +2,16 @@
 """Tells a person what is wrong with a module, and where in its source.
 
     explain.py FILE [--input NAME]    compiles FILE, and with --input runs it on that file
-    explain.py FILE [--module NAME]   tells what is wrong with a certificate, and with --module
-                                      where its code is not that of the module
+    explain.py FILE [--module NAME]   tells what is wrong with a certificate or a code file, and
+                                      with --module where its code is not that of the module
     explain.py --notes FILE [--input NAME] < NOTES    tells what notes of another call mean
 
 NOTES is what the compiler wrote to standard error. Its last line that refuses, such as
 `fault rule 19 token 6 at 29`, becomes the place as FILE:LINE:COLUMN, what breaks the rule or the
 limit, the rule or limit in words, the line of the source, and a mark below the token; of a line on
-a trap the statement is found. The words of rules and limits are those of docs/LANGUAGE.md. The status
-is that of the call of the compiler, and with --notes 0 where something was explained, and else 1.
+a trap the statement is found, and of one on a run of a code file that is stuck the instruction. The
+words of rules and limits are those of docs/LANGUAGE.md. The status is that of the call of the
+compiler, and with --notes 0 where something was explained, and else 1.
 """
 
 import json
@@ -26,16 +27,17 @@ import offences
 import reading
 import reasons
 import stopped
+import stuck
 import traps
 from checker import images
-from pranet.certificate import NoCertificate
-from pranet.compiler import Refused
+from checker.given import Broken
 from places import Place, shown, token_end, tokens, word_end
-from pranet.compiler import default_program
+from pranet import code_file
+from pranet.certificate import NoCertificate
+from pranet.compiler import Refused, default_program, with_source
 
 TOP = os.path.dirname(os.path.dirname(os.path.realpath(__file__)))
 LANGUAGE = f"{TOP}/docs/LANGUAGE.md"
-COMPILER = f"{TOP}/pra"
 USAGE = "usage: pra explain FILE [--input NAME] [--module NAME]"
 NO_WORDS = 6  # the status where the words are none of these
 SOME = 8  # what may follow is told where it is no more than that
@@ -340,15 +342,29 @@ def not_of_module(name, input_name, given):
         return []
 
 
+def of_code(line, name, source):
+    """What a line means where FILE is a code file, or None of a line that is not about that."""
+    if lines := stuck.told(name, source, line):
+        return lines
+    if not line.startswith(("fault ", "limit ")):
+        return None
+    status, lines = reasons.code(name, source)
+    if not status and line.startswith("fault bad-byte "):
+        return [f"{name}: this is a code file, and is read as one with --from code"]
+    return lines if status else None
+
+
 def told(notes, name, input_name=None, mode=""):
     """What the last line of notes that tells of a refusal or a trap means, line by line."""
     source = read(name)
-    given = read(input_name) if input_name else None
+    given, is_code = read(input_name) if input_name else None, code_file.is_code(source)
     for line in reversed(notes.splitlines()):
+        if is_code and (lines := of_code(line, name, source)):
+            return lines
         if found := traps.STEPS.fullmatch(line):
             if source.startswith(images.MAGIC):
                 return [f"{name}: trap {found[1]}: {traps.KINDS[found[1]]}"]
-            return traps.told(name, source, line, COMPILER, input_name)
+            return traps.told(name, source, line, default_program(), input_name)
         lines = of_applied(line, name, input_name, given) if mode == "apply" else None
         if lines := lines or explained(line, name, source, given):
             return lines
@@ -358,28 +374,30 @@ def told(notes, name, input_name=None, mode=""):
 def all_told(notes, name, input_name=None, mode=""):
     """The same, and of a module behind it what else is wrong with it."""
     lines, line = told(notes, name, input_name, mode), (notes.splitlines() or [""])[-1]
-    if lines and further.FAULT.fullmatch(line):
+    if lines and further.FAULT.fullmatch(line) and not code_file.holds_code(name):
         lines = lines + further.told(default_program(), name, read(name), line, explained)
     return lines
 
 
 def tried(name, input_name):
-    """The status of a call that compiles a module, and of one that runs it where there is an input,
-    and its notes."""
+    """The status of a call that compiles a module or code, or of one that runs it where there is an
+    input, and its notes."""
     with tempfile.TemporaryDirectory(prefix="pra-explain-") as room:
         mode = ["interp"] if input_name else ["compile", "--image", f"{room}/image"]
         with open(input_name or os.devnull, "rb") as given:
-            command = [COMPILER, mode[0], name, "--rounds", "0", *mode[1:]]
-            ran = subprocess.run(command, stdin=given, capture_output=True, check=False)
+            command = with_source([mode[0], name, "--rounds", "0", *mode[1:]])
+            how = {"stdin": given, "capture_output": True, "check": False}
+            ran = subprocess.run([default_program(), *command], **how)
     return ran.returncode, ran.stderr.decode(errors="replace")
 
 
 def of_traps(name):
-    """The status and what is told of a module that traps whatever its input is, or 0 and nothing."""
-    line = further.always_traps(COMPILER, name)
+    """The status and what is told of a module that traps whatever its input is, or of code that
+    does or is stuck; or 0 and nothing."""
+    line = further.always_traps(default_program(), name)
     if not line:
         return 0, []
-    place, *marked = traps.told(name, read(name), line, COMPILER, None)
+    place, *marked = told(line, name)
     return 1, [f"{place}; that is so with every input", *marked]
 
 
@@ -410,9 +428,15 @@ def without(words, option):
 
 
 def of_file(name, input_name, module_name):
-    """The status of a file, which is no module where a module is named for it."""
+    """The status of a file, which is no module where a module is named for it. Code that breaks no
+    rule is run as a module is."""
+    if not module_name and code_file.holds_code(name) and not reasons.code(name, read(name))[0]:
+        return explain(name, input_name)
     try:
         status = reasons.main(name, module_name)
+    except Broken as broken:
+        print(broken)
+        return broken.status
     except Refused as refused:
         print("\n".join(told(refused.said.decode(errors="replace"), module_name)))
         return refused.status

@@ -16,6 +16,7 @@ import tempfile
 import grammar
 import offences
 from places import Place, shown, tokens
+from pranet.compiler import with_source
 
 MOST = 8  # errors that are told in all
 TRIES = 20  # copies of a module that are compiled
@@ -31,6 +32,7 @@ DECLARES = ("MODULE", "PROCEDURE", "CONST", "TYPE", "VAR", "RECORD")
 ALWAYS = b"0=0"  # a condition that is true
 SHORTEST, ALIKE = 3, 0.75  # of a name that is taken for a reserved word
 STEPS = "1000000"  # of the meaning, in which a module is tried
+ALWAYS_SO = re.compile(r"(?:trap (?!Input)|stuck ).+ (?:units|steps) \d+ reads 0")
 
 
 class Text:
@@ -206,11 +208,11 @@ def told(compiler, name, source, line, explained):
 
 
 def always_traps(compiler, name):
-    """The line of a trap that a module comes to before it reads a number, or None: it does so
-    whatever its input is."""
-    command = [compiler, "interp", name, "--steps", STEPS]
+    """The line of a trap that a module comes to before it reads a number, or where code is stuck
+    before that, or None: it does so whatever its input is."""
+    command = [compiler, *with_source(["interp", name, "--steps", STEPS])]
     how = {"stdin": subprocess.DEVNULL, "stdout": subprocess.DEVNULL, "stderr": subprocess.PIPE}
     ran = subprocess.run(command, check=False, **how)
     lines = ran.stderr.decode(errors="replace").splitlines()
-    is_trap = lines and re.fullmatch(r"trap (?!Input)\w+ units \d+ reads 0", lines[-1])
+    is_trap = lines and ALWAYS_SO.fullmatch(lines[-1])
     return lines[-1] if is_trap else None

@@ -5,12 +5,13 @@
         [--cost size|speed] [--seconds N] [--points NAME] [--csv NAME] [--solve N]
         [--compiler PROGRAM]
 
-COMMAND is called once for each module FILE: it has the network's JSON as its standard input and
-prints a certificate (docs/NETWORK.md). Or FOLDER has for each FILE a certificate NAME.cert, where
-NAME.ob is the name of FILE. With both COMMAND is called in FOLDER. Where FOLDER has folders each of
-them is a student, and the best stand first in a table of all. A COMMAND that has not ended after N
-seconds (60) is ended, with all that it began. --secret SEED makes five modules that nobody has
-seen, the same ones for the same SEED, in place of FILEs or besides.
+A FILE is a module, a code file or a certificate, whose code is taken. COMMAND is called once for
+each: it has the network's JSON as its standard input and prints a certificate (docs/NETWORK.md). Or
+FOLDER has for each FILE a certificate NAME.cert, where NAME.ob, NAME.code or NAME.cert is the name
+of FILE. With both COMMAND is called in FOLDER. Where FOLDER has folders each of them is a student,
+and the best stand first in a table of all. A COMMAND that has not ended after N seconds (60) is
+ended, with all that it began. --secret SEED makes five modules that nobody has seen, the same ones
+for the same SEED, in place of FILEs or besides.
 
 A line for each module has the verdict, cost and bound, and beside them the optimum, and what 10
 rounds, home, linear scan without and with holes, and colouring cost. Below stand the reasons of

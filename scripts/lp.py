@@ -3,10 +3,10 @@
 
     lp.py FILE [--cost size|speed] [--compiler PROGRAM]
 
-FILE is a module, or a certificate, of which code and cost word are taken and nothing else; --cost
-goes before its cost word. Code that breaks a rule is refused, with the rule. The text is in the LP
-format, that any solver reads; its least value is what the cheapest allocation costs. docs/NETWORK.md
-says what rows and variables mean.
+FILE is a module, a code file, or a certificate, of which code and cost word are taken and nothing
+else; --cost goes before its cost word. Code that breaks a rule is refused, with the rule. The text
+is in the LP format, that any solver reads; its least value is what the cheapest allocation costs.
+docs/NETWORK.md says what rows and variables mean.
 """
 
 import sys

@@ -12,10 +12,11 @@ where REPORT is what `compile` wrote of this image.
 With --assembly NAME, or IMAGE's name with the ending .s, gets a text for the GNU assembler, and
 with --object one with the ending .o the object that gcc makes of it. Beside it stands a header for
 C, which ends in .h: each procedure is a function there, Sort_Insert of the module Sort, whose
-parameters have their names where MODULE is the text that was compiled. gcc is asked with -m32. The
-status is 0, or that of the line on standard error: 3 and 4 where IMAGE is no image, as `list` says
-it, 5 where a file can't be read or written, 6 where the words are none of these, 70 where gcc can't
-do it, or where the image was not compiled.
+parameters have their names where MODULE is the text that was compiled; where it is a code file the
+procedures have its names. gcc is asked with -m32. The status is 0, or that of the line on standard
+error: 3 and 4 where IMAGE is no image, as `list` says it, or MODULE breaks a rule of code, 5 where
+a file can't be read or written, 6 where the words are none of these, 70 where gcc can't do it, or
+where the image was not compiled.
 """
 
 import os
@@ -25,6 +26,7 @@ import explain
 import reading
 import stopped
 import writing
+from checker.given import Broken
 from picture import report
 from processor import assembly
 from processor.build import NO_LIMIT, Builder, assembled
@@ -100,7 +102,8 @@ def make_object(image, name, texts, values, sources):
         raise Refused(WORDS, f"fault value -o\n{USAGE}")
     writing.check(head, sources)
     names = names_in(texts["--report"].decode(errors="replace"))
-    made = assembly.object_of(image, names, report.headings(texts["--module"]))
+    headings = report.headings_of(values.get("--module", ""), texts["--module"])
+    made = assembly.object_of(image, names, headings)
     text = assembly.assembly(made)
     data = text.encode() if "--assembly" in values else assembled(text)
     writing.write(name, data, sources)
@@ -124,6 +127,9 @@ def make(words):
 def main(words):
     try:
         make(words)
+    except Broken as broken:
+        print(broken, file=sys.stderr)
+        return broken.status
     except Refused as refused:
         print(refused, file=sys.stderr)
         if refused.status in (3, 4) and sys.stderr.isatty():

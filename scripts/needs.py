@@ -97,6 +97,20 @@ def compiler(test):
     return unittest.skipUnless(program(), "there is no compiler: ./pra build, or PRA=PROGRAM")(test)
 
 
+@functools.cache
+def takes_code():
+    """Whether the compiler takes code files, by its line of usage."""
+    if not program():
+        return False
+    ran = subprocess.run([program()], stdin=subprocess.DEVNULL, capture_output=True, check=False)
+    return b"--from" in ran.stderr
+
+
+def from_code(test):
+    reason = "there is no compiler that knows --from: ./pra build, or PRA=PROGRAM"
+    return unittest.skipUnless(takes_code(), reason)(test)
+
+
 def gcc_32(test):
     return unittest.skipUnless(has_gcc_32(), "gcc -m32 makes no program here")(test)
 

@@ -3,9 +3,9 @@
 
     network.py FILE [--cost size|speed] [--compiler PROGRAM]
 
-FILE is a module, or a certificate, of which code and cost word are taken and nothing else; --cost
-goes before its cost word. Code that breaks a rule is refused, with the rule. The networks of its
-procedures are printed as one value, which docs/NETWORK.md explains.
+FILE is a module, a code file, or a certificate, of which code and cost word are taken and nothing
+else; --cost goes before its cost word. Code that breaks a rule is refused, with the rule. The
+networks of its procedures are printed as one value, which docs/NETWORK.md explains.
 """
 
 import json

@@ -1,5 +1,5 @@
 #!/usr/bin/env python3
-"""Tells a person what is wrong with a certificate, an image or a listing.
+"""Tells a person what is wrong with a certificate, a code file, an image or a listing.
 
     reasons.py FILE
 
@@ -18,6 +18,7 @@ import sys
 
 from checker import beside, form, given, images
 from picture import local_names, report
+from pranet import code_file
 from pranet.compiler import Compiler, default_program
 
 MODULE = 100  # the status where FILE is none of these
@@ -29,18 +30,19 @@ BLANKS = b" \t\n\r"
 
 
 class Module:
-    """A module that a certificate may be of, by the name of its file."""
+    """A module, or a code file, that a certificate may be of, by the name of its file."""
 
     def __init__(self, name):
         self.name = name
         with open(name, "rb") as file:
             source = file.read()
-        self.headings, self.named = report.headings(source), local_names.Named(source)
+        self.headings = report.headings_of(name, source)
+        self.named = None if code_file.is_code(source) else local_names.Named(source)
 
     def name_variables(self, procedures):
         """Gives variables the names that the source has for them, if it has as many procedures."""
         beside.name_arguments(procedures, self.headings)
-        if len(procedures) == len(self.headings):
+        if self.named and len(procedures) == len(self.headings):
             for number, it in enumerate(procedures):
                 for v, name in local_names.names_of(self.named, number, it).items():
                     it.called.setdefault(v, name)
@@ -51,7 +53,11 @@ class Module:
             known, _ = form.claims(given.value_of(name, data))
         except given.Broken:
             return []
-        wanted = Compiler(default_program()).certificate(self.name, known.cost, 0)
+        return self.differences(name, known, known.cost)
+
+    def differences(self, name, known, cost="size"):
+        """The same of what has procedures."""
+        wanted, _ = Compiler(default_program()).problem(self.name, cost)
         self.name_variables(known.procedures)
         self.name_variables(wanted.procedures)
         if len(known.procedures) != len(wanted.procedures):
@@ -85,6 +91,18 @@ def certificate(name, data, module=None):
     return 3, lines
 
 
+def code(name, data, module=None):
+    """The same of a code file; a module is asked whether this is its code."""
+    try:
+        known = given.code_of(name, data)
+    except given.Broken as broken:
+        return broken.status, broken.lines
+    if lines := module.differences(name, known) if module else []:
+        return 3, lines
+    of = f", and it is that of {module.name}" if module else ""
+    return 0, [f"{name}: nothing is wrong with this code{of}"]
+
+
 # ---- images and listings
 
 
@@ -111,6 +129,8 @@ ENDINGS = {".cert": certificate, ".json": certificate, ".pri": image, ".lst": li
 
 def reader_of(name, data):
     """Who reads a file, by the ending of its name or by its first bytes; None for a module."""
+    if code_file.is_code(data):
+        return code
     for ending, reader in ENDINGS.items():
         if name.endswith(ending):
             return reader
@@ -122,8 +142,8 @@ def reader_of(name, data):
 
 
 def main(name, module_name=None):
-    """The status of a file, whose findings are printed. Of a certificate also the difference from
-    the code of the module of that name, if one is given."""
+    """The status of a file, whose findings are printed. Of a certificate and of code also the
+    difference from the code of the module of that name, if one is given."""
     try:
         with open(name, "rb") as file:
             data = file.read()
@@ -132,7 +152,8 @@ def main(name, module_name=None):
     reader = reader_of(name, data)
     if reader is None:
         return MODULE
-    known = [Module(module_name)] if module_name and reader is certificate else []
+    has_code = reader in (certificate, code)
+    known = [Module(module_name)] if module_name and has_code else []
     status, lines = reader(name, data, *known)
     print("\n".join(lines))
     return status

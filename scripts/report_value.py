@@ -17,8 +17,9 @@ LINES = (
     ("holds", r"certificate holds"),
     (
         "ending",
-        r"(?P<how>ended|going|trap|machine)(?: (?P<kind>\w+))? (?:steps (?P<steps>\d+)|units"
-        r" (?P<units>\d+)) reads (?P<reads>\d+)",
+        r"(?P<how>ended|going|trap|machine|stuck)(?: (?P<kind>\w+))?"
+        r"(?: procedure (?P<procedure>\d+) block (?P<block>\d+) instruction (?P<instruction>\d+))?"
+        r" (?:steps (?P<steps>\d+)|units (?P<units>\d+)) reads (?P<reads>\d+)",
     ),
     ("refused", r"(?P<line>(?:fault|limit) .+)"),
 )

@@ -10,13 +10,14 @@ what moves and operands cost, what prices show the bound, and the machine instru
 became. With --input the module is run too, on the numbers that the file NAME holds. Options that
 are left out are the compiler's: 10 rounds, and size.
 
-FILE may be a certificate too, that is a text that begins with a brace; its page has what a
-certificate has. Where it is refused the page marks what is wrong, and the status is that of the
-refusal. Several certificates of one module share a page, on which is marked place by place what
-differs from the first one, and what that costs; two other files have their pages side by side. The
-compiler is the one that PRA names, ./pra, or PROGRAM; it is asked for its report, the listing and
-the certificates. The status is that of the call that was refused, 5 where a file can't be read or
-written, 6 where the words are none of these, and 70 where the parts do not fit.
+FILE may be a code file too (./pra code), whose page has its text as source, or a certificate, that
+is any other text that begins with a brace; its page has what a certificate has. Where it is refused
+the page marks what is wrong, and the status is that of the refusal; where its code breaks a rule
+there is no page. Several certificates of one module share a page, on which is marked place by place
+what differs from the first one, and what that costs; two other files have their pages side by side.
+The compiler is the one that PRA names, ./pra, or PROGRAM; it is asked for its report, the listing
+and the certificates. The status is that of the call that was refused, 5 where a file can't be read
+or written, 6 where the words are none of these, and 70 where the parts do not fit.
 """
 
 import os
@@ -28,10 +29,12 @@ import stopped
 import terminal
 import version
 import writing
+from checker.given import Broken
 from picture.listing import NotOfThisCode
 from picture.module import WEIGHTS, Module, NotOneModule, OfCertificates
 from picture.page import page_of, side_by_side
 from picture.report import NoReport
+from pranet import code_file
 from pranet.certificate import NoCertificate
 from pranet.compiler import Compiler, Refused, default_program
 from pranet.words import NoWords
@@ -57,9 +60,10 @@ def read_words(words):
 
 
 def is_certificate(file):
-    """Whether a file's text begins with a brace, as no module does."""
+    """Whether a file's text begins with a brace, as no module does, and is no code file."""
     with open(file, "rb") as text:
-        return text.read(1 << 10).lstrip()[:1] == b"{"
+        held = text.read()
+    return code_file.begins_with_brace(held) and not code_file.is_code(held)
 
 
 def shown(file, compiler, values):
@@ -123,6 +127,9 @@ def main(words):
         if refused.__cause__:
             print(f"pra: no page: {refused.__cause__}", file=sys.stderr)
         return refused.status
+    except Broken as broken:
+        print(broken, file=sys.stderr)
+        return broken.status
     except (OSError, UnicodeDecodeError) as error:
         return reading.tell(error, known[0][0])
     except (NoCertificate, NoReport, NotOfThisCode, NotOneModule) as error:

@@ -3,21 +3,22 @@
 
     solve.py FILE [--cost size|speed] [--seconds N] [--compiler PROGRAM]
 
-FILE is a module, or a certificate, of which code, cost word, routes and prices are taken; --cost
-goes before its cost word, and where it has no routes all variables are at home. Of a module the
-beginning are 200 rounds. A certificate is written to standard output, which `check`
-takes: its prices come of the duals of the relaxation, and its routes are those of the rounds where
-that proves them to be the best, and else those that CBC finds, in at most N seconds of the clock
-for each of the two, and for each procedure (60). A line for each procedure, and one for all, goes
-to standard error.
+FILE is a module or a code file, of which the beginning are 200 rounds, or a certificate, of which
+code, cost word, routes and prices are taken; --cost goes before its cost word, and where it has no
+routes all variables are at home. A certificate is written to standard output, which `check` takes:
+its prices come of the duals of the relaxation, and its routes are those of the rounds where that
+proves them to be the best, and else those that CBC finds, in at most N seconds of the clock for
+each of the two, and for each procedure (60). A line for each procedure, and one for all, goes to
+standard error.
 """
 
 import sys
 
 import stopped
-from picture.report import headings
+from picture.report import headings_of
 from pranet import certificate
 from pranet.cbc import MISSING, NoSolver, is_there
+from pranet.code_file import begins_with_brace
 from pranet.compiler import Compiler
 from pranet.network import Network
 from pranet.solver import BY_CBC, OPEN, PROVED, solve
@@ -50,18 +51,20 @@ def summary_of(all_solved):
 
 
 def names_of(file, is_module, count):
-    """The names of procedures that a module has, where it is one."""
+    """The names of procedures that a module or code has, where it is one."""
     if not is_module:
         return [""] * count
     with open(file, "rb") as source:
-        return [it.name for it in headings(source.read())]
+        return [it.name for it in headings_of(file, source.read())]
 
 
 def call(words):
     files, values = read_words(words, OPTIONS)
     if len(files) != 1:
         raise NoWords
-    if not is_there():
+    with open(files[0], "rb") as source:
+        is_text = begins_with_brace(source.read(1 << 10))
+    if not is_there() and not is_text:  # of which what breaks a rule is told first
         raise NoSolver(MISSING)
     known, is_module = Compiler(values["--compiler"]).problem(files[0], values["--cost"], ROUNDS)
     names = names_of(files[0], is_module, len(known.procedures))

@@ -12,6 +12,7 @@ from dataclasses import dataclass
 import stopped
 from pranet.compiler import ANY_BYTES
 
+ENDINGS = (".ob", ".cert", ".code")  # of files that are handed out
 MOST_WRITTEN = 1 << 28  # bytes in a file of a command, its output among them
 
 
@@ -43,8 +44,8 @@ def students_of(folder):
 
 def module_name(file):
     """What a module is called in tables, and a certificate of it in folders."""
-    name = os.path.basename(file)
-    return name.removesuffix(".ob").removesuffix(".cert")
+    name, ending = os.path.splitext(os.path.basename(file))
+    return name if ending in ENDINGS else name + ending
 
 
 def certificate_name(folder, file):

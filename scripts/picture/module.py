@@ -4,9 +4,10 @@ import os
 import tempfile
 from dataclasses import replace
 
+from checker import given as checked
 from picture import lines, listing, local_names, report, wrong
 from picture.data import Drawn, State
-from pranet import certificate
+from pranet import certificate, code_file, code_text
 from pranet.certificate import code_value
 from pranet.compiler import Refused
 from pranet.network import Network
@@ -44,6 +45,7 @@ class Shown:
         self.certificate, self.drawn = None, []
 
     refused = None  # the refusal of what is shown
+    kind = "certificate"  # what it is of
 
     @property
     def is_compared(self):
@@ -134,8 +136,9 @@ class OfCertificates(Shown):
     def test_codes_are_valid(self):
         for it in self.read:
             for number, told in it.reasons.items():
-                if told[0][0] == "code":
-                    raise wrong.NoPicture(f"procedure {number}: its code is not valid")
+                for reason, words in told:
+                    if reason == "code":
+                        raise wrong.NoPicture(f"procedure {number}, code: {words[0]}")
 
     def draw(self, number):
         """A procedure with its states, and the prices of the highest bound that holds."""
@@ -162,13 +165,63 @@ def state_of(rounds, procedure):
     return State(rounds, procedure.routes, procedure.total, procedure.bound)
 
 
+class SourceOfModule:
+    """The text of a module, and what is found of it in the code."""
+
+    kind = "module"
+
+    def __init__(self, source):
+        self.text, self.headings = source, report.headings(source)
+        self.named, self.places = local_names.Named(source), lines.Source(source)
+
+    def names_of(self, procedure):
+        return local_names.names_of(self.named, procedure.number, procedure)
+
+    def lines_of(self, procedure):
+        """Of each block the lines that it came from."""
+        return lines.lines_of_blocks(self.places, procedure.number, procedure.blocks)
+
+
+class SourceOfCode:
+    """Code as it is written for people, in the place of a module's text."""
+
+    kind = "code"
+
+    def __init__(self, code):
+        text = list(code_text.lines_of(code))
+        self.text = "".join(f"{it.text}\n" for it in text).encode()
+        self.headings = [report.Heading(it, None, []) for it in code.names]
+        self.heads = [[] for _ in code.names]  # the lines at which blocks begin
+        for number, it in enumerate(text, 1):
+            if it.block is not None:
+                self.heads[it.procedure].append([number])
+            elif it.procedure is not None:
+                self.headings[it.procedure].line = number
+
+    def names_of(self, _):
+        return {}
+
+    def lines_of(self, procedure):
+        return self.heads[procedure.number]
+
+
+def source_of(file):
+    """The source that a file holds, which is Broken where it is code that breaks a rule."""
+    with open(file, "rb") as held:
+        data = held.read()
+    if code_file.is_code(data):
+        return SourceOfCode(checked.code_of(file, data))
+    return SourceOfModule(data)
+
+
 class Module(Shown):
-    """A module, of which the compiler is asked for everything."""
+    """A module or a code file, of which the compiler is asked for everything."""
 
     def __init__(self, compiler, file, rounds, cost, given=None):
         told = f" --input {given}" if given else ""
         super().__init__(file, f" --rounds {rounds} --cost {cost}{told}")
-        self.rounds = int(rounds)
+        self.rounds, source = int(rounds), source_of(file)
+        self.source, self.headings, self.kind = source.text, source.headings, source.kind
         with tempfile.TemporaryDirectory(prefix="pra-show-") as room:
             image = f"{room}/out.pri"
             for word in sorted(WEIGHTS, key=lambda it: it == cost):
@@ -180,18 +233,14 @@ class Module(Shown):
             kept = kept_rounds(int(rounds))
             known = [(it, self.certified(compiler, file, it, cost, room)) for it in kept]
             listed, _ = compiler.call("list", image)
-        with open(file, "rb") as source:
-            self.source = source.read()
         self.certificate = known[-1][1]
-        self.headings = report.headings(self.source)
-        self.drawn = self.draw(listed.decode())
+        self.drawn = self.draw(listed.decode(), source)
         for number, it in enumerate(self.drawn):
             it.states = [state_of(rounds, each.procedures[number]) for rounds, each in known]
-        source = lines.Source(self.source)
         for it in self.drawn:
             self.test_states(it)
             it.states = self.made_states(it)
-            it.lines = lines.lines_of_blocks(source, it.code.number, it.code.blocks)
+            it.lines = source.lines_of(it.code)
 
     @staticmethod
     def certified(compiler, file, rounds, cost, room):
@@ -220,13 +269,11 @@ class Module(Shown):
         before = [it for it in drawn.states if it.rounds < made]
         return [*before, replace(drawn.states[len(before)], rounds=made)]
 
-    def draw(self, listed):
+    def draw(self, listed, source):
         """Each procedure, with the machine instructions that it became."""
-        reader, cost = listing.Reader(listing.read(listed)), self.certificate.cost
-        drawn, source = [], local_names.Named(self.source)
+        reader, cost, drawn = listing.Reader(listing.read(listed)), self.certificate.cost, []
         for procedure, heading in zip(self.certificate.procedures, self.headings, strict=True):
-            known = local_names.names_of(source, procedure.number, procedure)
-            it = Drawn(cost, procedure, heading, known)
+            it = Drawn(cost, procedure, heading, source.names_of(procedure))
             it.machine = reader.procedure(it.network, procedure.routes)
             drawn.append(it)
         if reader.at != len(reader.instructions):

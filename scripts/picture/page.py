@@ -81,11 +81,7 @@ less, and no register is paid twice. The heat map beside the layers shows the pr
 registers. Of the cell that is pointed at the line at the foot of the window tells what its way costs
 with prices, and for each other place what the cheapest way through that place costs more or less
 than its own.</p>
-<p>Lines beside the head of a block are those of the source from which its calls, comparisons,
-divisions, tests of indexes, reads and writes come: the scripts find them again by their order.</p>
-<p>Parameters have the names of the source, and so have locals where the scripts find them again by
-the order of words. The others are called v and a number: the compiler has parted, merged and copied
-the variables of the source before it allocates them.</p>
+{found}
 <p>The <em>cost</em> is the sum of all events: moves, memory operands and immediates. {unit} What
 every allocation has to pay, such as the instructions themselves, is left out. The <em>bound</em> is
 a number below which no allocation of this code can go, whatever it is; the compiler's checker has
@@ -107,6 +103,19 @@ others it is told at the top.</p>
 entry of the next. A call may destroy eax, ecx and edx, a division works in eax and edx, and what is
 read or written goes through eax. An instruction has at most one memory operand.</p>
 """
+# What is found again of a source, by what that is.
+FOUND = {
+    "module": """\
+<p>Lines beside the head of a block are those of the source from which its calls, comparisons,
+divisions, tests of indexes, reads and writes come: the scripts find them again by their order.</p>
+<p>Parameters have the names of the source, and so have locals where the scripts find them again by
+the order of words. The others are called v and a number: the compiler has parted, merged and copied
+the variables of the source before it allocates them.</p>""",
+    "code": """\
+<p>The source is code, written as <code>pra code --text</code> writes it. Beside the head of a block
+is the line at which it begins there, and variables are called v and their number.</p>""",
+    "certificate": "<p>Variables are called v and their number.</p>",
+}
 UNITS = {
     "size": "It is counted in bytes of code.",
     "speed": "It is counted in units of time: about one for an instruction, more where memory is"
@@ -234,7 +243,8 @@ def source_lines(source):
 def where_from(module, number):
     """Which procedure it is, and where it begins."""
     line = module.headings[number].line
-    kind = "The module's body" if number == 0 else f"Procedure {number}"
+    is_body = number == 0 and module.kind != "code"
+    kind = "The module's body" if is_body else f"Procedure {number}"
     return f'{kind}, from <a href="#L{line}">line {line}</a> on,' if line else f"{kind}"
 
 
@@ -337,7 +347,8 @@ def sentence_of(module, report, unit):
     """What the page is of, and how good that is."""
     whole = at_most(report.cost, report.bound, unit)
     if module.source:
-        return f"The allocation of the module {escape(report.procedures[0].name)}. {whole}"
+        what = "code" if module.kind == "code" else "module"
+        return f"The allocation of the {what} {escape(report.procedures[0].name)}. {whole}"
     names = [escape(it.name) for it in module.read]
     if module.is_compared:
         sums = [sum(it.states[at].cost for it in module.drawn) for at in range(len(names))]
@@ -361,7 +372,7 @@ def page_of(module, not_proved=""):
         made=made_words(module),
         not_proved=warned,
         procedures=procedures_table(module),
-        reading=READING.format(legend=legend(), unit=UNITS[cost]),
+        reading=READING.format(legend=legend(), unit=UNITS[cost], found=FOUND[module.kind]),
         events=events_table(module.drawn, cost),
         source=source_lines(module.source),
         sections=sections,

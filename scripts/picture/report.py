@@ -4,6 +4,8 @@ import re
 from dataclasses import dataclass
 
 import places
+from checker import given
+from pranet import code_file
 
 PROCEDURE = re.compile(r"procedure (\d+) (\S+) frame (\d+)")
 ROUND = re.compile(r"round (\d+) cost (\d+) bound (\d+)")
@@ -87,3 +89,10 @@ def headings(source):
             limit = at + 2 if word == "MODULE" else at + 200
             found.append(Heading(words[at + 1], line, sections(words[at + 2 : limit])))
     return found
+
+
+def headings_of(name, source):
+    """The same of what a file of this name holds, a module or a code file, which may be Broken."""
+    if not code_file.is_code(source):
+        return headings(source)
+    return [Heading(it, None, []) for it in given.code_of(name, source).names]
