@@ -73,6 +73,8 @@ def code_of(file, values):
     is_certificate = code_file.begins_with_brace(held) and not code_file.is_code(held)
     if data_words is not None and (values["--read"] or not is_certificate):
         raise NoWords("fault words\npra: --data-words is for a certificate, which has none")
+    if values["--read"] and code_file.begins_with_brace(held):
+        raise given.Broken([f"{file}:1: this is JSON and no text of code, which --read asks for"])
     if values["--read"]:
         return code_reader.read(file, held)
     if is_certificate:

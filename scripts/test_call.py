@@ -93,6 +93,10 @@ class Calls(unittest.TestCase):
             status, out, _ = call(["show", "-", "--rounds", "1"], GOOD, cwd=room)
             self.assertTrue(out.startswith(b"<!DOCTYPE html>"))
             self.assertEqual(call(["run", "-"], GOOD, cwd=room)[::2], (5, "fault read file\n"))
+            status, out, _ = call(["code", "-"], GOOD, cwd=room)
+            self.assertEqual((status, json.loads(out)["kind"]), (0, "pra-code"))
+            status, _, notes = call(["code", "--read", "-"], b"data words 0\n", cwd=room)
+            self.assertEqual((status, notes), (3, "<stdin>:2: there is no procedure\n"))
 
     def test_a_value_stands_where_the_report_would(self):
         with tempfile.TemporaryDirectory(prefix="pra-call-") as room:
@@ -126,6 +130,7 @@ class Screens(unittest.TestCase):
         page = "".join(manual.page())
         taken = ["show --input", "facts --moves", "facts --others", "native --report"]
         taken += ["native --object", "native --assembly", "grade --csv", "solve --seconds"]
+        taken += ["code --text", "code --read", "code --data-words"]
         for it in taken:
             word, option = it.split()
             self.assertIn(option, words.table()[0][word].names)

@@ -630,6 +630,8 @@ class Words(InAFolder):
         text = self.file("x.txt", HAND.replace("n := read", "m := read"))
         words = "`m` is no variable of this procedure\n"
         self.assertEqual(self.call(code_files.main, "--read", text), (3, "", f"{text}:10: {words}"))
+        status, _, notes = self.call(code_files.main, "--read", self.file("x.code", text_of(CODE)))
+        self.assertEqual((status, "x.code:1: this is JSON" in notes), (3, True))
 
     def test_code_of_a_certificate(self):
         value = certificate_of(plain(["load", 0, ["global", 6, 0, 0]], ["write", 0]))

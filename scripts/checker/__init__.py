@@ -1,1 +1,1 @@
-"""A second checker of certificates, images and listings, which gives its reasons in words."""
+"""A second checker of certificates, code files, images and listings, with its reasons in words."""

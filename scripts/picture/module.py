@@ -202,7 +202,8 @@ class SourceOfCode:
         return {}
 
     def lines_of(self, procedure):
-        return self.heads[procedure.number]
+        heads = self.heads[procedure.number]
+        return heads if len(heads) == len(procedure.blocks) else []
 
 
 def source_of(file):

@@ -4,6 +4,8 @@
     from pranet.network import Network
 
 - `certificate`: reads and writes certificates: code, routes, prices, costs and bounds.
+- `code_file`: reads and writes code files, which have code alone.
+- `code_text`, `code_reader`: code files as text for people, and back.
 - `operands`: what instructions ask of the places of their operands; what each event costs.
 - `network`: `Network(procedure)` has strands with their masks, extras, memory pairs and ties;
   whether it admits routes, and what these cost, event by event.

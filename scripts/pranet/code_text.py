@@ -12,11 +12,13 @@
       compare v1, 10
       if >= go on with block 3, else with block 2
 
-Variables are numbered in the order in which they stand behind `variables`, block for block of the
-procedure's text: `v0 = 0` is the number 0, `v1 = argument 0` an argument's variable, and `v1` alone
-neither. Instructions and ends are written as pages write them. There a number stands for the first
-variable of that number which nothing before it in the procedure has named, or, where all are named,
-for the last one. A comment goes from `;` to the end of its line. `code_reader` reads it.
+Behind the name of a procedure may stand `, 2 arguments` and `, 3 aggregate words`. Variables are
+numbered as they stand behind `variables`: `v0 = 0` is the number 0, `v1 = argument 0` an argument's
+variable, and `v1` alone neither. Instructions and ends are written as pages write them. There a
+number stands for the first variable of that number which nothing before it in the procedure has
+named, or, where all are named, for the last one. `code_reader` reads such a text. To it a number
+without a variable is one more variable behind all others, names may be any, and from `;` to the end
+of a line is a comment.
 """
 
 from dataclasses import dataclass
