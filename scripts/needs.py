@@ -99,11 +99,18 @@ def compiler(test):
 
 @functools.cache
 def takes_code():
-    """Whether the compiler takes code files, by its line of usage."""
+    """Whether the compiler takes code files: its line of usage has --from, and it does not read one
+    as a module all the same."""
     if not program():
         return False
-    ran = subprocess.run([program()], stdin=subprocess.DEVNULL, capture_output=True, check=False)
-    return b"--from" in ran.stderr
+    how = {"stdin": subprocess.DEVNULL, "capture_output": True, "check": False}
+    if b"--from" not in subprocess.run([program()], **how).stderr:
+        return False
+    with tempfile.NamedTemporaryFile(suffix=".code") as file:
+        file.write(b"{}")
+        file.flush()
+        ran = subprocess.run([program(), "cert", file.name, "--from", "code"], **how)
+    return ran.stderr != b"fault bad-byte at 0\n"
 
 
 def from_code(test):
