@@ -407,6 +407,9 @@ def explain(name, input_name):
     except OSError as error:
         print(reading.reason(input_name, error))
         return 5
+    except Refused as refused:
+        print(refused.said.decode(errors="replace"), end="")
+        return refused.status
     for line in notes.splitlines():
         if line.startswith("pra: "):
             print(line, file=sys.stderr)  # that it was not proved, where there is no terminal

@@ -210,7 +210,7 @@ def told(compiler, name, source, line, explained):
 def always_traps(compiler, name):
     """The line of a trap that a module comes to before it reads a number, or where code is stuck
     before that, or None: it does so whatever its input is."""
-    command = [compiler, *with_source(["interp", name, "--steps", STEPS])]
+    command = [compiler, *with_source(["interp", name, "--steps", STEPS], compiler)]
     how = {"stdin": subprocess.DEVNULL, "stdout": subprocess.DEVNULL, "stderr": subprocess.PIPE}
     ran = subprocess.run(command, check=False, **how)
     lines = ran.stderr.decode(errors="replace").splitlines()

@@ -32,7 +32,7 @@ import stuck
 from checker import form, given, vectors
 from picture import facts
 from pranet import certificate, code_file, code_reader, code_text
-from pranet.compiler import with_source
+from pranet.compiler import Refused, with_source
 from pranet.network import Network
 from processor.image import Image
 
@@ -550,7 +550,13 @@ class Kinds(unittest.TestCase):
                 ("cert", "none", []),
             ):
                 words = [mode, f"{room}/{name}", "--rounds", "0"]
-                self.assertEqual(with_source(words), [*words[:2], *wanted, *words[2:]])
+                with mock.patch("pranet.compiler.takes_code", return_value=True):
+                    self.assertEqual(with_source(words), [*words[:2], *wanted, *words[2:]])
+                with mock.patch("pranet.compiler.takes_code", return_value=False):
+                    if wanted:
+                        self.assertRaises(Refused, with_source, words)
+                    else:
+                        self.assertEqual(with_source(words), words)
 
     def test_the_data_words_of_a_certificate_are_the_least(self):
         kinds = [["plain"], ["constant", 5]]

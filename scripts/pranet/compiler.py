@@ -1,5 +1,6 @@
 """The compiler, called as a program."""
 
+import functools
 import os
 import signal
 import subprocess
@@ -30,11 +31,21 @@ def default_program():
     return os.environ.get("PRA", DEFAULT)
 
 
-def with_source(words):
+@functools.cache
+def takes_code(program):
+    """Whether the program's line of usage has the option that says what FILE is."""
+    how = {"stdin": subprocess.DEVNULL, "capture_output": True, "check": False}
+    return b"--from" in subprocess.run([program], **how).stderr
+
+
+def with_source(words, program=None):
     """The words of a call, which say so where FILE is a code file. That is decided here alone, by
-    what the file holds."""
-    is_code = len(words) > 1 and words[0] in TAKE_CODE and code_file.holds_code(words[1])
-    return [*words[:2], "--from", "code", *words[2:]] if is_code else list(words)
+    what the file holds. A program that takes no code files is not called."""
+    if len(words) < 2 or words[0] not in TAKE_CODE or not code_file.holds_code(words[1]):
+        return list(words)
+    if not takes_code(program or default_program()):
+        raise Refused(f"pra {words[0]}", 70, b"pra: the compiler takes no code files\n")
+    return [*words[:2], "--from", "code", *words[2:]]
 
 
 class Compiler:
@@ -60,7 +71,7 @@ class Compiler:
         how["env"] = {**os.environ, "PRA_NOTES": "stderr"}
         how["preexec_fn"] = stopped.ends_with_parent(signal.SIGTERM)
         notes = []
-        with subprocess.Popen([self.program, *with_source(words)], **how) as it:
+        with subprocess.Popen([self.program, *with_source(words, self.program)], **how) as it:
             stream, it.stderr = it.stderr, None
             hearing = threading.Thread(target=self.hear, args=(stream, notes))
             hearing.start()
