@@ -30,7 +30,8 @@ use Rattle.cert_check.specs.declared.check.Reason.TheVariants.{Code, Routes as W
 use Rattle.cert_check.specs.declared.check.Reason.TheVariants.{Prices as Listed, Total, Bound}
 use Rattle.cert_check.specs.declared.check.CertAnswer.TheVariants.{Yes}
 use Rattle.cert_check.specs.Listed.{HasPrices, prices_of, with_caps, with_tie_numbers}
-use Rattle.cert_check.specs.Reasons.{weights_by, counts_in, HasCode, IsBelowValue, MeetsIn}
+use Rattle.vc_valid.specs.Listed.{HasCode}
+use Rattle.cert_check.specs.Reasons.{weights_by, counts_in, IsBelowValue, MeetsIn}
 use Rattle.cert_check.specs.Reasons.{Meets, MeetsAll, IsAnswerOf}
 use Rattle.cert_make.specs.Made.{caps_from, numbers_from, IsCertOf, IsCertificateOf}
 use Rattle.cert_make.proofs.ListedAgain.{are_caps, caps_again, are_numbers, numbers_again}
