@@ -4,3 +4,4 @@ pub mod Procs
 pub mod Calls
 pub mod Stands
 pub mod Ending
+pub mod Quick

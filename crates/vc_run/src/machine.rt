@@ -19,6 +19,7 @@ mod calls;
 mod objects;
 mod operands;
 pub mod perform;
+mod quick;
 
 /// A module that runs.
 #[derive(Drop)]

@@ -30,8 +30,12 @@ impl Execution {
         }
     }
 
-    // On, with the value in the first target.
-    fn give(&mut self, to: Targets, x: Value) -> Result<(), Halt>
+    /// On, with the value in the first target.
+    ///
+    /// # Errors
+    ///
+    /// Where the run is stuck by it.
+    pub fn give(&mut self, to: Targets, x: Value) -> Result<(), Halt>
         requires { self.old.top.index < usize.MAX }
         ensures { Makes self.old self.new result
             (goes_on (after self.old.top to) (x ∷ []) with_top) }
@@ -57,7 +61,12 @@ impl Execution {
         }
     }
 
-    fn compare(&mut self, to: Targets, a: u32, b: u32) -> Result<(), Halt>
+    /// On, with two numbers as what was compared.
+    ///
+    /// # Errors
+    ///
+    /// Where the run is stuck by it.
+    pub fn compare(&mut self, to: Targets, a: u32, b: u32) -> Result<(), Halt>
         requires { self.old.top.index < usize.MAX }
         ensures { Makes self.old self.new result
             (goes_on (after self.old.top to) [] (with_compared a b)) }

@@ -14,6 +14,7 @@ use crate::halt::Halt;
 use crate::program::Program;
 use pra_base::{BlockId, Cond, End, VInstr, VProc};
 use std::alloc::Global;
+use vc_code::Value;
 use vc_code::arithmetic::compares;
 
 pub fn instruction(code: &VProc, block: BlockId, index: usize) -> Option<VInstr>
@@ -43,7 +44,8 @@ fn end(code: &VProc, block: BlockId) -> End
 }
 
 impl Execution {
-    fn perform(
+    // Whatever an instruction does.
+    fn perform_any(
         &mut self,
         alloc: Global,
         program: &Program,
@@ -58,6 +60,40 @@ impl Execution {
         match self.operation(&here, code, &i) {
             None => Err(Halt::Stuck),
             Some(action) => self.apply(alloc, program, targets(&i), action),
+        }
+    }
+
+    fn perform_compared(
+        &mut self,
+        alloc: Global,
+        program: &Program,
+        code: &VProc,
+        i: VInstr,
+    ) -> Result<(), Halt>
+        requires { self.old.top.index < usize.MAX }
+        ensures { Makes self.old self.new result
+            (λ s. act_of (machine_of program.now self.old) (next_of code.now s.top (Some i)) s) }
+    {
+        match self.comparison(code, &i) {
+            Some((a, b)) => self.compare((None, None), a, b),
+            None => self.perform_any(alloc, program, code, i),
+        }
+    }
+
+    fn perform(
+        &mut self,
+        alloc: Global,
+        program: &Program,
+        code: &VProc,
+        i: VInstr,
+    ) -> Result<(), Halt>
+        requires { self.old.top.index < usize.MAX }
+        ensures { Makes self.old self.new result
+            (λ s. act_of (machine_of program.now self.old) (next_of code.now s.top (Some i)) s) }
+    {
+        match self.computed(code, &i) {
+            Some((v, n)) => self.give((Some(v), None), Value::Num(n)),
+            None => self.perform_compared(alloc, program, code, i),
         }
     }
 
