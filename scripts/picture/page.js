@@ -5,7 +5,8 @@
   const page = JSON.parse(document.getElementById("data").textContent);
   const REGISTERS = ["eax", "ecx", "edx", "ebx", "esi", "edi"];
   const UNIT = { size: "bytes", speed: "units of time" };
-  const PLACES = 14, ON_PAPER = 9; // columns of variables that a page of paper has room for
+  const PLACES = 14;
+  const ON_PAPER = 9, A_PAGE = 40; // columns of variables, and rows, that a page of paper has room for
   const marks = {}, known = [], shownState = [];
 
   // The value of a procedure, which is read when it is asked for.
@@ -328,7 +329,7 @@
 
   function gap(p, block, at, layer, heat, isLast) {
     const moves = at.moves.get(layer);
-    if (!moves) return "";
+    if (!moves || at.isPart && [...moves.keys()].every((column) => column === undefined)) return "";
     const drawn = [];
     for (const [column, place] of at.rows[layer]) {
       const v = at.columns[column], move = moves.get(column);
@@ -354,9 +355,10 @@
     return ` <span class="faint lines">line${lines.length > 1 ? "s" : ""} ${links}</span>`;
   }
 
-  // The grid of a block, with all of its columns or with some of them.
-  function grid(p, number, some) {
-    const state = shownState[p.number], block = p.blocks[number], columns = some || variables(p, block);
+  // The grid of a block, or of its columns and instructions those of a part, as paper has it.
+  function grid(p, number, part) {
+    const state = shownState[p.number], block = p.blocks[number], columns = part ? part.columns : variables(p, block);
+    const { from: begin, to: end, told } = part || { from: -1, to: block.code.length, told: -2 };
     const at = layers(block, columns, drawnIn(p, state, number), p.kinds), isLast = state === p.states.length - 1;
     const other = besides(p), isSame = other < 0 || drawnIn(p, other, number) === drawnIn(p, state, number);
     const before = isSame ? null : layers(block, columns, drawnIn(p, other, number), p.kinds);
@@ -364,6 +366,7 @@
       .map(([, v, layer, why]) => [layer + " " + columns.indexOf(v), why]));
     if (before) before.name = isNamed(p) ? p.states[other].name : "";
     at.wrong = wrong;
+    at.isPart = Boolean(part);
     const heat = heatOf(p, block, at), mems = new Map(block.mems);
     const machineOf = (lines) => machine(isLast ? lines : []);
     let head = "";
@@ -372,20 +375,23 @@
     }
     const from = number ? (block.from.length ? "from block " + block.from.join(", ") : "never reached") : "the procedure begins";
     const layer = (n) => `<th scope="row" class="layer">${n}</th>${heat.cells(n)}`;
-    let out = `<tr>${layer(0)}<td class="what faint">${from}</td><td class="machine">${machineOf(number ? [] : p.prologue)}</td>${cells(p, at, 0, before)}</tr>`;
+    let out = begin < 0 ? `<tr>${layer(0)}<td class="what faint">${from}</td><td class="machine">${machineOf(number || told >= -1 ? [] : p.prologue)}</td>${cells(p, at, 0, before)}</tr>` : "";
     block.code.forEach((text, i) => {
+      if (i < begin || i > end) return;
       const pair = block.pairs[i], price = mems.get(i);
       const note = pair && pair.every((v) => p.kinds[v] !== "co")
         ? ` title="at most one of ${escaped(p.names[pair[0]])} and ${escaped(p.names[pair[1]])} is in memory here"` : "";
       const paid = price ? ` <span class="pair" data-mem="${i} ${price}" title="the price of the one memory operand">pair ${inWeights(price)}</span>` : "";
       out += gap(p, block, at, 2 * i + 1, heat, isLast);
-      out += `<tr class="before">${layer(2 * i + 1)}<td class="what" rowspan="2"${note}>${escaped(text)}${paid}</td><td class="machine" rowspan="2">${machineOf(block.machine && block.machine[i])}</td>`;
+      out += `<tr class="before">${layer(2 * i + 1)}<td class="what" rowspan="2"${note}>${escaped(text)}${paid}</td><td class="machine" rowspan="2">${machineOf(i > told && block.machine && block.machine[i])}</td>`;
       out += `${cells(p, at, 2 * i + 1, before)}</tr>`;
       out += `<tr>${layer(2 * i + 2)}${cells(p, at, 2 * i + 2, before)}</tr>`;
     });
-    const exit = 2 * block.code.length + 1;
-    out += gap(p, block, at, exit, heat, isLast);
-    out += `<tr class="end">${layer(exit)}<td class="what">${escaped(block.end)}</td><td class="machine">${machineOf(block.ended)}</td>${cells(p, at, exit, before)}</tr>`;
+    if (end === block.code.length) {
+      const exit = 2 * block.code.length + 1;
+      out += gap(p, block, at, exit, heat, isLast);
+      out += `<tr class="end">${layer(exit)}<td class="what">${escaped(block.end)}</td><td class="machine">${machineOf(end > told ? block.ended : [])}</td>${cells(p, at, exit, before)}</tr>`;
+    }
     return `<table class="grid${block.machine ? "" : " no-machine"}" data-block="${number}">${caption(`Where variables are in block ${number} of ${p.name}`)}<thead><tr><th class="layer" scope="col" title="the number of the layer">layer</th>${heat.head}<th class="what" scope="col">instruction</th><th class="machine" scope="col">machine instructions${isLast || isNamed(p) ? "" : " <span class=\"faint\">(of the last round)</span>"}</th>${head}</tr></thead><tbody>${out}</tbody></table>`;
   }
 
@@ -568,14 +574,39 @@
     begin(box);
   }
 
-  // Fills a box with grids that have as many columns as a page is wide.
+  // The parts in which paper has the grid of a block: as many variables as it is wide, in the order
+  // in which they come, and the instructions from the first layer that one of them is at to the last
+  // one, or to where the next part begins. -1 stands for the entry, and the count of instructions
+  // for the exit; machine instructions that a part before has told are left out.
+  function parts(p, block) {
+    const first = new Map(), last = new Map(), all = variables(p, block), found = [];
+    const at = (layer) => Math.ceil(layer / 2) - 1;
+    for (const [v, begin, path] of block.strands) {
+      const end = begin + path.length - 1;
+      first.set(v, Math.min(first.get(v) ?? begin, begin));
+      last.set(v, Math.max(last.get(v) ?? end, end));
+    }
+    const columns = all.length > ON_PAPER ? all.sort((a, b) => first.get(a) - first.get(b)) : all;
+    let told = -2;
+    for (let n = 0; n === 0 || n < columns.length; n += ON_PAPER) {
+      const some = columns.slice(n, n + ON_PAPER), next = columns.slice(n + ON_PAPER);
+      const from = n ? at(first.get(some[0])) : -1;
+      const ends = some.map((v) => at(last.get(v)));
+      const upTo = next.length ? at(first.get(next[0])) - 1 : told < block.code.length ? block.code.length : -1;
+      const to = Math.max(...ends, upTo);
+      found.push({ columns: some, from, to, told });
+      told = Math.max(told, to);
+    }
+    return found;
+  }
+
+  // Fills a box with the grids that paper has; one that fits on a page stays in one piece.
   function printed(box) {
     const p = procedureOf(numberOf(box.closest("section.procedure"))), number = Number(box.dataset.grid);
-    const columns = variables(p, p.blocks[number]), parts = [];
-    for (let at = 0; at === 0 || at < columns.length; at += ON_PAPER) parts.push(columns.slice(at, at + ON_PAPER));
     box.dataset.printed = "yes";
     box.style.minHeight = "";
-    box.innerHTML = parts.map((some) => grid(p, number, some)).join("");
+    box.innerHTML = parts(p, p.blocks[number]).map((it) => grid(p, number, it)).join("");
+    box.classList.toggle("is-short", box.querySelectorAll("tr").length <= A_PAGE);
   }
 
   const sight = new IntersectionObserver((entries) => {
