@@ -40,7 +40,7 @@ TEMPLATE = """<!DOCTYPE html>
 <h2 id="procedures">Procedures</h2>
 {procedures}
 <p><button type="button" class="tool" data-open>Open all procedures</button>
-<a href="#reading">How to read this page</a></p>
+{opened}<a href="#reading">How to read this page</a></p>
 {sections}
 <h2 id="source">Source</h2>
 {source}
@@ -296,6 +296,14 @@ def first_open(module):
     return max(small, key=lambda it: reported[it].rounds[0][0])
 
 
+def opened(module):
+    """Where the procedure is that is open at first, if others may stand before it."""
+    if len(module.drawn) <= SHORT_TABLE:
+        return ""
+    number = first_open(module)
+    return f'Open is <a href="#p{number}">{escape(reports_of(module)[number].name)}</a>. '
+
+
 def first_to_look_at(drawn):
     """Of certificates the procedure that is refused, or where they differ most, or the dearest."""
 
@@ -372,6 +380,7 @@ def page_of(module, not_proved=""):
         made=made_words(module),
         not_proved=warned,
         procedures=procedures_table(module),
+        opened=opened(module),
         reading=READING.format(legend=legend(), unit=UNITS[cost], found=FOUND[module.kind]),
         events=events_table(module.drawn, cost),
         source=source_lines(module.source),

@@ -12,8 +12,10 @@ import json
 import os
 import tempfile
 import unittest
+from types import SimpleNamespace
+from unittest import mock
 
-from picture import listing, report
+from picture import listing, page, report
 from picture.others import ALLOCATORS, best_routes, others
 from picture.webs import Webs
 from pranet import certificate
@@ -269,6 +271,19 @@ class Headings(unittest.TestCase):
         module, procedure = report.headings(source)
         self.assertEqual((module.line, module.parameters), (1, []))
         self.assertEqual(procedure.parameters, [("a", False), ("b", False), ("c", True)])
+
+
+class Page(unittest.TestCase):
+    def test_where_many_procedures_stand_the_open_one_is_named(self):
+        for count, words in ((12, ""), (13, 'Open is <a href="#p3">P3</a>. ')):
+            names = [SimpleNamespace(name=f"P{it}") for it in range(count)]
+            module = SimpleNamespace(
+                drawn=names,
+                certificate=SimpleNamespace(cost="size"),
+                reports={"size": SimpleNamespace(procedures=names)},
+            )
+            with mock.patch("picture.page.first_open", return_value=3):
+                self.assertEqual(page.opened(module), words)
 
 
 if __name__ == "__main__":
