@@ -21,6 +21,7 @@ import subprocess
 import sys
 import tempfile
 
+import declarations
 import further
 import grammar
 import offences
@@ -116,19 +117,22 @@ def at_token(name, source, at, words):
     return Place(name, source, end - 1, end).tell(words)
 
 
-def hint(token, before, reserved, wanted):
-    """What was meant by a token that can't stand there, if that can be guessed."""
-    for it in [token, *before[-1:]]:
-        if told := offences.capitals(it, reserved):
+def reserved_meant(words, number, reserved):
+    """The reserved word that was meant by the token that can't stand, or by the one before it."""
+    near = [number, number - 1][: number + 1]
+    for at in near:
+        if told := offences.capitals(words[at], reserved):
             return told
-    signs = {(":=", "="): "`:=` assigns, and `=` compares"}
-    signs["=", ":="] = "a value is assigned by `:=`"
-    if ("; " + token).strip("; ") in ("=", ":=") and (told := signs.get((token, wanted))):
-        return told
-    for it in [token, *before[-1:]]:
-        if near := further.reserved_near(it, before, reserved):
-            return f"`{it}`{near}"
+    for at in near:
+        if told := further.reserved_near(words, number, at, reserved):
+            return f"`{words[at]}`{told}"
     return ""
+
+
+SIGNS = {
+    (":=", "="): "`:=` assigns, and `=` compares",
+    ("=", ":="): "a value is assigned by `:=`",
+}
 
 
 def wanted_sign(token, expected):
@@ -150,10 +154,13 @@ def unexpected(name, source, at):
     token = shown(source[at : token_end(source, at)])
     last = f"behind `{before[-1]}`" if before else "at the begin of a module"
     told = at_token(name, source, at, f"`{token}` can't stand here, {last}{wanted}")
-    meant = ""
-    if '";"' in expected and further.Text(source).lacks_semicolon(len(before)):
+    text, number = further.Text(source), len(before)
+    if '";"' in expected and text.is_statement(number) and text.lacks_semicolon(number):
         meant = f"a `;` is missing behind `{before[-1]}`"
-    meant = meant or hint(token, before, rules.reserved, wanted_sign(token, expected))
+    else:
+        meant = reserved_meant(text.words, number, rules.reserved)
+        meant = meant or declarations.meant(text, number)
+        meant = meant or SIGNS.get((token, wanted_sign(token, expected)), "")
     return [*told, f"  {meant}"] if meant else told
 
 

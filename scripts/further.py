@@ -2,10 +2,11 @@
 
 The compiler tells the first error of a module. Where that is in a statement the statement is left
 out of a copy, or its condition is replaced, or a semicolon that is missing is put in, and the
-compiler is asked again. No other line of the module changes by that, so what it says of another
-line of the copy is wrong in the module too. Errors that share a line with one before are not told,
-nor is twice that a name is declared nowhere. Nothing is guessed behind an error in a declaration or
-in how statements nest.
+compiler is asked again; where it is in a declaration that is mended (declarations.py). No other
+line of the module changes by that, so what it says of another line of the copy is wrong in the
+module too, unless it has a name whose declaration was mended by a guess. Errors that share a line
+with one before are not told, nor is twice that a name is declared nowhere, nor how statements nest
+behind another error.
 """
 
 import difflib
@@ -13,8 +14,10 @@ import re
 import subprocess
 import tempfile
 
+import declarations
 import grammar
 import offences
+import repairs
 from places import Place, shown, tokens
 from pranet.compiler import with_source
 
@@ -23,6 +26,9 @@ TRIES = 20  # copies of a module that are compiled
 FAULT = re.compile(
     r"fault (?:grammar token \d+|rule \d+ token \d+|bad-byte|number-too-large) at (\d+)"
 )
+RULE = re.compile(r"fault rule (\d+) ")
+NAMES_ALONE = (1, 2, 3, 4)  # rules that ask nothing of what names stand for
+OF_NAMES = (1, 2, 5)  # rules that a name breaks which is declared nowhere, or ends nothing
 UNDECLARED = "fault rule 5 "  # a name that is so in one line is so in others
 BEHIND = ("BEGIN", "THEN", "ELSE", "DO", "REPEAT", ";")  # where a statement begins
 STOPS = (";", "END", "ELSE", "ELSIF", "UNTIL", "THEN", "DO")  # where it, or its condition, ends
@@ -82,6 +88,18 @@ class Text:
         lines = b"\n" * self.source.count(b"\n", start, stop)
         return self.source[:start] + by + lines + self.source[stop:]
 
+    def edited(self, edit):
+        """The module with an edit."""
+        copy = self
+        for part in sorted(edit.parts, reverse=True):
+            copy = Text(copy.replaced(*part))
+        return copy
+
+    def mentioned(self, start, stop):
+        """The words of a stretch."""
+        spans = zip(self.words, self.spans)
+        return {word for word, (first, end) in spans if first < stop and start < end}
+
     def rows(self, start, stop):
         """The lines, from 0, of a stretch."""
         first = self.source.count(b"\n", 0, start)
@@ -105,13 +123,19 @@ class Text:
         return is_name and (is_apart or is_field or behind in (":=", "(", ";", "["))
 
     def edit(self, line, at):
-        """What is to be replaced so that a line of the compiler does not come again: where it
-        begins, where it ends, and by what; or None."""
-        if line.startswith("fault bad-byte"):
-            return at, at + 1, b" "
+        """What is to be replaced so that a line of the compiler does not come again, or None."""
         number = self.number(at)
-        if number is None or not self.is_statement(number):
+        if line.startswith("fault bad-byte"):
+            return declarations.Edit([(at, at + 1, b" ")])
+        if number is None:
             return None
+        if not self.is_statement(number):
+            return declarations.Editor(self).edit(line, number)
+        part = self.edit_of_statement(line, number)
+        return declarations.Edit([part]) if part else None
+
+    def edit_of_statement(self, line, number):
+        """Where what is replaced of a statement begins and ends, and by what; or None."""
         if line.startswith("fault grammar") and self.lacks_semicolon(number):
             end = self.spans[number - 1][1]
             return end, end, b";"
@@ -134,14 +158,22 @@ def reserved():
     return grammar.read().reserved
 
 
-def reserved_near(word, before, known):
-    """The reserved word that was meant by a name, as a question: of one that is long enough to be
-    told from others, stands in the module once and is none that the language has."""
+def nearest_reserved(word, before, known):
+    """The reserved word that was meant by a name, or nothing: of one that is long enough to be told
+    from others, stands in the module once and is none that the language has."""
     is_name = word.isalpha() and word not in known and word not in offences.PREDECLARED
     if not is_name or len(word) < SHORTEST or before.count(word) > 1:
         return ""
-    found = difflib.get_close_matches(word.upper(), known, 1, ALIKE)
-    return f"; did you mean `{found[0]}`?" if found else ""
+    return next(iter(difflib.get_close_matches(word.upper(), known, 1, ALIKE)), "")
+
+
+def reserved_near(words, number, at, known):
+    """The same as a question, of the name at a token, where a text goes wrong at it or right behind
+    it; it has to be what lets a reader go on farthest."""
+    meant = nearest_reserved(words[at], words[:number], known)
+    if meant and repairs.could_be(words, number, at, meant):
+        return f"; did you mean `{meant}`?"
+    return ""
 
 
 # ---- errors
@@ -163,24 +195,59 @@ def row_of(source, at):
     return source.count(b"\n", 0, at)
 
 
+class Doubt:
+    """What is not known of a copy since its declarations were mended by a guess."""
+
+    def __init__(self):
+        self.names, self.is_nameless = set(), False
+
+    def add(self, copy, edit):
+        """What an edit leaves in doubt of the copy that has it."""
+        self.names = declarations.with_doubt(copy.words, self.names | edit.doubtful)
+        self.is_nameless = self.is_nameless or edit.is_nameless
+
+    def is_of(self, copy, line, edit):
+        """Whether a line tells of a rule that would not be broken if something else was meant."""
+        found = RULE.match(line)
+        rule, at = int(found[1]) if found else 0, int(FAULT.fullmatch(line)[1])
+        if rule in OF_NAMES and self.is_nameless:
+            return True
+        if not rule or rule in NAMES_ALONE or not self.names:
+            return False
+        parts = edit.parts if edit else [(0, len(copy.source), b"")]
+        return any(
+            self.names & copy.mentioned(min(at, start), max(at + 1, stop))
+            for start, stop, _ in parts
+        )
+
+
 def lines_behind(compiler, source, line):
     """The lines with which the compiler refuses copies of a module without what it refused before,
     where they are apart from the first line and each other; with the copy that each is of."""
-    found, text, seen = FAULT.fullmatch(line), source, set()
+    found, copy, doubt = FAULT.fullmatch(line), Text(source), Doubt()
+    seen, put = set(), set()  # lines that were edited, and those where a semicolon was put in
     for _ in range(TRIES):
         if not found:
             return
-        at, copy = int(found[1]), Text(text)
-        name = (line.startswith(UNDECLARED), copy.word(copy.number(at) or 0))
-        if text is not source and not seen & {row_of(text, at), name}:
-            yield line, text
-        seen |= {name} if name[0] else set()
+        at = int(found[1])
         edit = copy.edit(line, at)
+        name = (line.startswith(UNDECLARED), copy.word(copy.number(at) or 0))
+        is_left = edit is None or row_of(copy.source, at) in put
+        if line.startswith("fault grammar") and seen and is_left:
+            return  # what was put in was not what is missing, or statements nest otherwise
+        is_new = copy.source is not source and not seen & {row_of(copy.source, at), name}
+        if is_new and not doubt.is_of(copy, line, edit):
+            yield line, copy.source
+        seen |= {name} if name[0] else set()
         if edit is None:
             return
-        seen |= {row_of(text, at), *copy.rows(*edit[:2])}
-        text = copy.replaced(*edit)
-        line = refused(compiler, text)
+        seen.add(row_of(copy.source, at))
+        for start, stop, by in edit.parts:
+            seen |= copy.rows(start, stop)
+            put |= {row_of(copy.source, at)} if by == b";" else set()
+        copy = copy.edited(edit)
+        doubt.add(copy, edit)
+        line = refused(compiler, copy.source)
         found = FAULT.fullmatch(line)
 
 
