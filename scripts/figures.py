@@ -7,7 +7,7 @@ A figure of docs/COURSE.md is what the exercise's solution comes to: the sum ove
 to 5 of three procedures, by size and by speed; of exercise 8 the bound. Each certificate is tested
 by `check`, and a figure more than 2 per cent off is told. With --exercise one alone is computed (0:
 all), with --modules the first M, which are not compared but printed. With --write the page gets what
-is computed. All take half an hour of a processor. The status is 0 where all agree, and else 1.
+is computed. All take some minutes of a processor. The status is 0 where all agree, and else 1.
 """
 
 import json

@@ -165,6 +165,16 @@ class Figures(unittest.TestCase):
         self.assertEqual(figures.figures(other), told | {3: (1234, 7)})
         self.assertEqual(figures.written(other, 3, told[3]), page)
 
+    def test_the_words_have_the_numbers_that_its_solution_of_negotiating_has(self):
+        words = " ".join(self.page().split("7. **Negotiating.**")[1].split("8. **")[0].split())
+        with mock.patch.object(sys, "path", [figures.SOLUTIONS, *sys.path]):
+            solution = runpy.run_path(f"{figures.SOLUTIONS}/negotiate.py")
+        self.assertIn("of half a unit in the deepest loop", words)
+        self.assertIn("grows by 40 per cent", words)
+        self.assertEqual((solution["BEGIN"], solution["GROWTH"]), (0.5, 1.4))
+        self.assertIn("Do that twice", words)
+        self.assertEqual(solution["TRIES"], 2)
+
     def test_what_is_near(self):
         self.assertTrue(figures.is_near(102, 100) and figures.is_near(98, 100))
         self.assertFalse(figures.is_near(103, 100) or figures.is_near(97, 100))
@@ -173,7 +183,7 @@ class Figures(unittest.TestCase):
     def test_solutions_come_to_the_figures_of_the_page(self):
         """Those that take seconds, on all modules; scripts/figures.py has all."""
         told, compiler = figures.figures(self.page()), Compiler(needs.program())
-        for exercise in (1, 2):
+        for exercise in (1, 2, 6):
             computed = figures.computed_of(compiler, exercise, figures.MODULES)
             is_near = all(map(figures.is_near, computed, told[exercise]))
             self.assertTrue(is_near, (exercise, computed))
