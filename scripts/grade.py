@@ -32,6 +32,7 @@ import tempfile
 
 import stopped
 import writing
+from checker.given import Broken
 from grading import points, tables
 from grading.entries import certificate_name, entry_of_command, entry_of_folder, students_of
 from grading.entries import module_name
@@ -105,7 +106,7 @@ def thresholds_of(name):
         try:
             return points.read(text.read(), tables.NUMBERS[2:])
         except points.NoPoints as error:
-            raise OSError(f"{name}, {error}") from error
+            raise Broken([f"{name}:{error}"]) from error
 
 
 def call(words):

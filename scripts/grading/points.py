@@ -46,8 +46,8 @@ def read(text, columns):
             continue
         parts = LINE.fullmatch(line)
         if not parts or parts[4] and parts[4] not in columns:
-            known = ", ".join(columns)
-            raise NoPoints(f"line {number}: POINTS cost|bound THRESHOLD is wanted, by {known}")
+            known = f"a number, or one of {', '.join(columns)}, or a share as 102% {columns[0]}"
+            raise NoPoints(f"{number}: `POINTS cost|bound THRESHOLD` is wanted: {known}")
         share = float(parts[3]) / 100 if parts[3] else 1.0
         number = int(parts[5]) if parts[5] else None
         found.append(Threshold(float(parts[1]), parts[2], share, parts[4], number))

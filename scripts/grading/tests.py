@@ -130,7 +130,7 @@ class Points(unittest.TestCase):
 
     def test_lines_that_are_none_are_told(self):
         for text in ("x cost home", "1 price home", "1 cost colouring", "1 cost 5 %", "1 cost"):
-            with self.assertRaisesRegex(points.NoPoints, "line 2: POINTS cost"):
+            with self.assertRaisesRegex(points.NoPoints, "2: `POINTS cost"):
                 points.read(f"\n{text}\n", self.columns)
         self.assertEqual(points.read("2 bound 50% linear scan", self.columns)[0].share, 0.5)
 
@@ -268,8 +268,9 @@ class Calls(unittest.TestCase):
             notes = io.StringIO()
             with redirect_stderr(notes):
                 words = ["m.ob", "--command", "a", "--points", file.name]
-                self.assertEqual(grade.main(words), 5)
-        self.assertIn("line 1: POINTS cost|bound THRESHOLD", notes.getvalue())
+                self.assertEqual(grade.main(words), 3)
+        line = f"{file.name}:1: `POINTS cost|bound THRESHOLD` is wanted: a number"
+        self.assertTrue(notes.getvalue().startswith(line), notes.getvalue())
 
 
 if __name__ == "__main__":
