@@ -12,6 +12,7 @@ All else is the call without these: its output, notes, files and status.
 import contextlib
 import json
 import os
+import re
 import shutil
 import subprocess
 import sys
@@ -24,9 +25,11 @@ import stopped
 import terminal
 import version
 import words as known_words
+from checker import json_text
 from pranet.compiler import default_program
 
 STDIN = "<stdin>"  # what FILE is called where it is standard input
+OF_PROCEDURE = re.compile(r"(.+), (procedure (\d+))(.*)")  # what a line is about
 OWN = ("--explain", "--json", "--help", "-h", "--version")
 TO_OUTPUT = ("compile", "gen", "apply", "check")  # the modes whose report is their output
 REPORTS = (*TO_OUTPUT, "run", "interp", "exec")
@@ -95,7 +98,21 @@ def as_errors(lines):
 
 def as_error(line):
     place, colon, words = line.partition(": ")
+    if colon and (found := OF_PROCEDURE.fullmatch(place)) and (line := placed(*found.groups())):
+        return f"{line}: error: {found[2]}{found[4]}: {words}"
     return f"{place}: error: {words}" if colon else f"pra: error: {line}"
+
+
+def placed(file, _, number, __):
+    """Where a procedure begins in the text of a certificate or of code, or None where that can't be
+    read again."""
+    try:
+        with open(file, encoding="utf-8") as text:
+            held = text.read()
+        at = json_text.position(held, ["procs", int(number)])
+    except (OSError, ValueError, StopIteration):
+        return None
+    return ":".join(map(str, (file, *json_text.line_and_column(held, at))))
 
 
 # ---- the value of a report

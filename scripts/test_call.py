@@ -9,6 +9,7 @@ import sys
 import tempfile
 import unittest
 
+import call as front
 import completion
 import manual
 import needs
@@ -71,6 +72,25 @@ class Calls(unittest.TestCase):
         self.assertEqual((status, out, lines[0]), (3, b"", "fault rule 5 token 4 at 18"))
         self.assertRegex(lines[1], r"^m\.ob:3:3: error: `x` is declared nowhere")
         self.assertEqual(lines[2:4], ["    x := 1", "    ^"])
+
+    def test_errors_of_certificates_stand_where_their_procedure_begins(self):
+        with open(f"{needs.TOP}/examples/course/by-hand.cert", encoding="utf-8") as file:
+            text = file.read().replace('"total":4', '"total":3')
+        with tempfile.TemporaryDirectory(prefix="pra-call-") as room:
+            with open(f"{room}/a.cert", "w", encoding="utf-8") as file:
+                file.write(text)
+            status, _, notes = call(["--explain", "check", "a.cert"], cwd=room)
+        column = text.index('"procs":[') + len('"procs":[') + 1
+        line = f"a.cert:1:{column}: error: procedure 0, total: its routes cost 4"
+        first, second, *_ = notes.splitlines()
+        self.assertEqual((status, first), (3, "fault certificate procedure 0 total"))
+        self.assertTrue(second.startswith(line), notes)
+        for line, wanted in (
+            ("no.cert, procedure 0, total: w", "no.cert, procedure 0, total: error: w"),
+            ("a.pri, byte 3: w", "a.pri, byte 3: error: w"),
+            ("w", "pra: error: w"),
+        ):
+            self.assertEqual(front.as_error(line), wanted)
 
     def test_a_file_that_is_missing_is_told_in_one_way(self):
         for line in (["--explain", "cert", "no.ob"], ["network", "no.ob"], ["show", "no.ob"]):
