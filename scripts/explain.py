@@ -27,6 +27,7 @@ import grammar
 import offences
 import reading
 import reasons
+import repairs
 import stopped
 import stuck
 import traps
@@ -144,7 +145,9 @@ def wanted_sign(token, expected):
 def unexpected(name, source, at):
     """What can't stand at a byte, what was read before it, and what was expected there."""
     before = [shown(source[start:end]) for start, end in tokens(source[:at])]
-    rules, expected = grammar.behind(before)
+    text, number = further.Text(source), len(before)
+    reading = repairs.Reading(text.words, number)
+    rules, expected = reading.grammar, reading.symbols
     wanted = grammar.in_words(rules, expected)
     wanted = f"; expected: {wanted}" if wanted else "; nothing may follow the last period"
     if at >= len(source):
@@ -154,7 +157,6 @@ def unexpected(name, source, at):
     token = shown(source[at : token_end(source, at)])
     last = f"behind `{before[-1]}`" if before else "at the begin of a module"
     told = at_token(name, source, at, f"`{token}` can't stand here, {last}{wanted}")
-    text, number = further.Text(source), len(before)
     if '";"' in expected and text.is_statement(number) and text.lacks_semicolon(number):
         meant = f"a `;` is missing behind `{before[-1]}`"
     else:

@@ -5,6 +5,7 @@ algorithm (An efficient context-free parsing algorithm, 1970): of each number of
 places in productions at which a reader may be.
 """
 
+import functools
 import os
 import re
 
@@ -83,6 +84,7 @@ class Grammar:
         return {it for it in reached if it not in self.rules}
 
 
+@functools.cache
 def read():
     """The grammar of the page on the language."""
     with open(LANGUAGE, encoding="utf-8") as text:

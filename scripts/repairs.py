@@ -35,20 +35,37 @@ class Repair:
         return self.token.strip('"') if self.token and self.token.startswith('"') else ""
 
 
+class Last:
+    """The tokens that were read last, and where a reader is behind each number of them: who reads
+    the same ones again, or a copy with an edit, begins where both part."""
+
+    words, sets = [], []
+
+
 class Reading:
     """A reader behind the first tokens of a text."""
 
     def __init__(self, words, number):
         self.grammar = grammar.read()
         self.reader = grammar.Reader(self.grammar)
-        for it in words[:number]:
-            self.reader.read(self.kind(it))
+        self.go_on(words[:number])
         self.count = len(self.reader.sets)
-        self.expected = self.reader.expected() - set(self.grammar.rules)
+        self.symbols = self.reader.expected()
+        self.expected = self.symbols - set(self.grammar.rules)
         self.rest = [self.kind(it) for it in words[number : number + AHEAD]]
         self.capitals = f'"{words[number].upper()}"' if number < len(words) else ""
         self.is_twice = words[number - 1 : number] == words[number : number + 1]
         self.is_name = number > 1 and self.kind(words[number - 2]) in DECLARING
+
+    def go_on(self, words):
+        """Reads the tokens of a text, and goes over those that can't stand."""
+        same = (at for at, (one, two) in enumerate(zip(Last.words, words)) if one != two)
+        at = next(same, min(len(Last.words), len(words)))
+        self.reader.sets[:] = Last.sets[: at + 1] or self.reader.sets
+        for it in words[at:]:
+            if not self.reader.read(self.kind(it)):
+                self.reader.sets.append(self.reader.sets[-1])
+        Last.words, Last.sets = words, self.reader.sets[:]
 
     def kind(self, word):
         return grammar.kind_of(word, self.grammar.reserved)

@@ -2,10 +2,12 @@
 
 import re
 import unittest
+from unittest import mock
 
 import declarations
 import explain
 import further
+import grammar
 import needs
 import repairs
 
@@ -174,6 +176,15 @@ class Repairs(unittest.TestCase):
             ("MODULE M", 2, None),
         ):
             self.assertEqual(self.best(text, number), wanted, text)
+
+    def test_tokens_are_read_once(self):
+        words = ("MODULE M ; VAR " + "x : T ; " * 50).split()
+        repairs.Reading(words, len(words))
+        with mock.patch.object(grammar.Reader, "read", return_value=True) as read:
+            repairs.Reading(words[:-1] + ["y"], len(words) - 1)
+            read.assert_not_called()
+            repairs.Reading(words[:-4] + ["y"], len(words) - 3)
+            self.assertEqual(read.call_count, 1)
 
 
 @needs.compiler
