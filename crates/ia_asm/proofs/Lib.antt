@@ -1,3 +1,4 @@
 pub mod Assembling
+pub mod ByteCounts
 pub mod ImageFile
 pub mod Overwriting

@@ -9,6 +9,7 @@ use Rattle.ia_emit.specs.Open.{Within, filled}
 use Rattle.ia_emit.specs.Operands.{IsSmall}
 use Rattle.ia_emit.specs.Sound.{OffsetsFit}
 use Rattle.ia_asm.specs.declared.assembly.Assembly.{Assembly}
+use Rattle.ia_asm.specs.declared.counting.CountedAssembly.{CountedAssembly}
 use Rattle.pl_place.specs.declared.placed.LProc.{LProc}
 use Rattle.pl_place.specs.Valid.{IsPlaced}
 
@@ -31,6 +32,12 @@ pub record IsAssembly (procs : List LProc) (data_words : ℕ) (a : Assembly) : T
   pub words_are : a.data_words ≡ data_words
   pub few_words : data_words ≤ max_data_words
   pub offsets : OffsetsFit procs
+
+-- The bytes of these procedures' code were counted, and as long as an image has room for it the code
+-- is assembled.
+pub record IsCounted (procs : List LProc) (data_words : ℕ) (c : CountedAssembly) : Type 0 where
+  pub bytes : c.bytes ≡ code_size procs
+  pub fits : code_size procs ≤ max_code_bytes → IsAssembly procs data_words c.assembly
 
 -- nothing of an assembly has changed but the room that it has
 pub record IsUnchanged (old new : Assembly) : Type 0 where

@@ -47,6 +47,13 @@ impl Assembly {
         })
     }
 
+    /// How many bytes of code there are so far.
+    pub(crate) fn bytes(&self) -> usize
+        ensures { result ≡ length self.now.code.items }
+    {
+        self.code.len()
+    }
+
     /// Adds the next procedure.
     ///
     /// # Errors

@@ -14,8 +14,10 @@
 #![tactic(auto)]
 
 pub mod assembly;
+pub mod counting;
 mod filling;
 pub mod image_file;
 
 pub use assembly::{Assembly, assemble};
+pub use counting::CountedAssembly;
 pub use image_file::{Field, ImageFault, image_bytes, image_of};
