@@ -18,8 +18,7 @@ _pra() {{
     done
     COMPREPLY=()
     case $before in
-    --cost) COMPREPLY=($(compgen -W "size speed" -- "$word")) && return ;;
-    {numbers}) return ;;
+{choices}    {numbers}) return ;;
     esac
     case $mode in
 {takes}    esac
@@ -35,15 +34,19 @@ _pra() {{
 }}
 complete -o default -F _pra pra ./pra
 """
+CHOICE = """    {name}) COMPREPLY=($(compgen -W "{choices}" -- "$word")) && return ;;
+"""
 
 
 def text():
     known, options = known_words.table()
     numbers = [it.name for it in options.values() if it.value and known_words.is_number(it)]
+    chosen = ((it.name, " ".join(known_words.choices(it))) for it in options.values())
+    lines = (CHOICE.format(name=name, choices=choices) for name, choices in chosen if choices)
     takes = (f'    {it.name}) takes="{" ".join(it.names)}" ;;\n' for it in known.values())
     everywhere = " ".join(known_words.EVERYWHERE)
-    parts = {"numbers": " | ".join(numbers), "takes": "".join(takes), "everywhere": everywhere}
-    return TEXT.format(words=" ".join(known), **parts)
+    parts = {"choices": "".join(lines), "numbers": " | ".join(numbers), "takes": "".join(takes)}
+    return TEXT.format(words=" ".join(known), everywhere=everywhere, **parts)
 
 
 def main(words):

@@ -64,10 +64,17 @@ class Wrong(unittest.TestCase):
             ("--rounds", "-1", "its value is missing"),
             ("--size", "0", "1 to 200"),
             ("--cost", "spede", "did you mean speed?"),
+            ("--from", "modul", "did you mean module?"),
             ("--image", "a.ob", "a.ob is FILE"),
         ):
             (line,) = self.told("compile", "a.ob", option, value)
             self.assertIn(part, line)
+
+    def test_what_gen_writes_is_no_code(self):
+        (line,) = self.told("gen", "a.ob", "--from", "code")
+        self.assertIn("gen writes a module", line)
+        self.assertEqual(self.told("gen", "a.ob", "--from", "module"), [])
+        self.assertEqual(self.told("run", "a.ob", "--from", "code"), [])
 
     def test_what_is_missing_is_told(self):
         self.assertIn("FILE is missing", self.told("run")[0])

@@ -168,20 +168,33 @@ def is_number(option):
     return number_range(option) is not None or option.values == "a number"
 
 
+def choices(option):
+    """The words of which one is the value of an option, or none where it has other values."""
+    return option.values.split(" or ") if " or " in option.values else []
+
+
+def wrong_choice(option, value, mode):
+    """What is wrong with a value that is to be one of a few words, or None."""
+    known = choices(option)
+    if value not in known:
+        return f"{option.name} takes {option.values}, and not {value!r}{meant(value, known)}"
+    is_code = option.name == "--from" and value == "code"
+    return "gen writes a module to FILE, and no code" if is_code and mode == ["gen"] else None
+
+
 def wrong_value(option, value, words):
-    """What is wrong with the value of an option, or None."""
+    """What is wrong with the value of an option, or None. The first two words are MODE and FILE."""
     takes = f"{option.name} takes {option.values}"
     if found := number_range(option):
         is_number = value.isascii() and value.isdecimal() and len(value) <= 10
         if not is_number:
             return f"{takes}, in decimal digits, and {value!r} is no such number"
         return None if found[0] <= int(value) <= found[1] else f"{takes}, and not {value}"
-    if option.name == "--cost":
-        known = ("size", "speed")
-        return None if value in known else f"{takes}, and not {value!r}{meant(value, known)}"
+    if choices(option):
+        return wrong_choice(option, value, words[:1])
     if not value:
         return f"{option.name} takes a name that is not empty"
-    if value in words:
+    if value in words[1:2]:
         return f"{value} is FILE, and the image would be written over it: give another name"
     return None
 
@@ -239,7 +252,7 @@ def wrong(words):
     yield from wrong_plain(plain, modes)
     yield from faults
     for name, value in given.items():
-        if fault := wrong_value(options[name], value, plain[1:2]):
+        if fault := wrong_value(options[name], value, plain):
             yield fault
 
 

@@ -1,14 +1,15 @@
--- The certificate of a compiled module holds.
+-- The certificate of compiled code holds.
 use Rattle.std.proofs.Common.{◌≡◌, ℕ, ◌-◌, ◌*◌, ℤ, pos, ◌-ℤ◌, ◌≤ℤ◌, inr, List, map}
 use Rattle.std.proofs.Common.{[], ◌∷◌, length, replicate, Some, refl, sym, ap, subst, ◌∙◌, arith}
 use Rattle.std.specs.Prelude.{slice_get, option_map}
 use Rattle.std.proofs.lemmas.Int.{ints}
 use Rattle.std.proofs.lemmas.Option.{slice_get-map, slice_get_within}
 use Rattle.pra_base.specs.declared.code.VProc.{VProc}
-use Rattle.pra_base.specs.Valid.{PushesBeforeCalls, TakesArgs, counts_of}
-use Rattle.ob_syntax.specs.declared.checked.Checked.{Checked}
-use Rattle.ob_syntax.specs.declared.checked.CheckedProc.{CheckedProc}
+use Rattle.pra_base.specs.Valid.{counts_of}
+use Rattle.cert_form.specs.declared.codes.CodeFile.{CodeFile}
+use Rattle.cert_form.specs.declared.codes.NamedCode.{NamedCode}
 use Rattle.net_form.specs.declared.net.Net.{Net}
+use Rattle.net_form.specs.declared.routes.Routes.{Routes}
 use Rattle.net_form.specs.Cost.{cost_of}
 use Rattle.net_form.specs.Flow.{flow}
 use Rattle.net_dual.specs.Priced.{AreInRange}
@@ -17,10 +18,10 @@ use Rattle.al_round.specs.Stages.{IsBest, IsRoundedUp}
 use Rattle.al_round.proofs.Bounds.{greatest_in_range, greatest_value}
 use Rattle.pra_report.specs.declared.report.ProcOut.{ProcOut}
 use Rattle.pra_report.specs.Report.{last_cost, last_bound}
-use Rattle.pra_follow.specs.Translation.{IsCodeOf, AreAdmittedIn}
+use Rattle.pra_follow.specs.Codes.{AreAdmittedIn}
 use Rattle.pra_follow.proofs.Sides.{same_maps}
 use Rattle.pra_compile.specs.declared.output.Compiled.{Compiled}
-use Rattle.pra_compile.specs.Compiled.{Wanted, IsGranted, IsCompiled}
+use Rattle.pra_compile.specs.Compiled.{Wanted, IsGranted, IsBuilt, codes_in}
 use Rattle.pra_compile.proofs.Done.{there_is}
 use Rattle.pra_compile.proofs.Told.{last_cost_of, last_bound_is}
 use Rattle.cert_form.specs.declared.certificate.Cert.{Cert}
@@ -30,8 +31,8 @@ use Rattle.cert_check.specs.declared.check.Reason.TheVariants.{Code, Routes as W
 use Rattle.cert_check.specs.declared.check.Reason.TheVariants.{Prices as Listed, Total, Bound}
 use Rattle.cert_check.specs.declared.check.CertAnswer.TheVariants.{Yes}
 use Rattle.cert_check.specs.Listed.{HasPrices, prices_of, with_caps, with_tie_numbers}
-use Rattle.vc_valid.specs.Listed.{HasCode}
 use Rattle.cert_check.specs.Reasons.{weights_by, counts_in, IsBelowValue, MeetsIn}
+use Rattle.vc_valid.specs.Listed.{HasCode}
 use Rattle.cert_check.specs.Reasons.{Meets, MeetsAll, IsAnswerOf}
 use Rattle.cert_make.specs.Made.{caps_from, numbers_from, IsCertOf, IsCertificateOf}
 use Rattle.cert_make.proofs.ListedAgain.{are_caps, caps_again, are_numbers, numbers_again}
@@ -98,20 +99,20 @@ args_of : (outs : List ProcOut) → counts_of (map (λ (out : ProcOut). out.code
 args_of [] = refl
 args_of (out ∷ outs) = ap (λ counts. out.code.args ∷ counts) (args_of outs)
 
-module _ (program : Checked) (wanted : Wanted) (compiled : Compiled) (c : Certificate)
-    (same : wanted.weights ≡ weights_by c.cost) (is : IsCompiled program wanted compiled)
+module _ (file : CodeFile) (wanted : Wanted) (compiled : Compiled) (c : Certificate)
+    (same : wanted.weights ≡ weights_by c.cost) (is : IsBuilt file wanted compiled)
     (certified : IsCertificateOf c.cost compiled.procs c) where
-  same_counts : counts_of (map (λ (out : ProcOut). out.code) compiled.procs) ≡ counts_in c.procs
+  same_counts : counts_of (codes_in file) ≡ counts_in c.procs
   same_counts =
-      args_of compiled.procs
+      ap counts_of (sym is.placement.codes)
+      ∙ args_of compiled.procs
       ∙ same_maps (λ (out : ProcOut). out.code.args) (λ (cert : Cert). cert.code.args)
       compiled.procs c.procs certified.count (λ k out cert a b.
       ap (λ (code : VProc). code.args) (sym (certified.each k out cert a b).code))
 
   -- ---- of one procedure
 
-  module _ (p : ℕ) (proc : CheckedProc) (out : ProcOut) (net : Net)
-      (there : slice_get compiled.procs p ≡ Some out) (code : IsCodeOf program p proc out.code)
+  module _ (p : ℕ) (out : ProcOut) (net : Net) (code : HasCode (counts_in c.procs) p out.code)
       (routes : AreAdmittedIn out.code net out.routes)
       (granted : IsGranted wanted net out.routes out.prices out.lines) where
     best : IsBest granted.allocation.stages (length out.lines - 1) out.prices
@@ -122,17 +123,6 @@ module _ (program : Checked) (wanted : Wanted) (compiled : Compiled) (c : Certif
     in_range = greatest_in_range net wanted.weights granted.allocation.stages
         granted.allocation.allocated.are_stages (length out.lines - 1) out.prices best.value
         best.greatest
-
-    has_code : HasCode (counts_in c.procs) p out.code
-    has_code = record {
-      id = code.id;
-      sized = code.sized;
-      valid = code.valid;
-      calls = subst (λ counts. PushesBeforeCalls (TakesArgs counts) out.code.blocks) same_counts
-          (is.codes.pushes_before_calls p out.code
-          (slice_get-map (λ (out : ProcOut). out.code) compiled.procs p
-          ∙ ap (option_map (λ (out : ProcOut). out.code)) there));
-    }
 
     has_total : cost_of net (weights_by c.cost) (flow net out.routes) ≡ last_cost out.lines
     has_total = subst (λ w. cost_of net w (flow net out.routes) ≡ last_cost out.lines) same
@@ -161,7 +151,7 @@ module _ (program : Checked) (wanted : Wanted) (compiled : Compiled) (c : Certif
     meets_in Bound = inr below
 
     meets : (r : Reason) → Meets c p (made out) r
-    meets Code = has_code
+    meets Code = code
     meets Ways = record { net = net; is_net = routes.is_net; holds = meets_in Ways }
     meets Listed = record { net = net; is_net = routes.is_net; holds = meets_in Listed }
     meets Total = record { net = net; is_net = routes.is_net; holds = meets_in Total }
@@ -171,11 +161,21 @@ module _ (program : Checked) (wanted : Wanted) (compiled : Compiled) (c : Certif
   all_hold p cert at =
       let lt = slice_get_within c.procs p cert at in
       let certs = certified.count in
-      let outs = is.count in
-      let routed = is.behind_count in
-      let proc = there_is program.procs p (omega (arith, lt, certs, outs)) in
+      let outs = is.placement.count in
+      let carriages = is.placement.carriage_count in
+      let named = there_is file.procs p (omega (arith, lt, certs, outs)) in
       let out = there_is compiled.procs p (omega (arith, lt, certs)) in
-      let r = there_is is.behind p (omega (arith, lt, certs, routed)) in
-      let kept = is.each p proc.0 out.0 r.0 proc.1 out.1 r.1 in
+      let carriage = there_is is.placement.carriages p (omega (arith, lt, certs, carriages)) in
+      let kept = is.placement.each p named.0 out.0 carriage.0 named.1 out.1 carriage.1 in
+      let runs = is.runnable.each p named.0.code
+      (slice_get-map (λ (n : NamedCode). n.code) file.procs p
+      ∙ ap (option_map (λ (n : NamedCode). n.code)) named.1) in
+      let code : HasCode (counts_in c.procs) p out.0.code =
+      subst (λ counts. HasCode counts p out.0.code) same_counts
+      (subst (λ (d : VProc). HasCode (counts_of (codes_in file)) p d) (sym kept.code) runs) in
+      let routes : AreAdmittedIn out.0.code carriage.0.net out.0.routes =
+      subst (λ (d : VProc). AreAdmittedIn d carriage.0.net out.0.routes) kept.carried
+      (subst (λ (rs : Routes). AreAdmittedIn carriage.0.code carriage.0.net rs) kept.routes
+      (is.placement.are p carriage.0 carriage.1).routes) in
       subst (MeetsAll c p) (is_made out.0 cert (certified.each p out.0 cert out.1 at))
-      (meets p proc.0 out.0 kept.net out.1 kept.code kept.routes kept.allocated)
+      (meets p out.0 carriage.0.net code routes kept.allocated)

@@ -1,16 +1,15 @@
--- Certificates of compiled modules are whole.
-use Rattle.std.proofs.Common.{◌≡◌, ℕ, zero, suc, ◌+◌, ◌<◌, ◌≤◌, List, [], ◌∷◌, length, map, Some}
+-- Certificates of compiled code are whole.
+use Rattle.std.proofs.Common.{◌≡◌, ℕ, zero, suc, ◌+◌, ◌<◌, ◌≤◌, List, [], ◌∷◌, length, Some}
 use Rattle.std.proofs.Common.{refl, ap, ◌∙◌, arith}
-use Rattle.std.specs.Prelude.{slice_get}
+use Rattle.std.specs.Prelude.{slice_get, option_map}
 use Rattle.std.proofs.lemmas.List.{length-map}
-use Rattle.std.proofs.lemmas.Option.{slice_get_within}
+use Rattle.std.proofs.lemmas.Option.{slice_get_within, slice_get-map}
 use Rattle.pra_base.specs.declared.code.VProc.{VProc}
 use Rattle.pra_base.specs.Valid.{counts_of}
-use Rattle.ob_syntax.specs.declared.checked.Checked.{Checked}
-use Rattle.pra_report.specs.declared.report.ProcOut.{ProcOut}
-use Rattle.pra_report.specs.Report.{most_procs}
+use Rattle.cert_form.specs.declared.codes.CodeFile.{CodeFile}
+use Rattle.cert_form.specs.declared.codes.NamedCode.{NamedCode}
 use Rattle.pra_compile.specs.declared.output.Compiled.{Compiled}
-use Rattle.pra_compile.specs.Compiled.{Wanted, IsCompiled}
+use Rattle.pra_compile.specs.Compiled.{Wanted, IsBuilt, codes_in}
 use Rattle.pra_compile.proofs.Done.{there_is}
 use Rattle.cert_form.specs.declared.certificate.Cert.{Cert}
 use Rattle.cert_form.specs.declared.certificate.Certificate.{Certificate}
@@ -30,34 +29,39 @@ are_numbered n (cert ∷ certs) few each =
           omega (arith, next)),
     )
 
-module _ (program : Checked) (wanted : Wanted) (compiled : Compiled) (c : Certificate)
-    (is : IsCompiled program wanted compiled) (certified : IsCertificateOf c.cost compiled.procs c)
+module _ (file : CodeFile) (wanted : Wanted) (compiled : Compiled) (c : Certificate)
+    (is : IsBuilt file wanted compiled) (certified : IsCertificateOf c.cost compiled.procs c)
   where
     pub has_one : 0 < length c.procs
     has_one =
-        let codes = map (λ (out : ProcOut). out.code) compiled.procs in
-        let inside = slice_get_within (counts_of codes) 0 0 is.codes.body in
-        let counts = length-map codes (λ (code : VProc). code.args) in
-        let all = length-map compiled.procs (λ (out : ProcOut). out.code) in
+        let inside = slice_get_within (counts_of (codes_in file)) 0 0 is.runnable.body in
+        let counts = length-map (codes_in file) (λ (code : VProc). code.args) in
+        let all = length-map file.procs (λ (named : NamedCode). named.code) in
+        let outs = is.placement.count in
         let count = certified.count in
-        omega (arith, inside, counts, all, count)
+        omega (arith, inside, counts, all, outs, count)
 
     id_is : (p : ℕ) (cert : Cert) → slice_get c.procs p ≡ Some cert → cert.code.id.0 ≡ p
     id_is p cert there =
         let lt = slice_get_within c.procs p cert there in
         let certs = certified.count in
-        let outs = is.count in
-        let routed = is.behind_count in
-        let proc = there_is program.procs p (omega (arith, lt, certs, outs)) in
+        let outs = is.placement.count in
+        let carriages = is.placement.carriage_count in
+        let named = there_is file.procs p (omega (arith, lt, certs, outs)) in
         let out = there_is compiled.procs p (omega (arith, lt, certs)) in
-        let r = there_is is.behind p (omega (arith, lt, certs, routed)) in
-        ap (λ (code : VProc). code.id.0) (certified.each p out.0 cert out.1 there).code
-        ∙ (is.each p proc.0 out.0 r.0 proc.1 out.1 r.1).code.id
+        let carriage = there_is is.placement.carriages p (omega (arith, lt, certs, carriages)) in
+        let code = is.runnable.each p named.0.code
+        (slice_get-map (λ (n : NamedCode). n.code) file.procs p
+        ∙ ap (option_map (λ (n : NamedCode). n.code)) named.1) in
+        ap (λ (code : VProc). code.id.0) ((certified.each p out.0 cert out.1 there).code
+        ∙ (is.placement.each p named.0 out.0 carriage.0 named.1 out.1 carriage.1).code)
+        ∙ code.id
 
-    pub numbered : length program.procs ≤ most_procs → AreNumbered 0 c.procs
-    numbered few =
+    pub numbered : AreNumbered 0 c.procs
+    numbered =
+        let few = is.runnable.few in
         let certs = certified.count in
-        let outs = is.count in
+        let outs = is.placement.count in
         are_numbered 0 c.procs (omega (arith, few, certs, outs)) (λ p cert there.
         let id = id_is p cert there in
         omega (arith, id))

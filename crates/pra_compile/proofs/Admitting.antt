@@ -9,7 +9,7 @@ use Rattle.net_form.specs.declared.routes.Routes.{Routes}
 use Rattle.net_form.specs.Network.{IsNet}
 use Rattle.net_form.specs.Tables.{all_tables}
 use Rattle.net_form.proofs.OneNetwork.{one_network}
-use Rattle.pra_follow.specs.Translation.{AreAdmittedIn}
+use Rattle.pra_follow.specs.Codes.{AreAdmittedIn}
 use Rattle.pra_compile.specs.declared.given.GivenRoutes.{GivenRoutes}
 use Rattle.pra_compile.specs.Given.{AdmitsGiven}
 

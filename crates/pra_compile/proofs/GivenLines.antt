@@ -2,21 +2,21 @@
 use Rattle.std.proofs.Common.{◌≡◌, ℕ, ◌^◌, ◌<◌, ◌≤◌, List, length, Some, sym, ap, subst, ◌∙◌, arith}
 use Rattle.std.specs.Prelude.{slice_get}
 use Rattle.pra_list.proofs.Options.{some_same}
-use Rattle.ob_syntax.specs.declared.checked.Checked.{Checked}
-use Rattle.ob_syntax.specs.declared.checked.CheckedProc.{CheckedProc}
+use Rattle.cert_form.specs.declared.codes.CodeFile.{CodeFile}
+use Rattle.cert_form.specs.declared.codes.NamedCode.{NamedCode}
 use Rattle.net_form.specs.declared.prices.Line.{Line}
 use Rattle.net_form.specs.Flow.{flow}
-use Rattle.pl_place.specs.Behind.{Routed}
+use Rattle.pra_follow.specs.Codes.{Carriage}
 use Rattle.pra_report.specs.declared.report.ProcOut.{ProcOut}
-use Rattle.pra_report.specs.Report.{last_cost, last_bound, most_procs, HaveTotals, IsOfMany}
+use Rattle.pra_report.specs.Report.{last_cost, last_bound, HaveTotals, IsOfMany}
 use Rattle.pra_compile.specs.declared.given.GivenRoutes.{GivenRoutes}
 use Rattle.pra_compile.specs.declared.output.Compiled.{Compiled}
-use Rattle.pra_compile.specs.Compiled.{IsProcBy, IsCompiledBy}
+use Rattle.pra_compile.specs.Compiled.{IsProcBy, IsBuiltBy}
 use Rattle.pra_compile.specs.Given.{IsOfGiven, given_by}
 use Rattle.pra_compile.proofs.Totals.{all_total}
 
-module _ (program : Checked) (given : List GivenRoutes) (p : ℕ) (proc : CheckedProc)
-    (out : ProcOut) (r : Routed) (is : IsProcBy program (given_by given) p proc out r) where
+module _ (given : List GivenRoutes) (p : ℕ) (named : NamedCode) (out : ProcOut) (c : Carriage)
+    (is : IsProcBy (given_by given) p named out c) where
   abbrev is_given : IsOfGiven given p out.routes out.prices out.lines
   is_given = is.allocated
 
@@ -33,10 +33,8 @@ module _ (program : Checked) (given : List GivenRoutes) (p : ℕ) (proc : Checke
     same_routes : out.routes ≡ own.routes
     same_routes = is_given.left.same ∙ ap (λ (o : GivenRoutes). o.routes) same_own
 
-    pub flow_given : r.flow ≡ flow r.net own.routes
-    flow_given =
-        subst (λ (r : Routed). r.flow ≡ flow r.net own.routes) (sym is.carried)
-        (ap (flow is.net) same_routes)
+    pub flow_given : flow c.net c.routes ≡ flow c.net own.routes
+    flow_given = ap (flow c.net) (is.routes ∙ same_routes)
 
   one_of_many : IsOfMany out
   one_of_many =
@@ -50,8 +48,8 @@ module _ (program : Checked) (given : List GivenRoutes) (p : ℕ) (proc : Checke
             (omega (arith, bound));
       }
 
-pub given_totals : (program : Checked) (given : List GivenRoutes) (compiled : Compiled) →
-    IsCompiledBy program (given_by given) compiled → length program.procs ≤ most_procs →
-    HaveTotals compiled.procs
-given_totals program given compiled is few =
-    all_total program (given_by given) compiled is (one_of_many program given) few
+pub given_totals : (file : CodeFile) (given : List GivenRoutes) (compiled : Compiled) →
+    IsBuiltBy file (given_by given) compiled → HaveTotals compiled.procs
+given_totals file given compiled is =
+    all_total file (given_by given) compiled is
+    (λ p named out c carriage. one_of_many given p named out c)

@@ -7,8 +7,7 @@ use Rattle.std.specs.Option.{option_map_or}
 use Rattle.std.proofs.lemmas.Bool.Decides.{nat_tests}
 use Rattle.std.proofs.lemmas.Option.{slice_get_within}
 use Rattle.pra_list.proofs.Options.{some_same}
-use Rattle.ob_syntax.specs.declared.checked.Checked.{Checked}
-use Rattle.ob_syntax.specs.declared.checked.CheckedProc.{CheckedProc}
+use Rattle.cert_form.specs.declared.codes.NamedCode.{NamedCode}
 use Rattle.net_form.specs.declared.net.Net.{Net}
 use Rattle.net_form.specs.declared.prices.Line.{Line}
 use Rattle.net_form.specs.declared.prices.Prices.{Prices}
@@ -16,7 +15,7 @@ use Rattle.net_form.specs.declared.routes.Routes.{Routes}
 use Rattle.net_form.specs.Admitted.{IsAdmitted}
 use Rattle.net_form.specs.Cost.{cost_of}
 use Rattle.net_form.specs.Flow.{Edge, flow}
-use Rattle.pl_place.specs.Behind.{Routed}
+use Rattle.pra_follow.specs.Codes.{Carriage}
 use Rattle.al_laws.specs.Settled.{AreSettled}
 use Rattle.al_round.specs.Lines.{AreLines, IsCost}
 use Rattle.al_round.specs.Watches.{WasObeyed, verdict_of}
@@ -174,19 +173,16 @@ module _ (wanted : Wanted) (net : Net) (routes : Routes) (prices : Prices) (line
 
 -- ---- of a procedure
 
-pub last_cost_carried : (program : Checked) (wanted : Wanted) (p : ℕ) (proc : CheckedProc)
-    (out : ProcOut) (r : Routed) → IsProcOut program wanted p proc out r → last_cost out.lines ≡
-    cost_of r.net wanted.weights r.flow
-last_cost_carried program wanted p proc out r is =
-    subst (λ (r : Routed). last_cost out.lines ≡ cost_of r.net wanted.weights r.flow)
-    (sym is.carried)
-    (last_cost_of wanted is.net out.routes out.prices out.lines is.allocated)
+pub last_cost_carried : (wanted : Wanted) (p : ℕ) (named : NamedCode) (out : ProcOut)
+    (c : Carriage) → IsProcOut wanted p named out c → last_cost out.lines ≡
+    cost_of c.net wanted.weights (flow c.net c.routes)
+last_cost_carried wanted p named out c is =
+    last_cost_of wanted c.net out.routes out.prices out.lines is.allocated
+    ∙ ap (λ (rs : Routes). cost_of c.net wanted.weights (flow c.net rs)) (sym is.routes)
 
-pub bound_holds : (program : Checked) (wanted : Wanted) (p : ℕ) (proc : CheckedProc) (out : ProcOut)
-    (r : Routed) (k : ℕ) (line : Line) (f : List Edge) →
-    IsProcOut program wanted p proc out r → slice_get out.lines k ≡ Some line → IsAdmitted r.net f →
-    line.bound ≤ cost_of r.net wanted.weights f
-bound_holds program wanted p proc out r k line f is there a =
-    subst (λ (r : Routed). IsAdmitted r.net f → line.bound ≤ cost_of r.net wanted.weights f)
-    (sym is.carried)
-    (no_flow_less wanted is.net out.routes out.prices out.lines is.allocated k line f there) a
+pub bound_holds : (wanted : Wanted) (p : ℕ) (named : NamedCode) (out : ProcOut) (c : Carriage)
+    (k : ℕ) (line : Line) (f : List Edge) →
+    IsProcOut wanted p named out c → slice_get out.lines k ≡ Some line → IsAdmitted c.net f →
+    line.bound ≤ cost_of c.net wanted.weights f
+bound_holds wanted p named out c k line f is there a =
+    no_flow_less wanted c.net out.routes out.prices out.lines is.allocated k line f there a

@@ -1,13 +1,13 @@
--- What is kept of a module's procedures has totals.
+-- What is kept of procedures has totals.
 use Rattle.std.proofs.Common.{◌≡◌, ℕ, suc, ◌*◌, ◌^◌, ◌<◌, ◌≤◌, List, [], ◌∷◌}
-use Rattle.std.proofs.Common.{length, get_or, All, Option, Some, None, refl, ap, arith}
+use Rattle.std.proofs.Common.{length, get_or, All, Option, Some, None, refl, ap, subst, arith}
 use Rattle.std.proofs.lemmas.List.{length-append}
 use Rattle.std.proofs.lemmas.List.Elements.{All-head, All-tail, All-from_get_or}
 use Rattle.std.proofs.lemmas.Option.{slice_get-get_or}
 use Rattle.std.proofs.lemmas.List.Sums.{sum_by-le}
 use Rattle.pra_base.specs.declared.ids.Place.{Place}
-use Rattle.ob_syntax.specs.declared.checked.Checked.{Checked}
-use Rattle.ob_syntax.specs.declared.checked.CheckedProc.{CheckedProc}
+use Rattle.cert_form.specs.declared.codes.CodeFile.{CodeFile}
+use Rattle.cert_form.specs.declared.codes.NamedCode.{NamedCode}
 use Rattle.net_cost.specs.declared.weights.Weights.{Weights}
 use Rattle.net_cost.specs.Weights.{IsValid, most_weight}
 use Rattle.net_form.specs.declared.net.Net.{Net}
@@ -20,16 +20,15 @@ use Rattle.net_form.specs.Formed.{most_layers}
 use Rattle.net_form.specs.Tables.{all_tables}
 use Rattle.net_form.proofs.EdgeCosts.{cost_by_edges}
 use Rattle.net_form.proofs.Layers.{in_layers}
-use Rattle.net_laws.specs.Built.{IsBuilt}
+use Rattle.net_laws.specs.Built.{IsBuilt as IsBuiltNet}
 use Rattle.net_laws.proofs.Built.{built}
 use Rattle.net_dual.proofs.Small.{cost_small}
-use Rattle.pl_place.specs.Behind.{Routed}
+use Rattle.pra_follow.specs.Codes.{AreAdmittedIn, Carriage, IsCarriage}
 use Rattle.pra_report.specs.declared.report.ProcOut.{ProcOut}
-use Rattle.pra_report.specs.Report.{most_procs, HaveTotals, IsOfMany}
+use Rattle.pra_report.specs.Report.{HaveTotals, IsOfMany}
 use Rattle.pra_report.proofs.Totals.{many_have_totals}
 use Rattle.pra_compile.specs.declared.output.Compiled.{Compiled}
-use Rattle.pra_compile.specs.Compiled.{Wanted, granted, IsProcBy, IsProcOut, IsCompiledBy}
-use Rattle.pra_compile.specs.Compiled.{IsCompiled}
+use Rattle.pra_compile.specs.Compiled.{Wanted, granted, IsProcBy, IsProcOut, IsBuiltBy, IsBuilt}
 use Rattle.pra_compile.specs.Leaving.{Leaving}
 use Rattle.pra_compile.proofs.Done.{there_is}
 use Rattle.pra_compile.proofs.Told.{some_line, last_cost_of, last_within}
@@ -55,7 +54,7 @@ edges_few m s (t ∷ ts) (ps ∷ paths) has short =
 
 -- ---- and what they cost
 
-module _ (net : Net) (is : IsBuilt net) (w : Weights) (valid : IsValid w) (routes : Routes)
+module _ (net : Net) (is : IsBuiltNet net) (w : Weights) (valid : IsValid w) (routes : Routes)
     (has : AreRoutes net routes) where
   short_strands : All (λ (t : Strand). t.last < most_layers) net.strands
   short_strands = All-from_get_or (λ (t : Strand). t.last < most_layers) net.strands no_strand
@@ -73,38 +72,38 @@ module _ (net : Net) (is : IsBuilt net) (w : Weights) (valid : IsValid w) (route
       (λ k d lt. cost_small net is w valid (get_or (flow net routes) k d)) in
       omega (arith, many, few, by_edges, most)
 
-out_is_one : (program : Checked) (wanted : Wanted) (p : ℕ) (proc : CheckedProc) (out : ProcOut)
-    (r : Routed) → IsValid wanted.weights → IsProcOut program wanted p proc out r → IsOfMany out
-out_is_one program wanted p proc out r valid is =
-    let is_built = built out.code is.net is.routes.is_net is.code.valid is.code.sized in
-    let few = cost_few is.net is_built wanted.weights valid out.routes is.routes.are_routes in
-    let same = last_cost_of wanted is.net out.routes out.prices out.lines is.allocated in
-    let within = last_within wanted is.net out.routes out.prices out.lines is.allocated in
+out_is_one : (wanted : Wanted) (p : ℕ) (named : NamedCode) (out : ProcOut) (c : Carriage) →
+    IsCarriage c → IsValid wanted.weights → IsProcOut wanted p named out c → IsOfMany out
+out_is_one wanted p named out c is_carriage valid is =
+    let routes = subst (λ (rs : Routes). AreAdmittedIn c.code c.net rs) is.routes is_carriage.routes in
+    let is_built = built c.code c.net routes.is_net is_carriage.valid is_carriage.sized in
+    let few = cost_few c.net is_built wanted.weights valid out.routes routes.are_routes in
+    let same = last_cost_of wanted c.net out.routes out.prices out.lines is.allocated in
+    let within = last_within wanted c.net out.routes out.prices out.lines is.allocated in
     record {
-      told = some_line wanted is.net out.routes out.prices out.lines is.allocated;
+      told = some_line wanted c.net out.routes out.prices out.lines is.allocated;
       cost = omega (arith, few, same);
       bound = omega (arith, few, same, within);
     }
 
--- a module has totals where each of its procedures is one of many
-pub all_total : (program : Checked) (leaves : Leaving) (compiled : Compiled) →
-    IsCompiledBy program leaves compiled →
-    ((p : ℕ) (proc : CheckedProc) (out : ProcOut) (r : Routed) →
-    IsProcBy program leaves p proc out r → IsOfMany out) → length program.procs ≤ most_procs →
-    HaveTotals compiled.procs
-all_total program leaves compiled is one few =
-    let count = is.count in
-    let behind_count = is.behind_count in
+-- code has totals where each of its procedures is one of many
+pub all_total : (file : CodeFile) (leaves : Leaving) (compiled : Compiled) →
+    IsBuiltBy file leaves compiled →
+    ((p : ℕ) (named : NamedCode) (out : ProcOut) (c : Carriage) → IsCarriage c →
+    IsProcBy leaves p named out c → IsOfMany out) → HaveTotals compiled.procs
+all_total file leaves compiled is one =
+    let count = is.placement.count in
+    let carriage_count = is.placement.carriage_count in
+    let few = is.runnable.few in
     many_have_totals compiled.procs (omega (arith, count, few)) (λ p d lt.
-    let proc = there_is program.procs p (omega (arith, lt, count)) in
-    let r = there_is is.behind p (omega (arith, lt, behind_count)) in
-    one p proc.0 (get_or compiled.procs p d) r.0
-    (is.each p proc.0 (get_or compiled.procs p d) r.0 proc.1
-    (slice_get-get_or compiled.procs p d lt) r.1))
+    let named = there_is file.procs p (omega (arith, lt, count)) in
+    let c = there_is is.placement.carriages p (omega (arith, lt, carriage_count)) in
+    let out = get_or compiled.procs p d in
+    one p named.0 out c.0 (is.placement.are p c.0 c.1)
+    (is.placement.each p named.0 out c.0 named.1 (slice_get-get_or compiled.procs p d lt) c.1))
 
-pub have_totals : (program : Checked) (wanted : Wanted) (compiled : Compiled) →
-    IsCompiled program wanted compiled → IsValid wanted.weights → length program.procs ≤
-    most_procs → HaveTotals compiled.procs
-have_totals program wanted compiled is valid few =
-    all_total program (granted wanted) compiled is
-    (λ p proc out r. out_is_one program wanted p proc out r valid) few
+pub have_totals : (file : CodeFile) (wanted : Wanted) (compiled : Compiled) →
+    IsBuilt file wanted compiled → IsValid wanted.weights → HaveTotals compiled.procs
+have_totals file wanted compiled is valid =
+    all_total file (granted wanted) compiled is
+    (λ p named out c carriage. out_is_one wanted p named out c carriage valid)

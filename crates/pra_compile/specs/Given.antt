@@ -7,7 +7,7 @@ use Rattle.net_form.specs.declared.prices.Prices.{Prices}
 use Rattle.net_form.specs.declared.routes.Routes.{Routes}
 use Rattle.pra_compile.specs.declared.given.GivenRoutes.{GivenRoutes}
 use Rattle.pra_compile.specs.Leaving.{Leaving, no_prices, lines_of}
-use Rattle.pra_follow.specs.Translation.{AreAdmittedIn}
+use Rattle.pra_follow.specs.Codes.{AreAdmittedIn}
 
 -- There are routes for procedure p, and the network of its code admits them.
 pub record AdmitsGiven (given : List GivenRoutes) (p : ℕ) (code : VProc) : Type 0 where

@@ -1,28 +1,33 @@
--- The code that procedures are compiled from.
-use Rattle.std.specs.Prelude.{◌≡◌, ℕ, List, length, slice_get, Some}
-use Rattle.pra_base.specs.declared.code.VProc.{VProc}
+-- The code of a module: what its procedures are compiled from.
+use Rattle.std.specs.Prelude.{◌≡◌, ℕ, zero, suc, List, [], length, Option, Some, None, slice_get}
+use Rattle.cert_form.specs.declared.codes.CodeFile.{CodeFile}
+use Rattle.cert_form.specs.declared.codes.NamedCode.{NamedCode}
 use Rattle.ob_syntax.specs.declared.checked.Checked.{Checked}
 use Rattle.ob_syntax.specs.declared.checked.CheckedProc.{CheckedProc}
-use Rattle.vc_proc.specs.Selected.{IsSelected}
-use Rattle.vc_same.specs.SameRuns.{Preserves}
-use Rattle.vc_tidy.specs.KindCounts.{KeepsKinds}
-use Rattle.vc_tidy.specs.Tidy.{IsTidy}
+use Rattle.pra_follow.specs.Tidied.{IsTidied}
 
--- tidy code that may stand in the place of what selection answers for procedure p
-pub record IsTidied (program : Checked) (p : ℕ) (code : VProc) : Type 0 where
-  pub proc : CheckedProc
-  pub there : slice_get program.procs p ≡ Some proc
-  pub selected : VProc
-  pub is_selected : IsSelected program p proc selected
-  pub preserves : Preserves selected code
-  pub kinds : KeepsKinds selected code
-  pub tidy : IsTidy code
+abbrev pub own_name : Option CheckedProc → List ℕ
+own_name (Some proc) = proc.name
+own_name None = []
 
--- such code of each of the first n procedures, in order
-pub record AreTidiedUpTo (program : Checked) (n : ℕ) (codes : List VProc) : Type 0 where
-  pub count : length codes ≡ n
-  pub each : (p : ℕ) (code : VProc) → slice_get codes p ≡ Some code → IsTidied program p code
+-- the name that is told of a procedure: of the module's body that of the module
+abbrev pub name_of : Checked → ℕ → List ℕ
+name_of program zero = program.name
+name_of program (suc p) = own_name (slice_get program.procs (suc p))
 
--- of all procedures
-abbrev pub AreTidied : Checked → List VProc → Type 0
-AreTidied program codes = AreTidiedUpTo program (length program.procs) codes
+-- procedure p of the module by its name, with tidy code that may stand in the place of what
+-- selection answers for it
+pub record IsNamedOf (program : Checked) (p : ℕ) (named : NamedCode) : Type 0 where
+  pub name : named.name ≡ name_of program p
+  pub tidied : IsTidied program p named.code
+
+-- the first n procedures of the module, and its words of data
+pub record IsCodeUpTo (program : Checked) (n : ℕ) (procs : List NamedCode) : Type 0 where
+  pub count : length procs ≡ n
+  pub each : (p : ℕ) (named : NamedCode) → slice_get procs p ≡ Some named →
+      IsNamedOf program p named
+
+-- The code of a module, as one could write it to a file: tidy code of each procedure, in order.
+pub record IsCodeOfModule (program : Checked) (file : CodeFile) : Type 0 where
+  pub procs : IsCodeUpTo program (length program.procs) file.procs
+  pub data_words : file.data_words ≡ program.data_words

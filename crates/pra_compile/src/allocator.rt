@@ -3,7 +3,7 @@
 ghost use Rattle.std.specs.Prelude.{ℕ, IfOk};
 ghost use Rattle.net_form.specs.Network.{IsNet};
 ghost use Rattle.pra_base.specs.Valid.{IsSized, IsValid};
-ghost use Rattle.pra_follow.specs.Translation.{AreAdmittedIn};
+ghost use Rattle.pra_follow.specs.Codes.{AreAdmittedIn};
 
 use net_build::build;
 use net_form::{Line, Net, Prices, Routes};

@@ -1,28 +1,24 @@
-// One procedure after the other, from tidy code to image.
+// One procedure after the other, from code to image.
 
-ghost use Rattle.std.specs.Prelude.{◌≡◌, ◌<◌, ◌≤◌, ℕ, length, map, slice_get, Some, IfOk};
+ghost use Rattle.std.specs.Prelude.{◌≡◌, ◌≢◌, ◌≤◌, ℕ, IfOk, IfErr, slice_get, Some};
 ghost use Rattle.al_round.specs.Watches.{IsWatch, gap_of};
 ghost use Rattle.net_cost.specs.Models.{Keeps, weights_of};
 ghost use Rattle.pra_base.specs.declared.code.VProc.{VProc};
-ghost use Rattle.pra_compile.specs.Compiled.{IsCompiled, IsCompiledBy, codes_of, name_of};
-ghost use Rattle.pra_compile.specs.Compiled.{wanted_of};
-ghost use Rattle.pra_compile.specs.CompiledProcs.{IsCompiledProc};
-ghost use Rattle.pra_compile.specs.Tidied.{IsTidied, AreTidied};
-ghost use Rattle.vc_short.specs.Short.{IsShort};
-ghost use Rattle.vc_typed.specs.Nodes.{HaveTheirNodes};
-ghost use Rattle.vc_typed.specs.TypedModules.{IsSelectable};
+ghost use Rattle.pra_base.specs.Valid.{IsSized, IsValid};
+ghost use Rattle.pra_compile.specs.Compiled.{IsRunnable, IsBuiltBy, IsBuilt, IsTooLong, codes_in};
+ghost use Rattle.pra_compile.specs.Compiled.{wanted_of, granted};
+ghost use Rattle.pra_compile.specs.CompiledProcs.{IsCompiledProc, IsFault};
 
 use crate::allocator::{Allocated, Allocator};
 use crate::granted::Granted;
-use crate::output::Compiled;
-use crate::tidied::tidy_codes;
+use crate::output::{CompileFault, Compiled};
 use crate::visits::shared_visits;
 use al_round::{Verdict, Watch};
-use ia_asm::Assembly;
+use cert_form::{CodeFile, NamedCode};
+use ia_asm::CountedAssembly;
 use net_cost::{CostModel, Event};
 use net_form::Line;
 use net_kept::KeptPrices;
-use ob_syntax::Checked;
 use pl_build::place;
 use pl_place::{LProc, frame_bytes};
 use pra_base::{OutOfMemory, VProc};
@@ -37,36 +33,20 @@ struct CompiledProc {
     placed: LProc,
 }
 
-// The name of a procedure, or the module's for the body.
-fn name_of(alloc: Global, checked: &Checked, number: u32) -> Result<Seq<u8>, OutOfMemory>
-    requires { number < length checked.now.procs }
-    ensures { IfOk result (λ name. name ≡ name_of checked.now number) }
-{
-    let name = if number == 0 {
-        &checked.name
-    } else {
-        &checked.procs[number as usize].name
-    };
-    let name = Seq::from_slice(alloc, name.as_slice())?;
-    Ok(name)
-}
-
-// A procedure, from its tidy code up to its placed code. Its network does not outlast it, and its
-// prices are packed.
+// A procedure, from its code up to its placed code. Its network does not outlast it, and its prices
+// are packed.
 fn compile_procedure<A: Allocator>(
     alloc: Global,
-    checked: &Checked,
     number: u32,
-    code: VProc,
+    named: NamedCode,
     allocator: &A,
 ) -> Result<CompiledProc, OutOfMemory>
-    requires there { number < length checked.now.procs }
-    requires tidied { IsTidied checked.now number code }
-    requires takes { A.takes allocator.now number code }
-    ensures compiled { IfOk result (IsCompiledProc checked.now (A.leaves allocator.now) number) }
-    ensures code { IfOk result (λ compiled. compiled.out.code ≡ code) }
+    requires valid { IsValid named.code }
+    requires sized { IsSized named.code }
+    requires takes { A.takes allocator.now number named.code }
+    ensures { IfOk result (IsCompiledProc (A.leaves allocator.now) number named) }
 {
-    let name = name_of(alloc, checked, number)?;
+    let NamedCode { name, code } = named;
     let Allocated {
         net,
         routes,
@@ -87,68 +67,68 @@ fn compile_procedure<A: Allocator>(
     Ok(CompiledProc { out, placed })
 }
 
-/// A module, compiled from the tidy code of its procedures, with the allocator's routes. The
-/// procedures are taken in order of number, and only one network stands at a time.
+/// Code of procedures, compiled with the allocator's routes. The procedures are taken in order of
+/// number, and only one network stands at a time.
 ///
 /// # Errors
 ///
-/// Where there is no memory for it.
+/// Where an image has no room for the placed code of all procedures, how many bytes that has; and
+/// where there is no memory.
 pub fn compile_codes<A: Allocator>(
     alloc: Global,
-    checked: &Checked,
-    codes: Seq<VProc>,
+    file: CodeFile,
     allocator: &A,
-) -> Result<Compiled, OutOfMemory>
-    requires selectable { IsSelectable checked.now }
-    requires short { IsShort checked.now }
-    requires tidied { AreTidied checked.now codes }
-    requires takes { (p : ℕ) (code : VProc) → slice_get codes p ≡ Some code →
+) -> Result<Compiled, CompileFault>
+    requires runnable { IsRunnable file }
+    requires takes { (p : ℕ) (code : VProc) → slice_get (codes_in file) p ≡ Some code →
         A.takes allocator.now p code }
-    ensures compiled { IfOk result (IsCompiledBy checked.now (A.leaves allocator.now)) }
-    ensures codes { IfOk result (λ compiled. codes_of compiled ≡ codes) }
+    ensures built { IfOk result (IsBuiltBy file (A.leaves allocator.now)) }
+    ensures fault { IfErr result (IsFault file (A.leaves allocator.now)) }
 {
-    let mut assembly = Assembly::begin(alloc, checked.data_words)?;
-    let mut procs = Seq::from_vec(Vec::with_capacity(alloc, codes.len())?);
-    for code in codes.into_vec() {
+    let mut assembly = CountedAssembly::begin(alloc, file.data_words)?;
+    let mut procs = Seq::from_vec(Vec::with_capacity(alloc, file.procs.len())?);
+    for named in file.procs.into_vec() {
         let number = procs.len() as u32;
-        let compiled = compile_procedure(alloc, checked, number, code, allocator)?;
+        let compiled = compile_procedure(alloc, number, named, allocator)?;
         let CompiledProc { out, placed } = compiled;
         assembly.add(alloc, &placed)?;
         procs.push(out)?;
     }
-    let image = assembly.finish();
-    Ok(Compiled { image, procs })
+    match assembly.finish() {
+        Ok(image) => Ok(Compiled { image, procs }),
+        Err(bytes) => Err(CompileFault::TooLong(bytes)),
+    }
 }
 
-/// A module, compiled, with so many rounds of allocation for each procedure, or as many as the
-/// watch wants.
+/// Code of procedures, compiled with so many rounds of allocation for each, or as many as the watch
+/// wants.
 ///
 /// # Errors
 ///
-/// Where there is no memory for it.
+/// Where an image has no room for the placed code of all procedures, how many bytes that has; and
+/// where there is no memory.
 pub fn compile<F: Fn(Event, u32) -> u32, G: Fn(Line) -> Verdict>(
     alloc: Global,
-    checked: &Checked,
+    file: CodeFile,
     rounds: u32,
     model: &CostModel<F>,
     watch: &Watch<G>,
-) -> Result<Compiled, OutOfMemory>
-    requires selectable { IsSelectable checked.now }
-    requires nodes { HaveTheirNodes checked.now }
-    requires short { IsShort checked.now }
+) -> Result<Compiled, CompileFault>
+    requires runnable { IsRunnable file }
     requires kept { Keeps F.Fn model.now }
     requires watch { IsWatch G.Fn watch.now }
     requires few { rounds ≤ 1000 }
-    ensures { IfOk result (λ compiled. IsCompiled checked.now
+    ensures built { IfOk result (λ compiled. IsBuilt file
         (wanted_of (weights_of model.now) rounds (gap_of watch.now)) compiled) }
+    ensures fault { IfErr result (IsFault file
+        (granted (wanted_of (weights_of model.now) rounds (gap_of watch.now)))) }
 {
-    let codes = tidy_codes(alloc, checked)?;
-    let visits = shared_visits(alloc, codes.as_slice())?;
+    let visits = shared_visits(alloc, file.procs.as_slice())?;
     let allocator = Granted {
         rounds,
         model,
         watch,
         visits: visits.as_slice(),
     };
-    compile_codes(alloc, checked, codes, &allocator)
+    compile_codes(alloc, file, &allocator)
 }

@@ -5,7 +5,7 @@ ghost use Rattle.al_round.specs.Watches.{IsWatch, gap_of};
 ghost use Rattle.net_cost.specs.Models.{Keeps, weights_of};
 ghost use Rattle.pra_base.specs.Valid.{IsSized, IsValid};
 ghost use Rattle.pra_compile.specs.Compiled.{IsGranted, wanted_of};
-ghost use Rattle.pra_follow.specs.Translation.{AreAdmittedIn};
+ghost use Rattle.pra_follow.specs.Codes.{AreAdmittedIn};
 
 use crate::allocator::{Allocated, Allocator, network_of};
 use al_round::{Allocation, Rounds, Verdict, Watch};

@@ -1,8 +1,9 @@
-// The laws of what a module is compiled to: what its lines say.
+// The laws of what code is compiled to: what its lines say.
 
 ghost use Rattle.std.specs.Prelude.{◌≡◌, ◌≤◌, ◌<◌, ◌+◌, ℕ, ℤ, List, length, slice_get, Some};
 ghost use Rattle.ob_syntax.specs.declared.checked.Checked.{Checked};
-ghost use Rattle.ob_syntax.specs.declared.checked.CheckedProc.{CheckedProc};
+ghost use Rattle.cert_form.specs.declared.codes.CodeFile.{CodeFile};
+ghost use Rattle.cert_form.specs.declared.codes.NamedCode.{NamedCode};
 ghost use Rattle.net_cost.specs.declared.weights.Weights.{Weights};
 ghost use Rattle.net_cost.specs.Weights.{IsValid};
 ghost use Rattle.net_form.specs.declared.net.Net.{Net};
@@ -20,29 +21,33 @@ ghost use Rattle.al_round.specs.Lines.{IsCost};
 ghost use Rattle.al_round.specs.Stages.{IsRoundedUp};
 ghost use Rattle.al_round.specs.Watches.{verdict_of};
 ghost use Rattle.al_round.specs.declared.watch.Verdict.TheVariants.{Go};
-ghost use Rattle.pl_place.specs.Behind.{Routed};
 ghost use Rattle.pra_compile.specs.declared.output.Compiled.{Compiled};
 ghost use Rattle.pra_compile.specs.declared.given.GivenRoutes.{GivenRoutes};
-ghost use Rattle.pra_compile.specs.Compiled.{Wanted, IsGranted, IsProcOut, IsCompiled};
-ghost use Rattle.pra_compile.specs.Compiled.{IsProcBy, IsCompiledBy};
+ghost use Rattle.pra_compile.specs.Compiled.{Wanted, IsGranted, IsProcBy, IsProcOut, IsBuilt};
+ghost use Rattle.pra_compile.specs.Compiled.{IsBuiltBy, IsRunnable, codes_in};
+ghost use Rattle.pra_compile.specs.Tidied.{IsCodeOfModule};
+ghost use Rattle.pra_follow.specs.Codes.{Carriage};
+ghost use Rattle.pra_follow.specs.Tidied.{AreTidied};
+ghost use Rattle.pra_base.specs.Valid.{AreValid};
+ghost use Rattle.vc_typed.specs.TypedModules.{IsSelectable};
 ghost use Rattle.pra_compile.specs.Given.{given_by};
 ghost use Rattle.pra_compile.specs.Mechanism.{ComeFromPrices, WereLaid, HaveOneChain};
 ghost use Rattle.pra_report.specs.declared.report.ProcOut.{ProcOut};
-ghost use Rattle.pra_report.specs.Report.{last_cost, last_bound, most_procs, HaveTotals};
+ghost use Rattle.pra_report.specs.Report.{last_cost, last_bound, HaveTotals};
 
 /// The cost of a procedure's last line is what the flow costs that the image carries.
 pub fn last_cost_is_carried()
-    ensures { (program : Checked) (wanted : Wanted) (p : ℕ) (proc : CheckedProc) (out : ProcOut)
-        (r : Routed) → IsProcOut program wanted p proc out r →
-        last_cost out.lines ≡ cost_of r.net wanted.weights r.flow }
+    ensures { (wanted : Wanted) (p : ℕ) (named : NamedCode) (out : ProcOut)
+        (c : Carriage) → IsProcOut wanted p named out c →
+        last_cost out.lines ≡ cost_of c.net wanted.weights (flow c.net c.routes) }
 {}
 
 /// And no flow that the network of its code admits costs less than the bound of any of its lines.
 pub fn no_flow_costs_less()
-    ensures { (program : Checked) (wanted : Wanted) (p : ℕ) (proc : CheckedProc) (out : ProcOut)
-        (r : Routed) (k : ℕ) (line : Line) (f : List Edge) →
-        IsProcOut program wanted p proc out r → slice_get out.lines k ≡ Some line →
-        IsAdmitted r.net f → line.bound ≤ cost_of r.net wanted.weights f }
+    ensures { (wanted : Wanted) (p : ℕ) (named : NamedCode) (out : ProcOut)
+        (c : Carriage) (k : ℕ) (line : Line) (f : List Edge) →
+        IsProcOut wanted p named out c → slice_get out.lines k ≡ Some line →
+        IsAdmitted c.net f → line.bound ≤ cost_of c.net wanted.weights f }
 {}
 
 /// Costs never rise and bounds never fall, from one line to any later one.
@@ -123,35 +128,37 @@ pub fn rounds_are_as_wanted()
         k + 1 < length lines → slice_get lines k ≡ Some line → verdict_of wanted.gap line ≡ Go }
 {}
 
-/// What is kept of the procedures of a module has totals, where there are no more than a module may
-/// have and weights are valid.
+/// What is kept of the procedures of code has totals, where weights are valid.
 pub fn compiled_have_totals()
-    ensures { (program : Checked) (wanted : Wanted) (compiled : Compiled) →
-        IsCompiled program wanted compiled → IsValid wanted.weights →
-        length program.procs ≤ most_procs → HaveTotals compiled.procs }
+    ensures { (file : CodeFile) (wanted : Wanted) (compiled : Compiled) →
+        IsBuilt file wanted compiled → IsValid wanted.weights → HaveTotals compiled.procs }
 {}
 
 /// Of a procedure whose routes were given the image carries the flow of these routes, and its line
 /// tells the cost and the bound that were given with them.
 pub fn given_routes_are_carried()
-    ensures flow { (program : Checked) (given : List GivenRoutes) (p : ℕ) (proc : CheckedProc)
-        (out : ProcOut) (r : Routed) (own : GivenRoutes) →
-        IsProcBy program (given_by given) p proc out r → slice_get given p ≡ Some own →
-        r.flow ≡ flow r.net own.routes }
-    ensures cost { (program : Checked) (given : List GivenRoutes) (p : ℕ) (proc : CheckedProc)
-        (out : ProcOut) (r : Routed) (own : GivenRoutes) →
-        IsProcBy program (given_by given) p proc out r → slice_get given p ≡ Some own →
-        last_cost out.lines ≡ own.cost }
-    ensures bound { (program : Checked) (given : List GivenRoutes) (p : ℕ) (proc : CheckedProc)
-        (out : ProcOut) (r : Routed) (own : GivenRoutes) →
-        IsProcBy program (given_by given) p proc out r → slice_get given p ≡ Some own →
-        last_bound out.lines ≡ own.bound }
+    ensures flow { (given : List GivenRoutes) (p : ℕ) (named : NamedCode) (out : ProcOut)
+        (c : Carriage) (own : GivenRoutes) → IsProcBy (given_by given) p named out c →
+        slice_get given p ≡ Some own → flow c.net c.routes ≡ flow c.net own.routes }
+    ensures cost { (given : List GivenRoutes) (p : ℕ) (named : NamedCode) (out : ProcOut)
+        (c : Carriage) (own : GivenRoutes) → IsProcBy (given_by given) p named out c →
+        slice_get given p ≡ Some own → last_cost out.lines ≡ own.cost }
+    ensures bound { (given : List GivenRoutes) (p : ℕ) (named : NamedCode) (out : ProcOut)
+        (c : Carriage) (own : GivenRoutes) → IsProcBy (given_by given) p named out c →
+        slice_get given p ≡ Some own → last_bound out.lines ≡ own.bound }
 {}
 
-/// What is kept of procedures with given routes has totals, where there are no more than a module
-/// may have.
+/// What is kept of procedures with given routes has totals.
 pub fn given_have_totals()
-    ensures { (program : Checked) (given : List GivenRoutes) (compiled : Compiled) →
-        IsCompiledBy program (given_by given) compiled → length program.procs ≤ most_procs →
-        HaveTotals compiled.procs }
+    ensures { (file : CodeFile) (given : List GivenRoutes) (compiled : Compiled) →
+        IsBuiltBy file (given_by given) compiled → HaveTotals compiled.procs }
+{}
+
+/// Code that can run is valid together; that of a module can run, and is what it was made of.
+pub fn code_of_modules_runs()
+    ensures valid { (file : CodeFile) → IsRunnable file → AreValid (codes_in file) }
+    ensures runs { (program : Checked) (file : CodeFile) → IsSelectable program →
+        IsCodeOfModule program file → IsRunnable file }
+    ensures tidied { (program : Checked) (file : CodeFile) → IsCodeOfModule program file →
+        AreTidied program (codes_in file) }
 {}

@@ -3,6 +3,7 @@
 ghost use Rattle.std.specs.Prelude.{◌≤◌, length, IfOk};
 ghost use Rattle.pra_compile.specs.Visits.{AreShares};
 
+use cert_form::NamedCode;
 use pra_base::{OutOfMemory, VProc};
 use std::alloc::Global;
 
@@ -25,10 +26,10 @@ fn size_of(code: &VProc) -> u64 {
 }
 
 // The sizes of all procedures together, and one.
-fn size_of_all(codes: &[VProc]) -> u64 {
+fn size_of_all(procs: &[NamedCode]) -> u64 {
     let mut all: u64 = 1;
-    for code in codes {
-        all = all.saturating_add(size_of(code));
+    for named in procs {
+        all = all.saturating_add(size_of(&named.code));
     }
     all
 }
@@ -50,14 +51,14 @@ fn share_of(size: u64, left: u64, all: u64) -> u64
 /// # Errors
 ///
 /// Where there is no memory for it.
-pub fn shared_visits(alloc: Global, codes: &[VProc]) -> Result<Vec<u64>, OutOfMemory>
-    ensures { IfOk result (λ visits. AreShares (length codes.now) visits.items) }
+pub fn shared_visits(alloc: Global, procs: &[NamedCode]) -> Result<Vec<u64>, OutOfMemory>
+    ensures { IfOk result (λ visits. AreShares (length procs.now) visits.items) }
 {
-    let all = size_of_all(codes);
+    let all = size_of_all(procs);
     let left = MODULE_VISITS.saturating_sub(all);
-    let mut visits = Vec::with_capacity(alloc, codes.len())?;
-    for code in codes {
-        visits.push(share_of(size_of(code), left, all))?;
+    let mut visits = Vec::with_capacity(alloc, procs.len())?;
+    for named in procs {
+        visits.push(share_of(size_of(&named.code), left, all))?;
     }
     Ok(visits)
 }

@@ -1,5 +1,5 @@
--- The layers below selected code, composed: from valid code, which may get stuck, to placed code,
--- to the image.
+-- The layers below selected code, composed: from valid code, which may get stuck, to placed code, to
+-- the image.
 use Rattle.std.proofs.Common.{◌≡◌, ℕ, ℤ, true, List, [], ◌∷◌, length, map, Some, sym, ap, subst}
 use Rattle.std.proofs.Common.{◌∙◌}
 use Rattle.std.specs.Prelude.{slice_get}

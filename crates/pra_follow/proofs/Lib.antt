@@ -1,8 +1,8 @@
 pub mod Carriages
+pub mod CodeOf
 pub mod Codes
-pub mod Followed
 pub mod Little
+pub mod Meant
 pub mod Room
 pub mod Sides
 pub mod Sums
-pub mod Translated

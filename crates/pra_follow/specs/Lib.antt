@@ -1,3 +1,3 @@
 pub mod Codes
-pub mod Translation
 pub mod Follows
+pub mod Tidied

@@ -1,40 +1,34 @@
-// What holds of valid code that was placed, and of a whole module that was translated. Each
-// function is a law: its contract is the statement, and it does nothing.
+// What holds of valid code that was placed, and of the code of a module. Each function is a law: its
+// contract is the statement, and it does nothing.
 
-ghost use Rattle.std.specs.Prelude.{◌≡◌, ℕ, ◌+◌, ◌*◌, ◌≤◌, List, [], ◌∷◌, ◌++◌, length, map};
+ghost use Rattle.std.specs.Prelude.{◌≡◌, ℕ, ℤ, ◌+◌, ◌*◌, ◌≤◌, true, List, [], ◌∷◌, map};
 ghost use Rattle.std.specs.Prelude.{slice_get, sum_by, Some};
-ghost use Rattle.ia_asm.specs.declared.assembly.Assembly.{Assembly};
-ghost use Rattle.ia_asm.specs.Assembly.{IsAssembly, IsImageOf};
+ghost use Rattle.ia_asm.specs.Assembly.{IsImageOf};
 ghost use Rattle.ia_code.specs.declared.image.Image.{Image};
 ghost use Rattle.ia_code.specs.Image.{max_code_bytes};
-ghost use Rattle.ia_emit.specs.Code.{size};
-ghost use Rattle.ia_emit.specs.Emission.{emit_proc};
+ghost use Rattle.ia_emit.specs.Code.{code_size};
+ghost use Rattle.ia_emit.specs.Counts.{AreFew};
 ghost use Rattle.ia_emit.specs.Operands.{IsSmall};
-ghost use Rattle.net_form.specs.declared.net.Net.{Net};
-ghost use Rattle.net_form.specs.declared.routes.Routes.{Routes};
+ghost use Rattle.ob_mean.specs.Program.{mean};
 ghost use Rattle.ob_syntax.specs.declared.checked.Checked.{Checked};
 ghost use Rattle.ob_syntax.specs.declared.checked.CheckedProc.{CheckedProc};
-ghost use Rattle.pl_made.specs.Made.{IsMade};
-ghost use Rattle.pl_place.specs.declared.placed.LProc.{LProc};
 ghost use Rattle.pl_place.specs.Valid.{IsPlaced};
-ghost use Rattle.pl_routed.specs.Routed.{routed};
+ghost use Rattle.pra_base.specs.Agreement.{Carried};
 ghost use Rattle.pra_base.specs.declared.code.VModule.{VModule};
 ghost use Rattle.pra_base.specs.declared.code.VProc.{VProc};
 ghost use Rattle.pra_base.specs.Valid.{AreValid};
-ghost use Rattle.pra_follow.specs.Codes.{AreAdmittedIn, Carriage, IsCarriage, AreCarriages};
-ghost use Rattle.pra_follow.specs.Codes.{FollowsCodes};
-ghost use Rattle.pra_follow.specs.Follows.{FollowsModule};
+ghost use Rattle.pra_follow.specs.Codes.{Carriage, IsCarriage, AreCarriages, FollowsCodes};
+ghost use Rattle.pra_follow.specs.Codes.{FollowsUntilStuck};
+ghost use Rattle.pra_follow.specs.Follows.{DoesAsMeant, with_data};
+ghost use Rattle.pra_follow.specs.Tidied.{IsCodeOf, IsTidied, AreTidied};
+ghost use Rattle.vc_code.specs.Selected.{vrun, RunsWell};
 ghost use Rattle.vc_short.specs.Short.{IsShort};
-ghost use Rattle.pra_follow.specs.Translation.{Translation, IsTranslation, AreTranslations};
-ghost use Rattle.vc_proc.specs.Selected.{IsSelected};
-ghost use Rattle.vc_same.specs.SameRuns.{Preserves};
-ghost use Rattle.vc_tidy.specs.KindCounts.{KeepsKinds};
-ghost use Rattle.vc_tidy.specs.Tidy.{IsTidy};
+ghost use Rattle.vc_stmt.specs.Completes.{are_words};
 ghost use Rattle.vc_typed.specs.TypedModules.{scalar_locals, IsLimited, IsSelectable};
 
-/// Where valid code was placed, whatever it does, with any admitted routes, an image that was
-/// assembled of the placed code follows it, on each input of words, until it gets stuck, and
-/// carries the codes and the flows.
+/// Whatever valid code was placed, with any admitted routes, an image that was assembled of the
+/// placed code follows it, on each input of words, until it gets stuck, and carries the codes and
+/// the flows.
 pub fn placed_codes_are_followed()
     ensures { (module_ : VModule) (cs : List Carriage) (image : Image) →
         AreValid module_.procs → map (λ (c : Carriage). c.code) cs ≡ module_.procs →
@@ -43,37 +37,42 @@ pub fn placed_codes_are_followed()
         FollowsCodes module_ cs image }
 {}
 
-/// What was placed of one code more can be assembled: it is valid and small.
+/// The assembler takes the placed code of each code.
 pub fn placed_codes_can_be_assembled()
     ensures placed { (c : Carriage) → IsCarriage c → IsPlaced c.placed }
     ensures small { (c : Carriage) → IsCarriage c → IsSmall c.placed }
+    ensures few { (c : Carriage) → IsCarriage c → AreFew (c.placed ∷ []) }
 {}
 
-/// Where all procedures of a module were translated, with any admitted routes, an image that was
-/// assembled of their placed code follows the module: it does what the module means, on each input
-/// of words, and carries the codes and the flows.
-pub fn translated_modules_are_followed()
-    ensures { (program : Checked) (ts : List Translation) (image : Image) →
-        IsSelectable program → AreTranslations program ts → length ts ≡ length program.procs →
-        IsImageOf (map (λ (t : Translation). t.placed) ts) program.data_words image →
-        FollowsModule program ts image }
+/// Tidy code in the place of what selection answers for a procedure is valid alone and in its module,
+/// with the counts and the depths that selection keeps; and the codes of all procedures are valid
+/// together.
+pub fn tidied_code_is_of_its_module()
+    ensures one { (program : Checked) (p : ℕ) (proc : CheckedProc) (code : VProc) →
+        IsTidied program p code → slice_get program.procs p ≡ Some proc →
+        IsCodeOf program p proc code }
+    ensures all { (program : Checked) (codes : List VProc) → IsSelectable program →
+        AreTidied program codes → AreValid codes }
 {}
 
-/// What may stand in the place of selected code is a translation of the procedure, together with
-/// admitted routes of its network and placed code that was made of them.
-pub fn selected_code_is_translated()
-    ensures { (program : Checked) (p : ℕ) (proc : CheckedProc) (selected code : VProc)
-        (net : Net) (routes : Routes) (placed : LProc) →
-        slice_get program.procs p ≡ Some proc → (is : IsSelected program p proc selected) →
-        Preserves selected code → KeepsKinds selected code → IsTidy code →
-        AreAdmittedIn code net routes → IsMade (routed code net routes) placed →
-        IsTranslation program p (record {
-          made = is.made;
-          code = code;
-          net = net;
-          routes = routes;
-          placed = placed;
-        }) }
+/// Such codes do what the module means, on each input of words, and are never stuck.
+pub fn tidied_codes_do_as_meant()
+    ensures carried { (program : Checked) (codes : List VProc) (frames : List ℕ)
+        (input : List ℤ) → IsSelectable program → AreTidied program codes →
+        are_words input ≡ true →
+        Carried (mean program frames input) (vrun (with_data program codes) frames input) }
+    ensures well { (program : Checked) (codes : List VProc) (frames : List ℕ)
+        (input : List ℤ) → IsSelectable program → AreTidied program codes →
+        are_words input ≡ true → RunsWell (with_data program codes) frames input }
+{}
+
+/// So an image that follows them until they get stuck does what the module means.
+pub fn followers_do_as_meant()
+    ensures { (program : Checked) (codes : List VProc) (frames : List ℕ) (input : List ℤ)
+        (image : Image) → IsSelectable program → AreTidied program codes →
+        are_words input ≡ true →
+        FollowsUntilStuck (with_data program codes) frames image input →
+        DoesAsMeant program frames image input }
 {}
 
 /// A module of the size of a source has little code: with at most 4 instructions a node, one more a
@@ -86,19 +85,10 @@ pub fn short_modules_have_little_code()
         sum_by (λ (proc : CheckedProc). 2 * proc.nodes + 2) program.procs ≤ 131586 }
 {}
 
-/// The placed code of one procedure more of a short module can be added to the assembly of those
-/// before it.
-pub fn one_procedure_more_has_room()
-    ensures placed { (program : Checked) (p : ℕ) (t : Translation) →
-        IsTranslation program p t → IsPlaced t.placed }
-    ensures small { (program : Checked) (p : ℕ) (t : Translation) →
-        IsTranslation program p t → IsSmall t.placed }
-    ensures one_more { (program : Checked) (ts : List Translation) (t : Translation) →
-        AreTranslations program ts → IsTranslation program (length ts) t →
-        AreTranslations program (ts ++ t ∷ []) }
-    ensures room { (program : Checked) (ts : List Translation) (t : Translation)
-        (data_words : ℕ) (a : Assembly) → IsLimited program → IsShort program →
-        AreTranslations program (ts ++ t ∷ []) →
-        IsAssembly (map (λ (x : Translation). x.placed) ts) data_words a →
-        length a.code.items + size (emit_proc t.placed) ≤ max_code_bytes }
+/// An image has room for the placed code of a short module, whatever routes that has.
+pub fn short_modules_fit_an_image()
+    ensures { (program : Checked) (codes : List VProc) (cs : List Carriage) → IsLimited program →
+        IsShort program → AreTidied program codes → AreCarriages cs →
+        map (λ (c : Carriage). c.code) cs ≡ codes →
+        code_size (map (λ (c : Carriage). c.placed) cs) ≤ max_code_bytes }
 {}

@@ -1,20 +1,16 @@
-//! The layers of a whole module, composed: from what it means to the bytes of an image.
+//! The layers below and above selected code, composed: from code to the bytes of an image, and from
+//! what a module means to its code.
 //!
 //! Of valid code, whoever made it and whatever it does, `specs/Codes` says what carries it into an
 //! image (`Carriage`): any admitted routes of its network, and placed code that was made of them.
 //! An image that was assembled of such placed code follows the codes until they get stuck
-//! (`placed_codes_are_followed`). What a module means comes on top of that.
+//! (`placed_codes_are_followed`). Nothing asks how routes were found.
 //!
-//! What becomes of a procedure is its *translation* (`specs/Translation`): code as selection makes
-//! it, the tidy code that stands in its place, any admitted routes of the network of that, and the
-//! placed code that was made of both. `laws` says that where all procedures were translated, the
-//! image that was assembled of their placed code does what the module means, and carries the codes
-//! and the flows (`translated_modules_are_followed`, `specs/Follows`). Nothing asks how routes were
-//! found.
-//!
-//! A layer above translates one procedure after the other: what the layers below answer for it is
-//! a translation (`selected_code_is_translated`), and the code of a module that is short
-//! (`IsShort` of vc_short) has room in an image (`one_procedure_more_has_room`).
+//! What a module means comes on top of that. `specs/Tidied` says which codes stand for its
+//! procedures: tidy code in the place of what selection answers. Such codes do what the module means
+//! and are never stuck (`tidied_codes_do_as_meant`), so an image that follows them does it too
+//! (`followers_do_as_meant`, `specs/Follows`). Where the module is short (`IsShort` of vc_short), an
+//! image has room for it (`short_modules_fit_an_image`).
 #![tactic(auto)]
 
 pub mod laws;

@@ -1,5 +1,5 @@
--- A certificate beside the module that it is applied to: codes one by one, routes that are given,
--- and what the image then carries.
+-- A certificate beside the code that it is applied to: codes one by one, routes that are given, and
+-- what the image then carries.
 use Rattle.std.proofs.Common.{◌≡◌, ℕ, zero, suc, List, [], ◌∷◌, length, Some, refl, sym, ap, ◌∙◌}
 use Rattle.std.proofs.Common.{subst, arith, ap₂, take, ◌+◌}
 use Rattle.std.specs.Prelude.{slice_get}
@@ -9,21 +9,19 @@ use Rattle.pra_list.proofs.Options.{some_same, none_some}
 use Rattle.pra_base.specs.declared.code.VProc.{VProc}
 use Rattle.net_form.specs.declared.net.Net.{Net}
 use Rattle.net_form.specs.declared.routes.Routes.{Routes}
-use Rattle.cert_check.specs.declared.check.CertAnswer.TheVariants.{Yes, No}
-use Rattle.cert_check.specs.declared.check.Reason.{Reason}
+use Rattle.cert_check.specs.declared.check.CertAnswer.TheVariants.{Yes}
 use Rattle.cert_check.specs.declared.check.Reason.TheVariants.{Routes as Ways}
-use Rattle.cert_check.specs.Reasons.{IsAnswerOf, HasRoutes, OnNet}
+use Rattle.cert_check.specs.Reasons.{IsAnswerOf, AreBounded, HasRoutes, OnNet}
 use Rattle.cert_form.specs.declared.certificate.Cert.{Cert}
 use Rattle.cert_form.specs.declared.certificate.Certificate.{Certificate}
-use Rattle.ob_syntax.specs.declared.checked.Checked.{Checked}
+use Rattle.cert_form.specs.declared.codes.CodeFile.{CodeFile}
+use Rattle.pra_compile.specs.Compiled.{IsBuiltBy, IsTooLong, codes_named}
 use Rattle.pra_compile.specs.declared.given.GivenRoutes.{GivenRoutes}
 use Rattle.pra_compile.specs.declared.output.Compiled.{Compiled}
-use Rattle.pra_compile.specs.Given.{AdmitsGiven, IsOfGiven}
-use Rattle.pra_compile.specs.Tidied.{AreTidied}
+use Rattle.pra_compile.specs.Given.{AdmitsGiven, IsOfGiven, given_by}
 use Rattle.pra_compile.proofs.GivenLines.{given_totals}
 use Rattle.pra_report.specs.declared.report.ProcOut.{ProcOut}
 use Rattle.pra_report.specs.Report.{HaveTotals}
-use Rattle.vc_typed.specs.TypedModules.{IsSelectable}
 use Rattle.pra_tool.specs.declared.applied.Misapplied.TheVariants as misapplied
 use Rattle.pra_tool.specs.Applied.{codes_by, codes_in, routes_of, routes_in, DifferFirst}
 use Rattle.pra_tool.specs.Applied.{IsApplied, IsMisapplied}
@@ -89,34 +87,39 @@ all_admit c codes same holds p code at =
 
 -- ---- what is answered
 
-pub applied_totals : (program : Checked) (c : Certificate) (compiled : Compiled) →
-    IsSelectable program → IsApplied program c compiled → HaveTotals compiled.procs
-applied_totals program c compiled selectable is =
-    given_totals program (routes_in c) compiled is.compiled_to
-    (let few = selectable.limited.count in omega (arith, few))
+pub applied_totals : (file : CodeFile) (c : Certificate) (compiled : Compiled) →
+    IsApplied file c compiled → HaveTotals compiled.procs
+applied_totals file c compiled is = given_totals file (routes_in c) compiled is.built
 
-pub other_module : (program : Checked) (c : Certificate) (codes : List VProc) (p : ℕ) →
-    length c.procs ≡ length program.procs → AreTidied program codes →
-    DifferFirst (codes_in c) codes p → IsMisapplied program c (misapplied.Module p)
-other_module program c codes p count tidied first =
-    record { count = count; codes = codes; tidied = tidied; first = first }
+-- what was tested and compiled is applied
+pub applied : (file : CodeFile) (c : Certificate) (compiled : Compiled) →
+    codes_in c ≡ codes_named file.procs → IsAnswerOf c Yes → AreBounded c →
+    IsBuiltBy file (given_by (routes_in c)) compiled → IsApplied file c compiled
+applied file c compiled same holds bounded built =
+    record { built = built; codes = same; holds = holds; bounded = bounded }
 
-pub same_module : (program : Checked) (c : Certificate) (codes : List VProc) (p : ℕ) (r : Reason) →
-    AreTidied program codes → codes_in c ≡ codes → IsAnswerOf c (No p r) →
-    IsMisapplied program c (misapplied.Fails p r)
-same_module program c codes p r tidied same fails =
-    (subst (AreTidied program) (sym same) tidied, fails)
+pub too_long_with : (file : CodeFile) (c : Certificate) (count : ℕ) →
+    codes_in c ≡ codes_named file.procs → IsAnswerOf c Yes →
+    IsTooLong file (given_by (routes_in c)) count → IsMisapplied file c (misapplied.TooLong count)
+too_long_with file c count same holds long =
+    record { codes = same; holds = holds; long = long }
+
+pub other_code : (file : CodeFile) (c : Certificate) (p : ℕ) →
+    length c.procs ≡ length file.procs → DifferFirst (codes_in c) (codes_named file.procs) p →
+    IsMisapplied file c (misapplied.Module p)
+other_code file c p count first = record { count = count; first = first }
 
 -- ---- what the image carries of a procedure
 
-module _ (program : Checked) (c : Certificate) (compiled : Compiled)
-    (is : IsApplied program c compiled) (p : ℕ) (cert : Cert) (out : ProcOut)
+module _ (file : CodeFile) (c : Certificate) (compiled : Compiled)
+    (is : IsApplied file c compiled) (p : ℕ) (cert : Cert) (out : ProcOut)
     (at : slice_get c.procs p ≡ Some cert) (there : slice_get compiled.procs p ≡ Some out) where
   pub carried_code : out.code ≡ cert.code
   carried_code =
       let own = slice_get-map (λ (x : ProcOut). x.code) compiled.procs p
       ∙ ap (option_map (λ (x : ProcOut). x.code)) there in
-      some_same out.code cert.code (sym own ∙ ap (λ (xs : List VProc). slice_get xs p) is.codes
+      some_same out.code cert.code (sym own
+      ∙ ap (λ (xs : List VProc). slice_get xs p) (is.built.placement.codes ∙ sym is.codes)
       ∙ code_at c.procs p cert at)
 
   module _ (left : IsOfGiven (routes_in c) p out.routes out.prices out.lines) where

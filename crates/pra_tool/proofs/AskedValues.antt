@@ -12,13 +12,14 @@ use Rattle.pra_list.proofs.Options.{some_same, none_some}
 use Rattle.pra_list.proofs.Results.{came_of}
 use Rattle.pra_words.specs.declared.words.Mode.{Mode}
 use Rattle.pra_words.specs.declared.words.CostWord.{CostWord}
+use Rattle.pra_words.specs.declared.words.FileKind.{FileKind}
 use Rattle.pra_words.specs.declared.words.Word.TheVariants as a_word
 use Rattle.pra_words.specs.declared.words.WordsFault.{WordsFault}
 use Rattle.pra_words.specs.declared.words.WordsFault.TheVariants.{Value}
 use Rattle.pra_words.specs.CommandLine.{Line, line_of}
 use Rattle.pra_words.specs.Words.{Asked, mode_of, file_of, cost_word_of, is_number, is_empty}
 use Rattle.pra_words.specs.Words.{number_within, value_of, writes_image, default_image, is_image}
-use Rattle.pra_words.specs.Words.{image_of, values_of, asked_in, asked_of}
+use Rattle.pra_words.specs.Words.{file_kind_of, image_of, values_of, asked_in, asked_of}
 use Rattle.pra_tool.specs.Asking.{IsAnswerable}
 
 -- ---- values
@@ -73,36 +74,43 @@ there (Some b) fault a e = let same : b ≡ a = cc in ap Some same
 
 -- what is asked for, once the values are read up to one of them
 
-abbrev all_values : Mode → List ℕ → ℕ → CostWord → ℕ → ℕ → List ℕ → ℕ → ℕ →
+abbrev all_values : Mode → List ℕ → ℕ → CostWord → ℕ → ℕ → FileKind → List ℕ → ℕ → ℕ →
     Result Asked WordsFault
-all_values mode file rounds cost steps gap image seed size = Ok (record {
+all_values mode file rounds cost steps gap from image seed size = Ok (record {
   mode = mode;
   file = file;
   rounds = rounds;
   cost = cost;
   steps = steps;
   gap = gap;
+  from = from;
   image = image;
   seed = seed;
   size = size;
 })
 
-abbrev with_seed : Line → Mode → List ℕ → ℕ → CostWord → ℕ → ℕ → List ℕ → ℕ →
+abbrev with_seed : Line → Mode → List ℕ → ℕ → CostWord → ℕ → ℕ → FileKind → List ℕ → ℕ →
     Result Asked WordsFault
-with_seed line mode file rounds cost steps gap image seed =
+with_seed line mode file rounds cost steps gap from image seed =
     ok_or (value_of 10 1 200 line.size) (Value a_word.Size)
-    >>= all_values mode file rounds cost steps gap image seed
+    >>= all_values mode file rounds cost steps gap from image seed
 
-abbrev with_image : Line → Mode → List ℕ → ℕ → CostWord → ℕ → ℕ → List ℕ →
+abbrev with_image : Line → Mode → List ℕ → ℕ → CostWord → ℕ → ℕ → FileKind → List ℕ →
     Result Asked WordsFault
-with_image line mode file rounds cost steps gap image =
+with_image line mode file rounds cost steps gap from image =
     ok_or (value_of 1 0 2147483647 line.seed) (Value a_word.Seed)
-    >>= with_seed line mode file rounds cost steps gap image
+    >>= with_seed line mode file rounds cost steps gap from image
+
+abbrev with_from : Line → Mode → List ℕ → ℕ → CostWord → ℕ → ℕ → FileKind →
+    Result Asked WordsFault
+with_from line mode file rounds cost steps gap from =
+    ok_or (image_of mode file line.image) (Value a_word.Image)
+    >>= with_image line mode file rounds cost steps gap from
 
 abbrev with_gap : Line → Mode → List ℕ → ℕ → CostWord → ℕ → ℕ → Result Asked WordsFault
 with_gap line mode file rounds cost steps gap =
-    ok_or (image_of mode file line.image) (Value a_word.Image)
-    >>= with_image line mode file rounds cost steps gap
+    ok_or (file_kind_of mode line.from) (Value a_word.From)
+    >>= with_from line mode file rounds cost steps gap
 
 abbrev with_steps : Line → Mode → List ℕ → ℕ → CostWord → ℕ → Result Asked WordsFault
 with_steps line mode file rounds cost steps =
@@ -138,12 +146,14 @@ values_are line asked e =
     (with_steps line mode.0 file.0 rounds.0 cost.0) asked cost.2 in
     let gap = came_of (ok_or (value_of 0 0 4294967295 line.gap) (Value a_word.Gap))
     (with_gap line mode.0 file.0 rounds.0 cost.0 steps.0) asked steps.2 in
+    let from = came_of (ok_or (file_kind_of mode.0 line.from) (Value a_word.From))
+    (with_from line mode.0 file.0 rounds.0 cost.0 steps.0 gap.0) asked gap.2 in
     let image = came_of (ok_or (image_of mode.0 file.0 line.image) (Value a_word.Image))
-    (with_image line mode.0 file.0 rounds.0 cost.0 steps.0 gap.0) asked gap.2 in
+    (with_image line mode.0 file.0 rounds.0 cost.0 steps.0 gap.0 from.0) asked from.2 in
     let seed = came_of (ok_or (value_of 1 0 2147483647 line.seed) (Value a_word.Seed))
-    (with_seed line mode.0 file.0 rounds.0 cost.0 steps.0 gap.0 image.0) asked image.2 in
+    (with_seed line mode.0 file.0 rounds.0 cost.0 steps.0 gap.0 from.0 image.0) asked image.2 in
     let size = came_of (ok_or (value_of 10 1 200 line.size) (Value a_word.Size))
-    (all_values mode.0 file.0 rounds.0 cost.0 steps.0 gap.0 image.0 seed.0) asked seed.2 in
+    (all_values mode.0 file.0 rounds.0 cost.0 steps.0 gap.0 from.0 image.0 seed.0) asked seed.2 in
     subst IsAnswerable (ok_same _ asked size.2) (record {
       rounds = (value_is 10 0 1000 line.rounds rounds.0 (omega arith) (omega arith)
           (there _ _ rounds.0 rounds.1)).1;

@@ -1,5 +1,5 @@
 -- The ends of a call that has made a certificate or tested one.
-use Rattle.std.proofs.Common.{◌≡◌, ◌≢◌, ◌⊎◌, ⊎_elim, ◌<◌, ◌≤◌, ◌∙◌, refl, sym, ap, subst, ℕ, List}
+use Rattle.std.proofs.Common.{◌≡◌, ◌≢◌, ◌⊎◌, inl, ⊎_elim, ◌<◌, ◌≤◌, ◌∙◌, refl, sym, ap, subst, ℕ, List}
 use Rattle.std.proofs.Common.{[], length, codes}
 use Rattle.std.specs.declared.option.Option.{Option}
 use Rattle.cert_check.specs.declared.check.CertAnswer.TheVariants.{Yes}
@@ -10,9 +10,10 @@ use Rattle.cert_check.proofs.Claims.{yes_bounds}
 use Rattle.cert_make.specs.Made.{IsCertificateOf}
 use Rattle.cert_make.proofs.Holds.{all_hold}
 use Rattle.cert_make.proofs.Whole.{has_one, numbered}
-use Rattle.pra_report.specs.Report.{most_procs}
 use Rattle.pra_words.specs.declared.words.CostWord.{CostWord as Word}
 use Rattle.pra_words.specs.declared.words.CostWord.TheVariants as word
+use Rattle.pra_words.specs.declared.words.FileKind.{FileKind}
+use Rattle.pra_words.specs.declared.words.FileKind.TheVariants as a_file
 use Rattle.pra_words.specs.Words.{Asked}
 use Rattle.pra_io.specs.Contents.{Holds, IsLonger}
 use Rattle.pra_tool.specs.declared.certified.Uncertified.TheVariants as uncertified
@@ -28,31 +29,25 @@ use Rattle.pra_tool.specs.Compiling.{MadeOf, weights_by}
 use Rattle.pra_tool.specs.Texts.{over_line, held_text}
 use Rattle.pra_tool.specs.Certified.{most_certificate, cost_by, CertifiesMade, IsCertified, IsHeld}
 use Rattle.pra_tool.specs.Certified.{IsUncertified, CheckMakes}
-use Rattle.pra_tool.specs.Clause.{compiling, checking}
-use Rattle.pra_tool.proofs.CompilingModes.{longer}
+use Rattle.pra_tool.specs.Clause.{compiling, checking, refuses}
+use Rattle.pra_tool.proofs.SourceKinds.{longer}
 use Rattle.pra_tool.proofs.ModeAnswers.{is_memory}
-use Rattle.pra_tool.proofs.Sources.{few_procs as module_few}
 
 -- the weights of a certificate are those by which the rounds were made
 same_weights : (cost : Word) → weights_by cost ≡ cert_weights (cost_by cost)
 same_weights word.Size = refl
 same_weights word.Speed = refl
 
--- a module that was read has no more procedures than are told of
-few_procs : (asked : Asked) (source : List ℕ) (made : Made) → (made_of : MadeOf asked source made) →
-    length made_of.text.checked.procs ≤ most_procs
-few_procs asked source made made_of =
-    module_few source made_of.text.checked
-    (record { text = made_of.text; read = made_of.read; is = refl })
-
 -- what was compiled is certified, and the certificate holds
-certified : (asked : Asked) (source text : List ℕ) (made : Made) → MadeOf asked source made →
-    CertifiesMade asked.cost made text → IsCertified asked source text
-certified asked source text made made_of is =
+certified : (kind : FileKind) (asked : Asked) (source text : List ℕ) (made : Made) →
+    MadeOf kind asked source made → CertifiesMade asked.cost made text →
+    IsCertified kind asked source text
+certified kind asked source text made made_of is =
     let same = subst (λ (w : CostWord). IsCertificateOf w made.compiled.procs is.certificate)
     (sym is.certifies.cost) is.certifies in
+    let built = made_of.built in
     let holds = all_hold _ _ made.compiled is.certificate
-    (same_weights asked.cost ∙ ap cert_weights (sym is.certifies.cost)) made_of.compiled_to same in
+    (same_weights asked.cost ∙ ap cert_weights (sym is.certifies.cost)) built same in
     record {
       made = made;
       made_of = made_of;
@@ -61,22 +56,21 @@ certified asked source text made made_of is =
       holds = holds;
       bounded = yes_bounds is.certificate holds;
       text_is = is.text_is;
-      read_again = is.again (has_one _ _ made.compiled is.certificate made_of.compiled_to same)
-          (numbered _ _ made.compiled is.certificate made_of.compiled_to same
-          (few_procs asked source made made_of));
+      read_again = is.again (has_one _ _ made.compiled is.certificate built same)
+          (numbered _ _ made.compiled is.certificate built same);
     }
 
 -- what `cert` made was written, as far as writing went
 pub cert_ends : (asked : Asked) (made : Made) (text : List ℕ) (w : Writes) (s : Status)
     (old new : Seen) (result : Status) → new.input ≡ old.input →
     CertifiesMade asked.cost made text → length text ≤ most_certificate → w ≡ text_alone text →
-    s ≡ Ended → Wrote w s old new result → (source : List ℕ) → MadeOf asked source made →
-    Ends (compiling Certify asked) source old new result
+    s ≡ Ended → Wrote w s old new result → (source : List ℕ) →
+    MadeOf asked.from asked source made → Ends (compiling Certify asked) source old new result
 cert_ends asked made text w s old new result alone certifies few is done wrote source made_of =
     ends.wrote [] refl alone w s
     (record {
       text = text;
-      certified = certified asked source text made made_of certifies;
+      certified = certified asked.from asked source text made made_of certifies;
       few = few;
       no_input = refl;
       writes = is;
@@ -84,22 +78,37 @@ cert_ends asked made text w s old new result alone certifies few is done wrote s
     }) wrote
 
 -- its text was too long
+refused_cert : (kind : FileKind) (asked : Asked) (source text : List ℕ) (s : Status) →
+    IsCertified kind asked source text → most_certificate < length text → s ≡ OverLimit →
+    refuses kind Certify asked source []
+    (over_line (codes "certificate") (length text) most_certificate) s
+refused_cert a_file.Module asked source text s certified many is = record {
+  text = text;
+  certified = certified;
+  many = many;
+  no_input = refl;
+  line_is = refl;
+  status_is = is;
+}
+refused_cert a_file.Code asked source text s certified many is = inl (record {
+  text = text;
+  certified = certified;
+  many = many;
+  no_input = refl;
+  line_is = refl;
+  status_is = is;
+})
+
 over_ends : (asked : Asked) (made : Made) (text : List ℕ) (old new : Seen) (result : Status) →
     new.input ≡ old.input → CertifiesMade asked.cost made text →
     most_certificate < length text → result ≡ OverLimit →
     Refused (over_line (codes "certificate") (length text) most_certificate) old new →
-    (source : List ℕ) → MadeOf asked source made →
+    (source : List ℕ) → MadeOf asked.from asked source made →
     Ends (compiling Certify asked) source old new result
 over_ends asked made text old new result alone certifies many is told source made_of =
     ends.over [] refl alone (over_line (codes "certificate") (length text) most_certificate)
-    (record {
-      text = text;
-      certified = certified asked source text made made_of certifies;
-      many = many;
-      no_input = refl;
-      line_is = refl;
-      status_is = is;
-    }) told
+    (refused_cert asked.from asked source text result
+    (certified asked.from asked source text made made_of certifies) many is) told
 
 -- and is refused for that, unless memory was wanting for the line
 pub over_or_wanting : (asked : Asked) (made : Made) (text : List ℕ) (old new : Seen)
@@ -107,8 +116,8 @@ pub over_or_wanting : (asked : Asked) (made : Made) (text : List ℕ) (old new :
     most_certificate < length text → (result ≡ OverLimit) ⊎ (result ≡ NoMemory) →
     (result ≢ NoMemory →
     Refused (over_line (codes "certificate") (length text) most_certificate) old new) →
-    (result ≡ NoMemory → Untouched old new) → (source : List ℕ) → MadeOf asked source made →
-    Ends (compiling Certify asked) source old new result
+    (result ≡ NoMemory → Untouched old new) → (source : List ℕ) →
+    MadeOf asked.from asked source made → Ends (compiling Certify asked) source old new result
 over_or_wanting asked made text old new result alone certifies many known told memory source
     made_of = ⊎_elim (λ wanting. ends.wanting wanting (memory wanting))
     (λ other. over_ends asked made text old new result alone certifies many

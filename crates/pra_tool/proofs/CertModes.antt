@@ -2,8 +2,6 @@
 use Rattle.std.proofs.Common.{◌≡◌, ◌<◌, ◌⊎◌, inl, inr, ⊎_elim, refl, sym, ap, ap₂, ◌∙◌, subst}
 use Rattle.std.proofs.Common.{ℕ, zero, suc, List, Some, Ok, Err, arith}
 use Rattle.std.specs.Prelude.{Option, slice_get}
-use Rattle.std.proofs.lemmas.Bool.{cases_lt}
-use Rattle.std.proofs.Math.Nat.{eq-or-lt_of_le}
 use Rattle.cert_check.specs.declared.check.CertAnswer.{CertAnswer}
 use Rattle.cert_check.specs.declared.check.CertAnswer.TheVariants.{Yes, No}
 use Rattle.cert_check.specs.declared.check.Reason.{Reason}
@@ -25,6 +23,7 @@ use Rattle.pra_tool.specs.Certified.{uncertified_status, IsHeld, certificates}
 use Rattle.pra_tool.specs.Applied.{IsCertText, IsNoCertText, certificate_texts}
 use Rattle.pra_tool.specs.Clause.{checking}
 use Rattle.pra_tool.proofs.CompilingModes.{inputs_are_a_kind, not_read}
+use Rattle.pra_tool.proofs.SourceKinds.{same_or_less}
 
 -- ---- one answer
 
@@ -46,10 +45,6 @@ reason_back Bound = refl
 
 one_rank : (r t : Reason) → rank r ≡ rank t → r ≡ t
 one_rank r t e = sym (reason_back r) ∙ ap reason_at e ∙ reason_back t
-
-same_or_less : (m n : ℕ) → (m ≡ n) ⊎ (m < n) ⊎ (n < m)
-same_or_less m n = ⊎_elim (λ lt. inr (inl lt))
-    (λ le. ⊎_elim (λ e. inl (sym e)) (λ lt. inr (inr lt)) (eq-or-lt_of_le le)) (cases_lt m n)
 
 -- whoever fails by a reason fails by no later one
 first_reason : (c : Certificate) (p : ℕ) (cert : Cert) (r t : Reason) → FailsBy c p cert r →

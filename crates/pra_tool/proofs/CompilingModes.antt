@@ -1,55 +1,68 @@
 -- The modes that compile FILE are modes.
-use Rattle.std.proofs.Common.{◌≡◌, ◌≢◌, ◌⊎◌, ◌<◌, ◌+◌, inl, refl, sym, ap, ◌∙◌, subst, ℕ, ℤ, List}
-use Rattle.std.proofs.Common.{[], ◌∷◌, length, take, Some, None, replicate, arith, rules, ⊎_elim}
-use Rattle.std.proofs.lemmas.List.{length-map, length-replicate, length-append}
+use Rattle.std.proofs.Common.{◌≡◌, ◌≢◌, ◌⊎◌, ◌<◌, ◌+◌, inl, inr, refl, sym, ap, ◌∙◌, subst, ℕ, ℤ}
+use Rattle.std.proofs.Common.{true, List, [], ◌∷◌, length, take, Some, None, arith, rules, ⊎_elim}
+use Rattle.std.proofs.lemmas.List.{length-map, length-append}
 use Rattle.std.specs.declared.option.Option.{Option}
 use Rattle.std.specs.Io.KnownBytes.{Keeps}
-use Rattle.pra_base.specs.declared.limit.LimitKind.TheVariants as limit
 use Rattle.pra_base.specs.RunEnd as end
-use Rattle.pra_io.specs.Contents.{Holds, IsLonger, IsAllOf, Takes}
+use Rattle.pra_io.specs.Contents.{IsAllOf, Takes}
 use Rattle.ia_code.specs.declared.image.Image.{Image}
 use Rattle.ia_step.specs.declared.out.Ending.{Ending}
 use Rattle.ia_step.specs.declared.out.Ending.TheVariants as ending
 use Rattle.ia_step.specs.Run.{run_end}
-use Rattle.ob_read.specs.declared.fault.LimitFault.TheVariants.{Count}
-use Rattle.ob_read.specs.declared.fault.ReadFault.{ReadFault}
-use Rattle.ob_read.specs.Source.{IsUnreadable}
-use Rattle.ob_read.proofs.Reading.{one_reading, never_memory}
+use Rattle.ob_interp.specs.declared.interpret.UnitEnding.{UnitEnding}
+use Rattle.ob_interp.specs.declared.interpret.UnitEnding.TheVariants as unit
+use Rattle.pra_compile.specs.Compiled.{IsTooLong, granted}
+use Rattle.pra_words.specs.declared.words.FileKind.{FileKind}
+use Rattle.pra_words.specs.declared.words.FileKind.TheVariants as a_file
+use Rattle.pra_words.specs.Words.{Asked}
+use Rattle.vc_run.specs.declared.out.CodeEnding.{CodeEnding}
+use Rattle.vc_run.specs.declared.out.CodeEnding.TheVariants as code
+use Rattle.vc_stmt.specs.Completes.{are_words}
 use Rattle.pra_tool.specs.declared.compiler.Made.{Made}
-use Rattle.pra_tool.specs.Compiling.{MadeOf}
-use Rattle.ob_read.specs.declared.fault.ReadFault.TheVariants as read
+use Rattle.pra_tool.specs.declared.source.Sourced.{Sourced}
 use Rattle.pra_tool.specs.declared.tool.Then.{Then}
 use Rattle.pra_tool.specs.declared.tool.Then.TheVariants.{Run, Write, Interpret, Certify}
-use Rattle.pra_words.specs.Words.{Asked}
 use Rattle.pra_tool.specs.declared.input.WrongInput.{WrongInput}
 use Rattle.pra_tool.specs.declared.input.WrongInput.TheVariants.{TooLong, NoWord}
 use Rattle.pra_tool.specs.declared.status.Status.{Status}
 use Rattle.pra_tool.specs.declared.status.Status.TheVariants.{Ended, Trapped, Going, OverLimit}
 use Rattle.pra_tool.specs.declared.status.Status.TheVariants.{NoMemory}
-use Rattle.pra_tool.specs.Ends.{NeverFaults}
+use Rattle.pra_tool.specs.Certified.{CertOver}
+use Rattle.pra_tool.specs.Compiling.{MadeOf, ImageOver, wanted_by}
 use Rattle.pra_tool.specs.Inputs.{HasNumbers, IsWrongInput, input_status, inputs}
-use Rattle.ob_interp.specs.declared.interpret.UnitEnding.{UnitEnding}
-use Rattle.ob_interp.specs.declared.interpret.UnitEnding.TheVariants as unit
-use Rattle.pra_tool.specs.Status.{IsDone, IsRefusal, IsEnding, IsStatusOf, status_of_units}
+use Rattle.pra_tool.specs.Interpreted.{interp_makes}
+use Rattle.pra_tool.specs.Sources.{IsSource, IsSourced}
+use Rattle.pra_tool.specs.Status.{IsDone, IsRefusal, IsStatusOf, IsRunStatus, status_of_machine}
+use Rattle.pra_tool.specs.Status.{status_of_units, status_of_code}
+use Rattle.pra_tool.specs.Texts.{image_over_line}
 use Rattle.pra_tool.specs.Outside.{Seen, Untouched}
 use Rattle.pra_tool.specs.Writes.{FileText, Writes, IsOther, NamesDiffer, names, LeftOff}
 use Rattle.pra_tool.specs.Writes.{image_file}
-use Rattle.pra_tool.proofs.Files.{one_file}
 use Rattle.pra_tool.specs.Modes.{IsKind, IsMode}
-use Rattle.pra_tool.specs.Clause.{makes, refuses, files_of, sources, compiling}
-use Rattle.pra_tool.specs.Clause.{fault_status}
+use Rattle.pra_tool.specs.Clause.{run_of, makes, refuses, files_of, compiling}
+use Rattle.pra_tool.proofs.Files.{one_file}
+use Rattle.pra_tool.proofs.Sources.{compiled_of, never_over, right_of}
+use Rattle.pra_tool.proofs.SourceKinds.{sources_are_a_kind, some_longer}
 
--- the run of an image that was made of a source is no fault
-ending_along : (e : Ending) → (run_end e ≢ Some end.Wrong) → IsEnding e
+-- ---- statuses of runs
+
+-- the status of a run that comes to no fault
+ending_along : (e : Ending) → (run_end e ≢ Some end.Wrong) → IsStatusOf e (status_of_machine e)
 ending_along ending.Going h = tt
 ending_along ending.Ended h = tt
 ending_along (ending.Trap k) h = tt
 ending_along (ending.Fault k) h = absurd (h refl)
 
-pub never_faults : (asked : Asked) (source : List ℕ) (made : Made) → MadeOf asked source made →
-    NeverFaults made.compiled.image
-never_faults asked source made is input words m =
-    ending_along _ ((is.compiled_to.does input words).never_wrong m)
+-- the image of a module never comes to one
+pub run_status : (kind : FileKind) (asked : Asked) (source : List ℕ) (made : Made)
+    (input : List ℤ) (steps : ℕ) (s : Status) → MadeOf kind asked source made →
+    are_words input ≡ true → s ≡ status_of_machine (run_of made.compiled.image input steps).ending →
+    IsRunStatus kind (run_of made.compiled.image input steps).ending s
+run_status a_file.Module asked source made input steps s is words e =
+    subst (IsStatusOf (run_of made.compiled.image input steps).ending) (sym e)
+    (ending_along _ (((compiled_of asked source made is).does input words).never_wrong steps))
+run_status a_file.Code asked source made input steps s is words e = e
 
 pub done_of : (e : Ending) (s : Status) → IsStatusOf e s → IsDone s
 done_of e Ended is = tt
@@ -60,7 +73,23 @@ done_of (ending.Trap k) _ is = absurd is
 done_of ending.Going _ is = absurd is
 done_of (ending.Fault k) _ is = absurd is
 
-pub units_done : (e : UnitEnding) → IsDone (status_of_units e)
+machine_done : (e : Ending) → IsDone (status_of_machine e)
+machine_done ending.Ended = tt
+machine_done (ending.Trap k) = tt
+machine_done ending.Going = tt
+machine_done (ending.Fault k) = tt
+
+run_done : (kind : FileKind) (e : Ending) (s : Status) → IsRunStatus kind e s → IsDone s
+run_done a_file.Module e s is = done_of e s is
+run_done a_file.Code e s is = subst IsDone (sym is) (machine_done e)
+
+code_done : (e : CodeEnding) → IsDone (status_of_code e)
+code_done code.Ended = tt
+code_done (code.Trap k) = tt
+code_done code.Going = tt
+code_done (code.Stuck cause) = tt
+
+units_done : (e : UnitEnding) → IsDone (status_of_units e)
 units_done unit.Ended = tt
 units_done (unit.Trap k) = tt
 units_done unit.Going = tt
@@ -91,19 +120,7 @@ nothing_left w name old new one l =
       notes = l.notes;
     }
 
-refusal_of : (source : List ℕ) (f : ReadFault) → IsUnreadable source f → IsRefusal (fault_status f)
-refusal_of source (read.Source f) h = tt
-refusal_of source (read.Limit f) h = tt
-refusal_of source read.OutOfMemory h = absurd (never_memory source read.OutOfMemory h refl)
-
--- ---- sources and inputs
-
-pub sources_are_a_kind : IsKind sources
-sources_are_a_kind = record {
-  one_wrong = one_reading.one_fault;
-  never_both = λ source f right h. one_reading.never_both source right.0 f right.1 h;
-  refuses = refusal_of;
-}
+-- ---- inputs
 
 one_wrong_input : (text : List ℕ) (f g : WrongInput) → IsWrongInput text f → IsWrongInput text g →
     f ≡ g
@@ -137,90 +154,172 @@ no_numbers = (omega arith, refl)
 pub not_read : (input : List ℕ) → input ≡ [] → inputs.IsRight input
 not_read input is = ([], subst (λ (text : List ℕ). HasNumbers text []) (sym is) no_numbers)
 
-modes_right : (next : Then) (asked : Asked) (source input : List ℕ) (w : Writes) (s : Status) →
-    makes next asked source input w s →
-    sources.IsRight source × inputs.IsRight input
-modes_right Run asked source input w s made =
-    ((made.made_of.text, made.made_of.read), (made.numbers, made.has))
-modes_right Write asked source input w s made =
-    ((made.made_of.text, made.made_of.read), not_read input made.no_input)
-modes_right Interpret asked source input w s made =
-    ((made.made_of.text, made.made_of.read), (made.numbers, made.has))
-modes_right Certify asked source input w s made =
-    ((made.certified.made_of.text, made.certified.made_of.read), not_read input made.no_input)
+-- what is made of a source has its kind
+pub source_made : (kind : FileKind) (asked : Asked) (source : List ℕ) (made : Made) →
+    MadeOf kind asked source made → IsSource kind source
+source_made kind asked source made is = right_of kind source is.sourced is.is
 
-modes_right_then : (next : Then) (asked : Asked) (source input line : List ℕ) (s : Status) →
-    refuses next asked source input line s → sources.IsRight source × inputs.IsRight input
-modes_right_then Run asked source input line s r = absurd r
-modes_right_then Write asked source input line s r = absurd r
-modes_right_then Interpret asked source input line s r = absurd r
-modes_right_then Certify asked source input line s r =
-    ((r.certified.made_of.text, r.certified.made_of.read), not_read input r.no_input)
+interp_right : (kind : FileKind) (asked : Asked) (source input : List ℕ) (w : Writes)
+    (s : Status) → interp_makes kind asked source input w s →
+    IsSource kind source × inputs.IsRight input
+interp_right a_file.Module asked source input w s made =
+    (source_made a_file.Module asked source made.made made.made_of, (made.numbers, made.has))
+interp_right a_file.Code asked source input w s made =
+    (source_made a_file.Code asked source made.made made.made_of, (made.numbers, made.has))
 
-modes_refuse : (next : Then) (asked : Asked) (source input line : List ℕ) (s : Status) →
-    refuses next asked source input line s → IsRefusal s
-modes_refuse Run asked source input line s r = absurd r
-modes_refuse Write asked source input line s r = absurd r
-modes_refuse Interpret asked source input line s r = absurd r
-modes_refuse Certify asked source input line s r = subst IsRefusal (sym r.status_is) tt
+modes_right : (next : Then) (kind : FileKind) (asked : Asked) (source input : List ℕ)
+    (w : Writes) (s : Status) → makes next kind asked source input w s →
+    IsSource kind source × inputs.IsRight input
+modes_right Run kind asked source input w s made =
+    (source_made kind asked source made.made made.made_of, (made.numbers, made.has))
+modes_right Write kind asked source input w s made =
+    (source_made kind asked source made.made made.made_of, not_read input made.no_input)
+modes_right Interpret kind asked source input w s made =
+    interp_right kind asked source input w s made
+modes_right Certify kind asked source input w s made = (
+  source_made kind asked source made.certified.made made.certified.made_of,
+  not_read input made.no_input,
+)
 
-modes_done : (next : Then) (asked : Asked) (source input : List ℕ) (w : Writes) (s : Status) →
-    makes next asked source input w s → IsDone s
-modes_done Run asked source input w s made = done_of _ s made.ended
-modes_done Write asked source input w s made = subst IsDone (sym made.done) tt
-modes_done Interpret asked source input w s made =
+-- ---- what is refused
+
+cert_right : (kind : FileKind) (asked : Asked) (source input line : List ℕ) (s : Status) →
+    CertOver kind asked source input line s → IsSource kind source × inputs.IsRight input
+cert_right kind asked source input line s r = (
+  source_made kind asked source r.certified.made r.certified.made_of,
+  not_read input r.no_input,
+)
+
+image_right : (kind : FileKind) (asked : Asked) (source input line : List ℕ) (s : Status) →
+    ImageOver kind asked source input line s → IsSource kind source × inputs.IsRight input
+image_right kind asked source input line s r =
+    (right_of kind source r.sourced r.is, (r.numbers, r.has))
+
+modes_right_then : (kind : FileKind) (next : Then) (asked : Asked) (source input line : List ℕ)
+    (s : Status) → refuses kind next asked source input line s →
+    IsSource kind source × inputs.IsRight input
+modes_right_then a_file.Module Run asked source input line s r = absurd r
+modes_right_then a_file.Module Write asked source input line s r = absurd r
+modes_right_then a_file.Module Interpret asked source input line s r = absurd r
+modes_right_then a_file.Module Certify asked source input line s r =
+    cert_right a_file.Module asked source input line s r
+modes_right_then a_file.Code Run asked source input line s r =
+    image_right a_file.Code asked source input line s r
+modes_right_then a_file.Code Write asked source input line s r =
+    image_right a_file.Code asked source input line s r
+modes_right_then a_file.Code Interpret asked source input line s r =
+    image_right a_file.Code asked source input line s r
+modes_right_then a_file.Code Certify asked source input line s (inl r) =
+    cert_right a_file.Code asked source input line s r
+modes_right_then a_file.Code Certify asked source input line s (inr r) =
+    image_right a_file.Code asked source input line s r
+
+modes_refuse : (kind : FileKind) (next : Then) (asked : Asked) (source input line : List ℕ)
+    (s : Status) → refuses kind next asked source input line s → IsRefusal s
+modes_refuse a_file.Module Run asked source input line s r = absurd r
+modes_refuse a_file.Module Write asked source input line s r = absurd r
+modes_refuse a_file.Module Interpret asked source input line s r = absurd r
+modes_refuse a_file.Module Certify asked source input line s r =
+    subst IsRefusal (sym r.status_is) tt
+modes_refuse a_file.Code Run asked source input line s r = subst IsRefusal (sym r.status_is) tt
+modes_refuse a_file.Code Write asked source input line s r = subst IsRefusal (sym r.status_is) tt
+modes_refuse a_file.Code Interpret asked source input line s r =
+    subst IsRefusal (sym r.status_is) tt
+modes_refuse a_file.Code Certify asked source input line s (inl r) =
+    subst IsRefusal (sym r.status_is) tt
+modes_refuse a_file.Code Certify asked source input line s (inr r) =
+    subst IsRefusal (sym r.status_is) tt
+
+image_over : (kind : FileKind) (asked : Asked) (source input : List ℕ) (sourced : Sourced)
+    (count : ℕ) → IsSourced kind source sourced →
+    IsTooLong sourced.file (granted (wanted_by asked)) count → inputs.IsRight input →
+    ImageOver kind asked source input (image_over_line count) OverLimit
+image_over kind asked source input sourced count is long right = record {
+  sourced = sourced;
+  is = is;
+  numbers = right.0;
+  has = right.1;
+  count = count;
+  long = long;
+  line_is = refl;
+  status_is = refl;
+}
+
+-- an image has no room for the code of a source, which then is that of no module
+pub no_room : (kind : FileKind) (next : Then) (asked : Asked) (source input : List ℕ)
+    (sourced : Sourced) (count : ℕ) → IsSourced kind source sourced →
+    IsTooLong sourced.file (granted (wanted_by asked)) count → inputs.IsRight input →
+    refuses kind next asked source input (image_over_line count) OverLimit
+no_room a_file.Module next asked source input sourced count is long right =
+    absurd (never_over source sourced is (granted (wanted_by asked)) count long)
+no_room a_file.Code Run asked source input sourced count is long right =
+    image_over a_file.Code asked source input sourced count is long right
+no_room a_file.Code Write asked source input sourced count is long right =
+    image_over a_file.Code asked source input sourced count is long right
+no_room a_file.Code Interpret asked source input sourced count is long right =
+    image_over a_file.Code asked source input sourced count is long right
+no_room a_file.Code Certify asked source input sourced count is long right =
+    inr (image_over a_file.Code asked source input sourced count is long right)
+
+-- ---- what is done
+
+interp_done : (kind : FileKind) (asked : Asked) (source input : List ℕ) (w : Writes)
+    (s : Status) → interp_makes kind asked source input w s → IsDone s
+interp_done a_file.Module asked source input w s made =
     subst IsDone (sym made.ended) (units_done _)
-modes_done Certify asked source input w s made = subst IsDone (sym made.done) tt
+interp_done a_file.Code asked source input w s made =
+    subst IsDone (sym made.ended) (code_done _)
 
-pub modes_write : (next : Then) (asked : Asked) (source input : List ℕ) (w : Writes) (s : Status) →
-    makes next asked source input w s → names w.files ≡ files_of next asked
-modes_write Run asked source input w s made = ap (λ (x : Writes). names x.files) made.writes
-modes_write Write asked source input w s made = ap (λ (x : Writes). names x.files) made.writes
-modes_write Interpret asked source input w s made =
+modes_done : (next : Then) (kind : FileKind) (asked : Asked) (source input : List ℕ)
+    (w : Writes) (s : Status) → makes next kind asked source input w s → IsDone s
+modes_done Run kind asked source input w s made = run_done kind _ s made.ended
+modes_done Write kind asked source input w s made = subst IsDone (sym made.done) tt
+modes_done Interpret kind asked source input w s made =
+    interp_done kind asked source input w s made
+modes_done Certify kind asked source input w s made = subst IsDone (sym made.done) tt
+
+interp_write : (kind : FileKind) (asked : Asked) (source input : List ℕ) (w : Writes)
+    (s : Status) → interp_makes kind asked source input w s → names w.files ≡ []
+interp_write a_file.Module asked source input w s made =
     ap (λ (x : Writes). names x.files) made.writes
-modes_write Certify asked source input w s made = ap (λ (x : Writes). names x.files) made.writes
+interp_write a_file.Code asked source input w s made =
+    ap (λ (x : Writes). names x.files) made.writes
+
+pub modes_write : (next : Then) (kind : FileKind) (asked : Asked) (source input : List ℕ)
+    (w : Writes) (s : Status) → makes next kind asked source input w s →
+    names w.files ≡ files_of next asked
+modes_write Run kind asked source input w s made =
+    ap (λ (x : Writes). names x.files) made.writes
+modes_write Write kind asked source input w s made =
+    ap (λ (x : Writes). names x.files) made.writes
+modes_write Interpret kind asked source input w s made =
+    interp_write kind asked source input w s made
+modes_write Certify kind asked source input w s made =
+    ap (λ (x : Writes). names x.files) made.writes
 
 -- where memory was wanting, nothing was written
-pub modes_leave : (next : Then) (asked : Asked) (source input : List ℕ) (w : Writes) (s : Status)
-    (old new : Seen) → makes next asked source input w s → LeftOff w old new → Untouched old new
-modes_leave Run asked source input w s old new made =
-    nothing_left w asked.image old new (modes_write Run asked source input w s made)
-modes_leave Write asked source input w s old new made =
-    nothing_left w asked.image old new (modes_write Write asked source input w s made)
-modes_leave Interpret asked source input w s old new made =
-    none_left w old new (modes_write Interpret asked source input w s made)
-modes_leave Certify asked source input w s old new made =
-    none_left w old new (modes_write Certify asked source input w s made)
+pub modes_leave : (next : Then) (kind : FileKind) (asked : Asked) (source input : List ℕ)
+    (w : Writes) (s : Status) (old new : Seen) → makes next kind asked source input w s →
+    LeftOff w old new → Untouched old new
+modes_leave Run kind asked source input w s old new made =
+    nothing_left w asked.image old new (modes_write Run kind asked source input w s made)
+modes_leave Write kind asked source input w s old new made =
+    nothing_left w asked.image old new (modes_write Write kind asked source input w s made)
+modes_leave Interpret kind asked source input w s old new made =
+    none_left w old new (modes_write Interpret kind asked source input w s made)
+modes_leave Certify kind asked source input w s old new made =
+    none_left w old new (modes_write Certify kind asked source input w s made)
 
 pub compiling_is_a_mode : (next : Then) (asked : Asked) → IsMode (compiling next asked)
 compiling_is_a_mode next asked = record {
-  source = sources_are_a_kind;
+  source = sources_are_a_kind asked.from;
   input = inputs_are_a_kind;
-  right = modes_right next asked;
-  done = modes_done next asked;
-  right_then = modes_right_then next asked;
-  refuses = modes_refuse next asked;
-  writes = modes_write next asked;
+  right = modes_right next asked.from asked;
+  done = modes_done next asked.from asked;
+  right_then = modes_right_then asked.from next asked;
+  refuses = modes_refuse asked.from next asked;
+  writes = modes_write next asked.from asked;
 }
-
--- ---- a source that is too long
-
-some_longer : (n : ℕ) → (source : List ℕ) × (n < length source)
-some_longer n =
-    (replicate (n + 1) 0, let same = length-replicate {A = ℕ} (n + 1) 0 in omega (arith, same))
-
--- there is a source that FILE may hold and that is longer
-pub longer : (n : ℕ) (file : Option (Option (List ℕ))) → IsLonger file n →
-    (source : List ℕ) × Holds file source × (n < length source)
-longer n None h = let x = some_longer n in (x.0, tt, x.1)
-longer n (Some None) h = absurd h
-longer n (Some (Some bytes)) h = (bytes, refl, h)
-
--- and it is refused for that
-pub too_long : (file : Option (Option (List ℕ))) → IsLonger file 1048576 →
-    (source : List ℕ) × Holds file source ×
-    IsUnreadable source (read.Limit (Count limit.Source 1048577))
-too_long file h = let x = longer 1048576 file h in (x.0, x.1, inl (x.2, refl))
 
 -- the one file that is written differs from all others
 pub different : (name : List ℕ) (image : Image) (files : List FileText) →

@@ -20,14 +20,16 @@ use Rattle.pra_compile.specs.Compiled.{IsCompiled}
 use Rattle.pra_follow.specs.Follows.{DoesAsMeant}
 use Rattle.pra_report.specs.Report.{report_text, procedure_lines}
 use Rattle.pra_report.specs.Texts.{output_text}
+use Rattle.pra_words.specs.declared.words.FileKind.{FileKind}
+use Rattle.pra_words.specs.declared.words.FileKind.TheVariants as a_file
 use Rattle.pra_words.specs.Words.{Asked}
 use Rattle.pra_tool.specs.declared.status.Status.{Status}
 use Rattle.pra_tool.specs.declared.status.Status.TheVariants as status
 use Rattle.pra_tool.specs.Clause.{run_of, RunMakes, CompileMakes}
 use Rattle.pra_tool.specs.Compiling.{wanted_by}
 use Rattle.pra_tool.specs.Executed.{ExecMakes}
-use Rattle.pra_tool.specs.Interpreted.{frames_of}
-use Rattle.pra_tool.specs.Status.{IsStatusOf, status_of_machine}
+use Rattle.pra_compile.specs.Compiled.{frames_of}
+use Rattle.pra_tool.specs.Status.{IsStatusOf, IsRunStatus, status_of_machine}
 use Rattle.pra_tool.specs.Texts.{ending_line}
 use Rattle.pra_tool.specs.Writes.{FileText, Writes, one_file, image_file}
 use Rattle.pra_tool.proofs.InputWords.{numbers_are_words}
@@ -35,6 +37,7 @@ use Rattle.pra_tool.proofs.InterpAgrees.{run_over, ends_once, one_numbers}
 use Rattle.pra_tool.proofs.ListingModes.{same_image}
 use Rattle.pra_tool.proofs.RoundTrip.{same_bytes}
 use Rattle.pra_tool.proofs.SameFrames.{same_frames}
+use Rattle.pra_tool.proofs.Sources.{compiled_of}
 
 -- the image that runs is the one that was written
 written_image : (name file : List ℕ) (files : List FileText) (image run : Image) →
@@ -56,22 +59,29 @@ status_is ending.Ended _ is = absurd is
 status_is (ending.Trap k) _ is = absurd is
 status_is ending.Going _ is = absurd is
 
-pub exec_repeats_run : (asked other : Asked) (source file input : List ℕ) (v w : Writes)
-    (s t : Status) (run : RunMakes asked source input v s) → v.files ≡ one_file asked.image file →
+-- and so is that of whatever was compiled
+run_status_is : (kind : FileKind) (e : Ending) (s : Status) → IsRunStatus kind e s →
+    s ≡ status_of_machine e
+run_status_is a_file.Module e s is = status_is e s is
+run_status_is a_file.Code e s is = is
+
+pub exec_repeats_run : (kind : FileKind) (asked other : Asked) (source file input : List ℕ)
+    (v w : Writes) (s t : Status) (run : RunMakes kind asked source input v s) →
+    v.files ≡ one_file asked.image file →
     ExecMakes other file input w t → asked.steps ≡ other.steps →
     (s ≡ t) × (v.out ≡ w.out) ×
     (v.notes ≡ report_text run.made.compiled.procs (length run.made.compiled.image.code) ++ w.notes)
-exec_repeats_run asked other source file input v w s t run files exec steps =
+exec_repeats_run kind asked other source file input v w s t run files exec steps =
     let made = run.made.compiled in
     let image = written_image asked.image file v.files made.image exec.image
-    (ap (λ (x : Writes). x.files) run.writes) files run.made_of.compiled_to.valid exec.held in
+    (ap (λ (x : Writes). x.files) run.writes) files run.made_of.built.valid exec.held in
     let numbers = one_numbers input run.numbers exec.numbers run.has exec.has in
     let same : machine_run made.image run.numbers asked.steps
     ≡ machine_run exec.image exec.numbers other.steps =
     ap (λ (i : Image). machine_run i run.numbers asked.steps) image
     ∙ ap (λ (ns : List ℤ). machine_run exec.image ns asked.steps) numbers
     ∙ ap (λ m. machine_run exec.image exec.numbers m) steps in (
-      status_is _ s run.ended ∙ ap (λ (r : RunOut). status_of_machine r.ending) same
+      run_status_is kind _ s run.ended ∙ ap (λ (r : RunOut). status_of_machine r.ending) same
           ∙ sym exec.ended,
       ap (λ (x : Writes). x.out) run.writes ∙ ap (λ (r : RunOut). output_text r.events) same
           ∙ sym (ap (λ (x : Writes). x.out) exec.writes),
@@ -128,8 +138,9 @@ taken_as_read : (a b : Image) (input : List ℤ) (m n : ℕ) →
 taken_as_read a b input m n same = ap (λ (p : Progress OutEvent RunEnd). p.taken - 0) same
 
 pub exec_does_as_run : (asked other another : Asked) (source file input : List ℕ)
-    (u v w : Writes) (r s t : Status) (run : RunMakes asked source input v s)
-    (compiled : CompileMakes other source [] u r) (exec : ExecMakes another file input w t) →
+    (u v w : Writes) (r s t : Status) (run : RunMakes a_file.Module asked source input v s)
+    (compiled : CompileMakes a_file.Module other source [] u r)
+    (exec : ExecMakes another file input w t) →
     u.files ≡ one_file other.image file →
     procedure_lines 0 run.made.compiled.procs ≡ procedure_lines 0 compiled.made.compiled.procs →
     s ≢ status.Going → t ≢ status.Going →
@@ -140,20 +151,20 @@ exec_does_as_run asked other another source file input u v w r s t run compiled 
     not_going not_either =
     let a = run.made.compiled in
     let b = compiled.made.compiled in
-    let program = compiled.made_of.text.checked in
+    let one = run.made_of.is in
+    let two = compiled.made_of.is in
+    let program = two.text.checked in
     let frames = frames_of b.procs in
-    let module_same : run.made_of.text.checked ≡ program =
-    ap (λ (x : ReadText). x.checked) (one_reading.one_way source run.made_of.text
-    compiled.made_of.text run.made_of.read compiled.made_of.read) in
+    let module_same : one.text.checked ≡ program = ap (λ (x : ReadText). x.checked)
+    (one_reading.one_way source one.text two.text one.read two.read) in
     let a_is : IsCompiled program (wanted_by asked) a =
     subst (λ (p : Checked). IsCompiled p (wanted_by asked) a) module_same
-    run.made_of.compiled_to in
+    (compiled_of asked source run.made run.made_of) in
+    let b_is = compiled_of other source compiled.made compiled.made_of in
     let same : frames_of a.procs ≡ frames =
-    same_frames program (wanted_by asked) (wanted_by other) a b a_is
-    compiled.made_of.compiled_to lines in
+    same_frames program (wanted_by asked) (wanted_by other) a b a_is b_is lines in
     let image = written_image other.image file u.files b.image exec.image
-    (ap (λ (x : Writes). x.files) compiled.writes) files compiled.made_of.compiled_to.valid
-    exec.held in
+    (ap (λ (x : Writes). x.files) compiled.writes) files compiled.made_of.built.valid exec.held in
     let numbers = one_numbers input exec.numbers run.numbers exec.has run.has in
     let words = numbers_are_words input run.numbers run.has.1 in
     let does : DoesAsMeant program frames a.image run.numbers =
@@ -161,7 +172,7 @@ exec_does_as_run asked other another source file input u v w r s t run compiled 
     (a_is.does run.numbers words) in
     let too : DoesAsMeant program frames exec.image run.numbers =
     subst (λ (i : Image). DoesAsMeant program frames i run.numbers) image
-    (compiled.made_of.compiled_to.does run.numbers words) in
+    (b_is.does run.numbers words) in
     let again : machine_run exec.image exec.numbers another.steps
     ≡ machine_run exec.image run.numbers another.steps =
     ap (λ (ns : List ℤ). machine_run exec.image ns another.steps) numbers in

@@ -4,13 +4,15 @@ use Rattle.std.proofs.Common.{zero, suc, List, [], ◌∷◌, ◌++◌, length, 
 use Rattle.std.proofs.lemmas.List.{length-append}
 use Rattle.std.specs.Io.KnownBytes.{Keeps}
 use Rattle.pra_gen.specs.Module.{module_text}
+use Rattle.pra_words.specs.declared.words.FileKind.TheVariants as a_file
 use Rattle.pra_words.specs.Words.{Asked}
 use Rattle.pra_tool.specs.declared.status.Status.{Status}
 use Rattle.pra_tool.specs.Outside.{FolderSeen, Seen, Untouched}
 use Rattle.pra_tool.specs.Writes.{FileText, Writes, IsOther, NamesDiffer, names, Stored, LeftOff}
 use Rattle.pra_tool.specs.Modes.{IsMode}
 use Rattle.pra_tool.specs.Clause.{GenMakes, TextLeft, generating}
-use Rattle.pra_tool.proofs.CompilingModes.{sources_are_a_kind, inputs_are_a_kind, not_read, done_of}
+use Rattle.pra_tool.proofs.CompilingModes.{inputs_are_a_kind, not_read, done_of, source_made}
+use Rattle.pra_tool.proofs.SourceKinds.{sources_are_a_kind}
 
 pub gen_names : (asked : Asked) (source input : List ℕ) (w : Writes) (s : Status) →
     GenMakes asked source input w s → names w.files ≡ asked.file ∷ asked.image ∷ []
@@ -18,10 +20,12 @@ gen_names asked source input w s made = ap (λ (x : Writes). names x.files) made
 
 pub generating_is_a_mode : (asked : Asked) → IsMode (generating asked)
 generating_is_a_mode asked = record {
-  source = sources_are_a_kind;
+  source = sources_are_a_kind a_file.Module;
   input = inputs_are_a_kind;
-  right = λ source input w s made.
-      ((made.made_of.text, made.made_of.read), not_read input made.no_input);
+  right = λ source input w s made. (
+    source_made a_file.Module asked source made.made made.made_of,
+    not_read input made.no_input,
+  );
   done = λ source input w s made. done_of _ s made.ended;
   right_then = λ source input line s r. absurd r;
   refuses = λ source input line s r. absurd r;

@@ -25,16 +25,19 @@ use Rattle.pra_tool.specs.declared.status.Status.{Status}
 use Rattle.pra_tool.specs.declared.status.Status.TheVariants as status
 use Rattle.ob_read.specs.Source.{ReadText}
 use Rattle.ob_read.proofs.Reading.{one_reading}
+use Rattle.pra_words.specs.declared.words.FileKind.TheVariants as a_file
 use Rattle.pra_words.specs.Words.{Asked}
 use Rattle.pra_tool.specs.Clause.{run_of, RunMakes}
 use Rattle.pra_tool.specs.Inputs.{HasNumbers}
-use Rattle.pra_tool.specs.Interpreted.{frames_of, units_of, InterpMakes}
+use Rattle.pra_tool.specs.Interpreted.{units_of, InterpMakes}
+use Rattle.pra_compile.specs.Compiled.{frames_of}
 use Rattle.pra_tool.specs.Status.{IsStatusOf, status_of_units}
 use Rattle.pra_tool.specs.Writes.{Writes}
 use Rattle.pra_tool.specs.Compiling.{wanted_by}
 use Rattle.pra_compile.specs.Compiled.{IsCompiled}
 use Rattle.pra_report.specs.Report.{procedure_lines}
 use Rattle.pra_tool.proofs.SameFrames.{same_frames}
+use Rattle.pra_tool.proofs.Sources.{compiled_of}
 use Rattle.pra_tool.proofs.InputWords.{numbers_are_words}
 
 -- ---- both came to an end of the meaning
@@ -152,33 +155,32 @@ pub one_numbers : (input : List ℕ) (a b : List ℤ) → HasNumbers input a →
 one_numbers input a b p q = let e = sym p.1 ∙ q.1 in cc
 
 pub interp_does_as_run : (asked other : Asked) (source input : List ℕ) (v w : Writes) (s t : Status)
-    (run : RunMakes asked source input v s) (interp : InterpMakes other source input w t) →
+    (run : RunMakes a_file.Module asked source input v s)
+    (interp : InterpMakes other source input w t) →
     procedure_lines 0 run.made.compiled.procs ≡ procedure_lines 0 interp.made.compiled.procs →
     s ≢ status.Going → t ≢ status.Going →
     (s ≡ t) × (v.out ≡ w.out) ×
     ((run_of run.made.compiled.image run.numbers asked.steps).reads
-    ≡ (units_of interp.made.checked interp.made.compiled interp.numbers other.steps).reads)
+    ≡ (units_of interp.made_of.is.text.checked interp.made.compiled interp.numbers
+    other.steps).reads)
 interp_does_as_run asked other source input v w s t run interp lines not_going not_either =
     let image = run.made.compiled.image in
     let frames = frames_of interp.made.compiled.procs in
-    let program = interp.made.checked in
-    let text : run.made_of.text ≡ interp.made_of.text = one_reading.one_way source
-    run.made_of.text interp.made_of.text run.made_of.read interp.made_of.read in
-    let module_same : run.made_of.text.checked ≡ interp.made_of.text.checked =
-    ap (λ (x : ReadText). x.checked) text in
+    let one = run.made_of.is in
+    let two = interp.made_of.is in
+    let program = two.text.checked in
+    let module_same : one.text.checked ≡ program = ap (λ (x : ReadText). x.checked)
+    (one_reading.one_way source one.text two.text one.read two.read) in
+    let to : IsCompiled program (wanted_by asked) run.made.compiled =
+    subst (λ (p : Checked). IsCompiled p (wanted_by asked) run.made.compiled) module_same
+    (compiled_of asked source run.made run.made_of) in
     let same : frames_of run.made.compiled.procs ≡ frames =
-    same_frames interp.made_of.text.checked (wanted_by asked) (wanted_by other) run.made.compiled
-    interp.made.compiled
-    (subst (λ (p : Checked). IsCompiled p (wanted_by asked) run.made.compiled) module_same
-    run.made_of.compiled_to) interp.made_of.compiled_to lines in
-    let checked : run.made_of.text.checked ≡ program =
-    module_same ∙ sym interp.made_of.checked in
+    same_frames program (wanted_by asked) (wanted_by other) run.made.compiled
+    interp.made.compiled to (compiled_of other source interp.made interp.made_of) lines in
     let numbers = one_numbers input interp.numbers run.numbers interp.has run.has in
     let does : DoesAsMeant program frames image run.numbers =
-    subst (λ (p : Checked). DoesAsMeant p frames image run.numbers) checked
-    (subst (λ (fs : List ℕ). DoesAsMeant run.made_of.text.checked fs image run.numbers) same
-    (run.made_of.compiled_to.does run.numbers
-    (numbers_are_words input run.numbers run.has.1))) in
+    subst (λ (fs : List ℕ). DoesAsMeant program fs image run.numbers) same
+    (to.does run.numbers (numbers_are_words input run.numbers run.has.1)) in
     let units : t ≡ status_of_units
     (told (units_run program frames run.numbers other.steps)).ending =
     subst (λ (ns : List ℤ). t ≡ status_of_units

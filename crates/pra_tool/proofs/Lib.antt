@@ -3,6 +3,8 @@ mod WriteEnds
 mod ModeAnswers
 mod InputWords
 mod Sources
+mod SourceKinds
+mod CodeReads
 mod CompilingModes
 mod Generating
 mod AskedValues
@@ -18,6 +20,7 @@ mod CertEnds
 mod AppliedCerts
 mod ApplyModes
 mod ApplyAgrees
+mod CodeKept
 mod AllModes
 mod WordsEnds
 mod CompiledEnds

@@ -20,7 +20,7 @@ use Rattle.pra_tool.specs.Listings.{IsListed, ListMakes, IsTextOf, IsUnlisted, I
 use Rattle.pra_tool.specs.Listings.{IsUnloaded}
 use Rattle.pra_tool.specs.Listings.{most_image}
 use Rattle.pra_tool.specs.Clause.{AsmMakes, asm_writes, listing, assembling, mode_by}
-use Rattle.pra_tool.proofs.CompilingModes.{longer}
+use Rattle.pra_tool.proofs.SourceKinds.{longer}
 
 -- what `list` made was written, as far as writing went
 pub list_ends : (file text : List ℕ) (w : Writes) (s : Status) (old new : Seen) (result : Status) →

@@ -8,6 +8,7 @@ use Rattle.ia_code.specs.Listing.{IsListing}
 use Rattle.ia_list.specs.ListText.{IsListText, text_of, max_text_bytes}
 use Rattle.ia_list.proofs.TextsOnce.{listed_assembles, one_text}
 use Rattle.pra_tool.specs.declared.compiler.Made.{Made}
+use Rattle.pra_words.specs.declared.words.FileKind.{FileKind}
 use Rattle.pra_words.specs.Words.{Asked}
 use Rattle.pra_tool.specs.declared.status.Status.{Status}
 use Rattle.pra_tool.specs.Compiling.{MadeOf}
@@ -63,14 +64,14 @@ text_back asked text file v w s t made files list =
 
 -- ---- what a source is compiled to
 
-pub compiled_is_listed : (wanted : Asked) (source : List ℕ) (made : Made) →
-    MadeOf wanted source made →
+pub compiled_is_listed : (kind : FileKind) (wanted : Asked) (source : List ℕ) (made : Made) →
+    MadeOf kind wanted source made →
     (text : List ℕ) × IsListed (image_bytes_of made.compiled.image) text ×
     (length text ≤ max_text_bytes → (asked : Asked) (w : Writes) (s : Status) →
     AsmMakes asked text [] w s →
     w.files ≡ one_file asked.image (image_bytes_of made.compiled.image))
-compiled_is_listed wanted source made made_of =
-    by_listing _ made_of.compiled_to.assembled.listing
+compiled_is_listed kind wanted source made made_of =
+    by_listing _ made_of.built.assembled.listing
   where
     by_listing : (ins : List Ins) → IsListing made.compiled.image.code ins →
         (text : List ℕ) × IsListed (image_bytes_of made.compiled.image) text ×
@@ -79,7 +80,7 @@ compiled_is_listed wanted source made made_of =
         w.files ≡ one_file asked.image (image_bytes_of made.compiled.image))
     by_listing ins listing =
         let image = made.compiled.image in
-        let valid = made_of.compiled_to.valid in
+        let valid = made_of.built.valid in
         let listed : IsListText image (text_of image.data_words ins) =
         record { ins = ins; listing = listing; written = refl } in (
           text_of image.data_words ins,

@@ -11,15 +11,18 @@ use Rattle.std.proofs.lemmas.List.Sums.{length-filter, count_by-le-length}
 use Rattle.pra_list.proofs.Options.{some_same}
 use Rattle.ia_list.specs.Reading.{digits_at}
 use Rattle.ia_list.proofs.NumbersRead.{decimal_read}
-use Rattle.pl_place.specs.Behind.{Routed, has_slot}
+use Rattle.pl_place.specs.Behind.{has_slot}
 use Rattle.ob_syntax.specs.declared.checked.Checked.{Checked}
-use Rattle.ob_syntax.specs.declared.checked.CheckedProc.{CheckedProc}
+use Rattle.cert_form.specs.declared.codes.NamedCode.{NamedCode}
 use Rattle.pra_compile.specs.declared.output.Compiled.{Compiled}
-use Rattle.pra_compile.specs.Compiled.{Wanted, name_of, IsProcOut, IsCompiled}
+use Rattle.pra_compile.specs.Compiled.{Wanted, granted, IsProcBy, IsCompiled}
+use Rattle.pra_compile.specs.Leaving.{Leaving}
+use Rattle.pra_compile.specs.Tidied.{name_of}
+use Rattle.pra_follow.specs.Codes.{Carriage, IsCarriage, behind}
 use Rattle.pra_report.specs.declared.report.ProcOut.{ProcOut}
 use Rattle.pra_report.specs.Report.{procedure_lines}
 use Rattle.pra_report.specs.Texts.{procedure_line}
-use Rattle.pra_tool.specs.Interpreted.{frames_of}
+use Rattle.pra_compile.specs.Compiled.{frames_of}
 
 -- ---- a line
 
@@ -78,18 +81,17 @@ frames_by_lines n (a ∷ xs) (b ∷ ys) count like e =
 -- ---- of one module
 
 -- a frame is small
-frame_small : (program : Checked) (wanted : Wanted) (p : ℕ) (proc : CheckedProc) (out : ProcOut)
-    (r : Routed) → IsProcOut program wanted p proc out r → out.frame ≤ most_told
+frame_small : (leaves : Leaving) (p : ℕ) (named : NamedCode) (out : ProcOut) (c : Carriage) →
+    IsCarriage c → IsProcBy leaves p named out c → out.frame ≤ most_told
 unfolding most_told
-frame_small program wanted p proc out r is =
-    let same : r.code ≡ out.code = ap (λ (x : Routed). x.code) is.carried in
-    let args : r.code.args ≤ 32 = rw same is.code.sized.args in
-    let aggregates : r.code.aggregates ≤ 65536 = rw same is.code.sized.aggregates in
-    let variables : length r.code.vars ≤ 16383 = rw same is.code.sized.variables in
-    let all = range_with_len 0 (length r.code.vars) in
-    let slots = length-filter (has_slot r) all in
-    let few = count_by-le-length (has_slot r) all in
-    let many = length-range_with_len 0 (length r.code.vars) in
+frame_small leaves p named out c carriage is =
+    let args = carriage.sized.args in
+    let aggregates = carriage.sized.aggregates in
+    let variables = carriage.sized.variables in
+    let all = range_with_len 0 (length c.code.vars) in
+    let slots = length-filter (has_slot (behind c)) all in
+    let few = count_by-le-length (has_slot (behind c)) all in
+    let many = length-range_with_len 0 (length c.code.vars) in
     let frame = is.frame in
     omega (arith, args, aggregates, variables, slots, few, many, frame)
 
@@ -108,20 +110,25 @@ told_right : (program : Checked) (wanted : Wanted) (compiled : Compiled) →
     IsCompiled program wanted compiled → (k : ℕ) (a : ProcOut) →
     slice_get compiled.procs k ≡ Some a → (a.name ≡ name_of program k) × (a.frame ≤ most_told)
 told_right program wanted compiled is k a there =
+    let placement = is.built.placement in
     let lt = is_there compiled.procs k a there in
-    let count = is.count in
-    let behind = is.behind_count in
-    let proc = there_is program.procs k (omega (arith, lt, count)) in
-    let r = there_is is.behind k (omega (arith, lt, behind)) in
-    let out = is.each k proc.0 a r.0 proc.1 there r.1 in
-    (out.name, frame_small program wanted k proc.0 a r.0 out)
+    let count = placement.count in
+    let carried = placement.carriage_count in
+    let named = there_is is.file.procs k (omega (arith, lt, count)) in
+    let c = there_is placement.carriages k (omega (arith, lt, carried)) in
+    let out = placement.each k named.0 a c.0 named.1 there c.1 in (
+      out.name ∙ (is.of_module.procs.each k named.0 named.1).name,
+      frame_small (granted wanted) k named.0 a c.0 (placement.are k c.0 c.1) out,
+    )
 
 pub same_frames : (program : Checked) (wanted other : Wanted) (a b : Compiled) →
     IsCompiled program wanted a → IsCompiled program other b →
     procedure_lines 0 a.procs ≡ procedure_lines 0 b.procs →
     frames_of a.procs ≡ frames_of b.procs
 same_frames program wanted other a b is too e =
-    frames_by_lines 0 a.procs b.procs (is.count ∙ sym too.count)
+    frames_by_lines 0 a.procs b.procs
+    (is.built.placement.count ∙ is.of_module.procs.count
+    ∙ sym (too.built.placement.count ∙ too.of_module.procs.count))
     (λ k x y at there. let left = told_right program wanted a is k x at in
     let right = told_right program other b too k y there in
     (left.0 ∙ sym right.0, left.1, right.1)) e

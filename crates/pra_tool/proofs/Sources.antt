@@ -1,23 +1,33 @@
--- What the checker answers can be compiled, and its totals can be told.
-use Rattle.std.proofs.Common.{◌≤◌, ℕ, List, length, inl, inr, refl, sym, subst, leb-true}
+-- What a source is read as can be compiled, and its totals can be told. What is built of the code of
+-- a module does what the module means.
+use Rattle.std.proofs.Common.{◌≡◌, ◌≤◌, ℕ, List, length, inl, inr, refl, sym, subst, leb-true}
 use Rattle.std.proofs.Common.{Bool, arith}
 use Rattle.std.specs.Prelude.{nat_le}
 use Rattle.std.proofs.lemmas.List.Sums.{AllPass-from_list_all}
 use Rattle.net_cost.specs.Weights.{IsValid, size_weights, speed_weights}
 use Rattle.pra_words.specs.declared.words.CostWord.{CostWord}
 use Rattle.pra_words.specs.declared.words.CostWord.TheVariants.{Size, Speed}
+use Rattle.pra_words.specs.declared.words.FileKind.{FileKind}
+use Rattle.pra_words.specs.declared.words.FileKind.TheVariants as a_file
+use Rattle.cert_form.specs.declared.codes.CodeFile.{CodeFile}
 use Rattle.ob_check.specs.Checking.{IsChecked}
+use Rattle.ob_read.specs.Source.{ReadText, IsRead}
 use Rattle.ob_syntax.specs.Source.{IsParsed}
 use Rattle.ob_syntax.specs.declared.checked.Checked.{Checked}
 use Rattle.ob_syntax.specs.declared.token.Token.{Token}
 use Rattle.ob_syntax.specs.declared.tree.Module.{Module}
-use Rattle.pra_compile.specs.Compiled.{IsCompiled}
+use Rattle.pra_compile.specs.Compiled.{IsRunnable, IsBuilt, IsBuiltBy, IsCompiled, IsCompiledBy}
+use Rattle.pra_compile.specs.Compiled.{IsTooLong, granted}
+use Rattle.pra_compile.specs.Leaving.{Leaving}
 use Rattle.pra_compile.specs.declared.output.Compiled.{Compiled}
+use Rattle.pra_compile.proofs.Built.{module_runs, module_built, never_too_long}
 use Rattle.pra_compile.proofs.Totals.{have_totals}
-use Rattle.pra_report.specs.Report.{most_procs, HaveTotals}
+use Rattle.pra_report.specs.Report.{HaveTotals}
 use Rattle.pra_words.specs.Words.{Asked}
 use Rattle.pra_tool.specs.declared.compiler.Made.{Made}
-use Rattle.pra_tool.specs.Compiling.{IsModuleOf, MadeOf, wanted_by, weights_by}
+use Rattle.pra_tool.specs.declared.source.Sourced.{Sourced}
+use Rattle.pra_tool.specs.Compiling.{MadeOf, wanted_by, weights_by}
+use Rattle.pra_tool.specs.Sources.{IsModuleOf, IsModuleSource, IsSourced, IsSource}
 use Rattle.vc_short.proofs.Short.{module_short}
 use Rattle.vc_short.specs.Short.{IsShort}
 use Rattle.vc_typed.proofs.BodyNodes.{module_nodes}
@@ -39,17 +49,24 @@ valid_weights Speed = record {
   factor = inr refl;
 }
 
+pub totals_of : (asked : Asked) (file : CodeFile) (compiled : Compiled) →
+    IsBuilt file (wanted_by asked) compiled → HaveTotals compiled.procs
+totals_of asked file compiled built =
+    have_totals file (wanted_by asked) compiled built (valid_weights asked.cost)
+
+-- ---- modules
+
 module _ (bytes : List ℕ) (tokens : List Token) (tree : Module) (program : Checked)
     (parsed : IsParsed bytes tokens tree) (is : IsChecked bytes tokens tree program) where
-  pub selectable : IsSelectable program
+  selectable : IsSelectable program
   selectable = subst IsSelectable (sym is.checked_is)
       (module_selectable bytes tokens tree is.reading is.well_formed is.within)
 
-  pub nodes : HaveTheirNodes program
+  nodes : HaveTheirNodes program
   nodes = subst HaveTheirNodes (sym is.checked_is)
       (module_nodes bytes tokens tree is.reading parsed is.well_formed)
 
-  pub short : IsShort program
+  short : IsShort program
   short = subst IsShort (sym is.checked_is)
       (module_short bytes tokens tree is.reading parsed is.well_formed)
 
@@ -66,20 +83,41 @@ module _ (source : List ℕ) (program : Checked) (is : IsModuleOf source program
   pub short_of : IsShort program
   short_of = subst IsShort (sym is.is) (short source _ _ is.text.checked is.read.1 is.read.2)
 
-  pub few_procs : length program.procs ≤ most_procs
-  few_procs = let few = selectable_of.limited.count in omega (arith, few)
+module _ (source : List ℕ) (sourced : Sourced) (is : IsModuleSource source sourced) where
+  of : IsModuleOf source is.text.checked
+  of = record { text = is.text; read = is.read; is = refl }
 
-  pub totals_of : (asked : Asked) (compiled : Compiled) →
-      IsCompiled program (wanted_by asked) compiled → HaveTotals compiled.procs
-  totals_of asked compiled to =
-      have_totals program (wanted_by asked) compiled to (valid_weights asked.cost) few_procs
+  module_runnable : IsRunnable sourced.file
+  module_runnable = module_runs is.text.checked sourced.file is.code
+      (selectable_of source is.text.checked of)
 
-pub made_of : (asked : Asked) (source : List ℕ) (made : Made) → IsModuleOf source made.checked →
-    IsCompiled made.checked (wanted_by asked) made.compiled → MadeOf asked source made
-made_of asked source made is to = record {
-  text = is.text;
-  read = is.read;
-  checked = is.is;
-  compiled_to =
-      subst (λ (p : Checked). IsCompiled p (wanted_by asked) made.compiled) is.is to;
-}
+  pub meant_by : (leaves : Leaving) (compiled : Compiled) →
+      IsBuiltBy sourced.file leaves compiled → IsCompiledBy is.text.checked leaves compiled
+  meant_by leaves compiled built =
+      module_built is.text.checked sourced.file is.code (selectable_of source is.text.checked of)
+      leaves compiled built
+
+  pub never_over : (leaves : Leaving) (count : ℕ) → IsTooLong sourced.file leaves count → ⊥
+  never_over leaves count long =
+      never_too_long is.text.checked sourced.file is.code
+      (selectable_of source is.text.checked of) (short_of source is.text.checked of) leaves count
+      long
+
+-- what was made of a module does what that means
+pub compiled_of : (asked : Asked) (source : List ℕ) (made : Made)
+    (is : MadeOf a_file.Module asked source made) →
+    IsCompiled is.is.text.checked (wanted_by asked) made.compiled
+compiled_of asked source made is =
+    meant_by source is.sourced is.is (granted (wanted_by asked)) made.compiled is.built
+
+-- ---- whatever FILE is
+
+pub runnable_of : (kind : FileKind) (source : List ℕ) (sourced : Sourced) →
+    IsSourced kind source sourced → IsRunnable sourced.file
+runnable_of a_file.Module source sourced is = module_runnable source sourced is
+runnable_of a_file.Code source sourced is = is.text.runnable
+
+pub right_of : (kind : FileKind) (source : List ℕ) (sourced : Sourced) →
+    IsSourced kind source sourced → IsSource kind source
+right_of a_file.Module source sourced is = (is.text, is.read)
+right_of a_file.Code source sourced is = (sourced.file, is.text)

@@ -1,35 +1,36 @@
--- What is made of a module and a certificate of it, and why a certificate is refused.
+-- What is made of code and a certificate of it, and why a certificate is refused.
 use Rattle.std.specs.Prelude.{◌≡◌, ◌≢◌, ◌≤◌, ℕ, true, List, [], length, map, slice_get, take}
 use Rattle.std.specs.Prelude.{Some}
 use Rattle.cert_check.specs.declared.check.CertAnswer.TheVariants.{Yes, No}
 use Rattle.cert_check.specs.Reasons.{IsAnswerOf, AreBounded}
 use Rattle.cert_form.specs.declared.certificate.Cert.{Cert}
 use Rattle.cert_form.specs.declared.certificate.Certificate.{Certificate}
+use Rattle.cert_form.specs.declared.codes.CodeFile.{CodeFile}
 use Rattle.net_cost.specs.declared.weights.Weights.{Weights}
 use Rattle.net_form.specs.Admitted.{IsAdmitted}
 use Rattle.net_form.specs.Cost.{cost_of}
 use Rattle.net_form.specs.Flow.{Edge}
-use Rattle.ob_read.specs.Source.{ReadText, IsRead}
-use Rattle.ob_syntax.specs.declared.checked.Checked.{Checked}
 use Rattle.pra_base.specs.declared.code.VProc.{VProc}
 use Rattle.pra_compile.specs.declared.given.GivenRoutes.{GivenRoutes}
 use Rattle.pra_compile.specs.declared.output.Compiled.{Compiled}
-use Rattle.pra_compile.specs.Compiled.{IsCompiledBy, codes_of}
+use Rattle.pra_compile.specs.Compiled.{IsBuiltBy, IsTooLong, codes_named}
 use Rattle.pra_compile.specs.Given.{given_by}
-use Rattle.pra_compile.specs.Tidied.{AreTidied}
 use Rattle.pl_place.specs.Behind.{Routed}
 use Rattle.pra_report.specs.declared.report.ProcOut.{ProcOut}
 use Rattle.pra_report.specs.Report.{last_cost, last_bound}
+use Rattle.pra_words.specs.declared.words.FileKind.{FileKind}
 use Rattle.pra_words.specs.Words.{Asked}
 use Rattle.pra_tool.specs.declared.applied.Misapplied.{Misapplied}
 use Rattle.pra_tool.specs.declared.applied.Misapplied.TheVariants as misapplied
 use Rattle.pra_tool.specs.declared.certified.Uncertified.{Uncertified}
 use Rattle.pra_tool.specs.declared.certified.Uncertified.TheVariants as uncertified
+use Rattle.pra_tool.specs.declared.source.Sourced.{Sourced}
 use Rattle.pra_tool.specs.declared.status.Status.{Status}
-use Rattle.pra_tool.specs.declared.status.Status.TheVariants.{Ended, BadSource, NoMemory}
+use Rattle.pra_tool.specs.declared.status.Status.TheVariants.{Ended, BadSource, OverLimit, NoMemory}
 use Rattle.pra_tool.specs.Certified.{most_certificate, IsTextOfCert, IsUncertified}
 use Rattle.pra_tool.specs.Certified.{uncertified_status}
 use Rattle.pra_tool.specs.Texts.{uncertified_line, misapplied_line, applied_text}
+use Rattle.pra_tool.specs.Sources.{IsSourced}
 use Rattle.pra_tool.specs.Writes.{Writes, image_file}
 use Rattle.pra_tool.specs.Modes.{Kind, IsInput, IsLeft}
 use Rattle.pra_tool.specs.Outside.{StreamSeen}
@@ -65,7 +66,7 @@ pub record HasGivenCert (old new : StreamSeen) (c : Certificate) : Type 0 where
   pub left : IsLeft true old new
   pub is : IsCertText bytes c
 
--- ---- the certificate beside the module
+-- ---- the certificate beside the code
 
 abbrev pub codes_by : List Cert → List VProc
 codes_by certs = map (λ (cert : Cert). cert.code) certs
@@ -82,12 +83,13 @@ routes_in c = map routes_of c.procs
 
 -- ---- what is made
 
--- What the module is compiled to has the codes and the routes of the certificate, and as the line
--- of each procedure its total and its bound. No reason against the certificate holds: so the routes
--- cost the totals by its own cost word, and no admitted flow costs less than the bounds.
-pub record IsApplied (program : Checked) (c : Certificate) (compiled : Compiled) : Type 0 where
-  pub compiled_to : IsCompiledBy program (given_by (routes_in c)) compiled
-  pub codes : codes_of compiled ≡ codes_in c
+-- The certificate has the code's procedures, and what the code is compiled to has the certificate's
+-- routes, and as the line of each procedure its total and its bound. No reason against the
+-- certificate holds: so the routes cost the totals by its own cost word, and no admitted flow costs
+-- less than the bounds.
+pub record IsApplied (file : CodeFile) (c : Certificate) (compiled : Compiled) : Type 0 where
+  pub built : IsBuiltBy file (given_by (routes_in c)) compiled
+  pub codes : codes_in c ≡ codes_named file.procs
   pub holds : IsAnswerOf c Yes
   pub bounded : AreBounded c
 
@@ -121,14 +123,14 @@ apply_writes asked compiled = record {
 }
 
 -- What `apply` makes of a source and a certificate.
-pub record ApplyMakes (asked : Asked) (source input : List ℕ) (w : Writes) (s : Status)
-    : Type 0 where
-  pub text : ReadText
-  pub read : IsRead source text
+pub record ApplyMakes (kind : FileKind) (asked : Asked) (source input : List ℕ) (w : Writes)
+    (s : Status) : Type 0 where
+  pub sourced : Sourced
+  pub is : IsSourced kind source sourced
   pub certificate : Certificate
   pub given : IsCertText input certificate
   pub compiled : Compiled
-  pub applied : IsApplied text.checked certificate compiled
+  pub applied : IsApplied sourced.file certificate compiled
   pub writes : w ≡ apply_writes asked compiled
   pub done : s ≡ Ended
 
@@ -143,33 +145,44 @@ pub record DifferFirst (given own : List VProc) (p : ℕ) : Type 0 where
   pub is_own : slice_get own p ≡ Some other
   pub differ : code ≢ other
 
--- The certificate has as many procedures as the module; the code of this one is another than the
--- module's tidy code, and those of all before it are the module's.
-pub record IsOfOther (program : Checked) (c : Certificate) (p : ℕ) : Type 0 where
-  pub count : length c.procs ≡ length program.procs
-  pub codes : List VProc
-  pub tidied : AreTidied program codes
-  pub first : DifferFirst (codes_in c) codes p
+-- The certificate has as many procedures as the code; that of this one is other code, and those of
+-- all before it are the same.
+pub record IsOfOther (file : CodeFile) (c : Certificate) (p : ℕ) : Type 0 where
+  pub count : length c.procs ≡ length file.procs
+  pub first : DifferFirst (codes_in c) (codes_named file.procs) p
 
--- why a certificate is not applied to a module
-abbrev pub IsMisapplied : Checked → Certificate → Misapplied → Type 0
-IsMisapplied program c misapplied.Count = length c.procs ≢ length program.procs
-IsMisapplied program c (misapplied.Module p) = IsOfOther program c p
-IsMisapplied program c (misapplied.Fails p r) =
-    AreTidied program (codes_in c) × IsAnswerOf c (No p r)
-IsMisapplied program c misapplied.OutOfMemory = ⊥
+-- The certificate has the code's procedures and holds, and an image has no room for them with its
+-- routes: so many bytes.
+pub record IsTooLongWith (file : CodeFile) (c : Certificate) (count : ℕ) : Type 0 where
+  pub codes : codes_in c ≡ codes_named file.procs
+  pub holds : IsAnswerOf c Yes
+  pub long : IsTooLong file (given_by (routes_in c)) count
+
+-- why a certificate is not applied to code
+abbrev pub IsMisapplied : CodeFile → Certificate → Misapplied → Type 0
+IsMisapplied file c misapplied.Count = length c.procs ≢ length file.procs
+IsMisapplied file c (misapplied.Module p) = IsOfOther file c p
+IsMisapplied file c (misapplied.Fails p r) =
+    (codes_in c ≡ codes_named file.procs) × IsAnswerOf c (No p r)
+IsMisapplied file c (misapplied.TooLong count) = IsTooLongWith file c count
+IsMisapplied file c misapplied.OutOfMemory = ⊥
 
 abbrev pub misapplied_status : Misapplied → Status
+misapplied_status misapplied.Count = BadSource
+misapplied_status (misapplied.Module p) = BadSource
+misapplied_status (misapplied.Fails p r) = BadSource
+misapplied_status (misapplied.TooLong count) = OverLimit
 misapplied_status misapplied.OutOfMemory = NoMemory
-misapplied_status fault = BadSource
 
--- A certificate is refused that is not one of this module, or that does not hold.
-pub record ApplyRefuses (source input line : List ℕ) (s : Status) : Type 0 where
-  pub text : ReadText
-  pub read : IsRead source text
+-- A certificate is refused that is none of this code, or that does not hold; or one with whose
+-- routes the code is too long, which that of a module never is.
+pub record ApplyRefuses (kind : FileKind) (source input line : List ℕ) (s : Status)
+    : Type 0 where
+  pub sourced : Sourced
+  pub is : IsSourced kind source sourced
   pub certificate : Certificate
   pub given : IsCertText input certificate
   pub fault : Misapplied
-  pub misapplied : IsMisapplied text.checked certificate fault
+  pub misapplied : IsMisapplied sourced.file certificate fault
   pub line_is : line ≡ misapplied_line fault
   pub status_is : s ≡ misapplied_status fault

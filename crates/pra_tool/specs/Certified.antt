@@ -12,6 +12,7 @@ use Rattle.cert_form.specs.Whole.{AreNumbered, IsReadAgain, Reads}
 use Rattle.cert_make.specs.Made.{IsCertificateOf}
 use Rattle.pra_words.specs.declared.words.CostWord.{CostWord as Word}
 use Rattle.pra_words.specs.declared.words.CostWord.TheVariants as word
+use Rattle.pra_words.specs.declared.words.FileKind.{FileKind}
 use Rattle.pra_words.specs.Words.{Asked}
 use Rattle.pra_tool.specs.declared.certified.Uncertified.{Uncertified}
 use Rattle.pra_tool.specs.declared.certified.Uncertified.TheVariants as uncertified
@@ -45,11 +46,11 @@ pub record CertifiesMade (cost : Word) (made : Made) (text : List ℕ) : Type 0 
 
 -- The text is that of the certificate of what the source is compiled to, to which no reason
 -- applies, and reading it answers that certificate. So the image that the source is compiled to
--- does what that means, and carries the certificate's codes and flows, with lines that end with its
--- totals and bounds; and no flow costs less than these bounds.
-pub record IsCertified (asked : Asked) (source text : List ℕ) : Type 0 where
+-- carries the certificate's codes and flows, with lines that end with its totals and bounds; and no
+-- flow costs less than these bounds.
+pub record IsCertified (kind : FileKind) (asked : Asked) (source text : List ℕ) : Type 0 where
   pub made : Made
-  pub made_of : MadeOf asked source made
+  pub made_of : MadeOf kind asked source made
   pub certificate : Certificate
   pub certifies : IsCertificateOf (cost_by asked.cost) made.compiled.procs certificate
   pub holds : IsAnswerOf certificate Yes
@@ -58,19 +59,20 @@ pub record IsCertified (asked : Asked) (source text : List ℕ) : Type 0 where
   pub read_again : IsReadAgain certificate text
 
 -- What `cert` makes of a source; the input, which it does not read, counts as empty.
-pub record CertMakes (asked : Asked) (source input : List ℕ) (w : Writes) (s : Status)
-    : Type 0 where
+pub record CertMakes (kind : FileKind) (asked : Asked) (source input : List ℕ) (w : Writes)
+    (s : Status) : Type 0 where
   pub text : List ℕ
-  pub certified : IsCertified asked source text
+  pub certified : IsCertified kind asked source text
   pub few : length text ≤ most_certificate
   pub no_input : input ≡ []
   pub writes : w ≡ text_alone text
   pub done : s ≡ Ended
 
 -- The certificate that `cert` makes of a source is refused: its text is too long.
-pub record CertOver (asked : Asked) (source input line : List ℕ) (s : Status) : Type 0 where
+pub record CertOver (kind : FileKind) (asked : Asked) (source input line : List ℕ) (s : Status)
+    : Type 0 where
   pub text : List ℕ
-  pub certified : IsCertified asked source text
+  pub certified : IsCertified kind asked source text
   pub many : most_certificate < length text
   pub no_input : input ≡ []
   pub line_is : line ≡ over_line (codes "certificate") (length text) most_certificate

@@ -5,13 +5,12 @@ use Rattle.std.specs.Io.KnownBytes.{Keeps}
 use Rattle.ia_code.specs.declared.image.Image.{Image}
 use Rattle.ia_step.specs.declared.out.RunOut.{RunOut}
 use Rattle.ia_step.specs.Run.{machine_run}
-use Rattle.ob_read.specs.declared.fault.ReadFault.{ReadFault}
-use Rattle.ob_read.specs.declared.fault.ReadFault.TheVariants as read
-use Rattle.ob_read.specs.Source.{ReadText, IsRead, IsUnreadable}
 use Rattle.pra_compile.specs.declared.output.Compiled.{Compiled}
 use Rattle.pra_gen.specs.Module.{module_text}
 use Rattle.pra_report.specs.Report.{report_text, total_line, generated_line, output_line}
 use Rattle.pra_report.specs.Texts.{output_text}
+use Rattle.pra_words.specs.declared.words.FileKind.{FileKind}
+use Rattle.pra_words.specs.declared.words.FileKind.TheVariants as a_file
 use Rattle.pra_words.specs.declared.words.Mode.{Mode as Word}
 use Rattle.pra_words.specs.declared.words.Mode.TheVariants as word
 use Rattle.pra_words.specs.declared.words.WordsFault.{WordsFault}
@@ -19,16 +18,16 @@ use Rattle.pra_words.specs.Texts.{words_lines}
 use Rattle.pra_words.specs.Words.{Asked}
 use Rattle.pra_tool.specs.declared.compiler.Made.{Made}
 use Rattle.pra_tool.specs.declared.status.Status.{Status}
-use Rattle.pra_tool.specs.declared.status.Status.TheVariants.{Ended, BadSource, OverLimit}
-use Rattle.pra_tool.specs.declared.status.Status.TheVariants.{BadWords, NoMemory}
+use Rattle.pra_tool.specs.declared.status.Status.TheVariants.{Ended, OverLimit, BadWords, NoMemory}
 use Rattle.pra_tool.specs.Inputs.{HasNumbers, inputs}
-use Rattle.pra_tool.specs.Compiling.{MadeOf}
-use Rattle.pra_tool.specs.Status.{IsStatusOf}
-use Rattle.pra_tool.specs.Texts.{ending_line, fault_line}
+use Rattle.pra_tool.specs.Sources.{source_kind}
+use Rattle.pra_tool.specs.Compiling.{MadeOf, ImageOver}
+use Rattle.pra_tool.specs.Status.{IsStatusOf, IsRunStatus}
+use Rattle.pra_tool.specs.Texts.{ending_line, image_over_line}
 use Rattle.pra_tool.specs.Outside.{Seen, Refused, Untouched}
 use Rattle.pra_tool.specs.Writes.{FileText, Writes, one_file, image_file, Stored}
-use Rattle.pra_tool.specs.Modes.{Kind, Mode, Answers}
-use Rattle.pra_tool.specs.Interpreted.{InterpMakes}
+use Rattle.pra_tool.specs.Modes.{Mode, Answers}
+use Rattle.pra_tool.specs.Interpreted.{interp_makes}
 use Rattle.pra_tool.specs.Listings.{IsTextOf, images, loadable, listings, ListMakes}
 use Rattle.pra_tool.specs.Executed.{ExecMakes}
 use Rattle.pra_tool.specs.Applied.{certificate_texts, ApplyMakes, ApplyRefuses}
@@ -62,20 +61,20 @@ compile_writes asked compiled = record {
 
 -- What `run` makes of a source and an input: what the source is compiled to, and the status by the
 -- ending of the image's run on the numbers of the input.
-pub record RunMakes (asked : Asked) (source input : List ℕ) (w : Writes) (s : Status)
-    : Type 0 where
+pub record RunMakes (kind : FileKind) (asked : Asked) (source input : List ℕ) (w : Writes)
+    (s : Status) : Type 0 where
   pub made : Made
-  pub made_of : MadeOf asked source made
+  pub made_of : MadeOf kind asked source made
   pub numbers : List ℤ
   pub has : HasNumbers input numbers
   pub writes : w ≡ run_writes asked made.compiled numbers
-  pub ended : IsStatusOf (run_of made.compiled.image numbers asked.steps).ending s
+  pub ended : IsRunStatus kind (run_of made.compiled.image numbers asked.steps).ending s
 
 -- What `compile` makes of a source; the input, which it does not read, counts as empty.
-pub record CompileMakes (asked : Asked) (source input : List ℕ) (w : Writes) (s : Status)
-    : Type 0 where
+pub record CompileMakes (kind : FileKind) (asked : Asked) (source input : List ℕ) (w : Writes)
+    (s : Status) : Type 0 where
   pub made : Made
-  pub made_of : MadeOf asked source made
+  pub made_of : MadeOf kind asked source made
   pub no_input : input ≡ []
   pub writes : w ≡ compile_writes asked made.compiled
   pub done : s ≡ Ended
@@ -103,7 +102,7 @@ pub record GenMakes (asked : Asked) (source input : List ℕ) (w : Writes) (s : 
     : Type 0 where
   pub text : source ≡ module_text asked.seed asked.size
   pub made : Made
-  pub made_of : MadeOf asked source made
+  pub made_of : MadeOf a_file.Module asked source made
   pub no_input : input ≡ []
   pub writes : w ≡ gen_writes asked source made.compiled
   pub ended : IsStatusOf (run_of made.compiled.image [] asked.steps).ending s
@@ -125,38 +124,38 @@ pub record AsmMakes (asked : Asked) (text input : List ℕ) (w : Writes) (s : St
   pub writes : w ≡ asm_writes asked image
   pub done : s ≡ Ended
 
--- ---- what is refused
-
--- the status of a source that is not compiled
-abbrev pub fault_status : ReadFault → Status
-fault_status (read.Source f) = BadSource
-fault_status (read.Limit f) = OverLimit
-fault_status read.OutOfMemory = NoMemory
-
--- the sources: texts of modules
-abbrev pub sources : Kind
-sources = record {
-  Wrong = ReadFault;
-  IsWrong = IsUnreadable;
-  line = fault_line;
-  status = fault_status;
-  IsRight = λ source. (text : ReadText) × IsRead source text;
-}
-
 -- ---- the modes
 
-abbrev pub makes : Then → Asked → List ℕ → List ℕ → Writes → Status → Type 0
+-- what is made of a source of this kind
+abbrev pub makes : Then → FileKind → Asked → List ℕ → List ℕ → Writes → Status → Type 0
 makes Run = RunMakes
 makes Write = CompileMakes
-makes Interpret = InterpMakes
+makes Interpret = interp_makes
 makes Certify = CertMakes
 
--- a certificate that is too long is refused
-abbrev pub refuses : Then → Asked → (source input line : List ℕ) → Status → Type 0
-refuses Run asked source input line s = ⊥
-refuses Write asked source input line s = ⊥
-refuses Interpret asked source input line s = ⊥
-refuses Certify asked source input line s = CertOver asked source input line s
+-- A certificate that is too long is refused. So is code for which an image has no room, which of
+-- a module there always is.
+abbrev pub refuses : FileKind → Then → Asked → (source input line : List ℕ) → Status → Type 0
+refuses a_file.Module Run asked source input line s = ⊥
+refuses a_file.Module Write asked source input line s = ⊥
+refuses a_file.Module Interpret asked source input line s = ⊥
+refuses a_file.Module Certify asked source input line s =
+    CertOver a_file.Module asked source input line s
+refuses a_file.Code Run asked source input line s =
+    ImageOver a_file.Code asked source input line s
+refuses a_file.Code Write asked source input line s =
+    ImageOver a_file.Code asked source input line s
+refuses a_file.Code Interpret asked source input line s =
+    ImageOver a_file.Code asked source input line s
+refuses a_file.Code Certify asked source input line s =
+    CertOver a_file.Code asked source input line s
+    ⊎ ImageOver a_file.Code asked source input line s
+
+-- An image has no room for so many bytes of the source's code: whatever the input is, if it is one,
+-- that is told.
+abbrev pub IsOver : Then → Asked → List ℕ → ℕ → Type 0
+IsOver next asked source count = (input : List ℕ) → inputs.IsRight input →
+    refuses asked.from next asked source input (image_over_line count) OverLimit
 
 -- whether the input is read before that
 abbrev pub takes_input : Then → Bool
@@ -172,15 +171,15 @@ files_of Write asked = asked.image ∷ []
 files_of Interpret asked = []
 files_of Certify asked = []
 
--- FILE is a source, which is compiled, and then this is done
+-- FILE is a source of the kind that is asked for, which is compiled, and then this is done
 abbrev pub compiling : Then → Asked → Mode
 compiling next asked = record {
-  source = sources;
+  source = source_kind asked.from;
   own = None;
   input = inputs;
   reads_input = takes_input next;
-  Makes = makes next asked;
-  Refuses = refuses next asked;
+  Makes = makes next asked.from asked;
+  Refuses = refuses asked.from next asked;
   files = files_of next asked;
   Leaves = Untouched;
 }
@@ -195,7 +194,7 @@ pub record TextLeft (name text : List ℕ) (old new : Seen) : Type 0 where
 -- hold the text
 abbrev pub generating : Asked → Mode
 generating asked = record {
-  source = sources;
+  source = source_kind a_file.Module;
   own = Some (module_text asked.seed asked.size);
   input = inputs;
   reads_input = false;
@@ -261,12 +260,12 @@ executing asked = record {
 -- FILE is a source, which is compiled with the routes of the certificate that the input is
 abbrev pub applying : Asked → Mode
 applying asked = record {
-  source = sources;
+  source = source_kind asked.from;
   own = None;
   input = certificate_texts;
   reads_input = true;
-  Makes = ApplyMakes asked;
-  Refuses = ApplyRefuses;
+  Makes = ApplyMakes asked.from asked;
+  Refuses = ApplyRefuses asked.from;
   files = asked.image ∷ [];
   Leaves = Untouched;
 }

@@ -1,12 +1,8 @@
 -- What a call leaves that has compiled FILE, from there on.
-use Rattle.std.specs.Prelude.{◌≡◌, ℕ, ℤ, List, true, codes}
-use Rattle.ia_code.specs.declared.image.Image.{Image}
-use Rattle.ia_step.specs.Run.{machine_run}
+use Rattle.std.specs.Prelude.{◌≡◌, ℕ, List, true, codes}
 use Rattle.pra_io.specs.Causes.{Rose}
 use Rattle.pra_tool.specs.declared.status.Status.{Status}
 use Rattle.pra_tool.specs.declared.status.Status.TheVariants.{Fault, NoMemory}
-use Rattle.pra_tool.specs.Status.{IsEnding}
-use Rattle.vc_stmt.specs.Completes.{are_words}
 use Rattle.pra_tool.specs.Modes.{Mode, IsInput, IsLeft, TextRefused}
 use Rattle.pra_tool.specs.Outside.{Seen, Refused, Untouched}
 use Rattle.pra_tool.specs.Writes.{Writes, Wrote}
@@ -25,8 +21,3 @@ pub data Ends (m : Mode) (source : List ℕ) (old new : Seen) (status : Status) 
   wrote : (input : List ℕ) → IsInput m.reads_input old.input input →
       IsLeft m.reads_input old.input new.input → (w : Writes) → (s : Status) →
       m.Makes source input w s → Wrote w s old new status → Ends m source old new status
-
--- no run of the image on words ends with a fault of the machine
-abbrev pub NeverFaults : Image → Type 0
-NeverFaults image = (input : List ℤ) → are_words input ≡ true → (steps : ℕ) →
-    IsEnding (machine_run image input steps).ending

@@ -5,6 +5,7 @@ pub mod Outside
 pub mod Writes
 pub mod Modes
 pub mod Inputs
+pub mod Sources
 pub mod Ends
 pub mod Texts
 pub mod Interpreted

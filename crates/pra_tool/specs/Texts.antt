@@ -22,6 +22,16 @@ use Rattle.ob_lex.specs.declared.scanner.LexFault.{LexFault}
 use Rattle.ob_lex.specs.declared.scanner.LexFault.TheVariants as lex
 use Rattle.ob_read.specs.declared.fault.SourceFault.TheVariants.{Lex, Grammar, Rule}
 use Rattle.ob_read.specs.declared.fault.LimitFault.TheVariants.{Count, Depth}
+use Rattle.vc_run.specs.declared.out.Cause.{Cause}
+use Rattle.vc_run.specs.declared.out.CodeEnding.{CodeEnding}
+use Rattle.vc_run.specs.declared.out.CodeEnding.TheVariants as code
+use Rattle.vc_run.specs.declared.out.CodeOut.{CodeOut}
+use Rattle.vc_run.specs.declared.out.StuckKind.{StuckKind}
+use Rattle.vc_run.specs.declared.out.StuckKind.TheVariants as stuck
+use Rattle.pra_tool.specs.declared.source.CodeWrong.{CodeWrong}
+use Rattle.pra_tool.specs.declared.source.CodeWrong.TheVariants as wrong
+use Rattle.pra_tool.specs.declared.source.SourceFault.{SourceFault}
+use Rattle.pra_tool.specs.declared.source.SourceFault.TheVariants as fault
 use Rattle.pra_tool.specs.declared.input.WrongInput.{WrongInput}
 use Rattle.pra_tool.specs.declared.input.WrongInput.TheVariants.{TooLong, NoWord}
 use Rattle.ob_read.specs.declared.fault.ReadFault.{ReadFault}
@@ -55,7 +65,7 @@ fault_name machine.Flag = codes "flag"
 fault_name machine.Divide = codes "divide"
 fault_name machine.Service = codes "service"
 
--- how a run ended; with a fault of the machine no compiled program ends
+-- how a run ended; with a fault of the machine no module ends that was compiled
 abbrev pub ending_words : Ending → List ℕ
 ending_words Going = codes "going"
 ending_words Ended = codes "ended"
@@ -77,6 +87,32 @@ unit_ending_words (unit.Trap kind) = codes "trap " ++ trap_name kind
 -- how it ended, the units that were begun, and the input words that it took
 abbrev pub units_line : UnitOut → List ℕ
 units_line run = unit_ending_words run.ending ++ codes " units " ++ decimal run.units ++
+    codes " reads " ++ decimal run.reads ++ codes "\n"
+
+-- why the next step of code means nothing
+abbrev pub stuck_name : StuckKind → List ℕ
+stuck_name stuck.Address = codes "address"
+stuck_name stuck.Nothing = codes "nothing"
+stuck_name stuck.Access = codes "access"
+stuck_name stuck.Divide = codes "divide"
+
+-- that, and where it is
+abbrev pub stuck_words : Cause → List ℕ
+stuck_words cause =
+    codes "stuck " ++ stuck_name cause.kind ++ codes " procedure " ++ decimal cause.proc.0
+    ++ codes " block " ++ decimal cause.block.0
+    ++ codes " instruction " ++ decimal cause.instruction
+
+-- how a run of code by its meaning ended
+abbrev pub code_ending_words : CodeEnding → List ℕ
+code_ending_words code.Going = codes "going"
+code_ending_words code.Ended = codes "ended"
+code_ending_words (code.Trap kind) = codes "trap " ++ trap_name kind
+code_ending_words (code.Stuck cause) = stuck_words cause
+
+-- how it ended, the steps that it made, the last one included, and the input words that it took
+abbrev pub code_line : CodeOut → List ℕ
+code_line run = code_ending_words run.ending ++ codes " steps " ++ decimal run.steps ++
     codes " reads " ++ decimal run.reads ++ codes "\n"
 
 -- ---- what is wrong with a source; what no source is refused for has no line
@@ -110,6 +146,24 @@ fault_line (Source (Rule rule token at)) =
 fault_line (Limit (Count kind count)) = count_line kind count
 fault_line (Limit (Depth token at)) = codes "limit depth token " ++ place_text token at
 fault_line OutOfMemory = []
+
+-- what is wrong with a source of code
+abbrev pub no_code_line : CodeWrong → List ℕ
+no_code_line wrong.TooLong = over_line (codes "code") 16777217 16777216
+no_code_line wrong.NotJson = codes "fault json\n"
+no_code_line wrong.NotCode = codes "fault code form\n"
+no_code_line (wrong.Procedures count) = over_line (codes "procedures") count 65536
+no_code_line (wrong.Broken p) = codes "fault code procedure " ++ decimal p ++ codes "\n"
+
+-- whatever a source is
+abbrev pub source_line : SourceFault → List ℕ
+source_line (fault.Module f) = fault_line f
+source_line (fault.Code f) = no_code_line f
+source_line fault.OutOfMemory = []
+
+-- code of so many bytes, for which an image has no room
+abbrev pub image_over_line : ℕ → List ℕ
+image_over_line count = over_line (codes "image") count 41943040
 
 -- ---- what is wrong with an input: its first byte too many, or the first byte of what is no word
 
@@ -181,6 +235,7 @@ misapplied_line misapplied.Count = codes "fault certificate module\n"
 misapplied_line (misapplied.Module p) =
     codes "fault certificate procedure " ++ decimal p ++ codes " module\n"
 misapplied_line (misapplied.Fails p r) = uncertified_line (uncertified.Fails p r)
+misapplied_line (misapplied.TooLong count) = image_over_line count
 misapplied_line misapplied.OutOfMemory = []
 
 -- what routes cost, and a bound

@@ -1,36 +1,31 @@
-// From a module and a certificate of it to the image that carries the certificate's routes.
+// From code and a certificate of it to the image that carries the certificate's routes.
 
 ghost use Rattle.std.specs.Prelude.{◌≡◌, ◌≢◌, ◌≤◌, length, IfOk, IfErr, MatchOption};
 ghost use Rattle.cert_check.specs.declared.check.CertAnswer.TheVariants.{Yes};
-ghost use Rattle.cert_check.specs.Reasons.{IsAnswerOf};
-ghost use Rattle.pra_compile.specs.Compiled.{IsCompiledBy, codes_of};
-ghost use Rattle.pra_compile.specs.Given.{given_by};
-ghost use Rattle.pra_compile.specs.Tidied.{AreTidied};
+ghost use Rattle.cert_check.specs.Reasons.{IsAnswerOf, AreBounded};
+ghost use Rattle.pra_compile.specs.Compiled.{IsRunnable, codes_named};
 ghost use Rattle.pra_report.specs.Report.{most_procs};
 ghost use Rattle.pra_tool.specs.Applied.{codes_by, codes_in, routes_in, DifferFirst};
 ghost use Rattle.pra_tool.specs.Applied.{IsApplied, IsMisapplied};
-ghost use Rattle.vc_short.specs.Short.{IsShort};
-ghost use Rattle.vc_typed.specs.Nodes.{HaveTheirNodes};
-ghost use Rattle.vc_typed.specs.TypedModules.{IsSelectable};
 
 use crate::same::Same;
 use cert_check::{CertAnswer, Reason, check_cert};
-use cert_form::{Cert, Certificate};
-use ob_syntax::Checked;
-use pra_base::{OutOfMemory, VProc};
-use pra_compile::{Compiled, Given, GivenRoutes, compile_codes, tidy_codes};
-use pra_list::Seq;
+use cert_form::{Cert, Certificate, CodeFile, NamedCode};
+use pra_base::OutOfMemory;
+use pra_compile::{CompileFault, Compiled, Given, GivenRoutes, compile_codes};
 use std::alloc::Global;
 
-/// Why a certificate is not applied to a module.
+/// Why a certificate is not applied to code.
 #[derive(Clone, Copy, Debug, PartialEq, Eq)]
 pub enum Misapplied {
-    /// It has not as many procedures as the module.
+    /// It has another number of procedures.
     Count,
-    /// Of this procedure, the first such one, it has other code than the module's tidy code.
+    /// Of this procedure, the first such one, it has other code.
     Module(u32),
-    /// It has the module's codes, and this procedure is the first that fails, by this reason.
+    /// It has the same codes, and this procedure is the first that fails, by this reason.
     Fails(u32, Reason),
+    /// It holds, and with its routes the code has so many bytes, for which an image has no room.
+    TooLong(u64),
     OutOfMemory,
 }
 
@@ -44,50 +39,44 @@ impl From<OutOfMemory> for Misapplied {
     }
 }
 
-/// The module, compiled with the codes and the routes of a certificate. Nothing is made of routes
-/// before all of the certificate was tested.
+/// The code, compiled with the routes of a certificate. Nothing is made of routes before all of the
+/// certificate was tested.
 ///
 /// # Errors
 ///
-/// The first thing by which the certificate is none of this module, or does not hold. And
-/// `OutOfMemory`.
+/// The first thing by which the certificate is none of this code, or does not hold; or how long the
+/// code is with its routes, where that is too long. And `OutOfMemory`.
 pub fn apply(
     alloc: Global,
-    checked: &Checked,
+    file: CodeFile,
     certificate: Certificate,
 ) -> Result<Compiled, Misapplied>
-    requires selectable { IsSelectable checked.now }
-    requires nodes { HaveTheirNodes checked.now }
-    requires short { IsShort checked.now }
-    ensures applied { IfOk result (IsApplied checked.now certificate) }
+    requires { IsRunnable file }
+    ensures applied { IfOk result (IsApplied file certificate) }
     ensures cause { IfErr result (λ f. f ≢ Misapplied.OutOfMemory →
-        IsMisapplied checked.now certificate f) }
+        IsMisapplied file certificate f) }
 {
-    if certificate.procs.len() != checked.procs.len() {
+    if certificate.procs.len() != file.procs.len() {
         return Err(Misapplied::Count);
     }
-    let codes = tidy_codes(alloc, checked)?;
-    if let Some(number) = first_other(certificate.procs.as_slice(), codes.as_slice()) {
+    if let Some(number) = first_other(certificate.procs.as_slice(), file.procs.as_slice()) {
         return Err(Misapplied::Module(number));
     }
     match check_cert(alloc, &certificate)? {
-        CertAnswer::Yes => {
-            let compiled = carry(alloc, checked, codes, certificate)?;
-            Ok(compiled)
-        }
+        CertAnswer::Yes => carry(alloc, file, certificate),
         CertAnswer::No(procedure, reason) => Err(Misapplied::Fails(procedure, reason)),
     }
 }
 
-// The number of the first procedure of which a certificate has other code than the module.
-fn first_other(certs: &[Cert], codes: &[VProc]) -> Option<u32>
-    requires same { length certs.now ≡ length codes.now }
-    requires few { length codes.now ≤ most_procs }
-    ensures { MatchOption result (codes_by certs.now ≡ codes.now)
-        (DifferFirst (codes_by certs.now) codes.now) }
+// The number of the first procedure of which a certificate has other code.
+fn first_other(certs: &[Cert], procs: &[NamedCode]) -> Option<u32>
+    requires same { length certs.now ≡ length procs.now }
+    requires few { length procs.now ≤ most_procs }
+    ensures { MatchOption result (codes_by certs.now ≡ codes_named procs.now)
+        (DifferFirst (codes_by certs.now) (codes_named procs.now)) }
 {
     for (number, cert) in certs.iter().enumerate() {
-        if !cert.code.is_same(&codes[number]) {
+        if !cert.code.is_same(&procs[number].code) {
             return Some(number as u32);
         }
     }
@@ -115,24 +104,23 @@ fn routes_in(alloc: Global, certificate: Certificate) -> Result<Vec<GivenRoutes>
     Ok(given)
 }
 
-// Compiles codes that are both the module's and the certificate's, with its routes.
-fn carry(
-    alloc: Global,
-    checked: &Checked,
-    codes: Seq<VProc>,
-    certificate: Certificate,
-) -> Result<Compiled, OutOfMemory>
-    requires selectable { IsSelectable checked.now }
-    requires short { IsShort checked.now }
-    requires tidied { AreTidied checked.now codes }
-    requires same { codes_in certificate ≡ codes }
+// Compiles code that is the certificate's too, with its routes.
+fn carry(alloc: Global, file: CodeFile, certificate: Certificate) -> Result<Compiled, Misapplied>
+    requires runnable { IsRunnable file }
+    requires same { codes_in certificate ≡ codes_named file.procs }
     requires holds { IsAnswerOf certificate Yes }
-    ensures compiled { IfOk result (IsCompiledBy checked.now (given_by (routes_in certificate))) }
-    ensures codes { IfOk result (λ compiled. codes_of compiled ≡ codes) }
+    requires bounded { AreBounded certificate }
+    ensures applied { IfOk result (IsApplied file certificate) }
+    ensures cause { IfErr result (λ f. f ≢ Misapplied.OutOfMemory →
+        IsMisapplied file certificate f) }
 {
     let routes = routes_in(alloc, certificate)?;
     let given = Given {
         routes: routes.as_slice(),
     };
-    compile_codes(alloc, checked, codes, &given)
+    match compile_codes(alloc, file, &given) {
+        Ok(compiled) => Ok(compiled),
+        Err(CompileFault::TooLong(count)) => Err(Misapplied::TooLong(count)),
+        Err(CompileFault::OutOfMemory) => Err(Misapplied::OutOfMemory),
+    }
 }

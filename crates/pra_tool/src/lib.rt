@@ -6,7 +6,12 @@
 //! what both refuse, in `specs/Certified` the same of `cert` and `check`, in `specs/Applied` what
 //! `apply` makes of a source and a certificate, in `specs/Executed` what `exec` makes of an image,
 //! in `specs/Modes` what any mode answers, in `specs/Writes` what is left where all was written or
-//! where writing stopped, and in `specs/Compiling` what a source is compiled to.
+//! where writing stopped.
+//!
+//! A source is the text of a module or a code file, as the words say: `specs/Sources` has what each
+//! is and what is wrong with others, and `specs/Compiling` what the code of either is compiled to.
+//! What a module means is said of the laws of `laws`, and so is that code is followed until it gets
+//! stuck.
 #![tactic(auto)]
 
 pub mod applied;
@@ -16,8 +21,10 @@ pub mod compiler;
 pub mod input;
 pub mod laws;
 pub mod listing;
+mod refusal;
 mod report;
 mod same;
+pub mod source;
 pub mod status;
 pub mod texts;
 pub mod tool;

@@ -1,32 +1,35 @@
 // What a call writes: made before the first write, and written in one order.
 
-ghost use Rattle.std.specs.Prelude.{◌≡◌, ◌++◌, [], true, codes, length, map, IfOk};
+ghost use Rattle.std.specs.Prelude.{◌≡◌, ◌++◌, [], codes, length, map, IfOk};
 ghost use Rattle.ia_code.specs.Image.{IsImage};
 ghost use Rattle.pra_report.specs.Report.{HaveTotals};
 ghost use Rattle.pra_words.specs.Written.{asked_by};
-ghost use Rattle.pra_tool.specs.Status.{IsDone, IsStatusOf, status_of_machine, status_of_units};
+ghost use Rattle.pra_tool.specs.Status.{IsDone, status_of_machine, status_of_units};
+ghost use Rattle.pra_tool.specs.Status.{status_of_code};
 ghost use Rattle.pra_tool.specs.Outside.{StreamSeen, Seen, folder_seen, stream_seen, seen};
 ghost use Rattle.pra_tool.specs.Outside.{NoneFell, Told};
 ghost use Rattle.pra_tool.specs.Writes.{NamesDiffer, FilesWritten, Wrote, stop_status};
 ghost use Rattle.pra_tool.specs.Writes.{image_file, text_alone};
-ghost use Rattle.pra_tool.specs.Reports.{file_text, writes_of};
+ghost use Rattle.pra_tool.specs.Reports.{file_text, writes_of, codes_behind};
 ghost use Rattle.pra_tool.specs.Clause.{run_of, run_writes, compile_writes};
 ghost use Rattle.pra_tool.specs.Clause.{asm_writes, gen_writes, summary};
 ghost use Rattle.pra_tool.specs.Applied.{apply_writes};
 ghost use Rattle.pra_tool.specs.Executed.{exec_writes};
-ghost use Rattle.pra_tool.specs.Interpreted.{frames_of, units_of, interp_writes};
-ghost use Rattle.pra_tool.specs.Ends.{NeverFaults};
-ghost use Rattle.vc_stmt.specs.Completes.{are_words};
+ghost use Rattle.pra_tool.specs.Interpreted.{units_of, units_writes, run_of_code, code_kept};
+ghost use Rattle.pra_tool.specs.Interpreted.{code_writes, meant_writes, meant_status};
+ghost use Rattle.pra_compile.specs.Compiled.{codes_of, frames_of};
 
 use crate::compiler::Made;
+use crate::source::Meaning;
 use crate::status::Status;
-use crate::texts::{applied_text, ending_line, units_line};
+use crate::texts::{applied_text, code_line, ending_line, units_line};
 use ia_asm::image_bytes;
 use ia_code::Image;
 use ia_step::{Machine, RunOut};
 use ob_interp::UnitOut;
 use ob_interp::interpret::interpret;
-use pra_base::OutOfMemory;
+use ob_syntax::Checked;
+use pra_base::{OutOfMemory, VProc};
 use pra_compile::Compiled;
 use pra_io::{FileFault, Folder, Sink, write_all};
 use pra_report::{
@@ -34,6 +37,7 @@ use pra_report::{
 };
 use pra_words::Request;
 use std::alloc::Global;
+use vc_run::{CodeOut, run_code};
 
 /// A file that is to hold these bytes.
 #[derive(Drop)]
@@ -59,17 +63,15 @@ pub(crate) fn run_report<'a>(
     numbers: Vec<i32>,
 ) -> Result<Report<'a>, OutOfMemory>
     requires valid { IsImage compiled.now.image }
-    requires sound { NeverFaults compiled.now.image }
-    requires words { are_words numbers.items ≡ true }
     requires totals { HaveTotals compiled.now.procs }
     ensures writes { IfOk result (λ r.
         writes_of r ≡ run_writes (asked_by request.now) compiled.now numbers.items) }
-    ensures ended { IfOk result (λ r. IsStatusOf
-        (run_of compiled.now.image numbers.items request.now.steps).ending r.status) }
+    ensures ended { IfOk result (λ r. r.status ≡ status_of_machine
+        (run_of compiled.now.image numbers.items request.now.steps).ending) }
     ensures done { IfOk result (λ r. IsDone r.status) }
 {
     let run = run_image(alloc, &compiled.image, numbers, request.steps)?;
-    let status = Status::of_run(run.ending);
+    let status = Status::of_machine(run.ending);
     let out = output_text(alloc, run.events.as_slice())?;
     let code = code_length(&compiled.image);
     let mut notes = report_text(alloc, compiled.procs.as_slice(), code)?;
@@ -114,17 +116,66 @@ pub(crate) fn interp_report<'a>(
     made: &Made,
     numbers: &[i32],
 ) -> Result<Report<'a>, OutOfMemory>
-    ensures writes { IfOk result (λ r.
-        writes_of r ≡ interp_writes (asked_by request.now) made.now numbers.now) }
-    ensures ended { IfOk result (λ r. r.status ≡ status_of_units
-        (units_of made.now.checked made.now.compiled numbers.now request.now.steps).ending) }
+    ensures writes { IfOk result (λ r. writes_of r ≡ meant_writes made.now.meaning
+        (asked_by request.now) made.now.compiled numbers.now) }
+    ensures ended { IfOk result (λ r. r.status ≡ meant_status made.now.meaning
+        (asked_by request.now) made.now.compiled numbers.now) }
     ensures done { IfOk result (λ r. IsDone r.status) }
 {
-    let run = run_units(alloc, made, numbers, request.steps)?;
+    match &made.meaning {
+        Meaning::Module(checked) => {
+            units_report(alloc, checked, &made.compiled, numbers, request.steps)
+        }
+        Meaning::Code => code_report(alloc, &made.compiled, numbers, request.steps),
+    }
+}
+
+// Runs a module by its meaning.
+fn units_report<'a>(
+    alloc: Global,
+    checked: &Checked,
+    compiled: &Compiled,
+    numbers: &[i32],
+    units: u32,
+) -> Result<Report<'a>, OutOfMemory>
+    ensures writes { IfOk result (λ r. writes_of r ≡ units_writes compiled.now
+        (units_of checked.now compiled.now numbers.now units)) }
+    ensures ended { IfOk result (λ r. r.status ≡ status_of_units
+        (units_of checked.now compiled.now numbers.now units).ending) }
+    ensures done { IfOk result (λ r. IsDone r.status) }
+{
+    let run = run_units(alloc, checked, compiled, numbers, units)?;
     let status = Status::of_units(run.ending);
     let out = output_text(alloc, run.events.as_slice())?;
-    let mut notes = procedure_lines(alloc, made.compiled.procs.as_slice())?;
+    let mut notes = procedure_lines(alloc, compiled.procs.as_slice())?;
     let ending = units_line(alloc, &run)?;
+    notes.extend_from_slice(&ending)?;
+    Ok(Report {
+        files: Vec::new(alloc),
+        out,
+        notes,
+        status,
+    })
+}
+
+// Runs code by its meaning.
+fn code_report<'a>(
+    alloc: Global,
+    compiled: &Compiled,
+    numbers: &[i32],
+    steps: u32,
+) -> Result<Report<'a>, OutOfMemory>
+    ensures writes { IfOk result (λ r. writes_of r ≡ code_writes compiled.now
+        (run_of_code (code_kept compiled.now) compiled.now numbers.now steps)) }
+    ensures ended { IfOk result (λ r. r.status ≡ status_of_code
+        (run_of_code (code_kept compiled.now) compiled.now numbers.now steps).ending) }
+    ensures done { IfOk result (λ r. IsDone r.status) }
+{
+    let run = run_kept(alloc, compiled, numbers, steps)?;
+    let status = Status::of_code(run.ending);
+    let out = output_text(alloc, run.events.as_slice())?;
+    let mut notes = procedure_lines(alloc, compiled.procs.as_slice())?;
+    let ending = code_line(alloc, &run)?;
     notes.extend_from_slice(&ending)?;
     Ok(Report {
         files: Vec::new(alloc),
@@ -168,16 +219,15 @@ pub(crate) fn gen_report<'a>(
     compiled: &Compiled,
 ) -> Result<Report<'a>, OutOfMemory>
     requires valid { IsImage compiled.now.image }
-    requires sound { NeverFaults compiled.now.image }
     requires totals { HaveTotals compiled.now.procs }
     ensures writes { IfOk result (λ r.
         writes_of r ≡ gen_writes (asked_by request.now) text.items compiled.now) }
-    ensures ended { IfOk result (λ r. IsStatusOf
-        (run_of compiled.now.image [] request.now.steps).ending r.status) }
+    ensures ended { IfOk result (λ r. r.status ≡ status_of_machine
+        (run_of compiled.now.image [] request.now.steps).ending) }
     ensures done { IfOk result (λ r. IsDone r.status) }
 {
     let run = run_image(alloc, &compiled.image, Vec::new(alloc), request.steps)?;
-    let status = Status::of_run(run.ending);
+    let status = Status::of_machine(run.ending);
     let out = summary(alloc, request, text.len(), compiled, &run)?;
     let mut files = Vec::new(alloc);
     files.push(NamedFile {
@@ -221,16 +271,45 @@ fn summary(
 // Runs a module by its meaning on an input, with the frames of what it was compiled to.
 fn run_units(
     alloc: Global,
-    made: &Made,
+    checked: &Checked,
+    compiled: &Compiled,
     numbers: &[i32],
     units: u32,
 ) -> Result<UnitOut, OutOfMemory>
-    ensures { IfOk result (λ out.
-        out ≡ units_of made.now.checked made.now.compiled numbers.now units) }
+    ensures { IfOk result (λ out. out ≡ units_of checked.now compiled.now numbers.now units) }
 {
-    let frames = frames_of(alloc, made.compiled.procs.as_slice())?;
-    let out = interpret(alloc, &made.checked, &frames, numbers, units)?;
+    let frames = frames_of(alloc, compiled.procs.as_slice())?;
+    let out = interpret(alloc, checked, &frames, numbers, units)?;
     Ok(out)
+}
+
+// Runs the code that was kept by its meaning on an input, with the frames of what it was compiled
+// to.
+fn run_kept(
+    alloc: Global,
+    compiled: &Compiled,
+    numbers: &[i32],
+    steps: u32,
+) -> Result<CodeOut, OutOfMemory>
+    ensures { IfOk result (λ out.
+        out ≡ run_of_code (code_kept compiled.now) compiled.now numbers.now steps) }
+{
+    let frames = frames_of(alloc, compiled.procs.as_slice())?;
+    let codes = codes_of(alloc, compiled.procs.as_slice())?;
+    let words = compiled.image.data_words;
+    let out = run_code(alloc, &codes, words, &frames, numbers, steps)?;
+    Ok(out)
+}
+
+// The codes of procedures, in their order.
+fn codes_of<'p>(alloc: Global, procs: &'p [ProcOut]) -> Result<Vec<&'p VProc>, OutOfMemory>
+    ensures { IfOk result (λ codes. codes_behind codes.items ≡ codes_of procs.now) }
+{
+    let mut codes = Vec::new(alloc);
+    for proc in procs {
+        codes.push(&proc.code)?;
+    }
+    Ok(codes)
 }
 
 // The frames of procedures, in their order.
@@ -265,7 +344,7 @@ pub(crate) fn text_report<'a>(alloc: Global, text: Vec<u8>) -> Report<'a>
     }
 }
 
-/// Makes the texts of a module that was compiled with the routes of a certificate.
+/// Makes the texts of what was compiled with the routes of a certificate.
 pub(crate) fn apply_report<'a>(
     alloc: Global,
     request: &Request<'a>,

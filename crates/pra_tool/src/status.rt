@@ -1,23 +1,24 @@
 // How a call ends.
 
 ghost use Rattle.std.specs.Prelude.{◌≡◌};
-ghost use Rattle.pra_tool.specs.Status.{exit_code, IsEnding, IsDone, IsStatusOf};
-ghost use Rattle.pra_tool.specs.Status.{status_of_machine, status_of_units};
+ghost use Rattle.pra_tool.specs.Status.{exit_code, IsDone, status_of_machine};
+ghost use Rattle.pra_tool.specs.Status.{status_of_units, status_of_code};
 
 use ia_step::Ending;
 use ob_interp::UnitEnding;
+use vc_run::CodeEnding;
 
 /// How a call ends.
 #[derive(Clone, Copy, Debug, PartialEq, Eq, Drop)]
 pub enum Status {
-    /// The image ended within the steps, or all was done without a run.
+    /// The run ended within the steps, or all was done without a run.
     Ended,
-    /// The image trapped, or in `exec` came to a fault of the machine.
+    /// The run trapped, or was stuck, or the image came to a fault of the machine.
     Trapped,
-    /// The image is still going after the steps.
+    /// The run is still going after the steps.
     Going,
-    /// FILE is not what its mode reads: no module that is compiled, no image, no text of one, or no
-    /// certificate that holds.
+    /// FILE is not what its mode reads: no module and no code that is compiled, no image, no text of
+    /// one, or no certificate that holds.
     BadSource,
     /// FILE, the input or what is made of FILE goes beyond a limit.
     OverLimit,
@@ -49,21 +50,7 @@ impl Status {
         }
     }
 
-    /// The status of a run by its ending, which is no fault of the machine.
-    pub(crate) fn of_run(ending: Ending) -> Status
-        requires { IsEnding ending }
-        ensures is { IsStatusOf ending result }
-        ensures done { IsDone result }
-    {
-        match ending {
-            Ending::Ended => Status::Ended,
-            Ending::Trap(_) => Status::Trapped,
-            Ending::Going => Status::Going,
-            Ending::Fault(_) => unreachable!(),
-        }
-    }
-
-    /// The status of a run of any image, by its ending.
+    /// The status of a run of an image, by its ending.
     pub(crate) fn of_machine(ending: Ending) -> Status
         ensures is { result ≡ status_of_machine ending }
         ensures done { IsDone result }
@@ -84,6 +71,17 @@ impl Status {
             UnitEnding::Ended => Status::Ended,
             UnitEnding::Trap(_) => Status::Trapped,
             UnitEnding::Going => Status::Going,
+        }
+    }
+    /// The status of a run of code by its meaning, by its ending.
+    pub(crate) fn of_code(ending: CodeEnding) -> Status
+        ensures is { result ≡ status_of_code ending }
+        ensures done { IsDone result }
+    {
+        match ending {
+            CodeEnding::Ended => Status::Ended,
+            CodeEnding::Trap(_) | CodeEnding::Stuck(_) => Status::Trapped,
+            CodeEnding::Going => Status::Going,
         }
     }
 }

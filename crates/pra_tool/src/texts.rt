@@ -3,7 +3,8 @@
 ghost use Rattle.std.specs.Prelude.{◌≡◌, ◌++◌, codes, IfOk, string_bytes};
 ghost use Rattle.std.specs.Fmt.{decimal};
 ghost use Rattle.pra_tool.specs.Texts.{ending_words, ending_line, unit_ending_words, units_line};
-ghost use Rattle.pra_tool.specs.Texts.{lexical_line};
+ghost use Rattle.pra_tool.specs.Texts.{stuck_name, stuck_words, code_ending_words, code_line};
+ghost use Rattle.pra_tool.specs.Texts.{lexical_line, no_code_line, source_line, image_over_line};
 ghost use Rattle.pra_tool.specs.Texts.{place_text, over_line, count_line, fault_line, input_line};
 ghost use Rattle.pra_tool.specs.Texts.{field_name, unlisted_line, unassembled_line};
 ghost use Rattle.pra_tool.specs.Texts.{held_line, held_lines, held_text, reason_name};
@@ -16,19 +17,21 @@ use crate::applied::Misapplied;
 use crate::certified::Uncertified;
 use crate::input::WrongInput;
 use crate::listing::{MAX_IMAGE, Unassembled, Unlisted};
+use crate::source::{CodeWrong, MAX_PROCS, SourceFault};
 use cert_check::Reason;
-use cert_form::{Cert, Certificate, MAX_CERT_BYTES};
+use cert_form::{Cert, Certificate, MAX_CERT_BYTES, MAX_CODE_BYTES};
 use ia_asm::Field;
 use ia_list::MAX_TEXT_BYTES;
 use ia_step::{Ending, FaultKind, RunOut};
 use net_form::Line;
 use ob_interp::{UnitEnding, UnitOut};
 use ob_lex::LexFault;
-use ob_read::{LimitFault, ReadFault, SourceFault};
+use ob_read::{LimitFault, ReadFault};
 use pra_base::{LimitKind, OutOfMemory, TrapKind};
 use pra_report::{ProcOut, total_line};
 use std::alloc::{AllocError, Global};
 use std::fmt::Write;
+use vc_run::{Cause, CodeEnding, CodeOut, StuckKind};
 
 // What is told of an input that is too long: one byte more than it may have.
 const INPUT_OVER: u64 = 1_048_577;
@@ -92,6 +95,55 @@ fn unit_ending_words(ending: UnitEnding) -> &'static str
     }
 }
 
+/// The line that tells how a run of code by its meaning ended, how many steps it made and how many
+/// input words it took; and of a run that is stuck why, and where.
+///
+/// # Errors
+///
+/// Where there is no memory for the line.
+pub fn code_line(alloc: Global, run: &CodeOut) -> Result<Vec<u8>, OutOfMemory>
+    ensures { IfOk result (λ text. text.items ≡ code_line run.now) }
+{
+    let mut line = code_ending_words(alloc, run.ending)?;
+    write!(line, " steps {} reads {}\n", run.steps, run.reads)?;
+    Ok(line.into_bytes())
+}
+
+fn code_ending_words(alloc: Global, ending: CodeEnding) -> Result<String, AllocError>
+    ensures { IfOk result (λ words. string_bytes words ≡ code_ending_words ending) }
+{
+    match ending {
+        CodeEnding::Going => String::from_str(alloc, "going"),
+        CodeEnding::Ended => String::from_str(alloc, "ended"),
+        CodeEnding::Trap(TrapKind::Index) => String::from_str(alloc, "trap Index"),
+        CodeEnding::Trap(TrapKind::Divide) => String::from_str(alloc, "trap Divide"),
+        CodeEnding::Trap(TrapKind::Input) => String::from_str(alloc, "trap Input"),
+        CodeEnding::Trap(TrapKind::Stack) => String::from_str(alloc, "trap Stack"),
+        CodeEnding::Stuck(cause) => stuck_words(alloc, cause),
+    }
+}
+
+fn stuck_words(alloc: Global, cause: Cause) -> Result<String, AllocError>
+    ensures { IfOk result (λ words. string_bytes words ≡ stuck_words cause) }
+{
+    let name = stuck_name(cause.kind);
+    let mut words = format!(in alloc; "stuck {name} procedure {}", cause.proc.0)?;
+    write!(words, " block {}", cause.block.0)?;
+    write!(words, " instruction {}", cause.instruction)?;
+    Ok(words)
+}
+
+fn stuck_name(kind: StuckKind) -> &'static str
+    ensures { result.now ≡ stuck_name kind }
+{
+    match kind {
+        StuckKind::Address => "address",
+        StuckKind::Nothing => "nothing",
+        StuckKind::Access => "access",
+        StuckKind::Divide => "divide",
+    }
+}
+
 /// The line that tells what is wrong with an input.
 ///
 /// # Errors
@@ -111,15 +163,51 @@ pub fn input_line(alloc: Global, wrong: WrongInput) -> Result<String, AllocError
 /// # Errors
 ///
 /// Where there is no memory for the line.
-pub fn fault_line(alloc: Global, fault: ReadFault) -> Result<String, AllocError>
+pub fn source_line(alloc: Global, fault: SourceFault) -> Result<String, AllocError>
+    ensures { IfOk result (λ line. string_bytes line ≡ source_line fault) }
+{
+    match fault {
+        SourceFault::Module(fault) => fault_line(alloc, fault),
+        SourceFault::Code(wrong) => no_code_line(alloc, wrong),
+        SourceFault::OutOfMemory => Ok(String::new(alloc)),
+    }
+}
+
+fn no_code_line(alloc: Global, wrong: CodeWrong) -> Result<String, AllocError>
+    ensures { IfOk result (λ line. string_bytes line ≡ no_code_line wrong) }
+{
+    match wrong {
+        CodeWrong::TooLong => {
+            let most = MAX_CODE_BYTES as u64;
+            over_line(alloc, "code", most + 1, most)
+        }
+        CodeWrong::NotJson => String::from_str(alloc, "fault json\n"),
+        CodeWrong::NotCode => String::from_str(alloc, "fault code form\n"),
+        CodeWrong::Procedures(count) => over_line(alloc, "procedures", count, MAX_PROCS as u64),
+        CodeWrong::Broken(procedure) => format!(in alloc; "fault code procedure {procedure}\n"),
+    }
+}
+
+/// The line that tells how many bytes of code an image has no room for.
+///
+/// # Errors
+///
+/// Where there is no memory for the line.
+pub fn image_over_line(alloc: Global, count: u64) -> Result<String, AllocError>
+    ensures { IfOk result (λ line. string_bytes line ≡ image_over_line count) }
+{
+    over_line(alloc, "image", count, ia_code::image::MAX_CODE_BYTES as u64)
+}
+
+fn fault_line(alloc: Global, fault: ReadFault) -> Result<String, AllocError>
     ensures { IfOk result (λ line. string_bytes line ≡ fault_line fault) }
 {
     match fault {
-        ReadFault::Source(SourceFault::Lex(fault)) => lexical_line(alloc, fault),
-        ReadFault::Source(SourceFault::Grammar(token, at)) => {
+        ReadFault::Source(ob_read::SourceFault::Lex(fault)) => lexical_line(alloc, fault),
+        ReadFault::Source(ob_read::SourceFault::Grammar(token, at)) => {
             place_line(alloc, "fault grammar token ", token, at)
         }
-        ReadFault::Source(SourceFault::Rule(rule, token, at)) => {
+        ReadFault::Source(ob_read::SourceFault::Rule(rule, token, at)) => {
             rule_line(alloc, rule, token, at)
         }
         ReadFault::Limit(LimitFault::Count(kind, count)) => count_line(alloc, kind, count),
@@ -315,7 +403,7 @@ fn reason_name(reason: Reason) -> &'static str
     }
 }
 
-/// The line that tells why a certificate is not applied to a module.
+/// The line that tells why a certificate is not applied to code.
 ///
 /// # Errors
 ///
@@ -327,6 +415,7 @@ pub fn misapplied_line(alloc: Global, fault: Misapplied) -> Result<String, Alloc
         Misapplied::Count => String::from_str(alloc, "fault certificate module\n"),
         Misapplied::Module(procedure) => failing_line(alloc, procedure, "module"),
         Misapplied::Fails(procedure, reason) => reason_line(alloc, procedure, reason),
+        Misapplied::TooLong(count) => image_over_line(alloc, count),
         Misapplied::OutOfMemory => Ok(String::new(alloc)),
     }
 }

@@ -1,52 +1,54 @@
 // The call that does all that the program does.
 
-ghost use Rattle.std.specs.Prelude.{◌≡◌, ◌≢◌, ◌⊎◌, false, ℕ, List, IsErr, codes, length};
+ghost use Rattle.std.specs.Prelude.{◌≡◌, ◌≢◌, ◌≤◌, ◌⊎◌, false, ℕ, List, IsErr};
 ghost use Rattle.ia_asm.specs.Rules.{IsFileOf};
 ghost use Rattle.ia_code.specs.Image.{IsImage};
+ghost use Rattle.pra_compile.specs.Compiled.{IsRunnable};
 ghost use Rattle.pra_tool.specs.declared.tool.Then.TheVariants.{Run, Write, Interpret, Certify};
 ghost use Rattle.pra_words.specs.Texts.{words_lines};
-ghost use Rattle.pra_words.specs.Words.{asked_of, texts};
+ghost use Rattle.pra_words.specs.Words.{Asked, asked_of, texts};
 ghost use Rattle.pra_words.specs.Written.{asked_by};
 ghost use Rattle.pra_gen.specs.Module.{module_text};
 ghost use Rattle.pra_report.specs.Report.{HaveTotals};
 ghost use Rattle.pra_tool.specs.Asking.{IsAnswerable};
 ghost use Rattle.pra_tool.specs.Status.{exit_code};
-ghost use Rattle.pra_tool.specs.Outside.{StreamSeen, Seen, folder_seen, stream_seen, seen};
-ghost use Rattle.pra_tool.specs.Outside.{seen_by, Told};
-ghost use Rattle.pra_tool.specs.Texts.{fault_line, unlisted_line, unassembled_line};
-ghost use Rattle.pra_tool.specs.Texts.{over_line, uncertified_line};
-ghost use Rattle.pra_tool.specs.Inputs.{inputs, input_fault_status, input_fault_line};
+ghost use Rattle.pra_tool.specs.Outside.{FolderSeen, StreamSeen, Seen, folder_seen, stream_seen};
+ghost use Rattle.pra_tool.specs.Outside.{seen, seen_by, Told};
 ghost use Rattle.pra_tool.specs.Modes.{Answers};
-ghost use Rattle.pra_tool.specs.Ends.{Ends, NeverFaults};
+ghost use Rattle.pra_tool.specs.Ends.{Ends};
+ghost use Rattle.pra_tool.specs.Sources.{IsSourced};
 ghost use Rattle.pra_tool.specs.Compiling.{MadeOf};
-ghost use Rattle.pra_tool.specs.Clause.{mode_of, reads_input, asks_input, fault_status, Promise};
+ghost use Rattle.pra_tool.specs.Clause.{mode_of, reads_input, asks_input, Promise};
 ghost use Rattle.pra_tool.specs.Clause.{compiling, takes_input, generating, listing, assembling};
-ghost use Rattle.pra_tool.specs.Clause.{checking, executing};
-ghost use Rattle.pra_tool.specs.Certified.{most_certificate, IsHeld, uncertified_status};
+ghost use Rattle.pra_tool.specs.Clause.{checking, executing, IsOver};
+ghost use Rattle.pra_tool.specs.Certified.{IsHeld};
 ghost use Rattle.pra_tool.specs.Listings.{IsListed, IsTextOf};
-ghost use Rattle.pra_tool.specs.Listings.{unlisted_status, unassembled_status};
 
 use crate::apply::apply_file;
 use crate::certified::{Uncertified, certify, held_by};
 use crate::compiler::{Made, compile_source};
-use crate::input::{InputFault, WrongInput, read_numbers};
+use crate::input::read_numbers;
 use crate::listing::{MAX_IMAGE, Unassembled, Unlisted, image_by, image_in, listing_of};
+use crate::refusal::{
+    refuse_cert, refuse_code_over, refuse_image, refuse_input, refuse_long, refuse_source,
+    refuse_text,
+};
 use crate::report::{
     asm_report, compile_report, exec_report, gen_report, interp_report, refuse, run_report,
     text_report, write_report,
 };
+use crate::source::{Sourced, max_source, over_fault, read_source};
 use crate::status::Status;
-use crate::texts::{
-    fault_line, held_text, input_line, over_line, unassembled_line, uncertified_line, unlisted_line,
-};
+use crate::texts::held_text;
 use cert_form::{Certificate, MAX_CERT_BYTES};
 use ia_code::Image;
 use ia_list::MAX_TEXT_BYTES;
-use ob_read::{LimitFault, MAX_SOURCE, ReadFault};
-use pra_base::{LimitKind, OutOfMemory};
+use ob_read::MAX_SOURCE;
+use pra_base::OutOfMemory;
+use pra_compile::CompileFault;
 use pra_gen::generate;
 use pra_io::{FileFault, Folder, Sink, Source};
-use pra_words::{Mode, Request, WordsFault, read_words, words_lines};
+use pra_words::{FileKind, Mode, Request, WordsFault, read_words, words_lines};
 use std::alloc::Global;
 
 /// All that the program does. With MODE `run` it reads FILE, compiles it, reads the input, runs the
@@ -64,6 +66,10 @@ use std::alloc::Global;
 /// certificate, compiles FILE with the routes of that, and writes the image file, and to out the
 /// frames with the certificate's costs and bounds.
 ///
+/// What is compiled is a module, or with `--from code` a code file: selected code of procedures
+/// with names and a number of data words, as JSON. Its codes are compiled as they stand; and it
+/// runs by its meaning in steps of selected code, which may get stuck.
+///
 /// `words` are those behind the program's name: MODE and FILE, and among them the options that
 /// `read_words` of pra_words reads. The answer is the exit status:
 ///
@@ -73,7 +79,8 @@ use std::alloc::Global;
 /// | 0 | the run ended within the steps | `exec`: the ending line |
 /// | 0 | what is to be written was made and written | none |
 /// | 1 | the run trapped | the same |
-/// | 1 | the run came to a fault of the machine | `exec`: the ending line |
+/// | 1 | the image came to a fault of the machine, as code that gets stuck may | the same |
+/// | 1 | `interp`: the run of code is stuck | the same |
 /// | 2 | the run is still going after the steps | the same as at 0 |
 /// | 3 | FILE has a byte that begins no token | `fault bad-byte at A` |
 /// | 3 | FILE has a comment that is not closed | `fault open-comment at A` |
@@ -84,14 +91,19 @@ use std::alloc::Global;
 /// | 3 | at A of the image's code no instruction begins | `fault code at A` |
 /// | 3 | line N of FILE, from 1, is none of an image's text | `fault line N` |
 /// | 3 | FILE is the first line of a text alone | `fault empty` |
-/// | 3 | FILE, or the input of `apply`, is no JSON | `fault json` |
+/// | 3 | FILE of code or of a certificate, or the input of `apply`, is no JSON | `fault json` |
+/// | 3 | FILE is JSON, and no code file | `fault code form` |
+/// | 3 | the code of procedure P is the first that breaks a rule | `fault code procedure P` |
 /// | 3 | it is JSON, and no certificate | `fault certificate form` |
 /// | 3 | `apply`: it has another number of procedures than FILE | `fault certificate module` |
 /// | 3 | `apply`: its code of P is not FILE's | `fault certificate procedure P module` |
 /// | 3 | it is a certificate, and procedure P fails by R | `fault certificate procedure P R` |
 /// | 4 | FILE is too long | `limit source count 1048577 maximum 1048576` |
+/// | 4 | FILE of code is too long | `limit code count 16777217 maximum 16777216` |
 /// | 4 | FILE nests too deep | `limit depth token T at A` |
 /// | 4 | FILE has too much of one thing | `limit NAME count C maximum L` |
+/// | 4 | FILE of code has too many procedures | `limit procedures count C maximum 65536` |
+/// | 4 | an image has no room for FILE's code | `limit image count C maximum 41943040` |
 /// | 4 | FILE is too long for an image | `limit image count 41943057 maximum 41943056` |
 /// | 4 | FILE is too long for a text | `limit listing count 67108865 maximum 67108864` |
 /// | 4 | the image's text is too long | `limit listing count C maximum 67108864` |
@@ -217,6 +229,18 @@ pub(crate) enum Then {
     Certify,
 }
 
+impl Then {
+    // Whether the input is read before that.
+    fn takes_input(self) -> bool
+        ensures { result ≡ takes_input self }
+    {
+        match self {
+            Then::Run | Then::Interpret => true,
+            Then::Write | Then::Certify => false,
+        }
+    }
+}
+
 // Reads FILE and compiles it, and does with it what is asked for.
 fn compile_file<D: Folder, I: Source, O: Sink, N: Sink>(
     alloc: Global,
@@ -235,16 +259,71 @@ fn compile_file<D: Folder, I: Source, O: Sink, N: Sink>(
         Answers (compiling then (asked_by request.now)) request.now.file.now old new result }
     ensures input { takes_input then ≡ false → input.new ≡ input.old }
 {
-    let source = match folder.read_file(alloc, request.file, MAX_SOURCE) {
+    let source = match folder.read_file(alloc, request.file, max_source(request.from)) {
         Ok(source) => source,
         Err(FileFault::OutOfMemory) => return Status::NoMemory,
-        Err(FileFault::TooLong) => return refuse_source(alloc, notes, SOURCE_OVER),
+        Err(FileFault::TooLong) => return refuse_source(alloc, notes, over_fault(request.from)),
         Err(FileFault::Failed) => return refuse(notes, Status::Fault, "fault read file\n"),
     };
-    match compile_source(alloc, &source, request) {
-        Ok(made) => finish(alloc, request, then, made, folder, input, out, notes),
+    match read_source(alloc, request.from, &source) {
+        Ok(sourced) => make(alloc, request, then, sourced, folder, input, out, notes),
         Err(fault) => refuse_source(alloc, notes, fault),
     }
+}
+
+// Compiles the code of FILE, and does with it what is asked for.
+fn make<D: Folder, I: Source, O: Sink, N: Sink>(
+    alloc: Global,
+    request: &Request,
+    then: Then,
+    sourced: Sourced,
+    folder: &mut D,
+    input: &mut I,
+    out: &mut O,
+    notes: &mut N,
+) -> Status
+    requires runnable { IsRunnable sourced.file }
+    requires rounds { request.now.rounds ≤ 1000 }
+    ensures ends { (source : List ℕ) → IsSourced request.now.from source sourced →
+        let look = seen_by D.file D.read_faults D.write_faults I.left I.faults
+        O.bytes O.faults N.bytes N.faults in
+        let old = look folder.old input.old out.old notes.old in
+        let new = look folder.new input.new out.new notes.new in
+        Ends (compiling then (asked_by request.now)) source old new result }
+    ensures input { takes_input then ≡ false → input.new ≡ input.old }
+{
+    match compile_source(alloc, sourced, request) {
+        Ok(made) => finish(alloc, request, then, made, folder, input, out, notes),
+        Err(CompileFault::TooLong(count)) => refuse_over(alloc, then, count, input, notes),
+        Err(CompileFault::OutOfMemory) => Status::NoMemory,
+    }
+}
+
+// Reads the input, where it is read, and tells how many bytes of code an image has no room for.
+fn refuse_over<I: Source, N: Sink>(
+    alloc: Global,
+    then: Then,
+    count: u64,
+    input: &mut I,
+    notes: &mut N,
+) -> Status
+    ensures ends { (asked : Asked) (source : List ℕ) (folder : FolderSeen) (out : StreamSeen) →
+        IsOver then asked source count →
+        let old : Seen = seen folder (stream_seen I.left I.faults input.old) out
+        (stream_seen N.bytes N.faults notes.old) in
+        let new : Seen = seen folder (stream_seen I.left I.faults input.new) out
+        (stream_seen N.bytes N.faults notes.new) in
+        Ends (compiling then asked) source old new result }
+    ensures input { takes_input then ≡ false → input.new ≡ input.old }
+{
+    if !then.takes_input() {
+        return refuse_code_over(alloc, notes, count);
+    }
+    let _numbers = match read_numbers(alloc, input) {
+        Ok(numbers) => numbers,
+        Err(fault) => return refuse_input(alloc, notes, fault),
+    };
+    refuse_code_over(alloc, notes, count)
 }
 
 // Does with what was compiled what is asked for.
@@ -259,9 +338,9 @@ fn finish<D: Folder, I: Source, O: Sink, N: Sink>(
     notes: &mut N,
 ) -> Status
     requires valid { IsImage made.compiled.image }
-    requires sound { NeverFaults made.compiled.image }
     requires totals { HaveTotals made.compiled.procs }
-    ensures ends { (source : List ℕ) → MadeOf (asked_by request.now) source made →
+    ensures ends { (source : List ℕ) →
+        MadeOf request.now.from (asked_by request.now) source made →
         let look = seen_by D.file D.read_faults D.write_faults I.left I.faults
         O.bytes O.faults N.bytes N.faults in
         let old = look folder.old input.old out.old notes.old in
@@ -288,9 +367,9 @@ fn run_compiled<D: Folder, I: Source, O: Sink, N: Sink>(
     notes: &mut N,
 ) -> Status
     requires valid { IsImage made.now.compiled.image }
-    requires sound { NeverFaults made.now.compiled.image }
     requires totals { HaveTotals made.now.compiled.procs }
-    ensures { (source : List ℕ) → MadeOf (asked_by request.now) source made.now →
+    ensures { (source : List ℕ) →
+        MadeOf request.now.from (asked_by request.now) source made.now →
         let look = seen_by D.file D.read_faults D.write_faults I.left I.faults
         O.bytes O.faults N.bytes N.faults in
         let old = look folder.old input.old out.old notes.old in
@@ -307,7 +386,7 @@ fn run_compiled<D: Folder, I: Source, O: Sink, N: Sink>(
     }
 }
 
-// Reads the input, runs the source by its meaning, and writes.
+// Reads the input, runs FILE by its meaning, and writes.
 fn interpret_made<D: Folder, I: Source, O: Sink, N: Sink>(
     alloc: Global,
     request: &Request,
@@ -317,7 +396,8 @@ fn interpret_made<D: Folder, I: Source, O: Sink, N: Sink>(
     out: &mut O,
     notes: &mut N,
 ) -> Status
-    ensures { (source : List ℕ) → MadeOf (asked_by request.now) source made.now →
+    ensures { (source : List ℕ) →
+        MadeOf request.now.from (asked_by request.now) source made.now →
         let look = seen_by D.file D.read_faults D.write_faults I.left I.faults
         O.bytes O.faults N.bytes N.faults in
         let old = look folder.old input.old out.old notes.old in
@@ -346,7 +426,7 @@ fn write_compiled<D: Folder, O: Sink, N: Sink>(
     requires valid { IsImage made.now.compiled.image }
     requires totals { HaveTotals made.now.compiled.procs }
     ensures { (source : List ℕ) (input : StreamSeen) →
-        MadeOf (asked_by request.now) source made.now →
+        MadeOf request.now.from (asked_by request.now) source made.now →
         let old : Seen = seen (folder_seen D.file D.read_faults D.write_faults folder.old) input
         (stream_seen O.bytes O.faults out.old) (stream_seen N.bytes N.faults notes.old) in
         let new : Seen = seen (folder_seen D.file D.read_faults D.write_faults folder.new) input
@@ -369,7 +449,7 @@ fn certify_made<D: Folder, O: Sink, N: Sink>(
     notes: &mut N,
 ) -> Status
     ensures { (source : List ℕ) (input : StreamSeen) →
-        MadeOf (asked_by request.now) source made →
+        MadeOf request.now.from (asked_by request.now) source made →
         let old : Seen = seen (folder_seen D.file D.read_faults D.write_faults folder.old) input
         (stream_seen O.bytes O.faults out.old) (stream_seen N.bytes N.faults notes.old) in
         let new : Seen = seen (folder_seen D.file D.read_faults D.write_faults folder.new) input
@@ -385,71 +465,6 @@ fn certify_made<D: Folder, O: Sink, N: Sink>(
     }
     let report = text_report(alloc, text);
     write_report(alloc, &report, folder, out, notes)
-}
-
-// Writes how many bytes the text of a certificate has, where they are too many.
-fn refuse_long<N: Sink>(alloc: Global, notes: &mut N, text: &[u8]) -> Status
-    ensures known { (result ≡ Status.OverLimit) ⊎ (result ≡ Status.NoMemory) }
-    ensures told { result ≢ Status.NoMemory →
-        Told (over_line (codes "certificate") (length text.now) most_certificate)
-        (stream_seen N.bytes N.faults notes.old) (stream_seen N.bytes N.faults notes.new) }
-    ensures memory { result ≡ Status.NoMemory → notes.new ≡ notes.old }
-{
-    match over_line(
-        alloc,
-        "certificate",
-        text.len() as u64,
-        MAX_CERT_BYTES as u64,
-    ) {
-        Ok(line) => refuse(notes, Status::OverLimit, line.as_str()),
-        Err(_) => Status::NoMemory,
-    }
-}
-
-// Writes why the input was not read.
-fn refuse_input<N: Sink>(alloc: Global, notes: &mut N, fault: InputFault<WrongInput>) -> Status
-    ensures known { (result ≡ input_fault_status inputs fault) ⊎ (result ≡ Status.NoMemory) }
-    ensures told { result ≢ Status.NoMemory → Told (input_fault_line inputs fault)
-        (stream_seen N.bytes N.faults notes.old) (stream_seen N.bytes N.faults notes.new) }
-    ensures memory { result ≡ Status.NoMemory → notes.new ≡ notes.old }
-{
-    let wrong = match fault {
-        InputFault::Wrong(wrong) => wrong,
-        InputFault::NotRead => return refuse(notes, Status::Fault, "fault read input\n"),
-        InputFault::OutOfMemory => return Status::NoMemory,
-    };
-    let status = match wrong {
-        WrongInput::TooLong => Status::OverLimit,
-        WrongInput::NoWord(_) => Status::BadInput,
-    };
-    match input_line(alloc, wrong) {
-        Ok(line) => refuse(notes, status, line.as_str()),
-        Err(_) => Status::NoMemory,
-    }
-}
-
-/// What is told of a source that is too long: the count is one byte more than it may have.
-pub(crate) const SOURCE_OVER: ReadFault = ReadFault::Limit(LimitFault::Count(
-    LimitKind::Source,
-    MAX_SOURCE as u64 + 1,
-));
-
-/// Writes what is wrong with a source.
-pub(crate) fn refuse_source<N: Sink>(alloc: Global, notes: &mut N, fault: ReadFault) -> Status
-    ensures known { (result ≡ fault_status fault) ⊎ (result ≡ Status.NoMemory) }
-    ensures told { result ≢ Status.NoMemory → Told (fault_line fault)
-        (stream_seen N.bytes N.faults notes.old) (stream_seen N.bytes N.faults notes.new) }
-    ensures memory { result ≡ Status.NoMemory → notes.new ≡ notes.old }
-{
-    let status = match fault {
-        ReadFault::Source(_) => Status::BadSource,
-        ReadFault::Limit(_) => Status::OverLimit,
-        ReadFault::OutOfMemory => return Status::NoMemory,
-    };
-    match fault_line(alloc, fault) {
-        Ok(line) => refuse(notes, status, line.as_str()),
-        Err(_) => Status::NoMemory,
-    }
 }
 
 // Makes a module, compiles it, runs it on no input, and writes.
@@ -474,36 +489,41 @@ fn gen_file<D: Folder, O: Sink, N: Sink>(
         Err(OutOfMemory) => return Status::NoMemory,
     };
     if text.len() > MAX_SOURCE {
-        return refuse_source(alloc, notes, SOURCE_OVER);
+        return refuse_source(alloc, notes, over_fault(FileKind::Module));
     }
-    match compile_source(alloc, &text, request) {
-        Ok(made) => write_generated(alloc, request, text, &made, folder, out, notes),
+    match read_source(alloc, FileKind::Module, &text) {
+        Ok(sourced) => write_generated(alloc, request, text, sourced, folder, out, notes),
         Err(fault) => refuse_source(alloc, notes, fault),
     }
 }
 
-// Runs the image of a module that was made, and writes module and image.
+// Compiles a module that was made, runs its image, and writes module and image. An image has room
+// for the code of any module.
 fn write_generated<D: Folder, O: Sink, N: Sink>(
     alloc: Global,
     request: &Request,
     text: Vec<u8>,
-    made: &Made,
+    sourced: Sourced,
     folder: &mut D,
     out: &mut O,
     notes: &mut N,
 ) -> Status
-    requires valid { IsImage made.now.compiled.image }
-    requires sound { NeverFaults made.now.compiled.image }
-    requires totals { HaveTotals made.now.compiled.procs }
+    requires rounds { request.now.rounds ≤ 1000 }
     requires apart { request.now.image.now ≢ request.now.file.now }
     requires text { text.items ≡ module_text request.now.seed request.now.size }
-    ensures { (input : StreamSeen) → MadeOf (asked_by request.now) text.items made.now →
+    requires sourced { IsSourced FileKind.Module text.items sourced }
+    ensures { (input : StreamSeen) →
         let old : Seen = seen (folder_seen D.file D.read_faults D.write_faults folder.old) input
         (stream_seen O.bytes O.faults out.old) (stream_seen N.bytes N.faults notes.old) in
         let new : Seen = seen (folder_seen D.file D.read_faults D.write_faults folder.new) input
         (stream_seen O.bytes O.faults out.new) (stream_seen N.bytes N.faults notes.new) in
         Ends (generating (asked_by request.now)) text.items old new result }
 {
+    let made = match compile_source(alloc, sourced, request) {
+        Ok(made) => made,
+        Err(CompileFault::TooLong(_)) => unreachable!(),
+        Err(CompileFault::OutOfMemory) => return Status::NoMemory,
+    };
     match gen_report(alloc, request, text, &made.compiled) {
         Ok(report) => write_report(alloc, &report, folder, out, notes),
         Err(OutOfMemory) => Status::NoMemory,
@@ -595,24 +615,6 @@ fn exec_image<D: Folder, I: Source, O: Sink, N: Sink>(
     }
 }
 
-// Writes why an image's file is not listed, or does not run.
-fn refuse_image<N: Sink>(alloc: Global, notes: &mut N, fault: Unlisted) -> Status
-    ensures known { (result ≡ unlisted_status fault) ⊎ (result ≡ Status.NoMemory) }
-    ensures told { result ≢ Status.NoMemory → Told (unlisted_line fault)
-        (stream_seen N.bytes N.faults notes.old) (stream_seen N.bytes N.faults notes.new) }
-    ensures memory { result ≡ Status.NoMemory → notes.new ≡ notes.old }
-{
-    let status = match fault {
-        Unlisted::Broken(_, _) | Unlisted::Code(_) => Status::BadSource,
-        Unlisted::TooLong | Unlisted::LongText(_) => Status::OverLimit,
-        Unlisted::OutOfMemory => return Status::NoMemory,
-    };
-    match unlisted_line(alloc, fault) {
-        Ok(line) => refuse(notes, status, line.as_str()),
-        Err(_) => Status::NoMemory,
-    }
-}
-
 // Reads FILE, which is the text of an image, and assembles it.
 fn asm_file<D: Folder, O: Sink, N: Sink>(
     alloc: Global,
@@ -660,24 +662,6 @@ fn write_image<D: Folder, O: Sink, N: Sink>(
     match asm_report(alloc, request, image) {
         Ok(report) => write_report(alloc, &report, folder, out, notes),
         Err(OutOfMemory) => Status::NoMemory,
-    }
-}
-
-// Writes why a text is not assembled.
-fn refuse_text<N: Sink>(alloc: Global, notes: &mut N, fault: Unassembled) -> Status
-    ensures known { (result ≡ unassembled_status fault) ⊎ (result ≡ Status.NoMemory) }
-    ensures told { result ≢ Status.NoMemory → Told (unassembled_line fault)
-        (stream_seen N.bytes N.faults notes.old) (stream_seen N.bytes N.faults notes.new) }
-    ensures memory { result ≡ Status.NoMemory → notes.new ≡ notes.old }
-{
-    let status = match fault {
-        Unassembled::Line(_) | Unassembled::Empty => Status::BadSource,
-        Unassembled::TooLong => Status::OverLimit,
-        Unassembled::OutOfMemory => return Status::NoMemory,
-    };
-    match unassembled_line(alloc, fault) {
-        Ok(line) => refuse(notes, status, line.as_str()),
-        Err(_) => Status::NoMemory,
     }
 }
 
@@ -729,25 +713,5 @@ fn tell_held<D: Folder, O: Sink, N: Sink>(
             write_report(alloc, &report, folder, out, notes)
         }
         Err(OutOfMemory) => Status::NoMemory,
-    }
-}
-
-/// Writes why a text is none of a certificate, or of one that does not hold.
-pub(crate) fn refuse_cert<N: Sink>(alloc: Global, notes: &mut N, fault: Uncertified) -> Status
-    ensures known { (result ≡ uncertified_status fault) ⊎ (result ≡ Status.NoMemory) }
-    ensures told { result ≢ Status.NoMemory → Told (uncertified_line fault)
-        (stream_seen N.bytes N.faults notes.old) (stream_seen N.bytes N.faults notes.new) }
-    ensures memory { result ≡ Status.NoMemory → notes.new ≡ notes.old }
-{
-    let status = match fault {
-        Uncertified::NotJson | Uncertified::NotCertificate | Uncertified::Fails(_, _) => {
-            Status::BadSource
-        }
-        Uncertified::TooLong => Status::OverLimit,
-        Uncertified::OutOfMemory => return Status::NoMemory,
-    };
-    match uncertified_line(alloc, fault) {
-        Ok(line) => refuse(notes, status, line.as_str()),
-        Err(_) => Status::NoMemory,
     }
 }

@@ -71,7 +71,8 @@ no_defaults (a ∷ rs) rows e =
     )
 
 no_rule_defaults : Each (λ a. a.defaults ≡ []) rules
-no_rule_defaults = (refl, (refl, (refl, (refl, (refl, (refl, (refl, (refl, (refl, tt)))))))))
+no_rule_defaults =
+    (refl, (refl, (refl, (refl, (refl, (refl, (refl, (refl, (refl, (refl, tt))))))))))
 
 find_is : (w : Word) (gs : List Given) → find (λ r. bytes_eq r.id (word_name w)) (map row gs) ≡
     option_map row (find (is_of w) gs)
@@ -316,7 +317,7 @@ module _ (word : Text) (ws : List Text) (u : Each IsUtf8 (word ∷ ws)) (more : 
     value_met : (o : Word) → plain_word rules (option (word_name o)) word (pending gs o []) ≡
         (pending gs o (word ∷ []), next idle)
     value_met o = of_each (λ o. plain_word rules (option (word_name o)) word (pending gs o []) ≡
-        (pending gs o (word ∷ []), next idle)) refl refl refl refl refl refl refl refl refl o
+        (pending gs o (word ∷ []), next idle)) refl refl refl refl refl refl refl refl refl refl o
 
     option_case : (l : Look) → Seen word l → clap_line (at h wt (suc n) false) (word ∷ ws) ≡
         turned gs (option_value o n word l) ws

@@ -15,7 +15,7 @@ use Rattle.clap.specs.Simple.{Shape, built, new_rule}
 use Rattle.clap.specs.Faults.{use_fault, settle_fault}
 use Rattle.pra_words.specs.declared.words.Word.{Word}
 use Rattle.pra_words.specs.declared.words.Word.TheVariants.{Mode, File, Rounds, Cost, Steps, Gap}
-use Rattle.pra_words.specs.declared.words.Word.TheVariants.{Image, Seed, Size}
+use Rattle.pra_words.specs.declared.words.Word.TheVariants.{From, Image, Seed, Size}
 use Rattle.pra_words.specs.Texts.{word_name}
 use Rattle.pra_words.specs.CommandLine.{Text, Given, is_of}
 use Rattle.pra_words.specs.Command.{command}
@@ -46,16 +46,17 @@ by w v = record { word = w; value = v }
 
 -- what each of the words has, all have
 pub of_each : (P : Word → Type 0) → P Mode → P File → P Rounds → P Cost → P Steps → P Gap →
-    P Image → P Seed → P Size → (w : Word) → P w
-of_each P a b c d e f g h i Mode = a
-of_each P a b c d e f g h i File = b
-of_each P a b c d e f g h i Rounds = c
-of_each P a b c d e f g h i Cost = d
-of_each P a b c d e f g h i Steps = e
-of_each P a b c d e f g h i Gap = f
-of_each P a b c d e f g h i Image = g
-of_each P a b c d e f g h i Seed = h
-of_each P a b c d e f g h i Size = i
+    P From → P Image → P Seed → P Size → (w : Word) → P w
+of_each P a b c d e f g h i j Mode = a
+of_each P a b c d e f g h i j File = b
+of_each P a b c d e f g h i j Rounds = c
+of_each P a b c d e f g h i j Cost = d
+of_each P a b c d e f g h i j Steps = e
+of_each P a b c d e f g h i j Gap = f
+of_each P a b c d e f g h i j From = g
+of_each P a b c d e f g h i j Image = h
+of_each P a b c d e f g h i j Seed = i
+of_each P a b c d e f g h i j Size = j
 
 -- ---- rows
 
@@ -88,7 +89,7 @@ use_of : (w : Word) (v : Text) (rows : List Row) → used (rule w) (v ∷ []) ro
     (without (word_name w) rows)
 use_of w v rows = of_each
     (λ w. used (rule w) (v ∷ []) rows ≡ with_values (word_name w) (reading_by (rule w)) CommandLine
-    (v ∷ []) (without (word_name w) rows)) refl refl refl refl refl refl refl refl refl w
+    (v ∷ []) (without (word_name w) rows)) refl refl refl refl refl refl refl refl refl refl w
 
 pub used_word : (w : Word) (v : Text) (rows : List Row) → has_row (word_name w) rows ≡ false →
     used (rule w) (v ∷ []) rows ≡ rows ++ row (by w v) ∷ []
@@ -108,7 +109,7 @@ one_use : (w : Word) (v : Text) (rows : List Row) → use_fault false (rule w) (
 one_use w v rows = of_each
     (λ w. use_fault false (rule w) (v ∷ []) rows ≡
     or_else (if has_row (word_name w) rows && true then ArgumentConflict ∷ [] else []) []) refl refl
-    refl refl refl refl refl refl refl w
+    refl refl refl refl refl refl refl refl w
 
 pub use_is : (w : Word) (v : Text) (rows : List Row) → use_fault false (rule w) (v ∷ []) rows ≡
     repeat (has_row (word_name w) rows)
@@ -116,7 +117,7 @@ use_is w v rows = one_use w v rows ∙ repeat_is (has_row (word_name w) rows)
 
 pub no_value : (w : Word) (rows : List Row) → use_fault false (rule w) [] rows ≡ InvalidValue ∷ []
 no_value w rows = of_each (λ w. use_fault false (rule w) [] rows ≡ InvalidValue ∷ []) refl refl refl
-    refl refl refl refl refl refl w
+    refl refl refl refl refl refl refl w
 
 -- ---- what is held
 
@@ -139,12 +140,12 @@ pub settle_word : (w : Word) (vs : List Text) (gs : List Given) →
     settle_fault rules false (pending gs w vs) ≡ use_fault false (rule w) vs (map row gs)
 settle_word w vs gs = of_each
     (λ w. settle_fault rules false (pending gs w vs) ≡ use_fault false (rule w) vs (map row gs))
-    refl refl refl refl refl refl refl refl refl w
+    refl refl refl refl refl refl refl refl refl refl w
 
 rows_word : (w : Word) (v : Text) (rows : List Row) →
     settled_rows rules (Some (word_name w, v ∷ [])) rows ≡ used (rule w) (v ∷ []) rows
 rows_word w v rows = of_each (λ w. settled_rows rules (Some (word_name w, v ∷ [])) rows ≡
-    used (rule w) (v ∷ []) rows) refl refl refl refl refl refl refl refl refl w
+    used (rule w) (v ∷ []) rows) refl refl refl refl refl refl refl refl refl refl w
 
 pub settle_pending : (gs : List Given) (w : Word) (v : Text) →
     settle_fault rules false (pending gs w (v ∷ [])) ≡ repeat (list_any (is_of w) gs)

@@ -96,24 +96,24 @@ pub joined_fault : (o : Word) (v : Text) (h : Held) → long_fault rules false (
     (use_fault false (rule o) (v ∷ []) (settled rules h).rows)
 joined_fault o v h = of_each (λ o. long_fault rules false (Some (rule o)) (Some v) h ≡
     or_else (settle_fault rules false h) (use_fault false (rule o) (v ∷ []) (settled rules h).rows))
-    refl refl refl refl refl refl refl refl refl o
+    refl refl refl refl refl refl refl refl refl refl o
 
 pub apart_fault : (o : Word) (h : Held) → long_fault rules false (Some (rule o)) None h ≡
     settle_fault rules false h
 apart_fault o h = of_each (λ o. long_fault rules false (Some (rule o)) None h ≡
-    settle_fault rules false h) refl refl refl refl refl refl refl refl refl o
+    settle_fault rules false h) refl refl refl refl refl refl refl refl refl refl o
 
 pub joined_met : (o : Word) (v : Text) (h : Held) → long_met rules (Some (rule o)) (Some v) h ≡
     (reacted rules (rule o) (v ∷ []) h, done)
 joined_met o v h = of_each
     (λ o. long_met rules (Some (rule o)) (Some v) h ≡ (reacted rules (rule o) (v ∷ []) h, done))
-    refl refl refl refl refl refl refl refl refl o
+    refl refl refl refl refl refl refl refl refl refl o
 
 pub apart_met : (o : Word) (h : Held) → long_met rules (Some (rule o)) None h ≡
     (record (settled rules h) { pending = Some (word_name o, []) }, clap.waits (word_name o))
 apart_met o h = of_each (λ o. long_met rules (Some (rule o)) None h ≡
     (record (settled rules h) { pending = Some (word_name o, []) }, clap.waits (word_name o))) refl
-    refl refl refl refl refl refl refl refl o
+    refl refl refl refl refl refl refl refl refl o
 
 or_bad : (k l : Kinds) → Bad k → Bad (or_else k l)
 or_bad k l bad = (

@@ -7,7 +7,7 @@ use Rattle.std.specs.List.{list_any, before_first, after_first}
 use Rattle.std.specs.Str.{bytes_eq}
 use Rattle.pra_words.specs.declared.words.Word.{Word}
 use Rattle.pra_words.specs.declared.words.Word.TheVariants.{Mode, File, Rounds, Cost, Steps}
-use Rattle.pra_words.specs.declared.words.Word.TheVariants.{Gap, Image, Seed, Size}
+use Rattle.pra_words.specs.declared.words.Word.TheVariants.{Gap, From, Image, Seed, Size}
 use Rattle.pra_words.specs.Texts.{word_name}
 
 abbrev pub Text : Type 0
@@ -55,7 +55,7 @@ place (suc zero) = Some File
 place (suc (suc n)) = None
 
 abbrev pub options : List Word
-options = Rounds ∷ Cost ∷ Steps ∷ Gap ∷ Image ∷ Seed ∷ Size ∷ []
+options = Rounds ∷ Cost ∷ Steps ∷ Gap ∷ From ∷ Image ∷ Seed ∷ Size ∷ []
 
 -- an option's name, behind the two dashes
 abbrev pub option_name : Word → Text
@@ -128,6 +128,7 @@ pub record Line : Type 0 where
   pub cost : Option Text
   pub steps : Option Text
   pub gap : Option Text
+  pub from : Option Text
   pub image : Option Text
   pub seed : Option Text
   pub size : Option Text
@@ -141,6 +142,7 @@ line_by (Some mode) (Some file) value = Some (record {
   cost = value Cost;
   steps = value Steps;
   gap = value Gap;
+  from = value From;
   image = value Image;
   seed = value Seed;
   size = value Size;

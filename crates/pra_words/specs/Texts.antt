@@ -2,7 +2,7 @@
 use Rattle.std.specs.Prelude.{ℕ, List, [], ◌++◌, codes}
 use Rattle.pra_words.specs.declared.words.Word.{Word}
 use Rattle.pra_words.specs.declared.words.Word.TheVariants.{Mode, File, Rounds, Cost, Steps}
-use Rattle.pra_words.specs.declared.words.Word.TheVariants.{Gap, Image, Seed, Size}
+use Rattle.pra_words.specs.declared.words.Word.TheVariants.{Gap, From, Image, Seed, Size}
 use Rattle.pra_words.specs.declared.words.WordsFault.{WordsFault}
 use Rattle.pra_words.specs.declared.words.WordsFault.TheVariants.{Words, Value, OutOfMemory}
 
@@ -14,13 +14,14 @@ word_name Rounds = codes "--rounds"
 word_name Cost = codes "--cost"
 word_name Steps = codes "--steps"
 word_name Gap = codes "--gap"
+word_name From = codes "--from"
 word_name Image = codes "--image"
 word_name Seed = codes "--seed"
 word_name Size = codes "--size"
 
 abbrev pub usage : List ℕ
 usage = codes "usage: pra MODE FILE [--rounds N] [--cost size|speed] [--steps M]"
-    ++ codes " [--gap G] [--image NAME] [--seed S] [--size Z]\n"
+    ++ codes " [--gap G] [--from module|code] [--image NAME] [--seed S] [--size Z]\n"
 
 -- what is wrong, and the usage line; want of memory has no line
 abbrev pub words_lines : WordsFault → List ℕ

@@ -1,7 +1,7 @@
 -- What the words of a command line ask for.
 use Rattle.std.specs.Prelude.{ℕ, List, [], ◌∷◌, length, map, if◌then◌else◌, nat_le, ◌&&◌, not}
 use Rattle.std.specs.Prelude.{Bool, true, false, None, Some, Result, Ok, Err, String, codes}
-use Rattle.std.specs.Prelude.{string_bytes, unwrap_or}
+use Rattle.std.specs.Prelude.{string_bytes, unwrap_or, option_and_then}
 use Rattle.std.specs.Option.{ok_or}
 use Rattle.std.specs.declared.option.Option.{Option}
 use Rattle.std.specs.declared.alloc.Global.{Global}
@@ -12,6 +12,8 @@ use Rattle.pra_words.specs.declared.words.Mode.{Mode}
 use Rattle.pra_words.specs.declared.words.Mode.TheVariants as a_mode
 use Rattle.pra_words.specs.declared.words.CostWord.{CostWord}
 use Rattle.pra_words.specs.declared.words.CostWord.TheVariants as a_cost
+use Rattle.pra_words.specs.declared.words.FileKind.{FileKind}
+use Rattle.pra_words.specs.declared.words.FileKind.TheVariants as a_kind
 use Rattle.pra_words.specs.declared.words.WordsFault.{WordsFault}
 use Rattle.pra_words.specs.declared.words.WordsFault.TheVariants.{Words, Value}
 use Rattle.pra_words.specs.declared.words.Word.TheVariants as a_word
@@ -79,6 +81,22 @@ abbrev pub cost_word_of : Option (List ℕ) → Option CostWord
 cost_word_of None = Some a_cost.Size
 cost_word_of (Some word) = cost_word word
 
+-- what FILE is
+abbrev pub file_kind : List ℕ → Option FileKind
+file_kind word =
+    if bytes_eq word (codes "module") then Some a_kind.Module
+    else (if bytes_eq word (codes "code") then Some a_kind.Code else None)
+
+-- what a mode may take FILE for: the FILE that gen writes is a module
+abbrev pub kind_in : Mode → FileKind → Option FileKind
+kind_in a_mode.Gen a_kind.Code = None
+kind_in mode kind = Some kind
+
+-- that, or a module where the words don't say
+abbrev pub file_kind_of : Mode → Option (List ℕ) → Option FileKind
+file_kind_of mode None = Some a_kind.Module
+file_kind_of mode (Some word) = option_and_then (kind_in mode) (file_kind word)
+
 -- the name of the image's file where the words don't say
 abbrev pub default_image : List ℕ
 default_image = codes "out.pri"
@@ -95,8 +113,8 @@ image_of mode file word =
 -- ---- the whole
 
 -- what is done with FILE, its name, the rounds of allocation, what the code is to be cheap in, the
--- steps that a run is granted, the gap at which the rounds stop, the name of the file that the
--- image is written to, and the seed and the size of a generated module
+-- steps that a run is granted, the gap at which the rounds stop, what FILE is, the name of the file
+-- that the image is written to, and the seed and the size of a generated module
 pub record Asked : Type 0 where
   pub mode : Mode
   pub file : List ℕ
@@ -104,6 +122,7 @@ pub record Asked : Type 0 where
   pub cost : CostWord
   pub steps : ℕ
   pub gap : ℕ
+  pub from : FileKind
   pub image : List ℕ
   pub seed : ℕ
   pub size : ℕ
@@ -118,6 +137,7 @@ values_of line = do
   cost ← ok_or (cost_word_of line.cost) (Value a_word.Cost)
   steps ← ok_or (value_of 10000000 0 200000000 line.steps) (Value a_word.Steps)
   gap ← ok_or (value_of 0 0 4294967295 line.gap) (Value a_word.Gap)
+  from ← ok_or (file_kind_of mode line.from) (Value a_word.From)
   image ← ok_or (image_of mode file line.image) (Value a_word.Image)
   seed ← ok_or (value_of 1 0 2147483647 line.seed) (Value a_word.Seed)
   size ← ok_or (value_of 10 1 200 line.size) (Value a_word.Size)
@@ -128,6 +148,7 @@ values_of line = do
     cost = cost;
     steps = steps;
     gap = gap;
+    from = from;
     image = image;
     seed = seed;
     size = size;

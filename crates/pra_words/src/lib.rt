@@ -15,4 +15,4 @@ pub mod texts;
 pub mod words;
 
 pub use texts::words_lines;
-pub use words::{CostWord, Mode, Request, Word, WordsFault, read_words};
+pub use words::{CostWord, FileKind, Mode, Request, Word, WordsFault, read_words};

@@ -25,6 +25,7 @@ pub struct Line<'a> {
     pub cost: Option<&'a str>,
     pub steps: Option<&'a str>,
     pub gap: Option<&'a str>,
+    pub from: Option<&'a str>,
     pub image: Option<&'a str>,
     pub seed: Option<&'a str>,
     pub size: Option<&'a str>,
@@ -58,6 +59,7 @@ fn command<'a>(alloc: Global) -> Result<Command<'a>, AllocError>
     let cost = option(alloc, "--cost", "cost");
     let steps = option(alloc, "--steps", "steps");
     let gap = option(alloc, "--gap", "gap");
+    let from = option(alloc, "--from", "from");
     let image = option(alloc, "--image", "image");
     let seed = option(alloc, "--seed", "seed");
     let size = option(alloc, "--size", "size");
@@ -70,6 +72,7 @@ fn command<'a>(alloc: Global) -> Result<Command<'a>, AllocError>
         .arg(cost)?
         .arg(steps)?
         .arg(gap)?
+        .arg(from)?
         .arg(image)?
         .arg(seed)?
         .arg(size)
@@ -88,6 +91,7 @@ fn line_in<'a>(matches: &ArgMatches<'a>) -> Option<Line<'a>>
             cost: value(matches, Word::Cost),
             steps: value(matches, Word::Steps),
             gap: value(matches, Word::Gap),
+            from: value(matches, Word::From),
             image: value(matches, Word::Image),
             seed: value(matches, Word::Seed),
             size: value(matches, Word::Size),

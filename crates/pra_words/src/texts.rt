@@ -10,7 +10,7 @@ use std::fmt::Write;
 /// How the program is called.
 const USAGE: &str = concat!(
     "usage: pra MODE FILE [--rounds N] [--cost size|speed] [--steps M]",
-    " [--gap G] [--image NAME] [--seed S] [--size Z]\n"
+    " [--gap G] [--from module|code] [--image NAME] [--seed S] [--size Z]\n"
 );
 
 /// The lines that tell why the words are refused, the usage line at the end.

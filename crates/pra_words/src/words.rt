@@ -5,6 +5,7 @@ ghost use Rattle.std.specs.Option.{ok_or};
 ghost use Rattle.std.specs.Str.{all_ascii_digits};
 ghost use Rattle.pra_words.specs.Words.{texts, mode_of, file_of, is_number, number_within};
 ghost use Rattle.pra_words.specs.Words.{value_of, cost_word, cost_word_of, image_of};
+ghost use Rattle.pra_words.specs.Words.{file_kind, file_kind_of, kind_in};
 ghost use Rattle.pra_words.specs.Texts.{word_name};
 ghost use Rattle.pra_words.specs.Words.{writes_image, is_image, values_of, asked_of};
 ghost use Rattle.pra_words.specs.Written.{asked_by, text_in, written};
@@ -105,6 +106,15 @@ pub enum CostWord {
     Speed,
 }
 
+/// What FILE is.
+#[derive(Clone, Copy, Debug, PartialEq, Eq)]
+pub enum FileKind {
+    /// A module.
+    Module,
+    /// Selected code.
+    Code,
+}
+
 /// A word of the command line that has a value, in the order in which the values are told of.
 #[derive(Clone, Copy, Debug, PartialEq, Eq)]
 pub enum Word {
@@ -114,6 +124,7 @@ pub enum Word {
     Cost,
     Steps,
     Gap,
+    From,
     Image,
     Seed,
     Size,
@@ -131,6 +142,7 @@ impl Word {
             Word::Cost => "--cost",
             Word::Steps => "--steps",
             Word::Gap => "--gap",
+            Word::From => "--from",
             Word::Image => "--image",
             Word::Seed => "--seed",
             Word::Size => "--size",
@@ -164,6 +176,8 @@ pub struct Request<'a> {
     pub steps: u32,
     /// The rounds stop where a cost is above the bound by no more than this.
     pub gap: u32,
+    /// What FILE is.
+    pub from: FileKind,
     /// The name of the file that the image is written to.
     pub image: &'a str,
     /// Where the numbers that a module is generated from begin.
@@ -183,6 +197,7 @@ pub struct Request<'a> {
 /// | `--cost` | `size`, `speed` | `size` |
 /// | `--steps` | 0 to 200000000 | 10000000 |
 /// | `--gap` | 0 to 4294967295 | 0 |
+/// | `--from` | `module`; `code`, but not of `gen`, which writes FILE | `module` |
 /// | `--image` | not empty; where an image is written not FILE | `out.pri` |
 /// | `--seed` | 0 to 2147483647 | 1 |
 /// | `--size` | 1 to 200 | 10 |
@@ -216,6 +231,7 @@ fn values<'a>(line: &Line<'a>) -> Result<Request<'a>, WordsFault>
     let cost = told(cost_of(line.cost), Word::Cost)?;
     let steps = told(value_of(line.steps, STEPS), Word::Steps)?;
     let gap = told(value_of(line.gap, GAP), Word::Gap)?;
+    let from = told(kind_of(mode, line.from), Word::From)?;
     let image = told(image_of(mode, file, line.image), Word::Image)?;
     let seed = told(value_of(line.seed, SEED), Word::Seed)?;
     let size = told(value_of(line.size, SIZE), Word::Size)?;
@@ -226,6 +242,7 @@ fn values<'a>(line: &Line<'a>) -> Result<Request<'a>, WordsFault>
         cost,
         steps,
         gap,
+        from,
         image,
         seed,
         size,
@@ -294,6 +311,37 @@ fn cost_word(word: &str) -> Option<CostWord>
         Some(CostWord::Speed)
     } else {
         None
+    }
+}
+
+fn kind_of(mode: Mode, word: Option<&str>) -> Option<FileKind>
+    ensures { result ≡ file_kind_of mode (text_in word.entry) }
+{
+    match word {
+        Some(word) => kind_in(mode, file_kind(word)?),
+        None => Some(FileKind::Module),
+    }
+}
+
+fn file_kind(word: &str) -> Option<FileKind>
+    ensures { result ≡ file_kind word.now }
+{
+    if word == "module" {
+        Some(FileKind::Module)
+    } else if word == "code" {
+        Some(FileKind::Code)
+    } else {
+        None
+    }
+}
+
+// The kind, where the mode takes FILE for one.
+fn kind_in(mode: Mode, kind: FileKind) -> Option<FileKind>
+    ensures { result ≡ kind_in mode kind }
+{
+    match (mode, kind) {
+        (Mode::Gen, FileKind::Code) => None,
+        _ => Some(kind),
     }
 }
 

@@ -27,7 +27,7 @@ use ob_syntax::Checked;
 use pl_build::place;
 use pl_place::LProc;
 use pra_base::{OutOfMemory, VProc};
-use pra_compile::{Compiled, compile};
+use pra_compile::{Compiled, compile_module};
 use pra_report::ProcOut;
 use std::alloc::Global;
 use std::process::Abort;
@@ -133,7 +133,7 @@ fn compile_at_home(alloc: Global, checked: &Checked) -> Result<Compiled, OutOfMe
         Weights::size().weight(event, depth)
     });
     let watch = Watch::keep(0, |line: Line| verdict(line));
-    compile(alloc, checked, 0, &model, &watch)
+    compile_module(alloc, checked, 0, &model, &watch)
 }
 
 // Both ways give one image. The text has so many procedures, the body counted, and words of data;

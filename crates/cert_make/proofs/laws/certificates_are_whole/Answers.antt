@@ -5,5 +5,4 @@ pub returns-clause-some : goal.returns-clause-some
 returns-clause-some g = has_one
 
 pub returns-clause-numbered : goal.returns-clause-numbered
-returns-clause-numbered g = λ program wanted compiled c few is certified.
-    numbered program wanted compiled c is certified few
+returns-clause-numbered g = numbered

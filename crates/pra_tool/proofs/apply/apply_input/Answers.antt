@@ -31,7 +31,7 @@ returns-in-Err g c = λ source of.
 
 pub returns-in-Err-apply : goal.returns-in-Err-apply
 returns-in-Err-apply g c = λ source of.
-    misapplied_ends (asked_by c.args.request.now) c.args.checked.now c.in-Ok.certificate _ _ _
+    misapplied_ends (asked_by c.args.request.now) c.args.sourced c.in-Ok.certificate _ _ _
     c.in-Ok.ensures.given c.in-Err-apply.fault
     c.in-Err-apply.ensures.cause
     c.refuse_misapplied.ensures.known
@@ -50,8 +50,8 @@ returns-in-Err-apply g c = λ source of.
 
 pub apply_report-requires-clause-totals : goal.apply_report-requires-clause-totals
 apply_report-requires-clause-totals g c =
-    applied_totals c.args.checked.now c.in-Ok.certificate c.in-Ok-apply.compiled
-    c.requires.selectable c.in-Ok-apply.ensures.applied
+    applied_totals c.args.sourced.file c.in-Ok.certificate c.in-Ok-apply.compiled
+    c.in-Ok-apply.ensures.applied
 
 pub write_report-requires-clause-different : goal.write_report-requires-clause-different
 write_report-requires-clause-different g c =
@@ -61,7 +61,7 @@ write_report-requires-clause-different g c =
 pub returns-in-Ok-apply_report : goal.returns-in-Ok-apply_report
 returns-in-Ok-apply_report g c = λ source of.
     let report = c.in-Ok-apply_report.report in
-    apply_ends (asked_by c.args.request.now) c.args.checked.now c.in-Ok.certificate _ _ _
+    apply_ends (asked_by c.args.request.now) c.args.sourced c.in-Ok.certificate _ _ _
     c.in-Ok.ensures.given c.in-Ok-apply.compiled (writes_of report) report.status
     c.in-Ok-apply.ensures.applied
     c.in-Ok-apply_report.ensures.writes

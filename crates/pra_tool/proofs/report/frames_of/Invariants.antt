@@ -1,6 +1,6 @@
 -- The frames so far, and those that are left, are all.
 use Rattle.std.proofs.Common.{◌≡◌, ◌++◌, drop}
-use Rattle.pra_tool.specs.Interpreted.{frames_of}
+use Rattle.pra_compile.specs.Compiled.{frames_of}
 use Rattle.pra_tool.proofs.report.frames_of.Given as goal
 
 abbrev pub invariant-loop-proc : goal.invariant-loop-proc

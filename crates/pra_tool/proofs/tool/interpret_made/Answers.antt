@@ -1,15 +1,14 @@
-use Rattle.std.proofs.Common.{◌≡◌, ap, refl, subst, sym, List, ℤ}
+use Rattle.std.proofs.Common.{◌≡◌, ap, refl, subst, sym, ◌∙◌, List, ℤ}
 use Rattle.std.specs.Io.KnownBytes.{Keeps}
 use Rattle.pra_tool.specs.declared.tool.Then.TheVariants.{Interpret}
 use Rattle.pra_words.specs.Written.{asked_by}
-use Rattle.pra_tool.specs.Interpreted.{units_of, interp_writes}
-use Rattle.pra_tool.specs.Status.{status_of_units}
+use Rattle.pra_tool.specs.Interpreted.{meant_writes, meant_status}
 use Rattle.pra_tool.specs.Clause.{compiling}
 use Rattle.pra_tool.specs.Outside.{stream_seen}
 use Rattle.pra_tool.specs.Reports.{writes_of}
 use Rattle.pra_tool.specs.Writes.{Writes}
 use Rattle.pra_tool.proofs.CompilingModes.{keeps_same}
-use Rattle.pra_tool.proofs.CompiledEnds.{input_ends, interp_ends}
+use Rattle.pra_tool.proofs.CompiledEnds.{input_ends, interp_ends, no_files}
 use Rattle.pra_tool.proofs.ListingEnds.{none_differ}
 use Rattle.pra_tool.proofs.tool.interpret_made.Goals as goal
 
@@ -33,20 +32,20 @@ returns-in-Err g c = λ source made.
 
 pub write_report-requires-clause-different : goal.write_report-requires-clause-different
 write_report-requires-clause-different g c =
-    none_differ _ (ap (λ (x : Writes). x.files) c.in-Ok-interp_report.ensures.writes)
+    none_differ _ (ap (λ (x : Writes). x.files) c.in-Ok-interp_report.ensures.writes
+    ∙ no_files c.args.made.now.meaning (asked_by c.args.request.now) c.args.made.now.compiled _)
 
 pub returns-in-Ok-interp_report : goal.returns-in-Ok-interp_report
 returns-in-Ok-interp_report g c = λ source made.
     let report = c.in-Ok-interp_report.report in
     let asked = asked_by c.args.request.now in
-    let made_value = c.args.made.now in
-    interp_ends asked made_value c.in-Ok.numbers.items
+    let is = c.args.made.now in
+    interp_ends asked is c.in-Ok.numbers.items
     (writes_of report) report.status _ _ _
     c.in-Ok.ensures.numbers
-    (subst (λ (ns : List ℤ). writes_of report ≡ interp_writes asked made_value ns)
+    (subst (λ (ns : List ℤ). writes_of report ≡ meant_writes is.meaning asked is.compiled ns)
     c.deref.ensures.value c.in-Ok-interp_report.ensures.writes)
-    (subst (λ (ns : List ℤ). report.status
-    ≡ status_of_units (units_of made_value.checked made_value.compiled ns asked.steps).ending)
+    (subst (λ (ns : List ℤ). report.status ≡ meant_status is.meaning asked is.compiled ns)
     c.deref.ensures.value c.in-Ok-interp_report.ensures.ended)
     (c.write_report.ensures (stream_seen g.I.Source.left g.I.Source.faults c.args.input.now)
     (stream_seen g.I.Source.left g.I.Source.faults c.read_numbers.new.input))

@@ -8,7 +8,6 @@ use Rattle.pra_tool.specs.Reports.{writes_of}
 use Rattle.pra_tool.specs.Writes.{Writes}
 use Rattle.pra_tool.proofs.CompilingModes.{different, keeps_same}
 use Rattle.pra_tool.proofs.CompiledEnds.{input_ends, run_ends}
-use Rattle.pra_tool.proofs.InputWords.{numbers_are_words}
 use Rattle.pra_tool.proofs.tool.run_compiled.Goals as goal
 
 pub returns-in-Err : goal.returns-in-Err
@@ -28,11 +27,6 @@ returns-in-Err g c = λ source made.
           (sym (c.refuse_input.ensures.memory memory)) (keeps_same _);
     })
     source
-
-pub run_report-requires-clause-words : goal.run_report-requires-clause-words
-run_report-requires-clause-words g c =
-    let given = c.in-Ok.ensures.numbers in
-    numbers_are_words given.bytes c.in-Ok.numbers.items given.has.1
 
 pub write_report-requires-clause-different : goal.write_report-requires-clause-different
 write_report-requires-clause-different g c =

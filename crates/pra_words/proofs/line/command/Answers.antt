@@ -23,10 +23,12 @@ returns c =
     ∙ ap₂ with_rule cost c.option-steps.ensures.rule in
     let gap = c.in_ok-arg-6.ensures.shape c.option-gap.ensures.local
     ∙ ap₂ with_rule steps c.option-gap.ensures.rule in
-    let image = c.in_ok-arg-7.ensures.shape c.option-image.ensures.local
-    ∙ ap₂ with_rule gap c.option-image.ensures.rule in
-    let seed = c.in_ok-arg-8.ensures.shape c.option-seed.ensures.local
+    let from = c.in_ok-arg-7.ensures.shape c.option-from.ensures.local
+    ∙ ap₂ with_rule gap c.option-from.ensures.rule in
+    let image = c.in_ok-arg-8.ensures.shape c.option-image.ensures.local
+    ∙ ap₂ with_rule from c.option-image.ensures.rule in
+    let seed = c.in_ok-arg-9.ensures.shape c.option-seed.ensures.local
     ∙ ap₂ with_rule image c.option-seed.ensures.rule in
-    IfOk-weaker c.arg-9.result _ _
+    IfOk-weaker c.arg-10.result _ _
     (λ r a. a.shape c.option-size.ensures.local ∙ ap₂ with_rule seed c.option-size.ensures.rule)
-    c.arg-9.ensures
+    c.arg-10.ensures
