@@ -46,8 +46,9 @@ import subset  # noqa: E402
 COMPILER = os.environ.get("PRA", f"{TOP}/pra")
 WAYS = [(rounds, cost) for rounds in (0, 1, 10) for cost in ("size", "speed")]
 MOST_STEPS = 300000  # of the meaning
-STEPS_OF_ONE = 100  # steps of the machine that a step of the meaning may take, but for `clear`
-STEPS_OF_CLEAR = 100000
+STEPS_OF_ONE = 100  # steps of the machine that one of the meaning takes at most, but for `clear`
+STEPS_OF_WORD = 4  # and that it takes to clear a word
+MOST_STEPS_OF_IMAGE = 200000000
 FRAME = re.compile(r"^procedure \d+ \w+ frame (\d+)$", re.M)
 LINE = re.compile(r"^(ended|going|trap \w+|machine \w+|stuck .*?) steps (\d+) reads (\d+)$")
 STATUSES = {"ended": 0, "going": 2}
@@ -169,7 +170,8 @@ class Comparison:
             self.differs(case, f"{' '.join(words)}: {said}, or other output")
 
     def by_image(self, number, case, words, meant):
-        steps = min(STEPS_OF_CLEAR + STEPS_OF_ONE * meant.steps, 200000000)
+        steps = STEPS_OF_ONE * meant.steps + STEPS_OF_WORD * meant.cleared
+        steps = min(steps, MOST_STEPS_OF_IMAGE)
         image_file = f"{self.room}/it.pri"
         told = self.call("run", case, *words, "--image", image_file, "--steps", str(steps))
         self.counts["runs of images"] += 1

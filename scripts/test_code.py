@@ -31,8 +31,8 @@ import solve
 import stuck
 from checker import form, given, vectors
 from picture import facts
-from pranet import certificate, code_file, code_reader, code_text
-from pranet.compiler import Refused, with_source
+from pranet import certificate, code_file, code_reader, code_text, compiler
+from pranet.compiler import with_source
 from pranet.network import Network
 from processor.image import Image
 
@@ -554,7 +554,7 @@ class Kinds(unittest.TestCase):
                     self.assertEqual(with_source(words), [*words[:2], *wanted, *words[2:]])
                 with mock.patch("pranet.compiler.takes_code", return_value=False):
                     if wanted:
-                        self.assertRaises(Refused, with_source, words)
+                        self.assertRaises(compiler.Refused, with_source, words)
                     else:
                         self.assertEqual(with_source(words), words)
 
@@ -820,6 +820,43 @@ class Taken(InAFolder):
         status, out, _ = self.call(explain.main, other, "--module", self.code)
         self.assertEqual(status, 3)
         self.assertIn("is `check 0 <= v3 < 9`, and the module's is `check 0 <= v3 < 10`", out)
+
+
+def behind_a_body(value):
+    """The same code as procedures that nothing calls from outside, behind a body of nothing."""
+    body = plain()["procs"]
+    calls = {
+        ("procs", number, "blocks", at, 1, place, 1): ins[1] + 1
+        for number, it in enumerate(value["procs"])
+        for at, block in enumerate(it["blocks"])
+        for place, ins in enumerate(block[1])
+        if ins[0] == "call"
+    }
+    return value | {"procs": body + vectors.edited(value, calls)["procs"]}
+
+
+@needs.from_code
+class Refused(InAFolder):
+    """What the compiler says of code that breaks a rule."""
+
+    def refused(self, value, line):
+        file = self.file("x.code", text_of(value))
+        for mode in compiler.TAKE_CODE:
+            command = [needs.program(), mode, file, "--from", "code"]
+            how = {"stdin": subprocess.DEVNULL, "capture_output": True, "check": False}
+            ran = subprocess.run(command, cwd=self.room, **how)
+            found = ran.returncode, ran.stdout, ran.stderr.decode()
+            self.assertEqual(found, (3, b"", f"{line}\n"), mode)
+
+    def test_each_rule_of_code(self):
+        for name, value in vectors.bad_code():
+            with self.subTest(name=name):
+                value = of_certificate(value)
+                has_arguments = value["procs"][0]["args"] > 0
+                line = "fault code form" if has_arguments else "fault code procedure 0"
+                self.refused(value, line)
+                self.refused(behind_a_body(value), "fault code procedure 1")
+        self.assertEqual(sorted(os.listdir(self.room)), ["x.code"])
 
 
 @needs.from_code

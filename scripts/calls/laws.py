@@ -2,8 +2,9 @@
 
 The lines of a report are those of rounds that stop by their rule: costs never rise, bounds never
 fall, no cost is below its bound, and the last line has the sums. Another call makes the same; what
-a module means is what its image does, which does it by itself too; an image is what its text is
-assembled to; and the certificate of a module holds, with the last costs and bounds of its report.
+a module or code means is what its image does, as far as code that gets stuck comes; the image does
+it by itself too, and is what its text is assembled to; and the certificate of what was compiled
+holds, with the last costs and bounds of its report.
 """
 
 import re
@@ -12,6 +13,7 @@ from calls.reader import FILE
 from calls.running import image_name, left_by, source_of, value_of
 
 HEADER = 16  # bytes of an image in front of its code
+OPTIONS = "--rounds", "--gap", "--cost", "--from"  # which say what is compiled, and how
 PROCEDURE = re.compile(r"procedure (\d+) \S+ frame \d+")
 ROUND = re.compile(r"round (\d+) cost (\d+) bound (\d+)")
 TOTAL = re.compile(r"total cost (\d+) bound (\d+) code (\d+)")
@@ -89,9 +91,13 @@ def ending_of(notes):
 
 
 def check_meaning(program, call, left):
-    """What a module means is what its image did, if that came to an end."""
-    words = like(call.words, "interp", "--rounds", "--gap", "--cost", "--steps")
+    """What FILE means is what its image did, if that came to an end."""
+    words = like(call.words, "interp", *OPTIONS, "--steps")
     meant = left_by(program, words, source_of(call), call.given)
+    if ending_of(meant.notes).startswith("stuck "):
+        if not left.out.startswith(meant.out):
+            raise Broken(f"meaning until it is stuck: {meant.out}")
+        return
     found = meant.status, meant.out, meant.rest, ending_of(meant.notes), meant.files
     if found != (left.status, left.out, left.rest, ending_of(left.notes), {}):
         raise Broken(f"meaning: {found}")
@@ -125,8 +131,8 @@ def check_ran(program, call, left, image):
 
 
 def check_certificate(program, call, lasts):
-    """The certificate of a module holds, with the last costs and bounds of its report."""
-    words = like(call.words, "cert", "--rounds", "--gap", "--cost")
+    """The certificate of FILE holds, with the last costs and bounds of its report."""
+    words = like(call.words, "cert", *OPTIONS)
     certificate = left_by(program, words, source_of(call))
     held = left_by(program, ["check", FILE], {FILE: certificate.out})
     lines = [f"procedure {at} cost {it[0]} bound {it[1]}\n" for at, it in enumerate(lasts)]
@@ -138,7 +144,7 @@ def check_certificate(program, call, lasts):
 def check_generated(program, call, left):
     """A module that is made runs as it ran when it was made, from the same image."""
     file, image = call.words[1], left.files[image_name(call.words)]
-    words = like(call.words, "run", "--rounds", "--gap", "--cost", "--steps")
+    words = like(call.words, "run", *OPTIONS, "--steps")
     ran = left_by(program, words, {FILE: left.files[file]})
     last = b"total " + ran.notes.rpartition(b"\ntotal ")[2]
     seed, size = number(call.words, "--seed", 1), number(call.words, "--size", 10)
@@ -161,7 +167,7 @@ def check_twice(program, call, left):
 
 
 def check_compiled(program, call, left):
-    """All that holds of a module that was compiled, and of its run if there was one."""
+    """All that holds of what was compiled, and of its run if there was one."""
     image = left.files[image_name(call.words)]
     is_run = call.words[0] == "run"
     lasts = check_report(call.words, left.notes if is_run else left.out, image)

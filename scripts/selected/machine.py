@@ -97,6 +97,7 @@ class Outcome:
     out: str
     steps: int
     taken: int
+    cleared: int = 0  # words of frames, by `clear`
 
     def line(self):
         return f"{self.ending} steps {self.steps} reads {self.taken}"
@@ -111,7 +112,7 @@ class Machine:
         self.numbers, self.taken = [word(it) for it in numbers], 0
         self.calls, self.sums = [], []  # of each live call the bytes of its frame and those below
         self.pushed, self.compared = [], None
-        self.out, self.steps = [], 0
+        self.out, self.steps, self.cleared = [], 0, 0
         self.begin(0, [])
 
     def begin(self, p, args):
@@ -136,7 +137,7 @@ class Machine:
         return self.outcome("going")
 
     def outcome(self, ending):
-        return Outcome(ending, "".join(self.out), self.steps, self.taken)
+        return Outcome(ending, "".join(self.out), self.steps, self.taken, self.cleared)
 
     # ---- a step
 
@@ -307,7 +308,9 @@ class Machine:
         self.out.append("\n")
 
     def do_clear(self):
-        self.calls[-1].aggregates[:] = [0] * len(self.calls[-1].aggregates)
+        words = self.calls[-1].aggregates
+        words[:] = [0] * len(words)
+        self.cleared += len(words)
 
 
 def run(file, numbers=(), frames=None, steps=10000000):
