@@ -5,9 +5,9 @@
 
 The code files are those of random_codes.py for the seeds A to B (1-200), and those of the programs
 of examples/frontend/: its own, and random ones (1-100). Each is run by the machine of selected code
-in Python, by `interp` and as an image by `run`, with 0, 1 or 10 rounds and by one word of cost or
-the other; a program by Python itself too, and each Nth image (10th) on the processor, none where
-N is 0.
+in Python, by `interp`, and as the image of `compile` by `exec`, with 0 or 1 rounds, each tenth with
+10, and by one word of cost or the other; a program by Python itself too, and each Nth image (10th)
+on the processor, none where N is 0.
 
 `interp` has to tell what the machine in Python tells, to the step. An image has to come to the same
 end with the same output and as many numbers read; where the code is stuck it has to have come as
@@ -44,7 +44,7 @@ import random_programs  # noqa: E402
 import subset  # noqa: E402
 
 COMPILER = os.environ.get("PRA", f"{TOP}/pra")
-WAYS = [(rounds, cost) for rounds in (0, 1, 10) for cost in ("size", "speed")]
+COSTS = "size", "speed"
 MOST_STEPS = 300000  # of the meaning
 STEPS_OF_ONE = 100  # steps of the machine that one of the meaning takes at most, but for `clear`
 STEPS_OF_WORD = 4  # and that it takes to clear a word
@@ -98,6 +98,11 @@ def own_program(file):
     return Case(f"programs/{name}.py", subset.compiled(text, name) + "\n", numbers, text)
 
 
+def rounds_of(number):
+    """The rounds with which the case of this number is compiled."""
+    return 10 if number % 10 == 0 else number % 2
+
+
 class Comparison:
     """The compiler, where there is one that takes code files, and what was found so far."""
 
@@ -117,8 +122,7 @@ class Comparison:
         except code_file.NoCode as error:
             self.differs(case, f"it breaks a rule: {error.lines[0]}")
             return
-        way = WAYS[number % len(WAYS)]
-        words = ["--rounds", str(way[0]), "--cost", way[1]]
+        words = ["--rounds", str(rounds_of(number)), "--cost", COSTS[number // 2 % 2]]
         frames = self.frames(case, words) if self.compiler else None
         if self.compiler and frames is None:
             return
@@ -170,17 +174,19 @@ class Comparison:
             self.differs(case, f"{' '.join(words)}: {said}, or other output")
 
     def by_image(self, number, case, words, meant):
-        steps = STEPS_OF_ONE * meant.steps + STEPS_OF_WORD * meant.cleared
+        steps = meant.steps  # of a run that goes on, which need not come as far
+        if meant.ending != "going":
+            steps = STEPS_OF_ONE * meant.steps + STEPS_OF_WORD * meant.cleared
         steps = min(steps, MOST_STEPS_OF_IMAGE)
-        image_file = f"{self.room}/it.pri"
-        told = self.call("run", case, *words, "--image", image_file, "--steps", str(steps))
+        image, text = f"{self.room}/it.pri", " ".join(map(str, case.numbers))
+        told = outcome_of([self.compiler, "exec", image, "--steps", str(steps)], text)
         self.counts["runs of images"] += 1
         found = LINE.match(told.line)
         if not found or not self.is_as_meant(told.out.decode(), found, meant):
-            said = f"run {told.line!r}, meant is {meant.line()!r}"
+            said = f"exec {told.line!r}, meant is {meant.line()!r}"
             self.differs(case, f"{' '.join(words)}: {said}, or other output")
         elif self.builder and number % self.native == 0 and found[1] == meant.ending:
-            self.by_processor(case, words, told, image_file)
+            self.by_processor(case, words, told, image)
 
     @staticmethod
     def is_as_meant(out, found, meant):
@@ -199,7 +205,7 @@ class Comparison:
         found = outcome_of([f"{self.room}/it"], " ".join(map(str, case.numbers)))
         self.counts["runs on the processor"] += 1
         if found != without_steps(told):
-            said = f"native {found.line!r}, run {told.line!r}"
+            said = f"native {found.line!r}, exec {told.line!r}"
             self.differs(case, f"{' '.join(words)}: {said}, or other output")
 
     def told(self):

@@ -21,6 +21,7 @@ import code_files
 import explain
 import grade
 import lp
+import modules_as_code
 import native
 import needs
 import network
@@ -820,6 +821,25 @@ class Taken(InAFolder):
         status, out, _ = self.call(explain.main, other, "--module", self.code)
         self.assertEqual(status, 3)
         self.assertIn("is `check 0 <= v3 < 9`, and the module's is `check 0 <= v3 < 10`", out)
+
+
+@needs.from_code
+class SameImages(InAFolder):
+    """One image for a module and for its code file; modules_as_code.py tries more of them."""
+
+    def test_a_few_modules(self):
+        examples = [f"{needs.TOP}/examples/{it}.ob" for it in ("samples", "eight", "overflow")]
+        made = [modules_as_code.generated(needs.program(), it, "3", self.room) for it in (1, 2)]
+        for file in examples + made:
+            found = modules_as_code.differences(needs.program(), file, modules_as_code.ALL)
+            self.assertEqual(list(found), [], file)
+
+    def test_a_difference_is_told(self):
+        module, other = self.file("x.ob", "MODULE M; BEGIN Write(7) END M."), code_of(plain())
+        with mock.patch.object(code_files, "of_module", return_value=other):
+            found = modules_as_code.differences(needs.program(), module, [(0, "size")])
+            told = "x.ob --rounds 0 --cost size: another {} as a code file"
+            self.assertEqual(list(found), [told.format("image"), told.format("report")])
 
 
 def behind_a_body(value):

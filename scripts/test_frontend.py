@@ -501,8 +501,8 @@ class Compared(unittest.TestCase):
         given. What it runs is the machine in Python."""
 
         def call(command, text):
-            mode = command[1]
-            with open(command[4], "rb") as held:
+            mode, name = command[1], command[2].replace("it.pri", "it.code")
+            with open(name if mode == "exec" else command[4], "rb") as held:
                 file = code_file.read(held.read())
             frames = file.least_frames()
             if mode == "compile":
@@ -526,8 +526,8 @@ class Compared(unittest.TestCase):
         self.assertEqual((same.differences, same.counts["runs of images"]), ([], 3))
         frames = "\n".join(["procedure 0 P frame 700000"] * 10).encode()
         for answers, words in (
-            ({"run": {"out": b" 7"}}, "or other output"),
-            ({"run": {"line": "machine access steps 1 reads 0"}}, "run 'machine access"),
+            ({"exec": {"out": b" 7"}}, "or other output"),
+            ({"exec": {"line": "machine access steps 1 reads 0"}}, "exec 'machine access"),
             ({"interp": {"status": 70}}, "interp "),
             ({"compile": compare_codes.Outcome(0, frames, "")}, "trap Stack"),
             ({"compile": compare_codes.Outcome(3, b"", "fault code")}, "compile says 'fault code'"),
