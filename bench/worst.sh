@@ -3,8 +3,9 @@
 # take: modules that keep all limits and have the largest networks (compiled with ten rounds and
 # with none) or nest deepest (in little stack), one whose units are the longest (run by its
 # meaning), small certificates about many live variables, and large ones that are refused (both
-# checked). Seconds are of a processor. The last line tells how many took more than they may; a
-# compiler that is not named is built: worst.sh [--compiler PROGRAM]
+# checked), and code files with as much of everything as there may be, and such that are refused.
+# Seconds are of a processor. The last line tells how many took more than they may; a compiler that
+# is not named is built: worst.sh [--compiler PROGRAM]
 set -eu
 bench=$(cd "$(dirname "$0")" && pwd)
 program=
@@ -76,6 +77,17 @@ limits() {
 }
 
 over=0
+for text in *.code; do
+    measured $(limits "$text") "$text compile, 0 rounds" \
+        "$program" compile --from code "$text" --rounds 0 || over=$((over + 1))
+    case "$text" in
+    refused_*) ;;
+    *)
+        measured 60 1024 "$text compile, 10 rounds" "$program" compile --from code "$text" ||
+            over=$((over + 1))
+        ;;
+    esac
+done
 for text in *.cert; do
     measured $(limits "$text") "$text check" "$program" check "$text" || over=$((over + 1))
 done

@@ -9,6 +9,10 @@ phrases may, for the stack. One runs long by the units that `interp` counts.
 Certificates are small texts about code with many live variables; but for one of them they claim no
 routes, or routes without a place, so that a checker may refuse them without a network. The large
 ones are JSON of 16 MiB: objects that no certificate has, and lists of its smallest parts.
+
+Code files have as many procedures as there may be, or one with as many instructions or variables;
+or variables that all live through all instructions, so that the network is larger than the text.
+Others are refused: lists of 16 MiB with too many parts, and code that breaks a rule at its end.
 """
 
 import json
@@ -19,7 +23,9 @@ LOCALS = 126
 VARIABLES = 16383
 BLOCKS = 4098
 DEEPEST = 62  # statements and operands that nest in the module's body
-MAX_BYTES = 16 << 20  # of a certificate
+MAX_BYTES = 16 << 20  # of a certificate or a code file
+PROCEDURES = 65536
+INSTRUCTIONS = 8321
 
 
 def procedure(number, statement, nodes):
@@ -157,9 +163,9 @@ def leaps():
     return [*blocks, [0, [], ["return"]]]
 
 
-def long_block(instructions):
+def long_block(instructions, variables=VARIABLES):
     """One block with a circle of its own behind the entry, all variables live all through it."""
-    some = 3 * ((VARIABLES - 1) // 3)
+    some = 3 * ((variables - 1) // 3)
     code = [["line"]] * (instructions - some // 3) + reads(some)
     return [jump(2), jump(1, *code), [0, [], ["return"]]]
 
@@ -195,6 +201,75 @@ def large():
     return texts
 
 
+def code_file(*procedures):
+    """The text of a code file whose procedures have these numbers of variables and these blocks."""
+    made = [
+        {"args": 0, "aggregates": 0, "vars": [["plain"]] * count, "blocks": blocks, "name": "P"}
+        for count, blocks in procedures
+    ]
+    whole = {"data_words": 0, "kind": "pra-code", "procs": made, "version": 1}
+    return json.dumps(whole, separators=(",", ":"))
+
+
+def one_block(*code):
+    return [[0, list(code), ["return"]]]
+
+
+def mixed(variables):
+    """As many instructions as there may be, on so many variables in turn."""
+    begin = [["set", v, v] for v in range(variables)]
+    turns = ((at % variables, (7 * at + 3) % variables) for at in range(INSTRUCTIONS))
+    code = [["add", to, of if of != to else to - 1] for to, of in turns]
+    end = [["write", v] for v in range(variables)]
+    return one_block(*begin, *code[: INSTRUCTIONS - 2 * variables], *end)
+
+
+def short_lives():
+    """Each variable is written and read at once."""
+    pairs = ([["set", v, 1], ["write", v]] for v in range(INSTRUCTIONS // 2))
+    return one_block(*sum(pairs, []))
+
+
+def read_at_the_entry(blocks):
+    """Blocks that break a rule, as the entry reads what nobody wrote."""
+    depth, code, end = blocks[0]
+    return [[depth, [["write", 0], *code], end], *blocks[1:]]
+
+
+def codes():
+    """Code files that are compiled."""
+    short = [["set", 0, 1], *[["neg", 0]] * 14]
+    return {
+        "small_65536.code": code_file(*[(0, one_block())] * PROCEDURES),
+        "short_65536.code": code_file(*[(1, one_block(*short))] * PROCEDURES),
+        "mixed_30.code": code_file((30, mixed(30))),
+        "lives_16383.code": code_file((VARIABLES, short_lives())),
+        "wide_100.code": code_file((100, long_block(1000, 100))),
+        "wide_300.code": code_file((300, long_block(1000, 300))),
+    }
+
+
+def refused_codes():
+    """Code files that are refused."""
+    short = [["set", 0, 1], *[["neg", 0]] * 14]
+    texts = {}
+    for name, part, procedure in (
+        ("lines", '["line"]', (0, one_block(["line"]))),
+        ("blocks", '[0,[],["return"]]', (0, one_block())),
+        ("plains", '["plain"]', (1, one_block())),
+    ):
+        before, behind = code_file(procedure).split(part)
+        texts[f"refused_{name}.code"] = filled(part, before, behind)
+    return texts | {
+        "refused_procedures.code": code_file(*[(0, one_block())] * (MAX_BYTES // 77)),
+        "refused_last.code": code_file(
+            *[(1, one_block(*short))] * (PROCEDURES - 1), (1, one_block(["write", 0]))
+        ),
+        "refused_wide.code": code_file((VARIABLES, read_at_the_entry(long_block(8300)))),
+        "refused_leaps.code": code_file((VARIABLES, read_at_the_entry(leaps()))),
+    }
+
+
 def all_texts():
     """All inputs, by the names of their files."""
     return {
@@ -217,6 +292,8 @@ def all_texts():
         "leaps.cert": certificate(leaps()),
         "long.cert": certificate(long_block(8300), [[]] * VARIABLES),
         **large(),
+        **codes(),
+        **refused_codes(),
     }
 
 

@@ -136,6 +136,23 @@ class Inputs(unittest.TestCase):
                     self.assertEqual(told.returncode, 3)
                     self.assertRegex(told.stderr, "^fault certificate (form|procedure 0 .*)\n$")
 
+    @needs.from_code
+    def test_code_files_are_what_they_are_said_to_be(self):
+        for name, text in {**worst_inputs.codes(), **worst_inputs.refused_codes()}.items():
+            self.assertLessEqual(len(text), worst_inputs.MAX_BYTES, name)
+        with (
+            mock.patch.object(worst_inputs, "MAX_BYTES", 400000),
+            mock.patch.object(worst_inputs, "PROCEDURES", 300),
+        ):
+            for name, text in {**worst_inputs.codes(), **worst_inputs.refused_codes()}.items():
+                told = self.ran("cert", name, text, "--from", "code", "--rounds", "0")
+                with self.subTest(name=name):
+                    if name.startswith("refused_") and "procedures" not in name:
+                        number = 299 if "last" in name else 0
+                        self.assertEqual(told.stderr, f"fault code procedure {number}\n")
+                    else:
+                        self.assertEqual((told.returncode, told.stderr), (0, ""))
+
 
 if __name__ == "__main__":
     unittest.main()

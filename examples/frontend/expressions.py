@@ -104,7 +104,7 @@ class Expressions(Code):
     def divided(self, name, left, right):
         """Quotient or remainder, floored. Selected code has them rounded to 0, and by d > 0."""
         if not self.scope.is_library and (self.number_in(right) or 0) <= 0:
-            return self.called(self.program.scope(self.program.library[name]), [left, right])
+            return self.called(self.program.scope(self.program.supplied[name]), [left, right])
         if self.scope.is_library:
             self.emit("checkpos", right)
         dividend, quotient, remainder = self.fresh(left), self.variable(), self.variable()
@@ -140,7 +140,7 @@ class Expressions(Code):
             case "len", [of], []:
                 return self.length(self.list_at(of))
             case name, args, []:
-                library = self.program.library if name in ("abs", "min", "max") else {}
+                library = self.program.supplied if name in ("abs", "min", "max") else {}
                 it = self.program.own.get(name) or library.get(name) or refuse(node)
                 scope = self.program.scope(it)
                 if len(args) == len(scope.parameters):

@@ -86,7 +86,7 @@ class Program:
         self.constants, self.shared, self.scopes = {}, {}, {}
         self.data_words = 1  # the first is what a function returns
         with open(LIBRARY, encoding="utf-8") as text:
-            self.library = self.functions_of(ast.parse(text.read()))
+            self.supplied = self.functions_of(ast.parse(text.read()))
         self.own = self.functions_of(tree)
         for node in tree.body:
             if isinstance(node, ast.Assign) and ast.unparse(node.targets[0]).isupper():
@@ -124,7 +124,7 @@ class Program:
     def scope(self, node):
         """The scope of a function; one of the library becomes part of the program by that."""
         if node not in self.scopes:
-            is_library = node in self.library.values()
+            is_library = node in self.supplied.values()
             self.scopes[node] = Scope(self, node, len(self.scopes), is_library)
         return self.scopes[node]
 

@@ -121,7 +121,7 @@ class Statements(Expressions):
             case ast.Name(name), ast.BinOp(ast.List([each]), ast.Mult(), _):
                 element = self.value(each)
                 self.known.add(name)
-                fill = self.program.scope(self.program.library["fill"])
+                fill = self.program.scope(self.program.supplied["fill"])
                 self.called(fill, [*self.passed(target, True), element])
             case ast.Tuple(targets), ast.Tuple(values) if len(targets) == len(values):
                 for it, each in zip(targets, [self.fresh(self.value(it)) for it in values]):
