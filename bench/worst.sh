@@ -70,6 +70,11 @@ limits() {
     large_routes.cert) echo 6 1100 ;;
     large_caps.cert | large_lines.cert) echo 5 650 ;;
     large_*.cert) echo 4 450 ;;
+    refused_last.code | refused_procedures.code) echo 6 500 ;;
+    refused_lines.code) echo 5 650 ;;
+    refused_blocks.code | refused_plains.code) echo 4 450 ;;
+    small_65536.code) echo 3 300 ;;
+    short_65536.code) echo 12 800 ;;
     copies_27.ob) echo 6 300 ;;
     remainders_28.ob) echo 16 300 ;;
     *) echo 2 300 ;;
