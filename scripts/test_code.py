@@ -803,6 +803,33 @@ class Taken(InAFolder):
         self.assertIn("The allocation of the code Sort.", text)
         self.assertIn("procedure 1 Insert, 2 arguments", text)
 
+    def compiled(self):
+        """The image of the code file, and the report on it."""
+        image, report = f"{self.room}/x.pri", f"{self.room}/x.txt"
+        command = [needs.program(), "compile", self.code, "--from", "code", "--image", image]
+        with open(report, "wb") as file:
+            subprocess.run(command, stdout=file, check=True)
+        return image, report
+
+    def test_functions_for_c(self):
+        image, report = self.compiled()
+        words = image, "--assembly", "-o", f"{self.room}/x.s", "--report", report
+        words = *words, "--module", self.code
+        self.assertEqual(self.call(native.main, *words), (0, "", ""))
+        with open(f"{self.room}/x.h", encoding="utf-8") as header:
+            self.assertIn("\nvoid Sort_Insert(int argument_0, int argument_1);\n", header.read())
+
+    @needs.gcc_32
+    def test_a_native_program(self):
+        image, report = self.compiled()
+        words = image, "-o", f"{self.room}/x", "--report", report
+        self.assertEqual(self.call(native.main, *words), (0, "", ""))
+        how = {"input": b"3 1 2 5 4 9 8 7 6 0", "capture_output": True, "check": False}
+        ran = subprocess.run([f"{self.room}/x"], **how)
+        wanted = subprocess.run([needs.program(), "exec", image], **how)
+        self.assertEqual((ran.returncode, ran.stdout), (wanted.returncode, wanted.stdout))
+        self.assertEqual(ran.returncode, 0)
+
     def test_grades(self):
         allocator = f"{needs.TOP}/examples/allocator/allocate.py"
         words = "--command", f"{sys.executable} {allocator}"
