@@ -170,7 +170,8 @@ def main():
 
 def visits(with_settings):
     with open(f"{TOP}/crates/pra_compile/src/visits.rt", encoding="utf-8") as source:
-        return plain(source.read(), "visits" if with_settings else None)
+        made = plain(source.read(), "visits" if with_settings else None)
+    return made.replace("use cert_form::NamedCode", "use crate::code::NamedCode")
 
 
 main()

@@ -109,8 +109,13 @@ fn seq<T>(items: Vec<T>) -> Seq<T> {
     Seq::from_vec(plain::Vec(items))
 }
 
+/// The code of a procedure, as a module has it.
+pub struct NamedCode {
+    pub code: VProc,
+}
+
 /// The procedures of a module.
-pub fn read(text: &str) -> Vec<VProc> {
+pub fn read(text: &str) -> Vec<NamedCode> {
     let mut procs: Vec<VProc> = Vec::new();
     let mut vars = Vec::new();
     let mut blocks: Vec<Block> = Vec::new();
@@ -142,5 +147,5 @@ pub fn read(text: &str) -> Vec<VProc> {
             _ => code.push(it.instruction()),
         }
     }
-    procs
+    procs.into_iter().map(|code| NamedCode { code }).collect()
 }

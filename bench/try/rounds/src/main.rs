@@ -9,6 +9,7 @@ mod code;
 mod visits;
 
 use al_round::{Rounds, Verdict, Watch};
+use code::NamedCode;
 use net_cost::{CostModel, Event, Weights};
 use net_form::Line;
 use plain::Global;
@@ -38,7 +39,7 @@ fn main() {
         let codes = code::read(&std::fs::read_to_string(file).unwrap());
         let begun = Instant::now();
         let visits = visits::shared_visits(Global, &codes).unwrap();
-        for (number, code) in codes.iter().enumerate() {
+        for (number, NamedCode { code }) in codes.iter().enumerate() {
             print!("{name} {number}");
             for line in rounds_of(code, rounds, weights, visits[number]) {
                 print!(" {} {}", line.cost, line.bound);
