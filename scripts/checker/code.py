@@ -1,6 +1,6 @@
 """The reason `code`: what speaks against a procedure's code, rule by rule, in words.
 
-The rules and their numbers are those of docs/CERTIFICATES.md. Of code that names what is not there,
+The rules and their numbers are those of docs/CODE.md. Of code that names what is not there,
 or is larger than a procedure may be, the other rules are not asked. A network is made of code that
 keeps them all, and of no other.
 """

@@ -17,7 +17,7 @@ LONG_NATURAL = 0, (1 << 64) - 1
 LONG_INTEGER = -(1 << 63), (1 << 63) - 1
 PLACE = 0, PLACES - 1
 
-# What stands behind the name of an instruction: the letters of docs/CERTIFICATES.md.
+# What stands behind the name of an instruction: the letters of docs/CODE.md.
 INSTRUCTIONS = {
     "set": "v c",
     "copy": "v s",
