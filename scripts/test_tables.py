@@ -5,7 +5,7 @@ import os
 import unittest
 
 import needs
-from tables import expressions, modules, placing, rows, sweeps, tool
+from tables import expressions, modules, placing, rounds, rows, sweeps, tool
 
 DRAWN = 300  # expressions of each kind
 SEED = 1
@@ -40,6 +40,10 @@ class Tables(unittest.TestCase):
     @needs.compiler
     def test_each_choice_of_places(self):
         self.check_rows(sweeps.differences, rows.rows_of("choices"))
+
+    @needs.compiler
+    def test_rounds(self):
+        self.check(rounds.differences, rounds.codes(), lambda it: it[0])
 
     @needs.compiler
     def test_modules_by_image_and_meaning(self):

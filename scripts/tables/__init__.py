@@ -5,5 +5,6 @@
 - `tool`: what calls of the compiler make of a row.
 - `placing`: code that is placed by routes of its row, and run.
 - `sweeps`: one instruction, with each choice of places that the network admits.
-- `modules`: modules and expressions, by their image and by their meaning.
+- `rounds`: what rounds come to, of the codes of tests_price.
+- `modules`, `expressions`: modules, by their image and by their meaning.
 """
