@@ -36,7 +36,7 @@ LAYERS = (
     ("`pra_`, the whole: compiler, tool and program", ("pra",)),
     ("tests, what serves them, and measurements", ("",)),
 )
-SERVE_TESTS = ("pl_run", "ia_sketch")  # whose names are those of a layer
+SERVE_TESTS = ("ia_sketch",)  # whose names are those of a layer
 PARTS = {  # what stands between two marks of a page
     "docs/ARCHITECTURE.md": "crates",
     "docs/PROVED.md": "laws",

@@ -3,12 +3,12 @@
 
     rows.py [COMMIT]    COMMIT is one before, or else the last one
 
-Tests are the crates tests_*, the files tests.rt of others, and the files of rows in tests/. Of each
-a line tells how many test functions, lines of text tables, tuples, assertions and calls it has. A
-text table is a string of more than one line; a tuple stands on lines of its own in a list of cases;
-calls are those of rows. Below the sums stands each line of a table and each call that was there and
-is no more, whichever crate or file has it now: `= ` before a line counts for nothing. The status is
-1 where there is such a line or call.
+Tests are the crates tests_*, the files tests.rt of others, and the files of rows and the tables in
+tests/. Of each a line tells how many test functions, lines of text tables, tuples, assertions and
+calls it has. A text table is a string of more than one line, or a file of tests/; a tuple stands on
+lines of its own in a list of cases; calls are those of rows. Below the sums stands each line of a
+table and each call that was there and is no more, whichever crate or file has it now: `= ` before a
+line counts for nothing. The status is 1 where there is such a line or call.
 """
 
 import collections
@@ -24,7 +24,7 @@ from calls import reader
 
 TOP = os.path.dirname(os.path.dirname(os.path.realpath(__file__)))
 TESTS = re.compile(
-    r"crates/(tests_\w+)/src/.*\.rt$|crates/(\w+)/src/tests\.rt$|(tests/\w+\.rows)$"
+    r"crates/(tests_\w+)/src/.*\.rt$|crates/(\w+)/src/tests\.rt$|(tests/\w+\.(?:rows|table))$"
 )
 TOKEN = re.compile(r"""//[^\n]*|"((?:[^"\\]|\\.)*)"|'(?:\\.|[^'\\])'""", re.S)
 TEST = re.compile(r"#\[test\]")
@@ -39,14 +39,20 @@ def git(*words):
     ).stdout
 
 
+def lines_of_text(text):
+    """The lines of a text table, without what joins two of them."""
+    text = re.sub(r"\\\n\s*", "", text).replace("\\n", "\n")
+    found = (line.strip().removeprefix("= ") for line in text.split("\n"))
+    return [line for line in found if line]
+
+
 def lines_of(source):
-    """The lines of the text tables of a file, without what joins two of them."""
+    """The lines of the text tables of a file."""
     found = []
     for it in TOKEN.finditer(source):
         if it[1] and "\n" in it[1]:
-            text = re.sub(r"\\\n\s*", "", it[1]).replace("\\n", "\n")
-            found += [line.strip().removeprefix("= ") for line in text.split("\n")]
-    return [line for line in found if line]
+            found += lines_of_text(it[1])
+    return found
 
 
 def calls_of(source):
@@ -66,6 +72,11 @@ def counted(sources):
             own = list(calls_of(source))
             lines.update(own)
             counts[crate_of(path)]["calls"] += len(own)
+            continue
+        if path.endswith(".table"):
+            own = lines_of_text(source.partition("\n\n")[2])
+            lines.update(own)
+            counts[crate_of(path)]["lines"] += len(own)
             continue
         own = lines_of(source)
         lines.update(own)

@@ -45,8 +45,15 @@ class Rows(unittest.TestCase):
         self.assertEqual(rows.crate_of("crates/tests_low/src/a/lists.rt"), "tests_low")
         self.assertEqual(rows.crate_of("crates/pra_list/src/tests.rt"), "pra_list")
         self.assertEqual(rows.crate_of("tests/words.rows"), "tests/words.rows")
+        self.assertEqual(rows.crate_of("tests/near.table"), "tests/near.table")
         self.assertIsNone(rows.crate_of("crates/pra_list/src/seq.rt"))
         self.assertIsNone(rows.crate_of("crates/tests_low/specs/Lib.antt"))
+
+    def test_lines_of_a_file(self):
+        file = "What it has.\n\n# a row\nset v0 \\\n    5\n= 7 ended 0\n"
+        counts, lines = rows.counted({"tests/a.table": file})
+        self.assertEqual(counts["tests/a.table"], {"lines": 3})
+        self.assertEqual(list(lines), ["# a row", "set v0 5", "7 ended 0"])
 
     def test_calls_of_rows(self):
         both = "A file.\n\n# a row\n    MODULE M;\n$ run M.ob\n$ list M.ob\n= 3\n! fault\n"

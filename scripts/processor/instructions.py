@@ -4,8 +4,8 @@
 
 Compared with the step table (machine.py) are the registers, the flags that the table defines and
 the place behind each step, and data and stack at the end. There are three parts: the rows of
-instructions that tests_machine has, each on a state of chance; each form of each instruction
-(forms.py); and the rows of bare programs of tests_machine, held to what is written there as well.
+instructions that tests_layers has, each on a state of chance; each form of each instruction
+(forms.py); and the rows of bare programs of tests_layers, held to what is written there as well.
 Then a table says what the processor left in flags that the step table calls unknown. N is where the
 numbers of chance begin. The status is 1 where there is a difference.
 """
@@ -25,7 +25,7 @@ from processor.image import Refused
 from processor.machine import CODE_BASE, EAX, FLAGS, Ending, Machine
 
 TOP = os.path.dirname(os.path.dirname(os.path.dirname(os.path.realpath(__file__))))
-SOURCES = f"{TOP}/crates/tests_machine/src"
+SOURCES = f"{TOP}/crates/tests_layers/src"
 BITS = {"cf": 0, "zf": 6, "sf": 7, "of": 11}  # of EFLAGS
 RECORD = struct.Struct("<11I")  # EDI to EAX, EIP, EFLAGS, the flags that are known
 TRACED_STACK = 1024

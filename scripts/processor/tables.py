@@ -1,4 +1,4 @@
-"""The tables of tests_machine, read as they stand in its sources."""
+"""The tables of tests_layers, read as they stand in its sources."""
 
 import re
 

@@ -3,13 +3,11 @@
 //! `rows` has the codes and what is said of them, and `tabled` goes through the tables. At prices,
 //! `at_prices` asks `priced` for values and least paths, `planned` for plans, orders and how laying
 //! ends, and `laid` for paths that are laid or are not. `settled` has what settling makes of routes,
-//! `rounded` what rounds come to, and `any_code` what holds of each code, whatever its row says, with
-//! `raised` for what an ascent finds. `reading`, `putting` and `made` are what all share. Nothing
-//! here is used by another crate.
+//! `rounded` what the first round tries, and `raised` that an ascent finds the same once more; what
+//! rounds come to is tried from outside (scripts/tables/rounds.py). `reading`, `putting` and `made`
+//! are what all share. Nothing here is used by another crate.
 #![tactic(auto)]
 
-#[cfg(test)]
-mod any_code;
 #[cfg(test)]
 mod at_prices;
 #[cfg(test)]

@@ -1,13 +1,13 @@
-// What each row of the tables says, and what holds of each code.
+// What each row of the tables says, and that an ascent finds the same once more.
 
 ghost use Rattle.net_cost.specs.Models.{Keeps};
 ghost use Rattle.net_laws.specs.Built.{IsBuilt};
 
-use crate::any_code::differs_from_any;
 use crate::at_prices::differs_at_prices;
 use crate::made::network_of;
+use crate::raised::is_raised_again;
 use crate::reading::field;
-use crate::rounded::differs_in_rounds;
+use crate::rounded::differs_in_first_round;
 use crate::rows;
 use crate::settled::differs_on_routes;
 use net_cost::{CostModel, Event, Weights};
@@ -33,10 +33,13 @@ fn differs_by<F: Fn(Event, u32) -> u32>(
     if let Some(text) = differs_on_routes(alloc, net, model, row)? {
         return Ok(Some(text));
     }
-    if let Some(text) = differs_in_rounds(alloc, net, model, row)? {
+    if let Some(text) = differs_in_first_round(alloc, net, model, row)? {
         return Ok(Some(text));
     }
-    differs_from_any(alloc, net, model)
+    if is_raised_again(alloc, net, model)? {
+        return Ok(None);
+    }
+    Ok(Some(String::from_str(alloc, "an ascent finds something else")?))
 }
 
 fn differs_by_size(alloc: Global, net: &Net, row: &str) -> Result<Option<String>, OutOfMemory>

@@ -1,0 +1,51 @@
+//! Tests of the public calls of single layers that no word of the tool reaches.
+//!
+//! Of the front `lexical`, `grammar` and `meaning` (rows in `meaning_rows`; `sources` says how a row
+//! writes a source). Of selection `operands`, `templates`, `runs`, `liveness` and `tidy`. Of the
+//! network `networks`, `network_routes` with `verdicts`, and `moves`. Of the machine
+//! `instructions`, `programs` (rows in `program_rows`) and `image_files`. `lists` has lists and
+//! owned values.
+//!
+//! Each module has tables, in which a row costs no proof, and the functions that read them. They
+//! stand in one crate because each crate of tests proves and builds the layers below anew. Nothing
+//! here is used by another crate.
+#![tactic(auto)]
+
+#[cfg(test)]
+mod grammar;
+#[cfg(test)]
+mod image_files;
+#[cfg(test)]
+mod instructions;
+#[cfg(test)]
+mod lexical;
+#[cfg(test)]
+mod lists;
+#[cfg(test)]
+mod liveness;
+#[cfg(test)]
+mod meaning;
+#[cfg(test)]
+mod meaning_rows;
+#[cfg(test)]
+mod moves;
+#[cfg(test)]
+mod network_routes;
+#[cfg(test)]
+mod networks;
+#[cfg(test)]
+mod operands;
+#[cfg(test)]
+mod program_rows;
+#[cfg(test)]
+mod programs;
+#[cfg(test)]
+mod runs;
+#[cfg(test)]
+mod sources;
+#[cfg(test)]
+mod templates;
+#[cfg(test)]
+mod tidy;
+#[cfg(test)]
+mod verdicts;
