@@ -27,7 +27,6 @@ sys.path.insert(0, compare_codes.FRONTEND)
 
 import meaning  # noqa: E402
 import random_programs  # noqa: E402
-import scopes  # noqa: E402
 import subset  # noqa: E402
 
 FRONTEND = compare_codes.FRONTEND
@@ -105,10 +104,10 @@ ERRORS = (
     ("if int(input()):\n    z = 1\nprint(z)", 3, "`z` may have no value"),
     ("for i in range(3):\n    z = i\nprint(z)", 3, "`z` may have no value"),
     ("def f(n):\n    if n:\n        return 1\nprint(f(0))", 1, "may end without a value"),
-    ("def f(n):\n    if n:\n        return\n    return 1\nf(0)", 3, "at each return, or at none"),
+    ("def f(n):\n    if n:\n        return\n    return 1\nf(0)", 3, "may end without a value"),
     ("def f(n):\n    print(n)\nx = f(1)", 3, "no number"),
     ("def f(n):\n    return n\nf()", 3, "takes other arguments"),
-    ("def f(a: list):\n    a[0] = 1\nf(3)", 3, "a list is wanted"),
+    ("def f(a: list):\n    a[0] = 1\nf(3)", 3, "`3` may have no value here, or is no list"),
     ("def f(*a):\n    pass", 1, "parameters are names alone"),
     ("def f():\n    pass\ndef f():\n    pass", 3, "before this one"),
     ("def print(n):\n    pass", 1, "before this one"),
@@ -116,11 +115,11 @@ ERRORS = (
     ("a = [1, 2]\na = [1]", 2, "one length"),
     ("a = [0] * int(input())", 1, "one length"),
     ("N = 5\nN = 6", 2, "a constant"),
-    ("N = 5\nfor N in range(2):\n    pass", 2, "can't be given a value"),
+    ("N = 5\nfor N in range(2):\n    pass", 2, "`N` is a function or a constant"),
     ("N = 5\ndef f(N):\n    pass", 2, "`N` is a function or a constant"),
     ("x = 1 < 2 < 3", 1, "two numbers are compared"),
     ("x = 1 / 2", 1, "not in the subset"),
-    ("x = int(input()) and 6", 1, "no number"),
+    ("x = int(input()) and 6", 1, "not in the subset"),
     ("for i in range(1, 2, 0):\n    pass", 1, "is known and not 0"),
     ("for i in [1, 2]:\n    pass", 1, "not in the subset"),
     ("while 1:\n    pass\nelse:\n    pass", 1, "not in the subset"),
@@ -218,12 +217,11 @@ class Subset(unittest.TestCase):
         self.assertEqual(comparison.differences, [])
         self.assertEqual(comparison.counts["runs by Python"], 12)
 
-    def test_modules_of_it_are_short(self):
-        for name in ("subset", "expressions", "scopes", "emit"):
-            self.assertLessEqual(len(text_of(f"{FRONTEND}/{name}.py").splitlines()), 300)
+    def test_it_is_short(self):
+        self.assertLessEqual(len(text_of(f"{FRONTEND}/subset.py").splitlines()), 390)
 
     def test_a_node_that_is_refused_has_words(self):
-        with self.assertRaises(scopes.Refused):
+        with self.assertRaises(SyntaxError):
             subset.compiled("lambda: 1", "it")
 
 
