@@ -218,7 +218,7 @@ class Subset(unittest.TestCase):
         self.assertEqual(comparison.counts["runs by Python"], 12)
 
     def test_it_is_short(self):
-        self.assertLessEqual(len(text_of(f"{FRONTEND}/subset.py").splitlines()), 390)
+        self.assertLessEqual(len(text_of(f"{FRONTEND}/subset.py").splitlines()), 300)
 
     def test_a_node_that_is_refused_has_words(self):
         with self.assertRaises(SyntaxError):

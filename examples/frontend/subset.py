@@ -4,45 +4,30 @@
     subset.py FILE.py >FILE.code
 
 Numbers wrap at 32 bits; truth values are 1 and 0. A list is [x] * N or [x, y, ..], of a length that
-is known there, or a parameter `items: list`. A number in capitals is a constant, defined once and
+is known there, or a parameter `items: list`. A number in capitals is a constant, defined once,
 outside of all. There are if, while, for .. in range(..) with a known step, break, continue,
 functions with recursion, `global`, + - * // % & | ^, relations of two, `a if c else b`, in tests
-and, or, not; int(input()), print, also with end=" ", len, abs, min and max. All else is refused
-with its line, and so is a name that may have no value. An index that is not in its list traps, also
-one below 0, and so do a division by 0, an input where none is left, and calls too deep.
+and, or, not; int(input()), print (with end=" " too), len, abs, min, max. All else is refused with
+its line, and so is a name that may have no value. An index outside of its list traps, also one
+below 0, and so do a division by 0, an input where none is left, and calls too deep.
 """
 
 import ast
-import json
 import pathlib
 import re
 import sys
 from collections import namedtuple
 from types import SimpleNamespace
 
+from emit import Block, Code, TooLarge, text_of
+
 OPERATORS = {ast.Add: "add", ast.Sub: "sub", ast.Mult: "mul"}
 OPERATORS |= {ast.BitAnd: "and", ast.BitOr: "or", ast.BitXor: "xor"}
 CONDITIONS = {ast.Eq: 4, ast.NotEq: 5, ast.Lt: 12, ast.GtE: 13, ast.LtE: 14, ast.Gt: 15}
 LESS, NOT_BELOW = 12, 3  # NOT_BELOW is of numbers without a sign
-MOST = {"instructions": 8321, "blocks": 4098, "variables": 16383, "words of arguments": 32}
-MOST |= {"words of its own": 65536, "words of data": 4194304}
 RESULT = ["global", 0, 0, None]  # where a function leaves what it returns
 PARAMETERS = re.compile(r"(\w+(: (int|list))?(, )?)*")
 TAKEN = ("print", "input", "int", "len", "range")
-# What becomes part of a program that asks for it. In the quotient itself // is the instruction,
-# which wants a divisor above 0. Below 0 the least number alone is its own negative.
-LIBRARY = """
-def abs(a): return -a if a < 0 else a
-def min(a, b): return b if b < a else a
-def max(a, b): return b if b > a else a
-def fill(items: list, value):
-    for i in range(len(items)): items[i] = value
-def quotient(a, d):
-    if d >= 0: return a // d
-    if d == -d: return 1 if a == d else -(a > 0)
-    down = a // -d
-    return -down - (a + down * d != 0)
-"""
 # Where a list begins, and its length; of a parameter that is in the variable behind its address.
 List = namedtuple("List", "base number length")
 
@@ -52,24 +37,15 @@ def want(holds, node, words="this is not in the subset"):  # else the node is re
         raise SyntaxError(words, ("", node.lineno, 0, ""))
 
 
-class Block:  # its end names blocks themselves
-    def __init__(self, unknown=()):
-        self.depth, self.code, self.end = 0, [], ()
-        self.unknown = {*unknown}  # names that may have no value here, and "" if control comes here
-
-
-class Procedure(ast.NodeVisitor):
-    """The code of a function as it grows. Methods visit_X for expressions give the variable that
-    holds the value; there may be thousands, as it is the back end that finds registers."""
+class Procedure(Code, ast.NodeVisitor):
+    """The code of a function. Methods visit_X for expressions give the variable with the value."""
 
     def __init__(self, program, node):
         self.program, self.node, self.is_body = program, node, node is program.order[0]
-        self.vars, self.words, self.loops, self.exit = [], 0, [], Block()
         shared = {name: it for name, it in program.names.items() if name in node.shared}
         self.names = program.names if self.is_body else shared
         asked = {it.id for it in ast.walk(node) if isinstance(it, ast.Name)}
-        self.block = Block({"", *asked} - {*shared})
-        self.blocks, self.unknown = [self.block], self.block.unknown
+        super().__init__(asked - {*shared})
 
     def compiled(self):  # the procedure as it stands in a code file
         for it, is_list in zip(self.node.args.args, self.node.lists):
@@ -78,48 +54,10 @@ class Procedure(ast.NodeVisitor):
             self.made(ast.Name(it.arg, lineno=it.lineno), None if is_list else 0)
         args = len(self.vars)
         self.run([*self.node.body, ast.Return(lineno=self.node.lineno)])
-        self.blocks[0].code[:0] = [["clear"]] if self.words else []
-        blocks = [*filter(lambda it: it.unknown, self.blocks), self.exit]
-        counts = [sum(len(it.code) for it in blocks), len(blocks), len(self.vars), args]
-        for count, (what, most) in zip([*counts, self.words, self.program.words], MOST.items()):
-            want(count <= most, self.node, f"this has {count} {what}, and at most {most} may be")
-        numbers = {block: number for number, block in enumerate(blocks)}
-        self.exit.end = ("return",)
-        blocks = [(it.depth, it.code, [numbers.get(to, to) for to in it.end]) for it in blocks]
-        name = re.sub("^[^A-Za-z]+|[^A-Za-z0-9]", "", self.node.name)[:255] or "P"
-        words = {"name": name, "args": args, "aggregates": self.words, "vars": self.vars}
-        return words | {"blocks": blocks}
-
-    def variable(self, *kind):
-        self.vars.append(kind or ("plain",))
-        return len(self.vars) - 1
-
-    def constant(self, number):
-        return self.variable("constant", (number + (1 << 31)) % (1 << 32) - (1 << 31))
-
-    def number_in(self, value):  # the number that a variable always holds, or None
-        return self.vars[value][1] if self.vars[value][0] == "constant" else None
-
-    def emit(self, name, *operands):
-        if name == "copy" and (number := self.number_in(operands[1])) is not None:
-            name, operands = "set", (operands[0], number)  # no copy is of a constant,
-        if name != "copy" or operands[0] != operands[1]:  # nor of a variable to itself
-            self.block.code.append((name, *operands))
-
-    def new(self, name, *operands, by=()):  # a new variable, which an instruction writes
-        self.emit(name, *by, variable := self.variable(), *operands)
-        return variable
-
-    def go(self, *to, by=("jump",)):  # ends the block, if it has no end
-        self.block.end = self.block.end or (*by, *to)
-        for it in to:
-            it.unknown |= self.unknown
-        self.unknown = set()
-
-    def open(self, block):  # to which control goes on, if the block before has no end
-        self.go(*[] if self.block.end else [block])
-        self.block, self.unknown, block.depth = block, block.unknown, min(len(self.loops), 5)
-        self.blocks.append(block)
+        try:
+            return self.finished(self.node.name, args, self.program.words)
+        except TooLarge as error:
+            want(False, self.node, error)
 
     def made(self, node, length=0):  # what a name stands for that gets a value; a list has a length
         is_free = node.id not in self.program.own and (length or not node.id.isupper())
@@ -154,25 +92,19 @@ class Procedure(ast.NodeVisitor):
         self.emit("check", *([index, it.length] if it.length else [outside, 1]))
         return [it.base, it.number, 0, index]
 
-    def read(self, place):
-        return place if isinstance(place, int) else self.new("load", place)
-
-    def write(self, place, value):
-        self.emit("copy" if isinstance(place, int) else "store", place, value)
-
     def handed(self, node):  # the two words of a list: its address and its length
         it = self.find(node, True)
         length = self.constant(it.length) if it.length else it.number + 1
         return [self.new("addr", [it.base, it.number, 0, None]), length]
-
-    def generic_visit(self, node):
-        want(False, node)
 
     def value(self, node):
         value = self.visit(node)
         want(value is not None, node, "this is no number")
         return value
 
+    read = lambda self, place: place if isinstance(place, int) else self.new("load", place)
+    write = lambda self, to, it: self.emit("copy" if isinstance(to, int) else "store", to, it)
+    generic_visit = lambda self, it: want(False, it)
     visit_Constant = lambda self, it: self.constant(it.value) if isinstance(it.value, int) else None
     visit_Expr = lambda self, it: self.visit(it.value)
     visit_BinOp = lambda self, it: self.operate(it, self.value(it.left), self.value(it.right))
@@ -242,16 +174,6 @@ class Procedure(ast.NodeVisitor):
             case _:
                 want(not isinstance(node, ast.Compare), node, "two numbers are compared")
                 self.test(ast.Compare(node, [ast.NotEq()], [ast.Constant(0)]), yes, no)
-
-    def choose(self, test, do, one, other):  # does it with one of two, by a test
-        yes, no, behind = Block(), Block(), Block()
-        self.test(test, yes, no)
-        self.open(yes)
-        do(one)
-        self.go(behind)
-        self.open(no)
-        do(other)
-        self.open(behind)
 
     def visit_Call(self, node):  # gives what the call gives, or None
         match node:
@@ -347,7 +269,8 @@ def compiled(text, name):  # the text of the code file of a program
     tree, body = ast.parse(text), ast.parse("def body(): pass").body[0]
     own = [it for it in tree.body if isinstance(it, ast.FunctionDef)]
     body.name, body.body = name, [it for it in tree.body if it not in own]
-    functions = dict(zip(("abs", "min", "max", "[] *", "//"), ast.parse(LIBRARY).body))
+    library = ast.parse(pathlib.Path(__file__).with_name("library.py").read_text("utf-8")).body[1:]
+    functions = dict(zip(("abs", "min", "max", "[] *", "//"), library))
     firsts = {it.name: it for it in reversed(own)}
     # Of each function the names that are not its own.
     shared = {it.co_name: {*it.co_names} for it in code.co_consts if hasattr(it, "co_names")}
@@ -363,17 +286,14 @@ def compiled(text, name):  # the text of the code file of a program
     program = SimpleNamespace(order=[body, *own], own=firsts, functions=functions | firsts)
     program.names, program.constants, program.words = {}, {}, 1  # words of data
     procedures = [Procedure(program, it).compiled() for it in program.order]  # which grows
-    words = {"kind": "pra-code", "version": 1, "data_words": program.words, "procs": procedures}
-    return json.dumps(words, sort_keys=True, separators=(",", ":"))
+    return text_of(procedures, program.words)
 
 
 def main(words):
-    file = pathlib.Path(words[0])
     try:
-        print(compiled(file.read_text(encoding="utf-8"), file.stem))
+        print(compiled((file := pathlib.Path(words[0])).read_text("utf-8"), file.stem))
     except SyntaxError as error:
         return f"{file}:{error.lineno}: {error.msg}"
-    return 0
 
 
 if __name__ == "__main__":
