@@ -1,9 +1,8 @@
-//! Images of selected code whose places a test gives, for tests and for programs that measure.
+//! Images of selected code by home routes, for programs that measure.
 //!
-//! A test writes the code and a path for each strand of its network. `PlacedModule::add` places the
-//! code by them, unless the code or the paths break a rule, and tells which one; `add_at_home`
-//! takes home routes. So whatever was added is valid placed code, and `assemble` makes the image of
-//! it with nothing to prove for the test. Nothing of the compiler stands on this crate.
+//! `PlacedModule::add_at_home` places code by home routes, unless it breaks a rule, and tells which
+//! one. So whatever was added is valid placed code, and `assemble` makes the image of it with
+//! nothing to prove for the caller. Nothing of the compiler stands on this crate.
 //!
 //! Read first `specs/Added`: what was added so far can be assembled.
 #![tactic(auto)]

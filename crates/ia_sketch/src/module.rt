@@ -10,15 +10,14 @@ ghost use Rattle.net_form.specs.Network.{IsNet};
 ghost use Rattle.pra_base.specs.Valid.{IsSized, IsValid, instruction_count as count_of};
 
 use crate::refusal::Refusal;
-use crate::routing::{given_routes, network};
+use crate::routing::network;
 use al_edge::home;
 use ia_asm::assemble;
 use ia_code::Image;
 use net_form::{Net, Routes};
 use pl_build::place;
 use pl_place::LProc;
-use pra_base::{Block, OutOfMemory, Place, VProc};
-use pra_packed::Packed;
+use pra_base::{Block, OutOfMemory, VProc};
 use std::alloc::Global;
 use std::marker::Model;
 
@@ -70,21 +69,6 @@ impl PlacedModule {
             instructions: 0,
             blocks: 0,
         }
-    }
-
-    /// Places the next procedure by a path for each strand of its network, as the strands are
-    /// numbered.
-    ///
-    /// # Errors
-    ///
-    /// The first rule that the code or the paths break; nothing has changed then.
-    pub fn add(&mut self, alloc: Global, code: &VProc, paths: Packed<Place>) -> Result<(), Refusal>
-        ensures added { OnOk result (IsAdded code.now self.old self.new) }
-        ensures refused { OnErr result (self.new ≡ self.old) }
-    {
-        let net = network(alloc, code)?;
-        let routes = given_routes(alloc, &net, paths)?;
-        self.put(alloc, code, &net, &routes)
     }
 
     /// Places the next procedure by home routes.

@@ -1,14 +1,13 @@
-// Why code and routes of a test are not placed.
+// Why code is not placed.
 
 ghost use Rattle.std.specs.Prelude.{◌≡◌};
 ghost use Rattle.ia_sketch.specs.declared.refusal.Refusal.TheVariants as refusal;
 
-use net_gate::Broken;
 use pra_base::OutOfMemory;
 use std::alloc::AllocFailed;
 use thiserror::Error;
 
-/// Why code is not placed by the paths that it was given.
+/// Why code is not placed.
 #[derive(Debug, PartialEq, Eq, Drop, Error)]
 pub enum Refusal {
     /// A variable, block or argument is not there, or there is too much of something.
@@ -16,11 +15,6 @@ pub enum Refusal {
     Size,
     #[error("the code breaks a rule of valid code")]
     Rules,
-    /// Not one path for each strand, with a place for each of its layers.
-    #[error("the paths are not those of the network's strands")]
-    Paths,
-    #[error("the network does not admit the paths: {0:?}")]
-    Admission(Broken),
     /// The module would have more instructions or blocks than an image holds for sure.
     #[error("the module has too much code")]
     Room,

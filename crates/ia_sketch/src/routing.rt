@@ -1,19 +1,13 @@
-// The network of code, and routes that it admits.
+// The network of code.
 
-ghost use Rattle.std.specs.Prelude.{◌≡◌, IfOk, IsTrue};
-ghost use Rattle.net_form.specs.Admitted.{IsAdmitted};
-ghost use Rattle.net_form.specs.Flow.{flow, AreRoutes};
-ghost use Rattle.net_form.specs.Formed.{IsFormed};
+ghost use Rattle.std.specs.Prelude.{IfOk};
 ghost use Rattle.net_form.specs.Network.{IsNet};
 ghost use Rattle.pra_base.specs.Valid.{IsSized, IsValid};
 
 use crate::refusal::Refusal;
 use net_build::build;
-use net_form::{Net, Routes, Taken};
-use net_gate::admitted;
-use pra_base::{Place, VProc};
-use pra_packed::Packed;
-use sketch::has_places;
+use net_form::Net;
+use pra_base::VProc;
 use std::alloc::Global;
 use vc_live::{is_sized, live};
 use vc_valid::is_valid;
@@ -32,25 +26,4 @@ pub(crate) fn network(alloc: Global, code: &VProc) -> Result<Net, Refusal>
         return Err(Refusal::Rules);
     }
     Ok(build(alloc, code, &live)?)
-}
-
-/// The routes of these paths, which the network has to admit.
-pub(crate) fn given_routes(
-    alloc: Global,
-    net: &Net,
-    paths: Packed<Place>,
-) -> Result<Routes, Refusal>
-    requires { IsFormed net.now }
-    ensures routes { IfOk result (AreRoutes net.now) }
-    ensures admitted { IfOk result (λ routes. IsAdmitted net.now (flow net.now routes)) }
-{
-    if !has_places(net.strands.as_slice(), &paths) {
-        return Err(Refusal::Paths);
-    }
-    let routes = Routes { places: paths };
-    let mut taken = Taken::empty(alloc, net)?;
-    match admitted(&mut taken, net, &routes) {
-        Ok(()) => Ok(routes),
-        Err(broken) => Err(Refusal::Admission(broken)),
-    }
 }
