@@ -1,0 +1,7 @@
+pub mod Keeping
+pub mod Knowing
+pub mod Origins
+pub mod Running
+pub mod Stepping
+pub mod Tracked
+pub mod Walking

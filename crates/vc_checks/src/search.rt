@@ -1,0 +1,233 @@
+// The facts that hold at the begins of blocks, as sweeps over the blocks find them: available
+// facts, met over all ways (Kildall, A unified approach to global program optimization). What is
+// found is tested by who takes it, so nothing is promised of it here.
+
+use crate::fact::Fact;
+use crate::flow::facts_at;
+use crate::known::{cannot_fail, find, pass};
+use pra_base::{BlockId, End, VInstr, VProc};
+use pra_list::Seq;
+use std::alloc::{AllocError, Global};
+
+/// So often the blocks are gone through at most: once for each loop around a block, and some more.
+const MAX_SWEEPS: u32 = 12;
+
+/// In so many sweeps the numbers of a fact may be moved apart; later the fact is given up.
+const WIDENING_SWEEPS: u32 = 4;
+
+/// The variables that a check asks for, by number.
+pub fn checked_variables(alloc: Global, code: &VProc) -> Result<Vec<bool>, AllocError> {
+    let mut wanted = Vec::with_capacity(alloc, code.vars.len())?;
+    for _ in 0..code.vars.len() {
+        wanted.push(false)?;
+    }
+    for block in code.blocks.as_slice() {
+        for instr in block.code.as_slice() {
+            if let VInstr::Check(v, _) | VInstr::CheckPos(v) = *instr {
+                mark(&mut wanted, v.0 as usize);
+            }
+        }
+    }
+    Ok(wanted)
+}
+
+fn mark(marks: &mut Vec<bool>, at: usize) {
+    if at < marks.len() {
+        marks[at] = true;
+    }
+}
+
+fn unmark(marks: &mut Vec<bool>, at: usize) {
+    if at < marks.len() {
+        marks[at] = false;
+    }
+}
+
+fn is_marked(marks: &[bool], at: usize) -> bool {
+    match marks.get(at) {
+        Some(mark) => *mark,
+        None => false,
+    }
+}
+
+/// What is found so far.
+#[derive(Debug, Drop)]
+struct Found {
+    /// The facts at the begin of each block.
+    begins: Vec<Seq<Fact>>,
+    /// Whether control is known to come to a block.
+    reached: Vec<bool>,
+    /// Whether a block has to be gone through.
+    pending: Vec<bool>,
+}
+
+fn nothing(alloc: Global, code: &VProc) -> Result<Found, AllocError> {
+    let count = code.blocks.len();
+    let mut begins = Vec::with_capacity(alloc, count)?;
+    let mut reached = Vec::with_capacity(alloc, count)?;
+    let mut pending = Vec::with_capacity(alloc, count)?;
+    for b in 0..count {
+        begins.push(Seq::new(alloc))?;
+        reached.push(b == 0)?;
+        pending.push(b == 0)?;
+    }
+    Ok(Found {
+        begins,
+        reached,
+        pending,
+    })
+}
+
+// What both facts say.
+fn wider(one: Fact, other: Fact) -> Fact {
+    Fact {
+        var: one.var,
+        low: one.low.min(other.low),
+        high: one.high.max(other.high),
+    }
+}
+
+// What both say of a variable, or nothing where this is to be given up.
+fn met(fact: Fact, others: &[Fact], widens: bool) -> Option<Fact> {
+    let other = find(others, fact.var)?;
+    let both = wider(fact, other);
+    if widens || (both.low == fact.low && both.high == fact.high) {
+        Some(both)
+    } else {
+        None
+    }
+}
+
+// What both lists say, or nothing where that is all of the first.
+fn meet(
+    alloc: Global,
+    facts: &[Fact],
+    others: &[Fact],
+    widens: bool,
+) -> Result<Option<Vec<Fact>>, AllocError> {
+    let mut both = Vec::with_capacity(alloc, facts.len())?;
+    let mut less = false;
+    for fact in facts {
+        match met(*fact, others, widens) {
+            Some(wide) => {
+                if wide.low != fact.low || wide.high != fact.high {
+                    less = true;
+                }
+                both.push(wide)?;
+            }
+            None => less = true,
+        }
+    }
+    if less { Ok(Some(both)) } else { Ok(None) }
+}
+
+fn put(found: &mut Found, b: usize, facts: Seq<Fact>) {
+    if b < found.begins.len() {
+        found.begins[b] = facts;
+    }
+    mark(&mut found.reached, b);
+    mark(&mut found.pending, b);
+}
+
+// Control comes to a block with these facts.
+fn enter(
+    alloc: Global,
+    found: &mut Found,
+    block: BlockId,
+    known: &[Fact],
+    widens: bool,
+) -> Result<(), AllocError> {
+    let b = block.0 as usize;
+    if !is_marked(found.reached.as_slice(), b) {
+        let facts = Seq::from_slice(alloc, known)?;
+        put(found, b, facts);
+        return Ok(());
+    }
+    let less = meet(alloc, facts_at(found.begins.as_slice(), b), known, widens)?;
+    if let Some(facts) = less {
+        put(found, b, Seq::from_vec(facts));
+    }
+    Ok(())
+}
+
+fn leave(
+    alloc: Global,
+    found: &mut Found,
+    end: End,
+    known: &[Fact],
+    widens: bool,
+) -> Result<(), AllocError> {
+    match end {
+        End::Jump(block) => enter(alloc, found, block, known, widens)?,
+        End::Branch(_, one, other) => {
+            enter(alloc, found, one, known, widens)?;
+            enter(alloc, found, other, known, widens)?;
+        }
+        End::Return => {}
+    }
+    Ok(())
+}
+
+// Goes through the blocks that are pending, and tells whether there was one.
+fn sweep(
+    alloc: Global,
+    code: &VProc,
+    wanted: &[bool],
+    found: &mut Found,
+    widens: bool,
+) -> Result<bool, AllocError> {
+    let mut any = false;
+    for b in 0..code.blocks.len() {
+        if is_marked(found.pending.as_slice(), b) {
+            unmark(&mut found.pending, b);
+            any = true;
+            let block = &code.blocks[b];
+            let mut known = Vec::from_slice(alloc, facts_at(found.begins.as_slice(), b))?;
+            for instr in block.code.as_slice() {
+                if !cannot_fail(code, known.as_slice(), *instr) {
+                    pass(code, wanted, &mut known, *instr)?;
+                }
+            }
+            leave(alloc, found, block.end, known.as_slice(), widens)?;
+        }
+    }
+    Ok(any)
+}
+
+// Where control does not come nothing is known. Tells whether there is such a block.
+fn reach_others(found: &mut Found) -> bool {
+    let mut any = false;
+    for b in 0..found.reached.len() {
+        if !is_marked(found.reached.as_slice(), b) {
+            mark(&mut found.reached, b);
+            mark(&mut found.pending, b);
+            any = true;
+        }
+    }
+    any
+}
+
+/// Facts for the begin of each block.
+///
+/// # Errors
+///
+/// Where there is no memory.
+pub fn find_facts(
+    alloc: Global,
+    code: &VProc,
+    wanted: &[bool],
+) -> Result<Vec<Seq<Fact>>, AllocError> {
+    let mut found = nothing(alloc, code)?;
+    for turn in 0..MAX_SWEEPS {
+        let any = sweep(alloc, code, wanted, &mut found, turn < WIDENING_SWEEPS)?;
+        if !any && !reach_others(&mut found) {
+            break;
+        }
+    }
+    let Found {
+        begins,
+        reached: _,
+        pending: _,
+    } = found;
+    Ok(begins)
+}
