@@ -16,6 +16,7 @@ import contextlib
 import glob
 import importlib
 import os
+import signal
 import sys
 import unittest
 
@@ -62,6 +63,8 @@ def suite_of(module, words):
 
 
 def main(words):
+    # What a shell runs in the background ignores it, and so would all that tests begin.
+    signal.signal(signal.SIGINT, signal.default_int_handler)
     sys.path.insert(0, HERE)
     if "PRA" not in os.environ and (program := compiler()):
         os.environ["PRA"] = program
