@@ -17,7 +17,7 @@ use pra_base::{VInstr, VProc, VarId, VarKind};
 use std::alloc::AllocError;
 
 /// So many facts are known at one place at most. Of what there is more nothing is known.
-const MAX_FACTS: usize = 64;
+const MAX_FACTS: usize = 32;
 
 /// A fact of the variable.
 pub fn find(known: &[Fact], v: VarId) -> Option<Fact>

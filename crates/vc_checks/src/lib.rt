@@ -23,11 +23,11 @@
 //!
 //! So facts are found by code that promises nothing (`search`: available facts, met over all ways,
 //! in sweeps over the blocks), and one walk over the blocks tests them and leaves out what they
-//! allow (`flow`). Facts are kept of variables alone for which some check asks, 64 at a place; from
-//! the fifth sweep on a fact that is still being weakened is given up, and after twelve sweeps the
-//! facts are tested as they are. Where they don't hold then, or there is no check, the code stays.
-//! A block is gone through again only where its facts have changed, so the time is as the code's
-//! length, and memory as the facts.
+//! allow (`flow`). Facts are kept of variables alone for which some check asks, 32 at a place; from
+//! the fourth sweep on a fact that is still being weakened is given up, and what eight sweeps do
+//! not settle is sought once more with nothing known where control goes back to. Where facts don't
+//! hold in the end, or there is no check, the code stays. A block is gone through again only where
+//! its facts have changed.
 #![tactic(auto)]
 
 pub mod fact;

@@ -10,10 +10,10 @@ use pra_list::Seq;
 use std::alloc::{AllocError, Global};
 
 /// So often the blocks are gone through at most: once for each loop around a block, and some more.
-const MAX_SWEEPS: u32 = 12;
+const MAX_SWEEPS: u32 = 8;
 
 /// In so many sweeps the numbers of a fact may be moved apart; later the fact is given up.
-const WIDENING_SWEEPS: u32 = 4;
+const WIDENING_SWEEPS: u32 = 3;
 
 /// The variables that a check asks for, by number.
 pub fn checked_variables(alloc: Global, code: &VProc) -> Result<Vec<bool>, AllocError> {
@@ -59,6 +59,8 @@ struct Found {
     reached: Vec<bool>,
     /// Whether a block has to be gone through.
     pending: Vec<bool>,
+    /// Whether a block is one at whose begin nothing is to be known.
+    bare: Vec<bool>,
 }
 
 fn nothing(alloc: Global, code: &VProc) -> Result<Found, AllocError> {
@@ -66,15 +68,18 @@ fn nothing(alloc: Global, code: &VProc) -> Result<Found, AllocError> {
     let mut begins = Vec::with_capacity(alloc, count)?;
     let mut reached = Vec::with_capacity(alloc, count)?;
     let mut pending = Vec::with_capacity(alloc, count)?;
+    let mut bare = Vec::with_capacity(alloc, count)?;
     for b in 0..count {
         begins.push(Seq::new(alloc))?;
         reached.push(b == 0)?;
         pending.push(b == 0)?;
+        bare.push(false)?;
     }
     Ok(Found {
         begins,
         reached,
         pending,
+        bare,
     })
 }
 
@@ -139,7 +144,8 @@ fn enter(
 ) -> Result<(), AllocError> {
     let b = block.0 as usize;
     if !is_marked(found.reached.as_slice(), b) {
-        let facts = Seq::from_slice(alloc, known)?;
+        let bare = is_marked(found.bare.as_slice(), b);
+        let facts = Seq::from_slice(alloc, if bare { &[] } else { known })?;
         put(found, b, facts);
         return Ok(());
     }
@@ -207,7 +213,44 @@ fn reach_others(found: &mut Found) -> bool {
     any
 }
 
-/// Facts for the begin of each block.
+// Sweeps until nothing is pending, and tells whether that came.
+fn settle(
+    alloc: Global,
+    code: &VProc,
+    wanted: &[bool],
+    found: &mut Found,
+) -> Result<bool, AllocError> {
+    for turn in 0..MAX_SWEEPS {
+        let any = sweep(alloc, code, wanted, found, turn < WIDENING_SWEEPS)?;
+        if !any && !reach_others(found) {
+            return Ok(true);
+        }
+    }
+    Ok(false)
+}
+
+fn mark_back(bare: &mut Vec<bool>, from: usize, block: BlockId) {
+    if block.0 as usize <= from {
+        mark(bare, block.0 as usize);
+    }
+}
+
+// Nothing is to be known where control goes back to, so that what is known goes forth alone.
+fn lay_bare(code: &VProc, found: &mut Found) {
+    for (b, block) in code.blocks.as_slice().iter().enumerate() {
+        match block.end {
+            End::Jump(next) => mark_back(&mut found.bare, b, next),
+            End::Branch(_, one, other) => {
+                mark_back(&mut found.bare, b, one);
+                mark_back(&mut found.bare, b, other);
+            }
+            End::Return => {}
+        }
+    }
+}
+
+/// Facts for the begin of each block. Where sweeps do not settle them they are sought once more,
+/// with nothing known where control goes back to.
 ///
 /// # Errors
 ///
@@ -218,16 +261,16 @@ pub fn find_facts(
     wanted: &[bool],
 ) -> Result<Vec<Seq<Fact>>, AllocError> {
     let mut found = nothing(alloc, code)?;
-    for turn in 0..MAX_SWEEPS {
-        let any = sweep(alloc, code, wanted, &mut found, turn < WIDENING_SWEEPS)?;
-        if !any && !reach_others(&mut found) {
-            break;
-        }
+    if !settle(alloc, code, wanted, &mut found)? {
+        found = nothing(alloc, code)?;
+        lay_bare(code, &mut found);
+        let _settled = settle(alloc, code, wanted, &mut found)?;
     }
     let Found {
         begins,
         reached: _,
         pending: _,
+        bare: _,
     } = found;
     Ok(begins)
 }
