@@ -65,16 +65,8 @@ PYTHON
 limits() {
     case "$1" in
     backwards.cert) echo 10 1024 ;; # it holds, and may take its network
-    large_nested.cert) echo 5 3000 ;;
-    large_objects.cert) echo 5 2300 ;;
-    large_routes.cert) echo 6 1100 ;;
-    large_caps.cert | large_lines.cert) echo 5 650 ;;
-    large_*.cert) echo 4 450 ;;
-    refused_last.code | refused_procedures.code) echo 6 500 ;;
-    refused_lines.code) echo 5 650 ;;
-    refused_blocks.code | refused_plains.code) echo 4 450 ;;
-    small_65536.code) echo 3 300 ;;
-    short_65536.code) echo 12 800 ;;
+    large_caps.cert | refused_last.code) echo 4 300 ;;
+    short_65536.code) echo 12 300 ;;
     copies_27.ob) echo 6 300 ;;
     remainders_28.ob) echo 16 300 ;;
     *) echo 2 300 ;;

@@ -1,38 +1,23 @@
 -- Bytes of a certificate have one answer.
-use Rattle.std.proofs.Common.{◌≡◌, ◌↔◌, ◌<◌, ℕ, Bool, true, false, List, Some, Ok}
+use Rattle.std.proofs.Common.{◌≡◌, ◌<◌, ℕ, List, Some, Ok}
 use Rattle.std.proofs.Common.{Err, inl, inr, refl, ap, subst, length}
-use Rattle.serde_json.specs.Data.{Data}
-use Rattle.serde_json.specs.Read.{max_depth}
 use Rattle.pra_list.specs.Each.{Each}
 use Rattle.cert_form.specs.declared.certificate.Certificate.{Certificate}
 use Rattle.cert_form.specs.declared.text.CertFault.TheVariants.{NotJson, NotCertificate}
 use Rattle.cert_form.specs.declared.text.CertFault.TheVariants.{OutOfMemory}
 use Rattle.cert_form.specs.Form.{certificate_data}
-use Rattle.cert_form.specs.Plain.{IsPlain}
 use Rattle.cert_form.specs.Reading.{certificate_of}
-use Rattle.cert_form.specs.Whole.{CertFits, AreNumbered, IsWhole, IsReadAs, IsOfNone, Reads}
+use Rattle.cert_form.specs.Streams.{IsPartRead}
+use Rattle.cert_form.specs.Whole.{CertFits, AreNumbered, IsWhole, IsReadAs, Reads}
 use Rattle.cert_form.specs.Whole.{IsReadAgain}
 use Rattle.cert_form.proofs.CertsRead.{certificate_back}
-use Rattle.cert_form.proofs.Forms.{one_reading, other, one}
-use Rattle.cert_form.proofs.Plain.{certificate_plain}
+use Rattle.cert_form.proofs.Forms.{one_reading, one}
 
--- whether a value is written as a certificate's tells whether it is its value
-abbrev Alike : Data → Certificate → Bool → Type 0
-Alike d c same =
-    IsPlain max_depth (certificate_data c) → (same ≡ true) ↔ (d ≡ certificate_data c)
+-- what is read is the answer
 
--- a value that is not written as the only certificate that it can be of
-pub other_value : (d : Data) (c : Certificate) (same : Bool) → certificate_of d ≡ Some c →
-    Alike d c same → same ≡ false → IsOfNone d
-other_value d c same e alike differs =
-    other IsWhole certificate_data certificate_of certificate_back d c same e
-    (alike (certificate_plain c)) differs
-
--- a value that is
-pub same_value : (bytes : List ℕ) (d : Data) (c : Certificate) (same : Bool) → IsReadAs bytes d →
-    IsWhole c → Alike d c same → same ≡ true → Reads bytes (Ok c)
-same_value bytes d c same r h alike e =
-    (subst (λ x. IsReadAs bytes x) ((alike (certificate_plain c)).0 e) r, h)
+pub found_is : (bytes : List ℕ) (c : Certificate) →
+    IsPartRead certificate_data IsWhole bytes (Ok (Some c)) → Reads bytes (Ok c)
+found_is bytes c h = (subst (λ x. IsReadAs bytes x) h.2.0 h.1, h.2.1)
 
 pub only_one : (a b : Certificate) → IsWhole a → IsWhole b →
     certificate_data a ≡ certificate_data b → a ≡ b

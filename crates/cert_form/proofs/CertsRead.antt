@@ -1,7 +1,6 @@
 -- A whole certificate that is written is read again.
-use Rattle.std.proofs.Common.{◌≡◌, ℕ, List, [], map, Some, None, refl}
-use Rattle.std.proofs.Common.{ap, ◌∙◌, length, arith}
-use Rattle.serde_json.specs.Data.{Data}
+use Rattle.std.proofs.Common.{◌≡◌, ℕ, List, map, Some, refl}
+use Rattle.std.proofs.Common.{◌∙◌}
 use Rattle.serde_json.specs.View.{items_of}
 use Rattle.pra_list.specs.Options.{◌>>=◌}
 use Rattle.pra_base.specs.declared.ids.Place.{Place}
@@ -17,8 +16,7 @@ use Rattle.cert_form.specs.Form.{tie_data, cert_data, cost_name, certificate_dat
 use Rattle.cert_form.specs.Reading.{long_natural, list_of, path_of}
 use Rattle.cert_form.specs.Reading.{cap_of, tie_of, code_of, cert_of, each_numbered}
 use Rattle.cert_form.specs.Reading.{cost_word_of, certificate_of}
-use Rattle.cert_form.specs.Whole.{CapFits, TieFits, CertFits, IsWhole, IsOfNone}
-use Rattle.cert_form.proofs.Forms.{of_none, only}
+use Rattle.cert_form.specs.Whole.{CapFits, TieFits, CertFits, IsWhole}
 use Rattle.cert_form.proofs.PartsRead.{two, three, four, long_natural_read, each_read}
 use Rattle.cert_form.proofs.PartsRead.{paths_read, cap_read, tie_read}
 use Rattle.cert_form.proofs.ProcsRead.{code_read, procs_back}
@@ -72,15 +70,3 @@ certificate_back c h =
     (cost_back c.cost)
     (procs_back (λ (p : Cert). p.code) CertFits cert_of cert_data cert_back 0 c.procs h.numbered
     h.fits)
-
-pub no_certificate : (d : Data) → certificate_of d ≡ None → IsOfNone d
-no_certificate = of_none IsWhole certificate_data certificate_of certificate_back
-
-pub no_procs : (d : Data) (c : Certificate) → certificate_of d ≡ Some c → c.procs ≡ [] →
-    IsOfNone d
-no_procs d c e none other h f =
-    let same : length other.procs ≡ length c.procs =
-    ap (λ (x : Certificate). length x.procs)
-    (only IsWhole certificate_data certificate_of certificate_back d c e other h f) in
-    let zero : length c.procs ≡ 0 = ap length none in
-    omega (arith, h.some, same, zero)

@@ -1,14 +1,14 @@
 -- A whole code file that is written is read again.
-use Rattle.std.proofs.Common.{◌≡◌, ◌↔◌, ◌<◌, ◌≤◌, Bool, true, false, List, [], ◌∷◌, map, length}
-use Rattle.std.proofs.Common.{Some, None, IsTrue, refl, ap, ◌∙◌, subst, nat_le, arith}
+use Rattle.std.proofs.Common.{◌≡◌, ◌≤◌, Bool, true, List, [], ◌∷◌, map}
+use Rattle.std.proofs.Common.{Some, None, refl, ap, ◌∙◌, nat_le, arith}
 use Rattle.std.specs.Prelude.{if◌then◌else◌}
 use Rattle.std.proofs.lemmas.Bool.{le-leb}
-use Rattle.serde_json.specs.Data.{Data, null, string}
+use Rattle.serde_json.specs.Data.{null, string}
 use Rattle.serde_json.specs.Find.{as_str}
 use Rattle.serde_json.specs.View.{items_of}
 use Rattle.pra_list.specs.Options.{◌>>=◌}
 use Rattle.pra_list.specs.Each.{Each}
-use Rattle.pra_list.proofs.Truths.{if_true, true_false}
+use Rattle.pra_list.proofs.Truths.{if_true}
 use Rattle.ia_code.specs.Image.{max_data_words}
 use Rattle.cert_form.specs.declared.codes.NamedCode.{NamedCode}
 use Rattle.cert_form.specs.declared.codes.CodeFile.{CodeFile}
@@ -16,8 +16,7 @@ use Rattle.cert_form.specs.Form.{natural}
 use Rattle.cert_form.specs.Reading.{natural_of, code_of, each_numbered}
 use Rattle.cert_form.specs.CodeForm.{is_name, code_data, file_data}
 use Rattle.cert_form.specs.CodeReading.{name_of, named_code_of, data_words_of, file_of}
-use Rattle.cert_form.specs.CodeWhole.{HasName, BodyTakesNone, NamedFits, IsWholeCode, IsOfNoCode}
-use Rattle.cert_form.proofs.Forms.{of_none, only}
+use Rattle.cert_form.specs.CodeWhole.{HasName, NamedFits, IsWholeCode}
 use Rattle.cert_form.proofs.PartsRead.{one, two, natural_read}
 use Rattle.cert_form.proofs.ProcsRead.{code_read, procs_back}
 
@@ -64,15 +63,3 @@ file_back f h =
     (words_back f h.file.words)
     (procs_back (λ (p : NamedCode). p.code) IsNamed named_code_of code_data named_back 0 f.procs
     h.file.numbered (both f.procs h.file.names h.fits))
-
-pub no_code : (d : Data) → file_of d ≡ None → IsOfNoCode d
-no_code = of_none IsWholeCode file_data file_of file_back
-
-pub no_run : (d : Data) (f : CodeFile) (begins : Bool) → file_of d ≡ Some f →
-    (IsTrue begins ↔ ((0 < length f.procs) × BodyTakesNone f.procs)) → begins ≡ false →
-    IsOfNoCode d
-no_run d f begins e is off other h g =
-    let same : other ≡ f = only IsWholeCode file_data file_of file_back d f e other h g in
-    let P : CodeFile → Type 0 = λ o. (0 < length o.procs) × BodyTakesNone o.procs in
-    let on : IsTrue begins = is.1 (subst P same (h.file.some, h.file.body)) in
-    true_false begins on off

@@ -1,10 +1,9 @@
 -- A form: which parts are whole, the value of each, and what is found of a value. Whole parts are
 -- found again of their values; so each value is of one.
-use Rattle.std.proofs.Common.{◌≡◌, ◌↔◌, ℕ, Bool, true, false, List, Option, Some, None, refl, sym}
+use Rattle.std.proofs.Common.{◌≡◌, ℕ, List, Option, Some, None, refl, sym}
 use Rattle.std.proofs.Common.{ap, ◌∙◌}
 use Rattle.serde_json.specs.Data.{Data}
 use Rattle.pra_list.proofs.Options.{some_same}
-use Rattle.pra_list.proofs.Truths.{true_false}
 use Rattle.cert_form.specs.Whole.{IsReadAs}
 
 -- bytes are read as one value
@@ -20,12 +19,6 @@ module _ {A : Type 0} (Whole : A → Type 0) (data_of : A → Data) (found : Dat
   -- what is found is the only one
   pub only : (d : Data) (x : A) → found d ≡ Some x → (o : A) → Whole o → d ≡ data_of o → o ≡ x
   only d x e o h f = some_same o x (sym (back o h) ∙ sym (ap found f) ∙ e)
-
-  -- a value that is not written as the only one that it can be of
-  pub other : (d : Data) (x : A) (same : Bool) → found d ≡ Some x →
-      ((same ≡ true) ↔ (d ≡ data_of x)) → same ≡ false → (o : A) → Whole o → d ≡ data_of o → ⊥
-  other d x same e alike differs o h g =
-      true_false same (alike.1 (g ∙ ap data_of (only d x e o h g))) differs
 
   pub one : (a b : A) → Whole a → Whole b → data_of a ≡ data_of b → a ≡ b
   one a b h k e = only (data_of a) b (ap found e ∙ back b k) a h refl

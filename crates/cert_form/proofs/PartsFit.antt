@@ -1,5 +1,5 @@
 -- What is read fits: each number is in its type.
-use Rattle.std.proofs.Common.{◌≡◌, ℕ, Bool, true, false, List, ◌∷◌, Option, Some}
+use Rattle.std.proofs.Common.{◌≡◌, ℕ, Bool, true, false, List, Option, Some}
 use Rattle.std.proofs.Common.{None}
 use Rattle.std.proofs.Common.{refl, arith, nat_lt, codes, bytes_eq}
 use Rattle.std.specs.Prelude.{ℤ, if◌then◌else◌, IfSome, FitsSigned}
@@ -7,11 +7,9 @@ use Rattle.std.specs.Int.{w32, w64}
 use Rattle.std.proofs.lemmas.Bool.{ltb-true}
 use Rattle.std.proofs.lemmas.Int.{ints}
 use Rattle.std.proofs.lemmas.Bool.Decides.{nat_tests}
-use Rattle.serde_json.specs.Data.{Data, null, boolean, number, string, array, object, Items, item}
-use Rattle.serde_json.specs.Data.{no_items}
-use Rattle.serde_json.specs.Find.{at, as_number, as_array, as_u64, as_i64, get}
+use Rattle.serde_json.specs.Data.{Data, null, boolean, number, string, array, object}
+use Rattle.serde_json.specs.Find.{at, as_number, as_u64, as_i64}
 use Rattle.pra_list.specs.Options.{◌>>=◌}
-use Rattle.pra_list.specs.Each.{Each}
 use Rattle.pra_base.specs.declared.ids.VarId.{VarId}
 use Rattle.pra_base.specs.declared.ids.ProcId.{ProcId}
 use Rattle.pra_base.specs.declared.ids.BlockId.{BlockId}
@@ -22,9 +20,7 @@ use Rattle.pra_base.specs.declared.code.Base.TheVariants.{Global, Frame, Cell, V
 use Rattle.pra_base.specs.declared.code.Addr.{Addr}
 use Rattle.pra_base.specs.declared.code.VInstr.{VInstr}
 use Rattle.pra_base.specs.declared.code.VInstr.TheVariants as instr
-use Rattle.pra_base.specs.declared.code.End.{End}
 use Rattle.pra_base.specs.declared.code.End.TheVariants.{Jump, Branch, Return}
-use Rattle.pra_base.specs.declared.code.Block.{Block}
 use Rattle.cert_form.specs.declared.table.Form.{Form}
 use Rattle.cert_form.specs.declared.table.Form.TheVariants as form
 use Rattle.cert_form.specs.declared.certificate.CapAt.{CapAt}
@@ -33,14 +29,13 @@ use Rattle.cert_form.specs.Table.{form_named}
 use Rattle.cert_form.specs.Form.{base_number}
 use Rattle.cert_form.specs.Reading.{long_natural, natural_of, fits_i64, long_integer, fits_i32}
 use Rattle.cert_form.specs.Reading.{integer_of, natural_at, integer_at, variable_at, word_at}
-use Rattle.cert_form.specs.Reading.{condition_at, each, list_of, natural_under, long_under}
-use Rattle.cert_form.specs.Reading.{list_under}
+use Rattle.cert_form.specs.Reading.{condition_at}
 use Rattle.cert_form.specs.Reading.{kind_named, kind_of, base_of, index_of, address_of, address_at}
-use Rattle.cert_form.specs.Reading.{made, instruction_of, end_named, end_of, block_of, cap_of}
+use Rattle.cert_form.specs.Reading.{made, instruction_of, end_named, end_of, cap_of}
 use Rattle.cert_form.specs.Reading.{tie_of}
 use Rattle.cert_form.specs.Whole.{IsNatural, IsLong, KindFits, AddressFits, InstructionFits}
 use Rattle.cert_form.specs.Whole.{EndFits}
-use Rattle.cert_form.specs.Whole.{BlockFits, CapFits, TieFits}
+use Rattle.cert_form.specs.Whole.{CapFits, TieFits}
 
 -- What is made of parts that fit.
 
@@ -173,7 +168,7 @@ index_fits (object ms) = some_index (object ms)
 index_at_fits : (d : Data) → IfSome (at 3 d >>= index_of) IndexFits
 index_at_fits d = of_any IndexFits (at 3 d) index_of index_fits
 
-address_fits : (d : Data) → IfSome (address_of d) AddressFits
+pub address_fits : (d : Data) → IfSome (address_of d) AddressFits
 address_fits d =
     let offset = λ (b : Base). integer_at 2 d >>= (λ o. at 3 d >>= index_of >>= (λ i.
     let a : Addr = record { base = b; offset = o; index = i } in Some a)) in
@@ -271,33 +266,7 @@ instruction_fits d =
     of_any InstructionFits (word_at 0 d) (λ word. form_named word >>= (λ f. made f d))
     (λ word. of_any InstructionFits (form_named word) (λ f. made f d) (λ f. made_fits f d))
 
--- Lists of parts.
-
-pub each_fits : {A : Type 0} (f : Data → Option A) (P : A → Type 0) →
-    ((d : Data) → IfSome (f d) P) → (ds : Items) → IfSome (each f ds) (Each P)
-each_fits f P h no_items = tt
-each_fits f P h (item d ds) =
-    of_two P (Each P) (Each P) (f d) (each f ds) (λ x xs. x ∷ xs) (h d) (each_fits f P h ds)
-    (λ x xs p q. (p, q))
-
-list_fits : {A : Type 0} (f : Data → Option A) (P : A → Type 0) →
-    ((d : Data) → IfSome (f d) P) → (d : Data) → IfSome (list_of f d) (Each P)
-list_fits f P h d = of_any (Each P) (as_array d) (each f) (each_fits f P h)
-
--- What stands under a key.
-
-pub natural_under_fits : (key : List ℕ) (d : Data) → IfSome (natural_under key d) IsNatural
-natural_under_fits key d = of_any IsNatural (get key d) natural_of natural_fits
-
-pub long_under_fits : (key : List ℕ) (d : Data) → IfSome (long_under key d) IsLong
-long_under_fits key d = of_any IsLong (get key d) long_natural long_natural_fits
-
-pub list_under_fits : {A : Type 0} (f : Data → Option A) (P : A → Type 0) →
-    ((d : Data) → IfSome (f d) P) → (key : List ℕ) (d : Data) →
-    IfSome (list_under f key d) (Each P)
-list_under_fits f P h key d = of_any (Each P) (get key d) (list_of f) (list_fits f P h)
-
--- Ends and blocks.
+-- Ends.
 
 jump_fits : (d : Data) → IfSome (natural_at 1 d >>= (λ n.
     let b : BlockId = record { 0 = n } in Some (Jump b))) EndFits
@@ -327,21 +296,8 @@ end_named_fits word d =
     (chosen EndFits (bytes_eq word (codes "branch")) branch return (branch_fits d)
     (guarded EndFits (bytes_eq word (codes "return")) (Some Return) (λ e. tt)))
 
-end_fits : (d : Data) → IfSome (end_of d) EndFits
+pub end_fits : (d : Data) → IfSome (end_of d) EndFits
 end_fits d = of_any EndFits (word_at 0 d) (λ w. end_named w d) (λ w. end_named_fits w d)
-
-pub block_fits : (d : Data) → IfSome (block_of d) BlockFits
-block_fits d =
-    let code = at 1 d >>= list_of instruction_of in
-    let end = at 2 d >>= end_of in
-    let made = λ (n : ℕ) (c : List VInstr) (e : End).
-    let b : Block = record { depth = n; code = c; end = e } in b in
-    of_fit IsNatural BlockFits (natural_at 0 d) (λ n. code >>= (λ c. end >>= (λ e.
-    Some (made n c e)))) (natural_at_fits 0 d) (λ n h.
-    of_two (Each InstructionFits) EndFits BlockFits code end (made n)
-    (of_any (Each InstructionFits) (at 1 d) (list_of instruction_of)
-    (list_fits instruction_of InstructionFits instruction_fits))
-    (of_any EndFits (at 2 d) end_of end_fits) (λ c e k l. (h, k, l)))
 
 -- Entries of prices.
 

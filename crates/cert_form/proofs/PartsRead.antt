@@ -180,7 +180,7 @@ index_back (Some v) h =
     one (natural_of (natural v.0)) v.0 (λ n. let w : VarId = record { 0 = n } in Some (Some w))
     (natural_read v.0 h)
 
-address_read : (a : Addr) → AddressFits a → address_of (address_data a) ≡ Some a
+pub address_read : (a : Addr) → AddressFits a → address_of (address_data a) ≡ Some a
 address_read a h =
     let d = address_data a in
     let made = λ (b : Base) (o : ℤ) (i : Option VarId).

@@ -1,13 +1,11 @@
--- What the text of a plain value is, what is read of it, and when two values are written alike.
-use Rattle.std.proofs.Common.{◌≡◌, ◌↔◌, ℕ, ◌≤◌, true, false, List, [], ◌∷◌, ◌++◌, Some, sym}
-use Rattle.std.proofs.Common.{ap, ◌∙◌, subst, bytes_eq, IsUtf8}
-use Rattle.std.proofs.lemmas.Slice.Eq.{bytes_eq-Decides}
+-- What the text of a plain value is, and what is read of it.
+use Rattle.std.proofs.Common.{◌≡◌, ℕ, ◌≤◌, false, List, [], ◌∷◌, ◌++◌, Some, sym}
+use Rattle.std.proofs.Common.{ap, ◌∙◌, subst, IsUtf8}
 use Rattle.json.specs.Lex.{tokens}
 use Rattle.json.specs.Print.{print}
 use Rattle.serde_json.specs.Data.{Data, depth}
 use Rattle.serde_json.specs.Read.{read, max_depth}
 use Rattle.serde_json.specs.Written.{has_float, compact_text, IsInOrder}
-use Rattle.pra_list.proofs.Options.{some_same}
 use Rattle.cert_form.specs.Form.{line_text}
 use Rattle.cert_form.specs.Plain.{IsPlain}
 use Rattle.cert_form.specs.Whole.{IsReadAs}
@@ -30,18 +28,3 @@ module _ (part d : Data) (is : d ≡ part) (plain : IsPlain max_depth part) wher
       let P : Data → Type 0 = λ x. IsReadAs (b ++ 10 ∷ []) x in
       let Q : List ℕ → Type 0 = λ l. IsReadAs l part in
       subst Q (sym e) (subst P is (line_read b d printed order no_float utf8 (back shallow)))
-
-  -- another value that is written
-  pub written_alike : (o : Data) (a b : List ℕ) → depth o ≤ max_depth →
-      (has_float o ≡ false → a ≡ compact_text o) → (depth o ≤ max_depth → read a ≡ Some o) →
-      (has_float d ≡ false → b ≡ compact_text d) → (depth d ≤ max_depth → read b ≡ Some d) →
-      (bytes_eq a b ≡ true) ↔ (o ≡ part)
-  written_alike o a b few text back text2 back2 = (alike, same)
-    where
-      alike : bytes_eq a b ≡ true → o ≡ part
-      alike e = some_same o d (sym (back few) ∙ ap read ((bytes_eq-Decides a b).0 e)
-          ∙ back2 shallow) ∙ is
-
-      same : o ≡ part → bytes_eq a b ≡ true
-      same e = (bytes_eq-Decides a b).1 (text (ap has_float (e ∙ sym is) ∙ no_float)
-          ∙ ap compact_text (e ∙ sym is) ∙ sym (text2 no_float))

@@ -7,3 +7,5 @@ pub mod Plain
 pub mod CodeForm
 pub mod CodeReading
 pub mod CodeWhole
+pub mod Streams
+pub mod Found

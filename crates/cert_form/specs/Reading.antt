@@ -1,5 +1,5 @@
 -- The one certificate that a value can be of. Keys and items that a certificate does not have are
--- passed over unread: that the value has nothing else is told by writing the certificate again.
+-- passed over: that a value has nothing else is told where its parts are read (`Streams`).
 use Rattle.std.specs.Prelude.{ℕ, suc, ℤ, pos, neg_ℤ, Bool, ◌&&◌, nat_lt, int_le, if◌then◌else◌}
 use Rattle.std.specs.Prelude.{List, [], ◌∷◌, Option, Some, None, codes}
 use Rattle.std.specs.Str.{bytes_eq}

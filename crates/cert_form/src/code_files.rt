@@ -1,21 +1,15 @@
 // The text of a code file, and back.
 
-ghost use Rattle.std.specs.Prelude.{◌≡◌, IfOk, IfErr, Some};
-ghost use Rattle.serde_json.specs.View.{view};
+ghost use Rattle.std.specs.Prelude.{◌≡◌, IfOk};
 ghost use Rattle.cert_form.specs.CodeForm.{file_data, code_file_text};
-ghost use Rattle.cert_form.specs.CodeReading.{file_of};
-ghost use Rattle.cert_form.specs.CodeWhole.{IsCodeFile, IsWholeCode, IsOfNoCode, ReadsCode};
-ghost use Rattle.cert_form.specs.CodeWhole.{IsCodeReadAgain};
+ghost use Rattle.cert_form.specs.CodeWhole.{IsCodeFile, ReadsCode, IsCodeReadAgain};
 ghost use Rattle.cert_form.specs.Whole.{IsReadAs};
-ghost use Rattle.cert_form.specs.declared.reading.Misread.TheVariants as misread;
 ghost use Rattle.cert_form.specs.declared.code_files.CodeFault.TheVariants as fault;
 
-use crate::code_reading::{begins_a_run, code_file};
 use crate::codes::CodeFile;
-use crate::line::{Unread, is_of, line, read_value};
-use crate::reading::Misread;
+use crate::line::{line, read};
+use crate::passing::Unread;
 use pra_base::OutOfMemory;
-use serde_json::Value;
 use std::alloc::{AllocError, Global};
 use thiserror::Error;
 
@@ -58,23 +52,6 @@ pub fn code_text(alloc: Global, file: &CodeFile) -> Result<Vec<u8>, OutOfMemory>
     Ok(text)
 }
 
-// The only code file that a value can be of.
-fn find(alloc: Global, value: &Value) -> Result<CodeFile, Misread>
-    ensures ok { IfOk result (λ f. file_of (view value.now) ≡ Some f) }
-    ensures whole { IfOk result (λ f. IsWholeCode f) }
-    ensures err { IfErr result (λ e. e ≡ misread.Form → IsOfNoCode (view value.now)) }
-{
-    let found = match code_file(alloc, value) {
-        Ok(found) => found,
-        Err(fault) => return Err(fault),
-    };
-    if begins_a_run(&found) {
-        Ok(found)
-    } else {
-        Err(Misread::Form)
-    }
-}
-
 /// The code file that some bytes are the text of; blanks and the order of keys are free.
 ///
 /// # Errors
@@ -85,22 +62,10 @@ fn find(alloc: Global, value: &Value) -> Result<CodeFile, Misread>
 pub fn code_read(alloc: Global, bytes: &[u8]) -> Result<CodeFile, CodeFault>
     ensures { ReadsCode bytes.now result }
 {
-    let value = match read_value(alloc, bytes) {
-        Ok(value) => value,
-        Err(Unread::NotJson) => return Err(CodeFault::NotJson),
-        Err(Unread::OutOfMemory) => return Err(CodeFault::OutOfMemory),
-    };
-    let found = match find(alloc, &value) {
-        Ok(found) => found,
-        Err(Misread::Form) => return Err(CodeFault::NotCode),
-        Err(Misread::OutOfMemory) => return Err(CodeFault::OutOfMemory),
-    };
-    let Ok(same) = is_of(alloc, value, &found) else {
-        return Err(CodeFault::OutOfMemory);
-    };
-    if same {
-        Ok(found)
-    } else {
-        Err(CodeFault::NotCode)
+    match read(alloc, bytes) {
+        Ok(Some(found)) => Ok(found),
+        Ok(None) => Err(CodeFault::NotCode),
+        Err(Unread::NotJson) => Err(CodeFault::NotJson),
+        Err(Unread::OutOfMemory) => Err(CodeFault::OutOfMemory),
     }
 }

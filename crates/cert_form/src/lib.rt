@@ -10,19 +10,26 @@
 //!
 //! Read first `specs/Table`, the names and operands of instructions that writing and reading share,
 //! then `specs/Form`, the JSON value of each part, and `specs/Whole`, what a text may hold and what
-//! reading answers; `specs/CodeForm` and `specs/CodeWhole` are these of code files. The layer above
-//! uses `cert_text`, `cert_read`, `code_text`, `code_read`, and the types of `certificate` and
-//! `codes`.
+//! reading answers; `specs/CodeForm` and `specs/CodeWhole` are these of code files. A text is read
+//! in one pass over its tokens, which builds the parts and no value: `specs/Streams` says what each
+//! reader takes, and what it answers. The layer above uses `cert_text`, `cert_read`, `code_text`,
+//! `code_read`, and the types of `certificate` and `codes`.
 #![tactic(auto)]
 
+mod cells;
 mod certificate;
+mod certs;
 mod code_files;
 mod code_reading;
 mod code_writing;
 mod codes;
+mod figures;
 pub mod laws;
 mod line;
+mod lists;
 mod names;
+mod objects;
+mod passing;
 mod reading;
 mod table;
 mod text;

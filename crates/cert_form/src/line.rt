@@ -1,25 +1,20 @@
 // A part's value as a line of text, and values of texts.
 
-ghost use Rattle.std.specs.Prelude.{◌≡◌, ◌↔◌, ◌≤◌, true, IfOk, IfErr, OnOk};
-ghost use Rattle.std.specs.Str.{bytes_eq};
-ghost use Rattle.serde_json.specs.Data.{depth};
-ghost use Rattle.serde_json.specs.Read.{max_depth};
-ghost use Rattle.serde_json.specs.View.{view};
+ghost use Rattle.std.specs.Prelude.{◌≡◌, IfOk, OnOk};
+ghost use Rattle.serde_json.specs.Read.{max_depth, read as read_text};
 ghost use Rattle.cert_form.specs.Form.{line_text};
 ghost use Rattle.cert_form.specs.Plain.{IsPlain};
-ghost use Rattle.cert_form.specs.Whole.{IsReadAs, IsNoJson};
-ghost use Rattle.cert_form.specs.declared.line.Unread.TheVariants as unread;
+ghost use Rattle.cert_form.specs.Whole.{IsReadAs};
+ghost use Rattle.cert_form.specs.Streams.{IsPartOf, IsPartRead};
 
+use crate::lists::Part;
+use crate::passing::Unread;
 use crate::writing::Written;
-use serde_json::Value;
+use json::{Reader, Scratch};
 use std::alloc::{AllocError, Global};
 
-/// Why no value was read.
-#[derive(Clone, Copy, Debug)]
-pub(crate) enum Unread {
-    NotJson,
-    OutOfMemory,
-}
+/// How deep lists and objects of a text may nest.
+const MAX_DEPTH: usize = 127;
 
 /// The text of a part: its value without a blank, and a line feed.
 pub(crate) fn line<T: Written>(alloc: Global, part: &T) -> Result<Vec<u8>, AllocError>
@@ -35,39 +30,27 @@ pub(crate) fn line<T: Written>(alloc: Global, part: &T) -> Result<Vec<u8>, Alloc
     Ok(text)
 }
 
-/// The value that some bytes are read as.
-pub(crate) fn read_value(alloc: Global, bytes: &[u8]) -> Result<Value, Unread>
-    ensures ok { IfOk result (λ v. IsReadAs bytes.now (view v)) }
-    ensures nests { IfOk result (λ v. depth (view v) ≤ max_depth) }
-    ensures err { IfErr result (λ e. e ≡ unread.NotJson → IsNoJson bytes.now) }
+/// The part that a text is.
+fn text_part<T: Part>(alloc: Global, text: &str) -> Result<Option<T>, Unread>
+    ensures { IsPartOf T.form (T.fits 0) (read_text text.now) result }
 {
-    match Value::from_slice(alloc, bytes) {
-        Ok(value) => Ok(value),
-        Err(e) => {
-            if e.is_memory() {
-                Err(Unread::OutOfMemory)
-            } else {
-                Err(Unread::NotJson)
-            }
-        }
+    let mut scratch = Scratch::new(alloc);
+    let Ok(mut reader) = Reader::new(text, &mut scratch) else {
+        return Err(Unread::OutOfMemory);
+    };
+    let found = T::part(alloc, 0, &mut reader, MAX_DEPTH)?;
+    match reader.next() {
+        Some(_) => Err(Unread::NotJson),
+        None => Ok(found),
     }
 }
 
-fn are_same(a: &[u8], b: &[u8]) -> bool
-    ensures { result ≡ bytes_eq a.now b.now }
+/// The part that some bytes are the text of.
+pub(crate) fn read<T: Part>(alloc: Global, bytes: &[u8]) -> Result<Option<T>, Unread>
+    ensures { IsPartRead T.form (T.fits 0) bytes.now result }
 {
-    a == b
-}
-
-/// Whether a value is that of a part: whether the two are written alike.
-pub(crate) fn is_of<T: Written>(alloc: Global, value: Value, part: &T) -> Result<bool, AllocError>
-    requires { depth (view value) ≤ max_depth }
-    ensures { IfOk result (λ same. IsPlain max_depth (T.form part.now)
-        → ((same ≡ true) ↔ (view value ≡ T.form part.now))) }
-{
-    let text = value.to_vec(alloc)?;
-    drop(value);
-    let other = part.value(alloc)?;
-    let again = other.to_vec(alloc)?;
-    Ok(are_same(text.as_slice(), again.as_slice()))
+    match str::from_utf8(bytes) {
+        Ok(text) => text_part(alloc, text),
+        Err(_) => Err(Unread::NotJson),
+    }
 }

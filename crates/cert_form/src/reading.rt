@@ -1,126 +1,74 @@
-// Finds the one certificate that a JSON value can be of, and the parts that code files share.
+// The parts of a certificate and of a code file, read of a text.
 
-ghost use Rattle.std.specs.Prelude.{◌≡◌, Some, None, IfOk, IfErr, option_map};
-ghost use Rattle.serde_json.specs.View.{view, items_view};
+ghost use Rattle.std.specs.Prelude.{◌≡◌, ◌∷◌, ℕ, List, codes, option_map, map, slice_get, ⊤};
+ghost use Rattle.std.specs.Option.{option_copied};
+ghost use Rattle.pra_list.specs.Each.{Each};
 ghost use Rattle.ia_code.specs.Reading.{cond_of};
+ghost use Rattle.cert_form.specs.Form.{integer, row, address_data, place_data, path_data, list};
+ghost use Rattle.cert_form.specs.Form.{block_data, cap_data, tie_data};
 ghost use Rattle.cert_form.specs.Reading.{long_natural, natural_of, long_integer, integer_of};
-ghost use Rattle.cert_form.specs.Reading.{natural_at, integer_at, variable_at, word_at};
-ghost use Rattle.cert_form.specs.Reading.{condition_at, list_of, natural_under, long_under};
-ghost use Rattle.cert_form.specs.Reading.{list_under};
-ghost use Rattle.cert_form.specs.Reading.{kind_named, kind_of, base_of};
-ghost use Rattle.cert_form.specs.Reading.{index_of, address_of, address_at, made, instruction_of};
-ghost use Rattle.cert_form.specs.Reading.{end_named, end_of, block_of, place_of, path_of, cap_of};
-ghost use Rattle.cert_form.specs.Reading.{tie_of, code_of, cert_of, numbered, each_numbered};
-ghost use Rattle.cert_form.specs.Reading.{procs_of};
-ghost use Rattle.cert_form.specs.Reading.{cost_word_of};
-ghost use Rattle.cert_form.specs.Reading.{cost_word_at, certificate_of};
-ghost use Rattle.cert_form.specs.declared.reading.Misread.TheVariants as misread;
+ghost use Rattle.cert_form.specs.Reading.{natural_at, integer_at, variable_at, condition_at};
+ghost use Rattle.cert_form.specs.Reading.{address_at, kind_named, base_of, index_of, made, place_of};
+ghost use Rattle.cert_form.specs.Reading.{end_named, cost_word_of};
+ghost use Rattle.cert_form.specs.Whole.{AddressFits, BlockFits, CapFits, TieFits};
+ghost use Rattle.cert_form.specs.Found.{ArePaths};
+ghost use Rattle.cert_form.specs.Streams.{address_in, cap_in, tie_in, long_natural_at};
+ghost use Rattle.cert_form.specs.Streams.{long_integer_at, index_at};
+ghost use Rattle.cert_form.specs.Streams.{rests, Took, IsListAnswer, mark_data, CellFits};
+ghost use Rattle.cert_form.specs.Streams.{marks_row, cells_row, cell_data, worded};
+ghost use Rattle.serde_json.specs.Find.{at as item_at};
+ghost use Rattle.serde_json.specs.Data.{Data, string};
+ghost use Rattle.cert_form.specs.Form.{natural, cost_name};
+ghost use Rattle.cert_form.specs.Whole.{IsNatural, IsLong};
+ghost use Rattle.cert_form.specs.Streams.{IsAnswer, IsText};
 
-use crate::certificate::{CapAt, Cert, Certificate, CostWord, TieAt};
-use crate::table::{Form, form_named};
-use net_form::Routes;
-use pra_base::{
-    Addr, Base, Block, BlockId, Cond, End, Place, ProcId, VInstr, VProc, VarId, VarKind,
-};
-use pra_list::Seq;
+use crate::cells::{Cell, Mark, Worded, integer, read_worded, word};
+use crate::certificate::{CapAt, CostWord, TieAt};
+use crate::lists::{Part, begins_list, ends, item, list};
+use crate::passing::{Unread, pass_items};
+use crate::table::{Form, Operand, Spelling, form_named, name, row, spelling_of};
+use json::Reader;
+use pra_base::{Addr, Base, Block, BlockId, Cond, End, Place, ProcId, VInstr, VarId, VarKind};
 use pra_packed::Packed;
-use serde_json::Value;
-use std::alloc::{AllocError, AllocFailed, Global};
-
-/// Why no certificate was found.
-#[derive(Clone, Copy, Debug)]
-pub(crate) enum Misread {
-    /// The value is of none.
-    Form,
-    OutOfMemory,
-}
-
-impl From<AllocError> for Misread {
-    ghost use Rattle.cert_form.specs.declared.reading.Misread.TheVariants.{OutOfMemory};
-
-    ghost from_gives = { λ _ e. e ≡ OutOfMemory };
-
-    fn from(_: AllocError) -> Self {
-        Misread::OutOfMemory
-    }
-}
-
-impl<T: Drop> From<AllocFailed<T>> for Misread {
-    ghost use Rattle.cert_form.specs.declared.reading.Misread.TheVariants.{OutOfMemory};
-
-    ghost from_gives = { λ _ e. e ≡ OutOfMemory };
-
-    fn from(_: AllocFailed<T>) -> Self {
-        Misread::OutOfMemory
-    }
-}
-
-/// A part that is read of a JSON value.
-pub(crate) trait Readable: Drop {
-    ghost use Rattle.serde_json.specs.Data.{Data};
-    ghost use Rattle.std.specs.Prelude.{Option};
-
-    ghost of: { Data → Option Self };
-
-    fn of_value(alloc: Global, value: &Value) -> Result<Self, Misread>
-        ensures ok { IfOk result (λ x. of (view value.now) ≡ Some x) }
-        ensures err { IfErr result (λ e. e ≡ misread.Form → of (view value.now) ≡ None) };
-}
-
-/// A procedure that is read of its number and of a JSON value.
-pub(crate) trait Numbered: Drop {
-    ghost use Rattle.serde_json.specs.Data.{Data};
-    ghost use Rattle.std.specs.Prelude.{ℕ, Option};
-
-    ghost of: { ℕ → Data → Option Self };
-
-    fn of_numbered(alloc: Global, number: u32, value: &Value) -> Result<Self, Misread>
-        ensures ok { IfOk result (λ x. of number (view value.now) ≡ Some x) }
-        ensures err { IfErr result (λ e. e ≡ misread.Form → of number (view value.now) ≡ None) };
-}
-
-/// The list of some parts.
-fn list<T: Readable>(alloc: Global, value: &Value) -> Result<Seq<T>, Misread>
-    ensures ok { IfOk result (λ xs. list_of T.of (view value.now) ≡ Some xs) }
-    ensures err { IfErr result (λ e. e ≡ misread.Form → list_of T.of (view value.now) ≡ None) }
-{
-    let values = value.as_array().ok_or(Misread::Form)?;
-    let mut parts = Vec::with_capacity(alloc, values.len())?;
-    for item in values {
-        parts.push(T::of_value(alloc, item)?)?;
-    }
-    Ok(Seq::from_vec(parts))
-}
+use std::alloc::Global;
 
 /// A number of 64 bits without a sign.
-fn long_natural(value: &Value) -> Option<u64>
-    ensures { result ≡ long_natural (view value.now) }
+fn long_natural(z: i128) -> Option<u64>
+    ensures { result ≡ long_natural (integer z) }
 {
-    let n = value.as_u64()?;
-    Some(n)
+    if 0 <= z && z < 18446744073709551616 {
+        Some(z as u64)
+    } else {
+        None
+    }
 }
 
 /// A number of 32 bits without a sign.
-fn natural(value: &Value) -> Option<u32>
-    ensures { result ≡ natural_of (view value.now) }
+fn natural(z: i128) -> Option<u32>
+    ensures { result ≡ natural_of (integer z) }
 {
-    let n = long_natural(value)?;
-    if n < 4294967296 { Some(n as u32) } else { None }
+    if 0 <= z && z < 4294967296 {
+        Some(z as u32)
+    } else {
+        None
+    }
 }
 
 /// A number of 64 bits with a sign.
-fn long_integer(value: &Value) -> Option<i64>
-    ensures { result ≡ long_integer (view value.now) }
+fn long_integer(z: i128) -> Option<i64>
+    ensures { result ≡ long_integer (integer z) }
 {
-    let z = value.as_i64()?;
-    Some(z)
+    if -9223372036854775808 <= z && z <= 9223372036854775807 {
+        Some(z as i64)
+    } else {
+        None
+    }
 }
 
 /// A number of 32 bits with a sign.
-fn integer(value: &Value) -> Option<i32>
-    ensures { result ≡ integer_of (view value.now) }
+fn short_integer(z: i128) -> Option<i32>
+    ensures { result ≡ integer_of (integer z) }
 {
-    let z = long_integer(value)?;
     if -2147483648 <= z && z <= 2147483647 {
         Some(z as i32)
     } else {
@@ -128,32 +76,51 @@ fn integer(value: &Value) -> Option<i32>
     }
 }
 
-fn natural_at(list: &Value, at: usize) -> Option<u32>
-    ensures { result ≡ natural_at at (view list.now) }
+fn item_ref<T>(items: &[T], at: usize) -> Option<&T>
+    ensures { option_copied result ≡ slice_get items.now at }
 {
-    let value = list.get(at)?;
-    natural(value)
+    items.get(at)
 }
 
-fn integer_at(list: &Value, at: usize) -> Option<i32>
-    ensures { result ≡ integer_at at (view list.now) }
+fn cell_at(cells: &[Cell], at: usize) -> Option<Cell>
+    ensures { option_map cell_data result ≡ item_at at (cells_row cells.now) }
 {
-    let value = list.get(at)?;
-    integer(value)
+    item_ref(cells, at).copied()
 }
 
-fn variable_at(list: &Value, at: usize) -> Option<VarId>
-    ensures { result ≡ variable_at at (view list.now) }
+fn natural_at(cells: &[Cell], at: usize) -> Option<u32>
+    ensures { result ≡ natural_at at (cells_row cells.now) }
 {
-    let n = natural_at(list, at)?;
+    match cell_at(cells, at)? {
+        Cell::Integer(z) => natural(z),
+        Cell::Address(_) => None,
+    }
+}
+
+fn integer_at(cells: &[Cell], at: usize) -> Option<i32>
+    ensures { result ≡ integer_at at (cells_row cells.now) }
+{
+    match cell_at(cells, at)? {
+        Cell::Integer(z) => short_integer(z),
+        Cell::Address(_) => None,
+    }
+}
+
+fn variable_at(cells: &[Cell], at: usize) -> Option<VarId>
+    ensures { result ≡ variable_at at (cells_row cells.now) }
+{
+    let n = natural_at(cells, at)?;
     Some(VarId(n))
 }
 
-fn word_at(list: &Value, at: usize) -> Option<&str>
-    ensures { option_map (λ s. s.now) result ≡ word_at at (view list.now) }
+fn address_at(cells: &[Cell], at: usize) -> Option<Addr>
+    requires { Each CellFits cells.now }
+    ensures { result ≡ address_at at (cells_row cells.now) }
 {
-    let value = list.get(at)?;
-    value.as_str()
+    match cell_at(cells, at)? {
+        Cell::Integer(_) => None,
+        Cell::Address(a) => Some(a),
+    }
 }
 
 /// The condition of a number.
@@ -177,41 +144,73 @@ fn condition(n: u32) -> Option<Cond>
     }
 }
 
-fn condition_at(list: &Value, at: usize) -> Option<Cond>
-    ensures { result ≡ condition_at at (view list.now) }
+fn condition_at(cells: &[Cell], at: usize) -> Option<Cond>
+    ensures { result ≡ condition_at at (cells_row cells.now) }
 {
-    let n = natural_at(list, at)?;
+    let n = natural_at(cells, at)?;
     condition(n)
 }
 
-fn kind_named(word: &str, list: &Value) -> Option<VarKind>
-    ensures { result ≡ kind_named word.now (view list.now) }
+fn kind_named(word: &str, cells: &[Cell]) -> Option<VarKind>
+    ensures { result ≡ kind_named word.now (worded word.now cells.now) }
 {
     if word == "param" {
-        let i = natural_at(list, 1)?;
+        let i = natural_at(cells, 0)?;
         Some(VarKind::Param(i))
     } else if word == "plain" {
         Some(VarKind::Plain)
     } else if word == "constant" {
-        let c = integer_at(list, 1)?;
+        let c = integer_at(cells, 0)?;
         Some(VarKind::Constant(c))
     } else {
         None
     }
 }
 
-fn kind(list: &Value) -> Option<VarKind>
-    ensures { result ≡ kind_of (view list.now) }
-{
-    let word = word_at(list, 0)?;
-    kind_named(word, list)
-}
+impl Worded for VarKind {
+    ghost use Rattle.cert_form.specs.Reading.{kind_of};
+    ghost use Rattle.cert_form.specs.Form.{kind_data};
+    ghost use Rattle.cert_form.specs.Whole.{KindFits};
+    ghost use Rattle.cert_form.specs.Streams.{kind_word, kind_operands};
 
-impl Readable for VarKind {
     ghost of = { kind_of };
 
-    fn of_value(_alloc: Global, value: &Value) -> Result<VarKind, Misread> {
-        kind(value).ok_or(Misread::Form)
+    ghost form = { kind_data };
+
+    ghost fits = { KindFits };
+
+    ghost says = { kind_word };
+
+    ghost operands = { kind_operands };
+
+    fn of_row(word: &str, cells: &[Cell]) -> Option<VarKind> {
+        kind_named(word, cells)
+    }
+
+    fn spell(&self) -> Spelling {
+        match *self {
+            VarKind::Param(i) => spelling_of("param", &[Operand::Variable(VarId(i))]),
+            VarKind::Plain => spelling_of("plain", &[]),
+            VarKind::Constant(c) => spelling_of("constant", &[Operand::Number(c)]),
+        }
+    }
+}
+
+impl Part for VarKind {
+    ghost use Rattle.cert_form.specs.Form.{kind_data};
+    ghost use Rattle.cert_form.specs.Whole.{KindFits};
+
+    ghost form = { kind_data };
+
+    ghost fits = { λ n k. KindFits k };
+
+    fn part(
+        alloc: Global,
+        _number: usize,
+        reader: &mut Reader<'_>,
+        depth: usize,
+    ) -> Result<Option<VarKind>, Unread> {
+        read_worded(alloc, reader, depth)
     }
 }
 
@@ -231,24 +230,75 @@ fn base(word: &str, n: u32) -> Option<Base>
     }
 }
 
-fn index(value: &Value) -> Option<Option<VarId>>
-    ensures { result ≡ index_of (view value.now) }
+fn index(mark: Mark) -> Option<Option<VarId>>
+    ensures { result ≡ index_of (mark_data mark) }
 {
-    if value.is_null() {
-        return Some(None);
+    match mark {
+        Mark::Null => Some(None),
+        Mark::Integer(z) => Some(Some(VarId(natural(z)?))),
     }
-    let n = natural(value)?;
-    Some(Some(VarId(n)))
 }
 
-fn address(list: &Value) -> Option<Addr>
-    ensures { result ≡ address_of (view list.now) }
+fn mark_at(marks: &[Mark], at: usize) -> Option<Mark>
+    ensures { option_map mark_data result ≡ item_at at (marks_row marks.now) }
 {
-    let word = word_at(list, 0)?;
-    let n = natural_at(list, 1)?;
+    item_ref(marks, at).copied()
+}
+
+fn natural_mark(marks: &[Mark], at: usize) -> Option<u32>
+    ensures { result ≡ natural_at at (marks_row marks.now) }
+{
+    match mark_at(marks, at)? {
+        Mark::Null => None,
+        Mark::Integer(z) => natural(z),
+    }
+}
+
+fn integer_mark(marks: &[Mark], at: usize) -> Option<i32>
+    ensures { result ≡ integer_at at (marks_row marks.now) }
+{
+    match mark_at(marks, at)? {
+        Mark::Null => None,
+        Mark::Integer(z) => short_integer(z),
+    }
+}
+
+fn long_natural_mark(marks: &[Mark], at: usize) -> Option<u64>
+    ensures { result ≡ long_natural_at at (marks_row marks.now) }
+{
+    match mark_at(marks, at)? {
+        Mark::Null => None,
+        Mark::Integer(z) => long_natural(z),
+    }
+}
+
+fn long_integer_mark(marks: &[Mark], at: usize) -> Option<i64>
+    ensures { result ≡ long_integer_at at (marks_row marks.now) }
+{
+    match mark_at(marks, at)? {
+        Mark::Null => None,
+        Mark::Integer(z) => long_integer(z),
+    }
+}
+
+fn index_mark(marks: &[Mark], at: usize) -> Option<Option<VarId>>
+    ensures { result ≡ index_at at (marks_row marks.now) }
+{
+    let mark = mark_at(marks, at)?;
+    index(mark)
+}
+
+/// The address of a word and three numbers.
+pub(crate) fn address(word: &str, marks: &[Mark]) -> Option<Addr>
+    ensures { result ≡ address_in word.now marks.now }
+{
+    if marks.len() != 3 {
+        return None;
+    }
+    let n = natural_mark(marks, 0)?;
     let base = base(word, n)?;
-    let offset = integer_at(list, 2)?;
-    let index = index(list.get(3usize)?)?;
+    let offset = integer_mark(marks, 1)?;
+    let index = index_mark(marks, 2)?;
     Some(Addr {
         base,
         offset,
@@ -256,80 +306,106 @@ fn address(list: &Value) -> Option<Addr>
     })
 }
 
-fn address_at(list: &Value, at: usize) -> Option<Addr>
-    ensures { result ≡ address_at at (view list.now) }
-{
-    let value = list.get(at)?;
-    address(value)
-}
-
 /// The instruction of a form that a list spells.
-fn made(form: Form, list: &Value) -> Option<VInstr>
-    ensures { result ≡ made form (view list.now) }
+fn made(form: Form, cells: &[Cell]) -> Option<VInstr>
+    requires { Each CellFits cells.now }
+    ensures { (w : List ℕ) → result ≡ made form (worded w cells.now) }
 {
     match form {
-        Form::Set => Some(VInstr::Set(variable_at(list, 1)?, integer_at(list, 2)?)),
-        Form::Copy => Some(VInstr::Copy(variable_at(list, 1)?, variable_at(list, 2)?)),
-        Form::Add => Some(VInstr::Add(variable_at(list, 1)?, variable_at(list, 2)?)),
-        Form::Sub => Some(VInstr::Sub(variable_at(list, 1)?, variable_at(list, 2)?)),
-        Form::And => Some(VInstr::And(variable_at(list, 1)?, variable_at(list, 2)?)),
-        Form::Or => Some(VInstr::Or(variable_at(list, 1)?, variable_at(list, 2)?)),
-        Form::Xor => Some(VInstr::Xor(variable_at(list, 1)?, variable_at(list, 2)?)),
-        Form::Mul => Some(VInstr::Mul(variable_at(list, 1)?, variable_at(list, 2)?)),
-        Form::Neg => Some(VInstr::Neg(variable_at(list, 1)?)),
-        Form::Cmp => Some(VInstr::Cmp(variable_at(list, 1)?, variable_at(list, 2)?)),
+        Form::Set => Some(VInstr::Set(variable_at(cells, 0)?, integer_at(cells, 1)?)),
+        Form::Copy => Some(VInstr::Copy(variable_at(cells, 0)?, variable_at(cells, 1)?)),
+        Form::Add => Some(VInstr::Add(variable_at(cells, 0)?, variable_at(cells, 1)?)),
+        Form::Sub => Some(VInstr::Sub(variable_at(cells, 0)?, variable_at(cells, 1)?)),
+        Form::And => Some(VInstr::And(variable_at(cells, 0)?, variable_at(cells, 1)?)),
+        Form::Or => Some(VInstr::Or(variable_at(cells, 0)?, variable_at(cells, 1)?)),
+        Form::Xor => Some(VInstr::Xor(variable_at(cells, 0)?, variable_at(cells, 1)?)),
+        Form::Mul => Some(VInstr::Mul(variable_at(cells, 0)?, variable_at(cells, 1)?)),
+        Form::Neg => Some(VInstr::Neg(variable_at(cells, 0)?)),
+        Form::Cmp => Some(VInstr::Cmp(variable_at(cells, 0)?, variable_at(cells, 1)?)),
         Form::CmpSet => Some(VInstr::CmpSet(
-            condition_at(list, 1)?,
-            variable_at(list, 2)?,
-            variable_at(list, 3)?,
-            variable_at(list, 4)?,
+            condition_at(cells, 0)?,
+            variable_at(cells, 1)?,
+            variable_at(cells, 2)?,
+            variable_at(cells, 3)?,
         )),
         Form::DivMod => Some(VInstr::DivMod(
-            variable_at(list, 1)?,
-            variable_at(list, 2)?,
-            variable_at(list, 3)?,
-            variable_at(list, 4)?,
+            variable_at(cells, 0)?,
+            variable_at(cells, 1)?,
+            variable_at(cells, 2)?,
+            variable_at(cells, 3)?,
         )),
-        Form::Check => Some(VInstr::Check(variable_at(list, 1)?, integer_at(list, 2)?)),
-        Form::CheckPos => Some(VInstr::CheckPos(variable_at(list, 1)?)),
-        Form::Load => Some(VInstr::Load(variable_at(list, 1)?, address_at(list, 2)?)),
-        Form::Store => Some(VInstr::Store(address_at(list, 1)?, variable_at(list, 2)?)),
-        Form::Addr => Some(VInstr::Addr(variable_at(list, 1)?, address_at(list, 2)?)),
-        Form::Push => Some(VInstr::Push(variable_at(list, 1)?)),
-        Form::Call => Some(VInstr::Call(ProcId(natural_at(list, 1)?))),
-        Form::Read => Some(VInstr::Read(variable_at(list, 1)?)),
-        Form::Write => Some(VInstr::Write(variable_at(list, 1)?)),
+        Form::Check => Some(VInstr::Check(variable_at(cells, 0)?, integer_at(cells, 1)?)),
+        Form::CheckPos => Some(VInstr::CheckPos(variable_at(cells, 0)?)),
+        Form::Load => Some(VInstr::Load(variable_at(cells, 0)?, address_at(cells, 1)?)),
+        Form::Store => Some(VInstr::Store(address_at(cells, 0)?, variable_at(cells, 1)?)),
+        Form::Addr => Some(VInstr::Addr(variable_at(cells, 0)?, address_at(cells, 1)?)),
+        Form::Push => Some(VInstr::Push(variable_at(cells, 0)?)),
+        Form::Call => Some(VInstr::Call(ProcId(natural_at(cells, 0)?))),
+        Form::Read => Some(VInstr::Read(variable_at(cells, 0)?)),
+        Form::Write => Some(VInstr::Write(variable_at(cells, 0)?)),
         Form::Line => Some(VInstr::Line),
         Form::Clear => Some(VInstr::Clear),
     }
 }
 
-fn instruction(list: &Value) -> Option<VInstr>
-    ensures { result ≡ instruction_of (view list.now) }
-{
-    let word = word_at(list, 0)?;
-    let form = form_named(word)?;
-    made(form, list)
-}
+impl Worded for VInstr {
+    ghost use Rattle.cert_form.specs.Reading.{instruction_of};
+    ghost use Rattle.cert_form.specs.Form.{instruction_data};
+    ghost use Rattle.cert_form.specs.Whole.{InstructionFits};
+    ghost use Rattle.cert_form.specs.Table.{name, form_of, operands_of};
 
-impl Readable for VInstr {
     ghost of = { instruction_of };
 
-    fn of_value(_alloc: Global, value: &Value) -> Result<VInstr, Misread> {
-        instruction(value).ok_or(Misread::Form)
+    ghost form = { instruction_data };
+
+    ghost fits = { InstructionFits };
+
+    ghost says = { λ i. name (form_of i) };
+
+    ghost operands = { operands_of };
+
+    fn of_row(word: &str, cells: &[Cell]) -> Option<VInstr> {
+        let form = form_named(word)?;
+        made(form, cells)
+    }
+
+    fn spell(&self) -> Spelling {
+        let spelled = row(*self);
+        Spelling {
+            word: name(spelled.form),
+            operands: spelled.operands,
+        }
     }
 }
 
-fn end_named(word: &str, list: &Value) -> Option<End>
-    ensures { result ≡ end_named word.now (view list.now) }
+impl Part for VInstr {
+    ghost use Rattle.cert_form.specs.Form.{instruction_data};
+    ghost use Rattle.cert_form.specs.Whole.{InstructionFits};
+
+    ghost form = { instruction_data };
+
+    ghost fits = { λ n i. InstructionFits i };
+
+    fn part(
+        alloc: Global,
+        _number: usize,
+        reader: &mut Reader<'_>,
+        depth: usize,
+    ) -> Result<Option<VInstr>, Unread> {
+        read_worded(alloc, reader, depth)
+    }
+}
+
+fn end_named(word: &str, cells: &[Cell]) -> Option<End>
+    ensures { result ≡ end_named word.now (worded word.now cells.now) }
 {
     if word == "jump" {
-        let b = natural_at(list, 1)?;
+        let b = natural_at(cells, 0)?;
         Some(End::Jump(BlockId(b)))
     } else if word == "branch" {
-        let k = condition_at(list, 1)?;
-        let yes = natural_at(list, 2)?;
-        let no = natural_at(list, 3)?;
+        let k = condition_at(cells, 0)?;
+        let yes = natural_at(cells, 1)?;
+        let no = natural_at(cells, 2)?;
         Some(End::Branch(k, BlockId(yes), BlockId(no)))
     } else if word == "return" {
         Some(End::Return)
@@ -338,28 +414,164 @@ fn end_named(word: &str, list: &Value) -> Option<End>
     }
 }
 
-fn end(list: &Value) -> Option<End>
-    ensures { result ≡ end_of (view list.now) }
-{
-    let word = word_at(list, 0)?;
-    end_named(word, list)
-}
+impl Worded for End {
+    ghost use Rattle.cert_form.specs.Reading.{end_of};
+    ghost use Rattle.cert_form.specs.Form.{end_data};
+    ghost use Rattle.cert_form.specs.Whole.{EndFits};
+    ghost use Rattle.cert_form.specs.Streams.{end_word, end_operands};
 
-impl Readable for Block {
-    ghost of = { block_of };
+    ghost of = { end_of };
 
-    fn of_value(alloc: Global, value: &Value) -> Result<Block, Misread> {
-        let depth = natural_at(value, 0).ok_or(Misread::Form)?;
-        let code = list(alloc, value.get(1usize).ok_or(Misread::Form)?)?;
-        let end = end(value.get(2usize).ok_or(Misread::Form)?).ok_or(Misread::Form)?;
-        Ok(Block { depth, code, end })
+    ghost form = { end_data };
+
+    ghost fits = { EndFits };
+
+    ghost says = { end_word };
+
+    ghost operands = { end_operands };
+
+    fn of_row(word: &str, cells: &[Cell]) -> Option<End> {
+        end_named(word, cells)
+    }
+
+    fn spell(&self) -> Spelling {
+        match *self {
+            End::Jump(b) => spelling_of("jump", &[Operand::Variable(VarId(b.0))]),
+            End::Branch(k, yes, no) => spelling_of(
+                "branch",
+                &[
+                    Operand::Condition(k),
+                    Operand::Variable(VarId(yes.0)),
+                    Operand::Variable(VarId(no.0)),
+                ],
+            ),
+            End::Return => spelling_of("return", &[]),
+        }
     }
 }
 
-fn place(value: &Value) -> Option<Place>
-    ensures { result ≡ place_of (view value.now) }
+impl Part for End {
+    ghost use Rattle.cert_form.specs.Form.{end_data};
+    ghost use Rattle.cert_form.specs.Whole.{EndFits};
+
+    ghost form = { end_data };
+
+    ghost fits = { λ n e. EndFits e };
+
+    fn part(
+        alloc: Global,
+        _number: usize,
+        reader: &mut Reader<'_>,
+        depth: usize,
+    ) -> Result<Option<End>, Unread> {
+        read_worded(alloc, reader, depth)
+    }
+}
+
+fn natural_in(found: Option<i128>) -> Option<u32>
+    ensures { (d : Data) → IsAnswer integer (λ z. ⊤) found d → IsAnswer natural IsNatural result d }
 {
-    let n = natural(value)?;
+    match found {
+        Some(z) => natural(z),
+        None => None,
+    }
+}
+
+fn long_in(found: Option<i128>) -> Option<u64>
+    ensures { (d : Data) → IsAnswer integer (λ z. ⊤) found d → IsAnswer natural IsLong result d }
+{
+    match found {
+        Some(z) => long_natural(z),
+        None => None,
+    }
+}
+
+impl Part for u32 {
+    ghost use Rattle.cert_form.specs.Form.{natural};
+    ghost use Rattle.cert_form.specs.Whole.{IsNatural};
+
+    ghost form = { natural };
+
+    ghost fits = { λ n x. IsNatural x };
+
+    fn part(
+        _alloc: Global,
+        _number: usize,
+        reader: &mut Reader<'_>,
+        depth: usize,
+    ) -> Result<Option<u32>, Unread> {
+        let found = integer(reader, depth)?;
+        Ok(natural_in(found))
+    }
+}
+
+impl Part for u64 {
+    ghost use Rattle.cert_form.specs.Form.{natural};
+    ghost use Rattle.cert_form.specs.Whole.{IsLong};
+
+    ghost form = { natural };
+
+    ghost fits = { λ n x. IsLong x };
+
+    fn part(
+        _alloc: Global,
+        _number: usize,
+        reader: &mut Reader<'_>,
+        depth: usize,
+    ) -> Result<Option<u64>, Unread> {
+        let found = integer(reader, depth)?;
+        Ok(long_in(found))
+    }
+}
+
+/// The block that is what is left of a list.
+fn block_left(alloc: Global, reader: &mut Reader<'_>, depth: usize) -> Result<Option<Block>, Unread>
+    ensures { Took (IsListAnswer block_data BlockFits) (rests depth reader.old) result reader.new }
+{
+    let Some(nested) = item(alloc, reader, depth)? else {
+        return Ok(None);
+    };
+    let Some(code) = item(alloc, reader, depth)? else {
+        return Ok(None);
+    };
+    let Some(end) = item(alloc, reader, depth)? else {
+        return Ok(None);
+    };
+    if !ends(reader, depth)? {
+        return Ok(None);
+    }
+    Ok(Some(Block {
+        depth: nested,
+        code,
+        end,
+    }))
+}
+
+impl Part for Block {
+    ghost use Rattle.cert_form.specs.Form.{block_data};
+    ghost use Rattle.cert_form.specs.Whole.{BlockFits};
+
+    ghost form = { block_data };
+
+    ghost fits = { λ n b. BlockFits b };
+
+    fn part(
+        alloc: Global,
+        _number: usize,
+        reader: &mut Reader<'_>,
+        depth: usize,
+    ) -> Result<Option<Block>, Unread> {
+        if !begins_list(reader, depth)? {
+            return Ok(None);
+        }
+        block_left(alloc, reader, depth - 1)
+    }
+}
+
+fn place(z: i128) -> Option<Place>
+    ensures { result ≡ place_of (integer z) }
+{
+    let n = natural(z)?;
     if n < 14 {
         Place::of_number(n as u8)
     } else {
@@ -367,170 +579,138 @@ fn place(value: &Value) -> Option<Place>
     }
 }
 
-impl Readable for Place {
-    ghost of = { place_of };
-
-    fn of_value(_alloc: Global, value: &Value) -> Result<Place, Misread> {
-        place(value).ok_or(Misread::Form)
-    }
-}
-
-impl Readable for Seq<Place> {
-    ghost of = { path_of };
-
-    fn of_value(alloc: Global, value: &Value) -> Result<Seq<Place>, Misread> {
-        list(alloc, value)
-    }
-}
-
-impl Readable for CapAt {
-    ghost of = { cap_of };
-
-    fn of_value(_alloc: Global, value: &Value) -> Result<CapAt, Misread> {
-        cap(value).ok_or(Misread::Form)
-    }
-}
-
-fn cap(list: &Value) -> Option<CapAt>
-    ensures { result ≡ cap_of (view list.now) }
+fn place_in(found: Option<i128>) -> Option<Place>
+    ensures { (d : Data) → IsAnswer integer (λ z. ⊤) found d →
+        IsAnswer place_data (λ p. ⊤) result d }
 {
-    let at = natural_at(list, 0)?;
-    let price = long_natural(list.get(1usize)?)?;
+    match found {
+        Some(z) => place(z),
+        None => None,
+    }
+}
+
+impl Part for Place {
+    ghost use Rattle.std.specs.Prelude.{⊤};
+    ghost use Rattle.cert_form.specs.Form.{place_data};
+
+    ghost form = { place_data };
+
+    ghost fits = { λ n p. ⊤ };
+
+    fn part(
+        _alloc: Global,
+        _number: usize,
+        reader: &mut Reader<'_>,
+        depth: usize,
+    ) -> Result<Option<Place>, Unread> {
+        let found = integer(reader, depth)?;
+        Ok(place_in(found))
+    }
+}
+
+/// The lists of places that are what is left of a list.
+fn paths_left(
+    alloc: Global,
+    reader: &mut Reader<'_>,
+    depth: usize,
+) -> Result<Option<Packed<Place>>, Unread>
+    ensures { Took (IsListAnswer (list path_data) ArePaths) (rests depth reader.old) result
+        reader.new }
+{
+    let mut paths = Packed::new(alloc);
+    'paths: while !reader.take_end_array() {
+        let Some(path) = list(alloc, reader, depth, None)? else {
+            pass_items(reader, depth)?;
+            return Ok(None);
+        };
+        paths.push(path.as_slice())?;
+    }
+    Ok(Some(paths))
+}
+
+impl Part for Packed<Place> {
+    ghost use Rattle.cert_form.specs.Form.{path_data, list};
+    ghost use Rattle.cert_form.specs.Found.{ArePaths};
+
+    ghost form = { list path_data };
+
+    ghost fits = { λ n ps. ArePaths ps };
+
+    fn part(
+        alloc: Global,
+        _number: usize,
+        reader: &mut Reader<'_>,
+        depth: usize,
+    ) -> Result<Option<Packed<Place>>, Unread> {
+        if !begins_list(reader, depth)? {
+            return Ok(None);
+        }
+        paths_left(alloc, reader, depth - 1)
+    }
+}
+
+fn cap(marks: &[Mark]) -> Option<CapAt>
+    ensures { result ≡ cap_in marks.now }
+{
+    if marks.len() != 2 {
+        return None;
+    }
+    let at = natural_mark(marks, 0)?;
+    let price = long_natural_mark(marks, 1)?;
     Some(CapAt { at, price })
 }
 
-impl Readable for TieAt {
-    ghost of = { tie_of };
+impl Part for CapAt {
+    ghost use Rattle.cert_form.specs.Form.{cap_data};
+    ghost use Rattle.cert_form.specs.Whole.{CapFits};
 
-    fn of_value(_alloc: Global, value: &Value) -> Result<TieAt, Misread> {
-        tie(value).ok_or(Misread::Form)
+    ghost form = { cap_data };
+
+    ghost fits = { λ n c. CapFits c };
+
+    fn part(
+        alloc: Global,
+        _number: usize,
+        reader: &mut Reader<'_>,
+        depth: usize,
+    ) -> Result<Option<CapAt>, Unread> {
+        match list(alloc, reader, depth, Some(2))? {
+            Some(marks) => Ok(cap(marks.as_slice())),
+            None => Ok(None),
+        }
     }
 }
 
-fn tie(list: &Value) -> Option<TieAt>
-    ensures { result ≡ tie_of (view list.now) }
+fn tie(marks: &[Mark]) -> Option<TieAt>
+    ensures { result ≡ tie_in marks.now }
 {
-    let at = natural_at(list, 0)?;
-    let number = long_integer(list.get(1usize)?)?;
+    if marks.len() != 2 {
+        return None;
+    }
+    let at = natural_mark(marks, 0)?;
+    let number = long_integer_mark(marks, 1)?;
     Some(TieAt { at, number })
 }
 
-// The number of a key.
-pub(crate) fn natural_under(value: &Value, key: &str) -> Result<u32, Misread>
-    ensures ok { IfOk result (λ n. natural_under key.now (view value.now) ≡ Some n) }
-    ensures err { IfErr result (λ e. e ≡ misread.Form
-        → natural_under key.now (view value.now) ≡ None) }
-{
-    let part = value.get(key).ok_or(Misread::Form)?;
-    natural(part).ok_or(Misread::Form)
-}
+impl Part for TieAt {
+    ghost use Rattle.cert_form.specs.Form.{tie_data};
+    ghost use Rattle.cert_form.specs.Whole.{TieFits};
 
-fn long_under(value: &Value, key: &str) -> Result<u64, Misread>
-    ensures ok { IfOk result (λ n. long_under key.now (view value.now) ≡ Some n) }
-    ensures err { IfErr result (λ e. e ≡ misread.Form
-        → long_under key.now (view value.now) ≡ None) }
-{
-    let part = value.get(key).ok_or(Misread::Form)?;
-    long_natural(part).ok_or(Misread::Form)
-}
+    ghost form = { tie_data };
 
-// The list of a key.
-fn list_under<T: Readable>(alloc: Global, value: &Value, key: &str) -> Result<Seq<T>, Misread>
-    ensures ok { IfOk result (λ xs. list_under T.of key.now (view value.now) ≡ Some xs) }
-    ensures err { IfErr result (λ e. e ≡ misread.Form
-        → list_under T.of key.now (view value.now) ≡ None) }
-{
-    let part = value.get(key).ok_or(Misread::Form)?;
-    list(alloc, part)
-}
+    ghost fits = { λ n t. TieFits t };
 
-/// The code of the procedure of a number.
-pub(crate) fn code(alloc: Global, number: u32, value: &Value) -> Result<VProc, Misread>
-    ensures ok { IfOk result (λ c. code_of number (view value.now) ≡ Some c) }
-    ensures err { IfErr result (λ e. e ≡ misread.Form → code_of number (view value.now) ≡ None) }
-{
-    let aggregates = natural_under(value, "aggregates")?;
-    let args = natural_under(value, "args")?;
-    let vars = list_under(alloc, value, "vars")?;
-    let blocks = list_under(alloc, value, "blocks")?;
-    let id = ProcId(number);
-    Ok(VProc {
-        id,
-        args,
-        aggregates,
-        vars,
-        blocks,
-    })
-}
-
-/// The procedure of a number.
-fn cert(alloc: Global, number: u32, value: &Value) -> Result<Cert, Misread>
-    ensures ok { IfOk result (λ c. cert_of number (view value.now) ≡ Some c) }
-    ensures err { IfErr result (λ e. e ≡ misread.Form → cert_of number (view value.now) ≡ None) }
-{
-    let code = code(alloc, number, value)?;
-    let lists: Seq<Seq<Place>> = list_under(alloc, value, "routes")?;
-    let places = Packed::of(alloc, lists.as_slice())?;
-    let caps = list_under(alloc, value, "caps")?;
-    let mems = list_under(alloc, value, "mems")?;
-    let ties = list_under(alloc, value, "ties")?;
-    let total = long_under(value, "total")?;
-    let bound = long_under(value, "bound")?;
-    Ok(Cert {
-        code,
-        routes: Routes { places },
-        caps,
-        mems,
-        ties,
-        total,
-        bound,
-    })
-}
-
-impl Numbered for Cert {
-    ghost of = { cert_of };
-
-    fn of_numbered(alloc: Global, number: u32, value: &Value) -> Result<Cert, Misread> {
-        cert(alloc, number, value)
+    fn part(
+        alloc: Global,
+        _number: usize,
+        reader: &mut Reader<'_>,
+        depth: usize,
+    ) -> Result<Option<TieAt>, Unread> {
+        match list(alloc, reader, depth, Some(2))? {
+            Some(marks) => Ok(tie(marks.as_slice())),
+            None => Ok(None),
+        }
     }
-}
-
-fn one_numbered<T: Numbered>(alloc: Global, number: usize, value: &Value) -> Result<T, Misread>
-    ensures ok { IfOk result (λ x. numbered T.of number (view value.now) ≡ Some x) }
-    ensures err { IfErr result (λ e. e ≡ misread.Form
-        → numbered T.of number (view value.now) ≡ None) }
-{
-    if number < 4294967296 {
-        T::of_numbered(alloc, number as u32, value)
-    } else {
-        Err(Misread::Form)
-    }
-}
-
-fn all_numbered<T: Numbered>(alloc: Global, values: &[Value]) -> Result<Seq<T>, Misread>
-    ensures ok { IfOk result (λ xs. each_numbered T.of 0 (items_view values.now) ≡ Some xs) }
-    ensures err { IfErr result (λ e. e ≡ misread.Form
-        → each_numbered T.of 0 (items_view values.now) ≡ None) }
-{
-    let mut procs = Vec::with_capacity(alloc, values.len())?;
-    for item in values {
-        let number = procs.len();
-        procs.push(one_numbered(alloc, number, item)?)?;
-    }
-    Ok(Seq::from_vec(procs))
-}
-
-/// The procedures of a certificate or of a code file.
-pub(crate) fn procs_under<T: Numbered>(alloc: Global, value: &Value) -> Result<Seq<T>, Misread>
-    ensures ok { IfOk result (λ xs. procs_of T.of (view value.now) ≡ Some xs) }
-    ensures err { IfErr result (λ e. e ≡ misread.Form → procs_of T.of (view value.now) ≡ None) }
-{
-    let values = value
-        .get("procs")
-        .ok_or(Misread::Form)?
-        .as_array()
-        .ok_or(Misread::Form)?;
-    all_numbered(alloc, values.as_slice())
 }
 
 fn cost(word: &str) -> Option<CostWord>
@@ -545,19 +725,65 @@ fn cost(word: &str) -> Option<CostWord>
     }
 }
 
-fn cost_word(value: &Value) -> Option<CostWord>
-    ensures { result ≡ cost_word_at (view value.now) }
+fn cost_in(found: Option<&str>) -> Option<CostWord>
+    ensures { (d : Data) → IsText found.entry d →
+        IsAnswer (λ c. string (cost_name c)) (λ c. ⊤) result d }
 {
-    let word = value.get("cost")?.as_str()?;
-    cost(word)
+    match found {
+        Some(word) => cost(word),
+        None => None,
+    }
 }
 
-/// The certificate that a value can be of.
-pub(crate) fn certificate(alloc: Global, value: &Value) -> Result<Certificate, Misread>
-    ensures ok { IfOk result (λ c. certificate_of (view value.now) ≡ Some c) }
-    ensures err { IfErr result (λ e. e ≡ misread.Form → certificate_of (view value.now) ≡ None) }
+impl Part for CostWord {
+    ghost use Rattle.std.specs.Prelude.{⊤};
+    ghost use Rattle.cert_form.specs.Form.{cost_name};
+    ghost use Rattle.serde_json.specs.Data.{string};
+
+    ghost form = { λ c. string (cost_name c) };
+
+    ghost fits = { λ n c. ⊤ };
+
+    fn part(
+        _alloc: Global,
+        _number: usize,
+        reader: &mut Reader<'_>,
+        depth: usize,
+    ) -> Result<Option<CostWord>, Unread> {
+        let found = word(reader, depth)?;
+        Ok(cost_in(found))
+    }
+}
+
+/// The version of these forms.
+#[derive(Clone, Copy, Drop)]
+pub(crate) struct Version;
+
+fn version_in(found: Option<i128>) -> Option<Version>
+    ensures { (d : Data) → IsAnswer integer (λ z. ⊤) found d →
+        IsAnswer (λ v. natural 1) (λ v. ⊤) result d }
 {
-    let cost = cost_word(value).ok_or(Misread::Form)?;
-    let procs = procs_under(alloc, value)?;
-    Ok(Certificate { cost, procs })
+    match found {
+        Some(z) => if z == 1 { Some(Version) } else { None },
+        None => None,
+    }
+}
+
+impl Part for Version {
+    ghost use Rattle.std.specs.Prelude.{⊤};
+    ghost use Rattle.cert_form.specs.Form.{natural};
+
+    ghost form = { λ v. natural 1 };
+
+    ghost fits = { λ n v. ⊤ };
+
+    fn part(
+        _alloc: Global,
+        _number: usize,
+        reader: &mut Reader<'_>,
+        depth: usize,
+    ) -> Result<Option<Version>, Unread> {
+        let found = integer(reader, depth)?;
+        Ok(version_in(found))
+    }
 }

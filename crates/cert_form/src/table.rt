@@ -59,6 +59,13 @@ pub(crate) struct Spelled {
     pub operands: ArrayVec<Operand, 4>,
 }
 
+/// A word and operands.
+#[derive(Drop)]
+pub(crate) struct Spelling {
+    pub word: &'static str,
+    pub operands: ArrayVec<Operand, 4>,
+}
+
 /// All forms.
 fn all_forms() -> &'static [Form]
     ensures { result.now ≡ all_forms }
@@ -144,6 +151,21 @@ fn parts(form: Form, operands: &[Operand]) -> Spelled
     }
     Spelled {
         form,
+        operands: listed,
+    }
+}
+
+pub(crate) fn spelling_of(word: &'static str, operands: &[Operand]) -> Spelling
+    requires { length operands.now ≤ 4 }
+    ensures word { result.word.now ≡ word.now }
+    ensures operands { result.operands.items ≡ operands.now }
+{
+    let mut listed = ArrayVec::new();
+    for operand in operands {
+        listed.push(*operand);
+    }
+    Spelling {
+        word,
         operands: listed,
     }
 }

@@ -1,19 +1,14 @@
 // The text of a certificate, and back.
 
-ghost use Rattle.std.specs.Prelude.{◌≡◌, ◌<◌, length, IfOk, IfErr, Some};
-ghost use Rattle.serde_json.specs.View.{view};
+ghost use Rattle.std.specs.Prelude.{◌≡◌, ◌<◌, length, IfOk};
 ghost use Rattle.cert_form.specs.Form.{certificate_data, certificate_text};
-ghost use Rattle.cert_form.specs.Reading.{certificate_of};
-ghost use Rattle.cert_form.specs.Whole.{AreNumbered, IsWhole, IsReadAs, IsReadAgain, IsOfNone};
-ghost use Rattle.cert_form.specs.Whole.{Reads};
-ghost use Rattle.cert_form.specs.declared.reading.Misread.TheVariants as misread;
+ghost use Rattle.cert_form.specs.Whole.{AreNumbered, IsReadAs, IsReadAgain, Reads};
 ghost use Rattle.cert_form.specs.declared.text.CertFault.TheVariants as fault;
 
 use crate::certificate::Certificate;
-use crate::line::{Unread, is_of, line, read_value};
-use crate::reading::{Misread, certificate};
+use crate::line::{line, read};
+use crate::passing::Unread;
 use pra_base::OutOfMemory;
-use serde_json::Value;
 use std::alloc::{AllocError, Global};
 use thiserror::Error;
 
@@ -57,22 +52,6 @@ pub fn cert_text(alloc: Global, c: &Certificate) -> Result<Vec<u8>, OutOfMemory>
     Ok(text)
 }
 
-// The only certificate that a value can be of.
-fn find(alloc: Global, value: &Value) -> Result<Certificate, Misread>
-    ensures ok { IfOk result (λ c. certificate_of (view value.now) ≡ Some c) }
-    ensures whole { IfOk result (λ c. IsWhole c) }
-    ensures err { IfErr result (λ e. e ≡ misread.Form → IsOfNone (view value.now)) }
-{
-    let found = match certificate(alloc, value) {
-        Ok(found) => found,
-        Err(fault) => return Err(fault),
-    };
-    if found.procs.is_empty() {
-        return Err(Misread::Form);
-    }
-    Ok(found)
-}
-
 /// The certificate that some bytes are the text of; blanks and the order of keys are free.
 ///
 /// # Errors
@@ -83,22 +62,10 @@ fn find(alloc: Global, value: &Value) -> Result<Certificate, Misread>
 pub fn cert_read(alloc: Global, bytes: &[u8]) -> Result<Certificate, CertFault>
     ensures { Reads bytes.now result }
 {
-    let value = match read_value(alloc, bytes) {
-        Ok(value) => value,
-        Err(Unread::NotJson) => return Err(CertFault::NotJson),
-        Err(Unread::OutOfMemory) => return Err(CertFault::OutOfMemory),
-    };
-    let found = match find(alloc, &value) {
-        Ok(found) => found,
-        Err(Misread::Form) => return Err(CertFault::NotCertificate),
-        Err(Misread::OutOfMemory) => return Err(CertFault::OutOfMemory),
-    };
-    let Ok(same) = is_of(alloc, value, &found) else {
-        return Err(CertFault::OutOfMemory);
-    };
-    if same {
-        Ok(found)
-    } else {
-        Err(CertFault::NotCertificate)
+    match read(alloc, bytes) {
+        Ok(Some(found)) => Ok(found),
+        Ok(None) => Err(CertFault::NotCertificate),
+        Err(Unread::NotJson) => Err(CertFault::NotJson),
+        Err(Unread::OutOfMemory) => Err(CertFault::OutOfMemory),
     }
 }

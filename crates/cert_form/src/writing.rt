@@ -49,7 +49,7 @@ fn list_value<T: Written>(alloc: Global, parts: &[T]) -> Result<Value, AllocErro
 }
 
 /// A condition's number in the instructions of the machine.
-fn condition_number(k: Cond) -> u32
+pub(crate) fn condition_number(k: Cond) -> u32
     ensures { result ≡ cond_number k }
 {
     match k {
@@ -82,7 +82,7 @@ impl Written for VarKind {
     }
 }
 
-fn base_name(base: Base) -> &'static str
+pub(crate) fn base_name(base: Base) -> &'static str
     ensures { result.now ≡ base_name base }
 {
     match base {
@@ -93,7 +93,7 @@ fn base_name(base: Base) -> &'static str
     }
 }
 
-fn base_number(base: Base) -> u32
+pub(crate) fn base_number(base: Base) -> u32
     ensures { result ≡ base_number base }
 {
     match base {

@@ -1,0 +1,10 @@
+use Rattle.std.proofs.Common.{◌≡◌, ap, ◌∙◌, option_map, rules}
+use Rattle.std.specs.Prelude.{slice_get}
+use Rattle.cert_form.specs.Streams.{cell_data}
+use Rattle.cert_form.proofs.CellsTaken.{items_get}
+use Rattle.cert_form.proofs.reading.cell_at.Goals as goal
+
+pub returns : goal.returns
+returns c =
+    let got : c.copied.result ≡ slice_get c.args.cells.now c.args.at = search rules in
+    ap (option_map cell_data) got ∙ items_get cell_data c.args.cells.now c.args.at
