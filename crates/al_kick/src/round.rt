@@ -24,9 +24,9 @@ const FIRST_VISITS: u64 = 40;
 
 // A round that may make many visits for each layer makes more: up to so many times as many, and as
 // many as if there were one layer for so many visits that it may make.
-const MOST_TIMES: u64 = 4;
+const MOST_TIMES: u64 = 8;
 
-const VISITS_A_LAYER: u64 = 480;
+const VISITS_A_LAYER: u64 = 240;
 
 // Visits for each layer of each strand that routes from nothing take, about.
 const VISITS_FROM_NOTHING: u64 = 25;
