@@ -1,7 +1,7 @@
 -- Code without checks that cannot fail may stand in the place of the old code.
 use Rattle.std.proofs.Common.{◌≡◌, ℕ, ℤ, zero, suc, ◌+◌, ◌*◌, ◌/◌, ◌-◌, ◌<◌, ◌≤◌, inl, inr}
 use Rattle.std.proofs.Common.{true, List, [], ◌∷◌, drop, length, slice_get, slice_index_or, Some}
-use Rattle.std.proofs.Common.{refl, sym, ap, subst, ◌∙◌, arith}
+use Rattle.std.proofs.Common.{None, refl, sym, ap, subst, ◌∙◌, arith}
 use Rattle.std.proofs.lemmas.Option.{slice_get_within}
 use Rattle.pra_base.proofs.Roles.{among_reads}
 use Rattle.pra_base.specs.declared.ids.VarId.{VarId}
@@ -84,8 +84,8 @@ get_drop (suc n) k (x ∷ xs) = get_drop n k xs
 
 module _ (begins : Begins) (old new : VProc) (is : IsWithout begins old new) where
   all_thin : (b : ℕ) → Thins (code_of old b) (code_of new b)
-  all_thin b = thins (kind_of old) begins (end_of old b) (begins b) (code_of old b) (code_of new b)
-      (is.code b)
+  all_thin b = thins (kind_of old) begins (end_of old b) None (begins b) (code_of old b)
+      (code_of new b) (is.code b)
 
   from : (b j : ℕ) (y : VInstr) → instr_at new b j ≡ Some y →
       Origin (code_of old b) (code_of new b) j y

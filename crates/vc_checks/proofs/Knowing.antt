@@ -1,12 +1,14 @@
 -- What is known before and behind an instruction.
 use Rattle.std.proofs.Common.{◌≡◌, ◌≢◌, ℕ, zero, suc, ◌<◌, ◌⊎◌, inl, inr, ℤ, pos, negsuc, ◌-ℤ◌}
-use Rattle.std.proofs.Common.{◌≤ℤ◌, ◌<ℤ◌, Bool, true, false, ◌&&◌, not, nat_eq, int_le, int_lt}
+use Rattle.std.proofs.Common.{◌+ℤ◌, ◌≤ℤ◌, ◌<ℤ◌, ◌≤◌, ◌-◌, ◌^◌, ⊎_elim, Bool, true, false}
+use Rattle.std.proofs.Common.{◌&&◌, not, nat_eq, int_le, int_lt}
 use Rattle.std.proofs.Common.{List, [], ◌∷◌, ◌++◌, length, filter, slice_get, slice_index_or}
-use Rattle.std.proofs.Common.{Option, Some, None, refl, sym, ap, subst, ◌∙◌, arith}
+use Rattle.std.proofs.Common.{Option, Some, None, refl, sym, ap, ap₂, subst, ◌∙◌, arith}
 use Rattle.std.specs.Prelude.{IfSome}
 use Rattle.std.specs.Int.{w32, cast_signed, cast_unsigned}
 use Rattle.std.specs.Int.RustNames.{FitsSigned}
 use Rattle.std.proofs.lemmas.Int.{ints, to_z-of_z}
+use Rattle.std.proofs.lemmas.Bool.{cases_lt}
 use Rattle.std.proofs.lemmas.Bool.Decides.{nat_tests}
 use Rattle.std.proofs.lemmas.Option.{slice_get-get_or}
 use Rattle.pra_list.specs.Among.{Among}
@@ -14,7 +16,7 @@ use Rattle.pra_list.proofs.Among.{in_at, in_either, of_filter}
 use Rattle.pra_list.proofs.Truths.{false_from}
 use Rattle.pra_base.proofs.Roles.{writes_among}
 use Rattle.pra_base.specs.Operands.{writes, written_by}
-use Rattle.pra_base.specs.Words.{word, signed}
+use Rattle.pra_base.specs.Words.{word, signed, sum32, diff32}
 use Rattle.pra_base.specs.declared.ids.VarId.{VarId}
 use Rattle.pra_base.specs.declared.code.VarKind.{VarKind}
 use Rattle.pra_base.specs.declared.code.VarKind.TheVariants.{Param, Plain, Constant}
@@ -24,7 +26,7 @@ use Rattle.vc_code.specs.declared.value.Value.TheVariants.{Num}
 use Rattle.vc_code.specs.Value.{Held, Words}
 use Rattle.vc_code.specs.Selected.{read, valued}
 use Rattle.vc_checks.specs.declared.fact.Fact.{Fact}
-use Rattle.vc_checks.specs.Facts.{Kinds, IsBetween, Holds, AllHold, Entail}
+use Rattle.vc_checks.specs.Facts.{Kinds, IsBetween, Bounds, Computes, Holds, AllHold, Entail}
 use Rattle.vc_checks.specs.Facts.{Know, Passes, Follow, is_other, listed}
 
 -- ---- numbers
@@ -41,6 +43,28 @@ lt_from x y e = grind (arith, ints)
 
 pub signed_most : (a : ℕ) → signed a ≤ℤ pos 2147483647
 signed_most a = omega (arith, ints)
+
+-- which of two a word is
+abbrev Reads : ℕ → Type 0
+Reads n = ((n < 2147483648) × (signed n ≡ pos n))
+    ⊎ ((2147483648 ≤ n) × (signed n ≡ negsuc (4294967295 - n)))
+
+reads : (n : ℕ) → Reads n
+reads n = ⊎_elim
+    (λ (lt : n < 2147483648). inl (lt, omega (arith, ints, lt)))
+    (λ (le : 2147483648 ≤ n). inr (le, grind (arith, ints)))
+    (cases_lt n 2147483648)
+
+-- a number that is not below 0 as a signed one is a word
+pub unsigned : (a : ℕ) → pos 0 ≤ℤ signed a → a < 2 ^ 32
+unsigned a le = by (reads a)
+  where
+    by : Reads a → a < 2 ^ 32
+    by (inl x) = omega (arith, x.0)
+    by (inr x) = absurd (omega (arith, ints, subst (λ z. pos 0 ≤ℤ z) x.1 le))
+
+fits_word : (n : ℤ) → FitsSigned w32 n → word n < 2 ^ 32
+fits_word n fits = omega (arith, ints)
 
 number_itself : (n : ℤ) → FitsSigned w32 n → (n ≤ℤ signed (word n)) × (signed (word n) ≤ℤ n)
 number_itself n fits = let e : signed (word n) ≡ n = to_z-of_z w32 n fits in
@@ -74,7 +98,7 @@ pub one_holds : (kind : Kinds) (held : Words) (f : Fact) → Holds kind held f �
 one_holds kind held f h g (inl e) = subst (λ x. Holds kind held x) (sym e) h
 one_holds kind held f h g (inr none) = absurd none
 
-same_number : (a b : ℕ) → Some (Num a) ≡ Some (Num b) → a ≡ b
+pub same_number : (a b : ℕ) → Some (Num a) ≡ Some (Num b) → a ≡ b
 same_number a b e = cc
 
 pub both_hold : (kind : Kinds) (one other : Fact) (low high : ℤ) → other.var.0 ≡ one.var.0 →
@@ -90,6 +114,7 @@ both_hold kind one other low high same below above held all =
       a.1,
       below (signed a.0) a.2 (subst (λ n. other.low ≤ℤ signed n) number b.2),
       above (signed a.0) a.3 (subst (λ n. signed n ≤ℤ other.high) number b.3),
+      a.4,
     )
 
 -- ---- what is known of one variable
@@ -108,6 +133,7 @@ constant_known kind known v n fits is held all =
       ap (λ (k : VarKind). valued k (slice_index_or held v None)) is,
       both.0,
       both.1,
+      fits_word n fits,
     )
 
 pub fact_known : (kind : Kinds) (known : List Fact) (v : ℕ) (f : Fact) → Among f known →
@@ -147,8 +173,8 @@ all_kept kind i held new known free passes all f among =
     subst (λ h. IsBetween f.low f.high h) (sym (passes.kept f.var.0 (free f.var.0))) (all f among)
 
 -- one more fact holds
-one_more : (kind : Kinds) (held : Words) (fact : Fact) (known : List Fact) → Holds kind held fact →
-    AllHold kind held known → AllHold kind held (fact ∷ known)
+pub one_more : (kind : Kinds) (held : Words) (fact : Fact) (known : List Fact) →
+    Holds kind held fact → AllHold kind held known → AllHold kind held (fact ∷ known)
 one_more kind held fact known h all g (inl e) = subst (λ x. Holds kind held x) (sym e) h
 one_more kind held fact known h all g (inr m) = all g m
 
@@ -165,6 +191,7 @@ check_tells kind known v limit high r is entail held new all passes =
       same ∙ t.1,
       le_from (pos 0) (signed t.0) both.0,
       below (signed t.0) (lt_from (signed t.0) limit both.1),
+      unsigned t.0 (le_from (pos 0) (signed t.0) both.0),
     ) (all_kept kind (Check v limit) held new known (λ u. refl) passes all))
   where
     below : (z : ℤ) → z <ℤ limit → z ≤ℤ high
@@ -181,10 +208,14 @@ positive_tells kind known v r entail held new all passes =
       same ∙ t.1,
       above (signed t.0) (lt_from (pos 0) (signed t.0) t.2),
       signed_most t.0,
+      unsigned t.0 (not_below (signed t.0) (above (signed t.0) (lt_from (pos 0) (signed t.0) t.2))),
     ) (all_kept kind (CheckPos v) held new known (λ u. refl) passes all))
   where
     above : (z : ℤ) → pos 0 <ℤ z → pos 1 ≤ℤ z
     above z p = omega (arith, ints)
+
+    not_below : (z : ℤ) → pos 1 ≤ℤ z → pos 0 ≤ℤ z
+    not_below z p = omega (arith, ints)
 
 -- ---- what is forgotten and learned
 
@@ -258,3 +289,92 @@ pass_follows kind i known left new news tells forgets learns held after all pass
     by (inl l) = let k = forgets f l in
         subst (λ h. IsBetween f.low f.high h) (sym (passes.kept f.var.0 k.1)) (all f k.0)
     by (inr e) = told news e tells
+
+-- ---- sums and differences that don't wrap
+
+module _ (one other : Fact) (low high : ℤ) (f : FitsSigned w32 low) (g : FitsSigned w32 high)
+    (a b : ℕ) (aw : a < 2 ^ 32) (bw : b < 2 ^ 32) (al : one.low ≤ℤ signed a)
+    (ah : signed a ≤ℤ one.high) (bl : other.low ≤ℤ signed b) (bh : signed b ≤ℤ other.high) where
+  pub sum_between : low ≡ one.low +ℤ other.low → high ≡ one.high +ℤ other.high →
+      (low ≤ℤ signed (sum32 a b)) × (signed (sum32 a b) ≤ℤ high) × (sum32 a b < 2 ^ 32)
+  sum_between p q = by (reads a) (reads b) (reads (sum32 a b))
+    where
+      by : Reads a → Reads b → Reads (sum32 a b) →
+          (low ≤ℤ signed (sum32 a b)) × (signed (sum32 a b) ≤ℤ high) × (sum32 a b < 2 ^ 32)
+      by (inl x) (inl y) (inl z) = (omega (arith, ints), omega (arith, ints), omega arith)
+      by (inl x) (inl y) (inr z) = (omega (arith, ints), omega (arith, ints), omega arith)
+      by (inl x) (inr y) (inl z) = (omega (arith, ints), omega (arith, ints), omega arith)
+      by (inl x) (inr y) (inr z) = (omega (arith, ints), omega (arith, ints), omega arith)
+      by (inr x) (inl y) (inl z) = (omega (arith, ints), omega (arith, ints), omega arith)
+      by (inr x) (inl y) (inr z) = (omega (arith, ints), omega (arith, ints), omega arith)
+      by (inr x) (inr y) (inl z) = (omega (arith, ints), omega (arith, ints), omega arith)
+      by (inr x) (inr y) (inr z) = (omega (arith, ints), omega (arith, ints), omega arith)
+
+  pub difference_between : low ≡ one.low -ℤ other.high → high ≡ one.high -ℤ other.low →
+      (low ≤ℤ signed (diff32 a b)) × (signed (diff32 a b) ≤ℤ high) × (diff32 a b < 2 ^ 32)
+  difference_between p q = by (reads a) (reads b) (reads (diff32 a b))
+    where
+      by : Reads a → Reads b → Reads (diff32 a b) →
+          (low ≤ℤ signed (diff32 a b)) × (signed (diff32 a b) ≤ℤ high) × (diff32 a b < 2 ^ 32)
+      by (inl x) (inl y) (inl z) = (omega (arith, ints), omega (arith, ints), omega arith)
+      by (inl x) (inl y) (inr z) = (omega (arith, ints), omega (arith, ints), omega arith)
+      by (inl x) (inr y) (inl z) = (omega (arith, ints), omega (arith, ints), omega arith)
+      by (inl x) (inr y) (inr z) = (omega (arith, ints), omega (arith, ints), omega arith)
+      by (inr x) (inl y) (inl z) = (omega (arith, ints), omega (arith, ints), omega arith)
+      by (inr x) (inl y) (inr z) = (omega (arith, ints), omega (arith, ints), omega arith)
+      by (inr x) (inr y) (inl z) = (omega (arith, ints), omega (arith, ints), omega arith)
+      by (inr x) (inr y) (inr z) = (omega (arith, ints), omega (arith, ints), omega arith)
+
+-- what an operation gives of the numbers that two variables hold, where facts hold
+abbrev pub Gives : Kinds → List Fact → (ℕ → ℕ → ℕ) → ℕ → ℕ → Fact → Type 0
+Gives kind known f v s fact =
+    (held : Words) (a b : ℕ) → AllHold kind held known → read kind held v ≡ Some (Num a) →
+    read kind held s ≡ Some (Num b) → IsBetween fact.low fact.high (Some (Num (f a b)))
+
+pub both_known : (kind : Kinds) (known : List Fact) (f : ℕ → ℕ → ℕ) (v s : ℕ)
+    (one other fact : Fact) → Know kind known v (IsBetween one.low one.high) →
+    Know kind known s (IsBetween other.low other.high) → Bounds f one other fact →
+    Gives kind known f v s fact
+both_known kind known f v s one other fact knows knows_other bounds held a b all p q =
+    bounds a b (subst (λ h. IsBetween one.low one.high h) p (knows held all))
+    (subst (λ h. IsBetween other.low other.high h) q (knows_other held all))
+
+pub second_known : (kind : Kinds) (known : List Fact) (f : ℕ → ℕ → ℕ) (v s : ℕ)
+    (other fact : Fact) → Know kind known s (IsBetween other.low other.high) →
+    ((a b : ℕ) → IsBetween other.low other.high (Some (Num b)) →
+    IsBetween fact.low fact.high (Some (Num (f a b)))) → Gives kind known f v s fact
+second_known kind known f v s other fact knows bounds held a b all p q =
+    bounds a b (subst (λ h. IsBetween other.low other.high h) q (knows held all))
+
+-- what an operation tells of its result
+pub computed_tells : (kind : Kinds) (known : List Fact) (f : ℕ → ℕ → ℕ) (i : VInstr) (v s : ℕ)
+    (fact : Fact) (o : Option Fact) →
+    ((held new : Words) → Passes kind i held new → Computes f kind v s held new) →
+    Gives kind known f v s fact → fact.var.0 ≡ v → IfSome o (λ g. g ≡ fact) →
+    IfSome o (λ g. (n : ℤ) → kind fact.var.0 ≢ Constant n) →
+    IfSome o (λ g. Follow kind i known (g ∷ []))
+computed_tells kind known f i v s fact None tells gives var is changes = tt
+computed_tells kind known f i v s fact (Some g) tells gives var is changes =
+    λ held new all passes.
+    let t = tells held new passes in
+    let holds : Holds kind new fact =
+    subst (λ (u : ℕ). IsBetween fact.low fact.high (read kind new u)) (sym var)
+    (subst (λ h. IsBetween fact.low fact.high h)
+    (sym (t.4 ∙ plain (kind v) (subst (λ (u : ℕ). (n : ℤ) → kind u ≢ Constant n) var changes)
+    (Some (Num (f t.0 t.1)))))
+    (gives held t.0 t.1 all t.2 t.3)) in
+    one_holds kind new g (subst (λ x. Holds kind new x) (sym is) holds)
+
+pub bounds_by : (f : ℕ → ℕ → ℕ) (one other fact : Fact) →
+    ((a b : ℕ) → a < 2 ^ 32 → b < 2 ^ 32 → one.low ≤ℤ signed a → signed a ≤ℤ one.high →
+    other.low ≤ℤ signed b → signed b ≤ℤ other.high →
+    (fact.low ≤ℤ signed (f a b)) × (signed (f a b) ≤ℤ fact.high) × (f a b < 2 ^ 32)) →
+    Bounds f one other fact
+bounds_by f one other fact by a b x y =
+    let r = by x.0 y.0 x.4 y.4 x.2 x.3 y.2 y.3 in (
+      f x.0 y.0,
+      ap₂ (λ m n. Some (Num (f m n))) (same_number a x.0 x.1) (same_number b y.0 y.1),
+      r.0,
+      r.1,
+      r.2,
+    )

@@ -1,5 +1,6 @@
 pub mod Keeping
 pub mod Knowing
+pub mod Leaving
 pub mod Origins
 pub mod Running
 pub mod Stepping

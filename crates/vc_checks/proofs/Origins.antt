@@ -1,8 +1,8 @@
 -- Where the instructions of code without checks that cannot fail come from, and what is needed
 -- there.
 use Rattle.std.proofs.Common.{◌≡◌, ℕ, zero, suc, ◌+◌, ◌≤◌, ◌⊎◌, inl, inr, true, false, List}
-use Rattle.std.proofs.Common.{[], ◌∷◌, drop, length, slice_get, Some, None, refl, sym, ap, subst}
-use Rattle.std.proofs.Common.{◌∙◌, ℤ, arith}
+use Rattle.std.proofs.Common.{[], ◌∷◌, drop, length, slice_get, Option, Some, None, refl, sym, ap}
+use Rattle.std.proofs.Common.{subst, ◌∙◌, ℤ, arith}
 use Rattle.pra_list.proofs.Elements.{nothing_left, left_begins}
 use Rattle.pra_list.proofs.Options.{some_same, not_both}
 use Rattle.pra_base.specs.declared.ids.VarId.{VarId}
@@ -39,13 +39,14 @@ is_check : (kind : Kinds) (facts : List Fact) (x : VInstr) → CannotFail kind f
 is_check kind facts _ (index {v = v} {n = n} know) = inl (v, n, refl)
 is_check kind facts _ (positive {v = v} know) = inr (v, refl)
 
-pub thins : (kind : Kinds) (begins : Begins) (end : End) (facts : List Fact)
-    (xs ys : List VInstr) → Part kind begins end facts xs ys → Thins xs ys
-thins kind begins end facts _ _ (ends entail) = none
-thins kind begins end facts _ _ (stays {behind = behind} {xs = xs} {ys = ys} follow rest) =
-    keeps (thins kind begins end behind xs ys rest)
-thins kind begins end facts _ ys (left_out {x = x} {xs = xs} out rest) =
-    drops (is_check kind facts x out) (thins kind begins end facts xs ys rest)
+pub thins : (kind : Kinds) (begins : Begins) (end : End) (last : Option VInstr)
+    (facts : List Fact) (xs ys : List VInstr) → Part kind begins end last facts xs ys → Thins xs ys
+thins kind begins end last facts _ _ (ends entail) = none
+thins kind begins end last facts _ _
+    (stays {behind = behind} {x = x} {xs = xs} {ys = ys} follow rest) =
+    keeps (thins kind begins end (Some x) behind xs ys rest)
+thins kind begins end last facts _ ys (left_out {x = x} {xs = xs} out rest) =
+    drops (is_check kind facts x out) (thins kind begins end (Some x) facts xs ys rest)
 
 pub shorter : (xs ys : List VInstr) → Thins xs ys → length ys ≤ length xs
 shorter _ _ none = omega arith

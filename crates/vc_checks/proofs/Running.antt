@@ -1,13 +1,15 @@
 -- Code without checks that cannot fail carries every run of the old code that is never stuck.
 use Rattle.std.proofs.Common.{◌≡◌, ◌≢◌, ℕ, ℤ, zero, suc, ◌+◌, ◌-◌, ◌≤◌, ◌⊎◌, inl, inr, true, false}
 use Rattle.std.proofs.Common.{nat_eq, if◌then◌else◌, List, [], ◌∷◌, drop, length, slice_get}
-use Rattle.std.proofs.Common.{slice_set, replicate, Some, refl, sym, ap, subst, ◌∙◌, arith}
+use Rattle.std.proofs.Common.{slice_set, replicate, Option, Some, None, refl, sym, ap, subst, ◌∙◌}
+use Rattle.std.proofs.Common.{arith}
 use Rattle.std.specs.Prelude.{sum_by}
 use Rattle.std.proofs.lemmas.List.Sums.{sum_by-cons}
 use Rattle.std.proofs.lemmas.Bool.{cases_eq}
 use Rattle.std.proofs.lemmas.Bool.Decides.{nat_tests}
 use Rattle.std.proofs.lemmas.List.{length-drop, length-set, get_or-set_same, get_or-set_other}
 use Rattle.std.proofs.lemmas.Option.{get_or_from_slice_get, slice_get_within}
+use Rattle.pra_list.proofs.Options.{none_some}
 use Rattle.pra_base.specs.Agreement.{Carried}
 use Rattle.pra_base.specs.System.{Simulates}
 use Rattle.pra_base.specs.RunEnd.{Wrong}
@@ -30,7 +32,7 @@ use Rattle.vc_same.specs.SameRuns.{SameRuns, with_proc}
 use Rattle.vc_same.proofs.Carried.{carried_well}
 use Rattle.vc_checks.specs.LeftOut.{Begins, Part, IsWithout}
 use Rattle.vc_checks.specs.LeftOut.Part.{ends, stays}
-use Rattle.vc_checks.proofs.Tracked.{Tracks, begun_tracks}
+use Rattle.vc_checks.proofs.Tracked.{Tracks, begun_tracks, HasCompared, step_compared}
 use Rattle.vc_checks.proofs.Stepping.{measure, moves}
 
 -- ---- how long a block can be
@@ -63,7 +65,7 @@ module _ (olds news : List VProc) (begins : ℕ → Begins) (frames : List ℕ)
     (all : (p : ℕ) → IsWithout (begins p) (selection.code_of olds p) (selection.code_of news p))
     (long : length news ≡ length olds) where
   abbrev B : State Vars → State Vars → Type 0
-  B = Same (Tracks olds news begins)
+  B s t = Same (Tracks olds news begins) s t × HasCompared olds s
 
   short : (s : State Vars) → measure olds news begins frames all long s ≤ most olds
   short s =
@@ -76,27 +78,30 @@ module _ (olds news : List VProc) (begins : ℕ → Begins) (frames : List ℕ)
   simulates : Simulates (step (selected olds frames)) view (step (selected news frames)) view Wrong
       (most olds) (measure olds news begins frames all long) B
   simulates = record {
-    same = λ s t b. let over : t.over ≡ s.over = b.over in let events : t.events ≡ s.events =
-        b.events in let taken : t.taken ≡ s.taken = b.taken in rw (over, events, taken) refl;
+    same = λ s t b. let over : t.over ≡ s.over = b.0.over in let events : t.events ≡ s.events =
+        b.0.events in let taken : t.taken ≡ s.taken = b.0.taken in rw (over, events, taken) refl;
     bounded = short;
-    moves = λ s t b going ok. moves olds news begins frames all long s t b going ok;
+    moves = λ s t b going ok. let next = moves olds news begins frames all long s t b.0 b.1 going ok
+        in (next.0, next.1, (next.2, step_compared olds frames s b.1 going));
   }
 
   begin_same : (globals : Words) (input : List ℤ) →
       B (first (begun 0 (selection.code_of olds 0) []) globals input)
       (first (begun 0 (selection.code_of news 0) []) globals input)
-  begin_same globals input =
-      record {
-        top = begun_tracks olds news begins frames all 0 [];
-        below = tt;
-        pushed = refl;
-        globals = refl;
-        compared = λ ab e. e;
-        input = refl;
-        events = refl;
-        taken = refl;
-        over = refl;
-      }
+  begin_same globals input = (
+    record {
+      top = begun_tracks olds news begins frames all 0 [];
+      below = tt;
+      pushed = refl;
+      globals = refl;
+      compared = λ ab e. e;
+      input = refl;
+      events = refl;
+      taken = refl;
+      over = refl;
+    },
+    λ a b e. absurd (none_some e),
+  )
 
 abbrev zeros : ℕ → Words
 zeros n = replicate n (Some (Num 0))
@@ -129,12 +134,14 @@ itself code = record {
   depths = λ b. refl;
   ends = λ b. refl;
   entry = refl;
-  code = λ b. all_stay (end_of code b) (code_of code b);
+  code = λ b. all_stay (end_of code b) None (code_of code b);
 }
   where
-    all_stay : (e : End) (xs : List VInstr) → Part (kind_of code) (λ b. []) e [] xs xs
-    all_stay e [] = ends (λ t target held hold f none. absurd none)
-    all_stay e (x ∷ xs) = stays (λ held new hold passes f none. absurd none) (all_stay e xs)
+    all_stay : (e : End) (last : Option VInstr) (xs : List VInstr) →
+        Part (kind_of code) (λ b. []) e last [] xs xs
+    all_stay e last [] = ends (λ t held hold goes f none. absurd none)
+    all_stay e last (x ∷ xs) = stays (λ held new hold passes f none. absurd none)
+        (all_stay e (Some x) xs)
 
 -- the facts of one procedure, and none of the others
 abbrev only_at : ℕ → Begins → ℕ → Begins

@@ -3,7 +3,7 @@
 use Rattle.std.proofs.Common.{◌≡◌, ◌≢◌, ℕ, suc, ◌<◌, ◌⊎◌, inl, inr, ⊎_elim, Bool, true, false}
 use Rattle.std.proofs.Common.{nat_lt, if◌then◌else◌, ℤ, List, [], ◌∷◌, drop, length, map, slice_get}
 use Rattle.std.proofs.Common.{slice_index_or, Option, Some, None, refl, sym, ap, ap₂, subst, ◌∙◌}
-use Rattle.std.proofs.Common.{arith}
+use Rattle.std.proofs.Common.{bit_and, arith}
 use Rattle.std.proofs.lemmas.Option.{get_or_from_slice_get, slice_get-get_or, slice_get_within}
 use Rattle.pra_list.proofs.Elements.{nothing_left, left_begins}
 use Rattle.pra_list.proofs.Truths.{true_false, truth, if_true, if_false}
@@ -12,9 +12,11 @@ use Rattle.pra_list.proofs.Options.{some_same, not_both}
 use Rattle.pra_base.proofs.Roles.{among_writes}
 use Rattle.pra_base.specs.System.{run}
 use Rattle.pra_base.specs.RunEnd.{Ended, Trapped, Wrong}
-use Rattle.pra_base.specs.Words.{word, compares, is_positive}
+use Rattle.pra_base.specs.Words.{word, compares, is_positive, sum32, diff32}
 use Rattle.pra_base.specs.declared.event.TrapKind.{TrapKind}
 use Rattle.pra_base.specs.declared.event.TrapKind.TheVariants as trap
+use Rattle.pra_base.specs.declared.ids.BlockId.{BlockId}
+use Rattle.pra_base.specs.declared.ids.Cond.{Cond}
 use Rattle.pra_base.specs.declared.ids.VarId.{VarId}
 use Rattle.pra_base.specs.declared.code.VarKind.TheVariants.{Plain}
 use Rattle.pra_base.specs.declared.code.VInstr.{VInstr}
@@ -30,7 +32,7 @@ use Rattle.vc_code.specs.declared.value.Value.TheVariants.{Num, At}
 use Rattle.vc_code.specs.declared.action.Action.{Action}
 use Rattle.vc_code.specs.declared.action.Action.TheVariants as action
 use Rattle.vc_code.specs.Value.{Held, Words, is_index}
-use Rattle.vc_code.specs.Operation.{number}
+use Rattle.vc_code.specs.Operation.{number, computes}
 use Rattle.vc_code.specs.Machine.{Activation, State, Machine, found, with_top, apply, act, act_on}
 use Rattle.vc_code.specs.Machine.{step, returned, goes_to, branched, leave}
 use Rattle.vc_code.specs.Selected.{Vars, read, valued, at_point, at_block, behind, written, held_by}
@@ -40,16 +42,12 @@ use Rattle.vc_coupling.specs.Coupled.{AllBeside, Same, Leads}
 use Rattle.vc_coupling.proofs.Applied.{found_same, with_top_same, ended_same, performed}
 use Rattle.vc_same.proofs.Put.{put_rest, put_one}
 use Rattle.vc_checks.specs.declared.fact.Fact.{Fact}
-use Rattle.vc_checks.specs.Facts.{AllHold, Passes, Tells, Follow, Entail, CannotFail}
+use Rattle.vc_checks.specs.Facts.{Kinds, AllHold, Computes, Passes, Tells, Follow, CannotFail, Goes}
+use Rattle.vc_checks.specs.Facts.{EntailAt}
 use Rattle.vc_checks.specs.Facts.CannotFail.{index, positive}
 use Rattle.vc_checks.specs.LeftOut.{Begins, Part, IsWithout}
 use Rattle.vc_checks.specs.LeftOut.Part.{ends, stays, left_out}
-use Rattle.vc_checks.proofs.Tracked.{Tracks, couples, begun_tracks}
-
-behind_is : (c x : Activation Vars) (o : Option Words) → behind c o ≡ Some x → (held : Words) ×
-    (o ≡ Some held) × (x ≡ at_point c c.home.block (suc c.home.index) held)
-behind_is c x None e = absurd (not_both None x refl e)
-behind_is c x (Some held) e = (held, refl, sym (some_same _ _ e))
+use Rattle.vc_checks.proofs.Tracked.{before, Tracks, couples, begun_tracks, HasCompared, behind_is}
 
 there_too : {A : Type 0} (xs ys : List A) (b : ℕ) (x d : A) → length ys ≡ length xs →
     slice_get xs b ≡ Some x → slice_get ys b ≡ Some (slice_index_or ys b d)
@@ -60,6 +58,28 @@ jumped : (c x : Activation Vars) (b : ℕ) (o : Option Block) → at_block c b o
     (block : Block) × (o ≡ Some block) × (x ≡ at_point c b 0 c.home.held)
 jumped c x b None e = absurd (not_both None x refl e)
 jumped c x b (Some block) e = (block, refl, sym (some_same _ _ e))
+
+-- ---- where control goes
+
+jump_goes : (kind : Kinds) (last : Option VInstr) (held : Words) (to : BlockId) →
+    Goes kind last (Jump to) held to.0
+jump_goes kind (Some (instr.Cmp x y)) held to = refl
+jump_goes kind _ held to = refl
+
+-- behind a comparison control goes by the numbers that its operands hold
+branch_goes : (kind : Kinds) (last : Option VInstr) (held : Words) (condition : Cond)
+    (one other : BlockId) (a b : ℕ) →
+    ((x y : VarId) → last ≡ Some (instr.Cmp x y) →
+    (read kind held x.0 ≡ Some (Num a)) × (read kind held y.0 ≡ Some (Num b))) →
+    Goes kind last (Branch condition one other) held
+    (if compares condition a b then one.0 else other.0)
+branch_goes kind (Some (instr.Cmp x y)) held condition one other a b told =
+    let both = told x y refl in (a, b, both.0, both.1, refl)
+branch_goes kind _ held condition one other a b told = target (compares condition a b)
+  where
+    target : (way : Bool) → IsTarget (Branch condition one other) (if way then one.0 else other.0)
+    target true = inl refl
+    target false = inr refl
 
 module _ (olds news : List VProc) (begins : ℕ → Begins) (frames : List ℕ)
     (all : (p : ℕ) → IsWithout (begins p) (selection.code_of olds p) (selection.code_of news p))
@@ -229,6 +249,45 @@ module _ (olds news : List VProc) (begins : ℕ → Begins) (frames : List ℕ)
             (put_one held after v.0 x f ∙ sym e))
             ok
 
+    -- what an instruction tells that computes of what two variables hold
+    computed_tells : (f : ℕ → ℕ → ℕ) (v w a b : ℕ) → read (kind_of (old p)) held v ≡ Some (Num a) →
+        read (kind_of (old p)) held w ≡ Some (Num b) → (after : Words) →
+        put_all (Some held) (v ∷ []) (Num (f a b) ∷ []) ≡ Some after →
+        Computes f (kind_of (old p)) v w held after
+    computed_tells f v w a b x y after e = (
+      a,
+      b,
+      x,
+      y,
+      ap (λ h. valued (kind_of (old p) v) h) (put_one held after v (Num (f a b)) e),
+    )
+
+    computed : (i : VInstr) (f : ℕ → ℕ → ℕ) → On i → (x y : Held) →
+        ((a b : ℕ) → x ≡ Some (Num a) → y ≡ Some (Num b) → Told i (Num (f a b) ∷ [])) →
+        (apply m (λ xs. written s.top (written_by i) xs) (computes f (x ∷ y ∷ [])) s).over ≢ Some
+        Wrong →
+        Same R (apply m (λ xs. written s.top (written_by i) xs) (computes f (x ∷ y ∷ [])) s)
+        (apply n (λ xs. written t.top (written_by i) xs) (computes f (x ∷ y ∷ [])) t)
+    computed i f on (Some (Num a)) (Some (Num b)) told ok =
+        gives i on (Num (f a b) ∷ []) (told a b refl refl) ok
+    computed i f on _ _ told ok = absurd (ok refl)
+
+    computing : (i : VInstr) (f : ℕ → ℕ → ℕ) (v w : ℕ) → On i →
+        ((a b : ℕ) → read (kind_of (old p)) held v ≡ Some (Num a) →
+        read (kind_of (old p)) held w ≡ Some (Num b) → Told i (Num (f a b) ∷ [])) →
+        (apply m (λ xs. written s.top (written_by i) xs)
+        (computes f (held_by (old p) s.top (v ∷ w ∷ []))) s).over ≢ Some Wrong →
+        Same R (apply m (λ xs. written s.top (written_by i) xs)
+        (computes f (held_by (old p) s.top (v ∷ w ∷ []))) s)
+        (apply n (λ xs. written t.top (written_by i) xs)
+        (computes f (held_by (new p) t.top (v ∷ w ∷ []))) t)
+    computing i f v w on told ok =
+        subst (λ hs. Same R (apply m (λ xs. written s.top (written_by i) xs)
+        (computes f (held_by (old p) s.top (v ∷ w ∷ []))) s)
+        (apply n (λ xs. written t.top (written_by i) xs) (computes f hs) t))
+        (sym (same_reads (v ∷ w ∷ [])))
+        (computed i f on (read (kind_of (old p)) held v) (read (kind_of (old p)) held w) told ok)
+
     -- what a check does of what its variable holds
     abbrev checked : (ℕ → Bool) → TrapKind → Held → Option Action
     checked test kind h =
@@ -285,9 +344,12 @@ module _ (olds news : List VProc) (begins : ℕ → Begins) (frames : List ℕ)
     performs (instr.Copy v w) on ok = copies v w on ok
     performs (instr.Check v c) on ok = checks_index v c on ok
     performs (instr.CheckPos v) on ok = checks_positive v on ok
-    performs (instr.Add v w) on ok = plain (instr.Add v w) on (λ _. tt) ok
-    performs (instr.Sub v w) on ok = plain (instr.Sub v w) on (λ _. tt) ok
-    performs (instr.And v w) on ok = plain (instr.And v w) on (λ _. tt) ok
+    performs (instr.Add v w) on ok = computing (instr.Add v w) sum32 v.0 w.0 on
+        (computed_tells sum32 v.0 w.0) ok
+    performs (instr.Sub v w) on ok = computing (instr.Sub v w) diff32 v.0 w.0 on
+        (computed_tells diff32 v.0 w.0) ok
+    performs (instr.And v w) on ok = computing (instr.And v w) bit_and v.0 w.0 on
+        (computed_tells bit_and v.0 w.0) ok
     performs (instr.Or v w) on ok = plain (instr.Or v w) on (λ _. tt) ok
     performs (instr.Xor v w) on ok = plain (instr.Xor v w) on (λ _. tt) ok
     performs (instr.Mul v w) on ok = plain (instr.Mul v w) on (λ _. tt) ok
@@ -307,13 +369,13 @@ module _ (olds news : List VProc) (begins : ℕ → Begins) (frames : List ℕ)
 
     -- ---- an instruction that stays, and one that is left out
 
-    abbrev Rest : List Fact → List VInstr → List VInstr → Type 0
-    Rest known xs ys = Part (kind_of (old p)) (begins p) (end_of (old p) b) known xs ys
+    abbrev Rest : Option VInstr → List Fact → List VInstr → List VInstr → Type 0
+    Rest last known xs ys = Part (kind_of (old p)) (begins p) (end_of (old p) b) last known xs ys
 
     stays_step : (known behind : List Fact) (i : VInstr) (xs ys : List VInstr) →
         drop k (code_of (old p) b) ≡ i ∷ xs → drop l (code_of (new p) b) ≡ i ∷ ys →
         AllHold (kind_of (old p)) held known → Follow (kind_of (old p)) i known behind →
-        Rest behind xs ys → s.over ≡ None → (step m s).over ≢ Some Wrong →
+        Rest (Some i) behind xs ys → s.over ≡ None → (step m s).over ≢ Some Wrong →
         Same R (step m s) (step n t)
     stays_step known behind i xs ys left right hold follow rest going ok =
         let here = left_begins (code_of (old p) b) xs k i left in
@@ -327,8 +389,10 @@ module _ (olds news : List VProc) (begins : ℕ → Begins) (frames : List ℕ)
           block = r.top.block;
           held = refl;
           known = behind;
-          part = subst (λ z. Rest behind z (drop (suc l) (code_of (new p) b))) (sym here.1)
-              (subst (λ z. Rest behind xs z) (sym there.1) rest);
+          part = subst (λ o. Rest o behind (drop (suc k) (code_of (old p) b))
+              (drop (suc l) (code_of (new p) b))) (sym here.0)
+              (subst (λ z. Rest (Some i) behind z (drop (suc l) (code_of (new p) b))) (sym here.1)
+              (subst (λ z. Rest (Some i) behind xs z) (sym there.1) rest));
           hold = follow held after hold passes;
         } in
         let done : Same R (Up i) (Down i) = performs i on (λ e. ok (ap (λ z. z.over) up ∙ e)) in
@@ -355,8 +419,8 @@ module _ (olds news : List VProc) (begins : ℕ → Begins) (frames : List ℕ)
 
     left_out_step : (known : List Fact) (i : VInstr) (xs : List VInstr) →
         drop k (code_of (old p) b) ≡ i ∷ xs → AllHold (kind_of (old p)) held known →
-        CannotFail (kind_of (old p)) known i → Rest known xs (drop l (code_of (new p) b)) →
-        s.over ≡ None →
+        CannotFail (kind_of (old p)) known i →
+        Rest (Some i) known xs (drop l (code_of (new p) b)) → s.over ≡ None →
         Same R (step m s) t × (measure (step m s) ≡ length (drop (suc k) (code_of (old p) b)))
     left_out_step known i xs left hold out rest going =
         let here = left_begins (code_of (old p) b) xs k i left in
@@ -371,7 +435,10 @@ module _ (olds news : List VProc) (begins : ℕ → Begins) (frames : List ℕ)
               block = r.top.block;
               held = r.top.held;
               known = known;
-              part = subst (λ z. Rest known z (drop l (code_of (new p) b))) (sym here.1) rest;
+              part = subst (λ o. Rest o known (drop (suc k) (code_of (old p) b))
+                  (drop l (code_of (new p) b))) (sym here.0)
+                  (subst (λ z. Rest (Some i) known z (drop l (code_of (new p) b))) (sym here.1)
+                  rest);
               hold = hold;
             };
             below = r.below;
@@ -406,9 +473,9 @@ module _ (olds news : List VProc) (begins : ℕ → Begins) (frames : List ℕ)
           over = r.over;
         }
 
-    jumps : (known : List Fact) → AllHold (kind_of (old p)) held known → (c : ℕ) →
-        Entail (kind_of (old p)) known (begins p c) → Leads R (m.jump c s.top) (n.jump c t.top)
-    jumps known hold c entail x e =
+    jumps : (c : ℕ) → AllHold (kind_of (old p)) held (begins p c) →
+        Leads R (m.jump c s.top) (n.jump c t.top)
+    jumps c hold x e =
         let a = jumped s.top x c (slice_get (old p).blocks c) e in
         let there = there_too (old p).blocks (new p).blocks c a.0 no_block (all p).count a.1 in (
           at_point t.top c 0 t.top.home.held,
@@ -422,7 +489,7 @@ module _ (olds news : List VProc) (begins : ℕ → Begins) (frames : List ℕ)
             held = r.top.held;
             known = begins p c;
             part = (all p).code c;
-            hold = entail held hold;
+            hold = hold;
           }),
         )
 
@@ -432,47 +499,54 @@ module _ (olds news : List VProc) (begins : ℕ → Begins) (frames : List ℕ)
         (n.jump c t.top) _ _ f (λ x y _ q _. with_top_same m n R
         (couples olds news begins frames all) s t r x y q) ok
 
-    leaves : (e : End) → ((c : ℕ) → IsTarget e c → Leads R (m.jump c s.top) (n.jump c t.top)) →
-        (o : Option (ℕ × ℕ)) → s.compared ≡ o → (leave m e s).over ≢ Some Wrong →
-        Same R (leave m e s) (leave n e t)
-    leaves (Jump c) f o e ok = goes c.0 (f c.0 refl) ok
-    leaves Return f o e ok = returns s.below t.below r.below
-    leaves (Branch c one other) f None e ok =
+    -- where control goes, the calls are related
+    abbrev Arrives : End → Type 0
+    Arrives e = (c : ℕ) → Goes (kind_of (old p)) (before k (code_of (old p) b)) e held c →
+        Leads R (m.jump c s.top) (n.jump c t.top)
+
+    leaves : HasCompared olds s → (e : End) → Arrives e → (o : Option (ℕ × ℕ)) →
+        s.compared ≡ o → (leave m e s).over ≢ Some Wrong → Same R (leave m e s) (leave n e t)
+    leaves told (Jump c) f o e ok =
+        goes c.0 (f c.0 (jump_goes (kind_of (old p)) (before k (code_of (old p) b)) held c)) ok
+    leaves told Return f o e ok = returns s.below t.below r.below
+    leaves told (Branch c one other) f None e ok =
         absurd (ok (ap (λ o. (branched m c one.0 other.0 o s).over) e))
-    leaves (Branch c one other) f (Some (x, y)) e ok =
+    leaves told (Branch c one other) f (Some (x, y)) e ok =
         let up : branched m c one.0 other.0 s.compared s ≡
         goes_to m s (if compares c x y then one.0 else other.0) =
         ap (λ o. branched m c one.0 other.0 o s) e in
         let down : branched n c one.0 other.0 t.compared t ≡
         goes_to n t (if compares c x y then one.0 else other.0) =
         ap (λ o. branched n c one.0 other.0 o t) (r.compared (x, y) e) in
-        rw (up, down) (goes (if compares c x y then one.0 else other.0)
-        (f _ (target (compares c x y))) (λ w. ok (ap (λ z. z.over) up ∙ w)))
-      where
-        target : (way : Bool) → IsTarget (Branch c one other) (if way then one.0 else other.0)
-        target true = inl refl
-        target false = inr refl
+        let arm = branch_goes (kind_of (old p)) (before k (code_of (old p) b)) held c one other x y
+        (told x y e) in
+        rw (up, down) (goes (if compares c x y then one.0 else other.0) (f _ arm)
+        (λ w. ok (ap (λ z. z.over) up ∙ w)))
 
     end_step : (known : List Fact) → drop k (code_of (old p) b) ≡ [] →
         drop l (code_of (new p) b) ≡ [] → AllHold (kind_of (old p)) held known →
-        ((c : ℕ) → IsTarget (end_of (old p) b) c → Entail (kind_of (old p)) known (begins p c)) →
-        s.over ≡ None → (step m s).over ≢ Some Wrong → Same R (step m s) (step n t)
-    end_step known left right hold entail going ok =
+        ((c : ℕ) → EntailAt (kind_of (old p)) (before k (code_of (old p) b)) (end_of (old p) b) c
+        known (begins p c)) →
+        HasCompared olds s → s.over ≡ None → (step m s).over ≢ Some Wrong →
+        Same R (step m s) (step n t)
+    end_step known left right hold entail told going ok =
         let up : step m s ≡ leave m (end_of (old p) b) s =
         first_step s going None (nothing_left (code_of (old p) b) k left) in
         let down : step n t ≡ leave n (end_of (old p) b) t =
         other_step going None (nothing_left (code_of (new p) b) l right)
         ∙ ap (λ c. leave n (end_of (new p) c) t) r.top.block
         ∙ ap (λ e. leave n e t) ((all p).ends b) in
-        rw (up, down) (leaves (end_of (old p) b) (λ c target. jumps known hold c (entail c target))
-        s.compared refl (λ e. ok (ap (λ z. z.over) up ∙ e)))
+        rw (up, down) (leaves told (end_of (old p) b)
+        (λ c arrives. jumps c (entail c held hold arrives)) s.compared refl
+        (λ e. ok (ap (λ z. z.over) up ∙ e)))
 
     -- ---- a step
 
-    pub moves : s.over ≡ None → (step m s).over ≢ Some Wrong →
+    pub moves : HasCompared olds s → s.over ≡ None → (step m s).over ≢ Some Wrong →
         (c : ℕ) × ((0 < c) ⊎ (measure (step m s) < measure s)) ×
         Same R (step m s) (run (step n) c t)
-    moves going ok = by r.top.known r.top.hold _ _ refl refl r.top.part
+    moves told going ok = by (before k (code_of (old p) b)) refl r.top.known r.top.hold _ _ refl
+        refl r.top.part
       where
         shorter : (i : VInstr) (xs : List VInstr) → drop k (code_of (old p) b) ≡ i ∷ xs →
             drop (suc k) (code_of (old p) b) ≡ xs →
@@ -483,21 +557,27 @@ module _ (olds news : List VProc) (begins : ℕ → Begins) (frames : List ℕ)
             let next : length (drop (suc k) (code_of (old p) b)) ≡ length xs = ap length f in
             omega (arith, now, next, g)
 
-        by : (known : List Fact) → AllHold (kind_of (old p)) held known →
-            (xs ys : List VInstr) → drop k (code_of (old p) b) ≡ xs →
-            drop l (code_of (new p) b) ≡ ys → Rest known xs ys →
-            (c : ℕ) × ((0 < c) ⊎ (measure (step m s) < measure s)) ×
+        by : (last : Option VInstr) → before k (code_of (old p) b) ≡ last → (known : List Fact) →
+            AllHold (kind_of (old p)) held known → (xs ys : List VInstr) →
+            drop k (code_of (old p) b) ≡ xs → drop l (code_of (new p) b) ≡ ys →
+            Rest last known xs ys → (c : ℕ) × ((0 < c) ⊎ (measure (step m s) < measure s)) ×
             Same R (step m s) (run (step n) c t)
-        by known hold _ _ e f (ends entail) =
-            (1, inl (omega arith), end_step known e f hold entail going ok)
-        by known hold _ _ e f (stays {behind = behind} {x = i} {xs = xs} {ys = ys} follow rest) = (
+        by last is known hold _ _ e f (ends entail) = (
           1,
           inl (omega arith),
-          stays_step known behind i xs ys e f hold follow rest going ok,
+          end_step known e f hold
+              (subst (λ o. (c : ℕ) → EntailAt (kind_of (old p)) o (end_of (old p) b) c known
+              (begins p c)) (sym is) entail) told going ok,
         )
-        by known hold _ ys e f (left_out {x = i} {xs = xs} out rest) =
+        by last is known hold _ _ e f
+            (stays {behind = behind} {x = i} {xs = xs} {ys = ys} follow rest) = (
+              1,
+              inl (omega arith),
+              stays_step known behind i xs ys e f hold follow rest going ok,
+            )
+        by last is known hold _ ys e f (left_out {x = i} {xs = xs} out rest) =
             let done = left_out_step known i xs e hold out
-            (subst (λ z. Rest known xs z) (sym f) rest) going in (
+            (subst (λ z. Rest (Some i) known xs z) (sym f) rest) going in (
               0,
               inr (shorter i xs e (left_begins (code_of (old p) b) xs k i e).1 done.1),
               done.0,

@@ -1,5 +1,5 @@
 -- Blocks without checks that cannot fail, made instruction by instruction and block by block.
-use Rattle.std.proofs.Common.{◌≡◌, ℕ, suc, ◌+◌, ◌<◌, ◌≤◌, ⊎_elim, List, [], ◌∷◌}
+use Rattle.std.proofs.Common.{◌≡◌, ℕ, zero, suc, ◌+◌, ◌<◌, ◌≤◌, ⊎_elim, List, [], ◌∷◌}
 use Rattle.std.proofs.Common.{◌++◌, length, take, drop, slice_index_or, Option, Some}
 use Rattle.std.proofs.Common.{None, refl, sym, ap, subst, ◌∙◌, true, pos, append_assoc, append-nil}
 use Rattle.std.proofs.Common.{arith}
@@ -16,12 +16,12 @@ use Rattle.pra_base.specs.declared.code.VInstr.TheVariants.{Set}
 use Rattle.pra_base.specs.declared.code.Block.{Block}
 use Rattle.pra_base.specs.declared.code.End.{End}
 use Rattle.pra_base.specs.declared.code.VProc.{VProc}
-use Rattle.pra_base.specs.Code.{kind_of, block_of, block_in, no_block, IsTarget}
+use Rattle.pra_base.specs.Code.{kind_of, block_of, block_in, no_block}
 use Rattle.vc_code.specs.Value.{Held}
 use Rattle.vc_code.specs.Selected.{read}
 use Rattle.vc_checks.specs.declared.fact.Fact.{Fact}
-use Rattle.vc_checks.specs.Facts.{Kinds, IsBetween, Entail, Follow, CannotFail}
-use Rattle.vc_checks.specs.LeftOut.{Begins, Part, LeavesOut, Thins, begins_in}
+use Rattle.vc_checks.specs.Facts.{Kinds, IsBetween, Entail, EntailAt, Follow, CannotFail}
+use Rattle.vc_checks.specs.LeftOut.{Begins, Part, LeavesOut, Thins, begins_in, last_of}
 use Rattle.vc_checks.specs.LeftOut.{ThinsBlock, ThinsAll, with_blocks}
 use Rattle.vc_checks.specs.LeftOut.Part.{ends, stays, left_out}
 use Rattle.vc_checks.proofs.Knowing.{one_holds, no_fact}
@@ -56,8 +56,25 @@ no_instr = Set (record { 0 = 0 }) (pos 0)
 -- the first i instructions are walked over: whatever the rest becomes
 abbrev pub Walked : Kinds → List Fact → List VInstr → List Fact → ℕ → List VInstr → Type 0
 Walked kind facts xs known i kept =
-    (begins : Begins) (end : End) (ys : List VInstr) → Part kind begins end known (drop i xs) ys →
-    Part kind begins end facts xs (kept ++ ys)
+    (begins : Begins) (end : End) (ys : List VInstr) →
+    Part kind begins end (last_of None (take i xs)) known (drop i xs) ys →
+    Part kind begins end None facts xs (kept ++ ys)
+
+last_behind : (last : Option VInstr) (xs : List VInstr) (x : VInstr) →
+    last_of last (xs ++ x ∷ []) ≡ Some x
+last_behind last [] x = refl
+last_behind last (y ∷ ys) x = last_behind (Some y) ys x
+
+last_taken : (xs : List VInstr) (i : ℕ) → i < length xs →
+    last_of None (take (i + 1) xs) ≡ Some (slice_index_or xs i no_instr)
+last_taken xs i lt = ap (last_of None) (take_more xs i no_instr lt)
+    ∙ last_behind None (take i xs) (slice_index_or xs i no_instr)
+
+all_taken : (xs : List VInstr) (i : ℕ) → length xs ≤ i → take i xs ≡ xs
+all_taken [] zero le = refl
+all_taken [] (suc i) le = refl
+all_taken (x ∷ xs) zero le = absurd (omega (arith, le))
+all_taken (x ∷ xs) (suc i) le = ap (λ zs. x ∷ zs) (all_taken xs i (omega (arith, le)))
 
 cut : (xs : List VInstr) (i : ℕ) → i < length xs →
     drop i xs ≡ slice_index_or xs i no_instr ∷ drop (i + 1) xs
@@ -72,25 +89,31 @@ pub walk_stays : (kind : Kinds) (facts : List Fact) (xs : List VInstr) (known be
     Walked kind facts xs behind (i + 1) (kept ++ slice_index_or xs i no_instr ∷ [])
 walk_stays kind facts xs known behind i kept lt follow walked begins end ys part =
     let x = slice_index_or xs i no_instr in
-    subst (λ zs. Part kind begins end facts xs zs) (sym (append_assoc kept (x ∷ []) ys))
-    (walked begins end (x ∷ ys) (subst (λ zs. Part kind begins end known zs (x ∷ ys))
-    (sym (cut xs i lt)) (stays follow part)))
+    let last = last_of None (take i xs) in
+    subst (λ zs. Part kind begins end None facts xs zs) (sym (append_assoc kept (x ∷ []) ys))
+    (walked begins end (x ∷ ys) (subst (λ zs. Part kind begins end last known zs (x ∷ ys))
+    (sym (cut xs i lt)) (stays follow (subst (λ (l : Option VInstr).
+    Part kind begins end l behind (drop (i + 1) xs) ys) (last_taken xs i lt) part))))
 
 pub walk_leaves : (kind : Kinds) (facts : List Fact) (xs : List VInstr) (known : List Fact)
     (i : ℕ) (kept : List VInstr) → i < length xs →
     CannotFail kind known (slice_index_or xs i no_instr) → Walked kind facts xs known i kept →
     Walked kind facts xs known (i + 1) kept
 walk_leaves kind facts xs known i kept lt out walked begins end ys part =
-    walked begins end ys (subst (λ zs. Part kind begins end known zs ys)
-    (sym (cut xs i lt)) (left_out out part))
+    let last = last_of None (take i xs) in
+    walked begins end ys (subst (λ zs. Part kind begins end last known zs ys)
+    (sym (cut xs i lt)) (left_out out (subst (λ (l : Option VInstr).
+    Part kind begins end l known (drop (i + 1) xs) ys) (last_taken xs i lt) part)))
 
 pub walk_ends : (kind : Kinds) (facts : List Fact) (xs : List VInstr) (known : List Fact) (i : ℕ)
     (kept : List VInstr) → length xs ≤ i → Walked kind facts xs known i kept →
     Thins kind facts xs known kept
 walk_ends kind facts xs known i kept le walked begins end entail =
-    subst (λ zs. Part kind begins end facts xs zs) (append-nil kept)
-    (walked begins end [] (subst (λ zs. Part kind begins end known zs [])
-    (sym (nothing (drop i xs) (none_left xs i le))) (ends entail)))
+    subst (λ zs. Part kind begins end None facts xs zs) (append-nil kept)
+    (walked begins end [] (subst (λ zs. Part kind begins end (last_of None (take i xs)) known zs [])
+    (sym (nothing (drop i xs) (none_left xs i le)))
+    (subst (λ zs. Part kind begins end (last_of None zs) known [] []) (sym (all_taken xs i le))
+    (ends entail))))
   where
     none_left : (xs : List VInstr) (i : ℕ) → length xs ≤ i → length (drop i xs) ≡ 0
     none_left xs i le = omega (arith, length-drop i xs)
@@ -104,15 +127,17 @@ walk_ends kind facts xs known i kept le walked begins end entail =
 pub thin_one : (code : VProc) (begins : Begins) (b : ℕ) (block : Block)
     (first known : List Fact) (kept : List VInstr) (new : Block) → block ≡ block_of code b →
     first ≡ begins b → Thins (kind_of code) first block.code known kept →
-    ((t : ℕ) → IsTarget block.end t → Entail (kind_of code) known (begins t)) →
+    ((t : ℕ) → EntailAt (kind_of code) (last_of None block.code) block.end t known (begins t)) →
     new.depth ≡ block.depth → new.end ≡ block.end → new.code ≡ kept → ThinsBlock code begins b new
 thin_one code begins b block first known kept new is facts thins entail depth end_is code_is =
     record {
       depth = depth ∙ ap (λ (z : Block). z.depth) is;
       end = end_is ∙ ap (λ (z : Block). z.end) is;
-      part = subst (λ (z : Block). Part (kind_of code) begins z.end (begins b) z.code new.code) is
-          (subst (λ zs. Part (kind_of code) begins block.end (begins b) block.code zs) (sym code_is)
-          (subst (λ fs. Part (kind_of code) begins block.end fs block.code kept) facts
+      part = subst (λ (z : Block). Part (kind_of code) begins z.end None (begins b) z.code new.code)
+          is
+          (subst (λ zs. Part (kind_of code) begins block.end None (begins b) block.code zs)
+          (sym code_is)
+          (subst (λ fs. Part (kind_of code) begins block.end None fs block.code kept) facts
           (thins begins block.end entail)));
     }
 
@@ -131,8 +156,8 @@ leaves_out code lists news entry all = (
     ends = λ b. by b (λ old new. new.end ≡ old.end) (λ lt. (all.each b lt).end) refl;
     entry = entry;
     code = λ b. by b
-        (λ old new. Part (kind_of code) begins old.end (begins b) old.code new.code)
-        (λ lt. (all.each b lt).part) (ends (λ t target held hold f m.
+        (λ old new. Part (kind_of code) begins old.end None (begins b) old.code new.code)
+        (λ lt. (all.each b lt).part) (ends (λ t held hold target f m.
         absurd (subst (λ (fs : List Fact). Among f fs) (ap begins (sym target) ∙ entry) m)));
   },
 )

@@ -1,14 +1,18 @@
 -- What is known of the numbers that variables hold at a place of the code, and what is known behind
 -- an instruction: assertions between instructions (Floyd, Assigning meanings to programs).
-use Rattle.std.specs.Prelude.{◌≡◌, ℕ, ℤ, ◌≤ℤ◌, Bool, true, false, not, nat_eq, List, [], ◌∷◌}
-use Rattle.std.specs.Prelude.{Option, Some, None}
+use Rattle.std.specs.Prelude.{◌≡◌, ℕ, ◌^◌, ◌<◌, ℤ, ◌≤ℤ◌, Bool, true, false, not, nat_eq}
+use Rattle.std.specs.Prelude.{bit_and, if◌then◌else◌, List, [], ◌∷◌, Option, Some, None}
 use Rattle.pra_list.specs.Among.{Among}
 use Rattle.pra_base.specs.Operands.{writes}
-use Rattle.pra_base.specs.Words.{word, signed, is_positive}
+use Rattle.pra_base.specs.Code.{IsTarget}
+use Rattle.pra_base.specs.Words.{word, signed, is_positive, sum32, diff32, compares}
 use Rattle.pra_base.specs.declared.ids.VarId.{VarId}
 use Rattle.pra_base.specs.declared.code.VarKind.{VarKind}
 use Rattle.pra_base.specs.declared.code.VInstr.{VInstr}
-use Rattle.pra_base.specs.declared.code.VInstr.TheVariants.{Set, Copy, Check, CheckPos}
+use Rattle.pra_base.specs.declared.code.VInstr.TheVariants.{Set, Copy, Add, Sub, And, Cmp, Check}
+use Rattle.pra_base.specs.declared.code.VInstr.TheVariants.{CheckPos}
+use Rattle.pra_base.specs.declared.code.End.{End}
+use Rattle.pra_base.specs.declared.code.End.TheVariants.{Branch}
 use Rattle.vc_code.specs.declared.value.Value.TheVariants.{Num}
 use Rattle.vc_code.specs.Value.{Held, Words, is_index}
 use Rattle.vc_code.specs.Selected.{read, valued}
@@ -29,9 +33,17 @@ IsPositive h = (a : ℕ) × (h ≡ Some (Num a)) × (is_positive a ≡ true)
 
 -- ---- facts
 
--- a number between two
+-- a word between two numbers
 abbrev pub IsBetween : ℤ → ℤ → Held → Type 0
-IsBetween low high h = (a : ℕ) × (h ≡ Some (Num a)) × (low ≤ℤ signed a) × (signed a ≤ℤ high)
+IsBetween low high h =
+    (a : ℕ) × (h ≡ Some (Num a)) × (low ≤ℤ signed a) × (signed a ≤ℤ high) × (a < 2 ^ 32)
+
+-- f gives of numbers between those of the first two facts one between those of the third
+abbrev pub Bounds : (ℕ → ℕ → ℕ) → Fact → Fact → Fact → Type 0
+Bounds f one other fact =
+    (a b : ℕ) → IsBetween one.low one.high (Some (Num a)) →
+    IsBetween other.low other.high (Some (Num b)) →
+    IsBetween fact.low fact.high (Some (Num (f a b)))
 
 abbrev pub Holds : Kinds → Words → Fact → Type 0
 Holds kind held f = IsBetween f.low f.high (read kind held f.var.0)
@@ -59,11 +71,20 @@ listed (None, w) = []
 listed (Some v, None) = v.0 ∷ []
 listed (Some v, Some w) = v.0 ∷ w.0 ∷ []
 
+-- v holds what f gives of the numbers that two variables held
+abbrev pub Computes : (ℕ → ℕ → ℕ) → Kinds → ℕ → ℕ → Words → Words → Type 0
+Computes f kind v s held new =
+    (a : ℕ) × (b : ℕ) × (read kind held v ≡ Some (Num a)) × (read kind held s ≡ Some (Num b))
+    × (read kind new v ≡ valued (kind v) (Some (Num (f a b))))
+
 -- what is told of values by an instruction that was passed, from what variables hold before it and
 -- behind it
 abbrev pub Tells : Kinds → VInstr → Words → Words → Type 0
 Tells kind (Set v n) held new = read kind new v.0 ≡ valued (kind v.0) (Some (Num (word n)))
 Tells kind (Copy v s) held new = read kind new v.0 ≡ valued (kind v.0) (read kind held s.0)
+Tells kind (Add v s) held new = Computes sum32 kind v.0 s.0 held new
+Tells kind (Sub v s) held new = Computes diff32 kind v.0 s.0 held new
+Tells kind (And v s) held new = Computes bit_and kind v.0 s.0 held new
 Tells kind (Check v n) held new = IsIndex n (read kind held v.0)
 Tells kind (CheckPos v) held new = IsPositive (read kind held v.0)
 Tells kind _ held new = Unit {0}
@@ -86,3 +107,18 @@ pub data CannotFail (kind : Kinds) (facts : List Fact) : VInstr → Type 0 where
   index : {v : VarId} {n : ℤ} → Know kind facts v.0 (IsIndex n) →
       CannotFail kind facts (Check v n)
   positive : {v : VarId} → Know kind facts v.0 IsPositive → CannotFail kind facts (CheckPos v)
+
+-- ---- at the end of a block
+
+-- Control goes from the end of a block to t: by a branch to the arm that tells how the numbers
+-- compare of which its last instruction is a comparison.
+abbrev pub Goes : Kinds → Option VInstr → End → Words → ℕ → Type 0
+Goes kind (Some (Cmp x y)) (Branch condition one other) held t =
+    (a : ℕ) × (b : ℕ) × (read kind held x.0 ≡ Some (Num a)) × (read kind held y.0 ≡ Some (Num b))
+    × ((if compares condition a b then one.0 else other.0) ≡ t)
+Goes kind last end held t = IsTarget end t
+
+-- wherever the first facts hold and control goes to t, the others do
+abbrev pub EntailAt : Kinds → Option VInstr → End → ℕ → List Fact → List Fact → Type 0
+EntailAt kind last end t facts others =
+    (held : Words) → AllHold kind held facts → Goes kind last end held t → AllHold kind held others

@@ -1,30 +1,31 @@
 -- When code is other code without checks that cannot fail. Nothing here speaks of runs.
-use Rattle.std.specs.Prelude.{◌≡◌, ℕ, ◌<◌, List, [], ◌∷◌, length, slice_index_or}
-use Rattle.pra_base.specs.Code.{block_in, block_of, kind_of, code_of, end_of, IsTarget}
+use Rattle.std.specs.Prelude.{◌≡◌, ℕ, ◌<◌, List, [], ◌∷◌, length, slice_index_or, Option, Some}
+use Rattle.std.specs.Prelude.{None}
+use Rattle.pra_base.specs.Code.{block_in, block_of, kind_of, code_of, end_of}
 use Rattle.pra_base.specs.declared.code.Block.{Block}
 use Rattle.pra_base.specs.declared.code.VInstr.{VInstr}
 use Rattle.pra_base.specs.declared.code.End.{End}
 use Rattle.pra_base.specs.declared.code.VProc.{VProc}
 use Rattle.vc_checks.specs.declared.fact.Fact.{Fact}
-use Rattle.vc_checks.specs.Facts.{Kinds, Entail, Follow, CannotFail}
+use Rattle.vc_checks.specs.Facts.{Kinds, EntailAt, Follow, CannotFail}
 
 -- the facts that hold at the begin of each block
 abbrev pub Begins : Type 0
 Begins = ℕ → List Fact
 
--- What is left of a block from a place at which the facts hold, and the same without checks that
--- cannot fail there. Where control goes from the block's end, the facts hold with which that block
--- begins.
+-- What is left of a block from a place at which the facts hold, behind its last instruction so far,
+-- and the same without checks that cannot fail there. Where control goes from the block's end, the
+-- facts hold with which that block begins.
 pub data Part (kind : Kinds) (begins : Begins) (end : End) :
-    List Fact → List VInstr → List VInstr → Type 0 where
-  ends : {facts : List Fact} →
-      ((t : ℕ) → IsTarget end t → Entail kind facts (begins t)) → Part kind begins end facts [] []
-  stays : {facts behind : List Fact} {x : VInstr} {xs ys : List VInstr} →
-      Follow kind x facts behind → Part kind begins end behind xs ys →
-      Part kind begins end facts (x ∷ xs) (x ∷ ys)
-  left_out : {facts : List Fact} {x : VInstr} {xs ys : List VInstr} →
-      CannotFail kind facts x → Part kind begins end facts xs ys →
-      Part kind begins end facts (x ∷ xs) ys
+    Option VInstr → List Fact → List VInstr → List VInstr → Type 0 where
+  ends : {last : Option VInstr} {facts : List Fact} →
+      ((t : ℕ) → EntailAt kind last end t facts (begins t)) → Part kind begins end last facts [] []
+  stays : {last : Option VInstr} {facts behind : List Fact} {x : VInstr} {xs ys : List VInstr} →
+      Follow kind x facts behind → Part kind begins end (Some x) behind xs ys →
+      Part kind begins end last facts (x ∷ xs) (x ∷ ys)
+  left_out : {last : Option VInstr} {facts : List Fact} {x : VInstr} {xs ys : List VInstr} →
+      CannotFail kind facts x → Part kind begins end (Some x) facts xs ys →
+      Part kind begins end last facts (x ∷ xs) ys
 
 -- The code is the old code without checks that cannot fail, by facts that hold wherever control
 -- comes. Nothing is known at the entry.
@@ -38,7 +39,7 @@ pub record IsWithout (begins : Begins) (old new : VProc) : Type 0 where
   pub ends : (b : ℕ) → end_of new b ≡ end_of old b
   pub entry : begins 0 ≡ []
   pub code : (b : ℕ) →
-      Part (kind_of old) begins (end_of old b) (begins b) (code_of old b) (code_of new b)
+      Part (kind_of old) begins (end_of old b) None (begins b) (code_of old b) (code_of new b)
 
 -- checks are left out, and nothing else, each where it cannot fail
 abbrev pub LeavesOut : VProc → VProc → Type 0
@@ -46,11 +47,17 @@ LeavesOut old new = (begins : Begins) × IsWithout begins old new
 
 -- ---- as lists
 
+-- the last instruction of a list, or one before it
+abbrev pub last_of : Option VInstr → List VInstr → Option VInstr
+last_of last [] = last
+last_of last (x ∷ xs) = last_of (Some x) xs
+
 -- The second list is the first one without checks that cannot fail, from facts to those behind it.
 abbrev pub Thins : Kinds → List Fact → List VInstr → List Fact → List VInstr → Type 0
 Thins kind facts xs behind ys =
     (begins : Begins) (end : End) →
-    ((t : ℕ) → IsTarget end t → Entail kind behind (begins t)) → Part kind begins end facts xs ys
+    ((t : ℕ) → EntailAt kind (last_of None xs) end t behind (begins t)) →
+    Part kind begins end None facts xs ys
 
 -- the facts that lists have at the begin of each block
 abbrev pub begins_in : List (List Fact) → Begins
@@ -60,7 +67,7 @@ begins_in lists b = slice_index_or lists b []
 pub record ThinsBlock (code : VProc) (begins : Begins) (b : ℕ) (new : Block) : Type 0 where
   pub depth : new.depth ≡ (block_of code b).depth
   pub end : new.end ≡ end_of code b
-  pub part : Part (kind_of code) begins (end_of code b) (begins b) (code_of code b) new.code
+  pub part : Part (kind_of code) begins (end_of code b) None (begins b) (code_of code b) new.code
 
 -- so many blocks
 pub record ThinsAll (code : VProc) (begins : Begins) (news : List Block) (n : ℕ) : Type 0 where

@@ -2,14 +2,16 @@
 // cannot fail, and tests that those facts hold wherever control comes there.
 
 ghost use Rattle.std.specs.Prelude.{◌≡◌, ◌<◌, ℕ, ◌∷◌, [], length, IfOk, IfSome, true};
-ghost use Rattle.pra_base.specs.Code.{IsTarget, kind_of};
+ghost use Rattle.pra_base.specs.Code.{kind_of};
 ghost use Rattle.vc_code.specs.Value.{Held};
 ghost use Rattle.vc_checks.specs.Facts.{Entail, IsBetween, Kinds};
 ghost use Rattle.vc_checks.specs.LeftOut.{LeavesOut, Thins, ThinsAll, ThinsBlock, begins_in};
 ghost use Rattle.vc_checks.specs.LeftOut.{with_blocks};
+ghost use Rattle.vc_checks.specs.Ways.{Leave};
 
 use crate::fact::Fact;
 use crate::known::{cannot_fail, find, pass};
+use crate::ways::{Ways, ways_out};
 use pra_base::{Block, BlockId, End, VInstr, VProc};
 use pra_list::Seq;
 use std::alloc::{AllocError, Global};
@@ -59,13 +61,14 @@ fn enters(begins: &[Seq<Fact>], known: &[Fact], block: BlockId) -> bool
 }
 
 // Whether all holds with which the blocks begin to which the end leads.
-fn leaves(begins: &[Seq<Fact>], known: &[Fact], end: End) -> bool
-    ensures { result ≡ true → (kind : Kinds) (t : ℕ) → IsTarget end t →
-        Entail kind known.now (begins_in begins.now t) }
+fn leaves(begins: &[Seq<Fact>], ways: &Ways, end: End) -> bool
+    ensures { result ≡ true → Leave (begins_in begins.now) end ways.now }
 {
     match end {
-        End::Jump(block) => enters(begins, known, block),
-        End::Branch(_, one, other) => enters(begins, known, one) && enters(begins, known, other),
+        End::Jump(block) => enters(begins, ways.one.as_slice(), block),
+        End::Branch(_, one, other) => {
+            enters(begins, ways.one.as_slice(), one) && enters(begins, ways.other.as_slice(), other)
+        }
         End::Return => true,
     }
 }
@@ -106,7 +109,8 @@ fn thin_block(
     let block = &code.blocks[b];
     let mut known = Vec::from_slice(alloc, facts_at(begins, b))?;
     let kept = thin_code(alloc, code, wanted, &mut known, block.code.as_slice())?;
-    if !leaves(begins, known.as_slice(), block.end) {
+    let ways = ways_out(alloc, code, wanted, known.as_slice(), block)?;
+    if !leaves(begins, &ways, block.end) {
         return Ok(None);
     }
     Ok(Some(Block {

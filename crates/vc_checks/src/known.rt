@@ -1,16 +1,18 @@
 // What is known at a place of the code, while a block is gone through.
 
-ghost use Rattle.std.specs.Prelude.{◌≡◌, ◌≢◌, ◌⊎◌, ℤ, ◌≤ℤ◌, [], ◌∷◌, Some, None, IfSome, OnOk};
-ghost use Rattle.std.specs.Prelude.{filter, true, false};
+ghost use Rattle.std.specs.Prelude.{◌≡◌, ◌≢◌, ◌⊎◌, ℕ, ℤ, ◌≤ℤ◌, [], ◌∷◌, Some, None, IfSome, OnOk};
+ghost use Rattle.std.specs.Prelude.{filter, true, false, bit_and};
 ghost use Rattle.pra_list.specs.Among.{Among};
 ghost use Rattle.pra_base.specs.Code.{kind_of};
 ghost use Rattle.pra_base.specs.Operands.{writes, written_by};
+ghost use Rattle.pra_base.specs.Words.{sum32, diff32};
 ghost use Rattle.pra_base.specs.declared.code.VarKind.TheVariants.{Constant};
 ghost use Rattle.pra_base.specs.declared.ids.VarId.{VarId as AVariable};
 ghost use Rattle.vc_code.specs.Value.{Held};
+ghost use Rattle.vc_code.specs.declared.value.Value.TheVariants.{Num};
 ghost use Rattle.vc_checks.specs.declared.fact.Fact.{Fact as AFact};
-ghost use Rattle.vc_checks.specs.Facts.{CannotFail, Entail, Follow, IsBetween, IsIndex, IsPositive};
-ghost use Rattle.vc_checks.specs.Facts.{Kinds, Know, is_other, listed};
+ghost use Rattle.vc_checks.specs.Facts.{Bounds, CannotFail, Entail, Follow, IsBetween, IsIndex};
+ghost use Rattle.vc_checks.specs.Facts.{IsPositive, Kinds, Know, is_other, listed};
 
 use crate::fact::Fact;
 use pra_base::{VInstr, VProc, VarId, VarKind};
@@ -52,8 +54,8 @@ fn is_wanted(wanted: &[bool], v: VarId) -> bool {
     }
 }
 
-// One fact more, where there is one, in the place of those of its variable.
-fn learn(wanted: &[bool], known: &mut Vec<Fact>, fact: Option<Fact>) -> Result<(), AllocError>
+/// One fact more, where there is one, in the place of those of its variable.
+pub fn learn(wanted: &[bool], known: &mut Vec<Fact>, fact: Option<Fact>) -> Result<(), AllocError>
     ensures { OnOk result ((f : AFact) → Among f known.new.items →
         Among f known.old.items ⊎ (fact ≡ Some f)) }
 {
@@ -94,8 +96,8 @@ fn joined(one: Fact, other: Fact) -> Fact
     }
 }
 
-// A fact, with what is known of its variable.
-fn narrowed(known: &[Fact], fact: Fact) -> Fact
+/// A fact, with what is known of its variable.
+pub fn narrowed(known: &[Fact], fact: Fact) -> Fact
     ensures { (kind : Kinds) → Entail kind (fact ∷ known.now) (result ∷ []) }
 {
     match find(known, fact.var) {
@@ -114,8 +116,8 @@ fn constant(code: &VProc, v: VarId) -> Option<i32>
     }
 }
 
-// What is known of a variable, also where it is a constant.
-fn range(code: &VProc, known: &[Fact], v: VarId) -> Option<Fact>
+/// What is known of a variable, also where it is a constant.
+pub fn range(code: &VProc, known: &[Fact], v: VarId) -> Option<Fact>
     ensures { IfSome result (λ f.
         Know (kind_of code.now) known.now v.0 (IsBetween f.low f.high)) }
 {
@@ -169,6 +171,73 @@ fn changing(code: &VProc, fact: Fact) -> Option<Fact>
     }
 }
 
+// What is known of a sum, unless it may wrap.
+fn sum(var: VarId, one: Fact, other: Fact) -> Option<Fact>
+    ensures { IfSome result (λ f. f.var ≡ var × Bounds sum32 one other f) }
+{
+    let low = one.low.checked_add(other.low)?;
+    let high = one.high.checked_add(other.high)?;
+    Some(Fact { var, low, high })
+}
+
+// What is known of a difference, unless it may wrap.
+fn difference(var: VarId, one: Fact, other: Fact) -> Option<Fact>
+    ensures { IfSome result (λ f. f.var ≡ var × Bounds diff32 one other f) }
+{
+    let low = one.low.checked_sub(other.high)?;
+    let high = one.high.checked_sub(other.low)?;
+    Some(Fact { var, low, high })
+}
+
+// What is known of the bits that a number has in common with one that has no sign.
+fn common_bits(var: VarId, other: Fact) -> Option<Fact>
+    ensures { IfSome result (λ f. f.var ≡ var × ((a b : ℕ) →
+        IsBetween other.low other.high (Some (Num b)) →
+        IsBetween f.low f.high (Some (Num (bit_and a b))))) }
+{
+    if other.low < 0 {
+        return None;
+    }
+    Some(Fact {
+        var,
+        low: 0,
+        high: other.high,
+    })
+}
+
+// What is known of two variables, also where they are constants.
+fn ranges(code: &VProc, known: &[Fact], v: VarId, s: VarId) -> Option<(Fact, Fact)>
+    ensures { IfSome result (λ both.
+        Know (kind_of code.now) known.now v.0 (IsBetween both.0.low both.0.high) ×
+        Know (kind_of code.now) known.now s.0 (IsBetween both.1.low both.1.high)) }
+{
+    let one = range(code, known, v)?;
+    let other = range(code, known, s)?;
+    Some((one, other))
+}
+
+// What an operation tells of its result by what is known of its operands.
+fn computed(code: &VProc, known: &[Fact], instr: VInstr) -> Option<Fact>
+    ensures { IfSome result (λ f. Follow (kind_of code.now) instr known.now (f ∷ [])) }
+{
+    let fact = match instr {
+        VInstr::Add(v, s) => {
+            let (one, other) = ranges(code, known, v, s)?;
+            sum(v, one, other)?
+        }
+        VInstr::Sub(v, s) => {
+            let (one, other) = ranges(code, known, v, s)?;
+            difference(v, one, other)?
+        }
+        VInstr::And(v, s) => {
+            let other = range(code, known, s)?;
+            common_bits(v, other)?
+        }
+        _ => return None,
+    };
+    changing(code, fact)
+}
+
 // What the instruction tells of a variable.
 fn told(code: &VProc, known: &[Fact], instr: VInstr) -> Option<Fact>
     ensures { IfSome result (λ f. Follow (kind_of code.now) instr known.now (f ∷ [])) }
@@ -214,7 +283,7 @@ fn told(code: &VProc, known: &[Fact], instr: VInstr) -> Option<Fact>
                 high: i32::MAX,
             },
         )),
-        _ => None,
+        _ => computed(code, known, instr),
     }
 }
 

@@ -6,7 +6,7 @@ ghost use Rattle.vc_same.specs.SameRuns.{Preserves};
 ghost use Rattle.vc_checks.specs.LeftOut.{LeavesOut, with_blocks};
 
 use crate::flow::blocks_without;
-use crate::search::{checked_variables, find_facts};
+use crate::search::{find_facts, wanted_variables};
 use pra_base::{Block, VInstr, VProc};
 use pra_list::Seq;
 use std::alloc::{AllocError, Global};
@@ -34,7 +34,7 @@ pub fn blocks_left(alloc: Global, code: &VProc) -> Result<Option<Vec<Block>>, Al
     if !has_checks(code) {
         return Ok(None);
     }
-    let wanted = checked_variables(alloc, code)?;
+    let wanted = wanted_variables(alloc, code)?;
     let begins = find_facts(alloc, code, wanted.as_slice())?;
     let blocks = blocks_without(alloc, code, wanted.as_slice(), begins.as_slice())?;
     Ok(blocks)

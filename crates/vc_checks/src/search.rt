@@ -2,21 +2,86 @@
 // facts, met over all ways (Kildall, A unified approach to global program optimization). What is
 // found is tested by who takes it, so nothing is promised of it here.
 
+ghost use Rattle.std.specs.Prelude.{◌<◌, length};
+
 use crate::fact::Fact;
 use crate::flow::facts_at;
 use crate::known::{cannot_fail, find, pass};
-use pra_base::{BlockId, End, VInstr, VProc};
+use crate::ways::{Ways, ways_out};
+use pra_base::{BlockId, End, VInstr, VProc, VarId, VarKind};
 use pra_list::Seq;
 use std::alloc::{AllocError, Global};
 
 /// So often the blocks are gone through at most: once for each loop around a block, and some more.
-const MAX_SWEEPS: u32 = 8;
+const MAX_SWEEPS: u32 = 12;
 
-/// In so many sweeps the numbers of a fact may be moved apart; later the fact is given up.
-const WIDENING_SWEEPS: u32 = 3;
+/// In so many sweeps a loop moves the numbers of a fact apart; later as far as they go (Cousot and
+/// Cousot, Abstract interpretation: widening).
+const PATIENT_SWEEPS: u32 = 2;
 
-/// The variables that a check asks for, by number.
-pub fn checked_variables(alloc: Global, code: &VProc) -> Result<Vec<bool>, AllocError> {
+/// So often the code is asked for variables of which something is to be known.
+const MAX_TURNS: u32 = 4;
+
+// Something is to be known of the variable, unless it is a constant.
+fn want(code: &VProc, wanted: &mut Vec<bool>, v: VarId) -> bool {
+    let at = v.0 as usize;
+    match code.vars.get(at) {
+        Some(VarKind::Constant(_)) | None => return false,
+        _ => {}
+    }
+    let is_new = !is_marked(wanted.as_slice(), at);
+    mark(wanted, at);
+    is_new
+}
+
+// What an instruction makes a variable of, or compares it with, is wanted as that one is. Tells
+// whether there is one more.
+fn want_sources(code: &VProc, wanted: &mut Vec<bool>, instr: VInstr) -> bool {
+    match instr {
+        VInstr::Copy(v, s) | VInstr::Add(v, s) | VInstr::Sub(v, s) | VInstr::And(v, s) => {
+            is_marked(wanted.as_slice(), v.0 as usize) && want(code, wanted, s)
+        }
+        VInstr::Cmp(a, b) => {
+            if is_marked(wanted.as_slice(), a.0 as usize) {
+                want(code, wanted, b)
+            } else {
+                is_marked(wanted.as_slice(), b.0 as usize) && want(code, wanted, a)
+            }
+        }
+        _ => false,
+    }
+}
+
+fn want_all_sources(code: &VProc, wanted: &mut Vec<bool>) -> bool {
+    let mut any = false;
+    for block in code.blocks.as_slice() {
+        for instr in block.code.as_slice() {
+            if want_sources(code, wanted, *instr) {
+                any = true;
+            }
+        }
+    }
+    any
+}
+
+/// The variables of which something is to be known, by number: a check asks for them, or for what
+/// is made of them or compared with them.
+///
+/// # Errors
+///
+/// Where there is no memory.
+pub fn wanted_variables(alloc: Global, code: &VProc) -> Result<Vec<bool>, AllocError> {
+    let mut wanted = checked_variables(alloc, code)?;
+    for _ in 0..MAX_TURNS {
+        if !want_all_sources(code, &mut wanted) {
+            break;
+        }
+    }
+    Ok(wanted)
+}
+
+// The variables that a check asks for, by number.
+fn checked_variables(alloc: Global, code: &VProc) -> Result<Vec<bool>, AllocError> {
     let mut wanted = Vec::with_capacity(alloc, code.vars.len())?;
     for _ in 0..code.vars.len() {
         wanted.push(false)?;
@@ -92,14 +157,36 @@ fn wider(one: Fact, other: Fact) -> Fact {
     }
 }
 
-// What both say of a variable, or nothing where this is to be given up.
-fn met(fact: Fact, others: &[Fact], widens: bool) -> Option<Fact> {
+// A fact that still moves, as wide as it may come to be; nothing where it says nothing.
+fn widest(fact: Fact, both: Fact) -> Option<Fact> {
+    let low = if both.low < fact.low {
+        i32::MIN
+    } else {
+        fact.low
+    };
+    let high = if fact.high < both.high {
+        i32::MAX
+    } else {
+        fact.high
+    };
+    if low == i32::MIN && high == i32::MAX {
+        return None;
+    }
+    Some(Fact {
+        var: fact.var,
+        low,
+        high,
+    })
+}
+
+// What both say of a variable.
+fn met(fact: Fact, others: &[Fact], is_patient: bool) -> Option<Fact> {
     let other = find(others, fact.var)?;
     let both = wider(fact, other);
-    if widens || (both.low == fact.low && both.high == fact.high) {
+    if is_patient {
         Some(both)
     } else {
-        None
+        widest(fact, both)
     }
 }
 
@@ -108,12 +195,12 @@ fn meet(
     alloc: Global,
     facts: &[Fact],
     others: &[Fact],
-    widens: bool,
+    is_patient: bool,
 ) -> Result<Option<Vec<Fact>>, AllocError> {
     let mut both = Vec::with_capacity(alloc, facts.len())?;
     let mut less = false;
     for fact in facts {
-        match met(*fact, others, widens) {
+        match met(*fact, others, is_patient) {
             Some(wide) => {
                 if wide.low != fact.low || wide.high != fact.high {
                     less = true;
@@ -140,7 +227,7 @@ fn enter(
     found: &mut Found,
     block: BlockId,
     known: &[Fact],
-    widens: bool,
+    is_patient: bool,
 ) -> Result<(), AllocError> {
     let b = block.0 as usize;
     if !is_marked(found.reached.as_slice(), b) {
@@ -149,29 +236,68 @@ fn enter(
         put(found, b, facts);
         return Ok(());
     }
-    let less = meet(alloc, facts_at(found.begins.as_slice(), b), known, widens)?;
+    let less = meet(
+        alloc,
+        facts_at(found.begins.as_slice(), b),
+        known,
+        is_patient,
+    )?;
     if let Some(facts) = less {
         put(found, b, Seq::from_vec(facts));
     }
     Ok(())
 }
 
+// Where control comes from in a sweep.
+#[derive(Clone, Copy, Debug)]
+struct Leaving {
+    block: usize,
+    is_patient: bool,
+}
+
+// Whether facts are met as they are: always in a block behind the one from which control comes.
+fn is_patient(from: Leaving, block: BlockId) -> bool {
+    from.is_patient || from.block < block.0 as usize
+}
+
 fn leave(
     alloc: Global,
     found: &mut Found,
+    from: Leaving,
     end: End,
-    known: &[Fact],
-    widens: bool,
+    ways: &Ways,
 ) -> Result<(), AllocError> {
+    let (one, other) = (ways.one.as_slice(), ways.other.as_slice());
     match end {
-        End::Jump(block) => enter(alloc, found, block, known, widens)?,
-        End::Branch(_, one, other) => {
-            enter(alloc, found, one, known, widens)?;
-            enter(alloc, found, other, known, widens)?;
+        End::Jump(block) => enter(alloc, found, block, one, is_patient(from, block))?,
+        End::Branch(_, first, second) => {
+            enter(alloc, found, first, one, is_patient(from, first))?;
+            enter(alloc, found, second, other, is_patient(from, second))?;
         }
         End::Return => {}
     }
     Ok(())
+}
+
+// Goes through a block, from what is known at its begin to the ways out.
+fn go_through(
+    alloc: Global,
+    code: &VProc,
+    wanted: &[bool],
+    begins: &[Seq<Fact>],
+    b: usize,
+) -> Result<Ways, AllocError>
+    requires { b < length code.now.blocks }
+{
+    let block = &code.blocks[b];
+    let mut known = Vec::from_slice(alloc, facts_at(begins, b))?;
+    for instr in block.code.as_slice() {
+        if !cannot_fail(code, known.as_slice(), *instr) {
+            pass(code, wanted, &mut known, *instr)?;
+        }
+    }
+    let out = ways_out(alloc, code, wanted, known.as_slice(), block)?;
+    Ok(out)
 }
 
 // Goes through the blocks that are pending, and tells whether there was one.
@@ -180,21 +306,19 @@ fn sweep(
     code: &VProc,
     wanted: &[bool],
     found: &mut Found,
-    widens: bool,
+    is_patient: bool,
 ) -> Result<bool, AllocError> {
     let mut any = false;
     for b in 0..code.blocks.len() {
         if is_marked(found.pending.as_slice(), b) {
             unmark(&mut found.pending, b);
             any = true;
-            let block = &code.blocks[b];
-            let mut known = Vec::from_slice(alloc, facts_at(found.begins.as_slice(), b))?;
-            for instr in block.code.as_slice() {
-                if !cannot_fail(code, known.as_slice(), *instr) {
-                    pass(code, wanted, &mut known, *instr)?;
-                }
-            }
-            leave(alloc, found, block.end, known.as_slice(), widens)?;
+            let out = go_through(alloc, code, wanted, found.begins.as_slice(), b)?;
+            let from = Leaving {
+                block: b,
+                is_patient,
+            };
+            leave(alloc, found, from, code.blocks[b].end, &out)?;
         }
     }
     Ok(any)
@@ -221,7 +345,7 @@ fn settle(
     found: &mut Found,
 ) -> Result<bool, AllocError> {
     for turn in 0..MAX_SWEEPS {
-        let any = sweep(alloc, code, wanted, found, turn < WIDENING_SWEEPS)?;
+        let any = sweep(alloc, code, wanted, found, turn < PATIENT_SWEEPS)?;
         if !any && !reach_others(found) {
             return Ok(true);
         }

@@ -1,7 +1,7 @@
 // Codes of a procedure, and what is left of them.
 
 use crate::leave::blocks_left;
-use pra_base::VInstr::{Add, Call, Check, CheckPos, Cmp, Copy, DivMod, Read, Set, Write};
+use pra_base::VInstr::{Add, And, Call, Check, CheckPos, Cmp, Copy, DivMod, Read, Set, Sub, Write};
 use pra_base::{Block, BlockId, Cond, End, OutOfMemory, ProcId, VInstr, VProc, VarId, VarKind};
 use pra_list::Seq;
 use std::alloc::{AllocError, Global};
@@ -181,6 +181,73 @@ const ROWS: &[Row] = &[
             (&[Check(Y, 10)], RETURN),
         ],
         left: &[&[0, 1], &[0], &[0, 2], &[]],
+    },
+    Row {
+        name: "a loop up to a limit, and what is known behind it",
+        blocks: &[
+            (&[Set(X, 0)], TO_HEAD),
+            (&[Cmp(X, FIVE)], AROUND),
+            (&[Check(X, 5), Check(X, 4), Add(X, FIVE)], TO_HEAD),
+            (&[CheckPos(X), Check(X, 9), Check(X, 8)], RETURN),
+        ],
+        left: &[&[0], &[0], &[1, 2], &[2]],
+    },
+    Row {
+        name: "on the arm where it is no less",
+        blocks: &[
+            (&[Cmp(FIVE, X)], EITHER),
+            (&[CheckPos(X), Check(X, 10)], TO_LAST),
+            (&[CheckPos(X), Check(X, 6)], TO_LAST),
+            (&[Write(X)], RETURN),
+        ],
+        left: &[&[0], &[1], &[0, 1], &[0]],
+    },
+    Row {
+        name: "a limit alone tells nothing of what may be no word",
+        blocks: &[
+            (&[Cmp(X, FIVE)], EITHER),
+            (&[Check(X, 10)], TO_LAST),
+            (&[CheckPos(X)], TO_LAST),
+            (&[Write(X)], RETURN),
+        ],
+        left: &[&[0], &[0], &[], &[0]],
+    },
+    Row {
+        name: "sums and differences",
+        blocks: &[(
+            &[
+                Check(X, 10),
+                Add(X, FIVE),
+                Check(X, 15),
+                Check(X, 14),
+                Sub(X, FIVE),
+                Check(X, 9),
+                Sub(X, FIVE),
+                Check(X, 9),
+            ],
+            RETURN,
+        )],
+        left: &[&[0, 1, 3, 4, 6, 7]],
+    },
+    Row {
+        name: "a sum that may wrap",
+        blocks: &[(&[CheckPos(X), Add(X, FIVE), CheckPos(X)], RETURN)],
+        left: &[&[0, 1, 2]],
+    },
+    Row {
+        name: "bits in common",
+        blocks: &[(
+            &[
+                Read(X),
+                And(X, FIVE),
+                Check(X, 6),
+                Check(X, 5),
+                And(X, Y),
+                CheckPos(X),
+            ],
+            RETURN,
+        )],
+        left: &[&[0, 1, 3, 4, 5]],
     },
 ];
 

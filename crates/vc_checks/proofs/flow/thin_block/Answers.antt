@@ -3,8 +3,9 @@ use Rattle.std.proofs.lemmas.List.{get_or_read}
 use Rattle.pra_base.specs.declared.code.VInstr.{VInstr}
 use Rattle.pra_base.specs.Code.{kind_of, no_block}
 use Rattle.vc_checks.specs.declared.fact.Fact.{Fact}
-use Rattle.vc_checks.specs.Facts.{Entail}
+use Rattle.vc_checks.specs.Ways.{AreWays}
 use Rattle.vc_checks.specs.LeftOut.{Thins, begins_in}
+use Rattle.vc_checks.proofs.Leaving.{entail_at}
 use Rattle.vc_checks.proofs.Walking.{thin_one}
 use Rattle.vc_checks.proofs.flow.thin_block.Goals as goal
 
@@ -22,6 +23,7 @@ returns c =
     (c.in_ok-known.ensures.items ∙ c.facts_at.ensures)
     (subst (λ (xs : List VInstr). Thins (kind_of code) first xs known kept) c.as_slice.ensures
     c.in_ok-kept.ensures)
-    (λ t target. subst (λ (facts : List Fact). Entail (kind_of code) facts (begins t))
-    c.as_slice-2.ensures.value (leaves (kind_of code) t target))
+    (entail_at (kind_of code) begins block known c.in_ok-ways.ways
+    (subst (λ (facts : List Fact). AreWays (kind_of code) block facts c.in_ok-ways.ways)
+    c.as_slice-2.ensures.value c.in_ok-ways.ensures) leaves)
     refl refl c.from_vec.ensures
