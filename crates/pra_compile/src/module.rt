@@ -22,6 +22,7 @@ use ob_syntax::Checked;
 use pra_base::{OutOfMemory, ProcId, VProc};
 use pra_list::Seq;
 use std::alloc::Global;
+use vc_checks::leave_out_checks;
 use vc_proc::select_proc;
 use vc_tidy::tidy;
 
@@ -39,18 +40,21 @@ fn name_of(alloc: Global, checked: &Checked, number: u32) -> Result<Seq<u8>, Out
     Ok(name)
 }
 
-// The tidy code of a procedure.
+// The tidy code of a procedure, without checks that cannot fail.
 fn tidy_code(alloc: Global, checked: &Checked, number: u32) -> Result<VProc, OutOfMemory>
     requires selectable { IsSelectable checked.now }
     requires nodes { HaveTheirNodes checked.now }
     requires there { number < length checked.now.procs }
     ensures { IfOk result (λ code. IsTidied checked.now number code) }
 {
-    let code = select_proc(alloc, checked, ProcId(number))?;
-    match tidy(alloc, code) {
-        Ok(code) => Ok(code),
-        Err(_) => Err(OutOfMemory),
-    }
+    let selected = select_proc(alloc, checked, ProcId(number))?;
+    let Ok(lean) = leave_out_checks(alloc, selected) else {
+        return Err(OutOfMemory);
+    };
+    let Ok(code) = tidy(alloc, lean) else {
+        return Err(OutOfMemory);
+    };
+    Ok(code)
 }
 
 // A procedure by its name, with its tidy code.
