@@ -178,6 +178,9 @@ class Writer:
                 self.two_operands(ins, "IMUL32", f"{self.define(xs[0])} = ", f"%{xs[0]}", xs[1])
             case "neg":
                 self.lines.append(f"{self.define(xs[0])} = NEG32r %{xs[0]}, {DEAD}")
+            case "shl" | "shr" | "sar":
+                form = f"{op.upper()}32ri"
+                self.lines.append(f"{self.define(xs[0])} = {form} %{xs[0]}, {xs[1]}, {DEAD}")
             case "cmp":
                 self.compare(ins, *xs)
             case "cmpset":

@@ -17,6 +17,7 @@ from selected.file import text_of, value_of
 
 EDGES = (0, 1, -1, 2, 3, 4, 255, 4096, 65536, 46341, 2**30, 2**31 - 1, -(2**31), -(2**31) + 1)
 ARITHMETIC = ("add", "sub", "and", "or", "xor", "mul")
+SHIFTS = ("shl", "shr", "sar")
 CONDITIONS = (2, 3, 4, 5, 6, 7, 8, 9, 12, 13, 14, 15)
 GREATER, AT_MOST = 15, 14
 NUMBER, ADDRESS = "number", "address"
@@ -223,6 +224,7 @@ class Procedure:
             ("copy", 6),
             ("arithmetic", 24),
             ("neg", 3),
+            ("shift", 5),
             ("cmpset", 6),
             ("divmod", 5),
             ("check", 3),
@@ -259,6 +261,12 @@ class Procedure:
         v = self.old_target()
         if v is not None:
             self.emit("neg", v)
+
+    def do_shift(self):
+        v = self.old_target()
+        if v is not None:
+            count = self.draws.of((1, 2, 31)) if self.draws.chance(50) else self.draws.below(31) + 1
+            self.emit(self.draws.of(SHIFTS), v, count)
 
     def do_cmpset(self):
         a, b = self.number(), self.number()
@@ -427,7 +435,7 @@ class Procedure:
         address = self.address(1)
         if not address:
             return
-        v, number, kind = self.variable("plain"), self.number(), self.draws.below(10)
+        v, number, kind = self.variable("plain"), self.number(), self.draws.below(11)
         self.emit("addr", v, address)
         if kind == 0:
             self.emit(self.draws.of(ARITHMETIC), v, number)
@@ -448,6 +456,8 @@ class Procedure:
             self.emit("divmod", quotient, remainder, v, self.constant(3))
         elif kind == 8:
             self.emit("store", address, v)
+        elif kind == 9:
+            self.emit(self.draws.of(SHIFTS), v, self.draws.below(31) + 1)
         else:
             self.emit("cmp", v, number)
 

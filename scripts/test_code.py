@@ -71,6 +71,7 @@ block 0
   check x > 0
   y := y - -1
   y := -y
+  y := y sar 3
   z := x >= 4
   z := x ae y
   z, rest := y divided by x
@@ -122,6 +123,7 @@ CODE = {
                         ["checkpos", 0],
                         ["sub", 1, 5],
                         ["neg", 1],
+                        ["sar", 1, 3],
                         ["cmpset", 13, 3, 0, 2],
                         ["cmpset", 3, 3, 0, 1],
                         ["divmod", 3, 4, 1, 0],
@@ -211,6 +213,8 @@ class Chance:
             return [[kind, v, choice(NUMBERS) if kind == "set" else choice((0, 5, 2147483647))]]
         if kind in ("add", "sub", "and", "or", "xor", "mul"):
             return [[kind, v, a]]
+        if kind in ("shl", "shr", "sar"):
+            return [[kind, v, choice((1, 2, 7, 31))]]
         if kind in ("neg", "read"):
             return [[kind, v]]
         if kind in ("checkpos", "write"):
@@ -377,6 +381,8 @@ class Lines(unittest.TestCase):
             ("a := e", "`e` is no variable of this procedure"),
             ("a := b + a", "a result takes the place of its first operand"),
             ("a := -b", "a negative takes the place of its operand"),
+            ("a := b shl 3", "a shift takes the place of its operand"),
+            ("a := a shl -3", "-3 is no number from 0 to 4294967295"),
             ("a := b ? c", "'?' stands in no line of code"),
             ("a := b ge c", "behind := stand"),
             ("a := b -5", "behind := stand"),
@@ -579,8 +585,8 @@ class Kinds(unittest.TestCase):
 
     def test_what_a_run_is_stuck_at_is_told(self):
         data = vectors.text_of(CODE)
-        line = "stuck access procedure 1 block 0 instruction 11 steps 40 reads 3"
-        where = "procedure 1 (Out), instruction 11 of block 0, `v1 := [v3 + 4*v0]`"
+        line = "stuck access procedure 1 block 0 instruction 12 steps 40 reads 3"
+        where = "procedure 1 (Out), instruction 12 of block 0, `v1 := [v3 + 4*v0]`"
         (told,) = stuck.told("x", data, line)
         self.assertTrue(told.startswith(f"x, {where}, stuck: there is no whole word"), told)
         line = "stuck nothing procedure 0 block 1 instruction 2 steps 40 reads 3"

@@ -277,6 +277,7 @@ STUCK = (
     ("address", AT, ONE, ["add", 0, 1]),
     ("address", AT, ONE, ["mul", 1, 0]),
     ("address", AT, ["neg", 0]),
+    ("address", AT, ["shl", 0, 1]),
     ("address", AT, ["write", 0]),
     ("address", AT, ["check", 0, 5]),
     ("address", AT, ["checkpos", 0]),
@@ -307,6 +308,11 @@ NOTHING = (
 # Instructions behind which variable 0 is written, and what that is.
 VALUES = (
     ((["set", 0, -(2**31)], ["neg", 0]), -(2**31)),
+    ((["set", 0, -3], ["shl", 0, 30]), 2**30),
+    ((["set", 0, -9], ["shr", 0, 1]), 2**31 - 5),
+    ((["set", 0, -9], ["sar", 0, 1]), -5),
+    ((["set", 0, -1], ["sar", 0, 31]), -1),
+    ((["set", 0, -1], ["shr", 0, 31]), 1),
     ((["set", 0, 2**31 - 1], ["set", 1, 1], ["add", 0, 1]), -(2**31)),
     ((["set", 0, -(2**31)], ["set", 1, 1], ["sub", 0, 1]), 2**31 - 1),
     ((["set", 0, 65537], ["mul", 0, 0]), 131073),
@@ -530,7 +536,7 @@ class Compared(unittest.TestCase):
             ({"compile": compare_codes.Outcome(0, frames, "")}, "trap Stack"),
             ({"compile": compare_codes.Outcome(3, b"", "fault code")}, "compile says 'fault code'"),
         ):
-            found = self.by_stand_in(1, **answers)
+            found = self.by_stand_in(2, **answers)
             self.assertIn(words, str(found.differences), answers)
 
     def test_differences_are_told(self):

@@ -10,6 +10,8 @@ from checker.words import Names
 
 MOST_BLOCKS, MOST_INSTRUCTIONS, MOST_VARIABLES = 4098, 8321, 16383
 MOST_ARGUMENTS, MOST_AGGREGATES = 32, 65536
+IN_PLACE = ("add", "sub", "and", "or", "xor", "mul", "neg", "shl", "shr", "sar")
+SHIFTS, MOST_SHIFTED = ("shl", "shr", "sar"), 31
 MANY = 1 << 18  # strands of which a network is made only where routes are as many
 
 
@@ -100,7 +102,7 @@ def operands(procedure, names):
     of_cells = {it.value: v for v, it in enumerate(kinds) if it.kind == "param"}
     for b, i, ins in instructions(procedure):
         where, written, read = names.instruction(b, i), written_by(ins), read_by(ins)
-        both = [ins[1]] if ins[0] in ("add", "sub", "and", "or", "xor", "mul", "neg") else []
+        both = [ins[1]] if ins[0] in IN_PLACE else []
         for v in dict.fromkeys(written):
             if v in read and v not in both:
                 yield f"{where}, reads variable {v}, which it writes (rule 4)"
@@ -114,6 +116,8 @@ def operands(procedure, names):
             yield f"{where}, names the cell of {of} (rule 5)"
         if ins[0] == "check" and ins[2] < 0:
             yield f"{where}, has a negative number (rule 8)"
+        if ins[0] in SHIFTS and not 1 <= ins[2] <= MOST_SHIFTED:
+            yield f"{where}, shifts by {ins[2]} bits, and 1 to {MOST_SHIFTED} are allowed (rule 8)"
 
 
 def parameters(procedure):

@@ -23,6 +23,7 @@ INSTRUCTIONS = {
     "copy": "v s",
     **dict.fromkeys(("add", "sub", "and", "or", "xor", "mul"), "v s"),
     "neg": "v",
+    **dict.fromkeys(("shl", "shr", "sar"), "v k"),
     "cmp": "a b",
     "cmpset": "condition v a b",
     "divmod": "q r a d",
@@ -134,6 +135,8 @@ class Reader:
             self.address(path, value)
         elif letter in ("c", "n"):
             self.number(path, value, INTEGER)
+        elif letter == "k":
+            self.number(path, value, NATURAL, "a count of bits")
         else:
             of = {"p": "a procedure", "b": "a block"}.get(letter, "a variable")
             self.number(path, value, NATURAL, f"the number of {of}")

@@ -14,6 +14,7 @@ from checker.parts import CONDITIONS
 REGISTERS = ("eax", "ecx", "edx", "ebx", "esp", "ebp", "esi", "edi")
 LOW_BYTES = ("al", "cl", "dl", "bl")
 ALU = {"add": 0, "or": 1, "and": 4, "sub": 5, "xor": 6, "cmp": 7}
+SHIFTS = {"shl": 4, "shr": 5, "sar": 7}
 SERVICES = range(0x20, 0x25)
 NUMBERS = {"n8": (1, True), "n32": (4, True), "u8": (1, False), "u16": (2, False)}
 MODRM = ("rm", "m", "rr", "low")  # the operands that the ModRM byte's last field is of
@@ -56,6 +57,7 @@ ROWS = [
     row("imul.i", "69", "r rm n32"),
     row("imul.b", "6b", "r rm n8"),
     row("neg", "f7", "rm", 3),
+    *[row(f"{name}.r", "c1", "rm u8", number) for name, number in SHIFTS.items()],
     row("idiv", "f7", "rm", 7),
     row("cdq", "99"),
     row("lea", "8d", "r m"),
@@ -153,7 +155,7 @@ def checked(name, letter, value):
     """What an operand may not be, though its bytes could say so."""
     if letter == "o" and value == "esp" and name != "mov.ri":
         raise NoInstruction(f"{name} takes any register but esp")
-    if letter == "u8" and value not in SERVICES:
+    if name == "int" and letter == "u8" and value not in SERVICES:
         raise NoInstruction(f"int has a service from 32 to 36, not {value}")
     return value
 

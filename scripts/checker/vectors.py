@@ -195,6 +195,8 @@ def bad_code():
     yield "8-clear-of-nothing", of_code(["clear"])
     yield "8-clear-later", of_code(["line"], ["clear"], aggregates=1)
     yield "8-check-below-a-negative", of_code(["set", 0, 1], ["check", 0, -1])
+    yield "8-shift-by-0", of_code(["set", 0, 1], ["shl", 0, 0])
+    yield "8-shift-by-32", of_code(["set", 0, 1], ["sar", 0, 32])
     yield "9-33-arguments", of_code(args=33)
     yield "9-65537-aggregate-words", of_code(["clear"], aggregates=65537)
     yield "9-depth-6", edited(NUMBER, {(*ONE, "blocks", 0, 0): 6})

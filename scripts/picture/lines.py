@@ -16,7 +16,8 @@ import places
 SIGNS = dict.fromkeys(("DIV", "MOD"), "divmod") | {"[": "check"}
 SIGNS |= dict.fromkeys(("=", "#", "<", "<=", ">", ">="), "cmp")
 BUILT_IN = {"Read": "read", "Write": "write", "WriteLn": "line"}
-KINDS = {"cmpset": "cmp"} | {it: it for it in (*SIGNS.values(), *BUILT_IN.values())}
+# DIV by a constant power of two is a shift.
+KINDS = {"cmpset": "cmp", "sar": "divmod"} | {it: it for it in (*SIGNS.values(), *BUILT_IN.values())}
 
 
 def anchor_of(ins):

@@ -20,6 +20,7 @@ BECOMES = {
     **dict.fromkeys(("add", "sub", "and", "or", "xor"), [ALU]),
     "mul": [r"imul\.(rm|i|b)"],
     "neg": ["neg"],
+    **{name: [rf"{name}\.r"] for name in ("shl", "shr", "sar")},
     "cmp": [r"cmp\.(mr|rm|mi|mb)"],
     "cmpset": [r"cmp\.(mr|rm|mi|mb)", "set[a-z]+", "movzx"],
     "divmod": ["cdq", "idiv"],

@@ -16,6 +16,7 @@ from picture.source_events import Statements
 PLACES = {  # where the operands stand that the text may name, by instruction
     **dict.fromkeys(("add", "sub", "mul", "cmp", "copy"), (0, 1)),
     **dict.fromkeys(("load", "addr", "set", "check", "neg", "read", "write", "push"), (0,)),
+    **dict.fromkeys(("shl", "shr", "sar"), (0,)),
     "divmod": (0, 1, 3),
     "store": (1,),
     "line": (),

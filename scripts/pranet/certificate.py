@@ -190,6 +190,8 @@ def instruction_text(ins, name):
             return f"{name(xs[0])} := {name(xs[1])}"
         case "neg":
             return f"{name(xs[0])} := -{name(xs[0])}"
+        case "shl" | "shr" | "sar":
+            return f"{name(xs[0])} := {name(xs[0])} {op} {xs[1]}"
         case "cmp":
             return f"compare {name(xs[0])}, {name(xs[1])}"
         case "cmpset":

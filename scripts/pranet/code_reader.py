@@ -21,6 +21,7 @@ TOKEN = re.compile(
     r"[A-Za-z][A-Za-z0-9]*|(?:(?<![A-Za-z0-9\]])-)?[0-9]+|:=|<=|>=|[-+*&|^<>=#,\[\]]"
 )
 SIGNS = {sign: name for name, sign in ARITHMETIC.items()}
+SHIFTS = ("shl", "shr", "sar")
 CONDITION_OF = {words: number for number, words in (CONDITIONS | RELATIONS).items()}
 BASES = {"data": "global", "frame": "frame", "argument": "cell"}
 OPERAND = r"(-?[0-9]+|[A-Za-z][A-Za-z0-9]*)"
@@ -31,6 +32,7 @@ KINDS = {
     "NUMBER": r"(-?[0-9]+)",
     "ADDRESS": r"([^\[\]:]+)",
     "SIGN": f"({'|'.join(map(re.escape, SIGNS))})",
+    "SHIFT": f"({'|'.join(SHIFTS)})",
     "RELATION": f"({'|'.join(map(re.escape, CONDITION_OF))})",
 }
 ADDRESS = re.compile(
@@ -43,6 +45,7 @@ FORMS = (
     ("addr", "VARIABLE := address ADDRESS"),
     ("load", "VARIABLE := [ ADDRESS ]"),
     ("neg", "VARIABLE := - VARIABLE"),
+    ("shift", "VARIABLE := VARIABLE SHIFT NUMBER"),
     ("copy", "VARIABLE := VARIABLE"),
     ("arithmetic", "VARIABLE := OPERAND SIGN OPERAND"),
     ("cmpset", "VARIABLE := OPERAND RELATION OPERAND"),
@@ -72,7 +75,8 @@ HEADS = {
 }
 ASSIGNED = (
     "behind := stand a number, a variable, `-` and a variable, `read`, an address in brackets,"
-    " `address` and one, or two operands with one of + - & | ^ * = # < <= > >= between"
+    " `address` and one, two operands with one of + - & | ^ * = # < <= > >= between, or a variable,"
+    " one of shl shr sar, and a number"
 )
 
 
@@ -195,6 +199,8 @@ class Draft:
             return number_of(text, INTEGER if name in ("set", "check") else NATURAL)
         if kind == "ADDRESS":
             return self.address(text, line)
+        if kind == "SHIFT":
+            return text
         return SIGNS[text] if kind == "SIGN" else CONDITION_OF[text]
 
     def instruction(self, tokens, line):
@@ -263,6 +269,11 @@ def ordered(name, parts):
         if parts[0] != parts[1]:
             raise Wrong("a negative takes the place of its operand, as in `v0 := -v0`")
         return [name, parts[0]]
+    if name == "shift":
+        target, shifted, sign, count = parts
+        if target != shifted:
+            raise Wrong("a shift takes the place of its operand, as in `v0 := v0 shl 3`")
+        return [sign, target, count]
     if name == "cmpset":
         target, left, condition, right = parts
         return [name, condition, target, left, right]

@@ -77,7 +77,7 @@ def raw_row(ins):
             return Row(two_operands(*xs), [Role(xs[0], REGS | M)])
         case "mul":
             return Row([Role(xs[0], REGS), Role(xs[1], REGS | M | K)], [Role(xs[0], REGS)])
-        case "neg":
+        case "neg" | "shl" | "shr" | "sar":
             return Row([Role(xs[0], REGS | M)], [Role(xs[0], REGS | M)])
         case "cmp":
             return Row(two_operands(*xs))
@@ -127,7 +127,8 @@ def row_of(ins):
 
 
 WITH_IMMEDIATE = ("add", "sub", "and", "or", "xor", "cmp", "cmpset")
-WITH_MEMORY = (*WITH_IMMEDIATE, "copy", "mul", "neg", "divmod", "check", "checkpos")
+SHIFTS = ("shl", "shr", "sar")
+WITH_MEMORY = (*WITH_IMMEDIATE, *SHIFTS, "copy", "mul", "neg", "divmod", "check", "checkpos")
 
 
 def memory_event(ins, near):

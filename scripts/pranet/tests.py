@@ -430,7 +430,7 @@ class Words(unittest.TestCase):
         """By all who take a certificate in the place of a module, with the rule."""
         for old, new, words in (
             ('"add",0,1', '"add",0,7', "names variable 7, of 2 \\(rule 2\\)"),
-            ('"add",0,1', '"shl",0,1', "the name of an instruction is wanted"),
+            ('"add",0,1', '"rol",0,1', "the name of an instruction is wanted"),
             ('"add",0,1', '"cmpset",10,0,1,1', "a condition is wanted"),
             ('"jump",1', '"jump",0', "leads to block 0, the entry, .*\\(rule 1\\)"),
             ('["read",1]', '["line"]', "variable 1 may be read before .*\\(rule 6\\)"),

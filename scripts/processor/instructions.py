@@ -40,6 +40,8 @@ def leaves_unknown(code, at):
         return "IMUL", second >> 3 & 7
     if (first, second) == (0x0F, 0xAF):
         return "IMUL", third >> 3 & 7
+    if first == 0xC1 and second >> 6 == 3 and third & 31:
+        return "SHL, SHR, SAR", second & 7
     return ("IDIV", EAX) if first == 0xF7 and second >> 3 & 7 == 7 else None
 
 

@@ -120,6 +120,12 @@ OPERATIONS = {
     7: lambda a, b: ((a - b) % WORD, difference_flags(a, b)),
 }
 CMP = 7
+# SHL, SHR and SAR by theirs.
+SHIFTS = {
+    4: lambda a, n: a << n,
+    5: lambda a, n: a >> n,
+    7: lambda a, n: signed(a) >> n,
+}
 
 # Of each condition with an even number the flags that it names, and its formula; the odd number
 # behind it is its negation.
@@ -218,6 +224,13 @@ class Machine:
         self.write(it, -value)
         self.flags = difference_flags(0, value)
 
+    def shift(self, number, it, count):
+        """SHL, SHR and SAR; of the count the low five bits count. By 0 no flag changes."""
+        result = SHIFTS[number](self.read(it), count % 32) % WORD
+        self.write(it, result)
+        if count % 32:
+            self.flags = {"cf": None, "of": None, **by_result(result)}
+
     def divide(self, it):
         by = signed(self.read(it))
         value = signed(self.registers[EDX] << 32 | self.registers[EAX], 64)
@@ -274,6 +287,11 @@ class Machine:
             if reg not in (3, 7):
                 raise fault("decode")
             (self.negate if reg == 3 else self.divide)(it)
+        elif opcode == 0xC1:
+            reg, it = code.operand()
+            if reg not in SHIFTS:
+                raise fault("decode")
+            self.shift(reg, it, code.number(1))
         else:
             return False
         return True

@@ -205,6 +205,15 @@ static void row_of(struct reader *from, struct row *row, word opcode)
         product(row);
         number(from, opcode == 0x6b ? 1 : 4);
         break;
+    case 0xc1: /* SHL, SHR and SAR r/m32, imm8; by 0 no flag changes */
+        it = operand(from);
+        touch(row, it);
+        must(from, it.reg == 4 || it.reg == 5 || it.reg == 7);
+        if (number(from, 1) & 31) {
+            row->sets = ZF | SF;
+            row->forgets = CF | OF;
+        }
+        break;
     case 0xf7: case 0xff: case 0x87: case 0x85: case 0x8d:
         special_row(from, row, opcode);
         break;

@@ -58,6 +58,11 @@ ARITHMETIC = {
     "or": lambda a, b: a | b,
     "xor": lambda a, b: a ^ b,
 }
+SHIFTS = {
+    "shl": lambda a, n: a << n,
+    "shr": lambda a, n: a >> n,
+    "sar": lambda a, n: signed(a) >> n,
+}
 
 
 def truncated(a, d):
@@ -152,6 +157,8 @@ class Machine:
         try:
             if op in ARITHMETIC:
                 self.compute(op, *operands)
+            elif op in SHIFTS:
+                self.shift(op, *operands)
             else:
                 getattr(self, f"do_{op}")(*operands)
         except (Trap, Stuck):
@@ -243,6 +250,10 @@ class Machine:
     def do_neg(self, v):
         (a,) = self.numbers_in(v)
         self.write(v, word(-a))
+
+    def shift(self, op, v, n):
+        (a,) = self.numbers_in(v)
+        self.write(v, word(SHIFTS[op](a, n % 32)))
 
     def do_cmp(self, a, b):
         self.compared = self.numbers_in(a, b)

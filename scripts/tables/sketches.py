@@ -17,7 +17,7 @@ PLACES = {name: number for number, name in enumerate((*REGISTERS, "mem", "const"
 SHAPES = {  # of operands: variables, numbers, a condition, an address
     **dict.fromkeys(("copy", "add", "sub", "and", "or", "xor", "mul", "cmp"), "vv"),
     **dict.fromkeys(("neg", "checkpos", "push", "read", "write"), "v"),
-    **dict.fromkeys(("set", "check"), "vn"),
+    **dict.fromkeys(("set", "check", "shl", "shr", "sar"), "vn"),
     **dict.fromkeys(("load", "store", "addr"), "va"),
     **dict.fromkeys(("line", "clear"), ""),
     "cmpset": "cvvv",

@@ -14,6 +14,8 @@ use Rattle.pra_base.specs.declared.ids.VarId.{VarId}
 use Rattle.pra_base.specs.declared.ids.ProcId.{ProcId}
 use Rattle.pra_base.specs.declared.ids.BlockId.{BlockId}
 use Rattle.pra_base.specs.declared.ids.Cond.{Cond}
+use Rattle.pra_base.specs.declared.ids.ShiftOp.{ShiftOp}
+use Rattle.pra_base.specs.declared.ids.ShiftOp.TheVariants.{Shl, Shr, Sar}
 use Rattle.pra_base.specs.declared.code.VarKind.TheVariants.{Param, Plain, Constant}
 use Rattle.pra_base.specs.declared.code.Base.{Base}
 use Rattle.pra_base.specs.declared.code.Base.TheVariants.{Global, Frame, Cell, Via}
@@ -29,7 +31,7 @@ use Rattle.cert_form.specs.Table.{form_named}
 use Rattle.cert_form.specs.Form.{base_number}
 use Rattle.cert_form.specs.Reading.{long_natural, natural_of, fits_i64, long_integer, fits_i32}
 use Rattle.cert_form.specs.Reading.{integer_of, natural_at, integer_at, variable_at, word_at}
-use Rattle.cert_form.specs.Reading.{condition_at}
+use Rattle.cert_form.specs.Reading.{condition_at, shift_made}
 use Rattle.cert_form.specs.Reading.{kind_named, kind_of, base_of, index_of, address_of, address_at}
 use Rattle.cert_form.specs.Reading.{made, instruction_of, end_named, end_of, cap_of}
 use Rattle.cert_form.specs.Reading.{tie_of}
@@ -232,6 +234,11 @@ divmod_fits x =
     (instr.DivMod q r) (variable_fits 3 x) (variable_fits 4 x)
     (λ a d k l. (g, (h, (k, (l, tt)))))))
 
+shift_fits : (op : ShiftOp) (d : Data) → IfSome (shift_made op d) InstructionFits
+shift_fits op d =
+    of_two IsVariable IsNatural InstructionFits (variable_at 1 d) (natural_at 2 d)
+    (instr.Shift op) (variable_fits 1 d) (natural_at_fits 2 d) (λ v n h k. (h, (k, tt)))
+
 made_fits : (f : Form) (d : Data) → IfSome (made f d) InstructionFits
 made_fits form.Set d = with_number d instr.Set (λ v z h k. (h, (k, tt)))
 made_fits form.Copy d = two_variables d instr.Copy (λ v s h k. (h, (k, tt)))
@@ -242,6 +249,9 @@ made_fits form.Or d = two_variables d instr.Or (λ v s h k. (h, (k, tt)))
 made_fits form.Xor d = two_variables d instr.Xor (λ v s h k. (h, (k, tt)))
 made_fits form.Mul d = two_variables d instr.Mul (λ v s h k. (h, (k, tt)))
 made_fits form.Neg d = variable_alone d instr.Neg (λ v h. (h, tt))
+made_fits form.Shl d = shift_fits Shl d
+made_fits form.Shr d = shift_fits Shr d
+made_fits form.Sar d = shift_fits Sar d
 made_fits form.Cmp d = two_variables d instr.Cmp (λ v s h k. (h, (k, tt)))
 made_fits form.CmpSet d = cmpset_fits d
 made_fits form.DivMod d = divmod_fits d

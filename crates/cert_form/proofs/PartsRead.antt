@@ -16,6 +16,8 @@ use Rattle.pra_base.specs.declared.ids.VarId.{VarId}
 use Rattle.pra_base.specs.declared.ids.ProcId.{ProcId}
 use Rattle.pra_base.specs.declared.ids.BlockId.{BlockId}
 use Rattle.pra_base.specs.declared.ids.Cond.{Cond}
+use Rattle.pra_base.specs.declared.ids.ShiftOp.{ShiftOp}
+use Rattle.pra_base.specs.declared.ids.ShiftOp.TheVariants.{Shl, Shr, Sar}
 use Rattle.pra_base.specs.declared.ids.Cond.TheVariants.{B, Ae, E, Ne, Be, A, S, Ns, L, Ge, Le, G}
 use Rattle.pra_base.specs.declared.ids.Place.{Place}
 use Rattle.pra_base.specs.declared.ids.Place.TheVariants as place
@@ -37,12 +39,12 @@ use Rattle.cert_form.specs.declared.table.Form.{Form}
 use Rattle.cert_form.specs.declared.table.Form.TheVariants as form
 use Rattle.cert_form.specs.declared.certificate.CapAt.{CapAt}
 use Rattle.cert_form.specs.declared.certificate.TieAt.{TieAt}
-use Rattle.cert_form.specs.Table.{name, form_of, form_named}
+use Rattle.cert_form.specs.Table.{name, form_of, form_named, shift_form}
 use Rattle.cert_form.specs.Form.{natural, integer, list, kind_data, base_name, base_number}
 use Rattle.cert_form.specs.Form.{index_data, address_data, instruction_data, end_data, block_data}
 use Rattle.cert_form.specs.Form.{place_data, path_data, cap_data, tie_data}
 use Rattle.cert_form.specs.Reading.{long_natural, natural_of, fits_i64, long_integer, fits_i32}
-use Rattle.cert_form.specs.Reading.{integer_of, natural_at, integer_at}
+use Rattle.cert_form.specs.Reading.{integer_of, natural_at, integer_at, shift_made}
 use Rattle.cert_form.specs.Reading.{variable_at, condition_at, each, list_of, kind_of, base_of}
 use Rattle.cert_form.specs.Reading.{index_of, address_of, address_at, made, instruction_of, end_of}
 use Rattle.cert_form.specs.Reading.{block_of, place_of, path_of, cap_of, tie_of}
@@ -209,6 +211,9 @@ form_back form.Or = refl
 form_back form.Xor = refl
 form_back form.Mul = refl
 form_back form.Neg = refl
+form_back form.Shl = refl
+form_back form.Shr = refl
+form_back form.Sar = refl
 form_back form.Cmp = refl
 form_back form.CmpSet = refl
 form_back form.DivMod = refl
@@ -223,6 +228,11 @@ form_back form.Read = refl
 form_back form.Write = refl
 form_back form.Line = refl
 form_back form.Clear = refl
+
+-- what is made of a shift's form is made of its shift
+shift_form_made : (op : ShiftOp) (d : Data) → made (shift_form op) d ≡ shift_made op d
+shift_form_made op d = elim op as (λ op. made (shift_form op) d ≡ shift_made op d)
+    [ Shl ↦ refl | Shr ↦ refl | Sar ↦ refl ]
 
 made_read : (i : VInstr) → InstructionFits i → made (form_of i) (instruction_data i) ≡ Some i
 made_read (instr.Set v c) h =
@@ -278,6 +288,13 @@ made_read (instr.Neg v) h =
     one (variable_at 1 x) v
     (λ m. Some (instr.Neg m))
     (variable_here 1 x v refl h.0)
+made_read (instr.Shift op v k) h =
+    let x = instruction_data (instr.Shift op v k) in
+    shift_form_made op x
+    ∙ two (variable_at 1 x) (natural_at 2 x) v k
+    (λ m n. Some (instr.Shift op m n))
+    (variable_here 1 x v refl h.0)
+    (natural_here 2 x k refl h.1.0)
 made_read (instr.Cmp a b) h =
     let x = instruction_data (instr.Cmp a b) in
     two (variable_at 1 x) (variable_at 2 x) a b

@@ -50,6 +50,7 @@ instruction_few (instr.Or v s) = omega arith
 instruction_few (instr.Xor v s) = omega arith
 instruction_few (instr.Mul v s) = omega arith
 instruction_few (instr.Neg v) = omega arith
+instruction_few (instr.Shift op v n) = omega arith
 instruction_few (instr.Cmp a b) = omega arith
 instruction_few (instr.CmpSet k v a b) = omega arith
 instruction_few (instr.DivMod q r a d) = omega arith

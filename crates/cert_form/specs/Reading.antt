@@ -8,6 +8,8 @@ use Rattle.serde_json.specs.Find.{get, at, as_number, as_str, as_array, as_u64, 
 use Rattle.pra_base.specs.declared.ids.VarId.{VarId}
 use Rattle.pra_base.specs.declared.ids.Place.{Place}
 use Rattle.pra_base.specs.declared.ids.Cond.{Cond}
+use Rattle.pra_base.specs.declared.ids.ShiftOp.{ShiftOp}
+use Rattle.pra_base.specs.declared.ids.ShiftOp.TheVariants.{Shl, Shr, Sar}
 use Rattle.pra_base.specs.declared.code.VarKind.{VarKind}
 use Rattle.pra_base.specs.declared.code.VarKind.TheVariants.{Param, Plain, Constant}
 use Rattle.pra_base.specs.declared.code.Base.{Base}
@@ -148,6 +150,13 @@ address_of d = do
 abbrev pub address_at : ℕ → Data → Option Addr
 address_at i d = at i d >>= address_of
 
+-- a shift: its variable, and by how many bits
+abbrev pub shift_made : ShiftOp → Data → Option VInstr
+shift_made op d = do
+  v ← variable_at 1 d
+  n ← natural_at 2 d
+  Some (instr.Shift op v n)
+
 -- Instructions: what is made of a name and the list that begins with it.
 abbrev pub made : Form → Data → Option VInstr
 made form.Set d = do
@@ -185,6 +194,9 @@ made form.Mul d = do
 made form.Neg d = do
   v ← variable_at 1 d
   Some (instr.Neg v)
+made form.Shl d = shift_made Shl d
+made form.Shr d = shift_made Shr d
+made form.Sar d = shift_made Sar d
 made form.Cmp d = do
   a ← variable_at 1 d
   b ← variable_at 2 d

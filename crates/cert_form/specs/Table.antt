@@ -2,11 +2,14 @@
 -- order. Writing and reading share it.
 use Rattle.std.specs.Prelude.{ℕ, if◌then◌else◌, List, [], ◌∷◌, Option, Some, None, codes}
 use Rattle.std.specs.Str.{bytes_eq}
+use Rattle.pra_base.specs.declared.ids.ShiftOp.{ShiftOp}
+use Rattle.pra_base.specs.declared.ids.ShiftOp.TheVariants as shift
 use Rattle.pra_base.specs.declared.code.VInstr.{VInstr}
 use Rattle.pra_base.specs.declared.code.VInstr.TheVariants as instr
 use Rattle.cert_form.specs.declared.table.Form.{Form}
 use Rattle.cert_form.specs.declared.table.Form.TheVariants.{Set, Copy, Add, Sub, And, Or, Xor, Mul}
-use Rattle.cert_form.specs.declared.table.Form.TheVariants.{Neg, Cmp, CmpSet, DivMod, Check}
+use Rattle.cert_form.specs.declared.table.Form.TheVariants.{Neg, Shl, Shr, Sar, Cmp, CmpSet}
+use Rattle.cert_form.specs.declared.table.Form.TheVariants.{DivMod, Check}
 use Rattle.cert_form.specs.declared.table.Form.TheVariants.{CheckPos}
 use Rattle.cert_form.specs.declared.table.Form.TheVariants.{Load, Store, Addr, Push, Call, Read}
 use Rattle.cert_form.specs.declared.table.Form.TheVariants.{Write}
@@ -25,6 +28,9 @@ name Or = codes "or"
 name Xor = codes "xor"
 name Mul = codes "mul"
 name Neg = codes "neg"
+name Shl = codes "shl"
+name Shr = codes "shr"
+name Sar = codes "sar"
 name Cmp = codes "cmp"
 name CmpSet = codes "cmpset"
 name DivMod = codes "divmod"
@@ -42,7 +48,8 @@ name Clear = codes "clear"
 
 abbrev pub all_forms : List Form
 all_forms =
-    Set ∷ Copy ∷ Add ∷ Sub ∷ And ∷ Or ∷ Xor ∷ Mul ∷ Neg ∷ Cmp ∷ CmpSet
+    Set ∷ Copy ∷ Add ∷ Sub ∷ And ∷ Or ∷ Xor ∷ Mul ∷ Neg ∷ Shl ∷ Shr ∷ Sar
+    ∷ Cmp ∷ CmpSet
     ∷ DivMod ∷ Check ∷ CheckPos ∷ Load ∷ Store ∷ Addr ∷ Push ∷ Call ∷ Read ∷ Write
     ∷ Line ∷ Clear ∷ []
 
@@ -55,6 +62,11 @@ first_named word (f ∷ forms) =
 abbrev pub form_named : List ℕ → Option Form
 form_named word = first_named word all_forms
 
+abbrev pub shift_form : ShiftOp → Form
+shift_form shift.Shl = Shl
+shift_form shift.Shr = Shr
+shift_form shift.Sar = Sar
+
 abbrev pub form_of : VInstr → Form
 form_of (instr.Set v c) = Set
 form_of (instr.Copy v s) = Copy
@@ -65,6 +77,7 @@ form_of (instr.Or v s) = Or
 form_of (instr.Xor v s) = Xor
 form_of (instr.Mul v s) = Mul
 form_of (instr.Neg v) = Neg
+form_of (instr.Shift op v n) = shift_form op
 form_of (instr.Cmp a b) = Cmp
 form_of (instr.CmpSet k v a b) = CmpSet
 form_of (instr.DivMod q r a d) = DivMod
@@ -90,6 +103,7 @@ operands_of (instr.Or v s) = Variable v ∷ Variable s ∷ []
 operands_of (instr.Xor v s) = Variable v ∷ Variable s ∷ []
 operands_of (instr.Mul v s) = Variable v ∷ Variable s ∷ []
 operands_of (instr.Neg v) = Variable v ∷ []
+operands_of (instr.Shift op v n) = Variable v ∷ Variable (record { 0 = n }) ∷ []
 operands_of (instr.Cmp a b) = Variable a ∷ Variable b ∷ []
 operands_of (instr.CmpSet k v a b) = Condition k ∷ Variable v ∷ Variable a ∷ Variable b ∷ []
 operands_of (instr.DivMod q r a d) = Variable q ∷ Variable r ∷ Variable a ∷ Variable d ∷ []

@@ -9,7 +9,7 @@ ghost use Rattle.cert_form.specs.Form.{block_data, cap_data, tie_data};
 ghost use Rattle.cert_form.specs.Reading.{long_natural, natural_of, long_integer, integer_of};
 ghost use Rattle.cert_form.specs.Reading.{natural_at, integer_at, variable_at, condition_at};
 ghost use Rattle.cert_form.specs.Reading.{address_at, kind_named, base_of, index_of, made, place_of};
-ghost use Rattle.cert_form.specs.Reading.{end_named, cost_word_of};
+ghost use Rattle.cert_form.specs.Reading.{end_named, cost_word_of, shift_made};
 ghost use Rattle.cert_form.specs.Whole.{AddressFits, BlockFits, CapFits, TieFits};
 ghost use Rattle.cert_form.specs.Found.{ArePaths};
 ghost use Rattle.cert_form.specs.Streams.{address_in, cap_in, tie_in, long_natural_at};
@@ -28,7 +28,9 @@ use crate::lists::{Part, begins_list, ends, item, list};
 use crate::passing::{Unread, pass_items};
 use crate::table::{Form, Operand, Spelling, form_named, name, row, spelling_of};
 use json::Reader;
-use pra_base::{Addr, Base, Block, BlockId, Cond, End, Place, ProcId, VInstr, VarId, VarKind};
+use pra_base::{
+    Addr, Base, Block, BlockId, Cond, End, Place, ProcId, ShiftOp, VInstr, VarId, VarKind,
+};
 use pra_packed::Packed;
 use std::alloc::Global;
 
@@ -306,6 +308,15 @@ pub(crate) fn address(word: &str, marks: &[Mark]) -> Option<Addr>
     })
 }
 
+/// A shift: its variable, and by how many bits.
+fn shift(op: ShiftOp, cells: &[Cell]) -> Option<VInstr>
+    ensures { (w : List ℕ) → result ≡ shift_made op (worded w cells.now) }
+{
+    let v = variable_at(cells, 0)?;
+    let n = natural_at(cells, 1)?;
+    Some(VInstr::Shift(op, v, n))
+}
+
 /// The instruction of a form that a list spells.
 fn made(form: Form, cells: &[Cell]) -> Option<VInstr>
     requires { Each CellFits cells.now }
@@ -321,6 +332,9 @@ fn made(form: Form, cells: &[Cell]) -> Option<VInstr>
         Form::Xor => Some(VInstr::Xor(variable_at(cells, 0)?, variable_at(cells, 1)?)),
         Form::Mul => Some(VInstr::Mul(variable_at(cells, 0)?, variable_at(cells, 1)?)),
         Form::Neg => Some(VInstr::Neg(variable_at(cells, 0)?)),
+        Form::Shl => shift(ShiftOp::Shl, cells),
+        Form::Shr => shift(ShiftOp::Shr, cells),
+        Form::Sar => shift(ShiftOp::Sar, cells),
         Form::Cmp => Some(VInstr::Cmp(variable_at(cells, 0)?, variable_at(cells, 1)?)),
         Form::CmpSet => Some(VInstr::CmpSet(
             condition_at(cells, 0)?,

@@ -3,10 +3,10 @@
 ghost use Rattle.std.specs.Prelude.{◌≡◌, ◌≤◌, length, OnSome};
 ghost use Rattle.std.specs.Str.{bytes_eq};
 ghost use Rattle.cert_form.specs.Table.{name, all_forms, first_named, form_named, form_of};
-ghost use Rattle.cert_form.specs.Table.{operands_of};
+ghost use Rattle.cert_form.specs.Table.{operands_of, shift_form};
 
 use arrayvec::ArrayVec;
-use pra_base::{Addr, Cond, ProcId, VInstr, VarId};
+use pra_base::{Addr, Cond, ProcId, ShiftOp, VInstr, VarId};
 
 /// An instruction without its operands.
 #[derive(Clone, Copy, Drop)]
@@ -20,6 +20,9 @@ pub enum Form {
     Xor,
     Mul,
     Neg,
+    Shl,
+    Shr,
+    Sar,
     Cmp,
     CmpSet,
     DivMod,
@@ -80,6 +83,9 @@ fn all_forms() -> &'static [Form]
         Form::Xor,
         Form::Mul,
         Form::Neg,
+        Form::Shl,
+        Form::Shr,
+        Form::Sar,
         Form::Cmp,
         Form::CmpSet,
         Form::DivMod,
@@ -111,6 +117,9 @@ pub(crate) fn name(form: Form) -> &'static str
         Form::Xor => "xor",
         Form::Mul => "mul",
         Form::Neg => "neg",
+        Form::Shl => "shl",
+        Form::Shr => "shr",
+        Form::Sar => "sar",
         Form::Cmp => "cmp",
         Form::CmpSet => "cmpset",
         Form::DivMod => "divmod",
@@ -170,6 +179,17 @@ pub(crate) fn spelling_of(word: &'static str, operands: &[Operand]) -> Spelling
     }
 }
 
+/// The form of a shift.
+fn shift_form(op: ShiftOp) -> Form
+    ensures { result ≡ shift_form op }
+{
+    match op {
+        ShiftOp::Shl => Form::Shl,
+        ShiftOp::Shr => Form::Shr,
+        ShiftOp::Sar => Form::Sar,
+    }
+}
+
 /// An instruction's form and operands.
 pub(crate) fn row(i: VInstr) -> Spelled
     ensures form { result.form ≡ form_of i }
@@ -186,6 +206,7 @@ pub(crate) fn row(i: VInstr) -> Spelled
         VInstr::Xor(v, s) => parts(Form::Xor, &[Variable(v), Variable(s)]),
         VInstr::Mul(v, s) => parts(Form::Mul, &[Variable(v), Variable(s)]),
         VInstr::Neg(v) => parts(Form::Neg, &[Variable(v)]),
+        VInstr::Shift(op, v, n) => parts(shift_form(op), &[Variable(v), Variable(VarId(n))]),
         VInstr::Cmp(a, b) => parts(Form::Cmp, &[Variable(a), Variable(b)]),
         VInstr::CmpSet(k, v, a, b) => parts(
             Form::CmpSet,

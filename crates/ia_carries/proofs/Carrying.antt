@@ -89,6 +89,7 @@ shell_ops p (instr.Or v s) places = refl
 shell_ops p (instr.Xor v s) places = refl
 shell_ops p (instr.Mul v s) places = refl
 shell_ops p (instr.Neg v) places = refl
+shell_ops p (instr.Shift op v n) places = refl
 shell_ops p (instr.Cmp a b) places = refl
 shell_ops p (instr.CmpSet c v a b) places = refl
 shell_ops p (instr.DivMod q r a d) places = refl

@@ -14,16 +14,18 @@ use Rattle.ia_code.specs.declared.ins.Rm.TheVariants as rm
 use Rattle.ia_code.specs.declared.ins.Ins.{Ins}
 use Rattle.ia_code.specs.declared.ins.Ins.TheVariants.{MovRmR, MovRRm, MovRI, MovRmI, AluRmR}
 use Rattle.ia_code.specs.declared.ins.Ins.TheVariants.{AluRRm, AluRmI, AluRmB, ImulRRm, ImulI}
-use Rattle.ia_code.specs.declared.ins.Ins.TheVariants.{ImulB, Neg, Idiv, Cdq, Lea, PushR, PopR}
+use Rattle.ia_code.specs.declared.ins.Ins.TheVariants.{ImulB, Neg, Shift, Idiv, Cdq, Lea, PushR}
+use Rattle.ia_code.specs.declared.ins.Ins.TheVariants.{PopR}
 use Rattle.ia_code.specs.declared.ins.Ins.TheVariants.{PushM, PushI, Call, Ret, RetI, Jmp, Jcc, Set}
 use Rattle.ia_code.specs.declared.ins.Ins.TheVariants.{Movzx, Xchg, Test, Int}
 use Rattle.ia_code.specs.DecodeTable.{reg_number, op_number, cond_number, scale_number, mod_number}
 use Rattle.ia_code.specs.DecodeTable.{fields, imm8, imm32, displacement, address, operand, bytes_of}
-use Rattle.ia_code.specs.DecodeTable.{Holds, IsOperand, IsSound}
+use Rattle.ia_code.specs.DecodeTable.{Holds, IsOperand, IsSound, shift_number}
 use Rattle.ia_code.specs.DecodeTable.{IsBytes, IsCode}
 use Rattle.ia_code.specs.Services.{is_service}
 use Rattle.std.proofs.lemmas.Bool.Decides.{nat_tests}
 use Rattle.ia_code.proofs.FieldNumbers.{reg_small, mod_small, scale_small, op_small, cond_small}
+use Rattle.ia_code.proofs.FieldNumbers.{shift_small}
 
 -- bytes, at most so many
 record Few (most : ℕ) (bytes : List ℕ) : Type 0 where
@@ -170,6 +172,9 @@ code_of (ImulI to from n) is = operand_word_code 0x69 (reg_number to) from n (om
 code_of (ImulB to from n) is = operand_short_code 0x6b (reg_number to) from n (omega arith)
     (reg_small to) is.0 is.1
 code_of (Neg to) is = operand_code 0xf7 3 to (omega arith) (omega arith) is
+code_of (Shift op to n) is = coded 7 0xc1 (operand (shift_number op) to ++ n ∷ []) (omega arith)
+    (omega arith) (two 6 1 (operand (shift_number op) to) (n ∷ [])
+    (few_operand (shift_number op) (shift_small op) to is.0) (on 0 n [] is.1 none))
 code_of (Idiv by) is = operand_code 0xf7 7 by (omega arith) (omega arith) is
 code_of Cdq is = bare_code 0x99 (omega arith)
 code_of (Lea to from) is = operand_code 0x8d (reg_number to) (rm.Mem from) (omega arith)

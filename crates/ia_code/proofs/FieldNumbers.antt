@@ -9,6 +9,8 @@ use Rattle.std.proofs.lemmas.Nat.{from_le_bytes-to_le_bytes_2, from_le_bytes-to_
 use Rattle.std.specs.Int.{w8, w16, w32, to_le_bytes, cast_unsigned, cast_signed}
 use Rattle.std.specs.Int.RustNames.{FitsSigned}
 use Rattle.pra_base.specs.declared.ids.Cond.{Cond}
+use Rattle.pra_base.specs.declared.ids.ShiftOp.{ShiftOp}
+use Rattle.pra_base.specs.declared.ids.ShiftOp.TheVariants.{Shl, Shr, Sar}
 use Rattle.pra_base.specs.declared.ids.Cond.TheVariants.{B, Ae, E, Ne, Be, A, S, Ns, L, Ge, Le, G}
 use Rattle.ia_code.specs.declared.ins.Reg.{Reg}
 use Rattle.ia_code.specs.declared.ins.Reg.TheVariants.{Eax, Ecx, Edx, Ebx, Esp, Ebp, Esi, Edi}
@@ -17,9 +19,9 @@ use Rattle.ia_code.specs.declared.ins.Width.TheVariants.{D0, D8, D32}
 use Rattle.ia_code.specs.declared.ins.AluOp.{AluOp}
 use Rattle.ia_code.specs.declared.ins.AluOp.TheVariants.{Add, Or, And, Sub, Xor, Cmp}
 use Rattle.ia_code.specs.DecodeTable.{reg_number, op_number, cond_number, scale_number, mod_number}
-use Rattle.ia_code.specs.DecodeTable.{imm8, imm32, is_scale}
+use Rattle.ia_code.specs.DecodeTable.{imm8, imm32, is_scale, shift_number}
 use Rattle.ia_code.specs.Reading.{reg_of, cond_of, op_of, scale_of, width_of, byte_at, short_at}
-use Rattle.ia_code.specs.Reading.{half_at, word_at}
+use Rattle.ia_code.specs.Reading.{half_at, word_at, shift_of}
 
 pub reg_again : (r : Reg) → reg_of (reg_number r) ≡ r
 reg_again r = elim r as (λ r. reg_of (reg_number r) ≡ r) [
@@ -107,6 +109,14 @@ pub op_again : (o : AluOp) → op_of (op_number o) ≡ Some o
 op_again o = elim o as (λ o. op_of (op_number o) ≡ Some o)
     [ Add ↦ refl | Or ↦ refl | And ↦ refl | Sub ↦ refl | Xor ↦ refl | Cmp ↦ refl ]
 
+pub shift_small : (o : ShiftOp) → shift_number o < 8
+shift_small o = elim o as (λ o. shift_number o < 8)
+    [ Shl ↦ omega arith | Shr ↦ omega arith | Sar ↦ omega arith ]
+
+pub shift_again : (o : ShiftOp) → shift_of (shift_number o) ≡ Some o
+shift_again o =
+    elim o as (λ o. shift_of (shift_number o) ≡ Some o) [ Shl ↦ refl | Shr ↦ refl | Sar ↦ refl ]
+
 -- From a field's number and back.
 
 pub reg_back : (n : ℕ) → n < 8 → reg_number (reg_of n) ≡ n
@@ -123,6 +133,9 @@ mode_back n h = grind (arith, nat_tests)
 
 pub op_back : (n : ℕ) (o : AluOp) → op_of n ≡ Some o → op_number o ≡ n
 op_back n o e = grind (arith, nat_tests)
+
+pub shift_back : (n : ℕ) (o : ShiftOp) → shift_of n ≡ Some o → shift_number o ≡ n
+shift_back n o e = grind (arith, nat_tests)
 
 pub cond_back : (n : ℕ) (c : Cond) → cond_of n ≡ Some c → cond_number c ≡ n
 cond_back n c e = grind (arith, nat_tests)

@@ -7,6 +7,7 @@ use Rattle.std.proofs.lemmas.Bool.Decides.{nat_tests}
 use Rattle.std.specs.Int.{w8, w16, w32, to_le_bytes}
 use Rattle.std.specs.Int.RustNames.{FitsSigned}
 use Rattle.pra_base.specs.declared.ids.Cond.{Cond}
+use Rattle.pra_base.specs.declared.ids.ShiftOp.{ShiftOp}
 use Rattle.ia_code.specs.declared.ins.Reg.{Reg}
 use Rattle.ia_code.specs.declared.ins.Reg.TheVariants.{Esp}
 use Rattle.ia_code.specs.declared.ins.MemAddr.{MemAddr}
@@ -15,21 +16,23 @@ use Rattle.ia_code.specs.declared.ins.Rm.TheVariants as rm
 use Rattle.ia_code.specs.declared.ins.Ins.{Ins}
 use Rattle.ia_code.specs.declared.ins.Ins.TheVariants.{MovRmR, MovRRm, MovRI, MovRmI, AluRmR}
 use Rattle.ia_code.specs.declared.ins.Ins.TheVariants.{AluRRm, AluRmI, AluRmB, ImulRRm, ImulI}
-use Rattle.ia_code.specs.declared.ins.Ins.TheVariants.{ImulB, Neg, Idiv, Cdq, Lea, PushR, PopR}
+use Rattle.ia_code.specs.declared.ins.Ins.TheVariants.{ImulB, Neg, Shift, Idiv, Cdq, Lea, PushR}
+use Rattle.ia_code.specs.declared.ins.Ins.TheVariants.{PopR}
 use Rattle.ia_code.specs.declared.ins.Ins.TheVariants.{PushM, PushI, Call, Ret, RetI, Jmp, Jcc, Set}
 use Rattle.ia_code.specs.declared.ins.Ins.TheVariants.{Movzx, Xchg, Test, Int}
 use Rattle.ia_code.specs.Services.{is_service}
 use Rattle.ia_code.specs.DecodeTable.{reg_number, op_number, cond_number, imm8, imm32, operand}
 use Rattle.ia_code.specs.DecodeTable.{bytes_of, is_register, has_low_byte, IsAddress, IsOperand}
-use Rattle.ia_code.specs.DecodeTable.{IsSound}
+use Rattle.ia_code.specs.DecodeTable.{IsSound, shift_number}
 use Rattle.ia_code.specs.Reading.{reg_of, cond_of, op_of, byte_at, short_at, half_at, word_at}
 use Rattle.ia_code.specs.Reading.{operand_at, memory_of, register_of, memory_operand_at}
 use Rattle.ia_code.specs.Reading.{register_operand_at, alu_word_at, alu_short_at, mov_word_at}
-use Rattle.ia_code.specs.Reading.{unary_at, set_at, movzx_at, extended_at, alu_at, stack_at}
+use Rattle.ia_code.specs.Reading.{unary_at, shift_of, shift_at, set_at, movzx_at, extended_at}
+use Rattle.ia_code.specs.Reading.{alu_at, stack_at}
 use Rattle.ia_code.specs.Reading.{move_at, constant_at, jump_at, opcode_at, instruction_at}
 use Rattle.pra_list.specs.Options.{◌>>=◌}
 use Rattle.ia_code.specs.DecodeTable.{IsBytes}
-use Rattle.ia_code.proofs.FieldNumbers.{reg_back, op_back, cond_back}
+use Rattle.ia_code.proofs.FieldNumbers.{reg_back, op_back, shift_back, cond_back}
 use Rattle.ia_code.proofs.OperandsReadAreSpelled.{Takes, byte_takes, half_takes, word_takes}
 use Rattle.ia_code.proofs.OperandsReadAreSpelled.{short_takes, is_same, both, IsRead, operand_takes}
 use Rattle.pra_list.proofs.Options.{some_same, bind_some, none_some}
@@ -238,6 +241,20 @@ unary_takes bytes bb x e =
     (ap (λ k. 0xf7 ∷ operand k o.0.1) (sym (is_same o.0.0 7 h))) r.1))
     (λ h f. absurd (none_some f)) f)
     o.2
+
+shift_takes : (bytes : List ℕ) → IsBytes bytes → (x : Ins × List ℕ) → shift_at bytes ≡ Some x →
+    IsIns (0xc1 ∷ bytes) x
+unfolding shift_at IsRead
+shift_takes bytes bb x e =
+    let o = bind_some (operand_at bytes) _ x e in
+    let op = bind_some (shift_of o.0.0) _ x o.2 in
+    let n = bind_some (byte_at o.0.2) _ x op.2 in
+    let r = operand_takes bytes bb o.0 o.1 in
+    let t = byte_takes o.0.2 r.0.bytes_left n.0 n.1 in
+    let i : Ins = Shift op.0 o.0.1 n.0.0 in
+    subst (IsIns (0xc1 ∷ bytes)) (some_same (Shift op.0 o.0.1 n.0.0, n.0.1) x n.2)
+    (row (0xc1 ∷ []) bytes (operand o.0.0 o.0.1 ++ n.0.0 ∷ []) n.0.1 i (two r.0 t.0)
+    (ap (λ k. 0xc1 ∷ (operand k o.0.1 ++ n.0.0 ∷ [])) (shift_back o.0.0 op.0 op.1)) (r.1, t.1))
 
 push_memory_takes : (bytes : List ℕ) → IsBytes bytes → (x : Ins × List ℕ) →
     (memory_operand_at bytes >>= λ o. if o.0 == 6 then (let y : Ins × List ℕ = (PushM o.1, o.2) in
@@ -478,6 +495,8 @@ module _ (op : ℕ) (bytes : List ℕ) (bb : IsBytes bytes) (x : Ins × List ℕ
   constant_takes : constant_at op bytes ≡ Some x → IsIns (op ∷ bytes) x
   unfolding constant_at
   constant_takes e =
+      by_test (op == 0xc1) _ _ (Some x) (λ h f. at_op 0xc1 op bytes x h (shift_takes bytes bb x f))
+      (λ _ e.
       by_test (op == 0xc2) _ _ (Some x) (λ h f. at_op 0xc2 op bytes x h (ret_takes f)) (λ _ e.
       by_test (op == 0xc3) _ _ (Some x)
       (λ h f. at_op 0xc3 op bytes x h (bare_row (0xc3 ∷ []) bytes bb x Ret refl tt f)) (λ _ e.
@@ -490,7 +509,7 @@ module _ (op : ℕ) (bytes : List ℕ) (bb : IsBytes bytes) (x : Ins × List ℕ
       word_row (op ∷ []) bytes bb x (MovRI (reg_of (op - 0xb8)))
       (λ n. ap (λ k. k ∷ imm32 n) (numbered 0xb8 op p.0 p.1)) (λ n f. f) f)
       (λ _ f. absurd (none_some f))
-      e) e) e) e) e
+      e) e) e) e) e) e
 
   jump_takes : jump_at op bytes ≡ Some x → IsIns (op ∷ bytes) x
   unfolding jump_at

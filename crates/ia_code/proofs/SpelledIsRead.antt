@@ -1,10 +1,11 @@
 -- An instruction that is spelled by the table is read back.
-use Rattle.std.proofs.Common.{◌≡◌, ℕ, ◌+◌, ◌*◌, ◌<◌, true, false, List, ◌∷◌, ◌++◌, Some, refl, ◌∙◌}
-use Rattle.std.proofs.Common.{arith, append_assoc}
+use Rattle.std.proofs.Common.{◌≡◌, ℕ, ◌+◌, ◌*◌, ◌<◌, true, false, List, [], ◌∷◌, ◌++◌, Some, refl}
+use Rattle.std.proofs.Common.{◌∙◌, arith, append_assoc}
 use Rattle.std.specs.Prelude.{ℤ}
 use Rattle.std.specs.Int.{w8, w32}
 use Rattle.std.specs.Int.RustNames.{FitsSigned}
 use Rattle.pra_base.specs.declared.ids.Cond.{Cond}
+use Rattle.pra_base.specs.declared.ids.ShiftOp.{ShiftOp}
 use Rattle.pra_base.specs.declared.ids.Cond.TheVariants.{B, Ae, E, Ne, Be, A, S, Ns, L, Ge, Le, G}
 use Rattle.ia_code.specs.declared.ins.Reg.{Reg}
 use Rattle.ia_code.specs.declared.ins.Reg.TheVariants.{Eax, Ecx, Edx, Ebx, Esp, Ebp, Esi, Edi}
@@ -16,20 +17,22 @@ use Rattle.ia_code.specs.declared.ins.AluOp.TheVariants.{Add, Or, And, Sub, Xor,
 use Rattle.ia_code.specs.declared.ins.Ins.{Ins}
 use Rattle.ia_code.specs.declared.ins.Ins.TheVariants.{MovRmR, MovRRm, MovRI, MovRmI, AluRmR}
 use Rattle.ia_code.specs.declared.ins.Ins.TheVariants.{AluRRm, AluRmI, AluRmB, ImulRRm, ImulI}
-use Rattle.ia_code.specs.declared.ins.Ins.TheVariants.{ImulB, Neg, Idiv, Cdq, Lea, PushR, PopR}
+use Rattle.ia_code.specs.declared.ins.Ins.TheVariants.{ImulB, Neg, Shift, Idiv, Cdq, Lea, PushR}
+use Rattle.ia_code.specs.declared.ins.Ins.TheVariants.{PopR}
 use Rattle.ia_code.specs.declared.ins.Ins.TheVariants.{PushM, PushI, Call, Ret, RetI, Jmp, Jcc, Set}
 use Rattle.ia_code.specs.declared.ins.Ins.TheVariants.{Movzx, Xchg, Test, Int}
 use Rattle.ia_code.specs.Services.{is_service}
 use Rattle.ia_code.specs.DecodeTable.{reg_number, op_number, cond_number, imm8, imm32, operand}
 use Rattle.ia_code.specs.DecodeTable.{bytes_of, is_register, has_low_byte, IsAddress, IsOperand}
-use Rattle.ia_code.specs.DecodeTable.{IsSound}
+use Rattle.ia_code.specs.DecodeTable.{IsSound, shift_number}
 use Rattle.ia_code.specs.Reading.{reg_of, byte_at, word_at, operand_at, memory_operand_at}
 use Rattle.ia_code.specs.Reading.{register_operand_at, alu_word_at, alu_short_at, mov_word_at}
-use Rattle.ia_code.specs.Reading.{unary_at, set_at, movzx_at, extended_at, alu_at, stack_at}
+use Rattle.ia_code.specs.Reading.{unary_at, shift_at, set_at, movzx_at, extended_at, alu_at}
+use Rattle.ia_code.specs.Reading.{stack_at}
 use Rattle.ia_code.specs.Reading.{move_at, constant_at, jump_at, opcode_at, instruction_at}
 use Rattle.pra_list.specs.Options.{◌>>=◌}
 use Rattle.ia_code.proofs.FieldNumbers.{reg_again, reg_small, op_small, op_again, word_again}
-use Rattle.ia_code.proofs.FieldNumbers.{short_again, half_again}
+use Rattle.ia_code.proofs.FieldNumbers.{short_again, half_again, shift_small, shift_again}
 use Rattle.ia_code.proofs.OperandsSpelledAreRead.{operand_again}
 
 -- Rows with a number in the opcode: how they are read, by cases on what has the number.
@@ -175,6 +178,17 @@ module _ (op : AluOp) (to : Rm) (rest : List ℕ) (is : IsOperand to) where
         short_again n rest f,
       ) refl
 
+shift_again_at : (op : ShiftOp) (to : Rm) (n : ℕ) (rest : List ℕ) → IsOperand to →
+    shift_at ((operand (shift_number op) to ++ n ∷ []) ++ rest) ≡ Some (Shift op to n, rest)
+unfolding shift_at byte_at
+shift_again_at op to n rest is =
+    rw (
+      append_assoc (operand (shift_number op) to) (n ∷ []) rest,
+      operand_again (shift_number op)
+          (shift_small op) (n ∷ rest) to is,
+      shift_again op,
+    ) refl
+
 mov_word_again : (to : Rm) (n : ℤ) (rest : List ℕ) → IsOperand to → FitsSigned w32 n →
     mov_word_at ((operand 0 to ++ imm32 n) ++ rest) ≡ Some (MovRmI to n, rest)
 unfolding mov_word_at
@@ -252,6 +266,7 @@ one_spelling_of (ImulRRm to from) is rest =
 one_spelling_of (ImulI to from n) is rest = imul_word_again to from rest is.0 n is.1
 one_spelling_of (ImulB to from n) is rest = imul_short_again to from rest is.0 n is.1
 one_spelling_of (Neg to) is rest = rw (operand_again 3 (omega arith) rest to is) refl
+one_spelling_of (Shift op to n) is rest = shift_again_at op to n rest is.0
 one_spelling_of (Idiv by) is rest = rw (operand_again 7 (omega arith) rest by is) refl
 one_spelling_of Cdq is rest = refl
 one_spelling_of (Lea to from) is rest =

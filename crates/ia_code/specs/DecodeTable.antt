@@ -7,6 +7,8 @@ use Rattle.std.specs.Prelude.{Some, None, slice_index}
 use Rattle.std.specs.Int.{w8, w16, w32, to_le_bytes, cast_unsigned}
 use Rattle.std.specs.Int.RustNames.{FitsSigned}
 use Rattle.pra_base.specs.declared.ids.Cond.{Cond}
+use Rattle.pra_base.specs.declared.ids.ShiftOp.{ShiftOp}
+use Rattle.pra_base.specs.declared.ids.ShiftOp.TheVariants.{Shl, Shr, Sar}
 use Rattle.pra_base.specs.declared.ids.Cond.TheVariants.{B, Ae, E, Ne, Be, A, S, Ns, L, Ge, Le, G}
 use Rattle.ia_code.specs.declared.ins.Reg.{Reg}
 use Rattle.ia_code.specs.declared.ins.Reg.TheVariants.{Eax, Ecx, Edx, Ebx, Esp, Ebp, Esi, Edi}
@@ -20,7 +22,8 @@ use Rattle.ia_code.specs.declared.ins.AluOp.TheVariants.{Add, Or, And, Sub, Xor,
 use Rattle.ia_code.specs.declared.ins.Ins.{Ins}
 use Rattle.ia_code.specs.declared.ins.Ins.TheVariants.{MovRmR, MovRRm, MovRI, MovRmI, AluRmR}
 use Rattle.ia_code.specs.declared.ins.Ins.TheVariants.{AluRRm, AluRmI, AluRmB, ImulRRm, ImulI}
-use Rattle.ia_code.specs.declared.ins.Ins.TheVariants.{ImulB, Neg, Idiv, Cdq, Lea, PushR, PopR}
+use Rattle.ia_code.specs.declared.ins.Ins.TheVariants.{ImulB, Neg, Shift, Idiv, Cdq, Lea, PushR}
+use Rattle.ia_code.specs.declared.ins.Ins.TheVariants.{PopR}
 use Rattle.ia_code.specs.declared.ins.Ins.TheVariants.{PushM, PushI, Call, Ret, RetI, Jmp, Jcc, Set}
 use Rattle.ia_code.specs.declared.ins.Ins.TheVariants.{Movzx, Xchg, Test, Int}
 use Rattle.ia_code.specs.Services.{is_service}
@@ -47,6 +50,12 @@ op_number And = 4
 op_number Sub = 5
 op_number Xor = 6
 op_number Cmp = 7
+
+-- a shift: the reg field of its opcode
+abbrev pub shift_number : ShiftOp → ℕ
+shift_number Shl = 4
+shift_number Shr = 5
+shift_number Sar = 7
 
 -- a condition: the low four bits of Jcc's and SETcc's opcode (SDM volume 1, appendix B)
 abbrev pub cond_number : Cond → ℕ
@@ -138,6 +147,8 @@ bytes_of (ImulI to from n) = 0x69 ∷ (operand (reg_number to) from ++ imm32 n)
 bytes_of (ImulB to from n) = 0x6b ∷ (operand (reg_number to) from ++ imm8 n)
 -- NEG r/m32: F7 /3
 bytes_of (Neg to) = 0xf7 ∷ operand 3 to
+-- SHL, SHR, SAR r/m32, imm8: C1 /4, /5, /7 ib
+bytes_of (Shift op to n) = 0xc1 ∷ (operand (shift_number op) to ++ n ∷ [])
 -- IDIV r/m32: F7 /7
 bytes_of (Idiv by) = 0xf7 ∷ operand 7 by
 -- CDQ: 99
@@ -227,6 +238,7 @@ IsSound (ImulRRm to from) = IsOperand from
 IsSound (ImulI to from n) = IsOperand from × FitsSigned w32 n
 IsSound (ImulB to from n) = IsOperand from × FitsSigned w8 n
 IsSound (Neg to) = IsOperand to
+IsSound (Shift op to n) = IsOperand to × (n < 2 ^ 8)
 IsSound (Idiv by) = IsOperand by
 IsSound Cdq = Unit {0}
 IsSound (Lea to from) = IsAddress from

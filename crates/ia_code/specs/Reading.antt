@@ -4,6 +4,8 @@ use Rattle.std.specs.Prelude.{ℕ, ◌-◌, ◌/◌, ◌%◌, ℤ, pos, ◌&&◌
 use Rattle.std.specs.Prelude.{if◌then◌else◌, List, [], ◌∷◌, length, take, drop, Option, Some, None}
 use Rattle.std.specs.Int.{w8, w16, w32, from_le_bytes, cast_signed}
 use Rattle.pra_base.specs.declared.ids.Cond.{Cond}
+use Rattle.pra_base.specs.declared.ids.ShiftOp.{ShiftOp}
+use Rattle.pra_base.specs.declared.ids.ShiftOp.TheVariants.{Shl, Shr, Sar}
 use Rattle.pra_base.specs.declared.ids.Cond.TheVariants.{B, Ae, E, Ne, Be, A, S, Ns, L, Ge, Le, G}
 use Rattle.ia_code.specs.declared.ins.Reg.{Reg}
 use Rattle.ia_code.specs.declared.ins.Reg.TheVariants.{Eax, Ecx, Edx, Ebx, Esp, Ebp, Esi, Edi}
@@ -17,7 +19,8 @@ use Rattle.ia_code.specs.declared.ins.AluOp.TheVariants.{Add, Or, And, Sub, Xor,
 use Rattle.ia_code.specs.declared.ins.Ins.{Ins}
 use Rattle.ia_code.specs.declared.ins.Ins.TheVariants.{MovRmR, MovRRm, MovRI, MovRmI, AluRmR}
 use Rattle.ia_code.specs.declared.ins.Ins.TheVariants.{AluRRm, AluRmI, AluRmB, ImulRRm, ImulI}
-use Rattle.ia_code.specs.declared.ins.Ins.TheVariants.{ImulB, Neg, Idiv, Cdq, Lea, PushR, PopR}
+use Rattle.ia_code.specs.declared.ins.Ins.TheVariants.{ImulB, Neg, Shift, Idiv, Cdq, Lea, PushR}
+use Rattle.ia_code.specs.declared.ins.Ins.TheVariants.{PopR}
 use Rattle.ia_code.specs.declared.ins.Ins.TheVariants.{PushM, PushI, Call, Ret, RetI, Jmp, Jcc, Set}
 use Rattle.ia_code.specs.declared.ins.Ins.TheVariants.{Movzx, Xchg, Test, Int}
 use Rattle.ia_code.specs.Services.{is_service}
@@ -184,6 +187,21 @@ unary_at bytes = do
   o ← operand_at bytes
   if o.0 == 3 then Some (Neg o.1, o.2) else if o.0 == 7 then Some (Idiv o.1, o.2) else None
 
+abbrev pub shift_of : ℕ → Option ShiftOp
+shift_of n =
+    if n == 4 then Some Shl
+    else if n == 5 then Some Shr
+    else if n == 7 then Some Sar
+    else None
+
+-- after c1
+unfoldable pub shift_at : List ℕ → Option (Ins × List ℕ)
+shift_at bytes = do
+  o ← operand_at bytes
+  op ← shift_of o.0
+  n ← byte_at o.2
+  Some (Shift op o.1 n.0, n.1)
+
 -- after 0f 90+cc
 unfoldable pub set_at : Cond → List ℕ → Option (Ins × List ℕ)
 set_at c bytes = do
@@ -273,7 +291,8 @@ move_at op bytes =
 -- a0 to df
 unfoldable pub constant_at : ℕ → List ℕ → Option (Ins × List ℕ)
 constant_at op bytes =
-    if op == 0xc2 then (do
+    if op == 0xc1 then shift_at bytes
+    else if op == 0xc2 then (do
       n ← half_at bytes
       Some (RetI n.0, n.1))
     else if op == 0xc3 then Some (Ret, bytes)

@@ -4,7 +4,8 @@ ghost use Rattle.std.specs.Prelude.{◌≡◌, ℕ, ◌≤◌, length, take, dro
 ghost use Rattle.ia_code.specs.declared.ins.Ins.{Ins};
 ghost use Rattle.ia_code.specs.DecodeTable.{Row};
 ghost use Rattle.ia_code.specs.Reading.{cond_of, op_of, alu_word_at, alu_short_at, mov_word_at};
-ghost use Rattle.ia_code.specs.Reading.{unary_at, set_at, movzx_at, extended_at, alu_at, stack_at};
+ghost use Rattle.ia_code.specs.Reading.{unary_at, shift_of, shift_at, set_at, movzx_at};
+ghost use Rattle.ia_code.specs.Reading.{extended_at, alu_at, stack_at};
 ghost use Rattle.ia_code.specs.Reading.{move_at, constant_at, jump_at, opcode_at, instruction_at};
 ghost use Rattle.ia_code.specs.Reading.{decoded};
 ghost use Rattle.ia_code.specs.Views.{Gives, Finds};
@@ -15,7 +16,7 @@ use crate::operands::{
 };
 use crate::services::is_service;
 use crate::sound::low_byte_stands;
-use pra_base::Cond;
+use pra_base::{Cond, ShiftOp};
 
 fn condition(n: u8) -> Option<Cond>
     ensures { result ≡ cond_of n }
@@ -94,6 +95,27 @@ fn unary(bytes: &[u8]) -> Option<(Ins, &[u8])>
         7 => Some((Ins::Idiv(to), rest)),
         _ => None,
     }
+}
+
+fn shift(n: u8) -> Option<ShiftOp>
+    ensures { result ≡ shift_of n }
+{
+    match n {
+        4 => Some(ShiftOp::Shl),
+        5 => Some(ShiftOp::Shr),
+        7 => Some(ShiftOp::Sar),
+        _ => None,
+    }
+}
+
+#[tactic(auto, unfolding(crate::specs::Reading::shift_at))]
+fn shifting(bytes: &[u8]) -> Option<(Ins, &[u8])>
+    ensures { Gives (λ x. (x.0, x.1.now)) result (shift_at bytes.now) }
+{
+    let (reg, to, rest) = operand(bytes)?;
+    let op = shift(reg)?;
+    let (n, rest) = byte(rest)?;
+    Some((Ins::Shift(op, to, n), rest))
 }
 
 #[tactic(auto, unfolding(crate::specs::Reading::set_at))]
@@ -234,6 +256,7 @@ fn constant(op: u8, bytes: &[u8]) -> Option<(Ins, &[u8])>
     ensures { Gives (λ x. (x.0, x.1.now)) result (constant_at op bytes.now) }
 {
     match op {
+        0xc1 => shifting(bytes),
         0xc2 => {
             let (n, rest) = half(bytes)?;
             Some((Ins::RetI(n), rest))

@@ -6,11 +6,11 @@ ghost use Rattle.arrayvec.specs.ArrayVec.{array_vec_len};
 ghost use Rattle.ia_code.specs.DecodeTable.{reg_number, cond_number, op_number, scale_number};
 ghost use Rattle.ia_code.specs.DecodeTable.{mod_number, fields, imm8, imm32, displacement, address};
 ghost use Rattle.ia_code.specs.DecodeTable.{operand, bytes_of, IsSound, IsOperand, IsAddress};
-ghost use Rattle.ia_code.specs.DecodeTable.{Holds};
+ghost use Rattle.ia_code.specs.DecodeTable.{Holds, shift_number};
 
 use crate::ins::{AluOp, Ins, MemAddr, Reg, Rm, Width};
 use arrayvec::ArrayVec;
-use pra_base::Cond;
+use pra_base::{Cond, ShiftOp};
 
 /// Room for the bytes of one instruction: the processor allows 15 at most (SDM volume 2, section
 /// 2.3.11).
@@ -54,6 +54,17 @@ fn operation(op: AluOp) -> u8
         AluOp::Sub => 5,
         AluOp::Xor => 6,
         AluOp::Cmp => 7,
+    }
+}
+
+fn shift(op: ShiftOp) -> u8
+    ensures value { result ≡ shift_number op }
+    ensures small { result < 8 }
+{
+    match op {
+        ShiftOp::Shl => 4,
+        ShiftOp::Shr => 5,
+        ShiftOp::Sar => 7,
     }
 }
 
@@ -235,6 +246,11 @@ pub fn encode(i: &Ins) -> ArrayVec<u8, 16>
         Ins::Neg(to) => {
             out.push(0xf7);
             push_operand(&mut out, 3, to);
+        }
+        Ins::Shift(op, to, n) => {
+            out.push(0xc1);
+            push_operand(&mut out, shift(*op), to);
+            out.push(*n);
         }
         Ins::Idiv(by) => {
             out.push(0xf7);

@@ -1,7 +1,7 @@
 // The instructions, in the order of the table of their bytes. Names and operand order are the Intel
 // manual's.
 
-use pra_base::Cond;
+use pra_base::{Cond, ShiftOp};
 
 /// The general registers, numbered 0 to 7 in this order (SDM volume 2, table 2-2).
 #[derive(Clone, Copy, Debug, PartialEq, Eq, Drop)]
@@ -67,6 +67,8 @@ pub enum Ins {
     ImulI(Reg, Rm, i32),
     ImulB(Reg, Rm, i8),
     Neg(Rm),
+    /// By so many bits, of which the low five count.
+    Shift(ShiftOp, Rm, u8),
     Idiv(Rm),
     Cdq,
     Lea(Reg, MemAddr),

@@ -82,6 +82,13 @@ fn is_half(n: u16) -> bool
     true
 }
 
+fn is_byte(n: u8) -> bool
+    ensures { IsTrue result ↔ (n < 2 ^ 8) }
+{
+    let _ = n;
+    true
+}
+
 /// Whether the table has the instruction.
 pub fn is_sound(i: &Ins) -> bool
     ensures { IsTrue result ↔ IsSound i.now }
@@ -99,6 +106,7 @@ pub fn is_sound(i: &Ins) -> bool
         Ins::ImulI(_, from, n) => is_operand(from) && is_word(*n),
         Ins::ImulB(_, from, n) => is_operand(from) && is_short(*n),
         Ins::Neg(to) => is_operand(to),
+        Ins::Shift(_, to, n) => is_operand(to) && is_byte(*n),
         Ins::Idiv(by) => is_operand(by),
         Ins::Cdq => true,
         Ins::Lea(_, from) => is_address(from),

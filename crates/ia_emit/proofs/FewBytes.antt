@@ -1,4 +1,5 @@
 -- How many bytes placed code becomes at most.
+use Rattle.std.specs.Prelude.{◌%◌}
 use Rattle.std.proofs.Common.{◌≡◌, ℕ, zero, suc, ◌+◌, ◌*◌, ◌≤◌, ◌<◌, Bool, true, false, List, []}
 use Rattle.std.proofs.Common.{◌∷◌, ◌++◌, length, map, take, refl, arith, length-append, Option}
 use Rattle.std.proofs.Common.{Some, None, slice_get}
@@ -8,7 +9,7 @@ use Rattle.std.proofs.lemmas.List.{length-map}
 use Rattle.std.proofs.lemmas.List.Sums.{sum_by-cons}
 use Rattle.std.specs.Int.{w8, cast_unsigned}
 use Rattle.ia_code.specs.DecodeTable.{reg_number, op_number, imm32, displacement, address, operand}
-use Rattle.ia_code.specs.DecodeTable.{bytes_of}
+use Rattle.ia_code.specs.DecodeTable.{bytes_of, shift_number}
 use Rattle.ia_code.specs.Image.{max_code_bytes}
 use Rattle.ia_code.specs.declared.ins.Reg.{Reg}
 use Rattle.ia_code.specs.declared.ins.Reg.TheVariants.{Esp}
@@ -20,7 +21,8 @@ use Rattle.ia_code.specs.declared.ins.AluOp.TheVariants as alu
 use Rattle.ia_code.specs.declared.ins.Ins.{Ins}
 use Rattle.ia_code.specs.declared.ins.Ins.TheVariants.{MovRmR, MovRRm, MovRI, MovRmI, AluRmR}
 use Rattle.ia_code.specs.declared.ins.Ins.TheVariants.{AluRRm, AluRmI, AluRmB, ImulRRm, ImulI}
-use Rattle.ia_code.specs.declared.ins.Ins.TheVariants.{ImulB, Neg, Idiv, Cdq, Lea, PushR, PopR}
+use Rattle.ia_code.specs.declared.ins.Ins.TheVariants.{ImulB, Neg, Shift, Idiv, Cdq, Lea, PushR}
+use Rattle.ia_code.specs.declared.ins.Ins.TheVariants.{PopR}
 use Rattle.ia_code.specs.declared.ins.Ins.TheVariants.{PushM, PushI, Call, Ret, RetI, Jmp, Jcc, Set}
 use Rattle.ia_code.specs.declared.ins.Ins.TheVariants.{Movzx, Xchg, Test, Int}
 use Rattle.ia_emit.specs.declared.item.Item.{Item}
@@ -100,6 +102,7 @@ most_eleven (ImulRRm to from) = omega (arith, few_operand (reg_number to) from)
 most_eleven (ImulI to from n) = coded_word 0x69 (reg_number to) from n
 most_eleven (ImulB to from n) = coded_byte 0x6b (reg_number to) from (cast_unsigned w8 n)
 most_eleven (Neg to) = coded 0xf7 3 to
+most_eleven (Shift op to n) = coded_byte 0xc1 (shift_number op) to n
 most_eleven (Idiv by) = coded 0xf7 7 by
 most_eleven Cdq = omega arith
 most_eleven (Lea to from) = coded 0x8d (reg_number to) (rm.Mem from)
@@ -142,6 +145,7 @@ few_op p (instr.Or v s) places = single _
 few_op p (instr.Xor v s) places = single _
 few_op p (instr.Mul v s) places = single _
 few_op p (instr.Neg v) places = single (Neg (rm_of (at p places v 0)))
+few_op p (instr.Shift op v n) places = single (Shift op (rm_of (at p places v 0)) (n % 32))
 few_op p (instr.Cmp a b) places = single _
 few_op p (instr.CmpSet c v a b) places =
     let r = reg_of (at p places v 2) in

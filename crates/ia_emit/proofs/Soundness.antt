@@ -264,6 +264,7 @@ module _ (p : LProc) (holds : CellsHold p) where
     op_sound (instr.Mul v s) is =
         (multiply_sound (reg_of (at p places v 0)) (at p places s 1) (there s 1), tt)
     op_sound (instr.Neg v) is = (λ f. rm_sound (at p places v 0) (there v 0), tt)
+    op_sound (instr.Shift op v n) is = (λ f. (rm_sound (at p places v 0) (there v 0), f.1), tt)
     op_sound (instr.Cmp a b) is = (operation_sound alu.Cmp a b, tt)
     op_sound (instr.CmpSet c v a b) is =
         let l = table (instr.CmpSet c v a b) in

@@ -1,7 +1,7 @@
 -- The instructions of the machine that placed code becomes. A jump names the block or the stub that
 -- it goes to, a call the procedure; distances are a matter of `Code`.
-use Rattle.std.specs.Prelude.{ℕ, zero, suc, ◌+◌, ◌*◌, ℤ, pos, neg_ℤ, if◌then◌else◌, List, [], ◌∷◌}
-use Rattle.std.specs.Prelude.{◌++◌}
+use Rattle.std.specs.Prelude.{ℕ, zero, suc, ◌+◌, ◌*◌, ◌%◌, ℤ, pos, neg_ℤ, if◌then◌else◌, List, []}
+use Rattle.std.specs.Prelude.{◌∷◌, ◌++◌}
 use Rattle.std.specs.Prelude.{Option, Some, None, option_map, nat_eq, flat_map}
 use Rattle.ia_code.specs.declared.ins.Reg.{Reg}
 use Rattle.ia_code.specs.declared.ins.Reg.TheVariants.{Eax, Ecx, Ebx, Esp, Ebp, Esi, Edi}
@@ -176,6 +176,8 @@ emit_op p (instr.Xor v s) places = operation p places alu.Xor v s
 emit_op p (instr.Mul v s) places =
     Plain (multiply (reg_of (at p places v 0)) (at p places s 1)) ∷ []
 emit_op p (instr.Neg v) places = Plain (ins.Neg (rm_of (at p places v 0))) ∷ []
+emit_op p (instr.Shift op v n) places =
+    Plain (ins.Shift op (rm_of (at p places v 0)) (n % 32)) ∷ []
 emit_op p (instr.Cmp a b) places = operation p places alu.Cmp a b
 emit_op p (instr.CmpSet c v a b) places =
     let r = reg_of (at p places v 2) in

@@ -35,6 +35,7 @@ NumbersFit (ins.ImulRRm to from) = DisplacementFits from
 NumbersFit (ins.ImulI to from n) = DisplacementFits from × FitsSigned w32 n
 NumbersFit (ins.ImulB to from n) = DisplacementFits from × FitsSigned w8 n
 NumbersFit (ins.Neg to) = DisplacementFits to
+NumbersFit (ins.Shift op to n) = DisplacementFits to × (n < 2 ^ 8)
 NumbersFit (ins.Idiv by) = DisplacementFits by
 NumbersFit (ins.Lea to from) = FitsSigned w32 from.disp
 NumbersFit (ins.PushM from) = FitsSigned w32 from.disp

@@ -143,6 +143,9 @@ fn emit_op(frame: &Frame<'_>, of: VInstr, places: &[Place]) -> Items
             at(frame, places, s, 1),
         )),
         VInstr::Neg(v) => Item::Plain(Ins::Neg(rm_of(at(frame, places, v, 0)))),
+        VInstr::Shift(op, v, n) => {
+            Item::Plain(Ins::Shift(op, rm_of(at(frame, places, v, 0)), (n % 32) as u8))
+        }
         VInstr::Cmp(a, b) => operation(frame, places, AluOp::Cmp, a, b),
         VInstr::Push(s) => Item::Plain(push(at(frame, places, s, 0))),
         VInstr::Call(callee) => Item::Call(callee),

@@ -10,7 +10,8 @@ use Rattle.pra_base.specs.Words.{word, signed, sum32, diff32}
 use Rattle.ia_code.specs.declared.ins.Ins.{Ins}
 use Rattle.ia_code.specs.declared.ins.Ins.TheVariants.{MovRmR, MovRRm, MovRI, MovRmI, AluRmR}
 use Rattle.ia_code.specs.declared.ins.Ins.TheVariants.{AluRRm, AluRmI, AluRmB, ImulRRm, ImulI}
-use Rattle.ia_code.specs.declared.ins.Ins.TheVariants.{ImulB, Neg, Idiv, Cdq, Lea, PushR, PopR}
+use Rattle.ia_code.specs.declared.ins.Ins.TheVariants.{ImulB, Neg, Shift, Idiv, Cdq, Lea, PushR}
+use Rattle.ia_code.specs.declared.ins.Ins.TheVariants.{PopR}
 use Rattle.ia_code.specs.declared.ins.Ins.TheVariants.{PushM, PushI, Call, Ret, RetI, Jmp, Jcc, Set}
 use Rattle.ia_code.specs.declared.ins.Ins.TheVariants.{Movzx, Xchg, Test, Int}
 use Rattle.ia_code.specs.Services.{is_service}
@@ -56,6 +57,7 @@ are_operands next (ImulRRm to from) is = (tt, is)
 are_operands next (ImulI to from n) is = (tt, is.0, is.1)
 are_operands next (ImulB to from n) is = (tt, is.0, short_fits n is.1)
 are_operands next (Neg to) is = is
+are_operands next (Shift op to n) is = (is.0, natural_fits n (omega (arith, is.1)))
 are_operands next (Idiv by) is = is
 are_operands next Cdq is = tt
 are_operands next (Lea to from) is = (tt, is)
@@ -88,6 +90,7 @@ shape_is next (ImulRRm to from) = refl
 shape_is next (ImulI to from n) = refl
 shape_is next (ImulB to from n) = refl
 shape_is next (Neg to) = refl
+shape_is next (Shift op to n) = refl
 shape_is next (Idiv by) = refl
 shape_is next Cdq = refl
 shape_is next (Lea to from) = refl
@@ -145,6 +148,7 @@ made_again place (ImulRRm to from) is h = refl
 made_again place (ImulI to from n) is h = refl
 made_again place (ImulB to from n) is h = rw (short_again n is.1) refl
 made_again place (Neg to) is h = refl
+made_again place (Shift op to n) is h = rw (byte_again n (omega (arith, is.1))) refl
 made_again place (Idiv by) is h = refl
 made_again place Cdq is h = refl
 made_again place (Lea to from) is h = refl

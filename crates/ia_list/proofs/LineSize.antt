@@ -16,7 +16,8 @@ use Rattle.ia_code.specs.declared.ins.Rm.TheVariants as rm
 use Rattle.ia_code.specs.declared.ins.Ins.{Ins}
 use Rattle.ia_code.specs.declared.ins.Ins.TheVariants.{MovRmR, MovRRm, MovRI, MovRmI, AluRmR}
 use Rattle.ia_code.specs.declared.ins.Ins.TheVariants.{AluRRm, AluRmI, AluRmB, ImulRRm, ImulI}
-use Rattle.ia_code.specs.declared.ins.Ins.TheVariants.{ImulB, Neg, Idiv, Cdq, Lea, PushR, PopR}
+use Rattle.ia_code.specs.declared.ins.Ins.TheVariants.{ImulB, Neg, Shift, Idiv, Cdq, Lea, PushR}
+use Rattle.ia_code.specs.declared.ins.Ins.TheVariants.{PopR}
 use Rattle.ia_code.specs.declared.ins.Ins.TheVariants.{PushM, PushI, Call, Ret, RetI, Jmp, Jcc, Set}
 use Rattle.ia_code.specs.declared.ins.Ins.TheVariants.{Movzx, Xchg, Test, Int}
 use Rattle.ia_code.specs.DecodeTable.{reg_number, imm32, operand, bytes_of, IsOperand, IsSound}
@@ -33,7 +34,7 @@ use Rattle.ia_list.specs.Text.{register_name, low_name, base_text, index_text, w
 use Rattle.ia_list.specs.Text.{operand_text, operands_text, line}
 use Rattle.ia_list.specs.ListText.{lines}
 use Rattle.ia_list.proofs.OperandsRead.{AreOperands}
-use Rattle.ia_list.proofs.NamesRead.{by_op, by_cond}
+use Rattle.ia_list.proofs.NamesRead.{by_op, by_cond, by_shift}
 use Rattle.ia_list.proofs.LineRead.{are_operands}
 
 -- Operands.
@@ -146,6 +147,7 @@ least_name form.MovRi = 5
 least_name form.MovMi = 5
 least_name (form.AluMi op) = 5
 least_name (form.AluMb op) = 5
+least_name (form.Shift op) = 5
 least_name (form.Jcc c) = 2
 least_name _ = 3
 
@@ -158,6 +160,8 @@ name_long (form.AluMi op) = by_op (λ op. 5 ≤ length (name (form.AluMi op))) (
     (omega arith) (omega arith) (omega arith) (omega arith) (omega arith) op
 name_long (form.AluMb op) = by_op (λ op. 5 ≤ length (name (form.AluMb op))) (omega arith)
     (omega arith) (omega arith) (omega arith) (omega arith) (omega arith) op
+name_long (form.Shift op) = by_shift (λ op. 5 ≤ length (name (form.Shift op))) (omega arith)
+    (omega arith) (omega arith) op
 name_long (form.Jcc c) =
     by_cond (λ c. 2 ≤ length (name (form.Jcc c))) (omega arith) (omega arith) (omega arith)
     (omega arith) (omega arith) (omega arith) (omega arith) (omega arith) (omega arith)
@@ -209,6 +213,7 @@ code_size next (ImulRRm to from) is = (code_of (ImulRRm to from) is).most
 code_size next (ImulI to from n) is = (code_of (ImulI to from n) is).most
 code_size next (ImulB to from n) is = (code_of (ImulB to from n) is).most
 code_size next (Neg to) is = omega (arith, operand_size Ebx to is)
+code_size next (Shift op to n) is = (code_of (Shift op to n) is).most
 code_size next (Idiv by) is = omega (arith, operand_size Edi by is)
 code_size next Cdq is = omega arith
 code_size next (Lea to from) is = (code_of (Lea to from) is).most

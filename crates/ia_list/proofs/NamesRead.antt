@@ -6,6 +6,8 @@ use Rattle.std.specs.List.{position_or_len}
 use Rattle.std.proofs.Math.Seq.{take-append_seam, drop-append_seam}
 use Rattle.std.proofs.lemmas.Bool.{lt-ltb}
 use Rattle.pra_base.specs.declared.ids.Cond.{Cond}
+use Rattle.pra_base.specs.declared.ids.ShiftOp.{ShiftOp}
+use Rattle.pra_base.specs.declared.ids.ShiftOp.TheVariants.{Shl, Shr, Sar}
 use Rattle.pra_base.specs.declared.ids.Cond.TheVariants.{B, Ae, E, Ne, Be, A, S, Ns, L, Ge, Le, G}
 use Rattle.ia_code.specs.declared.ins.AluOp.{AluOp}
 use Rattle.ia_code.specs.declared.ins.AluOp.TheVariants.{Add, Or, And, Sub, Xor, Cmp}
@@ -20,6 +22,9 @@ use Rattle.pra_list.proofs.Choices.{and_true, not_true}
 pub by_op : (P : AluOp → Type 0) → P Add → P Or → P And → P Sub → P Xor → P Cmp → (op : AluOp) →
     P op
 by_op P a o n s x c op = elim op as P [ Add ↦ a | Or ↦ o | And ↦ n | Sub ↦ s | Xor ↦ x | Cmp ↦ c ]
+
+pub by_shift : (P : ShiftOp → Type 0) → P Shl → P Shr → P Sar → (op : ShiftOp) → P op
+by_shift P l r s op = elim op as P [ Shl ↦ l | Shr ↦ r | Sar ↦ s ]
 
 pub by_cond : (P : Cond → Type 0) → P B → P Ae → P E → P Ne → P Be → P A → P S → P Ns → P L → P Ge →
     P Le → P G → (c : Cond) → P c
@@ -58,6 +63,8 @@ form_read form.ImulRm = refl
 form_read form.ImulI = refl
 form_read form.ImulB = refl
 form_read form.Neg = refl
+form_read (form.Shift op) = by_shift
+    (λ op. form_named (name (form.Shift op)) ≡ Some (form.Shift op)) refl refl refl op
 form_read form.Idiv = refl
 form_read form.Cdq = refl
 form_read form.Lea = refl
@@ -92,6 +99,8 @@ name_goes_on (form.AluMi op) = by_op (λ op. goes_on (name (form.AluMi op)) ≡ 
     refl refl refl op
 name_goes_on (form.AluMb op) = by_op (λ op. goes_on (name (form.AluMb op)) ≡ true) refl refl refl
     refl refl refl op
+name_goes_on (form.Shift op) = by_shift (λ op. goes_on (name (form.Shift op)) ≡ true) refl refl
+    refl op
 name_goes_on (form.Jcc c) = by_cond (λ c. goes_on (name (form.Jcc c)) ≡ true) refl refl refl refl
     refl refl refl refl refl refl refl refl c
 name_goes_on (form.Set c) = by_cond (λ c. goes_on (name (form.Set c)) ≡ true) refl refl refl refl

@@ -4,6 +4,8 @@
 use Rattle.std.specs.Prelude.{ℕ, ℤ, pos, List, [], ◌++◌, codes}
 use Rattle.pra_base.specs.Words.{word, sum32}
 use Rattle.pra_base.specs.declared.ids.Cond.{Cond}
+use Rattle.pra_base.specs.declared.ids.ShiftOp.{ShiftOp}
+use Rattle.pra_base.specs.declared.ids.ShiftOp.TheVariants.{Shl, Shr, Sar}
 use Rattle.pra_base.specs.declared.ids.Cond.TheVariants.{B, Ae, E, Ne, Be, A, S, Ns, L, Ge, Le, G}
 use Rattle.ia_code.specs.declared.ins.Rm.TheVariants as rm
 use Rattle.ia_code.specs.declared.ins.AluOp.{AluOp}
@@ -11,7 +13,8 @@ use Rattle.ia_code.specs.declared.ins.AluOp.TheVariants.{Add, Or, And, Sub, Xor,
 use Rattle.ia_code.specs.declared.ins.Ins.{Ins}
 use Rattle.ia_code.specs.declared.ins.Ins.TheVariants.{MovRmR, MovRRm, MovRI, MovRmI, AluRmR}
 use Rattle.ia_code.specs.declared.ins.Ins.TheVariants.{AluRRm, AluRmI, AluRmB, ImulRRm, ImulI}
-use Rattle.ia_code.specs.declared.ins.Ins.TheVariants.{ImulB, Neg, Idiv, Cdq, Lea, PushR, PopR}
+use Rattle.ia_code.specs.declared.ins.Ins.TheVariants.{ImulB, Neg, Shift, Idiv, Cdq, Lea, PushR}
+use Rattle.ia_code.specs.declared.ins.Ins.TheVariants.{PopR}
 use Rattle.ia_code.specs.declared.ins.Ins.TheVariants.{PushM, PushI, Call, Ret, RetI, Jmp, Jcc, Set}
 use Rattle.ia_code.specs.declared.ins.Ins.TheVariants.{Movzx, Xchg, Test, Int}
 use Rattle.ia_list.specs.declared.forms.Form.{Form}
@@ -32,6 +35,11 @@ op_name And = codes "and"
 op_name Sub = codes "sub"
 op_name Xor = codes "xor"
 op_name Cmp = codes "cmp"
+
+abbrev pub shift_name : ShiftOp → List ℕ
+shift_name Shl = codes "shl"
+shift_name Shr = codes "shr"
+shift_name Sar = codes "sar"
 
 abbrev pub cond_name : Cond → List ℕ
 cond_name B = codes "b"
@@ -61,6 +69,7 @@ stem form.ImulRm = codes "imul"
 stem form.ImulI = codes "imul"
 stem form.ImulB = codes "imul"
 stem form.Neg = codes "neg"
+stem (form.Shift op) = shift_name op
 stem form.Idiv = codes "idiv"
 stem form.Cdq = codes "cdq"
 stem form.Lea = codes "lea"
@@ -91,6 +100,7 @@ ending (form.AluMb op) = codes ".mb"
 ending form.ImulRm = codes ".rm"
 ending form.ImulI = codes ".i"
 ending form.ImulB = codes ".b"
+ending (form.Shift op) = codes ".r"
 ending form.PushR = codes ".r"
 ending form.PushM = codes ".m"
 ending form.PushI = codes ".i"
@@ -117,6 +127,7 @@ shape_of form.ImulRm = shape.Two
 shape_of form.ImulI = shape.TwoNumber
 shape_of form.ImulB = shape.TwoNumber
 shape_of form.Neg = shape.One
+shape_of (form.Shift op) = shape.OneNumber
 shape_of form.Idiv = shape.One
 shape_of form.Cdq = shape.Nothing
 shape_of form.Lea = shape.Two
@@ -153,6 +164,7 @@ parts next (ImulRRm to from) = (form.ImulRm, Two (rm.Reg to) from)
 parts next (ImulI to from n) = (form.ImulI, TwoNumber (rm.Reg to) from n)
 parts next (ImulB to from n) = (form.ImulB, TwoNumber (rm.Reg to) from n)
 parts next (Neg to) = (form.Neg, One to)
+parts next (Shift op to n) = (form.Shift op, OneNumber to (pos n))
 parts next (Idiv by) = (form.Idiv, One by)
 parts next Cdq = (form.Cdq, Nothing)
 parts next (Lea to from) = (form.Lea, Two (rm.Reg to) (rm.Mem from))

@@ -9,6 +9,7 @@ use Rattle.std.specs.Str.{bytes_eq}
 use Rattle.std.specs.Int.{w32, from_be_bytes}
 use Rattle.pra_base.specs.Words.{signed, diff32}
 use Rattle.pra_base.specs.declared.ids.Cond.{Cond}
+use Rattle.pra_base.specs.declared.ids.ShiftOp.TheVariants.{Shl, Shr, Sar}
 use Rattle.pra_base.specs.declared.ids.Cond.TheVariants.{B, Ae, E, Ne, Be, A, S, Ns, L, Ge, Le, G}
 use Rattle.ia_code.specs.declared.ins.Reg.{Reg}
 use Rattle.ia_code.specs.declared.ins.Reg.TheVariants.{Eax, Ecx, Edx, Ebx, Esp, Ebp, Esi, Edi}
@@ -214,7 +215,7 @@ forms_with a =
     else if a == 114 then form.Ret ∷ form.RetI ∷ []
     else if a == 115 then form.Set B ∷ form.Set Ae ∷ form.Set E ∷ form.Set Ne ∷ form.Set Be
     ∷ form.Set A ∷ form.Set S ∷ form.Set Ns ∷ form.Set L ∷ form.Set Ge ∷ form.Set Le
-    ∷ form.Set G ∷ alu_forms Sub
+    ∷ form.Set G ∷ form.Shift Shl ∷ form.Shift Shr ∷ form.Shift Sar ∷ alu_forms Sub
     else if a == 116 then form.Test ∷ []
     else if a == 120 then form.Xchg ∷ alu_forms Xor
     else []
@@ -317,6 +318,9 @@ made_one_number (form.AluMi op) a n = Some (ins.AluRmI op a n)
 made_one_number (form.AluMb op) a n = do
   k ← short_of n
   Some (ins.AluRmB op a k)
+made_one_number (form.Shift op) a n = do
+  k ← natural_of 255 n
+  Some (ins.Shift op a k)
 made_one_number _ a n = None
 
 unfoldable pub made_two_number : Form → Rm → Rm → ℤ → Option Ins

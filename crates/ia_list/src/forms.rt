@@ -2,10 +2,10 @@
 // table that joins them with the instructions.
 
 ghost use Rattle.std.specs.Prelude.{◌≡◌};
-ghost use Rattle.ia_list.specs.Parts.{stem, ending, shape_of, op_name, cond_name};
+ghost use Rattle.ia_list.specs.Parts.{stem, ending, shape_of, op_name, shift_name, cond_name};
 
 use ia_code::{AluOp, Reg, Rm};
-use pra_base::Cond;
+use pra_base::{Cond, ShiftOp};
 
 /// An instruction without its operands. The letters at the end of a variant's name say where the
 /// operands are: `m` may be in memory, `r` is a register, `i` a number and `b` a number of one
@@ -24,6 +24,7 @@ pub enum Form {
     ImulI,
     ImulB,
     Neg,
+    Shift(ShiftOp),
     Idiv,
     Cdq,
     Lea,
@@ -85,6 +86,16 @@ fn op_name(op: AluOp) -> &'static [u8]
     }
 }
 
+fn shift_name(op: ShiftOp) -> &'static [u8]
+    ensures { result.now ≡ shift_name op }
+{
+    match op {
+        ShiftOp::Shl => b"shl",
+        ShiftOp::Shr => b"shr",
+        ShiftOp::Sar => b"sar",
+    }
+}
+
 fn cond_name(c: Cond) -> &'static [u8]
     ensures { result.now ≡ cond_name c }
 {
@@ -113,6 +124,7 @@ pub(crate) fn stem(form: Form) -> &'static [u8]
         Form::AluMr(op) | Form::AluRm(op) | Form::AluMi(op) | Form::AluMb(op) => op_name(op),
         Form::ImulRm | Form::ImulI | Form::ImulB => b"imul",
         Form::Neg => b"neg",
+        Form::Shift(op) => shift_name(op),
         Form::Idiv => b"idiv",
         Form::Cdq => b"cdq",
         Form::Lea => b"lea",
@@ -142,7 +154,7 @@ pub(crate) fn ending(form: Form) -> &'static [u8]
         Form::AluMb(_) => b".mb",
         Form::ImulB => b".b",
         Form::ImulI | Form::PushI | Form::RetI => b".i",
-        Form::PushR => b".r",
+        Form::PushR | Form::Shift(_) => b".r",
         Form::PushM => b".m",
         Form::Jcc(c) | Form::Set(c) => cond_name(c),
         _ => b"",
@@ -157,6 +169,7 @@ pub(crate) fn shape_of(form: Form) -> Shape
         Form::MovMr | Form::MovRm | Form::AluMr(_) | Form::AluRm(_) => Shape::Two,
         Form::ImulRm | Form::Lea | Form::Xchg | Form::Test => Shape::Two,
         Form::MovRi | Form::MovMi | Form::AluMi(_) | Form::AluMb(_) => Shape::OneNumber,
+        Form::Shift(_) => Shape::OneNumber,
         Form::ImulI | Form::ImulB => Shape::TwoNumber,
         Form::Neg | Form::Idiv | Form::PushR | Form::PushM | Form::Pop => Shape::One,
         Form::PushI | Form::RetI | Form::Int => Shape::Number,

@@ -13,7 +13,7 @@ ghost use Rattle.ia_list.specs.Reading.{made, ends_name, named_at, instruction_a
 use crate::forms::{Form, Operands, ending, shape_of, stem};
 use crate::scan::{digits, letter, operands, skip};
 use ia_code::{AluOp, Ins, MemAddr, Reg, Rm};
-use pra_base::Cond;
+use pra_base::{Cond, ShiftOp};
 
 /// The forms whose names begin with a letter.
 fn forms_with(a: u8) -> &'static [Form]
@@ -90,6 +90,9 @@ fn forms_with(a: u8) -> &'static [Form]
             Form::Set(Cond::Ge),
             Form::Set(Cond::Le),
             Form::Set(Cond::G),
+            Form::Shift(ShiftOp::Shl),
+            Form::Shift(ShiftOp::Shr),
+            Form::Shift(ShiftOp::Sar),
             Form::AluMr(AluOp::Sub),
             Form::AluRm(AluOp::Sub),
             Form::AluMi(AluOp::Sub),
@@ -256,6 +259,7 @@ fn made_one_number(form: Form, a: Rm, n: i32) -> Option<Ins>
         Form::MovMi => Some(Ins::MovRmI(a, n)),
         Form::AluMi(op) => Some(Ins::AluRmI(op, a, n)),
         Form::AluMb(op) => Some(Ins::AluRmB(op, a, short_of(n)?)),
+        Form::Shift(op) => Some(Ins::Shift(op, a, byte_of(n)?)),
         _ => None,
     }
 }

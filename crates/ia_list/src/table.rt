@@ -37,6 +37,7 @@ fn parts(next: u32, i: &Ins) -> (Form, Operands)
             (Form::ImulB, Operands::TwoNumber(Rm::Reg(to), from, n))
         }
         Ins::Neg(to) => (Form::Neg, Operands::One(to)),
+        Ins::Shift(op, to, n) => (Form::Shift(op), Operands::OneNumber(to, i32::from(n))),
         Ins::Idiv(by) => (Form::Idiv, Operands::One(by)),
         Ins::Cdq => (Form::Cdq, Operands::Nothing),
         Ins::Lea(to, from) => (Form::Lea, Operands::Two(Rm::Reg(to), Rm::Mem(from))),

@@ -1,6 +1,6 @@
 -- The other instructions that compute: numbers go into variables, wherever these are.
-use Rattle.std.proofs.Common.{◌≡◌, ℕ, ◌^◌, ◌<◌, true, List, [], ◌∷◌, length, map, Some, None, refl}
-use Rattle.std.proofs.Common.{sym, ap, ◌∙◌, subst, arith}
+use Rattle.std.proofs.Common.{◌≡◌, ℕ, ◌%◌, ◌^◌, ◌<◌, true, List, [], ◌∷◌, length, map, Some, None}
+use Rattle.std.proofs.Common.{refl, sym, ap, ◌∙◌, subst, arith}
 use Rattle.std.specs.Prelude.{ℤ, Ok, if◌then◌else◌}
 use Rattle.std.specs.List.{filter_map}
 use Rattle.std.specs.Int.{w32}
@@ -14,7 +14,7 @@ use Rattle.ia_emit.specs.declared.item.Operand.{Operand}
 use Rattle.ia_emit.specs.declared.item.Operand.TheVariants as at
 use Rattle.ia_emit.specs.Emission.{emit, emit_op, rm_of, copy, set}
 use Rattle.ia_emit.specs.Operands as emitted
-use Rattle.ia_step.specs.Arithmetic.{diff_flags}
+use Rattle.ia_step.specs.Arithmetic.{diff_flags, shift_flags}
 use Rattle.ia_step.specs.Run.{Ran}
 use Rattle.pl_place.specs.declared.placed.LInstr.{LInstr}
 use Rattle.pl_place.specs.declared.placed.LInstr.TheVariants as placed
@@ -24,17 +24,19 @@ use Rattle.pl_place.specs.Placed.{op_of, kind_of}
 use Rattle.pl_place.specs.Valid.{OperandsPlaced, counts_of}
 use Rattle.pra_base.specs.declared.code.VInstr.{VInstr}
 use Rattle.pra_base.specs.declared.code.VInstr.TheVariants as instr
+use Rattle.pra_base.specs.declared.ids.ShiftOp.{ShiftOp}
 use Rattle.pra_base.specs.declared.ids.VarId.{VarId}
 use Rattle.pra_base.specs.Operands.{table}
 use Rattle.pra_base.specs.Places.{number as number_of, has_register, is_mem}
 use Rattle.pra_base.specs.Valid.{PushesLead, TakesArgs}
-use Rattle.pra_base.specs.Words.{word, diff32}
+use Rattle.pra_base.specs.Words.{word, diff32, shifted}
 use Rattle.vc_code.specs.declared.value.Value.TheVariants.{Num}
 use Rattle.vc_code.specs.declared.action.Action.TheVariants as action
 use Rattle.vc_code.specs.Operation.{gives, number}
 use Rattle.vc_code.specs.Machine.{Activation, State, After}
 use Rattle.ia_simulation.specs.Realizes.{IsLoadable, Realizes, Leads}
-use Rattle.ia_simulation.proofs.Effects.{IsPlace, OneInMemory, sets, copies, negates}
+use Rattle.ia_simulation.proofs.Effects.{IsPlace, OneInMemory, sets, copies, negates, shifts_low}
+use Rattle.pra_base.proofs.Shifts.{shifted_small}
 use Rattle.ia_simulation.proofs.Masks.{in_mask, allowed_at, is_place, one_in_memory}
 use Rattle.ia_simulation.proofs.Ops as ops
 use Rattle.ia_simulation.proofs.Ops.{one_is, two_are, three_are, number_is, combined_fits}
@@ -187,3 +189,43 @@ module _ (procs : List LProc) (data_words : ℕ) (ok : IsLoadable procs data_wor
         wrote (lead_on i places more e
         (steps.lead procs data_words ok s r y o (placed.Op i places) more e))
         (negates now to x _ place (got.1 ∙ ap Ok got.2.0) wrote.is))))
+
+    -- SHL, SHR, SAR
+    pub shifts_it : (op : ShiftOp) (k : ℕ) →
+        s.top.home.rest ≡ placed.Op (instr.Shift op v k) places ∷ more →
+        Led procs data_words ok s r y o (instr.Shift op v k) more places.items
+    shifts_it op k e =
+        let i = instr.Shift op v k in
+        let is = placed_so i places more e in
+        let t = two_are places.items is.count in
+        let a = t.0 in
+        let b = t.1 in
+        let is_ab : OperandsPlaced p i (a ∷ b ∷ []) = subst (OperandsPlaced p i) t.2 is in
+        let to = emitted.operand p v.0 (number_of a) in
+        let place : IsPlace to =
+        is_place p v.0 _ a ((in_mask (table i) v.0 (number_of a)
+        (allowed_at p i (a ∷ b ∷ []) is_ab 0 _ refl)).0 (itself v.0)) in
+        let same : number_of a ≡ number_of b = is_ab.in_place 0 0 _ _ refl refl refl in
+        let em : emit p (placed.Op i places) ≡ Plain (ins.Shift op (rm_of to) (k % 32)) ∷ [] =
+        ap (emit_op p i) t.2 in
+        let j = ins.Shift op (rm_of to) (k % 32) in
+        let now = ops.now procs data_words ok s r y o i places more e j em in
+        let after : After Cells = behind p i (map number_of (a ∷ b ∷ [])) more s.top in
+        subst (Led procs data_words ok s r y o i more) (sym t.2) (λ ns.
+        ops.bound_ok procs data_words ok s r y o after (number (operand p s.top v.0 (number_of a)))
+        (λ x. gives (shifted op x k)) ns (λ x xe ns.
+        ops.gives_ok procs data_words ok s r y o after (Num (shifted op x k)) ns (λ c ce.
+        let got = ops.reads_here procs data_words ok s r y o i places more e j em v.0 (number_of a)
+        (Num x) (no_number to place) (number_is _ x xe) in
+        let put_b = put_done p (put p (after_it i places more e) v.0 (number_of b)
+        (Some (Num (shifted op x k)))) [] [] c ce in
+        let wrote = ops.writes_here procs data_words ok s r y o i places more e j em v.0
+        (number_of a) (Num (shifted op x k)) (shifted op x k) c
+        (ap (λ q. put p (after_it i places more e) v.0 q (Some (Num (shifted op x k)))) same
+        ∙ put_b)
+        (refl, shifted_small op x k got.2.1) in
+        ops.gave procs data_words ok s r y o i places more e j em to (shifted op x k) c
+        (shift_flags now.flags (shifted op x k) (k % 32))
+        wrote (lead_on i places more e
+        (steps.lead procs data_words ok s r y o (placed.Op i places) more e))
+        (shifts_low now op to x k _ place (got.1 ∙ ap Ok got.2.0) wrote.is))))

@@ -34,6 +34,7 @@ op_carried (instr.Or v s) places fits = whole.ors v s places
 op_carried (instr.Xor v s) places fits = whole.xors v s places
 op_carried (instr.Mul v s) places fits = whole.multiplies v s places
 op_carried (instr.Neg v) places fits = whole.negates v places
+op_carried (instr.Shift op v n) places fits = whole.shifts op v n places
 op_carried (instr.Cmp a b) places fits = whole.compares a b places
 op_carried (instr.CmpSet c v a b) places fits = whole.sets_condition c v a b places
 op_carried (instr.DivMod q r a d) places fits = whole.divides q r a d places

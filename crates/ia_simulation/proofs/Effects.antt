@@ -1,5 +1,5 @@
 -- What the forms of instructions come to, on operands of any kind that were read and are written.
-use Rattle.std.proofs.Common.{◌≡◌, ℕ, ◌%◌, ◌^◌, refl, ap, ◌∙◌, mul_comm}
+use Rattle.std.proofs.Common.{◌≡◌, ℕ, ◌%◌, ◌^◌, refl, sym, ap, ◌∙◌, subst, mul_comm}
 use Rattle.std.specs.Prelude.{ℤ, Result, Ok}
 use Rattle.pra_list.proofs.Choices.{either}
 use Rattle.pra_list.specs.Results.{◌>>=◌}
@@ -15,13 +15,16 @@ use Rattle.ia_emit.specs.Emission as emit
 use Rattle.ia_step.specs.declared.flags.Flags.{Flags}
 use Rattle.ia_step.specs.declared.out.FaultKind.{FaultKind}
 use Rattle.ia_step.specs.declared.out.StepOut.TheVariants as out
-use Rattle.ia_step.specs.Arithmetic.{result_of, flags_of, product_flags, diff_flags}
+use Rattle.ia_step.specs.Arithmetic.{result_of, flags_of, product_flags, diff_flags, shift_flags}
 use Rattle.ia_step.specs.Effect.{goes, read_rm, write_rm, push, mov, alu, keep_result, imul, neg}
+use Rattle.ia_step.specs.Effect.{shift}
 use Rattle.ia_step.specs.Effect.{effect}
 use Rattle.ia_step.specs.Registers.{get}
 use Rattle.ia_step.specs.State.{State, with_register, with_flags}
 use Rattle.net_form.specs.Tables.{is_short}
-use Rattle.pra_base.specs.Words.{word, product32, diff32}
+use Rattle.pra_base.specs.declared.ids.ShiftOp.{ShiftOp}
+use Rattle.pra_base.specs.Words.{word, product32, diff32, shifted}
+use Rattle.pra_base.proofs.Shifts.{shifted_low}
 use Rattle.ia_simulation.proofs.Spots.{read}
 
 -- an operand that can be written, and read as ModRM's rm field
@@ -146,6 +149,28 @@ module _ (m : State) where
       ap (λ q. q >>= λ v. write_rm m (rm_of o) (diff32 0 v) >>= λ t. goes
       (with_flags t (diff_flags 0 v))) (read_place o a is e)
       ∙ ap (λ q. q >>= λ t. goes (with_flags t (diff_flags 0 a))) w
+
+  -- SHL, SHR, SAR
+  pub shifts : (op : ShiftOp) (o : Operand) (a n : ℕ) (t : State) → IsPlace o → read m o ≡ Ok a →
+      write_rm m (rm_of o) (shifted op a n) ≡ Ok t →
+      effect m (ins.Shift op (rm_of o) n) ≡
+      Ok (with_flags t (shift_flags m.flags (shifted op a n) n), out.Going)
+  unfolding effect shift
+  shifts op o a n t is e w =
+      ap (λ q. q >>= λ v. write_rm m (rm_of o) (shifted op v n) >>= λ t. goes
+      (with_flags t (shift_flags m.flags (shifted op v n) n))) (read_place o a is e)
+      ∙ ap (λ q. q >>= λ t. goes (with_flags t (shift_flags m.flags (shifted op a n) n))) w
+
+  -- by a count of which the low five bits are emitted
+  pub shifts_low : (op : ShiftOp) (o : Operand) (a k : ℕ) (t : State) → IsPlace o →
+      read m o ≡ Ok a → write_rm m (rm_of o) (shifted op a k) ≡ Ok t →
+      effect m (ins.Shift op (rm_of o) (k % 32)) ≡
+      Ok (with_flags t (shift_flags m.flags (shifted op a k) (k % 32)), out.Going)
+  shifts_low op o a k t is e w =
+      subst (λ n. effect m (ins.Shift op (rm_of o) (k % 32)) ≡
+      Ok (with_flags t (shift_flags m.flags n (k % 32)), out.Going)) (shifted_low op a k)
+      (shifts op o a (k % 32) t is e
+      (subst (λ n. write_rm m (rm_of o) n ≡ Ok t) (sym (shifted_low op a k)) w))
 
   -- PUSH
   pub pushes : (from : Operand) (n : ℕ) → read m from ≡ Ok n → effect m (emit.push from) ≡

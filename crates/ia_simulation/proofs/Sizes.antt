@@ -91,6 +91,7 @@ module _ (procs : List LProc) (data_words : ℕ) (ok : IsLoadable procs data_wor
   few_pushes n (instr.Xor v s ∷ rest) lead = omega (arith, lead.0)
   few_pushes n (instr.Mul v s ∷ rest) lead = omega (arith, lead.0)
   few_pushes n (instr.Neg v ∷ rest) lead = omega (arith, lead.0)
+  few_pushes n (instr.Shift op v k ∷ rest) lead = omega (arith, lead.0)
   few_pushes n (instr.Cmp a b ∷ rest) lead = omega (arith, lead.0)
   few_pushes n (instr.CmpSet k v a b ∷ rest) lead = omega (arith, lead.0)
   few_pushes n (instr.DivMod q r a d ∷ rest) lead = omega (arith, lead.0)

@@ -1,4 +1,5 @@
 -- The steps of placed code, one law after the other.
+use Rattle.std.specs.Prelude.{ℕ}
 use Rattle.std.specs.Int.{w32}
 use Rattle.std.specs.Int.RustNames.{FitsSigned}
 use Rattle.pl_moves.specs.declared.transfer.Move.{Move}
@@ -9,6 +10,7 @@ use Rattle.pra_base.specs.declared.code.End.TheVariants as end
 use Rattle.pra_base.specs.declared.ids.BlockId.{BlockId}
 use Rattle.pra_base.specs.declared.ids.Cond.{Cond}
 use Rattle.pra_base.specs.declared.ids.ProcId.{ProcId}
+use Rattle.pra_base.specs.declared.ids.ShiftOp.{ShiftOp}
 use Rattle.pra_base.specs.declared.ids.VarId.{VarId}
 use Rattle.ia_simulation.specs.Realizes.{IsCarried, EndIsCarried}
 use Rattle.ia_simulation.proofs.Calls.{calls_it}
@@ -67,6 +69,12 @@ pub copies : (v w : VarId) (places : _) → IsCarried (placed.Op (instr.Copy v w
 copies v w places procs data_words ok s r y o more e =
     stepped procs s r (placed.Op (instr.Copy v w) places) more o e
     (computes.copies_it procs data_words ok s r y o v w places more e)
+
+pub shifts : (op : ShiftOp) (v : VarId) (n : ℕ) (places : _) →
+    IsCarried (placed.Op (instr.Shift op v n) places)
+shifts op v n places procs data_words ok s r y o more e =
+    stepped procs s r (placed.Op (instr.Shift op v n) places) more o e
+    (computes.shifts_it procs data_words ok s r y o v v places more op n e)
 
 pub negates : (v : VarId) (places : _) → IsCarried (placed.Op (instr.Neg v) places)
 negates v places procs data_words ok s r y o more e =

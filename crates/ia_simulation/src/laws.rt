@@ -22,6 +22,7 @@ ghost use Rattle.pra_base.specs.declared.code.End.TheVariants as end;
 ghost use Rattle.pra_base.specs.declared.ids.BlockId.{BlockId};
 ghost use Rattle.pra_base.specs.declared.ids.Cond.{Cond};
 ghost use Rattle.pra_base.specs.declared.ids.ProcId.{ProcId};
+ghost use Rattle.pra_base.specs.declared.ids.ShiftOp.{ShiftOp};
 ghost use Rattle.pra_base.specs.declared.ids.VarId.{VarId};
 ghost use Rattle.ia_simulation.specs.Realizes.{IsLoadable, IsLoaded, AreWords, Realizes};
 ghost use Rattle.ia_simulation.specs.Realizes.{IsCarried, EndIsCarried};
@@ -49,6 +50,8 @@ pub fn computing_is_carried()
     ensures divide { (q r a d : VarId) (places : _) →
         IsCarried (Op (instr.DivMod q r a d) places) }
     ensures negate { (v : VarId) (places : _) → IsCarried (Op (instr.Neg v) places) }
+    ensures shift { (op : ShiftOp) (v : VarId) (n : ℕ) (places : _) →
+        IsCarried (Op (instr.Shift op v n) places) }
 {}
 
 /// The same of what is written and read. Where no input is left, both trap.

@@ -8,6 +8,7 @@ use Rattle.ia_code.specs.declared.services.Service.TheVariants as services
 use Rattle.ia_code.specs.Services.{service_of, trap_of}
 use Rattle.ia_code.specs.Regions.{data_base, stack_base}
 use Rattle.pra_base.specs.declared.event.TrapKind.{TrapKind}
+use Rattle.pra_base.specs.declared.ids.ShiftOp.{ShiftOp}
 use Rattle.ia_code.specs.declared.ins.Reg.{Reg}
 use Rattle.ia_code.specs.declared.ins.AluOp.{AluOp}
 use Rattle.ia_code.specs.declared.ins.AluOp.TheVariants.{Add, Or, And, Sub, Xor, Cmp}
@@ -16,7 +17,8 @@ use Rattle.ia_code.specs.declared.ins.Rm.TheVariants as rm
 use Rattle.ia_code.specs.declared.ins.Ins.{Ins}
 use Rattle.ia_code.specs.declared.ins.Ins.TheVariants.{MovRmR, MovRRm, MovRI, MovRmI, AluRmR}
 use Rattle.ia_code.specs.declared.ins.Ins.TheVariants.{AluRRm, AluRmI, AluRmB, ImulRRm, ImulI}
-use Rattle.ia_code.specs.declared.ins.Ins.TheVariants.{ImulB, Neg, Idiv, Cdq, Lea, PushR, PopR}
+use Rattle.ia_code.specs.declared.ins.Ins.TheVariants.{ImulB, Neg, Shift, Idiv, Cdq, Lea, PushR}
+use Rattle.ia_code.specs.declared.ins.Ins.TheVariants.{PopR}
 use Rattle.ia_code.specs.declared.ins.Ins.TheVariants.{PushM, PushI, Call, Ret, RetI, Jmp, Jcc, Set}
 use Rattle.ia_code.specs.declared.ins.Ins.TheVariants.{Movzx, Xchg, Test, Int}
 use Rattle.ia_step.specs.declared.out.StepOut.{StepOut}
@@ -27,8 +29,8 @@ use Rattle.ia_step.specs.declared.out.Ending.TheVariants as ending
 use Rattle.ia_step.specs.Arithmetic.{holds}
 use Rattle.ia_step.specs.State.{State, at, over}
 use Rattle.ia_step.specs.Effect.{Done, goes, lies_in, load, store, read_rm, write_rm, push, pop}
-use Rattle.ia_step.specs.Effect.{mov, keep_result, alu, imul, neg, divided, idiv, branch, set}
-use Rattle.ia_step.specs.Effect.{take_input, trapped, serve, service, effect}
+use Rattle.ia_step.specs.Effect.{mov, keep_result, alu, imul, neg, shift, divided, idiv, branch}
+use Rattle.ia_step.specs.Effect.{set, take_input, trapped, serve, service, effect}
 use Rattle.pra_list.specs.Results.{◌>>=◌}
 use Rattle.ia_step.specs.Step.{fetch, execute, settled, step_from, step, ending_told}
 use Rattle.ia_step.specs.Kept.{Kept}
@@ -205,6 +207,13 @@ module _ (s : State) where
       from_state (write_rm s dest _) _ (quiet_write dest _)
       (λ t q. goes_on t _ q refl refl refl refl refl refl))
 
+  after_shift : (op : ShiftOp) (dest : Rm) (n : ℕ) → Goes (shift op s dest n)
+  unfolding shift
+  after_shift op dest n =
+      from_word (read_rm s dest) _ (λ w.
+      from_state (write_rm s dest _) _ (quiet_write dest _)
+      (λ t q. goes_on t _ q refl refl refl refl refl refl))
+
   after_divided : (x : Option (ℕ × ℕ)) → Goes (divided s x)
   unfolding Goes
   after_divided None = failed
@@ -276,6 +285,7 @@ module _ (s : State) where
   after_effect (ImulI dest src n) = from_word (read_rm s src) _ (after_imul dest _)
   after_effect (ImulB dest src n) = from_word (read_rm s src) _ (after_imul dest _)
   after_effect (Neg dest) = after_neg dest
+  after_effect (Shift op dest n) = after_shift op dest n
   after_effect (Idiv src) = from_word (read_rm s src) _ after_idiv
   after_effect Cdq = goes_plain _ refl refl refl refl refl refl
   after_effect (Lea dest a) = goes_plain _ refl refl refl refl refl refl

@@ -1,6 +1,6 @@
 -- Arithmetic on 32 bits, the status flags, and the conditions on them (SDM volume 1, section
 -- 3.4.3.1, and appendix B).
-use Rattle.std.specs.Prelude.{ℕ, ◌+◌, ◌*◌, ◌/◌, ◌^◌, ℤ, ◌+ℤ◌, ◌-ℤ◌, ◌*ℤ◌}
+use Rattle.std.specs.Prelude.{ℕ, ◌+◌, ◌*◌, ◌/◌, ◌%◌, ◌^◌, ℤ, ◌+ℤ◌, ◌-ℤ◌, ◌*ℤ◌}
 use Rattle.std.specs.Prelude.{Bool, true, false, not, ◌||◌, ◌&&◌, ◌==◌, nat_lt, nat_le}
 use Rattle.std.specs.Prelude.{if◌then◌else◌, Option, Some, None}
 use Rattle.std.specs.Int.{w64, cast_signed}
@@ -43,6 +43,14 @@ unfoldable pub product_flags : ℕ → ℕ → Flags
 product_flags a b =
     let unfit = not (fits_word (signed a *ℤ signed b)) in
     record { cf = Some unfit; zf = None; sf = None; «of» = Some unfit }
+
+-- After a shift of these flags by a count: ZF and SF tell of the result, CF is the last bit shifted
+-- out, which is taken as unknown here, and OF is undefined but for a count of 1. By a count of 0 no
+-- flag changes.
+unfoldable pub shift_flags : Flags → ℕ → ℕ → Flags
+shift_flags flags r n =
+    if n % 32 == 0 then flags
+    else record { cf = None; zf = Some (r == 0); sf = Some (sign r); «of» = None }
 
 -- After IDIV, and at the start: no flag is known.
 abbrev pub no_flags : Flags

@@ -8,6 +8,7 @@ use Rattle.std.specs.Prelude.{Ok, Err}
 use Rattle.std.specs.Int.Bits.{bit_and}
 use Rattle.pra_base.specs.declared.event.TrapKind.{TrapKind}
 use Rattle.pra_base.specs.declared.event.TrapKind.TheVariants as trap
+use Rattle.pra_base.specs.declared.ids.ShiftOp.{ShiftOp}
 use Rattle.ia_code.specs.declared.ins.Reg.{Reg}
 use Rattle.ia_code.specs.declared.ins.Reg.TheVariants.{Eax, Edx, Esp}
 use Rattle.ia_code.specs.declared.ins.Rm.{Rm}
@@ -17,7 +18,8 @@ use Rattle.ia_code.specs.declared.ins.AluOp.TheVariants.{Cmp}
 use Rattle.ia_code.specs.declared.ins.Ins.{Ins}
 use Rattle.ia_code.specs.declared.ins.Ins.TheVariants.{MovRmR, MovRRm, MovRI, MovRmI, AluRmR}
 use Rattle.ia_code.specs.declared.ins.Ins.TheVariants.{AluRRm, AluRmI, AluRmB, ImulRRm, ImulI}
-use Rattle.ia_code.specs.declared.ins.Ins.TheVariants.{ImulB, Neg, Idiv, Cdq, Lea, PushR, PopR}
+use Rattle.ia_code.specs.declared.ins.Ins.TheVariants.{ImulB, Neg, Shift, Idiv, Cdq, Lea, PushR}
+use Rattle.ia_code.specs.declared.ins.Ins.TheVariants.{PopR}
 use Rattle.ia_code.specs.declared.ins.Ins.TheVariants.{PushM, PushI, Call, Ret, RetI, Jmp, Jcc, Set}
 use Rattle.ia_code.specs.declared.ins.Ins.TheVariants.{Movzx, Xchg, Test, Int}
 use Rattle.ia_step.specs.declared.out.FaultKind.{FaultKind}
@@ -28,12 +30,12 @@ use Rattle.ia_code.specs.declared.services.Service.{Service}
 use Rattle.ia_code.specs.declared.services.Service.TheVariants as services
 use Rattle.ia_code.specs.Services.{service_of, trap_of}
 use Rattle.ia_code.specs.Regions.{data_base, stack_base}
-use Rattle.pra_base.specs.Words.{word, signed, sign, sum32, diff32, product32, truth}
+use Rattle.pra_base.specs.Words.{word, signed, sign, sum32, diff32, product32, shifted, truth}
 use Rattle.ia_step.specs.declared.out.Ending.TheVariants as ending
 use Rattle.ia_step.specs.Registers.{get, address_of}
 use Rattle.ia_step.specs.Memory.{word_in, with_word}
 use Rattle.ia_step.specs.Arithmetic.{diff_flags, bit_flags, product_flags, no_flags, result_of}
-use Rattle.ia_step.specs.Arithmetic.{flags_of, quotient, with_low_byte, holds}
+use Rattle.ia_step.specs.Arithmetic.{flags_of, shift_flags, quotient, with_low_byte, holds}
 use Rattle.ia_step.specs.State.{State, with_register, with_flags, at, over}
 use Rattle.pra_list.specs.Results.{◌>>=◌}
 
@@ -111,6 +113,14 @@ neg s dest = do
   v ← read_rm s dest
   t ← write_rm s dest (diff32 0 v)
   goes (with_flags t (diff_flags 0 v))
+
+-- SHL, SHR, SAR: DEST := DEST shifted by COUNT, of which the low five bits count. Flags: ZF and SF
+-- by the result, CF and OF unknown, and none by a count of 0.
+unfoldable pub shift : ShiftOp → State → Rm → ℕ → Done
+shift op s dest n = do
+  v ← read_rm s dest
+  t ← write_rm s dest (shifted op v n)
+  goes (with_flags t (shift_flags s.flags (shifted op v n) n))
 
 -- IDIV: EAX := EDX:EAX / SRC; EDX := the remainder; both signed, truncated. Flags: all unknown.
 -- Divide: SRC is 0, or the quotient does not fit.
@@ -190,6 +200,9 @@ effect s (ImulB dest src n) = read_rm s src >>= imul s dest (word n)
 -- NEG: F7 /3
 -- DEST := 0 - DEST. Flags: all four. Access.
 effect s (Neg dest) = neg s dest
+-- SHL, SHR, SAR: C1 /4, /5, /7 ib
+-- DEST := DEST shifted by COUNT. Flags: ZF, SF; CF, OF unknown. Access.
+effect s (Shift op dest n) = shift op s dest n
 -- IDIV: F7 /7
 -- EAX := EDX:EAX / SRC; EDX := EDX:EAX mod SRC. Flags: all four unknown. Access, Divide.
 effect s (Idiv src) = read_rm s src >>= idiv s

@@ -3,12 +3,14 @@
 ghost use Rattle.std.specs.Prelude.{◌≡◌, ◌^◌, ◌<◌, not, ◌+ℤ◌, ◌-ℤ◌, ◌*ℤ◌, ℤ};
 ghost use Rattle.pra_base.specs.Words.{sign, signed, fits_word, truth, sum32, diff32, product32};
 ghost use Rattle.ia_step.specs.Arithmetic.{sum_flags, diff_flags, bit_flags, product_flags};
-ghost use Rattle.ia_step.specs.Arithmetic.{result_of, flags_of, no_flags};
+ghost use Rattle.ia_step.specs.Arithmetic.{result_of, flags_of, no_flags, shift_flags};
+ghost use Rattle.pra_base.specs.Words.{shifted as shifted_of};
 ghost use Rattle.ia_step.specs.Arithmetic.{with_low_byte as with_low_byte_of};
 ghost use Rattle.ia_step.specs.Effect.{sign_word as sign_word_of};
 
 use crate::flags::Flags;
 use ia_code::ins::AluOp;
+use pra_base::ShiftOp;
 
 const SIGN_BIT: u32 = 0x8000_0000;
 
@@ -102,6 +104,33 @@ pub fn flags_of_product(a: u32, b: u32) -> Flags
         zf: None,
         sf: None,
         of: Some(unfit),
+    }
+}
+
+/// A word shifted by a count, of which the low five bits count.
+pub fn shifted(op: ShiftOp, a: u32, count: u8) -> u32
+    ensures { result ≡ shifted_of op a count }
+{
+    let count = u32::from(count) % 32;
+    match op {
+        ShiftOp::Shl => a << count,
+        ShiftOp::Shr => a >> count,
+        ShiftOp::Sar => (a.cast_signed() >> count).cast_unsigned(),
+    }
+}
+
+#[tactic(auto, unfolding(crate::specs::Arithmetic::shift_flags))]
+pub fn flags_of_shift(before: Flags, result_word: u32, count: u8) -> Flags
+    ensures { result ≡ shift_flags before result_word count }
+{
+    if count % 32 == 0 {
+        return before;
+    }
+    Flags {
+        cf: None,
+        zf: Some(result_word == 0),
+        sf: Some(is_negative(result_word)),
+        of: None,
     }
 }
 

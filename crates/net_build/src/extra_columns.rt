@@ -64,6 +64,7 @@ pub(crate) fn extra_columns_of(instr: &VInstr) -> ExtraColumns
         | VInstr::CmpSet(_, _, _, _) => ARITHMETIC,
         VInstr::Copy(_, _)
         | VInstr::Neg(_)
+        | VInstr::Shift(_, _, _)
         | VInstr::DivMod(_, _, _, _)
         | VInstr::Check(_, _)
         | VInstr::CheckPos(_) => OPERAND,

@@ -52,6 +52,7 @@ pub(crate) fn reads(instr: &VInstr, var: u32) -> bool
         VInstr::Xor(one, other) => one.0 == var || other.0 == var,
         VInstr::Mul(one, other) => one.0 == var || other.0 == var,
         VInstr::Neg(one) => one.0 == var,
+        VInstr::Shift(_, one, _) => one.0 == var,
         VInstr::Cmp(one, other) => one.0 == var || other.0 == var,
         VInstr::CmpSet(_, _, one, other) => one.0 == var || other.0 == var,
         VInstr::DivMod(_, _, one, other) => one.0 == var || other.0 == var,
@@ -94,6 +95,7 @@ pub(crate) fn writes(instr: &VInstr, var: u32) -> bool
         VInstr::Xor(target, _) => target.0 == var,
         VInstr::Mul(target, _) => target.0 == var,
         VInstr::Neg(target) => target.0 == var,
+        VInstr::Shift(_, target, _) => target.0 == var,
         _ => only_writes(instr, var),
     }
 }

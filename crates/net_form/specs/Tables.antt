@@ -8,7 +8,7 @@ use Rattle.pra_base.specs.declared.code.VarKind.{VarKind}
 use Rattle.pra_base.specs.declared.code.VarKind.TheVariants.{Constant}
 use Rattle.pra_base.specs.declared.code.VInstr.{VInstr}
 use Rattle.pra_base.specs.declared.code.VInstr.TheVariants.{Set, Copy, Add, Sub, And, Or, Xor, Mul}
-use Rattle.pra_base.specs.declared.code.VInstr.TheVariants.{Neg, Cmp, CmpSet, DivMod, Check}
+use Rattle.pra_base.specs.declared.code.VInstr.TheVariants.{Neg, Shift, Cmp, CmpSet, DivMod, Check}
 use Rattle.pra_base.specs.declared.code.VInstr.TheVariants.{CheckPos, Store, Push}
 use Rattle.pra_base.specs.Operands.{Row, operands, own_places}
 use Rattle.net_cost.specs.declared.event.Event.{Event}
@@ -49,6 +49,7 @@ extra_columns (Or v s) = arithmetic
 extra_columns (Xor v s) = arithmetic
 extra_columns (Mul v s) = columns (Some E6) (Some E7) None (Some E12)
 extra_columns (Neg v) = operand
+extra_columns (Shift op v n) = operand
 extra_columns (Cmp a b) = arithmetic
 extra_columns (CmpSet c v a b) = arithmetic
 extra_columns (DivMod q r a d) = operand

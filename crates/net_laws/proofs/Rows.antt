@@ -233,6 +233,7 @@ shape (instr.Or v s) = wide_row (instr.Or v s) refl (refl, (refl, tt)) tt (omega
 shape (instr.Xor v s) = wide_row (instr.Xor v s) refl (refl, (refl, tt)) tt (omega arith)
 shape (instr.Mul v s) = wide_row (instr.Mul v s) refl (refl, (refl, tt)) tt (omega arith)
 shape (instr.Neg v) = wide_row (instr.Neg v) refl (refl, tt) tt (omega arith)
+shape (instr.Shift op v n) = wide_row (instr.Shift op v n) refl (refl, tt) tt (omega arith)
 shape (instr.Cmp a b) = wide_row (instr.Cmp a b) refl (refl, (refl, tt)) tt (omega arith)
 shape (instr.CmpSet c v a b) = wide_row (instr.CmpSet c v a b) refl (refl, (refl, tt)) (refl, tt)
     (omega arith)

@@ -9,10 +9,12 @@ use Rattle.std.proofs.lemmas.Bool.Decides.{nat_tests}
 use Rattle.pra_list.proofs.Each.{each_at, all_of_each}
 use Rattle.pra_list.proofs.Counts.{bit, count-cons}
 use Rattle.pra_base.specs.declared.ids.Place.TheVariants.{Mem, EaxM, Const}
+use Rattle.pra_base.specs.declared.ids.ShiftOp.{ShiftOp}
 use Rattle.pra_base.specs.declared.ids.VarId.{VarId}
 use Rattle.pra_base.specs.declared.code.VarKind.TheVariants.{Param}
 use Rattle.pra_base.specs.declared.code.VInstr.{VInstr}
 use Rattle.pra_base.specs.declared.code.VInstr.TheVariants.{Set, Add, Write, Clear, DivMod, Check}
+use Rattle.pra_base.specs.declared.code.VInstr.TheVariants.{Shift}
 use Rattle.pra_base.specs.declared.code.End.TheVariants.{Return}
 use Rattle.pra_base.specs.declared.code.VProc.{VProc}
 use Rattle.pra_base.specs.Code.{block_in, EachInstr, IsTarget}
@@ -21,6 +23,7 @@ use Rattle.pra_base.specs.Operands.{reads, writes, only_writes}
 use Rattle.pra_base.specs.Valid.{EntryBlock, LastReturn, CmpBeforeBranch, RolesApart, DivisionApart}
 use Rattle.pra_base.specs.Valid.{KeepsConstant, ConstantsKept, LiveAtEntry, PushesBeforeCalls}
 use Rattle.pra_base.specs.Valid.{TakesAny, TakesArgs, ClearFirst, ArgumentsApart, CheckRange}
+use Rattle.pra_base.specs.Valid.{ShiftRange}
 use Rattle.pra_base.specs.Valid.{NamesCell, Names, counts_of, IsValid, IsSized, AreValid}
 use Rattle.net_form.specs.declared.net.MemPair.{MemPair}
 use Rattle.net_form.specs.declared.net.Tie.{Tie}
@@ -84,6 +87,10 @@ clears b k = (
 checks : CheckRange set_add_write.blocks
 checks = each_instr (λ i. (v : VarId) (n : ℤ) → i ≡ Check v n → (pos 0 ≤ℤ n) ×
     (n ≤ℤ pos 2147483647)) (λ v n e. cc) (λ v n e. cc) (λ v n e. cc)
+
+shifts : ShiftRange set_add_write.blocks
+shifts = each_instr (λ i. (op : ShiftOp) (v : VarId) (n : ℕ) → i ≡ Shift op v n →
+    (1 ≤ n) × (n ≤ 31)) (λ op v n e. cc) (λ op v n e. cc) (λ op v n e. cc)
 
 roles : RolesApart set_add_write.blocks
 roles = each_instr (λ i. (v : ℕ) → only_writes i v ≡ true → reads i v ≡ false) (λ v h. refl)
@@ -156,6 +163,7 @@ code_valid = record {
         pushes TakesAny;
     clear_first = clears;
     check_range = checks;
+    shift_range = shifts;
   };
   roles_apart = roles;
   division_apart = division;

@@ -58,6 +58,7 @@ few_marked k (instr.Or v s) = omega arith
 few_marked k (instr.Xor v s) = omega arith
 few_marked k (instr.Mul v s) = omega arith
 few_marked k (instr.Neg v) = omega arith
+few_marked k (instr.Shift op v n) = omega arith
 few_marked k (instr.Cmp a b) = omega arith
 few_marked k (instr.CmpSet c v a b) = omega arith
 few_marked k (instr.DivMod q r a d) = omega arith

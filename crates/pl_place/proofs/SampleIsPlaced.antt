@@ -1,20 +1,22 @@
 -- The sample is valid placed code, rule by rule.
 use Rattle.std.proofs.Common.{◌≡◌, ◌≢◌, ℕ, zero, suc, ◌<◌, ◌⊎◌, inr, ⊎_elim, true, List, [], ◌∷◌}
 use Rattle.std.proofs.Common.{slice_get, Some, refl, arith, lit≤, lit<}
-use Rattle.std.specs.Prelude.{ℤ, ◌↔◌, pos, ◌≤ℤ◌}
+use Rattle.std.specs.Prelude.{ℤ, ◌↔◌, pos, ◌≤ℤ◌, ◌≤◌}
 use Rattle.pra_base.specs.declared.ids.Place.{Place}
 use Rattle.pra_base.specs.declared.ids.Place.TheVariants.{Eax, Ecx, Mem, EaxM}
+use Rattle.pra_base.specs.declared.ids.ShiftOp.{ShiftOp}
 use Rattle.pra_base.specs.declared.ids.VarId.{VarId}
 use Rattle.pra_base.specs.declared.code.VarKind.TheVariants.{Param, Plain}
 use Rattle.pra_base.specs.declared.code.VInstr.{VInstr}
 use Rattle.pra_base.specs.declared.code.VInstr.TheVariants.{Set, Push, Call, Load, Cmp, Clear}
-use Rattle.pra_base.specs.declared.code.VInstr.TheVariants.{Check}
+use Rattle.pra_base.specs.declared.code.VInstr.TheVariants.{Check, Shift}
 use Rattle.pra_base.specs.declared.code.End.TheVariants.{Return}
 use Rattle.pra_base.specs.Code.{block_in, EachInstr, IsTarget}
 use Rattle.pra_base.specs.Places.{is_mem}
 use Rattle.pra_base.specs.Operands.{Role}
 use Rattle.pra_base.specs.Valid.{LastReturn, CmpBeforeBranch, PushesBeforeCalls, TakesAny}
-use Rattle.pra_base.specs.Valid.{TakesArgs, ClearFirst, CheckRange, ArgumentsApart, Names}
+use Rattle.pra_base.specs.Valid.{TakesArgs, ClearFirst, CheckRange, ShiftRange}
+use Rattle.pra_base.specs.Valid.{ArgumentsApart, Names}
 use Rattle.pra_base.specs.Valid.{NamesCell}
 use Rattle.pl_moves.specs.declared.transfer.Move.{Move}
 use Rattle.pl_moves.specs.Crossbar.{InRegisters}
@@ -188,6 +190,18 @@ caller_checks = of_caller InRange (
   ),
 )
 
+abbrev Shifts : VInstr → Type 0
+Shifts i = (op : ShiftOp) (v : VarId) (n : ℕ) → i ≡ Shift op v n → (1 ≤ n) × (n ≤ 31)
+
+caller_shifts : ShiftRange (bare caller)
+caller_shifts = of_caller Shifts (
+  (λ op v n e. cc),
+  (
+    (λ op v n e. cc),
+    ((λ op v n e. cc), ((λ op v n e. cc), ((λ op v n e. cc), ((λ op v n e. cc), tt)))),
+  ),
+)
+
 -- ---- numbers
 
 abbrev NamesWithin : VInstr → List Place → Type 0
@@ -306,6 +320,7 @@ caller_is = record {
     pushes_before_calls = caller_pushes;
     clear_first = caller_clear;
     check_range = caller_checks;
+    shift_range = caller_shifts;
   };
   in_registers = each_move InRegisters caller (
     (tt, (tt, (refl, (tt, (tt, (tt, (tt, tt))))))),
@@ -332,6 +347,7 @@ called_is = record {
     pushes_before_calls = called_pushes TakesAny;
     clear_first = called_clear;
     check_range = of_called InRange;
+    shift_range = of_called Shifts;
   };
   in_registers = each_move InRegisters called (tt, tt);
   few_moves = λ b block h. each_at (λ b block. FewMoves 0 block.code) called.blocks (lit≤ tt, tt) b

@@ -242,6 +242,9 @@ one_cell (instr.Mul v s) w is = one_of (table (instr.Mul v s)) w v.0 is
 one_cell (instr.Neg v) w is = one_of (table (instr.Neg v)) w v.0 is
     (one_in_place (table (instr.Neg v)) _ (inl refl) (self_written v.0 (table (instr.Neg v)) false)
     single_rm)
+one_cell (instr.Shift op v n) w is = one_of (table (instr.Shift op v n)) w v.0 is
+    (one_in_place (table (instr.Shift op v n)) _ (inl refl)
+    (self_written v.0 (table (instr.Shift op v n)) false) single_rm)
 one_cell (instr.Cmp a b) w is = absurd is
 one_cell (instr.CmpSet c v a b) w is = one_of (table (instr.CmpSet c v a b)) w v.0 is
     (one_written (table (instr.CmpSet c v a b)) _ (inl refl) single_b)
@@ -352,6 +355,7 @@ kept_out (instr.Or v s) = none_destroyed
 kept_out (instr.Xor v s) = none_destroyed
 kept_out (instr.Mul v s) = none_destroyed
 kept_out (instr.Neg v) = none_destroyed
+kept_out (instr.Shift op v n) = none_destroyed
 kept_out (instr.Cmp a b) = none_destroyed
 kept_out (instr.CmpSet c v a b) = none_destroyed
 kept_out (instr.DivMod q r a d) = none_destroyed

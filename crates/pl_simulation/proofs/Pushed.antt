@@ -96,6 +96,8 @@ module _ (here : Here) (held : List Held) (T : ℕ → ℕ → Type 0) where
   operated n rest (instr.Xor v s) k = plain n rest _ (bound (both held) _ (λ x. refl)) k
   operated n rest (instr.Mul v s) k = plain n rest _ (bound (both held) _ (λ x. refl)) k
   operated n rest (instr.Neg v) k = plain n rest _ (bound (number_at held 0) _ (λ x. refl)) k
+  operated n rest (instr.Shift op v count) k =
+      plain n rest _ (bound (number_at held 0) _ (λ x. refl)) k
   operated n rest (instr.Cmp a b) k = plain n rest _ (bound (both held) _ (λ x. refl)) k
   operated n rest (instr.CmpSet c v a b) k = plain n rest _ (bound (both held) _ (λ x. refl)) k
   operated n rest (instr.DivMod q r a d) k =

@@ -44,4 +44,5 @@ module _ (one other : List Block) (same : UpToDepth one other) where
     pushes_before_calls = pushes_before_calls _ r.pushes_before_calls;
     clear_first = clear_first aggregates r.clear_first;
     check_range = each_instr _ r.check_range;
+    shift_range = each_instr _ r.shift_range;
   }

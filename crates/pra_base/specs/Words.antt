@@ -1,11 +1,14 @@
 -- Words of 32 bits, as naturals below 2^32: their arithmetic with wrapping, the signed number that
 -- a word is in two's complement (Intel SDM volume 1, section 4.2.1.2), comparison, and division.
 -- All layers compute with these.
-use Rattle.std.specs.Prelude.{◌≡◌, ℕ, ◌+◌, ◌-◌, ◌*◌, ◌%◌, ◌^◌, ◌<◌, ℤ, pos, negsuc, ◌+ℤ◌, ◌-ℤ◌}
+use Rattle.std.specs.Prelude.{◌≡◌, ℕ, ◌+◌, ◌-◌, ◌*◌, ◌/◌, ◌%◌, ◌^◌, ◌<◌, ℤ, pos, negsuc, ◌+ℤ◌, ◌-ℤ◌}
 use Rattle.std.specs.Prelude.{◌*ℤ◌, ◌≤ℤ◌, ◌<ℤ◌, Bool, true, false, not, ◌==◌, nat_lt, nat_le}
 use Rattle.std.specs.Prelude.{int_lt, int_le, int_div, int_rem, if◌then◌else◌}
 use Rattle.std.specs.Int.{w32, cast_signed, cast_unsigned}
 use Rattle.std.specs.Int.RustNames.{unsigned_abs}
+use Rattle.std.specs.Int.{int_shr}
+use Rattle.pra_base.specs.declared.ids.ShiftOp.{ShiftOp}
+use Rattle.pra_base.specs.declared.ids.ShiftOp.TheVariants.{Shl, Shr, Sar}
 use Rattle.pra_base.specs.declared.ids.Cond.{Cond}
 use Rattle.pra_base.specs.declared.ids.Cond.TheVariants.{B, Ae, E, Ne, Be, A, S, Ns, L, Ge, Le, G}
 
@@ -43,6 +46,13 @@ quotient32 a d = word (int_div (signed a) (signed d))
 
 abbrev pub remainder32 : ℕ → ℕ → ℕ
 remainder32 a d = word (int_rem (signed a) (signed d))
+
+-- a word shifted by a count, of which the low five bits count (SDM volume 2, SAL/SAR/SHL/SHR): to
+-- the left, to the right with zeros, and to the right with the sign, which divides and rounds down
+abbrev pub shifted : ShiftOp → ℕ → ℕ → ℕ
+shifted Shl a n = a * 2 ^ (n % 32) % 2 ^ 32
+shifted Shr a n = a / 2 ^ (n % 32)
+shifted Sar a n = word (int_shr (signed a) (n % 32))
 
 -- above 0 as a signed number
 abbrev pub is_positive : ℕ → Bool

@@ -51,3 +51,12 @@ pub enum Cond {
     Le,
     G,
 }
+
+/// Which way a word is shifted: to the left, to the right with zeros, or to the right with its sign
+/// (SDM volume 2, SAL/SAR/SHL/SHR).
+#[derive(Clone, Copy, Debug, PartialEq, Eq)]
+pub enum ShiftOp {
+    Shl,
+    Shr,
+    Sar,
+}

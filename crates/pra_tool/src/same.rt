@@ -45,6 +45,9 @@ impl Same for VInstr {
             VInstr::Xor(a, b) => matches!(*that, VInstr::Xor(w, x) if a == w && b == x),
             VInstr::Mul(a, b) => matches!(*that, VInstr::Mul(w, x) if a == w && b == x),
             VInstr::Neg(a) => matches!(*that, VInstr::Neg(w) if a == w),
+            VInstr::Shift(o, a, n) => {
+                matches!(*that, VInstr::Shift(k, w, m) if o == k && a == w && n == m)
+            }
             VInstr::Cmp(a, b) => matches!(*that, VInstr::Cmp(w, x) if a == w && b == x),
             VInstr::CmpSet(k, a, b, c) =>
                 matches!(*that, VInstr::CmpSet(l, w, x, y) if k == l && a == w && b == x && c == y),

@@ -4,7 +4,8 @@
 
 use crate::selected::{block, by, cell, frame, global, module, plus, procedure, via};
 use pra_base::{
-    Addr, Block, BlockId, Cond, End, OutOfMemory, ProcId, VInstr, VModule, VProc, VarId, VarKind,
+    Addr, Block, BlockId, Cond, End, OutOfMemory, ProcId, ShiftOp, VInstr, VModule, VProc, VarId,
+    VarKind,
 };
 use std::alloc::Global;
 use std::mem;
@@ -72,6 +73,19 @@ fn one(name: &str, v: VarId) -> Option<VInstr> {
     None
 }
 
+fn shift(name: &str) -> Option<ShiftOp> {
+    if name == "shl" {
+        return Some(ShiftOp::Shl);
+    }
+    if name == "shr" {
+        return Some(ShiftOp::Shr);
+    }
+    if name == "sar" {
+        return Some(ShiftOp::Sar);
+    }
+    None
+}
+
 fn with_number(name: &str, v: VarId, n: i32) -> Option<VInstr> {
     if name == "set" {
         return Some(VInstr::Set(v, n));
@@ -79,7 +93,8 @@ fn with_number(name: &str, v: VarId, n: i32) -> Option<VInstr> {
     if name == "check" {
         return Some(VInstr::Check(v, n));
     }
-    None
+    let op = shift(name)?;
+    Some(VInstr::Shift(op, v, n.cast_unsigned()))
 }
 
 fn two(name: &str, v: VarId, s: VarId) -> Option<VInstr> {

@@ -15,6 +15,9 @@ const ROWS: &str = "\
 39ce AluRmR(Cmp, Reg(Esi), Ecx)
 0fafd3 ImulRRm(Edx, Reg(Ebx))
 f7de Neg(Reg(Esi))
+c1e003 Shift(Shl, Reg(Eax), 3)
+c1ef1f Shift(Shr, Reg(Edi), 31)
+c1fb01 Shift(Sar, Reg(Ebx), 1)
 f7f9 Idiv(Reg(Ecx))
 87c6 Xchg(Esi, Eax)
 87ca Xchg(Edx, Ecx)
@@ -40,6 +43,7 @@ c7860000000407000000 MovRmI(Mem(MemAddr { base: Some(Esi), index: None, disp: 67
 # Base Esp
 8b0424 MovRRm(Eax, Mem(MemAddr { base: Some(Esp), index: None, disp: 0, width: D0 }))
 f75c2404 Neg(Mem(MemAddr { base: Some(Esp), index: None, disp: 4, width: D8 }))
+c17c24080c Shift(Sar, Mem(MemAddr { base: Some(Esp), index: None, disp: 8, width: D8 }), 12)
 ffb42400010000 PushM(MemAddr { base: Some(Esp), index: None, disp: 256, width: D32 })
 # No base
 8b0500000004 MovRRm(Eax, Mem(MemAddr { base: None, index: None, disp: 67108864, width: D32 }))

@@ -65,6 +65,17 @@ write v2
 line
 return
 = 0 1 1 0 1 0 / ended 16 0
+# shifts, to the right with zeros and with the sign
+proc 0 0 plain
+set v0 -9
+shl v0 28
+write v0
+sar v0 28
+write v0
+shr v0 31
+write v0
+return
+= 1879048192 7 0 ended 8 0
 # an index within its array
 proc 0 0 plain
 set v0 7

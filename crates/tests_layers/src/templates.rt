@@ -85,10 +85,29 @@ const ROWS: &[(ROp, Option<i32>, &str)] = &[
         ROp::Div,
         Some(8),
         "b0:
-  copy v3, v0
-  and v3, v2
-  divmod v4, v5, v3, v1
-  write v4
+  copy v2, v0
+  sar v2, 3
+  write v2
+  return
+",
+    ),
+    (
+        ROp::Mul,
+        Some(64),
+        "b0:
+  copy v2, v0
+  mul v2, v1
+  write v2
+  return
+",
+    ),
+    (
+        ROp::Mul,
+        Some(128),
+        "b0:
+  copy v2, v0
+  shl v2, 7
+  write v2
   return
 ",
     ),

@@ -203,6 +203,7 @@ module _ (begins : Begins) (old new : VProc) (is : IsWithout begins old new) whe
           ap (λ c. instr_at new c k) e.1 ∙ ap (λ c. instr_at new 0 c) (e.2 ∙ place) ∙ s.is,
     );
     check_range = λ b j y e. let o = from b j y e in rules.check_range b o.at y o.is;
+    shift_range = λ b j y e. let o = from b j y e in rules.shift_range b o.at y o.is;
   }
 
   pub is_valid : IsValid old → IsValid new

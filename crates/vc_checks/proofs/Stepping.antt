@@ -354,6 +354,7 @@ module _ (olds news : List VProc) (begins : ℕ → Begins) (frames : List ℕ)
     performs (instr.Xor v w) on ok = plain (instr.Xor v w) on (λ _. tt) ok
     performs (instr.Mul v w) on ok = plain (instr.Mul v w) on (λ _. tt) ok
     performs (instr.Neg v) on ok = plain (instr.Neg v) on (λ _. tt) ok
+    performs (instr.Shift op v n) on ok = plain (instr.Shift op v n) on (λ _. tt) ok
     performs (instr.Cmp v w) on ok = plain (instr.Cmp v w) on (λ _. tt) ok
     performs (instr.CmpSet c v w u) on ok = plain (instr.CmpSet c v w u) on (λ _. tt) ok
     performs (instr.DivMod q z a d) on ok = plain (instr.DivMod q z a d) on (λ _. tt) ok

@@ -301,6 +301,7 @@ fn results(instr: VInstr) -> (Option<VarId>, Option<VarId>)
         VInstr::Xor(v, _) => (Some(v), None),
         VInstr::Mul(v, _) => (Some(v), None),
         VInstr::Neg(v) => (Some(v), None),
+        VInstr::Shift(_, v, _) => (Some(v), None),
         VInstr::CmpSet(_, v, _, _) => (Some(v), None),
         VInstr::DivMod(q, r, _, _) => (Some(q), Some(r)),
         VInstr::Load(v, _) => (Some(v), None),

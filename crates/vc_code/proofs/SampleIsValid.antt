@@ -10,7 +10,7 @@ use Rattle.pra_base.specs.declared.ids.VarId.{VarId}
 use Rattle.pra_base.specs.declared.code.VarKind.TheVariants.{Param}
 use Rattle.pra_base.specs.declared.code.VInstr.{VInstr}
 use Rattle.pra_base.specs.declared.code.VInstr.TheVariants.{Clear, Load, DivMod, Check, Push, Call}
-use Rattle.pra_base.specs.declared.code.VInstr.TheVariants.{Cmp, Copy}
+use Rattle.pra_base.specs.declared.code.VInstr.TheVariants.{Cmp, Copy, Shift}
 use Rattle.pra_base.specs.declared.code.End.TheVariants.{Return}
 use Rattle.pra_base.specs.declared.code.VProc.{VProc}
 use Rattle.pra_base.specs.Code.{block_in, end_of, instr_at, EachInstr, IsTarget}
@@ -21,6 +21,8 @@ use Rattle.pra_base.specs.Live.Path.{stays, then}
 use Rattle.pra_base.specs.Valid.{EntryBlock, LastReturn, CmpBeforeBranch, RolesApart, DividesApart}
 use Rattle.pra_base.specs.Valid.{DivisionApart, KeepsConstant, ConstantsKept, LiveAtEntry}
 use Rattle.pra_base.specs.Valid.{PushesBeforeCalls, TakesAny, TakesArgs, ClearFirst, CheckRange}
+use Rattle.pra_base.specs.Valid.{ShiftRange}
+use Rattle.pra_base.specs.declared.ids.ShiftOp.{ShiftOp}
 use Rattle.pra_base.specs.Valid.{ArgumentsApart, NamesCell, IsValid, counts_of, AreValid}
 use Rattle.vc_code.specs.Sample.{word, quotient, rest, two, word_0, callee, caller_code, caller}
 use Rattle.vc_code.specs.Sample.{called, sample}
@@ -329,6 +331,21 @@ caller_checks = of_caller InRange (
   ),
 )
 
+abbrev Shifts : VInstr → Type 0
+Shifts i = (op : ShiftOp) (v : VarId) (n : ℕ) → i ≡ Shift op v n → (1 ≤ n) × (n ≤ 31)
+
+caller_shifts : ShiftRange caller.blocks
+caller_shifts = of_caller Shifts (
+  (λ op v n e. cc),
+  (
+    (λ op v n e. cc),
+    (
+      (λ op v n e. cc),
+      ((λ op v n e. cc), ((λ op v n e. cc), ((λ op v n e. cc), ((λ op v n e. cc), tt)))),
+    ),
+  ),
+)
+
 -- ---- roles and variables
 
 abbrev Apart : VInstr → Type 0
@@ -473,6 +490,7 @@ caller_is = record {
     pushes_before_calls = caller_pushes TakesAny tt;
     clear_first = caller_clear;
     check_range = caller_checks;
+    shift_range = caller_shifts;
   };
   roles_apart = caller_roles;
   division_apart = caller_division;
@@ -490,6 +508,7 @@ called_is = record {
     pushes_before_calls = called_pushes TakesAny;
     clear_first = called_clear;
     check_range = of_called InRange;
+    shift_range = of_called Shifts;
   };
   roles_apart = of_called Apart;
   division_apart = called_division;

@@ -11,12 +11,12 @@ use Rattle.pra_base.specs.declared.code.Base.TheVariants as base
 use Rattle.pra_base.specs.declared.code.Addr.{Addr}
 use Rattle.pra_base.specs.declared.code.VInstr.{VInstr}
 use Rattle.pra_base.specs.declared.code.VInstr.TheVariants.{Set, Copy, Add, Sub, And, Or, Xor, Mul}
-use Rattle.pra_base.specs.declared.code.VInstr.TheVariants.{Neg, Cmp, CmpSet, DivMod, Check}
+use Rattle.pra_base.specs.declared.code.VInstr.TheVariants.{Neg, Shift, Cmp, CmpSet, DivMod, Check}
 use Rattle.pra_base.specs.declared.code.VInstr.TheVariants.{CheckPos, Load, Store, Push, Call, Read}
 use Rattle.pra_base.specs.declared.code.VInstr.TheVariants.{Write, Line, Clear}
 use Rattle.pra_base.specs.declared.code.VInstr.TheVariants as instr
 use Rattle.pra_base.specs.Words.{word, signed, sum32, diff32, product32, quotient32, remainder32}
-use Rattle.pra_base.specs.Words.{is_positive, compares, truth}
+use Rattle.pra_base.specs.Words.{is_positive, compares, shifted, truth}
 use Rattle.vc_code.specs.declared.value.Object.{Object}
 use Rattle.vc_code.specs.declared.value.Object.TheVariants.{Data, Aggregates, Cell}
 use Rattle.vc_code.specs.declared.value.Value.{Value}
@@ -111,6 +111,9 @@ operate here (Mul v s) held = computes product32 held
 operate here (Neg v) held = do
   a ← number_at held 0
   gives (diff32 0 a)
+operate here (Shift op v n) held = do
+  a ← number_at held 0
+  gives (shifted op a n)
 operate here (Cmp x y) held = do
   ab ← both held
   Some (Compare ab.0 ab.1)

@@ -5,7 +5,7 @@ ghost use Rattle.std.specs.Prelude.{◌≡◌, IsTrue};
 ghost use Rattle.pra_base.specs.Words as words;
 ghost use Rattle.vc_code.specs.Value as value;
 
-use pra_base::Cond;
+use pra_base::{Cond, ShiftOp};
 
 const SIGN_BIT: u32 = 0x8000_0000;
 
@@ -39,6 +39,18 @@ pub fn product(a: u32, b: u32) -> u32
     ensures { result ≡ words.product32 a b }
 {
     a.wrapping_mul(b)
+}
+
+/// A word shifted by a count, of which the low five bits count.
+pub fn shifted(op: ShiftOp, a: u32, count: u32) -> u32
+    ensures { result ≡ words.shifted op a count }
+{
+    let count = count % 32;
+    match op {
+        ShiftOp::Shl => a << count,
+        ShiftOp::Shr => a >> count,
+        ShiftOp::Sar => (a.cast_signed() >> count).cast_unsigned(),
+    }
 }
 
 /// Whether a word is above 0 as a signed number.

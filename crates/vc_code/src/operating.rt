@@ -6,8 +6,8 @@ ghost use Rattle.vc_code.specs.Operation as operation;
 
 use crate::action::{Action, Here};
 use crate::arithmetic::{
-    compares, difference, is_index, is_positive, product, quotient, remainder, signed, sum, truth,
-    word,
+    compares, difference, is_index, is_positive, product, quotient, remainder, shifted, signed,
+    sum, truth, word,
 };
 use crate::value::{Held, Object, Value};
 use pra_base::{Addr, Base, OutEvent, TrapKind, VInstr, VarId};
@@ -147,6 +147,7 @@ pub fn operate(here: &Here, i: &VInstr, held: &[Held]) -> Option<Action>
             gives(product(a, b))
         }
         VInstr::Neg(_) => gives(difference(0, number_at(held, 0)?)),
+        VInstr::Shift(op, _, n) => gives(shifted(op, number_at(held, 0)?, n)),
         VInstr::Cmp(_, _) => {
             let (a, b) = both(held)?;
             Some(Action::Compare(a, b))

@@ -189,6 +189,7 @@ fn table(i: &VInstr) -> Printed
         VInstr::Xor(v, s) => arithmetic(v, s),
         VInstr::Mul(v, s) => line(&[at(v, R), at(s, RMK)], Some(v), &[], NOTHING),
         VInstr::Neg(v) => line(&[at(v, RM)], Some(v), &[], NOTHING),
+        VInstr::Shift(_, v, _) => line(&[at(v, RM)], Some(v), &[], NOTHING),
         VInstr::Cmp(a, b) => compares(a, b, &[]),
         VInstr::CmpSet(_, v, a, b) => compares(a, b, &[at(v, B)]),
         VInstr::DivMod(q, r, a, d) => line(

@@ -1,6 +1,6 @@
 -- What the code of operators and signs adds keeps the rules.
 use Rattle.std.proofs.Common.{◌≡◌, ◌≢◌, ℕ, ◌-◌, ◌<◌, true, List, [], ◌∷◌, ◌++◌, length, Some, refl}
-use Rattle.std.proofs.Common.{sym, ap, ◌∙◌, ⊎_elim, arith, length-append}
+use Rattle.std.proofs.Common.{sym, ap, ◌∙◌, ⊎_elim, ◌≤◌, arith, length-append}
 use Rattle.std.specs.Prelude.{ℤ, pos, slice_get}
 use Rattle.std.proofs.Math.Seq.{get_or-append_seam}
 use Rattle.std.proofs.lemmas.Option.{slice_get-get_or}
@@ -13,6 +13,8 @@ use Rattle.pra_base.specs.declared.code.VarKind.{VarKind}
 use Rattle.pra_base.specs.declared.code.VarKind.TheVariants.{Param, Plain, Constant}
 use Rattle.pra_base.specs.declared.code.VInstr.{VInstr}
 use Rattle.pra_base.specs.declared.code.VInstr.TheVariants.{Cmp, CmpSet, DivMod, CheckPos, Neg, Xor}
+use Rattle.pra_base.specs.declared.code.VInstr.TheVariants.{Shift}
+use Rattle.pra_base.specs.declared.ids.ShiftOp.{ShiftOp}
 use Rattle.pra_base.specs.declared.code.VInstr.TheVariants.{And, Set}
 use Rattle.pra_base.specs.declared.code.End.TheVariants.{Jump, Branch}
 use Rattle.pra_base.specs.declared.code.VProc.{VProc}
@@ -27,8 +29,8 @@ use Rattle.vc_expr.specs.Operators.{first_of, arithmetic_of, bitwise_of, Adds}
 use Rattle.vc_expr.specs.Rules.{Obeys, is_simple, StaysValid}
 use Rattle.vc_expr.proofs.Rules.{put_rules, close_rules, open_rules, declare_rules}
 use Rattle.vc_expr.proofs.Obeys.{obeys_add, obeys_sub, obeys_mul, obeys_and, obeys_or, obeys_xor}
-use Rattle.vc_expr.proofs.Obeys.{obeys_neg, obeys_set, obeys_copy, obeys_cmp, obeys_cmp_set}
-use Rattle.vc_expr.proofs.Obeys.{obeys_check_pos, obeys_divide}
+use Rattle.vc_expr.proofs.Obeys.{obeys_neg, obeys_shift, obeys_set, obeys_copy, obeys_cmp}
+use Rattle.vc_expr.proofs.Obeys.{obeys_cmp_set, obeys_check_pos, obeys_divide}
 
 -- one more change behind others
 pub put_valid : (at : ℕ) (i : VInstr) (old mid : VProc) → IsOpen mid at → StaysValid old mid →
@@ -204,6 +206,11 @@ module _ (first at : ℕ) (old mid : VProc) (target right : VarId)
   pub neg_valid : StaysValid old (with_instr at (Neg target) mid)
   neg_valid = put_valid at (Neg target) old mid a.is_open valid
       (obeys_neg mid.args mid.vars target a.plain a.named) refl
+
+  pub shift_valid : (op : ShiftOp) (k : ℕ) → 1 ≤ k → k ≤ 31 →
+      StaysValid old (with_instr at (Shift op target k) mid)
+  shift_valid op k low high = put_valid at (Shift op target k) old mid a.is_open valid
+      (obeys_shift mid.args mid.vars op target k low high a.plain a.named) refl
 
 -- ---- division
 

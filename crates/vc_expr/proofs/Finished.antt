@@ -17,7 +17,7 @@ use Rattle.pra_base.specs.declared.code.VarKind.{VarKind}
 use Rattle.pra_base.specs.declared.code.VarKind.TheVariants.{Param, Plain, Constant}
 use Rattle.pra_base.specs.declared.code.VInstr.{VInstr}
 use Rattle.pra_base.specs.declared.code.VInstr.TheVariants.{Set, Copy, Add, Sub, And, Or, Xor, Mul}
-use Rattle.pra_base.specs.declared.code.VInstr.TheVariants.{Neg, Cmp, CmpSet, DivMod, Check}
+use Rattle.pra_base.specs.declared.code.VInstr.TheVariants.{Neg, Shift, Cmp, CmpSet, DivMod, Check}
 use Rattle.pra_base.specs.declared.code.VInstr.TheVariants.{CheckPos, Load, Store, Push, Call, Read}
 use Rattle.pra_base.specs.declared.code.VInstr.TheVariants.{Write, Line, Clear}
 use Rattle.pra_base.specs.declared.code.VInstr.TheVariants as instr
@@ -48,6 +48,7 @@ lead_any counts (Or v s ∷ xs) n p = (p.0, lead_any counts xs 0 p.1)
 lead_any counts (Xor v s ∷ xs) n p = (p.0, lead_any counts xs 0 p.1)
 lead_any counts (Mul v s ∷ xs) n p = (p.0, lead_any counts xs 0 p.1)
 lead_any counts (Neg v ∷ xs) n p = (p.0, lead_any counts xs 0 p.1)
+lead_any counts (Shift op v m ∷ xs) n p = (p.0, lead_any counts xs 0 p.1)
 lead_any counts (Cmp a c ∷ xs) n p = (p.0, lead_any counts xs 0 p.1)
 lead_any counts (CmpSet k v a c ∷ xs) n p = (p.0, lead_any counts xs 0 p.1)
 lead_any counts (DivMod q r a d ∷ xs) n p = (p.0, lead_any counts xs 0 p.1)
@@ -170,6 +171,7 @@ module _ (counts : List ℕ) (known : Entries) (code : VProc) (last : ℕ) (k : 
       λ p. ap (λ l. slice_get l n) (same_code b) ∙ (k.clear_first b n).1 p,
     );
     check_range = λ b n i is. (k.obeys b n i (was b n i is)).check_range;
+    shift_range = λ b n i is. (k.obeys b n i (was b n i is)).shift_range;
   }
 
   certified : Certifies known whole

@@ -1,17 +1,19 @@
 -- The instructions of the templates keep the rules.
 use Rattle.std.proofs.Common.{◌≡◌, ◌≢◌, ℕ, ◌<◌, Bool, true, false, List, length, refl, sym, ap, ◌∙◌}
-use Rattle.std.proofs.Common.{⊎_elim, ◌⊎◌, arith}
+use Rattle.std.proofs.Common.{⊎_elim, ◌⊎◌, ◌≤◌, subst, arith}
 use Rattle.std.specs.Prelude.{ℤ, ◌||◌, nat_eq, slice_index_or}
 use Rattle.std.proofs.lemmas.Bool.Decides.{nat_tests}
 use Rattle.pra_list.proofs.Truths.{false_from}
 use Rattle.pra_base.specs.Operands.{reads, writes}
+use Rattle.pra_base.specs.declared.ids.ShiftOp.{ShiftOp}
 use Rattle.pra_base.specs.declared.ids.VarId.{VarId}
 use Rattle.pra_base.specs.declared.ids.Cond.{Cond}
 use Rattle.pra_base.specs.declared.code.VarKind.{VarKind}
 use Rattle.pra_base.specs.declared.code.VarKind.TheVariants.{Plain, Constant}
 use Rattle.pra_base.specs.declared.code.VInstr.{VInstr}
 use Rattle.pra_base.specs.declared.code.VInstr.TheVariants.{Set, Copy, Add, Sub, And, Or, Xor, Mul}
-use Rattle.pra_base.specs.declared.code.VInstr.TheVariants.{Neg, Cmp, CmpSet, DivMod, CheckPos}
+use Rattle.pra_base.specs.declared.code.VInstr.TheVariants.{Neg, Shift, Cmp, CmpSet, DivMod}
+use Rattle.pra_base.specs.declared.code.VInstr.TheVariants.{CheckPos}
 use Rattle.vc_expr.specs.Rules.{DividesWell, Obeys}
 
 -- a variable that is one of these
@@ -62,6 +64,7 @@ module _ (args : ℕ) (vars : List VarKind) where
           λ x y z. absurd (cc);
     };
     check_range = λ v n e. absurd (cc);
+    shift_range = λ op v n e. absurd (cc);
     cells = λ n e. absurd (cc);
   }
 
@@ -77,6 +80,7 @@ module _ (args : ℕ) (vars : List VarKind) where
           λ x y z. absurd (cc);
     };
     check_range = λ v n e. absurd (cc);
+    shift_range = λ op v n e. absurd (cc);
     cells = λ n e. absurd (cc);
   }
 
@@ -92,6 +96,7 @@ module _ (args : ℕ) (vars : List VarKind) where
           λ x y z. absurd (cc);
     };
     check_range = λ v n e. absurd (cc);
+    shift_range = λ op v n e. absurd (cc);
     cells = λ n e. absurd (cc);
   }
 
@@ -107,6 +112,7 @@ module _ (args : ℕ) (vars : List VarKind) where
           λ x y z. absurd (cc);
     };
     check_range = λ v n e. absurd (cc);
+    shift_range = λ op v n e. absurd (cc);
     cells = λ n e. absurd (cc);
   }
 
@@ -122,6 +128,7 @@ module _ (args : ℕ) (vars : List VarKind) where
           λ x y z. absurd (cc);
     };
     check_range = λ v n e. absurd (cc);
+    shift_range = λ op v n e. absurd (cc);
     cells = λ n e. absurd (cc);
   }
 
@@ -137,6 +144,7 @@ module _ (args : ℕ) (vars : List VarKind) where
           λ x y z. absurd (cc);
     };
     check_range = λ v n e. absurd (cc);
+    shift_range = λ op v n e. absurd (cc);
     cells = λ n e. absurd (cc);
   }
 
@@ -152,8 +160,29 @@ module _ (args : ℕ) (vars : List VarKind) where
           λ x y z. absurd (cc);
     };
     check_range = λ v n e. absurd (cc);
+    shift_range = λ op v n e. absurd (cc);
     cells = λ n e. absurd (cc);
   }
+
+  pub obeys_shift : (op : ShiftOp) (t : VarId) (k : ℕ) → 1 ≤ k → k ≤ 31 → kind t.0 ≡ Plain →
+      t.0 < length vars → Obeys args vars (Shift op t k)
+  obeys_shift op t k low high plain there = record {
+    named = λ v n. ⊎_elim (λ r. omega (arith, is_first t.0 v r, there))
+        (λ w. omega (arith, is_written t.0 v w, there)) n;
+    roles_apart = λ v e. absurd (cc);
+    division_apart = λ q r a d e. absurd (cc);
+    constants_kept = λ v n e. record {
+      unwritten = unwritten_by (Shift op t k) t.0 plain (is_written t.0) v n e;
+      uncopied =
+          λ x y z. absurd (cc);
+    };
+    check_range = λ v n e. absurd (cc);
+    shift_range = λ o v n e. subst (λ z. (1 ≤ z) × (z ≤ 31)) (bound o v n e) (low, high);
+    cells = λ n e. absurd (cc);
+  }
+    where
+      bound : (o : ShiftOp) (v : VarId) (n : ℕ) → Shift op t k ≡ Shift o v n → k ≡ n
+      bound o v n e = cc
 
   pub obeys_set : (t : VarId) (m : ℤ) → kind t.0 ≡ Plain → t.0 < length vars →
       Obeys args vars (Set t m)
@@ -167,6 +196,7 @@ module _ (args : ℕ) (vars : List VarKind) where
           λ x y z. absurd (cc);
     };
     check_range = λ v n e. absurd (cc);
+    shift_range = λ op v n e. absurd (cc);
     cells = λ n e. absurd (cc);
   }
 
@@ -183,6 +213,7 @@ module _ (args : ℕ) (vars : List VarKind) where
       uncopied = λ x y z same. variable n (ap kind (source t s x y z ∙ same) ∙ e);
     };
     check_range = λ v n e. absurd (cc);
+    shift_range = λ op v n e. absurd (cc);
     cells = λ n e. absurd (cc);
   }
     where
@@ -197,6 +228,7 @@ module _ (args : ℕ) (vars : List VarKind) where
     division_apart = λ q r a d e. absurd (cc);
     constants_kept = λ v n e. record { unwritten = refl; uncopied = λ x y z. absurd (cc) };
     check_range = λ v n e. absurd (cc);
+    shift_range = λ op v n e. absurd (cc);
     cells = λ n e. absurd (cc);
   }
 
@@ -217,6 +249,7 @@ module _ (args : ℕ) (vars : List VarKind) where
           λ x y z. absurd (cc);
     };
     check_range = λ v n e. absurd (cc);
+    shift_range = λ op v n e. absurd (cc);
     cells = λ n e. absurd (cc);
   }
 
@@ -227,6 +260,7 @@ module _ (args : ℕ) (vars : List VarKind) where
     division_apart = λ q r a d e. absurd (cc);
     constants_kept = λ v n e. record { unwritten = refl; uncopied = λ x y z. absurd (cc) };
     check_range = λ v n e. absurd (cc);
+    shift_range = λ op v n e. absurd (cc);
     cells = λ n e. absurd (cc);
   }
 
@@ -256,6 +290,7 @@ module _ (args : ℕ) (vars : List VarKind) where
       uncopied = λ x y z. absurd (cc);
     };
     check_range = λ v n e. absurd (cc);
+    shift_range = λ op v n e. absurd (cc);
     cells = λ n e. absurd (cc);
   }
     where

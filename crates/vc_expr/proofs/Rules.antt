@@ -16,7 +16,7 @@ use Rattle.pra_base.specs.declared.code.VarKind.{VarKind}
 use Rattle.pra_base.specs.declared.code.VarKind.TheVariants.{Param, Plain, Constant}
 use Rattle.pra_base.specs.declared.code.VInstr.{VInstr}
 use Rattle.pra_base.specs.declared.code.VInstr.TheVariants.{Set, Copy, Add, Sub, And, Or, Xor, Mul}
-use Rattle.pra_base.specs.declared.code.VInstr.TheVariants.{Neg, Cmp, CmpSet, DivMod, Check}
+use Rattle.pra_base.specs.declared.code.VInstr.TheVariants.{Neg, Shift, Cmp, CmpSet, DivMod, Check}
 use Rattle.pra_base.specs.declared.code.VInstr.TheVariants.{CheckPos, Load, Store, Push, Call, Read}
 use Rattle.pra_base.specs.declared.code.VInstr.TheVariants.{Write, Line, Clear}
 use Rattle.pra_base.specs.declared.code.VInstr.TheVariants as instr
@@ -43,6 +43,7 @@ lead_one T n (Or v s) e z = (z, refl)
 lead_one T n (Xor v s) e z = (z, refl)
 lead_one T n (Mul v s) e z = (z, refl)
 lead_one T n (Neg v) e z = (z, refl)
+lead_one T n (Shift op v m) e z = (z, refl)
 lead_one T n (Cmp a b) e z = (z, refl)
 lead_one T n (CmpSet k v a b) e z = (z, refl)
 lead_one T n (DivMod q r a d) e z = (z, refl)
@@ -72,6 +73,7 @@ lead_more T (Or v s ∷ xs) n i e p = (p.0, lead_more T xs 0 i e p.1)
 lead_more T (Xor v s ∷ xs) n i e p = (p.0, lead_more T xs 0 i e p.1)
 lead_more T (Mul v s ∷ xs) n i e p = (p.0, lead_more T xs 0 i e p.1)
 lead_more T (Neg v ∷ xs) n i e p = (p.0, lead_more T xs 0 i e p.1)
+lead_more T (Shift op v m ∷ xs) n i e p = (p.0, lead_more T xs 0 i e p.1)
 lead_more T (Cmp a c ∷ xs) n i e p = (p.0, lead_more T xs 0 i e p.1)
 lead_more T (CmpSet k v a c ∷ xs) n i e p = (p.0, lead_more T xs 0 i e p.1)
 lead_more T (DivMod q r a d ∷ xs) n i e p = (p.0, lead_more T xs 0 i e p.1)
@@ -341,6 +343,7 @@ module _ (args : ℕ) (vars : List VarKind) (kind : VarKind) (local : (n : ℕ) 
     };
     constants_kept = constants;
     check_range = o.check_range;
+    shift_range = o.shift_range;
     cells = λ n names. let c = o.cells n names in (
       c.0,
       λ v is. ⊎_elim

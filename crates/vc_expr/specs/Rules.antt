@@ -1,13 +1,14 @@
 -- Code under construction that keeps the rules of valid and of sized code as far as it has come.
-use Rattle.std.specs.Prelude.{◌≡◌, ◌≢◌, ℕ, suc, ◌<◌, ◌⊎◌, Bool, true, false, ℤ, pos, ◌≤ℤ◌}
+use Rattle.std.specs.Prelude.{◌≡◌, ◌≢◌, ℕ, suc, ◌≤◌, ◌<◌, ◌⊎◌, Bool, true, false, ℤ, pos, ◌≤ℤ◌}
 use Rattle.std.specs.Prelude.{List, length, Some, slice_get, slice_index_or}
 use Rattle.pra_base.specs.declared.ids.BlockId.{BlockId}
 use Rattle.pra_base.specs.declared.ids.Cond.{Cond}
+use Rattle.pra_base.specs.declared.ids.ShiftOp.{ShiftOp}
 use Rattle.pra_base.specs.declared.ids.VarId.{VarId}
 use Rattle.pra_base.specs.declared.code.VarKind.{VarKind}
 use Rattle.pra_base.specs.declared.code.VarKind.TheVariants.{Param, Plain, Constant}
 use Rattle.pra_base.specs.declared.code.VInstr.{VInstr}
-use Rattle.pra_base.specs.declared.code.VInstr.TheVariants.{DivMod, Check, Push, Call, Clear}
+use Rattle.pra_base.specs.declared.code.VInstr.TheVariants.{Shift, DivMod, Check, Push, Call, Clear}
 use Rattle.pra_base.specs.declared.code.End.TheVariants.{Branch, Return}
 use Rattle.pra_base.specs.declared.code.Block.{Block}
 use Rattle.pra_base.specs.declared.code.VProc.{VProc}
@@ -39,6 +40,7 @@ pub record Obeys (args : ℕ) (vars : List VarKind) (i : VInstr) : Type 0 where
   pub constants_kept : (v : ℕ) (n : ℤ) → slice_index_or vars v Plain ≡ Constant n →
       KeepsConstant v i
   pub check_range : (v : VarId) (n : ℤ) → i ≡ Check v n → (pos 0 ≤ℤ n) × (n ≤ℤ pos 2147483647)
+  pub shift_range : (op : ShiftOp) (v : VarId) (n : ℕ) → i ≡ Shift op v n → (1 ≤ n) × (n ≤ 31)
   pub cells : (k : ℕ) → NamesCell i k →
       (k < args) × ((v : ℕ) → slice_get vars v ≢ Some (Param k))
 

@@ -186,6 +186,7 @@ module _ (old new : VProc) (is : IsTurned old new) where
     pushes_before_calls = pushes_too TakesAny r.pushes_before_calls;
     clear_first = clear_first old.aggregates r.clear_first;
     check_range = λ b k i e. r.check_range b k i (sym (same_instr b k) ∙ e);
+    shift_range = λ b k i e. r.shift_range b k i (sym (same_instr b k) ∙ e);
   })
 
   divisions : DivisionApart old → DivisionApart new

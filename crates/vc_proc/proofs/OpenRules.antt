@@ -105,6 +105,7 @@ clear_obeys args vars = record {
   division_apart = λ q r a d e. absurd (cc);
   constants_kept = λ v n e. record { unwritten = refl; uncopied = λ x y z. absurd (cc) };
   check_range = λ v n e. absurd (cc);
+  shift_range = λ op v n e. absurd (cc);
   cells = λ n e. absurd (cc);
 }
 

@@ -2,6 +2,7 @@
 -- of it.
 use Rattle.std.proofs.Common.{◌≡◌, ℕ, zero, suc, ℤ, true, false, List, ◌∷◌, refl}
 use Rattle.std.specs.Prelude.{option_and_then}
+use Rattle.pra_base.specs.declared.ids.ShiftOp.{ShiftOp}
 use Rattle.pra_base.specs.declared.ids.VarId.{VarId}
 use Rattle.pra_base.specs.declared.code.Base.{Base}
 use Rattle.pra_base.specs.declared.code.Base.TheVariants as base
@@ -25,6 +26,7 @@ module _ (to : Names) where
   from_check (instr.Xor v' s') v n e = cc
   from_check (instr.Mul v' s') v n e = cc
   from_check (instr.Neg v') v n e = cc
+  from_check (instr.Shift op' v' n') v n e = cc
   from_check (instr.Cmp a' b') v n e = cc
   from_check (instr.CmpSet c' v' a' b') v n e = cc
   from_check (instr.DivMod q' r' a' d') v n e = cc
@@ -40,6 +42,33 @@ module _ (to : Names) where
   from_check instr.Line v n e = cc
   from_check instr.Clear v n e = cc
 
+  pub from_shift : (x : VInstr) (op : ShiftOp) (v : VarId) (n : ℕ) → renamed to x ≡
+      instr.Shift op v n → (w : VarId) × (x ≡ instr.Shift op w n)
+  from_shift (instr.Set v' n') op v n e = cc
+  from_shift (instr.Copy v' s') op v n e = cc
+  from_shift (instr.Add v' s') op v n e = cc
+  from_shift (instr.Sub v' s') op v n e = cc
+  from_shift (instr.And v' s') op v n e = cc
+  from_shift (instr.Or v' s') op v n e = cc
+  from_shift (instr.Xor v' s') op v n e = cc
+  from_shift (instr.Mul v' s') op v n e = cc
+  from_shift (instr.Neg v') op v n e = cc
+  from_shift (instr.Shift op' v' n') op v n e = (v', cc)
+  from_shift (instr.Cmp a' b') op v n e = cc
+  from_shift (instr.CmpSet c' v' a' b') op v n e = cc
+  from_shift (instr.DivMod q' r' a' d') op v n e = cc
+  from_shift (instr.Check v' n') op v n e = cc
+  from_shift (instr.CheckPos v') op v n e = cc
+  from_shift (instr.Load v' a') op v n e = cc
+  from_shift (instr.Store a' s') op v n e = cc
+  from_shift (instr.Addr v' a') op v n e = cc
+  from_shift (instr.Push s') op v n e = cc
+  from_shift (instr.Call p') op v n e = cc
+  from_shift (instr.Read v') op v n e = cc
+  from_shift (instr.Write s') op v n e = cc
+  from_shift instr.Line op v n e = cc
+  from_shift instr.Clear op v n e = cc
+
   pub from_cmp : (x : VInstr) (a b : VarId) → renamed to x ≡ instr.Cmp a b → (c d : VarId) ×
       (x ≡ instr.Cmp c d)
   from_cmp (instr.Set v' n') a b e = cc
@@ -51,6 +80,7 @@ module _ (to : Names) where
   from_cmp (instr.Xor v' s') a b e = cc
   from_cmp (instr.Mul v' s') a b e = cc
   from_cmp (instr.Neg v') a b e = cc
+  from_cmp (instr.Shift op' v' n') a b e = cc
   from_cmp (instr.Cmp a' b') a b e = (a', b', refl)
   from_cmp (instr.CmpSet c' v' a' b') a b e = cc
   from_cmp (instr.DivMod q' r' a' d') a b e = cc
@@ -77,6 +107,7 @@ module _ (to : Names) where
   from_copy (instr.Xor v' s') t s e = cc
   from_copy (instr.Mul v' s') t s e = cc
   from_copy (instr.Neg v') t s e = cc
+  from_copy (instr.Shift op' v' n') t s e = cc
   from_copy (instr.Cmp a' b') t s e = cc
   from_copy (instr.CmpSet c' v' a' b') t s e = cc
   from_copy (instr.DivMod q' r' a' d') t s e = cc
@@ -104,6 +135,7 @@ module _ (to : Names) where
   from_division (instr.Xor v' s') q r a d e = cc
   from_division (instr.Mul v' s') q r a d e = cc
   from_division (instr.Neg v') q r a d e = cc
+  from_division (instr.Shift op' v' n') q r a d e = cc
   from_division (instr.Cmp a' b') q r a d e = cc
   from_division (instr.CmpSet c' v' a' b') q r a d e = cc
   from_division (instr.DivMod q' r' a' d') q r a d e = (q', r', a', d', refl, cc, cc, cc, cc)
@@ -129,6 +161,7 @@ module _ (to : Names) where
   from_clear (instr.Xor v' s') e = cc
   from_clear (instr.Mul v' s') e = cc
   from_clear (instr.Neg v') e = cc
+  from_clear (instr.Shift op' v' n') e = cc
   from_clear (instr.Cmp a' b') e = cc
   from_clear (instr.CmpSet c' v' a' b') e = cc
   from_clear (instr.DivMod q' r' a' d') e = cc
@@ -161,6 +194,7 @@ module _ (to : Names) where
   cell_renamed (instr.Xor v' s') = refl
   cell_renamed (instr.Mul v' s') = refl
   cell_renamed (instr.Neg v') = refl
+  cell_renamed (instr.Shift op' v' n') = refl
   cell_renamed (instr.Cmp a' b') = refl
   cell_renamed (instr.CmpSet c' v' a' b') = refl
   cell_renamed (instr.DivMod q' r' a' d') = refl
@@ -189,6 +223,7 @@ module _ (to : Names) where
   lead_renamed T n (instr.Xor v' s') xs ys f k = (k.0, f zero k.1)
   lead_renamed T n (instr.Mul v' s') xs ys f k = (k.0, f zero k.1)
   lead_renamed T n (instr.Neg v') xs ys f k = (k.0, f zero k.1)
+  lead_renamed T n (instr.Shift op' v' n') xs ys f k = (k.0, f zero k.1)
   lead_renamed T n (instr.Cmp a' b') xs ys f k = (k.0, f zero k.1)
   lead_renamed T n (instr.CmpSet c' v' a' b') xs ys f k = (k.0, f zero k.1)
   lead_renamed T n (instr.DivMod q' r' a' d') xs ys f k = (k.0, f zero k.1)
@@ -219,6 +254,7 @@ lead_pure T n (instr.Or v' s') xs e k = k
 lead_pure T n (instr.Xor v' s') xs e k = k
 lead_pure T n (instr.Mul v' s') xs e k = k
 lead_pure T n (instr.Neg v') xs e k = k
+lead_pure T n (instr.Shift op' v' n') xs e k = k
 lead_pure T n (instr.Cmp a' b') xs e k = absurd (not_so e)
 lead_pure T n (instr.CmpSet c' v' a' b') xs e k = k
 lead_pure T n (instr.DivMod q' r' a' d') xs e k = k

@@ -67,6 +67,7 @@ overwrites_written (instr.Or x s) v e = e
 overwrites_written (instr.Xor x s) v e = e
 overwrites_written (instr.Mul x s) v e = e
 overwrites_written (instr.Neg x) v e = e
+overwrites_written (instr.Shift op x n) v e = e
 overwrites_written (instr.Cmp a b) v e = e
 overwrites_written (instr.CmpSet c x a b) v e = e
 overwrites_written (instr.DivMod q r a d) v e = or_left (writes (instr.DivMod q r a d) v)

@@ -64,6 +64,7 @@ module _ (to : Names) where
   read_by_renamed (instr.Xor v s) = refl
   read_by_renamed (instr.Mul v s) = refl
   read_by_renamed (instr.Neg v) = refl
+  read_by_renamed (instr.Shift op v n) = refl
   read_by_renamed (instr.Cmp a b) = refl
   read_by_renamed (instr.CmpSet c v a b) = refl
   read_by_renamed (instr.DivMod q r a d) = refl
@@ -90,6 +91,7 @@ module _ (to : Names) where
   written_by_renamed (instr.Xor v s) = refl
   written_by_renamed (instr.Mul v s) = refl
   written_by_renamed (instr.Neg v) = refl
+  written_by_renamed (instr.Shift op v n) = refl
   written_by_renamed (instr.Cmp a b) = refl
   written_by_renamed (instr.CmpSet c v a b) = refl
   written_by_renamed (instr.DivMod q r a d) = refl
@@ -116,6 +118,7 @@ module _ (to : Names) where
   only_written_renamed (instr.Xor v s) = refl
   only_written_renamed (instr.Mul v s) = refl
   only_written_renamed (instr.Neg v) = refl
+  only_written_renamed (instr.Shift op v n) = refl
   only_written_renamed (instr.Cmp a b) = refl
   only_written_renamed (instr.CmpSet c v a b) = refl
   only_written_renamed (instr.DivMod q r a d) = refl
@@ -204,6 +207,7 @@ module _ (to : Names) where
     operate_renamed (instr.Xor v s) = refl
     operate_renamed (instr.Mul v s) = refl
     operate_renamed (instr.Neg v) = refl
+    operate_renamed (instr.Shift op v n) = refl
     operate_renamed (instr.Cmp a b) = refl
     operate_renamed (instr.CmpSet c v a b) = refl
     operate_renamed (instr.DivMod q r a d) = refl
@@ -250,6 +254,7 @@ same_names (instr.Or v s) = refl
 same_names (instr.Xor v s) = refl
 same_names (instr.Mul v s) = refl
 same_names (instr.Neg v) = refl
+same_names (instr.Shift op v n) = refl
 same_names (instr.Cmp a b) = refl
 same_names (instr.CmpSet c v a b) = refl
 same_names (instr.DivMod q r a d) = refl

@@ -122,6 +122,7 @@ pure_quiet place (instr.Or v s) held e = bound (both held) _ (λ x. refl)
 pure_quiet place (instr.Xor v s) held e = bound (both held) _ (λ x. refl)
 pure_quiet place (instr.Mul v s) held e = bound (both held) _ (λ x. refl)
 pure_quiet place (instr.Neg v) held e = bound (number_at held 0) _ (λ x. refl)
+pure_quiet place (instr.Shift op v n) held e = bound (number_at held 0) _ (λ x. refl)
 pure_quiet place (instr.CmpSet c v a b) held e = bound (both held) _ (λ x. refl)
 pure_quiet place (instr.DivMod q r a d) held e =
     bound (both held) _ (λ x. chosen (is_positive x.1) _ _ refl refl)

@@ -30,7 +30,7 @@ use Rattle.vc_same.specs.Reduction.LeftOut.{dead, copied}
 use Rattle.vc_same.specs.Reduction.Part.{ends, stays, left_out}
 use Rattle.vc_same.proofs.Renamed.{reads_from, writes_from, only_writes_from}
 use Rattle.vc_same.proofs.Forms.{from_check, from_copy, from_division, from_clear, cell_renamed}
-use Rattle.vc_same.proofs.Forms.{lead_renamed, lead_pure}
+use Rattle.vc_same.proofs.Forms.{from_shift, lead_renamed, lead_pure}
 use Rattle.vc_same.specs.SameRuns.{Preserves}
 use Rattle.vc_same.proofs.Carried.{same_runs, runs_on, runs_itself}
 use Rattle.vc_same.proofs.Kept.{Origin, origin, needed_from, reads_here}
@@ -465,6 +465,10 @@ module _ (to : Names) (old new : VProc) (r : Reduced to old new) where
         let o = from b j y is in
         let f = from_check to o.instr v n (sym o.stays.is ∙ e) in
         rules.check_range b o.place o.instr (from_is b j y is) f.0 n f.1;
+    shift_range = λ b j y is op v n e.
+        let o = from b j y is in
+        let f = from_shift to o.instr op v n (sym o.stays.is ∙ e) in
+        rules.shift_range b o.place o.instr (from_is b j y is) op f.0 n f.1;
   }
     where
       first_stays : (xs : List VInstr) → Part to old new 0 0 0 xs (code_of new 0) → slice_get xs 0 ≡

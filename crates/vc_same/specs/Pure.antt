@@ -2,7 +2,7 @@
 use Rattle.std.specs.Prelude.{Bool, true, false}
 use Rattle.pra_base.specs.declared.code.VInstr.{VInstr}
 use Rattle.pra_base.specs.declared.code.VInstr.TheVariants.{Set, Copy, Add, Sub, And, Or, Xor, Mul}
-use Rattle.pra_base.specs.declared.code.VInstr.TheVariants.{Neg, CmpSet, DivMod, Load}
+use Rattle.pra_base.specs.declared.code.VInstr.TheVariants.{Neg, Shift, CmpSet, DivMod, Load}
 use Rattle.pra_base.specs.declared.code.VInstr.TheVariants as instr
 
 -- It changes nothing but the variables that it writes: no memory, no flags that count, no event,
@@ -17,6 +17,7 @@ is_pure (Or v s) = true
 is_pure (Xor v s) = true
 is_pure (Mul v s) = true
 is_pure (Neg v) = true
+is_pure (Shift op v n) = true
 is_pure (CmpSet c v a b) = true
 is_pure (DivMod q r a d) = true
 is_pure (Load v a) = true

@@ -6,7 +6,7 @@ use Rattle.pra_base.specs.declared.code.Base.TheVariants as base
 use Rattle.pra_base.specs.declared.code.Addr.{Addr}
 use Rattle.pra_base.specs.declared.code.VInstr.{VInstr}
 use Rattle.pra_base.specs.declared.code.VInstr.TheVariants.{Set, Copy, Add, Sub, And, Or, Xor, Mul}
-use Rattle.pra_base.specs.declared.code.VInstr.TheVariants.{Neg, Cmp, CmpSet, DivMod, Check}
+use Rattle.pra_base.specs.declared.code.VInstr.TheVariants.{Neg, Shift, Cmp, CmpSet, DivMod, Check}
 use Rattle.pra_base.specs.declared.code.VInstr.TheVariants.{CheckPos, Load, Store, Push, Call, Read}
 use Rattle.pra_base.specs.declared.code.VInstr.TheVariants.{Write, Line, Clear}
 use Rattle.pra_base.specs.declared.code.VInstr.TheVariants as instr
@@ -41,6 +41,7 @@ renamed to (Or v s) = Or (var to v) (var to s)
 renamed to (Xor v s) = Xor (var to v) (var to s)
 renamed to (Mul v s) = Mul (var to v) (var to s)
 renamed to (Neg v) = Neg (var to v)
+renamed to (Shift op v n) = Shift op (var to v) n
 renamed to (Cmp a b) = Cmp (var to a) (var to b)
 renamed to (CmpSet c v a b) = CmpSet c (var to v) (var to a) (var to b)
 renamed to (DivMod q r a d) = DivMod (var to q) (var to r) (var to a) (var to d)

@@ -286,6 +286,7 @@ module _ (args : ℕ) (vars : List VarKind) where
       uncopied = λ x y z. absurd (cc);
     };
     check_range = λ v n e. absurd (cc);
+    shift_range = λ op v n e. absurd (cc);
     cells = λ k e. cells k (cell_named a.base k e);
   }
 
@@ -297,6 +298,7 @@ module _ (args : ℕ) (vars : List VarKind) where
     division_apart = λ q r a d e. absurd (cc);
     constants_kept = λ v n e. record { unwritten = refl; uncopied = λ x y z. absurd (cc) };
     check_range = λ v n e. subst (λ z. (pos 0 ≤ℤ z) × (z ≤ℤ pos 2147483647)) (bound v n e) range;
+    shift_range = λ op v n e. absurd (cc);
     cells = λ n e. absurd (cc);
   }
     where

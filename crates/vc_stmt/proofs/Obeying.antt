@@ -84,6 +84,7 @@ module _ (args : ℕ) (vars : List VarKind) where
     division_apart = λ q r x d e. absurd (cc);
     constants_kept = λ v n e. record { unwritten = refl; uncopied = λ x y z. absurd (cc) };
     check_range = λ v n e. absurd (cc);
+    shift_range = λ op v n e. absurd (cc);
     cells = λ k e. cells k (cell_named a.base k e);
   }
 
@@ -102,6 +103,7 @@ module _ (args : ℕ) (vars : List VarKind) where
       uncopied = λ x y z. absurd (cc);
     };
     check_range = λ v n e. absurd (cc);
+    shift_range = λ op v n e. absurd (cc);
     cells = λ k e. cells k (cell_named a.base k e);
   }
     where
@@ -115,6 +117,7 @@ module _ (args : ℕ) (vars : List VarKind) where
     division_apart = λ q r a d e. absurd (cc);
     constants_kept = λ v n e. record { unwritten = refl; uncopied = λ x y z. absurd (cc) };
     check_range = λ v n e. absurd (cc);
+    shift_range = λ op v n e. absurd (cc);
     cells = λ k e. absurd (cc);
   }
 
@@ -125,6 +128,7 @@ module _ (args : ℕ) (vars : List VarKind) where
     division_apart = λ q r a d e. absurd (cc);
     constants_kept = λ v n e. record { unwritten = refl; uncopied = λ x y z. absurd (cc) };
     check_range = λ v n e. absurd (cc);
+    shift_range = λ op v n e. absurd (cc);
     cells = λ k e. absurd (cc);
   }
 
@@ -135,6 +139,7 @@ module _ (args : ℕ) (vars : List VarKind) where
     division_apart = λ q r a d e. absurd (cc);
     constants_kept = λ v n e. record { unwritten = refl; uncopied = λ x y z. absurd (cc) };
     check_range = λ v n e. absurd (cc);
+    shift_range = λ op v n e. absurd (cc);
     cells = λ k e. absurd (cc);
   }
 
@@ -145,6 +150,7 @@ module _ (args : ℕ) (vars : List VarKind) where
     division_apart = λ q r a d e. absurd (cc);
     constants_kept = λ v n e. record { unwritten = refl; uncopied = λ x y z. absurd (cc) };
     check_range = λ v n e. absurd (cc);
+    shift_range = λ op v n e. absurd (cc);
     cells = λ k e. absurd (cc);
   }
 
@@ -168,6 +174,7 @@ module _ (args : ℕ) (vars : List VarKind) where
           λ x y z. absurd (cc);
     };
     check_range = λ v n e. absurd (cc);
+    shift_range = λ op v n e. absurd (cc);
     cells = λ k e. absurd (cc);
   }
 
@@ -183,6 +190,7 @@ module _ (args : ℕ) (vars : List VarKind) where
           λ x y z. absurd (cc);
     };
     check_range = λ v n e. absurd (cc);
+    shift_range = λ op v n e. absurd (cc);
     cells = λ k e. absurd (cc);
   }
 
@@ -200,6 +208,7 @@ module _ (args : ℕ) (vars : List VarKind) where
       uncopied = λ x y z same. variable n (ap kind (source t s x y z ∙ same) ∙ e);
     };
     check_range = λ v n e. absurd (cc);
+    shift_range = λ op v n e. absurd (cc);
     cells = λ n e. absurd (cc);
   }
     where

@@ -22,7 +22,7 @@ use Rattle.pra_base.specs.declared.code.VarKind.{VarKind}
 use Rattle.pra_base.specs.declared.code.VarKind.TheVariants.{Plain}
 use Rattle.pra_base.specs.declared.code.VInstr.{VInstr}
 use Rattle.pra_base.specs.declared.code.VInstr.TheVariants.{Set, Copy, Add, Sub, And, Or, Xor, Mul}
-use Rattle.pra_base.specs.declared.code.VInstr.TheVariants.{Neg, Cmp, CmpSet, DivMod, Check}
+use Rattle.pra_base.specs.declared.code.VInstr.TheVariants.{Neg, Shift, Cmp, CmpSet, DivMod, Check}
 use Rattle.pra_base.specs.declared.code.VInstr.TheVariants.{CheckPos, Load, Store, Push, Call, Read}
 use Rattle.pra_base.specs.declared.code.VInstr.TheVariants.{Write, Line, Clear}
 use Rattle.pra_base.specs.declared.code.VInstr.TheVariants as instr
@@ -290,6 +290,7 @@ lead_on T (Or v s ∷ xs) ys n more p = (p.0, lead_on T xs ys 0 more p.1)
 lead_on T (Xor v s ∷ xs) ys n more p = (p.0, lead_on T xs ys 0 more p.1)
 lead_on T (Mul v s ∷ xs) ys n more p = (p.0, lead_on T xs ys 0 more p.1)
 lead_on T (Neg v ∷ xs) ys n more p = (p.0, lead_on T xs ys 0 more p.1)
+lead_on T (Shift op v m ∷ xs) ys n more p = (p.0, lead_on T xs ys 0 more p.1)
 lead_on T (Cmp a c ∷ xs) ys n more p = (p.0, lead_on T xs ys 0 more p.1)
 lead_on T (CmpSet k v a c ∷ xs) ys n more p = (p.0, lead_on T xs ys 0 more p.1)
 lead_on T (DivMod q r a d ∷ xs) ys n more p = (p.0, lead_on T xs ys 0 more p.1)

@@ -447,6 +447,7 @@ between_joined names v w (instr.Or x s) same e = cc
 between_joined names v w (instr.Xor x s) same e = cc
 between_joined names v w (instr.Mul x s) same e = cc
 between_joined names v w (instr.Neg x) same e = cc
+between_joined names v w (instr.Shift op x n) same e = cc
 between_joined names v w (instr.Cmp a b) same e = cc
 between_joined names v w (instr.CmpSet c x a b) same e = cc
 between_joined names v w (instr.DivMod q r a d) same e = cc

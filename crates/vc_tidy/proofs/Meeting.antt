@@ -265,6 +265,7 @@ between_back t s (instr.Or v u) e = refl
 between_back t s (instr.Xor v u) e = refl
 between_back t s (instr.Mul v u) e = refl
 between_back t s (instr.Neg v) e = refl
+between_back t s (instr.Shift op v n) e = refl
 between_back t s (instr.Cmp a b) e = refl
 between_back t s (instr.CmpSet c v a b) e = refl
 between_back t s (instr.DivMod q r a d) e = refl

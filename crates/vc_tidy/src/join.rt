@@ -64,6 +64,7 @@ fn renamed(names: &[u32], instr: VInstr) -> VInstr
         VInstr::Xor(v, s) => VInstr::Xor(name(names, v), name(names, s)),
         VInstr::Mul(v, s) => VInstr::Mul(name(names, v), name(names, s)),
         VInstr::Neg(v) => VInstr::Neg(name(names, v)),
+        VInstr::Shift(op, v, n) => VInstr::Shift(op, name(names, v), n),
         VInstr::Cmp(a, b) => VInstr::Cmp(name(names, a), name(names, b)),
         VInstr::CmpSet(c, v, a, b) => {
             VInstr::CmpSet(c, name(names, v), name(names, a), name(names, b))

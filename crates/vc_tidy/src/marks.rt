@@ -41,6 +41,7 @@ fn is_pure(instr: &VInstr) -> bool
         | VInstr::Xor(..)
         | VInstr::Mul(..)
         | VInstr::Neg(..)
+        | VInstr::Shift(..)
         | VInstr::CmpSet(..)
         | VInstr::DivMod(..)
         | VInstr::Load(..)

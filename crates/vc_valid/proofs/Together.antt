@@ -115,6 +115,7 @@ module _ (code : VProc) where
         pushes_before_calls = pushed;
         clear_first = cleared;
         check_range = λ b k i at. (rules b k i at).range;
+        shift_range = λ b k i at. (rules b k i at).shift;
       };
       roles_apart = λ b k i at. (rules b k i at).apart;
       division_apart = λ b k q r a d at. (rules b k (DivMod q r a d) at).division q r a d refl;
@@ -150,5 +151,6 @@ module _ (code : VProc) where
     cells = λ v j names is. valid.arguments_apart.cells b k i at v j names is;
     division = λ q r a d is. valid.division_apart b k q r a d (at ∙ ap Some is);
     range = valid.block_rules.check_range b k i at;
+    shift = valid.block_rules.shift_range b k i at;
     clear = λ is. (valid.block_rules.clear_first b k).0 (at ∙ ap Some is);
   }

@@ -3,11 +3,13 @@ use Rattle.std.specs.Prelude.{◌≡◌, ◌≢◌, ℕ, suc, ◌≤◌, ◌↔�
 use Rattle.std.specs.Prelude.{nat_eq, if◌then◌else◌, List, Option, Some, None, slice_get}
 use Rattle.pra_base.specs.declared.ids.BlockId.{BlockId}
 use Rattle.pra_base.specs.declared.ids.Cond.{Cond}
+use Rattle.pra_base.specs.declared.ids.ShiftOp.{ShiftOp}
 use Rattle.pra_base.specs.declared.ids.VarId.{VarId}
 use Rattle.pra_base.specs.declared.code.VarKind.{VarKind}
 use Rattle.pra_base.specs.declared.code.VarKind.TheVariants.{Param, Constant}
 use Rattle.pra_base.specs.declared.code.VInstr.{VInstr}
-use Rattle.pra_base.specs.declared.code.VInstr.TheVariants.{Copy, DivMod, Check, Push, Call, Clear}
+use Rattle.pra_base.specs.declared.code.VInstr.TheVariants.{Copy, Shift, DivMod, Check, Push, Call}
+use Rattle.pra_base.specs.declared.code.VInstr.TheVariants.{Clear}
 use Rattle.pra_base.specs.declared.code.End.TheVariants.{Branch, Return}
 use Rattle.pra_base.specs.declared.code.Block.{Block}
 use Rattle.pra_base.specs.declared.code.VProc.{VProc}
@@ -57,6 +59,9 @@ KeepsDivision code b k i =
 abbrev pub KeepsRange : VInstr → Type 0
 KeepsRange i = (v : VarId) (n : ℤ) → i ≡ Check v n → (pos 0 ≤ℤ n) × (n ≤ℤ pos 2147483647)
 
+abbrev pub KeepsShift : VInstr → Type 0
+KeepsShift i = (op : ShiftOp) (v : VarId) (n : ℕ) → i ≡ Shift op v n → (1 ≤ n) × (n ≤ 31)
+
 abbrev pub KeepsClear : ℕ → ℕ → ℕ → VInstr → Type 0
 KeepsClear aggregates b k i = i ≡ Clear → (aggregates ≢ 0) × (b ≡ 0) × (k ≡ 0)
 
@@ -67,6 +72,7 @@ pub record KeepsRules (code : VProc) (b k : ℕ) (i : VInstr) : Type 0 where
   pub cells : AvoidsParams code.vars i
   pub division : KeepsDivision code b k i
   pub range : KeepsRange i
+  pub shift : KeepsShift i
   pub clear : KeepsClear code.aggregates b k i
 
 -- ---- one block

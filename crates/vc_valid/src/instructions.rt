@@ -9,7 +9,7 @@ ghost use Rattle.vc_live.specs.Rows.{IsLiveness};
 ghost use Rattle.vc_live.specs.Sized.{named_cell};
 ghost use Rattle.vc_valid.specs.Rules.{IsApart, IsConstantOf, CopiesNoConstant, KeepsConstants};
 ghost use Rattle.vc_valid.specs.Rules.{IsNoParam, AvoidsParams, AreFour, KeepsDivision, KeepsRange};
-ghost use Rattle.vc_valid.specs.Rules.{KeepsClear, KeepsRules};
+ghost use Rattle.vc_valid.specs.Rules.{KeepsShift, KeepsClear, KeepsRules};
 
 use pra_base::{Base, BlockId, VInstr, VProc, VarId, VarKind};
 use vc_code::{Role, operands};
@@ -189,6 +189,15 @@ fn keeps_range(instr: &VInstr) -> bool
     }
 }
 
+fn keeps_shift(instr: &VInstr) -> bool
+    ensures { IsTrue result ↔ KeepsShift instr.now }
+{
+    match *instr {
+        VInstr::Shift(_, _, count) => 1 <= count && count <= 31,
+        _ => true,
+    }
+}
+
 fn keeps_clear(aggregates: u32, block: u32, index: u32, instr: &VInstr) -> bool
     ensures { IsTrue result ↔ KeepsClear aggregates block index instr.now }
 {
@@ -225,6 +234,9 @@ pub(crate) fn keeps_rules(
         return false;
     }
     if !keeps_range(instr) {
+        return false;
+    }
+    if !keeps_shift(instr) {
         return false;
     }
     keeps_clear(code.aggregates, block, index, instr)

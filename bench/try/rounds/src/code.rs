@@ -3,7 +3,7 @@
 
 use plain::Global;
 use pra_base::{
-    Addr, Base, Block, BlockId, Cond, End, ProcId, VInstr, VProc, VarId, VarKind,
+    Addr, Base, Block, BlockId, Cond, End, ProcId, ShiftOp, VInstr, VProc, VarId, VarKind,
 };
 use pra_list::Seq;
 
@@ -72,6 +72,9 @@ impl Words<'_> {
             "xor" => VInstr::Xor(self.var(), self.var()),
             "mul" => VInstr::Mul(self.var(), self.var()),
             "neg" => VInstr::Neg(self.var()),
+            "shl" => VInstr::Shift(ShiftOp::Shl, self.var(), self.next() as u32),
+            "shr" => VInstr::Shift(ShiftOp::Shr, self.var(), self.next() as u32),
+            "sar" => VInstr::Shift(ShiftOp::Sar, self.var(), self.next() as u32),
             "cmp" => VInstr::Cmp(self.var(), self.var()),
             "cmpset" => VInstr::CmpSet(self.cond(), self.var(), self.var(), self.var()),
             "divmod" => VInstr::DivMod(self.var(), self.var(), self.var(), self.var()),

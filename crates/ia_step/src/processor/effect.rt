@@ -9,7 +9,8 @@ ghost use Rattle.ia_step.specs.Effect.{lies_in, branch as branch_of, set as set_
 ghost use Rattle.ia_step.specs.Effect.{load as load_of, store as store_of, read_rm as read_rm_of};
 ghost use Rattle.ia_step.specs.Effect.{write_rm as write_rm_of, push as push_of, pop as pop_of};
 ghost use Rattle.ia_step.specs.Effect.{mov as mov_of, alu as alu_of, imul as imul_of};
-ghost use Rattle.ia_step.specs.Effect.{neg as neg_of, idiv as idiv_of, service as service_of};
+ghost use Rattle.ia_step.specs.Effect.{neg as neg_of, shift as shift_of, idiv as idiv_of};
+ghost use Rattle.ia_step.specs.Effect.{service as service_of};
 ghost use Rattle.ia_step.specs.Effect.{effect as effect_of, keep_result as keep_result_of};
 ghost use Rattle.ia_step.specs.Effect.{take_input as take_input_of, jump as jump_of};
 ghost use Rattle.ia_step.specs.Effect.{serve as serve_of, trapped};
@@ -18,8 +19,8 @@ ghost use Rattle.ia_step.specs.Views.{OnResult, OnResultWith, OnDone};
 
 use super::Processor;
 use crate::arithmetic::{
-    compute, difference, flags, flags_of_bits, flags_of_difference, flags_of_product, product,
-    sign_word, sum, unknown_flags, with_low_byte,
+    compute, difference, flags, flags_of_bits, flags_of_difference, flags_of_product,
+    flags_of_shift, product, shifted, sign_word, sum, unknown_flags, with_low_byte,
 };
 use crate::divide::divide;
 use crate::memory::{put_word, word};
@@ -27,7 +28,7 @@ use crate::out::{Ending, FaultKind, StepOut};
 use ia_code::ins::{AluOp, Ins, MemAddr, Reg, Rm};
 use ia_code::regions::{DATA_BASE, STACK_BASE};
 use ia_code::services::{Service, trap_kind};
-use pra_base::TrapKind;
+use pra_base::{ShiftOp, TrapKind};
 
 fn lies_within(base: u32, region: &[u8], address: u32) -> bool
     requires low { base ≤ stack_base }
@@ -173,6 +174,18 @@ impl Processor {
         Ok(StepOut::Going)
     }
 
+    #[tactic(auto, unfolding(crate::specs::Effect::shift))]
+    fn shift(&mut self, op: ShiftOp, dest: &Rm, count: u8) -> Result<StepOut, FaultKind>
+        ensures { OnDone self.old self.new result (shift_of op self.old dest.now count) }
+    {
+        let value = self.read_rm(dest)?;
+        let shifted = shifted(op, value, count);
+        let flags = flags_of_shift(self.flags, shifted, count);
+        self.write_rm(dest, shifted)?;
+        self.flags = flags;
+        Ok(StepOut::Going)
+    }
+
     #[tactic(auto, unfolding(crate::specs::Effect::idiv))]
     fn idiv(&mut self, src: u32) -> Result<StepOut, FaultKind>
         ensures { OnDone self.old self.new result (idiv_of self.old src) }
@@ -314,6 +327,7 @@ impl Processor {
                 self.imul(*dest, i32::from(*n).cast_unsigned(), value)
             }
             Ins::Neg(dest) => self.neg(dest),
+            Ins::Shift(op, dest, n) => self.shift(*op, dest, *n),
             Ins::Idiv(src) => {
                 let value = self.read_rm(src)?;
                 self.idiv(value)

@@ -1,6 +1,6 @@
 // Selected code as text.
 
-use pra_base::{Addr, Base, End, VInstr, VProc, VarId};
+use pra_base::{Addr, Base, End, ShiftOp, VInstr, VProc, VarId};
 use std::alloc::{AllocError, Global};
 
 // An instruction on one variable, on two, and on a variable and an address.
@@ -55,6 +55,9 @@ fn instruction(alloc: Global, i: &VInstr) -> Result<String, AllocError> {
         VInstr::Xor(v, s) => two(alloc, "xor", v, s),
         VInstr::Mul(v, s) => two(alloc, "mul", v, s),
         VInstr::Neg(v) => one(alloc, "neg", v),
+        VInstr::Shift(ShiftOp::Shl, v, n) => with_number(alloc, "shl", v, n.cast_signed()),
+        VInstr::Shift(ShiftOp::Shr, v, n) => with_number(alloc, "shr", v, n.cast_signed()),
+        VInstr::Shift(ShiftOp::Sar, v, n) => with_number(alloc, "sar", v, n.cast_signed()),
         VInstr::Cmp(a, b) => two(alloc, "cmp", a, b),
         VInstr::CmpSet(cond, VarId(v), VarId(a), VarId(b)) => {
             format!(in alloc; "cmpset {cond:?} v{v}, v{a}, v{b}")

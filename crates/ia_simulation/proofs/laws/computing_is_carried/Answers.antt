@@ -31,6 +31,9 @@ returns-clause-compare c = whole.compares
 pub returns-clause-negate : goal.returns-clause-negate
 returns-clause-negate c = whole.negates
 
+pub returns-clause-shift : goal.returns-clause-shift
+returns-clause-shift c = whole.shifts
+
 pub returns-clause-condition : goal.returns-clause-condition
 returns-clause-condition c = whole.sets_condition
 

@@ -26,6 +26,7 @@ returns c = (
         c.as_slice-vars.ensures (c.if-not-avoids_params.ensures.0 refl);
     division = c.if-not-keeps_division.ensures.0 refl;
     range = c.if-not-keeps_range.ensures.0 refl;
+    shift = c.if-not-keeps_shift.ensures.0 refl;
     clear = c.keeps_clear.ensures.0 yes;
   },
   λ keeps. c.keeps_clear.ensures.1 keeps.clear,
