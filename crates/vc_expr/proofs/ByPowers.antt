@@ -1,45 +1,46 @@
 -- DIV and MOD by a constant that is a power of two.
-use Rattle.std.proofs.Common.{◌≡◌, ℕ, ◌*◌, ◌%◌, ◌^◌, ◌<◌, ◌≤◌, true, length, None, Ok, Err, refl, sym, ap}
+use Rattle.std.proofs.Common.{◌≡◌, ℕ, zero, suc, ◌*◌, ◌%◌, ◌^◌, ◌<◌, ◌≤◌, true, length, None, Ok, Err, refl, sym, ap}
 use Rattle.std.proofs.Common.{◌∙◌, subst, arith}
-use Rattle.std.specs.Prelude.{ℤ, pos, neg_ℤ, ◌-ℤ◌, ◌<ℤ◌, int_lt, int_div, if◌then◌else◌, ◌||◌}
+use Rattle.std.specs.Prelude.{ℤ, pos, ◌-ℤ◌, ◌*ℤ◌, ◌<ℤ◌, int_lt, if◌then◌else◌}
 use Rattle.std.specs.Prelude.{nat_eq, slice_index_or}
 use Rattle.std.specs.Int.{w32}
 use Rattle.std.specs.Int.RustNames.{FitsSigned}
 use Rattle.std.proofs.Math.Pow.{pow_mono}
 use Rattle.std.proofs.lemmas.Bool.Decides.{nat_tests}
-use Rattle.std.proofs.lemmas.Int.{ints}
+use Rattle.std.proofs.lemmas.Int.{ints, SFits-int_wrap}
+use Rattle.std.proofs.Math.IntN.{*ℤ_comm}
 use Rattle.std.proofs.lemmas.Nat.{pow_pos, pow_below, one_shl}
-use Rattle.pra_base.specs.Code.{kind_of, code_of as code_at}
-use Rattle.pra_base.specs.Words.{word, signed, floored_quotient, floored_remainder}
+use Rattle.pra_base.specs.Code.{kind_of}
+use Rattle.pra_base.specs.Words.{word, signed, shifted, product32, floored_quotient, floored_remainder}
+use Rattle.pra_base.specs.declared.ids.ShiftOp.TheVariants.{Shl, Sar}
 use Rattle.pra_base.specs.declared.event.TrapKind.TheVariants.{Divide}
 use Rattle.pra_base.specs.declared.ids.VarId.{VarId}
 use Rattle.pra_base.specs.declared.code.VarKind.TheVariants.{Constant}
 use Rattle.pra_base.specs.declared.code.VProc.{VProc}
 use Rattle.pra_base.proofs.Division.{floored}
-use Rattle.ob_syntax.specs.Operators.{Outcome, number}
+use Rattle.ob_syntax.specs.Operators.{Outcome, number, wrapped}
 use Rattle.ob_syntax.specs.declared.checked.ROp.{ROp}
-use Rattle.ob_syntax.specs.declared.checked.ROp.TheVariants.{Div, Mod}
+use Rattle.ob_syntax.specs.declared.checked.ROp.TheVariants.{Mul, Div, Mod}
 use Rattle.ob_syntax.specs.declared.checked.Value.{Value}
 use Rattle.ob_syntax.specs.declared.checked.Value.TheVariants.{Number}
 use Rattle.vc_code.specs.declared.value.Value.TheVariants.{Num}
-use Rattle.vc_code.specs.Machine.{Activation, State, with_top}
+use Rattle.vc_code.specs.Machine.{State}
 use Rattle.vc_code.specs.Selected.{Vars, valued, code_of}
-use Rattle.vc_build.specs.Grow.{with_variable, GrowsAt}
+use Rattle.vc_build.specs.Grow.{with_variable}
 use Rattle.vc_build.specs.Runs.{Codes, RunsIn, Reaches, Holds, Stands, Yields}
 use Rattle.vc_build.proofs.Growth.{declared_kind, declared_count, declared_grows}
-use Rattle.vc_build.proofs.Steps.{same_on, runs_in_earlier, runs_in_on}
 use Rattle.vc_expr.specs.Operators.{Adds, Begins, HasValue, Gives, Combines, Converts, of_values}
 use Rattle.vc_expr.specs.Operators.{Operates}
-use Rattle.vc_expr.specs.Division.{AnySides, common_bits, in_common, Stays, HoldsParts, Divides}
-use Rattle.vc_expr.specs.Division.{IsPower, quotient_by, remainder_by}
-use Rattle.vc_expr.specs.Readable.{is_constant, readable, ReadsOperands, ReadsDivision}
-use Rattle.vc_expr.specs.Counts.{AddsAtMost, OperationAdds}
+use Rattle.vc_expr.specs.Division.{AnySides, common_bits, in_common}
+use Rattle.vc_expr.specs.Division.{IsPower, quotient_by, remainder_by, shifted_by}
+use Rattle.vc_expr.specs.Readable.{ReadsOperands}
 use Rattle.vc_expr.proofs.Certificates.{declare_certifies, declare_usable}
-use Rattle.vc_expr.proofs.Divisions.{adds_after, given_value, has_constant, words_same}
+use Rattle.vc_expr.proofs.Divisions.{adds_after, has_constant, words_same}
 use Rattle.vc_expr.proofs.Operations.{same_fewer}
-use Rattle.vc_expr.proofs.Powers.{signed_low, low_bits, high_bits}
+use Rattle.vc_expr.proofs.Powers.{signed_low, low_bits, high_bits, shifted_up}
+use Rattle.vc_expr.proofs.Sums.{products}
 use Rattle.vc_expr.proofs.Published.{behind_declared, new_constant}
-use Rattle.vc_expr.proofs.Reaching.{reaches_as, reaches_then}
+use Rattle.vc_expr.proofs.Reaching.{reaches_as}
 use Rattle.vc_expr.proofs.Relations.{back}
 
 -- ---- powers of two
@@ -60,17 +61,9 @@ module _ (d : ℤ) (p : IsPower d) where
   pub less_fits : FitsSigned w32 (d -ℤ pos 1)
   less_fits = subst (λ n. FitsSigned w32 (n -ℤ pos 1)) (sym p.is) (omega (arith, ints, least, most))
 
-  pub opposite_fits : FitsSigned w32 (neg_ℤ d)
-  opposite_fits = subst (λ n. FitsSigned w32 (neg_ℤ n)) (sym p.is)
-      (omega (arith, ints, least, most))
-
   low : (x : ℤ) → FitsSigned w32 x → common_bits x (d -ℤ pos 1) ≡ floored_remainder x d
   low x f = subst (λ n. common_bits x (n -ℤ pos 1) ≡ floored_remainder x n) (sym p.is)
       (low_bits p.exponent p.small x f)
-
-  high : (x : ℤ) → FitsSigned w32 x → int_div (common_bits x (neg_ℤ d)) d ≡ floored_quotient x d
-  high x f = subst (λ n. int_div (common_bits x (neg_ℤ n)) n ≡ floored_quotient x n) (sym p.is)
-      (high_bits p.exponent p.small x f)
 
 -- a number whose word is a power of two, but for the sign bit
 pub power_from : (n : ℤ) (bits k : ℕ) → bits ≡ word n → FitsSigned w32 n → k < 31 →
@@ -83,6 +76,17 @@ power_from n bits k is fits lt same =
       small = lt;
       is = sym (back n fits) ∙ ap signed word_is ∙ signed_low (2 ^ k) (pow_below k 31 lt);
     }
+
+-- a power of two that is not 1 has an exponent above 0
+pub at_least : (d : ℤ) (k : ℕ) → d ≡ pos (2 ^ k) → (d ≡ pos 1 → ⊥) → 1 ≤ k
+at_least d zero e differs = absurd (differs e)
+at_least d (suc k) e differs = omega arith
+
+pub word_power : (k : ℕ) → k < 31 → word (pos (2 ^ k)) ≡ 2 ^ k
+word_power k lt = let less : 2 ^ k < 2 ^ 31 = pow_below k 31 lt in omega (arith, ints, less)
+
+exchanged : (x y : Value) → of_values Mul x y ≡ of_values Mul y x
+exchanged x y = ap (λ n. Ok (Number (wrapped n))) (*ℤ_comm (number x) (number y))
 
 by_one : (x : ℤ) → floored_quotient x (pos 1) ≡ x
 by_one x = let f = floored x (pos 1) (omega (arith, ints)) in
@@ -146,86 +150,17 @@ remainder_converts first at old new d left v mask is_new p combines = record {
 
 -- ---- DIV
 
-module _ (first at : ℕ) (old m2 new : VProc) (d : ℤ) (left t divisor q r : ℕ) (mask : VarId)
-    (is_new : mask.0 ≡ length old.vars) (p : IsPower d)
-    (combines : Combines AnySides in_common first at (with_variable (Constant (neg_ℤ d)) old) m2
-    left mask.0 t)
-    (divides : Divides at m2 new t divisor q r) (there : divisor < length old.vars)
-    (kind : kind_of old divisor ≡ Constant d) (lowest : first ≤ length old.vars) where
-  added : Adds first at old m2 t
-  added = bits_added first at old m2 (neg_ℤ d) left t mask is_new (opposite_fits d p) combines
-
-  pub divisor_stays : kind_of m2 divisor ≡ Constant d
-  divisor_stays = added.grows.grows.kinds divisor there ∙ kind
-
-  there_too : divisor < length m2.vars
-  there_too = omega (arith, there, added.grows.grows.vars)
-
-  low_enough : first ≤ length m2.vars
-  low_enough = omega (arith, lowest, added.grows.grows.vars)
-
-  module _ (w : Codes) (id : ℕ) (s : State Vars) (x : Value) (run : RunsIn w id new s)
-      (fits : FitsSigned w32 (number x)) where
-    abbrev multiple : ℤ
-    multiple = common_bits (number x) (neg_ℤ d)
-
-    abbrev Done : Activation Vars → Type 0
-    Done = Gives w id new at q first s.top (quotient_by d x)
-
-    has_divisor : (c : Activation Vars) → HasValue w id divisor c (Number d)
-    has_divisor c = has_constant w id divisor c d (power_fits d p)
-        (run.holds.kinds divisor (omega (arith, there_too, divides.left.grows.grows.vars))
-        ∙ divides.left.grows.grows.kinds divisor there_too ∙ divisor_stays)
-
-    divided : (c : Activation Vars) → Gives w id m2 at t first s.top (Number multiple) c →
-        Reaches w (with_top s c) Done
-    divided c g =
-        reaches_as w (with_top s c)
-        (λ c2. Stays new at (length m2.vars) c c2 × HoldsParts w id q r multiple d c2) Done
-        (divides.means w id (with_top s c) (Number multiple) (Number d)
-        (runs_in_on w id first new s c g.holds.same run) g.holds.stands
-        (given_value w id m2 at t first s.top c (Number multiple) g) (has_divisor c)
-        (is_positive d p))
-        (λ c2 h.
-        let value : HasValue w id q c2 (quotient_by d x) =
-        subst (λ z. HasValue w id q c2 (Number z)) (high d p (number x) fits) h.1.quotient in
-        record {
-          fits = value.fits;
-          holds = record {
-            stands = h.0.stands;
-            same = same_on first (length m2.vars) s.top c c2 low_enough g.holds.same h.0.same;
-            value = value.held;
-          };
-        })
-
-  pub quotient_converts : Converts (quotient_by d) first at old new left q
-  quotient_converts = record {
-    adds = adds_after first (length m2.vars) at old m2 new q added.grows low_enough divides.left;
-    means = λ w id s x run stands hx.
-        reaches_then w s
-        (Gives w id m2 at t first s.top (Number (common_bits (number x) (neg_ℤ d))))
-        (Gives w id new at q first s.top (quotient_by d x))
-        (bits_given first at old m2 (neg_ℤ d) left t mask is_new (opposite_fits d p) combines w id s
-        x (runs_in_earlier w id m2 new s divides.left.grows.grows run) stands hx)
-        (divided w id s x run hx.fits);
-  }
-
-  pub quotient_reads : ReadsOperands first at (with_variable (Constant (neg_ℤ d)) old) m2 left
-      mask.0 t → ReadsDivision at m2 new t divisor q r → ReadsOperands first at old new left left q
-  quotient_reads bits parts = record {
-    reads = λ known c one two.
-        let p1 = (bits_read first at old m2 (neg_ℤ d) left t mask is_new (opposite_fits d p)
-        combines bits).reads known c one two in
-        let p2 = parts.reads known p1.certifies p1.result
-        (ap (λ k. is_constant k || readable (known at divisor) (code_at m2 at) divisor)
-        divisor_stays) in
-        record {
-          certifies = p2.certifies;
-          result = p2.first_part;
-          others = λ u lt is. p2.others u (λ e. omega (arith, e, lt, added.above))
-              (p1.others u lt is);
-        };
-  }
+pub quotient_converts : (first at : ℕ) (old new : VProc) (d : ℤ) (left v k : ℕ) → k < 31 →
+    d ≡ pos (2 ^ k) → Converts (shifted_by Sar k) first at old new left v →
+    Converts (quotient_by d) first at old new left v
+quotient_converts first at old new d left v k small is c = record {
+  adds = c.adds;
+  means = λ w id s x r stands hx.
+      subst (λ z. Reaches w s (Gives w id new at v first s.top (Number z)))
+      (high_bits k (omega (arith, small)) (number x) hx.fits
+      ∙ ap (floored_quotient (number x)) (sym is))
+      (c.means w id s x r stands hx);
+}
 
 -- by 1 the start of the operation is all
 pub start_converts : (first at : ℕ) (old new : VProc) (left v : ℕ) →
@@ -247,17 +182,6 @@ start_converts first at old new left v b lowest = record {
           value = h.value;
         };
       }));
-}
-
--- the division adds to what the start of the operation does
-pub divides_more : (first x : ℕ) (old m2 new : VProc) → OperationAdds 1 0 1 first x old m2 →
-    AddsAtMost 1 2 0 0 m2 new → OperationAdds 2 2 1 first x old new
-divides_more first x old m2 new p q = record {
-  instructions = omega (arith, p.instructions, q.instructions);
-  locals = omega (arith, p.locals, q.locals);
-  constants = omega (arith, p.constants, q.constants);
-  blocks = omega (arith, p.blocks, q.blocks);
-  params = λ u k is. p.params u k (q.params u k is);
 }
 
 -- ---- as operators
@@ -317,6 +241,39 @@ module _ (first at : ℕ) (old new : VProc) (d : ℤ) (left right v : ℕ) (p : 
           (if int_lt (pos 0) (number y) then Ok (Number (floored_quotient (number x) (number y)))
           else Err Divide) (of_values Div x y)
       same x y = refl
+
+  -- a product by a shift to the left, of either side
+  module _ (k : ℕ) (small : k < 31) (is : d ≡ pos (2 ^ k)) where
+    times : (x y : Value) → FitsSigned w32 (number x) → number y ≡ d →
+        ◌≡◌ {A = Outcome} (Ok (shifted_by Shl k x)) (of_values Mul x y)
+    times x y fits e =
+        let bits : word d ≡ 2 ^ k = ap word is ∙ word_power k small in
+        let words : shifted Shl (word (number x)) k ≡ word (wrapped (number x *ℤ d)) =
+        shifted_up k (omega (arith, small)) (word (number x))
+        ∙ ap (product32 (word (number x))) (sym bits) ∙ products (number x) d fits (power_fits d p) in
+        ap (λ n. Ok (Number n)) (ap signed words
+        ∙ back (wrapped (number x *ℤ d)) (SFits-int_wrap w32 (number x *ℤ d))
+        ∙ ap (λ m. wrapped (number x *ℤ m)) (sym e))
+
+    pub mul_operates : Converts (shifted_by Shl k) first at old new left v →
+        Operates Mul first at old new left right v
+    mul_operates c = record {
+      adds = c.adds;
+      means = λ w id s x y run stands hx hy suits.
+          subst (Yields w s (Gives w id new at v first s.top))
+          (times x y hx.fits (value_is w id s y c.adds run hy))
+          (c.means w id s x run stands hx);
+    }
+
+    pub mul_operates_right : Converts (shifted_by Shl k) first at old new left v →
+        Operates Mul first at old new right left v
+    mul_operates_right c = record {
+      adds = c.adds;
+      means = λ w id s x y run stands hx hy suits.
+          subst (Yields w s (Gives w id new at v first s.top))
+          (times y x hy.fits (value_is w id s x c.adds run hx) ∙ exchanged y x)
+          (c.means w id s y run stands hy);
+    }
 
 -- what one operand reads
 pub reads_left : (first at : ℕ) (old new : VProc) (left right v : ℕ) →

@@ -3,6 +3,7 @@ pub mod Operations
 pub mod Sums
 pub mod Relations
 pub mod Signs
+pub mod Shifting
 pub mod Truths
 pub mod Inversions
 pub mod Effects

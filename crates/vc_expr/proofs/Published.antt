@@ -13,7 +13,8 @@ use Rattle.pra_base.specs.declared.code.VarKind.{VarKind}
 use Rattle.pra_base.specs.declared.code.VarKind.TheVariants.{Param, Plain, Constant}
 use Rattle.pra_base.specs.declared.code.VInstr.{VInstr}
 use Rattle.pra_base.specs.declared.code.VInstr.TheVariants.{Set, Copy, Cmp, CmpSet, DivMod}
-use Rattle.pra_base.specs.declared.code.VInstr.TheVariants.{CheckPos, Neg, Xor, And}
+use Rattle.pra_base.specs.declared.code.VInstr.TheVariants.{CheckPos, Neg, Shift, Xor, And}
+use Rattle.pra_base.specs.declared.ids.ShiftOp.{ShiftOp}
 use Rattle.pra_base.specs.declared.code.VInstr.TheVariants as instr
 use Rattle.pra_base.specs.declared.code.End.TheVariants.{Jump, Branch}
 use Rattle.pra_base.specs.declared.code.VProc.{VProc}
@@ -252,6 +253,18 @@ module _ (first at : ℕ) (old mid : VProc) (left : ℕ) (target : VarId) (o : I
         publishes_on known (length old.vars) first first at old mid (with_instr at (Neg target) mid)
         target.0 target.0 low (omega arith) p
         (put_publishes known first at (Neg target) mid target.0 target.0 target.0 o
+        (λ u r. inl (is_first target.0 u r)) (λ u. refl) (written_in_place target.0) p.certifies
+        p.result p.result);
+  }
+
+  pub shift_publishes : (op : ShiftOp) (k : ℕ) →
+      ReadsOperands first at old (with_instr at (Shift op target k) mid) left left target.0
+  shift_publishes op k = record {
+    reads = λ known c one two.
+        let p = starts.reads known c one two in
+        publishes_on known (length old.vars) first first at old mid
+        (with_instr at (Shift op target k) mid) target.0 target.0 low (omega arith) p
+        (put_publishes known first at (Shift op target k) mid target.0 target.0 target.0 o
         (λ u r. inl (is_first target.0 u r)) (λ u. refl) (written_in_place target.0) p.certifies
         p.result p.result);
   }

@@ -33,7 +33,7 @@ differences : (a b : ℤ) → FitsSigned w32 a → FitsSigned w32 b → diff32 (
 differences a b f g = sym (word_signed (word a + (2 ^ 32 - word b)))
     ∙ ap word (wrapping_sub_is w32 a b f g)
 
-products : (a b : ℤ) → FitsSigned w32 a → FitsSigned w32 b → product32 (word a) (word b) ≡
+pub products : (a b : ℤ) → FitsSigned w32 a → FitsSigned w32 b → product32 (word a) (word b) ≡
     word (wrapped (a *ℤ b))
 products a b f g = sym (word_signed (word a * word b)) ∙ ap word (wrapping_mul_is w32 a b f g)
 

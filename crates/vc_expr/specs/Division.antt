@@ -5,10 +5,11 @@ use Rattle.std.specs.Prelude.{int_lt, int_le, int_div, int_rem, Bool, true, fals
 use Rattle.std.specs.Prelude.{Result, Ok, Err, length}
 use Rattle.pra_base.specs.declared.event.TrapKind.{TrapKind}
 use Rattle.pra_base.specs.declared.event.TrapKind.TheVariants.{Divide}
+use Rattle.pra_base.specs.declared.ids.ShiftOp.{ShiftOp}
 use Rattle.pra_base.specs.declared.code.VarKind.{VarKind}
 use Rattle.pra_base.specs.declared.code.VarKind.TheVariants.{Constant}
 use Rattle.pra_base.specs.declared.code.VProc.{VProc}
-use Rattle.pra_base.specs.Words.{word, signed, floored_quotient, floored_remainder}
+use Rattle.pra_base.specs.Words.{word, signed, shifted, floored_quotient, floored_remainder}
 use Rattle.ob_syntax.specs.Operators.{Outcome, number, wrapped}
 use Rattle.ob_syntax.specs.declared.checked.ROp.{ROp}
 use Rattle.ob_syntax.specs.declared.checked.ROp.TheVariants.{Div, Mod}
@@ -121,6 +122,10 @@ quotient_by d x = Number (floored_quotient (number x) d)
 
 abbrev pub remainder_by : ℤ → Value → Value
 remainder_by d x = Number (floored_remainder (number x) d)
+
+-- the number whose word is that of a number, shifted by so many bits
+abbrev pub shifted_by : ShiftOp → ℕ → Value → Value
+shifted_by op k x = Number (signed (shifted op (word (number x)) k))
 
 -- ---- what is read
 

@@ -9,7 +9,8 @@
 //! - `select_operator` for each binary operator: `Operates`, which says that running on from the
 //!   end of what the block had comes to the operator's value in that variable, or to its trap. `&`
 //!   and OR are asked for truth values (`Suits`), and evaluate both sides. It is made of
-//!   `select_arithmetic`, `select_division`, `select_relation` and `select_bitwise`.
+//!   `select_product`, `select_arithmetic`, `select_division`, `select_relation` and
+//!   `select_bitwise`.
 //! - `select_negation` for the sign `-`: `Converts`, the same for one operand; `select_inversion`
 //!   for `~`, where it is 0 or 1: `ConvertsBit`.
 //!
@@ -63,12 +64,14 @@
 //! ```
 //!
 //! By a constant that is a power of two the low bits of a word in two's complement are the
-//! remainder, also of a number below 0. Without them the word is that of a multiple, of which there
-//! is nothing to round, and DIV by 1 is its operand (`power`).
+//! remainder, also of a number below 0. The others, shifted to the right with the sign, are the
+//! quotient, rounded down, and DIV by 1 is its operand. A product by such a constant is a shift to
+//! the left, where the constant takes an immediate of 32 bits (`power`).
 //!
 //! ```text
 //! x MOD 8    copy v4, x  and v4, k5 = 7
-//! x DIV 8    copy v4, x  and v4, k5 = -8  divmod v6, v7, v4, k3 = 8
+//! x DIV 8    copy v4, x  sar v4, 3
+//! x * 256    copy v4, x  shl v4, 8
 //! ```
 //!
 //! # The start of an operation

@@ -1,6 +1,6 @@
 // The code of any operator whose sides have both been evaluated.
 
-ghost use Rattle.std.specs.Prelude.{◌≡◌, ◌<◌, ◌≤◌, length, IfOk, OnOk};
+ghost use Rattle.std.specs.Prelude.{◌≡◌, ◌<◌, ◌≤◌, length, true, IfOk, OnOk};
 ghost use Rattle.vc_build.specs.Grow.{IsOpen};
 ghost use Rattle.vc_expr.specs.Operators.{is_arithmetic, is_bitwise, Operates};
 ghost use Rattle.vc_expr.specs.Division.{is_division};
@@ -11,10 +11,17 @@ ghost use Rattle.vc_expr.specs.Counts.{OperationAdds};
 use crate::arithmetic::select_arithmetic;
 use crate::bits::select_bitwise;
 use crate::division::select_division;
+use crate::power::select_product;
 use crate::relation::select_relation;
 use ob_syntax::checked::ROp;
 use pra_base::{BlockId, OutOfMemory, VProc, VarId};
 use std::alloc::Global;
+
+fn is_product(op: ROp) -> bool
+    ensures { (result ≡ true) → (op ≡ ROp.Mul) }
+{
+    matches!(op, ROp::Mul)
+}
 
 fn is_arithmetic(op: ROp) -> bool
     ensures { result ≡ is_arithmetic op }
@@ -63,6 +70,10 @@ pub fn select_operator(
     ensures reads { IfOk result (λ v. OperandsApart first left.0 right.0 →
         ReadsOperands first at.0 code.old code.new left.0 right.0 v.0) }
 {
+    if is_product(op) {
+        let v = select_product(alloc, code, at, first, left, right)?;
+        return Ok(v);
+    }
     if is_arithmetic(op) {
         let v = select_arithmetic(alloc, code, at, first, op, left, right)?;
         return Ok(v);

@@ -41,7 +41,7 @@ returns-in_ok-quotient-in_default-clause-operates c =
 pub returns-in_ok-quotient-in_default-clause-counts :
     goal.returns-in_ok-quotient-in_default-clause-counts
 returns-in_ok-quotient-in_default-clause-counts c =
-    weaker 2 2 1 6 3 1 c.args.first c.args.left.0 c.args.code.now c.select_quotient.new.code
+    weaker 1 0 0 6 3 1 c.args.first c.args.left.0 c.args.code.now c.select_quotient.new.code
     (omega arith) (omega arith) (omega arith) c.in_ok-quotient-in_default.ensures.counts
 
 pub returns-in_ok-quotient-in_default-clause-reads :
