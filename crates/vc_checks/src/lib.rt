@@ -26,10 +26,11 @@
 //! sweeps over the blocks), and one walk over the blocks tests them and leaves out what they allow
 //! (`flow`, and `ways` for what is known on the arms of a branch). Facts are kept, 32 at a place,
 //! of variables alone for which some check asks, and of those of which these are made or with which
-//! they are compared. From the third sweep on a number that a loop still moves is taken as far as
-//! it can go. Where facts don't settle in twelve sweeps they are sought once more with nothing
-//! known where control goes back to; where they don't hold in the end, or there is no check, the
-//! code stays. A block is gone through again only where its facts have changed.
+//! they are compared. Sweeps go through the blocks in the order of the flow (`order`), in which a
+//! WHILE begins with its test. From the third sweep on a number that a loop still moves is taken as
+//! far as it can go. Where facts don't settle in twelve sweeps they are sought once more with
+//! nothing known where control goes back to; where they don't hold in the end, or there is no
+//! check, the code stays. A block is gone through again only where its facts have changed.
 #![tactic(auto)]
 
 pub mod fact;
@@ -37,6 +38,7 @@ mod flow;
 mod known;
 pub mod laws;
 mod leave;
+mod order;
 mod search;
 #[cfg(test)]
 mod tests;

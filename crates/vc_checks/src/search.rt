@@ -7,6 +7,7 @@ ghost use Rattle.std.specs.Prelude.{◌<◌, length};
 use crate::fact::Fact;
 use crate::flow::facts_at;
 use crate::known::{cannot_fail, find, pass};
+use crate::order::{flow_order, number_at, rank_of, ranks_in};
 use crate::ways::{Ways, ways_out};
 use pra_base::{BlockId, End, VInstr, VProc, VarId, VarKind};
 use pra_list::Seq;
@@ -118,6 +119,10 @@ fn is_marked(marks: &[bool], at: usize) -> bool {
 /// What is found so far.
 #[derive(Debug, Drop)]
 struct Found {
+    /// The blocks in the order in which sweeps go through them.
+    order: Vec<usize>,
+    /// The place of each block in that order.
+    ranks: Vec<usize>,
     /// The facts at the begin of each block.
     begins: Vec<Seq<Fact>>,
     /// Whether control is known to come to a block.
@@ -130,6 +135,8 @@ struct Found {
 
 fn nothing(alloc: Global, code: &VProc) -> Result<Found, AllocError> {
     let count = code.blocks.len();
+    let order = flow_order(alloc, code)?;
+    let ranks = ranks_in(alloc, order.as_slice())?;
     let mut begins = Vec::with_capacity(alloc, count)?;
     let mut reached = Vec::with_capacity(alloc, count)?;
     let mut pending = Vec::with_capacity(alloc, count)?;
@@ -141,6 +148,8 @@ fn nothing(alloc: Global, code: &VProc) -> Result<Found, AllocError> {
         bare.push(false)?;
     }
     Ok(Found {
+        order,
+        ranks,
         begins,
         reached,
         pending,
@@ -248,16 +257,16 @@ fn enter(
     Ok(())
 }
 
-// Where control comes from in a sweep.
+// Where control comes from in a sweep: the place of a block in the order.
 #[derive(Clone, Copy, Debug)]
 struct Leaving {
-    block: usize,
+    rank: usize,
     is_patient: bool,
 }
 
-// Whether facts are met as they are: always in a block behind the one from which control comes.
-fn is_patient(from: Leaving, block: BlockId) -> bool {
-    from.is_patient || from.block < block.0 as usize
+// Whether facts are met as they are: always where control goes on in the order.
+fn is_patient(ranks: &[usize], from: Leaving, block: BlockId) -> bool {
+    from.is_patient || from.rank < rank_of(ranks, block)
 }
 
 fn leave(
@@ -269,10 +278,15 @@ fn leave(
 ) -> Result<(), AllocError> {
     let (one, other) = (ways.one.as_slice(), ways.other.as_slice());
     match end {
-        End::Jump(block) => enter(alloc, found, block, one, is_patient(from, block))?,
+        End::Jump(block) => {
+            let patient = is_patient(found.ranks.as_slice(), from, block);
+            enter(alloc, found, block, one, patient)?;
+        }
         End::Branch(_, first, second) => {
-            enter(alloc, found, first, one, is_patient(from, first))?;
-            enter(alloc, found, second, other, is_patient(from, second))?;
+            let patient = is_patient(found.ranks.as_slice(), from, first);
+            enter(alloc, found, first, one, patient)?;
+            let patient = is_patient(found.ranks.as_slice(), from, second);
+            enter(alloc, found, second, other, patient)?;
         }
         End::Return => {}
     }
@@ -309,15 +323,13 @@ fn sweep(
     is_patient: bool,
 ) -> Result<bool, AllocError> {
     let mut any = false;
-    for b in 0..code.blocks.len() {
-        if is_marked(found.pending.as_slice(), b) {
+    for rank in 0..found.order.len() {
+        let b = number_at(found.order.as_slice(), rank);
+        if b < code.blocks.len() && is_marked(found.pending.as_slice(), b) {
             unmark(&mut found.pending, b);
             any = true;
             let out = go_through(alloc, code, wanted, found.begins.as_slice(), b)?;
-            let from = Leaving {
-                block: b,
-                is_patient,
-            };
+            let from = Leaving { rank, is_patient };
             leave(alloc, found, from, code.blocks[b].end, &out)?;
         }
     }
@@ -353,9 +365,9 @@ fn settle(
     Ok(false)
 }
 
-fn mark_back(bare: &mut Vec<bool>, from: usize, block: BlockId) {
-    if block.0 as usize <= from {
-        mark(bare, block.0 as usize);
+fn mark_back(found: &mut Found, from: usize, block: BlockId) {
+    if rank_of(found.ranks.as_slice(), block) <= number_at(found.ranks.as_slice(), from) {
+        mark(&mut found.bare, block.0 as usize);
     }
 }
 
@@ -363,10 +375,10 @@ fn mark_back(bare: &mut Vec<bool>, from: usize, block: BlockId) {
 fn lay_bare(code: &VProc, found: &mut Found) {
     for (b, block) in code.blocks.as_slice().iter().enumerate() {
         match block.end {
-            End::Jump(next) => mark_back(&mut found.bare, b, next),
+            End::Jump(next) => mark_back(found, b, next),
             End::Branch(_, one, other) => {
-                mark_back(&mut found.bare, b, one);
-                mark_back(&mut found.bare, b, other);
+                mark_back(found, b, one);
+                mark_back(found, b, other);
             }
             End::Return => {}
         }
@@ -391,6 +403,8 @@ pub fn find_facts(
         let _settled = settle(alloc, code, wanted, &mut found)?;
     }
     let Found {
+        order: _,
+        ranks: _,
         begins,
         reached: _,
         pending: _,
