@@ -1,10 +1,10 @@
 """Which lines of the source a block came from, found again by the text.
 
-The compiler keeps no positions behind its tree. But calls, reads, writes, divisions, comparisons and
-tests of indexes stand in the code in the order of the text, and so do blocks. So the words of the
-source that make them are laid beside the instructions, by long common stretches, and a block came
-from the lines of those that stand in it. What was merged or dropped has no partner, and a block
-without any has no lines.
+The compiler keeps no positions behind its tree. But calls, reads, writes, divisions, comparisons
+and tests of indexes stand in the code in the order of the text, and so do blocks, but that the test
+of a WHILE stands behind its statements. So the words of the source that make them are laid beside
+the instructions, by long common stretches, and a block came from the lines of those that stand in
+it. What was merged or dropped has no partner, and a block without any has no lines.
 """
 
 from difflib import SequenceMatcher
@@ -38,6 +38,7 @@ class Source:
         self.reserved = grammar.read().reserved
         self.found = []  # of each procedure, in the order of headings, its anchors and their lines
         self.numbers = {}  # of procedures, by their names
+        self.open = []  # of each open WHILE where its test begins and ends, of an IF nothing
         self.read()
 
     def is_name(self, at):
@@ -60,7 +61,20 @@ class Source:
             elif word == "END" and self.is_name(at + 1) and around:
                 around.pop()
             elif around and around[-1][1]:
+                self.turn(word, self.found[around[-1][0]])
                 self.take(at, self.found[around[-1][0]])
+
+    def turn(self, word, found):
+        """Puts what the test of a WHILE makes behind what its statements make."""
+        if word in ("IF", "WHILE"):
+            self.open.append([len(found)] if word == "WHILE" else [])
+        elif word == "DO":
+            self.open[-1].append(len(found))
+        elif word == "END":
+            test = self.open.pop()
+            if test:
+                begin, middle = test
+                found[begin:] = found[middle:] + found[begin:middle]
 
     def take(self, at, found):
         """Takes the anchor that a word of a statement is, if it is one."""

@@ -234,7 +234,7 @@
       out += `<text x="${boxX(b) + 8}" y="${mid(from) + 4}">block ${from}</text></a>`;
     });
     return `<figure><svg viewBox="0 0 ${wide} ${high}" width="${wide}" role="img" aria-label="Blocks and where they lead">${out}</svg>` +
-      `<figcaption>Blocks in the order of the text, further right where more loops are around them. Thick blue lines lead back: they close loops.</figcaption></figure>`;
+      `<figcaption>Blocks in the order of the code, further right where more loops are around them. Thick blue lines lead back: they close loops.</figcaption></figure>`;
   }
 
   // ---- grids

@@ -127,10 +127,15 @@ class Statements:
             self.at += 1
 
     def conditional(self):
-        while self.skip("IF", "WHILE", "ELSIF"):
+        while self.word() in ("IF", "WHILE", "ELSIF"):
+            is_loop, begin = self.word() == "WHILE", len(self.found)
+            self.at += 1
             self.expression()
+            middle = len(self.found)
             self.skip("THEN", "DO")
             self.sequence()
+            if is_loop:  # its test stands behind its statements
+                self.found[begin:] = self.found[middle:] + self.found[begin:middle]
         if self.skip("ELSE"):
             self.sequence()
         self.skip("END")

@@ -27,7 +27,7 @@ pub record AreTidied (program : Checked) (codes : List VProc) : Type 0 where
   pub each : (p : ℕ) (code : VProc) → slice_get codes p ≡ Some code → IsTidied program p code
 
 -- Tidy code of procedure p, valid alone and in its module, with the counts that selection keeps.
--- Its blocks stand in the order of the text, each in as many loops as what it is made for.
+-- Its blocks stand as selection lists them, each in as many loops as what it is made for.
 pub record IsCodeOf (program : Checked) (p : ℕ) (proc : CheckedProc) (code : VProc)
     : Type 0 where
   pub id : code.id.0 ≡ p

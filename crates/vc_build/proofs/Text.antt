@@ -1,18 +1,16 @@
--- Blocks in the order in which they are entered: parts one after the other, and blocks that are
+-- Blocks in the order in which they are listed: parts one after the other, and blocks that are
 -- opened before they are entered.
-use Rattle.std.proofs.Common.{◌≡◌, ◌≢◌, ℕ, zero, suc, ◌+◌, ◌<◌, ◌≤◌, ◌⊎◌, List, [], ◌∷◌, ◌++◌}
-use Rattle.std.proofs.Common.{length, refl, sym, ap, ◌∙◌, subst, ⊎_elim, inl, inr, arith}
-use Rattle.std.proofs.Common.{append_assoc, append-nil, length-append}
+use Rattle.std.proofs.Common.{◌≡◌, ◌≢◌, ℕ, zero, suc, ◌+◌, ◌<◌, ◌≤◌, List, [], ◌∷◌, ◌++◌, length}
+use Rattle.std.proofs.Common.{refl, sym, ap, ◌∙◌, subst, ⊎_elim, arith, append_assoc, append-nil}
+use Rattle.std.proofs.Common.{length-append}
 use Rattle.std.specs.Prelude.{nat_eq, if◌then◌else◌}
-use Rattle.std.proofs.lemmas.Bool.{cases_eq, cases_lt}
+use Rattle.std.proofs.lemmas.Bool.{cases_eq}
 use Rattle.pra_list.proofs.Truths.{false_from, nat_is, itself}
-use Rattle.pra_base.specs.Code.{end_of, IsTarget}
 use Rattle.pra_base.specs.declared.ids.BlockId.{BlockId}
 use Rattle.pra_base.specs.declared.code.Block.{Block}
 use Rattle.pra_base.specs.declared.code.VProc.{VProc}
-use Rattle.vc_build.specs.Grow.{count, stand_in, IsOpen, Grows, GrowsAt, with_open_block}
-use Rattle.vc_build.specs.Text.{depth_at, is_one, times, below, HaveDepths, Enters, IsLast}
-use Rattle.vc_build.specs.Text.{ComesBefore, IsBack, AreInText, MayLead, GoesOn}
+use Rattle.vc_build.specs.Grow.{count, Grows, GrowsAt, with_open_block}
+use Rattle.vc_build.specs.Text.{depth_at, is_one, times, below, HaveDepths, Enters, IsLast, GoesOn}
 use Rattle.vc_build.proofs.Growth.{grows_same, opened_block, opened_count, opened_kept}
 
 -- ---- numbers and lists
@@ -107,149 +105,15 @@ enters_before old mid new o1 o2 ds grows none p = enters_on old mid new o1 o1 o2
 pub last_is : (order : List BlockId) (b : BlockId) → IsLast (order ++ b ∷ []) b.0
 last_is order b = record { rest = order; last = b; is = refl; number = refl }
 
--- ---- where blocks lead
-
-pub back_later : (old new : VProc) (b t : ℕ) → count old ≤ count new →
-    ((k : ℕ) → k < count old → depth_at new k ≡ depth_at old k) → b < count old → IsBack old b t →
-    IsBack new b t
-back_later old new b t le kept lt back = (
-  omega (arith, back.0, le),
-  omega (arith, kept t back.0, back.1),
-  kept b lt ∙ back.2 ∙ sym (kept t back.0),
-)
-
-pub before_later : (order more : List BlockId) (b t : ℕ) → ComesBefore order b t →
-    ComesBefore (order ++ more) b t
-before_later order more b t p = record {
-  first = p.first;
-  rest = p.rest ++ more;
-  is = ap (λ l. l ++ more) p.is ∙ append_assoc p.first p.rest more;
-  there = p.there;
-  not_yet = p.not_yet;
-}
-
-either_later : (old new : VProc) (order more : List BlockId) (b t : ℕ) → count old ≤ count new →
-    ((k : ℕ) → k < count old → depth_at new k ≡ depth_at old k) → b < count old →
-    ComesBefore order b t ⊎ IsBack old b t → ComesBefore (order ++ more) b t ⊎ IsBack new b t
-either_later old new order more b t le kept lt p = ⊎_elim (λ x. inl (before_later order more b t x))
-    (λ x. inr (back_later old new b t le kept lt x)) p
-
--- blocks that are closed in later code were so before
-pub text_grown : (at : ℕ) (old new : VProc) (order : List BlockId) → count old ≤ count new →
-    ((k : ℕ) → k < count old → depth_at new k ≡ depth_at old k) →
-    ((b : ℕ) → b < count new → end_of new b ≢ stand_in → (b < count old) ×
-    (end_of new b ≡ end_of old b)) → AreInText old order at → AreInText new order at
-text_grown at old new order le kept closed p = record {
-  known = λ b ge. p.known b (omega (arith, ge, le));
-  here = p.here;
-  lead = λ b t lt real target.
-      let was = closed b lt real in
-      ⊎_elim (λ x. inl x) (λ x. inr (back_later old new b t le kept was.0 x))
-      (p.lead b t was.0 (λ e. real (was.1 ∙ e)) (subst (λ e. IsTarget e t) was.1 target));
-}
-
-module _ (at : ℕ) (old new : VProc) (order : List BlockId) (grows : GrowsAt at old new) where
-  depths_kept : (k : ℕ) → k < count old → depth_at new k ≡ depth_at old k
-  depths_kept k lt = (grows.grows.kept k lt).depth
-
-  -- an open block is longer
-  pub text_same : count new ≤ count old → IsOpen new at → AreInText old order at →
-      AreInText new order at
-  text_same none o = text_grown at old new order grows.grows.blocks depths_kept (λ b lt real.
-      let within : b < count old = omega (arith, lt, none) in (
-        within,
-        ap (λ (x : Block). x.end)
-            (grows.others b within (λ e. real (ap (λ n. end_of new n) e ∙ o.1))),
-      ))
-
-  -- an open block is closed
-  pub text_closed : count new ≤ count old → at < count old →
-      ((t : ℕ) → IsTarget (end_of new at) t → MayLead old order at t) → AreInText old order at →
-      AreInText new order at
-  text_closed none there may p = record {
-    known = λ b ge. p.known b (omega (arith, ge, grows.grows.blocks));
-    here = p.here;
-    lead = λ b t lt real target.
-        let within : b < count old = omega (arith, lt, none) in
-        ⊎_elim
-        (λ (e : b ≡ at). ⊎_elim
-        (λ (new_one : times t order ≡ 0). inl
-        (record {
-          first = order;
-          rest = [];
-          is = sym (append-nil order);
-          there =
-              subst (λ n. 0 < times n order) (sym e) p.here;
-          not_yet = new_one;
-        }))
-        (λ (back : IsBack old at t). inr
-        (back_later old new b t grows.grows.blocks depths_kept within
-        (subst (λ n. IsBack old n t) (sym e) back)))
-        (may t (subst (λ n. IsTarget (end_of new n) t) e target)))
-        (λ (d : b ≢ at).
-        let same : end_of new b ≡ end_of old b =
-        ap (λ (x : Block). x.end) (grows.others b within d) in
-        ⊎_elim (λ x. inl x) (λ x. inr
-        (back_later old new b t grows.grows.blocks depths_kept within x))
-        (p.lead b t within (λ e. real (same ∙ e)) (subst (λ e. IsTarget e t) same target)))
-        (cases_eq b at);
-  }
-
--- a block is entered
-pub text_enters : (at : ℕ) (code : VProc) (order : List BlockId) (b : BlockId) → b.0 < count code →
-    AreInText code order at → AreInText code (order ++ b ∷ []) b.0
-text_enters at code order b lt p = record {
-  known = λ k ge. omega (
-    arith,
-    times-append k order (b ∷ []),
-    p.known k ge,
-    one_off b.0 k (λ e. omega (arith, e, lt, ge)),
-  );
-  here = omega (arith, times-append b.0 order (b ∷ []), one_here b.0);
-  lead = λ k t l real target. ⊎_elim (λ x. inl (before_later order (b ∷ []) k t x)) (λ x. inr x)
-      (p.lead k t l real target);
-}
-
--- a block is opened
-pub text_opened : (at d : ℕ) (old : VProc) (order : List BlockId) → AreInText old order at →
-    AreInText (with_open_block d old) order at
-text_opened at d old order = text_grown at old (with_open_block d old) order
-    (omega (arith, opened_count d old))
-    (λ k lt. ap (λ (x : Block). x.depth) (opened_kept d old k lt)) (λ b lt real. ⊎_elim
-    (λ (before : b < count old). (before, ap (λ (x : Block). x.end) (opened_kept d old b before)))
-    (λ (ge : count old ≤ b).
-    let is : b ≡ count old = omega (arith, ge, lt, opened_count d old) in
-    absurd (real (ap (λ n. end_of (with_open_block d old) n) is ∙ ap (λ (x : Block). x.end)
-    (opened_block d old))))
-    (cases_lt b (count old)))
-
--- only blocks that are new were entered
-pub entered_new : (old new : VProc) (o1 o2 : List BlockId) (ds : List ℕ) (b : ℕ) →
-    Enters old new o1 o2 ds → b < count old → times b o2 ≡ times b o1
-entered_new old new o1 o2 ds b p lt =
-    let two : times b o2 ≡ times b (o1 ++ p.more) = ap (times b) p.is in
-    let there : b < count new = omega (arith, lt, p.blocks) in
-    omega (
-      arith,
-      two,
-      times-append b o1 p.more,
-      p.once b,
-      below_in b (count old) lt,
-      below_in b (count new) there,
-    )
-
 -- ---- from one open block to another
 
 pub goes_same : (at : ℕ) (old new : VProc) (order : List BlockId) → GrowsAt at old new →
-    at < count old → count new ≤ count old → IsOpen new at → GoesOn at at old new order order []
-goes_same at old new order grows lt none o =
-    record {
-      enters = enters_same old new order grows.grows none;
-      last = λ l. l;
-      depth =
-          (grows.grows.kept at lt).depth;
-      text = text_same at old new order grows none o;
-    }
+    at < count old → count new ≤ count old → GoesOn at at old new order order []
+goes_same at old new order grows lt none = record {
+  enters = enters_same old new order grows.grows none;
+  last = λ l. l;
+  depth = (grows.grows.kept at lt).depth;
+}
 
 pub goes_on : (from between to : ℕ) (old one two : VProc) (o1 o2 o3 : List BlockId)
     (ds es : List ℕ) → GoesOn from between old one o1 o2 ds → GoesOn between to one two o2 o3 es →
@@ -258,17 +122,15 @@ goes_on from between to old one two o1 o2 o3 ds es p q = record {
   enters = enters_on old one two o1 o2 o3 ds es p.enters q.enters;
   last = λ l. q.last (p.last l);
   depth = q.depth ∙ p.depth;
-  text = λ l. q.text (p.text l);
 }
 
 pub goes_after : (from to : ℕ) (old mid new : VProc) (o1 o2 : List BlockId) (ds : List ℕ) →
-    GoesOn from to old mid o1 o2 ds → GrowsAt to mid new → count new ≤ count mid → IsOpen mid to →
-    IsOpen new to → GoesOn from to old new o1 o2 ds
-goes_after from to old mid new o1 o2 ds p grows none o still = record {
+    GoesOn from to old mid o1 o2 ds → GrowsAt to mid new → count new ≤ count mid → to < count mid →
+    GoesOn from to old new o1 o2 ds
+goes_after from to old mid new o1 o2 ds p grows none lt = record {
   enters = enters_after old mid new o1 o2 ds p.enters grows.grows none;
   last = p.last;
-  depth = (grows.grows.kept to o.0).depth ∙ p.depth;
-  text = λ l. text_same to mid new o2 grows none still (p.text l);
+  depth = (grows.grows.kept to lt).depth ∙ p.depth;
 }
 
 -- ---- a block that is opened before it is entered
@@ -419,9 +281,29 @@ module _ (old one two three new : VProc) (head : List BlockId) (x y : BlockId) (
   later_one (b ∷ bs) (k ∷ ks) h = let here = deep b k h.0 h.1 in
       (here.0, here.1, later_one bs ks h.2)
 
+  later_three : (bs : List BlockId) (ks : List ℕ) → HaveDepths three bs ks → HaveDepths new bs ks
+  later_three bs ks h = have_later three new (omega (arith, far.blocks)) far.kept bs ks h
+
   later_two : (bs : List BlockId) (ks : List ℕ) → HaveDepths two bs ks → HaveDepths new bs ks
-  later_two bs ks h = have_later three new (omega (arith, far.blocks)) far.kept bs ks
+  later_two bs ks h = later_three bs ks
       (have_later two three (omega (arith, q.blocks)) q.kept bs ks h)
+
+  first_have : HaveDepths new p.more ds
+  first_have = later_two p.more ds p.have
+
+  second_have : HaveDepths new (x ∷ q.more) (d ∷ es)
+  second_have = let here = deep x d opens.have.0 opens.have.1 in
+      (here.0, here.1, later_three q.more es q.have)
+
+  last_have : HaveDepths new (y ∷ []) (e ∷ [])
+  last_have = later_one (y ∷ []) (e ∷ []) (opens.have.2.0, opens.have.2.1, tt)
+
+  all_kept : (b : ℕ) → b < count old → depth_at new b ≡ depth_at old b
+  all_kept b lt =
+      let l1 : b < count one = omega (arith, lt, opens.blocks) in
+      let l2 : b < count two = omega (arith, l1, p.blocks) in
+      let l3 : b < count three = omega (arith, l2, q.blocks) in
+      far.kept b l3 ∙ q.kept b l2 ∙ p.kept b l1 ∙ opens.kept b lt
 
   order_is : o3 ++ y ∷ [] ≡ o1 ++ (head ++ (p.more ++ x ∷ (q.more ++ y ∷ [])))
   order_is =
@@ -447,13 +329,8 @@ module _ (old one two three new : VProc) (head : List BlockId) (x y : BlockId) (
     have =
         have_append new head fs (p.more ++ x ∷ (q.more ++ y ∷ [])) (ds ++ d ∷ (es ++ e ∷ []))
         (later_one head fs opens.have.2.2)
-        (have_append new p.more ds (x ∷ (q.more ++ y ∷ [])) (d ∷ (es ++ e ∷ []))
-        (later_two p.more ds p.have)
-        (have_append new (x ∷ []) (d ∷ []) (q.more ++ y ∷ []) (es ++ e ∷ [])
-        (later_one (x ∷ []) (d ∷ []) (opens.have.0, opens.have.1, tt))
-        (have_append new q.more es (y ∷ []) (e ∷ [])
-        (have_later three new (omega (arith, far.blocks)) far.kept q.more es q.have)
-        (later_one (y ∷ []) (e ∷ []) (opens.have.2.0, opens.have.2.1, tt)))));
+        (have_append new p.more ds (x ∷ (q.more ++ y ∷ [])) (d ∷ (es ++ e ∷ [])) first_have
+        (have_append new (x ∷ q.more) (d ∷ es) (y ∷ []) (e ∷ []) second_have last_have));
     blocks = omega (
       arith,
       far.blocks,
@@ -464,12 +341,49 @@ module _ (old one two three new : VProc) (head : List BlockId) (x y : BlockId) (
       length-append ds (d ∷ (es ++ e ∷ [])),
       length-append es (e ∷ []),
     );
-    kept = λ b lt.
-        let l1 : b < count one = omega (arith, lt, opens.blocks) in
-        let l2 : b < count two = omega (arith, l1, p.blocks) in
-        let l3 : b < count three = omega (arith, l2, q.blocks) in
-        far.kept b l3 ∙ q.kept b l2 ∙ p.kept b l1 ∙ opens.kept b lt;
+    kept = all_kept;
   }
+
+  -- the second part before the first one
+  module _ (o4 : List BlockId) (is : o4 ≡ o1 ++ (x ∷ (q.more ++ (head ++ p.more)))) where
+    turned_order : o4 ++ y ∷ [] ≡ o1 ++ (x ∷ (q.more ++ (head ++ (p.more ++ y ∷ []))))
+    turned_order =
+        ap (λ l. l ++ y ∷ []) is ∙ append_assoc o1 (x ∷ (q.more ++ (head ++ p.more))) (y ∷ [])
+        ∙ ap (λ l. o1 ++ (x ∷ l)) (append_assoc q.more (head ++ p.more) (y ∷ []))
+        ∙ ap (λ l. o1 ++ (x ∷ (q.more ++ l))) (append_assoc head p.more (y ∷ []))
+
+    pub enters_turned : Enters old new o1 (o4 ++ y ∷ []) (d ∷ (es ++ (fs ++ (ds ++ e ∷ []))))
+    enters_turned = record {
+      more = x ∷ (q.more ++ (head ++ (p.more ++ y ∷ [])));
+      is = turned_order;
+      once = λ b. omega (
+        arith,
+        times-append b q.more (head ++ (p.more ++ y ∷ [])),
+        times-append b head (p.more ++ y ∷ []),
+        times-append b p.more (y ∷ []),
+        p.once b,
+        q.once b,
+        ap (below b) same_count,
+        opens.once b,
+      );
+      have =
+          have_append new (x ∷ q.more) (d ∷ es) (head ++ (p.more ++ y ∷ []))
+          (fs ++ (ds ++ e ∷ [])) second_have
+          (have_append new head fs (p.more ++ y ∷ []) (ds ++ e ∷ [])
+          (later_one head fs opens.have.2.2)
+          (have_append new p.more ds (y ∷ []) (e ∷ []) first_have last_have));
+      blocks = omega (
+        arith,
+        far.blocks,
+        q.blocks,
+        p.blocks,
+        opens.blocks,
+        length-append es (fs ++ (ds ++ e ∷ [])),
+        length-append fs (ds ++ e ∷ []),
+        length-append ds (e ∷ []),
+      );
+      kept = all_kept;
+    }
 
 -- one behind each of two parts
 pub enters_two : (old one two three new : VProc) (x y : BlockId) (d e : ℕ) (o1 o2 o3 : List BlockId)

@@ -1,11 +1,10 @@
--- The order of the text: blocks in the order in which they are entered, each once, and how many
--- loops stand around each of them.
-use Rattle.std.specs.Prelude.{◌≡◌, ◌≢◌, ℕ, zero, suc, ◌+◌, ◌<◌, ◌≤◌, ◌⊎◌, List, [], ◌∷◌, ◌++◌}
-use Rattle.std.specs.Prelude.{length, nat_eq, if◌then◌else◌}
-use Rattle.pra_base.specs.Code.{block_of, end_of, IsTarget}
+-- The order in which blocks are listed: each of them once, and how many loops stand around each.
+use Rattle.std.specs.Prelude.{◌≡◌, ℕ, zero, suc, ◌+◌, ◌<◌, List, [], ◌∷◌, ◌++◌, length, nat_eq}
+use Rattle.std.specs.Prelude.{if◌then◌else◌}
+use Rattle.pra_base.specs.Code.{block_of}
 use Rattle.pra_base.specs.declared.ids.BlockId.{BlockId}
 use Rattle.pra_base.specs.declared.code.VProc.{VProc}
-use Rattle.vc_build.specs.Grow.{count, stand_in}
+use Rattle.vc_build.specs.Grow.{count}
 
 -- the depth of a block
 abbrev pub depth_at : VProc → ℕ → ℕ
@@ -50,34 +49,6 @@ pub record IsLast (order : List BlockId) (b : ℕ) : Type 0 where
   pub is : order ≡ rest ++ last ∷ []
   pub number : last.0 ≡ b
 
--- ---- where blocks lead
-
--- One block comes before another in an order: it is in a first part of it in which the other one
--- is not.
-pub record ComesBefore (order : List BlockId) (b t : ℕ) : Type 0 where
-  pub first : List BlockId
-  pub rest : List BlockId
-  pub is : order ≡ first ++ rest
-  pub there : 0 < times b first
-  pub not_yet : times t first ≡ 0
-
--- An end of the block b that leads to t leads back in a loop: both stand in loops, and in as many.
-abbrev pub IsBack : VProc → (b t : ℕ) → Type 0
-IsBack code b t =
-    (t < count code) × (0 < depth_at code t) × (depth_at code b ≡ depth_at code t)
-
--- Blocks of the code were entered in this order, `at` among them. Each closed block comes before
--- the blocks to which it leads, but for those to which it leads back.
-pub record AreInText (code : VProc) (order : List BlockId) (at : ℕ) : Type 0 where
-  pub known : (b : ℕ) → count code ≤ b → times b order ≡ 0
-  pub here : 0 < times at order
-  pub lead : (b t : ℕ) → b < count code → end_of code b ≢ stand_in → IsTarget (end_of code b) t →
-      ComesBefore order b t ⊎ IsBack code b t
-
--- The block `at` may lead to this one: it has not been entered yet, or that leads back.
-abbrev pub MayLead : VProc → List BlockId → (at t : ℕ) → Type 0
-MayLead code order at t = (times t order ≡ 0) ⊎ IsBack code at t
-
 -- ---- added code
 
 -- Code leads from one open block to another, which is as deep, and was entered last if the first
@@ -87,11 +58,3 @@ pub record GoesOn (from to : ℕ) (old new : VProc) (before after : List BlockId
   pub enters : Enters old new before after depths
   pub last : IsLast before from → IsLast after to
   pub depth : depth_at new to ≡ depth_at old from
-  pub text : AreInText old before from → AreInText new after to
-
--- The same of code that leaves its block for two others.
-pub record Leaves (from holds fails : ℕ) (old new : VProc) (before after : List BlockId)
-    (depths : List ℕ) : Type 0 where
-  pub enters : Enters old new before after depths
-  pub text : AreInText old before from → MayLead old before from holds →
-      MayLead old before from fails → AreInText new after from

@@ -1,25 +1,19 @@
 -- Lists of blocks, each once, as orders.
 use Rattle.std.proofs.Common.{◌≡◌, ◌≢◌, ℕ, zero, suc, ◌+◌, ◌<◌, ◌≤◌, ◌⊎◌, inl, inr, ⊎_elim, List}
-use Rattle.std.proofs.Common.{[], ◌∷◌, ◌++◌, length, map, refl, sym, ap, ◌∙◌, subst, arith}
-use Rattle.std.proofs.Common.{length-append}
+use Rattle.std.proofs.Common.{[], ◌∷◌, length, map, refl, sym, ap, ◌∙◌, arith, length-append}
 use Rattle.std.specs.List.{swap}
-use Rattle.std.proofs.Math.ListN.{get_or, get_or-append}
+use Rattle.std.proofs.Math.ListN.{get_or}
 use Rattle.std.proofs.Math.Seq.{get_or-append_seam}
 use Rattle.std.proofs.lemmas.Bool.{cases_eq, cases_lt}
-use Rattle.std.proofs.lemmas.Option.{slice_get-get_or, slice_get_within}
-use Rattle.pra_base.specs.Code.{no_block, block_of, end_of, IsTarget}
+use Rattle.pra_base.specs.Code.{block_of}
 use Rattle.pra_base.specs.declared.ids.BlockId.{BlockId}
 use Rattle.pra_base.specs.declared.code.Block.{Block}
-use Rattle.pra_base.specs.declared.code.End.{End}
-use Rattle.pra_base.specs.declared.code.End.TheVariants.{Jump, Branch, Return}
 use Rattle.pra_base.specs.declared.code.VProc.{VProc}
-use Rattle.vc_build.specs.Grow.{count, stand_in}
-use Rattle.vc_build.specs.Text.{depth_at, is_one, times, ComesBefore, IsBack, IsLast}
-use Rattle.vc_build.specs.Text.{AreInText}
-use Rattle.vc_build.proofs.Text.{one_here, one_off, below_in, below_out}
-use Rattle.vc_order.specs.Order.{Places, place_in, number_at, end_with, block_with, blocks_in}
-use Rattle.vc_order.specs.Order.{depths, IsOrder, IsListing, IsInOrder}
-use Rattle.vc_order.proofs.Kept.{block_is}
+use Rattle.vc_build.specs.Grow.{count}
+use Rattle.vc_build.specs.Text.{depth_at, is_one, times, IsLast}
+use Rattle.vc_build.proofs.Text.{one_here, below_in, below_out}
+use Rattle.vc_order.specs.Order.{Places, place_in, number_at, block_with, blocks_in, depths, IsOrder}
+use Rattle.vc_order.specs.Order.{IsListing, IsInOrder}
 use Rattle.vc_order.proofs.Orders.{any_default, swapped_first, swapped_second, swapped_other}
 use Rattle.vc_order.proofs.Orders.{reordered}
 
@@ -32,21 +26,6 @@ pub at_place : (xs : List BlockId) (i : ℕ) → i < length xs → 0 < times (nu
 at_place [] i lt = absurd (omega (arith, lt))
 at_place (x ∷ xs) zero lt = omega (arith, one_here x.0)
 at_place (x ∷ xs) (suc i) lt = omega (arith, at_place xs i (omega (arith, lt)))
-
-pub record IsFound (xs : List BlockId) (b : ℕ) : Type 0 where
-  pub place : ℕ
-  pub within : place < length xs
-  pub here : number_at xs place ≡ b
-
-pub found : (xs : List BlockId) (b : ℕ) → 0 < times b xs → IsFound xs b
-found [] b some = absurd (omega (arith, some))
-found (x ∷ xs) b some = ⊎_elim
-    (λ (e : x.0 ≡ b). record { place = 0; within = omega arith; here = e })
-    (λ (off : x.0 ≢ b).
-    let rest = found xs b (omega (arith, some, one_off x.0 b off)) in
-    let in_rest = rest.within in
-    record { place = suc rest.place; within = omega (arith, in_rest); here = rest.here })
-    (cases_eq x.0 b)
 
 pub twice : (xs : List BlockId) (i j : ℕ) → i < j → j < length xs → number_at xs i ≡
     number_at xs j → 2 ≤ times (number_at xs j) xs
@@ -152,100 +131,7 @@ in_order to from code new ids is made listing same = record {
       (omega (arith, is.blocks, listing.many)) (λ c lt. same c (omega (arith, lt, listing.many)));
 }
 
--- ---- where blocks lead
-
-target_in : (to : Places) (e : End) (t : ℕ) → IsTarget (end_with to e) t → (u : ℕ) ×
-    (IsTarget e u) × (to u ≡ t)
-target_in to (Jump b) t is = (b.0, refl, is)
-target_in to (Branch k one other) t is = ⊎_elim (λ (e : to one.0 ≡ t). (one.0, inl refl, e))
-    (λ (e : to other.0 ≡ t). (other.0, inr refl, e)) is
-target_in to Return t is = absurd is
-
-module _ (code new : VProc) (ids : List BlockId) (at c t : ℕ) (order : IsInOrder code ids new)
-    (listing : IsListing (count code) ids) (text : AreInText code ids at) (lt : c < count code)
-  where
-    from_is : (k : ℕ) → k < count code → order.from k ≡ number_at ids k
-    from_is k l = order.listed k (omega (arith, l, listing.many))
-
-    -- where a block of a first part stands
-    in_first : (first rest : List BlockId) → ids ≡ first ++ rest → (b : ℕ) → 0 < times b first →
-        order.to b < length first
-    in_first first rest is b some =
-        let place = found first b some in
-        let in_it = place.within in
-        let within : place.place < count code =
-        omega (arith, in_it, ap (λ l. length l) is, length-append first rest, listing.many) in
-        let here : order.from place.place ≡ b = from_is place.place within
-        ∙ ap (λ l. number_at l place.place) is ∙ ap (λ (z : BlockId). z.0)
-        (get_or-append first rest none place.place in_it) ∙ place.here in
-        omega (arith, ap order.to (sym here), order.reordered.forth place.place within, in_it)
-
-    not_in_first : (first rest : List BlockId) → ids ≡ first ++ rest → (b : ℕ) → b < count code →
-        times b first ≡ 0 → length first ≤ order.to b
-    not_in_first first rest is b there never = ⊎_elim
-        (λ (early : order.to b < length first).
-        let within : order.to b < count code =
-        omega (arith, early, ap (λ l. length l) is, length-append first rest, listing.many) in
-        let here : number_at first (order.to b) ≡ b =
-        sym (ap (λ (z : BlockId). z.0) (get_or-append first rest none (order.to b) early))
-        ∙ sym (ap (λ l. number_at l (order.to b)) is) ∙ sym (from_is (order.to b) within)
-        ∙ order.reordered.back b there in
-        absurd (omega (
-          arith,
-          at_place first (order.to b) early,
-          ap (λ z. times z first) here,
-          never,
-        )))
-        (λ (late : length first ≤ order.to b). late)
-        (cases_lt (order.to b) (length first))
-
-    depth_there : (k : ℕ) → k < count code → depth_at new k ≡ depth_at code (order.from k)
-    depth_there k l = ap (λ (b : Block). b.depth)
-        (block_is order.to order.from code new order.reordered k l)
-
-    there_too : (u : ℕ) → u < count code → order.to u < count code
-    there_too u l =
-        let some = order.reordered.blocks u (block_of code u)
-        (slice_get-get_or code.blocks u no_block l) in
-        omega (
-          arith,
-          slice_get_within new.blocks (order.to u) (block_with order.to (block_of code u))
-              some,
-          order.reordered.count,
-        )
-
-    pub ahead : ((b u : ℕ) → b < count code → IsTarget (end_of code b) u → u < count code) →
-        end_of code (order.from c) ≢ stand_in → IsTarget (end_of new c) t → (c < t) ⊎
-        ((0 < depth_at new t) × (depth_at new c ≡ depth_at new t))
-    ahead targets real target =
-        let b = order.from c in
-        let b_there : b < count code = order.reordered.within c lt in
-        let moved = target_in order.to (end_of code b) t
-        (subst (λ (e : End). IsTarget e t)
-        (ap (λ (k : Block). k.end) (block_is order.to order.from code new order.reordered c lt))
-        target) in
-        let u = moved.0 in
-        let u_there : u < count code = targets b u b_there moved.1 in
-        let here : order.to b ≡ c = order.reordered.forth c lt in
-        let t_there : t < count code = omega (arith, there_too u u_there, moved.2) in
-        let u_is : order.from t ≡ u = ap order.from (sym moved.2)
-        ∙ order.reordered.back u u_there in
-        ⊎_elim
-        (λ (before : ComesBefore ids b u). inl
-        (omega (
-          arith,
-          in_first before.first before.rest before.is b before.there,
-          not_in_first before.first before.rest before.is u u_there before.not_yet,
-          here,
-          moved.2,
-        )))
-        (λ (back : IsBack code b u).
-        let t_deep : depth_at new t ≡ depth_at code u = depth_there t t_there
-        ∙ ap (depth_at code) u_is in
-        inr (omega (arith, t_deep, back.1), depth_there c lt ∙ back.2 ∙ sym t_deep))
-        (text.lead b u b_there real moved.1)
-
--- the block that was entered last stands last
+-- the block that is listed last stands last
 pub last_place : (code new : VProc) (ids : List BlockId) (order : IsInOrder code ids new) →
     IsListing (count code) ids → (last : ℕ) → IsLast ids last → suc (order.to last) ≡ count code
 last_place code new ids order listing last l =

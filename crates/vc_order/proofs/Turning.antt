@@ -28,8 +28,7 @@ use Rattle.pra_base.specs.Operands.{reads, writes}
 use Rattle.pra_base.specs.Valid.{EntryBlock, LastReturn, EndsWithCmp, CmpBeforeBranch, DivisionApart}
 use Rattle.pra_base.specs.Valid.{LiveAtEntry, PushesLead, PushesBeforeCalls, TakesAny, ClearFirst}
 use Rattle.pra_base.specs.Valid.{KeepsBlockRules, IsValid, instruction_count}
-use Rattle.vc_build.specs.Text.{depth_at}
-use Rattle.vc_order.specs.Order.{depths, LeadOn}
+use Rattle.vc_order.specs.Order.{depths}
 use Rattle.vc_order.specs.Turned.{opposite, turned_end, turned, IsTurned, IsShort}
 
 -- ---- conditions
@@ -263,16 +262,6 @@ module _ (old new : VProc) (is : IsTurned old new) where
 
   pub depths_too : depths new ≡ depths old
   depths_too = same_depths old.blocks new.blocks is.count (same_depth old new is)
-
-  pub lead_too : LeadOn old → LeadOn new
-  lead_too r b t lt target =
-      let long : length new.blocks ≡ length old.blocks = is.count in
-      ⊎_elim (λ (l : b < t). inl l)
-      (λ (z : (0 < depth_at old t) × (depth_at old b ≡ depth_at old t)). inr (
-        omega (arith, z.0, same_depth old new is t),
-        same_depth old new is b ∙ z.1 ∙ sym (same_depth old new is t),
-      ))
-      (r b t (omega (arith, lt, long)) (same_target old new is b t target))
 
 -- ---- the loop over the blocks
 

@@ -1,6 +1,5 @@
 -- When code is other code with its blocks in another order. Nothing here speaks of runs.
-use Rattle.std.specs.Prelude.{◌≡◌, ℕ, ◌<◌, ◌⊎◌, List, length, map, slice_get, slice_index_or}
-use Rattle.std.specs.Prelude.{Some}
+use Rattle.std.specs.Prelude.{◌≡◌, ℕ, ◌<◌, List, length, map, slice_get, slice_index_or, Some}
 use Rattle.std.specs.List.{range_with_len}
 use Rattle.std.specs.List.Sorted.{IsPermutation}
 use Rattle.pra_base.specs.declared.ids.BlockId.{BlockId}
@@ -8,7 +7,7 @@ use Rattle.pra_base.specs.declared.code.End.{End}
 use Rattle.pra_base.specs.declared.code.End.TheVariants.{Jump, Branch, Return}
 use Rattle.pra_base.specs.declared.code.Block.{Block}
 use Rattle.pra_base.specs.declared.code.VProc.{VProc}
-use Rattle.pra_base.specs.Code.{block_of, end_of, IsTarget}
+use Rattle.pra_base.specs.Code.{block_of}
 use Rattle.pra_base.specs.Valid.{instruction_count}
 use Rattle.vc_build.specs.Text.{times, below, depth_at}
 
@@ -85,12 +84,3 @@ pub record IsInOrder (code : VProc) (ids : List BlockId) (new : VProc) : Type 0 
   pub reordered : Reordered to from code new
   pub listed : (c : ℕ) → c < length ids → from c ≡ number_at ids c
   pub depths : depths new ≡ map (λ b. depth_at code b.0) ids
-
--- ---- where blocks lead
-
--- Each block leads only to blocks that stand behind it; but in a loop it may lead back, to a block
--- that stands in as many loops.
-abbrev pub LeadOn : VProc → Type 0
-LeadOn code =
-    (b t : ℕ) → b < length code.blocks → IsTarget (end_of code b) t →
-    (b < t) ⊎ ((0 < depth_at code t) × (depth_at code b ≡ depth_at code t))

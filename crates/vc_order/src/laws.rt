@@ -1,19 +1,17 @@
 // What holds of code whose blocks are in another order. Each function is a law: its contract is the
 // statement, and it does nothing.
 
-ghost use Rattle.std.specs.Prelude.{◌≡◌, ◌≢◌, ℕ, suc, ◌<◌, ◌≤◌, ◌⊎◌, not, List, Some, slice_get};
-ghost use Rattle.pra_base.specs.Code.{block_of, end_of, IsTarget};
+ghost use Rattle.std.specs.Prelude.{◌≡◌, ◌≢◌, ℕ, suc, ◌<◌, ◌≤◌, not, List, Some, slice_get};
+ghost use Rattle.pra_base.specs.Code.{block_of, end_of};
 ghost use Rattle.pra_base.specs.Valid.{IsValid, PushesBeforeCalls, TakesArgs, instruction_count};
 ghost use Rattle.pra_base.specs.Words.{compares};
-ghost use Rattle.pra_base.specs.declared.ids.BlockId.{BlockId};
 ghost use Rattle.pra_base.specs.declared.ids.Cond.{Cond};
 ghost use Rattle.pra_base.specs.declared.code.VProc.{VProc};
 ghost use Rattle.pra_base.specs.declared.code.VarKind.TheVariants.{Param};
 ghost use Rattle.vc_build.specs.Grow.{count, stand_in, IsOpen};
 ghost use Rattle.vc_expr.specs.Readable.{Entries, Certifies};
 ghost use Rattle.vc_expr.specs.Rules.{KeepsRules, IsComplete};
-ghost use Rattle.vc_build.specs.Text.{AreInText, depth_at};
-ghost use Rattle.vc_order.specs.Order.{IsInOrder, IsListing, LeadOn, Places, Reordered, depths};
+ghost use Rattle.vc_order.specs.Order.{Places, Reordered, depths};
 ghost use Rattle.vc_order.specs.Turned.{IsTurned, opposite};
 ghost use Rattle.vc_same.specs.SameRuns.{SameRuns};
 
@@ -43,16 +41,6 @@ pub fn rules_know_no_order()
         (b : ℕ) → (block_of new b).depth ≤ most }
 {}
 
-/// Where each closed block of the old code comes before those to which it leads, or leads back in a
-/// loop, each block of the new code leads to blocks that stand behind it, or back in a loop.
-pub fn ahead_stays_ahead()
-    ensures { (code new : VProc) (ids : List BlockId) (at c t : ℕ) →
-        (order : IsInOrder code ids new) → IsListing (count code) ids → AreInText code ids at →
-        ((b u : ℕ) → b < count code → IsTarget (end_of code b) u → u < count code) →
-        c < count code → end_of code (order.from c) ≢ stand_in → IsTarget (end_of new c) t →
-        (c < t) ⊎ ((0 < depth_at new t) × (depth_at new c ≡ depth_at new t)) }
-{}
-
 /// A condition holds where its opposite does not.
 pub fn opposite_conditions_negate()
     ensures { (k : Cond) (a b : ℕ) → compares (opposite k) a b ≡ not (compares k a b) }
@@ -65,7 +53,7 @@ pub fn turned_branches_make_no_difference()
 {}
 
 /// Code with branches turned round keeps what the old code does: it is valid, calls with as many
-/// arguments, has the depths of the blocks and leads on as that does.
+/// arguments, and has the depths of the blocks.
 pub fn turned_code_stays_valid()
     ensures valid { (old new : VProc) → IsTurned old new → IsValid old → IsValid new }
     ensures pushes { (counts : List ℕ) (old new : VProc) → IsTurned old new →
@@ -74,5 +62,4 @@ pub fn turned_code_stays_valid()
     ensures instructions { (old new : VProc) → IsTurned old new →
         instruction_count new.blocks ≡ instruction_count old.blocks }
     ensures depths { (old new : VProc) → IsTurned old new → depths new ≡ depths old }
-    ensures leads { (old new : VProc) → IsTurned old new → LeadOn old → LeadOn new }
 {}

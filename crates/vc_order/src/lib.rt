@@ -4,16 +4,13 @@
 //! speaks of no runs. By the laws (`laws`) such code may stand in the place of the old code in
 //! every module, and keeps the rules of code under construction with their certificate; what is
 //! open in the old code is open at its new place. So code is made in whatever order its blocks are
-//! opened, and is finished in the order of the text.
-//!
-//! `in_listed_order` brings the blocks into the order of a list, in which selection has entered
-//! them: that is the order of the text. What leads on to a block that was entered later leads on to
-//! one that stands behind (the law `ahead_stays_ahead`).
+//! opened, and is finished in the order of a list (`in_listed_order`), which selection makes of
+//! them: that of the text, but that the test of a WHILE stands behind its statements.
 //!
 //! ```text
 //! IF x = 0 THEN a ELSE b END; c     opened: 1 c    2 ELSE   3 THEN
 //! 0: .. cmp, branch 3, 2    3: a, jump 1    2: b, jump 1    1: c
-//! entered: 0, 3, 2, 1
+//! listed: 0, 3, 2, 1
 //! ```
 //!
 //! `take_short_ways` turns a branch round where the block to which it goes if its condition holds

@@ -235,7 +235,6 @@ module _ (g : Setting) (proc : CheckedProc) (of : IsSettingOf g proc)
         pushes = keeps.pushes;
         counts = few;
         depths = text_depths;
-        leads = finished.leads counts proceeds.ready.rules;
       }
 
   -- What selection of statements leaves.

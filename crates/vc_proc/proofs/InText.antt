@@ -1,18 +1,17 @@
--- The blocks of a procedure's code in the order of the text.
-use Rattle.std.proofs.Common.{◌≡◌, ◌≢◌, ℕ, zero, suc, ◌<◌, ◌≤◌, ⊎_elim, List, [], ◌∷◌, length, map}
+-- The blocks of a procedure's code in the order in which they are listed.
+use Rattle.std.proofs.Common.{◌≡◌, ℕ, zero, suc, ◌<◌, ◌≤◌, ⊎_elim, List, [], ◌∷◌, length, map}
 use Rattle.std.proofs.Common.{refl, sym, ap, ◌∙◌, subst, arith}
 use Rattle.std.specs.Prelude.{slice_index_or}
 use Rattle.std.proofs.lemmas.Bool.{cases_lt}
 use Rattle.std.proofs.lemmas.List.{get_or_past}
-use Rattle.pra_base.specs.Code.{no_block, block_of, end_of}
+use Rattle.pra_base.specs.Code.{no_block, block_of}
 use Rattle.pra_base.specs.declared.ids.BlockId.{BlockId}
 use Rattle.pra_base.specs.declared.code.Block.{Block}
 use Rattle.pra_base.specs.declared.code.VProc.{VProc}
 use Rattle.ob_syntax.specs.declared.checked.CheckedProc.{CheckedProc}
-use Rattle.vc_build.specs.Grow.{count, stand_in}
-use Rattle.vc_build.specs.Text.{depth_at, times, below, HaveDepths, Enters, IsLast, AreInText}
-use Rattle.vc_build.specs.Text.{GoesOn}
-use Rattle.vc_build.proofs.Text.{last_is, one_here, one_off}
+use Rattle.vc_build.specs.Grow.{count}
+use Rattle.vc_build.specs.Text.{depth_at, times, below, HaveDepths, Enters, IsLast, GoesOn}
+use Rattle.vc_build.proofs.Text.{last_is}
 use Rattle.vc_order.specs.Order.{depths, number_at, IsListing}
 use Rattle.vc_stmt.proofs.AtMost.{AreFew}
 use Rattle.vc_proc.specs.Opening.{opened}
@@ -37,19 +36,6 @@ is_listing old new order ds one p = record {
   once = λ b. omega (arith, ap (times b) p.is, p.once b, ap (below b) one);
   entry = ap (λ l. number_at l 0) p.is;
 }
-
--- ---- where the first block stands
-
-pub begins : (id : ℕ) (proc : CheckedProc) → AreInText (opened id proc) (first ∷ []) 0
-begins id proc = record {
-  known = λ b ge. omega (arith, one_off 0 b (λ e. omega (arith, e, ge)));
-  here = omega (arith, one_here 0);
-  lead = λ b t lt real target. absurd (only b lt real);
-}
-  where
-    only : (b : ℕ) → b < 1 → end_of (opened id proc) b ≢ stand_in → ⊥
-    only zero lt real = real refl
-    only (suc b) lt real = omega (arith, lt)
 
 -- ---- the depths
 
@@ -99,7 +85,3 @@ module _ (id : ℕ) (proc : CheckedProc) (start new : VProc) (to : ℕ) (before 
 
   pub its_last : IsLast after to
   its_last = its_goes.last (last_is [] first)
-
-  pub its_text : AreInText new after to
-  its_text = its_goes.text
-      (subst (λ (z : VProc). AreInText z (first ∷ []) 0) (sym start_is) (begins id proc))

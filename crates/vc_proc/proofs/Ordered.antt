@@ -1,4 +1,4 @@
--- Code in the order of the text whose last block is left by Return.
+-- Code in the order in which its blocks are listed, whose last block is left by Return.
 use Rattle.std.proofs.Common.{◌≡◌, ◌≢◌, ℕ, suc, ◌<◌, inl, inr, ⊎_elim, ◌⊎◌, List, length, Some}
 use Rattle.std.proofs.Common.{refl, sym, ap, ◌∙◌, subst, arith}
 use Rattle.std.specs.Prelude.{slice_get, slice_index_or}
@@ -19,13 +19,10 @@ use Rattle.pra_base.specs.declared.code.VarKind.TheVariants.{Plain}
 use Rattle.pra_base.specs.declared.code.VInstr.{VInstr}
 use Rattle.pra_base.specs.declared.code.VProc.{VProc}
 use Rattle.vc_build.specs.Grow.{count, stand_in, IsOpen, with_end}
-use Rattle.vc_build.specs.Text.{depth_at, AreInText}
 use Rattle.vc_expr.specs.Rules.{ClosesWell, KeepsRules, Obeys}
 use Rattle.vc_expr.proofs.Finished.{is_valid}
-use Rattle.vc_order.specs.Order.{Places, block_with, Reordered, IsInOrder, IsListing, LeadOn}
-use Rattle.vc_order.specs.Order.{depths}
+use Rattle.vc_order.specs.Order.{Places, block_with, Reordered, IsInOrder, depths}
 use Rattle.vc_order.proofs.Kept.{rules_kept, certificate_moves, completes}
-use Rattle.vc_order.proofs.Listings.{ahead}
 use Rattle.vc_order.specs.Turned.{IsTurned}
 use Rattle.vc_order.proofs.Beside.{same_runs, turned_runs}
 use Rattle.vc_order.proofs.Turning as turning
@@ -67,16 +64,6 @@ same_code last b code lt =
     (λ (d : b ≢ last). ap (λ (x : Block). x.code) (other_block last b code d))
     (cases_eq b last)
 
-same_depth : (last b : ℕ) (code : VProc) → last < count code →
-    (block_of (with_end last Return code) b).depth ≡ (block_of code b).depth
-same_depth last b code lt =
-    ⊎_elim
-    (λ (e : b ≡ last). ap (λ n. (block_of (with_end last Return code) n).depth) e
-    ∙ ap (λ (x : Block). x.depth) (last_block last code lt) ∙ ap (λ n. (block_of code n).depth)
-    (sym e))
-    (λ (d : b ≢ last). ap (λ (x : Block). x.depth) (other_block last b code d))
-    (cases_eq b last)
-
 -- from rules that are kept, whatever block is left by Return
 module _ (counts : List ℕ) (last : ℕ) (code : VProc) (lt : last < count code)
     (rules : KeepsRules counts code) where
@@ -86,9 +73,6 @@ module _ (counts : List ℕ) (last : ℕ) (code : VProc) (lt : last < count code
   by b t below target (inl e) = let entry : 0 ≡ t = subst (λ x. IsTarget x t) e target in
       omega (arith, below, entry)
   by b t below target (inr w) = (w.targets t target).1
-
-  targets_within : (b t : ℕ) → b < count code → IsTarget (end_of code b) t → t < count code
-  targets_within b t below target = by b t below target (rules.ends b below)
 
   keeps_on : KeepsOn counts (with_end last Return code)
   keeps_on = record {
@@ -172,37 +156,8 @@ module _ (to from : Places) (old mid : VProc) (last : ℕ) (is : Reordered to fr
   depths_stay = map-set_same (λ (b : Block). b.depth) mid.blocks (to last)
       (left_by_return (block_of mid (to last))) no_block refl
 
-  -- where the blocks lead
-  module _ (ids : List BlockId) (order : IsInOrder old ids mid) (same_to : order.to ≡ to)
-      (same_from : order.from ≡ from) (listing : IsListing (count old) ids)
-      (text : AreInText old ids last)
+  module _ (ids : List BlockId) (order : IsInOrder old ids mid)
       (closed : (b : ℕ) → b < count old → b ≢ last → end_of old b ≢ stand_in) where
-    new_count : count new ≡ count old
-    new_count = same_count (to last) mid ∙ is.count
-
-    lead_on : (counts : List ℕ) → KeepsRules counts old → LeadOn new
-    lead_on counts rules c t lt target = ⊎_elim
-        (λ (e : c ≡ to last).
-        let end : end_of new c ≡ Return = ap (end_of new) e ∙ ap (λ (x : Block). x.end)
-        (last_block (to last) mid within) in
-        absurd (subst (λ x. IsTarget x t) end target))
-        (λ (d : c ≢ to last).
-        let end : end_of new c ≡ end_of mid c =
-        ap (λ (x : Block). x.end) (other_block (to last) c mid d) in
-        let l : c < count old = omega (arith, lt, new_count) in
-        let other : order.from c ≢ last =
-        λ e. d (sym (is.forth c l) ∙ ap to (sym (ap (λ (f : Places). f c) same_from) ∙ e)) in
-        ⊎_elim (λ (z : c < t). inl z)
-        (λ (z : (0 < depth_at mid t) × (depth_at mid c ≡ depth_at mid t)). inr (
-          omega (arith, z.0, same_depth (to last) t mid within),
-          same_depth (to last) c mid within ∙ z.1 ∙ sym (same_depth (to last) t mid within),
-        ))
-        (ahead old mid ids last c t order listing text l
-        (λ b u below goes. targets_within counts last old o.0 rules b u below goes)
-        (closed (order.from c) (order.reordered.within c l) other)
-        (subst (λ x. IsTarget x t) end target)))
-        (cases_eq c (to last))
-
     -- what is left by Return at its new place
     pub finished : IsFinished old last ids new
     finished = record {
@@ -211,10 +166,9 @@ module _ (to from : Places) (old mid : VProc) (last : ℕ) (is : Reordered to fr
       args = is.args;
       aggregates = is.aggregates;
       vars = is.vars;
-      count = new_count;
+      count = same_count (to last) mid ∙ is.count;
       instructions = same_size (to last) mid within ∙ is.instructions;
       depths = depths_stay ∙ order.depths;
-      leads = lead_on;
       keeps = λ counts rules. keeps_on counts (to last) mid within
           (rules_kept to from old mid is counts rules);
       valid = λ counts known rules certifies apart entry.
@@ -240,7 +194,6 @@ turned_finished old last ids mid new f is = record {
   count = is.count ∙ f.count;
   instructions = turning.instructions_too mid new is ∙ f.instructions;
   depths = turning.depths_too mid new is ∙ f.depths;
-  leads = λ counts rules. turning.lead_too mid new is (f.leads counts rules);
   keeps = λ counts rules. keeps_too counts (f.keeps counts rules);
   valid = λ counts known rules certifies apart entry.
       turning.valid_too mid new is (f.valid counts known rules certifies apart entry);

@@ -1,4 +1,5 @@
--- Code whose last open block is left by Return, with its blocks in the order of the text.
+-- Code whose last open block is left by Return, with its blocks in the order in which they are
+-- listed.
 use Rattle.std.specs.Prelude.{◌≡◌, ℕ, ◌<◌, true, List, length, map, Some, slice_get}
 use Rattle.pra_base.specs.Code.{kind_of, end_of, IsTarget, EachInstr}
 use Rattle.pra_base.specs.Valid.{PushesBeforeCalls, TakesArgs, IsValid, instruction_count}
@@ -11,7 +12,7 @@ use Rattle.vc_build.specs.Grow.{count, with_end}
 use Rattle.vc_build.specs.Text.{depth_at}
 use Rattle.vc_expr.specs.Readable.{Entries, Certifies}
 use Rattle.vc_expr.specs.Rules.{Obeys, KeepsRules}
-use Rattle.vc_order.specs.Order.{LeadOn, depths}
+use Rattle.vc_order.specs.Order.{depths}
 use Rattle.vc_same.specs.SameRuns.{SameRuns}
 
 -- no two variables are one parameter
@@ -27,8 +28,7 @@ pub record KeepsOn (counts : List ℕ) (code : VProc) : Type 0 where
   pub targets : (b t : ℕ) → b < count code → IsTarget (end_of code b) t → t < count code
 
 -- The old code, with the block `last` left by Return, may be this code in every module; and this
--- code is valid if the old one kept the rules. Its blocks stand in the order of a list, and lead on
--- to blocks behind them but for those that lead back in a loop.
+-- code is valid if the old one kept the rules. Its blocks stand in the order of a list.
 pub record IsFinished (old : VProc) (last : ℕ) (order : List BlockId) (new : VProc) : Type 0 where
   pub same : SameRuns (with_end last Return old) new
   pub id : new.id ≡ old.id
@@ -38,7 +38,6 @@ pub record IsFinished (old : VProc) (last : ℕ) (order : List BlockId) (new : V
   pub count : length new.blocks ≡ length old.blocks
   pub instructions : instruction_count new.blocks ≡ instruction_count old.blocks
   pub depths : depths new ≡ map (λ b. depth_at old b.0) order
-  pub leads : (counts : List ℕ) → KeepsRules counts old → LeadOn new
   pub keeps : (counts : List ℕ) → KeepsRules counts old → KeepsOn counts new
   pub valid : (counts : List ℕ) (known : Entries) → KeepsRules counts old → Certifies known old →
       ParamsApart old.vars →

@@ -7,7 +7,7 @@ use Rattle.ob_syntax.specs.declared.checked.Checked.{Checked}
 use Rattle.ob_syntax.specs.declared.checked.CheckedProc.{CheckedProc}
 use Rattle.vc_expr.specs.Readable.{is_constant}
 use Rattle.vc_same.specs.SameRuns.{SameRuns}
-use Rattle.vc_order.specs.Order.{LeadOn, depths}
+use Rattle.vc_order.specs.Order.{depths}
 use Rattle.vc_stmt.specs.Depths.{depths_of_all}
 use Rattle.vc_stmt.specs.Procedures.{Embodies}
 pub use Rattle.vc_stmt.specs.Ready.{parameter_counts}
@@ -22,8 +22,9 @@ pub record KeepsCounts (proc : CheckedProc) (code : VProc) : Type 0 where
   pub locals : count_by is_plain code.vars ≤ 3 * proc.nodes + scalar_locals proc
   pub constants : count_by is_constant code.vars ≤ 4 * proc.nodes
 
--- What selection answers for a procedure: code that embodies it, with its blocks in the order of
--- the text. It is valid and sized, and each of its Calls has the Pushes that the callee takes.
+-- What selection answers for a procedure: code that embodies it, with its blocks in the order in
+-- which they are listed. It is valid and sized, and each of its Calls has the Pushes that the
+-- callee takes.
 pub record IsSelected (program : Checked) (p : ℕ) (proc : CheckedProc) (code : VProc) : Type 0 where
   -- the code in the order of its making
   pub made : VProc
@@ -36,6 +37,5 @@ pub record IsSelected (program : Checked) (p : ℕ) (proc : CheckedProc) (code :
   pub sized : IsSized code
   pub pushes : PushesBeforeCalls (TakesArgs (parameter_counts program)) code.blocks
   pub counts : KeepsCounts proc code
-  -- the blocks stand in the order of the text, each as deep as what it is made for
+  -- the blocks stand as they are listed, each as deep as what it is made for
   pub depths : depths code ≡ 0 ∷ depths_of_all proc.body 0
-  pub leads : LeadOn code

@@ -1,9 +1,9 @@
-// The last open block is left by Return, the blocks are brought into the order of the text, and
-// branches are turned round where the other way is shorter.
+// The last open block is left by Return, the blocks are brought into the order in which they are
+// listed, and branches are turned round where the other way is shorter.
 
 ghost use Rattle.std.specs.Prelude.{◌≡◌, IfOk};
 ghost use Rattle.vc_build.specs.Grow.{IsOpen, count, open_blocks};
-ghost use Rattle.vc_build.specs.Text.{AreInText, IsLast};
+ghost use Rattle.vc_build.specs.Text.{IsLast};
 ghost use Rattle.vc_order.specs.Order.{IsListing};
 ghost use Rattle.vc_proc.specs.Finished.{IsFinished};
 
@@ -14,8 +14,7 @@ use vc_build::close;
 use vc_order::{in_listed_order, take_short_ways};
 
 /// The code with its last open block, the only one, left by Return, and with its blocks in the
-/// order in which they were entered, which is that of the text. In that order its branches take
-/// the short way.
+/// order in which they are listed. In that order its branches take the short way.
 ///
 /// # Errors
 ///
@@ -30,7 +29,6 @@ pub fn finish(
     requires no_other { open_blocks code ≡ 1 }
     requires listing { IsListing (count code) order.now }
     requires is_last { IsLast order.now last.0 }
-    requires text { AreInText code order.now last.0 }
     ensures { IfOk result (λ new. IsFinished code last.0 order.now new) }
 {
     let end = number_of(code.blocks.len() - 1)?;

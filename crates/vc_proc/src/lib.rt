@@ -6,8 +6,8 @@
 //! vc_stmt has it: from the begin of a call to its return it does what the statements mean, if the
 //! calls in them do. It keeps all rules of valid and of sized code, its Calls have the Pushes that
 //! their callees take, and it has no more than so much for each node of the statements. Its blocks
-//! stand in the order of the text, each in as many loops as what it is made for (`depths`), and
-//! lead to blocks behind them, but for the loops' ways back (`leads`).
+//! stand in the order of the text, but that the test of a WHILE stands behind its statements; each
+//! is in as many loops as what it is made for (`depths`).
 //!
 //! # How the code is made
 //!
@@ -20,7 +20,8 @@
 //! `homes` gives each parameter and local its home. `opening` makes the code at whose end the
 //! statements are selected (`opened` of `specs/Opening`): one block, with the instructions after
 //! which the call has begun as vc_call asks it, its aggregates and locals 0. `finish` leaves the
-//! last open block by Return, and brings the blocks into the order of the text (`specs/Finished`).
+//! last open block by Return, and brings the blocks into the order in which they are listed
+//! (`specs/Finished`).
 //!
 //! The opening has one open block, and behind the statements as many are open (`hands_on` of
 //! vc_stmt). So there `finish` meets one open block, and answers want of memory or of a number
@@ -32,7 +33,7 @@
 //! `Embodying`: from there what vc_stmt promises of the statements leads to the state before
 //! Return. `OpenRules`: the code before the statements keeps the rules, with a certificate by which
 //! at the entry the variables of parameters alone may be read. `Ordered`: the rules, the
-//! certificate and the runs in the order of the text. `Sizes` counts, and `Answered` joins all.
+//! certificate and the runs in the new order. `Sizes` counts, and `Answered` joins all.
 #![tactic(auto)]
 
 pub mod finish;

@@ -9,10 +9,9 @@ use Rattle.ob_syntax.specs.declared.checked.ROp.{ROp}
 use Rattle.ob_syntax.specs.declared.checked.RExpr.{RExpr, RExpr-F, fold-RExpr}
 use Rattle.ob_syntax.specs.declared.checked.RStep.{RStep, RStep-F, fold-RStep}
 use Rattle.ob_syntax.specs.declared.checked.RVar.{RVar, RVar-F, fold-RVar}
-use Rattle.vc_build.specs.Text.{depth_at, GoesOn, Leaves}
+use Rattle.vc_build.specs.Text.{depth_at, Enters, GoesOn}
 use Rattle.vc_expr.specs.Division.{is_division}
 use Rattle.vc_expr.specs.Operators.{is_bitwise}
-use Rattle.vc_expr.specs.declared.branch.Targets.{Targets}
 
 -- What an expression needs: blocks where its value is wanted, blocks where it is a condition, and
 -- whether it never traps, as it has no index, DIV or MOD.
@@ -85,8 +84,6 @@ pub record StaysInText (n from to : ℕ) (old new : VProc) (before after : List 
     : Type 0 where
   pub goes : GoesOn from to old new before after (replicate n (depth_at old from))
 
--- The same of code that leaves its block for two others.
-pub record EndsInText (n from : ℕ) (targets : Targets) (old new : VProc)
-    (before after : List BlockId) : Type 0 where
-  pub leaves : Leaves from targets.holds.0 targets.fails.0 old new before after
-      (replicate n (depth_at old from))
+-- The same of code that leaves its block.
+pub record EndsInText (n from : ℕ) (old new : VProc) (before after : List BlockId) : Type 0 where
+  pub enters : Enters old new before after (replicate n (depth_at old from))

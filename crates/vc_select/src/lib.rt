@@ -34,9 +34,9 @@
 //!   that were there. A condition closes its block (`EndsReady`): from targets that await no more
 //!   than might be read at its end it is certified, and other blocks that were ready still are.
 //! - `text`, of `specs/Blocks`: exactly so many blocks are added, by the tree, each of them as deep
-//!   as the block `at`; they are entered in the order of the text, each once, and each closed block
-//!   comes before those to which it leads (`StaysInText`, `EndsInText`, over `specs/Text` of
-//!   vc_build). `needs` counts: so what cannot trap has no block of its own.
+//!   as the block `at`; they are entered in the order of the text, each once (`StaysInText`,
+//!   `EndsInText`, over `specs/Text` of vc_build). `needs` counts: so what cannot trap has no block
+//!   of its own.
 //! - `hands_on`: as many blocks are open as before, so that of new blocks the new `at` alone may be
 //!   open (`HandsOn` of vc_build). A condition leaves one less open (`closes`).
 //!

@@ -406,7 +406,7 @@ pub fn select_test(
     ensures ready { OnOk result
         (EndsReady setting.now ctx.old.code ctx.new.code ctx.old.at.0 targets) }
     ensures text { OnOk result (EndsInText (needs e.now).test
-        ctx.old.at.0 targets ctx.old.code ctx.new.code ctx.old.order ctx.new.order) }
+        ctx.old.at.0 ctx.old.code ctx.new.code ctx.old.order ctx.new.order) }
     ensures closes { OnOk result (ClosesOne ctx.old.code ctx.new.code) }
 {
     match e {
@@ -458,7 +458,7 @@ fn select_binary_test(
     ensures ready { OnOk result
         (EndsReady setting.now ctx.old.code ctx.new.code ctx.old.at.0 targets) }
     ensures text { OnOk result (EndsInText (needs e.now).test
-        ctx.old.at.0 targets ctx.old.code ctx.new.code ctx.old.order ctx.new.order) }
+        ctx.old.at.0 ctx.old.code ctx.new.code ctx.old.order ctx.new.order) }
     ensures closes { OnOk result (ClosesOne ctx.old.code ctx.new.code) }
 {
     if is_bitwise(op) {
@@ -502,7 +502,7 @@ fn select_relation_test(
     ensures ready { OnOk result
         (EndsReady setting.now ctx.old.code ctx.new.code ctx.old.at.0 targets) }
     ensures text { OnOk result (EndsInText ((needs x.now).value + (needs y.now).value)
-        ctx.old.at.0 targets ctx.old.code ctx.new.code ctx.old.order ctx.new.order) }
+        ctx.old.at.0 ctx.old.code ctx.new.code ctx.old.order ctx.new.order) }
     ensures closes { OnOk result (ClosesOne ctx.old.code ctx.new.code) }
 {
     let left = select_expr(setting, ctx, x)?;
@@ -541,7 +541,7 @@ fn select_split_test(
     ensures ready { OnOk result
         (EndsReady setting.now ctx.old.code ctx.new.code ctx.old.at.0 targets) }
     ensures text { OnOk result (EndsInText ((needs x.now).test + (1 + (needs y.now).test))
-        ctx.old.at.0 targets ctx.old.code ctx.new.code ctx.old.order ctx.new.order) }
+        ctx.old.at.0 ctx.old.code ctx.new.code ctx.old.order ctx.new.order) }
     ensures closes { OnOk result (ClosesOne ctx.old.code ctx.new.code) }
 {
     let right = open_beside(setting.alloc, &mut ctx.code, ctx.at)?;

@@ -19,8 +19,8 @@ pub struct Setting<'a> {
     pub locals: &'a [Home],
 }
 
-/// The code so far, the open block at whose end code is added, and all blocks that were entered, in
-/// the order of the text.
+/// The code so far, the open block at whose end code is added, and the blocks that were entered, in
+/// the order in which they are listed.
 #[derive(Drop)]
 pub struct Ctx {
     pub code: VProc,

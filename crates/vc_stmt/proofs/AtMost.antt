@@ -8,9 +8,9 @@ use Rattle.ob_syntax.specs.declared.checked.RStmt.{RStmt, RStmt-F, roll-RStmt, m
 use Rattle.ob_syntax.specs.declared.checked.RStmt.{fold-roll-RStmt, ind-RStmt}
 use Rattle.vc_select.specs.Blocks.{needs, needs_of_var}
 use Rattle.vc_stmt.specs.Blocks.{deeper}
-use Rattle.vc_stmt.specs.Depths.{Depths, in_all, arm_depths, if_depths, blocks_of_arguments}
-use Rattle.vc_stmt.specs.Depths.{stmt_depths, depths_of, depths_of_arm, depths_of_all}
-use Rattle.vc_stmt.specs.Depths.{depths_of_arms}
+use Rattle.vc_stmt.specs.Depths.{Depths, in_all, arm_depths, if_depths, loop_depths}
+use Rattle.vc_stmt.specs.Depths.{blocks_of_arguments, stmt_depths, depths_of, depths_of_arm}
+use Rattle.vc_stmt.specs.Depths.{depths_of_all, depths_of_arms}
 
 -- each is five at most
 abbrev pub AreFew : List ℕ → Type 0
@@ -59,6 +59,16 @@ few_if (arm ∷ arms) [] d le p q = p
 few_if (arm ∷ arms) (t ∷ ts) d le p q = few_append (in_all (arm ∷ arms) d)
     (in_all (t ∷ ts) d ++ d ∷ []) p (few_append (in_all (t ∷ ts) d) (d ∷ []) q (le, tt))
 
+few_loop : (tests : ℕ) (body : Depths) (d : ℕ) → d ≤ 5 → AreFew (body (deeper d)) →
+    AreFew (loop_depths tests body d)
+few_loop tests body d le few =
+    let inner = few_deeper d in
+    let ts = replicate tests (deeper d) in (
+      inner,
+      few_append (body (deeper d)) (deeper d ∷ (ts ++ d ∷ [])) few
+          (inner, few_append ts (d ∷ []) (few_same tests (deeper d) inner) (le, tt)),
+    )
+
 abbrev FormFew : RStmt-F RStmt RArm → Type 0
 FormFew y = (d : ℕ) → d ≤ 5 →
     AreFew (stmt_depths (map-RStmt RStmt RArm Depths Depths depths_of depths_of_arm y) d)
@@ -73,21 +83,11 @@ form_few (RStmt-F.If arms other) d le =
     few_if (map depths_of_arm (map (λ x. x.0) arms)) (map depths_of (map (λ x. x.0) other)) d le
     (few_arms arms d le) (few_statements other d le)
 form_few (RStmt-F.While test body) d le =
-    let inner = few_deeper d in
-    let ds = depths_of_all (map (λ x. x.0) body) (deeper d) in (
-      inner,
-      few_append (replicate (needs test).test (deeper d)) (deeper d ∷ (ds ++ d ∷ []))
-          (few_same (needs test).test (deeper d) inner)
-          (inner, few_append ds (d ∷ []) (few_statements body (deeper d) inner) (le, tt)),
-    )
+    few_loop (needs test).test (depths_of_all (map (λ x. x.0) body)) d le
+    (few_statements body (deeper d) (few_deeper d))
 form_few (RStmt-F.Repeat body test) d le =
-    let inner = few_deeper d in
-    let ds = depths_of_all (map (λ x. x.0) body) (deeper d) in
-    let tests = replicate (needs test).test (deeper d) in (
-      inner,
-      few_append ds (deeper d ∷ (tests ++ d ∷ [])) (few_statements body (deeper d) inner)
-          (inner, few_append tests (d ∷ []) (few_same (needs test).test (deeper d) inner) (le, tt)),
-    )
+    few_loop (needs test).test (depths_of_all (map (λ x. x.0) body)) d le
+    (few_statements body (deeper d) (few_deeper d))
 form_few (RStmt-F.Call callee args) d le = few_same (blocks_of_arguments args) d le
 form_few (RStmt-F.Read v) d le = few_same (needs_of_var v).blocks d le
 form_few (RStmt-F.Write e) d le = few_same (needs e).value d le

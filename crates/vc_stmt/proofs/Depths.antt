@@ -15,7 +15,7 @@ use Rattle.ob_syntax.specs.declared.checked.RVar.{RVar}
 use Rattle.vc_select.specs.Blocks.{needs, needs_of_var}
 use Rattle.vc_select.proofs.Arms.{next_item}
 use Rattle.vc_typed.proofs.NodeEquations.{sum-cons}
-use Rattle.vc_stmt.specs.Depths.{Depths, in_all, arm_depths, if_depths, while_depths, repeat_depths}
+use Rattle.vc_stmt.specs.Depths.{Depths, in_all, arm_depths, if_depths, loop_depths}
 use Rattle.vc_stmt.specs.Depths.{blocks_of_argument, blocks_of_arguments, stmt_depths, depths_of}
 use Rattle.vc_stmt.specs.Depths.{depths_of_arm, depths_of_all, depths_of_arms, end_depths}
 
@@ -35,12 +35,12 @@ module _ (t : RStmt) (d : ℕ) where
       ∙ ap (λ (f : Depths). f d) (stmt_roll (RStmt-F.If arms other))
 
   pub depths-While : (test : RExpr) (body : List RStmt) → t ≡ s.While test body → depths_of t d ≡
-      while_depths (needs test).test (depths_of_all body) d
+      loop_depths (needs test).test (depths_of_all body) d
   depths-While test body is = ap (λ z. depths_of z d) (is ∙ sym (s.rolls-While test body))
       ∙ ap (λ (f : Depths). f d) (stmt_roll (RStmt-F.While test body))
 
   pub depths-Repeat : (body : List RStmt) (test : RExpr) → t ≡ s.Repeat body test → depths_of t d ≡
-      repeat_depths (needs test).test (depths_of_all body) d
+      loop_depths (needs test).test (depths_of_all body) d
   depths-Repeat body test is = ap (λ z. depths_of z d) (is ∙ sym (s.rolls-Repeat body test))
       ∙ ap (λ (f : Depths). f d) (stmt_roll (RStmt-F.Repeat body test))
 

@@ -565,8 +565,7 @@ module _ (at : ℕ) (p : ProcId) (vs : List VarId) (mid new : VProc) (o : IsOpen
   call_text n from old o1 o2 stays =
       subst (λ (z : VProc). StaysInText n from at old z o1 o2) (sym is)
       (text_after n from at old mid (with_call at p vs mid) o1 o2 stays call_grows
-      (omega (arith, (appends_call at p vs mid o).blocks)) o
-      (put_open at (Call p) (with_pushes at vs mid) (pushes_open at vs mid o)))
+      (omega (arith, (appends_call at p vs mid o).blocks)) o)
 
   pub call_hands : HandsOn at at mid new
   call_hands =

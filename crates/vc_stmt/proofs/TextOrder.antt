@@ -1,29 +1,30 @@
 -- The blocks that code of statements enters, form by form.
-use Rattle.std.proofs.Common.{◌≡◌, ◌≢◌, ℕ, ◌+◌, ◌<◌, ◌≤◌, List, [], ◌∷◌, ◌++◌, refl, sym, ap, ◌∙◌}
-use Rattle.std.proofs.Common.{subst, inl, inr, arith, append_assoc, append-nil}
+use Rattle.std.proofs.Common.{◌≡◌, ℕ, ◌+◌, ◌-◌, ◌<◌, ◌≤◌, List, [], ◌∷◌, ◌++◌, length, take, drop}
+use Rattle.std.proofs.Common.{refl, sym, ap, ◌∙◌, subst, arith, append_assoc, append-nil}
+use Rattle.std.proofs.Common.{length-append}
 use Rattle.std.specs.Prelude.{replicate}
-use Rattle.pra_base.specs.Code.{block_of, end_of, IsTarget}
+use Rattle.std.specs.List.{remove_range, slice_range}
+use Rattle.std.proofs.Math.Seq.{take-append_seam, drop-append_seam}
+use Rattle.pra_base.specs.Code.{block_of}
 use Rattle.pra_base.specs.declared.ids.BlockId.{BlockId}
 use Rattle.pra_base.specs.declared.code.Block.{Block}
-use Rattle.pra_base.specs.declared.code.End.{End}
 use Rattle.pra_base.specs.declared.code.End.TheVariants.{Jump}
 use Rattle.pra_base.specs.declared.code.VInstr.{VInstr}
 use Rattle.pra_base.specs.declared.code.VProc.{VProc}
 use Rattle.vc_build.specs.Grow.{count, with_end, with_instr, with_open_block, IsOpen, GrowsAt}
-use Rattle.vc_build.specs.Text.{depth_at, times, AreInText, IsBack, MayLead, Enters, GoesOn}
-use Rattle.vc_build.proofs.Growth.{grows_same, opened_count, opened_kept, closed_block}
-use Rattle.vc_build.proofs.Growth.{closed_count, closed_grows, put_grows, put_count, put_open}
+use Rattle.vc_build.specs.Text.{depth_at, Enters, GoesOn}
+use Rattle.vc_build.proofs.Growth.{grows_same, opened_count, opened_kept, closed_count}
+use Rattle.vc_build.proofs.Growth.{closed_grows, put_grows, put_count}
 use Rattle.vc_build.proofs.Text.{enters_on, enters_after, enters_before, enters_between}
 use Rattle.vc_build.proofs.Text.{enters_behind, enters_behind_here, enters_two, enters_three}
-use Rattle.vc_build.proofs.Text.{last_is, text_closed, text_enters, text_opened, entered_new}
-use Rattle.vc_build.proofs.Text.{times-append, one_off, goes_on, Opens, opens_none, opens_more}
+use Rattle.vc_build.proofs.Text.{enters_turned, last_is, goes_on, Opens, opens_none, opens_more}
 use Rattle.vc_build.proofs.Text.{opens_rotated, opens_behind_first}
 use Rattle.vc_expr.specs.declared.branch.Targets.{Targets}
 use Rattle.vc_select.specs.Blocks.{StaysInText, EndsInText}
 use Rattle.vc_select.proofs.InText.{text_after}
 use Rattle.vc_stmt.specs.Blocks.{deeper, with_arm, with_loop}
 use Rattle.vc_stmt.specs.declared.blocks.Loop.{Loop}
-use Rattle.vc_stmt.specs.Depths.{Depths, while_depths, repeat_depths, GoesOnBeside, EndsBeside}
+use Rattle.vc_stmt.specs.Depths.{Depths, loop_depths}
 
 -- ---- an instruction
 
@@ -33,7 +34,7 @@ pub text_put : (n from at : ℕ) (i : VInstr) (old mid new : VProc) (o1 o2 : Lis
 text_put n from at i old mid new o1 o2 p o made =
     subst (λ z. StaysInText n from at old z o1 o2) (sym made)
     (text_after n from at old mid (with_instr at i mid) o1 o2 p (put_grows at i mid o)
-    (omega (arith, put_count at i mid o)) o (put_open at i mid o))
+    (omega (arith, put_count at i mid o)) o)
 
 -- ---- statements
 
@@ -60,7 +61,6 @@ goes_none at code o = record {
   };
   last = λ l. l;
   depth = refl;
-  text = λ l. l;
 }
 
 -- a statement and others behind it
@@ -71,36 +71,6 @@ goes_more from between to old one two o1 o2 o3 ds f p q =
     subst (λ d. GoesOn from to old two o1 o3 (ds ++ f d)) p.depth
     (goes_on from between to old one two o1 o2 o3 ds (f (depth_at one between)) p q)
 
-pub beside_none : (at behind : ℕ) (code : VProc) (o : List BlockId) →
-    GoesOnBeside at at behind code code o o []
-beside_none at behind code o = let p = goes_none at code o in
-    record { enters = p.enters; last = p.last; depth = p.depth; text = λ l none. l }
-
-pub beside_is : (from to behind : ℕ) (old new : VProc) (o1 o2 : List BlockId) (ds es : List ℕ) →
-    es ≡ ds → GoesOnBeside from to behind old new o1 o2 ds →
-    GoesOnBeside from to behind old new o1 o2 es
-beside_is from to behind old new o1 o2 ds es e = subst (GoesOnBeside from to behind old new o1 o2)
-    (sym e)
-
-pub beside_more : (from between to behind : ℕ) (old one two : VProc) (o1 o2 o3 : List BlockId)
-    (ds : List ℕ) (f : Depths) → behind < count old → GoesOnBeside from between behind old one o1 o2
-    ds → GoesOnBeside between to behind one two o2 o3 (f (depth_at one between)) →
-    GoesOnBeside from to behind old two o1 o3 (ds ++ f (depth_at old from))
-beside_more from between to behind old one two o1 o2 o3 ds f there p q = record {
-  enters = subst (λ d. Enters old two o1 o3 (ds ++ f d)) p.depth
-      (enters_on old one two o1 o2 o3 ds (f (depth_at one between)) p.enters q.enters);
-  last = λ l. q.last (p.last l);
-  depth = q.depth ∙ p.depth;
-  text = λ t none. q.text (p.text t none)
-      (entered_new old one o1 o2 ds behind p.enters there ∙ none);
-}
-
-pub beside_begin : (from to behind : ℕ) (old new : VProc) (o o1 o2 : List BlockId) (ds : List ℕ) →
-    o ≡ o1 → GoesOnBeside from to behind old new o o2 ds → GoesOnBeside from to behind old new o1 o2
-    ds
-beside_begin from to behind old new o o1 o2 ds e =
-    subst (λ l. GoesOnBeside from to behind old new l o2 ds) e
-
 pub goes_at : (from to : ℕ) (old new : VProc) (o o1 o2 : List BlockId) (ds : List ℕ) → o ≡ o1 →
     GoesOn from to old new o o2 ds → GoesOn from to old new o1 o2 ds
 goes_at from to old new o o1 o2 ds e = subst (λ l. GoesOn from to old new l o2 ds) e
@@ -109,15 +79,9 @@ pub goes_end : (from to : ℕ) (old new : VProc) (o1 o o2 : List BlockId) (ds : 
     GoesOn from to old new o1 o ds → GoesOn from to old new o1 o2 ds
 goes_end from to old new o1 o o2 ds e = subst (λ l. GoesOn from to old new o1 l ds) (sym e)
 
-pub beside_end : (from to behind : ℕ) (old new : VProc) (o1 o o2 : List BlockId) (ds : List ℕ) →
-    o2 ≡ o → GoesOnBeside from to behind old new o1 o ds → GoesOnBeside from to behind old new o1 o2
-    ds
-beside_end from to behind old new o1 o o2 ds e =
-    subst (λ l. GoesOnBeside from to behind old new o1 l ds) (sym e)
-
-pub ends_is : (from behind : ℕ) (old new : VProc) (o1 o2 : List BlockId) (ds es : List ℕ) →
-    es ≡ ds → EndsBeside from behind old new o1 o2 ds → EndsBeside from behind old new o1 o2 es
-ends_is from behind old new o1 o2 ds es e = subst (EndsBeside from behind old new o1 o2) (sym e)
+pub enters_is : (old new : VProc) (o1 o2 : List BlockId) (ds es : List ℕ) → es ≡ ds →
+    Enters old new o1 o2 ds → Enters old new o1 o2 es
+enters_is old new o1 o2 ds es e = subst (Enters old new o1 o2) (sym e)
 
 -- ---- a jump
 
@@ -128,15 +92,6 @@ module _ (at : ℕ) (target : BlockId) (old new : VProc) (o : IsOpen old at)
 
   pub jump_none : count new ≤ count old
   jump_none = omega (arith, ap count made, closed_count at (Jump target) old o)
-
-  jump_end : end_of new at ≡ Jump target
-  jump_end = ap (λ (z : VProc). end_of z at) made ∙ ap (λ (x : Block). x.end)
-      (closed_block at (Jump target) old o)
-
-  pub text_jumps : (order : List BlockId) → MayLead old order at target.0 → AreInText old order at →
-      AreInText new order at
-  text_jumps order may t = text_closed at old new order jump_grows jump_none o.0
-      (λ k is. subst (MayLead old order at) (subst (λ (e : End). IsTarget e k) jump_end is) may) t
 
 -- ---- an arm of an IF
 
@@ -155,22 +110,14 @@ module _ (old m1 : VProc) (from : ℕ) (targets : Targets)
       (opens_more d old old half targets.fails [] [] (opens_none old) refl fails_is) made
       (omega (arith, holds_is, opened_count d old))
 
-  arm_text : (o1 : List BlockId) → AreInText old o1 from → AreInText m1 o1 from
-  arm_text o1 t = subst (λ (z : VProc). AreInText z o1 from) (sym made)
-      (text_opened from d half o1 (text_opened from d old o1 t))
-
   module _ (k to : ℕ) (behind : BlockId) (m2 m3 new : VProc) (o1 o2 o3 : List BlockId) (es : Depths)
-      (o : IsOpen old from) (there : behind.0 < count old)
-      (p : EndsInText k from targets m1 m2 o1 o2)
+      (o : IsOpen old from) (p : EndsInText k from m1 m2 o1 o2)
       (q : GoesOn targets.holds.0 to m2 m3 (o2 ++ targets.holds ∷ []) o3
       (es (depth_at m2 targets.holds.0))) (still : IsOpen m3 to)
       (left : new ≡ with_end to (Jump behind) m3) where
     test_part : Enters m1 m2 o1 o2 (replicate k d)
     test_part = subst (λ z. Enters m1 m2 o1 o2 (replicate k z)) (arm_opens.kept from o.0)
-        p.leaves.enters
-
-    holds_there : targets.holds.0 < count m2
-    holds_there = omega (arith, holds_is, arm_opens.blocks, test_part.blocks)
+        p.enters
 
     holds_deep : depth_at m2 targets.holds.0 ≡ d
     holds_deep = test_part.kept targets.holds.0 arm_opens.have.0 ∙ arm_opens.have.1
@@ -184,58 +131,26 @@ module _ (old m1 : VProc) (from : ℕ) (targets : Targets)
         (replicate k d) (es d) arm_opens test_part body_part
         (jump_grows to behind m3 new still left).grows (jump_none to behind m3 new still left)
 
-    free : (b : ℕ) → b < count m1 → b ≢ targets.holds.0 → times b o1 ≡ 0 → times b o3 ≡ 0
-    free b lt off none =
-        omega (
-          arith,
-          entered_new m2 m3 (o2 ++ targets.holds ∷ []) o3 (es d) b body_part
-              (omega (arith, lt, test_part.blocks)),
-          times-append b o2 (targets.holds ∷ []),
-          one_off targets.holds.0 b (λ e. off (sym e)),
-          entered_new m1 m2 o1 o2 (replicate k d) b
-              test_part lt,
-          none,
-        )
-
-    pub text_arm : GoesOnBeside from targets.fails.0 behind.0 old new o1 (o3 ++ targets.fails ∷ [])
+    pub text_arm : GoesOn from targets.fails.0 old new o1 (o3 ++ targets.fails ∷ [])
         (replicate k d ++ d ∷ (es d ++ d ∷ []))
-    text_arm =
-        let fails_one : targets.fails.0 < count m1 = arm_opens.have.2.0 in
-        let fails_three : targets.fails.0 < count m3 =
-        omega (arith, fails_one, test_part.blocks, body_part.blocks) in
-        record {
-          enters = arm_enters;
-          last = λ l. last_is o3 targets.fails;
-          depth =
-              let two : targets.fails.0 < count m2 = omega (arith, fails_one, test_part.blocks) in
-              ((jump_grows to behind m3 new still left).grows.kept targets.fails.0
-              fails_three).depth ∙ body_part.kept targets.fails.0 two
-              ∙ test_part.kept targets.fails.0 fails_one ∙ arm_opens.have.2.1;
-          text = λ t none.
-              let t2 : AreInText m2 o2 from = p.leaves.text (arm_text o1 t)
-              (inl (t.known targets.holds.0 (omega (arith, holds_is))))
-              (inl (t.known targets.fails.0 (omega (arith, fails_is)))) in
-              let t3 : AreInText m2 (o2 ++ targets.holds ∷ []) targets.holds.0 =
-              text_enters from m2 o2 targets.holds holds_there t2 in
-              let t4 : AreInText m3 o3 to = q.text t3 in
-              let t5 : AreInText new o3 to = text_jumps to behind m3 new still left o3
-              (inl (free behind.0 (omega (arith, there, arm_opens.blocks))
-              (λ e. omega (arith, e, there, holds_is)) none)) t4 in
-              text_enters to new o3 targets.fails
-              (omega (
-                arith,
-                fails_three,
-                (jump_grows to behind m3 new still left).grows.blocks,
-              )) t5;
-        }
+    text_arm = record {
+      enters = arm_enters;
+      last = λ l. last_is o3 targets.fails;
+      depth =
+          let one : targets.fails.0 < count m1 = arm_opens.have.2.0 in
+          let two : targets.fails.0 < count m2 = omega (arith, one, test_part.blocks) in
+          let three : targets.fails.0 < count m3 = omega (arith, two, body_part.blocks) in
+          ((jump_grows to behind m3 new still left).grows.kept targets.fails.0 three).depth
+          ∙ body_part.kept targets.fails.0 two ∙ test_part.kept targets.fails.0 one
+          ∙ arm_opens.have.2.1;
+    }
 
 -- ---- the last arm without ELSE
 
-module _ (k from to : ℕ) (holds behind : BlockId) (targets : Targets) (old m1 m2 m3 new : VProc)
+module _ (k from to : ℕ) (holds behind : BlockId) (old m1 m2 m3 new : VProc)
     (o1 o2 o3 : List BlockId) (es : Depths) (o : IsOpen old from)
     (made : m1 ≡ with_open_block (block_of old from).depth old) (number : holds.0 ≡ count old)
-    (are : targets ≡ record { holds = holds; fails = behind }) (there : behind.0 < count old)
-    (p : EndsInText k from targets m1 m2 o1 o2)
+    (p : EndsInText k from m1 m2 o1 o2)
     (q : GoesOn holds.0 to m2 m3 (o2 ++ holds ∷ []) o3 (es (depth_at m2 holds.0)))
     (still : IsOpen m3 to) (left : new ≡ with_end to (Jump behind) m3) where
   abbrev deep : ℕ
@@ -246,7 +161,7 @@ module _ (k from to : ℕ) (holds behind : BlockId) (targets : Targets) (old m1 
 
   its_test : Enters m1 m2 o1 o2 (replicate k deep)
   its_test = subst (λ z. Enters m1 m2 o1 o2 (replicate k z)) (its_opens.kept from o.0)
-      p.leaves.enters
+      p.enters
 
   its_deep : depth_at m2 holds.0 ≡ deep
   its_deep = its_test.kept holds.0 its_opens.have.0 ∙ its_opens.have.1
@@ -256,41 +171,9 @@ module _ (k from to : ℕ) (holds behind : BlockId) (targets : Targets) (old m1 
       (subst (λ z. Enters m2 m3 (o2 ++ holds ∷ []) o3 (es z)) its_deep q.enters)
       (jump_grows to behind m3 new still left).grows (jump_none to behind m3 new still left)
 
-  its_all : Enters old new o1 o3 (replicate k deep ++ deep ∷ es deep)
-  its_all = enters_between deep old m1 holds made number m2 new o1 o2 o3 (replicate k deep)
+  pub text_last : Enters old new o1 o3 (replicate k deep ++ deep ∷ es deep)
+  text_last = enters_between deep old m1 holds made number m2 new o1 o2 o3 (replicate k deep)
       (es deep) its_test its_body
-
-  behind_free : times behind.0 o1 ≡ 0 → times behind.0 o3 ≡ 0
-  behind_free none = entered_new old new o1 o3 (replicate k deep ++ deep ∷ es deep) behind.0 its_all
-      there ∙ none
-
-  pub text_last : EndsBeside from behind.0 old new o1 o3 (replicate k deep ++ deep ∷ es deep)
-  text_last = record {
-    enters = its_all;
-    text = λ t none.
-        let t1 : AreInText m1 o1 from = subst (λ (z : VProc). AreInText z o1 from) (sym made)
-        (text_opened from deep old o1 t) in
-        let may : MayLead m1 o1 from targets.holds.0 × MayLead m1 o1 from targets.fails.0 =
-        subst (λ (z : Targets). MayLead m1 o1 from z.holds.0 × MayLead m1 o1 from z.fails.0)
-        (sym are) (inl (t.known holds.0 (omega (arith, number))), inl none) in
-        let t2 : AreInText m2 o2 from = p.leaves.text t1 may.0 may.1 in
-        let t3 : AreInText m2 (o2 ++ holds ∷ []) holds.0 = text_enters from m2 o2 holds
-        (omega (arith, its_opens.have.0, its_test.blocks)) t2 in
-        let t4 : AreInText m3 o3 to = q.text t3 in
-        let t5 : AreInText new o3 to = text_jumps to behind m3 new still left o3
-        (inl (behind_free none)) t4 in
-        record {
-          known = t5.known;
-          here =
-              omega (
-                arith,
-                t.here,
-                entered_new old new o1 o3 (replicate k deep ++ deep ∷ es deep)
-                    from its_all o.0,
-              );
-          lead = t5.lead;
-        };
-  }
 
 -- ---- an IF
 
@@ -303,13 +186,9 @@ module _ (from next : ℕ) (behind : BlockId) (old m1 m2 : VProc) (o1 o2 : List 
   one_opens : Opens old m1 (behind ∷ []) (level ∷ [])
   one_opens = opens_more level old old m1 behind [] [] (opens_none old) made number
 
-  one_text : AreInText old o1 from → AreInText m1 o1 from
-  one_text t = subst (λ (z : VProc). AreInText z o1 from) (sym made)
-      (text_opened from level old o1 t)
-
   -- with ELSE
   pub text_if : (arms other : Depths) (to : ℕ) (m3 new : VProc) (o3 : List BlockId) →
-      GoesOnBeside from next behind.0 m1 m2 o1 o2 (arms (depth_at m1 from)) →
+      GoesOn from next m1 m2 o1 o2 (arms (depth_at m1 from)) →
       GoesOn next to m2 m3 o2 o3 (other (depth_at m2 next)) → IsOpen m3 to →
       new ≡ with_end to (Jump behind) m3 →
       GoesOn from behind.0 old new o1 (o3 ++ behind ∷ [])
@@ -331,46 +210,55 @@ module _ (from next : ℕ) (behind : BlockId) (old m1 m2 : VProc) (o1 o2 : List 
         last = λ l. last_is o3 behind;
         depth = (grows.grows.kept behind.0 behind_three).depth ∙ both.kept behind.0 one_opens.have.0
             ∙ one_opens.have.1;
-        text = λ t.
-            let none : times behind.0 o1 ≡ 0 = t.known behind.0 (omega (arith, number)) in
-            let t3 : AreInText m3 o3 to = q.text (p.text (one_text t) none) in
-            let t4 : AreInText new o3 to = text_jumps to behind m3 new still left o3
-            (inl (entered_new m1 m3 o1 o3 (arms level ++ other level) behind.0 both
-            one_opens.have.0 ∙ none)) t3 in
-            text_enters to new o3 behind (omega (arith, behind_three, grows.grows.blocks)) t4;
       }
 
   -- without ELSE
-  pub text_alone : (arms end : Depths) (new : VProc) (o3 : List BlockId) → next < count m2 →
-      GoesOnBeside from next behind.0 m1 m2 o1 o2 (arms (depth_at m1 from)) →
-      EndsBeside next behind.0 m2 new o2 o3 (end (depth_at m2 next)) →
+  pub text_alone : (arms end : Depths) (new : VProc) (o3 : List BlockId) →
+      GoesOn from next m1 m2 o1 o2 (arms (depth_at m1 from)) →
+      Enters m2 new o2 o3 (end (depth_at m2 next)) →
       GoesOn from behind.0 old new o1 (o3 ++ behind ∷ []) ((arms level ++ end level) ++ level ∷ [])
-  text_alone arms end new o3 next_there p q =
+  text_alone arms end new o3 p q =
       let first : Enters m1 m2 o1 o2 (arms level) = subst (λ z. Enters m1 m2 o1 o2 (arms z))
       (one_opens.kept from o.0) p.enters in
       let second : Enters m2 new o2 o3 (end level) = subst (λ z. Enters m2 new o2 o3 (end z))
-      (p.depth ∙ one_opens.kept from o.0) q.enters in
+      (p.depth ∙ one_opens.kept from o.0) q in
       let both : Enters m1 new o1 o3 (arms level ++ end level) = enters_on m1 m2 new o1 o2 o3
       (arms level) (end level) first second in
-      let behind_there : behind.0 < count new = omega (arith, one_opens.have.0, both.blocks) in
       record {
         enters = enters_behind_here level old m1 behind made number new o1 o3
             (arms level ++ end level) both;
         last = λ l. last_is o3 behind;
         depth = both.kept behind.0 one_opens.have.0 ∙ one_opens.have.1;
-        text = λ t.
-            let none : times behind.0 o1 ≡ 0 = t.known behind.0 (omega (arith, number)) in
-            let t2 : AreInText m2 o2 next = p.text (one_text t) none in
-            let t3 : AreInText new o3 next =
-            q.text t2 (entered_new m1 m2 o1 o2 (arms level) behind.0 first one_opens.have.0
-            ∙ none) in
-            text_enters next new o3 behind behind_there t3;
       }
 
 -- ---- loops
 
-some_deep : (n : ℕ) → 0 < deeper n
-some_deep n = omega arith
+-- what stands between two places of a list is put behind the rest
+put_behind : (o1 o2 o3 b c : List BlockId) → o2 ≡ o1 ++ b → o3 ≡ o2 ++ c →
+    remove_range o3 (length o1) (length o2) ++ slice_range o3 (length o1) (length o2) ≡
+    o1 ++ (c ++ b)
+put_behind o1 o2 o3 b c o2_is o3_is =
+    let whole : o3 ≡ o1 ++ (b ++ c) = o3_is ∙ ap (λ l. l ++ c) o2_is ∙ append_assoc o1 b c in
+    let front : take (length o1) o3 ≡ o1 = ap (take (length o1)) whole
+    ∙ take-append_seam o1 (b ++ c) in
+    let rest : drop (length o2) o3 ≡ c = ap (drop (length o2)) o3_is ∙ drop-append_seam o2 c in
+    let many : length o2 - length o1 ≡ length b =
+    omega (arith, ap (λ l. length l) o2_is, length-append o1 b) in
+    let between : take (length o2 - length o1) (drop (length o1) o3) ≡ b =
+    ap (λ n. take n (drop (length o1) o3)) many
+    ∙ ap (λ l. take (length b) (drop (length o1) l)) whole
+    ∙ ap (take (length b)) (drop-append_seam o1 (b ++ c)) ∙ take-append_seam b c in
+    ap (λ l. (l ++ drop (length o2) o3) ++ slice_range o3 (length o1) (length o2)) front
+    ∙ ap (λ l. (o1 ++ l) ++ slice_range o3 (length o1) (length o2)) rest
+    ∙ ap (λ l. (o1 ++ c) ++ l) between ∙ append_assoc o1 c b
+
+-- by the numbers of its places
+pub turned_at : (o1 o2 o3 o4 : List BlockId) (begin middle : ℕ) → begin ≡ length o1 →
+    middle ≡ length o2 → o4 ≡ remove_range o3 begin middle ++ slice_range o3 begin middle →
+    o4 ≡ remove_range o3 (length o1) (length o2) ++ slice_range o3 (length o1) (length o2)
+turned_at o1 o2 o3 o4 begin middle b m is =
+    is ∙ ap (λ n. remove_range o3 n middle ++ slice_range o3 n middle) b
+    ∙ ap (λ n. remove_range o3 (length o1) n ++ slice_range o3 (length o1) n) m
 
 module _ (old m1 : VProc) (from : ℕ) (blocks : Loop) (o : IsOpen old from)
     (made : m1 ≡ with_loop (block_of old from).depth old) (behind_is : blocks.behind.0 ≡ count old)
@@ -398,11 +286,6 @@ module _ (old m1 : VProc) (from : ℕ) (blocks : Loop) (o : IsOpen old from)
       opens_more inner old second_code m1 blocks.test (blocks.body ∷ blocks.behind ∷ [])
       (inner ∷ out ∷ []) two made (omega (arith, test_is, two.blocks))
 
-  loop_text : (o1 : List BlockId) → AreInText old o1 from → AreInText m1 o1 from
-  loop_text o1 t = subst (λ (z : VProc). AreInText z o1 from) (sym made)
-      (text_opened from inner second_code o1
-      (text_opened from inner first_code o1 (text_opened from out old o1 t)))
-
   from_open : IsOpen m1 from
   from_open =
       let same : block_of m1 from ≡ block_of old from =
@@ -418,17 +301,13 @@ module _ (old m1 : VProc) (from : ℕ) (blocks : Loop) (o : IsOpen old from)
 
     -- ---- WHILE
 
-    module _ (jumped : m2 ≡ with_end from (Jump blocks.test) m1) (targets : Targets)
-        (are : targets ≡ record { holds = blocks.body; fails = blocks.behind })
-        (p : EndsInText k blocks.test.0 targets m2 m3 (o1 ++ blocks.test ∷ []) o2)
+    module _ (jumped : m2 ≡ with_end from (Jump blocks.test) m1)
+        (p : EndsInText k blocks.test.0 m2 m3 (o1 ++ blocks.test ∷ []) o2)
         (q : GoesOn blocks.body.0 to m3 m4 (o2 ++ blocks.body ∷ []) o3
         (body (depth_at m3 blocks.body.0))) (still : IsOpen m4 to)
         (left : new ≡ with_end to (Jump blocks.test) m4) where
       enter_grows : GrowsAt from m1 m2
       enter_grows = jump_grows from blocks.test m1 m2 from_open jumped
-
-      enter_none : count m2 ≤ count m1
-      enter_none = jump_none from blocks.test m1 m2 from_open jumped
 
       at_two : (b n : ℕ) → b < count m1 → depth_at m1 b ≡ n → (b < count m2) × (depth_at m2 b ≡ n)
       at_two b n lt is = (
@@ -436,100 +315,74 @@ module _ (old m1 : VProc) (from : ℕ) (blocks : Loop) (o : IsOpen old from)
         (enter_grows.grows.kept b lt).depth ∙ is,
       )
 
-      test_two : depth_at m2 blocks.test.0 ≡ inner
-      test_two = (at_two blocks.test.0 inner loop_opens.have.0 loop_opens.have.1).1
-
-      tests : Enters m2 m3 (o1 ++ blocks.test ∷ []) o2 (replicate k inner)
-      tests = subst (λ z. Enters m2 m3 (o1 ++ blocks.test ∷ []) o2 (replicate k z)) test_two
-          p.leaves.enters
+      tests : Enters m1 m3 (o1 ++ blocks.test ∷ []) o2 (replicate k inner)
+      tests = enters_before m1 m2 m3 (o1 ++ blocks.test ∷ []) o2 (replicate k inner)
+          enter_grows.grows (jump_none from blocks.test m1 m2 from_open jumped)
+          (subst (λ z. Enters m2 m3 (o1 ++ blocks.test ∷ []) o2 (replicate k z))
+          (at_two blocks.test.0 inner loop_opens.have.0 loop_opens.have.1).1 p.enters)
 
       at_three : (b n : ℕ) → b < count m1 → depth_at m1 b ≡ n → (b < count m3) × (depth_at m3 b ≡ n)
-      at_three b n lt is = let two = at_two b n lt is in
-          (omega (arith, two.0, tests.blocks), tests.kept b two.0 ∙ two.1)
-
-      body_three : depth_at m3 blocks.body.0 ≡ inner
-      body_three = (at_three blocks.body.0 inner loop_opens.have.2.0 loop_opens.have.2.1).1
+      at_three b n lt is = (omega (arith, lt, tests.blocks), tests.kept b lt ∙ is)
 
       bodies : Enters m3 m4 (o2 ++ blocks.body ∷ []) o3 (body inner)
-      bodies = subst (λ z. Enters m3 m4 (o2 ++ blocks.body ∷ []) o3 (body z)) body_three q.enters
-
-      at_four : (b n : ℕ) → b < count m1 → depth_at m1 b ≡ n → (b < count m4) × (depth_at m4 b ≡ n)
-      at_four b n lt is = let three = at_three b n lt is in
-          (omega (arith, three.0, bodies.blocks), bodies.kept b three.0 ∙ three.1)
+      bodies = subst (λ z. Enters m3 m4 (o2 ++ blocks.body ∷ []) o3 (body z))
+          (at_three blocks.body.0 inner loop_opens.have.2.0 loop_opens.have.2.1).1 q.enters
 
       leave_grows : GrowsAt to m4 new
       leave_grows = jump_grows to blocks.test m4 new still left
 
-      while_enters : Enters old new o1 (o3 ++ blocks.behind ∷ []) (while_depths k body out)
-      while_enters =
-          enters_three old m1 m3 m4 new blocks.test blocks.body blocks.behind inner inner out o1 o2
-          o3 (replicate k inner) (body inner)
-          (opens_rotated old m1 blocks.test blocks.body blocks.behind inner inner out loop_opens)
-          (enters_before m1 m2 m3 (o1 ++ blocks.test ∷ []) o2 (replicate k inner) enter_grows.grows
-          enter_none tests)
-          bodies leave_grows.grows (jump_none to blocks.test m4 new still left)
+      -- where the test begins, and where it ends
+      test_listed : o2 ≡ o1 ++ (blocks.test ∷ tests.more)
+      test_listed = tests.is ∙ append_assoc o1 (blocks.test ∷ []) tests.more
 
-      off_test : (b : ℕ) → b ≢ blocks.test.0 → times b o1 ≡ 0 → times b (o1 ++ blocks.test ∷ []) ≡ 0
-      off_test b off none = omega (
+      body_listed : o3 ≡ o2 ++ (blocks.body ∷ bodies.more)
+      body_listed = bodies.is ∙ append_assoc o2 (blocks.body ∷ []) bodies.more
+
+      pub test_begins : length o1 ≤ length o2
+      test_begins = omega (
         arith,
-        times-append b o1 (blocks.test ∷ []),
-        one_off blocks.test.0 b (λ e. off (sym e)),
-        none,
+        ap (λ l. length l) test_listed,
+        length-append o1 (blocks.test ∷ tests.more),
       )
 
-      pub text_while : GoesOn from blocks.behind.0 old new o1 (o3 ++ blocks.behind ∷ [])
-          (while_depths k body out)
-      text_while =
-          let behind_four = at_four blocks.behind.0 out loop_opens.have.2.2.0
-          loop_opens.have.2.2.1 in
-          let test_four = at_four blocks.test.0 inner loop_opens.have.0 loop_opens.have.1 in
-          record {
-            enters = while_enters;
-            last = λ l. last_is o3 blocks.behind;
-            depth = (leave_grows.grows.kept blocks.behind.0 behind_four.0).depth ∙ behind_four.1;
-            text = λ t.
-                let t1 : AreInText m1 o1 from = loop_text o1 t in
-                let t2 : AreInText m2 o1 from = text_jumps from blocks.test m1 m2 from_open jumped
-                o1 (inl (t.known blocks.test.0 (omega (arith, test_is)))) t1 in
-                let t3 : AreInText m2 (o1 ++ blocks.test ∷ []) blocks.test.0 =
-                text_enters from m2 o1 blocks.test
-                (at_two blocks.test.0 inner loop_opens.have.0 loop_opens.have.1).0 t2 in
-                let to_body : times blocks.body.0 (o1 ++ blocks.test ∷ []) ≡ 0 =
-                off_test blocks.body.0 (λ e. omega (arith, e, body_is, test_is))
-                (t.known blocks.body.0 (omega (arith, body_is))) in
-                let to_behind : times blocks.behind.0 (o1 ++ blocks.test ∷ []) ≡ 0 =
-                off_test blocks.behind.0 (λ e. omega (arith, e, behind_is, test_is))
-                (t.known blocks.behind.0 (omega (arith, behind_is))) in
-                let may : MayLead m2 (o1 ++ blocks.test ∷ []) blocks.test.0 targets.holds.0 ×
-                MayLead m2 (o1 ++ blocks.test ∷ []) blocks.test.0 targets.fails.0 =
-                subst (λ (z : Targets). MayLead m2 (o1 ++ blocks.test ∷ []) blocks.test.0
-                z.holds.0 × MayLead m2 (o1 ++ blocks.test ∷ []) blocks.test.0 z.fails.0)
-                (sym are) (inl to_body, inl to_behind) in
-                let t4 : AreInText m3 o2 blocks.test.0 = p.leaves.text t3 may.0 may.1 in
-                let t5 : AreInText m3 (o2 ++ blocks.body ∷ []) blocks.body.0 =
-                text_enters blocks.test.0 m3 o2 blocks.body
-                (at_three blocks.body.0 inner loop_opens.have.2.0 loop_opens.have.2.1).0 t4 in
-                let t6 : AreInText m4 o3 to = q.text t5 in
-                let back : IsBack m4 to blocks.test.0 = (
-                  test_four.0,
-                  omega (arith, test_four.1, some_deep out),
-                  q.depth ∙ body_three
-                      ∙ sym test_four.1,
-                ) in
-                let t7 : AreInText new o3 to = text_jumps to blocks.test m4 new still left o3
-                (inr back) t6 in
-                text_enters to new o3 blocks.behind
-                (omega (arith, behind_four.0, leave_grows.grows.blocks)) t7;
-          }
+      pub test_ends : length o2 ≤ length o3
+      test_ends = omega (
+        arith,
+        ap (λ l. length l) body_listed,
+        length-append o2 (blocks.body ∷ bodies.more),
+      )
+
+      module _ (o4 : List BlockId) (turned : o4 ≡ remove_range o3 (length o1) (length o2)
+          ++ slice_range o3 (length o1) (length o2)) where
+        while_enters : Enters old new o1 (o4 ++ blocks.behind ∷ []) (loop_depths k body out)
+        while_enters =
+            enters_turned old m1 m3 m4 new (blocks.test ∷ []) blocks.body blocks.behind (inner ∷ [])
+            inner out o1 o2 o3 (replicate k inner) (body inner)
+            (opens_rotated old m1 blocks.test blocks.body blocks.behind inner inner out loop_opens)
+            tests bodies leave_grows.grows (jump_none to blocks.test m4 new still left) o4
+            (turned ∙ put_behind o1 o2 o3 (blocks.test ∷ tests.more) (blocks.body ∷ bodies.more)
+            test_listed body_listed)
+
+        pub text_while : GoesOn from blocks.behind.0 old new o1 (o4 ++ blocks.behind ∷ [])
+            (loop_depths k body out)
+        text_while =
+            let three = at_three blocks.behind.0 out loop_opens.have.2.2.0 loop_opens.have.2.2.1 in
+            let four : blocks.behind.0 < count m4 = omega (arith, three.0, bodies.blocks) in
+            record {
+              enters = while_enters;
+              last = λ l. last_is o4 blocks.behind;
+              depth =
+                  (leave_grows.grows.kept blocks.behind.0 four).depth
+                  ∙ bodies.kept blocks.behind.0 three.0 ∙ three.1;
+            }
 
     -- ---- REPEAT
 
-    module _ (jumped : m2 ≡ with_end from (Jump blocks.body) m1) (targets : Targets)
-        (are : targets ≡ record { holds = blocks.behind; fails = blocks.body })
+    module _ (jumped : m2 ≡ with_end from (Jump blocks.body) m1)
         (q : GoesOn blocks.body.0 to m2 m3 (o1 ++ blocks.body ∷ []) o2
         (body (depth_at m2 blocks.body.0))) (still : IsOpen m3 to)
         (left : m4 ≡ with_end to (Jump blocks.test) m3)
-        (p : EndsInText k blocks.test.0 targets m4 new (o2 ++ blocks.test ∷ []) o3) where
+        (p : EndsInText k blocks.test.0 m4 new (o2 ++ blocks.test ∷ []) o3) where
       begin_grows : GrowsAt from m1 m2
       begin_grows = jump_grows from blocks.body m1 m2 from_open jumped
 
@@ -560,9 +413,9 @@ module _ (old m1 : VProc) (from : ℕ) (blocks : Loop) (o : IsOpen old from)
 
       testing : Enters m4 new (o2 ++ blocks.test ∷ []) o3 (replicate k inner)
       testing = subst (λ z. Enters m4 new (o2 ++ blocks.test ∷ []) o3 (replicate k z))
-          (deep_four blocks.test.0 inner loop_opens.have.0 loop_opens.have.1).1 p.leaves.enters
+          (deep_four blocks.test.0 inner loop_opens.have.0 loop_opens.have.1).1 p.enters
 
-      repeat_enters : Enters old new o1 (o3 ++ blocks.behind ∷ []) (repeat_depths k body out)
+      repeat_enters : Enters old new o1 (o3 ++ blocks.behind ∷ []) (loop_depths k body out)
       repeat_enters =
           enters_three old m1 m4 new new blocks.body blocks.test blocks.behind inner inner out o1 o2
           o3 (body inner) (replicate k inner)
@@ -574,67 +427,12 @@ module _ (old m1 : VProc) (from : ℕ) (blocks : Loop) (o : IsOpen old from)
           (jump_none to blocks.test m3 m4 still left))
           testing (grows_same new) (omega arith)
 
-      off_body : (b : ℕ) → b < count m1 → b ≢ blocks.body.0 → times b o1 ≡ 0 → times b o2 ≡ 0
-      off_body b lt off none =
-          omega (
-            arith,
-            entered_new m2 m3 (o1 ++ blocks.body ∷ []) o2 (body inner) b doing
-                (omega (arith, lt, begin_grows.grows.blocks)),
-            times-append b o1 (blocks.body ∷ []),
-            one_off blocks.body.0 b (λ e. off (sym e)),
-            none,
-          )
-
       pub text_repeat : GoesOn from blocks.behind.0 old new o1 (o3 ++ blocks.behind ∷ [])
-          (repeat_depths k body out)
+          (loop_depths k body out)
       text_repeat =
-          let behind_four = deep_four blocks.behind.0 out loop_opens.have.2.2.0
-          loop_opens.have.2.2.1 in
-          let body_four = deep_four blocks.body.0 inner loop_opens.have.2.0 loop_opens.have.2.1 in
-          let test_four = deep_four blocks.test.0 inner loop_opens.have.0 loop_opens.have.1 in
+          let four = deep_four blocks.behind.0 out loop_opens.have.2.2.0 loop_opens.have.2.2.1 in
           record {
             enters = repeat_enters;
             last = λ l. last_is o3 blocks.behind;
-            depth = testing.kept blocks.behind.0 behind_four.0 ∙ behind_four.1;
-            text = λ t.
-                let t1 : AreInText m1 o1 from = loop_text o1 t in
-                let t2 : AreInText m2 o1 from = text_jumps from blocks.body m1 m2 from_open jumped
-                o1 (inl (t.known blocks.body.0 (omega (arith, body_is)))) t1 in
-                let t3 : AreInText m2 (o1 ++ blocks.body ∷ []) blocks.body.0 =
-                text_enters from m2 o1 blocks.body
-                (deep_two blocks.body.0 inner loop_opens.have.2.0 loop_opens.have.2.1).0 t2 in
-                let t4 : AreInText m3 o2 to = q.text t3 in
-                let to_test : times blocks.test.0 o2 ≡ 0 = off_body blocks.test.0 loop_opens.have.0
-                (λ e. omega (arith, e, body_is, test_is))
-                (t.known blocks.test.0 (omega (arith, test_is))) in
-                let t5 : AreInText m4 o2 to = text_jumps to blocks.test m3 m4 still left o2
-                (inl to_test) t4 in
-                let t6 : AreInText m4 (o2 ++ blocks.test ∷ []) blocks.test.0 =
-                text_enters to m4 o2 blocks.test test_four.0 t5 in
-                let to_behind : times blocks.behind.0 o2 ≡ 0 =
-                off_body blocks.behind.0 loop_opens.have.2.2.0
-                (λ e. omega (arith, e, behind_is, body_is))
-                (t.known blocks.behind.0 (omega (arith, behind_is))) in
-                let behind_free : times blocks.behind.0 (o2 ++ blocks.test ∷ []) ≡ 0 =
-                omega (
-                  arith,
-                  times-append blocks.behind.0 o2 (blocks.test ∷ []),
-                  one_off blocks.test.0 blocks.behind.0
-                      (λ e. omega (arith, e, behind_is, test_is)),
-                  to_behind,
-                ) in
-                let back : IsBack m4 blocks.test.0 blocks.body.0 = (
-                  body_four.0,
-                  omega (arith, body_four.1, some_deep out),
-                  test_four.1
-                      ∙ sym body_four.1,
-                ) in
-                let may : MayLead m4 (o2 ++ blocks.test ∷ []) blocks.test.0 targets.holds.0 ×
-                MayLead m4 (o2 ++ blocks.test ∷ []) blocks.test.0 targets.fails.0 =
-                subst (λ (z : Targets). MayLead m4 (o2 ++ blocks.test ∷ []) blocks.test.0
-                z.holds.0 × MayLead m4 (o2 ++ blocks.test ∷ []) blocks.test.0 z.fails.0)
-                (sym are) (inl behind_free, inr back) in
-                let t7 : AreInText new o3 blocks.test.0 = p.leaves.text t6 may.0 may.1 in
-                text_enters blocks.test.0 new o3 blocks.behind
-                (omega (arith, behind_four.0, testing.blocks)) t7;
+            depth = testing.kept blocks.behind.0 four.0 ∙ four.1;
           }

@@ -1,14 +1,12 @@
--- The depths of the blocks that are made for statements, in the order of the text. The depth of a
--- block is how many loops of the text stand around what the block is made for, at most 5: a
--- condition of WHILE or REPEAT stands in its loop, as the statements do.
-use Rattle.std.specs.Prelude.{◌≡◌, ℕ, ◌+◌, List, [], ◌∷◌, ◌++◌, map, sum, replicate}
-use Rattle.pra_base.specs.declared.ids.BlockId.{BlockId}
-use Rattle.pra_base.specs.declared.code.VProc.{VProc}
+-- The depths of the blocks that are made for statements, in the order in which they are listed:
+-- that of the text, but that the test of a WHILE stands behind its statements. The depth of a block
+-- is how many loops of the text stand around what the block is made for, at most 5: a condition of
+-- WHILE or REPEAT stands in its loop, as the statements do.
+use Rattle.std.specs.Prelude.{ℕ, ◌+◌, List, [], ◌∷◌, ◌++◌, map, sum, replicate}
 use Rattle.ob_syntax.specs.declared.checked.RArg.{RArg}
 use Rattle.ob_syntax.specs.declared.checked.RArg.TheVariants.{Value, Lent}
 use Rattle.ob_syntax.specs.declared.checked.RArm.{RArm, RArm-F, out-RArm, fold-RArm}
 use Rattle.ob_syntax.specs.declared.checked.RStmt.{RStmt, RStmt-F, fold-RStmt}
-use Rattle.vc_build.specs.Text.{depth_at, times, AreInText, Enters, IsLast}
 use Rattle.vc_select.specs.Blocks.{needs, needs_of_var}
 use Rattle.vc_stmt.specs.Blocks.{deeper}
 
@@ -32,14 +30,9 @@ if_depths [] other d = in_all other d
 if_depths (arm ∷ arms) [] d = in_all (arm ∷ arms) d
 if_depths (arm ∷ arms) (t ∷ ts) d = in_all (arm ∷ arms) d ++ (in_all (t ∷ ts) d ++ d ∷ [])
 
--- a block for the test with its other blocks, one for the statements with theirs, and one behind
-abbrev pub while_depths : ℕ → Depths → Depths
-while_depths tests body d =
-    deeper d ∷ (replicate tests (deeper d) ++ deeper d ∷ (body (deeper d) ++ d ∷ []))
-
--- the same with the statements before the test
-abbrev pub repeat_depths : ℕ → Depths → Depths
-repeat_depths tests body d =
+-- a block for the statements with theirs, one for the test with its other blocks, and one behind
+abbrev pub loop_depths : ℕ → Depths → Depths
+loop_depths tests body d =
     deeper d ∷ (body (deeper d) ++ deeper d ∷ (replicate tests (deeper d) ++ d ∷ []))
 
 abbrev pub blocks_of_argument : RArg → ℕ
@@ -52,8 +45,8 @@ blocks_of_arguments args = sum (map blocks_of_argument args)
 abbrev pub stmt_depths : RStmt-F Depths Depths → Depths
 stmt_depths (RStmt-F.Assign v e) d = replicate ((needs_of_var v).blocks + (needs e).value) d
 stmt_depths (RStmt-F.If arms other) d = if_depths arms other d
-stmt_depths (RStmt-F.While test body) d = while_depths (needs test).test (in_all body) d
-stmt_depths (RStmt-F.Repeat body test) d = repeat_depths (needs test).test (in_all body) d
+stmt_depths (RStmt-F.While test body) d = loop_depths (needs test).test (in_all body) d
+stmt_depths (RStmt-F.Repeat body test) d = loop_depths (needs test).test (in_all body) d
 stmt_depths (RStmt-F.Call callee args) d = replicate (blocks_of_arguments args) d
 stmt_depths (RStmt-F.Read v) d = replicate (needs_of_var v).blocks d
 stmt_depths (RStmt-F.Write e) d = replicate (needs e).value d
@@ -76,19 +69,3 @@ abbrev pub end_depths : RArm → Depths
 end_depths arm d =
     replicate (needs (out-RArm arm).test).test d
     ++ d ∷ depths_of_all (out-RArm arm).body d
-
--- ---- arms, which lead to a block behind them
-
--- Code for arms goes on, as GoesOn of vc_build has it, if the block behind has not been entered.
-pub record GoesOnBeside (from to behind : ℕ) (old new : VProc) (before after : List BlockId)
-    (depths : List ℕ) : Type 0 where
-  pub enters : Enters old new before after depths
-  pub last : IsLast before from → IsLast after to
-  pub depth : depth_at new to ≡ depth_at old from
-  pub text : AreInText old before from → times behind before ≡ 0 → AreInText new after to
-
--- The same of the last arm without ELSE, which leaves its block.
-pub record EndsBeside (from behind : ℕ) (old new : VProc) (before after : List BlockId)
-    (depths : List ℕ) : Type 0 where
-  pub enters : Enters old new before after depths
-  pub text : AreInText old before from → times behind before ≡ 0 → AreInText new after from

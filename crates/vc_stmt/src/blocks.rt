@@ -1,13 +1,17 @@
-// Blocks that are opened before the code that comes before them in the text.
+// Blocks that are opened before the code that comes before them in the text, and the order in which
+// blocks are listed.
 
-ghost use Rattle.std.specs.Prelude.{◌≡◌, ◌≢◌, ◌+◌, ◌<◌, ◌≤◌, length, IfOk, OnOk};
+ghost use Rattle.std.specs.Prelude.{◌≡◌, ◌≢◌, ◌+◌, ◌<◌, ◌≤◌, ◌++◌, length, IfOk, OnOk};
+ghost use Rattle.std.specs.List.{remove_range, slice_range};
 ghost use Rattle.pra_base.specs.Code.{block_of};
 ghost use Rattle.pra_base.specs.declared.code.End.TheVariants.{Jump};
 ghost use Rattle.vc_build.specs.Grow.{count, with_end};
 ghost use Rattle.vc_stmt.specs.Blocks.{Waits, deeper as deeper_than, with_arm, with_loop};
 
 use pra_base::{BlockId, End, OutOfMemory, VProc};
+use pra_list::Seq;
 use std::alloc::Global;
+use std::mem;
 use vc_build::{close, open_block};
 use vc_expr::Targets;
 
@@ -73,6 +77,18 @@ pub fn jump(alloc: Global, code: &mut VProc, at: BlockId, target: BlockId)
     ensures vars { length code.old.vars ≤ length code.new.vars }
 {
     close(alloc, code, at, End::Jump(target));
+}
+
+/// Puts what is listed from `begin` up to `middle` behind the rest.
+pub fn turn(alloc: Global, order: &mut Seq<BlockId>, begin: usize, middle: usize)
+    requires begins { begin ≤ middle }
+    requires ends { middle ≤ length order.old }
+    ensures { order.new ≡ remove_range order.old begin middle
+        ++ slice_range order.old begin middle }
+{
+    let mut ids = mem::replace(order, Seq::new(alloc)).into_vec();
+    ids[begin..].rotate_left(middle - begin);
+    *order = Seq::from_vec(ids);
 }
 
 /// Says that another block waits, and is not the first one, so that what follows need not show it.

@@ -47,10 +47,9 @@
 //!   same for blocks that were there, and other blocks that were ready still are (`KeepsReady`).
 //!   What is asked is the Bool `is_sound` again: so each call passes as many arguments as the
 //!   procedure has parameters, by `parameter_counts` of the module.
-//! - `text`, of `specs/Depths`: which blocks are added, in the order of the text, and how deep each
-//!   of them stands: in as many loops as what it is made for, at most 5 (`depths_of`). Each closed
-//!   block comes before those to which it leads, but for the loops' ways back (`GoesOn` of
-//!   vc_build).
+//! - `text`, of `specs/Depths`: which blocks are added, in the order in which they are listed, and
+//!   how deep each of them stands: in as many loops as what it is made for, at most 5 (`depths_of`,
+//!   over `GoesOn` of vc_build).
 //! - `hands_on`: as many blocks are open as before (`HandsOn` of vc_build). So where one block was
 //!   open, all are closed but the block `to`.
 //!
@@ -71,12 +70,19 @@
 //!
 //! # The blocks
 //!
-//! WHILE is a block for its test, one for its statements and one behind; REPEAT the same, with the
-//! statements first. Blocks in a loop are one deeper. An arm of an IF has a block for its
-//! statements and one where control goes that passes it. What follows ELSE stands in the last of
-//! these; without ELSE the last arm leads past its statements to what follows the IF, so that no
-//! block is empty. Each block is noted when it is entered (`order` of `Ctx`), which is the order of
-//! the text. An IF without arms, which no text has, is its other statements alone.
+//! A loop is a block for its test, one for its statements and one behind. Blocks in a loop are one
+//! deeper. An arm of an IF has a block for its statements and one where control goes that passes
+//! it. What follows ELSE stands in the last of these; without ELSE the last arm leads past its
+//! statements to what follows the IF, so that no block is empty. An IF without arms, which no text
+//! has, is its other statements alone.
+//!
+//! Each block is listed when it is entered (`order` of `Ctx`). That is the order of the text, but
+//! that the test of a WHILE stands behind its statements, as that of a REPEAT does (`turn`): it is
+//! reached by one jump where the loop begins, and a turn of the loop needs none.
+//!
+//! ```text
+//! WHILE a DO b END; c    entered: .. a, b, c    listed: .. jump to a    b    a, branch to b    c
+//! ```
 #![tactic(auto)]
 
 pub mod blocks;

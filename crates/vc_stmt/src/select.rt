@@ -5,7 +5,7 @@ ghost use Rattle.ob_mean.specs.Expressions.{value};
 ghost use Rattle.ob_mean.specs.Statements.{exec, exec_all, arm_of, chosen};
 ghost use Rattle.ob_syntax.specs.Expressions.{boolean};
 ghost use Rattle.vc_build.specs.Grow.{ClosesOne, HandsOn, IsOpen};
-ghost use Rattle.vc_build.specs.Text.{depth_at, GoesOn};
+ghost use Rattle.vc_build.specs.Text.{depth_at, Enters, GoesOn};
 ghost use Rattle.vc_select.specs.Blocks.{needs};
 ghost use Rattle.vc_select.specs.Targets.{above_setting};
 ghost use Rattle.vc_typed.specs.Typing.{typing, is_of};
@@ -14,15 +14,14 @@ ghost use Rattle.vc_stmt.specs.Amounts.{AddsForStatements, AddsForArm, AddsForAr
 ghost use Rattle.vc_stmt.specs.Amounts.{nodes_in_arms};
 ghost use Rattle.vc_stmt.specs.Arms.{Guards, Chooses, Joins, take_init};
 ghost use Rattle.vc_stmt.specs.Blocks.{Waits};
-ghost use Rattle.vc_stmt.specs.Depths.{GoesOnBeside, EndsBeside, depths_of, depths_of_all};
-ghost use Rattle.vc_stmt.specs.Depths.{depths_of_arm, depths_of_arms, end_depths};
-ghost use Rattle.vc_stmt.specs.Depths.{while_depths, repeat_depths};
+ghost use Rattle.vc_stmt.specs.Depths.{depths_of, depths_of_all, depths_of_arm, depths_of_arms};
+ghost use Rattle.vc_stmt.specs.Depths.{end_depths, loop_depths};
 ghost use Rattle.vc_stmt.specs.Does.{Does};
 ghost use Rattle.vc_stmt.specs.Loops.{while_of, repeat_of};
 ghost use Rattle.vc_stmt.specs.Ready.{KeepsReady, KeepsReadyBeside, ClosesReadyBeside};
 ghost use Rattle.vc_stmt.specs.Sound.{is_sound, are_sound, is_sound_arm, are_sound_arms};
 
-use crate::blocks::{confirm_waits, jump, open_arm, open_loop};
+use crate::blocks::{confirm_waits, jump, open_arm, open_loop, turn};
 use crate::call::select_call;
 use crate::store::{select_assignment, select_read};
 use crate::write::{select_line, select_write};
@@ -144,7 +143,8 @@ pub fn select_statements(
     Ok(())
 }
 
-/// A loop that tests before its statements.
+/// A loop that tests before its statements. The blocks of its test are listed behind those of its
+/// statements, so that a turn needs no jump.
 #[cycle(statements)]
 fn select_while(
     setting: &Setting<'_>,
@@ -170,13 +170,14 @@ fn select_while(
         && are_sound setting.now.program.now setting.now.id.0 body.now)) }
     ensures text { OnOk result (GoesOn ctx.old.at.0 ctx.new.at.0
         ctx.old.code ctx.new.code ctx.old.order ctx.new.order
-        (while_depths (needs test.now).test (depths_of_all body.now)
+        (loop_depths (needs test.now).test (depths_of_all body.now)
         (depth_at ctx.old.code ctx.old.at.0))) }
     ensures hands_on { OnOk result (HandsOn ctx.old.at.0 ctx.new.at.0
         ctx.old.code ctx.new.code) }
 {
     let blocks = open_loop(setting.alloc, &mut ctx.code, ctx.at)?;
     jump(setting.alloc, &mut ctx.code, ctx.at, blocks.test);
+    let begin = ctx.order.len();
     ctx.order.push(blocks.test)?;
     ctx.at = blocks.test;
     let targets = Targets {
@@ -186,11 +187,13 @@ fn select_while(
     confirm(&ctx.code, blocks.test);
     confirm_targets(&ctx.code, targets);
     select_test(setting, ctx, test, targets)?;
+    let middle = ctx.order.len();
     confirm(&ctx.code, blocks.body);
     ctx.order.push(blocks.body)?;
     ctx.at = blocks.body;
     select_statements(setting, ctx, body)?;
     jump(setting.alloc, &mut ctx.code, ctx.at, blocks.test);
+    turn(setting.alloc, &mut ctx.order, begin, middle);
     ctx.order.push(blocks.behind)?;
     ctx.at = blocks.behind;
     Ok(())
@@ -222,7 +225,7 @@ fn select_repeat(
         && is_of boolean (typing setting.now.program.now setting.now.id.0 test.now))) }
     ensures text { OnOk result (GoesOn ctx.old.at.0 ctx.new.at.0
         ctx.old.code ctx.new.code ctx.old.order ctx.new.order
-        (repeat_depths (needs test.now).test (depths_of_all body.now)
+        (loop_depths (needs test.now).test (depths_of_all body.now)
         (depth_at ctx.old.code ctx.old.at.0))) }
     ensures hands_on { OnOk result (HandsOn ctx.old.at.0 ctx.new.at.0
         ctx.old.code ctx.new.code) }
@@ -272,7 +275,7 @@ fn select_arms(
     ensures ready { OnOk result
         (KeepsReadyBeside setting.now ctx.old.code ctx.new.code ctx.old.at.0 ctx.new.at.0 behind.0
         (are_sound_arms setting.now.program.now setting.now.id.0 arms.now)) }
-    ensures text { OnOk result (GoesOnBeside ctx.old.at.0 ctx.new.at.0 behind.0
+    ensures text { OnOk result (GoesOn ctx.old.at.0 ctx.new.at.0
         ctx.old.code ctx.new.code ctx.old.order ctx.new.order
         (depths_of_arms arms.now (depth_at ctx.old.code ctx.old.at.0))) }
     ensures hands_on { OnOk result (HandsOn ctx.old.at.0 ctx.new.at.0
@@ -309,7 +312,7 @@ fn select_first_arms(
     ensures ready { OnOk result
         (KeepsReadyBeside setting.now ctx.old.code ctx.new.code ctx.old.at.0 ctx.new.at.0 behind.0
         (are_sound_arms setting.now.program.now setting.now.id.0 (take_init arms.now))) }
-    ensures text { OnOk result (GoesOnBeside ctx.old.at.0 ctx.new.at.0 behind.0
+    ensures text { OnOk result (GoesOn ctx.old.at.0 ctx.new.at.0
         ctx.old.code ctx.new.code ctx.old.order ctx.new.order
         (depths_of_arms (take_init arms.now) (depth_at ctx.old.code ctx.old.at.0))) }
     ensures hands_on { OnOk result (HandsOn ctx.old.at.0 ctx.new.at.0
@@ -351,7 +354,7 @@ fn select_arm(
     ensures ready { OnOk result
         (KeepsReadyBeside setting.now ctx.old.code ctx.new.code ctx.old.at.0 ctx.new.at.0 behind.0
         (is_sound_arm setting.now.program.now setting.now.id.0 arm.now)) }
-    ensures text { OnOk result (GoesOnBeside ctx.old.at.0 ctx.new.at.0 behind.0
+    ensures text { OnOk result (GoesOn ctx.old.at.0 ctx.new.at.0
         ctx.old.code ctx.new.code ctx.old.order ctx.new.order
         (depths_of_arm arm.now (depth_at ctx.old.code ctx.old.at.0))) }
     ensures hands_on { OnOk result (HandsOn ctx.old.at.0 ctx.new.at.0
@@ -394,8 +397,7 @@ fn select_last_arm(
     ensures ready { OnOk result
         (ClosesReadyBeside setting.now ctx.old.code ctx.new.code ctx.old.at.0 behind.0
         (is_sound_arm setting.now.program.now setting.now.id.0 arm.now)) }
-    ensures text { OnOk result (EndsBeside ctx.old.at.0 behind.0
-        ctx.old.code ctx.new.code ctx.old.order ctx.new.order
+    ensures text { OnOk result (Enters ctx.old.code ctx.new.code ctx.old.order ctx.new.order
         (end_depths arm.now (depth_at ctx.old.code ctx.old.at.0))) }
     ensures closes { OnOk result (ClosesOne ctx.old.code ctx.new.code) }
 {

@@ -13,6 +13,3 @@ returns-clause-instructions c = λ old new is. turning.instructions_too old new 
 
 pub returns-clause-depths : goal.returns-clause-depths
 returns-clause-depths c = λ old new is. turning.depths_too old new is
-
-pub returns-clause-leads : goal.returns-clause-leads
-returns-clause-leads c = λ old new is. turning.lead_too old new is

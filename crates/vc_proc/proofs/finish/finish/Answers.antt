@@ -1,4 +1,4 @@
-use Rattle.std.proofs.Common.{◌≡◌, refl, sym, ap, ◌∙◌, subst, arith}
+use Rattle.std.proofs.Common.{◌≡◌, sym, ap, ◌∙◌, subst, arith}
 use Rattle.pra_base.specs.declared.code.End.TheVariants.{Return}
 use Rattle.vc_build.specs.Grow.{with_end}
 use Rattle.vc_build.proofs.Open.{only_open}
@@ -20,6 +20,6 @@ returns c =
     turned_finished c.args.code last ids c.close.new.code c.take_short_ways.result
     (subst (IsFinished c.args.code last ids) (sym new_is)
     (finished order.to order.from c.args.code c.in_ok-code.code last order.reordered
-    c.requires.is_open last_is ids order refl refl c.requires.listing c.requires.text
+    c.requires.is_open last_is ids order
     (only_open c.args.code last c.requires.no_other c.requires.is_open)))
     c.take_short_ways.ensures.turned

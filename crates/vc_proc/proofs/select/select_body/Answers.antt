@@ -2,10 +2,10 @@ use Rattle.std.proofs.Common.{◌≡◌, ◌≤◌, List, [], ◌∷◌, ◌++�
 use Rattle.pra_base.specs.declared.ids.BlockId.{BlockId}
 use Rattle.pra_base.specs.declared.code.VProc.{VProc}
 use Rattle.vc_build.specs.Grow.{count, open_blocks}
-use Rattle.vc_build.specs.Text.{AreInText, IsLast}
+use Rattle.vc_build.specs.Text.{IsLast}
 use Rattle.vc_order.specs.Order.{IsListing}
 use Rattle.vc_proc.specs.Finished.{IsFinished}
-use Rattle.vc_proc.proofs.InText.{first, its_goes, its_listing, its_last, its_text}
+use Rattle.vc_proc.proofs.InText.{first, its_goes, its_listing, its_last}
 use Rattle.vc_select.specs.Targets.{above_setting}
 use Rattle.vc_proc.proofs.Answered.{selected_from}
 use Rattle.vc_proc.proofs.OpenRules.{open_above}
@@ -37,14 +37,6 @@ pub finish-requires-clause-is_last : goal.finish-requires-clause-is_last
 finish-requires-clause-is_last c =
     subst (λ l. IsLast l c.select_statements.new.ctx.at.0) (sym c.as_slice-2.ensures)
     (its_last c.args.setting.now.id.0 c.args.proc.now c.args.code c.select_statements.new.ctx.code _
-    _ _ _ c.requires.opened (c.in_ok-push.ensures.ok ∙ order_begins _ c.new-order.ensures)
-    c.in_ok-select_statements.ensures.text)
-
-pub finish-requires-clause-text : goal.finish-requires-clause-text
-finish-requires-clause-text c =
-    subst (λ l. AreInText c.select_statements.new.ctx.code l c.select_statements.new.ctx.at.0)
-    (sym c.as_slice-2.ensures)
-    (its_text c.args.setting.now.id.0 c.args.proc.now c.args.code c.select_statements.new.ctx.code _
     _ _ _ c.requires.opened (c.in_ok-push.ensures.ok ∙ order_begins _ c.new-order.ensures)
     c.in_ok-select_statements.ensures.text)
 

@@ -41,7 +41,7 @@ use Rattle.vc_select.proofs.NeedsOf.{value_choice, test_split, test_both, test_v
 use Rattle.vc_select.proofs.NeedsOf.{steps_done}
 use Rattle.vc_select.proofs.InText.{text_as, ends_text_as, text_begin, text_end, ends_begin}
 use Rattle.vc_select.proofs.InText.{text_none, text_declared, text_indexed, text_on, text_after}
-use Rattle.vc_select.proofs.InText.{text_ends, text_exchanged, text_split, text_chosen}
+use Rattle.vc_select.proofs.InText.{text_ends, text_split, text_chosen}
 use Rattle.vc_select.proofs.Opens.{hands_after, closes_after, hands_indexed, hands_chosen}
 use Rattle.vc_select.proofs.Opens.{closes_split}
 use Rattle.vc_select.proofs.Ready.{one_ready, both_ready}
@@ -803,7 +803,7 @@ pub select_split_test-returns-clause-closes : goal.select_split_test-returns-cla
 select_split_test-returns-clause-closes t c = closes_split _ _ _ _ _ c.in_ok-right.ensures.made
     c.in_ok-select_test.ensures.closes c.in_ok-select_test-2.ensures.closes
 
--- ---- the order of the text
+-- ---- the blocks that are entered
 
 pub select_expr-returns-in_ok-v-in-Number-clause-text :
     goal.select_expr-returns-in_ok-v-in-Number-clause-text
@@ -824,7 +824,7 @@ select_expr-returns-in_ok-v-in-Var-clause-text t c =
     text_as _ _ _ _ _ _ _ _ (ap (λ (z : Needs). z.value) (needs-Var _ _ c.in-Var.is))
     (text_after _ _ _ _ _ _ _ _ c.in_ok-target-in-Var.ensures.text
     c.in_ok-v-in-Var.ensures.loads.grows (omega (arith, c.in_ok-v-in-Var.ensures.counts.blocks))
-    c.in_ok-target-in-Var.ensures.is_open c.in_ok-v-in-Var.ensures.loads.is_open)
+    c.in_ok-target-in-Var.ensures.is_open)
 
 pub select_expr-returns-in_ok-v-in-Negate-clause-text :
     goal.select_expr-returns-in_ok-v-in-Negate-clause-text
@@ -834,7 +834,7 @@ select_expr-returns-in_ok-v-in-Negate-clause-text t c =
     (text_after _ _ _ _ _ _ _ _ c.in_ok-operand-in-Negate.ensures.text
     c.in_ok-v-in-Negate.ensures.converts.adds.grows
     (omega (arith, c.in_ok-v-in-Negate.ensures.counts.blocks))
-    c.in_ok-operand-in-Negate.ensures.is_open c.in_ok-v-in-Negate.ensures.converts.adds.is_open)
+    c.in_ok-operand-in-Negate.ensures.is_open)
 
 pub select_expr-returns-in_ok-v-in-Not-clause-text :
     goal.select_expr-returns-in_ok-v-in-Not-clause-text
@@ -844,7 +844,7 @@ select_expr-returns-in_ok-v-in-Not-clause-text t c =
     (text_after _ _ _ _ _ _ _ _ c.in_ok-operand-in-Not.ensures.text
     c.in_ok-v-in-Not.ensures.converts.adds.grows
     (omega (arith, c.in_ok-v-in-Not.ensures.counts.blocks))
-    c.in_ok-operand-in-Not.ensures.is_open c.in_ok-v-in-Not.ensures.converts.adds.is_open)
+    c.in_ok-operand-in-Not.ensures.is_open)
 
 pub select_binary-returns-then-is_sided-clause-text :
     goal.select_binary-returns-then-is_sided-clause-text
@@ -862,17 +862,16 @@ select_sides-returns-clause-text t c =
     text_after _ _ _ _ _ _ _ _
     (text_on _ _ _ _ _ _ _ _ _ _ _ c.in_ok-left.ensures.text c.in_ok-right.ensures.text)
     c.in_ok-v.ensures.operates.adds.grows (omega (arith, c.in_ok-v.ensures.counts.blocks))
-    c.in_ok-right.ensures.is_open c.in_ok-v.ensures.operates.adds.is_open
+    c.in_ok-right.ensures.is_open
 
 pub select_choice-returns-clause-text : goal.select_choice-returns-clause-text
 select_choice-returns-clause-text t c =
     text_end _ _ _ _ _ _ _ _ c.in_ok-push-2.ensures.ok
-    (text_chosen c.args.op _ _ _ _ _ _ _ _ _ _ _ _ _ _ c.requires.is_open
-    c.in_ok-choice.ensures.opens c.test_of-targets.ensures c.in_ok-select_test.ensures.text
+    (text_chosen c.args.op _ _ _ _ _ _ _ _ _ _ _ _ _ c.requires.is_open
+    c.in_ok-choice.ensures.opens c.in_ok-select_test.ensures.text
     (text_begin _ _ _ _ _ _ _ _ c.in_ok-push.ensures.ok c.in_ok-v.ensures.text)
     c.in_ok-close_choice.ensures.closes.grows
-    (omega (arith, c.in_ok-close_choice.ensures.counts.blocks)) c.in_ok-v.ensures.is_open
-    c.in_ok-close_choice.ensures.end)
+    (omega (arith, c.in_ok-close_choice.ensures.counts.blocks)))
 
 pub select_var-returns-clause-text : goal.select_var-returns-clause-text
 select_var-returns-clause-text t c =
@@ -913,55 +912,49 @@ select_element-returns-clause-in_range t c = λ k lt is.
 pub select_test-returns-in_ok-select_test-in-Not-clause-text :
     goal.select_test-returns-in_ok-select_test-in-Not-clause-text
 select_test-returns-in_ok-select_test-in-Not-clause-text t c =
-    ends_text_as _ _ _ _ _ _ _ _
+    ends_text_as _ _ _ _ _ _ _
     (ap (λ (z : Needs). z.test) (needs-Not _ _ (c.in-Not.is ∙ ap x.Not (sym c.get.ensures))))
-    (text_exchanged _ _ _ _ _ _ _ _ c.exchanged-other.ensures
-    c.in_ok-select_test-in-Not.ensures.text)
+    c.in_ok-select_test-in-Not.ensures.text
 
 pub select_test-returns-in_ok-branch_on-in_default-clause-text :
     goal.select_test-returns-in_ok-branch_on-in_default-clause-text
 select_test-returns-in_ok-branch_on-in_default-clause-text t c =
-    ends_text_as _ _ _ _ _ _ _ _
+    ends_text_as _ _ _ _ _ _ _
     (test_value c.args.e.now c.in_default.not-Not c.in_default.not-Binary)
-    (text_ends _ _ _ _ _ _ _ _ _ c.in_ok-v-in_default.ensures.text
+    (text_ends _ _ _ _ _ _ _ _ c.in_ok-v-in_default.ensures.text
     c.in_ok-branch_on-in_default.ensures.branches.grows
-    (omega (arith, c.in_ok-branch_on-in_default.ensures.counts.blocks))
-    c.in_ok-v-in_default.ensures.is_open c.in_ok-branch_on-in_default.ensures.leads
-    c.requires.holds c.requires.fails c.requires.is_open.0)
+    (omega (arith, c.in_ok-branch_on-in_default.ensures.counts.blocks)))
 
 pub select_binary_test-returns-then-is_bitwise-clause-text :
     goal.select_binary_test-returns-then-is_bitwise-clause-text
 select_binary_test-returns-then-is_bitwise-clause-text t c =
-    ends_text_as _ _ _ _ _ _ _ _
+    ends_text_as _ _ _ _ _ _ _
     (test_split c.args.op _ _ _ c.requires.is (sym c.is_bitwise.ensures ∙ c.if-is_bitwise.true))
     c.in_ok-select_split_test.ensures.text
 
 pub select_binary_test-returns-then-is_relation-clause-text :
     goal.select_binary_test-returns-then-is_relation-clause-text
 select_binary_test-returns-then-is_relation-clause-text t c =
-    ends_text_as _ _ _ _ _ _ _ _
+    ends_text_as _ _ _ _ _ _ _
     (test_both c.args.op _ _ _ c.requires.is (sym c.is_bitwise.ensures ∙ c.if-is_bitwise.false))
     c.in_ok-select_relation_test.ensures.text
 
 pub select_binary_test-returns-clause-text : goal.select_binary_test-returns-clause-text
 select_binary_test-returns-clause-text t c =
-    ends_text_as _ _ _ _ _ _ _ _
+    ends_text_as _ _ _ _ _ _ _
     (test_both c.args.op _ _ _ c.requires.is (sym c.is_bitwise.ensures ∙ c.if-is_bitwise.false))
-    (text_ends _ _ _ _ _ _ _ _ _ c.in_ok-v.ensures.text c.in_ok-branch_on.ensures.branches.grows
-    (omega (arith, c.in_ok-branch_on.ensures.counts.blocks)) c.in_ok-v.ensures.is_open
-    c.in_ok-branch_on.ensures.leads c.requires.holds c.requires.fails c.requires.is_open.0)
+    (text_ends _ _ _ _ _ _ _ _ c.in_ok-v.ensures.text c.in_ok-branch_on.ensures.branches.grows
+    (omega (arith, c.in_ok-branch_on.ensures.counts.blocks)))
 
 pub select_relation_test-returns-clause-text : goal.select_relation_test-returns-clause-text
 select_relation_test-returns-clause-text t c =
-    text_ends _ _ _ _ _ _ _ _ _
+    text_ends _ _ _ _ _ _ _ _
     (text_on _ _ _ _ _ _ _ _ _ _ _ c.in_ok-left.ensures.text c.in_ok-right.ensures.text)
     c.in_ok-branch_by.ensures.branches.grows
-    (omega (arith, c.in_ok-branch_by.ensures.counts.blocks)) c.in_ok-right.ensures.is_open
-    c.in_ok-branch_by.ensures.leads c.requires.holds c.requires.fails c.requires.is_open.0
+    (omega (arith, c.in_ok-branch_by.ensures.counts.blocks))
 
 pub select_split_test-returns-clause-text : goal.select_split_test-returns-clause-text
 select_split_test-returns-clause-text t c =
-    text_split c.args.op _ _ _ c.args.targets _ _ _ _ _ _ _ _ _ c.requires.is_open
-    c.in_ok-right.ensures.made c.in_ok-right.ensures.number c.inner_targets-inner.ensures
-    c.requires.holds c.requires.fails c.in_ok-select_test.ensures.text
-    (ends_begin _ _ _ _ _ _ _ _ c.in_ok-push.ensures.ok c.in_ok-select_test-2.ensures.text)
+    text_split _ _ _ _ _ _ _ _ _ _ _ c.requires.is_open c.in_ok-right.ensures.made
+    c.in_ok-right.ensures.number c.in_ok-select_test.ensures.text
+    (ends_begin _ _ _ _ _ _ _ c.in_ok-push.ensures.ok c.in_ok-select_test-2.ensures.text)

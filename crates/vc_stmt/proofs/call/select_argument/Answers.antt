@@ -52,4 +52,4 @@ returns-in_ok-v-in-Lent-clause-text c =
     (text_after _ _ _ _ _ _ _ _ c.in_ok-target-in-Lent.ensures.text
     c.in_ok-v-in-Lent.ensures.lends.grows
     (omega (arith, c.in_ok-v-in-Lent.ensures.counts.blocks))
-    c.in_ok-target-in-Lent.ensures.is_open c.in_ok-v-in-Lent.ensures.is_open)
+    c.in_ok-target-in-Lent.ensures.is_open)

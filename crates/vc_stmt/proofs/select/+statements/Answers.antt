@@ -42,9 +42,8 @@ use Rattle.vc_stmt.proofs.LastArm.{alone_ready, alone_statement, alone_counts, a
 use Rattle.vc_stmt.proofs.LastArm.{nothing_does, nothing_counts, nothing_ready, is_none, is_last}
 use Rattle.vc_stmt.proofs.LastArm.{in_init, item_in, past_init, past_all, arms_end}
 use Rattle.vc_stmt.proofs.TextOrder.{goes_as, goes_is, goes_none, goes_more, goes_at, goes_end}
-use Rattle.vc_stmt.proofs.TextOrder.{beside_none, beside_is, beside_more, beside_end, ends_is}
-use Rattle.vc_stmt.proofs.TextOrder.{text_arm, text_last, text_if, text_alone, text_while}
-use Rattle.vc_stmt.proofs.TextOrder.{text_repeat}
+use Rattle.vc_stmt.proofs.TextOrder.{enters_is, text_arm, text_last, text_if, text_alone, test_begins}
+use Rattle.vc_stmt.proofs.TextOrder.{test_ends, text_while, text_repeat, turned_at}
 use Rattle.vc_select.proofs.InText.{ends_begin}
 use Rattle.vc_stmt.proofs.select.+statements.Goals as goal
 
@@ -466,12 +465,12 @@ select_arms-loop-arm-preserved t c = (
       c.loop-arm-test.true c.arm-item.is c.loop-arm.invariant.2.within
       c.in_ok-select_arm.ensures.guards.extends c.in_ok-select_arm.ensures.ready p),
   λ new to after p. c.loop-arm.invariant.7 new to after
-      (beside_is _ _ _ _ _ _ _ _ _
+      (goes_is _ _ _ _ _ _ _ _
       (arms_next c.args.arms.now c.loop-arm.arm-index _
       (depth_at c.loop-arm.ctx.code c.loop-arm.ctx.at.0) c.loop-arm-test.true c.arm-item.is)
-      (beside_more _ _ _ _ _ _ _ _ _ _ _
+      (goes_more _ _ _ _ _ _ _ _ _ _
       (depths_of_arms (drop (c.loop-arm.arm-index + 1) c.args.arms.now))
-      c.loop-arm.invariant.2.within c.in_ok-select_arm.ensures.text p)),
+      c.in_ok-select_arm.ensures.text p)),
   hands_on _ _ _ _ _ _ c.loop-arm.invariant.8 c.in_ok-select_arm.ensures.hands_on,
 )
 
@@ -637,7 +636,7 @@ select_repeat-returns-clause-hands_on t c =
     c.jump-2.ensures.made (λ is. omega (arith, is, c.in_ok-blocks.ensures.test)))
     c.in_ok-select_test.ensures.closes
 
--- ---- the order of the text
+-- ---- the order in which blocks are listed
 
 pub select_statement-returns-in_ok-select_assignment-in-Assign-clause-text :
     goal.select_statement-returns-in_ok-select_assignment-in-Assign-clause-text
@@ -743,38 +742,60 @@ select_statements-returns-clause-text t c =
 
 pub select_arms-returns-clause-text : goal.select_arms-returns-clause-text
 select_arms-returns-clause-text t c = c.loop-arm.invariant.7 _ _ _
-    (beside_is _ _ _ _ _ _ _ _ _
+    (goes_is _ _ _ _ _ _ _ _
     (depths.arms_done c.args.arms.now c.loop-arm.arm-index _ c.loop-arm-test.false)
-    (beside_none _ _ _ _))
+    (goes_none _ _ _))
+
+pub select_while-turn-requires-clause-begins : goal.select_while-turn-requires-clause-begins
+select_while-turn-requires-clause-begins t c =
+    let le = test_begins _ _ _ c.in_ok-blocks.blocks c.requires.is_open
+    c.in_ok-blocks.ensures.made c.in_ok-blocks.ensures.behind c.in_ok-blocks.ensures.body
+    c.in_ok-blocks.ensures.test _ _ _ _ _ _ _ _ _ (depths_of_all c.args.body.now)
+    c.jump.ensures.made
+    (ends_begin _ _ _ _ _ _ _ c.in_ok-push.ensures.ok c.in_ok-select_test.ensures.text)
+    (goes_at _ _ _ _ _ _ _ _ c.in_ok-push-2.ensures.ok c.in_ok-select_statements.ensures.text)
+    c.in_ok-select_statements.ensures.is_open c.jump-2.ensures.made in
+    omega (arith, c.len-begin.ensures, c.len-middle.ensures, le)
+
+pub select_while-turn-requires-clause-ends : goal.select_while-turn-requires-clause-ends
+select_while-turn-requires-clause-ends t c =
+    let le = test_ends _ _ _ c.in_ok-blocks.blocks c.requires.is_open
+    c.in_ok-blocks.ensures.made c.in_ok-blocks.ensures.behind c.in_ok-blocks.ensures.body
+    c.in_ok-blocks.ensures.test _ _ _ _ _ _ _ _ _ (depths_of_all c.args.body.now)
+    c.jump.ensures.made
+    (ends_begin _ _ _ _ _ _ _ c.in_ok-push.ensures.ok c.in_ok-select_test.ensures.text)
+    (goes_at _ _ _ _ _ _ _ _ c.in_ok-push-2.ensures.ok c.in_ok-select_statements.ensures.text)
+    c.in_ok-select_statements.ensures.is_open c.jump-2.ensures.made in
+    omega (arith, c.len-middle.ensures, le)
 
 pub select_while-returns-clause-text : goal.select_while-returns-clause-text
 select_while-returns-clause-text t c =
     goes_end _ _ _ _ _ _ _ _ c.in_ok-push-3.ensures.ok
     (text_while _ _ _ c.in_ok-blocks.blocks c.requires.is_open c.in_ok-blocks.ensures.made
     c.in_ok-blocks.ensures.behind c.in_ok-blocks.ensures.body c.in_ok-blocks.ensures.test _ _ _
-    _ _ _ _ _ _ (depths_of_all c.args.body.now) c.jump.ensures.made _ refl
-    (ends_begin _ _ _ _ _ _ _ _ c.in_ok-push.ensures.ok c.in_ok-select_test.ensures.text)
+    _ _ _ _ _ _ (depths_of_all c.args.body.now) c.jump.ensures.made
+    (ends_begin _ _ _ _ _ _ _ c.in_ok-push.ensures.ok c.in_ok-select_test.ensures.text)
     (goes_at _ _ _ _ _ _ _ _ c.in_ok-push-2.ensures.ok c.in_ok-select_statements.ensures.text)
-    c.in_ok-select_statements.ensures.is_open c.jump-2.ensures.made)
+    c.in_ok-select_statements.ensures.is_open c.jump-2.ensures.made _
+    (turned_at _ _ _ _ _ _ c.len-begin.ensures c.len-middle.ensures c.turn.ensures))
 
 pub select_repeat-returns-clause-text : goal.select_repeat-returns-clause-text
 select_repeat-returns-clause-text t c =
     goes_end _ _ _ _ _ _ _ _ c.in_ok-push-3.ensures.ok
     (text_repeat _ _ _ c.in_ok-blocks.blocks c.requires.is_open c.in_ok-blocks.ensures.made
     c.in_ok-blocks.ensures.behind c.in_ok-blocks.ensures.body c.in_ok-blocks.ensures.test _ _ _
-    _ _ _ _ _ _ (depths_of_all c.args.body.now) c.jump.ensures.made _ refl
+    _ _ _ _ _ _ (depths_of_all c.args.body.now) c.jump.ensures.made
     (goes_at _ _ _ _ _ _ _ _ c.in_ok-push.ensures.ok c.in_ok-select_statements.ensures.text)
     c.in_ok-select_statements.ensures.is_open c.jump-2.ensures.made
-    (ends_begin _ _ _ _ _ _ _ _ c.in_ok-push-2.ensures.ok c.in_ok-select_test.ensures.text))
+    (ends_begin _ _ _ _ _ _ _ c.in_ok-push-2.ensures.ok c.in_ok-select_test.ensures.text))
 
 pub select_arm-returns-clause-text : goal.select_arm-returns-clause-text
 select_arm-returns-clause-text t c =
-    beside_end _ _ _ _ _ _ _ _ _ c.in_ok-push-2.ensures.ok
-    (beside_is _ _ _ _ _ _ _ _ _ (arm_depths_are c.args.arm.now _ _ c.as_slice.ensures)
+    goes_end _ _ _ _ _ _ _ _ c.in_ok-push-2.ensures.ok
+    (goes_is _ _ _ _ _ _ _ _ (arm_depths_are c.args.arm.now _ _ c.as_slice.ensures)
     (text_arm _ _ _ c.in_ok-targets.targets c.in_ok-targets.ensures.made
     c.in_ok-targets.ensures.fails c.in_ok-targets.ensures.holds _ _ c.args.behind _ _ _ _ _ _
-    (depths_of_all c.as_slice.result.now) c.requires.is_open c.requires.waits.within
-    c.in_ok-select_test.ensures.text
+    (depths_of_all c.as_slice.result.now) c.requires.is_open c.in_ok-select_test.ensures.text
     (goes_at _ _ _ _ _ _ _ _ c.in_ok-push.ensures.ok c.in_ok-select_statements.ensures.text)
     c.in_ok-select_statements.ensures.is_open c.jump.ensures.made))
 
@@ -832,11 +853,10 @@ select_last_arm-returns-clause-closes t c =
 
 pub select_last_arm-returns-clause-text : goal.select_last_arm-returns-clause-text
 select_last_arm-returns-clause-text t c =
-    ends_is _ _ _ _ _ _ _ _ (end_depths_are c.args.arm.now _ _ c.as_slice.ensures)
-    (text_last _ _ _ c.in_ok-holds.holds c.args.behind _ _ _ _ _ _ _ _ _
+    enters_is _ _ _ _ _ _ (end_depths_are c.args.arm.now _ _ c.as_slice.ensures)
+    (text_last _ _ _ c.in_ok-holds.holds c.args.behind _ _ _ _ _ _ _ _
     (depths_of_all c.as_slice.result.now) c.requires.is_open c.in_ok-holds.ensures.made
-    c.in_ok-holds.ensures.number refl c.requires.waits.within
-    c.in_ok-select_test.ensures.text
+    c.in_ok-holds.ensures.number c.in_ok-select_test.ensures.text
     (goes_at _ _ _ _ _ _ _ _ c.in_ok-push.ensures.ok c.in_ok-select_statements.ensures.text)
     c.in_ok-select_statements.ensures.is_open c.jump.ensures.made)
 
@@ -921,8 +941,8 @@ select_if-returns-clause-text t c =
     (is_last c.args.arms.now _ c.in-len1-up.len_at_least c.last-item.is))
     (text_alone _ _ c.in_ok-behind.behind _ _ _ _ _ c.requires.is_open c.in_ok-behind.ensures.made
     c.in_ok-behind.ensures.number (depths_of_arms (take_init c.args.arms.now))
-    (end_depths c.last-item.result) _ _ c.in_ok-select_first_arms.ensures.is_open.0
-    c.in_ok-select_first_arms.ensures.text c.in_ok-select_last_arm.ensures.text))
+    (end_depths c.last-item.result) _ _ c.in_ok-select_first_arms.ensures.text
+    c.in_ok-select_last_arm.ensures.text))
 
 pub select_first_arms-returns-then-left-lt2-clause-chooses :
     goal.select_first_arms-returns-then-left-lt2-clause-chooses
@@ -948,10 +968,10 @@ select_first_arms-returns-then-left-lt2-clause-ready t c =
 pub select_first_arms-returns-then-left-lt2-clause-text :
     goal.select_first_arms-returns-then-left-lt2-clause-text
 select_first_arms-returns-then-left-lt2-clause-text t c = c.loop-arm.invariant.7 _ _ _
-    (beside_is _ _ _ _ _ _ _ _ _
+    (goes_is _ _ _ _ _ _ _ _
     (depths.arms_done (take_init c.args.arms.now) c.loop-arm.arm-index _
     (past_init c.args.arms.now c.loop-arm.arm-index c.loop-arm.left c.loop-arm.invariant.9
-    c.if-left-lt2.true)) (beside_none _ _ _ _))
+    c.if-left-lt2.true)) (goes_none _ _ _))
 
 pub select_first_arms-returns-then-left-lt2-clause-hands_on :
     goal.select_first_arms-returns-then-left-lt2-clause-hands_on
@@ -975,9 +995,9 @@ select_first_arms-returns-clause-ready t c =
 
 pub select_first_arms-returns-clause-text : goal.select_first_arms-returns-clause-text
 select_first_arms-returns-clause-text t c = c.loop-arm.invariant.7 _ _ _
-    (beside_is _ _ _ _ _ _ _ _ _
+    (goes_is _ _ _ _ _ _ _ _
     (depths.arms_done (take_init c.args.arms.now) c.loop-arm.arm-index _
-    (past_all c.args.arms.now c.loop-arm.arm-index c.loop-arm-test.false)) (beside_none _ _ _ _))
+    (past_all c.args.arms.now c.loop-arm.arm-index c.loop-arm-test.false)) (goes_none _ _ _))
 
 pub select_first_arms-returns-clause-hands_on : goal.select_first_arms-returns-clause-hands_on
 select_first_arms-returns-clause-hands_on t c = c.loop-arm.invariant.8
@@ -1022,15 +1042,15 @@ select_first_arms-loop-arm-preserved t c = (
       c.if-left-lt2.false c.arm-item.is) c.loop-arm.invariant.2.within
       c.in_ok-select_arm.ensures.guards.extends c.in_ok-select_arm.ensures.ready p),
   λ new to after p. c.loop-arm.invariant.7 new to after
-      (beside_is _ _ _ _ _ _ _ _ _
+      (goes_is _ _ _ _ _ _ _ _
       (arms_next (take_init c.args.arms.now) c.loop-arm.arm-index _
       (depth_at c.loop-arm.ctx.code c.loop-arm.ctx.at.0)
       (in_init c.args.arms.now c.loop-arm.arm-index c.loop-arm.left c.loop-arm.invariant.9
       c.if-left-lt2.false) (item_in c.args.arms.now c.loop-arm.arm-index c.loop-arm.left _
       c.loop-arm.invariant.9 c.if-left-lt2.false c.arm-item.is))
-      (beside_more _ _ _ _ _ _ _ _ _ _ _
+      (goes_more _ _ _ _ _ _ _ _ _ _
       (depths_of_arms (drop (c.loop-arm.arm-index + 1) (take_init c.args.arms.now)))
-      c.loop-arm.invariant.2.within c.in_ok-select_arm.ensures.text p)),
+      c.in_ok-select_arm.ensures.text p)),
   hands_on _ _ _ _ _ _ c.loop-arm.invariant.8 c.in_ok-select_arm.ensures.hands_on,
   omega (arith, c.loop-arm.invariant.9, c.if-left-lt2.false),
 )

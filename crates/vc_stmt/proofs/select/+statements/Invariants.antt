@@ -8,7 +8,7 @@ use Rattle.vc_typed.specs.Nodes.{nodes_in_all}
 use Rattle.vc_stmt.specs.Amounts.{AddsForStatements, AddsForArms}
 use Rattle.vc_stmt.specs.Arms.{Chooses, take_init}
 use Rattle.vc_stmt.specs.Blocks.{Waits}
-use Rattle.vc_stmt.specs.Depths.{GoesOnBeside, depths_of_all, depths_of_arms}
+use Rattle.vc_stmt.specs.Depths.{depths_of_all, depths_of_arms}
 use Rattle.vc_stmt.specs.Does.{Does}
 use Rattle.vc_stmt.specs.Ready.{KeepsReady, KeepsReadyBeside}
 use Rattle.vc_stmt.specs.Sound.{are_sound, are_sound_arms}
@@ -56,9 +56,9 @@ invariant-select_arms-loop-arm l =
     KeepsReadyBeside l.setting l.fn.ctx.code new l.fn.ctx.at.0 to l.behind.0
     (are_sound_arms l.setting.program.now l.setting.id.0 l.arms))
     × ((new : VProc) (to : ℕ) (after : List BlockId) →
-    GoesOnBeside l.ctx.at.0 to l.behind.0 l.ctx.code new l.ctx.order after
+    GoesOn l.ctx.at.0 to l.ctx.code new l.ctx.order after
     (depths_of_arms (drop l.arm-index l.arms) (depth_at l.ctx.code l.ctx.at.0)) →
-    GoesOnBeside l.fn.ctx.at.0 to l.behind.0 l.fn.ctx.code new l.fn.ctx.order after
+    GoesOn l.fn.ctx.at.0 to l.fn.ctx.code new l.fn.ctx.order after
     (depths_of_arms l.arms (depth_at l.fn.ctx.code l.fn.ctx.at.0)))
     × HandsOn l.fn.ctx.at.0 l.ctx.at.0 l.fn.ctx.code l.ctx.code
 
@@ -81,9 +81,9 @@ invariant-select_first_arms-loop-arm l =
     KeepsReadyBeside l.setting l.fn.ctx.code new l.fn.ctx.at.0 to l.behind.0
     (are_sound_arms l.setting.program.now l.setting.id.0 (take_init l.arms)))
     × ((new : VProc) (to : ℕ) (after : List BlockId) →
-    GoesOnBeside l.ctx.at.0 to l.behind.0 l.ctx.code new l.ctx.order after
+    GoesOn l.ctx.at.0 to l.ctx.code new l.ctx.order after
     (depths_of_arms (drop l.arm-index (take_init l.arms)) (depth_at l.ctx.code l.ctx.at.0)) →
-    GoesOnBeside l.fn.ctx.at.0 to l.behind.0 l.fn.ctx.code new l.fn.ctx.order after
+    GoesOn l.fn.ctx.at.0 to l.fn.ctx.code new l.fn.ctx.order after
     (depths_of_arms (take_init l.arms) (depth_at l.fn.ctx.code l.fn.ctx.at.0)))
     × HandsOn l.fn.ctx.at.0 l.ctx.at.0 l.fn.ctx.code l.ctx.code
     × (l.left + l.arm-index ≡ length l.arms)

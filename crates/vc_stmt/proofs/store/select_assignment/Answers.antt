@@ -40,4 +40,4 @@ returns-clause-text c =
     text_after _ _ _ _ _ _ _ _
     (text_on _ _ _ _ _ _ _ _ _ _ _ c.in_ok-target.ensures.text c.in_ok-value.ensures.text)
     c.in_ok-store.ensures.stores.grows (omega (arith, c.in_ok-store.ensures.counts.blocks))
-    c.in_ok-value.ensures.is_open c.in_ok-store.ensures.is_open
+    c.in_ok-value.ensures.is_open

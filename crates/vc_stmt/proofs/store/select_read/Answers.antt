@@ -30,4 +30,4 @@ returns-clause-hands_on c = hands_after _ _ _ _ _ c.in_ok-target.ensures.hands_o
 pub returns-clause-text : goal.returns-clause-text
 returns-clause-text c = text_after _ _ _ _ _ _ _ _ c.in_ok-target.ensures.text
     c.in_ok-read.ensures.reads.grows (omega (arith, c.in_ok-read.ensures.counts.blocks))
-    c.in_ok-target.ensures.is_open c.in_ok-read.ensures.is_open
+    c.in_ok-target.ensures.is_open
