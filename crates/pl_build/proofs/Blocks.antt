@@ -20,7 +20,7 @@ use Rattle.net_form.specs.Network.{IsNet}
 use Rattle.net_form.specs.Rooms.{layer_total}
 use Rattle.net_form.specs.Tables.{all_tables}
 use Rattle.net_form.proofs.NetworkFormed.{formed}
-use Rattle.pl_allowed.proofs.CanMove.{can_move_at}
+use Rattle.pl_made.proofs.CanMove.{can_move_at}
 use Rattle.pl_moves.specs.declared.transfer.Pair.{Pair}
 use Rattle.pl_moves.specs.Assignment.{can_move}
 use Rattle.pl_made.specs.Made.{LaysMoves}

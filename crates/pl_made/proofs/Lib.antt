@@ -5,3 +5,6 @@ pub mod Placed
 pub mod Rules
 pub mod Whole
 pub mod SampleIsMade
+pub mod Apart
+pub mod CanMove
+pub mod Few

@@ -56,7 +56,7 @@ use Rattle.pra_base.specs.declared.ids.Place.TheVariants.{Const}
 use Rattle.std.specs.Prelude.{option_map}
 use Rattle.pl_routed.proofs.Slots.{any_in}
 use Rattle.pl_routed.proofs.Transferred.{At, edge_suits}
-use Rattle.pl_allowed.proofs.Few.{few_at}
+use Rattle.pl_made.proofs.Few.{few_at}
 use Rattle.pl_made.specs.Made.{IsMade}
 use Rattle.pl_made.proofs.Parts.{MoveOf, move_in, op_in, few_in, bare_in}
 

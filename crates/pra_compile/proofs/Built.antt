@@ -15,7 +15,7 @@ use Rattle.ia_asm.specs.Assembly.{IsImageOf}
 use Rattle.ia_code.specs.declared.image.Image.{Image}
 use Rattle.ia_code.specs.Image.{max_code_bytes}
 use Rattle.ia_emit.specs.Code.{code_size}
-use Rattle.vc_short.specs.Short.{IsShort}
+use Rattle.vc_checked.specs.Short.{IsShort}
 use Rattle.vc_stmt.specs.Completes.{are_words}
 use Rattle.vc_typed.specs.TypedModules.{IsSelectable}
 use Rattle.vc_valid.specs.Listed.{HasCode}

@@ -7,7 +7,7 @@ ghost use Rattle.pra_base.specs.declared.code.VProc.{VProc};
 ghost use Rattle.pra_compile.specs.Compiled.{IsCompiled, IsCompiledBy, codes_in, codes_of, wanted_of};
 ghost use Rattle.pra_compile.specs.Tidied.{IsCodeOfModule, IsNamedOf, name_of};
 ghost use Rattle.pra_follow.specs.Tidied.{IsTidied};
-ghost use Rattle.vc_short.specs.Short.{IsShort};
+ghost use Rattle.vc_checked.specs.Short.{IsShort};
 ghost use Rattle.vc_typed.specs.Nodes.{HaveTheirNodes};
 ghost use Rattle.vc_typed.specs.TypedModules.{IsSelectable};
 

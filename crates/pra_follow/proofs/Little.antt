@@ -4,7 +4,7 @@ use Rattle.std.specs.List.{sum_by}
 use Rattle.ob_syntax.specs.declared.checked.Checked.{Checked}
 use Rattle.ob_syntax.specs.declared.checked.CheckedProc.{CheckedProc}
 use Rattle.vc_typed.specs.TypedModules.{scalar_locals, IsLimited}
-use Rattle.vc_short.specs.Short.{IsShort}
+use Rattle.vc_checked.specs.Short.{IsShort}
 use Rattle.pra_follow.proofs.Sums.{sum_below}
 
 pub few_instructions : (program : Checked) → IsLimited program → IsShort program →

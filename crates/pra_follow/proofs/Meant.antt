@@ -17,8 +17,8 @@ use Rattle.ia_code.specs.declared.image.Image.{Image}
 use Rattle.ia_step.specs.Run.{progress}
 use Rattle.ia_step.proofs.Runs.{progress_keeps}
 use Rattle.vc_code.specs.Selected.{vrun, RunsWell}
-use Rattle.vc_module.proofs.Followed.{module_carried, module_well}
-use Rattle.vc_module.proofs.Together.{all_replaced}
+use Rattle.vc_proc.proofs.Followed.{module_carried, module_well}
+use Rattle.vc_proc.proofs.Together.{all_replaced}
 use Rattle.vc_proc.specs.Selected.{parameter_counts}
 use Rattle.vc_same.specs.SameRuns.{SameRuns}
 use Rattle.vc_stmt.specs.Completes.{are_words}

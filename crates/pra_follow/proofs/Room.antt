@@ -16,7 +16,7 @@ use Rattle.ia_emit.proofs.FewBytes.{few_bytes}
 use Rattle.pl_place.specs.declared.placed.LProc.{LProc}
 use Rattle.pl_place.specs.Valid.{IsPlaced}
 use Rattle.vc_typed.specs.TypedModules.{scalar_locals, IsLimited}
-use Rattle.vc_short.specs.Short.{IsShort}
+use Rattle.vc_checked.specs.Short.{IsShort}
 use Rattle.pra_follow.specs.Codes.{Carriage, AreCarriages, behind}
 use Rattle.pra_follow.specs.Tidied.{IsTidied, AreTidied}
 use Rattle.pra_follow.proofs.Carriages.{stands_behind, carriage_placed}

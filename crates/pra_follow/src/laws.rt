@@ -22,7 +22,7 @@ ghost use Rattle.pra_follow.specs.Codes.{FollowsUntilStuck};
 ghost use Rattle.pra_follow.specs.Follows.{DoesAsMeant, with_data};
 ghost use Rattle.pra_follow.specs.Tidied.{IsCodeOf, IsTidied, AreTidied};
 ghost use Rattle.vc_code.specs.Selected.{vrun, RunsWell};
-ghost use Rattle.vc_short.specs.Short.{IsShort};
+ghost use Rattle.vc_checked.specs.Short.{IsShort};
 ghost use Rattle.vc_stmt.specs.Completes.{are_words};
 ghost use Rattle.vc_typed.specs.TypedModules.{scalar_locals, IsLimited, IsSelectable};
 

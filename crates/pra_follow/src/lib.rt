@@ -9,7 +9,7 @@
 //! What a module means comes on top of that. `specs/Tidied` says which codes stand for its
 //! procedures: tidy code in the place of what selection answers. Such codes do what the module means
 //! and are never stuck (`tidied_codes_do_as_meant`), so an image that follows them does it too
-//! (`followers_do_as_meant`, `specs/Follows`). Where the module is short (`IsShort` of vc_short), an
+//! (`followers_do_as_meant`, `specs/Follows`). Where the module is short (`IsShort` of vc_checked), an
 //! image has room for it (`short_modules_fit_an_image`).
 #![tactic(auto)]
 

@@ -28,8 +28,8 @@ use Rattle.pra_tool.specs.declared.compiler.Made.{Made}
 use Rattle.pra_tool.specs.declared.source.Sourced.{Sourced}
 use Rattle.pra_tool.specs.Compiling.{MadeOf, wanted_by, weights_by}
 use Rattle.pra_tool.specs.Sources.{IsModuleOf, IsModuleSource, IsSourced, IsSource}
-use Rattle.vc_short.proofs.Short.{module_short}
-use Rattle.vc_short.specs.Short.{IsShort}
+use Rattle.vc_checked.proofs.Short.{module_short}
+use Rattle.vc_checked.specs.Short.{IsShort}
 use Rattle.vc_typed.proofs.BodyNodes.{module_nodes}
 use Rattle.vc_typed.proofs.Selectable.{module_selectable}
 use Rattle.vc_typed.specs.Nodes.{HaveTheirNodes}

@@ -8,3 +8,5 @@ pub mod OpenRules
 pub mod Ordered
 pub mod Sizes
 pub mod Answered
+pub mod Together
+pub mod Followed

@@ -1,4 +1,4 @@
-//! The selected code of one procedure of a checked module.
+//! The selected code of one procedure of a checked module, and what holds of all of them together.
 //!
 //! # What is promised
 //!
@@ -8,6 +8,14 @@
 //! their callees take, and it has no more than so much for each node of the statements. Its blocks
 //! stand in the order of the text, but that the test of a WHILE stands behind its statements; each
 //! is in as many loops as what it is made for (`depths`).
+//!
+//! Where there is such code for each procedure, all calls do what they mean
+//! (`calls_follow_their_meaning` of [`laws`]), by an induction on how much deeper calls may stand:
+//! the step into a call makes up for one call less, and the call's frame is tested against the
+//! stack's limit as the meaning tests it. So the module's code carries each step of its meaning,
+//! for all frames and every input, and is never stuck (`modules_follow_their_meaning`). Where each
+//! procedure may stand in the place of an old one, all of them together may
+//! (`procedures_are_replaced_together`).
 //!
 //! # How the code is made
 //!
@@ -33,11 +41,13 @@
 //! `Embodying`: from there what vc_stmt promises of the statements leads to the state before
 //! Return. `OpenRules`: the code before the statements keeps the rules, with a certificate by which
 //! at the entry the variables of parameters alone may be read. `Ordered`: the rules, the
-//! certificate and the runs in the new order. `Sizes` counts, and `Answered` joins all.
+//! certificate and the runs in the new order. `Sizes` counts, and `Answered` joins all. Of a whole
+//! module: `Followed`, and `Together` for procedures in the place of others.
 #![tactic(auto)]
 
 pub mod finish;
 pub mod homes;
+pub mod laws;
 pub mod number;
 pub mod opening;
 pub mod select;

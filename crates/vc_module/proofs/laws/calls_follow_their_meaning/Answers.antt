@@ -1,6 +1,0 @@
-use Rattle.vc_module.proofs.Followed.{calls_follow}
-use Rattle.vc_module.proofs.laws.calls_follow_their_meaning.Goals as goal
-
-pub returns : goal.returns
-returns c = λ program w turns deeper least calls selectable all lt ld. calls_follow program w
-    selectable all turns deeper calls least lt ld

@@ -1,4 +1,0 @@
-pub mod Totals
-pub mod TreeTokens
-pub mod ReadVariables
-pub mod Short

@@ -1,5 +1,0 @@
-use Rattle.vc_short.proofs.Short.{module_short}
-use Rattle.vc_short.proofs.laws.modules_are_short.Goals as goal
-
-pub returns : goal.returns
-returns c = module_short
