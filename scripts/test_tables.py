@@ -5,7 +5,7 @@ import os
 import unittest
 
 import needs
-from tables import expressions, modules, placing, rounds, rows, sweeps, tool
+from tables import expressions, meant, modules, placing, rounds, rows, sweeps, tool
 
 DRAWN = 300  # expressions of each kind
 SEED = 1
@@ -36,6 +36,10 @@ class Tables(unittest.TestCase):
     def test_code_that_is_placed_by_routes(self):
         for name in ("placed", "forced", "near", "far"):
             self.check_rows(placing.differences, rows.rows_of(name))
+
+    @needs.compiler
+    def test_what_code_means(self):
+        self.check_rows(meant.differences, rows.rows_of("meant"))
 
     @needs.compiler
     def test_each_choice_of_places(self):

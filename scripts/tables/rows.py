@@ -25,6 +25,11 @@ def lines_of(name):
     return JOINED.sub("", text).splitlines()
 
 
+def repeated(line):
+    """A line in which each word that has a count behind `*` stands so often."""
+    return REPEATED.sub(lambda it: " ".join([it[1]] * int(it[2])), line)
+
+
 @dataclasses.dataclass
 class Row:
     """A row as far as it was read."""
@@ -60,7 +65,7 @@ class Row:
 
     def take_code(self, line):
         """Takes places of a strand, or a line of code."""
-        line = REPEATED.sub(lambda it: " ".join([it[1]] * int(it[2])), line)
+        line = repeated(line)
         if (path := sketches.path(line)) is not None:
             self.paths[-1].append(path)
             return

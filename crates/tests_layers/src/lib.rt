@@ -1,7 +1,7 @@
 //! Tests of the public calls of single layers that no word of the tool reaches.
 //!
 //! Of the front `lexical`, `grammar` and `meaning` (rows in `meaning_rows`; `sources` says how a row
-//! writes a source). Of selection `operands`, `templates`, `runs`, `liveness` and `tidy`. Of the
+//! writes a source). Of selection `operands`, `templates`, `liveness` and `tidy`. Of the
 //! network `networks`, `network_routes` with `verdicts`, and `moves`. Of the machine
 //! `instructions`, `programs` (rows in `program_rows`) and `image_files`. `lists` has lists and
 //! owned values.
@@ -39,8 +39,6 @@ mod operands;
 mod program_rows;
 #[cfg(test)]
 mod programs;
-#[cfg(test)]
-mod runs;
 #[cfg(test)]
 mod sources;
 #[cfg(test)]
