@@ -1,10 +1,9 @@
 //! Tests of the public calls of single layers that no word of the tool reaches.
 //!
-//! Of the front `lexical`, `grammar` and `meaning` (rows in `meaning_rows`; `sources` says how a row
-//! writes a source). Of selection `operands`, `templates`, `liveness` and `tidy`. Of the
-//! network `networks`, `network_routes` with `verdicts`, and `moves`. Of the machine
-//! `instructions`, `programs` (rows in `program_rows`) and `image_files`. `lists` has lists and
-//! owned values.
+//! Of the front `lexical` and `grammar` (`sources` says how a row writes a source). Of selection
+//! `operands`, `templates`, `liveness` and `tidy`. Of the network `networks`, `network_routes` with
+//! `verdicts`, and `moves`. Of the machine `instructions`, `programs` (rows in `program_rows`) and
+//! `image_files`. `lists` has lists and owned values.
 //!
 //! Each module has tables, in which a row costs no proof, and the functions that read them. They
 //! stand in one crate because each crate of tests proves and builds the layers below anew. Nothing
@@ -23,10 +22,6 @@ mod lexical;
 mod lists;
 #[cfg(test)]
 mod liveness;
-#[cfg(test)]
-mod meaning;
-#[cfg(test)]
-mod meaning_rows;
 #[cfg(test)]
 mod moves;
 #[cfg(test)]
