@@ -1,6 +1,6 @@
 //! Tests of the public calls of single layers that no word of the tool reaches.
 //!
-//! Of the front `lexical` and `grammar` (`sources` says how a row writes a source). Of selection
+//! Of the front `lexical` (`sources` says how a row writes a source) and `grammar`. Of selection
 //! `operands`, `templates`, `liveness` and `tidy`. Of the network `networks`, `network_routes` with
 //! `verdicts`, and `moves`. Of the machine `instructions`, `programs` (rows in `program_rows`) and
 //! `image_files`. `lists` has lists and owned values.
