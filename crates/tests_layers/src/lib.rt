@@ -1,9 +1,9 @@
 //! Tests of the public calls of single layers that no word of the tool reaches.
 //!
-//! Of the front `lexical` (`sources` says how a row writes a source) and `grammar`. Of selection
-//! `operands`, `templates`, `liveness` and `tidy`. Of the network `networks`, `network_routes` with
-//! `verdicts`, and `moves`. Of the machine `instructions`, `programs` (rows in `program_rows`) and
-//! `image_files`. `lists` has lists and owned values.
+//! Of the front `lexical` and `grammar`. Of selection `operands`, `templates`, `liveness` and `tidy`.
+//! Of the network `networks`, `network_routes` with `verdicts`, and `moves`. Of the machine
+//! `instructions`, `programs` (rows in `program_rows`) and `image_files`. `lists` has lists and owned
+//! values.
 //!
 //! Each module has tables, in which a row costs no proof, and the functions that read them. They
 //! stand in one crate because each crate of tests proves and builds the layers below anew. Nothing
@@ -34,8 +34,6 @@ mod operands;
 mod program_rows;
 #[cfg(test)]
 mod programs;
-#[cfg(test)]
-mod sources;
 #[cfg(test)]
 mod templates;
 #[cfg(test)]
