@@ -1,8 +1,9 @@
 """Modules, by their image and by their meaning.
 
 In what comes of a row `1*3` is a 1 that is written three times. `left 1 4` says that procedure 1
-has 4 instructions when it is tidy, and `depths` how many loops stand around each block of the body,
-in the order of the text. `home` says how many procedures and words of data an image without rounds
+has 4 instructions when it is tidy, `code 1` and what stands behind it what they are, in the form of
+sketches with `;` between two lines, and `depths` how many loops stand around each block of the
+body, in the order of the text. `home` says how many procedures and words of data an image without rounds
 has.
 """
 
@@ -13,11 +14,11 @@ import struct
 
 from calls.reader import FILE
 from pranet import certificate
-from tables import rows, tool
+from tables import rows, sketches, tool
 
 STEPS = 10000000
 EVENT = re.compile(r" -?\d+(?=[ /]|$)|/")
-KEYS = ("input", "steps", "left", "depths", "image")
+KEYS = ("input", "steps", "left", "code", "depths", "image")
 
 
 @dataclasses.dataclass
@@ -80,9 +81,18 @@ def differences(row, expected):
     )):
         if found != expected:
             yield f"{way}: {found}"
-    if row.said.keys() & {"left", "depths"}:
+    if row.said.keys() & {"left", "code", "depths"}:
         made = tool.call(["cert", FILE, "--rounds=0"], {FILE: text.encode()})
         yield from tidied_otherwise(row, certificate.read(made.out.decode()).procedures)
+
+
+def sketched(text):
+    """The variables and blocks of a procedure that lines of a sketch are."""
+    sketch = sketches.Sketch()
+    for line in text.split("; "):
+        sketch.take(line)
+    (procedure,) = sketch.procedures
+    return procedure.args, procedure.aggregates, procedure.variables, procedure.blocks
 
 
 def tidied_otherwise(row, procedures):
@@ -92,6 +102,12 @@ def tidied_otherwise(row, procedures):
         found = sum(len(block.code) for block in procedures[number].blocks)
         if found != count:
             yield f"procedure {number} has {found} instructions"
+    for said in row.said.get("code", ()):
+        number, _, text = said.partition(" ")
+        it = procedures[int(number)]
+        found = it.args, it.aggregates, it.variables, it.blocks
+        if found != sketched(text):
+            yield f"procedure {number} is {found}"
     if "depths" in row.said:
         depths = " ".join(str(block.depth) for block in procedures[0].blocks)
         if depths != row.one("depths", ""):

@@ -1,7 +1,6 @@
 //! Tests of the public calls of single layers that no word of the tool reaches.
 //!
-//! Of the front `lexical` and `grammar`. Of selection `operands`, `templates`, `liveness` and `tidy`.
-//! Of the network `networks`, `network_routes` with `verdicts`, and `moves`. Of the machine
+//! Of the front `lexical` and `grammar`. Of selection `operands` and `liveness`. Of the network `networks`, `network_routes` with `verdicts`, and `moves`. Of the machine
 //! `instructions`, `programs` (rows in `program_rows`) and `image_files`. `lists` has lists and owned
 //! values.
 //!
@@ -34,9 +33,5 @@ mod operands;
 mod program_rows;
 #[cfg(test)]
 mod programs;
-#[cfg(test)]
-mod templates;
-#[cfg(test)]
-mod tidy;
 #[cfg(test)]
 mod verdicts;

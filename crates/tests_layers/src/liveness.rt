@@ -1,9 +1,8 @@
-// Liveness of procedures, drawn layer by layer, and where sized code ends. What is expected is
-// worked by hand.
+// Liveness of procedures, drawn layer by layer. What is expected is worked by hand.
 //
 // A row begins with its name behind `#` and has the code of a procedure. Behind `=` stands a line
 // for each variable, with a mark for each layer of a block, `#` where the variable is live, and the
-// blocks beside one another; or that the code is not sized.
+// blocks beside one another.
 
 use pra_base::{BlockId, VProc, VarId};
 use sketch::Sketch;
@@ -163,41 +162,6 @@ proc 2 0 param 1
 load v0 cell 1
 jump 0
 = ....
-# a parameter past the arguments
-proc 2 0 param 2
-line
-return
-= not sized
-# a variable is read that is not there
-proc 2 0 plain
-write v1
-return
-= not sized
-# a variable is written that is not there
-proc 2 0 plain
-set v1 0
-return
-= not sized
-# an address in the cell of no argument
-proc 2 0 plain
-addr v0 cell 2
-return
-= not sized
-# a jump to no block
-proc 2 0 plain
-line
-jump 1
-= not sized
-# a branch to no block
-proc 2 0 plain
-line
-branch l 0 1
-= not sized
-# six loops in each other
-proc 2 0
-loops 6
-return
-= not sized
 # the end
 ";
 
@@ -279,8 +243,8 @@ fn each_row_is_live_where_it_says(rt: HostRuntime) -> Result<(), Fail> {
 }
 
 /// The first line of a procedure with so many plain variables.
-fn heading(alloc: Global, args: u32, aggregates: u32, vars: usize) -> Result<String, AllocError> {
-    let mut line = format!(in alloc; "proc {args} {aggregates}")?;
+fn heading(alloc: Global, vars: usize) -> Result<String, AllocError> {
+    let mut line = String::from_str(alloc, "proc 2 0")?;
     for _ in 0..vars {
         line.push_str(" plain")?;
     }
@@ -345,44 +309,11 @@ fn check_past_the_end(rt: &impl Abort, alloc: Global, code: &VProc) -> Result<()
 
 #[test]
 fn nothing_is_live_past_the_end(rt: HostRuntime) -> Result<(), Fail> {
-    let first = heading(rt.alloc(), 2, 0, 130)?;
+    let first = heading(rt.alloc(), 130)?;
     let rest = "jump 1\nwrite v63\nwrite v64\nwrite v129\nreturn";
     let sketch = read_code(&rt, rt.alloc(), &first, rest)?;
     for code in sketch.module(0)?.procs.as_slice() {
         check_past_the_end(&rt, rt.alloc(), code)?;
-    }
-    Ok(())
-}
-
-/// So many blocks in five loops, the first with so many instructions.
-fn blocks(alloc: Global, count: usize, instructions: usize) -> Result<String, AllocError> {
-    let mut text = String::from_str(alloc, "loops 5\n")?;
-    for _ in 0..instructions {
-        text.push_str("line\n")?;
-    }
-    text.push_str("return\n")?;
-    for _ in 1..count {
-        text.push_str("loops 5\nreturn\n")?;
-    }
-    Ok(text)
-}
-
-#[test]
-fn sized_code_ends_at_its_limits(rt: HostRuntime) -> Result<(), Fail> {
-    for (args, aggregates, vars, count, instructions, wanted) in [
-        (32, 65_536, 16_383, 4_098, 8_321, true),
-        (33, 65_536, 16_383, 4_098, 8_321, false),
-        (32, 65_537, 16_383, 4_098, 8_321, false),
-        (2, 0, 16_384, 1, 0, false),
-        (2, 0, 0, 4_099, 0, false),
-        (2, 0, 0, 1, 8_322, false),
-    ] {
-        let first = heading(rt.alloc(), args, aggregates, vars)?;
-        let rest = blocks(rt.alloc(), count, instructions)?;
-        let sketch = read_code(&rt, rt.alloc(), &first, &rest)?;
-        for code in sketch.module(0)?.procs.as_slice() {
-            assert_eq!(rt; is_sized(code), wanted, "{args} {aggregates} {vars}");
-        }
     }
     Ok(())
 }

@@ -1,12 +1,10 @@
-// The operand table, a line an instruction, and procedures that are near.
+// The operand table, a line an instruction.
 
-use pra_base::{Mask, OutOfMemory, VarKind};
+use pra_base::{Mask, OutOfMemory};
 use sketch::instruction;
-use sketch::selected::procedure;
 use std::alloc::Global;
 use std::process::Abort;
-use std::test::Fail;
-use vc_code::{OperandRow, Role, is_near, operands};
+use vc_code::{OperandRow, Role, operands};
 
 // The letters of a mask: a to f are EAX, ECX, EDX, EBX, ESI and EDI, M is memory, K is a constant,
 // and A to F are the both places of the registers. Behind `=` stands what is read, behind `>` what
@@ -102,25 +100,4 @@ fn check_rows(rt: &impl Abort, alloc: Global) -> Result<(), OutOfMemory> {
 #[test]
 fn operand_table(rt: HostRuntime) -> Result<(), OutOfMemory> {
     check_rows(&rt, rt.alloc())
-}
-
-// 29 local variables and 30 arguments at most; constants have no slot.
-#[test]
-fn near_procedures(rt: HostRuntime) -> Result<(), Fail> {
-    let alloc = rt.alloc();
-    for (plain, args, expected) in [
-        (29, 30, true),
-        (30, 30, false),
-        (29, 31, false),
-        (0, 0, true),
-    ] {
-        let mut vars = Vec::new(alloc);
-        for _ in 0..plain {
-            vars.push(VarKind::Plain)?;
-            vars.push(VarKind::Constant(7))?;
-        }
-        let code = procedure(alloc, 0, args, 0, &vars, Vec::new(alloc))?;
-        assert_eq!(rt; is_near(&code), expected, "{plain} {args}");
-    }
-    Ok(())
 }
