@@ -5,7 +5,7 @@ import os
 import unittest
 
 import needs
-from tables import expressions, meant, modules, placing, rounds, rows, sweeps, tool
+from tables import bare, expressions, meant, modules, placing, rounds, rows, sweeps, tool
 
 DRAWN = 300  # expressions of each kind
 SEED = 1
@@ -40,6 +40,10 @@ class Tables(unittest.TestCase):
     @needs.compiler
     def test_what_code_means(self):
         self.check_rows(meant.differences, rows.rows_of("meant"))
+
+    @needs.compiler
+    def test_programs_for_the_bare_machine(self):
+        self.check(bare.differences, [(it,) for it in bare.programs()], lambda it: it[0].name)
 
     @needs.compiler
     def test_each_choice_of_places(self):

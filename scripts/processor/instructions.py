@@ -5,7 +5,7 @@
 Compared with the step table (machine.py) are the registers, the flags that the table defines and
 the place behind each step, and data and stack at the end. There are three parts: the rows of
 instructions that tests_layers has, each on a state of chance; each form of each instruction
-(forms.py); and the rows of bare programs of tests_layers, held to what is written there as well.
+(forms.py); and the rows of tests/bare.table, held to what is written there as well.
 Then a table says what the processor left in flags that the step table calls unknown. N is where the
 numbers of chance begin. The status is 1 where there is a difference.
 """
@@ -23,6 +23,7 @@ from processor import forms, tables
 from processor.build import Builder
 from processor.image import Refused
 from processor.machine import CODE_BASE, EAX, FLAGS, Ending, Machine
+from tables import bare
 
 TOP = os.path.dirname(os.path.dirname(os.path.dirname(os.path.realpath(__file__))))
 SOURCES = f"{TOP}/crates/tests_layers/src"
@@ -152,13 +153,9 @@ class Instructions:
             self.sums["cases"] += count
 
     def programs(self):
-        with open(f"{SOURCES}/programs.rt", encoding="utf-8") as file:
-            conditions = tables.tables(file.read())["CONDITIONS"]
-        with open(f"{SOURCES}/program_rows.rt", encoding="utf-8") as file:
-            programs = tables.programs(file.read())
-        for program in programs:
-            for this, image in program.images(conditions):
-                for most, outcome in program.outcomes():
+        for program in bare.programs():
+            for this, image in program.images():
+                for most, outcome in program.outcomes:
                     name = f"program {program.name!r} for {this}, {most} steps"
                     if self.compare(name, image, program.numbers, most) != outcome.ending:
                         self.differs(name, f"not {outcome.line()!r}, as the row has it")

@@ -19,6 +19,7 @@ from processor.compare import numbers
 from processor.image import Image, Refused, image_of, names_in, symbols
 from processor.instructions import SOURCES, Instructions
 from processor.machine import CODE_BASE, DATA_BASE, STACK_TOP, Machine
+from tables import bare
 
 HERE = os.path.dirname(os.path.realpath(__file__))
 NATIVE = f"{os.path.dirname(HERE)}/native.py"
@@ -98,13 +99,9 @@ class Images(unittest.TestCase):
 
 def bare_programs():
     """Each row of bare programs, with an image and what it comes to after so many steps."""
-    with open(f"{SOURCES}/programs.rt", encoding="utf-8") as file:
-        conditions = tables.tables(file.read())["CONDITIONS"]
-    with open(f"{SOURCES}/program_rows.rt", encoding="utf-8") as file:
-        rows = tables.programs(file.read())
-    for program in rows:
-        for this, image in program.images(conditions):
-            for most, outcome in program.outcomes():
+    for program in bare.programs():
+        for this, image in program.images():
+            for most, outcome in program.outcomes:
                 yield f"{program.name}, {this}", program.numbers, image, most, outcome
 
 

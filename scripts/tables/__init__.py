@@ -7,5 +7,6 @@
 - `placing`: code that is placed by routes of its row, and run.
 - `sweeps`: one instruction, with each choice of places that the network admits.
 - `rounds`: what rounds come to, of the codes of tests_price.
+- `bare`: programs for the bare machine.
 - `modules`, `expressions`: modules, by their image and by their meaning.
 """

@@ -1,8 +1,8 @@
 //! Tests of the public calls of single layers that no word of the tool reaches.
 //!
-//! Of the front `lexical` and `grammar`. Of selection `operands` and `liveness`. Of the network `networks`, `network_routes` with `verdicts`, and `moves`. Of the machine
-//! `instructions`, `programs` (rows in `program_rows`) and `image_files`. `lists` has lists and owned
-//! values.
+//! Of the front `lexical` and `grammar`. Of selection `operands` and `liveness`. Of the network
+//! `networks`, `network_routes` with `verdicts`, and `moves`. Of the machine `instructions`. `lists`
+//! has lists and owned values.
 //!
 //! Each module has tables, in which a row costs no proof, and the functions that read them. They
 //! stand in one crate because each crate of tests proves and builds the layers below anew. Nothing
@@ -11,8 +11,6 @@
 
 #[cfg(test)]
 mod grammar;
-#[cfg(test)]
-mod image_files;
 #[cfg(test)]
 mod instructions;
 #[cfg(test)]
@@ -29,9 +27,5 @@ mod network_routes;
 mod networks;
 #[cfg(test)]
 mod operands;
-#[cfg(test)]
-mod program_rows;
-#[cfg(test)]
-mod programs;
 #[cfg(test)]
 mod verdicts;
