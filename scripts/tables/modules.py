@@ -1,10 +1,9 @@
 """Modules, by their image and by their meaning.
 
 In what comes of a row `1*3` is a 1 that is written three times. `left 1 4` says that procedure 1
-has 4 instructions when it is tidy, `code 1` and what stands behind it what they are, in the form of
-sketches with `;` between two lines, and `depths` how many loops stand around each block of the
-body, in the order of the text. `home` says how many procedures and words of data an image without rounds
-has.
+has 4 instructions when it is tidy, `code 1` that it then is the sketch that follows, with `;`
+between two lines, and `depths` how many loops stand around each block of the body, in the order of
+the text. `home` says how many procedures and words of data an image without rounds has.
 """
 
 import dataclasses

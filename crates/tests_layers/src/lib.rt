@@ -1,8 +1,8 @@
 //! Tests of the public calls of single layers that no word of the tool reaches.
 //!
 //! Of the front `lexical` and `grammar`. Of selection `operands` and `liveness`. Of the network
-//! `networks`, `network_routes` with `verdicts`, and `moves`. Of the machine `instructions`. `lists`
-//! has lists and owned values.
+//! `networks`, `network_routes` with `verdicts`, and `moves`. Of the machine `instructions`. And
+//! `lists` has lists and owned values.
 //!
 //! Each module has tables, in which a row costs no proof, and the functions that read them. They
 //! stand in one crate because each crate of tests proves and builds the layers below anew. Nothing
