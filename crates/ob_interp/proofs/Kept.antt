@@ -1,10 +1,12 @@
 -- What the store in maps holds, location by location, and what changes of the maps do to it.
 use Rattle.std.proofs.lemmas.Bool.Decides.{eqb_tells}
 use Rattle.std.proofs.lemmas.Option.{slice_get-get_or}
+use Rattle.std.proofs.lemmas.List.{length-set}
+use Rattle.std.specs.Vec.{with_item}
 use Rattle.pra_list.proofs.Elements.{got_set, got_unset}
 use Rattle.std.proofs.Math.Dec.{eqb}
 use Rattle.std.proofs.Common.{◌≡◌, ◌≢◌, ◌⊎◌, inl, inr, ℕ, zero, suc, ◌+◌, ◌<◌, Bool, true, false}
-use Rattle.std.proofs.Common.{cond, not, List, [], ◌∷◌, ◌++◌, map, Option, Some, None, refl, sym}
+use Rattle.std.proofs.Common.{◌≤◌, cond, not, List, [], ◌∷◌, ◌++◌, map, Option, Some, None, refl, sym}
 use Rattle.std.proofs.Common.{ap, ◌∙◌, subst, arith, Vec, get_or, Result, Ok, Err, OnOk}
 use Rattle.std.specs.Prelude.{unwrap_or, slice_get, slice_set, length}
 use Rattle.std.specs.declared.alloc.Global.{Global}
@@ -27,7 +29,7 @@ use Rattle.ob_interp.specs.declared.memory.Memory.{Memory}
 use Rattle.ob_interp.specs.Kept.{Part, part_cmp, held, is_part, entry_at, of_layer, of_layers}
 use Rattle.ob_interp.specs.Kept.{all_assigned, store_in, parts_of, held_by, kept_at}
 
-at : Object → List ℕ → Location
+abbrev at : Object → List ℕ → Location
 at o p = record { object = o; path = p }
 
 abbrev or_else : Option Value → Option Value → Option Value
@@ -43,211 +45,148 @@ chosen_else : (b : Bool) (v : Value) (x y : Option Value) → cond b (Some v) (o
 chosen_else true v x y = refl
 chosen_else false v x y = refl
 
-untied_by : (r : Ordering) (l m : Location) → location_cmp l m ≡ r → l ≢ m → is_eq r ≡ false
-untied_by Less l m e d = refl
-untied_by Equal l m e d = absurd (d (tied l m e))
-untied_by Greater l m e d = refl
-
-untied : (l m : Location) → l ≢ m → eq_by_cmp location_cmp l m ≡ false
-untied l m d = untied_by (location_cmp l m) l m refl d
-
 find_both : (l : Location) (xs ys : List (Location × Value)) →
-    finite.find location_cmp l (xs ++ ys) ≡ or_else (finite.find location_cmp l xs)
-    (finite.find location_cmp l ys)
+    finite.find location_cmp l (xs ++ ys)
+    ≡ or_else (finite.find location_cmp l xs) (finite.find location_cmp l ys)
 find_both l [] ys = refl
-find_both l (x ∷ xs) ys = ap (cond (eq_by_cmp location_cmp l x.0) (Some x.1)) (find_both l xs ys)
-    ∙ chosen_else (eq_by_cmp location_cmp l x.0) x.1 (finite.find location_cmp l xs)
-    (finite.find location_cmp l ys)
+find_both l (x ∷ xs) ys =
+    ap (cond (eq_by_cmp location_cmp l x.0) (Some x.1)) (find_both l xs ys)
+    ∙ chosen_else (eq_by_cmp location_cmp l x.0) x.1 _ _
 
 -- the object of a layer's parts
 abbrev object_in : Bool → ℕ → ℕ → Object
 object_in false depth n = Param depth n
 object_in true depth n = Local depth n
 
-find_module : (es : List (Part × Value)) (n : ℕ) (path : List ℕ) →
-    finite.find location_cmp (at (Module n) path) (map (entry_at Module) es) ≡ held es n path
-unfolding at
-find_module [] n path = refl
-find_module (e ∷ es) n path = ap (cond (is_part n path e.0.0 e.0.1.items) (Some e.1))
-    (find_module es n path)
+-- the object of a number beside another one: of the module, or of the same call and kind
+abbrev beside : Object → ℕ → Object
+beside (Module m) n = Module n
+beside (Param d m) n = Param d n
+beside (Local d m) n = Local d n
 
-find_in : (local : Bool) (es : List (Part × Value)) (depth n : ℕ) (path : List ℕ) →
-    finite.find location_cmp (at (object_in local depth n) path)
-    (map (entry_at (object_in local depth)) es) ≡ held es n path
-unfolding at
-find_in local [] depth n path = refl
-find_in false (e ∷ es) depth n path =
-    ap (λ r. cond (is_eq (ordering_then r (ordering_then (nat_cmp n e.0.0) (slice_cmp nat_cmp path
-    e.0.1.items)))) (Some e.1)
-    (finite.find location_cmp (record { object = Param depth n; path = path })
-    (map (entry_at (Param depth)) es))) (tied_itself nat_cmp_total depth)
-    ∙ ap (cond (is_part n path e.0.0 e.0.1.items) (Some e.1)) (find_in false es depth n path)
-find_in true (e ∷ es) depth n path =
-    ap (λ r. cond (is_eq (ordering_then r (ordering_then (nat_cmp n e.0.0) (slice_cmp nat_cmp path
-    e.0.1.items)))) (Some e.1)
-    (finite.find location_cmp (record { object = Local depth n; path = path })
-    (map (entry_at (Local depth)) es))) (tied_itself nat_cmp_total depth)
-    ∙ ap (cond (is_part n path e.0.0 e.0.1.items) (Some e.1)) (find_in true es depth n path)
+beside_both : (o : Object) (n m : ℕ) → beside (beside o n) m ≡ beside o m
+beside_both (Module k) n m = refl
+beside_both (Param d k) n m = refl
+beside_both (Local d k) n m = refl
 
-find_none : (object : ℕ → Object) (l : Location) → ((n : ℕ) (path : List ℕ) →
-    l ≢ at (object n) path) → (es : List (Part × Value)) →
-    finite.find location_cmp l (map (entry_at object) es) ≡ None
-unfolding at
-find_none object l apart [] = refl
-find_none object l apart (e ∷ es) =
-    ap (λ b. cond b (Some e.1) (finite.find location_cmp l (map (entry_at object) es)))
-    (untied l (record { object = object e.0.0; path = e.0.1.items }) (apart e.0.0 e.0.1.items))
-    ∙ find_none object l apart es
+abbrev Apart : Object → Object → Type 0
+Apart o q = beside o 0 ≢ beside q 0
 
-module_apart : (local : Bool) (n d m : ℕ) (p q : List ℕ) → at (Module n)
-    p ≢ at (object_in local d m) q
-unfolding at
-module_apart false n d m p q is = let objects : Module n
-    ≡ Param d m = ap (λ (l : Location). l.object) is in cc
-module_apart true n d m p q is = let objects : Module n
-    ≡ Local d m = ap (λ (l : Location). l.object) is in cc
+untied_by : (r : Ordering) (l m : Location) → location_cmp l m ≡ r → l ≢ m → is_eq r ≡ false
+untied_by Less l m e d = refl
+untied_by Equal l m e d = absurd (d (tied l m e))
+untied_by Greater l m e d = refl
+
+untied : (l m : Location) → Apart l.object m.object → eq_by_cmp location_cmp l m ≡ false
+untied l m d = untied_by (location_cmp l m) l m refl
+    (λ e. d (ap (λ (k : Location). beside k.object 0) e))
+
+same_side : (o : Object) (k n : ℕ) (p path : List ℕ) →
+    eq_by_cmp location_cmp (at (beside o k) p) (at (beside o n) path) ≡ is_part k p n path
+same_side (Module m) k n p path = refl
+same_side (Param d m) k n p path = ap (λ r. is_eq (ordering_then r (ordering_then (nat_cmp k n)
+    (slice_cmp nat_cmp p path)))) (tied_itself nat_cmp_total d)
+same_side (Local d m) k n p path = ap (λ r. is_eq (ordering_then r (ordering_then (nat_cmp k n)
+    (slice_cmp nat_cmp p path)))) (tied_itself nat_cmp_total d)
+
+-- among the parts of one side, and of another
+among : (o : Object) (es : List (Part × Value)) (n : ℕ) (path : List ℕ) →
+    finite.find location_cmp (at (beside o n) path) (map (entry_at (beside o)) es)
+    ≡ held es n path
+among o [] n path = refl
+among o (e ∷ es) n path = λ i.
+    cond (same_side o n e.0.0 path e.0.1.items i) (Some e.1) (among o es n path i)
+
+not_among : (l : Location) (o : Object) → Apart l.object o → (es : List (Part × Value)) →
+    finite.find location_cmp l (map (entry_at (beside o)) es) ≡ None
+not_among l o apart [] = refl
+not_among l o apart (e ∷ es) = λ i.
+    cond (untied l (at (beside o e.0.0) e.0.1.items) (λ f. apart (f ∙ beside_both o e.0.0 0)) i)
+    (Some e.1) (not_among l o apart es i)
 
 -- an object of no call, and those of calls at two depths or of two kinds
-no_layer : (n : ℕ) (p : List ℕ) (layers : List Layer) (depth : ℕ) →
-    finite.find location_cmp (at (Module n) p) (of_layers depth layers) ≡ None
-unfolding at
-no_layer n p [] depth = refl
-no_layer n p (layer ∷ layers) depth =
-    find_both (at (Module n) p) (of_layer depth layer) (of_layers (suc depth) layers)
-    ∙ ap (λ x. or_else x (finite.find location_cmp (at (Module n) p) (of_layers (suc depth)
-    layers)))
-    (find_both (at (Module n) p) (map (entry_at (Param depth)) layer.params.entries)
-    (map (entry_at (Local depth)) layer.locals.entries)
-    ∙ ap (λ x. or_else x (finite.find location_cmp (at (Module n) p) (map (entry_at (Local depth))
-    layer.locals.entries))) (find_none (Param depth) (at (Module n) p)
-    (λ m q e. module_apart false n depth m p q e) layer.params.entries)
-    ∙ find_none (Local depth) (at (Module n) p) (λ m q e. module_apart true n depth m p q e)
-    layer.locals.entries)
-    ∙ no_layer n p layers (suc depth)
+abbrev NotAt : Object → ℕ → Type 0
+NotAt o d = Apart o (Param d 0) × Apart o (Local d 0)
 
-object_apart : (local other : Bool) (d e n m : ℕ) (p q : List ℕ) → d ≢ e →
-    at (object_in local d n) p ≢ at (object_in other e m) q
-unfolding at
-object_apart false false d e n m p q apart is = let objects : Param d n
-    ≡ Param e m = ap (λ (l : Location). l.object) is in absurd (apart (cc))
-object_apart false true d e n m p q apart is = let objects : Param d n
-    ≡ Local e m = ap (λ (l : Location). l.object) is in absurd (cc)
-object_apart true false d e n m p q apart is = let objects : Local d n
-    ≡ Param e m = ap (λ (l : Location). l.object) is in absurd (cc)
-object_apart true true d e n m p q apart is = let objects : Local d n
-    ≡ Local e m = ap (λ (l : Location). l.object) is in absurd (apart (cc))
+no_depth : (n d : ℕ) → NotAt (Module n) d
+no_depth n d = (λ is. absurd (cc), λ is. absurd (cc))
 
-kind_apart : (d n m : ℕ) (p q : List ℕ) → at (Param d n) p ≢ at (Local d m) q
-unfolding at
-kind_apart d n m p q is = let objects : Param d n ≡ Local d m = ap (λ (l : Location). l.object)
-    is in absurd (cc)
+other_depth : (local : Bool) (d e n : ℕ) → d ≢ e → NotAt (object_in local d n) e
+other_depth false d e n apart = (λ is. absurd (apart (cc)), λ is. absurd (cc))
+other_depth true d e n apart = (λ is. absurd (cc), λ is. absurd (apart (cc)))
 
-in_module : (local : Bool) (d n : ℕ) (p : List ℕ) (es : List (Part × Value)) →
-    finite.find location_cmp (at (object_in local d n) p) (map (entry_at Module) es) ≡ None
-unfolding at
-in_module false d n p es = find_none Module (at (Param d n) p)
-    (λ m q e. module_apart false m d n q p (sym e)) es
-in_module true d n p es = find_none Module (at (Local d n) p)
-    (λ m q e. module_apart true m d n q p (sym e)) es
+not_in_layer : (l : Location) (d : ℕ) (layer : Layer) → NotAt l.object d →
+    finite.find location_cmp l (of_layer d layer) ≡ None
+not_in_layer l d layer apart =
+    find_both l (map (entry_at (Param d)) layer.params.entries)
+    (map (entry_at (Local d)) layer.locals.entries)
+    ∙ (λ i. or_else (not_among l (Param d 0) apart.0 layer.params.entries i)
+    (not_among l (Local d 0) apart.1 layer.locals.entries i))
 
--- in the layer of its own depth, and in one of another
+in_no_layer : (l : Location) (layers : List Layer) (e : ℕ) →
+    ((d : ℕ) → e ≤ d → NotAt l.object d) → finite.find location_cmp l (of_layers e layers) ≡ None
+in_no_layer l [] e apart = refl
+in_no_layer l (layer ∷ layers) e apart =
+    find_both l (of_layer e layer) (of_layers (suc e) layers)
+    ∙ (λ i. or_else (not_in_layer l e layer (apart e (omega arith)) i)
+    (in_no_layer l layers (suc e) (λ d h. apart d (omega (arith, h))) i))
+
 in_own_layer : (local : Bool) (layer : Layer) (d n : ℕ) (p : List ℕ) →
     finite.find location_cmp (at (object_in local d n) p) (of_layer d layer)
     ≡ held (parts_of local layer) n p
 in_own_layer false layer d n p =
     find_both (at (Param d n) p) (map (entry_at (Param d)) layer.params.entries)
     (map (entry_at (Local d)) layer.locals.entries)
-    ∙ ap (λ x. or_else x (finite.find location_cmp (at (Param d n) p) (map (entry_at (Local d))
-    layer.locals.entries))) (find_in false layer.params.entries d n p)
-    ∙ ap (or_else (held layer.params.entries n p)) (find_none (Local d) (at (Param d n) p)
-    (λ m q e. kind_apart d n m p q e) layer.locals.entries)
+    ∙ (λ i. or_else (among (Param d 0) layer.params.entries n p i)
+    (not_among (at (Param d n) p) (Local d 0) (λ is. absurd (cc)) layer.locals.entries i))
     ∙ or_none (held layer.params.entries n p)
 in_own_layer true layer d n p =
     find_both (at (Local d n) p) (map (entry_at (Param d)) layer.params.entries)
     (map (entry_at (Local d)) layer.locals.entries)
-    ∙ ap (λ x. or_else x (finite.find location_cmp (at (Local d n) p) (map (entry_at (Local d))
-    layer.locals.entries))) (find_none (Param d) (at (Local d n) p)
-    (λ m q e. kind_apart d m n q p (sym e)) layer.params.entries)
-    ∙ find_in true layer.locals.entries d n p
+    ∙ (λ i. or_else
+    (not_among (at (Local d n) p) (Param d 0) (λ is. absurd (cc)) layer.params.entries i)
+    (among (Local d 0) layer.locals.entries n p i))
 
-in_other_layer : (local : Bool) (layer : Layer) (d e n : ℕ) (p : List ℕ) → d ≢ e →
-    finite.find location_cmp (at (object_in local d n) p) (of_layer e layer) ≡ None
-in_other_layer local layer d e n p apart =
-    find_both (at (object_in local d n) p) (map (entry_at (Param e)) layer.params.entries)
-    (map (entry_at (Local e)) layer.locals.entries)
-    ∙ ap (λ x. or_else x (finite.find location_cmp (at (object_in local d n) p) (map (entry_at
-    (Local e)) layer.locals.entries))) (find_none (Param e) (at (object_in local d n) p)
-    (λ m q is. object_apart local false d e n m p q apart is) layer.params.entries)
-    ∙ find_none (Local e) (at (object_in local d n) p)
-    (λ m q is. object_apart local true d e n m p q apart is) layer.locals.entries
-
-below : (local : Bool) (layers : List Layer) (d e n : ℕ) (p : List ℕ) → d < e →
-    finite.find location_cmp (at (object_in local d n) p) (of_layers e layers) ≡ None
-below local [] d e n p lt = refl
-below local (layer ∷ layers) d e n p lt =
-    find_both (at (object_in local d n) p) (of_layer e layer) (of_layers (suc e) layers)
-    ∙ ap (λ x. or_else x (finite.find location_cmp (at (object_in local d n) p) (of_layers (suc e)
-    layers))) (in_other_layer local layer d e n p (λ is. absurd (omega (arith, is))))
-    ∙ below local layers d (suc e) n p (omega arith)
-
-in_layers : (local : Bool) (layers : List Layer) (e d n : ℕ) (p : List ℕ) →
-    finite.find location_cmp (at (object_in local (e + d) n) p) (of_layers e layers)
+in_layers : (local : Bool) (layers : List Layer) (e d k n : ℕ) (p : List ℕ) → k ≡ e + d →
+    finite.find location_cmp (at (object_in local k n) p) (of_layers e layers)
     ≡ held_by local (slice_get layers d) n p
-in_layers local [] e d n p = refl
-in_layers local (layer ∷ layers) e zero n p =
-    let here : e + 0 ≡ e = omega arith in
-    ap (λ k. finite.find location_cmp (at (object_in local k n) p) (of_layers e (layer ∷ layers)))
-    here
-    ∙ find_both (at (object_in local e n) p) (of_layer e layer) (of_layers (suc e) layers)
-    ∙ ap (λ x. or_else x (finite.find location_cmp (at (object_in local e n) p) (of_layers (suc e)
-    layers))) (in_own_layer local layer e n p)
-    ∙ ap (or_else (held (parts_of local layer) n p)) (below local layers e (suc e)
-    n p (omega arith))
-    ∙ or_none (held (parts_of local layer) n p)
-in_layers local (layer ∷ layers) e (suc d) n p =
-    let there : e + suc d ≡ suc e + d = omega arith in
-    find_both (at (object_in local (e + suc d) n) p) (of_layer e layer) (of_layers (suc e) layers)
-    ∙ ap (λ x. or_else x (finite.find location_cmp (at (object_in local (e + suc d) n) p)
-    (of_layers (suc e) layers))) (in_other_layer local layer (e + suc d)
-    e n p (λ is. absurd (omega (arith, is))))
-    ∙ ap (λ k. finite.find location_cmp (at (object_in local k n) p) (of_layers (suc e) layers))
-    there
-    ∙ in_layers local layers (suc e) d n p
-
-counted_from_zero : (local : Bool) (layers : List Layer) (d n : ℕ) (p : List ℕ) →
-    finite.find location_cmp (at (object_in local d n) p) (of_layers 0 layers)
-    ≡ held_by local (slice_get layers d) n p
-counted_from_zero local layers d n p =
-    let here : 0 + d ≡ d = omega arith in
-    ap (λ k. finite.find location_cmp (at (object_in local k n) p) (of_layers 0 layers)) (sym here)
-    ∙ in_layers local layers 0 d n p
+in_layers local [] e d k n p is = refl
+in_layers local (layer ∷ layers) e zero k n p is =
+    let l = at (object_in local k n) p in
+    let here : e ≡ k = omega (arith, is) in
+    find_both l (of_layer e layer) (of_layers (suc e) layers)
+    ∙ (λ i. or_else (finite.find location_cmp l (of_layer (here i) layer))
+    (in_no_layer l layers (suc e)
+    (λ d h. other_depth local k d n (λ f. absurd (omega (arith, is, h, f)))) i))
+    ∙ or_none (finite.find location_cmp l (of_layer k layer)) ∙ in_own_layer local layer k n p
+in_layers local (layer ∷ layers) e (suc d) k n p is =
+    let l = at (object_in local k n) p in
+    find_both l (of_layer e layer) (of_layers (suc e) layers)
+    ∙ (λ i. or_else
+    (not_in_layer l e layer (other_depth local k e n (λ f. absurd (omega (arith, is, f)))) i)
+    (in_layers local layers (suc e) d k n p (omega (arith, is)) i))
 
 -- what the store has at a location
 pub get-kept : (m : Memory) (o : Object) (p : List ℕ) → finite.get (store_in m)
     (record { object = o; path = p }) ≡ kept_at m o p
-unfolding at
-get-kept m (Module n) p =
-    finite.get-from_entries ordered (all_assigned m) (record { object = Module n; path = p })
-    ∙ find_both (record { object = Module n; path = p }) (map (entry_at Module) m.module.entries)
-    (of_layers 0 m.layers.items)
-    ∙ ap (λ x. or_else x (finite.find location_cmp (record { object = Module n; path = p })
-    (of_layers 0 m.layers.items))) (find_module m.module.entries n p)
-    ∙ ap (or_else (held m.module.entries n p)) (no_layer n p m.layers.items 0)
-    ∙ or_none (held m.module.entries n p)
-get-kept m (Param d n) p =
-    finite.get-from_entries ordered (all_assigned m) (record { object = Param d n; path = p })
-    ∙ find_both (record { object = Param d n; path = p }) (map (entry_at Module) m.module.entries)
-    (of_layers 0 m.layers.items)
-    ∙ ap (λ x. or_else x (finite.find location_cmp (record { object = Param d n; path = p })
-    (of_layers 0 m.layers.items))) (in_module false d n p m.module.entries)
-    ∙ counted_from_zero false m.layers.items d n p
-get-kept m (Local d n) p =
-    finite.get-from_entries ordered (all_assigned m) (record { object = Local d n; path = p })
-    ∙ find_both (record { object = Local d n; path = p }) (map (entry_at Module) m.module.entries)
-    (of_layers 0 m.layers.items)
-    ∙ ap (λ x. or_else x (finite.find location_cmp (record { object = Local d n; path = p })
-    (of_layers 0 m.layers.items))) (in_module true d n p m.module.entries)
-    ∙ counted_from_zero true m.layers.items d n p
+get-kept m o p =
+    finite.get-from_entries ordered (all_assigned m) (at o p)
+    ∙ find_both (at o p) (map (entry_at Module) m.module.entries) (of_layers 0 m.layers.items)
+    ∙ there o
+  where
+    there : (o : Object) →
+        or_else (finite.find location_cmp (at o p) (map (entry_at Module) m.module.entries))
+        (finite.find location_cmp (at o p) (of_layers 0 m.layers.items)) ≡ kept_at m o p
+    there (Module n) =
+        (λ i. or_else (among (Module 0) m.module.entries n p i)
+        (in_no_layer (at (Module n) p) m.layers.items 0 (λ d h. no_depth n d) i))
+        ∙ or_none (held m.module.entries n p)
+    there (Param d n) = λ i. or_else
+        (not_among (at (Param d n) p) (Module 0) (λ is. absurd (cc)) m.module.entries i)
+        (in_layers false m.layers.items 0 d d n p (omega arith) i)
+    there (Local d n) = λ i. or_else
+        (not_among (at (Local d n) p) (Module 0) (λ is. absurd (cc)) m.module.entries i)
+        (in_layers true m.layers.items 0 d d n p (omega arith) i)
 
 pub read-kept : (m : Memory) (start : Value) (l : Location) → read (store_in m) start l
     ≡ unwrap_or (kept_at m l.object l.path) start
@@ -344,15 +283,10 @@ pub module-assigned : (m new : Memory) (n : ℕ) (path : List ℕ) (v : Value) �
     ((k : ℕ) (p : List ℕ) → held new.module.entries k p ≡ cond (is_part k p n path) (Some v)
     (held m.module.entries k p)) →
     store_in new ≡ assigned (store_in m) (record { object = Module n; path = path }) v
-module-assigned m new n path v layers put = assigned-kept m new (record {
-  object = Module n;
-  path =
-      path;
-}) v there
+module-assigned m new n path v layers put = assigned-kept m new (at (Module n) path) v there
   where
     there : (o : Object) (p : List ℕ) → kept_at new o p
-        ≡ cond (eq_by_cmp location_cmp (record { object = o; path = p })
-        (record { object = Module n; path = path })) (Some v) (kept_at m o p)
+        ≡ cond (eq_by_cmp location_cmp (at o p) (at (Module n) path)) (Some v) (kept_at m o p)
     there (Module k) p = put k p
     there (Param d k) p = ap (λ ls. held_by false (slice_get ls d) k p) layers
     there (Local d k) p = ap (λ ls. held_by true (slice_get ls d) k p) layers
@@ -360,21 +294,24 @@ module-assigned m new n path v layers put = assigned-kept m new (record {
 same_depth : (local : Bool) (d k n : ℕ) (p path : List ℕ) →
     eq_by_cmp location_cmp (at (object_in local d k) p) (at (object_in local d n) path)
     ≡ is_part k p n path
-unfolding at
-same_depth false d k n p path = ap (λ r. is_eq (ordering_then r (ordering_then (nat_cmp k n)
-    (slice_cmp nat_cmp p path)))) (tied_itself nat_cmp_total d)
-same_depth true d k n p path = ap (λ r. is_eq (ordering_then r (ordering_then (nat_cmp k n)
-    (slice_cmp nat_cmp p path)))) (tied_itself nat_cmp_total d)
+same_depth false d k n p path = same_side (Param d 0) k n p path
+same_depth true d k n p path = same_side (Local d 0) k n p path
 
-kinds_apart : (local : Bool) (d k n : ℕ) (p path : List ℕ) →
-    eq_by_cmp location_cmp (at (object_in (not local) d k) p) (at (object_in local d n) path)
-    ≡ false
-kinds_apart false d k n p path = untied (at (Local d k) p) (at (Param d n) path)
-    (λ e. kind_apart d n k path p (sym e))
-kinds_apart true d k n p path = untied (at (Param d k) p) (at (Local d n) path)
-    (kind_apart d k n p path)
+kinds_apart : (local : Bool) (d k n : ℕ) → Apart (object_in (not local) d k) (object_in local d n)
+kinds_apart false d k n is = absurd (cc)
+kinds_apart true d k n is = absurd (cc)
 
--- in the variables of a call: layer is what its depth had before, layer' what it has then
+of_kind : (local : Bool) (o : Object) (d n : ℕ) → NotAt o d → Apart o (object_in local d n)
+of_kind false o d n apart = apart.0
+of_kind true o d n apart = apart.1
+
+by_kind : (P : Bool → Type 0) (this other : Bool) → P this → P (not this) → P other
+by_kind P false false p q = p
+by_kind P false true p q = q
+by_kind P true false p q = q
+by_kind P true true p q = p
+
+-- in the variables of a call: layer is what its depth had before, layer' is what it has then
 module _ (m new : Memory) (local : Bool) (d n : ℕ) (path : List ℕ) (v : Value)
     (layer layer' : Layer)
     (old : slice_get m.layers.items d ≡ Some layer) (set : slice_get new.layers.items d
@@ -383,112 +320,65 @@ module _ (m new : Memory) (local : Bool) (d n : ℕ) (path : List ℕ) (v : Valu
     (put : (k : ℕ) (p : List ℕ) → held (parts_of local layer') k p
     ≡ cond (is_part k p n path) (Some v) (held (parts_of local layer) k p))
     (kept : parts_of (not local) layer' ≡ parts_of (not local) layer) where
-  told : Bool → ℕ → ℕ → List ℕ → Bool
-  told other e k p = eq_by_cmp location_cmp (at (object_in other e k) p) (at (object_in local d n)
-      path)
+  abbrev Puts : ℕ → Bool → Type 0
+  Puts e other = (k : ℕ) (p : List ℕ) → held_by other (slice_get new.layers.items e) k p
+      ≡ cond (eq_by_cmp location_cmp (at (object_in other e k) p) (at (object_in local d n) path))
+      (Some v) (held_by other (slice_get m.layers.items e) k p)
 
-  elsewhere : (other : Bool) (e k : ℕ) (p : List ℕ) → e ≢ d →
-      held_by other (slice_get new.layers.items e) k p ≡ cond (told other e k p) (Some v)
-      (held_by other (slice_get m.layers.items e) k p)
-  unfolding told
-  elsewhere other e k p apart =
-      ap (λ x. held_by other x k p) (others e apart)
-      ∙ ap (λ b. cond b (Some v) (held_by other (slice_get m.layers.items e) k p))
-      (sym (untied (at (object_in other e k) p) (at (object_in local d n) path) (object_apart
-      other local e d k n p path apart)))
+  untied_from : (o : Object) (p : List ℕ) → Apart o (object_in local d n) →
+      false ≡ eq_by_cmp location_cmp (at o p) (at (object_in local d n) path)
+  untied_from o p apart = sym (untied (at o p) (at (object_in local d n) path) apart)
 
-  here : (k : ℕ) (p : List ℕ) → held_by local (slice_get new.layers.items d) k p
-      ≡ cond (told local d k p) (Some v) (held_by local (slice_get m.layers.items d) k p)
-  unfolding told
+  here : Puts d local
   here k p =
-      ap (λ x. held_by local x k p) set ∙ put k p
-      ∙ ap (λ b. cond b (Some v) (held (parts_of local layer) k p))
-      (sym (same_depth local d k n p path))
-      ∙ ap (λ x. cond (eq_by_cmp location_cmp (at (object_in local d k) p) (at (object_in local d
-      n) path)) (Some v) (held_by local x k p)) (sym old)
+      (λ i. held_by local (set i) k p) ∙ put k p
+      ∙ (λ i. cond (sym (same_depth local d k n p path) i) (Some v) (held_by local (sym old i) k p))
 
-  beside : (k : ℕ) (p : List ℕ) → held_by (not local) (slice_get new.layers.items d) k p
-      ≡ cond (told (not local) d k p) (Some v) (held_by (not local) (slice_get m.layers.items d)
-      k p)
-  unfolding told
-  beside k p =
-      ap (λ x. held_by (not local) x k p) set
-      ∙ ap (λ es. held es k p) kept
-      ∙ ap (λ b. cond b (Some v) (held (parts_of (not local) layer) k p))
-      (sym (kinds_apart local d k n p path))
-      ∙ ap (λ x. cond (eq_by_cmp location_cmp (at (object_in (not local) d k) p) (at (object_in
-      local d n) path)) (Some v) (held_by (not local) x k p)) (sym old)
+  there : Puts d (not local)
+  there k p =
+      (λ i. held_by (not local) (set i) k p) ∙ (λ i. held (kept i) k p)
+      ∙ (λ i. cond (untied_from (object_in (not local) d k) p (kinds_apart local d k n) i) (Some v)
+      (held_by (not local) (sym old i) k p))
 
-  at_own : (other : Bool) (k : ℕ) (p : List ℕ) → (other ≡ local) ⊎ (other ≡ not local) →
-      held_by other (slice_get new.layers.items d) k p ≡ cond (told other d k p) (Some v)
-      (held_by other (slice_get m.layers.items d) k p)
-  at_own other k p (inl is) = subst (λ o. held_by o (slice_get new.layers.items d) k p
-      ≡ cond (told o d k p) (Some v) (held_by o (slice_get m.layers.items d) k p)) (sym is)
-      (here k p)
-  at_own other k p (inr is) = subst (λ o. held_by o (slice_get new.layers.items d) k p
-      ≡ cond (told o d k p) (Some v) (held_by o (slice_get m.layers.items d) k p)) (sym is)
-      (beside k p)
-
-  in_layer : (other : Bool) (e k : ℕ) (p : List ℕ) → (other ≡ local) ⊎ (other ≡ not local) →
-      ((eqb e d ≡ true) × (e ≡ d)) ⊎ ((eqb e d ≡ false) × (e ≢ d)) →
-      held_by other (slice_get new.layers.items e) k p ≡ cond (told other e k p) (Some v)
-      (held_by other (slice_get m.layers.items e) k p)
-  in_layer other e k p kind (inl is) = subst (λ j. held_by other (slice_get new.layers.items j)
-      k p ≡ cond (told other j k p) (Some v) (held_by other (slice_get m.layers.items j) k p))
-      (sym is.1) (at_own other k p kind)
-  in_layer other e k p kind (inr is) = elsewhere other e k p is.1
-
-  either_kind : (other this : Bool) → (other ≡ this) ⊎ (other ≡ not this)
-  either_kind false false = inl refl
-  either_kind false true = inr refl
-  either_kind true false = inr refl
-  either_kind true true = inl refl
+  anywhere : (other : Bool) (e : ℕ) →
+      ((eqb e d ≡ true) × (e ≡ d)) ⊎ ((eqb e d ≡ false) × (e ≢ d)) → Puts e other
+  anywhere other e (inl is) =
+      subst (λ j. Puts j other) (sym is.1) (by_kind (Puts d) local other here there)
+  anywhere other e (inr is) = λ k p i.
+      cond (untied_from (object_in other e k) p
+      (of_kind local (object_in other e k) d n (other_depth other e d k is.1)) i) (Some v)
+      (held_by other (others e is.1 i) k p)
 
   pub call-assigned : new.module.entries ≡ m.module.entries → store_in new
       ≡ assigned (store_in m) (record { object = object_in local d n; path = path }) v
-  unfolding at told
-  call-assigned same = assigned-kept m new (record { object = object_in local d n; path = path })
-      v (λ o p. there o p)
+  call-assigned same = assigned-kept m new (at (object_in local d n) path) v told
     where
-      of_module : (other : Bool) (j : ℕ) → at (Module j) [] ≢ at (object_in other d n) path
-      of_module other j = module_apart other j d n [] path
-
-      there : (o : Object) (p : List ℕ) → kept_at new o p
-          ≡ cond (eq_by_cmp location_cmp (record { object = o; path = p })
-          (record { object = object_in local d n; path = path })) (Some v) (kept_at m o p)
-      there (Module j) p =
-          ap (λ es. held es j p) same
-          ∙ ap (λ b. cond b (Some v) (held m.module.entries j p))
-          (sym (untied (record { object = Module j; path = p }) (record {
-            object = object_in
-                local d n;
-            path = path;
-          }) (module_apart local j d n p path)))
-      there (Param e k) p = in_layer false e k p (either_kind false local) (eqb_tells e d)
-      there (Local e k) p = in_layer true e k p (either_kind true local) (eqb_tells e d)
+      told : (o : Object) (p : List ℕ) → kept_at new o p
+          ≡ cond (eq_by_cmp location_cmp (at o p) (at (object_in local d n) path)) (Some v)
+          (kept_at m o p)
+      told (Module j) p = λ i.
+          cond (untied_from (Module j) p (of_kind local (Module j) d n (no_depth j d)) i) (Some v)
+          (held (same i) j p)
+      told (Param e k) p = anywhere false e (eqb_tells e d) k p
+      told (Local e k) p = anywhere true e (eqb_tells e d) k p
 
 -- nothing is assigned at a depth any more
 pub call-begun : (m new : Memory) (d : ℕ) (layer : Layer) → slice_get new.layers.items d
-    ≡ Some layer → layer.params.entries ≡ [] → layer.locals.entries ≡ [] →
+    ≡ Some layer → ((local : Bool) → parts_of local layer ≡ []) →
     ((e : ℕ) → e ≢ d → slice_get new.layers.items e ≡ slice_get m.layers.items e) →
     new.module.entries ≡ m.module.entries → store_in new ≡ begun (store_in m) d
-call-begun m new d layer set params locals others same = begun-kept m new d there
+call-begun m new d layer set none others same = begun-kept m new d there
   where
     at_depth : (local : Bool) (e k : ℕ) (p : List ℕ) → ((eqb e d ≡ true) × (e ≡ d))
         ⊎ ((eqb e d ≡ false) × (e ≢ d)) →
         held_by local (slice_get new.layers.items e) k p ≡ cond (not (eqb e d))
         (held_by local (slice_get m.layers.items e) k p) None
-    at_depth false e k p (inl is) =
-        ap (λ j. held_by false (slice_get new.layers.items j) k p) is.1
-        ∙ ap (λ x. held_by false x k p) set ∙ ap (λ es. held es k p) params
-        ∙ ap (λ b. cond (not b) (held_by false (slice_get m.layers.items e) k p) None) (sym is.0)
-    at_depth true e k p (inl is) =
-        ap (λ j. held_by true (slice_get new.layers.items j) k p) is.1
-        ∙ ap (λ x. held_by true x k p) set ∙ ap (λ es. held es k p) locals
-        ∙ ap (λ b. cond (not b) (held_by true (slice_get m.layers.items e) k p) None) (sym is.0)
-    at_depth local e k p (inr is) =
-        ap (λ x. held_by local x k p) (others e is.1) ∙ ap (λ b. cond (not b)
-        (held_by local (slice_get m.layers.items e) k p) None) (sym is.0)
+    at_depth local e k p (inl is) =
+        (λ i. held_by local (slice_get new.layers.items (is.1 i)) k p)
+        ∙ (λ i. held_by local (set i) k p) ∙ (λ i. held (none local i) k p)
+        ∙ (λ i. cond (not (sym is.0 i)) (held_by local (slice_get m.layers.items e) k p) None)
+    at_depth local e k p (inr is) = λ i.
+        cond (not (sym is.0 i)) (held_by local (others e is.1 i) k p) None
 
     there : (o : Object) (p : List ℕ) → kept_at new o p ≡ cond (not (is_at_depth d o))
         (kept_at m o p) None
@@ -496,16 +386,19 @@ call-begun m new d layer set params locals others same = begun-kept m new d ther
     there (Param e k) p = at_depth false e k p (eqb_tells e d)
     there (Local e k) p = at_depth true e k p (eqb_tells e d)
 
+none_assigned : (layer : Layer) → layer.params.entries ≡ [] → layer.locals.entries ≡ [] →
+    (local : Bool) → parts_of local layer ≡ []
+none_assigned layer params locals false = params
+none_assigned layer params locals true = locals
+
 -- a layer in which nothing is assigned, behind the others
-pub held_past : (local : Bool) (layers : List Layer) (empty : Layer) (e k : ℕ) (p : List ℕ) →
-    empty.params.entries ≡ [] → empty.locals.entries ≡ [] →
+held_past : (local : Bool) (layers : List Layer) (empty : Layer) (e k : ℕ) (p : List ℕ) →
+    parts_of local empty ≡ [] →
     held_by local (slice_get (layers ++ empty ∷ []) e) k p ≡ held_by local (slice_get layers e) k p
-held_past false [] empty zero k p params locals = ap (λ es. held es k p) params
-held_past true [] empty zero k p params locals = ap (λ es. held es k p) locals
-held_past local [] empty (suc e) k p params locals = refl
-held_past local (x ∷ xs) empty zero k p params locals = refl
-held_past local (x ∷ xs) empty (suc e)
-    k p params locals = held_past local xs empty e k p params locals
+held_past local [] empty zero k p none = ap (λ es. held es k p) none
+held_past local [] empty (suc e) k p none = refl
+held_past local (x ∷ xs) empty zero k p none = refl
+held_past local (x ∷ xs) empty (suc e) k p none = held_past local xs empty e k p none
 
 pub layer-added : (m new : Memory) (empty : Layer) → empty.params.entries ≡ [] →
     empty.locals.entries ≡ [] → new.module.entries ≡ m.module.entries →
@@ -515,47 +408,9 @@ layer-added m new empty params locals same added = same-kept m new there
     there : (o : Object) (p : List ℕ) → kept_at new o p ≡ kept_at m o p
     there (Module j) p = ap (λ es. held es j p) same
     there (Param e k) p = ap (λ ls. held_by false (slice_get ls e) k p) added
-        ∙ held_past false m.layers.items empty e k p params locals
+        ∙ held_past false m.layers.items empty e k p params
     there (Local e k) p = ap (λ ls. held_by true (slice_get ls e) k p) added
-        ∙ held_past true m.layers.items empty e k p params locals
-
-length_set : (layers : List Layer) (d : ℕ) (x : Layer) → length (slice_set layers d x)
-    ≡ length layers
-length_set [] d x = refl
-length_set (y ∷ ys) zero x = refl
-length_set (y ∷ ys) (suc d) x = ap suc (length_set ys d x)
-
-got_or : (layers : List Layer) (d : ℕ) (x : Layer) → d < length layers → x ≡ get_or layers d x →
-    slice_get layers d ≡ Some x
-got_or layers d x lt is = slice_get-get_or layers d x lt ∙ ap Some (sym is)
-
--- the layer of a depth is taken out, changed, and written back
-pub layer-written : (m : Memory) (written : Vec Layer Global) (local : Bool) (d n : ℕ)
-    (path : List ℕ) (v : Value) (layer now spare layer' : Layer) →
-    d < length m.layers.items → now ≡ get_or m.layers.items d now → layer ≡ now → written.items
-    ≡ slice_set (slice_set m.layers.items d spare) d layer' →
-    ((k : ℕ) (p : List ℕ) → held (parts_of local layer') k p
-    ≡ cond (is_part k p n path) (Some v) (held (parts_of local layer) k p)) →
-    parts_of (not local) layer' ≡ parts_of (not local) layer →
-    store_in (record { «module» = m.module; layers = written })
-    ≡ assigned (store_in m) (record { object = object_in local d n; path = path }) v
-layer-written m written local d n path v layer now spare layer' lt is taken back put kept =
-    call-assigned m (record { «module» = m.module; layers = written }) local d n path v layer layer'
-    (got_or m.layers.items d now lt is ∙ ap Some (sym taken))
-    (ap (λ ls. slice_get ls d) back ∙ got_set (slice_set m.layers.items d spare)
-    d layer' (subst (λ k. d < k) (sym (length_set m.layers.items d spare)) lt))
-    (λ e apart. ap (λ ls. slice_get ls e) back ∙ got_unset (slice_set m.layers.items d spare)
-    d e layer' apart ∙ got_unset m.layers.items d e spare apart)
-    put kept refl
-
-pub layer-begun : (m : Memory) (written : Vec Layer Global) (d : ℕ) (layer : Layer) →
-    d < length m.layers.items → written.items ≡ slice_set m.layers.items d layer →
-    layer.params.entries ≡ [] → layer.locals.entries ≡ [] →
-    store_in (record { «module» = m.module; layers = written }) ≡ begun (store_in m) d
-layer-begun m written d layer lt back params locals =
-    call-begun m (record { «module» = m.module; layers = written })
-    d layer (ap (λ ls. slice_get ls d) back ∙ got_set m.layers.items d layer lt) params locals
-    (λ e apart. ap (λ ls. slice_get ls e) back ∙ got_unset m.layers.items d e layer apart) refl
+        ∙ held_past true m.layers.items empty e k p locals
 
 -- what was put under a key that is made of a number and a path
 pub named : (key : Part) (n : ℕ) (path : List ℕ) (v : Value) (new old : List (Part × Value)) →
@@ -566,6 +421,43 @@ pub named : (key : Part) (n : ℕ) (path : List ℕ) (v : Value) (new old : List
 named key n path v new old number its put k p =
     put k p ∙ ap (λ i. cond (is_part k p i key.1.items) (Some v) (held old k p)) number
     ∙ ap (λ is. cond (is_part k p n is) (Some v) (held old k p)) its
+
+-- the layer of a depth is taken out, changed, and written back
+pub layer-written : (old m : Memory) (local : Bool) (d n : ℕ) (l : Location) (v : Value)
+    (key : Part) (layer now spare layer' : Layer) →
+    store_in m ≡ store_in old → l.object ≡ object_in local d n → key.0 ≡ n →
+    key.1.items ≡ l.path → d < length m.layers.items → now ≡ get_or m.layers.items d now →
+    layer ≡ now →
+    ((k : ℕ) (p : List ℕ) → held (parts_of local layer') k p
+    ≡ cond (is_part k p key.0 key.1.items) (Some v) (held (parts_of local layer) k p)) →
+    parts_of (not local) layer' ≡ parts_of (not local) layer →
+    store_in (record {
+      «module» = m.module;
+      layers = with_item (with_item m.layers d spare) d layer';
+    }) ≡ assigned (store_in old) l v
+layer-written old m local d n l v key layer now spare layer' same is number its lt got taken put kept =
+    let without = slice_set m.layers.items d spare in
+    let inside : d < length without =
+    subst (λ k. d < k) (sym (length-set m.layers.items d spare)) lt in
+    call-assigned m (record {
+      «module» = m.module;
+      layers = with_item (with_item m.layers d spare) d layer';
+    }) local d n l.path v layer layer'
+    (slice_get-get_or m.layers.items d now lt ∙ ap Some (sym got ∙ sym taken))
+    (got_set without d layer' inside)
+    (λ e apart. got_unset without d e layer' apart ∙ got_unset m.layers.items d e spare apart)
+    (named key n l.path v (parts_of local layer') (parts_of local layer) number its put) kept refl
+    ∙ (λ i. assigned (same i) (record { object = sym is i; path = l.path }) v)
+
+pub layer-begun : (m : Memory) (written : Vec Layer Global) (d : ℕ) (layer : Layer) →
+    d < length m.layers.items → written.items ≡ slice_set m.layers.items d layer →
+    layer.params.entries ≡ [] → layer.locals.entries ≡ [] →
+    store_in (record { «module» = m.module; layers = written }) ≡ begun (store_in m) d
+layer-begun m written d layer lt back params locals =
+    call-begun m (record { «module» = m.module; layers = written })
+    d layer (ap (λ ls. slice_get ls d) back ∙ got_set m.layers.items d layer lt)
+    (none_assigned layer params locals)
+    (λ e apart. ap (λ ls. slice_get ls e) back ∙ got_unset m.layers.items d e layer apart) refl
 
 pub put_there : (m : Memory) (parts : BTreeMap Part Value) (r : Result (Unit {0}) AllocError)
     (n : ℕ) (key : Part) (l : Location) (v : Value) →

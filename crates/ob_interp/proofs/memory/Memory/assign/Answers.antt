@@ -1,11 +1,6 @@
-use Rattle.std.proofs.Common.{refl, sym, ap, ◌∙◌, false, true, Vec}
-use Rattle.std.specs.declared.alloc.Global.{Global}
-use Rattle.std.specs.Vec.{with_item}
-use Rattle.ob_mean.specs.declared.store.Object.TheVariants.{Param, Local}
-use Rattle.ob_mean.specs.Store.{assigned}
+use Rattle.std.proofs.Common.{refl, false, true}
 use Rattle.ob_interp.specs.declared.memory.Layer.{Layer}
-use Rattle.ob_interp.specs.Kept.{store_in}
-use Rattle.ob_interp.proofs.Kept.{layer-written, put_there, named}
+use Rattle.ob_interp.proofs.Kept.{layer-written, put_there}
 use Rattle.ob_interp.proofs.memory.Memory.assign.Goals as goal
 
 pub returns-in-Module : goal.returns-in-Module
@@ -15,47 +10,23 @@ returns-in-Module c =
 
 pub returns-in_ok-put-in-Param : goal.returns-in_ok-put-in-Param
 returns-in_ok-put-in-Param c =
-    let d = c.in-Param.depth in
-    let layer : Layer = record {
-      params = c.put-in-Param.new.parts;
-      locals =
-          c.replace-layer.result.locals;
-    } in
-    let written : Vec Layer Global = with_item (with_item c.reach.new.self.layers d
-    c.replace-layer.new.dest) d layer in
-    layer-written c.reach.new.self written false d c.in-Param.n c.args.at.path c.args.value
-    c.replace-layer.result c.index_mut.result.now c.replace-layer.new.dest layer
-    c.in_ok-reach-in-Param.ensures.there c.index_mut.ensures.value c.replace-layer.ensures.value
-    refl
-    (named c.part-in-Param.result c.in-Param.n c.args.at.path c.args.value
-    c.put-in-Param.new.parts.entries c.replace-layer.result.params.entries
-    c.part-in-Param.ensures.number c.part-in-Param.ensures.path c.in_ok-put-in-Param.ensures)
-    refl
-    ∙ ap (λ s. assigned s (record { object = Param d c.in-Param.n; path = c.args.at.path })
-    c.args.value) c.reach.ensures.same
-    ∙ ap (λ o. assigned (store_in c.args.self.now) (record { object = o; path = c.args.at.path })
-    c.args.value) (sym c.in-Param.is)
+    let taken = c.replace-layer in
+    let layer : Layer = record { params = c.put-in-Param.new.parts; locals = taken.result.locals }
+    in
+    layer-written c.args.self.now c.reach.new.self false c.in-Param.depth c.in-Param.n c.args.at
+    c.args.value c.part-in-Param.result taken.result c.index_mut.result.now taken.new.dest layer
+    c.reach.ensures.same c.in-Param.is c.part-in-Param.ensures.number
+    c.part-in-Param.ensures.path c.in_ok-reach-in-Param.ensures.there c.index_mut.ensures.value
+    taken.ensures.value c.in_ok-put-in-Param.ensures refl
 
 pub returns-in_ok-put-in-Local : goal.returns-in_ok-put-in-Local
 returns-in_ok-put-in-Local c =
-    let d = c.in-Local.depth in
-    let layer : Layer = record {
-      params = c.replace-layer-in-Local.result.params;
-      locals =
-          c.put-in-Local.new.parts;
-    } in
-    let written : Vec Layer Global = with_item (with_item c.reach-in-Local.new.self.layers d
-    c.replace-layer-in-Local.new.dest) d layer in
-    layer-written c.reach-in-Local.new.self written true d c.in-Local.n c.args.at.path c.args.value
-    c.replace-layer-in-Local.result c.index_mut-in-Local.result.now
-    c.replace-layer-in-Local.new.dest layer
-    c.in_ok-reach-in-Local.ensures.there c.index_mut-in-Local.ensures.value
-    c.replace-layer-in-Local.ensures.value refl
-    (named c.part-in-Local.result c.in-Local.n c.args.at.path c.args.value
-    c.put-in-Local.new.parts.entries c.replace-layer-in-Local.result.locals.entries
-    c.part-in-Local.ensures.number c.part-in-Local.ensures.path c.in_ok-put-in-Local.ensures)
-    refl
-    ∙ ap (λ s. assigned s (record { object = Local d c.in-Local.n; path = c.args.at.path })
-    c.args.value) c.reach-in-Local.ensures.same
-    ∙ ap (λ o. assigned (store_in c.args.self.now) (record { object = o; path = c.args.at.path })
-    c.args.value) (sym c.in-Local.is)
+    let taken = c.replace-layer-in-Local in
+    let layer : Layer = record { params = taken.result.params; locals = c.put-in-Local.new.parts }
+    in
+    layer-written c.args.self.now c.reach-in-Local.new.self true c.in-Local.depth c.in-Local.n
+    c.args.at c.args.value c.part-in-Local.result taken.result c.index_mut-in-Local.result.now
+    taken.new.dest layer c.reach-in-Local.ensures.same c.in-Local.is
+    c.part-in-Local.ensures.number c.part-in-Local.ensures.path
+    c.in_ok-reach-in-Local.ensures.there c.index_mut-in-Local.ensures.value taken.ensures.value
+    c.in_ok-put-in-Local.ensures refl
