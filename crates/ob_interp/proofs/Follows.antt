@@ -29,6 +29,7 @@ use Rattle.ob_mean.specs.Program.{on_stack, live_frames, frame_of, call_with, en
 use Rattle.ob_mean.specs.Program.{only_body, start, progress_of, completion, mean}
 use Rattle.ob_mean.proofs.Budgets.{After}
 use Rattle.ob_mean.proofs.Equations.{exec_roll, arm_of_roll}
+use Rattle.ob_interp.proofs.Turns.{counted_roll, counted_arm_roll}
 use Rattle.ob_interp.specs.Units.{Counted, Halt, Done, Failed, Stopped, Counting, unit, then_go}
 use Rattle.ob_interp.specs.Units.{given, halt, does, while_units, repeat_units, Granted}
 use Rattle.ob_interp.specs.Units.{CountedStatement, CountedArm, in_order, on_counted, first_true}
@@ -135,65 +136,42 @@ halt_meets units (Going s) = going_at_once s
 does_beside : (m : Run) → ((s : State) → After s (m s)) → Beside (does m) m
 does_beside m g = record { grows = g; meets = λ c. halt_meets c.units (m c.state) }
 
+-- a choice by what was evaluated
+choice_beside : (x : Counted → Outcome) (y : State → Outcome) → ((c : Counted) → x c ≡ y c.state) →
+    (r q : Counting) (m k : Run) → Beside r m → Beside q k →
+    Beside (λ c. given (x c) c (λ v. if is_true v then r c else q c)) (λ s. with (y s)
+    s (λ v. if is_true v then m s else k s))
+choice_beside x y same r q m k b d = record {
+  grows = λ s. with_after (y s) s _ (λ v. either_after (is_true v) s _ _ (b.grows s) (d.grows s));
+  meets = λ c. subst (λ z. Meets (given z c (λ v. if is_true v then r c else q c))
+      (with (y c.state) c.state (λ v. if is_true v then m c.state else k c.state))) (sym (same c))
+      (given_meets (y c.state)
+      c _ _ (λ v. either_meets (is_true v) _ _ _ _ (b.meets c) (d.meets c)));
+}
+
+done_beside : Beside Done Normal
+done_beside = record { grows = at_once; meets = λ c. refl }
+
+stops_beside : Beside Stopped Going
+stops_beside = record { grows = going_at_once; meets = λ c. going_at_once c.state }
+
 -- ---- loops
 
-while_after : (n : ℕ) (test : State → Outcome) (m : Run) → ((s : State) → After s (m s)) →
-    (s : State) → After s (while_turns n test m s)
-while_after zero test m g s = going_at_once s
-while_after (suc n) test m g s =
-    with_after (test s) s _ (λ x. either_after (is_true x)
-    s _ _ (after_then s (m s) (while_turns n test m) (g s) (while_after n test m g))
-    (at_once s))
+module _ (x : Counted → Outcome) (test : State → Outcome) (same : (c : Counted) → x c ≡ test c.state)
+    (granted : ℕ) (r : Counting) (m : Run) (b : Beside r m) where
+  while_beside : (n : ℕ) → Beside (while_units n granted x r) (while_turns n test m)
+  while_beside zero = record { grows = stops_beside.grows; meets = stops_beside.meets }
+  while_beside (suc n) =
+      let u = unit_beside granted _ _ (choice_beside x test same _ _ _ _
+      (then_beside r _ m _ b (while_beside n)) done_beside) in
+      record { grows = u.grows; meets = u.meets }
 
-while_beside : (n granted : ℕ) (test : State → Outcome) (r : Counting) (m : Run) → Beside r m →
-    Beside (while_units n granted (λ c. test c.state) r) (while_turns n test m)
-while_beside zero granted test r m b = record {
-  grows = while_after zero test m b.grows;
-  meets = λ
-      c. going_at_once c.state;
-}
-while_beside (suc n) granted test r m b = record {
-  grows = while_after (suc n) test m b.grows;
-  meets = λ c. unit_meets (nat_lt c.units granted) _ c _
-      (given_meets (test c.state) (record c { units = c.units + 1 }) _ _
-      (λ x. either_meets (is_true x) _ _ _ _
-      (then_meets (r (record c { units = c.units + 1 })) (m c.state)
-      _ _ (b.meets (record c { units = c.units + 1 })) (while_beside n granted test r m b))
-      refl))
-      (while_after (suc n) test m b.grows c.state);
-}
-
-tested_after : (x : Outcome) (s : State) (k : Run) → ((t : State) → After t (k t)) →
-    After s (with x s (λ y. if is_true y then Normal s else k s))
-tested_after x s k g = with_after x s _ (λ y. either_after (is_true y) s _ _ (at_once s) (g s))
-
-repeat_after : (n : ℕ) (m : Run) (test : State → Outcome) → ((s : State) → After s (m s)) →
-    (s : State) → After s (repeat_turns n m test s)
-repeat_after zero m test g s = going_at_once s
-repeat_after (suc n) m test g s =
-    after_then s (m s) _ (g s) (λ t. tested_after (test t) t (repeat_turns n m test)
-    (repeat_after n m test g))
-
-repeat_beside : (n granted : ℕ) (r : Counting) (m : Run) (test : State → Outcome) → Beside r m →
-    Beside (repeat_units n granted r (λ c. test c.state)) (repeat_turns n m test)
-repeat_beside zero granted r m test b = record {
-  grows = repeat_after zero m test b.grows;
-  meets =
-      λ c. going_at_once c.state;
-}
-repeat_beside (suc n) granted r m test b =
-    then_beside r _ m _ b (record {
-      grows = λ s. tested_after (test s) s (repeat_turns n m test) (repeat_after n m test b.grows);
-      meets = λ c. unit_meets (nat_lt c.units granted) _ c _
-          (given_meets (test c.state) (record c { units = c.units + 1 }) _ _
-          (λ x. either_meets (is_true x)
-          _ _ _ _ refl ((repeat_beside n granted r m test b).meets (record c {
-            units = c.units
-                + 1;
-          }))))
-          (tested_after (test c.state) c.state (repeat_turns n m test)
-          (repeat_after n m test b.grows));
-    })
+  repeat_beside : (n : ℕ) → Beside (repeat_units n granted r x) (repeat_turns n m test)
+  repeat_beside zero = record { grows = stops_beside.grows; meets = stops_beside.meets }
+  repeat_beside (suc n) =
+      let u = then_beside r _ m _ b (unit_beside granted _ _
+      (choice_beside x test same _ _ _ _ done_beside (repeat_beside n))) in
+      record { grows = u.grows; meets = u.meets }
 
 -- ---- statements
 
@@ -226,22 +204,9 @@ ArmsFit [] (y ∷ ys) = ⊥
 ArmsFit (x ∷ xs) [] = ⊥
 ArmsFit (x ∷ xs) (y ∷ ys) = (x.0 ≡ y.0) × AllFit x.1 y.1 × ArmsFit xs ys
 
-given_after : {A : Type 0} (x : Result A TrapKind) (s : State) (k : A → Run) → ((a : A) →
-    (t : State) → After t (k a t)) → After s (with x s (λ a. k a s))
-given_after x s k g = with_after x s (λ a. k a s) (λ a. g a s)
-
--- a choice by what was evaluated
-choice_beside : (x : Counted → Outcome) (y : State → Outcome) → ((c : Counted) → x c ≡ y c.state) →
-    (r q : Counting) (m k : Run) → Beside r m → Beside q k →
-    Beside (λ c. given (x c) c (λ v. if is_true v then r c else q c)) (λ s. with (y s)
-    s (λ v. if is_true v then m s else k s))
-choice_beside x y same r q m k b d = record {
-  grows = λ s. with_after (y s) s _ (λ v. either_after (is_true v) s _ _ (b.grows s) (d.grows s));
-  meets = λ c. subst (λ z. Meets (given z c (λ v. if is_true v then r c else q c))
-      (with (y c.state) c.state (λ v. if is_true v then m c.state else k c.state))) (sym (same c))
-      (given_meets (y c.state)
-      c _ _ (λ v. either_meets (is_true v) _ _ _ _ (b.meets c) (d.meets c)));
-}
+same_test : (x : Evaluation) (a : Granted) (b : Around) → Near a b → (c : Counted) →
+    on_counted x a c ≡ on_state x b c.state
+same_test x a b w c = ap (λ calls. x calls c.state.store) (sym w.calls)
 
 first_beside : (xs : List CountedArm) (ys : List Arm) (fs : List CountedStatement)
     (es : List Execution) → ArmsFit xs ys → AllFit fs es →
@@ -251,24 +216,12 @@ first_beside [] (y ∷ ys) fs es g h a b w = absurd g
 first_beside (x ∷ xs) [] fs es g h a b w = absurd g
 first_beside (x ∷ xs) (y ∷ ys) fs es g h a b w =
     choice_beside (on_counted x.0 a) (on_state y.0 b)
-    (λ c. ap (λ e. e a.calls c.state.store) g.0 ∙ ap (λ calls. y.0 calls c.state.store)
-    (sym w.calls))
+    (λ c. ap (λ e. e a.calls c.state.store) g.0 ∙ same_test y.0 a b w c)
     _ _ _ _ (in_order_beside x.1 y.1 g.1 a b w) (first_beside xs ys fs es g.2 h a b w)
 
 -- ---- trees
 
 module _ (program : Checked) where
-  counted_roll : (y : RStmt-F RStmt RArm) → counted program (roll-RStmt y)
-      ≡ counted_step program (map-RStmt RStmt RArm CountedStatement CountedArm (counted program)
-      (counted_arm program) y)
-  counted_roll = fold-roll-RStmt CountedStatement CountedArm (counted_step program)
-      (counted_arm_step program)
-
-  counted_arm_roll : (y : RArm-F RStmt RArm) → counted_arm program (roll-RArm y)
-      ≡ (value program y.test, map (counted program) y.body)
-  counted_arm_roll = fold-roll-RArm CountedStatement CountedArm (counted_step program)
-      (counted_arm_step program)
-
   abbrev Fit : RStmt → Type 0
   Fit t = Fits (counted program t) (exec program t)
 
@@ -292,20 +245,20 @@ module _ (program : Checked) where
   abbrev plain : WithFit → RStmt-F RStmt RArm
   plain = map-RStmt ((t : RStmt) × Fit t) ((t : RArm) × FitArm t) RStmt RArm (λ e. e.0) (λ e. e.0)
 
-  fit_from : (y : RStmt-F RStmt RArm) →
-      Fits (counted_step program (map-RStmt RStmt RArm CountedStatement CountedArm (counted
-      program) (counted_arm program) y))
-      (stmt_step program (map-RStmt RStmt RArm Execution Arm (exec program) (arm_of program) y)) →
-      Fit (roll-RStmt y)
-  fit_from y g = subst (λ e. Fits (counted program (roll-RStmt y)) e) (sym (exec_roll program y))
-      (subst (λ f. Fits f (stmt_step program (map-RStmt RStmt RArm Execution Arm (exec program)
-      (arm_of program) y))) (sym (counted_roll y)) g)
+  abbrev counting : RStmt-F RStmt RArm → RStmt-F CountedStatement CountedArm
+  counting = map-RStmt RStmt RArm CountedStatement CountedArm (counted program) (counted_arm program)
+
+  abbrev executing : RStmt-F RStmt RArm → RStmt-F Execution Arm
+  executing = map-RStmt RStmt RArm Execution Arm (exec program) (arm_of program)
 
   -- ---- statements that hold no others
 
+  abbrev assigned_by : RVar → RExpr → List LiveCall → Run
+  assigned_by v e calls s = with (location program v calls s.store)
+      s (λ l. with (value program e calls s.store) s (λ y. Normal (store_at s l y)))
+
   assign_after : (v : RVar) (e : RExpr) (calls : List LiveCall) (s : State) →
-      After s (with (location program v calls s.store)
-      s (λ l. with (value program e calls s.store) s (λ y. Normal (store_at s l y))))
+      After s (assigned_by v e calls s)
   assign_after v e calls s = with_after (location program v calls s.store)
       s _ (λ l. with_after (value program e calls s.store)
       s _ (λ y. record { prefix = same_prefix (done s) }))
@@ -323,10 +276,6 @@ module _ (program : Checked) where
       Beside (unit a.granted (does (m a.calls))) (m b.calls)
   single_beside a b w m g = subst (λ calls. Beside (unit a.granted (does (m calls))) (m b.calls))
       w.calls (unit_beside a.granted (does (m b.calls)) (m b.calls) (does_beside (m b.calls) g))
-
-  abbrev assigned_by : RVar → RExpr → List LiveCall → Run
-  assigned_by v e calls s = with (location program v calls s.store)
-      s (λ l. with (value program e calls s.store) s (λ y. Normal (store_at s l y)))
 
   abbrev read_by : RVar → List LiveCall → Run
   read_by v calls s = with (location program v calls s.store) s (λ l. read_to s.input l s)
@@ -354,73 +303,62 @@ module _ (program : Checked) where
       Beside (while_units a.granted a.granted (on_counted x a) (in_order fs a))
       (while_turns b.turns (on_state x b) (in_turn es b))
   while_fits x fs es g a b w =
-      subst (λ n. Beside (while_units a.granted a.granted (on_counted x a) (in_order fs a))
-      (while_turns n (on_state x b) (in_turn es b))) (sym w.turns)
-      (subst (λ calls. Beside (while_units a.granted a.granted (λ c. x calls c.state.store)
-      (in_order fs a)) (while_turns a.granted (on_state x b) (in_turn es b))) w.calls
-      (while_beside a.granted a.granted (on_state x b) (in_order fs a) (in_turn es b)
-      (in_order_beside fs es g a b w)))
+      subst (λ n. Beside (while_units n a.granted (on_counted x a) (in_order fs a))
+      (while_turns b.turns (on_state x b) (in_turn es b))) w.turns
+      (while_beside (on_counted x a) (on_state x b) (same_test x a b w) a.granted (in_order fs a)
+      (in_turn es b) (in_order_beside fs es g a b w) b.turns)
 
   repeat_fits : (x : Evaluation) (fs : List CountedStatement) (es : List Execution) →
       AllFit fs es → (a : Granted) (b : Around) → Near a b →
       Beside (repeat_units a.granted a.granted (in_order fs a) (on_counted x a))
       (repeat_turns b.turns (in_turn es b) (on_state x b))
   repeat_fits x fs es g a b w =
-      subst (λ n. Beside (repeat_units a.granted a.granted (in_order fs a) (on_counted x a))
-      (repeat_turns n (in_turn es b) (on_state x b))) (sym w.turns)
-      (subst (λ calls. Beside (repeat_units a.granted a.granted (in_order fs a) (λ c. x calls
-      c.state.store)) (repeat_turns a.granted (in_turn es b) (on_state x b))) w.calls
-      (repeat_beside a.granted a.granted (in_order fs a) (in_turn es b) (on_state x b)
-      (in_order_beside fs es g a b w)))
+      subst (λ n. Beside (repeat_units n a.granted (in_order fs a) (on_counted x a))
+      (repeat_turns b.turns (in_turn es b) (on_state x b))) w.turns
+      (repeat_beside (on_counted x a) (on_state x b) (same_test x a b w) a.granted (in_order fs a)
+      (in_turn es b) (in_order_beside fs es g a b w) b.turns)
 
-  stmt_case : (y : WithFit) → Fit (roll-RStmt (plain y))
-  stmt_case (RStmt-F.Assign v e)
-      = fit_from _ (record {
-        at = λ a b w. single_beside a b w (assigned_by v e) (assign_after v e
-            b.calls);
-      })
-  stmt_case (RStmt-F.If arms other)
-      = fit_from _ (record {
-        at = λ a b w. unit_beside a.granted _ _ (first_beside _ _ _ _
-            (arms_fit arms) (all_fit other) a b w);
-      })
-  stmt_case (RStmt-F.While test ts)
-      = fit_from _ (record { at = λ a b w. while_fits (value program test) _ _ (all_fit ts) a b w })
-  stmt_case (RStmt-F.Repeat ts test)
-      = fit_from _ (record {
-        at = λ a b w. repeat_fits (value program test) _ _ (all_fit ts) a b w;
-      })
-  stmt_case (RStmt-F.Call proc args)
-      = fit_from _ (record {
-        at = λ a b w. unit_beside a.granted _ _ (called_beside a b w (λ calls
-            s. arguments program calls s.store args) proc.0);
-      })
-  stmt_case (RStmt-F.Read v) = fit_from _ (record {
-    at = λ a b w. single_beside a b w (read_by v)
-        (λ s. with_after (location program v b.calls s.store) s _ (λ l. read_after s.input l s));
-  })
-  stmt_case (RStmt-F.Write e) = fit_from _ (record {
-    at = λ a b w. single_beside a b w (written_by e)
-        (λ s. with_after (value program e b.calls s.store)
-        s _ (λ y. write_after (event.Number (number y)) s));
-  })
-  stmt_case RStmt-F.WriteLine = fit_from _ (record {
-    at = λ a b w. single_beside a b w (λ calls s.
-        Normal (written s event.Line)) (write_after event.Line);
-  })
+  stmt_case : (y : WithFit) (a : Granted) (b : Around) → Near a b →
+      Beside (counted_step program (counting (plain y)) a)
+      (stmt_step program (executing (plain y)) b)
+  stmt_case (RStmt-F.Assign v e) a b w =
+      single_beside a b w (assigned_by v e) (assign_after v e b.calls)
+  stmt_case (RStmt-F.If arms other) a b w =
+      unit_beside a.granted _ _ (first_beside _ _ _ _ (arms_fit arms) (all_fit other) a b w)
+  stmt_case (RStmt-F.While test ts) a b w =
+      while_fits (value program test) _ _ (all_fit ts) a b w
+  stmt_case (RStmt-F.Repeat ts test) a b w =
+      repeat_fits (value program test) _ _ (all_fit ts) a b w
+  stmt_case (RStmt-F.Call proc args) a b w =
+      unit_beside a.granted _ _
+      (called_beside a b w (λ calls s. arguments program calls s.store args) proc.0)
+  stmt_case (RStmt-F.Read v) a b w =
+      single_beside a b w (read_by v)
+      (λ s. with_after (location program v b.calls s.store) s _ (λ l. read_after s.input l s))
+  stmt_case (RStmt-F.Write e) a b w =
+      single_beside a b w (written_by e) (λ s. with_after (value program e b.calls s.store)
+      s _ (λ y. write_after (event.Number (number y)) s))
+  stmt_case RStmt-F.WriteLine a b w =
+      single_beside a b w (λ calls s. Normal (written s event.Line)) (write_after event.Line)
+
+  stmt_fit : (y : WithFit) → Fit (roll-RStmt (plain y))
+  stmt_fit y =
+      subst (λ e. Fits (counted program (roll-RStmt (plain y))) e) (sym (exec_roll program (plain y)))
+      (subst (λ f. Fits f (stmt_step program (executing (plain y))))
+      (sym (counted_roll program (plain y))) (record { at = stmt_case y }))
 
   arm_case : (y : RArm-F ((t : RStmt) × Fit t) ((t : RArm) × FitArm t)) →
       FitArm (roll-RArm (record { test = y.test; body = map (λ e. e.0) y.body }))
   arm_case y =
       let here : RArm-F RStmt RArm = record { test = y.test; body = map (λ e. e.0) y.body } in
       subst (λ z. (z.0 ≡ (arm_of program (roll-RArm here)).0)
-      × AllFit z.1 (arm_of program (roll-RArm here)).1) (sym (counted_arm_roll here))
+      × AllFit z.1 (arm_of program (roll-RArm here)).1) (sym (counted_arm_roll program here))
       (subst (λ z. (value program y.test ≡ z.0) × AllFit (map (counted program) (map (λ e. e.0)
       y.body)) z.1) (sym (arm_of_roll program here)) (refl, all_fit y.body))
 
   pub fits : (t : RStmt) → Fit t
   fits = ind-RStmt Fit FitArm
-      (λ x y is. subst (λ z. Fit (roll-RStmt z)) is (stmt_case y))
+      (λ x y is. subst (λ z. Fit (roll-RStmt z)) is (stmt_fit y))
       (λ x y is. subst (λ z. FitArm (roll-RArm z)) is (arm_case y))
 
   all_beside : (ts : List RStmt) (a : Granted) (b : Around) → Near a b →
@@ -442,9 +380,6 @@ module _ (program : Checked) where
   stack_beside frames calls proc r m b =
       either_beside (nat_lt stack_limit (live_frames frames calls + frame_of frames proc)) _ r _ m
       (record { grows = λ s. trapped_at_once _ s; meets = λ c. refl }) b
-
-  stops_beside : Beside Stopped Going
-  stops_beside = record { grows = going_at_once; meets = λ c. going_at_once c.state }
 
   enters_beside : (calls : List LiveCall) (args : List Argument) (r : Counting) (m : Run) →
       Beside r m →

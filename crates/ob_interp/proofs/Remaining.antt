@@ -41,7 +41,7 @@ use Rattle.ob_interp.specs.Running.{store_of, leads, weight, weight_step, weighe
 use Rattle.ob_interp.specs.Running.{counted_of, halt_of, assigning, reading, writing, ending_line}
 use Rattle.ob_interp.specs.Running.{here, begun_of, due_of, goes_on, ends_in}
 use Rattle.ob_interp.proofs.Turns.{then_after, Adds, counted_roll, all_adds, calls_add, while_more}
-use Rattle.ob_interp.proofs.Turns.{repeat_more, all_wait}
+use Rattle.ob_interp.proofs.Turns.{repeat_more, all_wait, AddsUnits}
 
 -- the next of a list by its index
 pub next-item : {A : Type 0} (xs : List A) (i : ℕ) (x : A) → i < length xs → x ≡ get_or xs i x →
@@ -69,40 +69,42 @@ module _ (program : Checked) where
   arm-is arm = fold_out-RArm CountedStatement CountedArm (counted_step program)
       (counted_arm_step program) arm
 
+  by_form : (t : RStmt) (y : RStmt-F RStmt RArm) → roll-RStmt y ≡ t → (a : Granted)
+      (c : Counted) → counted program t a c ≡ counted_step program
+      (map-RStmt RStmt RArm CountedStatement CountedArm (counted program) (counted_arm program) y)
+      a c
+  by_form t y e a c =
+      ap (λ z. counted program z a c) (sym e)
+      ∙ ap (λ (f : CountedStatement). f a c) (counted_roll program y)
+
   pub counted-Assign : (v : RVar) (e : RExpr) (a : Granted) (c : Counted) →
       counted program (stmt.Assign v e) a c ≡ unit a.granted (does (assigning program a.calls v e))
       c
-  counted-Assign v e a c = ap (λ z. counted program z a c) (sym (stmt.rolls-Assign v e))
-      ∙ ap (λ (f : CountedStatement). f a c) (counted_roll program (RStmt-F.Assign v e))
+  counted-Assign v e a c = by_form _ (RStmt-F.Assign v e) (stmt.rolls-Assign v e) a c
 
   pub counted-If : (arms : List RArm) (other : List RStmt) (a : Granted) (c : Counted) →
       counted program (stmt.If arms other) a c
       ≡ unit a.granted (first_true (map (counted_arm program) arms) (map (counted program) other) a)
       c
-  counted-If arms other a c = ap (λ z. counted program z a c) (sym (stmt.rolls-If arms other))
-      ∙ ap (λ (f : CountedStatement). f a c) (counted_roll program (RStmt-F.If arms other))
+  counted-If arms other a c = by_form _ (RStmt-F.If arms other) (stmt.rolls-If arms other) a c
 
   pub counted-Call : (proc : ProcId) (args : List RArg) (a : Granted) (c : Counted) →
       counted program (stmt.Call proc args) a c
       ≡ unit a.granted (λ d. given (arguments program a.calls d.state.store args)
       d (λ xs. a.call proc.0 xs d)) c
-  counted-Call proc args a c = ap (λ z. counted program z a c) (sym (stmt.rolls-Call proc args))
-      ∙ ap (λ (f : CountedStatement). f a c) (counted_roll program (RStmt-F.Call proc args))
+  counted-Call proc args a c = by_form _ (RStmt-F.Call proc args) (stmt.rolls-Call proc args) a c
 
   pub counted-Read : (v : RVar) (a : Granted) (c : Counted) → counted program (stmt.Read v) a c
       ≡ unit a.granted (does (reading program a.calls v)) c
-  counted-Read v a c = ap (λ z. counted program z a c) (sym (stmt.rolls-Read v))
-      ∙ ap (λ (f : CountedStatement). f a c) (counted_roll program (RStmt-F.Read v))
+  counted-Read v a c = by_form _ (RStmt-F.Read v) (stmt.rolls-Read v) a c
 
   pub counted-Write : (e : RExpr) (a : Granted) (c : Counted) → counted program (stmt.Write e) a c
       ≡ unit a.granted (does (writing program a.calls e)) c
-  counted-Write e a c = ap (λ z. counted program z a c) (sym (stmt.rolls-Write e))
-      ∙ ap (λ (f : CountedStatement). f a c) (counted_roll program (RStmt-F.Write e))
+  counted-Write e a c = by_form _ (RStmt-F.Write e) (stmt.rolls-Write e) a c
 
   pub counted-WriteLine : (a : Granted) (c : Counted) → counted program stmt.WriteLine a c
       ≡ unit a.granted (does ending_line) c
-  counted-WriteLine a c = ap (λ z. counted program z a c) (sym stmt.rolls-WriteLine)
-      ∙ ap (λ (f : CountedStatement). f a c) (counted_roll program RStmt-F.WriteLine)
+  counted-WriteLine a c = by_form _ RStmt-F.WriteLine stmt.rolls-WriteLine a c
 
   -- what a test of WHILE is due for, and one of REPEAT
   abbrev pub while_due : RExpr → List RStmt → Granted → Counting
@@ -125,9 +127,6 @@ module _ (program : Checked) where
   enough a c = omega arith
 
   -- calls are those of a program
-  abbrev pub AddsUnits : Granted → Type 0
-  AddsUnits a = (proc : ℕ) (args : List Argument) → Adds (a.call proc args)
-
   pub here_adds : (frames : List ℕ) (granted : ℕ) (calls : List LiveCall) →
       AddsUnits (here program frames granted calls)
   here_adds frames granted calls = calls_add program frames granted (granted + 1 - length calls)
@@ -142,8 +141,7 @@ module _ (program : Checked) where
   pub counted-While : (test : RExpr) (ts : List RStmt) (a : Granted) → AddsUnits a →
       (c : Counted) → counted program (stmt.While test ts) a c ≡ while_due test ts a c
   counted-While test ts a h c =
-      ap (λ z. counted program z a c) (sym (stmt.rolls-While test ts))
-      ∙ ap (λ (f : CountedStatement). f a c) (counted_roll program (RStmt-F.While test ts))
+      by_form _ (RStmt-F.While test ts) (stmt.rolls-While test ts) a c
       ∙ ap (λ (r : Counting). while_units a.granted a.granted (on_counted (value program test) a)
       r c) (in_order-all ts a)
       ∙ turns_are_due test ts a h c
@@ -160,8 +158,7 @@ module _ (program : Checked) where
       (c : Counted) → counted program (stmt.Repeat ts test) a c
       ≡ then_go (counted_all program ts a c) (until_due ts test a)
   counted-Repeat ts test a h c =
-      ap (λ z. counted program z a c) (sym (stmt.rolls-Repeat ts test))
-      ∙ ap (λ (f : CountedStatement). f a c) (counted_roll program (RStmt-F.Repeat ts test))
+      by_form _ (RStmt-F.Repeat ts test) (stmt.rolls-Repeat ts test) a c
       ∙ ap (λ (r : Counting). repeat_units a.granted a.granted r (on_counted (value program test) a)
       c) (in_order-all ts a)
       ∙ again ts test a h c
@@ -225,17 +222,10 @@ called program frames granted calls proc args c d le low is =
     let fewer : granted - length calls ≡ granted + 1 - length (call_with proc args ∷ calls)
     = omega arith in
     let one : suc (length calls) ≡ length calls + 1 = omega arith in
+    let begins : in_call (suc (length calls)) args c ≡ d = ap (λ k. in_call k args c) one ∙ sym is in
     ap (λ k. counted_call program frames granted k calls proc args c) some
-    ∙ ap (λ b. if b then Failed Stack c else counted_all program (body program proc)
-    (granted_around program frames granted (granted - length calls)
-    (call_with proc args ∷ calls)) (in_call (suc (length calls)) args c)) low
-    ∙ ap (λ k. counted_all program (body program proc)
-    (granted_around program frames granted k (call_with proc args ∷ calls))
-    (in_call (suc (length calls)) args c)) fewer
-    ∙ ap (λ k. counted_all program (body program proc)
-    (here program frames granted (call_with proc args ∷ calls)) (in_call k args c)) one
-    ∙ ap (counted_all program (body program proc)
-    (here program frames granted (call_with proc args ∷ calls))) (sym is)
+    ∙ (λ i. if low i then Failed Stack c else counted_all program (body program proc)
+    (granted_around program frames granted (fewer i) (call_with proc args ∷ calls)) (begins i))
 
 pub stack-full : (program : Checked) (frames : List ℕ) (granted : ℕ) (calls : List LiveCall)
     (proc : ℕ) (args : List Argument) (c : Counted) →
@@ -299,33 +289,27 @@ at_head program frames k calls c all more t next f is led =
 -- ---- a turn of a loop is pushed: the statements, and the next test behind them
 
 module _ (program : Checked) (frames : List ℕ) (k : ℕ) (calls : List LiveCall) (c : Counted) where
+  abbrev around : Granted
+  around = here program frames k calls
+
   pub turned : (test : Bor RExpr) (ts : Bor (List RStmt)) (x : Value) (tasks one two : List Task) →
       Ok x ≡ value program test.now calls c.state.store → is_true x ≡ true →
       one ≡ task.While test ts ∷ tasks → two ≡ task.Statements ts ∷ one →
       goes_on program frames k two calls c ≡ then_go (begun_of program (due.While test ts)
       (here program frames k calls) c) (goes_on program frames k tasks calls)
   turned test ts x tasks one two v truth pushed more =
+      let turn = counted_all program ts.now around in
+      let rest = goes_on program frames k tasks calls in
+      let loop = while_units k k (on_counted (value program test.now) around) turn in
       ap (λ l. goes_on program frames k l calls c) (more ∙ ap (λ l. task.Statements ts ∷ l) pushed)
-      ∙ sym (then_same (counted_all program ts.now (here program frames k calls) c)
-      (λ d. then_go (while_units k k (on_counted (value program test.now) (here program frames k
-      calls)) (counted_all program ts.now (here program frames k calls)) d)
-      (goes_on program frames k tasks calls))
+      ∙ sym (then_same (turn c) (λ d. then_go (loop d) rest)
       (goes_on program frames k (task.While test ts ∷ tasks) calls)
-      (λ d. ap (λ h. then_go h (goes_on program frames k tasks calls))
-      (turns_are_due program test.now ts.now (here program frames k calls)
-      (here_adds program frames k calls) d)))
-      ∙ sym (then_after (counted_all program ts.now (here program frames k calls) c)
-      (while_units k k (on_counted (value program test.now) (here program frames k calls))
-      (counted_all program ts.now (here program frames k calls)))
-      (goes_on program frames k tasks calls))
-      ∙ ap (λ (b : Bool). then_go (if b then then_go (counted_all program ts.now (here program
-      frames k calls) c) (while_units k k (on_counted (value program test.now)
-      (here program frames k calls)) (counted_all program ts.now (here program frames k calls)))
-      else Done c) (goes_on program frames k tasks calls)) (sym truth)
-      ∙ ap (λ r. then_go (given r c (λ y. if is_true y then then_go (counted_all program ts.now
-      (here program frames k calls) c) (while_units k k (on_counted (value program test.now)
-      (here program frames k calls)) (counted_all program ts.now (here program frames k calls)))
-      else Done c)) (goes_on program frames k tasks calls)) v
+      (λ d. ap (λ h. then_go h rest)
+      (turns_are_due program test.now ts.now around (here_adds program frames k calls) d)))
+      ∙ sym (then_after (turn c) loop rest)
+      ∙ ap (λ (b : Bool). then_go (if b then then_go (turn c) loop else Done c) rest) (sym truth)
+      ∙ ap (λ r. then_go (given r c (λ y. if is_true y then then_go (turn c) loop else Done c))
+      rest) v
 
   pub turned-back : (ts : Bor (List RStmt)) (test : Bor RExpr) (x : Value)
       (tasks one two : List Task) → Ok x ≡ value program test.now calls c.state.store → is_true x
@@ -334,20 +318,15 @@ module _ (program : Checked) (frames : List ℕ) (k : ℕ) (calls : List LiveCal
       goes_on program frames k two calls c ≡ then_go (begun_of program (due.Until ts test)
       (here program frames k calls) c) (goes_on program frames k tasks calls)
   turned-back ts test x tasks one two v truth pushed more =
+      let turn = counted_all program ts.now around in
+      let rest = goes_on program frames k tasks calls in
+      let loop = repeat_units k k turn (on_counted (value program test.now) around) in
       ap (λ l. goes_on program frames k l calls c) (more ∙ ap (λ l. task.Statements ts ∷ l) pushed)
-      ∙ sym (then_after (counted_all program ts.now (here program frames k calls) c)
-      (until_due program ts.now test.now (here program frames k calls))
-      (goes_on program frames k tasks calls))
-      ∙ ap (λ h. then_go h (goes_on program frames k tasks calls))
-      (sym (again program ts.now test.now (here program frames k calls) (here_adds program
-      frames k calls) c))
-      ∙ ap (λ (b : Bool). then_go (if b then Done c else repeat_units k k (counted_all program
-      ts.now (here program frames k calls)) (on_counted (value program test.now)
-      (here program frames k calls)) c) (goes_on program frames k tasks calls)) (sym truth)
-      ∙ ap (λ r. then_go (given r c (λ y. if is_true y then Done c else repeat_units k k
-      (counted_all program ts.now (here program frames k calls))
-      (on_counted (value program test.now) (here program frames k calls)) c))
-      (goes_on program frames k tasks calls)) v
+      ∙ sym (then_after (turn c) (until_due program ts.now test.now around) rest)
+      ∙ ap (λ h. then_go h rest)
+      (sym (again program ts.now test.now around (here_adds program frames k calls) c))
+      ∙ ap (λ (b : Bool). then_go (if b then Done c else loop c) rest) (sym truth)
+      ∙ ap (λ r. then_go (given r c (λ y. if is_true y then Done c else loop c)) rest) v
 
 -- ---- how statements begin
 
@@ -358,10 +337,8 @@ module _ (program : Checked) (frames : List ℕ) (k : ℕ) (calls : List LiveCal
       ≡ due_of program (due.If arms other) (here program frames k calls) c
   leads-If arms other ys zs e d =
       counted-If program ys zs (here program frames k calls) c
-      ∙ ap (λ xs. unit k (first_true (map (counted_arm program) xs) (map (counted program) zs)
-      (here program frames k calls)) c) (sym e)
-      ∙ ap (λ xs. unit k (first_true (map (counted_arm program) arms.now) (map (counted program)
-      xs) (here program frames k calls)) c) (sym d)
+      ∙ (λ i. unit k (first_true (map (counted_arm program) (sym e i))
+      (map (counted program) (sym d i)) (here program frames k calls)) c)
 
   pub leads-While : (test : Bor RExpr) (ts : Bor (List RStmt)) (e : RExpr) (zs : List RStmt) →
       test.now ≡ e → ts.now ≡ zs →
@@ -369,8 +346,7 @@ module _ (program : Checked) (frames : List ℕ) (k : ℕ) (calls : List LiveCal
       ≡ due_of program (due.While test ts) (here program frames k calls) c
   leads-While test ts e zs is same =
       counted-While program e zs (here program frames k calls) (here_adds program frames k calls) c
-      ∙ ap (λ x. while_due program x zs (here program frames k calls) c) (sym is)
-      ∙ ap (λ xs. while_due program test.now xs (here program frames k calls) c) (sym same)
+      ∙ (λ i. while_due program (sym is i) (sym same i) (here program frames k calls) c)
 
   pub leads-Repeat : (ts : Bor (List RStmt)) (test : Bor RExpr) (zs : List RStmt) (e : RExpr) →
       ts.now ≡ zs → test.now ≡ e →
@@ -378,10 +354,8 @@ module _ (program : Checked) (frames : List ℕ) (k : ℕ) (calls : List LiveCal
       ≡ leads program (first.Repeat ts test) (here program frames k calls) c
   leads-Repeat ts test zs e same is =
       counted-Repeat program zs e (here program frames k calls) (here_adds program frames k calls) c
-      ∙ ap (λ xs. then_go (counted_all program xs (here program frames k calls) c)
-      (until_due program xs e (here program frames k calls))) (sym same)
-      ∙ ap (λ x. then_go (counted_all program ts.now (here program frames k calls) c)
-      (until_due program ts.now x (here program frames k calls))) (sym is)
+      ∙ (λ i. then_go (counted_all program (sym same i) (here program frames k calls) c)
+      (until_due program (sym same i) (sym is i) (here program frames k calls)))
 
   pub leads-Call : (proc : ProcId) (args : Bor (List RArg)) (ys : List RArg) → args.now ≡ ys →
       counted program (stmt.Call proc ys) (here program frames k calls) c
@@ -427,40 +401,12 @@ pub entered-counted : (input : List ℤ) (r new : Running) (depth : ℕ) (args :
     store_of new ≡ entered depth args (store_of r) → new.events ≡ r.events → new.taken ≡ r.taken →
     new.units ≡ r.units →
     counted_of input new ≡ in_call depth args (counted_of input r)
-entered-counted input r new depth args store events taken units =
-    ap {B = Counted} (λ x. record {
-      state = record {
-        store = x;
-        input = drop new.taken input;
-        events = new.events;
-        taken = new.taken;
-      };
-      units = new.units;
-    }) store
-    ∙ ap {B = Counted} (λ x. record {
-      state = record {
-        store = entered depth args (store_of r);
-        input = drop new.taken input;
-        events = x;
-        taken = new.taken;
-      };
-      units = new.units;
-    }) events
-    ∙ ap {B = Counted} (λ x. record {
-      state = record {
-        store = entered depth args (store_of r);
-        input = drop x input;
-        events = r.events;
-        taken = x;
-      };
-      units = new.units;
-    }) taken
-    ∙ ap {B = Counted} (λ x. record {
-      state = record {
-        store = entered depth args (store_of r);
-        input = drop r.taken input;
-        events = r.events;
-        taken = r.taken;
-      };
-      units = x;
-    }) units
+entered-counted input r new depth args store events taken units = λ i. record {
+  state = record {
+    store = store i;
+    input = drop (taken i) input;
+    events = events i;
+    taken = taken i;
+  };
+  units = units i;
+}

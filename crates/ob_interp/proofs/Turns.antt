@@ -130,9 +130,11 @@ repeat_adds (suc n) granted r test a = record {
 }
 
 -- statements, where calls add too
+abbrev pub AddsUnits : Granted → Type 0
+AddsUnits a = (proc : ℕ) (args : List Argument) → Adds (a.call proc args)
+
 pub record Fair (f : CountedStatement) : Type 0 where
-  pub at : (a : Granted) → ((proc : ℕ) (args : List Argument) → Adds (a.call proc args)) →
-      Adds (f a)
+  pub at : (a : Granted) → AddsUnits a → Adds (f a)
 
 abbrev pub AllFair : List CountedStatement → Type 0
 AllFair [] = Unit {0}
@@ -142,15 +144,14 @@ abbrev pub ArmsFair : List CountedArm → Type 0
 ArmsFair [] = Unit {0}
 ArmsFair (x ∷ xs) = AllFair x.1 × ArmsFair xs
 
-in_order_adds : (fs : List CountedStatement) → AllFair fs → (a : Granted) →
-    ((proc : ℕ) (args : List Argument) → Adds (a.call proc args)) → Adds (in_order fs a)
+in_order_adds : (fs : List CountedStatement) → AllFair fs → (a : Granted) → AddsUnits a →
+    Adds (in_order fs a)
 in_order_adds [] g a h = done_adds
 in_order_adds (f ∷ fs) g a h = then_adds (f a) (in_order fs a) (g.0.at a h)
     (in_order_adds fs g.1 a h)
 
 first_adds : (xs : List CountedArm) (fs : List CountedStatement) → ArmsFair xs → AllFair fs →
-    (a : Granted) → ((proc : ℕ) (args : List Argument) → Adds (a.call proc args)) →
-    Adds (first_true xs fs a)
+    (a : Granted) → AddsUnits a → Adds (first_true xs fs a)
 first_adds [] fs g k a h = in_order_adds fs k a h
 first_adds (x ∷ xs) fs g k a h = test_adds (on_counted x.0 a) (in_order x.1 a) (first_true xs fs a)
     (in_order_adds x.1 g.0 a h) (first_adds xs fs g.1 k a h)
@@ -166,7 +167,7 @@ module _ (program : Checked) where
   counted_roll = fold-roll-RStmt CountedStatement CountedArm (counted_step program)
       (counted_arm_step program)
 
-  counted_arm_roll : (y : RArm-F RStmt RArm) → counted_arm program (roll-RArm y)
+  pub counted_arm_roll : (y : RArm-F RStmt RArm) → counted_arm program (roll-RArm y)
       ≡ (value program y.test, map (counted program) y.body)
   counted_arm_roll = fold-roll-RArm CountedStatement CountedArm (counted_step program)
       (counted_arm_step program)
@@ -190,44 +191,27 @@ module _ (program : Checked) where
   abbrev WithFair : Type 0
   WithFair = RStmt-F ((t : RStmt) × IsFair t) ((t : RArm) × IsFairArm t)
 
-  fair_from : (y : RStmt-F RStmt RArm) →
-      Fair (counted_step program (map-RStmt RStmt RArm CountedStatement CountedArm (counted
-      program) (counted_arm program) y)) → IsFair (roll-RStmt y)
-  fair_from y g = subst Fair (sym (counted_roll y)) g
+  abbrev plain : WithFair → RStmt-F RStmt RArm
+  plain = map-RStmt ((t : RStmt) × IsFair t) ((t : RArm) × IsFairArm t) RStmt RArm (λ e. e.0)
+      (λ e. e.0)
 
-  stmt_fair : (y : WithFair) →
-      IsFair (roll-RStmt (map-RStmt ((t : RStmt) × IsFair t) ((t : RArm) × IsFairArm t) RStmt RArm
-      (λ e. e.0) (λ e. e.0) y))
-  stmt_fair (RStmt-F.Assign v e)
-      = fair_from _ (record { at = λ a h. unit_adds a.granted _ (does_adds _) })
-  stmt_fair (RStmt-F.If arms other)
-      = fair_from _ (record {
-        at = λ a h. unit_adds a.granted _ (first_adds _ _ (arms_fair arms)
-            (all_fair other) a h);
-      })
-  stmt_fair (RStmt-F.While test ts)
-      = fair_from _ (record {
-        at = λ a h. while_adds a.granted a.granted _ _ (in_order_adds _
-            (all_fair ts) a h);
-      })
-  stmt_fair (RStmt-F.Repeat ts test)
-      = fair_from _ (record {
-        at = λ a h. repeat_adds a.granted a.granted _ _ (in_order_adds _
-            (all_fair ts) a h);
-      })
-  stmt_fair (RStmt-F.Call proc args)
-      = fair_from _ (record {
-        at = λ a h. unit_adds a.granted _ (call_adds (λ c. arguments program
-            a.calls c.state.store args) (a.call proc.0) (h proc.0));
-      })
-  stmt_fair (RStmt-F.Read v)
-      = fair_from _ (record { at = λ a h. unit_adds a.granted _ (does_adds _) })
-  stmt_fair (RStmt-F.Write e)
-      = fair_from _ (record { at = λ a h. unit_adds a.granted _ (does_adds _) })
-  stmt_fair RStmt-F.WriteLine = fair_from _ (record {
-    at = λ a h. unit_adds a.granted _ (does_adds
-        (stmt_step program RStmt-F.WriteLine (alone a.calls)));
-  })
+  stmt_adds : (y : WithFair) (a : Granted) → AddsUnits a → Adds (counted_step program
+      (map-RStmt RStmt RArm CountedStatement CountedArm (counted program) (counted_arm program)
+      (plain y)) a)
+  stmt_adds (RStmt-F.Assign v e) a h = unit_adds a.granted _ (does_adds _)
+  stmt_adds (RStmt-F.If arms other) a h =
+      unit_adds a.granted _ (first_adds _ _ (arms_fair arms) (all_fair other) a h)
+  stmt_adds (RStmt-F.While test ts) a h =
+      while_adds a.granted a.granted _ _ (in_order_adds _ (all_fair ts) a h)
+  stmt_adds (RStmt-F.Repeat ts test) a h =
+      repeat_adds a.granted a.granted _ _ (in_order_adds _ (all_fair ts) a h)
+  stmt_adds (RStmt-F.Call proc args) a h =
+      unit_adds a.granted _ (call_adds (λ c. arguments program a.calls c.state.store args)
+      (a.call proc.0) (h proc.0))
+  stmt_adds (RStmt-F.Read v) a h = unit_adds a.granted _ (does_adds _)
+  stmt_adds (RStmt-F.Write e) a h = unit_adds a.granted _ (does_adds _)
+  stmt_adds RStmt-F.WriteLine a h =
+      unit_adds a.granted _ (does_adds (stmt_step program RStmt-F.WriteLine (alone a.calls)))
 
   arm_fair : (y : RArm-F ((t : RStmt) × IsFair t) ((t : RArm) × IsFairArm t)) →
       IsFairArm (roll-RArm (record { test = y.test; body = map (λ e. e.0) y.body }))
@@ -237,11 +221,11 @@ module _ (program : Checked) where
 
   pub fair : (t : RStmt) → IsFair t
   fair = ind-RStmt IsFair IsFairArm
-      (λ x y is. subst (λ z. IsFair (roll-RStmt z)) is (stmt_fair y))
+      (λ x y is. subst (λ z. IsFair (roll-RStmt z)) is
+      (subst Fair (sym (counted_roll (plain y))) (record { at = stmt_adds y })))
       (λ x y is. subst (λ z. IsFairArm (roll-RArm z)) is (arm_fair y))
 
-  pub all_adds : (ts : List RStmt) (a : Granted) → ((proc : ℕ) (args : List Argument) →
-      Adds (a.call proc args)) → Adds (counted_all program ts a)
+  pub all_adds : (ts : List RStmt) (a : Granted) → AddsUnits a → Adds (counted_all program ts a)
   all_adds [] a h = done_adds
   all_adds (t ∷ ts) a h = then_adds (counted program t a) (counted_all program ts a)
       ((fair t).at a h) (all_adds ts a h)
@@ -270,13 +254,9 @@ module _ (program : Checked) where
 
 -- ---- where no unit is left
 
-not_below : (a b : ℕ) → b ≤ a → nat_lt a b ≡ false
-not_below a b le = le-ltb a b le
-
-unit_idle : (granted : ℕ) (r : Counting) (c : Counted) → granted ≤ c.units → unit granted r c
-    ≡ Stopped c
-unit_idle granted r c le = ap (λ b. if b then r (record c { units = c.units + 1 }) else Stopped c)
-    (not_below c.units granted le)
+unit_idle : (granted : ℕ) (h : Halt) (c : Counted) → granted ≤ c.units →
+    (if nat_lt c.units granted then h else Stopped c) ≡ Stopped c
+unit_idle granted h c le = ap (λ b. if b then h else Stopped c) (le-ltb c.units granted le)
 
 pub record Idles (f : CountedStatement) : Type 0 where
   pub at : (a : Granted) (c : Counted) → a.granted ≤ c.units → f a c ≡ Stopped c
@@ -296,7 +276,7 @@ in_order_idle (f ∷ fs) g a c le = inr (ap (λ h. then_go h (in_order fs a)) (g
 while_idle : (n granted : ℕ) (test : Counted → Outcome) (r : Counting) (c : Counted) →
     granted ≤ c.units → while_units n granted test r c ≡ Stopped c
 while_idle zero granted test r c le = refl
-while_idle (suc n) granted test r c le = unit_idle granted (while_turn n granted test r) c le
+while_idle (suc n) granted test r c le = unit_idle granted _ c le
 
 waits_then : (c : Counted) (h : Halt) (k : Counting) → Waits c h → k c ≡ Stopped c → then_go h k
     ≡ Stopped c
@@ -307,8 +287,7 @@ repeat_idle : (n granted : ℕ) (r : Counting) (test : Counted → Outcome) (c :
     granted ≤ c.units → Waits c (r c) → repeat_units n granted r test c ≡ Stopped c
 repeat_idle zero granted r test c le w = refl
 repeat_idle (suc n) granted r test c le w = waits_then c (r c)
-    (unit granted (until_turn n granted r test)) w (unit_idle granted (until_turn n granted r test)
-    c le)
+    (unit granted (until_turn n granted r test)) w (unit_idle granted _ c le)
 
 module _ (program : Checked) where
   abbrev IsIdle : RStmt → Type 0
@@ -322,54 +301,28 @@ module _ (program : Checked) where
   all_idle [] = tt
   all_idle (t ∷ ts) = (t.1, all_idle ts)
 
-  idle_from : (y : RStmt-F RStmt RArm) →
-      Idles (counted_step program (map-RStmt RStmt RArm CountedStatement CountedArm (counted
-      program) (counted_arm program) y)) → IsIdle (roll-RStmt y)
-  idle_from y g = subst Idles (sym (counted_roll program y)) g
+  abbrev plain_idle : RStmt-F ((t : RStmt) × IsIdle t) ((t : RArm) × AnyArm t) → RStmt-F RStmt RArm
+  plain_idle = map-RStmt ((t : RStmt) × IsIdle t) ((t : RArm) × AnyArm t) RStmt RArm (λ e. e.0)
+      (λ e. e.0)
 
-  stmt_idle : (y : RStmt-F ((t : RStmt) × IsIdle t) ((t : RArm) × AnyArm t)) →
-      IsIdle (roll-RStmt (map-RStmt ((t : RStmt) × IsIdle t) ((t : RArm) × AnyArm t) RStmt RArm (λ
-      e. e.0) (λ e. e.0) y))
-  stmt_idle (RStmt-F.Assign v e)
-      = idle_from _ (record {
-        at = λ a c le. unit_idle a.granted (does (stmt_step program
-            (RStmt-F.Assign v e) (alone a.calls))) c le;
-      })
-  stmt_idle (RStmt-F.If arms other)
-      = idle_from _ (record {
-        at = λ a c le. unit_idle a.granted (first_true (map (counted_arm
-            program) (map (λ e. e.0) arms)) (map (counted program) (map (λ e. e.0) other)) a) c le;
-      })
-  stmt_idle (RStmt-F.While test ts)
-      = idle_from _ (record { at = λ a c le. while_idle a.granted a.granted _ _ c le })
-  stmt_idle (RStmt-F.Repeat ts test)
-      = idle_from _ (record {
-        at = λ a c le. repeat_idle a.granted a.granted _ _ c le
-            (in_order_idle _ (all_idle ts) a c le);
-      })
-  stmt_idle (RStmt-F.Call proc args)
-      = idle_from _ (record {
-        at = λ a c le. unit_idle a.granted (λ d. given (arguments program
-            a.calls d.state.store args) d (λ xs. a.call proc.0 xs d)) c le;
-      })
-  stmt_idle (RStmt-F.Read v)
-      = idle_from _ (record {
-        at = λ a c le. unit_idle a.granted (does (stmt_step program
-            (RStmt-F.Read v) (alone a.calls))) c le;
-      })
-  stmt_idle (RStmt-F.Write e)
-      = idle_from _ (record {
-        at = λ a c le. unit_idle a.granted (does (stmt_step program
-            (RStmt-F.Write e) (alone a.calls))) c le;
-      })
-  stmt_idle RStmt-F.WriteLine = idle_from _ (record {
-    at = λ a c le. unit_idle a.granted (does
-        (stmt_step program RStmt-F.WriteLine (alone a.calls))) c le;
-  })
+  stmt_idle : (y : RStmt-F ((t : RStmt) × IsIdle t) ((t : RArm) × AnyArm t)) (a : Granted)
+      (c : Counted) → a.granted ≤ c.units → counted_step program
+      (map-RStmt RStmt RArm CountedStatement CountedArm (counted program) (counted_arm program)
+      (plain_idle y)) a c ≡ Stopped c
+  stmt_idle (RStmt-F.Assign v e) a c le = unit_idle a.granted _ c le
+  stmt_idle (RStmt-F.If arms other) a c le = unit_idle a.granted _ c le
+  stmt_idle (RStmt-F.While test ts) a c le = while_idle a.granted a.granted _ _ c le
+  stmt_idle (RStmt-F.Repeat ts test) a c le =
+      repeat_idle a.granted a.granted _ _ c le (in_order_idle _ (all_idle ts) a c le)
+  stmt_idle (RStmt-F.Call proc args) a c le = unit_idle a.granted _ c le
+  stmt_idle (RStmt-F.Read v) a c le = unit_idle a.granted _ c le
+  stmt_idle (RStmt-F.Write e) a c le = unit_idle a.granted _ c le
+  stmt_idle RStmt-F.WriteLine a c le = unit_idle a.granted _ c le
 
   pub idle : (t : RStmt) → IsIdle t
   idle = ind-RStmt IsIdle AnyArm
-      (λ x y is. subst (λ z. IsIdle (roll-RStmt z)) is (stmt_idle y))
+      (λ x y is. subst (λ z. IsIdle (roll-RStmt z)) is
+      (subst Idles (sym (counted_roll program (plain_idle y))) (record { at = stmt_idle y })))
       (λ x y is. tt)
 
   pub all_wait : (ts : List RStmt) (a : Granted) (c : Counted) → a.granted ≤ c.units →
@@ -398,8 +351,8 @@ same_then c (Stopped d) k q l e = refl
 pub while_more : (n granted : ℕ) (test : Counted → Outcome) (r : Counting) → Adds r →
     (c : Counted) → granted ≤ c.units + n → while_units n granted test r c
     ≡ while_units (suc n) granted test r c
-while_more zero granted test r a c le = sym (unit_idle granted (while_turn zero granted test r)
-    c (omega (arith, le)))
+while_more zero granted test r a c le =
+    sym (unit_idle granted _ c (omega (arith, le)))
 while_more (suc n) granted test r a c le =
     let d : Counted = record c { units = c.units + 1 } in
     same_unit granted (while_turn n granted test r) (while_turn (suc n) granted test r)
@@ -413,7 +366,7 @@ pub repeat_more : (n granted : ℕ) (r : Counting) (test : Counted → Outcome) 
     repeat_units n granted r test c ≡ repeat_units (suc n) granted r test c
 repeat_more zero granted r test a w c le = sym (waits_then c (r c)
     (unit granted (until_turn zero granted r test)) (w c (omega (arith, le)))
-    (unit_idle granted (until_turn zero granted r test) c (omega (arith, le))))
+    (unit_idle granted _ c (omega (arith, le))))
 repeat_more (suc n) granted r test a w c le =
     same_then c (r c) (unit granted (until_turn n granted r test))
     (unit granted (until_turn (suc n) granted r test)) (a.later c) (λ d l.
