@@ -155,24 +155,6 @@ done_beside = record { grows = at_once; meets = λ c. refl }
 stops_beside : Beside Stopped Going
 stops_beside = record { grows = going_at_once; meets = λ c. going_at_once c.state }
 
--- ---- loops
-
-module _ (x : Counted → Outcome) (test : State → Outcome) (same : (c : Counted) → x c ≡ test c.state)
-    (granted : ℕ) (r : Counting) (m : Run) (b : Beside r m) where
-  while_beside : (n : ℕ) → Beside (while_units n granted x r) (while_turns n test m)
-  while_beside zero = record { grows = stops_beside.grows; meets = stops_beside.meets }
-  while_beside (suc n) =
-      let u = unit_beside granted _ _ (choice_beside x test same _ _ _ _
-      (then_beside r _ m _ b (while_beside n)) done_beside) in
-      record { grows = u.grows; meets = u.meets }
-
-  repeat_beside : (n : ℕ) → Beside (repeat_units n granted r x) (repeat_turns n m test)
-  repeat_beside zero = record { grows = stops_beside.grows; meets = stops_beside.meets }
-  repeat_beside (suc n) =
-      let u = then_beside r _ m _ b (unit_beside granted _ _
-      (choice_beside x test same _ _ _ _ done_beside (repeat_beside n))) in
-      record { grows = u.grows; meets = u.meets }
-
 -- ---- statements
 
 -- the same live calls, as many turns as units are granted, and calls that do what they mean
@@ -184,40 +166,40 @@ pub record Near (a : Granted) (b : Around) : Type 0 where
 pub record Fits (f : CountedStatement) (e : Execution) : Type 0 where
   pub at : (a : Granted) (b : Around) → Near a b → Beside (f a) (e b)
 
-abbrev pub AllFit : List CountedStatement → List Execution → Type 0
-AllFit [] [] = Unit {0}
-AllFit [] (e ∷ es) = ⊥
-AllFit (f ∷ fs) [] = ⊥
-AllFit (f ∷ fs) (e ∷ es) = Fits f e × AllFit fs es
-
-in_order_beside : (fs : List CountedStatement) (es : List Execution) → AllFit fs es →
-    (a : Granted) (b : Around) → Near a b → Beside (in_order fs a) (in_turn es b)
-in_order_beside [] [] g a b w = record { grows = at_once; meets = λ c. refl }
-in_order_beside [] (e ∷ es) g a b w = absurd g
-in_order_beside (f ∷ fs) [] g a b w = absurd g
-in_order_beside (f ∷ fs) (e ∷ es) g a b w = then_beside (f a) (in_order fs a) (e b) (in_turn es b)
-    (g.0.at a b w) (in_order_beside fs es g.1 a b w)
-
-abbrev pub ArmsFit : List CountedArm → List Arm → Type 0
-ArmsFit [] [] = Unit {0}
-ArmsFit [] (y ∷ ys) = ⊥
-ArmsFit (x ∷ xs) [] = ⊥
-ArmsFit (x ∷ xs) (y ∷ ys) = (x.0 ≡ y.0) × AllFit x.1 y.1 × ArmsFit xs ys
-
 same_test : (x : Evaluation) (a : Granted) (b : Around) → Near a b → (c : Counted) →
     on_counted x a c ≡ on_state x b c.state
 same_test x a b w c = ap (λ calls. x calls c.state.store) (sym w.calls)
 
-first_beside : (xs : List CountedArm) (ys : List Arm) (fs : List CountedStatement)
-    (es : List Execution) → ArmsFit xs ys → AllFit fs es →
-    (a : Granted) (b : Around) → Near a b → Beside (first_true xs fs a) (chosen ys es b)
-first_beside [] [] fs es g h a b w = in_order_beside fs es h a b w
-first_beside [] (y ∷ ys) fs es g h a b w = absurd g
-first_beside (x ∷ xs) [] fs es g h a b w = absurd g
-first_beside (x ∷ xs) (y ∷ ys) fs es g h a b w =
-    choice_beside (on_counted x.0 a) (on_state y.0 b)
-    (λ c. ap (λ e. e a.calls c.state.store) g.0 ∙ same_test y.0 a b w c)
-    _ _ _ _ (in_order_beside x.1 y.1 g.1 a b w) (first_beside xs ys fs es g.2 h a b w)
+-- ---- loops
+
+module _ (x : Evaluation) (a : Granted) (b : Around) (w : Near a b) (r : Counting) (m : Run)
+    (beside : Beside r m) where
+  while_beside : (n : ℕ) → Beside (while_units n a.granted (on_counted x a) r)
+      (while_turns n (on_state x b) m)
+  while_beside zero = record { grows = stops_beside.grows; meets = stops_beside.meets }
+  while_beside (suc n) =
+      let u = unit_beside a.granted _ _ (choice_beside (on_counted x a) (on_state x b)
+      (same_test x a b w) _ _ _ _ (then_beside r _ m _ beside (while_beside n)) done_beside) in
+      record { grows = u.grows; meets = u.meets }
+
+  repeat_beside : (n : ℕ) → Beside (repeat_units n a.granted r (on_counted x a))
+      (repeat_turns n m (on_state x b))
+  repeat_beside zero = record { grows = stops_beside.grows; meets = stops_beside.meets }
+  repeat_beside (suc n) =
+      let u = then_beside r _ m _ beside (unit_beside a.granted _ _
+      (choice_beside (on_counted x a) (on_state x b) (same_test x a b w) _ _ _ _ done_beside
+      (repeat_beside n))) in
+      record { grows = u.grows; meets = u.meets }
+
+  while_fits : Beside (while_units a.granted a.granted (on_counted x a) r)
+      (while_turns b.turns (on_state x b) m)
+  while_fits = subst (λ n. Beside (while_units n a.granted (on_counted x a) r)
+      (while_turns b.turns (on_state x b) m)) w.turns (while_beside b.turns)
+
+  repeat_fits : Beside (repeat_units a.granted a.granted r (on_counted x a))
+      (repeat_turns b.turns m (on_state x b))
+  repeat_fits = subst (λ n. Beside (repeat_units n a.granted r (on_counted x a))
+      (repeat_turns b.turns m (on_state x b))) w.turns (repeat_beside b.turns)
 
 -- ---- trees
 
@@ -227,17 +209,27 @@ module _ (program : Checked) where
 
   abbrev FitArm : RArm → Type 0
   FitArm arm = ((counted_arm program arm).0 ≡ (arm_of program arm).0)
-      × AllFit (counted_arm program arm).1 (arm_of program arm).1
+      × Fits (in_order (counted_arm program arm).1) (in_turn (arm_of program arm).1)
 
-  all_fit : (ts : List ((t : RStmt) × Fit t)) → AllFit (map (counted program) (map (λ e. e.0) ts))
-      (map (exec program) (map (λ e. e.0) ts))
-  all_fit [] = tt
-  all_fit (t ∷ ts) = (t.1, all_fit ts)
+  in_order_beside : (ts : List ((t : RStmt) × Fit t)) (a : Granted) (b : Around) → Near a b →
+      Beside (in_order (map (counted program) (map (λ e. e.0) ts)) a)
+      (in_turn (map (exec program) (map (λ e. e.0) ts)) b)
+  in_order_beside [] a b w = record { grows = at_once; meets = λ c. refl }
+  in_order_beside (t ∷ ts) a b w =
+      then_beside _ _ _ _ (t.1.at a b w) (in_order_beside ts a b w)
 
-  arms_fit : (ts : List ((t : RArm) × FitArm t)) → ArmsFit (map (counted_arm program)
-      (map (λ e. e.0) ts)) (map (arm_of program) (map (λ e. e.0) ts))
-  arms_fit [] = tt
-  arms_fit (t ∷ ts) = (t.1.0, t.1.1, arms_fit ts)
+  first_beside : (arms : List ((t : RArm) × FitArm t)) (other : List ((t : RStmt) × Fit t))
+      (a : Granted) (b : Around) → Near a b →
+      Beside (first_true (map (counted_arm program) (map (λ e. e.0) arms))
+      (map (counted program) (map (λ e. e.0) other)) a)
+      (chosen (map (arm_of program) (map (λ e. e.0) arms))
+      (map (exec program) (map (λ e. e.0) other)) b)
+  first_beside [] other a b w = in_order_beside other a b w
+  first_beside (arm ∷ arms) other a b w =
+      let test = (arm_of program arm.0).0 in
+      choice_beside (on_counted (counted_arm program arm.0).0 a) (on_state test b)
+      (λ c. ap (λ e. e a.calls c.state.store) arm.1.0 ∙ same_test test a b w c)
+      _ _ _ _ (arm.1.1.at a b w) (first_beside arms other a b w)
 
   abbrev WithFit : Type 0
   WithFit = RStmt-F ((t : RStmt) × Fit t) ((t : RArm) × FitArm t)
@@ -298,37 +290,17 @@ module _ (program : Checked) where
         (given_meets (x b.calls c.state) c _ _ (λ xs. (w.call proc xs).meets c));
   }
 
-  while_fits : (x : Evaluation) (fs : List CountedStatement) (es : List Execution) → AllFit fs es →
-      (a : Granted) (b : Around) → Near a b →
-      Beside (while_units a.granted a.granted (on_counted x a) (in_order fs a))
-      (while_turns b.turns (on_state x b) (in_turn es b))
-  while_fits x fs es g a b w =
-      subst (λ n. Beside (while_units n a.granted (on_counted x a) (in_order fs a))
-      (while_turns b.turns (on_state x b) (in_turn es b))) w.turns
-      (while_beside (on_counted x a) (on_state x b) (same_test x a b w) a.granted (in_order fs a)
-      (in_turn es b) (in_order_beside fs es g a b w) b.turns)
-
-  repeat_fits : (x : Evaluation) (fs : List CountedStatement) (es : List Execution) →
-      AllFit fs es → (a : Granted) (b : Around) → Near a b →
-      Beside (repeat_units a.granted a.granted (in_order fs a) (on_counted x a))
-      (repeat_turns b.turns (in_turn es b) (on_state x b))
-  repeat_fits x fs es g a b w =
-      subst (λ n. Beside (repeat_units n a.granted (in_order fs a) (on_counted x a))
-      (repeat_turns b.turns (in_turn es b) (on_state x b))) w.turns
-      (repeat_beside (on_counted x a) (on_state x b) (same_test x a b w) a.granted (in_order fs a)
-      (in_turn es b) (in_order_beside fs es g a b w) b.turns)
-
   stmt_case : (y : WithFit) (a : Granted) (b : Around) → Near a b →
       Beside (counted_step program (counting (plain y)) a)
       (stmt_step program (executing (plain y)) b)
   stmt_case (RStmt-F.Assign v e) a b w =
       single_beside a b w (assigned_by v e) (assign_after v e b.calls)
   stmt_case (RStmt-F.If arms other) a b w =
-      unit_beside a.granted _ _ (first_beside _ _ _ _ (arms_fit arms) (all_fit other) a b w)
+      unit_beside a.granted _ _ (first_beside arms other a b w)
   stmt_case (RStmt-F.While test ts) a b w =
-      while_fits (value program test) _ _ (all_fit ts) a b w
+      while_fits (value program test) a b w _ _ (in_order_beside ts a b w)
   stmt_case (RStmt-F.Repeat ts test) a b w =
-      repeat_fits (value program test) _ _ (all_fit ts) a b w
+      repeat_fits (value program test) a b w _ _ (in_order_beside ts a b w)
   stmt_case (RStmt-F.Call proc args) a b w =
       unit_beside a.granted _ _
       (called_beside a b w (λ calls s. arguments program calls s.store args) proc.0)
@@ -352,9 +324,10 @@ module _ (program : Checked) where
   arm_case y =
       let here : RArm-F RStmt RArm = record { test = y.test; body = map (λ e. e.0) y.body } in
       subst (λ z. (z.0 ≡ (arm_of program (roll-RArm here)).0)
-      × AllFit z.1 (arm_of program (roll-RArm here)).1) (sym (counted_arm_roll program here))
-      (subst (λ z. (value program y.test ≡ z.0) × AllFit (map (counted program) (map (λ e. e.0)
-      y.body)) z.1) (sym (arm_of_roll program here)) (refl, all_fit y.body))
+      × Fits (in_order z.1) (in_turn (arm_of program (roll-RArm here)).1)) (sym (counted_arm_roll program here))
+      (subst (λ z. (value program y.test ≡ z.0)
+      × Fits (in_order (map (counted program) (map (λ e. e.0) y.body))) (in_turn z.1))
+      (sym (arm_of_roll program here)) (refl, record { at = in_order_beside y.body }))
 
   pub fits : (t : RStmt) → Fit t
   fits = ind-RStmt Fit FitArm

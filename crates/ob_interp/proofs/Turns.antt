@@ -136,26 +136,6 @@ AddsUnits a = (proc : ℕ) (args : List Argument) → Adds (a.call proc args)
 pub record Fair (f : CountedStatement) : Type 0 where
   pub at : (a : Granted) → AddsUnits a → Adds (f a)
 
-abbrev pub AllFair : List CountedStatement → Type 0
-AllFair [] = Unit {0}
-AllFair (f ∷ fs) = Fair f × AllFair fs
-
-abbrev pub ArmsFair : List CountedArm → Type 0
-ArmsFair [] = Unit {0}
-ArmsFair (x ∷ xs) = AllFair x.1 × ArmsFair xs
-
-in_order_adds : (fs : List CountedStatement) → AllFair fs → (a : Granted) → AddsUnits a →
-    Adds (in_order fs a)
-in_order_adds [] g a h = done_adds
-in_order_adds (f ∷ fs) g a h = then_adds (f a) (in_order fs a) (g.0.at a h)
-    (in_order_adds fs g.1 a h)
-
-first_adds : (xs : List CountedArm) (fs : List CountedStatement) → ArmsFair xs → AllFair fs →
-    (a : Granted) → AddsUnits a → Adds (first_true xs fs a)
-first_adds [] fs g k a h = in_order_adds fs k a h
-first_adds (x ∷ xs) fs g k a h = test_adds (on_counted x.0 a) (in_order x.1 a) (first_true xs fs a)
-    (in_order_adds x.1 g.0 a h) (first_adds xs fs g.1 k a h)
-
 call_adds : (x : Counted → Result (List Argument) TrapKind) (call : List Argument → Counting) →
     ((args : List Argument) → Adds (call args)) → Adds (λ c. given (x c) c (λ xs. call xs c))
 call_adds x call h = record { later = λ c. later_given (x c) c _ (λ xs. (h xs).later c) }
@@ -176,17 +156,21 @@ module _ (program : Checked) where
   IsFair t = Fair (counted program t)
 
   abbrev IsFairArm : RArm → Type 0
-  IsFairArm arm = AllFair (counted_arm program arm).1
+  IsFairArm arm = Fair (in_order (counted_arm program arm).1)
 
-  all_fair : (ts : List ((t : RStmt) × IsFair t)) → AllFair (map (counted program)
-      (map (λ e. e.0) ts))
-  all_fair [] = tt
-  all_fair (t ∷ ts) = (t.1, all_fair ts)
+  in_order_adds : (ts : List ((t : RStmt) × IsFair t)) (a : Granted) → AddsUnits a →
+      Adds (in_order (map (counted program) (map (λ e. e.0) ts)) a)
+  in_order_adds [] a h = done_adds
+  in_order_adds (t ∷ ts) a h = then_adds (counted program t.0 a) _ (t.1.at a h) (in_order_adds ts a h)
 
-  arms_fair : (ts : List ((t : RArm) × IsFairArm t)) → ArmsFair (map (counted_arm program)
-      (map (λ e. e.0) ts))
-  arms_fair [] = tt
-  arms_fair (t ∷ ts) = (t.1, arms_fair ts)
+  first_adds : (arms : List ((t : RArm) × IsFairArm t)) (other : List ((t : RStmt) × IsFair t))
+      (a : Granted) → AddsUnits a →
+      Adds (first_true (map (counted_arm program) (map (λ e. e.0) arms))
+      (map (counted program) (map (λ e. e.0) other)) a)
+  first_adds [] other a h = in_order_adds other a h
+  first_adds (arm ∷ arms) other a h =
+      test_adds (on_counted (counted_arm program arm.0).0 a) _ _ (arm.1.at a h)
+      (first_adds arms other a h)
 
   abbrev WithFair : Type 0
   WithFair = RStmt-F ((t : RStmt) × IsFair t) ((t : RArm) × IsFairArm t)
@@ -200,11 +184,11 @@ module _ (program : Checked) where
       (plain y)) a)
   stmt_adds (RStmt-F.Assign v e) a h = unit_adds a.granted _ (does_adds _)
   stmt_adds (RStmt-F.If arms other) a h =
-      unit_adds a.granted _ (first_adds _ _ (arms_fair arms) (all_fair other) a h)
+      unit_adds a.granted _ (first_adds arms other a h)
   stmt_adds (RStmt-F.While test ts) a h =
-      while_adds a.granted a.granted _ _ (in_order_adds _ (all_fair ts) a h)
+      while_adds a.granted a.granted _ _ (in_order_adds ts a h)
   stmt_adds (RStmt-F.Repeat ts test) a h =
-      repeat_adds a.granted a.granted _ _ (in_order_adds _ (all_fair ts) a h)
+      repeat_adds a.granted a.granted _ _ (in_order_adds ts a h)
   stmt_adds (RStmt-F.Call proc args) a h =
       unit_adds a.granted _ (call_adds (λ c. arguments program a.calls c.state.store args)
       (a.call proc.0) (h proc.0))
@@ -217,7 +201,8 @@ module _ (program : Checked) where
       IsFairArm (roll-RArm (record { test = y.test; body = map (λ e. e.0) y.body }))
   arm_fair y =
       let here : RArm-F RStmt RArm = record { test = y.test; body = map (λ e. e.0) y.body } in
-      subst (λ (z : CountedArm). AllFair z.1) (sym (counted_arm_roll here)) (all_fair y.body)
+      subst (λ (z : CountedArm). Fair (in_order z.1)) (sym (counted_arm_roll here))
+      (record { at = in_order_adds y.body })
 
   pub fair : (t : RStmt) → IsFair t
   fair = ind-RStmt IsFair IsFairArm
@@ -261,17 +246,8 @@ unit_idle granted h c le = ap (λ b. if b then h else Stopped c) (le-ltb c.units
 pub record Idles (f : CountedStatement) : Type 0 where
   pub at : (a : Granted) (c : Counted) → a.granted ≤ c.units → f a c ≡ Stopped c
 
-abbrev pub AllIdle : List CountedStatement → Type 0
-AllIdle [] = Unit {0}
-AllIdle (f ∷ fs) = Idles f × AllIdle fs
-
 abbrev pub Waits : Counted → Halt → Type 0
 Waits c h = (h ≡ Done c) ⊎ (h ≡ Stopped c)
-
-in_order_idle : (fs : List CountedStatement) → AllIdle fs → (a : Granted) (c : Counted) →
-    a.granted ≤ c.units → Waits c (in_order fs a c)
-in_order_idle [] g a c le = inl refl
-in_order_idle (f ∷ fs) g a c le = inr (ap (λ h. then_go h (in_order fs a)) (g.0.at a c le))
 
 while_idle : (n granted : ℕ) (test : Counted → Outcome) (r : Counting) (c : Counted) →
     granted ≤ c.units → while_units n granted test r c ≡ Stopped c
@@ -296,10 +272,12 @@ module _ (program : Checked) where
   abbrev AnyArm : RArm → Type 0
   AnyArm arm = Unit {0}
 
-  all_idle : (ts : List ((t : RStmt) × IsIdle t)) → AllIdle (map (counted program)
-      (map (λ e. e.0) ts))
-  all_idle [] = tt
-  all_idle (t ∷ ts) = (t.1, all_idle ts)
+  in_order_idle : (ts : List ((t : RStmt) × IsIdle t)) (a : Granted) (c : Counted) →
+      a.granted ≤ c.units → Waits c (in_order (map (counted program) (map (λ e. e.0) ts)) a c)
+  in_order_idle [] a c le = inl refl
+  in_order_idle (t ∷ ts) a c le =
+      inr (ap (λ h. then_go h (in_order (map (counted program) (map (λ e. e.0) ts)) a))
+      (t.1.at a c le))
 
   abbrev plain_idle : RStmt-F ((t : RStmt) × IsIdle t) ((t : RArm) × AnyArm t) → RStmt-F RStmt RArm
   plain_idle = map-RStmt ((t : RStmt) × IsIdle t) ((t : RArm) × AnyArm t) RStmt RArm (λ e. e.0)
@@ -313,7 +291,7 @@ module _ (program : Checked) where
   stmt_idle (RStmt-F.If arms other) a c le = unit_idle a.granted _ c le
   stmt_idle (RStmt-F.While test ts) a c le = while_idle a.granted a.granted _ _ c le
   stmt_idle (RStmt-F.Repeat ts test) a c le =
-      repeat_idle a.granted a.granted _ _ c le (in_order_idle _ (all_idle ts) a c le)
+      repeat_idle a.granted a.granted _ _ c le (in_order_idle ts a c le)
   stmt_idle (RStmt-F.Call proc args) a c le = unit_idle a.granted _ c le
   stmt_idle (RStmt-F.Read v) a c le = unit_idle a.granted _ c le
   stmt_idle (RStmt-F.Write e) a c le = unit_idle a.granted _ c le
