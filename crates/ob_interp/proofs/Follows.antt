@@ -14,8 +14,7 @@ use Rattle.ob_syntax.specs.declared.checked.Checked.{Checked}
 use Rattle.ob_syntax.specs.declared.checked.RVar.{RVar}
 use Rattle.ob_syntax.specs.declared.checked.RExpr.{RExpr}
 use Rattle.ob_syntax.specs.declared.checked.RStmt.{RStmt, RStmt-F, roll-RStmt, map-RStmt, ind-RStmt}
-use Rattle.ob_syntax.specs.declared.checked.RStmt.{fold-roll-RStmt}
-use Rattle.ob_syntax.specs.declared.checked.RArm.{RArm, RArm-F, roll-RArm, fold-roll-RArm}
+use Rattle.ob_syntax.specs.declared.checked.RArm.{RArm, RArm-F, roll-RArm}
 use Rattle.ob_mean.specs.declared.store.Argument.{Argument}
 use Rattle.ob_mean.specs.declared.store.Location.{Location}
 use Rattle.ob_mean.specs.declared.store.LiveCall.{LiveCall}
@@ -33,7 +32,7 @@ use Rattle.ob_interp.proofs.Turns.{counted_roll, counted_arm_roll}
 use Rattle.ob_interp.specs.Units.{Counted, Halt, Done, Failed, Stopped, Counting, unit, then_go}
 use Rattle.ob_interp.specs.Units.{given, halt, does, while_units, repeat_units, Granted}
 use Rattle.ob_interp.specs.Units.{CountedStatement, CountedArm, in_order, on_counted, first_true}
-use Rattle.ob_interp.specs.Units.{counted_step, counted_arm_step, counted, counted_arm, counted_all}
+use Rattle.ob_interp.specs.Units.{counted_step, counted, counted_arm, counted_all}
 use Rattle.ob_interp.specs.Units.{in_call, within_stack, granted_around, units_run, progress_in}
 
 abbrev done : State → Progress OutEvent RunEnd
@@ -143,9 +142,7 @@ choice_beside : (x : Counted → Outcome) (y : State → Outcome) → ((c : Coun
     s (λ v. if is_true v then m s else k s))
 choice_beside x y same r q m k b d = record {
   grows = λ s. with_after (y s) s _ (λ v. either_after (is_true v) s _ _ (b.grows s) (d.grows s));
-  meets = λ c. subst (λ z. Meets (given z c (λ v. if is_true v then r c else q c))
-      (with (y c.state) c.state (λ v. if is_true v then m c.state else k c.state))) (sym (same c))
-      (given_meets (y c.state)
+  meets = λ c. rw (same c) (given_meets (y c.state)
       c _ _ (λ v. either_meets (is_true v) _ _ _ _ (b.meets c) (d.meets c)));
 }
 
@@ -266,8 +263,7 @@ module _ (program : Checked) where
   single_beside : (a : Granted) (b : Around) → Near a b → (m : List LiveCall → Run) →
       ((s : State) → After s (m b.calls s)) →
       Beside (unit a.granted (does (m a.calls))) (m b.calls)
-  single_beside a b w m g = subst (λ calls. Beside (unit a.granted (does (m calls))) (m b.calls))
-      w.calls (unit_beside a.granted (does (m b.calls)) (m b.calls) (does_beside (m b.calls) g))
+  single_beside a b w m g = rw (sym w.calls) (unit_beside a.granted (does (m b.calls)) (m b.calls) (does_beside (m b.calls) g))
 
   abbrev read_by : RVar → List LiveCall → Run
   read_by v calls s = with (location program v calls s.store) s (λ l. read_to s.input l s)
@@ -315,19 +311,15 @@ module _ (program : Checked) where
 
   stmt_fit : (y : WithFit) → Fit (roll-RStmt (plain y))
   stmt_fit y =
-      subst (λ e. Fits (counted program (roll-RStmt (plain y))) e) (sym (exec_roll program (plain y)))
-      (subst (λ f. Fits f (stmt_step program (executing (plain y))))
-      (sym (counted_roll program (plain y))) (record { at = stmt_case y }))
+      rw (exec_roll program (plain y)) (rw (counted_roll program (plain y))
+      (record { at = stmt_case y }))
 
   arm_case : (y : RArm-F ((t : RStmt) × Fit t) ((t : RArm) × FitArm t)) →
       FitArm (roll-RArm (record { test = y.test; body = map (λ e. e.0) y.body }))
   arm_case y =
       let here : RArm-F RStmt RArm = record { test = y.test; body = map (λ e. e.0) y.body } in
-      subst (λ z. (z.0 ≡ (arm_of program (roll-RArm here)).0)
-      × Fits (in_order z.1) (in_turn (arm_of program (roll-RArm here)).1)) (sym (counted_arm_roll program here))
-      (subst (λ z. (value program y.test ≡ z.0)
-      × Fits (in_order (map (counted program) (map (λ e. e.0) y.body))) (in_turn z.1))
-      (sym (arm_of_roll program here)) (refl, record { at = in_order_beside y.body }))
+      rw (counted_arm_roll program here) (rw (arm_of_roll program here)
+      (refl, record { at = in_order_beside y.body }))
 
   pub fits : (t : RStmt) → Fit t
   fits = ind-RStmt Fit FitArm
@@ -398,10 +390,8 @@ module _ (program : Checked) where
   ends_in (Stopped c) m h over = absurd (over refl)
 
   goes_in : (h : Halt) (m : Completion) → Meets h m → IsPrefix (progress_in h) (progress_of m)
-  goes_in (Done c) m h = subst (λ z. IsPrefix (progress_in (Done c)) (progress_of z)) (sym h)
-      (same_prefix (progress_in (Done c)))
-  goes_in (Failed trap c) m h = subst (λ z. IsPrefix (progress_in (Failed trap c)) (progress_of z))
-      (sym h) (same_prefix (progress_in (Failed trap c)))
+  goes_in (Done c) m h = rw h (same_prefix (progress_in (Done c)))
+  goes_in (Failed trap c) m h = rw h (same_prefix (progress_in (Failed trap c)))
   goes_in (Stopped c) m h = h.prefix
 
   pub units_end_as_meant : (frames : List ℕ) (input : List ℤ) (k : ℕ) →

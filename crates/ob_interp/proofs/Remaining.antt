@@ -40,7 +40,7 @@ use Rattle.ob_interp.specs.declared.task.First.TheVariants as first
 use Rattle.ob_interp.specs.Running.{store_of, leads, weight, weight_step, weighed, weights}
 use Rattle.ob_interp.specs.Running.{counted_of, halt_of, assigning, reading, writing, ending_line}
 use Rattle.ob_interp.specs.Running.{here, begun_of, due_of, goes_on, ends_in}
-use Rattle.ob_interp.proofs.Turns.{then_after, Adds, counted_roll, all_adds, calls_add, while_more}
+use Rattle.ob_interp.proofs.Turns.{then_after, counted_roll, all_adds, calls_add, while_more}
 use Rattle.ob_interp.proofs.Turns.{repeat_more, all_wait, AddsUnits}
 
 -- the next of a list by its index
@@ -172,14 +172,7 @@ module _ (program : Checked) where
       (counted_arm program) rest) other a c)
       ≡ first_true (map (counted_arm program) arms) other a c
   arm-step arms rest arm other a c r is v =
-      ap (λ k. given k c (λ x. if is_true x then counted_all program arm.body a c else first_true
-      (map (counted_arm program) rest) other a c)) v
-      ∙ ap (λ (k : Counting). given (value program arm.test a.calls c.state.store)
-      c (λ x. if is_true x then k c else first_true (map (counted_arm program) rest) other a c))
-      (sym (in_order-all arm.body a))
-      ∙ ap (λ (k : CountedArm). first_true (k ∷ map (counted_arm program) rest) other a c)
-      (sym (arm-is arm))
-      ∙ ap (λ k. first_true (map (counted_arm program) k) other a c) (sym is)
+      rw is (rw v (rw (arm-is arm) (rw (in_order-all arm.body a) refl)))
 
   pub others-are : (other : List RStmt) (a : Granted) (c : Counted) →
       first_true [] (map (counted program) other) a c ≡ counted_all program other a c
@@ -336,34 +329,29 @@ module _ (program : Checked) (frames : List ℕ) (k : ℕ) (calls : List LiveCal
       counted program (stmt.If ys zs) (here program frames k calls) c
       ≡ due_of program (due.If arms other) (here program frames k calls) c
   leads-If arms other ys zs e d =
-      counted-If program ys zs (here program frames k calls) c
-      ∙ (λ i. unit k (first_true (map (counted_arm program) (sym e i))
-      (map (counted program) (sym d i)) (here program frames k calls)) c)
+      rw (sym e) (rw (sym d) (counted-If program arms.now other.now (here program frames k calls) c))
 
   pub leads-While : (test : Bor RExpr) (ts : Bor (List RStmt)) (e : RExpr) (zs : List RStmt) →
       test.now ≡ e → ts.now ≡ zs →
       counted program (stmt.While e zs) (here program frames k calls) c
       ≡ due_of program (due.While test ts) (here program frames k calls) c
   leads-While test ts e zs is same =
-      counted-While program e zs (here program frames k calls) (here_adds program frames k calls) c
-      ∙ (λ i. while_due program (sym is i) (sym same i) (here program frames k calls) c)
+      rw (sym is) (rw (sym same) (counted-While program test.now ts.now
+      (here program frames k calls) (here_adds program frames k calls) c))
 
   pub leads-Repeat : (ts : Bor (List RStmt)) (test : Bor RExpr) (zs : List RStmt) (e : RExpr) →
       ts.now ≡ zs → test.now ≡ e →
       counted program (stmt.Repeat zs e) (here program frames k calls) c
       ≡ leads program (first.Repeat ts test) (here program frames k calls) c
   leads-Repeat ts test zs e same is =
-      counted-Repeat program zs e (here program frames k calls) (here_adds program frames k calls) c
-      ∙ (λ i. then_go (counted_all program (sym same i) (here program frames k calls) c)
-      (until_due program (sym same i) (sym is i) (here program frames k calls)))
+      rw (sym is) (rw (sym same) (counted-Repeat program ts.now test.now
+      (here program frames k calls) (here_adds program frames k calls) c))
 
   pub leads-Call : (proc : ProcId) (args : Bor (List RArg)) (ys : List RArg) → args.now ≡ ys →
       counted program (stmt.Call proc ys) (here program frames k calls) c
       ≡ due_of program (due.Call proc.0 args) (here program frames k calls) c
   leads-Call proc args ys same =
-      counted-Call program proc ys (here program frames k calls) c
-      ∙ ap (λ xs. unit k (λ d. given (arguments program calls d.state.store xs) d (λ l. (here
-      program frames k calls).call proc.0 l d)) c) (sym same)
+      rw (sym same) (counted-Call program proc args.now (here program frames k calls) c)
 
 -- the statements of a REPEAT, its test, and what is behind them
 pub repeated : (program : Checked) (frames : List ℕ) (k : ℕ) (calls : List LiveCall) (c : Counted)

@@ -1,10 +1,9 @@
 use Rattle.std.proofs.Common.{◌≡◌, ◌≤◌, true, false, map, length, sym, ap, ◌∙◌, arith}
-use Rattle.std.proofs.Common.{drop_of_length-le, Ok, Err}
+use Rattle.std.proofs.Common.{drop_of_length-le, Ok, Err, ◌∷◌}
 use Rattle.ob_syntax.specs.Operators.{is_true}
 use Rattle.ob_interp.specs.Units.{then_go, first_true, counted, counted_arm, counted_all}
 use Rattle.ob_interp.specs.Running.{around, counted_of, goes_on}
 use Rattle.ob_interp.specs.declared.task.Task.TheVariants as task
-use Rattle.std.proofs.Common.{◌∷◌}
 use Rattle.ob_interp.proofs.Remaining.{next-item, arm-step, others-are}
 use Rattle.ob_interp.proofs.execute.choose.Goals as goal
 
