@@ -1,6 +1,5 @@
 -- Bytes of a certificate have one answer.
-use Rattle.std.proofs.Common.{◌≡◌, ◌<◌, ℕ, List, Some, Ok}
-use Rattle.std.proofs.Common.{Err, inl, inr, refl, ap, subst, length}
+use Rattle.std.proofs.Common.{◌≡◌, ◌<◌, ℕ, List, Some, Ok, Err, inl, inr, refl, ap, subst, length}
 use Rattle.pra_list.specs.Each.{Each}
 use Rattle.cert_form.specs.declared.certificate.Certificate.{Certificate}
 use Rattle.cert_form.specs.declared.text.CertFault.TheVariants.{NotJson, NotCertificate}
@@ -8,8 +7,7 @@ use Rattle.cert_form.specs.declared.text.CertFault.TheVariants.{OutOfMemory}
 use Rattle.cert_form.specs.Form.{certificate_data}
 use Rattle.cert_form.specs.Reading.{certificate_of}
 use Rattle.cert_form.specs.Streams.{IsPartRead}
-use Rattle.cert_form.specs.Whole.{CertFits, AreNumbered, IsWhole, IsReadAs, Reads}
-use Rattle.cert_form.specs.Whole.{IsReadAgain}
+use Rattle.cert_form.specs.Whole.{CertFits, AreNumbered, IsWhole, IsReadAs, Reads, IsReadAgain}
 use Rattle.cert_form.proofs.CertsRead.{certificate_back}
 use Rattle.cert_form.proofs.Forms.{one_reading, one}
 

@@ -1,6 +1,6 @@
 -- What a value is by the token that it begins with.
 use Rattle.std.proofs.Common.{◌≡◌, ◌<◌, ◌-◌, ℕ, zero, suc, List, ◌∷◌, true, false, Option}
-use Rattle.std.proofs.Common.{Some, None, option_map, refl, sym, ap, ◌∙◌, arith}
+use Rattle.std.proofs.Common.{Some, None, option_map, refl, sym, ap, ◌∙◌, subst, arith}
 use Rattle.json.specs.Token.{Token}
 use Rattle.json.specs.Json.{parse_map}
 use Rattle.serde_json.specs.Data.{Num, Data, null, boolean, number, string, array, object, Items}
@@ -84,69 +84,48 @@ begun depth Token.bad ts r d e = never _ (d, r) (values_none depth Token.bad ts 
 
 -- what begins otherwise is another value
 
+-- the token that a value begins with
+abbrev Starts : Data → Token → Type 0
+Starts null t = t ≡ Token.null
+Starts (boolean b) t = t ≡ Token.boolean b
+Starts (number n) t = (s : List ℕ) × (t ≡ Token.number s)
+Starts (string s) t = t ≡ Token.string s
+Starts (array ds) t = t ≡ Token.begin_array
+Starts (object ms) t = t ≡ Token.begin_object
+
+starts : (t : Token) (d e : Data) → Begun t d → d ≡ e → Starts e t
+starts t d e b f = subst (λ x. Starts x t) f (by t b)
+  where
+    by : (t : Token) → Begun t d → Starts d t
+    by Token.begin_object b = subst (λ x. Starts x Token.begin_object) (sym b.1) refl
+    by Token.end_object b = absurd b
+    by Token.begin_array b = subst (λ x. Starts x Token.begin_array) (sym b.1) refl
+    by Token.end_array b = absurd b
+    by (Token.key s) b = absurd b
+    by (Token.string s) b = subst (λ x. Starts x (Token.string s)) (sym b) refl
+    by (Token.number s) b = subst (λ x. Starts x (Token.number s)) (sym b.2) (s, refl)
+    by (Token.boolean x) b = subst (λ y. Starts y (Token.boolean x)) (sym b) refl
+    by Token.null b = subst (λ x. Starts x Token.null) (sym b) refl
+    by Token.bad b = absurd b
+
 pub no_list : (t : Token) (d : Data) → is_bracket t ≡ false → Begun t d → (ds : Items) →
     d ≡ array ds → ⊥
-no_list Token.begin_object d e b ds f = cc (sym b.1 ∙ f)
-no_list Token.end_object d e b ds f = b
-no_list Token.begin_array d e b ds f = cc
-no_list Token.end_array d e b ds f = b
-no_list (Token.key s) d e b ds f = b
-no_list (Token.string s) d e b ds f = cc (sym b ∙ f)
-no_list (Token.number s) d e b ds f = cc (sym b.2 ∙ f)
-no_list (Token.boolean x) d e b ds f = cc (sym b ∙ f)
-no_list Token.null d e b ds f = cc (sym b ∙ f)
-no_list Token.bad d e b ds f = b
+no_list t d e b ds f = cc (sym (ap is_bracket (starts t d (array ds) b f)) ∙ e)
 
 pub no_object : (t : Token) (d : Data) → is_brace t ≡ false → Begun t d → (ms : Members) →
     d ≡ object ms → ⊥
-no_object Token.begin_object d e b ms f = cc
-no_object Token.end_object d e b ms f = b
-no_object Token.begin_array d e b ms f = cc (sym b.1 ∙ f)
-no_object Token.end_array d e b ms f = b
-no_object (Token.key s) d e b ms f = b
-no_object (Token.string s) d e b ms f = cc (sym b ∙ f)
-no_object (Token.number s) d e b ms f = cc (sym b.2 ∙ f)
-no_object (Token.boolean x) d e b ms f = cc (sym b ∙ f)
-no_object Token.null d e b ms f = cc (sym b ∙ f)
-no_object Token.bad d e b ms f = b
+no_object t d e b ms f = cc (sym (ap is_brace (starts t d (object ms) b f)) ∙ e)
 
 pub no_text : (t : Token) (d : Data) → text_in t ≡ None → Begun t d → (w : List ℕ) →
     d ≡ string w → ⊥
-no_text Token.begin_object d e b w f = cc (sym b.1 ∙ f)
-no_text Token.end_object d e b w f = b
-no_text Token.begin_array d e b w f = cc (sym b.1 ∙ f)
-no_text Token.end_array d e b w f = b
-no_text (Token.key s) d e b w f = b
-no_text (Token.string s) d e b w f = cc
-no_text (Token.number s) d e b w f = cc (sym b.2 ∙ f)
-no_text (Token.boolean x) d e b w f = cc (sym b ∙ f)
-no_text Token.null d e b w f = cc (sym b ∙ f)
-no_text Token.bad d e b w f = b
+no_text t d e b w f = cc (sym (ap text_in (starts t d (string w) b f)) ∙ e)
 
 pub no_number : (t : Token) (d : Data) → number_in t ≡ None → Begun t d → (n : Num) →
     d ≡ number n → ⊥
-no_number Token.begin_object d e b n f = cc (sym b.1 ∙ f)
-no_number Token.end_object d e b n f = b
-no_number Token.begin_array d e b n f = cc (sym b.1 ∙ f)
-no_number Token.end_array d e b n f = b
-no_number (Token.key s) d e b n f = b
-no_number (Token.string s) d e b n f = cc (sym b ∙ f)
-no_number (Token.number s) d e b n f = cc
-no_number (Token.boolean x) d e b n f = cc (sym b ∙ f)
-no_number Token.null d e b n f = cc (sym b ∙ f)
-no_number Token.bad d e b n f = b
+no_number t d e b n f = cc (sym (ap number_in (starts t d (number n) b f).1) ∙ e)
 
 pub no_null : (t : Token) (d : Data) → is_null t ≡ false → Begun t d → d ≡ null → ⊥
-no_null Token.begin_object d e b f = cc (sym b.1 ∙ f)
-no_null Token.end_object d e b f = b
-no_null Token.begin_array d e b f = cc (sym b.1 ∙ f)
-no_null Token.end_array d e b f = b
-no_null (Token.key s) d e b f = b
-no_null (Token.string s) d e b f = cc (sym b ∙ f)
-no_null (Token.number s) d e b f = cc (sym b.2 ∙ f)
-no_null (Token.boolean x) d e b f = cc (sym b ∙ f)
-no_null Token.null d e b f = cc
-no_null Token.bad d e b f = b
+no_null t d e b f = cc (sym (ap is_null (starts t d null b f)) ∙ e)
 
 pub null_is : (t : Token) → is_null t ≡ true → t ≡ Token.null
 null_is Token.begin_object e = absurd (cc)

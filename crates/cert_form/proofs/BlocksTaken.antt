@@ -1,5 +1,5 @@
 -- What is taken of a block.
-use Rattle.std.proofs.Common.{◌≡◌, ℕ, List, [], ◌∷◌, Option, Some, None, Result, Ok, Err, sym, ap}
+use Rattle.std.proofs.Common.{◌≡◌, ℕ, List, [], ◌∷◌, Option, Some, None, Result, Ok, Err, ap}
 use Rattle.std.proofs.Common.{◌∙◌, subst}
 use Rattle.json.specs.Token.{Token}
 use Rattle.json.specs.Json.{parse_map}
@@ -9,9 +9,10 @@ use Rattle.pra_base.specs.declared.code.VInstr.{VInstr}
 use Rattle.pra_base.specs.declared.code.End.{End}
 use Rattle.pra_base.specs.declared.code.Block.{Block}
 use Rattle.cert_form.specs.declared.passing.Unread.{Unread}
-use Rattle.cert_form.specs.declared.passing.Unread.TheVariants.{NotJson, OutOfMemory}
 use Rattle.cert_form.specs.Form.{natural, list, instruction_data, end_data, block_data}
 use Rattle.cert_form.specs.Whole.{IsNatural, InstructionFits, EndFits, BlockFits}
+use Rattle.cert_form.proofs.Gathered.{items_in}
+use Rattle.cert_form.proofs.Tooks.{unread}
 use Rattle.cert_form.specs.Streams.{rests, Took, IsListAnswer, AreFew, TookItem}
 
 -- each of all, and each at its place
@@ -23,10 +24,6 @@ each_there P (x ∷ xs) h = (h.0, each_there P xs h.1)
 pub each_alone : {A : Type 0} (P : A → Type 0) (xs : List A) → EachAt (λ n x. P x) xs → Each P xs
 each_alone P [] h = tt
 each_alone P (x ∷ xs) h = (h.0, each_alone P xs h.1)
-
-abbrev items_in : Data → Items
-items_in (array ds) = ds
-items_in _ = no_items
 
 abbrev but_first : Items → Items
 but_first no_items = no_items
@@ -84,12 +81,9 @@ pub item_failed : {A B : Type 0} (P : B → Items → Type 0) (form : A → Data
     (depth : ℕ) (whole : Option (Items × List Token)) (f : Items → Items) (ts left rest : List Token)
     (e : Unread) (r : Result B Unread) → whole ≡ parse_map f (rests depth ts) → r ≡ Err e →
     TookItem form fits depth ts (Err e) rest → Took P whole r left
-item_failed {B = B} P form fits depth whole f ts left rest e r is same h =
-    let Q : Result B Unread → Type 0 = λ x. Took P whole x left in subst Q (sym same) (told e h)
-  where
-    told : (e : Unread) → TookItem form fits depth ts (Err e) rest → Took P whole (Err e) left
-    told NotJson k = is ∙ ap (parse_map f) k
-    told OutOfMemory k = tt
+item_failed P form fits depth whole f ts left rest e r is same h =
+    unread (λ x. Took P whole x left) e r same
+    (λ k. is ∙ ap (parse_map f) (subst (λ x. TookItem form fits depth ts (Err x) rest) k h)) tt
 
 -- an item that was told, or not
 
@@ -97,11 +91,9 @@ pub item_told : {A : Type 0} (form : A → Data) (fits : A → Type 0) (depth : 
     (old mid : List Token) (found : Option A) (x : A) → found ≡ Some x →
     TookItem form fits depth old (Ok found) mid →
     (rests depth old ≡ parse_map (item (form x)) (rests depth mid)) × fits x
-item_told form fits depth old mid found x is h =
-    let P : Option _ → Type 0 = λ o. TookItem form fits depth old (Ok o) mid in subst P is h
+item_told form fits depth old mid found x is h = rw is at h
 
 pub no_item_told : {A : Type 0} (form : A → Data) (fits : A → Type 0) (depth : ℕ)
     (old mid : List Token) (found : Option A) → found ≡ None →
     TookItem form fits depth old (Ok found) mid → TookItem form fits depth old (Ok None) mid
-no_item_told form fits depth old mid found is h =
-    let P : Option _ → Type 0 = λ o. TookItem form fits depth old (Ok o) mid in subst P is h
+no_item_told form fits depth old mid found is h = rw is at h

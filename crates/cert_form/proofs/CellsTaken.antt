@@ -1,10 +1,9 @@
 -- Rows of a word: what they are, and what is taken of them.
-use Rattle.std.proofs.Common.{◌≡◌, ◌≤◌, ℕ, ℤ, pos, negsuc, zero, suc, List, [], ◌∷◌, map, length, Bool}
-use Rattle.std.proofs.Common.{true, false, Option, Some, None, Result, Ok, Err, refl, sym, ap, ◌∙◌}
-use Rattle.std.proofs.Common.{subst, arith}
-use Rattle.std.proofs.Common.{option_map, not, get_or, ◌<◌}
+use Rattle.std.proofs.Common.{◌≡◌, ◌≤◌, ℕ, ℤ, pos, negsuc, zero, suc, List, [], ◌∷◌, map, length}
+use Rattle.std.proofs.Common.{Bool, true, false, Option, Some, None, Result, Ok, Err, refl, sym, ap}
+use Rattle.std.proofs.Common.{◌∙◌, subst, arith, option_map, not, get_or, ◌<◌}
 use Rattle.std.proofs.lemmas.List.{get_or-map}
-use Rattle.std.specs.Prelude.{IfSome, slice_get}
+use Rattle.std.specs.Prelude.{slice_get}
 use Rattle.std.specs.Borrow.{Bor}
 use Rattle.json.specs.Token.{Token}
 use Rattle.json.specs.Json.{parse_map, after_end_array}
@@ -26,13 +25,14 @@ use Rattle.cert_form.specs.declared.passing.Unread.TheVariants.{NotJson, OutOfMe
 use Rattle.cert_form.specs.Form.{integer, row, list, base_name, base_number, address_data}
 use Rattle.cert_form.specs.Form.{operand_data, index_data}
 use Rattle.cert_form.specs.Whole.{OperandFits, AddressFits}
-use Rattle.cert_form.specs.Streams.{rests, Took, TookWord, IsAnswer, IsListAnswer, AreFew, mark_data}
-use Rattle.cert_form.specs.Streams.{cell_data, CellFits, worded, marked}
-use Rattle.cert_form.specs.Streams.{spelled, AreSpelled, number_in, text_in, values, IsText}
-use Rattle.cert_form.specs.Streams.{IsIntegerTold, IsAny, address_in}
+use Rattle.cert_form.specs.Streams.{rests, Took, TookWord, IsAnswer, IsListAnswer, AreFew}
+use Rattle.cert_form.specs.Streams.{mark_data, cell_data, CellFits, worded, marked, spelled}
+use Rattle.cert_form.specs.Streams.{AreSpelled, number_in, text_in, values, IsText, IsIntegerTold}
+use Rattle.cert_form.specs.Streams.{IsAny, address_in}
 use Rattle.cert_form.proofs.Begun.{begun, no_number, no_text}
-use Rattle.cert_form.proofs.Gathered.{first_same}
+use Rattle.cert_form.proofs.Gathered.{first_same, items_in}
 use Rattle.cert_form.proofs.RowsTold.{address_answer}
+use Rattle.cert_form.proofs.Tooks.{unread}
 use Rattle.cert_form.proofs.Turns.{values_number, values_string, rests_over, rests_more, rests_none}
 use Rattle.cert_form.proofs.Forms.{of_none, only}
 
@@ -153,6 +153,20 @@ each_of_all (c ∷ cs) h = (h.0, each_of_all cs h.1)
 
 -- What is told of a row.
 
+abbrev others_in : Data → Items
+others_in (array (item d ds)) = ds
+others_in _ = no_items
+
+abbrev before : Data → Data → Data
+before d (array ds) = array (item d ds)
+before d _ = null
+
+-- what is told of the parts behind a word
+behind_word : {M : Type 0} (P : Data → Type 0) (w : List ℕ) (ds : Items) (f : M → Data)
+    (ms : List M) → array ds ≡ list f ms → P (row (string w ∷ map f ms)) →
+    P (array (item (string w) ds))
+behind_word P w ds f ms e h = subst P (sym (ap (before (string w)) e)) h
+
 module _ {A : Type 0} (of : Data → Option A) (form : A → Data) (fits : A → Type 0)
     (word : A → List ℕ) (operands : A → List Operand)
     (s : AreSpelled of form fits word operands) where
@@ -162,8 +176,7 @@ module _ {A : Type 0} (of : Data → Option A) (form : A → Data) (fits : A →
   pub found_same : (d : Data) (x : A) → of d ≡ Some x → d ≡ spelled (word x) (operands x) →
       IsAnswer form fits (Some x) d
   found_same d x e f =
-      let P : Option A → Type 0 = λ o. IfSome o fits in
-      (f ∙ sym (s.spells x), subst P e (s.found d))
+      (f ∙ sym (s.spells x), rw e at (s.found d))
 
   pub found_other : (d : Data) (x : A) → of d ≡ Some x →
       (d ≡ spelled (word x) (operands x) → ⊥) → IsAnswer form fits None d
@@ -176,10 +189,6 @@ module _ {A : Type 0} (of : Data → Option A) (form : A → Data) (fits : A →
   no_word ds none x h e =
       none (word x) (items_of (map operand_data (operands x)))
       (ap items_in (e ∙ s.spells x))
-    where
-      items_in : Data → Items
-      items_in (array ds) = ds
-      items_in _ = no_items
 
   -- what stands behind its word are no few cells
   pub no_cells : (w : List ℕ) (ds : Items) →
@@ -191,21 +200,6 @@ module _ {A : Type 0} (of : Data → Option A) (form : A → Data) (fits : A →
       let few : length (map cell_of os) ≤ 4 = subst (λ n. n ≤ 4) (sym (as_long os)) (s.few x) in
       none (map cell_of os) (fit, few)
       (ap (λ d. array (others_in d)) (e ∙ s.spells x) ∙ ap row (sym (cells_are os)))
-    where
-      others_in : Data → Items
-      others_in (array (item d ds)) = ds
-      others_in _ = no_items
-
-  pub cells_told : (w : List ℕ) (ds : Items) (cs : List Cell) (found : Option A) →
-      array ds ≡ list cell_data cs → IsAnswer form fits found (worded w cs) →
-      IsListAnswer form fits found (item (string w) ds)
-  cells_told w ds cs found e h =
-      let P : Data → Type 0 = λ d. IsAnswer form fits found d in
-      subst P (sym (ap (before (string w)) e)) h
-    where
-      before : Data → Data → Data
-      before d (array ds) = array (item d ds)
-      before d _ = null
 
 -- Addresses.
 
@@ -230,10 +224,6 @@ pub no_address_word : (ds : Items) →
     ((w : List ℕ) (more : Items) → ds ≡ item (string w) more → ⊥) →
     IsListAnswer address_data AddressFits None ds
 no_address_word ds none a h e = none (base_name a.base) _ (ap items_in e)
-  where
-    items_in : Data → Items
-    items_in (array ds) = ds
-    items_in _ = no_items
 
 pub no_marks : (w : List ℕ) (ds : Items) →
     IsListAnswer (list mark_data) (AreFew (λ n m. Unit {0}) (Some 3)) None ds →
@@ -241,21 +231,6 @@ pub no_marks : (w : List ℕ) (ds : Items) →
 no_marks w ds none a h e =
     none (address_marks a) ((tt, (tt, (tt, tt))), omega arith)
     (ap (λ d. array (others_in d)) (e ∙ sym (address_is a)))
-  where
-    others_in : Data → Items
-    others_in (array (item d ds)) = ds
-    others_in _ = no_items
-
-pub marks_told : (w : List ℕ) (ds : Items) (ms : List Mark) (found : Option Addr) →
-    array ds ≡ list mark_data ms → IsAnswer address_data AddressFits found (marked w ms) →
-    IsListAnswer address_data AddressFits found (item (string w) ds)
-marks_told w ds ms found e h =
-    let P : Data → Type 0 = λ d. IsAnswer address_data AddressFits found d in
-    subst P (sym (ap (before (string w)) e)) h
-  where
-    before : Data → Data → Data
-    before d (array ds) = array (item d ds)
-    before d _ = null
 
 -- What is left of a list, from its word on.
 
@@ -270,13 +245,9 @@ after_word P depth old mid left w ds found first e h =
 pub word_failed : {A : Type 0} (P : A → Items → Type 0) (depth : ℕ) (old rest left : List Token)
     (e : Unread) (r : Result A Unread) → r ≡ Err e → TookWord depth old (Err e) rest →
     Took P (rests depth old) r left
-word_failed {A} P depth old rest left e r is h =
-    let Q : Result A Unread → Type 0 = λ x. Took P (rests depth old) x left in
-    subst Q (sym is) (told e h)
-  where
-    told : (e : Unread) → TookWord depth old (Err e) rest → Took P (rests depth old) (Err e) left
-    told NotJson k = k
-    told OutOfMemory k = tt
+word_failed P depth old rest left e r is h =
+    unread (λ x. Took P (rests depth old) x left) e r is
+    (λ k. subst (λ x. TookWord depth old (Err x) rest) k h) tt
 
 -- What the token of a number is read as.
 
@@ -327,56 +298,36 @@ module _ (depth : ℕ) (ts : List Token) where
         found ≡ Some w → values depth now ≡ Some (d, r) → IsText found d →
         TookWord depth ts (Ok (Some w)) r
     first_taken d r w found is e h =
-        let P : Option (Bor (List ℕ)) → Type 0 = λ o. IsText o d in
         rests_more depth ts d r going.0 (ap (values depth) (sym going.1) ∙ e)
-        ∙ ap (λ k. parse_map (item k) (rests depth r)) (subst P is h)
+        ∙ ap (λ k. parse_map (item k) (rests depth r)) (rw is at h)
 
     pub other_first : (d : Data) (r s : List Token) (ds : Items) (found : Option (Bor (List ℕ))) →
         found ≡ None → values depth now ≡ Some (d, r) → IsText found d →
         rests depth r ≡ Some (ds, s) → TookWord depth ts (Ok None) s
-    other_first d r s ds found is e h more =
-        let P : Option (Bor (List ℕ)) → Type 0 = λ o. IsText o d in (
-          item d ds,
-          rests_more depth ts d r going.0 (ap (values depth) (sym going.1) ∙ e)
-              ∙ ap (parse_map (item d)) more,
-          λ w others f. subst P is h w (first_same d (string w) ds others f),
-        )
-
-    word_so : (e : Unread) (r : Result (Option (Bor (List ℕ))) Unread) (left : List Token) →
-        r ≡ Err e → (e ≡ NotJson → rests depth ts ≡ None) → TookWord depth ts r left
-    word_so e r left is none =
-        let P : Result (Option (Bor (List ℕ))) Unread → Type 0 = λ x. TookWord depth ts x left in
-        subst P (sym is) (told e none)
-      where
-        told : (e : Unread) → (e ≡ NotJson → rests depth ts ≡ None) →
-            TookWord depth ts (Err e) left
-        told NotJson none = none refl
-        told OutOfMemory none = tt
+    other_first d r s ds found is e h more = (
+      item d ds,
+      rests_more depth ts d r going.0 (ap (values depth) (sym going.1) ∙ e)
+          ∙ ap (parse_map (item d)) more,
+      λ w others f. (rw is at h) w (first_same d (string w) ds others f),
+    )
 
     pub word_not_read : (e : Unread) (r : Result (Option (Bor (List ℕ))) Unread)
         (left rest : List Token) → r ≡ Err e → Took IsText (values depth now) (Err e) rest →
         TookWord depth ts r left
     word_not_read e r left rest is h =
-        word_so e r left is (λ k. rests_none depth ts going.0
-        (ap (values depth) (sym going.1) ∙ none_told e k h))
-      where
-        none_told : (e : Unread) → e ≡ NotJson → Took IsText (values depth now) (Err e) rest →
-            values depth now ≡ None
-        none_told NotJson k h = h
-        none_told OutOfMemory k h = absurd (cc)
+        unread (λ x. TookWord depth ts x left) e r is (λ k. rests_none depth ts going.0
+        (ap (values depth) (sym going.1)
+        ∙ subst (λ x. Took IsText (values depth now) (Err x) rest) k h)) tt
 
     pub rest_not_read : (d : Data) (m : List Token) (e : Unread)
         (r : Result (Option (Bor (List ℕ))) Unread) (left rest : List Token) →
         values depth now ≡ Some (d, m) → r ≡ Err e →
         Took {A = Unit {0}} IsAny (rests depth m) (Err e) rest → TookWord depth ts r left
     rest_not_read d m e r left rest read is h =
-        word_so e r left is (λ k. rests_more depth ts d m going.0
-        (ap (values depth) (sym going.1) ∙ read) ∙ ap (parse_map (item d)) (none_told e k h))
-      where
-        none_told : (e : Unread) → e ≡ NotJson →
-            Took {A = Unit {0}} IsAny (rests depth m) (Err e) rest → rests depth m ≡ None
-        none_told NotJson k h = h
-        none_told OutOfMemory k h = absurd (cc)
+        unread (λ x. TookWord depth ts x left) e r is (λ k.
+        rests_more depth ts d m going.0 (ap (values depth) (sym going.1) ∙ read)
+        ∙ ap (parse_map (item d))
+        (subst (λ x. Took {A = Unit {0}} IsAny (rests depth m) (Err x) rest) k h)) tt
 
 -- What an item of a row is.
 
@@ -395,13 +346,9 @@ pub address_told : (depth : ℕ) (old mid left : List Token) (word : Option (Bor
     (Ok marks) left → found ≡ address_in w.now ms →
     Took (IsListAnswer address_data AddressFits) (rests depth old) (Ok found) left
 address_told depth old mid left word w marks ms found is h are k same =
-    let P : Option (Bor (List ℕ)) → Type 0 = λ o. TookWord depth old (Ok o) mid in
-    let Q : Option (List Mark) → Type 0 =
-    λ o. IsListAnswer (list mark_data) (AreFew (λ n m. Unit {0}) (Some 3)) o k.0 in
-    let R : Option Addr → Type 0 = λ o. IsAnswer address_data AddressFits o (marked w.now ms) in
     after_word (IsListAnswer address_data AddressFits) depth old mid left w.now k.0 found
-    (subst P is h) k.1 (marks_told w.now k.0 ms found (subst Q are k.2).0
-    (subst R (sym same) (address_answer w.now ms)))
+    (rw is at h) k.1 (behind_word (IsAnswer address_data AddressFits found) w.now k.0 mark_data ms
+    (rw are at k.2).0 (rw same (address_answer w.now ms)))
 
 pub no_address_told : (depth : ℕ) (old mid left : List Token) (word : Option (Bor (List ℕ)))
     (w : Bor (List ℕ)) (marks : Option (List Mark)) → word ≡ Some w →
@@ -409,11 +356,8 @@ pub no_address_told : (depth : ℕ) (old mid left : List Token) (word : Option (
     Took (IsListAnswer (list mark_data) (AreFew (λ n m. Unit {0}) (Some 3))) (rests depth mid)
     (Ok marks) left → Took (IsListAnswer address_data AddressFits) (rests depth old) (Ok None) left
 no_address_told depth old mid left word w marks is h none k =
-    let P : Option (Bor (List ℕ)) → Type 0 = λ o. TookWord depth old (Ok o) mid in
-    let Q : Option (List Mark) → Type 0 =
-    λ o. IsListAnswer (list mark_data) (AreFew (λ n m. Unit {0}) (Some 3)) o k.0 in
     after_word (IsListAnswer address_data AddressFits) depth old mid left w.now k.0 None
-    (subst P is h) k.1 (no_marks w.now k.0 (subst Q none k.2))
+    (rw is at h) k.1 (no_marks w.now k.0 (rw none at k.2))
 
 -- the same of a part that is a word and cells
 
@@ -425,30 +369,23 @@ module _ {A : Type 0} (of : Data → Option A) (form : A → Data) (fits : A →
     (k : Took (IsListAnswer (list cell_data) (AreFew (λ n c. CellFits c) (Some 4)))
     (rests depth mid) (Ok cells) left) where
   first : rests depth old ≡ parse_map (item (string w.now)) (rests depth mid)
-  first = let P : Option (Bor (List ℕ)) → Type 0 = λ o. TookWord depth old (Ok o) mid in subst P is h
+  first = rw is at h
 
   pub cells_fit_all : (cs : List Cell) → cells ≡ Some cs → Each CellFits cs
-  cells_fit_all cs are =
-      let Q : Option (List Cell) → Type 0 =
-      λ o. IsListAnswer (list cell_data) (AreFew (λ n c. CellFits c) (Some 4)) o k.0 in
-      each_of_all cs (subst Q are k.2).1.0
+  cells_fit_all cs are = each_of_all cs (rw are at k.2).1.0
 
   pub part_told : (cs : List Cell) (found : Option A) → cells ≡ Some cs →
       IsAnswer form fits found (worded w.now cs) →
       Took (IsListAnswer form fits) (rests depth old) (Ok found) left
   part_told cs found are answer =
-      let Q : Option (List Cell) → Type 0 =
-      λ o. IsListAnswer (list cell_data) (AreFew (λ n c. CellFits c) (Some 4)) o k.0 in
       after_word (IsListAnswer form fits) depth old mid left w.now k.0 found first k.1
-      (cells_told of form fits word operands s w.now k.0 cs found (subst Q are k.2).0 answer)
+      (behind_word (IsAnswer form fits found) w.now k.0 cell_data cs (rw are at k.2).0 answer)
 
   pub no_part_told : cells ≡ None →
       Took (IsListAnswer form fits) (rests depth old) (Ok None) left
   no_part_told none =
-      let Q : Option (List Cell) → Type 0 =
-      λ o. IsListAnswer (list cell_data) (AreFew (λ n c. CellFits c) (Some 4)) o k.0 in
       after_word (IsListAnswer form fits) depth old mid left w.now k.0 None first k.1
-      (no_cells of form fits word operands s w.now k.0 (subst Q none k.2))
+      (no_cells of form fits word operands s w.now k.0 (rw none at k.2))
 
 -- Rows that are compared.
 

@@ -1,6 +1,5 @@
 -- A whole certificate that is written is read again.
-use Rattle.std.proofs.Common.{◌≡◌, ℕ, List, map, Some, refl}
-use Rattle.std.proofs.Common.{◌∙◌}
+use Rattle.std.proofs.Common.{◌≡◌, ℕ, List, map, Some, refl, ◌∙◌}
 use Rattle.serde_json.specs.View.{items_of}
 use Rattle.pra_list.specs.Options.{◌>>=◌}
 use Rattle.pra_base.specs.declared.ids.Place.{Place}
@@ -11,14 +10,13 @@ use Rattle.cert_form.specs.declared.certificate.CapAt.{CapAt}
 use Rattle.cert_form.specs.declared.certificate.TieAt.{TieAt}
 use Rattle.cert_form.specs.declared.certificate.Cert.{Cert}
 use Rattle.cert_form.specs.declared.certificate.Certificate.{Certificate}
-use Rattle.cert_form.specs.Form.{natural, list, path_data, cap_data}
-use Rattle.cert_form.specs.Form.{tie_data, cert_data, cost_name, certificate_data}
-use Rattle.cert_form.specs.Reading.{long_natural, list_of, path_of}
-use Rattle.cert_form.specs.Reading.{cap_of, tie_of, code_of, cert_of, each_numbered}
-use Rattle.cert_form.specs.Reading.{cost_word_of, certificate_of}
+use Rattle.cert_form.specs.Form.{natural, list, path_data, cap_data, tie_data, cert_data, cost_name}
+use Rattle.cert_form.specs.Form.{certificate_data}
+use Rattle.cert_form.specs.Reading.{long_natural, list_of, path_of, cap_of, tie_of, code_of}
+use Rattle.cert_form.specs.Reading.{cert_of, each_numbered, cost_word_of, certificate_of}
 use Rattle.cert_form.specs.Whole.{CapFits, TieFits, CertFits, IsWhole}
-use Rattle.cert_form.proofs.PartsRead.{two, three, four, long_natural_read, each_read}
-use Rattle.cert_form.proofs.PartsRead.{paths_read, cap_read, tie_read}
+use Rattle.cert_form.proofs.PartsRead.{two, three, four, long_natural_read, each_read, paths_read}
+use Rattle.cert_form.proofs.PartsRead.{cap_read, tie_read}
 use Rattle.cert_form.proofs.ProcsRead.{code_read, procs_back}
 
 abbrev certified : VProc → List (List Place) → List CapAt → List CapAt → List TieAt → ℕ → ℕ → Cert
@@ -42,12 +40,7 @@ cert_back c h =
     c.code c.routes.places c.caps c.mems
     (λ code places caps mems. ties >>= (λ ts. total >>= (λ t. bound >>= (λ b.
     Some (certified code places caps mems ts t b)))))
-    (code_read c.code (cert_data c) (record {
-      aggregates = refl;
-      args = refl;
-      vars = refl;
-      blocks = refl;
-    }) h.code)
+    (code_read c.code (cert_data c) (refl, refl, refl, refl) h.code)
     (paths_read c.routes.places)
     (each_read cap_of cap_data CapFits cap_read c.caps h.caps)
     (each_read cap_of cap_data CapFits cap_read c.mems h.mems)

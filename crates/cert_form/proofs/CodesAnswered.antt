@@ -1,6 +1,5 @@
 -- Bytes of a code file have one answer.
-use Rattle.std.proofs.Common.{◌≡◌, ℕ, List, Some, Ok}
-use Rattle.std.proofs.Common.{Err, inl, inr, refl, ap, subst}
+use Rattle.std.proofs.Common.{◌≡◌, ℕ, List, Some, Ok, Err, inl, inr, refl, ap, subst}
 use Rattle.pra_list.specs.Each.{Each}
 use Rattle.cert_form.specs.declared.codes.CodeFile.{CodeFile}
 use Rattle.cert_form.specs.declared.code_files.CodeFault.TheVariants.{NotJson, NotCode, OutOfMemory}

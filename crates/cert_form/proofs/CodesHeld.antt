@@ -1,9 +1,8 @@
 -- What was found under each key of a code file tells what it is.
-use Rattle.std.proofs.Common.{◌≡◌, ◌<◌, ◌≤◌, ℕ, List, [], ◌∷◌, length, Bool, false}
-use Rattle.std.proofs.Common.{Option, Some, None, refl, sym, ap, ◌∙◌, subst, arith, codes, get_or}
-use Rattle.std.proofs.Common.{IsTrue}
-use Rattle.serde_json.specs.Data.{Data, null, number, unsigned, string, array, object}
-use Rattle.serde_json.specs.Data.{item, Members, no_members, member}
+use Rattle.std.proofs.Common.{◌≡◌, ◌<◌, ◌≤◌, ℕ, List, [], ◌∷◌, length, Bool, false, Option, Some}
+use Rattle.std.proofs.Common.{None, refl, sym, ap, ◌∙◌, arith, codes, get_or, IsTrue}
+use Rattle.serde_json.specs.Data.{Data, null, number, unsigned, string, array, object, item}
+use Rattle.serde_json.specs.Data.{no_members, member}
 use Rattle.pra_list.specs.Each.{Each}
 use Rattle.ia_code.specs.Image.{max_data_words}
 use Rattle.pra_base.specs.declared.code.VarKind.{VarKind}
@@ -23,11 +22,8 @@ use Rattle.cert_form.specs.Streams.{IsAnswer, IsHeldBy, AreFew, laid, laid_one}
 use Rattle.cert_form.specs.Found.{CodeFitsAt, CodeHeld, code_keys, FileHeld, file_keys}
 use Rattle.cert_form.proofs.BlocksTaken.{each_there, each_alone}
 use Rattle.cert_form.proofs.Held.{missing, stands, alike, procs_there, procs_here}
-use Rattle.cert_form.proofs.Laid.{all_laid}
-
-abbrev members_in : Data → Members
-members_in (object ms) = ms
-members_in _ = no_members
+use Rattle.cert_form.proofs.CodesRead.{IsNamed, both}
+use Rattle.cert_form.proofs.Laid.{all_laid, members_in}
 
 -- Procedures.
 
@@ -117,8 +113,7 @@ module _ (f : CodeFound) (os : ℕ → Option Data) (h : CodeHeld f os) (n : ℕ
 pub other_code : (f : CodeFound) (n : ℕ) (all : Bool) (d : Data) → all ≡ false →
     IsHeldBy code_keys CodeHeld f all d → IsAnswer code_data (CodeFitsAt n) None d
 other_code f n all d off h p k e =
-    let P : Bool → Type 0 = λ b. IsHeldBy code_keys CodeHeld f b d in
-    subst P off h (λ i. Some (get_or (code_row p) i null)) e
+    (rw off at h) (λ i. Some (get_or (code_row p) i null)) e
 
 -- Files.
 
@@ -131,18 +126,11 @@ all_there : (os : ℕ → Option Data) (c : CodeFile) → object (laid 0 file_ke
 all_there os c e i h =
     all_laid file_keys (file_row c) 0 os refl (ap members_in e) i i h (omega arith) null
 
-abbrev Named : NamedCode → Type 0
-Named p = HasName p × NamedFits p
-
-both : (ps : List NamedCode) → Each HasName ps → Each NamedFits ps → Each Named ps
-both [] h k = tt
-both (p ∷ ps) h k = ((h.0, k.0), both ps h.1 k.1)
-
-names : (ps : List NamedCode) → Each Named ps → Each HasName ps
+names : (ps : List NamedCode) → Each IsNamed ps → Each HasName ps
 names [] h = tt
 names (p ∷ ps) h = (h.0.0, names ps h.1)
 
-codes_fit : (ps : List NamedCode) → Each Named ps → Each NamedFits ps
+codes_fit : (ps : List NamedCode) → Each IsNamed ps → Each NamedFits ps
 codes_fit [] h = tt
 codes_fit (p ∷ ps) h = (h.0.1, codes_fit ps h.1)
 
@@ -188,7 +176,7 @@ module _ (f : FileFound) (os : ℕ → Option Data) (h : FileHeld f os) where
   pub no_procs : f.procs ≡ None → NoFile
   no_procs e c k is =
       missing (list code_data) (AreFew CodeFitsAt None) f.procs (os 2) e h.2 c.procs
-      (procs_there (λ p. p.code) Named c.procs k.file.numbered (both c.procs k.file.names k.fits))
+      (procs_there (λ p. p.code) IsNamed c.procs k.file.numbered (both c.procs k.file.names k.fits))
       (all_there os c is 2 (omega arith))
 
   pub no_version : f.version ≡ None → NoFile
@@ -221,7 +209,7 @@ module _ (f : FileFound) (os : ℕ → Option Data) (h : FileHeld f os) where
       let s1 = alike (string (codes "pra-code")) f.kind (os 1) kind e1 h.1 in
       let s2 = stands (list code_data) (AreFew CodeFitsAt None) f.procs (os 2) ps e2 h.2 in
       let s3 = alike (natural 1) f.version (os 3) version e3 h.3 in
-      let whole = procs_here (λ p. p.code) Named ps s2.1 in (
+      let whole = procs_here (λ p. p.code) IsNamed ps s2.1 in (
         (λ i. object (laid_one (codes "data_words") (s0.0 i) (laid_one (codes "kind") (s1 i)
             (laid_one (codes "procs") (s2.0 i) (laid_one (codes "version") (s3 i) no_members))))),
         record {
@@ -239,5 +227,4 @@ module _ (f : FileFound) (os : ℕ → Option Data) (h : FileHeld f os) where
 pub other_file : (f : FileFound) (all : Bool) (d : Data) → all ≡ false →
     IsHeldBy file_keys FileHeld f all d → IsAnswer file_data IsWholeCode None d
 other_file f all d off h c k e =
-    let P : Bool → Type 0 = λ b. IsHeldBy file_keys FileHeld f b d in
-    subst P off h (λ i. Some (get_or (file_row c) i null)) e
+    (rw off at h) (λ i. Some (get_or (file_row c) i null)) e

@@ -34,12 +34,7 @@ named_back : (p : NamedCode) → IsNamed p → named_code_of p.code.id.0 (code_d
 named_back p h =
     two (name_of (code_data p)) (code_of p.code.id.0 (code_data p)) p.name p.code
     (λ n c. let made : NamedCode = record { name = n; code = c } in Some made)
-    (name_back p h.0) (code_read p.code (code_data p) (record {
-      aggregates = refl;
-      args = refl;
-      vars = refl;
-      blocks = refl;
-    }) h.1)
+    (name_back p h.0) (code_read p.code (code_data p) (refl, refl, refl, refl) h.1)
 
 words_back : (f : CodeFile) → f.data_words ≤ max_data_words →
     data_words_of (file_data f) ≡ Some f.data_words
@@ -50,7 +45,7 @@ words_back f h =
     ∙ if_true (nat_le f.data_words max_data_words) (Some f.data_words) None
     (le-leb f.data_words max_data_words h)
 
-both : (ps : List NamedCode) → Each HasName ps → Each NamedFits ps → Each IsNamed ps
+pub both : (ps : List NamedCode) → Each HasName ps → Each NamedFits ps → Each IsNamed ps
 both [] h k = tt
 both (p ∷ ps) h k = ((h.0, k.0), both ps h.1 k.1)
 

@@ -1,7 +1,6 @@
 -- A form: which parts are whole, the value of each, and what is found of a value. Whole parts are
 -- found again of their values; so each value is of one.
-use Rattle.std.proofs.Common.{◌≡◌, ℕ, List, Option, Some, None, refl, sym}
-use Rattle.std.proofs.Common.{ap, ◌∙◌}
+use Rattle.std.proofs.Common.{◌≡◌, ℕ, List, Option, Some, None, refl, sym, ap, ◌∙◌}
 use Rattle.serde_json.specs.Data.{Data}
 use Rattle.pra_list.proofs.Options.{some_same}
 use Rattle.cert_form.specs.Whole.{IsReadAs}

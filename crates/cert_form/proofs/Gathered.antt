@@ -1,7 +1,6 @@
 -- What is read of a list, item by item.
-use Rattle.std.proofs.Common.{◌≡◌, ◌<◌, ◌≤◌, ℕ, suc, List, [], ◌∷◌, ◌++◌, length, map}
-use Rattle.std.proofs.Common.{true, false, Option, Some, None, refl, sym, ap, ◌∙◌, subst}
-use Rattle.std.proofs.Common.{arith}
+use Rattle.std.proofs.Common.{◌≡◌, ◌<◌, ◌≤◌, ℕ, suc, List, [], ◌∷◌, ◌++◌, length, map, true, false}
+use Rattle.std.proofs.Common.{Option, Some, None, refl, sym, ap, ◌∙◌, subst, arith}
 use Rattle.std.specs.Prelude.{IfSome}
 use Rattle.std.proofs.lemmas.Bool.{leb-true}
 use Rattle.std.proofs.lemmas.Bool.Decides.{nat_tests}
@@ -90,7 +89,7 @@ module _ {A : Type 0} (form : A → Data) where
       (others_same (form x) (form y) (ahead (map form xs) (item d more)) (items_of (map form ys)) e)
       h.1
 
-abbrev items_in : Data → Items
+abbrev pub items_in : Data → Items
 items_in (array ds) = ds
 items_in _ = no_items
 
@@ -136,12 +135,11 @@ module _ {A : Type 0} (form : A → Data) (fits : ℕ → A → Type 0) (most : 
         ys ≡ xs ++ x ∷ [] → rest ≡ parse_map (item d) more → d ≡ form x → fits (length xs) x →
         is_full most (length xs) ≡ false → Gathers form fits most whole ys more
     gathers_more x ys d more is read same fit room =
-        let P : List A → Type 0 = λ zs. Gathers form fits most whole zs more in
         let one_more : (o : Option (Items × List Token)) →
         parse_map (ahead (map form xs)) (parse_map (item (form x)) o)
         ≡ parse_map (ahead (map form (xs ++ x ∷ []))) o =
         elim [ None ↦ refl | Some p ↦ ap (λ a. Some (a, p.1)) (sym (ahead_push form xs x p.0)) ] in
-        subst P (sym is) (record {
+        rw is (record {
           read = g.read ∙ ap (parse_map (ahead (map form xs)))
               (read ∙ ap (λ e. parse_map (item e) more) same) ∙ one_more more;
           fit = each_push form fits xs x g.fit fit;
@@ -192,8 +190,7 @@ module _ {A : Type 0} (form : A → Data) (fits : ℕ → A → Type 0) (most : 
         IsAnswer form (fits number) found d → rest ≡ parse_map (item d) more →
         is_full most number ≡ false → ys ≡ xs ++ x ∷ [] → Gathers form fits most whole ys more
     one_more_part number found x ys d more at is h read room longer =
-        let P : Option A → Type 0 = λ o. IsAnswer form (fits number) o d in
-        let a = subst P is h in
+        let a = rw is at h in
         gathers_more x ys d more longer read a.0 (subst (λ n. fits n x) at a.1)
         (ap (is_full most) (sym at) ∙ room)
 
@@ -201,7 +198,5 @@ module _ {A : Type 0} (form : A → Data) (fits : ℕ → A → Type 0) (most : 
         (more : Option (Items × List Token)) → number ≡ length xs → found ≡ None →
         IsAnswer form (fits number) found d → rest ≡ parse_map (item d) more →
         more ≡ Some (ds, r) → Told form fits most whole None r
-    no_more_part number found ds r d more at is h read e =
-        let P : Option A → Type 0 = λ o. IsAnswer form (fits number) o d in
-        let Q : ℕ → Type 0 = λ n. IsAnswer form (fits n) None d in
-        other_part ds r d (read ∙ ap (parse_map (item d)) e) (subst Q at (subst P is h))
+    no_more_part number found ds r d more same is h read e =
+        other_part ds r d (read ∙ ap (parse_map (item d)) e) (rw same at (rw is at h))

@@ -1,9 +1,8 @@
 -- What was found under each key of a certificate or of a code file tells what it is.
-use Rattle.std.proofs.Common.{◌≡◌, ◌<◌, ℕ, suc, List, [], ◌∷◌, length, Option, Some, None, refl, sym, ap}
-use Rattle.std.proofs.Common.{◌↔◌, Bool, true, false}
-use Rattle.std.proofs.Common.{◌∙◌, subst, arith, codes, get_or}
+use Rattle.std.proofs.Common.{◌≡◌, ◌<◌, ℕ, suc, List, [], ◌∷◌, length, Option, Some, None, refl}
+use Rattle.std.proofs.Common.{sym, ap, ◌↔◌, Bool, true, false, ◌∙◌, subst, arith, codes, get_or}
 use Rattle.serde_json.specs.Data.{Data, null, string, array, object, Items, no_items, item}
-use Rattle.serde_json.specs.Data.{Members, no_members}
+use Rattle.serde_json.specs.Data.{no_members}
 use Rattle.pra_list.specs.Each.{Each, EachAt}
 use Rattle.pra_list.proofs.Options.{some_same}
 use Rattle.pra_list.proofs.Truths.{true_false}
@@ -20,15 +19,15 @@ use Rattle.cert_form.specs.declared.reading.Version.{Version}
 use Rattle.cert_form.specs.declared.certs.CertKind.{CertKind}
 use Rattle.cert_form.specs.declared.certs.CertFound.{CertFound}
 use Rattle.cert_form.specs.declared.certs.CertificateFound.{CertificateFound}
-use Rattle.cert_form.specs.Form.{natural, list, block_data, kind_data, cap_data, tie_data, path_data}
-use Rattle.cert_form.specs.Form.{cert_data, cost_name, certificate_data}
-use Rattle.cert_form.specs.Whole.{IsNatural, IsLong, KindFits, BlockFits, CapFits, TieFits, CertFits}
-use Rattle.cert_form.specs.Whole.{CodesAreNumbered, IsWhole}
+use Rattle.cert_form.specs.Form.{natural, list, block_data, kind_data, cap_data, tie_data}
+use Rattle.cert_form.specs.Form.{path_data, cert_data, cost_name, certificate_data}
+use Rattle.cert_form.specs.Whole.{IsNatural, IsLong, KindFits, BlockFits, CapFits, TieFits}
+use Rattle.cert_form.specs.Whole.{CertFits, CodesAreNumbered, IsWhole}
 use Rattle.cert_form.specs.Streams.{IsAnswer, IsHeld, IsHeldBy, AreFew, laid, laid_one}
-use Rattle.cert_form.specs.Found.{FitsAt, ArePaths, CertFitsAt, cert_keys, CertHeld, certificate_keys}
-use Rattle.cert_form.specs.Found.{CertificateHeld}
+use Rattle.cert_form.specs.Found.{FitsAt, ArePaths, CertFitsAt, cert_keys, CertHeld}
+use Rattle.cert_form.specs.Found.{certificate_keys, CertificateHeld}
 use Rattle.cert_form.proofs.BlocksTaken.{each_there, each_alone}
-use Rattle.cert_form.proofs.Laid.{all_laid}
+use Rattle.cert_form.proofs.Laid.{all_laid, members_in}
 
 module _ {A : Type 0} (form : A → Data) (fits : A → Type 0) where
   pub held : (found : Option A) (d : Data) → IsAnswer form fits found d →
@@ -38,13 +37,11 @@ module _ {A : Type 0} (form : A → Data) (fits : A → Type 0) where
 
   pub missing : (found : Option A) (o : Option Data) → found ≡ None → IsHeld form fits found o →
       (x : A) → fits x → o ≡ Some (form x) → ⊥
-  missing found o e h x k is =
-      let P : Option A → Type 0 = λ f. IsHeld form fits f o in subst P e h x k is
+  missing found o e h x k is = (rw e at h) x k is
 
   pub stands : (found : Option A) (o : Option Data) (x : A) → found ≡ Some x →
       IsHeld form fits found o → (o ≡ Some (form x)) × fits x
-  stands found o x e h =
-      let P : Option A → Type 0 = λ f. IsHeld form fits f o in subst P e h
+  stands found o x e h = rw e at h
 
 -- a part of which all are alike
 pub alike : {A : Type 0} (d : Data) (found : Option A) (o : Option Data) (x : A) →
@@ -64,10 +61,6 @@ paths_fit (p ∷ ps) = ((path_fits p, tt), paths_fit ps)
 
 pub are_paths : (ps : List (List Place)) → ArePaths ps
 are_paths ps = (paths_fit ps, tt)
-
-abbrev members_in : Data → Members
-members_in (object ms) = ms
-members_in _ = no_members
 
 -- Procedures of certificates.
 
@@ -205,8 +198,7 @@ module _ (f : CertFound) (os : ℕ → Option Data) (h : CertHeld f os) (n : ℕ
 pub other_cert : (f : CertFound) (n : ℕ) (all : Bool) (d : Data) → all ≡ false →
     IsHeldBy cert_keys CertHeld f all d → IsAnswer cert_data (CertFitsAt n) None d
 other_cert f n all d off h c k e =
-    let P : Bool → Type 0 = λ b. IsHeldBy cert_keys CertHeld f b d in
-    subst P off h (λ i. Some (get_or (cert_row c) i null)) e
+    (rw off at h) (λ i. Some (get_or (cert_row c) i null)) e
 
 -- Procedures that are numbered from n on.
 
@@ -319,8 +311,7 @@ module _ (f : CertificateFound) (os : ℕ → Option Data) (h : CertificateHeld 
 pub other_certificate : (f : CertificateFound) (all : Bool) (d : Data) → all ≡ false →
     IsHeldBy certificate_keys CertificateHeld f all d → IsAnswer certificate_data IsWhole None d
 other_certificate f all d off h c k e =
-    let P : Bool → Type 0 = λ b. IsHeldBy certificate_keys CertificateHeld f b d in
-    subst P off h (λ i. Some (get_or (certificate_row c) i null)) e
+    (rw off at h) (λ i. Some (get_or (certificate_row c) i null)) e
 
 pub some_there : (cs : List Cert) (none : Bool) → ((none ≡ true) ↔ (cs ≡ [])) → none ≡ false →
     0 < length cs

@@ -5,12 +5,11 @@ use Rattle.json.specs.Token.{Token}
 use Rattle.json.specs.Json.{parse_map, after_end_array}
 use Rattle.serde_json.specs.Data.{Data, array, Items, no_items, item}
 use Rattle.cert_form.specs.declared.passing.Unread.{Unread}
-use Rattle.cert_form.specs.declared.passing.Unread.TheVariants.{NotJson, OutOfMemory}
 use Rattle.cert_form.specs.Streams.{values, rests, Took, IsAnswer, IsListAnswer, TookItem}
 use Rattle.cert_form.specs.Streams.{BeginsList, BeginsObject, is_bracket, is_brace}
 use Rattle.cert_form.proofs.Begun.{begun, no_list, no_object}
 use Rattle.cert_form.proofs.Gathered.{first_same}
-use Rattle.cert_form.proofs.Tooks.{mapped}
+use Rattle.cert_form.proofs.Tooks.{mapped, unread}
 use Rattle.cert_form.proofs.Turns.{rests_over, rests_more, rests_none, values_array}
 
 module _ {A : Type 0} (form : A → Data) (fits : A → Type 0) (depth : ℕ) (ts : List Token) where
@@ -27,8 +26,7 @@ module _ {A : Type 0} (form : A → Data) (fits : A → Type 0) (depth : ℕ) (t
         values depth now ≡ Some (d, r) → IsAnswer form fits found d →
         TookItem form fits depth ts (Ok (Some x)) r
     item_here d r x found is e h =
-        let P : Option A → Type 0 = λ o. IsAnswer form fits o d in
-        let a = subst P is h in (
+        let a = rw is at h in (
           rests_more depth ts d r going.0 (value_here d r e)
               ∙ ap (λ k. parse_map (item k) (rests depth r)) a.0,
           a.1,
@@ -38,47 +36,27 @@ module _ {A : Type 0} (form : A → Data) (fits : A → Type 0) (depth : ℕ) (t
         found ≡ None → values depth now ≡ Some (d, r) → IsAnswer form fits found d →
         rests depth r ≡ Some (ds, s) → TookItem form fits depth ts (Ok None) s
     other_item d r s ds found is e h more =
-        let P : Option A → Type 0 = λ o. IsAnswer form fits o d in
-        let a = subst P is h in (
+        let a = rw is at h in (
           item d ds,
           rests_more depth ts d r going.0 (value_here d r e) ∙ ap (parse_map (item d)) more,
           λ x others k f. a x k (first_same d (form x) ds others f),
         )
 
-    failed_so : (e : Unread) (r : Result (Option A) Unread) (left : List Token) → r ≡ Err e →
-        (e ≡ NotJson → rests depth ts ≡ None) → TookItem form fits depth ts r left
-    failed_so e r left is none =
-        let P : Result (Option A) Unread → Type 0 = λ x. TookItem form fits depth ts x left in
-        subst P (sym is) (told e none)
-      where
-        told : (e : Unread) → (e ≡ NotJson → rests depth ts ≡ None) →
-            TookItem form fits depth ts (Err e) left
-        told NotJson none = none refl
-        told OutOfMemory none = tt
-
     pub no_value : {B : Type 0} (P : B → Data → Type 0) (e : Unread)
         (r : Result (Option A) Unread) (left rest : List Token) → r ≡ Err e →
         Took P (values depth now) (Err e) rest → TookItem form fits depth ts r left
     no_value P e r left rest is h =
-        failed_so e r left is (λ k. rests_none depth ts going.0
-        (ap (values depth) (sym going.1) ∙ none_told e k h))
-      where
-        none_told : (e : Unread) → e ≡ NotJson → Took P (values depth now) (Err e) rest →
-            values depth now ≡ None
-        none_told NotJson k h = h
-        none_told OutOfMemory k h = absurd (cc)
+        unread (λ x. TookItem form fits depth ts x left) e r is (λ k. rests_none depth ts going.0
+        (ap (values depth) (sym going.1)
+        ∙ subst (λ x. Took P (values depth now) (Err x) rest) k h)) tt
 
     pub no_rest : {B : Type 0} (P : B → Items → Type 0) (d : Data) (m : List Token) (e : Unread)
         (r : Result (Option A) Unread) (left rest : List Token) → values depth now ≡ Some (d, m) →
         r ≡ Err e → Took P (rests depth m) (Err e) rest → TookItem form fits depth ts r left
     no_rest P d m e r left rest read is h =
-        failed_so e r left is (λ k. rests_more depth ts d m going.0 (value_here d m read)
-        ∙ ap (parse_map (item d)) (none_told e k h))
-      where
-        none_told : (e : Unread) → e ≡ NotJson → Took P (rests depth m) (Err e) rest →
-            rests depth m ≡ None
-        none_told NotJson k h = h
-        none_told OutOfMemory k h = absurd (cc)
+        unread (λ x. TookItem form fits depth ts x left) e r is (λ k.
+        rests_more depth ts d m going.0 (value_here d m read)
+        ∙ ap (parse_map (item d)) (subst (λ x. Took P (rests depth m) (Err x) rest) k h)) tt
 
 -- A bracket or a brace that was not taken.
 
@@ -135,8 +113,7 @@ pub list_taken : {A : Type 0} (form : A → Data) (fits : A → Type 0) (depth :
     BeginsList depth old (Ok b) ts → Took (IsListAnswer form fits) (rests (depth - 1) ts) r left →
     Took (IsAnswer form fits) (values depth old) r left
 list_taken form fits depth b old ts r left is begins h =
-    let P : Bool → Type 0 = λ x. BeginsList depth old (Ok x) ts in
-    whole_list form fits depth old ts r left (subst P is begins) h
+    whole_list form fits depth old ts r left (rw is at begins) h
 
 pub no_list_here : {A : Type 0} (form : A → Data) (fits : A → Type 0) (depth : ℕ)
     (old left : List Token) →
@@ -148,12 +125,6 @@ no_list_here form fits depth old left lists h =
 pub list_failed : {A : Type 0} (form : A → Data) (fits : A → Type 0) (depth : ℕ)
     (old left rest : List Token) (e : Unread) (r : Result (Option A) Unread) → r ≡ Err e →
     BeginsList depth old (Err e) rest → Took (IsAnswer form fits) (values depth old) r left
-list_failed {A} form fits depth old left rest e r is h =
-    let P : Result (Option A) Unread → Type 0 =
-    λ x. Took (IsAnswer form fits) (values depth old) x left in
-    subst P (sym is) (told e h)
-  where
-    told : (e : Unread) → BeginsList depth old (Err e) rest →
-        Took (IsAnswer form fits) (values depth old) (Err e) left
-    told NotJson k = k
-    told OutOfMemory k = tt
+list_failed form fits depth old left rest e r is h =
+    unread (λ x. Took (IsAnswer form fits) (values depth old) x left) e r is
+    (λ k. subst (λ x. BeginsList depth old (Err x) rest) k h) tt

@@ -10,7 +10,7 @@ use Rattle.std.specs.List.{list_all}
 use Rattle.std.specs.Ordering.{match_ordering}
 use Rattle.json.specs.Token.{Token}
 use Rattle.json.specs.Json as json
-use Rattle.serde_json.specs.Data.{Data, Members, no_members, member, put}
+use Rattle.serde_json.specs.Data.{Data, object, Members, no_members, member, put}
 use Rattle.serde_json.specs.Find.{get_member}
 use Rattle.serde_json.specs.Read.{of_json, of_members}
 use Rattle.serde_json.proofs.Views.{get_member-put, get_member-put_other}
@@ -19,9 +19,6 @@ use Rattle.pra_list.proofs.Options.{some_same}
 use Rattle.pra_list.proofs.Truths.{true_false}
 use Rattle.cert_form.specs.Streams.{laid_one, laid, with_at, is_before, ascend, entries}
 use Rattle.cert_form.proofs.Turns.{converted_some}
-
-abbrev is_less : Ordering → Bool
-is_less o = match_ordering o true false false
 
 less_is : (o : Ordering) → match_ordering o true false false ≡ true → o ≡ Less
 less_is Less e = refl
@@ -72,23 +69,12 @@ all_at k (l ∷ ks) zero e h = (and_true (is_before k l) (list_all (is_before k)
 all_at k (l ∷ ks) (suc i) e h =
     all_at k ks i (and_true (is_before k l) (list_all (is_before k) ks) e).1 (omega arith)
 
-put_less : (k l : List ℕ) (d e : Data) (ms : Members) → slice_cmp nat_cmp k l ≡ Less →
-    put k d (member l e ms) ≡ member k d (member l e ms)
-put_less k l d e ms o =
+put_by : (k l : List ℕ) (d e : Data) (ms : Members) (o : Ordering) → slice_cmp nat_cmp k l ≡ o →
+    put k d (member l e ms) ≡
+    match_ordering o (member k d (member l e ms)) (member l d ms) (member l e (put k d ms))
+put_by k l d e ms o is =
     ap (λ c. match_ordering c (member k d (member l e ms)) (member l d ms) (member l e (put k d ms)))
-    o
-
-put_equal : (k l : List ℕ) (d e : Data) (ms : Members) → slice_cmp nat_cmp k l ≡ Equal →
-    put k d (member l e ms) ≡ member l d ms
-put_equal k l d e ms o =
-    ap (λ c. match_ordering c (member k d (member l e ms)) (member l d ms) (member l e (put k d ms)))
-    o
-
-put_greater : (k l : List ℕ) (d e : Data) (ms : Members) → slice_cmp nat_cmp k l ≡ Greater →
-    put k d (member l e ms) ≡ member l e (put k d ms)
-put_greater k l d e ms o =
-    ap (λ c. match_ordering c (member k d (member l e ms)) (member l d ms) (member l e (put k d ms)))
-    o
+    is
 
 -- put before all of them
 
@@ -96,7 +82,7 @@ put_before : (k l : List ℕ) (d : Data) (ms : Members) (o : Option Data) →
     is_before k l ≡ true → put k d ms ≡ member k d ms →
     put k d (laid_one l o ms) ≡ member k d (laid_one l o ms)
 put_before k l d ms None e later = later
-put_before k l d ms (Some x) e later = put_less k l d x ms (before_less k l e)
+put_before k l d ms (Some x) e later = put_by k l d x ms Less (before_less k l e)
 
 put_first : (k : List ℕ) (d : Data) (ks : List (List ℕ)) (n : ℕ) (os : ℕ → Option Data) →
     list_all (is_before k) ks ≡ true → put k d (laid n ks os) ≡ member k d (laid n ks os)
@@ -125,13 +111,13 @@ put_here : (k : List ℕ) (d : Data) (ms : Members) (o : Option Data) →
     slice_cmp nat_cmp k k ≡ Equal → put k d ms ≡ member k d ms →
     put k d (laid_one k o ms) ≡ laid_one k (Some d) ms
 put_here k d ms None e first = first
-put_here k d ms (Some x) e first = put_equal k k d x ms e
+put_here k d ms (Some x) e first = put_by k k d x ms Equal e
 
 put_behind : (k l : List ℕ) (d : Data) (ms new : Members) (o : Option Data) →
     slice_cmp nat_cmp l k ≡ Greater → put l d ms ≡ new →
     put l d (laid_one k o ms) ≡ laid_one k o new
 put_behind k l d ms new None e later = later
-put_behind k l d ms new (Some x) e later = put_greater l k d x ms e ∙ ap (member k x) later
+put_behind k l d ms new (Some x) e later = put_by l k d x ms Greater e ∙ ap (member k x) later
 
 -- what is put under the key of an index
 pub put_laid : (ks : List (List ℕ)) (i n m : ℕ) (d : Data) (os : ℕ → Option Data) →
@@ -223,6 +209,10 @@ entries_keep k e before depth ts r ms h is =
     kept_members k j.0 e before ms h j.2
 
 -- All keys stand there.
+
+abbrev pub members_in : Data → Members
+members_in (object ms) = ms
+members_in _ = no_members
 
 abbrev pub zipped : List (List ℕ) → List Data → Members
 zipped [] ds = no_members

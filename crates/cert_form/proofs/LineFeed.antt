@@ -90,12 +90,8 @@ unfolding lex
 lex-separator true r = refl
 lex-separator false r = refl
 
-regroup : (a b c r : List ℕ) → (a ++ (b ++ c)) ++ r ≡ a ++ (b ++ (c ++ r))
+regroup : {A : Type 0} (a b c r : List A) → (a ++ (b ++ c)) ++ r ≡ a ++ (b ++ (c ++ r))
 regroup a b c r = append_assoc a (b ++ c) r ∙ ap (λ l. a ++ l) (append_assoc b c r)
-
-regroup_lexemes : (a b c r : List Lexeme) → a ++ (b ++ (c ++ r)) ≡ (a ++ (b ++ c)) ++ r
-regroup_lexemes a b c r =
-    ap (λ l. a ++ l) (sym (append_assoc b c r)) ∙ sym (append_assoc a (b ++ c) r)
 
 lex-printed : (c : Bool) (ts : List Token) (r : List ℕ) → ArePrintable ts → ends_word r ≡ true →
     lex between (print_from c ts ++ r) ≡ lexemes c ts ++ lex between r
@@ -111,7 +107,7 @@ lex-printed c (t ∷ ts) r h e =
     ∙ lex-separator (c && begins t) (token_text t ++ rest)
     ∙ ap (λ l. commas ++ l) (lex-token_text t rest h.0 ended)
     ∙ ap (λ l. commas ++ (token_lexemes t ++ l)) (lex-printed (ends t) ts r h.1 e)
-    ∙ regroup_lexemes commas (token_lexemes t) (lexemes (ends t) ts) (lex between r)
+    ∙ sym (regroup commas (token_lexemes t) (lexemes (ends t) ts) (lex between r))
 
 nothing_left : lex between (10 ∷ []) ≡ lex between []
 unfolding lex

@@ -7,11 +7,10 @@ use Rattle.serde_json.specs.Data.{Data, object, Members, no_members, put}
 use Rattle.serde_json.specs.Find.{get_member}
 use Rattle.serde_json.proofs.Views.{get_member-put}
 use Rattle.cert_form.specs.declared.passing.Unread.{Unread}
-use Rattle.cert_form.specs.declared.passing.Unread.TheVariants.{NotJson, OutOfMemory}
 use Rattle.cert_form.specs.Streams.{values, entries, Took, BeginsObject, laid, nothing, with_at}
 use Rattle.cert_form.specs.Streams.{ascend, AreHeld, IsHeldBy}
-use Rattle.cert_form.proofs.Laid.{put_laid, not_laid, entries_keep}
-use Rattle.cert_form.proofs.Tooks.{mapped}
+use Rattle.cert_form.proofs.Laid.{put_laid, not_laid, entries_keep, members_in}
+use Rattle.cert_form.proofs.Tooks.{mapped, unread}
 use Rattle.cert_form.proofs.Turns.{entries_over, entries_no_key, entries_more, entries_none}
 use Rattle.cert_form.proofs.Turns.{values_object}
 
@@ -53,10 +52,6 @@ module _ (keys : List (List ℕ)) (ordered : ascend keys ≡ true) (depth : ℕ)
           cc (sym stays.1 ∙ ap (get_member k) same ∙ none)),
     )
 
-abbrev members_in : Data → Members
-members_in (object ms) = ms
-members_in _ = no_members
-
 module _ {F : Type 0} (keys : List (List ℕ)) (held : F → (ℕ → Option Data) → Type 0) (fields : F)
     (depth : ℕ) (old : List Token) where
   held_by : (b : Bool) (ms : Members) → AreHeld keys held fields b ms →
@@ -77,9 +72,7 @@ module _ {F : Type 0} (keys : List (List ℕ)) (held : F → (ℕ → Option Dat
       BeginsObject depth old (Ok b) ts →
       Took (AreHeld keys held fields) (entries no_members (depth - 1) ts) r left →
       Took (IsHeldBy keys held fields) (values depth old) r left
-  object_taken b ts left r is begins h =
-      let P : Bool → Type 0 = λ x. BeginsObject depth old (Ok x) ts in
-      whole_object ts left r (subst P is begins) h
+  object_taken b ts left r is begins h = whole_object ts left r (rw is at begins) h
 
   pub no_object_here : (left : List Token) → BeginsObject depth old (Ok false) left →
       Took (IsHeldBy keys held fields) (values depth old) (Ok false) left
@@ -89,11 +82,5 @@ module _ {F : Type 0} (keys : List (List ℕ)) (held : F → (ℕ → Option Dat
       r ≡ Err e → BeginsObject depth old (Err e) rest →
       Took (IsHeldBy keys held fields) (values depth old) r left
   object_failed e left rest r is h =
-      let P : Result Bool Unread → Type 0 =
-      λ x. Took (IsHeldBy keys held fields) (values depth old) x left in
-      subst P (sym is) (told e h)
-    where
-      told : (e : Unread) → BeginsObject depth old (Err e) rest →
-          Took (IsHeldBy keys held fields) (values depth old) (Err e) left
-      told NotJson k = k
-      told OutOfMemory k = tt
+      unread (λ x. Took (IsHeldBy keys held fields) (values depth old) x left) e r is
+      (λ k. subst (λ x. BeginsObject depth old (Err x) rest) k h) tt

@@ -1,7 +1,6 @@
 -- What is read fits: each number is in its type.
-use Rattle.std.proofs.Common.{◌≡◌, ℕ, Bool, true, false, List, Option, Some}
-use Rattle.std.proofs.Common.{None}
-use Rattle.std.proofs.Common.{refl, arith, nat_lt, codes, bytes_eq}
+use Rattle.std.proofs.Common.{◌≡◌, ℕ, Bool, true, false, List, Option, Some, None, refl, arith}
+use Rattle.std.proofs.Common.{nat_lt, codes, bytes_eq}
 use Rattle.std.specs.Prelude.{ℤ, if◌then◌else◌, IfSome, FitsSigned}
 use Rattle.std.specs.Int.{w32, w64}
 use Rattle.std.proofs.lemmas.Bool.{ltb-true}
@@ -31,13 +30,11 @@ use Rattle.cert_form.specs.Table.{form_named}
 use Rattle.cert_form.specs.Form.{base_number}
 use Rattle.cert_form.specs.Reading.{long_natural, natural_of, fits_i64, long_integer, fits_i32}
 use Rattle.cert_form.specs.Reading.{integer_of, natural_at, integer_at, variable_at, word_at}
-use Rattle.cert_form.specs.Reading.{condition_at, shift_made}
-use Rattle.cert_form.specs.Reading.{kind_named, kind_of, base_of, index_of, address_of, address_at}
-use Rattle.cert_form.specs.Reading.{made, instruction_of, end_named, end_of, cap_of}
-use Rattle.cert_form.specs.Reading.{tie_of}
+use Rattle.cert_form.specs.Reading.{condition_at, shift_made, kind_named, kind_of, base_of}
+use Rattle.cert_form.specs.Reading.{index_of, address_of, address_at, made, instruction_of}
+use Rattle.cert_form.specs.Reading.{end_named, end_of, cap_of, tie_of}
 use Rattle.cert_form.specs.Whole.{IsNatural, IsLong, KindFits, AddressFits, InstructionFits}
-use Rattle.cert_form.specs.Whole.{EndFits}
-use Rattle.cert_form.specs.Whole.{CapFits, TieFits}
+use Rattle.cert_form.specs.Whole.{EndFits, CapFits, TieFits}
 
 -- What is made of parts that fit.
 

@@ -1,12 +1,12 @@
 -- Parts that are written are read again.
-use Rattle.std.proofs.Common.{◌≡◌, ℕ, ◌<◌, ◌^◌, true, List, [], ◌∷◌, map, Option}
-use Rattle.std.proofs.Common.{Some, None, refl, ap, ◌∙◌, arith, nat_lt}
+use Rattle.std.proofs.Common.{◌≡◌, ℕ, ◌<◌, ◌^◌, true, List, [], ◌∷◌, map, Option, Some, None, refl}
+use Rattle.std.proofs.Common.{ap, ◌∙◌, arith, nat_lt}
 use Rattle.std.specs.Prelude.{ℤ, pos, negsuc, if◌then◌else◌, IfSome, FitsSigned}
 use Rattle.std.specs.Int.{w32, w64}
 use Rattle.std.proofs.lemmas.Bool.{lt-ltb}
 use Rattle.std.proofs.lemmas.Int.{ints}
 use Rattle.std.proofs.lemmas.Bool.Decides.{nat_tests}
-use Rattle.serde_json.specs.Data.{Data}
+use Rattle.serde_json.specs.Data.{Data, string}
 use Rattle.serde_json.specs.Find.{at, as_i64, of_integer}
 use Rattle.serde_json.specs.View.{items_of}
 use Rattle.pra_list.specs.Options.{◌>>=◌}
@@ -20,7 +20,6 @@ use Rattle.pra_base.specs.declared.ids.ShiftOp.{ShiftOp}
 use Rattle.pra_base.specs.declared.ids.ShiftOp.TheVariants.{Shl, Shr, Sar}
 use Rattle.pra_base.specs.declared.ids.Cond.TheVariants.{B, Ae, E, Ne, Be, A, S, Ns, L, Ge, Le, G}
 use Rattle.pra_base.specs.declared.ids.Place.{Place}
-use Rattle.pra_base.specs.declared.ids.Place.TheVariants as place
 use Rattle.pra_base.specs.declared.code.VarKind.{VarKind}
 use Rattle.pra_base.specs.declared.code.VarKind.TheVariants.{Param, Plain, Constant}
 use Rattle.pra_base.specs.declared.code.Base.{Base}
@@ -32,25 +31,27 @@ use Rattle.pra_base.specs.declared.code.End.{End}
 use Rattle.pra_base.specs.declared.code.End.TheVariants.{Jump, Branch, Return}
 use Rattle.pra_base.specs.declared.code.Block.{Block}
 use Rattle.pra_base.specs.Places.{number, numbered}
-use Rattle.pra_base.proofs.PlaceNumbers.{numbered-number}
+use Rattle.pra_base.proofs.PlaceNumbers.{numbered-number, number_below}
 use Rattle.ia_code.specs.DecodeTable.{cond_number}
 use Rattle.ia_code.specs.Reading.{cond_of}
+use Rattle.ia_code.proofs.FieldNumbers.{cond_small}
 use Rattle.cert_form.specs.declared.table.Form.{Form}
 use Rattle.cert_form.specs.declared.table.Form.TheVariants as form
+use Rattle.cert_form.specs.declared.table.Operand.{Operand}
+use Rattle.cert_form.specs.declared.table.Operand.TheVariants.{Variable, Number, Address}
 use Rattle.cert_form.specs.declared.certificate.CapAt.{CapAt}
 use Rattle.cert_form.specs.declared.certificate.TieAt.{TieAt}
 use Rattle.cert_form.specs.Table.{name, form_of, form_named, shift_form}
-use Rattle.cert_form.specs.Form.{natural, integer, list, kind_data, base_name, base_number}
-use Rattle.cert_form.specs.Form.{index_data, address_data, instruction_data, end_data, block_data}
-use Rattle.cert_form.specs.Form.{place_data, path_data, cap_data, tie_data}
+use Rattle.cert_form.specs.Form.{natural, integer, row, operand_data, list, kind_data, base_name}
+use Rattle.cert_form.specs.Form.{base_number, index_data, address_data, instruction_data, end_data}
+use Rattle.cert_form.specs.Form.{block_data, place_data, path_data, cap_data, tie_data}
 use Rattle.cert_form.specs.Reading.{long_natural, natural_of, fits_i64, long_integer, fits_i32}
-use Rattle.cert_form.specs.Reading.{integer_of, natural_at, integer_at, shift_made}
-use Rattle.cert_form.specs.Reading.{variable_at, condition_at, each, list_of, kind_of, base_of}
-use Rattle.cert_form.specs.Reading.{index_of, address_of, address_at, made, instruction_of, end_of}
-use Rattle.cert_form.specs.Reading.{block_of, place_of, path_of, cap_of, tie_of}
+use Rattle.cert_form.specs.Reading.{integer_of, natural_at, integer_at, shift_made, variable_at}
+use Rattle.cert_form.specs.Reading.{condition_at, each, list_of, kind_of, base_of, index_of}
+use Rattle.cert_form.specs.Reading.{address_of, address_at, made, instruction_of, end_of, block_of}
+use Rattle.cert_form.specs.Reading.{place_of, path_of, cap_of, tie_of}
 use Rattle.cert_form.specs.Whole.{IsNatural, IsLong, KindFits, AddressFits, InstructionFits}
-use Rattle.cert_form.specs.Whole.{EndFits}
-use Rattle.cert_form.specs.Whole.{BlockFits, CapFits, TieFits}
+use Rattle.cert_form.specs.Whole.{EndFits, OperandFits, BlockFits, CapFits, TieFits}
 
 -- Where parts are there, what is made of them.
 
@@ -141,24 +142,11 @@ cond_back Ge = refl
 cond_back Le = refl
 cond_back G = refl
 
-cond_small : (k : Cond) → IsNatural (cond_number k)
-cond_small B = omega arith
-cond_small Ae = omega arith
-cond_small E = omega arith
-cond_small Ne = omega arith
-cond_small Be = omega arith
-cond_small A = omega arith
-cond_small S = omega arith
-cond_small Ns = omega arith
-cond_small L = omega arith
-cond_small Ge = omega arith
-cond_small Le = omega arith
-cond_small G = omega arith
-
 condition_here : (i : ℕ) (d : Data) (k : Cond) → at i d ≡ Some (natural (cond_number k)) →
     condition_at i d ≡ Some k
 condition_here i d k e =
-    one (natural_at i d) (cond_number k) cond_of (natural_here i d (cond_number k) e (cond_small k))
+    one (natural_at i d) (cond_number k) cond_of
+    (natural_here i d (cond_number k) e (omega (arith, cond_small k)))
     ∙ cond_back k
 
 -- Variables and addresses.
@@ -234,60 +222,52 @@ shift_form_made : (op : ShiftOp) (d : Data) → made (shift_form op) d ≡ shift
 shift_form_made op d = elim op as (λ op. made (shift_form op) d ≡ shift_made op d)
     [ Shl ↦ refl | Shr ↦ refl | Sar ↦ refl ]
 
+-- instructions, by what their operands are
+abbrev told : List ℕ → List Operand → Data
+told w os = row (string w ∷ map operand_data os)
+
+one_variable : (w : List ℕ) (f : VarId → VInstr) (v : VarId) → Each OperandFits (Variable v ∷ []) →
+    (variable_at 1 (told w (Variable v ∷ [])) >>= (λ m. Some (f m))) ≡ Some (f v)
+one_variable w f v h =
+    one _ v (λ m. Some (f m)) (variable_here 1 (told w (Variable v ∷ [])) v refl h.0)
+
+two_variables : (w : List ℕ) (f : VarId → VarId → VInstr) (v s : VarId) →
+    Each OperandFits (Variable v ∷ Variable s ∷ []) →
+    (variable_at 1 (told w (Variable v ∷ Variable s ∷ [])) >>= (λ m.
+    variable_at 2 (told w (Variable v ∷ Variable s ∷ [])) >>= (λ n. Some (f m n)))) ≡ Some (f v s)
+two_variables w f v s h =
+    let x = told w (Variable v ∷ Variable s ∷ []) in
+    two (variable_at 1 x) (variable_at 2 x) v s (λ m n. Some (f m n))
+    (variable_here 1 x v refl h.0) (variable_here 2 x s refl h.1.0)
+
+with_number : (w : List ℕ) (f : VarId → ℤ → VInstr) (v : VarId) (z : ℤ) →
+    Each OperandFits (Variable v ∷ Number z ∷ []) →
+    (variable_at 1 (told w (Variable v ∷ Number z ∷ [])) >>= (λ m.
+    integer_at 2 (told w (Variable v ∷ Number z ∷ [])) >>= (λ n. Some (f m n)))) ≡ Some (f v z)
+with_number w f v z h =
+    let x = told w (Variable v ∷ Number z ∷ []) in
+    two (variable_at 1 x) (integer_at 2 x) v z (λ m n. Some (f m n))
+    (variable_here 1 x v refl h.0) (integer_here 2 x z refl h.1.0)
+
+with_address : (w : List ℕ) (f : VarId → Addr → VInstr) (v : VarId) (a : Addr) →
+    Each OperandFits (Variable v ∷ Address a ∷ []) →
+    (variable_at 1 (told w (Variable v ∷ Address a ∷ [])) >>= (λ m.
+    address_at 2 (told w (Variable v ∷ Address a ∷ [])) >>= (λ n. Some (f m n)))) ≡ Some (f v a)
+with_address w f v a h =
+    let x = told w (Variable v ∷ Address a ∷ []) in
+    two (variable_at 1 x) (address_at 2 x) v a (λ m n. Some (f m n))
+    (variable_here 1 x v refl h.0) (address_here 2 x a refl h.1.0)
+
 made_read : (i : VInstr) → InstructionFits i → made (form_of i) (instruction_data i) ≡ Some i
-made_read (instr.Set v c) h =
-    let x = instruction_data (instr.Set v c) in
-    two (variable_at 1 x) (integer_at 2 x) v c
-    (λ m n. Some (instr.Set m n))
-    (variable_here 1 x v refl h.0)
-    (integer_here 2 x c refl h.1.0)
-made_read (instr.Copy v s) h =
-    let x = instruction_data (instr.Copy v s) in
-    two (variable_at 1 x) (variable_at 2 x) v s
-    (λ m n. Some (instr.Copy m n))
-    (variable_here 1 x v refl h.0)
-    (variable_here 2 x s refl h.1.0)
-made_read (instr.Add v s) h =
-    let x = instruction_data (instr.Add v s) in
-    two (variable_at 1 x) (variable_at 2 x) v s
-    (λ m n. Some (instr.Add m n))
-    (variable_here 1 x v refl h.0)
-    (variable_here 2 x s refl h.1.0)
-made_read (instr.Sub v s) h =
-    let x = instruction_data (instr.Sub v s) in
-    two (variable_at 1 x) (variable_at 2 x) v s
-    (λ m n. Some (instr.Sub m n))
-    (variable_here 1 x v refl h.0)
-    (variable_here 2 x s refl h.1.0)
-made_read (instr.And v s) h =
-    let x = instruction_data (instr.And v s) in
-    two (variable_at 1 x) (variable_at 2 x) v s
-    (λ m n. Some (instr.And m n))
-    (variable_here 1 x v refl h.0)
-    (variable_here 2 x s refl h.1.0)
-made_read (instr.Or v s) h =
-    let x = instruction_data (instr.Or v s) in
-    two (variable_at 1 x) (variable_at 2 x) v s
-    (λ m n. Some (instr.Or m n))
-    (variable_here 1 x v refl h.0)
-    (variable_here 2 x s refl h.1.0)
-made_read (instr.Xor v s) h =
-    let x = instruction_data (instr.Xor v s) in
-    two (variable_at 1 x) (variable_at 2 x) v s
-    (λ m n. Some (instr.Xor m n))
-    (variable_here 1 x v refl h.0)
-    (variable_here 2 x s refl h.1.0)
-made_read (instr.Mul v s) h =
-    let x = instruction_data (instr.Mul v s) in
-    two (variable_at 1 x) (variable_at 2 x) v s
-    (λ m n. Some (instr.Mul m n))
-    (variable_here 1 x v refl h.0)
-    (variable_here 2 x s refl h.1.0)
-made_read (instr.Neg v) h =
-    let x = instruction_data (instr.Neg v) in
-    one (variable_at 1 x) v
-    (λ m. Some (instr.Neg m))
-    (variable_here 1 x v refl h.0)
+made_read (instr.Set v c) h = with_number (name form.Set) instr.Set v c h
+made_read (instr.Copy v s) h = two_variables (name form.Copy) instr.Copy v s h
+made_read (instr.Add v s) h = two_variables (name form.Add) instr.Add v s h
+made_read (instr.Sub v s) h = two_variables (name form.Sub) instr.Sub v s h
+made_read (instr.And v s) h = two_variables (name form.And) instr.And v s h
+made_read (instr.Or v s) h = two_variables (name form.Or) instr.Or v s h
+made_read (instr.Xor v s) h = two_variables (name form.Xor) instr.Xor v s h
+made_read (instr.Mul v s) h = two_variables (name form.Mul) instr.Mul v s h
+made_read (instr.Neg v) h = one_variable (name form.Neg) instr.Neg v h
 made_read (instr.Shift op v k) h =
     let x = instruction_data (instr.Shift op v k) in
     shift_form_made op x
@@ -295,12 +275,7 @@ made_read (instr.Shift op v k) h =
     (λ m n. Some (instr.Shift op m n))
     (variable_here 1 x v refl h.0)
     (natural_here 2 x k refl h.1.0)
-made_read (instr.Cmp a b) h =
-    let x = instruction_data (instr.Cmp a b) in
-    two (variable_at 1 x) (variable_at 2 x) a b
-    (λ m n. Some (instr.Cmp m n))
-    (variable_here 1 x a refl h.0)
-    (variable_here 2 x b refl h.1.0)
+made_read (instr.Cmp a b) h = two_variables (name form.Cmp) instr.Cmp a b h
 made_read (instr.CmpSet k v a b) h =
     let x = instruction_data (instr.CmpSet k v a b) in
     four (condition_at 1 x) (variable_at 2 x) (variable_at 3 x) (variable_at 4 x) k v a b
@@ -317,55 +292,24 @@ made_read (instr.DivMod q r a d) h =
     (variable_here 2 x r refl h.1.0)
     (variable_here 3 x a refl h.1.1.0)
     (variable_here 4 x d refl h.1.1.1.0)
-made_read (instr.Check i n) h =
-    let x = instruction_data (instr.Check i n) in
-    two (variable_at 1 x) (integer_at 2 x) i n
-    (λ m n. Some (instr.Check m n))
-    (variable_here 1 x i refl h.0)
-    (integer_here 2 x n refl h.1.0)
-made_read (instr.CheckPos d) h =
-    let x = instruction_data (instr.CheckPos d) in
-    one (variable_at 1 x) d
-    (λ m. Some (instr.CheckPos m))
-    (variable_here 1 x d refl h.0)
-made_read (instr.Load v m) h =
-    let x = instruction_data (instr.Load v m) in
-    two (variable_at 1 x) (address_at 2 x) v m
-    (λ m n. Some (instr.Load m n))
-    (variable_here 1 x v refl h.0)
-    (address_here 2 x m refl h.1.0)
+made_read (instr.Check i n) h = with_number (name form.Check) instr.Check i n h
+made_read (instr.CheckPos d) h = one_variable (name form.CheckPos) instr.CheckPos d h
+made_read (instr.Load v m) h = with_address (name form.Load) instr.Load v m h
 made_read (instr.Store m s) h =
     let x = instruction_data (instr.Store m s) in
     two (address_at 1 x) (variable_at 2 x) m s
     (λ m n. Some (instr.Store m n))
     (address_here 1 x m refl h.0)
     (variable_here 2 x s refl h.1.0)
-made_read (instr.Addr v m) h =
-    let x = instruction_data (instr.Addr v m) in
-    two (variable_at 1 x) (address_at 2 x) v m
-    (λ m n. Some (instr.Addr m n))
-    (variable_here 1 x v refl h.0)
-    (address_here 2 x m refl h.1.0)
-made_read (instr.Push s) h =
-    let x = instruction_data (instr.Push s) in
-    one (variable_at 1 x) s
-    (λ m. Some (instr.Push m))
-    (variable_here 1 x s refl h.0)
+made_read (instr.Addr v m) h = with_address (name form.Addr) instr.Addr v m h
+made_read (instr.Push s) h = one_variable (name form.Push) instr.Push s h
 made_read (instr.Call p) h =
     let x = instruction_data (instr.Call p) in
     one (natural_at 1 x) p.0
     (λ n. let q : ProcId = record { 0 = n } in Some (instr.Call q))
     (natural_here 1 x p.0 refl h.0)
-made_read (instr.Read v) h =
-    let x = instruction_data (instr.Read v) in
-    one (variable_at 1 x) v
-    (λ m. Some (instr.Read m))
-    (variable_here 1 x v refl h.0)
-made_read (instr.Write s) h =
-    let x = instruction_data (instr.Write s) in
-    one (variable_at 1 x) s
-    (λ m. Some (instr.Write m))
-    (variable_here 1 x s refl h.0)
+made_read (instr.Read v) h = one_variable (name form.Read) instr.Read v h
+made_read (instr.Write s) h = one_variable (name form.Write) instr.Write s h
 made_read instr.Line h = refl
 made_read instr.Clear h = refl
 
@@ -413,25 +357,9 @@ block_read b h =
 
 -- Paths and entries of prices.
 
-place_small : (p : Place) → IsNatural (number p)
-place_small place.Eax = omega arith
-place_small place.Ecx = omega arith
-place_small place.Edx = omega arith
-place_small place.Ebx = omega arith
-place_small place.Esi = omega arith
-place_small place.Edi = omega arith
-place_small place.Mem = omega arith
-place_small place.Const = omega arith
-place_small place.EaxM = omega arith
-place_small place.EcxM = omega arith
-place_small place.EdxM = omega arith
-place_small place.EbxM = omega arith
-place_small place.EsiM = omega arith
-place_small place.EdiM = omega arith
-
 place_read : (p : Place) → Unit {0} → place_of (place_data p) ≡ Some p
 place_read p h = one (natural_of (natural (number p))) (number p) numbered
-    (natural_read (number p) (place_small p)) ∙ numbered-number p
+    (natural_read (number p) (omega (arith, number_below p))) ∙ numbered-number p
 
 all_units : {A : Type 0} (xs : List A) → Each (λ (x : A). Unit {0}) xs
 all_units [] = tt

@@ -82,6 +82,13 @@ row_plain n ds h =
     let p = all_plain n ds h in
     record { whole = p.whole; shallow = omega (arith, p.shallow) }
 
+row_two : (n : ℕ) (a b : Data) → IsPlain n a → IsPlain n b → IsPlain (suc n) (row (a ∷ b ∷ []))
+row_two n a b p q = row_plain n (a ∷ b ∷ []) (p, (q, tt))
+
+row_four : (n : ℕ) (a b c d : Data) → IsPlain n a → IsPlain n b → IsPlain n c → IsPlain n d →
+    IsPlain (suc n) (row (a ∷ b ∷ c ∷ d ∷ []))
+row_four n a b c d p q r s = row_plain n (a ∷ b ∷ c ∷ d ∷ []) (p, (q, (r, (s, tt))))
+
 each_plain : {A : Type 0} (n : ℕ) (f : A → Data) → ((x : A) → IsPlain n (f x)) → (xs : List A) →
     Each (IsPlain n) (map f xs)
 each_plain n f p [] = tt
@@ -102,14 +109,10 @@ string_plain : (n : ℕ) (s : List ℕ) → IsPlain n (string s)
 string_plain n s = record { whole = refl; shallow = omega arith }
 
 kind_plain : (k : VarKind) → IsPlain 1 (kind_data k)
-kind_plain (Param i) =
-    row_plain 0 (string (codes "param") ∷ natural i ∷ [])
-    (string_plain 0 (codes "param"), (natural_plain 0 i, tt))
+kind_plain (Param i) = row_two 0 _ _ (string_plain 0 (codes "param")) (natural_plain 0 i)
 kind_plain Plain =
     row_plain 0 (string (codes "plain") ∷ []) (string_plain 0 (codes "plain"), tt)
-kind_plain (Constant c) =
-    row_plain 0 (string (codes "constant") ∷ integer c ∷ [])
-    (string_plain 0 (codes "constant"), (integer_plain 0 c, tt))
+kind_plain (Constant c) = row_two 0 _ _ (string_plain 0 (codes "constant")) (integer_plain 0 c)
 
 index_plain : (n : ℕ) (o : Option VarId) → IsPlain n (index_data o)
 index_plain n None = record { whole = refl; shallow = omega arith }
@@ -117,17 +120,8 @@ index_plain n (Some v) = natural_plain n v.0
 
 address_plain : (a : Addr) → IsPlain 1 (address_data a)
 address_plain a =
-    row_plain 0 (string (base_name a.base) ∷ natural (base_number a.base) ∷ integer a.offset
-    ∷ index_data a.index ∷ []) (
-      string_plain 0 (base_name a.base),
-      (
-        natural_plain 0 (base_number a.base),
-        (
-          integer_plain 0 a.offset,
-          (index_plain 0 a.index, tt),
-        ),
-      ),
-    )
+    row_four 0 _ _ _ _ (string_plain 0 (base_name a.base)) (natural_plain 0 (base_number a.base))
+    (integer_plain 0 a.offset) (index_plain 0 a.index)
 
 operand_plain : (o : Operand) → IsPlain 1 (operand_data o)
 operand_plain (Variable v) = natural_plain 1 v.0
@@ -142,30 +136,18 @@ instruction_plain i =
     (string_plain 1 (name (form_of i)), each_plain 1 operand_data operand_plain (operands_of i))
 
 end_plain : (n : ℕ) (e : End) → IsPlain (suc n) (end_data e)
-end_plain n (Jump b) =
-    row_plain n (string (codes "jump") ∷ natural b.0 ∷ [])
-    (string_plain n (codes "jump"), (natural_plain n b.0, tt))
+end_plain n (Jump b) = row_two n _ _ (string_plain n (codes "jump")) (natural_plain n b.0)
 end_plain n (Branch k taken other) =
-    row_plain n (string (codes "branch") ∷ natural (cond_number k) ∷ natural taken.0
-    ∷ natural other.0 ∷ []) (
-      string_plain n (codes "branch"),
-      (
-        natural_plain n (cond_number k),
-        (natural_plain n taken.0, (natural_plain n other.0, tt)),
-      ),
-    )
+    row_four n _ _ _ _ (string_plain n (codes "branch")) (natural_plain n (cond_number k))
+    (natural_plain n taken.0) (natural_plain n other.0)
 end_plain n Return =
     row_plain n (string (codes "return") ∷ []) (string_plain n (codes "return"), tt)
 
 block_plain : (b : Block) → IsPlain 4 (block_data b)
 block_plain b =
-    row_plain 3 (natural b.depth ∷ list instruction_data b.code ∷ end_data b.end ∷ []) (
-      natural_plain 3 b.depth,
-      (
-        list_plain 2 instruction_data instruction_plain b.code,
-        (end_plain 2 b.end, tt),
-      ),
-    )
+    let code = list_plain 2 instruction_data instruction_plain b.code in
+    row_plain 3 (natural b.depth ∷ list instruction_data b.code ∷ end_data b.end ∷ [])
+    (natural_plain 3 b.depth, (code, (end_plain 2 b.end, tt)))
 
 place_plain : (p : Place) → IsPlain 0 (place_data p)
 place_plain p = natural_plain 0 _
@@ -174,14 +156,10 @@ path_plain : (ps : List Place) → IsPlain 1 (path_data ps)
 path_plain ps = list_plain 0 place_data place_plain ps
 
 cap_plain : (c : CapAt) → IsPlain 1 (cap_data c)
-cap_plain c =
-    row_plain 0 (natural c.at ∷ natural c.price ∷ [])
-    (natural_plain 0 c.at, (natural_plain 0 c.price, tt))
+cap_plain c = row_two 0 _ _ (natural_plain 0 c.at) (natural_plain 0 c.price)
 
 tie_plain : (t : TieAt) → IsPlain 1 (tie_data t)
-tie_plain t =
-    row_plain 0 (natural t.at ∷ integer t.number ∷ [])
-    (natural_plain 0 t.at, (integer_plain 0 t.number, tt))
+tie_plain t = row_two 0 _ _ (natural_plain 0 t.at) (integer_plain 0 t.number)
 
 short_plain : {A : Type 0} (f : A → Data) → ((x : A) → IsPlain 1 (f x)) → (xs : List A) →
     IsPlain 5 (list f xs)

@@ -27,11 +27,12 @@ parts_under f g P back key d xs e h =
     one (get key d) (list g xs) (list_of f) e ∙ each_read f g P back xs h
 
 -- the members of code among those of an object
-pub record HoldsCode (c : VProc) (d : Data) : Type 0 where
-  pub aggregates : get (codes "aggregates") d ≡ Some (natural c.aggregates)
-  pub args : get (codes "args") d ≡ Some (natural c.args)
-  pub vars : get (codes "vars") d ≡ Some (list kind_data c.vars)
-  pub blocks : get (codes "blocks") d ≡ Some (list block_data c.blocks)
+abbrev pub HoldsCode : VProc → Data → Type 0
+HoldsCode c d =
+    (get (codes "aggregates") d ≡ Some (natural c.aggregates))
+    × (get (codes "args") d ≡ Some (natural c.args))
+    × (get (codes "vars") d ≡ Some (list kind_data c.vars))
+    × (get (codes "blocks") d ≡ Some (list block_data c.blocks))
 
 pub code_read : (c : VProc) (d : Data) → HoldsCode c d → CodeFits c → code_of c.id.0 d ≡ Some c
 code_read c d e h =
@@ -41,10 +42,10 @@ code_read c d e h =
     (λ g a v b. let i : ProcId = record { 0 = c.id.0 } in
     let made : VProc = record { id = i; args = a; aggregates = g; vars = v; blocks = b } in
     Some made)
-    (number_under (codes "aggregates") d c.aggregates e.aggregates h.aggregates)
-    (number_under (codes "args") d c.args e.args h.args)
-    (parts_under kind_of kind_data KindFits kind_read (codes "vars") d c.vars e.vars h.vars)
-    (parts_under block_of block_data BlockFits block_read (codes "blocks") d c.blocks e.blocks
+    (number_under (codes "aggregates") d c.aggregates e.0 h.aggregates)
+    (number_under (codes "args") d c.args e.1 h.args)
+    (parts_under kind_of kind_data KindFits kind_read (codes "vars") d c.vars e.2 h.vars)
+    (parts_under block_of block_data BlockFits block_read (codes "blocks") d c.blocks e.3
     h.blocks)
 
 module _ {A : Type 0} (code : A → VProc) (Fits : A → Type 0) (f : ℕ → Data → Option A)

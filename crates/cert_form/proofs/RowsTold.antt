@@ -110,7 +110,7 @@ answered {A} of form fits back fit d same = by (of d) refl
     by : (o : Option A) → of d ≡ o → IsAnswer form fits o d
     by None e = of_none fits form of back d e
     by (Some x) e =
-        let P : Option A → Type 0 = λ o. IfSome o fits in (same x e, subst P e (fit d))
+        (same x e, rw e at (fit d))
 
 pub address_answer : (w : List ℕ) (ms : List Mark) →
     IsAnswer address_data AddressFits (address_in w ms) (marked w ms)
@@ -176,42 +176,16 @@ tie_answer (m ∷ n ∷ o ∷ ms) =
     let P : Bool → Type 0 = λ b. IsAnswer tie_data TieFits (if b then tie_of d else None) d in
     subst P (sym long) (λ t h e. cc)
 
--- the same of what was read of a list
+-- the same of two numbers that were read of a list
+module _ {A : Type 0} (form : A → Data) (fits : A → Type 0) (d : Data) (marks : Option (List Mark))
+    (read : IsAnswer (list mark_data) (AreFew (λ n m. Unit {0}) (Some 2)) marks d) where
+  pub pair_told : (of : List Mark → Option A) →
+      ((ms : List Mark) → IsAnswer form fits (of ms) (marks_row ms)) → (ms : List Mark)
+      (found : Option A) → marks ≡ Some ms → found ≡ of ms → IsAnswer form fits found d
+  pair_told of answer ms found is same = rw same (rw ((rw is at read).0) (answer ms))
 
-pub cap_told : (d : Data) (marks : Option (List Mark)) (ms : List Mark) (found : Option CapAt) →
-    marks ≡ Some ms →
-    IsAnswer (list mark_data) (AreFew (λ n m. Unit {0}) (Some 2)) marks d → found ≡ cap_in ms →
-    IsAnswer cap_data CapFits found d
-cap_told d marks ms found is h same =
-    let P : Option (List Mark) → Type 0 =
-    λ o. IsAnswer (list mark_data) (AreFew (λ n m. Unit {0}) (Some 2)) o d in
-    let Q : Option CapAt → Type 0 = λ o. IsAnswer cap_data CapFits o (marks_row ms) in
-    let R : Data → Type 0 = λ e. IsAnswer cap_data CapFits found e in
-    subst R (sym (subst P is h).0) (subst Q (sym same) (cap_answer ms))
-
-pub no_cap : (d : Data) (marks : Option (List Mark)) → marks ≡ None →
-    IsAnswer (list mark_data) (AreFew (λ n m. Unit {0}) (Some 2)) marks d →
-    IsAnswer cap_data CapFits None d
-no_cap d marks is h c fits e =
-    let P : Option (List Mark) → Type 0 =
-    λ o. IsAnswer (list mark_data) (AreFew (λ n m. Unit {0}) (Some 2)) o d in
-    subst P is h (Integer (pos c.at) ∷ Integer (pos c.price) ∷ []) ((tt, (tt, tt)), omega arith) e
-
-pub tie_told : (d : Data) (marks : Option (List Mark)) (ms : List Mark) (found : Option TieAt) →
-    marks ≡ Some ms →
-    IsAnswer (list mark_data) (AreFew (λ n m. Unit {0}) (Some 2)) marks d → found ≡ tie_in ms →
-    IsAnswer tie_data TieFits found d
-tie_told d marks ms found is h same =
-    let P : Option (List Mark) → Type 0 =
-    λ o. IsAnswer (list mark_data) (AreFew (λ n m. Unit {0}) (Some 2)) o d in
-    let Q : Option TieAt → Type 0 = λ o. IsAnswer tie_data TieFits o (marks_row ms) in
-    let R : Data → Type 0 = λ e. IsAnswer tie_data TieFits found e in
-    subst R (sym (subst P is h).0) (subst Q (sym same) (tie_answer ms))
-
-pub no_tie : (d : Data) (marks : Option (List Mark)) → marks ≡ None →
-    IsAnswer (list mark_data) (AreFew (λ n m. Unit {0}) (Some 2)) marks d →
-    IsAnswer tie_data TieFits None d
-no_tie d marks is h t fits e =
-    let P : Option (List Mark) → Type 0 =
-    λ o. IsAnswer (list mark_data) (AreFew (λ n m. Unit {0}) (Some 2)) o d in
-    subst P is h (Integer (pos t.at) ∷ Integer t.number ∷ []) ((tt, (tt, tt)), omega arith) e
+  pub no_pair : (first second : A → Mark) →
+      ((x : A) → form x ≡ marks_row (first x ∷ second x ∷ [])) → marks ≡ None →
+      IsAnswer form fits None d
+  no_pair first second is none x h e =
+      (rw none at read) (first x ∷ second x ∷ []) ((tt, (tt, tt)), omega arith) (e ∙ is x)

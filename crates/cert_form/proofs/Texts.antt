@@ -1,6 +1,5 @@
 -- What the text of a plain value is, and what is read of it.
-use Rattle.std.proofs.Common.{◌≡◌, ℕ, ◌≤◌, false, List, [], ◌∷◌, ◌++◌, Some, sym}
-use Rattle.std.proofs.Common.{ap, ◌∙◌, subst, IsUtf8}
+use Rattle.std.proofs.Common.{◌≡◌, ℕ, ◌≤◌, false, List, [], ◌∷◌, ◌++◌, Some, ap, ◌∙◌, IsUtf8}
 use Rattle.json.specs.Lex.{tokens}
 use Rattle.json.specs.Print.{print}
 use Rattle.serde_json.specs.Data.{Data, depth}
@@ -16,7 +15,7 @@ module _ (part d : Data) (is : d ≡ part) (plain : IsPlain max_depth part) wher
   no_float = ap has_float is ∙ plain.whole
 
   shallow : depth d ≤ max_depth
-  shallow = let P : Data → Type 0 = λ x. depth x ≤ max_depth in subst P (sym is) plain.shallow
+  shallow = rw is plain.shallow
 
   pub text_written : (b t : List ℕ) → (has_float d ≡ false → b ≡ compact_text d) →
       t ≡ b ++ 10 ∷ [] → t ≡ line_text part
@@ -25,6 +24,4 @@ module _ (part d : Data) (is : d ≡ part) (plain : IsPlain max_depth part) wher
   pub text_back : (b t : List ℕ) → b ≡ print (tokens b) → IsUtf8 b → IsInOrder b d →
       (depth d ≤ max_depth → read b ≡ Some d) → t ≡ b ++ 10 ∷ [] → IsReadAs t part
   text_back b t printed utf8 order back e =
-      let P : Data → Type 0 = λ x. IsReadAs (b ++ 10 ∷ []) x in
-      let Q : List ℕ → Type 0 = λ l. IsReadAs l part in
-      subst Q (sym e) (subst P is (line_read b d printed order no_float utf8 (back shallow)))
+      rw e (rw is at (line_read b d printed order no_float utf8 (back shallow)))

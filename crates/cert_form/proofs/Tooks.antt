@@ -25,16 +25,22 @@ mapped f P Q o p e g (Ok x) left h = (f h.0, e ∙ ap (parse_map f) h.1, g x h.0
 mapped f P Q o p e g (Err NotJson) left h = e ∙ ap (parse_map f) h
 mapped f P Q o p e g (Err OutOfMemory) left h = tt
 
+-- what is owed where there is a fault, by its kind
+pub unread : {R : Type 0} (T : Result R Unread → Type 0) (e : Unread) (r : Result R Unread) →
+    r ≡ Err e → (e ≡ NotJson → T (Err NotJson)) → T (Err OutOfMemory) → T r
+unread T e r is none full = subst T (sym is) (told e none)
+  where
+    told : (e : Unread) → (e ≡ NotJson → T (Err NotJson)) → T (Err e)
+    told NotJson none = none refl
+    told OutOfMemory none = full
+
 -- a fault of a part is one of the whole
 pub failed : {A B D E : Type 0} (P : A → D → Type 0) (Q : B → E → Type 0)
     (o : Option (D × List Token)) (p : Option (E × List Token)) (left rest : List Token)
     (e : Unread) (r : Result B Unread) → r ≡ Err e → (o ≡ None → p ≡ None) →
     Took P o (Err e) left → Took Q p r rest
-failed P Q o p left rest e r is none h = subst (λ x. Took Q p x rest) (sym is) (told e h)
-  where
-    told : (e : Unread) → Took P o (Err e) left → Took Q p (Err e) rest
-    told NotJson k = none k
-    told OutOfMemory k = tt
+failed P Q o p left rest e r is none h =
+    unread (λ x. Took Q p x rest) e r is (λ k. none (subst (λ x. Took P o (Err x) left) k h)) tt
 
 pub no_json : {A D : Type 0} (P : A → D → Type 0) (p : Option (D × List Token))
     (rest : List Token) (r : Result A Unread) → r ≡ Err NotJson → p ≡ None → Took P p r rest

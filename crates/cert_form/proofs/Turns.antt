@@ -7,10 +7,9 @@ use Rattle.json.specs.Json as json
 use Rattle.json.specs.Json.{Parse, parse_map, after_end_array, read_key, items, members, value}
 use Rattle.json.proofs.Grammar.{Takes, left, items_end, items_fail, items_more, members_end}
 use Rattle.json.proofs.Grammar.{members_no_key, members_fail, members_more, skip_value-shorter}
-use Rattle.json.proofs.Grammar.{value-begin_array, value-begin_object, read_key-shorter}
-use Rattle.json.proofs.Grammar.{value_is}
-use Rattle.serde_json.specs.Data.{Num, Data, null, boolean, number, string, array, object}
-use Rattle.serde_json.specs.Data.{no_items, item, Members, no_members, put}
+use Rattle.json.proofs.Grammar.{value-begin_array, value-begin_object, read_key-shorter, value_is}
+use Rattle.serde_json.specs.Data.{Num, Data, null, boolean, number, string, array, object, no_items}
+use Rattle.serde_json.specs.Data.{item, Members, no_members, put}
 use Rattle.serde_json.specs.Read.{of_json, of_items, of_members, converted, number_of}
 use Rattle.cert_form.specs.Streams.{values, rests, entries}
 

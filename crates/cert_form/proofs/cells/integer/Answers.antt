@@ -1,8 +1,6 @@
-use Rattle.std.proofs.Common.{◌≡◌, [], ◌∷◌, List, ap, ◌∙◌, sym, subst, arith, rules}
-use Rattle.json.specs.Token.{Token}
+use Rattle.std.proofs.Common.{◌≡◌, [], ◌∷◌, ap, ◌∙◌, arith, rules}
 use Rattle.json.specs.Reads.{token_of}
-use Rattle.cert_form.specs.Form.{integer}
-use Rattle.cert_form.specs.Streams.{values, Took, IsAnswer}
+use Rattle.cert_form.specs.Streams.{values}
 use Rattle.cert_form.proofs.Turns.{values_nothing}
 use Rattle.cert_form.proofs.cells.integer.Goals as goal
 
@@ -15,6 +13,4 @@ pub returns : goal.returns
 returns c =
     let t = token_of c.in-Some.token in
     let first : c.args.reader.now ≡ t ∷ c.next.new.self = search rules in
-    let P : List Token → Type 0 = λ ts. Took (IsAnswer integer (λ z. Unit {0}))
-    (values c.args.depth ts) c.integer_begun.result c.integer_begun.new.reader in
-    subst P (sym first) c.integer_begun.ensures
+    rw first c.integer_begun.ensures

@@ -1,11 +1,10 @@
-use Rattle.std.proofs.Common.{◌≡◌, true, false, List, Some, None, length, sym, ap, ◌∙◌}
-use Rattle.std.proofs.Common.{subst, arith, rules}
+use Rattle.std.proofs.Common.{◌≡◌, true, false, Some, None, length, sym, ap, ◌∙◌, arith, rules}
 use Rattle.json.specs.Json.{after_end_array, parse_map}
 use Rattle.serde_json.specs.Data.{item}
 use Rattle.cert_form.specs.Form.{list}
 use Rattle.cert_form.specs.Streams.{values, rests, IsAnswer, IsListAnswer, AreFew, IsAny, is_full}
-use Rattle.cert_form.proofs.Gathered.{Told, gathered, none_gathered, too_many, some_item}
-use Rattle.cert_form.proofs.Gathered.{one_more_part, no_more_part}
+use Rattle.cert_form.proofs.Gathered.{gathered, none_gathered, too_many, some_item, one_more_part}
+use Rattle.cert_form.proofs.Gathered.{no_more_part}
 use Rattle.cert_form.proofs.Tooks.{failed}
 use Rattle.cert_form.proofs.Turns.{rests_over, rests_more, rests_none, values-shorter}
 use Rattle.cert_form.proofs.lists.items.Goals as goal
@@ -97,8 +96,6 @@ returns g c =
     let r = c.take_end_array.new.self in
     let e : after_end_array ts ≡ Some r = grind arith in
     let same : c.from_vec.result ≡ c.items.found.items = search rules in
-    let P : List _ → Type 0 = λ xs. Told g.T.Part.form g.T.Part.fits c.args.most
-    (rests c.args.depth c.args.reader.now) (Some xs) r in
-    subst P (sym same) (gathered g.T.Part.form g.T.Part.fits c.args.most
+    rw same (gathered g.T.Part.form g.T.Part.fits c.args.most
     (rests c.args.depth c.args.reader.now) c.items.found.items (rests c.args.depth ts)
     c.items.invariant r (rests_over c.args.depth ts r e))

@@ -1,10 +1,8 @@
-use Rattle.std.proofs.Common.{◌≡◌, Some, None, List, ℕ, Option, refl, sym, ap, ◌∙◌, subst}
-use Rattle.std.proofs.Common.{arith, rules}
+use Rattle.std.proofs.Common.{◌≡◌, Some, None, ℕ, Option, refl, sym, ap, ◌∙◌, arith, rules}
 use Rattle.json.specs.Json.{read_key}
 use Rattle.json.proofs.Grammar.{read_key-shorter}
 use Rattle.serde_json.specs.Data.{Data, put}
-use Rattle.cert_form.specs.Streams.{values, entries, AreHeld, IsAny, IsPosition, laid, nothing}
-use Rattle.cert_form.specs.Streams.{with_at}
+use Rattle.cert_form.specs.Streams.{values, entries, AreHeld, IsAny, laid, nothing, with_at}
 use Rattle.cert_form.proofs.ObjectsTaken.{laid_nothing, over, no_key, no_value, known, unknown}
 use Rattle.cert_form.proofs.Tooks.{failed, no_json}
 use Rattle.cert_form.proofs.Turns.{values-shorter, entries_more}
@@ -59,8 +57,7 @@ returns-in_default-position g c =
     let read = c.in_ok-pass.ensures in
     let before = put k read.0 (laid 0 g.F.Fields.keys i.0) in
     let more = c.in_ok-pass_members.ensures before in
-    let P : List (List ℕ) → Type 0 = λ ks. IsPosition ks k None in
-    let other = subst P c.names.ensures c.in_default-position.ensures in
+    let other = rw c.names.ensures at c.in_default-position.ensures in
     let u = unknown g.F.Fields.keys g.met.F.Fields.ordered c.args.depth _ c.members.reader i.0 i.1
     k s named read.0 c.pass.new.reader c.pass_members.new.reader more.0 other read.1 more.1 in
     (more.0, u.0, u.1)
@@ -83,8 +80,7 @@ members-preserved g c =
     let named : read_key c.members.reader ≡ Some (Some k, s) = grind arith in
     let read = c.in_ok-read.ensures in
     let n = c.in-Some-position.index in
-    let P : List (List ℕ) → Type 0 = λ ks. IsPosition ks k (Some n) in
-    let at = subst P c.names.ensures c.in-Some-position.ensures in (
+    let at = rw c.names.ensures at c.in-Some-position.ensures in (
       with_at n read.0 i.0,
       known g.F.Fields.keys g.met.F.Fields.ordered c.args.depth _ c.members.reader i.0 i.1 k s
           named n read.0 c.read.new.reader at.0 at.1 read.1,

@@ -1,18 +1,16 @@
-use Rattle.std.proofs.Common.{◌≡◌, ◌<◌, [], ◌∷◌, Some, None, sym, ap, ◌∙◌, refl}
-use Rattle.std.proofs.Common.{arith, rules}
+use Rattle.std.proofs.Common.{◌≡◌, ◌<◌, [], ◌∷◌, Some, None, sym, ap, ◌∙◌, refl, arith, rules}
 use Rattle.json.specs.Token.{Token}
 use Rattle.json.specs.Json.{parse_map, after_end_array, read_key}
 use Rattle.json.specs.Reads.{token_of}
 use Rattle.json.proofs.Grammar.{read_key-shorter}
-use Rattle.serde_json.specs.Data.{null, number, array, object, no_items}
-use Rattle.serde_json.specs.Data.{item, no_members, put}
+use Rattle.serde_json.specs.Data.{null, number, array, object, no_items, item, no_members, put}
 use Rattle.cert_form.specs.Streams.{values, rests, IsAny}
 use Rattle.cert_form.proofs.Tooks.{as_before, map_twice, mapped, failed, no_json}
-use Rattle.cert_form.proofs.Turns.{rests_over, rests_more, rests_none, entries_over}
-use Rattle.cert_form.proofs.Turns.{entries_no_key, entries_more, entries_none, values_array}
-use Rattle.cert_form.proofs.Turns.{values_object, values_nothing, values_null, values_boolean}
-use Rattle.cert_form.proofs.Turns.{values_string, values_number, values_none, values_no_array}
-use Rattle.cert_form.proofs.Turns.{values_no_object, values-shorter}
+use Rattle.cert_form.proofs.Turns.{rests_over, rests_more, rests_none, entries_over, entries_no_key}
+use Rattle.cert_form.proofs.Turns.{entries_more, entries_none, values_array, values_object}
+use Rattle.cert_form.proofs.Turns.{values_nothing, values_null, values_boolean, values_string}
+use Rattle.cert_form.proofs.Turns.{values_number, values_none, values_no_array, values_no_object}
+use Rattle.cert_form.proofs.Turns.{values-shorter}
 use Rattle.cert_form.proofs.passing.+pass.Goals as goal
 
 pub pass-returns-in_default : goal.pass-returns-in_default
@@ -23,14 +21,12 @@ pass-returns-in_default t c =
 pub pass_begun-returns-then-depth-eq0 : goal.pass_begun-returns-then-depth-eq0
 pass_begun-returns-then-depth-eq0 t c =
     let none : c.args.depth ≡ 0 = omega arith in
-    ap (λ k. values c.args.depth (token_of k ∷ c.args.reader.now)) c.in-BeginArray.is
-    ∙ values_no_array c.args.depth c.args.reader.now none
+    rw c.in-BeginArray.is (values_no_array c.args.depth c.args.reader.now none)
 
 pub pass_begun-returns-then-depth-eq0-2 : goal.pass_begun-returns-then-depth-eq0-2
 pass_begun-returns-then-depth-eq0-2 t c =
     let none : c.args.depth ≡ 0 = omega arith in
-    ap (λ k. values c.args.depth (token_of k ∷ c.args.reader.now)) c.in-BeginObject.is
-    ∙ values_no_object c.args.depth c.args.reader.now none
+    rw c.in-BeginObject.is (values_no_object c.args.depth c.args.reader.now none)
 
 pub pass_begun-returns-in-String : goal.pass_begun-returns-in-String
 pass_begun-returns-in-String t c = (
@@ -49,46 +45,38 @@ pass_begun-returns-in-Bool t c = (
 )
 
 pub pass_begun-returns-in-Null : goal.pass_begun-returns-in-Null
-pass_begun-returns-in-Null t c = (
-  null,
-  ap (λ k. values c.args.depth (token_of k ∷ c.args.reader.now)) c.in-Null.is
-      ∙ values_null c.args.depth c.args.reader.now,
-  tt,
-)
+pass_begun-returns-in-Null t c =
+    (null, rw c.in-Null.is (values_null c.args.depth c.args.reader.now), tt)
 
 pub pass_begun-returns-in-Some : goal.pass_begun-returns-in-Some
 pass_begun-returns-in-Some t c =
     let n = c.in-Some.ensures in (
       number n.0,
-      ap (λ k. values c.args.depth (token_of k ∷ c.args.reader.now)) c.in-Number.is
-          ∙ values_number c.args.depth c.in-Number.text.now c.args.reader.now (Some n.0) n.1,
+      rw c.in-Number.is
+          (values_number c.args.depth c.in-Number.text.now c.args.reader.now (Some n.0) n.1),
       tt,
     )
 
 pub pass_begun-returns-in-None : goal.pass_begun-returns-in-None
 pass_begun-returns-in-None t c =
-    ap (λ k. values c.args.depth (token_of k ∷ c.args.reader.now)) c.in-Number.is
-    ∙ values_number c.args.depth c.in-Number.text.now c.args.reader.now None c.in-None.ensures
+    rw c.in-Number.is
+    (values_number c.args.depth c.in-Number.text.now c.args.reader.now None c.in-None.ensures)
 
 pub pass_begun-returns-in-EndObject : goal.pass_begun-returns-in-EndObject
 pass_begun-returns-in-EndObject t c =
-    ap (λ k. values c.args.depth (token_of k ∷ c.args.reader.now)) c.in-EndObject.is
-    ∙ values_none c.args.depth Token.end_object c.args.reader.now refl
+    rw c.in-EndObject.is (values_none c.args.depth Token.end_object c.args.reader.now refl)
 
 pub pass_begun-returns-in-EndArray : goal.pass_begun-returns-in-EndArray
 pass_begun-returns-in-EndArray t c =
-    ap (λ k. values c.args.depth (token_of k ∷ c.args.reader.now)) c.in-EndArray.is
-    ∙ values_none c.args.depth Token.end_array c.args.reader.now refl
+    rw c.in-EndArray.is (values_none c.args.depth Token.end_array c.args.reader.now refl)
 
 pub pass_begun-returns-in-Key : goal.pass_begun-returns-in-Key
 pass_begun-returns-in-Key t c =
-    ap (λ k. values c.args.depth (token_of k ∷ c.args.reader.now)) c.in-Key.is
-    ∙ values_none c.args.depth (Token.key _) c.args.reader.now refl
+    rw c.in-Key.is (values_none c.args.depth (Token.key _) c.args.reader.now refl)
 
 pub pass_begun-returns-in-Bad : goal.pass_begun-returns-in-Bad
 pass_begun-returns-in-Bad t c =
-    ap (λ k. values c.args.depth (token_of k ∷ c.args.reader.now)) c.in-Bad.is
-    ∙ values_none c.args.depth Token.bad c.args.reader.now refl
+    rw c.in-Bad.is (values_none c.args.depth Token.bad c.args.reader.now refl)
 
 pub pass_begun-returns-else-depth-eq0 : goal.pass_begun-returns-else-depth-eq0
 pass_begun-returns-else-depth-eq0 t c =

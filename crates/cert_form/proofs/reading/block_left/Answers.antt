@@ -1,9 +1,9 @@
-use Rattle.std.proofs.Common.{◌≡◌, Bool, None, ap, ◌∙◌, subst}
+use Rattle.std.proofs.Common.{◌≡◌, None, ap, ◌∙◌}
 use Rattle.json.specs.Json.{parse_map}
 use Rattle.serde_json.specs.Data.{no_items, item}
 use Rattle.cert_form.specs.Form.{natural, list, instruction_data, end_data}
 use Rattle.cert_form.specs.Whole.{IsNatural, EndFits}
-use Rattle.cert_form.specs.Streams.{rests, IsEnd}
+use Rattle.cert_form.specs.Streams.{rests}
 use Rattle.cert_form.proofs.BlocksTaken.{Code, IsBlock, item_told, no_item_told, other_items}
 use Rattle.cert_form.proofs.BlocksTaken.{no_code, whole_block}
 use Rattle.cert_form.proofs.reading.block_left.Goals as goal
@@ -32,8 +32,7 @@ returns c =
     let d = item_told end_data EndFits c.args.depth c.item-2.new.reader c.item-3.new.reader
     c.in_ok-end.field-0 end c.in-Some-3.is c.in_ok-end.ensures in
     let over = c.in_ok-ends.ensures in
-    let P : Bool → Type 0 = λ x. IsEnd x over.0 in
-    let none : over.0 ≡ no_items = subst P c.if-not-branch.false over.2 in (
+    let none : over.0 ≡ no_items = rw c.if-not-branch.false at over.2 in (
       item (natural n) (item (list instruction_data code) (item (end_data end) over.0)),
       a.0 ∙ ap (parse_map (item (natural n))) (b.0
           ∙ ap (parse_map (item (list instruction_data code))) (d.0

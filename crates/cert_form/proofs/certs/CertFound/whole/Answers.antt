@@ -1,25 +1,16 @@
-use Rattle.std.proofs.Common.{◌≡◌, Option, None, sym, subst, arith, rules}
-use Rattle.serde_json.specs.Data.{object}
-use Rattle.cert_form.specs.declared.certificate.Cert.{Cert}
-use Rattle.cert_form.specs.Form.{cert_data}
-use Rattle.cert_form.specs.Found.{CertFitsAt, cert_keys}
-use Rattle.cert_form.specs.Streams.{IsAnswer, laid}
+use Rattle.std.proofs.Common.{◌≡◌, None, arith, rules}
 use Rattle.cert_form.proofs.Held.{no_vars, no_ties, cert_found}
 use Rattle.cert_form.proofs.certs.CertFound.whole.Goals as goal
 
 pub returns-in_err-vars : goal.returns-in_err-vars
 returns-in_err-vars c = λ os h.
     let none : c.from_residual-in_err-vars.result ≡ None = search rules in
-    let P : Option Cert → Type 0 =
-    λ o. IsAnswer cert_data (CertFitsAt c.args.number) o (object (laid 0 cert_keys os)) in
-    subst P (sym none) (no_vars c.args.self os h c.args.number c.in_err-vars.was)
+    rw none (no_vars c.args.self os h c.args.number c.in_err-vars.was)
 
 pub returns-in_err-ties : goal.returns-in_err-ties
 returns-in_err-ties c = λ os h.
     let none : c.from_residual-in_err-ties.result ≡ None = search rules in
-    let P : Option Cert → Type 0 =
-    λ o. IsAnswer cert_data (CertFitsAt c.args.number) o (object (laid 0 cert_keys os)) in
-    subst P (sym none) (no_ties c.args.self os h c.args.number c.in_err-ties.was)
+    rw none (no_ties c.args.self os h c.args.number c.in_err-ties.was)
 
 pub returns : goal.returns
 returns c = λ os h.

@@ -1,6 +1,10 @@
-use Rattle.std.proofs.Common.{◌≡◌, rules}
+use Rattle.std.proofs.Common.{◌≡◌, pos, refl, rules}
+use Rattle.cert_form.specs.declared.certificate.CapAt.{CapAt}
+use Rattle.cert_form.specs.declared.cells.Mark.TheVariants.{Integer}
+use Rattle.cert_form.specs.Form.{cap_data}
+use Rattle.cert_form.specs.Whole.{CapFits}
 use Rattle.cert_form.specs.Streams.{cap_in}
-use Rattle.cert_form.proofs.RowsTold.{cap_told, no_cap}
+use Rattle.cert_form.proofs.RowsTold.{pair_told, no_pair, cap_answer}
 use Rattle.cert_form.proofs.reading.CapAtPart.part.Goals as goal
 
 pub returns-in-Some : goal.returns-in-Some
@@ -9,10 +13,16 @@ returns-in-Some c =
     let same : c.cap.result ≡ cap_in c.in-Some.marks = search rules in (
       read.0,
       read.1,
-      cap_told read.0 c.in_ok-marks.field-0 c.in-Some.marks c.cap.result c.in-Some.is read.2 same,
+      pair_told cap_data CapFits read.0 c.in_ok-marks.field-0 read.2 cap_in cap_answer
+          c.in-Some.marks c.cap.result c.in-Some.is same,
     )
 
 pub returns-in-None : goal.returns-in-None
 returns-in-None c =
-    let read = c.in_ok-marks.ensures in
-    (read.0, read.1, no_cap read.0 c.in_ok-marks.field-0 c.in-None.is read.2)
+    let read = c.in_ok-marks.ensures in (
+      read.0,
+      read.1,
+      no_pair cap_data CapFits read.0 c.in_ok-marks.field-0 read.2
+          (λ (x : CapAt). Integer (pos x.at)) (λ x. Integer (pos x.price)) (λ x. refl)
+          c.in-None.is,
+    )
