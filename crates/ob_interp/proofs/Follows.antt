@@ -235,7 +235,8 @@ module _ (program : Checked) where
   plain = map-RStmt ((t : RStmt) × Fit t) ((t : RArm) × FitArm t) RStmt RArm (λ e. e.0) (λ e. e.0)
 
   abbrev counting : RStmt-F RStmt RArm → RStmt-F CountedStatement CountedArm
-  counting = map-RStmt RStmt RArm CountedStatement CountedArm (counted program) (counted_arm program)
+  counting = map-RStmt RStmt RArm CountedStatement CountedArm (counted program)
+      (counted_arm program)
 
   abbrev executing : RStmt-F RStmt RArm → RStmt-F Execution Arm
   executing = map-RStmt RStmt RArm Execution Arm (exec program) (arm_of program)
@@ -263,7 +264,8 @@ module _ (program : Checked) where
   single_beside : (a : Granted) (b : Around) → Near a b → (m : List LiveCall → Run) →
       ((s : State) → After s (m b.calls s)) →
       Beside (unit a.granted (does (m a.calls))) (m b.calls)
-  single_beside a b w m g = rw (sym w.calls) (unit_beside a.granted (does (m b.calls)) (m b.calls) (does_beside (m b.calls) g))
+  single_beside a b w m g = rw (sym w.calls)
+      (unit_beside a.granted (does (m b.calls)) (m b.calls) (does_beside (m b.calls) g))
 
   abbrev read_by : RVar → List LiveCall → Run
   read_by v calls s = with (location program v calls s.store) s (λ l. read_to s.input l s)

@@ -6,8 +6,8 @@ use Rattle.std.specs.Vec.{with_item}
 use Rattle.pra_list.proofs.Elements.{got_set, got_unset}
 use Rattle.std.proofs.Math.Dec.{eqb}
 use Rattle.std.proofs.Common.{◌≡◌, ◌≢◌, ◌⊎◌, inl, inr, ℕ, zero, suc, ◌+◌, ◌<◌, Bool, true, false}
-use Rattle.std.proofs.Common.{◌≤◌, cond, not, List, [], ◌∷◌, ◌++◌, map, Option, Some, None, refl, sym}
-use Rattle.std.proofs.Common.{ap, ◌∙◌, subst, arith, Vec, get_or, Result, Ok, Err, OnOk}
+use Rattle.std.proofs.Common.{◌≤◌, cond, not, List, [], ◌∷◌, ◌++◌, map, Option, Some, None, refl}
+use Rattle.std.proofs.Common.{sym, ap, ◌∙◌, subst, arith, Vec, get_or, Result, Ok, Err, OnOk}
 use Rattle.std.specs.Prelude.{unwrap_or, slice_get, slice_set, length}
 use Rattle.std.specs.declared.alloc.Global.{Global}
 use Rattle.std.specs.declared.cmp.Ordering.{Ordering}
@@ -435,7 +435,8 @@ pub layer-written : (old m : Memory) (local : Bool) (d n : ℕ) (l : Location) (
       «module» = m.module;
       layers = with_item (with_item m.layers d spare) d layer';
     }) ≡ assigned (store_in old) l v
-layer-written old m local d n l v key layer now spare layer' same is number its lt got taken put kept =
+layer-written old m local d n l v key layer now spare layer' same is number its lt got taken put
+    kept =
     let without = slice_set m.layers.items d spare in
     let inside : d < length without =
     subst (λ k. d < k) (sym (length-set m.layers.items d spare)) lt in

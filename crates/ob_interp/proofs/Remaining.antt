@@ -215,10 +215,11 @@ called program frames granted calls proc args c d le low is =
     let fewer : granted - length calls ≡ granted + 1 - length (call_with proc args ∷ calls)
     = omega arith in
     let one : suc (length calls) ≡ length calls + 1 = omega arith in
-    let begins : in_call (suc (length calls)) args c ≡ d = ap (λ k. in_call k args c) one ∙ sym is in
+    let entry : in_call (suc (length calls)) args c ≡ d =
+    ap (λ k. in_call k args c) one ∙ sym is in
     ap (λ k. counted_call program frames granted k calls proc args c) some
     ∙ (λ i. if low i then Failed Stack c else counted_all program (body program proc)
-    (granted_around program frames granted (fewer i) (call_with proc args ∷ calls)) (begins i))
+    (granted_around program frames granted (fewer i) (call_with proc args ∷ calls)) (entry i))
 
 pub stack-full : (program : Checked) (frames : List ℕ) (granted : ℕ) (calls : List LiveCall)
     (proc : ℕ) (args : List Argument) (c : Counted) →
@@ -329,7 +330,8 @@ module _ (program : Checked) (frames : List ℕ) (k : ℕ) (calls : List LiveCal
       counted program (stmt.If ys zs) (here program frames k calls) c
       ≡ due_of program (due.If arms other) (here program frames k calls) c
   leads-If arms other ys zs e d =
-      rw (sym e) (rw (sym d) (counted-If program arms.now other.now (here program frames k calls) c))
+      rw (sym e) (rw (sym d)
+      (counted-If program arms.now other.now (here program frames k calls) c))
 
   pub leads-While : (test : Bor RExpr) (ts : Bor (List RStmt)) (e : RExpr) (zs : List RStmt) →
       test.now ≡ e → ts.now ≡ zs →

@@ -161,7 +161,8 @@ module _ (program : Checked) where
   in_order_adds : (ts : List ((t : RStmt) × IsFair t)) (a : Granted) → AddsUnits a →
       Adds (in_order (map (counted program) (map (λ e. e.0) ts)) a)
   in_order_adds [] a h = done_adds
-  in_order_adds (t ∷ ts) a h = then_adds (counted program t.0 a) _ (t.1.at a h) (in_order_adds ts a h)
+  in_order_adds (t ∷ ts) a h =
+      then_adds (counted program t.0 a) _ (t.1.at a h) (in_order_adds ts a h)
 
   first_adds : (arms : List ((t : RArm) × IsFairArm t)) (other : List ((t : RStmt) × IsFair t))
       (a : Granted) → AddsUnits a →
