@@ -1,6 +1,6 @@
 -- What was found under each key of a code file tells what it is.
 use Rattle.std.proofs.Common.{◌≡◌, ◌<◌, ◌≤◌, ℕ, List, [], ◌∷◌, length, Bool, false, Option, Some}
-use Rattle.std.proofs.Common.{None, refl, sym, ap, ◌∙◌, arith, codes, get_or, IsTrue}
+use Rattle.std.proofs.Common.{None, refl, sym, ap, ◌∙◌, arith, codes, get_or}
 use Rattle.serde_json.specs.Data.{Data, null, number, unsigned, string, array, object, item}
 use Rattle.serde_json.specs.Data.{no_members, member}
 use Rattle.pra_list.specs.Each.{Each}
@@ -15,13 +15,13 @@ use Rattle.cert_form.specs.declared.code_reading.CodeKind.{CodeKind}
 use Rattle.cert_form.specs.declared.code_reading.CodeFound.{CodeFound}
 use Rattle.cert_form.specs.declared.code_reading.FileFound.{FileFound}
 use Rattle.cert_form.specs.Form.{natural, list, block_data, kind_data}
-use Rattle.cert_form.specs.CodeForm.{is_name, name_data, code_data, file_data}
+use Rattle.cert_form.specs.CodeForm.{name_data, code_data, file_data}
 use Rattle.cert_form.specs.CodeWhole.{HasName, NamedFits, BodyTakesNone, IsWholeCode}
 use Rattle.cert_form.specs.Whole.{IsNatural, KindFits, BlockFits}
-use Rattle.cert_form.specs.Streams.{IsAnswer, IsHeldBy, AreFew, laid, laid_one}
+use Rattle.cert_form.specs.Streams.{IsAnswer, IsHeldBy, laid, laid_one}
 use Rattle.cert_form.specs.Found.{CodeFitsAt, CodeHeld, code_keys, FileHeld, file_keys}
 use Rattle.cert_form.proofs.BlocksTaken.{each_there, each_alone}
-use Rattle.cert_form.proofs.Held.{missing, stands, alike, procs_there, procs_here}
+use Rattle.cert_form.proofs.Held.{alike, procs_there, procs_here}
 use Rattle.cert_form.proofs.CodesRead.{IsNamed, both}
 use Rattle.cert_form.proofs.Laid.{all_laid, members_in}
 
@@ -43,30 +43,24 @@ module _ (f : CodeFound) (os : ℕ → Option Data) (h : CodeHeld f os) (n : ℕ
 
   pub no_aggregates : f.aggregates ≡ None → NoCode
   no_aggregates e p k is =
-      missing natural IsNatural f.aggregates (os 0) e h.0 p.code.aggregates k.fits.1.aggregates
-      (there os p is 0 (omega arith))
+      (rw e at h.0) p.code.aggregates k.fits.1.aggregates (there os p is 0 (omega arith))
 
   pub no_args : f.args ≡ None → NoCode
-  no_args e p k is =
-      missing natural IsNatural f.args (os 1) e h.1 p.code.args k.fits.1.args
-      (there os p is 1 (omega arith))
+  no_args e p k is = (rw e at h.1) p.code.args k.fits.1.args (there os p is 1 (omega arith))
 
   pub no_blocks : f.blocks ≡ None → NoCode
   no_blocks e p k is =
-      missing (list block_data) (AreFew (λ n x. BlockFits x) None) f.blocks (os 2) e h.2
-      p.code.blocks (each_there BlockFits p.code.blocks k.fits.1.blocks, tt)
+      (rw e at h.2) p.code.blocks (each_there BlockFits p.code.blocks k.fits.1.blocks, tt)
       (there os p is 2 (omega arith))
 
   pub no_name : f.name ≡ None → NoCode
   no_name e p k is =
       let x : Name = record { 0 = p.name } in
-      missing (λ x. name_data x.0) (λ x. IsTrue (is_name x.0)) f.name (os 3) e h.3 x
-      k.fits.0 (there os p is 3 (omega arith))
+      (rw e at h.3) x k.fits.0 (there os p is 3 (omega arith))
 
   pub no_vars : f.vars ≡ None → NoCode
   no_vars e p k is =
-      missing (list kind_data) (AreFew (λ n x. KindFits x) None) f.vars (os 4) e h.4
-      p.code.vars (each_there KindFits p.code.vars k.fits.1.vars, tt)
+      (rw e at h.4) p.code.vars (each_there KindFits p.code.vars k.fits.1.vars, tt)
       (there os p is 4 (omega arith))
 
   pub code_found : IsNatural n → (aggregates args : ℕ) (blocks : List Block) (name : Name)
@@ -83,14 +77,11 @@ module _ (f : CodeFound) (os : ℕ → Option Data) (h : CodeHeld f os) (n : ℕ
         };
       })) (object (laid 0 code_keys os))
   code_found small aggregates args blocks name vars e0 e1 e2 e3 e4 =
-      let s0 = stands natural IsNatural f.aggregates (os 0) aggregates e0 h.0 in
-      let s1 = stands natural IsNatural f.args (os 1) args e1 h.1 in
-      let s2 = stands (list block_data) (AreFew (λ n x. BlockFits x) None) f.blocks (os 2) blocks e2
-      h.2 in
-      let s3 = stands (λ x. name_data x.0) (λ x. IsTrue (is_name x.0)) f.name (os 3) name e3
-      h.3 in
-      let s4 = stands (list kind_data) (AreFew (λ n x. KindFits x) None) f.vars (os 4) vars e4
-      h.4 in (
+      let s0 = rw e0 at h.0 in
+      let s1 = rw e1 at h.1 in
+      let s2 = rw e2 at h.2 in
+      let s3 = rw e3 at h.3 in
+      let s4 = rw e4 at h.4 in (
         (λ i. object (laid_one (codes "aggregates") (s0.0 i) (laid_one (codes "args") (s1.0 i)
             (laid_one (codes "blocks") (s2.0 i) (laid_one (codes "name") (s3.0 i)
             (laid_one (codes "vars") (s4.0 i) no_members)))))),
@@ -165,28 +156,24 @@ module _ (f : FileFound) (os : ℕ → Option Data) (h : FileHeld f os) where
 
   pub no_words : f.data_words ≡ None → NoFile
   no_words e c k is =
-      missing natural IsNatural f.data_words (os 0) e h.0 c.data_words
-      (small c.data_words k.file.words) (all_there os c is 0 (omega arith))
+      (rw e at h.0) c.data_words (small c.data_words k.file.words)
+      (all_there os c is 0 (omega arith))
 
   pub no_kind : f.kind ≡ None → NoFile
-  no_kind e c k is =
-      missing (λ x. string (codes "pra-code")) (λ x. Unit {0}) f.kind (os 1) e h.1 _ tt
-      (all_there os c is 1 (omega arith))
+  no_kind e c k is = (rw e at h.1) _ tt (all_there os c is 1 (omega arith))
 
   pub no_procs : f.procs ≡ None → NoFile
   no_procs e c k is =
-      missing (list code_data) (AreFew CodeFitsAt None) f.procs (os 2) e h.2 c.procs
+      (rw e at h.2) c.procs
       (procs_there (λ p. p.code) IsNamed c.procs k.file.numbered (both c.procs k.file.names k.fits))
       (all_there os c is 2 (omega arith))
 
   pub no_version : f.version ≡ None → NoFile
-  no_version e c k is =
-      missing (λ v. natural 1) (λ v. Unit {0}) f.version (os 3) e h.3 _ tt
-      (all_there os c is 3 (omega arith))
+  no_version e c k is = (rw e at h.3) _ tt (all_there os c is 3 (omega arith))
 
   pub too_many_words : (n : ℕ) → f.data_words ≡ Some n → max_data_words < n → NoFile
   too_many_words n e more c k is =
-      let s = stands natural IsNatural f.data_words (os 0) n e h.0 in
+      let s = rw e at h.0 in
       let same : n ≡ c.data_words =
       ap number_in (sym s.0 ∙ all_there os c is 0 (omega arith)) in
       omega (arith, more, same, k.file.words)
@@ -194,7 +181,7 @@ module _ (f : FileFound) (os : ℕ → Option Data) (h : FileHeld f os) where
   -- no run can begin
   pub no_run : (ps : List NamedCode) → f.procs ≡ Some ps → (Begins ps → ⊥) → NoFile
   no_run ps e none c k is =
-      let s = stands (list code_data) (AreFew CodeFitsAt None) f.procs (os 2) ps e h.2 in
+      let s = rw e at h.2 in
       let same : list code_data ps ≡ list code_data c.procs =
       ap data_in (sym s.0 ∙ all_there os c is 2 (omega arith)) in
       none (as_begun ps c.procs same (k.file.some, k.file.body))
@@ -205,9 +192,9 @@ module _ (f : FileFound) (os : ℕ → Option Data) (h : FileHeld f os) where
       IsAnswer file_data IsWholeCode (Some (record { data_words = n; procs = ps }))
       (object (laid 0 file_keys os))
   file_found n kind ps version e0 e1 e2 e3 few begins =
-      let s0 = stands natural IsNatural f.data_words (os 0) n e0 h.0 in
+      let s0 = rw e0 at h.0 in
       let s1 = alike (string (codes "pra-code")) f.kind (os 1) kind e1 h.1 in
-      let s2 = stands (list code_data) (AreFew CodeFitsAt None) f.procs (os 2) ps e2 h.2 in
+      let s2 = rw e2 at h.2 in
       let s3 = alike (natural 1) f.version (os 3) version e3 h.3 in
       let whole = procs_here (λ p. p.code) IsNamed ps s2.1 in (
         (λ i. object (laid_one (codes "data_words") (s0.0 i) (laid_one (codes "kind") (s1 i)

@@ -21,7 +21,7 @@ use Rattle.cert_form.specs.declared.certs.CertFound.{CertFound}
 use Rattle.cert_form.specs.declared.certs.CertificateFound.{CertificateFound}
 use Rattle.cert_form.specs.Form.{natural, list, block_data, kind_data, cap_data, tie_data}
 use Rattle.cert_form.specs.Form.{path_data, cert_data, cost_name, certificate_data}
-use Rattle.cert_form.specs.Whole.{IsNatural, IsLong, KindFits, BlockFits, CapFits, TieFits}
+use Rattle.cert_form.specs.Whole.{IsNatural, KindFits, BlockFits, CapFits, TieFits}
 use Rattle.cert_form.specs.Whole.{CertFits, CodesAreNumbered, IsWhole}
 use Rattle.cert_form.specs.Streams.{IsAnswer, IsHeld, IsHeldBy, AreFew, laid, laid_one}
 use Rattle.cert_form.specs.Found.{FitsAt, ArePaths, CertFitsAt, cert_keys, CertHeld}
@@ -34,14 +34,6 @@ module _ {A : Type 0} (form : A → Data) (fits : A → Type 0) where
       IsHeld form fits found (Some d)
   held None d h = λ x k e. h x k (some_same d (form x) e)
   held (Some x) d h = (ap (λ y. Some y) h.0, h.1)
-
-  pub missing : (found : Option A) (o : Option Data) → found ≡ None → IsHeld form fits found o →
-      (x : A) → fits x → o ≡ Some (form x) → ⊥
-  missing found o e h x k is = (rw e at h) x k is
-
-  pub stands : (found : Option A) (o : Option Data) (x : A) → found ≡ Some x →
-      IsHeld form fits found o → (o ≡ Some (form x)) × fits x
-  stands found o x e h = rw e at h
 
 -- a part of which all are alike
 pub alike : {A : Type 0} (d : Data) (found : Option A) (o : Option Data) (x : A) →
@@ -82,54 +74,44 @@ module _ (f : CertFound) (os : ℕ → Option Data) (h : CertHeld f os) (n : ℕ
 
   pub no_aggregates : f.aggregates ≡ None → NoCert
   no_aggregates e c k is =
-      missing natural IsNatural f.aggregates (os 0) e h.0 c.code.aggregates k.fits.code.aggregates
-      (there os c is 0 (omega arith))
+      (rw e at h.0) c.code.aggregates k.fits.code.aggregates (there os c is 0 (omega arith))
 
   pub no_args : f.args ≡ None → NoCert
-  no_args e c k is =
-      missing natural IsNatural f.args (os 1) e h.1 c.code.args k.fits.code.args
-      (there os c is 1 (omega arith))
+  no_args e c k is = (rw e at h.1) c.code.args k.fits.code.args (there os c is 1 (omega arith))
 
   pub no_blocks : f.blocks ≡ None → NoCert
   no_blocks e c k is =
-      missing (list block_data) (AreFew (λ n x. BlockFits x) None) f.blocks (os 2) e h.2
-      c.code.blocks (each_there BlockFits c.code.blocks k.fits.code.blocks, tt)
+      (rw e at h.2) c.code.blocks (each_there BlockFits c.code.blocks k.fits.code.blocks, tt)
       (there os c is 2 (omega arith))
 
   pub no_bound : f.bound ≡ None → NoCert
-  no_bound e c k is =
-      missing natural IsLong f.bound (os 3) e h.3 c.bound k.fits.bound
-      (there os c is 3 (omega arith))
+  no_bound e c k is = (rw e at h.3) c.bound k.fits.bound (there os c is 3 (omega arith))
 
   pub no_caps : f.caps ≡ None → NoCert
   no_caps e c k is =
-      missing (list cap_data) (AreFew (λ n x. CapFits x) None) f.caps (os 4) e h.4 c.caps
-      (each_there CapFits c.caps k.fits.caps, tt) (there os c is 4 (omega arith))
+      (rw e at h.4) c.caps (each_there CapFits c.caps k.fits.caps, tt)
+      (there os c is 4 (omega arith))
 
   pub no_mems : f.mems ≡ None → NoCert
   no_mems e c k is =
-      missing (list cap_data) (AreFew (λ n x. CapFits x) None) f.mems (os 5) e h.5 c.mems
-      (each_there CapFits c.mems k.fits.mems, tt) (there os c is 5 (omega arith))
+      (rw e at h.5) c.mems (each_there CapFits c.mems k.fits.mems, tt)
+      (there os c is 5 (omega arith))
 
   pub no_routes : f.routes ≡ None → NoCert
   no_routes e c k is =
-      missing (list path_data) ArePaths f.routes (os 6) e h.6 c.routes.places
-      (are_paths c.routes.places) (there os c is 6 (omega arith))
+      (rw e at h.6) c.routes.places (are_paths c.routes.places) (there os c is 6 (omega arith))
 
   pub no_ties : f.ties ≡ None → NoCert
   no_ties e c k is =
-      missing (list tie_data) (AreFew (λ n x. TieFits x) None) f.ties (os 7) e h.7
-      c.ties (each_there TieFits c.ties k.fits.ties, tt) (there os c is 7 (omega arith))
+      (rw e at h.7) c.ties (each_there TieFits c.ties k.fits.ties, tt)
+      (there os c is 7 (omega arith))
 
   pub no_total : f.total ≡ None → NoCert
-  no_total e c k is =
-      missing natural IsLong f.total (os 8) e h.8 c.total k.fits.total
-      (there os c is 8 (omega arith))
+  no_total e c k is = (rw e at h.8) c.total k.fits.total (there os c is 8 (omega arith))
 
   pub no_vars : f.vars ≡ None → NoCert
   no_vars e c k is =
-      missing (list kind_data) (AreFew (λ n x. KindFits x) None) f.vars (os 9) e
-      h.9 c.code.vars (each_there KindFits c.code.vars k.fits.code.vars, tt)
+      (rw e at h.9) c.code.vars (each_there KindFits c.code.vars k.fits.code.vars, tt)
       (there os c is 9 (omega arith))
 
   pub cert_found : IsNatural n → (aggregates args bound total : ℕ) (blocks : List Block)
@@ -154,21 +136,16 @@ module _ (f : CertFound) (os : ℕ → Option Data) (h : CertHeld f os) (n : ℕ
       })) (object (laid 0 cert_keys os))
   cert_found small aggregates args bound total blocks caps mems paths ties vars e0 e1 e2 e3 e4 e5
       e6 e7 e8 e9 =
-      let s0 = stands natural IsNatural f.aggregates (os 0) aggregates e0 h.0 in
-      let s1 = stands natural IsNatural f.args (os 1) args e1 h.1 in
-      let s2 = stands (list block_data) (AreFew (λ n x. BlockFits x) None) f.blocks (os 2) blocks e2
-      h.2 in
-      let s3 = stands natural IsLong f.bound (os 3) bound e3 h.3 in
-      let s4 = stands (list cap_data) (AreFew (λ n x. CapFits x) None) f.caps (os 4) caps e4
-      h.4 in
-      let s5 = stands (list cap_data) (AreFew (λ n x. CapFits x) None) f.mems (os 5) mems e5
-      h.5 in
-      let s6 = stands (list path_data) ArePaths f.routes (os 6) paths e6 h.6 in
-      let s7 = stands (list tie_data) (AreFew (λ n x. TieFits x) None) f.ties (os 7) ties e7
-      h.7 in
-      let s8 = stands natural IsLong f.total (os 8) total e8 h.8 in
-      let s9 = stands (list kind_data) (AreFew (λ n x. KindFits x) None) f.vars (os 9) vars e9
-      h.9 in (
+      let s0 = rw e0 at h.0 in
+      let s1 = rw e1 at h.1 in
+      let s2 = rw e2 at h.2 in
+      let s3 = rw e3 at h.3 in
+      let s4 = rw e4 at h.4 in
+      let s5 = rw e5 at h.5 in
+      let s6 = rw e6 at h.6 in
+      let s7 = rw e7 at h.7 in
+      let s8 = rw e8 at h.8 in
+      let s9 = rw e9 at h.9 in (
         (λ i. object (laid_one (codes "aggregates") (s0.0 i) (laid_one (codes "args") (s1.0 i)
             (laid_one (codes "blocks") (s2.0 i) (laid_one (codes "bound") (s3.0 i)
             (laid_one (codes "caps") (s4.0 i) (laid_one (codes "mems") (s5.0 i)
@@ -249,30 +226,23 @@ module _ (f : CertificateFound) (os : ℕ → Option Data) (h : CertificateHeld 
       IsAnswer certificate_data IsWhole None (object (laid 0 certificate_keys os))
 
   pub no_cost : f.cost ≡ None → NoCertificate
-  no_cost e c k is =
-      missing (λ w. string (cost_name w)) (λ w. Unit {0}) f.cost (os 0) e h.0 c.cost tt
-      (all_there os c is 0 (omega arith))
+  no_cost e c k is = (rw e at h.0) c.cost tt (all_there os c is 0 (omega arith))
 
   pub no_kind : f.kind ≡ None → NoCertificate
-  no_kind e c k is =
-      missing (λ x. string (codes "pra-certificate")) (λ x. Unit {0}) f.kind (os 1) e h.1 _ tt
-      (all_there os c is 1 (omega arith))
+  no_kind e c k is = (rw e at h.1) _ tt (all_there os c is 1 (omega arith))
 
   pub no_procs : f.procs ≡ None → NoCertificate
   no_procs e c k is =
-      missing (list cert_data) (AreFew CertFitsAt None) f.procs (os 2) e h.2 c.procs
-      (procs_there (λ x. x.code) CertFits c.procs k.numbered k.fits)
+      (rw e at h.2) c.procs (procs_there (λ x. x.code) CertFits c.procs k.numbered k.fits)
       (all_there os c is 2 (omega arith))
 
   pub no_version : f.version ≡ None → NoCertificate
-  no_version e c k is =
-      missing (λ v. natural 1) (λ v. Unit {0}) f.version (os 3) e h.3 _ tt
-      (all_there os c is 3 (omega arith))
+  no_version e c k is = (rw e at h.3) _ tt (all_there os c is 3 (omega arith))
 
   -- there is no procedure
   pub no_proc : (procs : List Cert) → f.procs ≡ Some procs → procs ≡ [] → NoCertificate
   no_proc procs e none c k is =
-      let s = stands (list cert_data) (AreFew CertFitsAt None) f.procs (os 2) procs e h.2 in
+      let s = rw e at h.2 in
       let same : Some (list cert_data procs) ≡ Some (list cert_data c.procs) =
       sym s.0 ∙ all_there os c is 2 (omega arith) in
       let long : length procs ≡ length c.procs =
@@ -298,9 +268,9 @@ module _ (f : CertificateFound) (os : ℕ → Option Data) (h : CertificateHeld 
       IsAnswer certificate_data IsWhole (Some (record { cost = cost; procs = procs }))
       (object (laid 0 certificate_keys os))
   certificate_found cost kind procs version e0 e1 e2 e3 some =
-      let s0 = stands (λ w. string (cost_name w)) (λ w. Unit {0}) f.cost (os 0) cost e0 h.0 in
+      let s0 = rw e0 at h.0 in
       let s1 = alike (string (codes "pra-certificate")) f.kind (os 1) kind e1 h.1 in
-      let s2 = stands (list cert_data) (AreFew CertFitsAt None) f.procs (os 2) procs e2 h.2 in
+      let s2 = rw e2 at h.2 in
       let s3 = alike (natural 1) f.version (os 3) version e3 h.3 in
       let whole = procs_here (λ x. x.code) CertFits procs s2.1 in (
         (λ i. object (laid_one (codes "cost") (s0.0 i) (laid_one (codes "kind") (s1 i)

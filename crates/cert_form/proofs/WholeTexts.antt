@@ -10,6 +10,7 @@ use Rattle.serde_json.specs.Read.{of_json, read, converted, max_depth}
 use Rattle.cert_form.specs.declared.passing.Unread.{Unread}
 use Rattle.cert_form.specs.declared.passing.Unread.TheVariants.{NotJson, OutOfMemory}
 use Rattle.cert_form.specs.Streams.{values, Took, IsAnswer, IsPartOf, IsPartRead}
+use Rattle.cert_form.proofs.Tooks.{unread}
 use Rattle.cert_form.proofs.Turns.{converted_some, refused}
 
 abbrev whole : Option (json.Json × List Token) → Option Data
@@ -52,11 +53,7 @@ pub part_failed : {A : Type 0} (form : A → Data) (fits : A → Type 0) (text :
     (ts left : List Token) (e : Unread) (r : Result (Option A) Unread) → r ≡ Err e →
     ts ≡ tokens text → Took (IsAnswer form fits) (values max_depth ts) (Err e) left →
     IsPartOf form fits (read text) r
-part_failed {A} form fits text ts left e r is same h =
-    let P : Result (Option A) Unread → Type 0 = λ x. IsPartOf form fits (read text) x in
-    subst P (sym is) (told e h)
-  where
-    told : (e : Unread) → Took (IsAnswer form fits) (values max_depth ts) (Err e) left →
-        IsPartOf form fits (read text) (Err e)
-    told NotJson k = read_none text (ap (values max_depth) (sym same) ∙ k)
-    told OutOfMemory k = tt
+part_failed form fits text ts left e r is same h =
+    unread (λ x. IsPartOf form fits (read text) x) e r is (λ k.
+    read_none text (ap (values max_depth) (sym same)
+    ∙ subst (λ x. Took (IsAnswer form fits) (values max_depth ts) (Err x) left) k h)) tt
