@@ -65,12 +65,7 @@ number_begun s ts r d (Some n) e f = (n, e, sym (same_first (number n) d ts r f)
 pub begun : (depth : ℕ) (t : Token) (ts r : List Token) (d : Data) →
     values depth (t ∷ ts) ≡ Some (d, r) → Begun t d
 begun depth Token.begin_object ts r d e = object_begun depth ts r d e
-begun depth Token.end_object ts r d e =
-    never _ (d, r) (values_none depth Token.end_object ts refl) e
 begun depth Token.begin_array ts r d e = array_begun depth ts r d e
-begun depth Token.end_array ts r d e =
-    never _ (d, r) (values_none depth Token.end_array ts refl) e
-begun depth (Token.key s) ts r d e = never _ (d, r) (values_none depth (Token.key s) ts refl) e
 begun depth (Token.string s) ts r d e =
     sym (same_first (string s) d ts r (sym (values_string depth s ts) ∙ e))
 begun depth (Token.number s) ts r d e =
@@ -80,7 +75,7 @@ begun depth (Token.boolean b) ts r d e =
     sym (same_first (boolean b) d ts r (sym (values_boolean depth b ts) ∙ e))
 begun depth Token.null ts r d e =
     sym (same_first null d ts r (sym (values_null depth ts) ∙ e))
-begun depth Token.bad ts r d e = never _ (d, r) (values_none depth Token.bad ts refl) e
+begun depth t ts r d e = never _ (d, r) (values_none depth t ts refl) e
 
 -- what begins otherwise is another value
 
@@ -98,15 +93,12 @@ starts t d e b f = subst (λ x. Starts x t) f (by t b)
   where
     by : (t : Token) → Begun t d → Starts d t
     by Token.begin_object b = subst (λ x. Starts x Token.begin_object) (sym b.1) refl
-    by Token.end_object b = absurd b
     by Token.begin_array b = subst (λ x. Starts x Token.begin_array) (sym b.1) refl
-    by Token.end_array b = absurd b
-    by (Token.key s) b = absurd b
     by (Token.string s) b = subst (λ x. Starts x (Token.string s)) (sym b) refl
     by (Token.number s) b = subst (λ x. Starts x (Token.number s)) (sym b.2) (s, refl)
     by (Token.boolean x) b = subst (λ y. Starts y (Token.boolean x)) (sym b) refl
     by Token.null b = subst (λ x. Starts x Token.null) (sym b) refl
-    by Token.bad b = absurd b
+    by t b = absurd b
 
 pub no_list : (t : Token) (d : Data) → is_bracket t ≡ false → Begun t d → (ds : Items) →
     d ≡ array ds → ⊥
@@ -128,13 +120,5 @@ pub no_null : (t : Token) (d : Data) → is_null t ≡ false → Begun t d → d
 no_null t d e b f = cc (sym (ap is_null (starts t d null b f)) ∙ e)
 
 pub null_is : (t : Token) → is_null t ≡ true → t ≡ Token.null
-null_is Token.begin_object e = absurd (cc)
-null_is Token.end_object e = absurd (cc)
-null_is Token.begin_array e = absurd (cc)
-null_is Token.end_array e = absurd (cc)
-null_is (Token.key s) e = absurd (cc)
-null_is (Token.string s) e = absurd (cc)
-null_is (Token.number s) e = absurd (cc)
-null_is (Token.boolean b) e = absurd (cc)
 null_is Token.null e = refl
-null_is Token.bad e = absurd (cc)
+null_is t e = absurd (cc)

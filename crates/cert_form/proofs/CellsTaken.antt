@@ -39,28 +39,12 @@ use Rattle.cert_form.proofs.Forms.{of_none, only}
 -- the token of a number or of a text
 
 pub number_token : (t : Token) (s : List ℕ) → number_in t ≡ Some s → t ≡ Token.number s
-number_token Token.begin_object s e = absurd (cc)
-number_token Token.end_object s e = absurd (cc)
-number_token Token.begin_array s e = absurd (cc)
-number_token Token.end_array s e = absurd (cc)
-number_token (Token.key k) s e = absurd (cc)
-number_token (Token.string k) s e = absurd (cc)
 number_token (Token.number k) s e = cc
-number_token (Token.boolean b) s e = absurd (cc)
-number_token Token.null s e = absurd (cc)
-number_token Token.bad s e = absurd (cc)
+number_token t s e = absurd (cc)
 
 pub text_token : (t : Token) (s : List ℕ) → text_in t ≡ Some s → t ≡ Token.string s
-text_token Token.begin_object s e = absurd (cc)
-text_token Token.end_object s e = absurd (cc)
-text_token Token.begin_array s e = absurd (cc)
-text_token Token.end_array s e = absurd (cc)
-text_token (Token.key k) s e = absurd (cc)
 text_token (Token.string k) s e = cc
-text_token (Token.number k) s e = absurd (cc)
-text_token (Token.boolean b) s e = absurd (cc)
-text_token Token.null s e = absurd (cc)
-text_token Token.bad s e = absurd (cc)
+text_token t s e = absurd (cc)
 
 whole_number : (z : ℤ) → is_float (of_integer z) ≡ false
 whole_number (pos n) = refl
@@ -122,21 +106,15 @@ cell_of (Procedure p) = Cell.Integer (pos p.0)
 
 cell_is : (o : Operand) → cell_data (cell_of o) ≡ operand_data o
 cell_is (Variable v) = refl
-cell_is (Number z) = refl
-cell_is (Address a) = refl
-cell_is (Condition k) = refl
-cell_is (Procedure p) = refl
+cell_is o = refl
 
 cells_are : (os : List Operand) → map cell_data (map cell_of os) ≡ map operand_data os
 cells_are [] = refl
 cells_are (o ∷ os) = λ i. cell_is o i ∷ cells_are os i
 
 cell_fits : (o : Operand) → OperandFits o → CellFits (cell_of o)
-cell_fits (Variable v) h = tt
-cell_fits (Number z) h = tt
 cell_fits (Address a) h = h
-cell_fits (Condition k) h = tt
-cell_fits (Procedure p) h = tt
+cell_fits o h = tt
 
 cells_fit : (os : List Operand) → Each OperandFits os →
     EachAt (λ n c. CellFits c) (map cell_of os)

@@ -74,28 +74,12 @@ another_than_object depth t ts old r d is other e =
 
 -- the token that was taken
 pub bracket_is : (t : Token) → is_bracket t ≡ true → t ≡ Token.begin_array
-bracket_is Token.begin_object e = absurd (cc)
-bracket_is Token.end_object e = absurd (cc)
 bracket_is Token.begin_array e = refl
-bracket_is Token.end_array e = absurd (cc)
-bracket_is (Token.key s) e = absurd (cc)
-bracket_is (Token.string s) e = absurd (cc)
-bracket_is (Token.number s) e = absurd (cc)
-bracket_is (Token.boolean b) e = absurd (cc)
-bracket_is Token.null e = absurd (cc)
-bracket_is Token.bad e = absurd (cc)
+bracket_is t e = absurd (cc)
 
 pub brace_is : (t : Token) → is_brace t ≡ true → t ≡ Token.begin_object
 brace_is Token.begin_object e = refl
-brace_is Token.end_object e = absurd (cc)
-brace_is Token.begin_array e = absurd (cc)
-brace_is Token.end_array e = absurd (cc)
-brace_is (Token.key s) e = absurd (cc)
-brace_is (Token.string s) e = absurd (cc)
-brace_is (Token.number s) e = absurd (cc)
-brace_is (Token.boolean b) e = absurd (cc)
-brace_is Token.null e = absurd (cc)
-brace_is Token.bad e = absurd (cc)
+brace_is t e = absurd (cc)
 
 -- What is told of what is left of a list is told of the list.
 

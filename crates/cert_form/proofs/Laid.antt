@@ -22,18 +22,15 @@ use Rattle.cert_form.proofs.Turns.{converted_some}
 
 less_is : (o : Ordering) → match_ordering o true false false ≡ true → o ≡ Less
 less_is Less e = refl
-less_is Equal e = absurd (cc)
-less_is Greater e = absurd (cc)
+less_is o e = absurd (cc)
 
 equal_is : (o : Ordering) → match_ordering o false true false ≡ true → o ≡ Equal
-equal_is Less e = absurd (cc)
 equal_is Equal e = refl
-equal_is Greater e = absurd (cc)
+equal_is o e = absurd (cc)
 
 greater_is : (o : Ordering) → match_ordering o false false true ≡ true → o ≡ Greater
-greater_is Less e = absurd (cc)
-greater_is Equal e = absurd (cc)
 greater_is Greater e = refl
+greater_is o e = absurd (cc)
 
 -- a key before all of a list
 

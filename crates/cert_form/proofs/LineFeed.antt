@@ -47,15 +47,7 @@ after_value_ends : (ts : List Token) (r : List ℕ) → ends_word r ≡ true →
 unfolding print_from
 after_value_ends [] r h = h
 after_value_ends (begin_object ∷ ts) r h = refl
-after_value_ends (end_object ∷ ts) r h = refl
-after_value_ends (begin_array ∷ ts) r h = refl
-after_value_ends (end_array ∷ ts) r h = refl
-after_value_ends (key s ∷ ts) r h = refl
-after_value_ends (string s ∷ ts) r h = refl
-after_value_ends (number s ∷ ts) r h = refl
-after_value_ends (boolean b ∷ ts) r h = refl
-after_value_ends (null ∷ ts) r h = refl
-after_value_ends (bad ∷ ts) r h = refl
+after_value_ends (t ∷ ts) r h = refl
 
 lex-quoted : (s r : List ℕ) → lex between (quoted s ++ r) ≡ token (string s) ∷ lex between r
 unfolding lex
@@ -157,16 +149,8 @@ mutual
       good_append (json_tokens j) (members_tokens ms) (good_tree j) (good_members ms)
 
 printable_token : (t : Token) → IsPrintableOrBad t → not (is_bad t) ≡ true → IsPrintable t
-printable_token begin_object h e = h
-printable_token end_object h e = h
-printable_token begin_array h e = h
-printable_token end_array h e = h
-printable_token (key s) h e = h
-printable_token (string s) h e = h
-printable_token (number s) h e = h
-printable_token (boolean b) h e = h
-printable_token null h e = h
 printable_token bad h e = absurd (cc)
+printable_token t h e = h
 
 printable : (ts : List Token) → ArePrintableOrBad ts → none_bad ts ≡ true → ArePrintable ts
 unfolding ArePrintable

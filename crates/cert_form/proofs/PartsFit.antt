@@ -6,7 +6,7 @@ use Rattle.std.specs.Int.{w32, w64}
 use Rattle.std.proofs.lemmas.Bool.{ltb-true}
 use Rattle.std.proofs.lemmas.Int.{ints}
 use Rattle.std.proofs.lemmas.Bool.Decides.{nat_tests}
-use Rattle.serde_json.specs.Data.{Data, null, boolean, number, string, array, object}
+use Rattle.serde_json.specs.Data.{Data, null, number}
 use Rattle.serde_json.specs.Find.{at, as_number, as_u64, as_i64}
 use Rattle.pra_list.specs.Options.{◌>>=◌}
 use Rattle.pra_base.specs.declared.ids.VarId.{VarId}
@@ -158,11 +158,7 @@ some_index d =
 
 index_fits : (d : Data) → IfSome (index_of d) IndexFits
 index_fits null = tt
-index_fits (boolean b) = some_index (boolean b)
-index_fits (number n) = some_index (number n)
-index_fits (string s) = some_index (string s)
-index_fits (array ds) = some_index (array ds)
-index_fits (object ms) = some_index (object ms)
+index_fits d = some_index d
 
 index_at_fits : (d : Data) → IfSome (at 3 d >>= index_of) IndexFits
 index_at_fits d = of_any IndexFits (at 3 d) index_of index_fits

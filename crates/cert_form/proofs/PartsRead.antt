@@ -18,12 +18,12 @@ use Rattle.pra_base.specs.declared.ids.BlockId.{BlockId}
 use Rattle.pra_base.specs.declared.ids.Cond.{Cond}
 use Rattle.pra_base.specs.declared.ids.ShiftOp.{ShiftOp}
 use Rattle.pra_base.specs.declared.ids.ShiftOp.TheVariants.{Shl, Shr, Sar}
-use Rattle.pra_base.specs.declared.ids.Cond.TheVariants.{B, Ae, E, Ne, Be, A, S, Ns, L, Ge, Le, G}
+use Rattle.pra_base.specs.declared.ids.Cond.TheVariants.{B, A}
 use Rattle.pra_base.specs.declared.ids.Place.{Place}
 use Rattle.pra_base.specs.declared.code.VarKind.{VarKind}
 use Rattle.pra_base.specs.declared.code.VarKind.TheVariants.{Param, Plain, Constant}
 use Rattle.pra_base.specs.declared.code.Base.{Base}
-use Rattle.pra_base.specs.declared.code.Base.TheVariants.{Global, Frame, Cell, Via}
+use Rattle.pra_base.specs.declared.code.Base.TheVariants.{Global}
 use Rattle.pra_base.specs.declared.code.Addr.{Addr}
 use Rattle.pra_base.specs.declared.code.VInstr.{VInstr}
 use Rattle.pra_base.specs.declared.code.VInstr.TheVariants as instr
@@ -130,17 +130,7 @@ variable_here i d v e h =
 
 cond_back : (k : Cond) → cond_of (cond_number k) ≡ Some k
 cond_back B = refl
-cond_back Ae = refl
-cond_back E = refl
-cond_back Ne = refl
-cond_back Be = refl
-cond_back A = refl
-cond_back S = refl
-cond_back Ns = refl
-cond_back L = refl
-cond_back Ge = refl
-cond_back Le = refl
-cond_back G = refl
+cond_back k = refl
 
 condition_here : (i : ℕ) (d : Data) (k : Cond) → at i d ≡ Some (natural (cond_number k)) →
     condition_at i d ≡ Some k
@@ -160,9 +150,7 @@ kind_read (Constant c) h = one (integer_at 1 (kind_data (Constant c))) c (λ n. 
 
 base_back : (b : Base) → base_of (base_name b) (base_number b) ≡ Some b
 base_back (Global n) = refl
-base_back (Frame n) = refl
-base_back (Cell n) = refl
-base_back (Via v) = refl
+base_back b = refl
 
 index_back : (o : Option VarId) → IfSome o (λ v. IsNatural v.0) → index_of (index_data o) ≡ Some o
 index_back None h = refl
@@ -191,31 +179,7 @@ address_here i d a e h = one (at i d) (address_data a) address_of e ∙ address_
 
 form_back : (f : Form) → form_named (name f) ≡ Some f
 form_back form.Set = refl
-form_back form.Copy = refl
-form_back form.Add = refl
-form_back form.Sub = refl
-form_back form.And = refl
-form_back form.Or = refl
-form_back form.Xor = refl
-form_back form.Mul = refl
-form_back form.Neg = refl
-form_back form.Shl = refl
-form_back form.Shr = refl
-form_back form.Sar = refl
-form_back form.Cmp = refl
-form_back form.CmpSet = refl
-form_back form.DivMod = refl
-form_back form.Check = refl
-form_back form.CheckPos = refl
-form_back form.Load = refl
-form_back form.Store = refl
-form_back form.Addr = refl
-form_back form.Push = refl
-form_back form.Call = refl
-form_back form.Read = refl
-form_back form.Write = refl
-form_back form.Line = refl
-form_back form.Clear = refl
+form_back f = refl
 
 -- what is made of a shift's form is made of its shift
 shift_form_made : (op : ShiftOp) (d : Data) → made (shift_form op) d ≡ shift_made op d

@@ -18,13 +18,11 @@ use Rattle.cert_form.proofs.PartsRead.{kind_read, instruction_read, end_read}
 
 kind_spells : (k : VarKind) → kind_data k ≡ spelled (kind_word k) (kind_operands k)
 kind_spells (Param i) = refl
-kind_spells Plain = refl
-kind_spells (Constant c) = refl
+kind_spells k = refl
 
 kind_few : (k : VarKind) → length (kind_operands k) ≤ 4
 kind_few (Param i) = omega arith
-kind_few Plain = omega arith
-kind_few (Constant c) = omega arith
+kind_few k = omega arith
 
 kind_operands_fit : (k : VarKind) → KindFits k → Each OperandFits (kind_operands k)
 kind_operands_fit (Param i) h = (h, tt)
@@ -42,29 +40,7 @@ kinds_spelled = record {
 
 instruction_few : (i : VInstr) → length (operands_of i) ≤ 4
 instruction_few (instr.Set v c) = omega arith
-instruction_few (instr.Copy v s) = omega arith
-instruction_few (instr.Add v s) = omega arith
-instruction_few (instr.Sub v s) = omega arith
-instruction_few (instr.And v s) = omega arith
-instruction_few (instr.Or v s) = omega arith
-instruction_few (instr.Xor v s) = omega arith
-instruction_few (instr.Mul v s) = omega arith
-instruction_few (instr.Neg v) = omega arith
-instruction_few (instr.Shift op v n) = omega arith
-instruction_few (instr.Cmp a b) = omega arith
-instruction_few (instr.CmpSet k v a b) = omega arith
-instruction_few (instr.DivMod q r a d) = omega arith
-instruction_few (instr.Check i n) = omega arith
-instruction_few (instr.CheckPos d) = omega arith
-instruction_few (instr.Load v m) = omega arith
-instruction_few (instr.Store m s) = omega arith
-instruction_few (instr.Addr v m) = omega arith
-instruction_few (instr.Push s) = omega arith
-instruction_few (instr.Call p) = omega arith
-instruction_few (instr.Read v) = omega arith
-instruction_few (instr.Write s) = omega arith
-instruction_few instr.Line = omega arith
-instruction_few instr.Clear = omega arith
+instruction_few i = omega arith
 
 pub instructions_spelled : AreSpelled instruction_of instruction_data InstructionFits
     (λ i. name (form_of i)) operands_of
@@ -78,13 +54,11 @@ instructions_spelled = record {
 
 end_spells : (e : End) → end_data e ≡ spelled (end_word e) (end_operands e)
 end_spells (Jump b) = refl
-end_spells (Branch k taken other) = refl
-end_spells Return = refl
+end_spells e = refl
 
 end_few : (e : End) → length (end_operands e) ≤ 4
 end_few (Jump b) = omega arith
-end_few (Branch k taken other) = omega arith
-end_few Return = omega arith
+end_few e = omega arith
 
 end_operands_fit : (e : End) → EndFits e → Each OperandFits (end_operands e)
 end_operands_fit (Jump b) h = (h, tt)

@@ -283,19 +283,14 @@ begins_none _ = false
 pub values_none : (depth : ℕ) (t : Token) (ts : List Token) → begins_none t ≡ true →
     values depth (t ∷ ts) ≡ None
 unfolding values
-values_none depth Token.begin_object ts e = absurd (cc)
 values_none depth Token.end_object ts e =
     ap (converted of_json) (value_is depth (Token.end_object ∷ ts))
-values_none depth Token.begin_array ts e = absurd (cc)
 values_none depth Token.end_array ts e =
     ap (converted of_json) (value_is depth (Token.end_array ∷ ts))
 values_none depth (Token.key s) ts e =
     ap (converted of_json) (value_is depth (Token.key s ∷ ts))
-values_none depth (Token.string s) ts e = absurd (cc)
-values_none depth (Token.number s) ts e = absurd (cc)
-values_none depth (Token.boolean b) ts e = absurd (cc)
-values_none depth Token.null ts e = absurd (cc)
 values_none depth Token.bad ts e = ap (converted of_json) (value_is depth (Token.bad ∷ ts))
+values_none depth t ts e = absurd (cc)
 
 -- nothing nests any deeper
 pub values_no_array : (depth : ℕ) (ts : List Token) → depth ≡ 0 →
