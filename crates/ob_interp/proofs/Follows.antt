@@ -66,8 +66,7 @@ after_then s (Normal t) k h g = record {
   prefix = prefix_trans (done s) (done t) (progress_of (k t))
       h.prefix (g t).prefix;
 }
-after_then s (Trapped trap t) k h g = h
-after_then s (Going t) k h g = h
+after_then s m k h g = h
 
 with_after : {A : Type 0} (x : Result A TrapKind) (s : State) (k : A → Completion) → ((a : A) →
     After s (k a)) → After s (with x s k)

@@ -66,16 +66,14 @@ beside (Local d m) n = Local d n
 
 beside_both : (o : Object) (n m : ℕ) → beside (beside o n) m ≡ beside o m
 beside_both (Module k) n m = refl
-beside_both (Param d k) n m = refl
-beside_both (Local d k) n m = refl
+beside_both o n m = refl
 
 abbrev Apart : Object → Object → Type 0
 Apart o q = beside o 0 ≢ beside q 0
 
 untied_by : (r : Ordering) (l m : Location) → location_cmp l m ≡ r → l ≢ m → is_eq r ≡ false
-untied_by Less l m e d = refl
 untied_by Equal l m e d = absurd (d (tied l m e))
-untied_by Greater l m e d = refl
+untied_by r l m e d = refl
 
 untied : (l m : Location) → Apart l.object m.object → eq_by_cmp location_cmp l m ≡ false
 untied l m d = untied_by (location_cmp l m) l m refl
@@ -199,9 +197,8 @@ same_part k e is = finite.slice_cmp-IsAntisymmetric finite.nat_cmp-IsAntisymmetr
     (e.0 ∷ e.1.items) is
 
 equal_by : (r : Ordering) → is_eq r ≡ true → r ≡ Equal
-equal_by Less e = absurd (cc)
 equal_by Equal e = refl
-equal_by Greater e = absurd (cc)
+equal_by r e = absurd (cc)
 
 -- whether a part is the one that is asked for is a fact on its number and path
 abbrev asks : List ℕ → List ℕ → Bool

@@ -52,8 +52,7 @@ next-item xs i x h is =
 
 then_same : (h : Halt) (f g : Counting) → ((c : Counted) → f c ≡ g c) → then_go h f ≡ then_go h g
 then_same (Done c) f g e = e c
-then_same (Failed trap c) f g e = refl
-then_same (Stopped c) f g e = refl
+then_same h f g e = refl
 
 -- ---- what statements are due for
 
@@ -251,14 +250,8 @@ module _ where
 
   pub weight-other : (y : RStmt-F RStmt RArm) →
       1 ≤ weight_step (map-RStmt RStmt RArm ℕ ℕ weight (fold-RArm ℕ ℕ weight_step (λ arm. 0)) y)
-  weight-other (RStmt-F.Assign v e) = omega arith
-  weight-other (RStmt-F.If arms other) = omega arith
-  weight-other (RStmt-F.While test ts) = omega arith
   weight-other (RStmt-F.Repeat ts test) = omega arith
-  weight-other (RStmt-F.Call proc args) = omega arith
-  weight-other (RStmt-F.Read v) = omega arith
-  weight-other (RStmt-F.Write e) = omega arith
-  weight-other RStmt-F.WriteLine = omega arith
+  weight-other y = omega arith
 
   pub weight-some : (t : RStmt) → 1 ≤ weight t
   weight-some t = subst (λ z. 1 ≤ weight z) (roll-out-RStmt t) (subst (λ n. 1 ≤ n)

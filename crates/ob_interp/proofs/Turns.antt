@@ -15,7 +15,7 @@ use Rattle.ob_syntax.specs.declared.checked.RArm.{RArm, RArm-F, roll-RArm, fold-
 use Rattle.ob_mean.specs.declared.store.Argument.{Argument}
 use Rattle.ob_mean.specs.declared.store.LiveCall.{LiveCall}
 use Rattle.ob_mean.specs.Expressions.{value}
-use Rattle.ob_mean.specs.Statements.{Completion, Normal, Trapped, Going, Run, arguments, stmt_step}
+use Rattle.ob_mean.specs.Statements.{Completion, Normal, Run, arguments, stmt_step}
 use Rattle.ob_mean.specs.Program.{body, live_frames, frame_of}
 use Rattle.ob_interp.specs.Units.{Counted, Halt, Done, Failed, Stopped, Counting, unit, then_go}
 use Rattle.ob_interp.specs.Units.{given, halt, does, while_units, repeat_units, Granted}
@@ -28,8 +28,7 @@ use Rattle.ob_interp.specs.Units.{counted_all, in_call, within_stack, counted_ca
 pub then_after : (h : Halt) (f g : Counting) → then_go (then_go h f) g
     ≡ then_go h (λ c. then_go (f c) g)
 then_after (Done c) f g = refl
-then_after (Failed trap c) f g = refl
-then_after (Stopped c) f g = refl
+then_after h f g = refl
 
 pub given_then : {A : Type 0} (x : Result A TrapKind) (c : Counted) (f : A → Halt) (g : Counting) →
     then_go (given x c f) g ≡ given x c (λ a. then_go (f a) g)
@@ -88,8 +87,7 @@ later_if false c x y p q = q
 
 begun_later : (c : Counted) (h : Halt) → Later (record c { units = c.units + 1 }) h → Later c h
 begun_later c (Done d) l = omega (arith, l)
-begun_later c (Failed trap d) l = tt
-begun_later c (Stopped d) l = tt
+begun_later c h l = tt
 
 unit_adds : (granted : ℕ) (r : Counting) → Adds r → Adds (unit granted r)
 unit_adds granted r a = record {
@@ -100,8 +98,7 @@ unit_adds granted r a = record {
 
 halt_later : (units : ℕ) (m : Completion) (c : Counted) → c.units ≡ units → Later c (halt units m)
 halt_later units (Normal s) c e = omega (arith, e)
-halt_later units (Trapped trap s) c e = tt
-halt_later units (Going s) c e = tt
+halt_later units m c e = tt
 
 does_adds : (m : Run) → Adds (does m)
 does_adds m = record { later = λ c. halt_later c.units (m c.state) c refl }
@@ -183,7 +180,6 @@ module _ (program : Checked) where
   stmt_adds : (y : WithFair) (a : Granted) → AddsUnits a → Adds (counted_step program
       (map-RStmt RStmt RArm CountedStatement CountedArm (counted program) (counted_arm program)
       (plain y)) a)
-  stmt_adds (RStmt-F.Assign v e) a h = unit_adds a.granted _ (does_adds _)
   stmt_adds (RStmt-F.If arms other) a h =
       unit_adds a.granted _ (first_adds arms other a h)
   stmt_adds (RStmt-F.While test ts) a h =
@@ -193,10 +189,9 @@ module _ (program : Checked) where
   stmt_adds (RStmt-F.Call proc args) a h =
       unit_adds a.granted _ (call_adds (λ c. arguments program a.calls c.state.store args)
       (a.call proc.0) (h proc.0))
-  stmt_adds (RStmt-F.Read v) a h = unit_adds a.granted _ (does_adds _)
-  stmt_adds (RStmt-F.Write e) a h = unit_adds a.granted _ (does_adds _)
   stmt_adds RStmt-F.WriteLine a h =
       unit_adds a.granted _ (does_adds (stmt_step program RStmt-F.WriteLine (alone a.calls)))
+  stmt_adds y a h = unit_adds a.granted _ (does_adds _)
 
   arm_fair : (y : RArm-F ((t : RStmt) × IsFair t) ((t : RArm) × IsFairArm t)) →
       IsFairArm (roll-RArm (record { test = y.test; body = map (λ e. e.0) y.body }))
@@ -288,15 +283,10 @@ module _ (program : Checked) where
       (c : Counted) → a.granted ≤ c.units → counted_step program
       (map-RStmt RStmt RArm CountedStatement CountedArm (counted program) (counted_arm program)
       (plain_idle y)) a c ≡ Stopped c
-  stmt_idle (RStmt-F.Assign v e) a c le = unit_idle a.granted _ c le
-  stmt_idle (RStmt-F.If arms other) a c le = unit_idle a.granted _ c le
   stmt_idle (RStmt-F.While test ts) a c le = while_idle a.granted a.granted _ _ c le
   stmt_idle (RStmt-F.Repeat ts test) a c le =
       repeat_idle a.granted a.granted _ _ c le (in_order_idle ts a c le)
-  stmt_idle (RStmt-F.Call proc args) a c le = unit_idle a.granted _ c le
-  stmt_idle (RStmt-F.Read v) a c le = unit_idle a.granted _ c le
-  stmt_idle (RStmt-F.Write e) a c le = unit_idle a.granted _ c le
-  stmt_idle RStmt-F.WriteLine a c le = unit_idle a.granted _ c le
+  stmt_idle y a c le = unit_idle a.granted _ c le
 
   pub idle : (t : RStmt) → IsIdle t
   idle = ind-RStmt IsIdle AnyArm
@@ -324,8 +314,7 @@ same_unit granted r q c e = ap (λ h. if nat_lt c.units granted then h else Stop
 same_then : (c : Counted) (h : Halt) (k q : Counting) → Later c h → ((d : Counted) →
     c.units ≤ d.units → k d ≡ q d) → then_go h k ≡ then_go h q
 same_then c (Done d) k q l e = e d l
-same_then c (Failed trap d) k q l e = refl
-same_then c (Stopped d) k q l e = refl
+same_then c h k q l e = refl
 
 pub while_more : (n granted : ℕ) (test : Counted → Outcome) (r : Counting) → Adds r →
     (c : Counted) → granted ≤ c.units + n → while_units n granted test r c
