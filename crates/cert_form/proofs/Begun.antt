@@ -14,15 +14,12 @@ use Rattle.cert_form.proofs.Turns.{values_no_object}
 
 abbrev pub Begun : Token → Data → Type 0
 Begun Token.begin_object d = (ms : Members) × (d ≡ object ms)
-Begun Token.end_object d = ⊥
 Begun Token.begin_array d = (ds : Items) × (d ≡ array ds)
-Begun Token.end_array d = ⊥
-Begun (Token.key s) d = ⊥
 Begun (Token.string s) d = d ≡ string s
 Begun (Token.number s) d = (n : Num) × (number_of s ≡ Some n) × (d ≡ number n)
 Begun (Token.boolean b) d = d ≡ boolean b
 Begun Token.null d = d ≡ null
-Begun Token.bad d = ⊥
+Begun _ d = ⊥
 
 abbrev first_or : {A : Type 0} → A → Option (A × List Token) → A
 first_or a None = a

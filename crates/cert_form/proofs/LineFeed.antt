@@ -60,10 +60,6 @@ lex-token_text : (t : Token) (r : List ℕ) → IsPrintable t →
     (ends t ≡ true → ends_word r ≡ true) →
     lex between (token_text t ++ r) ≡ token_lexemes t ++ lex between r
 unfolding lex word
-lex-token_text begin_object r h ended = refl
-lex-token_text end_object r h ended = refl
-lex-token_text begin_array r h ended = refl
-lex-token_text end_array r h ended = refl
 lex-token_text (key s) r h ended =
     ap (lex between) (append_assoc (quoted s) (58 ∷ []) r) ∙ lex-quoted s (58 ∷ r)
 lex-token_text (string s) r h ended = lex-quoted s r
@@ -75,6 +71,7 @@ lex-token_text (boolean false) r h ended =
 lex-token_text null r h ended =
     ap₂ (λ b l. token (cond b null bad) ∷ l) (ended refl) (in_word-ended r (ended refl))
 lex-token_text bad r h ended = absurd h
+lex-token_text t r h ended = refl
 
 lex-separator : (b : Bool) (r : List ℕ) →
     lex between (cond b (44 ∷ []) [] ++ r) ≡ cond b (comma ∷ []) [] ++ lex between r
@@ -131,12 +128,9 @@ good_append (x ∷ xs) ys e f =
 
 mutual
   good_tree : (j : json.Json) → none_bad (json_tokens j) ≡ true
-  good_tree json.null = refl
-  good_tree (json.boolean b) = refl
-  good_tree (json.number s) = refl
-  good_tree (json.string s) = refl
   good_tree (json.array js) = good_items js
   good_tree (json.object ms) = good_members ms
+  good_tree j = refl
 
   good_items : (js : json.Items) → none_bad (items_tokens js) ≡ true
   good_items json.no_items = refl

@@ -73,10 +73,8 @@ of_two P R Q o p f h k g =
 
 pub long_natural_fits : (d : Data) → IfSome (long_natural d) IsLong
 long_natural_fits d =
-    of_any IsLong (as_number d >>= as_u64)
-    (λ n. if nat_lt n 18446744073709551616 then Some n else None)
-    (λ n. guarded IsLong (nat_lt n 18446744073709551616) (Some n)
-    (ltb-true n 18446744073709551616))
+    of_any IsLong (as_number d >>= as_u64) _ (λ n.
+    guarded IsLong _ (Some n) (ltb-true n 18446744073709551616))
 
 pub natural_fits : (d : Data) → IfSome (natural_of d) IsNatural
 natural_fits d =
@@ -165,12 +163,9 @@ index_at_fits d = of_any IndexFits (at 3 d) index_of index_fits
 
 pub address_fits : (d : Data) → IfSome (address_of d) AddressFits
 address_fits d =
-    let offset = λ (b : Base). integer_at 2 d >>= (λ o. at 3 d >>= index_of >>= (λ i.
-    let a : Addr = record { base = b; offset = o; index = i } in Some a)) in
-    let based = λ (word : List ℕ) (n : ℕ). base_of word n >>= offset in
-    of_any AddressFits (word_at 0 d) (λ word. natural_at 1 d >>= based word) (λ word.
-    of_fit IsNatural AddressFits (natural_at 1 d) (based word) (natural_at_fits 1 d) (λ n h.
-    of_fit BaseFits AddressFits (base_of word n) offset (base_fits word n h) (λ b p.
+    of_any AddressFits (word_at 0 d) _ (λ word.
+    of_fit IsNatural AddressFits (natural_at 1 d) _ (natural_at_fits 1 d) (λ n h.
+    of_fit BaseFits AddressFits (base_of word n) _ (base_fits word n h) (λ b p.
     of_two (FitsSigned w32) IndexFits AddressFits (integer_at 2 d) (at 3 d >>= index_of)
     (λ o i. let a : Addr = record { base = b; offset = o; index = i } in a)
     (integer_at_fits 2 d) (index_at_fits d) (λ o i q r. (p, q, r)))))
@@ -208,21 +203,16 @@ with_address d f h =
 
 cmpset_fits : (d : Data) → IfSome (made form.CmpSet d) InstructionFits
 cmpset_fits d =
-    let last = λ (k : Cond) (v : VarId). variable_at 3 d >>= (λ a. variable_at 4 d >>= (λ b.
-    Some (instr.CmpSet k v a b))) in
-    of_any InstructionFits (condition_at 1 d) (λ k. variable_at 2 d >>= last k) (λ k.
-    of_fit IsVariable InstructionFits (variable_at 2 d) (last k) (variable_fits 2 d) (λ v h.
+    of_any InstructionFits (condition_at 1 d) _ (λ k.
+    of_fit IsVariable InstructionFits (variable_at 2 d) _ (variable_fits 2 d) (λ v h.
     of_two IsVariable IsVariable InstructionFits (variable_at 3 d) (variable_at 4 d)
     (instr.CmpSet k v) (variable_fits 3 d) (variable_fits 4 d)
     (λ a b p q. (tt, (h, (p, (q, tt)))))))
 
 divmod_fits : (x : Data) → IfSome (made form.DivMod x) InstructionFits
 divmod_fits x =
-    let last = λ (q r : VarId). variable_at 3 x >>= (λ a. variable_at 4 x >>= (λ d.
-    Some (instr.DivMod q r a d))) in
-    let rest = λ (q : VarId). variable_at 2 x >>= last q in
-    of_fit IsVariable InstructionFits (variable_at 1 x) rest (variable_fits 1 x) (λ q g.
-    of_fit IsVariable InstructionFits (variable_at 2 x) (last q) (variable_fits 2 x) (λ r h.
+    of_fit IsVariable InstructionFits (variable_at 1 x) _ (variable_fits 1 x) (λ q g.
+    of_fit IsVariable InstructionFits (variable_at 2 x) _ (variable_fits 2 x) (λ r h.
     of_two IsVariable IsVariable InstructionFits (variable_at 3 x) (variable_at 4 x)
     (instr.DivMod q r) (variable_fits 3 x) (variable_fits 4 x)
     (λ a d k l. (g, (h, (k, (l, tt)))))))
@@ -261,13 +251,12 @@ made_fits form.Call d =
     (λ n. let p : ProcId = record { 0 = n } in instr.Call p) (natural_at_fits 1 d) (λ n h. (h, tt))
 made_fits form.Read d = variable_alone d instr.Read (λ v h. (h, tt))
 made_fits form.Write d = variable_alone d instr.Write (λ v h. (h, tt))
-made_fits form.Line d = tt
-made_fits form.Clear d = tt
+made_fits f d = tt
 
 pub instruction_fits : (d : Data) → IfSome (instruction_of d) InstructionFits
 instruction_fits d =
-    of_any InstructionFits (word_at 0 d) (λ word. form_named word >>= (λ f. made f d))
-    (λ word. of_any InstructionFits (form_named word) (λ f. made f d) (λ f. made_fits f d))
+    of_any InstructionFits (word_at 0 d) _ (λ word.
+    of_any InstructionFits (form_named word) _ (λ f. made_fits f d))
 
 -- Ends.
 

@@ -18,7 +18,7 @@ use Rattle.pra_base.specs.declared.ids.BlockId.{BlockId}
 use Rattle.pra_base.specs.declared.ids.Cond.{Cond}
 use Rattle.pra_base.specs.declared.ids.ShiftOp.{ShiftOp}
 use Rattle.pra_base.specs.declared.ids.ShiftOp.TheVariants.{Shl, Shr, Sar}
-use Rattle.pra_base.specs.declared.ids.Cond.TheVariants.{B, A}
+use Rattle.pra_base.specs.declared.ids.Cond.TheVariants.{B}
 use Rattle.pra_base.specs.declared.ids.Place.{Place}
 use Rattle.pra_base.specs.declared.code.VarKind.{VarKind}
 use Rattle.pra_base.specs.declared.code.VarKind.TheVariants.{Param, Plain, Constant}
@@ -274,8 +274,7 @@ made_read (instr.Call p) h =
     (natural_here 1 x p.0 refl h.0)
 made_read (instr.Read v) h = one_variable (name form.Read) instr.Read v h
 made_read (instr.Write s) h = one_variable (name form.Write) instr.Write s h
-made_read instr.Line h = refl
-made_read instr.Clear h = refl
+made_read i h = refl
 
 pub instruction_read : (i : VInstr) → InstructionFits i →
     instruction_of (instruction_data i) ≡ Some i

@@ -114,9 +114,6 @@ answered {A} of form fits back fit d same = by (of d) refl
 
 pub address_answer : (w : List ℕ) (ms : List Mark) →
     IsAnswer address_data AddressFits (address_in w ms) (marked w ms)
-address_answer w [] = λ a h e. cc
-address_answer w (m ∷ []) = λ a h e. cc
-address_answer w (m ∷ n ∷ []) = λ a h e. cc
 address_answer w (m ∷ n ∷ o ∷ []) =
     answered address_of address_data AddressFits address_read address_fits
     (marked w (m ∷ n ∷ o ∷ [])) (λ a e.
@@ -141,6 +138,7 @@ address_answer w (m ∷ n ∷ o ∷ p ∷ ms) =
     let P : Bool → Type 0 =
     λ b. IsAnswer address_data AddressFits (if b then address_of d else None) d in
     subst P (sym long) (λ a h e. cc)
+address_answer w ms = λ a h e. cc
 
 pub cap_answer : (ms : List Mark) → IsAnswer cap_data CapFits (cap_in ms) (marks_row ms)
 cap_answer [] = λ c h e. cc
