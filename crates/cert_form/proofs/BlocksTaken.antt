@@ -71,15 +71,17 @@ module _ (depth : ℕ) where
 
 pub other_items : {A B : Type 0} (P : B → Items → Type 0) (form : A → Data) (fits : A → Type 0)
     (depth : ℕ) (whole : Option (Items × List Token)) (f : Items → Items) (ts left : List Token)
-    (found : B) → whole ≡ parse_map f (rests depth ts) → TookItem form fits depth ts (Ok None) left →
+    (found : B) → whole ≡ parse_map f (rests depth ts) →
+    TookItem form fits depth ts (Ok None) left →
     ((ds : Items) → ((x : A) (more : Items) → fits x → ds ≡ item (form x) more → ⊥) →
     P found (f ds)) → Took P whole (Ok found) left
 other_items P form fits depth whole f ts left found is h told =
     (f h.0, is ∙ ap (parse_map f) h.1, told h.0 h.2)
 
 pub item_failed : {A B : Type 0} (P : B → Items → Type 0) (form : A → Data) (fits : A → Type 0)
-    (depth : ℕ) (whole : Option (Items × List Token)) (f : Items → Items) (ts left rest : List Token)
-    (e : Unread) (r : Result B Unread) → whole ≡ parse_map f (rests depth ts) → r ≡ Err e →
+    (depth : ℕ) (whole : Option (Items × List Token)) (f : Items → Items)
+    (ts left rest : List Token) (e : Unread) (r : Result B Unread) →
+    whole ≡ parse_map f (rests depth ts) → r ≡ Err e →
     TookItem form fits depth ts (Err e) rest → Took P whole r left
 item_failed P form fits depth whole f ts left rest e r is same h =
     unread (λ x. Took P whole x left) e r same

@@ -272,9 +272,9 @@ module _ (depth : ℕ) (ts : List Token) where
   no_first r e = (no_items, rests_over depth ts r e, λ w more f. cc)
 
   module _ (now : List Token) (going : (after_end_array ts ≡ None) × (now ≡ ts)) where
-    pub first_taken : (d : Data) (r : List Token) (w : Bor (List ℕ)) (found : Option (Bor (List ℕ))) →
-        found ≡ Some w → values depth now ≡ Some (d, r) → IsText found d →
-        TookWord depth ts (Ok (Some w)) r
+    pub first_taken : (d : Data) (r : List Token) (w : Bor (List ℕ))
+        (found : Option (Bor (List ℕ))) → found ≡ Some w →
+        values depth now ≡ Some (d, r) → IsText found d → TookWord depth ts (Ok (Some w)) r
     first_taken d r w found is e h =
         rests_more depth ts d r going.0 (ap (values depth) (sym going.1) ∙ e)
         ∙ ap (λ k. parse_map (item k) (rests depth r)) (rw is at h)

@@ -70,8 +70,8 @@ put_by : (k l : List ℕ) (d e : Data) (ms : Members) (o : Ordering) → slice_c
     put k d (member l e ms) ≡
     match_ordering o (member k d (member l e ms)) (member l d ms) (member l e (put k d ms))
 put_by k l d e ms o is =
-    ap (λ c. match_ordering c (member k d (member l e ms)) (member l d ms) (member l e (put k d ms)))
-    is
+    ap (λ c. match_ordering c (member k d (member l e ms)) (member l d ms)
+    (member l e (put k d ms))) is
 
 -- put before all of them
 

@@ -16,8 +16,8 @@ returns-then-not-is_brace c =
     let first : c.args.reader.now ≡ t ∷ c.next.new.self = search rules in
     let other : is_brace t ≡ false = search rules in
     let read = c.in_ok-pass_begun.ensures in
-    another_than_object c.args.depth t c.next.new.self c.args.reader.now c.pass_begun.new.reader read.0
-    first other read.1
+    another_than_object c.args.depth t c.next.new.self c.args.reader.now c.pass_begun.new.reader
+    read.0 first other read.1
 
 pub returns-then-depth-eq0 : goal.returns-then-depth-eq0
 returns-then-depth-eq0 c =

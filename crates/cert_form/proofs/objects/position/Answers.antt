@@ -13,7 +13,8 @@ returns-then-is_key_at c =
     let same : bytes_eq (get_or names c.loop-at.at []) c.args.key.now ≡ true = cc in
     let less : c.loop-at.at < length c.args.keys.now = search rules in
     let long : length names ≡ length c.args.keys.now = length-map c.args.keys.now (λ s. s.now) in
-    (omega (arith, less, long), (bytes_eq-Decides (get_or names c.loop-at.at []) c.args.key.now).0 same)
+    let at = get_or names c.loop-at.at [] in
+    (omega (arith, less, long), (bytes_eq-Decides at c.args.key.now).0 same)
 
 pub loop-at-preserved : goal.loop-at-preserved
 loop-at-preserved c = λ i less e.

@@ -122,8 +122,9 @@ pub pass_items-returns-in_err-pass : goal.pass_items-returns-in_err-pass
 pass_items-returns-in_err-pass t c =
     let going : (after_end_array c.items.reader ≡ None)
     × (c.take_end_array.new.self ≡ c.items.reader) = grind arith in
-    failed {A = Unit {0}} {B = Unit {0}} IsAny IsAny (values c.args.depth c.take_end_array.new.self) _ c.pass.new.reader _
-    c.in_err-pass.field-0.0 c.from_residual.result (search rules)
+    failed {A = Unit {0}} {B = Unit {0}} IsAny IsAny
+    (values c.args.depth c.take_end_array.new.self) _ c.pass.new.reader _ c.in_err-pass.field-0.0
+    c.from_residual.result (search rules)
     (λ none. c.items.invariant.1 ∙ ap (parse_map c.items.invariant.0)
     (rests_none c.args.depth c.items.reader going.0
     (ap (values c.args.depth) (sym going.1) ∙ none))) c.in_err-pass.ensures
@@ -175,8 +176,8 @@ pass_members-returns-in_err-pass t c = λ before.
     let k = c.in-Some.field-0.now in
     let s = c.next_key.new.self in
     let named : read_key c.members.reader ≡ Some (Some k, s) = grind arith in
-    failed {A = Unit {0}} {B = Unit {0}} IsAny IsAny (values c.args.depth s) _ c.pass.new.reader _ c.in_err-pass.field-0.0
-    c.from_residual-in_err-pass.result (search rules)
+    failed {A = Unit {0}} {B = Unit {0}} IsAny IsAny (values c.args.depth s) _ c.pass.new.reader _
+    c.in_err-pass.field-0.0 c.from_residual-in_err-pass.result (search rules)
     (λ none. now.1 ∙ entries_none now.0 c.args.depth c.members.reader k s named none)
     c.in_err-pass.ensures
 
