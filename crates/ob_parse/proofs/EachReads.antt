@@ -7,10 +7,7 @@ use Rattle.std.proofs.lemmas.Bool.{cases_lt}
 use Rattle.std.proofs.lemmas.Bool.Decides.{nat_tests}
 use Rattle.pra_list.proofs.Truths.{or_cases}
 use Rattle.ob_syntax.specs.declared.token.Kind.{Kind}
-use Rattle.ob_syntax.specs.declared.token.Kind.TheVariants.{Ident, KwArray, KwElse, KwElsif, KwIf}
-use Rattle.ob_syntax.specs.declared.token.Kind.TheVariants.{KwProcedure, KwRepeat, KwWhile, Period}
-use Rattle.ob_syntax.specs.declared.token.Kind.TheVariants.{Comma, Becomes, LeftParen, LeftBracket}
-use Rattle.ob_syntax.specs.declared.token.Kind.TheVariants.{Tilde}
+use Rattle.ob_syntax.specs.declared.token.Kind.TheVariants.{Ident, Period, LeftBracket, Becomes}
 use Rattle.ob_syntax.specs.Grammar.{Nonterminal, Selectors, Selector, Factor, Factors, Term, Terms}
 use Rattle.ob_syntax.specs.Grammar.{Sign, SimpleExpression, Comparison, Expression, ArgumentList}
 use Rattle.ob_syntax.specs.Grammar.{Arguments, ActualParameters, Arm, Elsifs, Arms, Else, Action}
@@ -21,11 +18,7 @@ use Rattle.ob_syntax.specs.Grammar.{Procedure, Procedures, Constant, ConstantLis
 use Rattle.ob_syntax.specs.Grammar.{TypeDeclaration, TypeList, Types, VariableList, Variables}
 use Rattle.ob_syntax.specs.Grammar.{Declarations, Body, Module}
 use Rattle.ob_syntax.specs.Grammar.{Nesting, level, deeper, inner, Symbol, token, phrase, Rule}
-use Rattle.ob_syntax.specs.Grammar.{right, index, parenthesis, negation, arguments, next_argument}
-use Rattle.ob_syntax.specs.Grammar.{next_elsif, otherwise, if_statement, while_statement}
-use Rattle.ob_syntax.specs.Grammar.{repeat_statement, statement, field_list, array, next_constant}
-use Rattle.ob_syntax.specs.Grammar.{next_type, next_variables, next_procedure, assignment, call}
-use Rattle.ob_syntax.specs.Grammar.{no_selectors}
+use Rattle.ob_syntax.specs.Grammar.{right, assignment, call, no_selectors}
 use Rattle.ob_syntax.specs.Forms.{nest}
 use Rattle.ob_syntax.specs.ChosenRule.{first, by_first, behind_name, choose}
 use Rattle.ob_syntax.specs.Tree.{Tree, Values, tree_by}
@@ -34,16 +27,15 @@ use Rattle.ob_syntax.proofs.LeastForms.{base, floor}
 use Rattle.ob_syntax.proofs.KindsAreEqual.{same_kind}
 use Rattle.ob_parse.specs.declared.cursor.Parser.{Parser}
 use Rattle.ob_parse.specs.declared.cursor.ParseFault.TheVariants.{Grammar, TooDeep}
-use Rattle.ob_parse.specs.Reading.{left, place, IsNext, IsRead, GoesOn, Fails}
+use Rattle.ob_parse.specs.Reading.{left, place, IsNext, IsRead, Fails}
 use Rattle.ob_parse.proofs.KindsLeft.{below, gone}
 use Rattle.ob_parse.proofs.PhrasesAdvance.{no_longer, selector_shorter}
 use Rattle.ob_parse.proofs.PhraseUnderway.{Waits, Chooses, Inside, opened, after_token}
 use Rattle.ob_parse.proofs.PhraseUnderway.{after_phrase, as_deep, one_deeper, at_least_one, closed}
-use Rattle.ob_parse.proofs.PhraseUnderway.{refused, too_deep, begins_with, begins_inside}
+use Rattle.ob_parse.proofs.PhraseUnderway.{refused, too_deep}
 use Rattle.ob_parse.proofs.PhraseUnderway.{token_missing, phrase_fails}
 use Rattle.ob_parse.proofs.AssignmentOrCall.{assigned, called, behind_target, behind_procedure}
-use Rattle.ob_parse.proofs.Choices.{expression_begins, statement_begins, names_begin}
-use Rattle.ob_parse.proofs.Choices.{constant_begins, type_begins, procedure_begins}
+use Rattle.ob_parse.proofs.Begins.{Begun, begun}
 
 -- ---- ranks
 
@@ -250,126 +242,6 @@ module _ (steps : ℕ) (reader : Reader steps) (n : Nonterminal) (room : ℕ) (o
       phrase_step steps few w i.1 enough
       (λ q t w' enough'. parts_of ss (λ j v. wrap j (t, v)) q w' few enough')
       (reader m i.0 mid (enough_first steps d m ss mid enough) i.2)
-
--- ---- what a production begins with that nests deeper
-
-at_index : (o : Option Kind) → by_first Selector o ≡ Some index → o ≡ Some LeftBracket
-at_index (Some LeftBracket) e = refl
-at_index _ e = cc
-
-at_parenthesis : (o : Option Kind) → by_first Factor o ≡ Some parenthesis → o ≡ Some LeftParen
-at_parenthesis (Some LeftParen) e = refl
-at_parenthesis _ e = cc
-
-at_negation : (o : Option Kind) → by_first Factor o ≡ Some negation → o ≡ Some Tilde
-at_negation (Some Tilde) e = refl
-at_negation _ e = cc
-
-at_comma : (o : Option Kind) → by_first Arguments o ≡ Some next_argument → o ≡ Some Comma
-at_comma (Some Comma) e = refl
-at_comma _ e = cc
-
-at_elsif : (o : Option Kind) → by_first Elsifs o ≡ Some next_elsif → o ≡ Some KwElsif
-at_elsif (Some KwElsif) e = refl
-at_elsif _ e = cc
-
-at_else : (o : Option Kind) → by_first Else o ≡ Some otherwise → o ≡ Some KwElse
-at_else (Some KwElse) e = refl
-at_else _ e = cc
-
-at_if : (o : Option Kind) → by_first Action o ≡ Some if_statement → o ≡ Some KwIf
-at_if (Some KwIf) e = refl
-at_if _ e = cc
-
-at_while : (o : Option Kind) → by_first Action o ≡ Some while_statement → o ≡ Some KwWhile
-at_while (Some KwWhile) e = refl
-at_while _ e = cc
-
-at_repeat : (o : Option Kind) → by_first Action o ≡ Some repeat_statement → o ≡ Some KwRepeat
-at_repeat (Some KwRepeat) e = refl
-at_repeat _ e = cc
-
-at_array : (o : Option Kind) → by_first TypeExpression o ≡ Some array → o ≡ Some KwArray
-at_array (Some KwArray) e = refl
-at_array _ e = cc
-
-at_field : (o : Option Kind) → by_first FieldList o ≡ Some field_list → o ≡ Some Ident
-at_field (Some Ident) e = refl
-at_field _ e = cc
-
-at_constant : (o : Option Kind) → by_first ConstantList o ≡ Some next_constant → o ≡ Some Ident
-at_constant (Some Ident) e = refl
-at_constant _ e = cc
-
-at_type : (o : Option Kind) → by_first TypeList o ≡ Some next_type → o ≡ Some Ident
-at_type (Some Ident) e = refl
-at_type _ e = cc
-
-at_variables : (o : Option Kind) → by_first VariableList o ≡ Some next_variables → o ≡ Some Ident
-at_variables (Some Ident) e = refl
-at_variables _ e = cc
-
-at_procedure : (o : Option Kind) → by_first Procedures o ≡ Some next_procedure →
-    o ≡ Some KwProcedure
-at_procedure (Some KwProcedure) e = refl
-at_procedure _ e = cc
-
-abbrev Begun : Nonterminal → Option Kind → Type 0
-Begun n o = (k : Kind) × (o ≡ Some k) × ((d : ℕ) × GoesOn n d (k ∷ []))
-
-abbrev same : {A : Type 0} → A → A
-same x = x
-
--- a phrase that begins with another one that is begun
-around : (n m : Nonterminal) (o : Option Kind) → Begun m o
-    → ((k : Kind) → ((d : ℕ) × GoesOn m d (k ∷ [])) → (d : ℕ) × GoesOn n d (k ∷ [])) → Begun n o
-around n m o g more = (g.0, g.1, more g.0 g.2)
-
--- a production that nests deeper begins with the next token
-begun : (n : Nonterminal) (r : Rule n) (o : Option Kind) → by_first n o ≡ Some r → base n ≤ 0
-    → 1 ≤ floor (right r) → Begun n o
-begun _ index o e b f =
-    (LeftBracket, at_index o e, begins_with Selector index LeftBracket _ same (λ ps ks. refl))
-begun _ parenthesis o e b f =
-    (LeftParen, at_parenthesis o e, begins_with Factor parenthesis LeftParen _ same (λ ps ks. refl))
-begun _ negation o e b f =
-    (Tilde, at_negation o e, begins_with Factor negation Tilde _ same (λ ps ks. refl))
-begun _ arguments o e b f =
-    around ArgumentList Expression o (expression_begins o e)
-    (λ k. begins_inside ArgumentList arguments deeper Expression _ same (λ ps ks. refl) (k ∷ []))
-begun _ next_argument o e b f =
-    (Comma, at_comma o e, begins_with Arguments next_argument Comma _ same (λ ps ks. refl))
-begun _ next_elsif o e b f =
-    (KwElsif, at_elsif o e, begins_with Elsifs next_elsif KwElsif _ same (λ ps ks. refl))
-begun _ otherwise o e b f =
-    (KwElse, at_else o e, begins_with Else otherwise KwElse _ same (λ ps ks. refl))
-begun _ if_statement o e b f =
-    (KwIf, at_if o e, begins_with Action if_statement KwIf _ same (λ ps ks. refl))
-begun _ while_statement o e b f =
-    (KwWhile, at_while o e, begins_with Action while_statement KwWhile _ same (λ ps ks. refl))
-begun _ repeat_statement o e b f =
-    (KwRepeat, at_repeat o e, begins_with Action repeat_statement KwRepeat _ same (λ ps ks. refl))
-begun _ statement o e b f =
-    around Statement Action o (statement_begins o e)
-    (λ k. begins_inside Statement statement deeper Action _ same (λ ps ks. refl) (k ∷ []))
-begun _ array o e b f =
-    (KwArray, at_array o e, begins_with TypeExpression array KwArray _ same (λ ps ks. refl))
-begun _ field_list o e b f =
-    around FieldList NameList o (Ident, at_field o e, names_begin)
-    (λ k. begins_inside FieldList field_list deeper NameList _ same (λ ps ks. refl) (k ∷ []))
-begun _ next_constant o e b f =
-    around ConstantList Constant o (Ident, at_constant o e, constant_begins)
-    (λ k. begins_inside ConstantList next_constant deeper Constant _ same (λ ps ks. refl) (k ∷ []))
-begun _ next_type o e b f =
-    around TypeList TypeDeclaration o (Ident, at_type o e, type_begins)
-    (λ k. begins_inside TypeList next_type deeper TypeDeclaration _ same (λ ps ks. refl) (k ∷ []))
-begun _ next_variables o e b f =
-    around VariableList NameList o (Ident, at_variables o e, names_begin)
-    (λ k. begins_inside VariableList next_variables deeper NameList _ same (λ ps ks. refl) (k ∷ []))
-begun _ next_procedure o e b f =
-    around Procedures Procedure o (KwProcedure, at_procedure o e, procedure_begins)
-    (λ k. begins_inside Procedures next_procedure deeper Procedure _ same (λ ps ks. refl) (k ∷ []))
-begun _ _ o e b f = absurd (omega (arith, b, f))
 
 -- ---- a phrase
 

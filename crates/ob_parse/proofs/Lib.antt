@@ -7,3 +7,5 @@ pub mod PhraseUnderway
 pub mod KindsLeft
 pub mod EachReads
 pub mod TreeOrRefusal
+pub mod Begins
+pub mod PhraseSteps

@@ -252,67 +252,9 @@ too_deep {n = n} r room p k chosen at none flat low beyond = (
   },
 )
 
--- a production whose first symbol is the token k
-pub begins_with : (n : Nonterminal) (r : Rule n) (k : Kind) (ss : List Symbol)
-    (put : Parts (token k ∷ ss) → Parts (right r))
-    → ((ps : Parts (token k ∷ ss)) (ks : List Kind) → spells (right r) (put ps) ks ≡
-    spells (token k ∷ ss) ps ks) → (d : ℕ) × GoesOn n d (k ∷ [])
-begins_with n r k ss put same =
-    let ps = taken k ss (least_parts ss) in (
-      depths (right r) (put ps),
-      (
-        made n r (put ps),
-        omega arith,
-        texts ss (least_parts ss),
-        λ ks. same ps ks
-            ∙ ap (λ us. k ∷ us) (spells_texts ss (least_parts ss) ks),
-      ),
-    )
-
 joined : (a b c d ks : List Kind) → a ++ (b ++ (c ++ (d ++ ks))) ≡ (a ++ b) ++ ((c ++ d) ++ ks)
 joined a b c d ks = ap (λ us. a ++ (b ++ us)) (sym (append_assoc c d ks))
     ∙ sym (append_assoc a b ((c ++ d) ++ ks))
-
--- a production whose first symbol goes on with the tokens that were read
-pub begins_inside : (n : Nonterminal) (r : Rule n) (d : Nesting) (m : Nonterminal)
-    (ss : List Symbol) (put : Parts (phrase d m ∷ ss) → Parts (right r))
-    → ((ps : Parts (phrase d m ∷ ss)) (ks : List Kind) → spells (right r) (put ps) ks ≡
-    spells (phrase d m ∷ ss) ps ks) → (read : List Kind) → (d : ℕ) × GoesOn m d read → (d : ℕ) ×
-    GoesOn n d read
-begins_inside n r d m ss put same read (e, (f, le, more, is)) =
-    let ps = part d m ss f (least_parts ss) in (
-      depths (right r) (put ps),
-      (
-        made n r (put ps),
-        omega arith,
-        more ++ texts ss (least_parts ss),
-        λ ks. same ps ks ∙ is (spells ss (least_parts ss) ks) ∙ ap (λ us. read ++ (more ++ us))
-            (spells_texts ss (least_parts ss) ks) ∙ ap (λ us. read ++ us)
-            (sym (append_assoc more (texts ss (least_parts ss)) ks)),
-      ),
-    )
-
--- a production whose first symbol may be without tokens, and whose second goes on with the tokens
--- that were read
-pub begins_behind : (n : Nonterminal) (r : Rule n) (m m' : Nonterminal) (ss : List Symbol)
-    (put : Parts (phrase level m ∷ phrase level m' ∷ ss) → Parts (right r))
-    → ((ps : Parts (phrase level m ∷ phrase level m' ∷ ss)) (ks : List Kind) →
-    spells (right r) (put ps) ks ≡ spells (phrase level m ∷ phrase level m' ∷ ss) ps ks)
-    → (none : Form m) → ((ks : List Kind) → spell m none ks ≡ ks) → (read : List Kind) → (d : ℕ) ×
-    GoesOn m' d read → (d : ℕ) × GoesOn n d read
-begins_behind n r m m' ss put same none nothing read (e, (f, le, more, is)) =
-    let ps = part level m (phrase level m' ∷ ss) none (part level m' ss f (least_parts ss)) in (
-      depths (right r) (put ps),
-      (
-        made n r (put ps),
-        omega arith,
-        more ++ texts ss (least_parts ss),
-        λ ks. same ps ks ∙ nothing (spell m' f (spells ss (least_parts ss) ks))
-            ∙ is (spells ss (least_parts ss) ks) ∙ ap (λ us. read ++ (more ++ us))
-            (spells_texts ss (least_parts ss) ks)
-            ∙ ap (λ us. read ++ us) (sym (append_assoc more (texts ss (least_parts ss)) ks)),
-      ),
-    )
 
 module _ {n : Nonterminal} {ss : List Symbol} {room : ℕ} {wrap : ℕ → Values ss → Tree n}
     {old now : Parser} (w : Waits n ss room wrap old now) where

@@ -1,37 +1,21 @@
-use Rattle.std.proofs.Common.{ℕ, [], ◌∷◌, ap, ◌∙◌, sym, subst, arith}
-use Rattle.ob_syntax.specs.declared.token.Kind.TheVariants.{KwBegin}
-use Rattle.ob_syntax.specs.Grammar.{level, phrase, Body, StatementSequence, body, no_body}
-use Rattle.ob_syntax.specs.ChosenRule.{first, by_first}
-use Rattle.ob_syntax.specs.Tree.{tree_by}
-use Rattle.ob_parse.specs.declared.cursor.Parser.{Parser}
-use Rattle.ob_parse.specs.Reading.{place, IsRead, IsNext}
+use Rattle.std.proofs.Common.{refl, arith}
+use Rattle.ob_syntax.specs.Grammar.{Body, body, no_body}
 use Rattle.ob_parse.proofs.Choices.{not_begin}
-use Rattle.ob_parse.proofs.PhraseUnderway.{Waits, opened, after_token, after_phrase, as_deep}
-use Rattle.ob_parse.proofs.PhraseUnderway.{closed, phrase_fails, exits}
+use Rattle.ob_parse.proofs.PhraseUnderway.{as_deep, closed}
+use Rattle.ob_parse.proofs.PhraseSteps.{chosen, on, opens, ◌▹◌, ◌▸◌, closed_as, fails}
 use Rattle.ob_parse.proofs.declaration.body.Goals as goal
-
-wanted : (room : ℕ) (p q : Parser) → IsNext KwBegin p q →
-    Waits Body (phrase level StatementSequence ∷ []) room
-    (λ j v. tree_by body (place p) j (place p, v)) p q
-wanted room p q n = after_token
-    (opened body room p (λ next same. ap (by_first Body) (same ∙ ap first n.from))) n
 
 pub returns-then-not-accept : goal.returns-then-not-accept
 returns-then-not-accept c =
-    let e = c.if-not-accept.ensures in
-    rw c.new.ensures (subst (λ q. IsRead Body c.args.room [] c.args.p.now q) (sym e.0)
-    (closed (opened no_body c.args.room c.args.p.now
-    (λ next same. ap (by_first Body) same ∙ not_begin _ e.1))))
+    closed_as (opens no_body (chosen Body (not_begin _ c.if-not-accept.ensures.1)))
+    c.if-not-accept.ensures.0 c.new.ensures
 
 pub returns-in_err-body : goal.returns-in_err-body
 returns-in_err-body c =
-    exits Body c.args.room c.args.p.now c.statement_sequence.new.p c.from_residual.result
-    c.in_err-body.field-0.0 c.from_residual.ensures.1
-    (phrase_fails (wanted c.args.room c.args.p.now c.accept.new.self c.if-not-accept.ensures)
-    (as_deep c.args.room) (omega arith) c.statement_sequence.new.p c.in_err-body.field-0.0
-    c.in_err-body.ensures)
+    fails (opens body (on Body refl c.if-not-accept.ensures) ▹ c.if-not-accept.ensures) (as_deep _)
+    (omega arith) _ _ _ c.in_err-body.ensures c.from_residual.ensures.1
 
 pub returns : goal.returns
 returns c =
-    closed (after_phrase (wanted c.args.room c.args.p.now c.accept.new.self c.if-not-accept.ensures)
-    (as_deep c.args.room) c.in_ok-body.ensures)
+    closed (opens body (on Body refl c.if-not-accept.ensures) ▹ c.if-not-accept.ensures
+    ▸ c.in_ok-body.ensures)

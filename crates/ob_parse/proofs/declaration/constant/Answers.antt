@@ -1,37 +1,25 @@
 use Rattle.std.proofs.Common.{refl, arith}
-use Rattle.ob_syntax.specs.Grammar.{Constant, constant}
-use Rattle.ob_parse.proofs.PhraseUnderway.{opened, after_token, after_phrase, as_deep, closed}
-use Rattle.ob_parse.proofs.PhraseUnderway.{token_missing, phrase_fails, exits}
+use Rattle.ob_syntax.specs.Grammar.{constant}
+use Rattle.ob_parse.proofs.PhraseUnderway.{as_deep, closed}
+use Rattle.ob_parse.proofs.PhraseSteps.{opens, lacks, fails, ◌▹◌, ◌▸◌}
 use Rattle.ob_parse.proofs.declaration.constant.Goals as goal
 
 pub returns-in_err-expect : goal.returns-in_err-expect
 returns-in_err-expect c =
-    exits Constant c.args.room c.args.p.now c.expect.new.self c.from_residual.result
-    c.in_err-expect.field-0.0 c.from_residual.ensures.1
-    (token_missing (opened constant c.args.room c.args.p.now (λ next same. refl)) (omega arith)
-    c.expect.new.self c.in_err-expect.field-0.0 c.in_err-expect.ensures)
+    lacks (opens constant (λ _ _. refl)) (omega arith) _ c.in_err-expect.ensures
+    c.from_residual.ensures.1
 
 pub returns-in_err-expect-2 : goal.returns-in_err-expect-2
 returns-in_err-expect-2 c =
-    exits Constant c.args.room c.args.p.now c.expect-2.new.self
-    c.from_residual-in_err-expect-2.result c.in_err-expect-2.field-0.0
-    c.from_residual-in_err-expect-2.ensures.1
-    (token_missing (after_token (opened constant c.args.room c.args.p.now (λ next same. refl))
-    c.in_ok-expect.ensures) (omega arith) c.expect-2.new.self c.in_err-expect-2.field-0.0
-    c.in_err-expect-2.ensures)
+    lacks (opens constant (λ _ _. refl) ▹ c.in_ok-expect.ensures) (omega arith) _
+    c.in_err-expect-2.ensures c.from_residual-in_err-expect-2.ensures.1
 
 pub returns-in_err-value : goal.returns-in_err-value
 returns-in_err-value c =
-    exits Constant c.args.room c.args.p.now c.expression.new.p c.from_residual-in_err-value.result
-    c.in_err-value.field-0.0 c.from_residual-in_err-value.ensures.1
-    (phrase_fails (after_token
-    (after_token (opened constant c.args.room c.args.p.now (λ next same. refl))
-    c.in_ok-expect.ensures) c.in_ok-expect-2.ensures) (as_deep c.args.room) (omega arith)
-    c.expression.new.p c.in_err-value.field-0.0 c.in_err-value.ensures)
+    fails (opens constant (λ _ _. refl) ▹ c.in_ok-expect.ensures ▹ c.in_ok-expect-2.ensures)
+    (as_deep _) (omega arith) _ _ _ c.in_err-value.ensures c.from_residual-in_err-value.ensures.1
 
 pub returns : goal.returns
 returns c =
-    closed (after_phrase (after_token
-    (after_token (opened constant c.args.room c.args.p.now (λ next same. refl))
-    c.in_ok-expect.ensures) c.in_ok-expect-2.ensures) (as_deep c.args.room)
-    c.in_ok-value.ensures)
+    closed (opens constant (λ _ _. refl) ▹ c.in_ok-expect.ensures ▹ c.in_ok-expect-2.ensures
+    ▸ c.in_ok-value.ensures)

@@ -1,79 +1,43 @@
-use Rattle.std.proofs.Common.{◌≡◌, ℕ, ◌+◌, ◌-◌, List, [], ◌∷◌, ◌++◌, Some, refl, ap, ◌∙◌, subst}
-use Rattle.std.proofs.Common.{arith, lit≤, append-nil}
-use Rattle.ob_syntax.specs.declared.token.Kind.TheVariants.{Ident, Semicolon}
-use Rattle.ob_syntax.specs.declared.tree.TypeDecl.{TypeDecl}
-use Rattle.ob_syntax.specs.Grammar.{level, deeper, token, phrase, TypeList, TypeDeclaration}
-use Rattle.ob_syntax.specs.Grammar.{next_type, last_type}
-use Rattle.ob_syntax.specs.ChosenRule.{first, by_first}
-use Rattle.ob_syntax.specs.Tree.{tree_by}
-use Rattle.ob_parse.specs.declared.cursor.Parser.{Parser}
-use Rattle.ob_parse.specs.Reading.{left, place, IsRead, IsNext}
-use Rattle.ob_parse.proofs.Choices.{no_type_first, type_begins}
-use Rattle.ob_parse.proofs.ItemsAsLists.{put_one}
-use Rattle.ob_parse.proofs.PhraseUnderway.{Waits, opened, after_token, after_phrase, as_deep}
-use Rattle.ob_parse.proofs.PhraseUnderway.{one_deeper, closed, too_deep, begins_inside}
-use Rattle.ob_parse.proofs.PhraseUnderway.{token_missing, phrase_fails, begun, again, rewrap, exits}
+use Rattle.std.proofs.Common.{refl, ap, sym, arith, lit≤, append-nil}
+use Rattle.ob_syntax.specs.Grammar.{TypeList, last_type, next_type}
+use Rattle.ob_syntax.specs.ChosenRule.{by_first}
 use Rattle.ob_parse.specs.declared.cursor.ParseFault.TheVariants.{TooDeep}
+use Rattle.ob_parse.proofs.Choices.{no_type_first}
+use Rattle.ob_parse.proofs.ItemsAsLists.{put}
+use Rattle.ob_parse.proofs.PhraseUnderway.{after_phrase, as_deep, one_deeper, phrase_fails, begun}
+use Rattle.ob_parse.proofs.PhraseUnderway.{again, rewrap}
+use Rattle.ob_parse.proofs.PhraseSteps.{chosen, at, opens, ◌▹◌, closed_as, lacks, fails, no_room}
 use Rattle.ob_parse.proofs.declaration.type_list.Goals as goal
-
-next_type_list : (room : ℕ) (p : Parser) → first (left p) ≡ Some Ident →
-    Waits TypeList (phrase deeper TypeDeclaration ∷ token Semicolon ∷ phrase level TypeList ∷ [])
-    room (tree_by next_type (place p)) p p
-next_type_list room p at = opened next_type room p (λ next same. ap (by_first TypeList) (same ∙ at))
-
-more_type_list : (room less : ℕ) → room ≡ less + 1 → (xs ys : List TypeDecl) (x : TypeDecl) →
-    ys ≡ xs ++ x ∷ [] → (old p q new : Parser) → Waits TypeList (phrase level TypeList ∷ []) room
-    (λ j v. xs ++ v.0) old p → first (left p) ≡ Some Ident → IsRead TypeDeclaration less x p q →
-    IsNext Semicolon q new
-    → Waits TypeList (phrase level TypeList ∷ []) room (λ j v. ys ++ v.0) old new
-more_type_list room less is xs ys x push old p q new a at r n =
-    rewrap (λ j v. ys ++ v.0)
-    (again a (after_token (after_phrase (next_type_list room p at) (one_deeper less room is) r)
-    n)) (λ j v. put_one xs ys v.0 x push)
 
 pub loop-all-init : goal.loop-all-init
 loop-all-init c =
-    rw c.new-all.ensures (begun TypeList c.args.room c.args.p.now)
+    rw c.new-all.ensures (begun TypeList _ _)
 
 pub returns-then-room-eq0 : goal.returns-then-room-eq0
 returns-then-room-eq0 c =
-    let at = c.loop-all-test.ensures in
-    let f = too_deep next_type c.args.room c.loop-all.p Ident
-    (λ next same. ap (by_first TypeList) (same ∙ at)) at (omega arith) (lit≤ tt) (lit≤ tt)
-    (begins_inside TypeList next_type deeper TypeDeclaration _ (λ ps. ps) (λ ps ks. refl)
-    (Ident ∷ []) type_begins) in
-    phrase_fails c.loop-all.invariant (as_deep c.args.room) (omega arith) c.loop-all.p
-    (TooDeep (place c.loop-all.p)) f
+    let is = ap (by_first TypeList) c.loop-all-test.ensures in
+    phrase_fails c.loop-all.invariant (as_deep _) (omega arith) _ (TooDeep _)
+    (no_room next_type (chosen TypeList is) is (omega arith) (lit≤ tt) (lit≤ tt))
 
 pub returns-in_err-next : goal.returns-in_err-next
 returns-in_err-next c =
-    exits TypeList c.args.room c.args.p.now c.type_declaration.new.p c.from_residual.result
-    c.in_err-next.field-0.0 c.from_residual.ensures.1
-    (phrase_fails (again c.loop-all.invariant
-    (next_type_list c.args.room c.loop-all.p c.loop-all-test.ensures))
-    (one_deeper (c.args.room - 1) c.args.room (omega arith)) (omega arith)
-    c.type_declaration.new.p c.in_err-next.field-0.0 c.in_err-next.ensures)
+    fails (again c.loop-all.invariant (opens next_type (at TypeList refl c.loop-all-test.ensures)))
+    (one_deeper _ _ (omega arith)) (omega arith) _ _ _ c.in_err-next.ensures
+    c.from_residual.ensures.1
 
 pub returns-in_err-expect : goal.returns-in_err-expect
 returns-in_err-expect c =
-    exits TypeList c.args.room c.args.p.now c.expect.new.self c.from_residual-in_err-expect.result
-    c.in_err-expect.field-0.0 c.from_residual-in_err-expect.ensures.1
-    (token_missing (again c.loop-all.invariant
-    (after_phrase (next_type_list c.args.room c.loop-all.p c.loop-all-test.ensures)
-    (one_deeper (c.args.room - 1) c.args.room (omega arith)) c.in_ok-next.ensures))
-    (omega arith) c.expect.new.self c.in_err-expect.field-0.0 c.in_err-expect.ensures)
+    lacks (again c.loop-all.invariant (after_phrase (opens next_type (at TypeList refl
+    c.loop-all-test.ensures)) (one_deeper _ _ (omega arith)) c.in_ok-next.ensures)) (omega arith) _
+    c.in_err-expect.ensures c.from_residual-in_err-expect.ensures.1
 
 pub loop-all-preserved : goal.loop-all-preserved
 loop-all-preserved c =
-    more_type_list c.args.room (c.args.room - 1) (omega arith) c.loop-all.all c.push.new.self
-    c.in_ok-next.next c.in_ok-push.ensures.ok c.args.p.now c.loop-all.p c.type_declaration.new.p
-    c.expect.new.self c.loop-all.invariant c.loop-all-test.ensures c.in_ok-next.ensures
-    c.in_ok-expect.ensures
+    rewrap _ (again c.loop-all.invariant (after_phrase (opens next_type (at TypeList refl
+    c.loop-all-test.ensures)) (one_deeper _ _ (omega arith)) c.in_ok-next.ensures
+    ▹ c.in_ok-expect.ensures)) (λ j v. put _ _ _ _ c.in_ok-push.ensures.ok)
 
 pub returns : goal.returns
 returns c =
-    let r = closed (opened last_type c.args.room c.loop-all.p
-    (λ next same. ap (by_first TypeList) same ∙ no_type_first _ c.loop-all-test.ensures)) in
-    subst (λ xs. IsRead TypeList c.args.room xs c.args.p.now c.loop-all.p)
-    (append-nil c.loop-all.all)
-    (closed (after_phrase c.loop-all.invariant (as_deep c.args.room) r))
+    closed_as (again c.loop-all.invariant (opens last_type (chosen TypeList (no_type_first _
+    c.loop-all-test.ensures)))) refl (sym (append-nil _))

@@ -1,37 +1,21 @@
-use Rattle.std.proofs.Common.{ℕ, [], ◌∷◌, ap, ◌∙◌, sym, subst, arith}
-use Rattle.ob_syntax.specs.declared.token.Kind.TheVariants.{KwType}
-use Rattle.ob_syntax.specs.Grammar.{level, phrase, Types, TypeList, types, no_types}
-use Rattle.ob_syntax.specs.ChosenRule.{first, by_first}
-use Rattle.ob_syntax.specs.Tree.{tree_by}
-use Rattle.ob_parse.specs.declared.cursor.Parser.{Parser}
-use Rattle.ob_parse.specs.Reading.{place, IsRead, IsNext}
+use Rattle.std.proofs.Common.{refl, arith}
+use Rattle.ob_syntax.specs.Grammar.{Types, no_types, types}
 use Rattle.ob_parse.proofs.Choices.{not_type}
-use Rattle.ob_parse.proofs.PhraseUnderway.{Waits, opened, after_token, after_phrase, as_deep}
-use Rattle.ob_parse.proofs.PhraseUnderway.{closed, phrase_fails, exits}
+use Rattle.ob_parse.proofs.PhraseUnderway.{as_deep, closed}
+use Rattle.ob_parse.proofs.PhraseSteps.{chosen, on, opens, ◌▹◌, ◌▸◌, closed_as, fails}
 use Rattle.ob_parse.proofs.declaration.types.Goals as goal
-
-wanted : (room : ℕ) (p q : Parser) → IsNext KwType p q →
-    Waits Types (phrase level TypeList ∷ []) room (λ j v. tree_by types (place p) j (place p, v)) p
-    q
-wanted room p q n = after_token
-    (opened types room p (λ next same. ap (by_first Types) (same ∙ ap first n.from))) n
 
 pub returns-then-not-accept : goal.returns-then-not-accept
 returns-then-not-accept c =
-    let e = c.if-not-accept.ensures in
-    rw c.new.ensures (subst (λ q. IsRead Types c.args.room [] c.args.p.now q) (sym e.0)
-    (closed (opened no_types c.args.room c.args.p.now
-    (λ next same. ap (by_first Types) same ∙ not_type _ e.1))))
+    closed_as (opens no_types (chosen Types (not_type _ c.if-not-accept.ensures.1)))
+    c.if-not-accept.ensures.0 c.new.ensures
 
 pub returns-in_err-list : goal.returns-in_err-list
 returns-in_err-list c =
-    exits Types c.args.room c.args.p.now c.type_list.new.p c.from_residual.result
-    c.in_err-list.field-0.0 c.from_residual.ensures.1
-    (phrase_fails (wanted c.args.room c.args.p.now c.accept.new.self c.if-not-accept.ensures)
-    (as_deep c.args.room) (omega arith) c.type_list.new.p c.in_err-list.field-0.0
-    c.in_err-list.ensures)
+    fails (opens types (on Types refl c.if-not-accept.ensures) ▹ c.if-not-accept.ensures)
+    (as_deep _) (omega arith) _ _ _ c.in_err-list.ensures c.from_residual.ensures.1
 
 pub returns : goal.returns
 returns c =
-    closed (after_phrase (wanted c.args.room c.args.p.now c.accept.new.self c.if-not-accept.ensures)
-    (as_deep c.args.room) c.in_ok-list.ensures)
+    closed (opens types (on Types refl c.if-not-accept.ensures) ▹ c.if-not-accept.ensures
+    ▸ c.in_ok-list.ensures)
