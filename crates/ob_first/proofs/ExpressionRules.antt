@@ -18,7 +18,7 @@ use Rattle.ob_syntax.specs.declared.tree.Factor.{Factor, out-Factor, roll-Factor
 use Rattle.ob_syntax.specs.declared.tree.Factor.{fold-roll-Factor}
 use Rattle.ob_syntax.specs.declared.tree.FactorForm.{FactorForm, FactorForm-F, out-FactorForm}
 use Rattle.ob_syntax.specs.declared.tree.FactorForm.{out-roll-FactorForm, fold-FactorForm}
-use Rattle.ob_syntax.specs.declared.tree.FactorForm.{fold-roll-FactorForm}
+use Rattle.ob_syntax.specs.declared.tree.FactorForm.{roll-FactorForm, fold-roll-FactorForm}
 use Rattle.ob_syntax.specs.declared.tree.FactorForm.TheVariants as factor_is
 use Rattle.ob_syntax.specs.declared.tree.NextFactor.{NextFactor, out-NextFactor, roll-NextFactor}
 use Rattle.ob_syntax.specs.declared.tree.NextFactor.{out-roll-NextFactor, fold-roll-NextFactor}
@@ -152,9 +152,7 @@ expression_stands s l None i k j ends left same =
       last = s.last;
       judge = λ p. (simple_expression l).judge p >>= λ a. Ok a;
     }) _
-    (fold-roll-Expr FactorResult SelectorResult Selected Phrase Phrase Next Next Next Selection
-    Phrase Phrase factor_form selector_form designator expr factor next_factor next_term
-    relation selector simple_expr term _)
+    (fold-roll-Expr _ _ _ _ _ _ _ _ _ _ _ _ _ _ _ _ _ _ _ _ _ _ _)
     (record {
       some = let some = left.some in omega arith;
       last = ends;
@@ -186,9 +184,7 @@ expression_stands s l (Some n) i k j ends left (m, low, right) =
       judge = λ p. (simple_expression l).judge p >>= λ a.
           related p (simple_expression l).last a (comparison n);
     }) _
-    (fold-roll-Expr FactorResult SelectorResult Selected Phrase Phrase Next Next Next Selection
-    Phrase Phrase factor_form selector_form designator expr factor next_factor next_term
-    relation selector simple_expr term _)
+    (fold-roll-Expr _ _ _ _ _ _ _ _ _ _ _ _ _ _ _ _ _ _ _ _ _ _ _)
     (record {
       some = let some = left.some in let rest = right.some in omega arith;
       last = ends;
@@ -240,9 +236,7 @@ pub relation_stands : (o : Kind) (e : SimpleExpr) (i j : ℕ) → Stands i j (si
     (λ p f. InSimple p (out-Relation (roll-Relation (record { op = o; right = e }))).right f)
 relation_stands o e i j h =
     rw (out-roll-Relation) (reads_as i j _ (simple_expression e) (λ p f. InSimple p e f)
-    (ap (λ (n : Next). n.1) (fold-roll-Relation FactorResult SelectorResult Selected Phrase Phrase
-    Next Next Next Selection Phrase Phrase factor_form selector_form designator expr factor
-    next_factor next_term relation selector simple_expr term _)) h)
+    (ap (λ (n : Next). n.1) (fold-roll-Relation _ _ _ _ _ _ _ _ _ _ _ _ _ _ _ _ _ _ _ _ _ _ _)) h)
 
 abbrev pub NextTermAt : NextTerm → ℕ → ℕ → Type 0
 NextTermAt n i j = Stands i j (following_term n).1 (λ p f. InTerm p (out-NextTerm n).term f)
@@ -252,9 +246,7 @@ pub next_term_stands : (o : Kind) (t : Term) (i j : ℕ) →
     NextTermAt (roll-NextTerm (record { op = o; term = t })) i j
 next_term_stands o t i j h =
     rw (out-roll-NextTerm) (reads_as i j _ (whole_term t) (λ p f. InTerm p t f)
-    (ap (λ (n : Next). n.1) (fold-roll-NextTerm FactorResult SelectorResult Selected Phrase Phrase
-    Next Next Next Selection Phrase Phrase factor_form selector_form designator expr factor
-    next_factor next_term relation selector simple_expr term _)) h)
+    (ap (λ (n : Next). n.1) (fold-roll-NextTerm _ _ _ _ _ _ _ _ _ _ _ _ _ _ _ _ _ _ _ _ _ _ _)) h)
 
 abbrev pub NextFactorAt : NextFactor → ℕ → ℕ → Type 0
 NextFactorAt n i j = Stands i j (following_factor n).1
@@ -267,9 +259,7 @@ next_factor_stands o x i j h =
     subst (λ (y : Factor). Stands i j (following_factor n).1 (λ p f. InFactor p y f))
     (sym (ap (λ y. y.factor) (out-roll-NextFactor (record { op = o; factor = x }))))
     (reads_as i j _ (whole_factor x) (λ p f. InFactor p x f)
-    (ap (λ (n : Next). n.1) (fold-roll-NextFactor FactorResult SelectorResult Selected Phrase Phrase
-    Next Next Next Selection Phrase Phrase factor_form selector_form designator expr factor
-    next_factor next_term relation selector simple_expr term _)) h)
+    (ap (λ (n : Next). n.1) (fold-roll-NextFactor _ _ _ _ _ _ _ _ _ _ _ _ _ _ _ _ _ _ _ _ _ _ _)) h)
 
 -- ---- sums
 
@@ -299,9 +289,7 @@ simple_stands s sign t ts i l k j ends low high first order =
       judge = λ p. a p >>= λ x. test x >>= λ y. chained p
           (whole_term t).last y (map following_term ts);
     }) _
-    (fold-roll-SimpleExpr FactorResult SelectorResult Selected Phrase Phrase Next Next Next
-    Selection Phrase Phrase factor_form selector_form designator expr factor next_factor
-    next_term relation selector simple_expr term _)
+    (fold-roll-SimpleExpr _ _ _ _ _ _ _ _ _ _ _ _ _ _ _ _ _ _ _ _ _ _ _)
     (record {
       some = let some = first.some in omega arith;
       last = ends;
@@ -361,9 +349,7 @@ term_stands s y ys i k j ends high first order =
       judge = λ p. a p >>= λ x. chained p
           (whole_factor y).last x (map following_factor ys);
     }) _
-    (fold-roll-Term FactorResult SelectorResult Selected Phrase Phrase Next Next Next Selection
-    Phrase Phrase factor_form selector_form designator expr factor next_factor next_term
-    relation selector simple_expr term _)
+    (fold-roll-Term _ _ _ _ _ _ _ _ _ _ _ _ _ _ _ _ _ _ _ _ _ _ _)
     (record {
       some = let some = first.some in omega arith;
       last = ends;
@@ -410,6 +396,29 @@ abbrev FormLayer : Type 0
 FormLayer = FactorForm-F FactorForm SelectorForm Designator Expr Factor NextFactor NextTerm Relation
     Selector SimpleExpr Term
 
+-- two forms of a factor are the same if they are of one layer
+abbrev SameForm : FormLayer → FormLayer → Type 0
+SameForm (FactorForm-F.Name d) (FactorForm-F.Name e) = d ≡ e
+SameForm (FactorForm-F.Number m) (FactorForm-F.Number n) = m ≡ n
+SameForm (FactorForm-F.Paren d) (FactorForm-F.Paren e) = d ≡ e
+SameForm (FactorForm-F.Not d) (FactorForm-F.Not e) = d ≡ e
+SameForm _ _ = ⊥
+
+itself : (g : FormLayer) → SameForm g g
+itself (FactorForm-F.Name d) = refl
+itself (FactorForm-F.Number n) = refl
+itself (FactorForm-F.Paren e) = refl
+itself (FactorForm-F.Not e) = refl
+
+one_form : (x g h : FormLayer) → x ≡ g → x ≡ h → SameForm g h
+one_form x g h a b = subst (λ z. SameForm g z) (sym a ∙ b) (itself g)
+
+lays : (s : Span) (y : FormLayer) (g : FactorForm) → roll-FactorForm y ≡ g →
+    out-FactorForm (out-Factor (roll-Factor (record { span = s; form = g }))).form ≡ y
+lays s y g rolls = ap (λ z. out-FactorForm z.form)
+    (out-roll-Factor (record { span = s; form = g })) ∙ ap out-FactorForm (sym rolls)
+    ∙ out-roll-FactorForm y
+
 -- a factor of some form, from what it is read as and what breaks a rule in it
 factor_stands : (s : Span) (g : FactorForm) (i j : ℕ) (read : FactorResult)
     (B : Place → Fault → Type 0) → form_of g ≡ read → i < j → s.last + 1 ≡ j →
@@ -421,9 +430,7 @@ factor_stands : (s : Span) (g : FactorForm) (i j : ℕ) (read : FactorResult)
     (λ p f. InFactor p (roll-Factor (record { span = s; form = g })) f)
 factor_stands s g i j read B is some ends leads outside inside =
     reads_as i j _ (record { last = s.last; judge = read s.last }) _
-    (fold-roll-Factor FactorResult SelectorResult Selected Phrase Phrase Next Next Next Selection
-    Phrase Phrase factor_form selector_form designator expr factor next_factor next_term
-    relation selector simple_expr term _
+    (fold-roll-Factor _ _ _ _ _ _ _ _ _ _ _ _ _ _ _ _ _ _ _ _ _ _ _
     ∙ ap (λ (r : FactorResult). factor (record { span = s; form = r })) is)
     (record {
       some = some;
@@ -438,9 +445,8 @@ pub number_stands : (s : Span) (n : ℤ) (i j : ℕ) → i < j → s.last + 1 �
     (λ p f. InFactor p (roll-Factor (record { span = s; form = factor_is.Number n })) f)
 number_stands s n i j some ends =
     factor_stands s (factor_is.Number n) i j (λ last p. Ok (typed integer (x.Number n))) (λ p f. ⊥)
-    (ap form_of (sym (factor_is.rolls-Number n)) ∙ fold-roll-FactorForm FactorResult SelectorResult
-    Selected Phrase Phrase Next Next Next Selection Phrase Phrase factor_form selector_form
-    designator expr factor next_factor next_term relation selector simple_expr term
+    (ap form_of (sym (factor_is.rolls-Number n)) ∙ fold-roll-FactorForm _ _ _ _ _ _ _ _ _ _ _ _ _ _
+    _ _ _ _ _ _ _ _
     (FactorForm-F.Number n))
     some ends (λ p. nothing i j) (λ p f b. absurd b) inside
   where
@@ -448,27 +454,15 @@ number_stands s n i j some ends =
     y = roll-Factor (record { span = s; form = factor_is.Number n })
 
     is : out-FactorForm (out-Factor y).form ≡ FactorForm-F.Number n
-    is = ap (λ z. out-FactorForm z.form)
-        (out-roll-Factor (record { span = s; form = factor_is.Number n })) ∙ ap out-FactorForm
-        (sym (factor_is.rolls-Number n)) ∙ out-roll-FactorForm (FactorForm-F.Number n)
-
-    no_paren : (g : FormLayer) (e : Expr) → g ≡ FactorForm-F.Number n → g ≡ FactorForm-F.Paren e → ⊥
-    no_paren g e a b = cc
-
-    no_not : (g : FormLayer) (e : Factor) → g ≡ FactorForm-F.Number n → g ≡ FactorForm-F.Not e → ⊥
-    no_not g e a b = cc
-
-    no_name : (g : FormLayer) (e : Designator) → g ≡ FactorForm-F.Number n →
-        g ≡ FactorForm-F.Name e → ⊥
-    no_name g e a b = cc
+    is = lays s (FactorForm-F.Number n) _ (factor_is.rolls-Number n)
 
     inside : (p : Place) (f : Fault) → InFactor p y f → ⊥
-    inside p f (which.inside _ _ e there b) = no_paren _ e is there
-    inside p f (which.negated _ _ z there b) = no_not _ z is there
-    inside p f (which.negation _ _ z there b) = no_not _ z is there
-    inside p f (which.index _ _ d t there among b) = no_name _ d is there
-    inside p f (which.name _ _ d there b) = no_name _ d is there
-    inside p f (which.selectors _ _ d v there r b) = no_name _ d is there
+    inside p f (which.inside _ _ e there b) = one_form _ _ _ is there
+    inside p f (which.negated _ _ z there b) = one_form _ _ _ is there
+    inside p f (which.negation _ _ z there b) = one_form _ _ _ is there
+    inside p f (which.index _ _ d t there among b) = one_form _ _ _ is there
+    inside p f (which.name _ _ d there b) = one_form _ _ _ is there
+    inside p f (which.selectors _ _ d v there r b) = one_form _ _ _ is there
 
 pub parenthesis_stands : (s : Span) (e : Expr) (i k l j : ℕ) → i ≤ k → l ≤ j → s.last + 1 ≡ j →
     Stands k l (expression e) (λ p f. InExpression p e f)
@@ -477,9 +471,8 @@ pub parenthesis_stands : (s : Span) (e : Expr) (i k l j : ℕ) → i ≤ k → l
 parenthesis_stands s e i k l j low high ends h =
     factor_stands s (factor_is.Paren e) i j (λ last p. (expression e).judge p)
     (λ p f. InExpression p e f)
-    (ap form_of (sym (factor_is.rolls-Paren e)) ∙ fold-roll-FactorForm FactorResult SelectorResult
-    Selected Phrase Phrase Next Next Next Selection Phrase Phrase factor_form selector_form
-    designator expr factor next_factor next_term relation selector simple_expr term
+    (ap form_of (sym (factor_is.rolls-Paren e)) ∙ fold-roll-FactorForm _ _ _ _ _ _ _ _ _ _ _ _ _ _ _
+    _ _ _ _ _ _ _
     (FactorForm-F.Paren e))
     (let some = h.some in omega arith) ends
     (λ p. wide k l i j _ (λ f. InExpression p e f) low high (h.leads p))
@@ -489,27 +482,16 @@ parenthesis_stands s e i k l j low high ends h =
     y = roll-Factor (record { span = s; form = factor_is.Paren e })
 
     is : out-FactorForm (out-Factor y).form ≡ FactorForm-F.Paren e
-    is = ap (λ z. out-FactorForm z.form)
-        (out-roll-Factor (record { span = s; form = factor_is.Paren e })) ∙ ap out-FactorForm
-        (sym (factor_is.rolls-Paren e)) ∙ out-roll-FactorForm (FactorForm-F.Paren e)
-
-    same : (g : FormLayer) (d : Expr) → g ≡ FactorForm-F.Paren e → g ≡ FactorForm-F.Paren d → d ≡ e
-    same g d a b = cc
-
-    no_not : (g : FormLayer) (z : Factor) → g ≡ FactorForm-F.Paren e → g ≡ FactorForm-F.Not z → ⊥
-    no_not g z a b = cc
-
-    no_name : (g : FormLayer) (d : Designator) → g ≡ FactorForm-F.Paren e →
-        g ≡ FactorForm-F.Name d → ⊥
-    no_name g d a b = cc
+    is = lays s (FactorForm-F.Paren e) _ (factor_is.rolls-Paren e)
 
     inside : (p : Place) (f : Fault) → InFactor p y f → InExpression p e f
-    inside p f (which.inside _ _ d there b) = subst (λ z. InExpression p z f) (same _ d is there) b
-    inside p f (which.negated _ _ z there b) = absurd (no_not _ z is there)
-    inside p f (which.negation _ _ z there b) = absurd (no_not _ z is there)
-    inside p f (which.index _ _ d t there among b) = absurd (no_name _ d is there)
-    inside p f (which.name _ _ d there b) = absurd (no_name _ d is there)
-    inside p f (which.selectors _ _ d v there r b) = absurd (no_name _ d is there)
+    inside p f (which.inside _ _ d there b) =
+        subst (λ z. InExpression p z f) (one_form _ _ _ there is) b
+    inside p f (which.negated _ _ z there b) = absurd (one_form _ _ _ is there)
+    inside p f (which.negation _ _ z there b) = absurd (one_form _ _ _ is there)
+    inside p f (which.index _ _ d t there among b) = absurd (one_form _ _ _ is there)
+    inside p f (which.name _ _ d there b) = absurd (one_form _ _ _ is there)
+    inside p f (which.selectors _ _ d v there r b) = absurd (one_form _ _ _ is there)
 
 pub negation_stands : (s : Span) (y : Factor) (i k j : ℕ) → i ≤ k → s.last + 1 ≡ j →
     Stands k j (whole_factor y) (λ p f. InFactor p y f)
@@ -520,9 +502,8 @@ negation_stands s y i k j low ends h =
     (λ last p. (whole_factor y).judge p >>= λ e. of_type 16 boolean (whole_factor y).last e >>=
     λ truth. Ok (typed boolean (x.Not truth)))
     (λ p f. InFactor p y f ⊎ Fails ((whole_factor y).judge p) test f)
-    (ap form_of (sym (factor_is.rolls-Not y)) ∙ fold-roll-FactorForm FactorResult SelectorResult
-    Selected Phrase Phrase Next Next Next Selection Phrase Phrase factor_form selector_form
-    designator expr factor next_factor next_term relation selector simple_expr term
+    (ap form_of (sym (factor_is.rolls-Not y)) ∙ fold-roll-FactorForm _ _ _ _ _ _ _ _ _ _ _ _ _ _ _ _
+    _ _ _ _ _ _
     (FactorForm-F.Not y))
     (let some = h.some in omega arith) ends
     (λ p. alike i j _ _ _ (λ f. InFactor p y f ⊎ Fails ((whole_factor y).judge p) test f)
@@ -546,31 +527,19 @@ negation_stands s y i k j low ends h =
     z = roll-Factor (record { span = s; form = factor_is.Not y })
 
     is : out-FactorForm (out-Factor z).form ≡ FactorForm-F.Not y
-    is = ap (λ z. out-FactorForm z.form)
-        (out-roll-Factor (record { span = s; form = factor_is.Not y })) ∙ ap out-FactorForm
-        (sym (factor_is.rolls-Not y)) ∙ out-roll-FactorForm (FactorForm-F.Not y)
-
-    same : (g : FormLayer) (d : Factor) → g ≡ FactorForm-F.Not y → g ≡ FactorForm-F.Not d → d ≡ y
-    same g d a b = cc
-
-    no_paren : (g : FormLayer) (e : Expr) → g ≡ FactorForm-F.Not y → g ≡ FactorForm-F.Paren e → ⊥
-    no_paren g e a b = cc
-
-    no_name : (g : FormLayer) (d : Designator) → g ≡ FactorForm-F.Not y → g ≡ FactorForm-F.Name d →
-        ⊥
-    no_name g d a b = cc
+    is = lays s (FactorForm-F.Not y) _ (factor_is.rolls-Not y)
 
     inside : (p : Place) (f : Fault) → InFactor p z f → InFactor p y f ⊎
         Fails ((whole_factor y).judge p) test f
-    inside p f (which.inside _ _ e there b) = absurd (no_paren _ e is there)
+    inside p f (which.inside _ _ e there b) = absurd (one_form _ _ _ is there)
     inside p f (which.negated _ _ w there b) =
-        inl (subst (λ w. InFactor p w f) (same _ w is there) b)
+        inl (subst (λ w. InFactor p w f) (one_form _ _ _ there is) b)
     inside p f (which.negation _ _ w there b) =
         inr (subst (λ w. Fails ((whole_factor w).judge p) (of_type 16 boolean (whole_factor w).last)
-        f) (same _ w is there) b)
-    inside p f (which.index _ _ d t there among b) = absurd (no_name _ d is there)
-    inside p f (which.name _ _ d there b) = absurd (no_name _ d is there)
-    inside p f (which.selectors _ _ d v there r b) = absurd (no_name _ d is there)
+        f) (one_form _ _ _ there is) b)
+    inside p f (which.index _ _ d t there among b) = absurd (one_form _ _ _ is there)
+    inside p f (which.name _ _ d there b) = absurd (one_form _ _ _ is there)
+    inside p f (which.selectors _ _ d v there r b) = absurd (one_form _ _ _ is there)
 
 pub name_stands : (s t : Span) (k : ℕ) (ss : List Selector) (j : ℕ) → s.last + 1 ≡ j →
     InOrder SelectorAt (k + 1) ss j
@@ -590,14 +559,11 @@ name_stands s t k ss j ends order =
     factor_stands s (factor_is.Name d) k j
     (λ last p. used p k >>= λ m. designated p
     (record { name = k; selectors = map one_selector ss }) m) (λ p f. Parts p k ss f)
-    (ap form_of (sym (factor_is.rolls-Name d)) ∙ fold-roll-FactorForm FactorResult SelectorResult
-    Selected Phrase Phrase Next Next Next Selection Phrase Phrase factor_form selector_form
-    designator expr factor next_factor next_term relation selector simple_expr term
+    (ap form_of (sym (factor_is.rolls-Name d)) ∙ fold-roll-FactorForm _ _ _ _ _ _ _ _ _ _ _ _ _ _ _
+    _ _ _ _ _ _ _
     (FactorForm-F.Name d)
     ∙ ap {B = FactorResult} (λ (r : Selected) (last : ℕ) (p : Place). used p r.name >>= λ m.
-    designated p r m) (fold-roll-Designator FactorResult SelectorResult Selected Phrase Phrase
-    Next Next Next Selection Phrase Phrase factor_form selector_form designator expr factor
-    next_factor next_term relation selector simple_expr term _))
+    designated p r m) (fold-roll-Designator _ _ _ _ _ _ _ _ _ _ _ _ _ _ _ _ _ _ _ _ _ _ _))
     (let rest = ordered ss (k + 1) j order in omega arith) ends
     (λ p. designated_leads p k j ss order) outside inside
   where
@@ -614,22 +580,10 @@ name_stands s t k ss j ends order =
         SelectorsFail p v.type_id ss f))
 
     is : out-FactorForm (out-Factor y).form ≡ FactorForm-F.Name d
-    is = ap (λ z. out-FactorForm z.form)
-        (out-roll-Factor (record { span = s; form = factor_is.Name d })) ∙ ap out-FactorForm
-        (sym (factor_is.rolls-Name d)) ∙ out-roll-FactorForm (FactorForm-F.Name d)
+    is = lays s (FactorForm-F.Name d) _ (factor_is.rolls-Name d)
 
     opens : out-Designator d ≡ record { span = t; name = k; selectors = ss }
     opens = out-roll-Designator _
-
-    no_paren : (g : FormLayer) (e : Expr) → g ≡ FactorForm-F.Name d → g ≡ FactorForm-F.Paren e → ⊥
-    no_paren g e a b = cc
-
-    no_not : (g : FormLayer) (z : Factor) → g ≡ FactorForm-F.Name d → g ≡ FactorForm-F.Not z → ⊥
-    no_not g z a b = cc
-
-    same : (g : FormLayer) (c : Designator) → g ≡ FactorForm-F.Name d → g ≡ FactorForm-F.Name c →
-        c ≡ d
-    same g c a b = cc
 
     parts_of : (p : Place) (f : Fault) → Parts p (out-Designator d).name
         (out-Designator d).selectors f → Parts p k ss f
@@ -644,18 +598,18 @@ name_stands s t k ss j ends order =
         by (inr (inr (v, read, b))) = which.selectors y f d v is read b
 
     inside : (p : Place) (f : Fault) → InFactor p y f → Parts p k ss f
-    inside p f (which.inside _ _ e there b) = absurd (no_paren _ e is there)
-    inside p f (which.negated _ _ z there b) = absurd (no_not _ z is there)
-    inside p f (which.negation _ _ z there b) = absurd (no_not _ z is there)
+    inside p f (which.inside _ _ e there b) = absurd (one_form _ _ _ is there)
+    inside p f (which.negated _ _ z there b) = absurd (one_form _ _ _ is there)
+    inside p f (which.negation _ _ z there b) = absurd (one_form _ _ _ is there)
     inside p f (which.index _ _ c t there among b) =
         parts_of p f (subst (λ c. Parts p (out-Designator c).name (out-Designator c).selectors f)
-        (same _ c is there) (inr (inl (t, among, b))))
+        (one_form _ _ _ there is) (inr (inl (t, among, b))))
     inside p f (which.name _ _ c there b) =
         parts_of p f (subst (λ c. Parts p (out-Designator c).name (out-Designator c).selectors f)
-        (same _ c is there) (inl b))
+        (one_form _ _ _ there is) (inl b))
     inside p f (which.selectors _ _ c v there r b) =
         parts_of p f (subst (λ c. Parts p (out-Designator c).name (out-Designator c).selectors f)
-        (same _ c is there) (inr (inr (v, r, b))))
+        (one_form _ _ _ there is) (inr (inr (v, r, b))))
 
 -- ---- selectors
 
@@ -672,13 +626,9 @@ field_stands s i j k low high =
     (out-roll-Selector (record { span = s; form = selector_is.Field k })) ∙ ap out-SelectorForm
     (sym (selector_is.rolls-Field k)) ∙ out-roll-SelectorForm (SelectorForm-F.Field k))
     (λ p t. ap (λ (r : Selection). r p t)
-    (fold-roll-Selector FactorResult SelectorResult Selected Phrase Phrase Next Next Next
-    Selection Phrase Phrase factor_form selector_form designator expr factor next_factor
-    next_term relation selector simple_expr term _
+    (fold-roll-Selector _ _ _ _ _ _ _ _ _ _ _ _ _ _ _ _ _ _ _ _ _ _ _
     ∙ ap (λ (r : SelectorResult). r s.last) (ap selector_form_of (sym (selector_is.rolls-Field k))
-    ∙ fold-roll-SelectorForm FactorResult SelectorResult Selected Phrase Phrase Next Next Next
-    Selection Phrase Phrase factor_form selector_form designator expr factor next_factor
-    next_term relation selector simple_expr term (SelectorForm-F.Field k))))
+    ∙ fold-roll-SelectorForm _ _ _ _ _ _ _ _ _ _ _ _ _ _ _ _ _ _ _ _ _ _ (SelectorForm-F.Field k))))
     low high
 
 pub index_stands : (s : Span) (e : Expr) (i k l j : ℕ) →
@@ -692,11 +642,7 @@ index_stands s e i k l j inner low mid high =
     (sym (selector_is.rolls-Index e)) ∙ out-roll-SelectorForm (SelectorForm-F.Index e))
     (ap (λ z. z.span.last) (out-roll-Selector (record { span = s; form = selector_is.Index e })))
     (λ p t. ap (λ (r : Selection). r p t)
-    (fold-roll-Selector FactorResult SelectorResult Selected Phrase Phrase Next Next Next
-    Selection Phrase Phrase factor_form selector_form designator expr factor next_factor
-    next_term relation selector simple_expr term _
+    (fold-roll-Selector _ _ _ _ _ _ _ _ _ _ _ _ _ _ _ _ _ _ _ _ _ _ _
     ∙ ap (λ (r : SelectorResult). r s.last) (ap selector_form_of (sym (selector_is.rolls-Index e))
-    ∙ fold-roll-SelectorForm FactorResult SelectorResult Selected Phrase Phrase Next Next Next
-    Selection Phrase Phrase factor_form selector_form designator expr factor next_factor
-    next_term relation selector simple_expr term (SelectorForm-F.Index e))))
+    ∙ fold-roll-SelectorForm _ _ _ _ _ _ _ _ _ _ _ _ _ _ _ _ _ _ _ _ _ _ (SelectorForm-F.Index e))))
     inner low mid high

@@ -20,13 +20,10 @@ use Rattle.ob_syntax.specs.declared.tree.Stmt.{Stmt, out-Stmt, roll-Stmt, out-ro
 use Rattle.ob_syntax.specs.declared.tree.Stmt.{fold-roll-Stmt}
 use Rattle.ob_syntax.specs.declared.tree.StmtForm.{StmtForm, StmtForm-F, out-StmtForm}
 use Rattle.ob_syntax.specs.declared.tree.StmtForm.{out-roll-StmtForm, fold-StmtForm}
-use Rattle.ob_syntax.specs.declared.tree.StmtForm.{fold-roll-StmtForm}
+use Rattle.ob_syntax.specs.declared.tree.StmtForm.{roll-StmtForm, fold-roll-StmtForm}
 use Rattle.ob_syntax.specs.declared.tree.StmtForm.TheVariants as form_is
-use Rattle.ob_syntax.specs.Expressions.{Phrase, Next, Selected, Selection, FactorResult}
-use Rattle.ob_syntax.specs.Expressions.{SelectorResult, factor_form, selector_form, designator}
-use Rattle.ob_syntax.specs.Expressions.{expr, factor, next_factor, next_term, relation, selector}
-use Rattle.ob_syntax.specs.Expressions.{simple_expr, term, boolean, of_type, are_alike, selected}
-use Rattle.ob_syntax.specs.Expressions.{variable, expression, one_selector, name_with_selectors}
+use Rattle.ob_syntax.specs.Expressions.{Selected, boolean, of_type, are_alike, selected, variable}
+use Rattle.ob_syntax.specs.Expressions.{expression, one_selector, name_with_selectors}
 use Rattle.ob_syntax.specs.Names.{Fault, Judged, Place, used}
 use Rattle.ob_syntax.specs.Statements.{Judge, StmtResult, stmt_form, arm_step, stmt_step, target}
 use Rattle.ob_syntax.specs.Statements.{assigned, condition, each, statement, arm}
@@ -147,16 +144,23 @@ map_layer (StmtForm-F.If arms other) = StmtForm-F.If (map arm arms) (map stateme
 map_layer (StmtForm-F.While e body) = StmtForm-F.While e (map statement body)
 map_layer (StmtForm-F.Repeat body e) = StmtForm-F.Repeat (map statement body) e
 
-statement_stands : (s : Span) (g : StmtForm) (y : Layer) (i j : ℕ) → out-StmtForm g ≡ y →
-    form_of g ≡ stmt_form (map_layer y) → i ≤ j →
+read_layer : (y : Layer) → form_of (roll-StmtForm y) ≡ stmt_form (map_layer y)
+read_layer (StmtForm-F.Assign d e) = fold-roll-StmtForm _ _ _ _ _ _ (StmtForm-F.Assign d e)
+read_layer (StmtForm-F.Call k es) = fold-roll-StmtForm _ _ _ _ _ _ (StmtForm-F.Call k es)
+read_layer (StmtForm-F.If xs ss) = fold-roll-StmtForm _ _ _ _ _ _ (StmtForm-F.If xs ss)
+read_layer (StmtForm-F.While e ss) = fold-roll-StmtForm _ _ _ _ _ _ (StmtForm-F.While e ss)
+read_layer (StmtForm-F.Repeat ss e) = fold-roll-StmtForm _ _ _ _ _ _ (StmtForm-F.Repeat ss e)
+
+statement_stands : (s : Span) (y : Layer) (g : StmtForm) (i j : ℕ) → roll-StmtForm y ≡ g → i ≤ j →
     ((p : Place) → Leads i j (told (stmt_form (map_layer y) s.last p)) (λ f. Parts p s.last y f))
     → StatementAt (roll-Stmt (record { span = s; form = g })) i j
-statement_stands s g y i j is reads some leads = record {
+statement_stands s y g i j rolls some leads = record {
   some = some;
   leads = λ p. alike i j _ _ (Parts p s.last y) (λ f. InStatement p t f)
       (ap (λ (r : Judge RStmt). told (r p))
       (sym (fold-roll-Stmt StmtResult (Judge RArm) (Judge RStmt) stmt_form arm_step stmt_step
-      (record { span = s; form = g }) ∙ ap (λ (r : StmtResult). r s.last) reads)))
+      (record { span = s; form = g }) ∙ ap (λ (r : StmtResult). r s.last)
+      (ap form_of (sym rolls) ∙ read_layer y))))
       (λ f b. outside p f (subst (λ z. Parts p s.last z f) (sym lays) b))
       (λ f b. subst (λ z. Parts p s.last z f) lays (inside p f b)) (leads p);
 }
@@ -168,7 +172,8 @@ statement_stands s g y i j is reads some leads = record {
     opens = out-roll-Stmt _
 
     lays : layer t ≡ y
-    lays = ap (λ z. out-StmtForm z.form) (out-roll-Stmt (record { span = s; form = g })) ∙ is
+    lays = ap (λ z. out-StmtForm z.form) (out-roll-Stmt (record { span = s; form = g }))
+        ∙ ap out-StmtForm (sym rolls) ∙ out-roll-StmtForm y
 
     outside : (p : Place) (f : Fault) → Parts p s.last (layer t) f → InStatement p t f
     outside p f (inl b) = which.itself t f
@@ -191,10 +196,7 @@ pub assignment_stands : (s t : Span) (k : ℕ) (ss : List Selector) (e : Expr) (
           form_is.Assign (roll-Designator (record { span = t; name = k; selectors = ss })) e;
     })) k j
 assignment_stands s t k ss e l m j ends low order value =
-    statement_stands s (form_is.Assign d e) (StmtForm-F.Assign d e) k j
-    (ap out-StmtForm (sym (form_is.rolls-Assign d e)) ∙ out-roll-StmtForm (StmtForm-F.Assign d e))
-    (ap form_of (sym (form_is.rolls-Assign d e)) ∙ fold-roll-StmtForm StmtResult (Judge RArm)
-    (Judge RStmt) stmt_form arm_step stmt_step (StmtForm-F.Assign d e))
+    statement_stands s (StmtForm-F.Assign d e) _ k j (form_is.rolls-Assign d e)
     (let first = ordered ss (k + 1) l order in let some = value.some in omega arith)
     (λ p. alike k j _ _ (λ f. Named p k ss f ⊎
     (InExpression p e f ⊎ BothFail (used p k >>= target p whole) ((expression e).judge p)
@@ -228,9 +230,7 @@ assignment_stands s t k ss e l m j ends low order value =
     opens = out-roll-Designator _
 
     reads : name_with_selectors d ≡ whole
-    reads = fold-roll-Designator FactorResult SelectorResult Selected Phrase Phrase Next Next Next
-        Selection Phrase Phrase factor_form selector_form designator expr factor next_factor
-        next_term relation selector simple_expr term _
+    reads = fold-roll-Designator _ _ _ _ _ _ _ _ _ _ _ _ _ _ _ _ _ _ _ _ _ _ _
 
     Named : Place → ℕ → List Selector → Fault → Type 0
     Named p k ss f = NameFails p k (target p (bare k)) f ⊎
@@ -258,10 +258,7 @@ pub call_stands : (s : Span) (k : ℕ) (es : List Expr) (j : ℕ) → s.last + 1
     InOrder ExpressionAt (k + 1) es j →
     StatementAt (roll-Stmt (record { span = s; form = form_is.Call k es })) k j
 call_stands s k es j ends some order =
-    statement_stands s (form_is.Call k es) (StmtForm-F.Call k es) k j
-    (ap out-StmtForm (sym (form_is.rolls-Call k es)) ∙ out-roll-StmtForm (StmtForm-F.Call k es))
-    (ap form_of (sym (form_is.rolls-Call k es)) ∙ fold-roll-StmtForm StmtResult (Judge RArm)
-    (Judge RStmt) stmt_form arm_step stmt_step (StmtForm-F.Call k es))
+    statement_stands s (StmtForm-F.Call k es) _ k j (form_is.rolls-Call k es)
     (omega arith)
     (λ p. alike k j _ _ (λ f. InCall p s.last k es f) _ refl (λ f b. inl b)
     (λ f. elim [
@@ -276,11 +273,7 @@ pub if_stands : (s : Span) (xs : List Arm) (others : List Stmt) (i k l j m : ℕ
     InOrder ArmAt k xs l → InOrder StatementAt l others m
     → StatementAt (roll-Stmt (record { span = s; form = form_is.If xs others })) i j
 if_stands s xs others i k l j m low high first rest =
-    statement_stands s (form_is.If xs others) (StmtForm-F.If xs others) i j
-    (ap out-StmtForm (sym (form_is.rolls-If xs others)) ∙ out-roll-StmtForm
-    (StmtForm-F.If xs others))
-    (ap form_of (sym (form_is.rolls-If xs others)) ∙ fold-roll-StmtForm StmtResult (Judge RArm)
-    (Judge RStmt) stmt_form arm_step stmt_step (StmtForm-F.If xs others))
+    statement_stands s (StmtForm-F.If xs others) _ i j (form_is.rolls-If xs others)
     (let a = items_in_order arm (λ p x f. InArm p x f) xs k l first in let b =
     items_in_order statement (λ p x f. InStatement p x f) others l m rest in omega arith)
     (λ p. alike i j _ _ (λ f. AnyOf (λ a g. InArm p a g) xs f ⊎
@@ -300,10 +293,7 @@ pub while_stands : (s : Span) (e : Expr) (ss : List Stmt) (i k l n m j : ℕ) �
     m ≤ j → ExpressionAt e k l → InOrder StatementAt n ss m
     → StatementAt (roll-Stmt (record { span = s; form = form_is.While e ss })) i j
 while_stands s e ss i k l n m j low mid high first rest =
-    statement_stands s (form_is.While e ss) (StmtForm-F.While e ss) i j
-    (ap out-StmtForm (sym (form_is.rolls-While e ss)) ∙ out-roll-StmtForm (StmtForm-F.While e ss))
-    (ap form_of (sym (form_is.rolls-While e ss)) ∙ fold-roll-StmtForm StmtResult (Judge RArm)
-    (Judge RStmt) stmt_form arm_step stmt_step (StmtForm-F.While e ss))
+    statement_stands s (StmtForm-F.While e ss) _ i j (form_is.rolls-While e ss)
     (let a = first.some in let b = items_in_order statement (λ p x f. InStatement p x f) ss n m
     rest in omega arith)
     (λ p. alike i j _ _ (λ f. InCondition p e f ⊎ AnyOf (λ t g. InStatement p t g) ss f) _ refl
@@ -321,10 +311,7 @@ pub repeat_stands : (s : Span) (ss : List Stmt) (e : Expr) (i k l n j : ℕ) →
     InOrder StatementAt k ss l → ExpressionAt e n j
     → StatementAt (roll-Stmt (record { span = s; form = form_is.Repeat ss e })) i j
 repeat_stands s ss e i k l n j low mid first last =
-    statement_stands s (form_is.Repeat ss e) (StmtForm-F.Repeat ss e) i j
-    (ap out-StmtForm (sym (form_is.rolls-Repeat ss e)) ∙ out-roll-StmtForm (StmtForm-F.Repeat ss e))
-    (ap form_of (sym (form_is.rolls-Repeat ss e)) ∙ fold-roll-StmtForm StmtResult (Judge RArm)
-    (Judge RStmt) stmt_form arm_step stmt_step (StmtForm-F.Repeat ss e))
+    statement_stands s (StmtForm-F.Repeat ss e) _ i j (form_is.rolls-Repeat ss e)
     (let a = last.some in let b = items_in_order statement (λ p x f. InStatement p x f) ss k l
     first in omega arith)
     (λ p. alike i j _ _ (λ f. AnyOf (λ t g. InStatement p t g) ss f ⊎ InCondition p e f) _ refl

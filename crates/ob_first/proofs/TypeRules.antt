@@ -16,7 +16,7 @@ use Rattle.ob_syntax.specs.declared.tree.TypeExpr.{TypeExpr, out-TypeExpr, roll-
 use Rattle.ob_syntax.specs.declared.tree.TypeExpr.{out-roll-TypeExpr, fold-roll-TypeExpr}
 use Rattle.ob_syntax.specs.declared.tree.TypeForm.{TypeForm, TypeForm-F, out-TypeForm}
 use Rattle.ob_syntax.specs.declared.tree.TypeForm.{out-roll-TypeForm, fold-TypeForm}
-use Rattle.ob_syntax.specs.declared.tree.TypeForm.{fold-roll-TypeForm}
+use Rattle.ob_syntax.specs.declared.tree.TypeForm.{roll-TypeForm, fold-roll-TypeForm}
 use Rattle.ob_syntax.specs.declared.tree.TypeForm.TheVariants as form_is
 use Rattle.ob_syntax.specs.Expressions.{expression}
 use Rattle.ob_syntax.specs.Names.{Fault, Place, used, name_at}
@@ -275,17 +275,17 @@ parts_outside p t (TypeForm-F.Array count item) f is (inl b) =
 parts_outside p t (TypeForm-F.Array count item) f is (inr b) = which.element p t f count item is b
 parts_outside p t (TypeForm-F.Record lists) f is b = which.fields p t f lists is b
 
-type_stands : (s : Span) (g : TypeForm) (y : Layer) (i j : ℕ) (read : Shaped) → out-TypeForm g ≡ y →
-    form_of g ≡ read → i < j → s.last + 1 ≡ j →
+type_stands : (s : Span) (y : Layer) (g : TypeForm) (i j : ℕ) (read : Shaped) →
+    roll-TypeForm y ≡ g → form_of (roll-TypeForm y) ≡ read → i < j → s.last + 1 ≡ j →
     ((p : Place) → Leads i j (told (read p)) (λ f. Parts p y f))
     → TypeAt (roll-TypeExpr (record { span = s; form = g })) i j
-type_stands s g y i j read is reads some ends leads = record {
+type_stands s y g i j read rolls reads some ends leads = record {
   some = some;
   last = ap (λ z. z.span.last + 1) (out-roll-TypeExpr (record { span = s; form = g })) ∙ ends;
   leads = λ p. alike i j _ _ (λ f. Parts p y f) (λ f. InType p t f)
       (ap (λ (r : Shaped). told (r p))
       (sym (fold-roll-TypeExpr Shaped FieldsAfter Shaped type_form field_list type_step
-      (record { span = s; form = g }) ∙ reads)))
+      (record { span = s; form = g }) ∙ ap form_of (sym rolls) ∙ reads)))
       (λ f. parts_outside p t y f lays) (λ f. parts_inside p t y f lays) (leads p);
 }
   where
@@ -293,7 +293,8 @@ type_stands s g y i j read is reads some ends leads = record {
     t = roll-TypeExpr (record { span = s; form = g })
 
     lays : layer t ≡ y
-    lays = ap (λ z. out-TypeForm z.form) (out-roll-TypeExpr (record { span = s; form = g })) ∙ is
+    lays = ap (λ z. out-TypeForm z.form) (out-roll-TypeExpr (record { span = s; form = g }))
+        ∙ ap out-TypeForm (sym rolls) ∙ out-roll-TypeForm y
 
 named_type_at : (k : ℕ) (m : Meaning) (f : Fault) → named_type k m ≡ Err f → (f.1 ≡ k) × (6 ≤ f.0)
 named_type_at k (TypeName t) f h = absurd (cc)
@@ -303,11 +304,9 @@ named_type_at k m f h = let at : f.1 ≡ k = cc in let rule : f.0 ≡ 8 = cc in
 pub type_name_stands : (s : Span) (k j : ℕ) → k < j → s.last + 1 ≡ j →
     TypeAt (roll-TypeExpr (record { span = s; form = form_is.Name k })) k j
 type_name_stands s k j some ends =
-    type_stands s (form_is.Name k) (TypeForm-F.Name k) k j
+    type_stands s (TypeForm-F.Name k) _ k j
     (λ p. used p k >>= λ m. named_type k m >>= λ type_id. Ok (p, type_id))
-    (ap out-TypeForm (sym (form_is.rolls-Name k)) ∙ out-roll-TypeForm (TypeForm-F.Name k))
-    (ap form_of (sym (form_is.rolls-Name k)) ∙ fold-roll-TypeForm Shaped FieldsAfter Shaped
-    type_form field_list type_step (TypeForm-F.Name k))
+    (form_is.rolls-Name k) (fold-roll-TypeForm _ _ _ _ _ _ _)
     some ends
     (λ p. alike k j _ _ (λ f. NameFails p k (named_type k) f) _
     (sym (told_joined (used p k >>= named_type k) (λ type_id. (p, type_id)))
@@ -320,12 +319,10 @@ pub array_stands : (s : Span) (e : Expr) (t : TypeExpr) (i k l m j : ℕ) → i 
     s.last + 1 ≡ j → ExpressionAt e k l → TypeAt t m j →
     TypeAt (roll-TypeExpr (record { span = s; form = form_is.Array e t })) i j
 array_stands s e t i k l m j low mid ends count item =
-    type_stands s (form_is.Array e t) (TypeForm-F.Array e t) i j
+    type_stands s (TypeForm-F.Array e t) _ i j
     (λ p. array_length p e >>= λ n. type_expression t (with_length p n) >>= λ inner. Ok
     (with_type inner.0 (Array n inner.1) []))
-    (ap out-TypeForm (sym (form_is.rolls-Array e t)) ∙ out-roll-TypeForm (TypeForm-F.Array e t))
-    (ap form_of (sym (form_is.rolls-Array e t)) ∙ fold-roll-TypeForm Shaped FieldsAfter Shaped
-    type_form field_list type_step (TypeForm-F.Array e t))
+    (form_is.rolls-Array e t) (fold-roll-TypeForm _ _ _ _ _ _ _)
     (let a = count.some in let b = item.some in omega arith) ends
     (λ p.
     let rest = wide m j l j _ (λ f. InType (in_array p e) t f) mid (omega arith)
@@ -346,12 +343,10 @@ pub record_stands : (s : Span) (ls : List NameList) (i k m j : ℕ) → i ≤ k 
     InOrder NameListAt k ls m →
     TypeAt (roll-TypeExpr (record { span = s; form = form_is.Record ls })) i j
 record_stands s ls i k m j low high ends order =
-    type_stands s (form_is.Record ls) (TypeForm-F.Record ls) i j
+    type_stands s (TypeForm-F.Record ls) _ i j
     (λ p. all_fields (begun p) (map fields_of ls) >>= λ fields. Ok
     (with_type fields.place (Record fields.types) fields.names))
-    (ap out-TypeForm (sym (form_is.rolls-Record ls)) ∙ out-roll-TypeForm (TypeForm-F.Record ls))
-    (ap form_of (sym (form_is.rolls-Record ls)) ∙ fold-roll-TypeForm Shaped FieldsAfter Shaped
-    type_form field_list type_step (TypeForm-F.Record ls))
+    (form_is.rolls-Record ls) (fold-roll-TypeForm _ _ _ _ _ _ _)
     (let a = lists_in_order ls k m order in omega arith) ends
     (λ p. alike i j _ _ (λ f. InFields (begun p) ls f) _
     (sym (told_joined (all_fields (begun p) (map fields_of ls))
