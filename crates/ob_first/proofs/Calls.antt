@@ -131,7 +131,7 @@ one_argument p param e i j at =
                 ∙ fails,
           )
     ])
-    (tested i j ((expression e).judge p) (kind_test param e) (λ f. InExpression p e f) (at.leads p)
+    (tested ((expression e).judge p) (kind_test param e) (at.leads p)
     (λ x f fails. let there = kind_test_at param e x f fails in let is = last_of e in let end =
     at.last in let some = at.some in
     (omega (arith, there, is, end, some), omega (arith, there, is, end))))
@@ -152,9 +152,9 @@ arguments_lead : (p : Place) (es : List Expr) (params : List Param) (done : List
     → Leads i j (told (arguments p done params es)) (λ f. AnyOf (λ e g. InExpression p e g) es f ⊎
     ArgumentsFail p params es f)
 arguments_lead p [] [] done i j order = alike i j _ _ (λ f. ⊥) _ refl (λ f b. absurd b)
-    (λ f. elim [ inl (x, is, b) ↦ is | inr b ↦ b ]) (nothing i j)
+    (λ f. elim [ inl (x, is, b) ↦ is | inr b ↦ b ]) nothing
 arguments_lead p [] (param ∷ params) done i j order = alike i j _ _ (λ f. ⊥) _ refl
-    (λ f b. absurd b) (λ f. elim [ inl (x, is, b) ↦ is | inr b ↦ b ]) (nothing i j)
+    (λ f b. absurd b) (λ f. elim [ inl (x, is, b) ↦ is | inr b ↦ b ]) nothing
 arguments_lead p (e ∷ es) [] done i j (k, l, low, one, order) =
     let rest = arguments_lead p es [] done l j order in
     alike i j _ _ (λ f. InExpression p e f ⊎ (AnyOf (λ e g. InExpression p e g) es f ⊎ ⊥)) _ refl
@@ -170,9 +170,8 @@ arguments_lead p (e ∷ es) [] done i j (k, l, low, one, order) =
           (x, inr is, b) ↦ inr (inl (x, is, b))
       | inr b ↦ absurd b
     ])
-    (after i l j ((expression e).judge p) (λ typed. arguments p done [] es)
-    (λ f. InExpression p e f) (λ f. AnyOf (λ e g. InExpression p e g) es f ⊎ ⊥)
-    (wide k l i l _ (λ f. InExpression p e f) low (omega arith) (one.leads p)) (λ x is. rest)
+    (after ((expression e).judge p) (λ typed. arguments p done [] es)
+    (wide low (omega arith) (one.leads p)) (λ x is. rest)
     rest.lies (let some = one.some in omega arith) (in_order es l j order))
 arguments_lead p (e ∷ es) (param ∷ params) done i j (k, l, low, one, order) =
     alike i j _ _ (λ f. (InExpression p e f ⊎ Fails ((expression e).judge p)
@@ -193,11 +192,8 @@ arguments_lead p (e ∷ es) (param ∷ params) done i j (k, l, low, one, order) 
       | inr (inr b) ↦
           inr (inr b)
     ])
-    (after i l j (argument p param e) (λ o. arguments p (done ++ o ∷ []) params es)
-    (λ f. InExpression p e f ⊎ Fails ((expression e).judge p) (λ x. argument p param e) f)
-    (λ f. AnyOf (λ e g. InExpression p e g) es f ⊎ ArgumentsFail p params es f)
-    (wide k l i l _ (λ f. InExpression p e f ⊎ Fails ((expression e).judge p)
-    (λ x. argument p param e) f) low (omega arith) (one_argument p param e k l one))
+    (after (argument p param e) (λ o. arguments p (done ++ o ∷ []) params es)
+    (wide low (omega arith) (one_argument p param e k l one))
     (λ o is. arguments_lead p es params (done ++ o ∷ []) l j order)
     (arguments_lead p es params [] l j order).lies (let some = one.some in omega arith)
     (in_order es l j order))
@@ -362,8 +358,7 @@ call_leads p last name es j ends some order =
           ))
     ])
     (behind name j a (judged_call p last es) (NameFails p name (callee p name)) Q
-    (wide name (name + 1) name j _ (NameFails p name (callee p name)) (omega arith)
-    (omega arith) front)
+    (wide (omega arith) (omega arith) front)
     (λ params is. alike name j _ _ (λ f. (Any f ⊎ ArgumentsFail p params es f) ⊎
     Fails (arguments p [] params es) (counted last (length params) (length es)) f) Q refl
     (λ f. elim [
@@ -411,9 +406,8 @@ call_leads p last name es j ends some order =
     by_arguments : (params : List Param) → Leads name j (told (judged_call p last es params))
         (λ f. (Any f ⊎ ArgumentsFail p params es f) ⊎ Fails (arguments p [] params es)
         (counted last (length params) (length es)) f)
-    by_arguments params = tested name j (arguments p [] params es)
-        (counted last (length params) (length es)) (λ f. Any f ⊎ ArgumentsFail p params es f)
-        (wide (name + 1) j name j _ (λ f. Any f ⊎ ArgumentsFail p params es f) (omega arith)
-        (omega arith) (arguments_lead p es params [] (name + 1) j order))
+    by_arguments params =
+        tested (arguments p [] params es) (counted last (length params) (length es))
+        (wide (omega arith) (omega arith) (arguments_lead p es params [] (name + 1) j order))
         (λ args f h. let at = counted_at last (length params) (length es) args f h in
         (omega (arith, at), omega (arith, at)))

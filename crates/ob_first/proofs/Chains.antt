@@ -93,7 +93,7 @@ module _ {A : Type 0} (p : Place) (item : A → Next) (B : Place → A → Fault
   chain [] i k j last so_far P end some h order =
       alike i j _ _ P (λ f. P f ⊎ (AnyOf (B p) [] f ⊎ ⊥)) (sym (told_unit so_far)) (λ f q. inl q)
       (λ f. elim [ inl q ↦ q | inr (inl (x, no_, b)) ↦ absurd no_ | inr (inr no_) ↦ absurd no_ ])
-      (wide i k i j _ P (omega arith) order h)
+      (wide (omega arith) order h)
   chain (x ∷ xs) i k j last so_far P end some h (k', l, at, one, order) =
       alike i j _ _ (λ f. Q f ⊎ (AnyOf (B p) xs f ⊎ ChainFails p e.last more (map item xs) f))
       (λ f. P f ⊎ (AnyOf (B p) (x ∷ xs) f ⊎ ChainFails p last so_far (map item (x ∷ xs)) f))
@@ -136,13 +136,13 @@ module _ {A : Type 0} (p : Place) (item : A → Next) (B : Place → A → Fault
       Q f = Left f ⊎ Right f
 
       left : Leads i k (told (so_far >>= operand o last)) Left
-      left = tested i k so_far (operand o last) P h
+      left = tested so_far (operand o last) h
           (λ t f fails. let is = operand_at o last t f fails in
           (omega (arith, is), omega (arith, is)))
 
       right : Leads k l (told (e.judge p >>= operand o e.last)) Right
-      right = tested k l (e.judge p) (operand o e.last) (B p x)
-          (wide k' l k l _ (B p x) at (omega arith) (one.leads p))
+      right = tested (e.judge p) (operand o e.last)
+          (wide at (omega arith) (one.leads p))
           (λ t f fails. let is = operand_at o e.last t f fails in let end = one.last in
           (omega (arith, is, one.some), omega (arith, is)))
 
@@ -150,5 +150,5 @@ module _ {A : Type 0} (p : Place) (item : A → Next) (B : Place → A → Fault
       whole = alike i l _ _ Q Q
           (ap told (in_two so_far (operand o last) (e.judge p) (operand o e.last) (binary o)))
           (λ f q. q) (λ f q. q)
-          (joined i k l (so_far >>= operand o last) (e.judge p >>= operand o e.last) (binary o) Left
-          Right left right (omega arith) (omega (arith, one.some)))
+          (joined (so_far >>= operand o last) (e.judge p >>= operand o e.last) (binary o) left right
+          (omega arith) (omega (arith, one.some)))

@@ -41,16 +41,15 @@ announced_at p k f h = by_test (is_declared (name_at p k) p.scope) _ _ (Err f) (
 announced_leads : (p : Place) (k i j : ℕ) → NameAt k i j → Leads i j (told (announced p k))
     (λ f. announced p k ≡ Err f)
 announced_leads p k i j at =
-    alone i j (announced p k) (λ f h. let there = announced_at p k f h in
+    alone (announced p k) (λ f h. let there = announced_at p k f h in
     (omega (arith, there, at.0), omega (arith, there, at.1)))
 
 names_lead : (ks : List ℕ) (p : Place) (i j : ℕ) → InOrder NameAt i ks j →
     Leads i j (told (all_announced p ks)) (λ f. NamesFail p ks f)
-names_lead [] p i j order = nothing i j
+names_lead [] p i j order = nothing
 names_lead (k ∷ ks) p i j (a, b, low, one, order) =
     let rest = names_lead ks (behind_name p k) b j order in
-    after i b j (announced p k) (λ q. all_announced q ks) (λ f. announced p k ≡ Err f)
-    (λ f. NamesFail (behind_name p k) ks f)
+    after (announced p k) (λ q. all_announced q ks)
     (announced_leads p k i b (omega (arith, one.0), one.1))
     (λ q is. subst (λ (z : Place). Leads b j (told (all_announced z ks))
     (λ f. NamesFail (behind_name p k) ks f)) (ap (value_or p) is) rest)
@@ -94,8 +93,7 @@ constant_declared p c i j at =
     (λ q. alike at.k j _ _ (λ f. InConstant q c.value f) _
     (sym (told_joined (constant q c.value) (λ v. shown q c.name (meaning.Constant v))))
     (λ f b. b) (λ f b. b)
-    (wide at.l j at.k j _ (λ f. InConstant q c.value f) at.low (omega arith)
-    (constant_leads q c.value at.l j at.value_at)))
+    (wide at.low (omega arith) (constant_leads q c.value at.l j at.value_at)))
     (omega (arith, name.0, name.1)) (let low = at.low in let some = at.some in omega arith)
 
 type_declared : (p : Place) (t : TypeDecl) (i j : ℕ) → TypeDeclarationAt t i j
@@ -112,7 +110,7 @@ type_declared p t i j at =
     (λ q. alike at.k j _ _ (λ f. InType q t.shape f) _
     (sym (told_joined (type_expression t.shape q)
     (λ shape. shown shape.0 t.name (meaning.TypeName shape.1)))) (λ f b. b) (λ f b. b)
-    (wide at.l j at.k j _ (λ f. InType q t.shape f) at.low (omega arith) (value.leads q)))
+    (wide at.low (omega arith) (value.leads q)))
     (omega (arith, name.0, name.1)) (let low = at.low in let some = at.some in omega arith)
 
 variables_declared : (p : Place) (vars : List ℕ) (l : NameList) (i j : ℕ) → NameListAt l i j
@@ -129,7 +127,7 @@ variables_declared p vars l i j at =
     (λ q. alike at.k j _ _ (λ f. InType q t f) _
     (sym (told_joined (type_expression t q)
     (λ shape. with_variables shape.0 vars shape.1 names))) (λ f b. b) (λ f b. b)
-    (wide at.l j at.k j _ (λ f. InType q t f) at.low (omega arith) (value.leads q)))
+    (wide at.low (omega arith) (value.leads q)))
     (names_in_order names i at.k at.in_order) (let low = at.low in let some = value.some in
     omega arith)
 
@@ -153,7 +151,7 @@ defined_in_order name Value (x ∷ xs) i j (a, b, low, one, order) =
 
 pub constants_lead : (cs : List ConstDecl) (p : Place) (i j : ℕ) → InOrder ConstantAt i cs j →
     Leads i j (told (all_constants p cs)) (λ f. InConstants p cs f)
-constants_lead [] p i j order = nothing i j
+constants_lead [] p i j order = nothing
 constants_lead (c ∷ cs) p i j (a, b, low, one, order) =
     let A = λ (f : Fault). announced p c.name ≡ Err f in
     let B = λ (f : Fault). InConstant (behind_name p c.name) c.value f in
@@ -161,14 +159,13 @@ constants_lead (c ∷ cs) p i j (a, b, low, one, order) =
     alike i j _ _ (λ f. (A f ⊎ B f) ⊎ C f) _ refl (shift A B C) (shift_back A B C)
     (after_behind i b j (constant_declaration p c) (λ q. all_constants q cs) (λ f. A f ⊎ B f)
     (λ q g. InConstants q cs g)
-    (wide a b i b _ (λ f. A f ⊎ B f) low (omega arith) (constant_declared p c a b one))
-    (λ q. constants_lead cs q b j order)
+    (wide low (omega arith) (constant_declared p c a b one)) (λ q. constants_lead cs q b j order)
     (let at = one.name_at in let l = one.low in let some = one.some in omega (arith, at.0, at.1))
     (defined_in_order (λ c. c.name) (λ c. ExpressionAt c.value) cs b j order))
 
 pub types_lead : (ts : List TypeDecl) (p : Place) (i j : ℕ) → InOrder TypeDeclarationAt i ts j →
     Leads i j (told (all_type_declarations p ts)) (λ f. InTypeDeclarations p ts f)
-types_lead [] p i j order = nothing i j
+types_lead [] p i j order = nothing
 types_lead (t ∷ ts) p i j (a, b, low, one, order) =
     let A = λ (f : Fault). announced p t.name ≡ Err f in
     let B = λ (f : Fault). InType (behind_name p t.name) t.shape f in
@@ -176,15 +173,14 @@ types_lead (t ∷ ts) p i j (a, b, low, one, order) =
     alike i j _ _ (λ f. (A f ⊎ B f) ⊎ C f) _ refl (shift A B C) (shift_back A B C)
     (after_behind i b j (type_declaration p t) (λ q. all_type_declarations q ts) (λ f. A f ⊎ B f)
     (λ q g. InTypeDeclarations q ts g)
-    (wide a b i b _ (λ f. A f ⊎ B f) low (omega arith) (type_declared p t a b one))
-    (λ q. types_lead ts q b j order)
+    (wide low (omega arith) (type_declared p t a b one)) (λ q. types_lead ts q b j order)
     (let at = one.name_at in let l = one.low in let some = one.some in omega (arith, at.0, at.1))
     (defined_in_order (λ t. t.name) (λ t. TypeAt t.shape) ts b j order))
 
 pub variables_lead : (ls : List NameList) (p : Place) (vars : List ℕ) (i j : ℕ) →
     InOrder NameListAt i ls j → Leads i j (told (all_variables p vars ls))
     (λ f. InVariables p vars ls f)
-variables_lead [] p vars i j order = nothing i j
+variables_lead [] p vars i j order = nothing
 variables_lead (l ∷ ls) p vars i j (a, b, low, one, order) =
     let A = λ (f : Fault). NamesFail p (out-NameList l).names f in
     let B = λ (f : Fault). InType (behind_names p (out-NameList l).names) (out-NameList l).shape
@@ -194,7 +190,7 @@ variables_lead (l ∷ ls) p vars i j (a, b, low, one, order) =
     alike i j _ _ (λ f. (A f ⊎ B f) ⊎ C f) _ refl (shift A B C) (shift_back A B C)
     (after_behind i b j (variable_list p vars l) (λ more. all_variables more.0 more.1 ls)
     (λ f. A f ⊎ B f) (λ more g. InVariables more.0 more.1 ls g)
-    (wide a b i b _ (λ f. A f ⊎ B f) low (omega arith) (variables_declared p vars l a b one))
+    (wide low (omega arith) (variables_declared p vars l a b one))
     (λ more. variables_lead ls more.0 more.1 b j order)
     (let h = of_type_in_order (out-NameList l).names (out-NameList l).shape a b one in omega arith)
     (lists_in_order ls b j order))
@@ -213,9 +209,8 @@ parameter_leads : (q : Place) (s : Section) (i j : ℕ) → TypeAt s.shape i j
     → Leads i j (told (type_expression s.shape q >>= λ t. parameter_type s.by_var
     (out-TypeExpr s.shape).span.last t.1)) (λ f. InParameterType q s f)
 parameter_leads q s i j at =
-    tested i j (type_expression s.shape q)
-    (λ t. parameter_type s.by_var (out-TypeExpr s.shape).span.last t.1)
-    (λ f. InType q s.shape f) (at.leads q)
+    tested (type_expression s.shape q)
+    (λ t. parameter_type s.by_var (out-TypeExpr s.shape).span.last t.1) (at.leads q)
     (λ t f h. let there = parameter_at s.by_var (out-TypeExpr s.shape).span.last t.1 f h in
     let end = at.last in let some = at.some in
     (omega (arith, there, end, some), omega (arith, there, end)))
@@ -239,8 +234,7 @@ section_declared p params s i j at =
     (λ q. alike at.k j _ _ (λ f. InParameterType q s f) _
     (section_told (type_expression s.shape q) kind
     (λ t type_id. with_parameters t.0 params s.by_var type_id s.names)) (λ f b. b) (λ f b. b)
-    (wide at.l j at.k j _ (λ f. InParameterType q s f) at.low (omega arith)
-    (parameter_leads q s at.l j value)))
+    (wide at.low (omega arith) (parameter_leads q s at.l j value)))
     (names_in_order s.names i at.k at.in_order) (let low = at.low in let some = value.some in
     omega arith)
 
@@ -253,7 +247,7 @@ sections_in_order (s ∷ ss) i j (a, b, low, one, order) = let first =
 sections_lead : (ss : List Section) (p : Place) (params : List Param) (i j : ℕ) →
     InOrder SectionAt i ss j → Leads i j (told (all_sections p params ss))
     (λ f. InSections p params ss f)
-sections_lead [] p params i j order = nothing i j
+sections_lead [] p params i j order = nothing
 sections_lead (s ∷ ss) p params i j (a, b, low, one, order) =
     let A = λ (f : Fault). NamesFail p s.names f in
     let B = λ (f : Fault). InParameterType (behind_names p s.names) s f in
@@ -262,7 +256,7 @@ sections_lead (s ∷ ss) p params i j (a, b, low, one, order) =
     alike i j _ _ (λ f. (A f ⊎ B f) ⊎ C f) _ refl (shift A B C) (shift_back A B C)
     (after_behind i b j (section p params s) (λ more. all_sections more.0 more.1 ss)
     (λ f. A f ⊎ B f) (λ more g. InSections more.0 more.1 ss g)
-    (wide a b i b _ (λ f. A f ⊎ B f) low (omega arith) (section_declared p params s a b one))
+    (wide low (omega arith) (section_declared p params s a b one))
     (λ more. sections_lead ss more.0 more.1 b j order)
     (let h = of_type_in_order s.names s.shape a b one in omega arith)
     (sections_in_order ss b j order))
@@ -286,6 +280,5 @@ heading_leads p name ss i k l j at low order =
           inside.0.scope,
       inside.1,
     )))) (λ f b. b) (λ f b. b)
-    (wide l j k j _ (λ f. InSections (entered q (length q.headings) []) [] ss f) low (omega arith)
-    (sections_lead ss (entered q (length q.headings) []) [] l j order)))
+    (wide low (omega arith) (sections_lead ss (entered q (length q.headings) []) [] l j order)))
     (omega (arith, at.0, at.1)) (let h = sections_in_order ss l j order in omega arith)

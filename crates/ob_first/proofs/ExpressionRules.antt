@@ -76,13 +76,13 @@ module _ (p : Place) (left right : Phrase) (L R : Fault → Type 0) (i k l j : �
     (some : i < k) (low : k ≤ l) (rest : l < j) (left_ends : left.last + 1 ≡ k)
     (right_ends : right.last + 1 ≡ j) where
   behind : Leads k j (told (right.judge p)) R
-  behind = wide l j k j _ R low (omega arith) back
+  behind = wide low (omega arith) back
 
   alike_sides : (o : ROp) →
       Leads i j (told (left.judge p >>= λ a. right.judge p >>= λ b. compared_alike o right.last a
       b))
       (λ f. L f ⊎ (R f ⊎ BothFail (left.judge p) (right.judge p) (compared_alike o right.last) f))
-  alike_sides o = both_tested i k j (left.judge p) (right.judge p) (compared_alike o right.last) L R
+  alike_sides o = both_tested (left.judge p) (right.judge p) (compared_alike o right.last)
       front behind (omega arith) (omega arith)
       (λ a b f h. let there = compared_at o right.last a b f h in
       (omega (arith, there), omega (arith, there)))
@@ -110,12 +110,12 @@ module _ (p : Place) (left right : Phrase) (L R : Fault → Type 0) (i k l j : �
             inl (inr b)
         | inr (inr (inr b)) ↦ inr (inr b)
       ])
-      (joined i k j (left.judge p >>= operand o left.last) (right.judge p >>= operand o right.last)
-      (binary o) (λ f. L f ⊎ OperandFails p o left f) (λ f. R f ⊎ OperandFails p o right f)
-      (tested i k (left.judge p) (operand o left.last) L front
+      (joined (left.judge p >>= operand o left.last) (right.judge p >>= operand o right.last)
+      (binary o)
+      (tested (left.judge p) (operand o left.last) front
       (λ x f h. let there = operand_at o left.last x f h in
       (omega (arith, there), omega (arith, there))))
-      (tested k j (right.judge p) (operand o right.last) R behind
+      (tested (right.judge p) (operand o right.last) behind
       (λ x f h. let there = operand_at o right.last x f h in
       (omega (arith, there), omega (arith, there))))
       (omega arith) (omega arith))
@@ -159,7 +159,7 @@ expression_stands s l None i k j ends left same =
       leads = λ p. alike i j _ _ (λ f. InSimple p l f) _
           (sym (told_unit ((simple_expression l).judge p))) (λ f b. which.left e f (rw is b))
           (λ f b. inside p f b)
-          (wide i k i j _ (λ f. InSimple p l f) (omega arith) (omega arith) (left.leads p));
+          (wide (omega arith) (omega arith) (left.leads p));
     })
   where
     e : Expr
@@ -302,8 +302,7 @@ simple_stands s sign t ts i l k j ends low high first order =
           (chain p following_term (λ q n f. InTerm q (out-NextTerm n).term f) ts i k j
           (whole_term t).last (a p >>= test) (λ f. InTerm p t f ⊎ Fails (a p) test f) first.last
           (let some = first.some in omega arith)
-          (tested i k (a p) test (λ f. InTerm p t f)
-          (wide l k i k _ (λ f. InTerm p t f) low (omega arith) (first.leads p))
+          (tested (a p) test (wide low (omega arith) (first.leads p))
           (λ x f h. let there = signed_at sign (whole_term t).last x f h in let some = first.some in
           let end = first.last in (omega (arith, there, some, end), omega (arith, there, end))))
           order);
@@ -448,7 +447,7 @@ number_stands s n i j some ends =
     (ap form_of (sym (factor_is.rolls-Number n)) ∙ fold-roll-FactorForm _ _ _ _ _ _ _ _ _ _ _ _ _ _
     _ _ _ _ _ _ _ _
     (FactorForm-F.Number n))
-    some ends (λ p. nothing i j) (λ p f b. absurd b) inside
+    some ends (λ p. nothing) (λ p f b. absurd b) inside
   where
     y : Factor
     y = roll-Factor (record { span = s; form = factor_is.Number n })
@@ -475,7 +474,7 @@ parenthesis_stands s e i k l j low high ends h =
     _ _ _ _ _ _ _
     (FactorForm-F.Paren e))
     (let some = h.some in omega arith) ends
-    (λ p. wide k l i j _ (λ f. InExpression p e f) low high (h.leads p))
+    (λ p. wide low high (h.leads p))
     (λ p f b. which.inside y f e is b) inside
   where
     y : Factor
@@ -508,8 +507,7 @@ negation_stands s y i k j low ends h =
     (let some = h.some in omega arith) ends
     (λ p. alike i j _ _ _ (λ f. InFactor p y f ⊎ Fails ((whole_factor y).judge p) test f)
     (sym (told_result ((whole_factor y).judge p))) (λ f b. b) (λ f b. b)
-    (tested i j ((whole_factor y).judge p) test (λ f. InFactor p y f)
-    (wide k j i j _ (λ f. InFactor p y f) low (omega arith) (h.leads p))
+    (tested ((whole_factor y).judge p) test (wide low (omega arith) (h.leads p))
     (λ x f fails. let there = of_type_at 16 boolean (whole_factor y).last x f fails in let some =
     h.some in let end = h.last in
     (omega (arith, there, some, end), omega (arith, there, end)))))

@@ -60,25 +60,25 @@ alike i j t u B C e to from h = record {
   lies = λ f c. h.lies f (from f c);
 }
 
-pub wide : (i j i' j' : ℕ) (t : Option Fault) (B : Fault → Type 0) → i' ≤ i → j ≤ j' →
+pub wide : {i j i' j' : ℕ} {t : Option Fault} {B : Fault → Type 0} → i' ≤ i → j ≤ j' →
     Leads i j t B → Leads i' j' t B
-wide i j i' j' t B low high h = record {
+wide low high h = record {
   tells = h.tells;
   first = h.first;
   lies = λ f b. let at = h.lies f b in (omega (arith, at.0), omega (arith, at.1));
 }
 
-pub nothing : (i j : ℕ) → Leads i j None (λ f. ⊥)
-nothing i j = record { tells = λ f e. cc; first = λ f b. b; lies = λ f b. absurd b }
+pub nothing : {i j : ℕ} → Leads i j None (λ f. ⊥)
+nothing = record { tells = λ f e. cc; first = λ f b. b; lies = λ f b. absurd b }
 
 -- ---- one reading behind another
 
-pub after : {A B : Type 0} (i k j : ℕ) (a : Judged A) (g : A → Judged B) (P Q : Fault → Type 0) →
+pub after : {A B : Type 0} {i k j : ℕ} (a : Judged A) (g : A → Judged B) {P Q : Fault → Type 0} →
     Leads i k (told a) P
     → ((x : A) → a ≡ Ok x → Leads k j (told (g x)) Q) → ((f : Fault) → Q f → Lies k j f) → i ≤ k →
     k ≤ j
     → Leads i j (told (a >>= g)) (λ f. P f ⊎ Q f)
-after i k j (Ok x) g P Q front back lies low high = record {
+after (Ok x) g front back lies low high = record {
   tells = λ f e. inr ((back x refl).tells f e);
   first = λ f. elim [ inl p ↦ absurd (front.first f p) | inr q ↦ (back x refl).first f q ];
   lies = λ f. elim [
@@ -87,7 +87,7 @@ after i k j (Ok x) g P Q front back lies low high = record {
         (omega (arith, at.0), at.1)
   ];
 }
-after i k j (Err h) g P Q front back lies low high = record {
+after (Err h) g front back lies low high = record {
   tells = λ f e. inl (front.tells f e);
   first = λ f. elim [
     | inl p ↦ front.first f p
@@ -101,11 +101,11 @@ after i k j (Err h) g P Q front back lies low high = record {
 }
 
 -- a phrase with the test of it
-pub tested : {A B : Type 0} (i j : ℕ) (a : Judged A) (t : A → Judged B) (P : Fault → Type 0) →
+pub tested : {A B : Type 0} {i j : ℕ} (a : Judged A) (t : A → Judged B) {P : Fault → Type 0} →
     Leads i j (told a) P
     → ((x : A) (f : Fault) → t x ≡ Err f → Lies i j f) →
     Leads i j (told (a >>= t)) (λ f. P f ⊎ Fails a t f)
-tested i j (Ok x) t P front at = record {
+tested (Ok x) t front at = record {
   tells = λ f e. inr (x, refl, told_err (t x) f e);
   first = λ f. elim [
     | inl p ↦ absurd (front.first f p)
@@ -114,19 +114,19 @@ tested i j (Ok x) t P front at = record {
   ];
   lies = λ f. elim [ inl p ↦ front.lies f p | inr (y, is, fails) ↦ at y f fails ];
 }
-tested i j (Err h) t P front at = record {
+tested (Err h) t front at = record {
   tells = λ f e. inl (front.tells f e);
   first = λ f. elim [ inl p ↦ front.first f p | inr (y, is, fails) ↦ absurd (cc) ];
   lies = λ f. elim [ inl p ↦ front.lies f p | inr (y, is, fails) ↦ at y f fails ];
 }
 
 -- two phrases that are read apart and then tested together, at a token of the second
-pub both_tested : {A B C : Type 0} (i k j : ℕ) (a : Judged A) (b : Judged B) (t : A → B → Judged C)
-    (P Q : Fault → Type 0) → Leads i k (told a) P → Leads k j (told b) Q → i ≤ k → k ≤ j
+pub both_tested : {A B C : Type 0} {i k j : ℕ} (a : Judged A) (b : Judged B) (t : A → B → Judged C)
+    {P Q : Fault → Type 0} → Leads i k (told a) P → Leads k j (told b) Q → i ≤ k → k ≤ j
     → ((x : A) (y : B) (f : Fault) → t x y ≡ Err f → Lies k j f) →
     Leads i j (told (a >>= λ x. b >>= λ y. t x y)) (λ f. P f ⊎ (Q f ⊎ BothFail a b t f))
-both_tested {A} {B} i k j a b t P Q front back low high at =
-    after i k j a (λ x. b >>= λ y. t x y) P (λ f. Q f ⊎ BothFail a b t f) front
+both_tested {A} {B} {k = k} {j = j} a b t {P = P} {Q = Q} front back low high at =
+    after a (λ x. b >>= λ y. t x y) front
     (λ x is. alike k j _ _ (λ f. Q f ⊎ Fails b (t x) f) (λ f. Q f ⊎ BothFail a b t f) refl
     (λ f. elim [ inl q ↦ inl q | inr (y, is', fails) ↦ inr (x, y, is, is', fails) ])
     (λ f. elim [
@@ -134,7 +134,7 @@ both_tested {A} {B} i k j a b t P Q front back low high at =
       | inr (x', y, is', is'', fails) ↦
           inr (y, is'', ap (λ z. t z y) (same_value a x x' is is') ∙ fails)
     ])
-    (tested k j b (t x) Q back (at x)))
+    (tested b (t x) back (at x)))
     (λ f. elim [ inl q ↦ back.lies f q | inr (x, y, is, is', fails) ↦ at x y f fails ]) low high
 
 -- ---- two readings whose values are joined
@@ -143,11 +143,11 @@ pub told_joined : {A B : Type 0} (b : Judged A) (h : A → B) → told (b >>= λ
 told_joined (Ok y) h = refl
 told_joined (Err f) h = refl
 
-pub joined : {A B C : Type 0} (i k j : ℕ) (a : Judged A) (b : Judged B) (h : A → B → C)
-    (P Q : Fault → Type 0) → Leads i k (told a) P → Leads k j (told b) Q → i ≤ k → k ≤ j
+pub joined : {A B C : Type 0} {i k j : ℕ} (a : Judged A) (b : Judged B) (h : A → B → C)
+    {P Q : Fault → Type 0} → Leads i k (told a) P → Leads k j (told b) Q → i ≤ k → k ≤ j
     → Leads i j (told (a >>= λ x. b >>= λ y. Ok (h x y))) (λ f. P f ⊎ Q f)
-joined i k j a b h P Q front back low high =
-    after i k j a (λ x. b >>= λ y. Ok (h x y)) P Q front
+joined {k = k} {j = j} a b h {Q = Q} front back low high =
+    after a (λ x. b >>= λ y. Ok (h x y)) front
     (λ x is. alike k j _ _ Q Q (sym (told_joined b (h x))) (λ f q. q) (λ f q. q) back) back.lies low
     high
 
@@ -196,8 +196,7 @@ pub after_behind : {A B : Type 0} (i k j : ℕ) (a : Judged A) (g : A → Judged
     i ≤ k → k ≤ j
     → Leads i j (told (a >>= g)) (λ f. P f ⊎ Behind a C f)
 after_behind {A} i k j a g P C front back low high =
-    after i k j a g P (λ f. Behind a C f) front
-    (λ x is. alike k j _ _ (C x) (λ f. Behind a C f) refl (λ f b. (x, is, b))
+    after a g front (λ x is. alike k j _ _ (C x) (λ f. Behind a C f) refl (λ f b. (x, is, b))
     (λ f (y, is', b). subst (λ (z : A). C z f) (same_value a y x is' is) b) (back x))
     (λ f (x, is, b). (back x).lies f b) low high
 
@@ -207,6 +206,5 @@ pub after_place : {A B : Type 0} (i k j : ℕ) (a : Judged A) (g : A → Judged 
     → ((x : A) → Leads k j (told (g x)) (C x)) → i ≤ k → k ≤ j →
     Leads i j (told (a >>= g)) (λ f. P f ⊎ C place f)
 after_place {A} i k j a g P C place front same back low high =
-    after i k j a g P (C place) front
-    (λ x is. subst (λ (z : A). Leads k j (told (g x)) (C z)) (same x is) (back x))
+    after a g front (λ x is. subst (λ (z : A). Leads k j (told (g x)) (C z)) (same x is) (back x))
     (back place).lies low high

@@ -67,7 +67,7 @@ pub body_leads : {D V : Type 0} (i k l m j rule name close : ℕ) (d : Judged D)
     (λ f. P f ⊎ (Behind b (λ q g. In q ss g) f ⊎ Behind b (λ q g. closed rule q name close ≡ Err g)
     f))
 body_leads {D} {V} i k l m j rule name close d place b ss P front same low mid order high some h =
-    after i k j d rest P Q front
+    after d rest front
     (λ x is. alike k j _ _ (λ f. In (place x) ss f ⊎ (closed rule (place x) name close ≡ Err f)) Q
     refl
     (λ f. elim [ inl e ↦ inl (place x, same x is, e) | inr e ↦ inr (place x, same x is, e) ])
@@ -97,11 +97,10 @@ body_leads {D} {V} i k l m j rule name close d place b ss P front same low mid o
         λ end. Ok (g body end))) (λ f. In q ss f ⊎ (closed rule q name close ≡ Err f))
     at q g =
         let inner = items_in_order statement (λ p x f. InStatement p x f) ss l m order in
-        joined k m j (each q [] (map statement ss)) (closed rule q name close) g (λ f. In q ss f)
-        (λ f. closed rule q name close ≡ Err f)
-        (wide l m k m _ (λ f. In q ss f) mid (omega arith)
+        joined {k = m} (each q [] (map statement ss)) (closed rule q name close) g
+        (wide mid (omega arith)
         (each_leads statement (λ p x f. InStatement p x f) q ss [] l m order))
-        (alone m j (closed rule q name close) (λ f e. let there = closed_at rule q name close f e in
+        (alone (closed rule q name close) (λ f e. let there = closed_at rule q name close f e in
         (omega (arith, there), omega (arith, there))))
         (omega arith) (omega arith)
 
@@ -142,15 +141,13 @@ pub procedures_lead : (xs : List Proc) (p : Place) (done : List Draft) (i j : �
     InOrder ProcedureAt i xs j → Leads i j (told (all_procedures p done (map procedure xs)))
     (λ f. InProcedures p xs f)
 procedures_lead [] p done i j order = alike i j _ _ (λ f. ⊥) (λ f. InProcedures p [] f) refl
-    (λ f b. absurd b) (no_procedures p) (nothing i j)
+    (λ f b. absurd b) (no_procedures p) nothing
 procedures_lead (x ∷ xs) p done i j (a, b, low, one, order) =
     alike i j _ _ (λ f. InProcedure p x f ⊎ Behind (behind_procedure x p)
     (λ q g. InProcedures q xs g) f) (λ f. InProcedures p (x ∷ xs) f) refl
     (procedures_close p x xs) (procedures_open p x xs)
-    (after i b j (procedure x p) (λ more. all_procedures more.0 (done ++ more.1) (map procedure xs))
-    (λ f. InProcedure p x f) (λ f. Behind (behind_procedure x p) (λ q g. InProcedures q xs g) f)
-    (wide a b i b _ (λ f. InProcedure p x f) low (omega arith) (one.leads p))
-    (λ more is. alike b j _ _ (λ f. InProcedures more.0 xs f)
+    (after (procedure x p) (λ more. all_procedures more.0 (done ++ more.1) (map procedure xs))
+    (wide low (omega arith) (one.leads p)) (λ more is. alike b j _ _ (λ f. InProcedures more.0 xs f)
     (λ f. Behind (behind_procedure x p) (λ q g. InProcedures q xs g) f) refl
     (λ f e. (more.0, one.behind p more is, e))
     (λ f (q, is', e). subst (λ (z : Place). InProcedures z xs f)
@@ -454,8 +451,7 @@ module _ (s : Span) (name : ℕ) (params : List Section) (ds : Decls) (ss : List
         (λ q g. InDeclarations q.0 ds g) f)
         (after_behind i d e (heading p name params) (λ q. declarations ds q.0)
         (λ f. InHeading p name params f) (λ q g. InDeclarations q.0 ds g)
-        (wide i c i d _ (λ f. InHeading p name params f) (omega arith) mid
-        (heading_leads p name params i a b c at low sections))
+        (wide (omega arith) mid (heading_leads p name params i a b c at low sections))
         (λ q. decls.leads q.0) (omega (arith, at.0, at.1, second)) third)
         (λ x is.
         let of = came_of (heading p name params) (λ q. declarations ds q.0) x is in

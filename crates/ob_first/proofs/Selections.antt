@@ -52,9 +52,9 @@ pub record SelectorAt (s : Selector) (i j : ℕ) : Type 0 where
       (λ f. InSelector p s f ⊎ SelectorFails p type_id s f)
 
 -- a reading that tells at one token alone
-pub alone : {A : Type 0} (i j : ℕ) (r : Judged A) → ((f : Fault) → r ≡ Err f → Lies i j f) →
+pub alone : {A : Type 0} {i j : ℕ} (r : Judged A) → ((f : Fault) → r ≡ Err f → Lies i j f) →
     Leads i j (told r) (λ f. r ≡ Err f)
-alone i j r at = record { tells = λ f e. told_err r f e; first = λ f e. err_first r f e; lies = at }
+alone r at = record { tells = λ f e. told_err r f e; first = λ f e. err_first r f e; lies = at }
 
 pub regrouped : {A B C : Type 0} (a : Judged A) (f : A → Judged B) (g : B → Judged C) →
     ((a >>= f) >>= g) ≡ (a >>= λ x. f x >>= g)
@@ -71,7 +71,7 @@ field_selector s i j k form reads low high = record {
       (λ f. InSelector p s f ⊎ SelectorFails p t s f) (ap told (sym (reads p t)))
       (λ f h. inr (rw (form, SelectorFails) h))
       (λ f. elim [ inl b ↦ absurd (empty p f b) | inr h ↦ rw (form, SelectorFails) at h ])
-      (alone i j (field p k t (slice_get p.types t))
+      (alone (field p k t (slice_get p.types t))
       (λ f h. let at = field_at p k t (slice_get p.types t) f h in
       (omega (arith, at), omega (arith, at))));
 }
@@ -111,9 +111,8 @@ index_selector s i k l j last e form ends reads inner low mid high = record {
         | inr b ↦
             inr (let h = rw (form, SelectorFails) at b in rw ends at h)
       ])
-      (tested i j (a >>= number) own (λ f. InExpression p e f ⊎ Fails a number f)
-      (tested i j a number (λ f. InExpression p e f)
-      (wide k l i j _ (λ f. InExpression p e f) low (omega arith) (inner.leads p))
+      (tested (a >>= number) own (tested a number
+      (wide low (omega arith) (inner.leads p))
       (λ x f h. let at = of_type_at 14 integer (expression e).last x f h in let end = inner.last in
       let some = inner.some in (omega (arith, at, end, some), omega (arith, at, end, some))))
       (λ x f h. let at = element_at last x (slice_get p.types t) f h in let some = inner.some in
@@ -142,7 +141,7 @@ pub selectors_lead : (p : Place) (ss : List Selector) (i j : ℕ) → InOrder Se
     → Leads i j (told (selected p done type_id (map one_selector ss)))
     (λ f. AnyOf (λ s f. InSelector p s f) ss f ⊎ SelectorsFail p type_id ss f)
 selectors_lead p [] i j order t done = alike i j _ _ (λ f. ⊥) _ refl (λ f b. absurd b)
-    (λ f. elim [ inl (s, is, b) ↦ is | inr b ↦ b ]) (nothing i j)
+    (λ f. elim [ inl (s, is, b) ↦ is | inr b ↦ b ]) nothing
 selectors_lead p (s ∷ ss) i j (k, l, low, one, order) t done =
     let more = λ (r : RStep × ℕ). selectors_lead p ss l j order r.1 (done ++ r.0 ∷ []) in
     alike i j _ _ (λ f. Own f ⊎ Rest f) (λ f. AnyOf (λ s f. InSelector p s f) (s ∷ ss) f ⊎
@@ -159,9 +158,8 @@ selectors_lead p (s ∷ ss) i j (k, l, low, one, order) t done =
       | inr (inl b) ↦ inl (inr b)
       | inr (inr b) ↦ inr (inr b)
     ])
-    (after i l j (one_selector s p t) (λ r. selected p (done ++ r.0 ∷ []) r.1 (map one_selector ss))
-    Own Rest
-    (wide k l i l _ Own low (omega arith) (one.leads p t))
+    (after (one_selector s p t) (λ r. selected p (done ++ r.0 ∷ []) r.1 (map one_selector ss))
+    (wide low (omega arith) (one.leads p t))
     (λ r is. alike l j _ _ (λ f. AnyOf (λ s f. InSelector p s f) ss f ⊎ SelectorsFail p r.1 ss f)
     Rest refl
     (λ f. elim [ inl b ↦ inl b | inr b ↦ inr (r, is, b) ])
@@ -200,10 +198,7 @@ pub named_selected : {V : Type 0} (p : Place) (k j : ℕ) (kind : Meaning → Ju
     ((v : V) × ((used p k >>= kind) ≡ Ok v) × SelectorsFail p (type_of v) ss f)))
 named_selected {V} p k j kind type_of ss at order =
     let r = used p k >>= kind in
-    after k (k + 1) j r (λ v. selected p [] (type_of v) (map one_selector ss)) (NameFails p k kind)
-    (λ f. AnyOf (λ s f. InSelector p s f) ss f ⊎
-    ((v : V) × (r ≡ Ok v) × SelectorsFail p (type_of v) ss f))
-    (named p k kind at)
+    after r (λ v. selected p [] (type_of v) (map one_selector ss)) (named p k kind at)
     (λ v is. alike (k + 1) j _ _ (λ f. AnyOf (λ s f. InSelector p s f) ss f ⊎
     SelectorsFail p (type_of v) ss f)
     (λ f. AnyOf (λ s f. InSelector p s f) ss f ⊎

@@ -61,14 +61,13 @@ module _ {X A : Type 0} (item : X → Judge A) (B : Place → X → Fault → Ty
   pub each_leads : (p : Place) (xs : List X) (done : List A) (i j : ℕ) → InOrder ItemAt i xs j →
       Leads i j (told (each p done (map item xs))) (λ f. AnyOf (B p) xs f)
   each_leads p [] done i j order = alike i j _ _ (λ f. ⊥) _ refl (λ f b. absurd b) (λ f b. b.1)
-      (nothing i j)
+      nothing
   each_leads p (x ∷ xs) done i j (k, l, low, one, order) =
       alike i j _ _ (λ f. B p x f ⊎ AnyOf (B p) xs f) (λ f. AnyOf (B p) (x ∷ xs) f) refl
       (λ f. elim [ inl b ↦ (x, inl refl, b) | inr (y, is, b) ↦ (y, inr is, b) ])
       (λ f (y, is, b). one_or_other f y is b)
-      (after i l j (item x p) (λ one. each p (done ++ one ∷ []) (map item xs)) (B p x)
-      (AnyOf (B p) xs)
-      (wide k l i l _ (B p x) low (omega arith) (one.leads p))
+      (after (item x p) (λ one. each p (done ++ one ∷ []) (map item xs))
+      (wide low (omega arith) (one.leads p))
       (λ y is. each_leads p xs (done ++ y ∷ []) l j order) (each_leads p xs done l j order).lies
       (let some = one.some in omega arith) (items_in_order xs l j order))
     where
@@ -81,8 +80,7 @@ module _ {X A : Type 0} (item : X → Judge A) (B : Place → X → Fault → Ty
 pub condition_leads : (p : Place) (e : Expr) (i j : ℕ) → ExpressionAt e i j →
     Leads i j (told (condition p e)) (λ f. InCondition p e f)
 condition_leads p e i j at =
-    tested i j ((expression e).judge p) (of_type 19 boolean (out-Expr e).span.last)
-    (λ f. InExpression p e f) (at.leads p)
+    tested ((expression e).judge p) (of_type 19 boolean (out-Expr e).span.last) (at.leads p)
     (λ x f h. let there = of_type_at 19 boolean (out-Expr e).span.last x f h in let is =
     last_of e in let end = at.last in let some = at.some in
     (omega (arith, there, is, end, some), omega (arith, there, is, end)))
@@ -212,10 +210,9 @@ assignment_stands s t k ss e l m j ends low order value =
           absurd is
       | inr (inr (a, is, b)) ↦ absurd is
     ])
-    (both_tested k l j (used p k >>= target p whole) ((expression e).judge p) (assigned s.last)
-    (λ f. Named p k ss f) (λ f. InExpression p e f)
+    (both_tested (used p k >>= target p whole) ((expression e).judge p) (assigned s.last)
     (target_leads p k l ss order)
-    (wide m j l j _ (λ f. InExpression p e f) low (omega arith) (value.leads p))
+    (wide low (omega arith) (value.leads p))
     (let first = ordered ss (k + 1) l order in omega arith) (let some = value.some in omega arith)
     (λ v x f h. let at = assigned_at s.last v x f h in let some = value.some in
     (omega (arith, at, some), omega (arith, at)))))
@@ -279,11 +276,9 @@ if_stands s xs others i k l j m low high first rest =
     (λ p. alike i j _ _ (λ f. AnyOf (λ a g. InArm p a g) xs f ⊎
     AnyOf (λ t g. InStatement p t g) others f) _ refl (λ f b. inr b)
     (λ f. elim [ inl b ↦ absurd b | inr b ↦ b ])
-    (wide k m i j _ (λ f. AnyOf (λ a g. InArm p a g) xs f ⊎
-    AnyOf (λ t g. InStatement p t g) others f) low high
-    (joined k l m (each p [] (map arm xs)) (each p [] (map statement others))
-    (λ choices otherwise. made.If choices otherwise) (λ f. AnyOf (λ a g. InArm p a g) xs f)
-    (λ f. AnyOf (λ t g. InStatement p t g) others f)
+    (wide low high
+    (joined (each p [] (map arm xs)) (each p [] (map statement others)) (λ choices otherwise.
+    made.If choices otherwise)
     (each_leads arm (λ p x f. InArm p x f) p xs [] k l first)
     (each_leads statement (λ p x f. InStatement p x f) p others [] l m rest)
     (items_in_order arm (λ p x f. InArm p x f) xs k l first)
@@ -299,10 +294,8 @@ while_stands s e ss i k l n m j low mid high first rest =
     (λ p. alike i j _ _ (λ f. InCondition p e f ⊎ AnyOf (λ t g. InStatement p t g) ss f) _ refl
     (λ f. elim [ inl b ↦ inl b | inr b ↦ inr (inr b) ])
     (λ f. elim [ inl b ↦ inl b | inr (inl (a, is, b)) ↦ absurd is | inr (inr b) ↦ inr b ])
-    (joined i l j (condition p e) (each p [] (map statement ss)) (λ c turn. made.While c turn)
-    (λ f. InCondition p e f) (λ f. AnyOf (λ t g. InStatement p t g) ss f)
-    (wide k l i l _ (λ f. InCondition p e f) low (omega arith) (condition_leads p e k l first))
-    (wide n m l j _ (λ f. AnyOf (λ t g. InStatement p t g) ss f) mid high
+    (joined (condition p e) (each p [] (map statement ss)) (λ c turn. made.While c turn)
+    (wide low (omega arith) (condition_leads p e k l first)) (wide mid high
     (each_leads statement (λ p x f. InStatement p x f) p ss [] n m rest))
     (let a = first.some in omega arith)
     (let b = items_in_order statement (λ p x f. InStatement p x f) ss n m rest in omega arith)))
@@ -317,11 +310,9 @@ repeat_stands s ss e i k l n j low mid first last =
     (λ p. alike i j _ _ (λ f. AnyOf (λ t g. InStatement p t g) ss f ⊎ InCondition p e f) _ refl
     (λ f. elim [ inl b ↦ inr (inr b) | inr b ↦ inl b ])
     (λ f. elim [ inl b ↦ inr b | inr (inl (a, is, b)) ↦ absurd is | inr (inr b) ↦ inl b ])
-    (joined i l j (each p [] (map statement ss)) (condition p e) (λ turn c. made.Repeat turn c)
-    (λ f. AnyOf (λ t g. InStatement p t g) ss f) (λ f. InCondition p e f)
-    (wide k l i l _ (λ f. AnyOf (λ t g. InStatement p t g) ss f) low (omega arith)
-    (each_leads statement (λ p x f. InStatement p x f) p ss [] k l first))
-    (wide n j l j _ (λ f. InCondition p e f) mid (omega arith) (condition_leads p e n j last))
+    (joined (each p [] (map statement ss)) (condition p e) (λ turn c. made.Repeat turn c)
+    (wide low (omega arith) (each_leads statement (λ p x f. InStatement p x f) p ss [] k l first))
+    (wide mid (omega arith) (condition_leads p e n j last))
     (let b = items_in_order statement (λ p x f. InStatement p x f) ss k l first in omega arith)
     (let a = last.some in omega arith)))
 
@@ -336,11 +327,9 @@ arm_stands e ss i k l n j low mid first rest = record {
       (sym (fold-roll-Arm StmtResult (Judge RArm) (Judge RStmt) stmt_form arm_step stmt_step
       _)))
       (λ f b. outside p f b) (λ f b. inside p f b)
-      (joined i l j (condition p e) (each p [] (map statement ss))
-      (λ c body. roll-RArm (record { test = c; body = body })) (λ f. InCondition p e f)
-      (λ f. AnyOf (λ t g. InStatement p t g) ss f)
-      (wide k l i l _ (λ f. InCondition p e f) low (omega arith) (condition_leads p e k l first))
-      (wide n j l j _ (λ f. AnyOf (λ t g. InStatement p t g) ss f) mid (omega arith)
+      (joined (condition p e) (each p [] (map statement ss)) (λ c body. roll-RArm
+      (record { test = c; body = body }))
+      (wide low (omega arith) (condition_leads p e k l first)) (wide mid (omega arith)
       (each_leads statement (λ p x f. InStatement p x f) p ss [] n j rest))
       (let a = first.some in omega arith)
       (let b = items_in_order statement (λ p x f. InStatement p x f) ss n j rest in

@@ -365,8 +365,7 @@ rule_stands _ a_module i v h = λ bytes tokens.
     body_leads i h.1.1.1.0 h.1.1.1.0 h.1.1.1.3.0 (h.1.1.1.3.0 + 1 + 1 + 1) 1 v.1.0 v.1.1.1.1.1.1.0
     (read_declarations v.1.1.1.0 p) (λ d. d.place) (behind_declarations v.1.1.1.0 p) v.1.1.1.1.0
     (λ f. InDeclarations p v.1.1.1.0 f)
-    (wide (i + 1 + 1 + 1) h.1.1.1.0 i h.1.1.1.0 _ (λ f. InDeclarations p v.1.1.1.0 f) (omega arith)
-    (same_place h.1.1.1.0) (decls.leads p)) (λ d is. decls.behind p d is)
+    (wide (omega arith) (same_place h.1.1.1.0) (decls.leads p)) (λ d is. decls.behind p d is)
     (let le = h.1.1.1.1 in omega arith) (same_place h.1.1.1.0) h.1.1.1.3.2
     (omega (arith, h.1.1.1.3.3.1.0)) (omega (arith, h.1.1.1.3.3.1.0))
     (λ d body end. record {

@@ -53,8 +53,8 @@ length_at token (Truth b) f h = cc
 pub constant_leads : (p : Place) (e : Expr) (i j : ℕ) → ExpressionAt e i j →
     Leads i j (told (constant p e)) (λ f. InConstant p e f)
 constant_leads p e i j at =
-    tested i j ((expression e).judge p) (λ x. constant_of (out-Expr e).span.last (worth x.expr))
-    (λ f. InExpression p e f) (at.leads p)
+    tested ((expression e).judge p) (λ x. constant_of (out-Expr e).span.last (worth x.expr))
+    (at.leads p)
     (λ x f h. let there = constant_at (out-Expr e).span.last (worth x.expr) f h in let is =
     last_of e in let end = at.last in let some = at.some in
     (omega (arith, there, is, end, some), omega (arith, there, is, end)))
@@ -62,8 +62,7 @@ constant_leads p e i j at =
 pub length_leads : (p : Place) (e : Expr) (i j : ℕ) → ExpressionAt e i j →
     Leads i j (told (array_length p e)) (λ f. InLength p e f)
 length_leads p e i j at =
-    tested i j (constant p e) (length_of (out-Expr e).span.last) (λ f. InConstant p e f)
-    (constant_leads p e i j at)
+    tested (constant p e) (length_of (out-Expr e).span.last) (constant_leads p e i j at)
     (λ x f h. let there = length_at (out-Expr e).span.last x f h in let is = last_of e in let end =
     at.last in let some = at.some in
     (omega (arith, there, is, end, some), omega (arith, there, is, end)))
@@ -102,15 +101,13 @@ fields_told p names k ks = by (list_any (bytes_eq (name_at p k)) names)
 
 field_names_lead : (p : Place) (ks : List ℕ) (names : List Name) (i j : ℕ) → InOrder NameAt i ks j →
     Leads i j (told (with_fields p names ks)) (λ f. FieldNamesFail p names ks f)
-field_names_lead p [] names i j order = nothing i j
+field_names_lead p [] names i j order = nothing
 field_names_lead p (k ∷ ks) names i j (a, b, low, one, order) =
     let rest = field_names_lead p ks (names ++ name_at p k ∷ []) b j order in
     alike i j _ _ (λ f. FieldNamesFail p names (k ∷ ks) f) (λ f. FieldNamesFail p names (k ∷ ks) f)
     (fields_told p names k ks) (λ f b. b) (λ f b. b)
-    (after i b j (with_fields p names (k ∷ [])) (λ ns. with_fields p ns ks)
-    (λ f. with_fields p names (k ∷ []) ≡ Err f)
-    (λ f. FieldNamesFail p (names ++ name_at p k ∷ []) ks f)
-    (alone i b (with_fields p names (k ∷ [])) (λ f h. let at = one_field p names k f h in
+    (after (with_fields p names (k ∷ [])) (λ ns. with_fields p ns ks)
+    (alone (with_fields p names (k ∷ [])) (λ f h. let at = one_field p names k f h in
     (omega (arith, at, one.0), omega (arith, at, one.1))))
     (λ x is. subst (λ (z : List Name). Leads b j (told (with_fields p z ks))
     (λ f. FieldNamesFail p (names ++ name_at p k ∷ []) ks f)) (sym (field_is p names k x is))
@@ -167,12 +164,9 @@ list_leads so_far l i j h =
     (ap (λ (r : FieldsAfter). told (r so_far))
     (sym (fold_out-NameList Shaped FieldsAfter Shaped type_form field_list type_step l)))
     (λ f b. b) (λ f b. b)
-    (joined i h.l j (with_fields so_far.place so_far.names names)
-    (type_expression shape so_far.place)
-    (λ ns t. record { place = t.0; names = ns; types = with_types so_far.types t.1 names })
-    (λ f. FieldNamesFail so_far.place so_far.names names f) (λ f. InType so_far.place shape f)
-    (wide i h.k i h.l _ (λ f. FieldNamesFail so_far.place so_far.names names f) (omega arith) h.low
-    (field_names_lead so_far.place names so_far.names i h.k h.in_order))
+    (joined (with_fields so_far.place so_far.names names) (type_expression shape so_far.place) (λ ns
+    t. record { place = t.0; names = ns; types = with_types so_far.types t.1 names })
+    (wide (omega arith) h.low (field_names_lead so_far.place names so_far.names i h.k h.in_order))
     (let at = h.type_at in at.leads so_far.place)
     (let a = names_in_order names i h.k h.in_order in let b = h.low in omega arith)
     (let at = h.type_at in let some = at.some in omega arith))
@@ -197,15 +191,14 @@ no_fields so_far f = elim [ ]
 fields_lead : (ls : List NameList) (so_far : Fields) (i j : ℕ) → InOrder NameListAt i ls j →
     Leads i j (told (all_fields so_far (map fields_of ls))) (λ f. InFields so_far ls f)
 fields_lead [] so_far i j order = alike i j _ _ (λ f. ⊥) (λ f. InFields so_far [] f) refl
-    (λ f b. absurd b) (λ f b. no_fields so_far f b) (nothing i j)
+    (λ f b. absurd b) (λ f b. no_fields so_far f b) nothing
 fields_lead (l ∷ ls) so_far i j (a, b, low, one, order) =
     let rest = fields_lead ls (behind_list so_far l) b j order in
     alike i j _ _ (λ f. ListFails so_far l f ⊎ InFields (behind_list so_far l) ls f)
     (λ f. InFields so_far (l ∷ ls) f) refl (λ f. fields_close so_far l ls f)
     (λ f. fields_open so_far l ls f)
-    (after i b j (fields_of l so_far) (λ more. all_fields more (map fields_of ls))
-    (ListFails so_far l) (λ f. InFields (behind_list so_far l) ls f)
-    (wide a b i b _ (ListFails so_far l) low (omega arith) (list_leads so_far l a b one))
+    (after (fields_of l so_far) (λ more. all_fields more (map fields_of ls))
+    (wide low (omega arith) (list_leads so_far l a b one))
     (λ x is. subst (λ (z : Fields). Leads b j (told (all_fields z (map fields_of ls)))
     (λ f. InFields (behind_list so_far l) ls f)) (ap (value_or _) is) rest)
     rest.lies (let h = of_type_in_order (out-NameList l).names (out-NameList l).shape a b one in
@@ -312,8 +305,7 @@ type_name_stands s k j some ends =
     (sym (told_joined (used p k >>= named_type k) (λ type_id. (p, type_id)))
     ∙ ap told (regrouped (used p k) (named_type k) (λ type_id. Ok (p, type_id))))
     (λ f b. b) (λ f b. b)
-    (wide k (k + 1) k j _ (λ f. NameFails p k (named_type k) f) (omega arith) (omega arith)
-    (named p k (named_type k) (named_type_at k))))
+    (wide (omega arith) (omega arith) (named p k (named_type k) (named_type_at k))))
 
 pub array_stands : (s : Span) (e : Expr) (t : TypeExpr) (i k l m j : ℕ) → i ≤ k → l ≤ m →
     s.last + 1 ≡ j → ExpressionAt e k l → TypeAt t m j →
@@ -325,13 +317,11 @@ array_stands s e t i k l m j low mid ends count item =
     (form_is.rolls-Array e t) (fold-roll-TypeForm _ _ _ _ _ _ _)
     (let a = count.some in let b = item.some in omega arith) ends
     (λ p.
-    let rest = wide m j l j _ (λ f. InType (in_array p e) t f) mid (omega arith)
+    let rest = wide {i' = l} {j' = j} mid (omega arith)
     (item.leads (in_array p e)) in
-    after i l j (array_length p e)
-    (λ n. type_expression t (with_length p n) >>= λ inner. Ok
-    (with_type inner.0 (Array n inner.1) [])) (λ f. InLength p e f)
-    (λ f. InType (in_array p e) t f)
-    (wide k l i l _ (λ f. InLength p e f) low (omega arith) (length_leads p e k l count))
+    after (array_length p e) (λ n. type_expression t (with_length p n) >>= λ inner. Ok
+    (with_type inner.0 (Array n inner.1) []))
+    (wide low (omega arith) (length_leads p e k l count))
     (λ n is. alike l j _ _ (λ f. InType (in_array p e) t f) (λ f. InType (in_array p e) t f)
     (ap (λ (z : ℕ). told (type_expression t (with_length p z))) (ap (value_or _) is)
     ∙ sym (told_joined (type_expression t (with_length p n))
@@ -352,5 +342,4 @@ record_stands s ls i k m j low high ends order =
     (sym (told_joined (all_fields (begun p) (map fields_of ls))
     (λ fields. with_type fields.place (Record fields.types) fields.names))) (λ f b. b)
     (λ f b. b)
-    (wide k m i j _ (λ f. InFields (begun p) ls f) low (omega arith)
-    (fields_lead ls (begun p) k m order)))
+    (wide low (omega arith) (fields_lead ls (begun p) k m order)))
