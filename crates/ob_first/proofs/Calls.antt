@@ -114,7 +114,9 @@ one_argument : (p : Place) (param : Param) (e : Expr) (i j : ℕ) → Expression
     Leads i j (told (argument p param e))
     (λ f. InExpression p e f ⊎ Fails ((expression e).judge p) (λ x. argument p param e) f)
 one_argument p param e i j at =
-    alike i j _ _ (λ f. InExpression p e f ⊎ Fails ((expression e).judge p) (kind_test param e) f) _
+    alike (tested ((expression e).judge p) (kind_test param e) (at.leads p) (λ x f fails. let there
+    = kind_test_at param e x f fails in let is = last_of e in let end = at.last in let some
+    = at.some in (omega (arith, there, is, end, some), omega (arith, there, is, end))))
     (ap told (sym (argument_is p param e)))
     (λ f. elim [
       | inl b ↦ inl b
@@ -131,10 +133,6 @@ one_argument p param e i j at =
                 ∙ fails,
           )
     ])
-    (tested ((expression e).judge p) (kind_test param e) (at.leads p)
-    (λ x f fails. let there = kind_test_at param e x f fails in let is = last_of e in let end =
-    at.last in let some = at.some in
-    (omega (arith, there, is, end, some), omega (arith, there, is, end))))
   where
     of_value : (x : Typed) (r : Judged Typed) → r ≡ Ok x → (r >>= kind_test param e) ≡
         kind_test param e x
@@ -151,13 +149,15 @@ arguments_lead : (p : Place) (es : List Expr) (params : List Param) (done : List
     InOrder ExpressionAt i es j
     → Leads i j (told (arguments p done params es)) (λ f. AnyOf (λ e g. InExpression p e g) es f ⊎
     ArgumentsFail p params es f)
-arguments_lead p [] [] done i j order = alike i j _ _ (λ f. ⊥) _ refl (λ f b. absurd b)
-    (λ f. elim [ inl (x, is, b) ↦ is | inr b ↦ b ]) nothing
-arguments_lead p [] (param ∷ params) done i j order = alike i j _ _ (λ f. ⊥) _ refl
-    (λ f b. absurd b) (λ f. elim [ inl (x, is, b) ↦ is | inr b ↦ b ]) nothing
+arguments_lead p [] [] done i j order = alike nothing refl (λ f b. absurd b)
+    (λ f. elim [ inl (x, is, b) ↦ is | inr b ↦ b ])
+arguments_lead p [] (param ∷ params) done i j order = alike nothing refl (λ f b. absurd b)
+    (λ f. elim [ inl (x, is, b) ↦ is | inr b ↦ b ])
 arguments_lead p (e ∷ es) [] done i j (k, l, low, one, order) =
     let rest = arguments_lead p es [] done l j order in
-    alike i j _ _ (λ f. InExpression p e f ⊎ (AnyOf (λ e g. InExpression p e g) es f ⊎ ⊥)) _ refl
+    alike (after ((expression e).judge p) (λ typed. arguments p done [] es)
+    (wide low (omega arith) (one.leads p)) (λ x is. rest) rest.lies
+    (let some = one.some in omega arith) (in_order es l j order)) refl
     (λ f. elim [
       | inl b ↦ inl (e, inl refl, b)
       | inr (inl (x, is, b)) ↦
@@ -170,13 +170,12 @@ arguments_lead p (e ∷ es) [] done i j (k, l, low, one, order) =
           (x, inr is, b) ↦ inr (inl (x, is, b))
       | inr b ↦ absurd b
     ])
-    (after ((expression e).judge p) (λ typed. arguments p done [] es)
-    (wide low (omega arith) (one.leads p)) (λ x is. rest)
-    rest.lies (let some = one.some in omega arith) (in_order es l j order))
 arguments_lead p (e ∷ es) (param ∷ params) done i j (k, l, low, one, order) =
-    alike i j _ _ (λ f. (InExpression p e f ⊎ Fails ((expression e).judge p)
-    (λ x. argument p param e) f) ⊎
-    (AnyOf (λ e g. InExpression p e g) es f ⊎ ArgumentsFail p params es f)) _ refl
+    alike (after (argument p param e) (λ o. arguments p (done ++ o ∷ []) params es)
+    (wide low (omega arith) (one_argument p param e k l one))
+    (λ o is. arguments_lead p es params (done ++ o ∷ []) l j order)
+    (arguments_lead p es params [] l j order).lies (let some = one.some in omega arith)
+    (in_order es l j order)) refl
     (λ f. elim [
       | inl (inl b) ↦ inl (e, inl refl, b)
       | inl (inr b) ↦
@@ -192,11 +191,6 @@ arguments_lead p (e ∷ es) (param ∷ params) done i j (k, l, low, one, order) 
       | inr (inr b) ↦
           inr (inr b)
     ])
-    (after (argument p param e) (λ o. arguments p (done ++ o ∷ []) params es)
-    (wide low (omega arith) (one_argument p param e k l one))
-    (λ o is. arguments_lead p es params (done ++ o ∷ []) l j order)
-    (arguments_lead p es params [] l j order).lies (let some = one.some in omega arith)
-    (in_order es l j order))
 
 -- ---- calls
 
@@ -335,8 +329,32 @@ pub call_leads : (p : Place) (last name : ℕ) (es : List Expr) (j : ℕ) → la
     → Leads name j (told (used p name >>= λ m. called p last name m es))
     (λ f. InCall p last name es f)
 call_leads p last name es j ends some order =
-    alike name j _ _ (λ f. NameFails p name (callee p name) f ⊎ Q f) (λ f. InCall p last name es f)
-    (call_parts p last name es (used p name))
+    alike
+    (behind name j a (judged_call p last es) (NameFails p name (callee p name)) Q
+    (wide (omega arith) (omega arith) front)
+    (λ params is. alike (by_arguments params) refl
+    (λ f. elim [
+      | inl (inl b) ↦ inl b
+      | inl (inr b) ↦ inr (params, is, inl b)
+      | inr b ↦
+          inr (params, is, inr b)
+    ])
+    (λ f. elim [
+      | inl b ↦ inl (inl b)
+      | inr (xs, is', b) ↦ by_parts params f
+          (subst (λ (ys : List Param). CallFails p last ys es f) (same_value a xs params is' is) b)
+    ]))
+    (λ f. elim [
+      | inl b ↦ (by_arguments []).lies f (inl (inl b))
+      | inr (params, is, b) ↦
+          (by_arguments params).lies f (by_parts params f b)
+    ])
+    (λ h f is. elim [
+      | inl b ↦ let here = front.lies h (front.tells h (err_told a h is)) in let there =
+          (arguments_lead p es [] [] (name + 1) j order).lies f (inl b) in
+          inl (omega (arith, here.1, there.0))
+      | inr (params, is', b) ↦ absurd (ok_err a params h is' is)
+    ])) (call_parts p last name es (used p name))
     (λ f. elim [
       | inl (inl b) ↦ inl b
       | inl (inr (m, is, b)) ↦ let at = of_no_procedure p last name es m f b in
@@ -357,33 +375,6 @@ call_leads p last name es j ends some order =
             b,
           ))
     ])
-    (behind name j a (judged_call p last es) (NameFails p name (callee p name)) Q
-    (wide (omega arith) (omega arith) front)
-    (λ params is. alike name j _ _ (λ f. (Any f ⊎ ArgumentsFail p params es f) ⊎
-    Fails (arguments p [] params es) (counted last (length params) (length es)) f) Q refl
-    (λ f. elim [
-      | inl (inl b) ↦ inl b
-      | inl (inr b) ↦ inr (params, is, inl b)
-      | inr b ↦
-          inr (params, is, inr b)
-    ])
-    (λ f. elim [
-      | inl b ↦ inl (inl b)
-      | inr (xs, is', b) ↦ by_parts params f
-          (subst (λ (ys : List Param). CallFails p last ys es f) (same_value a xs params is' is) b)
-    ])
-    (by_arguments params))
-    (λ f. elim [
-      | inl b ↦ (by_arguments []).lies f (inl (inl b))
-      | inr (params, is, b) ↦
-          (by_arguments params).lies f (by_parts params f b)
-    ])
-    (λ h f is. elim [
-      | inl b ↦ let here = front.lies h (front.tells h (err_told a h is)) in let there =
-          (arguments_lead p es [] [] (name + 1) j order).lies f (inl b) in
-          inl (omega (arith, here.1, there.0))
-      | inr (params, is', b) ↦ absurd (ok_err a params h is' is)
-    ]))
   where
     a : Judged (List Param)
     a = used p name >>= callee p name

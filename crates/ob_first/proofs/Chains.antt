@@ -91,13 +91,11 @@ module _ {A : Type 0} (p : Place) (item : A → Next) (B : Place → A → Fault
       → Leads i j (told (so_far >>= λ e. chained p last e (map item xs)))
       (λ f. P f ⊎ (AnyOf (B p) xs f ⊎ ChainFails p last so_far (map item xs) f))
   chain [] i k j last so_far P end some h order =
-      alike i j _ _ P (λ f. P f ⊎ (AnyOf (B p) [] f ⊎ ⊥)) (sym (told_unit so_far)) (λ f q. inl q)
+      alike (wide (omega arith) order h) (sym (told_unit so_far)) (λ f q. inl q)
       (λ f. elim [ inl q ↦ q | inr (inl (x, no_, b)) ↦ absurd no_ | inr (inr no_) ↦ absurd no_ ])
-      (wide (omega arith) order h)
   chain (x ∷ xs) i k j last so_far P end some h (k', l, at, one, order) =
-      alike i j _ _ (λ f. Q f ⊎ (AnyOf (B p) xs f ⊎ ChainFails p e.last more (map item xs) f))
-      (λ f. P f ⊎ (AnyOf (B p) (x ∷ xs) f ⊎ ChainFails p last so_far (map item (x ∷ xs)) f))
-      (ap told (regroup so_far (operand o last) (e.judge p) (operand o e.last) (binary o)
+      alike (chain xs i l j e.last more Q one.last (omega (arith, one.some)) whole order) (ap told
+      (regroup so_far (operand o last) (e.judge p) (operand o e.last) (binary o)
       (λ t. chained p e.last t (map item xs))))
       (λ f. elim [
         | inl (inl (inl q)) ↦ inl q
@@ -115,7 +113,6 @@ module _ {A : Type 0} (p : Place) (item : A → Next) (B : Place → A → Fault
         | inr (inr (inr (inl q))) ↦ inl (inr (inr q))
         | inr (inr (inr (inr q))) ↦ inr (inr q)
       ])
-      (chain xs i l j e.last more Q one.last (omega (arith, one.some)) whole order)
     where
       o : ROp
       o = (item x).0
@@ -147,8 +144,7 @@ module _ {A : Type 0} (p : Place) (item : A → Next) (B : Place → A → Fault
           (omega (arith, is, one.some), omega (arith, is)))
 
       whole : Leads i l (told more) Q
-      whole = alike i l _ _ Q Q
+      whole = alike (joined (so_far >>= operand o last) (e.judge p >>= operand o e.last) (binary o)
+          left right (omega arith) (omega (arith, one.some)))
           (ap told (in_two so_far (operand o last) (e.judge p) (operand o e.last) (binary o)))
           (λ f q. q) (λ f q. q)
-          (joined (so_far >>= operand o last) (e.judge p >>= operand o e.last) (binary o) left right
-          (omega arith) (omega (arith, one.some)))

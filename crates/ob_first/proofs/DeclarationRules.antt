@@ -90,10 +90,9 @@ constant_declared p c i j at =
     (λ q. constant q c.value >>= λ v. Ok (shown q c.name (meaning.Constant v)))
     (λ f. announced p c.name ≡ Err f) (λ q g. InConstant q c.value g)
     (behind_name p c.name) (announced_leads p c.name i at.k name) (name_behind p c.name)
-    (λ q. alike at.k j _ _ (λ f. InConstant q c.value f) _
-    (sym (told_joined (constant q c.value) (λ v. shown q c.name (meaning.Constant v))))
-    (λ f b. b) (λ f b. b)
-    (wide at.low (omega arith) (constant_leads q c.value at.l j at.value_at)))
+    (λ q. alike (wide at.low (omega arith) (constant_leads q c.value at.l j at.value_at))
+    (sym (told_joined (constant q c.value) (λ v. shown q c.name (meaning.Constant v)))) (λ f b. b)
+    (λ f b. b))
     (omega (arith, name.0, name.1)) (let low = at.low in let some = at.some in omega arith)
 
 type_declared : (p : Place) (t : TypeDecl) (i j : ℕ) → TypeDeclarationAt t i j
@@ -107,10 +106,9 @@ type_declared p t i j at =
     (shown shape.0 t.name (meaning.TypeName shape.1))) (λ f. announced p t.name ≡ Err f)
     (λ q g. InType q t.shape g)
     (behind_name p t.name) (announced_leads p t.name i at.k name) (name_behind p t.name)
-    (λ q. alike at.k j _ _ (λ f. InType q t.shape f) _
-    (sym (told_joined (type_expression t.shape q)
-    (λ shape. shown shape.0 t.name (meaning.TypeName shape.1)))) (λ f b. b) (λ f b. b)
-    (wide at.low (omega arith) (value.leads q)))
+    (λ q. alike (wide at.low (omega arith) (value.leads q)) (sym (told_joined
+    (type_expression t.shape q) (λ shape. shown shape.0 t.name (meaning.TypeName shape.1))))
+    (λ f b. b) (λ f b. b))
     (omega (arith, name.0, name.1)) (let low = at.low in let some = at.some in omega arith)
 
 variables_declared : (p : Place) (vars : List ℕ) (l : NameList) (i j : ℕ) → NameListAt l i j
@@ -124,10 +122,9 @@ variables_declared p vars l i j at =
     (λ q. type_expression t q >>= λ shape. Ok (with_variables shape.0 vars shape.1 names))
     (λ f. NamesFail p names f) (λ q g. InType q t g)
     (behind_names p names) (names_lead names p i at.k at.in_order) (names_behind names p)
-    (λ q. alike at.k j _ _ (λ f. InType q t f) _
-    (sym (told_joined (type_expression t q)
-    (λ shape. with_variables shape.0 vars shape.1 names))) (λ f b. b) (λ f b. b)
-    (wide at.low (omega arith) (value.leads q)))
+    (λ q. alike (wide at.low (omega arith) (value.leads q))
+    (sym (told_joined (type_expression t q) (λ shape. with_variables shape.0 vars shape.1 names)))
+    (λ f b. b) (λ f b. b))
     (names_in_order names i at.k at.in_order) (let low = at.low in let some = value.some in
     omega arith)
 
@@ -156,12 +153,12 @@ constants_lead (c ∷ cs) p i j (a, b, low, one, order) =
     let A = λ (f : Fault). announced p c.name ≡ Err f in
     let B = λ (f : Fault). InConstant (behind_name p c.name) c.value f in
     let C = λ (f : Fault). Behind (constant_declaration p c) (λ q g. InConstants q cs g) f in
-    alike i j _ _ (λ f. (A f ⊎ B f) ⊎ C f) _ refl (shift A B C) (shift_back A B C)
-    (after_behind i b j (constant_declaration p c) (λ q. all_constants q cs) (λ f. A f ⊎ B f)
-    (λ q g. InConstants q cs g)
-    (wide low (omega arith) (constant_declared p c a b one)) (λ q. constants_lead cs q b j order)
+    alike (after_behind i b j (constant_declaration p c) (λ q. all_constants q cs) (λ f. A f ⊎ B f)
+    (λ q g. InConstants q cs g) (wide low (omega arith) (constant_declared p c a b one))
+    (λ q. constants_lead cs q b j order)
     (let at = one.name_at in let l = one.low in let some = one.some in omega (arith, at.0, at.1))
-    (defined_in_order (λ c. c.name) (λ c. ExpressionAt c.value) cs b j order))
+    (defined_in_order (λ c. c.name) (λ c. ExpressionAt c.value) cs b j order)) refl (shift A B C)
+    (shift_back A B C)
 
 pub types_lead : (ts : List TypeDecl) (p : Place) (i j : ℕ) → InOrder TypeDeclarationAt i ts j →
     Leads i j (told (all_type_declarations p ts)) (λ f. InTypeDeclarations p ts f)
@@ -170,12 +167,12 @@ types_lead (t ∷ ts) p i j (a, b, low, one, order) =
     let A = λ (f : Fault). announced p t.name ≡ Err f in
     let B = λ (f : Fault). InType (behind_name p t.name) t.shape f in
     let C = λ (f : Fault). Behind (type_declaration p t) (λ q g. InTypeDeclarations q ts g) f in
-    alike i j _ _ (λ f. (A f ⊎ B f) ⊎ C f) _ refl (shift A B C) (shift_back A B C)
-    (after_behind i b j (type_declaration p t) (λ q. all_type_declarations q ts) (λ f. A f ⊎ B f)
-    (λ q g. InTypeDeclarations q ts g)
+    alike (after_behind i b j (type_declaration p t) (λ q. all_type_declarations q ts)
+    (λ f. A f ⊎ B f) (λ q g. InTypeDeclarations q ts g)
     (wide low (omega arith) (type_declared p t a b one)) (λ q. types_lead ts q b j order)
     (let at = one.name_at in let l = one.low in let some = one.some in omega (arith, at.0, at.1))
-    (defined_in_order (λ t. t.name) (λ t. TypeAt t.shape) ts b j order))
+    (defined_in_order (λ t. t.name) (λ t. TypeAt t.shape) ts b j order)) refl (shift A B C)
+    (shift_back A B C)
 
 pub variables_lead : (ls : List NameList) (p : Place) (vars : List ℕ) (i j : ℕ) →
     InOrder NameListAt i ls j → Leads i j (told (all_variables p vars ls))
@@ -187,13 +184,12 @@ variables_lead (l ∷ ls) p vars i j (a, b, low, one, order) =
     f in
     let C = λ (f : Fault). Behind (variable_list p vars l)
     (λ more g. InVariables more.0 more.1 ls g) f in
-    alike i j _ _ (λ f. (A f ⊎ B f) ⊎ C f) _ refl (shift A B C) (shift_back A B C)
-    (after_behind i b j (variable_list p vars l) (λ more. all_variables more.0 more.1 ls)
+    alike (after_behind i b j (variable_list p vars l) (λ more. all_variables more.0 more.1 ls)
     (λ f. A f ⊎ B f) (λ more g. InVariables more.0 more.1 ls g)
     (wide low (omega arith) (variables_declared p vars l a b one))
     (λ more. variables_lead ls more.0 more.1 b j order)
     (let h = of_type_in_order (out-NameList l).names (out-NameList l).shape a b one in omega arith)
-    (lists_in_order ls b j order))
+    (lists_in_order ls b j order)) refl (shift A B C) (shift_back A B C)
 
 -- ---- parameters
 
@@ -231,10 +227,9 @@ section_declared p params s i j at =
     (with_parameters t.0 params s.by_var type_id s.names)) (λ f. NamesFail p s.names f)
     (λ q g. InParameterType q s g)
     (behind_names p s.names) (names_lead s.names p i at.k at.in_order) (names_behind s.names p)
-    (λ q. alike at.k j _ _ (λ f. InParameterType q s f) _
+    (λ q. alike (wide at.low (omega arith) (parameter_leads q s at.l j value))
     (section_told (type_expression s.shape q) kind
-    (λ t type_id. with_parameters t.0 params s.by_var type_id s.names)) (λ f b. b) (λ f b. b)
-    (wide at.low (omega arith) (parameter_leads q s at.l j value)))
+    (λ t type_id. with_parameters t.0 params s.by_var type_id s.names)) (λ f b. b) (λ f b. b))
     (names_in_order s.names i at.k at.in_order) (let low = at.low in let some = value.some in
     omega arith)
 
@@ -253,13 +248,12 @@ sections_lead (s ∷ ss) p params i j (a, b, low, one, order) =
     let B = λ (f : Fault). InParameterType (behind_names p s.names) s f in
     let C = λ (f : Fault). Behind (section p params s) (λ more g. InSections more.0 more.1 ss g)
     f in
-    alike i j _ _ (λ f. (A f ⊎ B f) ⊎ C f) _ refl (shift A B C) (shift_back A B C)
-    (after_behind i b j (section p params s) (λ more. all_sections more.0 more.1 ss)
+    alike (after_behind i b j (section p params s) (λ more. all_sections more.0 more.1 ss)
     (λ f. A f ⊎ B f) (λ more g. InSections more.0 more.1 ss g)
     (wide low (omega arith) (section_declared p params s a b one))
     (λ more. sections_lead ss more.0 more.1 b j order)
     (let h = of_type_in_order s.names s.shape a b one in omega arith)
-    (sections_in_order ss b j order))
+    (sections_in_order ss b j order)) refl (shift A B C) (shift_back A B C)
 
 pub heading_leads : (p : Place) (name : ℕ) (ss : List Section) (i k l j : ℕ) → NameAt name i k →
     k ≤ l → InOrder SectionAt l ss j → Leads i j (told (heading p name ss))
@@ -273,12 +267,11 @@ heading_leads p name ss i k l j at low order =
     ))
     (λ f. announced p name ≡ Err f) (λ q g. InSections (entered q (length q.headings) []) [] ss g)
     (behind_name p name) (announced_leads p name i k at) (name_behind p name)
-    (λ q. alike k j _ _ (λ f. InSections (entered q (length q.headings) []) [] ss f) _
-    (sym (told_joined (all_sections (entered q (length q.headings) []) [] ss)
-    (λ inside. (
-      entered (with_heading (left inside.0 q.here) name inside.1) (length q.headings)
-          inside.0.scope,
+    (λ q. alike
+    (wide low (omega arith) (sections_lead ss (entered q (length q.headings) []) [] l j order))
+    (sym (told_joined (all_sections (entered q (length q.headings) []) [] ss) (λ inside. (
+      entered
+          (with_heading (left inside.0 q.here) name inside.1) (length q.headings) inside.0.scope,
       inside.1,
-    )))) (λ f b. b) (λ f b. b)
-    (wide low (omega arith) (sections_lead ss (entered q (length q.headings) []) [] l j order)))
+    )))) (λ f b. b) (λ f b. b))
     (omega (arith, at.0, at.1)) (let h = sections_in_order ss l j order in omega arith)

@@ -92,9 +92,12 @@ module _ (p : Place) (left right : Phrase) (L R : Fault → Type 0) (i k l j : �
       operand o right.last b >>= λ y. Ok (binary o x y)))
       (λ f. L f ⊎ (R f ⊎ (OperandFails p o left f ⊎ OperandFails p o right f)))
   ordered_sides o =
-      alike i j _ _ (λ f. (L f ⊎ OperandFails p o left f) ⊎ (R f ⊎ OperandFails p o right f))
-      (λ f. L f ⊎ (R f ⊎ (OperandFails p o left f ⊎ OperandFails p o right f)))
-      (ap told (in_two (left.judge p) (operand o left.last) (right.judge p) (operand o right.last)
+      alike (joined (left.judge p >>= operand o left.last) (right.judge p >>= operand o right.last)
+      (binary o) (tested (left.judge p) (operand o left.last) front (λ x f h. let there = operand_at
+      o left.last x f h in (omega (arith, there), omega (arith, there)))) (tested (right.judge p)
+      (operand o right.last) behind (λ x f h. let there = operand_at o right.last x f h in
+      (omega (arith, there), omega (arith, there)))) (omega arith) (omega arith)) (ap told
+      (in_two (left.judge p) (operand o left.last) (right.judge p) (operand o right.last)
       (binary o)))
       (λ f. elim [
         | inl (inl b) ↦ inl b
@@ -110,15 +113,6 @@ module _ (p : Place) (left right : Phrase) (L R : Fault → Type 0) (i k l j : �
             inl (inr b)
         | inr (inr (inr b)) ↦ inr (inr b)
       ])
-      (joined (left.judge p >>= operand o left.last) (right.judge p >>= operand o right.last)
-      (binary o)
-      (tested (left.judge p) (operand o left.last) front
-      (λ x f h. let there = operand_at o left.last x f h in
-      (omega (arith, there), omega (arith, there))))
-      (tested (right.judge p) (operand o right.last) behind
-      (λ x f h. let there = operand_at o right.last x f h in
-      (omega (arith, there), omega (arith, there))))
-      (omega arith) (omega arith))
 
   sides : (o : ROp) → Leads i j (told (left.judge p >>= λ a. related p left.last a (o, right)))
       (λ f. L f ⊎ (R f ⊎ RelationFails p left (o, right) f))
@@ -156,10 +150,9 @@ expression_stands s l None i k j ends left same =
     (record {
       some = let some = left.some in omega arith;
       last = ends;
-      leads = λ p. alike i j _ _ (λ f. InSimple p l f) _
+      leads = λ p. alike (wide (omega arith) (omega arith) (left.leads p))
           (sym (told_unit ((simple_expression l).judge p))) (λ f b. which.left e f (rw is b))
-          (λ f b. inside p f b)
-          (wide (omega arith) (omega arith) (left.leads p));
+          (λ f b. inside p f b);
     })
   where
     e : Expr
@@ -188,9 +181,9 @@ expression_stands s l (Some n) i k j ends left (m, low, right) =
     (record {
       some = let some = left.some in let rest = right.some in omega arith;
       last = ends;
-      leads = λ p. alike i j _ _
-          (λ f. InSimple p l f ⊎ (InSimple p (out-Relation n).right f ⊎
-          RelationFails p (simple_expression l) (comparison n) f)) _ refl
+      leads = λ p. alike (sides p (simple_expression l) (comparison n).1 (λ f. InSimple p l f)
+          (λ f. InSimple p (out-Relation n).right f) i k m j (left.leads p) (right.leads p)
+          left.some low right.some left.last right.last (comparison n).0) refl
           (λ f. elim [
             | inl b ↦ which.left e f (rw is b)
             | inr (inl b) ↦
@@ -198,11 +191,7 @@ expression_stands s l (Some n) i k j ends left (m, low, right) =
             | inr (inr b) ↦
                 which.related e f n there
                 (subst (λ x. RelationFails p (simple_expression x) (comparison n) f) (sym is) b)
-          ])
-          (λ f b. inside p f b)
-          (sides p (simple_expression l) (comparison n).1 (λ f. InSimple p l f)
-          (λ f. InSimple p (out-Relation n).right f) i k m j (left.leads p) (right.leads p)
-          left.some low right.some left.last right.last (comparison n).0);
+          ]) (λ f b. inside p f b);
     })
   where
     e : Expr
@@ -293,19 +282,14 @@ simple_stands s sign t ts i l k j ends low high first order =
     (record {
       some = let some = first.some in omega arith;
       last = ends;
-      leads = λ p. alike i j _ _ (λ f. (InTerm p t f ⊎ Fails (a p) test f) ⊎
-          (AnyOf (λ n f. InTerm p (out-NextTerm n).term f) ts f ⊎ ChainFails p (whole_term t).last
-          (a p >>= test) (map following_term ts) f)) _
-          (ap told (regrouped (a p) test
-          (λ y. chained p (whole_term t).last y (map following_term ts))))
-          (λ f b. outside p f b) (λ f b. inside p f b)
-          (chain p following_term (λ q n f. InTerm q (out-NextTerm n).term f) ts i k j
-          (whole_term t).last (a p >>= test) (λ f. InTerm p t f ⊎ Fails (a p) test f) first.last
-          (let some = first.some in omega arith)
-          (tested (a p) test (wide low (omega arith) (first.leads p))
-          (λ x f h. let there = signed_at sign (whole_term t).last x f h in let some = first.some in
-          let end = first.last in (omega (arith, there, some, end), omega (arith, there, end))))
-          order);
+      leads = λ p. alike (chain p following_term (λ q n f. InTerm q (out-NextTerm n).term f) ts i k
+          j (whole_term t).last (a p >>= test) (λ f. InTerm p t f ⊎ Fails (a p) test f) first.last
+          (let some = first.some in omega arith) (tested (a p) test
+          (wide low (omega arith) (first.leads p)) (λ x f h. let there = signed_at sign
+          (whole_term t).last x f h in let some = first.some in let end = first.last in
+          (omega (arith, there, some, end), omega (arith, there, end)))) order) (ap told
+          (regrouped (a p) test (λ y. chained p (whole_term t).last y (map following_term ts))))
+          (λ f b. outside p f b) (λ f b. inside p f b);
     })
   where
     e : SimpleExpr
@@ -352,13 +336,9 @@ term_stands s y ys i k j ends high first order =
     (record {
       some = let some = first.some in omega arith;
       last = ends;
-      leads = λ p. alike i j _ _
-          (λ f. InFactor p y f ⊎ (AnyOf (λ n f. InFactor p (out-NextFactor n).factor f) ys f ⊎
-          ChainFails p (whole_factor y).last (a p) (map following_factor ys) f)) _ refl
-          (λ f b. outside p f b) (λ f b. inside p f b)
-          (chain p following_factor (λ q n f. InFactor q (out-NextFactor n).factor f) ys i k j
-          (whole_factor y).last (a p) (λ f. InFactor p y f) first.last first.some
-          (first.leads p) order);
+      leads = λ p. alike (chain p following_factor (λ q n f. InFactor q (out-NextFactor n).factor f)
+          ys i k j (whole_factor y).last (a p) (λ f. InFactor p y f) first.last first.some
+          (first.leads p) order) refl (λ f b. outside p f b) (λ f b. inside p f b);
     })
   where
     t : Term
@@ -434,9 +414,7 @@ factor_stands s g i j read B is some ends leads outside inside =
     (record {
       some = some;
       last = ends;
-      leads = λ p. alike i j _ _ (B p)
-          (λ f. InFactor p (roll-Factor (record { span = s; form = g })) f) refl (outside p)
-          (inside p) (leads p);
+      leads = λ p. alike (leads p) refl (outside p) (inside p);
     })
 
 pub number_stands : (s : Span) (n : ℤ) (i j : ℕ) → i < j → s.last + 1 ≡ j
@@ -505,12 +483,10 @@ negation_stands s y i k j low ends h =
     _ _ _ _ _ _
     (FactorForm-F.Not y))
     (let some = h.some in omega arith) ends
-    (λ p. alike i j _ _ _ (λ f. InFactor p y f ⊎ Fails ((whole_factor y).judge p) test f)
-    (sym (told_result ((whole_factor y).judge p))) (λ f b. b) (λ f b. b)
-    (tested ((whole_factor y).judge p) test (wide low (omega arith) (h.leads p))
-    (λ x f fails. let there = of_type_at 16 boolean (whole_factor y).last x f fails in let some =
-    h.some in let end = h.last in
-    (omega (arith, there, some, end), omega (arith, there, end)))))
+    (λ p. alike (tested ((whole_factor y).judge p) test (wide low (omega arith) (h.leads p))
+    (λ x f fails. let there = of_type_at 16 boolean (whole_factor y).last x f fails in let some
+    = h.some in let end = h.last in (omega (arith, there, some, end), omega (arith, there, end))))
+    (sym (told_result ((whole_factor y).judge p))) (λ f b. b) (λ f b. b))
     (λ p f. elim [ inl b ↦ which.negated z f y is b | inr b ↦ which.negation z f y is b ]) inside
   where
     test : Typed → Judged RExpr

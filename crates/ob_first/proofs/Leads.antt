@@ -52,9 +52,9 @@ same_value r x y e e' = cc
 
 -- ---- the same of other words
 
-pub alike : (i j : ℕ) (t u : Option Fault) (B C : Fault → Type 0) → t ≡ u →
-    ((f : Fault) → B f → C f) → ((f : Fault) → C f → B f) → Leads i j t B → Leads i j u C
-alike i j t u B C e to from h = record {
+pub alike : {i j : ℕ} {t u : Option Fault} {B C : Fault → Type 0} → Leads i j t B → t ≡ u →
+    ((f : Fault) → B f → C f) → ((f : Fault) → C f → B f) → Leads i j u C
+alike h e to from = record {
   tells = λ f told_f. to f (h.tells f (e ∙ told_f));
   first = λ f c. subst (λ x. First x f) e (h.first f (from f c));
   lies = λ f c. h.lies f (from f c);
@@ -127,14 +127,13 @@ pub both_tested : {A B C : Type 0} {i k j : ℕ} (a : Judged A) (b : Judged B) (
     Leads i j (told (a >>= λ x. b >>= λ y. t x y)) (λ f. P f ⊎ (Q f ⊎ BothFail a b t f))
 both_tested {A} {B} {k = k} {j = j} a b t {P = P} {Q = Q} front back low high at =
     after a (λ x. b >>= λ y. t x y) front
-    (λ x is. alike k j _ _ (λ f. Q f ⊎ Fails b (t x) f) (λ f. Q f ⊎ BothFail a b t f) refl
+    (λ x is. alike (tested b (t x) back (at x)) refl
     (λ f. elim [ inl q ↦ inl q | inr (y, is', fails) ↦ inr (x, y, is, is', fails) ])
     (λ f. elim [
       | inl q ↦ inl q
       | inr (x', y, is', is'', fails) ↦
           inr (y, is'', ap (λ z. t z y) (same_value a x x' is is') ∙ fails)
-    ])
-    (tested b (t x) back (at x)))
+    ]))
     (λ f. elim [ inl q ↦ back.lies f q | inr (x, y, is, is', fails) ↦ at x y f fails ]) low high
 
 -- ---- two readings whose values are joined
@@ -148,7 +147,7 @@ pub joined : {A B C : Type 0} {i k j : ℕ} (a : Judged A) (b : Judged B) (h : A
     → Leads i j (told (a >>= λ x. b >>= λ y. Ok (h x y))) (λ f. P f ⊎ Q f)
 joined {k = k} {j = j} a b h {Q = Q} front back low high =
     after a (λ x. b >>= λ y. Ok (h x y)) front
-    (λ x is. alike k j _ _ Q Q (sym (told_joined b (h x))) (λ f q. q) (λ f q. q) back) back.lies low
+    (λ x is. alike back (sym (told_joined b (h x))) (λ f q. q) (λ f q. q)) back.lies low
     high
 
 -- ---- lists
@@ -196,8 +195,8 @@ pub after_behind : {A B : Type 0} (i k j : ℕ) (a : Judged A) (g : A → Judged
     i ≤ k → k ≤ j
     → Leads i j (told (a >>= g)) (λ f. P f ⊎ Behind a C f)
 after_behind {A} i k j a g P C front back low high =
-    after a g front (λ x is. alike k j _ _ (C x) (λ f. Behind a C f) refl (λ f b. (x, is, b))
-    (λ f (y, is', b). subst (λ (z : A). C z f) (same_value a y x is' is) b) (back x))
+    after a g front (λ x is. alike (back x) refl (λ f b. (x, is, b))
+    (λ f (y, is', b). subst (λ (z : A). C z f) (same_value a y x is' is) b))
     (λ f (x, is, b). (back x).lies f b) low high
 
 -- what follows in a place that is known also where what makes it has no reading

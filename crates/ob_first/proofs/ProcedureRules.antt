@@ -68,16 +68,14 @@ pub body_leads : {D V : Type 0} (i k l m j rule name close : ℕ) (d : Judged D)
     f))
 body_leads {D} {V} i k l m j rule name close d place b ss P front same low mid order high some h =
     after d rest front
-    (λ x is. alike k j _ _ (λ f. In (place x) ss f ⊎ (closed rule (place x) name close ≡ Err f)) Q
-    refl
+    (λ x is. alike (at (place x) (h x)) refl
     (λ f. elim [ inl e ↦ inl (place x, same x is, e) | inr e ↦ inr (place x, same x is, e) ])
     (λ f. elim [
       | inl (q, is', e) ↦ inl (subst (λ (z : Place). In z ss f)
           (same_value b q (place x) is' (same x is)) e)
       | inr (q, is', e) ↦ inr (subst (λ (z : Place). closed rule z name close ≡ Err f)
           (same_value b q (place x) is' (same x is)) e)
-    ])
-    (at (place x) (h x)))
+    ]))
     (λ f. elim [
       | inl (q, is, e) ↦ (at q (λ body end. end)).lies f (inl e)
       | inr (q, is, e) ↦
@@ -140,21 +138,17 @@ no_procedures p f = elim [ ]
 pub procedures_lead : (xs : List Proc) (p : Place) (done : List Draft) (i j : ℕ) →
     InOrder ProcedureAt i xs j → Leads i j (told (all_procedures p done (map procedure xs)))
     (λ f. InProcedures p xs f)
-procedures_lead [] p done i j order = alike i j _ _ (λ f. ⊥) (λ f. InProcedures p [] f) refl
-    (λ f b. absurd b) (no_procedures p) nothing
+procedures_lead [] p done i j order = alike nothing refl (λ f b. absurd b) (no_procedures p)
 procedures_lead (x ∷ xs) p done i j (a, b, low, one, order) =
-    alike i j _ _ (λ f. InProcedure p x f ⊎ Behind (behind_procedure x p)
-    (λ q g. InProcedures q xs g) f) (λ f. InProcedures p (x ∷ xs) f) refl
-    (procedures_close p x xs) (procedures_open p x xs)
-    (after (procedure x p) (λ more. all_procedures more.0 (done ++ more.1) (map procedure xs))
-    (wide low (omega arith) (one.leads p)) (λ more is. alike b j _ _ (λ f. InProcedures more.0 xs f)
-    (λ f. Behind (behind_procedure x p) (λ q g. InProcedures q xs g) f) refl
-    (λ f e. (more.0, one.behind p more is, e))
-    (λ f (q, is', e). subst (λ (z : Place). InProcedures z xs f)
-    (same_value (behind_procedure x p) q more.0 is' (one.behind p more is)) e)
-    (procedures_lead xs more.0 (done ++ more.1) b j order))
+    alike (after (procedure x p) (λ more. all_procedures more.0 (done ++ more.1) (map procedure xs))
+    (wide low (omega arith) (one.leads p)) (λ more is. alike
+    (procedures_lead xs more.0 (done ++ more.1) b j order) refl
+    (λ f e. (more.0, one.behind p more is, e)) (λ f (q, is', e). subst
+    (λ (z : Place). InProcedures z xs f)
+    (same_value (behind_procedure x p) q more.0 is' (one.behind p more is)) e))
     (λ f (q, is, e). (procedures_lead xs q [] b j order).lies f e)
-    (let some = one.some in omega arith) (procedures_in_order xs b j order))
+    (let some = one.some in omega arith) (procedures_in_order xs b j order)) refl
+    (procedures_close p x xs) (procedures_open p x xs)
 
 procedures_behind : (xs : List Proc) (p : Place) (done : List Draft) (i j : ℕ)
     (r : Place × List Draft) → InOrder ProcedureAt i xs j →
@@ -228,43 +222,33 @@ module _ (cs : List ConstDecl) (ts : List TypeDecl) (vs : List NameList) (ps : L
   unfolding Parts
   declarations_stand i k l m j constants types variables procedures = record {
     some = omega (arith, first, second, third, fourth);
-    leads = λ p. alike i j _ _
-        (λ f. ((InConstants p cs f ⊎ Behind (all_constants p cs) (λ q g. InTypeDeclarations q ts g)
-        f) ⊎ Behind (both p) (λ q g. InVariables q [] vs g) f) ⊎
-        Behind (three p) (λ vars g. InProcedures vars.0 ps g) f) _
-        (ap told (read_in_four p))
-        (λ f b. parts_outside whole p f
-        (subst (λ z. Parts p z.consts z.types z.vars z.procs f) (sym opens)
-        (subst (λ (r : Judged (Place × List ℕ)).
-        ((InConstants p cs f ⊎ Behind (all_constants p cs) (λ q g. InTypeDeclarations q ts g) f)
-        ⊎ Behind (both p) (λ q g. InVariables q [] vs g) f) ⊎
-        Behind r (λ vars g. InProcedures vars.0 ps g) f)
-        (regrouped (all_constants p cs) (λ q. all_type_declarations q ts)
-        (λ r. all_variables r [] vs)) b)))
-        (λ f b. subst (λ (r : Judged (Place × List ℕ)).
-        ((InConstants p cs f ⊎ Behind (all_constants p cs) (λ q g. InTypeDeclarations q ts g) f)
-        ⊎ Behind (both p) (λ q g. InVariables q [] vs g) f) ⊎
-        Behind r (λ vars g. InProcedures vars.0 ps g) f)
-        (sym (regrouped (all_constants p cs) (λ q. all_type_declarations q ts)
-        (λ r. all_variables r [] vs)))
-        (subst (λ z. Parts p z.consts z.types z.vars z.procs f) opens (parts_inside whole p f b)))
-        (after_behind i m j (three p) last
-        (λ f. (InConstants p cs f ⊎ Behind (all_constants p cs)
-        (λ q g. InTypeDeclarations q ts g) f) ⊎ Behind (both p) (λ q g. InVariables q [] vs g)
-        f) (λ vars g. InProcedures vars.0 ps g)
+    leads = λ p. alike (after_behind i m j (three p) last (λ f.
+        (InConstants p cs f ⊎ Behind (all_constants p cs) (λ q g. InTypeDeclarations q ts g) f)
+        ⊎ Behind (both p) (λ q g. InVariables q [] vs g) f) (λ vars g. InProcedures vars.0 ps g)
         (after_behind i l m (both p) (λ r. all_variables r [] vs)
-        (λ f. InConstants p cs f ⊎ Behind (all_constants p cs)
-        (λ q g. InTypeDeclarations q ts g) f) (λ q g. InVariables q [] vs g)
-        (after_behind i k l (all_constants p cs) (λ q. all_type_declarations q ts)
-        (λ f. InConstants p cs f) (λ q g. InTypeDeclarations q ts g)
-        (constants_lead cs p i k constants) (λ q. types_lead ts q k l types) first second)
-        (λ r. variables_lead vs r [] l m variables) (omega (arith, first, second)) third)
-        (λ vars. alike m j _ _ (λ f. InProcedures vars.0 ps f) (λ f. InProcedures vars.0 ps f)
-        (sym (told_joined (all_procedures vars.0 [] (map procedure ps))
+        (λ f. InConstants p cs f ⊎ Behind (all_constants p cs) (λ q g. InTypeDeclarations q ts g) f)
+        (λ q g. InVariables q [] vs g) (after_behind i k l (all_constants p cs)
+        (λ q. all_type_declarations q ts) (λ f. InConstants p cs f)
+        (λ q g. InTypeDeclarations q ts g) (constants_lead cs p i k constants)
+        (λ q. types_lead ts q k l types) first second) (λ r. variables_lead vs r [] l m variables)
+        (omega (arith, first, second)) third) (λ vars. alike
+        (procedures_lead ps vars.0 [] m j procedures) (sym (told_joined
+        (all_procedures vars.0 [] (map procedure ps))
         (λ procs. record { place = procs.0; vars = vars.1; procs = procs.1 }))) (λ f b. b)
-        (λ f b. b)
-        (procedures_lead ps vars.0 [] m j procedures))
-        (omega (arith, first, second, third)) fourth);
+        (λ f b. b))
+        (omega (arith, first, second, third)) fourth) (ap told (read_in_four p)) (λ f b.
+        parts_outside whole p f (subst (λ z. Parts p z.consts z.types z.vars z.procs f) (sym opens)
+        (subst (λ (r : Judged (Place × List ℕ)). (
+        (InConstants p cs f ⊎ Behind (all_constants p cs) (λ q g. InTypeDeclarations q ts g) f)
+        ⊎ Behind (both p) (λ q g. InVariables q [] vs g) f) ⊎ Behind r
+        (λ vars g. InProcedures vars.0 ps g) f) (regrouped (all_constants p cs)
+        (λ q. all_type_declarations q ts) (λ r. all_variables r [] vs)) b))) (λ f b. subst
+        (λ (r : Judged (Place × List ℕ)). (
+        (InConstants p cs f ⊎ Behind (all_constants p cs) (λ q g. InTypeDeclarations q ts g) f)
+        ⊎ Behind (both p) (λ q g. InVariables q [] vs g) f) ⊎ Behind r
+        (λ vars g. InProcedures vars.0 ps g) f) (sym (regrouped (all_constants p cs)
+        (λ q. all_type_declarations q ts) (λ r. all_variables r [] vs)))
+        (subst (λ z. Parts p z.consts z.types z.vars z.procs f) opens (parts_inside whole p f b)));
     behind = λ p r h.
         let of = came_of (three p) last r (read_in_four p ∙ h) in
         let of' = came_of (all_procedures of.0.0 [] (map procedure ps))
@@ -435,29 +419,26 @@ module _ (s : Span) (name : ℕ) (params : List Section) (ds : Decls) (ss : List
   unfolding ProcParts
   procedure_stands i a b c d e g h j at low sections mid decls next statements high some = record {
     some = omega (arith, at.0, at.1, second, third, fourth);
-    leads = λ p. alike i j _ _ (ProcParts p name params ds ss close) _
-        (told_behind (heading p name params) (λ q. declarations ds q.0)
-        (λ x. each x.place [] (map statement ss)) (λ x. closed 2 x.place name close)
-        (made_of p) (λ x body end. end)
-        ∙ ap (λ (r : ProcResult). told (r p))
-        (sym (fold-roll-Proc DeclsResult ProcResult decls_step proc_step _)))
-        (λ f b. proc_outside proc p f
+    leads = λ p. alike (body_leads i e g h j 2 name close
+        (heading p name params >>= λ q. declarations ds q.0) (λ x. x.place)
+        (heading p name params >>= λ q. behind_declarations ds q.0) ss (λ f. InHeading p name params
+        f ⊎ Behind (heading p name params) (λ q g. InDeclarations q.0 ds g) f) (after_behind i d e
+        (heading p name params) (λ q. declarations ds q.0) (λ f. InHeading p name params f)
+        (λ q g. InDeclarations q.0 ds g)
+        (wide (omega arith) mid (heading_leads p name params i a b c at low sections))
+        (λ q. decls.leads q.0) (omega (arith, at.0, at.1, second)) third) (λ x is. let of = came_of
+        (heading p name params) (λ q. declarations ds q.0) x is in ap
+        (λ (r : Judged (Place × List Param)). r >>= λ q. behind_declarations ds q.0) of.1
+        ∙ decls.behind of.0.0 x of.2) (omega (arith, at.0, at.1, second, third)) next statements
+        high some (λ x body end. end)) (told_behind (heading p name params)
+        (λ q. declarations ds q.0) (λ x. each x.place [] (map statement ss))
+        (λ x. closed 2 x.place name close) (made_of p) (λ x body end. end) ∙ ap
+        (λ (r : ProcResult). told (r p))
+        (sym (fold-roll-Proc DeclsResult ProcResult decls_step proc_step _))) (λ f b. proc_outside
+        proc p f
         (subst (λ z. ProcParts p z.name z.params z.decls z.body z.close f) (sym proc_opens) b))
         (λ f b. subst (λ z. ProcParts p z.name z.params z.decls z.body z.close f) proc_opens
-        (proc_inside proc p f b))
-        (body_leads i e g h j 2 name close (heading p name params >>= λ q. declarations ds q.0)
-        (λ x. x.place) (heading p name params >>= λ q. behind_declarations ds q.0) ss
-        (λ f. InHeading p name params f ⊎ Behind (heading p name params)
-        (λ q g. InDeclarations q.0 ds g) f)
-        (after_behind i d e (heading p name params) (λ q. declarations ds q.0)
-        (λ f. InHeading p name params f) (λ q g. InDeclarations q.0 ds g)
-        (wide (omega arith) mid (heading_leads p name params i a b c at low sections))
-        (λ q. decls.leads q.0) (omega (arith, at.0, at.1, second)) third)
-        (λ x is.
-        let of = came_of (heading p name params) (λ q. declarations ds q.0) x is in
-        ap (λ (r : Judged (Place × List Param)). r >>= λ q. behind_declarations ds q.0) of.1
-        ∙ decls.behind of.0.0 x of.2)
-        (omega (arith, at.0, at.1, second, third)) next statements high some (λ x body end. end));
+        (proc_inside proc p f b));
     behind = λ p r is.
         let of = steps_of (heading p name params) (λ q. declarations ds q.0)
         (λ x. each x.place [] (map statement ss)) (λ x. closed 2 x.place name close)

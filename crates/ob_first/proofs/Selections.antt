@@ -67,13 +67,10 @@ pub field_selector : (s : Selector) (i j k : ℕ) → out-SelectorForm (out-Sele
     (slice_get p.types type_id)) → i ≤ k → k < j → SelectorAt s i j
 field_selector s i j k form reads low high = record {
   some = omega arith;
-  leads = λ p t. alike i j _ _ (λ f. field p k t (slice_get p.types t) ≡ Err f)
-      (λ f. InSelector p s f ⊎ SelectorFails p t s f) (ap told (sym (reads p t)))
-      (λ f h. inr (rw (form, SelectorFails) h))
-      (λ f. elim [ inl b ↦ absurd (empty p f b) | inr h ↦ rw (form, SelectorFails) at h ])
-      (alone (field p k t (slice_get p.types t))
-      (λ f h. let at = field_at p k t (slice_get p.types t) f h in
-      (omega (arith, at), omega (arith, at))));
+  leads = λ p t. alike (alone (field p k t (slice_get p.types t)) (λ f h. let at = field_at p k t
+      (slice_get p.types t) f h in (omega (arith, at), omega (arith, at))))
+      (ap told (sym (reads p t))) (λ f h. inr (rw (form, SelectorFails) h))
+      (λ f. elim [ inl b ↦ absurd (empty p f b) | inr h ↦ rw (form, SelectorFails) at h ]);
 }
   where
     differ : (e : Expr) → out-SelectorForm (out-Selector s).form ≡ SelectorForm-F.Index e → ⊥
@@ -97,8 +94,11 @@ index_selector s i k l j last e form ends reads inner low mid high = record {
       let own = λ (index : RExpr). element last index (slice_get p.types t) in
       let number = of_type 14 integer (expression e).last in
       let a = (expression e).judge p in
-      alike i j _ _ (λ f. (InExpression p e f ⊎ Fails a number f) ⊎ Fails (a >>= number) own f)
-      (λ f. InSelector p s f ⊎ SelectorFails p t s f)
+      alike (tested (a >>= number) own (tested a number (wide low (omega arith) (inner.leads p))
+      (λ x f h. let at = of_type_at 14 integer (expression e).last x f h in let end = inner.last in
+      let some = inner.some in (omega (arith, at, end, some), omega (arith, at, end, some))))
+      (λ x f h. let at = element_at last x (slice_get p.types t) f h in let some = inner.some in
+      (omega (arith, at, some), omega (arith, at))))
       (ap told (regrouped a number own ∙ sym (reads p t)))
       (λ f. elim [
         | inl (inl b) ↦ inl (in_index s f e form b)
@@ -110,13 +110,7 @@ index_selector s i k l j last e form ends reads inner low mid high = record {
         | inl b ↦ inl (inside p f b)
         | inr b ↦
             inr (let h = rw (form, SelectorFails) at b in rw ends at h)
-      ])
-      (tested (a >>= number) own (tested a number
-      (wide low (omega arith) (inner.leads p))
-      (λ x f h. let at = of_type_at 14 integer (expression e).last x f h in let end = inner.last in
-      let some = inner.some in (omega (arith, at, end, some), omega (arith, at, end, some))))
-      (λ x f h. let at = element_at last x (slice_get p.types t) f h in let some = inner.some in
-      (omega (arith, at, some), omega (arith, at))));
+      ]);
 }
   where
     same : (e' : Expr) → out-SelectorForm (out-Selector s).form ≡ SelectorForm-F.Index e' → e' ≡ e
@@ -140,12 +134,26 @@ pub selectors_lead : (p : Place) (ss : List Selector) (i j : ℕ) → InOrder Se
     (type_id : ℕ) (done : List RStep)
     → Leads i j (told (selected p done type_id (map one_selector ss)))
     (λ f. AnyOf (λ s f. InSelector p s f) ss f ⊎ SelectorsFail p type_id ss f)
-selectors_lead p [] i j order t done = alike i j _ _ (λ f. ⊥) _ refl (λ f b. absurd b)
-    (λ f. elim [ inl (s, is, b) ↦ is | inr b ↦ b ]) nothing
+selectors_lead p [] i j order t done = alike nothing refl (λ f b. absurd b)
+    (λ f. elim [ inl (s, is, b) ↦ is | inr b ↦ b ])
 selectors_lead p (s ∷ ss) i j (k, l, low, one, order) t done =
     let more = λ (r : RStep × ℕ). selectors_lead p ss l j order r.1 (done ++ r.0 ∷ []) in
-    alike i j _ _ (λ f. Own f ⊎ Rest f) (λ f. AnyOf (λ s f. InSelector p s f) (s ∷ ss) f ⊎
-    SelectorsFail p t (s ∷ ss) f) refl
+    alike
+    (after (one_selector s p t) (λ r. selected p (done ++ r.0 ∷ []) r.1 (map one_selector ss))
+    {Q = Rest} (wide low (omega arith) (one.leads p t))
+    (λ r is. alike (more r) refl (λ f. elim [ inl b ↦ inl b | inr b ↦ inr (r, is, b) ])
+    (λ f. elim [
+      | inl b ↦ inl b
+      | inr (r', is', b) ↦
+          inr (subst (λ (y : RStep × ℕ). SelectorsFail p y.1 ss f)
+          (same_value (one_selector s p t) r' r is' is) b)
+    ]))
+    (λ f. elim [
+      | inl b ↦ (selectors_lead p ss l j order 0 []).lies f (inl b)
+      | inr (r, is, b) ↦
+          (selectors_lead p ss l j order r.1 (done ++ r.0 ∷ [])).lies f (inr b)
+    ])
+    (let some = one.some in omega arith) (ordered ss l j order)) refl
     (λ f. elim [
       | inl (inl b) ↦ inl (s, inl refl, b)
       | inl (inr b) ↦ inr (inl b)
@@ -158,28 +166,7 @@ selectors_lead p (s ∷ ss) i j (k, l, low, one, order) t done =
       | inr (inl b) ↦ inl (inr b)
       | inr (inr b) ↦ inr (inr b)
     ])
-    (after (one_selector s p t) (λ r. selected p (done ++ r.0 ∷ []) r.1 (map one_selector ss))
-    (wide low (omega arith) (one.leads p t))
-    (λ r is. alike l j _ _ (λ f. AnyOf (λ s f. InSelector p s f) ss f ⊎ SelectorsFail p r.1 ss f)
-    Rest refl
-    (λ f. elim [ inl b ↦ inl b | inr b ↦ inr (r, is, b) ])
-    (λ f. elim [
-      | inl b ↦ inl b
-      | inr (r', is', b) ↦
-          inr (subst (λ (y : RStep × ℕ). SelectorsFail p y.1 ss f)
-          (same_value (one_selector s p t) r' r is' is) b)
-    ])
-    (more r))
-    (λ f. elim [
-      | inl b ↦ (selectors_lead p ss l j order 0 []).lies f (inl b)
-      | inr (r, is, b) ↦
-          (selectors_lead p ss l j order r.1 (done ++ r.0 ∷ [])).lies f (inr b)
-    ])
-    (let some = one.some in omega arith) (ordered ss l j order))
   where
-    Own : Fault → Type 0
-    Own f = InSelector p s f ⊎ SelectorFails p t s f
-
     Rest : Fault → Type 0
     Rest f = AnyOf (λ s f. InSelector p s f) ss f ⊎
         ((r : RStep × ℕ) × (one_selector s p t ≡ Ok r) × SelectorsFail p r.1 ss f)
@@ -199,17 +186,13 @@ pub named_selected : {V : Type 0} (p : Place) (k j : ℕ) (kind : Meaning → Ju
 named_selected {V} p k j kind type_of ss at order =
     let r = used p k >>= kind in
     after r (λ v. selected p [] (type_of v) (map one_selector ss)) (named p k kind at)
-    (λ v is. alike (k + 1) j _ _ (λ f. AnyOf (λ s f. InSelector p s f) ss f ⊎
-    SelectorsFail p (type_of v) ss f)
-    (λ f. AnyOf (λ s f. InSelector p s f) ss f ⊎
-    ((v : V) × (r ≡ Ok v) × SelectorsFail p (type_of v) ss f)) refl
+    (λ v is. alike (selectors_lead p ss (k + 1) j order (type_of v) []) refl
     (λ f. elim [ inl b ↦ inl b | inr b ↦ inr (v, is, b) ])
     (λ f. elim [
       | inl b ↦ inl b
       | inr (w, is', b) ↦
           inr (subst (λ (y : V). SelectorsFail p (type_of y) ss f) (same_value r w v is' is) b)
-    ])
-    (selectors_lead p ss (k + 1) j order (type_of v) []))
+    ]))
     (λ f. elim [
       | inl b ↦ (selectors_lead p ss (k + 1) j order 0 []).lies f (inl b)
       | inr (v, is, b) ↦ (selectors_lead p ss (k + 1) j order (type_of v) []).lies f (inr b)
@@ -243,6 +226,7 @@ pub designated_leads : (p : Place) (k j : ℕ) (ss : List Selector) → InOrder 
     ((v : Typed) × ((used p k >>= designated p (bare k)) ≡ Ok v) ×
     SelectorsFail p v.type_id ss f)))
 designated_leads p k j ss order =
-    alike k j _ _ _ _ (designated_parts p (record { name = k; selectors = map one_selector ss })
-    (used p k)) (λ f b. b) (λ f b. b)
+    alike
     (named_selected p k j (designated p (bare k)) (λ v. v.type_id) ss (designated_at p k) order)
+    (designated_parts p (record { name = k; selectors = map one_selector ss }) (used p k))
+    (λ f b. b) (λ f b. b)

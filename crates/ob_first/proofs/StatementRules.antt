@@ -60,16 +60,14 @@ module _ {X A : Type 0} (item : X → Judge A) (B : Place → X → Fault → Ty
 
   pub each_leads : (p : Place) (xs : List X) (done : List A) (i j : ℕ) → InOrder ItemAt i xs j →
       Leads i j (told (each p done (map item xs))) (λ f. AnyOf (B p) xs f)
-  each_leads p [] done i j order = alike i j _ _ (λ f. ⊥) _ refl (λ f b. absurd b) (λ f b. b.1)
-      nothing
+  each_leads p [] done i j order = alike nothing refl (λ f b. absurd b) (λ f b. b.1)
   each_leads p (x ∷ xs) done i j (k, l, low, one, order) =
-      alike i j _ _ (λ f. B p x f ⊎ AnyOf (B p) xs f) (λ f. AnyOf (B p) (x ∷ xs) f) refl
+      alike (after (item x p) (λ one. each p (done ++ one ∷ []) (map item xs))
+      (wide low (omega arith) (one.leads p)) (λ y is. each_leads p xs (done ++ y ∷ []) l j order)
+      (each_leads p xs done l j order).lies (let some = one.some in omega arith)
+      (items_in_order xs l j order)) refl
       (λ f. elim [ inl b ↦ (x, inl refl, b) | inr (y, is, b) ↦ (y, inr is, b) ])
       (λ f (y, is, b). one_or_other f y is b)
-      (after (item x p) (λ one. each p (done ++ one ∷ []) (map item xs))
-      (wide low (omega arith) (one.leads p))
-      (λ y is. each_leads p xs (done ++ y ∷ []) l j order) (each_leads p xs done l j order).lies
-      (let some = one.some in omega arith) (items_in_order xs l j order))
     where
       one_or_other : (f : Fault) (y : X) → Among y (x ∷ xs) → B p y f → B p x f ⊎ AnyOf (B p) xs f
       one_or_other f y (inl is) b = inl (subst (λ z. B p z f) is b)
@@ -114,9 +112,10 @@ target_leads : (p : Place) (k j : ℕ) (ss : List Selector) → InOrder Selector
     ((v : RVar) × ((used p k >>= target p (bare k)) ≡ Ok v) ×
     SelectorsFail p (out-RVar v).type_id ss f)))
 target_leads p k j ss order =
-    alike k j _ _ _ _ (target_parts p (record { name = k; selectors = map one_selector ss })
-    (used p k)) (λ f b. b) (λ f b. b)
+    alike
     (named_selected p k j (target p (bare k)) (λ v. (out-RVar v).type_id) ss (target_at p k) order)
+    (target_parts p (record { name = k; selectors = map one_selector ss }) (used p k)) (λ f b. b)
+    (λ f b. b)
 
 -- ---- statements
 
@@ -154,13 +153,11 @@ statement_stands : (s : Span) (y : Layer) (g : StmtForm) (i j : ℕ) → roll-St
     → StatementAt (roll-Stmt (record { span = s; form = g })) i j
 statement_stands s y g i j rolls some leads = record {
   some = some;
-  leads = λ p. alike i j _ _ (Parts p s.last y) (λ f. InStatement p t f)
-      (ap (λ (r : Judge RStmt). told (r p))
-      (sym (fold-roll-Stmt StmtResult (Judge RArm) (Judge RStmt) stmt_form arm_step stmt_step
-      (record { span = s; form = g }) ∙ ap (λ (r : StmtResult). r s.last)
-      (ap form_of (sym rolls) ∙ read_layer y))))
+  leads = λ p. alike (leads p) (ap (λ (r : Judge RStmt). told (r p)) (sym (fold-roll-Stmt StmtResult
+      (Judge RArm) (Judge RStmt) stmt_form arm_step stmt_step (record { span = s; form = g }) ∙ ap
+      (λ (r : StmtResult). r s.last) (ap form_of (sym rolls) ∙ read_layer y))))
       (λ f b. outside p f (subst (λ z. Parts p s.last z f) (sym lays) b))
-      (λ f b. subst (λ z. Parts p s.last z f) lays (inside p f b)) (leads p);
+      (λ f b. subst (λ z. Parts p s.last z f) lays (inside p f b));
 }
   where
     t : Stmt
@@ -196,26 +193,20 @@ pub assignment_stands : (s t : Span) (k : ℕ) (ss : List Selector) (e : Expr) (
 assignment_stands s t k ss e l m j ends low order value =
     statement_stands s (StmtForm-F.Assign d e) _ k j (form_is.rolls-Assign d e)
     (let first = ordered ss (k + 1) l order in let some = value.some in omega arith)
-    (λ p. alike k j _ _ (λ f. Named p k ss f ⊎
-    (InExpression p e f ⊎ BothFail (used p k >>= target p whole) ((expression e).judge p)
-    (assigned s.last) f)) _
-    (ap told (regrouped (used p k) (target p whole)
-    (λ v. (expression e).judge p >>= λ value. assigned s.last v value)
-    ∙ ap (λ (w : Selected). used p w.name >>= λ m. target p w m >>= λ v. (expression e).judge p >>=
-    λ value. assigned s.last v value) (sym reads)))
-    (λ f b. inl (outside p f b))
+    (λ p. alike (both_tested (used p k >>= target p whole) ((expression e).judge p)
+    (assigned s.last) (target_leads p k l ss order) (wide low (omega arith) (value.leads p))
+    (let first = ordered ss (k + 1) l order in omega arith) (let some = value.some in omega arith)
+    (λ v x f h. let at = assigned_at s.last v x f h in let some = value.some in
+    (omega (arith, at, some), omega (arith, at)))) (ap told (regrouped (used p k) (target p whole)
+    (λ v. (expression e).judge p >>= λ value. assigned s.last v value) ∙ ap (λ (w : Selected). used
+    p w.name >>= λ m. target p w m >>= λ v. (expression e).judge p >>= λ value. assigned s.last v
+    value) (sym reads))) (λ f b. inl (outside p f b))
     (λ f. elim [
       | inl b ↦ inside p f b
       | inr (inl (a, is, b)) ↦
           absurd is
       | inr (inr (a, is, b)) ↦ absurd is
-    ])
-    (both_tested (used p k >>= target p whole) ((expression e).judge p) (assigned s.last)
-    (target_leads p k l ss order)
-    (wide low (omega arith) (value.leads p))
-    (let first = ordered ss (k + 1) l order in omega arith) (let some = value.some in omega arith)
-    (λ v x f h. let at = assigned_at s.last v x f h in let some = value.some in
-    (omega (arith, at, some), omega (arith, at)))))
+    ]))
   where
     d : Designator
     d = roll-Designator (record { span = t; name = k; selectors = ss })
@@ -257,14 +248,13 @@ pub call_stands : (s : Span) (k : ℕ) (es : List Expr) (j : ℕ) → s.last + 1
 call_stands s k es j ends some order =
     statement_stands s (StmtForm-F.Call k es) _ k j (form_is.rolls-Call k es)
     (omega arith)
-    (λ p. alike k j _ _ (λ f. InCall p s.last k es f) _ refl (λ f b. inl b)
+    (λ p. alike (call_leads p s.last k es j ends some order) refl (λ f b. inl b)
     (λ f. elim [
       | inl b ↦ b
       | inr (inl (a, is, b)) ↦ absurd is
       | inr (inr (a, is, b)) ↦
           absurd is
-    ])
-    (call_leads p s.last k es j ends some order))
+    ]))
 
 pub if_stands : (s : Span) (xs : List Arm) (others : List Stmt) (i k l j m : ℕ) → i ≤ k → m ≤ j →
     InOrder ArmAt k xs l → InOrder StatementAt l others m
@@ -273,16 +263,13 @@ if_stands s xs others i k l j m low high first rest =
     statement_stands s (StmtForm-F.If xs others) _ i j (form_is.rolls-If xs others)
     (let a = items_in_order arm (λ p x f. InArm p x f) xs k l first in let b =
     items_in_order statement (λ p x f. InStatement p x f) others l m rest in omega arith)
-    (λ p. alike i j _ _ (λ f. AnyOf (λ a g. InArm p a g) xs f ⊎
-    AnyOf (λ t g. InStatement p t g) others f) _ refl (λ f b. inr b)
-    (λ f. elim [ inl b ↦ absurd b | inr b ↦ b ])
-    (wide low high
-    (joined (each p [] (map arm xs)) (each p [] (map statement others)) (λ choices otherwise.
-    made.If choices otherwise)
+    (λ p. alike (wide low high (joined (each p [] (map arm xs)) (each p [] (map statement others))
+    (λ choices otherwise. made.If choices otherwise)
     (each_leads arm (λ p x f. InArm p x f) p xs [] k l first)
     (each_leads statement (λ p x f. InStatement p x f) p others [] l m rest)
     (items_in_order arm (λ p x f. InArm p x f) xs k l first)
-    (items_in_order statement (λ p x f. InStatement p x f) others l m rest))))
+    (items_in_order statement (λ p x f. InStatement p x f) others l m rest))) refl (λ f b. inr b)
+    (λ f. elim [ inl b ↦ absurd b | inr b ↦ b ]))
 
 pub while_stands : (s : Span) (e : Expr) (ss : List Stmt) (i k l n m j : ℕ) → i ≤ k → l ≤ n →
     m ≤ j → ExpressionAt e k l → InOrder StatementAt n ss m
@@ -291,14 +278,13 @@ while_stands s e ss i k l n m j low mid high first rest =
     statement_stands s (StmtForm-F.While e ss) _ i j (form_is.rolls-While e ss)
     (let a = first.some in let b = items_in_order statement (λ p x f. InStatement p x f) ss n m
     rest in omega arith)
-    (λ p. alike i j _ _ (λ f. InCondition p e f ⊎ AnyOf (λ t g. InStatement p t g) ss f) _ refl
-    (λ f. elim [ inl b ↦ inl b | inr b ↦ inr (inr b) ])
-    (λ f. elim [ inl b ↦ inl b | inr (inl (a, is, b)) ↦ absurd is | inr (inr b) ↦ inr b ])
-    (joined (condition p e) (each p [] (map statement ss)) (λ c turn. made.While c turn)
-    (wide low (omega arith) (condition_leads p e k l first)) (wide mid high
-    (each_leads statement (λ p x f. InStatement p x f) p ss [] n m rest))
+    (λ p. alike (joined (condition p e) (each p [] (map statement ss)) (λ c turn. made.While c turn)
+    (wide low (omega arith) (condition_leads p e k l first))
+    (wide mid high (each_leads statement (λ p x f. InStatement p x f) p ss [] n m rest))
     (let a = first.some in omega arith)
-    (let b = items_in_order statement (λ p x f. InStatement p x f) ss n m rest in omega arith)))
+    (let b = items_in_order statement (λ p x f. InStatement p x f) ss n m rest in omega arith)) refl
+    (λ f. elim [ inl b ↦ inl b | inr b ↦ inr (inr b) ])
+    (λ f. elim [ inl b ↦ inl b | inr (inl (a, is, b)) ↦ absurd is | inr (inr b) ↦ inr b ]))
 
 pub repeat_stands : (s : Span) (ss : List Stmt) (e : Expr) (i k l n j : ℕ) → i ≤ k → l ≤ n →
     InOrder StatementAt k ss l → ExpressionAt e n j
@@ -307,33 +293,28 @@ repeat_stands s ss e i k l n j low mid first last =
     statement_stands s (StmtForm-F.Repeat ss e) _ i j (form_is.rolls-Repeat ss e)
     (let a = last.some in let b = items_in_order statement (λ p x f. InStatement p x f) ss k l
     first in omega arith)
-    (λ p. alike i j _ _ (λ f. AnyOf (λ t g. InStatement p t g) ss f ⊎ InCondition p e f) _ refl
-    (λ f. elim [ inl b ↦ inr (inr b) | inr b ↦ inl b ])
-    (λ f. elim [ inl b ↦ inr b | inr (inl (a, is, b)) ↦ absurd is | inr (inr b) ↦ inl b ])
-    (joined (each p [] (map statement ss)) (condition p e) (λ turn c. made.Repeat turn c)
+    (λ p. alike (joined (each p [] (map statement ss)) (condition p e)
+    (λ turn c. made.Repeat turn c)
     (wide low (omega arith) (each_leads statement (λ p x f. InStatement p x f) p ss [] k l first))
     (wide mid (omega arith) (condition_leads p e n j last))
     (let b = items_in_order statement (λ p x f. InStatement p x f) ss k l first in omega arith)
-    (let a = last.some in omega arith)))
+    (let a = last.some in omega arith)) refl (λ f. elim [ inl b ↦ inr (inr b) | inr b ↦ inl b ])
+    (λ f. elim [ inl b ↦ inr b | inr (inl (a, is, b)) ↦ absurd is | inr (inr b) ↦ inl b ]))
 
 pub arm_stands : (e : Expr) (ss : List Stmt) (i k l n j : ℕ) → i ≤ k → l ≤ n → ExpressionAt e k l →
     InOrder StatementAt n ss j → ArmAt (roll-Arm (record { test = e; body = ss })) i j
 arm_stands e ss i k l n j low mid first rest = record {
   some = let a = first.some in let b = items_in_order statement (λ p x f. InStatement p x f) ss n j
       rest in omega arith;
-  leads = λ p. alike i j _ _ (λ f. InCondition p e f ⊎ AnyOf (λ t g. InStatement p t g) ss f)
-      (λ f. InArm p a f)
-      (ap (λ (r : Judge RArm). told (r p))
-      (sym (fold-roll-Arm StmtResult (Judge RArm) (Judge RStmt) stmt_form arm_step stmt_step
-      _)))
-      (λ f b. outside p f b) (λ f b. inside p f b)
-      (joined (condition p e) (each p [] (map statement ss)) (λ c body. roll-RArm
-      (record { test = c; body = body }))
-      (wide low (omega arith) (condition_leads p e k l first)) (wide mid (omega arith)
-      (each_leads statement (λ p x f. InStatement p x f) p ss [] n j rest))
+  leads = λ p. alike (joined (condition p e) (each p [] (map statement ss))
+      (λ c body. roll-RArm (record { test = c; body = body }))
+      (wide low (omega arith) (condition_leads p e k l first))
+      (wide mid (omega arith) (each_leads statement (λ p x f. InStatement p x f) p ss [] n j rest))
       (let a = first.some in omega arith)
-      (let b = items_in_order statement (λ p x f. InStatement p x f) ss n j rest in
-      omega arith));
+      (let b = items_in_order statement (λ p x f. InStatement p x f) ss n j rest in omega arith))
+      (ap (λ (r : Judge RArm). told (r p))
+      (sym (fold-roll-Arm StmtResult (Judge RArm) (Judge RStmt) stmt_form arm_step stmt_step _)))
+      (λ f b. outside p f b) (λ f b. inside p f b);
 }
   where
     a : Arm

@@ -104,15 +104,12 @@ field_names_lead : (p : Place) (ks : List ℕ) (names : List Name) (i j : ℕ) �
 field_names_lead p [] names i j order = nothing
 field_names_lead p (k ∷ ks) names i j (a, b, low, one, order) =
     let rest = field_names_lead p ks (names ++ name_at p k ∷ []) b j order in
-    alike i j _ _ (λ f. FieldNamesFail p names (k ∷ ks) f) (λ f. FieldNamesFail p names (k ∷ ks) f)
-    (fields_told p names k ks) (λ f b. b) (λ f b. b)
-    (after (with_fields p names (k ∷ [])) (λ ns. with_fields p ns ks)
-    (alone (with_fields p names (k ∷ [])) (λ f h. let at = one_field p names k f h in
-    (omega (arith, at, one.0), omega (arith, at, one.1))))
-    (λ x is. subst (λ (z : List Name). Leads b j (told (with_fields p z ks))
-    (λ f. FieldNamesFail p (names ++ name_at p k ∷ []) ks f)) (sym (field_is p names k x is))
-    rest)
-    rest.lies (omega (arith, one.0, one.1)) (names_in_order ks b j order))
+    alike (after (with_fields p names (k ∷ [])) (λ ns. with_fields p ns ks) (alone (with_fields p
+    names (k ∷ [])) (λ f h. let at = one_field p names k f h in
+    (omega (arith, at, one.0), omega (arith, at, one.1)))) (λ x is. subst (λ (z : List Name). Leads
+    b j (told (with_fields p z ks)) (λ f. FieldNamesFail p (names ++ name_at p k ∷ []) ks f))
+    (sym (field_is p names k x is)) rest) rest.lies (omega (arith, one.0, one.1))
+    (names_in_order ks b j order)) (fields_told p names k ks) (λ f b. b) (λ f b. b)
 
 -- ---- types
 
@@ -159,17 +156,15 @@ unfolding ListFails
 list_leads so_far l i j h =
     let names = (out-NameList l).names in
     let shape = (out-NameList l).shape in
-    alike i j _ _ (λ f. FieldNamesFail so_far.place so_far.names names f ⊎
-    InType so_far.place shape f) _
-    (ap (λ (r : FieldsAfter). told (r so_far))
-    (sym (fold_out-NameList Shaped FieldsAfter Shaped type_form field_list type_step l)))
-    (λ f b. b) (λ f b. b)
-    (joined (with_fields so_far.place so_far.names names) (type_expression shape so_far.place) (λ ns
-    t. record { place = t.0; names = ns; types = with_types so_far.types t.1 names })
+    alike (joined (with_fields so_far.place so_far.names names) (type_expression shape so_far.place)
+    (λ ns t. record { place = t.0; names = ns; types = with_types so_far.types t.1 names })
     (wide (omega arith) h.low (field_names_lead so_far.place names so_far.names i h.k h.in_order))
     (let at = h.type_at in at.leads so_far.place)
     (let a = names_in_order names i h.k h.in_order in let b = h.low in omega arith)
-    (let at = h.type_at in let some = at.some in omega arith))
+    (let at = h.type_at in let some = at.some in omega arith)) (ap (λ (r : FieldsAfter). told
+    (r so_far))
+    (sym (fold_out-NameList Shaped FieldsAfter Shaped type_form field_list type_step l))) (λ f b. b)
+    (λ f b. b)
 
 fields_open : (so_far : Fields) (l : NameList) (ls : List NameList) (f : Fault) →
     InFields so_far (l ∷ ls) f → ListFails so_far l f ⊎ InFields (behind_list so_far l) ls f
@@ -190,19 +185,16 @@ no_fields so_far f = elim [ ]
 
 fields_lead : (ls : List NameList) (so_far : Fields) (i j : ℕ) → InOrder NameListAt i ls j →
     Leads i j (told (all_fields so_far (map fields_of ls))) (λ f. InFields so_far ls f)
-fields_lead [] so_far i j order = alike i j _ _ (λ f. ⊥) (λ f. InFields so_far [] f) refl
-    (λ f b. absurd b) (λ f b. no_fields so_far f b) nothing
+fields_lead [] so_far i j order = alike nothing refl (λ f b. absurd b) (λ f b. no_fields so_far f b)
 fields_lead (l ∷ ls) so_far i j (a, b, low, one, order) =
     let rest = fields_lead ls (behind_list so_far l) b j order in
-    alike i j _ _ (λ f. ListFails so_far l f ⊎ InFields (behind_list so_far l) ls f)
-    (λ f. InFields so_far (l ∷ ls) f) refl (λ f. fields_close so_far l ls f)
+    alike (after (fields_of l so_far) (λ more. all_fields more (map fields_of ls))
+    (wide low (omega arith) (list_leads so_far l a b one)) (λ x is. subst (λ (z : Fields). Leads b j
+    (told (all_fields z (map fields_of ls))) (λ f. InFields (behind_list so_far l) ls f))
+    (ap (value_or _) is) rest) rest.lies
+    (let h = of_type_in_order (out-NameList l).names (out-NameList l).shape a b one in omega arith)
+    (lists_in_order ls b j order)) refl (λ f. fields_close so_far l ls f)
     (λ f. fields_open so_far l ls f)
-    (after (fields_of l so_far) (λ more. all_fields more (map fields_of ls))
-    (wide low (omega arith) (list_leads so_far l a b one))
-    (λ x is. subst (λ (z : Fields). Leads b j (told (all_fields z (map fields_of ls)))
-    (λ f. InFields (behind_list so_far l) ls f)) (ap (value_or _) is) rest)
-    rest.lies (let h = of_type_in_order (out-NameList l).names (out-NameList l).shape a b one in
-    omega arith) (lists_in_order ls b j order))
 
 -- ---- each form
 
@@ -275,11 +267,9 @@ type_stands : (s : Span) (y : Layer) (g : TypeForm) (i j : ℕ) (read : Shaped) 
 type_stands s y g i j read rolls reads some ends leads = record {
   some = some;
   last = ap (λ z. z.span.last + 1) (out-roll-TypeExpr (record { span = s; form = g })) ∙ ends;
-  leads = λ p. alike i j _ _ (λ f. Parts p y f) (λ f. InType p t f)
-      (ap (λ (r : Shaped). told (r p))
-      (sym (fold-roll-TypeExpr Shaped FieldsAfter Shaped type_form field_list type_step
-      (record { span = s; form = g }) ∙ ap form_of (sym rolls) ∙ reads)))
-      (λ f. parts_outside p t y f lays) (λ f. parts_inside p t y f lays) (leads p);
+  leads = λ p. alike (leads p) (ap (λ (r : Shaped). told (r p)) (sym (fold-roll-TypeExpr Shaped
+      FieldsAfter Shaped type_form field_list type_step (record { span = s; form = g }) ∙ ap form_of
+      (sym rolls) ∙ reads))) (λ f. parts_outside p t y f lays) (λ f. parts_inside p t y f lays);
 }
   where
     t : TypeExpr
@@ -301,11 +291,9 @@ type_name_stands s k j some ends =
     (λ p. used p k >>= λ m. named_type k m >>= λ type_id. Ok (p, type_id))
     (form_is.rolls-Name k) (fold-roll-TypeForm _ _ _ _ _ _ _)
     some ends
-    (λ p. alike k j _ _ (λ f. NameFails p k (named_type k) f) _
-    (sym (told_joined (used p k >>= named_type k) (λ type_id. (p, type_id)))
-    ∙ ap told (regrouped (used p k) (named_type k) (λ type_id. Ok (p, type_id))))
-    (λ f b. b) (λ f b. b)
-    (wide (omega arith) (omega arith) (named p k (named_type k) (named_type_at k))))
+    (λ p. alike (wide (omega arith) (omega arith) (named p k (named_type k) (named_type_at k)))
+    (sym (told_joined (used p k >>= named_type k) (λ type_id. (p, type_id))) ∙ ap told
+    (regrouped (used p k) (named_type k) (λ type_id. Ok (p, type_id)))) (λ f b. b) (λ f b. b))
 
 pub array_stands : (s : Span) (e : Expr) (t : TypeExpr) (i k l m j : ℕ) → i ≤ k → l ≤ m →
     s.last + 1 ≡ j → ExpressionAt e k l → TypeAt t m j →
@@ -322,11 +310,9 @@ array_stands s e t i k l m j low mid ends count item =
     after (array_length p e) (λ n. type_expression t (with_length p n) >>= λ inner. Ok
     (with_type inner.0 (Array n inner.1) []))
     (wide low (omega arith) (length_leads p e k l count))
-    (λ n is. alike l j _ _ (λ f. InType (in_array p e) t f) (λ f. InType (in_array p e) t f)
-    (ap (λ (z : ℕ). told (type_expression t (with_length p z))) (ap (value_or _) is)
-    ∙ sym (told_joined (type_expression t (with_length p n))
-    (λ inner. with_type inner.0 (Array n inner.1) [])))
-    (λ f b. b) (λ f b. b) rest)
+    (λ n is. alike rest (ap (λ (z : ℕ). told (type_expression t (with_length p z)))
+    (ap (value_or _) is) ∙ sym (told_joined (type_expression t (with_length p n))
+    (λ inner. with_type inner.0 (Array n inner.1) []))) (λ f b. b) (λ f b. b))
     rest.lies (let a = count.some in omega arith) (let b = item.some in omega arith))
 
 pub record_stands : (s : Span) (ls : List NameList) (i k m j : ℕ) → i ≤ k → m < j → s.last + 1 ≡ j →
@@ -338,8 +324,6 @@ record_stands s ls i k m j low high ends order =
     (with_type fields.place (Record fields.types) fields.names))
     (form_is.rolls-Record ls) (fold-roll-TypeForm _ _ _ _ _ _ _)
     (let a = lists_in_order ls k m order in omega arith) ends
-    (λ p. alike i j _ _ (λ f. InFields (begun p) ls f) _
-    (sym (told_joined (all_fields (begun p) (map fields_of ls))
-    (λ fields. with_type fields.place (Record fields.types) fields.names))) (λ f b. b)
-    (λ f b. b)
-    (wide low (omega arith) (fields_lead ls (begun p) k m order)))
+    (λ p. alike (wide low (omega arith) (fields_lead ls (begun p) k m order)) (sym (told_joined
+    (all_fields (begun p) (map fields_of ls))
+    (λ fields. with_type fields.place (Record fields.types) fields.names))) (λ f b. b) (λ f b. b))
