@@ -114,9 +114,10 @@ one_argument : (p : Place) (param : Param) (e : Expr) (i j : ℕ) → Expression
     Leads i j (told (argument p param e))
     (λ f. InExpression p e f ⊎ Fails ((expression e).judge p) (λ x. argument p param e) f)
 one_argument p param e i j at =
-    alike (tested ((expression e).judge p) (kind_test param e) (at.leads p) (λ x f fails. let there
-    = kind_test_at param e x f fails in let is = last_of e in let end = at.last in let some
-    = at.some in (omega (arith, there, is, end, some), omega (arith, there, is, end))))
+    alike (tested ((expression e).judge p) (kind_test param e) (at.leads p)
+    (λ x f fails. let there = kind_test_at param e x f fails in let is = last_of e in
+    let end = at.last in let some = at.some in
+    (omega (arith, there, is, end, some), omega (arith, there, is, end))))
     (ap told (sym (argument_is p param e)))
     (λ f. elim [
       | inl b ↦ inl b

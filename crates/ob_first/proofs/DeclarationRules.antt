@@ -24,7 +24,7 @@ use Rattle.ob_first.specs.InDeclarations.{behind_name, behind_names, NamesFail, 
 use Rattle.ob_first.specs.InDeclarations.{InTypeDeclarations, InVariables, InParameterType}
 use Rattle.ob_first.specs.InDeclarations.{InSections, InHeading}
 use Rattle.ob_first.proofs.Leads.{told, Leads, InOrder, alike, wide, after, after_behind}
-use Rattle.ob_first.proofs.Leads.{after_place, tested, nothing, told_joined, same_value}
+use Rattle.ob_first.proofs.Leads.{after_place, tested, nothing, told_joined, same_value, retold}
 use Rattle.ob_first.proofs.Selections.{alone}
 use Rattle.ob_first.proofs.Calls.{ExpressionAt}
 use Rattle.ob_first.proofs.TypeRules.{constant_leads, NameAt, names_in_order, TypeAt, NamesOfType}
@@ -90,9 +90,8 @@ constant_declared p c i j at =
     (λ q. constant q c.value >>= λ v. Ok (shown q c.name (meaning.Constant v)))
     (λ f. announced p c.name ≡ Err f) (λ q g. InConstant q c.value g)
     (behind_name p c.name) (announced_leads p c.name i at.k name) (name_behind p c.name)
-    (λ q. alike (wide at.low (omega arith) (constant_leads q c.value at.l j at.value_at))
-    (sym (told_joined (constant q c.value) (λ v. shown q c.name (meaning.Constant v)))) (λ f b. b)
-    (λ f b. b))
+    (λ q. retold (wide at.low (omega arith) (constant_leads q c.value at.l j at.value_at))
+    (sym (told_joined (constant q c.value) (λ v. shown q c.name (meaning.Constant v)))))
     (omega (arith, name.0, name.1)) (let low = at.low in let some = at.some in omega arith)
 
 type_declared : (p : Place) (t : TypeDecl) (i j : ℕ) → TypeDeclarationAt t i j
@@ -106,9 +105,8 @@ type_declared p t i j at =
     (shown shape.0 t.name (meaning.TypeName shape.1))) (λ f. announced p t.name ≡ Err f)
     (λ q g. InType q t.shape g)
     (behind_name p t.name) (announced_leads p t.name i at.k name) (name_behind p t.name)
-    (λ q. alike (wide at.low (omega arith) (value.leads q)) (sym (told_joined
-    (type_expression t.shape q) (λ shape. shown shape.0 t.name (meaning.TypeName shape.1))))
-    (λ f b. b) (λ f b. b))
+    (λ q. retold (wide at.low (omega arith) (value.leads q)) (sym (told_joined
+    (type_expression t.shape q) (λ shape. shown shape.0 t.name (meaning.TypeName shape.1)))))
     (omega (arith, name.0, name.1)) (let low = at.low in let some = at.some in omega arith)
 
 variables_declared : (p : Place) (vars : List ℕ) (l : NameList) (i j : ℕ) → NameListAt l i j
@@ -122,9 +120,8 @@ variables_declared p vars l i j at =
     (λ q. type_expression t q >>= λ shape. Ok (with_variables shape.0 vars shape.1 names))
     (λ f. NamesFail p names f) (λ q g. InType q t g)
     (behind_names p names) (names_lead names p i at.k at.in_order) (names_behind names p)
-    (λ q. alike (wide at.low (omega arith) (value.leads q))
-    (sym (told_joined (type_expression t q) (λ shape. with_variables shape.0 vars shape.1 names)))
-    (λ f b. b) (λ f b. b))
+    (λ q. retold (wide at.low (omega arith) (value.leads q))
+    (sym (told_joined (type_expression t q) (λ shape. with_variables shape.0 vars shape.1 names))))
     (names_in_order names i at.k at.in_order) (let low = at.low in let some = value.some in
     omega arith)
 
@@ -227,9 +224,9 @@ section_declared p params s i j at =
     (with_parameters t.0 params s.by_var type_id s.names)) (λ f. NamesFail p s.names f)
     (λ q g. InParameterType q s g)
     (behind_names p s.names) (names_lead s.names p i at.k at.in_order) (names_behind s.names p)
-    (λ q. alike (wide at.low (omega arith) (parameter_leads q s at.l j value))
+    (λ q. retold (wide at.low (omega arith) (parameter_leads q s at.l j value))
     (section_told (type_expression s.shape q) kind
-    (λ t type_id. with_parameters t.0 params s.by_var type_id s.names)) (λ f b. b) (λ f b. b))
+    (λ t type_id. with_parameters t.0 params s.by_var type_id s.names)))
     (names_in_order s.names i at.k at.in_order) (let low = at.low in let some = value.some in
     omega arith)
 
@@ -267,11 +264,11 @@ heading_leads p name ss i k l j at low order =
     ))
     (λ f. announced p name ≡ Err f) (λ q g. InSections (entered q (length q.headings) []) [] ss g)
     (behind_name p name) (announced_leads p name i k at) (name_behind p name)
-    (λ q. alike
+    (λ q. retold
     (wide low (omega arith) (sections_lead ss (entered q (length q.headings) []) [] l j order))
     (sym (told_joined (all_sections (entered q (length q.headings) []) [] ss) (λ inside. (
       entered
           (with_heading (left inside.0 q.here) name inside.1) (length q.headings) inside.0.scope,
       inside.1,
-    )))) (λ f b. b) (λ f b. b))
+    )))))
     (omega (arith, at.0, at.1)) (let h = sections_in_order ss l j order in omega arith)

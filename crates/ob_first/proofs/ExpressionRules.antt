@@ -52,7 +52,7 @@ use Rattle.ob_first.specs.InExpressions.{OperandFails, ChainFails, RelationFails
 use Rattle.ob_first.specs.InExpressions.{SelectorsFail, InExpression, InSimple, InTerm, InFactor}
 use Rattle.ob_first.specs.InExpressions.{InSelector}
 use Rattle.ob_first.proofs.Leads.{told, Leads, InOrder, alike, wide, tested, both_tested, joined}
-use Rattle.ob_first.proofs.Leads.{told_joined, nothing, one_some}
+use Rattle.ob_first.proofs.Leads.{told_joined, nothing, one_some, retold}
 use Rattle.ob_first.proofs.Chains.{Stands, of_type_at, operand_at, in_two, told_unit, chain}
 use Rattle.ob_first.proofs.Selections.{SelectorAt, ordered, regrouped, field_selector}
 use Rattle.ob_first.proofs.Selections.{index_selector, designated_leads}
@@ -423,8 +423,7 @@ pub number_stands : (s : Span) (n : ℤ) (i j : ℕ) → i < j → s.last + 1 �
 number_stands s n i j some ends =
     factor_stands s (factor_is.Number n) i j (λ last p. Ok (typed integer (x.Number n))) (λ p f. ⊥)
     (ap form_of (sym (factor_is.rolls-Number n)) ∙ fold-roll-FactorForm _ _ _ _ _ _ _ _ _ _ _ _ _ _
-    _ _ _ _ _ _ _ _
-    (FactorForm-F.Number n))
+    _ _ _ _ _ _ _ _ (FactorForm-F.Number n))
     some ends (λ p. nothing) (λ p f b. absurd b) inside
   where
     y : Factor
@@ -449,8 +448,7 @@ parenthesis_stands s e i k l j low high ends h =
     factor_stands s (factor_is.Paren e) i j (λ last p. (expression e).judge p)
     (λ p f. InExpression p e f)
     (ap form_of (sym (factor_is.rolls-Paren e)) ∙ fold-roll-FactorForm _ _ _ _ _ _ _ _ _ _ _ _ _ _ _
-    _ _ _ _ _ _ _
-    (FactorForm-F.Paren e))
+    _ _ _ _ _ _ _ (FactorForm-F.Paren e))
     (let some = h.some in omega arith) ends
     (λ p. wide low high (h.leads p))
     (λ p f b. which.inside y f e is b) inside
@@ -480,13 +478,13 @@ negation_stands s y i k j low ends h =
     λ truth. Ok (typed boolean (x.Not truth)))
     (λ p f. InFactor p y f ⊎ Fails ((whole_factor y).judge p) test f)
     (ap form_of (sym (factor_is.rolls-Not y)) ∙ fold-roll-FactorForm _ _ _ _ _ _ _ _ _ _ _ _ _ _ _ _
-    _ _ _ _ _ _
-    (FactorForm-F.Not y))
+    _ _ _ _ _ _ (FactorForm-F.Not y))
     (let some = h.some in omega arith) ends
-    (λ p. alike (tested ((whole_factor y).judge p) test (wide low (omega arith) (h.leads p))
-    (λ x f fails. let there = of_type_at 16 boolean (whole_factor y).last x f fails in let some
-    = h.some in let end = h.last in (omega (arith, there, some, end), omega (arith, there, end))))
-    (sym (told_result ((whole_factor y).judge p))) (λ f b. b) (λ f b. b))
+    (λ p. retold (tested ((whole_factor y).judge p) test (wide low (omega arith) (h.leads p))
+    (λ x f fails. let there = of_type_at 16 boolean (whole_factor y).last x f fails in
+    let some = h.some in let end = h.last in
+    (omega (arith, there, some, end), omega (arith, there, end))))
+    (sym (told_result ((whole_factor y).judge p))))
     (λ p f. elim [ inl b ↦ which.negated z f y is b | inr b ↦ which.negation z f y is b ]) inside
   where
     test : Typed → Judged RExpr

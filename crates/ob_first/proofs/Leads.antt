@@ -60,6 +60,11 @@ alike h e to from = record {
   lies = λ f c. h.lies f (from f c);
 }
 
+-- another reading of which the same is told
+pub retold : {i j : ℕ} {t u : Option Fault} {B : Fault → Type 0} → Leads i j t B → t ≡ u →
+    Leads i j u B
+retold h e = alike h e (λ f b. b) (λ f b. b)
+
 pub wide : {i j i' j' : ℕ} {t : Option Fault} {B : Fault → Type 0} → i' ≤ i → j ≤ j' →
     Leads i j t B → Leads i' j' t B
 wide low high h = record {

@@ -30,7 +30,7 @@ use Rattle.ob_first.specs.InDeclarations.{PlaceBehind, all_behind, variables_beh
 use Rattle.ob_first.specs.InDeclarations.{behind_proc_step, behind_declarations, behind_procedure}
 use Rattle.ob_first.specs.InDeclarations.{InDeclarations, InProcedures, InProcedure}
 use Rattle.ob_first.proofs.Leads.{told, Leads, InOrder, alike, wide, after, after_behind, joined}
-use Rattle.ob_first.proofs.Leads.{nothing, told_joined, same_value}
+use Rattle.ob_first.proofs.Leads.{nothing, told_joined, same_value, retold}
 use Rattle.ob_first.proofs.Selections.{alone, regrouped}
 use Rattle.ob_first.proofs.Calls.{ExpressionAt}
 use Rattle.ob_first.proofs.StatementRules.{StatementAt, each_leads, items_in_order}
@@ -231,11 +231,10 @@ module _ (cs : List ConstDecl) (ts : List TypeDecl) (vs : List NameList) (ps : L
         (λ q. all_type_declarations q ts) (λ f. InConstants p cs f)
         (λ q g. InTypeDeclarations q ts g) (constants_lead cs p i k constants)
         (λ q. types_lead ts q k l types) first second) (λ r. variables_lead vs r [] l m variables)
-        (omega (arith, first, second)) third) (λ vars. alike
+        (omega (arith, first, second)) third) (λ vars. retold
         (procedures_lead ps vars.0 [] m j procedures) (sym (told_joined
         (all_procedures vars.0 [] (map procedure ps))
-        (λ procs. record { place = procs.0; vars = vars.1; procs = procs.1 }))) (λ f b. b)
-        (λ f b. b))
+        (λ procs. record { place = procs.0; vars = vars.1; procs = procs.1 }))))
         (omega (arith, first, second, third)) fourth) (ap told (read_in_four p)) (λ f b.
         parts_outside whole p f (subst (λ z. Parts p z.consts z.types z.vars z.procs f) (sym opens)
         (subst (λ (r : Judged (Place × List ℕ)). (

@@ -21,7 +21,7 @@ use Rattle.ob_first.specs.Faults.{Fails, AnyOf, NameFails}
 use Rattle.ob_first.specs.InExpressions.{bare, SelectorFails, SelectorsFail, InExpression}
 use Rattle.ob_first.specs.InExpressions.{InSelector, in_index, no_number}
 use Rattle.ob_first.proofs.Leads.{told, Leads, Lies, InOrder, alike, wide, after, tested, told_err}
-use Rattle.ob_first.proofs.Leads.{err_first, same_value, told_joined, nothing}
+use Rattle.ob_first.proofs.Leads.{err_first, same_value, told_joined, nothing, retold}
 use Rattle.ob_first.proofs.Chains.{Stands, of_type_at}
 use Rattle.ob_first.proofs.UsedNames.{named}
 use Rattle.pra_list.specs.Results.{◌>>=◌}
@@ -226,7 +226,6 @@ pub designated_leads : (p : Place) (k j : ℕ) (ss : List Selector) → InOrder 
     ((v : Typed) × ((used p k >>= designated p (bare k)) ≡ Ok v) ×
     SelectorsFail p v.type_id ss f)))
 designated_leads p k j ss order =
-    alike
+    retold
     (named_selected p k j (designated p (bare k)) (λ v. v.type_id) ss (designated_at p k) order)
     (designated_parts p (record { name = k; selectors = map one_selector ss }) (used p k))
-    (λ f b. b) (λ f b. b)

@@ -30,11 +30,11 @@ use Rattle.ob_syntax.specs.Statements.{assigned, condition, each, statement, arm
 use Rattle.ob_first.specs.Faults.{BothFail, AnyOf, NameFails}
 use Rattle.ob_first.specs.InExpressions.{bare, SelectorsFail, InExpression, InSelector}
 use Rattle.ob_first.specs.InStatements as which
-use Rattle.ob_first.specs.InStatements.{TargetFails, AssignmentFails, InCondition, InCall, Layer}
+use Rattle.ob_first.specs.InStatements.{TargetFails, AssignmentFails, InCondition, Layer}
 use Rattle.ob_first.specs.InStatements.{StatementFails, arms_in, statements_in, layer, InStatement}
 use Rattle.ob_first.specs.InStatements.{InArm}
 use Rattle.ob_first.proofs.Leads.{told, Leads, InOrder, alike, wide, after, tested, both_tested}
-use Rattle.ob_first.proofs.Leads.{joined, nothing, told_joined}
+use Rattle.ob_first.proofs.Leads.{joined, nothing, told_joined, retold}
 use Rattle.ob_first.proofs.Chains.{of_type_at}
 use Rattle.ob_first.proofs.Selections.{SelectorAt, regrouped, ordered, named_selected}
 use Rattle.ob_first.proofs.Calls.{ExpressionAt, last_of, call_leads}
@@ -112,10 +112,9 @@ target_leads : (p : Place) (k j : ℕ) (ss : List Selector) → InOrder Selector
     ((v : RVar) × ((used p k >>= target p (bare k)) ≡ Ok v) ×
     SelectorsFail p (out-RVar v).type_id ss f)))
 target_leads p k j ss order =
-    alike
+    retold
     (named_selected p k j (target p (bare k)) (λ v. (out-RVar v).type_id) ss (target_at p k) order)
-    (target_parts p (record { name = k; selectors = map one_selector ss }) (used p k)) (λ f b. b)
-    (λ f b. b)
+    (target_parts p (record { name = k; selectors = map one_selector ss }) (used p k))
 
 -- ---- statements
 

@@ -26,12 +26,11 @@ use Rattle.ob_syntax.specs.Types.{Shaped, with_type, with_length, named_type, wi
 use Rattle.ob_syntax.specs.Types.{with_types, Fields, FieldsAfter, all_fields, type_form}
 use Rattle.ob_syntax.specs.Types.{field_list, type_step, type_expression, fields_of}
 use Rattle.ob_first.specs.Faults.{NameFails, value_or}
-use Rattle.ob_first.specs.InExpressions.{InExpression}
 use Rattle.ob_first.specs.InTypes as which
 use Rattle.ob_first.specs.InTypes.{InConstant, InLength, FieldNamesFail, Layer, layer, TypeFails}
 use Rattle.ob_first.specs.InTypes.{in_array, behind_list, InType, InFields}
 use Rattle.ob_first.proofs.Leads.{told, Leads, InOrder, alike, wide, after, tested, joined, nothing}
-use Rattle.ob_first.proofs.Leads.{told_joined}
+use Rattle.ob_first.proofs.Leads.{told_joined, retold}
 use Rattle.ob_first.proofs.UsedNames.{named}
 use Rattle.ob_first.proofs.Selections.{alone, regrouped}
 use Rattle.ob_first.proofs.Calls.{ExpressionAt, last_of}
@@ -104,12 +103,12 @@ field_names_lead : (p : Place) (ks : List ℕ) (names : List Name) (i j : ℕ) �
 field_names_lead p [] names i j order = nothing
 field_names_lead p (k ∷ ks) names i j (a, b, low, one, order) =
     let rest = field_names_lead p ks (names ++ name_at p k ∷ []) b j order in
-    alike (after (with_fields p names (k ∷ [])) (λ ns. with_fields p ns ks) (alone (with_fields p
+    retold (after (with_fields p names (k ∷ [])) (λ ns. with_fields p ns ks) (alone (with_fields p
     names (k ∷ [])) (λ f h. let at = one_field p names k f h in
     (omega (arith, at, one.0), omega (arith, at, one.1)))) (λ x is. subst (λ (z : List Name). Leads
     b j (told (with_fields p z ks)) (λ f. FieldNamesFail p (names ++ name_at p k ∷ []) ks f))
     (sym (field_is p names k x is)) rest) rest.lies (omega (arith, one.0, one.1))
-    (names_in_order ks b j order)) (fields_told p names k ks) (λ f b. b) (λ f b. b)
+    (names_in_order ks b j order)) (fields_told p names k ks)
 
 -- ---- types
 
@@ -156,15 +155,15 @@ unfolding ListFails
 list_leads so_far l i j h =
     let names = (out-NameList l).names in
     let shape = (out-NameList l).shape in
-    alike (joined (with_fields so_far.place so_far.names names) (type_expression shape so_far.place)
+    retold (joined (with_fields so_far.place so_far.names names)
+    (type_expression shape so_far.place)
     (λ ns t. record { place = t.0; names = ns; types = with_types so_far.types t.1 names })
     (wide (omega arith) h.low (field_names_lead so_far.place names so_far.names i h.k h.in_order))
     (let at = h.type_at in at.leads so_far.place)
     (let a = names_in_order names i h.k h.in_order in let b = h.low in omega arith)
     (let at = h.type_at in let some = at.some in omega arith)) (ap (λ (r : FieldsAfter). told
     (r so_far))
-    (sym (fold_out-NameList Shaped FieldsAfter Shaped type_form field_list type_step l))) (λ f b. b)
-    (λ f b. b)
+    (sym (fold_out-NameList Shaped FieldsAfter Shaped type_form field_list type_step l)))
 
 fields_open : (so_far : Fields) (l : NameList) (ls : List NameList) (f : Fault) →
     InFields so_far (l ∷ ls) f → ListFails so_far l f ⊎ InFields (behind_list so_far l) ls f
@@ -291,9 +290,9 @@ type_name_stands s k j some ends =
     (λ p. used p k >>= λ m. named_type k m >>= λ type_id. Ok (p, type_id))
     (form_is.rolls-Name k) (fold-roll-TypeForm _ _ _ _ _ _ _)
     some ends
-    (λ p. alike (wide (omega arith) (omega arith) (named p k (named_type k) (named_type_at k)))
+    (λ p. retold (wide (omega arith) (omega arith) (named p k (named_type k) (named_type_at k)))
     (sym (told_joined (used p k >>= named_type k) (λ type_id. (p, type_id))) ∙ ap told
-    (regrouped (used p k) (named_type k) (λ type_id. Ok (p, type_id)))) (λ f b. b) (λ f b. b))
+    (regrouped (used p k) (named_type k) (λ type_id. Ok (p, type_id)))))
 
 pub array_stands : (s : Span) (e : Expr) (t : TypeExpr) (i k l m j : ℕ) → i ≤ k → l ≤ m →
     s.last + 1 ≡ j → ExpressionAt e k l → TypeAt t m j →
@@ -310,9 +309,9 @@ array_stands s e t i k l m j low mid ends count item =
     after (array_length p e) (λ n. type_expression t (with_length p n) >>= λ inner. Ok
     (with_type inner.0 (Array n inner.1) []))
     (wide low (omega arith) (length_leads p e k l count))
-    (λ n is. alike rest (ap (λ (z : ℕ). told (type_expression t (with_length p z)))
+    (λ n is. retold rest (ap (λ (z : ℕ). told (type_expression t (with_length p z)))
     (ap (value_or _) is) ∙ sym (told_joined (type_expression t (with_length p n))
-    (λ inner. with_type inner.0 (Array n inner.1) []))) (λ f b. b) (λ f b. b))
+    (λ inner. with_type inner.0 (Array n inner.1) []))))
     rest.lies (let a = count.some in omega arith) (let b = item.some in omega arith))
 
 pub record_stands : (s : Span) (ls : List NameList) (i k m j : ℕ) → i ≤ k → m < j → s.last + 1 ≡ j →
@@ -324,6 +323,6 @@ record_stands s ls i k m j low high ends order =
     (with_type fields.place (Record fields.types) fields.names))
     (form_is.rolls-Record ls) (fold-roll-TypeForm _ _ _ _ _ _ _)
     (let a = lists_in_order ls k m order in omega arith) ends
-    (λ p. alike (wide low (omega arith) (fields_lead ls (begun p) k m order)) (sym (told_joined
+    (λ p. retold (wide low (omega arith) (fields_lead ls (begun p) k m order)) (sym (told_joined
     (all_fields (begun p) (map fields_of ls))
-    (λ fields. with_type fields.place (Record fields.types) fields.names))) (λ f b. b) (λ f b. b))
+    (λ fields. with_type fields.place (Record fields.types) fields.names))))
