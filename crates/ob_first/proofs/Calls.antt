@@ -88,8 +88,7 @@ argument_is p param e = by param.by_var ((expression e).judge p)
     by : (b : Bool) (r : Judged Typed)
         → (if b then ((r >>= lends) >>= λ v. Ok (Lent v)) else
         ((r >>= passes) >>= λ y. Ok (Value y))) ≡
-        (r >>= λ x. if b then (lends x >>= λ v. Ok (Lent v)) else
-        (passes x >>= λ y. Ok (Value y)))
+        (r >>= λ x. if b then (lends x >>= λ v. Ok (Lent v)) else (passes x >>= λ y. Ok (Value y)))
     by true (Ok x) = refl
     by true (Err f) = refl
     by false (Ok x) = refl
@@ -99,13 +98,11 @@ kind_test_at : (param : Param) (e : Expr) (x : Typed) (f : Fault) → kind_test 
     f.1 ≡ (out-Expr e).span.last
 unfolding kind_test
 kind_test_at param e x f h = by_test param.by_var _ _ (Err f)
-    (λ t is. by_test (is_designator e) _ _ (Err f)
-    (λ t is. lent_at param.type_id last x f is)
+    (λ t is. by_test (is_designator e) _ _ (Err f) (λ t is. lent_at param.type_id last x f is)
     (λ t is. cc) (value_or_err
     (if is_designator e then lent_variable param.type_id last x else Err (23, last))
-    (λ v. Lent v) f is))
-    (λ t is. of_type_at 22 param.type_id last x f
-    (value_or_err (of_type 22 param.type_id last x) (λ y. Value y) f is)) h
+    Lent f is)) (λ t is. of_type_at 22 param.type_id last x f
+    (value_or_err (of_type 22 param.type_id last x) Value f is)) h
   where
     last : ℕ
     last = (out-Expr e).span.last
@@ -148,7 +145,7 @@ in_order (e ∷ es) i j (k, l, low, one, order) = let some = one.some in let res
 
 arguments_lead : (p : Place) (es : List Expr) (params : List Param) (done : List RArg) (i j : ℕ) →
     InOrder ExpressionAt i es j
-    → Leads i j (told (arguments p done params es)) (λ f. AnyOf (λ e g. InExpression p e g) es f ⊎
+    → Leads i j (told (arguments p done params es)) (λ f. AnyOf (InExpression p) es f ⊎
     ArgumentsFail p params es f)
 arguments_lead p [] [] done i j order = alike nothing refl (λ f b. absurd b)
     (λ f. elim [ inl (x, is, b) ↦ is | inr b ↦ b ])
@@ -327,13 +324,10 @@ call_parts p last name es (Err f) = refl
 
 pub call_leads : (p : Place) (last name : ℕ) (es : List Expr) (j : ℕ) → last + 1 ≡ j → name < j →
     InOrder ExpressionAt (name + 1) es j
-    → Leads name j (told (used p name >>= λ m. called p last name m es))
-    (λ f. InCall p last name es f)
+    → Leads name j (told (used p name >>= λ m. called p last name m es)) (InCall p last name es)
 call_leads p last name es j ends some order =
-    alike
-    (behind name j a (judged_call p last es) (NameFails p name (callee p name)) Q
-    (wide (omega arith) (omega arith) front)
-    (λ params is. alike (by_arguments params) refl
+    alike (behind name j a (judged_call p last es) (NameFails p name (callee p name)) Q
+    (wide (omega arith) (omega arith) front) (λ params is. alike (by_arguments params) refl
     (λ f. elim [
       | inl (inl b) ↦ inl b
       | inl (inr b) ↦ inr (params, is, inl b)
@@ -381,7 +375,7 @@ call_leads p last name es j ends some order =
     a = used p name >>= callee p name
 
     Any : Fault → Type 0
-    Any f = AnyOf (λ e g. InExpression p e g) es f
+    Any f = AnyOf (InExpression p) es f
 
     Q : Fault → Type 0
     Q f = Any f ⊎ ((params : List Param) × (a ≡ Ok params) × CallFails p last params es f)

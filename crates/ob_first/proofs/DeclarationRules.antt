@@ -45,7 +45,7 @@ announced_leads p k i j at =
     (omega (arith, there, at.0), omega (arith, there, at.1)))
 
 names_lead : (ks : List ℕ) (p : Place) (i j : ℕ) → InOrder NameAt i ks j →
-    Leads i j (told (all_announced p ks)) (λ f. NamesFail p ks f)
+    Leads i j (told (all_announced p ks)) (NamesFail p ks)
 names_lead [] p i j order = nothing
 names_lead (k ∷ ks) p i j (a, b, low, one, order) =
     let rest = names_lead ks (behind_name p k) b j order in
@@ -100,8 +100,7 @@ type_declared : (p : Place) (t : TypeDecl) (i j : ℕ) → TypeDeclarationAt t i
 type_declared p t i j at =
     let name = at.name_at in
     let value = at.value_at in
-    after_place i at.k j (announced p t.name)
-    (λ q. type_expression t.shape q >>= λ shape. Ok
+    after_place i at.k j (announced p t.name) (λ q. type_expression t.shape q >>= λ shape. Ok
     (shown shape.0 t.name (meaning.TypeName shape.1))) (λ f. announced p t.name ≡ Err f)
     (λ q g. InType q t.shape g)
     (behind_name p t.name) (announced_leads p t.name i at.k name) (name_behind p t.name)
@@ -118,7 +117,7 @@ variables_declared p vars l i j at =
     let value = at.type_at in
     after_place i at.k j (all_announced p names)
     (λ q. type_expression t q >>= λ shape. Ok (with_variables shape.0 vars shape.1 names))
-    (λ f. NamesFail p names f) (λ q g. InType q t g)
+    (NamesFail p names) (λ q g. InType q t g)
     (behind_names p names) (names_lead names p i at.k at.in_order) (names_behind names p)
     (λ q. retold (wide at.low (omega arith) (value.leads q))
     (sym (told_joined (type_expression t q) (λ shape. with_variables shape.0 vars shape.1 names))))
@@ -144,7 +143,7 @@ defined_in_order name Value (x ∷ xs) i j (a, b, low, one, order) =
     defined_in_order name Value xs b j order in omega (arith, at.0, at.1)
 
 pub constants_lead : (cs : List ConstDecl) (p : Place) (i j : ℕ) → InOrder ConstantAt i cs j →
-    Leads i j (told (all_constants p cs)) (λ f. InConstants p cs f)
+    Leads i j (told (all_constants p cs)) (InConstants p cs)
 constants_lead [] p i j order = nothing
 constants_lead (c ∷ cs) p i j (a, b, low, one, order) =
     let A = λ (f : Fault). announced p c.name ≡ Err f in
@@ -158,7 +157,7 @@ constants_lead (c ∷ cs) p i j (a, b, low, one, order) =
     (shift_back A B C)
 
 pub types_lead : (ts : List TypeDecl) (p : Place) (i j : ℕ) → InOrder TypeDeclarationAt i ts j →
-    Leads i j (told (all_type_declarations p ts)) (λ f. InTypeDeclarations p ts f)
+    Leads i j (told (all_type_declarations p ts)) (InTypeDeclarations p ts)
 types_lead [] p i j order = nothing
 types_lead (t ∷ ts) p i j (a, b, low, one, order) =
     let A = λ (f : Fault). announced p t.name ≡ Err f in
@@ -172,8 +171,7 @@ types_lead (t ∷ ts) p i j (a, b, low, one, order) =
     (shift_back A B C)
 
 pub variables_lead : (ls : List NameList) (p : Place) (vars : List ℕ) (i j : ℕ) →
-    InOrder NameListAt i ls j → Leads i j (told (all_variables p vars ls))
-    (λ f. InVariables p vars ls f)
+    InOrder NameListAt i ls j → Leads i j (told (all_variables p vars ls)) (InVariables p vars ls)
 variables_lead [] p vars i j order = nothing
 variables_lead (l ∷ ls) p vars i j (a, b, low, one, order) =
     let A = λ (f : Fault). NamesFail p (out-NameList l).names f in
@@ -200,7 +198,7 @@ parameter_at by_var token t f h = by_test (by_var || (nat_eq t integer || nat_eq
 
 parameter_leads : (q : Place) (s : Section) (i j : ℕ) → TypeAt s.shape i j
     → Leads i j (told (type_expression s.shape q >>= λ t. parameter_type s.by_var
-    (out-TypeExpr s.shape).span.last t.1)) (λ f. InParameterType q s f)
+    (out-TypeExpr s.shape).span.last t.1)) (InParameterType q s)
 parameter_leads q s i j at =
     tested (type_expression s.shape q)
     (λ t. parameter_type s.by_var (out-TypeExpr s.shape).span.last t.1) (at.leads q)
@@ -221,7 +219,7 @@ section_declared p params s i j at =
     let kind = λ (t : Place × ℕ). parameter_type s.by_var (out-TypeExpr s.shape).span.last t.1 in
     after_place i at.k j (all_announced p s.names)
     (λ q. type_expression s.shape q >>= λ t. kind t >>= λ type_id. Ok
-    (with_parameters t.0 params s.by_var type_id s.names)) (λ f. NamesFail p s.names f)
+    (with_parameters t.0 params s.by_var type_id s.names)) (NamesFail p s.names)
     (λ q g. InParameterType q s g)
     (behind_names p s.names) (names_lead s.names p i at.k at.in_order) (names_behind s.names p)
     (λ q. retold (wide at.low (omega arith) (parameter_leads q s at.l j value))
@@ -237,8 +235,7 @@ sections_in_order (s ∷ ss) i j (a, b, low, one, order) = let first =
     omega arith
 
 sections_lead : (ss : List Section) (p : Place) (params : List Param) (i j : ℕ) →
-    InOrder SectionAt i ss j → Leads i j (told (all_sections p params ss))
-    (λ f. InSections p params ss f)
+    InOrder SectionAt i ss j → Leads i j (told (all_sections p params ss)) (InSections p params ss)
 sections_lead [] p params i j order = nothing
 sections_lead (s ∷ ss) p params i j (a, b, low, one, order) =
     let A = λ (f : Fault). NamesFail p s.names f in
@@ -253,8 +250,7 @@ sections_lead (s ∷ ss) p params i j (a, b, low, one, order) =
     (sections_in_order ss b j order)) refl (shift A B C) (shift_back A B C)
 
 pub heading_leads : (p : Place) (name : ℕ) (ss : List Section) (i k l j : ℕ) → NameAt name i k →
-    k ≤ l → InOrder SectionAt l ss j → Leads i j (told (heading p name ss))
-    (λ f. InHeading p name ss f)
+    k ≤ l → InOrder SectionAt l ss j → Leads i j (told (heading p name ss)) (InHeading p name ss)
 heading_leads p name ss i k l j at low order =
     after_place i k j (announced p name)
     (λ q. all_sections (entered q (length q.headings) []) [] ss >>= λ inside. Ok (
@@ -263,12 +259,10 @@ heading_leads p name ss i k l j at low order =
       inside.1,
     ))
     (λ f. announced p name ≡ Err f) (λ q g. InSections (entered q (length q.headings) []) [] ss g)
-    (behind_name p name) (announced_leads p name i k at) (name_behind p name)
-    (λ q. retold
+    (behind_name p name) (announced_leads p name i k at) (name_behind p name) (λ q. retold
     (wide low (omega arith) (sections_lead ss (entered q (length q.headings) []) [] l j order))
     (sym (told_joined (all_sections (entered q (length q.headings) []) [] ss) (λ inside. (
       entered
           (with_heading (left inside.0 q.here) name inside.1) (length q.headings) inside.0.scope,
       inside.1,
-    )))))
-    (omega (arith, at.0, at.1)) (let h = sections_in_order ss l j order in omega arith)
+    ))))) (omega (arith, at.0, at.1)) (let h = sections_in_order ss l j order in omega arith)

@@ -145,14 +145,13 @@ expression_stands s l None i k j ends left same =
     reads_as i j _ (record {
       last = s.last;
       judge = λ p. (simple_expression l).judge p >>= λ a. Ok a;
-    }) _
-    (fold-roll-Expr _ _ _ _ _ _ _ _ _ _ _ _ _ _ _ _ _ _ _ _ _ _ _)
+    }) _ (fold-roll-Expr _ _ _ _ _ _ _ _ _ _ _ _ _ _ _ _ _ _ _ _ _ _ _)
     (record {
       some = let some = left.some in omega arith;
       last = ends;
       leads = λ p. alike (wide (omega arith) (omega arith) (left.leads p))
           (sym (told_unit ((simple_expression l).judge p))) (λ f b. which.left e f (rw is b))
-          (λ f b. inside p f b);
+          (inside p);
     })
   where
     e : Expr
@@ -176,12 +175,11 @@ expression_stands s l (Some n) i k j ends left (m, low, right) =
       last = s.last;
       judge = λ p. (simple_expression l).judge p >>= λ a.
           related p (simple_expression l).last a (comparison n);
-    }) _
-    (fold-roll-Expr _ _ _ _ _ _ _ _ _ _ _ _ _ _ _ _ _ _ _ _ _ _ _)
+    }) _ (fold-roll-Expr _ _ _ _ _ _ _ _ _ _ _ _ _ _ _ _ _ _ _ _ _ _ _)
     (record {
       some = let some = left.some in let rest = right.some in omega arith;
       last = ends;
-      leads = λ p. alike (sides p (simple_expression l) (comparison n).1 (λ f. InSimple p l f)
+      leads = λ p. alike (sides p (simple_expression l) (comparison n).1 (InSimple p l)
           (λ f. InSimple p (out-Relation n).right f) i k m j (left.leads p) (right.leads p)
           left.some low right.some left.last right.last (comparison n).0) refl
           (λ f. elim [
@@ -191,7 +189,7 @@ expression_stands s l (Some n) i k j ends left (m, low, right) =
             | inr (inr b) ↦
                 which.related e f n there
                 (subst (λ x. RelationFails p (simple_expression x) (comparison n) f) (sym is) b)
-          ]) (λ f b. inside p f b);
+          ]) (inside p);
     })
   where
     e : Expr
@@ -263,22 +261,20 @@ signed_at None token e f h = absurd (cc)
 signed_at (Some kind.Minus) token e f h = of_type_at 15 integer token e f
     (value_or_err (of_type 15 integer token e) (λ number. typed integer (x.Negate number)) f h)
 signed_at (Some k) token e f h = of_type_at 15 integer token e f
-    (value_or_err (of_type 15 integer token e) (λ number. typed integer number) f h)
+    (value_or_err (of_type 15 integer token e) (typed integer) f h)
 
 pub simple_stands : (s : Span) (sign : Option Kind) (t : Term) (ts : List NextTerm) (i l k j : ℕ) →
     s.last + 1 ≡ j → i ≤ l → k ≤ j → Stands l k (whole_term t) (λ p f. InTerm p t f) →
     InOrder NextTermAt k ts j
     → Stands i j (simple_expression
     (roll-SimpleExpr (record { span = s; sign = sign; first = t; rest = ts })))
-    (λ p f. InSimple p (roll-SimpleExpr
-    (record { span = s; sign = sign; first = t; rest = ts })) f)
+    (λ p f. InSimple p (roll-SimpleExpr (record { span = s; sign = sign; first = t; rest = ts })) f)
 simple_stands s sign t ts i l k j ends low high first order =
     reads_as i j _ (record {
       last = s.last;
       judge = λ p. a p >>= λ x. test x >>= λ y. chained p
           (whole_term t).last y (map following_term ts);
-    }) _
-    (fold-roll-SimpleExpr _ _ _ _ _ _ _ _ _ _ _ _ _ _ _ _ _ _ _ _ _ _ _)
+    }) _ (fold-roll-SimpleExpr _ _ _ _ _ _ _ _ _ _ _ _ _ _ _ _ _ _ _ _ _ _ _)
     (record {
       some = let some = first.some in omega arith;
       last = ends;
@@ -289,7 +285,7 @@ simple_stands s sign t ts i l k j ends low high first order =
           (whole_term t).last x f h in let some = first.some in let end = first.last in
           (omega (arith, there, some, end), omega (arith, there, end)))) order) (ap told
           (regrouped (a p) test (λ y. chained p (whole_term t).last y (map following_term ts))))
-          (λ f b. outside p f b) (λ f b. inside p f b);
+          (outside p) (inside p);
     })
   where
     e : SimpleExpr
@@ -331,14 +327,13 @@ term_stands s y ys i k j ends high first order =
       last = s.last;
       judge = λ p. a p >>= λ x. chained p
           (whole_factor y).last x (map following_factor ys);
-    }) _
-    (fold-roll-Term _ _ _ _ _ _ _ _ _ _ _ _ _ _ _ _ _ _ _ _ _ _ _)
+    }) _ (fold-roll-Term _ _ _ _ _ _ _ _ _ _ _ _ _ _ _ _ _ _ _ _ _ _ _)
     (record {
       some = let some = first.some in omega arith;
       last = ends;
       leads = λ p. alike (chain p following_factor (λ q n f. InFactor q (out-NextFactor n).factor f)
-          ys i k j (whole_factor y).last (a p) (λ f. InFactor p y f) first.last first.some
-          (first.leads p) order) refl (λ f b. outside p f b) (λ f b. inside p f b);
+          ys i k j (whole_factor y).last (a p) (InFactor p y) first.last first.some
+          (first.leads p) order) refl (outside p) (inside p);
     })
   where
     t : Term
@@ -390,7 +385,7 @@ itself (FactorForm-F.Paren e) = refl
 itself (FactorForm-F.Not e) = refl
 
 one_form : (x g h : FormLayer) → x ≡ g → x ≡ h → SameForm g h
-one_form x g h a b = subst (λ z. SameForm g z) (sym a ∙ b) (itself g)
+one_form x g h a b = subst (SameForm g) (sym a ∙ b) (itself g)
 
 lays : (s : Span) (y : FormLayer) (g : FactorForm) → roll-FactorForm y ≡ g →
     out-FactorForm (out-Factor (roll-Factor (record { span = s; form = g }))).form ≡ y
@@ -448,10 +443,8 @@ parenthesis_stands s e i k l j low high ends h =
     factor_stands s (factor_is.Paren e) i j (λ last p. (expression e).judge p)
     (λ p f. InExpression p e f)
     (ap form_of (sym (factor_is.rolls-Paren e)) ∙ fold-roll-FactorForm _ _ _ _ _ _ _ _ _ _ _ _ _ _ _
-    _ _ _ _ _ _ _ (FactorForm-F.Paren e))
-    (let some = h.some in omega arith) ends
-    (λ p. wide low high (h.leads p))
-    (λ p f b. which.inside y f e is b) inside
+    _ _ _ _ _ _ _ (FactorForm-F.Paren e)) (let some = h.some in omega arith) ends
+    (λ p. wide low high (h.leads p)) (λ p f b. which.inside y f e is b) inside
   where
     y : Factor
     y = roll-Factor (record { span = s; form = factor_is.Paren e })
@@ -478,8 +471,7 @@ negation_stands s y i k j low ends h =
     λ truth. Ok (typed boolean (x.Not truth)))
     (λ p f. InFactor p y f ⊎ Fails ((whole_factor y).judge p) test f)
     (ap form_of (sym (factor_is.rolls-Not y)) ∙ fold-roll-FactorForm _ _ _ _ _ _ _ _ _ _ _ _ _ _ _ _
-    _ _ _ _ _ _ (FactorForm-F.Not y))
-    (let some = h.some in omega arith) ends
+    _ _ _ _ _ _ (FactorForm-F.Not y)) (let some = h.some in omega arith) ends
     (λ p. retold (tested ((whole_factor y).judge p) test (wide low (omega arith) (h.leads p))
     (λ x f fails. let there = of_type_at 16 boolean (whole_factor y).last x f fails in
     let some = h.some in let end = h.last in
@@ -520,20 +512,17 @@ pub name_stands : (s t : Span) (k : ℕ) (ss : List Selector) (j : ℕ) → s.la
       span = s;
       form =
           factor_is.Name (roll-Designator (record { span = t; name = k; selectors = ss }));
-    })))
-    (λ p f. InFactor p (roll-Factor
+    }))) (λ p f. InFactor p (roll-Factor
     (record {
       span = s;
       form =
           factor_is.Name (roll-Designator (record { span = t; name = k; selectors = ss }));
     })) f)
 name_stands s t k ss j ends order =
-    factor_stands s (factor_is.Name d) k j
-    (λ last p. used p k >>= λ m. designated p
+    factor_stands s (factor_is.Name d) k j (λ last p. used p k >>= λ m. designated p
     (record { name = k; selectors = map one_selector ss }) m) (λ p f. Parts p k ss f)
     (ap form_of (sym (factor_is.rolls-Name d)) ∙ fold-roll-FactorForm _ _ _ _ _ _ _ _ _ _ _ _ _ _ _
-    _ _ _ _ _ _ _
-    (FactorForm-F.Name d)
+    _ _ _ _ _ _ _ (FactorForm-F.Name d)
     ∙ ap {B = FactorResult} (λ (r : Selected) (last : ℕ) (p : Place). used p r.name >>= λ m.
     designated p r m) (fold-roll-Designator _ _ _ _ _ _ _ _ _ _ _ _ _ _ _ _ _ _ _ _ _ _ _))
     (let rest = ordered ss (k + 1) j order in omega arith) ends
@@ -547,8 +536,7 @@ name_stands s t k ss j ends order =
 
     Parts : Place → ℕ → List Selector → Fault → Type 0
     Parts p k ss f = NameFails p k (designated p (bare k)) f ⊎
-        (AnyOf (λ s f. InSelector p s f) ss f ⊎
-        ((v : Typed) × ((used p k >>= designated p (bare k)) ≡ Ok v) ×
+        (AnyOf (InSelector p) ss f ⊎ ((v : Typed) × ((used p k >>= designated p (bare k)) ≡ Ok v) ×
         SelectorsFail p v.type_id ss f))
 
     is : out-FactorForm (out-Factor y).form ≡ FactorForm-F.Name d
@@ -608,8 +596,7 @@ pub index_stands : (s : Span) (e : Expr) (i k l j : ℕ) →
     → SelectorAt (roll-Selector (record { span = s; form = selector_is.Index e })) i j
 index_stands s e i k l j inner low mid high =
     index_selector (roll-Selector (record { span = s; form = selector_is.Index e })) i k l j s.last
-    e
-    (ap (λ z. out-SelectorForm z.form)
+    e (ap (λ z. out-SelectorForm z.form)
     (out-roll-Selector (record { span = s; form = selector_is.Index e })) ∙ ap out-SelectorForm
     (sym (selector_is.rolls-Index e)) ∙ out-roll-SelectorForm (SelectorForm-F.Index e))
     (ap (λ z. z.span.last) (out-roll-Selector (record { span = s; form = selector_is.Index e })))

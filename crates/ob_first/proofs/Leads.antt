@@ -131,15 +131,13 @@ pub both_tested : {A B C : Type 0} {i k j : ℕ} (a : Judged A) (b : Judged B) (
     → ((x : A) (y : B) (f : Fault) → t x y ≡ Err f → Lies k j f) →
     Leads i j (told (a >>= λ x. b >>= λ y. t x y)) (λ f. P f ⊎ (Q f ⊎ BothFail a b t f))
 both_tested {A} {B} {k = k} {j = j} a b t {P = P} {Q = Q} front back low high at =
-    after a (λ x. b >>= λ y. t x y) front
-    (λ x is. alike (tested b (t x) back (at x)) refl
+    after a (λ x. b >>= λ y. t x y) front (λ x is. alike (tested b (t x) back (at x)) refl
     (λ f. elim [ inl q ↦ inl q | inr (y, is', fails) ↦ inr (x, y, is, is', fails) ])
     (λ f. elim [
       | inl q ↦ inl q
       | inr (x', y, is', is'', fails) ↦
           inr (y, is'', ap (λ z. t z y) (same_value a x x' is is') ∙ fails)
-    ]))
-    (λ f. elim [ inl q ↦ back.lies f q | inr (x, y, is, is', fails) ↦ at x y f fails ]) low high
+    ])) (λ f. elim [ inl q ↦ back.lies f q | inr (x, y, is, is', fails) ↦ at x y f fails ]) low high
 
 -- ---- two readings whose values are joined
 

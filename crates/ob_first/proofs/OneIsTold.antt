@@ -20,10 +20,10 @@ use Rattle.ob_first.proofs.TreesStand.{module_stands}
 -- the module tells the first of what is broken in it, at one of its tokens
 module_leads : (ks : List Kind) (bytes : List ℕ) (tokens : List Token) (m : ModuleTree) →
     Derives Module ks m → Leads 0 (length ks) (told (reading bytes tokens m))
-    (λ f. InModule bytes tokens m f)
+    (InModule bytes tokens m)
 module_leads ks bytes tokens m (f, spelled, is) =
     subst (λ (t : ModuleTree). Leads 0 (length ks) (told (reading bytes tokens t))
-    (λ f. InModule bytes tokens t f)) (sym is) (of_form f spelled)
+    (InModule bytes tokens t)) (sym is) (of_form f spelled)
   where
     of_form : (f : Form Module) → ks ≡ text Module f →
         Leads 0 (length ks) (told (reading bytes tokens (tree Module 0 f)))
@@ -48,10 +48,10 @@ equal_faults f g (inr a) (inr b) = pair f g (omega (arith, a.1, b.1)) a.0
     fault k t = (k, t)
 
     pair : (f g : Fault) → f.0 ≡ g.0 → f.1 ≡ g.1 → f ≡ g
-    pair f g rule token = ap (λ k. fault k f.1) rule ∙ ap (λ t. fault g.0 t) token
+    pair f g rule token = ap (λ k. fault k f.1) rule ∙ ap (fault g.0) token
 
 module _ (bytes : List ℕ) (tokens : List Token) (m : ModuleTree) (size : ℕ)
-    (leads : Leads 0 size (told (reading bytes tokens m)) (λ f. InModule bytes tokens m f)) where
+    (leads : Leads 0 size (told (reading bytes tokens m)) (InModule bytes tokens m)) where
   told_first : (k t : ℕ) → IsBroken bytes tokens m k t → IsFirst bytes tokens m k t
   told_first k t h =
       let is = err_told (reading bytes tokens m) (k, t) h in

@@ -44,7 +44,7 @@ use Rattle.pra_list.specs.Results.{◌>>=◌}
 -- ---- what a statement part and the name after END tell, behind declarations
 
 abbrev In : Place → List Stmt → Fault → Type 0
-In q ss f = AnyOf (λ s h. InStatement q s h) ss f
+In q ss f = AnyOf (InStatement q) ss f
 
 closed_at : (rule : ℕ) (p : Place) (name close : ℕ) (f : Fault) → closed rule p name close ≡ Err f →
     f.1 ≡ close
@@ -67,8 +67,7 @@ pub body_leads : {D V : Type 0} (i k l m j rule name close : ℕ) (d : Judged D)
     (λ f. P f ⊎ (Behind b (λ q g. In q ss g) f ⊎ Behind b (λ q g. closed rule q name close ≡ Err g)
     f))
 body_leads {D} {V} i k l m j rule name close d place b ss P front same low mid order high some h =
-    after d rest front
-    (λ x is. alike (at (place x) (h x)) refl
+    after d rest front (λ x is. alike (at (place x) (h x)) refl
     (λ f. elim [ inl e ↦ inl (place x, same x is, e) | inr e ↦ inr (place x, same x is, e) ])
     (λ f. elim [
       | inl (q, is', e) ↦ inl (subst (λ (z : Place). In z ss f)
@@ -81,7 +80,7 @@ body_leads {D} {V} i k l m j rule name close d place b ss P front same low mid o
       | inr (q, is, e) ↦
           (at q (λ body end. end)).lies f (inr e)
     ])
-    low (omega (arith, items_in_order statement (λ p x f. InStatement p x f) ss l m order))
+    low (omega (arith, items_in_order statement InStatement ss l m order))
   where
     rest : D → Judged V
     rest x = each (place x) [] (map statement ss) >>= λ body. closed rule (place x) name close >>=
@@ -94,26 +93,24 @@ body_leads {D} {V} i k l m j rule name close d place b ss P front same low mid o
         → Leads k j (told (each q [] (map statement ss) >>= λ body. closed rule q name close >>=
         λ end. Ok (g body end))) (λ f. In q ss f ⊎ (closed rule q name close ≡ Err f))
     at q g =
-        let inner = items_in_order statement (λ p x f. InStatement p x f) ss l m order in
+        let inner = items_in_order statement InStatement ss l m order in
         joined {k = m} (each q [] (map statement ss)) (closed rule q name close) g
-        (wide mid (omega arith)
-        (each_leads statement (λ p x f. InStatement p x f) q ss [] l m order))
+        (wide mid (omega arith) (each_leads statement InStatement q ss [] l m order))
         (alone (closed rule q name close) (λ f e. let there = closed_at rule q name close f e in
-        (omega (arith, there), omega (arith, there))))
-        (omega arith) (omega arith)
+        (omega (arith, there), omega (arith, there)))) (omega arith) (omega arith)
 
 -- ---- procedures
 
 -- a procedure at tokens i up to j, and the place behind it
 pub record ProcedureAt (x : Proc) (i j : ℕ) : Type 0 where
   pub some : i ≤ j
-  pub leads : (p : Place) → Leads i j (told (procedure x p)) (λ f. InProcedure p x f)
+  pub leads : (p : Place) → Leads i j (told (procedure x p)) (InProcedure p x)
   pub behind : (p : Place) (r : Place × List Draft) → procedure x p ≡ Ok r → behind_procedure x p ≡
       Ok r.0
 
 pub record DeclarationsAt (d : Decls) (i j : ℕ) : Type 0 where
   pub some : i ≤ j
-  pub leads : (p : Place) → Leads i j (told (declarations d p)) (λ f. InDeclarations p d f)
+  pub leads : (p : Place) → Leads i j (told (declarations d p)) (InDeclarations p d)
   pub behind : (p : Place) (r : Declared) → declarations d p ≡ Ok r → behind_declarations d p ≡
       Ok r.place
 
@@ -137,7 +134,7 @@ no_procedures p f = elim [ ]
 
 pub procedures_lead : (xs : List Proc) (p : Place) (done : List Draft) (i j : ℕ) →
     InOrder ProcedureAt i xs j → Leads i j (told (all_procedures p done (map procedure xs)))
-    (λ f. InProcedures p xs f)
+    (InProcedures p xs)
 procedures_lead [] p done i j order = alike nothing refl (λ f b. absurd b) (no_procedures p)
 procedures_lead (x ∷ xs) p done i j (a, b, low, one, order) =
     alike (after (procedure x p) (λ more. all_procedures more.0 (done ++ more.1) (map procedure xs))
@@ -228,7 +225,7 @@ module _ (cs : List ConstDecl) (ts : List TypeDecl) (vs : List NameList) (ps : L
         (after_behind i l m (both p) (λ r. all_variables r [] vs)
         (λ f. InConstants p cs f ⊎ Behind (all_constants p cs) (λ q g. InTypeDeclarations q ts g) f)
         (λ q g. InVariables q [] vs g) (after_behind i k l (all_constants p cs)
-        (λ q. all_type_declarations q ts) (λ f. InConstants p cs f)
+        (λ q. all_type_declarations q ts) (InConstants p cs)
         (λ q g. InTypeDeclarations q ts g) (constants_lead cs p i k constants)
         (λ q. types_lead ts q k l types) first second) (λ r. variables_lead vs r [] l m variables)
         (omega (arith, first, second)) third) (λ vars. retold
@@ -422,7 +419,7 @@ module _ (s : Span) (name : ℕ) (params : List Section) (ds : Decls) (ss : List
         (heading p name params >>= λ q. declarations ds q.0) (λ x. x.place)
         (heading p name params >>= λ q. behind_declarations ds q.0) ss (λ f. InHeading p name params
         f ⊎ Behind (heading p name params) (λ q g. InDeclarations q.0 ds g) f) (after_behind i d e
-        (heading p name params) (λ q. declarations ds q.0) (λ f. InHeading p name params f)
+        (heading p name params) (λ q. declarations ds q.0) (InHeading p name params)
         (λ q g. InDeclarations q.0 ds g)
         (wide (omega arith) mid (heading_leads p name params i a b c at low sections))
         (λ q. decls.leads q.0) (omega (arith, at.0, at.1, second)) third) (λ x is. let of = came_of
@@ -440,8 +437,7 @@ module _ (s : Span) (name : ℕ) (params : List Section) (ds : Decls) (ss : List
         (proc_inside proc p f b));
     behind = λ p r is.
         let of = steps_of (heading p name params) (λ q. declarations ds q.0)
-        (λ x. each x.place [] (map statement ss)) (λ x. closed 2 x.place name close)
-        (made_of p) r
+        (λ x. each x.place [] (map statement ss)) (λ x. closed 2 x.place name close) (made_of p) r
         (ap (λ (r : ProcResult). r p)
         (sym (fold-roll-Proc DeclsResult ProcResult decls_step proc_step _)) ∙ is) in
         known p r of.0 of.1 of.2 of.3 of.4 of.5 of.6 of.7;
@@ -463,4 +459,4 @@ module _ (s : Span) (name : ℕ) (params : List Section) (ds : Decls) (ss : List
       third = decls.some
 
       fourth : g ≤ h
-      fourth = items_in_order statement (λ p x f. InStatement p x f) ss g h statements
+      fourth = items_in_order statement InStatement ss g h statements

@@ -24,8 +24,7 @@ use Rattle.ob_first.proofs.OneIsTold.{one_told}
 
 the_declarations : Form g.Declarations
 the_declarations = made _ g.declarations
-    (part _ _ _ (made _ g.no_constants done)
-    (part _ _ _ (made _ g.no_types done)
+    (part _ _ _ (made _ g.no_constants done) (part _ _ _ (made _ g.no_types done)
     (part _ _ _ (made _ g.no_variables done) (part _ _ _ (made _ g.no_procedures done) done))))
 
 the_call : Form g.Action
@@ -34,8 +33,7 @@ the_call = made _ g.call (taken _ _ (part _ _ _ (made _ g.no_parameters done) do
 the_body : Form g.Body
 the_body = made _ g.body
     (taken _ _ (part _ _ _ (made _ g.statement_sequence
-    (part _ _ _ (made _ g.statement (part _ _ _ the_call done))
-    (part _ _ _ (made _ g.next_statement
+    (part _ _ _ (made _ g.statement (part _ _ _ the_call done)) (part _ _ _ (made _ g.next_statement
     (taken _ _ (part _ _ _ (made _ g.statement (part _ _ _ the_call done))
     (part _ _ _ (made _ g.last_statement done) done)))) done))) done))
 

@@ -133,13 +133,12 @@ ordered (x ∷ xs) l j (k, m, low, one, order) = let some = one.some in let rest
 pub selectors_lead : (p : Place) (ss : List Selector) (i j : ℕ) → InOrder SelectorAt i ss j →
     (type_id : ℕ) (done : List RStep)
     → Leads i j (told (selected p done type_id (map one_selector ss)))
-    (λ f. AnyOf (λ s f. InSelector p s f) ss f ⊎ SelectorsFail p type_id ss f)
+    (λ f. AnyOf (InSelector p) ss f ⊎ SelectorsFail p type_id ss f)
 selectors_lead p [] i j order t done = alike nothing refl (λ f b. absurd b)
     (λ f. elim [ inl (s, is, b) ↦ is | inr b ↦ b ])
 selectors_lead p (s ∷ ss) i j (k, l, low, one, order) t done =
     let more = λ (r : RStep × ℕ). selectors_lead p ss l j order r.1 (done ++ r.0 ∷ []) in
-    alike
-    (after (one_selector s p t) (λ r. selected p (done ++ r.0 ∷ []) r.1 (map one_selector ss))
+    alike (after (one_selector s p t) (λ r. selected p (done ++ r.0 ∷ []) r.1 (map one_selector ss))
     {Q = Rest} (wide low (omega arith) (one.leads p t))
     (λ r is. alike (more r) refl (λ f. elim [ inl b ↦ inl b | inr b ↦ inr (r, is, b) ])
     (λ f. elim [
@@ -152,8 +151,7 @@ selectors_lead p (s ∷ ss) i j (k, l, low, one, order) t done =
       | inl b ↦ (selectors_lead p ss l j order 0 []).lies f (inl b)
       | inr (r, is, b) ↦
           (selectors_lead p ss l j order r.1 (done ++ r.0 ∷ [])).lies f (inr b)
-    ])
-    (let some = one.some in omega arith) (ordered ss l j order)) refl
+    ]) (let some = one.some in omega arith) (ordered ss l j order)) refl
     (λ f. elim [
       | inl (inl b) ↦ inl (s, inl refl, b)
       | inl (inr b) ↦ inr (inl b)
@@ -168,7 +166,7 @@ selectors_lead p (s ∷ ss) i j (k, l, low, one, order) t done =
     ])
   where
     Rest : Fault → Type 0
-    Rest f = AnyOf (λ s f. InSelector p s f) ss f ⊎
+    Rest f = AnyOf (InSelector p) ss f ⊎
         ((r : RStep × ℕ) × (one_selector s p t ≡ Ok r) × SelectorsFail p r.1 ss f)
 
 -- ---- a name with its selectors
@@ -179,9 +177,7 @@ pub named_selected : {V : Type 0} (p : Place) (k j : ℕ) (kind : Meaning → Ju
     ((m : Meaning) (f : Fault) → kind m ≡ Err f → (f.1 ≡ k) × (6 ≤ f.0))
     → InOrder SelectorAt (k + 1) ss j
     → Leads k j (told ((used p k >>= kind) >>= λ v. selected p [] (type_of v)
-    (map one_selector ss)))
-    (λ f. NameFails p k kind f ⊎
-    (AnyOf (λ s f. InSelector p s f) ss f ⊎
+    (map one_selector ss))) (λ f. NameFails p k kind f ⊎ (AnyOf (InSelector p) ss f ⊎
     ((v : V) × ((used p k >>= kind) ≡ Ok v) × SelectorsFail p (type_of v) ss f)))
 named_selected {V} p k j kind type_of ss at order =
     let r = used p k >>= kind in
@@ -196,8 +192,7 @@ named_selected {V} p k j kind type_of ss at order =
     (λ f. elim [
       | inl b ↦ (selectors_lead p ss (k + 1) j order 0 []).lies f (inl b)
       | inr (v, is, b) ↦ (selectors_lead p ss (k + 1) j order (type_of v) []).lies f (inr b)
-    ])
-    (omega arith) (ordered ss (k + 1) j order)
+    ]) (omega arith) (ordered ss (k + 1) j order)
 
 designated_at : (p : Place) (k : ℕ) (m : Meaning) (f : Fault) → designated p (bare k) m ≡ Err f →
     (f.1 ≡ k) × (6 ≤ f.0)
@@ -221,8 +216,7 @@ designated_parts p d (Err f) = refl
 pub designated_leads : (p : Place) (k j : ℕ) (ss : List Selector) → InOrder SelectorAt (k + 1) ss j
     → Leads k j (told (used p k >>= λ m. designated p
     (record { name = k; selectors = map one_selector ss }) m))
-    (λ f. NameFails p k (designated p (bare k)) f ⊎
-    (AnyOf (λ s f. InSelector p s f) ss f ⊎
+    (λ f. NameFails p k (designated p (bare k)) f ⊎ (AnyOf (InSelector p) ss f ⊎
     ((v : Typed) × ((used p k >>= designated p (bare k)) ≡ Ok v) ×
     SelectorsFail p v.type_id ss f)))
 designated_leads p k j ss order =

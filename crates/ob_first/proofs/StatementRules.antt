@@ -76,7 +76,7 @@ module _ {X A : Type 0} (item : X → Judge A) (B : Place → X → Fault → Ty
 -- ---- conditions
 
 pub condition_leads : (p : Place) (e : Expr) (i j : ℕ) → ExpressionAt e i j →
-    Leads i j (told (condition p e)) (λ f. InCondition p e f)
+    Leads i j (told (condition p e)) (InCondition p e)
 condition_leads p e i j at =
     tested ((expression e).judge p) (of_type 19 boolean (out-Expr e).span.last) (at.leads p)
     (λ x f h. let there = of_type_at 19 boolean (out-Expr e).span.last x f h in let is =
@@ -94,7 +94,7 @@ target_parts : (p : Place) (d : Selected) (r : Judged Meaning)
     → told ((r >>= target p (bare d.name)) >>= λ v. selected p [] (out-RVar v).type_id d.selectors)
     ≡ told (r >>= λ m. target p d m)
 target_parts p d (Ok (Variable owner root t)) =
-    sym (told_joined (selected p [] t d.selectors) (λ steps. variable root steps))
+    sym (told_joined (selected p [] t d.selectors) (variable root))
 target_parts p d (Ok m) = refl
 target_parts p d (Err f) = refl
 
@@ -107,8 +107,7 @@ assigned_at token v e f h = by_test (are_alike (out-RVar v).type_id e.type_id)
 target_leads : (p : Place) (k j : ℕ) (ss : List Selector) → InOrder SelectorAt (k + 1) ss j
     → Leads k j (told (used p k >>= target p
     (record { name = k; selectors = map one_selector ss })))
-    (λ f. NameFails p k (target p (bare k)) f ⊎
-    (AnyOf (λ s f. InSelector p s f) ss f ⊎
+    (λ f. NameFails p k (target p (bare k)) f ⊎ (AnyOf (InSelector p) ss f ⊎
     ((v : RVar) × ((used p k >>= target p (bare k)) ≡ Ok v) ×
     SelectorsFail p (out-RVar v).type_id ss f)))
 target_leads p k j ss order =
@@ -129,7 +128,7 @@ ArmAt a i j = ReadsAt i j (arm a) (λ p f. InArm p a f)
 
 abbrev Parts : Place → ℕ → Layer → Fault → Type 0
 Parts p last y f = StatementFails p last y f ⊎
-    (AnyOf (λ a g. InArm p a g) (arms_in y) f ⊎ AnyOf (λ t g. InStatement p t g) (statements_in y)
+    (AnyOf (InArm p) (arms_in y) f ⊎ AnyOf (InStatement p) (statements_in y)
     f)
 
 -- a layer of readings
@@ -148,7 +147,7 @@ read_layer (StmtForm-F.While e ss) = fold-roll-StmtForm _ _ _ _ _ _ (StmtForm-F.
 read_layer (StmtForm-F.Repeat ss e) = fold-roll-StmtForm _ _ _ _ _ _ (StmtForm-F.Repeat ss e)
 
 statement_stands : (s : Span) (y : Layer) (g : StmtForm) (i j : ℕ) → roll-StmtForm y ≡ g → i ≤ j →
-    ((p : Place) → Leads i j (told (stmt_form (map_layer y) s.last p)) (λ f. Parts p s.last y f))
+    ((p : Place) → Leads i j (told (stmt_form (map_layer y) s.last p)) (Parts p s.last y))
     → StatementAt (roll-Stmt (record { span = s; form = g })) i j
 statement_stands s y g i j rolls some leads = record {
   some = some;
@@ -221,8 +220,7 @@ assignment_stands s t k ss e l m j ends low order value =
 
     Named : Place → ℕ → List Selector → Fault → Type 0
     Named p k ss f = NameFails p k (target p (bare k)) f ⊎
-        (AnyOf (λ s g. InSelector p s g) ss f ⊎
-        ((v : RVar) × ((used p k >>= target p (bare k)) ≡ Ok v) ×
+        (AnyOf (InSelector p) ss f ⊎ ((v : RVar) × ((used p k >>= target p (bare k)) ≡ Ok v) ×
         SelectorsFail p (out-RVar v).type_id ss f))
 
     Sides : Place → Selected → Fault → Type 0
@@ -245,8 +243,7 @@ pub call_stands : (s : Span) (k : ℕ) (es : List Expr) (j : ℕ) → s.last + 1
     InOrder ExpressionAt (k + 1) es j →
     StatementAt (roll-Stmt (record { span = s; form = form_is.Call k es })) k j
 call_stands s k es j ends some order =
-    statement_stands s (StmtForm-F.Call k es) _ k j (form_is.rolls-Call k es)
-    (omega arith)
+    statement_stands s (StmtForm-F.Call k es) _ k j (form_is.rolls-Call k es) (omega arith)
     (λ p. alike (call_leads p s.last k es j ends some order) refl (λ f b. inl b)
     (λ f. elim [
       | inl b ↦ b
@@ -260,14 +257,12 @@ pub if_stands : (s : Span) (xs : List Arm) (others : List Stmt) (i k l j m : ℕ
     → StatementAt (roll-Stmt (record { span = s; form = form_is.If xs others })) i j
 if_stands s xs others i k l j m low high first rest =
     statement_stands s (StmtForm-F.If xs others) _ i j (form_is.rolls-If xs others)
-    (let a = items_in_order arm (λ p x f. InArm p x f) xs k l first in let b =
-    items_in_order statement (λ p x f. InStatement p x f) others l m rest in omega arith)
+    (let a = items_in_order arm InArm xs k l first in let b =
+    items_in_order statement InStatement others l m rest in omega arith)
     (λ p. alike (wide low high (joined (each p [] (map arm xs)) (each p [] (map statement others))
-    (λ choices otherwise. made.If choices otherwise)
-    (each_leads arm (λ p x f. InArm p x f) p xs [] k l first)
-    (each_leads statement (λ p x f. InStatement p x f) p others [] l m rest)
-    (items_in_order arm (λ p x f. InArm p x f) xs k l first)
-    (items_in_order statement (λ p x f. InStatement p x f) others l m rest))) refl (λ f b. inr b)
+    (λ choices otherwise. made.If choices otherwise) (each_leads arm InArm p xs [] k l first)
+    (each_leads statement InStatement p others [] l m rest) (items_in_order arm InArm xs k l first)
+    (items_in_order statement InStatement others l m rest))) refl (λ f b. inr b)
     (λ f. elim [ inl b ↦ absurd b | inr b ↦ b ]))
 
 pub while_stands : (s : Span) (e : Expr) (ss : List Stmt) (i k l n m j : ℕ) → i ≤ k → l ≤ n →
@@ -275,13 +270,13 @@ pub while_stands : (s : Span) (e : Expr) (ss : List Stmt) (i k l n m j : ℕ) �
     → StatementAt (roll-Stmt (record { span = s; form = form_is.While e ss })) i j
 while_stands s e ss i k l n m j low mid high first rest =
     statement_stands s (StmtForm-F.While e ss) _ i j (form_is.rolls-While e ss)
-    (let a = first.some in let b = items_in_order statement (λ p x f. InStatement p x f) ss n m
+    (let a = first.some in let b = items_in_order statement InStatement ss n m
     rest in omega arith)
     (λ p. alike (joined (condition p e) (each p [] (map statement ss)) (λ c turn. made.While c turn)
     (wide low (omega arith) (condition_leads p e k l first))
-    (wide mid high (each_leads statement (λ p x f. InStatement p x f) p ss [] n m rest))
+    (wide mid high (each_leads statement InStatement p ss [] n m rest))
     (let a = first.some in omega arith)
-    (let b = items_in_order statement (λ p x f. InStatement p x f) ss n m rest in omega arith)) refl
+    (let b = items_in_order statement InStatement ss n m rest in omega arith)) refl
     (λ f. elim [ inl b ↦ inl b | inr b ↦ inr (inr b) ])
     (λ f. elim [ inl b ↦ inl b | inr (inl (a, is, b)) ↦ absurd is | inr (inr b) ↦ inr b ]))
 
@@ -290,30 +285,29 @@ pub repeat_stands : (s : Span) (ss : List Stmt) (e : Expr) (i k l n j : ℕ) →
     → StatementAt (roll-Stmt (record { span = s; form = form_is.Repeat ss e })) i j
 repeat_stands s ss e i k l n j low mid first last =
     statement_stands s (StmtForm-F.Repeat ss e) _ i j (form_is.rolls-Repeat ss e)
-    (let a = last.some in let b = items_in_order statement (λ p x f. InStatement p x f) ss k l
-    first in omega arith)
-    (λ p. alike (joined (each p [] (map statement ss)) (condition p e)
+    (let a = last.some in let b = items_in_order statement InStatement ss k l
+    first in omega arith) (λ p. alike (joined (each p [] (map statement ss)) (condition p e)
     (λ turn c. made.Repeat turn c)
-    (wide low (omega arith) (each_leads statement (λ p x f. InStatement p x f) p ss [] k l first))
+    (wide low (omega arith) (each_leads statement InStatement p ss [] k l first))
     (wide mid (omega arith) (condition_leads p e n j last))
-    (let b = items_in_order statement (λ p x f. InStatement p x f) ss k l first in omega arith)
+    (let b = items_in_order statement InStatement ss k l first in omega arith)
     (let a = last.some in omega arith)) refl (λ f. elim [ inl b ↦ inr (inr b) | inr b ↦ inl b ])
     (λ f. elim [ inl b ↦ inr b | inr (inl (a, is, b)) ↦ absurd is | inr (inr b) ↦ inl b ]))
 
 pub arm_stands : (e : Expr) (ss : List Stmt) (i k l n j : ℕ) → i ≤ k → l ≤ n → ExpressionAt e k l →
     InOrder StatementAt n ss j → ArmAt (roll-Arm (record { test = e; body = ss })) i j
 arm_stands e ss i k l n j low mid first rest = record {
-  some = let a = first.some in let b = items_in_order statement (λ p x f. InStatement p x f) ss n j
+  some = let a = first.some in let b = items_in_order statement InStatement ss n j
       rest in omega arith;
   leads = λ p. alike (joined (condition p e) (each p [] (map statement ss))
       (λ c body. roll-RArm (record { test = c; body = body }))
       (wide low (omega arith) (condition_leads p e k l first))
-      (wide mid (omega arith) (each_leads statement (λ p x f. InStatement p x f) p ss [] n j rest))
+      (wide mid (omega arith) (each_leads statement InStatement p ss [] n j rest))
       (let a = first.some in omega arith)
-      (let b = items_in_order statement (λ p x f. InStatement p x f) ss n j rest in omega arith))
+      (let b = items_in_order statement InStatement ss n j rest in omega arith))
       (ap (λ (r : Judge RArm). told (r p))
       (sym (fold-roll-Arm StmtResult (Judge RArm) (Judge RStmt) stmt_form arm_step stmt_step _)))
-      (λ f b. outside p f b) (λ f b. inside p f b);
+      (outside p) (inside p);
 }
   where
     a : Arm
@@ -322,13 +316,13 @@ arm_stands e ss i k l n j low mid first rest = record {
     opens : out-Arm a ≡ record { test = e; body = ss }
     opens = out-roll-Arm _
 
-    outside : (p : Place) (f : Fault) → InCondition p e f ⊎ AnyOf (λ t g. InStatement p t g) ss f →
+    outside : (p : Place) (f : Fault) → InCondition p e f ⊎ AnyOf (InStatement p) ss f →
         InArm p a f
     outside p f (inl b) = which.test a f (subst (λ z. InCondition p z.test f) (sym opens) b)
     outside p f (inr (t, among, b)) =
         which.body a f t (subst (λ z. Among t z.body) (sym opens) among) b
 
     inside : (p : Place) (f : Fault) → InArm p a f → InCondition p e f ⊎
-        AnyOf (λ t g. InStatement p t g) ss f
+        AnyOf (InStatement p) ss f
     inside p f (which.test _ _ b) = inl (subst (λ z. InCondition p z.test f) opens b)
     inside p f (which.body _ _ t among b) = inr (t, subst (λ z. Among t z.body) opens among, b)

@@ -139,7 +139,7 @@ At Variables t i j = InOrder NameListAt i t j
 At Declarations t i j = DeclarationsAt t i j
 At Body t i j = InOrder StatementAt i t j
 At Module t i j = (bytes : List ℕ) (tokens : List Token) → Leads i j (told (reading bytes tokens t))
-    (λ f. InModule bytes tokens t f)
+    (InModule bytes tokens t)
 
 -- ---- what holds of the right side of a production, from token i on
 
@@ -364,7 +364,7 @@ rule_stands _ a_module i v h = λ bytes tokens.
     let decls = h.1.1.1.2 in
     body_leads i h.1.1.1.0 h.1.1.1.0 h.1.1.1.3.0 (h.1.1.1.3.0 + 1 + 1 + 1) 1 v.1.0 v.1.1.1.1.1.1.0
     (read_declarations v.1.1.1.0 p) (λ d. d.place) (behind_declarations v.1.1.1.0 p) v.1.1.1.1.0
-    (λ f. InDeclarations p v.1.1.1.0 f)
+    (InDeclarations p v.1.1.1.0)
     (wide (omega arith) (same_place h.1.1.1.0) (decls.leads p)) (λ d is. decls.behind p d is)
     (let le = h.1.1.1.1 in omega arith) (same_place h.1.1.1.0) h.1.1.1.3.2
     (omega (arith, h.1.1.1.3.3.1.0)) (omega (arith, h.1.1.1.3.3.1.0))

@@ -50,7 +50,7 @@ length_at token (Number n) f h = by_test (int_lt (pos 0) n) (Ok (nat_abs n)) (Er
 length_at token (Truth b) f h = cc
 
 pub constant_leads : (p : Place) (e : Expr) (i j : ℕ) → ExpressionAt e i j →
-    Leads i j (told (constant p e)) (λ f. InConstant p e f)
+    Leads i j (told (constant p e)) (InConstant p e)
 constant_leads p e i j at =
     tested ((expression e).judge p) (λ x. constant_of (out-Expr e).span.last (worth x.expr))
     (at.leads p)
@@ -59,7 +59,7 @@ constant_leads p e i j at =
     (omega (arith, there, is, end, some), omega (arith, there, is, end)))
 
 pub length_leads : (p : Place) (e : Expr) (i j : ℕ) → ExpressionAt e i j →
-    Leads i j (told (array_length p e)) (λ f. InLength p e f)
+    Leads i j (told (array_length p e)) (InLength p e)
 length_leads p e i j at =
     tested (constant p e) (length_of (out-Expr e).span.last) (constant_leads p e i j at)
     (λ x f h. let there = length_at (out-Expr e).span.last x f h in let is = last_of e in let end =
@@ -99,7 +99,7 @@ fields_told p names k ks = by (list_any (bytes_eq (name_at p k)) names)
     by false = refl
 
 field_names_lead : (p : Place) (ks : List ℕ) (names : List Name) (i j : ℕ) → InOrder NameAt i ks j →
-    Leads i j (told (with_fields p names ks)) (λ f. FieldNamesFail p names ks f)
+    Leads i j (told (with_fields p names ks)) (FieldNamesFail p names ks)
 field_names_lead p [] names i j order = nothing
 field_names_lead p (k ∷ ks) names i j (a, b, low, one, order) =
     let rest = field_names_lead p ks (names ++ name_at p k ∷ []) b j order in
@@ -115,7 +115,7 @@ field_names_lead p (k ∷ ks) names i j (a, b, low, one, order) =
 pub record TypeAt (t : TypeExpr) (i j : ℕ) : Type 0 where
   pub some : i < j
   pub last : (out-TypeExpr t).span.last + 1 ≡ j
-  pub leads : (p : Place) → Leads i j (told (type_expression t p)) (λ f. InType p t f)
+  pub leads : (p : Place) → Leads i j (told (type_expression t p)) (InType p t)
 
 -- names of one type
 pub record NamesOfType (names : List ℕ) (t : TypeExpr) (i j : ℕ) : Type 0 where
@@ -183,8 +183,8 @@ no_fields : (so_far : Fields) (f : Fault) → InFields so_far [] f → ⊥
 no_fields so_far f = elim [ ]
 
 fields_lead : (ls : List NameList) (so_far : Fields) (i j : ℕ) → InOrder NameListAt i ls j →
-    Leads i j (told (all_fields so_far (map fields_of ls))) (λ f. InFields so_far ls f)
-fields_lead [] so_far i j order = alike nothing refl (λ f b. absurd b) (λ f b. no_fields so_far f b)
+    Leads i j (told (all_fields so_far (map fields_of ls))) (InFields so_far ls)
+fields_lead [] so_far i j order = alike nothing refl (λ f b. absurd b) (no_fields so_far)
 fields_lead (l ∷ ls) so_far i j (a, b, low, one, order) =
     let rest = fields_lead ls (behind_list so_far l) b j order in
     alike (after (fields_of l so_far) (λ more. all_fields more (map fields_of ls))
@@ -192,8 +192,7 @@ fields_lead (l ∷ ls) so_far i j (a, b, low, one, order) =
     (told (all_fields z (map fields_of ls))) (λ f. InFields (behind_list so_far l) ls f))
     (ap (value_or _) is) rest) rest.lies
     (let h = of_type_in_order (out-NameList l).names (out-NameList l).shape a b one in omega arith)
-    (lists_in_order ls b j order)) refl (λ f. fields_close so_far l ls f)
-    (λ f. fields_open so_far l ls f)
+    (lists_in_order ls b j order)) refl (fields_close so_far l ls) (fields_open so_far l ls)
 
 -- ---- each form
 
@@ -261,7 +260,7 @@ parts_outside p t (TypeForm-F.Record lists) f is b = which.fields p t f lists is
 
 type_stands : (s : Span) (y : Layer) (g : TypeForm) (i j : ℕ) (read : Shaped) →
     roll-TypeForm y ≡ g → form_of (roll-TypeForm y) ≡ read → i < j → s.last + 1 ≡ j →
-    ((p : Place) → Leads i j (told (read p)) (λ f. Parts p y f))
+    ((p : Place) → Leads i j (told (read p)) (Parts p y))
     → TypeAt (roll-TypeExpr (record { span = s; form = g })) i j
 type_stands s y g i j read rolls reads some ends leads = record {
   some = some;
@@ -302,13 +301,11 @@ array_stands s e t i k l m j low mid ends count item =
     (λ p. array_length p e >>= λ n. type_expression t (with_length p n) >>= λ inner. Ok
     (with_type inner.0 (Array n inner.1) []))
     (form_is.rolls-Array e t) (fold-roll-TypeForm _ _ _ _ _ _ _)
-    (let a = count.some in let b = item.some in omega arith) ends
-    (λ p.
+    (let a = count.some in let b = item.some in omega arith) ends (λ p.
     let rest = wide {i' = l} {j' = j} mid (omega arith)
     (item.leads (in_array p e)) in
     after (array_length p e) (λ n. type_expression t (with_length p n) >>= λ inner. Ok
-    (with_type inner.0 (Array n inner.1) []))
-    (wide low (omega arith) (length_leads p e k l count))
+    (with_type inner.0 (Array n inner.1) [])) (wide low (omega arith) (length_leads p e k l count))
     (λ n is. retold rest (ap (λ (z : ℕ). told (type_expression t (with_length p z)))
     (ap (value_or _) is) ∙ sym (told_joined (type_expression t (with_length p n))
     (λ inner. with_type inner.0 (Array n inner.1) []))))

@@ -86,5 +86,4 @@ pub named : {A : Type 0} (p : Place) (k : ℕ) (kind : Meaning → Judged A) →
     → Leads k (k + 1) (told (used p k >>= kind)) (NameFails p k kind)
 named p k kind at =
     named_by k (meaning p (name_at p k)) (used p k) kind at
-    (λ m. used_ok p k (meaning p (name_at p k)) m)
-    (λ f. used_err p k (meaning p (name_at p k)) f)
+    (λ m. used_ok p k (meaning p (name_at p k)) m) (λ f. used_err p k (meaning p (name_at p k)) f)
