@@ -15,7 +15,7 @@ use Rattle.ob_parse.proofs.PhrasesAdvance.{later, factor_later, term_later, simp
 use Rattle.ob_parse.proofs.PhrasesAdvance.{selector_shorter}
 use Rattle.ob_parse.proofs.PhraseUnderway.{after_phrase, as_deep, one_deeper, closed, refused}
 use Rattle.ob_parse.proofs.PhraseUnderway.{begun, again, rewrap, roomier}
-use Rattle.ob_parse.proofs.PhraseSteps.{chosen, at, on, seen, as_kind, opens, ◌▹◌, ◌▸◌, closed_as}
+use Rattle.ob_parse.proofs.PhraseSteps.{chosen, on, seen, as_kind, opens, ◌▹◌, ◌▸◌, closed_as}
 use Rattle.ob_parse.proofs.PhraseSteps.{lacks, fails, no_room}
 use Rattle.ob_parse.proofs.expression.+expression.Goals as goal
 

@@ -11,7 +11,7 @@ use Rattle.ob_parse.proofs.ItemsAsLists.{put, put_first}
 use Rattle.ob_parse.proofs.PhrasesAdvance.{later}
 use Rattle.ob_parse.proofs.PhraseUnderway.{after_phrase, as_deep, one_deeper, at_least_one, closed}
 use Rattle.ob_parse.proofs.PhraseUnderway.{refused, again, rewrap}
-use Rattle.ob_parse.proofs.PhraseSteps.{chosen, at, on, opens, ◌▹◌, ◌▸◌, closed_as, lacks, fails}
+use Rattle.ob_parse.proofs.PhraseSteps.{chosen, on, opens, ◌▹◌, ◌▸◌, closed_as, lacks, fails}
 use Rattle.ob_parse.proofs.PhraseSteps.{no_room}
 use Rattle.ob_parse.proofs.statement.+statements.Goals as goal
 
