@@ -60,16 +60,11 @@ record Alike (q p : LProc) : Type 0 where
 
 shell_moves : (p : LProc) (m : Move) → emit_move (shell p) m ≡ emit_move p m
 shell_moves p (move.Copy to from) = refl
-shell_moves p (move.Swap one other) = refl
-shell_moves p (move.Load to v) = refl
-shell_moves p (move.Store v from) = refl
-shell_moves p (move.Set to n) = refl
+shell_moves p x = refl
 
 shell_words : (p : LProc) (b : Base) → object_word (shell p) b ≡ object_word p b
 shell_words p (base.Global g) = refl
-shell_words p (base.Frame w) = refl
-shell_words p (base.Cell i) = refl
-shell_words p (base.Via v) = refl
+shell_words p x = refl
 
 abbrev via_in : List Place → Reg
 via_in places = register_at (place_in places 0)
@@ -80,21 +75,6 @@ index_in a places = option_map
 
 shell_ops : (p : LProc) (i : VInstr) (places : List Place) → emit_op (shell p) i places ≡
     emit_op p i places
-shell_ops p (instr.Set v n) places = refl
-shell_ops p (instr.Copy v s) places = refl
-shell_ops p (instr.Add v s) places = refl
-shell_ops p (instr.Sub v s) places = refl
-shell_ops p (instr.And v s) places = refl
-shell_ops p (instr.Or v s) places = refl
-shell_ops p (instr.Xor v s) places = refl
-shell_ops p (instr.Mul v s) places = refl
-shell_ops p (instr.Neg v) places = refl
-shell_ops p (instr.Shift op v n) places = refl
-shell_ops p (instr.Cmp a b) places = refl
-shell_ops p (instr.CmpSet c v a b) places = refl
-shell_ops p (instr.DivMod q r a d) places = refl
-shell_ops p (instr.Check i n) places = refl
-shell_ops p (instr.CheckPos d) places = refl
 shell_ops p (instr.Load v a) places =
     ap (λ w. Plain (ins.MovRRm (reg_of (at p places v (address_count a)))
     (rm.Mem (w (via_in places) a.offset (index_in a places)))) ∷ []) (shell_words p a.base)
@@ -104,17 +84,11 @@ shell_ops p (instr.Store a s) places =
 shell_ops p (instr.Addr v a) places =
     ap (λ w. Plain (ins.Lea (reg_of (at p places v (address_count a)))
     (w (via_in places) a.offset (index_in a places))) ∷ []) (shell_words p a.base)
-shell_ops p (instr.Push s) places = refl
-shell_ops p (instr.Call q) places = refl
-shell_ops p (instr.Read v) places = refl
-shell_ops p (instr.Write v) places = refl
-shell_ops p instr.Line places = refl
-shell_ops p instr.Clear places = refl
+shell_ops p x places = refl
 
 shell_ends : (p : LProc) (next : ℕ) (e : End) → emit_end (shell p) next e ≡ emit_end p next e
 shell_ends p next (end.Jump b) = refl
-shell_ends p next (end.Branch c one other) = refl
-shell_ends p next end.Return = refl
+shell_ends p next x = refl
 
 shell_is : (p : LProc) → Alike (shell p) p
 shell_is p = record {

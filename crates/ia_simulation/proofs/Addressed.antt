@@ -61,9 +61,7 @@ last_of (a ∷ l) (suc n) e = last_of l n (omega (arith, e))
 
 pub counts : (b : Base) → base_count b ≡ via_count b
 counts (base.Global g) = refl
-counts (base.Frame g) = refl
-counts (base.Cell g) = refl
-counts (base.Via u) = refl
+counts x = refl
 
 -- the variables of the address are the first that the instruction reads, and are in registers
 pub record HasAddress (this : VInstr) (b : Base) (x : Option VarId) (l : List Place) : Type 0 where

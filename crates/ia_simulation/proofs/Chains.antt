@@ -77,13 +77,7 @@ use Rattle.ia_simulation.proofs.Walks.{Walks, goes_on, reaches}
 
 twice : (g : Registers) (r : Reg) (x z : ℕ) → with_reg (with_reg g r x) r z ≡ with_reg g r z
 twice g Eax x z = refl
-twice g Ecx x z = refl
-twice g Edx x z = refl
-twice g Ebx x z = refl
-twice g Esp x z = refl
-twice g Ebp x z = refl
-twice g Esi x z = refl
-twice g Edi x z = refl
+twice g y x z = refl
 
 low_byte : (v : ℕ) (b : Bool) → with_low_byte v (truth b) % 256 ≡ truth b
 low_byte v true = omega arith
@@ -101,34 +95,13 @@ byte_register p v place.Eax e = (refl, omega arith)
 byte_register p v place.Ecx e = (refl, omega arith)
 byte_register p v place.Edx e = (refl, omega arith)
 byte_register p v place.Ebx e = (refl, omega arith)
-byte_register p v place.Esi e = cc
-byte_register p v place.Edi e = cc
-byte_register p v place.Mem e = cc
-byte_register p v place.Const e = cc
-byte_register p v place.EaxM e = cc
-byte_register p v place.EcxM e = cc
-byte_register p v place.EdxM e = cc
-byte_register p v place.EbxM e = cc
-byte_register p v place.EsiM e = cc
-byte_register p v place.EdiM e = cc
+byte_register p v x e = cc
 
 -- EDX alone
 in_edx : (p : LProc) (v : ℕ) (q : Place) → allows (only place.Edx) (number_of q) ≡ true →
     emitted.operand p v (number_of q) ≡ at.Register Edx
 in_edx p v place.Edx e = refl
-in_edx p v place.Eax e = cc
-in_edx p v place.Ecx e = cc
-in_edx p v place.Ebx e = cc
-in_edx p v place.Esi e = cc
-in_edx p v place.Edi e = cc
-in_edx p v place.Mem e = cc
-in_edx p v place.Const e = cc
-in_edx p v place.EaxM e = cc
-in_edx p v place.EcxM e = cc
-in_edx p v place.EdxM e = cc
-in_edx p v place.EbxM e = cc
-in_edx p v place.EsiM e = cc
-in_edx p v place.EdiM e = cc
+in_edx p v x e = cc
 
 -- CDQ does not change the divisor
 module _ (p : LProc) (v : ℕ) (m : machine.State) (n : ℕ) where
@@ -140,38 +113,22 @@ module _ (p : LProc) (v : ℕ) (m : machine.State) (n : ℕ) where
   stays_narrow : (q : Place) → allows (but place.Eax place.Edx (R ∪ M)) (number_of q) ≡ true →
       Stays q
   unfolding load
-  stays_narrow place.Eax e = cc
   stays_narrow place.Ecx e = (tt, refl)
-  stays_narrow place.Edx e = cc
   stays_narrow place.Ebx e = (tt, refl)
   stays_narrow place.Esi e = (tt, refl)
   stays_narrow place.Edi e = (tt, refl)
   stays_narrow place.Mem e = (tt, refl)
-  stays_narrow place.Const e = cc
-  stays_narrow place.EaxM e = cc
-  stays_narrow place.EcxM e = cc
-  stays_narrow place.EdxM e = cc
-  stays_narrow place.EbxM e = cc
-  stays_narrow place.EsiM e = cc
-  stays_narrow place.EdiM e = cc
+  stays_narrow x e = cc
 
   stays_wide : (q : Place) → allows (with_both (but place.Eax place.Edx (R ∪ M))) (number_of q) ≡
       true → Stays q
   unfolding load
   stays_wide place.Eax e = cc
-  stays_wide place.Ecx e = (tt, refl)
   stays_wide place.Edx e = cc
-  stays_wide place.Ebx e = (tt, refl)
-  stays_wide place.Esi e = (tt, refl)
-  stays_wide place.Edi e = (tt, refl)
-  stays_wide place.Mem e = (tt, refl)
   stays_wide place.Const e = cc
   stays_wide place.EaxM e = cc
-  stays_wide place.EcxM e = (tt, refl)
   stays_wide place.EdxM e = cc
-  stays_wide place.EbxM e = (tt, refl)
-  stays_wide place.EsiM e = (tt, refl)
-  stays_wide place.EdiM e = (tt, refl)
+  stays_wide x e = (tt, refl)
 
   divisor_stays : (b : Bool) (q : Place) →
       allows (if b then but place.Eax place.Edx (R ∪ M) else with_both

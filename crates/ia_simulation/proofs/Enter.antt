@@ -71,9 +71,7 @@ raised : (trap : TrapKind) (s : State) → s.regs.eax ≡ word (pos (trap_number
     effect s (ins.Int 0x24) ≡ Ok (over s (ending.Trap trap), out.Trap trap)
 unfolding effect served
 raised Index s e = rw e refl
-raised Divide s e = rw e refl
-raised Input s e = rw e refl
-raised Stack s e = rw e refl
+raised x s e = rw e refl
 
 module _ (procs : List LProc) (sound : AreSound (code_of procs)) (m : State) (words : Words)
     (trap : TrapKind) (w : Walks procs m words no_target (stub_start trap) (stub trap)) where

@@ -58,36 +58,12 @@ allowed_at p i places is k role e = allowed_first role.mask (own_places (kind_of
 module _ (p : LProc) (v : ℕ) where
   widened_place : (q : Place) → allows (with_both (R ∪ M)) (number q) ≡ true →
       IsPlace (operand p v (number q))
-  widened_place place.Eax e = tt
-  widened_place place.Ecx e = tt
-  widened_place place.Edx e = tt
-  widened_place place.Ebx e = tt
-  widened_place place.Esi e = tt
-  widened_place place.Edi e = tt
-  widened_place place.Mem e = tt
   widened_place place.Const e = cc
-  widened_place place.EaxM e = tt
-  widened_place place.EcxM e = tt
-  widened_place place.EdxM e = tt
-  widened_place place.EbxM e = tt
-  widened_place place.EsiM e = tt
-  widened_place place.EdiM e = tt
+  widened_place x e = tt
 
   narrow_place : (q : Place) → allows (R ∪ M) (number q) ≡ true → IsPlace (operand p v (number q))
   narrow_place place.Const e = cc
-  narrow_place place.Eax e = tt
-  narrow_place place.Ecx e = tt
-  narrow_place place.Edx e = tt
-  narrow_place place.Ebx e = tt
-  narrow_place place.Esi e = tt
-  narrow_place place.Edi e = tt
-  narrow_place place.Mem e = tt
-  narrow_place place.EaxM e = tt
-  narrow_place place.EcxM e = tt
-  narrow_place place.EdxM e = tt
-  narrow_place place.EbxM e = tt
-  narrow_place place.EsiM e = tt
-  narrow_place place.EdiM e = tt
+  narrow_place x e = tt
 
   -- a register or memory
   pub is_place : (b : Bool) (q : Place) → allows (if b then R ∪ M else with_both (R ∪ M))
@@ -99,34 +75,12 @@ module _ (p : LProc) (v : ℕ) where
       has_register (number q) ≡ true
   widened_register place.Mem e = cc
   widened_register place.Const e = cc
-  widened_register place.Eax e = refl
-  widened_register place.Ecx e = refl
-  widened_register place.Edx e = refl
-  widened_register place.Ebx e = refl
-  widened_register place.Esi e = refl
-  widened_register place.Edi e = refl
-  widened_register place.EaxM e = refl
-  widened_register place.EcxM e = refl
-  widened_register place.EdxM e = refl
-  widened_register place.EbxM e = refl
-  widened_register place.EsiM e = refl
-  widened_register place.EdiM e = refl
+  widened_register x e = refl
 
   narrow_register : (q : Place) → allows R (number q) ≡ true → has_register (number q) ≡ true
   narrow_register place.Mem e = cc
   narrow_register place.Const e = cc
-  narrow_register place.Eax e = refl
-  narrow_register place.Ecx e = refl
-  narrow_register place.Edx e = refl
-  narrow_register place.Ebx e = refl
-  narrow_register place.Esi e = refl
-  narrow_register place.Edi e = refl
-  narrow_register place.EaxM e = refl
-  narrow_register place.EcxM e = refl
-  narrow_register place.EdxM e = refl
-  narrow_register place.EbxM e = refl
-  narrow_register place.EsiM e = refl
-  narrow_register place.EdiM e = refl
+  narrow_register x e = refl
 
   -- a register
   pub is_register : (b : Bool) (q : Place) → allows (if b then R else with_both R) (number q) ≡

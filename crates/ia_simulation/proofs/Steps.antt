@@ -173,9 +173,7 @@ ended procs s r e o done is leads =
 
 going_is : (e : Ending) → run_end e ≡ None → e ≡ ending.Going
 going_is ending.Going h = refl
-going_is ending.Ended h = cc
-going_is (ending.Trap k) h = cc
-going_is (ending.Fault k) h = cc
+going_is x h = cc
 
 module _ (procs : List LProc) (data_words : ℕ) (ok : IsLoadable procs data_words) (s : State Cells)
     (r : Ran) (y : Realizes procs s r) (o : s.over ≡ None) where

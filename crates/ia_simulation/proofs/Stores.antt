@@ -84,37 +84,19 @@ IsValue (at.Number n) = Unit {0}
 module _ (p : LProc) (v : ℕ) where
   value_narrow : (q : Place) → allows (R ∪ K) (number_of q) ≡ true →
       IsValue (emitted.operand p v (number_of q))
-  value_narrow place.Eax e = tt
-  value_narrow place.Ecx e = tt
-  value_narrow place.Edx e = tt
-  value_narrow place.Ebx e = tt
-  value_narrow place.Esi e = tt
-  value_narrow place.Edi e = tt
   value_narrow place.Mem e = cc
-  value_narrow place.Const e = tt
   value_narrow place.EaxM e = cc
   value_narrow place.EcxM e = cc
   value_narrow place.EdxM e = cc
   value_narrow place.EbxM e = cc
   value_narrow place.EsiM e = cc
   value_narrow place.EdiM e = cc
+  value_narrow x e = tt
 
   value_wide : (q : Place) → allows (with_both (R ∪ K)) (number_of q) ≡ true →
       IsValue (emitted.operand p v (number_of q))
-  value_wide place.Eax e = tt
-  value_wide place.Ecx e = tt
-  value_wide place.Edx e = tt
-  value_wide place.Ebx e = tt
-  value_wide place.Esi e = tt
-  value_wide place.Edi e = tt
   value_wide place.Mem e = cc
-  value_wide place.Const e = tt
-  value_wide place.EaxM e = tt
-  value_wide place.EcxM e = tt
-  value_wide place.EdxM e = tt
-  value_wide place.EbxM e = tt
-  value_wide place.EsiM e = tt
-  value_wide place.EdiM e = tt
+  value_wide x e = tt
 
   is_value : (b : Bool) (q : Place) → allows (if b then R ∪ K else with_both (R ∪ K))
       (number_of q) ≡ true → IsValue (emitted.operand p v (number_of q))

@@ -126,20 +126,14 @@ any_depth d (e ∷ es) =
 -- a constant that begins before an instruction is made there
 begins_as : (near : Bool) (q : Place) → needs_slot (number q) ≡ false → crossbar near (number Const)
     (number q) ≡ begun true q
-begins_as near Eax e = refl
-begins_as near Ecx e = refl
-begins_as near Edx e = refl
-begins_as near Ebx e = refl
-begins_as near Esi e = refl
-begins_as near Edi e = refl
 begins_as near Mem e = cc
-begins_as near Const e = refl
 begins_as near EaxM e = cc
 begins_as near EcxM e = cc
 begins_as near EdxM e = cc
 begins_as near EbxM e = cc
 begins_as near EsiM e = cc
 begins_as near EdiM e = cc
+begins_as near x e = refl
 
 constant_kind : (kind : VarKind) → changes kind ≡ false → is_constant kind ≡ true
 constant_kind (Param i) e = cc

@@ -34,19 +34,7 @@ six q = bit (in_register 0 q) + bit (in_register 1 q) + bit (in_register 2 q) + 
 
 one_of_six : (q : Place) → bit (has_register (number q)) ≡ six q
 one_of_six Eax = refl
-one_of_six Ecx = refl
-one_of_six Edx = refl
-one_of_six Ebx = refl
-one_of_six Esi = refl
-one_of_six Edi = refl
-one_of_six Mem = refl
-one_of_six Const = refl
-one_of_six EaxM = refl
-one_of_six EcxM = refl
-one_of_six EdxM = refl
-one_of_six EbxM = refl
-one_of_six EsiM = refl
-one_of_six EdiM = refl
+one_of_six x = refl
 
 module _ (g : Edge → Place) where
   abbrev in_ : ℕ → Edge → Bool
@@ -131,20 +119,9 @@ module _ (g : Edge → Place) where
 -- ---- what a pair needs
 
 no_register : (q : Place) → has_register (number q) ≡ false → (number q ≡ 6) ⊎ (number q ≡ 7)
-no_register Eax e = cc
-no_register Ecx e = cc
-no_register Edx e = cc
-no_register Ebx e = cc
-no_register Esi e = cc
-no_register Edi e = cc
 no_register Mem e = inl refl
 no_register Const e = inr refl
-no_register EaxM e = cc
-no_register EcxM e = cc
-no_register EdxM e = cc
-no_register EbxM e = cc
-no_register EsiM e = cc
-no_register EdiM e = cc
+no_register x e = cc
 
 alike : (c : Option ℤ) (p q : ℕ) → (p ≡ 6) ⊎ (p ≡ 7) → (q ≡ 6) ⊎ (q ≡ 7) → suits c p ≡ true →
     suits c q ≡ true → p ≡ q

@@ -22,9 +22,7 @@ marks l rs = filter (λ r. r.memory) (map (settled l) rs)
 
 via_unmarked : (l : Line) (bs : Base) (rest : List Role) → marks l (via bs ++ rest) ≡ marks l rest
 via_unmarked l (base.Global w) rest = refl
-via_unmarked l (base.Frame w) rest = refl
-via_unmarked l (base.Cell w) rest = refl
-via_unmarked l (base.Via v) rest = refl
+via_unmarked l x rest = refl
 
 index_unmarked : (l : Line) (ix : Option VarId) (rest : List Role) → marks l (index ix ++ rest) ≡
     marks l rest
@@ -49,21 +47,6 @@ few_by rs n more e le = subst (λ xs. length (map (λ (r : Role). (r.var, n)) xs
     (sym e) le
 
 pub few_marked : (k : ℕ) (i : VInstr) → length (marked k (operands i)) ≤ 2
-few_marked k (instr.Set v n) = omega arith
-few_marked k (instr.Copy v s) = omega arith
-few_marked k (instr.Add v s) = omega arith
-few_marked k (instr.Sub v s) = omega arith
-few_marked k (instr.And v s) = omega arith
-few_marked k (instr.Or v s) = omega arith
-few_marked k (instr.Xor v s) = omega arith
-few_marked k (instr.Mul v s) = omega arith
-few_marked k (instr.Neg v) = omega arith
-few_marked k (instr.Shift op v n) = omega arith
-few_marked k (instr.Cmp a b) = omega arith
-few_marked k (instr.CmpSet c v a b) = omega arith
-few_marked k (instr.DivMod q r a d) = omega arith
-few_marked k (instr.Check i n) = omega arith
-few_marked k (instr.CheckPos d) = omega arith
 few_marked k (instr.Load v a) = few_by (marks (table (instr.Load v a)) (addressed a)) (2 * k + 1) []
     (addressed_alone (table (instr.Load v a)) a.base a.index) (omega arith)
 few_marked k (instr.Store a s) =
@@ -71,12 +54,7 @@ few_marked k (instr.Store a s) =
     (addressed_unmarked (table (instr.Store a s)) a.base a.index _) (omega arith)
 few_marked k (instr.Addr v a) = few_by (marks (table (instr.Addr v a)) (addressed a)) (2 * k + 1) []
     (addressed_alone (table (instr.Addr v a)) a.base a.index) (omega arith)
-few_marked k (instr.Push s) = omega arith
-few_marked k (instr.Call p) = omega arith
-few_marked k (instr.Read v) = omega arith
-few_marked k (instr.Write s) = omega arith
-few_marked k instr.Line = omega arith
-few_marked k instr.Clear = omega arith
+few_marked k x = omega arith
 
 -- two of two
 pub two_of_two : (xs : List (ℕ × ℕ)) → length xs ≤ 2 → (x y : ℕ × ℕ) → Among x xs → Among y xs →

@@ -237,11 +237,9 @@ module _ (code : VProc) (net : Net) (routes : Routes) (is : IsNet net code)
       (pair_memory b k y.0 y.1 y.2.1)
 
   move_memory : (b k : ℕ) (m : Move) → NamesMemory (pairs_at r b (2 * k + 1)) m → MoveHasMemory p m
-  move_memory b k (move.Copy x y) names = tt
-  move_memory b k (move.Swap x y) names = tt
   move_memory b k (move.Load x v) names = (named b k v names).0
   move_memory b k (move.Store v x) names = (named b k v names).0
-  move_memory b k (move.Set x n) names = tt
+  move_memory b k z names = tt
 
   move_names : (b k : ℕ) (m : Move) → NamesMemory (pairs_at r b (2 * k + 1)) m → (v : ℕ) →
       MoveNames m v → v < length p.vars

@@ -46,8 +46,7 @@ loaded_counted false = record { between = omega arith; loads = refl; stores = re
 
 added : (cell : Cell) → source (pairs_at r 0 3) cell ≡ cell
 added (Register n) = refl
-added (Memory v) = refl
-added (Fixed n) = refl
+added x = refl
 
 turned : (k n : ℕ) (x y : Cell) → (if nat_eq n k then x else y) ≡ (if nat_eq k n then x else y)
 turned k n x y = let e : nat_eq n k ≡ nat_eq k n = grind (arith, nat_tests) in

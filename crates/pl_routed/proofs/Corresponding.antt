@@ -134,14 +134,7 @@ reg_cell p Edx e = lit< tt
 reg_cell p Ebx e = lit< tt
 reg_cell p Esi e = lit< tt
 reg_cell p Edi e = lit< tt
-reg_cell p Mem e = cc
-reg_cell p Const e = cc
-reg_cell p EaxM e = cc
-reg_cell p EcxM e = cc
-reg_cell p EdxM e = cc
-reg_cell p EbxM e = cc
-reg_cell p EsiM e = cc
-reg_cell p EdiM e = cc
+reg_cell p x e = cc
 
 kind_param : (vars : List VarKind) (v i : ℕ) → slice_index_or vars v Plain ≡ Param i →
     slice_get vars v ≡ Some (Param i)

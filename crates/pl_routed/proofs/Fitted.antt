@@ -56,13 +56,6 @@ cell_at q w = if has_register (number q) then Register (register_of (number q)) 
 
 single_cells : (p : LProc) (w : ℕ) (q : Place) → is_single (number q) ≡ true →
     cells p w (number q) ≡ cell_at q w ∷ []
-single_cells p w Eax e = refl
-single_cells p w Ecx e = refl
-single_cells p w Edx e = refl
-single_cells p w Ebx e = refl
-single_cells p w Esi e = refl
-single_cells p w Edi e = refl
-single_cells p w Mem e = refl
 single_cells p w Const e = cc
 single_cells p w EaxM e = cc
 single_cells p w EcxM e = cc
@@ -70,6 +63,7 @@ single_cells p w EdxM e = cc
 single_cells p w EbxM e = cc
 single_cells p w EsiM e = cc
 single_cells p w EdiM e = cc
+single_cells p w x e = refl
 
 single_is : (p : LProc) (w : ℕ) (q : Place) → is_single (number q) ≡ true →
     (needs_slot (number q) ≡ true → IsCell p (Memory w)) → IsCell p (cell_at q w)
@@ -80,13 +74,7 @@ single_is p w Ebx e f = lit< tt
 single_is p w Esi e f = lit< tt
 single_is p w Edi e f = lit< tt
 single_is p w Mem e f = f refl
-single_is p w Const e f = cc
-single_is p w EaxM e f = cc
-single_is p w EcxM e f = cc
-single_is p w EdxM e f = cc
-single_is p w EbxM e f = cc
-single_is p w EsiM e f = cc
-single_is p w EdiM e f = cc
+single_is p w x e f = cc
 
 differ : (a b : ℕ) → (a ≡ b → ⊥) → nat_eq a b ≡ false
 differ a b ne = grind (arith, nat_tests)
@@ -116,8 +104,7 @@ fixed_apart (Constant n) c = (same c, tt)
   where
     same : (c : Cell) → same_cell (Fixed n) c ≡ false
     same (Register r) = refl
-    same (Memory v) = refl
-    same (Fixed m) = refl
+    same x = refl
 
 fixed_kept : (kind : VarKind) (c : ℕ) → Each (λ x. is_destroyed c x ≡ false) (fixed kind)
 fixed_kept (Param i) c = tt

@@ -112,13 +112,6 @@ abbrev Single : ℕ → Type 0
 Single m = (q : Place) → allows m (number q) ≡ true → is_single (number q) ≡ true
 
 single_rm : Single (R ∪ M)
-single_rm Eax e = refl
-single_rm Ecx e = refl
-single_rm Edx e = refl
-single_rm Ebx e = refl
-single_rm Esi e = refl
-single_rm Edi e = refl
-single_rm Mem e = refl
 single_rm Const e = cc
 single_rm EaxM e = cc
 single_rm EcxM e = cc
@@ -126,6 +119,7 @@ single_rm EdxM e = cc
 single_rm EbxM e = cc
 single_rm EsiM e = cc
 single_rm EdiM e = cc
+single_rm x e = refl
 
 single_r : Single R
 single_r Eax e = refl
@@ -134,62 +128,22 @@ single_r Edx e = refl
 single_r Ebx e = refl
 single_r Esi e = refl
 single_r Edi e = refl
-single_r Mem e = cc
-single_r Const e = cc
-single_r EaxM e = cc
-single_r EcxM e = cc
-single_r EdxM e = cc
-single_r EbxM e = cc
-single_r EsiM e = cc
-single_r EdiM e = cc
+single_r x e = cc
 
 single_b : Single B
 single_b Eax e = refl
 single_b Ecx e = refl
 single_b Edx e = refl
 single_b Ebx e = refl
-single_b Esi e = cc
-single_b Edi e = cc
-single_b Mem e = cc
-single_b Const e = cc
-single_b EaxM e = cc
-single_b EcxM e = cc
-single_b EdxM e = cc
-single_b EbxM e = cc
-single_b EsiM e = cc
-single_b EdiM e = cc
+single_b x e = cc
 
 single_eax : Single (only Eax)
 single_eax Eax e = refl
-single_eax Ecx e = cc
-single_eax Edx e = cc
-single_eax Ebx e = cc
-single_eax Esi e = cc
-single_eax Edi e = cc
-single_eax Mem e = cc
-single_eax Const e = cc
-single_eax EaxM e = cc
-single_eax EcxM e = cc
-single_eax EdxM e = cc
-single_eax EbxM e = cc
-single_eax EsiM e = cc
-single_eax EdiM e = cc
+single_eax x e = cc
 
 single_edx : Single (only Edx)
-single_edx Eax e = cc
-single_edx Ecx e = cc
 single_edx Edx e = refl
-single_edx Ebx e = cc
-single_edx Esi e = cc
-single_edx Edi e = cc
-single_edx Mem e = cc
-single_edx Const e = cc
-single_edx EaxM e = cc
-single_edx EcxM e = cc
-single_edx EdxM e = cc
-single_edx EbxM e = cc
-single_edx EsiM e = cc
-single_edx EdiM e = cc
+single_edx x e = cc
 
 -- the place of a written variable is one cell
 abbrev OneCell : Line → ℕ → Type 0
@@ -245,7 +199,6 @@ one_cell (instr.Neg v) w is = one_of (table (instr.Neg v)) w v.0 is
 one_cell (instr.Shift op v n) w is = one_of (table (instr.Shift op v n)) w v.0 is
     (one_in_place (table (instr.Shift op v n)) _ (inl refl)
     (self_written v.0 (table (instr.Shift op v n)) false) single_rm)
-one_cell (instr.Cmp a b) w is = absurd is
 one_cell (instr.CmpSet c v a b) w is = one_of (table (instr.CmpSet c v a b)) w v.0 is
     (one_written (table (instr.CmpSet c v a b)) _ (inl refl) single_b)
 one_cell (instr.DivMod q r a d) w is =
@@ -255,38 +208,19 @@ one_cell (instr.DivMod q r a d) w is =
     (λ (more : (w ≡ r.0) ⊎ Among w []). one_of (table (instr.DivMod q r a d)) w r.0 more
     (one_written (table (instr.DivMod q r a d)) _ (inr (inl refl)) single_edx))
     is
-one_cell (instr.Check i n) w is = absurd is
-one_cell (instr.CheckPos d) w is = absurd is
 one_cell (instr.Load v a) w is = one_of (table (instr.Load v a)) w v.0 is
     (one_written (table (instr.Load v a)) _ (inl refl) single_r)
-one_cell (instr.Store a s) w is = absurd is
 one_cell (instr.Addr v a) w is = one_of (table (instr.Addr v a)) w v.0 is
     (one_written (table (instr.Addr v a)) _ (inl refl) single_r)
-one_cell (instr.Push s) w is = absurd is
-one_cell (instr.Call p) w is = absurd is
 one_cell (instr.Read v) w is = one_of (table (instr.Read v)) w v.0 is
     (one_written (table (instr.Read v)) _ (inl refl) single_eax)
-one_cell (instr.Write s) w is = absurd is
-one_cell instr.Line w is = absurd is
-one_cell instr.Clear w is = absurd is
+one_cell x w is = absurd is
 
 -- ---- masks at a layer
 
 only_mem : (q : Place) → allows (only Mem) (number q) ≡ true → q ≡ Mem
-only_mem Eax e = cc
-only_mem Ecx e = cc
-only_mem Edx e = cc
-only_mem Ebx e = cc
-only_mem Esi e = cc
-only_mem Edi e = cc
 only_mem Mem e = refl
-only_mem Const e = cc
-only_mem EaxM e = cc
-only_mem EcxM e = cc
-only_mem EdxM e = cc
-only_mem EbxM e = cc
-only_mem EsiM e = cc
-only_mem EdiM e = cc
+only_mem x e = cc
 
 -- ---- registers that an instruction destroys
 
@@ -298,117 +232,51 @@ KeptOut c = (q : Place) → allows (others c) (number q) ≡ true → has_regist
     is_destroyed c (Register (register_of (number q))) ≡ false
 
 none_destroyed : KeptOut none
-none_destroyed Eax e h = refl
-none_destroyed Ecx e h = refl
-none_destroyed Edx e h = refl
-none_destroyed Ebx e h = refl
-none_destroyed Esi e h = refl
-none_destroyed Edi e h = refl
 none_destroyed Mem e h = cc
 none_destroyed Const e h = cc
-none_destroyed EaxM e h = refl
-none_destroyed EcxM e h = refl
-none_destroyed EdxM e h = refl
-none_destroyed EbxM e h = refl
-none_destroyed EsiM e h = refl
-none_destroyed EdiM e h = refl
+none_destroyed x e h = refl
 
 call_destroys : KeptOut (only Eax ∪ only Ecx ∪ only Edx)
-call_destroys Eax e h = cc
-call_destroys Ecx e h = cc
-call_destroys Edx e h = cc
 call_destroys Ebx e h = refl
 call_destroys Esi e h = refl
 call_destroys Edi e h = refl
-call_destroys Mem e h = cc
-call_destroys Const e h = cc
-call_destroys EaxM e h = cc
-call_destroys EcxM e h = cc
-call_destroys EdxM e h = cc
 call_destroys EbxM e h = refl
 call_destroys EsiM e h = refl
 call_destroys EdiM e h = refl
+call_destroys x e h = cc
 
 clear_destroys : KeptOut (only Ecx)
-clear_destroys Eax e h = refl
 clear_destroys Ecx e h = cc
-clear_destroys Edx e h = refl
-clear_destroys Ebx e h = refl
-clear_destroys Esi e h = refl
-clear_destroys Edi e h = refl
 clear_destroys Mem e h = cc
 clear_destroys Const e h = cc
-clear_destroys EaxM e h = refl
 clear_destroys EcxM e h = cc
-clear_destroys EdxM e h = refl
-clear_destroys EbxM e h = refl
-clear_destroys EsiM e h = refl
-clear_destroys EdiM e h = refl
+clear_destroys x e h = refl
 
 pub kept_out : (i : VInstr) → KeptOut (table i).clobbers
-kept_out (instr.Set v n) = none_destroyed
-kept_out (instr.Copy v s) = none_destroyed
-kept_out (instr.Add v s) = none_destroyed
-kept_out (instr.Sub v s) = none_destroyed
-kept_out (instr.And v s) = none_destroyed
-kept_out (instr.Or v s) = none_destroyed
-kept_out (instr.Xor v s) = none_destroyed
-kept_out (instr.Mul v s) = none_destroyed
-kept_out (instr.Neg v) = none_destroyed
-kept_out (instr.Shift op v n) = none_destroyed
-kept_out (instr.Cmp a b) = none_destroyed
-kept_out (instr.CmpSet c v a b) = none_destroyed
-kept_out (instr.DivMod q r a d) = none_destroyed
-kept_out (instr.Check i n) = none_destroyed
-kept_out (instr.CheckPos d) = none_destroyed
-kept_out (instr.Load v a) = none_destroyed
-kept_out (instr.Store a s) = none_destroyed
-kept_out (instr.Addr v a) = none_destroyed
-kept_out (instr.Push s) = none_destroyed
 kept_out (instr.Call p) = call_destroys
-kept_out (instr.Read v) = none_destroyed
-kept_out (instr.Write s) = none_destroyed
-kept_out instr.Line = none_destroyed
 kept_out instr.Clear = clear_destroys
+kept_out x = none_destroyed
 
 -- ---- a variable's own places
 
 constant_suits : (n : ℤ) (q : Place) → allows (own_places (Constant n)) (number q) ≡ true →
     suits (Some n) (number q) ≡ true
-constant_suits n Eax e = refl
-constant_suits n Ecx e = refl
-constant_suits n Edx e = refl
-constant_suits n Ebx e = refl
-constant_suits n Esi e = refl
-constant_suits n Edi e = refl
 constant_suits n Mem e = cc
-constant_suits n Const e = refl
 constant_suits n EaxM e = cc
 constant_suits n EcxM e = cc
 constant_suits n EdxM e = cc
 constant_suits n EbxM e = cc
 constant_suits n EsiM e = cc
 constant_suits n EdiM e = cc
+constant_suits n x e = refl
 
 -- the places of a variable that is no Constant
 abbrev changing : ℕ
 changing = R ∪ RM ∪ M
 
 changing_suits : (q : Place) → allows changing (number q) ≡ true → suits None (number q) ≡ true
-changing_suits Eax e = refl
-changing_suits Ecx e = refl
-changing_suits Edx e = refl
-changing_suits Ebx e = refl
-changing_suits Esi e = refl
-changing_suits Edi e = refl
-changing_suits Mem e = refl
 changing_suits Const e = cc
-changing_suits EaxM e = refl
-changing_suits EcxM e = refl
-changing_suits EdxM e = refl
-changing_suits EbxM e = refl
-changing_suits EsiM e = refl
-changing_suits EdiM e = refl
+changing_suits x e = refl
 
 own_suits : (kind : VarKind) (q : Place) → allows (own_places kind) (number q) ≡ true →
     suits (constant kind) (number q) ≡ true

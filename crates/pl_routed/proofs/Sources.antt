@@ -65,38 +65,21 @@ number_among (Constant n) e = inl refl
 pub origin_among : (p : LProc) (v w : ℕ) (c : Option ℤ) (f : Place) → w ≡ v →
     c ≡ constant (kind_of p v) → (f ≡ Const → changes (kind_of p v) ≡ false) →
     Among (origin_at w f c) (cells p v (number f))
-origin_among p v w c Eax e g h = inl refl
-origin_among p v w c Ecx e g h = inl refl
-origin_among p v w c Edx e g h = inl refl
-origin_among p v w c Ebx e g h = inl refl
-origin_among p v w c Esi e g h = inl refl
-origin_among p v w c Edi e g h = inl refl
 origin_among p v w c Mem e g h = inl (ap Memory e)
 origin_among p v w c Const e g h = subst (λ k. Among (Fixed (number_of k)) (fixed (kind_of p v)))
     (sym g) (number_among (kind_of p v) (h refl))
-origin_among p v w c EaxM e g h = inl refl
-origin_among p v w c EcxM e g h = inl refl
-origin_among p v w c EdxM e g h = inl refl
-origin_among p v w c EbxM e g h = inl refl
-origin_among p v w c EsiM e g h = inl refl
-origin_among p v w c EdiM e g h = inl refl
+origin_among p v w c x e g h = inl refl
 
 pub memory_among : (p : LProc) (v : ℕ) (f : Place) → needs_slot (number f) ≡ true →
     Among (Memory v) (cells p v (number f))
-memory_among p v Eax e = cc
-memory_among p v Ecx e = cc
-memory_among p v Edx e = cc
-memory_among p v Ebx e = cc
-memory_among p v Esi e = cc
-memory_among p v Edi e = cc
 memory_among p v Mem e = inl refl
-memory_among p v Const e = cc
 memory_among p v EaxM e = inr (inl refl)
 memory_among p v EcxM e = inr (inl refl)
 memory_among p v EdxM e = inr (inl refl)
 memory_among p v EbxM e = inr (inl refl)
 memory_among p v EsiM e = inr (inl refl)
 memory_among p v EdiM e = inr (inl refl)
+memory_among p v x e = cc
 
 -- ---- the cells of a place, part by part
 
@@ -104,12 +87,6 @@ memory_among p v EdiM e = inr (inl refl)
 pub each_cell : (P : Cell → Type 0) (p : LProc) (v : ℕ) (q : Place) → (q ≡ Const → ⊥) →
     (has_register (number q) ≡ true → P (Register (register_of (number q)))) →
     (needs_slot (number q) ≡ true → P (Memory v)) → Each P (cells p v (number q))
-each_cell P p v Eax ne f g = (f refl, tt)
-each_cell P p v Ecx ne f g = (f refl, tt)
-each_cell P p v Edx ne f g = (f refl, tt)
-each_cell P p v Ebx ne f g = (f refl, tt)
-each_cell P p v Esi ne f g = (f refl, tt)
-each_cell P p v Edi ne f g = (f refl, tt)
 each_cell P p v Mem ne f g = (g refl, tt)
 each_cell P p v Const ne f g = absurd (ne refl)
 each_cell P p v EaxM ne f g = (f refl, (g refl, tt))
@@ -118,6 +95,7 @@ each_cell P p v EdxM ne f g = (f refl, (g refl, tt))
 each_cell P p v EbxM ne f g = (f refl, (g refl, tt))
 each_cell P p v EsiM ne f g = (f refl, (g refl, tt))
 each_cell P p v EdiM ne f g = (f refl, (g refl, tt))
+each_cell P p v x ne f g = (f refl, tt)
 
 some_fixed : (kind : VarKind) → suits (constant kind) 7 ≡ true → fixed kind ≢ []
 some_fixed (Param i) e = cc
@@ -126,36 +104,12 @@ some_fixed (Constant n) e = λ x. cc
 
 pub some_cells : (p : LProc) (v : ℕ) (q : Place) → suits (constant (kind_of p v)) (number q) ≡
     true → cells p v (number q) ≢ []
-some_cells p v Eax e = λ n. cc
-some_cells p v Ecx e = λ n. cc
-some_cells p v Edx e = λ n. cc
-some_cells p v Ebx e = λ n. cc
-some_cells p v Esi e = λ n. cc
-some_cells p v Edi e = λ n. cc
-some_cells p v Mem e = λ n. cc
 some_cells p v Const e = some_fixed (kind_of p v) e
-some_cells p v EaxM e = λ n. cc
-some_cells p v EcxM e = λ n. cc
-some_cells p v EdxM e = λ n. cc
-some_cells p v EbxM e = λ n. cc
-some_cells p v EsiM e = λ n. cc
-some_cells p v EdiM e = λ n. cc
+some_cells p v x e = λ n. cc
 
 pub const_or : (q : Place) → (q ≡ Const) ⊎ (q ≡ Const → ⊥)
-const_or Eax = inr (λ e. cc)
-const_or Ecx = inr (λ e. cc)
-const_or Edx = inr (λ e. cc)
-const_or Ebx = inr (λ e. cc)
-const_or Esi = inr (λ e. cc)
-const_or Edi = inr (λ e. cc)
-const_or Mem = inr (λ e. cc)
 const_or Const = inl refl
-const_or EaxM = inr (λ e. cc)
-const_or EcxM = inr (λ e. cc)
-const_or EdxM = inr (λ e. cc)
-const_or EbxM = inr (λ e. cc)
-const_or EsiM = inr (λ e. cc)
-const_or EdiM = inr (λ e. cc)
+const_or x = inr (λ e. cc)
 
 pub constant_at : (kind : VarKind) → suits (constant kind) 7 ≡ true → changes kind ≡ false
 constant_at (Param i) e = cc
