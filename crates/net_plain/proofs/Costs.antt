@@ -1,6 +1,5 @@
 -- Numbers that may be there, and sums behind a test.
-use Rattle.std.proofs.Common.{◌≡◌, ◌⊎◌, inl, inr, Bool, true, false, ℤ, ◌+ℤ◌, Option, Some}
-use Rattle.std.proofs.Common.{None, refl, sym, subst}
+use Rattle.std.proofs.Common.{◌≡◌, Bool, true, false, ℤ, ◌+ℤ◌, Option, Some, None, refl, sym, ap}
 use Rattle.std.specs.Prelude.{option_map}
 use Rattle.pra_list.proofs.Options.{some_same}
 use Rattle.net_plain.specs.Rows.{plus_if}
@@ -20,20 +19,9 @@ added_some false z o sum is = cc
 
 pub added_is : (b : Bool) (z : ℤ) (o : Option ℤ) (d : ℤ) → b ≡ true → o ≡ Some d
     → plus_if b z o ≡ Some (d +ℤ z)
-added_is true z o d test was =
-    subst (λ o. option_map (λ d. d +ℤ z) o ≡ Some (d +ℤ z)) (sym was) refl
+added_is true z o d test was = ap (option_map (λ d. d +ℤ z)) was
 added_is false z o d test was = cc
-
--- nothing comes of nothing
-pub added_none : (b : Bool) (z : ℤ) (o : Option ℤ) → o ≡ None → plus_if b z o ≡ None
-added_none true z None was = refl
-added_none true z (Some d) was = cc
-added_none false z o was = refl
 
 pub added_shut : (b : Bool) (z : ℤ) (o : Option ℤ) → b ≡ false → plus_if b z o ≡ None
 added_shut true z o test = cc
 added_shut false z o test = refl
-
-pub some_or_none : (o : Option ℤ) → ((z : ℤ) × (o ≡ Some z)) ⊎ (o ≡ None)
-some_or_none (Some z) = inl (z, refl)
-some_or_none None = inr refl

@@ -1,7 +1,7 @@
 -- Rows that are filled from the front.
 use Rattle.std.proofs.Common.{◌≡◌, ℕ, suc, ◌^◌, ◌<◌, ℤ, pos, List, length, get_or, set, replicate}
 use Rattle.std.proofs.Common.{Option}
-use Rattle.std.proofs.Common.{Some, None, refl, get_or-set_same, get_or-set_other, sym, subst, inl}
+use Rattle.std.proofs.Common.{Some, None, refl, get_or-set_same, get_or-set_other, subst, inl}
 use Rattle.std.proofs.Common.{inr, arith}
 use Rattle.std.proofs.lemmas.Bool.{cases_eq, cases_lt}
 use Rattle.std.proofs.lemmas.List.{get_or_past, get_or-replicate}
@@ -27,10 +27,8 @@ pub set_within : (n : ℕ) (row : List (Option ℤ)) (at : ℕ) (x : Option ℤ)
     → AreCostsWithin n row → IsCostWithin n x → AreCostsWithin n (set row at x)
 set_within n row at x lt within here k =
     elim (cases_eq k at) as (λ _. IsCostWithin n (get_or (set row at x) k None)) [
-      | inl is ↦ subst (λ k. IsCostWithin n (get_or (set row at x) k None)) (sym is)
-          (subst (IsCostWithin n) (sym (get_or-set_same row at x None lt)) here)
-      | inr other ↦ subst (IsCostWithin n) (sym (get_or-set_other row at k x None other))
-          (within k)
+      | inl is ↦ rw (is, get_or-set_same row at x None lt) here
+      | inr other ↦ rw (get_or-set_other row at k x None other) (within k)
     ]
 
 -- what is left behind each place, by the places' numbers
@@ -45,10 +43,9 @@ rests_of net built prices range w valid ends taken s lt l rests long each = reco
   each = λ p. subst (λ (q : Place). IsRest net w prices ends taken s l (Some q)
       (cost_at rests (number p))) (place_at-number p) (each (number p) (number_below p));
   within = λ k. elim (cases_lt k 14) as (λ _. IsCostWithin (2 ^ 68) (cost_at rests k)) [
-    | inl below ↦ rest_within net built prices range w valid ends taken s lt l
+    | inl below ↦ rest_within net built s lt prices range w valid ends taken l
         (Some (place_at k)) (cost_at rests k) (each k below)
-    | inr past ↦ subst (IsCostWithin (2 ^ 68))
-        (sym (get_or_past rests k None (omega (arith, long, past)))) tt
+    | inr past ↦ rw (get_or_past rests k None (omega arith)) tt
   ];
 }
 
@@ -60,6 +57,5 @@ pub rests_at_end : (net : Net) (built : IsBuilt net) (prices : Prices)
     → AreRests net w prices ends taken s l (replicate 14 (Some (pos 0)))
 rests_at_end net built prices range w valid ends taken s lt l behind =
     rests_of net built prices range w valid ends taken s lt l (replicate 14 (Some (pos 0))) refl
-    (λ k below. subst (IsRest net w prices ends taken s l (Some (place_at k)))
-    (sym (get_or-replicate 14 k (Some (pos 0)) None below))
+    (λ k below. rw (get_or-replicate 14 k (Some (pos 0)) None below)
     (nothing_more net w prices ends taken s l (Some (place_at k)) behind))

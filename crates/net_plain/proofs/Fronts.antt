@@ -24,24 +24,20 @@ module _ (net : Net) (w : Weights) (prices : Prices) (ends : Ends) (taken : Take
       → IsCostFrom (k + 1) o
       → IsCostFrom k (onward net w prices ends taken s (first + k) (place_before path k) q o)
   one_before k q o lt is cost =
-      let rest : drop k path ≡ q ∷ drop (k + 1) path = drop-cons path k Eax lt
-      ∙ ap (λ r. r ∷ drop (suc k) path) (sym is)
-      ∙ ap (λ n. q ∷ drop n path) (sym (add-one k)) in
       let layer : first + (k + 1) ≡ suc (first + k) = omega arith in
-      let before : place_before path (k + 1) ≡ Some q = after k q is in
-      let left = subst (λ (p : Option Place). IsCostOf net w prices ends taken s (suc (first + k)) p
-      (drop (k + 1) path) o) before
-      (subst (λ (l : ℕ). IsCostOf net w prices ends taken s l (place_before path (k + 1))
-      (drop (k + 1) path) o) layer cost) in
+      let left = subst (λ (l : ℕ). IsCostOf net w prices ends taken s l (place_before path (k + 1))
+      (drop (k + 1) path) o) layer cost in
+      let behind = subst (λ (p : Option Place).
+      IsCostOf net w prices ends taken s (suc (first + k)) p (drop (k + 1) path) o) after left in
       subst (λ (qs : List Place). IsCostOf net w prices ends taken s (first + k)
       (place_before path k) qs
-      (onward net w prices ends taken s (first + k) (place_before path k) q o)) (sym rest)
+      (onward net w prices ends taken s (first + k) (place_before path k) q o))
+      (sym (drop-cons path k Eax lt ∙ (λ i. sym is i ∷ drop (sym (add-one k) i) path)))
       (cost_more net w prices ends taken s (first + k) (place_before path k) q (drop (k + 1) path) o
-      left)
+      behind)
     where
-      after : (k : ℕ) (q : Place) → q ≡ get_or path k Eax → place_before path (k + 1) ≡ Some q
-      after k q is =
-          let some : k + 1 ≡ 0 → ⊥ = λ e. absurd (omega (arith, e)) in
+      after : place_before path (k + 1) ≡ Some q
+      after =
           let number : (k + 1) - 1 ≡ k = omega arith in
-          ap (λ b. cond b None (Some (get_or path ((k + 1) - 1) Eax))) (ne_eqb (k + 1) 0 some)
-          ∙ ap (λ n. Some (get_or path n Eax)) number ∙ ap Some (sym is)
+          (λ i. cond (ne_eqb (k + 1) 0 (λ e. absurd (omega arith)) i) None
+          (Some (get_or path (number i) Eax))) ∙ ap Some (sym is)

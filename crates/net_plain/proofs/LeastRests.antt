@@ -1,6 +1,6 @@
 -- One layer more: the least of all ways to a place and on is the least of what is left.
 use Rattle.std.proofs.Common.{◌≡◌, ℕ, suc, ◌*◌, ◌<◌, ◌≤◌, ℤ, pos, ◌+ℤ◌, ◌≤ℤ◌}
-use Rattle.std.proofs.Common.{List, [], ◌∷◌, Option, Some, None, inl, inr, refl, sym, ap}
+use Rattle.std.proofs.Common.{List, [], ◌∷◌, Option, Some, None, refl, sym, ap}
 use Rattle.std.proofs.Common.{◌∙◌, subst, arith}
 use Rattle.std.proofs.lemmas.Int.{ints}
 use Rattle.std.proofs.lemmas.List.Elements.{All-nil, All-cons, All-head, All-tail}
@@ -15,7 +15,7 @@ use Rattle.net_form.specs.declared.routes.Ends.{Ends}
 use Rattle.net_form.specs.declared.taken.Taken.{Taken}
 use Rattle.net_form.specs.Admitted.{strand_at, stays_across}
 use Rattle.net_form.specs.Cost.{way_cost}
-use Rattle.net_form.specs.Flow.{edges}
+use Rattle.net_form.specs.Flow.{Edge, edges}
 use Rattle.net_form.specs.Tables.{all_tables}
 use Rattle.net_dual.specs.Priced.{edge_price}
 use Rattle.net_dual.specs.Leasts.{IsLeastOf, cost_at}
@@ -23,7 +23,7 @@ use Rattle.net_path.specs.Grounds.{edge, is_free, is_open, there_price}
 use Rattle.net_plain.specs.Rows.{there, coming}
 use Rattle.net_plain.specs.Rests.{MayTake, Passes, rest_price, GoToEnd, IsCostOf, IsLeastRest}
 use Rattle.net_plain.specs.Rests.{IsRest}
-use Rattle.net_plain.proofs.Costs.{added_some, added_is, some_or_none}
+use Rattle.net_plain.proofs.Costs.{added_some, added_is}
 
 module _ (net : Net) (w : Weights) (prices : Prices) (ends : Ends) (taken : Taken) (s : ℕ) where
   -- what an edge pays is what is paid there, and its way
@@ -36,8 +36,11 @@ module _ (net : Net) (w : Weights) (prices : Prices) (ends : Ends) (taken : Take
   abbrev pub onward : ℕ → Option Place → Place → Option ℤ → Option ℤ
   onward l p q o = coming net w s l p q (there net w prices ends taken s l q o)
 
+  abbrev Takes : Edge → Type 0
+  Takes = MayTake net ends taken s
+
   record GoesOn (l : ℕ) (p : Option Place) (q : Place) (o : Option ℤ) (z : ℤ) : Type 0 where
-    takes : MayTake net ends taken s (edge s l p q)
+    takes : Takes (edge s l p q)
     rest : ℤ
     was : o ≡ Some rest
     is : z ≡ edge_price net w prices (edge s l p q) +ℤ rest
@@ -50,25 +53,22 @@ module _ (net : Net) (w : Weights) (prices : Prices) (ends : Ends) (taken : Take
       (there net w prices ends taken s l q o) z is in
       let here = added_some (is_open net ends (is_free net taken) s (edge s l None q))
       (there_price net w prices (edge s l None q)) o come.old come.was in
-      let a = come.is in
-      let b = here.is in
-      let pays = edge_pays l p q in
-      record {
+      let pays = edge_pays l p q in record {
         takes = (here.test, come.test);
         rest = here.old;
         was = here.was;
-        is = omega (arith, ints, a, b, pays);
+        is = omega (arith, ints);
       }
 
   goes : (l : ℕ) (p : Option Place) (q : Place) (o : Option ℤ) (rest : ℤ)
-      → MayTake net ends taken s (edge s l p q) → o ≡ Some rest
+      → Takes (edge s l p q) → o ≡ Some rest
       → onward l p q o ≡ Some (edge_price net w prices (edge s l p q) +ℤ rest)
   goes l p q o rest takes was =
       let here = there_price net w prices (edge s l None q) in
       let way = pos (1024 * way_cost all_tables net w (edge s l p q)) in
       let pays = edge_pays l p q in
       let sum : (rest +ℤ here) +ℤ way ≡ edge_price net w prices (edge s l p q) +ℤ rest
-      = omega (arith, ints, pays) in
+      = omega (arith, ints) in
       added_is (stays_across (edge s l p q)) way (there net w prices ends taken s l q o)
       (rest +ℤ here) takes.1
       (added_is (is_open net ends (is_free net taken) s (edge s l None q)) here o rest takes.0 was)
@@ -76,42 +76,21 @@ module _ (net : Net) (w : Weights) (prices : Prices) (ends : Ends) (taken : Take
 
   -- ---- what places cost
 
-  head_takes : (l : ℕ) (p : Option Place) (q : Place) (qs : List Place)
-      → Passes net ends taken s l p (q ∷ qs) → MayTake net ends taken s (edge s l p q)
-  head_takes l p q qs passes =
-      All-head (MayTake net ends taken s) (edge s l p q) (edges s (suc l) (Some q) qs) passes
-
-  tail_passes : (l : ℕ) (p : Option Place) (q : Place) (qs : List Place)
-      → Passes net ends taken s l p (q ∷ qs) → Passes net ends taken s (suc l) (Some q) qs
-  tail_passes l p q qs passes =
-      All-tail (MayTake net ends taken s) (edge s l p q) (edges s (suc l) (Some q) qs) passes
-
-  both_pass : (l : ℕ) (p : Option Place) (q : Place) (qs : List Place)
-      → MayTake net ends taken s (edge s l p q) → Passes net ends taken s (suc l) (Some q) qs
-      → Passes net ends taken s l p (q ∷ qs)
-  both_pass l p q qs takes passes = All-cons (MayTake net ends taken s) (edge s l p q)
-      (edges s (suc l) (Some q) qs) takes passes
-
   -- a place before them
   pub cost_more : (l : ℕ) (p : Option Place) (q : Place) (qs : List Place) (o : Option ℤ)
       → IsCostOf net w prices ends taken s (suc l) (Some q) qs o
       → IsCostOf net w prices ends taken s l p (q ∷ qs) (onward l p q o)
-  cost_more l p q qs o cost = by (onward l p q o) refl where
-    by : (r : Option ℤ) → onward l p q o ≡ r
-        → IsCostOf net w prices ends taken s l p (q ∷ qs) r
-    by None is = λ passes. elim (some_or_none o) as (λ _. ⊥) [
-      | inl some ↦ not_both (onward l p q o)
-          (edge_price net w prices (edge s l p q) +ℤ some.0) is
-          (goes l p q o some.0 (head_takes l p q qs passes) some.1)
-      | inr none ↦ subst (IsCostOf net w prices ends taken s (suc l) (Some q) qs) none cost
-          (tail_passes l p q qs passes)
-    ]
-    by (Some z) is =
+  cost_more l p q qs o cost = by o (onward l p q o) cost refl where
+    by : (o r : Option ℤ) → IsCostOf net w prices ends taken s (suc l) (Some q) qs o
+        → onward l p q o ≡ r → IsCostOf net w prices ends taken s l p (q ∷ qs) r
+    by None None cost is = λ passes. cost (All-tail Takes _ _ passes)
+    by (Some d) None cost is = λ passes. not_both (onward l p q (Some d)) _ is
+        (goes l p q (Some d) d (All-head Takes _ _ passes) refl)
+    by o (Some z) cost is =
         let g = goes_on l p q o z is in
         let rest = subst (IsCostOf net w prices ends taken s (suc l) (Some q) qs) g.was cost in
-        let a = g.is in
         let b = rest.1 in
-        (both_pass l p q qs g.takes rest.0, omega (arith, ints, a, b))
+        (All-cons Takes _ _ g.takes rest.0, omega (arith, ints))
 
   -- ---- the least
 
@@ -120,15 +99,15 @@ module _ (net : Net) (w : Weights) (prices : Prices) (ends : Ends) (taken : Take
       → IsRest net w prices ends taken s l p (Some (pos 0))
   nothing_more l p behind = record {
     way = [];
-    long = omega (arith, behind);
-    passes = All-nil (MayTake net ends taken s);
+    long = omega arith;
+    passes = All-nil Takes;
     is = refl;
     least = none;
   } where
     none : (qs : List Place) → GoToEnd net s l qs → Passes net ends taken s l p qs
         → pos 0 ≤ℤ rest_price net w prices s l p qs
     none [] long passes = omega (arith, ints)
-    none (q ∷ qs) long passes = absurd (omega (arith, long, behind))
+    none (q ∷ qs) long passes = absurd (omega arith)
 
   module _ (l : ℕ) (p : Option Place) (rests row : List (Option ℤ))
       (last : l ≤ (strand_at net s).last)
@@ -152,9 +131,9 @@ module _ (net : Net) (w : Weights) (prices : Prices) (ends : Ends) (taken : Take
         → IsRest net w prices ends taken s (suc l) (Some q) o
         → (z : ℤ) × (o ≡ Some z) × (z ≤ℤ rest_price net w prices s (suc l) (Some q) qs)
     some_left q qs long passes None none =
-        absurd (none qs (omega (arith, long)) (tail_passes l p q qs passes))
+        absurd (none qs (omega arith) (All-tail Takes _ _ passes))
     some_left q qs long passes (Some z) least =
-        (z, refl, least.least qs (omega (arith, long)) (tail_passes l p q qs passes))
+        (z, refl, least.least qs (omega arith) (All-tail Takes _ _ passes))
 
     -- a path has a way to its first place and on
     some_way : (q : Place) (qs : List Place) → GoToEnd net s l (q ∷ qs)
@@ -164,26 +143,25 @@ module _ (net : Net) (w : Weights) (prices : Prices) (ends : Ends) (taken : Take
         let rest = some_left q qs long passes (cost_at rests (number q)) (left q) in
         let le = rest.2 in (
           edge_price net w prices (edge s l p q) +ℤ rest.0,
-          at_place q
-              ∙ goes l p q (cost_at rests (number q)) rest.0 (head_takes l p q qs passes) rest.1,
-          omega (arith, ints, le),
+          at_place q ∙ goes l p q _ rest.0 (All-head Takes _ _ passes) rest.1,
+          omega (arith, ints),
         )
 
     none_goes : IsLeastOf f 14 None → (qs : List Place) → GoToEnd net s l qs
         → Passes net ends taken s l p qs → ⊥
-    none_goes none [] long passes = absurd (omega (arith, long, last))
+    none_goes none [] long passes = absurd (omega arith)
     none_goes none (q ∷ qs) long passes =
         let way = some_way q qs long passes in
         not_both (f (number q)) way.0 (none (number q) (number_below q)) way.1
 
     no_less : (z : ℤ) → IsLeastOf f 14 (Some z) → (qs : List Place) → GoToEnd net s l qs
         → Passes net ends taken s l p qs → z ≤ℤ rest_price net w prices s l p qs
-    no_less z least [] long passes = absurd (omega (arith, long, last))
+    no_less z least [] long passes = absurd (omega arith)
     no_less z least (q ∷ qs) long passes =
         let way = some_way q qs long passes in
         let le = way.2 in
         let first = least.1 (number q) way.0 (number_below q) way.1 in
-        omega (arith, ints, le, first)
+        omega (arith, ints)
 
     least_is : (z : ℤ) → IsLeastOf f 14 (Some z) → IsLeastRest net w prices ends taken s l p z
     least_is z least =
@@ -195,14 +173,11 @@ module _ (net : Net) (w : Weights) (prices : Prices) (ends : Ends) (taken : Take
         = subst (IsRest net w prices ends taken s (suc l) (Some q)) g.was
         (subst (λ (n : ℕ). IsRest net w prices ends taken s (suc l) (Some q) (cost_at rests n))
         (number-place_at k lt) (left q)) in
-        let long = rest.long in
-        let a = g.is in
-        let b = rest.is in
         record {
           way = q ∷ rest.way;
-          long = omega (arith, long);
-          passes = both_pass l p q rest.way g.takes rest.passes;
-          is = omega (arith, ints, a, b);
+          long = omega arith;
+          passes = All-cons Takes _ (edges s (suc l) (Some q) rest.way) g.takes rest.passes;
+          is = omega (arith, ints);
           least = no_less z least;
         }
 

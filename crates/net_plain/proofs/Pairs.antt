@@ -16,8 +16,7 @@ not_marked true b none a = none
 not_marked false b none a = cc
 
 marked : (a b : Bool) → (a && b) ≡ true → (a ≡ true) × (b ≡ true)
-marked true true both = (refl, refl)
-marked true false both = cc
+marked true b both = (refl, both)
 marked false b both = cc
 
 module _ (net : Net) (taken : Taken) (e : Edge) where
@@ -27,10 +26,8 @@ module _ (net : Net) (taken : Taken) (e : Edge) where
   pub none_in_use : ((k : ℕ) → k < length net.pairs → in_use k ≡ false)
       → pairs_free net taken e ≡ true
   none_in_use none = to_pairs_free net taken e (λ k lt uses.
-      by k (not_marked (uses_memory (pair_at net k) e) (get_or taken.mems k false) (none k lt)
-      uses)) where
-        by : (k : ℕ) → get_or taken.mems k false ≡ false → pair_mark taken.mems k ≡ 0
-        by k is = ap (λ (b : Bool). if b then 1 else 0) is
+      ap (λ (b : Bool). if b then 1 else 0)
+      (not_marked (uses_memory (pair_at net k) e) (get_or taken.mems k false) (none k lt) uses))
 
   pub one_in_use : (k : ℕ) → k < length net.pairs → in_use k ≡ true
       → pairs_free net taken e ≡ false
@@ -38,4 +35,4 @@ module _ (net : Net) (taken : Taken) (e : Edge) where
       let parts = marked (uses_memory (pair_at net k) e) (get_or taken.mems k false) both in
       let none = of_pairs_free net taken e free k lt parts.0 in
       let one : pair_mark taken.mems k ≡ 1 = ap (λ (b : Bool). if b then 1 else 0) parts.1 in
-      absurd (omega (arith, none, one)))
+      absurd (omega arith))

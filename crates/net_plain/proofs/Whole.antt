@@ -15,7 +15,7 @@ use Rattle.net_form.specs.InUse.{UsesNothing}
 use Rattle.net_form.proofs.Layers.{in_layers}
 use Rattle.net_laws.specs.Built.{IsBuilt}
 use Rattle.net_dual.specs.Priced.{most_price, edge_price, AreInRange}
-use Rattle.net_dual.specs.Paths.{MayGo, IsLeastCost, path_edges, path_price}
+use Rattle.net_dual.specs.Paths.{IsPath, MayGo, IsLeastCost, path_edges, path_price}
 use Rattle.net_dual.specs.Small.{IsWithin, most_sum}
 use Rattle.net_dual.specs.Leasts.{IsCostWithin}
 use Rattle.net_dual.proofs.Small.{edge_small, path_is_small}
@@ -29,69 +29,30 @@ most_if : (b : Bool) (n : ℕ) → cond b n 0 ≤ n
 most_if true n = omega arith
 most_if false n = omega arith
 
-module _ (net : Net) (built : IsBuilt net) (prices : Prices) (range : AreInRange net prices)
-    (w : Weights) (valid : IsValid w) where
-  edge_within : (e : Edge) → IsWithin (2 ^ 53) (edge_price net w prices e)
-  edge_within e =
-      let x = most_if (eqb e.layer (strand_at net e.strand).last) (2 * most_price) in
-      let y = most_if (eqb e.layer (strand_at net e.strand).first) (4098 * most_price) in
-      within-more
-      (8 * most_price + (cond (eqb e.layer (strand_at net e.strand).last) (2 * most_price) 0
-      + cond (eqb e.layer (strand_at net e.strand).first) (4098 * most_price) 0))
-      (2 ^ 53) (edge_price net w prices e) (omega (arith, x, y))
-      (edge_small net built prices range w valid e)
+module _ (net : Net) (built : IsBuilt net) (s : ℕ) (lt : s < length net.strands) where
+  order : (strand_at net s).first ≤ (strand_at net s).last
+  order = (built.formed.strands s no_strand lt).order
 
-  edges_within : (s l : ℕ) (p : Option Place) (qs : List Place)
-      → IsWithin (2 ^ 53 * length qs) (rest_price net w prices s l p qs)
-  edges_within s l p [] = within-pos 0 (2 ^ 53 * 0) (omega arith)
-  edges_within s l p (q ∷ qs) = within-more (2 ^ 53 + 2 ^ 53 * length qs)
-      (2 ^ 53 * suc (length qs)) (rest_price net w prices s l p (q ∷ qs)) (omega arith)
-      (within-add (2 ^ 53) (2 ^ 53 * length qs) (edge_price net w prices (edge s l p q))
-      (rest_price net w prices s (suc l) (Some q) qs) (edge_within (edge s l p q))
-      (edges_within s (suc l) (Some q) qs))
+  few : (strand_at net s).last < 24838
+  few = let layers = built.formed.layers in let within = in_layers net built.formed s lt in
+      omega arith
 
-  module _ (ends : Ends) (taken : Taken) (s : ℕ) (lt : s < length net.strands) where
-    few : (strand_at net s).last < 24838
-    few = let layers = built.formed.layers in let within = in_layers net built.formed s lt in
-        omega (arith, within, layers)
+  -- it has a place for each layer where it is as long as the masks
+  pub long_of : (ps : List Place) → length ps ≡ length (strand_at net s).masks
+      → GoToEnd net s (strand_at net s).first ps
+  long_of ps same = let masks = (built.formed.strands s no_strand lt).masks in omega arith
 
-    long_within : (l : ℕ) (p : Option Place) (qs : List Place) → GoToEnd net s l qs
-        → IsWithin (2 ^ 68) (rest_price net w prices s l p qs)
-    long_within l p qs long = let f = few in
-        within-more (2 ^ 53 * length qs) (2 ^ 68)
-        (rest_price net w prices s l p qs) (omega (arith, long, f)) (edges_within s l p qs)
+  pub as_long : (ps : List Place) → GoToEnd net s (strand_at net s).first ps
+      → length ps ≡ length (strand_at net s).masks
+  as_long ps long = let masks = (built.formed.strands s no_strand lt).masks in omega arith
 
-    pub rest_within : (l : ℕ) (p : Option Place) (o : Option ℤ)
-        → IsRest net w prices ends taken s l p o → IsCostWithin (2 ^ 68) o
-    rest_within l p None none = tt
-    rest_within l p (Some z) rest =
-        let is = rest.is in
-        let within = long_within l p rest.way rest.long in
-        let low = within.low in
-        let high = within.high in
-        record { low = omega (arith, ints, is, low); high = omega (arith, ints, is, high) }
-
-    pub cost_within : (l : ℕ) (p : Option Place) (qs : List Place) (o : Option ℤ)
-        → GoToEnd net s l qs → IsCostOf net w prices ends taken s l p qs o → IsCostWithin (2 ^ 68) o
-    cost_within l p qs None long none = tt
-    cost_within l p qs (Some z) long cost =
-        let is = cost.1 in
-        let within = long_within l p qs long in
-        let low = within.low in
-        let high = within.high in
-        record { low = omega (arith, ints, is, low); high = omega (arith, ints, is, high) }
-
-    -- ---- whole paths
-
-    order : (strand_at net s).first ≤ (strand_at net s).last
-    order = (built.formed.strands s no_strand lt).order
-
-    passes_of : (ps : List Place) → MayGo net ends (UsesNothing net taken) s ps
+  module _ (ends : Ends) (taken : Taken) where
+    pub passes_of : (ps : List Place) → MayGo net ends (UsesNothing net taken) s ps
         → Passes net ends taken s (strand_at net s).first None ps
     passes_of ps goes = good_of net ends (is_free net taken) s order ps goes.path goes.has_ends
         (to_free net taken (path_edges net s ps) goes.is_clear)
 
-    goes_of : (ps : List Place) → GoToEnd net s (strand_at net s).first ps
+    pub goes_of : (ps : List Place) → GoToEnd net s (strand_at net s).first ps
         → Passes net ends taken s (strand_at net s).first None ps
         → MayGo net ends (UsesNothing net taken) s ps
     goes_of ps long passes =
@@ -101,66 +62,56 @@ module _ (net : Net) (built : IsBuilt net) (prices : Prices) (range : AreInRange
           is_clear = from_free net taken (path_edges net s ps) all.2;
         }
 
-    pub no_path : IsRest net w prices ends taken s (strand_at net s).first None None
-        → (ps : List Place) → MayGo net ends (UsesNothing net taken) s ps → ⊥
-    no_path none ps goes = none ps goes.path.long (passes_of ps goes)
-
-    pub least_path : (z : ℤ)
+    pub least_path : (w : Weights) (prices : Prices) (z : ℤ)
         → IsRest net w prices ends taken s (strand_at net s).first None (Some z)
         → IsLeastCost net (edge_price net w prices) ends (UsesNothing net taken) s z
-    least_path z rest = record {
+    least_path w prices z rest = record {
       way = rest.way;
       is_least = record {
         goes = goes_of rest.way rest.long rest.passes;
-        least = λ qs goes. let is = rest.is in
-            let le = rest.least qs goes.path.long (passes_of qs goes) in
-            omega (arith, ints, is, le);
+        least = λ qs goes. let le = rest.least qs goes.path.long (passes_of qs goes) in
+            omega (arith, ints);
       };
       is = sym rest.is;
     }
 
-    pub least_small : (z : ℤ)
-        → IsRest net w prices ends taken s (strand_at net s).first None (Some z)
-        → IsWithin most_sum z
-    least_small z rest =
-        let goes = goes_of rest.way rest.long rest.passes in
-        let small = path_is_small net w prices s rest.way built valid range lt goes.path in
-        let is = rest.is in
-        let low = small.low in
-        let high = small.high in
-        record { low = omega (arith, ints, is, low); high = omega (arith, ints, is, high) }
+  module _ (prices : Prices) (range : AreInRange net prices) (w : Weights) (valid : IsValid w) where
+    edge_within : (e : Edge) → IsWithin (2 ^ 53) (edge_price net w prices e)
+    edge_within e = within-more
+        (8 * most_price + (cond (eqb e.layer (strand_at net e.strand).last) (2 * most_price) 0
+        + cond (eqb e.layer (strand_at net e.strand).first) (4098 * most_price) 0))
+        (2 ^ 53) (edge_price net w prices e)
+        (let x = most_if (eqb e.layer (strand_at net e.strand).last) (2 * most_price) in
+        let y = most_if (eqb e.layer (strand_at net e.strand).first) (4098 * most_price) in
+        omega arith)
+        (edge_small net built prices range w valid e)
 
-    -- ---- one path
+    edges_within : (l : ℕ) (p : Option Place) (qs : List Place)
+        → IsWithin (2 ^ 53 * length qs) (rest_price net w prices s l p qs)
+    edges_within l p [] = within-pos 0 (2 ^ 53 * 0) (omega arith)
+    edges_within l p (q ∷ qs) = within-more (2 ^ 53 + 2 ^ 53 * length qs)
+        (2 ^ 53 * suc (length qs)) (rest_price net w prices s l p (q ∷ qs)) (omega arith)
+        (within-add (2 ^ 53) (2 ^ 53 * length qs) (edge_price net w prices (edge s l p q))
+        (rest_price net w prices s (suc l) (Some q) qs) (edge_within (edge s l p q))
+        (edges_within (suc l) (Some q) qs))
 
-    -- it has a place for each layer where it is as long as the masks
-    pub long_of : (ps : List Place) → length ps ≡ length (strand_at net s).masks
-        → GoToEnd net s (strand_at net s).first ps
-    long_of ps same = let masks = (built.formed.strands s no_strand lt).masks in
-        omega (arith, same, masks)
+    long_within : (l : ℕ) (p : Option Place) (qs : List Place) (z : ℤ) → GoToEnd net s l qs
+        → z ≡ rest_price net w prices s l p qs → IsWithin (2 ^ 68) z
+    long_within l p qs z long is = rw is (within-more (2 ^ 53 * length qs) (2 ^ 68)
+        (rest_price net w prices s l p qs) (let f = few in omega arith) (edges_within l p qs))
 
-    pub as_long : (ps : List Place) → GoToEnd net s (strand_at net s).first ps
-        → length ps ≡ length (strand_at net s).masks
-    as_long ps long = let masks = (built.formed.strands s no_strand lt).masks in
-        omega (arith, long, masks)
+    pub rest_within : (ends : Ends) (taken : Taken) (l : ℕ) (p : Option Place) (o : Option ℤ)
+        → IsRest net w prices ends taken s l p o → IsCostWithin (2 ^ 68) o
+    rest_within ends taken l p None none = tt
+    rest_within ends taken l p (Some z) rest = long_within l p rest.way z rest.long rest.is
 
-    pub may_not_go : (ps : List Place)
-        → IsCostOf net w prices ends taken s (strand_at net s).first None ps None
-        → MayGo net ends (UsesNothing net taken) s ps → ⊥
-    may_not_go ps none goes = none (passes_of ps goes)
+    pub cost_within : (ends : Ends) (taken : Taken) (l : ℕ) (p : Option Place) (qs : List Place)
+        (o : Option ℤ)
+        → GoToEnd net s l qs → IsCostOf net w prices ends taken s l p qs o → IsCostWithin (2 ^ 68) o
+    cost_within ends taken l p qs None long none = tt
+    cost_within ends taken l p qs (Some z) long cost = long_within l p qs z long cost.1
 
-    pub price_is : (ps : List Place) (z : ℤ) → GoToEnd net s (strand_at net s).first ps
-        → IsCostOf net w prices ends taken s (strand_at net s).first None ps (Some z)
-        → MayGo net ends (UsesNothing net taken) s ps
-        × (z ≡ path_price net (edge_price net w prices) s ps)
-    price_is ps z long cost = (goes_of ps long cost.0, cost.1)
-
-    pub price_small : (ps : List Place) (z : ℤ) → GoToEnd net s (strand_at net s).first ps
-        → IsCostOf net w prices ends taken s (strand_at net s).first None ps (Some z)
-        → IsWithin most_sum z
-    price_small ps z long cost =
-        let goes = goes_of ps long cost.0 in
-        let small = path_is_small net w prices s ps built valid range lt goes.path in
-        let is = cost.1 in
-        let low = small.low in
-        let high = small.high in
-        record { low = omega (arith, ints, is, low); high = omega (arith, ints, is, high) }
+    -- what a whole path costs
+    pub price_small : (ps : List Place) (z : ℤ) → IsPath net s ps
+        → z ≡ path_price net (edge_price net w prices) s ps → IsWithin most_sum z
+    price_small ps z path is = rw is (path_is_small net w prices s ps built valid range lt path)

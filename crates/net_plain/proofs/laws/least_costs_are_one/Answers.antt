@@ -6,5 +6,4 @@ pub returns : goal.returns
 returns c = λ net w prices ends taken s ps z least cost.
     let no_more = least.least cost.way cost.is_least.goes in
     let no_less = cost.is_least.least ps least.goes in
-    let is = cost.is in
-    omega (arith, ints, no_more, no_less, is)
+    omega (arith, ints)

@@ -13,17 +13,15 @@ loop-layer-init g c =
     let s = c.args.strand in
     let one = c.index.result.now in
     let other = c.index-2.result.now in
-    let read : one ≡ strand_at net s
-    = get_or_read net.strands s one c.requires.strand c.index.ensures no_strand in
-    let again : other ≡ strand_at net s
-    = get_or_read net.strands s other c.requires.strand c.index-2.ensures no_strand in
-    let first : one.first ≡ (strand_at net s).first = ap (λ (t : Strand). t.first) read in
-    let last : other.last ≡ (strand_at net s).last = ap (λ (t : Strand). t.last) again in
+    let first : one.first ≡ (strand_at net s).first = ap (λ (t : Strand). t.first)
+    (get_or_read net.strands s one c.requires.strand c.index.ensures no_strand) in
+    let last : other.last ≡ (strand_at net s).last = ap (λ (t : Strand). t.last)
+    (get_or_read net.strands s other c.requires.strand c.index-2.ensures no_strand) in
     let order = (c.requires.net.formed.strands s no_strand c.requires.strand).order in
     record {
       is_first = first;
-      after = omega (arith, first, last, order);
-      before = omega (arith, last);
+      after = omega arith;
+      before = omega arith;
       rests = rests_at_end net c.requires.net c.args.prices.now c.requires.prices
           (weights_of c.args.model.now) c.requires.kept.valid c.args.ends c.args.taken.now s
           c.requires.strand (suc other.last) (ap suc last);
@@ -33,10 +31,6 @@ pub returns : goal.returns
 returns g c =
     let net = c.args.net.now in
     let s = c.args.strand in
-    let inv = c.loop-layer.invariant in
-    let after = inv.after in
-    let is_first = inv.is_first in
-    let begins : c.loop-layer.layer ≡ (strand_at net s).first
-    = omega (arith, after, is_first, c.loop-layer-test.false) in
+    let begins : c.loop-layer.layer ≡ (strand_at net s).first = omega arith in
     subst (λ (l : ℕ). IsRest net (weights_of c.args.model.now) c.args.prices.now c.args.ends
     c.args.taken.now s l None c.least_at.result) begins c.least_at.ensures

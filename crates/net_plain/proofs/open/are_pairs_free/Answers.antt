@@ -11,8 +11,7 @@ returns-then-is_pair_in_use c =
     let net = c.args.net.now in
     let taken = c.args.taken.now in
     let e = edge c.args.spot.strand c.args.spot.layer None c.args.place in
-    let end = c.len-pair-end.ensures in
-    let lt : c.loop-pair.pair < length net.pairs = omega (arith, end, c.loop-pair-test.true) in
+    let lt : c.loop-pair.pair < length net.pairs = omega arith in
     sym (one_in_use net taken e c.loop-pair.pair lt
     (sym c.is_pair_in_use.ensures ∙ c.if-is_pair_in_use.true))
 
@@ -27,9 +26,6 @@ loop-pair-preserved c =
 
 pub returns : goal.returns
 returns c =
-    let net = c.args.net.now in
-    let taken = c.args.taken.now in
     let e = edge c.args.spot.strand c.args.spot.layer None c.args.place in
-    let end = c.len-pair-end.ensures in
-    sym (none_in_use net taken e
-    (λ k lt. c.loop-pair.invariant k (omega (arith, lt, end, c.loop-pair-test.false))))
+    sym (none_in_use c.args.net.now c.args.taken.now e
+    (λ k lt. c.loop-pair.invariant k (omega arith)))

@@ -6,6 +6,5 @@ use Rattle.net_plain.proofs.row.lesser.Goals as goal
 
 pub returns-then-more-cost : goal.returns-then-more-cost
 returns-then-more-cost c = λ f n least at.
-    let less = c.if-more-cost.true in
     lower_more f n c.in-Some.cost c.in-Some-other.more
-    (subst (IsLeastOf f n) c.in-Some.is least) (at ∙ c.in-Some-other.is) (omega (arith, ints, less))
+    (subst (IsLeastOf f n) c.in-Some.is least) (at ∙ c.in-Some-other.is) (omega (arith, ints))

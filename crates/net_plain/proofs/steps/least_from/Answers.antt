@@ -21,13 +21,7 @@ loop-at-preserved g c =
 
 pub returns : goal.returns
 returns g c =
-    let net = c.args.net.now in
-    let w = weights_of c.args.model.now in
-    let s = c.args.spot.strand in
-    let l = c.args.spot.layer in
-    let p = c.args.from in
-    let row = c.args.row.now in
-    let all : c.loop-at.at ≡ place_count
-    = omega (arith, c.loop-at.auto.at-end, c.loop-at-test.false) in
-    subst (λ n. IsLeastOf (λ k. coming net w s l p (place_at k) (cost_at row k)) n c.loop-at.least)
-    all c.loop-at.invariant
+    let all : c.loop-at.at ≡ place_count = omega arith in
+    subst (λ n. IsLeastOf (λ k. coming c.args.net.now (weights_of c.args.model.now)
+    c.args.spot.strand c.args.spot.layer c.args.from (place_at k) (cost_at c.args.row.now k)) n
+    c.loop-at.least) all c.loop-at.invariant

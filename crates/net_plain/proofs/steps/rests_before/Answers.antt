@@ -19,8 +19,7 @@ loop-at-preserved g c =
     let at = c.loop-at.at in
     let before = c.loop-at.before in
     let inv = c.loop-at.invariant in
-    let long = inv.long in
-    let lt : at < length before = omega (arith, long, c.loop-at-test.true) in
+    let lt : at < length before = omega arith in
     let row = c.row_of-row.ensures in
     let rest = rest_more net w prices ends taken s l (Some c.place_at.result) c.args.rests.now
     c.row_of-row.result c.requires.spot.before c.requires.rests.each row.each c.least_from.result
@@ -38,4 +37,4 @@ returns g c =
     rests_of c.args.net.now c.requires.net c.args.prices.now c.requires.prices
     (weights_of c.args.model.now) c.requires.kept.valid c.args.ends c.args.taken.now
     c.args.spot.strand c.requires.spot.strand c.args.spot.layer c.loop-at.before inv.long
-    (λ k lt. inv.each k (omega (arith, lt, c.loop-at-test.false)))
+    (λ k lt. inv.each k (omega arith))

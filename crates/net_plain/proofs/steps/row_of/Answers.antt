@@ -20,8 +20,7 @@ loop-at-preserved g c =
     let at = c.loop-at.at in
     let row = c.loop-at.row in
     let inv = c.loop-at.invariant in
-    let long = inv.long in
-    let lt : at < length row = omega (arith, long, c.loop-at-test.true) in record {
+    let lt : at < length row = omega arith in record {
       long = length-set row at c.there.result ∙ inv.long;
       each = stored
           (λ k o. o ≡ there net w prices ends taken s l (place_at k) (cost_at rests k)) row at

@@ -11,30 +11,14 @@ use Rattle.net_plain.proofs.toll.exit_numbers.Goals as goal
 pub loop-tie-preserved : goal.loop-tie-preserved
 loop-tie-preserved c =
     let net = c.args.net.now in
-    let prices = c.args.prices.now in
     let e = edge c.args.spot.strand c.args.spot.layer None c.args.place in
-    let k = c.loop-tie.tie in
-    let end = c.len-tie-end.ensures in
-    let lt : k < length net.ties = omega (arith, end, c.loop-tie-test.true) in
+    let lt : c.loop-tie.tie < length net.ties = omega arith in
     let more = sum_more (λ (t : ℕ × Tie). pay (exits net t.1 e)
-    (tie_price prices t.0 c.args.place)) net.ties k no_tie lt in
-    let one = c.exit_number.ensures.value in
-    let within = c.exit_number.ensures.small in
-    let low = within.low in
-    let high = within.high in
-    let from = c.from.ensures in
-    let sum = c.add-total.ensures in
-    let exact = to_z-of_z w128 c.add-total.result (record { sfits = c.add-total.type_inv }) in
-    let exact_one = to_z-of_z w64 c.exit_number.result
-    (record { sfits = c.exit_number.type_inv }) in
-    let exact_from = to_z-of_z w128 c.from.result (record { sfits = c.from.type_inv }) in
-    let old = c.loop-tie.invariant.total in
-    let was_low = c.loop-tie.invariant.small.low in
-    let was_high = c.loop-tie.invariant.small.high in
+    (tie_price c.args.prices.now t.0 c.args.place)) net.ties c.loop-tie.tie no_tie lt in
+    let sum = to_z-of_z w128 c.add-total.result (record { sfits = c.add-total.type_inv }) in
+    let one = to_z-of_z w64 c.exit_number.result (record { sfits = c.exit_number.type_inv }) in
+    let from = to_z-of_z w128 c.from.result (record { sfits = c.from.type_inv }) in
     record {
-      total = omega (arith, ints, more, one, from, sum, exact, exact_one, exact_from, old);
-      small = record {
-        low = omega (arith, ints, from, sum, exact, exact_one, exact_from, low, was_low);
-        high = omega (arith, ints, from, sum, exact, exact_one, exact_from, high, was_high);
-      };
+      total = omega (arith, ints);
+      small = record { low = omega (arith, ints); high = omega (arith, ints) };
     }
