@@ -16,41 +16,27 @@ use Rattle.ob_read.specs.declared.fault.LimitFault.TheVariants.{Count, Depth}
 use Rattle.ob_read.specs.declared.fault.ReadFault.{ReadFault}
 use Rattle.ob_read.specs.declared.fault.ReadFault.TheVariants.{Source, Limit}
 use Rattle.ob_read.specs.Ladder.{Stops}
-use Rattle.ob_read.specs.Source.{Scanned, HasTokens, HasNoTokens, AreFew, AreOver, HasTree}
+use Rattle.ob_read.specs.Source.{Scanned, HasTokens, HasNoTokens, AreFew, AreOver}
 use Rattle.ob_read.specs.Source.{HasNoTree, HasReading, BreaksRule, HasTooMuch, IsUnparsed}
-use Rattle.ob_read.specs.Source.{IsUnreadable}
+use Rattle.ob_read.specs.Source.{IsUnreadable, IsShort, IsTooLong}
+use Rattle.ob_read.proofs.Rungs.{by_way}
 
 -- a source with too many tokens has no tree
 pub too_many : (bytes : List ℕ) (count : ℕ) → AreTooMany bytes count →
     IsUnparsed bytes (Limit (Count limit.Tokens count))
-too_many bytes count many = inr (record {
-  between = bytes;
-  below = (many.short, refl);
-  above = inr (record {
-    between = record { bytes = bytes; tokens = many.tokens };
-    below = (many.scanned, refl);
-    above = inl (
+too_many bytes count many = inr (by_way bytes (many.short, refl) (inr (by_way
+    (record { bytes = bytes; tokens = many.tokens }) (many.scanned, refl)
+    (inl (
       subst (λ (n : ℕ). most_tokens < n) many.count_is many.over,
       ap (λ n. Limit (Count limit.Tokens n)) many.count_is,
-    );
-  });
-})
+    )))))
 
 behind_tokens : (bytes : List ℕ) (tokens : List Token) (f : ReadFault) → IsScanned bytes tokens →
     HasNoTree (record { bytes = bytes; tokens = tokens }) f → IsUnparsed bytes f
-behind_tokens bytes tokens f s none = inr (record {
-  between = bytes;
-  below = (s.short, refl);
-  above = inr (record {
-    between = record { bytes = bytes; tokens = tokens };
-    below = (s.scanned, refl);
-    above = inr (record {
-      between = record { bytes = bytes; tokens = tokens };
-      below = (s.few, refl);
-      above = none;
-    });
-  });
-})
+behind_tokens bytes tokens f s none =
+    let scanned : Scanned = record { bytes = bytes; tokens = tokens } in
+    inr (by_way bytes (s.short, refl) (inr (by_way scanned (s.scanned, refl)
+    (inr (by_way scanned (s.few, refl) none)))))
 
 -- tokens that stop have none
 pub stopped : (bytes : List ℕ) (tokens : List Token) (k at : ℕ) → IsScanned bytes tokens →
@@ -71,23 +57,12 @@ behind_tree : (bytes : List ℕ) (tokens : List Token) (tree : Module) (f : Read
     Stops BreaksRule HasReading HasTooMuch
     (record { bytes = bytes; tokens = tokens; tree = tree }) f →
     IsUnreadable bytes f
-behind_tree bytes tokens tree f p stops = inr (record {
-  between = bytes;
-  below = (p.scanned.short, refl);
-  above = inr (record {
-    between = record { bytes = bytes; tokens = tokens };
-    below = (p.scanned.scanned, refl);
-    above = inr (record {
-      between = record { bytes = bytes; tokens = tokens };
-      below = (p.scanned.few, refl);
-      above = inr (record {
-        between = record { bytes = bytes; tokens = tokens; tree = tree };
-        below = (p.parsed, refl, refl);
-        above = stops;
-      });
-    });
-  });
-})
+behind_tree bytes tokens tree f p stops =
+    let scanned : Scanned = record { bytes = bytes; tokens = tokens } in
+    inr (by_way bytes (p.scanned.short, refl) (inr (by_way scanned (p.scanned.scanned, refl)
+    (inr (by_way scanned (p.scanned.few, refl)
+    (inr (by_way (record { bytes = bytes; tokens = tokens; tree = tree }) (p.parsed, refl, refl)
+    stops)))))))
 
 -- a module that breaks a rule is unreadable
 pub broken : (bytes : List ℕ) (tokens : List Token) (tree : Module) (rule token at : ℕ) →
@@ -107,42 +82,28 @@ pub beyond : (bytes : List ℕ) (tokens : List Token) (tree : Module) (kind : Li
     IsParsed bytes tokens tree → IsBeyond bytes tokens tree kind n →
     IsUnreadable bytes (Limit (Count kind n))
 beyond bytes tokens tree kind n p b =
-    behind_tree bytes tokens tree (Limit (Count kind n)) p (inr (record {
-      between = record {
-        text = record { bytes = bytes; tokens = tokens; tree = tree };
-        reading = b.reading;
-      };
-      below = (b.well_formed, refl);
-      above = record { kind = kind; count = n; excess = b.excess; told = refl };
-    }))
+    behind_tree bytes tokens tree (Limit (Count kind n)) p (inr (by_way (record {
+      text = record { bytes = bytes; tokens = tokens; tree = tree };
+      reading = b.reading;
+    }) (b.well_formed, refl)
+    (record { kind = kind; count = n; excess = b.excess; told = refl })))
 
 -- ---- what has no tree is unreadable
 
-few_unread : (t : Scanned) (f : ReadFault) → Stops AreOver AreFew HasNoTree t f →
-    Stops AreOver AreFew (Stops HasNoTree HasTree (Stops BreaksRule HasReading HasTooMuch)) t f
-few_unread t f (inl s) = inl s
-few_unread t f (inr s) =
-    inr (record { between = s.between; below = s.below; above = inl s.above })
-
-tokens_unread : (bytes : List ℕ) (f : ReadFault) →
-    Stops HasNoTokens HasTokens (Stops AreOver AreFew HasNoTree) bytes f →
-    Stops HasNoTokens HasTokens (Stops AreOver AreFew
-    (Stops HasNoTree HasTree (Stops BreaksRule HasReading HasTooMuch))) bytes f
-tokens_unread bytes f (inl s) = inl s
-tokens_unread bytes f (inr s) =
-    inr (record { between = s.between; below = s.below; above = few_unread s.between f s.above })
+further : {A B F : Type 0} (Stop : A → F → Type 0) (Climb : A → B → Type 0)
+    (Above Other : B → F → Type 0) (f : F) → ((b : B) → Above b f → Other b f) → (a : A) →
+    Stops Stop Climb Above a f → Stops Stop Climb Other a f
+further Stop Climb Above Other f more a (inl s) = inl s
+further Stop Climb Above Other f more a (inr s) =
+    inr (record { between = s.between; below = s.below; above = more s.between s.above })
 
 pub unread : (bytes : List ℕ) (f : ReadFault) → IsUnparsed bytes f → IsUnreadable bytes f
-unread bytes f (inl s) = inl s
-unread bytes f (inr s) =
-    inr (record { between = s.between; below = s.below; above = tokens_unread s.between f s.above })
+unread bytes f = further IsTooLong IsShort _ _ f (further HasNoTokens HasTokens _ _ f
+    (further AreOver AreFew _ _ f (λ b s. inl s))) bytes
 
 -- ---- without a token list
 
 pub faulty : (bytes : List ℕ) (fault : Fault) (at : ℕ) → length bytes ≤ most_bytes →
     FirstFault bytes fault at → IsUnreadable bytes (Source (Lex (fault_at fault at)))
-faulty bytes fault at short first = inr (record {
-  between = bytes;
-  below = (short, refl);
-  above = inl (record { fault = fault; at = at; first = first; told = refl });
-})
+faulty bytes fault at short first = inr (by_way bytes (short, refl)
+    (inl (record { fault = fault; at = at; first = first; told = refl })))

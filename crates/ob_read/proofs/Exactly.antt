@@ -7,7 +7,7 @@ use Rattle.ob_syntax.specs.declared.tree.Module.{Module}
 use Rattle.ob_syntax.specs.Source.{IsParsed}
 use Rattle.ob_check.specs.Checking.{IsChecked}
 use Rattle.ob_read.specs.declared.fault.ReadFault.{ReadFault}
-use Rattle.ob_read.specs.declared.fault.ReadFault.TheVariants.{Source, Limit, OutOfMemory}
+use Rattle.ob_read.specs.declared.fault.ReadFault.TheVariants.{OutOfMemory}
 use Rattle.ob_read.specs.declared.reader.Parsed.{Parsed}
 use Rattle.ob_read.specs.Ladder.{IsRung}
 use Rattle.ob_read.specs.Source.{ParsedText, HasText, ReadText, IsRead, IsUnparsed, IsUnreadable}
@@ -18,11 +18,8 @@ module _ {A B : Type 0} (Climb : A → B → Type 0) (Stop : A → ReadFault →
     (rung : IsRung Climb Stop) (a : A) where
   only_memory : (b : B) (f : ReadFault) → Climb a b → (f ≢ OutOfMemory → Stop a f)
       → f ≡ OutOfMemory
-  only_memory b (Source x) climbs h =
-      absurd (rung.never_both a b (Source x) climbs (h (λ e. cc e)))
-  only_memory b (Limit x) climbs h =
-      absurd (rung.never_both a b (Limit x) climbs (h (λ e. cc e)))
   only_memory b OutOfMemory climbs h = refl
+  only_memory b f climbs h = absurd (rung.never_both a b f climbs (h (λ e. cc e)))
 
   pub ok_where : {T : Type 0} (r : Result T ReadFault)
       → IfErr r (λ f. f ≢ OutOfMemory → Stop a f) → (b : B) → Climb a b
@@ -32,11 +29,9 @@ module _ {A B : Type 0} (Climb : A → B → Type 0) (Stop : A → ReadFault →
 
   this_or_memory : {T : Type 0} (f g : ReadFault) → Stop a f → (g ≢ OutOfMemory → Stop a g)
       → IsErrUnlessMemory {T = T} (Err g) f
-  this_or_memory f (Source x) stops h =
-      inl (ap (λ y. Err y) (rung.one_fault a (Source x) f (h (λ e. cc e)) stops))
-  this_or_memory f (Limit x) stops h =
-      inl (ap (λ y. Err y) (rung.one_fault a (Limit x) f (h (λ e. cc e)) stops))
   this_or_memory f OutOfMemory stops h = inr refl
+  this_or_memory f g stops h =
+      inl (ap (λ y. Err y) (rung.one_fault a g f (h (λ e. cc e)) stops))
 
   pub fault_where : {T : Type 0} (r : Result T ReadFault) → IfOk r (λ x. (b : B) × Climb a b)
       → IfErr r (λ f. f ≢ OutOfMemory → Stop a f) → (f : ReadFault) → Stop a f

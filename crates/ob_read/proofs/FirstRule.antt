@@ -14,11 +14,12 @@ use Rattle.ob_first.proofs.OneIsTold.{one_told}
 use Rattle.ob_read.specs.declared.fault.SourceFault.TheVariants.{Rule}
 use Rattle.ob_read.specs.declared.fault.ReadFault.TheVariants.{Source}
 use Rattle.ob_read.specs.Ladder.{Stops}
-use Rattle.ob_read.specs.Source.{Scanned, ParsedText, HasTokens, HasNoTokens, AreFew, AreOver}
+use Rattle.ob_read.specs.Source.{Scanned, ParsedText, HasTokens, AreFew}
 use Rattle.ob_read.specs.Source.{HasTree, HasNoTree, HasReading, BreaksRule, HasTooMuch}
 use Rattle.ob_read.specs.Source.{IsUnreadable}
 use Rattle.ob_read.specs.FirstRule.{BreaksFirst}
 use Rattle.ob_read.proofs.Causes.{broken}
+use Rattle.ob_read.proofs.Rungs.{passed}
 
 derives : (bytes : List ℕ) (tokens : List Token) (tree : Module) → IsParsed bytes tokens tree →
     Derives grammar.Module (kinds tokens) tree
@@ -50,8 +51,7 @@ of_break bytes t rule token at same p b =
       tree = t.tree;
       parsed = p;
       first = (told rule token).0 there;
-      at_is = parts.2 ∙ ap (λ bs. byte_of bs t.tokens b.token) same
-          ∙ ap (byte_of bytes t.tokens) (sym parts.1);
+      at_is = parts.2 ∙ (λ i. byte_of (same i) t.tokens (sym parts.1 i));
     }
 
 parsed_of : (bytes b : List ℕ) (s u : Scanned) (t : ParsedText) → length bytes ≤ most_bytes →
@@ -73,36 +73,24 @@ parsed_of bytes b s u t short same has few tree =
 
 pub told_is_first : (bytes : List ℕ) (rule token at : ℕ) →
     IsUnreadable bytes (Source (Rule rule token at)) → BreaksFirst bytes rule token at
-told_is_first bytes rule token at (inl s) = absurd (let e = s.1 in cc)
-told_is_first bytes rule token at (inr s) = behind s.above
+told_is_first bytes rule token at stops =
+    let size = passed stops (λ s. let e = s.1 in cc) in
+    let scan = passed size.above (λ s. let e = s.told in cc) in
+    let count = passed scan.above (λ s. let e = s.1 in cc) in
+    let tree = passed count.above no_tree in
+    let p = parsed_of bytes size.between scan.between count.between tree.between size.below.0
+    size.below.1 scan.below count.below tree.below in
+    by tree.between p.0 p.1 tree.above
   where
-    behind_tree : (w : Scanned) (u : Scanned) → HasTokens s.between w → AreFew w u →
-        (t : ParsedText) → HasTree u t →
+    no_tree : {u : Scanned} → HasNoTree u (Source (Rule rule token at)) → ⊥
+    no_tree (inl x) = let e = x.told in cc
+    no_tree (inr x) = let e = x.told in cc
+
+    by : (t : ParsedText) → t.bytes ≡ bytes → IsParsed bytes t.tokens t.tree →
         Stops BreaksRule HasReading HasTooMuch t (Source (Rule rule token at)) →
         BreaksFirst bytes rule token at
-    behind_tree w u has few t tree (inl b) =
-        let p = parsed_of bytes s.between w u t s.below.0 s.below.1 has few tree in
-        of_break bytes t rule token at p.0 p.1 b
-    behind_tree w u has few t tree (inr x) = absurd (let e = x.above.told in cc)
-
-    behind_count : (w : Scanned) (u : Scanned) → HasTokens s.between w → AreFew w u →
-        Stops HasNoTree HasTree (Stops BreaksRule HasReading HasTooMuch) u
-        (Source (Rule rule token at)) → BreaksFirst bytes rule token at
-    behind_count w u has few (inl (inl x)) = absurd (let e = x.told in cc)
-    behind_count w u has few (inl (inr x)) = absurd (let e = x.told in cc)
-    behind_count w u has few (inr x) = behind_tree w u has few x.between x.below x.above
-
-    behind_tokens : (w : Scanned) → HasTokens s.between w →
-        Stops AreOver AreFew (Stops HasNoTree HasTree (Stops BreaksRule HasReading HasTooMuch)) w
-        (Source (Rule rule token at)) → BreaksFirst bytes rule token at
-    behind_tokens w has (inl x) = absurd (let e = x.1 in cc)
-    behind_tokens w has (inr x) = behind_count w x.between has x.below x.above
-
-    behind : Stops HasNoTokens HasTokens (Stops AreOver AreFew
-        (Stops HasNoTree HasTree (Stops BreaksRule HasReading HasTooMuch))) s.between
-        (Source (Rule rule token at)) → BreaksFirst bytes rule token at
-    behind (inl x) = absurd (let e = x.told in cc)
-    behind (inr x) = behind_tokens x.between x.below x.above
+    by t same p (inl b) = of_break bytes t rule token at same p b
+    by t same p (inr x) = absurd (let e = x.above.told in cc)
 
 pub rule_is_told : (bytes : List ℕ) (rule token at : ℕ) →
     BreaksFirst bytes rule token at → IsUnreadable bytes (Source (Rule rule token at))

@@ -1,6 +1,6 @@
 -- Where tokens stop is one place, and none where they are a module.
 use Rattle.std.proofs.Common.{◌≡◌, ℕ, ◌+◌, ◌<◌, ◌≤◌, List, ◌++◌, length, take, drop, ⊎_elim, sym}
-use Rattle.std.proofs.Common.{ap, ◌∙◌, subst, arith, append_assoc}
+use Rattle.std.proofs.Common.{◌∙◌, subst, arith, append_assoc}
 use Rattle.std.proofs.lemmas.List.{take-append-drop, take-append-le, length-take-le}
 use Rattle.std.proofs.lemmas.Bool.{cases_order}
 use Rattle.std.proofs.Math.Nat.{eq-or-lt_of_le}
@@ -12,13 +12,12 @@ front_less : (room i j : ℕ) (ks : List Kind) → i ≤ j → j ≤ length ks �
     IsFront room (take j ks) → IsFront room (take i ks)
 front_less room i j ks less within (more, whole) =
     let long : i ≤ length (take j ks) = omega (arith, length-take-le j ks within, less) in
-    let same : take i ks ≡ take i (take j ks) =
-    sym (ap (λ us. take i us) (take-append-drop j ks)) ∙
+    let same : take i ks ≡ take i (take j ks) = (λ k. take i (sym (take-append-drop j ks) k)) ∙
     take-append-le i (take j ks) (drop j ks) long in
     let all : take i ks ++ (drop i (take j ks) ++ more) ≡ take j ks ++ more =
-    ap (λ us. us ++ (drop i (take j ks) ++ more)) same ∙
+    (λ k. same k ++ (drop i (take j ks) ++ more)) ∙
     sym (append_assoc (take i (take j ks)) (drop i (take j ks)) more) ∙
-    ap (λ us. us ++ more) (take-append-drop i (take j ks)) in
+    (λ k. take-append-drop i (take j ks) k ++ more) in
     (drop i (take j ks) ++ more, subst (IsModule room) (sym all) whole)
 
 front_whole : (room i : ℕ) (ks : List Kind) → IsModule room ks → IsFront room (take i ks)
@@ -44,6 +43,5 @@ no_place room k ks whole p =
 -- tokens that stop do not nest too deep
 pub stops_or_deepens : (ks : List Kind) (k l : ℕ) → StopsAt ks k → DeepensAt ks l → ⊥
 stops_or_deepens ks k l s d =
-    let same : l ≡ k = one_place most_nesting l k ks d.place s.place in
-    let e : DeepensAt ks k = subst (DeepensAt ks) same d in
+    let e = subst (DeepensAt ks) (one_place most_nesting l k ks d.place s.place) d in
     s.none e.deeper.0 e.within e.deeper.1

@@ -15,12 +15,12 @@ use Rattle.ob_read.specs.declared.fault.SourceFault.TheVariants.{Lex, Grammar, R
 use Rattle.ob_read.specs.declared.fault.LimitFault.TheVariants.{Count, Depth}
 use Rattle.ob_read.specs.declared.fault.ReadFault.{ReadFault}
 use Rattle.ob_read.specs.declared.fault.ReadFault.TheVariants.{Source, Limit, OutOfMemory}
-use Rattle.ob_read.specs.Ladder.{Then, Stops, IsRung}
+use Rattle.ob_read.specs.Ladder.{Then, IsRung}
 use Rattle.ob_read.specs.Source.{IsShort, IsTooLong, Scanned, HasTokens, HasNoTokens, AreFew}
 use Rattle.ob_read.specs.Source.{AreOver, ParsedText, HasTree, HasNoModule, IsTooDeep, HasNoTree}
 use Rattle.ob_read.specs.Source.{WellFormedText, HasReading, BreaksRule, ReadText, StandsFor}
 use Rattle.ob_read.specs.Source.{HasTooMuch, HasText, IsRead, IsUnparsed, IsUnreadable}
-use Rattle.ob_read.proofs.Rungs.{over, narrowed}
+use Rattle.ob_read.proofs.Rungs.{over, narrowed, passed, by_way}
 use Rattle.ob_read.proofs.Fronts.{one_place, no_place, stops_or_deepens}
 
 size : IsRung IsShort IsTooLong
@@ -31,15 +31,12 @@ size = record {
 }
 
 same_scanned : (s t : Scanned) → s.bytes ≡ t.bytes → s.tokens ≡ t.tokens → s ≡ t
-same_scanned s t bytes tokens =
-    ap (λ b. record { bytes = b; tokens = s.tokens }) bytes ∙
-    ap (λ l. record { bytes = t.bytes; tokens = l }) tokens
+same_scanned s t bytes tokens = λ i. record { bytes = bytes i; tokens = tokens i }
 
 no_tokens : (bytes : List ℕ) (f g : ReadFault) → HasNoTokens bytes f → HasNoTokens bytes g → f ≡ g
 no_tokens bytes f g s t =
     let one = one_first_fault bytes s.fault t.fault s.at t.at s.first t.first in
-    s.told ∙ ap (λ fault. Source (Lex (fault_at fault s.at))) one.0 ∙
-    ap (λ at. Source (Lex (fault_at t.fault at))) one.1 ∙ sym t.told
+    s.told ∙ (λ i. Source (Lex (fault_at (one.0 i) (one.1 i)))) ∙ sym t.told
 
 tokens : IsRung HasTokens HasNoTokens
 tokens = record {
@@ -57,17 +54,14 @@ count = record {
 
 same_text : (s t : ParsedText) → s.bytes ≡ t.bytes → s.tokens ≡ t.tokens → s.tree ≡ t.tree → s ≡ t
 same_text s t bytes tokens tree =
-    ap (λ b. record { bytes = b; tokens = s.tokens; tree = s.tree }) bytes ∙
-    ap (λ l. record { bytes = t.bytes; tokens = l; tree = s.tree }) tokens ∙
-    ap (λ u. record { bytes = t.bytes; tokens = t.tokens; tree = u }) tree
+    λ i. record { bytes = bytes i; tokens = tokens i; tree = tree i }
 
 one_text : (a : Scanned) (b c : ParsedText) → HasTree a b → HasTree a c → b ≡ c
 one_text a b c s t =
     let p = s.0 in
     let q = t.0 in
-    let tree : b.tree ≡ c.tree =
-    one_tree Module (kinds a.tokens) b.tree c.tree (p.0, p.1, p.3) (q.0, q.1, q.3) in
-    same_text b c (s.1 ∙ sym t.1) (s.2 ∙ sym t.2) tree
+    same_text b c (s.1 ∙ sym t.1) (s.2 ∙ sym t.2)
+    (one_tree Module (kinds a.tokens) b.tree c.tree (p.0, p.1, p.3) (q.0, q.1, q.3))
 
 no_module : (a : Scanned) (f g : ReadFault) → HasNoModule a f → HasNoModule a g → f ≡ g
 no_module a f g s t =
@@ -99,19 +93,17 @@ tree : IsRung HasTree HasNoTree
 tree = record { one_way = one_text; one_fault = no_tree; never_both = tree_or_none }
 
 same_well_formed : (s t : WellFormedText) → s.text ≡ t.text → s.reading ≡ t.reading → s ≡ t
-same_well_formed s t text reading =
-    ap (λ u. record { text = u; reading = s.reading }) text ∙
-    ap (λ r. record { text = t.text; reading = r }) reading
+same_well_formed s t text reading = λ i. record { text = text i; reading = reading i }
 
 -- what a phrase is read as is one thing, or its first broken rule is one
 same_right : {A : Type 0} (x : Judged A) (a b : A) → x ≡ Ok a → x ≡ Ok b → a ≡ b
-same_right x a b s t = let e = sym s ∙ t in cc
+same_right x a b s t = cc
 
 same_wrong : {A : Type 0} (x : Judged A) (a b : Broken) → x ≡ Err a → x ≡ Err b → a ≡ b
-same_wrong x a b s t = let e = sym s ∙ t in cc
+same_wrong x a b s t = cc
 
 right_or_wrong : {A : Type 0} (x : Judged A) (a : A) (b : Broken) → x ≡ Ok a → x ≡ Err b → ⊥
-right_or_wrong x a b s t = let e = sym s ∙ t in cc
+right_or_wrong x a b s t = cc
 
 one_rule : (t : ParsedText) (f g : ReadFault) → BreaksRule t f → BreaksRule t g → f ≡ g
 one_rule t f g s u =
@@ -130,15 +122,13 @@ rules = record {
 }
 
 same_read : (s t : ReadText) → s.text ≡ t.text → s.checked ≡ t.checked → s ≡ t
-same_read s t text checked =
-    ap (λ u. record { text = u; checked = s.checked }) text ∙
-    ap (λ x. record { text = t.text; checked = x }) checked
+same_read s t text checked = λ i. record { text = text i; checked = checked i }
 
 same_some : {A : Type 0} (x : Option A) (a b : A) → x ≡ Some a → x ≡ Some b → a ≡ b
-same_some x a b s t = let e = sym s ∙ t in cc
+same_some x a b s t = cc
 
 none_or_some : {A : Type 0} (x : Option A) (a : A) → x ≡ None → x ≡ Some a → ⊥
-none_or_some x a s t = let e = sym s ∙ t in cc
+none_or_some x a s t = cc
 
 one_excess : (w : WellFormedText) (f g : ReadFault) → HasTooMuch w f → HasTooMuch w g → f ≡ g
 one_excess w f g s u =
@@ -161,31 +151,14 @@ Climbed =
 -- what was read has climbed the whole ladder
 climbed : (bytes : List ℕ) (t : ReadText) → IsRead bytes t → Climbed bytes t
 unfolding Climbed
-climbed bytes t (same, p, c) = record {
-  between = bytes;
-  below = (p.scanned.short, refl);
-  above = record {
-    between = record { bytes = bytes; tokens = t.text.tokens };
-    below = (p.scanned.scanned, refl);
-    above = record {
-      between = record { bytes = bytes; tokens = t.text.tokens };
-      below = (p.scanned.few, refl);
-      above = record {
-        between = t.text;
-        below = (p.parsed, same, refl);
-        above = record {
-          between = record { text = t.text; reading = c.reading };
-          below = (
-            subst (λ bs. IsWellFormed bs t.text.tokens t.text.tree c.reading) (sym same)
-                c.well_formed,
-            refl,
-          );
-          above = (c.within, refl, c.checked_is);
-        };
-      };
-    };
-  };
-}
+climbed bytes t (same, p, c) =
+    let scanned : Scanned = record { bytes = bytes; tokens = t.text.tokens } in
+    by_way bytes (p.scanned.short, refl) (by_way scanned (p.scanned.scanned, refl)
+    (by_way scanned (p.scanned.few, refl) (by_way t.text (p.parsed, same, refl)
+    (by_way (record { text = t.text; reading = c.reading }) (
+      subst (λ bs. IsWellFormed bs t.text.tokens t.text.tree c.reading) (sym same) c.well_formed,
+      refl,
+    ) (c.within, refl, c.checked_is)))))
 
 ladder : IsRung Climbed IsUnreadable
 unfolding Climbed
@@ -199,19 +172,10 @@ ParsedClimb = Then IsShort (Then HasTokens (Then AreFew HasTree))
 
 parsed_climb : (bytes : List ℕ) (t : ParsedText) → HasText bytes t → ParsedClimb bytes t
 unfolding ParsedClimb
-parsed_climb bytes t (same, p) = record {
-  between = bytes;
-  below = (p.scanned.short, refl);
-  above = record {
-    between = record { bytes = bytes; tokens = t.tokens };
-    below = (p.scanned.scanned, refl);
-    above = record {
-      between = record { bytes = bytes; tokens = t.tokens };
-      below = (p.scanned.few, refl);
-      above = (p.parsed, same, refl);
-    };
-  };
-}
+parsed_climb bytes t (same, p) =
+    let scanned : Scanned = record { bytes = bytes; tokens = t.tokens } in
+    by_way bytes (p.scanned.short, refl) (by_way scanned (p.scanned.scanned, refl)
+    (by_way scanned (p.scanned.few, refl) (p.parsed, same, refl)))
 
 parsed_ladder : IsRung ParsedClimb IsUnparsed
 unfolding ParsedClimb
@@ -227,30 +191,16 @@ one_reading = narrowed Climbed IsRead IsUnreadable climbed ladder
 
 -- no source is unreadable for want of memory
 pub never_memory : (bytes : List ℕ) (f : ReadFault) → IsUnreadable bytes f → f ≢ OutOfMemory
-never_memory bytes f (inl s) is = let e = sym is ∙ s.1 in cc
-never_memory bytes f (inr s) is = behind s.above
+never_memory bytes f stops is =
+    let size = passed stops (λ s. let e = sym is ∙ s.1 in cc) in
+    let scan = passed size.above (λ s. let e = sym is ∙ s.told in cc) in
+    let count = passed scan.above (λ s. let e = sym is ∙ s.1 in cc) in
+    let tree = passed count.above no_tree in
+    no_limit (passed tree.above (λ s. let e = sym is ∙ s.told in cc)).above
   where
-    no_tree_told : (t : Scanned) → HasNoTree t f → ⊥
-    no_tree_told t (inl u) = let e = sym is ∙ u.told in cc
-    no_tree_told t (inr u) = let e = sym is ∙ u.told in cc
+    no_limit : {w : WellFormedText} → HasTooMuch w f → ⊥
+    no_limit u = let e = sym is ∙ u.told in cc
 
-    behind_tree : {t : ParsedText} → Stops BreaksRule HasReading HasTooMuch t f → ⊥
-    behind_tree (inl u) = let e = sym is ∙ u.told in cc
-    behind_tree (inr u) = let e = sym is ∙ u.above.told in cc
-
-    behind_count : {t : Scanned} →
-        Stops HasNoTree HasTree (Stops BreaksRule HasReading HasTooMuch) t f → ⊥
-    behind_count (inl u) = no_tree_told _ u
-    behind_count (inr u) = behind_tree u.above
-
-    behind_tokens : {t : Scanned} →
-        Stops AreOver AreFew (Stops HasNoTree HasTree
-        (Stops BreaksRule HasReading HasTooMuch)) t f → ⊥
-    behind_tokens (inl u) = let e = sym is ∙ u.1 in cc
-    behind_tokens (inr u) = behind_count u.above
-
-    behind : {a : List ℕ} →
-        Stops HasNoTokens HasTokens (Stops AreOver AreFew (Stops HasNoTree HasTree
-        (Stops BreaksRule HasReading HasTooMuch))) a f → ⊥
-    behind (inl u) = let e = sym is ∙ u.told in cc
-    behind (inr u) = behind_tokens u.above
+    no_tree : {t : Scanned} → HasNoTree t f → ⊥
+    no_tree (inl u) = let e = sym is ∙ u.told in cc
+    no_tree (inr u) = let e = sym is ∙ u.told in cc

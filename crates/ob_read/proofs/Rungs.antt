@@ -1,8 +1,6 @@
--- Rungs make rungs: two of them one after the other, with faults told as another type's, and with
--- less
--- to climb.
-use Rattle.std.proofs.Common.{◌≡◌, inl, inr, subst, sym, ◌∙◌, ap}
-use Rattle.ob_read.specs.Ladder.{Then, Stops, ToldAs, IsRung}
+-- Rungs make rungs: two of them one after the other, and with less to climb.
+use Rattle.std.proofs.Common.{◌≡◌, inl, inr, subst, ◌⊎◌}
+use Rattle.ob_read.specs.Ladder.{Then, Stops, IsRung}
 
 module _ {A B C F : Type 0} (First : A → B → Type 0) (Stop : A → F → Type 0)
     (Second : B → C → Type 0) (Above : B → F → Type 0)
@@ -29,15 +27,6 @@ module _ {A B C F : Type 0} (First : A → B → Type 0) (Stop : A → F → Typ
   pub over : IsRung (Then First Second) (Stops Stop First Above)
   over = record { one_way = one_way; one_fault = one_fault; never_both = never_both }
 
-pub told_as : {A B F G : Type 0} (tell : F → G) (Climb : A → B → Type 0) (Stop : A → F → Type 0) →
-    IsRung Climb Stop → IsRung Climb (ToldAs tell Stop)
-told_as tell Climb Stop rung = record {
-  one_way = rung.one_way;
-  one_fault = λ a f g s t.
-      s.told ∙ ap tell (rung.one_fault a s.fault t.fault s.stops t.stops) ∙ sym t.told;
-  never_both = λ a b f climb s. rung.never_both a b s.fault climb s.stops;
-}
-
 pub narrowed : {A B F : Type 0} (Climb Less : A → B → Type 0) (Stop : A → F → Type 0) →
     ((a : A) (b : B) → Less a b → Climb a b) → IsRung Climb Stop → IsRung Less Stop
 narrowed Climb Less Stop weaker rung = record {
@@ -45,3 +34,12 @@ narrowed Climb Less Stop weaker rung = record {
   one_fault = rung.one_fault;
   never_both = λ a b f climb s. rung.never_both a b f (weaker a b climb) s;
 }
+
+-- where it does not stop at the first of two rungs
+pub passed : {S T : Type 0} → S ⊎ T → (S → ⊥) → T
+passed (inl s) shut = absurd (shut s)
+passed (inr t) shut = t
+
+pub by_way : {A B C : Type 0} {First : A → B → Type 0} {Second : B → C → Type 0} {a : A} {c : C}
+    (m : B) → First a m → Second m c → Then First Second a c
+by_way m below above = record { between = m; below = below; above = above }

@@ -1,22 +1,16 @@
 use Rattle.std.proofs.Common.{rules}
-use Rattle.ob_syntax.specs.Whole.{kinds, StopsAt, DeepensAt}
 use Rattle.ob_read.proofs.Causes.{stopped, deepened}
 use Rattle.ob_read.proofs.reader.tree_of.Goals as goal
 
 pub returns-in-Err-Grammar-clause-cause : goal.returns-in-Err-Grammar-clause-cause
 returns-in-Err-Grammar-clause-cause c =
-    let tokens = c.args.tokens.now in
     let token = c.in-Err-Grammar.token in
-    let stops : StopsAt (kinds tokens) token =
-    c.in-Err-Grammar.ensures.grammar token (search rules) in
-    λ other. stopped c.args.bytes.now tokens token c.byte_of-at.result c.requires stops
-    c.byte_of-at.ensures
+    λ other. stopped c.args.bytes.now c.args.tokens.now token c.byte_of-at.result c.requires
+    (c.in-Err-Grammar.ensures.grammar token (search rules)) c.byte_of-at.ensures
 
 pub returns-in-Err-TooDeep-clause-cause : goal.returns-in-Err-TooDeep-clause-cause
 returns-in-Err-TooDeep-clause-cause c =
-    let tokens = c.args.tokens.now in
     let token = c.in-Err-TooDeep.token in
-    let deepens : DeepensAt (kinds tokens) token =
-    c.in-Err-TooDeep.ensures.deep token (search rules) in
-    λ other. deepened c.args.bytes.now tokens token c.byte_of-at-in-Err-TooDeep.result c.requires
-    deepens c.byte_of-at-in-Err-TooDeep.ensures
+    λ other. deepened c.args.bytes.now c.args.tokens.now token
+    c.byte_of-at-in-Err-TooDeep.result c.requires
+    (c.in-Err-TooDeep.ensures.deep token (search rules)) c.byte_of-at-in-Err-TooDeep.ensures
