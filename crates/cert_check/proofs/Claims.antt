@@ -41,10 +41,7 @@ module _ (c : Certificate) (p : ℕ) (cert : Cert) (net : Net) (is_net : IsNet n
     (code : HasCode (counts_in c.procs) p cert.code) where
   meets : (r : Reason) → MeetsIn (weights_by c.cost) net cert r → Meets c p cert r
   meets Code is = code
-  meets Ways is = record { net = net; is_net = is_net; holds = is }
-  meets Prices is = record { net = net; is_net = is_net; holds = is }
-  meets Total is = record { net = net; is_net = is_net; holds = is }
-  meets Bound is = record { net = net; is_net = is_net; holds = is }
+  meets r is = record { net = net; is_net = is_net; holds = is }
 
   on_net : (r : Reason) → OnNet cert.code (λ net. MeetsIn (weights_by c.cost) net cert r)
       → MeetsIn (weights_by c.cost) net cert r
@@ -54,10 +51,7 @@ module _ (c : Certificate) (p : ℕ) (cert : Cert) (net : Net) (is_net : IsNet n
 
   meets_in : (r : Reason) → Meets c p cert r → MeetsIn (weights_by c.cost) net cert r
   meets_in Code is = tt
-  meets_in Ways is = on_net Ways is
-  meets_in Prices is = on_net Prices is
-  meets_in Total is = on_net Total is
-  meets_in Bound is = on_net Bound is
+  meets_in r is = on_net r is
 
   module _ (at : slice_get c.procs p ≡ Some cert) where
     pub first_of : (found : Option Reason) → IsFirstIn (weights_by c.cost) net cert found
@@ -73,16 +67,12 @@ module _ (c : Certificate) (p : ℕ) (cert : Cert) (net : Net) (is_net : IsNet n
       };
     }
 
--- no rank is below that of Code
-pub code_first : (q : Reason) → rank q < rank Code → ⊥
-code_first q lt = omega (arith, lt)
-
 pub fails_code : (c : Certificate) (p : ℕ) (cert : Cert) → slice_get c.procs p ≡ Some cert
     → (HasCode (counts_in c.procs) p cert.code → ⊥) → IsFirstOf c p (Some Code)
 fails_code c p cert at fails = record {
   cert = cert;
   is = at;
-  fails = record { holds = fails; first = λ q before. absurd (code_first q before) };
+  fails = record { holds = fails; first = λ q before. absurd (omega arith) };
 }
 
 -- what was found before a network was looked at holds first
@@ -95,19 +85,14 @@ fails_found c p cert Ways at found = record {
   is = at;
   fails = record {
     holds = λ is. found.1 is.net is.is_net is.holds;
-    first = λ q before. only_code q before;
+    first = only_code;
   };
 }
   where
     only_code : (q : Reason) → rank q < rank Ways → Meets c p cert q
     only_code Code before = found.0
-    only_code Ways before = absurd (omega (arith, before))
-    only_code Prices before = absurd (omega (arith, before))
-    only_code Total before = absurd (omega (arith, before))
-    only_code Bound before = absurd (omega (arith, before))
-fails_found c p cert Prices at found = absurd found
-fails_found c p cert Total at found = absurd found
-fails_found c p cert Bound at found = absurd found
+    only_code q before = absurd (omega arith)
+fails_found c p cert r at found = absurd found
 
 -- routes of the network are lists of places for the strands, whatever their groups are
 same_places : (ts : List Tie) (least : ℕ → ℕ) (ss : List Strand) (lists : List (List Place))
@@ -141,7 +126,7 @@ holds_more c n before here p cert lt at = elim (cases_eq p n) as (λ _. MeetsAll
 
 below_cost : (bound cost : ℕ) (z : ℤ) → (pos (1024 * bound) -ℤ pos 1023) ≤ℤ z
     → z ≤ℤ pos (1024 * cost) → bound ≤ cost
-below_cost bound cost z low high = omega (arith, ints, low, high)
+below_cost bound cost z low high = omega (arith, ints)
 
 module _ (c : Certificate) (p : ℕ) (cert : Cert) (all : MeetsAll c p cert) where
   pub bounded : IsBounded (weights_by c.cost) cert
@@ -169,15 +154,15 @@ module _ (c : Certificate) (p : ℕ) (cert : Cert) (all : MeetsAll c p cert) whe
         ];
       }
 
+pub if_ok : {A E : Type 0} (P Q : A → Type 0) (r : Result A E) → ((x : A) → P x → Q x) → IfOk r P
+    → IfOk r Q
+if_ok P Q (Ok x) gives is = gives x is
+if_ok P Q (Err fault) gives is = tt
+
 pub yes_bounds : (c : Certificate) → IsAnswerOf c Yes → AreBounded c
 yes_bounds c answer p cert at = bounded c p cert (answer p cert at)
 
 pub yes_ok : (c : Certificate) (r : Result CertAnswer OutOfMemory) → IfOk r (IsAnswerOf c)
     → IfOk r (λ answer. answer ≡ Yes → AreBounded c)
-yes_ok c (Ok answer) is = λ yes. yes_bounds c (subst (IsAnswerOf c) yes is)
-yes_ok c (Err fault) is = tt
-
-pub if_ok : {A E : Type 0} (P Q : A → Type 0) (r : Result A E) → ((x : A) → P x → Q x) → IfOk r P
-    → IfOk r Q
-if_ok P Q (Ok x) gives is = gives x is
-if_ok P Q (Err fault) gives is = tt
+yes_ok c r = if_ok (IsAnswerOf c) (λ answer. answer ≡ Yes → AreBounded c) r
+    (λ answer is yes. yes_bounds c (rw yes at is))

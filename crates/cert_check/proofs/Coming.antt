@@ -4,7 +4,7 @@ use Rattle.std.proofs.Common.{All, Option, Some, None, refl, sym, ap, ◌∙◌,
 use Rattle.std.proofs.Common.{length-append}
 use Rattle.std.specs.Prelude.{IsTrue}
 use Rattle.std.proofs.lemmas.Int.{ints}
-use Rattle.std.proofs.lemmas.List.Elements.{All-head, All-tail, All-cons, All-nil, All-append}
+use Rattle.std.proofs.lemmas.List.Elements.{All-head, All-tail, All-cons, All-nil, All-push}
 use Rattle.pra_base.specs.declared.ids.Place.{Place}
 use Rattle.net_form.specs.declared.net.Net.{Net}
 use Rattle.net_form.specs.Admitted.{strand_at, in_mask, stays_across}
@@ -28,11 +28,10 @@ last_of_coming o (x ∷ xs) p = last_of_coming (Some x) xs p
 edges_more : (s l : ℕ) (p : Option Place) (ps : List Place) (q : Place)
     → edges s l p (way_to ps q)
     ≡ edges s l p ps ++ edge s (l + length ps) (last_of p ps) q ∷ []
-edges_more s l p [] q = ap (λ n. edge s n p q ∷ []) (let e : l ≡ l + 0 = omega arith in e)
+edges_more s l p [] q = let e : l ≡ l + 0 = omega arith in ap (λ n. edge s n p q ∷ []) e
 edges_more s l p (x ∷ ps) q =
     let e : suc l + length ps ≡ l + suc (length ps) = omega arith in
-    ap (λ es. edge s l p x ∷ es)
-    (edges_more s (suc l) (Some x) ps q
+    ap (λ es. edge s l p x ∷ es) (edges_more s (suc l) (Some x) ps q
     ∙ ap (λ n. edges s (suc l) (Some x) ps ++ edge s n (last_of (Some x) ps) q ∷ []) e)
 
 All-left : {X : Type 0} (P : X → Type 0) → (xs ys : List X) → All P (xs ++ ys) → All P xs
@@ -66,12 +65,10 @@ module _ (net : Net) (s : ℕ) where
   edges_at l front p q long =
       let first = (strand_at net s).first in
       let two = length-append front (p ∷ []) in
-      let at : first + length (way_to front p) ≡ suc l = omega (arith, long, two) in
+      let at : first + length (way_to front p) ≡ suc l = omega arith in
       edges_more s first None (way_to front p) q
-      ∙ ap (λ n. path_edges net s (way_to front p)
-      ++ edge s n (last_of None (way_to front p)) q ∷ []) at
-      ∙ ap (λ o. path_edges net s (way_to front p) ++ edge s (suc l) o q ∷ [])
-      (last_of_coming None front p)
+      ∙ (λ i. path_edges net s (way_to front p)
+      ++ edge s (at i) (last_of_coming None front p i) q ∷ [])
 
   pub price_on : (price : Edge → ℤ) (l : ℕ) (front : List Place) (p q : Place)
       → (strand_at net s).first + length front ≡ l
@@ -80,9 +77,12 @@ module _ (net : Net) (s : ℕ) where
   price_on price l front p q long =
       let es = path_edges net s (way_to front p) in
       let e = edge s (suc l) (Some p) q in
-      let is = ap (total price) (edges_at l front p q long) in
-      let sum = total-append price es (e ∷ []) in
-      omega (arith, ints, is, sum)
+      omega (
+        arith,
+        ints,
+        ap (total price) (edges_at l front p q long),
+        total-append price es (e ∷ []),
+      )
 
   pub comes_on : (l : ℕ) (front : List Place) (p q : Place) → LeadsTo net s l p front
       → IsTrue (in_mask net (edge s (suc l) (Some p) q))
@@ -91,15 +91,13 @@ module _ (net : Net) (s : ℕ) where
       let es = path_edges net s (way_to front p) in
       let e = edge s (suc l) (Some p) q in
       let two = length-append front (p ∷ []) in
-      let long = leads.long in
+      let is = edges_at l front p q leads.long in
       record {
-        long = omega (arith, long, two);
-        masks = subst (All (λ e. IsTrue (in_mask net e))) (sym (edges_at l front p q long))
-            (All-append (λ e. IsTrue (in_mask net e)) es (e ∷ []) leads.masks
-            (All-one (λ e. IsTrue (in_mask net e)) e mask));
-        across = subst (All (λ e. IsTrue (stays_across e))) (sym (edges_at l front p q long))
-            (All-append (λ e. IsTrue (stays_across e)) es (e ∷ []) leads.across
-            (All-one (λ e. IsTrue (stays_across e)) e stays));
+        long = omega arith;
+        masks = subst (All (λ e. IsTrue (in_mask net e))) (sym is)
+            (All-push (λ e. IsTrue (in_mask net e)) es e leads.masks mask);
+        across = subst (All (λ e. IsTrue (stays_across e))) (sym is)
+            (All-push (λ e. IsTrue (stays_across e)) es e leads.across stays);
       }
 
   -- where it came from
@@ -117,12 +115,10 @@ module _ (net : Net) (s : ℕ) where
       let es = path_edges net s (way_to front p) in
       let e = edge s (suc l) (Some p) q in
       let two = length-append front (p ∷ []) in
-      let whole = leads.long in
-      let long : (strand_at net s).first + length front ≡ l = omega (arith, whole, two) in
-      let masks = subst (All (λ e. IsTrue (in_mask net e))) (edges_at l front p q long)
-      leads.masks in
-      let across = subst (All (λ e. IsTrue (stays_across e))) (edges_at l front p q long)
-      leads.across in
+      let long : (strand_at net s).first + length front ≡ l = omega arith in
+      let is = edges_at l front p q long in
+      let masks = subst (All (λ e. IsTrue (in_mask net e))) is leads.masks in
+      let across = subst (All (λ e. IsTrue (stays_across e))) is leads.across in
       record {
         front = front;
         from = p;
@@ -138,7 +134,7 @@ module _ (net : Net) (s : ℕ) where
 
   pub came_on : (l : ℕ) (q : Place) (before : List Place) → (strand_at net s).first ≤ l
       → LeadsTo net s (suc l) q before → Came l q before
-  came_on l q [] after leads = absurd (let long = leads.long in omega (arith, after, long))
+  came_on l q [] after leads = absurd (omega arith)
   came_on l q (x ∷ xs) after leads =
       let way = comes x xs in
       subst (Came l q) (sym way.is)
@@ -148,4 +144,4 @@ module _ (net : Net) (s : ℕ) where
   pub nothing_before : (q : Place) (before : List Place)
       → LeadsTo net s (strand_at net s).first q before → before ≡ []
   nothing_before q [] leads = refl
-  nothing_before q (x ∷ xs) leads = absurd (let long = leads.long in omega (arith, long))
+  nothing_before q (x ∷ xs) leads = absurd (omega arith)

@@ -1,5 +1,5 @@
 -- Numbers that may be there, behind a test.
-use Rattle.std.proofs.Common.{◌≡◌, Bool, true, false, ℤ, Option, Some, None, refl, sym, subst}
+use Rattle.std.proofs.Common.{◌≡◌, Bool, true, false, ℤ, Option, Some, None, refl, sym, ap}
 use Rattle.std.specs.Prelude.{if◌then◌else◌, option_map}
 use Rattle.pra_list.proofs.Options.{some_same}
 
@@ -22,5 +22,5 @@ guarded_some false f o z is = cc
 
 pub guarded_is : (b : Bool) (f : ℤ → ℤ) (o : Option ℤ) (d : ℤ) → b ≡ true → o ≡ Some d
     → guarded b f o ≡ Some (f d)
-guarded_is true f o d test was = subst (λ o. option_map f o ≡ Some (f d)) (sym was) refl
+guarded_is true f o d test was = ap (option_map f) was
 guarded_is false f o d test was = cc

@@ -31,7 +31,7 @@ module _ (net : Net) (price : Edge → ℤ) where
   no_costs = record {
     family = [];
     many = refl;
-    each = λ s lt. absurd (omega (arith, lt));
+    each = λ s lt. absurd (omega arith);
     is = refl;
   }
 
@@ -55,37 +55,32 @@ module _ (net : Net) (price : Edge → ℤ) where
       = total-agree f g (range_with_len 0 n)
       (All-range (λ s. f s ≡ g s) 0 n
       (λ s le lt. ap (path_price net price s) (front s (omega (arith, lt))))) in
-      let was = costs.is in
       let two = length-append costs.family (one.way ∷ []) in
       record {
         family = family;
-        many = omega (arith, two, many);
+        many = omega arith;
         each = λ s lt. elim (cases_eq s n)
             as (λ _. IsLeast net price any_ends Anywhere s (get_or family s [])) [
               | inl is ↦ subst (λ s. IsLeast net price any_ends Anywhere s (get_or family s []))
-                  (sym is)
-                  (subst (IsLeast net price any_ends Anywhere n) (sym back) one.is_least)
+                  (sym is) (subst (IsLeast net price any_ends Anywhere n) (sym back) one.is_least)
               | inr other ↦
                   let before : s < n = omega (arith, lt, other) in
                   subst (IsLeast net price any_ends Anywhere s) (sym (front s before))
                   (costs.each s before)
             ];
-        is = omega (arith, ints, split, sum, here, same, was);
+        is = omega (arith, ints, split, sum, here, same, costs.is);
       }
 
 pub value_of_costs : (net : Net) (w : Weights) (prices : Prices) (z p : ℤ)
     → AreLeastCosts net (edge_price net w prices) (length net.strands) z
     → p ≡ pos (all_paid prices) → IsLagrange net w prices (z -ℤ p)
-value_of_costs net w prices z p costs paid =
-    let is = costs.is in
-    let same : z -ℤ p ≡ z -ℤ pos (all_paid prices) = ap (λ q. z -ℤ q) paid in
-    record {
-      family = record { places = costs.family };
-      value = record {
-        least = record { many = costs.many; each = costs.each };
-        is = same ∙ ap (λ y. y -ℤ pos (all_paid prices)) is;
-      };
-    }
+value_of_costs net w prices z p costs paid = record {
+  family = record { places = costs.family };
+  value = record {
+    least = record { many = costs.many; each = costs.each };
+    is = λ i. costs.is i -ℤ paid i;
+  };
+}
 
 -- routes that are admitted are paths
 pub some_path : (net : Net) (routes : Routes) → HasRoutes net routes → (s : ℕ)

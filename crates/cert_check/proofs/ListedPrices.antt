@@ -1,8 +1,7 @@
 -- Prices that are listed are in range.
-use Rattle.std.proofs.Common.{◌≡◌, ℕ, suc, ◌<◌, ◌≤◌, ℤ, pos, ◌-ℤ◌, ◌≤ℤ◌, List, [], ◌∷◌, length}
-use Rattle.std.proofs.Common.{get_or, set, All, refl, sym, ◌∙◌, subst, arith, inl, inr}
-use Rattle.std.proofs.Common.{length-set, get_or-set_same, get_or-set_other}
-use Rattle.std.proofs.lemmas.Bool.{cases_eq}
+use Rattle.std.proofs.Common.{◌≡◌, ℕ, suc, ◌≤◌, ℤ, pos, ◌-ℤ◌, ◌≤ℤ◌, List, [], ◌∷◌, length, set}
+use Rattle.std.proofs.Common.{All, refl, ◌∙◌, length-set}
+use Rattle.std.proofs.lemmas.List.Elements.{All-set}
 use Rattle.net_form.specs.declared.net.Net.{Net}
 use Rattle.net_form.specs.Rooms.{zero_prices}
 use Rattle.net_dual.specs.Priced.{AreInRange, most_price}
@@ -12,17 +11,6 @@ use Rattle.cert_form.specs.declared.certificate.TieAt.{TieAt}
 use Rattle.cert_form.specs.declared.certificate.Cert.{Cert}
 use Rattle.cert_check.specs.Listed.{AreCaps, AreTieNumbers, HasPrices, with_caps, with_tie_numbers}
 use Rattle.cert_check.specs.Listed.{prices_of}
-
-All-set : {X : Type 0} (P : X → Type 0) → (xs : List X) (k : ℕ) (x : X) → k < length xs → All P xs →
-    P x
-    → All P (set xs k x)
-All-set P xs k x there all here = λ j d lt.
-    elim (cases_eq j k) as (λ _. P (get_or (set xs k x) j d)) [
-      | inl is ↦ subst (λ j. P (get_or (set xs k x) j d)) (sym is)
-          (subst P (sym (get_or-set_same xs k x d there)) here)
-      | inr other ↦ subst P (sym (get_or-set_other xs k j x d other))
-          (all j d (let long = length-set xs k x in omega (arith, lt, long)))
-    ]
 
 pub length-with_caps : (prices : List ℕ) (xs : List CapAt) → length (with_caps prices xs) ≡
     length prices
@@ -36,37 +24,22 @@ length-with_numbers numbers [] = refl
 length-with_numbers numbers (x ∷ xs) =
     length-with_numbers (set numbers x.at x.number) xs ∙ length-set numbers x.at x.number
 
-caps_most : (count from : ℕ) (prices : List ℕ) (xs : List CapAt) → count ≡ length prices
-    → AreCaps count from xs → All (λ c. c ≤ most_price) prices
-    → All (λ c. c ≤ most_price) (with_caps prices xs)
-caps_most count from prices [] long are all = all
-caps_most count from prices (x ∷ xs) long are all =
-    let there = are.1.within in
-    caps_most count (suc x.at) (set prices x.at x.price) xs
-    (long ∙ sym (length-set prices x.at x.price)) are.2
-    (All-set (λ c. c ≤ most_price) prices x.at x.price (omega (arith, there, long)) all are.1.most)
+caps_most : (count from : ℕ) (prices : List ℕ) (xs : List CapAt) → AreCaps count from xs
+    → All (λ c. c ≤ most_price) prices → All (λ c. c ≤ most_price) (with_caps prices xs)
+caps_most count from prices [] are all = all
+caps_most count from prices (x ∷ xs) are all =
+    caps_most count (suc x.at) (set prices x.at x.price) xs are.2
+    (All-set (λ c. c ≤ most_price) prices x.at x.price are.1.most all)
 
-numbers_most : (count from : ℕ) (numbers : List ℤ) (xs : List TieAt) → count ≡ length numbers
-    → AreTieNumbers count from xs → All (λ z. z ≤ℤ pos most_price) numbers
-    → All (λ z. z ≤ℤ pos most_price) (with_tie_numbers numbers xs)
-numbers_most count from numbers [] long are all = all
-numbers_most count from numbers (x ∷ xs) long are all =
-    let there = are.1.within in
-    numbers_most count (suc x.at) (set numbers x.at x.number) xs
-    (long ∙ sym (length-set numbers x.at x.number)) are.2
-    (All-set (λ z. z ≤ℤ pos most_price) numbers x.at x.number (omega (arith, there, long)) all
-    are.1.most)
-
-numbers_least : (count from : ℕ) (numbers : List ℤ) (xs : List TieAt) → count ≡ length numbers
-    → AreTieNumbers count from xs → All (λ z. (pos 0 -ℤ pos most_price) ≤ℤ z) numbers
-    → All (λ z. (pos 0 -ℤ pos most_price) ≤ℤ z) (with_tie_numbers numbers xs)
-numbers_least count from numbers [] long are all = all
-numbers_least count from numbers (x ∷ xs) long are all =
-    let there = are.1.within in
-    numbers_least count (suc x.at) (set numbers x.at x.number) xs
-    (long ∙ sym (length-set numbers x.at x.number)) are.2
-    (All-set (λ z. (pos 0 -ℤ pos most_price) ≤ℤ z) numbers x.at x.number
-    (omega (arith, there, long)) all are.1.least)
+-- what holds of each number in range holds of all
+numbers_all : (P : ℤ → Type 0)
+    → ((z : ℤ) → (pos 0 -ℤ pos most_price) ≤ℤ z → z ≤ℤ pos most_price → P z)
+    → (count from : ℕ) (numbers : List ℤ) (xs : List TieAt) → AreTieNumbers count from xs
+    → All P numbers → All P (with_tie_numbers numbers xs)
+numbers_all P holds count from numbers [] are all = all
+numbers_all P holds count from numbers (x ∷ xs) are all =
+    numbers_all P holds count (suc x.at) (set numbers x.at x.number) xs are.2
+    (All-set P numbers x.at x.number (holds x.number are.1.least are.1.most) all)
 
 pub in_range : (net : Net) (cert : Cert) → HasPrices net cert → AreInRange net (prices_of net cert)
 in_range net cert has =
@@ -76,8 +49,10 @@ in_range net cert has =
       caps = length-with_caps empty.caps cert.caps ∙ zero.caps;
       mems = length-with_caps empty.mems cert.mems ∙ zero.mems;
       ties = length-with_numbers empty.ties cert.ties ∙ zero.ties;
-      most_cap = caps_most _ 0 empty.caps cert.caps (sym zero.caps) has.caps zero.most_cap;
-      most_mem = caps_most _ 0 empty.mems cert.mems (sym zero.mems) has.mems zero.most_mem;
-      most_tie = numbers_most _ 0 empty.ties cert.ties (sym zero.ties) has.ties zero.most_tie;
-      least_tie = numbers_least _ 0 empty.ties cert.ties (sym zero.ties) has.ties zero.least_tie;
+      most_cap = caps_most _ 0 empty.caps cert.caps has.caps zero.most_cap;
+      most_mem = caps_most _ 0 empty.mems cert.mems has.mems zero.most_mem;
+      most_tie = numbers_all (λ z. z ≤ℤ pos most_price) (λ z least most. most) _ 0 empty.ties
+          cert.ties has.ties zero.most_tie;
+      least_tie = numbers_all (λ z. (pos 0 -ℤ pos most_price) ≤ℤ z) (λ z least most. least) _ 0
+          empty.ties cert.ties has.ties zero.least_tie;
     }

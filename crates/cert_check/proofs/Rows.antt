@@ -61,11 +61,10 @@ module _ (net : Net) (w : Weights) (prices : Prices) (s : ℕ) where
   first_reached q true mask =
       let l = (strand_at net s).first in
       let e = edge s l None q in
-      let price = price_is l None q in
+      let none : edge_price net w prices e +ℤ pos 0 ≡ edge_price net w prices e
+      = omega (arith, ints) in
       let sum : path_price net (edge_price net w prices) s (way_to [] q)
-      ≡ way_toll net w s l None q +ℤ toll net w prices s l q
-      = (let none : edge_price net w prices e +ℤ pos 0 ≡ edge_price net w prices e
-      = omega (arith, ints) in none) ∙ price in
+      ≡ way_toll net w s l None q +ℤ toll net w prices s l q = none ∙ price_is l None q in
       record {
         before = [];
         leads = record {
@@ -76,17 +75,14 @@ module _ (net : Net) (w : Weights) (prices : Prices) (s : ℕ) where
         };
         is = sum;
         least = λ other leads.
-            let none = nothing_before net s q other leads in
-            let same = sum
-            ∙ ap (λ (d : ℤ). d) refl in
-            let here = ap (λ ps. path_price net (edge_price net w prices) s (way_to ps q)) none in
-            omega (arith, ints, same, here);
+            let here = ap (λ ps. path_price net (edge_price net w prices) s (way_to ps q))
+            (nothing_before net s q other leads) in
+            omega (arith, ints);
       }
   first_reached q false mask = λ before leads.
-      let none = nothing_before net s q before leads in
-      let masks = (subst (LeadsTo net s (strand_at net s).first q) none leads).masks in
+      let there = rw (nothing_before net s q before leads) at leads in
       true_false (in_mask net (edge s (strand_at net s).first None q))
-      (masks 0 (edge s (strand_at net s).first None q) (omega arith)) mask
+      (there.masks 0 (edge s (strand_at net s).first None q) (omega arith)) mask
 
   pub first_paid : (q : Place)
       → IsReached net (edge_price net w prices) s (strand_at net s).first q
@@ -100,28 +96,23 @@ module _ (net : Net) (w : Weights) (prices : Prices) (s : ℕ) where
       (reached : (p : Place) → IsReached net (edge_price net w prices) s l p
       (cost_at row (number p))) where
     -- what it costs from a place that can be come to
-    from_there : (p q : Place) (front : List Place) → LeadsTo net s l p front
-        → IsTrue (stays_across (edge s (suc l) (Some p) q))
-        → (d : ℤ) × (via net w s (suc l) row p q ≡ Some (d +ℤ way_toll net w s (suc l) (Some p) q))
+    abbrev Onward : Place → Place → List Place → Type 0
+    Onward p q front =
+        (d : ℤ) × (via net w s (suc l) row p q ≡ Some (d +ℤ way_toll net w s (suc l) (Some p) q))
         × (d ≤ℤ path_price net (edge_price net w prices) s (way_to front p))
-    from_there p q front leads stays = by (cost_at row (number p)) refl
-      where
-        by : (o : Option ℤ) → cost_at row (number p) ≡ o
-            → (d : ℤ) × (via net w s (suc l) row p q
-            ≡ Some (d +ℤ way_toll net w s (suc l) (Some p) q))
-            × (d ≤ℤ path_price net (edge_price net w prices) s (way_to front p))
-        by (Some d) is =
-            let least : IsLeastTo net (edge_price net w prices) s l p d
-            = subst (IsReached net (edge_price net w prices) s l p) is (reached p) in (
-              d,
-              guarded_is (stays_across (edge s (suc l) (Some p) q))
-                  (λ d. d +ℤ way_toll net w s (suc l) (Some p) q) (cost_at row (number p)) d
-                  stays is,
-              least.least front leads,
-            )
-        by None is =
-            absurd (subst (IsReached net (edge_price net w prices) s l p) is (reached p) front
-            leads)
+
+    from_there : (p q : Place) (front : List Place) → LeadsTo net s l p front
+        → IsTrue (stays_across (edge s (suc l) (Some p) q)) → Onward p q front
+    from_there p q front leads stays = by (cost_at row (number p)) refl (reached p) where
+      by : (o : Option ℤ) → cost_at row (number p) ≡ o
+          → IsReached net (edge_price net w prices) s l p o → Onward p q front
+      by (Some d) is least = (
+        d,
+        guarded_is (stays_across (edge s (suc l) (Some p) q))
+            (λ d. d +ℤ way_toll net w s (suc l) (Some p) q) (cost_at row (number p)) d stays is,
+        least.least front leads,
+      )
+      by None is none = absurd (none front leads)
 
     next_reached : (q : Place) (best : Option ℤ) (allowed : Bool)
         → IsLeastOf (λ k. via net w s (suc l) row (place_at k) q) place_count best
@@ -148,12 +139,10 @@ module _ (net : Net) (w : Weights) (prices : Prices) (s : ℕ) where
         = subst (IsReached net (edge_price net w prices) s l p) found.was (reached p) in
         let on = price_on net s (edge_price net w prices) l best.before p q best.leads.long in
         let split = price_is (suc l) (Some p) q in
-        let same = found.is in
-        let cost = best.is in
         record {
           before = way_to best.before p;
           leads = comes_on net s l best.before p q best.leads mask found.test;
-          is = omega (arith, ints, on, split, same, cost);
+          is = omega (arith, ints, on, split, found.is, best.is);
           least = λ other leads.
               let came = came_on net s l q other after leads in
               let there = from_there came.from q came.front came.leads came.stays in
@@ -165,10 +154,9 @@ module _ (net : Net) (w : Weights) (prices : Prices) (s : ℕ) where
               let longer = price_on net s (edge_price net w prices) l came.front came.from q
               came.leads.long in
               let parts = price_is (suc l) (Some came.from) q in
-              let below = there.2 in
               let here = ap (λ ps. path_price net (edge_price net w prices) s (way_to ps q))
               came.is in
-              omega (arith, ints, no_more, longer, parts, below, here);
+              omega (arith, ints, no_more, longer, parts, there.2, here);
         }
 
     pub next_paid : (q : Place) (best : Option ℤ)
@@ -203,45 +191,30 @@ module _ (net : Net) (w : Weights) (prices : Prices) (s : ℕ) where
         → IsPath net s (way_to before q)
     as_path q before leads =
         let one = length-append before (q ∷ []) in
-        let long = leads.long in
-        record { long = omega (arith, one, long); masks = leads.masks; across = leads.across }
+        record { long = omega arith; masks = leads.masks; across = leads.across }
 
     -- a path comes to some place, and costs no less than the row has there
-    of_path : (ps : List Place) → IsPath net s ps
-        → (p : Place) × (d : ℤ) × (cost_at row (number p) ≡ Some d)
+    abbrev Arrives : List Place → Type 0
+    Arrives ps = (p : Place) × (d : ℤ) × (cost_at row (number p) ≡ Some d)
         × (d ≤ℤ path_price net (edge_price net w prices) s ps)
-    of_path [] path = absurd (let long = path.long in omega (arith, order, long))
+
+    of_path : (ps : List Place) → IsPath net s ps → Arrives ps
+    of_path [] path = absurd (omega arith)
     of_path (x ∷ xs) path =
         let way = comes x xs in
         let here : IsPath net s (way_to way.before way.to)
         = subst (IsPath net s) way.is path in
         let one = length-append way.before (way.to ∷ []) in
-        let whole = here.long in
-        let leads : LeadsTo net s (strand_at net s).last way.to way.before = record {
-          long = omega (arith, one, whole);
-          masks = here.masks;
-          across = here.across;
-        } in
-        by way.to way.before way.is leads (cost_at row (number way.to)) refl
+        subst Arrives (sym way.is) (by way.to way.before
+        (record { long = omega arith; masks = here.masks; across = here.across })
+        (cost_at row (number way.to)) refl (reached way.to))
       where
-        by : (p : Place) (before : List Place) → x ∷ xs ≡ way_to before p
-            → LeadsTo net s (strand_at net s).last p before
+        by : (p : Place) (before : List Place) → LeadsTo net s (strand_at net s).last p before
             → (o : Option ℤ) → cost_at row (number p) ≡ o
-            → (p : Place) × (d : ℤ) × (cost_at row (number p) ≡ Some d)
-            × (d ≤ℤ path_price net (edge_price net w prices) s (x ∷ xs))
-        by p before same leads (Some d) is =
-            let least : IsLeastTo net (edge_price net w prices) s (strand_at net s).last p d
-            = subst (IsReached net (edge_price net w prices) s (strand_at net s).last p) is
-            (reached p) in (
-              p,
-              d,
-              is,
-              subst (λ ps. d ≤ℤ path_price net (edge_price net w prices) s ps) (sym same)
-                  (least.least before leads),
-            )
-        by p before same leads None is =
-            absurd (subst (IsReached net (edge_price net w prices) s (strand_at net s).last p) is
-            (reached p) before leads)
+            → IsReached net (edge_price net w prices) s (strand_at net s).last p o
+            → Arrives (way_to before p)
+        by p before leads (Some d) is least = (p, d, is, least.least before leads)
+        by p before leads None is none = absurd (none before leads)
 
     pub least_cost_of : (z : ℤ) → IsLeastOf (cost_at row) place_count (Some z)
         → IsLeastCost net (edge_price net w prices) any_ends Anywhere s z
@@ -253,7 +226,6 @@ module _ (net : Net) (w : Weights) (prices : Prices) (s : ℕ) where
         let best : IsLeastTo net (edge_price net w prices) s (strand_at net s).last p z
         = subst (IsReached net (edge_price net w prices) s (strand_at net s).last p) at
         (reached p) in
-        let cost = best.is in
         record {
           way = way_to best.before p;
           is_least = record {
@@ -261,10 +233,9 @@ module _ (net : Net) (w : Weights) (prices : Prices) (s : ℕ) where
             least = λ qs goes.
                 let found = of_path qs goes.path in
                 let no_more = least.1 (number found.0) found.1 (number_below found.0) found.2 in
-                let below = found.3 in
-                omega (arith, ints, cost, no_more, below);
+                omega (arith, ints, best.is, found.3);
           };
-          is = cost;
+          is = best.is;
         }
 
     -- where the strand has a path, some place of the last layer is reached
@@ -290,13 +261,11 @@ module _ (net : Net) (w : Weights) (prices : Prices) (s : ℕ) where
     pub least_within : (z : ℤ) → IsLeastCost net (edge_price net w prices) any_ends Anywhere s z
         → IsWithin most_sum z
     least_within z cost =
-        let path = cost.is_least.goes.path in
+        let long = cost.is_least.goes.path.long in
         let within = in_layers net built.formed s there in
         let layers = built.formed.layers in
-        let long = path.long in
         subst (IsWithin most_sum) cost.is
-        (part_is_small net w prices s cost.way built valid range
-        (omega (arith, within, layers, long)))
+        (part_is_small net w prices s cost.way built valid range (omega arith))
 
     module _ (l : ℕ) (before : l ≤ (strand_at net s).last) where
       reached_within : (q : Place) (o : Option ℤ)
@@ -308,8 +277,7 @@ module _ (net : Net) (w : Weights) (prices : Prices) (s : ℕ) where
           let within = in_layers net built.formed s there in
           let layers = built.formed.layers in
           subst (IsWithin most_sum) least.is
-          (part_is_small net w prices s (way_to least.before q) built valid range
-          (omega (arith, one, long, before, within, layers)))
+          (part_is_small net w prices s (way_to least.before q) built valid range (omega arith))
 
       -- a row whose numbers are those of its places
       pub row_of : (row : List (Option ℤ)) → length row ≡ place_count
@@ -319,13 +287,9 @@ module _ (net : Net) (w : Weights) (prices : Prices) (s : ℕ) where
       row_of row long each = record {
         reached = λ q. subst (λ p. IsReached net (edge_price net w prices) s l p
             (cost_at row (number q))) (place_at-number q) (each (number q) (number_below q));
-        within = λ k. within_at k;
+        within = λ k. elim (cases_lt k place_count) as (λ _.
+            IsCostWithin most_sum (cost_at row k)) [
+              | inl lt ↦ reached_within (place_at k) (cost_at row k) (each k lt)
+              | inr past ↦ rw (get_or_past row k None (omega arith)) tt
+            ];
       }
-        where
-          within_at : (k : ℕ) → IsCostWithin most_sum (cost_at row k)
-          within_at k = elim (cases_lt k place_count)
-              as (λ _. IsCostWithin most_sum (cost_at row k)) [
-                | inl lt ↦ reached_within (place_at k) (cost_at row k) (each k lt)
-                | inr past ↦ subst (IsCostWithin most_sum)
-                    (sym (get_or_past row k None (omega (arith, past, long)))) tt
-              ]

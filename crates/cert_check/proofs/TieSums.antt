@@ -39,14 +39,7 @@ sums_within old numbers new strand tie added sums small k =
     (get_or numbers (13 * tie + j) (pos 0))
     (small (13 * tie + j)) in
     let o = sums k in
-    let wl = w.low in
-    let wh = w.high in
-    let ol = o.low in
-    let oh = o.high in
-    record {
-      low = omega (arith, ints, a, at_new, at_old, wl, ol);
-      high = omega (arith, ints, a, at_new, at_old, wh, oh);
-    }
+    record { low = omega (arith, ints); high = omega (arith, ints) }
 
 pub numbers_within : (net : Net) (prices : Prices) → AreInRange net prices
     → AreNumbersWithin prices.ties
@@ -55,10 +48,10 @@ numbers_within net prices range k = elim (cases_lt k (length prices.ties))
       | inl lt ↦
           let low = range.least_tie k (pos 0) lt in
           let high = range.most_tie k (pos 0) lt in
-          record { low = omega (arith, ints, low); high = omega (arith, ints, high) }
+          record { low = omega (arith, ints); high = omega (arith, ints) }
       | inr past ↦
           let none = get_or_past prices.ties k (pos 0) past in
-          record { low = omega (arith, ints, none); high = omega (arith, ints, none) }
+          record { low = omega (arith, ints); high = omega (arith, ints) }
     ]
 
 -- the sums of one tie more
@@ -80,7 +73,7 @@ ties_more ties prices end old new n t lt read added s j few was =
     ≡ pay (nat_eq (tied_strand end (get_or ties n t)) s) (get_or prices.ties (13 * n + j) (pos 0))
     = ap (λ (t : Tie). pay (nat_eq (tied_strand end t) s) (get_or prices.ties (13 * n + j) (pos 0)))
     read in
-    omega (arith, ints, more, a, here, same, was)
+    omega (arith, ints)
   where
     within_thirteen : (b : Bool) (j : ℕ) → j < 13 → (b && nat_lt j 13) ≡ b
     within_thirteen true j few = grind (arith, nat_tests)

@@ -1,17 +1,14 @@
 -- What an edge pays to memory pairs and to ties, by its strand, its layer and its place.
 use Rattle.std.proofs.Common.{◌≡◌, ℕ, ◌<◌, Bool, true, false, ◌&&◌, ℤ, pos, ◌+ℤ◌}
 use Rattle.std.proofs.Common.{List, [], ◌∷◌, length, Option, Some, None, inl, inr, refl, sym, ap}
-use Rattle.std.proofs.Common.{◌∙◌}
-use Rattle.std.proofs.Common.{arith}
-use Rattle.std.specs.Prelude.{nat_eq}
+use Rattle.std.proofs.Common.{◌∙◌, subst, arith}
+use Rattle.std.specs.Prelude.{nat_eq, IfSome}
 use Rattle.std.specs.List.{enumerate_from}
 use Rattle.std.proofs.lemmas.Int.{ints}
 use Rattle.std.proofs.lemmas.Bool.{cases_eq}
 use Rattle.std.proofs.lemmas.Bool.Decides.{nat_tests}
-use Rattle.pra_list.proofs.Options.{some_same}
 use Rattle.pra_base.specs.declared.ids.Place.{Place}
-use Rattle.pra_base.specs.declared.ids.Place.TheVariants.{Eax, Ecx, Edx, Ebx, Esi, Edi, Mem, Const}
-use Rattle.pra_base.specs.declared.ids.Place.TheVariants.{EaxM, EcxM, EdxM, EbxM, EsiM, EdiM}
+use Rattle.pra_base.specs.declared.ids.Place.TheVariants.{Const}
 use Rattle.pra_base.specs.Places.{number, is_mem}
 use Rattle.net_form.specs.declared.net.Strand.{Strand}
 use Rattle.net_form.specs.declared.net.Tie.{Tie}
@@ -35,10 +32,8 @@ pay_sum true y z = refl
 pay_sum false y z = omega (arith, ints)
 
 pay_both : (a b : Bool) (z : ℤ) → pay (a && b) z ≡ pay b (pay a z)
-pay_both true true z = refl
-pay_both true false z = refl
-pay_both false true z = refl
-pay_both false false z = refl
+pay_both true b z = refl
+pay_both false b z = sym (pay_nothing b)
 
 module _ (net : Net) (prices : Prices) (s l : ℕ) where
   -- ---- memory pairs
@@ -49,11 +44,14 @@ module _ (net : Net) (prices : Prices) (s l : ℕ) where
   if_memory b [] = sym (pay_nothing b)
   if_memory b (m ∷ ms) =
       let z = pos (mem_price prices m.0) in
-      let one = pay_both (is_end s l m.1) b z in
-      let more = if_memory b ms in
-      let sum = pay_sum b (pay (is_end s l m.1) z)
-      (total (λ m. pay (is_end s l m.1) (pos (mem_price prices m.0))) ms) in
-      omega (arith, ints, one, more, sum)
+      omega (
+        arith,
+        ints,
+        pay_both (is_end s l m.1) b z,
+        if_memory b ms,
+        pay_sum b (pay (is_end s l m.1) z)
+            (total (λ m. pay (is_end s l m.1) (pos (mem_price prices m.0))) ms),
+      )
 
   pub mem_part_is : (q : Place) → mem_part net prices (edge s l None q)
       ≡ pay (is_mem (number q)) (mems_sum net.pairs prices s l)
@@ -71,15 +69,14 @@ module _ (net : Net) (prices : Prices) (s l : ℕ) where
           | inl is ↦
               let one : nat_eq s (tied_strand end t) ≡ true = grind (arith, nat_tests, is) in
               let other : nat_eq (tied_strand end t) s ≡ true = grind (arith, nat_tests, is) in
-              ap (λ b. pay (b && nat_eq l (at (strand_at net (tied_strand end t)))) z) one
-              ∙ ap (λ k. pay (nat_eq l (at (strand_at net k))) z) is
-              ∙ sym (ap (λ b. pay (nat_eq l (at (strand_at net s))) (pay b z)) other)
+              (λ i. pay (one i && nat_eq l (at (strand_at net (is i)))) z)
+              ∙ (λ i. pay (nat_eq l (at (strand_at net s))) (pay (sym other i) z))
           | inr not_it ↦
               let one : nat_eq s (tied_strand end t) ≡ false = grind (arith, nat_tests, not_it) in
               let other : nat_eq (tied_strand end t) s ≡ false = grind (arith, nat_tests, not_it) in
-              ap (λ b. pay (b && nat_eq l (at (strand_at net (tied_strand end t)))) z) one
+              (λ i. pay (one i && nat_eq l (at (strand_at net (tied_strand end t)))) z)
               ∙ sym (pay_nothing (nat_eq l (at (strand_at net s))))
-              ∙ sym (ap (λ b. pay (nat_eq l (at (strand_at net s))) (pay b z)) other)
+              ∙ (λ i. pay (nat_eq l (at (strand_at net s))) (pay (sym other i) z))
         ]
 
     all_ends : (o : Option ℕ) (ts : List (ℕ × Tie))
@@ -101,9 +98,7 @@ module _ (net : Net) (prices : Prices) (s l : ℕ) where
         → total (λ t. pay (nat_eq (tied_strand end t.1) s) (pos 0)) ts ≡ pos 0
     nothing_paid [] = refl
     nothing_paid (t ∷ ts) =
-        let one = pay_nothing (nat_eq (tied_strand end t.1) s) in
-        let more = nothing_paid ts in
-        omega (arith, ints, one, more)
+        omega (arith, ints, pay_nothing (nat_eq (tied_strand end t.1) s), nothing_paid ts)
 
     slots : (o : Option ℕ)
         → total (λ t. pay (nat_eq (tied_strand end t.1) s) (number_at_slot prices.ties t.0 o))
@@ -128,21 +123,9 @@ module _ (net : Net) (prices : Prices) (s l : ℕ) where
       ≡ pay (nat_eq l (strand_at net s).first) (place_sum net.ties prices Entry s q)
   entry_part_is q = part_is Entry (λ t. t.first) (tie_slot q)
 
-slot_below : (q : Place) (j : ℕ) → tie_slot q ≡ Some j → j < 13
-slot_below Eax j is = let e : 0 ≡ j = some_same 0 j is in omega (arith, e)
-slot_below Ecx j is = let e : 1 ≡ j = some_same 1 j is in omega (arith, e)
-slot_below Edx j is = let e : 2 ≡ j = some_same 2 j is in omega (arith, e)
-slot_below Ebx j is = let e : 3 ≡ j = some_same 3 j is in omega (arith, e)
-slot_below Esi j is = let e : 4 ≡ j = some_same 4 j is in omega (arith, e)
-slot_below Edi j is = let e : 5 ≡ j = some_same 5 j is in omega (arith, e)
-slot_below Mem j is = let e : 6 ≡ j = some_same 6 j is in omega (arith, e)
-slot_below Const j is = cc
-slot_below EaxM j is = let e : 7 ≡ j = some_same 7 j is in omega (arith, e)
-slot_below EcxM j is = let e : 8 ≡ j = some_same 8 j is in omega (arith, e)
-slot_below EdxM j is = let e : 9 ≡ j = some_same 9 j is in omega (arith, e)
-slot_below EbxM j is = let e : 10 ≡ j = some_same 10 j is in omega (arith, e)
-slot_below EsiM j is = let e : 11 ≡ j = some_same 11 j is in omega (arith, e)
-slot_below EdiM j is = let e : 12 ≡ j = some_same 12 j is in omega (arith, e)
+slot_small : (q : Place) → IfSome (tie_slot q) (λ j. j < 13)
+slot_small Const = tt
+slot_small q = omega arith
 
 -- what is kept for a place is the sum of its numbers
 pub kept_sum : (net : Net) (prices : Prices) (end : BlockEnd) (sums : List ℤ) (s : ℕ) (q : Place)
@@ -153,4 +136,4 @@ kept_sum net prices end sums s q are lt = by (tie_slot q) refl
     by : (o : Option ℕ) → tie_slot q ≡ o
         → number_at_slot sums s o ≡ slot_sum net.ties prices end s o
     by None is = refl
-    by (Some j) is = are.each s j lt (slot_below q j is)
+    by (Some j) is = are.each s j lt (subst (λ o. IfSome o (λ j. j < 13)) is (slot_small q))

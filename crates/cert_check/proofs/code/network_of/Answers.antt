@@ -1,11 +1,7 @@
-use Rattle.std.proofs.Common.{◌≡◌, Bool, true, false, List, Option, subst, sym, ◌∙◌}
+use Rattle.std.proofs.Common.{Option, subst}
 use Rattle.std.specs.Option.{MatchOption}
 use Rattle.vc_live.specs.declared.liveness.Liveness.{Liveness}
 use Rattle.vc_valid.specs.Listed.{HasCode}
-use Rattle.pra_base.specs.declared.ids.Place.{Place}
-use Rattle.net_form.specs.Flow.{HasPlaces}
-use Rattle.net_form.specs.Strands.{strands}
-use Rattle.net_form.specs.Tables.{all_tables}
 use Rattle.vc_live.specs.Rows.{IsLiveness, live_at}
 use Rattle.net_build.proofs.LiveAt.{is_live}
 use Rattle.cert_check.proofs.Claims.{no_routes}
@@ -22,11 +18,5 @@ returns-then-not-has_places c =
     c.in-Some.is c.in_ok-live.ensures in (
       has.0,
       no_routes code (live_at live) c.args.cert.now.routes (is_live code live has.1)
-          (λ places. not_both c.if-not-has_places.true (c.has_places.ensures.1 places)),
+          (λ places. absurd (cc (c.if-not-has_places.true, c.has_places.ensures.1 places))),
     )
-  where
-    false_true : false ≡ true → ⊥
-    false_true e = cc
-
-    not_both : {x : Bool} → x ≡ false → x ≡ true → ⊥
-    not_both e f = false_true (sym e ∙ f)

@@ -17,14 +17,13 @@ loop-at-preserved g c =
     let l = c.args.spot.layer in
     let at = c.loop-at.at in
     let inv = c.loop-at.invariant in
-    let long = inv.long in
     let is : c.begin.result ≡ paid net w prices s l (place_at at)
     (Some (way_toll net w s l None (place_at at)))
     = c.begin.ensures ∙ ap (λ p. paid net w prices s l p (Some (way_toll net w s l None p)))
     c.place_at.ensures in record {
       long = length-set c.loop-at.row at c.begin.result ∙ inv.long;
       each = stored (λ k o. IsReached net (edge_price net w prices) s l (place_at k) o)
-          c.loop-at.row at c.begin.result None (omega (arith, long, c.loop-at-test.true)) inv.each
+          c.loop-at.row at c.begin.result None (omega arith) inv.each
           (subst (IsReached net (edge_price net w prices) s l (place_at at)) (sym is)
           (first_paid_at net w prices s l c.requires.first (place_at at)));
     }
@@ -35,4 +34,4 @@ returns-clause-row g c =
     row_of c.args.net.now (weights_of c.args.model.now) c.args.tolls.now.prices c.args.spot.strand
     c.requires.net c.requires.kept.valid c.requires.tolls.prices c.requires.spot.strand
     c.args.spot.layer c.requires.spot.before c.loop-at.row inv.long
-    (λ k lt. inv.each k (omega (arith, lt, c.loop-at-test.false)))
+    (λ k lt. inv.each k (omega arith))

@@ -16,14 +16,13 @@ loop-at-preserved g c =
     let l = c.args.spot.layer in
     let at = c.loop-at.at in
     let inv = c.loop-at.invariant in
-    let long = inv.long in
     let q = c.place_at-to.result in
     let best = c.come_to.result in
     let reached = next_paid_at net w prices s l c.args.row.now c.requires.row q best
     c.come_to.ensures.least in record {
       long = length-set c.loop-at.next at c.pay.result ∙ inv.long;
       each = stored (λ k o. IsReached net (edge_price net w prices) s l (place_at k) o)
-          c.loop-at.next at c.pay.result None (omega (arith, long, c.loop-at-test.true)) inv.each
+          c.loop-at.next at c.pay.result None (omega arith) inv.each
           (subst (λ q. IsReached net (edge_price net w prices) s l q c.pay.result)
           c.place_at-to.ensures
           (subst (IsReached net (edge_price net w prices) s l q) (sym c.pay.ensures) reached));
@@ -35,4 +34,4 @@ returns-clause-row g c =
     row_of c.args.net.now (weights_of c.args.model.now) c.args.tolls.now.prices c.args.spot.strand
     c.requires.net c.requires.kept.valid c.requires.tolls.prices c.requires.spot.strand
     c.args.spot.layer c.requires.spot.before c.loop-at.next inv.long
-    (λ k lt. inv.each k (omega (arith, lt, c.loop-at-test.false)))
+    (λ k lt. inv.each k (omega arith))

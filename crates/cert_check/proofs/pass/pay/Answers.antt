@@ -16,10 +16,8 @@ use Rattle.cert_check.proofs.pass.pay.Goals as goal
 pub add-requires-clause-one : goal.add-requires-clause-one
 add-requires-clause-one g c =
     let w = within_of (2 ^ 61) c.args.cost c.in-Some.cost c.in-Some.is c.requires.within in
-    let low = w.low in
-    let high = w.high in
     rw (same_bits (2 ^ 61) c.in-Some.cost (omega arith) w)
-    (record { low = omega (arith, ints, low); high = omega (arith, ints, high) })
+    (record { low = omega (arith, ints); high = omega (arith, ints) })
 
 pub returns : goal.returns
 returns g c =
@@ -33,13 +31,10 @@ returns g c =
     let t = c.index-strand.result.now in
     let read : t ≡ strand_at net s = get_or_read net.strands s t c.requires.spot.strand
     c.index-strand.ensures no_strand in
-    let formed = c.requires.net.formed.strands s no_strand c.requires.spot.strand in
+    let masks = (c.requires.net.formed.strands s no_strand c.requires.spot.strand).masks in
     let long = ap (λ (t : Strand). length t.masks) read in
     let first = ap (λ (t : Strand). t.first) read in
-    let masks = formed.masks in
-    let after = c.requires.spot.after in
-    let before = c.requires.spot.before in
-    let there : l - t.first < length t.masks = omega (arith, long, first, masks, after, before) in
+    let there : l - t.first < length t.masks = omega arith in
     let mask : c.index.result.now ≡ slice_index_or (strand_at net s).masks
     (l - (strand_at net s).first) 0
     = get_or_read t.masks (l - t.first) c.index.result.now there c.index.ensures 0
@@ -49,10 +44,8 @@ returns g c =
     let exact_cost = same_bits (2 ^ 61) cost (omega arith)
     (within_of (2 ^ 61) c.args.cost cost c.in-Some.is c.requires.within) in
     let exact_toll = to_z-of_z w128 c.toll.result (record { sfits = c.toll.type_inv }) in
-    let sum = c.add.ensures in
-    let paid = c.toll.ensures.value in
     let whole : c.add.result ≡ cost +ℤ toll net w prices s l to
-    = omega (arith, ints, sum, exact_cost, exact_toll, paid) in
+    = omega (arith, ints, c.add.ensures, c.toll.ensures.value) in
     rw (to_z-of_z w128 c.add.result (record { sfits = c.add.type_inv }))
     (ap Some whole ∙ sym (guarded_is (in_mask net (edge s l None to))
     (λ d. d +ℤ toll net w prices s l to) c.args.cost cost allowed c.in-Some.is))

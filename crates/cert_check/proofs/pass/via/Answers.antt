@@ -15,8 +15,8 @@ use Rattle.cert_check.proofs.pass.via.Goals.{else-spot-eq0-via-then-spot-eq0+els
 use Rattle.cert_check.proofs.pass.via.Goals.{else-spot-eq0-via-else-spot-eq0}
 use Rattle.cert_check.proofs.pass.via.Goals as goal
 
-pub returns-clause-value : goal.returns-clause-value
-returns-clause-value g c =
+pub returns : goal.returns
+returns g c =
     let net = c.args.net.now in
     let w = weights_of c.args.model.now in
     let s = c.args.spot.strand in
@@ -37,30 +37,10 @@ returns-clause-value g c =
     (c.requires.row (number from)) in
     let exact_cost = same_bits most_sum cost (omega arith) old in
     let exact_way = to_z-of_z w128 c.in_units.result (record { sfits = c.in_units.type_inv }) in
-    let way = c.in_units.ensures in
-    let is = c.way_cost-way.ensures.value in
-    let sum = c.add.ensures in
     let whole : c.add.result ≡ cost +ℤ way_toll net w s l (Some from) to
-    = omega (arith, ints, sum, exact_cost, exact_way, way, is) in
-    rw (to_z-of_z w128 c.add.result (record { sfits = c.add.type_inv }))
-    (ap Some whole ∙ sym (guarded_is (stays_across (edge s l (Some from) to))
-    (λ d. d +ℤ way_toll net w s l (Some from) to) (cost_at row (number from)) cost stays at))
-
-pub returns-clause-within : goal.returns-clause-within
-returns-clause-within g c =
-    let cost = c.in-Some.cost in
-    let old = within_of most_sum (slice_index_or c.args.row.now c.number-2.result None) cost
-    c.in-Some.is (c.requires.row c.number-2.result) in
-    let exact_cost = same_bits most_sum cost (omega arith) old in
-    let exact_way = to_z-of_z w128 c.in_units.result (record { sfits = c.in_units.type_inv }) in
-    let way = c.in_units.ensures in
-    let small = c.way_cost-way.ensures.small in
-    let sum = c.add.ensures in
-    let low = old.low in
-    let high = old.high in
-    rw (to_z-of_z w128 c.add.result (record { sfits = c.add.type_inv }))
-    (record {
-      low = omega (arith, ints, way, small, sum, exact_cost, exact_way, low);
-      high =
-          omega (arith, ints, way, small, sum, exact_cost, exact_way, high);
+    = omega (arith, ints, c.add.ensures, c.in_units.ensures, c.way_cost-way.ensures.value) in
+    rw (to_z-of_z w128 c.add.result (record { sfits = c.add.type_inv })) (record {
+      value = ap Some whole ∙ sym (guarded_is (stays_across (edge s l (Some from) to))
+          (λ d. d +ℤ way_toll net w s l (Some from) to) (cost_at row (number from)) cost stays at);
+      within = record { low = omega (arith, ints); high = omega (arith, ints) };
     })

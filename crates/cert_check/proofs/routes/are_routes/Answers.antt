@@ -1,4 +1,4 @@
-use Rattle.std.proofs.Common.{◌<◌, ◌∙◌, [], length, ap, sym, arith}
+use Rattle.std.proofs.Common.{◌<◌, ◌∙◌, length, ap, sym, arith}
 use Rattle.std.proofs.lemmas.List.{get_or_read}
 use Rattle.net_form.specs.declared.net.Strand.{Strand}
 use Rattle.net_form.specs.Admitted.{no_strand}
@@ -17,25 +17,20 @@ returns-then-at-len c = refused (λ has.
     let net = c.args.net.now in
     let places = c.args.routes.now.places in
     let s = c.loop-strand.strand in
-    let end = c.len-strand-end.ensures in
-    let lt : s < length net.strands = omega (arith, end, c.loop-strand-test.true) in
+    let lt : s < length net.strands = omega arith in
     let path = ap length c.at.ensures in
-    let strand = get_or_read net.strands s c.index.result.now lt
-    c.index.ensures no_strand in
-    let masks = ap (λ (t : Strand). length t.masks) strand in
+    let masks = ap (λ (t : Strand). length t.masks)
+    (get_or_read net.strands s c.index.result.now lt c.index.ensures no_strand) in
     let long = each_long net c.args.routes.now has s lt in
     let formed = (c.requires.strands s no_strand lt).masks in
-    let one = c.len-in-loop-strand.ensures in
-    c.if-at-len.true (omega (arith, path, masks, long, formed, one)))
+    c.if-at-len.true (omega arith))
 
 pub returns : goal.returns
 returns c =
     let net = c.args.net.now in
     let places = c.args.routes.now.places in
-    let end = c.len-strand-end.ensures in
-    let past = c.loop-strand-test.false in
     granted (has_places net.strands places (sym c.len.ensures ∙ c.if-len.false ∙ c.len-2.ensures)
     (λ s lt.
-    let long = c.loop-strand.invariant s (omega (arith, lt, end, past)) in
+    let long = c.loop-strand.invariant s (omega arith) in
     let formed = (c.requires.strands s no_strand lt).masks in
-    omega (arith, long, formed)))
+    omega arith))

@@ -16,8 +16,7 @@ loop-tie-preserved c =
     let n = c.loop-tie.tie in
     let t = c.index.result.now in
     let inv = c.loop-tie.invariant in
-    let stop = c.len-tie-end.ensures in
-    let lt : n < length net.ties = omega (arith, stop, c.loop-tie-test.true) in
+    let lt : n < length net.ties = omega arith in
     let value = c.deref_mut.ensures.value in
     let many : length new ≡ length old = c.add_tie.ensures.count ∙ ap length value in
     let whole : take c.loop-tie.sums.len (new ++ drop (length new) old) ≡ new

@@ -10,19 +10,7 @@ use Rattle.cert_check.proofs.tolls.end_prices.Goals as goal
 pub loop-pair-preserved : goal.loop-pair-preserved
 loop-pair-preserved c =
     let net = c.args.net.now in
-    let prices = c.args.prices.now in
-    let k = c.loop-pair.pair in
-    let end = c.len-pair-end.ensures in
-    let lt : k < length net.pairs = omega (arith, end, c.loop-pair-test.true) in
+    let lt : c.loop-pair.pair < length net.pairs = omega arith in
     let more = sum_more (λ (m : ℕ × MemPair). pay (is_end c.args.spot.strand c.args.spot.layer m.1)
-    (pos (mem_price prices m.0))) net.pairs k no_pair lt in
-    let value = c.end_price.ensures.value in
-    let small = c.end_price.ensures.small in
-    let from = c.from-total.ensures in
-    let old = c.loop-pair.invariant.total in
-    let few = c.loop-pair.invariant.small in
-    record {
-      total = omega (arith, ints, more, value, from, old);
-      small =
-          omega (arith, few, small, from);
-    }
+    (pos (mem_price c.args.prices.now m.0))) net.pairs c.loop-pair.pair no_pair lt in
+    record { total = omega (arith, ints); small = omega arith }

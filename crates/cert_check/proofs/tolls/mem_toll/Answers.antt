@@ -1,4 +1,4 @@
-use Rattle.std.proofs.Common.{◌∙◌, ap, sym}
+use Rattle.std.proofs.Common.{◌∙◌, sym}
 use Rattle.net_dual.specs.Priced.{pay}
 use Rattle.cert_check.specs.Tolls.{mems_sum}
 use Rattle.cert_check.proofs.TollParts.{mem_part_is}
@@ -6,20 +6,12 @@ use Rattle.cert_check.proofs.tolls.mem_toll.Goals as goal
 
 pub returns-then-not-is_mem-clause-value : goal.returns-then-not-is_mem-clause-value
 returns-then-not-is_mem-clause-value c =
-    let net = c.args.net.now in
-    let prices = c.args.prices.now in
-    let s = c.args.spot.strand in
-    let l = c.args.spot.layer in
-    sym (mem_part_is net prices s l c.args.place
-    ∙ ap (λ b. pay b (mems_sum net.pairs prices s l)) (sym c.is_mem.ensures ∙ c.if-not-is_mem.true))
+    sym (mem_part_is c.args.net.now c.args.prices.now c.args.spot.strand c.args.spot.layer
+    c.args.place ∙ (λ i. pay ((sym c.is_mem.ensures ∙ c.if-not-is_mem.true) i)
+    (mems_sum c.args.net.now.pairs c.args.prices.now c.args.spot.strand c.args.spot.layer)))
 
 pub returns-clause-value : goal.returns-clause-value
-returns-clause-value c =
-    let net = c.args.net.now in
-    let prices = c.args.prices.now in
-    let s = c.args.spot.strand in
-    let l = c.args.spot.layer in
-    c.end_prices.ensures.value
-    ∙ sym (mem_part_is net prices s l c.args.place
-    ∙ ap (λ b. pay b (mems_sum net.pairs prices s l))
-    (sym c.is_mem.ensures ∙ c.if-not-is_mem.false))
+returns-clause-value c = c.end_prices.ensures.value
+    ∙ sym (mem_part_is c.args.net.now c.args.prices.now c.args.spot.strand c.args.spot.layer
+    c.args.place ∙ (λ i. pay ((sym c.is_mem.ensures ∙ c.if-not-is_mem.false) i)
+    (mems_sum c.args.net.now.pairs c.args.prices.now c.args.spot.strand c.args.spot.layer)))

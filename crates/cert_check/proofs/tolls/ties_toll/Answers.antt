@@ -1,9 +1,8 @@
-use Rattle.std.proofs.Common.{◌≡◌, ◌∙◌, ℤ, List, None, ap, sym, arith}
+use Rattle.std.proofs.Common.{◌≡◌, ◌∙◌, None, ap, sym, arith}
 use Rattle.std.specs.Prelude.{nat_eq}
 use Rattle.std.specs.Int.{w128}
 use Rattle.std.proofs.lemmas.Int.{ints, to_z-of_z}
 use Rattle.std.proofs.lemmas.List.{get_or_read}
-use Rattle.net_form.specs.declared.net.Strand.{Strand}
 use Rattle.net_form.specs.declared.net.BlockEnd.TheVariants.{Entry, Exit}
 use Rattle.net_form.specs.Admitted.{strand_at, no_strand}
 use Rattle.net_dual.specs.Priced.{pay, tie_slot, number_at_slot, exit_part, entry_part}
@@ -24,28 +23,21 @@ returns-clause-value c =
     c.index-strand.ensures no_strand in
     let exit : c.end_toll-exit.result ≡ exit_part net prices (edge s l None q)
     = c.end_toll-exit.ensures.value
-    ∙ ap (λ (t : Strand). pay (nat_eq l t.last)
-    (number_at_slot c.as_slice-exits.result.now s (tie_slot q))) read
-    ∙ ap (λ (xs : List ℤ). pay (nat_eq l (strand_at net s).last) (number_at_slot xs s (tie_slot q)))
-    c.as_slice-exits.ensures
+    ∙ (λ i. pay (nat_eq l (read i).last)
+    (number_at_slot (c.as_slice-exits.ensures i) s (tie_slot q)))
     ∙ ap (pay (nat_eq l (strand_at net s).last))
     (kept_sum net prices Exit tolls.exits s q c.requires.tolls.exits c.requires.spot.strand)
     ∙ sym (exit_part_is net prices s l q) in
     let entry : c.end_toll-entry.result ≡ entry_part net prices (edge s l None q)
     = c.end_toll-entry.ensures.value
-    ∙ ap (λ (t : Strand). pay (nat_eq l t.first)
-    (number_at_slot c.as_slice-entries.result.now s (tie_slot q))) read
-    ∙ ap (λ (xs : List ℤ). pay (nat_eq l (strand_at net s).first)
-    (number_at_slot xs s (tie_slot q)))
-    c.as_slice-entries.ensures
+    ∙ (λ i. pay (nat_eq l (read i).first)
+    (number_at_slot (c.as_slice-entries.ensures i) s (tie_slot q)))
     ∙ ap (pay (nat_eq l (strand_at net s).first))
-    (kept_sum net prices Entry tolls.entries s q c.requires.tolls.entries
-    c.requires.spot.strand)
+    (kept_sum net prices Entry tolls.entries s q c.requires.tolls.entries c.requires.spot.strand)
     ∙ sym (entry_part_is net prices s l q) in
     let exact_exit = to_z-of_z w128 c.end_toll-exit.result
     (record { sfits = c.end_toll-exit.type_inv }) in
     let exact_entry = to_z-of_z w128 c.end_toll-entry.result
     (record { sfits = c.end_toll-entry.type_inv }) in
-    let rest = c.subtract.ensures in
     rw (to_z-of_z w128 c.subtract.result (record { sfits = c.subtract.type_inv }))
-    (omega (arith, ints, rest, exact_exit, exact_entry, exit, entry))
+    (omega (arith, ints, c.subtract.ensures))

@@ -17,18 +17,9 @@ loop-strand-preserved g c =
     let cost = c.least_cost.result in
     let exact = to_z-of_z w128 cost (record { sfits = c.least_cost.type_inv }) in
     let whole = to_z-of_z w128 c.add-total.result (record { sfits = c.add-total.type_inv }) in
-    let sum = c.add-total.ensures in
-    let is : total +ℤ cost ≡ to_z w128 (of_z w128 c.add-total.result) =
-    omega (arith, ints, exact, whole, sum) in
-    let w = c.least_cost.ensures.within in
-    let low = inv.within.low in
-    let high = inv.within.high in
-    let wl = w.low in
-    let wh = w.high in record {
+    let is : total +ℤ cost ≡ to_z w128 (of_z w128 c.add-total.result) = omega (arith, ints) in
+    record {
       sum = subst (AreLeastCosts net price (n + 1)) is
           (costs_more net price n total cost inv.sum c.least_cost.ensures.least);
-      within = record {
-        low = omega (arith, ints, is, low, wl);
-        high = omega (arith, ints, is, high, wh);
-      };
+      within = record { low = omega (arith, ints); high = omega (arith, ints) };
     }
