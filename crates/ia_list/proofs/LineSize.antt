@@ -8,18 +8,13 @@ use Rattle.std.specs.Fmt.{signed_decimal}
 use Rattle.std.proofs.lemmas.Fmt.{decimal_nonempty}
 use Rattle.std.proofs.lemmas.Int.{ints}
 use Rattle.ia_code.specs.declared.ins.Reg.{Reg}
-use Rattle.ia_code.specs.declared.ins.Reg.TheVariants.{Eax, Ecx, Edx, Ebx, Esp, Ebp, Esi, Edi}
+use Rattle.ia_code.specs.declared.ins.Reg.TheVariants.{Eax, Ebx, Esi, Edi}
 use Rattle.ia_code.specs.declared.ins.Width.{Width}
-use Rattle.ia_code.specs.declared.ins.Width.TheVariants.{D0, D8, D32}
+use Rattle.ia_code.specs.declared.ins.Width.TheVariants.{D0}
 use Rattle.ia_code.specs.declared.ins.Rm.{Rm}
 use Rattle.ia_code.specs.declared.ins.Rm.TheVariants as rm
 use Rattle.ia_code.specs.declared.ins.Ins.{Ins}
-use Rattle.ia_code.specs.declared.ins.Ins.TheVariants.{MovRmR, MovRRm, MovRI, MovRmI, AluRmR}
-use Rattle.ia_code.specs.declared.ins.Ins.TheVariants.{AluRRm, AluRmI, AluRmB, ImulRRm, ImulI}
-use Rattle.ia_code.specs.declared.ins.Ins.TheVariants.{ImulB, Neg, Shift, Idiv, Cdq, Lea, PushR}
-use Rattle.ia_code.specs.declared.ins.Ins.TheVariants.{PopR}
-use Rattle.ia_code.specs.declared.ins.Ins.TheVariants.{PushM, PushI, Call, Ret, RetI, Jmp, Jcc, Set}
-use Rattle.ia_code.specs.declared.ins.Ins.TheVariants.{Movzx, Xchg, Test, Int}
+use Rattle.ia_code.specs.declared.ins.Ins.TheVariants.{ImulI, Neg, Idiv, Cdq, PushM}
 use Rattle.ia_code.specs.DecodeTable.{reg_number, imm32, operand, bytes_of, IsOperand, IsSound}
 use Rattle.ia_code.specs.Listing.{bytes_of_all, AreSound}
 use Rattle.ia_code.proofs.EncodingSize.{code_of}
@@ -30,50 +25,25 @@ use Rattle.ia_list.specs.declared.forms.Operands.TheVariants.{Nothing, One, Two,
 use Rattle.ia_list.specs.declared.forms.Operands.TheVariants.{TwoNumber, Target, LowByte}
 use Rattle.ia_list.specs.declared.forms.Operands.TheVariants.{OneLowByte}
 use Rattle.ia_list.specs.Parts.{name, parts}
-use Rattle.ia_list.specs.Text.{register_name, low_name, base_text, index_text, width_text}
-use Rattle.ia_list.specs.Text.{operand_text, operands_text, line}
+use Rattle.ia_list.specs.Text.{register_name, width_text, operand_text, operands_text, line}
 use Rattle.ia_list.specs.ListText.{lines}
 use Rattle.ia_list.proofs.OperandsRead.{AreOperands}
-use Rattle.ia_list.proofs.NamesRead.{by_op, by_cond, by_shift}
+use Rattle.ia_list.proofs.NamesRead.{least_name, names}
 use Rattle.ia_list.proofs.LineRead.{are_operands}
 
 -- Operands.
 
 register_long : (r : Reg) → 3 ≤ length (register_name r)
-register_long r = elim r as (λ r. 3 ≤ length (register_name r)) [
-  | Eax ↦ omega arith
-  | Ecx ↦ omega arith
-  | Edx ↦ omega arith
-  | Ebx ↦ omega arith
-  | Esp ↦ omega
-      arith
-  | Ebp ↦ omega arith
-  | Esi ↦ omega arith
-  | Edi ↦ omega arith
-]
+register_long Eax = omega arith
+register_long _ = omega arith
 
 width_long : (w : Width) → 3 ≤ length (width_text w)
 width_long D0 = omega arith
-width_long D8 = omega arith
-width_long D32 = omega arith
-
-middle_long : (a b c d : List ℕ) → length b ≤ length (((a ++ b) ++ c) ++ d)
-middle_long a b c d = omega (
-  arith,
-  length-append ((a ++ b) ++ c) d,
-  length-append (a ++ b) c,
-  length-append a b,
-)
+width_long _ = omega arith
 
 operand_long : (a : Rm) → 3 ≤ length (operand_text a)
 operand_long (rm.Reg r) = register_long r
-operand_long (rm.Mem a) =
-    omega (
-      arith,
-      width_long a.width,
-      middle_long ((91 ∷ [] ++ base_text a.base) ++ index_text a.index) (width_text a.width)
-          (signed_decimal a.disp) (93 ∷ []),
-    )
+operand_long (rm.Mem a) = simp length-append (omega (arith, width_long a.width))
 
 signed_long : (n : ℤ) → FitsSigned w32 n → 1 ≤ length (signed_decimal n)
 signed_long (pos n) f = omega (arith, decimal_nonempty n (omega arith))
@@ -91,86 +61,16 @@ least (Target t) = 9
 least (LowByte r) = 1
 least (OneLowByte a r) = 6
 
-two_long : (a b : List ℕ) → length (((32 ∷ a) ++ 44 ∷ 32 ∷ []) ++ b) ≡ 3 + length a + length b
-two_long a b = omega (
-  arith,
-  length-append ((32 ∷ a) ++ 44 ∷ 32 ∷ []) b,
-  length-append (32 ∷ a) (44 ∷ 32 ∷ []),
-)
-
-three_long : (a b c : List ℕ) →
-    length (((((32 ∷ a) ++ 44 ∷ 32 ∷ []) ++ b) ++ 44 ∷ 32 ∷ []) ++ c)
-    ≡ 5 + length a + length b + length c
-three_long a b c =
-    omega (
-      arith,
-      length-append ((((32 ∷ a) ++ 44 ∷ 32 ∷ []) ++ b) ++ 44 ∷ 32 ∷ []) c,
-      length-append (((32 ∷ a) ++ 44 ∷ 32 ∷ []) ++ b) (44 ∷ 32 ∷ []),
-      two_long a b,
-    )
-
 operands_long : (o : Operands) → AreOperands o → least o ≤ length (operands_text o)
-operands_long Nothing h = omega arith
 operands_long (One a) h = omega (arith, operand_long a)
-operands_long (Two a b) h = omega (
-  arith,
-  two_long (operand_text a) (operand_text b),
-  operand_long a,
-  operand_long b,
-)
+operands_long (Two a b) h = simp length-append (omega (arith, operand_long a, operand_long b))
 operands_long (Number n) h = omega (arith, signed_long n h)
-operands_long (OneNumber a n) h = omega (
-  arith,
-  two_long (operand_text a) (signed_decimal n),
-  operand_long a,
-  signed_long n h.1,
-)
+operands_long (OneNumber a n) h =
+    simp length-append (omega (arith, operand_long a, signed_long n h.1))
 operands_long (TwoNumber a b n) h =
-    omega (
-      arith,
-      three_long (operand_text a) (operand_text b) (signed_decimal n),
-      operand_long a,
-      operand_long b,
-      signed_long n h.2,
-    )
-operands_long (Target t) h = omega arith
-operands_long (LowByte r) h = omega arith
-operands_long (OneLowByte a r) h = omega (
-  arith,
-  two_long (operand_text a) (low_name r),
-  operand_long a,
-)
-
--- how long a name is at least
-abbrev least_name : Form → ℕ
-least_name form.MovRi = 5
-least_name form.MovMi = 5
-least_name (form.AluMi op) = 5
-least_name (form.AluMb op) = 5
-least_name (form.Shift op) = 5
-least_name (form.Jcc c) = 2
-least_name _ = 3
-
-name_long : (f : Form) → least_name f ≤ length (name f)
-name_long (form.AluMr op) = by_op (λ op. 3 ≤ length (name (form.AluMr op))) (omega arith)
-    (omega arith) (omega arith) (omega arith) (omega arith) (omega arith) op
-name_long (form.AluRm op) = by_op (λ op. 3 ≤ length (name (form.AluRm op))) (omega arith)
-    (omega arith) (omega arith) (omega arith) (omega arith) (omega arith) op
-name_long (form.AluMi op) = by_op (λ op. 5 ≤ length (name (form.AluMi op))) (omega arith)
-    (omega arith) (omega arith) (omega arith) (omega arith) (omega arith) op
-name_long (form.AluMb op) = by_op (λ op. 5 ≤ length (name (form.AluMb op))) (omega arith)
-    (omega arith) (omega arith) (omega arith) (omega arith) (omega arith) op
-name_long (form.Shift op) = by_shift (λ op. 5 ≤ length (name (form.Shift op))) (omega arith)
-    (omega arith) (omega arith) op
-name_long (form.Jcc c) =
-    by_cond (λ c. 2 ≤ length (name (form.Jcc c))) (omega arith) (omega arith) (omega arith)
-    (omega arith) (omega arith) (omega arith) (omega arith) (omega arith) (omega arith)
-    (omega arith) (omega arith) (omega arith) c
-name_long (form.Set c) =
-    by_cond (λ c. 3 ≤ length (name (form.Set c))) (omega arith) (omega arith) (omega arith)
-    (omega arith) (omega arith) (omega arith) (omega arith) (omega arith) (omega arith)
-    (omega arith) (omega arith) (omega arith) c
-name_long _ = omega arith
+    simp length-append (omega (arith, operand_long a, operand_long b, signed_long n h.2))
+operands_long (OneLowByte a r) h = simp length-append (omega (arith, operand_long a))
+operands_long _ h = omega arith
 
 -- Code.
 
@@ -201,36 +101,10 @@ most form.Int = 2
 most _ = 11
 
 code_size : (next : ℕ) (i : Ins) → IsSound i → length (bytes_of i) ≤ most (parts next i).0
-code_size next (MovRmR to from) is = (code_of (MovRmR to from) is).most
-code_size next (MovRRm to from) is = (code_of (MovRRm to from) is).most
-code_size next (MovRI to n) is = (code_of (MovRI to n) is).most
-code_size next (MovRmI to n) is = (code_of (MovRmI to n) is).most
-code_size next (AluRmR op to from) is = (code_of (AluRmR op to from) is).most
-code_size next (AluRRm op to from) is = (code_of (AluRRm op to from) is).most
-code_size next (AluRmI op to n) is = (code_of (AluRmI op to n) is).most
-code_size next (AluRmB op to n) is = (code_of (AluRmB op to n) is).most
-code_size next (ImulRRm to from) is = (code_of (ImulRRm to from) is).most
-code_size next (ImulI to from n) is = (code_of (ImulI to from n) is).most
-code_size next (ImulB to from n) is = (code_of (ImulB to from n) is).most
 code_size next (Neg to) is = omega (arith, operand_size Ebx to is)
-code_size next (Shift op to n) is = (code_of (Shift op to n) is).most
 code_size next (Idiv by) is = omega (arith, operand_size Edi by is)
-code_size next Cdq is = omega arith
-code_size next (Lea to from) is = (code_of (Lea to from) is).most
-code_size next (PushR from) is = omega arith
 code_size next (PushM from) is = omega (arith, operand_size Esi (rm.Mem from) is)
-code_size next (PushI n) is = omega arith
-code_size next (PopR to) is = omega arith
-code_size next (Call to) is = omega arith
-code_size next Ret is = omega arith
-code_size next (RetI n) is = omega arith
-code_size next (Jmp to) is = omega arith
-code_size next (Jcc c to) is = omega arith
-code_size next (Set c to) is = omega arith
-code_size next (Movzx to from) is = omega arith
-code_size next (Xchg to with) is = (code_of (Xchg to with) is).most
-code_size next (Test left right) is = (code_of (Test left right) is).most
-code_size next (Int n) is = omega arith
+code_size next i is = omega (arith, (code_of i is).most)
 
 -- for each form, what is needed of a name, operands and ten more bytes
 enough : (next : ℕ) (i : Ins) →
@@ -255,7 +129,7 @@ line_size place i is =
       code_size next i is,
       enough next i,
       line_long place i,
-      name_long (parts next i).0,
+      (names (parts next i).0).2,
       operands_long (parts next i).1 (are_operands next i is),
     )
 

@@ -9,9 +9,9 @@ use Rattle.std.proofs.lemmas.Bool.Decides.{nat_tests}
 use Rattle.std.proofs.lemmas.Fmt.{decimal_digit}
 use Rattle.std.proofs.lemmas.Int.{ints}
 use Rattle.ia_code.specs.declared.ins.Reg.{Reg}
-use Rattle.ia_code.specs.declared.ins.Reg.TheVariants.{Eax, Ecx, Edx, Ebx, Esp, Ebp, Esi, Edi}
+use Rattle.ia_code.specs.declared.ins.Reg.TheVariants.{Eax}
 use Rattle.ia_code.specs.declared.ins.Width.{Width}
-use Rattle.ia_code.specs.declared.ins.Width.TheVariants.{D0, D8, D32}
+use Rattle.ia_code.specs.declared.ins.Width.TheVariants.{D0, D32}
 use Rattle.ia_code.specs.declared.ins.MemAddr.{MemAddr}
 use Rattle.ia_code.specs.declared.ins.Rm.{Rm}
 use Rattle.ia_code.specs.declared.ins.Rm.TheVariants as rm
@@ -24,7 +24,7 @@ use Rattle.ia_list.specs.declared.forms.Operands.TheVariants.{OneLowByte}
 use Rattle.ia_list.specs.declared.forms.Shape.{Shape}
 use Rattle.ia_list.specs.declared.forms.Shape.TheVariants as shape
 use Rattle.ia_list.specs.Text.{register_name, low_name, base_text, index_text, width_text}
-use Rattle.ia_list.specs.Text.{address_text, operand_text, operands_text}
+use Rattle.ia_list.specs.Text.{operand_text, operands_text}
 use Rattle.ia_list.specs.Reading.{number_at, register_at, low_named, scale_named, base_at, index_at}
 use Rattle.ia_list.specs.Reading.{width_at, address_at, operand_at, operands_at}
 use Rattle.pra_list.specs.Options.{◌>>=◌}
@@ -32,88 +32,38 @@ use Rattle.ia_list.proofs.NumbersRead.{number_read, hexadecimal_read}
 
 -- Registers.
 
-register_read : (r : Reg) (rest : List ℕ) → register_at (register_name r ++ rest) ≡ Some (r, rest)
-unfolding register_at
-register_read r rest = elim r as (λ r. register_at (register_name r ++ rest) ≡ Some (r, rest)) [
-  | Eax ↦ refl
-  | Ecx ↦ refl
-  | Edx ↦ refl
-  | Ebx ↦ refl
-  | Esp ↦ refl
-  | Ebp ↦ refl
-  | Esi ↦ refl
-  | Edi
-      ↦ refl
-]
-
 low_read : (r : Reg) (rest : List ℕ) → has_low_byte r ≡ true →
     low_named (slice_index (low_name r ++ rest) 0) ≡ Some r
-low_read Eax rest h = refl
-low_read Ecx rest h = refl
-low_read Edx rest h = refl
-low_read Ebx rest h = refl
-low_read Esp rest h = cc
-low_read Ebp rest h = cc
-low_read Esi rest h = cc
-low_read Edi rest h = cc
+low_read Eax rest h = cc
+low_read _ rest h = cc
 
 -- Addresses.
 
 base_some : (r : Reg) (rest : List ℕ) → base_at (register_name r ++ 43 ∷ rest) ≡ Some (Some r, rest)
 unfolding base_at register_at
-base_some r rest = elim r as (λ r. base_at (register_name r ++ 43 ∷ rest) ≡ Some (Some r, rest)) [
-  | Eax ↦ refl
-  | Ecx ↦ refl
-  | Edx ↦ refl
-  | Ebx ↦ refl
-  | Esp ↦ refl
-  | Ebp ↦ refl
-  | Esi ↦ refl
-  | Edi
-      ↦ refl
-]
+base_some Eax rest = refl
+base_some _ rest = refl
 
 -- a register before a * is no base
 base_at_index : (r : Reg) (rest : List ℕ) →
     base_at (register_name r ++ 42 ∷ rest) ≡ Some (None, register_name r ++ 42 ∷ rest)
 unfolding base_at
-base_at_index r rest = elim r as (λ r. base_at (register_name r ++ 42 ∷ rest)
-    ≡ Some (None, register_name r ++ 42 ∷ rest)) [
-      | Eax ↦ refl
-      | Ecx ↦ refl
-      | Edx ↦ refl
-      | Ebx ↦ refl
-      | Esp ↦ refl
-      | Ebp ↦ refl
-      | Esi ↦ refl
-      | Edi
-          ↦ refl
-    ]
+base_at_index Eax rest = refl
+base_at_index _ rest = refl
 
 base_at_width : (w : Width) (rest : List ℕ) →
     base_at (width_text w ++ rest) ≡ Some (None, width_text w ++ rest)
 unfolding base_at
 base_at_width D0 rest = refl
-base_at_width D8 rest = refl
-base_at_width D32 rest = refl
+base_at_width _ rest = refl
 
 -- behind a register's name
 index_named : (r : Reg) (rest : List ℕ) →
     index_at (register_name r ++ rest)
     ≡ (scale_named (slice_index rest 1) >>= λ s. Some (Some (r, s), drop 3 rest))
 unfolding index_at register_at
-index_named r rest = elim r as (λ r. index_at (register_name r ++ rest)
-    ≡ (scale_named (slice_index rest 1) >>= λ s. Some (Some (r, s), drop 3 rest))) [
-      | Eax ↦ refl
-      | Ecx ↦ refl
-      | Edx ↦ refl
-      | Ebx ↦ refl
-      | Esp ↦ refl
-      | Ebp ↦ refl
-      | Esi ↦ refl
-      | Edi
-          ↦ refl
-    ]
+index_named Eax rest = refl
+index_named _ rest = refl
 
 scale_read : (s : ℕ) → is_scale s ≡ true → (s < 10) × (scale_named (48 + s) ≡ Some s)
 scale_read s h = (grind (arith, nat_tests), grind (arith, nat_tests))
@@ -128,19 +78,16 @@ index_at_width : (w : Width) (rest : List ℕ) →
     index_at (width_text w ++ rest) ≡ Some (None, width_text w ++ rest)
 unfolding index_at
 index_at_width D0 rest = refl
-index_at_width D8 rest = refl
-index_at_width D32 rest = refl
+index_at_width _ rest = refl
 
 width_read : (w : Width) (rest : List ℕ) → width_at (width_text w ++ rest) ≡ Some (w, rest)
 unfolding width_at
 width_read D0 rest = refl
-width_read D8 rest = refl
-width_read D32 rest = refl
+width_read _ rest = refl
 
 disp_fits : (w : Width) (d : ℤ) → Holds w d → FitsSigned w32 d
-disp_fits D0 d h = omega (arith, ints)
-disp_fits D8 d h = omega (arith, ints)
 disp_fits D32 d h = h
+disp_fits _ d h = omega (arith, ints)
 
 nested : (a b c d e rest : List ℕ) →
     (((((a ++ b) ++ c) ++ d) ++ e) ++ 93 ∷ []) ++ rest ≡ a ++ (b ++ (c ++ (d ++ (e ++ 93 ∷ rest))))
@@ -150,93 +97,48 @@ index_nested : (r d rest : List ℕ) →
     (((r ++ 42 ∷ []) ++ d) ++ 43 ∷ []) ++ rest ≡ r ++ 42 ∷ (d ++ 43 ∷ rest)
 index_nested r d rest = simp (append_assoc) refl
 
--- an address behind its bracket
-module _ (w : Width) (d : ℤ) (rest : List ℕ) (h : Holds w d) where
-  number_text : List ℕ
-  number_text = signed_decimal d ++ 93 ∷ rest
-
-  number_behind : number_at number_text ≡ Some (d, 93 ∷ rest)
-  unfolding number_text
-  number_behind = number_read 93 rest refl d (disp_fits w d h)
-
-  tail : List ℕ
-  tail = width_text w ++ number_text
-
-  width_behind : width_at tail ≡ Some (w, number_text)
-  unfolding tail
-  width_behind = width_read w number_text
-
-  no_base : base_at tail ≡ Some (None, tail)
-  unfolding tail
-  no_base = base_at_width w number_text
-
-  no_index : index_at tail ≡ Some (None, tail)
-  unfolding tail
-  no_index = index_at_width w number_text
-
-  -- behind a base, or where there is none
+-- the parts of an address, with others behind them
+module _ (w : Width) (rest : List ℕ) where
   index_read : (x : Option (Reg × ℕ)) → is_index x ≡ true →
-      index_at (index_text x ++ tail) ≡ Some (x, tail)
-  index_read None ix = no_index
+      index_at (index_text x ++ (width_text w ++ rest)) ≡ Some (x, width_text w ++ rest)
+  index_read None ix = index_at_width w rest
   index_read (Some x) ix =
-      ap index_at (index_nested (register_name x.0) (decimal x.1) tail)
-      ∙ index_some x.0 x.1 tail (index_parts x ix).1
+      ap index_at (index_nested (register_name x.0) (decimal x.1) (width_text w ++ rest))
+      ∙ index_some x.0 x.1 (width_text w ++ rest) (index_parts x ix).1
 
   base_read : (b : Option Reg) (x : Option (Reg × ℕ)) →
-      base_at (base_text b ++ (index_text x ++ tail)) ≡ Some (b, index_text x ++ tail)
-  base_read None None = no_base
+      base_at (base_text b ++ (index_text x ++ (width_text w ++ rest)))
+      ≡ Some (b, index_text x ++ (width_text w ++ rest))
+  base_read None None = base_at_width w rest
   base_read None (Some x) =
-      let e = index_nested (register_name x.0) (decimal x.1) tail in
-      ap base_at e ∙ base_at_index x.0 (decimal x.1 ++ 43 ∷ tail)
+      let e = index_nested (register_name x.0) (decimal x.1) (width_text w ++ rest) in
+      ap base_at e ∙ base_at_index x.0 (decimal x.1 ++ 43 ∷ (width_text w ++ rest))
       ∙ ap (λ l. let y : Option Reg × List ℕ = (None, l) in Some y) (sym e)
   base_read (Some b) x =
-      ap base_at (append_assoc (register_name b) (43 ∷ []) (index_text x ++ tail))
-      ∙ base_some b (index_text x ++ tail)
-
-  parts_read : (b : Option Reg) (x : Option (Reg × ℕ)) → is_index x ≡ true →
-      address_at (base_text b ++ (index_text x ++ tail)) ≡ Some (
-        record {
-          base = b;
-          index = x;
-          disp = d;
-          width = w;
-        },
-        rest,
-      )
-  unfolding address_at
-  parts_read b x ix = rw (base_read b x, index_read x ix, width_behind, number_behind) refl
+      ap base_at (append_assoc (register_name b) (43 ∷ [])
+      (index_text x ++ (width_text w ++ rest)))
+      ∙ base_some b (index_text x ++ (width_text w ++ rest))
 
 address_read : (a : MemAddr) (rest : List ℕ) → IsAddress a →
-    operand_at (address_text a ++ rest) ≡ Some (rm.Mem a, rest)
-unfolding operand_at tail number_text
+    address_at (base_text a.base ++ (index_text a.index ++ (width_text a.width
+    ++ (signed_decimal a.disp ++ 93 ∷ rest)))) ≡ Some (a, rest)
+unfolding address_at
 address_read a rest is =
-    ap operand_at (nested (91 ∷ []) (base_text a.base) (index_text a.index) (width_text a.width)
-    (signed_decimal a.disp) rest)
-    ∙ rw (parts_read a.width a.disp rest is.disp a.base a.index is.index) refl
-
-register_operand : (r : Reg) (rest : List ℕ) →
-    operand_at (register_name r ++ rest)
-    ≡ (register_at (register_name r ++ rest) >>= λ q. let y : Rm × List ℕ = (rm.Reg q.0, q.1) in
-    Some y)
-unfolding operand_at
-register_operand r rest = elim r as (λ r. operand_at (register_name r ++ rest)
-    ≡ (register_at (register_name r ++ rest) >>= λ q. let y : Rm × List ℕ = (rm.Reg q.0, q.1) in
-    Some y)) [
-      | Eax ↦ refl
-      | Ecx ↦ refl
-      | Edx ↦ refl
-      | Ebx ↦ refl
-      | Esp ↦ refl
-      | Ebp ↦ refl
-      | Esi ↦
-          refl
-      | Edi ↦ refl
-    ]
+    rw (
+      base_read a.width (signed_decimal a.disp ++ 93 ∷ rest) a.base a.index,
+      index_read a.width (signed_decimal a.disp ++ 93 ∷ rest) a.index is.index,
+      width_read a.width (signed_decimal a.disp ++ 93 ∷ rest),
+      number_read 93 rest refl a.disp (disp_fits a.width a.disp is.disp),
+    ) refl
 
 operand_read : (a : Rm) (rest : List ℕ) → IsOperand a →
     operand_at (operand_text a ++ rest) ≡ Some (a, rest)
-operand_read (rm.Reg r) rest is = register_operand r rest ∙ rw (register_read r rest) refl
-operand_read (rm.Mem a) rest is = address_read a rest is
+unfolding operand_at register_at
+operand_read (rm.Mem a) rest is =
+    ap operand_at (nested (91 ∷ []) (base_text a.base) (index_text a.index) (width_text a.width)
+    (signed_decimal a.disp) rest) ∙ rw (address_read a rest is) refl
+operand_read (rm.Reg Eax) rest is = refl
+operand_read (rm.Reg _) rest is = refl
 
 -- Operands by their shape.
 
@@ -262,15 +164,6 @@ AreOperands (Target t) = t < 2 ^ 32
 AreOperands (LowByte r) = has_low_byte r ≡ true
 AreOperands (OneLowByte a r) = IsOperand a × (has_low_byte r ≡ true)
 
-two_nested : (a b rest : List ℕ) →
-    ((32 ∷ a) ++ 44 ∷ 32 ∷ []) ++ b ++ rest ≡ 32 ∷ (a ++ 44 ∷ 32 ∷ (b ++ rest))
-two_nested a b rest = simp (append_assoc) refl
-
-three_nested : (a b c rest : List ℕ) →
-    ((((32 ∷ a) ++ 44 ∷ 32 ∷ []) ++ b) ++ 44 ∷ 32 ∷ []) ++ c ++ rest
-    ≡ 32 ∷ (a ++ 44 ∷ 32 ∷ (b ++ 44 ∷ 32 ∷ (c ++ rest)))
-three_nested a b c rest = simp (append_assoc) refl
-
 -- behind the operands stands the end of the line
 module _ (rest : List ℕ) where
   unfoldable pub end : List ℕ
@@ -286,22 +179,13 @@ module _ (rest : List ℕ) where
   operands_read Nothing h = refl
   operands_read (One a) h = rw (operand_read a end h) refl
   operands_read (Two a b) h =
-      ap (operands_at shape.Two) (two_nested (operand_text a) (operand_text b) end)
-      ∙ rw (operand_read a (44 ∷ 32 ∷ (operand_text b ++ end)) h.0, operand_read b end h.1) refl
+      simp append_assoc (rw (operand_read a _ h.0, operand_read b end h.1) refl)
   operands_read (Number n) h = rw (number_end n h) refl
   operands_read (OneNumber a n) h =
-      ap (operands_at shape.OneNumber) (two_nested (operand_text a) (signed_decimal n) end)
-      ∙ rw (operand_read a (44 ∷ 32 ∷ (signed_decimal n ++ end)) h.0, number_end n h.1) refl
-  operands_read (TwoNumber a b n) h =
-      ap (operands_at shape.TwoNumber)
-      (three_nested (operand_text a) (operand_text b) (signed_decimal n) end)
-      ∙ rw (
-        operand_read a (44 ∷ 32 ∷ (operand_text b ++ 44 ∷ 32 ∷ (signed_decimal n ++ end))) h.0,
-        operand_read b (44 ∷ 32 ∷ (signed_decimal n ++ end)) h.1,
-        number_end n h.2,
-      ) refl
+      simp append_assoc (rw (operand_read a _ h.0, number_end n h.1) refl)
+  operands_read (TwoNumber a b n) h = simp append_assoc
+      (rw (operand_read a _ h.0, operand_read b _ h.1, number_end n h.2) refl)
   operands_read (Target t) h = rw (hexadecimal_read t end h) refl
   operands_read (LowByte r) h = rw (low_read r end h) refl
   operands_read (OneLowByte a r) h =
-      ap (operands_at shape.OneLowByte) (two_nested (operand_text a) (low_name r) end)
-      ∙ rw (operand_read a (44 ∷ 32 ∷ (low_name r ++ end)) h.0, low_read r end h.1) refl
+      simp append_assoc (rw (operand_read a _ h.0, low_read r end h.1) refl)

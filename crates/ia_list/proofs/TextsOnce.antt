@@ -183,20 +183,18 @@ module _ (bytes : List ℕ) (small : length bytes ≤ max_text_bytes) where
   one_answer (Ok i) (Err (fault.BadLine k)) p q m n =
       absurd (whole_bad (length p.1.ins + 1) k (omega arith) (whole_text i p.0 p.1) q)
   one_answer (Ok i) (Err fault.Empty) p q m n = absurd (text_or_empty i p.0 p.1 q)
-  one_answer (Ok i) (Err fault.OutOfMemory) p q m n = absurd (n refl)
   one_answer (Err (fault.BadLine k)) (Ok j) p q m n =
       absurd (whole_bad (length q.1.ins + 1) k (omega arith) (whole_text j q.0 q.1) p)
   one_answer (Err (fault.BadLine k)) (Err (fault.BadLine l)) p q m n =
       ap (λ x. Err (fault.BadLine x)) (bad_same k l p q)
   one_answer (Err (fault.BadLine k)) (Err fault.Empty) p q m n =
       absurd (whole_bad 1 k (omega arith) (whole_first q) p)
-  one_answer (Err (fault.BadLine k)) (Err fault.OutOfMemory) p q m n = absurd (n refl)
   one_answer (Err fault.Empty) (Ok j) p q m n = absurd (text_or_empty j q.0 q.1 p)
   one_answer (Err fault.Empty) (Err (fault.BadLine l)) p q m n =
       absurd (whole_bad 1 l (omega arith) (whole_first p) q)
   one_answer (Err fault.Empty) (Err fault.Empty) p q m n = refl
-  one_answer (Err fault.Empty) (Err fault.OutOfMemory) p q m n = absurd (n refl)
   one_answer (Err fault.OutOfMemory) b p q m n = absurd (m refl)
+  one_answer _ (Err fault.OutOfMemory) p q m n = absurd (n refl)
 
 -- What is told of an image.
 
