@@ -11,7 +11,7 @@ use Rattle.ia_code.proofs.EncodingSize.{code_of}
 use Rattle.ia_code.proofs.Listings.{sound_append}
 use Rattle.ia_list.specs.Text.{line, data_line}
 use Rattle.ia_list.specs.ListText.{text_of, IsListText, StandsAt, StopsAt}
-use Rattle.ia_list.proofs.TextsRead.{text-snoc, code-snoc}
+use Rattle.ia_list.proofs.TextsRead.{none_behind, text-snoc, code-snoc}
 
 -- the text has the data words and the code before this place
 pub record IsListedTo (code : List ℕ) (words place : ℕ) (text : List ℕ) : Type 0 where
@@ -62,7 +62,7 @@ pub record IsCountedTo (code : List ℕ) (words place count : ℕ) : Type 0 wher
   pub listed : IsListedTo code words place text
   pub count_is : count ≡ length text
 
-module _ (code : List ℕ) (words place : ℕ) (text : List ℕ) (l : IsListedTo code words place text)
+module _ {code : List ℕ} {words place : ℕ} {text : List ℕ} (l : IsListedTo code words place text)
   where
     pub listed_next : (size : ℕ) (i : Ins) (longer : List ℕ) →
         Row (take size (drop place code)) i size → longer ≡ text ++ line place i →
@@ -113,28 +113,19 @@ module _ (code : List ℕ) (words place : ℕ) (text : List ℕ) (l : IsListedTo
       ins = l.ins;
       listing = record {
         sound = l.sound;
-        spelled = code_is ∙ l.code_is ∙ none (drop place code) (bytes_of_all l.ins)
+        spelled = code_is ∙ l.code_is ∙ none_behind (drop place code) (bytes_of_all l.ins)
             (omega (arith, length-drop place code));
       };
       written = l.written ∙ ap (λ n. text_of n l.ins) (sym words_is);
     }
-      where
-        none : (rest front : List ℕ) → length rest < 1 → front ++ rest ≡ front
-        none [] front h = append-nil front
-        none (b ∷ rest) front h = absurd (omega arith)
 
-pub counted_on : (code : List ℕ) (words place count next : ℕ) (written : List ℕ) →
-    IsCountedTo code words place count →
+pub counted_on : {code : List ℕ} {words place count : ℕ} → IsCountedTo code words place count →
+    (next : ℕ) (written : List ℕ) →
     (i : Ins) × (size : ℕ) × StandsAt code place i size × (next ≡ place + size)
     × (written ≡ [] ++ line place i) → IsCountedTo code words next (count + length written)
-counted_on code words place count next written c f = record {
+counted_on {place = place} c next written f = record {
   text = c.text ++ written;
-  listed = listed_on code words place c.text c.listed next (c.text ++ written) (
-    f.0,
-    f.1,
-    f.2,
-    f.3,
-    ap (λ l. c.text ++ l) f.4,
-  );
+  listed = listed_on c.listed next (c.text ++ written)
+      (f.0, f.1, f.2, f.3, ap (λ l. c.text ++ l) f.4);
   count_is = omega (arith, c.count_is, length-append c.text written);
 }

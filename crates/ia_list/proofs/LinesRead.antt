@@ -55,11 +55,11 @@ Begins place is js a b = (ks : List Ins) × (js ≡ is ++ ks)
 begins_one : (place : ℕ) (i : Ins) (is js : List Ins) (a b : List ℕ) →
     Begins (place + length (bytes_of i)) is js a b → Begins place (i ∷ is) (i ∷ js) a b
 unfolding Begins
-begins_one place i is js a b h =
-    let same : place + length (bytes_of i) + length (bytes_of_all is)
-    ≡ place + length (bytes_of i ++ bytes_of_all is) =
-    omega (arith, length-append (bytes_of i) (bytes_of_all is)) in
-    (h.0, ap (λ l. i ∷ l) h.1, h.2 ∙ ap (λ p. lines p h.0 ++ b) same)
+begins_one place i is js a b h = (
+  h.0,
+  ap (λ l. i ∷ l) h.1,
+  h.2 ∙ ap (λ p. lines p h.0 ++ b) (omega (arith, length-append (bytes_of i) (bytes_of_all is))),
+)
 
 lines_begin : (place : ℕ) (is js : List Ins) (a b : List ℕ) →
     place + length (bytes_of_all is) < 2 ^ 31 → AreSound is → AreSound js → length is ≤ length js →

@@ -15,17 +15,19 @@ use Rattle.ia_list.specs.ListText.{IsBadLine, IsEmptyText}
 use Rattle.ia_list.proofs.LineSize.{lines_some}
 use Rattle.ia_list.proofs.LinesRead.{code_small, text_begins}
 
+pub none_behind : (rest front : List ℕ) → length rest < 1 → front ++ rest ≡ front
+none_behind [] front h = append-nil front
+none_behind (b ∷ rest) front h = absurd (omega arith)
+
 -- lines behind others
 pub lines-append : (place : ℕ) (is js : List Ins) →
     lines place (is ++ js) ≡ lines place is ++ lines (place + length (bytes_of_all is)) js
 lines-append place [] js = ap (λ p. lines p js) (omega arith)
 lines-append place (i ∷ is) js =
-    let same : place + length (bytes_of i) + length (bytes_of_all is)
-    ≡ place + length (bytes_of i ++ bytes_of_all is) =
-    omega (arith, length-append (bytes_of i) (bytes_of_all is)) in
     ap (λ l. line place i ++ l) (lines-append (place + length (bytes_of i)) is js)
     ∙ sym (append_assoc (line place i) (lines (place + length (bytes_of i)) is) _)
-    ∙ ap (λ p. (line place i ++ lines (place + length (bytes_of i)) is) ++ lines p js) same
+    ∙ ap (λ p. (line place i ++ lines (place + length (bytes_of i)) is) ++ lines p js)
+    (omega (arith, length-append (bytes_of i) (bytes_of_all is)))
 
 pub text-append : (words : ℕ) (is js : List Ins) →
     text_of words (is ++ js) ≡ text_of words is ++ lines (length (bytes_of_all is)) js
@@ -70,7 +72,7 @@ read_first bytes words rest h e = record {
   written = e ∙ ap (λ l. l ++ rest) (sym (append-nil (data_line words)));
 }
 
-module _ (bytes : List ℕ) (words : ℕ) (code : List ℕ) (count : ℕ) (rest : List ℕ)
+module _ {bytes : List ℕ} {words : ℕ} {code : List ℕ} {count : ℕ} {rest : List ℕ}
     (r : IsReadTo bytes words code count rest) where
   pub code_half : 2 * length code ≤ length bytes
   code_half = omega (
@@ -171,14 +173,10 @@ first_bad bytes none = record {
 }
 
 -- The end of the bytes.
-module _ (bytes : List ℕ) (words : ℕ) (code : List ℕ) (count : ℕ) (rest : List ℕ)
+module _ {bytes : List ℕ} {words : ℕ} {code : List ℕ} {count : ℕ} {rest : List ℕ}
     (r : IsReadTo bytes words code count rest) (over : length rest < 1) where
   all_read : bytes ≡ text_of words r.ins
-  all_read = r.written ∙ none rest (text_of words r.ins) over
-    where
-      none : (rest text : List ℕ) → length rest < 1 → text ++ rest ≡ text
-      none [] text h = append-nil text
-      none (b ∷ rest) text h = absurd (omega arith)
+  all_read = r.written ∙ none_behind rest (text_of words r.ins) over
 
   pub read_empty : length code < 1 → IsEmptyText bytes
   read_empty h = (words, r.few, all_read ∙ alone r.ins r.sound (omega (arith, ap length r.code_is)))
@@ -195,7 +193,7 @@ module _ (bytes : List ℕ) (words : ℕ) (code : List ℕ) (count : ℕ) (rest 
   pub read_all : length bytes ≤ max_text_bytes → 1 ≤ length code → (image : Image) →
       image.code ≡ code → image.data_words ≡ words → IsImage image × IsListText image bytes
   read_all small some image code_is words_is =
-      let half = code_half bytes words code count rest r in (
+      let half = code_half r in (
         record {
           some_code = omega (arith, ap length code_is);
           code = omega (arith, ap length code_is);

@@ -10,13 +10,5 @@ lines-preserved c =
     let f = c.in_ok-place.ensures in
     subst (λ n. IsCountedTo c.as_slice-code.result.now c.args.image.now.data_words
     c.in_ok-place.place n) (sym longer)
-    (counted_on c.as_slice-code.result.now c.args.image.now.data_words c.lines.place c.lines.count
-    c.in_ok-place.place c.push_next.new.out.items
-    c.lines.invariant (
-      f.0,
-      f.1,
-      f.2,
-      f.3,
-      f.4
-          ∙ ap (λ l. l ++ line c.lines.place f.0) c.clear.ensures.items,
-    ))
+    (counted_on c.lines.invariant c.in_ok-place.place c.push_next.new.out.items
+    (f.0, f.1, f.2, f.3, f.4 ∙ ap (λ l. l ++ line c.lines.place f.0) c.clear.ensures.items))
