@@ -71,76 +71,56 @@ pub record IsCut (p : ℕ → Bool) (text word rest : List ℕ) : Type 0 where
   pub word_is : word ≡ take (prefix_len p text) text
   pub rest_is : rest ≡ drop (prefix_len p text) text
 
-whole : (p : ℕ → Bool) (text word rest : List ℕ) → IsCut p text word rest → text ≡ word ++ rest
-whole p text word rest c = sym (take-append-drop (prefix_len p text) text)
-    ∙ (λ i. sym c.word_is i ++ sym c.rest_is i)
+module _ {p : ℕ → Bool} {text word rest : List ℕ} (c : IsCut p text word rest) where
+  whole : text ≡ word ++ rest
+  whole = sym (take-append-drop (prefix_len p text) text)
+      ∙ (λ i. sym c.word_is i ++ sym c.rest_is i)
 
-name_found : (text word rest : List ℕ) (found : Option Kind) → is_name word ≡ true →
-    front is_ascii_alphanumeric rest ≡ false → text ≡ word ++ rest
-    → MatchOption found ((kind : Kind) → Contains fixed (kind, word) → ⊥)
-    (λ kind. Contains fixed (kind, word)) → BeginsPiece text (Some (unwrap_or found Ident)) rest
-name_found text word rest None is ends e none =
-    record {
-      piece = token Ident word;
-      is_piece = identifier_piece word rest is ends none;
-      text_is =
-          e;
-      kind_is = refl;
-    }
-name_found text word rest (Some kind) is ends e f =
-    record {
-      piece = token kind word;
-      is_piece = keyword_piece kind word rest is ends f;
-      text_is =
-          e;
-      kind_is = refl;
-    }
+  ends : front p rest ≡ false
+  ends = ap (front p) c.rest_is ∙ run_ends p text
 
-pub name_begins : (text word rest : List ℕ) (found : Option Kind) →
-    is_ascii_alphabetic (get_or text 0 0) ≡ true → IsCut is_ascii_alphanumeric text word rest
-    → MatchOption found ((kind : Kind) → Contains fixed (kind, word) → ⊥)
+pub name_begins : {text word rest : List ℕ} → IsCut is_ascii_alphanumeric text word rest →
+    is_ascii_alphabetic (get_or text 0 0) ≡ true → (found : Option Kind) →
+    MatchOption found ((kind : Kind) → Contains fixed (kind, word) → ⊥)
     (λ kind. Contains fixed (kind, word)) → BeginsPiece text (Some (unwrap_or found Ident)) rest
-name_begins text word rest found letter cut f =
-    let is = subst (λ w. is_name w ≡ true) (sym cut.word_is) (name_run text letter) in
-    let ends = subst (λ r. front is_ascii_alphanumeric r ≡ false) (sym cut.rest_is)
-    (run_ends is_ascii_alphanumeric text) in
-    name_found text word rest found is ends (whole is_ascii_alphanumeric text word rest cut) f
+name_begins {text} {word} {rest} cut letter None none = record {
+  piece = token Ident word;
+  is_piece = identifier_piece word rest (ap is_name cut.word_is ∙ name_run text letter)
+      (ends cut) none;
+  text_is = whole cut;
+  kind_is = refl;
+}
+name_begins {text} {word} {rest} cut letter (Some kind) f = record {
+  piece = token kind word;
+  is_piece = keyword_piece kind word rest (ap is_name cut.word_is ∙ name_run text letter)
+      (ends cut) f;
+  text_is = whole cut;
+  kind_is = refl;
+}
 
 -- a small number passes through its 32 bits
 same_bits : (z : ℤ) (v : ℕ) → z ≡ pos v → v ≤ greatest_integer → to_z w32 (of_z w32 z) ≡ pos v
 same_bits z v e small = rw e (to_z_pos w32 v (omega arith))
 
-number_found : (text digits rest : List ℕ) (value : ℤ) → is_integer digits ≡ true →
-    front is_ascii_digit rest ≡ false → text ≡ digits ++ rest
-    → value ≡ pos (integer_value digits) → integer_value digits ≤ greatest_integer →
-    BeginsPiece text (Some (Number (to_z w32 (of_z w32 value)))) rest
-number_found text digits rest value is ends e same small = record {
-  piece = token (Number (pos (integer_value digits))) digits;
-  is_piece = number_piece digits rest is ends small;
-  text_is = e;
-  kind_is = ap (λ z. Some (Number z)) (same_bits value (integer_value digits) same small);
-}
+module _ {text digits rest : List ℕ} (cut : IsCut is_ascii_digit text digits rest)
+    (digit : is_ascii_digit (get_or text 0 0) ≡ true) where
+  all_digits : is_integer digits ≡ true
+  all_digits = ap is_integer cut.word_is ∙ integer_run text digit
 
-pub number_begins : (text digits rest : List ℕ) (value : ℤ) → is_ascii_digit (get_or text 0 0) ≡
-    true → IsCut is_ascii_digit text digits rest
-    → value ≡ pos (integer_value digits) → integer_value digits ≤ greatest_integer →
-    BeginsPiece text (Some (Number (to_z w32 (of_z w32 value)))) rest
-number_begins text digits rest value digit cut same small =
-    let is = subst (λ w. is_integer w ≡ true) (sym cut.word_is) (integer_run text digit) in
-    let ends = subst (λ r. front is_ascii_digit r ≡ false) (sym cut.rest_is)
-    (run_ends is_ascii_digit text) in
-    number_found text digits rest value is ends (whole is_ascii_digit text digits rest cut) same
-    small
+  pub number_begins : (value : ℤ) → value ≡ pos (integer_value digits) →
+      integer_value digits ≤ greatest_integer →
+      BeginsPiece text (Some (Number (to_z w32 (of_z w32 value)))) rest
+  number_begins value same small = record {
+    piece = token (Number (pos (integer_value digits))) digits;
+    is_piece = number_piece digits rest all_digits (ends cut) small;
+    text_is = whole cut;
+    kind_is = ap (λ z. Some (Number z)) (same_bits value (integer_value digits) same small);
+  }
 
-pub number_too_large_begins : (text digits rest : List ℕ) → is_ascii_digit (get_or text 0 0) ≡
-    true → IsCut is_ascii_digit text digits rest → greatest_integer < integer_value digits →
-    BeginsFault number_too_large text
-number_too_large_begins text digits rest digit cut large =
-    let is = subst (λ w. is_integer w ≡ true) (sym cut.word_is) (integer_run text digit) in
-    let ends = subst (λ r. front is_ascii_digit r ≡ false) (sym cut.rest_is)
-    (run_ends is_ascii_digit text) in
-    subst (BeginsFault number_too_large) (sym (whole is_ascii_digit text digits rest cut))
-    (number_fault digits rest is ends large)
+  pub number_too_large_begins : greatest_integer < integer_value digits →
+      BeginsFault number_too_large text
+  number_too_large_begins large = subst (BeginsFault number_too_large) (sym (whole cut))
+      (number_fault digits rest all_digits (ends cut) large)
 
 pub digits_cut : (text digits : List ℕ) → digits ≡ take (prefix_len is_ascii_digit text) text →
     list_all is_ascii_digit digits ≡ true
@@ -228,8 +208,7 @@ comment_begins text inside rest e c =
     record {
       piece = comment c.comment;
       is_piece = c.is_comment;
-      text_is =
-          e ∙ ap (λ us. 40 ∷ (42 ∷ us)) c.inside_is;
+      text_is = e ∙ ap (λ us. 40 ∷ (42 ∷ us)) c.inside_is;
       kind_is = refl;
     }
 

@@ -1,11 +1,9 @@
 -- An answer has one cause, so a text with another cause is not answered so.
 use Rattle.std.proofs.Common.{◌≡◌, ℕ, ◌<◌, ◌≤◌, List, length, Err, refl, ap, ◌∙◌, inl, inr, arith}
 use Rattle.ob_syntax.specs.declared.token.Token.{Token}
-use Rattle.ob_syntax.specs.Tokens.{Tokens, Fault, FirstFault, number_too_large, open_comment}
-use Rattle.ob_syntax.specs.Tokens.{bad_byte}
+use Rattle.ob_syntax.specs.Tokens.{Tokens, Fault, FirstFault}
 use Rattle.ob_syntax.proofs.Texts.{one_list, one_first_fault, no_fault_in_tokens}
 use Rattle.ob_lex.specs.declared.scanner.LexFault.{LexFault}
-use Rattle.ob_lex.specs.declared.scanner.LexFault.TheVariants.{BadByte, OpenComment, NumberTooLarge}
 use Rattle.ob_lex.specs.declared.scanner.LexFault.TheVariants.{TokensOver, OutOfMemory}
 use Rattle.ob_lex.specs.Scanning.{IsCause, IsErrUnlessMemory, fault_at}
 use Rattle.ob_syntax.specs.Source.{most_tokens}
@@ -13,31 +11,21 @@ use Rattle.ob_syntax.specs.Source.{most_tokens}
 -- a source with a token list that is kept is not refused
 pub kept_not_refused : (bytes : List ℕ) (e : LexFault) → IsCause bytes e → (list : List Token) →
     Tokens bytes list → length list ≤ most_tokens → e ≡ OutOfMemory
-kept_not_refused bytes (BadByte at) f list t few =
-    absurd (no_fault_in_tokens bytes list bad_byte at t f)
-kept_not_refused bytes (OpenComment at) f list t few =
-    absurd (no_fault_in_tokens bytes list open_comment at t f)
-kept_not_refused bytes (NumberTooLarge at) f list t few =
-    absurd (no_fault_in_tokens bytes list number_too_large at t f)
 kept_not_refused bytes (TokensOver count) many list t few = let same =
     ap length (one_list bytes list many.tokens t many.scanned) in
     absurd (omega (arith, many.count_is, many.over))
 kept_not_refused bytes OutOfMemory f list t few = refl
+kept_not_refused bytes _ f list t few = absurd (no_fault_in_tokens bytes list _ _ t f)
 
 -- one with a longer token list is refused for that
 pub longer_refused : {T : Type 0} (bytes : List ℕ) (e : LexFault) → IsCause bytes e →
     (list : List Token) → Tokens bytes list → most_tokens < length list →
     IsErrUnlessMemory {T = T} (Err e) (TokensOver (length list))
-longer_refused bytes (BadByte at) f list t over =
-    absurd (no_fault_in_tokens bytes list bad_byte at t f)
-longer_refused bytes (OpenComment at) f list t over =
-    absurd (no_fault_in_tokens bytes list open_comment at t f)
-longer_refused bytes (NumberTooLarge at) f list t over =
-    absurd (no_fault_in_tokens bytes list number_too_large at t f)
 longer_refused bytes (TokensOver count) many list t over =
     inl (ap (λ n. Err (TokensOver n))
     (many.count_is ∙ ap length (one_list bytes many.tokens list many.scanned t)))
 longer_refused bytes OutOfMemory f list t over = inr refl
+longer_refused bytes _ f list t over = absurd (no_fault_in_tokens bytes list _ _ t f)
 
 told_place : {T : Type 0} (bytes : List ℕ) (told fault : Fault) (at place : ℕ) →
     FirstFault bytes told at → FirstFault bytes fault place →
@@ -49,11 +37,7 @@ told_place bytes told fault at place f g = let one = one_first_fault bytes told 
 pub fault_refused : {T : Type 0} (bytes : List ℕ) (e : LexFault) → IsCause bytes e →
     (fault : Fault) (at : ℕ) → FirstFault bytes fault at → IsErrUnlessMemory {T = T} (Err e)
     (fault_at fault at)
-fault_refused bytes (BadByte place) f fault at g = told_place bytes bad_byte fault place at f g
-fault_refused bytes (OpenComment place) f fault at g = told_place bytes open_comment fault place at
-    f g
-fault_refused bytes (NumberTooLarge place) f fault at g =
-    told_place bytes number_too_large fault place at f g
 fault_refused bytes (TokensOver count) many fault at g =
     absurd (no_fault_in_tokens bytes many.tokens fault at many.scanned g)
 fault_refused bytes OutOfMemory f fault at g = inr refl
+fault_refused bytes _ f fault at g = told_place bytes _ fault _ at f g

@@ -79,8 +79,7 @@ module _ (b : ℕ) (text : List ℕ) (no_open : (after : List ℕ) → b ∷ tex
 
 none_left : (d : ℕ) (rest : List ℕ) → AllClose (suc d) [] rest → ⊥
 none_left d rest (comment_end, after, h, e, more) = cc
-none_left d rest (byte b c, after, h, e, more) = cc
-none_left d rest (inner c c', after, h, e, more) = cc
+none_left d rest (_, after, h, e, more) = cc
 
 -- the comment whose inside this is ends where the open ones end in the text
 pub record Leads (inside : List ℕ) (open_ones : ℕ) (text : List ℕ) : Type 0 where
@@ -90,57 +89,55 @@ pub record Leads (inside : List ℕ) (open_ones : ℕ) (text : List ℕ) : Type 
 pub starts : (inside : List ℕ) → Leads inside 1 inside
 starts inside = record { forth = λ rest h. h; back = λ rest h. h }
 
-pub opens : (inside text after : List ℕ) (d : ℕ) → 0 < d → Leads inside d text →
+pub opens : {inside text after : List ℕ} {d : ℕ} → 0 < d → Leads inside d text →
     text ≡ 40 ∷ (42 ∷ after) → Leads inside (d + 1) after
-opens inside text after zero some h e = absurd (omega arith)
-opens inside text after (suc d) some h e = rw add-one (record {
-  forth = λ rest more. h.forth rest
-      (subst (λ us. AllClose (suc d) us rest) (sym e) (opened d after rest more));
-  back = λ rest more. opened_back d after rest
-      (subst (λ us. AllClose (suc d) us rest) e (h.back rest more));
-})
-
-pub closes : (inside text after : List ℕ) (d : ℕ) → 0 < d → Leads inside d text →
-    text ≡ 42 ∷ (41 ∷ after) → Leads inside (d - 1) after
-closes inside text after zero some h e = absurd (omega arith)
-closes inside text after (suc d) some h e = let one_less : suc d - 1 ≡ d = omega arith in
-    rw one_less (record {
-      forth = λ rest more. h.forth rest
-          (subst (λ us. AllClose (suc d) us rest) (sym e) (shut d after rest more));
-      back = λ rest more. shut_back d after rest
-          (subst (λ us. AllClose (suc d) us rest) e (h.back rest more));
+opens {d = zero} some h e = absurd (omega arith)
+opens {inside} {after = after} {d = suc d} some h e =
+    let l = subst (Leads inside (suc d)) e h in
+    rw add-one (record {
+      forth = λ rest more. l.forth rest (opened d after rest more);
+      back = λ rest more. opened_back d after rest (l.back rest more);
     })
 
-pub passes : (inside text after : List ℕ) (b d : ℕ) → 0 < d → Leads inside d text →
+pub closes : {inside text after : List ℕ} {d : ℕ} → 0 < d → Leads inside d text →
+    text ≡ 42 ∷ (41 ∷ after) → Leads inside (d - 1) after
+closes {d = zero} some h e = absurd (omega arith)
+closes {inside} {after = after} {d = suc d} some h e =
+    let one_less : suc d - 1 ≡ d = omega arith in
+    let l = subst (Leads inside (suc d)) e h in
+    rw one_less (record {
+      forth = λ rest more. l.forth rest (shut d after rest more);
+      back = λ rest more. shut_back d after rest (l.back rest more);
+    })
+
+pub passes : {inside text after : List ℕ} {b d : ℕ} → 0 < d → Leads inside d text →
     text ≡ b ∷ after → ((more : List ℕ) → text ≢ 40 ∷ (42 ∷ more)) →
     ((more : List ℕ) → text ≢ 42 ∷ (41 ∷ more)) → Leads inside d after
-passes inside text after b zero some h e no_open no_close = absurd (omega arith)
-passes inside text after b (suc d) some h e no_open no_close =
+passes {d = zero} some h e no_open no_close = absurd (omega arith)
+passes {inside} {after = after} {b} {d = suc d} some h e no_open no_close =
+    let l = subst (Leads inside (suc d)) e h in
     let o : (more : List ℕ) → b ∷ after ≢ 40 ∷ (42 ∷ more) = λ more i. no_open more (e ∙ i) in
     let s : (more : List ℕ) → b ∷ after ≢ 42 ∷ (41 ∷ more) = λ more i. no_close more (e ∙ i) in
     record {
-      forth = λ rest more. h.forth rest
-          (subst (λ us. AllClose (suc d) us rest) (sym e) (passed b after o s d rest more));
-      back = λ rest more. passed_back b after o s d rest
-          (subst (λ us. AllClose (suc d) us rest) e (h.back rest more));
+      forth = λ rest more. l.forth rest (passed b after o s d rest more);
+      back = λ rest more. passed_back b after o s d rest (l.back rest more);
     }
 
-pub all_closed : (inside text : List ℕ) (d : ℕ) → d ≡ 0 → Leads inside d text →
+pub all_closed : {inside text : List ℕ} {d : ℕ} → d ≡ 0 → Leads inside d text →
     ClosesBefore inside text
-all_closed inside text zero none h =
+all_closed {text = text} {d = zero} none h =
     let (c, after, i, e, same) = h.forth text refl in
     record {
       comment = c;
       is_comment = subst (IsComment c) same i;
-      inside_is =
-          e ∙ ap (comment_text c) same;
+      inside_is = e ∙ ap (comment_text c) same;
     }
-all_closed inside text (suc d) none h = absurd (omega arith)
+all_closed {d = suc d} none h = absurd (omega arith)
 
-pub never_closed : (inside text : List ℕ) (d : ℕ) → 0 < d → text ≡ [] → Leads inside d text →
+pub never_closed : {inside text : List ℕ} {d : ℕ} → 0 < d → text ≡ [] → Leads inside d text →
     NeverCloses inside
-never_closed inside text zero some none h = absurd (omega arith)
-never_closed inside text (suc d) some none h = λ c rest i e. none_left d rest
+never_closed {d = zero} some none h = absurd (omega arith)
+never_closed {d = suc d} some none h = λ c rest i e. none_left d rest
     (subst (λ us. AllClose (suc d) us rest) none (h.back rest (c, rest, i, e, refl)))
 
 -- a text's first byte, and the rest as a slice pattern takes it

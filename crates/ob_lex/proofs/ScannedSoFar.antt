@@ -5,9 +5,8 @@ use Rattle.std.proofs.Common.{true, eqb-true, ◌==◌}
 use Rattle.std.proofs.lemmas.List.{nil_from_length}
 use Rattle.ob_syntax.specs.declared.token.Kind.{Kind}
 use Rattle.ob_syntax.specs.declared.token.Token.{Token}
-use Rattle.ob_syntax.specs.Tokens.{Piece, space, comment, token, IsPiece, piece_text, ArePieces}
-use Rattle.ob_syntax.specs.Tokens.{pieces_text, tokens_from, Tokens, Fault, FirstFault}
-use Rattle.ob_syntax.specs.Tokens.{number_too_large, open_comment, bad_byte, BeginsFault}
+use Rattle.ob_syntax.specs.Tokens.{Piece, token, IsPiece, piece_text, ArePieces, pieces_text}
+use Rattle.ob_syntax.specs.Tokens.{tokens_from, Tokens, Fault, FirstFault, bad_byte}
 use Rattle.ob_syntax.proofs.Texts.{shorter_behind, pieces_text-push, ArePieces-push}
 use Rattle.ob_syntax.proofs.Texts.{tokens_from-push, total_width, length-pieces_text}
 use Rattle.ob_lex.specs.declared.scanner.LexFault.{LexFault}
@@ -33,12 +32,13 @@ nothing_scanned bytes = record {
   all_kept = λ _. refl;
 }
 
-pub behind_shorter : (text rest : List ℕ) (kind : Option Kind) → BeginsPiece text kind rest →
+pub behind_shorter : {text rest : List ℕ} {kind : Option Kind} → BeginsPiece text kind rest →
     length rest < length text
-behind_shorter text rest kind b = let shorter = shorter_behind b.piece rest b.is_piece in
-    let size : length text ≡ length (piece_text b.piece rest) = ap length b.text_is in omega arith
+behind_shorter {rest = rest} b =
+    let shorter = shorter_behind b.piece rest b.is_piece in
+    omega (arith, shorter, ap length b.text_is)
 
-module _ (bytes text rest : List ℕ) (kept : List Token) (count : ℕ)
+module _ {bytes text : List ℕ} (rest : List ℕ) {kept : List Token} {count : ℕ}
     (s : IsScannedTo bytes text kept count) (p : Piece) (is : IsPiece p rest)
     (text_is : text ≡ piece_text p rest) where
   abbrev longer : List Piece
@@ -88,63 +88,45 @@ module _ (bytes text rest : List ℕ) (kept : List Token) (count : ℕ)
   place_of = let size : length bytes ≡ length (pieces_text s.pieces text) = ap length s.text in
       let sum = length-pieces_text s.pieces text in omega arith
 
-gap_behind : (bytes text rest : List ℕ) (kept : List Token) (count : ℕ) →
-    IsScannedTo bytes text kept count → (p : Piece) → IsPiece p rest → text ≡ piece_text p rest →
-    None ≡ kind_of p → IsScannedTo bytes rest kept count
-gap_behind bytes text rest kept count s (space b) is e k = scanned_gap bytes text rest kept count s
-    (space b) is e refl
-gap_behind bytes text rest kept count s (comment c) is e k =
-    scanned_gap bytes text rest kept count s (comment c) is e refl
-gap_behind bytes text rest kept count s (token kind w) is e k = cc
-
-pub behind_gap : (bytes text rest : List ℕ) (kept : List Token) (count : ℕ) →
+pub behind_gap : {bytes text rest : List ℕ} {kept : List Token} {count : ℕ} →
     IsScannedTo bytes text kept count → BeginsPiece text None rest →
     IsScannedTo bytes rest kept count
-behind_gap bytes text rest kept count s b = gap_behind bytes text rest kept count s b.piece
-    b.is_piece b.text_is b.kind_is
+behind_gap {bytes} {text} {rest} {kept} {count} s b = by b.piece b.is_piece b.text_is b.kind_is
+  where
+    by : (p : Piece) → IsPiece p rest → text ≡ piece_text p rest → None ≡ kind_of p →
+        IsScannedTo bytes rest kept count
+    by (token kind w) is e k = cc
+    by p is e k = scanned_gap rest s p is e refl
 
 -- the token in front of a text, before rest
 abbrev pub token_at : List ℕ → List ℕ → List ℕ → Kind → Token
 token_at bytes text rest kind =
     record { kind = kind; from = length bytes - length text; to = length bytes - length rest }
 
-token_behind : (bytes text rest : List ℕ) (kept : List Token) (count : ℕ) →
-    IsScannedTo bytes text kept count → (p : Piece) → IsPiece p rest → text ≡ piece_text p rest →
-    (kind : Kind) → Some kind ≡ kind_of p
-    → (kept' : List Token) →
+pub behind_token : {bytes text rest : List ℕ} {kept : List Token} {count : ℕ} →
+    IsScannedTo bytes text kept count → (kind : Kind) → BeginsPiece text (Some kind) rest →
+    (kept' : List Token) →
     (count < most_tokens → kept' ≡ kept ++ token_at bytes text rest kind ∷ []) →
     IsScannedTo bytes rest kept' (count + 1)
-token_behind bytes text rest kept count s (space b) is e kind k = cc
-token_behind bytes text rest kept count s (comment c) is e kind k = cc
-token_behind bytes text rest kept count s (token kind' w) is e kind k = λ kept' pushed.
-    let size : length text ≡ length w + length rest = ap length e ∙ length-append w rest in
-    let start = place_of bytes text rest kept count s (token kind' w) is e in
-    let all : length bytes ≡ length (pieces_text s.pieces text) = ap length s.text in
-    let sum = length-pieces_text s.pieces text in
-    let from : 0 + total_width s.pieces ≡ length bytes - length text = omega arith in
-    let to : (0 + total_width s.pieces) + length w ≡ length bytes - length rest = omega arith in
-    let same : kind' ≡ kind = cc in
-    let t : Token = record {
-      kind = kind';
-      from = 0 + total_width s.pieces;
-      to =
-          (0 + total_width s.pieces) + length w;
-    } in
-    let is_here : t ≡ token_at bytes text rest kind =
-    λ i. record { kind = same i; from = from i; to = to i } in
-    scanned_token bytes text rest kept count s (token kind' w) is e (token_at bytes text rest kind)
-    (ap (λ u. u ∷ []) is_here) kept' pushed
-
-pub behind_token : (bytes text rest : List ℕ) (kept : List Token) (count : ℕ) →
-    IsScannedTo bytes text kept count → (kind : Kind) → BeginsPiece text (Some kind) rest
-    → (kept' : List Token) →
-    (count < most_tokens → kept' ≡ kept ++ token_at bytes text rest kind ∷ []) →
-    IsScannedTo bytes rest kept' (count + 1)
-behind_token bytes text rest kept count s kind b = token_behind bytes text rest kept count s b.piece
-    b.is_piece b.text_is kind b.kind_is
+behind_token {bytes} {text} {rest} {count = count} s kind b kept' pushed =
+    by b.piece b.is_piece b.text_is b.kind_is
+  where
+    by : (p : Piece) → IsPiece p rest → text ≡ piece_text p rest → Some kind ≡ kind_of p →
+        IsScannedTo bytes rest kept' (count + 1)
+    by (token kind' w) is e k =
+        let size : length text ≡ length w + length rest = ap length e ∙ length-append w rest in
+        let start = place_of rest s (token kind' w) is e in
+        let all : length bytes ≡ length (pieces_text s.pieces text) = ap length s.text in
+        let sum = length-pieces_text s.pieces text in
+        let from : 0 + total_width s.pieces ≡ length bytes - length text = omega arith in
+        let to : (0 + total_width s.pieces) + length w ≡ length bytes - length rest = omega arith in
+        let same : kind' ≡ kind = cc in
+        scanned_token rest s (token kind' w) is e (token_at bytes text rest kind)
+        (λ i. record { kind = same i; from = from i; to = to i } ∷ []) kept' pushed
+    by p is e k = cc
 
 -- the end of the source
-module _ (bytes rest : List ℕ) (kept : List Token) (count : ℕ)
+module _ {bytes rest : List ℕ} {kept : List Token} {count : ℕ}
     (s : IsScannedTo bytes rest kept count) (over : true ≡ (length rest == 0)) where
   none_left : rest ≡ []
   none_left = nil_from_length rest (eqb-true (length rest) 0 (sym over))
@@ -173,29 +155,21 @@ module _ (bytes rest : List ℕ) (kept : List Token) (count : ℕ)
   kept_whole few = let same = s.all_kept few in let size = ap length same in
       (subst (Tokens bytes) (sym same) whole_list, omega (arith, s.counted))
 
+cause_of : (bytes : List ℕ) (fault : Fault) (at : ℕ) → FirstFault bytes fault at →
+    IsCause bytes (fault_at fault at)
+cause_of bytes bad_byte at f = f
+cause_of bytes _ at f = f
+
 -- the fault in front of the text that is left is the first one
-first_fault : (bytes text : List ℕ) (kept : List Token) (count : ℕ) →
-    IsScannedTo bytes text kept count → (fault : Fault) → BeginsFault fault text → (at : ℕ) →
-    at ≡ length bytes - length text → length text ≤ length bytes → FirstFault bytes fault at
-first_fault bytes text kept count s fault f at place le =
-    record {
+pub fault_told : {bytes text : List ℕ} {kept : List Token} {count at : ℕ} {answer : LexFault} →
+    IsScannedTo bytes text kept count → TellsFault text at answer →
+    at ≡ length bytes - length text → length text ≤ length bytes → IsCause bytes answer
+fault_told {bytes} {text} {at = at} s t place le = subst (IsCause bytes) (sym t.answer_is)
+    (cause_of bytes t.fault at (record {
       pieces = s.pieces;
       rest = text;
       are_pieces = s.are_pieces;
       text = s.text;
-      place =
-          omega arith;
-      begins = f;
-    }
-
-cause_of : (bytes : List ℕ) (fault : Fault) (at : ℕ) → FirstFault bytes fault at →
-    IsCause bytes (fault_at fault at)
-cause_of bytes number_too_large at f = f
-cause_of bytes open_comment at f = f
-cause_of bytes bad_byte at f = f
-
-pub fault_told : (bytes text : List ℕ) (kept : List Token) (count : ℕ) (at : ℕ)
-    (answer : LexFault) → IsScannedTo bytes text kept count → TellsFault text at answer →
-    at ≡ length bytes - length text → length text ≤ length bytes → IsCause bytes answer
-fault_told bytes text kept count at answer s t place le = subst (IsCause bytes) (sym t.answer_is)
-    (cause_of bytes t.fault at (first_fault bytes text kept count s t.fault t.begins at place le))
+      place = omega arith;
+      begins = t.begins;
+    }))

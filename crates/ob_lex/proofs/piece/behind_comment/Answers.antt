@@ -1,4 +1,4 @@
-use Rattle.std.proofs.Common.{◌≡◌, [], ◌∷◌, length, get_or, ap, arith}
+use Rattle.std.proofs.Common.{◌≡◌, [], ◌∷◌, length, ap, arith}
 use Rattle.std.proofs.lemmas.Bool.Decides.{Decides-eqb}
 use Rattle.std.proofs.lemmas.Slice.Eq.{strip_prefix_is}
 use Rattle.std.proofs.lemmas.List.{nil_from_length}
@@ -15,9 +15,7 @@ loop-depth-preserved-in-Some c =
     let size : length text ≡ length (40 ∷ (42 ∷ c.in-Some.after.now)) = ap length e in
     record {
       deep = omega (arith, c.loop-depth.invariant.deep);
-      leads =
-          opens c.args.inside.now text c.in-Some.after.now c.loop-depth.depth c.loop-depth-test.true
-          c.loop-depth.invariant.leads e;
+      leads = opens c.loop-depth-test.true c.loop-depth.invariant.leads e;
     }
 
 pub loop-depth-preserved-in-Some-strip_prefix : goal.loop-depth-preserved-in-Some-strip_prefix
@@ -30,16 +28,13 @@ loop-depth-preserved-in-Some-strip_prefix c =
     let size : length text ≡ length (42 ∷ (41 ∷ after)) = ap length e in
     record {
       deep = omega (arith, c.loop-depth.invariant.deep);
-      leads =
-          closes c.args.inside.now text after c.loop-depth.depth c.loop-depth-test.true
-          c.loop-depth.invariant.leads e;
+      leads = closes c.loop-depth-test.true c.loop-depth.invariant.leads e;
     }
 
 pub returns-in_default-rest : goal.returns-in_default-rest
 returns-in_default-rest c =
     let text = c.loop-depth.rest.now in
-    never_closed c.args.inside.now text c.loop-depth.depth c.loop-depth-test.true
-    (nil_from_length text (omega (arith, c.in_default-rest.len_below)))
+    never_closed c.loop-depth-test.true (nil_from_length text (omega (arith, c.in_default-rest.len_below)))
     c.loop-depth.invariant.leads
 
 pub loop-depth-preserved : goal.loop-depth-preserved
@@ -49,8 +44,7 @@ loop-depth-preserved c =
     let size = ap length e in
     record {
       deep = omega (arith, c.loop-depth.invariant.deep);
-      leads = passes c.args.inside.now text _ (get_or text 0 0) c.loop-depth.depth
-          c.loop-depth-test.true c.loop-depth.invariant.leads e
+      leads = passes c.loop-depth-test.true c.loop-depth.invariant.leads e
           (rw (c.in_default.is) at
           (strip_prefix_is Decides-eqb text (40 ∷ (42 ∷ [])) c.strip_prefix.result
           c.strip_prefix.ensures.cases))
@@ -60,5 +54,4 @@ loop-depth-preserved c =
     }
 
 pub returns : goal.returns
-returns c = all_closed c.args.inside.now c.loop-depth.rest.now c.loop-depth.depth (omega arith)
-    c.loop-depth.invariant.leads
+returns c = all_closed (omega arith) c.loop-depth.invariant.leads

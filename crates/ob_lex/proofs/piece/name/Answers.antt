@@ -18,5 +18,4 @@ returns c =
       rest_is = parts.back ∙ ap (λ n. drop n text) c.name_len.ensures;
     } in
     rw (c.unwrap_or-kind.ensures)
-    (name_begins text c.split_at.result.0.now c.split_at.result.1.now c.fixed_kind.result
-    c.requires cut c.fixed_kind.ensures)
+    (name_begins cut c.requires c.fixed_kind.result c.fixed_kind.ensures)

@@ -23,12 +23,11 @@ integer-requires c = digits_cut c.args.text.now c.split_at.result.0.now
 pub returns-in_err-value : goal.returns-in_err-value
 returns-in_err-value c =
     rw (c.from_residual.ensures)
-    (number_too_large_begins c.args.text.now c.split_at.result.0.now c.split_at.result.1.now
-    c.requires (cut_here (goal.at.returns-in_err-value c).After-split_at)
+    (number_too_large_begins (cut_here (goal.at.returns-in_err-value c).After-split_at) c.requires
     c.in_err-value.ensures)
 
 pub returns : goal.returns
 returns c =
     let small = c.in_ok-value.ensures in
-    number_begins c.args.text.now c.split_at.result.0.now c.split_at.result.1.now
-    c.in_ok-value.value c.requires (cut_here (goal.at.returns c).After-split_at) small.0 small.1
+    number_begins (cut_here (goal.at.returns c).After-split_at) c.requires c.in_ok-value.value
+    small.0 small.1
