@@ -1,7 +1,8 @@
 -- No word has two values, where the values are given one after the other.
 use Rattle.std.proofs.Common.{◌≡◌, ◌∙◌, Bool, true, false, not, ◌&&◌, ◌||◌, if◌then◌else◌, List, []}
 use Rattle.std.proofs.Common.{◌∷◌, ◌++◌, Option, Some, None, option_map, refl, sym, ap, ap₂}
-use Rattle.std.proofs.Common.{append_assoc}
+use Rattle.std.proofs.Common.{append_assoc, append-nil}
+use Rattle.pra_list.proofs.Choices.{and_true, not_true, or_false}
 use Rattle.std.specs.Prelude.{option_and_then}
 use Rattle.std.specs.List.{list_any}
 use Rattle.std.specs.Str.{bytes_eq}
@@ -37,22 +38,14 @@ any_end p (x ∷ gs) g e f = step (p x) (list_any p gs) f (any_end p gs g e)
     step true b f k = cc
     step false b f k = k f
 
-both : (a o : Bool) → (not a && o) ≡ true → (a ≡ false) × (o ≡ true)
-both true o e = cc
-both false o e = (refl, e)
-
-neither : (a b : Bool) → (a || b) ≡ false → (a ≡ false) × (b ≡ false)
-neither true b e = cc
-neither false b e = (refl, e)
-
 pub once_more : (gs : List Given) (w : Word) (v : Text) → is_once gs ≡ true →
     list_any (is_of w) gs ≡ false → is_once (gs ++ by w v ∷ []) ≡ true
 once_more [] w v once new = refl
 once_more (g ∷ gs) w v once new =
-    let o = both (list_any (is_of g.word) gs) (is_once gs) once in
-    let n = neither (is_of w g) (list_any (is_of w) gs) new in
-    ap₂ (λ a b. not a && b) (any_end (is_of g.word) gs (by w v) (same_name w g.word ∙ n.0) o.0)
-    (once_more gs w v o.1 n.1)
+    let o = and_true (not (list_any (is_of g.word) gs)) (is_once gs) once in
+    let n = or_false (is_of w g) (list_any (is_of w) gs) new in
+    ap₂ (λ a b. not a && b) (any_end (is_of g.word) gs (by w v) (same_name w g.word ∙ n.0)
+    (not_true _ o.0)) (once_more gs w v o.1 n.1)
 
 -- ---- a second value of a word
 
@@ -91,23 +84,19 @@ abbrev pub turned : List Given → Option (List Given × Next) → List Text →
 turned gs o ws = option_and_then (λ more. line_from (gs ++ more))
     (option_and_then (λ t. option_map (λ more. t.0 ++ more) (given t.1 ws)) o)
 
+pub turned_new : (gs new : List Given) (t : Next) (ws : List Text) →
+    after_given (gs ++ new) t ws ≡ turned gs (Some (new, t)) ws
+turned_new gs new t ws = step (given t ws)
+  where
+    step : (o : Option (List Given)) → option_and_then (λ more. line_from ((gs ++ new) ++ more)) o
+        ≡ option_and_then (λ more. line_from (gs ++ more)) (option_map (λ more. new ++ more) o)
+    step None = refl
+    step (Some more) = ap line_from (append_assoc gs new more)
+
 pub turned_nothing : (gs : List Given) (t : Next) (ws : List Text) → after_given gs t ws ≡
     turned gs (Some ([], t)) ws
-turned_nothing gs t ws = step (given t ws)
-  where
-    step : (o : Option (List Given)) → option_and_then (λ more. line_from (gs ++ more)) o ≡
-        option_and_then (λ more. line_from (gs ++ more)) (option_map (λ more. more) o)
-    step None = refl
-    step (Some more) = refl
-
-pub turned_new : (gs : List Given) (g : Given) (t : Next) (ws : List Text) →
-    after_given (gs ++ g ∷ []) t ws ≡ turned gs (Some (g ∷ [], t)) ws
-turned_new gs g t ws = step (given t ws)
-  where
-    step : (o : Option (List Given)) → option_and_then (λ more. line_from ((gs ++ g ∷ []) ++ more))
-        o ≡ option_and_then (λ more. line_from (gs ++ more)) (option_map (λ more. g ∷ more) o)
-    step None = refl
-    step (Some more) = ap line_from (append_assoc gs (g ∷ []) more)
+turned_nothing gs t ws =
+    ap (λ l. after_given l t ws) (sym (append-nil gs)) ∙ turned_new gs [] t ws
 
 pub turned_again : (gs : List Given) (w : Word) (v : Text) (t : Next) (ws : List Text) →
     list_any (is_of w) gs ≡ true → None ≡ turned gs (Some (by w v ∷ [], t)) ws

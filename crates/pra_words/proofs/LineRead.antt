@@ -14,7 +14,7 @@ use Rattle.clap.specs.declared.error.kind.ErrorKind.TheVariants.{ArgumentConflic
 use Rattle.clap.specs.Walk.{Held, Row, Rule, Waiting, Walk, is_empty, has_row, reading_by}
 use Rattle.clap.specs.Walk.{default_rows, used, settled, reacted, with_default, word_met}
 use Rattle.clap.specs.Walk.{subcommand_met, walked, after_step, nothing_held, finished, idle}
-use Rattle.clap.specs.Walk.{option, trailing, value, next, after_flag, long_met, plain_word}
+use Rattle.clap.specs.Walk.{option, value, next, after_flag, long_met, plain_word}
 use Rattle.clap.specs.Faults.{settle_fault, use_fault, turn_fault, default_fault}
 use Rattle.clap.specs.Faults.{given_default_fault, defaults_fault, check_fault, long_fault}
 use Rattle.clap.specs.Faults.{step_fault, word_fault}
@@ -27,18 +27,18 @@ use Rattle.pra_words.specs.CommandLine.{place, option_named, any_word, option_va
 use Rattle.pra_words.specs.CommandLine.{look, is_of, is_once, value_in, line_by, line_in, line_from}
 use Rattle.pra_words.specs.CommandLine.{line_of}
 use Rattle.pra_words.specs.Command.{line_of_rows, unless, taken_line}
-use Rattle.pra_words.proofs.LineRows.{top, rules, rule, row, of_each, by, repeat, held, pending}
-use Rattle.pra_words.proofs.LineRows.{Good, good_held, good_pending, settle_word, settle_pending}
+use Rattle.pra_words.proofs.LineRows.{top, rules, rule, row, by, repeat, held, pending, Good}
+use Rattle.pra_words.proofs.LineRows.{good_held, good_pending, settle_word, settle_pending}
 use Rattle.pra_words.proofs.LineRows.{no_value, use_is, has, one_more}
 use Rattle.pra_words.proofs.LineLooks.{dashes, Seen, is_plain, is_end, is_named, is_dashed, seen}
 use Rattle.pra_words.proofs.LineOnce.{after_given, turned, turned_nothing, turned_new, turned_again}
 use Rattle.pra_words.proofs.LineOnce.{once_more}
 use Rattle.pra_words.proofs.LineTurns.{Bad, at, after, clap_line, taken_is, line_ends, stops, goes}
 use Rattle.pra_words.proofs.LineTurns.{stuck, stuck_behind, bad_end, joined_fault, joined_met}
-use Rattle.pra_words.proofs.LineTurns.{apart_fault, apart_met, met_plain, fault_plain, met_end}
-use Rattle.pra_words.proofs.LineTurns.{fault_end, met_named, fault_named, bad_named, bad_dashed}
-use Rattle.pra_words.proofs.LineTurns.{bad_turn, turn_is, walked_is, place_fault, mode_walk}
-use Rattle.pra_words.proofs.LineTurns.{file_walk, trailing_turn, trailing_walk}
+use Rattle.pra_words.proofs.LineTurns.{apart_fault, apart_met, met_plain, fault_plain, met_named}
+use Rattle.pra_words.proofs.LineTurns.{fault_named, bad_stops, end_goes, named_stops, dashed_stops}
+use Rattle.pra_words.proofs.LineTurns.{turn_is, walked_is, place_fault, mode_walk, file_walk}
+use Rattle.pra_words.proofs.LineTurns.{trailing_turn, trailing_walk}
 
 -- ---- at the end
 
@@ -160,7 +160,7 @@ module _ (word : Text) (ws : List Text) (u : Each IsUtf8 (word ∷ ws)) (more : 
       step false e k f =
           more t (gs ++ by w word ∷ []) _ (once_more gs w word once e)
           (stands _ _ (good_pending gs w word e))
-          ∙ turned_new gs (by w word) t ws
+          ∙ turned_new gs (by w word ∷ []) t ws
       step true e true f =
           subst (λ k. clap_line (at (pending gs w (word ∷ [])) idle (suc n) k) ws ≡ None) f
           (stuck_behind ws (pending gs w (word ∷ [])) idle n (again_bad gs w word e))
@@ -203,12 +203,12 @@ module _ (word : Text) (ws : List Text) (u : Each IsUtf8 (word ∷ ws)) (more : 
     unknown : (name : Text) (v : Option Text) → bytes_eq word dashes ≡ false → long_of word ≡
         Some (name, v) → option_named name ≡ None → clap_line here (word ∷ ws) ≡ None
     unknown name v e l is =
-        stops here word ws (bad_turn h idle (suc n) word refl (
+        bad_stops h idle (suc n) word refl ws (
           UnknownArgument,
           [],
           fault_named h idle (suc n) word refl name v e l
               ∙ ap (λ o. long_fault rules false (option_map rule o) v h) is,
-        ))
+        )
 
     joined : (name v : Text) → bytes_eq word dashes ≡ false → long_of word ≡ Some (name, Some v) →
         (o : Option Word) → option_named name ≡ o →
@@ -236,8 +236,7 @@ module _ (word : Text) (ws : List Text) (u : Each IsUtf8 (word ∷ ws)) (more : 
         step : (b : Bool) → list_any (is_of o) gs ≡ b → clap_line here (word ∷ ws) ≡
             turned gs (Some (by o v ∷ [], any n)) ws
         step true old =
-            stops here word ws (bad_turn h idle (suc n) word refl
-            (ArgumentConflict, [], fault ∙ ap repeat old))
+            bad_stops h idle (suc n) word refl ws (ArgumentConflict, [], fault ∙ ap repeat old)
             ∙ turned_again gs o v (any n) ws old
         step false new =
             goes here (at (held (gs ++ by o v ∷ [])) idle (suc n) false) word ws
@@ -247,7 +246,7 @@ module _ (word : Text) (ws : List Text) (u : Each IsUtf8 (word ∷ ws)) (more : 
             ∙ ap (λ x. at x idle (suc n) false) (reacted_is h gs o v good new))
             ∙ more (any n) (gs ++ by o v ∷ []) _ (once_more gs o v once new)
             (anywhere (good_held (gs ++ by o v ∷ [])))
-            ∙ turned_new gs (by o v) (any n) ws
+            ∙ turned_new gs (by o v ∷ []) (any n) ws
 
     apart : (name : Text) → bytes_eq word dashes ≡ false → long_of word ≡ Some (name, None) →
         (o : Option Word) → option_named name ≡ o →
@@ -292,17 +291,11 @@ module _ (word : Text) (ws : List Text) (u : Each IsUtf8 (word ∷ ws)) (more : 
         (walked_is h idle (suc n) word refl (h, value) (met_plain h idle (suc n) word refl e l s))
         (any (suc n)) (λ h l g. anywhere g)
     any_case _ (is_end e) =
-        goes here (at h idle (suc n) true) word ws
-        (turn_is h idle (suc n) word refl [] (h, trailing (suc n))
-        (fault_end h idle (suc n) word refl e) (met_end h idle (suc n) word refl e))
-        (walked_is h idle (suc n) word refl (h, trailing (suc n))
-        (met_end h idle (suc n) word refl e))
-        ∙ more (itself n) gs _ once (behind good)
+        end_goes h idle (suc n) word refl ws e ∙ more (itself n) gs _ once (behind good)
         ∙ turned_nothing gs (itself n) ws
     any_case _ (is_named {name} {v} e l) = named_case name v e l
     any_case _ (is_dashed {x} {xs} e l s some) =
-        stops here word ws (bad_turn h idle (suc n) word refl
-        (bad_dashed h idle (suc n) word refl x xs e l s (some u.0) good.skip))
+        dashed_stops h idle (suc n) word refl ws x xs e l s (some u.0) good.skip
 
   module _ (o : Word) (n : ℕ) (gs : List Given) (once : is_once gs ≡ true) where
     abbrev h : Held
@@ -316,8 +309,8 @@ module _ (word : Text) (ws : List Text) (u : Each IsUtf8 (word ∷ ws)) (more : 
 
     value_met : (o : Word) → plain_word rules (option (word_name o)) word (pending gs o []) ≡
         (pending gs o (word ∷ []), next idle)
-    value_met o = of_each (λ o. plain_word rules (option (word_name o)) word (pending gs o []) ≡
-        (pending gs o (word ∷ []), next idle)) refl refl refl refl refl refl refl refl refl refl o
+    value_met Mode = refl
+    value_met _ = refl
 
     option_case : (l : Look) → Seen word l → clap_line (at h wt (suc n) false) (word ∷ ws) ≡
         turned gs (option_value o n word l) ws
@@ -330,17 +323,11 @@ module _ (word : Text) (ws : List Text) (u : Each IsUtf8 (word ∷ ws)) (more : 
         (met_plain h wt (suc n) word free e l s ∙ value_met o))
         ∙ kept gs o n false once (any n) (λ h l g. anywhere g)
     option_case _ (is_end e) =
-        goes (at h wt (suc n) false) (at h wt (suc n) true) word ws
-        (turn_is h wt (suc n) word free [] (h, trailing (suc n))
-        (fault_end h wt (suc n) word free e) (met_end h wt (suc n) word free e))
-        (walked_is h wt (suc n) word free (h, trailing (suc n)) (met_end h wt (suc n) word free e))
-        ∙ stuck_behind ws h wt n (no_value_bad gs o)
-    option_case _ (is_named {name} {v} e l) = stops (at h wt (suc n) false) word ws
-        (bad_turn h wt (suc n) word free
-        (bad_named h wt (suc n) word free name v e l (no_value_bad gs o)))
-    option_case _ (is_dashed {x} {xs} e l s some) = stops (at h wt (suc n) false) word ws
-        (bad_turn h wt (suc n) word free
-        (bad_dashed h wt (suc n) word free x xs e l s (some u.0) refl))
+        end_goes h wt (suc n) word free ws e ∙ stuck_behind ws h wt n (no_value_bad gs o)
+    option_case _ (is_named {name} {v} e l) =
+        named_stops h wt (suc n) word free ws name v e l (no_value_bad gs o)
+    option_case _ (is_dashed {x} {xs} e l s some) =
+        dashed_stops h wt (suc n) word free ws x xs e l s (some u.0) refl
 
 follows : (ws : List Text) → Each IsUtf8 ws → Follows ws
 follows [] u s gs w once (anywhere {n} {h} good) = at_last h gs idle (suc n) false good once

@@ -14,8 +14,7 @@ use Rattle.clap.specs.Walk.{reading_by, used, settled, settled_rows, arg_by_id}
 use Rattle.clap.specs.Simple.{Shape, built, new_rule}
 use Rattle.clap.specs.Faults.{use_fault, settle_fault}
 use Rattle.pra_words.specs.declared.words.Word.{Word}
-use Rattle.pra_words.specs.declared.words.Word.TheVariants.{Mode, File, Rounds, Cost, Steps, Gap}
-use Rattle.pra_words.specs.declared.words.Word.TheVariants.{From, Image, Seed, Size}
+use Rattle.pra_words.specs.declared.words.Word.TheVariants.{Mode}
 use Rattle.pra_words.specs.Texts.{word_name}
 use Rattle.pra_words.specs.CommandLine.{Text, Given, is_of}
 use Rattle.pra_words.specs.Command.{command}
@@ -43,20 +42,6 @@ row g = record {
 
 abbrev pub by : Word → Text → Given
 by w v = record { word = w; value = v }
-
--- what each of the words has, all have
-pub of_each : (P : Word → Type 0) → P Mode → P File → P Rounds → P Cost → P Steps → P Gap →
-    P From → P Image → P Seed → P Size → (w : Word) → P w
-of_each P a b c d e f g h i j Mode = a
-of_each P a b c d e f g h i j File = b
-of_each P a b c d e f g h i j Rounds = c
-of_each P a b c d e f g h i j Cost = d
-of_each P a b c d e f g h i j Steps = e
-of_each P a b c d e f g h i j Gap = f
-of_each P a b c d e f g h i j From = g
-of_each P a b c d e f g h i j Image = h
-of_each P a b c d e f g h i j Seed = i
-of_each P a b c d e f g h i j Size = j
 
 -- ---- rows
 
@@ -87,9 +72,8 @@ put id how v rows e =
 use_of : (w : Word) (v : Text) (rows : List Row) → used (rule w) (v ∷ []) rows ≡
     with_values (word_name w) (reading_by (rule w)) CommandLine (v ∷ [])
     (without (word_name w) rows)
-use_of w v rows = of_each
-    (λ w. used (rule w) (v ∷ []) rows ≡ with_values (word_name w) (reading_by (rule w)) CommandLine
-    (v ∷ []) (without (word_name w) rows)) refl refl refl refl refl refl refl refl refl refl w
+use_of Mode v rows = refl
+use_of _ v rows = refl
 
 pub used_word : (w : Word) (v : Text) (rows : List Row) → has_row (word_name w) rows ≡ false →
     used (rule w) (v ∷ []) rows ≡ rows ++ row (by w v) ∷ []
@@ -106,18 +90,16 @@ repeat_is false = refl
 
 one_use : (w : Word) (v : Text) (rows : List Row) → use_fault false (rule w) (v ∷ []) rows ≡
     or_else (if has_row (word_name w) rows && true then ArgumentConflict ∷ [] else []) []
-one_use w v rows = of_each
-    (λ w. use_fault false (rule w) (v ∷ []) rows ≡
-    or_else (if has_row (word_name w) rows && true then ArgumentConflict ∷ [] else []) []) refl refl
-    refl refl refl refl refl refl refl refl w
+one_use Mode v rows = refl
+one_use _ v rows = refl
 
 pub use_is : (w : Word) (v : Text) (rows : List Row) → use_fault false (rule w) (v ∷ []) rows ≡
     repeat (has_row (word_name w) rows)
 use_is w v rows = one_use w v rows ∙ repeat_is (has_row (word_name w) rows)
 
 pub no_value : (w : Word) (rows : List Row) → use_fault false (rule w) [] rows ≡ InvalidValue ∷ []
-no_value w rows = of_each (λ w. use_fault false (rule w) [] rows ≡ InvalidValue ∷ []) refl refl refl
-    refl refl refl refl refl refl refl w
+no_value Mode rows = refl
+no_value _ rows = refl
 
 -- ---- what is held
 
@@ -138,14 +120,13 @@ good_held gs = record { skip = refl; clean = refl; settles = refl }
 
 pub settle_word : (w : Word) (vs : List Text) (gs : List Given) →
     settle_fault rules false (pending gs w vs) ≡ use_fault false (rule w) vs (map row gs)
-settle_word w vs gs = of_each
-    (λ w. settle_fault rules false (pending gs w vs) ≡ use_fault false (rule w) vs (map row gs))
-    refl refl refl refl refl refl refl refl refl refl w
+settle_word Mode vs gs = refl
+settle_word _ vs gs = refl
 
 rows_word : (w : Word) (v : Text) (rows : List Row) →
     settled_rows rules (Some (word_name w, v ∷ [])) rows ≡ used (rule w) (v ∷ []) rows
-rows_word w v rows = of_each (λ w. settled_rows rules (Some (word_name w, v ∷ [])) rows ≡
-    used (rule w) (v ∷ []) rows) refl refl refl refl refl refl refl refl refl refl w
+rows_word Mode v rows = refl
+rows_word _ v rows = refl
 
 pub settle_pending : (gs : List Given) (w : Word) (v : Text) →
     settle_fault rules false (pending gs w (v ∷ [])) ≡ repeat (list_any (is_of w) gs)

@@ -1,7 +1,7 @@
 -- What the simple command makes of one word, from what it holds.
 use Rattle.std.proofs.Common.{◌≡◌, ◌∙◌, ℕ, zero, suc, ◌==◌, Bool, true, false, not, ◌&&◌}
-use Rattle.std.proofs.Common.{if◌then◌else◌, List, [], ◌∷◌, ◌++◌, length, map, slice_get, Option}
-use Rattle.std.proofs.Common.{Some, None, option_map, find, is_some, refl, sym, ap, ap₂, arith}
+use Rattle.std.proofs.Common.{if◌then◌else◌, List, [], ◌∷◌, map, Option, Some, None, option_map}
+use Rattle.std.proofs.Common.{find, is_some, refl, sym, ap, ap₂, arith}
 use Rattle.std.specs.Prelude.{fold}
 use Rattle.std.proofs.lemmas.Bool.Decides.{nat_tests}
 use Rattle.std.specs.List.{AllByRecursion as Each}
@@ -11,18 +11,15 @@ use Rattle.clap.specs.Lexer.{long_of, short_of}
 use Rattle.clap.specs.Kinds.{Kinds, or_else}
 use Rattle.clap.specs.declared.error.kind.ErrorKind.{ErrorKind}
 use Rattle.clap.specs.declared.error.kind.ErrorKind.TheVariants.{UnknownArgument}
-use Rattle.clap.specs.Walk.{Held, Outcome, Row, Rule, Step, Waiting, Walk, settled, reacted, pushed}
-use Rattle.clap.specs.Walk.{is_pending, arg_by_index, arg_by_long, arg_by_short, has_long, long_met}
-use Rattle.clap.specs.Walk.{word_met, subcommand_met, subcommand_or_other, long_or_other}
-use Rattle.clap.specs.Walk.{short_or_plain, long_word, after_flag, after_step, walked, nothing_held}
-use Rattle.clap.specs.Walk.{walk_from, finished, idle, option, trailing, value, next, done}
+use Rattle.clap.specs.Walk.{Held, Step, Waiting, Walk, settled, reacted, pushed, is_pending}
+use Rattle.clap.specs.Walk.{arg_by_long, has_long, long_met, word_met, subcommand_met, after_flag}
+use Rattle.clap.specs.Walk.{after_step, walked, nothing_held, finished, idle, trailing, value, done}
 use Rattle.clap.specs.Walk.{plain_word}
 use Rattle.clap.specs.Walk as clap
 use Rattle.clap.specs.Simple.{built, matches_of}
-use Rattle.clap.specs.Faults.{use_fault, settle_fault, long_fault, bundle_step_fault, bundle_fault}
-use Rattle.clap.specs.Faults.{flags_fault, flag_word_fault, word_fault, other_fault}
-use Rattle.clap.specs.Faults.{positional_fault, step_fault, stray_fault, turn_fault, walk_fault}
-use Rattle.clap.specs.Faults.{defaults_fault, check_fault}
+use Rattle.clap.specs.Faults.{use_fault, settle_fault, long_fault, bundle_fault, flags_fault}
+use Rattle.clap.specs.Faults.{word_fault, positional_fault, step_fault, stray_fault, turn_fault}
+use Rattle.clap.specs.Faults.{walk_fault, defaults_fault, check_fault}
 use Rattle.clap.proofs.FaultLemmas.{leaf_fault}
 use Rattle.clap.proofs.WalkLemmas.{find-map}
 use Rattle.std.proofs.Math.Bool.{or-false}
@@ -32,7 +29,7 @@ use Rattle.pra_words.specs.Texts.{word_name}
 use Rattle.pra_words.specs.CommandLine.{Text, Given, Line, place, options, option_name}
 use Rattle.pra_words.specs.CommandLine.{option_named}
 use Rattle.pra_words.specs.Command.{command, line_of_rows, unless, taken_line}
-use Rattle.pra_words.proofs.LineRows.{top, rules, rule, row, of_each, pending, Good}
+use Rattle.pra_words.proofs.LineRows.{top, rules, rule, row, pending, Good}
 use Rattle.pra_words.proofs.LineLooks.{dashes, Seen, is_plain, is_end, is_named, is_dashed, seen}
 
 abbrev pub at : Held → Waiting → ℕ → Bool → Walk
@@ -94,52 +91,35 @@ find_long name =
 pub joined_fault : (o : Word) (v : Text) (h : Held) → long_fault rules false (Some (rule o))
     (Some v) h ≡ or_else (settle_fault rules false h)
     (use_fault false (rule o) (v ∷ []) (settled rules h).rows)
-joined_fault o v h = of_each (λ o. long_fault rules false (Some (rule o)) (Some v) h ≡
-    or_else (settle_fault rules false h) (use_fault false (rule o) (v ∷ []) (settled rules h).rows))
-    refl refl refl refl refl refl refl refl refl refl o
+joined_fault Mode v h = refl
+joined_fault _ v h = refl
 
 pub apart_fault : (o : Word) (h : Held) → long_fault rules false (Some (rule o)) None h ≡
     settle_fault rules false h
-apart_fault o h = of_each (λ o. long_fault rules false (Some (rule o)) None h ≡
-    settle_fault rules false h) refl refl refl refl refl refl refl refl refl refl o
+apart_fault Mode h = refl
+apart_fault _ h = refl
 
 pub joined_met : (o : Word) (v : Text) (h : Held) → long_met rules (Some (rule o)) (Some v) h ≡
     (reacted rules (rule o) (v ∷ []) h, done)
-joined_met o v h = of_each
-    (λ o. long_met rules (Some (rule o)) (Some v) h ≡ (reacted rules (rule o) (v ∷ []) h, done))
-    refl refl refl refl refl refl refl refl refl refl o
+joined_met Mode v h = refl
+joined_met _ v h = refl
 
 pub apart_met : (o : Word) (h : Held) → long_met rules (Some (rule o)) None h ≡
     (record (settled rules h) { pending = Some (word_name o, []) }, clap.waits (word_name o))
-apart_met o h = of_each (λ o. long_met rules (Some (rule o)) None h ≡
-    (record (settled rules h) { pending = Some (word_name o, []) }, clap.waits (word_name o))) refl
-    refl refl refl refl refl refl refl refl refl o
+apart_met Mode h = refl
+apart_met _ h = refl
 
 or_bad : (k l : Kinds) → Bad k → Bad (or_else k l)
-or_bad k l bad = (
-  bad.0,
-  bad.1 ++ [],
-  ap (λ x. or_else x l) bad.2 ∙ ap (λ xs. bad.0 ∷ xs)
-      (sym (nil bad.1)),
-)
-  where
-    nil : (xs : Kinds) → xs ++ [] ≡ xs
-    nil [] = refl
-    nil (x ∷ xs) = ap (λ ys. x ∷ ys) (nil xs)
+or_bad k l bad = (bad.0, bad.1, rw bad.2 refl)
 
 as_bad : (k l : Kinds) → k ≡ l → Bad l → Bad k
 as_bad k l e bad = (bad.0, bad.1, e ∙ bad.2)
 
-long_bad : (name : Text) (v : Option Text) (h : Held) → Bad (settle_fault rules false h) →
-    Bad (long_fault rules false (arg_by_long rules name) v h)
-long_bad name v h bad = as_bad _ _ (ap (λ a. long_fault rules false a v h) (find_long name))
-    (by_option (option_named name) v)
-  where
-    by_option : (o : Option Word) (v : Option Text) →
-        Bad (long_fault rules false (option_map rule o) v h)
-    by_option None v = (UnknownArgument, [], refl)
-    by_option (Some o) (Some v) = as_bad _ _ (joined_fault o v h) (or_bad _ _ bad)
-    by_option (Some o) None = as_bad _ _ (apart_fault o h) bad
+long_bad : (o : Option Word) (v : Option Text) (h : Held) → Bad (settle_fault rules false h) →
+    Bad (long_fault rules false (option_map rule o) v h)
+long_bad None v h bad = (UnknownArgument, [], refl)
+long_bad (Some o) (Some v) h bad = as_bad _ _ (joined_fault o v h) (or_bad _ _ bad)
+long_bad (Some o) None h bad = as_bad _ _ (apart_fault o h) bad
 
 -- ---- flags that the command does not have
 
@@ -151,11 +131,7 @@ dash_fault x xs h skip some = go (chars (x ∷ xs)) refl
     go : (cs : List ℕ) → chars (x ∷ xs) ≡ cs → bundle_fault rules false (x ∷ xs) h ≡
         UnknownArgument ∷ []
     go [] e = absurd (some e)
-    go (y ∷ ys) e =
-        ap (λ cs. bundle_step_fault rules false (slice_get cs 0) (x ∷ xs) h.skip
-        (record h { skip = 0 }) (flags_fault rules false (length xs))) e
-        ∙ ap (λ s. bundle_step_fault rules false (Some y) (x ∷ xs) s (record h { skip = 0 })
-        (flags_fault rules false (length xs))) skip
+    go (y ∷ ys) e = rw (e, skip) refl
 
 -- ---- a word, where a word of any kind may stand
 
@@ -163,80 +139,42 @@ abbrev Free : Waiting → Text → Type 0
 Free wt word = subcommand_met [] wt word ≡ None
 
 module _ (h : Held) (wt : Waiting) (p : ℕ) (word : Text) (free : Free wt word) where
-  met_first : word_met rules [] false wt p word h ≡
-      (if bytes_eq word dashes then (h, trailing p) else long_or_other rules wt word (long_of word)
-      h)
-  met_first = ap (λ o. subcommand_or_other rules o wt p word h) free
-
-  fault_first : word_fault top [] false wt word h ≡
-      (if bytes_eq word dashes then [] else flag_word_fault rules false (long_of word) word h)
-  fault_first = ap (λ o. other_fault top o word h) free
-
   pub met_plain : bytes_eq word dashes ≡ false → long_of word ≡ None → short_of word ≡ None →
       word_met rules [] false wt p word h ≡ plain_word rules wt word h
-  met_plain e l s =
-      met_first ∙ ap (λ b. if b then (h, trailing p) else long_or_other rules wt word (long_of word)
-      h) e
-      ∙ ap (λ l. long_or_other rules wt word l h) l ∙ ap (λ s. short_or_plain rules wt word s h) s
+  met_plain e l s = rw (free, e, l, s) refl
 
   pub fault_plain : bytes_eq word dashes ≡ false → long_of word ≡ None → short_of word ≡ None →
       word_fault top [] false wt word h ≡ []
-  fault_plain e l s =
-      fault_first ∙ ap (λ b. if b then [] else flag_word_fault rules false (long_of word) word h) e
-      ∙ ap (λ l. flag_word_fault rules false l word h) l
-      ∙ ap (λ s. option_map_or (λ flags. bundle_fault rules false flags h) s []) s
+  fault_plain e l s = rw (free, e, l, s) refl
 
-  pub met_end : bytes_eq word dashes ≡ true → word_met rules [] false wt p word h ≡ (h, trailing p)
-  met_end e = met_first ∙ ap (λ b. if b then (h, trailing p) else long_or_other rules wt word
-      (long_of word) h) e
+  met_end : bytes_eq word dashes ≡ true → word_met rules [] false wt p word h ≡ (h, trailing p)
+  met_end e = rw (free, e) refl
 
-  pub fault_end : bytes_eq word dashes ≡ true → word_fault top [] false wt word h ≡ []
-  fault_end e = fault_first
-      ∙ ap (λ b. if b then [] else flag_word_fault rules false (long_of word) word h) e
+  fault_end : bytes_eq word dashes ≡ true → word_fault top [] false wt word h ≡ []
+  fault_end e = rw (free, e) refl
 
-  pub met_named : (name : Text) (v : Option Text) → bytes_eq word dashes ≡ false → long_of word ≡
-      Some (name, v) → word_met rules [] false wt p word h ≡ after_flag rules wt word
-      (long_met rules (option_map rule (option_named name)) v h).0
-      (long_met rules (option_map rule (option_named name)) v h).1
-  met_named name v e l =
-      met_first ∙ ap (λ b. if b then (h, trailing p) else long_or_other rules wt word (long_of word)
-      h) e
-      ∙ ap (λ l. long_or_other rules wt word l h) l
-      ∙ ap (λ a. after_flag rules wt word (long_met rules a v h).0 (long_met rules a v h).1)
-      (find_long name)
+  module _ (name : Text) (v : Option Text) (e : bytes_eq word dashes ≡ false)
+      (l : long_of word ≡ Some (name, v)) where
+    pub met_named : word_met rules [] false wt p word h ≡ after_flag rules wt word
+        (long_met rules (option_map rule (option_named name)) v h).0
+        (long_met rules (option_map rule (option_named name)) v h).1
+    met_named = rw (free, e, l, find_long name) refl
 
-  fault_long : (name : Text) (v : Option Text) → bytes_eq word dashes ≡ false → long_of word ≡
-      Some (name, v) → word_fault top [] false wt word h ≡ long_fault rules false
-      (arg_by_long rules name) v h
-  fault_long name v e l =
-      fault_first ∙ ap (λ b. if b then [] else flag_word_fault rules false (long_of word) word h) e
-      ∙ ap (λ l. flag_word_fault rules false l word h) l
+    pub fault_named : word_fault top [] false wt word h ≡ long_fault rules false
+        (option_map rule (option_named name)) v h
+    fault_named = rw (free, e, l, find_long name) refl
 
-  pub fault_named : (name : Text) (v : Option Text) → bytes_eq word dashes ≡ false → long_of word ≡
-      Some (name, v) → word_fault top [] false wt word h ≡ long_fault rules false
-      (option_map rule (option_named name)) v h
-  fault_named name v e l = fault_long name v e l ∙ ap (λ a. long_fault rules false a v h)
-      (find_long name)
+    bad_named : Bad (settle_fault rules false h) → Bad (word_fault top [] false wt word h)
+    bad_named bad = as_bad _ _ fault_named (long_bad (option_named name) v h bad)
 
-  pub bad_named : (name : Text) (v : Option Text) → bytes_eq word dashes ≡ false → long_of word ≡
-      Some (name, v) → Bad (settle_fault rules false h) → Bad (word_fault top [] false wt word h)
-  bad_named name v e l bad = as_bad _ _ (fault_long name v e l) (long_bad name v h bad)
-
-  pub bad_dashed : (x : ℕ) (xs : Text) → bytes_eq word dashes ≡ false → long_of word ≡ None →
+  bad_dashed : (x : ℕ) (xs : Text) → bytes_eq word dashes ≡ false → long_of word ≡ None →
       short_of word ≡ Some (x ∷ xs) → (chars (x ∷ xs) ≡ [] → ⊥) → h.skip ≡ 0 →
       Bad (word_fault top [] false wt word h)
   bad_dashed x xs e l s some skip = (
     UnknownArgument,
     [],
-    fault_first ∙ ap (λ b. if b then [] else flag_word_fault rules false (long_of word) word h) e
-        ∙ ap (λ l. flag_word_fault rules false l word h) l
-        ∙ ap (λ s. option_map_or (λ flags. bundle_fault rules false flags h) s []) s
-        ∙ dash_fault x xs h skip some,
+    rw (free, e, l, s) (dash_fault x xs h skip some),
   )
-
-  pub bad_turn : Bad (word_fault top [] false wt word h) →
-      Bad (turn_fault top [] (at h wt p false) word)
-  bad_turn bad = or_bad _ _ bad
 
   pub turn_is : (k : Kinds) (m : Held × Step) → word_fault top [] false wt word h ≡ k →
       word_met rules [] false wt p word h ≡ m → turn_fault top [] (at h wt p false) word ≡
@@ -247,6 +185,28 @@ module _ (h : Held) (wt : Waiting) (p : ℕ) (word : Text) (free : Free wt word)
       walked rules [] (at h wt p false) word ≡ after_step rules word (at h wt p false) m.0 m.1
   unfolding walked
   walked_is m em = ap (λ m. after_step rules word (at h wt p false) m.0 m.1) em
+
+  -- what comes of the word, by what it looks like
+  module _ (ws : List Text) where
+    pub bad_stops : Bad (word_fault top [] false wt word h) →
+        clap_line (at h wt p false) (word ∷ ws) ≡ None
+    bad_stops bad = stops (at h wt p false) word ws (or_bad _ _ bad)
+
+    pub end_goes : bytes_eq word dashes ≡ true →
+        clap_line (at h wt p false) (word ∷ ws) ≡ clap_line (at h wt p true) ws
+    end_goes e = goes (at h wt p false) (at h wt p true) word ws
+        (turn_is [] (h, trailing p) (fault_end e) (met_end e))
+        (walked_is (h, trailing p) (met_end e))
+
+    pub named_stops : (name : Text) (v : Option Text) → bytes_eq word dashes ≡ false →
+        long_of word ≡ Some (name, v) → Bad (settle_fault rules false h) →
+        clap_line (at h wt p false) (word ∷ ws) ≡ None
+    named_stops name v e l bad = bad_stops (bad_named name v e l bad)
+
+    pub dashed_stops : (x : ℕ) (xs : Text) → bytes_eq word dashes ≡ false →
+        long_of word ≡ None → short_of word ≡ Some (x ∷ xs) → (chars (x ∷ xs) ≡ [] → ⊥) →
+        h.skip ≡ 0 → clap_line (at h wt p false) (word ∷ ws) ≡ None
+    dashed_stops x xs e l s some skip = bad_stops (bad_dashed x xs e l s some skip)
 
 -- ---- a word that stands for itself
 
@@ -334,15 +294,8 @@ stuck (word ∷ ws) u h n skip bad = by_look (seen word)
         (as_bad _ _ (turn_is h idle (suc n) word refl [] (h, value)
         (fault_plain h idle (suc n) word refl e l s) (met_plain h idle (suc n) word refl e l s))
         (bad_value n h bad))
-    by_look (is_end e) =
-        goes (at h idle (suc n) false) (at h idle (suc n) true) word ws
-        (turn_is h idle (suc n) word refl [] (h, trailing (suc n))
-        (fault_end h idle (suc n) word refl e) (met_end h idle (suc n) word refl e))
-        (walked_is h idle (suc n) word refl (h, trailing (suc n))
-        (met_end h idle (suc n) word refl e))
-        ∙ stuck_behind ws h idle n bad
-    by_look (is_named {name} {v} e l) = stops (at h idle (suc n) false) word ws
-        (bad_turn h idle (suc n) word refl (bad_named h idle (suc n) word refl name v e l bad))
-    by_look (is_dashed {x} {xs} e l s some) = stops (at h idle (suc n) false) word ws
-        (bad_turn h idle (suc n) word refl
-        (bad_dashed h idle (suc n) word refl x xs e l s (some u.0) skip))
+    by_look (is_end e) = end_goes h idle (suc n) word refl ws e ∙ stuck_behind ws h idle n bad
+    by_look (is_named {name} {v} e l) =
+        named_stops h idle (suc n) word refl ws name v e l bad
+    by_look (is_dashed {x} {xs} e l s some) =
+        dashed_stops h idle (suc n) word refl ws x xs e l s (some u.0) skip
