@@ -150,14 +150,13 @@ pub pair_begins : (text : List ℕ) (kind : Kind) → IsMarked text → 2 ≤ le
     Contains fixed (kind, take 2 text) → BeginsPiece text (Some kind) (drop 2 text)
 pair_begins [] kind m two f = absurd (omega arith)
 pair_begins (b ∷ []) kind m two f = absurd (omega arith)
-pair_begins (b ∷ (c ∷ rest)) kind m two f =
-    record {
-      piece = token kind (b ∷ (c ∷ []));
-      is_piece =
-          pair_piece kind b c rest (not_from_false (is_ascii_alphanumeric b || is_space b) m.1) f;
-      text_is = refl;
-      kind_is = refl;
-    }
+pair_begins (b ∷ (c ∷ rest)) kind m two f = record {
+  piece = token kind (b ∷ (c ∷ []));
+  is_piece = pair_piece kind b c rest
+      (not_from_false (is_ascii_alphanumeric b || is_space b) m.1) f;
+  text_is = refl;
+  kind_is = refl;
+}
 
 -- what is known of the first two bytes, where there are two
 pub known_pair : (text : List ℕ) (found : Option Kind) → 2 ≤ length text →
@@ -204,13 +203,12 @@ space_begins (b ∷ rest) some is =
 
 pub comment_begins : (text inside rest : List ℕ) → text ≡ 40 ∷ (42 ∷ inside) →
     ClosesBefore inside rest → BeginsPiece text None rest
-comment_begins text inside rest e c =
-    record {
-      piece = comment c.comment;
-      is_piece = c.is_comment;
-      text_is = e ∙ ap (λ us. 40 ∷ (42 ∷ us)) c.inside_is;
-      kind_is = refl;
-    }
+comment_begins text inside rest e c = record {
+  piece = comment c.comment;
+  is_piece = c.is_comment;
+  text_is = e ∙ ap (λ us. 40 ∷ (42 ∷ us)) c.inside_is;
+  kind_is = refl;
+}
 
 -- a byte that is no letter, digit or space
 pub marked : (text : List ℕ) → 0 < length text → is_space (get_or text 0 0) ≡ false →

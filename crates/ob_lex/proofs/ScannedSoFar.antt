@@ -44,49 +44,29 @@ module _ {bytes text : List ℕ} (rest : List ℕ) {kept : List Token} {count : 
   abbrev longer : List Piece
   longer = s.pieces ++ p ∷ []
 
-  longer_are : ArePieces longer rest
-  longer_are = ArePieces-push s.pieces p rest (subst (ArePieces s.pieces) text_is s.are_pieces) is
-
-  longer_text : bytes ≡ pieces_text longer rest
-  longer_text = s.text ∙ ap (pieces_text s.pieces) text_is ∙ sym (pieces_text-push s.pieces p rest)
-
-  -- behind a space or a comment
-  scanned_gap : tokens_from (0 + total_width s.pieces) (p ∷ []) ≡ [] →
-      IsScannedTo bytes rest kept count
-  scanned_gap none =
-      let same : tokens_from 0 longer ≡ tokens_from 0 s.pieces = tokens_from-push s.pieces 0 p
-      ∙ ap (λ ts. tokens_from 0 s.pieces ++ ts) none ∙ append-nil (tokens_from 0 s.pieces) in
+  -- behind the piece, with the tokens that it has
+  scanned_on : (ts : List Token) → tokens_from (0 + total_width s.pieces) (p ∷ []) ≡ ts →
+      (kept' : List Token) (n : ℕ) → n ≡ count + length ts →
+      (n ≤ most_tokens → kept' ≡ kept ++ ts) → IsScannedTo bytes rest kept' n
+  scanned_on ts has kept' n sum pushed =
+      let same : tokens_from 0 longer ≡ tokens_from 0 s.pieces ++ ts =
+      tokens_from-push s.pieces 0 p ∙ ap (λ l. tokens_from 0 s.pieces ++ l) has in
       record {
         pieces = longer;
-        are_pieces = longer_are;
-        text = longer_text;
-        counted = s.counted
-            ∙ ap length (sym same);
-        all_kept = λ few. s.all_kept few ∙ sym same;
+        are_pieces = ArePieces-push s.pieces p rest
+            (subst (ArePieces s.pieces) text_is s.are_pieces) is;
+        text = s.text ∙ ap (pieces_text s.pieces) text_is
+            ∙ sym (pieces_text-push s.pieces p rest);
+        counted = omega (
+          arith,
+          sum,
+          s.counted,
+          ap length same,
+          length-append (tokens_from 0 s.pieces) ts,
+        );
+        all_kept = λ few. pushed few ∙ ap (λ l. l ++ ts) (s.all_kept (omega (arith, few, sum)))
+            ∙ sym same;
       }
-
-  -- behind a token
-  scanned_token : (t : Token) → tokens_from (0 + total_width s.pieces) (p ∷ []) ≡ t ∷ [] →
-      (kept' : List Token) → (count < most_tokens → kept' ≡ kept ++ t ∷ []) →
-      IsScannedTo bytes rest kept' (count + 1)
-  scanned_token t one kept' pushed =
-      let same : tokens_from 0 longer ≡ tokens_from 0 s.pieces ++ t ∷ [] =
-      tokens_from-push s.pieces 0 p ∙ ap (λ ts. tokens_from 0 s.pieces ++ ts) one in
-      let size : length (tokens_from 0 longer) ≡ length (tokens_from 0 s.pieces) + 1 =
-      ap length same ∙ length-append (tokens_from 0 s.pieces) (t ∷ []) in
-      record {
-        pieces = longer;
-        are_pieces = longer_are;
-        text = longer_text;
-        counted =
-            omega (arith, s.counted);
-        all_kept = λ few. pushed (omega arith) ∙ ap (λ ts. ts ++ t ∷ [])
-            (s.all_kept (omega arith)) ∙ sym same;
-      }
-
-  place_of : length bytes - length text ≡ total_width s.pieces
-  place_of = let size : length bytes ≡ length (pieces_text s.pieces text) = ap length s.text in
-      let sum = length-pieces_text s.pieces text in omega arith
 
 pub behind_gap : {bytes text rest : List ℕ} {kept : List Token} {count : ℕ} →
     IsScannedTo bytes text kept count → BeginsPiece text None rest →
@@ -96,7 +76,8 @@ behind_gap {bytes} {text} {rest} {kept} {count} s b = by b.piece b.is_piece b.te
     by : (p : Piece) → IsPiece p rest → text ≡ piece_text p rest → None ≡ kind_of p →
         IsScannedTo bytes rest kept count
     by (token kind w) is e k = cc
-    by p is e k = scanned_gap rest s p is e refl
+    by p is e k = scanned_on rest s p is e [] refl kept count (omega arith)
+        (λ _. sym (append-nil kept))
 
 -- the token in front of a text, before rest
 abbrev pub token_at : List ℕ → List ℕ → List ℕ → Kind → Token
@@ -115,14 +96,14 @@ behind_token {bytes} {text} {rest} {count = count} s kind b kept' pushed =
         IsScannedTo bytes rest kept' (count + 1)
     by (token kind' w) is e k =
         let size : length text ≡ length w + length rest = ap length e ∙ length-append w rest in
-        let start = place_of rest s (token kind' w) is e in
         let all : length bytes ≡ length (pieces_text s.pieces text) = ap length s.text in
         let sum = length-pieces_text s.pieces text in
         let from : 0 + total_width s.pieces ≡ length bytes - length text = omega arith in
         let to : (0 + total_width s.pieces) + length w ≡ length bytes - length rest = omega arith in
         let same : kind' ≡ kind = cc in
-        scanned_token rest s (token kind' w) is e (token_at bytes text rest kind)
-        (λ i. record { kind = same i; from = from i; to = to i } ∷ []) kept' pushed
+        scanned_on rest s (token kind' w) is e (token_at bytes text rest kind ∷ [])
+        (λ i. record { kind = same i; from = from i; to = to i } ∷ []) kept' (count + 1)
+        (omega arith) (λ few. pushed (omega arith))
     by p is e k = cc
 
 -- the end of the source
@@ -134,10 +115,8 @@ module _ {bytes rest : List ℕ} {kept : List Token} {count : ℕ}
   whole_list : Tokens bytes (tokens_from 0 s.pieces)
   whole_list = record {
     pieces = s.pieces;
-    are_pieces =
-        subst (ArePieces s.pieces) none_left s.are_pieces;
-    text =
-        s.text ∙ ap (pieces_text s.pieces) none_left;
+    are_pieces = subst (ArePieces s.pieces) none_left s.are_pieces;
+    text = s.text ∙ ap (pieces_text s.pieces) none_left;
     tokens = refl;
   }
 

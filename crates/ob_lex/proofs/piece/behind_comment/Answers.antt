@@ -12,9 +12,8 @@ loop-depth-preserved-in-Some c =
     let e : text ≡ 40 ∷ (42 ∷ c.in-Some.after.now) =
     rw (c.in-Some.is) at (strip_prefix_is Decides-eqb text (40 ∷ (42 ∷ []))
     c.strip_prefix.result c.strip_prefix.ensures.cases) in
-    let size : length text ≡ length (40 ∷ (42 ∷ c.in-Some.after.now)) = ap length e in
     record {
-      deep = omega (arith, c.loop-depth.invariant.deep);
+      deep = omega (arith, ap length e, c.loop-depth.invariant.deep);
       leads = opens c.loop-depth-test.true c.loop-depth.invariant.leads e;
     }
 
@@ -25,25 +24,24 @@ loop-depth-preserved-in-Some-strip_prefix c =
     let e : text ≡ 42 ∷ (41 ∷ after) = rw (c.in-Some-strip_prefix.is) at
     (strip_prefix_is Decides-eqb text (42 ∷ (41 ∷ [])) c.strip_prefix-in_default.result
     c.strip_prefix-in_default.ensures.cases) in
-    let size : length text ≡ length (42 ∷ (41 ∷ after)) = ap length e in
     record {
-      deep = omega (arith, c.loop-depth.invariant.deep);
+      deep = omega (arith, ap length e, c.loop-depth.invariant.deep);
       leads = closes c.loop-depth-test.true c.loop-depth.invariant.leads e;
     }
 
 pub returns-in_default-rest : goal.returns-in_default-rest
 returns-in_default-rest c =
     let text = c.loop-depth.rest.now in
-    never_closed c.loop-depth-test.true (nil_from_length text (omega (arith, c.in_default-rest.len_below)))
+    never_closed c.loop-depth-test.true
+    (nil_from_length text (omega (arith, c.in_default-rest.len_below)))
     c.loop-depth.invariant.leads
 
 pub loop-depth-preserved : goal.loop-depth-preserved
 loop-depth-preserved c =
     let text = c.loop-depth.rest.now in
     let e = first_and_rest text c.in-len1-up.len_at_least in
-    let size = ap length e in
     record {
-      deep = omega (arith, c.loop-depth.invariant.deep);
+      deep = omega (arith, ap length e, c.loop-depth.invariant.deep);
       leads = passes c.loop-depth-test.true c.loop-depth.invariant.leads e
           (rw (c.in_default.is) at
           (strip_prefix_is Decides-eqb text (40 ∷ (42 ∷ [])) c.strip_prefix.result
