@@ -1,7 +1,7 @@
 -- The simple command gives what the words say.
 use Rattle.std.proofs.Common.{◌≡◌, ◌∙◌, ℕ, zero, suc, Bool, true, false, not, ◌||◌, if◌then◌else◌}
 use Rattle.std.proofs.Common.{List, [], ◌∷◌, ◌++◌, map, slice_get, Option, Some, None, option_map}
-use Rattle.std.proofs.Common.{find, refl, sym, ap, ap₂, subst, append-nil}
+use Rattle.std.proofs.Common.{find, refl, sym, ap, ap₂, append-nil}
 use Rattle.std.specs.Prelude.{option_and_then, fold}
 use Rattle.std.specs.List.{list_any, AllByRecursion as Each}
 use Rattle.std.specs.Option.{option_map_or}
@@ -11,13 +11,12 @@ use Rattle.clap.specs.Lexer.{long_of}
 use Rattle.clap.specs.Kinds.{or_else, check_kinds}
 use Rattle.clap.specs.declared.error.kind.ErrorKind.TheVariants.{UnknownArgument, InvalidValue}
 use Rattle.clap.specs.declared.error.kind.ErrorKind.TheVariants.{ArgumentConflict}
-use Rattle.clap.specs.Walk.{Held, Row, Rule, Waiting, Walk, is_empty, has_row, reading_by}
-use Rattle.clap.specs.Walk.{default_rows, used, settled, reacted, with_default, word_met}
-use Rattle.clap.specs.Walk.{subcommand_met, walked, after_step, nothing_held, finished, idle}
-use Rattle.clap.specs.Walk.{option, value, next, after_flag, long_met, plain_word}
+use Rattle.clap.specs.Walk.{Held, Row, Rule, Waiting, Walk, has_row, used, settled, reacted}
+use Rattle.clap.specs.Walk.{with_default, word_met, subcommand_met, walked, after_step}
+use Rattle.clap.specs.Walk.{nothing_held, finished, idle, option, value, next, plain_word}
 use Rattle.clap.specs.Faults.{settle_fault, use_fault, turn_fault, default_fault}
-use Rattle.clap.specs.Faults.{given_default_fault, defaults_fault, check_fault, long_fault}
-use Rattle.clap.specs.Faults.{step_fault, word_fault}
+use Rattle.clap.specs.Faults.{given_default_fault, defaults_fault, check_fault, step_fault}
+use Rattle.clap.specs.Faults.{word_fault}
 use Rattle.clap.proofs.WalkLemmas.{find-map}
 use Rattle.pra_words.specs.declared.words.Word.{Word}
 use Rattle.pra_words.specs.declared.words.Word.TheVariants.{Mode, File}
@@ -44,12 +43,7 @@ use Rattle.pra_words.proofs.LineTurns.{trailing_turn, trailing_walk}
 
 no_default : (a : Rule) (rows : List Row) → a.defaults ≡ [] → (default_fault rows a ≡ []) ×
     (with_default rows a ≡ rows)
-no_default a rows e = (
-  ap (λ d. if has_row a.id rows || is_empty d then [] else given_default_fault a d) e
-      ∙ either (has_row a.id rows),
-  ap (λ d. if has_row a.id rows then rows else default_rows a.id (reading_by a) d rows) e
-      ∙ same (has_row a.id rows),
-)
+no_default a rows e = (rw e (either (has_row a.id rows)), rw e (same (has_row a.id rows)))
   where
     either : (b : Bool) → (if b || true then [] else given_default_fault a []) ≡ []
     either true = refl
@@ -152,22 +146,21 @@ module _ (word : Text) (ws : List Text) (u : Each IsUtf8 (word ∷ ws)) (more : 
       ((h : Held) (l : List Given) → Good h l → Stands t l (at h idle (suc n) tr)) →
       clap_line (at (pending gs w (word ∷ [])) idle (suc n) tr) ws ≡
       turned gs (Some (by w word ∷ [], t)) ws
-  kept gs w n tr once t stands = step (list_any (is_of w) gs) refl tr refl
+  kept gs w n tr once t stands = step (list_any (is_of w) gs) refl tr stands
     where
-      step : (b : Bool) → list_any (is_of w) gs ≡ b → (k : Bool) → k ≡ tr →
+      step : (b : Bool) → list_any (is_of w) gs ≡ b → (tr : Bool) →
+          ((h : Held) (l : List Given) → Good h l → Stands t l (at h idle (suc n) tr)) →
           clap_line (at (pending gs w (word ∷ [])) idle (suc n) tr) ws ≡
           turned gs (Some (by w word ∷ [], t)) ws
-      step false e k f =
+      step false e tr stands =
           more t (gs ++ by w word ∷ []) _ (once_more gs w word once e)
           (stands _ _ (good_pending gs w word e))
           ∙ turned_new gs (by w word ∷ []) t ws
-      step true e true f =
-          subst (λ k. clap_line (at (pending gs w (word ∷ [])) idle (suc n) k) ws ≡ None) f
-          (stuck_behind ws (pending gs w (word ∷ [])) idle n (again_bad gs w word e))
+      step true e true stands =
+          stuck_behind ws (pending gs w (word ∷ [])) idle n (again_bad gs w word e)
           ∙ turned_again gs w word t ws e
-      step true e false f =
-          subst (λ k. clap_line (at (pending gs w (word ∷ [])) idle (suc n) k) ws ≡ None) f
-          (stuck ws u.1 (pending gs w (word ∷ [])) n refl (again_bad gs w word e))
+      step true e false stands =
+          stuck ws u.1 (pending gs w (word ∷ [])) n refl (again_bad gs w word e)
           ∙ turned_again gs w word t ws e
 
   -- a word that stands for itself
@@ -206,8 +199,7 @@ module _ (word : Text) (ws : List Text) (u : Each IsUtf8 (word ∷ ws)) (more : 
         bad_stops h idle (suc n) word refl ws (
           UnknownArgument,
           [],
-          fault_named h idle (suc n) word refl name v e l
-              ∙ ap (λ o. long_fault rules false (option_map rule o) v h) is,
+          fault_named h idle (suc n) word refl name v e l ∙ rw is refl,
         )
 
     joined : (name v : Text) → bytes_eq word dashes ≡ false → long_of word ≡ Some (name, Some v) →
@@ -219,19 +211,15 @@ module _ (word : Text) (ws : List Text) (u : Each IsUtf8 (word ∷ ws)) (more : 
         fault : word_fault top [] false idle word h ≡ repeat (list_any (is_of o) gs)
         fault =
             fault_named h idle (suc n) word refl name (Some v) e l
-            ∙ ap (λ o. long_fault rules false (option_map rule o) (Some v) h) is
-            ∙ joined_fault o v h ∙ ap₂
-            (λ k (s : Held). or_else k (use_fault false (rule o) (v ∷ []) s.rows)) good.clean
-            good.settles
-            ∙ use_is o v (map row gs) ∙ ap repeat (has o gs)
+            ∙ rw (is, joined_fault o v h, good.clean)
+            (ap (λ (s : Held). use_fault false (rule o) (v ∷ []) s.rows) good.settles
+            ∙ use_is o v (map row gs) ∙ ap repeat (has o gs))
 
         met : word_met rules [] false idle (suc n) word h ≡
             (reacted rules (rule o) (v ∷ []) h, next idle)
         met =
             met_named h idle (suc n) word refl name (Some v) e l
-            ∙ ap (λ o. after_flag rules idle word (long_met rules (option_map rule o) (Some v) h).0
-            (long_met rules (option_map rule o) (Some v) h).1) is
-            ∙ ap (λ m. after_flag rules idle word m.0 m.1) (joined_met o v h)
+            ∙ rw (is, joined_met o v h) refl
 
         step : (b : Bool) → list_any (is_of o) gs ≡ b → clap_line here (word ∷ ws) ≡
             turned gs (Some (by o v ∷ [], any n)) ws
@@ -264,8 +252,7 @@ module _ (word : Text) (ws : List Text) (u : Each IsUtf8 (word ∷ ws)) (more : 
         fault : word_fault top [] false idle word h ≡ []
         fault =
             fault_named h idle (suc n) word refl name None e l
-            ∙ ap (λ o. long_fault rules false (option_map rule o) None h) is
-            ∙ apart_fault o h ∙ good.clean
+            ∙ rw (is, apart_fault o h) good.clean
 
         met : word_met rules [] false idle (suc n) word h ≡ (
           record (settled rules h) { pending = Some (word_name o, []) },
@@ -273,9 +260,7 @@ module _ (word : Text) (ws : List Text) (u : Each IsUtf8 (word ∷ ws)) (more : 
         )
         met =
             met_named h idle (suc n) word refl name None e l
-            ∙ ap (λ o. after_flag rules idle word (long_met rules (option_map rule o) None h).0
-            (long_met rules (option_map rule o) None h).1) is
-            ∙ ap (λ m. after_flag rules idle word m.0 m.1) (apart_met o h)
+            ∙ rw (is, apart_met o h) refl
 
     named_case : (name : Text) (v : Option Text) → bytes_eq word dashes ≡ false → long_of word ≡
         Some (name, v) → clap_line here (word ∷ ws) ≡ turned gs (any_word n word (named name v)) ws

@@ -1,7 +1,7 @@
 -- What the simple command makes of one word, from what it holds.
 use Rattle.std.proofs.Common.{◌≡◌, ◌∙◌, ℕ, zero, suc, ◌==◌, Bool, true, false, not, ◌&&◌}
-use Rattle.std.proofs.Common.{if◌then◌else◌, List, [], ◌∷◌, map, Option, Some, None, option_map}
-use Rattle.std.proofs.Common.{find, is_some, refl, sym, ap, ap₂, arith}
+use Rattle.std.proofs.Common.{if◌then◌else◌, List, [], ◌∷◌, Option, Some, None, option_map, find}
+use Rattle.std.proofs.Common.{is_some, refl, sym, ap, ap₂, arith}
 use Rattle.std.specs.Prelude.{fold}
 use Rattle.std.proofs.lemmas.Bool.Decides.{nat_tests}
 use Rattle.std.specs.List.{AllByRecursion as Each}
@@ -29,7 +29,7 @@ use Rattle.pra_words.specs.Texts.{word_name}
 use Rattle.pra_words.specs.CommandLine.{Text, Given, Line, place, options, option_name}
 use Rattle.pra_words.specs.CommandLine.{option_named}
 use Rattle.pra_words.specs.Command.{command, line_of_rows, unless, taken_line}
-use Rattle.pra_words.proofs.LineRows.{top, rules, rule, row, pending, Good}
+use Rattle.pra_words.proofs.LineRows.{top, rules, rule, pending, Good}
 use Rattle.pra_words.proofs.LineLooks.{dashes, Seen, is_plain, is_end, is_named, is_dashed, seen}
 
 abbrev pub at : Held → Waiting → ℕ → Bool → Walk
@@ -230,27 +230,22 @@ place_fault (suc (suc n)) h =
     (if a then Some (rule Mode) else (if b then Some (rule File) else None)) (stray_fault top))
     one two
 
-pushed_is : (id : Text) (b : Bool) (word : Text) (h : Held) (gs : List Given) → Good h gs →
-    pushed id word (if b && false then h else settled rules h) ≡
-    record { rows = map row gs; pending = Some (id, word ∷ []); skip = 0 }
-pushed_is id b word h gs good =
-    ap (λ x. pushed id word x) (without_both b h (settled rules h) ∙ good.settles)
+pushed_is : (w : Word) (word : Text) (h : Held) (gs : List Given) → Good h gs →
+    pushed (word_name w) word (if is_pending (rule w) h.pending && false then h
+    else settled rules h) ≡ pending gs w (word ∷ [])
+pushed_is w word h gs good =
+    ap (λ x. pushed (word_name w) word x)
+    (without_both (is_pending (rule w) h.pending) h (settled rules h) ∙ good.settles)
 
 pub mode_walk : (h : Held) (gs : List Given) (word : Text) (tr : Bool) → Good h gs →
     after_step rules word (at h idle 1 tr) h value ≡ at (pending gs Mode (word ∷ [])) idle 2 tr
-mode_walk h gs word true good =
-    ap (λ x. at x idle 2 true)
-    (pushed_is (word_name Mode) (is_pending (rule Mode) h.pending) word h gs good)
-mode_walk h gs word false good = ap (λ x. at x idle 2 false)
-    (pushed_is (word_name Mode) (is_pending (rule Mode) h.pending) word h gs good)
+mode_walk h gs word true good = ap (λ x. at x idle 2 true) (pushed_is Mode word h gs good)
+mode_walk h gs word false good = ap (λ x. at x idle 2 false) (pushed_is Mode word h gs good)
 
 pub file_walk : (h : Held) (gs : List Given) (word : Text) (tr : Bool) → Good h gs →
     after_step rules word (at h idle 2 tr) h value ≡ at (pending gs File (word ∷ [])) idle 3 tr
-file_walk h gs word true good =
-    ap (λ x. at x idle 3 true)
-    (pushed_is (word_name File) (is_pending (rule File) h.pending) word h gs good)
-file_walk h gs word false good = ap (λ x. at x idle 3 false)
-    (pushed_is (word_name File) (is_pending (rule File) h.pending) word h gs good)
+file_walk h gs word true good = ap (λ x. at x idle 3 true) (pushed_is File word h gs good)
+file_walk h gs word false good = ap (λ x. at x idle 3 false) (pushed_is File word h gs good)
 
 -- ---- behind `--`
 
