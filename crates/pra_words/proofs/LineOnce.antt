@@ -1,12 +1,14 @@
 -- No word has two values, where the values are given one after the other.
-use Rattle.std.proofs.Common.{◌≡◌, ◌∙◌, Bool, true, false, not, ◌&&◌, ◌||◌, if◌then◌else◌, List, []}
-use Rattle.std.proofs.Common.{◌∷◌, ◌++◌, Option, Some, None, option_map, refl, sym, ap, ap₂}
-use Rattle.std.proofs.Common.{append_assoc, append-nil}
+use Rattle.std.proofs.Common.{◌≡◌, ◌∙◌, Bool, true, false, not, ◌||◌, if◌then◌else◌, List, [], ◌∷◌}
+use Rattle.std.proofs.Common.{◌++◌, Option, Some, None, option_map, refl, sym, ap, append_assoc}
+use Rattle.std.proofs.Common.{append-nil}
 use Rattle.pra_list.proofs.Choices.{and_true, not_true, or_false}
 use Rattle.std.specs.Prelude.{option_and_then}
 use Rattle.std.specs.List.{list_any}
 use Rattle.std.specs.Str.{bytes_eq}
 use Rattle.std.specs.Bool.{Decides}
+use Rattle.std.proofs.lemmas.List.Folds.{list_any-append}
+use Rattle.std.proofs.Math.Bool.{or-true, and-false}
 use Rattle.std.proofs.lemmas.Bool.Decides.{same_from_decides}
 use Rattle.std.proofs.lemmas.Slice.Eq.{bytes_eq-Decides}
 use Rattle.pra_words.specs.declared.words.Word.{Word}
@@ -28,40 +30,20 @@ same_name a b = same_text (word_name a) (word_name b)
 
 -- ---- a value at the end
 
-any_end : (p : Given → Bool) (gs : List Given) (g : Given) → p g ≡ false → list_any p gs ≡ false →
-    list_any p (gs ++ g ∷ []) ≡ false
-any_end p [] g e f = ap (λ b. b || false) e
-any_end p (x ∷ gs) g e f = step (p x) (list_any p gs) f (any_end p gs g e)
-  where
-    step : (a b : Bool) → (a || b) ≡ false → (b ≡ false → list_any p (gs ++ g ∷ []) ≡ false) →
-        (a || list_any p (gs ++ g ∷ [])) ≡ false
-    step true b f k = cc
-    step false b f k = k f
-
 pub once_more : (gs : List Given) (w : Word) (v : Text) → is_once gs ≡ true →
     list_any (is_of w) gs ≡ false → is_once (gs ++ by w v ∷ []) ≡ true
 once_more [] w v once new = refl
 once_more (g ∷ gs) w v once new =
     let o = and_true (not (list_any (is_of g.word) gs)) (is_once gs) once in
     let n = or_false (is_of w g) (list_any (is_of w) gs) new in
-    ap₂ (λ a b. not a && b) (any_end (is_of g.word) gs (by w v) (same_name w g.word ∙ n.0)
-    (not_true _ o.0)) (once_more gs w v o.1 n.1)
+    rw (
+      list_any-append (is_of g.word) gs (by w v ∷ []),
+      not_true (list_any (is_of g.word) gs) o.0,
+      same_name w g.word ∙ n.0,
+    )
+    (once_more gs w v o.1 n.1)
 
 -- ---- a second value of a word
-
-any_there : (p : Given → Bool) (gs : List Given) (g : Given) (rest : List Given) → p g ≡ true →
-    list_any p (gs ++ g ∷ rest) ≡ true
-any_there p [] g rest e = ap (λ b. b || list_any p rest) e
-any_there p (x ∷ gs) g rest e = step (p x) (any_there p gs g rest e)
-  where
-    step : (a : Bool) → list_any p (gs ++ g ∷ rest) ≡ true → (a || list_any p (gs ++ g ∷ rest)) ≡
-        true
-    step true e = refl
-    step false e = e
-
-and_false : (a b : Bool) → b ≡ false → (a && b) ≡ false
-and_false true b e = e
-and_false false b e = refl
 
 not_once : (gs : List Given) (w : Word) (v : Text) (rest : List Given) → list_any (is_of w) gs ≡
     true → is_once (gs ++ by w v ∷ rest) ≡ false
@@ -71,9 +53,13 @@ not_once (g ∷ gs) w v rest old = step (is_of w g) refl old (λ o. not_once gs 
     step : (a : Bool) → is_of w g ≡ a → (a || list_any (is_of w) gs) ≡ true →
         (list_any (is_of w) gs ≡ true → is_once (gs ++ by w v ∷ rest) ≡ false) →
         is_once (g ∷ gs ++ by w v ∷ rest) ≡ false
-    step true e o k = ap (λ a. not a && is_once (gs ++ by w v ∷ rest))
-        (any_there (is_of g.word) gs (by w v) rest (same_name w g.word ∙ e))
-    step false e o k = and_false (not (list_any (is_of g.word) (gs ++ by w v ∷ rest))) _ (k o)
+    step true e o k =
+        rw (
+          list_any-append (is_of g.word) gs (by w v ∷ rest),
+          same_name w g.word ∙ e,
+          or-true (list_any (is_of g.word) gs),
+        ) refl
+    step false e o k = rw (k o) (and-false _)
 
 -- ---- what is given from some place on, behind these values
 
