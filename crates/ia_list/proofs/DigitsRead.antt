@@ -20,11 +20,6 @@ module _ (value b : ℕ) (bytes : List ℕ) where
   unfolding digits_at
   one_digit e h = rw (e, le-ltb 2147483648 (with_digit value b) h) refl
 
-  pub large_digit : is_ascii_digit b ≡ true → 2147483648 < with_digit value b →
-      digits_at value (b ∷ bytes) ≡ None
-  unfolding digits_at
-  large_digit e h = rw (e, lt-ltb 2147483648 (with_digit value b) h) refl
-
 -- The same, of bytes of which there are some.
 module _ (value : ℕ) where
   pub ends : (bytes : List ℕ) → length bytes < 1 → digits_at value bytes ≡ Some (value, bytes)
@@ -46,5 +41,6 @@ module _ (value : ℕ) where
   pub too_large : (bytes : List ℕ) → 1 ≤ length bytes →
       is_ascii_digit (slice_index bytes 0) ≡ true →
       2147483648 < with_digit value (slice_index bytes 0) → digits_at value bytes ≡ None
+  unfolding digits_at
   too_large [] h e lt = absurd (omega arith)
-  too_large (b ∷ bytes) h e lt = large_digit value b bytes e lt
+  too_large (b ∷ bytes) h e lt = rw (e, lt-ltb 2147483648 (with_digit value b) lt) refl

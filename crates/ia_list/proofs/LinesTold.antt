@@ -18,19 +18,17 @@ module _ (place : ℕ) (bytes : List ℕ) (h : place < 2 ^ 31) where
       ∙ line_read place i rest s h)
 
   -- what is read is the only one
-  pub only_line : (j : Ins) → instruction_at place bytes ≡ Some j → (i : Ins) (rest : List ℕ) →
-      IsSound i → bytes ≡ line place i ++ rest → j ≡ i
-  only_line j e i rest s f = some_same j i (sym e ∙ ap (instruction_at place) f
-      ∙ line_read place i rest s h)
+  module _ (j : Ins) (e : instruction_at place bytes ≡ Some j) where
+    only_line : (i : Ins) (rest : List ℕ) → IsSound i → bytes ≡ line place i ++ rest → j ≡ i
+    only_line i rest s f =
+        some_same j i (sym e ∙ ap (instruction_at place) f ∙ line_read place i rest s h)
 
-  pub unsound_line : (j : Ins) → instruction_at place bytes ≡ Some j → (IsSound j → ⊥) →
-      NoLine place bytes
-  unsound_line j e bad i rest s f = bad (subst IsSound (sym (only_line j e i rest s f)) s)
+    pub unsound_line : (IsSound j → ⊥) → NoLine place bytes
+    unsound_line bad i rest s f = bad (subst IsSound (sym (only_line i rest s f)) s)
 
-  pub other_line : (j : Ins) → instruction_at place bytes ≡ Some j →
-      ((rest : List ℕ) → bytes ≡ line place j ++ rest → ⊥) → NoLine place bytes
-  other_line j e none i rest s f = none rest (f
-      ∙ ap (λ k. line place k ++ rest) (sym (only_line j e i rest s f)))
+    pub other_line : ((rest : List ℕ) → bytes ≡ line place j ++ rest → ⊥) → NoLine place bytes
+    other_line none i rest s f =
+        none rest (f ∙ ap (λ k. line place k ++ rest) (sym (only_line i rest s f)))
 
 -- of data words
 abbrev pub NoWords : List ℕ → Type 0
@@ -39,15 +37,13 @@ NoWords bytes = (n : ℕ) (rest : List ℕ) → n ≤ max_data_words → bytes �
 pub no_words : (bytes : List ℕ) → words_at bytes ≡ None → NoWords bytes
 no_words bytes e n rest h f = none_some (sym e ∙ ap words_at f ∙ words_read n rest h)
 
-only_words : (bytes : List ℕ) (m : ℕ) → words_at bytes ≡ Some m → (n : ℕ) (rest : List ℕ) →
-    n ≤ max_data_words → bytes ≡ data_line n ++ rest → m ≡ n
-only_words bytes m e n rest h f = some_same m n (sym e ∙ ap words_at f ∙ words_read n rest h)
+module _ (bytes : List ℕ) (m : ℕ) (e : words_at bytes ≡ Some m) where
+  only_words : (n : ℕ) (rest : List ℕ) → n ≤ max_data_words → bytes ≡ data_line n ++ rest → m ≡ n
+  only_words n rest h f = some_same m n (sym e ∙ ap words_at f ∙ words_read n rest h)
 
-pub many_words : (bytes : List ℕ) (m : ℕ) → words_at bytes ≡ Some m → max_data_words < m →
-    NoWords bytes
-many_words bytes m e many n rest h f = omega (arith, only_words bytes m e n rest h f)
+  pub many_words : max_data_words < m → NoWords bytes
+  many_words many n rest h f = omega (arith, only_words n rest h f)
 
-pub other_words : (bytes : List ℕ) (m : ℕ) → words_at bytes ≡ Some m →
-    ((rest : List ℕ) → bytes ≡ data_line m ++ rest → ⊥) → NoWords bytes
-other_words bytes m e none n rest h f = none rest (f
-    ∙ ap (λ k. data_line k ++ rest) (sym (only_words bytes m e n rest h f)))
+  pub other_words : ((rest : List ℕ) → bytes ≡ data_line m ++ rest → ⊥) → NoWords bytes
+  other_words none n rest h f =
+      none rest (f ∙ ap (λ k. data_line k ++ rest) (sym (only_words n rest h f)))
