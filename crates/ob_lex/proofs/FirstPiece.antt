@@ -31,40 +31,31 @@ run_passes : (p : ℕ → Bool) (text : List ℕ) → list_all p (take (prefix_l
 run_passes p [] = refl
 run_passes p (b ∷ text) =
     ⊎_elim
-    (λ (pass : p b ≡ true). ap (λ n. list_all p (take n (b ∷ text))) (run_longer p b text pass)
-    ∙ and_from (p b) (list_all p (take (prefix_len p text) text)) pass (run_passes p text))
-    (λ (fail : p b ≡ false). ap (λ n. list_all p (take n (b ∷ text)))
-    (cond-false (p b) (1 + prefix_len p text) 0 fail))
+    (λ (pass : p b ≡ true). rw (run_longer p b text pass)
+    (and_from (p b) _ pass (run_passes p text)))
+    (λ (fail : p b ≡ false). rw (cond-false (p b) (1 + prefix_len p text) 0 fail) refl)
     (cases_Bool (p b))
 
 run_ends : (p : ℕ → Bool) (text : List ℕ) → front p (drop (prefix_len p text) text) ≡ false
 run_ends p [] = refl
 run_ends p (b ∷ text) =
-    ⊎_elim
-    (λ (pass : p b ≡ true). ap (λ n. front p (drop n (b ∷ text))) (run_longer p b text pass)
-    ∙ run_ends p text)
-    (λ (fail : p b ≡ false). ap (λ n. front p (drop n (b ∷ text)))
-    (cond-false (p b) (1 + prefix_len p text) 0 fail) ∙ fail)
+    ⊎_elim (λ (pass : p b ≡ true). rw (run_longer p b text pass) (run_ends p text))
+    (λ (fail : p b ≡ false). rw (cond-false (p b) (1 + prefix_len p text) 0 fail) fail)
     (cases_Bool (p b))
 
 name_run : (text : List ℕ) → is_ascii_alphabetic (get_or text 0 0) ≡ true →
     is_name (take (prefix_len is_ascii_alphanumeric text) text) ≡ true
 name_run [] letter = absurd (false≢true letter)
 name_run (b ∷ text) letter =
-    ap (λ n. is_name (take n (b ∷ text)))
-    (run_longer is_ascii_alphanumeric b text (alphanumeric_from_alphabetic b letter))
-    ∙ and_from (is_ascii_alphabetic b)
-    (list_all is_ascii_alphanumeric (take (prefix_len is_ascii_alphanumeric text) text)) letter
-    (run_passes is_ascii_alphanumeric text)
+    rw (run_longer is_ascii_alphanumeric b text (alphanumeric_from_alphabetic b letter))
+    (and_from (is_ascii_alphabetic b) _ letter (run_passes is_ascii_alphanumeric text))
 
 integer_run : (text : List ℕ) → is_ascii_digit (get_or text 0 0) ≡ true →
     is_integer (take (prefix_len is_ascii_digit text) text) ≡ true
 integer_run [] digit = absurd (false≢true digit)
 integer_run (b ∷ text) digit =
-    ap (λ n. is_integer (take n (b ∷ text))) (run_longer is_ascii_digit b text digit)
-    ∙ and_from (is_ascii_digit b)
-    (list_all is_ascii_digit (take (prefix_len is_ascii_digit text) text)) digit
-    (run_passes is_ascii_digit text)
+    rw (run_longer is_ascii_digit b text digit)
+    (and_from (is_ascii_digit b) _ digit (run_passes is_ascii_digit text))
 
 -- a text cut behind such a run
 pub record IsCut (p : ℕ → Bool) (text word rest : List ℕ) : Type 0 where
