@@ -6,7 +6,6 @@ use Rattle.pra_list.proofs.Choices.{and_true, not_true, or_false}
 use Rattle.std.specs.Prelude.{option_and_then}
 use Rattle.std.specs.List.{list_any}
 use Rattle.std.specs.Str.{bytes_eq}
-use Rattle.std.specs.Bool.{Decides}
 use Rattle.std.proofs.lemmas.List.Folds.{list_any-append}
 use Rattle.std.proofs.Math.Bool.{or-true, and-false}
 use Rattle.std.proofs.lemmas.Bool.Decides.{same_from_decides}
@@ -19,14 +18,10 @@ use Rattle.pra_words.proofs.LineRows.{by}
 
 same_name : (a b : Word) → bytes_eq (word_name a) (word_name b) ≡ bytes_eq (word_name b)
     (word_name a)
-same_name a b = same_text (word_name a) (word_name b)
-  where
-    turned_back : (x y : Text) (r : Bool) → Decides r (y ≡ x) → Decides r (x ≡ y)
-    turned_back x y r d = (λ e. sym (d.0 e), λ e. d.1 (sym e))
-
-    same_text : (x y : Text) → bytes_eq x y ≡ bytes_eq y x
-    same_text x y = same_from_decides (bytes_eq x y) (bytes_eq y x) (bytes_eq-Decides x y)
-        (turned_back x y (bytes_eq y x) (bytes_eq-Decides y x))
+same_name a b =
+    let d = bytes_eq-Decides (word_name b) (word_name a) in
+    same_from_decides (bytes_eq (word_name a) (word_name b)) (bytes_eq (word_name b) (word_name a))
+    (bytes_eq-Decides (word_name a) (word_name b)) (λ e. sym (d.0 e), λ e. d.1 (sym e))
 
 -- ---- a value at the end
 
