@@ -29,13 +29,5 @@ all_are_modes word.Apply asked = applying_is_a_mode asked
 -- where memory was wanting, each leaves everything as it was
 pub leaves_all : (mode : Word) (asked : Asked) (old new : Seen) → Untouched old new →
     (mode_by mode asked).Leaves old new
-leaves_all word.Run asked old new left = left
-leaves_all word.Compile asked old new left = left
 leaves_all word.Gen asked old new left = inl left
-leaves_all word.Interp asked old new left = left
-leaves_all word.List asked old new left = left
-leaves_all word.Asm asked old new left = left
-leaves_all word.Cert asked old new left = left
-leaves_all word.Check asked old new left = left
-leaves_all word.Exec asked old new left = left
-leaves_all word.Apply asked old new left = left
+leaves_all x asked old new left = left

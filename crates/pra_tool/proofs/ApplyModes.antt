@@ -33,11 +33,8 @@ apply_names kind asked source input w s made = ap (λ (x : Writes). names x.file
 
 misapplied_refusal : (file : CodeFile) (c : Certificate) (f : Misapplied) →
     IsMisapplied file c f → IsRefusal (misapplied_status f)
-misapplied_refusal file c misapplied.Count h = tt
-misapplied_refusal file c (misapplied.Module p) h = tt
-misapplied_refusal file c (misapplied.Fails p r) h = tt
-misapplied_refusal file c (misapplied.TooLong count) h = tt
 misapplied_refusal file c misapplied.OutOfMemory h = absurd h
+misapplied_refusal file c x h = tt
 
 pub applying_is_a_mode : (asked : Asked) → IsMode (applying asked)
 applying_is_a_mode asked = record {

@@ -38,10 +38,7 @@ reason_at (suc (suc (suc (suc n)))) = Bound
 reason_back : (r : Reason) → reason_at (rank r) ≡ r
 unfolding reason_at
 reason_back Code = refl
-reason_back Routes = refl
-reason_back Prices = refl
-reason_back Total = refl
-reason_back Bound = refl
+reason_back x = refl
 
 one_rank : (r t : Reason) → rank r ≡ rank t → r ≡ t
 one_rank r t e = sym (reason_back r) ∙ ap reason_at e ∙ reason_back t
@@ -120,11 +117,9 @@ held file c is holds bounded =
 -- what is no text of a certificate is none of one that holds
 pub none_fits : (text : List ℕ) (f : Uncertified) → IsNoCertText text f →
     IsUncertified text f
-none_fits text uncertified.TooLong h = h
-none_fits text uncertified.NotJson h = h
-none_fits text uncertified.NotCertificate h = h
 none_fits text (uncertified.Fails p r) h = absurd h
 none_fits text uncertified.OutOfMemory h = absurd h
+none_fits text x h = h
 
 one_uncertified : (file : List ℕ) (f g : Uncertified) → IsUncertified file f →
     IsUncertified file g → f ≡ g
@@ -176,11 +171,8 @@ never_uncertified file uncertified.OutOfMemory right h = h
 
 uncertified_refusal : (file : List ℕ) (f : Uncertified) → IsUncertified file f →
     IsRefusal (uncertified_status f)
-uncertified_refusal file uncertified.TooLong h = tt
-uncertified_refusal file uncertified.NotJson h = tt
-uncertified_refusal file uncertified.NotCertificate h = tt
-uncertified_refusal file (uncertified.Fails p r) h = tt
 uncertified_refusal file uncertified.OutOfMemory h = absurd h
+uncertified_refusal file x h = tt
 
 certificates_are_a_kind : IsKind certificates
 certificates_are_a_kind = record {

@@ -49,10 +49,8 @@ use Rattle.pra_tool.proofs.SourceKinds.{sources_are_a_kind, some_longer}
 
 -- the status of a run that comes to no fault
 ending_along : (e : Ending) → (run_end e ≢ Some end.Wrong) → IsStatusOf e (status_of_machine e)
-ending_along ending.Going h = tt
-ending_along ending.Ended h = tt
-ending_along (ending.Trap k) h = tt
 ending_along (ending.Fault k) h = absurd (h refl)
+ending_along x h = tt
 
 -- the image of a module never comes to one
 pub run_status : (kind : FileKind) (asked : Asked) (source : List ℕ) (made : Made)
@@ -75,9 +73,7 @@ done_of (ending.Fault k) _ is = absurd is
 
 machine_done : (e : Ending) → IsDone (status_of_machine e)
 machine_done ending.Ended = tt
-machine_done (ending.Trap k) = tt
-machine_done ending.Going = tt
-machine_done (ending.Fault k) = tt
+machine_done x = tt
 
 run_done : (kind : FileKind) (e : Ending) (s : Status) → IsRunStatus kind e s → IsDone s
 run_done a_file.Module e s is = done_of e s is
@@ -85,14 +81,11 @@ run_done a_file.Code e s is = subst IsDone (sym is) (machine_done e)
 
 code_done : (e : CodeEnding) → IsDone (status_of_code e)
 code_done code.Ended = tt
-code_done (code.Trap k) = tt
-code_done code.Going = tt
-code_done (code.Stuck cause) = tt
+code_done x = tt
 
 units_done : (e : UnitEnding) → IsDone (status_of_units e)
 units_done unit.Ended = tt
-units_done (unit.Trap k) = tt
-units_done unit.Going = tt
+units_done x = tt
 
 -- where no file is written, none stands where memory was wanting
 pub none_left : (w : Writes) (old new : Seen) → names w.files ≡ [] → LeftOff w old new →
@@ -288,14 +281,9 @@ interp_write a_file.Code asked source input w s made =
 pub modes_write : (next : Then) (kind : FileKind) (asked : Asked) (source input : List ℕ)
     (w : Writes) (s : Status) → makes next kind asked source input w s →
     names w.files ≡ files_of next asked
-modes_write Run kind asked source input w s made =
-    ap (λ (x : Writes). names x.files) made.writes
-modes_write Write kind asked source input w s made =
-    ap (λ (x : Writes). names x.files) made.writes
 modes_write Interpret kind asked source input w s made =
     interp_write kind asked source input w s made
-modes_write Certify kind asked source input w s made =
-    ap (λ (x : Writes). names x.files) made.writes
+modes_write y kind asked source input w s made = ap (λ (x : Writes). names x.files) made.writes
 
 -- where memory was wanting, nothing was written
 pub modes_leave : (next : Then) (kind : FileKind) (asked : Asked) (source input : List ℕ)

@@ -95,10 +95,8 @@ exec_repeats_run kind asked other source file input v w s t run files exec steps
 -- ---- an image of one source with the same frames
 
 machine_over : (e : Ending) → status_of_machine e ≢ status.Going → run_end e ≢ None
-machine_over ending.Ended other = λ e. absurd (none_some (sym e))
-machine_over (ending.Trap k) other = λ e. absurd (none_some (sym e))
 machine_over ending.Going other = absurd (other refl)
-machine_over (ending.Fault k) other = λ e. absurd (none_some (sym e))
+machine_over x other = λ e. absurd (none_some (sym e))
 
 same_status : (e f : Ending) (s : Status) → IsStatusOf e s → run_end e ≡ run_end f →
     s ≡ status_of_machine f

@@ -21,9 +21,7 @@ use Rattle.pra_tool.proofs.ListingModes.{loadable_is_a_kind}
 
 machine_done : (e : Ending) → IsDone (status_of_machine e)
 machine_done ending.Going = tt
-machine_done ending.Ended = tt
-machine_done (ending.Trap k) = tt
-machine_done (ending.Fault k) = tt
+machine_done x = tt
 
 pub exec_names : (asked : Asked) (file input : List ℕ) (w : Writes) (s : Status) →
     ExecMakes asked file input w s → names w.files ≡ []

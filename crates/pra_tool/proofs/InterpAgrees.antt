@@ -51,18 +51,15 @@ unit_end (unit.Trap k) = Some (end.Trapped k)
 -- it is told as it came
 told_end : (h : Halt) → unit_end (told h).ending ≡ (progress_in h).ending
 told_end (Done c) = refl
-told_end (Failed trap c) = refl
-told_end (Stopped c) = refl
+told_end x = refl
 
 told_events : (h : Halt) → (told h).events ≡ (progress_in h).events
 told_events (Done c) = refl
-told_events (Failed trap c) = refl
-told_events (Stopped c) = refl
+told_events x = refl
 
 told_reads : (h : Halt) → (told h).reads ≡ (progress_in h).taken
 told_reads (Done c) = refl
-told_reads (Failed trap c) = refl
-told_reads (Stopped c) = refl
+told_reads x = refl
 
 -- the meaning at two budgets, by each of which it ends
 pub ends_once : (program : Checked) (frames : List ℕ) (input : List ℤ) (m n : ℕ) →

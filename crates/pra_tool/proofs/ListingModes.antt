@@ -120,11 +120,8 @@ never_unlisted file unlisted.OutOfMemory right h = h
 
 unlisted_refusal : (file : List ℕ) (f : Unlisted) → IsUnlisted file f →
     IsRefusal (unlisted_status f)
-unlisted_refusal file unlisted.TooLong h = tt
-unlisted_refusal file (unlisted.Broken field place) h = tt
-unlisted_refusal file (unlisted.Code place) h = tt
-unlisted_refusal file (unlisted.LongText count) h = tt
 unlisted_refusal file unlisted.OutOfMemory h = absurd h
+unlisted_refusal file x h = tt
 
 images_are_a_kind : IsKind images
 images_are_a_kind = record {
@@ -138,18 +135,14 @@ images_are_a_kind = record {
 pub unloaded_is_unlisted : (file : List ℕ) (f : Unlisted) → IsUnloaded file f → IsUnlisted file f
 unloaded_is_unlisted file unlisted.TooLong h = h
 unloaded_is_unlisted file (unlisted.Broken field place) h = h
-unloaded_is_unlisted file (unlisted.Code place) h = absurd h
-unloaded_is_unlisted file (unlisted.LongText count) h = absurd h
-unloaded_is_unlisted file unlisted.OutOfMemory h = absurd h
+unloaded_is_unlisted file x h = absurd h
 
 never_unloaded : (file : List ℕ) (f : Unlisted) → loadable.IsRight file → IsUnloaded file f → ⊥
 never_unloaded file unlisted.TooLong right h =
     let le = short_file file right.0 right.1 in omega (arith, h, le)
 never_unloaded file (unlisted.Broken field place) right h =
     not_broken file right.0 field place right.1 h.1
-never_unloaded file (unlisted.Code place) right h = h
-never_unloaded file (unlisted.LongText count) right h = h
-never_unloaded file unlisted.OutOfMemory right h = h
+never_unloaded file x right h = h
 
 pub loadable_is_a_kind : IsKind loadable
 loadable_is_a_kind = record {
@@ -231,10 +224,8 @@ never_unassembled text unassembled.OutOfMemory right h = h
 
 unassembled_refusal : (text : List ℕ) (f : Unassembled) → IsUnassembled text f →
     IsRefusal (unassembled_status f)
-unassembled_refusal text unassembled.TooLong h = tt
-unassembled_refusal text (unassembled.Line n) h = tt
-unassembled_refusal text unassembled.Empty h = tt
 unassembled_refusal text unassembled.OutOfMemory h = absurd h
+unassembled_refusal text x h = tt
 
 listings_are_a_kind : IsKind listings
 listings_are_a_kind = record {

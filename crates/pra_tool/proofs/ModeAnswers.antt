@@ -26,12 +26,7 @@ refusal_is_not_done : (s : Status) → IsRefusal s → IsDone s → ⊥
 refusal_is_not_done BadSource r d = d
 refusal_is_not_done OverLimit r d = d
 refusal_is_not_done BadInput r d = d
-refusal_is_not_done Ended r d = r
-refusal_is_not_done Trapped r d = r
-refusal_is_not_done Going r d = r
-refusal_is_not_done Fault r d = r
-refusal_is_not_done BadWords r d = r
-refusal_is_not_done NoMemory r d = r
+refusal_is_not_done x r d = r
 
 done_is_no_end : (s t : Status) → IsDone s → s ≡ t → IsDone t
 done_is_no_end s t d e = subst IsDone e d
@@ -53,14 +48,7 @@ input_same false stream told bytes tells taken = tells ∙ sym taken
 
 pub is_memory : (t : Status) → (t ≡ NoMemory) ⊎ (t ≢ NoMemory)
 is_memory NoMemory = inl refl
-is_memory Ended = inr (λ e. cc)
-is_memory Trapped = inr (λ e. cc)
-is_memory Going = inr (λ e. cc)
-is_memory BadSource = inr (λ e. cc)
-is_memory OverLimit = inr (λ e. cc)
-is_memory Fault = inr (λ e. cc)
-is_memory BadWords = inr (λ e. cc)
-is_memory BadInput = inr (λ e. cc)
+is_memory x = inr (λ e. cc)
 
 -- ---- a source that is refused, or FILE that is not read
 

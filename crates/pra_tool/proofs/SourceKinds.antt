@@ -161,10 +161,7 @@ never_wrong_code source file (wrong.Broken p) is h = runs_right source file p is
 
 code_refusal : (source : List ℕ) (f : CodeWrong) → IsNoCode source f → IsRefusal (code_status f)
 code_refusal source wrong.TooLong h = tt
-code_refusal source wrong.NotJson h = tt
-code_refusal source wrong.NotCode h = tt
-code_refusal source (wrong.Procedures n) h = tt
-code_refusal source (wrong.Broken p) h = tt
+code_refusal source x h = tt
 
 -- ---- whatever FILE is
 
