@@ -21,6 +21,7 @@ PLACES = {  # where the operands stand that the text may name, by instruction
     "store": (1,),
     "line": (),
 }
+IN_PLACE = ("add", "sub", "mul", "and", "or", "xor", "neg", "shl", "shr", "sar")
 SURE = 2 / 3  # of what is told of a variable the share that its name has to have
 
 
@@ -126,8 +127,11 @@ class Named:
 
 
 def operands(block):
-    """The kind of each instruction of a block, and its variables by their places."""
-    for op, *xs in block.code:
+    """The kind of each instruction of a block, and its variables by their places. A copy is left out
+    on which an operation is done at once, since of that the text tells the operation alone."""
+    for (op, *xs), (behind, *ys) in zip(block.code, [*block.code[1:], [""]]):
+        if op == "copy" and behind in IN_PLACE and ys[0] == xs[0]:
+            continue
         if op == "call":
             yield f"call {xs[0]}", {}
         elif op == "cmpset":

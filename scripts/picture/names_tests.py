@@ -72,9 +72,9 @@ class Found(unittest.TestCase):
         names = local_names.names_of(named, 1, multiply)
         self.assertEqual(set(names.values()), {"row", "column", "at", "sum"})
         by_name = {name: v for v, name in names.items()}
-        first = [block.code[0] for block in multiply.blocks[:3]]
+        first = [block.code[0] for block in multiply.blocks[:2]]
         self.assertEqual(first[0][:2], ["set", by_name["row"]])
-        self.assertEqual(first[2][:2], ["set", by_name["column"]])
+        self.assertEqual(first[1][:2], ["set", by_name["column"]])
 
 
 if __name__ == "__main__":
